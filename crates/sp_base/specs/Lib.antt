@@ -1,0 +1,6 @@
+pub mod formers
+pub mod Faults
+pub mod Lends
+pub mod Names
+pub mod Order
+pub mod Rules

@@ -1,0 +1,21 @@
+-- The texts of the names of processes and channels.
+use Rattle.std.specs.Prelude.{ℕ, List, [], ◌∷◌, ◌++◌, codes, decimal}
+use Rattle.sp_base.specs.declared.name.Pair.{Pair}
+use Rattle.sp_base.specs.declared.name.ProcName.{ProcName}
+use Rattle.sp_base.specs.declared.name.ChanName.{ChanName}
+
+-- a pair is printed as `/f.k`
+abbrev pub pair_text : Pair → List ℕ
+pair_text p = codes "/" ++ decimal p.fork ++ codes "." ++ decimal p.child
+
+abbrev pub pairs_text : List Pair → List ℕ
+pairs_text [] = []
+pairs_text (p ∷ ps) = pair_text p ++ pairs_text ps
+
+-- a process is printed as `0` and then its pairs
+abbrev pub name_text : ProcName → List ℕ
+name_text n = codes "0" ++ pairs_text n.pairs
+
+-- a channel is printed as its owner, `#` and its number among the owner's channels
+abbrev pub channel_text : ChanName → List ℕ
+channel_text c = name_text c.owner ++ codes "#" ++ decimal c.nth

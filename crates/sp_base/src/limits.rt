@@ -1,0 +1,46 @@
+//! The range of integers, and how far a run may go.
+
+/// The greatest integer of the language. The least one is `-MAXINT`.
+pub const MAXINT: i64 = 9223372036854775807;
+
+/// How many ticks a process may make since its last entry in the journal before it has to pause.
+pub const TURN_TICKS: u64 = 100_000;
+
+/// The seven limits of a run. Ticks, depth and cells count for each process by itself. Processes, channels and
+/// entries are totals of the run that never fall, since what is alive at once would depend on the schedule.
+#[derive(Clone, Copy, Debug, PartialEq, Eq)]
+pub struct Limits {
+    /// How many ticks (turns of loops, and calls) a process may make.
+    pub ticks: u64,
+    /// How deep the calls and forks of a process may nest.
+    pub depth: u32,
+    /// How many cells the live frames of a process may have.
+    pub cells: u32,
+    /// How many processes there may ever be, the root among them.
+    pub processes: u32,
+    /// How many channels may ever be opened.
+    pub channels: u32,
+    /// How many entries fork, open, send or receive the journal may have.
+    pub entries: u32,
+    /// How many bytes the output may have.
+    pub output: u64,
+}
+
+/// What a run reports beside its end and its verdict.
+#[derive(Clone, Copy, Debug, PartialEq, Eq)]
+pub enum Show {
+    /// Nothing more.
+    End,
+    /// The entries of the journal with their indices.
+    Timeline,
+    /// How many entries of each kind there are.
+    Census,
+    /// The processes by their names.
+    Tree,
+    /// The processes that wait at the end, and for what.
+    Waiting,
+    /// All of these reports.
+    All,
+    /// The journal alone, in place of the end and the verdict.
+    Journal,
+}

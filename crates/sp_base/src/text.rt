@@ -1,0 +1,119 @@
+//! Bytes and words that contracts see as lists of bytes.
+
+ghost use Rattle.std.specs.Prelude.{◌≡◌, Some};
+ghost use Rattle.std.specs.Cmp;
+ghost use Rattle.std.specs.Ordering.{nat_cmp};
+ghost use Rattle.std.proofs.Common.{refl};
+ghost use Rattle.std.specs.Hash as fed;
+ghost use Rattle.std.specs.Cmp.Rules.{hashing};
+ghost use Rattle.std.specs.Prelude.{nat_eq};
+ghost use borrow.Author.Rules.{rules};
+ghost use Rattle.std.specs.Cmp.Lexicographic.{nat_list_eq_equiv, nat_list_cmp_total, texts_ties, texts_po, pointwise, slice_cmp};
+
+use std::cmp::Ordering;
+use std::hash::{Hash, Hasher};
+use std::marker::Model;
+
+/// Bytes.
+#[derive(Debug, Drop)]
+pub struct Text {
+    inner: Vec<u8>,
+}
+
+impl Model for Text {
+    ghost use Rattle.std.specs.Prelude.{List, ℕ};
+
+    ghost Value = { List ℕ };
+
+    ghost view = { λ it. it.inner.items };
+}
+
+impl Text {
+    pub fn of(bytes: Vec<u8>) -> Text
+        ensures { result ≡ bytes.items }
+    {
+        Text { inner: bytes }
+    }
+
+    pub fn bytes(&self) -> &[u8]
+        ensures { result.now ≡ self.now }
+    {
+        self.inner.as_slice()
+    }
+}
+
+/// A text, which contracts see as its bytes.
+#[derive(Debug, Drop)]
+pub struct Word {
+    inner: String,
+}
+
+impl Model for Word {
+    ghost use Rattle.std.specs.Prelude.{List, ℕ};
+
+    ghost Value = { List ℕ };
+
+    ghost view = { λ it. it.inner.bytes.items };
+}
+
+impl Word {
+    pub fn of(text: String) -> Word
+        ensures { result ≡ text.bytes.items }
+    {
+        Word { inner: text }
+    }
+
+    pub fn text(&self) -> &str
+        ensures { result.now ≡ self.now }
+    {
+        self.inner.as_str()
+    }
+}
+
+impl PartialEq for Text {
+    ghost eq = { λ v w. pointwise nat_eq v w };
+
+    ghost laws = { Cmp.partial_equiv_from_equiv nat_list_eq_equiv };
+
+    fn eq(&self, other: &Self) -> bool {
+        self.bytes() == other.bytes()
+    }
+}
+
+impl Eq for Text {
+    ghost laws = { nat_list_eq_equiv };
+}
+
+impl Hash for Text {
+    ghost hash_input = { λ v. fed.slice fed.u8 v };
+
+    ghost respects_eq = { Prim.search (hashing, rules) };
+
+    fn hash<H: Hasher>(&self, state: &mut H) {
+        self.bytes().hash(state);
+    }
+}
+
+impl PartialOrd for Text {
+    ghost partial_cmp = { λ v w. Some (slice_cmp nat_cmp v w) };
+
+    ghost laws = { texts_po };
+
+    fn partial_cmp(&self, other: &Self) -> Option<Ordering> {
+        Some(self.cmp(other))
+    }
+}
+
+impl Ord for Text {
+    ghost cmp = { λ v w. slice_cmp nat_cmp v w };
+
+    ghost total = { nat_list_cmp_total };
+
+    ghost matches_partial_cmp = { λ v w. refl };
+
+    ghost matches_eq = { λ v w. texts_ties v w };
+
+    fn cmp(&self, other: &Self) -> Ordering {
+        self.bytes().cmp(&other.bytes())
+    }
+}
