@@ -1,0 +1,64 @@
+//! What a journal is made of.
+
+use sp_base::{Fault, List};
+
+/// The direction of an offer on a channel.
+#[derive(Clone, Copy, Debug, PartialEq, Eq)]
+pub enum Way {
+    Send,
+    Receive,
+}
+
+/// What one process did at one moment. A channel stands under its number: the channel of the entry `Open` has
+/// the number of `Open` entries before it.
+#[derive(Clone, Copy, Debug, PartialEq, Eq)]
+pub enum Event {
+    /// The process started so many children and waits for them. They have the next numbers of processes.
+    Fork(u32),
+    /// The process opened a channel, which has the next number of a channel.
+    Open,
+    /// The process offered to send on this channel.
+    Send(u32),
+    /// The process offered to receive on this channel.
+    Receive(u32),
+    /// The process ended.
+    End,
+    /// The process broke a rule of execution, which ends the run.
+    Fault(Fault),
+    /// The process came back after a fault, and was laid down where it was.
+    Laid,
+    /// The process had computed for long and went back to the end of the queue.
+    Pause,
+}
+
+/// One event and the number of its process. The root is process 0.
+#[derive(Clone, Copy, Debug, PartialEq, Eq)]
+pub struct Entry {
+    pub process: u32,
+    pub event: Event,
+}
+
+/// The one record of a run: its events in their order.
+#[derive(Debug, Drop, PartialEq, Eq)]
+pub struct Journal {
+    pub entries: List<Entry>,
+}
+
+/// How a process came to be: by which process, which of that one's forks, and as which child of it. Forks and
+/// children count from 0.
+#[derive(Clone, Copy, Debug, PartialEq, Eq)]
+pub struct Birth {
+    pub parent: u32,
+    pub fork: u32,
+    pub child: u32,
+}
+
+/// What happened at one turn of the kernel's lock: the worker, the process that it gave back, the event that
+/// this made, and the process that it got. A note with neither an event nor a process got is an abandon.
+#[derive(Clone, Copy, Debug, PartialEq, Eq)]
+pub struct Note {
+    pub worker: u32,
+    pub given: Option<u32>,
+    pub event: Option<Event>,
+    pub got: Option<u32>,
+}

@@ -1,0 +1,8 @@
+//! The journal of a run: its entries, the names that they give to processes and channels, and its text.
+#![tactic(auto)]
+
+mod entry;
+mod outcome;
+
+pub use entry::{Birth, Entry, Event, Journal, Note, Way};
+pub use outcome::{End, Verdict, Waiter};
