@@ -3,6 +3,7 @@
 
 mod entry;
 mod outcome;
+mod version;
 
 pub use entry::{Birth, Entry, Event, Journal, Note, Way};
 pub use outcome::{End, Verdict, Waiter};

@@ -1,0 +1,125 @@
+-- What a journal's entries give to processes and channels: numbers, births and names.
+use Rattle.std.specs.Prelude.{ℕ, ◌+◌, ◌-◌, ◌^◌, ◌<◌, ◌≤◌, Bool, cond, ◌&&◌, ◌==◌, nat_lt, nat_le, List, [], ◌∷◌, Option, Some, None}
+use Rattle.sp_journal.specs.declared.entry.Way.TheVariants as way
+use Rattle.sp_journal.specs.declared.entry.Event.{Event}
+use Rattle.sp_journal.specs.declared.entry.Event.TheVariants as event
+use Rattle.sp_journal.specs.declared.entry.Entry.{Entry}
+use Rattle.sp_journal.specs.declared.entry.Journal.{Journal}
+use Rattle.sp_journal.specs.declared.entry.Birth.{Birth}
+use Rattle.sp_journal.specs.Maps.{at_key}
+use Rattle.sp_journal.specs.Names.{Name, Channel, Happening, Opened, Split, Offered, Finished, Failed, LaidDown, Paused, Occurrence}
+
+-- who opened a channel, and how many channels that process had opened before
+pub record Opening : Type 0 where
+  pub owner : ℕ
+  pub nth : ℕ
+
+-- what the entries so far have given
+pub record Births : Type 0 where
+  -- how many processes there are, the root among them, and how many channels: these are the next numbers
+  pub processes : ℕ
+  pub channels : ℕ
+  -- how a process came to be, and its name
+  pub birth : ℕ → Option Birth
+  pub name : ℕ → Name
+  -- how a channel came to be
+  pub opening : ℕ → Opening
+  -- how many forks and opens a process has made
+  pub forks : ℕ → ℕ
+  pub opens : ℕ → ℕ
+
+-- before the first entry: the root alone
+abbrev pub at_start : Births
+at_start = record {
+  processes = 1;
+  channels = 0;
+  birth = λ q. None;
+  name = λ q. [];
+  opening = λ c. record { owner = 0; nth = 0 };
+  forks = λ q. 0;
+  opens = λ q. 0;
+}
+
+-- one of the next n processes
+abbrev pub is_next : Births → ℕ → ℕ → Bool
+is_next s n q = nat_le s.processes q && nat_lt q (s.processes + n)
+
+-- after this event of process p: the children of a fork have the next numbers of processes, the channel of an open has
+-- the next number of a channel
+abbrev pub after_event : Births → ℕ → Event → Births
+after_event s p (event.Fork n) = record s {
+  processes = s.processes + n;
+  birth = λ q. cond (is_next s n q) (Some (record { parent = p; fork = s.forks p; child = q - s.processes })) (s.birth q);
+  name = λ q. cond (is_next s n q) ((s.forks p, q - s.processes) ∷ s.name p) (s.name q);
+  forks = at_key ◌==◌ p (s.forks p + 1) s.forks;
+}
+after_event s p event.Open = record s {
+  channels = s.channels + 1;
+  opening = at_key ◌==◌ s.channels (record { owner = p; nth = s.opens p }) s.opening;
+  opens = at_key ◌==◌ p (s.opens p + 1) s.opens;
+}
+after_event s p (event.Send c) = s
+after_event s p (event.Receive c) = s
+after_event s p event.End = s
+after_event s p (event.Fault f) = s
+after_event s p event.Laid = s
+after_event s p event.Pause = s
+
+abbrev pub after_entry : Births → Entry → Births
+after_entry s e = after_event s e.process e.event
+
+abbrev pub births_from : Births → List Entry → Births
+births_from s [] = s
+births_from s (e ∷ es) = births_from (after_entry s e) es
+
+-- what all these entries have given
+abbrev pub births : List Entry → Births
+births es = births_from at_start es
+
+-- the name of a channel
+abbrev pub channel : Births → ℕ → Channel
+channel s c = record { owner = s.name (s.opening c).owner; nth = (s.opening c).nth }
+
+-- an event speaks of channels that are there, and gives numbers below 4,294,967,296 alone
+abbrev pub GivesNumbers : Births → ℕ → Event → Type 0
+GivesNumbers s p (event.Fork n) = (s.processes + n ≤ 2 ^ 32) × (s.forks p < 2 ^ 32)
+GivesNumbers s p event.Open = (s.channels < 2 ^ 32) × (s.opens p < 2 ^ 32)
+GivesNumbers s p (event.Send c) = c < s.channels
+GivesNumbers s p (event.Receive c) = c < s.channels
+GivesNumbers s p event.End = Unit {0}
+GivesNumbers s p (event.Fault f) = Unit {0}
+GivesNumbers s p event.Laid = Unit {0}
+GivesNumbers s p event.Pause = Unit {0}
+
+-- an entry can come next: its process is there, and so is what its event speaks of
+abbrev pub CanFollow : Births → Entry → Type 0
+CanFollow s e = (e.process < s.processes) × GivesNumbers s e.process e.event
+
+abbrev pub NameableFrom : Births → List Entry → Type 0
+NameableFrom s [] = Unit {0}
+NameableFrom s (e ∷ es) = CanFollow s e × NameableFrom (after_entry s e) es
+
+-- a journal is nameable where each entry can follow those before it
+abbrev pub IsNameable : Journal → Type 0
+IsNameable j = NameableFrom at_start j.entries
+
+-- the same entries by names
+abbrev pub happening : Births → Event → Happening
+happening s (event.Fork n) = Split n
+happening s event.Open = Opened
+happening s (event.Send c) = Offered way.Send (channel s c)
+happening s (event.Receive c) = Offered way.Receive (channel s c)
+happening s event.End = Finished
+happening s (event.Fault f) = Failed f
+happening s event.Laid = LaidDown
+happening s event.Pause = Paused
+
+abbrev pub occurrence : Births → Entry → Occurrence
+occurrence s e = record { who = s.name e.process; what = happening s e.event }
+
+abbrev pub occurrences_from : Births → List Entry → List Occurrence
+occurrences_from s [] = []
+occurrences_from s (e ∷ es) = occurrence s e ∷ occurrences_from (after_entry s e) es
+
+abbrev pub occurrences : Journal → List Occurrence
+occurrences j = occurrences_from at_start j.entries

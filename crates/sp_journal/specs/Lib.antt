@@ -1,0 +1,6 @@
+pub mod Births
+pub mod Maps
+pub mod Names
+pub mod Past
+pub mod Queue
+pub mod Texts

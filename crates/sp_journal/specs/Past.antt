@@ -1,0 +1,89 @@
+-- What each process knows of a journal, and which journals are ordered. They speak of entries by names alone.
+use Rattle.std.specs.Prelude.{◌≡◌, ℕ, suc, zero, ◌+◌, Bool, true, false, cond, ◌||◌, ◌==◌, List, [], ◌∷◌, ◌++◌, length, Option, Some, None, slice_get}
+use Rattle.sp_journal.specs.declared.entry.Journal.{Journal}
+use Rattle.sp_journal.specs.Maps.{at_key}
+use Rattle.sp_journal.specs.Names.{Name, Channel, same_name, same_channel, Happening, Opened, Split, Offered, Finished, Failed, LaidDown, Paused, Occurrence}
+use Rattle.sp_journal.specs.Births.{occurrences}
+
+-- the set of indices that each process knows (its past), the pending offer of each channel with its index, how many
+-- forks each process made, and the index at which the offer of an index was completed: the later of the two offers
+pub record Judged : Type 0 where
+  pub past : Name → ℕ → Bool
+  pub pending : Channel → Option (Name × ℕ)
+  pub forks : Name → ℕ
+  pub completed : ℕ → Option ℕ
+
+-- p knows these besides
+abbrev pub learn : Name → (ℕ → Bool) → (Name → ℕ → Bool) → Name → ℕ → Bool
+learn p known past q i = cond (same_name p q) (past q i || known i) (past q i)
+
+-- n children of this fork, from number i on, start with what is known
+abbrev pub teach : Name → ℕ → (ℕ → Bool) → ℕ → ℕ → (Name → ℕ → Bool) → Name → ℕ → Bool
+teach p fork known i zero past = past
+teach p fork known i (suc n) past = teach p fork known (suc i) n (learn ((fork, i) ∷ p) known past)
+
+-- the parent gets what a child that ends knows. It does nothing before its last child has ended, so when it goes on it
+-- has its own past and those of all its children
+abbrev pub report : Name → (ℕ → Bool) → (Name → ℕ → Bool) → Name → ℕ → Bool
+report [] known past = past
+report (a ∷ p) known past = learn p known past
+
+-- what p knows, and index n
+abbrev pub now : Judged → Name → ℕ → ℕ → Bool
+now j p n i = j.past p i || n == i
+
+-- an offer that waits adds nothing; one that meets gives both sides what both know and the indices of both offers
+abbrev pub met_now : Judged → Name → ℕ → Channel → Option (Name × ℕ) → Judged
+met_now j p n c None = record { past = j.past; pending = at_key same_channel c (Some (p, n)) j.pending; forks = j.forks; completed = j.completed }
+met_now j p n c (Some o) =
+    record {
+      past = learn o.0 (λ i. now j p n i || now j o.0 o.1 i) (learn p (λ i. now j p n i || now j o.0 o.1 i) j.past);
+      pending = at_key same_channel c None j.pending;
+      forks = j.forks;
+      completed = λ i. cond (n == i) (Some n) (cond (o.1 == i) (Some n) (j.completed i));
+    }
+
+-- the entry of index n: open and fork add their own index, an end adds it to the child's past, a pause, a fault and a
+-- laid process add nothing
+abbrev pub judged_by : Judged → ℕ → Name → Happening → Judged
+judged_by j n p Opened = record { past = learn p (λ i. n == i) j.past; pending = j.pending; forks = j.forks; completed = j.completed }
+judged_by j n p (Split k) = record { past = teach p (j.forks p) (now j p n) 0 k (learn p (λ i. n == i) j.past); pending = j.pending; forks = at_key same_name p (j.forks p + 1) j.forks; completed = j.completed }
+judged_by j n p (Offered w c) = met_now j p n c (j.pending c)
+judged_by j n p Finished = record { past = report p (now j p n) (learn p (λ i. n == i) j.past); pending = j.pending; forks = j.forks; completed = j.completed }
+judged_by j n p (Failed f) = j
+judged_by j n p LaidDown = j
+judged_by j n p Paused = j
+
+abbrev pub nothing_judged : Judged
+nothing_judged = record { past = λ p i. false; pending = λ c. None; forks = λ p. 0; completed = λ i. None }
+
+-- after these entries, of which the first one has index n
+abbrev pub judged_from : Judged → ℕ → List Occurrence → Judged
+judged_from j n [] = j
+judged_from j n (e ∷ es) = judged_from (judged_by j n e.who e.what) (suc n) es
+
+abbrev pub judged : List Occurrence → Judged
+judged es = judged_from nothing_judged 0 es
+
+-- at an offer: each earlier offer of this way on this channel was completed, and who offers knows the index of its
+-- completion
+abbrev pub KnowsCompletions : Judged → List Occurrence → Name → Happening → Type 0
+KnowsCompletions j done p (Offered w c) = (i : ℕ) (z : Name) → slice_get done i ≡ Some (record { who = z; what = Offered w c }) → (m : ℕ) × (j.completed i ≡ Some m) × (j.past p m ≡ true)
+KnowsCompletions j done p Opened = Unit {0}
+KnowsCompletions j done p (Split k) = Unit {0}
+KnowsCompletions j done p Finished = Unit {0}
+KnowsCompletions j done p (Failed f) = Unit {0}
+KnowsCompletions j done p LaidDown = Unit {0}
+KnowsCompletions j done p Paused = Unit {0}
+
+abbrev pub CompletedFrom : Judged → List Occurrence → List Occurrence → Type 0
+CompletedFrom j done [] = Unit {0}
+CompletedFrom j done (e ∷ es) = KnowsCompletions j done e.who e.what × CompletedFrom (judged_by j (length done) e.who e.what) (done ++ e ∷ []) es
+
+-- for any two sends on one channel, and any two receives on one channel: the earlier one was completed, and the later
+-- one's process knew the index of that completion just before it offered
+abbrev pub AreOrdered : List Occurrence → Type 0
+AreOrdered es = CompletedFrom nothing_judged [] es
+
+abbrev pub IsOrdered : Journal → Type 0
+IsOrdered j = AreOrdered (occurrences j)
