@@ -1,2 +1,4 @@
 pub mod Plain
 pub mod PlainOf
+pub mod PlainSyntax
+pub mod SyntaxOf

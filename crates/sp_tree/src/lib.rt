@@ -1,10 +1,19 @@
-//! The trees of a program's text.
+//! The tokens and the trees of a program's text.
 #![tactic(auto)]
 
 mod checked;
 mod operators;
+pub mod sign;
+mod syntax;
+mod token;
+pub mod word;
 
 pub use checked::{
     Actual, Arm, Block, Checked, Expr, ExprForm, Form, KindOf, Role, Selector, Stmt, Var, Variable,
 };
 pub use operators::{BinaryOp, StandardFn, UnaryOp};
+pub use syntax::{
+    Name, SynArg, SynArm, SynBlock, SynBranch, SynConst, SynExpr, SynExprForm, SynForm, SynFormal,
+    SynGroup, SynKind, SynPart, SynSelector, SynStmt, SynValue, SynVar, Syntax,
+};
+pub use token::{Kind, Token};
