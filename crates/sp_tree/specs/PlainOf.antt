@@ -1,5 +1,5 @@
 -- The plain tree of a checked one.
-use Rattle.std.specs.Prelude.{ℕ, ℤ, List, [], ◌∷◌, map, Option, Some, None}
+use Rattle.std.specs.Prelude.{List, [], ◌∷◌, map, Option, Some, None}
 use Rattle.sp_tree.specs.declared.checked.Actual.TheOpen as e
 use Rattle.sp_tree.specs.declared.checked.Form.TheOpen as s
 use Rattle.sp_tree.specs.declared.operators.StandardFn.{StandardFn}

@@ -1,5 +1,5 @@
 -- The plain tree of a syntax tree in memory.
-use Rattle.std.specs.Prelude.{ℕ, List, [], ◌∷◌, map, Option, Some, None}
+use Rattle.std.specs.Prelude.{List, [], ◌∷◌, map, Option, Some, None}
 use Rattle.sp_tree.specs.declared.syntax.SynExprForm.TheOpen as e
 use Rattle.sp_tree.specs.declared.syntax.SynForm.TheOpen as s
 use Rattle.sp_tree.specs.declared.syntax.SynPart.TheOpen as p
