@@ -1,5 +1,6 @@
 -- The texts of the names of processes and channels.
-use Rattle.std.specs.Prelude.{ℕ, List, [], ◌∷◌, ◌++◌, codes, decimal}
+use Rattle.std.specs.Prelude.{ℕ, List, ◌++◌, codes, decimal}
+use Rattle.std.specs.List.{flat_map}
 use Rattle.sp_base.specs.declared.name.Pair.{Pair}
 use Rattle.sp_base.specs.declared.name.ProcName.{ProcName}
 use Rattle.sp_base.specs.declared.name.ChanName.{ChanName}
@@ -9,8 +10,7 @@ abbrev pub pair_text : Pair → List ℕ
 pair_text p = codes "/" ++ decimal p.fork ++ codes "." ++ decimal p.child
 
 abbrev pub pairs_text : List Pair → List ℕ
-pairs_text [] = []
-pairs_text (p ∷ ps) = pair_text p ++ pairs_text ps
+pairs_text = flat_map pair_text
 
 -- a process is printed as `0` and then its pairs
 abbrev pub name_text : ProcName → List ℕ

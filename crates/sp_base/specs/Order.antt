@@ -2,8 +2,8 @@
 use Rattle.std.specs.Prelude.{◌≡◌, T, true}
 use Rattle.std.proofs.Common.{refl, sym, subst}
 use Rattle.std.specs.declared.cmp.Ordering.TheVariants.{Less, Equal, Greater}
-use Rattle.std.specs.Ordering.{nat_cmp, on, then_cmp, ordering_then, is_eq}
-use Rattle.std.specs.Cmp.{IsTotalOrder, then_total, on_total, nat_cmp_total}
+use Rattle.std.specs.Ordering.{nat_cmp, on, then_cmp, ordering_then, ordering_reverse, is_eq}
+use Rattle.std.specs.Cmp.{IsTotalOrder, then_total, on_total, nat_cmp_total, tied_itself}
 use Rattle.std.specs.FinMap.{IsAntisymmetric, nat_cmp-IsAntisymmetric, slice_cmp-IsAntisymmetric}
 use Rattle.std.specs.declared.cmp.Ordering.{Ordering}
 use Rattle.std.specs.Cmp.Lexicographic.{slice_cmp, lists_total}
@@ -60,3 +60,20 @@ pub same_channel : IsAntisymmetric channel_cmp
 same_channel x y e =
     let b = both_tie (name_cmp x.owner y.owner) (nat_cmp x.nth y.nth) e in
     λ i. record { owner = same_name x.owner y.owner b.0 i; nth = nat_cmp-IsAntisymmetric x.nth y.nth b.1 i }
+
+-- the laws of an order of names: each name ties with itself and with no other one, of two names one comes first,
+-- and what comes first comes before all that the other one comes before
+pub record IsOrder {N : Type 0} (cmp : N → N → Ordering) : Type 0 where
+  pub reflexive : (x : N) → cmp x x ≡ Equal
+  pub antisymmetric : (x y : N) → cmp x y ≡ Equal → x ≡ y
+  pub transitive : (x y z : N) → cmp x y ≡ Less → cmp y z ≡ Less → cmp x z ≡ Less
+  pub total : (x y : N) → cmp x y ≡ ordering_reverse (cmp y x)
+
+order_of : {N : Type 0} {cmp : N → N → Ordering} → IsTotalOrder cmp → IsAntisymmetric cmp → IsOrder cmp
+order_of o a = record { reflexive = tied_itself o; antisymmetric = a; transitive = o.trans; total = o.antisymm }
+
+pub names_ordered : IsOrder name_cmp
+names_ordered = order_of name_total same_name
+
+pub channels_ordered : IsOrder channel_cmp
+channels_ordered = order_of channel_total same_channel

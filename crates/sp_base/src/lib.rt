@@ -9,6 +9,8 @@ mod list;
 mod name;
 mod place;
 mod rule;
+#[cfg(test)]
+mod tests;
 mod text;
 
 pub use boxed::Boxed;

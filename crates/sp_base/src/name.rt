@@ -1,12 +1,13 @@
 //! The names of processes and channels. A name is the same in every run in which its process forks and opens alike.
 
-ghost use Rattle.std.specs.Prelude.{◌≡◌, IfOk, Some};
+ghost use Rattle.std.specs.Prelude.{◌≡◌, ◌++◌, IfOk, OnOk, Some};
 ghost use Rattle.std.specs.Ordering.{is_eq};
-ghost use Rattle.sp_base.specs.Order.{name_cmp, channel_cmp};
-ghost use Rattle.sp_base.specs.Names.{name_text, channel_text, pairs_text};
+ghost use Rattle.sp_base.specs.Order.{name_cmp, channel_cmp, IsOrder};
+ghost use Rattle.sp_base.specs.Names.{name_text, channel_text};
 
 use crate::halt::Memory;
 use crate::list::List;
+use itoa::Buffer;
 use std::alloc::Global;
 use std::cmp::Ordering;
 use std::fmt;
@@ -34,9 +35,10 @@ pub struct ChanName {
 }
 
 impl ProcName {
-    /// The order of names.
+    /// The order of names, which is a lawful order.
     pub fn order(&self, other: &ProcName) -> Ordering
-        ensures { result ≡ name_cmp self.now other.now }
+        ensures value { result ≡ name_cmp self.now other.now }
+        ensures laws { IsOrder name_cmp }
     {
         self.cmp(other)
     }
@@ -58,12 +60,28 @@ impl ProcName {
         let pairs = List::from_slice(alloc, self.pairs.items())?;
         Ok(ProcName { pairs })
     }
+
+    /// Puts the name's text last into `out`, as `0/2.1`. Where memory is refused a part of it may stand there.
+    pub fn put(&self, out: &mut Vec<u8>) -> Result<(), Memory>
+        ensures { OnOk result (out.new.items ≡ out.old.items ++ name_text self.now) }
+    {
+        let mut buffer = Buffer::new();
+        out.extend_from_slice(b"0")?;
+        for pair in self.pairs.items() {
+            out.extend_from_slice(b"/")?;
+            out.extend_from_slice(buffer.format(pair.fork).as_bytes())?;
+            out.extend_from_slice(b".")?;
+            out.extend_from_slice(buffer.format(pair.child).as_bytes())?;
+        }
+        Ok(())
+    }
 }
 
 impl ChanName {
-    /// The order of names.
+    /// The order of names, which is a lawful order.
     pub fn order(&self, other: &ChanName) -> Ordering
-        ensures { result ≡ channel_cmp self.now other.now }
+        ensures value { result ≡ channel_cmp self.now other.now }
+        ensures laws { IsOrder channel_cmp }
     {
         self.cmp(other)
     }
@@ -77,5 +95,36 @@ impl ChanName {
             owner,
             nth: self.nth,
         })
+    }
+
+    /// Puts the name's text last into `out`, as `0/2.1#3`. Where memory is refused a part of it may stand there.
+    pub fn put(&self, out: &mut Vec<u8>) -> Result<(), Memory>
+        ensures { OnOk result (out.new.items ≡ out.old.items ++ channel_text self.now) }
+    {
+        self.owner.put(out)?;
+        let mut buffer = Buffer::new();
+        out.extend_from_slice(b"#")?;
+        out.extend_from_slice(buffer.format(self.nth).as_bytes())?;
+        Ok(())
+    }
+}
+
+impl fmt::Display for ProcName {
+    ghost output = { λ n. Some (name_text n) };
+
+    fn fmt<W: fmt::Write>(&self, f: &mut fmt::Formatter<W>) -> fmt::Result {
+        write!(f, "0")?;
+        for pair in self.pairs.items() {
+            write!(f, "/{}.{}", pair.fork, pair.child)?;
+        }
+        Ok(())
+    }
+}
+
+impl fmt::Display for ChanName {
+    ghost output = { λ c. Some (channel_text c) };
+
+    fn fmt<W: fmt::Write>(&self, f: &mut fmt::Formatter<W>) -> fmt::Result {
+        write!(f, "{}#{}", self.owner, self.nth)
     }
 }

@@ -1,0 +1,107 @@
+//! The calls of this crate, each once.
+
+use super::*;
+use std::alloc::Global;
+use std::cmp::Ordering;
+use std::test::Fail;
+
+fn pair(fork: u32, child: u32) -> Pair {
+    Pair { fork, child }
+}
+
+fn name_of(alloc: Global, pairs: &[Pair]) -> Result<ProcName, Memory> {
+    Ok(ProcName {
+        pairs: List::from_slice(alloc, pairs)?,
+    })
+}
+
+fn deep_name(alloc: Global, last: Pair) -> Result<ProcName, Memory> {
+    let mut pairs = List::new(alloc);
+    for _ in 0..9_999 {
+        pairs.push(pair(1, 2))?;
+    }
+    pairs.push(last)?;
+    Ok(ProcName { pairs })
+}
+
+#[test]
+fn names_are_ordered_by_fork_and_then_child(rt: HostRuntime) -> Result<(), Fail> {
+    let root = name_of(rt.alloc(), &[])?;
+    let first = name_of(rt.alloc(), &[pair(0, 1)])?;
+    let second = name_of(rt.alloc(), &[pair(1, 0)])?;
+    let below = name_of(rt.alloc(), &[pair(0, 1), pair(0, 0)])?;
+    assert_eq!(rt; root.order(&first), Ordering::Less);
+    assert_eq!(rt; first.order(&second), Ordering::Less);
+    assert_eq!(rt; below.order(&first), Ordering::Greater);
+    assert_eq!(rt; below.order(&second), Ordering::Less);
+    assert!(rt; first.is(&first));
+    assert!(rt; !first.is(&second));
+    Ok(())
+}
+
+#[test]
+fn channels_are_ordered_by_owner_and_then_number(rt: HostRuntime) -> Result<(), Fail> {
+    let owner = name_of(rt.alloc(), &[pair(0, 1)])?;
+    let one = ChanName { owner, nth: 7 };
+    let two = ChanName {
+        owner: name_of(rt.alloc(), &[pair(0, 2)])?,
+        nth: 3,
+    };
+    let copy = one.duplicate(rt.alloc())?;
+    assert_eq!(rt; one.order(&two), Ordering::Less);
+    assert_eq!(rt; one.order(&copy), Ordering::Equal);
+    let mut out = Vec::new(rt.alloc());
+    one.put(&mut out)?;
+    assert_eq!(rt; out.as_slice(), b"0/0.1#7".as_slice());
+    assert_eq!(rt; format!(in rt.alloc(); "{two}")?.as_str(), "0/0.2#3");
+    Ok(())
+}
+
+#[test]
+fn names_of_ten_thousand_pairs(rt: HostRuntime) -> Result<(), Fail> {
+    let name = deep_name(rt.alloc(), pair(1, 2))?;
+    let other = deep_name(rt.alloc(), pair(1, 3))?;
+    let copy = name.duplicate(rt.alloc())?;
+    assert_eq!(rt; name.order(&copy), Ordering::Equal);
+    assert_eq!(rt; name.order(&other), Ordering::Less);
+    let mut out = Vec::new(rt.alloc());
+    name.put(&mut out)?;
+    assert_eq!(rt; out.len(), 40_001);
+    let text = format!(in rt.alloc(); "{other}")?;
+    assert_eq!(rt; text.len(), 40_001);
+    Ok(())
+}
+
+#[test]
+fn texts_of_rules_and_faults(rt: HostRuntime) -> Result<(), Fail> {
+    assert_eq!(rt; Rule::Y14.name(), "Y14");
+    assert_eq!(rt; Fault::F18.name(), "F18");
+    let (rule, fault) = (Rule::L6, Fault::F1);
+    assert_eq!(rt; format!(in rt.alloc(); "{rule} {fault}")?.as_str(), "L6 F1");
+    Ok(())
+}
+
+#[test]
+fn lists_boxes_and_texts(rt: HostRuntime) -> Result<(), Fail> {
+    let mut list = List::new(rt.alloc());
+    assert!(rt; list.is_empty());
+    list.push(3u32)?;
+    list.push(4)?;
+    if let Some(x) = list.get_mut(1) {
+        *x = 5;
+    }
+    assert_eq!(rt; list.len(), 2);
+    assert_eq!(rt; list.get(1).copied(), Some(5));
+    assert_eq!(rt; list.items(), [3, 5].as_slice());
+    assert_eq!(rt; List::of(list.into_vec()).len(), 2);
+
+    let boxed = Boxed::new(rt.alloc(), 6u32)?;
+    assert_eq!(rt; *boxed.get(), 6);
+    assert_eq!(rt; boxed.into_inner(), 6);
+
+    let text = Text::of(Vec::from_slice(rt.alloc(), b"ab")?);
+    assert_eq!(rt; text.bytes(), b"ab".as_slice());
+    let word = Word::of(String::from_str(rt.alloc(), "cd")?);
+    assert_eq!(rt; word.text(), "cd");
+    Ok(())
+}
