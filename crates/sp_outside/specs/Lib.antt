@@ -1,0 +1,5 @@
+pub mod Counts
+pub mod Told
+pub mod Plans
+pub mod Rooms
+pub mod Files

@@ -1,0 +1,21 @@
+-- Which calls of an outside in memory fail.
+use Rattle.std.specs.Prelude.{ℕ, List, Bool, ◌==◌}
+use Rattle.std.specs.List.{list_any}
+use Rattle.sp_outside.specs.Counts.{next_count}
+use Rattle.sp_outside.specs.declared.plan.Plan.{Plan}
+
+-- the next call fails: its number is among those that are to fail
+abbrev pub fails_next : Plan → Bool
+fails_next p = list_any (λ k. k == p.calls) p.failing
+
+-- one call more, with a fault or without
+abbrev pub called : Plan → Plan
+called p = record p { calls = next_count p.calls }
+
+-- one fault more
+abbrev pub faulted : Plan → Plan
+faulted p = record p { faults = next_count p.faults }
+
+-- no call was made
+abbrev pub unused : List ℕ → Plan
+unused failing = record { failing = failing; calls = 0; faults = 0 }

@@ -1,0 +1,23 @@
+-- Bytes that are put into a room of a fixed length.
+use Rattle.std.specs.Prelude.{◌≡◌, ℕ, List, [], ◌++◌, take, length, ◌+◌, nat_le, Option, Some, None, true, ◌&&◌, cond}
+use Rattle.sp_outside.specs.declared.room.Room.{Room}
+
+-- the bytes that have fitted
+abbrev pub fitted : Room → List ℕ
+fitted r = r.bytes.items
+
+-- all that was put, as long as it has fitted
+abbrev pub told : Room → Option (List ℕ)
+told r = cond r.whole (Some (fitted r)) None
+
+-- a room for so many bytes into which nothing was put
+pub record IsEmptyRoom (size : ℕ) (r : Room) : Type 0 where
+  pub empty : fitted r ≡ []
+  pub whole : r.whole ≡ true
+  pub room : r.size ≡ size
+
+-- a piece was put: as much of it as fits stands after what had fitted, and whether all has fitted is known
+pub record IsPut (old : Room) (piece : List ℕ) (new : Room) : Type 0 where
+  pub kept : fitted new ≡ take old.size (fitted old ++ piece)
+  pub all_fitted : new.whole ≡ (old.whole && nat_le (length (fitted old) + length piece) old.size)
+  pub same_size : new.size ≡ old.size

@@ -1,0 +1,19 @@
+//! The outside of a run: where its text and its input come from, where its output goes, and what watches it.
+//!
+//! Each of `Library`, `Source` and `Sink` has a count of faults that never falls, and fails only where that count
+//! rose in the call. What it holds, has left or has got is told where it is known, and the clauses speak of that.
+#![tactic(auto)]
+
+mod failed;
+mod library;
+mod memory_library;
+mod memory_sink;
+mod plan;
+mod room;
+mod sink;
+
+pub use failed::{Failed, LoadError};
+pub use library::Library;
+pub use memory_library::{MemoryLibrary, SureLibrary};
+pub use memory_sink::{MemorySink, SureSink};
+pub use sink::{Sink, put_all};

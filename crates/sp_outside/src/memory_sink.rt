@@ -1,0 +1,129 @@
+//! Sinks in memory.
+
+ghost use Rattle.std.specs.Prelude.{◌≡◌, ◌↔◌, ◌<◌, ◌≤◌, ◌++◌, Ok, min, take, length, IfOk, OnErr, IsErr, IsTrue, vec_len};
+ghost use Rattle.sp_outside.specs.Counts.{Rose};
+ghost use Rattle.sp_outside.specs.Told.{Grows};
+
+use crate::failed::Failed;
+use crate::plan::Plan;
+use crate::room::Room;
+use crate::sink::Sink;
+use sp_base::List;
+
+/// Takes at most `most` bytes a call and copies them into the vector that it was given, whose length is its room.
+/// It tells what was put while all of it has fitted; once something does not fit, the rest is dropped and nothing is
+/// told any more. The calls whose numbers, from 0, are in `failing` fail, and no other. It takes no memory.
+#[derive(Debug, Drop)]
+pub struct MemorySink {
+    room: Room,
+    most: usize,
+    plan: Plan,
+    ghost most_not_zero: { 1 ≤ most },
+}
+
+impl MemorySink {
+    ghost use Rattle.sp_outside.specs.Rooms.{IsEmptyRoom, fitted};
+    ghost use Rattle.sp_outside.specs.Plans.{unused};
+
+    pub fn new(room: Vec<u8>, most: usize, failing: List<u32>) -> MemorySink
+        requires { 1 ≤ most }
+        ensures room { IsEmptyRoom (vec_len room) result.room }
+        ensures most { result.most ≡ most }
+        ensures plan { result.plan ≡ unused failing }
+    {
+        MemorySink {
+            room: Room::new(room),
+            most,
+            plan: Plan::new(failing),
+        }
+    }
+
+    /// What has fitted.
+    pub fn bytes(&self) -> &[u8]
+        ensures { result.now ≡ fitted self.now.room }
+    {
+        self.room.fitted()
+    }
+}
+
+impl Sink for MemorySink {
+    ghost use Rattle.sp_outside.specs.Rooms.{told, IsPut};
+    ghost use Rattle.sp_outside.specs.Plans.{fails_next};
+
+    ghost written = { λ s. told s.room };
+
+    ghost faults = { λ s. s.plan.faults };
+
+    fn put(&mut self, piece: &[u8]) -> Result<usize, Failed>
+        ensures within { IfOk result (λ n. n ≤ length piece.now) }
+        ensures some { IfOk result (λ n. 0 < length piece.now → 0 < n) }
+        ensures ok { IfOk result (λ n. Grows (told self.old.room) (told self.new.room) (take n piece.now)) }
+        ensures failed { OnErr result (Rose self.old.plan.faults self.new.plan.faults) }
+        ensures unchanged { OnErr result (told self.new.room ≡ told self.old.room) }
+        ensures counted { self.old.plan.faults ≤ self.new.plan.faults }
+
+        // Exactly the calls that are to fail do. What fits of the bytes taken is kept.
+        ensures exact { IsErr result ↔ IsTrue (fails_next self.old.plan) }
+        ensures count { IfOk result (λ n. n ≡ min (length piece.now) self.old.most) }
+        ensures kept { IfOk result (λ n. IsPut self.old.room (take n piece.now) self.new.room) }
+    {
+        let fails = self.plan.fails();
+        self.plan.call();
+        if fails {
+            self.plan.fault();
+            return Err(Failed);
+        }
+        let count = piece.len().min(self.most);
+        self.room.put(&piece[..count]);
+        Ok(count)
+    }
+}
+
+/// Takes every piece whole, and otherwise is as a `MemorySink` of which no call fails.
+#[derive(Debug, Drop)]
+pub struct SureSink {
+    room: Room,
+}
+
+impl SureSink {
+    ghost use Rattle.sp_outside.specs.Rooms.{IsEmptyRoom, fitted};
+
+    pub fn new(room: Vec<u8>) -> SureSink
+        ensures { IsEmptyRoom (vec_len room) result.room }
+    {
+        SureSink {
+            room: Room::new(room),
+        }
+    }
+
+    /// What has fitted.
+    pub fn bytes(&self) -> &[u8]
+        ensures { result.now ≡ fitted self.now.room }
+    {
+        self.room.fitted()
+    }
+}
+
+impl Sink for SureSink {
+    ghost use Rattle.sp_outside.specs.Rooms.{told, IsPut};
+
+    ghost written = { λ s. told s.room };
+
+    ghost faults = { λ _. 0 };
+
+    fn put(&mut self, piece: &[u8]) -> Result<usize, Failed>
+        ensures within { IfOk result (λ n. n ≤ length piece.now) }
+        ensures some { IfOk result (λ n. 0 < length piece.now → 0 < n) }
+        ensures ok { IfOk result (λ n. Grows (told self.old.room) (told self.new.room) (take n piece.now)) }
+        ensures failed { OnErr result (Rose 0 0) }
+        ensures unchanged { OnErr result (told self.new.room ≡ told self.old.room) }
+        ensures counted { 0 ≤ 0 }
+
+        // Each piece is taken whole. What fits of it is kept.
+        ensures all { result ≡ Ok (length piece.now) }
+        ensures kept { IsPut self.old.room piece.now self.new.room }
+    {
+        self.room.put(piece);
+        Ok(piece.len())
+    }
+}

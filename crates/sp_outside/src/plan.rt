@@ -1,0 +1,55 @@
+//! Which calls of an outside in memory fail, and how many have failed.
+
+ghost use Rattle.std.specs.Prelude.{◌≡◌, ◌≤◌};
+ghost use Rattle.sp_outside.specs.Counts.{Rose};
+ghost use Rattle.sp_outside.specs.Plans.{unused, fails_next, called, faulted};
+
+use sp_base::List;
+
+/// The numbers, from 0, of the calls that are to fail, and how many calls and faults there were. Both counts stay
+/// at their last value, which is no number of a call that fails.
+#[derive(Debug, Drop)]
+pub struct Plan {
+    failing: List<u32>,
+    calls: u64,
+    faults: u64,
+}
+
+impl Plan {
+    pub fn new(failing: List<u32>) -> Plan
+        ensures { result ≡ unused failing }
+    {
+        Plan {
+            failing,
+            calls: 0,
+            faults: 0,
+        }
+    }
+
+    /// Whether the next call is one that is to fail.
+    pub fn fails(&self) -> bool
+        ensures { result ≡ fails_next self.now }
+    {
+        let calls = self.calls;
+        self.failing
+            .items()
+            .iter()
+            .any(|number| u64::from(*number) == calls)
+    }
+
+    /// Counts a call.
+    pub fn call(&mut self)
+        ensures { self.new ≡ called self.old }
+    {
+        self.calls = self.calls.saturating_add(1);
+    }
+
+    /// Counts a fault.
+    pub fn fault(&mut self)
+        ensures value { self.new ≡ faulted self.old }
+        ensures rose { Rose self.old.faults self.new.faults }
+        ensures counted { self.old.faults ≤ self.new.faults }
+    {
+        self.faults = self.faults.saturating_add(1);
+    }
+}
