@@ -1,0 +1,97 @@
+-- The way of a run along a journal.
+use Rattle.std.specs.Prelude.{◌≡◌, ℕ, zero, suc, ◌+◌, Bool, true, false, cond, ◌&&◌, ◌||◌, if◌then◌else◌, nat_le, List, [], ◌∷◌, Some, None}
+use Rattle.sp_meaning.specs.Model.{Name, Condition, Absent, Works, Waits, Joins, Ended, same_name}
+use Rattle.sp_meaning.specs.Own.{Setting, Held, Address, Process}
+use Rattle.sp_meaning.specs.SuperPascal.{beats}
+use Rattle.sp_meaning.specs.Entries.{Said, Fork, Open, Offer, End, Faulted, Laid, Pause, Entry, is_fault}
+use Rattle.sp_meaning.specs.Runs.{StateOf, start, running, next, says}
+
+-- the first where the test holds, and else the second
+abbrev pub Either : Bool → Type 0 → Type 0 → Type 0
+Either true A B = A
+Either false A B = B
+
+-- the ticks that a process has made, whatever it does
+abbrev pub ticks_in : Condition Process Held Address → ℕ
+ticks_in Absent = 0
+ticks_in (Works own) = own.own.ticks
+ticks_in (Waits o) = o.next.own.ticks
+ticks_in (Joins fork count next) = next.own.ticks
+ticks_in Ended = 0
+
+-- what is kept beside the state: each process's ticks at its last entry, whether a fault stands, and who is laid
+pub record Course : Type 0 where
+  pub since : Name → ℕ
+  pub faulted : Bool
+  pub laid : Name → Bool
+
+abbrev pub no_course : Course
+no_course = record { since = λ q. 0; faulted = false; laid = λ q. false }
+
+abbrev pub noted : Name → ℕ → Course → Course
+noted q n c = record c { since = λ r. cond (same_name q r) n (c.since r) }
+
+abbrev pub stopped : Name → Course → Course
+stopped q c = record c { faulted = true; laid = λ r. same_name q r || c.laid r }
+
+-- an entry notes its process's ticks; who faults is laid from there on
+abbrev pub after_entry : Name → Said → ℕ → Course → Course
+after_entry q what n c = if is_fault what then stopped q (noted q n c) else noted q n c
+
+module _ (g : Setting) where
+  abbrev pub ticks_of : StateOf g → Name → ℕ
+  ticks_of s q = ticks_in (s.condition q)
+
+  -- after this step of q from s to t, q is due: the step paused, and q has made so many ticks since its last entry
+  abbrev pub due : ℕ → (since : ℕ) → StateOf g → Process → Name → StateOf g → Bool
+  due turn since s own q t = beats g own s.store && nat_le (since + turn) (ticks_of t q)
+
+  -- n local steps of q lead from s to t: up to the first moment at which it is due, or its next step is a kernel step
+  abbrev pub Turn : ℕ → ℕ → Name → ℕ → StateOf g → StateOf g → Bool → Type 0
+  Turn turn since q zero s t paused = (t ≡ s) × (paused ≡ false) × (own : Process) × (running g s q ≡ Some own) × (what : Said) × (says g s q own ≡ Some what)
+  Turn turn since q (suc n) s t paused =
+      (own : Process) × (running g s q ≡ Some own) × (says g s q own ≡ None) × (m : StateOf g) × (next g s q ≡ Some m)
+      × Either (due turn since s own q m) ((n ≡ 0) × (t ≡ m) × (paused ≡ true)) (Turn turn since q n m t paused)
+
+  -- the entry's step at s: it makes this entry
+  abbrev pub Enters : StateOf g → Name → Said → StateOf g → Type 0
+  Enters s q what t = (own : Process) × (running g s q ≡ Some own) × (says g s q own ≡ Some what) × (next g s q ≡ Some t)
+
+  -- a kernel step: only where no fault stands, and where the process is not due
+  abbrev pub Kernel : (Course → StateOf g → ℕ → Type 0) → Course → StateOf g → Bool → Name → Said → ℕ → Type 0
+  Kernel left c m paused q what n = (c.faulted ≡ false) × (paused ≡ false) × (u : StateOf g) × (rest : ℕ) × (n ≡ suc rest) × Enters m q what u × left (after_entry q what (ticks_of u q) c) u rest
+
+  -- what the entry's process does after its local steps, which led to m, and what is then left. Laid comes only after a fault
+  abbrev pub Entered : (Course → StateOf g → ℕ → Type 0) → Course → StateOf g → Bool → Name → Said → ℕ → Type 0
+  Entered left c m paused q Laid n = (c.faulted ≡ true) × left (stopped q c) m n
+  Entered left c m paused q Pause n = (c.faulted ≡ false) × (paused ≡ true) × left (noted q (ticks_of m q) c) m n
+  Entered left c m paused q (Fork count) n = Kernel left c m paused q (Fork count) n
+  Entered left c m paused q Open n = Kernel left c m paused q Open n
+  Entered left c m paused q (Offer w ch) n = Kernel left c m paused q (Offer w ch) n
+  Entered left c m paused q End n = Kernel left c m paused q End n
+  Entered left c m paused q (Faulted f) n = Kernel left c m paused q (Faulted f) n
+
+  -- the entries in order lead from s to t by n steps in all, where a process pauses after so many ticks
+  abbrev pub Along : ℕ → Course → StateOf g → List Entry → ℕ → StateOf g → Type 0
+  Along turn c s [] n t = (n ≡ 0) × (t ≡ s)
+  Along turn c s (e ∷ es) n t =
+      (c.laid e.who ≡ false) × (k rest : ℕ) × (m : StateOf g) × (paused : Bool) × (n ≡ k + rest) × Turn turn (c.since e.who) e.who k s m paused
+      × Entered (λ c1 u r. Along turn c1 u es r t) c m paused e.who e.what rest
+
+  -- along a journal from the start
+  abbrev pub IsAlong : ℕ → List Entry → ℕ → StateOf g → Type 0
+  IsAlong turn es n t = Along turn no_course (start g) es n t
+
+-- no entry is Fault or Laid
+abbrev pub IsCleanSaid : Said → Type 0
+IsCleanSaid (Fork n) = Unit
+IsCleanSaid Open = Unit
+IsCleanSaid (Offer w c) = Unit
+IsCleanSaid End = Unit
+IsCleanSaid (Faulted f) = ⊥
+IsCleanSaid Laid = ⊥
+IsCleanSaid Pause = Unit
+
+abbrev pub IsClean : List Entry → Type 0
+IsClean [] = Unit
+IsClean (e ∷ es) = IsCleanSaid e.what × IsClean es

@@ -1,0 +1,337 @@
+-- Statements in steps: what a process does first, and what is left to do.
+use Rattle.std.specs.Prelude.{ℕ, zero, suc, ◌+◌, ◌-◌, ◌==◌, ℤ, pos, ◌+ℤ◌, ◌-ℤ◌, nat_abs, int_lt, int_le, List, [], ◌∷◌, ◌++◌, Option, Some, None, Bool, true, false, if◌then◌else◌, nat_lt, length, take, slice_get, map, sum}
+use Rattle.std.specs.Fmt.{signed_decimal}
+use Rattle.sp_base.specs.declared.fault.Fault.TheVariants as fault
+use Rattle.sp_tree.specs.declared.checked.KindOf.{KindOf}
+use Rattle.sp_tree.specs.declared.checked.KindOf.TheVariants as kind
+use Rattle.sp_tree.specs.declared.checked.Role.{Role}
+use Rattle.sp_tree.specs.declared.checked.Role.TheVariants as role
+use Rattle.sp_tree.specs.Plain.{Expr, Typed, Variable, Block, Stmt, Empty, Assign, Call, Sequence, If, IfElse, While, Repeat, For, Case, Parallel, Forall, Assume, ReadValue, ReadLine, WriteValue, WriteText, WriteLine, Open, Send, Receive, Stmts, No, And, On, Arms, NoArm, Or}
+use Rattle.sp_meaning.specs.Model.{Name, Channel, Cargo, Gives, Takes}
+use Rattle.sp_meaning.specs.Values.{Value, Undefined, Ordinal, Chan, Parts, first_or, sizes, initials}
+use Rattle.sp_meaning.specs.Own.{Setting, Cell, Input, Output, Held, Tree, Position, Written, Address, Home, OfBlock, OfIndex, Frame, Own, Who, Item, Do, First, Again, Test, Leave, Break, Process, Work, bind, give, fail, lost, long, mine, who, become, look, put, fetch, assign, or_lost, position_in, bytes_in, reach, is_block, tick, deepen, widen}
+use Rattle.sp_meaning.specs.Operators.{same_ordinal}
+use Rattle.sp_meaning.specs.Texts.{Taken, Takes as Took, Fails as Stops, number_in, char_in, line_length, padded, truth_text}
+use Rattle.sp_meaning.specs.Eval.{Given, ValueOf, PlaceOf, Calls, kind_at, read_at, address_of, place_of, left_of, value, actuals, address, ordinal_of, ordinal, channel}
+
+-- a child that is to be born: what it does, and the index of a forall with its value
+pub record Birth : Type 0 where
+  pub todo : List Item
+  pub index : Option (ℕ × ℤ)
+
+-- What a process does: a local step, the like that ends with a tick of its own (a pausing step), or a kernel step
+pub data Deed : Type 0 where
+  Went : (todo : List Item) → Deed
+  Beat : (todo : List Item) → Deed
+  Opened : (todo : List Item) → Deed
+  Forked : (births : List Birth) (todo : List Item) → Deed
+  Offered : (c : Channel) (kind : ℕ) (cargo : Cargo Held Address) (todo : List Item) → Deed
+  Over : Deed
+
+-- a statement goes before what is left; the empty statement and sequences are no steps
+abbrev mutual
+  pub push : Stmt → List Item → List Item
+  push Empty todo = todo
+  push (Assign v e) todo = Do (Assign v e) ∷ todo
+  push (Call f args) todo = Do (Call f args) ∷ todo
+  push (Sequence ss) todo = push_all ss todo
+  push (If e a) todo = Do (If e a) ∷ todo
+  push (IfElse e a b) todo = Do (IfElse e a b) ∷ todo
+  push (While e s) todo = Do (While e s) ∷ todo
+  push (Repeat s e) todo = Do (Repeat s e) ∷ todo
+  push (For x from down to s) todo = Do (For x from down to s) ∷ todo
+  push (Case e arms) todo = Do (Case e arms) ∷ todo
+  push (Parallel ss) todo = Do (Parallel ss) ∷ todo
+  push (Forall x from to s) todo = Do (Forall x from to s) ∷ todo
+  push (Assume e) todo = Do (Assume e) ∷ todo
+  push (ReadValue v) todo = Do (ReadValue v) ∷ todo
+  push ReadLine todo = Do ReadLine ∷ todo
+  push (WriteValue e w) todo = Do (WriteValue e w) ∷ todo
+  push (WriteText t w) todo = Do (WriteText t w) ∷ todo
+  push WriteLine todo = Do WriteLine ∷ todo
+  push (Open v) todo = Do (Open v) ∷ todo
+  push (Send c e) todo = Do (Send c e) ∷ todo
+  push (Receive c v) todo = Do (Receive c v) ∷ todo
+
+  pub push_all : Stmts → List Item → List Item
+  push_all No todo = todo
+  push_all (And s rest) todo = push s (push_all rest todo)
+
+-- the statement of the first arm with this constant
+abbrev pub has : ℤ → List ℤ → Bool
+has n [] = false
+has n (m ∷ ms) = if same_ordinal n m then true else has n ms
+
+abbrev pub arm_for : ℤ → Arms → Option Stmt
+arm_for n NoArm = None
+arm_for n (Or (On ms s) rest) = if has n ms then Some s else arm_for n rest
+
+abbrev pub if_true : {A : Type 0} → ℤ → A → A → A
+if_true n a b = if int_le n (pos 0) then b else a
+
+-- for loops, up and down
+
+abbrev pub is_range : Bool → ℤ → ℤ → Bool
+is_range down from to = if down then int_le to from else int_le from to
+
+abbrev pub is_before : Bool → ℤ → ℤ → Bool
+is_before down n limit = if down then int_lt limit n else int_lt n limit
+
+abbrev pub next_value : Bool → ℤ → ℤ
+next_value down n = if down then n -ℤ pos 1 else n +ℤ pos 1
+
+-- a loop goes on where its variable is before the limit, or holds no ordinal (and then the step is F4)
+abbrev pub goes_on : Bool → ℤ → Value → Bool
+goes_on down limit Undefined = true
+goes_on down limit (Ordinal n) = is_before down n limit
+goes_on down limit (Chan c) = true
+goes_on down limit (Parts vs) = true
+
+-- frames
+
+-- a block's variables with their numbers, from number x on
+abbrev pub variables_of : ℕ → ℕ → List Variable → List (ℕ × Variable)
+variables_of b x [] = []
+variables_of b x (i ∷ is) = if i.block == b then (x, i) ∷ variables_of b (suc x) is else variables_of b (suc x) is
+
+abbrev pub cells_by : List ℕ → Role → ℕ → ℕ
+cells_by sizes role.Console k = 0
+cells_by sizes role.Local k = first_or 0 (slice_get sizes k)
+cells_by sizes role.Value k = first_or 0 (slice_get sizes k)
+cells_by sizes role.Reference k = 1
+cells_by sizes role.Index k = 0
+cells_by sizes role.Answer k = first_or 0 (slice_get sizes k)
+
+-- what stands at first in a variable of a frame, if it has cells of its own
+abbrev pub begins : List Value → Role → ℕ → Option Value
+begins initials role.Console k = None
+begins initials role.Local k = slice_get initials k
+begins initials role.Value k = slice_get initials k
+begins initials role.Reference k = None
+begins initials role.Index k = None
+begins initials role.Answer k = slice_get initials k
+
+abbrev pub references : List ℕ → List Given → List (ℕ × Address)
+references [] gs = []
+references (x ∷ xs) [] = []
+references (x ∷ xs) (ValueOf v ∷ gs) = references xs gs
+references (x ∷ xs) (PlaceOf a ∷ gs) = (x, a) ∷ references xs gs
+
+-- the text of an item with its width: the bytes, or F1
+abbrev pub in_width : Bool → List ℕ → Option ℤ → Work (List ℕ)
+in_width cut t None = give t
+in_width cut t (Some m) = if int_le m (pos 0) then fail fault.F1 else give (padded (nat_abs m) (if cut then take (nat_abs m) t else t))
+
+-- an item of a type as text, and whether a width cuts it
+abbrev pub shown : KindOf → ℤ → Bool × List ℕ
+shown kind.Integer n = (false, signed_decimal n)
+shown kind.Boolean n = (true, truth_text n)
+shown kind.Char n = (false, nat_abs n ∷ [])
+shown (kind.Enumeration m) n = (false, [])
+shown (kind.Array low high index element) n = (false, [])
+shown (kind.Fields fs) n = (false, [])
+shown (kind.Channel ks) n = (false, [])
+
+-- what is read of a type
+abbrev pub taken_by : KindOf → List ℕ → Option Taken
+taken_by kind.Integer bs = Some (number_in bs)
+taken_by kind.Boolean bs = None
+taken_by kind.Char bs = Some (char_in bs)
+taken_by (kind.Enumeration n) bs = None
+taken_by (kind.Array low high index element) bs = None
+taken_by (kind.Fields fs) bs = None
+taken_by (kind.Channel ks) bs = None
+
+-- one child for each process statement
+abbrev pub children : Stmts → List Birth
+children No = []
+children (And s rest) = record { todo = push s []; index = None } ∷ children rest
+
+-- one child for each of n values from low on
+abbrev pub indexed_children : ℕ → Stmt → ℤ → ℕ → List Birth
+indexed_children x s low zero = []
+indexed_children x s low (suc n) = record { todo = push s []; index = Some (x, low) } ∷ indexed_children x s (low +ℤ pos 1) n
+
+-- a forall's child has its index in a frame of its own
+abbrev pub with_index : Name → Option (ℕ × ℤ) → List Frame → List Frame
+with_index q None fs = fs
+with_index q (Some x) fs = record { owner = q; number = length fs; home = OfIndex x.0 x.1; link = length fs; references = [] } ∷ fs
+
+-- a child is born, of its parent
+abbrev pub newborn : Who → Own → ℕ → Birth → Process
+newborn w o i b = record {
+  todo = b.todo;
+  who = record { name = (w.forks, i) ∷ w.name; forks = 0; opens = 0 };
+  own = record { frames = with_index ((w.forks, i) ∷ w.name) b.index o.frames; depth = o.depth + 1; ticks = 0; cells = 0 };
+}
+
+abbrev pub newborns : Who → Own → ℕ → List Birth → List Process
+newborns w o i [] = []
+newborns w o i (b ∷ bs) = newborn w o i b ∷ newborns w o (suc i) bs
+
+module _ (g : Setting) where
+  abbrev pub size_of_frame : ℕ → ℕ
+  size_of_frame b = sum (map (λ x. cells_by (sizes g.program.kinds) x.1.role x.1.kind) (variables_of b 0 g.program.variables))
+
+  abbrev pub lay_one : ℕ → ℕ × Variable → Option Value → Work (Unit {0})
+  lay_one n x None = give tt
+  lay_one n x (Some v) = bind who (λ w. put (Cell w.name n x.0) (Tree v))
+
+  -- the variables of a new frame are undefined
+  abbrev pub lay : ℕ → List (ℕ × Variable) → Work (Unit {0})
+  lay n [] = give tt
+  lay n (x ∷ xs) = bind (lay_one n x (begins (initials g.program.kinds) x.1.role x.1.kind)) (λ u. lay n xs)
+
+  -- the value parameters are copied
+  abbrev pub copy_in : ℕ → List ℕ → List Given → Work (Unit {0})
+  copy_in n [] gs = give tt
+  copy_in n (x ∷ xs) [] = give tt
+  copy_in n (x ∷ xs) (ValueOf v ∷ gs) = bind who (λ w. bind (put (Cell w.name n x) (Tree v)) (λ u. copy_in n xs gs))
+  copy_in n (x ∷ xs) (PlaceOf a ∷ gs) = copy_in n xs gs
+
+  abbrev pub pushed_frame : ℕ → ℕ → List (ℕ × Address) → Who → Own → Own
+  pushed_frame b link rs w o = record o { frames = record { owner = w.name; number = length o.frames; home = OfBlock b; link = link; references = rs } ∷ o.frames }
+
+  abbrev pub enclosing : Option ℕ → Work ℕ
+  enclosing None = lost
+  enclosing (Some q) = reach (is_block q)
+
+  -- a call, after its arguments: tick, depth, cells, the new frame
+  abbrev pub enter : ℕ → List Given → Work Block
+  enter f gs =
+      bind (or_lost (slice_get g.program.blocks f)) (λ b. bind (tick g.limits) (λ u. bind (deepen g.limits) (λ u. bind (widen g.limits (size_of_frame f)) (λ u.
+      bind (enclosing b.parent) (λ link. bind mine (λ o. bind who (λ w. bind (become (pushed_frame f link (references b.formals gs) w o)) (λ u.
+      bind (lay (length o.frames) (variables_of f 0 g.program.variables)) (λ u. bind (copy_in (length o.frames) b.formals gs) (λ u. give b))))))))))
+
+  abbrev pub cells_of_home : Home → ℕ
+  cells_of_home (OfBlock b) = size_of_frame b
+  cells_of_home (OfIndex x n) = 0
+
+  abbrev pub without_frame : List Frame → Own → Own
+  without_frame [] o = o
+  without_frame (f ∷ fs) o = record o { frames = fs; depth = o.depth - 1; cells = o.cells - cells_of_home f.home }
+
+  -- the newest frame goes
+  abbrev pub leave : Work (Unit {0})
+  leave = bind mine (λ o. become (without_frame o.frames o))
+
+  -- the output gets a text, or F16
+  abbrev pub write : List ℕ → Work (Unit {0})
+  write t = bind (look Output) (λ h. if nat_lt g.limits.output (length (bytes_in h) + length t) then fail fault.F16 else put Output (Written (bytes_in h ++ t)))
+
+  -- so many bytes of the input are taken
+  abbrev pub advance : ℕ → Work (Unit {0})
+  advance n = bind (look Input) (λ h. put Input (Position (position_in h + n)))
+
+  abbrev pub take_in : Address → Taken → Work (Unit {0})
+  take_in a (Took n bytes) = bind (advance bytes) (λ u. assign a (Ordinal n))
+  take_in a (Stops f) = fail f
+
+  abbrev pub width : Calls → Option Expr → Work (Option ℤ)
+  width call None = give None
+  width call (Some e) = bind (ordinal_of g call e) (λ m. give (Some m))
+
+  -- the value of the for variable, whatever it is
+  abbrev pub peek : ℕ → Work Value
+  peek x = bind (place_of g x) (λ q. bind (address_of g q) fetch)
+
+  -- the for variable gets a value, and then there is a tick
+  abbrev pub turn_of : ℕ → ℤ → ℤ → Bool → Stmt → List Item → Work Deed
+  turn_of x n limit down s todo =
+      bind (place_of g x) (λ q. bind (address_of g q) (λ a. bind (assign a (Ordinal n)) (λ u. bind (tick g.limits) (λ u. give (Beat (push s (Again x limit down s ∷ todo)))))))
+
+  -- the children are made, if one level more is allowed
+  abbrev pub fork : List Birth → List Item → Work Deed
+  fork bs todo = bind mine (λ o. if nat_lt o.depth g.limits.depth then give (Forked bs todo) else fail fault.F11)
+
+  -- the chosen arm's statement, or F9
+  abbrev pub chosen : Option Stmt → List Item → Work Deed
+  chosen None todo = fail fault.F9
+  chosen (Some s) todo = give (Went (push s todo))
+
+  -- the step of a statement that is first
+  abbrev pub start : Calls → Stmt → List Item → Work Deed
+  start call Empty todo = give (Went todo)
+  start call (Assign v e) todo = bind (address g call v) (λ a. bind (value g call e) (λ w. bind (assign a w) (λ u. give (Went todo))))
+  start call (Call f args) todo = bind (actuals g call args) (λ gs. bind (enter f gs) (λ b. give (Beat (push b.body (Leave ∷ todo)))))
+  start call (Sequence ss) todo = give (Went (push_all ss todo))
+  start call (If e a) todo = bind (ordinal_of g call e) (λ n. give (Went (if_true n (push a todo) todo)))
+  start call (IfElse e a b) todo = bind (ordinal_of g call e) (λ n. give (Went (if_true n (push a todo) (push b todo))))
+  start call (While e s) todo = bind (ordinal_of g call e) (λ n. if_true n (bind (tick g.limits) (λ u. give (Beat (push s (Do (While e s) ∷ todo))))) (give (Went todo)))
+  start call (Repeat s e) todo = bind (tick g.limits) (λ u. give (Beat (push s (Test s e ∷ todo))))
+  start call (For x from down to s) todo =
+      bind (ordinal_of g call from) (λ m. bind (ordinal_of g call to) (λ n. give (Went (if is_range down m n then First x m n down s ∷ todo else todo))))
+  start call (Case e arms) todo = bind (ordinal_of g call e) (λ n. chosen (arm_for n arms) todo)
+  start call (Parallel ss) todo = fork (children ss) todo
+  start call (Forall x from to s) todo =
+      bind (ordinal_of g call from) (λ m. bind (ordinal_of g call to) (λ n.
+      if int_lt n m then give (Went todo) else fork (indexed_children x s m (nat_abs ((n -ℤ m) +ℤ pos 1))) todo))
+  start call (Assume e) todo = bind (ordinal_of g call e) (λ n. if_true n (give (Went todo)) (fail fault.F8))
+  start call (ReadValue v) todo =
+      bind (address g call v) (λ a. bind (kind_at g a.kind) (λ k. bind (left_of g) (λ bs. bind (or_lost (taken_by k bs)) (λ t. bind (take_in a t) (λ u. give (Went todo))))))
+  start call ReadLine todo = bind (left_of g) (λ bs. bind (advance (line_length bs)) (λ u. give (Went todo)))
+  start call (WriteValue (Typed k form) w) todo =
+      bind (ordinal_of g call (Typed k form)) (λ n. bind (width call w) (λ m. bind (kind_at g k) (λ t.
+      bind (in_width (shown t n).0 (shown t n).1 m) (λ bs. bind (write bs) (λ u. give (Went todo))))))
+  start call (WriteText t w) todo = bind (width call w) (λ m. bind (in_width true t m) (λ bs. bind (write bs) (λ u. give (Went todo))))
+  start call WriteLine todo = bind (write (10 ∷ [])) (λ u. give (Went todo))
+  start call (Open v) todo =
+      bind (address g call v) (λ a. bind who (λ w. bind (assign a (Chan (record { owner = w.name; nth = w.opens }))) (λ u. give (Opened todo))))
+  start call (Send c (Typed k form)) todo =
+      bind (value g call c) (λ v. bind (channel v) (λ to. bind (value g call (Typed k form)) (λ w. give (Offered to k (Gives (Tree w)) todo))))
+  start call (Receive c x) todo =
+      bind (value g call c) (λ v. bind (channel v) (λ from. bind (address g call x) (λ a. give (Offered from a.kind (Takes a) todo))))
+
+  -- the step of what is first
+  abbrev pub act : Calls → Item → List Item → Work Deed
+  act call (Do s) todo = start call s todo
+  act call (First x m n down s) todo = turn_of x m n down s todo
+  act call (Again x n down s) todo = bind (place_of g x) (λ q. bind (read_at g q) (λ v. bind (ordinal v) (λ m. turn_of x (next_value down m) n down s todo)))
+  act call (Test s e) todo = bind (ordinal_of g call e) (λ n. give (Went (if_true n todo (Do (Repeat s e) ∷ todo))))
+  act call Leave todo = bind leave (λ u. give (Went todo))
+  act call (Break f) todo = fail f
+
+  -- leaving a loop is no step, but its variable is read
+  abbrev pub settle : List Item → Work (List Item)
+  settle [] = give []
+  settle (Do s ∷ todo) = give (Do s ∷ todo)
+  settle (First x m n down s ∷ todo) = give (First x m n down s ∷ todo)
+  settle (Again x n down s ∷ todo) = bind (peek x) (λ v. if goes_on down n v then give (Again x n down s ∷ todo) else settle todo)
+  settle (Test s e ∷ todo) = give (Test s e ∷ todo)
+  settle (Leave ∷ todo) = give (Leave ∷ todo)
+  settle (Break f ∷ todo) = give (Break f ∷ todo)
+
+  -- what is left to do after a local step. A function's body has no other (rule I9)
+  abbrev pub left_by : Deed → Work (List Item)
+  left_by (Went todo) = give todo
+  left_by (Beat todo) = give todo
+  left_by (Opened todo) = lost
+  left_by (Forked os todo) = lost
+  left_by (Offered c k cargo todo) = lost
+  left_by Over = lost
+
+  -- a function's result, or F4
+  abbrev pub answer_of : Option ℕ → Work Value
+  answer_of None = lost
+  answer_of (Some x) = bind (place_of g x) (read_at g)
+
+  -- a call of a function, where go does all that is left
+  abbrev pub call_by : (List Item → Work (List Item)) → Calls
+  call_by go f gs = bind (enter f gs) (λ b. bind (go (push b.body [])) (λ rest. bind (answer_of b.answer) (λ v. bind leave (λ u. give v))))
+
+  abbrev pub rest_by : (List Item → Work (List Item)) → List Item → Work (List Item)
+  rest_by go [] = give []
+  rest_by go (i ∷ todo) = bind (act (call_by go) i todo) (λ d. bind (left_by d) go)
+
+  -- all that is left, where no more than n steps and calls stand inside one another
+  abbrev pub all : ℕ → List Item → Work (List Item)
+  all zero todo = long
+  all (suc n) todo = bind (settle todo) (rest_by (all n))
+
+  abbrev pub deed_by : (List Item → Work (List Item)) → List Item → Work Deed
+  deed_by go [] = give Over
+  deed_by go (i ∷ todo) = act (call_by go) i todo
+
+  -- one step of a process
+  abbrev pub deed : ℕ → List Item → Work Deed
+  deed n todo = bind (settle todo) (deed_by (all n))

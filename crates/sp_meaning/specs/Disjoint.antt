@@ -1,0 +1,70 @@
+-- Disjoint programs: in no schedule does a process write what a parallel one uses.
+use Rattle.std.specs.Prelude.{◌≡◌, ◌≢◌, ◌⊎◌, ℕ, List, [], ◌∷◌, ◌++◌, Some}
+use Rattle.sp_meaning.specs.Model.{Name, Totals, Language, Act, Moves, Opens, Forks, Offering, Ends, Fails, Cargo, Gives, Takes, Waits, State}
+use Rattle.sp_meaning.specs.Steps.{ActOf, OfferOf, working, message, step, processes}
+use Rattle.sp_meaning.specs.Schedules.{Leads}
+
+-- after a common beginning, they go on with the same fork and different children. (The newest step stands first)
+pub record AreParallel (a b : Name) : Type 0 where
+  pub common : Name
+  pub fork : ℕ
+  pub one : ℕ
+  pub other : ℕ
+  pub apart : one ≢ other
+  pub after_one : Name
+  pub after_other : Name
+  pub a_is : a ≡ after_one ++ (fork, one) ∷ common
+  pub b_is : b ≡ after_other ++ (fork, other) ∷ common
+
+abbrev pub IsAmong : {M V : Type 0} → List (M × V) → M → Type 0
+IsAmong [] l = ⊥
+IsAmong (w ∷ ws) l = (w.0 ≡ l) ⊎ IsAmong ws l
+
+-- an assignment that is no message
+abbrev pub Assigns : {O M V T : Type 0} → Act O M V T → M → Type 0
+Assigns (Moves o ws) l = IsAmong ws l
+Assigns (Opens o ws) l = IsAmong ws l
+Assigns (Forks o os) l = ⊥
+Assigns (Offering o) l = ⊥
+Assigns Ends l = ⊥
+Assigns (Fails f) l = ⊥
+
+-- who receives, of p that offers this and of z that waits
+abbrev pub receiver : {V T : Type 0} → Cargo V T → Name → Name → Name
+receiver (Gives v) p z = z
+receiver (Takes t) p z = p
+
+-- the step of this offer puts a message there
+pub record Delivers {L : Language} (s : State L) (o : OfferOf L) (l : L.Loc) : Type 0 where
+  pub other : Name
+  pub pends : s.pending o.channel ≡ Some other
+  pub its : OfferOf L
+  pub waits : s.condition other ≡ Waits its
+  pub passes : L.Target × L.Value
+  pub is : message o.cargo its.cargo ≡ Some passes
+  pub there : L.place passes.0 ≡ l
+
+-- p's step at s assigns a message to l, which counts as a write of the receiver
+pub record Receiving {L : Language} (s : State L) (p : Name) (a : ActOf L) (who : Name) (l : L.Loc) : Type 0 where
+  pub offer : OfferOf L
+  pub is : a ≡ Offering offer
+  pub goes : Delivers s offer l
+  pub who_is : who ≡ receiver offer.cargo p goes.other
+
+-- in the step of p at s, who writes l
+abbrev pub WritesIn : {L : Language} → State L → Name → L.Own → Name → L.Loc → Type 0
+WritesIn {L} s p own who l = ((who ≡ p) × Assigns (L.next own s.store) l) ⊎ Receiving s p (L.next own s.store) who l
+
+-- in the step of p at s, who reads or writes l
+abbrev pub AccessesIn : {L : Language} → State L → Name → L.Own → Name → L.Loc → Type 0
+AccessesIn {L} s p own who l = ((who ≡ p) × (L.touches own s.store l)) ⊎ WritesIn s p own who l
+
+-- somewhere along the schedule from s
+abbrev pub Happens : {L : Language} → Totals → (State L → Name → L.Own → Type 0) → State L → List Name → Type 0
+Happens limits it s [] = ⊥
+Happens {L} limits it s (p ∷ ps) = ((own : L.Own) × (working s p ≡ Some own) × it s p own) ⊎ ((m : State L) × (step limits s p ≡ Some m) × Happens limits it m ps)
+
+-- from this opening state no schedule has a process write what a parallel one reads or writes
+abbrev pub IsDisjoint : (L : Language) → Totals → State L → Type 0
+IsDisjoint L limits s = (ps : List Name) (t : State L) → Leads (processes L limits) s ps t → (a b : Name) → AreParallel a b → (l : L.Loc)
+    → Happens limits (λ u p own. WritesIn u p own a l) s ps → Happens limits (λ u p own. AccessesIn u p own b l) s ps → ⊥

@@ -1,0 +1,105 @@
+-- Processes with structural names, channels, a store and totals: the state of a run, and what a step changes.
+-- What one process does next is left to a Language; the rest is concrete.
+use Rattle.std.specs.Prelude.{ℕ, ◌+◌, Bool, true, false, ◌&&◌, List, [], ◌∷◌, Option, Some, ◌==◌}
+use Rattle.sp_base.specs.declared.fault.Fault.{Fault}
+use Rattle.sp_meaning.specs.Maps.{at_key}
+
+-- the path from the root, the newest step first: the number of the parent's fork, and of the child in it
+abbrev pub Name : Type 0
+Name = List (ℕ × ℕ)
+
+-- a channel is named by who opened it, and how many channels that process had opened before
+pub record Channel : Type 0 where
+  pub owner : Name
+  pub nth : ℕ
+
+abbrev pub same_name : Name → Name → Bool
+same_name [] [] = true
+same_name [] (b ∷ q) = false
+same_name (a ∷ p) [] = false
+same_name (a ∷ p) (b ∷ q) = ((a.0 == b.0) && (a.1 == b.1)) && same_name p q
+
+abbrev pub same_channel : Channel → Channel → Bool
+same_channel a b = same_name a.owner b.owner && (a.nth == b.nth)
+
+-- what a waiting process offers: a value, or a place for one
+pub data Cargo (Value Target : Type 0) : Type 0 where
+  Gives : (value : Value) → Cargo Value Target
+  Takes : (target : Target) → Cargo Value Target
+
+-- an offer on a channel, of a message type; next is how its process goes on once the message went over
+pub record Offer (Own Value Target : Type 0) : Type 0 where
+  pub channel : Channel
+  pub kind : ℕ
+  pub cargo : Cargo Value Target
+  pub next : Own
+
+-- What a process does next. Own is its own part: what remains to be done, its frames, depth, ticks and opens
+pub data Act (Own Loc Value Target : Type 0) : Type 0 where
+  Moves : (next : Own) (writes : List (Loc × Value)) → Act Own Loc Value Target
+  Opens : (next : Own) (writes : List (Loc × Value)) → Act Own Loc Value Target
+  Forks : (next : Own) (children : List Own) → Act Own Loc Value Target
+  Offering : (offer : Offer Own Value Target) → Act Own Loc Value Target
+  Ends : Act Own Loc Value Target
+  Fails : (fault : Fault) → Act Own Loc Value Target
+
+pub record Language : Type 1 where
+  pub Own : Type 0
+  pub Loc : Type 0
+  pub Value : Type 0
+  pub Target : Type 0
+  pub same_loc : Loc → Loc → Bool
+  -- the next step, from the own part and the store; and the locations that it reads or writes in this store
+  pub next : Own → (Loc → Value) → Act Own Loc Value Target
+  pub touches : Own → (Loc → Value) → Loc → Type 0
+  -- where a message is put, and what then stands there, by what stood there and the message
+  pub place : Target → Loc
+  pub put : Target → Value → Value → Value
+
+-- what a process is doing. One that joins waits for the children 0 to count - 1 of this fork, and goes on where all of them have ended
+pub data Condition (Own Value Target : Type 0) : Type 0 where
+  Absent : Condition Own Value Target
+  Works : (own : Own) → Condition Own Value Target
+  Waits : (offer : Offer Own Value Target) → Condition Own Value Target
+  Joins : (fork count : ℕ) (next : Own) → Condition Own Value Target
+  Ended : Condition Own Value Target
+
+-- how many processes and channels there have been, and how many counted entries
+pub record Totals : Type 0 where
+  pub processes : ℕ
+  pub channels : ℕ
+  pub entries : ℕ
+
+-- The state of a run. Of a pending offer the process is kept, and what it offers stands in its condition
+pub record State (L : Language) : Type 0 where
+  pub condition : Name → Condition L.Own L.Value L.Target
+  pub forks : Name → ℕ
+  pub store : L.Loc → L.Value
+  pub pending : Channel → Option Name
+  pub totals : Totals
+  pub fault : Option (Name × Fault)
+
+-- what a step changes, one part of the state at a time
+pub data Change (L : Language) : Type 0 where
+  Becomes : (p : Name) (c : Condition L.Own L.Value L.Target) → Change L
+  Forked : (p : Name) → Change L
+  Writes : (l : L.Loc) (v : L.Value) → Change L
+  Pends : (c : Channel) (o : Option Name) → Change L
+  Adds : (n : Totals) → Change L
+  Faults : (p : Name) (f : Fault) → Change L
+
+abbrev pub add : Totals → Totals → Totals
+add a b = record { processes = a.processes + b.processes; channels = a.channels + b.channels; entries = a.entries + b.entries }
+
+abbrev pub changed : {L : Language} → Change L → State L → State L
+changed (Becomes p c) s = record s { condition = at_key same_name p c s.condition }
+changed (Forked p) s = record s { forks = at_key same_name p (s.forks p + 1) s.forks }
+changed {L} (Writes l v) s = record s { store = at_key L.same_loc l v s.store }
+changed (Pends c o) s = record s { pending = at_key same_channel c o s.pending }
+changed (Adds n) s = record s { totals = add s.totals n }
+changed (Faults p f) s = record s { fault = Some (p, f) }
+
+-- the changes, one after another
+abbrev pub after : {L : Language} → List (Change L) → State L → State L
+after [] s = s
+after (c ∷ cs) s = after cs (changed c s)

@@ -1,0 +1,2 @@
+//! The meaning of programs: what a run is, step by step, in every schedule.
+#![tactic(auto)]
