@@ -1,0 +1,12 @@
+pub mod Maps
+pub mod Keys
+pub mod Asking
+pub mod Trees
+pub mod Instance
+pub mod Frames
+pub mod Status
+pub mod Meeting
+pub mod Kept
+pub mod Parallel
+pub mod Schedules
+pub mod Run

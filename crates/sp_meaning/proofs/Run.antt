@@ -1,0 +1,33 @@
+-- Running one after the other: the only place where the trees of reads and writes are seen.
+use Rattle.std.proofs.Common.{◌≡◌, ◌∙◌, refl, sym, subst}
+use Rattle.sp_base.specs.declared.fault.Fault.{Fault}
+use Rattle.sp_meaning.specs.Asking.{answer}
+use Rattle.sp_meaning.specs.Own.{Own, Who, Came, Got, Bad, Lost, Long, Work, bind, go_on, same_loc}
+use Rattle.sp_meaning.specs.Run.{Store, run, Meets}
+use Rattle.sp_meaning.proofs.Asking.{answer_then}
+use Rattle.sp_meaning.proofs.Instance.{loc_test}
+
+abbrev pub then_run : {A B : Type 0} → (A → Work B) → Who → Came A × Store → Came B × Store
+then_run g w (Got a o, m) = run (g a) w o m
+then_run g w (Bad f, m) = (Bad f, m)
+then_run g w (Lost, m) = (Lost, m)
+then_run g w (Long, m) = (Long, m)
+
+pub run_bind : {A B : Type 0} (h : Work A) (g : A → Work B) (w : Who) (o : Own) (m : Store) → run (bind h g) w o m ≡ then_run g w (run h w o m)
+run_bind {A} {B} h g w o m = answer_then loc_test (h w o) (λ r. go_on g w r) m ∙ go (run h w o m)
+  where
+    go : (r : Came A × Store) → answer same_loc (go_on g w r.0) r.1 ≡ then_run g w r
+    go (Got a o1, m1) = refl
+    go (Bad f, m1) = refl
+    go (Lost, m1) = refl
+    go (Long, m1) = refl
+
+pub meets_bind : {A B : Type 0} (h : Work A) (g : A → Work B) (w : Who) (o : Own) (m : Store) (Q : A → Own → Store → Type 0) (R : B → Own → Store → Type 0) (F : Fault → Store → Type 0)
+    → Meets Q F (run h w o m) → ((a : A) (o1 : Own) (m1 : Store) → Q a o1 m1 → Meets R F (run (g a) w o1 m1)) → Meets R F (run (bind h g) w o m)
+meets_bind {A} {B} h g w o m Q R F hh gg = subst (Meets R F) (sym (run_bind h g w o m)) (go (run h w o m) hh)
+  where
+    go : (r : Came A × Store) → Meets Q F r → Meets R F (then_run g w r)
+    go (Got a o1, m1) q = gg a o1 m1 q
+    go (Bad f, m1) q = q
+    go (Lost, m1) q = tt
+    go (Long, m1) q = tt
