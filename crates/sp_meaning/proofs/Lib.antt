@@ -10,3 +10,6 @@ pub mod Kept
 pub mod Parallel
 pub mod Schedules
 pub mod Run
+pub mod Enough
+pub mod EnoughSteps
+pub mod Moved

@@ -189,13 +189,13 @@ seen fits fs = newest (seek fits (length fs) fs)
 abbrev pub visible : (Home → Bool) → Work Frame
 visible fits w o = or_lost (seen fits o.frames) w o
 
+abbrev pub reached : List Frame → Work ℕ
+reached [] = lost
+reached (f ∷ fs) = give (length (f ∷ fs))
+
 -- how long the list is that begins with it
 abbrev pub reach : (Home → Bool) → Work ℕ
 reach fits w o = reached (seek fits (length o.frames) o.frames) w o
-  where
-    reached : List Frame → Work ℕ
-    reached [] = lost
-    reached (f ∷ fs) = give (length (f ∷ fs))
 
 -- what a variable parameter stands for
 abbrev pub referred : ℕ → List (ℕ × Address) → Option Address

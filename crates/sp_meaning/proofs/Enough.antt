@@ -1,0 +1,266 @@
+-- What a step evaluates comes to an end within its bound.
+use Rattle.std.proofs.Common.{ℕ, ◌≤◌, Bool, true, false, List, [], ◌∷◌, Option, Some, None, length, arith, if◌then◌else◌}
+use Rattle.std.specs.Prelude.{ℤ, pos, ◌-ℤ◌, nat_abs, slice_get, int_le, ◌&&◌, ◌++◌}
+use Rattle.sp_base.specs.declared.fault.Fault.{Fault}
+use Rattle.sp_base.specs.declared.fault.Fault.TheVariants as fault
+use Rattle.sp_tree.specs.declared.checked.KindOf.{KindOf}
+use Rattle.sp_tree.specs.declared.checked.KindOf.TheVariants as kind
+use Rattle.sp_tree.specs.declared.checked.Role.{Role}
+use Rattle.sp_tree.specs.declared.checked.Role.TheVariants as role
+use Rattle.sp_tree.specs.declared.operators.BinaryOp.{BinaryOp}
+use Rattle.sp_tree.specs.declared.operators.BinaryOp.TheVariants as binary
+use Rattle.sp_tree.specs.declared.operators.StandardFn.{StandardFn}
+use Rattle.sp_tree.specs.declared.operators.StandardFn.TheVariants as standard
+use Rattle.sp_tree.specs.Plain.{Expr, Typed, ExprForm, Number, Read, Unary, Binary, Apply, Standard, AtInput, Var, Entire, Index, Field, Selectors, Whole, Select, ByValue, ByReference, Actuals, Nothing, Pass, Variable}
+use Rattle.sp_meaning.specs.Model.{Channel}
+use Rattle.sp_meaning.specs.Asking.{Asking, Done, Reads, Puts, and_then}
+use Rattle.sp_meaning.specs.Values.{Value, Undefined, Ordinal, Chan, Parts}
+use Rattle.sp_meaning.specs.Own.{Loc, Held, Address, Home, OfBlock, OfIndex, Frame, Setting, Own, Who, Came, Got, Bad, Lost, Long, Work, bind, go_on, give, fail, lost, mine, look, put, fetch, assign, or_lost, visible, seen, seek, reach, reached, is_block, is_index, referred}
+use Rattle.sp_meaning.specs.Eval.{Place, At, Fixed, Given, Calls, work_of, as_ordinal, ordinal, channel, channels_op, operate, standard_op, input_op, ordinal_read, channel_read, checked, element_at, field_kind, kind_at, indexed, fielded, read_at, address_of, index_in, place_by, place_of, left_of, value, form_value, place, selected, actuals, address, ordinal_of}
+use Rattle.sp_meaning.specs.Operators.{Worked, Yields, Refuses, ranged, successor, predecessor, absolute, square, is_odd, unary_op, binary_op, least, greatest}
+
+-- it ends, with t ticks or more, and with this fact
+abbrev pub Ends : {A : Type 0} → ℕ → (A → Own → Type 0) → Asking Loc Held (Came A) → Type 0
+Ends t F (Done (Got a o)) = (t ≤ o.ticks) × F a o
+Ends t F (Done (Bad f)) = Unit {0}
+Ends t F (Done Lost) = Unit {0}
+Ends t F (Done Long) = ⊥
+Ends t F (Reads l more) = (h : Held) → Ends t F (more h)
+Ends t F (Puts l h more) = Ends t F more
+
+pub ends_then : {A B : Type 0} (t : ℕ) (F : A → Own → Type 0) (G : B → Own → Type 0) (x : Asking Loc Held (Came A)) (g : A → Work B) (w : Who) → Ends t F x → ((a : A) (o : Own) → t ≤ o.ticks → F a o → Ends t G (g a w o)) → Ends t G (and_then x (λ r. go_on g w r))
+ends_then t F G (Done (Got a o)) g w h k = k a o h.0 h.1
+ends_then t F G (Done (Bad f)) g w h k = tt
+ends_then t F G (Done Lost) g w h k = tt
+ends_then t F G (Done Long) g w h k = h
+ends_then t F G (Reads l more) g w h k = λ v. ends_then t F G (more v) g w (h v) k
+ends_then t F G (Puts l v more) g w h k = ends_then t F G more g w h k
+
+abbrev pub Any : {A : Type 0} → A → Own → Type 0
+Any a o = Unit {0}
+
+pub ends_weaker : {A : Type 0} (u t : ℕ) (x : Asking Loc Held (Came A)) → t ≤ u → Ends u Any x → Ends t Any x
+ends_weaker u t (Done (Got a o)) le h = (omega (arith, h.0), tt)
+ends_weaker u t (Done (Bad f)) le h = tt
+ends_weaker u t (Done Lost) le h = tt
+ends_weaker u t (Done Long) le h = h
+ends_weaker u t (Reads l more) le h = λ v. ends_weaker u t (more v) le (h v)
+ends_weaker u t (Puts l v more) le h = ends_weaker u t more le h
+
+-- begun with t ticks or more it ends so
+pub record Steady {A : Type 0} (t : ℕ) (h : Work A) : Type 0 where
+  pub by : (w : Who) (o : Own) → t ≤ o.ticks → Ends t Any (h w o)
+
+pub then_steady : {A B : Type 0} (t : ℕ) (h : Work A) (g : A → Work B) → Steady t h → ((a : A) → Steady t (g a)) → Steady t (bind h g)
+then_steady t h g a b = record { by = λ w o le. ends_then t Any Any (h w o) g w (a.by w o le) (λ x o1 l1 u. (b x).by w o1 l1) }
+
+module _ (t : ℕ) where
+  pub give_steady : {A : Type 0} (a : A) → Steady t (give a)
+  give_steady a = record { by = λ w o le. (le, tt) }
+
+  pub fail_steady : (A : Type 0) (f : Fault) → Steady {A = A} t (fail f)
+  fail_steady A f = record { by = λ w o le. tt }
+
+  pub lost_steady : (A : Type 0) → Steady {A = A} t lost
+  lost_steady A = record { by = λ w o le. tt }
+
+  pub mine_steady : Steady t mine
+  mine_steady = record { by = λ w o le. (le, tt) }
+
+  pub look_steady : (l : Loc) → Steady t (look l)
+  look_steady l = record { by = λ w o le h. (le, tt) }
+
+  pub put_steady : (l : Loc) (h : Held) → Steady t (put l h)
+  put_steady l h = record { by = λ w o le. (le, tt) }
+
+  pub or_lost_steady : {A : Type 0} (x : Option A) → Steady t (or_lost x)
+  or_lost_steady {A} None = lost_steady A
+  or_lost_steady (Some a) = give_steady a
+
+  pub if_steady : {A : Type 0} (b : Bool) (h g : Work A) → Steady t h → Steady t g → Steady t (if b then h else g)
+  if_steady true h g x y = x
+  if_steady false h g x y = y
+
+  pub fetch_steady : (a : Address) → Steady t (fetch a)
+  fetch_steady a = then_steady t (look a.spot) _ (look_steady a.spot) (λ h. give_steady _)
+
+  pub assign_steady : (a : Address) (v : Value) → Steady t (assign a v)
+  assign_steady a v = then_steady t (look a.spot) _ (look_steady a.spot) (λ h. put_steady a.spot _)
+
+  pub visible_steady : (fits : Home → Bool) → Steady t (visible fits)
+  visible_steady fits = record { by = λ w o le. (or_lost_steady (seen fits o.frames)).by w o le }
+
+  pub reach_steady : (fits : Home → Bool) → Steady t (reach fits)
+  reach_steady fits = record { by = λ w o le. go w o le (seek fits (length o.frames) o.frames) }
+    where
+      go : (w : Who) (o : Own) → t ≤ o.ticks → (fs : List Frame) → Ends t Any (reached fs w o)
+      go w o le [] = tt
+      go w o le (f ∷ fs) = (le, tt)
+
+  work_steady : (x : Worked) → Steady t (work_of x)
+  work_steady (Yields n) = give_steady (Ordinal n)
+  work_steady (Refuses f) = fail_steady _ f
+
+  pub ordinal_steady : (v : Value) → Steady t (ordinal v)
+  ordinal_steady Undefined = lost_steady _
+  ordinal_steady (Ordinal n) = give_steady n
+  ordinal_steady (Chan c) = lost_steady _
+  ordinal_steady (Parts vs) = lost_steady _
+
+  pub channel_steady : (v : Value) → Steady t (channel v)
+  channel_steady Undefined = lost_steady _
+  channel_steady (Ordinal n) = lost_steady _
+  channel_steady (Chan c) = give_steady c
+  channel_steady (Parts vs) = lost_steady _
+
+  channels_steady : (op : BinaryOp) (c d : Channel) → Steady t (channels_op op c d)
+  channels_steady binary.Eq c d = give_steady _
+  channels_steady binary.Ne c d = give_steady _
+  channels_steady binary.Lt c d = lost_steady _
+  channels_steady binary.Le c d = lost_steady _
+  channels_steady binary.Gt c d = lost_steady _
+  channels_steady binary.Ge c d = lost_steady _
+  channels_steady binary.Add c d = lost_steady _
+  channels_steady binary.Sub c d = lost_steady _
+  channels_steady binary.Or c d = lost_steady _
+  channels_steady binary.Mul c d = lost_steady _
+  channels_steady binary.Div c d = lost_steady _
+  channels_steady binary.Mod c d = lost_steady _
+  channels_steady binary.And c d = lost_steady _
+
+  binary_steady : (op : BinaryOp) (v w : Value) → Steady t (operate op v w)
+  binary_steady op Undefined w = lost_steady _
+  binary_steady op (Ordinal m) w = then_steady t (ordinal w) _ (ordinal_steady w) (λ n. work_steady (binary_op op m n))
+  binary_steady op (Chan c) w = then_steady t (channel w) _ (channel_steady w) (λ d. channels_steady op c d)
+  binary_steady op (Parts vs) w = lost_steady _
+
+  standard_steady : (f : StandardFn) (k : KindOf) (n : ℤ) → Steady t (standard_op f k n)
+  standard_steady standard.Abs k n = work_steady (absolute n)
+  standard_steady standard.Sqr k n = work_steady (square n)
+  standard_steady standard.Odd k n = work_steady (is_odd n)
+  standard_steady standard.Ord k n = give_steady _
+  standard_steady standard.Chr k n = work_steady (ranged (pos 0) (pos 255) n)
+  standard_steady standard.Succ k n = work_steady (successor (greatest k) n)
+  standard_steady standard.Pred k n = work_steady (predecessor (least k) n)
+  standard_steady standard.Eof k n = lost_steady _
+  standard_steady standard.Eoln k n = lost_steady _
+
+  input_steady : (f : StandardFn) (bs : List ℕ) → Steady t (input_op f bs)
+  input_steady standard.Abs bs = lost_steady _
+  input_steady standard.Sqr bs = lost_steady _
+  input_steady standard.Odd bs = lost_steady _
+  input_steady standard.Ord bs = lost_steady _
+  input_steady standard.Chr bs = lost_steady _
+  input_steady standard.Succ bs = lost_steady _
+  input_steady standard.Pred bs = lost_steady _
+  input_steady standard.Eof bs = give_steady _
+  input_steady standard.Eoln bs = give_steady _
+
+  ordinal_read_steady : (v : Value) → Steady t (ordinal_read v)
+  ordinal_read_steady Undefined = fail_steady _ fault.F4
+  ordinal_read_steady (Ordinal n) = give_steady _
+  ordinal_read_steady (Chan c) = fail_steady _ fault.F4
+  ordinal_read_steady (Parts vs) = fail_steady _ fault.F4
+
+  channel_read_steady : (v : Value) → Steady t (channel_read v)
+  channel_read_steady Undefined = fail_steady _ fault.F5
+  channel_read_steady (Ordinal n) = fail_steady _ fault.F5
+  channel_read_steady (Chan c) = give_steady _
+  channel_read_steady (Parts vs) = fail_steady _ fault.F5
+
+  checked_steady : (k : KindOf) (v : Value) → Steady t (checked k v)
+  checked_steady kind.Integer v = ordinal_read_steady v
+  checked_steady kind.Boolean v = ordinal_read_steady v
+  checked_steady kind.Char v = ordinal_read_steady v
+  checked_steady (kind.Enumeration n) v = ordinal_read_steady v
+  checked_steady (kind.Array low high index element) v = give_steady v
+  checked_steady (kind.Fields fs) v = give_steady v
+  checked_steady (kind.Channel ks) v = channel_read_steady v
+
+  element_steady : (a : Address) (n : ℤ) (k : KindOf) → Steady t (element_at a n k)
+  element_steady a n kind.Integer = lost_steady _
+  element_steady a n kind.Boolean = lost_steady _
+  element_steady a n kind.Char = lost_steady _
+  element_steady a n (kind.Enumeration m) = lost_steady _
+  element_steady a n (kind.Array low high index element) = if_steady (int_le low n && int_le n high) (give (At (record { spot = a.spot; path = a.path ++ nat_abs (n -ℤ low) ∷ []; kind = element }))) (fail fault.F1) (give_steady _) (fail_steady _ fault.F1)
+  element_steady a n (kind.Fields fs) = lost_steady _
+  element_steady a n (kind.Channel ks) = lost_steady _
+
+  module _ (g : Setting) where
+    pub kind_steady : (k : ℕ) → Steady t (kind_at g k)
+    kind_steady k = or_lost_steady _
+
+    indexed_steady : (q : Place) (n : ℤ) → Steady t (indexed g q n)
+    indexed_steady (At a) n = then_steady t (kind_at g a.kind) _ (kind_steady a.kind) (λ k. element_steady a n k)
+    indexed_steady (Fixed m) n = lost_steady _
+
+    fielded_steady : (f : ℕ) (q : Place) → Steady t (fielded g f q)
+    fielded_steady f (At a) = then_steady t (kind_at g a.kind) _ (kind_steady a.kind) (λ k. then_steady t (or_lost (field_kind f k)) _ (or_lost_steady _) (λ u. give_steady _))
+    fielded_steady f (Fixed m) = lost_steady _
+
+    pub read_steady : (q : Place) → Steady t (read_at g q)
+    read_steady (At a) = then_steady t (kind_at g a.kind) _ (kind_steady a.kind) (λ k. then_steady t (fetch a) _ (fetch_steady a) (λ v. checked_steady k v))
+    read_steady (Fixed n) = give_steady _
+
+    pub address_of_steady : (q : Place) → Steady t (address_of g q)
+    address_of_steady (At a) = give_steady a
+    address_of_steady (Fixed n) = lost_steady _
+
+    index_in_steady : (h : Home) → Steady t (index_in g h)
+    index_in_steady (OfBlock b) = lost_steady _
+    index_in_steady (OfIndex x n) = give_steady _
+
+    place_by_steady : (x : ℕ) (i : Variable) (r : Role) → Steady t (place_by g x i r)
+    place_by_steady x i role.Console = lost_steady _
+    place_by_steady x i role.Local = then_steady t (visible (is_block i.block)) _ (visible_steady _) (λ f. give_steady _)
+    place_by_steady x i role.Value = then_steady t (visible (is_block i.block)) _ (visible_steady _) (λ f. give_steady _)
+    place_by_steady x i role.Reference = then_steady t (visible (is_block i.block)) _ (visible_steady _) (λ f. then_steady t (or_lost (referred x f.references)) _ (or_lost_steady _) (λ a. give_steady _))
+    place_by_steady x i role.Index = then_steady t (visible (is_index x)) _ (visible_steady _) (λ f. index_in_steady f.home)
+    place_by_steady x i role.Answer = then_steady t (visible (is_block i.block)) _ (visible_steady _) (λ f. give_steady _)
+
+    pub place_of_steady : (x : ℕ) → Steady t (place_of g x)
+    place_of_steady x = then_steady t (or_lost (slice_get g.program.variables x)) _ (or_lost_steady _) (λ i. place_by_steady x i i.role)
+
+    pub left_steady : Steady t (left_of g)
+    left_steady = then_steady t (look _) _ (look_steady _) (λ h. give_steady _)
+
+    as_ordinal_steady : (h : Work Value) → Steady t h → Steady t (as_ordinal h)
+    as_ordinal_steady h st = then_steady t h _ st (λ v. ordinal_steady v)
+
+    pub record CallsEnd (call : Calls) : Type 0 where
+      pub by : (f : ℕ) (gs : List Given) → Steady t (call f gs)
+
+    mutual
+      pub value_steady : (call : Calls) → CallsEnd call → (e : Expr) → Steady t (value g call e)
+      value_steady call ok (Typed k form) = form_steady call ok k form
+
+      form_steady : (call : Calls) → CallsEnd call → (k : ℕ) (e : ExprForm) → Steady t (form_value g call k e)
+      form_steady call ok k (Number n) = give_steady _
+      form_steady call ok k (Read v) = then_steady t (place g call v) _ (place_steady call ok v) (λ q. read_steady q)
+      form_steady call ok k (Unary op a) = then_steady t (as_ordinal (value g call a)) _ (as_ordinal_steady _ (value_steady call ok a)) (λ n. work_steady (unary_op op n))
+      form_steady call ok k (Binary op a b) = then_steady t (value g call a) _ (value_steady call ok a) (λ v. then_steady t (value g call b) _ (value_steady call ok b) (λ w. binary_steady op v w))
+      form_steady call ok k (Apply f args) = then_steady t (actuals g call args) _ (actuals_steady call ok args) (λ gs. ok.by f gs)
+      form_steady call ok k (Standard f a) =
+          then_steady t (as_ordinal (value g call a)) _ (as_ordinal_steady _ (value_steady call ok a)) (λ n. then_steady t (kind_at g k) _ (kind_steady k) (λ u. standard_steady f u n))
+      form_steady call ok k (AtInput f) = then_steady t (left_of g) _ left_steady (λ bs. input_steady f bs)
+
+      pub place_steady : (call : Calls) → CallsEnd call → (v : Var) → Steady t (place g call v)
+      place_steady call ok (Entire x ss) = then_steady t (place_of g x) _ (place_of_steady x) (λ q. selected_steady call ok ss q)
+
+      selected_steady : (call : Calls) → CallsEnd call → (ss : Selectors) (q : Place) → Steady t (selected g call ss q)
+      selected_steady call ok Whole q = give_steady q
+      selected_steady call ok (Select (Index e) rest) q =
+          then_steady t (as_ordinal (value g call e)) _ (as_ordinal_steady _ (value_steady call ok e)) (λ n. then_steady t (indexed g q n) _ (indexed_steady q n) (λ r. selected_steady call ok rest r))
+      selected_steady call ok (Select (Field f) rest) q = then_steady t (fielded g f q) _ (fielded_steady f q) (λ r. selected_steady call ok rest r)
+
+      pub actuals_steady : (call : Calls) → CallsEnd call → (args : Actuals) → Steady t (actuals g call args)
+      actuals_steady call ok Nothing = give_steady _
+      actuals_steady call ok (Pass (ByValue e) rest) = then_steady t (value g call e) _ (value_steady call ok e) (λ v. then_steady t (actuals g call rest) _ (actuals_steady call ok rest) (λ gs. give_steady _))
+      actuals_steady call ok (Pass (ByReference x) rest) =
+          then_steady t (place g call x) _ (place_steady call ok x) (λ q. then_steady t (address_of g q) _ (address_of_steady q) (λ a. then_steady t (actuals g call rest) _ (actuals_steady call ok rest) (λ gs. give_steady _)))
+
+    pub address_steady : (call : Calls) → CallsEnd call → (v : Var) → Steady t (address g call v)
+    address_steady call ok v = then_steady t (place g call v) _ (place_steady call ok v) (λ q. address_of_steady q)
+
+    pub ordinal_of_steady : (call : Calls) → CallsEnd call → (e : Expr) → Steady t (ordinal_of g call e)
+    ordinal_of_steady call ok e = as_ordinal_steady _ (value_steady call ok e)

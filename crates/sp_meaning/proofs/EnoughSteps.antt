@@ -1,0 +1,464 @@
+-- The bound of a step never runs out: each tick pays for what stands between two ticks.
+use Rattle.std.proofs.Common.{◌≡◌, ℕ, zero, suc, ◌+◌, ◌-◌, ◌*◌, ◌<◌, ◌≤◌, Bool, true, false, List, [], ◌∷◌, ◌++◌, length, Option, Some, None, refl, arith, if◌then◌else◌}
+use Rattle.std.specs.Prelude.{ℤ, pos, nat_abs, slice_get, nat_lt, int_le, int_lt, take}
+use Rattle.std.proofs.Math.Nat.{mul-le-mul_left}
+use Rattle.std.proofs.lemmas.Bool.{ltb-true}
+use Rattle.sp_base.specs.declared.fault.Fault.{Fault}
+use Rattle.sp_base.specs.declared.fault.Fault.TheVariants as fault
+use Rattle.sp_tree.specs.Plain.{Expr, Typed, Program, Variable, Block, Stmt, Empty, Assign, Call, Sequence, If, IfElse, While, Repeat, For, Case, Parallel, Forall, Assume, ReadValue, ReadLine, WriteValue, WriteText, WriteLine, Open, Send, Receive, Stmts, No, And, On, Arms, NoArm, Or}
+use Rattle.sp_meaning.specs.Asking.{Asking, Done, Reads, Puts}
+use Rattle.sp_meaning.specs.Values.{Value, Ordinal, Chan, initials}
+use Rattle.sp_meaning.specs.Own.{Setting, Loc, Output, Held, Written, Address, Frame, Own, Who, Item, Do, First, Again, Test, Leave, Break, Came, Got, Bad, Lost, Long, Work, bind, give, fail, mine, who, become, put, assign, or_lost, tick, deepen, widen, is_block, bytes_in}
+use Rattle.sp_meaning.specs.Texts.{Taken, Takes as Took, Fails as Stops, padded, line_length}
+use Rattle.sp_meaning.specs.Eval.{Given, ValueOf, PlaceOf, Calls}
+use Rattle.sp_meaning.specs.Deeds.{Birth, Deed, Went, Beat, Opened, Forked, Offered, Over, push, push_all, has, arm_for, is_range, goes_on, next_value, in_width, begins, lay_one, lay, copy_in, pushed_frame, enclosing, enter, without_frame, leave, write, advance, take_in, width, peek, turn_of, fork, chosen, start, act, settle, left_by, answer_of, call_by, rest_by, all, deed_by, deed, variables_of, size_of_frame, references, taken_by, shown}
+use Rattle.sp_meaning.specs.SuperPascal.{weight, weight_all, weight_arms, weight_blocks, weight_of, enough}
+use Rattle.sp_meaning.proofs.Enough.{Ends, ends_then, ends_weaker, Any, Steady, then_steady, give_steady, fail_steady, lost_steady, or_lost_steady, fetch_steady, assign_steady, reach_steady, ordinal_steady, channel_steady, kind_steady, read_steady, address_of_steady, place_of_steady, left_steady, CallsEnd, value_steady, actuals_steady, address_steady, ordinal_of_steady}
+
+abbrev pub weight_item : Item → ℕ
+weight_item (Do s) = weight s
+weight_item (First x m n down s) = 1
+weight_item (Again x n down s) = 1
+weight_item (Test s e) = weight s + 4
+weight_item Leave = 1
+weight_item (Break f) = 1
+
+abbrev pub weights : List Item → ℕ
+weights [] = 0
+weights (i ∷ todo) = weight_item i + weights todo
+
+-- what is left to do is light
+abbrev pub Fit : ℕ → Item → Type 0
+Fit k (Do s) = weight s ≤ k
+Fit k (First x m n down s) = weight s + 3 ≤ k
+Fit k (Again x n down s) = weight s + 3 ≤ k
+Fit k (Test s e) = weight s + 3 ≤ k
+Fit k Leave = Unit {0}
+Fit k (Break f) = Unit {0}
+
+abbrev pub AllFit : ℕ → List Item → Type 0
+AllFit k [] = Unit {0}
+AllFit k (i ∷ todo) = Fit k i × AllFit k todo
+
+mutual
+  push_weight : (s : Stmt) (todo : List Item) → weights (push s todo) ≤ weight s + weights todo
+  push_weight Empty todo = omega arith
+  push_weight (Assign v e) todo = omega arith
+  push_weight (Call f args) todo = omega arith
+  push_weight (Sequence ss) todo = omega (arith, push_all_weight ss todo)
+  push_weight (If e a) todo = omega arith
+  push_weight (IfElse e a b) todo = omega arith
+  push_weight (While e s) todo = omega arith
+  push_weight (Repeat s e) todo = omega arith
+  push_weight (For x from down to s) todo = omega arith
+  push_weight (Case e arms) todo = omega arith
+  push_weight (Parallel ss) todo = omega arith
+  push_weight (Forall x from to s) todo = omega arith
+  push_weight (Assume e) todo = omega arith
+  push_weight (ReadValue v) todo = omega arith
+  push_weight ReadLine todo = omega arith
+  push_weight (WriteValue e w) todo = omega arith
+  push_weight (WriteText t w) todo = omega arith
+  push_weight WriteLine todo = omega arith
+  push_weight (Open v) todo = omega arith
+  push_weight (Send c e) todo = omega arith
+  push_weight (Receive c v) todo = omega arith
+
+  push_all_weight : (ss : Stmts) (todo : List Item) → weights (push_all ss todo) ≤ weight_all ss + weights todo
+  push_all_weight No todo = omega arith
+  push_all_weight (And s rest) todo = omega (arith, push_weight s (push_all rest todo), push_all_weight rest todo)
+
+mutual
+  push_fit : (k : ℕ) (s : Stmt) (todo : List Item) → weight s ≤ k → AllFit k todo → AllFit k (push s todo)
+  push_fit k Empty todo h f = f
+  push_fit k (Assign v e) todo h f = (h, f)
+  push_fit k (Call g args) todo h f = (h, f)
+  push_fit k (Sequence ss) todo h f = push_all_fit k ss todo (omega arith) f
+  push_fit k (If e a) todo h f = (h, f)
+  push_fit k (IfElse e a b) todo h f = (h, f)
+  push_fit k (While e s) todo h f = (h, f)
+  push_fit k (Repeat s e) todo h f = (h, f)
+  push_fit k (For x from down to s) todo h f = (h, f)
+  push_fit k (Case e arms) todo h f = (h, f)
+  push_fit k (Parallel ss) todo h f = (h, f)
+  push_fit k (Forall x from to s) todo h f = (h, f)
+  push_fit k (Assume e) todo h f = (h, f)
+  push_fit k (ReadValue v) todo h f = (h, f)
+  push_fit k ReadLine todo h f = (h, f)
+  push_fit k (WriteValue e w) todo h f = (h, f)
+  push_fit k (WriteText t w) todo h f = (h, f)
+  push_fit k WriteLine todo h f = (h, f)
+  push_fit k (Open v) todo h f = (h, f)
+  push_fit k (Send c e) todo h f = (h, f)
+  push_fit k (Receive c v) todo h f = (h, f)
+
+  push_all_fit : (k : ℕ) (ss : Stmts) (todo : List Item) → weight_all ss ≤ k → AllFit k todo → AllFit k (push_all ss todo)
+  push_all_fit k No todo h f = f
+  push_all_fit k (And s rest) todo h f = push_fit k s (push_all rest todo) (omega arith) (push_all_fit k rest todo (omega arith) f)
+
+abbrev pub LightStmt : ℕ → Option Stmt → Type 0
+LightStmt w None = Unit {0}
+LightStmt w (Some s) = weight s ≤ w
+
+arm_light : (n : ℤ) (arms : Arms) → LightStmt (weight_arms arms) (arm_for n arms)
+arm_light n NoArm = tt
+arm_light n (Or (On ms s) rest) = go (has n ms) (arm_for n rest) (arm_light n rest)
+  where
+    go : (b : Bool) (o : Option Stmt) → LightStmt (weight_arms rest) o → LightStmt (weight s + weight_arms rest) (if b then Some s else o)
+    go true o h = omega arith
+    go false None h = tt
+    go false (Some r) h = omega arith
+
+abbrev pub LightBlock : ℕ → Option Block → Type 0
+LightBlock k None = Unit {0}
+LightBlock k (Some b) = weight b.body ≤ k
+
+pub ends_strong : {A : Type 0} (u t : ℕ) (F G : A → Own → Type 0) (x : Asking Loc Held (Came A)) → t ≤ u → ((a : A) (o : Own) → u ≤ o.ticks → F a o → G a o) → Ends u F x → Ends t G x
+ends_strong u t F G (Done (Got a o)) le f h = (omega (arith, h.0), f a o h.0 h.1)
+ends_strong u t F G (Done (Bad g)) le f h = tt
+ends_strong u t F G (Done Lost) le f h = tt
+ends_strong u t F G (Done Long) le f h = h
+ends_strong u t F G (Reads l more) le f h = λ v. ends_strong u t F G (more v) le f (h v)
+ends_strong u t F G (Puts l v more) le f h = ends_strong u t F G more le f h
+
+-- begun with t ticks or more it ends so, with this fact
+pub record From {A : Type 0} (t : ℕ) (G : A → Own → Type 0) (h : Work A) : Type 0 where
+  pub by : (w : Who) (o : Own) → t ≤ o.ticks → Ends t G (h w o)
+
+after : {A B : Type 0} (t : ℕ) (G : B → Own → Type 0) (h : Work A) (g : A → Work B) → Steady t h → ((a : A) → From t G (g a)) → From t G (bind h g)
+after t G h g st next = record { by = λ w o le. ends_then t Any G (h w o) g w (st.by w o le) (λ a o1 l u. (next a).by w o1 l) }
+
+after_fact : {A B : Type 0} (t : ℕ) (F : A → Own → Type 0) (G : B → Own → Type 0) (h : Work A) (g : A → Work B) → From t F h → ((w : Who) (a : A) (o : Own) → t ≤ o.ticks → F a o → Ends t G (g a w o)) → From t G (bind h g)
+after_fact t F G h g st next = record { by = λ w o le. ends_then t F G (h w o) g w (st.by w o le) (next w) }
+
+module _ (g : Setting) (t : ℕ) where
+  deepen_steady : Steady t (deepen g.limits)
+  deepen_steady = record { by = λ w o le. go w o le (nat_lt o.depth g.limits.depth) }
+    where
+      go : (w : Who) (o : Own) → t ≤ o.ticks → (b : Bool) → Ends {A = Unit {0}} t Any (if b then become (record o { depth = o.depth + 1 }) w o else fail fault.F11 w o)
+      go w o le true = (le, tt)
+      go w o le false = tt
+
+  widen_steady : (n : ℕ) → Steady t (widen g.limits n)
+  widen_steady n = record { by = λ w o le. go w o le (nat_lt g.limits.cells (o.cells + n)) }
+    where
+      go : (w : Who) (o : Own) → t ≤ o.ticks → (b : Bool) → Ends {A = Unit {0}} t Any (if b then fail fault.F12 w o else become (record o { cells = o.cells + n }) w o)
+      go w o le true = tt
+      go w o le false = (le, tt)
+
+  enclosing_steady : (q : Option ℕ) → Steady t (enclosing g q)
+  enclosing_steady None = lost_steady t _
+  enclosing_steady (Some q) = reach_steady t (is_block q)
+
+  lay_one_steady : (n : ℕ) (x : ℕ × Variable) (v : Option Value) → Steady t (lay_one g n x v)
+  lay_one_steady n x None = give_steady t tt
+  lay_one_steady n x (Some v) = record { by = λ w o le. (le, tt) }
+
+  lay_steady : (n : ℕ) (xs : List (ℕ × Variable)) → Steady t (lay g n xs)
+  lay_steady n [] = give_steady t tt
+  lay_steady n (x ∷ xs) = then_steady t (lay_one g n x (begins (initials g.program.kinds) x.1.role x.1.kind)) _ (lay_one_steady n x _) (λ u. lay_steady n xs)
+
+  copy_steady : (n : ℕ) (xs : List ℕ) (gs : List Given) → Steady t (copy_in g n xs gs)
+  copy_steady n [] gs = give_steady t tt
+  copy_steady n (x ∷ xs) [] = give_steady t tt
+  copy_steady n (x ∷ xs) (ValueOf v ∷ gs) = record { by = λ w o le. (copy_steady n xs gs).by w o le }
+  copy_steady n (x ∷ xs) (PlaceOf a ∷ gs) = copy_steady n xs gs
+
+  leave_steady : Steady t (leave g)
+  leave_steady = record { by = λ w o le. go o.frames o le }
+    where
+      go : (fs : List Frame) (o : Own) → t ≤ o.ticks → (t ≤ (without_frame g fs o).ticks) × Unit {0}
+      go [] o le = (le, tt)
+      go (f ∷ fs) o le = (le, tt)
+
+  write_steady : (bs : List ℕ) → Steady t (write g bs)
+  write_steady bs = record { by = λ w o le h. go w o le h (nat_lt g.limits.output (length (bytes_in h) + length bs)) }
+    where
+      go : (w : Who) (o : Own) → t ≤ o.ticks → (h : Held) → (b : Bool) → Ends {A = Unit {0}} t Any ((if b then fail fault.F16 else put Output (Written (bytes_in h ++ bs))) w o)
+      go w o le h true = tt
+      go w o le h false = (le, tt)
+
+  advance_steady : (n : ℕ) → Steady t (advance g n)
+  advance_steady n = record { by = λ w o le h. (le, tt) }
+
+  take_steady : (a : Address) (x : Taken) → Steady t (take_in g a x)
+  take_steady a (Took n bytes) = then_steady t (advance g bytes) _ (advance_steady bytes) (λ u. assign_steady t a (Ordinal n))
+  take_steady a (Stops f) = fail_steady t _ f
+
+  width_steady : (call : Calls) → CallsEnd t g call → (w : Option Expr) → Steady t (width g call w)
+  width_steady call ok None = give_steady t None
+  width_steady call ok (Some e) = then_steady t _ _ (ordinal_of_steady t g call ok e) (λ m. give_steady t (Some m))
+
+  in_width_steady : (cut : Bool) (bs : List ℕ) (w : Option ℤ) → Steady t (in_width cut bs w)
+  in_width_steady cut bs None = give_steady t bs
+  in_width_steady cut bs (Some m) = record { by = λ w o le. go w o le (int_le m (pos 0)) }
+    where
+      go : (w : Who) (o : Own) → t ≤ o.ticks → (b : Bool) → Ends {A = List ℕ} t Any ((if b then fail fault.F1 else give (padded (nat_abs m) (if cut then take (nat_abs m) bs else bs))) w o)
+      go w o le true = tt
+      go w o le false = (le, tt)
+
+  peek_steady : (x : ℕ) → Steady t (peek g x)
+  peek_steady x = then_steady t _ _ (place_of_steady t g x) (λ q. then_steady t _ _ (address_of_steady t g q) (λ a. fetch_steady t a))
+
+module _ (g : Setting) (k : ℕ) where
+  -- what the ticks that are left can cost
+  abbrev pub budget : ℕ → ℕ
+  budget t = (k + 3) * (g.limits.ticks - t)
+
+  budget_mono : (t a : ℕ) → t ≤ a → budget a ≤ budget t
+  budget_mono t a h = mul-le-mul_left (k + 3) (omega arith)
+
+  budget_tick : (t a : ℕ) → t < g.limits.ticks → t + 1 ≤ a → budget a + (k + 3) ≤ budget t
+  budget_tick t a h i =
+      let e : g.limits.ticks - a + 1 ≤ g.limits.ticks - t = omega arith in
+      omega (arith, mul-le-mul_left (k + 3) e)
+
+  pub record Light : Type 0 where
+    pub by : (f : ℕ) → LightBlock k (slice_get g.program.blocks f)
+
+  abbrev Ticked : {A : Type 0} → ℕ → A → Own → Type 0
+  Ticked t a o = (t < g.limits.ticks) × (t + 1 ≤ o.ticks)
+
+  tick_ends : (t : ℕ) → From t (Ticked {A = Unit {0}} t) (tick g.limits)
+  tick_ends t = record { by = λ w o le. go w o le (nat_lt o.ticks g.limits.ticks) refl }
+    where
+      go : (w : Who) (o : Own) → t ≤ o.ticks → (b : Bool) → nat_lt o.ticks g.limits.ticks ≡ b → Ends {A = Unit {0}} t (Ticked t) (if b then become (record o { ticks = o.ticks + 1 }) w o else fail fault.F10 w o)
+      go w o le true e = (omega arith, (omega (arith, ltb-true o.ticks g.limits.ticks e), omega arith))
+      go w o le false e = tt
+
+  -- a call, once its arguments are known
+  abbrev Entered : ℕ → Block → Own → Type 0
+  Entered t b o = (weight b.body ≤ k) × (t < g.limits.ticks) × (t + 1 ≤ o.ticks)
+
+  abbrev Is : Block → Own → Type 0
+  Is b o = weight b.body ≤ k
+
+  -- what comes after the tick
+  abbrev rest_of : ℕ → List Given → Block → Work Block
+  rest_of f gs b =
+      bind (deepen g.limits) (λ u. bind (widen g.limits (size_of_frame g f)) (λ u.
+      bind (enclosing g b.parent) (λ link. bind mine (λ o. bind who (λ w. bind (become (pushed_frame g f link (references b.formals gs) w o)) (λ u.
+      bind (lay g (length o.frames) (variables_of f 0 g.program.variables)) (λ u. bind (copy_in g (length o.frames) b.formals gs) (λ u. give b))))))))
+
+  rest_ends : (t f : ℕ) (gs : List Given) (b : Block) → weight b.body ≤ k → From t Is (rest_of f gs b)
+  rest_ends t f gs b wb =
+      after t Is _ _ (deepen_steady g t) (λ u. after t Is _ _ (widen_steady g t (size_of_frame g f)) (λ u. after t Is _ _ (enclosing_steady g t b.parent) (λ link. record { by = λ w o le. (laid o).by w (pushed_frame g f link (references b.formals gs) w o) le })))
+    where
+      laid : (o : Own) → From t Is (bind (lay g (length o.frames) (variables_of f 0 g.program.variables)) (λ u. bind (copy_in g (length o.frames) b.formals gs) (λ u. give b)))
+      laid o = after t Is _ _ (lay_steady g t (length o.frames) (variables_of f 0 g.program.variables)) (λ u. after t Is _ _ (copy_steady g t (length o.frames) b.formals gs) (λ u. record { by = λ w o1 le. (le, wb) }))
+
+  enter_ends : Light → (t f : ℕ) (gs : List Given) → From t (Entered t) (enter g f gs)
+  enter_ends l t f gs = go (slice_get g.program.blocks f) (l.by f)
+    where
+      go : (x : Option Block) → LightBlock k x → From t (Entered t) (bind (or_lost x) (λ b. bind (tick g.limits) (λ u. rest_of f gs b)))
+      go None h = record { by = λ w o le. tt }
+      go (Some b) wb = record { by = λ w o le. (after_fact t (Ticked t) (Entered t) (tick g.limits) (λ u. rest_of f gs b) (tick_ends t) (λ w1 u o1 l1 h. ends_strong (t + 1) t Is (Entered t) (rest_of f gs b w1 o1) (omega arith) (λ c o2 l2 i. (i, h.0, l2)) ((rest_ends (t + 1) f gs b wb).by w1 o1 h.1))).by w o le }
+
+  -- a step takes from what is left
+  abbrev pub Falls : ℕ → ℕ → List Item → Own → Type 0
+  Falls t w todo o = (budget o.ticks + weights todo < budget t + w) × AllFit k todo
+
+  abbrev pub Deeds : ℕ → ℕ → Deed → Own → Type 0
+  Deeds t w (Went todo) o = Falls t w todo o
+  Deeds t w (Beat todo) o = Falls t w todo o
+  Deeds t w (Opened todo) o = Unit {0}
+  Deeds t w (Forked os todo) o = Unit {0}
+  Deeds t w (Offered c i g todo) o = Unit {0}
+  Deeds t w Over o = Unit {0}
+
+  went : (t w : ℕ) (todo : List Item) → weights todo < w → AllFit k todo → From t (Deeds t w) (give (Went todo))
+  went t w todo h f = record { by = λ w o le. (le, (omega (arith, budget_mono t o.ticks le), f)) }
+
+  -- after a tick
+  beat : (t w : ℕ) (todo : List Item) → weights todo < w + (k + 3) → AllFit k todo → From t (Deeds t w) (bind (tick g.limits) (λ u. give (Beat todo)))
+  beat t w todo h f = after_fact t (Ticked t) (Deeds t w) (tick g.limits) (λ u. give (Beat todo)) (tick_ends t) (λ w u o1 l1 i. (l1, (omega (arith, budget_tick t o1.ticks i.0 i.1), f)))
+
+  turn_ends : (t w x : ℕ) (n limit : ℤ) (down : Bool) (s : Stmt) (todo : List Item) → weight s + 3 ≤ k → AllFit k todo → 1 + weights todo ≤ w → From t (Deeds t w) (turn_of g x n limit down s todo)
+  turn_ends t w x n limit down s todo h f b =
+      after t (Deeds t w) _ _ (place_of_steady t g x) (λ q. after t (Deeds t w) _ _ (address_of_steady t g q) (λ a. after t (Deeds t w) _ _ (assign_steady t a (Ordinal n)) (λ u.
+      beat t w (push s (Again x limit down s ∷ todo)) (omega (arith, push_weight s (Again x limit down s ∷ todo))) (push_fit k s (Again x limit down s ∷ todo) (omega arith) (h, f)))))
+
+  fork_ends : (t v : ℕ) (bs : List Birth) (todo : List Item) → From t (Deeds t v) (fork g bs todo)
+  fork_ends t v bs todo = record { by = λ w o le. go w o le (nat_lt o.depth g.limits.depth) }
+    where
+      go : (w : Who) (o : Own) → t ≤ o.ticks → (b : Bool) → Ends t (Deeds t v) ((if b then give (Forked bs todo) else fail fault.F11) w o)
+      go w o le true = (le, tt)
+      go w o le false = tt
+
+  fails : (t w : ℕ) (f : Fault) → From t (Deeds t w) (fail f)
+  fails t w f = record { by = λ w o le. tt }
+
+  start_ends : Light → (call : Calls) (t : ℕ) → CallsEnd t g call → (s : Stmt) (todo : List Item) → weight s ≤ k → AllFit k todo → From t (Deeds t (weight s + weights todo)) (start g call s todo)
+  start_ends l call t ok Empty todo w f = went t (weight Empty + weights todo) todo (omega arith) f
+  start_ends l call t ok (Assign v e) todo w f =
+      after t (Deeds t (weight (Assign v e) + weights todo)) _ _ (address_steady t g call ok v) (λ a. after t (Deeds t (weight (Assign v e) + weights todo)) _ _ (value_steady t g call ok e) (λ x. after t (Deeds t (weight (Assign v e) + weights todo)) _ _ (assign_steady t a x) (λ u. went t (weight (Assign v e) + weights todo) todo (omega arith) f)))
+  start_ends l call t ok (Call callee args) todo w f =
+      after t (Deeds t (weight (Call callee args) + weights todo)) _ _ (actuals_steady t g call ok args) (λ gs. after_fact t (Entered t) (Deeds t (2 + weights todo)) _ _ (enter_ends l t callee gs) (λ w1 b o2 l2 h.
+      (l2, (omega (arith, budget_tick t o2.ticks h.1 h.2, push_weight b.body (Leave ∷ todo), h.0), push_fit k b.body (Leave ∷ todo) h.0 (tt, f)))))
+  start_ends l call t ok (Sequence ss) todo w f = went t (weight (Sequence ss) + weights todo) (push_all ss todo) (omega (arith, push_all_weight ss todo)) (push_all_fit k ss todo (omega arith) f)
+  start_ends l call t ok (If e a) todo w f = after t (Deeds t (weight (If e a) + weights todo)) _ _ (ordinal_of_steady t g call ok e) (λ n. go (int_le n (pos 0)))
+    where
+      go : (b : Bool) → From t (Deeds t (weight a + 1 + weights todo)) (give (Went (if b then todo else push a todo)))
+      go true = went t (weight (If e a) + weights todo) todo (omega arith) f
+      go false = went t (weight (If e a) + weights todo) (push a todo) (omega (arith, push_weight a todo)) (push_fit k a todo (omega arith) f)
+  start_ends l call t ok (IfElse e a c) todo w f = after t (Deeds t (weight (IfElse e a c) + weights todo)) _ _ (ordinal_of_steady t g call ok e) (λ n. go (int_le n (pos 0)))
+    where
+      go : (b : Bool) → From t (Deeds t (weight a + weight c + 1 + weights todo)) (give (Went (if b then push c todo else push a todo)))
+      go true = went t (weight (IfElse e a c) + weights todo) (push c todo) (omega (arith, push_weight c todo)) (push_fit k c todo (omega arith) f)
+      go false = went t (weight (IfElse e a c) + weights todo) (push a todo) (omega (arith, push_weight a todo)) (push_fit k a todo (omega arith) f)
+  start_ends l call t ok (While e s) todo w f = after t (Deeds t (weight (While e s) + weights todo)) _ _ (ordinal_of_steady t g call ok e) (λ n. go (int_le n (pos 0)))
+    where
+      go : (b : Bool) → From t (Deeds t (weight s + 2 + weights todo)) ((if b then give (Went todo) else bind (tick g.limits) (λ u. give (Beat (push s (Do (While e s) ∷ todo))))))
+      go true = went t (weight (While e s) + weights todo) todo (omega arith) f
+      go false = beat t (weight (While e s) + weights todo) (push s (Do (While e s) ∷ todo)) (omega (arith, push_weight s (Do (While e s) ∷ todo))) (push_fit k s (Do (While e s) ∷ todo) (omega arith) (w, f))
+  start_ends l call t ok (Repeat s e) todo w f = beat t (weight (Repeat s e) + weights todo) (push s (Test s e ∷ todo)) (omega (arith, push_weight s (Test s e ∷ todo))) (push_fit k s (Test s e ∷ todo) (omega arith) (w, f))
+  start_ends l call t ok (For x from down to s) todo w f =
+      after t (Deeds t (weight (For x from down to s) + weights todo)) _ _ (ordinal_of_steady t g call ok from) (λ m. after t (Deeds t (weight (For x from down to s) + weights todo)) _ _ (ordinal_of_steady t g call ok to) (λ n. go m n (is_range down m n)))
+    where
+      go : (m n : ℤ) → (b : Bool) → From t (Deeds t (weight s + 3 + weights todo)) (give (Went (if b then First x m n down s ∷ todo else todo)))
+      go m n true = went t (weight (For x from down to s) + weights todo) (First x m n down s ∷ todo) (omega arith) (w, f)
+      go m n false = went t (weight (For x from down to s) + weights todo) todo (omega arith) f
+  start_ends l call t ok (Case e arms) todo w f = after t (Deeds t (weight (Case e arms) + weights todo)) _ _ (ordinal_of_steady t g call ok e) (λ n. go (arm_for n arms) (arm_light n arms))
+    where
+      go : (x : Option Stmt) → LightStmt (weight_arms arms) x → From t (Deeds t (weight_arms arms + 1 + weights todo)) (chosen g x todo)
+      go None h = fails t (weight (Case e arms) + weights todo) fault.F9
+      go (Some s) h = went t (weight (Case e arms) + weights todo) (push s todo) (omega (arith, push_weight s todo)) (push_fit k s todo (omega arith) f)
+  start_ends l call t ok (Parallel ss) todo w f = fork_ends t (weight (Parallel ss) + weights todo) _ todo
+  start_ends l call t ok (Forall x from to s) todo w f =
+      after t (Deeds t (weight (Forall x from to s) + weights todo)) _ _ (ordinal_of_steady t g call ok from) (λ m. after t (Deeds t (weight (Forall x from to s) + weights todo)) _ _ (ordinal_of_steady t g call ok to) (λ n. go _ (int_lt n m)))
+    where
+      go : (bs : List Birth) → (b : Bool) → From t (Deeds t (weight s + 1 + weights todo)) ((if b then give (Went todo) else fork g bs todo))
+      go bs true = went t (weight (Forall x from to s) + weights todo) todo (omega arith) f
+      go bs false = fork_ends t (weight (Forall x from to s) + weights todo) bs todo
+  start_ends l call t ok (Assume e) todo w f = after t (Deeds t (weight (Assume e) + weights todo)) _ _ (ordinal_of_steady t g call ok e) (λ n. go (int_le n (pos 0)))
+    where
+      go : (b : Bool) → From t (Deeds t (1 + weights todo)) ((if b then fail fault.F8 else give (Went todo)))
+      go true = fails t (weight (Assume e) + weights todo) fault.F8
+      go false = went t (weight (Assume e) + weights todo) todo (omega arith) f
+  start_ends l call t ok (ReadValue v) todo w f =
+      after t (Deeds t (weight (ReadValue v) + weights todo)) _ _ (address_steady t g call ok v) (λ a. after t (Deeds t (weight (ReadValue v) + weights todo)) _ _ (kind_steady t g a.kind) (λ i. after t (Deeds t (weight (ReadValue v) + weights todo)) _ _ (left_steady t g) (λ bs.
+      after t (Deeds t (weight (ReadValue v) + weights todo)) _ _ (or_lost_steady t (taken_by i bs)) (λ x. after t (Deeds t (weight (ReadValue v) + weights todo)) _ _ (take_steady g t a x) (λ u. went t (weight (ReadValue v) + weights todo) todo (omega arith) f)))))
+  start_ends l call t ok ReadLine todo w f =
+      after t (Deeds t (weight ReadLine + weights todo)) _ _ (left_steady t g) (λ bs. after t (Deeds t (weight ReadLine + weights todo)) _ _ (advance_steady g t (line_length bs)) (λ u. went t (weight ReadLine + weights todo) todo (omega arith) f))
+  start_ends l call t ok (WriteValue (Typed i form) wd) todo w f =
+      after t (Deeds t (weight (WriteValue (Typed i form) wd) + weights todo)) _ _ (ordinal_of_steady t g call ok (Typed i form)) (λ n. after t (Deeds t (weight (WriteValue (Typed i form) wd) + weights todo)) _ _ (width_steady g t call ok wd) (λ m. after t (Deeds t (weight (WriteValue (Typed i form) wd) + weights todo)) _ _ (kind_steady t g i) (λ kd.
+      after t (Deeds t (weight (WriteValue (Typed i form) wd) + weights todo)) _ _ (in_width_steady g t (shown kd n).0 (shown kd n).1 m) (λ bs. after t (Deeds t (weight (WriteValue (Typed i form) wd) + weights todo)) _ _ (write_steady g t bs) (λ u. went t (weight (WriteValue (Typed i form) wd) + weights todo) todo (omega arith) f)))))
+  start_ends l call t ok (WriteText x wd) todo w f =
+      after t (Deeds t (weight (WriteText x wd) + weights todo)) _ _ (width_steady g t call ok wd) (λ m. after t (Deeds t (weight (WriteText x wd) + weights todo)) _ _ (in_width_steady g t true x m) (λ bs. after t (Deeds t (weight (WriteText x wd) + weights todo)) _ _ (write_steady g t bs) (λ u. went t (weight (WriteText x wd) + weights todo) todo (omega arith) f)))
+  start_ends l call t ok WriteLine todo w f = after t (Deeds t (weight WriteLine + weights todo)) _ _ (write_steady g t (10 ∷ [])) (λ u. went t (weight WriteLine + weights todo) todo (omega arith) f)
+  start_ends l call t ok (Open v) todo w f =
+      after t (Deeds t (weight (Open v) + weights todo)) _ _ (address_steady t g call ok v) (λ a. record { by = λ w o le. (opened a w).by w o le })
+    where
+      opened : (a : Address) (o : Who) → From t (Deeds t (1 + weights todo)) (bind (assign a (Chan (record { owner = o.name; nth = o.opens }))) (λ u. give (Opened todo)))
+      opened a o = after t (Deeds t (1 + weights todo)) (assign a (Chan (record { owner = o.name; nth = o.opens }))) (λ u. give (Opened todo)) (assign_steady t a (Chan (record { owner = o.name; nth = o.opens }))) (λ u. record { by = λ w o1 l1. (l1, tt) })
+  start_ends l call t ok (Send c (Typed i form)) todo w f =
+      after t (Deeds t (weight (Send c (Typed i form)) + weights todo)) _ _ (value_steady t g call ok c) (λ v. after t (Deeds t (weight (Send c (Typed i form)) + weights todo)) _ _ (channel_steady t v) (λ to. after t (Deeds t (weight (Send c (Typed i form)) + weights todo)) _ _ (value_steady t g call ok (Typed i form)) (λ x. record { by = λ w o1 l1. (l1, tt) })))
+  start_ends l call t ok (Receive c x) todo w f =
+      after t (Deeds t (weight (Receive c x) + weights todo)) _ _ (value_steady t g call ok c) (λ v. after t (Deeds t (weight (Receive c x) + weights todo)) _ _ (channel_steady t v) (λ from. after t (Deeds t (weight (Receive c x) + weights todo)) _ _ (address_steady t g call ok x) (λ a. record { by = λ w o1 l1. (l1, tt) })))
+
+  act_ends : Light → (call : Calls) (t : ℕ) → CallsEnd t g call → (i : Item) (todo : List Item) → AllFit k (i ∷ todo) → From t (Deeds t (weights (i ∷ todo))) (act g call i todo)
+  act_ends l call t ok (Do s) todo f = start_ends l call t ok s todo f.0 f.1
+  act_ends l call t ok (First x m n down s) todo f = turn_ends t (1 + weights todo) x m n down s todo f.0 f.1 (omega arith)
+  act_ends l call t ok (Again x n down s) todo f =
+      after t (Deeds t (1 + weights todo)) _ _ (place_of_steady t g x) (λ q. after t (Deeds t (1 + weights todo)) _ _ (read_steady t g q) (λ v. after t (Deeds t (1 + weights todo)) _ _ (ordinal_steady t v) (λ m. turn_ends t (1 + weights todo) x (next_value down m) n down s todo f.0 f.1 (omega arith))))
+  act_ends l call t ok (Test s e) todo f = after t (Deeds t (weight s + 4 + weights todo)) _ _ (ordinal_of_steady t g call ok e) (λ n. go (int_le n (pos 0)))
+    where
+      go : (b : Bool) → From t (Deeds t (weight s + 4 + weights todo)) (give (Went (if b then Do (Repeat s e) ∷ todo else todo)))
+      go true = went t (weight s + 4 + weights todo) (Do (Repeat s e) ∷ todo) (omega arith) f
+      go false = went t (weight s + 4 + weights todo) todo (omega arith) f.1
+  act_ends l call t ok Leave todo f = after t (Deeds t (1 + weights todo)) _ _ (leave_steady g t) (λ u. went t (1 + weights todo) todo (omega arith) f.1)
+  act_ends l call t ok (Break x) todo f = fails t (1 + weights todo) x
+
+  abbrev Settled : ℕ → List Item → Own → Type 0
+  Settled w todo o = (weights todo ≤ w) × AllFit k todo
+
+  settle_ends : (t : ℕ) (todo : List Item) → AllFit k todo → From t (Settled (weights todo)) (settle g todo)
+  settle_ends t [] f = record { by = λ w o le. (le, (omega arith, f)) }
+  settle_ends t (Do s ∷ todo) f = record { by = λ w o le. (le, (omega arith, f)) }
+  settle_ends t (First x m n down s ∷ todo) f = record { by = λ w o le. (le, (omega arith, f)) }
+  settle_ends t (Again x n down s ∷ todo) f = after t (Settled (1 + weights todo)) _ _ (peek_steady g t x) (λ v. go (goes_on down n v) (settle_ends t todo f.1))
+    where
+      go : (b : Bool) → From t (Settled (weights todo)) (settle g todo) → From t (Settled (1 + weights todo)) (if b then give (Again x n down s ∷ todo) else settle g todo)
+      go true h = record { by = λ w o le. (le, (omega arith, f)) }
+      go false h = record { by = λ w o le. ends_strong t t (Settled (weights todo)) (Settled (1 + weights todo)) (settle g todo w o) (omega arith) (λ xs o1 l1 i. (omega (arith, i.0), i.1)) (h.by w o le) }
+  settle_ends t (Test s e ∷ todo) f = record { by = λ w o le. (le, (omega arith, f)) }
+  settle_ends t (Leave ∷ todo) f = record { by = λ w o le. (le, (omega arith, f)) }
+  settle_ends t (Break x ∷ todo) f = record { by = λ w o le. (le, (omega arith, f)) }
+
+  pub record AllEnd (n : ℕ) : Type 0 where
+    pub by : (todo : List Item) (w : Who) (o : Own) → AllFit k todo → budget o.ticks + weights todo < n → Ends o.ticks Any (all g n todo w o)
+
+  answer_steady : (t : ℕ) (x : Option ℕ) → Steady t (answer_of g x)
+  answer_steady t None = lost_steady t _
+  answer_steady t (Some x) = then_steady t _ _ (place_of_steady t g x) (λ q. read_steady t g q)
+
+  call_ends : Light → (n : ℕ) → AllEnd n → (t : ℕ) → budget t ≤ n → CallsEnd t g (call_by g (all g n))
+  call_ends l n ih t le = record { by = λ f gs. record { by = λ w o lo. (after_fact t (Entered t) Any (enter g f gs) (ending f) (enter_ends l t f gs) (λ w1 b o1 l1 h.
+      ends_then t Any Any (all g n (push b.body []) w1 o1) (finish b) w1 (ends_weaker o1.ticks t (all g n (push b.body []) w1 o1) l1 (ih.by (push b.body []) w1 o1 (push_fit k b.body [] h.0 tt) (omega (arith, budget_tick t o1.ticks h.1 h.2, push_weight b.body [], h.0, le)))) (λ rest o2 l2 u. (finished b).by w1 o2 l2))).by w o lo } }
+    where
+      finish : Block → List Item → Work Value
+      finish b rest = bind (answer_of g b.answer) (λ v. bind (leave g) (λ u. give v))
+
+      ending : ℕ → Block → Work Value
+      ending f b = bind (all g n (push b.body [])) (λ rest. bind (answer_of g b.answer) (λ v. bind (leave g) (λ u. give v)))
+
+      finished : (b : Block) → Steady t (bind (answer_of g b.answer) (λ v. bind (leave g) (λ u. give v)))
+      finished b = then_steady t _ _ (answer_steady t b.answer) (λ v. then_steady t _ _ (leave_steady g t) (λ u. give_steady t v))
+
+  rest_by_ends : Light → (n : ℕ) → AllEnd n → (todo : List Item) (w : Who) (o : Own) → AllFit k todo → budget o.ticks + weights todo < suc n → Ends o.ticks Any (rest_by g (all g n) todo w o)
+  rest_by_ends l n ih [] w o f h = (omega arith, tt)
+  rest_by_ends l n ih (i ∷ todo) w o f h =
+      ends_then o.ticks (Deeds o.ticks (weights (i ∷ todo))) Any (act g (call_by g (all g n)) i todo w o) onward w ((act_ends l _ o.ticks (call_ends l n ih o.ticks (omega arith)) i todo f).by w o (omega arith)) go
+    where
+      onward : Deed → Work (List Item)
+      onward d = bind (left_by g d) (all g n)
+
+      go : (d : Deed) (o1 : Own) → o.ticks ≤ o1.ticks → Deeds o.ticks (weights (i ∷ todo)) d o1 → Ends o.ticks Any (bind (left_by g d) (all g n) w o1)
+      go (Went todo1) o1 le d = ends_weaker o1.ticks o.ticks (all g n todo1 w o1) le (ih.by todo1 w o1 d.1 (omega (arith, d.0, h)))
+      go (Beat todo1) o1 le d = ends_weaker o1.ticks o.ticks (all g n todo1 w o1) le (ih.by todo1 w o1 d.1 (omega (arith, d.0, h)))
+      go (Opened todo1) o1 le d = tt
+      go (Forked os todo1) o1 le d = tt
+      go (Offered c x g todo1) o1 le d = tt
+      go Over o1 le d = tt
+
+  -- with this bound all that is left comes to an end, to a fault, or breaks a rule
+  pub all_ends : Light → (n : ℕ) → AllEnd n
+  all_ends l zero = record { by = λ todo w o f h. absurd (omega arith) }
+  all_ends l (suc n) = record { by = λ todo w o f h. ends_then o.ticks (Settled (weights todo)) Any (settle g todo w o) (rest_by g (all g n)) w ((settle_ends o.ticks todo f).by w o (omega arith)) (λ todo1 o1 le fact.
+      ends_weaker o1.ticks o.ticks (rest_by g (all g n) todo1 w o1) le (rest_by_ends l n (all_ends l n) todo1 w o1 fact.1 (omega (arith, budget_mono o.ticks o1.ticks le, fact.0, h)))) }
+
+  -- a step of a process with light items never runs out of its bound, and leaves light ones
+  pub deed_ends : Light → (n : ℕ) (todo : List Item) (w : Who) (o : Own) → AllFit k todo → budget o.ticks ≤ n → Ends o.ticks (Deeds o.ticks (weights todo)) (deed g n todo w o)
+  deed_ends l n todo w o f h = ends_then o.ticks (Settled (weights todo)) (Deeds o.ticks (weights todo)) (settle g todo w o) (deed_by g (all g n)) w ((settle_ends o.ticks todo f).by w o (omega arith)) (λ todo1 o1 le fact. go todo1 o1 le fact.0 fact.1)
+    where
+      go : (todo1 : List Item) (o1 : Own) → o.ticks ≤ o1.ticks → weights todo1 ≤ weights todo → AllFit k todo1 → Ends o.ticks (Deeds o.ticks (weights todo)) (deed_by g (all g n) todo1 w o1)
+      go [] o1 le v fact = (le, tt)
+      go (i ∷ rest) o1 le v fact = ends_strong o.ticks o.ticks (Deeds o.ticks (weights (i ∷ rest))) (Deeds o.ticks (weights todo)) (act g (call_by g (all g n)) i rest w o1) (omega arith) more ((act_ends l _ o.ticks (call_ends l n (all_ends l n) o.ticks h) i rest fact).by w o1 le)
+        where
+          more : (d : Deed) (o2 : Own) → o.ticks ≤ o2.ticks → Deeds o.ticks (weights (i ∷ rest)) d o2 → Deeds o.ticks (weights todo) d o2
+          more (Went x) o2 l2 d = (omega (arith, d.0, v), d.1)
+          more (Beat x) o2 l2 d = (omega (arith, d.0, v), d.1)
+          more (Opened x) o2 l2 d = tt
+          more (Forked os x) o2 l2 d = tt
+          more (Offered c y q x) o2 l2 d = tt
+          more Over o2 l2 d = tt
+
+-- every block is as light as all together
+all_light : (bs : List Block) (f : ℕ) → LightBlock (weight_blocks bs) (slice_get bs f)
+all_light [] f = tt
+all_light (b ∷ bs) zero = omega arith
+all_light (b ∷ bs) (suc f) = go (slice_get bs f) (all_light bs f)
+  where
+    go : (x : Option Block) → LightBlock (weight_blocks bs) x → LightBlock (weight b.body + weight_blocks bs) x
+    go None h = tt
+    go (Some c) h = omega (arith, h)
+
+-- the bound of a step is enough
+pub enough_is : (g : Setting) (todo : List Item) (w : Who) (o : Own) → AllFit (weight_of g.program) todo → Ends o.ticks (Deeds g (weight_of g.program) o.ticks (weights todo)) (deed g (enough g o) todo w o)
+enough_is g todo w o f = deed_ends g (weight_of g.program) (record { by = all_light g.program.blocks }) (enough g o) todo w o f (le (mul-le-mul_left (weight_of g.program + 3) (less g.limits.ticks o.ticks)))
+  where
+    less : (a b : ℕ) → a - b ≤ a + 1 - b
+    less a b = omega arith
+
+    le : (weight_of g.program + 3) * (g.limits.ticks - o.ticks) ≤ (weight_of g.program + 3) * (g.limits.ticks + 1 - o.ticks) → (weight_of g.program + 3) * (g.limits.ticks - o.ticks) ≤ (weight_of g.program + 3) * (g.limits.ticks + 1 - o.ticks) + weight_of g.program + 1
+    le h = omega (arith, h)
