@@ -1,6 +1,6 @@
 -- The bound of a step never runs out: each tick pays for what stands between two ticks.
 use Rattle.std.proofs.Common.{◌≡◌, ℕ, zero, suc, ◌+◌, ◌-◌, ◌*◌, ◌<◌, ◌≤◌, Bool, true, false, List, [], ◌∷◌, ◌++◌, length, Option, Some, None, refl, arith, if◌then◌else◌}
-use Rattle.std.specs.Prelude.{ℤ, pos, nat_abs, slice_get, nat_lt, int_le, int_lt, take}
+use Rattle.std.specs.Prelude.{ℤ, pos, ◌+ℤ◌, ◌-ℤ◌, nat_abs, slice_get, nat_lt, int_le, int_lt, take}
 use Rattle.std.proofs.Math.Nat.{mul-le-mul_left}
 use Rattle.std.proofs.lemmas.Bool.{ltb-true}
 use Rattle.sp_base.specs.declared.fault.Fault.{Fault}
@@ -11,7 +11,7 @@ use Rattle.sp_meaning.specs.Values.{Value, Ordinal, Chan, initials}
 use Rattle.sp_meaning.specs.Own.{Setting, Loc, Output, Held, Written, Address, Frame, Own, Who, Item, Do, First, Again, Test, Leave, Break, Came, Got, Bad, Lost, Long, Work, bind, give, fail, mine, who, become, put, assign, or_lost, tick, deepen, widen, is_block, bytes_in}
 use Rattle.sp_meaning.specs.Texts.{Taken, Takes as Took, Fails as Stops, padded, line_length}
 use Rattle.sp_meaning.specs.Eval.{Given, ValueOf, PlaceOf, Calls}
-use Rattle.sp_meaning.specs.Deeds.{Birth, Deed, Went, Beat, Opened, Forked, Offered, Over, push, push_all, has, arm_for, is_range, goes_on, next_value, in_width, begins, lay_one, lay, copy_in, pushed_frame, enclosing, enter, without_frame, leave, write, advance, take_in, width, peek, turn_of, fork, chosen, start, act, settle, left_by, answer_of, call_by, rest_by, all, deed_by, deed, variables_of, size_of_frame, references, taken_by, shown}
+use Rattle.sp_meaning.specs.Deeds.{Birth, Deed, Went, Beat, Opened, Forked, Offered, Over, push, push_all, has, arm_for, is_range, goes_on, next_value, in_width, begins, lay_one, lay, copy_in, pushed_frame, enclosing, enter, without_frame, leave, write, advance, take_in, width, peek, turn_of, fork, chosen, start, act, settle, left_by, answer_of, call_by, rest_by, all, deed_by, deed, variables_of, children, indexed_children, size_of_frame, references, taken_by, shown}
 use Rattle.sp_meaning.specs.SuperPascal.{weight, weight_all, weight_arms, weight_blocks, weight_of, enough}
 use Rattle.sp_meaning.proofs.Enough.{Ends, ends_then, ends_weaker, Any, Steady, then_steady, give_steady, fail_steady, lost_steady, or_lost_steady, fetch_steady, assign_steady, reach_steady, ordinal_steady, channel_steady, kind_steady, read_steady, address_of_steady, place_of_steady, left_steady, CallsEnd, value_steady, actuals_steady, address_steady, ordinal_of_steady}
 
@@ -39,6 +39,11 @@ Fit k (Break f) = Unit {0}
 abbrev pub AllFit : ℕ → List Item → Type 0
 AllFit k [] = Unit {0}
 AllFit k (i ∷ todo) = Fit k i × AllFit k todo
+
+-- and so is what each child is to do
+abbrev pub AllBorn : ℕ → List Birth → Type 0
+AllBorn k [] = Unit {0}
+AllBorn k (b ∷ bs) = AllFit k b.todo × AllBorn k bs
 
 mutual
   push_weight : (s : Stmt) (todo : List Item) → weights (push s todo) ≤ weight s + weights todo
@@ -69,7 +74,7 @@ mutual
   push_all_weight (And s rest) todo = omega (arith, push_weight s (push_all rest todo), push_all_weight rest todo)
 
 mutual
-  push_fit : (k : ℕ) (s : Stmt) (todo : List Item) → weight s ≤ k → AllFit k todo → AllFit k (push s todo)
+  pub push_fit : (k : ℕ) (s : Stmt) (todo : List Item) → weight s ≤ k → AllFit k todo → AllFit k (push s todo)
   push_fit k Empty todo h f = f
   push_fit k (Assign v e) todo h f = (h, f)
   push_fit k (Call g args) todo h f = (h, f)
@@ -95,6 +100,14 @@ mutual
   push_all_fit : (k : ℕ) (ss : Stmts) (todo : List Item) → weight_all ss ≤ k → AllFit k todo → AllFit k (push_all ss todo)
   push_all_fit k No todo h f = f
   push_all_fit k (And s rest) todo h f = push_fit k s (push_all rest todo) (omega arith) (push_all_fit k rest todo (omega arith) f)
+
+children_born : (k : ℕ) (ss : Stmts) → weight_all ss ≤ k → AllBorn k (children ss)
+children_born k No h = tt
+children_born k (And s rest) h = (push_fit k s [] (omega arith) tt, children_born k rest (omega arith))
+
+indexed_born : (k x : ℕ) (s : Stmt) (low : ℤ) (n : ℕ) → weight s ≤ k → AllBorn k (indexed_children x s low n)
+indexed_born k x s low zero h = tt
+indexed_born k x s low (suc n) h = (push_fit k s [] h tt, indexed_born k x s (low +ℤ pos 1) n h)
 
 abbrev pub LightStmt : ℕ → Option Stmt → Type 0
 LightStmt w None = Unit {0}
@@ -261,9 +274,9 @@ module _ (g : Setting) (k : ℕ) where
   abbrev pub Deeds : ℕ → ℕ → Deed → Own → Type 0
   Deeds t w (Went todo) o = Falls t w todo o
   Deeds t w (Beat todo) o = Falls t w todo o
-  Deeds t w (Opened todo) o = Unit {0}
-  Deeds t w (Forked os todo) o = Unit {0}
-  Deeds t w (Offered c i g todo) o = Unit {0}
+  Deeds t w (Opened todo) o = AllFit k todo
+  Deeds t w (Forked bs todo) o = AllBorn k bs × AllFit k todo
+  Deeds t w (Offered c i cargo todo) o = AllFit k todo
   Deeds t w Over o = Unit {0}
 
   went : (t w : ℕ) (todo : List Item) → weights todo < w → AllFit k todo → From t (Deeds t w) (give (Went todo))
@@ -278,11 +291,11 @@ module _ (g : Setting) (k : ℕ) where
       after t (Deeds t w) _ _ (place_of_steady t g x) (λ q. after t (Deeds t w) _ _ (address_of_steady t g q) (λ a. after t (Deeds t w) _ _ (assign_steady t a (Ordinal n)) (λ u.
       beat t w (push s (Again x limit down s ∷ todo)) (omega (arith, push_weight s (Again x limit down s ∷ todo))) (push_fit k s (Again x limit down s ∷ todo) (omega arith) (h, f)))))
 
-  fork_ends : (t v : ℕ) (bs : List Birth) (todo : List Item) → From t (Deeds t v) (fork g bs todo)
-  fork_ends t v bs todo = record { by = λ w o le. go w o le (nat_lt o.depth g.limits.depth) }
+  fork_ends : (t v : ℕ) (bs : List Birth) (todo : List Item) → AllBorn k bs → AllFit k todo → From t (Deeds t v) (fork g bs todo)
+  fork_ends t v bs todo born f = record { by = λ w o le. go w o le (nat_lt o.depth g.limits.depth) }
     where
       go : (w : Who) (o : Own) → t ≤ o.ticks → (b : Bool) → Ends t (Deeds t v) ((if b then give (Forked bs todo) else fail fault.F11) w o)
-      go w o le true = (le, tt)
+      go w o le true = (le, (born, f))
       go w o le false = tt
 
   fails : (t w : ℕ) (f : Fault) → From t (Deeds t w) (fail f)
@@ -323,13 +336,13 @@ module _ (g : Setting) (k : ℕ) where
       go : (x : Option Stmt) → LightStmt (weight_arms arms) x → From t (Deeds t (weight_arms arms + 1 + weights todo)) (chosen g x todo)
       go None h = fails t (weight (Case e arms) + weights todo) fault.F9
       go (Some s) h = went t (weight (Case e arms) + weights todo) (push s todo) (omega (arith, push_weight s todo)) (push_fit k s todo (omega arith) f)
-  start_ends l call t ok (Parallel ss) todo w f = fork_ends t (weight (Parallel ss) + weights todo) _ todo
+  start_ends l call t ok (Parallel ss) todo w f = fork_ends t (weight (Parallel ss) + weights todo) (children ss) todo (children_born k ss (omega arith)) f
   start_ends l call t ok (Forall x from to s) todo w f =
-      after t (Deeds t (weight (Forall x from to s) + weights todo)) _ _ (ordinal_of_steady t g call ok from) (λ m. after t (Deeds t (weight (Forall x from to s) + weights todo)) _ _ (ordinal_of_steady t g call ok to) (λ n. go _ (int_lt n m)))
+      after t (Deeds t (weight (Forall x from to s) + weights todo)) _ _ (ordinal_of_steady t g call ok from) (λ m. after t (Deeds t (weight (Forall x from to s) + weights todo)) _ _ (ordinal_of_steady t g call ok to) (λ n. go (indexed_children x s m (nat_abs ((n -ℤ m) +ℤ pos 1))) (indexed_born k x s m (nat_abs ((n -ℤ m) +ℤ pos 1)) (omega arith)) (int_lt n m)))
     where
-      go : (bs : List Birth) → (b : Bool) → From t (Deeds t (weight s + 1 + weights todo)) ((if b then give (Went todo) else fork g bs todo))
-      go bs true = went t (weight (Forall x from to s) + weights todo) todo (omega arith) f
-      go bs false = fork_ends t (weight (Forall x from to s) + weights todo) bs todo
+      go : (bs : List Birth) → AllBorn k bs → (b : Bool) → From t (Deeds t (weight s + 1 + weights todo)) ((if b then give (Went todo) else fork g bs todo))
+      go bs born true = went t (weight (Forall x from to s) + weights todo) todo (omega arith) f
+      go bs born false = fork_ends t (weight (Forall x from to s) + weights todo) bs todo born f
   start_ends l call t ok (Assume e) todo w f = after t (Deeds t (weight (Assume e) + weights todo)) _ _ (ordinal_of_steady t g call ok e) (λ n. go (int_le n (pos 0)))
     where
       go : (b : Bool) → From t (Deeds t (1 + weights todo)) ((if b then fail fault.F8 else give (Went todo)))
@@ -350,11 +363,11 @@ module _ (g : Setting) (k : ℕ) where
       after t (Deeds t (weight (Open v) + weights todo)) _ _ (address_steady t g call ok v) (λ a. record { by = λ w o le. (opened a w).by w o le })
     where
       opened : (a : Address) (o : Who) → From t (Deeds t (1 + weights todo)) (bind (assign a (Chan (record { owner = o.name; nth = o.opens }))) (λ u. give (Opened todo)))
-      opened a o = after t (Deeds t (1 + weights todo)) (assign a (Chan (record { owner = o.name; nth = o.opens }))) (λ u. give (Opened todo)) (assign_steady t a (Chan (record { owner = o.name; nth = o.opens }))) (λ u. record { by = λ w o1 l1. (l1, tt) })
+      opened a o = after t (Deeds t (1 + weights todo)) (assign a (Chan (record { owner = o.name; nth = o.opens }))) (λ u. give (Opened todo)) (assign_steady t a (Chan (record { owner = o.name; nth = o.opens }))) (λ u. record { by = λ w o1 l1. (l1, f) })
   start_ends l call t ok (Send c (Typed i form)) todo w f =
-      after t (Deeds t (weight (Send c (Typed i form)) + weights todo)) _ _ (value_steady t g call ok c) (λ v. after t (Deeds t (weight (Send c (Typed i form)) + weights todo)) _ _ (channel_steady t v) (λ to. after t (Deeds t (weight (Send c (Typed i form)) + weights todo)) _ _ (value_steady t g call ok (Typed i form)) (λ x. record { by = λ w o1 l1. (l1, tt) })))
+      after t (Deeds t (weight (Send c (Typed i form)) + weights todo)) _ _ (value_steady t g call ok c) (λ v. after t (Deeds t (weight (Send c (Typed i form)) + weights todo)) _ _ (channel_steady t v) (λ to. after t (Deeds t (weight (Send c (Typed i form)) + weights todo)) _ _ (value_steady t g call ok (Typed i form)) (λ x. record { by = λ w o1 l1. (l1, f) })))
   start_ends l call t ok (Receive c x) todo w f =
-      after t (Deeds t (weight (Receive c x) + weights todo)) _ _ (value_steady t g call ok c) (λ v. after t (Deeds t (weight (Receive c x) + weights todo)) _ _ (channel_steady t v) (λ from. after t (Deeds t (weight (Receive c x) + weights todo)) _ _ (address_steady t g call ok x) (λ a. record { by = λ w o1 l1. (l1, tt) })))
+      after t (Deeds t (weight (Receive c x) + weights todo)) _ _ (value_steady t g call ok c) (λ v. after t (Deeds t (weight (Receive c x) + weights todo)) _ _ (channel_steady t v) (λ from. after t (Deeds t (weight (Receive c x) + weights todo)) _ _ (address_steady t g call ok x) (λ a. record { by = λ w o1 l1. (l1, f) })))
 
   act_ends : Light → (call : Calls) (t : ℕ) → CallsEnd t g call → (i : Item) (todo : List Item) → AllFit k (i ∷ todo) → From t (Deeds t (weights (i ∷ todo))) (act g call i todo)
   act_ends l call t ok (Do s) todo f = start_ends l call t ok s todo f.0 f.1
@@ -438,9 +451,9 @@ module _ (g : Setting) (k : ℕ) where
           more : (d : Deed) (o2 : Own) → o.ticks ≤ o2.ticks → Deeds o.ticks (weights (i ∷ rest)) d o2 → Deeds o.ticks (weights todo) d o2
           more (Went x) o2 l2 d = (omega (arith, d.0, v), d.1)
           more (Beat x) o2 l2 d = (omega (arith, d.0, v), d.1)
-          more (Opened x) o2 l2 d = tt
-          more (Forked os x) o2 l2 d = tt
-          more (Offered c y q x) o2 l2 d = tt
+          more (Opened x) o2 l2 d = d
+          more (Forked os x) o2 l2 d = d
+          more (Offered c y q x) o2 l2 d = d
           more Over o2 l2 d = tt
 
 -- every block is as light as all together

@@ -13,3 +13,4 @@ pub mod Run
 pub mod Enough
 pub mod EnoughSteps
 pub mod Moved
+pub mod Reached

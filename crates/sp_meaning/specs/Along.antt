@@ -3,7 +3,7 @@ use Rattle.std.specs.Prelude.{◌≡◌, ℕ, zero, suc, ◌+◌, Bool, true, fa
 use Rattle.sp_meaning.specs.Model.{Name, Condition, Absent, Works, Waits, Joins, Ended, same_name}
 use Rattle.sp_meaning.specs.Own.{Setting, Held, Address, Process}
 use Rattle.sp_meaning.specs.SuperPascal.{beats}
-use Rattle.sp_meaning.specs.Entries.{Said, Fork, Open, Offer, End, Faulted, Laid, Pause, Entry, is_fault}
+use Rattle.sp_meaning.specs.Entries.{Happening, Opened, Split, Offered, Finished, Failed, LaidDown, Paused, Occurrence, is_fault}
 use Rattle.sp_meaning.specs.Runs.{StateOf, start, running, next, says}
 
 -- the first where the test holds, and else the second
@@ -35,7 +35,7 @@ abbrev pub stopped : Name → Course → Course
 stopped q c = record c { faulted = true; laid = λ r. same_name q r || c.laid r }
 
 -- an entry notes its process's ticks; who faults is laid from there on
-abbrev pub after_entry : Name → Said → ℕ → Course → Course
+abbrev pub after_entry : Name → Happening → ℕ → Course → Course
 after_entry q what n c = if is_fault what then stopped q (noted q n c) else noted q n c
 
 module _ (g : Setting) where
@@ -48,50 +48,50 @@ module _ (g : Setting) where
 
   -- n local steps of q lead from s to t: up to the first moment at which it is due, or its next step is a kernel step
   abbrev pub Turn : ℕ → ℕ → Name → ℕ → StateOf g → StateOf g → Bool → Type 0
-  Turn turn since q zero s t paused = (t ≡ s) × (paused ≡ false) × (own : Process) × (running g s q ≡ Some own) × (what : Said) × (says g s q own ≡ Some what)
+  Turn turn since q zero s t paused = (t ≡ s) × (paused ≡ false) × (own : Process) × (running g s q ≡ Some own) × (what : Happening) × (says g s q own ≡ Some what)
   Turn turn since q (suc n) s t paused =
       (own : Process) × (running g s q ≡ Some own) × (says g s q own ≡ None) × (m : StateOf g) × (next g s q ≡ Some m)
       × Either (due turn since s own q m) ((n ≡ 0) × (t ≡ m) × (paused ≡ true)) (Turn turn since q n m t paused)
 
   -- the entry's step at s: it makes this entry
-  abbrev pub Enters : StateOf g → Name → Said → StateOf g → Type 0
+  abbrev pub Enters : StateOf g → Name → Happening → StateOf g → Type 0
   Enters s q what t = (own : Process) × (running g s q ≡ Some own) × (says g s q own ≡ Some what) × (next g s q ≡ Some t)
 
   -- a kernel step: only where no fault stands, and where the process is not due
-  abbrev pub Kernel : (Course → StateOf g → ℕ → Type 0) → Course → StateOf g → Bool → Name → Said → ℕ → Type 0
+  abbrev pub Kernel : (Course → StateOf g → ℕ → Type 0) → Course → StateOf g → Bool → Name → Happening → ℕ → Type 0
   Kernel left c m paused q what n = (c.faulted ≡ false) × (paused ≡ false) × (u : StateOf g) × (rest : ℕ) × (n ≡ suc rest) × Enters m q what u × left (after_entry q what (ticks_of u q) c) u rest
 
   -- what the entry's process does after its local steps, which led to m, and what is then left. Laid comes only after a fault
-  abbrev pub Entered : (Course → StateOf g → ℕ → Type 0) → Course → StateOf g → Bool → Name → Said → ℕ → Type 0
-  Entered left c m paused q Laid n = (c.faulted ≡ true) × left (stopped q c) m n
-  Entered left c m paused q Pause n = (c.faulted ≡ false) × (paused ≡ true) × left (noted q (ticks_of m q) c) m n
-  Entered left c m paused q (Fork count) n = Kernel left c m paused q (Fork count) n
-  Entered left c m paused q Open n = Kernel left c m paused q Open n
-  Entered left c m paused q (Offer w ch) n = Kernel left c m paused q (Offer w ch) n
-  Entered left c m paused q End n = Kernel left c m paused q End n
-  Entered left c m paused q (Faulted f) n = Kernel left c m paused q (Faulted f) n
+  abbrev pub Entered : (Course → StateOf g → ℕ → Type 0) → Course → StateOf g → Bool → Name → Happening → ℕ → Type 0
+  Entered left c m paused q LaidDown n = (c.faulted ≡ true) × left (stopped q c) m n
+  Entered left c m paused q Paused n = (c.faulted ≡ false) × (paused ≡ true) × left (noted q (ticks_of m q) c) m n
+  Entered left c m paused q (Split count) n = Kernel left c m paused q (Split count) n
+  Entered left c m paused q Opened n = Kernel left c m paused q Opened n
+  Entered left c m paused q (Offered w ch) n = Kernel left c m paused q (Offered w ch) n
+  Entered left c m paused q Finished n = Kernel left c m paused q Finished n
+  Entered left c m paused q (Failed f) n = Kernel left c m paused q (Failed f) n
 
   -- the entries in order lead from s to t by n steps in all, where a process pauses after so many ticks
-  abbrev pub Along : ℕ → Course → StateOf g → List Entry → ℕ → StateOf g → Type 0
+  abbrev pub Along : ℕ → Course → StateOf g → List Occurrence → ℕ → StateOf g → Type 0
   Along turn c s [] n t = (n ≡ 0) × (t ≡ s)
   Along turn c s (e ∷ es) n t =
       (c.laid e.who ≡ false) × (k rest : ℕ) × (m : StateOf g) × (paused : Bool) × (n ≡ k + rest) × Turn turn (c.since e.who) e.who k s m paused
       × Entered (λ c1 u r. Along turn c1 u es r t) c m paused e.who e.what rest
 
   -- along a journal from the start
-  abbrev pub IsAlong : ℕ → List Entry → ℕ → StateOf g → Type 0
+  abbrev pub IsAlong : ℕ → List Occurrence → ℕ → StateOf g → Type 0
   IsAlong turn es n t = Along turn no_course (start g) es n t
 
 -- no entry is Fault or Laid
-abbrev pub IsCleanSaid : Said → Type 0
-IsCleanSaid (Fork n) = Unit
-IsCleanSaid Open = Unit
-IsCleanSaid (Offer w c) = Unit
-IsCleanSaid End = Unit
-IsCleanSaid (Faulted f) = ⊥
-IsCleanSaid Laid = ⊥
-IsCleanSaid Pause = Unit
+abbrev pub IsCleanly : Happening → Type 0
+IsCleanly (Split n) = Unit
+IsCleanly Opened = Unit
+IsCleanly (Offered w c) = Unit
+IsCleanly Finished = Unit
+IsCleanly (Failed f) = ⊥
+IsCleanly LaidDown = ⊥
+IsCleanly Paused = Unit
 
-abbrev pub IsClean : List Entry → Type 0
+abbrev pub IsClean : List Occurrence → Type 0
 IsClean [] = Unit
-IsClean (e ∷ es) = IsCleanSaid e.what × IsClean es
+IsClean (e ∷ es) = IsCleanly e.what × IsClean es

@@ -18,3 +18,4 @@ pub mod Entries
 pub mod Runs
 pub mod Along
 pub mod Ends
+pub mod Laws

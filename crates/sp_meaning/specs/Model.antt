@@ -3,24 +3,7 @@
 use Rattle.std.specs.Prelude.{ℕ, ◌+◌, Bool, true, false, ◌&&◌, List, [], ◌∷◌, Option, Some, ◌==◌}
 use Rattle.sp_base.specs.declared.fault.Fault.{Fault}
 use Rattle.sp_meaning.specs.Maps.{at_key}
-
--- the path from the root, the newest step first: the number of the parent's fork, and of the child in it
-abbrev pub Name : Type 0
-Name = List (ℕ × ℕ)
-
--- a channel is named by who opened it, and how many channels that process had opened before
-pub record Channel : Type 0 where
-  pub owner : Name
-  pub nth : ℕ
-
-abbrev pub same_name : Name → Name → Bool
-same_name [] [] = true
-same_name [] (b ∷ q) = false
-same_name (a ∷ p) [] = false
-same_name (a ∷ p) (b ∷ q) = ((a.0 == b.0) && (a.1 == b.1)) && same_name p q
-
-abbrev pub same_channel : Channel → Channel → Bool
-same_channel a b = same_name a.owner b.owner && (a.nth == b.nth)
+pub use Rattle.sp_journal.specs.Names.{Name, Channel, same_name, same_channel}
 
 -- what a waiting process offers: a value, or a place for one
 pub data Cargo (Value Target : Type 0) : Type 0 where

@@ -6,7 +6,7 @@ use Rattle.sp_meaning.specs.Schedules.{System, Leads}
 use Rattle.sp_meaning.specs.Disjoint.{IsDisjoint}
 use Rattle.sp_meaning.specs.Own.{Setting, Output, Process, bytes_in}
 use Rattle.sp_meaning.specs.SuperPascal.{superpascal, root, first_store}
-use Rattle.sp_meaning.specs.Entries.{Said, Fork, Open, Offer, End, Faulted}
+use Rattle.sp_meaning.specs.Entries.{Happening, Opened, Split, Offered, Finished, Failed}
 
 -- the limits of the totals
 abbrev pub most : Setting → Totals
@@ -36,16 +36,16 @@ abbrev pub Lawful : (g : Setting) → StateOf g → List Name → StateOf g → 
 Lawful g s qs t = Leads (system_of g) s qs t
 
 -- what the entry of a step says, or none where the step is local
-abbrev pub said_of : {L : Language} → ActOf L → Outcome L → Option Said
-said_of a (Faulty f) = Some (Faulted f)
+abbrev pub said_of : {L : Language} → ActOf L → Outcome L → Option Happening
+said_of a (Faulty f) = Some (Failed f)
 said_of (Moves next ws) (Does cs) = None
-said_of (Opens next ws) (Does cs) = Some Open
-said_of (Forks next os) (Does cs) = Some (Fork (length os))
-said_of (Offering o) (Does cs) = Some (Offer (way_of o.cargo) o.channel)
-said_of Ends (Does cs) = Some End
+said_of (Opens next ws) (Does cs) = Some Opened
+said_of (Forks next os) (Does cs) = Some (Split (length os))
+said_of (Offering o) (Does cs) = Some (Offered (way_of o.cargo) o.channel)
+said_of Ends (Does cs) = Some Finished
 said_of (Fails f) (Does cs) = None
 
-abbrev pub says : (g : Setting) → StateOf g → Name → Process → Option Said
+abbrev pub says : (g : Setting) → StateOf g → Name → Process → Option Happening
 says g s q own = said_of ((superpascal g).next own s.store) (outcome (most g) s q ((superpascal g).next own s.store))
 
 -- the bytes written
