@@ -13,4 +13,5 @@ pub mod Run
 pub mod Enough
 pub mod EnoughSteps
 pub mod Moved
+pub mod Sound
 pub mod Reached

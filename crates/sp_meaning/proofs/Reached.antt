@@ -13,7 +13,8 @@ use Rattle.std.specs.Prelude.{nat_lt}
 use Rattle.sp_meaning.specs.SuperPascal.{superpascal, asks, deed_of, act_of, with_todo, weight_of, weight_blocks, main, root, first_store, enough}
 use Rattle.sp_meaning.specs.Runs.{StateOf, start, most, running, next, Lawful}
 use Rattle.sp_meaning.specs.Along.{ticks_in}
-use Rattle.sp_meaning.specs.Laws.{IsNamed, OwnIs}
+use Rattle.sp_meaning.specs.Laws.{IsNamed, OwnIs, IsReached}
+use Rattle.sp_meaning.proofs.Sound.{step_sound}
 use Rattle.sp_meaning.proofs.Maps.{at_other}
 use Rattle.sp_meaning.proofs.Keys.{name_test}
 use Rattle.sp_meaning.proofs.Asking.{answer_then}
@@ -155,3 +156,136 @@ module _ (g : Setting) where
 
   pub acts_well : (t f : ℕ) (p : Name) (pr : Process) (m : Loc → Held) → Light t f p pr → ActsWell K t f p (L.next pr m)
   acts_well t f p pr m h = subst (ActsWell K t f p) (sym (next_is pr m)) (well_by t f p pr (put_by same_loc (asks g pr) m) h (answer same_loc (deed_of g pr) m).0 (deed_is pr m h.light))
+
+  puts_condition : (ws : List (Loc × Held)) (s : StateOf g) → (after (puts {L = L} ws) s).condition ≡ s.condition
+  puts_condition [] s = refl
+  puts_condition (w ∷ ws) s = puts_condition ws (changed (Writes w.0 w.1) s)
+
+  puts_forks : (ws : List (Loc × Held)) (s : StateOf g) → (after (puts {L = L} ws) s).forks ≡ s.forks
+  puts_forks [] s = refl
+  puts_forks (w ∷ ws) s = puts_forks ws (changed (Writes w.0 w.1) s)
+
+  abbrev Well : (Name → ℕ) → StateOf g → Type 0
+  Well t s = Inv K t s.condition s.forks
+
+  puts_well : (t : Name → ℕ) (ws : List (Loc × Held)) (s : StateOf g) → Well t s → Well t (after (puts {L = L} ws) s)
+  puts_well t ws s h = subst (λ (z : Conditions × (Name → ℕ)). Inv K t z.0 z.1) (λ i. (sym (puts_condition ws s) i, sym (puts_forks ws s) i)) h
+
+  -- children of fork n come to be, where none was before and none has forked
+  births_well : (t : Name → ℕ) (p : Name) (n i : ℕ) (os : List Process) (s : StateOf g) → ((j : ℕ) → t ((n, j) ∷ p) ≡ 0) → ((j : ℕ) → s.forks ((n, j) ∷ p) ≡ 0) → Children K p n i os → Well t s → Well t (after (births {L = L} p n i os) s)
+  births_well t p n i [] s nil none h w = w
+  births_well t p n i (o ∷ os) s nil none h w =
+      births_well t p n (suc i) os (changed (Becomes ((n, i) ∷ p) (Works o)) s) nil none h.1
+        (becomes K t s.condition s.forks ((n, i) ∷ p) (Works o) w (subst (λ z. Keeps K z (s.forks ((n, i) ∷ p)) ((n, i) ∷ p) o) (sym (nil i)) (subst (λ z. Keeps K 0 z ((n, i) ∷ p) o) (sym (none i)) h.0)))
+
+  longer : (a : ℕ × ℕ) (p : Name) → p ≢ a ∷ p
+  longer a p e = let x : length p ≡ suc (length p) = ap length e in omega (arith, x)
+
+  module _ (s : StateOf g) (sound : Sound s) (p : Name) where
+    abbrev T : Name → ℕ
+    T q = ticks_in (s.condition q)
+
+    unborn_zero : (j : ℕ) → T ((s.forks p, j) ∷ p) ≡ 0
+    unborn_zero j = ap ticks_in (sound.unborn p (s.forks p) j (le_refl (s.forks p)))
+
+    unborn_never : Well T s → (j : ℕ) → s.forks ((s.forks p, j) ∷ p) ≡ 0
+    unborn_never w j = (subst (λ x. Holds K (T ((s.forks p, j) ∷ p)) (s.forks ((s.forks p, j) ∷ p)) ((s.forks p, j) ∷ p) x) (sound.unborn p (s.forks p) j (le_refl (s.forks p))) (w ((s.forks p, j) ∷ p))).0
+
+    forked_well : Well T s → (o : Process) (os : List Process) → Keeps K (T p) (s.forks p + 1) p o → Children K p (s.forks p) 0 os
+        → Well T (after (births {L = L} p (s.forks p) 0 os) (changed (Adds (record { processes = length os; channels = 0; entries = 1 })) (changed (Forked p) (changed (Becomes p (Joins (s.forks p) (length os) o)) s))))
+    forked_well w o os own children =
+        births_well T p (s.forks p) 0 os (changed (Adds (record { processes = length os; channels = 0; entries = 1 })) (changed (Forked p) (changed (Becomes p (Joins (s.forks p) (length os) o)) s))) unborn_zero
+          (λ j. at_other name_test s.forks p ((s.forks p, j) ∷ p) (s.forks p + 1) (longer (s.forks p, j) p) ∙ unborn_never w j) children joined
+      where
+        joined : (q : Name) → Holds K (T q) (at_key same_name p (s.forks p + 1) s.forks q) q (at_key same_name p (Joins (s.forks p) (length os) o) s.condition q)
+        joined q = go (same_name p q) refl
+          where
+            go : (b : Bool) → same_name p q ≡ b → Holds K (T q) (cond b (s.forks p + 1) (s.forks q)) q (cond b (Joins (s.forks p) (length os) o) (s.condition q))
+            go true e = subst (λ z. Keeps K (T z) (s.forks p + 1) z o) ((name_test p q).0 e) own
+            go false e = w q
+
+    hands_well : Well T s → (o : OfferOf L) (z : Name) (v : OfferOf L) → s.condition z ≡ Waits v → Keeps K (T p) (s.forks p) p o.next → (m : Option (Address × Held)) → Well T (result_of s p (hands {L = L} s p o z v m))
+    hands_well w o z v e own None = w
+    hands_well w o z v e own (Some m) = go (o.kind == v.kind)
+      where
+        waits : Keeps K (T z) (s.forks z) z v.next
+        waits = subst (λ x. Holds K (T z) (s.forks z) z x) e (w z)
+
+        go : (b : Bool) → Well T (result_of s p (if b then Does (meeting {L = L} s p o z v m) else Faulty fault.F7))
+        go true = becomes K T (at_key same_name p (Works o.next) s.condition) s.forks z (Works v.next) (becomes K T s.condition s.forks p (Works o.next) w own) waits
+        go false = w
+
+    meets_well : Well T s → (o : OfferOf L) (z : Name) → Keeps K (T p) (s.forks p) p o.next → (c : ConditionOf L) → s.condition z ≡ c → Well T (result_of s p (meets {L = L} s p o z c))
+    meets_well w o z own Absent e = w
+    meets_well w o z own (Works x) e = w
+    meets_well w o z own (Waits v) e = hands_well w o z v e own (message o.cargo v.cargo)
+    meets_well w o z own (Joins n m x) e = w
+    meets_well w o z own Ended e = w
+
+    offered_well : Well T s → (o : OfferOf L) → Keeps K (T p) (s.forks p) p o.next → (z : Option Name) → Well T (result_of s p (offered {L = L} s p o z))
+    offered_well w o own None = becomes K T s.condition s.forks p (Waits o) w own
+    offered_well w o own (Some z) = meets_well w o z own (s.condition z) refl
+
+    acts_keep : Well T s → (a : ActOf L) → ActsWell K (T p) (s.forks p) p a → Well T (result_of s p (acts {L = L} s p a))
+    acts_keep w (Moves o ws) h = puts_well T ws (changed (Becomes p (Works o)) s) (becomes K T s.condition s.forks p (Works o) w h)
+    acts_keep w (Opens o ws) h = puts_well T ws (changed (Adds (record { processes = 0; channels = 1; entries = 1 })) (changed (Becomes p (Works o)) s)) (becomes K T s.condition s.forks p (Works o) w h)
+    acts_keep w (Forks o os) h = forked_well w o os h.0 h.1
+    acts_keep w (Offering o) h = offered_well w o h (s.pending o.channel)
+    acts_keep w Ends h = becomes K T s.condition s.forks p Ended w tt
+    acts_keep w (Fails f) h = w
+
+    unless_keep : Well T s → (x : Option Fault) (out : Outcome L) → Well T (result_of s p out) → Well T (result_of s p (unless x out))
+    unless_keep w None out h = h
+    unless_keep w (Some f) out h = w
+
+    -- a step of p keeps all this, and no ticks fall
+    pub step_well : Well T s → (m : StateOf g) → next g s p ≡ Some m → Well T m
+    step_well w m e = go (working s p) refl
+      where
+        some_is : (a b : StateOf g) → ◌≡◌ {A = Option (StateOf g)} (Some a) (Some b) → a ≡ b
+        some_is a b e = cc e
+
+        go : (o : Option Process) → working s p ≡ o → Well T m
+        go None r = let x : ◌≡◌ {A = Option (StateOf g)} None (Some m) = sym (ap (step_with (most g) s p) r) ∙ e in absurd (cc x)
+        go (Some pr) r =
+            let a = L.next pr s.store in
+            let keeps = working_keeps K s.condition (T p) (s.forks p) p (s.condition p) pr (w p) r in
+            let to : Well T (result_of s p (outcome (most g) s p a)) = unless_keep w (passed (most g) s.totals (cost a)) (acts s p a) (acts_keep w a (acts_well (T p) (s.forks p) p pr s.store keeps)) in
+            let is : result_of s p (outcome (most g) s p a) ≡ m = some_is (result_of s p (outcome (most g) s p a)) m (sym (ap (step_with (most g) s p) r) ∙ e) in
+            subst (Well T) is to
+
+  abbrev pub Zero : Name → ℕ
+  Zero q = 0
+
+  pub raised : (s : StateOf g) → Well Zero s → Well (λ q. ticks_in (s.condition q)) s
+  raised s w q = raise K 0 (s.forks q) q (s.condition q) (w q)
+
+  pub lowered : (t : Name → ℕ) (s : StateOf g) → Well t s → Well Zero s
+  lowered t s w q = lower K (t q) (s.forks q) q (s.condition q) (w q)
+
+  main_light : (bs : List Block) → weight_blocks bs ≤ K → AllFit K (main g bs)
+  main_light [] h = tt
+  main_light (b ∷ bs) h = go (nat_lt g.limits.cells (size_of_frame g 0))
+    where
+      go : (c : Bool) → AllFit K (if c then Break fault.F12 ∷ [] else push b.body [])
+      go true = (tt, tt)
+      go false = push_fit K b.body [] (omega (arith, h)) tt
+
+  pub start_well : Well Zero (start g)
+  start_well [] = record { named = record { name = refl; forks_are = refl }; light = main_light g.program.blocks (le_refl (weight_blocks g.program.blocks)); later = le_refl 0 }
+  start_well (x ∷ q) = (refl, le_refl 0)
+
+  pub start_sound : Sound (start g)
+  start_sound = record { waits = λ c z e. absurd (cc e); unborn = λ z k i h. refl; joined = λ z k i l. absurd l }
+
+  -- what is known of every state that a lawful schedule leads to
+  pub record Known (s : StateOf g) : Type 0 where
+    pub sound : Sound s
+    pub well : Well Zero s
+
+  pub reached : (qs : List Name) (s t : StateOf g) → Known s → Lawful g s qs t → Known t
+  reached [] s t k l = subst Known (sym l) k
+  reached (q ∷ qs) s t k l = reached qs l.0 t (record { sound = step_sound (most g) s q l.0 k.sound l.2; well = lowered (λ r. ticks_in (s.condition r)) l.0 (step_well s k.sound q (raised s k.well) l.0 l.2) }) l.3
+
+  pub known : (s : StateOf g) → IsReached g s → Known s
+  known s r = reached r.0 (start g) s (record { sound = start_sound; well = start_well }) r.1
