@@ -15,3 +15,5 @@ pub mod EnoughSteps
 pub mod Moved
 pub mod Sound
 pub mod Reached
+pub mod Journeys
+pub mod LawProofs

@@ -126,7 +126,7 @@ module _ (k : ℕ) where
 
 -- the process's own step
 module _ (g : Setting) where
-  abbrev K : ℕ
+  abbrev pub K : ℕ
   K = weight_of g.program
 
   abbrev L : Language

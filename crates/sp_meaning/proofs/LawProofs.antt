@@ -1,0 +1,79 @@
+-- The laws, as the contracts of laws.rt state them.
+use Rattle.std.proofs.Common.{◌≡◌, ◌≢◌, ◌⊎◌, inl, inr, ⊎_elim, ℕ, ◌≤◌, List, [], ◌∷◌, ◌++◌, length, Option, Some, None, refl, sym, ap, ◌∙◌, subst, append-nil}
+use Rattle.sp_base.specs.declared.fault.Fault.{Fault}
+use Rattle.sp_meaning.specs.Model.{Name, Channel, Totals, Language, Moves, Opens, Forks, Offering, Ends, Fails, Ended, State, Faults, changed}
+use Rattle.sp_meaning.specs.Asking.{answer}
+use Rattle.sp_meaning.specs.Steps.{ActOf, OfferOf, ConditionOf, working, Outcome, Does, Faulty, acts, passed, cost, unless, outcome, result_of, step, step_with, WaitsOn, Lives, Sound}
+use Rattle.sp_meaning.specs.Disjoint.{AreParallel, Assigns, WritesIn, Receiving, receiver}
+use Rattle.sp_meaning.specs.Own.{Setting, Loc, Process, Came, Got, Bad, Lost, Long, same_loc}
+use Rattle.sp_meaning.specs.SuperPascal.{superpascal, deed_of}
+use Rattle.sp_meaning.specs.Runs.{StateOf, start, most, running, next, Lawful}
+use Rattle.sp_meaning.specs.Along.{ticks_of, ticks_in}
+use Rattle.sp_meaning.specs.Ends.{IsDone, IsIdle}
+use Rattle.sp_meaning.specs.Laws.{OwnIs, IsReached, IsBounded, HasNotFallen, IsUnwritten, IsAlone}
+use Rattle.sp_meaning.proofs.Instance.{loc_test}
+use Rattle.sp_meaning.proofs.Frames.{WritesTo, all_in, store_frame}
+use Rattle.sp_meaning.proofs.Status.{working_lives}
+use Rattle.sp_meaning.proofs.Parallel.{ancestors_live, parallel}
+use Rattle.sp_meaning.proofs.Reached.{Result, deed_is, working_keeps, risen, own_is, step_well, raised, known, K, Zero}
+use Rattle.sp_meaning.specs.Deeds.{Deed}
+
+module _ (g : Setting) where
+  pub bounded : (s : StateOf g) → IsReached g s → (q : Name) → IsBounded g s q
+  bounded s r q pr run e =
+      let keeps = working_keeps (K g) s.condition 0 (s.forks q) q (s.condition q) pr ((known g s r).well q) run in
+      subst (Result _ _) e (deed_is g pr s.store keeps.light)
+
+  pub named : (s : StateOf g) → IsReached g s → (q : Name) → OwnIs q (s.forks q) (s.condition q)
+  named s r q = own_is (K g) 0 (s.forks q) q (s.condition q) ((known g s r).well q)
+
+  pub not_fallen : (s : StateOf g) → IsReached g s → (p : Name) (t : StateOf g) → next g s p ≡ Some t → (q : Name) → HasNotFallen g s t q
+  not_fallen s r p t e q =
+      let k = known g s r in
+      risen (K g) (ticks_in (s.condition q)) (t.forks q) q (t.condition q) (step_well g s k.sound p (raised g s k.well) t e q)
+
+  pub sound : (s : StateOf g) → IsReached g s → Sound s
+  sound s r = (known g s r).sound
+
+  pub are_parallel : (s : StateOf g) → IsReached g s → (a b : Name) → IsAlone g s a → IsAlone g s b → a ≢ b → AreParallel a b
+  are_parallel s r a b one other apart = parallel s a b (known g s r).sound one other apart
+
+  -- where the root has ended, nobody is running
+  pub done_idle : (s : StateOf g) → IsReached g s → IsDone g s → IsIdle g s
+  done_idle s r done q = by (working s q) refl
+    where
+      by : (o : Option Process) → working s q ≡ o → working s q ≡ None
+      by None e = e
+      by (Some own) e =
+          let lives : Lives (s.condition (q ++ [])) = subst (λ z. Lives (s.condition z)) (sym (append-nil q)) (working_lives s.condition q (s.condition q) own e) in
+          absurd (subst (λ (c : ConditionOf (superpascal g)). Lives c) done (ancestors_live s (known g s r).sound q [] lives))
+
+  writes_there : (s : StateOf g) (p : Name) (own : Process) (l : Loc) → WritesTo s ((superpascal g).next own s.store) l → (who : Name) × WritesIn {L = superpascal g} s p own who l
+  writes_there s p own l h = by ((superpascal g).next own s.store) refl h
+    where
+      by : (a : ActOf (superpascal g)) → (superpascal g).next own s.store ≡ a → WritesTo s a l → (who : Name) × WritesIn {L = superpascal g} s p own who l
+      by (Moves o ws) e w = (p, inl (refl, subst (λ (x : ActOf (superpascal g)). Assigns x l) (sym e) w))
+      by (Opens o ws) e w = (p, inl (refl, subst (λ (x : ActOf (superpascal g)). Assigns x l) (sym e) w))
+      by (Forks o os) e w = absurd w
+      by (Offering o) e w = (receiver o.cargo p w.other, inr (record { offer = o; is = e; goes = w; who_is = refl }))
+      by Ends e w = absurd w
+      by (Fails f) e w = absurd w
+
+  -- what nobody writes in a step stays
+  pub unwritten : (s : StateOf g) (p : Name) (t : StateOf g) → next g s p ≡ Some t → (l : Loc) → IsUnwritten g s p l → t.store l ≡ s.store l
+  unwritten s p t e l free = go (working s p) refl
+    where
+      some_is : (a b : StateOf g) → ◌≡◌ {A = Option (StateOf g)} (Some a) (Some b) → a ≡ b
+      some_is a b e = cc e
+
+      by : (own : Process) → working s p ≡ Some own → (x : Option Fault) (out : Outcome (superpascal g)) → acts s p ((superpascal g).next own s.store) ≡ out → (result_of s p (unless x out)).store l ≡ s.store l
+      by own w None (Does cs) e = store_frame s p ((superpascal g).next own s.store) loc_test l (λ h. let x = writes_there s p own l h in free own w x.0 x.1) cs s (all_in s p ((superpascal g).next own s.store) cs e)
+      by own w None (Faulty f) e = refl
+      by own w (Some f) out e = refl
+
+      go : (o : Option Process) → working s p ≡ o → t.store l ≡ s.store l
+      go None w = let x : ◌≡◌ {A = Option (StateOf g)} None (Some t) = sym (ap (step_with (most g) s p) w) ∙ e in absurd (cc x)
+      go (Some own) w =
+          let a = (superpascal g).next own s.store in
+          let is : result_of s p (outcome (most g) s p a) ≡ t = some_is (result_of s p (outcome (most g) s p a)) t (sym (ap (step_with (most g) s p) w) ∙ e) in
+          subst (λ (z : StateOf g). z.store l ≡ s.store l) is (by own w (passed (most g) s.totals (cost a)) (acts s p a) refl)
