@@ -17,3 +17,6 @@ pub mod Sound
 pub mod Reached
 pub mod Journeys
 pub mod LawProofs
+pub mod Faults
+pub mod Examples
+pub mod Pauses
