@@ -5,7 +5,7 @@ use Rattle.std.proofs.Math.Nat.{mul-le-mul_left}
 use Rattle.std.proofs.lemmas.Bool.{ltb-true}
 use Rattle.sp_base.specs.declared.fault.Fault.{Fault}
 use Rattle.sp_base.specs.declared.fault.Fault.TheVariants as fault
-use Rattle.sp_tree.specs.Plain.{Expr, Typed, Program, Variable, Block, Stmt, Empty, Assign, Call, Sequence, If, IfElse, While, Repeat, For, Case, Parallel, Forall, Assume, ReadValue, ReadLine, WriteValue, WriteText, WriteLine, Open, Send, Receive, Stmts, No, And, On, Arms, NoArm, Or}
+use Rattle.sp_tree.specs.Plain.{Expr, Typed, Variable, Block, Stmt, Empty, Assign, Call, Sequence, If, IfElse, While, Repeat, For, Case, Parallel, Forall, Assume, ReadValue, ReadLine, WriteValue, WriteText, WriteLine, Open, Send, Receive, Stmts, No, And, On, Arms, NoArm, Or}
 use Rattle.sp_meaning.specs.Asking.{Asking, Done, Reads, Puts}
 use Rattle.sp_meaning.specs.Values.{Value, Ordinal, Chan, initials}
 use Rattle.sp_meaning.specs.Own.{Setting, Loc, Output, Held, Written, Address, Frame, Own, Who, Item, Do, First, Again, Test, Leave, Break, Came, Got, Bad, Lost, Long, Work, bind, give, fail, mine, who, become, put, assign, or_lost, tick, deepen, widen, is_block, bytes_in}
@@ -406,8 +406,12 @@ module _ (g : Setting) (k : ℕ) where
   answer_steady t (Some x) = then_steady t _ _ (place_of_steady t g x) (λ q. read_steady t g q)
 
   call_ends : Light → (n : ℕ) → AllEnd n → (t : ℕ) → budget t ≤ n → CallsEnd t g (call_by g (all g n))
-  call_ends l n ih t le = record { by = λ f gs. record { by = λ w o lo. (after_fact t (Entered t) Any (enter g f gs) (ending f) (enter_ends l t f gs) (λ w1 b o1 l1 h.
-      ends_then t Any Any (all g n (push b.body []) w1 o1) (finish b) w1 (ends_weaker o1.ticks t (all g n (push b.body []) w1 o1) l1 (ih.by (push b.body []) w1 o1 (push_fit k b.body [] h.0 tt) (omega (arith, budget_tick t o1.ticks h.1 h.2, push_weight b.body [], h.0, le)))) (λ rest o2 l2 u. (finished b).by w1 o2 l2))).by w o lo } }
+  call_ends l n ih t le = record {
+    by = λ f gs. record {
+      by = λ w o lo. (after_fact t (Entered t) Any (enter g f gs) (ending f) (enter_ends l t f gs) (λ w1 b o1 l1 h.
+          ends_then t Any Any (all g n (push b.body []) w1 o1) (finish b) w1 (ends_weaker o1.ticks t (all g n (push b.body []) w1 o1) l1 (ih.by (push b.body []) w1 o1 (push_fit k b.body [] h.0 tt) (omega (arith, budget_tick t o1.ticks h.1 h.2, push_weight b.body [], h.0, le)))) (λ rest o2 l2 u. (finished b).by w1 o2 l2))).by w o lo;
+    };
+  }
     where
       finish : Block → List Item → Work Value
       finish b rest = bind (answer_of g b.answer) (λ v. bind (leave g) (λ u. give v))
@@ -437,8 +441,10 @@ module _ (g : Setting) (k : ℕ) where
   -- with this bound all that is left comes to an end, to a fault, or breaks a rule
   pub all_ends : Light → (n : ℕ) → AllEnd n
   all_ends l zero = record { by = λ todo w o f h. absurd (omega arith) }
-  all_ends l (suc n) = record { by = λ todo w o f h. ends_then o.ticks (Settled (weights todo)) Any (settle g todo w o) (rest_by g (all g n)) w ((settle_ends o.ticks todo f).by w o (omega arith)) (λ todo1 o1 le fact.
-      ends_weaker o1.ticks o.ticks (rest_by g (all g n) todo1 w o1) le (rest_by_ends l n (all_ends l n) todo1 w o1 fact.1 (omega (arith, budget_mono o.ticks o1.ticks le, fact.0, h)))) }
+  all_ends l (suc n) = record {
+    by = λ todo w o f h. ends_then o.ticks (Settled (weights todo)) Any (settle g todo w o) (rest_by g (all g n)) w ((settle_ends o.ticks todo f).by w o (omega arith)) (λ todo1 o1 le fact.
+        ends_weaker o1.ticks o.ticks (rest_by g (all g n) todo1 w o1) le (rest_by_ends l n (all_ends l n) todo1 w o1 fact.1 (omega (arith, budget_mono o.ticks o1.ticks le, fact.0, h))));
+  }
 
   -- a step of a process with light items never runs out of its bound, and leaves light ones
   pub deed_ends : Light → (n : ℕ) (todo : List Item) (w : Who) (o : Own) → AllFit k todo → budget o.ticks ≤ n → Ends o.ticks (Deeds o.ticks (weights todo)) (deed g n todo w o)

@@ -1,5 +1,5 @@
 -- The language keeps the laws of the model: locations are told apart, and a step goes by what it touches alone.
-use Rattle.std.proofs.Common.{◌≡◌, ℕ, true, ◌&&◌, ◌==◌, List, refl, subst, eqb-true, eq-eqb}
+use Rattle.std.proofs.Common.{◌≡◌, true, ◌&&◌, ◌==◌, refl, subst, eqb-true, eq-eqb}
 use Rattle.sp_meaning.specs.Maps.{IsTest}
 use Rattle.sp_meaning.specs.Model.{same_name}
 use Rattle.sp_meaning.specs.Steps.{Laws}

@@ -1,13 +1,13 @@
 -- Along a journal without a fault goes a lawful schedule of that length.
 use Rattle.std.proofs.Common.{◌≡◌, ℕ, zero, suc, ◌+◌, Bool, true, false, List, [], ◌∷◌, length, Option, Some, None, refl, sym, ap, ◌∙◌, subst, arith}
 use Rattle.sp_base.specs.declared.fault.Fault.{Fault}
-use Rattle.sp_meaning.specs.Model.{Name, Change, after}
+use Rattle.sp_meaning.specs.Model.{Name}
 use Rattle.sp_meaning.specs.Steps.{ActOf, Outcome, Does, Faulty, acts, passed, cost, unless, outcome, result_of, step_with}
 use Rattle.sp_meaning.specs.Own.{Setting, Process}
 use Rattle.sp_meaning.specs.SuperPascal.{superpascal}
 use Rattle.sp_meaning.specs.Entries.{Happening, Opened, Split, Offered, Finished, Failed, LaidDown, Paused, Occurrence}
-use Rattle.sp_meaning.specs.Runs.{StateOf, start, most, running, next, Lawful, said_of, says}
-use Rattle.sp_meaning.specs.Along.{Either, due, Turn, Course, no_course, Kernel, Entered, Along, IsAlong, IsCleanly, IsClean}
+use Rattle.sp_meaning.specs.Runs.{StateOf, most, running, next, Lawful, said_of, says}
+use Rattle.sp_meaning.specs.Along.{Either, due, Turn, Course, Kernel, Entered, Along, IsCleanly, IsClean}
 use Rattle.sp_meaning.proofs.Frames.{all_in, fault_frame}
 
 abbrev IsFine : Option Happening → Type 0
@@ -82,4 +82,4 @@ module _ (g : Setting) where
   along_goes turn [] c s n t a clean f = record { names = []; size = sym a.0; leads = a.1; still = ap (λ (z : StateOf g). z.fault) a.1 ∙ f }
   along_goes turn (e ∷ es) c s n t a clean f =
       subst (λ z. Goes s z t) (sym a.5) (turned turn (c.since e.who) e.who a.1 s a.3 a.4 a.2 t a.6 f
-        (entered_goes _ c a.3 a.4 e.who e.what a.2 t clean.0 a.7 (λ c1 u r b still. along_goes turn es c1 u r t b clean.1 still)))
+      (entered_goes _ c a.3 a.4 e.who e.what a.2 t clean.0 a.7 (λ c1 u r b still. along_goes turn es c1 u r t b clean.1 still)))

@@ -1,22 +1,20 @@
 -- The laws, as the contracts of laws.rt state them.
-use Rattle.std.proofs.Common.{◌≡◌, ◌≢◌, ◌⊎◌, inl, inr, ⊎_elim, ℕ, ◌≤◌, List, [], ◌∷◌, ◌++◌, length, Option, Some, None, refl, sym, ap, ◌∙◌, subst, append-nil}
+use Rattle.std.proofs.Common.{◌≡◌, ◌≢◌, inl, inr, [], ◌++◌, Option, Some, None, refl, sym, ap, ◌∙◌, subst, append-nil}
 use Rattle.sp_base.specs.declared.fault.Fault.{Fault}
-use Rattle.sp_meaning.specs.Model.{Name, Channel, Totals, Language, Moves, Opens, Forks, Offering, Ends, Fails, Ended, State, Faults, changed}
-use Rattle.sp_meaning.specs.Asking.{answer}
-use Rattle.sp_meaning.specs.Steps.{ActOf, OfferOf, ConditionOf, working, Outcome, Does, Faulty, acts, passed, cost, unless, outcome, result_of, step, step_with, WaitsOn, Lives, Sound}
-use Rattle.sp_meaning.specs.Disjoint.{AreParallel, Assigns, WritesIn, Receiving, receiver}
-use Rattle.sp_meaning.specs.Own.{Setting, Loc, Process, Came, Got, Bad, Lost, Long, same_loc}
-use Rattle.sp_meaning.specs.SuperPascal.{superpascal, deed_of}
-use Rattle.sp_meaning.specs.Runs.{StateOf, start, most, running, next, Lawful}
-use Rattle.sp_meaning.specs.Along.{ticks_of, ticks_in}
+use Rattle.sp_meaning.specs.Model.{Name, Moves, Opens, Forks, Offering, Ends, Fails}
+use Rattle.sp_meaning.specs.Steps.{ActOf, ConditionOf, working, Outcome, Does, Faulty, acts, passed, cost, unless, outcome, result_of, step_with, Lives, Sound}
+use Rattle.sp_meaning.specs.Disjoint.{AreParallel, Assigns, WritesIn, receiver}
+use Rattle.sp_meaning.specs.Own.{Setting, Loc, Process}
+use Rattle.sp_meaning.specs.SuperPascal.{superpascal}
+use Rattle.sp_meaning.specs.Runs.{StateOf, most, next}
+use Rattle.sp_meaning.specs.Along.{ticks_in}
 use Rattle.sp_meaning.specs.Ends.{IsDone, IsIdle}
 use Rattle.sp_meaning.specs.Laws.{OwnIs, IsReached, IsBounded, HasNotFallen, IsUnwritten, IsAlone}
 use Rattle.sp_meaning.proofs.Instance.{loc_test}
 use Rattle.sp_meaning.proofs.Frames.{WritesTo, all_in, store_frame}
 use Rattle.sp_meaning.proofs.Status.{working_lives}
 use Rattle.sp_meaning.proofs.Parallel.{ancestors_live, parallel}
-use Rattle.sp_meaning.proofs.Reached.{Result, deed_is, working_keeps, risen, own_is, step_well, raised, known, K, Zero}
-use Rattle.sp_meaning.specs.Deeds.{Deed}
+use Rattle.sp_meaning.proofs.Reached.{Result, deed_is, working_keeps, risen, own_is, step_well, raised, known, K}
 
 module _ (g : Setting) where
   pub bounded : (s : StateOf g) → IsReached g s → (q : Name) → IsBounded g s q

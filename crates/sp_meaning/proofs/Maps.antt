@@ -1,5 +1,5 @@
 -- Maps as functions: look-ups after an update, and updates at different keys.
-use Rattle.std.proofs.Common.{◌≡◌, ◌≢◌, ◌⊎◌, ⊎_elim, inl, inr, Bool, true, false, cond, refl, sym}
+use Rattle.std.proofs.Common.{◌≡◌, ◌≢◌, ◌⊎◌, ⊎_elim, inl, inr, Bool, true, false, refl, sym}
 use Rattle.std.proofs.Math.Path.{fun_ext}
 use Rattle.sp_meaning.specs.Maps.{IsTest, at_key}
 

@@ -1,5 +1,5 @@
 -- A local step of the model is the run of the process's own step on the store.
-use Rattle.std.proofs.Common.{◌≡◌, ℕ, List, Some, refl, ap, ◌∙◌}
+use Rattle.std.proofs.Common.{◌≡◌, List, Some, refl, ap, ◌∙◌}
 use Rattle.sp_meaning.specs.Maps.{at_key}
 use Rattle.sp_meaning.specs.Model.{Name, Language, Moves, Works, same_name, State, Writes, Becomes, changed, after}
 use Rattle.sp_meaning.specs.Asking.{Asking, Done, Reads, Puts, answer, put_by}

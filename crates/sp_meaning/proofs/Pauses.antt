@@ -1,6 +1,6 @@
 -- A process is due after two ticks, pauses, and ends.
 use Rattle.std.proofs.Common.{ℕ, zero, suc, true, false, List, [], ◌∷◌, Option, Some, None, refl}
-use Rattle.sp_tree.specs.Plain.{Program, Empty, For}
+use Rattle.sp_tree.specs.Plain.{Empty, For}
 use Rattle.sp_meaning.specs.Own.{Process}
 use Rattle.sp_meaning.specs.SuperPascal.{root}
 use Rattle.sp_meaning.specs.Own.{Setting}
@@ -28,13 +28,29 @@ abbrev own_at : ℕ → Process
 own_at n = own_by (running loop (at n) [])
 
 pauses : IsAlong loop 2 (record { who = []; what = Paused } ∷ record { who = []; what = Finished } ∷ []) 5 (at 5)
-pauses =
-    (refl, 3, 2, at 3, true, refl,
-      (own_at 0, refl, refl, at 1, refl, (own_at 1, refl, refl, at 2, refl, (own_at 2, refl, refl, at 3, refl, (refl, refl, refl)))),
-      (refl, refl,
-        (refl, 1, 1, at 4, false, refl,
-          (own_at 3, refl, refl, at 4, refl, (refl, refl, own_at 4, refl, Finished, refl)),
-          (refl, refl, at 5, 0, refl, (own_at 4, refl, refl, refl), (refl, refl)))))
+pauses = (
+  refl,
+  3,
+  2,
+  at 3,
+  true,
+  refl,
+  (own_at 0, refl, refl, at 1, refl, (own_at 1, refl, refl, at 2, refl, (own_at 2, refl, refl, at 3, refl, (refl, refl, refl)))),
+  (
+    refl,
+    refl,
+    (
+      refl,
+      1,
+      1,
+      at 4,
+      false,
+      refl,
+      (own_at 3, refl, refl, at 4, refl, (refl, refl, own_at 4, refl, Finished, refl)),
+      (refl, refl, at 5, 0, refl, (own_at 4, refl, refl, refl), (refl, refl)),
+    ),
+  ),
+)
 
 done : IsDone loop (at 5)
 done = refl

@@ -1,17 +1,17 @@
 -- What every step keeps: names, counts of forks, light items; and ticks never fall.
-use Rattle.std.proofs.Common.{◌≡◌, ◌≢◌, ◌⊎◌, inl, inr, ⊎_elim, ℕ, zero, suc, ◌+◌, ◌≤◌, ◌<◌, ◌==◌, Bool, true, false, cond, List, [], ◌∷◌, ◌++◌, length, Option, Some, None, refl, sym, ap, ◌∙◌, subst, arith, if◌then◌else◌, le_refl}
+use Rattle.std.proofs.Common.{◌≡◌, ◌≢◌, ◌⊎◌, inl, inr, ℕ, suc, ◌+◌, ◌≤◌, ◌==◌, Bool, true, false, cond, List, [], ◌∷◌, length, Option, Some, None, refl, sym, ap, ◌∙◌, subst, arith, if◌then◌else◌, le_refl}
 use Rattle.sp_base.specs.declared.fault.Fault.{Fault}
 use Rattle.sp_base.specs.declared.fault.Fault.TheVariants as fault
 use Rattle.sp_tree.specs.Plain.{Block}
 use Rattle.sp_meaning.specs.Maps.{at_key}
-use Rattle.sp_meaning.specs.Model.{Name, Channel, same_name, Totals, Language, Act, Moves, Opens, Forks, Offering, Ends, Fails, Offer, Condition, Absent, Works, Waits, Joins, Ended, State, Change, Becomes, Forked, Writes, Pends, Adds, Faults, changed, after}
-use Rattle.sp_meaning.specs.Asking.{Asking, Done, Reads, Puts, and_then, answer, put_by}
-use Rattle.sp_meaning.specs.Steps.{ActOf, OfferOf, ConditionOf, working, working_in, all_ended, Outcome, Does, Faulty, puts, births, message, an_entry, meeting, waiting, hands, meets, offered, acts, passed, cost, unless, outcome, result_of, step_with, first_condition, Sound}
-use Rattle.sp_meaning.specs.Own.{Setting, Loc, Held, Address, Own, Who, Item, Break, Process, Came, Got, Bad, Lost, Long, same_loc}
-use Rattle.sp_meaning.specs.Deeds.{Birth, Deed, Went, Beat, Opened, Forked as Forked_it, Offered, Over, push, newborn, newborns, size_of_frame}
+use Rattle.sp_meaning.specs.Model.{Name, same_name, Language, Act, Moves, Opens, Forks, Offering, Ends, Fails, Condition, Absent, Works, Waits, Joins, Ended, Becomes, Forked, Writes, Adds, changed, after}
+use Rattle.sp_meaning.specs.Asking.{Asking, Done, Reads, Puts, answer, put_by}
+use Rattle.sp_meaning.specs.Steps.{ActOf, OfferOf, ConditionOf, working, working_in, all_ended, Outcome, Does, Faulty, puts, births, message, meeting, hands, meets, offered, acts, passed, cost, unless, outcome, result_of, step_with, Sound}
+use Rattle.sp_meaning.specs.Own.{Setting, Loc, Held, Address, Own, Who, Break, Process, Came, Got, Bad, Lost, Long, same_loc}
+use Rattle.sp_meaning.specs.Deeds.{Birth, Deed, Went, Beat, Opened, Forked as Forked_it, Offered, Over, push, newborns, size_of_frame}
 use Rattle.std.specs.Prelude.{nat_lt}
-use Rattle.sp_meaning.specs.SuperPascal.{superpascal, asks, deed_of, act_of, with_todo, weight_of, weight_blocks, main, root, first_store, enough}
-use Rattle.sp_meaning.specs.Runs.{StateOf, start, most, running, next, Lawful}
+use Rattle.sp_meaning.specs.SuperPascal.{superpascal, asks, deed_of, act_of, weight_of, weight_blocks, main}
+use Rattle.sp_meaning.specs.Runs.{StateOf, start, most, next, Lawful}
 use Rattle.sp_meaning.specs.Along.{ticks_in}
 use Rattle.sp_meaning.specs.Laws.{IsNamed, OwnIs, IsReached}
 use Rattle.sp_meaning.proofs.Sound.{step_sound}
@@ -176,7 +176,7 @@ module _ (g : Setting) where
   births_well t p n i [] s nil none h w = w
   births_well t p n i (o ∷ os) s nil none h w =
       births_well t p n (suc i) os (changed (Becomes ((n, i) ∷ p) (Works o)) s) nil none h.1
-        (becomes K t s.condition s.forks ((n, i) ∷ p) (Works o) w (subst (λ z. Keeps K z (s.forks ((n, i) ∷ p)) ((n, i) ∷ p) o) (sym (nil i)) (subst (λ z. Keeps K 0 z ((n, i) ∷ p) o) (sym (none i)) h.0)))
+      (becomes K t s.condition s.forks ((n, i) ∷ p) (Works o) w (subst (λ z. Keeps K z (s.forks ((n, i) ∷ p)) ((n, i) ∷ p) o) (sym (nil i)) (subst (λ z. Keeps K 0 z ((n, i) ∷ p) o) (sym (none i)) h.0)))
 
   longer : (a : ℕ × ℕ) (p : Name) → p ≢ a ∷ p
   longer a p e = let x : length p ≡ suc (length p) = ap length e in omega (arith, x)
@@ -195,7 +195,7 @@ module _ (g : Setting) where
         → Well T (after (births {L = L} p (s.forks p) 0 os) (changed (Adds (record { processes = length os; channels = 0; entries = 1 })) (changed (Forked p) (changed (Becomes p (Joins (s.forks p) (length os) o)) s))))
     forked_well w o os own children =
         births_well T p (s.forks p) 0 os (changed (Adds (record { processes = length os; channels = 0; entries = 1 })) (changed (Forked p) (changed (Becomes p (Joins (s.forks p) (length os) o)) s))) unborn_zero
-          (λ j. at_other name_test s.forks p ((s.forks p, j) ∷ p) (s.forks p + 1) (longer (s.forks p, j) p) ∙ unborn_never w j) children joined
+        (λ j. at_other name_test s.forks p ((s.forks p, j) ∷ p) (s.forks p + 1) (longer (s.forks p, j) p) ∙ unborn_never w j) children joined
       where
         joined : (q : Name) → Holds K (T q) (at_key same_name p (s.forks p + 1) s.forks q) q (at_key same_name p (Joins (s.forks p) (length os) o) s.condition q)
         joined q = go (same_name p q) refl

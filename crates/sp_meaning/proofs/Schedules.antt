@@ -1,5 +1,5 @@
 -- Fronts of lawful schedules.
-use Rattle.std.proofs.Common.{◌≡◌, List, [], ◌∷◌, ◌++◌, Option, Some, refl}
+use Rattle.std.proofs.Common.{List, [], ◌∷◌, ◌++◌, refl}
 use Rattle.sp_meaning.specs.Schedules.{System, Leads}
 
 -- the front of a lawful schedule is lawful

@@ -1,10 +1,8 @@
 -- Every step keeps what is known of the state, a faulting one too.
-use Rattle.std.proofs.Common.{◌≡◌, List, Option, Some, None, refl, sym, ap, ◌∙◌, subst}
+use Rattle.std.proofs.Common.{◌≡◌, Option, Some, None, refl, sym, ap, ◌∙◌, subst}
 use Rattle.sp_base.specs.declared.fault.Fault.{Fault}
-use Rattle.sp_meaning.specs.Model.{Name, Totals, Language, Ended, State, Change, Faults, changed, after}
-use Rattle.sp_meaning.specs.Steps.{ActOf, ConditionOf, working, Outcome, Does, Faulty, acts, passed, cost, unless, outcome, result_of, step, step_with, processes, Lives, Sound}
-use Rattle.sp_meaning.specs.Schedules.{IsStuck}
-use Rattle.sp_meaning.proofs.Status.{Makes, working_lives}
+use Rattle.sp_meaning.specs.Model.{Name, Totals, Language, State, Faults, changed}
+use Rattle.sp_meaning.specs.Steps.{working, Outcome, Does, Faulty, acts, passed, cost, unless, outcome, result_of, step, step_with, Sound}
 use Rattle.sp_meaning.proofs.Kept.{sound_kept}
 
 module _ {L : Language} (limits : Totals) (s : State L) (p : Name) where

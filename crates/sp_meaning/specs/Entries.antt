@@ -1,6 +1,5 @@
 -- Entries of a journal by names, as the journal has them.
 use Rattle.std.specs.Prelude.{Bool, true, false}
-use Rattle.sp_journal.specs.Names.{Happening, Opened, Split, Offered, Finished, Failed, LaidDown, Paused}
 pub use Rattle.sp_journal.specs.Names.{Happening, Opened, Split, Offered, Finished, Failed, LaidDown, Paused, Occurrence}
 
 abbrev pub is_fault : Happening → Bool

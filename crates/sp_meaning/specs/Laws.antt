@@ -6,7 +6,7 @@ use Rattle.sp_meaning.specs.Own.{Setting, Loc, Held, Address, Process, Long, sam
 use Rattle.sp_meaning.specs.Steps.{WaitsOn}
 use Rattle.sp_meaning.specs.Disjoint.{WritesIn}
 use Rattle.sp_meaning.specs.SuperPascal.{superpascal, deed_of}
-use Rattle.sp_meaning.specs.Runs.{StateOf, start, running, next, Lawful}
+use Rattle.sp_meaning.specs.Runs.{StateOf, start, running, Lawful}
 use Rattle.sp_meaning.specs.Along.{ticks_of}
 
 -- a process's own part has its name and its count of forks

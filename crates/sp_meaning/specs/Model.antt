@@ -1,6 +1,6 @@
 -- Processes with structural names, channels, a store and totals: the state of a run, and what a step changes.
 -- What one process does next is left to a Language; the rest is concrete.
-use Rattle.std.specs.Prelude.{ℕ, ◌+◌, Bool, true, false, ◌&&◌, List, [], ◌∷◌, Option, Some, ◌==◌}
+use Rattle.std.specs.Prelude.{ℕ, ◌+◌, Bool, List, [], ◌∷◌, Option, Some}
 use Rattle.sp_base.specs.declared.fault.Fault.{Fault}
 use Rattle.sp_meaning.specs.Maps.{at_key}
 pub use Rattle.sp_journal.specs.Names.{Name, Channel, same_name, same_channel}

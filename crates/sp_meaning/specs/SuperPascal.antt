@@ -104,9 +104,16 @@ module _ (g : Setting) where
 
   -- the root: its first frame is the program's. Where that is too large, F12 is its first step
   abbrev pub root : Process
-  root = record { todo = main g.program.blocks; who = record { name = []; forks = 0; opens = 0 }; own = record {
-    frames = record { owner = []; number = 0; home = OfBlock 0; link = 0; references = [] } ∷ [];
-    depth = 0; ticks = 0; cells = size_of_frame g 0 } }
+  root = record {
+    todo = main g.program.blocks;
+    who = record { name = []; forks = 0; opens = 0 };
+    own = record {
+      frames = record { owner = []; number = 0; home = OfBlock 0; link = 0; references = [] } ∷ [];
+      depth = 0;
+      ticks = 0;
+      cells = size_of_frame g 0;
+    };
+  }
 
   -- the first value of a variable of the program
   abbrev pub first_value : ℕ → Value
