@@ -6,3 +6,5 @@ pub mod Words
 pub mod Characters
 pub mod Spelling
 pub mod Grammar
+pub mod Operators
+pub mod Items

@@ -1,0 +1,98 @@
+-- Operators and standard functions of ordinals, as functions to a number or a fault. The meaning and the code share them.
+use Rattle.std.specs.Prelude.{ℤ, pos, ◌+ℤ◌, ◌-ℤ◌, ◌*ℤ◌, neg_ℤ, nat_abs, int_lt, int_le, int_div, int_rem, Bool, ◌&&◌, not, if◌then◌else◌}
+use Rattle.sp_base.specs.declared.fault.Fault.{Fault}
+use Rattle.sp_base.specs.declared.fault.Fault.TheVariants as fault
+use Rattle.sp_base.specs.declared.limits.TheConstants.{MAXINT}
+use Rattle.sp_tree.specs.declared.checked.KindOf.{KindOf}
+use Rattle.sp_tree.specs.declared.checked.KindOf.TheVariants as kind
+use Rattle.sp_tree.specs.declared.operators.UnaryOp.{UnaryOp}
+use Rattle.sp_tree.specs.declared.operators.UnaryOp.TheVariants as unary
+use Rattle.sp_tree.specs.declared.operators.BinaryOp.{BinaryOp}
+use Rattle.sp_tree.specs.declared.operators.BinaryOp.TheVariants as binary
+
+-- what an operator gives: an ordinal, or a fault
+pub data Worked : Type 0 where
+  Yields : (n : ℤ) → Worked
+  Refuses : (fault : Fault) → Worked
+
+-- integers are -maxint to maxint
+abbrev pub is_integer : ℤ → Bool
+is_integer n = int_le (neg_ℤ MAXINT) n && int_le n MAXINT
+
+-- an integer that stays in their range, or F2
+abbrev pub integer : ℤ → Worked
+integer n = if is_integer n then Yields n else Refuses fault.F2
+
+-- false is 0, and true is 1
+abbrev pub truth : Bool → Worked
+truth b = Yields (if b then pos 1 else pos 0)
+
+-- a number in a range, or F1
+abbrev pub ranged : ℤ → ℤ → ℤ → Worked
+ranged low high n = if int_le low n && int_le n high then Yields n else Refuses fault.F1
+
+-- the number after one below the greatest, and the number before one above the least, or F1
+abbrev pub successor : ℤ → ℤ → Worked
+successor high n = if int_lt n high then Yields (n +ℤ pos 1) else Refuses fault.F1
+
+abbrev pub predecessor : ℤ → ℤ → Worked
+predecessor low n = if int_lt low n then Yields (n -ℤ pos 1) else Refuses fault.F1
+
+-- i mod j is from 0 to j - 1 (ISO 7185)
+abbrev pub modulo : ℤ → ℤ → ℤ
+modulo i j = if int_lt (int_rem i j) (pos 0) then int_rem i j +ℤ j else int_rem i j
+
+abbrev pub same_ordinal : ℤ → ℤ → Bool
+same_ordinal m n = int_le m n && int_le n m
+
+abbrev pub is_true : ℤ → Bool
+is_true n = not (int_le n (pos 0))
+
+abbrev pub absolute : ℤ → Worked
+absolute n = integer (pos (nat_abs n))
+
+abbrev pub square : ℤ → Worked
+square n = integer (n *ℤ n)
+
+abbrev pub is_odd : ℤ → Worked
+is_odd n = truth (not (same_ordinal (int_rem n (pos 2)) (pos 0)))
+
+abbrev pub unary_op : UnaryOp → ℤ → Worked
+unary_op unary.Plus n = Yields n
+unary_op unary.Minus n = integer (neg_ℤ n)
+unary_op unary.Not n = truth (int_le n (pos 0))
+
+-- `div` truncates toward zero and is F3 by 0; `mod` is F3 by what is not above 0
+abbrev pub binary_op : BinaryOp → ℤ → ℤ → Worked
+binary_op binary.Eq m n = truth (same_ordinal m n)
+binary_op binary.Ne m n = truth (not (same_ordinal m n))
+binary_op binary.Lt m n = truth (int_lt m n)
+binary_op binary.Le m n = truth (int_le m n)
+binary_op binary.Gt m n = truth (int_lt n m)
+binary_op binary.Ge m n = truth (int_le n m)
+binary_op binary.Add m n = integer (m +ℤ n)
+binary_op binary.Sub m n = integer (m -ℤ n)
+binary_op binary.Or m n = truth (not (int_le (m +ℤ n) (pos 0)))
+binary_op binary.Mul m n = integer (m *ℤ n)
+binary_op binary.Div m n = if same_ordinal n (pos 0) then Refuses fault.F3 else integer (int_div m n)
+binary_op binary.Mod m n = if int_le n (pos 0) then Refuses fault.F3 else integer (modulo m n)
+binary_op binary.And m n = truth (int_le (pos 2) (m +ℤ n))
+
+-- an ordinal type's least and greatest number
+abbrev pub least : KindOf → ℤ
+least kind.Integer = neg_ℤ MAXINT
+least kind.Boolean = pos 0
+least kind.Char = pos 0
+least (kind.Enumeration n) = pos 0
+least (kind.Array low high index element) = pos 0
+least (kind.Fields fs) = pos 0
+least (kind.Channel ks) = pos 0
+
+abbrev pub greatest : KindOf → ℤ
+greatest kind.Integer = MAXINT
+greatest kind.Boolean = pos 1
+greatest kind.Char = pos 255
+greatest (kind.Enumeration n) = pos n -ℤ pos 1
+greatest (kind.Array low high index element) = pos 0
+greatest (kind.Fields fs) = pos 0
+greatest (kind.Channel ks) = pos 0
