@@ -67,7 +67,7 @@ child i = (0, i) ∷ []
 abbrev pub root : Name
 root = []
 
-abbrev sequence : List Stmt → Stmts
+abbrev pub sequence : List Stmt → Stmts
 sequence [] = No
 sequence (s ∷ ss) = And s (sequence ss)
 

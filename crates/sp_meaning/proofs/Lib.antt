@@ -20,3 +20,4 @@ pub mod LawProofs
 pub mod Faults
 pub mod Examples
 pub mod Pauses
+pub mod Rows
