@@ -21,3 +21,4 @@ pub mod Faults
 pub mod Examples
 pub mod Pauses
 pub mod Rows
+pub mod Fronts

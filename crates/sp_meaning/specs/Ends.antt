@@ -1,7 +1,11 @@
 -- How a run ends: done, in a deadlock, or with a fault.
-use Rattle.std.specs.Prelude.{◌≡◌, ◌≢◌, ◌⊎◌, ℕ, Bool, true, false, if◌then◌else◌, nat_lt, List, [], ◌∷◌, reverse, Some, None}
+use Rattle.std.specs.Prelude.{◌≡◌, ◌≢◌, ◌⊎◌, ℕ, Bool, true, false, if◌then◌else◌, nat_lt, List, [], ◌∷◌, map, reverse, Option, Some, None}
 use Rattle.sp_base.specs.declared.fault.Fault.{Fault}
 use Rattle.sp_journal.specs.declared.entry.Way.{Way}
+use Rattle.sp_journal.specs.declared.outcome.End.{End}
+use Rattle.sp_journal.specs.declared.outcome.End.TheVariants as end
+use Rattle.sp_journal.specs.declared.outcome.Waiter.{Waiter}
+use Rattle.sp_journal.specs.Names.{proc_name, chan_name}
 use Rattle.sp_meaning.specs.Model.{Name, Channel, Waits, Ended}
 use Rattle.sp_meaning.specs.Steps.{OfferOf, way_of}
 use Rattle.sp_meaning.specs.Own.{Setting}
@@ -60,3 +64,19 @@ module _ (g : Setting) where
   -- this process met this fault
   abbrev pub HasFault : StateOf g → Name → Fault → Type 0
   HasFault s q f = s.fault ≡ Some (q, f)
+
+-- a waiting process as the program tells it
+abbrev pub waiter_of : Waiting → Waiter
+waiter_of w = record { process = proc_name w.who; way = w.way; channel = chan_name w.channel }
+
+-- the end of a state as the program tells it; a state may have none, and want of memory is the end of none
+abbrev pub EndIs : (g : Setting) → StateOf g → End → Type 0
+EndIs g s end.Done = IsDone g s
+EndIs g s (end.Deadlock ws) = (vs : List Waiting) × IsDeadlock g s vs × (ws ≡ map waiter_of vs)
+EndIs g s (end.Fault p f) = (q : Name) × HasFault g s q f × (p ≡ proc_name q)
+EndIs g s end.Memory = ⊥
+
+-- it has this end, or none
+abbrev pub EndsSo : (g : Setting) → StateOf g → Option End → Type 0
+EndsSo g s None = (e : End) → EndIs g s e → ⊥
+EndsSo g s (Some e) = EndIs g s e

@@ -18,4 +18,5 @@ pub mod Entries
 pub mod Runs
 pub mod Along
 pub mod Ends
+pub mod Fronts
 pub mod Laws

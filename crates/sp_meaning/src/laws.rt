@@ -11,6 +11,7 @@ ghost use Rattle.sp_meaning.specs.Disjoint.{AreParallel};
 ghost use Rattle.sp_meaning.specs.Runs.{StateOf, start, next, Lawful};
 ghost use Rattle.sp_meaning.specs.Along.{IsAlong, IsClean};
 ghost use Rattle.sp_meaning.specs.Ends.{IsDone, IsIdle};
+ghost use Rattle.sp_meaning.specs.Fronts.{IsLongestFront, longest};
 ghost use Rattle.sp_meaning.specs.Laws.{IsReached, IsBounded, HasNotFallen, IsUnwritten, IsAlone, OwnIs};
 
 /// What a step evaluates comes to its end: between two ticks only a bounded stretch of the program is run.
@@ -21,6 +22,12 @@ pub fn steps_end()
 /// The front of a lawful schedule is lawful.
 pub fn fronts_are_lawful()
     ensures { (g : Setting) (ps qs : List Name) (t : StateOf g) → Lawful g (start g) (ps ++ qs) t → (m : StateOf g) × Lawful g (start g) ps m × Lawful g m qs t }
+{}
+
+/// Each schedule has exactly one longest lawful front: `longest` gives its length and its state.
+pub fn longest_fronts_are_exact()
+    ensures is_one { (g : Setting) (qs : List Name) → IsLongestFront g (start g) qs (longest g qs).0 (longest g qs).1 }
+    ensures is_only { (g : Setting) (qs : List Name) (n : ℕ) (t : StateOf g) → IsLongestFront g (start g) qs n t → longest g qs ≡ (n, t) }
 {}
 
 /// Along a journal without a fault the names of the steps are a lawful schedule, as long as the run has steps.

@@ -1,0 +1,34 @@
+-- The longest lawful front of a schedule.
+use Rattle.std.specs.Prelude.{◌≡◌, ◌≢◌, ◌⊎◌, ℕ, suc, List, [], ◌∷◌, ◌++◌, length, Option, Some, None}
+use Rattle.sp_base.specs.declared.fault.Fault.{Fault}
+use Rattle.sp_meaning.specs.Model.{Name}
+use Rattle.sp_meaning.specs.Own.{Setting}
+use Rattle.sp_meaning.specs.Runs.{StateOf, start, next, Lawful}
+
+module _ (g : Setting) where
+  -- the first of these names can make no step: there is none, a fault stands, or it is not running
+  abbrev pub Stops : StateOf g → List Name → Type 0
+  Stops t [] = Unit
+  Stops t (q ∷ qs) = (t.fault ≢ None) ⊎ (next g t q ≡ None)
+
+  -- from s the first n names of the schedule lead lawfully to t, and the next one can make no step
+  pub record IsLongestFront (s : StateOf g) (qs : List Name) (n : ℕ) (t : StateOf g) : Type 0 where
+    pub front : List Name
+    pub rest : List Name
+    pub whole : qs ≡ front ++ rest
+    pub size : length front ≡ n
+    pub leads : Lawful g s front t
+    pub stops : Stops t rest
+
+  abbrev pub go_on_or : (StateOf g → ℕ × StateOf g) → ℕ × StateOf g → Option (Name × Fault) → Option (StateOf g) → ℕ × StateOf g
+  go_on_or go here None None = here
+  go_on_or go here None (Some m) = go m
+  go_on_or go here (Some f) m = here
+
+  -- its length, and its state
+  abbrev pub longest_from : List Name → ℕ → StateOf g → ℕ × StateOf g
+  longest_from [] n s = (n, s)
+  longest_from (q ∷ qs) n s = go_on_or (longest_from qs (suc n)) (n, s) s.fault (next g s q)
+
+  abbrev pub longest : List Name → ℕ × StateOf g
+  longest qs = longest_from qs 0 (start g)
