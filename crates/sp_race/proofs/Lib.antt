@@ -1,0 +1,12 @@
+pub mod Diamond
+pub mod Changes
+pub mod Commuting
+pub mod NotesFrames
+pub mod Rendezvous
+pub mod GoodSteps
+pub mod Linking
+pub mod LinkedSteps
+pub mod Completion
+pub mod Verdict
+pub mod Testing
+pub mod Rows

@@ -1,0 +1,41 @@
+-- The order condition as a test that computes.
+use Rattle.std.specs.Prelude.{ℕ, suc, zero, Bool, true, false, ◌&&◌, if◌then◌else◌, List, [], ◌∷◌, ◌++◌, length, Option, Some, None}
+use Rattle.sp_journal.specs.declared.entry.Way.{Way}
+use Rattle.sp_journal.specs.Names.{Name, Channel, same_way, same_channel, Happening, Opened, Split, Offered, Finished, Failed, LaidDown, Paused, Occurrence}
+use Rattle.sp_journal.specs.Past.{Judged, judged_by, nothing_judged}
+
+-- an offer of this way on this channel
+abbrev pub is_offer : Way → Channel → Happening → Bool
+is_offer w c (Offered v d) = same_way w v && same_channel c d
+is_offer w c Opened = false
+is_offer w c (Split k) = false
+is_offer w c Finished = false
+is_offer w c (Failed f) = false
+is_offer w c LaidDown = false
+is_offer w c Paused = false
+
+-- the completion is there, and p knows it
+abbrev pub is_known : Judged → Name → Option ℕ → Bool
+is_known j p None = false
+is_known j p (Some m) = j.past p m
+
+-- of these entries, from index i on, p knows the completion of each offer of this way on this channel
+abbrev pub knows_all : Judged → Name → Way → Channel → ℕ → List Occurrence → Bool
+knows_all j p w c i [] = true
+knows_all j p w c i (e ∷ es) = (if is_offer w c e.what then is_known j p (j.completed i) else true) && knows_all j p w c (suc i) es
+
+abbrev pub is_in_order : Judged → List Occurrence → Name → Happening → Bool
+is_in_order j done p (Offered w c) = knows_all j p w c 0 done
+is_in_order j done p Opened = true
+is_in_order j done p (Split k) = true
+is_in_order j done p Finished = true
+is_in_order j done p (Failed f) = true
+is_in_order j done p LaidDown = true
+is_in_order j done p Paused = true
+
+abbrev pub order_from : Judged → List Occurrence → List Occurrence → Bool
+order_from j done [] = true
+order_from j done (e ∷ es) = is_in_order j done e.who e.what && order_from (judged_by j (length done) e.who e.what) (done ++ e ∷ []) es
+
+abbrev pub order_test : List Occurrence → Bool
+order_test es = order_from nothing_judged [] es
