@@ -311,9 +311,11 @@ module _ (j : Judged) (done : List Occurrence) (n : ℕ) (paired : Paired j n) (
     complete = old_complete (Offered w c);
     entries = λ d z k e. ⊎_elim
         (λ (same : c ≡ d).
-        let x : ◌≡◌ {A = Name × ℕ} (p, n) (z, k) = some_is (sym (here d same) ∙ e) in
-        (w, subst (λ u. slice_get (longer (Offered w c)) u ≡ Some (record { who = z; what = Offered w d })) (ap (λ (y : Name × ℕ). y.1) x)
-            (last_entry done n (record { who = p; what = Offered w c }) r.size ∙ (λ i. Some (record { who = (ap (λ (y : Name × ℕ). y.0) x) i; what = Offered w (same i) })))))
+        let x : ◌≡◌ {A = Name × ℕ} (p, n) (z, k) = some_is (sym (here d same) ∙ e) in (
+          w,
+          subst (λ u. slice_get (longer (Offered w c)) u ≡ Some (record { who = z; what = Offered w d })) (ap (λ (y : Name × ℕ). y.1) x)
+              (last_entry done n (record { who = p; what = Offered w c }) r.size ∙ (λ i. Some (record { who = (ap (λ (y : Name × ℕ). y.0) x) i; what = Offered w (same i) }))),
+        ))
         (λ (other : c ≢ d). old_entries (Offered w c) d z k (sym (at_other channel_test j.pending c d (Some (p, n)) other) ∙ e))
         (same_or_not channel_test c d);
   }
@@ -417,10 +419,11 @@ completions_by_known : (es done : List Occurrence) (j : Judged) → Paired j (le
 completions_by_known [] done j paired r h = tt
 completions_by_known (e ∷ es) done j paired r h =
     let size : suc (length done) ≡ length (done ++ e ∷ []) = sym (grown_size done (length done) e refl) in
-    let j' = judged_by j (length done) e.who e.what in
-    (completed_by j done (length done) paired r e.who e.what h.0,
-    completions_by_known es (done ++ e ∷ []) j' (subst (Paired j') size (judged_paired j (length done) paired e.who e.what))
-    (subst (Rounded j' (done ++ e ∷ [])) size (judged_rounded j done (length done) paired r e.who e.what)) h.1)
+    let j' = judged_by j (length done) e.who e.what in (
+      completed_by j done (length done) paired r e.who e.what h.0,
+      completions_by_known es (done ++ e ∷ []) j' (subst (Paired j') size (judged_paired j (length done) paired e.who e.what))
+          (subst (Rounded j' (done ++ e ∷ [])) size (judged_rounded j done (length done) paired r e.who e.what)) h.1,
+    )
 
 -- the two order conditions are the same
 pub ordered_known : (es : List Occurrence) → AreOrdered es → AreKnown es

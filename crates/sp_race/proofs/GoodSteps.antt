@@ -1,5 +1,5 @@
 -- A step that is made in a state that a schedule comes to, sets no fault and is ordered: such steps can be exchanged.
-use Rattle.std.proofs.Common.{◌≡◌, ◌≢◌, ◌⊎◌, ⊎_elim, inl, inr, ℕ, Bool, true, false, List, [], ◌∷◌, ◌++◌, length, Option, Some, None, refl, sym, ap, ◌∙◌, subst}
+use Rattle.std.proofs.Common.{◌≡◌, ◌≢◌, ◌⊎◌, ⊎_elim, inl, inr, Bool, true, false, List, [], ◌∷◌, ◌++◌, length, Option, Some, None, refl, sym, ap, ◌∙◌, subst}
 use Rattle.sp_base.specs.declared.fault.Fault.{Fault}
 use Rattle.sp_journal.specs.declared.entry.Way.{Way}
 use Rattle.sp_meaning.specs.Model.{Name, Channel, Totals, Language, Moves, Opens, Forks, Offering, Ends, Fails, Cargo, Gives, Takes, State, Change, after}
@@ -359,9 +359,11 @@ module _ {L : Language} (limits : Totals) (laws : Laws L) (origin : State L) (di
       let next : Leads (processes L limits) origin (way ++ p ∷ []) l.0 = leads_on limits way (p ∷ []) origin s l.0 before (l.0, l.1, l.2, refl) in
       let rest = good_run ps (way ++ p ∷ []) l.0 t n1 next (subst Sound (sym x.to) (sound_kept s p x.cs sound x.makes)) (known_kept n known s p a) l.3 q (o.1 x.makes.own l.0 x.makes.works l.2) in (
         rest.0,
-        (to_notes l.0 n1,
-        record { way = way; leads = before; sound = sound; known = known; quiet = l.1; cs = x.cs; makes = x.makes; to = x.to; noted = refl; knows = o.0 x.makes.own x.makes.works },
-        rest.1),
+        (
+          to_notes l.0 n1,
+          record { way = way; leads = before; sound = sound; known = known; quiet = l.1; cs = x.cs; makes = x.makes; to = x.to; noted = refl; knows = o.0 x.makes.own x.makes.works },
+          rest.1,
+        ),
       )
     where
       after_quiet : (ps : List Name) (m t : State L) → Leads (processes L limits) m ps t → Quiet t → Quiet m

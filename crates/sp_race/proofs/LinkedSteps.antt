@@ -1,18 +1,18 @@
 -- Each kind of step keeps the link between a journal and the notes beside its run.
-use Rattle.std.proofs.Common.{◌≡◌, ◌⊎◌, ⊎_elim, inl, inr, ℕ, zero, suc, ◌+◌, ◌<◌, lt_irrefl, slice_get, eqb-true, eq-eqb, Bool, true, false, cond, ◌||◌, ◌==◌, List, [], ◌∷◌, ◌++◌, length, Option, Some, None, refl, sym, ap, ◌∙◌, subst, arith}
+use Rattle.std.proofs.Common.{◌≡◌, ⊎_elim, inl, inr, ℕ, zero, suc, ◌+◌, ◌<◌, lt_irrefl, eqb-true, eq-eqb, Bool, true, false, cond, ◌||◌, ◌==◌, List, [], ◌∷◌, ◌++◌, length, Option, Some, None, refl, sym, ap, ◌∙◌, subst, arith}
 use Rattle.sp_journal.specs.Names.{Happening, Opened, Split, Offered, Finished, Paused, Occurrence}
 use Rattle.sp_journal.specs.Past.{Judged, learn, teach, report, now, met_now, judged_by}
 use Rattle.sp_meaning.specs.Maps.{at_key}
-use Rattle.sp_meaning.specs.Model.{Name, Channel, same_name, Totals, Language, Moves, Opens, Forks, Offering, Ends, Works, Waits, Joins, Ended, State, Change, Becomes, Forked, Writes, Adds, changed, after}
-use Rattle.sp_meaning.specs.Steps.{OfferOf, Outcome, Does, puts, births, way_of, acts, meeting, waiting, Sound}
-use Rattle.sp_meaning.proofs.Frames.{IsOn, IsNear, all_in, condition_frame, pending_frame}
+use Rattle.sp_meaning.specs.Model.{Name, Channel, same_name, Totals, Language, Moves, Opens, Forks, Offering, Ends, Works, Joins, Ended, State, Change, Becomes, Forked, Writes, Adds, changed, after}
+use Rattle.sp_meaning.specs.Steps.{OfferOf, Outcome, Does, puts, births, way_of, acts, Sound}
+use Rattle.sp_meaning.proofs.Frames.{IsOn, all_in, condition_frame, pending_frame}
 use Rattle.sp_meaning.proofs.Status.{Makes, waiting_far}
 use Rattle.sp_meaning.proofs.Meeting.{met, waited}
-use Rattle.sp_race.specs.Notes.{Event, same_event, both, Notes, Note, Counts, Learns, noted, all_noted, mine, knows, teaches, tells, meeting_notes, offer_notes, notes_of, IsKnowledge}
+use Rattle.sp_race.specs.Notes.{Event, same_event, Notes, Note, Counts, Learns, noted, all_noted, mine, knows, teaches, tells, meeting_notes, offer_notes, notes_of, IsKnowledge}
 use Rattle.sp_race.specs.Noting.{notes_after}
-use Rattle.sp_race.specs.Linked.{known_label, Pended, Recorded, IsPending, Linked}
+use Rattle.sp_race.specs.Linked.{known_label, IsPending, Linked}
 use Rattle.sp_race.proofs.NotesFrames.{HasCount}
-use Rattle.sp_race.proofs.Linking.{labels, past_is, index_is, spread, linked_on, linked_waits, linked_meets, below_or_at, index_apart, not_true, none_is, kept_entry, grown_size}
+use Rattle.sp_race.proofs.Linking.{past_is, index_is, spread, linked_on, linked_waits, linked_meets, below_or_at, index_apart, not_true, none_is, kept_entry, grown_size}
 
 puts_forks : {L : Language} (ws : List (L.Loc × L.Value)) (t : State L) → (after (puts ws) t).forks ≡ t.forks
 puts_forks [] t = refl

@@ -1,18 +1,17 @@
 -- Each step, and each entry that it makes, keep what a journal's pasts and the notes beside the run say of each other.
-use Rattle.std.proofs.Common.{◌≡◌, ◌≢◌, ◌⊎◌, ⊎_elim, inl, inr, ℕ, zero, suc, ◌+◌, ◌<◌, lt_irrefl, lt_of_lt_of_le, length-append, slice_get, eqb-true, eq-eqb, Bool, true, false, cond, ◌&&◌, ◌||◌, ◌==◌, List, [], ◌∷◌, ◌++◌, length, Option, Some, None, nat_lt, refl, sym, ap, ◌∙◌, subst, arith}
+use Rattle.std.proofs.Common.{◌≡◌, ◌≢◌, ◌⊎◌, ⊎_elim, inl, inr, ℕ, zero, suc, ◌<◌, lt_irrefl, lt_of_lt_of_le, length-append, slice_get, eqb-true, eq-eqb, Bool, true, false, cond, ◌&&◌, ◌||◌, ◌==◌, List, [], ◌∷◌, ◌++◌, length, Option, Some, None, nat_lt, refl, sym, ap, ◌∙◌, subst, arith}
 use Rattle.sp_journal.specs.declared.entry.Way.{Way}
 use Rattle.sp_journal.specs.declared.entry.Way.TheVariants as way
-use Rattle.sp_journal.specs.Names.{same_way, Happening, Opened, Split, Offered, Finished, Paused, Occurrence}
-use Rattle.sp_journal.specs.Past.{Judged, learn, teach, report, now, met_now, judged_by}
+use Rattle.sp_journal.specs.Names.{same_way, Happening, Offered, Occurrence}
+use Rattle.sp_journal.specs.Past.{Judged, met_now}
 use Rattle.sp_meaning.specs.Maps.{at_key}
-use Rattle.sp_meaning.specs.Model.{Name, Channel, same_name, same_channel, Totals, Language, Moves, Opens, Forks, Offering, Ends, Works, Waits, Joins, Ended, State, Change, Becomes, Forked, Writes, Adds, changed, after}
-use Rattle.sp_meaning.specs.Steps.{OfferOf, ConditionOf, Outcome, Does, puts, births, way_of, meeting, waiting, acts, message, WaitsOn, Sound}
+use Rattle.sp_meaning.specs.Model.{Name, Channel, same_name, same_channel, Totals, Language, Offering, Works, Waits, State, Change, after}
+use Rattle.sp_meaning.specs.Steps.{OfferOf, ConditionOf, way_of, meeting, waiting, message, WaitsOn, Sound}
 use Rattle.sp_meaning.proofs.Maps.{same_or_not, differs, itself, at_other}
 use Rattle.sp_meaning.proofs.Keys.{name_test, channel_test}
 use Rattle.sp_meaning.proofs.Frames.{IsOn, IsNear, all_in, condition_frame, pending_frame}
-use Rattle.sp_meaning.proofs.Status.{Makes, Stands, waits_stands, waits_one, working_stands, waiting_far}
-use Rattle.sp_meaning.proofs.Meeting.{met, waited}
-use Rattle.sp_race.specs.Notes.{Event, same_event, both, Notes, Note, Counts, Learns, Records, noted, all_noted, mine, knows, teaches, tells, other_way, meeting_notes, offer_notes, notes_of, IsKnowledge, KnowsBefore}
+use Rattle.sp_meaning.proofs.Status.{Makes, waits_stands, waits_one, working_stands, waiting_far}
+use Rattle.sp_race.specs.Notes.{Event, same_event, both, Notes, all_noted, mine, other_way, meeting_notes, notes_of, IsKnowledge, KnowsBefore}
 use Rattle.sp_race.specs.Noting.{notes_after}
 use Rattle.sp_race.specs.Linked.{known_label, Pended, Recorded, IsPending, Linked}
 use Rattle.sp_race.proofs.NotesFrames.{event_test, notes_in, events_frame, offers_frame, events_grow, HasCount, counted, or_cases}
@@ -67,7 +66,7 @@ spread false f known (Some e) = refl
 twice : (b c : Bool) (f kp mp kz mz : Event → Bool) (l : Option Event)
     → known_label (cond b (both (cond c (both f (both (both kp mp) (both kz mz))) f) (both (both kp mp) (both kz mz))) (cond c (both f (both (both kp mp) (both kz mz))) f)) l
     ≡ cond b (cond c (known_label f l || ((known_label kp l || known_label mp l) || (known_label kz l || known_label mz l))) (known_label f l) || ((known_label kp l || known_label mp l) || (known_label kz l || known_label mz l)))
-        (cond c (known_label f l || ((known_label kp l || known_label mp l) || (known_label kz l || known_label mz l))) (known_label f l))
+    (cond c (known_label f l || ((known_label kp l || known_label mp l) || (known_label kz l || known_label mz l))) (known_label f l))
 twice true true f kp mp kz mz None = refl
 twice true false f kp mp kz mz None = refl
 twice false true f kp mp kz mz None = refl

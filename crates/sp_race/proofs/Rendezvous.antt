@@ -1,13 +1,13 @@
 -- Two offers on one channel: who waits and who comes may change places.
-use Rattle.std.proofs.Common.{◌≡◌, ◌≢◌, ◌⊎◌, ⊎_elim, inl, inr, ◌<◌, Bool, true, false, cond, ◌&&◌, ◌||◌, ◌==◌, List, [], ◌∷◌, Option, Some, None, eqb-true, eq-eqb, refl, sym, ap, ◌∙◌, subst, arith}
+use Rattle.std.proofs.Common.{◌≡◌, ◌≢◌, ◌⊎◌, ⊎_elim, inl, inr, ◌<◌, Bool, true, false, cond, ◌&&◌, ◌||◌, ◌==◌, List, [], ◌∷◌, Some, None, eqb-true, eq-eqb, refl, sym, ap, ◌∙◌, subst, arith}
 use Rattle.std.proofs.Math.Path.{fun_ext}
 use Rattle.sp_base.specs.declared.fault.Fault.TheVariants as fault
 use Rattle.sp_journal.specs.declared.entry.Way.{Way}
 use Rattle.sp_journal.specs.declared.entry.Way.TheVariants as way
 use Rattle.sp_journal.specs.Names.{same_way}
 use Rattle.sp_meaning.specs.Maps.{at_key}
-use Rattle.sp_meaning.specs.Model.{Name, Channel, same_name, same_channel, Totals, add, Language, Offering, Cargo, Gives, Takes, Absent, Works, Waits, Joins, Ended, State, Change, after}
-use Rattle.sp_meaning.specs.Steps.{ActOf, OfferOf, ConditionOf, working, Outcome, Does, Faulty, way_of, message, an_entry, meeting, waiting, hands, meets, offered, acts, cost, passed, Sound}
+use Rattle.sp_meaning.specs.Model.{Name, Channel, same_name, same_channel, Totals, add, Language, Offering, Cargo, Gives, Takes, Works, Waits, State, Change, after}
+use Rattle.sp_meaning.specs.Steps.{ActOf, OfferOf, ConditionOf, working, Does, Faulty, way_of, message, an_entry, meeting, waiting, hands, meets, offered, acts, cost, passed, Sound}
 use Rattle.sp_meaning.proofs.Maps.{itself}
 use Rattle.sp_meaning.proofs.Keys.{name_test, channel_test, and_both}
 use Rattle.sp_meaning.proofs.Status.{Makes, working_stands, far, keeps_working, working_no_parent}

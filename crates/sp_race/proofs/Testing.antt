@@ -1,8 +1,8 @@
 -- The test of the order condition is right, both ways.
-use Rattle.std.proofs.Common.{◌≡◌, ℕ, suc, zero, ◌+◌, Bool, true, false, cond, ◌&&◌, if◌then◌else◌, List, [], ◌∷◌, ◌++◌, length, slice_get, Option, Some, None, refl, sym, ap, ◌∙◌, subst, arith}
+use Rattle.std.proofs.Common.{◌≡◌, ℕ, suc, zero, ◌+◌, Bool, true, false, if◌then◌else◌, List, [], ◌∷◌, ◌++◌, length, slice_get, Option, Some, None, refl, sym, ap, ◌∙◌, subst, arith}
 use Rattle.sp_journal.specs.declared.entry.Way.{Way}
 use Rattle.sp_journal.specs.declared.entry.Way.TheVariants as way
-use Rattle.sp_journal.specs.Names.{Name, Channel, same_way, same_channel, Happening, Opened, Split, Offered, Finished, Failed, LaidDown, Paused, Occurrence}
+use Rattle.sp_journal.specs.Names.{Name, Channel, same_way, Happening, Opened, Split, Offered, Finished, Failed, LaidDown, Paused, Occurrence}
 use Rattle.sp_journal.specs.Past.{Judged, judged_by, nothing_judged, KnowsCompletions, CompletedFrom, AreOrdered}
 use Rattle.sp_meaning.proofs.Maps.{itself}
 use Rattle.sp_meaning.proofs.Keys.{channel_test, and_left, and_right, and_both}

@@ -1,10 +1,9 @@
 -- Along an ordered journal goes an ordered schedule, so each schedule ends as it does.
 use Rattle.std.proofs.Common.{◌≡◌, ◌⊎◌, ⊎_elim, ℕ, zero, suc, ◌+◌, Bool, true, false, List, [], ◌∷◌, ◌++◌, length, Option, Some, None, refl, sym, ap, ◌∙◌, subst, arith}
 use Rattle.sp_base.specs.declared.fault.Fault.{Fault}
-use Rattle.sp_journal.specs.declared.entry.Way.{Way}
 use Rattle.sp_journal.specs.Past.{Judged, judged_by, nothing_judged, AreOrdered}
-use Rattle.sp_meaning.specs.Model.{Name, Channel, Language, Moves, Opens, Forks, Offering, Ends, Fails, State, Change, after}
-use Rattle.sp_meaning.specs.Steps.{ActOf, OfferOf, Outcome, Does, Faulty, way_of, acts, unless, outcome, step_with, working, Sound, processes}
+use Rattle.sp_meaning.specs.Model.{Name, Language, Moves, Opens, Forks, Offering, Ends, Fails, Change, after}
+use Rattle.sp_meaning.specs.Steps.{ActOf, Outcome, Does, Faulty, way_of, acts, unless, step_with, Sound}
 use Rattle.sp_meaning.specs.Schedules.{EndsAlike}
 use Rattle.sp_meaning.specs.Own.{Setting, Process}
 use Rattle.sp_meaning.specs.SuperPascal.{superpascal, root, first_store}

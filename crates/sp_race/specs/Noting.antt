@@ -1,5 +1,5 @@
 -- Runs with a judge's notes beside the state.
-use Rattle.std.specs.Prelude.{◌≡◌, List, Option, Some, None}
+use Rattle.std.specs.Prelude.{Option, Some, None}
 use Rattle.sp_meaning.specs.Model.{Name, Totals, Language, State}
 use Rattle.sp_meaning.specs.Steps.{ActOf, outcome, result_of, working, Quiet}
 use Rattle.sp_meaning.specs.Schedules.{System}

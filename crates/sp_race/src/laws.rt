@@ -14,11 +14,9 @@ ghost use Rattle.sp_race.specs.Tested.{order_test};
 /// limits has at most n names, meets no fault, and is the front of one with n names that leads to t. So the output
 /// and the end are those of the run in every schedule.
 pub fn ordered_runs_end_alike()
-    ensures {
-        (g : Setting) (turn : ℕ) (es : List Occurrence) (n : ℕ) (t : StateOf g)
+    ensures { (g : Setting) (turn : ℕ) (es : List Occurrence) (n : ℕ) (t : StateOf g)
         → IsDisjointRun g → IsAlong g turn es n t → IsClean es → (IsDone g t ⊎ IsIdle g t) → AreOrdered es
-        → (qs : List Name) (u : StateOf g) → Lawful g (start g) qs u → EndsAlike (system_of g) (start g) n t qs u
-    }
+        → (qs : List Name) (u : StateOf g) → Lawful g (start g) qs u → EndsAlike (system_of g) (start g) n t qs u }
 {}
 
 /// The order condition asks that a later offer's process knows the completion of each earlier offer of its way on its
