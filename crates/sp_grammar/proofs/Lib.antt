@@ -1,0 +1,4 @@
+pub mod One
+pub mod Run
+pub mod From
+pub mod To

@@ -1,2 +1,5 @@
 pub mod Symbols
 pub mod Table
+pub mod Machine
+pub mod Derives
+pub mod Means

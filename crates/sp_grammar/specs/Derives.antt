@@ -1,0 +1,22 @@
+-- What a symbol takes of the tokens, and what it stands for, as the table has it: by the row of the next token, or nothing
+-- where there is none.
+use Rattle.std.specs.Prelude.{◌≡◌, ℕ, List, [], ◌∷◌, Option, Some, None}
+use Rattle.sp_tree.specs.declared.token.Token.{Token}
+use Rattle.sp_grammar.specs.Symbols.{Symbol, Value, Values, part}
+use Rattle.sp_grammar.specs.Table.{Entry, Row, rows, look, gap, build}
+
+-- a part may begin here
+abbrev pub Begins : (ℕ → List Token → Type 0) → Option ℕ → List Token → Type 0
+Begins Ok None ts = Unit {0}
+Begins Ok (Some d) ts = Ok d ts
+
+module _ (text : List ℕ) (Ok : ℕ → List Token → Type 0) where
+  mutual
+    pub data Derives : (s : Symbol) → List Token → List Token → Value s → Type 0 where
+      takes : {s : Symbol} {ts r : List Token} (t : Token) (e : Entry (Row s)) {vs : Values e.left} → look (rows s) t.kind ≡ Some e → Begins Ok (part s) (t ∷ ts) → DerivesAll e.left ts r vs → Derives s (t ∷ ts) r (build text e.row t vs)
+      skips : {s : Symbol} {r : List Token} (t : Token) {v : Value s} → look (rows s) t.kind ≡ None → gap s t ≡ Some v → Derives s (t ∷ r) (t ∷ r) v
+
+    -- one symbol after another
+    pub data DerivesAll : (l : List Symbol) → List Token → List Token → Values l → Type 0 where
+      none : {r : List Token} → DerivesAll [] r r tt
+      and : {s : Symbol} {l : List Symbol} {ts u r : List Token} {v : Value s} {vs : Values l} → Derives s ts u v → DerivesAll l u r vs → DerivesAll (s ∷ l) ts r (v, vs)

@@ -1,0 +1,70 @@
+-- A machine on a stack of symbols that takes one token at a time.
+use Rattle.std.specs.Prelude.{◌≡◌, ℕ, suc, ◌<◌, Bool, true, false, nat_lt, List, [], ◌∷◌, ◌++◌, Option, Some, None, length, ◌⊎◌}
+use Rattle.sp_tree.specs.declared.token.Token.{Token}
+use Rattle.sp_grammar.specs.Symbols.{Symbol, Value, part}
+use Rattle.sp_grammar.specs.Table.{Entry, Row, rows, look, gap}
+
+-- why it cannot go on: no program goes on so, or a part would lie too deep
+pub data Why : Type 0 where
+  Bad : Why
+  Deep : Why
+
+-- what a symbol does at a token: it takes it and leaves others, or it stands for nothing, or neither
+pub data Act : Type 0 where
+  Take : List Symbol → Act
+  Skip : Act
+  Fail : Why → Act
+
+-- whether a part may lie inside so many others; none: it is no part, or there is no limit
+abbrev pub allows : Option ℕ → Option ℕ → Bool
+allows None d = true
+allows (Some limit) None = true
+allows (Some limit) (Some d) = nat_lt d limit
+
+-- the act by the row of the token, if there is one
+abbrev pub takes_if : Bool → List Symbol → Act
+takes_if true l = Take l
+takes_if false l = Fail Deep
+
+abbrev pub skips_if : {V : Type 0} → Option V → Act
+skips_if None = Fail Bad
+skips_if (Some v) = Skip
+
+abbrev pub acts : {s : Symbol} → Bool → Option (Entry (Row s)) → Option (Value s) → Act
+acts b None g = skips_if g
+acts b (Some e) g = takes_if b e.left
+
+abbrev pub act : Option ℕ → Symbol → Token → Act
+act reach s t = acts (allows reach (part s)) (look (rows s) t.kind) (gap s t)
+
+-- a stack after a token, or why not
+pub data Next : Type 0 where
+  On : List Symbol → Next
+  No : Why → Next
+
+abbrev pub acted : Act → List Symbol → Next → Next
+acted (Take l) stack o = On (l ++ stack)
+acted Skip stack o = o
+acted (Fail w) stack o = No w
+
+abbrev pub after : Option ℕ → List Symbol → Token → Next
+after reach [] t = No Bad
+after reach (s ∷ stack) t = acted (act reach s t) stack (after reach stack t)
+
+-- how a run ends: all is taken and nothing is pending; or why it cannot go on, with how many tokens left
+pub data End : Type 0 where
+  Done : End
+  Stuck : Why → ℕ → End
+
+abbrev pub going : Next → ℕ → (List Symbol → End) → End
+going (No w) n go = Stuck w (suc n)
+going (On stack) n go = go stack
+
+abbrev pub run : Option ℕ → List Token → List Symbol → End
+run reach [] [] = Done
+run reach [] (s ∷ stack) = Stuck Bad 0
+run reach (t ∷ ts) stack = going (after reach stack t) (length ts) (run reach ts)
+
+-- From these tokens and this stack the machine comes to those, or it gets stuck with fewer than k tokens left.
+pub record Leads (reach : Option ℕ) (k : ℕ) (ts : List Token) (j : List Symbol) (r : List Token) (l : List Symbol) : Type 0 where
+  pub by : (run reach ts j ≡ run reach r l) ⊎ ((w : Why) × (n : ℕ) × (n < k) × (run reach ts j ≡ Stuck w n))
