@@ -8,3 +8,9 @@ pub mod Spelling
 pub mod Grammar
 pub mod Operators
 pub mod Items
+pub mod First
+pub mod Places
+pub mod Lexemes
+pub mod Scans
+pub mod Viable
+pub mod Breaches

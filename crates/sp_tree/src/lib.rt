@@ -3,6 +3,7 @@
 
 mod checked;
 mod operators;
+mod profile;
 pub mod sign;
 mod syntax;
 mod token;
@@ -12,6 +13,7 @@ pub use checked::{
     Actual, Arm, Block, Checked, Expr, ExprForm, Form, KindOf, Role, Selector, Stmt, Var, Variable,
 };
 pub use operators::{BinaryOp, StandardFn, UnaryOp};
+pub use profile::{MAX_NAME, MAX_NESTING, MAX_TEXT};
 pub use syntax::{
     Name, SynArg, SynArm, SynBlock, SynBranch, SynConst, SynExpr, SynExprForm, SynForm, SynFormal,
     SynGroup, SynKind, SynPart, SynSelector, SynStmt, SynValue, SynVar, Syntax,
