@@ -1,5 +1,5 @@
 -- The machine follows each symbol.
-use Rattle.std.proofs.Common.{◌≡◌, ℕ, suc, ◌<◌, Bool, true, false, List, ◌∷◌, ◌++◌, length, Option, Some, None, ◌⊎◌, inl, inr, refl, ap, ◌∙◌}
+use Rattle.std.proofs.Common.{◌≡◌, ℕ, ◌<◌, Bool, true, false, List, ◌∷◌, ◌++◌, length, Option, Some, None, ◌⊎◌, inl, inr, refl, ap, ◌∙◌}
 use Rattle.sp_tree.specs.declared.token.Token.{Token}
 use Rattle.sp_grammar.specs.Symbols.{Symbol, Value, Values, part}
 use Rattle.sp_grammar.specs.Table.{Entry, Row, rows, look, gap}
@@ -12,8 +12,8 @@ allows_none None = refl
 allows_none (Some limit) = refl
 
 -- one step
-pub at_act : (reach : Option ℕ) (s : Symbol) (t : Token) (ts : List Token) (q : List Symbol) (a : Act) → act reach s t ≡ a → run reach (t ∷ ts) (s ∷ q) ≡ going (acted a q (after reach q t)) (length ts) (run reach ts)
-at_act reach s t ts q a e = ap (λ a. going (acted a q (after reach q t)) (length ts) (run reach ts)) e
+pub at_act : (reach : Option ℕ) (s : Symbol) (t : Token) (ts : List Token) (q : List Symbol) (a : Act) → act reach s t ≡ a → run reach (t ∷ ts) (s ∷ q) ≡ going (acted a q (after reach q t)) (t ∷ ts) (run reach ts)
+at_act reach s t ts q a e = ap (λ a. going (acted a q (after reach q t)) (t ∷ ts) (run reach ts)) e
 
 pub act_takes : (reach : Option ℕ) (s : Symbol) (t : Token) (e : Entry (Row s)) (b : Bool) → look (rows s) t.kind ≡ Some e → allows reach (part s) ≡ b → act reach s t ≡ takes_if b e.left
 act_takes reach s t e b q p = ap (λ o. acts (allows reach (part s)) o (gap s t)) q ∙ ap (λ b. takes_if b e.left) p
@@ -25,7 +25,7 @@ module _ (text : List ℕ) (Ok : ℕ → List Token → Type 0) (reach : Option 
   abbrev L : List Token → List Symbol → List Token → List Symbol → Type 0
   L ts j r l = Leads reach k ts j r l
 
-  join : (x y z : End) → (x ≡ y) ⊎ ((w : Why) × (n : ℕ) × (n < k) × (x ≡ Stuck w n)) → (y ≡ z) ⊎ ((w : Why) × (n : ℕ) × (n < k) × (y ≡ Stuck w n)) → (x ≡ z) ⊎ ((w : Why) × (n : ℕ) × (n < k) × (x ≡ Stuck w n))
+  join : (x y z : End) → (x ≡ y) ⊎ ((w : Why) × (us : List Token) × (length us < k) × (x ≡ Stuck w us)) → (y ≡ z) ⊎ ((w : Why) × (us : List Token) × (length us < k) × (y ≡ Stuck w us)) → (x ≡ z) ⊎ ((w : Why) × (us : List Token) × (length us < k) × (x ≡ Stuck w us))
   join x y z (inl p) (inl q) = inl (p ∙ q)
   join x y z (inl p) (inr (w, n, h, q)) = inr (w, n, h, p ∙ q)
   join x y z (inr p) q = inr p
@@ -41,7 +41,7 @@ module _ (text : List ℕ) (Ok : ℕ → List Token → Type 0) (reach : Option 
   step : (s : Symbol) (t : Token) (ts : List Token) (q : List Symbol) (e : Entry (Row s)) → look (rows s) t.kind ≡ Some e → (b : Bool) → allows reach (part s) ≡ b → (allows reach (part s) ≡ true) ⊎ (length (t ∷ ts) < k) → L (t ∷ ts) (s ∷ q) ts (e.left ++ q)
   step s t ts q e h true p o = record { by = inl (at_act reach s t ts q (Take e.left) (act_takes reach s t e true h p)) }
   step s t ts q e h false p (inl o) = absurd cc
-  step s t ts q e h false p (inr o) = record { by = inr (Deep, suc (length ts), o, at_act reach s t ts q (Fail Deep) (act_takes reach s t e false h p)) }
+  step s t ts q e h false p (inr o) = record { by = inr (Deep, t ∷ ts, o, at_act reach s t ts q (Fail Deep) (act_takes reach s t e false h p)) }
 
   mutual
     pub leads : {s : Symbol} {ts r : List Token} {v : Value s} → Derives text Ok s ts r v → (q : List Symbol) → L ts (s ∷ q) r q

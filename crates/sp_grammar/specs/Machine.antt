@@ -1,5 +1,5 @@
 -- A machine on a stack of symbols that takes one token at a time.
-use Rattle.std.specs.Prelude.{◌≡◌, ℕ, suc, ◌<◌, Bool, true, false, nat_lt, List, [], ◌∷◌, ◌++◌, Option, Some, None, length, ◌⊎◌}
+use Rattle.std.specs.Prelude.{◌≡◌, ℕ, ◌<◌, Bool, true, false, nat_lt, List, [], ◌∷◌, ◌++◌, Option, Some, None, length, ◌⊎◌}
 use Rattle.sp_tree.specs.declared.token.Token.{Token}
 use Rattle.sp_grammar.specs.Symbols.{Symbol, Value, part}
 use Rattle.sp_grammar.specs.Table.{Entry, Row, rows, look, gap}
@@ -51,20 +51,20 @@ abbrev pub after : Option ℕ → List Symbol → Token → Next
 after reach [] t = No Bad
 after reach (s ∷ stack) t = acted (act reach s t) stack (after reach stack t)
 
--- how a run ends: all is taken and nothing is pending; or why it cannot go on, with how many tokens left
+-- how a run ends: all is taken and nothing is pending; or why it cannot go on, and the tokens that are left
 pub data End : Type 0 where
   Done : End
-  Stuck : Why → ℕ → End
+  Stuck : Why → List Token → End
 
-abbrev pub going : Next → ℕ → (List Symbol → End) → End
-going (No w) n go = Stuck w (suc n)
-going (On stack) n go = go stack
+abbrev pub going : Next → List Token → (List Symbol → End) → End
+going (No w) ts go = Stuck w ts
+going (On stack) ts go = go stack
 
 abbrev pub run : Option ℕ → List Token → List Symbol → End
 run reach [] [] = Done
-run reach [] (s ∷ stack) = Stuck Bad 0
-run reach (t ∷ ts) stack = going (after reach stack t) (length ts) (run reach ts)
+run reach [] (s ∷ stack) = Stuck Bad []
+run reach (t ∷ ts) stack = going (after reach stack t) (t ∷ ts) (run reach ts)
 
 -- From these tokens and this stack the machine comes to those, or it gets stuck with fewer than k tokens left.
 pub record Leads (reach : Option ℕ) (k : ℕ) (ts : List Token) (j : List Symbol) (r : List Token) (l : List Symbol) : Type 0 where
-  pub by : (run reach ts j ≡ run reach r l) ⊎ ((w : Why) × (n : ℕ) × (n < k) × (run reach ts j ≡ Stuck w n))
+  pub by : (run reach ts j ≡ run reach r l) ⊎ ((w : Why) × (us : List Token) × (length us < k) × (run reach ts j ≡ Stuck w us))
