@@ -5,3 +5,6 @@ pub mod To
 pub mod Completes
 pub mod Wider
 pub mod Viable
+pub mod Order
+pub mod Rising
+pub mod Firsts

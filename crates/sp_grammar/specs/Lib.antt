@@ -3,3 +3,4 @@ pub mod Table
 pub mod Machine
 pub mod Derives
 pub mod Means
+pub mod Stops

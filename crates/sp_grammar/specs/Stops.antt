@@ -1,0 +1,22 @@
+-- The rule that is broken where the machine gets stuck.
+use Rattle.std.specs.Prelude.{◌≡◌, ℕ, List, [], ◌∷◌, length, Some}
+use Rattle.sp_base.specs.declared.halt.Refusal.{Refusal}
+use Rattle.sp_base.specs.declared.rule.Rule.TheVariants as rule
+use Rattle.sp_tree.specs.declared.token.Token.{Token}
+use Rattle.sp_tree.specs.Places.{place_at}
+use Rattle.sp_tree.specs.Breaches.{nesting}
+use Rattle.sp_grammar.specs.Symbols.{Symbol}
+use Rattle.sp_grammar.specs.Machine.{Why, Bad, Deep, Stuck, run}
+
+-- by the tokens that are left
+abbrev pub refusal_of : List ℕ → Why → List Token → Refusal
+refusal_of text w [] = record { rule = rule.G2; at = place_at text (length text) }
+refusal_of text Bad (t ∷ ts) = record { rule = rule.G1; at = t.at }
+refusal_of text Deep (t ∷ ts) = record { rule = rule.L2; at = t.at }
+
+-- From these tokens and this stack the machine gets stuck, and this rule is broken there.
+pub record Stops (text : List ℕ) (ts : List Token) (stack : List Symbol) (r : Refusal) : Type 0 where
+  pub why : Why
+  pub rest : List Token
+  pub by : run (Some nesting) ts stack ≡ Stuck why rest
+  pub is : refusal_of text why rest ≡ r
