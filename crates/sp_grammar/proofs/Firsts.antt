@@ -9,7 +9,7 @@ use Rattle.sp_tree.specs.PlainSyntax.{Program}
 use Rattle.sp_tree.specs.Places.{start, place_at}
 use Rattle.sp_tree.specs.Scans.{Scans}
 use Rattle.sp_tree.specs.Grammar.{IsProgram}
-use Rattle.sp_tree.specs.Viable.{Any, Shallow, Spells, IsViable, IsShallow}
+use Rattle.sp_tree.specs.Viable.{Any, Shallow, Spells, IsViable, IsShallow, IsFirstBad}
 use Rattle.sp_tree.specs.First.{before, IsFirst}
 use Rattle.sp_tree.specs.Breaches.{nesting, BreaksGrammar}
 use Rattle.sp_grammar.specs.Symbols.{Symbol, AProgram}
@@ -156,3 +156,14 @@ none_broken text ts p x rule.G1 at b = b.bad (viable_prefix text (b.front ++ b.t
 none_broken text ts p x rule.L2 at b = b.deep (shallow_prefix text nesting (b.front ++ b.token ∷ []) b.rest (subst (IsShallow text nesting) (b.all ∙ back_of (append_assoc b.front (b.token ∷ []) b.rest)) (shallow_whole text ts p x)))
 none_broken text ts p x rule.G2 at b = b.no_program p (spells text ts p x)
 none_broken text ts p x r at b = b
+
+-- at most one token is the first that is not viable
+same_bad : (text : List ℕ) (ts front other : List Token) (t u : Token) (x : IsFirstBad text ts front t) (y : IsFirstBad text ts other u) → Stands front (t ∷ x.rest) other u y.rest → (front ≡ other) × (t ≡ u)
+same_bad text ts front other t u x y (in_front mid e) = absurd (y.bad (viable_prefix text (other ++ u ∷ []) mid (subst (IsViable text) e x.viable)))
+same_bad text ts front other t u x y (behind [] e h) = (back_of (e ∙ append_nil nesting text front), cc)
+same_bad text ts front other t u x y (behind (z ∷ mid) e h) =
+    let same : t ≡ z = cc in
+    absurd (x.bad (viable_prefix text (front ++ t ∷ []) mid (subst (IsViable text) (e ∙ ap (λ z. front ++ z ∷ mid) (back_of same) ∙ back_of (append_assoc front (t ∷ []) mid)) y.viable)))
+
+pub one_bad : (text : List ℕ) (ts front other : List Token) (t u : Token) → IsFirstBad text ts front t → IsFirstBad text ts other u → (front ≡ other) × (t ≡ u)
+one_bad text ts front other t u x y = same_bad text ts front other t u x y (stands front (t ∷ x.rest) other u y.rest (back_of x.all ∙ y.all))

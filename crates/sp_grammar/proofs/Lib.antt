@@ -8,3 +8,4 @@ pub mod Viable
 pub mod Order
 pub mod Rising
 pub mod Firsts
+pub mod OneList

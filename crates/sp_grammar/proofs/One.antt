@@ -1,6 +1,9 @@
 -- A symbol takes at most one list of tokens, and stands for one thing.
 use Rattle.std.proofs.Common.{◌≡◌, ℕ, List, ◌∷◌, Option, Some, None, refl, subst}
 use Rattle.sp_tree.specs.declared.token.Token.{Token}
+use Rattle.sp_tree.specs.PlainSyntax.{Program}
+use Rattle.sp_tree.specs.Viable.{Any, Spells}
+use Rattle.sp_grammar.proofs.To.{program}
 use Rattle.sp_grammar.specs.Symbols.{Symbol, Value, Values}
 use Rattle.sp_grammar.specs.Table.{Entry, Row, rows, look, gap, build}
 use Rattle.sp_grammar.specs.Derives.{Derives, takes, skips, DerivesAll, none, and}
@@ -46,3 +49,7 @@ module _ (text : List ℕ) (Ok : ℕ → List Token → Type 0) where
 -- what two have in common
 pub same_value : {X : Type 0} {r : List Token} {x x' : X} {r' : List Token} → Both X r x r' x' → x ≡ x'
 same_value both = refl
+
+-- Tokens spell one program.
+pub one_program : (text : List ℕ) (ts : List Token) (p q : Program) → Spells text ts p → Spells text ts q → p ≡ q
+one_program text ts p q x y = same_value (unique text Any (program text Any x) (program text Any y))

@@ -1,5 +1,5 @@
 -- Which tokens spell a program, and which are the beginning of some program.
-use Rattle.std.specs.Prelude.{ℕ, ◌<◌, List, [], ◌++◌, length}
+use Rattle.std.specs.Prelude.{◌≡◌, ℕ, ◌<◌, List, [], ◌∷◌, ◌++◌, length}
 use Rattle.sp_tree.specs.declared.token.Token.{Token}
 use Rattle.sp_tree.specs.PlainSyntax.{Program}
 use Rattle.sp_tree.specs.Grammar.{IsProgram}
@@ -23,3 +23,10 @@ IsViable text ts = (rest : List Token) × (p : Program) × Spells text (ts ++ re
 -- The same, and no part that begins in these tokens lies inside limit others.
 abbrev pub IsShallow : List ℕ → ℕ → List Token → Type 0
 IsShallow text limit ts = (rest : List Token) × (p : Program) × IsProgram text (Shallow limit (length rest)) (ts ++ rest) [] p
+
+-- This is the first token with which the tokens are not viable.
+pub record IsFirstBad (text : List ℕ) (ts : List Token) (front : List Token) (token : Token) : Type 0 where
+  pub rest : List Token
+  pub all : ts ≡ front ++ token ∷ rest
+  pub viable : IsViable text front
+  pub bad : IsViable text (front ++ token ∷ []) → ⊥
