@@ -222,3 +222,63 @@ impl Drop for SynExpr {
         }
     }
 }
+
+#[cfg(test)]
+mod tests {
+    use super::*;
+    use std::alloc::{AllocError, Global};
+    use std::test::Fail;
+
+    const PLACE: Place = Place { line: 1, column: 3 };
+
+    fn number(n: u64) -> SynExpr {
+        SynExpr {
+            at: PLACE,
+            form: SynExprForm::Number(n),
+        }
+    }
+
+    fn sum(alloc: Global, left: SynExpr, right: SynExpr) -> Result<SynExpr, AllocError> {
+        let left = Boxed::new(alloc, left)?;
+        let right = Boxed::new(alloc, right)?;
+        Ok(SynExpr {
+            at: PLACE,
+            form: SynExprForm::Binary(BinaryOp::Add, left, right),
+        })
+    }
+
+    #[test]
+    fn takes_a_sum_apart(rt: HostRuntime) -> Result<(), Fail> {
+        let (at, form) = sum(rt.alloc(), number(1), number(2))?.parts();
+        assert_eq!(rt; at, PLACE);
+        assert!(rt; matches!(&form, SynExprForm::Binary(BinaryOp::Add, _, _)));
+        Ok(())
+    }
+
+    #[test]
+    fn drops_400000_operands(rt: HostRuntime) -> Result<(), Fail> {
+        let mut chain = number(0);
+        for _ in 0..400_000u32 {
+            chain = sum(rt.alloc(), chain, number(1))?;
+        }
+        drop(chain);
+        Ok(())
+    }
+
+    #[test]
+    fn drops_1000000_statements(rt: HostRuntime) -> Result<(), Fail> {
+        let mut statements = List::new(rt.alloc());
+        for _ in 0..1_000_000u32 {
+            statements.push(SynStmt {
+                at: PLACE,
+                form: SynForm::Empty,
+            })?;
+        }
+        assert_eq!(rt; statements.len(), 1_000_000);
+        drop(SynStmt {
+            at: PLACE,
+            form: SynForm::Sequence(statements),
+        });
+        Ok(())
+    }
+}
