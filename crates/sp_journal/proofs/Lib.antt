@@ -1,1 +1,5 @@
+mod BirthLaws
+mod Families
+mod LedgerLaws
 mod Rows
+mod Tests

@@ -6,13 +6,9 @@ use Rattle.sp_journal.specs.declared.entry.Event.TheVariants as event
 use Rattle.sp_journal.specs.declared.entry.Entry.{Entry}
 use Rattle.sp_journal.specs.declared.entry.Journal.{Journal}
 use Rattle.sp_journal.specs.declared.entry.Birth.{Birth}
+use Rattle.sp_journal.specs.declared.entry.Opening.{Opening}
 use Rattle.sp_journal.specs.Maps.{at_key}
 use Rattle.sp_journal.specs.Names.{Name, Channel, Happening, Opened, Split, Offered, Finished, Failed, LaidDown, Paused, Occurrence}
-
--- who opened a channel, and how many channels that process had opened before
-pub record Opening : Type 0 where
-  pub owner : ℕ
-  pub nth : ℕ
 
 -- what the entries so far have given
 pub record Births : Type 0 where

@@ -1,4 +1,5 @@
 pub mod Births
+pub mod Ledger
 pub mod Maps
 pub mod Names
 pub mod Past

@@ -53,8 +53,15 @@ pub struct Birth {
     pub child: u32,
 }
 
-/// What happened at one turn of the kernel's lock: the worker, the process that it gave back, the event that
-/// this made, and the process that it got. A note with neither an event nor a process got is an abandon.
+/// How a channel came to be: by which process, and how many channels that one had opened before.
+#[derive(Clone, Copy, Debug, PartialEq, Eq)]
+pub struct Opening {
+    pub owner: u32,
+    pub nth: u32,
+}
+
+/// What happened while the kernel was asked once: the worker that asked, the process that it gave back, the event
+/// that this made, and the process that it got. A note with neither an event nor a process got is an abandon.
 #[derive(Clone, Copy, Debug, PartialEq, Eq)]
 pub struct Note {
     pub worker: u32,

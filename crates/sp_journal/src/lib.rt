@@ -2,8 +2,9 @@
 #![tactic(auto)]
 
 mod entry;
+mod ledger;
 mod outcome;
 mod version;
 
-pub use entry::{Birth, Entry, Event, Journal, Note, Way};
+pub use entry::{Birth, Entry, Event, Journal, Note, Opening, Way};
 pub use outcome::{End, Verdict, Waiter};

@@ -1,0 +1,31 @@
+-- Tests on numbers, as facts.
+use Rattle.std.proofs.Common.{◌≡◌, ◌≢◌, ◌⊎◌, inl, inr, ℕ, ◌+◌, ◌<◌, ◌≤◌, Bool, true, false, cond, ◌&&◌, ◌==◌, nat_lt, nat_le, refl, sym, arith}
+use Rattle.std.proofs.lemmas.Bool.{cases_eq}
+use Rattle.std.proofs.lemmas.Bool.Decides.{nat_tests}
+
+pub here : (j k : ℕ) → j ≡ k → j == k ≡ true
+here j k e = grind (arith, nat_tests)
+
+pub apart : (j k : ℕ) → j ≢ k → j == k ≡ false
+apart j k e = grind (arith, nat_tests)
+
+pub same : (j k : ℕ) → j == k ≡ true → j ≡ k
+same j k e = grind (arith, nat_tests)
+
+pub between : (a q b : ℕ) → a ≤ q → q < b → nat_le a q && nat_lt q b ≡ true
+between a q b l h = grind (arith, nat_tests)
+
+pub below : (a q b : ℕ) → q < a → nat_le a q && nat_lt q b ≡ false
+below a q b l = grind (arith, nat_tests)
+
+pub above : (a q b : ℕ) → b ≤ q → nat_le a q && nat_lt q b ≡ false
+above a q b l = grind (arith, nat_tests)
+
+pub old_or_new : (q a : ℕ) → (q < a) ⊎ (a ≤ q)
+old_or_new q a = elim (nat_lt q a) as (λ b. nat_lt q a ≡ b → (q < a) ⊎ (a ≤ q)) [ true ↦ λ e. inl (is_below q a e) | false ↦ λ e. inr (is_not_below q a e) ] refl
+  where
+    is_below : (q a : ℕ) → nat_lt q a ≡ true → q < a
+    is_below q a e = grind (arith, nat_tests)
+    is_not_below : (q a : ℕ) → nat_lt q a ≡ false → a ≤ q
+    is_not_below q a e = grind (arith, nat_tests)
+

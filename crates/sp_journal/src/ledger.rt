@@ -1,0 +1,198 @@
+//! A journal with the tables of the names that its entries give.
+
+ghost use Rattle.std.specs.Prelude.{◌≡◌, ◌++◌, ◌∷◌, [], ◌<◌, IfOk, OnOk};
+ghost use Rattle.sp_journal.specs.Births.{births, channel, CanFollow};
+ghost use Rattle.sp_journal.specs.Names.{proc_name, chan_name};
+ghost use Rattle.sp_journal.specs.Ledger.{IsLedger};
+
+use crate::entry::{Birth, Entry, Event, Journal, Opening};
+use sp_base::{ChanName, List, Memory, Pair, ProcName};
+use std::alloc::Global;
+use std::collections::HashMap;
+
+/// The children of one fork. They have the numbers from `first` on.
+#[derive(Clone, Copy, Debug)]
+pub(crate) struct Family {
+    first: u64,
+    parent: u32,
+    fork: u32,
+}
+
+/// How many forks and opens a process has made.
+#[derive(Clone, Copy, Debug)]
+pub(crate) struct Made {
+    forks: u64,
+    opens: u64,
+}
+
+/// A journal that grows entry by entry, and what its entries have given so far. A fork takes one place however many
+/// children it has.
+#[derive(Drop)]
+pub(crate) struct Ledger {
+    journal: Journal,
+    processes: u64,
+    families: List<Family>,
+    openings: List<Opening>,
+    made: HashMap<u32, Made>,
+    alloc: Global,
+}
+
+impl Ledger {
+    /// The ledger of the empty journal.
+    pub(crate) fn new(alloc: Global) -> Ledger
+        ensures ledger { IsLedger result }
+        ensures empty { result.journal.entries ≡ [] }
+    {
+        Ledger {
+            journal: Journal {
+                entries: List::new(alloc),
+            },
+            processes: 1,
+            families: List::new(alloc),
+            openings: List::new(alloc),
+            made: HashMap::new(alloc),
+            alloc,
+        }
+    }
+
+    /// The journal as far as it has grown.
+    pub(crate) fn into_journal(self) -> Journal
+        ensures { result ≡ self.journal }
+    {
+        let Ledger { journal, .. } = self;
+        journal
+    }
+
+    /// How many forks and opens this process has made.
+    fn made(&self, process: u32) -> Made
+        requires { IsLedger self.now }
+        ensures forks { result.forks ≡ (births self.now.journal.entries).forks process }
+        ensures opens { result.opens ≡ (births self.now.journal.entries).opens process }
+    {
+        self.made.get(&process).copied().unwrap_or(Made { forks: 0, opens: 0 })
+    }
+
+    /// Takes the next entry in. After `Memory` the ledger is of no more use.
+    pub(crate) fn add(&mut self, entry: Entry) -> Result<(), Memory>
+        requires ledger { IsLedger self.old }
+        requires next { CanFollow (births self.old.journal.entries) entry }
+        ensures ledger { OnOk result (IsLedger self.new) }
+        ensures added { OnOk result (self.new.journal.entries ≡ self.old.journal.entries ++ entry ∷ []) }
+    {
+        match entry.event {
+            Event::Fork(count) => self.add_fork(entry.process, count),
+            Event::Open => self.add_open(entry.process),
+            Event::Send(_)
+            | Event::Receive(_)
+            | Event::End
+            | Event::Fault(_)
+            | Event::Laid
+            | Event::Pause => {
+                self.journal.entries.push(entry)?;
+                Ok(())
+            }
+        }
+    }
+
+    fn add_fork(&mut self, process: u32, count: u32) -> Result<(), Memory>
+        requires ledger { IsLedger self.old }
+        requires next { CanFollow (births self.old.journal.entries) (record { process = process; event = Event.Fork count }) }
+        ensures ledger { OnOk result (IsLedger self.new) }
+        ensures added { OnOk result (self.new.journal.entries ≡ self.old.journal.entries ++ record { process = process; event = Event.Fork count } ∷ []) }
+    {
+        let made = self.made(process);
+        self.families.push(Family {
+            first: self.processes,
+            parent: process,
+            fork: made.forks as u32,
+        })?;
+        let made = Made {
+            forks: made.forks + 1,
+            opens: made.opens,
+        };
+        self.made.insert(process, made)?;
+        self.processes += u64::from(count);
+        self.journal.entries.push(Entry {
+            process,
+            event: Event::Fork(count),
+        })?;
+        Ok(())
+    }
+
+    fn add_open(&mut self, process: u32) -> Result<(), Memory>
+        requires ledger { IsLedger self.old }
+        requires next { CanFollow (births self.old.journal.entries) (record { process = process; event = Event.Open }) }
+        ensures ledger { OnOk result (IsLedger self.new) }
+        ensures added { OnOk result (self.new.journal.entries ≡ self.old.journal.entries ++ record { process = process; event = Event.Open } ∷ []) }
+    {
+        let made = self.made(process);
+        self.openings.push(Opening {
+            owner: process,
+            nth: made.opens as u32,
+        })?;
+        let made = Made {
+            forks: made.forks,
+            opens: made.opens + 1,
+        };
+        self.made.insert(process, made)?;
+        self.journal.entries.push(Entry {
+            process,
+            event: Event::Open,
+        })?;
+        Ok(())
+    }
+
+    /// How this process came to be, which is there. None for the root.
+    pub(crate) fn birth(&self, process: u32) -> Option<Birth>
+        requires ledger { IsLedger self.now }
+        requires there { process < (births self.now.journal.entries).processes }
+        ensures { result ≡ (births self.now.journal.entries).birth process }
+    {
+        let families = self.families.items();
+        let after = families.partition_point(|family| family.first <= u64::from(process));
+        if after == 0 {
+            return None;
+        }
+        let family = &families[after - 1];
+        Some(Birth {
+            parent: family.parent,
+            fork: family.fork,
+            child: (u64::from(process) - family.first) as u32,
+        })
+    }
+
+    /// The name of this process, which is there.
+    pub(crate) fn name(&self, process: u32) -> Result<ProcName, Memory>
+        requires ledger { IsLedger self.now }
+        requires there { process < (births self.now.journal.entries).processes }
+        ensures { IfOk result (λ name. name ≡ proc_name ((births self.now.journal.entries).name process)) }
+    {
+        let mut pairs = Vec::new(self.alloc);
+        let mut at = process;
+        while let Some(birth) = self.birth(at) {
+            pairs.push(Pair {
+                fork: birth.fork,
+                child: birth.child,
+            })?;
+            at = birth.parent;
+        }
+        pairs.reverse();
+        Ok(ProcName {
+            pairs: List::of(pairs),
+        })
+    }
+
+    /// The name of this channel, which is there.
+    pub(crate) fn channel(&self, number: u32) -> Result<ChanName, Memory>
+        requires ledger { IsLedger self.now }
+        requires there { number < (births self.now.journal.entries).channels }
+        ensures { IfOk result (λ name. name ≡ chan_name (channel (births self.now.journal.entries) number)) }
+    {
+        let opening = self.openings.items()[number as usize];
+        let owner = self.name(opening.owner)?;
+        Ok(ChanName {
+            owner,
+            nth: opening.nth,
+        })
+    }
+}
