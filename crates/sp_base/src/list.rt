@@ -66,6 +66,11 @@ impl<T> List<T> {
         self.inner.is_empty()
     }
 
+    /// The allocator that the list keeps.
+    pub fn alloc(&self) -> Global {
+        *self.inner.allocator()
+    }
+
     /// An empty list. It takes no memory, and keeps the allocator for `push`.
     pub fn new(alloc: Global) -> List<T>
         ensures { result ≡ [] }

@@ -1,5 +1,5 @@
 -- Laws of what a nameable journal gives.
-use Rattle.std.proofs.Common.{◌≡◌, ◌≢◌, ◌⊎◌, ⊎_elim, inl, inr, ℕ, zero, suc, ◌+◌, ◌-◌, ◌^◌, ◌<◌, ◌≤◌, Bool, true, false, cond, ◌&&◌, ◌==◌, nat_lt, nat_le, List, [], ◌∷◌, ◌++◌, Option, Some, None, refl, sym, ap, ◌∙◌, subst, arith}
+use Rattle.std.proofs.Common.{◌≡◌, ◌≢◌, ⊎_elim, ℕ, ◌+◌, ◌-◌, ◌^◌, ◌<◌, ◌≤◌, cond, List, [], ◌∷◌, ◌++◌, Some, None, refl, sym, ap, ◌∙◌, subst, arith}
 use Rattle.std.proofs.lemmas.Bool.{cases_eq}
 use Rattle.sp_journal.specs.declared.entry.Birth.{Birth}
 use Rattle.sp_journal.specs.declared.entry.Opening.{Opening}
@@ -33,6 +33,7 @@ pub record Lawful (s : Births) : Type 0 where
   pub no_birth : s.birth 0 ≡ None
   pub no_name : s.name 0 ≡ []
   pub born : (q : ℕ) → 0 < q → q < s.processes → Born s q
+  pub unborn : (q : ℕ) → s.processes ≤ q → s.birth q ≡ None
   pub one_name : (q r : ℕ) → q < s.processes → r < s.processes → s.name q ≡ s.name r → q ≡ r
   pub owned : (c : ℕ) → c < s.channels → (s.opening c).owner < s.processes
   pub counted : (c : ℕ) → c < s.channels → (s.opening c).nth < s.opens (s.opening c).owner
@@ -41,18 +42,19 @@ pub record Lawful (s : Births) : Type 0 where
 
 pub lawful_start : Lawful at_start
 lawful_start = record {
-    some = omega arith;
-    few = omega arith;
-    few_channels = omega arith;
-    no_birth = refl;
-    no_name = refl;
-    born = λ q l h. absurd (omega arith);
-    one_name = λ q r l h e. omega arith;
-    owned = λ c l. absurd (omega arith);
-    counted = λ c l. absurd (omega arith);
-    small_nth = λ c l. absurd (omega arith);
-    one_opening = λ c d l h e. absurd (omega arith);
-  }
+  some = omega arith;
+  few = omega arith;
+  few_channels = omega arith;
+  no_birth = refl;
+  no_name = refl;
+  born = λ q l h. absurd (omega arith);
+  unborn = λ q l. refl;
+  one_name = λ q r l h e. omega arith;
+  owned = λ c l. absurd (omega arith);
+  counted = λ c l. absurd (omega arith);
+  small_nth = λ c l. absurd (omega arith);
+  one_opening = λ c d l h e. absurd (omega arith);
+}
 
 module _ (s : Births) (lawful : Lawful s) (p n : ℕ) (there : p < s.processes) (fits : s.processes + n ≤ 2 ^ 32) (fork : s.forks p < 2 ^ 32) where
   abbrev pub after : Births
@@ -98,14 +100,14 @@ module _ (s : Births) (lawful : Lawful s) (p n : ℕ) (there : p < s.processes) 
 
   new_born : (q : ℕ) → s.processes ≤ q → q < s.processes + n → Born after q
   new_born q l h = record {
-      birth = its_birth q;
-      is = new_birth q l h;
-      named = new_name q l h ∙ ap (λ (x : Name). (s.forks p, q - s.processes) ∷ x) (sym (old_name p there));
-      older = omega arith;
-      made = one_more;
-      small_fork = fork;
-      small_child = omega arith;
-    }
+    birth = its_birth q;
+    is = new_birth q l h;
+    named = new_name q l h ∙ ap (λ (x : Name). (s.forks p, q - s.processes) ∷ x) (sym (old_name p there));
+    older = omega arith;
+    made = one_more;
+    small_fork = fork;
+    small_child = omega arith;
+  }
 
   -- a child of this fork has no name of an earlier process
   fresh : (q r : ℕ) → s.processes ≤ q → q < s.processes + n → r < s.processes → after.name q ≡ after.name r → ⊥
@@ -113,8 +115,10 @@ module _ (s : Births) (lawful : Lawful s) (p n : ℕ) (there : p < s.processes) 
     where
       same_names : (s.forks p, q - s.processes) ∷ s.name p ≡ s.name r
       same_names = sym (new_name q l h) ∙ e ∙ old_name r k
+
       root : r < 1 → ⊥
       root z = let i : r ≡ 0 = omega arith in let f : s.name r ≡ [] = ap s.name i ∙ lawful.no_name in cc (same_names, f)
+
       child : 1 ≤ r → ⊥
       child z =
           let b = lawful.born r (omega arith) k in
@@ -128,24 +132,26 @@ module _ (s : Births) (lawful : Lawful s) (p n : ℕ) (there : p < s.processes) 
 
   fork_lawful : Lawful after
   fork_lawful = record {
-      some = let z = lawful.some in omega arith;
-      few = fits;
-      few_channels = lawful.few_channels;
-      no_birth = old_birth 0 lawful.some ∙ lawful.no_birth;
-      no_name = old_name 0 lawful.some ∙ lawful.no_name;
-      born = λ q z l. ⊎_elim (λ (o : q < s.processes). old_born q z o) (λ (o : s.processes ≤ q). new_born q o l) (old_or_new q s.processes);
-      one_name = one_name;
-      owned = λ c l. let o = lawful.owned c l in omega arith;
-      counted = lawful.counted;
-      small_nth = lawful.small_nth;
-      one_opening = lawful.one_opening;
-    }
+    some = let z = lawful.some in omega arith;
+    few = fits;
+    few_channels = lawful.few_channels;
+    no_birth = old_birth 0 lawful.some ∙ lawful.no_birth;
+    no_name = old_name 0 lawful.some ∙ lawful.no_name;
+    born = λ q z l. ⊎_elim (λ (o : q < s.processes). old_born q z o) (λ (o : s.processes ≤ q). new_born q o l) (old_or_new q s.processes);
+    unborn = λ q l. ap (λ b. cond b (Some (its_birth q)) (s.birth q)) (above s.processes q (s.processes + n) l) ∙ lawful.unborn q (omega arith);
+    one_name = one_name;
+    owned = λ c l. let o = lawful.owned c l in omega arith;
+    counted = lawful.counted;
+    small_nth = lawful.small_nth;
+    one_opening = lawful.one_opening;
+  }
     where
       both_new : (q r : ℕ) → s.processes ≤ q → s.processes ≤ r → q < s.processes + n → r < s.processes + n → after.name q ≡ after.name r → q ≡ r
       both_new q r a b l h e =
           let f : (s.forks p, q - s.processes) ∷ s.name p ≡ (s.forks p, r - s.processes) ∷ s.name p = sym (new_name q a l) ∙ e ∙ new_name r b h in
           let g : q - s.processes ≡ r - s.processes = ap (λ (x : ℕ × ℕ). x.1) (step_same _ _ _ _ f) in
           omega arith
+
       one_name : (q r : ℕ) → q < s.processes + n → r < s.processes + n → after.name q ≡ after.name r → q ≡ r
       one_name q r l h e = ⊎_elim
           (λ (a : q < s.processes). ⊎_elim
@@ -197,27 +203,28 @@ module _ (s : Births) (lawful : Lawful s) (p : ℕ) (there : p < s.processes) (f
 
   open_lawful : Lawful opened
   open_lawful = record {
-      some = lawful.some;
-      few = lawful.few;
-      few_channels = omega arith;
-      no_birth = lawful.no_birth;
-      no_name = lawful.no_name;
-      born = λ q z l. let b = lawful.born q z l in record { birth = b.birth; is = b.is; named = b.named; older = b.older; made = b.made; small_fork = b.small_fork; small_child = b.small_child };
-      one_name = lawful.one_name;
-      owned = at_opening (λ c o. o.owner < s.processes) lawful.owned (λ c. there);
-      counted = at_opening (λ c o. o.nth < opened.opens o.owner) (λ c l. let a = lawful.counted c l in let b = more_opens (s.opening c).owner in omega arith) (λ c. one_more_open);
-      small_nth = at_opening (λ c o. o.nth < 2 ^ 32) lawful.small_nth (λ c. small);
-      one_opening = λ c d l h e. ⊎_elim
-          (λ (a : c < s.channels). ⊎_elim
-          (λ (b : d < s.channels). lawful.one_opening c d a b (sym (old_opening c a) ∙ e ∙ old_opening d b))
-          (λ (b : s.channels ≤ d). absurd (new_channel c d a b h e))
-          (old_or_new d s.channels))
-          (λ (a : s.channels ≤ c). ⊎_elim
-          (λ (b : d < s.channels). absurd (new_channel d c b a l (sym e)))
-          (λ (b : s.channels ≤ d). omega arith)
-          (old_or_new d s.channels))
-          (old_or_new c s.channels);
-    }
+    some = lawful.some;
+    few = lawful.few;
+    few_channels = omega arith;
+    no_birth = lawful.no_birth;
+    no_name = lawful.no_name;
+    born = λ q z l. let b = lawful.born q z l in record { birth = b.birth; is = b.is; named = b.named; older = b.older; made = b.made; small_fork = b.small_fork; small_child = b.small_child };
+    unborn = lawful.unborn;
+    one_name = lawful.one_name;
+    owned = at_opening (λ c o. o.owner < s.processes) lawful.owned (λ c. there);
+    counted = at_opening (λ c o. o.nth < opened.opens o.owner) (λ c l. let a = lawful.counted c l in let b = more_opens (s.opening c).owner in omega arith) (λ c. one_more_open);
+    small_nth = at_opening (λ c o. o.nth < 2 ^ 32) lawful.small_nth (λ c. small);
+    one_opening = λ c d l h e. ⊎_elim
+        (λ (a : c < s.channels). ⊎_elim
+        (λ (b : d < s.channels). lawful.one_opening c d a b (sym (old_opening c a) ∙ e ∙ old_opening d b))
+        (λ (b : s.channels ≤ d). absurd (new_channel c d a b h e))
+        (old_or_new d s.channels))
+        (λ (a : s.channels ≤ c). ⊎_elim
+        (λ (b : d < s.channels). absurd (new_channel d c b a l (sym e)))
+        (λ (b : s.channels ≤ d). omega arith)
+        (old_or_new d s.channels))
+        (old_or_new c s.channels);
+  }
 
 by_event : (s : Births) → Lawful s → (p : ℕ) → p < s.processes → (e : Event) → GivesNumbers s p e → Lawful (after_event s p e)
 by_event s l p t (event.Fork n) g = fork_lawful s l p n t g.0 g.1

@@ -1,23 +1,20 @@
 -- A ledger after one more entry.
-use Rattle.std.proofs.Common.{◌≡◌, ◌≢◌, ◌⊎◌, ⊎_elim, ℕ, zero, suc, ◌+◌, ◌-◌, ◌<◌, ◌≤◌, Bool, true, false, cond, ◌==◌, nat_eq, nat_le, List, [], ◌∷◌, ◌++◌, length, length-append, get_or, Option, Some, None, slice_get, unwrap_or, refl, sym, ap, ◌∙◌, subst, arith}
+use Rattle.std.proofs.Common.{◌≡◌, ◌≢◌, ⊎_elim, ℕ, zero, suc, ◌+◌, ◌-◌, ◌<◌, ◌≤◌, cond, nat_eq, List, [], ◌∷◌, ◌++◌, length, length-append, get_or, Option, Some, slice_get, unwrap_or, refl, sym, ap, ◌∙◌, subst, arith}
 use Rattle.std.specs.Option.{option_map}
 use Rattle.std.specs.HashMap as hash
 use Rattle.std.proofs.lemmas.Bool.{cases_eq}
 use Rattle.std.proofs.lemmas.List.Sorted.{IsNonDecreasingBy-push}
-use Rattle.std.proofs.lemmas.Grind.{common_steps}
 use Rattle.std.specs.List.Sorted.{IsNonDecreasingBy}
-use Rattle.sp_journal.specs.declared.entry.Birth.{Birth}
 use Rattle.sp_journal.specs.declared.entry.Opening.{Opening}
-use Rattle.sp_journal.specs.declared.entry.Entry.{Entry}
 use Rattle.sp_journal.specs.declared.entry.Event.{Event}
 use Rattle.sp_journal.specs.declared.entry.Event.TheVariants as event
 use Rattle.sp_journal.specs.declared.ledger.Family.{Family}
 use Rattle.sp_journal.specs.declared.ledger.Made.{Made}
 use Rattle.sp_journal.specs.declared.ledger.Ledger.{Ledger}
-use Rattle.sp_journal.specs.Births.{Births, at_start, after_event, after_entry, births, CanFollow, NameableFrom}
-use Rattle.sp_journal.specs.Ledger.{IsLedger, family_of, birth_in, nothing_made}
+use Rattle.sp_journal.specs.Births.{Births, at_start, after_event, births, CanFollow, NameableFrom}
+use Rattle.sp_journal.specs.Ledger.{IsLedger, birth_in, nothing_made}
 use Rattle.sp_journal.proofs.Tests.{here, apart, old_or_new}
-use Rattle.sp_journal.proofs.BirthLaws.{births_last, nameable_last, old_birth, new_birth, old_opening, new_opening, Lawful, lawful}
+use Rattle.sp_journal.proofs.BirthLaws.{births_last, nameable_last, old_birth, new_birth, old_opening, new_opening, lawful}
 use Rattle.sp_journal.proofs.Families.{family_push_above, family_push_at, birth_of}
 
 -- an element of a list with one more at its end
@@ -47,35 +44,35 @@ module _ (l m : Ledger) (p : ℕ) (ledger : IsLedger l) where
       (openings : m.openings ≡ l.openings)
       (made : (q : ℕ) → hash.get nat_eq m.made q ≡ cond (nat_eq p q) (Some (record { forks = was.forks p + 1; opens = was.opens p })) (hash.get nat_eq l.made q))
     where
-    abbrev its_family : Family
-    its_family = record { first = l.processes; parent = p; fork = was.forks p }
+      abbrev its_family : Family
+      its_family = record { first = l.processes; parent = p; fork = was.forks p }
 
-    now_is : births m.journal.entries ≡ after_event was p (event.Fork n)
-    now_is = ap births journal ∙ births_last l.journal.entries (record { process = p; event = event.Fork n })
+      now_is : births m.journal.entries ≡ after_event was p (event.Fork n)
+      now_is = ap births journal ∙ births_last l.journal.entries (record { process = p; event = event.Fork n })
 
-    fork_families : (q : ℕ) → q < (after_event was p (event.Fork n)).processes → (after_event was p (event.Fork n)).birth q ≡ birth_in (l.families ++ its_family ∷ []) q
-    fork_families q h = ⊎_elim
-        (λ (o : q < was.processes).
-        let k : q < l.processes = let e = ledger.processes in omega arith in
-        old_birth was (lawful l.journal.entries ledger.nameable) p n next.0 next.1.0 next.1.1 q o ∙ ledger.families q o
-        ∙ ap (option_map (λ (f : Family). birth_of f q)) (sym (family_push_above l.families its_family q k)))
-        (λ (o : was.processes ≤ q).
-        let k : l.processes ≤ q = let e = ledger.processes in omega arith in
-        new_birth was (lawful l.journal.entries ledger.nameable) p n next.0 next.1.0 next.1.1 q o h
-        ∙ ap (λ (x : ℕ). Some (record { parent = p; fork = was.forks p; child = q - x })) (sym ledger.processes)
-        ∙ ap (option_map (λ (f : Family). birth_of f q)) (sym (family_push_at l.families its_family q k)))
-        (old_or_new q was.processes)
+      fork_families : (q : ℕ) → q < (after_event was p (event.Fork n)).processes → (after_event was p (event.Fork n)).birth q ≡ birth_in (l.families ++ its_family ∷ []) q
+      fork_families q h = ⊎_elim
+          (λ (o : q < was.processes).
+          let k : q < l.processes = let e = ledger.processes in omega arith in
+          old_birth was (lawful l.journal.entries ledger.nameable) p n next.0 next.1.0 next.1.1 q o ∙ ledger.families q o
+          ∙ ap (option_map (λ (f : Family). birth_of f q)) (sym (family_push_above l.families its_family q k)))
+          (λ (o : was.processes ≤ q).
+          let k : l.processes ≤ q = let e = ledger.processes in omega arith in
+          new_birth was (lawful l.journal.entries ledger.nameable) p n next.0 next.1.0 next.1.1 q o h
+          ∙ ap (λ (x : ℕ). Some (record { parent = p; fork = was.forks p; child = q - x })) (sym ledger.processes)
+          ∙ ap (option_map (λ (f : Family). birth_of f q)) (sym (family_push_at l.families its_family q k)))
+          (old_or_new q was.processes)
 
-    fork_made : (q : ℕ) → unwrap_or (hash.get nat_eq m.made q) nothing_made ≡ record { forks = (after_event was p (event.Fork n)).forks q; opens = was.opens q }
-    fork_made q = ap (λ (o : Option Made). unwrap_or o nothing_made) (made q) ∙ ⊎_elim
-        (λ (e : p ≡ q).
-        let f : was.opens p ≡ was.opens q = ap was.opens e in
-        rw (here p q e) (λ i. record { forks = was.forks p + 1; opens = f i }))
-        (λ (e : p ≢ q). rw (apart p q e) (ledger.made q))
-        (cases_eq p q)
+      fork_made : (q : ℕ) → unwrap_or (hash.get nat_eq m.made q) nothing_made ≡ record { forks = (after_event was p (event.Fork n)).forks q; opens = was.opens q }
+      fork_made q = ap (λ (o : Option Made). unwrap_or o nothing_made) (made q) ∙ ⊎_elim
+          (λ (e : p ≡ q).
+          let f : was.opens p ≡ was.opens q = ap was.opens e in
+          rw (here p q e) (λ i. record { forks = was.forks p + 1; opens = f i }))
+          (λ (e : p ≢ q). rw (apart p q e) (ledger.made q))
+          (cases_eq p q)
 
-    pub fork_ledger : IsLedger m
-    fork_ledger = record {
+      pub fork_ledger : IsLedger m
+      fork_ledger = record {
         nameable = subst (λ es. NameableFrom at_start es) (sym journal) (nameable_last at_start l.journal.entries _ ledger.nameable next);
         processes = processes ∙ ap (λ (x : ℕ). x + n) ledger.processes ∙ ap (λ (s : Births). s.processes) (sym now_is);
         channels = ap length openings ∙ ledger.channels ∙ ap (λ (s : Births). s.channels) (sym now_is);
@@ -93,33 +90,33 @@ module _ (l m : Ledger) (p : ℕ) (ledger : IsLedger l) where
       (openings : m.openings ≡ l.openings ++ record { owner = p; nth = was.opens p } ∷ [])
       (made : (q : ℕ) → hash.get nat_eq m.made q ≡ cond (nat_eq p q) (Some (record { forks = was.forks p; opens = was.opens p + 1 })) (hash.get nat_eq l.made q))
     where
-    abbrev its_opening : Opening
-    its_opening = record { owner = p; nth = was.opens p }
+      abbrev its_opening : Opening
+      its_opening = record { owner = p; nth = was.opens p }
 
-    then_is : births m.journal.entries ≡ after_event was p event.Open
-    then_is = ap births journal ∙ births_last l.journal.entries (record { process = p; event = event.Open })
+      then_is : births m.journal.entries ≡ after_event was p event.Open
+      then_is = ap births journal ∙ births_last l.journal.entries (record { process = p; event = event.Open })
 
-    open_made : (q : ℕ) → unwrap_or (hash.get nat_eq m.made q) nothing_made ≡ record { forks = was.forks q; opens = (after_event was p event.Open).opens q }
-    open_made q = ap (λ (o : Option Made). unwrap_or o nothing_made) (made q) ∙ ⊎_elim
-        (λ (e : p ≡ q).
-        let f : was.forks p ≡ was.forks q = ap was.forks e in
-        rw (here p q e) (λ i. record { forks = f i; opens = was.opens p + 1 }))
-        (λ (e : p ≢ q). rw (apart p q e) (ledger.made q))
-        (cases_eq p q)
+      open_made : (q : ℕ) → unwrap_or (hash.get nat_eq m.made q) nothing_made ≡ record { forks = was.forks q; opens = (after_event was p event.Open).opens q }
+      open_made q = ap (λ (o : Option Made). unwrap_or o nothing_made) (made q) ∙ ⊎_elim
+          (λ (e : p ≡ q).
+          let f : was.forks p ≡ was.forks q = ap was.forks e in
+          rw (here p q e) (λ i. record { forks = f i; opens = was.opens p + 1 }))
+          (λ (e : p ≢ q). rw (apart p q e) (ledger.made q))
+          (cases_eq p q)
 
-    open_openings : (c : ℕ) → c < was.channels + 1 → slice_get (l.openings ++ its_opening ∷ []) c ≡ Some ((after_event was p event.Open).opening c)
-    open_openings c h = ⊎_elim
-        (λ (o : c < was.channels).
-        pushed_low l.openings its_opening c (let e = ledger.channels in omega arith) ∙ ledger.openings c o
-        ∙ ap (λ (x : Opening). Some x) (sym (old_opening was (lawful l.journal.entries ledger.nameable) p next.0 next.1.0 next.1.1 c o)))
-        (λ (o : was.channels ≤ c).
-        let e : c ≡ length l.openings = let e = ledger.channels in omega arith in
-        ap (slice_get (l.openings ++ its_opening ∷ [])) e ∙ pushed_last l.openings its_opening
-        ∙ ap (λ (x : Opening). Some x) (sym (new_opening was (lawful l.journal.entries ledger.nameable) p next.0 next.1.0 next.1.1 c o h)))
-        (old_or_new c was.channels)
+      open_openings : (c : ℕ) → c < was.channels + 1 → slice_get (l.openings ++ its_opening ∷ []) c ≡ Some ((after_event was p event.Open).opening c)
+      open_openings c h = ⊎_elim
+          (λ (o : c < was.channels).
+          pushed_low l.openings its_opening c (let e = ledger.channels in omega arith) ∙ ledger.openings c o
+          ∙ ap (λ (x : Opening). Some x) (sym (old_opening was (lawful l.journal.entries ledger.nameable) p next.0 next.1.0 next.1.1 c o)))
+          (λ (o : was.channels ≤ c).
+          let e : c ≡ length l.openings = let e = ledger.channels in omega arith in
+          ap (slice_get (l.openings ++ its_opening ∷ [])) e ∙ pushed_last l.openings its_opening
+          ∙ ap (λ (x : Opening). Some x) (sym (new_opening was (lawful l.journal.entries ledger.nameable) p next.0 next.1.0 next.1.1 c o h)))
+          (old_or_new c was.channels)
 
-    pub open_ledger : IsLedger m
-    open_ledger = record {
+      pub open_ledger : IsLedger m
+      open_ledger = record {
         nameable = subst (λ es. NameableFrom at_start es) (sym journal) (nameable_last at_start l.journal.entries _ ledger.nameable next);
         processes = processes ∙ ledger.processes ∙ ap (λ (s : Births). s.processes) (sym then_is);
         channels = ap length openings ∙ length-append l.openings (its_opening ∷ []) ∙ ap (λ (x : ℕ). x + 1) ledger.channels ∙ ap (λ (s : Births). s.channels) (sym then_is);
@@ -135,12 +132,12 @@ module _ (l m : Ledger) (p : ℕ) (ledger : IsLedger l) where
       (processes : m.processes ≡ l.processes) (families : m.families ≡ l.families) (openings : m.openings ≡ l.openings)
       (made : (q : ℕ) → hash.get nat_eq m.made q ≡ hash.get nat_eq l.made q)
     where
-    stays : births m.journal.entries ≡ was
-    stays = ap births journal ∙ births_last l.journal.entries (record { process = p; event = e }) ∙ gives
+      stays : births m.journal.entries ≡ was
+      stays = ap births journal ∙ births_last l.journal.entries (record { process = p; event = e }) ∙ gives
 
-    -- an event that gives nothing
-    pub other_ledger : IsLedger m
-    other_ledger = record {
+      -- an event that gives nothing
+      pub other_ledger : IsLedger m
+      other_ledger = record {
         nameable = subst (λ es. NameableFrom at_start es) (sym journal) (nameable_last at_start l.journal.entries _ ledger.nameable next);
         processes = processes ∙ ledger.processes ∙ ap (λ (s : Births). s.processes) (sym stays);
         channels = ap length openings ∙ ledger.channels ∙ ap (λ (s : Births). s.channels) (sym stays);

@@ -2,4 +2,6 @@ mod BirthLaws
 mod Families
 mod LedgerLaws
 mod Rows
+mod NameLaws
 mod Tests
+mod Walk

@@ -1,6 +1,5 @@
 -- Tests on numbers, as facts.
-use Rattle.std.proofs.Common.{◌≡◌, ◌≢◌, ◌⊎◌, inl, inr, ℕ, ◌+◌, ◌<◌, ◌≤◌, Bool, true, false, cond, ◌&&◌, ◌==◌, nat_lt, nat_le, refl, sym, arith}
-use Rattle.std.proofs.lemmas.Bool.{cases_eq}
+use Rattle.std.proofs.Common.{◌≡◌, ◌≢◌, ◌⊎◌, inl, inr, ℕ, ◌<◌, ◌≤◌, true, false, ◌&&◌, ◌==◌, nat_lt, nat_le, refl, arith}
 use Rattle.std.proofs.lemmas.Bool.Decides.{nat_tests}
 
 pub here : (j k : ℕ) → j ≡ k → j == k ≡ true
@@ -26,6 +25,6 @@ old_or_new q a = elim (nat_lt q a) as (λ b. nat_lt q a ≡ b → (q < a) ⊎ (a
   where
     is_below : (q a : ℕ) → nat_lt q a ≡ true → q < a
     is_below q a e = grind (arith, nat_tests)
+
     is_not_below : (q a : ℕ) → nat_lt q a ≡ false → a ≤ q
     is_not_below q a e = grind (arith, nat_tests)
-

@@ -1,5 +1,5 @@
 -- What the tables of a ledger hold.
-use Rattle.std.specs.Prelude.{◌≡◌, ℕ, ◌-◌, ◌<◌, ◌≤◌, cond, nat_lt, nat_le, nat_eq, List, [], ◌∷◌, length, Option, Some, None, slice_get, slice_index_or, unwrap_or}
+use Rattle.std.specs.Prelude.{◌≡◌, ℕ, ◌-◌, ◌<◌, ◌≤◌, cond, nat_le, nat_eq, List, [], ◌∷◌, length, Option, Some, None, slice_get, slice_index_or, unwrap_or}
 use Rattle.std.specs.Option.{option_map}
 use Rattle.std.specs.HashMap as hash
 use Rattle.std.specs.List.Sorted.{IsNonDecreasingBy}
@@ -7,7 +7,7 @@ use Rattle.sp_journal.specs.declared.entry.Birth.{Birth}
 use Rattle.sp_journal.specs.declared.ledger.Family.{Family}
 use Rattle.sp_journal.specs.declared.ledger.Made.{Made}
 use Rattle.sp_journal.specs.declared.ledger.Ledger.{Ledger}
-use Rattle.sp_journal.specs.Births.{Births, births, IsNameable}
+use Rattle.sp_journal.specs.Births.{births, IsNameable}
 
 -- the last of these families whose numbers begin at q or before
 abbrev pub family_of : List Family → ℕ → Option Family

@@ -1,7 +1,7 @@
 //! A journal with the tables of the names that its entries give.
 
 ghost use Rattle.std.specs.Prelude.{◌≡◌, ◌++◌, ◌∷◌, [], ◌<◌, IfOk, OnOk};
-ghost use Rattle.sp_journal.specs.Births.{births, channel, CanFollow};
+ghost use Rattle.sp_journal.specs.Births.{births, channel, CanFollow, IsNameable};
 ghost use Rattle.sp_journal.specs.Names.{proc_name, chan_name};
 ghost use Rattle.sp_journal.specs.Ledger.{IsLedger};
 
@@ -55,6 +55,18 @@ impl Ledger {
         }
     }
 
+    /// The ledger of this journal.
+    pub(crate) fn of(alloc: Global, journal: &Journal) -> Result<Ledger, Memory>
+        requires { IsNameable journal.now }
+        ensures { IfOk result (λ ledger. IsLedger ledger × (ledger.journal ≡ journal.now)) }
+    {
+        let mut ledger = Ledger::new(alloc);
+        for entry in journal.entries.items() {
+            ledger.add(*entry)?;
+        }
+        Ok(ledger)
+    }
+
     /// The journal as far as it has grown.
     pub(crate) fn into_journal(self) -> Journal
         ensures { result ≡ self.journal }
@@ -69,7 +81,10 @@ impl Ledger {
         ensures forks { result.forks ≡ (births self.now.journal.entries).forks process }
         ensures opens { result.opens ≡ (births self.now.journal.entries).opens process }
     {
-        self.made.get(&process).copied().unwrap_or(Made { forks: 0, opens: 0 })
+        self.made
+            .get(&process)
+            .copied()
+            .unwrap_or(Made { forks: 0, opens: 0 })
     }
 
     /// Takes the next entry in. After `Memory` the ledger is of no more use.

@@ -2,9 +2,12 @@
 #![tactic(auto)]
 
 mod entry;
+mod journal;
 mod ledger;
 mod outcome;
+mod print;
 mod version;
 
 pub use entry::{Birth, Entry, Event, Journal, Note, Opening, Way};
 pub use outcome::{End, Verdict, Waiter};
+pub use print::print_journal;

@@ -8,8 +8,8 @@ pub returns-clause-ledger : goal.returns-clause-ledger
 returns-clause-ledger c =
     let l = c.args.self.now in
     open_ledger l _ c.args.process c.requires.ledger c.requires.next
-        c.in_ok-push-2.ensures.ok
-        refl
-        refl
-        (c.in_ok-push.ensures.ok ∙ ap (λ (x : ℕ). l.openings ++ record { owner = c.args.process; nth = x } ∷ []) c.made-made.ensures.opens)
-        (λ q. c.in_ok-insert.ensures.updates.0 q ∙ ap (λ (v : Made). cond (nat_eq c.args.process q) (Some v) (hash.get nat_eq l.made q)) (λ i. record { forks = c.made-made.ensures.forks i; opens = c.made-made.ensures.opens i + 1 }))
+    c.in_ok-push-2.ensures.ok
+    refl
+    refl
+    (c.in_ok-push.ensures.ok ∙ ap (λ (x : ℕ). l.openings ++ record { owner = c.args.process; nth = x } ∷ []) c.made-made.ensures.opens)
+    (λ q. c.in_ok-insert.ensures.updates.0 q ∙ ap (λ (v : Made). cond (nat_eq c.args.process q) (Some v) (hash.get nat_eq l.made q)) (λ i. record { forks = c.made-made.ensures.forks i; opens = c.made-made.ensures.opens i + 1 }))

@@ -1,4 +1,4 @@
-use Rattle.std.proofs.Common.{◌≡◌, ◌<◌, ◌++◌, ◌∷◌, [], List, refl, sym, ap, ◌∙◌, arith, append_assoc, reverse}
+use Rattle.std.proofs.Common.{◌≡◌, ◌++◌, ◌∷◌, [], List, sym, ap, ◌∙◌, arith, append_assoc, reverse}
 use Rattle.std.proofs.lemmas.List.{reverse-append}
 use Rattle.sp_base.specs.declared.name.Pair.{Pair}
 use Rattle.sp_journal.specs.Births.{births}

@@ -1,0 +1,8 @@
+use Rattle.std.proofs.Common.{◌≡◌, take, drop}
+use Rattle.sp_journal.specs.Births.{births, NameableFrom}
+use Rattle.sp_journal.specs.Ledger.{IsLedger}
+use Rattle.sp_journal.proofs.ledger.Ledger.of.Given as goal
+
+abbrev pub invariant-loop-entry : goal.invariant-loop-entry
+invariant-loop-entry l =
+    IsLedger l.ledger × (l.ledger.journal.entries ≡ take l.entry-index l.entry-items) × NameableFrom (births (take l.entry-index l.entry-items)) (drop l.entry-index l.entry-items)

@@ -1,0 +1,8 @@
+//! The lines in which the program tells the end of a run and the verdict on it.
+#![tactic(auto)]
+
+mod end;
+mod verdict;
+
+pub use end::end_lines;
+pub use verdict::verdict_line;
