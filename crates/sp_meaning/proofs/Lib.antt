@@ -22,3 +22,12 @@ pub mod Examples
 pub mod Pauses
 pub mod Rows
 pub mod Fronts
+pub mod Static
+pub mod Within
+pub mod Entered
+pub mod Rights
+pub mod OneStep
+pub mod Deeding
+pub mod Children
+pub mod Owned
+pub mod Started

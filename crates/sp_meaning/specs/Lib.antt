@@ -20,3 +20,4 @@ pub mod Along
 pub mod Ends
 pub mod Fronts
 pub mod Laws
+pub mod Owning

@@ -14,3 +14,6 @@ pub mod Lexemes
 pub mod Scans
 pub mod Viable
 pub mod Breaches
+pub mod Uses
+pub mod Sets
+pub mod Interference

@@ -1,0 +1,18 @@
+-- The sets one call at a time: what a closure over the calls computes.
+use Rattle.std.proofs.Common.{◌⊎◌, inl, inr, ℕ, [], ◌∷◌}
+use Rattle.sp_tree.specs.Plain.{Program, Actuals}
+use Rattle.sp_tree.specs.Uses.{Use, Aims, Runs}
+use Rattle.sp_tree.specs.Sets.{IsTarget, ImplicitTarget}
+
+module _ (p : Program) (Here : Use → Type 0) (x : ℕ) where
+  -- a target position stands here, or a block that is called here has it implicitly
+  abbrev pub InOneStep : Type 0
+  InOneStep = Here (Aims x) ⊎ ((b : ℕ) × (args : Actuals) × Here (Runs b args) × ImplicitTarget p b x)
+
+  pub one_step : IsTarget p Here x → InOneStep
+  one_step ([], r) = inl r
+  one_step (b ∷ bs, r) = inr (b, r.0, r.1, (r.2, r.3, r.4, (bs, r.5)))
+
+  pub from_one_step : InOneStep → IsTarget p Here x
+  from_one_step (inl h) = ([], h)
+  from_one_step (inr h) = (h.0 ∷ h.3.3.0, (h.1, h.2, h.3.0, h.3.1, h.3.2, h.3.3.1))

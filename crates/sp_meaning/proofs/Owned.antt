@@ -1,0 +1,515 @@
+-- The invariant behind disjointness, along every lawful schedule.
+use Rattle.std.proofs.Common.{◌≡◌, ◌⊎◌, inl, inr, ⊎_elim, ℕ, zero, suc, ◌+◌, ◌<◌, ◌≤◌, ◌==◌, ◌&&◌, Bool, true, false, cond, List, [], ◌∷◌, length, Option, Some, None, refl, sym, ap, ◌∙◌, subst, arith, if◌then◌else◌, eq-eqb}
+use Rattle.std.specs.Prelude.{slice_get}
+use Rattle.sp_base.specs.declared.fault.Fault.{Fault}
+use Rattle.sp_base.specs.declared.fault.Fault.TheVariants as fault
+use Rattle.sp_tree.specs.Plain.{Program, Stmt}
+use Rattle.sp_meaning.specs.Maps.{at_key}
+use Rattle.sp_meaning.specs.Model.{Name, same_name, Totals, Language, Moves, Opens, Forks, Offering, Ends, Fails, Cargo, Gives, Takes, Condition, Absent, Works, Waits, Joins, Ended, State, Becomes, Forked, Writes, Pends, Adds, Faults, changed, after}
+use Rattle.sp_meaning.specs.Steps.{ActOf, OfferOf, ConditionOf, working_in, Outcome, Does, Faulty, puts, births, message, hands, meets, offered, acts, cost, passed, unless, result_of, step_with, step, processes, all_ended}
+use Rattle.sp_meaning.specs.Schedules.{Leads}
+use Rattle.sp_meaning.specs.Disjoint.{IsAmong, Assigns, receiver, Receiving, WritesIn, AccessesIn, Happens, IsDisjoint}
+use Rattle.sp_meaning.specs.Asking.{Asking, Done, Reads, Puts, and_then, answer, Asks, put_by}
+use Rattle.sp_meaning.specs.Own.{Setting, Loc, Cell, Held, Address, Frame, Own, Who, Item, Do, First, Again, Test, Leave, Break, Process, Came, Got, Bad, Lost, Long, same_loc}
+use Rattle.sp_meaning.specs.Deeds.{Birth, Deed, Went, Beat, Opened, Forked as Forks_it, Offered, Over, newborn, newborns}
+use Rattle.sp_meaning.specs.SuperPascal.{enough, deed_of, asks, act_of, superpascal}
+use Rattle.sp_meaning.proofs.Keys.{name_test, and_both}
+use Rattle.sp_meaning.proofs.Asking.{answer_then}
+use Rattle.sp_meaning.proofs.Instance.{loc_test}
+use Rattle.sp_tree.specs.Uses.{Use, Aims, Sees, Runs, Splits, Spreads, Stops}
+use Rattle.sp_tree.specs.Interference.{IsFreeOfInterference}
+use Rattle.sp_meaning.specs.Owning.{Right, Ready, below, Linked, Fit, Sound, Born, Fair, MayTake}
+use Rattle.sp_meaning.proofs.Static.{some_is}
+use Rattle.sp_meaning.proofs.Within.{Within}
+use Rattle.sp_meaning.proofs.Deeding.{deed_from}
+use Rattle.sp_meaning.proofs.Rights.{All, Fair_rights, parallel_apart}
+use Rattle.sp_meaning.proofs.Children.{Pick, AimedAt, UsedAt, writes_after, reads_after, all_writes, all_reads, fair_after, child_fit, it_is}
+
+-- of a tree that keeps within its rights: its answer, what it asks for, what it writes
+
+abbrev pub Result : {A : Type 0} → (A → Own → Type 0) → Came A → Type 0
+Result F (Got a o) = F a o
+Result F (Bad f) = Unit {0}
+Result F Lost = Unit {0}
+Result F Long = Unit {0}
+
+module _ {A B : Type 0} (W R : Loc → Type 0) (F : A → Own → Type 0) (g : Came A → B) where
+  result_within : (t : Asking Loc Held (Came A)) (m : Loc → Held) → Within W R F t → Result F (answer same_loc t m).0
+  result_within (Done (Got a o)) m h = h
+  result_within (Done (Bad f)) m h = tt
+  result_within (Done Lost) m h = tt
+  result_within (Done Long) m h = tt
+  result_within (Reads l more) m h = result_within (more (m l)) m (h.1 (m l))
+  result_within (Puts l v more) m h = result_within more (at_key same_loc l v m) h.1
+
+  asked : ((l : Loc) → W l → R l) → (t : Asking Loc Held (Came A)) (m : Loc → Held) → Within W R F t → (l : Loc) → Asks same_loc (and_then t (λ r. Done (g r))) m l → R l
+  asked i (Done a) m h l k = absurd k
+  asked i (Reads j more) m h l (inl e) = subst R e h.0
+  asked i (Reads j more) m h l (inr k) = asked i (more (m j)) m (h.1 (m j)) l k
+  asked i (Puts j v more) m h l (inl e) = subst R e (i j h.0)
+  asked i (Puts j v more) m h l (inr k) = asked i more (at_key same_loc j v m) h.1 l k
+
+  written : (t : Asking Loc Held (Came A)) (m : Loc → Held) → Within W R F t → (l : Loc) → IsAmong (put_by same_loc (and_then t (λ r. Done (g r))) m) l → W l
+  written (Done a) m h l k = absurd k
+  written (Reads j more) m h l k = written (more (m j)) m (h.1 (m j)) l k
+  written (Puts j v more) m h l (inl e) = subst W e h.0
+  written (Puts j v more) m h l (inr k) = written more (at_key same_loc j v m) h.1 l k
+
+either_lt : (a b : ℕ) → (a < b) ⊎ (b ≤ a)
+either_lt zero zero = inr (omega arith)
+either_lt zero (suc b) = inl (omega arith)
+either_lt (suc a) zero = inr (omega arith)
+either_lt (suc a) (suc b) = ⊎_elim (λ (h : a < b). inl (omega (arith, h))) (λ (h : b ≤ a). inr (omega (arith, h))) (either_lt a b)
+
+module _ (p : Program) where
+  -- a process with its rights
+  pub record Keeps_to (W R : Name → Loc → Type 0) (f : Name → ℕ) (q : Name) (pr : Process) : Type 0 where
+    pub named : pr.who.name ≡ q
+    pub forked : pr.who.forks ≡ f q
+    pub last : List Frame
+    pub fit : Fit p (All W q) (All R q) last pr.own.frames pr.todo
+
+  abbrev pub Holds : (Name → Loc → Type 0) → (Name → Loc → Type 0) → (Name → ℕ) → Name → Condition Process Held Address → Type 0
+  Holds W R f q Absent = f q ≡ 0
+  Holds W R f q (Works pr) = Keeps_to W R f q pr
+  Holds W R f q (Waits o) = Keeps_to W R f q o.next × MayTake p (All W q) (All R q) o.cargo
+  Holds W R f q (Joins k n pr) = Keeps_to W R f q pr
+  Holds W R f q Ended = Unit {0}
+
+  pub record Inv (W R : Name → Loc → Type 0) (c : Name → Condition Process Held Address) (f : Name → ℕ) : Type 0 where
+    pub holds : (q : Name) → Holds W R f q (c q)
+    pub unborn : (q : Name) (k i : ℕ) → f q ≤ k → c ((k, i) ∷ q) ≡ Absent
+    pub fair : Fair_rights W R
+    pub unknown : (q : Name) (k i : ℕ) (l : Loc) → f q ≤ k → R ((k, i) ∷ q) l → ⊥
+
+  abbrev pub IsKnown : (Name → ℕ) → Name → Type 0
+  IsKnown f [] = Unit {0}
+  IsKnown f (a ∷ q) = a.0 < f q
+
+  known_if : (W R : Name → Loc → Type 0) (c : Name → Condition Process Held Address) (f : Name → ℕ) → Inv W R c f → (q : Name) → (c q ≡ Absent → ⊥) → IsKnown f q
+  known_if W R c f i [] h = tt
+  known_if W R c f i (a ∷ q) h = ⊎_elim (λ (lt : a.0 < f q). lt) (λ (le : f q ≤ a.0). absurd (h (i.unborn q a.0 a.1 le))) (either_lt a.0 (f q))
+
+  known_is : (f : Name → ℕ) (q r : Name) (k i : ℕ) → IsKnown f q → q ≡ (k, i) ∷ r → f r ≤ k → ⊥
+  known_is f q r k i h e le = let x : IsKnown f ((k, i) ∷ r) = subst (λ z. IsKnown f z) e h in absurd (omega (arith, x, le))
+
+  becomes : (W R : Name → Loc → Type 0) (c : Name → Condition Process Held Address) (f : Name → ℕ) (q : Name) (x : Condition Process Held Address) → Inv W R c f → IsKnown f q → Holds W R f q x → Inv W R (at_key same_name q x c) f
+  becomes W R c f q x i known h = record { holds = λ r. one r (same_name q r) refl; unborn = λ r k n le. none r k n le (same_name q ((k, n) ∷ r)) refl; fair = i.fair; unknown = i.unknown }
+    where
+      one : (r : Name) (b : Bool) → same_name q r ≡ b → Holds W R f r (cond b x (c r))
+      one r true e = subst (λ z. Holds W R f z x) ((name_test q r).0 e) h
+      one r false e = i.holds r
+
+      none : (r : Name) (k n : ℕ) → f r ≤ k → (b : Bool) → same_name q ((k, n) ∷ r) ≡ b → cond b x (c ((k, n) ∷ r)) ≡ Absent
+      none r k n le true e = absurd (known_is f q r k n known ((name_test q ((k, n) ∷ r)).0 e) le)
+      none r k n le false e = i.unborn r k n le
+
+  module _ (W R V T : Loc → Type 0) (w : (l : Loc) → W l → V l) (r : (l : Loc) → R l → T l) where
+    more_right : (u : Use) (l : Loc) → Right p W R u l → Right p V T u l
+    more_right (Aims x) l h = w l h
+    more_right (Sees x) l h = r l h
+    more_right (Runs f args) l h = tt
+    more_right (Splits ss) l h = tt
+    more_right (Spreads x s) l h = tt
+    more_right Stops l h = tt
+
+    more_sound : (fs : List Frame) {Here : Use → Type 0} → Sound p W R fs Here → Sound p V T fs Here
+    more_sound fs so = record { allowed = λ bs u d x l t. more_right u l (so.allowed bs u d x l t); apart = so.apart; kept = so.kept }
+
+    more_ready : (fs : List Frame) (todo : List Item) → Ready p W R fs todo → Ready p V T fs todo
+    more_ready fs [] h = tt
+    more_ready fs (Do s ∷ todo) h = (more_sound fs h.0, more_ready fs todo h.1)
+    more_ready fs (First x m n down s ∷ todo) h = (more_sound fs h.0, more_ready fs todo h.1)
+    more_ready fs (Again x n down s ∷ todo) h = (more_sound fs h.0, more_ready fs todo h.1)
+    more_ready fs (Test s e ∷ todo) h = (more_sound fs h.0, more_ready fs todo h.1)
+    more_ready fs (Leave ∷ todo) h = more_ready (below fs) todo h
+    more_ready fs (Break f ∷ todo) h = more_ready fs todo h
+
+    more_fit : (z fs : List Frame) (todo : List Item) → Fit p W R z fs todo → Fit p V T z fs todo
+    more_fit z fs todo f = record { linked = f.linked; ready = more_ready fs todo f.ready; ends = f.ends }
+
+    more_take : (g : Cargo Held Address) → MayTake p W R g → MayTake p V T g
+    more_take (Gives v) h = tt
+    more_take (Takes a) h = w a.spot h
+
+  -- the conditions after the births
+  abbrev pub after_births : Name → ℕ → ℕ → List Process → (Name → Condition Process Held Address) → Name → Condition Process Held Address
+  after_births q k i [] d = d
+  after_births q k i (x ∷ xs) d = after_births q k (suc i) xs (at_key same_name ((k, i) ∷ q) (Works x) d)
+
+  -- a fork of q
+  module _ (W R : Name → Loc → Type 0) (c : Name → Condition Process Held Address) (f : Name → ℕ) (inv : Inv W R c f) (q : Name) (known : IsKnown f q) (w : Who) (o : Own) (named : w.name ≡ q) (counted : w.forks ≡ f q)
+      (next : Process) (next_named : next.who.name ≡ q) (next_forked : next.who.forks ≡ f q + 1) (last : List Frame) (next_fit : Fit p (All W q) (All R q) last next.own.frames next.todo)
+      (ss : List Stmt) (bs : List Birth) (born : Born p (All W q) (All R q) o.frames ss bs) (linked : Linked o.frames) where
+    abbrev W' : Name → Loc → Type 0
+    W' = writes_after p W R q (f q) o.frames ss
+
+    abbrev R' : Name → Loc → Type 0
+    R' = reads_after p W R q (f q) o.frames ss
+
+    abbrev f' : Name → ℕ
+    f' = at_key same_name q (f q + 1) f
+
+    new : (i : ℕ) (l : Loc) → R ((f q, i) ∷ q) l → ⊥
+    new i l h = inv.unknown q (f q) i l (omega arith) h
+
+    grow_w : (r : Name) (l : Loc) → All W r l → All W' r l
+    grow_w r l h = all_writes p W R q (f q) o.frames ss inv.fair new r l h
+
+    grow_r : (r : Name) (l : Loc) → All R r l → All R' r l
+    grow_r r l h = all_reads p W R q (f q) o.frames ss inv.fair new r l h
+
+    f'_is : f' q ≡ f q + 1
+    f'_is = ap (λ b. cond b (f q + 1) (f q)) ((name_test q q).1 refl)
+
+    f'_other : (r : Name) → same_name q r ≡ false → f' r ≡ f r
+    f'_other r e = ap (λ b. cond b (f q + 1) (f r)) e
+
+    f'_more : (r : Name) → f r ≤ f' r
+    f'_more r = go (same_name q r) refl
+      where
+        go : (b : Bool) → same_name q r ≡ b → f r ≤ cond b (f q + 1) (f r)
+        go true e = let x : f q ≡ f r = ap f ((name_test q r).0 e) in omega (arith, x)
+        go false e = omega arith
+
+    kept_to : (r : Name) (pr : Process) → f' r ≡ f r → Keeps_to W R f r pr → Keeps_to W' R' f' r pr
+    kept_to r pr e k = record { named = k.named; forked = k.forked ∙ sym e; last = k.last; fit = more_fit (All W r) (All R r) (All W' r) (All R' r) (grow_w r) (grow_r r) k.last pr.own.frames pr.todo k.fit }
+
+    held : (r : Name) (x : Condition Process Held Address) → f' r ≡ f r → Holds W R f r x → Holds W' R' f' r x
+    held r Absent e h = e ∙ h
+    held r (Works pr) e h = kept_to r pr e h
+    held r (Waits o) e h = (kept_to r o.next e h.0, more_take (All W r) (All R r) (All W' r) (All R' r) (grow_w r) (grow_r r) o.cargo h.1)
+    held r (Joins k n pr) e h = kept_to r pr e h
+    held r Ended e h = tt
+
+    joins : (count : ℕ) → Inv W' R' (at_key same_name q (Joins (f q) count next) c) f'
+    joins count = record {
+      holds = λ r. one r (same_name q r) refl;
+      unborn = λ r k n le. none r k n le (same_name q ((k, n) ∷ r)) refl;
+      fair = fair_after p W R q (f q) o.frames ss inv.fair new bs born;
+      unknown = λ r k n l le h. strange r k n l le (same_name q r && (k == f q)) refl h;
+    }
+      where
+        own : Keeps_to W' R' f' q next
+        own = record { named = next_named; forked = next_forked ∙ sym f'_is; last = last; fit = more_fit (All W q) (All R q) (All W' q) (All R' q) (grow_w q) (grow_r q) last next.own.frames next.todo next_fit }
+
+        one : (r : Name) (b : Bool) → same_name q r ≡ b → Holds W' R' f' r (cond b (Joins (f q) count next) (c r))
+        one r true e = subst (λ z. Keeps_to W' R' f' z next) ((name_test q r).0 e) own
+        one r false e = held r (c r) (f'_other r e) (inv.holds r)
+
+        none : (r : Name) (k n : ℕ) → f' r ≤ k → (b : Bool) → same_name q ((k, n) ∷ r) ≡ b → cond b (Joins (f q) count next) (c ((k, n) ∷ r)) ≡ Absent
+        none r k n le true e = absurd (known_is f q r k n known ((name_test q ((k, n) ∷ r)).0 e) (omega (arith, le, f'_more r)))
+        none r k n le false e = inv.unborn r k n (omega (arith, le, f'_more r))
+
+        strange : (r : Name) (k n : ℕ) (l : Loc) → f' r ≤ k → (b : Bool) → (same_name q r && (k == f q)) ≡ b → Pick b (UsedAt p (All W q) (All R q) o.frames (slice_get ss n) l) (R ((k, n) ∷ r) l) → ⊥
+        strange r k n l le true e h =
+            let t = it_is p W R q (f q) o.frames ss r k e in
+            let u : f' q ≤ k = subst (λ z. f' z ≤ k) (sym t.0) le in
+            omega (arith, u, f'_is, t.1)
+        strange r k n l le false e h = inv.unknown r k n l (omega (arith, le, f'_more r)) h
+
+    longer : (a : ℕ × ℕ) → same_name q (a ∷ q) ≡ false
+    longer a = go (same_name q (a ∷ q)) refl
+      where
+        go : (b : Bool) → same_name q (a ∷ q) ≡ b → b ≡ false
+        go true e = let x : length q ≡ suc (length q) = ap length ((name_test q (a ∷ q)).0 e) in absurd (omega (arith, x))
+        go false e = refl
+
+    never_forked : (i : ℕ) → f ((f q, i) ∷ q) ≡ 0
+    never_forked i = subst (λ x. Holds W R f ((f q, i) ∷ q) x) (inv.unborn q (f q) i (omega arith)) (inv.holds ((f q, i) ∷ q))
+
+    it : (same_name q q && (f q == f q)) ≡ true
+    it = and_both (same_name q q) (f q == f q) ((name_test q q).1 refl) (eq-eqb (f q) (f q) refl)
+
+    is_write : (i : ℕ) (l : Loc) → AimedAt p (All W q) (All R q) o.frames (slice_get ss i) l → All W' ((f q, i) ∷ q) l
+    is_write i l h = inr (subst (λ b. Pick b (AimedAt p (All W q) (All R q) o.frames (slice_get ss i) l) (W ((f q, i) ∷ q) l)) (sym it) h)
+
+    is_read : (i : ℕ) (l : Loc) → UsedAt p (All W q) (All R q) o.frames (slice_get ss i) l → All R' ((f q, i) ∷ q) l
+    is_read i l h = inr (subst (λ b. Pick b (UsedAt p (All W q) (All R q) o.frames (slice_get ss i) l) (R ((f q, i) ∷ q) l)) (sym it) h)
+
+    births_keep : (i : ℕ) (ts : List Stmt) (cs : List Birth) (d : Name → Condition Process Held Address) → Born p (All W q) (All R q) o.frames ts cs
+        → ((j : ℕ) (l : Loc) → AimedAt p (All W q) (All R q) o.frames (slice_get ts j) l → All W' ((f q, j + i) ∷ q) l)
+        → ((j : ℕ) (l : Loc) → UsedAt p (All W q) (All R q) o.frames (slice_get ts j) l → All R' ((f q, j + i) ∷ q) l)
+        → Inv W' R' d f' → Inv W' R' (after_births q (f q) i (newborns w o i cs) d) f'
+    births_keep i [] [] d b a u v = v
+    births_keep i [] (e ∷ cs) d b a u v = absurd b
+    births_keep i (t ∷ ts) [] d b a u v = absurd b
+    births_keep i (t ∷ ts) (e ∷ cs) d b a u v =
+        births_keep (suc i) ts cs (at_key same_name ((f q, i) ∷ q) (Works (newborn w o i e)) d) b.3
+            (λ j l h. subst (λ n. All W' ((f q, n) ∷ q) l) (shift j i) (a (suc j) l h)) (λ j l h. subst (λ n. All R' ((f q, n) ∷ q) l) (shift j i) (u (suc j) l h))
+            (becomes W' R' d f' ((f q, i) ∷ q) (Works (newborn w o i e)) v (omega (arith, f'_is)) child)
+      where
+        shift : (j i : ℕ) → suc j + i ≡ j + suc i
+        shift j i = omega arith
+
+        first : 0 + i ≡ i
+        first = omega arith
+
+        name_is : ◌≡◌ {A = Name} ((w.forks, i) ∷ w.name) ((f q, i) ∷ q)
+        name_is = λ z. (counted z, i) ∷ named z
+
+        child : Keeps_to W' R' f' ((f q, i) ∷ q) (newborn w o i e)
+        child = record {
+          named = name_is;
+          forked = sym (f'_other ((f q, i) ∷ q) (longer (f q, i)) ∙ never_forked i);
+          last = _;
+          fit = child_fit p (All W q) (All R q) (All W' ((f q, i) ∷ q)) (All R' ((f q, i) ∷ q)) o.frames ((w.forks, i) ∷ w.name) e.index t b.1 (λ l h. subst (λ n. All W' ((f q, n) ∷ q) l) first (a 0 l h)) (λ l h. subst (λ n. All R' ((f q, n) ∷ q) l) first (u 0 l h)) linked e.todo b.0;
+        }
+
+    pub forks_keep : (count : ℕ) → Inv W' R' (after_births q (f q) 0 (newborns w o 0 bs) (at_key same_name q (Joins (f q) count next) c)) f'
+    forks_keep count = births_keep 0 ss bs _ born (λ j l h. subst (λ n. All W' ((f q, n) ∷ q) l) (plain j) (is_write j l h)) (λ j l h. subst (λ n. All R' ((f q, n) ∷ q) l) (plain j) (is_read j l h)) (joins count)
+      where
+        plain : (j : ℕ) → j ≡ j + 0
+        plain j = omega arith
+
+none_some : {A : Type 0} {a : A} → None ≡ Some a → ⊥
+none_some e = absurd (cc e)
+
+puts_condition : (L : Language) (ws : List (L.Loc × L.Value)) (s : State L) → (after (puts {L = L} ws) s).condition ≡ s.condition
+puts_condition L [] s = refl
+puts_condition L (w ∷ ws) s = puts_condition L ws (changed (Writes w.0 w.1) s)
+
+puts_forks : (L : Language) (ws : List (L.Loc × L.Value)) (s : State L) → (after (puts {L = L} ws) s).forks ≡ s.forks
+puts_forks L [] s = refl
+puts_forks L (w ∷ ws) s = puts_forks L ws (changed (Writes w.0 w.1) s)
+
+module _ (set : Setting) (totals : Totals) (free : IsFreeOfInterference set.program) where
+  abbrev L : Language
+  L = superpascal set
+
+  born_condition : (q : Name) (k i : ℕ) (os : List Process) (s : State L) → (after (births {L = L} q k i os) s).condition ≡ after_births set.program q k i os s.condition
+  born_condition q k i [] s = refl
+  born_condition q k i (o ∷ os) s = born_condition q k (suc i) os (changed {L = L} (Becomes ((k, i) ∷ q) (Works o)) s)
+
+  born_forks : (q : Name) (k i : ℕ) (os : List Process) (s : State L) → (after (births {L = L} q k i os) s).forks ≡ s.forks
+  born_forks q k i [] s = refl
+  born_forks q k i (o ∷ os) s = born_forks q k (suc i) os (changed {L = L} (Becomes ((k, i) ∷ q) (Works o)) s)
+
+  -- the invariant after a step, with more rights
+  record Next (W R : Name → Loc → Type 0) (m : State L) : Type 1 where
+    W' : Name → Loc → Type 0
+    R' : Name → Loc → Type 0
+    inv : Inv set.program W' R' m.condition m.forks
+    grow_w : (q : Name) (l : Loc) → All W q l → All W' q l
+    grow_r : (q : Name) (l : Loc) → All R q l → All R' q l
+
+  module _ (W R : Name → Loc → Type 0) (s : State L) (inv : Inv set.program W R s.condition s.forks) (q : Name) (pr : Process) (k : Keeps_to set.program W R s.forks q pr) (known : IsKnown set.program s.forks q) where
+    as_it_is : (m : State L) → Inv set.program W R m.condition m.forks → Next W R m
+    as_it_is m i = record { W' = W; R' = R; inv = i; grow_w = λ q l h. h; grow_r = λ q l h. h }
+
+    abbrev Comes : Deed → List Frame → Type 0
+    Comes d fs = Fair set.program (All W q) (All R q) k.last d fs
+
+    after_it : (x : Condition Process Held Address) → Holds set.program W R s.forks q x → Inv set.program W R (at_key same_name q x s.condition) s.forks
+    after_it x h = becomes set.program W R s.condition s.forks q x inv known h
+
+    next_is : (w : Who) (o : Own) (todo : List Item) → w.name ≡ q → w.forks ≡ s.forks q → Fit set.program (All W q) (All R q) k.last o.frames todo → Keeps_to set.program W R s.forks q (record { todo = todo; who = w; own = o })
+    next_is w o todo n f h = record { named = n; forked = f; last = k.last; fit = h }
+
+    or_fault : (x : Option Fault) (out : Outcome L) → Next W R (result_of s q out) → Next W R (result_of s q (unless x out))
+    or_fault None out n = n
+    or_fault (Some f) out n = as_it_is (changed {L = L} (Faults q f) s) inv
+
+    moved : (next : Process) (ws : List (Loc × Held)) (t : State L) → t.condition ≡ at_key same_name q (Works next) s.condition → t.forks ≡ s.forks → Keeps_to set.program W R s.forks q next → Next W R (after (puts {L = L} ws) t)
+    moved next ws t c f h = as_it_is (after (puts {L = L} ws) t) (subst (λ (z : (Name → Condition Process Held Address) × (Name → ℕ)). Inv set.program W R z.0 z.1) (λ i. ((sym c ∙ sym (puts_condition L ws t)) i, (sym f ∙ sym (puts_forks L ws t)) i)) (after_it (Works next) h))
+
+    offering : (o : OfferOf L) → Keeps_to set.program W R s.forks q o.next → MayTake set.program (All W q) (All R q) o.cargo → (z : Option Name) → Next W R (result_of s q (offered {L = L} s q o z))
+    offering o h t None = as_it_is _ (after_it (Waits o) (h, t))
+    offering o h t (Some z) = meets_keep (s.condition z) refl
+      where
+        hands_keep : (w : OfferOf L) → s.condition z ≡ Waits w → (m : Option (Address × Held)) → Next W R (result_of s q (hands {L = L} s q o z w m))
+        hands_keep w e None = as_it_is _ inv
+        hands_keep w e (Some m) = kinds (o.kind == w.kind)
+          where
+            waits : Keeps_to set.program W R s.forks z w.next
+            waits = (subst (λ c. Holds set.program W R s.forks z c) e (inv.holds z)).0
+
+            there : IsKnown set.program s.forks z
+            there = known_if set.program W R s.condition s.forks inv z (λ a. let x : Waits w ≡ Absent = sym e ∙ a in absurd (cc x))
+
+            kinds : (b : Bool) → Next W R (result_of s q (if b then Does (Becomes q (Works o.next) ∷ Becomes z (Works w.next) ∷ Pends o.channel None ∷ Writes (L.place m.0) (L.put m.0 (s.store (L.place m.0)) m.1) ∷ Adds (record { processes = 0; channels = 0; entries = 1 }) ∷ []) else Faulty fault.F7))
+            kinds true = as_it_is _ (becomes set.program W R (at_key same_name q (Works o.next) s.condition) s.forks z (Works w.next) (after_it (Works o.next) h) there waits)
+            kinds false = as_it_is _ inv
+
+        meets_keep : (c : ConditionOf L) → s.condition z ≡ c → Next W R (result_of s q (meets {L = L} s q o z c))
+        meets_keep Absent e = as_it_is _ inv
+        meets_keep (Works own) e = as_it_is _ inv
+        meets_keep (Waits w) e = hands_keep w e (message o.cargo w.cargo)
+        meets_keep (Joins n m own) e = as_it_is _ inv
+        meets_keep Ended e = as_it_is _ inv
+
+    acts_keep : (r : Came Deed) → Result (λ d o. Comes d o.frames) r → (ws : List (Loc × Held)) → Next W R (result_of s q (acts {L = L} s q (act_of pr.who r ws)))
+    acts_keep (Got (Went todo) o) h ws = moved (record { todo = todo; who = pr.who; own = o }) ws _ refl refl (next_is pr.who o todo k.named k.forked h)
+    acts_keep (Got (Beat todo) o) h ws = moved (record { todo = todo; who = pr.who; own = o }) ws _ refl refl (next_is pr.who o todo k.named k.forked h)
+    acts_keep (Got (Opened todo) o) h ws = moved (record { todo = todo; who = record pr.who { opens = pr.who.opens + 1 }; own = o }) ws _ refl refl (next_is (record pr.who { opens = pr.who.opens + 1 }) o todo k.named k.forked h)
+    acts_keep (Got (Forks_it bs todo) o) h ws = record {
+        W' = writes_after set.program W R q (s.forks q) o.frames h.0;
+        R' = reads_after set.program W R q (s.forks q) o.frames h.0;
+        inv = subst (λ (z : (Name → Condition Process Held Address) × (Name → ℕ)). Inv set.program (writes_after set.program W R q (s.forks q) o.frames h.0) (reads_after set.program W R q (s.forks q) o.frames h.0) z.0 z.1)
+            (λ i. (sym (born_condition q (s.forks q) 0 (newborns pr.who o 0 bs) joined) i, sym (born_forks q (s.forks q) 0 (newborns pr.who o 0 bs) joined) i))
+            (forks_keep set.program W R s.condition s.forks inv q known pr.who o k.named k.forked next k.named (ap (λ n. n + 1) k.forked) k.last h.2 h.0 bs h.1 h.2.linked (length (newborns pr.who o 0 bs)));
+        grow_w = λ r l x. all_writes set.program W R q (s.forks q) o.frames h.0 inv.fair unknown r l x;
+        grow_r = λ r l x. all_reads set.program W R q (s.forks q) o.frames h.0 inv.fair unknown r l x;
+      }
+      where
+        next : Process
+        next = record { todo = todo; who = record pr.who { forks = pr.who.forks + 1 }; own = o }
+
+        unknown : (i : ℕ) (l : Loc) → R ((s.forks q, i) ∷ q) l → ⊥
+        unknown i l x = inv.unknown q (s.forks q) i l (omega arith) x
+
+        joined : State L
+        joined = changed {L = L} (Adds (record { processes = length (newborns pr.who o 0 bs); channels = 0; entries = 1 })) (changed {L = L} (Forked q) (changed {L = L} (Becomes q (Joins (s.forks q) (length (newborns pr.who o 0 bs)) next)) s))
+    acts_keep (Got (Offered c i g todo) o) h ws = offering (record { channel = c; kind = i; cargo = g; next = record { todo = todo; who = pr.who; own = o } }) (next_is pr.who o todo k.named k.forked h.1) h.0 (s.pending c)
+    acts_keep (Got Over o) h ws = as_it_is _ (after_it Ended tt)
+    acts_keep (Bad f) h ws = as_it_is _ inv
+    acts_keep Lost h ws = as_it_is _ inv
+    acts_keep Long h ws = as_it_is _ inv
+
+  -- one step's accesses, and the step
+  module _ (W R : Name → Loc → Type 0) (s : State L) (inv : Inv set.program W R s.condition s.forks) (q : Name) (pr : Process) (k : Keeps_to set.program W R s.forks q pr) (known : IsKnown set.program s.forks q) where
+    own_write : (n x : ℕ) → All W q (Cell q n x)
+    own_write n x = inl refl
+
+    reads_all : (l : Loc) → All W q l → All R q l
+    reads_all l (inl h) = inl h
+    reads_all l (inr h) = inr (inv.fair.reads q l h)
+
+    within : Within (All W q) (All R q) (λ d o. Fair set.program (All W q) (All R q) k.last d o.frames) (deed_of set pr)
+    within = (deed_from set q (All W q) (All R q) own_write reads_all free (enough set pr.own) k.last pr.own.frames pr.todo k.fit).by pr.who pr.own k.named refl
+
+    abbrev came : Came Deed
+    came = (answer same_loc (deed_of set pr) s.store).0
+
+    abbrev writes : List (Loc × Held)
+    writes = put_by same_loc (asks set pr) s.store
+
+    next_act : L.next pr s.store ≡ act_of pr.who came writes
+    next_act = ap (λ (x : (List (Loc × Held) → ActOf L) × (Loc → Held)). x.0 writes) (answer_then loc_test (deed_of set pr) (λ r. Done (act_of pr.who r)) s.store)
+
+    abbrev good : Result (λ d o. Fair set.program (All W q) (All R q) k.last d o.frames) came
+    good = result_within (All W q) (All R q) (λ d o. Fair set.program (All W q) (All R q) k.last d o.frames) (act_of pr.who) (deed_of set pr) s.store within
+
+    step_keeps : Next W R (result_of s q (unless (passed totals s.totals (cost (L.next pr s.store))) (acts s q (L.next pr s.store))))
+    step_keeps = subst (λ (a : ActOf L). Next W R (result_of s q (unless (passed totals s.totals (cost a)) (acts s q a)))) (sym next_act)
+        (or_fault W R s inv q pr k known (passed totals s.totals (cost (act_of pr.who came writes))) (acts {L = L} s q (act_of pr.who came writes)) (acts_keep W R s inv q pr k known came good writes))
+
+    assigned : (r : Came Deed) (ws : List (Loc × Held)) (l : Loc) → Assigns (act_of pr.who r ws) l → IsAmong ws l
+    assigned (Got (Went todo) o) ws l h = h
+    assigned (Got (Beat todo) o) ws l h = h
+    assigned (Got (Opened todo) o) ws l h = h
+    assigned (Got (Forks_it bs todo) o) ws l h = absurd h
+    assigned (Got (Offered c i g todo) o) ws l h = absurd h
+    assigned (Got Over o) ws l h = absurd h
+    assigned (Bad f) ws l h = absurd h
+    assigned Lost ws l h = absurd h
+    assigned Long ws l h = absurd h
+
+    abbrev TakesWell : Name → ActOf L → Type 0
+    TakesWell r (Moves n ws) = Unit {0}
+    TakesWell r (Opens n ws) = Unit {0}
+    TakesWell r (Forks n os) = Unit {0}
+    TakesWell r (Offering o) = MayTake set.program (All W r) (All R r) o.cargo
+    TakesWell r Ends = Unit {0}
+    TakesWell r (Fails f) = Unit {0}
+
+    takes_well : (r : Came Deed) (ws : List (Loc × Held)) → Result (λ d o. Fair set.program (All W q) (All R q) k.last d o.frames) r → TakesWell q (act_of pr.who r ws)
+    takes_well (Got (Went todo) o) ws h = tt
+    takes_well (Got (Beat todo) o) ws h = tt
+    takes_well (Got (Opened todo) o) ws h = tt
+    takes_well (Got (Forks_it bs todo) o) ws h = tt
+    takes_well (Got (Offered c i g todo) o) ws h = h.0
+    takes_well (Got Over o) ws h = tt
+    takes_well (Bad f) ws h = tt
+    takes_well Lost ws h = tt
+    takes_well Long ws h = tt
+
+    received : (who other : Name) (g h : Cargo Held Address) (x : Address × Held) → message g h ≡ Some x → MayTake set.program (All W q) (All R q) g → MayTake set.program (All W other) (All R other) h → who ≡ receiver g q other → All W who x.0.spot
+    received who other (Gives v) (Takes t) x e a b n = subst (λ z. All W z x.0.spot) (sym n) (subst (λ (y : Address × Held). All W other y.0.spot) (some_is (t, v) x e) b)
+    received who other (Takes t) (Gives v) x e a b n = subst (λ z. All W z x.0.spot) (sym n) (subst (λ (y : Address × Held). All W q y.0.spot) (some_is (t, v) x e) a)
+    received who other (Gives v) (Gives w) x e a b n = absurd (cc e)
+    received who other (Takes t) (Takes u) x e a b n = absurd (cc e)
+
+    gets_right : (who : Name) (l : Loc) → Receiving s q (L.next pr s.store) who l → All W who l
+    gets_right who l g = subst (λ z. All W who z) g.goes.there (received who g.goes.other g.offer.cargo g.goes.its.cargo g.goes.passes g.goes.is
+        (subst (λ (a : ActOf L). TakesWell q a) (sym next_act ∙ g.is) (takes_well came writes good))
+        (subst (λ (c : ConditionOf L). Holds set.program W R s.forks g.goes.other c) g.goes.waits (inv.holds g.goes.other)).1 g.who_is)
+
+    writes_right : (who : Name) (l : Loc) → WritesIn s q pr who l → All W who l
+    writes_right who l (inl h) = subst (λ z. All W z l) (sym h.0) (written (All W q) (All R q) (λ d o. Fair set.program (All W q) (All R q) k.last d o.frames) (act_of pr.who) (deed_of set pr) s.store within l (assigned came writes l (subst (λ (a : ActOf L). Assigns a l) next_act h.1)))
+    writes_right who l (inr g) = gets_right who l g
+
+    accesses_right : (who : Name) (l : Loc) → AccessesIn s q pr who l → All R who l
+    accesses_right who l (inl h) = subst (λ z. All R z l) (sym h.0) (asked (All W q) (All R q) (λ d o. Fair set.program (All W q) (All R q) k.last d o.frames) (act_of pr.who) reads_all (deed_of set pr) s.store within l h.1)
+    accesses_right who l (inr h) = all_read who l (writes_right who l h)
+      where
+        all_read : (who : Name) (l : Loc) → All W who l → All R who l
+        all_read who l (inl h) = inl h
+        all_read who l (inr h) = inr (inv.fair.reads who l h)
+
+  -- who can step keeps to its rights
+  works_well : (W R : Name → Loc → Type 0) (s : State L) → Inv set.program W R s.condition s.forks → (q : Name) (pr : Process) → working_in s.condition q (s.condition q) ≡ Some pr → Keeps_to set.program W R s.forks q pr × IsKnown set.program s.forks q
+  works_well W R s inv q pr e = go (s.condition q) refl e
+    where
+      known : (c : ConditionOf L) → s.condition q ≡ c → (c ≡ Absent → ⊥) → IsKnown set.program s.forks q
+      known c e n = known_if set.program W R s.condition s.forks inv q (λ a. n (sym e ∙ a))
+
+      at : (c : ConditionOf L) → s.condition q ≡ c → Holds set.program W R s.forks q c
+      at c e = subst (λ z. Holds set.program W R s.forks q z) e (inv.holds q)
+
+      joined : (n m : ℕ) (own : Process) → s.condition q ≡ Joins n m own → (b : Bool) → (if b then Some own else None) ≡ Some pr → Keeps_to set.program W R s.forks q pr × IsKnown set.program s.forks q
+      joined n m own c true e = (subst (λ z. Keeps_to set.program W R s.forks q z) (some_is own pr e) (at (Joins n m own) c), known (Joins n m own) c (λ a. absurd (cc a)))
+      joined n m own c false e = absurd (cc e)
+
+      go : (c : ConditionOf L) → s.condition q ≡ c → working_in s.condition q c ≡ Some pr → Keeps_to set.program W R s.forks q pr × IsKnown set.program s.forks q
+      go Absent c e = absurd (cc e)
+      go (Works own) c e = (subst (λ z. Keeps_to set.program W R s.forks q z) (some_is own pr e) (at (Works own) c), known (Works own) c (λ a. absurd (cc a)))
+      go (Waits o) c e = absurd (cc e)
+      go (Joins n m own) c e = joined n m own c (all_ended s.condition q n m) e
+      go Ended c e = absurd (cc e)
+
+  -- rights that hold along a whole schedule
+  record Tracked (W R : Name → Loc → Type 0) (s : State L) (ps : List Name) : Type 1 where
+    W' : Name → Loc → Type 0
+    R' : Name → Loc → Type 0
+    fair : Fair_rights W' R'
+    grow_w : (q : Name) (l : Loc) → All W q l → All W' q l
+    grow_r : (q : Name) (l : Loc) → All R q l → All R' q l
+    writes : (a : Name) (l : Loc) → Happens totals (λ u r own. WritesIn u r own a l) s ps → All W' a l
+    accesses : (a : Name) (l : Loc) → Happens totals (λ u r own. AccessesIn u r own a l) s ps → All R' a l
+
+  tracked : (W R : Name → Loc → Type 0) (s : State L) (ps : List Name) (t : State L) → Inv set.program W R s.condition s.forks → Leads (processes L totals) s ps t → Tracked W R s ps
+  tracked W R s [] t inv h = record { W' = W; R' = R; fair = inv.fair; grow_w = λ q l x. x; grow_r = λ q l x. x; writes = λ a l x. absurd x; accesses = λ a l x. absurd x }
+  tracked W R s (q ∷ ps) t inv h = go (λ W1 R1 i. tracked W1 R1 h.0 ps t i h.3) (working_in s.condition q (s.condition q)) refl h.2
+    where
+      here_w : (a : Name) (l : Loc) (pr : Process) → working_in s.condition q (s.condition q) ≡ Some pr → WritesIn s q pr a l → All W a l
+      here_w a l pr e w = let k = works_well W R s inv q pr e in writes_right W R s inv q pr k.0 k.1 a l w
+
+      here_r : (a : Name) (l : Loc) (pr : Process) → working_in s.condition q (s.condition q) ≡ Some pr → AccessesIn s q pr a l → All R a l
+      here_r a l pr e w = let k = works_well W R s inv q pr e in accesses_right W R s inv q pr k.0 k.1 a l w
+
+      later : (it : State L → Name → Process → Type 0) (m : State L) → step totals s q ≡ Some m → Happens totals it m ps → Happens totals it h.0 ps
+      later it m e x = subst (λ z. Happens totals it z ps) (some_is m h.0 (sym e ∙ h.2)) x
+
+      both : (W1 R1 : Name → Loc → Type 0) → ((r : Name) (l : Loc) → All W r l → All W1 r l) → ((r : Name) (l : Loc) → All R r l → All R1 r l) → Tracked W1 R1 h.0 ps → Tracked W R s (q ∷ ps)
+      both W1 R1 gw gr k = record {
+          W' = k.W'; R' = k.R'; fair = k.fair;
+          grow_w = λ r l x. k.grow_w r l (gw r l x);
+          grow_r = λ r l x. k.grow_r r l (gr r l x);
+          writes = λ a l x. ⊎_elim (λ (y : (own : Process) × (working_in s.condition q (s.condition q) ≡ Some own) × WritesIn s q own a l). k.grow_w a l (gw a l (here_w a l y.0 y.1 y.2)))
+              (λ (y : (m : State L) × (step totals s q ≡ Some m) × Happens totals (λ u r own. WritesIn u r own a l) m ps). k.writes a l (later (λ u r own. WritesIn u r own a l) y.0 y.1 y.2)) x;
+          accesses = λ a l x. ⊎_elim (λ (y : (own : Process) × (working_in s.condition q (s.condition q) ≡ Some own) × AccessesIn s q own a l). k.grow_r a l (gr a l (here_r a l y.0 y.1 y.2)))
+              (λ (y : (m : State L) × (step totals s q ≡ Some m) × Happens totals (λ u r own. AccessesIn u r own a l) m ps). k.accesses a l (later (λ u r own. AccessesIn u r own a l) y.0 y.1 y.2)) x;
+        }
+
+      go : ((W1 R1 : Name → Loc → Type 0) → Inv set.program W1 R1 h.0.condition h.0.forks → Tracked W1 R1 h.0 ps) → (x : Option Process) → working_in s.condition q (s.condition q) ≡ x → step_with totals s q x ≡ Some h.0 → Tracked W R s (q ∷ ps)
+      go ih None e d = absurd (none_some d)
+      go ih (Some pr) e d =
+          let k = works_well W R s inv q pr e in
+          let n : Next W R (result_of s q (unless (passed totals s.totals (cost (L.next pr s.store))) (acts s q (L.next pr s.store)))) = step_keeps W R s inv q pr k.0 k.1 in
+          let i : Inv set.program n.W' n.R' h.0.condition h.0.forks = subst (λ (z : State L). Inv set.program n.W' n.R' z.condition z.forks) (some_is _ h.0 d) n.inv in
+          both n.W' n.R' n.grow_w n.grow_r (ih n.W' n.R' i)
+
+  -- from a state with the invariant on, no process writes what a parallel one uses
+  pub disjoint_from : (W R : Name → Loc → Type 0) (s : State L) → Inv set.program W R s.condition s.forks → IsDisjoint L totals s
+  disjoint_from W R s inv ps t leads a b parallel l w x = let k = tracked W R s ps t inv leads in parallel_apart k.W' k.R' k.fair a b parallel l (k.writes a l w) (k.accesses b l x)

@@ -1,0 +1,133 @@
+-- A program that keeps the rules is disjoint.
+use Rattle.std.proofs.Common.{◌≡◌, ◌≢◌, inl, inr, ℕ, zero, suc, ◌<◌, ◌==◌, Bool, true, false, List, [], ◌∷◌, Option, Some, None, refl, sym, ◌∙◌, subst, arith, if◌then◌else◌, nat_lt}
+use Rattle.std.specs.Prelude.{slice_get}
+use Rattle.sp_tree.specs.declared.checked.Role.{Role}
+use Rattle.sp_tree.specs.declared.checked.Role.TheVariants as role
+use Rattle.sp_tree.specs.Plain.{Program, Variable, Block}
+use Rattle.sp_meaning.specs.Model.{Name}
+use Rattle.sp_meaning.specs.Own.{Setting, Process, Held, Address, Loc, Cell, Input, Output, OfBlock, Frame, Item, Break}
+use Rattle.sp_meaning.specs.Deeds.{push, size_of_frame}
+use Rattle.sp_base.specs.declared.fault.Fault.TheVariants as fault
+use Rattle.sp_meaning.specs.Steps.{first_condition}
+use Rattle.sp_meaning.specs.SuperPascal.{main, root}
+use Rattle.sp_meaning.specs.Runs.{most, start, IsDisjointRun}
+use Rattle.sp_tree.specs.Uses.{Use, Aims, Sees, Runs, Splits, Spreads, Stops, In_stmt}
+use Rattle.sp_tree.specs.Interference.{IsFreeOfInterference}
+use Rattle.sp_meaning.specs.Owning.{cell_of, reference_of, console, stands_by, stands_at, stands, Touches, Right, Sound, Fit}
+use Rattle.sp_meaning.proofs.Static.{some_is}
+use Rattle.sp_meaning.proofs.Deeding.{push_good}
+use Rattle.sp_meaning.proofs.Rights.{All, IsAbove, Fair_rights}
+use Rattle.sp_meaning.proofs.Owned.{Holds, Inv, disjoint_from}
+
+-- the root may use the input and the output
+abbrev First : Name → Loc → Type 0
+First [] (Cell r n x) = ⊥
+First [] Input = Unit {0}
+First [] Output = Unit {0}
+First (a ∷ q) l = ⊥
+
+first_above : (q : Name) (l : Loc) → First q l → IsAbove q l
+first_above [] (Cell r n x) h = absurd h
+first_above [] Input h = tt
+first_above [] Output h = tt
+first_above (a ∷ q) l h = absurd h
+
+first_fair : Fair_rights First First
+first_fair = record { reads = λ q l h. h; above = first_above; less_write = λ q k i l h. absurd h; less_read = λ q k i l h. absurd h; apart = λ q k i j l n h g. h }
+
+module _ (set : Setting) (free : IsFreeOfInterference set.program) where
+  abbrev bottom : Frame
+  bottom = record { owner = []; number = 0; home = OfBlock 0; link = 0; references = [] }
+
+  -- what a variable of the program stands for
+  data Stands (x : ℕ) (l : Loc) : Type 0 where
+    Global : (e : Cell [] 0 x ≡ l) → Stands x l
+    Console : (lt : x < 2) (e : console x ≡ l) → Stands x l
+
+  where_is : (x : ℕ) (l : Loc) → stands set.program (bottom ∷ []) x ≡ Some l → Stands x l
+  where_is x l e = by_variable (slice_get set.program.variables x) refl e
+    where
+      by_cell : (b : Bool) → cell_of x (if b then Some bottom else None) ≡ Some l → Stands x l
+      by_cell true e = Global (some_is (Cell [] 0 x) l e)
+      by_cell false e = absurd (cc e)
+
+      by_reference : (b : Bool) → reference_of x (if b then Some bottom else None) ≡ Some l → Stands x l
+      by_reference true e = absurd (cc e)
+      by_reference false e = absurd (cc e)
+
+      by_role : (i : Variable) → slice_get set.program.variables x ≡ Some i → (r : Role) → i.role ≡ r → stands_by (bottom ∷ []) x i r ≡ Some l → Stands x l
+      by_role i v role.Console r e = Console (free.consoles x i v r).1 (some_is (console x) l e)
+      by_role i v role.Local r e = by_cell (i.block == 0) e
+      by_role i v role.Value r e = by_cell (i.block == 0) e
+      by_role i v role.Reference r e = by_reference (i.block == 0) e
+      by_role i v role.Index r e = absurd (cc e)
+      by_role i v role.Answer r e = by_cell (i.block == 0) e
+
+      by_variable : (v : Option Variable) → slice_get set.program.variables x ≡ v → stands_at (bottom ∷ []) x v ≡ Some l → Stands x l
+      by_variable None v e = absurd (cc e)
+      by_variable (Some i) v e = by_role i v i.role refl e
+
+  right : (x : ℕ) (l : Loc) → Stands x l → All First [] l
+  right x l (Global e) = subst (All First []) e (inl refl)
+  right x l (Console lt e) = subst (All First []) e (inr (at x))
+    where
+      at : (n : ℕ) → First [] (console n)
+      at zero = tt
+      at (suc n) = tt
+
+  differ : (x y : ℕ) (l : Loc) → x ≢ y → Stands x l → Stands y l → ⊥
+  differ x y l n (Global e) (Global d) = let h : Cell [] 0 x ≡ Cell [] 0 y = e ∙ sym d in n (cc h)
+  differ x y l n (Global e) (Console lt d) = off y (e ∙ sym d)
+    where
+      off : (m : ℕ) → Cell [] 0 x ≡ console m → ⊥
+      off zero h = absurd (cc h)
+      off (suc m) h = absurd (cc h)
+  differ x y l n (Console lt d) (Global e) = off x (e ∙ sym d)
+    where
+      off : (m : ℕ) → Cell [] 0 y ≡ console m → ⊥
+      off zero h = absurd (cc h)
+      off (suc m) h = absurd (cc h)
+  differ x y l n (Console lt e) (Console lu d) = two x y lt lu (e ∙ sym d) n
+    where
+      two : (a b : ℕ) → a < 2 → b < 2 → console a ≡ console b → a ≢ b → ⊥
+      two zero zero la lb h k = k refl
+      two zero (suc b) la lb h k = absurd (cc h)
+      two (suc a) zero la lb h k = absurd (cc h)
+      two (suc a) (suc b) la lb h k = let s : suc a ≡ suc b = omega (arith, la, lb) in k s
+
+  touched : (u : Use) (x : ℕ) (l : Loc) → Touches set.program (bottom ∷ []) u x l → Right set.program (All First []) (All First []) u l × Stands x l
+  touched (Aims y) x l t = (right x l (where_is x l t.1), where_is x l t.1)
+  touched (Sees y) x l t = (right x l (where_is x l t.1), where_is x l t.1)
+  touched (Runs f args) x l t = absurd t
+  touched (Splits ss) x l t = absurd t
+  touched (Spreads y s) x l t = absurd t
+  touched Stops x l t = absurd t
+
+  body_sound : (b : Block) → slice_get set.program.blocks 0 ≡ Some b → Sound set.program (All First []) (All First []) (bottom ∷ []) (In_stmt b.body)
+  body_sound b e = record {
+    allowed = λ bs u r x l t. (touched u x l t).0;
+    apart = λ bs cs u v r k x y l n t z. differ x y l n (touched u x l t).1 (touched v y l z).1;
+    kept = λ u h. free.blocks 0 b e u h;
+  }
+
+  empty : Fit set.program (All First []) (All First []) (bottom ∷ []) (bottom ∷ []) []
+  empty = record { linked = (refl, λ c f e. absurd (cc e), tt, tt); ready = tt; ends = refl }
+
+  main_fit : (bs : List Block) → ((b : Block) → slice_get bs 0 ≡ Some b → Sound set.program (All First []) (All First []) (bottom ∷ []) (In_stmt b.body)) → Fit set.program (All First []) (All First []) (bottom ∷ []) (bottom ∷ []) (main set bs)
+  main_fit [] h = empty
+  main_fit (b ∷ bs) h = go (nat_lt set.limits.cells (size_of_frame set 0))
+    where
+      go : (c : Bool) → Fit set.program (All First []) (All First []) (bottom ∷ []) (bottom ∷ []) (if c then Break fault.F12 ∷ [] else push b.body [])
+      go true = record { linked = (refl, λ c f e. absurd (cc e), tt, tt); ready = tt; ends = refl }
+      go false = push_good set.program (All First []) (All First []) (bottom ∷ []) (bottom ∷ []) b.body [] (h b refl) empty
+
+  opened : Inv set.program First First (first_condition {O = Process} {V = Held} {T = Address} (root set)) (λ q. 0)
+  opened = record { holds = holds; unborn = λ q k i h. refl; fair = first_fair; unknown = λ q k i l h g. g }
+    where
+      holds : (q : Name) → Holds set.program First First (λ q. 0) q (first_condition {O = Process} {V = Held} {T = Address} (root set) q)
+      holds [] = record { named = refl; forked = refl; last = bottom ∷ []; fit = main_fit set.program.blocks (λ b e. body_sound b e) }
+      holds (a ∷ q) = refl
+
+  -- the whole
+  pub disjoint : IsDisjointRun set
+  disjoint = disjoint_from set (most set) free First First (start set) opened

@@ -1,0 +1,169 @@
+-- What a process may read and write, and that what it has left to do keeps to it (the invariant behind disjointness).
+use Rattle.std.specs.Prelude.{◌≡◌, ◌≢◌, ℕ, zero, suc, ◌<◌, ◌==◌, Bool, if◌then◌else◌, List, [], ◌∷◌, length, Option, Some, None, slice_get}
+use Rattle.sp_tree.specs.declared.checked.Role.{Role}
+use Rattle.sp_tree.specs.declared.checked.Role.TheVariants as role
+use Rattle.sp_tree.specs.Plain.{Program, Variable, Entire, ByValue, ByReference, Actuals, Nothing, Pass, Stmt, Repeat}
+use Rattle.sp_meaning.specs.Model.{Cargo, Gives, Takes}
+use Rattle.sp_meaning.specs.Own.{Held, Loc, Cell, Input, Output, Address, Home, OfBlock, OfIndex, Frame, Item, Do, First, Again, Test, Leave, Break, is_block, referred}
+use Rattle.sp_meaning.specs.Deeds.{Birth, Deed, Went, Beat, Opened, Forked, Offered, Over, push}
+use Rattle.sp_meaning.specs.Eval.{Given, ValueOf, PlaceOf}
+use Rattle.sp_tree.specs.Uses.{Use, Aims, Sees, Runs, Splits, Spreads, Stops, In_stmt, In_loop}
+use Rattle.sp_tree.specs.Sets.{IsTarget, IsUsed, Reach}
+use Rattle.sp_tree.specs.Interference.{KeepsRules}
+
+-- from where the list is so long outward along the links, the first frame that fits
+abbrev pub find : (Home → Bool) → ℕ → List Frame → Option Frame
+find fits n [] = None
+find fits n (f ∷ fs) = if length (f ∷ fs) == n then (if fits f.home then Some f else find fits f.link fs) else find fits n fs
+
+-- the entire location that a variable stands for in these frames
+
+abbrev pub cell_of : ℕ → Option Frame → Option Loc
+cell_of x None = None
+cell_of x (Some f) = Some (Cell f.owner f.number x)
+
+abbrev pub spot_of : Option Address → Option Loc
+spot_of None = None
+spot_of (Some a) = Some a.spot
+
+abbrev pub reference_of : ℕ → Option Frame → Option Loc
+reference_of x None = None
+reference_of x (Some f) = spot_of (referred x f.references)
+
+abbrev pub console : ℕ → Loc
+console zero = Input
+console (suc n) = Output
+
+abbrev pub stands_by : List Frame → ℕ → Variable → Role → Option Loc
+stands_by fs x i role.Console = Some (console x)
+stands_by fs x i role.Local = cell_of x (find (is_block i.block) (length fs) fs)
+stands_by fs x i role.Value = cell_of x (find (is_block i.block) (length fs) fs)
+stands_by fs x i role.Reference = reference_of x (find (is_block i.block) (length fs) fs)
+stands_by fs x i role.Index = None
+stands_by fs x i role.Answer = cell_of x (find (is_block i.block) (length fs) fs)
+
+abbrev pub stands_at : List Frame → ℕ → Option Variable → Option Loc
+stands_at fs x None = None
+stands_at fs x (Some i) = stands_by fs x i i.role
+
+-- Frames: numbered from below; outward along the static links the numbers of the blocks fall; what a variable parameter stands for is older than its frame
+
+abbrev pub IsOlder : ℕ → Loc → Type 0
+IsOlder n (Cell q m x) = m < n
+IsOlder n Input = Unit
+IsOlder n Output = Unit
+
+abbrev pub AreOlder : ℕ → List (ℕ × Address) → Type 0
+AreOlder n [] = Unit
+AreOlder n (r ∷ rs) = IsOlder n r.1.spot × AreOlder n rs
+
+abbrev pub IsInside : Home → ℕ → List Frame → Type 0
+IsInside (OfBlock b) link fs = (c : ℕ) (f : Frame) → find (is_block c) link fs ≡ Some f → c < b
+IsInside (OfIndex x n) link fs = link ≡ length fs
+
+abbrev pub Linked : List Frame → Type 0
+Linked [] = Unit
+Linked (f ∷ fs) = (f.number ≡ length fs) × IsInside f.home f.link fs × AreOlder (length fs) f.references × Linked fs
+
+abbrev pub below : List Frame → List Frame
+below [] = []
+below (f ∷ fs) = fs
+
+-- the frames that are left when all items are done
+abbrev pub last_of : List Frame → List Item → List Frame
+last_of fs [] = fs
+last_of fs (Do s ∷ todo) = last_of fs todo
+last_of fs (First x m n down s ∷ todo) = last_of fs todo
+last_of fs (Again x n down s ∷ todo) = last_of fs todo
+last_of fs (Test s e ∷ todo) = last_of fs todo
+last_of fs (Leave ∷ todo) = last_of (below fs) todo
+last_of fs (Break f ∷ todo) = last_of fs todo
+
+module _ (p : Program) where
+  abbrev pub stands : List Frame → ℕ → Option Loc
+  stands fs x = stands_at fs x (slice_get p.variables x)
+
+  -- this use is of variable x, which stands for l
+  abbrev pub Touches : List Frame → Use → ℕ → Loc → Type 0
+  Touches fs (Aims y) x l = (y ≡ x) × (stands fs x ≡ Some l)
+  Touches fs (Sees y) x l = (y ≡ x) × (stands fs x ≡ Some l)
+  Touches fs (Runs f args) x l = ⊥
+  Touches fs (Splits ss) x l = ⊥
+  Touches fs (Spreads y s) x l = ⊥
+  Touches fs Stops x l = ⊥
+
+  -- the evaluated arguments are those of a call in these frames
+  abbrev pub Gave : List Frame → Actuals → List Given → Type 0
+  Gave fs Nothing [] = Unit
+  Gave fs Nothing (g ∷ gs) = ⊥
+  Gave fs (Pass a rest) [] = ⊥
+  Gave fs (Pass (ByValue e) rest) (ValueOf v ∷ gs) = Gave fs rest gs
+  Gave fs (Pass (ByValue e) rest) (PlaceOf a ∷ gs) = ⊥
+  Gave fs (Pass (ByReference (Entire x ss)) rest) (ValueOf v ∷ gs) = ⊥
+  Gave fs (Pass (ByReference (Entire x ss)) rest) (PlaceOf a ∷ gs) = (stands fs x ≡ Some a.spot) × Gave fs rest gs
+
+  -- some target of it, or some variable of it, stands for l
+  abbrev pub Aimed : List Frame → Stmt → Loc → Type 0
+  Aimed fs s l = (x : ℕ) × IsTarget p (In_stmt s) x × (stands fs x ≡ Some l)
+
+  abbrev pub Used : List Frame → Stmt → Loc → Type 0
+  Used fs s l = (x : ℕ) × IsUsed p (In_stmt s) x × (stands fs x ≡ Some l)
+
+  -- what one writes the other does not use
+  abbrev pub AreClear : List Frame → Stmt → Stmt → Type 0
+  AreClear fs s t = (l : Loc) → (Aimed fs s l → Used fs t l → ⊥) × (Used fs s l → Aimed fs t l → ⊥)
+
+  abbrev pub IsClearOf : List Frame → Stmt → List Stmt → Type 0
+  IsClearOf fs s [] = Unit
+  IsClearOf fs s (t ∷ ts) = AreClear fs s t × IsClearOf fs s ts
+
+  module _ (W R : Loc → Type 0) where
+    abbrev pub Right : Use → Loc → Type 0
+    Right (Aims x) l = W l
+    Right (Sees x) l = R l
+    Right (Runs f args) l = Unit
+    Right (Splits ss) l = Unit
+    Right (Spreads x s) l = Unit
+    Right Stops l = Unit
+
+    -- what stands there may be done in these frames: the locations are the process's to write or read, no two variables are one location, and the rules are kept
+    pub record Sound (fs : List Frame) (Here : Use → Type 0) : Type 0 where
+      pub allowed : (bs : List ℕ) (u : Use) → Reach p Here bs u → (x : ℕ) (l : Loc) → Touches fs u x l → Right u l
+      pub apart : (bs cs : List ℕ) (u v : Use) → Reach p Here bs u → Reach p Here cs v → (x y : ℕ) (l : Loc) → x ≢ y → Touches fs u x l → Touches fs v y l → ⊥
+      pub kept : (u : Use) → Here u → KeepsRules p u
+
+    -- each item in the frames in which it will be done
+    abbrev pub Ready : List Frame → List Item → Type 0
+    Ready fs [] = Unit
+    Ready fs (Do s ∷ todo) = Sound fs (In_stmt s) × Ready fs todo
+    Ready fs (First x m n down s ∷ todo) = Sound fs (In_loop x s) × Ready fs todo
+    Ready fs (Again x n down s ∷ todo) = Sound fs (In_loop x s) × Ready fs todo
+    Ready fs (Test s e ∷ todo) = Sound fs (In_stmt (Repeat s e)) × Ready fs todo
+    Ready fs (Leave ∷ todo) = Ready (below fs) todo
+    Ready fs (Break f ∷ todo) = Ready fs todo
+
+    -- a process's items and frames, which come to z in the end
+    pub record Fit (z fs : List Frame) (todo : List Item) : Type 0 where
+      pub linked : Linked fs
+      pub ready : Ready fs todo
+      pub ends : last_of fs todo ≡ z
+
+    -- the children that are to be born do these statements
+    abbrev pub Born : List Frame → List Stmt → List Birth → Type 0
+    Born fs [] [] = Unit
+    Born fs [] (b ∷ bs) = ⊥
+    Born fs (s ∷ ss) [] = ⊥
+    Born fs (s ∷ ss) (b ∷ bs) = (b.todo ≡ push s []) × Sound fs (In_stmt s) × IsClearOf fs s ss × Born fs ss bs
+
+    abbrev pub MayTake : Cargo Held Address → Type 0
+    MayTake (Gives v) = Unit
+    MayTake (Takes a) = W a.spot
+
+    -- what a step of such a process comes to
+    abbrev pub Fair : List Frame → Deed → List Frame → Type 0
+    Fair z (Went todo) fs = Fit z fs todo
+    Fair z (Beat todo) fs = Fit z fs todo
+    Fair z (Opened todo) fs = Fit z fs todo
+    Fair z (Forked bs todo) fs = (ss : List Stmt) × Born fs ss bs × Fit z fs todo
+    Fair z (Offered c k g todo) fs = MayTake g × Fit z fs todo
+    Fair z Over fs = Unit

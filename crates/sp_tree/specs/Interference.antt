@@ -1,0 +1,75 @@
+-- The rules of interference.
+use Rattle.std.specs.Prelude.{◌≡◌, ◌⊎◌, ℕ, ◌<◌, List, [], ◌∷◌, Some, slice_get}
+use Rattle.sp_tree.specs.declared.checked.Role.TheVariants as role
+use Rattle.sp_tree.specs.Plain.{Entire, ByValue, ByReference, Actuals, Nothing, Pass, Program, Variable, Block, Stmt, Stmts, No, And}
+use Rattle.sp_tree.specs.Uses.{Use, Aims, Sees, Runs, Splits, Spreads, Stops, In_stmt, In_stmts}
+use Rattle.sp_tree.specs.Sets.{IsBelow, IsTarget, IsUsed, ImplicitTarget, Implicit, LeadsToStop}
+
+-- the entire variables of the actual variable parameters
+abbrev pub refs : Actuals → List ℕ
+refs Nothing = []
+refs (Pass (ByValue e) rest) = refs rest
+refs (Pass (ByReference (Entire x ss)) rest) = x ∷ refs rest
+
+abbrev pub IsMember : ℕ → List ℕ → Type 0
+IsMember x [] = ⊥
+IsMember x (y ∷ ys) = (x ≡ y) ⊎ IsMember x ys
+
+abbrev pub AllDifferent : List ℕ → Type 0
+AllDifferent [] = Unit
+AllDifferent (x ∷ xs) = (IsMember x xs → ⊥) × AllDifferent xs
+
+module _ (p : Program) where
+  -- the rules
+  abbrev pub KeepsI1 : Stmts → Type 0
+  KeepsI1 No = Unit
+  KeepsI1 (And s rest) = ((x : ℕ) → IsTarget p (In_stmt s) x → IsUsed p (In_stmts rest) x → ⊥) × ((x : ℕ) → IsUsed p (In_stmt s) x → IsTarget p (In_stmts rest) x → ⊥) × KeepsI1 rest
+
+  abbrev pub KeepsI2 : Stmt → Type 0
+  KeepsI2 s = (x : ℕ) → IsTarget p (In_stmt s) x → ⊥
+
+  abbrev pub KeepsI4 : Actuals → Type 0
+  KeepsI4 args = AllDifferent (refs args)
+
+  abbrev pub KeepsI5 : ℕ → Actuals → Type 0
+  KeepsI5 b args = (x : ℕ) → IsMember x (refs args) → Implicit p b x → ⊥
+
+  -- a block called in itself or in a block inside it
+  abbrev pub IsCalledInside : ℕ → Type 0
+  IsCalledInside b = (n c : ℕ) × IsBelow p n c b × (k : Block) × (slice_get p.blocks c ≡ Some k) × (args : Actuals) × In_stmt k.body (Runs b args)
+
+  abbrev pub KeepsI6 : ℕ → Type 0
+  KeepsI6 b = IsCalledInside b → (x : ℕ) → Implicit p b x → x < 2
+
+  abbrev pub IsFunction : ℕ → Type 0
+  IsFunction b = (k : Block) × (x : ℕ) × (slice_get p.blocks b ≡ Some k) × (k.answer ≡ Some x)
+
+  abbrev pub KeepsI7 : ℕ → Type 0
+  KeepsI7 b = IsFunction b → (k : Block) → slice_get p.blocks b ≡ Some k → (x : ℕ) → IsMember x k.formals → (i : Variable) → slice_get p.variables x ≡ Some i → i.role ≡ role.Reference → ⊥
+
+  abbrev pub KeepsI8 : ℕ → Type 0
+  KeepsI8 b = IsFunction b → (x : ℕ) → ImplicitTarget p b x → ⊥
+
+  abbrev pub KeepsI9 : ℕ → Type 0
+  KeepsI9 b = IsFunction b → LeadsToStop p b → ⊥
+
+  abbrev pub IsIndexOf : ℕ → Type 0
+  IsIndexOf x = (i : Variable) × (slice_get p.variables x ≡ Some i) × (i.role ≡ role.Index)
+
+  -- what the rules say of what stands in a statement
+  abbrev pub KeepsRules : Use → Type 0
+  KeepsRules (Aims x) = Unit
+  KeepsRules (Sees x) = Unit
+  KeepsRules (Runs b args) = KeepsI4 args × KeepsI5 b args
+  KeepsRules (Splits ss) = KeepsI1 ss
+  KeepsRules (Spreads x s) = IsIndexOf x × KeepsI2 s
+  KeepsRules Stops = Unit
+
+  -- the rules of interference on which disjointness rests, and what names and types give of the tree
+  pub record IsFreeOfInterference : Type 0 where
+    pub blocks : (b : ℕ) (k : Block) → slice_get p.blocks b ≡ Some k → (u : Use) → In_stmt k.body u → KeepsRules u
+    pub parents : (b : ℕ) (k : Block) (q : ℕ) → slice_get p.blocks b ≡ Some k → k.parent ≡ Some q → q < b
+    pub consoles : (x : ℕ) (i : Variable) → slice_get p.variables x ≡ Some i → i.role ≡ role.Console → (i.block ≡ 0) × (x < 2)
+    pub answers : (b : ℕ) (k : Block) (x : ℕ) → slice_get p.blocks b ≡ Some k → k.answer ≡ Some x → (i : Variable) × (slice_get p.variables x ≡ Some i) × (i.role ≡ role.Answer) × (i.block ≡ b)
+    pub input : (i : Variable) × (slice_get p.variables 0 ≡ Some i) × (i.role ≡ role.Console)
+    pub output : (i : Variable) × (slice_get p.variables 1 ≡ Some i) × (i.role ≡ role.Console)

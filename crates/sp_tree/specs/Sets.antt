@@ -1,0 +1,47 @@
+-- The variables that a statement uses, by paths of calls.
+use Rattle.std.specs.Prelude.{◌≡◌, ◌⊎◌, ℕ, zero, suc, List, [], ◌∷◌, Some, slice_get}
+use Rattle.sp_tree.specs.Plain.{Actuals, Program, Variable, Block}
+use Rattle.sp_tree.specs.Uses.{Use, Aims, Sees, Runs, Splits, Spreads, Stops, In_stmt}
+
+module _ (p : Program) where
+  -- block c is block b, or stands in it n levels deep
+  abbrev pub IsBelow : ℕ → ℕ → ℕ → Type 0
+  IsBelow zero c b = c ≡ b
+  IsBelow (suc n) c b = (k : Block) × (slice_get p.blocks c ≡ Some k) × (q : ℕ) × (k.parent ≡ Some q) × IsBelow n q b
+
+  -- neither block b nor one inside it declares the variable
+  abbrev pub IsFree : ℕ → ℕ → Type 0
+  IsFree b x = (i : Variable) → slice_get p.variables x ≡ Some i → (n : ℕ) → IsBelow n i.block b → ⊥
+
+  abbrev pub Passes : ℕ → Use → Type 0
+  Passes b (Aims x) = IsFree b x
+  Passes b (Sees x) = IsFree b x
+  Passes b (Runs f args) = ⊥
+  Passes b (Splits ss) = ⊥
+  Passes b (Spreads x s) = ⊥
+  Passes b Stops = Unit
+
+  -- by a path of calls from where the uses Here stand, this use
+  abbrev pub Reach : (Use → Type 0) → List ℕ → Use → Type 0
+  Reach Here [] u = Here u
+  Reach Here (b ∷ bs) u = (args : Actuals) × Here (Runs b args) × (k : Block) × (slice_get p.blocks b ≡ Some k) × Passes b u × Reach (In_stmt k.body) bs u
+
+  -- target and expression variables
+  abbrev pub IsTarget : (Use → Type 0) → ℕ → Type 0
+  IsTarget Here x = (bs : List ℕ) × Reach Here bs (Aims x)
+
+  abbrev pub IsSeen : (Use → Type 0) → ℕ → Type 0
+  IsSeen Here x = (bs : List ℕ) × Reach Here bs (Sees x)
+
+  abbrev pub IsUsed : (Use → Type 0) → ℕ → Type 0
+  IsUsed Here x = IsTarget Here x ⊎ IsSeen Here x
+
+  abbrev pub ImplicitTarget : ℕ → ℕ → Type 0
+  ImplicitTarget b x = (k : Block) × (slice_get p.blocks b ≡ Some k) × IsFree b x × IsTarget (In_stmt k.body) x
+
+  abbrev pub Implicit : ℕ → ℕ → Type 0
+  Implicit b x = (k : Block) × (slice_get p.blocks b ≡ Some k) × IsFree b x × IsUsed (In_stmt k.body) x
+
+  -- a call of it leads to a statement that a function may not have
+  abbrev pub LeadsToStop : ℕ → Type 0
+  LeadsToStop b = (k : Block) × (slice_get p.blocks b ≡ Some k) × (bs : List ℕ) × Reach (In_stmt k.body) bs Stops
