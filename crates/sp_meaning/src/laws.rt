@@ -7,8 +7,9 @@ ghost use Rattle.sp_journal.specs.Names.{Name, Occurrence};
 ghost use Rattle.sp_meaning.specs.Own.{Setting, Loc};
 ghost use Rattle.sp_meaning.specs.SuperPascal.{superpascal};
 ghost use Rattle.sp_meaning.specs.Steps.{Laws, Sound};
+ghost use Rattle.sp_tree.specs.Interference.{IsFreeOfInterference};
 ghost use Rattle.sp_meaning.specs.Disjoint.{AreParallel};
-ghost use Rattle.sp_meaning.specs.Runs.{StateOf, start, next, Lawful};
+ghost use Rattle.sp_meaning.specs.Runs.{StateOf, start, next, Lawful, IsDisjointRun};
 ghost use Rattle.sp_meaning.specs.Along.{IsAlong, IsClean};
 ghost use Rattle.sp_meaning.specs.Ends.{IsDone, IsIdle};
 ghost use Rattle.sp_meaning.specs.Fronts.{IsLongestFront, longest};
@@ -69,4 +70,11 @@ pub fn active_are_parallel()
 /// Where the root has ended, no process is running.
 pub fn done_is_idle()
     ensures { (g : Setting) (s : StateOf g) → IsReached g s → IsDone g s → IsIdle g s }
+{}
+
+/// A program that keeps the rules of interference is disjoint: on no input, with no limits and in no lawful schedule
+/// does a process write what a parallel one reads or writes. The rules are those of the SuperPascal papers on
+/// interference control (I1, I2, I4 and I5 here); of names and types it needs where parents, consoles and answers are.
+pub fn rule_keepers_are_disjoint()
+    ensures { (g : Setting) → IsFreeOfInterference g.program → IsDisjointRun g }
 {}

@@ -1,0 +1,3 @@
+pub mod UsesOf
+pub mod Certified
+pub mod InterferenceRows

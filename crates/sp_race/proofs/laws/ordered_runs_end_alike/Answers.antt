@@ -1,5 +1,6 @@
 use Rattle.sp_race.proofs.laws.ordered_runs_end_alike.Goals as goal
+use Rattle.sp_meaning.proofs.Started.{disjoint}
 use Rattle.sp_race.proofs.Verdict.{each_ends_alike}
 
 pub returns : goal.returns
-returns c = each_ends_alike
+returns c = λ g turn es n t free. each_ends_alike g turn es n t (disjoint g free)
