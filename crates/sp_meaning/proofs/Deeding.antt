@@ -6,7 +6,7 @@ use Rattle.sp_base.specs.declared.fault.Fault.{Fault}
 use Rattle.sp_base.specs.declared.fault.Fault.TheVariants as fault
 use Rattle.sp_meaning.specs.Asking.{Asking, Done, Reads, Puts}
 use Rattle.sp_meaning.specs.Values.{Value, Ordinal, Chan, initials}
-use Rattle.sp_meaning.specs.Own.{Setting, Cell, Input, OfBlock, seek, newest, reach, reached, Loc, Output, Held, Tree, Written, Address, Frame, Own, Who, Item, Do, First, Again, Test, Leave, Break, Came, Got, Bad, Lost, Long, Work, bind, give, fail, lost, become, put, assign, tick, deepen, widen, is_block, visible, bytes_in, fetch}
+use Rattle.sp_meaning.specs.Own.{Setting, Cell, Input, OfBlock, seek, reach, reached, Loc, Output, Held, Tree, Written, Address, Frame, Own, Who, Item, Do, First, Again, Test, Leave, Break, Came, Got, Bad, Lost, Long, Work, bind, give, fail, lost, become, put, assign, tick, deepen, widen, is_block, bytes_in, fetch}
 use Rattle.sp_meaning.specs.Texts.{Taken, Takes as Took, Fails as Refuses_it, padded, line_length}
 use Rattle.sp_meaning.specs.Eval.{value, ordinal_of, address, Place, At, Fixed, Given, ValueOf, PlaceOf, Calls}
 use Rattle.sp_meaning.specs.Deeds.{Birth, Deed, Went, Beat, Opened, Forked, Offered, Over, push, push_all, children, indexed_children, has, arm_for, is_range, goes_on, next_value, in_width, begins, lay_one, lay, copy_in, pushed_frame, enclosing, enter, without_frame, leave, write, advance, take_in, width, peek, turn_of, fork, chosen, start, act, settle, left_by, answer_of, call_by, rest_by, all, deed_by, deed, variables_of, size_of_frame, references, taken_by, shown}
@@ -16,8 +16,8 @@ use Rattle.sp_tree.specs.Uses.{Use, Aims, Sees, Runs, Splits, Spreads, Stops, In
 use Rattle.sp_tree.specs.Sets.{Reach, IsTarget, IsUsed}
 use Rattle.sp_tree.specs.Interference.{IsFreeOfInterference, KeepsI1, KeepsRules}
 use Rattle.sp_meaning.specs.Owning.{find, Linked, below, last_of, stands_by, stands_at, stands, cell_of, Touches, Gave, Sound, Ready, Fit, AreClear, IsClearOf, Born, Fair}
-use Rattle.sp_meaning.proofs.Static.{some_is, find_is, sought}
-use Rattle.sp_meaning.proofs.Within.{reach_part, address_of_keeps, MayRead, Within, within_then, Keeps, Any, part, then_keeps, then_stays, give_keeps, give_stays, fail_stays, lost_stays, lost_keeps, or_lost_keeps, or_lost_stays, fetch_stays, assign_stays, visible_keeps, ordinal_stays, channel_stays, kind_stays, read_stays, Of, place_of_keeps, CallsKeep, input_written, output_written, left_stays, value_stays, actuals_keeps, Writable, address_keeps, ordinal_of_stays}
+use Rattle.sp_meaning.proofs.Static.{some_is, sought}
+use Rattle.sp_meaning.proofs.Within.{reach_part, address_of_keeps, MayRead, Within, within_then, Keeps, Any, part, then_keeps, then_stays, give_keeps, give_stays, fail_stays, lost_stays, lost_keeps, or_lost_keeps, or_lost_stays, fetch_stays, assign_stays, ordinal_stays, channel_stays, kind_stays, read_stays, Of, place_of_keeps, CallsKeep, input_written, output_written, left_stays, value_stays, actuals_keeps, Writable, address_keeps, ordinal_of_stays}
 use Rattle.sp_meaning.proofs.Entered.{fresh, fresh_linked, fresh_sound}
 
 -- begun by q with these frames it keeps within W and R, and its value and the frames then have this fact
@@ -72,8 +72,10 @@ uses_apart s x y l n e d (inr a) (inr b) = s.apart a.0 b.0 (Sees x) (Sees y) a.1
 -- two statements of one whole whose variables are different use different locations
 clear : {p : Program} {W R : Loc → Type 0} {fs : List Frame} {Here : Use → Type 0} → Sound p W R fs Here → (s t : Stmt) → ((u : Use) → In_stmt s u → Here u) → ((u : Use) → In_stmt t u → Here u)
     → ((x : ℕ) → IsTarget p (In_stmt s) x → IsUsed p (In_stmt t) x → ⊥) → ((x : ℕ) → IsUsed p (In_stmt s) x → IsTarget p (In_stmt t) x → ⊥) → AreClear p fs s t
-clear {p} {fs = fs} so s t i j a b l = (λ h k. ⊎_elim (λ (e : h.0 ≡ k.0). a k.0 (subst (λ z. IsTarget p (In_stmt s) z) e h.1) k.1) (λ (n : h.0 ≢ k.0). uses_apart so h.0 k.0 l n h.2 k.2 (inl (target_part p i h.0 h.1)) (used_part p j k.0 k.1)) (number h.0 k.0),
-    λ h k. ⊎_elim (λ (e : h.0 ≡ k.0). b k.0 (subst (λ z. IsUsed p (In_stmt s) z) e h.1) k.1) (λ (n : h.0 ≢ k.0). uses_apart so h.0 k.0 l n h.2 k.2 (used_part p i h.0 h.1) (inl (target_part p j k.0 k.1))) (number h.0 k.0))
+clear {p} {fs = fs} so s t i j a b l = (
+  λ h k. ⊎_elim (λ (e : h.0 ≡ k.0). a k.0 (subst (λ z. IsTarget p (In_stmt s) z) e h.1) k.1) (λ (n : h.0 ≢ k.0). uses_apart so h.0 k.0 l n h.2 k.2 (inl (target_part p i h.0 h.1)) (used_part p j k.0 k.1)) (number h.0 k.0),
+  λ h k. ⊎_elim (λ (e : h.0 ≡ k.0). b k.0 (subst (λ z. IsUsed p (In_stmt s) z) e h.1) k.1) (λ (n : h.0 ≢ k.0). uses_apart so h.0 k.0 l n h.2 k.2 (used_part p i h.0 h.1) (inl (target_part p j k.0 k.1))) (number h.0 k.0),
+)
 
 abbrev pub list_of : Stmts → List Stmt
 list_of No = []

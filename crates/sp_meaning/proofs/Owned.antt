@@ -236,8 +236,8 @@ module _ (p : Program) where
     births_keep i (t ∷ ts) [] d b a u v = absurd b
     births_keep i (t ∷ ts) (e ∷ cs) d b a u v =
         births_keep (suc i) ts cs (at_key same_name ((f q, i) ∷ q) (Works (newborn w o i e)) d) b.3
-            (λ j l h. subst (λ n. All W' ((f q, n) ∷ q) l) (shift j i) (a (suc j) l h)) (λ j l h. subst (λ n. All R' ((f q, n) ∷ q) l) (shift j i) (u (suc j) l h))
-            (becomes W' R' d f' ((f q, i) ∷ q) (Works (newborn w o i e)) v (omega (arith, f'_is)) child)
+        (λ j l h. subst (λ n. All W' ((f q, n) ∷ q) l) (shift j i) (a (suc j) l h)) (λ j l h. subst (λ n. All R' ((f q, n) ∷ q) l) (shift j i) (u (suc j) l h))
+        (becomes W' R' d f' ((f q, i) ∷ q) (Works (newborn w o i e)) v (omega (arith, f'_is)) child)
       where
         shift : (j i : ℕ) → suc j + i ≡ j + suc i
         shift j i = omega arith
@@ -343,14 +343,14 @@ module _ (set : Setting) (totals : Totals) (free : IsFreeOfInterference set.prog
     acts_keep (Got (Beat todo) o) h ws = moved (record { todo = todo; who = pr.who; own = o }) ws _ refl refl (next_is pr.who o todo k.named k.forked h)
     acts_keep (Got (Opened todo) o) h ws = moved (record { todo = todo; who = record pr.who { opens = pr.who.opens + 1 }; own = o }) ws _ refl refl (next_is (record pr.who { opens = pr.who.opens + 1 }) o todo k.named k.forked h)
     acts_keep (Got (Forks_it bs todo) o) h ws = record {
-        W' = writes_after set.program W R q (s.forks q) o.frames h.0;
-        R' = reads_after set.program W R q (s.forks q) o.frames h.0;
-        inv = subst (λ (z : (Name → Condition Process Held Address) × (Name → ℕ)). Inv set.program (writes_after set.program W R q (s.forks q) o.frames h.0) (reads_after set.program W R q (s.forks q) o.frames h.0) z.0 z.1)
-            (λ i. (sym (born_condition q (s.forks q) 0 (newborns pr.who o 0 bs) joined) i, sym (born_forks q (s.forks q) 0 (newborns pr.who o 0 bs) joined) i))
-            (forks_keep set.program W R s.condition s.forks inv q known pr.who o k.named k.forked next k.named (ap (λ n. n + 1) k.forked) k.last h.2 h.0 bs h.1 h.2.linked (length (newborns pr.who o 0 bs)));
-        grow_w = λ r l x. all_writes set.program W R q (s.forks q) o.frames h.0 inv.fair unknown r l x;
-        grow_r = λ r l x. all_reads set.program W R q (s.forks q) o.frames h.0 inv.fair unknown r l x;
-      }
+      W' = writes_after set.program W R q (s.forks q) o.frames h.0;
+      R' = reads_after set.program W R q (s.forks q) o.frames h.0;
+      inv = subst (λ (z : (Name → Condition Process Held Address) × (Name → ℕ)). Inv set.program (writes_after set.program W R q (s.forks q) o.frames h.0) (reads_after set.program W R q (s.forks q) o.frames h.0) z.0 z.1)
+          (λ i. (sym (born_condition q (s.forks q) 0 (newborns pr.who o 0 bs) joined) i, sym (born_forks q (s.forks q) 0 (newborns pr.who o 0 bs) joined) i))
+          (forks_keep set.program W R s.condition s.forks inv q known pr.who o k.named k.forked next k.named (ap (λ n. n + 1) k.forked) k.last h.2 h.0 bs h.1 h.2.linked (length (newborns pr.who o 0 bs)));
+      grow_w = λ r l x. all_writes set.program W R q (s.forks q) o.frames h.0 inv.fair unknown r l x;
+      grow_r = λ r l x. all_reads set.program W R q (s.forks q) o.frames h.0 inv.fair unknown r l x;
+    }
       where
         next : Process
         next = record { todo = todo; who = record pr.who { forks = pr.who.forks + 1 }; own = o }
@@ -493,14 +493,16 @@ module _ (set : Setting) (totals : Totals) (free : IsFreeOfInterference set.prog
 
       both : (W1 R1 : Name → Loc → Type 0) → ((r : Name) (l : Loc) → All W r l → All W1 r l) → ((r : Name) (l : Loc) → All R r l → All R1 r l) → Tracked W1 R1 h.0 ps → Tracked W R s (q ∷ ps)
       both W1 R1 gw gr k = record {
-          W' = k.W'; R' = k.R'; fair = k.fair;
-          grow_w = λ r l x. k.grow_w r l (gw r l x);
-          grow_r = λ r l x. k.grow_r r l (gr r l x);
-          writes = λ a l x. ⊎_elim (λ (y : (own : Process) × (working_in s.condition q (s.condition q) ≡ Some own) × WritesIn s q own a l). k.grow_w a l (gw a l (here_w a l y.0 y.1 y.2)))
-              (λ (y : (m : State L) × (step totals s q ≡ Some m) × Happens totals (λ u r own. WritesIn u r own a l) m ps). k.writes a l (later (λ u r own. WritesIn u r own a l) y.0 y.1 y.2)) x;
-          accesses = λ a l x. ⊎_elim (λ (y : (own : Process) × (working_in s.condition q (s.condition q) ≡ Some own) × AccessesIn s q own a l). k.grow_r a l (gr a l (here_r a l y.0 y.1 y.2)))
-              (λ (y : (m : State L) × (step totals s q ≡ Some m) × Happens totals (λ u r own. AccessesIn u r own a l) m ps). k.accesses a l (later (λ u r own. AccessesIn u r own a l) y.0 y.1 y.2)) x;
-        }
+        W' = k.W';
+        R' = k.R';
+        fair = k.fair;
+        grow_w = λ r l x. k.grow_w r l (gw r l x);
+        grow_r = λ r l x. k.grow_r r l (gr r l x);
+        writes = λ a l x. ⊎_elim (λ (y : (own : Process) × (working_in s.condition q (s.condition q) ≡ Some own) × WritesIn s q own a l). k.grow_w a l (gw a l (here_w a l y.0 y.1 y.2)))
+            (λ (y : (m : State L) × (step totals s q ≡ Some m) × Happens totals (λ u r own. WritesIn u r own a l) m ps). k.writes a l (later (λ u r own. WritesIn u r own a l) y.0 y.1 y.2)) x;
+        accesses = λ a l x. ⊎_elim (λ (y : (own : Process) × (working_in s.condition q (s.condition q) ≡ Some own) × AccessesIn s q own a l). k.grow_r a l (gr a l (here_r a l y.0 y.1 y.2)))
+            (λ (y : (m : State L) × (step totals s q ≡ Some m) × Happens totals (λ u r own. AccessesIn u r own a l) m ps). k.accesses a l (later (λ u r own. AccessesIn u r own a l) y.0 y.1 y.2)) x;
+      }
 
       go : ((W1 R1 : Name → Loc → Type 0) → Inv set.program W1 R1 h.0.condition h.0.forks → Tracked W1 R1 h.0 ps) → (x : Option Process) → working_in s.condition q (s.condition q) ≡ x → step_with totals s q x ≡ Some h.0 → Tracked W R s (q ∷ ps)
       go ih None e d = absurd (none_some d)

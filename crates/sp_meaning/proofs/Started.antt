@@ -3,9 +3,9 @@ use Rattle.std.proofs.Common.{◌≡◌, ◌≢◌, inl, inr, ℕ, zero, suc, �
 use Rattle.std.specs.Prelude.{slice_get}
 use Rattle.sp_tree.specs.declared.checked.Role.{Role}
 use Rattle.sp_tree.specs.declared.checked.Role.TheVariants as role
-use Rattle.sp_tree.specs.Plain.{Program, Variable, Block}
+use Rattle.sp_tree.specs.Plain.{Variable, Block}
 use Rattle.sp_meaning.specs.Model.{Name}
-use Rattle.sp_meaning.specs.Own.{Setting, Process, Held, Address, Loc, Cell, Input, Output, OfBlock, Frame, Item, Break}
+use Rattle.sp_meaning.specs.Own.{Setting, Process, Held, Address, Loc, Cell, Input, Output, OfBlock, Frame, Break}
 use Rattle.sp_meaning.specs.Deeds.{push, size_of_frame}
 use Rattle.sp_base.specs.declared.fault.Fault.TheVariants as fault
 use Rattle.sp_meaning.specs.Steps.{first_condition}

@@ -1,5 +1,5 @@
 -- Static links: what is visible from a frame is the same seen from the frames inside it.
-use Rattle.std.proofs.Common.{◌≡◌, ℕ, suc, ◌<◌, ◌≤◌, ◌==◌, Bool, true, false, List, [], ◌∷◌, length, Option, Some, None, refl, sym, ap, ◌∙◌, subst, arith, if◌then◌else◌, eqb-true, eq-eqb}
+use Rattle.std.proofs.Common.{◌≡◌, ℕ, suc, ◌<◌, ◌≤◌, ◌==◌, Bool, true, false, List, [], ◌∷◌, length, Some, refl, sym, ap, ◌∙◌, subst, arith, if◌then◌else◌, eqb-true, eq-eqb}
 use Rattle.sp_meaning.specs.Own.{Home, OfBlock, OfIndex, Frame, seek, newest, is_block}
 use Rattle.sp_meaning.specs.Owning.{find, IsInside, Linked}
 

@@ -15,7 +15,7 @@ use Rattle.sp_tree.specs.Plain.{Expr, Typed, ExprForm, Number, Read, Unary, Bina
 use Rattle.sp_meaning.specs.Model.{Channel, Name}
 use Rattle.sp_meaning.specs.Asking.{Asking, Done, Reads, Puts, and_then}
 use Rattle.sp_meaning.specs.Values.{Value, Undefined, Ordinal, Chan, Parts}
-use Rattle.sp_meaning.specs.Own.{Setting, Loc, Input, Output, Held, Address, Home, OfBlock, OfIndex, Frame, Own, Who, Came, Got, Bad, Lost, Long, Work, bind, go_on, give, fail, lost, look, put, fetch, assign, or_lost, visible, seek, newest, seen, is_block, is_index, referred}
+use Rattle.sp_meaning.specs.Own.{Setting, Loc, Input, Output, Held, Address, Home, OfBlock, OfIndex, Frame, Own, Who, Came, Got, Bad, Lost, Long, Work, bind, go_on, give, fail, lost, look, put, fetch, assign, or_lost, visible, seen, is_block, is_index, referred}
 use Rattle.sp_meaning.specs.Operators.{Worked, Yields, Refuses}
 use Rattle.sp_meaning.specs.Eval.{Place, At, Fixed, Given, Calls, work_of, as_ordinal, ordinal, channel, channels_op, operate, standard_op, input_op, ordinal_read, channel_read, checked, element_at, field_kind, kind_at, indexed, fielded, read_at, address_of, index_in, place_by, place_of, left_of, value, form_value, place, selected, actuals, address, ordinal_of}
 use Rattle.sp_tree.specs.Uses.{Use, Aims, Sees, In_expr, In_form, In_target, In_selectors, In_actuals, In_call}
@@ -122,8 +122,10 @@ module _ (q : Name) (W R : Loc → Type 0) (fs : List Frame) where
   assign_stays a v r u = then_stays (look a.spot) _ (look_stays a.spot r) (λ h. put_stays a.spot _ u)
 
   pub visible_keeps : (fits : Home → Bool) → Keeps q W R fs (Is (find fits (length fs) fs)) (visible fits)
-  visible_keeps fits = record { by = λ w o n e. subst (λ z. Within W R (λ a o1. (o1.frames ≡ fs) × Is (find fits (length fs) fs) a) (or_lost (seen fits z) w o)) (sym e)
-      (subst (λ x. Within W R (λ a o1. (o1.frames ≡ fs) × Is (find fits (length fs) fs) a) (or_lost x w o)) (sym (find_is fits (length fs) fs)) ((or_lost_keeps (find fits (length fs) fs)).by w o n e)) }
+  visible_keeps fits = record {
+    by = λ w o n e. subst (λ z. Within W R (λ a o1. (o1.frames ≡ fs) × Is (find fits (length fs) fs) a) (or_lost (seen fits z) w o)) (sym e)
+        (subst (λ x. Within W R (λ a o1. (o1.frames ≡ fs) × Is (find fits (length fs) fs) a) (or_lost x w o)) (sym (find_is fits (length fs) fs)) ((or_lost_keeps (find fits (length fs) fs)).by w o n e));
+  }
 
   work_stays : (x : Worked) → Stays (work_of x)
   work_stays (Yields n) = give_stays _
@@ -300,7 +302,6 @@ module _ (q : Name) (W R : Loc → Type 0) (fs : List Frame) where
       may_read : {Here : Use → Type 0} → Does Here → (x : ℕ) → Here (Sees x) → (z : Place) → Of (stands set.program fs x) z → MayRead z
       may_read s x a (At z) e = s.allowed [] (Sees x) a x z.spot (refl, e)
       may_read s x a (Fixed n) e = tt
-
 
       mutual
         pub value_stays : (call : Calls) → CallsKeep call → (e : Expr) → Does (In_expr e) → Stays (value set call e)

@@ -1,11 +1,11 @@
 -- The rules of interference by a test: sets that are closed under calls are given, and hold all that paths reach.
-use Rattle.std.proofs.Common.{◌≡◌, ◌≢◌, ◌⊎◌, inl, inr, ℕ, zero, suc, ◌+◌, ◌<◌, Bool, true, false, cond, not, ◌&&◌, ◌||◌, ◌==◌, List, [], ◌∷◌, ◌++◌, length, slice_get, nat_lt, Option, Some, None, refl, sym, ap, ◌∙◌, subst, arith, eqb-true, eq-eqb}
+use Rattle.std.proofs.Common.{◌≡◌, ◌⊎◌, inl, inr, ℕ, zero, suc, ◌+◌, ◌<◌, Bool, true, false, not, ◌&&◌, ◌||◌, ◌==◌, List, [], ◌∷◌, ◌++◌, length, slice_get, nat_lt, Option, Some, None, refl, sym, ap, ◌∙◌, subst, arith, eqb-true, eq-eqb}
 use Rattle.sp_tree.specs.declared.checked.Role.{Role}
 use Rattle.sp_tree.specs.declared.checked.Role.TheVariants as role
-use Rattle.sp_tree.specs.Plain.{Entire, ByValue, ByReference, Actuals, Nothing, Pass, Program, Variable, Block, Stmt, Stmts, No, And}
+use Rattle.sp_tree.specs.Plain.{Actuals, Program, Variable, Block, Stmts, No, And}
 use Rattle.sp_tree.specs.Uses.{Use, Aims, Sees, Runs, Splits, Spreads, Stops, In_stmt, In_stmts}
-use Rattle.sp_tree.specs.Sets.{IsBelow, IsFree, Passes, Reach, IsTarget, IsSeen, IsUsed, Implicit}
-use Rattle.sp_tree.specs.Interference.{refs, IsMember, AllDifferent, KeepsI1, KeepsI2, KeepsI4, KeepsI5, IsIndexOf, KeepsRules, IsFreeOfInterference}
+use Rattle.sp_tree.specs.Sets.{IsBelow, IsFree, Reach, IsTarget, IsSeen, IsUsed, Implicit}
+use Rattle.sp_tree.specs.Interference.{refs, IsMember, AllDifferent, KeepsI1, KeepsRules, IsFreeOfInterference}
 use Rattle.sp_tree.proofs.UsesOf.{Among, stmt_uses, stmts_uses, stmt_among, stmts_among}
 
 and_left : (a b : Bool) → a && b ≡ true → a ≡ true
@@ -393,9 +393,10 @@ module _ (p : Program) (claims : List Claim) where
     use_kept (Aims x) h = tt
     use_kept (Sees x) h = tt
     use_kept (Runs c args) h =
-        let clear : no_common (refs args) (T c) && no_common (refs args) (S c) ≡ true = and_right (all_different (refs args)) _ h in
-        (are_different (refs args) (and_left _ (no_common (refs args) (T c) && no_common (refs args) (S c)) h),
-        λ x m i. apart x m i clear)
+        let clear : no_common (refs args) (T c) && no_common (refs args) (S c) ≡ true = and_right (all_different (refs args)) _ h in (
+          are_different (refs args) (and_left _ (no_common (refs args) (T c) && no_common (refs args) (S c)) h),
+          λ x m i. apart x m i clear,
+        )
       where
         apart : (x : ℕ) → IsMember x (refs args) → Implicit p c x → no_common (refs args) (T c) && no_common (refs args) (S c) ≡ true → ⊥
         apart x m (k, e, f, inl t) clear = common_not (refs args) (T c) x (and_left _ (no_common (refs args) (S c)) clear) (member_has x (refs args) m) (reached_target t.0 x c k e t.1 f)

@@ -1,15 +1,14 @@
 -- Worked programs that keep the rules of interference, by computing, and some that break them.
-use Rattle.std.proofs.Common.{◌≡◌, inl, inr, ℕ, zero, suc, sym, subst, ap, ◌∙◌, List, [], ◌∷◌, true, Option, Some, None, refl, arith}
+use Rattle.std.proofs.Common.{◌≡◌, inl, inr, ℕ, zero, suc, sym, subst, ap, ◌∙◌, [], ◌∷◌, Some, None, refl, arith}
 use Rattle.std.specs.Prelude.{pos, slice_get}
 use Rattle.sp_tree.specs.declared.checked.KindOf.TheVariants as kind
 use Rattle.sp_tree.specs.declared.checked.Role.{Role}
 use Rattle.sp_tree.specs.declared.checked.Role.TheVariants as role
 use Rattle.sp_tree.specs.declared.operators.BinaryOp.TheVariants as op
-use Rattle.sp_tree.specs.Plain.{Expr, Typed, Number, Read, Binary, Apply, Var, Entire, Whole, Index, Select, ByValue, ByReference, Actuals, Nothing, Pass, Program, Variable, Block, Stmt, Assign, Call, Sequence, If, IfElse, Parallel, Forall, WriteValue, Open, Send, Receive, Stmts, No, And}
-use Rattle.sp_tree.specs.Uses.{In_stmt}
+use Rattle.sp_tree.specs.Plain.{Expr, Typed, Number, Read, Binary, Apply, Var, Entire, Whole, Index, Select, ByValue, ByReference, Actuals, Nothing, Pass, Program, Variable, Block, Stmt, Assign, Call, Sequence, If, IfElse, Parallel, Forall, WriteValue, Open, Send, Receive, No, And}
 use Rattle.sp_tree.specs.Sets.{IsFree}
 use Rattle.sp_tree.specs.Interference.{KeepsI1, KeepsI2, KeepsI4, KeepsI6, IsFreeOfInterference}
-use Rattle.sp_tree.proofs.Certified.{Claim, keeps_rules, certified}
+use Rattle.sp_tree.proofs.Certified.{Claim, certified}
 
 abbrev num : ℕ → Expr
 num n = Typed 0 (Number (pos n))
@@ -103,8 +102,8 @@ pipeline = record {
   variables = console ∷ console ∷ declared 2 0 role.Local ∷ declared 0 0 role.Local ∷ declared 1 1 role.Value ∷ declared 1 1 role.Value ∷ declared 0 1 role.Local ∷ declared 0 0 role.Index ∷ [];
   blocks = the_program (Sequence (And (Open (at 2 (num 0))) (And (Open (at 2 (num 1))) (And (Open (at 2 (num 2))) (And (Open (at 2 (num 3)))
       (And (Parallel (And (Send (get_at 2 (num 0)) (num 10))
-        (And (Forall 7 (num 1) (num 3) (Call 1 (Pass (ByValue (get_at 2 (minus (get 7) 1))) (Pass (ByValue (get_at 2 (get 7))) Nothing))))
-        (And (Receive (get_at 2 (num 3)) (var 3)) No))))
+      (And (Forall 7 (num 1) (num 3) (Call 1 (Pass (ByValue (get_at 2 (minus (get 7) 1))) (Pass (ByValue (get_at 2 (get 7))) Nothing))))
+      (And (Receive (get_at 2 (num 3)) (var 3)) No))))
       (And (WriteValue (get 3) None) No))))))) ∷ node ∷ [];
 }
 
@@ -124,9 +123,9 @@ tree = record {
         answer = None;
         body = IfElse (Typed 0 (Binary op.Eq (get 4) (num 0))) (Send (get 5) (num 1))
             (Sequence (And (Open (var 6)) (And (Open (var 7)) (And (Parallel
-              (And (Call 1 (Pass (ByValue (minus (get 4) 1)) (Pass (ByValue (get 6)) Nothing)))
-              (And (Call 1 (Pass (ByValue (minus (get 4) 1)) (Pass (ByValue (get 7)) Nothing)))
-              (And (Sequence (And (Receive (get 6) (var 8)) (And (Receive (get 7) (var 9)) (And (Send (get 5) (Typed 0 (Binary op.Add (get 8) (get 9)))) No)))) No)))) No))));
+            (And (Call 1 (Pass (ByValue (minus (get 4) 1)) (Pass (ByValue (get 6)) Nothing)))
+            (And (Call 1 (Pass (ByValue (minus (get 4) 1)) (Pass (ByValue (get 7)) Nothing)))
+            (And (Sequence (And (Receive (get 6) (var 8)) (And (Receive (get 7) (var 9)) (And (Send (get 5) (Typed 0 (Binary op.Add (get 8) (get 9)))) No)))) No)))) No))));
       } ∷ [];
 }
 
@@ -168,8 +167,8 @@ recursive_refused h = absurd (omega (arith, h (0, 1, refl, counts_itself, refl, 
     outside : IsFree recursive 1 2
     outside i e zero d = let s : declared 0 0 role.Local ≡ i = cc e in cc (s, d)
     outside i e (suc n) d =
-      let s : declared 0 0 role.Local ≡ i = cc e in
-      let at : slice_get recursive.blocks 0 ≡ Some d.0 = subst (λ (z : Variable). slice_get recursive.blocks z.block ≡ Some d.0) (sym s) d.1 in
-      let b : the_program (Sequence (And (Assign (var 2) (num 0)) (And (Call 1 Nothing) No))) ≡ d.0 = cc at in
-      let p : None ≡ Some d.2 = ap (λ (z : Block). z.parent) b ∙ d.3 in
-      absurd (cc p)
+        let s : declared 0 0 role.Local ≡ i = cc e in
+        let at : slice_get recursive.blocks 0 ≡ Some d.0 = subst (λ (z : Variable). slice_get recursive.blocks z.block ≡ Some d.0) (sym s) d.1 in
+        let b : the_program (Sequence (And (Assign (var 2) (num 0)) (And (Call 1 Nothing) No))) ≡ d.0 = cc at in
+        let p : None ≡ Some d.2 = ap (λ (z : Block). z.parent) b ∙ d.3 in
+        absurd (cc p)
