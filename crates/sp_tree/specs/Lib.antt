@@ -17,3 +17,5 @@ pub mod Breaches
 pub mod Uses
 pub mod Sets
 pub mod Interference
+pub mod Sites
+pub mod Interferes
