@@ -1,3 +1,4 @@
 pub mod UsesOf
 pub mod Certified
+pub mod Closure
 pub mod InterferenceRows
