@@ -3,3 +3,4 @@ pub mod Told
 pub mod Plans
 pub mod Rooms
 pub mod Files
+pub mod Tapes

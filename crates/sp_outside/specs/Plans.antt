@@ -1,5 +1,5 @@
 -- Which calls of an outside in memory fail.
-use Rattle.std.specs.Prelude.{ℕ, List, Bool, ◌==◌}
+use Rattle.std.specs.Prelude.{ℕ, List, Bool, ◌==◌, cond}
 use Rattle.std.specs.List.{list_any}
 use Rattle.sp_outside.specs.Counts.{next_count}
 use Rattle.sp_outside.specs.declared.plan.Plan.{Plan}
@@ -8,13 +8,17 @@ use Rattle.sp_outside.specs.declared.plan.Plan.{Plan}
 abbrev pub fails_next : Plan → Bool
 fails_next p = list_any (λ k. k == p.calls) p.failing
 
--- one call more, with a fault or without
+-- one call more
 abbrev pub called : Plan → Plan
 called p = record p { calls = next_count p.calls }
 
 -- one fault more
 abbrev pub faulted : Plan → Plan
 faulted p = record p { faults = next_count p.faults }
+
+-- after a call, with a fault or without
+abbrev pub after_call : Bool → Plan → Plan
+after_call fails p = cond fails (faulted (called p)) (called p)
 
 -- no call was made
 abbrev pub unused : List ℕ → Plan

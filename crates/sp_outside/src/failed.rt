@@ -1,7 +1,8 @@
 //! What the outside answers where it does not do what it is asked.
 
 ghost use Rattle.std.specs.Prelude.{◌≡◌};
-ghost use Rattle.sp_outside.specs.declared.failed.LoadError.TheVariants.{Memory as OutOfMemory};
+ghost use Rattle.sp_outside.specs.declared.failed.LoadError.TheVariants as load;
+ghost use Rattle.sp_outside.specs.declared.failed.ReadError.TheVariants as read;
 
 use std::alloc::AllocError;
 use thiserror::Error;
@@ -26,9 +27,39 @@ pub enum LoadError {
 }
 
 impl From<AllocError> for LoadError {
-    ghost from_gives = { λ _ e. e ≡ OutOfMemory };
+    ghost from_gives = { λ _ e. e ≡ load.Memory };
 
     fn from(_error: AllocError) -> LoadError {
         LoadError::Memory
+    }
+}
+
+/// Why a source is not read to its end.
+#[derive(Clone, Copy, Debug, PartialEq, Eq, Error)]
+pub enum ReadError {
+    /// The source counted a fault.
+    #[error("failed outside")]
+    Failed,
+    /// More bytes are left than the limit.
+    #[error("too long")]
+    TooLong,
+    /// Memory was refused.
+    #[error("out of memory")]
+    Memory,
+}
+
+impl From<Failed> for ReadError {
+    ghost from_gives = { λ _ e. e ≡ read.Failed };
+
+    fn from(_error: Failed) -> ReadError {
+        ReadError::Failed
+    }
+}
+
+impl From<AllocError> for ReadError {
+    ghost from_gives = { λ _ e. e ≡ read.Memory };
+
+    fn from(_error: AllocError) -> ReadError {
+        ReadError::Memory
     }
 }

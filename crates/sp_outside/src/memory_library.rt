@@ -3,7 +3,7 @@
 ghost use Rattle.std.specs.Prelude.{◌≡◌, ◌≢◌, ◌↔◌, ◌||◌, ℕ, List, [], Some, None, is_none, ◌<◌, ◌≤◌, length, IfOk, IfSome, IsTrue, vec_len, unwrap_or, drop};
 ghost use Rattle.std.specs.Option.{option_copied};
 ghost use Rattle.sp_outside.specs.Counts.{Rose};
-ghost use Rattle.sp_outside.specs.Plans.{fails_next, unused};
+ghost use Rattle.sp_outside.specs.Plans.{fails_next, after_call, unused};
 ghost use Rattle.sp_outside.specs.Files.{bytes_under};
 
 use crate::failed::LoadError;
@@ -48,6 +48,8 @@ impl Library for MemoryLibrary {
         // Exactly the calls that are to fail do, and those with a name that is not there.
         ensures exact { (result ≡ Err LoadError.Failed) ↔
             IsTrue (fails_next self.old.plan || is_none (bytes_under self.old.files name.now)) }
+        ensures plan { self.new.plan ≡
+            after_call (fails_next self.old.plan || is_none (bytes_under self.old.files name.now)) self.old.plan }
     {
         let fails = self.plan.fails();
         self.plan.call();

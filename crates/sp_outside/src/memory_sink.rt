@@ -48,7 +48,7 @@ impl MemorySink {
 
 impl Sink for MemorySink {
     ghost use Rattle.sp_outside.specs.Rooms.{told, IsPut};
-    ghost use Rattle.sp_outside.specs.Plans.{fails_next};
+    ghost use Rattle.sp_outside.specs.Plans.{fails_next, after_call};
 
     ghost written = { λ s. told s.room };
 
@@ -64,8 +64,11 @@ impl Sink for MemorySink {
 
         // Exactly the calls that are to fail do. What fits of the bytes taken is kept.
         ensures exact { IsErr result ↔ IsTrue (fails_next self.old.plan) }
+        ensures plan { self.new.plan ≡ after_call (fails_next self.old.plan) self.old.plan }
+        ensures most { self.new.most ≡ self.old.most }
         ensures count { IfOk result (λ n. n ≡ min (length piece.now) self.old.most) }
         ensures kept { IfOk result (λ n. IsPut self.old.room (take n piece.now) self.new.room) }
+        ensures same { OnErr result (self.new.room ≡ self.old.room) }
     {
         let fails = self.plan.fails();
         self.plan.call();

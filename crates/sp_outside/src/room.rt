@@ -35,8 +35,8 @@ impl Room {
         ensures told { Grows (told self.old) (told self.new) piece.now }
     {
         let count = piece.len().min(self.size - self.bytes.len());
-        let kept = self.bytes.extend_from_slice(&piece[..count]);
-        if count < piece.len() || kept.is_err() {
+        let _ = self.bytes.extend_from_slice(&piece[..count]);
+        if count < piece.len() {
             self.whole = false;
         }
     }

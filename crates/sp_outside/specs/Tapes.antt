@@ -1,0 +1,7 @@
+-- Bytes that are given out from the first to the last.
+use Rattle.std.specs.Prelude.{ℕ, List, drop}
+use Rattle.sp_outside.specs.declared.tape.Tape.{Tape}
+
+-- the bytes that were not given yet
+abbrev pub left_on : Tape → List ℕ
+left_on t = drop t.given t.bytes.items

@@ -1,0 +1,116 @@
+//! Sources in memory.
+
+ghost use Rattle.std.specs.Prelude.{◌≡◌, ◌↔◌, ◌<◌, ◌≤◌, Some, Ok, min, take, drop, length, IfOk, OnErr, IsErr, IsTrue};
+ghost use Rattle.sp_outside.specs.Told.{Shrinks, IsAtEnd};
+ghost use Rattle.sp_outside.specs.Counts.{Rose};
+
+use crate::failed::Failed;
+use crate::plan::Plan;
+use crate::source::Source;
+use crate::tape::Tape;
+use sp_base::List;
+
+/// Gives at most `most` bytes a call, and tells what is left. The calls whose numbers, from 0, are in `failing`
+/// fail, and no other.
+#[derive(Debug, Drop)]
+pub struct MemorySource {
+    tape: Tape,
+    most: usize,
+    plan: Plan,
+    ghost most_not_zero: { 1 ≤ most },
+}
+
+impl MemorySource {
+    ghost use Rattle.sp_outside.specs.Tapes.{left_on};
+    ghost use Rattle.sp_outside.specs.Plans.{unused};
+
+    pub fn new(bytes: Vec<u8>, most: usize, failing: List<u32>) -> MemorySource
+        requires { 1 ≤ most }
+        ensures left { left_on result.tape ≡ bytes.items }
+        ensures most { result.most ≡ most }
+        ensures plan { result.plan ≡ unused failing }
+    {
+        MemorySource {
+            tape: Tape::new(bytes),
+            most,
+            plan: Plan::new(failing),
+        }
+    }
+}
+
+impl Source for MemorySource {
+    ghost use Rattle.sp_outside.specs.Tapes.{left_on};
+    ghost use Rattle.sp_outside.specs.Plans.{fails_next, after_call};
+
+    ghost left = { λ s. Some (left_on s.tape) };
+
+    ghost faults = { λ s. s.plan.faults };
+
+    fn take(&mut self, buf: &mut [u8]) -> Result<usize, Failed>
+        ensures within { IfOk result (λ n. n ≤ length buf.old) }
+        ensures moved { IfOk result (λ n.
+            Shrinks (Some (left_on self.old.tape)) (Some (left_on self.new.tape)) (take n buf.new)) }
+        ensures rest { IfOk result (λ n. drop n buf.new ≡ drop n buf.old) }
+        ensures end { IfOk result (λ n. n ≡ 0 → 0 < length buf.old → IsAtEnd (Some (left_on self.old.tape))) }
+        ensures failed { OnErr result (Rose self.old.plan.faults self.new.plan.faults) }
+        ensures unchanged { OnErr result (Some (left_on self.new.tape) ≡ Some (left_on self.old.tape)) }
+        ensures counted { self.old.plan.faults ≤ self.new.plan.faults }
+
+        // Exactly the calls that are to fail do, and the others give all that they may.
+        ensures exact { IsErr result ↔ IsTrue (fails_next self.old.plan) }
+        ensures plan { self.new.plan ≡ after_call (fails_next self.old.plan) self.old.plan }
+        ensures most { self.new.most ≡ self.old.most }
+        ensures count { IfOk result (λ n. n ≡ min (min (length buf.old) self.old.most) (length (left_on self.old.tape))) }
+    {
+        let fails = self.plan.fails();
+        self.plan.call();
+        if fails {
+            self.plan.fault();
+            return Err(Failed);
+        }
+        Ok(self.tape.give(buf, self.most))
+    }
+}
+
+/// As a `MemorySource` of which no call fails, and that gives as many bytes a call as the buffer takes.
+#[derive(Debug, Drop)]
+pub struct SureSource {
+    tape: Tape,
+}
+
+impl SureSource {
+    ghost use Rattle.sp_outside.specs.Tapes.{left_on};
+
+    pub fn new(bytes: Vec<u8>) -> SureSource
+        ensures { left_on result.tape ≡ bytes.items }
+    {
+        SureSource {
+            tape: Tape::new(bytes),
+        }
+    }
+}
+
+impl Source for SureSource {
+    ghost use Rattle.sp_outside.specs.Tapes.{left_on};
+
+    ghost left = { λ s. Some (left_on s.tape) };
+
+    ghost faults = { λ _. 0 };
+
+    fn take(&mut self, buf: &mut [u8]) -> Result<usize, Failed>
+        ensures within { IfOk result (λ n. n ≤ length buf.old) }
+        ensures moved { IfOk result (λ n.
+            Shrinks (Some (left_on self.old.tape)) (Some (left_on self.new.tape)) (take n buf.new)) }
+        ensures rest { IfOk result (λ n. drop n buf.new ≡ drop n buf.old) }
+        ensures end { IfOk result (λ n. n ≡ 0 → 0 < length buf.old → IsAtEnd (Some (left_on self.old.tape))) }
+        ensures failed { OnErr result (Rose 0 0) }
+        ensures unchanged { OnErr result (Some (left_on self.new.tape) ≡ Some (left_on self.old.tape)) }
+        ensures counted { 0 ≤ 0 }
+
+        // Each call gives all that it may.
+        ensures all { result ≡ Ok (min (length buf.old) (length (left_on self.old.tape))) }
+    {
+        let most = buf.len();
+        Ok(self.tape.give(buf, most))
+    }
+}

@@ -1,0 +1,34 @@
+//! Bytes that are given out from the first to the last.
+
+ghost use Rattle.std.specs.Prelude.{◌≡◌, ◌≤◌, ◌++◌, Some, take, drop, length, min, vec_len};
+
+/// The bytes, and how many of them were given.
+#[derive(Debug, Drop)]
+pub struct Tape {
+    bytes: Vec<u8>,
+    given: usize,
+    ghost given_in_bytes: { given ≤ vec_len bytes },
+}
+
+impl Tape {
+    ghost use Rattle.sp_outside.specs.Tapes.{left_on};
+
+    pub fn new(bytes: Vec<u8>) -> Tape
+        ensures { left_on result ≡ bytes.items }
+    {
+        Tape { bytes, given: 0 }
+    }
+
+    /// Moves the next bytes into the front of the buffer, as many as it takes and `most` allows.
+    pub fn give(&mut self, buf: &mut [u8], most: usize) -> usize
+        ensures count { result ≡ min (min (length buf.old) most) (length (left_on self.old)) }
+        ensures moved { left_on self.old ≡ take result buf.new ++ left_on self.new }
+        ensures rest { drop result buf.new ≡ drop result buf.old }
+    {
+        let (_, left) = self.bytes.as_slice().split_at(self.given);
+        let count = buf.len().min(most).min(left.len());
+        buf[..count].copy_from_slice(&left[..count]);
+        self.given += count;
+        count
+    }
+}
