@@ -1,6 +1,6 @@
 -- What is told of the bytes that the outside holds, gives or gets.
-use Rattle.std.specs.Prelude.{◌≡◌, ℕ, ◌<◌, List, [], ◌++◌, length, Option, None, Some, IfSome}
-use Rattle.std.proofs.Common.{refl, sym, ◌∙◌, ap, append_assoc, append-nil, length-append, arith}
+use Rattle.std.specs.Prelude.{◌≡◌, ℕ, List, [], ◌++◌, Option, None, Some}
+use Rattle.std.proofs.Common.{refl, sym, ◌∙◌, ap, append_assoc, append-nil}
 
 -- where the bytes that were put are told, they grew by these. They may cease to be told, and are not told again
 abbrev pub Grows : Option (List ℕ) → Option (List ℕ) → List ℕ → Type 0
@@ -45,22 +45,3 @@ shrinks_more None (Some y) c p q g h = absurd g
 shrinks_more (Some x) None c p q g h = absurd g
 shrinks_more (Some x) (Some y) None p q g h = absurd h
 shrinks_more (Some x) (Some y) (Some z) p q g h = g ∙ ap (λ v. p ++ v) h ∙ sym (append_assoc p q z)
-
--- up to the end, all was taken
-pub shrinks_to_end : (a b : Option (List ℕ)) (p : List ℕ) → Shrinks a b p → IsAtEnd b → IfSome a (λ bytes. p ≡ bytes)
-shrinks_to_end None b p g e = tt
-shrinks_to_end (Some x) None p g e = absurd g
-shrinks_to_end (Some x) (Some y) p g e = sym (g ∙ ap (λ v. p ++ v) e ∙ append-nil p)
-
--- where nothing was taken at the end, it is still the end
-pub stays_at_end : (a b : Option (List ℕ)) → Shrinks a b [] → IsAtEnd a → IsAtEnd b
-stays_at_end None None g e = tt
-stays_at_end None (Some y) g e = absurd g
-stays_at_end (Some x) None g e = absurd g
-stays_at_end (Some x) (Some y) g e = sym g ∙ e
-
--- what was taken is no longer than what was there
-pub shrinks_within : (a b : Option (List ℕ)) (p : List ℕ) (n : ℕ) → Shrinks a b p → n < length p → IfSome a (λ bytes. n < length bytes)
-shrinks_within None b p n g m = tt
-shrinks_within (Some x) None p n g m = absurd g
-shrinks_within (Some x) (Some y) p n g m = omega (arith, ap length g, length-append p y)

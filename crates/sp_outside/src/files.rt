@@ -18,7 +18,9 @@ pub struct FileLibrary<'a, R: Files> {
 }
 
 impl<'a, R: Files> FileLibrary<'a, R> {
-    pub fn new(rt: &'a R) -> FileLibrary<'a, R> {
+    pub fn new(rt: &'a R) -> FileLibrary<'a, R>
+        ensures { result.faults ≡ 0 }
+    {
         FileLibrary { rt, faults: 0 }
     }
 }

@@ -19,6 +19,8 @@ mod sink;
 mod source;
 mod streams;
 mod tape;
+#[cfg(test)]
+mod tests;
 
 pub use failed::{Failed, LoadError, ReadError};
 pub use files::FileLibrary;

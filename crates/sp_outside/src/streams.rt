@@ -1,7 +1,7 @@
 //! Readers and writers of std as source and sink. What they give and get is not told.
 
 ghost use Rattle.std.specs.Prelude.{◌≡◌, None, ◌<◌, ◌≤◌, take, drop, length, IfOk, OnErr};
-ghost use Rattle.std.specs.Io.KnownBytes.{Consumes, Appends};
+ghost use Rattle.std.specs.Io.KnownBytes.{Consumes, Appends, IsAtEnd};
 ghost use Rattle.sp_outside.specs.Counts.{Rose};
 
 use crate::count::raised;
@@ -22,7 +22,9 @@ pub struct StreamSource<R: Read> {
 }
 
 impl<R: Read> StreamSource<R> {
-    pub fn new(reader: R) -> StreamSource<R> {
+    pub fn new(reader: R) -> StreamSource<R>
+        ensures { result ≡ record { reader = reader; faults = 0 } }
+    {
         StreamSource { reader, faults: 0 }
     }
 }
@@ -39,9 +41,11 @@ impl<R: Read> Source for StreamSource<R> {
         ensures failed { OnErr result (Rose self.old.faults self.new.faults) }
         ensures counted { self.old.faults ≤ self.new.faults }
 
-        // Where the reader's bytes are known, these are they.
+        // Where the reader's bytes are known, these are they, and none come only at their end.
         ensures reads { IfOk result (λ n.
             Consumes (R.remaining self.old.reader) (R.remaining self.new.reader) (take n buf.new)) }
+        ensures ends { IfOk result (λ n.
+            n ≡ 0 → 0 < length buf.old → IsAtEnd (R.remaining self.new.reader)) }
     {
         let mut piece = [0u8; PIECE];
         let most = buf.len().min(PIECE);
@@ -68,7 +72,9 @@ pub struct StreamSink<W: Write> {
 }
 
 impl<W: Write> StreamSink<W> {
-    pub fn new(writer: W) -> StreamSink<W> {
+    pub fn new(writer: W) -> StreamSink<W>
+        ensures { result ≡ record { writer = writer; faults = 0 } }
+    {
         StreamSink { writer, faults: 0 }
     }
 }
@@ -105,6 +111,7 @@ impl<W: Write> Sink for StreamSink<W> {
 fn read_some<R: Read>(reader: &mut R, buf: &mut [u8]) -> io::Result<usize>
     ensures within { IfOk result (λ n. n ≤ length buf.new) }
     ensures reads { IfOk result (λ n. Consumes (R.remaining reader.old) (R.remaining reader.new) (take n buf.new)) }
+    ensures ends { IfOk result (λ n. n ≡ 0 → 0 < length buf.old → IsAtEnd (R.remaining reader.new)) }
 {
     for _ in 0..u64::MAX {
         match reader.read(buf) {
