@@ -1,0 +1,310 @@
+-- The whole command line: the command and then its level.
+use Rattle.std.proofs.Common.{◌≡◌, ◌^◌, ◌&&◌, ℕ, Bool, cond, true, false, refl, sym, ap, ap₂, ◌∙◌, List, [], ◌∷◌, ◌++◌, map, Option, Some, None, option_map, is_some, true≢false, append_assoc, append-nil, inl, inr}
+use Rattle.std.specs.List.{find, fold, list_any, list_all}
+use Rattle.std.specs.Option.{option_map_or}
+use Rattle.std.specs.Prelude.{codes, nat_le, nat_lt, option_and_then}
+use Rattle.std.specs.Str.{bytes_eq}
+use Rattle.std.proofs.lemmas.Slice.Eq.{bytes_eq-Decides}
+use Rattle.std.specs.Str.Parse.{digits_value, without_leading_plus}
+use Rattle.clap.specs.Walk.{Names, Row, Rule, Walk, answers_to, finished, first_of, nothing_held, settled, stop_after, walk, walk_from, walked}
+use Rattle.clap.specs.Walk.{rows_after as matched_rows}
+use Rattle.clap.specs.Simple.{App, Shape, built, entered, is_simple, label_of, names_of, new_shape, rows_at, subcommand_of}
+use Rattle.clap.specs.Kinds.{Kinds, or_else}
+use Rattle.clap.specs.Faults.{built_fault, check_fault, defaults_fault, entered_fault, fault_of, settle_fault, is_simple_and_free, level_fault, turn_fault, walk_fault}
+use Rattle.clap.specs.ValueTests.{accepts}
+use Rattle.clap.proofs.FaultLemmas.{stopped_fault}
+use Rattle.clap.proofs.WalkLemmas.{first_value-rows}
+use Rattle.clap.specs.Matches.{first_value}
+use Rattle.clap.specs.Walk.{rows_of}
+use Rattle.clap.specs.Values.{kind_of}
+use Rattle.clap.specs.Kinds.{HasKind, IsAmong}
+use Rattle.clap.specs.declared.parser.matches.Found.{Found}
+use Rattle.clap.specs.declared.error.Error.{Error}
+use Rattle.clap.specs.declared.error.kind.ErrorKind.{ErrorKind}
+use Rattle.clap.specs.declared.error.kind.ErrorKind.TheVariants.{OutOfMemory}
+use Rattle.clap.specs.declared.builder.value_parser.ValueParser.{ValueParser}
+use Rattle.clap.specs.declared.builder.value_parser.ValueParser.TheVariants as vp
+use Rattle.sp_words.specs.Dashes.{Item, Text, contains, items}
+use Rattle.sp_words.specs.Options.{is_number_in, is_numeral, option_names, options_of}
+use Rattle.sp_words.specs.Parsers.{IsShowParser, app_with, run_parsers}
+use Rattle.sp_words.specs.Words.{command_named, command_names, command_of, command_of_items, command_read, command_with, each_once, is_accepted, lookup}
+use Rattle.sp_words.specs.declared.command.CommandName.{CommandName}
+use Rattle.sp_words.specs.declared.command.CommandName.TheVariants.{Check, Run, Code, Sets}
+use Rattle.sp_words.proofs.Readings.{Each}
+use Rattle.sp_words.proofs.Rules.{Parsers, clear, file_id, level, rules}
+use Rattle.sp_words.proofs.Levels.{and-false, good, names}
+use Rattle.sp_words.proofs.LevelEnds.{Agree, good_agrees, level_reads, names_agree}
+
+-- ---- the first word
+
+abbrev pub word_for : CommandName → Text
+word_for Check = codes "check"
+word_for Run = codes "run"
+word_for Code = codes "code"
+word_for Sets = codes "sets"
+
+some_same : {X : Type 0} {x y : X} → Some x ≡ Some y → x ≡ y
+some_same {X} {x} {y} e = ap (λ o. Rattle.std.specs.Prelude.unwrap_or o x) e
+
+none≢some : {X : Type 0} (x : X) → None ≡ Some x → ⊥
+none≢some x e = cc
+
+found_step : (x : Text × CommandName) (word : Text) (command : CommandName) (found : Option (Text × CommandName)) (b : Bool) → x.0 ≡ word_for x.1 → bytes_eq x.0 word ≡ b
+    → (option_map (λ p. p.1) found ≡ Some command → word ≡ word_for command)
+    → option_map (λ p. p.1) (cond b (Some x) found) ≡ Some command → word ≡ word_for command
+found_step x word command found true is d rest f = sym ((bytes_eq-Decides x.0 word).0 d) ∙ is ∙ ap word_for (some_same f)
+found_step x word command found false is d rest f = rest f
+
+word_found : (xs : List (Text × CommandName)) (word : Text) (command : CommandName) → Each (λ p. p.0 ≡ word_for p.1) xs
+    → option_map (λ p. p.1) (find (λ p. bytes_eq p.0 word) xs) ≡ Some command → word ≡ word_for command
+word_found [] word command each e = absurd (none≢some command e)
+word_found (x ∷ xs) word command each e = found_step x word command (find (λ p. bytes_eq p.0 word) xs) (bytes_eq x.0 word) each.0 refl (word_found xs word command each.1) e
+
+-- the word that names a command
+pub word_of_command : (word : Text) (command : CommandName) → command_named word ≡ Some command → word ≡ word_for command
+word_of_command word command e = word_found command_names word command (refl, (refl, (refl, (refl, tt)))) e
+
+-- ---- the walk past the command
+
+abbrev stopped : Text × List Text → Walk
+stopped p = record (walk_from nothing_held) { stopped = Some p }
+
+stays_stopped : (c : List Rule) (ns : Names) (words : List Text) (p : Text × List Text) → fold (walked c ns) (stopped p) words ≡ stopped (p.0, p.1 ++ words)
+unfolding walked
+stays_stopped c ns [] p = ap (λ (ws : List Text). stopped (p.0, ws)) (sym (append-nil p.1))
+stays_stopped c ns (word ∷ words) p =
+    stays_stopped c ns words (p.0, p.1 ++ word ∷ []) ∙ ap (λ (ws : List Text). stopped (p.0, ws)) (append_assoc p.1 (word ∷ []) words)
+
+or_else-nil : (a : Kinds) → or_else a [] ≡ a
+or_else-nil [] = refl
+or_else-nil (k ∷ ks) = refl
+
+abbrev pub top_shape : Shape
+top_shape = record (new_shape (codes "superpascal")) {
+  is_leaf = false;
+  no_binary_name = true;
+  disable_help_flag = true;
+  disable_help_subcommand = true;
+  disable_version_flag = true;
+  subcommand_required = true;
+  is_built = true;
+}
+
+abbrev pub app : List Shape → App
+app subs = record { top = top_shape; subs = subs }
+
+-- what is left of the parse where the first word names the shape s
+pub record Enters (subs : List Shape) (word : Text) (s : Shape) (words : List Text) : Type 0 where
+  pub fault : built_fault (app subs) nothing_held (word ∷ words) ≡ level_fault s [] nothing_held words false []
+  pub rows : entered (app subs) (stop_after [] (names_of (app subs)) (word ∷ words)) ≡ Some (rows_at s words)
+
+-- the word names the shape s, among the commands
+abbrev IsMet : List Shape → Text → Type 0
+IsMet subs word = option_map (λ x. x.0) (find (answers_to word) (map label_of subs)) ≡ Some word
+
+first_walk : (subs : List Shape) (word : Text) → IsMet subs word → walked [] (names_of (app subs)) (walk_from nothing_held) word ≡ stopped (word, [])
+unfolding walked
+first_walk subs word met = rw met refl
+
+first_turn : (subs : List Shape) (word : Text) → IsMet subs word → turn_fault top_shape (names_of (app subs)) (walk_from nothing_held) word ≡ []
+first_turn subs word met = rw met (rw (and-false (bytes_eq word (codes "help"))) refl)
+
+end_walk : (subs : List Shape) (word : Text) (words : List Text) → IsMet subs word → walk [] (names_of (app subs)) nothing_held (word ∷ words) ≡ stopped (word, words)
+end_walk subs word words met =
+    ap (λ (w : Walk). fold (walked [] (names_of (app subs))) w words) (first_walk subs word met) ∙ stays_stopped [] (names_of (app subs)) words (word, [])
+
+walk_clear : (subs : List Shape) (word : Text) (words : List Text) → IsMet subs word → walk_fault top_shape (names_of (app subs)) (walk_from nothing_held) (word ∷ words) ≡ []
+unfolding walk_fault
+walk_clear subs word words met =
+    ap₂ or_else (first_turn subs word met)
+    (ap (λ (w : Walk). walk_fault top_shape (names_of (app subs)) w words) (first_walk subs word met) ∙ stopped_fault top_shape (names_of (app subs)) (walk_from nothing_held) (word, []) words)
+
+-- the parse of the top level, where its walk ends so
+abbrev fault_at : List Shape → Kinds → Walk → Kinds
+fault_at subs walked_kinds end = or_else walked_kinds (or_else (entered_fault (app subs) end.stopped) (or_else (settle_fault [] false end.held)
+    (or_else (defaults_fault (settled [] end.held).rows []) (check_fault top_shape (finished [] end.held) (is_some (entered (app subs) end.stopped))))))
+
+end_fault : (subs : List Shape) (word : Text) (s : Shape) (words : List Text) → find (λ x. answers_to word (label_of x)) subs ≡ Some s
+    → fault_at subs [] (stopped (word, words)) ≡ level_fault s [] nothing_held words false []
+unfolding defaults_fault
+end_fault subs word s words sub = rw sub (or_else-nil (level_fault s [] nothing_held words false []))
+
+enters : (subs : List Shape) (word : Text) (s : Shape) (words : List Text) → IsMet subs word → find (λ x. answers_to word (label_of x)) subs ≡ Some s → Enters subs word s words
+enters subs word s words met sub = record {
+  fault = ap₂ (λ k w. fault_at subs k w) (walk_clear subs word words met) (end_walk subs word words met) ∙ end_fault subs word s words sub;
+  rows = ap (λ (w : Walk). entered (app subs) w.stopped) (end_walk subs word words met) ∙ ap (option_map (λ x. rows_at x words)) sub;
+}
+
+-- ---- the command line of superpascal
+
+abbrev pub parsers_for : ValueParser → CommandName → Parsers
+parsers_for q Check = []
+parsers_for q Run = run_parsers q
+parsers_for q Code = []
+parsers_for q Sets = []
+
+abbrev pub shapes : ValueParser → List Shape
+shapes q = level (codes "check") [] ∷ level (codes "run") (run_parsers q) ∷ level (codes "code") [] ∷ level (codes "sets") [] ∷ []
+
+built_is : (q : ValueParser) → built (app_with q) ≡ app (shapes q)
+built_is q = refl
+
+pub free : (q : ValueParser) → is_simple_and_free (app_with q) ≡ true
+free q = refl
+
+simple : (q : ValueParser) → is_simple (app_with q) ≡ true
+simple q = refl
+
+enters_command : (q : ValueParser) (command : CommandName) (words : List Text) → Enters (shapes q) (word_for command) (level (word_for command) (parsers_for q command)) words
+enters_command q Check words = enters (shapes q) (codes "check") (level (codes "check") []) words refl refl
+enters_command q Run words = enters (shapes q) (codes "run") (level (codes "run") (run_parsers q)) words refl refl
+enters_command q Code words = enters (shapes q) (codes "code") (level (codes "code") []) words refl refl
+enters_command q Sets words = enters (shapes q) (codes "sets") (level (codes "sets") []) words refl refl
+
+number_test : (a b : Bool) (n : ℕ) (f : ℕ → Bool) → (a && (b && f n)) ≡ option_map_or f (cond (a && b) (Some n) None) false
+number_test true true n f = refl
+number_test true false n f = refl
+number_test false b n f = refl
+
+-- a parser of numbers takes the numbers in its range
+takes_number : (least most : ℕ) (text : Text) → accepts false (vp.Unsigned least most) text ≡ is_number_in least most text
+takes_number least most text =
+    let digits = without_leading_plus text in
+    number_test (is_numeral digits) (nat_lt (digits_value 10 digits) (2 ^ 64)) (digits_value 10 digits) (λ n. nat_le least n && nat_le n most)
+
+agrees : (q : ValueParser) (command : CommandName) → IsShowParser q → Agree (parsers_for q command) (options_of command)
+agrees q Check show = tt
+agrees q Run show = (
+  refl,
+  takes_number 1 64,
+  (
+    refl,
+    takes_number 1 1000000000,
+    (
+      refl,
+      takes_number 1 10000,
+      (
+        refl,
+        takes_number 1 67108864,
+        (refl, takes_number 1 1000000, (refl, takes_number 1 1000000, (refl, takes_number 1 10000000, (refl, takes_number 1 268435456, (refl, show, tt))))),
+      ),
+    ),
+  ),
+)
+agrees q Code show = tt
+agrees q Sets show = tt
+
+no_file : (q : ValueParser) (command : CommandName) → contains (names (parsers_for q command)) file_id ≡ false
+no_file q Check = refl
+no_file q Run = refl
+no_file q Code = refl
+no_file q Sets = refl
+
+-- ---- the words
+
+abbrev pub line : ValueParser → Text → List Text → Kinds
+line q word words = fault_of (app_with q) (word ∷ words)
+
+-- what the parse of the words says of the command that they ask for
+pub record ReadsLine (q : ValueParser) (word : Text) (words : List Text) (command : CommandName) : Type 0 where
+  pub fault : clear (line q word words) ≡ is_some (command_of (word ∷ words))
+  pub rows : List Row
+  pub entered_rows : option_map (λ p. p.1) (subcommand_of (app_with q) (word ∷ words)) ≡ Some rows
+  pub found : clear (line q word words) ≡ true → command_with command (λ id. first_of id rows) ≡ command_of (word ∷ words)
+
+reads_as : (word : Text) (words : List Text) (command : CommandName) (is : List Item) → command_named word ≡ Some command → items (option_names command) None words ≡ Some is
+    → command_of (word ∷ words) ≡ command_of_items command is
+reads_as word words command is e i = ap (option_and_then (command_read words)) e ∙ ap (option_and_then (command_of_items command)) i
+
+some_of : (g : Bool) (command : CommandName) (is : List Item) → (g && is_some (lookup is file_id)) ≡ is_some (cond g (command_with command (lookup is)) None)
+some_of false command is = refl
+some_of true command is = go (lookup is file_id)
+  where
+    go : (o : Option Text) → is_some o ≡ is_some (option_map (Rattle.sp_words.specs.Words.command_from command (lookup is)) o)
+    go None = refl
+    go (Some t) = refl
+
+taken : (g : Bool) (command : CommandName) (is : List Item) → (g && is_some (lookup is file_id)) ≡ true → command_with command (lookup is) ≡ cond g (command_with command (lookup is)) None
+taken false command is e = absurd (true≢false (sym e))
+taken true command is e = refl
+
+left_of : (a b : Bool) → (a && b) ≡ true → a ≡ true
+left_of true b e = refl
+left_of false b e = absurd (true≢false (sym e))
+
+pub line_reads : (q : ValueParser) (word : Text) (words : List Text) (command : CommandName) (is : List Item) → IsShowParser q
+    → command_named word ≡ Some command → items (option_names command) None words ≡ Some is → ReadsLine q word words command
+line_reads q word words command is show e i =
+    let w : word ≡ word_for command = word_of_command word command e in
+    let os = parsers_for q command in
+    let agree = agrees q command show in
+    let read : items (names os) None words ≡ Some is = ap (λ (ns : List Text). items ns None words) (names_agree os (options_of command) agree) ∙ i in
+    let l = level_reads (word_for command) os words is (no_file q command) read in
+    let in_level = enters_command q command words in
+    let test = good_agrees os (options_of command) is [] [] agree (λ n. refl) in
+    let all = each_once [] is && list_all (is_accepted (options_of command)) is in
+    let fault : clear (line q word words) ≡ (good os [] is && is_some (lookup is file_id)) =
+    ap (λ (x : Text). clear (line q x words)) w ∙ ap clear in_level.fault ∙ l.fault in
+    let named = reads_as word words command is e i in
+    record {
+      fault = fault ∙ ap (λ g. g && is_some (lookup is file_id)) test ∙ some_of all command is ∙ ap is_some (sym named);
+      rows = matched_rows (rules os) [] words;
+      entered_rows = ap (λ (x : Text). option_map (λ (p : Text × List Row). p.1) (subcommand_of (app_with q) (x ∷ words))) w ∙ ap (option_map (λ p. p.1)) in_level.rows;
+      found = λ c.
+          let both : (good os [] is && is_some (lookup is file_id)) ≡ true = sym fault ∙ c in
+          ap (command_with command) (λ j id. l.found (left_of (good os [] is) (is_some (lookup is file_id)) both) id j)
+          ∙ taken all command is (ap (λ g. g && is_some (lookup is file_id)) (sym test) ∙ both)
+          ∙ sym named;
+    }
+
+some_there : {X : Type 0} (o : Option X) → is_some o ≡ true → (x : X) × (o ≡ Some x)
+some_there None e = absurd (true≢false (sym e))
+some_there (Some x) e = (x, refl)
+
+none_there : {X : Type 0} (o : Option X) → is_some o ≡ false → o ≡ None
+none_there None e = refl
+none_there (Some x) e = absurd (true≢false e)
+
+-- the words are a command, and others that keep its dash rule
+pub words_read : (q : ValueParser) (word : Text) (words : List Text) (command : CommandName) (ns : List Text) → IsShowParser q
+    → command_named word ≡ Some command → ns ≡ option_names command → is_some (items ns None words) ≡ true → ReadsLine q word words command
+words_read q word words command ns show e same some =
+    let there = some_there (items ns None words) some in
+    line_reads q word words command there.0 show e (ap (λ (xs : List Text). items xs None words) (sym same) ∙ there.1)
+
+-- the parse succeeded, and found the values f at the level of the command
+pub given_command : (a : App) (q : ValueParser) (word : Text) (words all : List Text) (command : CommandName) (f : Found) (sub : Option (Text × List Row))
+    → a ≡ app_with q → all ≡ word ∷ words → ReadsLine q word words command
+    → (is_simple_and_free a ≡ true → fault_of a all ≡ []) → (is_simple a ≡ true → sub ≡ subcommand_of a all)
+    → Some (rows_of f) ≡ option_map (λ p. p.1) sub
+    → command_with command (λ id. first_value f id) ≡ command_of all
+given_command a q word words all command f sub is_app is_all line_is faults subs rows =
+    let clean : fault_of a all ≡ [] = faults (ap is_simple_and_free is_app ∙ free q) in
+    let sub_is : sub ≡ subcommand_of a all = subs (ap is_simple is_app ∙ simple q) in
+    let same : rows_of f ≡ line_is.rows = some_same (rows ∙ ap (option_map (λ (p : Text × List Row). p.1)) (sub_is ∙ ap₂ subcommand_of is_app is_all) ∙ line_is.entered_rows) in
+    ap (command_with command) (λ j id. first_value-rows f id j)
+    ∙ ap (λ (r : List Row). command_with command (λ id. first_of id r)) same
+    ∙ line_is.found (ap clear (sym (ap₂ fault_of is_app is_all) ∙ clean))
+    ∙ ap command_of (sym is_all)
+
+-- a parse that succeeded has met a command
+pub never_alone : (a : App) (q : ValueParser) (word : Text) (words all : List Text) (command : CommandName) (sub : Option (Text × List Row))
+    → a ≡ app_with q → all ≡ word ∷ words → ReadsLine q word words command → (is_simple a ≡ true → sub ≡ subcommand_of a all)
+    → None ≡ option_map (λ p. p.1) sub → ⊥
+never_alone a q word words all command sub is_app is_all line_is subs rows =
+    let sub_is : sub ≡ subcommand_of a all = subs (ap is_simple is_app ∙ simple q) in
+    none≢some _ (rows ∙ ap (option_map (λ (p : Text × List Row). p.1)) (sub_is ∙ ap₂ subcommand_of is_app is_all) ∙ line_is.entered_rows)
+
+not_clear : (kinds : Kinds) (k : ErrorKind) → IsAmong k kinds → clear kinds ≡ false
+not_clear [] k h = absurd h
+not_clear (x ∷ xs) k h = refl
+
+-- the parse failed, and not for want of memory
+pub refused_command : (a : App) (q : ValueParser) (word : Text) (words all : List Text) (command : CommandName) (e : Error)
+    → a ≡ app_with q → all ≡ word ∷ words → ReadsLine q word words command
+    → (is_simple_and_free a ≡ true → HasKind (fault_of a all) e) → (kind_of e ≡ OutOfMemory → ⊥)
+    → command_of all ≡ None
+refused_command a q word words all command e is_app is_all line_is faults other =
+    let kinds : HasKind (fault_of a all) e = faults (ap is_simple_and_free is_app ∙ free q) in
+    let some : clear (fault_of a all) ≡ false = elim kinds [ inl memory ↦ absurd (other memory) | inr one ↦ not_clear (fault_of a all) (kind_of e) one ] in
+    ap command_of is_all ∙ none_there (command_of (word ∷ words)) (sym line_is.fault ∙ ap clear (sym (ap₂ fault_of is_app is_all)) ∙ some)

@@ -1,0 +1,467 @@
+-- What a parse makes of the words of one command: the same as the items of the words.
+use Rattle.std.proofs.Common.{◌≡◌, ◌&&◌, ◌||◌, ℕ, Bool, true, false, not, refl, sym, ap, ap₂, subst, ◌∙◌, List, [], ◌∷◌, ◌++◌, map, Option, Some, None, option_map, true≢false}
+use Rattle.std.specs.List.{find, fold}
+use Rattle.std.specs.Option.{option_map_or}
+use Rattle.std.specs.Prelude.{unwrap_or}
+use Rattle.std.specs.Str.{bytes_eq}
+use Rattle.clap.specs.Walk.{Held, Row, Walk, has_row, idle, is_pending, option, settled, settled_rows, used, value, walked, word_met}
+use Rattle.clap.specs.ValueTests.{accepts}
+use Rattle.clap.specs.Values.{reading_of}
+use Rattle.clap.specs.Kinds.{Kinds, or_else}
+use Rattle.clap.specs.Faults.{settle_fault, turn_fault, use_fault, walk_fault, word_fault}
+use Rattle.clap.specs.declared.builder.value_parser.Reading.{Reading}
+use Rattle.clap.specs.declared.builder.value_parser.Reading.TheVariants as reading
+use Rattle.clap.specs.declared.builder.value_parser.ValueParser.TheVariants as vp
+use Rattle.sp_words.specs.Dashes.{Item, Text, after_dash, by_form, contains, file, first_item, form_of, given, items, name_of, value_of, with_value}
+use Rattle.sp_words.specs.Words.{subject, text_of}
+use Rattle.sp_words.specs.declared.form.Form.{Form}
+use Rattle.sp_words.specs.declared.form.Form.TheVariants.{Plain, End, Whole, Open, Stray}
+use Rattle.sp_words.proofs.WordForms.{IsLongWord, IsPlainWord, Reads, dashes, plain_word_of, reads_by_form}
+use Rattle.sp_words.proofs.Rules.{IsOption, Parsers, built_file, built_option, clear, clear-or_else, fault_of_use, file_id, level, named, new_row, no_second, option_of, rows_of_use, rules}
+
+-- ---- items as uses
+
+-- the parser of an option takes its value
+abbrev pub takes : Parsers → Item → Bool
+takes os (file word) = true
+takes os (given name v) = option_map_or (λ p. accepts false p v) (option_map (λ o. o.1) (find (named name) os)) false
+
+abbrev pub reading_for : Parsers → Item → Reading
+reading_for os (file word) = reading.AsWritten
+reading_for os (given name v) = option_map_or reading_of (option_map (λ o. o.1) (find (named name) os)) reading.AsWritten
+
+abbrev pub row_for : Parsers → Item → Row
+row_for os i = new_row (subject i) (reading_for os i) (text_of i)
+
+-- the item is new, and has a value that it may have
+abbrev pub ok : Parsers → List Row → Item → Bool
+ok os rows i = not (has_row (subject i) rows) && takes os i
+
+abbrev pub good : Parsers → List Row → List Item → Bool
+good os rows [] = true
+good os rows (i ∷ is) = ok os rows i && good os (rows ++ row_for os i ∷ []) is
+
+abbrev pub rows_after : Parsers → List Row → List Item → List Row
+rows_after os rows [] = rows
+rows_after os rows (i ∷ is) = rows_after os (rows ++ row_for os i ∷ []) is
+
+-- the item that a walk has not yet used
+abbrev pub pend : Option Item → Option (Text × List Text)
+pend p = option_map (λ i. (subject i, text_of i ∷ [])) p
+
+abbrev pub ok_pending : Parsers → List Row → Option Item → Bool
+ok_pending os rows None = true
+ok_pending os rows (Some i) = ok os rows i
+
+abbrev pub plus : Parsers → List Row → Option Item → List Row
+plus os rows None = rows
+plus os rows (Some i) = rows ++ row_for os i ∷ []
+
+abbrev pub IsKnown : Parsers → Item → Type 0
+IsKnown os (file word) = Unit {0}
+IsKnown os (given name v) = IsOption os name
+
+abbrev pub IsKnownPending : Parsers → Option Item → Type 0
+IsKnownPending os None = Unit {0}
+IsKnownPending os (Some i) = IsKnown os i
+
+-- ---- states of the walk
+
+abbrev pub held_with : List Row → Option (Text × List Text) → Held
+held_with rows p = record { rows = rows; pending = p; skip = 0 }
+
+-- FILE was met, or not yet
+abbrev pub place : Bool → ℕ
+place false = 1
+place true = 2
+
+abbrev pub at : List Row → Option Item → Bool → Bool → Walk
+at rows p met trailing = record { held = held_with rows (pend p); waiting = idle; position = place met; is_trailing = trailing; stopped = None }
+
+abbrev pub wants : List Row → Text → Bool → Walk
+wants rows name met = record { held = held_with rows (Some (name, [])); waiting = option name; position = place met; is_trailing = false; stopped = None }
+
+abbrev pub run_from : Parsers → Walk → List Text → Walk
+run_from os w words = fold (walked (rules os) []) w words
+
+-- the words from the state on have no fault exactly where b holds, and then these rows are found
+pub record Level (name : Text) (os : Parsers) (w : Walk) (words : List Text) (b : Bool) (rows : List Row) : Type 0 where
+  pub fault : clear (or_else (walk_fault (level name os) [] w words) (settle_fault (rules os) false (run_from os w words).held)) ≡ b
+  pub rows_are : b ≡ true → (settled (rules os) (run_from os w words).held).rows ≡ rows
+
+-- ---- booleans
+
+and-true : (b : Bool) → (b && true) ≡ b
+and-true true = refl
+and-true false = refl
+
+pub and-false : (b : Bool) → (b && false) ≡ false
+and-false true = refl
+and-false false = refl
+
+pub or-false : (b : Bool) → (b || false) ≡ b
+or-false true = refl
+or-false false = refl
+
+pub or-assoc : (a b c : Bool) → ((a || b) || c) ≡ (a || (b || c))
+or-assoc true b c = refl
+or-assoc false b c = refl
+
+none≢some : {X : Type 0} (x : X) → None ≡ Some x → ⊥
+none≢some x e = cc
+
+some_same : {X : Type 0} {x y : X} → Some x ≡ Some y → x ≡ y
+some_same {X} {x} {y} e = ap (λ o. unwrap_or o x) e
+
+pub and-assoc : (a b c : Bool) → ((a && b) && c) ≡ (a && (b && c))
+and-assoc true b c = refl
+and-assoc false b c = refl
+
+and_left : (a b : Bool) → (a && b) ≡ true → a ≡ true
+and_left true b e = refl
+and_left false b e = absurd (true≢false (sym e))
+
+and_right : (a b : Bool) → (a && b) ≡ true → b ≡ true
+and_right true b e = e
+and_right false b e = absurd (true≢false (sym e))
+
+fresh : (h b : Bool) → (not h && b) ≡ true → h ≡ false
+fresh true b e = absurd (true≢false (sym e))
+fresh false b e = refl
+
+-- ---- using what is pending
+
+pub settle_is : (os : Parsers) (rows : List Row) (p : Option Item) → IsKnownPending os p
+    → clear (settle_fault (rules os) false (held_with rows (pend p))) ≡ ok_pending os rows p
+settle_is os rows None known = refl
+settle_is os rows (Some (file word)) known = fault_of_use file_id None (Some 1) vp.String true word rows
+settle_is os rows (Some (given name v)) known =
+    rw (known.by_id, known.found) (fault_of_use name (Some name) None known.parser false v rows)
+
+pub settled_is : (os : Parsers) (rows : List Row) (p : Option Item) → IsKnownPending os p → ok_pending os rows p ≡ true
+    → settled_rows (rules os) (pend p) rows ≡ plus os rows p
+settled_is os rows None known e = refl
+settled_is os rows (Some (file word)) known e = rows_of_use file_id None (Some 1) vp.String true word rows (fresh _ _ e)
+settled_is os rows (Some (given name v)) known e =
+    rw (known.by_id, known.found) (rows_of_use name (Some name) None known.parser false v rows (fresh _ _ e))
+
+-- ---- one word
+
+split : (x y z : Kinds) → clear (or_else (or_else x y) z) ≡ (clear x && clear (or_else y z))
+split [] y z = refl
+split (k ∷ ks) y z = refl
+
+abbrev rest_clear : Text → Parsers → Walk → List Text → Bool
+rest_clear name os w words = clear (or_else (walk_fault (level name os) [] w words) (settle_fault (rules os) false (run_from os w words).held))
+
+abbrev rest_rows : Parsers → Walk → List Text → List Row
+rest_rows os w words = (settled (rules os) (run_from os w words).held).rows
+
+-- a word with the faults t, after which the walk stands at w'
+advance : (name : Text) (os : Parsers) (w w' : Walk) (word : Text) (words : List Text) (t b : Bool) (rows : List Row)
+    → clear (turn_fault (level name os) [] w word) ≡ t → (t ≡ true → walked (rules os) [] w word ≡ w') → Level name os w' words b rows
+    → Level name os w (word ∷ words) (t && b) rows
+unfolding walk_fault
+advance name os w w' word words true b rows turn steps rest = record {
+  fault = split (turn_fault (level name os) [] w word) _ _ ∙ ap₂ (λ x y. x && y) turn (ap (λ (v : Walk). rest_clear name os v words) (steps refl) ∙ rest.fault);
+  rows_are = λ e. ap (λ (v : Walk). rest_rows os v words) (steps refl) ∙ rest.rows_are e;
+}
+advance name os w w' word words false b rows turn steps rest = record {
+  fault = split (turn_fault (level name os) [] w word) _ _ ∙ ap (λ x. x && rest_clear name os (walked (rules os) [] w word) words) turn;
+  rows_are = λ e. absurd (true≢false (sym e));
+}
+
+refused_here : (name : Text) (os : Parsers) (w : Walk) (word : Text) (words : List Text) (rows : List Row)
+    → clear (turn_fault (level name os) [] w word) ≡ false → Level name os w (word ∷ words) false rows
+unfolding walk_fault
+refused_here name os w word words rows turn = record {
+  fault = split (turn_fault (level name os) [] w word) _ _ ∙ ap (λ x. x && rest_clear name os (walked (rules os) [] w word) words) turn;
+  rows_are = λ e. absurd (true≢false (sym e));
+}
+
+or_else-nil : (a : Kinds) → or_else a [] ≡ a
+or_else-nil [] = refl
+or_else-nil (k ∷ ks) = refl
+
+abbrev held_at : List Row → Option Item → Held
+held_at rows p = held_with rows (pend p)
+
+-- a word that goes to FILE
+value_turn : (name : Text) (os : Parsers) (rows : List Row) (p : Option Item) (trailing : Bool) (word : Text)
+    → word_fault (level name os) [] trailing idle word (held_at rows p) ≡ []
+    → word_met (rules os) [] trailing idle 1 word (held_at rows p) ≡ (held_at rows p, value)
+    → turn_fault (level name os) [] (at rows p false trailing) word ≡ settle_fault (rules os) false (held_at rows p)
+value_turn name os rows p trailing word e m = rw (e, m) (rw (and-false (is_pending built_file (pend p))) refl)
+
+value_walk : (os : Parsers) (rows : List Row) (p : Option Item) (trailing : Bool) (word : Text)
+    → word_met (rules os) [] trailing idle 1 word (held_at rows p) ≡ (held_at rows p, value)
+    → walked (rules os) [] (at rows p false trailing) word ≡ at (settled_rows (rules os) (pend p) rows) (Some (file word)) true trailing
+unfolding walked
+value_walk os rows p trailing word m = rw m (rw (and-false (is_pending built_file (pend p)), or-false trailing) refl)
+
+-- a word where FILE was met before
+second_turn : (name : Text) (os : Parsers) (rows : List Row) (p : Option Item) (trailing : Bool) (word : Text)
+    → word_fault (level name os) [] trailing idle word (held_at rows p) ≡ []
+    → word_met (rules os) [] trailing idle 2 word (held_at rows p) ≡ (held_at rows p, value)
+    → clear (turn_fault (level name os) [] (at rows p true trailing) word) ≡ false
+second_turn name os rows p trailing word e m = rw (e, m, no_second os) refl
+
+plain_fault : (name : Text) (os : Parsers) (h : Held) (word : Text) → IsPlainWord word → word_fault (level name os) [] false idle word h ≡ []
+plain_fault name os h word plain = rw (plain.not_end, plain.no_long, plain.no_short) refl
+
+plain_met : (os : Parsers) (k : ℕ) (h : Held) (word : Text) → IsPlainWord word → word_met (rules os) [] false idle k word h ≡ (h, value)
+plain_met os k h word plain = rw (plain.not_end, plain.no_long, plain.no_short) refl
+
+end_turn : (name : Text) (os : Parsers) (rows : List Row) (p : Option Item) (met : Bool) (word : Text) → word ≡ dashes
+    → turn_fault (level name os) [] (at rows p met false) word ≡ []
+end_turn name os rows p met word e = rw e refl
+
+end_walk : (os : Parsers) (rows : List Row) (p : Option Item) (met : Bool) (word : Text) → word ≡ dashes
+    → walked (rules os) [] (at rows p met false) word ≡ at rows p met true
+unfolding walked
+end_walk os rows p met word e = rw e refl
+
+-- `--name=value`
+whole_turn : (name : Text) (os : Parsers) (ns : List Text) (rows : List Row) (p : Option Item) (met : Bool) (word v : Text) (long : IsLongWord ns word (Some v)) (o : IsOption os (name_of word))
+    → turn_fault (level name os) [] (at rows p met false) word
+    ≡ or_else (settle_fault (rules os) false (held_at rows p)) (use_fault false (built_option (name_of word) o.parser) (v ∷ []) (settled_rows (rules os) (pend p) rows))
+whole_turn name os ns rows p met word v long o = rw (long.not_end, long.long, o.by_long) (or_else-nil _)
+
+whole_walk : (os : Parsers) (ns : List Text) (rows : List Row) (p : Option Item) (met : Bool) (word v : Text) (long : IsLongWord ns word (Some v)) (o : IsOption os (name_of word))
+    → walked (rules os) [] (at rows p met false) word ≡ at (used (built_option (name_of word) o.parser) (v ∷ []) (settled_rows (rules os) (pend p) rows)) None met false
+unfolding walked
+whole_walk os ns rows p met word v long o = rw (long.not_end, long.long, o.by_long) refl
+
+-- `--name`
+open_turn : (name : Text) (os : Parsers) (ns : List Text) (rows : List Row) (p : Option Item) (met : Bool) (word : Text) (long : IsLongWord ns word None) (o : IsOption os (name_of word))
+    → turn_fault (level name os) [] (at rows p met false) word ≡ settle_fault (rules os) false (held_at rows p)
+open_turn name os ns rows p met word long o = rw (long.not_end, long.long, o.by_long) (or_else-nil _)
+
+open_walk : (os : Parsers) (ns : List Text) (rows : List Row) (p : Option Item) (met : Bool) (word : Text) (long : IsLongWord ns word None) (o : IsOption os (name_of word))
+    → walked (rules os) [] (at rows p met false) word ≡ wants (settled_rows (rules os) (pend p) rows) (name_of word) met
+unfolding walked
+open_walk os ns rows p met word long o = rw (long.not_end, long.long, o.by_long) refl
+
+-- the value after it
+wanted_turn : (name : Text) (os : Parsers) (rows : List Row) (n : Text) (met : Bool) (word : Text) → IsPlainWord word
+    → turn_fault (level name os) [] (wants rows n met) word ≡ []
+wanted_turn name os rows n met word plain = rw (plain.not_end, plain.no_long, plain.no_short) refl
+
+wanted_walk : (os : Parsers) (rows : List Row) (n : Text) (met : Bool) (word : Text) → IsPlainWord word → IsOption os n
+    → walked (rules os) [] (wants rows n met) word ≡ at rows (Some (given n word)) met false
+unfolding walked
+wanted_walk os rows n met word plain o = rw (plain.not_end, plain.no_long, plain.no_short, o.by_id) (rw o.itself refl)
+
+-- ---- all the words
+
+-- where the walk stands between two words: something may be pending, or an option waits for its value
+pub data Stand : Type 0 where
+  rests : Option Item → Stand
+  waits : Text → Stand
+
+abbrev pub walk_at : List Row → Stand → Bool → Walk
+walk_at rows (rests p) met = at rows p met false
+walk_at rows (waits n) met = wants rows n met
+
+abbrev pub waiting_at : Stand → Option Text
+waiting_at (rests p) = None
+waiting_at (waits n) = Some n
+
+abbrev pub ok_at : Parsers → List Row → Stand → Bool
+ok_at os rows (rests p) = ok_pending os rows p
+ok_at os rows (waits n) = true
+
+abbrev pub rows_at : Parsers → List Row → Stand → List Row
+rows_at os rows (rests p) = plus os rows p
+rows_at os rows (waits n) = rows
+
+abbrev pub IsKnownStand : Parsers → Stand → Type 0
+IsKnownStand os (rests p) = IsKnownPending os p
+IsKnownStand os (waits n) = IsOption os n
+
+abbrev pub names : Parsers → List Text
+names os = map (λ o. o.0) os
+
+-- the words from a state on are as the items that they hold
+abbrev pub Goal : Text → Parsers → List Row → Walk → Bool → List Row → List Text → List Item → Type 0
+Goal name os rows w first now words is = Level name os w words (first && good os now is) (rows_after os now is)
+
+pub has_row-more : (id : Text) (rows : List Row) (r : Row) → has_row id (rows ++ r ∷ []) ≡ (has_row id rows || bytes_eq r.id id)
+has_row-more id [] r = or-false (bytes_eq r.id id)
+has_row-more id (x ∷ rows) r = ap (λ b. bytes_eq x.id id || b) (has_row-more id rows r) ∙ sym (or-assoc (bytes_eq x.id id) (has_row id rows) (bytes_eq r.id id))
+
+pub or-true : (b : Bool) → (b || true) ≡ true
+or-true true = refl
+or-true false = refl
+
+-- FILE is met by a FILE, and by nothing else
+file_met : (rows : List Row) (r : Row) → bytes_eq r.id file_id ≡ true → true ≡ has_row file_id (rows ++ r ∷ [])
+file_met rows r e = sym (has_row-more file_id rows r ∙ ap (λ b. has_row file_id rows || b) e ∙ or-true (has_row file_id rows))
+
+file_kept : (rows : List Row) (r : Row) (met : Bool) → bytes_eq r.id file_id ≡ false → met ≡ has_row file_id rows → met ≡ has_row file_id (rows ++ r ∷ [])
+file_kept rows r met e m = m ∙ sym (has_row-more file_id rows r ∙ ap (λ b. has_row file_id rows || b) e ∙ or-false (has_row file_id rows))
+
+first_inv : (i : Item) (r : Option (List Item)) (is : List Item) → first_item i r ≡ Some is → (rest : List Item) × (r ≡ Some rest) × (i ∷ rest ≡ is)
+first_inv i None is e = absurd (none≢some is e)
+first_inv i (Some rest) is e = (rest, refl, some_same e)
+
+-- the first FILE, with the words after it
+file_first : (name : Text) (os : Parsers) (rows : List Row) (p : Option Item) (trailing : Bool) (word : Text) (words : List Text) (is : List Item)
+    → IsKnownPending os p
+    → word_fault (level name os) [] trailing idle word (held_at rows p) ≡ []
+    → word_met (rules os) [] trailing idle 1 word (held_at rows p) ≡ (held_at rows p, value)
+    → Goal name os rows (at (plus os rows p) (Some (file word)) true trailing) (ok os (plus os rows p) (file word)) (plus os rows p ++ row_for os (file word) ∷ []) words is
+    → Goal name os rows (at rows p false trailing) (ok_pending os rows p) (plus os rows p) (word ∷ words) (file word ∷ is)
+file_first name os rows p trailing word words is known e m rest =
+    advance name os (at rows p false trailing) (at (plus os rows p) (Some (file word)) true trailing) word words (ok_pending os rows p) _ _
+    (ap clear (value_turn name os rows p trailing word e m) ∙ settle_is os rows p known)
+    (λ t. value_walk os rows p trailing word m ∙ ap (λ (r : List Row). at r (Some (file word)) true trailing) (settled_is os rows p known t))
+    rest
+
+-- a second FILE
+file_again : (name : Text) (os : Parsers) (rows : List Row) (p : Option Item) (trailing : Bool) (word : Text) (words : List Text) (is : List Item)
+    → true ≡ has_row file_id (plus os rows p)
+    → word_fault (level name os) [] trailing idle word (held_at rows p) ≡ []
+    → word_met (rules os) [] trailing idle 2 word (held_at rows p) ≡ (held_at rows p, value)
+    → Goal name os rows (at rows p true trailing) (ok_pending os rows p) (plus os rows p) (word ∷ words) (file word ∷ is)
+file_again name os rows p trailing word words is met e m =
+    subst (λ (b : Bool). Level name os (at rows p true trailing) (word ∷ words) b (rows_after os (plus os rows p) (file word ∷ is)))
+    (sym (ap (λ (h : Bool). ok_pending os rows p && ((not h && true) && good os (plus os rows p ++ row_for os (file word) ∷ []) is)) (sym met) ∙ and-false (ok_pending os rows p)))
+    (refused_here name os (at rows p true trailing) word words _ (second_turn name os rows p trailing word e m))
+
+no_words : (name : Text) (os : Parsers) (rows : List Row) (p : Option Item) (met trailing : Bool) → IsKnownPending os p
+    → Goal name os rows (at rows p met trailing) (ok_pending os rows p) (plus os rows p) [] []
+unfolding walk_fault
+no_words name os rows p met trailing known = record {
+  fault = settle_is os rows p known ∙ sym (and-true (ok_pending os rows p));
+  rows_are = λ e. settled_is os rows p known (and_left _ _ e);
+}
+
+-- after `--` each word is a FILE
+trailing_words : (name : Text) (os : Parsers) (words : List Text) (rows : List Row) (p : Option Item) (met : Bool) → IsKnownPending os p → met ≡ has_row file_id (plus os rows p)
+    → Goal name os rows (at rows p met true) (ok_pending os rows p) (plus os rows p) words (map file words)
+trailing_words name os [] rows p met known m = no_words name os rows p met true known
+trailing_words name os (word ∷ words) rows p true known m = file_again name os rows p true word words (map file words) m refl refl
+trailing_words name os (word ∷ words) rows p false known m =
+    file_first name os rows p true word words (map file words) known refl refl
+    (trailing_words name os words (plus os rows p) (Some (file word)) true tt (file_met (plus os rows p) _ refl))
+
+-- the state after `--name=value`
+whole_word : (name : Text) (os : Parsers) (ns : List Text) (rows : List Row) (p : Option Item) (met : Bool) (word v : Text) (words : List Text) (is : List Item)
+    → IsKnownPending os p → IsLongWord ns word (Some v) → (o : IsOption os (name_of word))
+    → Goal name os (plus os rows p ++ row_for os (given (name_of word) v) ∷ []) (at (plus os rows p ++ row_for os (given (name_of word) v) ∷ []) None met false)
+    true (plus os rows p ++ row_for os (given (name_of word) v) ∷ []) words is
+    → Goal name os rows (at rows p met false) (ok_pending os rows p) (plus os rows p) (word ∷ words) (given (name_of word) v ∷ is)
+whole_word name os ns rows p met word v words is known long o rest =
+    subst (λ (b : Bool). Level name os (at rows p met false) (word ∷ words) b (rows_after os (plus os rows p) (given (name_of word) v ∷ is)))
+    (and-assoc (ok_pending os rows p) (ok os (plus os rows p) (given (name_of word) v)) (good os (plus os rows p ++ row_for os (given (name_of word) v) ∷ []) is))
+    (advance name os (at rows p met false) (at (plus os rows p ++ row_for os (given (name_of word) v) ∷ []) None met false) word words
+    (ok_pending os rows p && ok os (plus os rows p) (given (name_of word) v)) _ _ (turn (ok_pending os rows p) refl) steps rest)
+  where
+    use_is : (r : List Row) → clear (use_fault false (built_option (name_of word) o.parser) (v ∷ []) r) ≡ ok os r (given (name_of word) v)
+    use_is r = rw o.found (fault_of_use (name_of word) (Some (name_of word)) None o.parser false v r)
+
+    turn : (t : Bool) → ok_pending os rows p ≡ t → clear (turn_fault (level name os) [] (at rows p met false) word) ≡ (ok_pending os rows p && ok os (plus os rows p) (given (name_of word) v))
+    turn true e =
+        ap clear (whole_turn name os ns rows p met word v long o) ∙ clear-or_else (settle_fault (rules os) false (held_at rows p)) _
+        ∙ ap₂ (λ x y. x && y) (settle_is os rows p known)
+        (ap (λ (r : List Row). clear (use_fault false (built_option (name_of word) o.parser) (v ∷ []) r)) (settled_is os rows p known e) ∙ use_is (plus os rows p))
+    turn false e =
+        ap clear (whole_turn name os ns rows p met word v long o) ∙ clear-or_else (settle_fault (rules os) false (held_at rows p)) _
+        ∙ ap (λ x. x && clear (use_fault false (built_option (name_of word) o.parser) (v ∷ []) (settled_rows (rules os) (pend p) rows))) (settle_is os rows p known ∙ e)
+        ∙ ap (λ x. x && ok os (plus os rows p) (given (name_of word) v)) (sym e)
+
+    use_rows : (r : List Row) → has_row (name_of word) r ≡ false → used (built_option (name_of word) o.parser) (v ∷ []) r ≡ r ++ row_for os (given (name_of word) v) ∷ []
+    use_rows r e = rw o.found (rows_of_use (name_of word) (Some (name_of word)) None o.parser false v r e)
+
+    steps : (ok_pending os rows p && ok os (plus os rows p) (given (name_of word) v)) ≡ true
+        → walked (rules os) [] (at rows p met false) word ≡ at (plus os rows p ++ row_for os (given (name_of word) v) ∷ []) None met false
+    steps t =
+        whole_walk os ns rows p met word v long o
+        ∙ ap (λ (r : List Row). at (used (built_option (name_of word) o.parser) (v ∷ []) r) None met false) (settled_is os rows p known (and_left (ok_pending os rows p) (ok os (plus os rows p) (given (name_of word) v)) t))
+        ∙ ap (λ (r : List Row). at r None met false) (use_rows (plus os rows p) (fresh (has_row (name_of word) (plus os rows p)) (takes os (given (name_of word) v)) (and_right (ok_pending os rows p) (ok os (plus os rows p) (given (name_of word) v)) t)))
+
+-- what the words after a state come to, at each state
+abbrev pub Ahead : Text → Parsers → List Text → Type 0
+Ahead name os words = (st : Stand) (rows : List Row) (met : Bool) (is : List Item) → IsKnownStand os st → met ≡ has_row file_id (rows_at os rows st)
+    → items (names os) (waiting_at st) words ≡ Some is → Goal name os rows (walk_at rows st met) (ok_at os rows st) (rows_at os rows st) words is
+
+-- a FILE before `--`
+plain_step : (name : Text) (os : Parsers) (rows : List Row) (p : Option Item) (met : Bool) (word : Text) (words : List Text) (is : List Item)
+    → IsKnownPending os p → met ≡ has_row file_id (plus os rows p) → IsPlainWord word → items (names os) None words ≡ Some is → Ahead name os words
+    → Goal name os rows (at rows p met false) (ok_pending os rows p) (plus os rows p) (word ∷ words) (file word ∷ is)
+plain_step name os rows p true word words is known m plain e ahead =
+    file_again name os rows p false word words is m (plain_fault name os (held_at rows p) word plain) (plain_met os 2 (held_at rows p) word plain)
+plain_step name os rows p false word words is known m plain e ahead =
+    file_first name os rows p false word words is known (plain_fault name os (held_at rows p) word plain) (plain_met os 1 (held_at rows p) word plain)
+    (ahead (rests (Some (file word))) (plus os rows p) true is tt (file_met (plus os rows p) _ refl) e)
+
+whole_step : (name : Text) (os : Parsers) (rows : List Row) (p : Option Item) (met : Bool) (word : Text) (words : List Text) (is : List Item)
+    → IsKnownPending os p → met ≡ has_row file_id (plus os rows p) → IsLongWord (names os) word (Some (value_of word)) → IsOption os (name_of word)
+    → items (names os) None words ≡ Some is → Ahead name os words
+    → Goal name os rows (at rows p met false) (ok_pending os rows p) (plus os rows p) (word ∷ words) (given (name_of word) (value_of word) ∷ is)
+whole_step name os rows p met word words is known m long o e ahead =
+    whole_word name os (names os) rows p met word (value_of word) words is known long o
+    (ahead (rests None) (plus os rows p ++ row_for os (given (name_of word) (value_of word)) ∷ []) met is tt
+    (file_kept (plus os rows p) (row_for os (given (name_of word) (value_of word))) met o.no_file m) e)
+
+open_step : (name : Text) (os : Parsers) (rows : List Row) (p : Option Item) (met : Bool) (word : Text) (words : List Text) (is : List Item)
+    → IsKnownPending os p → met ≡ has_row file_id (plus os rows p) → IsLongWord (names os) word None → IsOption os (name_of word)
+    → items (names os) (Some (name_of word)) words ≡ Some is → Ahead name os words
+    → Goal name os rows (at rows p met false) (ok_pending os rows p) (plus os rows p) (word ∷ words) is
+open_step name os rows p met word words is known m long o e ahead =
+    advance name os (at rows p met false) (wants (plus os rows p) (name_of word) met) word words (ok_pending os rows p) _ _
+    (ap clear (open_turn name os (names os) rows p met word long o) ∙ settle_is os rows p known)
+    (λ t. open_walk os (names os) rows p met word long o ∙ ap (λ (r : List Row). wants r (name_of word) met) (settled_is os rows p known t))
+    (ahead (waits (name_of word)) (plus os rows p) met is o m e)
+
+end_step : (name : Text) (os : Parsers) (rows : List Row) (p : Option Item) (met : Bool) (word : Text) (words : List Text)
+    → IsKnownPending os p → met ≡ has_row file_id (plus os rows p) → word ≡ dashes
+    → Goal name os rows (at rows p met false) (ok_pending os rows p) (plus os rows p) (word ∷ words) (map file words)
+end_step name os rows p met word words known m e =
+    advance name os (at rows p met false) (at rows p met true) word words true _ _
+    (ap clear (end_turn name os rows p met word e)) (λ t. end_walk os rows p met word e) (trailing_words name os words rows p met known m)
+
+-- one word where no option waits
+rest_step : (name : Text) (os : Parsers) (none : contains (names os) file_id ≡ false) (rows : List Row) (p : Option Item) (met : Bool) (word : Text) (words : List Text) (is : List Item) (f : Form)
+    → IsKnownPending os p → met ≡ has_row file_id (plus os rows p) → Reads (names os) word f
+    → by_form f word words (λ waiting. items (names os) waiting words) ≡ Some is → Ahead name os words
+    → Goal name os rows (at rows p met false) (ok_pending os rows p) (plus os rows p) (word ∷ words) is
+rest_step name os none rows p met word words is Plain known m plain e ahead =
+    let inv = first_inv (file word) (items (names os) None words) is e in
+    subst (λ (js : List Item). Goal name os rows (at rows p met false) (ok_pending os rows p) (plus os rows p) (word ∷ words) js) inv.2
+    (plain_step name os rows p met word words inv.0 known m plain inv.1 ahead)
+rest_step name os none rows p met word words is End known m same e ahead =
+    subst (λ (js : List Item). Goal name os rows (at rows p met false) (ok_pending os rows p) (plus os rows p) (word ∷ words) js) (some_same e)
+    (end_step name os rows p met word words known m same)
+rest_step name os none rows p met word words is Whole known m long e ahead =
+    let inv = first_inv (given (name_of word) (value_of word)) (items (names os) None words) is e in
+    subst (λ (js : List Item). Goal name os rows (at rows p met false) (ok_pending os rows p) (plus os rows p) (word ∷ words) js) inv.2
+    (whole_step name os rows p met word words inv.0 known m long (option_of os (name_of word) none long.known) inv.1 ahead)
+rest_step name os none rows p met word words is Open known m long e ahead =
+    open_step name os rows p met word words is known m long (option_of os (name_of word) none long.known) e ahead
+rest_step name os none rows p met word words is Stray known m u e ahead = absurd (none≢some is e)
+
+-- the word after `--name`
+wait_step : (name : Text) (os : Parsers) (rows : List Row) (n : Text) (met : Bool) (word : Text) (words : List Text) (is : List Item) (dash : Option Text)
+    → IsOption os n → met ≡ has_row file_id rows → after_dash word ≡ dash
+    → with_value n word dash (items (names os) None words) ≡ Some is → Ahead name os words
+    → Goal name os rows (wants rows n met) true rows (word ∷ words) is
+wait_step name os rows n met word words is (Some tail) o m d e ahead = absurd (none≢some is e)
+wait_step name os rows n met word words is None o m d e ahead =
+    let inv = first_inv (given n word) (items (names os) None words) is e in
+    let plain = plain_word_of word d in
+    subst (λ (js : List Item). Goal name os rows (wants rows n met) true rows (word ∷ words) js) inv.2
+    (advance name os (wants rows n met) (at rows (Some (given n word)) met false) word words true _ _
+    (ap clear (wanted_turn name os rows n met word plain)) (λ t. wanted_walk os rows n met word plain o)
+    (ahead (rests (Some (given n word))) rows met inv.0 o (file_kept rows (row_for os (given n word)) met o.no_file m) inv.1))
+
+pub words_ahead : (name : Text) (os : Parsers) (none : contains (names os) file_id ≡ false) (words : List Text) → Ahead name os words
+words_ahead name os none [] (rests p) rows met is known m e =
+    subst (λ (js : List Item). Goal name os rows (at rows p met false) (ok_pending os rows p) (plus os rows p) [] js) (some_same e)
+    (no_words name os rows p met false known)
+words_ahead name os none [] (waits n) rows met is known m e = absurd (none≢some is e)
+words_ahead name os none (word ∷ words) (rests p) rows met is known m e =
+    rest_step name os none rows p met word words is (form_of (names os) word) known m (reads_by_form (names os) word) e (words_ahead name os none words)
+words_ahead name os none (word ∷ words) (waits n) rows met is known m e =
+    wait_step name os rows n met word words is (after_dash word) known m refl e (words_ahead name os none words)

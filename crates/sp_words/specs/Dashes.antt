@@ -1,0 +1,86 @@
+-- How the words after the command are read from left to right.
+use Rattle.std.specs.Prelude.{◌==◌, ℕ, Bool, List, [], ◌∷◌, Option, Some, None, drop, if◌then◌else◌, map, option_map}
+use Rattle.std.specs.List.{after_first, before_first, list_any}
+use Rattle.std.specs.Str.{bytes_eq}
+use Rattle.sp_words.specs.declared.form.Form.{Form}
+use Rattle.sp_words.specs.declared.form.Form.TheVariants.{Plain, End, Whole, Open, Stray}
+
+abbrev pub Text : Type 0
+Text = List ℕ
+
+abbrev pub contains : List Text → Text → Bool
+contains texts text = list_any (λ t. bytes_eq t text) texts
+
+-- what follows a first dash (45)
+abbrev pub after_dash : Text → Option Text
+after_dash [] = None
+after_dash (x ∷ xs) = if x == 45 then Some xs else None
+
+-- what stands before the first `=` (61), and what stands after it if there is one
+abbrev pub name_and_value : Text → Text × Option Text
+name_and_value text = (
+  before_first (λ b. b == 61) text,
+  if list_any (λ b. b == 61) text then Some (after_first (λ b. b == 61) text) else None,
+)
+
+-- `name=value` has its value, and `name` wants it
+abbrev pub form_by_value : Option Text → Form
+form_by_value (Some value) = Whole
+form_by_value None = Open
+
+-- the word names an option of the command, by its name and what stands after `=`
+abbrev pub form_of_option : List Text → Text × Option Text → Form
+form_of_option options read = if contains options read.0 then form_by_value read.1 else Stray
+
+-- the text after two dashes
+abbrev pub form_of_text : List Text → Text → Form
+form_of_text options [] = End
+form_of_text options (x ∷ xs) = form_of_option options (name_and_value (x ∷ xs))
+
+abbrev pub form_of_tail : List Text → Option Text → Form
+form_of_tail options None = Stray
+form_of_tail options (Some text) = form_of_text options text
+
+abbrev pub form_of_rest : List Text → Option Text → Form
+form_of_rest options None = Plain
+form_of_rest options (Some tail) = form_of_tail options (after_dash tail)
+
+-- how a word before `--` reads
+abbrev pub form_of : List Text → Text → Form
+form_of options word = form_of_rest options (after_dash word)
+
+-- the name in `--name` and `--name=value`, and the value in the latter
+abbrev pub name_of : Text → Text
+name_of word = (name_and_value (drop 2 word)).0
+
+abbrev pub value_of : Text → Text
+value_of word = after_first (λ b. b == 61) (drop 2 word)
+
+-- what the words give: a FILE, or an option by its name with its value
+pub data Item : Type 0 where
+  file : Text → Item
+  given : Text → Text → Item
+
+-- the item first, where the words after it can be read
+abbrev pub first_item : Item → Option (List Item) → Option (List Item)
+first_item item rest = option_map (λ items. item ∷ items) rest
+
+-- the value of an option does not begin with a dash
+abbrev pub with_value : Text → Text → Option Text → Option (List Item) → Option (List Item)
+with_value name word (Some tail) rest = None
+with_value name word None rest = first_item (given name word) rest
+
+-- what a word gives by its form; `rest` reads the words after it, with the option that waits for its value
+abbrev pub by_form : Form → Text → List Text → (Option Text → Option (List Item)) → Option (List Item)
+by_form Plain word words rest = first_item (file word) (rest None)
+by_form End word words rest = Some (map file words)
+by_form Whole word words rest = first_item (given (name_of word) (value_of word)) (rest None)
+by_form Open word words rest = rest (Some (name_of word))
+by_form Stray word words rest = None
+
+-- the items of the words, where they keep the dash rule; an option may wait for its value
+abbrev pub items : List Text → Option Text → List Text → Option (List Item)
+items options None [] = Some []
+items options (Some name) [] = None
+items options (Some name) (word ∷ words) = with_value name word (after_dash word) (items options None words)
+items options None (word ∷ words) = by_form (form_of options word) word words (λ waiting. items options waiting words)

@@ -1,0 +1,4 @@
+pub mod Dashes
+pub mod Options
+pub mod Parsers
+pub mod Words

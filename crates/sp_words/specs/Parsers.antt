@@ -1,0 +1,56 @@
+-- The parser of command lines, as the kit's crate sees it.
+use Rattle.std.specs.Prelude.{◌≡◌, ◌∷◌, true, false, List, [], Some, codes, is_some, map}
+use Rattle.clap.specs.Simple.{App, Shape, new_rule, new_shape}
+use Rattle.clap.specs.Walk.{Rule}
+use Rattle.clap.specs.ValueTests.{accepts}
+use Rattle.clap.specs.declared.builder.action.ArgAction.TheVariants.{Set}
+use Rattle.clap.specs.declared.builder.value_parser.ValueParser.{ValueParser}
+use Rattle.clap.specs.declared.builder.value_parser.ValueParser.TheVariants as vp
+use Rattle.sp_words.specs.Dashes.{Text}
+use Rattle.sp_words.specs.Options.{show_named}
+
+-- FILE, which has to be there
+abbrev pub file_rule : Rule
+file_rule = record (new_rule (codes "FILE")) { required = true; action = Some Set }
+
+-- an option with the parser of its value
+abbrev pub option_rule : Text × ValueParser → Rule
+option_rule o = record (new_rule o.0) { long = Some o.0; action = Some Set; parser = Some o.1 }
+
+-- the options of `run` with the parsers of their values, where q is that of `--show`
+abbrev pub run_parsers : ValueParser → List (Text × ValueParser)
+run_parsers q = (codes "workers", vp.Unsigned 1 64)
+    ∷ (codes "ticks", vp.Unsigned 1 1000000000)
+    ∷ (codes "depth", vp.Unsigned 1 10000)
+    ∷ (codes "cells", vp.Unsigned 1 67108864)
+    ∷ (codes "processes", vp.Unsigned 1 1000000)
+    ∷ (codes "channels", vp.Unsigned 1 1000000)
+    ∷ (codes "entries", vp.Unsigned 1 10000000)
+    ∷ (codes "output", vp.Unsigned 1 268435456)
+    ∷ (codes "show", q) ∷ []
+
+-- the parser takes the names of the reports
+abbrev pub IsShowParser : ValueParser → Type 0
+IsShowParser q = (text : Text) → accepts false q text ≡ is_some (show_named text)
+
+abbrev pub shape_with : Text → List (Text × ValueParser) → Shape
+shape_with name options = record (new_shape name) { rules = file_rule ∷ map option_rule options }
+
+-- a command with its FILE alone
+abbrev pub app_with_file : Text → App
+app_with_file name = record { top = shape_with name []; subs = [] }
+
+-- the whole command line
+abbrev pub app_with : ValueParser → App
+app_with q = record {
+  top = record (new_shape (codes "superpascal")) {
+    is_leaf = false;
+    no_binary_name = true;
+    disable_help_flag = true;
+    disable_help_subcommand = true;
+    disable_version_flag = true;
+    subcommand_required = true;
+  };
+  subs = shape_with (codes "check") [] ∷ shape_with (codes "run") (run_parsers q)
+      ∷ shape_with (codes "code") [] ∷ shape_with (codes "sets") [] ∷ [];
+}

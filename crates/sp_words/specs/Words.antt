@@ -1,0 +1,76 @@
+-- What a list of words asks for.
+use Rattle.std.specs.Prelude.{◌&&◌, ◌++◌, ◌^◌, Bool, true, false, not, List, [], ◌∷◌, Option, None, codes, find, if◌then◌else◌, option_and_then, option_map}
+use Rattle.std.specs.List.{list_all}
+use Rattle.std.specs.Option.{option_map_or}
+use Rattle.std.specs.Str.{bytes_eq}
+use Rattle.sp_base.specs.declared.limits.Limits.{Limits}
+use Rattle.sp_words.specs.Dashes.{Item, Text, contains, file, given, items}
+use Rattle.sp_words.specs.Options.{Choice, number_or, option_names, options_of, show_or_end}
+use Rattle.sp_words.specs.declared.command.Command.{Command}
+use Rattle.sp_words.specs.declared.command.Command.TheVariants as command
+use Rattle.sp_words.specs.declared.command.CommandName.{CommandName}
+use Rattle.sp_words.specs.declared.command.CommandName.TheVariants as name
+
+-- what an item is about: FILE, or an option
+abbrev pub subject : Item → Text
+subject (file word) = codes "FILE"
+subject (given name value) = name
+
+abbrev pub text_of : Item → Text
+text_of (file word) = word
+text_of (given name value) = value
+
+-- no subject comes twice, nor one that was seen before
+abbrev pub each_once : List Text → List Item → Bool
+each_once seen [] = true
+each_once seen (i ∷ is) = not (contains seen (subject i)) && each_once (seen ++ subject i ∷ []) is
+
+-- the option may have this value, and any word is a FILE
+abbrev pub is_accepted : List Choice → Item → Bool
+is_accepted options (file word) = true
+is_accepted options (given name value) = option_map_or (λ o. o.1 value) (find (λ o. bytes_eq o.0 name) options) false
+
+-- the text of a subject
+abbrev pub lookup : List Item → Text → Option Text
+lookup is name = option_map text_of (find (λ i. bytes_eq (subject i) name) is)
+
+abbrev pub limits_from : (Text → Option Text) → Limits
+limits_from value = record {
+  ticks = number_or (2 ^ 64) 10000000 (value (codes "ticks"));
+  depth = number_or (2 ^ 32) 1000 (value (codes "depth"));
+  cells = number_or (2 ^ 32) 4194304 (value (codes "cells"));
+  processes = number_or (2 ^ 32) 100000 (value (codes "processes"));
+  channels = number_or (2 ^ 32) 100000 (value (codes "channels"));
+  entries = number_or (2 ^ 32) 1000000 (value (codes "entries"));
+  output = number_or (2 ^ 64) 16777216 (value (codes "output"));
+}
+
+-- the command with its FILE, where there is one, and what its options were given
+abbrev pub command_from : CommandName → (Text → Option Text) → Text → Command
+command_from name.Check value word = command.Check word
+command_from name.Run value word = command.Run word (number_or (2 ^ 32) 4 (value (codes "workers"))) (limits_from value) (show_or_end (value (codes "show")))
+command_from name.Code value word = command.Code word
+command_from name.Sets value word = command.Sets word
+
+abbrev pub command_with : CommandName → (Text → Option Text) → Option Command
+command_with command value = option_map (command_from command value) (value (codes "FILE"))
+
+-- the items are a FILE and options with values that they may have, each at most once
+abbrev pub command_of_items : CommandName → List Item → Option Command
+command_of_items command is =
+    if each_once [] is && list_all (is_accepted (options_of command)) is then command_with command (lookup is)
+    else None
+
+abbrev pub command_names : List (Text × CommandName)
+command_names = (codes "check", name.Check) ∷ (codes "run", name.Run) ∷ (codes "code", name.Code) ∷ (codes "sets", name.Sets) ∷ []
+
+abbrev pub command_named : Text → Option CommandName
+command_named word = option_map (λ p. p.1) (find (λ p. bytes_eq p.0 word) command_names)
+
+abbrev pub command_read : List Text → CommandName → Option Command
+command_read words command = option_and_then (command_of_items command) (items (option_names command) None words)
+
+-- the first word is the command, and the others are read by its options
+abbrev pub command_of : List Text → Option Command
+command_of [] = None
+command_of (word ∷ words) = option_and_then (command_read words) (command_named word)

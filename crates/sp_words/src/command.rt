@@ -1,0 +1,65 @@
+//! What the words may ask for.
+
+ghost use Rattle.std.specs.Prelude.{◌≡◌};
+ghost use Rattle.sp_words.specs.declared.command.WordsError.TheVariants.{Memory as OutOfMemory};
+
+use sp_base::{Limits, Show, Word};
+use std::alloc::{AllocError, AllocFailed};
+use thiserror::Error;
+
+/// What the words ask for. `file` and the other words name the program text.
+#[derive(Debug, Drop)]
+pub enum Command {
+    /// Say whether the text keeps all rules, or name the first that it breaks.
+    Check(Word),
+    /// Run the program.
+    Run {
+        file: Word,
+        /// How many workers run its processes, from 1 to 64.
+        workers: u32,
+        limits: Limits,
+        /// What is reported beside the end and the verdict.
+        show: Show,
+    },
+    /// List the code of the program.
+    Code(Word),
+    /// List the variable sets of its statements.
+    Sets(Word),
+}
+
+/// The names of the commands.
+#[derive(Clone, Copy, Debug, PartialEq, Eq)]
+pub(crate) enum CommandName {
+    Check,
+    Run,
+    Code,
+    Sets,
+}
+
+/// Why the words give no command.
+#[derive(Clone, Copy, Debug, PartialEq, Eq, Error)]
+pub enum WordsError {
+    /// A command or a FILE is missing or unknown, there is a second FILE, an option is unknown, repeated, without
+    /// its value or out of its range, or a word breaks the dash rule.
+    #[error("bad words")]
+    Refused,
+    /// Memory was refused.
+    #[error("out of memory")]
+    Memory,
+}
+
+impl From<AllocError> for WordsError {
+    ghost from_gives = { λ _ e. e ≡ OutOfMemory };
+
+    fn from(_error: AllocError) -> WordsError {
+        WordsError::Memory
+    }
+}
+
+impl<T: Drop> From<AllocFailed<T>> for WordsError {
+    ghost from_gives = { λ _ e. e ≡ OutOfMemory };
+
+    fn from(_error: AllocFailed<T>) -> WordsError {
+        WordsError::Memory
+    }
+}

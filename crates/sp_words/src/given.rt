@@ -1,0 +1,96 @@
+//! From what a parse found to the command that it asks for.
+
+ghost use Rattle.std.specs.Prelude.{◌≡◌, ◌^◌, IfErr, IfOk, List, None, Some, codes, ℕ};
+ghost use Rattle.clap.specs.Words.{first_value, found_of};
+ghost use Rattle.sp_words.specs.Options.{number_or, show_named, show_or_end};
+ghost use Rattle.sp_words.specs.Words.{command_with, limits_from};
+
+use crate::command::{Command, CommandName, WordsError};
+use clap::ArgMatches;
+use sp_base::{Limits, Show, Word};
+use std::alloc::Global;
+
+// The number that an option was given, or its default.
+fn number(given: &ArgMatches<'_>, name: &str, default: u64) -> u64
+    ensures { result ≡ number_or (2 ^ 64) default (first_value (found_of given.now) name.now) }
+{
+    match given.get_str(name) {
+        Some(text) => text.parse::<u64>().unwrap_or(default),
+        None => default,
+    }
+}
+
+fn small_number(given: &ArgMatches<'_>, name: &str, default: u32) -> u32
+    ensures { result ≡ number_or (2 ^ 32) default (first_value (found_of given.now) name.now) }
+{
+    match given.get_str(name) {
+        Some(text) => text.parse::<u32>().unwrap_or(default),
+        None => default,
+    }
+}
+
+fn limits(given: &ArgMatches<'_>) -> Limits
+    ensures { result ≡ limits_from (λ id. first_value (found_of given.now) id) }
+{
+    Limits {
+        ticks: number(given, "ticks", 10_000_000),
+        depth: small_number(given, "depth", 1_000),
+        cells: small_number(given, "cells", 4_194_304),
+        processes: small_number(given, "processes", 100_000),
+        channels: small_number(given, "channels", 100_000),
+        entries: small_number(given, "entries", 1_000_000),
+        output: number(given, "output", 16_777_216),
+    }
+}
+
+fn show_named(text: &str) -> Option<Show>
+    ensures { result ≡ show_named text.now }
+{
+    match text {
+        "end" => Some(Show::End),
+        "timeline" => Some(Show::Timeline),
+        "census" => Some(Show::Census),
+        "tree" => Some(Show::Tree),
+        "waiting" => Some(Show::Waiting),
+        "all" => Some(Show::All),
+        "journal" => Some(Show::Journal),
+        _ => None,
+    }
+}
+
+fn show(given: &ArgMatches<'_>) -> Show
+    ensures { result ≡ show_or_end (first_value (found_of given.now) (codes "show")) }
+{
+    match given.get_str("show") {
+        Some(text) => show_named(text).unwrap_or(Show::End),
+        None => Show::End,
+    }
+}
+
+/// The command with what its level of the parse found. Without a FILE it is refused.
+pub(crate) fn command_given(
+    alloc: Global,
+    command: CommandName,
+    given: &ArgMatches<'_>,
+) -> Result<Command, WordsError>
+    ensures ok { IfOk result (λ c.
+        command_with command (λ id. first_value (found_of given.now) id) ≡ Some c) }
+    ensures refused { IfErr result (λ e. e ≡ WordsError.Refused
+        → command_with command (λ id. first_value (found_of given.now) id) ≡ None) }
+{
+    let Some(text) = given.get_str("FILE") else {
+        return Err(WordsError::Refused);
+    };
+    let file = Word::of(String::from_str(alloc, text)?);
+    Ok(match command {
+        CommandName::Check => Command::Check(file),
+        CommandName::Run => Command::Run {
+            file,
+            workers: small_number(given, "workers", 4),
+            limits: limits(given),
+            show: show(given),
+        },
+        CommandName::Code => Command::Code(file),
+        CommandName::Sets => Command::Sets(file),
+    })
+}
