@@ -1,0 +1,80 @@
+//! The rule of a room's table, and what each step tells.
+use crate::desk::Desk;
+use crate::kept::Kept;
+use crate::view::View;
+use atomic_table::{Join, Play, Split, TableRule};
+use std::marker::PhantomData;
+use std::snapshot::Snapshot;
+
+/// What holds between any two steps.
+pub struct Law<K> {
+    of: PhantomData<K>,
+}
+
+impl<K: Kept> TableRule<Option<Box<Desk<K, K::Note>>>, View<K, K::Note>, Snapshot<K>> for Law<K> {
+    ghost use Rattle.sp_room.specs.Roomed.{Roomed, first_view};
+
+    ghost holds = { λ key. Roomed K.opens K.steps K.author key.value };
+
+    ghost first = { λ key. first_view key.value };
+}
+
+/// Takes the turn, where it is free.
+pub struct Take<K> {
+    of: PhantomData<K>,
+}
+
+impl<K: Kept> Play<Option<Box<Desk<K, K::Note>>>, View<K, K::Note>> for Take<K> {
+    ghost use Rattle.sp_room.specs.Roomed.{Won};
+
+    ghost then = { Won K.opens K.steps K.author };
+}
+
+/// Counts a note.
+pub struct Raise;
+
+impl<O, N> Play<Option<Box<Desk<O, N>>>, View<O, N>> for Raise {
+    ghost use Rattle.sp_room.specs.Roomed.{Raised};
+
+    ghost then = { Raised };
+}
+
+/// Counts a note of the reserve.
+pub struct RaiseLast;
+
+impl<O, N> Play<Option<Box<Desk<O, N>>>, View<O, N>> for RaiseLast {
+    ghost use Rattle.sp_room.specs.Roomed.{RaisedLast};
+
+    ghost then = { RaisedLast };
+}
+
+/// Gives the turn back.
+pub struct GiveBack;
+
+impl<O, N> Play<Option<Box<Desk<O, N>>>, View<O, N>> for GiveBack {
+    ghost use Rattle.sp_room.specs.Roomed.{Returned};
+
+    ghost then = { Returned };
+}
+
+/// Makes the next seat.
+pub struct Deal;
+
+impl<O, N> Split<View<O, N>> for Deal {
+    ghost use Rattle.sp_room.specs.Roomed.{dealt_out, newcomer};
+
+    ghost left = { dealt_out };
+
+    ghost right = { newcomer };
+}
+
+/// Takes in the seat before, at the end.
+pub struct TakeIn;
+
+impl<O, N> Join<View<O, N>> for TakeIn {
+    ghost use Rattle.sp_room.specs.Roomed.{taking, spent_view};
+
+    ghost both = { taking };
+
+    ghost spent = { spent_view };
+}

@@ -1,0 +1,133 @@
+//! Taking the turn and giving it back.
+ghost use Rattle.std.specs.Prelude.{◌≡◌, ◌-◌, ◌+◌, ◌%◌, ◌^◌, ◌<◌, ◌≤◌, true, false, Some, None, [], ◌∷◌, ◌++◌, length};
+ghost use Rattle.std.specs.Vec.{vec_capacity};
+ghost use Rattle.sp_room.specs.Roomed.{holder, raised, raised_last, returned, Holds, IsIdle};
+ghost use Rattle.sp_room.specs.History.{Runs};
+
+use crate::desk::Desk;
+use crate::kept::Kept;
+use crate::law::{GiveBack, Raise, RaiseLast, Take};
+use crate::seat::Room;
+use crate::view::View;
+use atomic_table::Seat;
+use std::sync::Wait;
+
+/// The word that says whose turn it is.
+const TURN: usize = 0;
+
+/// The word that counts the history.
+const COUNT: usize = 1;
+
+// Waits until the turn is free, and takes the desk. Who loses a try sleeps until a turn is given back.
+pub(crate) fn take_turn<K: Kept, R: Wait>(
+    rt: &R,
+    room: &Room<K>,
+    seat: &mut Seat<Option<Box<Desk<K, K::Note>>>, View<K, K::Note>>,
+    number: u32,
+) -> Box<Desk<K, K::Note>>
+    requires room { seat.old.table_id ≡ room.now.table.shared.table_id }
+    requires idle { IsIdle seat.old.me × (number ≡ seat.old.me.0.number) }
+    ensures same { (seat.new.table_id ≡ seat.old.table_id) × (seat.new.id ≡ seat.old.id) }
+    ensures won { (seat.new.me ≡ (holder seat.old.me.0 result.value.notes.items result.value.reserved, (0, None) ∷ [])) × Holds K.opens K.steps K.author seat.old.me.0 result }
+{
+    let shared = &room.table.shared;
+    let mine = number as u64 + 1;
+    for _ in rt.forever() {
+        let found = shared.compare_exchange::<Take<K>>(seat, TURN, 0, mine);
+        if found == 0 {
+            let Some(desk) = shared.exchange(seat, 0, None) else {
+                unreachable!()
+            };
+            return desk;
+        }
+        shared.park(rt, TURN, low_bits(found));
+    }
+    unreachable!()
+}
+
+// Lays the desk back as it was found, and gives the turn back.
+pub(crate) fn give_back<K: Kept>(
+    room: &Room<K>,
+    seat: &mut Seat<Option<Box<Desk<K, K::Note>>>, View<K, K::Note>>,
+    desk: Box<Desk<K, K::Note>>,
+) -> u64
+    requires room { seat.old.table_id ≡ room.now.table.shared.table_id }
+    requires holds { (seat.old.me ≡ (seat.old.me.0, (0, None) ∷ [])) × (seat.old.me.0.holding ≡ true) × (seat.old.me.0.spent ≡ false) }
+    requires desk { (desk.value.notes.items ≡ seat.old.me.0.seen) × Runs K.steps room.now.table.shared.key.value seat.old.me.0.seen desk.value.object × (desk.value.reserved ≡ seat.old.me.0.reserve) × (length seat.old.me.0.seen + desk.value.reserved ≤ vec_capacity desk.value.notes) }
+    ensures same { (seat.new.table_id ≡ seat.old.table_id) × (seat.new.id ≡ seat.old.id) }
+    ensures free { seat.new.me ≡ (returned seat.old.me.0, []) }
+    ensures count { result ≡ length seat.new.me.0.seen }
+{
+    let shared = &room.table.shared;
+    let count = desk.notes.len() as u64;
+    let empty = shared.exchange(seat, 0, Some(desk));
+    let None = empty else { unreachable!() };
+    shared.store::<GiveBack>(seat, TURN, 0);
+    shared.wake_one(TURN);
+    count
+}
+
+// Lays the desk back with one note more, counts it, and gives the turn back.
+pub(crate) fn give_on<K: Kept>(
+    room: &Room<K>,
+    seat: &mut Seat<Option<Box<Desk<K, K::Note>>>, View<K, K::Note>>,
+    desk: Box<Desk<K, K::Note>>,
+    note: K::Note,
+) -> u64
+    requires room { seat.old.table_id ≡ room.now.table.shared.table_id }
+    requires holds { (seat.old.me ≡ (seat.old.me.0, (0, None) ∷ [])) × (seat.old.me.0.holding ≡ true) × (seat.old.me.0.spent ≡ false) }
+    requires note { K.author note ≡ seat.old.me.0.number }
+    requires desk { (desk.value.notes.items ≡ seat.old.me.0.seen ++ note ∷ []) × Runs K.steps room.now.table.shared.key.value (seat.old.me.0.seen ++ note ∷ []) desk.value.object × (desk.value.reserved ≡ seat.old.me.0.reserve) × (length desk.value.notes.items + desk.value.reserved ≤ vec_capacity desk.value.notes) }
+    ensures same { (seat.new.table_id ≡ seat.old.table_id) × (seat.new.id ≡ seat.old.id) }
+    ensures free { seat.new.me ≡ (returned (raised seat.old.me.0 (note ∷ [])), []) }
+    ensures count { result ≡ length seat.new.me.0.seen }
+{
+    let shared = &room.table.shared;
+    let count = desk.notes.len() as u64;
+    let empty = shared.exchange(seat, 0, Some(desk));
+    let None = empty else { unreachable!() };
+    shared.fetch_add::<Raise>(seat, COUNT, 1);
+    shared.store::<GiveBack>(seat, TURN, 0);
+    shared.wake_one(TURN);
+    shared.wake_all(COUNT);
+    count
+}
+
+// Lays the desk back with a note of the reserve, counts it, and gives the turn back.
+pub(crate) fn give_last<K: Kept>(
+    room: &Room<K>,
+    seat: &mut Seat<Option<Box<Desk<K, K::Note>>>, View<K, K::Note>>,
+    desk: Box<Desk<K, K::Note>>,
+    note: K::Note,
+) -> u64
+    requires room { seat.old.table_id ≡ room.now.table.shared.table_id }
+    requires holds { (seat.old.me ≡ (seat.old.me.0, (0, None) ∷ [])) × (seat.old.me.0.holding ≡ true) × (seat.old.me.0.spent ≡ false) }
+    requires claim { 0 < seat.old.me.0.claims }
+    requires note { K.author note ≡ seat.old.me.0.number }
+    requires desk { (desk.value.notes.items ≡ seat.old.me.0.seen ++ note ∷ []) × Runs K.steps room.now.table.shared.key.value (seat.old.me.0.seen ++ note ∷ []) desk.value.object × (desk.value.reserved ≡ seat.old.me.0.reserve - 1) × (length desk.value.notes.items + desk.value.reserved ≤ vec_capacity desk.value.notes) }
+    ensures same { (seat.new.table_id ≡ seat.old.table_id) × (seat.new.id ≡ seat.old.id) }
+    ensures free { seat.new.me ≡ (returned (raised_last seat.old.me.0 (note ∷ [])), []) }
+    ensures count { result ≡ length seat.new.me.0.seen }
+{
+    let shared = &room.table.shared;
+    let count = desk.notes.len() as u64;
+    let empty = shared.exchange(seat, 0, Some(desk));
+    let None = empty else { unreachable!() };
+    shared.fetch_add::<RaiseLast>(seat, COUNT, 1);
+    shared.store::<GiveBack>(seat, TURN, 0);
+    shared.wake_one(TURN);
+    shared.wake_all(COUNT);
+    count
+}
+
+// Sleeps while the history has this many notes, or returns for no reason.
+pub(crate) fn sleep_at<K: Kept, R: Wait>(rt: &R, room: &Room<K>, count: u64) {
+    room.table.shared.park(rt, COUNT, low_bits(count));
+}
+
+// What `park` compares of a word.
+fn low_bits(word: u64) -> u32
+    ensures { result ≡ word % 2 ^ 32 }
+{
+    (word % (1 << 32)) as u32
+}
