@@ -9,3 +9,4 @@ pub mod Order
 pub mod Rising
 pub mod Firsts
 pub mod OneList
+pub mod Examples
