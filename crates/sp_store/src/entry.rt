@@ -1,0 +1,118 @@
+//! What stands at one spot, and the work on it.
+
+ghost use Rattle.std.specs.Prelude.{◌≡◌, ◌+◌, ◌<◌, ◌≤◌, ◌++◌, IsOk, OnErr, OnOk, IfOk, Some, length, slice_set};
+ghost use Rattle.sp_cell.specs.Lists.{overwritten};
+ghost use Rattle.sp_cell.specs.Map.{IsOwn, IsPiece, cells_of, IsOutput, bytes_of, Own, Shared, Output as Text};
+ghost use Rattle.sp_store.specs.Layout.{content};
+
+use sp_base::Memory;
+use sp_cell::{Cell, Piece};
+use std::alloc::Global;
+use std::mem;
+use std::sync::Arc;
+
+/// What stands at one spot.
+#[derive(Drop)]
+pub(crate) enum Entry {
+    Own(Piece),
+    Shared(Arc<Piece>),
+    Output(Vec<u8>),
+    Away,
+}
+
+pub(crate) fn cells(entry: &Entry) -> &[Cell]
+    requires { IsPiece (Some (content entry.now)) }
+    ensures { result.now ≡ cells_of (Some (content entry.now)) }
+{
+    match entry {
+        Entry::Own(piece) => piece.cells(),
+        Entry::Shared(piece) => piece.cells(),
+        Entry::Output(_) | Entry::Away => unreachable!(),
+    }
+}
+
+/// One more holder of the cells: of a shared piece, or of a copy of an own one.
+pub(crate) fn share(alloc: Global, entry: &Entry) -> Result<Entry, Memory>
+    requires { IsPiece (Some (content entry.now)) }
+    ensures { IfOk result (λ e. content e ≡ Shared (cells_of (Some (content entry.now)))) }
+{
+    match entry {
+        Entry::Own(piece) => {
+            let copy = piece.duplicate()?;
+            Ok(Entry::Shared(Arc::new(alloc, copy)?))
+        }
+        Entry::Shared(piece) => Ok(Entry::Shared(Arc::try_clone(piece)?)),
+        Entry::Output(_) | Entry::Away => unreachable!(),
+    }
+}
+
+/// A piece that others share becomes a copy of its own; a piece whose other holders are gone is taken as it is.
+pub(crate) fn make_own(entry: &mut Entry) -> Result<(), Memory>
+    requires { IsPiece (Some (content entry.old)) }
+    ensures ok { OnOk result (content entry.new ≡ Own (cells_of (Some (content entry.old)))) }
+    ensures err { OnErr result (content entry.new ≡ content entry.old) }
+    ensures succeeds { IsOwn (Some (content entry.old)) → IsOk result }
+{
+    match entry {
+        Entry::Own(_) => return Ok(()),
+        _ => {}
+    }
+    match mem::replace(entry, Entry::Away) {
+        Entry::Shared(piece) => match Arc::try_unwrap(piece) {
+            Ok(piece) => {
+                *entry = Entry::Own(piece);
+                Ok(())
+            }
+            Err(piece) => match piece.duplicate() {
+                Ok(own) => {
+                    *entry = Entry::Own(own);
+                    Ok(())
+                }
+                Err(e) => {
+                    *entry = Entry::Shared(piece);
+                    Err(e)
+                }
+            },
+        },
+        other => {
+            *entry = other;
+            Ok(())
+        }
+    }
+}
+
+pub(crate) fn write(entry: &mut Entry, offset: u32, cell: Cell)
+    requires own { IsOwn (Some (content entry.old)) }
+    requires in_range { offset < length (cells_of (Some (content entry.old))) }
+    ensures { content entry.new ≡ Own (slice_set (cells_of (Some (content entry.old))) offset cell) }
+{
+    match entry {
+        Entry::Own(piece) => piece.write(offset, cell),
+        _ => unreachable!(),
+    }
+}
+
+pub(crate) fn overwrite(entry: &mut Entry, offset: u32, cells: &[Cell])
+    requires own { IsOwn (Some (content entry.old)) }
+    requires in_range { offset + length cells.now ≤ length (cells_of (Some (content entry.old))) }
+    ensures { content entry.new ≡ Own (overwritten (cells_of (Some (content entry.old))) offset cells.now) }
+{
+    match entry {
+        Entry::Own(piece) => piece.copy_range(offset, cells),
+        _ => unreachable!(),
+    }
+}
+
+pub(crate) fn append(entry: &mut Entry, bytes: &[u8]) -> Result<(), Memory>
+    requires { IsOutput (Some (content entry.old)) }
+    ensures ok { OnOk result (content entry.new ≡ Text (bytes_of (Some (content entry.old)) ++ bytes.now)) }
+    ensures err { OnErr result (content entry.new ≡ content entry.old) }
+{
+    match entry {
+        Entry::Output(text) => {
+            text.extend_from_slice(bytes)?;
+            Ok(())
+        }
+        _ => unreachable!(),
+    }
+}

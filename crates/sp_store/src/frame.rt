@@ -1,0 +1,31 @@
+//! The pieces of a frame.
+
+ghost use Rattle.std.specs.Prelude.{◌≡◌, ◌+◌, ◌<◌, ◌≤◌, OnOk, OnErr, length};
+ghost use Rattle.sp_cell.specs.Frame.{with_pieces, without};
+
+use crate::entry::Entry;
+use crate::slots::Slots;
+use sp_base::Memory;
+use sp_cell::{Piece, Spot};
+use std::alloc::Global;
+
+/// Adds an undefined piece for each size, from the variable `first` on.
+#[tactic(auto, using(sp_cell::specs::Steps::pieces_step))]
+pub(crate) fn add_pieces(
+    alloc: Global,
+    slots: &mut Slots,
+    frame: u64,
+    first: u32,
+    sizes: &[u32],
+) -> Result<(), Memory>
+    requires { first + length sizes.now ≤ 4294967296 }
+    ensures ok { OnOk result (slots.new ≡ with_pieces slots.old frame first sizes.now) }
+    ensures err { OnErr result (without slots.new frame ≡ without slots.old frame) }
+{
+    for (i, size) in sizes.iter().enumerate() {
+        let piece = Piece::new(alloc, *size)?;
+        let variable = first + i as u32;
+        slots.insert(Spot { frame, variable }, Entry::Own(piece))?;
+    }
+    Ok(())
+}

@@ -1,0 +1,15 @@
+//! The variables of one process: what a child may change moves to it, what it only reads is shared, and a join gives
+//! back.
+#![tactic(auto)]
+
+mod entry;
+mod fork;
+mod frame;
+mod hand;
+mod send;
+mod slots;
+mod store;
+#[cfg(test)]
+mod tests;
+
+pub use store::Store;

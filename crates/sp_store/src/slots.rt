@@ -1,0 +1,199 @@
+//! Entries by their spots.
+
+ghost use Rattle.std.specs.Prelude.{◌≡◌, ◌<◌, ◌++◌, IsSome, Some, None, IfOk, IfErr, OnOk, OnErr, MatchOption, length, ℕ, ◌-◌, ◌≤◌, ◌==◌, ◌≢◌, if◌then◌else◌, take, drop, vec_len, slice_index_or};
+ghost use Rattle.std.specs.Borrow.{sem};
+ghost use Rattle.std.specs.FinMap as map;
+ghost use Rattle.std.specs.List.Sorted.{IsStrictlySortedBy};
+ghost use Rattle.std.specs.List.{ContainsAt};
+ghost use Rattle.sp_cell.specs.Spots.{DistinctByIndex};
+ghost use Rattle.sp_cell.specs.Frame.{above, frames, without};
+ghost use Rattle.sp_cell.specs.Map.{spot_cmp};
+ghost use Rattle.sp_store.specs.Layout.{layout, content, IsPlace, IsGap, AllKnown};
+ghost use Rattle.sp_store.specs.Lends.{LendsEntry};
+
+use crate::entry::Entry;
+use sp_base::Memory;
+use sp_cell::Spot;
+use std::alloc::Global;
+use std::marker::Model;
+
+/// Entries by their spots, in the order of the spots.
+#[derive(Drop)]
+pub(crate) struct Slots {
+    spots: Vec<Spot>,
+    entries: Vec<Entry>,
+}
+
+impl Model for Slots {
+    ghost use Rattle.std.specs.Prelude.{◌≡◌, length};
+    ghost use Rattle.std.specs.List.Sorted.{IsStrictlySortedBy};
+    ghost use Rattle.sp_cell.specs.Codes.{map_code};
+    ghost use Rattle.sp_cell.specs.Map.{Map, spot_cmp};
+
+    ghost Value = { Map };
+
+    ghost coded = { map_code };
+
+    ghost use Rattle.sp_store.specs.Layout.{layout};
+
+    ghost view = { λ a. layout a.spots.items a.entries.items };
+
+    ghost invariant = { λ a. (length a.spots.items ≡ length a.entries.items) × IsStrictlySortedBy spot_cmp a.spots.items };
+}
+
+// Where the spot stands, or would go.
+fn search(spots: &[Spot], entries: &[Entry], spot: Spot) -> Result<usize, usize>
+    requires sorted { IsStrictlySortedBy spot_cmp spots.now }
+    requires lengths { length spots.now ≡ length entries.now }
+    ensures found { IfOk result (IsPlace spots.now entries.now spot) }
+    ensures absent { IfErr result (IsGap spots.now entries.now spot) }
+{
+    spots.binary_search(&spot)
+}
+
+// Where the spot stands.
+fn place(spots: &[Spot], entries: &[Entry], spot: Spot) -> usize
+    requires sorted { IsStrictlySortedBy spot_cmp spots.now }
+    requires lengths { length spots.now ≡ length entries.now }
+    requires known { IsSome (map.get (layout spots.now entries.now) spot) }
+    ensures { IsPlace spots.now entries.now spot result }
+{
+    match search(spots, entries, spot) {
+        Ok(i) => i,
+        Err(_) => unreachable!(),
+    }
+}
+
+impl Slots {
+    pub(crate) fn entry(&self, spot: Spot) -> &Entry
+        requires { IsSome (map.get self.now spot) }
+        ensures { map.get self.now spot ≡ Some (content result.now) }
+    {
+        let i = place(&self.spots, &self.entries, spot);
+        &self.entries[i]
+    }
+
+    pub(crate) fn entry_mut(&mut self, spot: Spot) -> &mut Entry
+        requires { IsSome (map.get self.old spot) }
+        ensures* writes_back { sem 𝓛 (LendsEntry self.entry spot result) }
+        ensures value { map.get self.old spot ≡ Some (content result.now) }
+    {
+        let i = place(&self.spots, &self.entries, spot);
+        &mut self.entries[i]
+    }
+
+    pub(crate) fn find(&self, spot: Spot) -> Option<&Entry>
+        ensures { MatchOption result (map.get self.now spot ≡ None) (λ e. map.get self.now spot ≡ Some (content e.now)) }
+    {
+        match search(&self.spots, &self.entries, spot) {
+            Ok(i) => Some(&self.entries[i]),
+            Err(_) => None,
+        }
+    }
+
+    pub(crate) fn new(alloc: Global) -> Slots
+        ensures { result ≡ map.empty }
+    {
+        Slots {
+            spots: Vec::new(alloc),
+            entries: Vec::new(alloc),
+        }
+    }
+
+    pub(crate) fn insert(&mut self, spot: Spot, entry: Entry) -> Result<(), Memory>
+        ensures ok { OnOk result (self.new ≡ map.insert self.old spot (content entry)) }
+        ensures err { OnErr result (self.new ≡ self.old) }
+    {
+        match search(&self.spots, &self.entries, spot) {
+            Ok(i) => {
+                self.entries[i] = entry;
+                Ok(())
+            }
+            Err(i) => {
+                self.spots.reserve(1)?;
+                self.entries.insert(i, entry)?;
+                match self.spots.insert(i, spot) {
+                    Ok(()) => Ok(()),
+                    Err(_) => unreachable!(),
+                }
+            }
+        }
+    }
+
+    /// The spots, in their order.
+    pub(crate) fn spots(&self) -> &[Spot]
+        ensures distinct { DistinctByIndex result.now }
+        ensures known { AllKnown self.now result.now }
+        ensures all { (q : Spot) → IsSome (map.get self.now q) → ContainsAt result.now q }
+    {
+        &self.spots
+    }
+
+    /// The least number above every frame.
+    pub(crate) fn above(&self) -> u64
+        requires { above (frames (map.keys self.now)) ≤ 18446744073709551615 }
+        ensures { result ≡ above (frames (map.keys self.now)) }
+    {
+        above_last(&self.spots, &self.entries)
+    }
+
+    /// Removes every spot of the frame, in time of that frame and of the frames above it.
+    pub(crate) fn remove_frame(&mut self, frame: u64)
+        ensures { self.new ≡ without self.old frame }
+    {
+        let end = end_of(&self.spots, frame);
+        let start = start_of(&self.spots, frame, end);
+        take_out(&mut self.spots, start, end);
+        take_out(&mut self.entries, start, end);
+    }
+}
+
+// The spots rise, so the last one's frame is the greatest.
+fn above_last(spots: &[Spot], entries: &[Entry]) -> u64
+    requires sorted { IsStrictlySortedBy spot_cmp spots.now }
+    requires lengths { length spots.now ≡ length entries.now }
+    requires below { above (frames (map.keys (layout spots.now entries.now))) ≤ 18446744073709551615 }
+    ensures { result ≡ above (frames (map.keys (layout spots.now entries.now))) }
+{
+    let n = spots.len();
+    if n == 0 {
+        return 0;
+    }
+    spots[n - 1].frame + 1
+}
+
+// Where the spots of the frame and of those below it end.
+fn end_of(spots: &[Spot], frame: u64) -> usize
+    ensures bound { result ≤ length spots.now }
+    ensures above { (k : ℕ) (d : Spot) → result ≤ k → k < length spots.now → let s = slice_index_or spots.now k d in frame < s.frame }
+    ensures below { (d : Spot) → 0 < result → let s = slice_index_or spots.now (result - 1) d in s.frame ≤ frame }
+{
+    let mut n = spots.len();
+    while 0 < n && frame < spots[n - 1].frame {
+        n -= 1;
+    }
+    n
+}
+
+// Where the spots of the frame begin, that end at `end`.
+fn start_of(spots: &[Spot], frame: u64, end: usize) -> usize
+    requires { end ≤ length spots.now }
+    ensures bound { result ≤ end }
+    ensures inside { (k : ℕ) (d : Spot) → result ≤ k → k < end → let s = slice_index_or spots.now k d in s.frame ≡ frame }
+    ensures below { (d : Spot) → 0 < result → let s = slice_index_or spots.now (result - 1) d in s.frame ≢ frame }
+{
+    let mut n = end;
+    while 0 < n && spots[n - 1].frame == frame {
+        n -= 1;
+    }
+    n
+}
+
+// Removes the items of the range.
+fn take_out<T: Drop>(items: &mut Vec<T>, start: usize, end: usize)
+    requires order { start ≤ end }
+    requires bound { end ≤ vec_len items.old }
+    ensures { items.new.items ≡ take start items.old.items ++ drop end items.old.items }
+{
+    items.drain(start..end);
+}
