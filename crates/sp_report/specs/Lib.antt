@@ -1,0 +1,4 @@
+pub mod Census
+pub mod Nameable
+pub mod Telling
+pub mod Timeline

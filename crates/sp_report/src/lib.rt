@@ -1,0 +1,14 @@
+//! Reports of a run: watchers that are told the entries of its journal and make a text of them.
+#![tactic(auto)]
+
+mod census;
+mod telling;
+#[cfg(test)]
+mod tests;
+mod timeline;
+mod watcher;
+
+pub use census::Census;
+pub use telling::tell;
+pub use timeline::Timeline;
+pub use watcher::Watcher;

@@ -1,0 +1,59 @@
+//! The telling of a journal to the chosen watchers.
+
+ghost use Rattle.std.specs.Prelude.{◌≡◌, ◌++◌, [], All, IfOk, OnOk, filter};
+ghost use Rattle.std.specs.List.{flat_map};
+ghost use Rattle.sp_journal.specs.Births.{IsNameable};
+ghost use Rattle.sp_report.specs.Telling.{is_chosen};
+
+use crate::watcher::Watcher;
+use sp_base::{Memory, Show};
+use sp_journal::Journal;
+use std::alloc::Global;
+
+fn is_chosen(show: Show, name: &str) -> bool
+    ensures { result ≡ is_chosen show name.now }
+{
+    match show {
+        Show::End | Show::Journal => false,
+        Show::Timeline => name == "timeline",
+        Show::Census => name == "census",
+        Show::Tree => name == "tree",
+        Show::Waiting => name == "waiting",
+        Show::All => true,
+    }
+}
+
+/// Tells the watcher every entry of the journal, and puts its text last into `out`.
+fn tell_one(watcher: &mut dyn Watcher, journal: &Journal, out: &mut Vec<u8>) -> Result<(), Memory>
+    requires fresh { told watcher.old ≡ [] }
+    requires nameable { IsNameable journal.now }
+    ensures { OnOk result (out.new.items ≡ out.old.items ++ text watcher.old journal.now.entries) }
+{
+    for entry in journal.entries.items() {
+        watcher.see(entry)?;
+    }
+    watcher.finish(out)
+}
+
+/// The texts of the chosen watchers over the journal, in the order in which they are handed in. Each chosen one is
+/// told every entry; the others are dropped unused.
+pub fn tell(
+    alloc: Global,
+    watchers: Vec<Box<dyn Watcher>>,
+    journal: &Journal,
+    show: Show,
+) -> Result<Vec<u8>, Memory>
+    requires fresh { All (λ w. told w ≡ []) watchers.items }
+    requires nameable { IsNameable journal.now }
+    ensures { IfOk result (λ out. out.items
+        ≡ flat_map (λ w. text w journal.now.entries) (filter (λ w. is_chosen show (title w)) watchers.items)) }
+{
+    let mut out = Vec::new(alloc);
+    for watcher in watchers {
+        let mut watcher = watcher;
+        if is_chosen(show, watcher.name()) {
+            tell_one(&mut *watcher, journal, &mut out)?;
+        }
+    }
+    Ok(out)
+}

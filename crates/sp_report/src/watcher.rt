@@ -1,0 +1,36 @@
+//! What every watcher does.
+
+ghost use Rattle.std.specs.Prelude.{◌≡◌, ◌++◌, ◌∷◌, [], List, OnErr, OnOk, ℕ};
+ghost use Rattle.sp_journal.specs.Births.{NameableFrom, at_start};
+ghost use Rattle.sp_journal.specs.declared.entry.Entry.{Entry as AnEntry};
+
+use sp_base::Memory;
+use sp_journal::Entry;
+
+/// A watcher is told the entries of a journal one by one and makes a text of them. What it means is the list of
+/// the entries that it was told, and its text over every list.
+pub trait Watcher: Drop {
+    ghost told: { Self → List AnEntry };
+
+    ghost text: { Self → List AnEntry → List ℕ };
+
+    ghost title: { Self → List ℕ };
+
+    /// The name by which it is chosen, which is also the first line of its text.
+    fn name(&self) -> &str
+        ensures { result.now ≡ title self.now };
+
+    /// Tells it the next entry. Where memory is refused the watcher is unchanged.
+    fn see(&mut self, entry: &Entry) -> Result<(), Memory>
+        requires { NameableFrom at_start (told self.old ++ entry.now ∷ []) }
+        ensures ok { OnOk result (told self.new ≡ told self.old ++ entry.now ∷ []) }
+        ensures text { text self.new ≡ text self.old }
+        ensures title { title self.new ≡ title self.old }
+        ensures err { OnErr result (self.new ≡ self.old) };
+
+    /// Puts its text over the entries that it was told last into `out`. Where memory is refused both are unchanged.
+    fn finish(&mut self, out: &mut Vec<u8>) -> Result<(), Memory>
+        ensures ok { OnOk result (out.new.items ≡ out.old.items ++ text self.old (told self.old)) }
+        ensures err { OnErr result (out.new.items ≡ out.old.items) }
+        ensures same { OnErr result (self.new ≡ self.old) };
+}
