@@ -18,15 +18,15 @@ use Rattle.sp_tree.specs.Scans.{BreaksLexis, Scans, nothing, blank, comment, tok
 use Rattle.sp_grammar.proofs.Rising.{Each, each_at, lexeme_length, comment_length}
 
 -- what is left of a list
-data Tail : List ℕ → List ℕ → Type 0 where
+pub data Tail : List ℕ → List ℕ → Type 0 where
   here : {r : List ℕ} → Tail r r
   there : {r bs : List ℕ} {b : ℕ} → Tail r bs → Tail r (b ∷ bs)
 
-tail_length : {r bs : List ℕ} → Tail r bs → length r ≤ length bs
+pub tail_length : {r bs : List ℕ} → Tail r bs → length r ≤ length bs
 tail_length here = omega arith
 tail_length (there x) = omega (arith, tail_length x)
 
-tail_same : {r r' bs : List ℕ} → Tail r bs → Tail r' bs → length r ≡ length r' → r ≡ r'
+pub tail_same : {r r' bs : List ℕ} → Tail r bs → Tail r' bs → length r ≡ length r' → r ≡ r'
 tail_same here here e = refl
 tail_same here (there x) e = absurd (let l = tail_length x in omega arith)
 tail_same (there x) here e = absurd (let l = tail_length x in omega arith)
@@ -45,7 +45,7 @@ append_tail : (s r : List ℕ) → Tail r (s ++ r)
 append_tail [] r = here
 append_tail (b ∷ s) r = there (append_tail s r)
 
-lexeme_tail : {k : Kind} {bs r : List ℕ} → Lexeme k bs r → Tail r bs
+pub lexeme_tail : {k : Kind} {bs r : List ℕ} → Lexeme k bs r → Tail r bs
 lexeme_tail (name b h x n) = there (run_tail x)
 lexeme_tail (word n b h x e) = there (run_tail x)
 lexeme_tail (number b h x) = there (run_tail x)
@@ -67,37 +67,37 @@ plain_by : (b : ℕ) (bs s u : List ℕ) → PlainFirst s → b ∷ bs ≡ s ++ 
 plain_by b bs [] u h e = absurd h
 plain_by b bs (c ∷ s) u h e = subst (λ c. is_plain c ≡ true) (let same : c ≡ b = cc in same) h
 
-sign_plain : (b : ℕ) (bs s u : List ℕ) (n : ℕ) → slice_get signs n ≡ Some s → b ∷ bs ≡ s ++ u → is_plain b ≡ true
+pub sign_plain : (b : ℕ) (bs s u : List ℕ) (n : ℕ) → slice_get signs n ≡ Some s → b ∷ bs ≡ s ++ u → is_plain b ≡ true
 sign_plain b bs s u n h e = plain_by b bs s u (each_at PlainFirst signs n s signs_plain h) e
 
-no_letter : (b : ℕ) → is_plain b ≡ true → is_letter b ≡ true → ⊥
+pub no_letter : (b : ℕ) → is_plain b ≡ true → is_letter b ≡ true → ⊥
 no_letter b p h = grind (arith, nat_tests)
 
-no_digit : (b : ℕ) → is_plain b ≡ true → is_digit b ≡ true → ⊥
+pub no_digit : (b : ℕ) → is_plain b ≡ true → is_digit b ≡ true → ⊥
 no_digit b p h = grind (arith, nat_tests)
 
-no_quote : (b : ℕ) → is_plain b ≡ true → b ≡ 39 → ⊥
+pub no_quote : (b : ℕ) → is_plain b ≡ true → b ≡ 39 → ⊥
 no_quote b p h = grind (arith, nat_tests)
 
-no_blank : (b : ℕ) → is_plain b ≡ true → is_blank b ≡ true → ⊥
+pub no_blank : (b : ℕ) → is_plain b ≡ true → is_blank b ≡ true → ⊥
 no_blank b p h = grind (arith, nat_tests)
 
-letter_digit : (b : ℕ) → is_letter b ≡ true → is_digit b ≡ true → ⊥
+pub letter_digit : (b : ℕ) → is_letter b ≡ true → is_digit b ≡ true → ⊥
 letter_digit b p h = grind (arith, nat_tests)
 
-letter_quote : (b : ℕ) → is_letter b ≡ true → b ≡ 39 → ⊥
+pub letter_quote : (b : ℕ) → is_letter b ≡ true → b ≡ 39 → ⊥
 letter_quote b p h = grind (arith, nat_tests)
 
-digit_quote : (b : ℕ) → is_digit b ≡ true → b ≡ 39 → ⊥
+pub digit_quote : (b : ℕ) → is_digit b ≡ true → b ≡ 39 → ⊥
 digit_quote b p h = grind (arith, nat_tests)
 
-letter_blank : (b : ℕ) → is_letter b ≡ true → is_blank b ≡ true → ⊥
+pub letter_blank : (b : ℕ) → is_letter b ≡ true → is_blank b ≡ true → ⊥
 letter_blank b p h = grind (arith, nat_tests)
 
-digit_blank : (b : ℕ) → is_digit b ≡ true → is_blank b ≡ true → ⊥
+pub digit_blank : (b : ℕ) → is_digit b ≡ true → is_blank b ≡ true → ⊥
 digit_blank b p h = grind (arith, nat_tests)
 
-quote_blank : (b : ℕ) → b ≡ 39 → is_blank b ≡ true → ⊥
+pub quote_blank : (b : ℕ) → b ≡ 39 → is_blank b ≡ true → ⊥
 quote_blank b p h = grind (arith, nat_tests)
 
 -- words, and signs, are all different
@@ -161,7 +161,7 @@ one_sign n m s s' r h h' e =
     let l : length s ≡ length s' = let k = ap length e in omega (arith, length-append s r, length-append s' r) in
     one_position signs n m s signs_distinct h (h' ∙ ap Some (back_of (same_front s s' r r l e)))
 
-one_kind : {k j : Kind} {bs r : List ℕ} → Lexeme k bs r → Lexeme j bs r → k ≡ j
+pub one_kind : {k j : Kind} {bs r : List ℕ} → Lexeme k bs r → Lexeme j bs r → k ≡ j
 one_kind (name b h x n) (name b' h' x' n') = refl
 one_kind (name b h x n) (word m b' h' x' e) = absurd (n m e)
 one_kind (name b h x n) (number b' h' x') = absurd (letter_digit b h h')
@@ -188,7 +188,7 @@ one_kind (sign n s h e) (number b' h' x') = absurd (no_digit b' (sign_plain b' _
 one_kind (sign n s h e) (text q' h' x') = absurd (no_quote q' (sign_plain q' _ s _ n h e) h')
 one_kind (sign n s h e) (sign m s' h' e') = ap kind.Sign (one_sign n m s s' _ h h' (back_of e ∙ e'))
 
-not_blank : {k : Kind} {b : ℕ} {bs r : List ℕ} → Lexeme k (b ∷ bs) r → is_blank b ≡ true → ⊥
+pub not_blank : {k : Kind} {b : ℕ} {bs r : List ℕ} → Lexeme k (b ∷ bs) r → is_blank b ≡ true → ⊥
 not_blank (name b h x n) p = letter_blank b h p
 not_blank (word m b h x e) p = letter_blank b h p
 not_blank (number b h x) p = digit_blank b h p
@@ -208,32 +208,32 @@ one_star (star_ends a b h i) (star_byte b' n x) = absurd (n h i)
 one_star (star_byte b n x) (star_ends a' b' h i) = absurd (n h i)
 one_star (star_byte b n x) (star_byte b' n' x') = one_star x x'
 
-one_comment : {bs r r' : List ℕ} → Comment bs r → Comment bs r' → r ≡ r'
+pub one_comment : {bs r r' : List ℕ} → Comment bs r → Comment bs r' → r ≡ r'
 one_comment (brace_comment b h x) (brace_comment b' h' x') = one_brace x x'
 one_comment (brace_comment b h x) (star_comment a c h' i x') = absurd (omega arith)
 one_comment (star_comment a b h i x) (brace_comment c h' x') = absurd (omega arith)
 one_comment (star_comment a b h i x) (star_comment a' b' h' i' x') = one_star x x'
 
-opens_brace : (b : ℕ) (bs : List ℕ) → b ≡ 123 → opens_comment (b ∷ bs) ≡ true
+pub opens_brace : (b : ℕ) (bs : List ℕ) → b ≡ 123 → opens_comment (b ∷ bs) ≡ true
 opens_brace b [] h = grind (arith, nat_tests)
 opens_brace b (c ∷ bs) h = grind (arith, nat_tests)
 
-opens_star : (a b : ℕ) (bs : List ℕ) → a ≡ 40 → b ≡ 42 → opens_comment (a ∷ b ∷ bs) ≡ true
+pub opens_star : (a b : ℕ) (bs : List ℕ) → a ≡ 40 → b ≡ 42 → opens_comment (a ∷ b ∷ bs) ≡ true
 opens_star a b bs h i = grind (arith, nat_tests)
 
-opens : {bs r : List ℕ} → Comment bs r → opens_comment bs ≡ true
+pub opens : {bs r : List ℕ} → Comment bs r → opens_comment bs ≡ true
 opens (brace_comment {bs = bs} b h x) = opens_brace b bs h
 opens (star_comment {bs = bs} a b h i x) = opens_star a b bs h i
 
-blank_opens : (b : ℕ) (bs : List ℕ) → is_blank b ≡ true → opens_comment (b ∷ bs) ≡ true → ⊥
+pub blank_opens : (b : ℕ) (bs : List ℕ) → is_blank b ≡ true → opens_comment (b ∷ bs) ≡ true → ⊥
 blank_opens b [] h p = grind (arith, nat_tests)
 blank_opens b (c ∷ bs) h p = grind (arith, nat_tests)
 
-differ : {b : Bool} → b ≡ true → b ≡ false → ⊥
+pub differ : {b : Bool} → b ≡ true → b ≡ false → ⊥
 differ p q = absurd (subst T (back_of p ∙ q) tt)
 
 module _ (bytes : List ℕ) where
-  same_rest : {k j : Kind} {bs u v : List ℕ} → Longest k bs u → Longest j bs v → u ≡ v
+  pub same_rest : {k j : Kind} {bs u v : List ℕ} → Longest k bs u → Longest j bs v → u ≡ v
   same_rest {k} {j} {u = u} {v = v} l m = tail_same (lexeme_tail l.spelled) (lexeme_tail m.spelled) (let x = l.longest j v m.spelled in let y = m.longest k u l.spelled in omega arith)
 
   token_both : (bs : List ℕ) (k j : Kind) (u v : List ℕ) {ts us : List Token} → k ≡ j → u ≡ v → ts ≡ us → token_from bytes k bs u ∷ ts ≡ token_from bytes j bs v ∷ us

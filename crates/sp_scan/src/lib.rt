@@ -1,0 +1,14 @@
+//! The tokens of a text, or the first rule of its characters that it breaks.
+#![tactic(auto)]
+
+mod bytes;
+mod rules;
+mod runs;
+mod scanner;
+mod tables;
+mod token;
+
+pub use scanner::{scan, spelling};
+
+#[cfg(test)]
+mod tests;

@@ -1,0 +1,95 @@
+//! The tokens of a text.
+
+ghost use Rattle.std.specs.Prelude.{◌≡◌, ◌+◌, ◌-◌, ◌<◌, ◌≤◌, ◌^◌, length, take};
+ghost use Rattle.sp_tree.specs.Places.{place_behind, next_place};
+ghost use Rattle.sp_tree.specs.Spelling.{spelling as the_spelling};
+ghost use Rattle.sp_scan.specs.Finds.{Scanned};
+
+use crate::bytes::cut;
+use crate::rules::item;
+use sp_base::{Halt, List, Place, Refusal, Rule};
+use sp_tree::{MAX_TEXT, Token};
+use std::alloc::Global;
+
+/// The place behind some bytes.
+fn behind(at: Place, bytes: &[u8]) -> Place
+    requires line { at.line + length bytes.now < 2 ^ 32 }
+    requires column { at.column + length bytes.now < 2 ^ 32 }
+    ensures { result ≡ place_behind at bytes.now }
+{
+    let mut at = at;
+    let mut rest = bytes;
+    'more: while let Some((byte, after)) = cut(rest) {
+        at = next(at, byte);
+        rest = after;
+    }
+    at
+}
+
+/// The place of `after`, which are the last of the bytes whose place is `at`.
+fn moved(at: Place, bytes: &[u8], after: &[u8]) -> Place
+    requires last { length after.now ≤ length bytes.now }
+    requires line { at.line + length bytes.now < 2 ^ 32 }
+    requires column { at.column + length bytes.now < 2 ^ 32 }
+    ensures { result ≡ place_behind at (take (length bytes.now - length after.now) bytes.now) }
+{
+    behind(at, &bytes[..bytes.len() - after.len()])
+}
+
+/// The place behind a byte.
+fn next(at: Place, byte: u8) -> Place
+    requires line { at.line + 1 < 2 ^ 32 }
+    requires column { at.column + 1 < 2 ^ 32 }
+    ensures { result ≡ next_place at byte }
+{
+    if byte == b'\n' {
+        Place {
+            line: at.line + 1,
+            column: 1,
+        }
+    } else {
+        Place {
+            line: at.line,
+            column: at.column + 1,
+        }
+    }
+}
+
+/// The tokens of a text, in their order, or the first rule of its characters that it breaks: L1, S1 to S5, U1 or U2,
+/// of the earliest place, and of several at one place the one that stands first in the table of rules.
+pub fn scan(alloc: Global, text: &[u8]) -> Result<List<Token>, Halt>
+    ensures { Scanned text.now result }
+{
+    let mut at = Place { line: 1, column: 1 };
+    if text.len() > MAX_TEXT {
+        return Err(Halt::Refused(Refusal { rule: Rule::L1, at }));
+    }
+    let mut tokens = List::new(alloc);
+    let mut rest = text;
+    'items: while let Some((first, others)) = cut(rest) {
+        match item(rest, first, others) {
+            Ok((None, after)) => {
+                at = moved(at, rest, after);
+                rest = after;
+            }
+            Ok((Some(kind), after)) => {
+                let from = (text.len() - rest.len()) as u32;
+                let to = (text.len() - after.len()) as u32;
+                tokens.push(Token { kind, from, to, at })?;
+                at = moved(at, rest, after);
+                rest = after;
+            }
+            Err(rule) => return Err(Halt::Refused(Refusal { rule, at })),
+        }
+    }
+    Ok(tokens)
+}
+
+/// The bytes of a token of the text.
+pub fn spelling<'a>(text: &'a [u8], token: &Token) -> &'a [u8]
+    requires order { token.now.from ≤ token.now.to }
+    requires within { token.now.to ≤ length text.now }
+    ensures { result.now ≡ the_spelling text.now token.now }
+{
+    &text[token.from as usize..token.to as usize]
+}
