@@ -8,6 +8,7 @@ use Rattle.sp_journal.specs.declared.entry.Event.{Event}
 use Rattle.sp_journal.specs.declared.entry.Event.TheVariants as event
 use Rattle.sp_journal.specs.Names.{Name}
 use Rattle.sp_journal.specs.Births.{Births, at_start, after_event, after_entry, births_from, births, CanFollow, GivesNumbers, NameableFrom}
+use Rattle.sp_journal.proofs.TextLaws.{IsSmall}
 use Rattle.sp_journal.proofs.Tests.{here, apart, between, below, above, old_or_new}
 
 rest_same : (a b : ℕ × ℕ) (p q : Name) → a ∷ p ≡ b ∷ q → p ≡ q
@@ -35,6 +36,7 @@ pub record Lawful (s : Births) : Type 0 where
   pub born : (q : ℕ) → 0 < q → q < s.processes → Born s q
   pub unborn : (q : ℕ) → s.processes ≤ q → s.birth q ≡ None
   pub one_name : (q r : ℕ) → q < s.processes → r < s.processes → s.name q ≡ s.name r → q ≡ r
+  pub small_names : (q : ℕ) → q < s.processes → IsSmall (s.name q)
   pub owned : (c : ℕ) → c < s.channels → (s.opening c).owner < s.processes
   pub counted : (c : ℕ) → c < s.channels → (s.opening c).nth < s.opens (s.opening c).owner
   pub small_nth : (c : ℕ) → c < s.channels → (s.opening c).nth < 2 ^ 32
@@ -50,6 +52,7 @@ lawful_start = record {
   born = λ q l h. absurd (omega arith);
   unborn = λ q l. refl;
   one_name = λ q r l h e. omega arith;
+  small_names = λ q l. tt;
   owned = λ c l. absurd (omega arith);
   counted = λ c l. absurd (omega arith);
   small_nth = λ c l. absurd (omega arith);
@@ -140,6 +143,10 @@ module _ (s : Births) (lawful : Lawful s) (p n : ℕ) (there : p < s.processes) 
     born = λ q z l. ⊎_elim (λ (o : q < s.processes). old_born q z o) (λ (o : s.processes ≤ q). new_born q o l) (old_or_new q s.processes);
     unborn = λ q l. ap (λ b. cond b (Some (its_birth q)) (s.birth q)) (above s.processes q (s.processes + n) l) ∙ lawful.unborn q (omega arith);
     one_name = one_name;
+    small_names = λ q l. ⊎_elim
+        (λ (a : q < s.processes). subst IsSmall (sym (old_name q a)) (lawful.small_names q a))
+        (λ (a : s.processes ≤ q). subst IsSmall (sym (new_name q a l)) (fork, omega arith, lawful.small_names p there))
+        (old_or_new q s.processes);
     owned = λ c l. let o = lawful.owned c l in omega arith;
     counted = lawful.counted;
     small_nth = lawful.small_nth;
@@ -211,6 +218,7 @@ module _ (s : Births) (lawful : Lawful s) (p : ℕ) (there : p < s.processes) (f
     born = λ q z l. let b = lawful.born q z l in record { birth = b.birth; is = b.is; named = b.named; older = b.older; made = b.made; small_fork = b.small_fork; small_child = b.small_child };
     unborn = lawful.unborn;
     one_name = lawful.one_name;
+    small_names = lawful.small_names;
     owned = at_opening (λ c o. o.owner < s.processes) lawful.owned (λ c. there);
     counted = at_opening (λ c o. o.nth < opened.opens o.owner) (λ c l. let a = lawful.counted c l in let b = more_opens (s.opening c).owner in omega arith) (λ c. one_more_open);
     small_nth = at_opening (λ c o. o.nth < 2 ^ 32) lawful.small_nth (λ c. small);

@@ -1,7 +1,14 @@
+mod BegunLaws
 mod BirthLaws
+mod EntryText
 mod Families
 mod LedgerLaws
+mod Quiet
+mod ReaderLaws
+mod ReadingLaws
 mod Rows
 mod NameLaws
+mod SplitLaws
 mod Tests
+mod TextLaws
 mod Walk

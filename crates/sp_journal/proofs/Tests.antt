@@ -1,5 +1,7 @@
 -- Tests on numbers, as facts.
-use Rattle.std.proofs.Common.{◌≡◌, ◌≢◌, ◌⊎◌, inl, inr, ℕ, ◌<◌, ◌≤◌, true, false, ◌&&◌, ◌==◌, nat_lt, nat_le, refl, arith}
+use Rattle.std.proofs.Common.{◌≡◌, ◌≢◌, ◌⊎◌, inl, inr, ℕ, ◌<◌, ◌≤◌, true, false, ◌&&◌, ◌==◌, nat_lt, nat_le, refl, arith, Option, Some, None, Result, Ok, Err, ap}
+use Rattle.std.specs.Option.{SomeIff}
+use Rattle.std.specs.Result.{OnOk}
 use Rattle.std.proofs.lemmas.Bool.Decides.{nat_tests}
 
 pub here : (j k : ℕ) → j ≡ k → j == k ≡ true
@@ -28,3 +30,18 @@ old_or_new q a = elim (nat_lt q a) as (λ b. nat_lt q a ≡ b → (q < a) ⊎ (a
 
     is_not_below : (q a : ℕ) → nat_lt q a ≡ false → a ≤ q
     is_not_below q a e = grind (arith, nat_tests)
+
+pub none_some : {A : Type 0} (x : A) → ◌≡◌ {A = Option A} None (Some x) → ⊥
+none_some x e = cc
+
+pub some_same : {A : Type 0} (x y : A) → ◌≡◌ {A = Option A} (Some x) (Some y) → x ≡ y
+some_same x y e = cc
+
+pub some_if : {P : Type 0} (o : Option ℕ) (v : ℕ) → SomeIff o P v → P → o ≡ Some v
+some_if None v h p = absurd (h p)
+some_if (Some x) v h p = ap (λ y. Some y) h.1
+
+-- two facts of an `Ok`, and what follows from both
+pub on_both : {T E A B C : Type 0} (r : Result T E) → OnOk r A → OnOk r B → (A → B → C) → OnOk r C
+on_both (Ok x) a b f = f a b
+on_both (Err e) a b f = tt

@@ -1,7 +1,11 @@
+pub mod Begun
 pub mod Births
 pub mod Ledger
 pub mod Maps
 pub mod Names
 pub mod Past
 pub mod Queue
+pub mod Reader
+pub mod Reading
+pub mod Splits
 pub mod Texts

@@ -21,8 +21,8 @@ pub(crate) struct Family {
 /// How many forks and opens a process has made.
 #[derive(Clone, Copy, Debug)]
 pub(crate) struct Made {
-    forks: u64,
-    opens: u64,
+    pub(crate) forks: u64,
+    pub(crate) opens: u64,
 }
 
 /// A journal that grows entry by entry, and what its entries have given so far. A fork takes one place however many
@@ -75,8 +75,24 @@ impl Ledger {
         journal
     }
 
+    /// How many processes there are, the root among them.
+    pub(crate) fn processes(&self) -> u64
+        requires { IsLedger self.now }
+        ensures { result ≡ (births self.now.journal.entries).processes }
+    {
+        self.processes
+    }
+
+    /// How many channels there are.
+    pub(crate) fn channels(&self) -> u64
+        requires { IsLedger self.now }
+        ensures { result ≡ (births self.now.journal.entries).channels }
+    {
+        self.openings.len() as u64
+    }
+
     /// How many forks and opens this process has made.
-    fn made(&self, process: u32) -> Made
+    pub(crate) fn made(&self, process: u32) -> Made
         requires { IsLedger self.now }
         ensures forks { result.forks ≡ (births self.now.journal.entries).forks process }
         ensures opens { result.opens ≡ (births self.now.journal.entries).opens process }

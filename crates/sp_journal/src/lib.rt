@@ -6,8 +6,12 @@ mod journal;
 mod ledger;
 mod outcome;
 mod print;
+mod read;
+mod reader;
+mod split;
 mod version;
 
 pub use entry::{Birth, Entry, Event, Journal, Note, Opening, Way};
 pub use outcome::{End, Verdict, Waiter};
 pub use print::print_journal;
+pub use read::{ReadError, read_journal};

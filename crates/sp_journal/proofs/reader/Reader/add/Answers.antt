@@ -1,0 +1,17 @@
+use Rattle.std.proofs.Common.{refl}
+use Rattle.sp_journal.specs.Reader.{known}
+use Rattle.sp_journal.proofs.Tests.{on_both}
+use Rattle.sp_journal.proofs.Quiet.{quiet}
+use Rattle.sp_journal.proofs.ReadingLaws.{other_reader}
+use Rattle.sp_journal.proofs.reader.Reader.add.Goals as goal
+
+pub returns-in-Send : goal.returns-in-Send
+returns-in-Send c =
+    let r = c.args.self.now in
+    let e = c.args.entry in
+    record {
+      reader = on_both c.add.result c.add.ensures.ledger c.add.ensures.added
+          (λ ledger added. other_reader r _ e.process c.requires.reader ledger e.event (quiet (known r) e.process e.event c.in-Send.is) added refl refl);
+      added = c.add.ensures.added;
+      version = on_both c.add.result c.add.ensures.ledger c.add.ensures.added (λ _ _. refl);
+    }

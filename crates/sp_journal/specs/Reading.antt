@@ -1,0 +1,33 @@
+-- What reading the text of a journal answers.
+use Rattle.std.specs.Prelude.{◌≡◌, ℕ, List, codes, Option, Some, None, Result, Ok, Err}
+use Rattle.sp_journal.specs.declared.entry.Journal.{Journal}
+use Rattle.sp_journal.specs.declared.version.Version.{Version}
+use Rattle.sp_journal.specs.declared.version.Version.TheVariants as version
+use Rattle.sp_journal.specs.declared.read.ReadError.{ReadError}
+use Rattle.sp_journal.specs.declared.read.ReadError.TheVariants as error
+use Rattle.sp_journal.specs.Texts.{IsTextOf, IsFirstBad}
+
+-- these bytes are the text of some nameable journal
+abbrev pub IsText : List ℕ → Type 0
+IsText bytes = (v : Version) × (j : Journal) × IsTextOf v j bytes
+
+-- a journal that is read is nameable and the bytes are its text in some version; a bad line is the first one
+abbrev pub Reads : List ℕ → Result Journal ReadError → Type 0
+Reads bytes (Ok j) = (v : Version) × IsTextOf v j bytes
+Reads bytes (Err (error.BadLine n)) = IsFirstBad n bytes
+Reads bytes (Err error.Memory) = Unit {0}
+
+-- no other journal has this text, in any version; and bytes with a bad line are the text of none
+abbrev pub ReadsAlone : List ℕ → Result Journal ReadError → Type 0
+ReadsAlone bytes (Ok j) = (v : Version) (k : Journal) → IsTextOf v k bytes → k ≡ j
+ReadsAlone bytes (Err (error.BadLine n)) = (v : Version) (k : Journal) → IsTextOf v k bytes → ⊥
+ReadsAlone bytes (Err error.Memory) = Unit {0}
+
+-- the first line of a version, without its line feed
+abbrev pub first_line : Version → List ℕ
+first_line version.One = codes "superpascal journal 1"
+first_line version.Two = codes "superpascal journal 2"
+
+abbrev pub IsVersionOf : List ℕ → Option Version → Type 0
+IsVersionOf line (Some v) = line ≡ first_line v
+IsVersionOf line None = (v : Version) → line ≡ first_line v → ⊥

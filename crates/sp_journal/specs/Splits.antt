@@ -1,0 +1,26 @@
+-- Cutting a text at a byte. No public contract cites these.
+use Rattle.std.specs.Prelude.{ℕ, cond, ◌==◌, List, [], ◌∷◌, Option, Some, None}
+use Rattle.sp_base.specs.declared.fault.Fault.{Fault}
+use Rattle.sp_base.specs.declared.fault.Fault.TheVariants as fault
+
+-- the parts, the first of which begins with x besides
+abbrev pub with_first : ℕ → Option (List ℕ × List ℕ) → Option (List ℕ × List ℕ)
+with_first x None = None
+with_first x (Some p) = Some (x ∷ p.0, p.1)
+
+-- what stands before and after the first c
+abbrev pub first_split : ℕ → List ℕ → Option (List ℕ × List ℕ)
+first_split c [] = None
+first_split c (x ∷ xs) = cond (x == c) (Some ([], xs)) (with_first x (first_split c xs))
+
+-- what stands before and after the last c
+abbrev pub last_split : ℕ → List ℕ → Option (List ℕ × List ℕ)
+last_split c [] = None
+last_split c (x ∷ xs) = or_here (last_split c xs)
+  where
+    or_here : Option (List ℕ × List ℕ) → Option (List ℕ × List ℕ)
+    or_here None = cond (x == c) (Some ([], xs)) None
+    or_here (Some p) = Some (x ∷ p.0, p.1)
+
+abbrev pub all_faults : List Fault
+all_faults = fault.F1 ∷ fault.F2 ∷ fault.F3 ∷ fault.F4 ∷ fault.F5 ∷ fault.F6 ∷ fault.F7 ∷ fault.F8 ∷ fault.F9 ∷ fault.F10 ∷ fault.F11 ∷ fault.F12 ∷ fault.F13 ∷ fault.F14 ∷ fault.F15 ∷ fault.F16 ∷ fault.F17 ∷ fault.F18 ∷ []
