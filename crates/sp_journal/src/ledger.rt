@@ -1,6 +1,6 @@
 //! A journal with the tables of the names that its entries give.
 
-ghost use Rattle.std.specs.Prelude.{◌≡◌, ◌++◌, ◌∷◌, [], ◌<◌, IfOk, OnOk};
+ghost use Rattle.std.specs.Prelude.{◌≡◌, ◌++◌, ◌∷◌, [], ◌<◌, ◌↔◌, IsTrue, IfOk, OnOk};
 ghost use Rattle.sp_journal.specs.Births.{births, channel, CanFollow, IsNameable};
 ghost use Rattle.sp_journal.specs.Names.{proc_name, chan_name};
 ghost use Rattle.sp_journal.specs.Ledger.{IsLedger};
@@ -9,6 +9,9 @@ use crate::entry::{Birth, Entry, Event, Journal, Opening};
 use sp_base::{ChanName, List, Memory, Pair, ProcName};
 use std::alloc::Global;
 use std::collections::HashMap;
+
+/// How many numbers there are.
+pub(crate) const NUMBERS: u64 = 4_294_967_296;
 
 /// The children of one fork. They have the numbers from `first` on.
 #[derive(Clone, Copy, Debug)]
@@ -101,6 +104,26 @@ impl Ledger {
             .get(&process)
             .copied()
             .unwrap_or(Made { forks: 0, opens: 0 })
+    }
+
+    /// Whether this entry can come next: it speaks of what is there, and numbers are left for what it gives.
+    pub(crate) fn can_follow(&self, entry: Entry) -> bool
+        requires { IsLedger self.now }
+        ensures { IsTrue result ↔ CanFollow (births self.now.journal.entries) entry }
+    {
+        let made = self.made(entry.process);
+        if u64::from(entry.process) >= self.processes() {
+            return false;
+        }
+        match entry.event {
+            Event::Fork(count) => {
+                self.processes().saturating_add(u64::from(count)) <= NUMBERS && made.forks < NUMBERS
+            }
+            Event::Open => self.channels() < NUMBERS && made.opens < NUMBERS,
+            Event::Send(channel) => u64::from(channel) < self.channels(),
+            Event::Receive(channel) => u64::from(channel) < self.channels(),
+            Event::End | Event::Fault(_) | Event::Laid | Event::Pause => true,
+        }
     }
 
     /// Takes the next entry in. After `Memory` the ledger is of no more use.

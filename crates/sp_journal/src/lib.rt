@@ -9,6 +9,8 @@ mod print;
 mod read;
 mod reader;
 mod split;
+#[cfg(test)]
+mod tests;
 mod version;
 
 pub use entry::{Birth, Entry, Event, Journal, Note, Opening, Way};

@@ -13,15 +13,12 @@ ghost use Rattle.sp_journal.specs.Texts.{entry_text, event_text};
 ghost use Rattle.sp_journal.specs.Reader.{IsReader, CanCome, IsNext, known};
 
 use crate::entry::{Entry, Event, Journal};
-use crate::ledger::Ledger;
+use crate::ledger::{Ledger, NUMBERS};
 use crate::split::{fault, number, split_first, split_last, text_of};
 use crate::version::Version;
 use sp_base::Memory;
 use std::alloc::Global;
 use std::collections::HashMap;
-
-/// How many numbers there are.
-const NUMBERS: u64 = 4_294_967_296;
 
 /// What has been read so far, and how the names of it are found by their texts.
 #[derive(Drop)]
@@ -133,26 +130,7 @@ impl Reader {
         requires { IsReader self.now }
         ensures { IsTrue result ↔ CanCome self.now.version (known self.now) entry }
     {
-        let processes = self.ledger.processes();
-        let channels = self.ledger.channels();
-        let made = self.ledger.made(entry.process);
-        if u64::from(entry.process) >= processes {
-            return false;
-        }
-        match entry.event {
-            Event::Fork(count) => processes.saturating_add(u64::from(count)) <= NUMBERS
-                && made.forks < NUMBERS,
-            Event::Open => channels < NUMBERS && made.opens < NUMBERS,
-            Event::Send(channel) => u64::from(channel) < channels,
-            Event::Receive(channel) => u64::from(channel) < channels,
-            Event::End => true,
-            Event::Fault(_) => true,
-            Event::Laid => true,
-            Event::Pause => match self.version {
-                Version::One => false,
-                Version::Two => true,
-            },
-        }
+        self.ledger.can_follow(entry) && self.version.can_hold(entry.event)
     }
 
     /// Takes the next entry in. After `Memory` the reader is of no more use.
