@@ -10,7 +10,7 @@ use Rattle.sp_journal.specs.Reading.{first_line}
 use Rattle.sp_journal.specs.Reader.{CanCome, IsNext}
 use Rattle.sp_journal.specs.Begun.{Left, Begun}
 use Rattle.sp_journal.specs.Splits.{first_split, with_first}
-use Rattle.sp_journal.proofs.Tests.{same, none_some}
+use Rattle.sp_journal.proofs.Facts.{same, none_some}
 use Rattle.sp_journal.proofs.SplitLaws.{first_at}
 use Rattle.sp_journal.proofs.TextLaws.{parts_first, parts_second, none_parts}
 use Rattle.sp_journal.proofs.BirthLaws.{Lawful, lawful, births_last, nameable_last}

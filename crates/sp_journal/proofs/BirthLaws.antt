@@ -9,7 +9,7 @@ use Rattle.sp_journal.specs.declared.entry.Event.TheVariants as event
 use Rattle.sp_journal.specs.Names.{Name}
 use Rattle.sp_journal.specs.Births.{Births, at_start, after_event, after_entry, births_from, births, CanFollow, GivesNumbers, NameableFrom}
 use Rattle.sp_journal.proofs.TextLaws.{IsSmall}
-use Rattle.sp_journal.proofs.Tests.{here, apart, between, below, above, old_or_new}
+use Rattle.sp_journal.proofs.Facts.{here, apart, between, below, above, old_or_new}
 
 rest_same : (a b : ℕ × ℕ) (p q : Name) → a ∷ p ≡ b ∷ q → p ≡ q
 rest_same a b p q e = cc

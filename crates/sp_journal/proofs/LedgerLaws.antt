@@ -13,7 +13,7 @@ use Rattle.sp_journal.specs.declared.ledger.Made.{Made}
 use Rattle.sp_journal.specs.declared.ledger.Ledger.{Ledger}
 use Rattle.sp_journal.specs.Births.{Births, at_start, after_event, births, CanFollow, NameableFrom}
 use Rattle.sp_journal.specs.Ledger.{IsLedger, birth_in, nothing_made}
-use Rattle.sp_journal.proofs.Tests.{here, apart, old_or_new}
+use Rattle.sp_journal.proofs.Facts.{here, apart, old_or_new}
 use Rattle.sp_journal.proofs.BirthLaws.{births_last, nameable_last, old_birth, new_birth, old_opening, new_opening, lawful}
 use Rattle.sp_journal.proofs.Families.{family_push_above, family_push_at, birth_of}
 

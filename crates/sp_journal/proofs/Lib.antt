@@ -1,14 +1,14 @@
 mod BegunLaws
 mod BirthLaws
 mod EntryText
+mod Facts
 mod Families
 mod LedgerLaws
+mod NameLaws
 mod Quiet
 mod ReaderLaws
 mod ReadingLaws
 mod Rows
-mod NameLaws
 mod SplitLaws
-mod Tests
 mod TextLaws
 mod Walk

@@ -14,7 +14,7 @@ use Rattle.sp_journal.specs.Births.{Births, channel, CanFollow}
 use Rattle.sp_journal.specs.Texts.{entry_text, event_text}
 use Rattle.sp_journal.specs.Splits.{first_split, last_split}
 use Rattle.sp_journal.specs.Reader.{IsReader, family_text, known}
-use Rattle.sp_journal.proofs.Tests.{old_or_new}
+use Rattle.sp_journal.proofs.Facts.{old_or_new}
 use Rattle.sp_journal.proofs.SplitLaws.{Within, without_low, first_at}
 use Rattle.sp_journal.proofs.TextLaws.{name_within, family_within, channel_within, child_split, parts_first, parts_second, none_parts}
 use Rattle.sp_journal.proofs.BirthLaws.{Lawful, Born, lawful}

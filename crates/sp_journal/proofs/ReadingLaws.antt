@@ -13,7 +13,7 @@ use Rattle.sp_journal.specs.Names.{Name, Channel, chan_name}
 use Rattle.sp_journal.specs.Births.{Births, births, after_event, channel, CanFollow}
 use Rattle.sp_journal.specs.Ledger.{IsLedger}
 use Rattle.sp_journal.specs.Reader.{IsReader, family_text, known}
-use Rattle.sp_journal.proofs.Tests.{old_or_new, some_same, none_some}
+use Rattle.sp_journal.proofs.Facts.{old_or_new, some_same, none_some}
 use Rattle.sp_journal.proofs.TextLaws.{family_texts_differ, channel_texts_differ}
 use Rattle.sp_journal.proofs.BirthLaws.{Lawful, Born, births_last, old_name, old_birth, new_birth, old_opening, new_opening, its_birth}
 use Rattle.sp_journal.proofs.ReaderLaws.{laws}

@@ -17,14 +17,13 @@ by p e = record { process = p; event = e }
 -- two senders race for a receiver that takes twice
 abbrev two_senders : Journal
 two_senders = record {
-    entries = by 0 event.Open ∷ by 0 (event.Fork 3) ∷ by 1 (event.Receive 0) ∷ by 2 (event.Send 0) ∷ by 3 (event.Send 0)
-        ∷ by 1 (event.Receive 0) ∷ by 2 event.End ∷ by 3 event.End ∷ by 1 event.End ∷ by 0 event.End ∷ [];
-  }
+  entries = by 0 event.Open ∷ by 0 (event.Fork 3) ∷ by 1 (event.Receive 0) ∷ by 2 (event.Send 0) ∷ by 3 (event.Send 0)
+      ∷ by 1 (event.Receive 0) ∷ by 2 event.End ∷ by 3 event.End ∷ by 1 event.End ∷ by 0 event.End ∷ [];
+}
 
 -- what is known after the first n entries
 abbrev after_first : ℕ → Judged
 after_first n = judged (take n (occurrences two_senders))
-
 
 names : (births two_senders.entries).name 3 ≡ (0, 2) ∷ []
 names = refl
@@ -67,6 +66,7 @@ raced h =
   where
     from_some : (m : ℕ) → ◌≡◌ {A = Option ℕ} (Some 3) (Some m) → m ≡ 3
     from_some m e = cc
+
     true_false : ◌≡◌ {A = Bool} false true → ⊥
     true_false e = cc
 

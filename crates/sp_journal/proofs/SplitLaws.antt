@@ -1,7 +1,7 @@
 -- Laws of cutting a text at a byte.
 use Rattle.std.proofs.Common.{◌≡◌, ◌≢◌, ℕ, ◌<◌, ◌≤◌, List, [], ◌∷◌, ◌++◌, Some, None, refl, arith}
 use Rattle.sp_journal.specs.Splits.{first_split, last_split}
-use Rattle.sp_journal.proofs.Tests.{here, apart}
+use Rattle.sp_journal.proofs.Facts.{here, apart}
 
 -- each element is from lo to hi
 abbrev pub Within : ℕ → ℕ → List ℕ → Type 0

@@ -8,7 +8,7 @@ use Rattle.sp_journal.specs.declared.entry.Event.{Event}
 use Rattle.sp_journal.specs.declared.entry.Event.TheVariants as event
 use Rattle.sp_journal.specs.Births.{Births, at_start, after_event, after_entry, births_from, births, CanFollow, NameableFrom}
 use Rattle.sp_journal.specs.Texts.{entry_text, entries_text}
-use Rattle.sp_journal.proofs.Tests.{below, above, between, old_or_new}
+use Rattle.sp_journal.proofs.Facts.{below, above, between, old_or_new}
 use Rattle.sp_journal.proofs.BirthLaws.{births_last, lawful}
 
 pub left_is : (es : List Entry) (i : ℕ) (d : Entry) → i < length es → drop i es ≡ get_or es i d ∷ drop (i + 1) es

@@ -48,7 +48,7 @@ pub fn read_journal(alloc: Global, bytes: &[u8]) -> Result<Journal, ReadError>
     let mut line = 2u64;
     while !rest.is_empty() {
         let Some((text, after)) = split_first(rest, b'\n') else {
-            return Err(ReadError::BadLine(line));
+            return Err(ReadError::BadLine(line)); // it has no line feed
         };
         let Some(entry) = reader.next(text)? else {
             return Err(ReadError::BadLine(line));

@@ -34,7 +34,7 @@ fn journal_of(alloc: Global, entries: &[Entry], times: usize) -> Result<Journal,
     ensures { IfOk result IsNameable }
 {
     let mut ledger = Ledger::new(alloc);
-    for _ in 0..times {
+    'turns: for _ in 0..times {
         for entry in entries {
             if ledger.can_follow(*entry) {
                 ledger.add(*entry)?;
@@ -68,7 +68,8 @@ fn name_length(journal: &Journal, process: u32) -> Result<usize, Memory>
     }
 }
 
-const TWO_SENDERS: &str = "superpascal journal 2\n0 open\n0 fork 3\n0/0.0 receive 0#0\n0/0.1 send 0#0\n0/0.2 send 0#0\n0/0.0 receive 0#0\n0/0.1 end\n0/0.2 end\n0/0.0 end\n0 end\n";
+const TWO_SENDERS: &str =
+    "superpascal journal 2\n0 open\n0 fork 3\n0/0.0 receive 0#0\n0/0.1 send 0#0\n0/0.2 send 0#0\n0/0.0 receive 0#0\n0/0.1 end\n0/0.2 end\n0/0.0 end\n0 end\n";
 
 #[test]
 fn two_senders_both_ways(rt: HostRuntime) -> Result<(), Fail> {
@@ -107,7 +108,10 @@ fn each_event_once(rt: HostRuntime) -> Result<(), Fail> {
         "superpascal journal 2\n0 fork 2\n0/0.0 end\n0/0.1 fork 2\n0/0.1/0.0 end\n0/0.1/0.1 end\n0/0.1 end\n0 end\n",
         "superpascal journal 2\n0 fork 0\n0 fork 12\n0/1.10 open\n0/1.10 receive 0/1.10#0\n0/1.11 fault F18\n",
     ] {
-        assert_eq!(rt; printed(rt.alloc(), text.as_bytes())?.as_slice(), text.as_bytes());
+        assert_eq!(rt;
+            printed(rt.alloc(), text.as_bytes())?.as_slice(),
+            text.as_bytes()
+        );
     }
     let old = b"superpascal journal 1\n0 open\n0 receive 0#0\n".as_slice();
     let new = b"superpascal journal 2\n0 open\n0 receive 0#0\n".as_slice();

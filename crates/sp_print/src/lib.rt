@@ -2,6 +2,8 @@
 #![tactic(auto)]
 
 mod end;
+#[cfg(test)]
+mod tests;
 mod verdict;
 
 pub use end::end_lines;

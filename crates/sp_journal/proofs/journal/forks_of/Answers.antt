@@ -1,7 +1,7 @@
 use Rattle.std.proofs.Common.{◌≡◌, ◌≢◌, ◌+◌, ℕ, sym, ap, ◌∙◌, arith, take, cond}
 use Rattle.sp_journal.specs.declared.entry.Event.TheVariants as event
 use Rattle.sp_journal.specs.Births.{Births, births, after_event}
-use Rattle.sp_journal.proofs.Tests.{here, apart}
+use Rattle.sp_journal.proofs.Facts.{here, apart}
 use Rattle.sp_journal.proofs.Walk.{any_entry, more_births, this, after_fork, no_fork}
 use Rattle.sp_journal.proofs.journal.forks_of.Goals as goal
 use Rattle.sp_journal.proofs.journal.forks_of.Goals.{in-Fork+then-entry-process, in-Fork+else-entry-process, in_default}

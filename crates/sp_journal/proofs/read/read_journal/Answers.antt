@@ -7,7 +7,7 @@ use Rattle.sp_journal.specs.Texts.{entry_text}
 use Rattle.sp_journal.specs.Births.{Births}
 use Rattle.sp_journal.specs.Reader.{known, CanCome, IsNext}
 use Rattle.sp_journal.specs.Begun.{Begun}
-use Rattle.sp_journal.proofs.Tests.{none_some, same}
+use Rattle.sp_journal.proofs.Facts.{none_some, same}
 use Rattle.sp_journal.proofs.TextLaws.{parts_first}
 use Rattle.sp_journal.proofs.BegunLaws.{first_joins, read_alone, bad_here, none_here, begun_on, begun_first, bad_first, none_first, some_line}
 use Rattle.sp_journal.proofs.read.read_journal.Goals as goal

@@ -3,7 +3,7 @@ use Rattle.std.proofs.lemmas.List.{take-append-drop, take_all}
 use Rattle.std.proofs.Math.Seq.{drop-cons}
 use Rattle.sp_journal.specs.Splits.{last_split}
 use Rattle.sp_journal.proofs.SplitLaws.{last_after_none}
-use Rattle.sp_journal.proofs.Tests.{apart}
+use Rattle.sp_journal.proofs.Facts.{apart}
 use Rattle.sp_journal.proofs.split.split_last.Goals as goal
 
 -- none behind i, and c at i

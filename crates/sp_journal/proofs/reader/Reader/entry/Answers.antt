@@ -7,7 +7,7 @@ use Rattle.sp_journal.specs.Texts.{entry_text, event_text}
 use Rattle.sp_journal.specs.Splits.{first_split}
 use Rattle.sp_journal.specs.declared.reader.Reader.{Reader}
 use Rattle.sp_journal.specs.Reader.{IsReader, known}
-use Rattle.sp_journal.proofs.Tests.{none_some, some_same}
+use Rattle.sp_journal.proofs.Facts.{none_some, some_same}
 use Rattle.sp_journal.proofs.TextLaws.{parts_first, parts_second}
 use Rattle.sp_journal.proofs.ReaderLaws.{entry_split}
 use Rattle.sp_journal.proofs.reader.Reader.entry.Goals as goal

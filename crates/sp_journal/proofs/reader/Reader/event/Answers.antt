@@ -8,7 +8,7 @@ use Rattle.sp_journal.specs.Names.{chan_name}
 use Rattle.sp_journal.specs.Births.{Births, channel, GivesNumbers}
 use Rattle.sp_journal.specs.Splits.{first_split}
 use Rattle.sp_journal.specs.Reader.{known}
-use Rattle.sp_journal.proofs.Tests.{none_some}
+use Rattle.sp_journal.proofs.Facts.{none_some}
 use Rattle.sp_journal.proofs.TextLaws.{parts_first, parts_second}
 use Rattle.sp_journal.proofs.BirthLaws.{Lawful}
 use Rattle.sp_journal.proofs.ReaderLaws.{Told, told, laws}

@@ -1,7 +1,7 @@
 use Rattle.std.proofs.Common.{◌≡◌, ◌+◌, ◌∙◌, sym, ap, ℕ, arith, Some}
 use Rattle.std.specs.HashMap.{get_by_text}
 use Rattle.sp_journal.specs.Splits.{last_split}
-use Rattle.sp_journal.proofs.Tests.{none_some, some_same}
+use Rattle.sp_journal.proofs.Facts.{none_some, some_same}
 use Rattle.sp_journal.proofs.ReaderLaws.{Parts, parts, root_only, laws}
 use Rattle.sp_journal.proofs.reader.Reader.process.Goals as goal
 
