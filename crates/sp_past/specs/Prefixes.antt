@@ -1,0 +1,38 @@
+-- What a process knows of another, as a prefix of that one's entries.
+use Rattle.std.specs.Prelude.{◌≡◌, ℕ, suc, ◌≤◌, Bool, true, false, List, [], ◌∷◌, Some, slice_get}
+use Rattle.sp_journal.specs.Names.{Name, Channel, Happening, Opened, Split, Offered, Finished, Failed, LaidDown, Paused, Occurrence}
+use Rattle.sp_journal.specs.Past.{Judged, judged, judged_by, nothing_judged}
+
+-- fork, open, send, receive and end are counted
+abbrev pub is_counted : Happening → Bool
+is_counted Opened = true
+is_counted (Split k) = true
+is_counted (Offered w c) = true
+is_counted Finished = true
+is_counted (Failed f) = false
+is_counted LaidDown = false
+is_counted Paused = false
+
+-- the entry of index i is a counted one of process q
+abbrev pub Counts : List Occurrence → Name → ℕ → Type 0
+Counts es q i = (h : Happening) × (slice_get es i ≡ Some (record { who = q; what = h })) × (is_counted h ≡ true)
+
+-- this process has no offer that waits
+abbrev pub WaitsForNone : Judged → Name → Type 0
+WaitsForNone j p = (c : Channel) (k : ℕ) → j.pending c ≡ Some (p, k) → ⊥
+
+abbrev pub QuietFrom : Judged → ℕ → List Occurrence → Type 0
+QuietFrom j n [] = Unit {0}
+QuietFrom j n (e ∷ es) = WaitsForNone j e.who × QuietFrom (judged_by j n e.who e.what) (suc n) es
+
+-- no process makes an entry while its own offer waits
+abbrev pub IsQuiet : List Occurrence → Type 0
+IsQuiet es = QuietFrom nothing_judged 0 es
+
+-- who knows a counted entry of a process knows all earlier counted ones of that process
+abbrev pub KnowsPrefixes : List Occurrence → Type 0
+KnowsPrefixes es = (p q : Name) (i k : ℕ) → (judged es).past p i ≡ true → Counts es q i → Counts es q k → k ≤ i → (judged es).past p k ≡ true
+
+-- only counted entries are known
+abbrev pub KnowsCounted : List Occurrence → Type 0
+KnowsCounted es = (p : Name) (i : ℕ) → (judged es).past p i ≡ true → (q : Name) × Counts es q i
