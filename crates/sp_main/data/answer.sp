@@ -1,0 +1,1 @@
+program a; var x: integer; begin x := 6; write(x * 7) end.
