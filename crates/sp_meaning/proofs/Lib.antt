@@ -18,6 +18,7 @@ pub mod Reached
 pub mod Journeys
 pub mod LawProofs
 pub mod Faults
+pub mod Reading
 pub mod Examples
 pub mod Pauses
 pub mod Rows
