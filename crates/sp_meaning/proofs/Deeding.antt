@@ -9,7 +9,8 @@ use Rattle.sp_meaning.specs.Values.{Value, Ordinal, Chan, initials}
 use Rattle.sp_meaning.specs.Own.{Setting, Cell, Input, OfBlock, seek, reach, reached, Loc, Output, Held, Tree, Written, Address, Frame, Own, Who, Item, Do, First, Again, Test, Leave, Break, Came, Got, Bad, Lost, Long, Work, bind, give, fail, lost, become, put, assign, tick, deepen, widen, is_block, bytes_in, fetch}
 use Rattle.sp_meaning.specs.Texts.{Taken, Takes as Took, Fails as Refuses_it, padded, line_length}
 use Rattle.sp_meaning.specs.Eval.{value, ordinal_of, address, Place, At, Fixed, Given, ValueOf, PlaceOf, Calls}
-use Rattle.sp_meaning.specs.Deeds.{Birth, Deed, Went, Beat, Opened, Forked, Offered, Over, push, push_all, children, indexed_children, has, arm_for, is_range, goes_on, next_value, in_width, begins, lay_one, lay, copy_in, pushed_frame, enclosing, enter, without_frame, leave, write, advance, take_in, width, peek, turn_of, fork, chosen, start, act, settle, left_by, answer_of, call_by, rest_by, all, deed_by, deed, variables_of, size_of_frame, references, taken_by, shown}
+use Rattle.sp_tree.specs.Cells.{variables_of}
+use Rattle.sp_meaning.specs.Deeds.{Birth, Deed, Went, Beat, Opened, Forked, Offered, Over, push, push_all, children, indexed_children, has, arm_for, is_range, goes_on, next_value, in_width, begins, lay_one, lay, copy_in, pushed_frame, enclosing, enter, without_frame, leave, write, advance, take_in, width, peek, turn_of, fork, chosen, start, act, settle, left_by, answer_of, call_by, rest_by, all, deed_by, deed, size_of_frame, references, taken_by, shown}
 use Rattle.sp_tree.specs.declared.checked.Role.TheVariants as role
 use Rattle.sp_meaning.specs.Model.{Name, Gives, Takes}
 use Rattle.sp_tree.specs.Uses.{Use, Aims, Sees, Runs, Splits, Spreads, Stops, In_expr, In_target, In_call, In_width, In_stmt, In_stmts, In_arms, In_loop, IsOther}

@@ -11,7 +11,8 @@ use Rattle.sp_meaning.specs.Values.{Value, Ordinal, Chan, initials}
 use Rattle.sp_meaning.specs.Own.{Setting, Loc, Output, Held, Written, Address, Frame, Own, Who, Item, Do, First, Again, Test, Leave, Break, Came, Got, Bad, Lost, Long, Work, bind, give, fail, mine, who, become, put, assign, or_lost, tick, deepen, widen, is_block, bytes_in}
 use Rattle.sp_meaning.specs.Texts.{Taken, Takes as Took, Fails as Stops, padded, line_length}
 use Rattle.sp_meaning.specs.Eval.{Given, ValueOf, PlaceOf, Calls}
-use Rattle.sp_meaning.specs.Deeds.{Birth, Deed, Went, Beat, Opened, Forked, Offered, Over, push, push_all, has, arm_for, is_range, goes_on, next_value, in_width, begins, lay_one, lay, copy_in, pushed_frame, enclosing, enter, without_frame, leave, write, advance, take_in, width, peek, turn_of, fork, chosen, start, act, settle, left_by, answer_of, call_by, rest_by, all, deed_by, deed, variables_of, children, indexed_children, size_of_frame, references, taken_by, shown}
+use Rattle.sp_tree.specs.Cells.{variables_of}
+use Rattle.sp_meaning.specs.Deeds.{Birth, Deed, Went, Beat, Opened, Forked, Offered, Over, push, push_all, has, arm_for, is_range, goes_on, next_value, in_width, begins, lay_one, lay, copy_in, pushed_frame, enclosing, enter, without_frame, leave, write, advance, take_in, width, peek, turn_of, fork, chosen, start, act, settle, left_by, answer_of, call_by, rest_by, all, deed_by, deed, children, indexed_children, size_of_frame, references, taken_by, shown}
 use Rattle.sp_meaning.specs.SuperPascal.{weight, weight_all, weight_arms, weight_blocks, weight_of, enough}
 use Rattle.sp_meaning.proofs.Enough.{Ends, ends_then, ends_weaker, Any, Steady, then_steady, give_steady, fail_steady, lost_steady, or_lost_steady, fetch_steady, assign_steady, reach_steady, ordinal_steady, channel_steady, kind_steady, read_steady, address_of_steady, place_of_steady, left_steady, CallsEnd, value_steady, actuals_steady, address_steady, ordinal_of_steady}
 

@@ -1,5 +1,5 @@
 -- Statements in steps: what a process does first, and what is left to do.
-use Rattle.std.specs.Prelude.{ℕ, zero, suc, ◌+◌, ◌-◌, ◌==◌, ℤ, pos, ◌+ℤ◌, ◌-ℤ◌, nat_abs, int_lt, int_le, List, [], ◌∷◌, ◌++◌, Option, Some, None, Bool, true, false, if◌then◌else◌, nat_lt, length, take, slice_get, map, sum}
+use Rattle.std.specs.Prelude.{ℕ, zero, suc, ◌+◌, ◌-◌, ℤ, pos, ◌+ℤ◌, ◌-ℤ◌, nat_abs, int_lt, int_le, List, [], ◌∷◌, ◌++◌, Option, Some, None, Bool, true, false, if◌then◌else◌, nat_lt, length, take, slice_get}
 use Rattle.std.specs.Fmt.{signed_decimal}
 use Rattle.sp_base.specs.declared.fault.Fault.TheVariants as fault
 use Rattle.sp_tree.specs.declared.checked.KindOf.{KindOf}
@@ -8,7 +8,8 @@ use Rattle.sp_tree.specs.declared.checked.Role.{Role}
 use Rattle.sp_tree.specs.declared.checked.Role.TheVariants as role
 use Rattle.sp_tree.specs.Plain.{Expr, Typed, Variable, Block, Stmt, Empty, Assign, Call, Sequence, If, IfElse, While, Repeat, For, Case, Parallel, Forall, Assume, ReadValue, ReadLine, WriteValue, WriteText, WriteLine, Open, Send, Receive, Stmts, No, And, On, Arms, NoArm, Or}
 use Rattle.sp_meaning.specs.Model.{Name, Channel, Cargo, Gives, Takes}
-use Rattle.sp_meaning.specs.Values.{Value, Undefined, Ordinal, Chan, Parts, first_or, sizes, initials}
+use Rattle.sp_tree.specs.Cells.{variables_of, cells_of_frame}
+use Rattle.sp_meaning.specs.Values.{Value, Undefined, Ordinal, Chan, Parts, initials}
 use Rattle.sp_meaning.specs.Own.{Setting, Cell, Input, Output, Held, Tree, Position, Written, Address, Home, OfBlock, OfIndex, Frame, Own, Who, Item, Do, First, Again, Test, Leave, Break, Process, Work, bind, give, fail, lost, long, mine, who, become, look, put, fetch, assign, or_lost, position_in, bytes_in, reach, is_block, tick, deepen, widen}
 use Rattle.sp_meaning.specs.Operators.{same_ordinal}
 use Rattle.sp_meaning.specs.Texts.{Taken, Takes as Took, Fails as Stops, number_in, char_in, line_length, padded, truth_text}
@@ -89,19 +90,6 @@ goes_on down limit (Parts vs) = true
 
 -- frames
 
--- a block's variables with their numbers, from number x on
-abbrev pub variables_of : ℕ → ℕ → List Variable → List (ℕ × Variable)
-variables_of b x [] = []
-variables_of b x (i ∷ is) = if i.block == b then (x, i) ∷ variables_of b (suc x) is else variables_of b (suc x) is
-
-abbrev pub cells_by : List ℕ → Role → ℕ → ℕ
-cells_by sizes role.Console k = 0
-cells_by sizes role.Local k = first_or 0 (slice_get sizes k)
-cells_by sizes role.Value k = first_or 0 (slice_get sizes k)
-cells_by sizes role.Reference k = 1
-cells_by sizes role.Index k = 0
-cells_by sizes role.Answer k = first_or 0 (slice_get sizes k)
-
 -- what stands at first in a variable of a frame, if it has cells of its own
 abbrev pub begins : List Value → Role → ℕ → Option Value
 begins initials role.Console k = None
@@ -171,7 +159,7 @@ newborns w o i (b ∷ bs) = newborn w o i b ∷ newborns w o (suc i) bs
 
 module _ (g : Setting) where
   abbrev pub size_of_frame : ℕ → ℕ
-  size_of_frame b = sum (map (λ x. cells_by (sizes g.program.kinds) x.1.role x.1.kind) (variables_of b 0 g.program.variables))
+  size_of_frame b = cells_of_frame g.program b
 
   abbrev pub lay_one : ℕ → ℕ × Variable → Option Value → Work (Unit {0})
   lay_one n x None = give tt

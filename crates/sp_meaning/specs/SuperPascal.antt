@@ -5,9 +5,10 @@ use Rattle.sp_tree.specs.Plain.{Program, Variable, Block, Stmt, Empty, Assign, C
 use Rattle.sp_meaning.specs.Model.{Act, Moves, Opens, Forks, Offering, Ends, Fails, Language}
 use Rattle.sp_meaning.specs.Asking.{Asking, Done, and_then, answer}
 use Rattle.sp_meaning.specs.Trees.{of_trees}
-use Rattle.sp_meaning.specs.Values.{Value, Undefined, initials, first_or}
+use Rattle.sp_tree.specs.Cells.{first_or, variables_of}
+use Rattle.sp_meaning.specs.Values.{Value, Undefined, initials}
 use Rattle.sp_meaning.specs.Own.{Setting, Loc, Cell, Input, Output, Held, Tree, Position, Written, Address, assigned, same_loc, OfBlock, Own, Who, Item, Break, Process, Came, Got, Bad, Lost, Long}
-use Rattle.sp_meaning.specs.Deeds.{Deed, Went, Beat, Opened, Forked, Offered, Over, push, newborns, deed, size_of_frame, variables_of, begins}
+use Rattle.sp_meaning.specs.Deeds.{Deed, Went, Beat, Opened, Forked, Offered, Over, push, newborns, deed, size_of_frame, begins}
 
 -- How many steps stand between two ticks, at most: a bound for what a step evaluates
 

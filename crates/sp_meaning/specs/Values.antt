@@ -1,7 +1,8 @@
--- Values: trees of ordinals and channel names; the types' first values and sizes.
-use Rattle.std.specs.Prelude.{ℕ, zero, suc, ◌*◌, ℤ, pos, ◌+ℤ◌, ◌-ℤ◌, List, [], ◌∷◌, ◌++◌, Option, Some, None, slice_get, replicate, map, sum, nat_abs}
+-- Values: trees of ordinals and channel names; the types' first values.
+use Rattle.std.specs.Prelude.{ℕ, zero, suc, ℤ, List, [], ◌∷◌, slice_get, replicate, map}
 use Rattle.sp_tree.specs.declared.checked.KindOf.{KindOf}
 use Rattle.sp_tree.specs.declared.checked.KindOf.TheVariants as kind
+use Rattle.sp_tree.specs.Cells.{count, first_or, table}
 use Rattle.sp_meaning.specs.Model.{Channel}
 
 -- what stands in a variable: nothing defined, an ordinal, a channel, or the parts of an array or record
@@ -55,24 +56,6 @@ abbrev pub set_at : List ℕ → Value → Value → Value
 set_at [] w v = w
 set_at (i ∷ path) w v = with_part (set_at path w) v i
 
--- how many elements an array has
-abbrev pub count : ℤ → ℤ → ℕ
-count low high = nat_abs ((high -ℤ low) +ℤ pos 1)
-
-abbrev pub first_or : {A : Type 0} → A → Option A → A
-first_or d None = d
-first_or d (Some x) = x
-
--- a type's cells, where those of the types before it are known
-abbrev pub size_by : List ℕ → KindOf → ℕ
-size_by known kind.Integer = 1
-size_by known kind.Boolean = 1
-size_by known kind.Char = 1
-size_by known (kind.Enumeration n) = 1
-size_by known (kind.Array low high index element) = count low high * first_or 0 (slice_get known element)
-size_by known (kind.Fields fs) = sum (map (λ f. first_or 0 (slice_get known f.1)) fs)
-size_by known (kind.Channel ks) = 1
-
 -- a type's first value, where those of the types before it are known
 abbrev pub initial_by : List Value → KindOf → Value
 initial_by known kind.Integer = Undefined
@@ -83,14 +66,6 @@ initial_by known (kind.Array low high index element) = Parts (values (replicate 
 initial_by known (kind.Fields fs) = Parts (values (map (λ f. first_or Undefined (slice_get known f.1)) fs))
 initial_by known (kind.Channel ks) = Undefined
 
--- the results of a list, each by those before it
-abbrev pub table : {A : Type 0} → (List A → KindOf → A) → List A → List KindOf → List A
-table by known [] = known
-table by known (k ∷ ks) = table by (known ++ by known k ∷ []) ks
-
--- the cells of each type, and its first value
-abbrev pub sizes : List KindOf → List ℕ
-sizes kinds = table size_by [] kinds
-
+-- the first value of each type
 abbrev pub initials : List KindOf → List Value
 initials kinds = table initial_by [] kinds

@@ -7,6 +7,7 @@ pub mod Characters
 pub mod Spelling
 pub mod Grammar
 pub mod Operators
+pub mod Cells
 pub mod Items
 pub mod First
 pub mod Places
