@@ -1,5 +1,5 @@
 -- Each form of statement and of type in a program, and texts that are none, by running the machine.
-use Rattle.std.proofs.Common.{◌≡◌, ℕ, List, [], ◌∷◌, ◌++◌, Some, None, map, replicate, refl}
+use Rattle.std.proofs.Common.{◌≡◌, ℕ, zero, suc, List, [], ◌∷◌, ◌++◌, Some, None, map, replicate, refl}
 use Rattle.sp_tree.specs.declared.token.Token.{Token}
 use Rattle.sp_tree.specs.declared.token.Kind.{Kind}
 use Rattle.sp_tree.specs.declared.token.Kind.TheVariants as kind
@@ -213,3 +213,29 @@ deep_enough = refl
 
 too_deep : Refused Deep (states (replicate 200 w.Begin ++ replicate 200 w.End)) (w.Begin ∷ replicate 201 w.End ++ w.Dot ∷ [])
 too_deep = refl
+
+-- so many times the same
+abbrev repeated : ℕ → List Kind → List Kind
+repeated zero ks = []
+repeated (suc n) ks = ks ++ repeated n ks
+
+-- 197 factors after `not`, and one more
+negated_enough : Accepted (states (kind.Name ∷ w.Becomes ∷ replicate 197 w.Not ++ kind.Name ∷ []))
+negated_enough = refl
+
+negated_too_deep : Refused Deep (states (kind.Name ∷ w.Becomes ∷ replicate 198 w.Not ++ kind.Name ∷ [])) (kind.Name ∷ w.End ∷ w.Dot ∷ [])
+negated_too_deep = refl
+
+-- 197 expressions in parentheses, and one more
+expressions_enough : Accepted (states (kind.Name ∷ w.Becomes ∷ replicate 197 w.Open ++ kind.Name ∷ replicate 197 w.Close))
+expressions_enough = refl
+
+expressions_too_deep : Refused Deep (states (kind.Name ∷ w.Becomes ∷ replicate 198 w.Open ++ kind.Name ∷ replicate 198 w.Close)) (kind.Name ∷ replicate 198 w.Close ++ w.End ∷ w.Dot ∷ [])
+expressions_too_deep = refl
+
+-- 199 blocks inside the program's own, and one more
+blocks_enough : Accepted (declares (repeated 199 (w.Procedure ∷ kind.Name ∷ w.Semicolon ∷ []) ++ repeated 199 (w.Begin ∷ w.End ∷ w.Semicolon ∷ [])))
+blocks_enough = refl
+
+blocks_too_deep : Refused Deep (declares (repeated 200 (w.Procedure ∷ kind.Name ∷ w.Semicolon ∷ []) ++ repeated 200 (w.Begin ∷ w.End ∷ w.Semicolon ∷ []))) (repeated 200 (w.Begin ∷ w.End ∷ w.Semicolon ∷ []) ++ w.Begin ∷ w.End ∷ w.Dot ∷ [])
+blocks_too_deep = refl
