@@ -1,7 +1,7 @@
 mod BegunLaws
-mod BirthLaws
+pub mod BirthLaws
 mod EntryText
-mod Facts
+pub mod Facts
 mod Families
 mod LedgerLaws
 mod NameLaws
@@ -11,4 +11,4 @@ mod ReadingLaws
 mod Rows
 mod SplitLaws
 mod TextLaws
-mod Walk
+pub mod Walk

@@ -43,6 +43,7 @@ impl Journal {
     }
 
     /// The name of this process, which is the root or was made by an entry. No other process of the journal has it.
+    /// It goes over the whole journal: who needs many names asks a `Ledger`.
     pub fn name(&self, process: u32) -> Result<ProcName, Memory>
         requires nameable { IsNameable self.now }
         requires there { process < (births self.now.entries).processes }

@@ -1,6 +1,6 @@
 //! A journal with the tables of the names that its entries give.
 
-ghost use Rattle.std.specs.Prelude.{◌≡◌, ◌++◌, ◌∷◌, [], ◌<◌, ◌↔◌, IsTrue, IfOk, OnOk};
+ghost use Rattle.std.specs.Prelude.{◌≡◌, ◌++◌, ◌∷◌, [], ◌<◌, ◌≤◌, ◌^◌, ◌↔◌, IsTrue, IfOk, OnOk};
 ghost use Rattle.sp_journal.specs.Births.{births, channel, CanFollow, IsNameable};
 ghost use Rattle.sp_journal.specs.Names.{proc_name, chan_name};
 ghost use Rattle.sp_journal.specs.Ledger.{IsLedger};
@@ -28,10 +28,11 @@ pub(crate) struct Made {
     pub(crate) opens: u64,
 }
 
-/// A journal that grows entry by entry, and what its entries have given so far. A fork takes one place however many
-/// children it has.
+/// A journal that grows entry by entry, with the tables of what its entries have given so far. Every name of it is
+/// found in time of the name's length and the logarithm of the forks, so who needs many names of a journal asks a
+/// ledger. A fork takes one place however many children it has.
 #[derive(Drop)]
-pub(crate) struct Ledger {
+pub struct Ledger {
     journal: Journal,
     processes: u64,
     families: List<Family>,
@@ -42,7 +43,7 @@ pub(crate) struct Ledger {
 
 impl Ledger {
     /// The ledger of the empty journal.
-    pub(crate) fn new(alloc: Global) -> Ledger
+    pub fn new(alloc: Global) -> Ledger
         ensures ledger { IsLedger result }
         ensures empty { result.journal.entries ≡ [] }
     {
@@ -59,7 +60,7 @@ impl Ledger {
     }
 
     /// The ledger of this journal.
-    pub(crate) fn of(alloc: Global, journal: &Journal) -> Result<Ledger, Memory>
+    pub fn of(alloc: Global, journal: &Journal) -> Result<Ledger, Memory>
         requires { IsNameable journal.now }
         ensures { IfOk result (λ ledger. IsLedger ledger × (ledger.journal ≡ journal.now)) }
     {
@@ -78,18 +79,21 @@ impl Ledger {
         journal
     }
 
-    /// How many processes there are, the root among them.
-    pub(crate) fn processes(&self) -> u64
+    /// How many processes there are, the root among them: from 1 to 4,294,967,296.
+    pub fn processes(&self) -> u64
         requires { IsLedger self.now }
-        ensures { result ≡ (births self.now.journal.entries).processes }
+        ensures value { result ≡ (births self.now.journal.entries).processes }
+        ensures some { 0 < result }
+        ensures few { result ≤ 2 ^ 32 }
     {
         self.processes
     }
 
-    /// How many channels there are.
-    pub(crate) fn channels(&self) -> u64
+    /// How many channels there are, at most 4,294,967,296.
+    pub fn channels(&self) -> u64
         requires { IsLedger self.now }
-        ensures { result ≡ (births self.now.journal.entries).channels }
+        ensures value { result ≡ (births self.now.journal.entries).channels }
+        ensures few { result ≤ 2 ^ 32 }
     {
         self.openings.len() as u64
     }
@@ -107,7 +111,7 @@ impl Ledger {
     }
 
     /// Whether this entry can come next: it speaks of what is there, and numbers are left for what it gives.
-    pub(crate) fn can_follow(&self, entry: Entry) -> bool
+    pub fn can_follow(&self, entry: Entry) -> bool
         requires { IsLedger self.now }
         ensures { IsTrue result ↔ CanFollow (births self.now.journal.entries) entry }
     {
@@ -127,7 +131,7 @@ impl Ledger {
     }
 
     /// Takes the next entry in. After `Memory` the ledger is of no more use.
-    pub(crate) fn add(&mut self, entry: Entry) -> Result<(), Memory>
+    pub fn add(&mut self, entry: Entry) -> Result<(), Memory>
         requires ledger { IsLedger self.old }
         requires next { CanFollow (births self.old.journal.entries) entry }
         ensures ledger { OnOk result (IsLedger self.new) }
@@ -197,7 +201,7 @@ impl Ledger {
     }
 
     /// How this process came to be, which is there. None for the root.
-    pub(crate) fn birth(&self, process: u32) -> Option<Birth>
+    pub fn birth(&self, process: u32) -> Option<Birth>
         requires ledger { IsLedger self.now }
         requires there { process < (births self.now.journal.entries).processes }
         ensures { result ≡ (births self.now.journal.entries).birth process }
@@ -216,7 +220,7 @@ impl Ledger {
     }
 
     /// The name of this process, which is there.
-    pub(crate) fn name(&self, process: u32) -> Result<ProcName, Memory>
+    pub fn name(&self, process: u32) -> Result<ProcName, Memory>
         requires ledger { IsLedger self.now }
         requires there { process < (births self.now.journal.entries).processes }
         ensures { IfOk result (λ name. name ≡ proc_name ((births self.now.journal.entries).name process)) }
@@ -237,7 +241,7 @@ impl Ledger {
     }
 
     /// The name of this channel, which is there.
-    pub(crate) fn channel(&self, number: u32) -> Result<ChanName, Memory>
+    pub fn channel(&self, number: u32) -> Result<ChanName, Memory>
         requires ledger { IsLedger self.now }
         requires there { number < (births self.now.journal.entries).channels }
         ensures { IfOk result (λ name. name ≡ chan_name (channel (births self.now.journal.entries) number)) }

@@ -14,6 +14,7 @@ mod tests;
 mod version;
 
 pub use entry::{Birth, Entry, Event, Journal, Note, Opening, Way};
+pub use ledger::Ledger;
 pub use outcome::{End, Verdict, Waiter};
 pub use print::print_journal;
 pub use read::{ReadError, read_journal};

@@ -25,8 +25,9 @@ impl Way {
 }
 
 impl Ledger {
-    /// Puts the text of an entry that can come next last into `out`.
-    pub(crate) fn put_entry(&self, out: &mut Vec<u8>, entry: Entry) -> Result<(), Memory>
+    /// Puts the text of an entry that can come next last into `out`, without a line feed. Where memory is refused a
+    /// part of it may stand there.
+    pub fn put_entry(&self, out: &mut Vec<u8>, entry: Entry) -> Result<(), Memory>
         requires ledger { IsLedger self.now }
         requires next { CanFollow (births self.now.journal.entries) entry }
         ensures { OnOk result (out.new.items ≡ out.old.items ++ entry_text (births self.now.journal.entries) entry) }

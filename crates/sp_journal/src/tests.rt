@@ -58,6 +58,30 @@ fn chain(alloc: Global, length: u32) -> Result<Journal, Memory>
     Ok(ledger.into_journal())
 }
 
+/// The texts of these of a ledger's processes, channels and next entries that are there, with a space behind each.
+fn listed(alloc: Global, journal: &Journal, numbers: &[u32]) -> Result<Vec<u8>, Memory>
+    requires { IsNameable journal.now }
+{
+    let ledger = Ledger::of(alloc, journal)?;
+    let mut text = Vec::new(alloc);
+    for number in numbers {
+        if u64::from(*number) < ledger.processes() {
+            ledger.name(*number)?.put(&mut text)?;
+            text.push(b' ')?;
+        }
+        if u64::from(*number) < ledger.channels() {
+            ledger.channel(*number)?.put(&mut text)?;
+            text.push(b' ')?;
+        }
+        let ends = by(*number, Event::End);
+        if ledger.can_follow(ends) {
+            ledger.put_entry(&mut text, ends)?;
+            text.push(b' ')?;
+        }
+    }
+    Ok(text)
+}
+
 /// How long the name of this process is, or 0 where it is not there.
 fn name_length(journal: &Journal, process: u32) -> Result<usize, Memory>
     requires { IsNameable journal.now }
@@ -147,6 +171,15 @@ fn births_and_long_names(rt: HostRuntime) -> Result<(), Fail> {
     assert_eq!(rt; name_length(&journal, 3)?, 1);
     assert_eq!(rt; name_length(&journal, 4)?, 0);
     assert_eq!(rt; name_length(&chain(rt.alloc(), 10_000)?, 10_000)?, 10_000);
+    Ok(())
+}
+
+#[test]
+fn a_ledger(rt: HostRuntime) -> Result<(), Fail> {
+    let journal = read_journal(rt.alloc(), TWO_SENDERS.as_bytes())?;
+    let text = listed(rt.alloc(), &journal, &[0, 2, 4])?;
+    let expected = b"0 0#0 0 end 0/0.1 0/0.1 end ".as_slice();
+    assert_eq!(rt; text.as_slice(), expected);
     Ok(())
 }
 
