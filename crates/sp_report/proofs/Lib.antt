@@ -1,2 +1,5 @@
+mod Children
+mod FitLaws
 mod LineLemmas
+mod Orders
 mod Prefixes

@@ -1,6 +1,6 @@
 -- Lines with numbers before them.
-use Rattle.std.proofs.Common.{◌≡◌, ◌∙◌, ◌==◌, ◌&&◌, ◌+◌, ◌<◌, ◌/◌, ◌%◌, ℕ, Bool, cond, zero, suc, true, false, not, refl, sym, ap, ap₂, List, [], ◌∷◌, ◌++◌, append_assoc, arith, ne_eqb, nat_lt, codes, decimal, true≢false, length, drop, take, ◌-◌}
-use Rattle.std.specs.List.{list_all, slice_index_or}
+use Rattle.std.proofs.Common.{◌≡◌, ◌∙◌, ◌==◌, ◌&&◌, ◌+◌, ◌/◌, ◌%◌, ℕ, Bool, cond, zero, suc, true, false, not, refl, sym, ap, List, [], ◌∷◌, ◌++◌, append_assoc, arith, ne_eqb, nat_lt, codes, decimal, true≢false, length, drop, take, ◌-◌}
+use Rattle.std.specs.List.{list_all}
 use Rattle.std.proofs.lemmas.Grind.{common_steps}
 use Rattle.std.specs.Fmt.{digit_glyph, digits, digits_onto}
 use Rattle.std.proofs.lemmas.List.Folds.{list_all-append}

@@ -1,4 +1,9 @@
 pub mod Census
+pub mod Conditions
+pub mod Fits
+pub mod InOrder
 pub mod Nameable
 pub mod Telling
 pub mod Timeline
+pub mod Tree
+pub mod Waiting

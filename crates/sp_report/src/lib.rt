@@ -2,13 +2,19 @@
 #![tactic(auto)]
 
 mod census;
+mod condition;
+mod table;
 mod telling;
 #[cfg(test)]
 mod tests;
 mod timeline;
+mod tree;
+mod waiting;
 mod watcher;
 
 pub use census::Census;
 pub use telling::tell;
 pub use timeline::Timeline;
+pub use tree::ProcessTree;
+pub use waiting::Waiting;
 pub use watcher::Watcher;

@@ -1,8 +1,10 @@
 //! Reports of small journals, by hand.
 
-use crate::{Census, Timeline, Watcher, tell};
+use crate::{Census, ProcessTree, Timeline, Waiting, Watcher, tell};
 use sp_base::{List, Memory, Show};
-use sp_journal::{Entry, Event, Journal};
+use sp_journal::{Entry, Event, Journal, ReadError, read_journal};
+use std::alloc::Global;
+use std::test::Fail;
 
 const FORK: Entry = Entry {
     process: 0,
@@ -51,6 +53,17 @@ fn census(rt: HostRuntime) -> Result<(), Memory> {
     Ok(())
 }
 
+/// The texts of the four watchers over the journal of this text, those that the name chooses.
+fn told(alloc: Global, text: &[u8], show: Show) -> Result<Vec<u8>, ReadError> {
+    let journal = read_journal(alloc, text)?;
+    let timeline: Box<dyn Watcher> = Box::new(alloc, Timeline::new(alloc)).map_err(|_| Memory)?;
+    let census: Box<dyn Watcher> = Box::new(alloc, Census::new(alloc)).map_err(|_| Memory)?;
+    let tree: Box<dyn Watcher> = Box::new(alloc, ProcessTree::new(alloc)).map_err(|_| Memory)?;
+    let waiting: Box<dyn Watcher> = Box::new(alloc, Waiting::new(alloc)).map_err(|_| Memory)?;
+    let watchers = vec![in alloc; timeline, census, tree, waiting].map_err(|_| Memory)?;
+    Ok(tell(alloc, watchers, &journal, show)?)
+}
+
 #[test]
 fn nobody(rt: HostRuntime) -> Result<(), Memory> {
     let alloc = rt.alloc();
@@ -59,5 +72,118 @@ fn nobody(rt: HostRuntime) -> Result<(), Memory> {
     };
     let text = tell(alloc, Vec::new(alloc), &journal, Show::All)?;
     assert_eq!(rt; text.len(), 0);
+    Ok(())
+}
+
+const FORKED: &str = "superpascal journal 2\n0 fork 2\n0/0.0 end\n0/0.1 end\n0 end\n";
+
+const TIMELINE: &str = "timeline\n0 0 fork 2\n1 0/0.0 end\n2 0/0.1 end\n3 0 end\n";
+
+const CENSUS: &str = "census\nforks 1\nopens 0\nsends 0\nreceives 0\nends 3\nfaults 0\nlaid 0\n";
+
+const TREE: &str = "tree\n0\n  0.0\n  0.1\n";
+
+#[test]
+fn each_show(rt: HostRuntime) -> Result<(), Fail> {
+    let alloc = rt.alloc();
+    let all = format!(in alloc; "{TIMELINE}{CENSUS}{TREE}waiting\n")?;
+    for (show, expected) in [
+        (Show::End, ""),
+        (Show::Timeline, TIMELINE),
+        (Show::Census, CENSUS),
+        (Show::Tree, TREE),
+        (Show::Waiting, "waiting\n"),
+        (Show::All, all.as_str()),
+        (Show::Journal, ""),
+    ] {
+        let text = told(alloc, FORKED.as_bytes(), show)?;
+        assert_eq!(rt; text.as_slice(), expected.as_bytes());
+    }
+    Ok(())
+}
+
+#[test]
+fn over_nothing(rt: HostRuntime) -> Result<(), Fail> {
+    let alloc = rt.alloc();
+    for (show, expected) in [
+        (Show::Timeline, "timeline\n"),
+        (
+            Show::Census,
+            "census\nforks 0\nopens 0\nsends 0\nreceives 0\nends 0\nfaults 0\nlaid 0\n",
+        ),
+        (Show::Tree, "tree\n0\n"),
+        (Show::Waiting, "waiting\n"),
+    ] {
+        let text = told(alloc, b"superpascal journal 2\n", show)?;
+        assert_eq!(rt; text.as_slice(), expected.as_bytes());
+    }
+    Ok(())
+}
+
+#[test]
+fn trees(rt: HostRuntime) -> Result<(), Fail> {
+    let alloc = rt.alloc();
+    for (lines, expected) in [
+        (
+            "0 fork 11\n0/0.10 fork 1\n0/0.2 fork 1\n0/0.2 fork 2\n",
+            "  0.0\n  0.1\n  0.2\n    0.0\n    1.0\n    1.1\n  0.3\n  0.4\n  0.5\n  0.6\n  0.7\n  0.8\n  0.9\n  0.10\n    0.0\n",
+        ),
+        ("0 open\n", ""),
+    ] {
+        let journal = format!(in alloc; "superpascal journal 2\n{lines}")?;
+        let text = told(alloc, journal.as_bytes(), Show::Tree)?;
+        let expected = format!(in alloc; "tree\n0\n{expected}")?;
+        assert_eq!(rt; text.as_slice(), expected.as_bytes());
+    }
+    Ok(())
+}
+
+#[test]
+fn who_waits(rt: HostRuntime) -> Result<(), Fail> {
+    let alloc = rt.alloc();
+    for (lines, expected) in [
+        (
+            "0 open\n0 fork 2\n0/0.0 receive 0#0\n0/0.1 end\n",
+            "0 join 0/0.0\n0/0.0 receive 0#0\n",
+        ),
+        ("0 open\n0 receive 0#0\n", "0 receive 0#0\n"),
+        // a rendezvous lets both go on
+        (
+            "0 open\n0 fork 2\n0/0.1 send 0#0\n0/0.0 receive 0#0\n",
+            "0 join 0/0.0 0/0.1\n",
+        ),
+        // a second offer of one way, and entries of those who wait, change nothing
+        (
+            "0 open\n0 fork 2\n0/0.1 send 0#0\n0/0.0 send 0#0\n0/0.1 end\n0 pause\n",
+            "0 join 0/0.0 0/0.1\n0/0.1 send 0#0\n",
+        ),
+        // the last child lets its parent go on
+        (
+            "0 fork 2\n0/0.1 end\n0/0.0 end\n0 open\n0 receive 0#0\n",
+            "0 receive 0#0\n",
+        ),
+        // who is laid has not ended and does not wait
+        (
+            "0 fork 2\n0/0.0 fault F4\n0/0.1 end\n0/0.1 laid\n",
+            "0 join 0/0.0 0/0.1\n",
+        ),
+        ("0 fork 2\n0/0.0 laid\n0/0.0 end\n", "0 join 0/0.1\n"),
+        // a fork that changes nothing starts nobody
+        (
+            "0 fork 1\n0 fork 1\n0/1.0 open\n0/1.0 send 0/1.0#0\n0/0.0 end\n",
+            "",
+        ),
+        // a fault counts whoever makes it
+        (
+            "0 fork 1\n0 fault F1\n0/0.0 open\n0/0.0 send 0/0.0#0\n",
+            "0 join 0/0.0\n",
+        ),
+        ("0 fork 0\n0 end\n", "0 join\n"),
+    ] {
+        let journal = format!(in alloc; "superpascal journal 2\n{lines}")?;
+        let text = told(alloc, journal.as_bytes(), Show::Waiting)?;
+        let expected = format!(in alloc; "waiting\n{expected}")?;
+        assert_eq!(rt; text.as_slice(), expected.as_bytes());
+    }
     Ok(())
 }

@@ -1,4 +1,4 @@
-use Rattle.std.proofs.Common.{◌∙◌, refl, sym, subst, ap, take, List}
+use Rattle.std.proofs.Common.{refl, sym, subst, List}
 use contract.BorrowLft.{meet_⊑_right}
 use Rattle.sp_journal.specs.declared.entry.Entry.{Entry}
 use Rattle.sp_journal.specs.Births.{NameableFrom, at_start}

@@ -1,0 +1,19 @@
+use Rattle.std.proofs.Common.{◌≡◌, ◌∙◌, ◌+◌, ◌<◌, ◌++◌, ◌∷◌, [], ℕ, List, length, take, codes, get_or, sym, ap, append_assoc}
+use Rattle.std.proofs.lemmas.List.{take_more}
+use Rattle.std.proofs.lemmas.List.Concat.{flat_map-append}
+use Rattle.sp_base.specs.declared.name.Pair.{Pair}
+use Rattle.sp_report.specs.Tree.{indent}
+use Rattle.sp_report.proofs.tree.put_line.Goals as goal
+
+indent_more : (ps : List Pair) (i : ℕ) → i < length ps → indent (take (i + 1) ps) ≡ indent (take i ps) ++ codes "  "
+indent_more ps i l =
+    let d : Pair = record { fork = 0; child = 0 } in
+    ap indent (take_more ps i d l) ∙ flat_map-append (λ p. codes "  ") (take i ps) (get_or ps i d ∷ [])
+
+pub loop-pair-preserved : goal.loop-pair-preserved
+loop-pair-preserved c =
+    let ps = c.items-pairs.result.now in
+    let i = c.loop-pair._pair-index in
+    c.in_ok-extend_from_slice.ensures.items ∙ ap (λ (xs : List ℕ). xs ++ codes "  ") c.loop-pair.invariant
+    ∙ append_assoc c.args.out.now.items (indent (take i ps)) (codes "  ")
+    ∙ ap (λ (xs : List ℕ). c.args.out.now.items ++ xs) (sym (indent_more ps i c.loop-pair-test.true))

@@ -1,0 +1,20 @@
+-- Processes in the order of their names.
+use Rattle.std.specs.Prelude.{ℕ, List, [], ◌∷◌}
+use Rattle.std.specs.BTreeMap.{insert_entry}
+use Rattle.sp_base.specs.declared.name.ProcName.{ProcName}
+use Rattle.sp_base.specs.Order.{name_cmp}
+use Rattle.sp_journal.specs.Births.{Births}
+use Rattle.sp_journal.specs.Names.{proc_name}
+
+-- a process by its name and its number
+abbrev pub Named : Type 0
+Named = ProcName × ℕ
+
+-- these in order already, and each of the others at its place among those before it
+abbrev pub placed : Births → List Named → List ℕ → List Named
+placed s es [] = es
+placed s es (q ∷ qs) = placed s (insert_entry name_cmp es (proc_name (s.name q)) q) qs
+
+-- these processes in the order of their names
+abbrev pub in_order : Births → List ℕ → List Named
+in_order s qs = placed s [] qs

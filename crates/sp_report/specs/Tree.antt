@@ -1,0 +1,34 @@
+-- The text of a tree of processes.
+use Rattle.std.specs.Prelude.{ℕ, ◌-◌, List, [], ◌∷◌, ◌++◌, codes, decimal}
+use Rattle.std.specs.List.{flat_map}
+use Rattle.sp_base.specs.declared.name.Pair.{Pair}
+use Rattle.sp_base.specs.declared.name.ProcName.{ProcName}
+use Rattle.sp_journal.specs.declared.entry.Entry.{Entry}
+use Rattle.sp_journal.specs.Births.{Births, births}
+use Rattle.sp_journal.specs.Queue.{numbers}
+use Rattle.sp_report.specs.InOrder.{Named, in_order}
+
+-- two spaces for each pair
+abbrev pub indent : List Pair → List ℕ
+indent ps = flat_map (λ p. codes "  ") ps
+
+-- the last pair, as `2.1`
+abbrev pub last_pair : List Pair → List ℕ
+last_pair [] = []
+last_pair (p ∷ []) = decimal p.fork ++ codes "." ++ decimal p.child
+last_pair (p ∷ (q ∷ ps)) = last_pair (q ∷ ps)
+
+-- a process that was forked, as `    2.1`
+abbrev pub tree_line : ProcName → List ℕ
+tree_line n = indent n.pairs ++ last_pair n.pairs ++ codes "\n"
+
+abbrev pub tree_lines : List Named → List ℕ
+tree_lines ns = flat_map (λ n. tree_line n.0) ns
+
+-- every process but the root
+abbrev pub forked : Births → List ℕ
+forked s = numbers 1 (s.processes - 1)
+
+-- the root, and then the others in order of names
+abbrev pub tree_text : List Entry → List ℕ
+tree_text es = codes "tree\n0\n" ++ tree_lines (in_order (births es) (forked (births es)))

@@ -1,0 +1,162 @@
+//! What each process of a journal does after its entries.
+
+ghost use Rattle.std.specs.Prelude.{◌≡◌, ◌∷◌, [], IfOk, OnOk};
+ghost use Rattle.sp_journal.specs.Births.{CanFollow, births};
+ghost use Rattle.sp_journal.specs.Ledger.{IsLedger};
+ghost use Rattle.sp_report.specs.Conditions.{after, becomes, changed, first_conditions, forked, less_left, offered, reported};
+ghost use Rattle.sp_report.specs.Fits.{seen};
+
+use crate::condition::{Condition, Pending, is_fault, is_timely};
+use sp_base::Memory;
+use sp_journal::{Birth, Entry, Event, Ledger, Way};
+use std::alloc::Global;
+use std::collections::HashMap;
+
+/// The conditions of the processes that were started, and the offers that wait, by their channels.
+#[derive(Drop)]
+pub(crate) struct Table {
+    of: HashMap<u32, Condition>,
+    pending: HashMap<u32, Pending>,
+    faulted: bool,
+}
+
+impl Table {
+    /// Before the first entry the root runs.
+    pub(crate) fn new(alloc: Global) -> Result<Table, Memory>
+        ensures { IfOk result (λ t. seen t ≡ first_conditions) }
+    {
+        let mut of = HashMap::new(alloc);
+        of.insert(0, Condition::Running)?;
+        Ok(Table {
+            of,
+            pending: HashMap::new(alloc),
+            faulted: false,
+        })
+    }
+
+    /// What this process does.
+    pub(crate) fn of(&self, process: u32) -> Condition
+        ensures { result ≡ (seen self.now).of process }
+    {
+        self.of
+            .get(&process)
+            .copied()
+            .unwrap_or(Condition::Unstarted)
+    }
+
+    fn becomes(&mut self, process: u32, condition: Condition) -> Result<(), Memory>
+        ensures { OnOk result (seen self.new ≡ becomes (seen self.old) process condition) }
+    {
+        self.of.insert(process, condition)?;
+        Ok(())
+    }
+
+    fn fork(&mut self, ledger: &Ledger, process: u32, count: u32) -> Result<(), Memory>
+        requires ledger { IsLedger ledger.now }
+        requires next { CanFollow (births ledger.now.journal.entries)
+            (record { process = process; event = Event.Fork count }) }
+        ensures { OnOk result (seen self.new
+            ≡ forked (births ledger.now.journal.entries) (seen self.old) process count) }
+    {
+        let first = ledger.processes();
+        let joining = Condition::Joining {
+            first,
+            count,
+            left: count,
+        };
+        self.of.insert(process, joining)?;
+        for child in first..first + u64::from(count) {
+            self.of.insert(child as u32, Condition::Running)?;
+        }
+        Ok(())
+    }
+
+    fn offer(&mut self, process: u32, way: Way, channel: u32) -> Result<(), Memory>
+        ensures { OnOk result (seen self.new
+            ≡ offered (seen self.old) way process channel ((seen self.old).pending channel)) }
+    {
+        match self.pending.get(&channel).copied() {
+            None => {
+                self.pending.insert(channel, Pending { way, process })?;
+                self.becomes(process, Condition::Offering { way, channel })
+            }
+            Some(other) => {
+                if other.is(way) {
+                    return Ok(());
+                }
+                self.pending.remove(&channel);
+                self.becomes(other.process, Condition::Running)
+            }
+        }
+    }
+
+    /// One child of this process has ended.
+    fn report(&mut self, birth: Option<Birth>) -> Result<(), Memory>
+        ensures { OnOk result (seen self.new ≡ reported (seen self.old) birth) }
+    {
+        let Some(birth) = birth else {
+            return Ok(());
+        };
+        let parent = self.of(birth.parent);
+        match parent {
+            Condition::Joining { first, count, left } => {
+                self.becomes(birth.parent, less_left(first, count, left))
+            }
+            Condition::Unstarted
+            | Condition::Running
+            | Condition::Offering { .. }
+            | Condition::Ended
+            | Condition::Laid => Ok(()),
+        }
+    }
+
+    fn change(&mut self, ledger: &Ledger, entry: Entry) -> Result<(), Memory>
+        requires ledger { IsLedger ledger.now }
+        requires next { CanFollow (births ledger.now.journal.entries) entry }
+        ensures { OnOk result (seen self.new
+            ≡ changed (births ledger.now.journal.entries) (seen self.old) entry.process entry.event) }
+    {
+        let process = entry.process;
+        match entry.event {
+            Event::Fork(count) => self.fork(ledger, process, count),
+            Event::Send(channel) => self.offer(process, Way::Send, channel),
+            Event::Receive(channel) => self.offer(process, Way::Receive, channel),
+            Event::End => {
+                self.becomes(process, Condition::Ended)?;
+                self.report(ledger.birth(process))
+            }
+            Event::Fault(_) | Event::Laid => self.becomes(process, Condition::Laid),
+            Event::Open | Event::Pause => Ok(()),
+        }
+    }
+
+    /// Takes the next entry in, which the ledger does not have yet.
+    pub(crate) fn tell(&mut self, ledger: &Ledger, entry: Entry) -> Result<(), Memory>
+        requires ledger { IsLedger ledger.now }
+        requires next { CanFollow (births ledger.now.journal.entries) entry }
+        ensures { OnOk result (seen self.new
+            ≡ after (births ledger.now.journal.entries) (seen self.old) entry) }
+    {
+        if self.of(entry.process).is_running() && is_timely(self.faulted, entry.event) {
+            self.change(ledger, entry)?;
+        }
+        if is_fault(entry.event) {
+            self.faulted = true;
+        }
+        Ok(())
+    }
+}
+
+fn less_left(first: u64, count: u32, left: u32) -> Condition
+    ensures { result ≡ less_left first count left }
+{
+    if left == 1 {
+        Condition::Running
+    } else {
+        Condition::Joining {
+            first,
+            count,
+            left: left.saturating_sub(1),
+        }
+    }
+}

@@ -1,0 +1,192 @@
+//! The processes of a journal that wait at its end.
+
+ghost use Rattle.std.specs.Prelude.{◌≡◌, ◌++◌, ◌+◌, ◌≤◌, [], IfOk, OnOk, codes};
+ghost use Rattle.sp_journal.specs.Births.{IsNameable, at_start, births};
+ghost use Rattle.sp_journal.specs.Ledger.{IsLedger};
+ghost use Rattle.sp_report.specs.Conditions.{conditions};
+ghost use Rattle.sp_report.specs.Fits.{AllFit, Fits, seen};
+ghost use Rattle.sp_report.specs.InOrder.{in_order};
+ghost use Rattle.sp_report.specs.Nameable.{nameable_prop};
+ghost use Rattle.sp_report.specs.Waiting.{children_text, left_of, wait_text, waiting, waiting_line, waiting_lines, waiting_text};
+
+use crate::condition::Condition;
+use crate::table::Table;
+use crate::watcher::Watcher;
+use sp_base::{List, Memory, ProcName};
+use sp_journal::{Entry, Journal, Ledger};
+use std::alloc::Global;
+use std::collections::BTreeMap;
+
+/// Tells which processes send, receive or join at the end, and for what they wait.
+#[derive(Drop)]
+pub struct Waiting {
+    alloc: Global,
+    journal: Journal,
+    ghost nameable: { IsNameable journal } by { nameable_prop at_start journal.entries },
+}
+
+impl Waiting {
+    /// A report that was told nothing. It takes no memory, and keeps the allocator.
+    pub fn new(alloc: Global) -> Waiting
+        ensures { result.journal.entries ≡ [] }
+    {
+        Waiting {
+            alloc,
+            journal: Journal {
+                entries: List::new(alloc),
+            },
+        }
+    }
+}
+
+/// A journal's names, and what its processes do at its end.
+#[derive(Drop)]
+struct Last {
+    ledger: Ledger,
+    table: Table,
+}
+
+fn after_all(alloc: Global, journal: &Journal) -> Result<Last, Memory>
+    requires { IsNameable journal.now }
+    ensures ledger { IfOk result (λ e. IsLedger e.ledger) }
+    ensures journal { IfOk result (λ e. e.ledger.journal.entries ≡ journal.now.entries) }
+    ensures table { IfOk result (λ e. seen e.table ≡ conditions journal.now.entries) }
+    ensures fit { IfOk result (λ e. AllFit (births journal.now.entries) (conditions journal.now.entries)) }
+{
+    let mut ledger = Ledger::new(alloc);
+    let mut table = Table::new(alloc)?;
+    for entry in journal.entries.items() {
+        table.tell(&ledger, *entry)?;
+        ledger.add(*entry)?;
+    }
+    Ok(Last { ledger, table })
+}
+
+/// The processes that wait, in the order of their names.
+fn waiting_processes(
+    alloc: Global,
+    ledger: &Ledger,
+    table: &Table,
+) -> Result<BTreeMap<ProcName, u32>, Memory>
+    requires { IsLedger ledger.now }
+    ensures { IfOk result (λ m. m.entries ≡ in_order (births ledger.now.journal.entries)
+        (waiting (births ledger.now.journal.entries) (seen table.now))) }
+{
+    let mut names = BTreeMap::new(alloc);
+    for process in 0..ledger.processes() {
+        let process = process as u32;
+        if table.of(process).is_waiting() {
+            names.insert(ledger.name(process)?, process)?;
+        }
+    }
+    Ok(names)
+}
+
+/// Puts the children that have not ended, of `count` from number `first` on.
+fn put_children(
+    out: &mut Vec<u8>,
+    ledger: &Ledger,
+    table: &Table,
+    first: u64,
+    count: u32,
+) -> Result<(), Memory>
+    requires ledger { IsLedger ledger.now }
+    requires there { first + count ≤ (births ledger.now.journal.entries).processes }
+    ensures { OnOk result (out.new.items ≡ out.old.items
+        ++ children_text (births ledger.now.journal.entries) (left_of (seen table.now) first count)) }
+{
+    let _processes = ledger.processes();
+    for child in first..first + u64::from(count) {
+        let child = child as u32;
+        if !table.of(child).has_ended() {
+            out.extend_from_slice(b" ")?;
+            ledger.name(child)?.put(out)?;
+        }
+    }
+    Ok(())
+}
+
+/// Puts what a process in this condition waits for.
+fn put_wait(
+    out: &mut Vec<u8>,
+    ledger: &Ledger,
+    table: &Table,
+    condition: Condition,
+) -> Result<(), Memory>
+    requires ledger { IsLedger ledger.now }
+    requires fits { Fits (births ledger.now.journal.entries) condition }
+    ensures { OnOk result (out.new.items ≡ out.old.items
+        ++ wait_text (births ledger.now.journal.entries) (seen table.now) condition) }
+{
+    match condition {
+        Condition::Offering { way, channel } => {
+            out.extend_from_slice(way.word().as_bytes())?;
+            out.extend_from_slice(b" ")?;
+            ledger.channel(channel)?.put(out)
+        }
+        Condition::Joining { first, count, .. } => {
+            out.extend_from_slice(b"join")?;
+            put_children(out, ledger, table, first, count)
+        }
+        Condition::Unstarted | Condition::Running | Condition::Ended | Condition::Laid => Ok(()),
+    }
+}
+
+fn put_line(out: &mut Vec<u8>, last: &Last, name: &ProcName, process: u32) -> Result<(), Memory>
+    requires ledger { IsLedger last.now.ledger }
+    requires fit { AllFit (births last.now.ledger.journal.entries) (seen last.now.table) }
+    ensures { OnOk result (out.new.items ≡ out.old.items
+        ++ waiting_line (births last.now.ledger.journal.entries) (seen last.now.table) (name.now, process)) }
+{
+    name.put(out)?;
+    out.extend_from_slice(b" ")?;
+    let condition = last.table.of(process);
+    put_wait(out, &last.ledger, &last.table, condition)?;
+    out.extend_from_slice(b"\n")?;
+    Ok(())
+}
+
+fn put_lines(out: &mut Vec<u8>, last: &Last, names: &BTreeMap<ProcName, u32>) -> Result<(), Memory>
+    requires ledger { IsLedger last.now.ledger }
+    requires fit { AllFit (births last.now.ledger.journal.entries) (seen last.now.table) }
+    ensures { OnOk result (out.new.items ≡ out.old.items
+        ++ waiting_lines (births last.now.ledger.journal.entries) (seen last.now.table) names.now.entries) }
+{
+    for (name, process) in names {
+        put_line(out, last, name, *process)?;
+    }
+    Ok(())
+}
+
+fn waiting_text(alloc: Global, journal: &Journal) -> Result<Vec<u8>, Memory>
+    requires { IsNameable journal.now }
+    ensures { IfOk result (λ text. text.items ≡ waiting_text journal.now.entries) }
+{
+    let last = after_all(alloc, journal)?;
+    let names = waiting_processes(alloc, &last.ledger, &last.table)?;
+    let mut text = Vec::from_slice(alloc, b"waiting\n")?;
+    put_lines(&mut text, &last, &names)?;
+    Ok(text)
+}
+
+impl Watcher for Waiting {
+    ghost told = { λ w. w.journal.entries };
+
+    ghost text = { λ w es. waiting_text es };
+
+    ghost title = { λ w. codes "waiting" };
+
+    fn name(&self) -> &str {
+        "waiting"
+    }
+
+    fn see(&mut self, entry: &Entry) -> Result<(), Memory> {
+        self.journal.push(*entry)
+    }
+
+    fn finish(&mut self, out: &mut Vec<u8>) -> Result<(), Memory> {
+        let text = waiting_text(self.alloc, &self.journal)?;
+        out.extend_from_slice(text.as_slice())?;
+        Ok(())
+    }
+}
