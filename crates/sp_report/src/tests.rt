@@ -1,8 +1,11 @@
 //! Reports of small journals, by hand.
 
+ghost use Rattle.std.specs.Prelude.{◌≡◌, []};
+ghost use Rattle.sp_journal.specs.Births.{IsNameable};
+
 use crate::{Census, ProcessTree, Timeline, Waiting, Watcher, tell};
 use sp_base::{List, Memory, Show};
-use sp_journal::{Entry, Event, Journal, ReadError, read_journal};
+use sp_journal::{Entry, Event, Journal, read_journal};
 use std::alloc::Global;
 use std::test::Fail;
 
@@ -53,15 +56,38 @@ fn census(rt: HostRuntime) -> Result<(), Memory> {
     Ok(())
 }
 
-/// The texts of the four watchers over the journal of this text, those that the name chooses.
-fn told(alloc: Global, text: &[u8], show: Show) -> Result<Vec<u8>, ReadError> {
-    let journal = read_journal(alloc, text)?;
-    let timeline: Box<dyn Watcher> = Box::new(alloc, Timeline::new(alloc)).map_err(|_| Memory)?;
-    let census: Box<dyn Watcher> = Box::new(alloc, Census::new(alloc)).map_err(|_| Memory)?;
-    let tree: Box<dyn Watcher> = Box::new(alloc, ProcessTree::new(alloc)).map_err(|_| Memory)?;
-    let waiting: Box<dyn Watcher> = Box::new(alloc, Waiting::new(alloc)).map_err(|_| Memory)?;
-    let watchers = vec![in alloc; timeline, census, tree, waiting].map_err(|_| Memory)?;
-    Ok(tell(alloc, watchers, &journal, show)?)
+/// The texts over the journal of those of these four watchers that the name chooses.
+fn tell_four(
+    alloc: Global,
+    watchers: (
+        Box<dyn Watcher>,
+        Box<dyn Watcher>,
+        Box<dyn Watcher>,
+        Box<dyn Watcher>,
+    ),
+    journal: &Journal,
+    show: Show,
+) -> Result<Vec<u8>, Memory>
+    requires first { told watchers.0 ≡ [] }
+    requires second { told watchers.1 ≡ [] }
+    requires third { told watchers.2 ≡ [] }
+    requires fourth { told watchers.3 ≡ [] }
+    requires nameable { IsNameable journal.now }
+{
+    let (first, second, third, fourth) = watchers;
+    let watchers = vec![in alloc; first, second, third, fourth]?;
+    tell(alloc, watchers, journal, show)
+}
+
+/// The texts of the four watchers over the journal, those that the name chooses.
+fn told(alloc: Global, journal: &Journal, show: Show) -> Result<Vec<u8>, Memory>
+    requires { IsNameable journal.now }
+{
+    let timeline = Box::new(alloc, Timeline::new(alloc))?;
+    let census = Box::new(alloc, Census::new(alloc))?;
+    let tree = Box::new(alloc, ProcessTree::new(alloc))?;
+    let waiting = Box::new(alloc, Waiting::new(alloc))?;
+    tell_four(alloc, (timeline, census, tree, waiting), journal, show)
 }
 
 #[test]
@@ -96,7 +122,7 @@ fn each_show(rt: HostRuntime) -> Result<(), Fail> {
         (Show::All, all.as_str()),
         (Show::Journal, ""),
     ] {
-        let text = told(alloc, FORKED.as_bytes(), show)?;
+        let text = told(alloc, &read_journal(alloc, FORKED.as_bytes())?, show)?;
         assert_eq!(rt; text.as_slice(), expected.as_bytes());
     }
     Ok(())
@@ -114,7 +140,11 @@ fn over_nothing(rt: HostRuntime) -> Result<(), Fail> {
         (Show::Tree, "tree\n0\n"),
         (Show::Waiting, "waiting\n"),
     ] {
-        let text = told(alloc, b"superpascal journal 2\n", show)?;
+        let text = told(
+            alloc,
+            &read_journal(alloc, b"superpascal journal 2\n")?,
+            show,
+        )?;
         assert_eq!(rt; text.as_slice(), expected.as_bytes());
     }
     Ok(())
@@ -131,7 +161,7 @@ fn trees(rt: HostRuntime) -> Result<(), Fail> {
         ("0 open\n", ""),
     ] {
         let journal = format!(in alloc; "superpascal journal 2\n{lines}")?;
-        let text = told(alloc, journal.as_bytes(), Show::Tree)?;
+        let text = told(alloc, &read_journal(alloc, journal.as_bytes())?, Show::Tree)?;
         let expected = format!(in alloc; "tree\n0\n{expected}")?;
         assert_eq!(rt; text.as_slice(), expected.as_bytes());
     }
@@ -181,7 +211,11 @@ fn who_waits(rt: HostRuntime) -> Result<(), Fail> {
         ("0 fork 0\n0 end\n", "0 join\n"),
     ] {
         let journal = format!(in alloc; "superpascal journal 2\n{lines}")?;
-        let text = told(alloc, journal.as_bytes(), Show::Waiting)?;
+        let text = told(
+            alloc,
+            &read_journal(alloc, journal.as_bytes())?,
+            Show::Waiting,
+        )?;
         let expected = format!(in alloc; "waiting\n{expected}")?;
         assert_eq!(rt; text.as_slice(), expected.as_bytes());
     }
