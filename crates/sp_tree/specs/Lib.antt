@@ -20,3 +20,11 @@ pub mod Sets
 pub mod Interference
 pub mod Sites
 pub mod Interferes
+pub mod PlainNamed
+pub mod NamedOf
+pub mod Scopes
+pub mod Found
+pub mod NameRules
+pub mod NameWalk
+pub mod NamedTree
+pub mod NameFirst

@@ -2,6 +2,9 @@
 #![tactic(auto)]
 
 mod checked;
+mod found;
+mod meaning;
+mod named;
 mod operators;
 mod profile;
 pub mod sign;
@@ -11,6 +14,13 @@ pub mod word;
 
 pub use checked::{
     Actual, Arm, Block, Checked, Expr, ExprForm, Form, KindOf, Role, Selector, Stmt, Var, Variable,
+};
+pub use found::{Found, before, lesser, row};
+pub use meaning::{Counts, Meaning, Passing, Sort, StandardProcedure};
+pub use named::{
+    Named, NamedAnswer, NamedArg, NamedArm, NamedBlock, NamedBranch, NamedConst, NamedConstant,
+    NamedExpr, NamedExprForm, NamedForm, NamedKind, NamedKindForm, NamedSelector, NamedStmt,
+    NamedValue, NamedVar,
 };
 pub use operators::{BinaryOp, StandardFn, UnaryOp};
 pub use profile::{MAX_NAME, MAX_NESTING, MAX_TEXT};
