@@ -116,13 +116,14 @@ module _ (g : Setting) where
     };
   }
 
+  -- the first value of the variable with this number among these
+  abbrev pub value_among : ℕ → List (ℕ × Variable) → Value
+  value_among x [] = Undefined
+  value_among x (y ∷ ys) = if y.0 == x then first_or Undefined (begins (initials g.program.kinds) y.1.role y.1.kind) else value_among x ys
+
   -- the first value of a variable of the program
   abbrev pub first_value : ℕ → Value
-  first_value x = found x (variables_of 0 0 g.program.variables)
-    where
-      found : ℕ → List (ℕ × Variable) → Value
-      found x [] = Undefined
-      found x (y ∷ ys) = if y.0 == x then first_or Undefined (begins (initials g.program.kinds) y.1.role y.1.kind) else found x ys
+  first_value x = value_among x (variables_of 0 0 g.program.variables)
 
   -- nothing is read or written, and all variables of the program are undefined
   abbrev pub first_store : Loc → Held
