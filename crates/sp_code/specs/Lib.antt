@@ -2,3 +2,14 @@ pub mod Sizes
 pub mod Tables
 pub mod Listing
 pub mod Operands
+pub mod Machine
+pub mod Turns
+pub mod Memory
+pub mod PlainStore
+pub mod Control
+pub mod System
+pub mod Ranks
+pub mod Sound
+pub mod Scopes
+pub mod Places
+pub mod Lengths

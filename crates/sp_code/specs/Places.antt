@@ -1,0 +1,127 @@
+-- Where the code of each part of a tree ends.
+use Rattle.std.specs.Prelude.{ℕ, ◌+◌, ℤ, List, [], ◌∷◌, Option, Some, None}
+use Rattle.sp_tree.specs.declared.operators.UnaryOp.{UnaryOp}
+use Rattle.sp_tree.specs.declared.operators.UnaryOp.TheVariants as unary
+use Rattle.sp_tree.specs.declared.operators.StandardFn.{StandardFn}
+use Rattle.sp_tree.specs.declared.operators.StandardFn.TheVariants as standard
+use Rattle.sp_tree.specs.Plain.{Expr, Typed, ExprForm, Number, Read, Unary, Binary, Apply, Standard, AtInput, Var, Entire, Selector, Index, Field, Selectors, Whole, Select, Actual, ByValue, ByReference, Actuals, Nothing, Pass, Program, Block, Stmt, Empty, Assign, Call, Sequence, If, IfElse, While, Repeat, For, Case, Parallel, Forall, Assume, ReadValue, ReadLine, WriteValue, WriteText, WriteLine, Open, Send, Receive, Stmts, No, And, Arm, On, Arms, NoArm, Or}
+use Rattle.sp_code.specs.Scopes.{Sort, Ordinals, Channels, Many, NoSort, sort}
+
+-- the place behind the code of a part that stands at q
+
+abbrev pub after_unary : UnaryOp → ℕ → ℕ
+after_unary unary.Plus q = q
+after_unary unary.Minus q = q + 1
+after_unary unary.Not q = q + 1
+
+abbrev pub after_standard : StandardFn → ℕ → ℕ
+after_standard standard.Abs q = q + 1
+after_standard standard.Sqr q = q + 1
+after_standard standard.Odd q = q + 1
+after_standard standard.Ord q = q
+after_standard standard.Chr q = q + 1
+after_standard standard.Succ q = q + 1
+after_standard standard.Pred q = q + 1
+after_standard standard.Eof q = q
+after_standard standard.Eoln q = q
+
+abbrev mutual
+  -- an expression is its operands in order and then its operator
+  pub after_value : ℕ → Expr → ℕ
+  after_value q (Typed k form) = after_form q form
+
+  pub after_form : ℕ → ExprForm → ℕ
+  after_form q (Number n) = q + 1
+  after_form q (Read v) = after_var q v + 1
+  after_form q (Unary op a) = after_unary op (after_value q a)
+  after_form q (Binary op a b) = after_value (after_value q a) b + 1
+  after_form q (Apply f args) = after_actuals q args + 1
+  after_form q (Standard f a) = after_standard f (after_value q a)
+  after_form q (AtInput f) = q + 1
+
+  -- the address of a variable
+  pub after_var : ℕ → Var → ℕ
+  after_var q (Entire x ss) = after_selectors (q + 1) ss
+
+  pub after_selectors : ℕ → Selectors → ℕ
+  after_selectors q Whole = q
+  after_selectors q (Select (Index e) rest) = after_selectors (after_value q e + 1) rest
+  after_selectors q (Select (Field f) rest) = after_selectors (q + 1) rest
+
+  pub after_actuals : ℕ → Actuals → ℕ
+  after_actuals q Nothing = q
+  after_actuals q (Pass (ByValue e) rest) = after_actuals (after_value q e) rest
+  after_actuals q (Pass (ByReference v) rest) = after_actuals (after_var q v) rest
+
+abbrev pub after_width : ℕ → Option Expr → ℕ
+after_width q None = q
+after_width q (Some e) = after_value q e
+
+-- the right side of an assignment: of an array or record it is an address alone
+abbrev pub after_right : ℕ → Sort → ExprForm → ℕ
+after_right q Ordinals form = after_form q form
+after_right q Channels form = after_form q form
+after_right q Many (Read v) = after_var q v
+after_right q Many (Number n) = after_form q (Number n)
+after_right q Many (Unary op a) = after_form q (Unary op a)
+after_right q Many (Binary op a b) = after_form q (Binary op a b)
+after_right q Many (Apply f args) = after_form q (Apply f args)
+after_right q Many (Standard f a) = after_form q (Standard f a)
+after_right q Many (AtInput f) = after_form q (AtInput f)
+after_right q NoSort form = after_form q form
+
+-- a test for each constant of a case
+abbrev pub after_test : ℕ → List ℤ → ℕ
+after_test q [] = q
+after_test q (m ∷ ms) = after_test (q + 1) ms
+
+abbrev pub after_tests : ℕ → Arms → ℕ
+after_tests q NoArm = q
+after_tests q (Or (On ms s) rest) = after_tests (after_test q ms) rest
+
+module _ (p : Program) where
+  abbrev mutual
+    pub after : ℕ → Stmt → ℕ
+    after q Empty = q
+    after q (Assign v (Typed k form)) = after_right (after_var q v) (sort p k) form + 1
+    after q (Call f args) = after_actuals q args + 1
+    after q (Sequence ss) = after_all q ss
+    after q (If e a) = after (after_value q e + 1) a
+    after q (IfElse e a b) = after (after (after_value q e + 1) a + 1) b
+    after q (While e s) = after (after_value q e + 1 + 1) s + 1
+    after q (Repeat s e) = after_value (after (q + 1) s) e + 1
+    after q (For x from down to s) = after (after_value (after_value q from) to + 1 + 1) s + 1
+    after q (Case e arms) = after_arms (after_tests (after_value q e) arms + 1) arms
+    after q (Parallel ss) = after_children (q + 1 + 1) ss
+    after q (Forall x from to s) = after (after_value (after_value q from) to + 1 + 1) s + 1
+    after q (Assume e) = after_value q e + 1
+    after q (ReadValue v) = after_var q v + 1
+    after q ReadLine = q + 1
+    after q (WriteValue e w) = after_width (after_value q e) w + 1
+    after q (WriteText t w) = after_width q w + 1
+    after q WriteLine = q + 1
+    after q (Open v) = after_var q v + 1
+    after q (Send c e) = after_value (after_value q c) e + 1
+    after q (Receive c v) = after_var (after_value q c) v + 1
+
+    pub after_all : ℕ → Stmts → ℕ
+    after_all q No = q
+    after_all q (And s rest) = after_all (after q s) rest
+
+    -- an `end` behind each child
+    pub after_children : ℕ → Stmts → ℕ
+    after_children q No = q
+    after_children q (And s rest) = after_children (after q s + 1) rest
+
+    -- a `jump` behind each arm
+    pub after_arms : ℕ → Arms → ℕ
+    after_arms q NoArm = q
+    after_arms q (Or (On ms s) rest) = after_arms (after q s + 1) rest
+
+  -- behind a block: its `return` or `end`
+  abbrev pub after_block : ℕ → Block → ℕ
+  after_block q b = after q b.body + 1
+
+  abbrev pub after_blocks : ℕ → List Block → ℕ
+  after_blocks q [] = q
+  after_blocks q (b ∷ bs) = after_blocks (after_block q b) bs

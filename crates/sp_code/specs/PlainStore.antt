@@ -1,0 +1,48 @@
+-- The stores of a run, as plain maps.
+use Rattle.std.specs.Prelude.{ℕ, ◌==◌, List, [], ◌∷◌, Option, Some, None, Bool, true, false, ◌&&◌, not}
+use Rattle.std.specs.List.{list_all}
+use Rattle.std.specs.FinMap as map
+use Rattle.sp_cell.specs.declared.cell.Cell.{Cell}
+use Rattle.sp_cell.specs.declared.spot.Spot.{Spot}
+use Rattle.sp_cell.specs.Map.{Content, Own, Shared, Output, Away, Map, Plain, with_map, owned, appended, output_of, output_spot}
+use Rattle.sp_cell.specs.Frame.{next_frame, newest, pushed, popped, root_map}
+use Rattle.sp_cell.specs.Fork.{child_of, handed, joined}
+use Rattle.sp_code.specs.Memory.{Stores, is_there}
+
+-- the cells of a piece that is held, own or shared
+abbrev pub piece_of : Option Content → Option (List Cell)
+piece_of None = None
+piece_of (Some (Own cs)) = Some cs
+piece_of (Some (Shared cs)) = Some cs
+piece_of (Some (Output bs)) = None
+piece_of (Some Away) = None
+
+abbrev pub is_away : Option Content → Bool
+is_away None = false
+is_away (Some (Own cs)) = false
+is_away (Some (Shared cs)) = false
+is_away (Some (Output bs)) = false
+is_away (Some Away) = true
+
+-- nothing of a frame is away
+abbrev pub none_away : Map → ℕ → Bool
+none_away m n = list_all (λ (q : Spot). not ((q.frame == n) && is_away (map.get m q))) (map.keys m)
+
+abbrev pub is_newest : List ℕ → ℕ → Bool
+is_newest ns n = is_there ns && (newest ns == n)
+
+abbrev pub plain : Stores Plain
+plain = record {
+  piece = λ p s. piece_of (map.get p.map s);
+  owned = λ p s cs. with_map p (owned p.map s cs);
+  output = λ p. output_of (map.get p.map output_spot);
+  appended = λ p bs. with_map p (appended p.map bs);
+  next_frame = next_frame;
+  pushed = pushed;
+  may_pop = λ p n. is_newest p.own n && none_away p.map n;
+  popped = popped;
+  root = λ sizes. record { map = root_map sizes; own = []; moved = [] };
+  child = λ p h. child_of p.map h;
+  handed = λ p hs. with_map p (handed p.map hs);
+  joined = λ p c. with_map p (joined p.map c);
+}

@@ -1,0 +1,91 @@
+-- Each way back to an instruction passes a tick or a call. This is why a turn ends.
+use Rattle.std.specs.Prelude.{ℕ, zero, suc, ◌+◌, ◌<◌, List, [], ◌∷◌, length, Option, Some, None, nat_lt, if◌then◌else◌, slice_get}
+use Rattle.sp_code.specs.declared.instr.Instr.{Instr}
+use Rattle.sp_code.specs.declared.instr.Instr.TheVariants as i
+
+-- the instructions to which one leads with no tick, no call and no return
+abbrev pub ways : ℕ → Option Instr → List ℕ
+ways p None = []
+ways p (Some (i.Const v)) = (p + 1) ∷ []
+ways p (Some (i.Addr up var)) = (p + 1) ∷ []
+ways p (Some (i.Deref up var)) = (p + 1) ∷ []
+ways p (Some (i.Index low high size)) = (p + 1) ∷ []
+ways p (Some (i.Field k)) = (p + 1) ∷ []
+ways p (Some i.Load) = (p + 1) ∷ []
+ways p (Some i.Loadc) = (p + 1) ∷ []
+ways p (Some i.Store) = (p + 1) ∷ []
+ways p (Some (i.Copy k)) = (p + 1) ∷ []
+ways p (Some i.Add) = (p + 1) ∷ []
+ways p (Some i.Sub) = (p + 1) ∷ []
+ways p (Some i.Mul) = (p + 1) ∷ []
+ways p (Some i.Div) = (p + 1) ∷ []
+ways p (Some i.Mod) = (p + 1) ∷ []
+ways p (Some i.Neg) = (p + 1) ∷ []
+ways p (Some i.Abs) = (p + 1) ∷ []
+ways p (Some i.Sqr) = (p + 1) ∷ []
+ways p (Some i.Odd) = (p + 1) ∷ []
+ways p (Some i.And) = (p + 1) ∷ []
+ways p (Some i.Or) = (p + 1) ∷ []
+ways p (Some i.Not) = (p + 1) ∷ []
+ways p (Some i.Eq) = (p + 1) ∷ []
+ways p (Some i.Ne) = (p + 1) ∷ []
+ways p (Some i.Lt) = (p + 1) ∷ []
+ways p (Some i.Le) = (p + 1) ∷ []
+ways p (Some i.Gt) = (p + 1) ∷ []
+ways p (Some i.Ge) = (p + 1) ∷ []
+ways p (Some (i.Range low high)) = (p + 1) ∷ []
+ways p (Some (i.Succ high)) = (p + 1) ∷ []
+ways p (Some (i.Pred low)) = (p + 1) ∷ []
+ways p (Some (i.Jump to)) = to ∷ []
+ways p (Some (i.Jumpf to)) = to ∷ (p + 1) ∷ []
+ways p (Some (i.Casej v to)) = to ∷ (p + 1) ∷ []
+ways p (Some i.Nocase) = []
+ways p (Some i.Tick) = []
+ways p (Some i.Assume) = (p + 1) ∷ []
+ways p (Some (i.Forup var to)) = to ∷ (p + 1) ∷ []
+ways p (Some (i.Fordown var to)) = to ∷ (p + 1) ∷ []
+ways p (Some (i.Nextup var to)) = to ∷ (p + 1) ∷ []
+ways p (Some (i.Nextdown var to)) = to ∷ (p + 1) ∷ []
+ways p (Some (i.Call b up)) = []
+ways p (Some i.Return) = []
+ways p (Some i.ReadInt) = (p + 1) ∷ []
+ways p (Some i.ReadChar) = (p + 1) ∷ []
+ways p (Some i.Readln) = (p + 1) ∷ []
+ways p (Some i.Eof) = (p + 1) ∷ []
+ways p (Some i.Eoln) = (p + 1) ∷ []
+ways p (Some i.WriteInt) = (p + 1) ∷ []
+ways p (Some i.WriteChar) = (p + 1) ∷ []
+ways p (Some i.WriteBool) = (p + 1) ∷ []
+ways p (Some (i.WriteText k)) = (p + 1) ∷ []
+ways p (Some i.WritewInt) = (p + 1) ∷ []
+ways p (Some i.WritewChar) = (p + 1) ∷ []
+ways p (Some i.WritewBool) = (p + 1) ∷ []
+ways p (Some (i.WritewText k)) = (p + 1) ∷ []
+ways p (Some i.Writeln) = (p + 1) ∷ []
+ways p (Some (i.Pack k)) = (p + 1) ∷ []
+ways p (Some i.Open) = []
+ways p (Some (i.Send k)) = []
+ways p (Some (i.Receive k)) = []
+ways p (Some (i.Fork t)) = []
+ways p (Some (i.Forall t)) = (p + 1) ∷ []
+ways p (Some i.End) = []
+
+abbrev pub larger : ℕ → ℕ → ℕ
+larger a b = if nat_lt a b then b else a
+
+abbrev pub most : (ℕ → ℕ) → List ℕ → ℕ
+most f [] = 0
+most f (p ∷ ps) = larger (f p) (most f ps)
+
+-- the length of the longest way from an instruction, up to n
+unfoldable pub rank : ℕ → List Instr → ℕ → ℕ
+rank zero code p = 0
+rank (suc n) code p = suc (most (rank n code) (ways p (slice_get code p)))
+
+abbrev pub AllBelow : (ℕ → ℕ) → ℕ → List ℕ → Type 0
+AllBelow f n [] = Unit {0}
+AllBelow f n (p ∷ ps) = (f p < n) × AllBelow f n ps
+
+-- each way makes the rank fall, so none leads back
+unfoldable pub IsRanked : List Instr → Type 0
+IsRanked code = (p : ℕ) → AllBelow (rank (suc (length code)) code) (rank (suc (length code)) code p) (ways p (slice_get code p))

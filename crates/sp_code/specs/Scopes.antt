@@ -1,0 +1,162 @@
+-- Types, frames and scopes of a checked tree, as code needs them.
+use Rattle.std.specs.Prelude.{ℕ, zero, suc, ◌+◌, ◌==◌, List, [], ◌∷◌, ◌++◌, Option, Some, None, Bool, true, false, if◌then◌else◌, slice_get, map, sum, take, length}
+use Rattle.sp_tree.specs.declared.checked.KindOf.{KindOf}
+use Rattle.sp_tree.specs.declared.checked.KindOf.TheVariants as kind
+use Rattle.sp_tree.specs.declared.checked.Role.{Role}
+use Rattle.sp_tree.specs.declared.checked.Role.TheVariants as role
+use Rattle.sp_tree.specs.Cells.{sizes, first_or, variables_of, cells_by}
+use Rattle.sp_tree.specs.Plain.{Expr, Typed, ExprForm, Var, Entire, Selectors, Whole, Select, Index, Field, Program, Variable, Block}
+
+-- what values of a type are on the stack: an ordinal, a channel, or many cells
+pub data Sort : Type 0 where
+  Ordinals : Sort
+  Channels : Sort
+  Many : Sort
+  NoSort : Sort
+
+abbrev pub sort_by : Option KindOf → Sort
+sort_by None = NoSort
+sort_by (Some kind.Integer) = Ordinals
+sort_by (Some kind.Boolean) = Ordinals
+sort_by (Some kind.Char) = Ordinals
+sort_by (Some (kind.Enumeration n)) = Ordinals
+sort_by (Some (kind.Array low high index element)) = Many
+sort_by (Some (kind.Fields fs)) = Many
+sort_by (Some (kind.Channel ks)) = Channels
+
+-- the type of an expression
+abbrev pub kind_of : Expr → ℕ
+kind_of (Typed k form) = k
+
+-- the scopes around a place, the innermost first: a block, or the element statement of a forall
+pub data Scope : Type 0 where
+  OfBlock : (b : ℕ) → Scope
+  OfIndex : (x : ℕ) → Scope
+
+abbrev pub is_block : ℕ → Scope → Bool
+is_block b (OfBlock c) = b == c
+is_block b (OfIndex x) = false
+
+abbrev pub is_index : ℕ → Scope → Bool
+is_index x (OfBlock c) = false
+is_index x (OfIndex y) = x == y
+
+abbrev pub one_more : Option ℕ → Option ℕ
+one_more None = None
+one_more (Some n) = Some (suc n)
+
+-- how many levels outward the first scope is that fits
+abbrev pub level : (Scope → Bool) → List Scope → Option ℕ
+level fits [] = None
+level fits (s ∷ sc) = if fits s then Some 0 else one_more (level fits sc)
+
+abbrev pub is_given : {A : Type 0} → Option A → Bool
+is_given None = false
+is_given (Some x) = true
+
+abbrev pub as_list : Option ℕ → List ℕ
+as_list None = []
+as_list (Some x) = x ∷ []
+
+-- variables of a role, by their numbers
+abbrev pub is_local : Role → Bool
+is_local role.Console = false
+is_local role.Local = true
+is_local role.Value = false
+is_local role.Reference = false
+is_local role.Index = false
+is_local role.Answer = false
+
+abbrev pub locals_among : List (ℕ × Variable) → List ℕ
+locals_among [] = []
+locals_among (x ∷ xs) = if is_local x.1.role then x.0 ∷ locals_among xs else locals_among xs
+
+-- the place of x among these, counted from n
+abbrev pub index_among : ℕ → ℕ → List ℕ → ℕ
+index_among x n [] = n
+index_among x n (y ∷ ys) = if x == y then n else index_among x (suc n) ys
+
+abbrev pub second_or : ℕ → Option (List ℕ × ℕ) → ℕ
+second_or k None = k
+second_or k (Some x) = x.1
+
+-- the type that a field has, and that an element has
+abbrev pub field_type : ℕ → Option KindOf → ℕ → ℕ
+field_type k None f = k
+field_type k (Some kind.Integer) f = k
+field_type k (Some kind.Boolean) f = k
+field_type k (Some kind.Char) f = k
+field_type k (Some (kind.Enumeration n)) f = k
+field_type k (Some (kind.Array low high index element)) f = k
+field_type k (Some (kind.Fields fs)) f = second_or k (slice_get fs f)
+field_type k (Some (kind.Channel ks)) f = k
+
+abbrev pub element_type : ℕ → Option KindOf → ℕ
+element_type k None = k
+element_type k (Some kind.Integer) = k
+element_type k (Some kind.Boolean) = k
+element_type k (Some kind.Char) = k
+element_type k (Some (kind.Enumeration n)) = k
+element_type k (Some (kind.Array low high index element)) = element
+element_type k (Some (kind.Fields fs)) = k
+element_type k (Some (kind.Channel ks)) = k
+
+abbrev pub parent_of : Option Block → Option ℕ
+parent_of None = None
+parent_of (Some k) = k.parent
+
+abbrev pub parameters_of : Option Block → List ℕ
+parameters_of None = []
+parameters_of (Some b) = b.formals ++ as_list b.answer
+
+abbrev pub type_by : Option Variable → ℕ
+type_by None = 0
+type_by (Some v) = v.kind
+
+module _ (p : Program) where
+  abbrev pub kind_at : ℕ → Option KindOf
+  kind_at k = slice_get p.kinds k
+
+  abbrev pub sort : ℕ → Sort
+  sort k = sort_by (kind_at k)
+
+  -- the cells of a type
+  abbrev pub size : ℕ → ℕ
+  size k = first_or 0 (slice_get (sizes p.kinds) k)
+
+  -- the cells of a record before one of its fields
+  abbrev pub field_offset : List (List ℕ × ℕ) → ℕ → ℕ
+  field_offset fs f = sum (map (λ x. size x.1) (take f fs))
+
+  -- the variables of a block's frame: the parameters, the result, the local variables
+  abbrev pub frame_of : ℕ → List ℕ
+  frame_of b = parameters_of (slice_get p.blocks b) ++ locals_among (variables_of b 0 p.variables)
+
+  -- the number of a variable in its frame. The program's frame has the input and the output first
+  abbrev pub slot_in : ℕ → ℕ → ℕ
+  slot_in b x = index_among x (if b == 0 then 2 else 0) (frame_of b)
+
+  abbrev pub slot_by : ℕ → Option Variable → ℕ
+  slot_by x None = 0
+  slot_by x (Some v) = slot_in v.block x
+
+  abbrev pub slot : ℕ → ℕ
+  slot x = slot_by x (slice_get p.variables x)
+
+  -- the scopes of a block's statement part: it, and those around it, no more than n
+  abbrev pub scopes_by : ℕ → Option ℕ → List Scope
+  scopes_by zero b = []
+  scopes_by (suc n) None = []
+  scopes_by (suc n) (Some b) = OfBlock b ∷ scopes_by n (parent_of (slice_get p.blocks b))
+
+  abbrev pub scopes_of : ℕ → List Scope
+  scopes_of b = scopes_by (length p.blocks) (Some b)
+
+  -- the type behind selectors
+  abbrev pub selected_type : ℕ → Selectors → ℕ
+  selected_type k Whole = k
+  selected_type k (Select (Index e) rest) = selected_type (element_type k (kind_at k)) rest
+  selected_type k (Select (Field f) rest) = selected_type (field_type k (kind_at k) f) rest
+
+  abbrev pub type_of : Var → ℕ
+  type_of (Entire x ss) = selected_type (type_by (slice_get p.variables x)) ss

@@ -1,0 +1,109 @@
+-- Code that runs safely: each turn ends, finds what its instructions need and touches what its process holds alone.
+use Rattle.std.specs.Prelude.{◌≡◌, ◌≢◌, ◌⊎◌, ℕ, suc, ◌+◌, ◌*◌, ◌≤◌, ◌==◌, ℤ, List, [], ◌∷◌, ◌++◌, length, Option, Some, None, Bool, true, false, if◌then◌else◌, slice_get}
+use Rattle.std.specs.FinMap as map
+use Rattle.sp_base.specs.declared.limits.Limits.{Limits}
+use Rattle.sp_base.specs.declared.limits.TheConstants.{TURN_TICKS}
+use Rattle.sp_cell.specs.declared.cell.Cell.{Cell}
+use Rattle.sp_cell.specs.declared.spot.Spot.{Spot}
+use Rattle.sp_cell.specs.declared.spot.Address.{Address}
+use Rattle.sp_cell.specs.declared.spot.Handing.{Handing}
+use Rattle.sp_cell.specs.Map.{Map, Plain, IsOwn, HasCells}
+use Rattle.sp_cell.specs.Frame.{HasNextFrame}
+use Rattle.sp_cell.specs.Fork.{moved_of, shared_of, HasIndex}
+use Rattle.sp_cell.specs.Spots.{In, NotIn, IsDistinct, AllHeld, AllPieces, AllAway}
+use Rattle.sp_cell.specs.Held.{View, IsPartition}
+use Rattle.sp_journal.specs.declared.entry.Entry.{Entry}
+use Rattle.sp_journal.specs.declared.entry.Birth.{Birth}
+use Rattle.sp_journal.specs.Queue.{numbers}
+use Rattle.sp_code.specs.declared.code.Layout.{Layout}
+use Rattle.sp_code.specs.declared.code.Parts.{Parts}
+use Rattle.sp_code.specs.Machine.{Stop, Forks, Sends, Receives, Ends, Config, At}
+use Rattle.sp_code.specs.Turns.{Stopped, IsTurn, IsSafe}
+use Rattle.sp_code.specs.Memory.{Setting, Frame, Memory, memory}
+use Rattle.sp_code.specs.PlainStore.{plain}
+use Rattle.sp_code.specs.Ranks.{IsRanked}
+use Rattle.sp_code.specs.System.{System, Condition, Absent, Runs, Waits, Joins, Laid, Ended, store_of, plan_of, IsSystem, fault_of}
+
+-- a run of code on an input, with these limits
+abbrev pub run_of : Parts → List ℕ → Limits → Setting
+run_of code input lim = record { code = code; input = input; limits = lim; pause = TURN_TICKS }
+
+-- ---- who holds what
+
+-- one number for a frame of a process
+abbrev pub identity : ℕ → ℕ → ℕ
+identity process frame = (process + frame) * (process + frame) + frame
+
+-- what a frame number of a process means: the frame that it made under that number, or the one that it had from its parent
+abbrev pub means : List Frame → ℕ → ℕ
+means [] n = identity 0 n
+means (f ∷ fs) n = if f.number == n then identity f.owner f.number else means fs n
+
+abbrev pub view_at : Config (Memory Plain) → View
+view_at (At pc st n) = record { map = n.store.map; means = means n.frames }
+
+-- the store of a process that has not ended
+abbrev pub views_at : Condition Plain → List View
+views_at Absent = []
+views_at (Runs c) = view_at c ∷ []
+views_at (Waits stop c) = view_at c ∷ []
+views_at (Joins left c) = view_at c ∷ []
+views_at (Laid c) = view_at c ∷ []
+views_at (Ended c) = []
+
+abbrev pub views_of : (ℕ → Condition Plain) → List ℕ → List View
+views_of condition [] = []
+views_of condition (q ∷ qs) = views_at (condition q) ++ views_of condition qs
+
+-- held: each variable of a live frame is own in one store at most; where it is shared, all that share it have equal cells and none
+-- owns it; every other store that knows it has it away
+abbrev pub Held : System Plain → Type 0
+Held s = IsPartition (views_of s.condition (numbers 0 s.births.processes))
+
+-- ---- sound code
+
+-- no two layouts are of one block
+abbrev pub HasDistinctBlocks : List Layout → Type 0
+HasDistinctBlocks ls = (i j : ℕ) (l m : Layout) → slice_get ls i ≡ Some l → slice_get ls j ≡ Some m → l.block ≡ m.block → i ≡ j
+
+-- a fork can be carried out: what it hands over is held, nothing is moved twice, and nothing that is moved is shared
+pub record CanSplit (p : Plain) (hs : List Handing) : Type 0 where
+  pub held : AllHeld p.map (moved_of hs)
+  pub pieces : AllPieces p.map (shared_of hs)
+  pub distinct : IsDistinct (moved_of hs)
+  pub apart : (q : Spot) → In q (moved_of hs) → NotIn q (shared_of hs)
+  pub number : HasIndex hs → HasNextFrame p
+
+-- a child can be joined: it has no frame left, it holds what moved to it, and that is away here
+pub record CanJoin (p c : Plain) : Type 0 where
+  pub no_frame : c.own ≡ []
+  pub held : AllHeld c.map c.moved
+  pub away : AllAway p.map c.moved
+
+-- a message fits at its receiver's address, in a piece of its own
+pub record CanPut (p : Plain) (a : Address) (cells : List Cell) : Type 0 where
+  pub own : IsOwn (map.get p.map a.spot)
+  pub in_range : HasCells p.map a (length cells)
+
+module _ (g : Setting) where
+  -- the turn of process q stops so, with no fault of a total, an offer or another process
+  pub record StopsAt (s : System Plain) (q : ℕ) (stop : Stop) (d : Config (Memory Plain)) : Type 0 where
+    pub at : Config (Memory Plain)
+    pub runs : s.condition q ≡ Runs at
+    pub turn : IsTurn (memory plain g) g.code at (Stopped stop d)
+    pub quiet : s.faulted ≡ false
+    pub fine : fault_of g.limits s (Stopped stop d) ≡ None
+
+  -- all is well with the next turn of each process and with its event
+  pub record IsSafeSystem (s : System Plain) : Type 0 where
+    pub turns : (q : ℕ) (c : Config (Memory Plain)) → s.condition q ≡ Runs c → IsSafe (memory plain g) g.code c
+    pub forks : (q table count : ℕ) (value : ℤ) (d : Config (Memory Plain)) → StopsAt s q (Forks table value count) d → CanSplit (store_of d) (plan_of plain g d table value count)
+    pub ends : (q left : ℕ) (b : Birth) (d e : Config (Memory Plain)) → StopsAt s q Ends d → s.births.birth q ≡ Some b → s.condition b.parent ≡ Joins left e → CanJoin (store_of e) (store_of d)
+    pub sends : (q z c k j : ℕ) (a : Address) (cells : List Cell) (d e : Config (Memory Plain)) → StopsAt s q (Sends c k cells) d → s.pending c ≡ Some z → s.condition z ≡ Waits (Receives c j a) e → CanPut (store_of e) a cells
+    pub receives : (q z c k j : ℕ) (a : Address) (cells : List Cell) (d e : Config (Memory Plain)) → StopsAt s q (Receives c k a) d → s.pending c ≡ Some z → s.condition z ≡ Waits (Sends c j cells) e → CanPut (store_of d) a cells
+
+-- for every input, every journal and all limits whose depth is below 2 ^ 32
+pub record IsSound (code : Parts) : Type 0 where
+  pub ranked : IsRanked code.instrs
+  pub blocks : HasDistinctBlocks code.layouts
+  pub safe : (input : List ℕ) (lim : Limits) → lim.depth ≤ 4294967295 → (es : List Entry) (s : System Plain) → IsSystem plain (run_of code input lim) es s → IsSafeSystem (run_of code input lim) s

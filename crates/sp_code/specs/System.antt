@@ -1,0 +1,396 @@
+-- The system of all processes of a run of code, along a journal.
+use Rattle.std.specs.Prelude.{◌≡◌, ℕ, zero, suc, ◌+◌, ◌-◌, ◌==◌, ℤ, pos, ◌+ℤ◌, List, [], ◌∷◌, ◌++◌, Option, Some, None, Bool, true, false, if◌then◌else◌, cond, nat_lt, length, slice_get}
+use Rattle.sp_base.specs.declared.fault.Fault.{Fault}
+use Rattle.sp_base.specs.declared.fault.Fault.TheVariants as fault
+use Rattle.sp_base.specs.declared.limits.Limits.{Limits}
+use Rattle.sp_cell.specs.declared.cell.Cell.{Cell}
+use Rattle.sp_cell.specs.declared.cell.Cell.TheVariants as cell
+use Rattle.sp_cell.specs.declared.spot.Spot.{Spot}
+use Rattle.sp_cell.specs.declared.spot.Address.{Address}
+use Rattle.sp_cell.specs.declared.spot.Handing.{Handing}
+use Rattle.sp_cell.specs.Fork.{index_frame}
+use Rattle.sp_journal.specs.declared.entry.Way.{Way}
+use Rattle.sp_journal.specs.declared.entry.Way.TheVariants as way
+use Rattle.sp_journal.specs.declared.entry.Event.{Event}
+use Rattle.sp_journal.specs.declared.entry.Event.TheVariants as event
+use Rattle.sp_journal.specs.declared.entry.Entry.{Entry}
+use Rattle.sp_journal.specs.declared.entry.Birth.{Birth}
+use Rattle.sp_journal.specs.declared.entry.Note.{Note}
+use Rattle.sp_journal.specs.Maps.{at_key}
+use Rattle.sp_journal.specs.Births.{Births, at_start, after_event, is_next}
+use Rattle.sp_code.specs.declared.code.Formal.{Formal}
+use Rattle.sp_code.specs.declared.code.Formal.TheVariants as formal
+use Rattle.sp_code.specs.declared.code.Layout.{Layout}
+use Rattle.sp_code.specs.declared.code.ChildTable.{ChildTable}
+use Rattle.sp_code.specs.declared.code.ForkTable.{ForkTable}
+use Rattle.sp_code.specs.declared.code.Parts.{Parts}
+use Rattle.sp_code.specs.Tables.{index_of, child_at}
+use Rattle.sp_code.specs.Machine.{Stop, Forks, Opens, Sends, Receives, Ends, Pauses, Config, At, layout_of}
+use Rattle.sp_code.specs.Turns.{Turn, Stopped, Faulted, IsTurn}
+use Rattle.sp_code.specs.Memory.{Setting, Stores, Home, OfBlock, OfIndex, Frame, Memory, last_frames, referred, put_cell, put_cells, with_store, memory, first}
+use Rattle.sp_code.specs.Control.{Control, Out, control_at_start, noted, given, front}
+
+-- ---- the variables of a fork
+
+-- the place of x in a list of variables, counted from n
+abbrev pub place_of : ℕ → ℕ → List ℕ → Option ℕ
+place_of x n [] = None
+place_of x n (y ∷ ys) = if x == y then Some n else place_of x (suc n) ys
+
+-- the program's frame has its variables from number 2 on
+abbrev pub first_number : Layout → ℕ
+first_number l = if l.block == 0 then 2 else 0
+
+-- a variable parameter stands for the entire variable that it refers to
+abbrev pub entire : Option Address → Option Spot
+entire None = None
+entire (Some a) = Some a.spot
+
+abbrev pub spot_by : Frame → ℕ → Option Formal → Option Spot
+spot_by f k None = Some (record { frame = f.number; variable = k })
+spot_by f k (Some (formal.Value n)) = Some (record { frame = f.number; variable = k })
+spot_by f k (Some (formal.Reference n)) = entire (referred k f.references)
+
+abbrev pub spot_at : Frame → Layout → Option ℕ → Option Spot
+spot_at f l None = None
+spot_at f l (Some k) = spot_by f k (slice_get l.formals k)
+
+abbrev pub spot_of_layout : Frame → ℕ → Option Layout → Option Spot
+spot_of_layout f x None = None
+spot_of_layout f x (Some l) = spot_at f l (place_of x (first_number l) l.variables)
+
+-- where variable x of the tree stands in a frame, if it is one of its variables
+abbrev pub spot_in : List Layout → Frame → Home → ℕ → Option Spot
+spot_in ls f (OfBlock b) x = spot_of_layout f x (layout_of ls b)
+spot_in ls f (OfIndex y) x = if x == y then Some (record { frame = f.number; variable = 0 }) else None
+
+abbrev pub or_outward : Option Spot → Option Spot → Option Spot
+or_outward (Some s) o = Some s
+or_outward None o = o
+
+-- where it stands, outward from the first of these frames: no more than n levels
+abbrev pub spot_from : List Layout → ℕ → List Frame → ℕ → Option Spot
+spot_from ls zero fs x = None
+spot_from ls (suc n) [] x = None
+spot_from ls (suc n) (f ∷ fs) x = or_outward (spot_in ls f f.home x) (spot_from ls n (last_frames f.link fs) x)
+
+-- the spot of variable x of the tree. The input and the output are variables 0 and 1 of frame 0
+abbrev pub spot_of : List Layout → List Frame → ℕ → Option Spot
+spot_of ls fs x = if nat_lt x 2 then Some (record { frame = 0; variable = x }) else spot_from ls (length fs) fs x
+
+abbrev pub with_spot : Option Spot → List Spot → List Spot
+with_spot None ss = ss
+with_spot (Some s) ss = s ∷ ss
+
+-- the spots of variables; one that stands nowhere has none
+abbrev pub spots_of : List Layout → List Frame → List ℕ → List Spot
+spots_of ls fs [] = []
+spots_of ls fs (x ∷ xs) = with_spot (spot_of ls fs x) (spots_of ls fs xs)
+
+-- the index of child k of a forall
+abbrev pub index_by : ℤ → ℕ → Option ℕ → Option (ℕ × ℤ)
+index_by value k None = None
+index_by value k (Some x) = Some (0, value +ℤ pos k)
+
+-- what child k is handed
+abbrev pub handing_of : List Layout → List Frame → ℤ → ℕ → ChildTable → Handing
+handing_of ls fs value k c = record { moved = spots_of ls fs c.moved; shared = spots_of ls fs c.shared; index = index_by value k c.index }
+
+abbrev pub no_child : ChildTable
+no_child = record { entry = 0; moved = []; shared = []; index = None }
+
+abbrev pub child_or : Option ChildTable → ChildTable
+child_or None = no_child
+child_or (Some c) = c
+
+abbrev pub table_or : Option ForkTable → ForkTable
+table_or None = record { children = [] }
+table_or (Some t) = t
+
+-- the handings of children i to i + n - 1
+abbrev pub plan_from : List Layout → List Frame → ForkTable → ℤ → ℕ → ℕ → List Handing
+plan_from ls fs t value i zero = []
+plan_from ls fs t value i (suc n) = handing_of ls fs value i (child_or (child_at t i)) ∷ plan_from ls fs t value (suc i) n
+
+-- ---- the state
+
+-- what a process is doing: it runs, or is at the start of a turn; it waits at an offer; it joins so many children yet; it was laid
+-- down; it has ended
+pub data Condition (S : Type 0) : Type 0 where
+  Absent : Condition S
+  Runs : (c : Config (Memory S)) → Condition S
+  Waits : (stop : Stop) (c : Config (Memory S)) → Condition S
+  Joins : (left : ℕ) (c : Config (Memory S)) → Condition S
+  Laid : (c : Config (Memory S)) → Condition S
+  Ended : (c : Config (Memory S)) → Condition S
+
+-- the processes by their numbers; what the entries have given to processes and channels; whose offer is pending on a channel;
+-- whether a fault stands; how many entries fork, open, send and receive there were
+pub record System (S : Type 0) : Type 0 where
+  pub condition : ℕ → Condition S
+  pub births : Births
+  pub pending : ℕ → Option ℕ
+  pub faulted : Bool
+  pub entries : ℕ
+
+-- ---- events
+
+-- an offer against the pending one: F6 where both have one way, F7 where the message types differ
+abbrev pub clash_by : Way → ℕ → Option Stop → Option Fault
+clash_by w k None = None
+clash_by way.Send k (Some (Sends d j cs)) = Some fault.F6
+clash_by way.Send k (Some (Receives d j a)) = if j == k then None else Some fault.F7
+clash_by way.Receive k (Some (Sends d j cs)) = if j == k then None else Some fault.F7
+clash_by way.Receive k (Some (Receives d j a)) = Some fault.F6
+clash_by w k (Some (Forks t value n)) = None
+clash_by w k (Some (Opens a)) = None
+clash_by w k (Some Ends) = None
+clash_by w k (Some Pauses) = None
+
+abbrev pub first_fault : Option Fault → Option Fault → Option Fault
+first_fault None g = g
+first_fault (Some f) g = Some f
+
+-- the event of a stop that is no fault
+abbrev pub event_at : Stop → Event
+event_at (Forks t value n) = event.Fork n
+event_at (Opens a) = event.Open
+event_at (Sends c k cs) = event.Send c
+event_at (Receives c k a) = event.Receive c
+event_at Ends = event.End
+event_at Pauses = event.Pause
+
+module _ {S : Type 0} where
+  -- the pending offer with its process, if it is one
+  abbrev pub stop_of : Condition S → Option Stop
+  stop_of Absent = None
+  stop_of (Runs c) = None
+  stop_of (Waits s c) = Some s
+  stop_of (Joins left c) = None
+  stop_of (Laid c) = None
+  stop_of (Ended c) = None
+
+  abbrev pub pending_stop : System S → Option ℕ → Option Stop
+  pending_stop s None = None
+  pending_stop s (Some z) = stop_of (s.condition z)
+
+  -- the fault of the total that would pass its limit: first F15, then F13 or F14
+  abbrev pub one_more_entry : Limits → System S → Option Fault → Option Fault
+  one_more_entry lim s other = if nat_lt lim.entries (s.entries + 1) then Some fault.F15 else other
+
+  abbrev pub limit_of : Limits → System S → Stop → Option Fault
+  limit_of lim s (Forks t value n) = one_more_entry lim s (if nat_lt lim.processes (s.births.processes + n) then Some fault.F13 else None)
+  limit_of lim s (Opens a) = one_more_entry lim s (if nat_lt lim.channels (s.births.channels + 1) then Some fault.F14 else None)
+  limit_of lim s (Sends c k cs) = one_more_entry lim s None
+  limit_of lim s (Receives c k a) = one_more_entry lim s None
+  limit_of lim s Ends = None
+  limit_of lim s Pauses = None
+
+  abbrev pub clash_of : System S → Stop → Option Fault
+  clash_of s (Forks t value n) = None
+  clash_of s (Opens a) = None
+  clash_of s (Sends c k cs) = clash_by way.Send k (pending_stop s (s.pending c))
+  clash_of s (Receives c k a) = clash_by way.Receive k (pending_stop s (s.pending c))
+  clash_of s Ends = None
+  clash_of s Pauses = None
+
+  -- the fault of a turn's event, if it is one: those of the turn come first, then F15, then F13, F14, F6 and F7
+  abbrev pub fault_of : Limits → System S → Turn (Memory S) → Option Fault
+  fault_of lim s (Faulted f c) = Some f
+  fault_of lim s (Stopped stop c) = first_fault (limit_of lim s stop) (clash_of s stop)
+
+  -- of a turn: a fault comes before it ends
+  abbrev pub event_or : Option Fault → Turn (Memory S) → Event
+  event_or (Some f) t = event.Fault f
+  event_or None (Faulted f c) = event.Fault f
+  event_or None (Stopped stop c) = event_at stop
+
+  -- the event that a turn makes: Laid once a fault stands
+  abbrev pub event_of : Limits → System S → Turn (Memory S) → Event
+  event_of lim s t = if s.faulted then event.Laid else event_or (fault_of lim s t) t
+
+  abbrev pub config_of : Turn (Memory S) → Config (Memory S)
+  config_of (Stopped stop c) = c
+  config_of (Faulted f c) = c
+
+  -- a process at its entry has made no ticks since
+  abbrev pub entered_now : Config (Memory S) → Config (Memory S)
+  entered_now (At pc st n) = At pc st (record n { since = n.ticks })
+
+  abbrev pub frames_of : Config (Memory S) → List Frame
+  frames_of (At pc st n) = n.frames
+
+  abbrev pub store_of : Config (Memory S) → S
+  store_of (At pc st n) = n.store
+
+  abbrev pub depth_of : Config (Memory S) → ℕ
+  depth_of (At pc st n) = n.depth
+
+  abbrev pub on_store : (S → S) → Config (Memory S) → Config (Memory S)
+  on_store f (At pc st n) = At pc st (record n { store = f n.store })
+
+module _ {S : Type 0} (stores : Stores S) (g : Setting) where
+  -- ---- events
+
+  abbrev pub becomes : ℕ → Condition S → System S → System S
+  becomes q c s = record s { condition = at_key ◌==◌ q c s.condition }
+
+  -- one more entry of a counted kind
+  abbrev pub counted : System S → System S
+  counted s = record s { entries = s.entries + 1 }
+
+  -- what a fork of this table hands to its children
+  abbrev pub plan_of : Config (Memory S) → (table : ℕ) → ℤ → ℕ → List Handing
+  plan_of c t value n = plan_from g.code.layouts (frames_of c) (table_or (slice_get g.code.forks t)) value 0 n
+
+  abbrev pub with_index_frame : ℕ → Handing → Option ℕ → List Frame → List Frame
+  with_index_frame q h None fs = fs
+  with_index_frame q h (Some x) fs = record { owner = q; number = index_frame h; home = OfIndex x; link = length fs; references = [] } ∷ fs
+
+  -- child k of a fork at c, with the number q: its frames are its parent's, with the index's above; it is one level deeper
+  abbrev pub newborn : Config (Memory S) → ℤ → ℕ → ℕ → ChildTable → Config (Memory S)
+  newborn c value q k child =
+      let h = handing_of g.code.layouts (frames_of c) value k child in
+      At child.entry [] (record {
+        process = q;
+        frames = with_index_frame q h child.index (frames_of c);
+        depth = depth_of c + 1;
+        ticks = 0;
+        since = 0;
+        cells = 0;
+        store = stores.child (store_of c) h;
+      })
+
+  -- the children have the next numbers, and the parent joins them
+  abbrev pub forked : ℕ → (table : ℕ) → ℤ → ℕ → Config (Memory S) → System S → System S
+  forked q t value n c s = record s {
+    condition = λ r.
+        cond (is_next s.births n r) (Runs (newborn c value r (r - s.births.processes) (child_or (child_at (table_or (slice_get g.code.forks t)) (r - s.births.processes)))))
+        (cond (q == r) (Joins n (on_store (λ m. stores.handed m (plan_of c t value n)) c)) (s.condition r));
+  }
+
+  -- the new channel's number goes to the target
+  abbrev pub opened : ℕ → Address → Config (Memory S) → System S → System S
+  opened q a c s = becomes q (Runs (on_store (put_cell stores a (cell.Channel s.births.channels)) c)) s
+
+  -- a message goes over to a process that waits to receive, or from one that waits to send
+  abbrev pub received : List Cell → Condition S → Condition S
+  received cs Absent = Absent
+  received cs (Runs c) = Runs c
+  received cs (Waits (Receives d k a) c) = Runs (on_store (put_cells stores a cs) c)
+  received cs (Waits (Sends d k bs) c) = Runs c
+  received cs (Waits (Forks t value n) c) = Runs c
+  received cs (Waits (Opens a) c) = Runs c
+  received cs (Waits Ends c) = Runs c
+  received cs (Waits Pauses c) = Runs c
+  received cs (Joins left c) = Joins left c
+  received cs (Laid c) = Laid c
+  received cs (Ended c) = Ended c
+
+  abbrev pub message_of : Option Stop → List Cell
+  message_of None = []
+  message_of (Some (Forks t value n)) = []
+  message_of (Some (Opens a)) = []
+  message_of (Some (Sends c k cs)) = cs
+  message_of (Some (Receives c k a)) = []
+  message_of (Some Ends) = []
+  message_of (Some Pauses) = []
+
+  -- an offer waits, or it meets the pending one, and then both go on
+  abbrev pub sent : ℕ → Stop → (channel : ℕ) → List Cell → Config (Memory S) → Option ℕ → System S → System S
+  sent q stop ch cs c None s = record (becomes q (Waits stop c) s) { pending = at_key ◌==◌ ch (Some q) s.pending }
+  sent q stop ch cs c (Some z) s = record (becomes q (Runs c) (becomes z (received cs (s.condition z)) s)) { pending = at_key ◌==◌ ch None s.pending }
+
+  abbrev pub taken : ℕ → Stop → (channel : ℕ) → Address → Config (Memory S) → Option ℕ → System S → System S
+  taken q stop ch a c None s = record (becomes q (Waits stop c) s) { pending = at_key ◌==◌ ch (Some q) s.pending }
+  taken q stop ch a c (Some z) s =
+      record (becomes q (Runs (on_store (put_cells stores a (message_of (stop_of (s.condition z)))) c)) (becomes z (received [] (s.condition z)) s)) { pending = at_key ◌==◌ ch None s.pending }
+
+  -- a child's pieces go back to its parent, which goes on after the last one
+  abbrev pub rejoined : Config (Memory S) → Condition S → Condition S
+  rejoined c Absent = Absent
+  rejoined c (Runs d) = Runs d
+  rejoined c (Waits stop d) = Waits stop d
+  rejoined c (Joins left d) =
+      let e = on_store (λ m. stores.joined m (store_of c)) d in
+      if left == 1 then Runs e else Joins (left - 1) e
+  rejoined c (Laid d) = Laid d
+  rejoined c (Ended d) = Ended d
+
+  abbrev pub reported : Config (Memory S) → Option Birth → System S → System S
+  reported c None s = s
+  reported c (Some b) s = becomes b.parent (rejoined c (s.condition b.parent)) s
+
+  -- what a stop that is no fault does
+  abbrev pub happens : ℕ → Stop → Config (Memory S) → System S → System S
+  happens q (Forks t value n) c s = counted (forked q t value n c s)
+  happens q (Opens a) c s = counted (opened q a c s)
+  happens q (Sends ch k cs) c s = counted (sent q (Sends ch k cs) ch cs c (s.pending ch) s)
+  happens q (Receives ch k a) c s = counted (taken q (Receives ch k a) ch a c (s.pending ch) s)
+  happens q Ends c s = reported c (s.births.birth q) (becomes q (Ended c) s)
+  happens q Pauses c s = becomes q (Runs c) s
+
+  abbrev pub lays : ℕ → Config (Memory S) → System S → System S
+  lays q c s = becomes q (Laid c) s
+
+  abbrev pub unless_fault : Option Fault → ℕ → Turn (Memory S) → System S → System S
+  unless_fault (Some f) q t s = record (lays q (config_of t) s) { faulted = true }
+  unless_fault None q (Faulted f c) s = record (lays q c s) { faulted = true }
+  unless_fault None q (Stopped stop c) s = happens q stop (entered_now c) s
+
+  abbrev pub done : ℕ → Turn (Memory S) → System S → System S
+  done q t s = if s.faulted then lays q (config_of t) s else unless_fault (fault_of g.limits s t) q t s
+
+  -- the system after the event that a turn of process q makes
+  abbrev pub after : ℕ → Turn (Memory S) → System S → System S
+  after q t s = let r = done q t s in record r { births = after_event s.births q (event_of g.limits s t) }
+
+  -- ---- along a journal
+
+  -- the first process alone
+  abbrev pub opening : System S
+  opening = record {
+    condition = λ q. if q == 0 then Runs (first stores g) else Absent;
+    births = at_start;
+    pending = λ c. None;
+    faulted = false;
+    entries = 0;
+  }
+
+  -- the turn of the entry's process, which runs, and then its event, which is the entry's, lead from s to t
+  abbrev pub Enters : System S → ℕ → Event → System S → Type 0
+  Enters s q e t =
+      (c : Config (Memory S)) × (s.condition q ≡ Runs c) × (turn : Turn (Memory S)) × IsTurn (memory stores g) g.code c turn × (event_of g.limits s turn ≡ e) × (t ≡ after q turn s)
+
+  -- the entries, in order
+  abbrev pub Leads : System S → List Entry → System S → Type 0
+  Leads s [] t = t ≡ s
+  Leads s (e ∷ es) t = (u : System S) × Enters s e.process e.event u × Leads u es t
+
+  -- the system along a journal is this one
+  abbrev pub IsSystem : List Entry → System S → Type 0
+  IsSystem es t = Leads opening es t
+
+  -- ---- histories of the kernel
+
+  -- a process is given with its event; or nothing is; or a worker abandons
+  abbrev pub Gives : Control → System S → (worker : ℕ) → Option ℕ → Option Event → Option ℕ → System S → Type 0
+  Gives k s w None None got t = t ≡ s
+  Gives k s w None (Some e) got t = ⊥
+  Gives k s w (Some p) (Some e) got t = (k.doing p ≡ Out w) × Enters s p e t
+  Gives k s w (Some p) None got t = (k.doing p ≡ Out w) × (got ≡ None) × (t ≡ s)
+
+  -- a process got is the front of the queue; a note that is no abandon gets it, where there is one
+  abbrev pub Gets : Control → Option Event → Option ℕ → Type 0
+  Gets k None None = Unit {0}
+  Gets k None (Some q) = front k ≡ Some q
+  Gets k (Some e) got = got ≡ front k
+
+  abbrev pub LegalFrom : Control → System S → List Note → Type 0
+  LegalFrom k s [] = Unit {0}
+  LegalFrom k s (n ∷ ns) =
+      (t : System S) × Gives k s n.worker n.given n.event n.got t × Gets (given n.given n.event n.got k) n.event n.got × LegalFrom (noted n k) t ns
+
+  -- a history is legal where the kernel, asked by one thread in that order from its opening state, gives these notes
+  abbrev pub IsLegal : List Note → Type 0
+  IsLegal ns = LegalFrom control_at_start opening ns

@@ -1,0 +1,74 @@
+-- A turn of a process: its instructions up to the next stop, or to the first moment at which it is due.
+use Rattle.std.specs.Prelude.{◌≡◌, ℕ, zero, suc, Bool, true, false}
+use Rattle.sp_base.specs.declared.fault.Fault.{Fault}
+use Rattle.sp_base.specs.declared.fault.Fault.TheVariants as fault
+use Rattle.sp_code.specs.declared.code.Parts.{Parts}
+use Rattle.sp_code.specs.Machine.{Config, At, Stop, One, Goes, Stops, Fails, Stuck, Ops, one}
+
+-- how a turn ends: at a stop, with the process after it; or with a fault, at the instruction that has it
+pub data Turn (M : Type 0) : Type 0 where
+  Stopped : (stop : Stop) (c : Config M) → Turn M
+  Faulted : (fault : Fault) (c : Config M) → Turn M
+
+-- what a process that is run for some instructions comes to: the end of its turn, an instruction that lacks what it needs, or
+-- neither yet
+pub data Ran (M : Type 0) : Type 0 where
+  Ended : (turn : Turn M) → Ran M
+  Lacks : (c : Config M) → Ran M
+  GoesOn : (c : Config M) → Ran M
+
+-- the live frames of a process fit, as the test says; else F12 comes before its first instruction
+abbrev pub Begins : {M : Type 0} → Bool → Config M → Turn M → Type 0 → Type 0
+Begins true c t rest = rest
+Begins false c t rest = t ≡ Faulted fault.F12 c
+
+module _ {M : Type 0} (ops : Ops M) (code : Parts) where
+  -- n instructions lead from c to d
+  abbrev pub ComesIn : ℕ → Config M → Config M → Type 0
+  ComesIn zero c d = c ≡ d
+  ComesIn (suc n) c d = (e : Config M) × (one ops code c ≡ Goes e) × ComesIn n e d
+
+  -- some instructions lead from c to d
+  pub record Comes (c d : Config M) : Type 0 where
+    pub steps : ℕ
+    pub by : ComesIn steps c d
+
+  -- the instruction of c ends a turn so
+  abbrev pub EndsSo : Config M → Turn M → Type 0
+  EndsSo c (Stopped s d) = one ops code c ≡ Stops s d
+  EndsSo c (Faulted f d) = (one ops code c ≡ Fails f) × (d ≡ c)
+
+  -- from c some instructions lead to one that ends the turn so
+  abbrev pub Runs : Config M → Turn M → Type 0
+  Runs c t = (d : Config M) × Comes c d × EndsSo d t
+
+  abbrev pub begins : Config M → Bool
+  begins (At pc stack n) = ops.fits n
+
+  -- the turn of c ends so
+  abbrev pub IsTurn : Config M → Turn M → Type 0
+  IsTurn c t = Begins (begins c) c t (Runs c t)
+
+  -- no instruction of the turn of c lacks what it needs
+  abbrev pub IsSafe : Config M → Type 0
+  IsSafe c = (d : Config M) → Comes c d → one ops code d ≡ Stuck → ⊥
+
+  -- what the outcome of one instruction comes to, where go runs on
+  abbrev pub ran_by : (Config M → Ran M) → Config M → One M → Ran M
+  ran_by go c (Goes d) = go d
+  ran_by go c (Stops s d) = Ended (Stopped s d)
+  ran_by go c (Fails f) = Ended (Faulted f c)
+  ran_by go c Stuck = Lacks c
+
+  -- the same, computed: no more than n instructions
+  abbrev pub ran : ℕ → Config M → Ran M
+  ran zero c = GoesOn c
+  ran (suc n) c = ran_by (ran n) c (one ops code c)
+
+  abbrev pub started : ℕ → Bool → Config M → Ran M
+  started n true c = ran n c
+  started n false c = Ended (Faulted fault.F12 c)
+
+  -- the turn of c, if it has no more than n instructions
+  abbrev pub turn_within : ℕ → Config M → Ran M
+  turn_within n c = started n (begins c) c
