@@ -1,3 +1,4 @@
 pub mod Numbered
 pub mod Small
 mod Rows
+pub mod Counts

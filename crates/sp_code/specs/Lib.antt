@@ -13,3 +13,5 @@ pub mod Sound
 pub mod Scopes
 pub mod Places
 pub mod Lengths
+pub mod Emitted
+pub mod Stands
