@@ -149,7 +149,7 @@ standard_count standard.Eof t = refl
 standard_count standard.Eoln t = refl
 
 -- one more instruction behind, and in between
-last_count : (xs : List Instr) (x : Instr) (n : ℕ) → length xs ≡ n → length (xs ++ x ∷ []) ≡ n + 1
+pub last_count : (xs : List Instr) (x : Instr) (n : ℕ) → length xs ≡ n → length (xs ++ x ∷ []) ≡ n + 1
 last_count xs x n e = omega (arith, length-append xs (x ∷ []), e)
 
 both_count : (xs ys : List Instr) (m n : ℕ) → length xs ≡ m → length ys ≡ n → length (xs ++ ys) ≡ m + n

@@ -2,3 +2,10 @@ pub mod Numbered
 pub mod Small
 mod Rows
 pub mod Counts
+pub mod Standing
+pub mod Turning
+pub mod Falls
+pub mod Systems
+pub mod Spending
+pub mod Ends
+pub mod Blocks

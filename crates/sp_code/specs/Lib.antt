@@ -15,3 +15,5 @@ pub mod Places
 pub mod Lengths
 pub mod Emitted
 pub mod Stands
+pub mod Budgets
+pub mod Quiet

@@ -1,8 +1,9 @@
-//! Code for the stack machine: instructions, layouts, fork tables, and their listing.
+//! Code for the stack machine: instructions, layouts, fork tables, and their listing. What code does is defined in `specs/`.
 #![tactic(auto)]
 
 mod code;
 mod instr;
+pub mod laws;
 mod lines;
 #[cfg(test)]
 mod tests;
