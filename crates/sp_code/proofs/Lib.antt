@@ -1,6 +1,7 @@
 pub mod Numbered
 pub mod Small
 mod Rows
+mod Runs
 pub mod Counts
 pub mod Standing
 pub mod Turning
