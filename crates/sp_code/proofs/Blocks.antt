@@ -1,16 +1,15 @@
 -- The code of a program has exactly the tree's length, and all its blocks stand in it.
-use Rattle.std.proofs.Common.{◌≡◌, ℕ, zero, suc, ◌+◌, List, [], ◌∷◌, ◌++◌, length, Option, Some, None, Bool, refl, sym, ap, ◌∙◌, subst, arith}
+use Rattle.std.proofs.Common.{◌≡◌, ℕ, zero, suc, ◌+◌, List, [], ◌∷◌, ◌++◌, length, Some, refl, sym, subst, arith}
 use Rattle.std.specs.Prelude.{slice_get}
 use Rattle.sp_tree.specs.Plain.{Program, Block, Stmt}
 use Rattle.sp_code.specs.declared.instr.Instr.{Instr}
-use Rattle.sp_code.specs.declared.code.Layout.{Layout}
 use Rattle.sp_code.specs.declared.code.ForkTable.{ForkTable}
 use Rattle.sp_code.specs.declared.code.Parts.{Parts}
 use Rattle.sp_code.specs.Scopes.{scopes_of}
 use Rattle.sp_code.specs.Places.{after, after_block}
 use Rattle.sp_code.specs.Lengths.{stmt_length, tree_length}
 use Rattle.sp_code.specs.Emitted.{tables_in, texts_in, texts_of, end_instr, code, tables, block_code, blocks_code, blocks_texts, layout_of, layouts_from, blocks_tables, program_code}
-use Rattle.sp_code.specs.Stands.{Rights, AnyInstr, AnyTable, AnyText, Stands, HasFork, HasWords, HasAt, Hushed, StandsAt, BlockStands, BlockAt, BlocksAt, IsFine, rights_of}
+use Rattle.sp_code.specs.Stands.{Rights, AnyInstr, AnyTable, AnyText, HasAt, BlockAt, BlocksAt, IsFine, rights_of}
 use Rattle.sp_code.proofs.Counts.{last_count, blocks_count, code_count, stmt_after}
 use Rattle.sp_code.proofs.Standing.{has_front, has_back, stands, code_stop, tables_stop, texts_stop}
 
@@ -57,17 +56,17 @@ module _ (p : Program) (moves shares : Stmt → List ℕ) where
         let z : b + 0 ≡ b = omega arith in
         let same : j ≡ k = cc in
         subst (λ (x : ℕ). BlockAt p moves shares all hush needs x k) (sym z) (subst (λ (x : Block). BlockAt p moves shares all hush needs b x) same
-          (first_stands b t n q j _ _ _ (subst (λ (x : ℕ). IsFine p moves shares hush needs x q j) z (fine 0 q j refl)) l.0 h a w))
+        (first_stands b t n q j _ _ _ (subst (λ (x : ℕ). IsFine p moves shares hush needs x q j) z (fine 0 q j refl)) l.0 h a w))
     blocks_stand_from b t n q (j ∷ ks) fine l h a w (suc f) k e =
         let z : suc b + f ≡ b + suc f = omega arith in
         let y : b + 1 ≡ suc b = omega arith in
         subst (λ (x : ℕ). BlockAt p moves shares all hush needs x k) z
-          (blocks_stand_from (suc b) (t + tables_in j.body) (n + texts_in j.body) (after_block p q j) ks
-            (λ g r i d. subst (λ (x : ℕ). IsFine p moves shares hush needs x r i) (more b g) (fine (suc g) r i d))
-            (subst (λ (x : ℕ). HasAt all.layouts x (layouts_from p (suc b) (after_block p q j) ks)) y l.1)
-            (has_back all.instrs q (after_block p q j) (block_code p b t n q j) _ (block_stop b t n q j) h)
-            (has_back all.forks t _ (tables p moves shares q j.body) _ (tables_stop p moves shares all hush needs t q j.body) a)
-            (has_back all.texts n _ (texts_of j.body) _ (texts_stop p moves shares all hush needs n j.body) w) f k e)
+        (blocks_stand_from (suc b) (t + tables_in j.body) (n + texts_in j.body) (after_block p q j) ks
+        (λ g r i d. subst (λ (x : ℕ). IsFine p moves shares hush needs x r i) (more b g) (fine (suc g) r i d))
+        (subst (λ (x : ℕ). HasAt all.layouts x (layouts_from p (suc b) (after_block p q j) ks)) y l.1)
+        (has_back all.instrs q (after_block p q j) (block_code p b t n q j) _ (block_stop b t n q j) h)
+        (has_back all.forks t _ (tables p moves shares q j.body) _ (tables_stop p moves shares all hush needs t q j.body) a)
+        (has_back all.texts n _ (texts_of j.body) _ (texts_stop p moves shares all hush needs n j.body) w) f k e)
       where
         more : (b g : ℕ) → b + suc g ≡ suc b + g
         more b g = omega arith
@@ -78,8 +77,8 @@ module _ (p : Program) (moves shares : Stmt → List ℕ) where
       let all = program_code p moves shares in
       let none : 0 + f ≡ f = omega arith in
       subst (λ (x : ℕ). BlockAt p moves shares all hush needs x b) none
-        (blocks_stand_from all hush needs 0 0 0 0 p.blocks (λ g r k d. subst (λ (x : ℕ). IsFine p moves shares hush needs x r k) (sym (none_of g)) (fine g r k d))
-          (has_self all.layouts) (has_self all.instrs) (has_self all.forks) (has_self all.texts) f b e)
+      (blocks_stand_from all hush needs 0 0 0 0 p.blocks (λ g r k d. subst (λ (x : ℕ). IsFine p moves shares hush needs x r k) (sym (none_of g)) (fine g r k d))
+      (has_self all.layouts) (has_self all.instrs) (has_self all.forks) (has_self all.texts) f b e)
     where
       none_of : (g : ℕ) → 0 + g ≡ g
       none_of g = omega arith

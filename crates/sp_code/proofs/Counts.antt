@@ -1,25 +1,19 @@
 -- The places of a tree's code agree with its lengths, and its code has exactly its length.
-use Rattle.std.proofs.Common.{◌≡◌, ℕ, suc, ◌+◌, ℤ, List, [], ◌∷◌, ◌++◌, length, Option, Some, None, Bool, true, false, if◌then◌else◌, refl, sym, ap, ◌∙◌, subst, arith, length-append}
+use Rattle.std.proofs.Common.{◌≡◌, ℕ, suc, ◌+◌, ℤ, List, [], ◌∷◌, ◌++◌, length, Option, Some, None, if◌then◌else◌, refl, ap, ◌∙◌, arith, length-append}
 use Rattle.std.specs.Prelude.{slice_get}
 use Rattle.sp_tree.specs.declared.checked.KindOf.{KindOf}
-use Rattle.sp_tree.specs.declared.checked.KindOf.TheVariants as kind
-use Rattle.sp_tree.specs.declared.checked.Role.{Role}
-use Rattle.sp_tree.specs.declared.checked.Role.TheVariants as role
 use Rattle.sp_tree.specs.declared.operators.UnaryOp.{UnaryOp}
 use Rattle.sp_tree.specs.declared.operators.UnaryOp.TheVariants as unary
-use Rattle.sp_tree.specs.declared.operators.BinaryOp.{BinaryOp}
-use Rattle.sp_tree.specs.declared.operators.BinaryOp.TheVariants as binary
 use Rattle.sp_tree.specs.declared.operators.StandardFn.{StandardFn}
 use Rattle.sp_tree.specs.declared.operators.StandardFn.TheVariants as standard
-use Rattle.sp_tree.specs.Operators.{least, greatest}
-use Rattle.sp_tree.specs.Plain.{Expr, Typed, ExprForm, Number, Read, Unary, Binary, Apply, Standard, AtInput, Var, Entire, Selector, Index, Field, Selectors, Whole, Select, Actual, ByValue, ByReference, Actuals, Nothing, Pass, Program, Variable, Block, Stmt, Empty, Assign, Call, Sequence, If, IfElse, While, Repeat, For, Case, Parallel, Forall, Assume, ReadValue, ReadLine, WriteValue, WriteText, WriteLine, Open, Send, Receive, Stmts, No, And, Arm, On, Arms, NoArm, Or}
+use Rattle.sp_tree.specs.Plain.{Expr, Typed, ExprForm, Number, Read, Unary, Binary, Apply, Standard, AtInput, Var, Entire, Index, Field, Selectors, Whole, Select, ByValue, ByReference, Actuals, Nothing, Pass, Program, Block, Stmt, Empty, Assign, Call, Sequence, If, IfElse, While, Repeat, For, Case, Parallel, Forall, Assume, ReadValue, ReadLine, WriteValue, WriteText, WriteLine, Open, Send, Receive, Stmts, No, And, On, Arms, NoArm, Or}
 use Rattle.sp_code.specs.declared.instr.Instr.{Instr}
 use Rattle.sp_code.specs.declared.instr.Instr.TheVariants as i
 use Rattle.sp_code.specs.declared.code.ForkTable.{ForkTable}
-use Rattle.sp_code.specs.Scopes.{Sort, Ordinals, Channels, Many, NoSort, kind_of, Scope, OfBlock, OfIndex, is_given, kind_at, sort, size, slot, element_type, field_type, type_by, type_of, scopes_of}
+use Rattle.sp_code.specs.Scopes.{Sort, Ordinals, Channels, Many, NoSort, kind_of, Scope, OfIndex, is_given, kind_at, sort, size, slot, element_type, field_type, type_by, type_of, scopes_of}
 use Rattle.sp_code.specs.Places.{after_unary, after_standard, after_value, after_form, after_var, after_selectors, after_actuals, after_width, after_right, after_test, after_tests, after, after_all, after_children, after_arms, after_block, after_blocks}
-use Rattle.sp_code.specs.Lengths.{unary_length, standard_length, value_length, form_length, var_length, selectors_length, actuals_length, width_length, right_length, tests_length, stmt_length, all_length, children_length, arms_length, blocks_length, tree_length}
-use Rattle.sp_code.specs.Emitted.{unary_code, binary_instr, standard_code, input_instr, read_instr, index_instr, field_instr, write_instr, reading_instr, assign_instr, call_instr, test_code, tables_in, tables_in_all, tables_in_arms, texts_of, texts_of_all, texts_of_arms, texts_in, texts_in_all, texts_in_arms, end_instr, addr_code, value_code, form_code, var_code, selectors_code, actuals_code, width_code, right_code, tests_code, code, code_all, code_children, code_arms, block_code, blocks_code, tables, tables_all, tables_children, tables_arms}
+use Rattle.sp_code.specs.Lengths.{unary_length, standard_length, value_length, form_length, var_length, selectors_length, actuals_length, width_length, right_length, tests_length, stmt_length, all_length, children_length, arms_length, blocks_length}
+use Rattle.sp_code.specs.Emitted.{unary_code, binary_instr, standard_code, write_instr, assign_instr, test_code, tables_in, tables_in_all, tables_in_arms, texts_of, texts_of_all, texts_of_arms, texts_in, texts_in_all, texts_in_arms, end_instr, value_code, form_code, var_code, selectors_code, actuals_code, width_code, right_code, tests_code, code, code_all, code_children, code_arms, block_code, blocks_code, tables, tables_all, tables_children, tables_arms}
 
 -- ---- places
 

@@ -1,14 +1,12 @@
 -- A number falls with each instruction of ranked code.
-use Rattle.std.proofs.Common.{◌≡◌, ℕ, zero, suc, ◌+◌, ◌*◌, ◌<◌, ◌≤◌, ◌==◌, ℤ, List, [], ◌∷◌, length, Option, Some, None, Bool, true, false, if◌then◌else◌, ◌&&◌, refl, sym, ap, ◌∙◌, subst, arith}
+use Rattle.std.proofs.Common.{◌≡◌, ℕ, zero, suc, ◌+◌, ◌*◌, ◌<◌, ◌≤◌, ◌==◌, ℤ, List, [], ◌∷◌, length, Option, Some, None, Bool, true, false, if◌then◌else◌, ◌&&◌, refl, subst, arith}
 use Rattle.std.specs.Prelude.{slice_get, nat_lt, nat_abs, int_le, int_lt, pos, ◌-ℤ◌, take, not}
-use Rattle.std.proofs.lemmas.Bool.{ltb-true}
 use Rattle.std.proofs.Math.Nat.{mul-le-mul_left}
 use Rattle.std.specs.Fmt.{signed_decimal}
-use Rattle.sp_base.specs.declared.fault.Fault.{Fault}
 use Rattle.sp_tree.specs.declared.operators.BinaryOp.{BinaryOp}
 use Rattle.sp_tree.specs.declared.operators.BinaryOp.TheVariants as op
 use Rattle.sp_tree.specs.declared.operators.UnaryOp.TheVariants as sign
-use Rattle.sp_tree.specs.Operators.{Worked, Yields, Refuses, truth, ranged, successor, predecessor, absolute, square, is_odd, unary_op, binary_op, same_ordinal, is_true}
+use Rattle.sp_tree.specs.Operators.{Worked, Yields, Refuses, ranged, successor, predecessor, absolute, square, is_odd, unary_op, binary_op, same_ordinal, is_true}
 use Rattle.sp_tree.specs.Items.{Taken, Takes, Fails as Faulty, number_in, char_in, at_line_end, padded, truth_text}
 use Rattle.sp_cell.specs.declared.cell.Cell.{Cell}
 use Rattle.sp_cell.specs.declared.cell.Cell.TheVariants as cell
@@ -16,10 +14,9 @@ use Rattle.sp_cell.specs.declared.spot.Address.{Address}
 use Rattle.sp_code.specs.declared.instr.Instr.{Instr}
 use Rattle.sp_code.specs.declared.instr.Instr.TheVariants as i
 use Rattle.sp_code.specs.declared.code.Layout.{Layout}
-use Rattle.sp_code.specs.declared.code.ForkTable.{ForkTable}
 use Rattle.sp_code.specs.declared.code.Parts.{Parts}
-use Rattle.sp_code.specs.Machine.{Entry, Number, Chan, Pointer, Cells, Link, Reply, further, Stop, Pauses, Did, Done, Failed, Ops, Config, At, One, Goes, Stops, Fails, Stuck, outside, is_range, is_before, next_value, byte, values_in, fit_formals, layout_of, on_number, on_channel, on_address, on_cell, on_cells, on_equals, pop, when, there, then_go, worked, ordinal_in, channel_in, on_one, on_two, told, selected, paced, entered, called, returned, taken, reads, prints, wide, writes, writes_wide, begins_loop, ends_loop, forked, instruction, one}
-use Rattle.sp_code.specs.Turns.{Ran, Ended, Lacks, GoesOn, ran_by, ran, started, turn_within, begins}
+use Rattle.sp_code.specs.Machine.{Entry, Number, Chan, Pointer, Cells, Link, Reply, further, Did, Done, Failed, Ops, Config, At, One, Goes, Stops, Fails, Stuck, outside, is_range, is_before, next_value, byte, values_in, fit_formals, layout_of, on_number, on_channel, on_address, on_cell, on_cells, on_equals, pop, when, there, then_go, worked, ordinal_in, channel_in, on_one, on_two, told, selected, paced, entered, called, returned, taken, reads, prints, wide, writes, writes_wide, begins_loop, ends_loop, forked, instruction, one}
+use Rattle.sp_code.specs.Turns.{ran_by, ran, started, turn_within, begins}
 use Rattle.sp_code.specs.Ranks.{ways, larger, most, rank, AllBelow, IsRanked}
 use Rattle.sp_code.specs.Budgets.{HasBudget, back, left_by, IsOver}
 

@@ -1,7 +1,6 @@
 -- Whole runs of worked code, by the definitions: which event each process makes in turn, and what is written.
-use Rattle.std.specs.Prelude.{◌≡◌, ℕ, suc, ℤ, pos, List, [], ◌∷◌, ◌++◌, Option, Some, None, true, false, refl}
+use Rattle.std.specs.Prelude.{◌≡◌, ℕ, pos, List, [], ◌∷◌, ◌++◌, Option, Some, None, false, refl}
 use Rattle.sp_base.specs.declared.fault.Fault.TheVariants as fault
-use Rattle.sp_base.specs.declared.limits.Limits.{Limits}
 use Rattle.sp_journal.specs.declared.entry.Event.{Event}
 use Rattle.sp_journal.specs.declared.entry.Event.TheVariants as event
 use Rattle.sp_journal.specs.declared.entry.Note.{Note}
@@ -9,11 +8,9 @@ use Rattle.sp_code.specs.declared.instr.Instr.{Instr}
 use Rattle.sp_code.specs.declared.instr.Instr.TheVariants as i
 use Rattle.sp_code.specs.declared.code.ChildTable.{ChildTable}
 use Rattle.sp_code.specs.declared.code.ForkTable.{ForkTable}
-use Rattle.sp_code.specs.declared.code.Layout.{Layout}
-use Rattle.sp_code.specs.declared.code.Parts.{Parts}
 use Rattle.sp_code.specs.Turns.{Turn, Ran, Ended, Lacks, GoesOn, turn_within}
-use Rattle.sp_code.specs.Memory.{Setting, Memory, memory, first}
-use Rattle.sp_code.specs.Control.{Control, control, front, standing, Running, IsDone, IsDeadlock, IsFault, IsMemory}
+use Rattle.sp_code.specs.Memory.{Setting, Memory, memory}
+use Rattle.sp_code.specs.Control.{control, front, standing, Running, IsDone, IsDeadlock, IsFault, IsMemory}
 use Rattle.sp_code.specs.System.{System, Condition, Absent, Runs, Waits, Joins, Laid, Ended, event_of, after, opening}
 use Rattle.sp_code.specs.System as s
 use Rattle.sp_code.proofs.Small.{Small, small, wide, written}

@@ -1,20 +1,16 @@
 -- A small store that computes, to run worked code by the definitions.
-use Rattle.std.specs.Prelude.{ℕ, zero, suc, ◌+◌, ◌-◌, ◌==◌, ℤ, pos, List, [], ◌∷◌, ◌++◌, Option, Some, None, Bool, true, false, ◌&&◌, ◌||◌, not, if◌then◌else◌, length, take, replicate, max, codes}
+use Rattle.std.specs.Prelude.{ℕ, suc, ◌-◌, ◌==◌, ℤ, pos, List, [], ◌∷◌, ◌++◌, Option, Some, None, Bool, false, ◌&&◌, if◌then◌else◌, length, take, replicate, max, codes}
 use Rattle.sp_base.specs.declared.fault.Fault.{Fault}
 use Rattle.sp_base.specs.declared.limits.Limits.{Limits}
-use Rattle.sp_cell.specs.declared.cell.Cell.{Cell}
 use Rattle.sp_cell.specs.declared.cell.Cell.TheVariants as cell
 use Rattle.sp_cell.specs.declared.spot.Spot.{Spot}
-use Rattle.sp_cell.specs.declared.spot.Handing.{Handing}
 use Rattle.sp_cell.specs.Map.{Content, Own, Shared, Output, Away}
 use Rattle.sp_cell.specs.Frame.{above, newest}
 use Rattle.sp_cell.specs.Fork.{index_frame, moved_of, shared_of}
 use Rattle.sp_code.specs.declared.instr.Instr.{Instr}
-use Rattle.sp_code.specs.declared.instr.Instr.TheVariants as i
-use Rattle.sp_code.specs.declared.code.Formal.{Formal}
 use Rattle.sp_code.specs.declared.code.Layout.{Layout}
 use Rattle.sp_code.specs.declared.code.Parts.{Parts}
-use Rattle.sp_code.specs.Machine.{Entry, Stop, Config, At}
+use Rattle.sp_code.specs.Machine.{Stop, Config, At}
 use Rattle.sp_code.specs.Turns.{Turn, Stopped, Faulted, Ran, Ended, Lacks, GoesOn, turn_within}
 use Rattle.sp_code.specs.Memory.{Setting, Stores, Memory, memory, first, bytes_in, is_there}
 use Rattle.sp_code.specs.PlainStore.{piece_of}

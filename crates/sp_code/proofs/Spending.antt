@@ -1,12 +1,11 @@
 -- The memory of a process has as many ticks left as its limit and its count say.
-use Rattle.std.proofs.Common.{◌≡◌, ℕ, ◌+◌, ◌-◌, ◌≤◌, ◌<◌, List, [], ◌∷◌, Bool, true, false, if◌then◌else◌, refl, sym, ap, ◌∙◌, subst, arith}
+use Rattle.std.proofs.Common.{◌≡◌, ℕ, ◌+◌, ◌≤◌, List, [], ◌∷◌, Bool, true, false, if◌then◌else◌, refl, sym, ap, arith}
 use Rattle.std.specs.Prelude.{nat_lt, length, sum}
 use Rattle.std.proofs.lemmas.Bool.{ltb-true}
-use Rattle.sp_base.specs.declared.fault.Fault.{Fault}
 use Rattle.sp_base.specs.declared.fault.Fault.TheVariants as fault
 use Rattle.sp_code.specs.declared.code.Layout.{Layout}
 use Rattle.sp_code.specs.Machine.{Entry, Did, Done, Failed}
-use Rattle.sp_code.specs.Memory.{Setting, Stores, Frame, Memory, memory, opened, pushes, without_frame, with_store, bytes_in}
+use Rattle.sp_code.specs.Memory.{Setting, Stores, Frame, Memory, memory, opened, without_frame, with_store, bytes_in}
 use Rattle.sp_code.specs.Budgets.{HasBudget, ticks_left}
 
 module _ {S : Type 0} (stores : Stores S) (g : Setting) where

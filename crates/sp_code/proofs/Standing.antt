@@ -1,27 +1,24 @@
 -- Where the list of a statement's instructions stands, with its fork tables and texts, the statement stands.
-use Rattle.std.proofs.Common.{◌≡◌, ℕ, suc, ◌+◌, ℤ, List, [], ◌∷◌, ◌++◌, length, Option, Some, None, Bool, true, false, if◌then◌else◌, refl, sym, ap, ◌∙◌, subst, arith}
-use Rattle.std.specs.Prelude.{slice_get, pos}
+use Rattle.std.proofs.Common.{◌≡◌, ℕ, ◌+◌, ℤ, List, [], ◌∷◌, ◌++◌, length, Option, Some, None, Bool, ap, ◌∙◌, subst, arith}
+use Rattle.std.specs.Prelude.{slice_get}
 use Rattle.sp_tree.specs.declared.checked.KindOf.{KindOf}
 use Rattle.sp_tree.specs.declared.checked.KindOf.TheVariants as kind
 use Rattle.sp_tree.specs.declared.checked.Role.{Role}
 use Rattle.sp_tree.specs.declared.checked.Role.TheVariants as role
 use Rattle.sp_tree.specs.declared.operators.UnaryOp.{UnaryOp}
 use Rattle.sp_tree.specs.declared.operators.UnaryOp.TheVariants as unary
-use Rattle.sp_tree.specs.declared.operators.BinaryOp.{BinaryOp}
-use Rattle.sp_tree.specs.declared.operators.BinaryOp.TheVariants as binary
 use Rattle.sp_tree.specs.declared.operators.StandardFn.{StandardFn}
 use Rattle.sp_tree.specs.declared.operators.StandardFn.TheVariants as standard
-use Rattle.sp_tree.specs.Operators.{least, greatest}
-use Rattle.sp_tree.specs.Plain.{Expr, Typed, ExprForm, Number, Read, Unary, Binary, Apply, Standard, AtInput, Var, Entire, Selector, Index, Field, Selectors, Whole, Select, Actual, ByValue, ByReference, Actuals, Nothing, Pass, Program, Variable, Block, Stmt, Empty, Assign, Call, Sequence, If, IfElse, While, Repeat, For, Case, Parallel, Forall, Assume, ReadValue, ReadLine, WriteValue, WriteText, WriteLine, Open, Send, Receive, Stmts, No, And, Arm, On, Arms, NoArm, Or}
+use Rattle.sp_tree.specs.Plain.{Expr, Typed, ExprForm, Number, Read, Unary, Binary, Apply, Standard, AtInput, Var, Entire, Index, Field, Selectors, Whole, Select, ByValue, ByReference, Actuals, Nothing, Pass, Program, Variable, Block, Stmt, Empty, Assign, Call, Sequence, If, IfElse, While, Repeat, For, Case, Parallel, Forall, Assume, ReadValue, ReadLine, WriteValue, WriteText, WriteLine, Open, Send, Receive, Stmts, No, And, On, Arms, NoArm, Or}
 use Rattle.sp_code.specs.declared.instr.Instr.{Instr}
 use Rattle.sp_code.specs.declared.instr.Instr.TheVariants as i
 use Rattle.sp_code.specs.declared.code.ForkTable.{ForkTable}
 use Rattle.sp_code.specs.declared.code.Parts.{Parts}
-use Rattle.sp_code.specs.Scopes.{Sort, Ordinals, Channels, Many, NoSort, kind_of, Scope, OfBlock, OfIndex, is_block, is_index, level, is_given, kind_at, sort, size, slot, second_or, element_type, field_type, selected_type, type_by, type_of, scopes_of}
-use Rattle.sp_code.specs.Places.{after_unary, after_value, after_form, after_var, after_selectors, after_actuals, after_width, after_right, after_test, after_tests, after, after_children, after_arms}
-use Rattle.sp_code.specs.Emitted.{or_none, unary_code, binary_instr, standard_code, input_instr, read_instr, index_instr, field_instr, write_instr, reading_instr, assign_instr, addr_by, addr_of, call_up, call_instr, test_code, tables_in, texts_of, texts_of_all, texts_of_arms, texts_in, addr_code, value_code, form_code, var_code, selectors_code, actuals_code, width_code, right_code, tests_code, code, code_all, code_children, code_arms, tables, tables_all, tables_children, tables_arms, end_instr}
-use Rattle.sp_code.specs.Stands.{Rights, granted, AnyInstr, AnyTable, AnyText, Stands, HasFork, HasWords, HasAt, VarRole, VarAt, IsTarget, ReadAt, UnaryAt, StandardAt, InputAt, Around, CallAt, ValueAt, FormAt, PlaceAt, SelectedAt, ActualsAt, OrdinalAt, WidthAt, ReadsAt, RightAt, TestAt, TestsAt, StandsAt, AllAt, ChildrenAt, ArmsAt, BlockStands, rights_of}
-use Rattle.sp_code.proofs.Counts.{value_after, form_after, var_after, actuals_after, width_after, right_after, test_after, tests_after, stmt_after, value_count, form_count, var_count, actuals_count, width_count, right_count, tests_count, code_count, texts_count, tables_count}
+use Rattle.sp_code.specs.Scopes.{Sort, Ordinals, Channels, Many, NoSort, Scope, OfIndex, is_given, kind_at, sort, size, slot, second_or, element_type, field_type, selected_type, type_by, type_of}
+use Rattle.sp_code.specs.Places.{after_value, after_form, after_var, after_actuals, after_width, after_right, after_test, after_tests, after, after_arms}
+use Rattle.sp_code.specs.Emitted.{or_none, unary_code, standard_code, input_instr, read_instr, index_instr, field_instr, write_instr, reading_instr, assign_instr, addr_by, addr_of, call_up, call_instr, test_code, tables_in, texts_of, texts_of_all, texts_of_arms, texts_in, addr_code, value_code, form_code, var_code, selectors_code, actuals_code, width_code, right_code, tests_code, code, code_all, code_children, code_arms, tables, tables_all, tables_children, tables_arms}
+use Rattle.sp_code.specs.Stands.{Rights, granted, AnyInstr, AnyTable, AnyText, Stands, HasFork, HasWords, HasAt, VarRole, VarAt, ReadAt, UnaryAt, StandardAt, InputAt, Around, CallAt, ValueAt, FormAt, PlaceAt, SelectedAt, ActualsAt, OrdinalAt, WidthAt, ReadsAt, RightAt, TestAt, TestsAt, StandsAt, AllAt, ChildrenAt, ArmsAt}
+use Rattle.sp_code.proofs.Counts.{value_after, form_after, var_after, actuals_after, width_after, right_after, tests_after, stmt_after, value_count, form_count, var_count, actuals_count, width_count, right_count, tests_count, code_count, texts_count, tables_count}
 
 -- the first part of what stands at q, and the part behind it
 pub has_front : {X : Type 0} (xs : List X) (q : ℕ) (a b : List X) → HasAt xs q (a ++ b) → HasAt xs q a
@@ -255,29 +252,41 @@ module _ (p : Program) (moves shares : Stmt → List ℕ) (all : Parts) (hush : 
         let u = after_value q e in
         let j = after p (u + 1) s in
         let g = has_back all.instrs q u (value_code p sc e) _ (value_stop sc q e) h in
-        let r = has_back all.instrs (u + 1) j (code p sc t n (u + 1) s) _ (code_stop sc t n (u + 1) s) g.1 in
-        (ordinal_stands holds sc q e f.0 (has_front all.instrs q (value_code p sc e) _ h), g.0,
-          stands free holds sc t n (u + 1) s f.2 (has_front all.instrs (u + 1) (code p sc t n (u + 1) s) _ g.1) (has_front all.forks t (tables p moves shares (u + 1) s) _ a) (has_front all.texts n (texts_of s) _ w), r.0,
-          stands free holds sc (t + tables_in s) (n + texts_in s) (j + 1) d f.4 r.1 (has_back all.forks t _ (tables p moves shares (u + 1) s) _ (tables_stop t (u + 1) s) a) (has_back all.texts n _ (texts_of s) _ (texts_stop n s) w))
+        let r = has_back all.instrs (u + 1) j (code p sc t n (u + 1) s) _ (code_stop sc t n (u + 1) s) g.1 in (
+          ordinal_stands holds sc q e f.0 (has_front all.instrs q (value_code p sc e) _ h),
+          g.0,
+          stands free holds sc t n (u + 1) s f.2 (has_front all.instrs (u + 1) (code p sc t n (u + 1) s) _ g.1) (has_front all.forks t (tables p moves shares (u + 1) s) _ a) (has_front all.texts n (texts_of s) _ w),
+          r.0,
+          stands free holds sc (t + tables_in s) (n + texts_in s) (j + 1) d f.4 r.1 (has_back all.forks t _ (tables p moves shares (u + 1) s) _ (tables_stop t (u + 1) s) a) (has_back all.texts n _ (texts_of s) _ (texts_stop n s) w),
+        )
     stands free holds sc t n q (While e s) f h a w =
         let u = after_value q e in
         let j = after p (u + 1 + 1) s in
-        let g = has_back all.instrs q u (value_code p sc e) _ (value_stop sc q e) h in
-        (ordinal_stands holds sc q e f.0 (has_front all.instrs q (value_code p sc e) _ h), g.0, g.1.0, stands free holds sc t n (u + 1 + 1) s f.3 (has_front all.instrs (u + 1 + 1) (code p sc t n (u + 1 + 1) s) _ g.1.1) a w,
-          (has_back all.instrs (u + 1 + 1) j (code p sc t n (u + 1 + 1) s) _ (code_stop sc t n (u + 1 + 1) s) g.1.1).0)
+        let g = has_back all.instrs q u (value_code p sc e) _ (value_stop sc q e) h in (
+          ordinal_stands holds sc q e f.0 (has_front all.instrs q (value_code p sc e) _ h),
+          g.0,
+          g.1.0,
+          stands free holds sc t n (u + 1 + 1) s f.3 (has_front all.instrs (u + 1 + 1) (code p sc t n (u + 1 + 1) s) _ g.1.1) a w,
+          (has_back all.instrs (u + 1 + 1) j (code p sc t n (u + 1 + 1) s) _ (code_stop sc t n (u + 1 + 1) s) g.1.1).0,
+        )
     stands free holds sc t n q (Repeat s e) f h a w =
         let u = after p (q + 1) s in
-        let g = has_back all.instrs (q + 1) u (code p sc t n (q + 1) s) _ (code_stop sc t n (q + 1) s) h.1 in
-        (h.0, stands free holds sc t n (q + 1) s f.1 (has_front all.instrs (q + 1) (code p sc t n (q + 1) s) _ h.1) a w, ordinal_stands holds sc u e f.2 (has_front all.instrs u (value_code p sc e) _ g),
-          (has_back all.instrs u _ (value_code p sc e) _ (value_stop sc u e) g).0)
+        let g = has_back all.instrs (q + 1) u (code p sc t n (q + 1) s) _ (code_stop sc t n (q + 1) s) h.1 in (
+          h.0,
+          stands free holds sc t n (q + 1) s f.1 (has_front all.instrs (q + 1) (code p sc t n (q + 1) s) _ h.1) a w,
+          ordinal_stands holds sc u e f.2 (has_front all.instrs u (value_code p sc e) _ g),
+          (has_back all.instrs u _ (value_code p sc e) _ (value_stop sc u e) g).0,
+        )
     stands free holds sc t n q (For x from down to s) f h a w =
         let m = after_value q from in
         let u = after_value m to in
         let j = after p (u + 1 + 1) s in
         let g = has_back all.instrs q m (value_code p sc from) _ (value_stop sc q from) h in
-        let r = has_back all.instrs m u (value_code p sc to) _ (value_stop sc m to) g in
-        (ordinal_stands holds sc q from f.0 (has_front all.instrs q (value_code p sc from) _ h), ordinal_stands holds sc m to f.1 (has_front all.instrs m (value_code p sc to) _ g),
-          (f.2.0, r.0, r.1.0, stands free holds sc t n (u + 1 + 1) s f.2.3 (has_front all.instrs (u + 1 + 1) (code p sc t n (u + 1 + 1) s) _ r.1.1) a w, (has_back all.instrs (u + 1 + 1) j (code p sc t n (u + 1 + 1) s) _ (code_stop sc t n (u + 1 + 1) s) r.1.1).0))
+        let r = has_back all.instrs m u (value_code p sc to) _ (value_stop sc m to) g in (
+          ordinal_stands holds sc q from f.0 (has_front all.instrs q (value_code p sc from) _ h),
+          ordinal_stands holds sc m to f.1 (has_front all.instrs m (value_code p sc to) _ g),
+          (f.2.0, r.0, r.1.0, stands free holds sc t n (u + 1 + 1) s f.2.3 (has_front all.instrs (u + 1 + 1) (code p sc t n (u + 1 + 1) s) _ r.1.1) a w, (has_back all.instrs (u + 1 + 1) j (code p sc t n (u + 1 + 1) s) _ (code_stop sc t n (u + 1 + 1) s) r.1.1).0),
+        )
     stands free holds sc t n q (Case e arms) f h a w =
         let u = after_value q e in
         let b = after_tests u arms in
@@ -290,10 +299,19 @@ module _ (p : Program) (moves shares : Stmt → List ℕ) (all : Parts) (hush : 
         let b = after_value m to in
         let j = after p (b + 1 + 1) s in
         let g = has_back all.instrs q m (value_code p sc from) _ (value_stop sc q from) h in
-        let r = has_back all.instrs m b (value_code p sc to) _ (value_stop sc m to) g in
-        (t, a.0, ordinal_stands holds sc q from f.2 (has_front all.instrs q (value_code p sc from) _ h), ordinal_stands holds sc m to f.3 (has_front all.instrs m (value_code p sc to) _ g), r.0, r.1.0,
+        let r = has_back all.instrs m b (value_code p sc to) _ (value_stop sc m to) g in (
+          t,
+          a.0,
+          ordinal_stands holds sc q from f.2 (has_front all.instrs q (value_code p sc from) _ h),
+          ordinal_stands holds sc m to f.3 (has_front all.instrs m (value_code p sc to) _ g),
+          r.0,
+          r.1.0,
           stands free (granted (moves s) (shares s) (Some x)) (OfIndex x ∷ sc) (t + 1) n (b + 1 + 1) s f.6 (has_front all.instrs (b + 1 + 1) (code p (OfIndex x ∷ sc) (t + 1) n (b + 1 + 1) s) _ r.1.1) a.1 w,
-          (has_back all.instrs (b + 1 + 1) j (code p (OfIndex x ∷ sc) (t + 1) n (b + 1 + 1) s) _ (code_stop (OfIndex x ∷ sc) (t + 1) n (b + 1 + 1) s) r.1.1).0, f.8, f.9, f.10)
+          (has_back all.instrs (b + 1 + 1) j (code p (OfIndex x ∷ sc) (t + 1) n (b + 1 + 1) s) _ (code_stop (OfIndex x ∷ sc) (t + 1) n (b + 1 + 1) s) r.1.1).0,
+          f.8,
+          f.9,
+          f.10,
+        )
     stands free holds sc t n q (Assume e) f h a w = (ordinal_stands holds sc q e f.0 (has_front all.instrs q (value_code p sc e) _ h), (has_back all.instrs q _ (value_code p sc e) _ (value_stop sc q e) h).0)
     stands free holds sc t n q (ReadValue v) f h a w =
         let k = (has_back all.instrs q (after_var q v) (var_code p sc v) _ (var_stop sc q v) h).0 ∙ ap (λ (m : ℕ). Some (reading_instr (kind_at p m))) (type_is holds sc q v f.0 f.2) ∙ ap (λ (o : Option KindOf). Some (reading_instr o)) f.4 in
@@ -301,9 +319,15 @@ module _ (p : Program) (moves shares : Stmt → List ℕ) (all : Parts) (hush : 
     stands free holds sc t n q ReadLine f h a w = (h.0, f.1)
     stands free holds sc t n q (WriteValue e x) f h a w =
         let u = after_value q e in
-        let g = has_back all.instrs q u (value_code p sc e) _ (value_stop sc q e) h in
-        (f.0, ordinal_stands holds sc q e f.1 (has_front all.instrs q (value_code p sc e) _ h), f.2, width_stands holds sc u x f.3 (has_front all.instrs u (width_code p sc x) _ g),
-          (has_back all.instrs u _ (width_code p sc x) _ (width_stop sc u x) g).0 ∙ ap (λ (o : Option KindOf). Some (write_instr o (is_given x))) f.2, f.5, f.6)
+        let g = has_back all.instrs q u (value_code p sc e) _ (value_stop sc q e) h in (
+          f.0,
+          ordinal_stands holds sc q e f.1 (has_front all.instrs q (value_code p sc e) _ h),
+          f.2,
+          width_stands holds sc u x f.3 (has_front all.instrs u (width_code p sc x) _ g),
+          (has_back all.instrs u _ (width_code p sc x) _ (width_stop sc u x) g).0 ∙ ap (λ (o : Option KindOf). Some (write_instr o (is_given x))) f.2,
+          f.5,
+          f.6,
+        )
     stands free holds sc t n q (WriteText s x) f h a w = (n, w.0, width_stands holds sc q x f.2 (has_front all.instrs q (width_code p sc x) _ h), (has_back all.instrs q _ (width_code p sc x) _ (width_stop sc q x) h).0, f.4)
     stands free holds sc t n q WriteLine f h a w = (h.0, f.1)
     stands free holds sc t n q (Open v) f h a w = (f.0, place_stands holds sc q v f.0 f.1 (has_front all.instrs q (var_code p sc v) _ h), f.2, f.3, (has_back all.instrs q _ (var_code p sc v) _ (var_stop sc q v) h).0, f.5)
@@ -313,27 +337,41 @@ module _ (p : Program) (moves shares : Stmt → List ℕ) (all : Parts) (hush : 
         (value_stands holds sc q c f.0 (has_front all.instrs q (value_code p sc c) _ h), f.1, value_stands holds sc u e f.2 (has_front all.instrs u (value_code p sc e) _ g), (has_back all.instrs u _ (value_code p sc e) _ (value_stop sc u e) g).0, f.4)
     stands free holds sc t n q (Receive c v) f h a w =
         let u = after_value q c in
-        let g = has_back all.instrs q u (value_code p sc c) _ (value_stop sc q c) h in
-        (f.0, value_stands holds sc q c f.1 (has_front all.instrs q (value_code p sc c) _ h), f.2, place_stands holds sc u v f.0 f.3 (has_front all.instrs u (var_code p sc v) _ g), f.4,
-          (has_back all.instrs u _ (var_code p sc v) _ (var_stop sc u v) g).0 ∙ ap (λ (m : ℕ). Some (i.Receive m)) (type_is holds sc u v f.0 f.3), f.6)
+        let g = has_back all.instrs q u (value_code p sc c) _ (value_stop sc q c) h in (
+          f.0,
+          value_stands holds sc q c f.1 (has_front all.instrs q (value_code p sc c) _ h),
+          f.2,
+          place_stands holds sc u v f.0 f.3 (has_front all.instrs u (var_code p sc v) _ g),
+          f.4,
+          (has_back all.instrs u _ (var_code p sc v) _ (var_stop sc u v) g).0 ∙ ap (λ (m : ℕ). Some (i.Receive m)) (type_is holds sc u v f.0 f.3),
+          f.6,
+        )
 
     pub all_stand : (free : Bool) (holds : Rights) (sc : List Scope) (t n q : ℕ) (ss : Stmts) → AllAt p moves shares AnyInstr AnyTable AnyText hush needs free holds sc q ss → Here q (code_all p sc t n q ss) → Tables t (tables_all p moves shares q ss) → Texts n (texts_of_all ss) → AllAt p moves shares (Stands all) (HasFork all) (HasWords all) hush needs free holds sc q ss
     all_stand free holds sc t n q No f h a w = tt
-    all_stand free holds sc t n q (And s rest) f h a w =
-        (stands free holds sc t n q s f.0 (has_front all.instrs q (code p sc t n q s) _ h) (has_front all.forks t (tables p moves shares q s) _ a) (has_front all.texts n (texts_of s) _ w),
-          all_stand free holds sc (t + tables_in s) (n + texts_in s) (after p q s) rest f.1 (has_back all.instrs q _ (code p sc t n q s) _ (code_stop sc t n q s) h) (has_back all.forks t _ (tables p moves shares q s) _ (tables_stop t q s) a) (has_back all.texts n _ (texts_of s) _ (texts_stop n s) w))
+    all_stand free holds sc t n q (And s rest) f h a w = (
+      stands free holds sc t n q s f.0 (has_front all.instrs q (code p sc t n q s) _ h) (has_front all.forks t (tables p moves shares q s) _ a) (has_front all.texts n (texts_of s) _ w),
+      all_stand free holds sc (t + tables_in s) (n + texts_in s) (after p q s) rest f.1 (has_back all.instrs q _ (code p sc t n q s) _ (code_stop sc t n q s) h) (has_back all.forks t _ (tables p moves shares q s) _ (tables_stop t q s) a) (has_back all.texts n _ (texts_of s) _ (texts_stop n s) w),
+    )
 
     pub children_stand : (free : Bool) (holds : Rights) (sc : List Scope) (t n q : ℕ) (ss : Stmts) → ChildrenAt p moves shares AnyInstr AnyTable AnyText hush needs free holds sc q ss → Here q (code_children p sc t n q ss) → Tables t (tables_children p moves shares q ss) → Texts n (texts_of_all ss) → ChildrenAt p moves shares (Stands all) (HasFork all) (HasWords all) hush needs free holds sc q ss
     children_stand free holds sc t n q No f h a w = tt
     children_stand free holds sc t n q (And s rest) f h a w =
-        let g = has_back all.instrs q (after p q s) (code p sc t n q s) _ (code_stop sc t n q s) h in
-        (stands free (granted (moves s) (shares s) None) sc t n q s f.0 (has_front all.instrs q (code p sc t n q s) _ h) (has_front all.forks t (tables p moves shares q s) _ a) (has_front all.texts n (texts_of s) _ w), g.0,
+        let g = has_back all.instrs q (after p q s) (code p sc t n q s) _ (code_stop sc t n q s) h in (
+          stands free (granted (moves s) (shares s) None) sc t n q s f.0 (has_front all.instrs q (code p sc t n q s) _ h) (has_front all.forks t (tables p moves shares q s) _ a) (has_front all.texts n (texts_of s) _ w),
+          g.0,
           children_stand free holds sc (t + tables_in s) (n + texts_in s) (after p q s + 1) rest f.2 g.1 (has_back all.forks t _ (tables p moves shares q s) _ (tables_stop t q s) a) (has_back all.texts n _ (texts_of s) _ (texts_stop n s) w),
-          f.3, f.4, f.5, f.6)
+          f.3,
+          f.4,
+          f.5,
+          f.6,
+        )
 
     pub arms_stand : (free : Bool) (holds : Rights) (sc : List Scope) (t n q : ℕ) (arms : Arms) (end : ℕ) → ArmsAt p moves shares AnyInstr AnyTable AnyText hush needs free holds sc q arms end → Here q (code_arms p sc t n q arms end) → Tables t (tables_arms p moves shares q arms) → Texts n (texts_of_arms arms) → ArmsAt p moves shares (Stands all) (HasFork all) (HasWords all) hush needs free holds sc q arms end
     arms_stand free holds sc t n q NoArm end f h a w = tt
     arms_stand free holds sc t n q (Or (On ms s) rest) end f h a w =
-        let g = has_back all.instrs q (after p q s) (code p sc t n q s) _ (code_stop sc t n q s) h in
-        (stands free holds sc t n q s f.0 (has_front all.instrs q (code p sc t n q s) _ h) (has_front all.forks t (tables p moves shares q s) _ a) (has_front all.texts n (texts_of s) _ w), g.0,
-          arms_stand free holds sc (t + tables_in s) (n + texts_in s) (after p q s + 1) rest end f.2 g.1 (has_back all.forks t _ (tables p moves shares q s) _ (tables_stop t q s) a) (has_back all.texts n _ (texts_of s) _ (texts_stop n s) w))
+        let g = has_back all.instrs q (after p q s) (code p sc t n q s) _ (code_stop sc t n q s) h in (
+          stands free holds sc t n q s f.0 (has_front all.instrs q (code p sc t n q s) _ h) (has_front all.forks t (tables p moves shares q s) _ a) (has_front all.texts n (texts_of s) _ w),
+          g.0,
+          arms_stand free holds sc (t + tables_in s) (n + texts_in s) (after p q s + 1) rest end f.2 g.1 (has_back all.forks t _ (tables p moves shares q s) _ (tables_stop t q s) a) (has_back all.texts n _ (texts_of s) _ (texts_stop n s) w),
+        )

@@ -1,10 +1,9 @@
 -- One turn is a function, and what is computed of it is so.
-use Rattle.std.proofs.Common.{◌≡◌, ℕ, zero, suc, ◌+◌, Bool, true, false, refl, sym, ap, ◌∙◌, subst}
-use Rattle.sp_base.specs.declared.fault.Fault.{Fault}
+use Rattle.std.proofs.Common.{◌≡◌, ℕ, zero, suc, Bool, true, false, refl, sym, ap, ◌∙◌, subst}
 use Rattle.sp_base.specs.declared.fault.Fault.TheVariants as fault
 use Rattle.sp_code.specs.declared.code.Parts.{Parts}
-use Rattle.sp_code.specs.Machine.{Config, At, Stop, One, Goes, Stops, Fails, Stuck, Ops, one}
-use Rattle.sp_code.specs.Turns.{Turn, Stopped, Faulted, Ran, Ended, Lacks, GoesOn, Begins, ComesIn, Comes, EndsSo, Runs, begins, IsTurn, IsSafe, ran_by, ran, started, turn_within}
+use Rattle.sp_code.specs.Machine.{Config, One, Goes, Stops, Fails, Stuck, Ops, one}
+use Rattle.sp_code.specs.Turns.{Turn, Stopped, Faulted, Ran, Ended, Lacks, Begins, ComesIn, Comes, EndsSo, Runs, begins, IsTurn, ran_by, ran, started, turn_within}
 
 module _ {M : Type 0} (ops : Ops M) (code : Parts) where
   -- an instruction ends a turn in one way, or goes on

@@ -4,7 +4,6 @@ use Rattle.sp_cell.specs.declared.cell.Cell.{Cell}
 use Rattle.sp_cell.specs.declared.spot.Address.{Address}
 use Rattle.sp_code.specs.declared.instr.Instr.{Instr}
 use Rattle.sp_code.specs.declared.code.Layout.{Layout}
-use Rattle.sp_code.specs.declared.code.Parts.{Parts}
 use Rattle.sp_code.specs.Machine.{Entry, Number, Chan, Pointer, Cells, Link, Reply, Done, Ops, Config, At}
 use Rattle.sp_code.specs.Memory.{Setting, Memory}
 use Rattle.sp_code.specs.Turns.{Ran, Ended, Lacks, GoesOn}

@@ -1,6 +1,6 @@
 -- The code of each part of a tree, as a list of instructions; its fork tables and texts.
-use Rattle.std.specs.Prelude.{ℕ, suc, ◌+◌, ◌==◌, ℤ, pos, List, [], ◌∷◌, ◌++◌, Option, Some, None, Bool, true, false, if◌then◌else◌, slice_get, map}
-use Rattle.sp_tree.specs.Cells.{variables_of, cells_by, sizes}
+use Rattle.std.specs.Prelude.{ℕ, suc, ◌+◌, ◌==◌, ℤ, pos, List, [], ◌∷◌, ◌++◌, Option, Some, None, Bool, if◌then◌else◌, slice_get, map}
+use Rattle.sp_tree.specs.Cells.{cells_by, sizes}
 use Rattle.sp_tree.specs.declared.checked.KindOf.{KindOf}
 use Rattle.sp_tree.specs.declared.checked.KindOf.TheVariants as kind
 use Rattle.sp_tree.specs.declared.checked.Role.{Role}
@@ -12,7 +12,7 @@ use Rattle.sp_tree.specs.declared.operators.BinaryOp.TheVariants as binary
 use Rattle.sp_tree.specs.declared.operators.StandardFn.{StandardFn}
 use Rattle.sp_tree.specs.declared.operators.StandardFn.TheVariants as standard
 use Rattle.sp_tree.specs.Operators.{least, greatest}
-use Rattle.sp_tree.specs.Plain.{Expr, Typed, ExprForm, Number, Read, Unary, Binary, Apply, Standard, AtInput, Var, Entire, Selector, Index, Field, Selectors, Whole, Select, Actual, ByValue, ByReference, Actuals, Nothing, Pass, Program, Variable, Block, Stmt, Empty, Assign, Call, Sequence, If, IfElse, While, Repeat, For, Case, Parallel, Forall, Assume, ReadValue, ReadLine, WriteValue, WriteText, WriteLine, Open, Send, Receive, Stmts, No, And, Arm, On, Arms, NoArm, Or}
+use Rattle.sp_tree.specs.Plain.{Expr, Typed, ExprForm, Number, Read, Unary, Binary, Apply, Standard, AtInput, Var, Entire, Index, Field, Selectors, Whole, Select, ByValue, ByReference, Actuals, Nothing, Pass, Program, Variable, Block, Stmt, Empty, Assign, Call, Sequence, If, IfElse, While, Repeat, For, Case, Parallel, Forall, Assume, ReadValue, ReadLine, WriteValue, WriteText, WriteLine, Open, Send, Receive, Stmts, No, And, On, Arms, NoArm, Or}
 use Rattle.sp_code.specs.declared.instr.Instr.{Instr}
 use Rattle.sp_code.specs.declared.instr.Instr.TheVariants as i
 use Rattle.sp_code.specs.declared.code.Formal.{Formal}
@@ -21,8 +21,8 @@ use Rattle.sp_code.specs.declared.code.Layout.{Layout}
 use Rattle.sp_code.specs.declared.code.ChildTable.{ChildTable}
 use Rattle.sp_code.specs.declared.code.ForkTable.{ForkTable}
 use Rattle.sp_code.specs.declared.code.Parts.{Parts}
-use Rattle.sp_code.specs.Scopes.{Sort, Ordinals, Channels, Many, NoSort, kind_of, Scope, OfBlock, OfIndex, is_block, is_index, level, is_given, as_list, frame_of, kind_at, sort, size, slot, field_offset, field_type, element_type, selected_type, type_by, type_of, scopes_of}
-use Rattle.sp_code.specs.Places.{after_value, after_width, after_tests, after, after_children, after_arms, after_block}
+use Rattle.sp_code.specs.Scopes.{Sort, Ordinals, Channels, Many, NoSort, kind_of, Scope, OfIndex, is_block, is_index, level, is_given, frame_of, kind_at, sort, size, slot, field_offset, field_type, element_type, type_by, type_of, scopes_of}
+use Rattle.sp_code.specs.Places.{after_value, after_tests, after, after_children, after_arms, after_block}
 
 -- a level, where there is one; 0 stands for a level that no accepted tree asks for
 abbrev pub or_none : Option ℕ → ℕ
@@ -357,7 +357,7 @@ module _ (p : Program) where
         let u = after_value (after_value q from) to in
         let j = after p (u + 1 + 1) s in
         value_code sc from ++ (value_code sc to ++ ((if down then i.Fordown (slot p x) (j + 1) else i.Forup (slot p x) (j + 1)) ∷ i.Tick
-          ∷ (code sc t n (u + 1 + 1) s ++ (if down then i.Nextdown (slot p x) (u + 1) else i.Nextup (slot p x) (u + 1)) ∷ [])))
+        ∷ (code sc t n (u + 1 + 1) s ++ (if down then i.Nextdown (slot p x) (u + 1) else i.Nextup (slot p x) (u + 1)) ∷ [])))
     code sc t n q (Case e arms) =
         let b = after_tests (after_value q e) arms in
         value_code sc e ++ (tests_code arms (b + 1) ++ (i.Nocase ∷ code_arms sc t n (b + 1) arms (after_arms p (b + 1) arms)))

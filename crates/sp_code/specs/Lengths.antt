@@ -1,10 +1,10 @@
 -- How many instructions the code of each part of a tree has: the table of lengths.
-use Rattle.std.specs.Prelude.{ℕ, ◌+◌, ℤ, List, [], ◌∷◌, Option, Some, None, length}
+use Rattle.std.specs.Prelude.{ℕ, ◌+◌, List, [], ◌∷◌, Option, Some, None, length}
 use Rattle.sp_tree.specs.declared.operators.UnaryOp.{UnaryOp}
 use Rattle.sp_tree.specs.declared.operators.UnaryOp.TheVariants as unary
 use Rattle.sp_tree.specs.declared.operators.StandardFn.{StandardFn}
 use Rattle.sp_tree.specs.declared.operators.StandardFn.TheVariants as standard
-use Rattle.sp_tree.specs.Plain.{Expr, Typed, ExprForm, Number, Read, Unary, Binary, Apply, Standard, AtInput, Var, Entire, Selector, Index, Field, Selectors, Whole, Select, Actual, ByValue, ByReference, Actuals, Nothing, Pass, Program, Block, Stmt, Empty, Assign, Call, Sequence, If, IfElse, While, Repeat, For, Case, Parallel, Forall, Assume, ReadValue, ReadLine, WriteValue, WriteText, WriteLine, Open, Send, Receive, Stmts, No, And, Arm, On, Arms, NoArm, Or}
+use Rattle.sp_tree.specs.Plain.{Expr, Typed, ExprForm, Number, Read, Unary, Binary, Apply, Standard, AtInput, Var, Entire, Index, Field, Selectors, Whole, Select, ByValue, ByReference, Actuals, Nothing, Pass, Program, Block, Stmt, Empty, Assign, Call, Sequence, If, IfElse, While, Repeat, For, Case, Parallel, Forall, Assume, ReadValue, ReadLine, WriteValue, WriteText, WriteLine, Open, Send, Receive, Stmts, No, And, On, Arms, NoArm, Or}
 use Rattle.sp_code.specs.Scopes.{Sort, Ordinals, Channels, Many, NoSort, sort}
 
 -- a sign `+`: 0; every other operator: 1

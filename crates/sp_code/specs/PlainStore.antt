@@ -1,5 +1,5 @@
 -- The stores of a run, as plain maps.
-use Rattle.std.specs.Prelude.{ℕ, ◌==◌, List, [], ◌∷◌, Option, Some, None, Bool, true, false, ◌&&◌, not}
+use Rattle.std.specs.Prelude.{ℕ, ◌==◌, List, [], Option, Some, None, Bool, true, false, ◌&&◌, not}
 use Rattle.std.specs.List.{list_all}
 use Rattle.std.specs.FinMap as map
 use Rattle.sp_cell.specs.declared.cell.Cell.{Cell}

@@ -1,5 +1,5 @@
 -- What the code of a block may rest on: what it needs of other blocks' variables, and that a function calls nothing that stops.
-use Rattle.std.specs.Prelude.{ℕ, Bool, true, false}
+use Rattle.std.specs.Prelude.{ℕ, true, false}
 use Rattle.sp_tree.specs.Plain.{Program}
 use Rattle.sp_tree.specs.Sets.{ImplicitTarget, Implicit, LeadsToStop}
 use Rattle.sp_code.specs.Stands.{Rights}

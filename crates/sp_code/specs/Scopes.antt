@@ -1,11 +1,11 @@
 -- Types, frames and scopes of a checked tree, as code needs them.
-use Rattle.std.specs.Prelude.{ℕ, zero, suc, ◌+◌, ◌==◌, List, [], ◌∷◌, ◌++◌, Option, Some, None, Bool, true, false, if◌then◌else◌, slice_get, map, sum, take, length}
+use Rattle.std.specs.Prelude.{ℕ, zero, suc, ◌==◌, List, [], ◌∷◌, ◌++◌, Option, Some, None, Bool, true, false, if◌then◌else◌, slice_get, map, sum, take, length}
 use Rattle.sp_tree.specs.declared.checked.KindOf.{KindOf}
 use Rattle.sp_tree.specs.declared.checked.KindOf.TheVariants as kind
 use Rattle.sp_tree.specs.declared.checked.Role.{Role}
 use Rattle.sp_tree.specs.declared.checked.Role.TheVariants as role
-use Rattle.sp_tree.specs.Cells.{sizes, first_or, variables_of, cells_by}
-use Rattle.sp_tree.specs.Plain.{Expr, Typed, ExprForm, Var, Entire, Selectors, Whole, Select, Index, Field, Program, Variable, Block}
+use Rattle.sp_tree.specs.Cells.{sizes, first_or, variables_of}
+use Rattle.sp_tree.specs.Plain.{Expr, Typed, Var, Entire, Selectors, Whole, Select, Index, Field, Program, Variable, Block}
 
 -- what values of a type are on the stack: an ordinal, a channel, or many cells
 pub data Sort : Type 0 where

@@ -1,5 +1,5 @@
 -- Code that runs safely: each turn ends, finds what its instructions need and touches what its process holds alone.
-use Rattle.std.specs.Prelude.{◌≡◌, ◌≢◌, ◌⊎◌, ℕ, suc, ◌+◌, ◌*◌, ◌≤◌, ◌==◌, ℤ, List, [], ◌∷◌, ◌++◌, length, Option, Some, None, Bool, true, false, if◌then◌else◌, slice_get}
+use Rattle.std.specs.Prelude.{◌≡◌, ℕ, ◌+◌, ◌*◌, ◌≤◌, ◌==◌, ℤ, List, [], ◌∷◌, ◌++◌, length, Some, None, false, if◌then◌else◌, slice_get}
 use Rattle.std.specs.FinMap as map
 use Rattle.sp_base.specs.declared.limits.Limits.{Limits}
 use Rattle.sp_base.specs.declared.limits.TheConstants.{TURN_TICKS}
@@ -7,7 +7,7 @@ use Rattle.sp_cell.specs.declared.cell.Cell.{Cell}
 use Rattle.sp_cell.specs.declared.spot.Spot.{Spot}
 use Rattle.sp_cell.specs.declared.spot.Address.{Address}
 use Rattle.sp_cell.specs.declared.spot.Handing.{Handing}
-use Rattle.sp_cell.specs.Map.{Map, Plain, IsOwn, HasCells}
+use Rattle.sp_cell.specs.Map.{Plain, IsOwn, HasCells}
 use Rattle.sp_cell.specs.Frame.{HasNextFrame}
 use Rattle.sp_cell.specs.Fork.{moved_of, shared_of, HasIndex}
 use Rattle.sp_cell.specs.Spots.{In, NotIn, IsDistinct, AllHeld, AllPieces, AllAway}

@@ -1,5 +1,5 @@
 -- The system of all processes of a run of code, along a journal.
-use Rattle.std.specs.Prelude.{◌≡◌, ℕ, zero, suc, ◌+◌, ◌-◌, ◌==◌, ℤ, pos, ◌+ℤ◌, List, [], ◌∷◌, ◌++◌, Option, Some, None, Bool, true, false, if◌then◌else◌, cond, nat_lt, length, slice_get}
+use Rattle.std.specs.Prelude.{◌≡◌, ℕ, zero, suc, ◌+◌, ◌-◌, ◌==◌, ℤ, pos, ◌+ℤ◌, List, [], ◌∷◌, Option, Some, None, Bool, true, false, if◌then◌else◌, cond, nat_lt, length, slice_get}
 use Rattle.sp_base.specs.declared.fault.Fault.{Fault}
 use Rattle.sp_base.specs.declared.fault.Fault.TheVariants as fault
 use Rattle.sp_base.specs.declared.limits.Limits.{Limits}
@@ -23,11 +23,10 @@ use Rattle.sp_code.specs.declared.code.Formal.TheVariants as formal
 use Rattle.sp_code.specs.declared.code.Layout.{Layout}
 use Rattle.sp_code.specs.declared.code.ChildTable.{ChildTable}
 use Rattle.sp_code.specs.declared.code.ForkTable.{ForkTable}
-use Rattle.sp_code.specs.declared.code.Parts.{Parts}
-use Rattle.sp_code.specs.Tables.{index_of, child_at}
+use Rattle.sp_code.specs.Tables.{child_at}
 use Rattle.sp_code.specs.Machine.{Stop, Forks, Opens, Sends, Receives, Ends, Pauses, Config, At, layout_of}
 use Rattle.sp_code.specs.Turns.{Turn, Stopped, Faulted, IsTurn}
-use Rattle.sp_code.specs.Memory.{Setting, Stores, Home, OfBlock, OfIndex, Frame, Memory, last_frames, referred, put_cell, put_cells, with_store, memory, first}
+use Rattle.sp_code.specs.Memory.{Setting, Stores, Home, OfBlock, OfIndex, Frame, Memory, last_frames, referred, put_cell, put_cells, memory, first}
 use Rattle.sp_code.specs.Control.{Control, Out, control_at_start, noted, given, front}
 
 -- ---- the variables of a fork
@@ -161,7 +160,16 @@ event_at Ends = event.End
 event_at Pauses = event.Pause
 
 module _ {S : Type 0} where
-  -- the pending offer with its process, if it is one
+  -- the store of a process, whatever it does
+  abbrev pub store_in : Condition S → Option S
+  store_in Absent = None
+  store_in (Runs (At pc st n)) = Some n.store
+  store_in (Waits s (At pc st n)) = Some n.store
+  store_in (Joins left (At pc st n)) = Some n.store
+  store_in (Laid (At pc st n)) = Some n.store
+  store_in (Ended (At pc st n)) = Some n.store
+
+  -- what a process is stopped at, if it waits with an offer
   abbrev pub stop_of : Condition S → Option Stop
   stop_of Absent = None
   stop_of (Runs c) = None
@@ -370,6 +378,10 @@ module _ {S : Type 0} (stores : Stores S) (g : Setting) where
   -- the system along a journal is this one
   abbrev pub IsSystem : List Entry → System S → Type 0
   IsSystem es t = Leads opening es t
+
+  -- the output of a state is that of the process that holds it
+  abbrev pub OutputIs : System S → List ℕ → Type 0
+  OutputIs s bs = (q : ℕ) × (m : S) × (store_in (s.condition q) ≡ Some m) × (stores.output m ≡ Some bs)
 
   -- ---- histories of the kernel
 

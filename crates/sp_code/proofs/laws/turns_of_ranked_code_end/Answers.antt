@@ -1,4 +1,3 @@
-use Rattle.sp_code.specs.Memory.{memory}
 use Rattle.sp_code.specs.PlainStore.{plain}
 use Rattle.sp_code.proofs.Ends.{ranked_over, safe_turn}
 use Rattle.sp_code.proofs.laws.turns_of_ranked_code_end.Goals as goal

@@ -1,4 +1,4 @@
-use Rattle.std.proofs.Common.{arith, refl}
+use Rattle.std.proofs.Common.{arith}
 use Rattle.sp_code.specs.Listing.{child_line}
 use Rattle.sp_code.proofs.Numbered.{numbered_step}
 use Rattle.sp_code.proofs.lines.put_children.Goals as goal
