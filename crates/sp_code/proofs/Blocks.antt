@@ -1,8 +1,12 @@
 -- The code of a program has exactly the tree's length, and all its blocks stand in it.
-use Rattle.std.proofs.Common.{◌≡◌, ℕ, zero, suc, ◌+◌, List, [], ◌∷◌, ◌++◌, length, Some, refl, sym, subst, arith}
-use Rattle.std.specs.Prelude.{slice_get}
+use Rattle.std.proofs.Common.{Option, ap, Bool, ◌∙◌, ◌≡◌, ℕ, zero, suc, ◌+◌, List, [], ◌∷◌, ◌++◌, length, Some, refl, sym, subst, arith}
+use Rattle.std.specs.Prelude.{slice_get, ◌≢◌, if◌then◌else◌, true, false}
+use Rattle.sp_cell.specs.FrameLaws.{is_same, is_other}
+use Rattle.sp_code.specs.Machine as m
+use Rattle.sp_code.specs.Sound.{HasDistinctBlocks}
 use Rattle.sp_tree.specs.Plain.{Program, Block, Stmt}
 use Rattle.sp_code.specs.declared.instr.Instr.{Instr}
+use Rattle.sp_code.specs.declared.code.Layout.{Layout}
 use Rattle.sp_code.specs.declared.code.ForkTable.{ForkTable}
 use Rattle.sp_code.specs.declared.code.Parts.{Parts}
 use Rattle.sp_code.specs.Scopes.{scopes_of}
@@ -21,6 +25,36 @@ has_shift x xs (y ∷ ys) q h = let e : suc q ≡ q + 1 = omega arith in (subst 
 pub has_self : {X : Type 0} (xs : List X) → HasAt xs 0 xs
 has_self [] = tt
 has_self (x ∷ xs) = (refl, has_shift x xs xs 0 (has_self xs))
+
+-- ---- layouts
+
+module _ (p : Program) where
+  some_layout : (l m : Layout) → ◌≡◌ {A = Option Layout} (Some l) (Some m) → l ≡ m
+  some_layout l m e = cc
+
+  -- the layout at a place is of the block of that number
+  block_at : (b q : ℕ) (ks : List Block) (f : ℕ) (l : Layout) → slice_get (layouts_from p b q ks) f ≡ Some l → l.block ≡ b + f
+  block_at b q [] f l e = absurd cc
+  block_at b q (k ∷ ks) zero l e = let w : b ≡ l.block = ap (λ (x : Layout). x.block) (some_layout (layout_of p b q k) l e) in omega (arith, w)
+  block_at b q (k ∷ ks) (suc f) l e = omega (arith, block_at (suc b) (after_block p q k) ks f l e)
+
+  pub distinct_blocks : (b q : ℕ) (ks : List Block) → HasDistinctBlocks (layouts_from p b q ks)
+  distinct_blocks b q ks i j l m h k e = omega (arith, block_at b q ks i l h, block_at b q ks j m k, e)
+
+  found_from : (b q : ℕ) (ks : List Block) (f : ℕ) (l : Layout) → slice_get (layouts_from p b q ks) f ≡ Some l → m.layout_of (layouts_from p b q ks) (b + f) ≡ Some l
+  found_from b q [] f l e = absurd cc
+  found_from b q (k ∷ ks) zero l e =
+      let w : b ≡ b + 0 = omega arith in
+      ap (λ (t : Bool). if t then Some (layout_of p b q k) else m.layout_of (layouts_from p (suc b) (after_block p q k) ks) (b + 0)) (is_same b (b + 0) w) ∙ e
+  found_from b q (k ∷ ks) (suc f) l e =
+      let w : b ≢ b + suc f = λ x. omega (arith, x) in
+      let z : suc b + f ≡ b + suc f = omega arith in
+      ap (λ (t : Bool). if t then Some (layout_of p b q k) else m.layout_of (layouts_from p (suc b) (after_block p q k) ks) (b + suc f)) (is_other b (b + suc f) w)
+      ∙ ap (λ (n : ℕ). m.layout_of (layouts_from p (suc b) (after_block p q k) ks) n) (sym z) ∙ found_from (suc b) (after_block p q k) ks f l e
+
+  -- the layout of a block is found under its number
+  pub layout_found : (f : ℕ) (l : Layout) → slice_get (layouts_from p 0 0 p.blocks) f ≡ Some l → m.layout_of (layouts_from p 0 0 p.blocks) f ≡ Some l
+  layout_found f l e = let w : 0 + f ≡ f = omega arith in ap (λ (n : ℕ). m.layout_of (layouts_from p 0 0 p.blocks) n) (sym w) ∙ found_from 0 0 p.blocks f l e
 
 module _ (p : Program) (moves shares : Stmt → List ℕ) where
   pub program_count : length (program_code p moves shares).instrs ≡ tree_length p

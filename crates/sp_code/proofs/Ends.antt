@@ -18,5 +18,5 @@ module _ {S : Type 0} (stores : Stores S) (g : Setting) (ranked : IsRanked g.cod
     where
       go : (r : Ran (Memory S)) → turn_within (memory stores g) g.code (suc (most_steps g c)) c ≡ r → IsOver r → (t : Turn (Memory S)) × IsTurn (memory stores g) g.code c t
       go (Ended t) e o = (t, within_ended (memory stores g) g.code (suc (most_steps g c)) c t e)
-      go (Lacks d) e o = let h = within_lacks (memory stores g) g.code (suc (most_steps g c)) c d e in absurd (safe d h.0 h.1)
+      go (Lacks d) e o = let h = within_lacks (memory stores g) g.code (suc (most_steps g c)) c d e in absurd (safe h.0 d h.1 h.2)
       go (GoesOn d) e o = absurd o

@@ -10,3 +10,4 @@ pub mod Systems
 pub mod Spending
 pub mod Ends
 pub mod Blocks
+pub mod StoreLaws

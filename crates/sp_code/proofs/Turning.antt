@@ -69,9 +69,9 @@ module _ {M : Type 0} (ops : Ops M) (code : Parts) where
       go true e = ran_ended n c t e
       go false e = sym (ended_is (Faulted fault.F12 c) t e)
 
-  pub within_lacks : (n : ℕ) (c d : Config M) → turn_within ops code n c ≡ Lacks d → Comes ops code c d × (one ops code d ≡ Stuck)
-  within_lacks n c d = go (begins ops code c)
+  pub within_lacks : (n : ℕ) (c d : Config M) → turn_within ops code n c ≡ Lacks d → (begins ops code c ≡ true) × Comes ops code c d × (one ops code d ≡ Stuck)
+  within_lacks n c d = go (begins ops code c) refl
     where
-      go : (b : Bool) → started ops code n b c ≡ Lacks d → Comes ops code c d × (one ops code d ≡ Stuck)
-      go true e = ran_lacks n c d e
-      go false e = absurd cc
+      go : (b : Bool) → begins ops code c ≡ b → started ops code n b c ≡ Lacks d → (begins ops code c ≡ true) × Comes ops code c d × (one ops code d ≡ Stuck)
+      go true w e = let r = ran_lacks n c d e in (w, r.0, r.1)
+      go false w e = absurd cc

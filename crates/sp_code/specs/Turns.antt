@@ -49,9 +49,9 @@ module _ {M : Type 0} (ops : Ops M) (code : Parts) where
   abbrev pub IsTurn : Config M → Turn M → Type 0
   IsTurn c t = Begins (begins c) c t (Runs c t)
 
-  -- no instruction of the turn of c lacks what it needs
+  -- no instruction of the turn of c lacks what it needs; where its frames do not fit, it has none
   abbrev pub IsSafe : Config M → Type 0
-  IsSafe c = (d : Config M) → Comes c d → one ops code d ≡ Stuck → ⊥
+  IsSafe c = begins c ≡ true → (d : Config M) → Comes c d → one ops code d ≡ Stuck → ⊥
 
   -- what the outcome of one instruction comes to, where go runs on
   abbrev pub ran_by : (Config M → Ran M) → Config M → One M → Ran M

@@ -6,7 +6,8 @@ ghost use Rattle.sp_tree.specs.Plain.{Program, Stmt, Block};
 ghost use Rattle.sp_cell.specs.Map.{Plain};
 ghost use Rattle.sp_journal.specs.declared.entry.Event.{Event};
 ghost use Rattle.sp_journal.specs.declared.entry.Entry.{Entry};
-ghost use Rattle.sp_code.specs.Machine.{Config, Goes, one};
+ghost use Rattle.sp_code.specs.Machine.{Config, Goes, one, layout_of};
+ghost use Rattle.sp_code.specs.declared.code.Layout.{Layout};
 ghost use Rattle.sp_code.specs.Turns.{Turn, Ended, IsTurn, IsSafe, turn_within};
 ghost use Rattle.sp_code.specs.Memory.{Setting, Memory, memory};
 ghost use Rattle.sp_code.specs.PlainStore.{plain};
@@ -45,8 +46,10 @@ pub fn code_has_its_length()
     ensures program { (p : Program) (moves shares : Stmt → List ℕ) → length (program_code p moves shares).instrs ≡ tree_length p }
 {}
 
-/// Where each block keeps the rules of names, types and variables, its code stands in the code of the program as it should.
+/// Where each block keeps the rules of names, types and variables, its code stands in the code of the program as it should; and a
+/// call finds the layout that the block has in the tree.
 pub fn code_stands()
-    ensures { (p : Program) (moves shares : Stmt → List ℕ) → ((f q : ℕ) (b : Block) → slice_get p.blocks f ≡ Some b → IsFine p moves shares (IsQuiet p) (needs_of p) f q b)
+    ensures blocks { (p : Program) (moves shares : Stmt → List ℕ) → ((f q : ℕ) (b : Block) → slice_get p.blocks f ≡ Some b → IsFine p moves shares (IsQuiet p) (needs_of p) f q b)
         → BlocksAt p moves shares (program_code p moves shares) (IsQuiet p) (needs_of p) }
+    ensures layouts { (p : Program) (moves shares : Stmt → List ℕ) (f : ℕ) (l : Layout) → slice_get (program_code p moves shares).layouts f ≡ Some l → layout_of (program_code p moves shares).layouts f ≡ Some l }
 {}
