@@ -1,6 +1,6 @@
 -- The code of a program has exactly the tree's length, and all its blocks stand in it.
 use Rattle.std.proofs.Common.{Option, ap, Bool, ◌∙◌, ◌≡◌, ℕ, zero, suc, ◌+◌, List, [], ◌∷◌, ◌++◌, length, Some, refl, sym, subst, arith}
-use Rattle.std.specs.Prelude.{slice_get, ◌≢◌, if◌then◌else◌, true, false}
+use Rattle.std.specs.Prelude.{slice_get, ◌≢◌, if◌then◌else◌}
 use Rattle.sp_cell.specs.FrameLaws.{is_same, is_other}
 use Rattle.sp_code.specs.Machine as m
 use Rattle.sp_code.specs.Sound.{HasDistinctBlocks}
