@@ -1,0 +1,6 @@
+pub mod Rows
+pub mod DeclarationRows
+pub mod TreeRows
+pub mod TextRows
+pub mod Laws
+pub mod Steps

@@ -1,0 +1,10 @@
+pub mod PlainChecked
+pub mod CheckedOf
+pub mod Tables
+pub mod TypeRules
+pub mod Kinds
+pub mod TypeWalk
+pub mod CheckedTree
+pub mod TypeFirst
+pub mod Firsts
+pub mod Types

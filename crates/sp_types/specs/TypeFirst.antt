@@ -1,0 +1,24 @@
+-- The first broken rule of types of a program, and what checking its types gives.
+use Rattle.std.specs.Prelude.{List, [], None, Result}
+use Rattle.sp_base.specs.declared.halt.Refusal.{Refusal}
+use Rattle.sp_tree.specs.Found.{Found, lesser, listed, outcome}
+use Rattle.sp_tree.specs.NameFirst.{Onward, none_more, both, together}
+use Rattle.sp_tree.specs.PlainNamed.{Program}
+use Rattle.sp_types.specs.PlainChecked as c
+use Rattle.sp_types.specs.TypeWalk.{program_sites}
+use Rattle.sp_types.specs.CheckedTree.{program_checked}
+
+abbrev pub at_node : Found → Onward
+at_node r given = lesser given r
+
+-- all broken rules of types of a program, of those of one node the first
+abbrev pub types_broken : Program → List Refusal
+types_broken = program_sites [] together listed
+
+-- the first broken rule of types of a program
+abbrev pub types_first : Program → Found
+types_first p = program_sites none_more both at_node p None
+
+-- the first broken rule of types, or the checked tree
+abbrev pub typed : Program → Result c.Program Refusal
+typed p = outcome (types_first p) (program_checked p)

@@ -1,0 +1,118 @@
+//! What is known of constants, types, variables and blocks, by their numbers.
+
+ghost use Rattle.std.specs.Prelude.{◌≡◌, slice_get};
+ghost use Rattle.std.specs.Option.{option_copied};
+ghost use Rattle.sp_types.specs.Tables.{kind_at, variable_kind, entry, constant_kind, formals_of, answer_kind, ordinal_kind};
+ghost use Rattle.sp_types.specs.TypeWalk.{formal_role, formal_kind};
+
+use sp_base::List;
+use sp_tree::{KindOf, Role};
+
+/// An ordinal: the number of its type, and its own.
+#[derive(Clone, Copy, Debug, PartialEq, Eq)]
+pub struct Ordinal {
+    pub kind: u32,
+    pub number: i64,
+}
+
+/// A block: the numbers of its parameters, and of the variable with its result.
+#[derive(Drop)]
+pub struct Signature {
+    pub formals: List<u32>,
+    pub answer: Option<u32>,
+}
+
+/// What is known while statements are read: the declared constants, each with its type; the types; the types and roles
+/// of the variables; the headings of the blocks; and the number of the next statement. The type of a forall index is
+/// that of its first limit, and is not known before it.
+#[derive(Drop)]
+pub struct Tables {
+    pub constants: List<Option<Ordinal>>,
+    pub kinds: List<KindOf>,
+    pub variables: List<Option<u32>>,
+    pub roles: List<Role>,
+    pub blocks: List<Signature>,
+    pub next: u32,
+}
+
+/// The type of an ordinal, if there is one.
+pub fn ordinal_kind(o: Option<Ordinal>) -> Option<u32>
+    ensures { result ≡ ordinal_kind o }
+{
+    match o {
+        None => None,
+        Some(o) => Some(o.kind),
+    }
+}
+
+impl Tables {
+    /// The type with this number.
+    pub fn kind_at(&self, k: u32) -> Option<&KindOf>
+        ensures { option_copied result ≡ kind_at self.now k }
+    {
+        self.kinds.get(k as usize)
+    }
+
+    /// The type of a variable.
+    pub fn variable_kind(&self, x: u32) -> Option<u32>
+        ensures { result ≡ variable_kind self.now x }
+    {
+        match self.variables.get(x as usize) {
+            None => None,
+            Some(k) => *k,
+        }
+    }
+
+    /// A declared constant.
+    pub fn constant(&self, k: u32) -> Option<Ordinal>
+        ensures { result ≡ entry (slice_get self.now.constants k) }
+    {
+        match self.constants.get(k as usize) {
+            None => None,
+            Some(o) => *o,
+        }
+    }
+
+    /// The numbers of a block's parameters.
+    pub fn formals(&self, f: u32) -> &[u32]
+        ensures { result.now ≡ formals_of self.now f }
+    {
+        match self.blocks.get(f as usize) {
+            None => &[],
+            Some(s) => s.formals.items(),
+        }
+    }
+
+    /// The type of a function's result.
+    pub fn answer_kind(&self, f: u32) -> Option<u32>
+        ensures { result ≡ answer_kind self.now f }
+    {
+        match self.blocks.get(f as usize) {
+            None => None,
+            Some(s) => match s.answer {
+                None => None,
+                Some(x) => self.variable_kind(x),
+            },
+        }
+    }
+
+    /// The role of a parameter.
+    pub fn formal_role(&self, x: Option<u32>) -> Option<Role>
+        ensures { result ≡ formal_role self.now x }
+    {
+        match x {
+            None => None,
+            Some(x) => self.roles.get(x as usize).copied(),
+        }
+    }
+
+    /// The type of a parameter.
+    pub fn formal_kind(&self, x: Option<u32>) -> Option<u32>
+        ensures { result ≡ formal_kind self.now x }
+    {
+        match x {
+            None => None,
+            Some(x) => self.variable_kind(x),
+        }
+    }
+}

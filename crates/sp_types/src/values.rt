@@ -1,0 +1,157 @@
+//! Constants, chars and fields.
+
+ghost use Rattle.std.specs.Prelude.{◌≡◌, pos, drop, Ok, ◌+◌};
+ghost use Rattle.std.specs.Option.{option_copied};
+ghost use Rattle.sp_tree.specs.Found.{Answers};
+ghost use Rattle.sp_types.specs.Tables.{char_of, number_or, kind_at};
+ghost use Rattle.sp_types.specs.TypeRules.{field_from, field_in, field_found, field_rule};
+ghost use Rattle.sp_types.specs.Kinds.{field_kind, field};
+ghost use Rattle.sp_types.specs.CheckedTree.{or_zero, field_number, numbered_field};
+
+use crate::rules::breaks;
+use crate::tables::{Ordinal, Tables};
+use sp_base::{Halt, Place, Rule, Text};
+use sp_tree::{Found, KindOf};
+
+/// The char that a text of length 1 is.
+pub fn char_of(t: &Text) -> Option<Ordinal>
+    ensures { result ≡ char_of t.now }
+{
+    match t.bytes() {
+        [c] => Some(Ordinal {
+            kind: 2,
+            number: *c as i64,
+        }),
+        _ => None,
+    }
+}
+
+/// A number of a text. One that is no `i64` is answered as want of memory.
+pub fn integer(n: u64) -> Result<i64, Halt>
+    ensures { Answers result (Ok (pos n)) }
+{
+    if n <= 9_223_372_036_854_775_807 {
+        Ok(n as i64)
+    } else {
+        Err(Halt::Memory)
+    }
+}
+
+/// An ordinal's number, or another one where there is none.
+pub fn number_or(other: i64, o: Option<Ordinal>) -> i64
+    ensures { result ≡ number_or other o }
+{
+    match o {
+        None => other,
+        Some(o) => o.number,
+    }
+}
+
+/// A type, 0 where it is missing.
+pub fn or_zero(k: Option<u32>) -> u32
+    ensures { result ≡ or_zero k }
+{
+    match k {
+        None => 0,
+        Some(k) => k,
+    }
+}
+
+/// The number and the type of the first field with this name.
+fn field_from(fields: &[(Text, u32)], name: &Text) -> Option<(usize, u32)>
+    ensures { result ≡ field_from 0 name.now fields.now }
+{
+    let mut n = 0;
+    for f in fields {
+        if *name == f.0 {
+            return Some((n, f.1));
+        }
+        n += 1;
+    }
+    None
+}
+
+fn field_in(name: &Text, k: Option<&KindOf>) -> Option<(usize, u32)>
+    ensures { result ≡ field_in name.now (option_copied k.entry) }
+{
+    match k {
+        None => None,
+        Some(KindOf::Fields(fields)) => field_from(fields.items(), name),
+        Some(KindOf::Integer) => None,
+        Some(KindOf::Boolean) => None,
+        Some(KindOf::Char) => None,
+        Some(KindOf::Enumeration(_)) => None,
+        Some(KindOf::Array { .. }) => None,
+        Some(KindOf::Channel(_)) => None,
+    }
+}
+
+fn field_at(t: &Tables, k: u32, name: &Text) -> Option<(usize, u32)>
+    ensures { result ≡ field_in name.now (kind_at t.now k) }
+{
+    field_in(name, t.kind_at(k))
+}
+
+/// A field's number. One that is no `u32` is answered as want of memory.
+fn field_number(f: Option<(usize, u32)>) -> Result<u32, Halt>
+    ensures { Answers result (Ok (field_number f)) }
+{
+    match f {
+        None => Ok(0),
+        Some(f) => {
+            if f.0 < 4_294_967_296 {
+                Ok(f.0 as u32)
+            } else {
+                Err(Halt::Memory)
+            }
+        }
+    }
+}
+
+/// The number of a field of a variable that has a type so far.
+pub fn numbered_field(t: &Tables, k: Option<u32>, name: &Text) -> Result<u32, Halt>
+    ensures { Answers result (Ok (numbered_field t.now k name.now)) }
+{
+    match k {
+        None => Ok(0),
+        Some(k) => field_number(field_at(t, k, name)),
+    }
+}
+
+fn field_kind(f: Option<(usize, u32)>) -> Option<u32>
+    ensures { result ≡ field_kind f }
+{
+    match f {
+        None => None,
+        Some(f) => Some(f.1),
+    }
+}
+
+/// The type of a field of a variable that has a type so far.
+pub fn field(t: &Tables, k: Option<u32>, name: &Text) -> Option<u32>
+    ensures { result ≡ field t.now k name.now }
+{
+    match k {
+        None => None,
+        Some(k) => field_kind(field_at(t, k, name)),
+    }
+}
+
+fn field_found(at: Place, f: Option<(usize, u32)>) -> Found
+    ensures { result ≡ field_found at f }
+{
+    match f {
+        None => breaks(Rule::Y3, at),
+        Some(_) => None,
+    }
+}
+
+/// Y3 at a field of a variable that has a type so far.
+pub fn field_rule(t: &Tables, at: Place, k: Option<u32>, name: &Text) -> Found
+    ensures { result ≡ field_rule t.now at k name.now }
+{
+    match k {
+        None => None,
+        Some(k) => field_found(at, field_at(t, k, name)),
+    }
+}
