@@ -1,0 +1,15 @@
+pub mod Steps
+pub mod Spelling
+pub mod SoFar
+pub mod ReadNames
+pub mod Rows
+pub mod Declares
+pub mod ReadTypes
+pub mod ReadHeadings
+pub mod ReadExpressions
+pub mod ReadFactors
+pub mod ReadParts
+pub mod ReadBlocks
+pub mod ReadStatements
+pub mod Fitting
+pub mod Parsing

@@ -1,0 +1,37 @@
+-- How names are read.
+use Rattle.std.proofs.Common.{◌≡◌, ℕ, List, [], ◌∷◌, ◌++◌, Some, None, cond, refl, sym as back_of, ap, ◌∙◌, subst, append_assoc}
+use Rattle.std.proofs.lemmas.List.{append-nil}
+use Rattle.sp_base.specs.declared.halt.Halt.{Halt}
+use Rattle.sp_tree.specs.declared.token.Token.{Token}
+use Rattle.sp_tree.specs.declared.token.Kind.{Kind}
+use Rattle.sp_tree.specs.declared.token.Kind.TheVariants as kind
+use Rattle.sp_tree.specs.declared.syntax.Name.{Name}
+use Rattle.sp_tree.specs.Spelling.{name_of}
+use Rattle.sp_tree.specs.Words as w
+use Rattle.sp_grammar.specs.Symbols.{Symbol, Value, Values, AName, MoreNames}
+use Rattle.sp_grammar.specs.Table as row
+use Rattle.sp_grammar.specs.Table.{entry, rows, look}
+use Rattle.sp_grammar.specs.Derives.{Derives, DerivesAll, none, and}
+use Rattle.sp_parse.specs.declared.source.Source.{Source}
+use Rattle.sp_parse.specs.Reads.{Within, Ready, HasRead, Halts, Begins, BeginsOther, BeginsWith, SoFar}
+use Rattle.sp_parse.proofs.Steps.{has_read, take, kind_is-other}
+use Rattle.sp_parse.proofs.SoFar.{starts, goes_on, halts_on, ends, skipped}
+
+pub not_name : (k : Kind) → (k ≡ kind.Name → ⊥) → look (rows AName) k ≡ None
+not_name kind.Name h = absurd (h refl)
+not_name k h = refl
+
+pub name_is : {source : Source} {ts r : List Token} {t : Token} {n : Name} → Begins source ts t r → t.kind ≡ kind.Name → n ≡ name_of source.text.now t → HasRead source (AName ∷ []) (λ vs. vs.0) (λ (n : Name). n) ts r n
+name_is {source} {ts} {r} {t} {n} b p e = has_read b.ready (subst (λ l. DerivesAll source.text.now Within (AName ∷ []) l r (name_of source.text.now t, tt)) (back_of b.all) (and (take (entry _ _ row.name) refl t p tt none) none)) e
+
+abbrev pub NamesSoFar : Source → List Name → List Token → List Token → Type 0
+NamesSoFar source all ts rest = SoFar source (AName ∷ MoreNames ∷ []) (λ vs. vs.0 ∷ vs.1.0) MoreNames (λ ns. all ++ ns) ts rest
+
+pub names_start : {source : Source} {ts r : List Token} {n : Name} {all : List Name} → HasRead source (AName ∷ []) (λ vs. vs.0) (λ (n : Name). n) ts r n → all ≡ [] ++ n ∷ [] → NamesSoFar source all ts r
+names_start h e = starts h (λ ns. ap (λ l. l ++ ns) e ∙ ap (λ n. n ∷ ns) h.same)
+
+pub names_more : {source : Source} {ts rest behind left : List Token} {n : Name} (all : List Name) {new : List Name} → NamesSoFar source all ts rest → BeginsWith source rest w.Comma behind → HasRead source (AName ∷ []) (λ vs. vs.0) (λ (n : Name). n) behind left n → new ≡ all ++ n ∷ [] → NamesSoFar source new ts left
+names_more all so b h e = goes_on row.next_name refl refl so b h (λ ns. ap (λ l. l ++ ns) e ∙ append_assoc all _ ns ∙ ap (λ n. all ++ n ∷ ns) h.same)
+
+pub names_end : {source : Source} {ts rest : List Token} (all : List Name) → NamesSoFar source all ts rest → BeginsOther rest w.Comma → HasRead source (AName ∷ MoreNames ∷ []) (λ vs. vs.0 ∷ vs.1.0) (λ (ns : List Name). ns) ts rest all
+names_end all so b = ends so (skipped MoreNames b.token b.rest b.all (ap (λ x. cond x (Some (entry _ _ row.next_name)) None) b.other) refl) so.ready (back_of (append-nil all))

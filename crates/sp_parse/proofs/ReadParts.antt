@@ -1,0 +1,130 @@
+-- How declarations of constants, types and variables are read.
+use Rattle.std.proofs.Common.{◌≡◌, ℕ, true, false, List, [], ◌∷◌, ◌++◌, map, Option, Some, None, cond, refl, sym as back_of, ap, ◌∙◌, subst}
+use Rattle.sp_base.specs.declared.halt.Halt.{Halt}
+use Rattle.sp_tree.specs.declared.token.Token.{Token}
+use Rattle.sp_tree.specs.declared.token.Kind.TheVariants as kind
+use Rattle.sp_tree.specs.declared.syntax.Name.{Name}
+use Rattle.sp_tree.specs.declared.syntax.SynConst.{SynConst}
+use Rattle.sp_tree.specs.declared.syntax.SynKind.{SynKind}
+use Rattle.sp_tree.specs.declared.syntax.SynGroup.{SynGroup}
+use Rattle.sp_tree.specs.declared.syntax.SynPart.{SynPart}
+use Rattle.sp_tree.specs.PlainSyntax as tree
+use Rattle.sp_tree.specs.SyntaxOf.{part_of}
+use Rattle.sp_tree.specs.Grammar.{declared}
+use Rattle.sp_tree.specs.Words as w
+use Rattle.sp_grammar.specs.Symbols.{Symbol, Value, Values, part, AToken, AName, MoreNames, AConstant, AType, Parts, MoreConstants, MoreTypes, MoreVariables}
+use Rattle.sp_grammar.specs.Table as row
+use Rattle.sp_grammar.specs.Table.{Entry, Row, entry, rows, look, gap, kind_is, PartsRow, parts_rows}
+use Rattle.sp_grammar.specs.Derives.{Derives}
+use Rattle.sp_parse.specs.declared.source.Source.{Source}
+use Rattle.sp_parse.specs.Reads.{Within, Ready, breaks, HasRead, Halts, BeginsOther, BeginsWith, SoFar}
+use Rattle.sp_parse.specs.Declares.{and_parts}
+use Rattle.sp_parse.proofs.SoFar.{starts, goes_on, halts_pending}
+use Rattle.sp_parse.proofs.Rows.{look_map, bare_leads, bare_derives}
+use Rattle.sp_parse.proofs.Declares.{name_first, named_halts, halts_longer}
+use Rattle.sp_parse.proofs.ReadFactors.{lay_push}
+
+pub part_behind : (ps : List SynPart) (p : SynPart) (b : tree.Block) → and_parts (ps ++ p ∷ []) b ≡ and_parts ps (declared (part_of p) b)
+part_behind ps p b = ap (λ l. (let r : tree.Block = record { parts = l; body = b.body } in r)) (lay_push tree.Declare part_of ps p b.parts)
+
+pub constant_same : {n m : Name} {a b : SynConst} → n ≡ m → a ≡ b → tree.Const n a ≡ tree.Const m b
+constant_same {n} {m} {a} {b} p q = ap (λ n. tree.Const n a) p ∙ ap (tree.Const m) q
+
+pub type_same : {n m : Name} {a b : SynKind} → n ≡ m → a ≡ b → tree.Kind n a ≡ tree.Kind m b
+type_same {n} {m} {a} {b} p q = ap (λ n. tree.Kind n a) p ∙ ap (tree.Kind m) q
+
+abbrev variable_of : SynGroup → tree.Part
+variable_of g = tree.Var g.names g.kind
+
+pub variable_same : {g h : SynGroup} → g ≡ h → tree.Var g.names g.kind ≡ tree.Var h.names h.kind
+variable_same p = ap variable_of p
+
+has_name : {source : Source} {ts r : List Token} {A : Type 0} (b : BeginsWith source ts kind.Name r) → kind_is kind.Name b.token.kind ≡ false → A
+has_name b n = absurd (let x : true ≡ false = back_of (ap (kind_is kind.Name) b.is) ∙ n in cc)
+
+-- constants
+abbrev pub ConstantsRead : Source → List Token → List Token → SynPart → Type 0
+ConstantsRead source ts r p = HasRead source (AName ∷ AToken w.Equal ∷ AConstant ∷ AToken w.Semicolon ∷ []) (λ vs. tree.Const vs.0 vs.1.1.0) part_of ts r p
+
+abbrev pub ConstantsSoFar : Source → ℕ → List SynPart → List SynPart → List Token → List Token → Type 0
+ConstantsSoFar source d before all ts rest = SoFar source (AName ∷ AToken w.Equal ∷ AConstant ∷ AToken w.Semicolon ∷ MoreConstants d ∷ []) (λ vs. and_parts before (declared (tree.Const vs.0 vs.1.1.0) vs.1.1.1.1.0)) (MoreConstants d) (λ b. and_parts all b) ts rest
+
+pub constants_start : {source : Source} {ts r : List Token} {p : SynPart} (before : List SynPart) {all : List SynPart} → ConstantsRead source ts r p → all ≡ before ++ p ∷ [] → (d : ℕ) → ConstantsSoFar source d before all ts r
+constants_start {p = p} before h e d = starts h (λ b. ap (λ l. and_parts l b) e ∙ part_behind before p b ∙ ap (λ q. and_parts before (declared q b)) h.same)
+
+pub constants_more : {source : Source} {ts rest left : List Token} {p : SynPart} (before all : List SynPart) {new : List SynPart} → ((d : ℕ) → ConstantsSoFar source d before all ts rest) → ConstantsRead source rest left p → new ≡ all ++ p ∷ [] → (d : ℕ) → ConstantsSoFar source d before new ts left
+constants_more {p = p} before all so h e d =
+    let n = name_first (so 0).ready h in
+    goes_on row.next_constant refl refl (so d) n.begins n.read (λ b. ap (λ l. and_parts l b) e ∙ part_behind all p b ∙ ap (λ q. and_parts all (declared q b)) n.same)
+
+pub no_constants : {source : Source} {ts rest behind : List Token} (before all : List SynPart) → ((d : ℕ) → ConstantsSoFar source d before all ts rest) → BeginsWith source rest kind.Name behind → (e : Halt) → Halts source (AName ∷ AToken w.Equal ∷ AConstant ∷ AToken w.Semicolon ∷ []) rest e → (d : ℕ) → Halts source (AName ∷ AToken w.Equal ∷ AConstant ∷ AToken w.Semicolon ∷ MoreConstants d ∷ []) ts e
+no_constants {source} {rest = rest} before all so b e h d = halts_pending (so d) e (named_halts source row.next_constant refl refl b.token _ b.all (has_name b) refl e (halts_longer source (AName ∷ AToken w.Equal ∷ AConstant ∷ AToken w.Semicolon ∷ []) (MoreConstants d ∷ []) rest e h))
+
+look_constants : (d : ℕ) (t : Token) → kind_is kind.Name t.kind ≡ false → look (rows (MoreConstants d)) t.kind ≡ look (map (λ (e : Entry (PartsRow d)). entry e.key e.left (row.after_constants e.row)) (parts_rows d)) t.kind
+look_constants d t h = ap (λ x. cond x (Some (entry kind.Name (AToken w.Equal ∷ AConstant ∷ AToken w.Semicolon ∷ MoreConstants d ∷ []) row.next_constant)) (look (map (λ (e : Entry (PartsRow d)). entry e.key e.left (row.after_constants e.row)) (parts_rows d)) t.kind)) h
+
+pub constants_end : {source : Source} {ts rest : List Token} (before all : List SynPart) → ((d : ℕ) → ConstantsSoFar source d before all ts rest) → BeginsOther rest kind.Name → (d : ℕ) → SoFar source (AName ∷ AToken w.Equal ∷ AConstant ∷ AToken w.Semicolon ∷ MoreConstants d ∷ []) (λ vs. and_parts before (declared (tree.Const vs.0 vs.1.1.0) vs.1.1.1.1.0)) (Parts d) (λ b. and_parts all b) ts rest
+constants_end {source} {ts} {rest} before all so b d = record {
+  is = λ r v x. (so d).is r v (subst (λ l. Derives source.text.now Within (MoreConstants d) l r v) (back_of b.all) (bare_derives source (PartsRow d) (MoreConstants d) (Parts d) (λ e. row.after_constants e.row) (λ e. row.parts e.row) (λ v. v) (λ e t us. refl) b.token b.rest r (look (parts_rows d) b.token.kind) (look_constants d b.token b.other ∙ look_map (λ e. entry e.key e.left (row.after_constants e.row)) (λ e. refl) (parts_rows d) b.token.kind) (look_map (λ e. entry e.key e.left (row.parts e.row)) (λ e. refl) (parts_rows d) b.token.kind) refl tt (subst (λ l. Derives source.text.now Within (Parts d) l r v) b.all x)));
+  leads = λ q. (so d).leads q ∙ ap (λ l. breaks source l (MoreConstants d ∷ q)) b.all ∙ bare_leads source (PartsRow d) (MoreConstants d) (Parts d) (λ e. row.after_constants e.row) (λ e. row.parts e.row) b.token b.rest (look (parts_rows d) b.token.kind) (look_constants d b.token b.other ∙ look_map (λ e. entry e.key e.left (row.after_constants e.row)) (λ e. refl) (parts_rows d) b.token.kind) (look_map (λ e. entry e.key e.left (row.parts e.row)) (λ e. refl) (parts_rows d) b.token.kind) refl refl refl refl q ∙ ap (λ l. breaks source l (Parts d ∷ q)) (back_of b.all);
+  shorter = (so d).shorter;
+  ready = (so d).ready;
+}
+
+-- types
+abbrev pub TypesRead : Source → List Token → List Token → SynPart → Type 0
+TypesRead source ts r p = HasRead source (AName ∷ AToken w.Equal ∷ AType ∷ AToken w.Semicolon ∷ []) (λ vs. tree.Kind vs.0 vs.1.1.0) part_of ts r p
+
+abbrev pub TypesSoFar : Source → ℕ → List SynPart → List SynPart → List Token → List Token → Type 0
+TypesSoFar source d before all ts rest = SoFar source (AName ∷ AToken w.Equal ∷ AType ∷ AToken w.Semicolon ∷ MoreTypes d ∷ []) (λ vs. and_parts before (declared (tree.Kind vs.0 vs.1.1.0) vs.1.1.1.1.0)) (MoreTypes d) (λ b. and_parts all b) ts rest
+
+pub types_start : {source : Source} {ts r : List Token} {p : SynPart} (before : List SynPart) {all : List SynPart} → TypesRead source ts r p → all ≡ before ++ p ∷ [] → (d : ℕ) → TypesSoFar source d before all ts r
+types_start {p = p} before h e d = starts h (λ b. ap (λ l. and_parts l b) e ∙ part_behind before p b ∙ ap (λ q. and_parts before (declared q b)) h.same)
+
+pub types_more : {source : Source} {ts rest left : List Token} {p : SynPart} (before all : List SynPart) {new : List SynPart} → ((d : ℕ) → TypesSoFar source d before all ts rest) → TypesRead source rest left p → new ≡ all ++ p ∷ [] → (d : ℕ) → TypesSoFar source d before new ts left
+types_more {p = p} before all so h e d =
+    let n = name_first (so 0).ready h in
+    goes_on row.next_type refl refl (so d) n.begins n.read (λ b. ap (λ l. and_parts l b) e ∙ part_behind all p b ∙ ap (λ q. and_parts all (declared q b)) n.same)
+
+pub no_types : {source : Source} {ts rest behind : List Token} (before all : List SynPart) → ((d : ℕ) → TypesSoFar source d before all ts rest) → BeginsWith source rest kind.Name behind → (e : Halt) → Halts source (AName ∷ AToken w.Equal ∷ AType ∷ AToken w.Semicolon ∷ []) rest e → (d : ℕ) → Halts source (AName ∷ AToken w.Equal ∷ AType ∷ AToken w.Semicolon ∷ MoreTypes d ∷ []) ts e
+no_types {source} {rest = rest} before all so b e h d = halts_pending (so d) e (named_halts source row.next_type refl refl b.token _ b.all (has_name b) refl e (halts_longer source (AName ∷ AToken w.Equal ∷ AType ∷ AToken w.Semicolon ∷ []) (MoreTypes d ∷ []) rest e h))
+
+look_types : (d : ℕ) (t : Token) → kind_is kind.Name t.kind ≡ false → look (rows (MoreTypes d)) t.kind ≡ look (map (λ (e : Entry (PartsRow d)). entry e.key e.left (row.after_types e.row)) (parts_rows d)) t.kind
+look_types d t h = ap (λ x. cond x (Some (entry kind.Name (AToken w.Equal ∷ AType ∷ AToken w.Semicolon ∷ MoreTypes d ∷ []) row.next_type)) (look (map (λ (e : Entry (PartsRow d)). entry e.key e.left (row.after_types e.row)) (parts_rows d)) t.kind)) h
+
+pub types_end : {source : Source} {ts rest : List Token} (before all : List SynPart) → ((d : ℕ) → TypesSoFar source d before all ts rest) → BeginsOther rest kind.Name → (d : ℕ) → SoFar source (AName ∷ AToken w.Equal ∷ AType ∷ AToken w.Semicolon ∷ MoreTypes d ∷ []) (λ vs. and_parts before (declared (tree.Kind vs.0 vs.1.1.0) vs.1.1.1.1.0)) (Parts d) (λ b. and_parts all b) ts rest
+types_end {source} {ts} {rest} before all so b d = record {
+  is = λ r v x. (so d).is r v (subst (λ l. Derives source.text.now Within (MoreTypes d) l r v) (back_of b.all) (bare_derives source (PartsRow d) (MoreTypes d) (Parts d) (λ e. row.after_types e.row) (λ e. row.parts e.row) (λ v. v) (λ e t us. refl) b.token b.rest r (look (parts_rows d) b.token.kind) (look_types d b.token b.other ∙ look_map (λ e. entry e.key e.left (row.after_types e.row)) (λ e. refl) (parts_rows d) b.token.kind) (look_map (λ e. entry e.key e.left (row.parts e.row)) (λ e. refl) (parts_rows d) b.token.kind) refl tt (subst (λ l. Derives source.text.now Within (Parts d) l r v) b.all x)));
+  leads = λ q. (so d).leads q ∙ ap (λ l. breaks source l (MoreTypes d ∷ q)) b.all ∙ bare_leads source (PartsRow d) (MoreTypes d) (Parts d) (λ e. row.after_types e.row) (λ e. row.parts e.row) b.token b.rest (look (parts_rows d) b.token.kind) (look_types d b.token b.other ∙ look_map (λ e. entry e.key e.left (row.after_types e.row)) (λ e. refl) (parts_rows d) b.token.kind) (look_map (λ e. entry e.key e.left (row.parts e.row)) (λ e. refl) (parts_rows d) b.token.kind) refl refl refl refl q ∙ ap (λ l. breaks source l (Parts d ∷ q)) (back_of b.all);
+  shorter = (so d).shorter;
+  ready = (so d).ready;
+}
+
+-- variables
+abbrev pub VariablesRead : Source → List Token → List Token → SynPart → Type 0
+VariablesRead source ts r p = HasRead source (AName ∷ MoreNames ∷ AToken w.Colon ∷ AName ∷ AToken w.Semicolon ∷ []) (λ vs. tree.Var (vs.0 ∷ vs.1.0) vs.1.1.1.0) part_of ts r p
+
+abbrev pub VariablesSoFar : Source → ℕ → List SynPart → List SynPart → List Token → List Token → Type 0
+VariablesSoFar source d before all ts rest = SoFar source (AName ∷ MoreNames ∷ AToken w.Colon ∷ AName ∷ AToken w.Semicolon ∷ MoreVariables d ∷ []) (λ vs. and_parts before (declared (tree.Var (vs.0 ∷ vs.1.0) vs.1.1.1.0) vs.1.1.1.1.1.0)) (MoreVariables d) (λ b. and_parts all b) ts rest
+
+pub variables_start : {source : Source} {ts r : List Token} {p : SynPart} (before : List SynPart) {all : List SynPart} → VariablesRead source ts r p → all ≡ before ++ p ∷ [] → (d : ℕ) → VariablesSoFar source d before all ts r
+variables_start {p = p} before h e d = starts h (λ b. ap (λ l. and_parts l b) e ∙ part_behind before p b ∙ ap (λ q. and_parts before (declared q b)) h.same)
+
+pub variables_more : {source : Source} {ts rest left : List Token} {p : SynPart} (before all : List SynPart) {new : List SynPart} → ((d : ℕ) → VariablesSoFar source d before all ts rest) → VariablesRead source rest left p → new ≡ all ++ p ∷ [] → (d : ℕ) → VariablesSoFar source d before new ts left
+variables_more {p = p} before all so h e d =
+    let n = name_first (so 0).ready h in
+    goes_on row.next_variable refl refl (so d) n.begins n.read (λ b. ap (λ l. and_parts l b) e ∙ part_behind all p b ∙ ap (λ q. and_parts all (declared q b)) n.same)
+
+pub no_variables : {source : Source} {ts rest behind : List Token} (before all : List SynPart) → ((d : ℕ) → VariablesSoFar source d before all ts rest) → BeginsWith source rest kind.Name behind → (e : Halt) → Halts source (AName ∷ MoreNames ∷ AToken w.Colon ∷ AName ∷ AToken w.Semicolon ∷ []) rest e → (d : ℕ) → Halts source (AName ∷ MoreNames ∷ AToken w.Colon ∷ AName ∷ AToken w.Semicolon ∷ MoreVariables d ∷ []) ts e
+no_variables {source} {rest = rest} before all so b e h d = halts_pending (so d) e (named_halts source row.next_variable refl refl b.token _ b.all (has_name b) refl e (halts_longer source (AName ∷ MoreNames ∷ AToken w.Colon ∷ AName ∷ AToken w.Semicolon ∷ []) (MoreVariables d ∷ []) rest e h))
+
+look_variables : (d : ℕ) (t : Token) → kind_is kind.Name t.kind ≡ false → look (rows (MoreVariables d)) t.kind ≡ look (map (λ (e : Entry (PartsRow d)). entry e.key e.left (row.after_variables e.row)) (parts_rows d)) t.kind
+look_variables d t h = ap (λ x. cond x (Some (entry kind.Name (MoreNames ∷ AToken w.Colon ∷ AName ∷ AToken w.Semicolon ∷ MoreVariables d ∷ []) row.next_variable)) (look (map (λ (e : Entry (PartsRow d)). entry e.key e.left (row.after_variables e.row)) (parts_rows d)) t.kind)) h
+
+pub variables_end : {source : Source} {ts rest : List Token} (before all : List SynPart) → ((d : ℕ) → VariablesSoFar source d before all ts rest) → BeginsOther rest kind.Name → (d : ℕ) → SoFar source (AName ∷ MoreNames ∷ AToken w.Colon ∷ AName ∷ AToken w.Semicolon ∷ MoreVariables d ∷ []) (λ vs. and_parts before (declared (tree.Var (vs.0 ∷ vs.1.0) vs.1.1.1.0) vs.1.1.1.1.1.0)) (Parts d) (λ b. and_parts all b) ts rest
+variables_end {source} {ts} {rest} before all so b d = record {
+  is = λ r v x. (so d).is r v (subst (λ l. Derives source.text.now Within (MoreVariables d) l r v) (back_of b.all) (bare_derives source (PartsRow d) (MoreVariables d) (Parts d) (λ e. row.after_variables e.row) (λ e. row.parts e.row) (λ v. v) (λ e t us. refl) b.token b.rest r (look (parts_rows d) b.token.kind) (look_variables d b.token b.other ∙ look_map (λ e. entry e.key e.left (row.after_variables e.row)) (λ e. refl) (parts_rows d) b.token.kind) (look_map (λ e. entry e.key e.left (row.parts e.row)) (λ e. refl) (parts_rows d) b.token.kind) refl tt (subst (λ l. Derives source.text.now Within (Parts d) l r v) b.all x)));
+  leads = λ q. (so d).leads q ∙ ap (λ l. breaks source l (MoreVariables d ∷ q)) b.all ∙ bare_leads source (PartsRow d) (MoreVariables d) (Parts d) (λ e. row.after_variables e.row) (λ e. row.parts e.row) b.token b.rest (look (parts_rows d) b.token.kind) (look_variables d b.token b.other ∙ look_map (λ e. entry e.key e.left (row.after_variables e.row)) (λ e. refl) (parts_rows d) b.token.kind) (look_map (λ e. entry e.key e.left (row.parts e.row)) (λ e. refl) (parts_rows d) b.token.kind) refl refl refl refl q ∙ ap (λ l. breaks source l (Parts d ∷ q)) (back_of b.all);
+  shorter = (so d).shorter;
+  ready = (so d).ready;
+}

@@ -1,0 +1,72 @@
+-- How the fields of a record are read.
+use Rattle.std.proofs.Common.{◌≡◌, ℕ, false, List, [], ◌∷◌, ◌++◌, Some, None, cond, refl, sym as back_of, ap, ◌∙◌, append_assoc}
+use Rattle.std.proofs.lemmas.List.{append-nil}
+use Rattle.sp_base.specs.declared.halt.Halt.{Halt}
+use Rattle.sp_tree.specs.declared.token.Token.{Token}
+use Rattle.sp_tree.specs.declared.token.Kind.{Kind}
+use Rattle.sp_tree.specs.declared.token.Kind.TheVariants as kind
+use Rattle.sp_tree.specs.declared.syntax.Name.{Name}
+use Rattle.sp_tree.specs.declared.syntax.SynConst.{SynConst}
+use Rattle.sp_tree.specs.declared.syntax.SynGroup.{SynGroup}
+use Rattle.sp_tree.specs.declared.syntax.SynKind.TheVariants as kinds
+use Rattle.sp_tree.specs.Words as w
+use Rattle.sp_tree.specs.Spelling.{name_of}
+use Rattle.sp_grammar.specs.Symbols.{Symbol, Value, Values, AToken, AName, MoreNames, AType, MoreFields, FieldOrEnd}
+use Rattle.sp_grammar.specs.Table as row
+use Rattle.sp_grammar.specs.Table.{entry, rows, look, kind_is}
+use Rattle.sp_parse.specs.declared.source.Source.{Source}
+use Rattle.sp_parse.specs.Reads.{Ready, HasRead, Halts, BeginsOther, BeginsWith, SoFar}
+use Rattle.sp_parse.proofs.Steps.{has_read}
+use Rattle.sp_parse.proofs.SoFar.{starts, chain, nothing_yet, halts_pending, halts_close}
+use Rattle.sp_parse.proofs.Declares.{closes, none_if, name_first, named_halts, halts_longer}
+
+-- names and their type
+abbrev pub GroupSymbols : List Symbol
+GroupSymbols = AName ∷ MoreNames ∷ AToken w.Colon ∷ AName ∷ []
+
+abbrev pub group_value : Values GroupSymbols → SynGroup
+group_value vs = record { names = vs.0 ∷ vs.1.0; kind = vs.1.1.1.0 }
+
+abbrev pub GroupRead : Source → List Token → List Token → SynGroup → Type 0
+GroupRead source ts r g = HasRead source GroupSymbols group_value (λ (g : SynGroup). g) ts r g
+
+pub group_same : {ns ms : List Name} {n m : Name} → ns ≡ ms → n ≡ m → (let g : SynGroup = record { names = ns; kind = n } in g) ≡ record { names = ms; kind = m }
+group_same {ns} {ms} {n} {m} p q = ap (λ ns. record { names = ns; kind = n }) p ∙ ap (λ n. record { names = ms; kind = n }) q
+
+pub array_same : {a b e f : SynConst} {n m : Name} → a ≡ e → b ≡ f → n ≡ m → kinds.Array a b n ≡ kinds.Array e f m
+array_same {a} {b} {e} {f} {n} {m} p q r = ap (λ a. kinds.Array a b n) p ∙ ap (λ b. kinds.Array e b n) q ∙ ap (λ n. kinds.Array e f n) r
+
+-- tokens with which no type begins
+pub no_type : (k : Kind) → kind_is kind.Name k ≡ false → kind_is w.Open k ≡ false → kind_is w.Array k ≡ false → kind_is w.Record k ≡ false → kind_is w.Times k ≡ false → look (rows AType) k ≡ None
+no_type k a b c d e = none_if _ a (none_if _ b (none_if _ c (none_if _ d (none_if _ e refl))))
+
+abbrev pub FieldsSoFar : Source → List SynGroup → List Token → List Token → Type 0
+FieldsSoFar source all ts rest = SoFar source (AName ∷ MoreNames ∷ AToken w.Colon ∷ AName ∷ MoreFields ∷ []) (λ vs. record { names = vs.0 ∷ vs.1.0; kind = vs.1.1.1.0 } ∷ vs.1.1.1.1.0) MoreFields (λ gs. all ++ gs) ts rest
+
+-- behind a `;`
+abbrev pub FieldsUpTo : Source → List SynGroup → List Token → List Token → Type 0
+FieldsUpTo source all ts rest = SoFar source (AName ∷ MoreNames ∷ AToken w.Colon ∷ AName ∷ MoreFields ∷ []) (λ vs. record { names = vs.0 ∷ vs.1.0; kind = vs.1.1.1.0 } ∷ vs.1.1.1.1.0) FieldOrEnd (λ gs. all ++ gs) ts rest
+
+pub fields_start : {source : Source} {ts r : List Token} {g : SynGroup} {all : List SynGroup} → GroupRead source ts r g → all ≡ [] ++ g ∷ [] → FieldsSoFar source all ts r
+fields_start h e = starts h (λ gs. ap (λ l. l ++ gs) e ∙ ap (λ g. g ∷ gs) h.same)
+
+pub fields_on : {source : Source} {ts rest behind : List Token} (all : List SynGroup) → FieldsSoFar source all ts rest → BeginsWith source rest w.Semicolon behind → FieldsUpTo source all ts behind
+fields_on all so b = chain row.fields_go_on refl refl so b (nothing_yet FieldOrEnd (λ vs. all ++ vs.0) (λ gs. all ++ gs) (λ gs. refl) b.ready) (λ vs. refl)
+
+pub fields_more : {source : Source} {ts rest left : List Token} {g : SynGroup} (all : List SynGroup) {new : List SynGroup} → FieldsUpTo source all ts rest → GroupRead source rest left g → new ≡ all ++ g ∷ [] → FieldsSoFar source new ts left
+fields_more {source} {ts} {rest} {left} {g} all {new} so h e =
+    let n = name_first so.ready h in
+    let text = source.text.now in
+    chain row.next_field refl refl so n.begins (starts {of = λ vs. all ++ record { names = name_of text n.begins.token ∷ vs.0; kind = vs.1.1.0 } ∷ vs.1.1.1.0} n.read (λ gs. ap (λ l. l ++ gs) e ∙ append_assoc all (g ∷ []) gs ∙ ap (λ g. all ++ g ∷ gs) n.same)) (λ vs. refl)
+
+pub fields_close : {source : Source} {ts rest r : List Token} (all : List SynGroup) → FieldsSoFar source all ts rest → BeginsWith source rest w.End r → HasRead source (AName ∷ MoreNames ∷ AToken w.Colon ∷ AName ∷ MoreFields ∷ []) (λ vs. record { names = vs.0 ∷ vs.1.0; kind = vs.1.1.1.0 } ∷ vs.1.1.1.1.0) (λ (gs : List SynGroup). gs) ts r all
+fields_close all so b = closes row.fields_end refl refl so b (back_of (append-nil all))
+
+pub fields_up : {source : Source} {ts rest r : List Token} (all : List SynGroup) → FieldsUpTo source all ts rest → BeginsWith source rest w.End r → HasRead source (AName ∷ MoreNames ∷ AToken w.Colon ∷ AName ∷ MoreFields ∷ []) (λ vs. record { names = vs.0 ∷ vs.1.0; kind = vs.1.1.1.0 } ∷ vs.1.1.1.1.0) (λ (gs : List SynGroup). gs) ts r all
+fields_up all so b = closes row.no_field refl refl so b (back_of (append-nil all))
+
+pub no_fields : {source : Source} {ts rest : List Token} (all : List SynGroup) → FieldsSoFar source all ts rest → BeginsOther rest w.Semicolon → (e : Halt) → Halts source (AToken w.End ∷ []) rest e → Halts source (AName ∷ MoreNames ∷ AToken w.Colon ∷ AName ∷ MoreFields ∷ []) ts e
+no_fields all so b e h = halts_close row.fields_end b (ap (λ x. cond (kind_is w.End b.token.kind) (Some (entry w.End [] row.fields_end)) (cond x (Some (entry w.Semicolon (FieldOrEnd ∷ []) row.fields_go_on)) None)) b.other) refl refl so e h
+
+pub no_next_field : {source : Source} {ts rest : List Token} (all : List SynGroup) → FieldsUpTo source all ts rest → BeginsOther rest w.End → (e : Halt) → Halts source GroupSymbols rest e → Halts source (AName ∷ MoreNames ∷ AToken w.Colon ∷ AName ∷ MoreFields ∷ []) ts e
+no_next_field {source} {ts} {rest} all so b e h = halts_pending so e (named_halts source row.next_field refl refl b.token b.rest b.all (λ n. none_if _ b.other (none_if _ n refl)) refl e (halts_longer source GroupSymbols (MoreFields ∷ []) rest e h))

@@ -1,0 +1,133 @@
+use Rattle.std.proofs.Common.{arith, refl, suc, [], ◌∷◌, ◌++◌, ap, ◌∙◌, add-one}
+use Rattle.std.proofs.lemmas.Result.{err_from_is_err_and}
+use Rattle.sp_tree.specs.declared.token.Kind.TheVariants as kind
+use Rattle.sp_tree.specs.Words as w
+use Rattle.sp_tree.specs.PlainSyntax as tree
+use Rattle.sp_grammar.specs.Symbols as sym
+use Rattle.sp_grammar.specs.Table as row
+use Rattle.sp_grammar.specs.Table.{rows}
+use Rattle.sp_grammar.specs.Derives.{none, and}
+use Rattle.sp_parse.proofs.Steps.{has_read, one, expected, fails, read_err, passed, not_passed, pass_halts}
+use Rattle.sp_parse.proofs.Rows.{with_at, other_at, none_at, row_reads, row_derives}
+use Rattle.sp_parse.proofs.ReadStatements.{form_result, empty_is, compound_is, sequence_is, statements_start, statements_halt, statements_more, statements_done, no_other, other_halts, other_is, repeat_is, arm_is, arms_start, arms_halt, arms_end_halt, arms_more, arms_last, arms_close_halt, arms_done, case_is, branches_start, branches_halt, branches_more, branches_close_halt, branches_done, parallel_is, labels_start, labels_halt, labels_more, labels_close_halt, labels_done, call_halts, call_is, becomes_halts, becomes_is, plain_call, target_result, no_target}
+use Rattle.sp_parse.proofs.statements.+statement.Goals as goal
+
+pub statement-returns-then-is : goal.statement-returns-then-is
+statement-returns-then-is t c = form_result c.args.source.now c.args.depth _ (λ n. sym.AfterName n ∷ []) (λ n. row.form_name) refl (with_at kind.Name c.in_ok-first.ensures c.is.ensures c.if-is.true) (add-one c.args.depth) (omega arith) (λ n vs. vs.0 c.in_ok-name.name) (λ n vs. ap vs.0 c.in_ok-name.ensures) _ c.after_name.ensures
+
+pub statement-returns-then-is-2 : goal.statement-returns-then-is-2
+statement-returns-then-is-2 t c = form_result c.args.source.now c.args.depth _ (λ n. sym.AStatement n ∷ sym.MoreStatements n ∷ sym.AToken w.End ∷ []) (λ n. row.form_begin) refl (with_at w.Begin c.in_ok-first.ensures c.is-2.ensures c.if-is-2.true) (add-one c.args.depth) (omega arith) (λ n vs. tree.Sequence (tree.AndThen vs.0 vs.1.0)) (λ n vs. refl) _ c.sequence.ensures
+
+pub statement-returns-then-is-3 : goal.statement-returns-then-is-3
+statement-returns-then-is-3 t c = form_result c.args.source.now c.args.depth _ (λ n. sym.AnExpression n ∷ sym.AToken w.Then ∷ sym.AStatement n ∷ sym.AnElse n ∷ []) (λ n. row.form_if) refl (with_at w.If c.in_ok-first.ensures c.is-3.ensures c.if-is-3.true) (add-one c.args.depth) (omega arith) (λ n vs. tree.If vs.0 vs.1.1.0 vs.1.1.1.0) (λ n vs. refl) _ c.choice.ensures
+
+pub statement-returns-then-is-4 : goal.statement-returns-then-is-4
+statement-returns-then-is-4 t c = form_result c.args.source.now c.args.depth _ (λ n. sym.AnExpression n ∷ sym.AToken w.Do ∷ sym.AStatement n ∷ []) (λ n. row.form_while) refl (with_at w.While c.in_ok-first.ensures c.is-4.ensures c.if-is-4.true) (add-one c.args.depth) (omega arith) (λ n vs. tree.While vs.0 vs.1.1.0) (λ n vs. refl) _ c.while_loop.ensures
+
+pub statement-returns-then-is-5 : goal.statement-returns-then-is-5
+statement-returns-then-is-5 t c = form_result c.args.source.now c.args.depth _ (λ n. sym.AStatement n ∷ sym.MoreStatements n ∷ sym.AToken w.Until ∷ sym.AnExpression n ∷ []) (λ n. row.form_repeat) refl (with_at w.Repeat c.in_ok-first.ensures c.is-5.ensures c.if-is-5.true) (add-one c.args.depth) (omega arith) (λ n vs. tree.Repeat (tree.AndThen vs.0 vs.1.0) vs.1.1.1.0) (λ n vs. refl) _ c.repeat_loop.ensures
+
+pub statement-returns-then-is-6 : goal.statement-returns-then-is-6
+statement-returns-then-is-6 t c = form_result c.args.source.now c.args.depth _ (λ n. sym.AName ∷ sym.AToken w.Becomes ∷ sym.AnExpression n ∷ sym.ADirection ∷ sym.AnExpression n ∷ sym.AToken w.Do ∷ sym.AStatement n ∷ []) (λ n. row.form_for) refl (with_at w.For c.in_ok-first.ensures c.is-6.ensures c.if-is-6.true) (add-one c.args.depth) (omega arith) (λ n vs. tree.For vs.0 vs.1.1.0 vs.1.1.1.0 vs.1.1.1.1.0 vs.1.1.1.1.1.1.0) (λ n vs. refl) _ c.for_loop.ensures
+
+pub statement-returns-then-is-7 : goal.statement-returns-then-is-7
+statement-returns-then-is-7 t c = form_result c.args.source.now c.args.depth _ (λ n. sym.AnExpression n ∷ sym.AToken w.Of ∷ sym.AConstant ∷ sym.MoreLabels ∷ sym.AStatement n ∷ sym.MoreArms n ∷ []) (λ n. row.form_case) refl (with_at w.Case c.in_ok-first.ensures c.is-7.ensures c.if-is-7.true) (add-one c.args.depth) (omega arith) (λ n vs. tree.Case vs.0 (tree.Or (tree.On (vs.1.1.0 ∷ vs.1.1.1.0) vs.1.1.1.1.0) vs.1.1.1.1.1.0)) (λ n vs. refl) _ c.case_choice.ensures
+
+pub statement-returns-then-is-8 : goal.statement-returns-then-is-8
+statement-returns-then-is-8 t c = form_result c.args.source.now c.args.depth _ (λ n. sym.AStatement n ∷ sym.MoreStatements n ∷ sym.MoreBranches n ∷ []) (λ n. row.form_parallel) refl (with_at w.Parallel c.in_ok-first.ensures c.is-8.ensures c.if-is-8.true) (add-one c.args.depth) (omega arith) (λ n vs. tree.Parallel (tree.Beside (tree.AndThen vs.0 vs.1.0) vs.1.1.0)) (λ n vs. refl) _ c.parallel.ensures
+
+pub statement-returns-then-is-9 : goal.statement-returns-then-is-9
+statement-returns-then-is-9 t c = form_result c.args.source.now c.args.depth _ (λ n. sym.AName ∷ sym.AToken w.Becomes ∷ sym.AnExpression n ∷ sym.AToken w.To ∷ sym.AnExpression n ∷ sym.AToken w.Do ∷ sym.AStatement n ∷ []) (λ n. row.form_forall) refl (with_at w.Forall c.in_ok-first.ensures c.is-9.ensures c.if-is-9.true) (add-one c.args.depth) (omega arith) (λ n vs. tree.Forall vs.0 vs.1.1.0 vs.1.1.1.1.0 vs.1.1.1.1.1.1.0) (λ n vs. refl) _ c.forall.ensures
+
+pub statement-returns-then-is-10 : goal.statement-returns-then-is-10
+statement-returns-then-is-10 t c = form_result c.args.source.now c.args.depth _ (λ n. sym.AnExpression n ∷ []) (λ n. row.form_assume) refl (with_at w.Assume c.in_ok-first.ensures c.is-10.ensures c.if-is-10.true) (add-one c.args.depth) (omega arith) (λ n vs. tree.Assume vs.0) (λ n vs. refl) _ c.assume.ensures
+
+pub statement-returns : goal.statement-returns
+statement-returns t c = empty_is c.args.source.now c.args.depth c.empty_statement.result c.requires c.in_ok-first.ensures (none_at (rows (sym.AStatement c.args.depth)) c.in_ok-first.first.kind (other_at c.in_ok-first.first kind.Name c.is.ensures c.if-is.false, (other_at c.in_ok-first.first w.Begin c.is-2.ensures c.if-is-2.false, (other_at c.in_ok-first.first w.If c.is-3.ensures c.if-is-3.false, (other_at c.in_ok-first.first w.While c.is-4.ensures c.if-is-4.false, (other_at c.in_ok-first.first w.Repeat c.is-5.ensures c.if-is-5.false, (other_at c.in_ok-first.first w.For c.is-6.ensures c.if-is-6.false, (other_at c.in_ok-first.first w.Case c.is-7.ensures c.if-is-7.false, (other_at c.in_ok-first.first w.Parallel c.is-8.ensures c.if-is-8.false, (other_at c.in_ok-first.first w.Forall c.is-9.ensures c.if-is-9.false, (other_at c.in_ok-first.first w.Assume c.is-10.ensures c.if-is-10.false, tt))))))))))) c.empty_statement.ensures
+
+pub compound-returns : goal.compound-returns
+compound-returns t c = compound_is c.args.source.now c.args.depth c.in_ok-all.all c.in_ok-all.ensures c.in_ok-rest.ensures
+
+pub sequence-returns : goal.sequence-returns
+sequence-returns t c = sequence_is c.args.source.now c.args.depth c.args.at c.in_ok-all.all c.sequence_statement.result c.in_ok-all.ensures c.sequence_statement.ensures
+
+pub statements-more-init : goal.statements-more-init
+statements-more-init t c = statements_start c.args.source.now c.args.depth c.in_ok-first.first c.push.new.self c.in_ok-first.ensures (c.in_ok-push.ensures.ok ∙ ap (λ l. l ++ c.in_ok-first.first ∷ []) c.new-all.ensures)
+
+pub statements-returns-in_err-next : goal.statements-returns-in_err-next
+statements-returns-in_err-next t c = read_err _ _ _ _ _ c.from_residual-in_err-next.result _ (err_from_is_err_and c.from_residual-in_err-next.result c.from_residual-in_err-next.ensures.1) (statements_halt c.args.source.now c.args.depth c.more.all c.more.invariant (passed c.args.source.now w.Semicolon c.more.rest.now _ c.in-Some.after c.in_ok-after.ensures c.in-Some.is) _ c.in_err-next.ensures)
+
+pub statements-more-preserved : goal.statements-more-preserved
+statements-more-preserved t c = statements_more c.args.source.now c.args.depth c.in_ok-next.next c.more.all c.push-in-Some.new.self c.more.invariant (passed c.args.source.now w.Semicolon c.more.rest.now _ c.in-Some.after c.in_ok-after.ensures c.in-Some.is) c.in_ok-next.ensures c.in_ok-push-2.ensures.ok
+
+pub statements-returns : goal.statements-returns
+statements-returns t c = statements_done c.args.source.now c.args.depth c.more.all c.more.invariant (not_passed c.args.source.now w.Semicolon c.more.rest.now _ c.in_ok-after.ensures c.in_default.is)
+
+pub choice-returns : goal.choice-returns
+choice-returns t c = has_read c.in_ok-other.ensures.ready (and (one c.in_ok-test.ensures) (and (expected c.in_ok-rest.ensures) (and (one c.in_ok-body.ensures) (and (one c.in_ok-other.ensures) none)))) (c.in_ok-if_statement.ensures ∙ (λ i. tree.Does c.args.at (tree.If (c.in_ok-test.ensures.same i) (c.in_ok-body.ensures.same i) (c.in_ok-other.ensures.same i))))
+
+pub otherwise-returns-in_default : goal.otherwise-returns-in_default
+otherwise-returns-in_default t c = no_other c.args.source.now c.args.depth c.requires (not_passed c.args.source.now w.Else c.args.tokens.now _ c.in_ok-after.ensures c.in_default.is)
+
+pub otherwise-returns-in_err-body : goal.otherwise-returns-in_err-body
+otherwise-returns-in_err-body t c = read_err _ _ _ _ _ c.from_residual-in_err-body.result _ (err_from_is_err_and c.from_residual-in_err-body.result c.from_residual-in_err-body.ensures.1) (other_halts c.args.source.now c.args.depth (passed c.args.source.now w.Else c.args.tokens.now _ c.in-Some.after c.in_ok-after.ensures c.in-Some.is) _ c.in_err-body.ensures)
+
+pub otherwise-returns : goal.otherwise-returns
+otherwise-returns t c = other_is c.args.source.now c.args.depth c.in_ok-body.body c.in_ok-new.field-0 (passed c.args.source.now w.Else c.args.tokens.now _ c.in-Some.after c.in_ok-after.ensures c.in-Some.is) c.in_ok-body.ensures c.in_ok-new.ensures
+
+pub while_loop-returns : goal.while_loop-returns
+while_loop-returns t c = has_read c.in_ok-body.ensures.ready (and (one c.in_ok-test.ensures) (and (expected c.in_ok-rest.ensures) (and (one c.in_ok-body.ensures) none))) (c.in_ok-while_statement.ensures ∙ (λ i. tree.Does c.args.at (tree.While (c.in_ok-test.ensures.same i) (c.in_ok-body.ensures.same i))))
+
+pub repeat_loop-returns : goal.repeat_loop-returns
+repeat_loop-returns t c = repeat_is c.args.source.now c.args.depth c.args.at c.in_ok-body.body c.in_ok-test.test c.repeat_statement.result c.in_ok-body.ensures c.in_ok-rest.ensures c.in_ok-test.ensures c.repeat_statement.ensures
+
+pub for_loop-returns : goal.for_loop-returns
+for_loop-returns t c = has_read c.in_ok-body.ensures.ready (and (one c.in_ok-name.ensures) (and (expected c.in_ok-rest.ensures) (and (one c.in_ok-from.ensures) (and (one c.in_ok-down.ensures) (and (one c.in_ok-to.ensures) (and (expected c.in_ok-rest-2.ensures) (and (one c.in_ok-body.ensures) none))))))) (c.in_ok-for_statement.ensures ∙ (λ i. tree.Does c.args.at (tree.For (c.in_ok-name.ensures.same i) (c.in_ok-from.ensures.same i) (c.in_ok-down.ensures.same i) (c.in_ok-to.ensures.same i) (c.in_ok-body.ensures.same i))))
+
+pub forall-returns : goal.forall-returns
+forall-returns t c = has_read c.in_ok-body.ensures.ready (and (one c.in_ok-name.ensures) (and (expected c.in_ok-rest.ensures) (and (one c.in_ok-from.ensures) (and (expected c.in_ok-rest-2.ensures) (and (one c.in_ok-to.ensures) (and (expected c.in_ok-rest-3.ensures) (and (one c.in_ok-body.ensures) none))))))) (c.in_ok-forall_statement.ensures ∙ (λ i. tree.Does c.args.at (tree.Forall (c.in_ok-name.ensures.same i) (c.in_ok-from.ensures.same i) (c.in_ok-to.ensures.same i) (c.in_ok-body.ensures.same i))))
+
+pub case_choice-returns : goal.case_choice-returns
+case_choice-returns t c = case_is c.args.source.now c.args.depth c.args.at c.in_ok-test.test c.in_ok-all.all c.case_statement.result c.in_ok-test.ensures c.in_ok-rest.ensures c.in_ok-all.ensures c.case_statement.ensures
+
+pub arm-returns : goal.arm-returns
+arm-returns t c = arm_is c.args.source.now c.args.depth c.in_ok-constants.constants c.in_ok-body.body c.arm.result c.in_ok-constants.ensures c.in_ok-body.ensures c.arm.ensures
+
+pub arms-more-init : goal.arms-more-init
+arms-more-init t c = arms_start c.args.source.now c.args.depth c.in_ok-first.first c.push.new.self c.in_ok-first.ensures (c.in_ok-push.ensures.ok ∙ ap (λ l. l ++ c.in_ok-first.first ∷ []) c.new-all.ensures)
+
+pub arms-returns-in_err-behind : goal.arms-returns-in_err-behind
+arms-returns-in_err-behind t c = read_err _ _ _ _ _ c.from_residual-in_err-behind.result _ (err_from_is_err_and c.from_residual-in_err-behind.result c.from_residual-in_err-behind.ensures.1) (arms_end_halt c.args.source.now c.args.depth c.more.all c.more.invariant (passed c.args.source.now w.Semicolon c.more.rest.now _ c.in-Some.after c.in_ok-after.ensures c.in-Some.is) _ (pass_halts c.args.source.now w.End c.in-Some.after.now (sym.ArmOrEnd c.args.depth) _ c.in_err-behind.ensures))
+
+pub arms-returns-in-Some-2 : goal.arms-returns-in-Some-2
+arms-returns-in-Some-2 t c = arms_last c.args.source.now c.args.depth c.more.all c.more.invariant (passed c.args.source.now w.Semicolon c.more.rest.now _ c.in-Some.after c.in_ok-after.ensures c.in-Some.is) (passed c.args.source.now w.End c.in-Some.after.now _ c.in-Some-2.behind c.in_ok-behind.ensures c.in-Some-2.is)
+
+pub arms-returns-in_err-next : goal.arms-returns-in_err-next
+arms-returns-in_err-next t c = read_err _ _ _ _ _ c.from_residual-in_err-next.result _ (err_from_is_err_and c.from_residual-in_err-next.result c.from_residual-in_err-next.ensures.1) (arms_halt c.args.source.now c.args.depth c.more.all c.more.invariant (passed c.args.source.now w.Semicolon c.more.rest.now _ c.in-Some.after c.in_ok-after.ensures c.in-Some.is) (not_passed c.args.source.now w.End c.in-Some.after.now _ c.in_ok-behind.ensures c.in_default-2.is) _ c.in_err-next.ensures)
+
+pub arms-more-preserved : goal.arms-more-preserved
+arms-more-preserved t c = arms_more c.args.source.now c.args.depth c.in_ok-next.next c.more.all c.push-in-Some.new.self c.more.invariant (passed c.args.source.now w.Semicolon c.more.rest.now _ c.in-Some.after c.in_ok-after.ensures c.in-Some.is) (not_passed c.args.source.now w.End c.in-Some.after.now _ c.in_ok-behind.ensures c.in_default-2.is) c.in_ok-next.ensures c.in_ok-push-2.ensures.ok
+
+pub arms-returns-in_err-rest : goal.arms-returns-in_err-rest
+arms-returns-in_err-rest t c = read_err _ _ _ _ _ c.from_residual-in_err-rest.result _ (err_from_is_err_and c.from_residual-in_err-rest.result c.from_residual-in_err-rest.ensures.1) (arms_close_halt c.args.source.now c.args.depth c.more.all c.more.invariant (not_passed c.args.source.now w.Semicolon c.more.rest.now _ c.in_ok-after.ensures c.in_default.is) _ c.in_err-rest.ensures)
+
+pub arms-returns : goal.arms-returns
+arms-returns t c = arms_done c.args.source.now c.args.depth c.more.all c.more.invariant c.in_ok-rest.ensures
+
+pub branches-more-init : goal.branches-more-init
+branches-more-init t c = branches_start c.args.source.now c.args.depth c.in_ok-first.first c.process.result c.push.new.self c.in_ok-first.ensures c.process.ensures (c.in_ok-push.ensures.ok ∙ ap (λ l. l ++ c.process.result ∷ []) c.new-all.ensures)
+
+pub branches-returns-in_err-next : goal.branches-returns-in_err-next
+branches-returns-in_err-next t c = read_err _ _ _ _ _ c.from_residual-in_err-next.result _ (err_from_is_err_and c.from_residual-in_err-next.result c.from_residual-in_err-next.ensures.1) (branches_halt c.args.source.now c.args.depth c.more.all c.more.invariant (passed c.args.source.now w.Bar c.more.rest.now _ c.in-Some.after c.in_ok-after.ensures c.in-Some.is) _ c.in_err-next.ensures)
+
+pub branches-more-preserved : goal.branches-more-preserved
+branches-more-preserved t c = branches_more c.args.source.now c.args.depth c.in_ok-next.next c.process-in-Some.result c.more.all c.push-in-Some.new.self c.more.invariant (passed c.args.source.now w.Bar c.more.rest.now _ c.in-Some.after c.in_ok-after.ensures c.in-Some.is) c.in_ok-next.ensures c.process-in-Some.ensures c.in_ok-push-2.ensures.ok
+
+pub branches-returns-in_err-rest : goal.branches-returns-in_err-rest
+branches-returns-in_err-rest t c = read_err _ _ _ _ _ c.from_residual-in_err-rest.result _ (err_from_is_err_and c.from_residual-in_err-rest.result c.from_residual-in_err-rest.ensures.1) (branches_close_halt c.args.source.now c.args.depth c.more.all c.more.invariant (not_passed c.args.source.now w.Bar c.more.rest.now _ c.in_ok-after.ensures c.in_default.is) _ c.in_err-rest.ensures)
+
+pub branches-returns : goal.branches-returns
+branches-returns t c = branches_done c.args.source.now c.args.depth c.more.all c.more.invariant c.in_ok-rest.ensures
+
+pub parallel-returns : goal.parallel-returns
+parallel-returns t c = parallel_is c.args.source.now c.args.depth c.args.at c.in_ok-all.all c.parallel_statement.result c.in_ok-all.ensures c.parallel_statement.ensures

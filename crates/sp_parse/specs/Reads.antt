@@ -1,0 +1,119 @@
+-- What a part of the parser answers.
+use Rattle.std.specs.Prelude.{◌≡◌, ℕ, ◌<◌, ◌≤◌, Bool, false, List, [], ◌∷◌, ◌++◌, length, Option, Some, None, Result, Ok, Err}
+use Rattle.std.specs.Borrow.{Bor}
+use Rattle.sp_base.specs.declared.halt.Halt.{Halt}
+use Rattle.sp_base.specs.declared.halt.Halt.TheVariants as halt
+use Rattle.sp_base.specs.declared.halt.Refusal.{Refusal}
+use Rattle.sp_tree.specs.declared.token.Token.{Token}
+use Rattle.sp_tree.specs.declared.token.Kind.{Kind}
+use Rattle.sp_tree.specs.declared.token.Kind.TheVariants as kind
+use Rattle.sp_tree.specs.Places.{place_at}
+use Rattle.sp_tree.specs.Spelling.{number_of}
+use Rattle.sp_tree.specs.Breaches.{nesting}
+use Rattle.sp_grammar.specs.Symbols.{Symbol, Value, Values, AToken}
+use Rattle.sp_grammar.specs.Table.{kind_is}
+use Rattle.sp_grammar.specs.Machine.{End, Done, Stuck, run}
+use Rattle.sp_grammar.specs.Derives.{Derives, DerivesAll}
+use Rattle.sp_grammar.specs.Stops.{refusal_of}
+use Rattle.sp_parse.specs.declared.source.Source.{Source}
+
+-- a token lies in the text, and a number is an integer of the language
+pub record Fits (text : List ℕ) (t : Token) : Type 0 where
+  pub order : t.from ≤ t.to
+  pub within : t.to ≤ length text
+  pub number : t.kind ≡ kind.Number → number_of text t ≤ 9223372036854775807
+
+abbrev pub AllFit : List ℕ → List Token → Type 0
+AllFit text [] = Unit {0}
+AllFit text (t ∷ ts) = Fits text t × AllFit text ts
+
+-- The tokens are some of the text, whose end is known.
+pub record Ready (source : Source) (ts : List Token) : Type 0 where
+  pub end : source.end ≡ place_at source.text.now (length source.text.now)
+  pub fit : AllFit source.text.now ts
+
+-- a part lies inside fewer parts than the limit
+abbrev pub Within : ℕ → List Token → Type 0
+Within d ts = d < nesting
+
+-- the rule that is broken where the machine gets stuck, if it does
+abbrev pub refused_by : List ℕ → End → Option Refusal
+refused_by text Done = None
+refused_by text (Stuck w ts) = Some (refusal_of text w ts)
+
+unfoldable pub breaks : Source → List Token → List Symbol → Option Refusal
+breaks source ts stack = refused_by source.text.now (run (Some nesting) ts stack)
+
+-- These symbols are read off the front, the tree is what they stand for, and r is left; and the machine agrees,
+-- whatever is pending behind them.
+pub record HasRead {X V : Type 0} (source : Source) (l : List Symbol) (of : Values l → V) (plain : X → V) (ts r : List Token) (x : X) : Type 0 where
+  pub values : Values l
+  pub derives : DerivesAll source.text.now Within l ts r values
+  pub same : plain x ≡ of values
+  pub leads : (q : List Symbol) → breaks source ts (l ++ q) ≡ breaks source r q
+  pub shorter : length r ≤ length ts
+  pub ready : Ready source r
+
+-- The rule that is broken, whatever is pending behind these symbols.
+abbrev pub Halts : Source → List Symbol → List Token → Halt → Type 0
+Halts source l ts halt.Memory = Unit {0}
+Halts source l ts (halt.Refused r) = (q : List Symbol) → breaks source ts (l ++ q) ≡ Some r
+
+abbrev pub Reads : {X V : Type 0} (source : Source) (l : List Symbol) → (Values l → V) → (X → V) → List Token → Result (X × Bor (List Token)) Halt → Type 0
+Reads source l of plain ts (Ok x) = HasRead source l of plain ts x.1.now x.0
+Reads source l of plain ts (Err e) = Halts source l ts e
+
+-- The first token and the others.
+pub record Begins (source : Source) (ts : List Token) (t : Token) (r : List Token) : Type 0 where
+  pub all : ts ≡ t ∷ r
+  pub fits : Fits source.text.now t
+  pub ready : Ready source r
+
+-- The first token and the others; or no token is left, and the text ends too early for any symbol.
+abbrev pub Cuts : Source → List Token → Result (Token × Bor (List Token)) Halt → Type 0
+Cuts source ts (Ok x) = Begins source ts x.0 x.1.now
+Cuts source ts (Err halt.Memory) = ⊥
+Cuts source ts (Err (halt.Refused r)) = (ts ≡ []) × ((s : Symbol) (q : List Symbol) → breaks source ts (s ∷ q) ≡ Some r)
+
+-- The tokens behind one of this kind, where it comes first.
+pub record BeginsWith (source : Source) (ts : List Token) (k : Kind) (r : List Token) : Type 0 where
+  pub token : Token
+  pub is : token.kind ≡ k
+  pub all : ts ≡ token ∷ r
+  pub ready : Ready source r
+
+-- A token of this kind is read off the front.
+pub record Expected (source : Source) (k : Kind) (ts r : List Token) : Type 0 where
+  pub first : BeginsWith source ts k r
+  pub leads : (q : List Symbol) → breaks source ts (AToken k ∷ q) ≡ breaks source r q
+  pub shorter : length r < length ts
+
+abbrev pub Expects : Source → Kind → List Token → Result (Bor (List Token)) Halt → Type 0
+Expects source k ts (Ok r) = Expected source k ts r.now
+Expects source k ts (Err e) = Halts source (AToken k ∷ []) ts e
+
+-- The first token is of another kind.
+pub record BeginsOther (ts : List Token) (k : Kind) : Type 0 where
+  pub token : Token
+  pub rest : List Token
+  pub other : kind_is k token.kind ≡ false
+  pub all : ts ≡ token ∷ rest
+
+-- The tokens behind one of this kind, where it comes first; or no token is left.
+abbrev pub Passes : Source → Kind → List Token → Result (Option (Bor (List Token))) Halt → Type 0
+Passes source k ts (Ok None) = BeginsOther ts k
+Passes source k ts (Ok (Some r)) = BeginsWith source ts k r.now
+Passes source k ts (Err halt.Memory) = ⊥
+Passes source k ts (Err (halt.Refused r)) = (ts ≡ []) × ((s : Symbol) (q : List Symbol) → breaks source ts (s ∷ q) ≡ Some r)
+
+-- What is read so far of some symbols: what completes the pending one completes the whole.
+pub record SoFar {V : Type 0} (source : Source) (l : List Symbol) (of : Values l → V) (s : Symbol) (gives : Value s → V) (ts rest : List Token) : Type 0 where
+  pub is : (r : List Token) (v : Value s) → Derives source.text.now Within s rest r v → (vs : Values l) × DerivesAll source.text.now Within l ts r vs × (gives v ≡ of vs)
+  pub leads : (q : List Symbol) → breaks source ts (l ++ q) ≡ breaks source rest (s ∷ q)
+  pub shorter : length rest ≤ length ts
+  pub ready : Ready source rest
+
+-- The first of some symbols are read, and this one is pending.
+abbrev pub ReadsSoFar : {X V : Type 0} (source : Source) (l : List Symbol) → (Values l → V) → (s : Symbol) → (X → Value s → V) → List Token → Result (X × Bor (List Token)) Halt → Type 0
+ReadsSoFar source l of s gives ts (Ok x) = SoFar source l of s (gives x.0) ts x.1.now
+ReadsSoFar source l of s gives ts (Err e) = Halts source l ts e

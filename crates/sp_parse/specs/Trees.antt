@@ -1,0 +1,51 @@
+-- The plain trees of parts that stand in no tree yet.
+use Rattle.std.specs.Prelude.{List, [], ◌∷◌, Option, Some, None, map}
+use Rattle.sp_tree.specs.declared.syntax.SynExpr.{SynExpr}
+use Rattle.sp_tree.specs.declared.syntax.SynSelector.{SynSelector}
+use Rattle.sp_tree.specs.declared.syntax.SynArg.{SynArg}
+use Rattle.sp_tree.specs.declared.syntax.SynStmt.{SynStmt}
+use Rattle.sp_tree.specs.declared.syntax.SynArm.{SynArm}
+use Rattle.sp_tree.specs.declared.syntax.SynBranch.{SynBranch}
+use Rattle.sp_tree.specs.PlainSyntax.{Width, Selectors, Select, Arguments, AndArgument, Other, Statements, AndThen, Arms, Or, Branches, Beside}
+use Rattle.sp_tree.specs.SyntaxOf.{expression_of, selector_of, argument_of, selectors, width, statement_of, arm_of, branch_of, other, arms, branches}
+
+abbrev pub width_of : Option SynExpr → Width
+width_of None = width None
+width_of (Some e) = width (Some (expression_of e))
+
+abbrev pub selectors_of : List SynSelector → Selectors
+selectors_of ss = selectors (map selector_of ss)
+
+-- a list of the plain tree: these items, and then the others
+abbrev pub lay : {A M : Type 0} → (A → M → M) → List A → M → M
+lay cons [] more = more
+lay cons (a ∷ rest) more = cons a (lay cons rest more)
+
+-- these selectors, and then the others
+abbrev pub and_selectors : List SynSelector → Selectors → Selectors
+and_selectors ss more = lay Select (map selector_of ss) more
+
+-- these arguments, and then the others
+abbrev pub and_arguments : List SynArg → Arguments → Arguments
+and_arguments args more = lay AndArgument (map argument_of args) more
+
+-- parts of statements
+abbrev pub other_of : Option SynStmt → Other
+other_of None = other None
+other_of (Some s) = other (Some (statement_of s))
+
+abbrev pub arms_of : List SynArm → Arms
+arms_of all = arms (map arm_of all)
+
+abbrev pub branches_of : List SynBranch → Branches
+branches_of all = branches (map branch_of all)
+
+-- these statements, arms or branches, and then the others
+abbrev pub and_statements : List SynStmt → Statements → Statements
+and_statements all more = lay AndThen (map statement_of all) more
+
+abbrev pub and_arms : List SynArm → Arms → Arms
+and_arms all more = lay Or (map arm_of all) more
+
+abbrev pub and_branches : List SynBranch → Branches → Branches
+and_branches all more = lay Beside (map branch_of all) more

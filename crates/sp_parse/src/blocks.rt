@@ -1,0 +1,195 @@
+//! Blocks and programs. `depth` says inside how many parts a block lies.
+
+ghost use Rattle.std.specs.Prelude.{◌≡◌, [], ◌∷◌, ℕ, ◌≤◌, None, Some};
+ghost use Rattle.sp_tree.specs.Words.{Begin as ABegin, Colon as AColon, Semicolon as ASemicolon, Dot as ADot};
+ghost use Rattle.sp_tree.specs.PlainSyntax.{Proc};
+ghost use Rattle.sp_tree.specs.SyntaxOf.{block_of, part_of, program_of};
+ghost use Rattle.sp_grammar.specs.Symbols.{AToken, AName, AProgram, AHeading, Formals, ABlock, Parts};
+ghost use Rattle.sp_parse.specs.Reads.{Ready, Reads, Halts, BeginsOther};
+ghost use Rattle.sp_parse.specs.Declares.{BeginsBlock, Declares};
+
+use crate::declarations::{constants, types, variables};
+use crate::deep::too_deep;
+use crate::headings::{formals, heading};
+use crate::made_blocks::{procedure_declaration, whole_block};
+use crate::names::name;
+use crate::operators::is;
+use crate::source::{Source, cut, expect, misplaced};
+use crate::statements::compound;
+use sp_base::{Halt, List};
+use sp_tree::{Kind, MAX_NESTING, SynBlock, SynPart, Syntax, Token, sign, word};
+
+/// Whether a block begins with the token.
+fn begins_block(token: Token) -> bool
+    ensures { BeginsBlock token result }
+{
+    is(token, Kind::Word(word::BEGIN))
+        || is(token, Kind::Word(word::CONST))
+        || is(token, Kind::Word(word::TYPE))
+        || is(token, Kind::Word(word::VAR))
+        || is(token, Kind::Word(word::PROCEDURE))
+        || is(token, Kind::Word(word::FUNCTION))
+}
+
+/// Why no block may stand here.
+fn deep_block(source: &Source, tokens: &[Token]) -> Halt
+    requires { Ready source.now tokens.now }
+    ensures { (d : ℕ) → 200 ≤ d → Halts source.now (ABlock d ∷ []) tokens.now result }
+{
+    match cut(source, tokens) {
+        Ok((first, _)) => {
+            if begins_block(first) {
+                return too_deep(first);
+            }
+            misplaced(first)
+        }
+        Err(e) => e,
+    }
+}
+
+/// A block.
+#[cycle(block)]
+fn block<'t>(
+    source: &Source,
+    tokens: &'t [Token],
+    depth: u32,
+) -> Result<(SynBlock, &'t [Token]), Halt>
+    requires { Ready source.now tokens.now }
+    ensures { Reads source.now (ABlock depth ∷ []) (λ vs. vs.0) block_of tokens.now result }
+{
+    if depth >= MAX_NESTING {
+        return Err(deep_block(source, tokens));
+    }
+    parts(source, tokens, depth + 1)
+}
+
+/// The declarations and the statement part of a block.
+#[cycle(block)]
+fn parts<'t>(
+    source: &Source,
+    tokens: &'t [Token],
+    depth: u32,
+) -> Result<(SynBlock, &'t [Token]), Halt>
+    requires { Ready source.now tokens.now }
+    ensures { Reads source.now (Parts depth ∷ []) (λ vs. vs.0) block_of tokens.now result }
+{
+    let mut all = List::new(source.alloc);
+    let mut rest = tokens;
+    'more: loop {
+        let (first, after) = cut(source, rest)?;
+        if is(first, Kind::Word(word::BEGIN)) {
+            let (statements, left) = compound(source, after, depth)?;
+            return Ok((whole_block(all, first.at, statements), left));
+        }
+        let (more, left) = declarations(source, rest, depth, all)?;
+        all = more;
+        rest = left;
+    }
+}
+
+/// Constants, types, variables, a procedure or a function, added to other declarations.
+#[cycle(block)]
+fn declarations<'t>(
+    source: &Source,
+    tokens: &'t [Token],
+    depth: u32,
+    mut all: List<SynPart>,
+) -> Result<(List<SynPart>, &'t [Token]), Halt>
+    requires ready { Ready source.now tokens.now }
+    requires other { BeginsOther tokens.now ABegin }
+    ensures { Declares source.now depth all tokens.now result }
+{
+    let (first, rest) = cut(source, tokens)?;
+    if is(first, Kind::Word(word::CONST)) {
+        return constants(source, rest, all);
+    }
+    if is(first, Kind::Word(word::TYPE)) {
+        return types(source, rest, all);
+    }
+    if is(first, Kind::Word(word::VAR)) {
+        return variables(source, rest, all);
+    }
+    if is(first, Kind::Word(word::PROCEDURE)) {
+        let (next, rest) = procedure(source, rest, depth)?;
+        all.push(next)?;
+        return Ok((all, rest));
+    }
+    if is(first, Kind::Word(word::FUNCTION)) {
+        let (next, rest) = function(source, rest, depth)?;
+        all.push(next)?;
+        return Ok((all, rest));
+    }
+    Err(misplaced(first))
+}
+
+/// A procedure, behind its word.
+#[cycle(block)]
+fn procedure<'t>(
+    source: &Source,
+    tokens: &'t [Token],
+    depth: u32,
+) -> Result<(SynPart, &'t [Token]), Halt>
+    requires { Ready source.now tokens.now }
+    ensures { Reads source.now (AName ∷ Formals ∷ AToken ASemicolon ∷ ABlock depth ∷ AToken ASemicolon ∷ []) (λ vs. Proc vs.0 vs.1.0 None vs.1.1.1.0.parts vs.1.1.1.0.body) part_of tokens.now result }
+{
+    let (called, rest) = name(source, tokens)?;
+    let (given, rest) = formals(source, rest)?;
+    let rest = expect(source, rest, Kind::Sign(sign::SEMICOLON))?;
+    let (inner, rest) = block(source, rest, depth)?;
+    let rest = expect(source, rest, Kind::Sign(sign::SEMICOLON))?;
+    let made = procedure_declaration(source.alloc, called, given, None, inner)?;
+    Ok((made, rest))
+}
+
+/// A function, behind its word.
+#[cycle(block)]
+fn function<'t>(
+    source: &Source,
+    tokens: &'t [Token],
+    depth: u32,
+) -> Result<(SynPart, &'t [Token]), Halt>
+    requires { Ready source.now tokens.now }
+    ensures { Reads source.now (AName ∷ Formals ∷ AToken AColon ∷ AName ∷ AToken ASemicolon ∷ ABlock depth ∷ AToken ASemicolon ∷ []) (λ vs. Proc vs.0 vs.1.0 (Some vs.1.1.1.0) vs.1.1.1.1.1.0.parts vs.1.1.1.1.1.0.body) part_of tokens.now result }
+{
+    let (called, rest) = name(source, tokens)?;
+    let (given, rest) = formals(source, rest)?;
+    let rest = expect(source, rest, Kind::Sign(sign::COLON))?;
+    let (answer, rest) = name(source, rest)?;
+    let rest = expect(source, rest, Kind::Sign(sign::SEMICOLON))?;
+    let (inner, rest) = block(source, rest, depth)?;
+    let rest = expect(source, rest, Kind::Sign(sign::SEMICOLON))?;
+    let made = procedure_declaration(source.alloc, called, given, Some(answer), inner)?;
+    Ok((made, rest))
+}
+
+/// A program, behind the word `program`.
+fn titled<'t>(source: &Source, tokens: &'t [Token]) -> Result<(Syntax, &'t [Token]), Halt>
+    requires { Ready source.now tokens.now }
+    ensures { Reads source.now (AName ∷ AHeading ∷ AToken ASemicolon ∷ ABlock 0 ∷ AToken ADot ∷ []) (λ vs. record { name = vs.0; heading = vs.1.0; block = vs.1.1.1.0 }) program_of tokens.now result }
+{
+    let (called, rest) = name(source, tokens)?;
+    let (listed, rest) = heading(source, rest)?;
+    let rest = expect(source, rest, Kind::Sign(sign::SEMICOLON))?;
+    let (whole, rest) = block(source, rest, 0)?;
+    let rest = expect(source, rest, Kind::Sign(sign::DOT))?;
+    Ok((
+        Syntax {
+            name: called,
+            heading: listed,
+            block: whole,
+        },
+        rest,
+    ))
+}
+
+/// A program.
+pub fn program<'t>(source: &Source, tokens: &'t [Token]) -> Result<(Syntax, &'t [Token]), Halt>
+    requires { Ready source.now tokens.now }
+    ensures { Reads source.now (AProgram ∷ []) (λ vs. vs.0) program_of tokens.now result }
+{
+    let (first, rest) = cut(source, tokens)?;
+    if is(first, Kind::Word(word::PROGRAM)) {
+        return titled(source, rest);
+    }
+    Err(misplaced(first))
+}

@@ -1,0 +1,78 @@
+//! Constants.
+
+ghost use Rattle.std.specs.Prelude.{◌≡◌, [], ◌∷◌, None};
+ghost use Rattle.sp_grammar.specs.Symbols.{AConstant, AValue};
+ghost use Rattle.sp_parse.specs.Reads.{Ready, Reads};
+
+use crate::operators::is;
+use crate::source::{Source, cut, misplaced};
+use crate::spelled::{name_at, number_at, quoted_at};
+use sp_base::{Halt, Place};
+use sp_tree::{Kind, SynConst, SynValue, Token, sign};
+
+/// A number or a name.
+fn value<'t>(source: &Source, tokens: &'t [Token]) -> Result<(SynValue, &'t [Token]), Halt>
+    requires { Ready source.now tokens.now }
+    ensures { Reads source.now (AValue ∷ []) (λ vs. vs.0) (λ v. v) tokens.now result }
+{
+    let (first, rest) = cut(source, tokens)?;
+    match first.kind {
+        Kind::Number => Ok((SynValue::Number(number_at(source, first)), rest)),
+        Kind::Name => Ok((SynValue::Named(name_at(source, first)?), rest)),
+        _ => Err(misplaced(first)),
+    }
+}
+
+/// A constant without a sign.
+fn unsigned(at: Place, value: SynValue) -> SynConst
+    ensures { result ≡ record { at = at; negative = None; value = value } }
+{
+    SynConst {
+        at,
+        negative: None,
+        value,
+    }
+}
+
+/// A constant: a number or a name, with a sign or without, or a text.
+pub fn constant<'t>(source: &Source, tokens: &'t [Token]) -> Result<(SynConst, &'t [Token]), Halt>
+    requires { Ready source.now tokens.now }
+    ensures { Reads source.now (AConstant ∷ []) (λ vs. vs.0) (λ c. c) tokens.now result }
+{
+    let (first, rest) = cut(source, tokens)?;
+    let at = first.at;
+    if is(first, Kind::Sign(sign::PLUS)) {
+        let (value, rest) = value(source, rest)?;
+        return Ok((
+            SynConst {
+                at,
+                negative: Some(false),
+                value,
+            },
+            rest,
+        ));
+    }
+    if is(first, Kind::Sign(sign::MINUS)) {
+        let (value, rest) = value(source, rest)?;
+        return Ok((
+            SynConst {
+                at,
+                negative: Some(true),
+                value,
+            },
+            rest,
+        ));
+    }
+    match first.kind {
+        Kind::Number => Ok((
+            unsigned(at, SynValue::Number(number_at(source, first))),
+            rest,
+        )),
+        Kind::Name => Ok((unsigned(at, SynValue::Named(name_at(source, first)?)), rest)),
+        Kind::Text => Ok((
+            unsigned(at, SynValue::Quoted(quoted_at(source, first)?)),
+            rest,
+        )),
+        _ => Err(misplaced(first)),
+    }
+}

@@ -1,0 +1,109 @@
+//! Declarations of constants, types and variables.
+
+ghost use Rattle.std.specs.Prelude.{ℕ, [], ◌∷◌};
+ghost use Rattle.sp_tree.specs.Words.{Colon as AColon, Equal as AnEqual, Semicolon as ASemicolon};
+ghost use Rattle.sp_tree.specs.PlainSyntax.{Const, Kind as AKind, Var};
+ghost use Rattle.sp_tree.specs.SyntaxOf.{part_of};
+ghost use Rattle.sp_tree.specs.Grammar.{declared};
+ghost use Rattle.sp_grammar.specs.Symbols.{AToken, AName, MoreNames, AConstant, AType, Parts, MoreConstants, MoreTypes, MoreVariables};
+ghost use Rattle.sp_parse.specs.Reads.{Ready, Reads, ReadsSoFar};
+ghost use Rattle.sp_parse.specs.Declares.{and_parts};
+
+use crate::constants::constant;
+use crate::made_blocks::{constant_declaration, type_declaration, variable_declaration};
+use crate::names::name;
+use crate::source::{Source, expect, pass};
+use crate::types::{group, type_of};
+use sp_base::{Halt, List};
+use sp_tree::{Kind, SynPart, Token, sign};
+
+/// A constant and its value.
+fn one_constant<'t>(source: &Source, tokens: &'t [Token]) -> Result<(SynPart, &'t [Token]), Halt>
+    requires { Ready source.now tokens.now }
+    ensures { Reads source.now (AName ∷ AToken AnEqual ∷ AConstant ∷ AToken ASemicolon ∷ []) (λ vs. Const vs.0 vs.1.1.0) part_of tokens.now result }
+{
+    let (called, rest) = name(source, tokens)?;
+    let rest = expect(source, rest, Kind::Sign(sign::EQUAL))?;
+    let (value, rest) = constant(source, rest)?;
+    let rest = expect(source, rest, Kind::Sign(sign::SEMICOLON))?;
+    Ok((constant_declaration(called, value), rest))
+}
+
+/// A type and its definition.
+fn one_type<'t>(source: &Source, tokens: &'t [Token]) -> Result<(SynPart, &'t [Token]), Halt>
+    requires { Ready source.now tokens.now }
+    ensures { Reads source.now (AName ∷ AToken AnEqual ∷ AType ∷ AToken ASemicolon ∷ []) (λ vs. AKind vs.0 vs.1.1.0) part_of tokens.now result }
+{
+    let (called, rest) = name(source, tokens)?;
+    let rest = expect(source, rest, Kind::Sign(sign::EQUAL))?;
+    let (kind, rest) = type_of(source, rest)?;
+    let rest = expect(source, rest, Kind::Sign(sign::SEMICOLON))?;
+    Ok((type_declaration(called, kind), rest))
+}
+
+/// Variables of one type.
+fn one_group<'t>(source: &Source, tokens: &'t [Token]) -> Result<(SynPart, &'t [Token]), Halt>
+    requires { Ready source.now tokens.now }
+    ensures { Reads source.now (AName ∷ MoreNames ∷ AToken AColon ∷ AName ∷ AToken ASemicolon ∷ []) (λ vs. Var (vs.0 ∷ vs.1.0) vs.1.1.1.0) part_of tokens.now result }
+{
+    let (of, rest) = group(source, tokens)?;
+    let rest = expect(source, rest, Kind::Sign(sign::SEMICOLON))?;
+    Ok((variable_declaration(of), rest))
+}
+
+/// The constants behind `const`, added to other declarations.
+pub fn constants<'t>(
+    source: &Source,
+    tokens: &'t [Token],
+    mut all: List<SynPart>,
+) -> Result<(List<SynPart>, &'t [Token]), Halt>
+    requires { Ready source.now tokens.now }
+    ensures { (d : ℕ) → ReadsSoFar source.now (AName ∷ AToken AnEqual ∷ AConstant ∷ AToken ASemicolon ∷ MoreConstants d ∷ []) (λ vs. and_parts all (declared (Const vs.0 vs.1.1.0) vs.1.1.1.1.0)) (Parts d) (λ ps b. and_parts ps b) tokens.now result }
+{
+    let (first, mut rest) = one_constant(source, tokens)?;
+    all.push(first)?;
+    'more: while let Some(_) = pass(source, rest, Kind::Name)? {
+        let (next, left) = one_constant(source, rest)?;
+        all.push(next)?;
+        rest = left;
+    }
+    Ok((all, rest))
+}
+
+/// The types behind `type`, added to other declarations.
+pub fn types<'t>(
+    source: &Source,
+    tokens: &'t [Token],
+    mut all: List<SynPart>,
+) -> Result<(List<SynPart>, &'t [Token]), Halt>
+    requires { Ready source.now tokens.now }
+    ensures { (d : ℕ) → ReadsSoFar source.now (AName ∷ AToken AnEqual ∷ AType ∷ AToken ASemicolon ∷ MoreTypes d ∷ []) (λ vs. and_parts all (declared (AKind vs.0 vs.1.1.0) vs.1.1.1.1.0)) (Parts d) (λ ps b. and_parts ps b) tokens.now result }
+{
+    let (first, mut rest) = one_type(source, tokens)?;
+    all.push(first)?;
+    'more: while let Some(_) = pass(source, rest, Kind::Name)? {
+        let (next, left) = one_type(source, rest)?;
+        all.push(next)?;
+        rest = left;
+    }
+    Ok((all, rest))
+}
+
+/// The variables behind `var`, added to other declarations.
+pub fn variables<'t>(
+    source: &Source,
+    tokens: &'t [Token],
+    mut all: List<SynPart>,
+) -> Result<(List<SynPart>, &'t [Token]), Halt>
+    requires { Ready source.now tokens.now }
+    ensures { (d : ℕ) → ReadsSoFar source.now (AName ∷ MoreNames ∷ AToken AColon ∷ AName ∷ AToken ASemicolon ∷ MoreVariables d ∷ []) (λ vs. and_parts all (declared (Var (vs.0 ∷ vs.1.0) vs.1.1.1.0) vs.1.1.1.1.1.0)) (Parts d) (λ ps b. and_parts ps b) tokens.now result }
+{
+    let (first, mut rest) = one_group(source, tokens)?;
+    all.push(first)?;
+    'more: while let Some(_) = pass(source, rest, Kind::Name)? {
+        let (next, left) = one_group(source, rest)?;
+        all.push(next)?;
+        rest = left;
+    }
+    Ok((all, rest))
+}

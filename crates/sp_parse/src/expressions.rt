@@ -1,0 +1,260 @@
+//! Expressions. `depth` says inside how many parts one lies.
+
+ghost use Rattle.std.specs.Prelude.{[], ◌∷◌};
+ghost use Rattle.sp_tree.specs.declared.operators.UnaryOp.TheVariants.{Not as NotOp};
+ghost use Rattle.sp_tree.specs.PlainSyntax.{At, Unary as AUnary, Pass, Select, Index as AnIndex, AndArgument};
+ghost use Rattle.sp_tree.specs.SyntaxOf.{expression_of, argument_of, arguments_of};
+ghost use Rattle.sp_grammar.specs.Symbols.{AnExpression, ASimple, MoreTerms, MoreFactors, AFactor, ANegated, AReference, Selectors, MoreIndices, MoreArguments, AWidth};
+ghost use Rattle.sp_parse.specs.Reads.{Ready, Reads, ReadsSoFar};
+ghost use Rattle.sp_parse.specs.Trees.{selectors_of, and_selectors};
+
+use crate::deep::{deep_expression, deep_factor};
+use crate::made::{
+    argument as make_argument, binary, call_expression, field, index, moved, number_expression,
+    quoted_expression, read_expression, unary, variable,
+};
+use crate::names::name;
+use crate::operators::{adding, is, multiplying, relational, sign_of};
+use crate::source::{Source, cut, expect, misplaced, pass};
+use crate::spelled::{name_at, number_at, quoted_at};
+use sp_base::{Halt, List, Place};
+use sp_tree::{Kind, MAX_NESTING, Name, SynArg, SynExpr, SynSelector, Token, UnaryOp, sign, word};
+
+/// An expression: two simple ones with a relation between them, or one.
+#[cycle(expression)]
+pub fn expression<'t>(
+    source: &Source,
+    tokens: &'t [Token],
+    depth: u32,
+) -> Result<(SynExpr, &'t [Token]), Halt>
+    requires { Ready source.now tokens.now }
+    ensures { Reads source.now (AnExpression depth ∷ []) (λ vs. vs.0) expression_of tokens.now result }
+{
+    if depth >= MAX_NESTING {
+        return Err(deep_expression(source, tokens));
+    }
+    let (left, rest) = simple(source, tokens, depth + 1)?;
+    let Some((op, after)) = relational(source, rest)? else {
+        return Ok((left, rest));
+    };
+    let (right, rest) = simple(source, after, depth + 1)?;
+    Ok((binary(source.alloc, op, left, right)?, rest))
+}
+
+/// A simple expression: terms with operators between them.
+#[cycle(expression)]
+fn simple<'t>(
+    source: &Source,
+    tokens: &'t [Token],
+    depth: u32,
+) -> Result<(SynExpr, &'t [Token]), Halt>
+    requires { Ready source.now tokens.now }
+    ensures { Reads source.now (ASimple depth ∷ []) (λ vs. vs.0) expression_of tokens.now result }
+{
+    let (mut sum, mut rest) = first_term(source, tokens, depth)?;
+    'more: while let Some((op, after)) = adding(source, rest)? {
+        let (next, left) = term(source, after, depth)?;
+        sum = binary(source.alloc, op, sum, next)?;
+        rest = left;
+    }
+    Ok((sum, rest))
+}
+
+/// The first term of a simple expression, with its sign.
+#[cycle(expression)]
+fn first_term<'t>(
+    source: &Source,
+    tokens: &'t [Token],
+    depth: u32,
+) -> Result<(SynExpr, &'t [Token]), Halt>
+    requires { Ready source.now tokens.now }
+    ensures { ReadsSoFar source.now (ASimple depth ∷ []) (λ vs. vs.0) (MoreTerms depth) (λ e f. f (expression_of e)) tokens.now result }
+{
+    let (first, behind) = cut(source, tokens)?;
+    let Some(op) = sign_of(first) else {
+        return term(source, tokens, depth);
+    };
+    let (a, rest) = term(source, behind, depth)?;
+    Ok((unary(source.alloc, first.at, op, a)?, rest))
+}
+
+/// A term: factors with operators between them.
+#[cycle(expression)]
+fn term<'t>(
+    source: &Source,
+    tokens: &'t [Token],
+    depth: u32,
+) -> Result<(SynExpr, &'t [Token]), Halt>
+    requires { Ready source.now tokens.now }
+    ensures { Reads source.now (AFactor depth ∷ MoreFactors depth ∷ []) (λ vs. vs.1.0 vs.0) expression_of tokens.now result }
+{
+    let (mut product, mut rest) = factor(source, tokens, depth)?;
+    'more: while let Some((op, after)) = multiplying(source, rest)? {
+        let (next, left) = factor(source, after, depth)?;
+        product = binary(source.alloc, op, product, next)?;
+        rest = left;
+    }
+    Ok((product, rest))
+}
+
+/// A factor: a number, a text, a variable, a call, an expression in parentheses, or a factor after `not`.
+#[cycle(expression)]
+fn factor<'t>(
+    source: &Source,
+    tokens: &'t [Token],
+    depth: u32,
+) -> Result<(SynExpr, &'t [Token]), Halt>
+    requires { Ready source.now tokens.now }
+    ensures { Reads source.now (AFactor depth ∷ []) (λ vs. vs.0) expression_of tokens.now result }
+{
+    let (first, rest) = cut(source, tokens)?;
+    let at = first.at;
+    if is(first, Kind::Number) {
+        return Ok((number_expression(at, number_at(source, first)), rest));
+    }
+    if is(first, Kind::Text) {
+        return Ok((quoted_expression(at, quoted_at(source, first)?), rest));
+    }
+    if is(first, Kind::Name) {
+        let name = name_at(source, first)?;
+        return reference(source, rest, depth, at, name);
+    }
+    if is(first, Kind::Sign(sign::OPEN)) {
+        let (inner, rest) = expression(source, rest, depth)?;
+        let rest = expect(source, rest, Kind::Sign(sign::CLOSE))?;
+        return Ok((moved(at, inner), rest));
+    }
+    if is(first, Kind::Word(word::NOT)) {
+        return negation(source, rest, depth, at);
+    }
+    Err(misplaced(first))
+}
+
+/// What stands behind `not`.
+#[cycle(expression)]
+fn negation<'t>(
+    source: &Source,
+    tokens: &'t [Token],
+    depth: u32,
+    at: Place,
+) -> Result<(SynExpr, &'t [Token]), Halt>
+    requires { Ready source.now tokens.now }
+    ensures { Reads source.now (ANegated depth ∷ []) (λ vs. At at (AUnary NotOp vs.0)) expression_of tokens.now result }
+{
+    if depth >= MAX_NESTING {
+        return Err(deep_factor(source, tokens));
+    }
+    let (a, rest) = factor(source, tokens, depth + 1)?;
+    Ok((unary(source.alloc, at, UnaryOp::Not, a)?, rest))
+}
+
+/// A variable or a call, after its name.
+#[cycle(expression)]
+fn reference<'t>(
+    source: &Source,
+    tokens: &'t [Token],
+    depth: u32,
+    at: Place,
+    name: Name,
+) -> Result<(SynExpr, &'t [Token]), Halt>
+    requires { Ready source.now tokens.now }
+    ensures { Reads source.now (AReference depth ∷ []) (λ vs. At at (vs.0 name)) expression_of tokens.now result }
+{
+    let Some(inner) = pass(source, tokens, Kind::Sign(sign::OPEN))? else {
+        let (of, rest) = selectors(source, tokens, depth)?;
+        return Ok((read_expression(at, variable(name, of)), rest));
+    };
+    let (args, rest) = arguments(source, inner, depth)?;
+    Ok((call_expression(at, name, args), rest))
+}
+
+/// The selectors of a variable.
+#[cycle(expression)]
+pub fn selectors<'t>(
+    source: &Source,
+    tokens: &'t [Token],
+    depth: u32,
+) -> Result<(List<SynSelector>, &'t [Token]), Halt>
+    requires { Ready source.now tokens.now }
+    ensures { Reads source.now (Selectors depth ∷ []) (λ vs. vs.0) selectors_of tokens.now result }
+{
+    let mut all = List::new(source.alloc);
+    let mut rest = tokens;
+    'more: loop {
+        if let Some(inner) = pass(source, rest, Kind::Sign(sign::OPEN_INDEX))? {
+            let (more, left) = indices(source, inner, depth, all)?;
+            all = more;
+            rest = left;
+            continue;
+        }
+        let Some(after) = pass(source, rest, Kind::Sign(sign::DOT))? else {
+            return Ok((all, rest));
+        };
+        let (name, left) = name(source, after)?;
+        all.push(field(name))?;
+        rest = left;
+    }
+}
+
+/// Indices behind `[`, up to the `]`, after the selectors so far.
+#[cycle(expression)]
+fn indices<'t>(
+    source: &Source,
+    tokens: &'t [Token],
+    depth: u32,
+    before: List<SynSelector>,
+) -> Result<(List<SynSelector>, &'t [Token]), Halt>
+    requires { Ready source.now tokens.now }
+    ensures { ReadsSoFar source.now (AnExpression depth ∷ MoreIndices depth ∷ []) (λ vs. and_selectors before (Select (AnIndex vs.0) vs.1.0)) (Selectors depth) and_selectors tokens.now result }
+{
+    let mut all = before;
+    let (first, mut rest) = expression(source, tokens, depth)?;
+    all.push(index(first))?;
+    'more: while let Some(after) = pass(source, rest, Kind::Sign(sign::COMMA))? {
+        let (next, left) = expression(source, after, depth)?;
+        all.push(index(next))?;
+        rest = left;
+    }
+    let rest = expect(source, rest, Kind::Sign(sign::CLOSE_INDEX))?;
+    Ok((all, rest))
+}
+
+/// Arguments behind `(`, up to the `)`.
+#[cycle(expression)]
+pub fn arguments<'t>(
+    source: &Source,
+    tokens: &'t [Token],
+    depth: u32,
+) -> Result<(List<SynArg>, &'t [Token]), Halt>
+    requires { Ready source.now tokens.now }
+    ensures { Reads source.now (AnExpression depth ∷ AWidth depth ∷ MoreArguments depth ∷ []) (λ vs. AndArgument (Pass vs.0 vs.1.0) vs.1.1.0) arguments_of tokens.now result }
+{
+    let mut all = List::new(source.alloc);
+    let (first, mut rest) = argument(source, tokens, depth)?;
+    all.push(first)?;
+    'more: while let Some(after) = pass(source, rest, Kind::Sign(sign::COMMA))? {
+        let (next, left) = argument(source, after, depth)?;
+        all.push(next)?;
+        rest = left;
+    }
+    let rest = expect(source, rest, Kind::Sign(sign::CLOSE))?;
+    Ok((all, rest))
+}
+
+/// An argument and its width.
+#[cycle(expression)]
+fn argument<'t>(
+    source: &Source,
+    tokens: &'t [Token],
+    depth: u32,
+) -> Result<(SynArg, &'t [Token]), Halt>
+    requires { Ready source.now tokens.now }
+    ensures { Reads source.now (AnExpression depth ∷ AWidth depth ∷ []) (λ vs. Pass vs.0 vs.1.0) argument_of tokens.now result }
+{
+    let (value, rest) = expression(source, tokens, depth)?;
+    let Some(after) = pass(source, rest, Kind::Sign(sign::COLON))? else {
+        return Ok((make_argument(value, None), rest));
+    };
+    let (width, rest) = expression(source, after, depth)?;
+    Ok((make_argument(value, Some(width)), rest))
+}

@@ -1,0 +1,79 @@
+//! Formal parameters, and the names in a program's heading.
+
+ghost use Rattle.std.specs.Prelude.{◌≡◌, [], ◌∷◌};
+ghost use Rattle.sp_grammar.specs.Symbols.{AFormal, MoreFormals, Formals, AHeading};
+ghost use Rattle.sp_parse.specs.Reads.{Ready, Reads};
+
+use crate::source::{Source, expect, pass};
+use crate::types::{group, listed};
+use sp_base::{Halt, List};
+use sp_tree::{Kind, Name, SynFormal, SynGroup, Token, sign, word};
+
+/// Parameters of one type.
+fn parameters(by_reference: bool, of: SynGroup) -> SynFormal
+    ensures { result ≡ record { by_reference = by_reference; names = of.names; kind = of.kind } }
+{
+    SynFormal {
+        by_reference,
+        names: of.names,
+        kind: of.kind,
+    }
+}
+
+/// Formal parameters of one type.
+fn formal<'t>(source: &Source, tokens: &'t [Token]) -> Result<(SynFormal, &'t [Token]), Halt>
+    requires { Ready source.now tokens.now }
+    ensures { Reads source.now (AFormal ∷ []) (λ vs. vs.0) (λ f. f) tokens.now result }
+{
+    if let Some(after) = pass(source, tokens, Kind::Word(word::VAR))? {
+        let (of, rest) = group(source, after)?;
+        return Ok((parameters(true, of), rest));
+    }
+    let (of, rest) = group(source, tokens)?;
+    Ok((parameters(false, of), rest))
+}
+
+/// Formal parameters up to the closing parenthesis, behind the opening one.
+fn some_formals<'t>(
+    source: &Source,
+    tokens: &'t [Token],
+) -> Result<(List<SynFormal>, &'t [Token]), Halt>
+    requires { Ready source.now tokens.now }
+    ensures { Reads source.now (AFormal ∷ MoreFormals ∷ []) (λ vs. vs.0 ∷ vs.1.0) (λ fs. fs) tokens.now result }
+{
+    let (first, mut rest) = formal(source, tokens)?;
+    let mut all = List::new(source.alloc);
+    all.push(first)?;
+    'more: while let Some(after) = pass(source, rest, Kind::Sign(sign::SEMICOLON))? {
+        let (next, left) = formal(source, after)?;
+        all.push(next)?;
+        rest = left;
+    }
+    let rest = expect(source, rest, Kind::Sign(sign::CLOSE))?;
+    Ok((all, rest))
+}
+
+/// The formal parameters of a procedure, if it has some.
+pub fn formals<'t>(
+    source: &Source,
+    tokens: &'t [Token],
+) -> Result<(List<SynFormal>, &'t [Token]), Halt>
+    requires { Ready source.now tokens.now }
+    ensures { Reads source.now (Formals ∷ []) (λ vs. vs.0) (λ fs. fs) tokens.now result }
+{
+    match pass(source, tokens, Kind::Sign(sign::OPEN))? {
+        Some(after) => some_formals(source, after),
+        None => Ok((List::new(source.alloc), tokens)),
+    }
+}
+
+/// The names in the heading of a program, if it has some.
+pub fn heading<'t>(source: &Source, tokens: &'t [Token]) -> Result<(List<Name>, &'t [Token]), Halt>
+    requires { Ready source.now tokens.now }
+    ensures { Reads source.now (AHeading ∷ []) (λ vs. vs.0) (λ ns. ns) tokens.now result }
+{
+    match pass(source, tokens, Kind::Sign(sign::OPEN))? {
+        Some(after) => listed(source, after),
+        None => Ok((List::new(source.alloc), tokens)),
+    }
+}

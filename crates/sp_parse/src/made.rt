@@ -1,0 +1,106 @@
+//! Expressions from their parts.
+
+ghost use Rattle.std.specs.Prelude.{◌≡◌, IfOk, map};
+ghost use Rattle.sp_tree.specs.Grammar.{joined as joined_of, moved as moved_of};
+ghost use Rattle.sp_tree.specs.declared.operators.UnaryOp.TheVariants.{Not as NotOp};
+ghost use Rattle.sp_tree.specs.PlainSyntax.{At, Number as ANumber, Quoted as AQuoted, Read as ARead, Apply, Unary as AUnary, Entire, Index as AnIndex, Field as AField, Pass};
+ghost use Rattle.sp_tree.specs.SyntaxOf.{expression_of, arguments_of, variable_of, selector_of, argument_of};
+ghost use Rattle.sp_parse.specs.Trees.{selectors_of, width_of};
+
+use sp_base::{Boxed, List, Place, Text};
+use sp_tree::{BinaryOp, Name, SynArg, SynExpr, SynExprForm, SynSelector, SynVar, UnaryOp};
+use std::alloc::{AllocError, Global};
+
+pub fn number_expression(at: Place, n: u64) -> SynExpr
+    ensures { expression_of result ≡ At at (ANumber n) }
+{
+    SynExpr {
+        at,
+        form: SynExprForm::Number(n),
+    }
+}
+
+pub fn quoted_expression(at: Place, text: Text) -> SynExpr
+    ensures { expression_of result ≡ At at (AQuoted text) }
+{
+    SynExpr {
+        at,
+        form: SynExprForm::Quoted(text),
+    }
+}
+
+pub fn call_expression(at: Place, name: Name, args: List<SynArg>) -> SynExpr
+    ensures { expression_of result ≡ At at (Apply name (arguments_of args)) }
+{
+    SynExpr {
+        at,
+        form: SynExprForm::Call(name, args),
+    }
+}
+
+pub fn variable(name: Name, of: List<SynSelector>) -> SynVar
+    ensures { variable_of result ≡ Entire name (selectors_of of) }
+{
+    SynVar {
+        name,
+        selectors: of,
+    }
+}
+
+pub fn read_expression(at: Place, v: SynVar) -> SynExpr
+    ensures { expression_of result ≡ At at (ARead (variable_of v)) }
+{
+    SynExpr {
+        at,
+        form: SynExprForm::Read(v),
+    }
+}
+
+pub fn unary(alloc: Global, at: Place, op: UnaryOp, a: SynExpr) -> Result<SynExpr, AllocError>
+    ensures { IfOk result (λ e. expression_of e ≡ At at (AUnary op (expression_of a))) }
+{
+    let a = Boxed::new(alloc, a)?;
+    Ok(SynExpr {
+        at,
+        form: SynExprForm::Unary(op, a),
+    })
+}
+
+/// An operator between two operands, at the place of the left one.
+pub fn binary(alloc: Global, op: BinaryOp, a: SynExpr, b: SynExpr) -> Result<SynExpr, AllocError>
+    ensures { IfOk result (λ e. expression_of e ≡ joined_of op (expression_of a) (expression_of b)) }
+{
+    let at = a.at;
+    let a = Boxed::new(alloc, a)?;
+    let b = Boxed::new(alloc, b)?;
+    Ok(SynExpr {
+        at,
+        form: SynExprForm::Binary(op, a, b),
+    })
+}
+
+/// The same expression at another place.
+pub fn moved(at: Place, e: SynExpr) -> SynExpr
+    ensures { expression_of result ≡ moved_of at (expression_of e) }
+{
+    let (_, form) = e.parts();
+    SynExpr { at, form }
+}
+
+pub fn index(e: SynExpr) -> SynSelector
+    ensures { selector_of result ≡ AnIndex (expression_of e) }
+{
+    SynSelector::Index(e)
+}
+
+pub fn field(name: Name) -> SynSelector
+    ensures { selector_of result ≡ AField name }
+{
+    SynSelector::Field(name)
+}
+
+pub fn argument(value: SynExpr, width: Option<SynExpr>) -> SynArg
+    ensures { argument_of result ≡ Pass (expression_of value) (width_of width) }
+{
+    SynArg { value, width }
+}

@@ -1,0 +1,59 @@
+//! Declarations and blocks from their parts.
+
+ghost use Rattle.std.specs.Prelude.{◌≡◌, IfOk};
+ghost use Rattle.sp_tree.specs.PlainSyntax.{Const, Kind as AKind, Var, Proc, Does, Sequence};
+ghost use Rattle.sp_tree.specs.SyntaxOf.{part_of, parts_of, block_of, statements_of};
+
+use sp_base::{Boxed, List, Place};
+use sp_tree::{Name, SynBlock, SynConst, SynForm, SynFormal, SynGroup, SynKind, SynPart, SynStmt};
+use std::alloc::{AllocError, Global};
+
+pub fn constant_declaration(name: Name, value: SynConst) -> SynPart
+    ensures { part_of result ≡ Const name value }
+{
+    SynPart::Const(name, value)
+}
+
+pub fn type_declaration(name: Name, kind: SynKind) -> SynPart
+    ensures { part_of result ≡ AKind name kind }
+{
+    SynPart::Kind(name, kind)
+}
+
+pub fn variable_declaration(of: SynGroup) -> SynPart
+    ensures { part_of result ≡ Var of.names of.kind }
+{
+    SynPart::Var(of.names, of.kind)
+}
+
+/// A procedure, or with an answer a function.
+pub fn procedure_declaration(
+    alloc: Global,
+    name: Name,
+    formals: List<SynFormal>,
+    answer: Option<Name>,
+    inner: SynBlock,
+) -> Result<SynPart, AllocError>
+    ensures { IfOk result (λ p. part_of p ≡ (let b = block_of inner in Proc name formals answer b.parts b.body)) }
+{
+    let block = Boxed::new(alloc, inner)?;
+    Ok(SynPart::Proc {
+        name,
+        formals,
+        answer,
+        block,
+    })
+}
+
+/// A block with these declarations and the statements behind the `begin` at this place.
+pub fn whole_block(all: List<SynPart>, at: Place, statements: List<SynStmt>) -> SynBlock
+    ensures { block_of result ≡ record { parts = parts_of all; body = Does at (Sequence (statements_of statements)) } }
+{
+    SynBlock {
+        parts: all,
+        body: SynStmt {
+            at,
+            form: SynForm::Sequence(statements),
+        },
+    }
+}

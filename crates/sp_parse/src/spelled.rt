@@ -1,0 +1,94 @@
+//! What single tokens say.
+
+ghost use Rattle.std.specs.Prelude.{◌≡◌, map, IfOk};
+ghost use Rattle.sp_tree.specs.Characters.{lower as lower_of};
+ghost use Rattle.sp_tree.specs.declared.token.Kind.TheVariants.{Number as ANumber};
+ghost use Rattle.sp_tree.specs.Spelling.{spelling, name_of, number_of, quoted_of, within_quotes};
+ghost use Rattle.sp_parse.specs.Reads.{Fits};
+
+use crate::source::Source;
+use sp_base::Text;
+use sp_tree::{Name, Token};
+use std::alloc::{AllocError, Global};
+
+/// The bytes of a token.
+fn spelled<'a>(source: &Source<'a>, token: Token) -> &'a [u8]
+    requires { Fits source.now.text.now token }
+    ensures { result.now ≡ spelling source.now.text.now token }
+{
+    &source.text[token.from as usize..token.to as usize]
+}
+
+fn lower(byte: u8) -> u8
+    ensures { result ≡ lower_of byte }
+{
+    if byte >= b'A' && byte <= b'Z' {
+        byte + 32
+    } else {
+        byte
+    }
+}
+
+fn lowered(alloc: Global, bytes: &[u8]) -> Result<Text, AllocError>
+    ensures { IfOk result (λ t. t ≡ map lower_of bytes.now) }
+{
+    let mut all = Vec::with_capacity(alloc, bytes.len())?;
+    let mut rest = bytes;
+    'more: while let [byte, after @ ..] = rest {
+        all.push(lower(*byte))?;
+        rest = after;
+    }
+    Ok(Text::of(all))
+}
+
+/// A name in lower case.
+pub fn name_at(source: &Source, token: Token) -> Result<Name, AllocError>
+    requires { Fits source.now.text.now token }
+    ensures { IfOk result (λ n. n ≡ name_of source.now.text.now token) }
+{
+    let text = lowered(source.alloc, spelled(source, token))?;
+    Ok(Name { text, at: token.at })
+}
+
+/// The number that digits write.
+pub fn number_at(source: &Source, token: Token) -> u64
+    requires fits { Fits source.now.text.now token }
+    requires number { token.kind ≡ ANumber }
+    ensures { result ≡ number_of source.now.text.now token }
+{
+    let mut value = 0u64;
+    let mut rest = spelled(source, token);
+    'more: while let [digit, after @ ..] = rest {
+        value = 10 * value + digit.saturating_sub(b'0') as u64;
+        rest = after;
+    }
+    value
+}
+
+/// A text without its quotes, where two quotes stand for one.
+fn unquoted(alloc: Global, bytes: &[u8]) -> Result<Text, AllocError>
+    ensures { IfOk result (λ t. t ≡ within_quotes bytes.now) }
+{
+    let mut all = Vec::new(alloc);
+    let mut rest = bytes;
+    'more: while let [byte, _, after @ ..] = rest {
+        all.push(*byte)?;
+        if *byte == b'\'' {
+            rest = after;
+        } else {
+            rest = &rest[1..];
+        }
+    }
+    Ok(Text::of(all))
+}
+
+/// A text between quotes.
+pub fn quoted_at(source: &Source, token: Token) -> Result<Text, AllocError>
+    requires { Fits source.now.text.now token }
+    ensures { IfOk result (λ t. t ≡ quoted_of source.now.text.now token) }
+{
+    match spelled(source, token) {
+        [_, rest @ ..] => unquoted(source.alloc, rest),
+        [] => unquoted(source.alloc, &[]),
+    }
+}
