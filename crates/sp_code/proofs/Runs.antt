@@ -11,8 +11,7 @@ use Rattle.sp_code.specs.declared.code.ForkTable.{ForkTable}
 use Rattle.sp_code.specs.Turns.{Turn, Ran, Ended, Lacks, GoesOn, turn_within}
 use Rattle.sp_code.specs.Memory.{Setting, Memory, memory}
 use Rattle.sp_code.specs.Control.{control, front, standing, Running, IsDone, IsDeadlock, IsFault, IsMemory}
-use Rattle.sp_code.specs.System.{System, Condition, Absent, Runs, Waits, Joins, Laid, Ended, event_of, after, opening}
-use Rattle.sp_code.specs.System as s
+use Rattle.sp_code.specs.System.{System, Condition, Absent, Runs, Waits, Joins, Laid, Gone, Over, event_of, after, opening}
 use Rattle.sp_code.proofs.Small.{Small, small, wide, written}
 
 -- ---- a run, by the processes that make the entries
@@ -33,7 +32,8 @@ module _ (g : Setting) where
   by_condition go q m (Waits stop c) = ([], [])
   by_condition go q m (Joins left c) = ([], [])
   by_condition go q m (Laid c) = ([], [])
-  by_condition go q m (s.Ended c) = ([], [])
+  by_condition go q m Gone = ([], [])
+  by_condition go q m (Over c) = ([], [])
 
   -- what the root's store has of the output in the end
   abbrev output_in : Condition Small → List ℕ
@@ -42,7 +42,8 @@ module _ (g : Setting) where
   output_in (Waits stop c) = written c
   output_in (Joins left c) = written c
   output_in (Laid c) = written c
-  output_in (s.Ended c) = written c
+  output_in Gone = []
+  output_in (Over c) = written c
 
   abbrev told_from : List ℕ → System Small → List Event × List ℕ
   told_from [] m = ([], output_in (m.condition 0))

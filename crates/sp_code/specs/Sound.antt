@@ -22,7 +22,7 @@ use Rattle.sp_code.specs.Turns.{Stopped, IsTurn, IsSafe}
 use Rattle.sp_code.specs.Memory.{Setting, Frame, Memory, memory}
 use Rattle.sp_code.specs.PlainStore.{plain}
 use Rattle.sp_code.specs.Ranks.{IsRanked}
-use Rattle.sp_code.specs.System.{System, Condition, Absent, Runs, Waits, Joins, Laid, Ended, store_of, plan_of, IsSystem, fault_of}
+use Rattle.sp_code.specs.System.{System, Condition, Absent, Runs, Waits, Joins, Laid, Gone, Over, store_of, plan_of, IsSystem, fault_of}
 
 -- a run of code on an input, with these limits
 abbrev pub run_of : Parts → List ℕ → Limits → Setting
@@ -42,14 +42,15 @@ means (f ∷ fs) n = if f.number == n then identity f.owner f.number else means 
 abbrev pub view_at : Config (Memory Plain) → View
 view_at (At pc st n) = record { map = n.store.map; means = means n.frames }
 
--- the store of a process that has not ended
+-- the store of a process, if it has one
 abbrev pub views_at : Condition Plain → List View
 views_at Absent = []
 views_at (Runs c) = view_at c ∷ []
 views_at (Waits stop c) = view_at c ∷ []
 views_at (Joins left c) = view_at c ∷ []
 views_at (Laid c) = view_at c ∷ []
-views_at (Ended c) = []
+views_at Gone = []
+views_at (Over c) = view_at c ∷ []
 
 abbrev pub views_of : (ℕ → Condition Plain) → List ℕ → List View
 views_of condition [] = []

@@ -114,14 +114,15 @@ plan_from ls fs t value i (suc n) = handing_of ls fs value i (child_or (child_at
 -- ---- the state
 
 -- what a process is doing: it runs, or is at the start of a turn; it waits at an offer; it joins so many children yet; it was laid
--- down; it has ended
+-- down; it has ended, and its pieces went back to its parent; it was the first process, and has ended
 pub data Condition (S : Type 0) : Type 0 where
   Absent : Condition S
   Runs : (c : Config (Memory S)) → Condition S
   Waits : (stop : Stop) (c : Config (Memory S)) → Condition S
   Joins : (left : ℕ) (c : Config (Memory S)) → Condition S
   Laid : (c : Config (Memory S)) → Condition S
-  Ended : (c : Config (Memory S)) → Condition S
+  Gone : Condition S
+  Over : (c : Config (Memory S)) → Condition S
 
 -- the processes by their numbers; what the entries have given to processes and channels; whose offer is pending on a channel;
 -- whether a fault stands; how many entries fork, open, send and receive there were
@@ -167,7 +168,8 @@ module _ {S : Type 0} where
   store_in (Waits s (At pc st n)) = Some n.store
   store_in (Joins left (At pc st n)) = Some n.store
   store_in (Laid (At pc st n)) = Some n.store
-  store_in (Ended (At pc st n)) = Some n.store
+  store_in Gone = None
+  store_in (Over (At pc st n)) = Some n.store
 
   -- what a process is stopped at, if it waits with an offer
   abbrev pub stop_of : Condition S → Option Stop
@@ -176,7 +178,8 @@ module _ {S : Type 0} where
   stop_of (Waits s c) = Some s
   stop_of (Joins left c) = None
   stop_of (Laid c) = None
-  stop_of (Ended c) = None
+  stop_of Gone = None
+  stop_of (Over c) = None
 
   abbrev pub pending_stop : System S → Option ℕ → Option Stop
   pending_stop s None = None
@@ -293,7 +296,8 @@ module _ {S : Type 0} (stores : Stores S) (g : Setting) where
   received cs (Waits Pauses c) = Runs c
   received cs (Joins left c) = Joins left c
   received cs (Laid c) = Laid c
-  received cs (Ended c) = Ended c
+  received cs Gone = Gone
+  received cs (Over c) = Over c
 
   abbrev pub message_of : Option Stop → List Cell
   message_of None = []
@@ -314,7 +318,7 @@ module _ {S : Type 0} (stores : Stores S) (g : Setting) where
   taken q stop ch a c (Some z) s =
       record (becomes q (Runs (on_store (put_cells stores a (message_of (stop_of (s.condition z)))) c)) (becomes z (received [] (s.condition z)) s)) { pending = at_key ◌==◌ ch None s.pending }
 
-  -- a child's pieces go back to its parent, which goes on after the last one
+  -- a child's pieces go back to its parent, which goes on after the last one. The first process has none
   abbrev pub rejoined : Config (Memory S) → Condition S → Condition S
   rejoined c Absent = Absent
   rejoined c (Runs d) = Runs d
@@ -323,11 +327,12 @@ module _ {S : Type 0} (stores : Stores S) (g : Setting) where
       let e = on_store (λ m. stores.joined m (store_of c)) d in
       if left == 1 then Runs e else Joins (left - 1) e
   rejoined c (Laid d) = Laid d
-  rejoined c (Ended d) = Ended d
+  rejoined c Gone = Gone
+  rejoined c (Over d) = Over d
 
-  abbrev pub reported : Config (Memory S) → Option Birth → System S → System S
-  reported c None s = s
-  reported c (Some b) s = becomes b.parent (rejoined c (s.condition b.parent)) s
+  abbrev pub reported : ℕ → Config (Memory S) → Option Birth → System S → System S
+  reported q c None s = becomes q (Over c) s
+  reported q c (Some b) s = becomes b.parent (rejoined c (s.condition b.parent)) (becomes q Gone s)
 
   -- what a stop that is no fault does
   abbrev pub happens : ℕ → Stop → Config (Memory S) → System S → System S
@@ -335,7 +340,7 @@ module _ {S : Type 0} (stores : Stores S) (g : Setting) where
   happens q (Opens a) c s = counted (opened q a c s)
   happens q (Sends ch k cs) c s = counted (sent q (Sends ch k cs) ch cs c (s.pending ch) s)
   happens q (Receives ch k a) c s = counted (taken q (Receives ch k a) ch a c (s.pending ch) s)
-  happens q Ends c s = reported c (s.births.birth q) (becomes q (Ended c) s)
+  happens q Ends c s = reported q c (s.births.birth q) s
   happens q Pauses c s = becomes q (Runs c) s
 
   abbrev pub lays : ℕ → Config (Memory S) → System S → System S
