@@ -1,7 +1,11 @@
 //! The program: the top call over the files of the system and the standard streams.
 #![tactic(auto)]
 
-use sp_outside::{FileLibrary, StreamSink, put_all};
+ghost use Rattle.std.specs.Prelude.{◌≡◌, []};
+
+use sp_outside::{FileLibrary, Library, Sink, Source, StreamSink, StreamSource, put_all};
+use sp_report::{Census, ProcessTree, Timeline, Waiting, Watcher};
+use std::alloc::Global;
 use std::io::ErrorKind;
 use std::process::ExitCode;
 use std::{env, io};
@@ -9,20 +13,9 @@ use superpascal::superpascal;
 
 /// Runs the words behind the program's name, and ends with the status of the call.
 fn main(rt: HostRuntime) -> ExitCode {
-    let mut library = FileLibrary::new(&rt);
-    let mut output = StreamSink::new(rt.stdout());
     let mut notes = StreamSink::new(rt.stderr());
-    match words(&rt) {
-        Ok(words) => {
-            let outcome = superpascal(
-                rt.alloc(),
-                words.as_slice(),
-                &mut library,
-                &mut output,
-                &mut notes,
-            );
-            ExitCode::from(outcome.status)
-        }
+    match run(&rt, &mut notes) {
+        Ok(status) => ExitCode::from(status),
         Err(error) => {
             // Words are text, so others are refused.
             let (status, line) = if error.kind() == ErrorKind::OutOfMemory {
@@ -36,6 +29,54 @@ fn main(rt: HostRuntime) -> ExitCode {
             }
         }
     }
+}
+
+// Makes the watchers, and makes the call over the files and streams of the system.
+fn run<N: Sink>(rt: &HostRuntime, notes: &mut N) -> io::Result<u8> {
+    let words = words(rt)?;
+    let alloc = rt.alloc();
+    let timeline = Box::new(alloc, Timeline::new(alloc))?;
+    let census = Box::new(alloc, Census::new(alloc))?;
+    let tree = Box::new(alloc, ProcessTree::new(alloc))?;
+    let waiting = Box::new(alloc, Waiting::new(alloc))?;
+    let mut library = FileLibrary::new(rt);
+    let mut input = StreamSource::new(rt.stdin());
+    let mut output = StreamSink::new(rt.stdout());
+    watched(
+        alloc,
+        words.as_slice(),
+        &mut library,
+        &mut input,
+        &mut output,
+        notes,
+        (timeline, census, tree, waiting),
+    )
+}
+
+// The call with these watchers, and its status.
+fn watched<L: Library, I: Source, O: Sink, N: Sink>(
+    alloc: Global,
+    words: &[String],
+    library: &mut L,
+    input: &mut I,
+    output: &mut O,
+    notes: &mut N,
+    watchers: (
+        Box<dyn Watcher>,
+        Box<dyn Watcher>,
+        Box<dyn Watcher>,
+        Box<dyn Watcher>,
+    ),
+) -> io::Result<u8>
+    requires first { told watchers.0 ≡ [] }
+    requires second { told watchers.1 ≡ [] }
+    requires third { told watchers.2 ≡ [] }
+    requires fourth { told watchers.3 ≡ [] }
+{
+    let (timeline, census, tree, waiting) = watchers;
+    let watchers = vec![in alloc; timeline, census, tree, waiting]?;
+    let outcome = superpascal(alloc, words, library, input, output, notes, watchers);
+    Ok(outcome.status)
 }
 
 // The words behind the program's name.

@@ -1,30 +1,22 @@
 -- What follows from the cause of an answer.
-use Rattle.std.proofs.Common.{◌≡◌, ◌≢◌, ◌⊎◌, inl, inr, ℕ, List, [], Option, Some, None, true, false, refl, sym, ◌∙◌, ap, subst, arith}
+use Rattle.std.proofs.Common.{◌≡◌, ◌≢◌, ◌⊎◌, inl, inr, ℕ, ◌<◌, ◌≤◌, List, [], length, Option, Some, None, true, false, Ok, refl, sym, ◌∙◌, ap, subst, arith}
 use Rattle.std.specs.Prelude.{IfSome}
 use Rattle.sp_base.specs.declared.fault.Fault.{Fault}
+use Rattle.sp_base.specs.declared.limits.Limits.{Limits}
+use Rattle.sp_base.specs.declared.limits.Show.{Show}
 use Rattle.sp_first.specs.declared.machine.Ended.{Ended}
 use Rattle.sp_first.specs.Grammar.{Program, IsFirstForm}
 use Rattle.sp_first.specs.Meaning.{meaning}
-use Rattle.sp_outside.specs.Counts.{Rose}
+use Rattle.sp_first.specs.Runs.{Gives}
+use Rattle.sp_words.specs.Words.{command_of}
+use Rattle.sp_words.specs.declared.command.Command.{Command}
+use Rattle.sp_words.specs.declared.command.Command.TheVariants as command
 use Rattle.superpascal.specs.declared.ending.Ending.{Ending}
 use Rattle.superpascal.specs.declared.ending.Ending.TheVariants as e
-use Rattle.superpascal.specs.Answers.{status_of, line_of, fault_line, has_run}
-use Rattle.superpascal.specs.Words.{file_of}
-use Rattle.superpascal.specs.Calls.{Ends, IsOther, is_answer_of, IsTold, cause, Got, All, Call, OfText, Exactly, EndsWith, RefusesWords, WritesOutput, NotesFault, WritesNotes}
-
--- the answer to a text is due where the library gave it
-pub cause_of_text : (words : List (List ℕ)) (told : List ℕ → Option (List ℕ)) (before after : List ℕ → ℕ) (name text : List ℕ) (ending : Ending) (output : List ℕ)
-    → file_of words ≡ Some name → IsTold (told name) text → is_answer_of text ending output → cause words told before after ending output
-cause_of_text words told before after name text e.Done output f t k = (name, text, f, t, k)
-cause_of_text words told before after name text (e.Fault x) output f t k = (name, text, f, t, k)
-cause_of_text words told before after name text e.NotBuilt output f t k = (name, f, other (told name) t, k.1)
-  where
-    other : (o : Option (List ℕ)) → IsTold o text → IfSome o IsOther
-    other None h = tt
-    other (Some all) h = subst IsOther h k.0
-cause_of_text words told before after name text e.OutOfMemory output f t k = (name, f, k)
-cause_of_text words told before after name text e.BadWords output f t k = absurd k
-cause_of_text words told before after name text e.ReadFault output f t k = absurd k
+use Rattle.superpascal.specs.declared.ending.Answer.{Answer}
+use Rattle.superpascal.specs.Answers.{status_of, line_of, notes_by, has_run}
+use Rattle.superpascal.specs.Runs.{Reports, run_notes}
+use Rattle.superpascal.specs.Calls.{All, AnswersOthers, Asked, Call, Cause, Ends, EndsWith, Exactly, FitsInput, Found, Got, InputTooLong, IsOutside, IsProgram, IsTold, IsTooLong, IsUnbuilt, IsUnbuiltAfter, IsWithin, OfRun, Ran, ReadsFail, RefusesWords, RunsTo, WritesLine, WritesNotes, WritesOutput, asks, cause, ended_cause, file_of, is_other, is_unbuilt_for, run_cause, silent, text_cause}
 
 -- all trees of a text have one meaning
 abbrev pub Once : Type 0
@@ -39,112 +31,255 @@ some_is f g h = cc
 no_some : (f : Fault) → ◌≡◌ {A = Option Fault} (Some f) None → ⊥
 no_some f h = cc
 
-no_name : (o : Option (List ℕ)) (name : List ℕ) → o ≡ Some name → o ≡ None → ⊥
-no_name o name h k = cc
+no_command : (o : Option Command) (c : Command) → o ≡ Some c → o ≡ None → ⊥
+no_command o c h k = cc
 
-one_name : (o : Option (List ℕ)) (name other : List ℕ) → o ≡ Some name → o ≡ Some other → other ≡ name
-one_name o name other h k = cc
+one_command : (o : Option Command) (c d : Command) → o ≡ Some c → o ≡ Some d → d ≡ c
+one_command o c d h k = cc
 
-module _ (words : List (List ℕ)) (told : List ℕ → Option (List ℕ)) (before after : List ℕ → ℕ) where
-  refuses : (ending : Ending) (output : List ℕ) → cause words told before after ending output → status_of ending ≡ 2 → file_of words ≡ None
-  refuses e.BadWords output k h = k.0
-  refuses _ output k h = absurd (omega arith)
+one_file : (a b : Asked) → asks b ≡ asks a → b.file ≡ a.file
+one_file a b h = cc
 
-  refused : (ending : Ending) (output : List ℕ) → cause words told before after ending output → file_of words ≡ None → status_of ending ≡ 2
-  refused e.BadWords output k h = refl
-  refused e.Done output k h = absurd (no_name _ k.0 k.2 h)
-  refused (e.Fault f) output k h = absurd (no_name _ k.0 k.2 h)
-  refused e.NotBuilt output k h = absurd (no_name _ k.0 k.1 h)
-  refused e.ReadFault output k h = absurd (no_name _ k.0 k.1 h)
-  refused e.OutOfMemory output k h = absurd (no_name _ k.0 k.1 h)
+one_workers : (a b : Asked) → asks b ≡ asks a → b.workers ≡ a.workers
+one_workers a b h = cc
 
-  read_fails : (ending : Ending) (output : List ℕ) → cause words told before after ending output → status_of ending ≡ 5 → (name : List ℕ) × (file_of words ≡ Some name) × Rose (before name) (after name)
-  read_fails e.ReadFault output k h = (k.0, k.1, k.2)
-  read_fails _ output k h = absurd (omega arith)
+one_limits : (a b : Asked) → asks b ≡ asks a → b.limits ≡ a.limits
+one_limits a b h = cc
 
-  silent : (ending : Ending) (output : List ℕ) → cause words told before after ending output → has_run ending ≡ false → output ≡ []
-  silent e.BadWords output k h = k.1
-  silent e.NotBuilt output k h = k.3
-  silent e.ReadFault output k h = k.3
-  silent e.OutOfMemory output k h = k.2
-  silent e.Done output k h = absurd (no_true h)
+one_show : (a b : Asked) → asks b ≡ asks a → b.show ≡ a.show
+one_show a b h = cc
+
+one_asked : (o : Option Command) (a b : Asked) → o ≡ Some (asks a) → o ≡ Some (asks b) → b ≡ a
+one_asked o a b h k =
+    let c = one_command o (asks a) (asks b) h k in
+    λ i. record { file = one_file a b c i; workers = one_workers a b c i; limits = one_limits a b c i; show = one_show a b c i }
+
+no_true : true ≡ false → ⊥
+no_true g = cc
+
+no_false : false ≡ true → ⊥
+no_false g = cc
+
+-- ---- from a text to the cause of an answer
+
+-- a text that is longer than the form allows
+pub long_is_unbuilt : (left : Option (List ℕ)) (limits : Limits) (text : List ℕ) → 65536 < length text → IsUnbuiltAfter left limits text
+long_is_unbuilt left limits text l = (
+  λ fault w. let s = w.1.0.1.short in omega arith,
+  λ p. let s = p.1.short in absurd (omega arith),
+)
+
+module _ (once : Once) (reports : Reports) (left : Option (List ℕ)) (taken taken' : ℕ) (limits : Limits) (show : Show) (text : List ℕ) (ended : Ended) (gives : Gives text (Ok (Some ended))) (fits : FitsInput left) where
+  ends_so : (fault : Option Fault) (output : List ℕ) → ended.fault ≡ fault → output ≡ ended.output → Ends text fault output
+  ends_so fault output f o = (gives.0, gives.1, sym gives.2 ∙ (λ i. record { output = sym o i; fault = f i }))
+
+  runs_to : (fault : Option Fault) (output notes : List ℕ) → ended.fault ≡ fault → output ≡ ended.output → IsWithin limits ended.output → notes ≡ run_notes reports show ended.fault → RunsTo reports limits show text fault output notes
+  runs_to fault output notes f o w n = record {
+    ends = (ends_so fault output f o, subst (IsWithin limits) (sym o) w);
+    notes_are = n ∙ ap (run_notes reports show) f;
+  }
+
+  meets : (IsWithin limits ended.output → ⊥) → IsUnbuilt limits text
+  meets h fault w = h (subst (IsWithin limits) (sym (ap (λ (r : Ended). r.output) (ends_once once text ended.fault fault ended.output w.0 (ends_so ended.fault ended.output refl refl) w.1.0))) w.1.1)
+
+  pub run_of_ended : (ending : Ending) (output notes : List ℕ) → ended_cause reports limits show ended.fault ended.output ending output notes → run_cause reports left taken taken' limits show text ending output notes
+  run_of_ended e.Done output notes k = (fits, runs_to None output notes k.0 k.1 k.2 k.3)
+  run_of_ended (e.Fault x) output notes k = (fits, runs_to (Some x) output notes k.0 k.1 k.2 k.3)
+  run_of_ended e.NotBuilt output notes k = ((meets k.0, λ p. fits), k.1)
+  run_of_ended e.OutOfMemory output notes k = k
+  run_of_ended e.ReadFault output notes k = absurd k
+  run_of_ended e.TooLong output notes k = absurd k
+  run_of_ended e.BadWords output notes k = absurd k
+
+-- a text that is not of the first form
+pub unbuilt_text : (reports : Reports) (left : Option (List ℕ)) (taken taken' : ℕ) (limits : Limits) (show : Show) (text : List ℕ) (a : Answer) → a ≡ silent e.NotBuilt → Gives text (Ok None) → run_cause reports left taken taken' limits show text a.ending a.output a.notes
+unbuilt_text reports left taken taken' limits show text a h gives =
+    subst (λ (b : Answer). run_cause reports left taken taken' limits show text b.ending b.output b.notes) (sym h)
+    (((λ fault w. gives w.1.0.0 w.1.0.1), (λ p. absurd (gives p.0 p.1))), (refl, refl))
+
+-- the answer to a run, where the command asks for one
+pub text_of_run : (reports : Reports) (left : Option (List ℕ)) (taken taken' : ℕ) (c : Command) (file : List ℕ) (workers : ℕ) (limits : Limits) (show : Show) (text : List ℕ) (a : Answer) → c ≡ command.Run file workers limits show
+    → run_cause reports left taken taken' limits show text a.ending a.output a.notes → text_cause reports left taken taken' c text a
+text_of_run reports left taken taken' c file workers limits show text a h k = subst (λ (d : Command). text_cause reports left taken taken' d text a) (sym h) k
+
+-- an input that was read whole
+pub fits_of : (left : Option (List ℕ)) (all : List ℕ) → IfSome left (λ bytes. all ≡ bytes) → length all ≤ 16777216 → FitsInput left
+fits_of None all h l = tt
+fits_of (Some bytes) all h l = subst (λ (x : List ℕ). length x ≤ 16777216) h l
+
+-- what holds of a told text holds of what is told
+when_told : (P : List ℕ → Type 0) (o : Option (List ℕ)) (text : List ℕ) → IsTold o text → P text → IfSome o P
+when_told P None text h k = tt
+when_told P (Some all) text h k = subst P h k
+
+module _ (f : Found) where
+  cause_of_run : (a : Asked) (text : List ℕ) → command_of f.words ≡ Some (asks a) → IsTold (f.told a.file) text → (ending : Ending) (output notes : List ℕ) → run_cause f.reports f.left f.taken f.taken' a.limits a.show text ending output notes → cause f ending output notes
+  cause_of_run a text w t e.Done output notes k = record { asked = a; text = text; words_are = w; told_is = t; fits = k.0; runs = k.1 }
+  cause_of_run a text w t (e.Fault x) output notes k = record { asked = a; text = text; words_are = w; told_is = t; fits = k.0; runs = k.1 }
+  cause_of_run a text w t e.NotBuilt output notes k = (asks a, w, when_told (IsUnbuiltAfter f.left a.limits) (f.told a.file) text t k.0, k.1)
+  cause_of_run a text w t e.ReadFault output notes k = (asks a, w, inr k.0, k.1)
+  cause_of_run a text w t e.TooLong output notes k = (a, w, when_told IsProgram (f.told a.file) text t k.0, k.1, k.2)
+  cause_of_run a text w t e.OutOfMemory output notes k = k
+  cause_of_run a text w t e.BadWords output notes k = absurd k
+
+  other_cause : (c : Command) (a : Answer) → command_of f.words ≡ Some c → is_unbuilt_for f.told f.left c → a ≡ silent e.NotBuilt → Cause f a
+  other_cause c a w u h = subst (Cause f) (sym h) (c, w, u, (refl, refl))
+
+  -- the answer to a text is due where the library gave it
+  pub cause_of_text : (c : Command) (text : List ℕ) (a : Answer) → command_of f.words ≡ Some c → IsTold (f.told (file_of c)) text → text_cause f.reports f.left f.taken f.taken' c text a → Cause f a
+  cause_of_text (command.Run file workers limits show) text a w t k = cause_of_run (record { file = file; workers = workers; limits = limits; show = show }) text w t a.ending a.output a.notes k
+  cause_of_text (command.Check file) text a w t k = other_cause (command.Check file) a w tt k
+  cause_of_text (command.Code file) text a w t k = other_cause (command.Code file) a w tt k
+  cause_of_text (command.Sets file) text a w t k = other_cause (command.Sets file) a w tt k
+
+  long_told : (limits : Limits) (o : Option (List ℕ)) → IfSome o (λ all. 1048576 < length all) → IfSome o (IsUnbuiltAfter f.left limits)
+  long_told limits None h = tt
+  long_told limits (Some all) h = long_is_unbuilt f.left limits all (omega arith)
+
+  -- a text that is too long for the library
+  pub cause_of_long : (c : Command) → command_of f.words ≡ Some c → IfSome (f.told (file_of c)) (λ all. 1048576 < length all) → Cause f (silent e.NotBuilt)
+  cause_of_long (command.Run file workers limits show) w h = (command.Run file workers limits show, w, long_told limits (f.told file) h, (refl, refl))
+  cause_of_long (command.Check file) w h = (command.Check file, w, tt, (refl, refl))
+  cause_of_long (command.Code file) w h = (command.Code file, w, tt, (refl, refl))
+  cause_of_long (command.Sets file) w h = (command.Sets file, w, tt, (refl, refl))
+
+  -- ---- from the cause to the status
+
+  -- a status that is due, or one of the outside
+  abbrev Due : Ending → ℕ → Type 0
+  Due ending s = (status_of ending ≡ s) ⊎ IsOutside (status_of ending)
+
+  pub silent_output : (ending : Ending) (output notes : List ℕ) → cause f ending output notes → has_run ending ≡ false → output ≡ []
+  silent_output e.BadWords output notes k h = k.1.0
+  silent_output e.NotBuilt output notes k h = k.3.0
+  silent_output e.ReadFault output notes k h = k.3.0
+  silent_output e.TooLong output notes k h = k.4.0
+  silent_output e.OutOfMemory output notes k h = k.0
+  silent_output e.Done output notes k h = absurd (no_true h)
+  silent_output (e.Fault x) output notes k h = absurd (no_true h)
+
+  refuses : (ending : Ending) (output notes : List ℕ) → cause f ending output notes → status_of ending ≡ 2 → command_of f.words ≡ None
+  refuses e.BadWords output notes k h = k.0
+  refuses _ output notes k h = absurd (omega arith)
+
+  refused : (ending : Ending) (output notes : List ℕ) → cause f ending output notes → command_of f.words ≡ None → Due ending 2
+  refused e.BadWords output notes k h = inl refl
+  refused e.Done output notes k h = absurd (no_command _ _ k.words_are h)
+  refused (e.Fault x) output notes k h = absurd (no_command _ _ k.words_are h)
+  refused e.NotBuilt output notes k h = absurd (no_command _ _ k.1 h)
+  refused e.ReadFault output notes k h = inr (omega arith, omega arith)
+  refused e.TooLong output notes k h = inr (omega arith, omega arith)
+  refused e.OutOfMemory output notes k h = inr (omega arith, omega arith)
+
+  others_due : (c : Command) → command_of f.words ≡ Some c → is_other c → (ending : Ending) (output notes : List ℕ) → cause f ending output notes → Due ending 1
+  others_due c w o e.Done output notes k = absurd (subst is_other (one_command _ _ _ k.words_are w) o)
+  others_due c w o (e.Fault x) output notes k = absurd (subst is_other (one_command _ _ _ k.words_are w) o)
+  others_due c w o e.NotBuilt output notes k = inl refl
+  others_due c w o e.BadWords output notes k = absurd (no_command _ _ w k.0)
+  others_due c w o e.ReadFault output notes k = inr (omega arith, omega arith)
+  others_due c w o e.TooLong output notes k = inr (omega arith, omega arith)
+  others_due c w o e.OutOfMemory output notes k = inr (omega arith, omega arith)
+
+  read_fails : (ending : Ending) (output notes : List ℕ) → cause f ending output notes → status_of ending ≡ 5 → ReadsFail f.words f.before f.after f.taken f.taken'
+  read_fails e.ReadFault output notes k h = (k.0, k.1, k.2)
+  read_fails _ output notes k h = absurd (omega arith)
+
+  input_long : (ending : Ending) (output notes : List ℕ) → cause f ending output notes → status_of ending ≡ 7 → (a : Asked) × (command_of f.words ≡ Some (asks a)) × IfSome (f.told a.file) IsProgram × IfSome f.left IsTooLong
+  input_long e.TooLong output notes k h = (k.0, k.1, k.2, k.3)
+  input_long _ output notes k h = absurd (omega arith)
+
+  fits_not : (o : Option (List ℕ)) (input : List ℕ) → FitsInput o → o ≡ Some input → IsTooLong input → ⊥
+  fits_not None input h g l = no_none input g
     where
-      no_true : true ≡ false → ⊥
-      no_true g = cc
-  silent (e.Fault f) output k h = absurd (no_true h)
+      no_none : (input : List ℕ) → ◌≡◌ {A = Option (List ℕ)} None (Some input) → ⊥
+      no_none input g = cc
+  fits_not (Some all) input h g l = let x : all ≡ input = some_same all input g in let y : length all ≡ length input = ap length x in omega arith
     where
-      no_true : true ≡ false → ⊥
-      no_true g = cc
+      some_same : (a b : List ℕ) → ◌≡◌ {A = Option (List ℕ)} (Some a) (Some b) → a ≡ b
+      some_same a b g = cc
 
-  module _ (name text : List ℕ) (f : file_of words ≡ Some name) (g : told name ≡ Some text) where
-    one_text : (other all : List ℕ) → file_of words ≡ Some other → IsTold (told other) all → all ≡ text
-    one_text other all h t = subst (λ o. IsTold o all) (ap told (one_name _ name other f h) ∙ g) t
+  module _ (a : Asked) (text : List ℕ) (w : command_of f.words ≡ Some (asks a)) (t : f.told a.file ≡ Some text) where
+    told_text : (b : Asked) (all : List ℕ) → b ≡ a → IsTold (f.told b.file) all → all ≡ text
+    told_text b all h i = subst (λ o. IsTold o all) (ap (λ (x : Asked). f.told x.file) h ∙ t) i
 
-    ends : (other all : List ℕ) (x : Option Fault) (output : List ℕ) → file_of words ≡ Some other → IsTold (told other) all → Ends all x output → Ends text x output
-    ends other all x output h t k = subst (λ v. Ends v x output) (one_text other all h t) k
+    run_is : (fault : Option Fault) (output notes : List ℕ) → Ran f fault output notes → RunsTo f.reports a.limits a.show text fault output notes
+    run_is fault output notes r =
+        let same : r.asked ≡ a = one_asked _ a r.asked w r.words_are in
+        subst (λ (x : List ℕ). RunsTo f.reports a.limits a.show x fault output notes) (told_text r.asked r.text same r.told_is)
+        (subst (λ (b : Asked). RunsTo f.reports b.limits b.show r.text fault output notes) same r.runs)
 
-    other_text : (other : List ℕ) → file_of words ≡ Some other → IfSome (told other) IsOther → IsOther text
-    other_text other h t = subst (λ o. IfSome o IsOther) (ap told (one_name _ name other f h) ∙ g) t
+    unbuilt_is : (c : Command) → command_of f.words ≡ Some c → is_unbuilt_for f.told f.left c → IsUnbuiltAfter f.left a.limits text
+    unbuilt_is c v u =
+        subst (λ o. IfSome o (IsUnbuiltAfter f.left a.limits)) t (subst (is_unbuilt_for f.told f.left) (one_command _ _ _ w v) u)
 
-    done_only : (ending : Ending) (output : List ℕ) → cause words told before after ending output → status_of ending ≡ 0 → EndsWith text None
-    done_only e.Done output k h = (output, ends k.0 k.1 None output k.2 k.3 k.4)
-    done_only _ output k h = absurd (omega arith)
+    done_only : (ending : Ending) (output notes : List ℕ) → cause f ending output notes → status_of ending ≡ 0 → EndsWith a.limits text None
+    done_only e.Done output notes k h = (output, (run_is None output notes k).ends)
+    done_only _ output notes k h = absurd (omega arith)
 
-    fault_only : (ending : Ending) (output : List ℕ) → cause words told before after ending output → status_of ending ≡ 3 → (x : Fault) × EndsWith text (Some x)
-    fault_only (e.Fault x) output k h = (x, (output, ends k.0 k.1 (Some x) output k.2 k.3 k.4))
-    fault_only _ output k h = absurd (omega arith)
+    fault_only : (ending : Ending) (output notes : List ℕ) → cause f ending output notes → status_of ending ≡ 3 → (x : Fault) × EndsWith a.limits text (Some x)
+    fault_only (e.Fault x) output notes k h = (x, (output, (run_is (Some x) output notes k).ends))
+    fault_only _ output notes k h = absurd (omega arith)
 
-    other_only : (ending : Ending) (output : List ℕ) → cause words told before after ending output → status_of ending ≡ 1 → IsOther text
-    other_only e.NotBuilt output k h = other_text k.0 k.1 k.2
-    other_only _ output k h = absurd (omega arith)
+    unbuilt_only : (ending : Ending) (output notes : List ℕ) → cause f ending output notes → status_of ending ≡ 1 → IsUnbuilt a.limits text
+    unbuilt_only e.NotBuilt output notes k h = (unbuilt_is k.0 k.1 k.2).0
+    unbuilt_only _ output notes k h = absurd (omega arith)
 
-    -- a status that is due, or a fault outside or want of memory
-    abbrev Due : Ending → ℕ → Type 0
-    Due ending s = (status_of ending ≡ s) ⊎ ((status_of ending ≡ 5) ⊎ (status_of ending ≡ 8))
+    done_due : Once → EndsWith a.limits text None → (ending : Ending) (output notes : List ℕ) → cause f ending output notes → Due ending 0
+    done_due once h e.Done output notes k = inl refl
+    done_due once h (e.Fault x) output notes k = absurd (no_some x (ap (λ (r : Ended). r.fault) (ends_once once text (Some x) None output h.0 (run_is (Some x) output notes k).ends.0 h.1.0)))
+    done_due once h e.NotBuilt output notes k = absurd ((unbuilt_is k.0 k.1 k.2).0 None h)
+    done_due once h e.BadWords output notes k = absurd (no_command _ _ w k.0)
+    done_due once h e.ReadFault output notes k = inr (omega arith, omega arith)
+    done_due once h e.TooLong output notes k = inr (omega arith, omega arith)
+    done_due once h e.OutOfMemory output notes k = inr (omega arith, omega arith)
 
-    done_due : Once → EndsWith text None → (ending : Ending) (output : List ℕ) → cause words told before after ending output → Due ending 0
-    done_due once w e.Done output k = inl refl
-    done_due once w (e.Fault x) output k = absurd (no_some x (ap (λ (r : Ended). r.fault) (ends_once once text (Some x) None output w.0 (ends k.0 k.1 (Some x) output k.2 k.3 k.4) w.1)))
-    done_due once w e.NotBuilt output k = absurd (other_text k.0 k.1 k.2 w.1.0 w.1.1)
-    done_due once w e.BadWords output k = absurd (no_name _ name f k.0)
-    done_due once w e.ReadFault output k = inr (inl refl)
-    done_due once w e.OutOfMemory output k = inr (inr refl)
+    fault_due : Once → ((x : Fault) × EndsWith a.limits text (Some x)) → (ending : Ending) (output notes : List ℕ) → cause f ending output notes → Due ending 3
+    fault_due once h e.Done output notes k = absurd (no_some h.0 (ap (λ (r : Ended). r.fault) (ends_once once text (Some h.0) None h.1.0 output h.1.1.0 (run_is None output notes k).ends.0)))
+    fault_due once h (e.Fault x) output notes k = inl refl
+    fault_due once h e.NotBuilt output notes k = absurd ((unbuilt_is k.0 k.1 k.2).0 (Some h.0) h.1)
+    fault_due once h e.BadWords output notes k = absurd (no_command _ _ w k.0)
+    fault_due once h e.ReadFault output notes k = inr (omega arith, omega arith)
+    fault_due once h e.TooLong output notes k = inr (omega arith, omega arith)
+    fault_due once h e.OutOfMemory output notes k = inr (omega arith, omega arith)
 
-    fault_due : Once → ((x : Fault) × EndsWith text (Some x)) → (ending : Ending) (output : List ℕ) → cause words told before after ending output → Due ending 3
-    fault_due once w e.Done output k = absurd (no_some w.0 (ap (λ (r : Ended). r.fault) (ends_once once text (Some w.0) None w.1.0 output w.1.1 (ends k.0 k.1 None output k.2 k.3 k.4))))
-    fault_due once w (e.Fault x) output k = inl refl
-    fault_due once w e.NotBuilt output k = absurd (other_text k.0 k.1 k.2 w.1.1.0 w.1.1.1)
-    fault_due once w e.BadWords output k = absurd (no_name _ name f k.0)
-    fault_due once w e.ReadFault output k = inr (inl refl)
-    fault_due once w e.OutOfMemory output k = inr (inr refl)
+    unbuilt_due : IsUnbuilt a.limits text → (ending : Ending) (output notes : List ℕ) → cause f ending output notes → Due ending 1
+    unbuilt_due h e.Done output notes k = absurd (h None (output, (run_is None output notes k).ends))
+    unbuilt_due h (e.Fault x) output notes k = absurd (h (Some x) (output, (run_is (Some x) output notes k).ends))
+    unbuilt_due h e.NotBuilt output notes k = inl refl
+    unbuilt_due h e.BadWords output notes k = absurd (no_command _ _ w k.0)
+    unbuilt_due h e.ReadFault output notes k = inr (omega arith, omega arith)
+    unbuilt_due h e.TooLong output notes k = inr (omega arith, omega arith)
+    unbuilt_due h e.OutOfMemory output notes k = inr (omega arith, omega arith)
 
-    other_due : IsOther text → (ending : Ending) (output : List ℕ) → cause words told before after ending output → Due ending 1
-    other_due w e.Done output k = let b = ends k.0 k.1 None output k.2 k.3 k.4 in absurd (w b.0 b.1)
-    other_due w (e.Fault x) output k = let b = ends k.0 k.1 (Some x) output k.2 k.3 k.4 in absurd (w b.0 b.1)
-    other_due w e.NotBuilt output k = inl refl
-    other_due w e.BadWords output k = absurd (no_name _ name f k.0)
-    other_due w e.ReadFault output k = inr (inl refl)
-    other_due w e.OutOfMemory output k = inr (inr refl)
+    long_due : IsProgram text → (input : List ℕ) → f.left ≡ Some input → IsTooLong input → (ending : Ending) (output notes : List ℕ) → cause f ending output notes → IsOutside (status_of ending)
+    long_due p input l h e.Done output notes k = absurd (fits_not f.left input k.fits l h)
+    long_due p input l h (e.Fault x) output notes k = absurd (fits_not f.left input k.fits l h)
+    long_due p input l h e.NotBuilt output notes k = absurd (fits_not f.left input ((unbuilt_is k.0 k.1 k.2).1 p) l h)
+    long_due p input l h e.BadWords output notes k = absurd (no_command _ _ w k.0)
+    long_due p input l h e.ReadFault output notes k = (omega arith, omega arith)
+    long_due p input l h e.TooLong output notes k = (omega arith, omega arith)
+    long_due p input l h e.OutOfMemory output notes k = (omega arith, omega arith)
 
-    -- the output of an answer is that of the text
-    one_output : Once → (x : Option Fault) (bytes : List ℕ) → Ends text x bytes → (ending : Ending) (output : List ℕ) → cause words told before after ending output → has_run ending ≡ true → output ≡ bytes
-    one_output once x bytes w e.Done output k h = ap (λ (r : Ended). r.output) (ends_once once text None x output bytes (ends k.0 k.1 None output k.2 k.3 k.4) w)
-    one_output once x bytes w (e.Fault y) output k h = ap (λ (r : Ended). r.output) (ends_once once text (Some y) x output bytes (ends k.0 k.1 (Some y) output k.2 k.3 k.4) w)
-    one_output once x bytes w e.NotBuilt output k h = absurd (other_text k.0 k.1 k.2 w.0 w.1)
-    one_output once x bytes w e.BadWords output k h = absurd (no_name _ name f k.0)
-    one_output once x bytes w e.ReadFault output k h = absurd (no_false h)
-      where
-        no_false : false ≡ true → ⊥
-        no_false p = cc
-    one_output once x bytes w e.OutOfMemory output k h = absurd (no_false h)
-      where
-        no_false : false ≡ true → ⊥
-        no_false p = cc
+    -- the output and the notes of an answer are those of the text's run
+    one_output : Once → (x : Option Fault) (bytes : List ℕ) → Ends text x bytes → (ending : Ending) (output notes : List ℕ) → cause f ending output notes → has_run ending ≡ true → output ≡ bytes
+    one_output once x bytes h e.Done output notes k r = ap (λ (r : Ended). r.output) (ends_once once text None x output bytes (run_is None output notes k).ends.0 h)
+    one_output once x bytes h (e.Fault y) output notes k r = ap (λ (r : Ended). r.output) (ends_once once text (Some y) x output bytes (run_is (Some y) output notes k).ends.0 h)
+    one_output once x bytes h e.NotBuilt output notes k r = absurd (no_false r)
+    one_output once x bytes h e.BadWords output notes k r = absurd (no_false r)
+    one_output once x bytes h e.ReadFault output notes k r = absurd (no_false r)
+    one_output once x bytes h e.TooLong output notes k r = absurd (no_false r)
+    one_output once x bytes h e.OutOfMemory output notes k r = absurd (no_false r)
 
-    one_line : Once → (x : Fault) (bytes : List ℕ) → Ends text (Some x) bytes → (ending : Ending) (output : List ℕ) → cause words told before after ending output → status_of ending ≡ 3 → line_of ending ≡ fault_line x
-    one_line once x bytes w (e.Fault y) output k h =
-        ap fault_line (some_is y x (ap (λ (r : Ended). r.fault) (ends_once once text (Some y) (Some x) output bytes (ends k.0 k.1 (Some y) output k.2 k.3 k.4) w)))
-    one_line once x bytes w _ output k h = absurd (omega arith)
+    one_notes : Once → (x : Option Fault) (bytes : List ℕ) → Ends text x bytes → (ending : Ending) (output notes : List ℕ) → cause f ending output notes → has_run ending ≡ true → notes_by ending notes ≡ run_notes f.reports a.show x
+    one_notes once x bytes h e.Done output notes k r =
+        (run_is None output notes k).notes_are ∙ ap (run_notes f.reports a.show) (ap (λ (r : Ended). r.fault) (ends_once once text None x output bytes (run_is None output notes k).ends.0 h))
+    one_notes once x bytes h (e.Fault y) output notes k r =
+        (run_is (Some y) output notes k).notes_are ∙ ap (run_notes f.reports a.show) (ap (λ (r : Ended). r.fault) (ends_once once text (Some y) x output bytes (run_is (Some y) output notes k).ends.0 h))
+    one_notes once x bytes h e.NotBuilt output notes k r = absurd (no_false r)
+    one_notes once x bytes h e.BadWords output notes k r = absurd (no_false r)
+    one_notes once x bytes h e.ReadFault output notes k r = absurd (no_false r)
+    one_notes once x bytes h e.TooLong output notes k r = absurd (no_false r)
+    one_notes once x bytes h e.OutOfMemory output notes k r = absurd (no_false r)
 
 -- a program has run where the status is 0 or 3
 run_by_status : (ending : Ending) → (status_of ending ≡ 0) ⊎ (status_of ending ≡ 3) → has_run ending ≡ true
@@ -156,71 +291,32 @@ run_by_status e.BadWords (inl h) = absurd (omega arith)
 run_by_status e.BadWords (inr h) = absurd (omega arith)
 run_by_status e.ReadFault (inl h) = absurd (omega arith)
 run_by_status e.ReadFault (inr h) = absurd (omega arith)
+run_by_status e.TooLong (inl h) = absurd (omega arith)
+run_by_status e.TooLong (inr h) = absurd (omega arith)
 run_by_status e.OutOfMemory (inl h) = absurd (omega arith)
 run_by_status e.OutOfMemory (inr h) = absurd (omega arith)
 
 no_run_by_status : (ending : Ending) → (status_of ending ≡ 0 → ⊥) → (status_of ending ≡ 3 → ⊥) → has_run ending ≡ false
 no_run_by_status e.Done h k = absurd (h refl)
 no_run_by_status (e.Fault f) h k = absurd (k refl)
-no_run_by_status _ h k = refl
+no_run_by_status e.NotBuilt h k = refl
+no_run_by_status e.BadWords h k = refl
+no_run_by_status e.ReadFault h k = refl
+no_run_by_status e.TooLong h k = refl
+no_run_by_status e.OutOfMemory h k = refl
 
-module _ (words : List (List ℕ)) (told : List ℕ → Option (List ℕ)) (before after : List ℕ → ℕ) (output output' notes notes' : Got) (status : ℕ) (call : Call words told before after output output' notes notes' status) where
+-- the notes where none has run
+line_is : (ending : Ending) (notes : List ℕ) → has_run ending ≡ false → notes_by ending notes ≡ line_of ending
+line_is e.Done notes h = absurd (no_true h)
+line_is (e.Fault f) notes h = absurd (no_true h)
+line_is e.NotBuilt notes h = refl
+line_is e.BadWords notes h = refl
+line_is e.ReadFault notes h = refl
+line_is e.TooLong notes h = refl
+line_is e.OutOfMemory notes h = refl
+
+module _ (f : Found) (output output' notes notes' : Got) (status : ℕ) (call : Call f output output' notes notes' status) where
   -- a status other than 6 is that of the answer
-  undisplaced : (s : ℕ) → (s ≡ 6 → ⊥) → status ≡ s → status_of call.answer.ending ≡ s
-  undisplaced s other h = go call.written.status_is
-    where
-      go : (status ≡ status_of call.answer.ending) ⊎ (status ≡ 6) → status_of call.answer.ending ≡ s
-      go (inl k) = sym k ∙ h
-      go (inr k) = absurd (other (sym h ∙ k))
-
-  due : (s : ℕ) → (status_of call.answer.ending ≡ s) ⊎ ((status_of call.answer.ending ≡ 5) ⊎ (status_of call.answer.ending ≡ 8)) → (status ≡ s) ⊎ ((status ≡ 5) ⊎ ((status ≡ 6) ⊎ (status ≡ 8)))
-  due s d = go call.written.status_is d
-    where
-      go : (status ≡ status_of call.answer.ending) ⊎ (status ≡ 6) → (status_of call.answer.ending ≡ s) ⊎ ((status_of call.answer.ending ≡ 5) ⊎ (status_of call.answer.ending ≡ 8)) → (status ≡ s) ⊎ ((status ≡ 5) ⊎ ((status ≡ 6) ⊎ (status ≡ 8)))
-      go (inr k) h = inr (inr (inl k))
-      go (inl k) (inl h) = inl (k ∙ h)
-      go (inl k) (inr (inl h)) = inr (inl (k ∙ h))
-      go (inl k) (inr (inr h)) = inr (inr (inr (k ∙ h)))
-
-  pub call_bad_words : RefusesWords words status
-  call_bad_words = (λ h. refuses words told before after _ _ call.cause (undisplaced 2 (λ p. absurd (omega arith)) h), λ h. go call.written.status_is h)
-    where
-      go : (status ≡ status_of call.answer.ending) ⊎ (status ≡ 6) → file_of words ≡ None → (status ≡ 2) ⊎ (status ≡ 6)
-      go (inl k) h = inl (k ∙ refused words told before after _ _ call.cause h)
-      go (inr k) h = inr k
-
-  pub call_done : Once → OfText words told (λ text. Exactly status 0 (EndsWith text None))
-  call_done once name text f g = (
-    λ h. done_only words told before after name text f g _ _ call.cause (undisplaced 0 (λ p. absurd (omega arith)) h),
-    λ w. due 0 (done_due words told before after name text f g once w _ _ call.cause),
-  )
-
-  pub call_not_built : OfText words told (λ text. Exactly status 1 (IsOther text))
-  call_not_built name text f g = (
-    λ h. other_only words told before after name text f g _ _ call.cause (undisplaced 1 (λ p. absurd (omega arith)) h),
-    λ w. due 1 (other_due words told before after name text f g w _ _ call.cause),
-  )
-
-  pub call_fault : Once → OfText words told (λ text. Exactly status 3 ((x : Fault) × EndsWith text (Some x)))
-  call_fault once name text f g = (
-    λ h. fault_only words told before after name text f g _ _ call.cause (undisplaced 3 (λ p. absurd (omega arith)) h),
-    λ w. due 3 (fault_due words told before after name text f g once w _ _ call.cause),
-  )
-
-  pub call_read_fault : status ≡ 5 → (name : List ℕ) × (file_of words ≡ Some name) × Rose (before name) (after name)
-  call_read_fault h = read_fails words told before after _ _ call.cause (undisplaced 5 (λ p. absurd (omega arith)) h)
-
-  not_six : (s : ℕ) → (s ≡ 6 → ⊥) → status ≡ s → status ≢ 6
-  not_six s other h k = other (sym h ∙ k)
-
-  pub call_output : Once → OfText words told (λ text. WritesOutput text output output' status)
-  call_output once name text f g x bytes w (inl h) =
-      let r = run_by_status call.answer.ending (inl (undisplaced 0 (λ p. absurd (omega arith)) h)) in
-      subst (λ v. All output output' v) (one_output words told before after name text f g once x bytes w _ _ call.cause r) (call.written.all_written (not_six 0 (λ p. absurd (omega arith)) h)).0
-  call_output once name text f g x bytes w (inr h) =
-      let r = run_by_status call.answer.ending (inr (undisplaced 3 (λ p. absurd (omega arith)) h)) in
-      subst (λ v. All output output' v) (one_output words told before after name text f g once x bytes w _ _ call.cause r) (call.written.all_written (not_six 3 (λ p. absurd (omega arith)) h)).0
-
   same_status : status ≢ 6 → status ≡ status_of call.answer.ending
   same_status h = go call.written.status_is
     where
@@ -228,13 +324,84 @@ module _ (words : List (List ℕ)) (told : List ℕ → Option (List ℕ)) (befo
       go (inl k) = k
       go (inr k) = absurd (h k)
 
+  not_six : (s : ℕ) → (s ≡ 6 → ⊥) → status ≡ s → status ≢ 6
+  not_six s other h k = other (sym h ∙ k)
+
+  undisplaced : (s : ℕ) → (s ≡ 6 → ⊥) → status ≡ s → status_of call.answer.ending ≡ s
+  undisplaced s other h = sym (same_status (not_six s other h)) ∙ h
+
+  due : (s : ℕ) → (status_of call.answer.ending ≡ s) ⊎ IsOutside (status_of call.answer.ending) → (status ≡ s) ⊎ IsOutside status
+  due s d = go call.written.status_is d
+    where
+      go : (status ≡ status_of call.answer.ending) ⊎ (status ≡ 6) → (status_of call.answer.ending ≡ s) ⊎ IsOutside (status_of call.answer.ending) → (status ≡ s) ⊎ IsOutside status
+      go (inr k) h = inr (omega arith, omega arith)
+      go (inl k) (inl h) = inl (k ∙ h)
+      go (inl k) (inr h) = inr (subst IsOutside (sym k) h)
+
+  outside : IsOutside (status_of call.answer.ending) → IsOutside status
+  outside h = go call.written.status_is
+    where
+      go : (status ≡ status_of call.answer.ending) ⊎ (status ≡ 6) → IsOutside status
+      go (inr k) = (omega arith, omega arith)
+      go (inl k) = subst IsOutside (sym k) h
+
+  pub call_bad_words : RefusesWords f.words status
+  call_bad_words = (
+    λ h. refuses f _ _ _ call.cause (undisplaced 2 (λ p. absurd (omega arith)) h),
+    λ h. due 2 (refused f _ _ _ call.cause h),
+  )
+
+  pub call_others : AnswersOthers f.words status
+  call_others c w o = due 1 (others_due f c w o _ _ _ call.cause)
+
+  pub call_done : Once → OfRun f.words f.told (λ a text. Exactly status 0 (EndsWith a.limits text None))
+  call_done once a text w t = (
+    λ h. done_only f a text w t _ _ _ call.cause (undisplaced 0 (λ p. absurd (omega arith)) h),
+    λ h. due 0 (done_due f a text w t once h _ _ _ call.cause),
+  )
+
+  pub call_not_built : OfRun f.words f.told (λ a text. Exactly status 1 (IsUnbuilt a.limits text))
+  call_not_built a text w t = (
+    λ h. unbuilt_only f a text w t _ _ _ call.cause (undisplaced 1 (λ p. absurd (omega arith)) h),
+    λ h. due 1 (unbuilt_due f a text w t h _ _ _ call.cause),
+  )
+
+  pub call_fault : Once → OfRun f.words f.told (λ a text. Exactly status 3 ((x : Fault) × EndsWith a.limits text (Some x)))
+  call_fault once a text w t = (
+    λ h. fault_only f a text w t _ _ _ call.cause (undisplaced 3 (λ p. absurd (omega arith)) h),
+    λ h. due 3 (fault_due f a text w t once h _ _ _ call.cause),
+  )
+
+  pub call_read_fault : status ≡ 5 → ReadsFail f.words f.before f.after f.taken f.taken'
+  call_read_fault h = read_fails f _ _ _ call.cause (undisplaced 5 (λ p. absurd (omega arith)) h)
+
+  pub call_too_long : InputTooLong f.words f.told f.left status
+  call_too_long = (
+    λ h. input_long f _ _ _ call.cause (undisplaced 7 (λ p. absurd (omega arith)) h),
+    λ a text w t p input l h. outside (long_due f a text w t p input l h _ _ _ call.cause),
+  )
+
+  pub call_output : Once → OfRun f.words f.told (λ a text. WritesOutput a text output output' status)
+  call_output once a text w t x bytes h (inl s) =
+      let r = run_by_status call.answer.ending (inl (undisplaced 0 (λ p. absurd (omega arith)) s)) in
+      subst (λ v. All output output' v) (one_output f a text w t once x bytes h _ _ _ call.cause r) (call.written.all_written (not_six 0 (λ p. absurd (omega arith)) s)).0
+  call_output once a text w t x bytes h (inr s) =
+      let r = run_by_status call.answer.ending (inr (undisplaced 3 (λ p. absurd (omega arith)) s)) in
+      subst (λ v. All output output' v) (one_output f a text w t once x bytes h _ _ _ call.cause r) (call.written.all_written (not_six 3 (λ p. absurd (omega arith)) s)).0
+
+  pub call_notes : Once → OfRun f.words f.told (λ a text. WritesNotes f.reports a text notes notes' status)
+  call_notes once a text w t x bytes h (inl s) =
+      let r = run_by_status call.answer.ending (inl (undisplaced 0 (λ p. absurd (omega arith)) s)) in
+      subst (λ v. All notes notes' v) (one_notes f a text w t once x bytes h _ _ _ call.cause r) (call.written.all_written (not_six 0 (λ p. absurd (omega arith)) s)).1
+  call_notes once a text w t x bytes h (inr s) =
+      let r = run_by_status call.answer.ending (inr (undisplaced 3 (λ p. absurd (omega arith)) s)) in
+      subst (λ v. All notes notes' v) (one_notes f a text w t once x bytes h _ _ _ call.cause r) (call.written.all_written (not_six 3 (λ p. absurd (omega arith)) s)).1
+
   pub call_no_output : status ≢ 0 → status ≢ 3 → status ≢ 6 → output' ≡ output
   call_no_output h k l = let e = same_status l in call.written.untouched (no_run_by_status call.answer.ending (λ m. h (e ∙ m)) (λ m. k (e ∙ m)))
 
-  pub call_notes : status ≢ 6 → WritesNotes notes notes' status
-  call_notes h = (call.answer.ending, same_status h, (call.written.all_written h).1)
-
-  pub call_fault_notes : Once → OfText words told (λ text. NotesFault text notes notes' status)
-  call_fault_notes once name text f g x bytes w h =
-      subst (λ v. All notes notes' v) (one_line words told before after name text f g once x bytes w _ _ call.cause (undisplaced 3 (λ p. absurd (omega arith)) h))
-      (call.written.all_written (not_six 3 (λ p. absurd (omega arith)) h)).1
+  pub call_line : status ≢ 0 → status ≢ 3 → status ≢ 6 → WritesLine notes notes' status
+  call_line h k l =
+      let e = same_status l in
+      let r = no_run_by_status call.answer.ending (λ m. h (e ∙ m)) (λ m. k (e ∙ m)) in
+      (call.answer.ending, e, r, subst (λ v. All notes notes' v) (line_is call.answer.ending call.answer.notes r) (call.written.all_written l).1)

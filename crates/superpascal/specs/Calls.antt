@@ -1,55 +1,173 @@
 -- The contract of the top call, in parts.
 use Rattle.std.specs.Prelude.{◌≡◌, ◌≢◌, ◌⊎◌, ℕ, ◌<◌, ◌≤◌, List, [], true, false, length, take, Option, Some, None, IfSome}
 use Rattle.sp_base.specs.declared.fault.Fault.{Fault}
+use Rattle.sp_base.specs.declared.limits.Limits.{Limits}
+use Rattle.sp_base.specs.declared.limits.Show.{Show}
 use Rattle.sp_first.specs.Grammar.{Program, IsFirstForm}
 use Rattle.sp_first.specs.Meaning.{meaning}
 use Rattle.sp_outside.specs.Counts.{Rose}
 use Rattle.sp_outside.specs.Told.{Grows}
+use Rattle.sp_words.specs.Words.{command_of}
+use Rattle.sp_words.specs.declared.command.Command.{Command}
+use Rattle.sp_words.specs.declared.command.Command.TheVariants as command
 use Rattle.superpascal.specs.declared.ending.Ending.{Ending}
 use Rattle.superpascal.specs.declared.ending.Ending.TheVariants as e
 use Rattle.superpascal.specs.declared.ending.Answer.{Answer}
-use Rattle.superpascal.specs.Answers.{status_of, line_of, fault_line, has_run}
-use Rattle.superpascal.specs.Words.{file_of}
+use Rattle.superpascal.specs.Answers.{status_of, line_of, notes_of, has_run}
+use Rattle.superpascal.specs.Runs.{Reports, run_notes}
 
--- an answer without output
-abbrev pub silent : Ending → Answer
-silent ending = record { ending = ending; output = [] }
+-- ---- words
+
+-- the run that words ask for
+pub record Asked : Type 0 where
+  pub file : List ℕ
+  pub workers : ℕ
+  pub limits : Limits
+  pub show : Show
+
+abbrev pub asks : Asked → Command
+asks a = command.Run a.file a.workers a.limits a.show
+
+-- the name of the text that a command is about
+abbrev pub file_of : Command → List ℕ
+file_of (command.Check file) = file
+file_of (command.Run file workers limits show) = file
+file_of (command.Code file) = file
+file_of (command.Sets file) = file
+
+-- ---- texts
 
 -- the program of the text writes this output and ends with this fault, or with none
 abbrev pub Ends : List ℕ → Option Fault → List ℕ → Type 0
 Ends text fault output = (p : Program) × IsFirstForm text p × (meaning p ≡ record { output = output; fault = fault })
 
--- the text is not of the first form
-abbrev pub IsOther : List ℕ → Type 0
-IsOther text = (p : Program) → IsFirstForm text p → ⊥
+-- the text is of the first form
+abbrev pub IsProgram : List ℕ → Type 0
+IsProgram text = (p : Program) × IsFirstForm text p
 
-abbrev pub is_answer_of : List ℕ → Ending → List ℕ → Type 0
-is_answer_of text e.Done output = Ends text None output
-is_answer_of text (e.Fault f) output = Ends text (Some f) output
-is_answer_of text e.NotBuilt output = IsOther text × (output ≡ [])
-is_answer_of text e.OutOfMemory output = output ≡ []
-is_answer_of text e.BadWords output = ⊥
-is_answer_of text e.ReadFault output = ⊥
+-- no limit is met: there are as many cells as a text of the first form may have variables, and the output is no longer
+-- than it may be
+abbrev pub IsWithin : Limits → List ℕ → Type 0
+IsWithin limits output = (4096 ≤ limits.cells) × (length output ≤ limits.output)
 
--- the answer to a text, or want of memory
-abbrev pub IsAnswerOf : List ℕ → Answer → Type 0
-IsAnswerOf text a = is_answer_of text a.ending a.output
+-- the run of the text ends so, and meets no limit
+abbrev pub EndsWithin : Limits → List ℕ → Option Fault → List ℕ → Type 0
+EndsWithin limits text fault output = Ends text fault output × IsWithin limits output
+
+abbrev pub EndsWith : Limits → List ℕ → Option Fault → Type 0
+EndsWith limits text fault = (output : List ℕ) × EndsWithin limits text fault output
+
+-- the text is not of the first form, or its run meets a limit
+abbrev pub IsUnbuilt : Limits → List ℕ → Type 0
+IsUnbuilt limits text = (fault : Option Fault) → EndsWith limits text fault → ⊥
 
 -- the text is what is told, where it is told
 abbrev pub IsTold : Option (List ℕ) → List ℕ → Type 0
 IsTold o text = IfSome o (λ all. text ≡ all)
 
--- Why an answer with this ending and this output is due. `told` is what the library tells of each name at entry, `before` and `after` are its counts of faults under each name.
-abbrev pub cause : List (List ℕ) → (List ℕ → Option (List ℕ)) → (List ℕ → ℕ) → (List ℕ → ℕ) → Ending → List ℕ → Type 0
-cause words told before after e.Done output = (name : List ℕ) × (text : List ℕ) × (file_of words ≡ Some name) × IsTold (told name) text × Ends text None output
-cause words told before after (e.Fault f) output = (name : List ℕ) × (text : List ℕ) × (file_of words ≡ Some name) × IsTold (told name) text × Ends text (Some f) output
-cause words told before after e.NotBuilt output = (name : List ℕ) × (file_of words ≡ Some name) × IfSome (told name) IsOther × (output ≡ [])
-cause words told before after e.BadWords output = (file_of words ≡ None) × (output ≡ [])
-cause words told before after e.ReadFault output = (name : List ℕ) × (file_of words ≡ Some name) × Rose (before name) (after name) × (output ≡ [])
-cause words told before after e.OutOfMemory output = (name : List ℕ) × (file_of words ≡ Some name) × (output ≡ [])
+-- more input than is read
+abbrev pub IsTooLong : List ℕ → Type 0
+IsTooLong input = 16777216 < length input
 
-abbrev pub Cause : List (List ℕ) → (List ℕ → Option (List ℕ)) → (List ℕ → ℕ) → (List ℕ → ℕ) → Answer → Type 0
-Cause words told before after a = cause words told before after a.ending a.output
+-- the input, where it is told, is read whole
+abbrev pub FitsInput : Option (List ℕ) → Type 0
+FitsInput left = IfSome left (λ input. length input ≤ 16777216)
+
+-- the text is not of the first form, or its input was read and its run meets a limit
+abbrev pub IsUnbuiltAfter : Option (List ℕ) → Limits → List ℕ → Type 0
+IsUnbuiltAfter left limits text = IsUnbuilt limits text × (IsProgram text → FitsInput left)
+
+-- ---- answers
+
+-- an answer of a call by which no program has run
+abbrev pub silent : Ending → Answer
+silent ending = record { ending = ending; output = []; notes = [] }
+
+abbrev pub IsSilent : List ℕ → List ℕ → Type 0
+IsSilent output notes = (output ≡ []) × (notes ≡ [])
+
+-- how a run that ended so is answered
+pub record RunsTo (reports : Reports) (limits : Limits) (show : Show) (text : List ℕ) (fault : Option Fault) (output notes : List ℕ) : Type 0 where
+  pub ends : EndsWithin limits text fault output
+  pub notes_are : notes ≡ run_notes reports show fault
+
+-- Why an answer to a run of this text is due. `left` is the input that is told at entry, `taken` and `taken'` are the
+-- source's counts of faults.
+abbrev pub run_cause : Reports → Option (List ℕ) → ℕ → ℕ → Limits → Show → List ℕ → Ending → List ℕ → List ℕ → Type 0
+run_cause reports left taken taken' limits show text e.Done output notes = FitsInput left × RunsTo reports limits show text None output notes
+run_cause reports left taken taken' limits show text (e.Fault f) output notes = FitsInput left × RunsTo reports limits show text (Some f) output notes
+run_cause reports left taken taken' limits show text e.NotBuilt output notes = IsUnbuiltAfter left limits text × IsSilent output notes
+run_cause reports left taken taken' limits show text e.ReadFault output notes = Rose taken taken' × IsSilent output notes
+run_cause reports left taken taken' limits show text e.TooLong output notes = IsProgram text × IfSome left IsTooLong × IsSilent output notes
+run_cause reports left taken taken' limits show text e.OutOfMemory output notes = IsSilent output notes
+run_cause reports left taken taken' limits show text e.BadWords output notes = ⊥
+
+-- the same of any command
+abbrev pub text_cause : Reports → Option (List ℕ) → ℕ → ℕ → Command → List ℕ → Answer → Type 0
+text_cause reports left taken taken' (command.Run file workers limits show) text a = run_cause reports left taken taken' limits show text a.ending a.output a.notes
+text_cause reports left taken taken' (command.Check file) text a = a ≡ silent e.NotBuilt
+text_cause reports left taken taken' (command.Code file) text a = a ≡ silent e.NotBuilt
+text_cause reports left taken taken' (command.Sets file) text a = a ≡ silent e.NotBuilt
+
+abbrev pub ending_of : Option Fault → Ending
+ending_of None = e.Done
+ending_of (Some f) = e.Fault f
+
+-- why an answer to a run that wrote these bytes and ended with this fault, or with none, is due
+abbrev pub ended_cause : Reports → Limits → Show → Option Fault → List ℕ → Ending → List ℕ → List ℕ → Type 0
+ended_cause reports limits show fault bytes e.Done output notes = (fault ≡ None) × (output ≡ bytes) × IsWithin limits bytes × (notes ≡ run_notes reports show fault)
+ended_cause reports limits show fault bytes (e.Fault f) output notes = (fault ≡ Some f) × (output ≡ bytes) × IsWithin limits bytes × (notes ≡ run_notes reports show fault)
+ended_cause reports limits show fault bytes e.NotBuilt output notes = (IsWithin limits bytes → ⊥) × IsSilent output notes
+ended_cause reports limits show fault bytes e.OutOfMemory output notes = IsSilent output notes
+ended_cause reports limits show fault bytes e.ReadFault output notes = ⊥
+ended_cause reports limits show fault bytes e.TooLong output notes = ⊥
+ended_cause reports limits show fault bytes e.BadWords output notes = ⊥
+
+-- what a call finds: the words, what the library tells of each name at entry and its counts of faults, and the same of
+-- the source; and the texts of reports
+pub record Found : Type 0 where
+  pub words : List (List ℕ)
+  pub told : List ℕ → Option (List ℕ)
+  pub before : List ℕ → ℕ
+  pub after : List ℕ → ℕ
+  pub left : Option (List ℕ)
+  pub taken : ℕ
+  pub taken' : ℕ
+  pub reports : Reports
+
+abbrev pub found : List (List ℕ) → (List ℕ → Option (List ℕ)) → (List ℕ → ℕ) → (List ℕ → ℕ) → Option (List ℕ) → ℕ → ℕ → Reports → Found
+found words told before after left taken taken' reports = record { words = words; told = told; before = before; after = after; left = left; taken = taken; taken' = taken'; reports = reports }
+
+-- the text of a run, where it is told
+pub record Ran (f : Found) (fault : Option Fault) (output notes : List ℕ) : Type 0 where
+  pub asked : Asked
+  pub text : List ℕ
+  pub words_are : command_of f.words ≡ Some (asks asked)
+  pub told_is : IsTold (f.told asked.file) text
+  pub fits : FitsInput f.left
+  pub runs : RunsTo f.reports asked.limits asked.show text fault output notes
+
+-- nothing is built for the command, or for its text
+abbrev pub is_unbuilt_for : (List ℕ → Option (List ℕ)) → Option (List ℕ) → Command → Type 0
+is_unbuilt_for told left (command.Run file workers limits show) = IfSome (told file) (IsUnbuiltAfter left limits)
+is_unbuilt_for told left (command.Check file) = Unit {0}
+is_unbuilt_for told left (command.Code file) = Unit {0}
+is_unbuilt_for told left (command.Sets file) = Unit {0}
+
+-- Why an answer is due.
+abbrev pub cause : Found → Ending → List ℕ → List ℕ → Type 0
+cause f e.Done output notes = Ran f None output notes
+cause f (e.Fault x) output notes = Ran f (Some x) output notes
+cause f e.NotBuilt output notes = (c : Command) × (command_of f.words ≡ Some c) × is_unbuilt_for f.told f.left c × IsSilent output notes
+cause f e.BadWords output notes = (command_of f.words ≡ None) × IsSilent output notes
+cause f e.ReadFault output notes = (c : Command) × (command_of f.words ≡ Some c) × (Rose (f.before (file_of c)) (f.after (file_of c)) ⊎ Rose f.taken f.taken') × IsSilent output notes
+cause f e.TooLong output notes = (a : Asked) × (command_of f.words ≡ Some (asks a)) × IfSome (f.told a.file) IsProgram × IfSome f.left IsTooLong × IsSilent output notes
+cause f e.OutOfMemory output notes = IsSilent output notes
+
+abbrev pub Cause : Found → Answer → Type 0
+Cause f a = cause f a.ending a.output a.notes
+
+-- ---- writing
 
 -- what a sink tells, and its count of faults
 pub record Got : Type 0 where
@@ -74,10 +192,10 @@ Failed before after = Rose before.faults after.faults
 -- How an answer is written. Its status is displaced by 6 where a write fails.
 pub record Writes (a : Answer) (output output' notes notes' : Got) (status : ℕ) : Type 0 where
   pub status_is : (status ≡ status_of a.ending) ⊎ (status ≡ 6)
-  pub all_written : status ≢ 6 → All output output' a.output × All notes notes' (line_of a.ending)
+  pub all_written : status ≢ 6 → All output output' a.output × All notes notes' (notes_of a)
   pub displaced : status ≡ 6 → Failed output output' ⊎ Failed notes notes'
   pub part_of_output : Part output output' a.output
-  pub part_of_notes : Part notes notes' (line_of a.ending)
+  pub part_of_notes : Part notes notes' (notes_of a)
   -- the output was written whole, unless its count rose
   pub whole_output : (Failed output output' → ⊥) → All output output' a.output
   -- the notes come after the whole output
@@ -88,35 +206,57 @@ pub record Writes (a : Answer) (output output' notes notes' : Got) (status : ℕ
   pub untouched : has_run a.ending ≡ false → output' ≡ output
 
 -- A call: the answer that is due, why, and how it is written.
-pub record Call (words : List (List ℕ)) (told : List ℕ → Option (List ℕ)) (before after : List ℕ → ℕ) (output output' notes notes' : Got) (status : ℕ) : Type 0 where
+pub record Call (f : Found) (output output' notes notes' : Got) (status : ℕ) : Type 0 where
   pub answer : Answer
-  pub cause : Cause words told before after answer
+  pub cause : Cause f answer
   pub written : Writes answer output output' notes notes' status
 
--- of the text that the words name, where the library tells it
-abbrev pub OfText : List (List ℕ) → (List ℕ → Option (List ℕ)) → (List ℕ → Type 0) → Type 0
-OfText words told P = (name text : List ℕ) → file_of words ≡ Some name → told name ≡ Some text → P text
+-- ---- the clauses of each status
 
--- The status comes only where the fact holds; and where it holds the status comes, but for a fault outside and want of memory.
+-- a fault outside, too long an input or want of memory came in place of the status that was due
+abbrev pub IsOutside : ℕ → Type 0
+IsOutside status = (5 ≤ status) × (status ≤ 8)
+
+-- The status comes only where the fact holds; and where it holds the status comes, unless the outside came in its place.
 abbrev pub Exactly : ℕ → ℕ → Type 0 → Type 0
-Exactly status s P = (status ≡ s → P) × (P → (status ≡ s) ⊎ ((status ≡ 5) ⊎ ((status ≡ 6) ⊎ (status ≡ 8))))
+Exactly status s P = (status ≡ s → P) × (P → (status ≡ s) ⊎ IsOutside status)
 
--- the run of the text ends with this fault, or with none
-abbrev pub EndsWith : List ℕ → Option Fault → Type 0
-EndsWith text fault = (output : List ℕ) × Ends text fault output
+-- of the run that the words ask for, and its text, where the library tells it
+abbrev pub OfRun : List (List ℕ) → (List ℕ → Option (List ℕ)) → (Asked → List ℕ → Type 0) → Type 0
+OfRun words told P = (a : Asked) (text : List ℕ) → command_of words ≡ Some (asks a) → told a.file ≡ Some text → P a text
 
 -- the words are refused exactly with this status
 abbrev pub RefusesWords : List (List ℕ) → ℕ → Type 0
-RefusesWords words status = (status ≡ 2 → file_of words ≡ None) × (file_of words ≡ None → (status ≡ 2) ⊎ (status ≡ 6))
+RefusesWords words status = Exactly status 2 (command_of words ≡ None)
+
+-- the commands for which nothing is built
+abbrev pub is_other : Command → Type 0
+is_other (command.Check file) = Unit {0}
+is_other (command.Code file) = Unit {0}
+is_other (command.Sets file) = Unit {0}
+is_other (command.Run file workers limits show) = ⊥
+
+abbrev pub AnswersOthers : List (List ℕ) → ℕ → Type 0
+AnswersOthers words status = (c : Command) → command_of words ≡ Some c → is_other c → (status ≡ 1) ⊎ IsOutside status
+
+-- the library failed under the name of the text, or the source failed
+abbrev pub ReadsFail : List (List ℕ) → (List ℕ → ℕ) → (List ℕ → ℕ) → ℕ → ℕ → Type 0
+ReadsFail words before after taken taken' = (c : Command) × (command_of words ≡ Some c) × (Rose (before (file_of c)) (after (file_of c)) ⊎ Rose taken taken')
+
+-- the input is too long, where it is told, for a program of the first form
+abbrev pub InputTooLong : List (List ℕ) → (List ℕ → Option (List ℕ)) → Option (List ℕ) → ℕ → Type 0
+InputTooLong words told left status =
+    (status ≡ 7 → (a : Asked) × (command_of words ≡ Some (asks a)) × IfSome (told a.file) IsProgram × IfSome left IsTooLong)
+    × OfRun words told (λ a text. IsProgram text → (input : List ℕ) → left ≡ Some input → IsTooLong input → IsOutside status)
 
 -- after a run that ended, or ended with a fault, these bytes were written
-abbrev pub WritesOutput : List ℕ → Got → Got → ℕ → Type 0
-WritesOutput text output output' status = (fault : Option Fault) (bytes : List ℕ) → Ends text fault bytes → (status ≡ 0) ⊎ (status ≡ 3) → All output output' bytes
+abbrev pub WritesOutput : Asked → List ℕ → Got → Got → ℕ → Type 0
+WritesOutput a text output output' status = (fault : Option Fault) (bytes : List ℕ) → Ends text fault bytes → (status ≡ 0) ⊎ (status ≡ 3) → All output output' bytes
 
--- after a run that ended with a fault, its line was written
-abbrev pub NotesFault : List ℕ → Got → Got → ℕ → Type 0
-NotesFault text notes notes' status = (fault : Fault) (bytes : List ℕ) → Ends text (Some fault) bytes → status ≡ 3 → All notes notes' (fault_line fault)
+-- and these notes
+abbrev pub WritesNotes : Reports → Asked → List ℕ → Got → Got → ℕ → Type 0
+WritesNotes reports a text notes notes' status = (fault : Option Fault) (bytes : List ℕ) → Ends text fault bytes → (status ≡ 0) ⊎ (status ≡ 3) → All notes notes' (run_notes reports a.show fault)
 
--- the line of this status was written
-abbrev pub WritesNotes : Got → Got → ℕ → Type 0
-WritesNotes notes notes' status = (ending : Ending) × (status ≡ status_of ending) × All notes notes' (line_of ending)
+-- otherwise the line of the status
+abbrev pub WritesLine : Got → Got → ℕ → Type 0
+WritesLine notes notes' status = (ending : Ending) × (status ≡ status_of ending) × (has_run ending ≡ false) × All notes notes' (line_of ending)

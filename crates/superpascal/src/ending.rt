@@ -1,7 +1,7 @@
 //! How a call ends, and what it has to write.
 
 ghost use Rattle.std.specs.Prelude.{◌≡◌};
-ghost use Rattle.superpascal.specs.Answers.{status_of, line_of, fault_line, has_run};
+ghost use Rattle.superpascal.specs.Answers.{has_run, line_of, notes_by, status_of};
 
 use sp_base::{Fault, Text};
 
@@ -10,23 +10,27 @@ use sp_base::{Fault, Text};
 pub enum Ending {
     /// The run ended.
     Done,
-    /// The text has a form that is not built.
+    /// The command or the form of the text is not built, or the run meets a limit.
     NotBuilt,
     /// The words are refused.
     BadWords,
     /// The fault ended the run.
     Fault(Fault),
-    /// The library failed.
+    /// The library or the source failed.
     ReadFault,
+    /// The input is longer than the limit.
+    TooLong,
     /// Memory was refused.
     OutOfMemory,
 }
 
-/// All that a call has to write: the output, and the line of its ending as the notes.
+/// All that a call has to write. Where a program has run the notes are those of the run; else they are a line, and
+/// what stands here for them is empty.
 #[derive(Drop)]
 pub struct Answer {
     pub ending: Ending,
     pub output: Text,
+    pub notes: Text,
 }
 
 impl Ending {
@@ -40,6 +44,7 @@ impl Ending {
             Ending::BadWords => 2,
             Ending::Fault(_) => 3,
             Ending::ReadFault => 5,
+            Ending::TooLong => 7,
             Ending::OutOfMemory => 8,
         }
     }
@@ -51,43 +56,31 @@ impl Ending {
         matches!(self, Ending::Done | Ending::Fault(_))
     }
 
-    /// The line of the notes.
+    /// The line of a call by which no program has run.
     pub fn line(self) -> &'static str
         ensures { result.now ≡ line_of self }
     {
         match self {
-            Ending::Done => "done\n",
+            Ending::Done | Ending::Fault(_) => "",
             Ending::NotBuilt => "not built\n",
             Ending::BadWords => "bad words\n",
-            Ending::Fault(fault) => fault_line(fault),
             Ending::ReadFault => "read fault\n",
+            Ending::TooLong => "input too long\n",
             Ending::OutOfMemory => "out of memory\n",
         }
     }
 }
 
-// The line of a fault of the root process.
-fn fault_line(fault: Fault) -> &'static str
-    ensures { result.now ≡ fault_line fault }
+/// The notes with this ending, where these are those of the run.
+pub fn notes_by<'a>(ending: Ending, notes: &'a [u8]) -> &'a [u8]
+    ensures { result.now ≡ notes_by ending notes.now }
 {
-    match fault {
-        Fault::F1 => "fault F1 0\n",
-        Fault::F2 => "fault F2 0\n",
-        Fault::F3 => "fault F3 0\n",
-        Fault::F4 => "fault F4 0\n",
-        Fault::F5 => "fault F5 0\n",
-        Fault::F6 => "fault F6 0\n",
-        Fault::F7 => "fault F7 0\n",
-        Fault::F8 => "fault F8 0\n",
-        Fault::F9 => "fault F9 0\n",
-        Fault::F10 => "fault F10 0\n",
-        Fault::F11 => "fault F11 0\n",
-        Fault::F12 => "fault F12 0\n",
-        Fault::F13 => "fault F13 0\n",
-        Fault::F14 => "fault F14 0\n",
-        Fault::F15 => "fault F15 0\n",
-        Fault::F16 => "fault F16 0\n",
-        Fault::F17 => "fault F17 0\n",
-        Fault::F18 => "fault F18 0\n",
+    match ending {
+        Ending::Done | Ending::Fault(_) => notes,
+        Ending::NotBuilt
+        | Ending::BadWords
+        | Ending::ReadFault
+        | Ending::TooLong
+        | Ending::OutOfMemory => ending.line().as_bytes(),
     }
 }

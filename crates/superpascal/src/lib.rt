@@ -1,9 +1,9 @@
-//! The top call: from words, a library and two sinks to a status.
+//! The top call: from words, a library and a source, two sinks and watchers to a status.
 #![tactic(auto)]
 
 mod ending;
+mod notes;
 mod top;
-mod words;
 
 pub use top::{Outcome, superpascal};
 

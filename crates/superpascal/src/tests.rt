@@ -1,8 +1,11 @@
-//! The top call on worked examples, over a library and sinks in memory.
+//! The top call on worked examples, over a library, a source and sinks in memory.
+
+ghost use Rattle.std.specs.Prelude.{◌≡◌, []};
 
 use crate::superpascal;
 use sp_base::{List, Text};
-use sp_outside::{MemoryLibrary, MemorySink};
+use sp_outside::{MemoryLibrary, MemorySink, MemorySource};
+use sp_report::{Census, ProcessTree, Timeline, Waiting, Watcher};
 use std::alloc::{AllocError, Global};
 use std::test::Fail;
 
@@ -20,11 +23,13 @@ struct Given {
 #[derive(Clone, Copy)]
 struct Failing<'a> {
     library: &'a [u32],
+    input: &'a [u32],
     output: &'a [u32],
 }
 
 const NONE: Failing<'static> = Failing {
     library: &[],
+    input: &[],
     output: &[],
 };
 
@@ -37,53 +42,104 @@ fn words_of(alloc: Global, words: &[&str]) -> Result<Vec<String>, AllocError> {
 }
 
 fn library(alloc: Global, text: &[u8], failing: &[u32]) -> Result<MemoryLibrary, AllocError> {
-    let name = Text::of(Vec::from_slice(alloc, b"a.sp")?);
     let mut files = List::new(alloc);
-    files.push((name, Text::of(Vec::from_slice(alloc, text)?)))?;
+    for name in ["a.sp", "-a"] {
+        let name = Text::of(Vec::from_slice(alloc, name.as_bytes())?);
+        files.push((name, Text::of(Vec::from_slice(alloc, text)?)))?;
+    }
     Ok(MemoryLibrary::new(files, List::from_slice(alloc, failing)?))
 }
 
 fn sink(alloc: Global, failing: &[u32]) -> Result<MemorySink, AllocError> {
-    let room = vec![in alloc; 0u8; 64]?;
+    let room = vec![in alloc; 0u8; 256]?;
     Ok(MemorySink::new(room, 1, List::from_slice(alloc, failing)?))
 }
 
-// Calls with sinks that take a byte a call.
-fn call(alloc: Global, words: &[&str], text: &[u8], failing: Failing) -> Result<Given, AllocError> {
+// The call with four watchers, and its status.
+fn call_four(
+    alloc: Global,
+    words: &[String],
+    library: &mut MemoryLibrary,
+    input: &mut MemorySource,
+    output: &mut MemorySink,
+    notes: &mut MemorySink,
+    watchers: (
+        Box<dyn Watcher>,
+        Box<dyn Watcher>,
+        Box<dyn Watcher>,
+        Box<dyn Watcher>,
+    ),
+) -> Result<u8, AllocError>
+    requires first { told watchers.0 ≡ [] }
+    requires second { told watchers.1 ≡ [] }
+    requires third { told watchers.2 ≡ [] }
+    requires fourth { told watchers.3 ≡ [] }
+{
+    let (first, second, third, fourth) = watchers;
+    let watchers = vec![in alloc; first, second, third, fourth]?;
+    let outcome = superpascal(alloc, words, library, input, output, notes, watchers);
+    Ok(outcome.status)
+}
+
+// Calls with sinks that take a byte a call and the four watchers.
+fn call_with(
+    alloc: Global,
+    words: &[&str],
+    text: &[u8],
+    input: Vec<u8>,
+    failing: Failing,
+) -> Result<Given, AllocError> {
     let words = words_of(alloc, words)?;
     let mut library = library(alloc, text, failing.library)?;
+    let mut input = MemorySource::new(input, 4096, List::from_slice(alloc, failing.input)?);
     let mut output = sink(alloc, failing.output)?;
     let mut notes = sink(alloc, &[])?;
-    let outcome = superpascal(
+    let timeline = Box::new(alloc, Timeline::new(alloc))?;
+    let census = Box::new(alloc, Census::new(alloc))?;
+    let tree = Box::new(alloc, ProcessTree::new(alloc))?;
+    let waiting = Box::new(alloc, Waiting::new(alloc))?;
+    let status = call_four(
         alloc,
         words.as_slice(),
         &mut library,
+        &mut input,
         &mut output,
         &mut notes,
-    );
+        (timeline, census, tree, waiting),
+    )?;
     Ok(Given {
-        status: outcome.status,
+        status,
         output: Vec::from_slice(alloc, output.bytes())?,
         notes: Vec::from_slice(alloc, notes.bytes())?,
     })
 }
 
+fn call(alloc: Global, words: &[&str], text: &[u8], failing: Failing) -> Result<Given, AllocError> {
+    call_with(
+        alloc,
+        words,
+        text,
+        Vec::from_slice(alloc, b"12 x")?,
+        failing,
+    )
+}
+
 #[test]
 fn texts_of_one_line(rt: HostRuntime) -> Result<(), Fail> {
     let cases = [
-        (ANSWER, 0, "42", "done\n"),
+        (ANSWER, 0, "42", "done\nordered\n"),
         (
             "program a; var x: integer; begin write(x) end.",
             3,
             "",
-            "fault F4 0\n",
+            "fault F4 0\nunjudged\n",
         ),
         ("", 1, "", "not built\n"),
         (
             "PROGRAM Integer;\nVAR Total: INTEGER; begin; total:=2; write(- total*3+1,TOTAL) end .",
             0,
             "-52",
-            "done\n",
+            "done\nordered\n",
         ),
         (
             "program a; var x, x: integer; begin end.",
@@ -101,7 +157,7 @@ fn texts_of_one_line(rt: HostRuntime) -> Result<(), Fail> {
             "program a; var x: integer; begin write(7 - 2 - 1, x) end.",
             3,
             "4",
-            "fault F4 0\n",
+            "fault F4 0\nunjudged\n",
         ),
     ];
     for (text, status, output, notes) in cases {
@@ -133,11 +189,14 @@ fn the_ends_of_the_integers(rt: HostRuntime) -> Result<(), Fail> {
 
 #[test]
 fn words_that_are_refused(rt: HostRuntime) -> Result<(), Fail> {
-    let cases: [&[&str]; 5] = [
+    let cases: [&[&str]; 8] = [
         &["run"],
+        &["run", "--workers", "0", "a"],
+        &["run", "--workers", "-1", "a"],
+        &["run", "--workers", "--", "a"],
+        &["run", "-x", "a"],
+        &["run", "-"],
         &["run", "a.sp", "a.sp"],
-        &["check", "a.sp"],
-        &["run", "-a"],
         &[],
     ];
     for words in cases {
@@ -150,21 +209,92 @@ fn words_that_are_refused(rt: HostRuntime) -> Result<(), Fail> {
 }
 
 #[test]
+fn words_with_options(rt: HostRuntime) -> Result<(), Fail> {
+    let done = "done\nordered\n";
+    let journal = "superpascal journal 2\n0 end\n";
+    let reports =
+        "done\nordered\ntimeline\n0 0 end\ncensus\nforks 0\nopens 0\nsends 0\nreceives 0\nends 1\nfaults 0\nlaid 0\ntree\n0\nwaiting\n";
+    let cases: [(&[&str], u8, &str, &str); 11] = [
+        (&["run", "--", "-a"], 0, "42", done),
+        (&["run", "--workers", "64", "a.sp"], 0, "42", done),
+        (&["run", "a.sp", "--show=all"], 0, "42", reports),
+        (&["run", "a.sp", "--show", "journal"], 0, "42", journal),
+        (
+            &["run", "a.sp", "--show", "tree"],
+            0,
+            "42",
+            "done\nordered\ntree\n0\n",
+        ),
+        (&["run", "a.sp", "--output", "2"], 0, "42", done),
+        (&["run", "a.sp", "--output", "1"], 1, "", "not built\n"),
+        (&["run", "a.sp", "--cells", "4096"], 0, "42", done),
+        (&["run", "a.sp", "--cells", "4095"], 1, "", "not built\n"),
+        (&["check", "a.sp"], 1, "", "not built\n"),
+        (&["sets", "a"], 5, "", "read fault\n"),
+    ];
+    for (words, status, output, notes) in cases {
+        let given = call(rt.alloc(), words, ANSWER.as_bytes(), NONE)?;
+        assert_eq!(rt; given.status, status);
+        assert_eq!(rt; given.output.as_slice(), output.as_bytes());
+        assert_eq!(rt; given.notes.as_slice(), notes.as_bytes());
+    }
+    let fault = "program a; var x: integer; begin write(7, x) end.";
+    let words = ["run", "a.sp", "--show", "journal"];
+    let given = call(rt.alloc(), words.as_slice(), fault.as_bytes(), NONE)?;
+    let notes = b"superpascal journal 2\n0 fault F4\n".as_slice();
+    assert_eq!(rt; given.status, 3);
+    assert_eq!(rt; given.output.as_slice(), b"7".as_slice());
+    assert_eq!(rt; given.notes.as_slice(), notes);
+    Ok(())
+}
+
+/// So many spaces.
+fn spaces(alloc: Global, count: usize) -> Result<Vec<u8>, AllocError> {
+    vec![in alloc; b' '; count].map_err(AllocError::from)
+}
+
+#[test]
+fn long_inputs(rt: HostRuntime) -> Result<(), Fail> {
+    for (count, status) in [(16_777_216, 0), (16_777_217, 7)] {
+        let input = spaces(rt.alloc(), count)?;
+        let words = ["run", "a.sp"];
+        let given = call_with(rt.alloc(), words.as_slice(), ANSWER.as_bytes(), input, NONE)?;
+        let notes: &str = if status == 0 {
+            "done\nordered\n"
+        } else {
+            "input too long\n"
+        };
+        assert_eq!(rt; given.status, status);
+        assert_eq!(rt; given.notes.as_slice(), notes.as_bytes());
+    }
+    Ok(())
+}
+
+#[test]
 fn faults_outside(rt: HostRuntime) -> Result<(), Fail> {
     let read = Failing {
         library: &[0],
+        input: &[],
+        output: &[],
+    };
+    let source = Failing {
+        library: &[],
+        input: &[1],
         output: &[],
     };
     let at_once = Failing {
         library: &[],
+        input: &[],
         output: &[0],
     };
     let between = Failing {
         library: &[],
+        input: &[],
         output: &[1],
     };
     let cases = [
         (read, 5, "", "read fault\n"),
+        (source, 5, "", "read fault\n"),
         (at_once, 6, "", ""),
         (between, 6, "4", ""),
     ];

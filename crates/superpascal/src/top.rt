@@ -1,73 +1,184 @@
 //! The top call.
 
-ghost use Rattle.std.specs.Prelude.{◌≡◌, ◌≢◌, ◌⊎◌, ℕ, ◌≤◌, List, [], false, Some, None, map, take, length};
+ghost use Rattle.std.specs.Prelude.{◌≡◌, ◌≢◌, ◌⊎◌, ℕ, ◌≤◌, List, [], All, IsTrue, ◌↔◌, false, Some, None, filter, map, take, length};
+ghost use Rattle.std.specs.List.{flat_map};
 ghost use Rattle.std.specs.String.{string_bytes};
 ghost use Rattle.sp_base.specs.declared.fault.Fault.{Fault};
 ghost use Rattle.sp_outside.specs.Counts.{Rose};
 ghost use Rattle.sp_outside.specs.Told.{Grows};
-ghost use Rattle.superpascal.specs.Answers.{status_of, line_of, has_run};
-ghost use Rattle.superpascal.specs.Words.{file_of};
-ghost use Rattle.superpascal.specs.Calls.{silent, IsAnswerOf, IsOther, EndsWith, Cause, Call, got, Writes, OfText, Exactly, RefusesWords, WritesOutput, NotesFault, WritesNotes};
+ghost use Rattle.sp_report.specs.Telling.{is_chosen};
+ghost use Rattle.sp_words.specs.Words.{command_of};
+ghost use Rattle.superpascal.specs.Answers.{has_run, notes_of, status_of};
+ghost use Rattle.superpascal.specs.Calls.{AnswersOthers, Call, Cause, EndsWith, Exactly, InputTooLong, IsUnbuilt, IsWithin, OfRun, ReadsFail, RefusesWords, Writes, WritesLine, WritesNotes, WritesOutput, ended_cause, ending_of, file_of, found, got, run_cause, silent, text_cause};
 
-use crate::ending::{Answer, Ending};
-use crate::words::file_of;
-use sp_base::Text;
-use sp_first::{one_meaning, run_text};
-use sp_outside::{Failed, Library, LoadError, Sink, put_all};
+use crate::ending::{Answer, Ending, notes_by};
+use crate::notes::run_notes;
+use sp_base::{Limits, Show, Text};
+use sp_first::{Ended, one_meaning, run_text};
+use sp_outside::{Failed, Library, LoadError, ReadError, Sink, Source, put_all, read_all};
+use sp_report::Watcher;
+use sp_words::{Command, WordsError, read_words};
 use std::alloc::Global;
 
 /// How the program ends.
 #[derive(Clone, Copy, Debug, PartialEq, Eq)]
 pub struct Outcome {
-    /// 0, 1, 2, 3, 5, 6 or 8.
+    /// 0, 1, 2, 3, 5, 6, 7 or 8.
     pub status: u8,
 }
 
 /// The longest text that is loaded, in bytes.
 const LONGEST: u32 = 1_048_576;
 
-// Does the words, the load and the run.
-fn answer<L: Library>(alloc: Global, words: &[String], library: &mut L) -> Answer
-    ensures { Cause (map string_bytes words.now) (L.held library.old) (L.faults library.old) (L.faults library.new) result }
+/// The longest input that is read, in bytes.
+const LONGEST_INPUT: u32 = 16_777_216;
+
+/// As many variables as a text of the first form may have, each of which takes a cell.
+const MOST_VARIABLES: u32 = 4_096;
+
+// Does the words, the load, the input and the run.
+fn answer<L: Library, I: Source>(
+    alloc: Global,
+    words: &[String],
+    library: &mut L,
+    input: &mut I,
+    watchers: Vec<Box<dyn Watcher>>,
+) -> Answer
+    requires { All (λ w. told w ≡ []) watchers.items }
+    ensures { Cause (found (map string_bytes words.now) (L.held library.old) (L.faults library.old) (L.faults library.new) (I.left input.old) (I.faults input.old) (I.faults input.new) (λ s es. flat_map (λ w. text w es) (filter (λ w. is_chosen s (title w)) watchers.items))) result }
 {
-    let Some(file) = file_of(words) else {
-        return silent(alloc, Ending::BadWords);
-    };
-    match library.load(alloc, file, LONGEST) {
-        Ok(text) => text_answer(alloc, text.as_slice()),
+    match read_words(alloc, words) {
+        Ok(command) => command_answer(alloc, &command, library, input, watchers),
+        Err(WordsError::Refused) => silent(alloc, Ending::BadWords),
+        Err(WordsError::Memory) => silent(alloc, Ending::OutOfMemory),
+    }
+}
+
+// The name of the text that the command is about.
+fn file_of(command: &Command) -> &str
+    ensures { result.now ≡ file_of command.now }
+{
+    match command {
+        Command::Check(file) | Command::Code(file) | Command::Sets(file) => file.text(),
+        Command::Run { file, .. } => file.text(),
+    }
+}
+
+// Does the load, the input and the run.
+fn command_answer<L: Library, I: Source>(
+    alloc: Global,
+    command: &Command,
+    library: &mut L,
+    input: &mut I,
+    watchers: Vec<Box<dyn Watcher>>,
+) -> Answer
+    requires { All (λ w. told w ≡ []) watchers.items }
+    ensures { (words : List (List ℕ)) → command_of words ≡ Some command.now
+        → Cause (found words (L.held library.old) (L.faults library.old) (L.faults library.new) (I.left input.old) (I.faults input.old) (I.faults input.new)
+        (λ s es. flat_map (λ w. text w es) (filter (λ w. is_chosen s (title w)) watchers.items))) result }
+{
+    match library.load(alloc, file_of(command), LONGEST) {
+        Ok(text) => text_answer(alloc, command, text.as_slice(), input, watchers),
         Err(LoadError::TooLong) => silent(alloc, Ending::NotBuilt),
         Err(LoadError::Failed) => silent(alloc, Ending::ReadFault),
         Err(LoadError::Memory) => silent(alloc, Ending::OutOfMemory),
     }
 }
 
-// An answer without output.
+// An answer by which no program has run.
 fn silent(alloc: Global, ending: Ending) -> Answer
     ensures { result ≡ silent ending }
 {
     Answer {
         ending,
         output: Text::of(Vec::new(alloc)),
+        notes: Text::of(Vec::new(alloc)),
+    }
+}
+
+// Does what the command asks of its text.
+fn text_answer<I: Source>(
+    alloc: Global,
+    command: &Command,
+    program: &[u8],
+    input: &mut I,
+    watchers: Vec<Box<dyn Watcher>>,
+) -> Answer
+    requires { All (λ w. told w ≡ []) watchers.items }
+    ensures { text_cause (λ s es. flat_map (λ w. text w es) (filter (λ w. is_chosen s (title w)) watchers.items)) (I.left input.old) (I.faults input.old) (I.faults input.new) command.now program.now result }
+{
+    match command {
+        Command::Run { limits, show, .. } => {
+            run_answer(alloc, program, *limits, *show, input, watchers)
+        }
+        Command::Check(_) | Command::Code(_) | Command::Sets(_) => {
+            silent(alloc, Ending::NotBuilt)
+        }
     }
 }
 
 // Runs the text.
-fn text_answer(alloc: Global, text: &[u8]) -> Answer
-    ensures { IsAnswerOf text.now result }
+fn run_answer<I: Source>(
+    alloc: Global,
+    program: &[u8],
+    limits: Limits,
+    show: Show,
+    input: &mut I,
+    watchers: Vec<Box<dyn Watcher>>,
+) -> Answer
+    requires { All (λ w. told w ≡ []) watchers.items }
+    ensures { run_cause (λ s es. flat_map (λ w. text w es) (filter (λ w. is_chosen s (title w)) watchers.items)) (I.left input.old) (I.faults input.old) (I.faults input.new) limits show program.now result.ending result.output result.notes }
 {
-    match run_text(alloc, text) {
-        Ok(Some(ended)) => {
-            let ending = match ended.fault {
-                Some(fault) => Ending::Fault(fault),
-                None => Ending::Done,
-            };
-            Answer {
-                ending,
-                output: ended.output,
-            }
-        }
+    one_meaning();
+    match run_text(alloc, program) {
+        Ok(Some(ended)) => match read_all(alloc, input, LONGEST_INPUT) {
+            Ok(_) => ended_answer(alloc, ended, limits, show, watchers),
+            Err(ReadError::TooLong) => silent(alloc, Ending::TooLong),
+            Err(ReadError::Failed) => silent(alloc, Ending::ReadFault),
+            Err(ReadError::Memory) => silent(alloc, Ending::OutOfMemory),
+        },
         Ok(None) => silent(alloc, Ending::NotBuilt),
         Err(_) => silent(alloc, Ending::OutOfMemory),
+    }
+}
+
+// Whether a run that writes this meets no limit.
+fn is_within(limits: Limits, output: &[u8]) -> bool
+    ensures { IsTrue result ↔ IsWithin limits output.now }
+{
+    limits.cells >= MOST_VARIABLES && output.len() as u64 <= limits.output
+}
+
+// Makes the texts of a run.
+fn ended_answer(
+    alloc: Global,
+    ended: Ended,
+    limits: Limits,
+    show: Show,
+    watchers: Vec<Box<dyn Watcher>>,
+) -> Answer
+    requires { All (λ w. told w ≡ []) watchers.items }
+    ensures { ended_cause (λ s es. flat_map (λ w. text w es) (filter (λ w. is_chosen s (title w)) watchers.items)) limits show ended.fault ended.output result.ending result.output result.notes }
+{
+    if !is_within(limits, ended.output.bytes()) {
+        return silent(alloc, Ending::NotBuilt);
+    }
+    match run_notes(alloc, watchers, show, ended.fault) {
+        Ok(notes) => Answer {
+            ending: ending_of(ended.fault),
+            output: ended.output,
+            notes,
+        },
+        Err(_) => silent(alloc, Ending::OutOfMemory),
+    }
+}
+
+fn ending_of(fault: Option<sp_base::Fault>) -> Ending
+    ensures { result ≡ ending_of fault }
+{
+    match fault {
+        Some(fault) => Ending::Fault(fault),
+        None => Ending::Done,
     }
 }
 
@@ -78,78 +189,89 @@ fn write<O: Sink, N: Sink>(answer: &Answer, output: &mut O, notes: &mut N) -> u8
 {
     if answer.ending.has_run() {
         match put_all(output, answer.output.bytes()) {
-            Ok(()) => write_notes(answer.ending, notes),
+            Ok(()) => write_notes(answer, notes),
             Err(Failed) => 6,
         }
     } else {
-        write_notes(answer.ending, notes)
+        write_notes(answer, notes)
     }
 }
 
 // Writes the notes, and gives the status.
-fn write_notes<N: Sink>(ending: Ending, notes: &mut N) -> u8
-    ensures status_is { (result ≡ status_of ending) ⊎ (result ≡ 6) }
-    ensures all_written { result ≢ 6 → Grows (N.written notes.old) (N.written notes.new) (line_of ending) }
+fn write_notes<N: Sink>(answer: &Answer, notes: &mut N) -> u8
+    ensures status_is { (result ≡ status_of answer.now.ending) ⊎ (result ≡ 6) }
+    ensures all_written { result ≢ 6 → Grows (N.written notes.old) (N.written notes.new) (notes_of answer.now) }
     ensures displaced { result ≡ 6 → Rose (N.faults notes.old) (N.faults notes.new) }
-    ensures part { (n : ℕ) × (n ≤ length (line_of ending)) × Grows (N.written notes.old) (N.written notes.new) (take n (line_of ending)) }
+    ensures part { (n : ℕ) × (n ≤ length (notes_of answer.now)) × Grows (N.written notes.old) (N.written notes.new) (take n (notes_of answer.now)) }
 {
-    match put_all(notes, ending.line().as_bytes()) {
-        Ok(()) => ending.status(),
+    match put_all(notes, notes_by(answer.ending, answer.notes.bytes())) {
+        Ok(()) => answer.ending.status(),
         Err(_) => 6,
     }
 }
 
-/// The top call. `words` are those behind the program's own name: `run`, and the name of a text in the library, which
-/// does not begin with `-`. The program of the text is run; its output goes to `output`, and one line to `notes`.
+/// The top call. `words` are those behind the program's own name, as `docs/COMMANDS.md` says. `run` runs the program of
+/// the text: its output goes to `output`, and the end, the verdict and the chosen reports, or the journal alone, go to
+/// `notes`. The watchers make the reports; they have been told nothing before.
 ///
-/// | status | comes | line |
+/// | status | comes | notes |
 /// |---|---|---|
-/// | 0 | where the run ends | `done` |
-/// | 1 | where the text is not of the first form | `not built` |
-/// | 2 | where the words are others | `bad words` |
-/// | 3 | where a fault ends the run | `fault F2 0` or `fault F4 0` |
-/// | 5 | where the library's count of faults under the name rose | `read fault` |
-/// | 6 | where the count of faults of a sink rose; it displaces the status that was due | a first part of the line |
+/// | 0 | where the run ends | `done`, the verdict and the reports; or the journal |
+/// | 1 | where the command or the form of the text is not built, or the run meets a limit | `not built` |
+/// | 2 | where the words are refused | `bad words` |
+/// | 3 | where a fault ends the run | `fault F NAME`, the verdict and the reports; or the journal |
+/// | 5 | where the library's count of faults under the name rose, or the source's | `read fault` |
+/// | 6 | where the count of faults of a sink rose; it displaces the status that was due | a first part of the notes |
+/// | 7 | where the source gave more than 16,777,216 bytes | `input too long` |
 /// | 8 | where memory was refused | `out of memory` |
 ///
-/// Where the words, the load or memory end the call, nothing is written to `output`. After a failed write to `output`
-/// nothing is written to `notes`.
-pub fn superpascal<L: Library, O: Sink, N: Sink>(
+/// The order of work is: the words; the load; compiling; the input, for `run` alone; the run; the texts; writing
+/// `output`; writing `notes`. Where the words, the load, the input or memory end the call, nothing is written to
+/// `output`. After a failed write to `output` nothing is written to `notes`.
+pub fn superpascal<L: Library, I: Source, O: Sink, N: Sink>(
     alloc: Global,
     words: &[String],
     library: &mut L,
+    input: &mut I,
     output: &mut O,
     notes: &mut N,
+    watchers: Vec<Box<dyn Watcher>>,
 ) -> Outcome
+    requires fresh { All (λ w. told w ≡ []) watchers.items }
     ensures bad_words { RefusesWords (map string_bytes words.now) result.status }
-    ensures done { OfText (map string_bytes words.now) (L.held library.old) (λ text. Exactly result.status 0 (EndsWith text None)) }
-    ensures not_built { OfText (map string_bytes words.now) (L.held library.old) (λ text. Exactly result.status 1 (IsOther text)) }
-    ensures fault { OfText (map string_bytes words.now) (L.held library.old) (λ text. Exactly result.status 3 ((f : Fault) × EndsWith text (Some f))) }
-    ensures read_fault { result.status ≡ 5 → (name : List ℕ) × (file_of (map string_bytes words.now) ≡ Some name) × Rose (L.faults library.old name) (L.faults library.new name) }
+    ensures other_commands { AnswersOthers (map string_bytes words.now) result.status }
+    ensures done { OfRun (map string_bytes words.now) (L.held library.old) (λ a program. Exactly result.status 0 (EndsWith a.limits program None)) }
+    ensures not_built { OfRun (map string_bytes words.now) (L.held library.old) (λ a program. Exactly result.status 1 (IsUnbuilt a.limits program)) }
+    ensures fault { OfRun (map string_bytes words.now) (L.held library.old) (λ a program. Exactly result.status 3 ((f : Fault) × EndsWith a.limits program (Some f))) }
+    ensures read_fault { result.status ≡ 5 → ReadsFail (map string_bytes words.now) (L.faults library.old) (L.faults library.new) (I.faults input.old) (I.faults input.new) }
     ensures write_fault { result.status ≡ 6 → Rose (O.faults output.old) (O.faults output.new) ⊎ Rose (N.faults notes.old) (N.faults notes.new) }
-    ensures output { OfText (map string_bytes words.now) (L.held library.old) (λ text. WritesOutput text (got (O.written output.old) (O.faults output.old)) (got (O.written output.new) (O.faults output.new)) result.status) }
+    ensures input_too_long { InputTooLong (map string_bytes words.now) (L.held library.old) (I.left input.old) result.status }
+    ensures output { OfRun (map string_bytes words.now) (L.held library.old) (λ a program. WritesOutput a program (got (O.written output.old) (O.faults output.old)) (got (O.written output.new) (O.faults output.new)) result.status) }
     ensures no_output { result.status ≢ 0 → result.status ≢ 3 → result.status ≢ 6 → got (O.written output.new) (O.faults output.new) ≡ got (O.written output.old) (O.faults output.old) }
-    ensures notes { result.status ≢ 6 → WritesNotes (got (N.written notes.old) (N.faults notes.old)) (got (N.written notes.new) (N.faults notes.new)) result.status }
-    ensures fault_notes { OfText (map string_bytes words.now) (L.held library.old) (λ text. NotesFault text (got (N.written notes.old) (N.faults notes.old)) (got (N.written notes.new) (N.faults notes.new)) result.status) }
+    ensures notes { OfRun (map string_bytes words.now) (L.held library.old) (λ a program. WritesNotes (λ s es. flat_map (λ w. text w es) (filter (λ w. is_chosen s (title w)) watchers.items)) a program (got (N.written notes.old) (N.faults notes.old)) (got (N.written notes.new) (N.faults notes.new)) result.status) }
+    ensures line { result.status ≢ 0 → result.status ≢ 3 → result.status ≢ 6 → WritesLine (got (N.written notes.old) (N.faults notes.old)) (got (N.written notes.new) (N.faults notes.new)) result.status }
 
     // The answer that was due, its cause, and how it was written: what stands of a status that 6 displaces.
-    ensures displaced { Call (map string_bytes words.now) (L.held library.old) (L.faults library.old) (L.faults library.new) (got (O.written output.old) (O.faults output.old)) (got (O.written output.new) (O.faults output.new)) (got (N.written notes.old) (N.faults notes.old)) (got (N.written notes.new) (N.faults notes.new)) result.status }
+    ensures displaced { Call (found (map string_bytes words.now) (L.held library.old) (L.faults library.old) (L.faults library.new) (I.left input.old) (I.faults input.old) (I.faults input.new) (λ s es. flat_map (λ w. text w es) (filter (λ w. is_chosen s (title w)) watchers.items))) (got (O.written output.old) (O.faults output.old)) (got (O.written output.new) (O.faults output.new)) (got (N.written notes.old) (N.faults notes.old)) (got (N.written notes.new) (N.faults notes.new)) result.status }
 {
     one_meaning();
-    run_words(alloc, words, library, output, notes)
+    run_words(alloc, words, library, input, output, notes, watchers)
 }
 
 // Does the whole call.
-fn run_words<L: Library, O: Sink, N: Sink>(
+fn run_words<L: Library, I: Source, O: Sink, N: Sink>(
     alloc: Global,
     words: &[String],
     library: &mut L,
+    input: &mut I,
     output: &mut O,
     notes: &mut N,
+    watchers: Vec<Box<dyn Watcher>>,
 ) -> Outcome
-    ensures { Call (map string_bytes words.now) (L.held library.old) (L.faults library.old) (L.faults library.new) (got (O.written output.old) (O.faults output.old)) (got (O.written output.new) (O.faults output.new)) (got (N.written notes.old) (N.faults notes.old)) (got (N.written notes.new) (N.faults notes.new)) result.status }
+    requires { All (λ w. told w ≡ []) watchers.items }
+    ensures { Call (found (map string_bytes words.now) (L.held library.old) (L.faults library.old) (L.faults library.new) (I.left input.old) (I.faults input.old) (I.faults input.new) (λ s es. flat_map (λ w. text w es) (filter (λ w. is_chosen s (title w)) watchers.items))) (got (O.written output.old) (O.faults output.old)) (got (O.written output.new) (O.faults output.new)) (got (N.written notes.old) (N.faults notes.old)) (got (N.written notes.new) (N.faults notes.new)) result.status }
 {
-    let answer = answer(alloc, words, library);
+    let answer = answer(alloc, words, library, input, watchers);
     let status = write(&answer, output, notes);
     Outcome { status }
 }

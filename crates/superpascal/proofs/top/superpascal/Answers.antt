@@ -1,17 +1,35 @@
-use Rattle.superpascal.proofs.Causes.{call_done, call_not_built, call_fault, call_output, call_fault_notes}
+use Rattle.superpascal.proofs.Causes.{call_done, call_fault, call_not_built, call_notes, call_output, call_bad_words, call_others, call_read_fault, call_too_long, call_no_output, call_line}
 use Rattle.superpascal.proofs.top.superpascal.Goals as goal
 
+pub returns-clause-bad_words : goal.returns-clause-bad_words
+returns-clause-bad_words g c = call_bad_words _ _ _ _ _ _ c.run_words.ensures
+
+pub returns-clause-other_commands : goal.returns-clause-other_commands
+returns-clause-other_commands g c = call_others _ _ _ _ _ _ c.run_words.ensures
+
 pub returns-clause-done : goal.returns-clause-done
-returns-clause-done g c = call_done _ _ _ _ _ _ _ _ _ c.run_words.ensures c.one_meaning.ensures
+returns-clause-done g c = call_done _ _ _ _ _ _ c.run_words.ensures c.one_meaning.ensures
 
 pub returns-clause-not_built : goal.returns-clause-not_built
-returns-clause-not_built g c = call_not_built _ _ _ _ _ _ _ _ _ c.run_words.ensures
+returns-clause-not_built g c = call_not_built _ _ _ _ _ _ c.run_words.ensures
 
 pub returns-clause-fault : goal.returns-clause-fault
-returns-clause-fault g c = call_fault _ _ _ _ _ _ _ _ _ c.run_words.ensures c.one_meaning.ensures
+returns-clause-fault g c = call_fault _ _ _ _ _ _ c.run_words.ensures c.one_meaning.ensures
+
+pub returns-clause-read_fault : goal.returns-clause-read_fault
+returns-clause-read_fault g c = call_read_fault _ _ _ _ _ _ c.run_words.ensures
+
+pub returns-clause-input_too_long : goal.returns-clause-input_too_long
+returns-clause-input_too_long g c = call_too_long _ _ _ _ _ _ c.run_words.ensures
 
 pub returns-clause-output : goal.returns-clause-output
-returns-clause-output g c = call_output _ _ _ _ _ _ _ _ _ c.run_words.ensures c.one_meaning.ensures
+returns-clause-output g c = call_output _ _ _ _ _ _ c.run_words.ensures c.one_meaning.ensures
 
-pub returns-clause-fault_notes : goal.returns-clause-fault_notes
-returns-clause-fault_notes g c = call_fault_notes _ _ _ _ _ _ _ _ _ c.run_words.ensures c.one_meaning.ensures
+pub returns-clause-no_output : goal.returns-clause-no_output
+returns-clause-no_output g c = call_no_output _ _ _ _ _ _ c.run_words.ensures
+
+pub returns-clause-notes : goal.returns-clause-notes
+returns-clause-notes g c = call_notes _ _ _ _ _ _ c.run_words.ensures c.one_meaning.ensures
+
+pub returns-clause-line : goal.returns-clause-line
+returns-clause-line g c = call_line _ _ _ _ _ _ c.run_words.ensures
