@@ -1,16 +1,8 @@
 //! The phase of types: the first broken rule of types, or the checked tree.
 #![tactic(auto)]
 
-mod calls;
-mod checks;
-mod choices;
-mod copies;
-mod counting;
 mod expressions;
-pub mod law;
-mod performs;
 mod rules;
-mod statements;
 mod tables;
 #[cfg(test)]
 mod tests;

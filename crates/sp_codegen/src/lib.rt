@@ -1,2 +1,0 @@
-//! The code generator.
-#![tactic(auto)]
