@@ -1,7 +1,9 @@
--- The lines of an end and of a verdict.
+-- The lines of a refusal, of an end and of a verdict.
 use Rattle.std.specs.Prelude.{ℕ, List, [], ◌++◌, codes, decimal}
 use Rattle.std.specs.List.{flat_map}
 use Rattle.sp_base.specs.Faults.{fault_name}
+use Rattle.sp_base.specs.declared.halt.Refusal.{Refusal}
+use Rattle.sp_base.specs.Rules.{rule_name}
 use Rattle.sp_base.specs.Names.{name_text, channel_text}
 use Rattle.sp_journal.specs.declared.outcome.Waiter.{Waiter}
 use Rattle.sp_journal.specs.declared.outcome.End.{End}
@@ -31,3 +33,7 @@ abbrev pub verdict_text : Verdict → List ℕ
 verdict_text verdict.Ordered = codes "ordered\n"
 verdict_text (verdict.Race w c e l) = codes "race " ++ way_text w ++ codes " " ++ channel_text c ++ codes " " ++ decimal e ++ codes " " ++ decimal l ++ codes "\n"
 verdict_text verdict.Unjudged = codes "unjudged\n"
+
+-- a broken rule and its place, as `refused G1 1:20`
+abbrev pub refusal_text : Refusal → List ℕ
+refusal_text r = codes "refused " ++ rule_name r.rule ++ codes " " ++ decimal r.at.line ++ codes ":" ++ decimal r.at.column ++ codes "\n"

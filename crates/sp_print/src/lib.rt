@@ -1,10 +1,13 @@
-//! The lines in which the program tells the end of a run and the verdict on it.
+//! The lines in which the program tells a refusal, the end of a run and the verdict on it.
 #![tactic(auto)]
 
 mod end;
+mod number;
+mod refusal;
 #[cfg(test)]
 mod tests;
 mod verdict;
 
 pub use end::end_lines;
+pub use refusal::refusal_line;
 pub use verdict::verdict_line;

@@ -1,7 +1,7 @@
-//! The lines of ends and verdicts.
+//! The lines of refusals, ends and verdicts.
 
 use super::*;
-use sp_base::{ChanName, Fault, List, ProcName};
+use sp_base::{ChanName, Fault, List, Place, ProcName, Refusal, Rule};
 use sp_journal::{End, Verdict, Waiter, Way};
 use std::alloc::Global;
 use std::test::Fail;
@@ -35,6 +35,20 @@ fn a_deadlock_and_a_fault(rt: HostRuntime) -> Result<(), Fail> {
     };
     let lines = end_lines(rt.alloc(), &fault)?;
     assert_eq!(rt; lines.as_slice(), b"fault F5 0\n".as_slice());
+    Ok(())
+}
+
+#[test]
+fn a_refusal(rt: HostRuntime) -> Result<(), Fail> {
+    let refusal = Refusal {
+        rule: Rule::G2,
+        at: Place {
+            line: 1,
+            column: 54,
+        },
+    };
+    let line = refusal_line(rt.alloc(), refusal)?;
+    assert_eq!(rt; line.as_slice(), b"refused G2 1:54\n".as_slice());
     Ok(())
 }
 

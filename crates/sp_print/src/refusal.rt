@@ -1,0 +1,23 @@
+//! The line of a refusal.
+
+ghost use Rattle.std.specs.Prelude.{◌≡◌, IfOk};
+ghost use Rattle.sp_print.specs.Lines.{refusal_text};
+
+use crate::number::put_number;
+use sp_base::{Memory, Refusal};
+use std::alloc::Global;
+
+/// The line of a broken rule and its place: `refused RULE LINE:COLUMN`.
+pub fn refusal_line(alloc: Global, refusal: Refusal) -> Result<Vec<u8>, Memory>
+    ensures { IfOk result (λ text. text.items ≡ refusal_text refusal) }
+{
+    let mut out = Vec::new(alloc);
+    out.extend_from_slice(b"refused ")?;
+    out.extend_from_slice(refusal.rule.name().as_bytes())?;
+    out.extend_from_slice(b" ")?;
+    put_number(&mut out, refusal.at.line as u64)?;
+    out.extend_from_slice(b":")?;
+    put_number(&mut out, refusal.at.column as u64)?;
+    out.extend_from_slice(b"\n")?;
+    Ok(out)
+}
