@@ -1,0 +1,20 @@
+-- What is left to do, as it is kept in memory.
+use Rattle.std.specs.Prelude.{List, map}
+use Rattle.sp_run.specs.declared.item.Item.{Item}
+use Rattle.sp_run.specs.declared.item.Item.TheVariants as it
+use Rattle.sp_meaning.specs.Own as m
+use Rattle.sp_tree.specs.Plain.{While, Repeat}
+use Rattle.sp_tree.specs.PlainOf.{stmt_of, expr_of}
+
+abbrev pub item_of : Item → m.Item
+item_of (it.Do s) = m.Do (stmt_of s.now)
+item_of (it.First x low high down s) = m.First x low high down (stmt_of s.now)
+item_of (it.Again x limit down s) = m.Again x limit down (stmt_of s.now)
+item_of (it.While e s) = m.Do (While (expr_of e.now) (stmt_of s.now))
+item_of (it.Repeat s e) = m.Do (Repeat (stmt_of s.now) (expr_of e.now))
+item_of (it.Test s e) = m.Test (stmt_of s.now) (expr_of e.now)
+item_of it.Leave = m.Leave
+item_of (it.Break f) = m.Break f
+
+abbrev pub items_of : List Item → List m.Item
+items_of is = map item_of is

@@ -1,0 +1,12 @@
+pub mod Direct
+pub mod DirectEval
+pub mod DirectDeeds
+pub mod Items
+pub mod Views
+pub mod Machines
+pub mod Comings
+pub mod Places
+pub mod Framing
+pub mod Cells
+pub mod Doings
+pub mod Agree

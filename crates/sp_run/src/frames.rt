@@ -1,0 +1,183 @@
+//! Frames: which one is visible, and where a variable stands.
+
+ghost use Rattle.std.specs.Prelude.{◌≡◌, IfOk, map, length};
+ghost use Rattle.std.specs.Option.{option_copied, option_map};
+ghost use Rattle.sp_meaning.specs.Own.{seek, referred, is_block, is_index};
+ghost use Rattle.sp_run.specs.Machines.{setting_of, plain_frames, plain_references, plain_home};
+ghost use Rattle.sp_run.specs.Comings.{Does, same};
+ghost use Rattle.sp_run.specs.Places.{plain_place, fits};
+ghost use Rattle.sp_run.specs.Views.{plain_address};
+ghost use Rattle.sp_run.specs.Direct.{visible, reach};
+ghost use Rattle.sp_run.specs.DirectEval.{place_by, place_of, address_of};
+ghost use Rattle.sp_tree.specs.PlainOf.{variable_of};
+ghost use Rattle.sp_run.specs.Framing.{in_visible, referred_in, index_of};
+
+use crate::machine::{Frame, Home, Machine, Reference, Setting, Who};
+use crate::stop::{Done, Halted};
+use crate::value::{Address, Loc, copy_address, copy_name};
+use sp_base::List;
+use sp_tree::{Role, Variable};
+
+/// Where a variable stands: an address, or a forall's index with its value.
+#[derive(Drop)]
+pub enum Place {
+    At(Address),
+    Fixed(i64),
+}
+
+/// Which frame is looked for: that of a block, or that of a forall's index.
+#[derive(Clone, Copy)]
+pub enum Wanted {
+    Block(usize),
+    Index(usize),
+}
+
+/// Whether a frame is the one that is looked for.
+fn is_wanted(wanted: Wanted, home: &Home) -> bool
+    ensures { result ≡ fits wanted (plain_home home.now) }
+{
+    match wanted {
+        Wanted::Block(b) => match home {
+            Home::Block(c) => b == *c,
+            Home::Index(_, _) => false,
+        },
+        Wanted::Index(x) => match home {
+            Home::Block(_) => false,
+            Home::Index(y, _) => x == *y,
+        },
+    }
+}
+
+/// From where the list is so long outward along the links, the frames that begin with the first one that fits.
+pub fn seek<'a>(wanted: Wanted, n: usize, frames: &'a [Frame]) -> &'a [Frame]
+    ensures { plain_frames result.now ≡ seek (fits wanted) n (plain_frames frames.now) }
+{
+    let Some((f, rest)) = frames.split_first() else {
+        return frames;
+    };
+    if frames.len() == n {
+        if is_wanted(wanted, &f.home) {
+            frames
+        } else {
+            seek(wanted, f.link, rest)
+        }
+    } else {
+        seek(wanted, n, rest)
+    }
+}
+
+/// What a variable parameter stands for.
+fn referred<'a>(x: usize, references: &'a [Reference]) -> Option<&'a Reference>
+    ensures { option_map (λ r. plain_address r.stands) (option_copied result) ≡ referred x (plain_references references.now) }
+{
+    let Some((r, rest)) = references.split_first() else {
+        return None;
+    };
+    if x == r.variable {
+        Some(r)
+    } else {
+        referred(x, rest)
+    }
+}
+
+/// How long the list of frames is that begins with the visible one.
+pub fn reach(run: &Setting, who: &Who, machine: &Machine, wanted: Wanted) -> Done<usize>
+    ensures { Does run.now who.now same machine.now result machine.now (reach (fits wanted)) }
+{
+    let frames = machine.own.frames.items();
+    let found = seek(wanted, frames.len(), frames);
+    if found.is_empty() {
+        Ok(Err(Halted::Lost))
+    } else {
+        Ok(Ok(found.len()))
+    }
+}
+
+/// The variable in the frame of its block.
+fn in_visible(run: &Setting, who: &Who, machine: &Machine, x: usize, v: &Variable) -> Done<Place>
+    ensures { Does run.now who.now plain_place machine.now result machine.now (in_visible (setting_of run.now) x v.now.kind v.now.block) }
+{
+    let frames = machine.own.frames.items();
+    let found = seek(Wanted::Block(v.block as usize), frames.len(), frames);
+    let Some((f, _rest)) = found.split_first() else {
+        return Ok(Err(Halted::Lost));
+    };
+    let owner = copy_name(run.alloc, &f.owner)?;
+    Ok(Ok(Place::At(Address {
+        spot: Loc::Cell {
+            owner,
+            frame: f.number,
+            variable: x,
+        },
+        path: List::new(run.alloc),
+        kind: v.kind,
+    })))
+}
+
+/// What the variable parameter stands for in the frame of its block.
+fn referred_in(run: &Setting, who: &Who, machine: &Machine, x: usize, v: &Variable) -> Done<Place>
+    ensures { Does run.now who.now plain_place machine.now result machine.now (referred_in x v.now.block) }
+{
+    let frames = machine.own.frames.items();
+    let found = seek(Wanted::Block(v.block as usize), frames.len(), frames);
+    let Some((f, _rest)) = found.split_first() else {
+        return Ok(Err(Halted::Lost));
+    };
+    match referred(x, f.references.items()) {
+        Some(r) => {
+            let a = copy_address(run.alloc, &r.stands)?;
+            Ok(Ok(Place::At(a)))
+        }
+        None => Ok(Err(Halted::Lost)),
+    }
+}
+
+/// The value of a forall's index.
+fn index_of(run: &Setting, who: &Who, machine: &Machine, x: usize) -> Done<Place>
+    ensures { Does run.now who.now plain_place machine.now result machine.now (index_of (setting_of run.now) x) }
+{
+    let frames = machine.own.frames.items();
+    let found = seek(Wanted::Index(x), frames.len(), frames);
+    let Some((f, _rest)) = found.split_first() else {
+        return Ok(Err(Halted::Lost));
+    };
+    match f.home {
+        Home::Block(_) => Ok(Err(Halted::Lost)),
+        Home::Index(_, n) => Ok(Ok(Place::Fixed(n))),
+    }
+}
+
+/// Where a variable stands, by its role.
+fn place_by(run: &Setting, who: &Who, machine: &Machine, x: usize, v: &Variable) -> Done<Place>
+    ensures { Does run.now who.now plain_place machine.now result machine.now (place_by (setting_of run.now) x (variable_of v.now) v.now.role) }
+{
+    match v.role {
+        Role::Console => Ok(Err(Halted::Lost)),
+        Role::Local => in_visible(run, who, machine, x, v),
+        Role::Value => in_visible(run, who, machine, x, v),
+        Role::Reference => referred_in(run, who, machine, x, v),
+        Role::Index => index_of(run, who, machine, x),
+        Role::Answer => in_visible(run, who, machine, x, v),
+    }
+}
+
+/// Where an entire variable stands.
+#[tactic(auto, using(crate::proofs::Values::some_mapped, crate::proofs::Values::none_mapped))]
+pub fn place_of(run: &Setting, who: &Who, machine: &Machine, x: u32) -> Done<Place>
+    ensures { Does run.now who.now plain_place machine.now result machine.now (place_of (setting_of run.now) x) }
+{
+    match run.checked.variables.get(x as usize) {
+        Some(v) => place_by(run, who, machine, x as usize, v),
+        None => Ok(Err(Halted::Lost)),
+    }
+}
+
+/// The address of a place that has one.
+pub fn address_of(run: &Setting, who: &Who, machine: &Machine, place: Place) -> Done<Address>
+    ensures { Does run.now who.now plain_address machine.now result machine.now (address_of (setting_of run.now) (plain_place place)) }
+{
+    match place {
+        Place::At(a) => Ok(Ok(a)),
+        Place::Fixed(_) => Ok(Err(Halted::Lost)),
+    }
+}

@@ -1,0 +1,397 @@
+//! Operators on values, and components of variables.
+
+ghost use Rattle.std.specs.Prelude.{◌≡◌, ◌≤ℤ◌, ◌-ℤ◌, nat_abs, IfOk, drop};
+ghost use Rattle.sp_arithmetic.specs.Worked.{worked};
+ghost use Rattle.sp_meaning.specs.Own.{position_in};
+ghost use Rattle.sp_run.specs.Machines.{setting_of, plain_held};
+ghost use Rattle.sp_run.specs.Comings.{Does, same, pointed};
+ghost use Rattle.sp_run.specs.Places.{plain_place};
+ghost use Rattle.sp_run.specs.Views.{plain_value, plain_address, plain_channel};
+ghost use Rattle.sp_run.specs.Framing.{component};
+ghost use Rattle.sp_tree.specs.Items.{at_line_end};
+ghost use Rattle.sp_tree.specs.Operators.{least, greatest};
+ghost use Rattle.sp_meaning.specs.Eval.{field_kind};
+ghost use Rattle.sp_run.specs.DirectEval.{work_of, ordinal, channel, channels_op, operate, standard_op, input_op, ordinal_read, channel_read, checked, element_at, kind_at, indexed, fielded, read_at, left_of};
+
+use crate::frames::Place;
+use crate::machine::{Held, Machine, Setting, Who};
+use crate::stop::{Done, Halted};
+use crate::store::{fetch, look};
+use crate::take;
+use crate::value::{Address, Chan, Loc, Value, copy_channel, is_same_channel};
+use sp_arithmetic::{absolute_of, binary, next_of, odd, previous_of, square_of, truth_of, within};
+use sp_base::{Fault, List, MAXINT};
+use sp_tree::{BinaryOp, KindOf, StandardFn};
+
+/// What an operator gives, as a value.
+pub fn worked_of(run: &Setting, who: &Who, machine: &Machine, r: Result<i64, Fault>) -> Done<Value>
+    ensures { Does run.now who.now plain_value machine.now result machine.now (work_of (worked r)) }
+{
+    match r {
+        Ok(n) => Ok(Ok(Value::Ordinal(n))),
+        Err(f) => Ok(Err(Halted::Fault(f))),
+    }
+}
+
+/// The ordinal that an evaluated expression is.
+pub fn ordinal(run: &Setting, who: &Who, machine: &Machine, v: &Value) -> Done<i64>
+    ensures { Does run.now who.now same machine.now result machine.now (ordinal (plain_value v.now)) }
+{
+    match v {
+        Value::Undefined => Ok(Err(Halted::Lost)),
+        Value::Ordinal(n) => Ok(Ok(*n)),
+        Value::Chan(_) => Ok(Err(Halted::Lost)),
+        Value::Parts(_) => Ok(Err(Halted::Lost)),
+    }
+}
+
+/// The channel that an evaluated expression is.
+pub fn channel(run: &Setting, who: &Who, machine: &Machine, v: &Value) -> Done<Chan>
+    ensures { Does run.now who.now plain_channel machine.now result machine.now (channel (plain_value v.now)) }
+{
+    match v {
+        Value::Undefined => Ok(Err(Halted::Lost)),
+        Value::Ordinal(_) => Ok(Err(Halted::Lost)),
+        Value::Chan(c) => {
+            let c = copy_channel(run.alloc, c)?;
+            Ok(Ok(c))
+        }
+        Value::Parts(_) => Ok(Err(Halted::Lost)),
+    }
+}
+
+fn on_channels(
+    run: &Setting,
+    who: &Who,
+    machine: &Machine,
+    op: BinaryOp,
+    c: &Chan,
+    d: &Chan,
+) -> Done<Value>
+    ensures { Does run.now who.now plain_value machine.now result machine.now (channels_op op (plain_channel c.now) (plain_channel d.now)) }
+{
+    match op {
+        BinaryOp::Eq => Ok(Ok(Value::Ordinal(truth_of(is_same_channel(c, d))))),
+        BinaryOp::Ne => Ok(Ok(Value::Ordinal(truth_of(!is_same_channel(c, d))))),
+        BinaryOp::Lt => Ok(Err(Halted::Lost)),
+        BinaryOp::Le => Ok(Err(Halted::Lost)),
+        BinaryOp::Gt => Ok(Err(Halted::Lost)),
+        BinaryOp::Ge => Ok(Err(Halted::Lost)),
+        BinaryOp::Add => Ok(Err(Halted::Lost)),
+        BinaryOp::Sub => Ok(Err(Halted::Lost)),
+        BinaryOp::Or => Ok(Err(Halted::Lost)),
+        BinaryOp::Mul => Ok(Err(Halted::Lost)),
+        BinaryOp::Div => Ok(Err(Halted::Lost)),
+        BinaryOp::Mod => Ok(Err(Halted::Lost)),
+        BinaryOp::And => Ok(Err(Halted::Lost)),
+    }
+}
+
+/// What an operator gives of two values.
+pub fn operate(
+    run: &Setting,
+    who: &Who,
+    machine: &Machine,
+    op: BinaryOp,
+    v: &Value,
+    w: &Value,
+) -> Done<Value>
+    ensures { Does run.now who.now plain_value machine.now result machine.now (operate op (plain_value v.now) (plain_value w.now)) }
+{
+    match v {
+        Value::Undefined => Ok(Err(Halted::Lost)),
+        Value::Ordinal(m) => {
+            let n = take!(ordinal(run, who, machine, w));
+            let v = take!(worked_of(run, who, machine, binary(op, *m, n)));
+            Ok(Ok(v))
+        }
+        Value::Chan(c) => {
+            let d = take!(channel(run, who, machine, w));
+            let v = take!(on_channels(run, who, machine, op, c, &d));
+            Ok(Ok(v))
+        }
+        Value::Parts(_) => Ok(Err(Halted::Lost)),
+    }
+}
+
+/// An ordinal type's greatest number.
+fn greatest(kind: &KindOf) -> i64
+    ensures { result ≡ greatest kind.now }
+{
+    match kind {
+        KindOf::Integer => MAXINT,
+        KindOf::Boolean => 1,
+        KindOf::Char => 255,
+        KindOf::Enumeration(n) => *n as i64 - 1,
+        KindOf::Array { .. } => 0,
+        KindOf::Fields(_) => 0,
+        KindOf::Channel(_) => 0,
+    }
+}
+
+/// An ordinal type's least number.
+fn least(kind: &KindOf) -> i64
+    ensures { result ≡ least kind.now }
+{
+    match kind {
+        KindOf::Integer => -MAXINT,
+        KindOf::Boolean => 0,
+        KindOf::Char => 0,
+        KindOf::Enumeration(_) => 0,
+        KindOf::Array { .. } => 0,
+        KindOf::Fields(_) => 0,
+        KindOf::Channel(_) => 0,
+    }
+}
+
+/// What a standard function of one argument gives; the type is that of the result.
+pub fn standard(
+    run: &Setting,
+    who: &Who,
+    machine: &Machine,
+    f: StandardFn,
+    kind: &KindOf,
+    n: i64,
+) -> Done<Value>
+    ensures { Does run.now who.now plain_value machine.now result machine.now (standard_op f kind.now n) }
+{
+    match f {
+        StandardFn::Abs => worked_of(run, who, machine, absolute_of(n)),
+        StandardFn::Sqr => worked_of(run, who, machine, square_of(n)),
+        StandardFn::Odd => worked_of(run, who, machine, odd(n)),
+        StandardFn::Ord => Ok(Ok(Value::Ordinal(n))),
+        StandardFn::Chr => worked_of(run, who, machine, within(0, 255, n)),
+        StandardFn::Succ => worked_of(run, who, machine, next_of(greatest(kind), n)),
+        StandardFn::Pred => worked_of(run, who, machine, previous_of(least(kind), n)),
+        StandardFn::Eof => Ok(Err(Halted::Lost)),
+        StandardFn::Eoln => Ok(Err(Halted::Lost)),
+    }
+}
+
+/// What `eof` and `eoln` give of what is left of the input.
+pub fn at_input(
+    run: &Setting,
+    who: &Who,
+    machine: &Machine,
+    f: StandardFn,
+    left: &[u8],
+) -> Done<Value>
+    ensures { Does run.now who.now plain_value machine.now result machine.now (input_op f left.now) }
+{
+    match f {
+        StandardFn::Abs => Ok(Err(Halted::Lost)),
+        StandardFn::Sqr => Ok(Err(Halted::Lost)),
+        StandardFn::Odd => Ok(Err(Halted::Lost)),
+        StandardFn::Ord => Ok(Err(Halted::Lost)),
+        StandardFn::Chr => Ok(Err(Halted::Lost)),
+        StandardFn::Succ => Ok(Err(Halted::Lost)),
+        StandardFn::Pred => Ok(Err(Halted::Lost)),
+        StandardFn::Eof => Ok(Ok(Value::Ordinal(truth_of(left.len() == 0)))),
+        StandardFn::Eoln => Ok(Ok(Value::Ordinal(truth_of(is_at_line_end(left))))),
+    }
+}
+
+fn is_at_line_end(left: &[u8]) -> bool
+    ensures { result ≡ at_line_end left.now }
+{
+    match left.first() {
+        Some(b) => *b == 10,
+        None => true,
+    }
+}
+
+fn ordinal_read(run: &Setting, who: &Who, machine: &Machine, v: Value) -> Done<Value>
+    ensures { Does run.now who.now plain_value machine.now result machine.now (ordinal_read (plain_value v)) }
+{
+    match v {
+        Value::Undefined => Ok(Err(Halted::Fault(Fault::F4))),
+        Value::Ordinal(n) => Ok(Ok(Value::Ordinal(n))),
+        Value::Chan(_) => Ok(Err(Halted::Fault(Fault::F4))),
+        Value::Parts(_) => Ok(Err(Halted::Fault(Fault::F4))),
+    }
+}
+
+fn channel_read(run: &Setting, who: &Who, machine: &Machine, v: Value) -> Done<Value>
+    ensures { Does run.now who.now plain_value machine.now result machine.now (channel_read (plain_value v)) }
+{
+    match v {
+        Value::Undefined => Ok(Err(Halted::Fault(Fault::F5))),
+        Value::Ordinal(_) => Ok(Err(Halted::Fault(Fault::F5))),
+        Value::Chan(c) => Ok(Ok(Value::Chan(c))),
+        Value::Parts(_) => Ok(Err(Halted::Fault(Fault::F5))),
+    }
+}
+
+/// What is read of a type.
+fn checked(run: &Setting, who: &Who, machine: &Machine, kind: &KindOf, v: Value) -> Done<Value>
+    ensures { Does run.now who.now plain_value machine.now result machine.now (checked kind.now (plain_value v)) }
+{
+    match kind {
+        KindOf::Integer => ordinal_read(run, who, machine, v),
+        KindOf::Boolean => ordinal_read(run, who, machine, v),
+        KindOf::Char => ordinal_read(run, who, machine, v),
+        KindOf::Enumeration(_) => ordinal_read(run, who, machine, v),
+        KindOf::Array { .. } => Ok(Ok(v)),
+        KindOf::Fields(_) => Ok(Ok(v)),
+        KindOf::Channel(_) => channel_read(run, who, machine, v),
+    }
+}
+
+/// The type with a number.
+pub fn kind_at<'a>(run: &Setting<'a>, who: &Who, machine: &Machine, k: u32) -> Done<&'a KindOf>
+    ensures { Does run.now who.now pointed machine.now result machine.now (kind_at (setting_of run.now) k) }
+{
+    match run.checked.kinds.get(k as usize) {
+        Some(kind) => Ok(Ok(kind)),
+        None => Ok(Err(Halted::Lost)),
+    }
+}
+
+/// How far a number lies above another.
+fn distance(low: i64, n: i64) -> usize
+    requires { low ≤ℤ n }
+    ensures { result ≡ nat_abs (n -ℤ low) }
+{
+    (n as i128 - low as i128) as usize
+}
+
+fn component(
+    run: &Setting,
+    who: &Who,
+    machine: &Machine,
+    a: Address,
+    at: usize,
+    kind: u32,
+) -> Done<Place>
+    ensures { Does run.now who.now plain_place machine.now result machine.now (component (plain_address a) at kind) }
+{
+    let Address {
+        spot,
+        mut path,
+        kind: _,
+    } = a;
+    path.push(at)?;
+    Ok(Ok(Place::At(Address { spot, path, kind })))
+}
+
+/// The element at an index, or F1.
+fn element_at(
+    run: &Setting,
+    who: &Who,
+    machine: &Machine,
+    a: Address,
+    n: &i64,
+    kind: &KindOf,
+) -> Done<Place>
+    ensures { Does run.now who.now plain_place machine.now result machine.now (element_at (plain_address a) n.now kind.now) }
+{
+    match kind {
+        KindOf::Array {
+            low,
+            high,
+            index: _,
+            element,
+        } => {
+            if *low <= *n && *n <= *high {
+                component(run, who, machine, a, distance(*low, *n), *element)
+            } else {
+                Ok(Err(Halted::Fault(Fault::F1)))
+            }
+        }
+        KindOf::Integer => Ok(Err(Halted::Lost)),
+        KindOf::Boolean => Ok(Err(Halted::Lost)),
+        KindOf::Char => Ok(Err(Halted::Lost)),
+        KindOf::Enumeration(_) => Ok(Err(Halted::Lost)),
+        KindOf::Fields(_) => Ok(Err(Halted::Lost)),
+        KindOf::Channel(_) => Ok(Err(Halted::Lost)),
+    }
+}
+
+/// The element of a place at an index.
+pub fn indexed(run: &Setting, who: &Who, machine: &Machine, place: Place, n: &i64) -> Done<Place>
+    ensures { Does run.now who.now plain_place machine.now result machine.now (indexed (setting_of run.now) (plain_place place) n.now) }
+{
+    match place {
+        Place::At(a) => {
+            let kind = take!(kind_at(run, who, machine, a.kind));
+            element_at(run, who, machine, a, n, kind)
+        }
+        Place::Fixed(_) => Ok(Err(Halted::Lost)),
+    }
+}
+
+fn field_kind(f: u32, kind: &KindOf) -> Option<u32>
+    ensures { result ≡ field_kind f kind.now }
+{
+    match kind {
+        KindOf::Fields(fields) => match fields.get(f as usize) {
+            Some(field) => Some(field.1),
+            None => None,
+        },
+        KindOf::Array { .. } => None,
+        KindOf::Integer => None,
+        KindOf::Boolean => None,
+        KindOf::Char => None,
+        KindOf::Enumeration(_) => None,
+        KindOf::Channel(_) => None,
+    }
+}
+
+/// The field of a place.
+pub fn fielded(run: &Setting, who: &Who, machine: &Machine, f: u32, place: Place) -> Done<Place>
+    ensures { Does run.now who.now plain_place machine.now result machine.now (fielded (setting_of run.now) f (plain_place place)) }
+{
+    match place {
+        Place::At(a) => {
+            let kind = take!(kind_at(run, who, machine, a.kind));
+            match field_kind(f, kind) {
+                Some(t) => component(run, who, machine, a, f as usize, t),
+                None => Ok(Err(Halted::Lost)),
+            }
+        }
+        Place::Fixed(_) => Ok(Err(Halted::Lost)),
+    }
+}
+
+/// What stands at a place.
+pub fn read_at(run: &Setting, who: &Who, machine: &mut Machine, place: &Place) -> Done<Value>
+    ensures { Does run.now who.now plain_value machine.old result machine.new (read_at (setting_of run.now) (plain_place place.now)) }
+{
+    match place {
+        Place::At(a) => {
+            let kind = take!(kind_at(run, who, machine, a.kind));
+            let v = take!(fetch(run, who, machine, a));
+            let v = take!(checked(run, who, machine, kind, v));
+            Ok(Ok(v))
+        }
+        Place::Fixed(n) => Ok(Ok(Value::Ordinal(*n))),
+    }
+}
+
+fn position_of(held: &Held) -> usize
+    ensures { result ≡ position_in (plain_held held.now) }
+{
+    match held {
+        Held::Tree(_) => 0,
+        Held::Position(n) => *n,
+        Held::Written(_) => 0,
+    }
+}
+
+fn after<'a>(bytes: &'a [u8], n: usize) -> &'a [u8]
+    ensures { result.now ≡ drop n bytes.now }
+{
+    if n < bytes.len() {
+        &bytes[n..]
+    } else {
+        &bytes[bytes.len()..]
+    }
+}
+
+/// What is left of the input.
+pub fn left_of<'a>(run: &Setting<'a>, who: &Who, machine: &mut Machine) -> Done<&'a [u8]>
+    ensures { Does run.now who.now pointed machine.old result machine.new (left_of (setting_of run.now)) }
+{
+    let held = take!(look(run, who, machine, &Loc::Input));
+    Ok(Ok(after(run.input, position_of(&held))))
+}
