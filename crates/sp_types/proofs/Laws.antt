@@ -105,7 +105,7 @@ module _ {M N : Type 0} (none : M) (join : M → M → M) (site : Found → M) (
     width_leads p (Within e) = and _ _ _ _ (expression_leads e) (at _)
 
     write_leads : (a : Argument) → R (w.write_sites none join site env a) (w.write_sites none2 join2 site2 env a)
-    write_leads (Pass e width) = and _ _ _ _ (written_leads e) (width_leads _ width)
+    write_leads (Pass e width) = and _ _ _ _ (width_leads _ width) (written_leads e)
 
     channel_leads : (a : Argument) → R (w.channel_sites none join site env a) (w.channel_sites none2 join2 site2 env a)
     channel_leads (Pass e width) = and _ _ _ _ (expression_leads e) (at _)
@@ -143,6 +143,10 @@ module _ {M N : Type 0} (none : M) (join : M → M → M) (site : Found → M) (
     choices_leads k before [] = nothing
     choices_leads k before (c ∷ cs) = and _ _ _ _ (choice_leads k before c) (choices_leads k (w.with_constant (const_value env.constants c) before) cs)
 
+    lists_leads : (k : Option ℕ) (before : List Ordinal) (xs : List (List NamedConst)) → R (w.lists_sites none join site env k before xs) (w.lists_sites none2 join2 site2 env k before xs)
+    lists_leads k before [] = nothing
+    lists_leads k before (cs ∷ rest) = and _ _ _ _ (choices_leads k before cs) (lists_leads k (w.with_constants env cs before) rest)
+
   mutual
     statement_leads : (env : Env) (s : Statement) → R (w.statement_sites none join site env s) (w.statement_sites none2 join2 site2 env s)
     statement_leads env (Does p form) = statement_form_leads (counted env) form
@@ -156,7 +160,7 @@ module _ {M N : Type 0} (none : M) (join : M → M → M) (site : Found → M) (
     statement_form_leads env (If e s o) = and _ _ _ _ (condition_leads env e) (and _ _ _ _ (statement_leads env s) (other_leads (w.statement_after env s) o))
     statement_form_leads env (While e s) = and _ _ _ _ (condition_leads env e) (statement_leads env s)
     statement_form_leads env (Repeat ss e) = and _ _ _ _ (statements_leads (counted env) ss) (condition_leads (w.statements_after (counted env) ss) e)
-    statement_form_leads env (Case e choices) = and _ _ _ _ (and _ _ _ _ (expression_leads env e) (at _)) (arms_leads env _ [] choices)
+    statement_form_leads env (Case e choices) = and _ _ _ _ (and _ _ _ _ (expression_leads env e) (at _)) (and _ _ _ _ (lists_leads env (expression_kind env e) [] (w.constant_lists choices)) (arms_leads env choices))
     statement_form_leads env (For x p from down to s) = and _ _ _ _ (at _) (and _ _ _ _ (limit_leads env _ from) (and _ _ _ _ (limit_leads env _ to) (statement_leads env s)))
     statement_form_leads env (Parallel bs) = branches_leads env bs
     statement_form_leads env (Forall x from to s) = and _ _ _ _ (and _ _ _ _ (expression_leads env from) (at _)) (and _ _ _ _ (limit_leads env _ to) (statement_leads (indexed env x (expression_kind env from)) s))
@@ -170,12 +174,12 @@ module _ {M N : Type 0} (none : M) (join : M → M → M) (site : Found → M) (
     statements_leads env NoStatement = nothing
     statements_leads env (AndThen s rest) = and _ _ _ _ (statement_leads env s) (statements_leads (w.statement_after env s) rest)
 
-    arms_leads : (env : Env) (k : Option ℕ) (before : List Ordinal) (xs : Arms) → R (w.arms_sites none join site env k before xs) (w.arms_sites none2 join2 site2 env k before xs)
-    arms_leads env k before NoArm = nothing
-    arms_leads env k before (Or a rest) = and _ _ _ _ (arm_leads env k before a) (arms_leads (w.arm_after env a) k (w.with_arm env a before) rest)
+    arms_leads : (env : Env) (xs : Arms) → R (w.arms_sites none join site env xs) (w.arms_sites none2 join2 site2 env xs)
+    arms_leads env NoArm = nothing
+    arms_leads env (Or a rest) = and _ _ _ _ (arm_leads env a) (arms_leads (w.arm_after env a) rest)
 
-    arm_leads : (env : Env) (k : Option ℕ) (before : List Ordinal) (a : Arm) → R (w.arm_sites none join site env k before a) (w.arm_sites none2 join2 site2 env k before a)
-    arm_leads env k before (On cs s) = and _ _ _ _ (choices_leads env k before cs) (statement_leads env s)
+    arm_leads : (env : Env) (a : Arm) → R (w.arm_sites none join site env a) (w.arm_sites none2 join2 site2 env a)
+    arm_leads env (On cs s) = statement_leads env s
 
     branches_leads : (env : Env) (bs : Branches) → R (w.branches_sites none join site env bs) (w.branches_sites none2 join2 site2 env bs)
     branches_leads env NoBranch = nothing

@@ -4,3 +4,5 @@ pub mod TreeRows
 pub mod TextRows
 pub mod Laws
 pub mod Steps
+pub mod Counts
+pub mod Numbering

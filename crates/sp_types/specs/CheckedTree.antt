@@ -1,6 +1,6 @@
 -- The checked tree of a program. It is there for every tree with numbers for names; where no rule of types is broken, each
 -- part has its type.
-use Rattle.std.specs.Prelude.{ℕ, ◌+◌, ℤ, pos, List, [], ◌∷◌, Option, Some, None, slice_get}
+use Rattle.std.specs.Prelude.{ℕ, ◌+◌, ℤ, pos, List, [], ◌∷◌, ◌++◌, Option, Some, None, slice_get}
 use Rattle.sp_base.specs.declared.place.Place.{Place}
 use Rattle.sp_tree.specs.declared.checked.Role.{Role}
 use Rattle.sp_tree.specs.declared.checked.Role.TheVariants as role
@@ -45,6 +45,11 @@ passed r e = c.ByValue e
 abbrev pub target : c.Expression → c.Variable
 target (c.At at k (c.Read v)) = v
 target (c.At at k form) = c.Entire 0 at c.Whole
+
+-- a text of length 1 is a char, and any other is written as it is
+abbrev pub written_text : Place → List ℕ → Option Ordinal → Option c.Expression → c.Form
+written_text at t None w = c.WriteText t w
+written_text at t (Some o) w = c.WriteValue (c.At at o.kind (c.Number o.number)) w
 
 module _ (env : Env) where
   abbrev mutual
@@ -94,23 +99,21 @@ module _ (env : Env) where
   checked_width NoWidth = None
   checked_width (Within e) = Some (checked_expression e)
 
-  -- a text of length 1 is a char, and any other is written as it is
-  abbrev pub written_text : Place → List ℕ → Option Ordinal → Option c.Expression → c.Form
-  written_text at t None w = c.WriteText t w
-  written_text at t (Some o) w = c.WriteValue (c.At at o.kind (c.Number o.number)) w
+  abbrev pub written_form : Expression → Option c.Expression → c.Form
+  written_form (At at (Quoted t)) w = written_text at t (char_of t) w
+  written_form e w = c.WriteValue (checked_expression e) w
 
   abbrev pub written : Argument → c.Form
-  written (Pass (At at (Quoted t)) w) = written_text at t (char_of t) (checked_width w)
-  written (Pass e w) = c.WriteValue (checked_expression e) (checked_width w)
+  written (Pass e w) = written_form e (checked_width w)
 
   -- the single statements that a call with several arguments stands for
-  abbrev pub reads : Arguments → List c.Form → List c.Form
-  reads NoArgument last = last
-  reads (AndArgument a rest) last = c.ReadValue (argument_variable a) ∷ reads rest last
+  abbrev pub reads : Arguments → List c.Form
+  reads NoArgument = []
+  reads (AndArgument a rest) = c.ReadValue (argument_variable a) ∷ reads rest
 
-  abbrev pub writes : Arguments → List c.Form → List c.Form
-  writes NoArgument last = last
-  writes (AndArgument a rest) last = written a ∷ writes rest last
+  abbrev pub writes : Arguments → List c.Form
+  writes NoArgument = []
+  writes (AndArgument a rest) = written a ∷ writes rest
 
   abbrev pub opens : Arguments → List c.Form
   opens NoArgument = []
@@ -126,10 +129,10 @@ module _ (env : Env) where
   receives channel (AndArgument a rest) = c.Receive channel (argument_variable a) ∷ receives channel rest
 
   abbrev pub singles : StandardProcedure → Arguments → List c.Form
-  singles procedure.Read args = reads args []
-  singles procedure.Readln args = reads args (c.ReadLine ∷ [])
-  singles procedure.Write args = writes args []
-  singles procedure.Writeln args = writes args (c.WriteLine ∷ [])
+  singles procedure.Read args = reads args
+  singles procedure.Readln args = reads args ++ c.ReadLine ∷ []
+  singles procedure.Write args = writes args
+  singles procedure.Writeln args = writes args ++ c.WriteLine ∷ []
   singles procedure.Open args = opens args
   singles procedure.Send NoArgument = []
   singles procedure.Send (AndArgument a rest) = sends (checked_argument a) rest

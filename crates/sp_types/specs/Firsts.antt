@@ -2,6 +2,9 @@
 use Rattle.std.specs.Prelude.{ℕ, List, Option}
 use Rattle.sp_base.specs.declared.place.Place.{Place}
 use Rattle.sp_tree.specs.declared.operators.StandardFn.{StandardFn}
+use Rattle.sp_tree.specs.declared.meaning.StandardProcedure.{StandardProcedure}
+use Rattle.sp_tree.specs.declared.named.NamedConst.{NamedConst}
+use Rattle.sp_types.specs.declared.tables.Ordinal.{Ordinal}
 use Rattle.sp_tree.specs.NameFirst.{Onward, none_more, both}
 use Rattle.sp_tree.specs.PlainNamed as n
 use Rattle.sp_types.specs.Tables.{Env}
@@ -34,3 +37,66 @@ standard_first = w.standard_sites none_more both at_node
 
 abbrev pub parameter_first : Env → StandardFn → n.Argument → Onward
 parameter_first = w.parameter_sites none_more both at_node
+
+abbrev pub read_first : Env → n.Argument → Onward
+read_first = w.read_sites none_more both at_node
+
+abbrev pub written_first : Env → n.Expression → Onward
+written_first = w.written_sites none_more both at_node
+
+abbrev pub width_first : Env → Place → n.Width → Onward
+width_first = w.width_sites none_more both at_node
+
+abbrev pub write_first : Env → n.Argument → Onward
+write_first = w.write_sites none_more both at_node
+
+abbrev pub channel_first : Env → n.Argument → Onward
+channel_first = w.channel_sites none_more both at_node
+
+abbrev pub message_first : Env → Option ℕ → n.Argument → Onward
+message_first = w.message_sites none_more both at_node
+
+abbrev pub each_first : Env → (n.Argument → Onward) → n.Arguments → Onward
+each_first = w.each_sites none_more both at_node
+
+abbrev pub messages_first : Env → n.Arguments → Onward
+messages_first = w.messages_sites none_more both at_node
+
+abbrev pub perform_first : Env → StandardProcedure → n.Arguments → Onward
+perform_first = w.perform_sites none_more both at_node
+
+abbrev pub condition_first : Env → n.Expression → Onward
+condition_first = w.condition_sites none_more both at_node
+
+abbrev pub limit_first : Env → Option ℕ → n.Expression → Onward
+limit_first = w.limit_sites none_more both at_node
+
+abbrev pub choice_first : Env → Option ℕ → List Ordinal → NamedConst → Onward
+choice_first = w.choice_sites none_more both at_node
+
+abbrev pub choices_first : Env → Option ℕ → List Ordinal → List NamedConst → Onward
+choices_first = w.choices_sites none_more both at_node
+
+abbrev pub lists_first : Env → Option ℕ → List Ordinal → List (List NamedConst) → Onward
+lists_first = w.lists_sites none_more both at_node
+
+abbrev pub statement_first : Env → n.Statement → Onward
+statement_first = w.statement_sites none_more both at_node
+
+abbrev pub statement_form_first : Env → n.Form → Onward
+statement_form_first = w.statement_form_sites none_more both at_node
+
+abbrev pub other_first : Env → n.Other → Onward
+other_first = w.other_sites none_more both at_node
+
+abbrev pub statements_first : Env → n.Statements → Onward
+statements_first = w.statements_sites none_more both at_node
+
+abbrev pub arms_first : Env → n.Arms → Onward
+arms_first = w.arms_sites none_more both at_node
+
+abbrev pub arm_first : Env → n.Arm → Onward
+arm_first = w.arm_sites none_more both at_node
+
+abbrev pub branches_first : Env → n.Branches → Onward
+branches_first = w.branches_sites none_more both at_node

@@ -65,9 +65,9 @@ counted_by n env = record env { next = env.next + n }
 -- the single statements that a call of a standard procedure stands for
 abbrev pub single_count : StandardProcedure → Arguments → ℕ
 single_count procedure.Read args = count args
-single_count procedure.Readln args = suc (count args)
+single_count procedure.Readln args = count args + 1
 single_count procedure.Write args = count args
-single_count procedure.Writeln args = suc (count args)
+single_count procedure.Writeln args = count args + 1
 single_count procedure.Open args = count args
 single_count procedure.Send args = count (behind args)
 single_count procedure.Receive args = count (behind args)
@@ -203,14 +203,19 @@ places_of (k ∷ ks) = place_by k.at k.form ++ places_of ks
 -- the constants of a `case` statement up to and with one more
 abbrev pub with_constant : Option Ordinal → List Ordinal → List Ordinal
 with_constant None before = before
-with_constant (Some o) before = o ∷ before
+with_constant (Some o) before = before ++ o ∷ []
 
 abbrev pub with_constants : Env → List NamedConst → List Ordinal → List Ordinal
 with_constants env [] before = before
 with_constants env (c ∷ cs) before = with_constants env cs (with_constant (const_value env.constants c) before)
 
-abbrev pub with_arm : Env → Arm → List Ordinal → List Ordinal
-with_arm env (On cs s) before = with_constants env cs before
+abbrev pub arm_constants : Arm → List NamedConst
+arm_constants (On cs s) = cs
+
+-- the constants of each choice
+abbrev pub constant_lists : Arms → List (List NamedConst)
+constant_lists NoArm = []
+constant_lists (Or a rest) = arm_constants a ∷ constant_lists rest
 
 module _ {M : Type 0} (none : M) (join : M → M → M) (site : Found → M) where
   module _ (env : Env) where
@@ -273,7 +278,7 @@ module _ {M : Type 0} (none : M) (join : M → M → M) (site : Found → M) whe
     width_sites at (Within w) = join (expression_sites w) (site (width_rule at (expression_kind env w)))
 
     abbrev pub write_sites : Argument → M
-    write_sites (Pass e w) = join (written_sites e) (width_sites (place e) w)
+    write_sites (Pass e w) = join (width_sites (place e) w) (written_sites e)
 
     -- a channel: what is opened, or the first argument of `send` or `receive`
     abbrev pub channel_sites : Argument → M
@@ -318,6 +323,11 @@ module _ {M : Type 0} (none : M) (join : M → M → M) (site : Found → M) whe
     choices_sites k before [] = none
     choices_sites k before (c ∷ cs) = join (choice_sites k before c) (choices_sites k (with_constant (const_value env.constants c) before) cs)
 
+    -- the constants of all choices, of which the first have been read
+    abbrev pub lists_sites : Option ℕ → List Ordinal → List (List NamedConst) → M
+    lists_sites k before [] = none
+    lists_sites k before (cs ∷ rest) = join (choices_sites k before cs) (lists_sites k (with_constants env cs before) rest)
+
   abbrev mutual
     pub statement_sites : Env → Statement → M
     statement_sites env (Does at form) = statement_form_sites (counted env) form
@@ -331,7 +341,9 @@ module _ {M : Type 0} (none : M) (join : M → M → M) (site : Found → M) whe
     statement_form_sites env (If e s o) = join (condition_sites env e) (join (statement_sites env s) (other_sites (statement_after env s) o))
     statement_form_sites env (While e s) = join (condition_sites env e) (statement_sites env s)
     statement_form_sites env (Repeat ss e) = join (statements_sites (counted env) ss) (condition_sites (statements_after (counted env) ss) e)
-    statement_form_sites env (Case e choices) = join (join (expression_sites env e) (site (selector_rule env (place e) (expression_kind env e)))) (arms_sites env (expression_kind env e) [] choices)
+    statement_form_sites env (Case e choices) =
+        join (join (expression_sites env e) (site (selector_rule env (place e) (expression_kind env e))))
+        (join (lists_sites env (expression_kind env e) [] (constant_lists choices)) (arms_sites env choices))
     statement_form_sites env (For x at from down to s) =
         join (site (range_rule env at (variable_kind env x)))
         (join (limit_sites env (variable_kind env x) from) (join (limit_sites env (variable_kind env x) to) (statement_sites env s)))
@@ -349,13 +361,12 @@ module _ {M : Type 0} (none : M) (join : M → M → M) (site : Found → M) whe
     statements_sites env NoStatement = none
     statements_sites env (AndThen s rest) = join (statement_sites env s) (statements_sites (statement_after env s) rest)
 
-    -- the choices of a `case` statement with a selector of this type, behind the constants of others
-    pub arms_sites : Env → Option ℕ → List Ordinal → Arms → M
-    arms_sites env k before NoArm = none
-    arms_sites env k before (Or a rest) = join (arm_sites env k before a) (arms_sites (arm_after env a) k (with_arm env a before) rest)
+    pub arms_sites : Env → Arms → M
+    arms_sites env NoArm = none
+    arms_sites env (Or a rest) = join (arm_sites env a) (arms_sites (arm_after env a) rest)
 
-    pub arm_sites : Env → Option ℕ → List Ordinal → Arm → M
-    arm_sites env k before (On cs s) = join (choices_sites env k before cs) (statement_sites env s)
+    pub arm_sites : Env → Arm → M
+    arm_sites env (On cs s) = statement_sites env s
 
     pub branches_sites : Env → Branches → M
     branches_sites env NoBranch = none

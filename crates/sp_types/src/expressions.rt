@@ -133,7 +133,7 @@ fn binary(op: BinaryOp, a: Boxed<Expr>, b: Boxed<Expr>) -> ExprForm
     ExprForm::Binary(op, a, b)
 }
 
-fn place_of(e: &NamedExpr) -> Place
+pub fn place_of(e: &NamedExpr) -> Place
     ensures { result ≡ place (expression_of e.now) }
 {
     e.at

@@ -1,11 +1,12 @@
 //! What is known of constants, types, variables and blocks, by their numbers.
 
-ghost use Rattle.std.specs.Prelude.{◌≡◌, slice_get};
+ghost use Rattle.std.specs.Prelude.{◌≡◌, slice_get, Ok, OnOk};
+ghost use Rattle.sp_tree.specs.Found.{Answers};
 ghost use Rattle.std.specs.Option.{option_copied};
 ghost use Rattle.sp_types.specs.Tables.{kind_at, variable_kind, entry, constant_kind, formals_of, answer_kind, ordinal_kind};
-ghost use Rattle.sp_types.specs.TypeWalk.{formal_role, formal_kind};
+ghost use Rattle.sp_types.specs.TypeWalk.{formal_role, formal_kind, counted_by};
 
-use sp_base::List;
+use sp_base::{Halt, List};
 use sp_tree::{KindOf, Role};
 
 /// An ordinal: the number of its type, and its own.
@@ -113,6 +114,23 @@ impl Tables {
         match x {
             None => None,
             Some(x) => self.variable_kind(x),
+        }
+    }
+}
+
+impl Tables {
+    /// So many numbers of statements are given. A number that is no `u32` is answered as want of memory, and then nothing
+    /// has changed.
+    pub fn count(&mut self, n: u32) -> Result<(), Halt>
+        ensures memory { Answers result (Ok tt) }
+        ensures after { OnOk result (self.new ≡ counted_by n self.old) }
+    {
+        match self.next.checked_add(n) {
+            None => Err(Halt::Memory),
+            Some(next) => {
+                self.next = next;
+                Ok(())
+            }
         }
     }
 }
