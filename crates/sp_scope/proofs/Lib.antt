@@ -1,0 +1,9 @@
+pub mod Scoped
+pub mod Held
+pub mod Tables
+pub mod NameRows
+pub mod Standards
+pub mod Heads
+pub mod Found
+pub mod NameLaws
+pub mod Least

@@ -1,0 +1,6 @@
+use Rattle.std.proofs.Common.{◌≡◌, ◌++◌, drop}
+use Rattle.sp_scope.specs.Flags.{all_flags}
+use Rattle.sp_scope.proofs.headings.all_flags.Given as goal
+
+abbrev pub invariant-loop-f : goal.invariant-loop-f
+invariant-loop-f l = l.out.items ++ all_flags (drop l.f-index l.fs) ≡ all_flags l.fs

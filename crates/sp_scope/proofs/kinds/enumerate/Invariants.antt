@@ -1,0 +1,6 @@
+use Rattle.std.proofs.Common.{◌≡◌, ◌++◌, drop}
+use Rattle.sp_tree.specs.NamedTree.{enumerated}
+use Rattle.sp_scope.proofs.kinds.enumerate.Given as goal
+
+abbrev pub invariant-loop-x : goal.invariant-loop-x
+invariant-loop-x l = l.out.items ++ enumerated l.kind l.ordinal (drop l._x-index l.xs) ≡ enumerated l.kind 0 l.xs

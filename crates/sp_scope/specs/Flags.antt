@@ -1,0 +1,12 @@
+-- For each parameter, whether it is a variable parameter.
+use Rattle.std.specs.Prelude.{List, [], ◌∷◌, ◌++◌, Bool}
+use Rattle.sp_tree.specs.declared.syntax.Name.{Name}
+use Rattle.sp_tree.specs.declared.syntax.SynFormal.{SynFormal}
+
+abbrev pub flags : Bool → List Name → List Bool
+flags b [] = []
+flags b (x ∷ xs) = b ∷ flags b xs
+
+abbrev pub all_flags : List SynFormal → List Bool
+all_flags [] = []
+all_flags (f ∷ fs) = flags f.by_reference f.names ++ all_flags fs

@@ -1,0 +1,60 @@
+-- What a part of the walk answers.
+use Rattle.std.specs.Prelude.{List, ◌∷◌, ◌++◌, Option, Some, Result, Ok, Err}
+use Rattle.sp_base.specs.declared.halt.Halt.{Halt}
+use Rattle.sp_tree.specs.Found.{Found, AnswersAs}
+use Rattle.sp_tree.specs.declared.syntax.Name.{Name}
+use Rattle.sp_tree.specs.declared.syntax.SynFormal.{SynFormal}
+use Rattle.sp_tree.specs.PlainNamed as n
+use Rattle.sp_tree.specs.declared.named.NamedConstant.{NamedConstant}
+use Rattle.sp_tree.specs.declared.named.NamedKind.{NamedKind}
+use Rattle.sp_tree.specs.declared.checked.Variable.{Variable}
+use Rattle.sp_tree.specs.NamedOf.{statement_of, program_of}
+use Rattle.sp_tree.specs.NamedTree.{Inside, program_block, formals_named, answer_named, numbers, answer_of}
+use Rattle.sp_tree.specs.Scopes.{Env, next_block, next_variable}
+use Rattle.sp_scope.specs.declared.walked.Walked.{Walked}
+use Rattle.sp_scope.specs.declared.walked.BlockParts.{BlockParts}
+use Rattle.sp_scope.specs.declared.walked.Heading.{Heading}
+
+-- a part in memory as the plain tree that it stands for, with the first broken rule
+abbrev pub seen : {A B : Type 0} → (A → B) → Walked A → B × Found
+seen view w = (view w.tree, w.first)
+
+-- This tree and this first broken rule up to its end, or memory was refused.
+abbrev pub Walks : {A B : Type 0} → (A → B) → Result (Walked A) Halt → B → Found → Type 0
+Walks view result tree first = AnswersAs (seen view) result (Ok (tree, first))
+
+-- a part that is plain already
+abbrev pub itself : {A : Type 0} → A → A
+itself x = x
+
+-- what stands in a block, as the plain record
+abbrev pub seen_block : BlockParts → Inside
+seen_block b = record { answer = b.answer; body = statement_of b.body; indices = b.indices; parts = program_of b.parts }
+
+-- what a heading gives, by the declarations around it
+abbrev pub heading_named : Env → Name → List SynFormal → Option Name → Heading
+heading_named env x fs answer = record {
+  block = next_block env.local.counts;
+  parent = env.local.block;
+  formals = formals_named env (next_block env.local.counts) fs;
+  numbers = numbers (next_variable env.local.counts) (formals_named env (next_block env.local.counts) fs);
+  results = answer_named env (next_block env.local.counts) x answer;
+}
+
+-- what a procedure declares, by its heading and block
+abbrev pub declared_by : Heading → Name → Option Name → Inside → n.Program
+declared_by h x answer i = record {
+  constants = i.parts.constants;
+  kinds = i.parts.kinds;
+  variables = h.formals ++ (h.results ++ (i.parts.variables ++ i.indices));
+  blocks = record { name = x.text; parent = Some h.parent; formals = h.numbers; answer = answer_of i.answer answer; body = i.body; at = x.at } ∷ i.parts.blocks;
+}
+
+-- a program's tables, with standard declarations in front
+abbrev pub tables_behind : Name → List NamedConstant → List NamedKind → List Variable → Inside → n.Program
+tables_behind x constants kinds consoles i = record {
+  constants = constants ++ i.parts.constants;
+  kinds = kinds ++ i.parts.kinds;
+  variables = consoles ++ (i.parts.variables ++ i.indices);
+  blocks = program_block x i.body ∷ i.parts.blocks;
+}

@@ -1,0 +1,205 @@
+//! Blocks, and what their parts declare.
+
+ghost use Rattle.std.specs.Prelude.{◌≡◌, ◌++◌, ◌∷◌, [], map, None, Ok, OnOk};
+ghost use Rattle.sp_tree.specs.Found.{Answers, AnswersAs};
+ghost use Rattle.sp_tree.specs.Scopes.{inside};
+ghost use Rattle.sp_tree.specs.NameWalk.{part_local, parts_local, title_local};
+ghost use Rattle.sp_tree.specs.NamedTree.{parts_named, part_named, inside_named, nothing_named, beside};
+ghost use Rattle.sp_tree.specs.NamedOf as named;
+ghost use Rattle.sp_tree.specs.PlainSyntax.{Proc};
+ghost use Rattle.sp_tree.specs.SyntaxOf.{block_of, part_of, parts};
+ghost use Rattle.sp_scope.specs.Walks.{Walks, seen_block, declared_by};
+ghost use Rattle.sp_scope.specs.Firsts.{parts_first, part_first, block_first, block_local, inner_first, inner_local, opened_first, opened_local, opened_named, inner_named};
+
+use crate::copies::join;
+use crate::headings::{declare_title, name_heading, procedure_part};
+use crate::indices::push_indices;
+use crate::parts::{name_constant, name_type, name_variables};
+use crate::scopes::Scopes;
+use crate::statements::name_statement;
+use crate::variables::declare_formals;
+use crate::walked::{BlockParts, Heading, Walked};
+use sp_base::{Boxed, Halt, List};
+use sp_tree::{Found, Name, Named, SynBlock, SynFormal, SynPart};
+use std::alloc::Global;
+
+fn nothing(alloc: Global) -> Named
+    ensures { named.program_of result ≡ nothing_named }
+{
+    Named {
+        constants: List::new(alloc),
+        kinds: List::new(alloc),
+        variables: List::new(alloc),
+        blocks: List::new(alloc),
+    }
+}
+
+/// What is declared in one part behind what is declared in another.
+fn beside(a: Named, b: Named) -> Result<Named, Halt>
+    ensures { AnswersAs named.program_of result (Ok (beside (named.program_of a) (named.program_of b))) }
+{
+    let constants = join(a.constants, b.constants)?;
+    let kinds = join(a.kinds, b.kinds)?;
+    let variables = join(a.variables, b.variables)?;
+    let blocks = join(a.blocks, b.blocks)?;
+    Ok(Named {
+        constants,
+        kinds,
+        variables,
+        blocks,
+    })
+}
+
+/// A block's parts and statement part.
+#[cycle(block)]
+pub fn name_block(
+    b: SynBlock,
+    alloc: Global,
+    scopes: &mut Scopes,
+    first: Found,
+) -> Result<Walked<BlockParts>, Halt>
+    ensures found { Walks seen_block result (inside_named scopes.old.around scopes.old.local (block_of b).parts (block_of b).body) (block_first scopes.old.around scopes.old.local (block_of b).parts (block_of b).body first) }
+    ensures after { OnOk result (scopes.new ≡ inside scopes.old.around (block_local scopes.old.local (block_of b).parts (block_of b).body)) }
+{
+    let SynBlock { parts, body } = b;
+    let answer = scopes.answer();
+    let block = scopes.block();
+    let parts = name_parts(parts, alloc, scopes, first)?;
+    let mut indices = Vec::new(alloc);
+    push_indices(alloc, &body, block, &mut indices)?;
+    let body = name_statement(alloc, scopes, body, parts.first)?;
+    Ok(Walked {
+        tree: BlockParts {
+            answer,
+            body: body.tree,
+            indices: List::of(indices),
+            parts: parts.tree,
+        },
+        first: body.first,
+    })
+}
+
+#[cycle(block)]
+#[tactic(auto, using(crate::proofs::Tables::beside_beside, crate::proofs::Tables::beside_nothing))]
+fn name_parts(
+    ps: List<SynPart>,
+    alloc: Global,
+    scopes: &mut Scopes,
+    first: Found,
+) -> Result<Walked<Named>, Halt>
+    ensures found { Walks named.program_of result (parts_named scopes.old.around scopes.old.local (parts (map part_of ps))) (parts_first scopes.old.around scopes.old.local (parts (map part_of ps)) first) }
+    ensures after { OnOk result (scopes.new ≡ inside scopes.old.around (parts_local scopes.old.local (parts (map part_of ps)))) }
+{
+    let mut out = nothing(alloc);
+    let mut first = first;
+    for p in ps.into_vec() {
+        let t = name_part(p, alloc, scopes, first)?;
+        first = t.first;
+        out = beside(out, t.tree)?;
+    }
+    Ok(Walked { tree: out, first })
+}
+
+#[cycle(block)]
+fn name_part(
+    p: SynPart,
+    alloc: Global,
+    scopes: &mut Scopes,
+    first: Found,
+) -> Result<Walked<Named>, Halt>
+    ensures found { Walks named.program_of result (part_named scopes.old.around scopes.old.local (part_of p)) (part_first scopes.old.around scopes.old.local (part_of p) first) }
+    ensures after { OnOk result (scopes.new ≡ inside scopes.old.around (part_local scopes.old.local (part_of p))) }
+{
+    match p {
+        SynPart::Const(x, c) => name_constant(alloc, scopes, &x, &c, first),
+        SynPart::Kind(x, k) => name_type(alloc, scopes, &x, &k, first),
+        SynPart::Var(xs, t) => name_variables(alloc, scopes, xs.items(), &t, first),
+        SynPart::Proc {
+            name,
+            formals,
+            answer,
+            block,
+        } => name_procedure(block, alloc, scopes, &name, formals.items(), &answer, first),
+    }
+}
+
+#[cycle(block)]
+fn name_procedure(
+    b: Boxed<SynBlock>,
+    alloc: Global,
+    scopes: &mut Scopes,
+    x: &Name,
+    fs: &[SynFormal],
+    answer: &Option<Name>,
+    first: Found,
+) -> Result<Walked<Named>, Halt>
+    ensures found { Walks named.program_of result (part_named scopes.old.around scopes.old.local (Proc x.now fs.now answer.now (block_of b).parts (block_of b).body)) (part_first scopes.old.around scopes.old.local (Proc x.now fs.now answer.now (block_of b).parts (block_of b).body) first) }
+    ensures after { OnOk result (scopes.new ≡ inside scopes.old.around (part_local scopes.old.local (Proc x.now fs.now answer.now (block_of b).parts (block_of b).body))) }
+{
+    let heading = name_heading(alloc, scopes, x, fs, answer, first)?;
+    name_titled(b, alloc, scopes, heading.tree, x, fs, answer, heading.first)
+}
+
+/// A procedure behind its heading.
+#[cycle(block)]
+fn name_titled(
+    b: Boxed<SynBlock>,
+    alloc: Global,
+    scopes: &mut Scopes,
+    h: Heading,
+    x: &Name,
+    fs: &[SynFormal],
+    answer: &Option<Name>,
+    first: Found,
+) -> Result<Walked<Named>, Halt>
+    ensures found { Walks named.program_of result (declared_by h x.now answer.now (opened_named h.block scopes.old.around (title_local scopes.old.local x.now fs.now answer.now) fs.now answer.now (block_of b).parts (block_of b).body)) (opened_first h.block scopes.old.around (title_local scopes.old.local x.now fs.now answer.now) fs.now answer.now (block_of b).parts (block_of b).body first) }
+    ensures after { OnOk result (scopes.new ≡ inside scopes.old.around (opened_local h.block (title_local scopes.old.local x.now fs.now answer.now) fs.now answer.now (block_of b).parts (block_of b).body)) }
+{
+    declare_title(alloc, scopes, x, fs, answer)?;
+    let inner = name_opened(b, alloc, scopes, h.block, fs, answer, first)?;
+    let tree = procedure_part(alloc, h, x, answer, inner.tree)?;
+    Ok(Walked {
+        tree,
+        first: inner.first,
+    })
+}
+
+/// The block of a procedure, from the block around it.
+#[cycle(block)]
+fn name_opened(
+    b: Boxed<SynBlock>,
+    alloc: Global,
+    scopes: &mut Scopes,
+    block: u32,
+    fs: &[SynFormal],
+    answer: &Option<Name>,
+    first: Found,
+) -> Result<Walked<BlockParts>, Halt>
+    ensures found { Walks seen_block result (opened_named block scopes.old.around scopes.old.local fs.now answer.now (block_of b).parts (block_of b).body) (opened_first block scopes.old.around scopes.old.local fs.now answer.now (block_of b).parts (block_of b).body first) }
+    ensures after { OnOk result (scopes.new ≡ inside scopes.old.around (opened_local block scopes.old.local fs.now answer.now (block_of b).parts (block_of b).body)) }
+{
+    let outer = scopes.block();
+    let outer_answer = scopes.answer();
+    scopes.open(alloc, block, 0)?;
+    let inner = name_inner(b, alloc, scopes, fs, answer, first)?;
+    scopes.leave(outer, outer_answer);
+    Ok(inner)
+}
+
+/// The block of a procedure with its parameters, in a scope of its own.
+#[cycle(block)]
+fn name_inner(
+    b: Boxed<SynBlock>,
+    alloc: Global,
+    scopes: &mut Scopes,
+    fs: &[SynFormal],
+    answer: &Option<Name>,
+    first: Found,
+) -> Result<Walked<BlockParts>, Halt>
+    ensures found { Walks seen_block result (inner_named scopes.old.around scopes.old.local fs.now answer.now (block_of b).parts (block_of b).body) (inner_first scopes.old.around scopes.old.local fs.now answer.now (block_of b).parts (block_of b).body first) }
+    ensures after { OnOk result (scopes.new ≡ inside scopes.old.around (inner_local scopes.old.local fs.now answer.now (block_of b).parts (block_of b).body)) }
+{
+    let first = declare_formals(alloc, scopes, fs, first)?;
+    scopes.number_answer(answer)?;
+    name_block(b.into_inner(), alloc, scopes, first)
+}

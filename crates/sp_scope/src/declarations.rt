@@ -1,0 +1,108 @@
+//! The rules of names at one name, with the declarations visible there.
+
+ghost use Rattle.std.specs.Prelude.{◌≡◌};
+ghost use Rattle.std.specs.Option.{option_copied};
+ghost use Rattle.sp_tree.specs.Scopes.{find};
+ghost use Rattle.sp_tree.specs.NameRules.{broken, use_rule, declare_rule, AsConstant, AsKind, Declares, Uses, UsesIn};
+ghost use Rattle.sp_tree.specs.NamedTree.{constant_number, kind_number};
+
+use crate::rules::{breaks, breaks_if};
+use crate::scopes::Scopes;
+use sp_base::{Place, Rule};
+use sp_tree::{Found, Meaning, Name, Sort, lesser};
+
+fn constant_rule(at: Place, m: Option<&Meaning>) -> Found
+    ensures { result ≡ use_rule AsConstant at (option_copied m.entry) }
+{
+    match m {
+        None => breaks(Rule::N1, at),
+        Some(Meaning::Constant(_)) => None,
+        Some(Meaning::Kind(_)) => breaks(Rule::N3, at),
+        Some(Meaning::Variable { .. }) => breaks(Rule::N3, at),
+        Some(Meaning::Procedure { .. }) => breaks(Rule::N3, at),
+        Some(Meaning::Function { .. }) => breaks(Rule::N3, at),
+        Some(Meaning::StandardProcedure(_)) => breaks(Rule::N3, at),
+        Some(Meaning::StandardFunction(_)) => breaks(Rule::N3, at),
+    }
+}
+
+fn kind_rule(at: Place, m: Option<&Meaning>) -> Found
+    ensures { result ≡ use_rule AsKind at (option_copied m.entry) }
+{
+    match m {
+        None => breaks(Rule::N1, at),
+        Some(Meaning::Kind(_)) => None,
+        Some(Meaning::Constant(_)) => breaks(Rule::N3, at),
+        Some(Meaning::Variable { .. }) => breaks(Rule::N3, at),
+        Some(Meaning::Procedure { .. }) => breaks(Rule::N3, at),
+        Some(Meaning::Function { .. }) => breaks(Rule::N3, at),
+        Some(Meaning::StandardProcedure(_)) => breaks(Rule::N3, at),
+        Some(Meaning::StandardFunction(_)) => breaks(Rule::N3, at),
+    }
+}
+
+/// A constant: N1, N3.
+pub fn check_constant(scopes: &Scopes, x: &Name) -> Found
+    ensures { result ≡ broken scopes.now (Uses x.now AsConstant) }
+{
+    constant_rule(x.at, scopes.find(&x.text))
+}
+
+/// A type: N1, N3.
+pub fn check_kind(scopes: &Scopes, x: &Name) -> Found
+    ensures { result ≡ broken scopes.now (Uses x.now AsKind) }
+{
+    kind_rule(x.at, scopes.find(&x.text))
+}
+
+/// A constant in the definition of a type: N1, N3, N4.
+pub fn check_own_constant(scopes: &Scopes, own: &Name, x: &Name) -> Found
+    ensures { result ≡ broken scopes.now (UsesIn own.now x.now AsConstant) }
+{
+    if own.text.bytes() == x.text.bytes() {
+        breaks(Rule::N4, x.at)
+    } else {
+        constant_rule(x.at, scopes.find(&x.text))
+    }
+}
+
+/// A type in the definition of a type: N1, N3, N4.
+pub fn check_own_kind(scopes: &Scopes, own: &Name, x: &Name) -> Found
+    ensures { result ≡ broken scopes.now (UsesIn own.now x.now AsKind) }
+{
+    if own.text.bytes() == x.text.bytes() {
+        breaks(Rule::N4, x.at)
+    } else {
+        kind_rule(x.at, scopes.find(&x.text))
+    }
+}
+
+/// A declaration in the innermost block: N2, L4.
+pub fn check_declares(scopes: &Scopes, x: &Name, sort: Sort) -> Found
+    ensures { result ≡ broken scopes.now (Declares x.now sort) }
+{
+    lesser(
+        breaks_if(Rule::N2, x.at, scopes.declares(&x.text)),
+        breaks_if(Rule::L4, x.at, scopes.is_full(sort)),
+    )
+}
+
+/// The number of a constant, and 0 where the name is none.
+pub fn constant_number(m: Option<&Meaning>) -> u32
+    ensures { result ≡ constant_number (option_copied m.entry) }
+{
+    match m {
+        Some(Meaning::Constant(k)) => *k,
+        _ => 0,
+    }
+}
+
+/// The number of a type, and 0 where the name is none.
+pub fn kind_number(m: Option<&Meaning>) -> u32
+    ensures { result ≡ kind_number (option_copied m.entry) }
+{
+    match m {
+        Some(Meaning::Kind(k)) => *k,
+        _ => 0,
+    }
+}

@@ -1,0 +1,425 @@
+//! Expressions with numbers for names.
+
+ghost use Rattle.std.specs.Prelude.{◌≡◌, map, None, Ok};
+ghost use Rattle.std.specs.Option.{option_copied};
+ghost use Rattle.sp_scope.specs.Walks.{Walks};
+ghost use Rattle.sp_tree.specs.Scopes.{find};
+ghost use Rattle.sp_tree.specs.NameWalk.{is_whole};
+ghost use Rattle.sp_tree.specs.NamedTree.{named_expression, named_form, named_operand, named_selectors, named_selector, named_arguments, named_argument, named_width, operand_named, function_named, variable_number, variable_read};
+ghost use Rattle.sp_tree.specs.NamedOf as named;
+ghost use Rattle.sp_tree.specs.PlainNamed as n;
+ghost use Rattle.sp_tree.specs.SyntaxOf.{expression_of, expression_form_of, variable_of, selector_of, selectors, argument_of, arguments, width};
+ghost use Rattle.sp_scope.specs.Firsts.{expression_first, form_first, operand_first, selector_first, selectors_first, arguments_first, argument_first, passed_first, passed_name_first, width_first};
+ghost use Rattle.std.specs.Prelude.{option_map, Some};
+ghost use Rattle.sp_tree.specs.PlainSyntax.{At, Read, Apply, Unary};
+ghost use Rattle.sp_tree.specs.declared.syntax.Name.{Name};
+
+use crate::calls::{count, is_whole, next_passing, others, references_of, rest_of};
+use crate::rules::{aims, bare_rule, function_rule, operand_rule, target_rule, width_rule};
+use crate::scopes::Scopes;
+use crate::walked::Walked;
+use sp_base::{Boxed, Halt, List, Place};
+use sp_tree::{
+    BinaryOp, Found, Meaning, Name, NamedArg, NamedExpr, NamedExprForm, NamedSelector, NamedVar,
+    Passing, SynArg, SynExpr, SynExprForm, SynSelector, SynVar, UnaryOp, lesser,
+};
+use std::alloc::Global;
+
+/// An expression.
+#[cycle(expression)]
+pub fn name_expression(
+    alloc: Global,
+    scopes: &Scopes,
+    e: SynExpr,
+    first: Found,
+) -> Result<Walked<NamedExpr>, Halt>
+    ensures { Walks named.expression_of result (named_expression scopes.now (expression_of e)) (expression_first scopes.now (expression_of e) first) }
+{
+    let (at, form) = e.parts();
+    let Walked { tree, first } = name_form(alloc, scopes, form, first)?;
+    Ok(Walked {
+        tree: NamedExpr { at, form: tree },
+        first,
+    })
+}
+
+#[cycle(expression)]
+fn name_boxed(
+    alloc: Global,
+    scopes: &Scopes,
+    e: Boxed<SynExpr>,
+    first: Found,
+) -> Result<Walked<Boxed<NamedExpr>>, Halt>
+    ensures { Walks named.expression_of result (named_expression scopes.now (expression_of e)) (expression_first scopes.now (expression_of e) first) }
+{
+    let Walked { tree, first } = name_expression(alloc, scopes, e.into_inner(), first)?;
+    let tree = Boxed::new(alloc, tree)?;
+    Ok(Walked { tree, first })
+}
+
+#[cycle(expression)]
+fn name_form(
+    alloc: Global,
+    scopes: &Scopes,
+    form: SynExprForm,
+    first: Found,
+) -> Result<Walked<NamedExprForm>, Halt>
+    ensures { Walks named.expression_form_of result (named_form scopes.now (expression_form_of form)) (form_first scopes.now (expression_form_of form) first) }
+{
+    match form {
+        SynExprForm::Number(n) => Ok(Walked {
+            tree: NamedExprForm::Number(n),
+            first,
+        }),
+        SynExprForm::Quoted(t) => Ok(Walked {
+            tree: NamedExprForm::Quoted(t),
+            first,
+        }),
+        SynExprForm::Read(v) => name_operand(alloc, scopes, v, first),
+        SynExprForm::Call(f, args) => name_function(alloc, scopes, args, f, first),
+        SynExprForm::Unary(op, a) => name_unary(alloc, scopes, a, op, first),
+        SynExprForm::Binary(op, a, b) => {
+            let a = name_boxed(alloc, scopes, a, first)?;
+            name_right(alloc, scopes, b, a.tree, op, a.first)
+        }
+    }
+}
+
+#[cycle(expression)]
+fn name_unary(
+    alloc: Global,
+    scopes: &Scopes,
+    a: Boxed<SynExpr>,
+    op: UnaryOp,
+    first: Found,
+) -> Result<Walked<NamedExprForm>, Halt>
+    ensures { Walks named.expression_form_of result (named_form scopes.now (Unary op (expression_of a))) (form_first scopes.now (Unary op (expression_of a)) first) }
+{
+    let Walked { tree, first } = name_boxed(alloc, scopes, a, first)?;
+    Ok(Walked {
+        tree: NamedExprForm::Unary(op, tree),
+        first,
+    })
+}
+
+/// The right operand, behind the left.
+#[cycle(expression)]
+fn name_right(
+    alloc: Global,
+    scopes: &Scopes,
+    b: Boxed<SynExpr>,
+    a: Boxed<NamedExpr>,
+    op: BinaryOp,
+    first: Found,
+) -> Result<Walked<NamedExprForm>, Halt>
+    ensures { Walks named.expression_form_of result (n.Binary op (named.expression_of a) (named_expression scopes.now (expression_of b))) (expression_first scopes.now (expression_of b) first) }
+{
+    let Walked { tree, first } = name_boxed(alloc, scopes, b, first)?;
+    Ok(Walked {
+        tree: NamedExprForm::Binary(op, a, tree),
+        first,
+    })
+}
+
+#[cycle(expression)]
+fn name_operand(
+    alloc: Global,
+    scopes: &Scopes,
+    v: SynVar,
+    first: Found,
+) -> Result<Walked<NamedExprForm>, Halt>
+    ensures { Walks named.expression_form_of result (named_operand scopes.now (variable_of v)) (operand_first scopes.now (variable_of v) first) }
+{
+    let SynVar { name, selectors } = v;
+    let whole = is_whole(selectors.items());
+    let broken = operand_rule(name.at, whole, scopes.find(&name.text));
+    name_read(alloc, scopes, selectors, &name, lesser(first, broken))
+}
+
+#[cycle(expression)]
+fn name_read(
+    alloc: Global,
+    scopes: &Scopes,
+    xs: List<SynSelector>,
+    x: &Name,
+    first: Found,
+) -> Result<Walked<NamedExprForm>, Halt>
+    ensures { Walks named.expression_form_of result (operand_named (find scopes.now x.now.text) x.now (named.selectors (named_selectors scopes.now (selectors (map selector_of xs))))) (selectors_first scopes.now (selectors (map selector_of xs)) first) }
+{
+    let Walked { tree, first } = name_selectors(alloc, scopes, xs, first)?;
+    Ok(Walked {
+        tree: operand_form(alloc, scopes.find(&x.text), x, tree),
+        first,
+    })
+}
+
+fn operand_form(
+    alloc: Global,
+    m: Option<&Meaning>,
+    x: &Name,
+    xs: List<NamedSelector>,
+) -> NamedExprForm
+    ensures { named.expression_form_of result ≡ operand_named (option_copied m.entry) x.now (named.selectors (map named.selector_of xs)) }
+{
+    match m {
+        Some(Meaning::Constant(k)) => NamedExprForm::Constant(*k),
+        Some(Meaning::Function { block, .. }) => {
+            NamedExprForm::Call(*block, x.at, List::new(alloc))
+        }
+        Some(Meaning::StandardFunction(f)) => NamedExprForm::Standard(*f, List::new(alloc)),
+        Some(Meaning::Variable { number, .. }) => variable_read(*number, x, xs),
+        None => variable_read(0, x, xs),
+        Some(Meaning::Kind(_)) => variable_read(0, x, xs),
+        Some(Meaning::Procedure { .. }) => variable_read(0, x, xs),
+        Some(Meaning::StandardProcedure(_)) => variable_read(0, x, xs),
+    }
+}
+
+fn variable_read(number: u32, x: &Name, xs: List<NamedSelector>) -> NamedExprForm
+    ensures { named.expression_form_of result ≡ variable_read number x.now (named.selectors (map named.selector_of xs)) }
+{
+    NamedExprForm::Read(NamedVar {
+        variable: number,
+        at: x.at,
+        selectors: xs,
+    })
+}
+
+/// The number of a variable, and 0 where the name is none.
+pub fn variable_number(m: Option<&Meaning>) -> u32
+    ensures { result ≡ variable_number (option_copied m.entry) }
+{
+    match m {
+        Some(Meaning::Variable { number, .. }) => *number,
+        _ => 0,
+    }
+}
+
+#[cycle(expression)]
+fn name_function(
+    alloc: Global,
+    scopes: &Scopes,
+    args: List<SynArg>,
+    f: Name,
+    first: Found,
+) -> Result<Walked<NamedExprForm>, Halt>
+    ensures { Walks named.expression_form_of result (named_form scopes.now (Apply f (arguments (map argument_of args)))) (form_first scopes.now (Apply f (arguments (map argument_of args))) first) }
+{
+    let m = scopes.find(&f.text);
+    let broken = function_rule(f.at, count(args.items()), m);
+    let first = lesser(first, broken);
+    let args = name_arguments(alloc, scopes, args, references_of(m), rest_of(m), first)?;
+    Ok(Walked {
+        tree: function_form(m, f.at, args.tree),
+        first: args.first,
+    })
+}
+
+fn function_form(m: Option<&Meaning>, at: Place, args: List<NamedArg>) -> NamedExprForm
+    ensures { (f : Name) → f.at ≡ at → named.expression_form_of result ≡ function_named (option_copied m.entry) f (named.arguments (map named.argument_of args)) }
+{
+    match m {
+        Some(Meaning::Function { block, .. }) => NamedExprForm::Call(*block, at, args),
+        Some(Meaning::StandardFunction(f)) => NamedExprForm::Standard(*f, args),
+        _ => NamedExprForm::Call(0, at, args),
+    }
+}
+
+/// The arguments of a call, passed by the flags of its parameters and then as the rest.
+#[cycle(expression)]
+pub fn name_arguments(
+    alloc: Global,
+    scopes: &Scopes,
+    xs: List<SynArg>,
+    flags: &[bool],
+    rest: Passing,
+    first: Found,
+) -> Result<Walked<List<NamedArg>>, Halt>
+    ensures { Walks (map named.argument_of) result (named_arguments scopes.now (arguments (map argument_of xs))) (arguments_first scopes.now flags.now rest (arguments (map argument_of xs)) first) }
+{
+    let mut out = Vec::new(alloc);
+    let mut first = first;
+    let mut flags = flags;
+    for x in xs.into_vec() {
+        let y = name_argument(alloc, scopes, x, next_passing(flags, rest), first)?;
+        first = y.first;
+        flags = others(flags);
+        out.push(y.tree)?;
+    }
+    Ok(Walked {
+        tree: List::of(out),
+        first,
+    })
+}
+
+#[cycle(expression)]
+fn name_argument(
+    alloc: Global,
+    scopes: &Scopes,
+    a: SynArg,
+    p: Passing,
+    first: Found,
+) -> Result<Walked<NamedArg>, Halt>
+    ensures { Walks named.argument_of result (named_argument scopes.now (argument_of a)) (argument_first scopes.now p (argument_of a) first) }
+{
+    let SynArg { value, width } = a;
+    let at = value.at;
+    let width = name_width(alloc, scopes, width, at, p, first)?;
+    let value = name_passed(alloc, scopes, value, p, width.first)?;
+    Ok(Walked {
+        tree: NamedArg {
+            value: value.tree,
+            width: width.tree,
+        },
+        first: value.first,
+    })
+}
+
+#[cycle(expression)]
+fn name_width(
+    alloc: Global,
+    scopes: &Scopes,
+    w: Option<SynExpr>,
+    at: Place,
+    p: Passing,
+    first: Found,
+) -> Result<Walked<Option<NamedExpr>>, Halt>
+    ensures { Walks (λ t. named.width (option_map named.expression_of t)) result (named_width scopes.now (width (option_map expression_of w))) (width_first scopes.now p at (width (option_map expression_of w)) first) }
+{
+    match w {
+        None => Ok(Walked { tree: None, first }),
+        Some(e) => {
+            let first = lesser(first, width_rule(at, p));
+            let Walked { tree, first } = name_expression(alloc, scopes, e, first)?;
+            Ok(Walked {
+                tree: Some(tree),
+                first,
+            })
+        }
+    }
+}
+
+#[cycle(expression)]
+fn name_passed(
+    alloc: Global,
+    scopes: &Scopes,
+    e: SynExpr,
+    p: Passing,
+    first: Found,
+) -> Result<Walked<NamedExpr>, Halt>
+    ensures { Walks named.expression_of result (named_expression scopes.now (expression_of e)) (passed_first scopes.now p (expression_of e) first) }
+{
+    let (at, form) = e.parts();
+    let Walked { tree, first } = name_passed_form(alloc, scopes, form, at, p, first)?;
+    Ok(Walked {
+        tree: NamedExpr { at, form: tree },
+        first,
+    })
+}
+
+#[cycle(expression)]
+fn name_passed_form(
+    alloc: Global,
+    scopes: &Scopes,
+    form: SynExprForm,
+    at: Place,
+    p: Passing,
+    first: Found,
+) -> Result<Walked<NamedExprForm>, Halt>
+    ensures { Walks named.expression_form_of result (named_form scopes.now (expression_form_of form)) (passed_first scopes.now p (At at (expression_form_of form)) first) }
+{
+    let bare = lesser(first, bare_rule(at, p));
+    match form {
+        SynExprForm::Read(v) => name_passed_variable(alloc, scopes, v, at, p, first),
+        SynExprForm::Number(n) => Ok(Walked {
+            tree: NamedExprForm::Number(n),
+            first: bare,
+        }),
+        SynExprForm::Quoted(t) => Ok(Walked {
+            tree: NamedExprForm::Quoted(t),
+            first: bare,
+        }),
+        SynExprForm::Call(f, args) => name_function(alloc, scopes, args, f, bare),
+        SynExprForm::Unary(op, a) => name_unary(alloc, scopes, a, op, bare),
+        SynExprForm::Binary(op, a, b) => {
+            let a = name_boxed(alloc, scopes, a, bare)?;
+            name_right(alloc, scopes, b, a.tree, op, a.first)
+        }
+    }
+}
+
+#[cycle(expression)]
+fn name_passed_variable(
+    alloc: Global,
+    scopes: &Scopes,
+    v: SynVar,
+    at: Place,
+    p: Passing,
+    first: Found,
+) -> Result<Walked<NamedExprForm>, Halt>
+    ensures { Walks named.expression_form_of result (named_operand scopes.now (variable_of v)) (passed_first scopes.now p (At at (Read (variable_of v))) first) }
+{
+    let SynVar { name, selectors } = v;
+    let whole = is_whole(selectors.items());
+    let first = passed_name(scopes, p, at, &name, whole, first);
+    name_read(alloc, scopes, selectors, &name, first)
+}
+
+fn passed_name(scopes: &Scopes, p: Passing, at: Place, x: &Name, whole: bool, first: Found) -> Found
+    ensures { result ≡ passed_name_first scopes.now p at x.now whole first }
+{
+    let m = scopes.find(&x.text);
+    if aims(p) && at == x.at {
+        lesser(first, target_rule(x.at, m))
+    } else {
+        let first = lesser(first, bare_rule(at, p));
+        lesser(first, operand_rule(x.at, whole, m))
+    }
+}
+
+#[cycle(expression)]
+fn name_selector(
+    alloc: Global,
+    scopes: &Scopes,
+    s: SynSelector,
+    first: Found,
+) -> Result<Walked<NamedSelector>, Halt>
+    ensures { Walks named.selector_of result (named_selector scopes.now (selector_of s)) (selector_first scopes.now (selector_of s) first) }
+{
+    match s {
+        SynSelector::Index(e) => {
+            let Walked { tree, first } = name_expression(alloc, scopes, e, first)?;
+            Ok(Walked {
+                tree: NamedSelector::Index(tree),
+                first,
+            })
+        }
+        SynSelector::Field(name) => Ok(Walked {
+            tree: NamedSelector::Field(name.text),
+            first,
+        }),
+    }
+}
+
+/// The selectors of a variable.
+#[cycle(expression)]
+pub fn name_selectors(
+    alloc: Global,
+    scopes: &Scopes,
+    xs: List<SynSelector>,
+    first: Found,
+) -> Result<Walked<List<NamedSelector>>, Halt>
+    ensures { Walks (map named.selector_of) result (named_selectors scopes.now (selectors (map selector_of xs))) (selectors_first scopes.now (selectors (map selector_of xs)) first) }
+{
+    let mut out = Vec::new(alloc);
+    let mut first = first;
+    for x in xs.into_vec() {
+        let y = name_selector(alloc, scopes, x, first)?;
+        first = y.first;
+        out.push(y.tree)?;
+    }
+    Ok(Walked {
+        tree: List::of(out),
+        first,
+    })
+}

@@ -1,0 +1,195 @@
+//! Headings of procedures and functions.
+
+ghost use Rattle.std.specs.Prelude.{◌≡◌, ◌++◌, ◌∷◌, [], map, Ok, OnOk};
+ghost use Rattle.sp_tree.specs.Found.{Answers, AnswersAs};
+ghost use Rattle.sp_tree.specs.Scopes.{inside};
+ghost use Rattle.sp_tree.specs.NameWalk.{references, block_meaning, title_local};
+ghost use Rattle.sp_tree.specs.NamedTree.{answer_named, answer_of};
+ghost use Rattle.sp_tree.specs.NamedOf as named;
+ghost use Rattle.sp_scope.specs.Walks.{Walks, itself, seen_block, heading_named, declared_by};
+ghost use Rattle.sp_scope.specs.Flags.{flags, all_flags};
+ghost use Rattle.sp_scope.specs.Firsts.{answer_first, title_first};
+
+use crate::copies::{copy, join};
+use crate::declarations::{check_declares, check_kind, kind_number};
+use crate::numbers::{next_block, next_variable};
+use crate::scopes::Scopes;
+use crate::variables::{name_formals, numbers};
+use crate::walked::{BlockParts, Heading, Walked};
+use sp_base::{Halt, List};
+use sp_tree::{
+    Found, Meaning, Name, Named, NamedAnswer, NamedBlock, Role, Sort, SynFormal, Variable, lesser,
+};
+use std::alloc::Global;
+
+fn check_answer(scopes: &Scopes, answer: &Option<Name>, first: Found) -> Found
+    ensures { result ≡ answer_first scopes.now answer.now first }
+{
+    match answer {
+        None => first,
+        Some(t) => lesser(first, check_kind(scopes, t)),
+    }
+}
+
+fn name_answer(
+    alloc: Global,
+    scopes: &Scopes,
+    block: u32,
+    x: &Name,
+    answer: &Option<Name>,
+) -> Result<List<Variable>, Halt>
+    ensures { Answers result (Ok (answer_named scopes.now block x.now answer.now)) }
+{
+    let mut out = Vec::new(alloc);
+    match answer {
+        None => Ok(List::of(out)),
+        Some(t) => {
+            let name = copy(alloc, &x.text)?;
+            let kind = kind_number(scopes.find(&t.text));
+            out.push(Variable {
+                name,
+                kind,
+                block,
+                role: Role::Answer,
+                at: x.at,
+            })?;
+            Ok(List::of(out))
+        }
+    }
+}
+
+/// What a heading gives for the table, and the rules that are broken there: N1 to N3, L4.
+pub fn name_heading(
+    alloc: Global,
+    scopes: &Scopes,
+    x: &Name,
+    fs: &[SynFormal],
+    answer: &Option<Name>,
+    first: Found,
+) -> Result<Walked<Heading>, Halt>
+    ensures { Walks itself result (heading_named scopes.now x.now fs.now answer.now) (title_first scopes.now x.now fs.now answer.now first) }
+{
+    let first = lesser(first, check_declares(scopes, x, Sort::Block));
+    let block = next_block(scopes.counts())?;
+    let formals = name_formals(alloc, scopes, fs, block, first)?;
+    let first = check_answer(scopes, answer, formals.first);
+    let results = name_answer(alloc, scopes, block, x, answer)?;
+    let number = next_variable(scopes.counts())?;
+    let numbers = numbers(alloc, number, formals.tree.items())?;
+    Ok(Walked {
+        tree: Heading {
+            block,
+            parent: scopes.block(),
+            formals: formals.tree,
+            numbers,
+            results,
+        },
+        first,
+    })
+}
+
+fn push_flags(out: &mut Vec<bool>, xs: &[Name], by_reference: bool) -> Result<(), Halt>
+    ensures memory { Answers result (Ok tt) }
+    ensures after { OnOk result (out.new.items ≡ out.old.items ++ flags by_reference xs.now) }
+{
+    for _x in xs {
+        out.push(by_reference)?;
+    }
+    Ok(())
+}
+
+fn all_flags(alloc: Global, fs: &[SynFormal]) -> Result<List<bool>, Halt>
+    ensures { Answers result (Ok (all_flags fs.now)) }
+{
+    let mut out = Vec::new(alloc);
+    for f in fs {
+        push_flags(&mut out, f.names.items(), f.by_reference)?;
+    }
+    Ok(List::of(out))
+}
+
+/// For each parameter, whether it is a variable parameter.
+#[tactic(auto, using(crate::proofs::Scoped::flags_are))]
+fn references(alloc: Global, fs: &[SynFormal]) -> Result<List<bool>, Halt>
+    ensures { Answers result (Ok (references fs.now)) }
+{
+    all_flags(alloc, fs)
+}
+
+fn block_meaning(
+    alloc: Global,
+    scopes: &Scopes,
+    fs: &[SynFormal],
+    answer: &Option<Name>,
+) -> Result<Meaning, Halt>
+    ensures { Answers result (Ok (block_meaning scopes.now.local fs.now answer.now)) }
+{
+    let block = next_block(scopes.counts())?;
+    let references = references(alloc, fs)?;
+    match answer {
+        None => Ok(Meaning::Procedure { block, references }),
+        Some(_) => Ok(Meaning::Function { block, references }),
+    }
+}
+
+/// Declares the name of a procedure or function in the block around it.
+pub fn declare_title(
+    alloc: Global,
+    scopes: &mut Scopes,
+    x: &Name,
+    fs: &[SynFormal],
+    answer: &Option<Name>,
+) -> Result<(), Halt>
+    ensures memory { Answers result (Ok tt) }
+    ensures after { OnOk result (scopes.new ≡ inside scopes.old.around (title_local scopes.old.local x.now fs.now answer.now)) }
+{
+    let m = block_meaning(alloc, scopes, fs, answer)?;
+    scopes.declare(alloc, &x.text, Sort::Block, m)
+}
+
+fn answer_of(variable: u32, answer: &Option<Name>) -> Option<NamedAnswer>
+    ensures { result ≡ answer_of variable answer.now }
+{
+    match answer {
+        None => None,
+        Some(t) => Some(NamedAnswer { variable, at: t.at }),
+    }
+}
+
+/// What a procedure or function declares, by its heading and its block.
+pub fn procedure_part(
+    alloc: Global,
+    h: Heading,
+    x: &Name,
+    answer: &Option<Name>,
+    b: BlockParts,
+) -> Result<Named, Halt>
+    ensures { AnswersAs named.program_of result (Ok (declared_by h x.now answer.now (seen_block b))) }
+{
+    let BlockParts {
+        answer: variable,
+        body,
+        indices,
+        parts,
+    } = b;
+    let name = copy(alloc, &x.text)?;
+    let locals = join(parts.variables, indices)?;
+    let locals = join(h.results, locals)?;
+    let variables = join(h.formals, locals)?;
+    let mut blocks = Vec::new(alloc);
+    blocks.push(NamedBlock {
+        name,
+        parent: Some(h.parent),
+        formals: h.numbers,
+        answer: answer_of(variable, answer),
+        body,
+        at: x.at,
+    })?;
+    let blocks = join(List::of(blocks), parts.blocks)?;
+    Ok(Named {
+        constants: parts.constants,
+        kinds: parts.kinds,
+        variables,
+        blocks,
+    })
+}

@@ -1,0 +1,64 @@
+//! The numbers of declarations.
+
+ghost use Rattle.std.specs.Prelude.{◌≡◌, ◌+◌, Ok};
+ghost use Rattle.sp_tree.specs.Found.{Answers};
+ghost use Rattle.sp_tree.specs.Scopes.{next_constant, next_kind, next_variable, next_block};
+
+use sp_base::Halt;
+use sp_tree::Counts;
+
+/// The next number, which is too large for memory above 2^32.
+pub fn more(n: u32) -> Result<u32, Halt>
+    ensures { Answers result (Ok (n + 1)) }
+{
+    behind(n, 1)
+}
+
+/// A length as a number.
+pub fn count_of(n: usize) -> Result<u32, Halt>
+    ensures { Answers result (Ok n) }
+{
+    if n > 4294967295 {
+        return Err(Halt::Memory);
+    }
+    Ok(n as u32)
+}
+
+/// A number behind others, which is too large for memory above 2^32.
+pub fn behind(n: u32, m: u32) -> Result<u32, Halt>
+    ensures { Answers result (Ok (n + m)) }
+{
+    match n.checked_add(m) {
+        Some(k) => Ok(k),
+        None => Err(Halt::Memory),
+    }
+}
+
+/// The number of the next constant.
+pub fn next_constant(counts: Counts) -> Result<u32, Halt>
+    ensures { Answers result (Ok (next_constant counts)) }
+{
+    behind(counts.constants, 3)
+}
+
+/// The number of the next type.
+pub fn next_kind(counts: Counts) -> Result<u32, Halt>
+    ensures { Answers result (Ok (next_kind counts)) }
+{
+    behind(counts.kinds, 3)
+}
+
+/// The number of the next variable.
+pub fn next_variable(counts: Counts) -> Result<u32, Halt>
+    ensures { Answers result (Ok (next_variable counts)) }
+{
+    let n = behind(counts.variables, counts.results)?;
+    behind(n, 2)
+}
+
+/// The number of the next procedure or function.
+pub fn next_block(counts: Counts) -> Result<u32, Halt>
+    ensures { Answers result (Ok (next_block counts)) }
+{
+    behind(counts.blocks, 1)
+}

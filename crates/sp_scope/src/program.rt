@@ -1,0 +1,183 @@
+//! The names of a program.
+
+ghost use Rattle.std.specs.Prelude.{◌≡◌, ◌++◌, ◌∷◌, [], true, false, None, Some, Ok, codes};
+ghost use Rattle.sp_tree.specs.Found.{Answers, AnswersAs};
+ghost use Rattle.sp_tree.specs.NamedTree.{standard_constants, standard_kinds, consoles, program_tables};
+ghost use Rattle.sp_tree.specs.NameFirst.{resolved};
+ghost use Rattle.sp_tree.specs.NamedOf as named;
+ghost use Rattle.sp_tree.specs.SyntaxOf as plain;
+ghost use Rattle.sp_tree.specs.declared.checked.Role.TheVariants as role;
+ghost use Rattle.sp_scope.specs.Files.{files_flagged};
+ghost use Rattle.sp_scope.specs.Firsts.{files_first};
+ghost use Rattle.sp_scope.specs.Walks.{seen_block, tables_behind};
+
+use crate::blocks::name_block;
+use crate::copies::{copy, join};
+use crate::rules::{breaks, breaks_if};
+use crate::scopes::Scopes;
+use crate::walked::BlockParts;
+use sp_base::{Halt, List, MAXINT, Place, Rule, Text};
+use sp_tree::{
+    Found, Name, Named, NamedBlock, NamedConst, NamedConstant, NamedKind, NamedKindForm,
+    NamedValue, Role, Syntax, Variable, lesser,
+};
+use std::alloc::Global;
+
+/// The names in the program's heading, with two marks for those that stood before: N1, N2.
+fn check_flagged(xs: &[Name], first: Found) -> Found
+    ensures { result ≡ files_flagged false false xs.now first }
+{
+    let mut first = first;
+    let mut input = false;
+    let mut output = false;
+    for x in xs {
+        if x.text.bytes() == "input".as_bytes() {
+            first = lesser(first, breaks_if(Rule::N2, x.at, input));
+            input = true;
+        } else if x.text.bytes() == "output".as_bytes() {
+            first = lesser(first, breaks_if(Rule::N2, x.at, output));
+            output = true;
+        } else {
+            first = lesser(first, breaks(Rule::N1, x.at));
+        }
+    }
+    first
+}
+
+fn check_files(xs: &[Name], first: Found) -> Found
+    ensures { result ≡ files_first [] xs.now first }
+{
+    check_flagged(xs, first)
+}
+
+fn standard_constants(alloc: Global, at: Place) -> Result<List<NamedConstant>, Halt>
+    ensures { Answers result (Ok (standard_constants at)) }
+{
+    let mut out = Vec::new(alloc);
+    out.push(NamedConstant::Enumerated {
+        kind: 1,
+        ordinal: 0,
+    })?;
+    out.push(NamedConstant::Enumerated {
+        kind: 1,
+        ordinal: 1,
+    })?;
+    out.push(NamedConstant::Value(NamedConst {
+        at,
+        negative: None,
+        value: NamedValue::Number(MAXINT as u64),
+    }))?;
+    Ok(List::of(out))
+}
+
+fn standard_kinds(alloc: Global, at: Place) -> Result<List<NamedKind>, Halt>
+    ensures { Answers result (Ok (standard_kinds at)) }
+{
+    let mut out = Vec::new(alloc);
+    out.push(NamedKind {
+        at,
+        form: NamedKindForm::Integer,
+    })?;
+    out.push(NamedKind {
+        at,
+        form: NamedKindForm::Boolean,
+    })?;
+    out.push(NamedKind {
+        at,
+        form: NamedKindForm::Char,
+    })?;
+    Ok(List::of(out))
+}
+
+fn console(alloc: Global, name: &str, at: Place) -> Result<Variable, Halt>
+    ensures { Answers result (Ok (record { name = name.now; kind = 2; block = 0; role = role.Console; at = at })) }
+{
+    let bytes = Vec::from_slice(alloc, name.as_bytes())?;
+    Ok(Variable {
+        name: Text::of(bytes),
+        kind: 2,
+        block: 0,
+        role: Role::Console,
+        at,
+    })
+}
+
+fn consoles(alloc: Global, at: Place) -> Result<List<Variable>, Halt>
+    ensures { Answers result (Ok (consoles at)) }
+{
+    let input = console(alloc, "input", at)?;
+    let output = console(alloc, "output", at)?;
+    let mut out = Vec::new(alloc);
+    out.push(input)?;
+    out.push(output)?;
+    Ok(List::of(out))
+}
+
+/// The tables of a program, with these standard declarations in front.
+fn tables_behind(
+    alloc: Global,
+    x: &Name,
+    constants: List<NamedConstant>,
+    kinds: List<NamedKind>,
+    consoles: List<Variable>,
+    b: BlockParts,
+) -> Result<Named, Halt>
+    ensures { AnswersAs named.program_of result (Ok (tables_behind x.now constants kinds consoles (seen_block b))) }
+{
+    let BlockParts {
+        answer: _,
+        body,
+        indices,
+        parts,
+    } = b;
+    let name = copy(alloc, &x.text)?;
+    let constants = join(constants, parts.constants)?;
+    let kinds = join(kinds, parts.kinds)?;
+    let own = join(parts.variables, indices)?;
+    let variables = join(consoles, own)?;
+    let mut blocks = Vec::new(alloc);
+    blocks.push(NamedBlock {
+        name,
+        parent: None,
+        formals: List::new(alloc),
+        answer: None,
+        body,
+        at: x.at,
+    })?;
+    let blocks = join(List::of(blocks), parts.blocks)?;
+    Ok(Named {
+        constants,
+        kinds,
+        variables,
+        blocks,
+    })
+}
+
+/// The tables of a program, with the standard declarations in front.
+fn program_tables(alloc: Global, x: &Name, b: BlockParts) -> Result<Named, Halt>
+    ensures { AnswersAs named.program_of result (Ok (program_tables x.now (seen_block b))) }
+{
+    let constants = standard_constants(alloc, x.at)?;
+    let kinds = standard_kinds(alloc, x.at)?;
+    let consoles = consoles(alloc, x.at)?;
+    tables_behind(alloc, x, constants, kinds, consoles, b)
+}
+
+/// The tree with numbers for names, or the first rule among N1 to N8 and L4 that is broken: of the earliest place, and of
+/// several at one place the one that stands first in the table of rules. The tree is consumed.
+pub fn resolve(alloc: Global, syntax: Syntax) -> Result<Named, Halt>
+    ensures { AnswersAs named.program_of result (resolved (plain.program_of syntax)) }
+{
+    let Syntax {
+        name,
+        heading,
+        block,
+    } = syntax;
+    let first = check_files(heading.items(), None);
+    let mut scopes = Scopes::new(alloc)?;
+    let inner = name_block(block, alloc, &mut scopes, first)?;
+    match inner.first {
+        Some(r) => Err(Halt::Refused(r)),
+        None => program_tables(alloc, &name, inner.tree),
+    }
+}

@@ -1,0 +1,238 @@
+//! The declarations that are visible where the walk stands.
+
+ghost use Rattle.std.specs.Prelude.{◌≡◌, ◌+◌, nat_le, ◌++◌, ◌∷◌, [], map, None, Ok, OnOk};
+ghost use Rattle.std.specs.Option.{option_copied, is_some};
+ghost use Rattle.sp_tree.specs.Found.{Answers};
+ghost use Rattle.sp_tree.specs.Scopes.{find_in, look, find, or_else, put, count, more, most, empty, standard, declared, opened, inside};
+ghost use Rattle.sp_tree.specs.NameWalk.{deeper, answer_local};
+ghost use Rattle.sp_scope.specs.Firsts.{Leaves};
+
+use crate::numbers::{more, next_variable};
+use crate::standard::standard;
+use indexmap::IndexMap;
+use sp_base::{Halt, Text};
+use sp_tree::{Counts, Meaning, Name, Sort};
+use std::alloc::Global;
+use std::marker::Model;
+use std::mem;
+
+/// The innermost block of declarations, and those around it.
+#[derive(Drop)]
+pub struct Scopes {
+    here: IndexMap<Text, Meaning>,
+    block: u32,
+    answer: u32,
+    counts: Counts,
+    around: Vec<IndexMap<Text, Meaning>>,
+}
+
+impl Model for Scopes {
+    ghost use Rattle.std.specs.Prelude.{map};
+    ghost use Rattle.sp_tree.specs.Scopes.{Env};
+
+    ghost Value = { Env };
+
+    ghost view = { λ it. record { local = record { here = it.here.entries; block = it.block; answer = it.answer; counts = it.counts }; around = map (λ m. m.entries) it.around.items } };
+}
+
+fn look_in<'a>(b: &'a IndexMap<Text, Meaning>, name: &Text) -> Option<&'a Meaning>
+    ensures { option_copied result ≡ look b.now.entries name.now }
+{
+    b.get(name)
+}
+
+/// The innermost of these blocks that declares the name, the last first.
+fn find_in<'a>(bs: &'a [IndexMap<Text, Meaning>], name: &Text) -> Option<&'a Meaning>
+    ensures { option_copied result ≡ find_in (map (λ m. m.entries) bs.now) name.now None }
+{
+    match bs.split_last() {
+        None => None,
+        Some((b, rest)) => match look_in(b, name) {
+            Some(m) => Some(m),
+            None => find_in(rest, name),
+        },
+    }
+}
+
+/// Declares a name in a block.
+#[tactic(auto, using(crate::proofs::Scoped::put_is))]
+pub fn put(b: &mut IndexMap<Text, Meaning>, name: Text, m: Meaning) -> Result<(), Halt>
+    ensures memory { Answers result (Ok tt) }
+    ensures after { OnOk result (b.new.entries ≡ put b.old.entries name m) }
+{
+    b.insert(name, m)?;
+    Ok(())
+}
+
+/// How many of a sort were declared.
+fn count(sort: Sort, counts: Counts) -> u32
+    ensures { result ≡ count sort counts }
+{
+    match sort {
+        Sort::Constant => counts.constants,
+        Sort::Kind => counts.kinds,
+        Sort::Variable => counts.variables,
+        Sort::Block => counts.blocks,
+    }
+}
+
+/// One more of a sort.
+fn one_more(sort: Sort, counts: Counts) -> Result<Counts, Halt>
+    ensures { Answers result (Ok (more sort counts)) }
+{
+    let mut counts = counts;
+    match sort {
+        Sort::Constant => {
+            counts.constants = more(counts.constants)?;
+        }
+        Sort::Kind => {
+            counts.kinds = more(counts.kinds)?;
+        }
+        Sort::Variable => {
+            counts.variables = more(counts.variables)?;
+        }
+        Sort::Block => {
+            counts.blocks = more(counts.blocks)?;
+        }
+    }
+    Ok(counts)
+}
+
+/// How many of one sort a text may declare.
+const MOST: u32 = 4096;
+
+impl Scopes {
+    /// The program's block before anything is declared, with the standard names in a block around it.
+    pub fn new(alloc: Global) -> Result<Scopes, Halt>
+        ensures { Answers result (Ok (inside (standard ∷ []) empty)) }
+    {
+        let standard = standard(alloc)?;
+        let mut around = Vec::new(alloc);
+        around.push(standard)?;
+        Ok(Scopes {
+            here: IndexMap::new(alloc),
+            block: 0,
+            answer: 0,
+            counts: Counts {
+                constants: 0,
+                kinds: 0,
+                variables: 0,
+                results: 0,
+                blocks: 0,
+            },
+            around,
+        })
+    }
+
+    /// The number of the program, procedure or function whose block is innermost.
+    pub fn block(&self) -> u32
+        ensures { result ≡ self.now.local.block }
+    {
+        self.block
+    }
+
+    /// The number of its result's variable.
+    pub fn answer(&self) -> u32
+        ensures { result ≡ self.now.local.answer }
+    {
+        self.answer
+    }
+
+    /// What was declared so far.
+    pub fn counts(&self) -> Counts
+        ensures { result ≡ self.now.local.counts }
+    {
+        self.counts
+    }
+
+    /// Whether the limit of a sort is reached.
+    pub fn is_full(&self, sort: Sort) -> bool
+        ensures { result ≡ nat_le most (count sort self.now.local.counts) }
+    {
+        MOST <= count(sort, self.counts)
+    }
+
+    /// Declares a name. Past the limit of its sort nothing is entered.
+    pub fn declare(
+        &mut self,
+        alloc: Global,
+        name: &Text,
+        sort: Sort,
+        m: Meaning,
+    ) -> Result<(), Halt>
+        ensures memory { Answers result (Ok tt) }
+        ensures after { OnOk result (self.new ≡ inside self.old.around (declared self.old.local name.now sort m)) }
+    {
+        if self.is_full(sort) {
+            return Ok(());
+        }
+        let counts = one_more(sort, self.counts)?;
+        let name = Text::of(Vec::from_slice(alloc, name.bytes())?);
+        put(&mut self.here, name, m)?;
+        self.counts = counts;
+        Ok(())
+    }
+
+    /// Numbers the result of a function, a variable without a name.
+    pub fn number_answer(&mut self, answer: &Option<Name>) -> Result<(), Halt>
+        ensures memory { Answers result (Ok tt) }
+        ensures after { OnOk result (self.new ≡ inside self.old.around (answer_local self.old.local answer.now)) }
+    {
+        match answer {
+            None => Ok(()),
+            Some(_) => {
+                let number = next_variable(self.counts)?;
+                let results = more(self.counts.results)?;
+                self.answer = number;
+                self.counts.results = results;
+                Ok(())
+            }
+        }
+    }
+
+    /// Opens a block inside, of the procedure with this number, whose result has that one.
+    pub fn open(&mut self, alloc: Global, block: u32, answer: u32) -> Result<(), Halt>
+        ensures memory { Answers result (Ok tt) }
+        ensures after { OnOk result (self.new ≡ inside (deeper self.old.around self.old.local) (opened block answer self.old.local)) }
+    {
+        let here = mem::replace(&mut self.here, IndexMap::new(alloc));
+        self.around.push(here)?;
+        self.block = block;
+        self.answer = answer;
+        Ok(())
+    }
+
+    /// Goes back to the block around, which is that of the procedure with this number.
+    pub fn leave(&mut self, block: u32, answer: u32)
+        ensures { Leaves block answer self.old self.new }
+    {
+        match self.around.pop() {
+            Some(here) => {
+                self.here = here;
+            }
+            None => {}
+        }
+        self.block = block;
+        self.answer = answer;
+    }
+
+    /// What the name stands for, by its innermost declaration.
+    pub fn find(&self, name: &Text) -> Option<&Meaning>
+        ensures { option_copied result ≡ find self.now name.now }
+    {
+        match self.here.get(name) {
+            Some(m) => Some(m),
+            None => find_in(self.around.as_slice(), name),
+        }
+    }
+
+    /// Whether the innermost block declares the name.
+    pub fn declares(&self, name: &Text) -> bool
+        ensures { result ≡ is_some (look self.now.local.here name.now) }
+    {
+        match self.here.get(name) {
+            Some(_) => true,
+            None => false,
+        }
+    }
+}

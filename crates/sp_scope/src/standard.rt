@@ -1,0 +1,86 @@
+//! The standard names.
+
+ghost use Rattle.std.specs.Prelude.{◌≡◌, [], Ok, OnOk, codes};
+ghost use Rattle.sp_tree.specs.Found.{Answers, AnswersAs};
+ghost use Rattle.sp_tree.specs.Scopes.{put, standard};
+ghost use Rattle.sp_tree.specs.declared.meaning.Meaning.TheVariants as meaning;
+ghost use Rattle.sp_scope.specs.Standard.{with_types, with_functions, with_procedures};
+
+use crate::scopes::put;
+use indexmap::IndexMap;
+use sp_base::{Halt, Text};
+use sp_tree::{Meaning, StandardFn, StandardProcedure};
+use std::alloc::Global;
+
+/// Declares a standard name.
+fn enter(alloc: Global, b: &mut IndexMap<Text, Meaning>, name: &str, m: Meaning) -> Result<(), Halt>
+    ensures memory { Answers result (Ok tt) }
+    ensures after { OnOk result (b.new.entries ≡ put b.old.entries name.now m) }
+{
+    let bytes = Vec::from_slice(alloc, name.as_bytes())?;
+    put(b, Text::of(bytes), m)
+}
+
+fn enter_types(alloc: Global, b: &mut IndexMap<Text, Meaning>) -> Result<(), Halt>
+    ensures memory { Answers result (Ok tt) }
+    ensures after { OnOk result (b.new.entries ≡ with_types b.old.entries) }
+{
+    enter(alloc, b, "integer", Meaning::Kind(0))?;
+    enter(alloc, b, "boolean", Meaning::Kind(1))?;
+    enter(alloc, b, "char", Meaning::Kind(2))?;
+    enter(alloc, b, "false", Meaning::Constant(0))?;
+    enter(alloc, b, "true", Meaning::Constant(1))?;
+    enter(alloc, b, "maxint", Meaning::Constant(2))
+}
+
+fn function(f: StandardFn) -> Meaning
+    ensures { result ≡ meaning.StandardFunction f }
+{
+    Meaning::StandardFunction(f)
+}
+
+fn enter_functions(alloc: Global, b: &mut IndexMap<Text, Meaning>) -> Result<(), Halt>
+    ensures memory { Answers result (Ok tt) }
+    ensures after { OnOk result (b.new.entries ≡ with_functions b.old.entries) }
+{
+    enter(alloc, b, "abs", function(StandardFn::Abs))?;
+    enter(alloc, b, "sqr", function(StandardFn::Sqr))?;
+    enter(alloc, b, "odd", function(StandardFn::Odd))?;
+    enter(alloc, b, "ord", function(StandardFn::Ord))?;
+    enter(alloc, b, "chr", function(StandardFn::Chr))?;
+    enter(alloc, b, "succ", function(StandardFn::Succ))?;
+    enter(alloc, b, "pred", function(StandardFn::Pred))?;
+    enter(alloc, b, "eof", function(StandardFn::Eof))?;
+    enter(alloc, b, "eoln", function(StandardFn::Eoln))
+}
+
+fn procedure(p: StandardProcedure) -> Meaning
+    ensures { result ≡ meaning.StandardProcedure p }
+{
+    Meaning::StandardProcedure(p)
+}
+
+fn enter_procedures(alloc: Global, b: &mut IndexMap<Text, Meaning>) -> Result<(), Halt>
+    ensures memory { Answers result (Ok tt) }
+    ensures after { OnOk result (b.new.entries ≡ with_procedures b.old.entries) }
+{
+    enter(alloc, b, "read", procedure(StandardProcedure::Read))?;
+    enter(alloc, b, "readln", procedure(StandardProcedure::Readln))?;
+    enter(alloc, b, "write", procedure(StandardProcedure::Write))?;
+    enter(alloc, b, "writeln", procedure(StandardProcedure::Writeln))?;
+    enter(alloc, b, "open", procedure(StandardProcedure::Open))?;
+    enter(alloc, b, "send", procedure(StandardProcedure::Send))?;
+    enter(alloc, b, "receive", procedure(StandardProcedure::Receive))
+}
+
+/// The block of the standard names.
+#[tactic(auto, using(crate::proofs::Standards::standard_is))]
+pub fn standard(alloc: Global) -> Result<IndexMap<Text, Meaning>, Halt>
+    ensures { AnswersAs (λ b. b.entries) result (Ok standard) }
+{
+    let mut b = IndexMap::new(alloc);
+    enter_types(alloc, &mut b)?;
+    enter_functions(alloc, &mut b)?;
+    enter_procedures(alloc, &mut b)?;
+    Ok(b)
+}

@@ -1,0 +1,491 @@
+//! Statements with numbers for names.
+
+ghost use Rattle.std.specs.Prelude.{◌≡◌, map, option_map, None, Ok, OnOk, Some};
+ghost use Rattle.std.specs.Option.{option_copied};
+ghost use Rattle.sp_scope.specs.Walks.{Walks};
+ghost use Rattle.sp_tree.specs.Scopes.{find, inside, closed, next_variable};
+ghost use Rattle.sp_tree.specs.NameWalk.{statement_local, form_local, other_local, statements_local, arms_local, arm_local, branches_local, index_local, indexed, deeper};
+ghost use Rattle.sp_tree.specs.NamedTree.{named_expression, named_target, named_statement, named_statement_form, named_other, named_statements, named_arms, named_arm, named_branches, named_arguments, procedure_named, assigned_number};
+ghost use Rattle.sp_tree.specs.NamedOf as named;
+ghost use Rattle.sp_tree.specs.PlainSyntax.{For, Forall, Repeat};
+ghost use Rattle.sp_tree.specs.PlainNamed as n;
+ghost use Rattle.sp_tree.specs.SyntaxOf.{expression_of, variable_of, arguments_of, statement_of, statement_form_of, other, statements, statements_of, arms, arm_of, branches, branch_of, selectors, selector_of};
+ghost use Rattle.sp_scope.specs.Firsts.{expression_first, selectors_first, assigned_first, call_first, statement_first, statement_form_first, other_first, statements_first, arms_first, arm_first, branches_first, indexed_first, element_first};
+
+use crate::calls::{count, is_whole, references_of, rest_of};
+use crate::constants::name_constants;
+use crate::declarations::check_declares;
+use crate::expressions::{name_arguments, name_expression, name_selectors, variable_number};
+use crate::numbers::next_variable;
+use crate::rules::{assign_rule, loop_rule, procedure_rule};
+use crate::scopes::Scopes;
+use crate::variables::declare_variable;
+use crate::walked::Walked;
+use sp_base::{Boxed, Halt, List};
+use sp_tree::{
+    Found, Meaning, Name, NamedArg, NamedArm, NamedBranch, NamedExpr, NamedForm, NamedStmt,
+    NamedVar, Role, Sort, SynArg, SynArm, SynBranch, SynExpr, SynForm, SynStmt, SynVar, lesser,
+};
+use std::alloc::Global;
+
+fn assigned_number(answer: u32, m: Option<&Meaning>) -> u32
+    ensures { result ≡ assigned_number answer (option_copied m.entry) }
+{
+    match m {
+        Some(Meaning::Function { .. }) => answer,
+        Some(Meaning::Variable { number, .. }) => *number,
+        _ => 0,
+    }
+}
+
+/// The left side of an assignment.
+fn name_assigned(
+    alloc: Global,
+    scopes: &Scopes,
+    v: SynVar,
+    first: Found,
+) -> Result<Walked<NamedVar>, Halt>
+    ensures { Walks named.variable_of result (named_target scopes.now (variable_of v)) (assigned_first scopes.now (variable_of v) first) }
+{
+    let SynVar { name, selectors } = v;
+    let m = scopes.find(&name.text);
+    let whole = is_whole(selectors.items());
+    let broken = assign_rule(scopes.block(), name.at, whole, m);
+    let variable = assigned_number(scopes.answer(), m);
+    let selectors = name_selectors(alloc, scopes, selectors, lesser(first, broken))?;
+    Ok(Walked {
+        tree: NamedVar {
+            variable,
+            at: name.at,
+            selectors: selectors.tree,
+        },
+        first: selectors.first,
+    })
+}
+
+fn name_assignment(
+    alloc: Global,
+    scopes: &Scopes,
+    v: SynVar,
+    e: SynExpr,
+    first: Found,
+) -> Result<Walked<NamedForm>, Halt>
+    ensures { Walks named.statement_form_of result (n.Assign (named_target scopes.now (variable_of v)) (named_expression scopes.now (expression_of e))) (expression_first scopes.now (expression_of e) (assigned_first scopes.now (variable_of v) first)) }
+{
+    let v = name_assigned(alloc, scopes, v, first)?;
+    let e = name_expression(alloc, scopes, e, v.first)?;
+    Ok(Walked {
+        tree: NamedForm::Assign(v.tree, e.tree),
+        first: e.first,
+    })
+}
+
+fn procedure_form(m: Option<&Meaning>, args: List<NamedArg>) -> NamedForm
+    ensures { named.statement_form_of result ≡ procedure_named (option_copied m.entry) (named.arguments_of args) }
+{
+    match m {
+        Some(Meaning::Procedure { block, .. }) => NamedForm::Call(*block, args),
+        Some(Meaning::StandardProcedure(p)) => NamedForm::Standard(*p, args),
+        None => NamedForm::Call(0, args),
+        Some(Meaning::Constant(_)) => NamedForm::Call(0, args),
+        Some(Meaning::Kind(_)) => NamedForm::Call(0, args),
+        Some(Meaning::Variable { .. }) => NamedForm::Call(0, args),
+        Some(Meaning::Function { .. }) => NamedForm::Call(0, args),
+        Some(Meaning::StandardFunction(_)) => NamedForm::Call(0, args),
+    }
+}
+
+/// A call as a statement.
+fn name_call(
+    alloc: Global,
+    scopes: &Scopes,
+    f: Name,
+    args: List<SynArg>,
+    first: Found,
+) -> Result<Walked<NamedForm>, Halt>
+    ensures { Walks named.statement_form_of result (procedure_named (find scopes.now f.text) (named.arguments (named_arguments scopes.now (arguments_of args)))) (call_first scopes.now f (arguments_of args) first) }
+{
+    let m = scopes.find(&f.text);
+    let broken = procedure_rule(f.at, count(args.items()), m);
+    let first = lesser(first, broken);
+    let args = name_arguments(alloc, scopes, args, references_of(m), rest_of(m), first)?;
+    Ok(Walked {
+        tree: procedure_form(m, args.tree),
+        first: args.first,
+    })
+}
+
+/// A statement. The blocks of its foralls are left again, but their indices are counted.
+#[cycle(statement)]
+pub fn name_statement(
+    alloc: Global,
+    scopes: &mut Scopes,
+    s: SynStmt,
+    first: Found,
+) -> Result<Walked<NamedStmt>, Halt>
+    ensures found { Walks named.statement_of result (named_statement scopes.old.around scopes.old.local (statement_of s)) (statement_first scopes.old.around scopes.old.local (statement_of s) first) }
+    ensures after { OnOk result (scopes.new ≡ inside scopes.old.around (statement_local scopes.old.local (statement_of s))) }
+{
+    let SynStmt { at, form } = s;
+    let Walked { tree, first } = name_statement_form(alloc, scopes, form, first)?;
+    Ok(Walked {
+        tree: NamedStmt { at, form: tree },
+        first,
+    })
+}
+
+#[cycle(statement)]
+fn name_boxed_statement(
+    alloc: Global,
+    scopes: &mut Scopes,
+    s: Boxed<SynStmt>,
+    first: Found,
+) -> Result<Walked<Boxed<NamedStmt>>, Halt>
+    ensures found { Walks named.statement_of result (named_statement scopes.old.around scopes.old.local (statement_of s)) (statement_first scopes.old.around scopes.old.local (statement_of s) first) }
+    ensures after { OnOk result (scopes.new ≡ inside scopes.old.around (statement_local scopes.old.local (statement_of s))) }
+{
+    let Walked { tree, first } = name_statement(alloc, scopes, s.into_inner(), first)?;
+    let tree = Boxed::new(alloc, tree)?;
+    Ok(Walked { tree, first })
+}
+
+#[cycle(statement)]
+fn name_statement_form(
+    alloc: Global,
+    scopes: &mut Scopes,
+    form: SynForm,
+    first: Found,
+) -> Result<Walked<NamedForm>, Halt>
+    ensures found { Walks named.statement_form_of result (named_statement_form scopes.old.around scopes.old.local (statement_form_of form)) (statement_form_first scopes.old.around scopes.old.local (statement_form_of form) first) }
+    ensures after { OnOk result (scopes.new ≡ inside scopes.old.around (form_local scopes.old.local (statement_form_of form))) }
+{
+    match form {
+        SynForm::Empty => Ok(Walked {
+            tree: NamedForm::Empty,
+            first,
+        }),
+        SynForm::Assign(v, e) => name_assignment(alloc, scopes, v, e, first),
+        SynForm::Call(f, args) => name_call(alloc, scopes, f, args, first),
+        SynForm::Sequence(ss) => {
+            let ss = name_statements(alloc, scopes, ss, first)?;
+            Ok(Walked {
+                tree: NamedForm::Sequence(ss.tree),
+                first: ss.first,
+            })
+        }
+        SynForm::If(e, a, b) => {
+            let e = name_expression(alloc, scopes, e, first)?;
+            let a = name_boxed_statement(alloc, scopes, a, e.first)?;
+            match b {
+                None => Ok(Walked {
+                    tree: NamedForm::If(e.tree, a.tree, None),
+                    first: a.first,
+                }),
+                Some(b) => name_else(alloc, scopes, b, e.tree, a.tree, a.first),
+            }
+        }
+        SynForm::While(e, a) => {
+            let e = name_expression(alloc, scopes, e, first)?;
+            let a = name_boxed_statement(alloc, scopes, a, e.first)?;
+            Ok(Walked {
+                tree: NamedForm::While(e.tree, a.tree),
+                first: a.first,
+            })
+        }
+        SynForm::Repeat(ss, e) => name_repeat(alloc, scopes, ss, e, first),
+        SynForm::Case(e, arms) => {
+            let e = name_expression(alloc, scopes, e, first)?;
+            let arms = name_arms(alloc, scopes, arms, e.first)?;
+            Ok(Walked {
+                tree: NamedForm::Case(e.tree, arms.tree),
+                first: arms.first,
+            })
+        }
+        SynForm::For {
+            name,
+            from,
+            down,
+            to,
+            body,
+        } => name_for(alloc, scopes, body, name, from, down, to, first),
+        SynForm::Parallel(bs) => {
+            let bs = name_branches(alloc, scopes, bs, first)?;
+            Ok(Walked {
+                tree: NamedForm::Parallel(bs.tree),
+                first: bs.first,
+            })
+        }
+        SynForm::Forall {
+            name,
+            from,
+            to,
+            body,
+        } => name_forall(alloc, scopes, body, name, from, to, first),
+        SynForm::Assume(e) => {
+            let e = name_expression(alloc, scopes, e, first)?;
+            Ok(Walked {
+                tree: NamedForm::Assume(e.tree),
+                first: e.first,
+            })
+        }
+    }
+}
+
+/// The statement of an `else`.
+#[cycle(statement)]
+fn name_else(
+    alloc: Global,
+    scopes: &mut Scopes,
+    b: Boxed<SynStmt>,
+    e: NamedExpr,
+    a: Boxed<NamedStmt>,
+    first: Found,
+) -> Result<Walked<NamedForm>, Halt>
+    ensures found { Walks named.statement_form_of result (n.If (named.expression_of e) (named.statement_of a) (n.Else (named_statement scopes.old.around scopes.old.local (statement_of b)))) (statement_first scopes.old.around scopes.old.local (statement_of b) first) }
+    ensures after { OnOk result (scopes.new ≡ inside scopes.old.around (statement_local scopes.old.local (statement_of b))) }
+{
+    let b = name_boxed_statement(alloc, scopes, b, first)?;
+    Ok(Walked {
+        tree: else_form(e, a, b.tree),
+        first: b.first,
+    })
+}
+
+fn else_form(e: NamedExpr, a: Boxed<NamedStmt>, b: Boxed<NamedStmt>) -> NamedForm
+    ensures { named.statement_form_of result ≡ n.If (named.expression_of e) (named.statement_of a) (n.Else (named.statement_of b)) }
+{
+    NamedForm::If(e, a, Some(b))
+}
+
+fn repeat_form(ss: List<NamedStmt>, e: NamedExpr) -> NamedForm
+    ensures { named.statement_form_of result ≡ n.Repeat (named.statements_of ss) (named.expression_of e) }
+{
+    NamedForm::Repeat(ss, e)
+}
+
+#[cycle(statement)]
+fn name_repeat(
+    alloc: Global,
+    scopes: &mut Scopes,
+    ss: List<SynStmt>,
+    e: SynExpr,
+    first: Found,
+) -> Result<Walked<NamedForm>, Halt>
+    ensures found { Walks named.statement_form_of result (named_statement_form scopes.old.around scopes.old.local (Repeat (statements_of ss) (expression_of e))) (statement_form_first scopes.old.around scopes.old.local (Repeat (statements_of ss) (expression_of e)) first) }
+    ensures after { OnOk result (scopes.new ≡ inside scopes.old.around (statements_local scopes.old.local (statements_of ss))) }
+{
+    let ss = name_statements(alloc, scopes, ss, first)?;
+    let e = name_expression(alloc, scopes, e, ss.first)?;
+    Ok(Walked {
+        tree: repeat_form(ss.tree, e.tree),
+        first: e.first,
+    })
+}
+
+#[cycle(statement)]
+fn name_for(
+    alloc: Global,
+    scopes: &mut Scopes,
+    body: Boxed<SynStmt>,
+    name: Name,
+    from: SynExpr,
+    down: bool,
+    to: SynExpr,
+    first: Found,
+) -> Result<Walked<NamedForm>, Halt>
+    ensures found { Walks named.statement_form_of result (named_statement_form scopes.old.around scopes.old.local (For name (expression_of from) down (expression_of to) (statement_of body))) (statement_form_first scopes.old.around scopes.old.local (For name (expression_of from) down (expression_of to) (statement_of body)) first) }
+    ensures after { OnOk result (scopes.new ≡ inside scopes.old.around (statement_local scopes.old.local (statement_of body))) }
+{
+    let m = scopes.find(&name.text);
+    let broken = loop_rule(scopes.block(), name.at, m);
+    let variable = variable_number(m);
+    let from = name_expression(alloc, scopes, from, lesser(first, broken))?;
+    let to = name_expression(alloc, scopes, to, from.first)?;
+    let body = name_boxed_statement(alloc, scopes, body, to.first)?;
+    Ok(Walked {
+        tree: NamedForm::For {
+            variable,
+            at: name.at,
+            from: from.tree,
+            down,
+            to: to.tree,
+            body: body.tree,
+        },
+        first: body.first,
+    })
+}
+
+#[cycle(statement)]
+fn name_forall(
+    alloc: Global,
+    scopes: &mut Scopes,
+    body: Boxed<SynStmt>,
+    name: Name,
+    from: SynExpr,
+    to: SynExpr,
+    first: Found,
+) -> Result<Walked<NamedForm>, Halt>
+    ensures found { Walks named.statement_form_of result (named_statement_form scopes.old.around scopes.old.local (Forall name (expression_of from) (expression_of to) (statement_of body))) (statement_form_first scopes.old.around scopes.old.local (Forall name (expression_of from) (expression_of to) (statement_of body)) first) }
+    ensures after { OnOk result (scopes.new ≡ inside scopes.old.around (closed scopes.old.local (statement_local (indexed scopes.old.local name) (statement_of body)))) }
+{
+    let index = next_variable(scopes.counts())?;
+    let from = name_expression(alloc, scopes, from, first)?;
+    let to = name_expression(alloc, scopes, to, from.first)?;
+    let body = name_element(alloc, scopes, body, &name, to.first)?;
+    Ok(Walked {
+        tree: NamedForm::Forall {
+            index,
+            from: from.tree,
+            to: to.tree,
+            body: body.tree,
+        },
+        first: body.first,
+    })
+}
+
+/// The element statement of a forall, in a block of its own with the index.
+#[cycle(statement)]
+fn name_element(
+    alloc: Global,
+    scopes: &mut Scopes,
+    body: Boxed<SynStmt>,
+    x: &Name,
+    first: Found,
+) -> Result<Walked<Boxed<NamedStmt>>, Halt>
+    ensures found { Walks named.statement_of result (named_statement (deeper scopes.old.around scopes.old.local) (indexed scopes.old.local x.now) (statement_of body)) (element_first scopes.old.around scopes.old.local x.now (statement_of body) first) }
+    ensures after { OnOk result (scopes.new ≡ inside scopes.old.around (closed scopes.old.local (statement_local (indexed scopes.old.local x.now) (statement_of body)))) }
+{
+    let block = scopes.block();
+    let answer = scopes.answer();
+    scopes.open(alloc, block, answer)?;
+    let body = name_indexed(alloc, scopes, body, x, first)?;
+    scopes.leave(block, answer);
+    Ok(body)
+}
+
+#[cycle(statement)]
+fn name_indexed(
+    alloc: Global,
+    scopes: &mut Scopes,
+    body: Boxed<SynStmt>,
+    x: &Name,
+    first: Found,
+) -> Result<Walked<Boxed<NamedStmt>>, Halt>
+    ensures found { Walks named.statement_of result (named_statement scopes.old.around (index_local scopes.old.local x.now) (statement_of body)) (indexed_first scopes.old.around scopes.old.local x.now (statement_of body) first) }
+    ensures after { OnOk result (scopes.new ≡ inside scopes.old.around (statement_local (index_local scopes.old.local x.now) (statement_of body))) }
+{
+    let first = lesser(first, check_declares(scopes, x, Sort::Variable));
+    declare_variable(alloc, scopes, x, Role::Index)?;
+    name_boxed_statement(alloc, scopes, body, first)
+}
+
+#[cycle(statement)]
+fn name_statements(
+    alloc: Global,
+    scopes: &mut Scopes,
+    ss: List<SynStmt>,
+    first: Found,
+) -> Result<Walked<List<NamedStmt>>, Halt>
+    ensures found { Walks (map named.statement_of) result (named_statements scopes.old.around scopes.old.local (statements (map statement_of ss))) (statements_first scopes.old.around scopes.old.local (statements (map statement_of ss)) first) }
+    ensures after { OnOk result (scopes.new ≡ inside scopes.old.around (statements_local scopes.old.local (statements (map statement_of ss)))) }
+{
+    let mut out = Vec::new(alloc);
+    let mut first = first;
+    for s in ss.into_vec() {
+        let t = name_statement(alloc, scopes, s, first)?;
+        first = t.first;
+        out.push(t.tree)?;
+    }
+    Ok(Walked {
+        tree: List::of(out),
+        first,
+    })
+}
+
+#[cycle(statement)]
+fn name_arm(
+    alloc: Global,
+    scopes: &mut Scopes,
+    a: SynArm,
+    first: Found,
+) -> Result<Walked<NamedArm>, Halt>
+    ensures found { Walks named.arm_of result (named_arm scopes.old.around scopes.old.local (arm_of a)) (arm_first scopes.old.around scopes.old.local (arm_of a) first) }
+    ensures after { OnOk result (scopes.new ≡ inside scopes.old.around (arm_local scopes.old.local (arm_of a))) }
+{
+    let SynArm { constants, body } = a;
+    let constants = name_constants(alloc, scopes, constants, first)?;
+    let body = name_statement(alloc, scopes, body, constants.first)?;
+    Ok(Walked {
+        tree: NamedArm {
+            constants: constants.tree,
+            body: body.tree,
+        },
+        first: body.first,
+    })
+}
+
+#[cycle(statement)]
+fn name_arms(
+    alloc: Global,
+    scopes: &mut Scopes,
+    choices: List<SynArm>,
+    first: Found,
+) -> Result<Walked<List<NamedArm>>, Halt>
+    ensures found { Walks (map named.arm_of) result (named_arms scopes.old.around scopes.old.local (arms (map arm_of choices))) (arms_first scopes.old.around scopes.old.local (arms (map arm_of choices)) first) }
+    ensures after { OnOk result (scopes.new ≡ inside scopes.old.around (arms_local scopes.old.local (arms (map arm_of choices)))) }
+{
+    let mut out = Vec::new(alloc);
+    let mut first = first;
+    for a in choices.into_vec() {
+        let t = name_arm(alloc, scopes, a, first)?;
+        first = t.first;
+        out.push(t.tree)?;
+    }
+    Ok(Walked {
+        tree: List::of(out),
+        first,
+    })
+}
+
+#[cycle(statement)]
+fn name_branch(
+    alloc: Global,
+    scopes: &mut Scopes,
+    b: SynBranch,
+    first: Found,
+) -> Result<Walked<NamedBranch>, Halt>
+    ensures found { Walks named.branch_of result (named.statements (named_statements scopes.old.around scopes.old.local (branch_of b))) (statements_first scopes.old.around scopes.old.local (branch_of b) first) }
+    ensures after { OnOk result (scopes.new ≡ inside scopes.old.around (statements_local scopes.old.local (branch_of b))) }
+{
+    let SynBranch { statements } = b;
+    let ss = name_statements(alloc, scopes, statements, first)?;
+    Ok(Walked {
+        tree: NamedBranch {
+            statements: ss.tree,
+        },
+        first: ss.first,
+    })
+}
+
+#[cycle(statement)]
+fn name_branches(
+    alloc: Global,
+    scopes: &mut Scopes,
+    bs: List<SynBranch>,
+    first: Found,
+) -> Result<Walked<List<NamedBranch>>, Halt>
+    ensures found { Walks (map named.branch_of) result (named_branches scopes.old.around scopes.old.local (branches (map branch_of bs))) (branches_first scopes.old.around scopes.old.local (branches (map branch_of bs)) first) }
+    ensures after { OnOk result (scopes.new ≡ inside scopes.old.around (branches_local scopes.old.local (branches (map branch_of bs)))) }
+{
+    let mut out = Vec::new(alloc);
+    let mut first = first;
+    for b in bs.into_vec() {
+        let t = name_branch(alloc, scopes, b, first)?;
+        first = t.first;
+        out.push(t.tree)?;
+    }
+    Ok(Walked {
+        tree: List::of(out),
+        first,
+    })
+}

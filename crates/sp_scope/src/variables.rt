@@ -1,0 +1,163 @@
+//! Variables in the table and in the innermost block.
+
+ghost use Rattle.std.specs.Prelude.{◌≡◌, ◌++◌, map, Ok, OnOk};
+ghost use Rattle.sp_tree.specs.Found.{Answers};
+ghost use Rattle.sp_tree.specs.Scopes.{inside, declared, variable};
+ghost use Rattle.sp_tree.specs.declared.meaning.Sort.TheVariants as sort;
+ghost use Rattle.sp_tree.specs.NameWalk.{names_local, formals_local, role_of};
+ghost use Rattle.sp_tree.specs.NamedTree.{variables_named, formals_named, numbers};
+ghost use Rattle.sp_scope.specs.Walks.{Walks, itself};
+ghost use Rattle.sp_scope.specs.Firsts.{names_first, formals_first, heading_first};
+
+use crate::copies::copy;
+use crate::declarations::{check_declares, check_kind, kind_number};
+use crate::numbers::{more, next_variable};
+use crate::scopes::Scopes;
+use crate::walked::Walked;
+use sp_base::{Halt, List};
+use sp_tree::{Found, Meaning, Name, Role, Sort, SynFormal, Variable, lesser};
+use std::alloc::Global;
+
+/// Declares a variable of a role in the innermost block.
+pub fn declare_variable(
+    alloc: Global,
+    scopes: &mut Scopes,
+    x: &Name,
+    role: Role,
+) -> Result<(), Halt>
+    ensures memory { Answers result (Ok tt) }
+    ensures after { OnOk result (scopes.new ≡ inside scopes.old.around (declared scopes.old.local x.now.text sort.Variable (variable scopes.old.local role))) }
+{
+    let number = next_variable(scopes.counts())?;
+    let block = scopes.block();
+    scopes.declare(
+        alloc,
+        &x.text,
+        Sort::Variable,
+        Meaning::Variable {
+            number,
+            block,
+            role,
+        },
+    )
+}
+
+/// Declares variables of a role in the innermost block.
+pub fn declare_variables(
+    alloc: Global,
+    scopes: &mut Scopes,
+    xs: &[Name],
+    role: Role,
+    first: Found,
+) -> Result<Found, Halt>
+    ensures found { Answers result (Ok (names_first scopes.old.around role scopes.old.local xs.now first)) }
+    ensures after { OnOk result (scopes.new ≡ inside scopes.old.around (names_local role scopes.old.local xs.now)) }
+{
+    let mut first = first;
+    for x in xs {
+        first = lesser(first, check_declares(scopes, x, Sort::Variable));
+        declare_variable(alloc, scopes, x, role)?;
+    }
+    Ok(first)
+}
+
+fn role_of(by_reference: bool) -> Role
+    ensures { result ≡ role_of by_reference }
+{
+    if by_reference {
+        Role::Reference
+    } else {
+        Role::Value
+    }
+}
+
+/// Declares parameters in the innermost block.
+pub fn declare_formals(
+    alloc: Global,
+    scopes: &mut Scopes,
+    fs: &[SynFormal],
+    first: Found,
+) -> Result<Found, Halt>
+    ensures found { Answers result (Ok (formals_first scopes.old.around scopes.old.local fs.now first)) }
+    ensures after { OnOk result (scopes.new ≡ inside scopes.old.around (formals_local scopes.old.local fs.now)) }
+{
+    let mut first = first;
+    for f in fs {
+        first = declare_variables(
+            alloc,
+            scopes,
+            f.names.items(),
+            role_of(f.by_reference),
+            first,
+        )?;
+    }
+    Ok(first)
+}
+
+/// Puts variables of one type behind those of the table.
+pub fn push_variables(
+    alloc: Global,
+    out: &mut Vec<Variable>,
+    xs: &[Name],
+    block: u32,
+    role: Role,
+    kind: u32,
+) -> Result<(), Halt>
+    ensures memory { Answers result (Ok tt) }
+    ensures after { OnOk result (out.new.items ≡ out.old.items ++ variables_named block role kind xs.now) }
+{
+    for x in xs {
+        let name = copy(alloc, &x.text)?;
+        out.push(Variable {
+            name,
+            kind,
+            block,
+            role,
+            at: x.at,
+        })?;
+    }
+    Ok(())
+}
+
+/// The parameters of a block, whose types mean what they mean around its heading.
+pub fn name_formals(
+    alloc: Global,
+    scopes: &Scopes,
+    fs: &[SynFormal],
+    block: u32,
+    first: Found,
+) -> Result<Walked<List<Variable>>, Halt>
+    ensures { Walks itself result (formals_named scopes.now block fs.now) (heading_first scopes.now fs.now first) }
+{
+    let mut out = Vec::new(alloc);
+    let mut first = first;
+    for f in fs {
+        first = lesser(first, check_kind(scopes, &f.kind));
+        let kind = kind_number(scopes.find(&f.kind.text));
+        push_variables(
+            alloc,
+            &mut out,
+            f.names.items(),
+            block,
+            role_of(f.by_reference),
+            kind,
+        )?;
+    }
+    Ok(Walked {
+        tree: List::of(out),
+        first,
+    })
+}
+
+/// As many numbers from one on as there are variables.
+pub fn numbers(alloc: Global, n: u32, xs: &[Variable]) -> Result<List<u32>, Halt>
+    ensures { Answers result (Ok (numbers n xs.now)) }
+{
+    let mut out = Vec::new(alloc);
+    let mut n = n;
+    for _x in xs {
+        out.push(n)?;
+        n = more(n)?;
+    }
+    Ok(List::of(out))
+}
