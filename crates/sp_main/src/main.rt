@@ -1,7 +1,11 @@
 //! The program: the top call over the files of the system and the standard streams.
 #![tactic(auto)]
 
-ghost use Rattle.std.specs.Prelude.{◌≡◌, []};
+ghost use Rattle.std.specs.Prelude.{◌≡◌, ◌∷◌, [], IfOk, filter, map};
+ghost use Rattle.std.specs.List.{flat_map};
+ghost use Rattle.std.specs.String.{string_bytes};
+ghost use Rattle.sp_report.specs.Telling.{is_chosen};
+ghost use Rattle.superpascal.specs.Calls.{Call, found, got};
 
 use sp_outside::{FileLibrary, Library, Sink, Source, StreamSink, StreamSource, put_all};
 use sp_report::{Census, ProcessTree, Timeline, Waiting, Watcher};
@@ -53,7 +57,7 @@ fn run<N: Sink>(rt: &HostRuntime, notes: &mut N) -> io::Result<u8> {
     )
 }
 
-// The call with these watchers, and its status.
+// The call with these watchers in their order, and its status.
 fn watched<L: Library, I: Source, O: Sink, N: Sink>(
     alloc: Global,
     words: &[String],
@@ -72,6 +76,7 @@ fn watched<L: Library, I: Source, O: Sink, N: Sink>(
     requires second { told watchers.1 ≡ [] }
     requires third { told watchers.2 ≡ [] }
     requires fourth { told watchers.3 ≡ [] }
+    ensures { IfOk result (λ status. Call (found (map string_bytes words.now) (L.held library.old) (L.faults library.old) (L.faults library.new) (I.left input.old) (I.faults input.old) (I.faults input.new) (λ s es. flat_map (λ w. text w es) (filter (λ w. is_chosen s (title w)) (watchers.0 ∷ watchers.1 ∷ watchers.2 ∷ watchers.3 ∷ [])))) (got (O.written output.old) (O.faults output.old)) (got (O.written output.new) (O.faults output.new)) (got (N.written notes.old) (N.faults notes.old)) (got (N.written notes.new) (N.faults notes.new)) status) }
 {
     let (timeline, census, tree, waiting) = watchers;
     let watchers = vec![in alloc; timeline, census, tree, waiting]?;

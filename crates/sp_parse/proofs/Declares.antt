@@ -1,6 +1,5 @@
 -- What declarations are read by.
-use Rattle.std.proofs.Common.{◌≡◌, ℕ, ◌<◌, ◌≤◌, length, arith, Bool, true, false, cond, List, [], ◌∷◌, ◌++◌, Option, Some, None, Result, Ok, Err, refl, sym as back_of, ap, ◌∙◌, subst, append_assoc}
-use Rattle.std.specs.Borrow.{Bor}
+use Rattle.std.proofs.Common.{◌≡◌, ℕ, ◌<◌, length, arith, Bool, true, false, cond, List, [], ◌∷◌, ◌++◌, Option, Some, None, Err, refl, sym as back_of, ap, ◌∙◌, subst, append_assoc}
 use Rattle.sp_base.specs.declared.halt.Halt.{Halt}
 use Rattle.sp_base.specs.declared.halt.Halt.TheVariants as halt
 use Rattle.sp_tree.specs.declared.token.Token.{Token}
@@ -15,9 +14,9 @@ use Rattle.sp_grammar.specs.Table.{Entry, Row, entry, rows, look, gap, build, ki
 use Rattle.sp_grammar.specs.Machine.{allows}
 use Rattle.sp_grammar.specs.Derives.{Begins as MayBegin, Derives, takes, skips, DerivesAll, none, and}
 use Rattle.sp_parse.specs.declared.source.Source.{Source}
-use Rattle.sp_parse.specs.Reads.{Within, Ready, AllFit, breaks, HasRead, Halts, Reads, Begins, BeginsWith, Passes, SoFar}
+use Rattle.sp_parse.specs.Reads.{Within, Ready, AllFit, breaks, HasRead, Halts, Begins, BeginsWith, Passes, SoFar}
 use Rattle.sp_parse.proofs.Steps.{has_read, take, kind_is-true, step_takes, step_fails}
-use Rattle.sp_parse.proofs.Rows.{kind_at, after_two, row_reads, row_halts}
+use Rattle.sp_parse.proofs.Rows.{after_two}
 use Rattle.sp_parse.proofs.SoFar.{ends, skipped}
 
 abbrev pub with_is : {source : Source} {ts r : List Token} {t : Token} {k : Kind} → Begins source ts t r → t.kind ≡ k → BeginsWith source ts k r

@@ -1,5 +1,5 @@
 -- The tokens of a text that breaks no rule of characters lie in it, and their numbers are integers.
-use Rattle.std.proofs.Common.{◌≡◌, ◌≢◌, ℕ, suc, ◌+◌, ◌-◌, ◌<◌, ◌≤◌, Bool, true, false, List, [], ◌∷◌, ◌++◌, length, map, take, drop, refl, sym as back_of, ap, ◌∙◌, subst, arith, length-append, append_assoc}
+use Rattle.std.proofs.Common.{◌≡◌, ℕ, suc, ◌-◌, ◌<◌, ◌≤◌, Bool, true, List, [], ◌∷◌, ◌++◌, length, map, take, drop, refl, sym as back_of, ap, ◌∙◌, subst, arith, length-append, append_assoc}
 use Rattle.std.proofs.lemmas.Bool.Decides.{nat_tests}
 use Rattle.std.proofs.Math.Seq.{drop-append_seam}
 use Rattle.sp_base.specs.declared.place.Place.{Place}
@@ -13,9 +13,9 @@ use Rattle.sp_tree.specs.Places.{place_at}
 use Rattle.sp_tree.specs.Spelling.{spelling, number_of, digits_value}
 use Rattle.sp_tree.specs.Lexemes.{Run, run_ends, run_goes_on, TextBody, text_ends, two_quotes, text_byte, BraceBody, brace_ends, brace_byte, StarBody, star_ends, star_byte, Comment, brace_comment, star_comment, Lexeme, Longest, lowered}
 use Rattle.sp_tree.specs.Lexemes as l
-use Rattle.sp_tree.specs.Scans.{Scans, nothing, blank, comment, token, offset, token_from, LargeNumber, BreaksAlong, BreaksLexis, IsTokens}
-use Rattle.sp_grammar.proofs.Rising.{lexeme_length, comment_length}
-use Rattle.sp_parse.specs.Reads.{Fits, AllFit}
+use Rattle.sp_tree.specs.Scans.{Scans, nothing, blank, comment, token, offset, token_from, BreaksLexis, IsTokens}
+use Rattle.sp_grammar.proofs.Rising.{lexeme_length}
+use Rattle.sp_parse.specs.Reads.{AllFit}
 
 -- the second list is the end of the first
 abbrev Tail : List ℕ → List ℕ → Type 0

@@ -1,6 +1,5 @@
 -- From the parts of the parser to the tree of a text.
-use Rattle.std.proofs.Common.{◌≡◌, ℕ, ◌+◌, ◌<◌, ◌≤◌, List, [], ◌∷◌, ◌++◌, length, take, Option, Some, None, Result, Ok, Err, refl, sym as back_of, ap, ◌∙◌, subst, arith}
-use Rattle.std.specs.Borrow.{Bor}
+use Rattle.std.proofs.Common.{◌≡◌, ℕ, ◌+◌, ◌≤◌, List, [], ◌∷◌, length, take, Some, Result, Ok, Err, refl, sym as back_of, ap, ◌∙◌, subst}
 use Rattle.std.proofs.Math.Seq.{take-append_seam}
 use Rattle.std.proofs.lemmas.List.{append-nil}
 use Rattle.sp_base.specs.declared.place.Place.{Place}
@@ -12,15 +11,15 @@ use Rattle.sp_tree.specs.declared.token.Token.{Token}
 use Rattle.sp_tree.specs.declared.syntax.Syntax.{Syntax}
 use Rattle.sp_tree.specs.PlainSyntax.{Program}
 use Rattle.sp_tree.specs.SyntaxOf.{program_of}
-use Rattle.sp_tree.specs.Places.{start, next_place, place_behind, place_at}
+use Rattle.sp_tree.specs.Places.{start, place_behind, place_at}
 use Rattle.sp_tree.specs.Grammar.{IsProgram}
-use Rattle.sp_tree.specs.Viable.{Any, Shallow}
+use Rattle.sp_tree.specs.Viable.{Shallow}
 use Rattle.sp_tree.specs.Scans.{IsTokens}
 use Rattle.sp_tree.specs.First.{IsFirst}
 use Rattle.sp_tree.specs.Breaches.{nesting, BreaksGrammar}
-use Rattle.sp_grammar.specs.Symbols.{Symbol, AProgram}
+use Rattle.sp_grammar.specs.Symbols.{AProgram}
 use Rattle.sp_grammar.specs.Machine.{End, Done, Stuck, run}
-use Rattle.sp_grammar.specs.Stops.{refusal_of, Stops}
+use Rattle.sp_grammar.specs.Stops.{Stops}
 use Rattle.sp_grammar.proofs.From.{from}
 use Rattle.sp_grammar.proofs.Wider.{wider_program}
 use Rattle.sp_grammar.proofs.Firsts.{first_broken, spells, none_broken}

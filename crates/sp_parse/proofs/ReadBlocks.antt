@@ -1,5 +1,5 @@
 -- How blocks and programs are read.
-use Rattle.std.proofs.Common.{◌≡◌, ℕ, suc, ◌<◌, ◌≤◌, Bool, true, false, List, [], ◌∷◌, ◌++◌, length, map, Option, Some, None, Result, Ok, Err, cond, arith, refl, sym as back_of, ap, ◌∙◌, subst}
+use Rattle.std.proofs.Common.{◌≡◌, ℕ, suc, ◌<◌, Bool, false, List, [], ◌∷◌, ◌++◌, length, map, Option, Some, None, Result, Ok, Err, arith, refl, sym as back_of, ap, ◌∙◌, subst}
 use Rattle.std.specs.Borrow.{Bor}
 use Rattle.sp_base.specs.declared.halt.Halt.{Halt}
 use Rattle.sp_base.specs.declared.place.Place.{Place}
@@ -15,10 +15,10 @@ use Rattle.sp_tree.specs.SyntaxOf.{part_of, parts as laid, parts_of, block_of, s
 use Rattle.sp_tree.specs.Grammar.{declared}
 use Rattle.sp_tree.specs.Words as w
 use Rattle.sp_tree.specs.Breaches.{nesting}
-use Rattle.sp_grammar.specs.Symbols.{Symbol, Value, Values, part, AToken, AStatement, MoreStatements, ABlock, Parts}
+use Rattle.sp_grammar.specs.Symbols.{Symbol, Values, AToken, AStatement, MoreStatements, ABlock, Parts}
 use Rattle.sp_grammar.specs.Table as row
 use Rattle.sp_grammar.specs.Table.{Entry, Row, entry, rows, look, gap, build, kind_is, PartsRow, parts_rows}
-use Rattle.sp_grammar.specs.Derives.{Begins as MayBegin, Derives, takes, skips, DerivesAll, none, and}
+use Rattle.sp_grammar.specs.Derives.{Derives, none, and}
 use Rattle.sp_parse.specs.declared.source.Source.{Source}
 use Rattle.sp_parse.specs.Reads.{Within, Ready, breaks, HasRead, Halts, Reads, Begins, BeginsOther, BeginsWith, SoFar, ReadsSoFar}
 use Rattle.sp_parse.specs.Operators.{is_some}

@@ -1,6 +1,6 @@
 -- How the symbols of expressions are read: an expression as a simple one and a relation, a simple one as terms, a term as
 -- factors.
-use Rattle.std.proofs.Common.{◌≡◌, ℕ, suc, ◌+◌, ◌<◌, ◌≤◌, Bool, true, false, cond, List, [], ◌∷◌, ◌++◌, length, map, Option, Some, None, Result, Ok, Err, refl, sym as back_of, ap, ◌∙◌, subst, arith}
+use Rattle.std.proofs.Common.{◌≡◌, ℕ, suc, ◌<◌, false, List, [], ◌∷◌, ◌++◌, map, Option, Some, None, Result, Ok, Err, refl, sym as back_of, ap, ◌∙◌, subst}
 use Rattle.std.specs.Borrow.{Bor}
 use Rattle.sp_base.specs.declared.halt.Halt.{Halt}
 use Rattle.sp_base.specs.declared.halt.Halt.TheVariants as halt
@@ -19,14 +19,13 @@ use Rattle.sp_grammar.specs.Symbols as sym
 use Rattle.sp_grammar.specs.Symbols.{Symbol, Value, Values, split, part}
 use Rattle.sp_grammar.specs.Table as row
 use Rattle.sp_grammar.specs.Table.{FactorRow, SimpleRow, Row, Entry, entry, rows, look, kind_is, gap, build, factor_rows, simple_rows, factor_value, simple_value}
-use Rattle.sp_grammar.specs.Machine.{allows}
-use Rattle.sp_grammar.specs.Derives.{Derives, takes, skips, DerivesAll, none, and}
+use Rattle.sp_grammar.specs.Derives.{Derives, DerivesAll, none, and}
 use Rattle.sp_parse.specs.declared.source.Source.{Source}
-use Rattle.sp_parse.specs.Reads.{Within, Ready, breaks, HasRead, Halts, Reads, Begins, BeginsOther, BeginsWith, SoFar, ReadsSoFar}
+use Rattle.sp_parse.specs.Reads.{Within, Ready, breaks, HasRead, Halts, Reads, Begins, BeginsWith, SoFar, ReadsSoFar}
 use Rattle.sp_parse.specs.Operators.{IsSign, Operator, NoOperator, Operates}
-use Rattle.sp_parse.proofs.Steps.{has_read, head, one, take, step_takes, step_ends, below}
-use Rattle.sp_parse.proofs.SoFar.{skipped, ends, halts_on, halts_chain, halts_pending, goes_on, starts, chain, nothing_yet}
-use Rattle.sp_parse.proofs.Rows.{look_map, after_two, split_join, copy_leads, copy_derives, bare_leads, bare_derives, halts_same, row_reads, row_halts}
+use Rattle.sp_parse.proofs.Steps.{has_read, one, take, step_ends, below}
+use Rattle.sp_parse.proofs.SoFar.{skipped, ends, halts_on, halts_chain, goes_on, starts, chain, nothing_yet}
+use Rattle.sp_parse.proofs.Rows.{look_map, after_two, split_join, copy_leads, copy_derives, halts_same, row_halts}
 
 -- rows of factors, of terms and of simple expressions
 look_relation : (d : ℕ) {k : Kind} {o : BinaryOp} (c : g.IsRelational k o) → look (rows (sym.ARelation d)) k ≡ Some (entry _ _ (row.relation {d = d} c))

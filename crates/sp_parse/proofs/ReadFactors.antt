@@ -1,11 +1,10 @@
 -- How factors, selectors and arguments are read.
-use Rattle.std.proofs.Common.{◌≡◌, ℕ, suc, ◌+◌, ◌<◌, ◌≤◌, Bool, true, false, cond, List, [], ◌∷◌, ◌++◌, length, map, Option, Some, None, Result, Ok, Err, refl, sym as back_of, ap, ◌∙◌, subst, arith}
+use Rattle.std.proofs.Common.{◌≡◌, ℕ, suc, ◌<◌, false, cond, List, [], ◌∷◌, ◌++◌, map, Some, None, Result, refl, sym as back_of, ap, ◌∙◌, subst}
 use Rattle.std.specs.Borrow.{Bor}
 use Rattle.sp_base.specs.declared.halt.Halt.{Halt}
 use Rattle.sp_base.specs.declared.halt.Halt.TheVariants as halt
 use Rattle.sp_base.specs.declared.place.Place.{Place}
 use Rattle.sp_tree.specs.declared.token.Token.{Token}
-use Rattle.sp_tree.specs.declared.token.Kind.{Kind}
 use Rattle.sp_tree.specs.declared.token.Kind.TheVariants as kind
 use Rattle.sp_tree.specs.declared.syntax.Name.{Name}
 use Rattle.sp_tree.specs.declared.syntax.SynExpr.{SynExpr}
@@ -24,12 +23,12 @@ use Rattle.sp_grammar.specs.Symbols as sym
 use Rattle.sp_grammar.specs.Symbols.{Symbol, Value, Values, part}
 use Rattle.sp_grammar.specs.Table as row
 use Rattle.sp_grammar.specs.Table.{FactorRow, SelectorRow, Row, Entry, entry, rows, look, kind_is, gap, build, factor_rows, selector_rows}
-use Rattle.sp_grammar.specs.Derives.{Derives, takes, skips, DerivesAll, none, and}
+use Rattle.sp_grammar.specs.Derives.{Derives, DerivesAll, none, and}
 use Rattle.sp_parse.specs.declared.source.Source.{Source}
-use Rattle.sp_parse.specs.Reads.{Within, Ready, breaks, HasRead, Halts, Reads, Begins, BeginsOther, BeginsWith, Expected, SoFar, ReadsSoFar}
+use Rattle.sp_parse.specs.Reads.{Within, Ready, breaks, HasRead, Halts, Reads, BeginsOther, BeginsWith, Expected, SoFar}
 use Rattle.sp_parse.specs.Trees.{lay, selectors_of, and_selectors, and_arguments, width_of}
-use Rattle.sp_parse.proofs.Steps.{has_read, head, one, take, expected, token_is, step_ends, below}
-use Rattle.sp_parse.proofs.SoFar.{skipped, ends, halts_on, halts_chain, halts_pending, halts_close, goes_on, starts, chain, nothing_yet}
+use Rattle.sp_parse.proofs.Steps.{has_read, one, take, expected, step_ends, below}
+use Rattle.sp_parse.proofs.SoFar.{skipped, ends, halts_on, halts_chain, halts_close, goes_on, starts, chain, nothing_yet}
 use Rattle.sp_parse.proofs.Rows.{look_map, bare_leads, bare_derives, loose_leads, loose_derives, halts_same, row_reads, row_halts, row_result, row_derives, neither, none_at}
 
 -- lists of the plain tree

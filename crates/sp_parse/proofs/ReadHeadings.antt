@@ -1,12 +1,12 @@
 -- How formal parameters are read.
-use Rattle.std.proofs.Common.{◌≡◌, ℕ, true, false, List, [], ◌∷◌, ◌++◌, Some, None, cond, refl, sym as back_of, ap, ◌∙◌, append_assoc}
+use Rattle.std.proofs.Common.{◌≡◌, true, false, List, [], ◌∷◌, ◌++◌, Some, None, cond, refl, sym as back_of, ap, ◌∙◌, append_assoc}
 use Rattle.std.proofs.lemmas.List.{append-nil}
 use Rattle.sp_base.specs.declared.halt.Halt.{Halt}
 use Rattle.sp_tree.specs.declared.token.Token.{Token}
 use Rattle.sp_tree.specs.declared.syntax.SynFormal.{SynFormal}
 use Rattle.sp_tree.specs.declared.syntax.SynGroup.{SynGroup}
 use Rattle.sp_tree.specs.Words as w
-use Rattle.sp_grammar.specs.Symbols.{Symbol, Value, Values, AToken, AName, MoreNames, AFormal, MoreFormals}
+use Rattle.sp_grammar.specs.Symbols.{AToken, AFormal, MoreFormals}
 use Rattle.sp_grammar.specs.Table as row
 use Rattle.sp_grammar.specs.Table.{entry, rows, look, kind_is}
 use Rattle.sp_parse.specs.declared.source.Source.{Source}
@@ -14,7 +14,7 @@ use Rattle.sp_parse.specs.Reads.{Ready, HasRead, Halts, BeginsOther, BeginsWith,
 use Rattle.sp_parse.proofs.Rows.{row_reads}
 use Rattle.sp_parse.proofs.SoFar.{starts, goes_on, halts_close}
 use Rattle.sp_parse.proofs.Declares.{closes, none_if, name_first, named_halts}
-use Rattle.sp_parse.proofs.ReadTypes.{GroupSymbols, group_value, GroupRead}
+use Rattle.sp_parse.proofs.ReadTypes.{GroupSymbols, GroupRead}
 
 abbrev pub FormalRead : Source → List Token → List Token → SynFormal → Type 0
 FormalRead source ts r f = HasRead source (AFormal ∷ []) (λ vs. vs.0) (λ (f : SynFormal). f) ts r f

@@ -1,21 +1,20 @@
 -- How names are read.
-use Rattle.std.proofs.Common.{◌≡◌, ℕ, List, [], ◌∷◌, ◌++◌, Some, None, cond, refl, sym as back_of, ap, ◌∙◌, subst, append_assoc}
+use Rattle.std.proofs.Common.{◌≡◌, List, [], ◌∷◌, ◌++◌, Some, None, cond, refl, sym as back_of, ap, ◌∙◌, subst, append_assoc}
 use Rattle.std.proofs.lemmas.List.{append-nil}
-use Rattle.sp_base.specs.declared.halt.Halt.{Halt}
 use Rattle.sp_tree.specs.declared.token.Token.{Token}
 use Rattle.sp_tree.specs.declared.token.Kind.{Kind}
 use Rattle.sp_tree.specs.declared.token.Kind.TheVariants as kind
 use Rattle.sp_tree.specs.declared.syntax.Name.{Name}
 use Rattle.sp_tree.specs.Spelling.{name_of}
 use Rattle.sp_tree.specs.Words as w
-use Rattle.sp_grammar.specs.Symbols.{Symbol, Value, Values, AName, MoreNames}
+use Rattle.sp_grammar.specs.Symbols.{AName, MoreNames}
 use Rattle.sp_grammar.specs.Table as row
 use Rattle.sp_grammar.specs.Table.{entry, rows, look}
-use Rattle.sp_grammar.specs.Derives.{Derives, DerivesAll, none, and}
+use Rattle.sp_grammar.specs.Derives.{DerivesAll, none, and}
 use Rattle.sp_parse.specs.declared.source.Source.{Source}
-use Rattle.sp_parse.specs.Reads.{Within, Ready, HasRead, Halts, Begins, BeginsOther, BeginsWith, SoFar}
-use Rattle.sp_parse.proofs.Steps.{has_read, take, kind_is-other}
-use Rattle.sp_parse.proofs.SoFar.{starts, goes_on, halts_on, ends, skipped}
+use Rattle.sp_parse.specs.Reads.{Within, HasRead, Begins, BeginsOther, BeginsWith, SoFar}
+use Rattle.sp_parse.proofs.Steps.{has_read, take}
+use Rattle.sp_parse.proofs.SoFar.{starts, goes_on, ends, skipped}
 
 pub not_name : (k : Kind) → (k ≡ kind.Name → ⊥) → look (rows AName) k ≡ None
 not_name kind.Name h = absurd (h refl)

@@ -1,5 +1,5 @@
 -- How declarations of constants, types and variables are read.
-use Rattle.std.proofs.Common.{◌≡◌, ℕ, true, false, List, [], ◌∷◌, ◌++◌, map, Option, Some, None, cond, refl, sym as back_of, ap, ◌∙◌, subst}
+use Rattle.std.proofs.Common.{◌≡◌, ℕ, true, false, List, [], ◌∷◌, ◌++◌, map, Some, cond, refl, sym as back_of, ap, ◌∙◌, subst}
 use Rattle.sp_base.specs.declared.halt.Halt.{Halt}
 use Rattle.sp_tree.specs.declared.token.Token.{Token}
 use Rattle.sp_tree.specs.declared.token.Kind.TheVariants as kind
@@ -12,12 +12,12 @@ use Rattle.sp_tree.specs.PlainSyntax as tree
 use Rattle.sp_tree.specs.SyntaxOf.{part_of}
 use Rattle.sp_tree.specs.Grammar.{declared}
 use Rattle.sp_tree.specs.Words as w
-use Rattle.sp_grammar.specs.Symbols.{Symbol, Value, Values, part, AToken, AName, MoreNames, AConstant, AType, Parts, MoreConstants, MoreTypes, MoreVariables}
+use Rattle.sp_grammar.specs.Symbols.{AToken, AName, MoreNames, AConstant, AType, Parts, MoreConstants, MoreTypes, MoreVariables}
 use Rattle.sp_grammar.specs.Table as row
 use Rattle.sp_grammar.specs.Table.{Entry, Row, entry, rows, look, gap, kind_is, PartsRow, parts_rows}
 use Rattle.sp_grammar.specs.Derives.{Derives}
 use Rattle.sp_parse.specs.declared.source.Source.{Source}
-use Rattle.sp_parse.specs.Reads.{Within, Ready, breaks, HasRead, Halts, BeginsOther, BeginsWith, SoFar}
+use Rattle.sp_parse.specs.Reads.{Within, breaks, HasRead, Halts, BeginsOther, BeginsWith, SoFar}
 use Rattle.sp_parse.specs.Declares.{and_parts}
 use Rattle.sp_parse.proofs.SoFar.{starts, goes_on, halts_pending}
 use Rattle.sp_parse.proofs.Rows.{look_map, bare_leads, bare_derives}

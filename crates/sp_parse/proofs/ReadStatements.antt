@@ -1,5 +1,5 @@
 -- How statements are read.
-use Rattle.std.proofs.Common.{◌≡◌, ℕ, suc, ◌+◌, ◌<◌, ◌≤◌, Bool, true, false, cond, List, [], ◌∷◌, ◌++◌, length, map, Option, Some, None, Result, Ok, Err, refl, sym as back_of, ap, ◌∙◌, subst, arith, append_assoc}
+use Rattle.std.proofs.Common.{◌≡◌, ℕ, suc, ◌<◌, Bool, true, false, cond, List, [], ◌∷◌, ◌++◌, map, Some, None, Result, Ok, Err, refl, sym as back_of, ap, ◌∙◌, subst, append_assoc}
 use Rattle.std.proofs.lemmas.List.{append-nil}
 use Rattle.std.specs.Borrow.{Bor}
 use Rattle.sp_base.specs.declared.halt.Halt.{Halt}
@@ -7,7 +7,6 @@ use Rattle.sp_base.specs.declared.halt.Halt.TheVariants as halt
 use Rattle.sp_base.specs.declared.place.Place.{Place}
 use Rattle.sp_tree.specs.declared.token.Token.{Token}
 use Rattle.sp_tree.specs.declared.token.Kind.{Kind}
-use Rattle.sp_tree.specs.declared.token.Kind.TheVariants as kind
 use Rattle.sp_tree.specs.declared.syntax.Name.{Name}
 use Rattle.sp_tree.specs.declared.syntax.SynConst.{SynConst}
 use Rattle.sp_tree.specs.declared.syntax.SynExpr.{SynExpr}
@@ -19,22 +18,21 @@ use Rattle.sp_tree.specs.declared.syntax.SynVar.{SynVar}
 use Rattle.sp_tree.specs.Words as w
 use Rattle.sp_tree.specs.PlainSyntax as tree
 use Rattle.sp_tree.specs.Breaches.{nesting}
-use Rattle.sp_tree.specs.Spelling.{name_of}
 use Rattle.sp_tree.specs.SyntaxOf.{expression_of, variable_of, arguments_of, statement_of, statements_of, arm_of, branch_of}
 use Rattle.sp_tree.specs.SyntaxOf as syntax
 use Rattle.sp_grammar.specs.Symbols as sym
 use Rattle.sp_grammar.specs.Symbols.{Symbol, Value, Values, part}
 use Rattle.sp_grammar.specs.Table as row
 use Rattle.sp_grammar.specs.Table.{FormRow, SelectorRow, ConstantRow, Row, Entry, entry, rows, look, kind_is, gap, build, form_rows, selector_rows, constant_rows, form_value, selector_value, constant_value}
-use Rattle.sp_grammar.specs.Derives.{Derives, takes, skips, DerivesAll, none, and}
+use Rattle.sp_grammar.specs.Derives.{Derives, DerivesAll, none, and}
 use Rattle.sp_parse.specs.declared.source.Source.{Source}
 use Rattle.sp_parse.specs.Reads.{Within, Ready, breaks, HasRead, Halts, Reads, Begins, BeginsOther, BeginsWith, Expected, SoFar}
-use Rattle.sp_parse.specs.Operators.{is_some, BeginsSelector, BeginsForm}
+use Rattle.sp_parse.specs.Operators.{is_some, BeginsForm}
 use Rattle.sp_parse.specs.Trees.{lay, other_of, arms_of, branches_of, and_statements, and_arms, and_branches}
-use Rattle.sp_parse.proofs.Steps.{has_read, head, one, take, expected, step_ends, below, pass_halts}
-use Rattle.sp_parse.proofs.SoFar.{skipped, ends, halts_on, halts_chain, halts_pending, halts_close, goes_on, starts, chain, nothing_yet, glue}
-use Rattle.sp_parse.proofs.Rows.{look_map, after_two, lifted, split_join, join_all, copy_leads, copy_derives, copied_leads, copied_derives, halts_same, row_reads, row_halts, row_result, row_derives, neither, none_at, some_of, none_of, some_lifted}
-use Rattle.sp_parse.proofs.ReadFactors.{lay_push, IsExpression, IsSelectors, IsArguments}
+use Rattle.sp_parse.proofs.Steps.{has_read, one, take, expected, below}
+use Rattle.sp_parse.proofs.SoFar.{skipped, ends, halts_on, halts_chain, halts_close, goes_on, starts, chain}
+use Rattle.sp_parse.proofs.Rows.{look_map, after_two, lifted, split_join, copy_leads, copy_derives, copied_leads, copied_derives, halts_same, row_reads, row_halts, row_result, some_of, none_of, some_lifted}
+use Rattle.sp_parse.proofs.ReadFactors.{lay_push, IsExpression, IsArguments}
 
 -- lists of the plain tree
 lay_statements : (all : List tree.Statement) → lay tree.AndThen all tree.NoStatement ≡ syntax.statements all

@@ -1,5 +1,5 @@
 -- How the fields of a record are read.
-use Rattle.std.proofs.Common.{◌≡◌, ℕ, false, List, [], ◌∷◌, ◌++◌, Some, None, cond, refl, sym as back_of, ap, ◌∙◌, append_assoc}
+use Rattle.std.proofs.Common.{◌≡◌, false, List, [], ◌∷◌, ◌++◌, Some, None, cond, refl, sym as back_of, ap, ◌∙◌, append_assoc}
 use Rattle.std.proofs.lemmas.List.{append-nil}
 use Rattle.sp_base.specs.declared.halt.Halt.{Halt}
 use Rattle.sp_tree.specs.declared.token.Token.{Token}
@@ -11,12 +11,11 @@ use Rattle.sp_tree.specs.declared.syntax.SynGroup.{SynGroup}
 use Rattle.sp_tree.specs.declared.syntax.SynKind.TheVariants as kinds
 use Rattle.sp_tree.specs.Words as w
 use Rattle.sp_tree.specs.Spelling.{name_of}
-use Rattle.sp_grammar.specs.Symbols.{Symbol, Value, Values, AToken, AName, MoreNames, AType, MoreFields, FieldOrEnd}
+use Rattle.sp_grammar.specs.Symbols.{Symbol, Values, AToken, AName, MoreNames, AType, MoreFields, FieldOrEnd}
 use Rattle.sp_grammar.specs.Table as row
 use Rattle.sp_grammar.specs.Table.{entry, rows, look, kind_is}
 use Rattle.sp_parse.specs.declared.source.Source.{Source}
-use Rattle.sp_parse.specs.Reads.{Ready, HasRead, Halts, BeginsOther, BeginsWith, SoFar}
-use Rattle.sp_parse.proofs.Steps.{has_read}
+use Rattle.sp_parse.specs.Reads.{HasRead, Halts, BeginsOther, BeginsWith, SoFar}
 use Rattle.sp_parse.proofs.SoFar.{starts, chain, nothing_yet, halts_pending, halts_close}
 use Rattle.sp_parse.proofs.Declares.{closes, none_if, name_first, named_halts, halts_longer}
 

@@ -1,23 +1,22 @@
 -- How the rows of the table are used: a symbol that takes a token, and symbols that have the rows of others.
-use Rattle.std.proofs.Common.{◌≡◌, ℕ, suc, ◌<◌, ◌≤◌, Bool, true, false, cond, List, [], ◌∷◌, ◌++◌, length, map, Option, Some, None, Result, Ok, Err, refl, sym as back_of, ap, ◌∙◌, subst, arith, append_assoc}
+use Rattle.std.proofs.Common.{◌≡◌, ℕ, suc, Bool, true, false, cond, List, [], ◌∷◌, ◌++◌, map, Option, Some, None, Result, Ok, Err, refl, sym as back_of, ap, ◌∙◌, subst, append_assoc}
 use Rattle.std.specs.Borrow.{Bor}
 use Rattle.sp_base.specs.declared.halt.Halt.{Halt}
 use Rattle.sp_base.specs.declared.halt.Halt.TheVariants as halt
-use Rattle.sp_base.specs.declared.halt.Refusal.{Refusal}
 use Rattle.sp_base.specs.declared.rule.Rule.TheVariants as rule
 use Rattle.sp_tree.specs.declared.token.Token.{Token}
 use Rattle.sp_tree.specs.declared.token.Kind.{Kind}
 use Rattle.sp_tree.specs.declared.operators.BinaryOp.{BinaryOp}
 use Rattle.sp_tree.specs.Words as w
 use Rattle.sp_tree.specs.Breaches.{nesting}
-use Rattle.sp_grammar.specs.Symbols.{Symbol, Value, Values, split, part, AToken, AnExpression, ARelation, ANegated, MoreFactors, MoreTerms}
-use Rattle.sp_grammar.specs.Table.{Entry, Row, entry, rows, look, gap, build, kind_is, token, FactorRow, SimpleRow, factor_rows, simple_rows, simple_factor, expression, negated}
+use Rattle.sp_grammar.specs.Symbols.{Symbol, Value, Values, split, part, AnExpression, ARelation, ANegated, MoreFactors, MoreTerms}
+use Rattle.sp_grammar.specs.Table.{Entry, Row, entry, rows, look, gap, build, kind_is, FactorRow, SimpleRow, factor_rows, simple_rows, simple_factor, expression, negated}
 use Rattle.sp_grammar.specs.Machine.{allows}
 use Rattle.sp_grammar.specs.Derives.{Begins as MayBegin, Derives, takes, skips, DerivesAll, none, and}
 use Rattle.sp_parse.specs.declared.source.Source.{Source}
 use Rattle.sp_parse.specs.Reads.{Within, Ready, breaks, HasRead, Halts, Reads, Begins, BeginsOther, BeginsWith}
 use Rattle.sp_parse.specs.Operators.{Operator, is_some, BeginsFactor, BeginsSimple}
-use Rattle.sp_parse.proofs.Steps.{has_read, head, one, take, kind_is-true, step_takes, step_fails, step_deep, step_ends, step_skips, below, read_err}
+use Rattle.sp_parse.proofs.Steps.{has_read, take, kind_is-true, step_takes, step_fails, step_deep, step_skips}
 
 -- the kind that a test found
 pub kind_at : {b : Bool} (t : Token) (k : Kind) → b ≡ kind_is k t.kind → b ≡ true → t.kind ≡ k

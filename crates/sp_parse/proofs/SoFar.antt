@@ -1,18 +1,17 @@
 -- What a loop has read so far: what completes it completes the whole.
-use Rattle.std.proofs.Common.{◌≡◌, ℕ, ◌<◌, ◌≤◌, Bool, true, false, cond, List, [], ◌∷◌, ◌++◌, length, Option, Some, None, refl, sym as back_of, ap, ◌∙◌, subst, arith, append_assoc}
+use Rattle.std.proofs.Common.{◌≡◌, ℕ, Bool, true, false, cond, List, [], ◌∷◌, ◌++◌, length, Some, None, refl, sym as back_of, ap, ◌∙◌, subst, arith, append_assoc}
 use Rattle.sp_base.specs.declared.halt.Halt.{Halt}
 use Rattle.sp_base.specs.declared.halt.Halt.TheVariants as halt
-use Rattle.sp_base.specs.declared.halt.Refusal.{Refusal}
 use Rattle.sp_tree.specs.declared.token.Token.{Token}
 use Rattle.sp_tree.specs.declared.token.Kind.{Kind}
 use Rattle.sp_tree.specs.Breaches.{nesting}
 use Rattle.sp_grammar.specs.Symbols.{Symbol, Value, Values, part, AToken}
-use Rattle.sp_grammar.specs.Table.{Entry, Row, entry, rows, look, gap, build, kind_is, token}
+use Rattle.sp_grammar.specs.Table.{Row, entry, rows, look, gap, build, kind_is, token}
 use Rattle.sp_grammar.specs.Machine.{allows}
-use Rattle.sp_grammar.specs.Derives.{Begins as MayBegin, Derives, takes, skips, DerivesAll, none, and}
+use Rattle.sp_grammar.specs.Derives.{Begins as MayBegin, Derives, skips, DerivesAll, none, and}
 use Rattle.sp_parse.specs.declared.source.Source.{Source}
-use Rattle.sp_parse.specs.Reads.{Within, Ready, breaks, HasRead, Halts, Begins, BeginsOther, BeginsWith, SoFar}
-use Rattle.sp_parse.proofs.Steps.{has_read, head, one, take, step_takes, step_skips, step_fails, look_token}
+use Rattle.sp_parse.specs.Reads.{Within, Ready, breaks, HasRead, Halts, BeginsOther, BeginsWith, SoFar}
+use Rattle.sp_parse.proofs.Steps.{has_read, take, step_takes, step_fails, look_token}
 
 -- values, and one more
 abbrev pub glue : (l : List Symbol) (s : Symbol) → Values l → Value s → Values (l ++ s ∷ [])

@@ -1,5 +1,5 @@
 -- Numbers that digits write.
-use Rattle.std.proofs.Common.{◌≡◌, ℕ, ◌+◌, ◌-◌, ◌*◌, ◌<◌, ◌≤◌, List, [], ◌∷◌, length, get_or, arith}
+use Rattle.std.proofs.Common.{◌≡◌, ℕ, ◌+◌, ◌-◌, ◌*◌, ◌≤◌, List, [], ◌∷◌, length, get_or, arith}
 use Rattle.sp_tree.specs.Spelling.{digits_value}
 
 grows : (n : ℕ) (bs : List ℕ) → n ≤ digits_value n bs

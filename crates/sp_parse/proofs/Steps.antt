@@ -1,11 +1,10 @@
 -- Single steps of the machine, and what a part that is read says of it.
-use Rattle.std.proofs.Common.{◌≡◌, ℕ, ◌<◌, ◌≤◌, Bool, true, false, cond, List, [], ◌∷◌, ◌++◌, length, Option, Some, None, Result, Ok, Err, ◌⊎◌, inl, inr, refl, sym as back_of, ap, ◌∙◌, subst, arith, append_assoc, eq-eqb}
+use Rattle.std.proofs.Common.{◌≡◌, ℕ, ◌<◌, ◌≤◌, Bool, true, false, cond, List, [], ◌∷◌, ◌++◌, length, Option, Some, None, Result, Ok, Err, ◌⊎◌, inl, inr, refl, sym as back_of, ap, ◌∙◌, subst, arith, eq-eqb}
 use borrow.Author.Tests.{eqb-true}
 use Rattle.std.proofs.lemmas.Bool.Decides.{nat_tests}
 use Rattle.std.specs.Borrow.{Bor}
 use Rattle.sp_base.specs.declared.halt.Halt.{Halt}
 use Rattle.sp_base.specs.declared.halt.Halt.TheVariants as halt
-use Rattle.sp_base.specs.declared.halt.Refusal.{Refusal}
 use Rattle.sp_base.specs.declared.rule.Rule.TheVariants as rule
 use Rattle.sp_tree.specs.declared.token.Token.{Token}
 use Rattle.sp_tree.specs.declared.token.Kind.{Kind}
@@ -14,9 +13,8 @@ use Rattle.sp_tree.specs.Places.{place_at}
 use Rattle.sp_tree.specs.Breaches.{nesting}
 use Rattle.sp_grammar.specs.Symbols.{Symbol, Value, Values, part, AToken}
 use Rattle.sp_grammar.specs.Table.{Entry, Row, entry, rows, look, gap, build, kind_is, token}
-use Rattle.sp_grammar.specs.Machine.{Why, Bad, Deep, Act, Take, Skip, Fail, allows, takes_if, skips_if, acts, act, Next, On, No, acted, after, going, End, Done, Stuck, run, Leads}
+use Rattle.sp_grammar.specs.Machine.{Why, Bad, Deep, Take, Skip, Fail, allows, skips_if, acts, act, End, Stuck, run}
 use Rattle.sp_grammar.specs.Derives.{Begins as MayBegin, Derives, takes, skips, DerivesAll, none, and}
-use Rattle.sp_grammar.specs.Stops.{refusal_of}
 use Rattle.sp_grammar.proofs.Run.{at_act, act_takes, act_skips, leads_all}
 use Rattle.sp_parse.specs.declared.source.Source.{Source}
 use Rattle.sp_parse.specs.Reads.{Within, Ready, breaks, refused_by, HasRead, Halts, Reads, Begins, BeginsOther, BeginsWith, Passes, Expected, ReadsSoFar}

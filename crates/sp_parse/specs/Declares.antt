@@ -6,7 +6,7 @@ use Rattle.sp_tree.specs.declared.token.Token.{Token}
 use Rattle.sp_tree.specs.declared.syntax.SynPart.{SynPart}
 use Rattle.sp_tree.specs.PlainSyntax as tree
 use Rattle.sp_tree.specs.SyntaxOf.{part_of}
-use Rattle.sp_grammar.specs.Symbols.{Symbol, Parts}
+use Rattle.sp_grammar.specs.Symbols.{Parts}
 use Rattle.sp_grammar.specs.Table.{look, parts_rows}
 use Rattle.sp_parse.specs.declared.source.Source.{Source}
 use Rattle.sp_parse.specs.Reads.{Halts, SoFar}

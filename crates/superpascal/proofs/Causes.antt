@@ -1,13 +1,20 @@
 -- What follows from the cause of an answer.
 use Rattle.std.proofs.Common.{◌≡◌, ◌≢◌, ◌⊎◌, inl, inr, ℕ, ◌<◌, ◌≤◌, List, [], length, Option, Some, None, true, false, Ok, refl, sym, ◌∙◌, ap, subst, arith}
-use Rattle.std.specs.Prelude.{IfSome}
+use Rattle.std.specs.Prelude.{IfSome, ◌↔◌}
 use Rattle.sp_base.specs.declared.fault.Fault.{Fault}
+use Rattle.sp_base.specs.declared.halt.Refusal.{Refusal}
 use Rattle.sp_base.specs.declared.limits.Limits.{Limits}
 use Rattle.sp_base.specs.declared.limits.Show.{Show}
+use Rattle.sp_base.specs.declared.rule.Rule.TheVariants as rule
 use Rattle.sp_first.specs.declared.machine.Ended.{Ended}
 use Rattle.sp_first.specs.Grammar.{Program, IsFirstForm}
 use Rattle.sp_first.specs.Meaning.{meaning}
 use Rattle.sp_first.specs.Runs.{Gives}
+use Rattle.sp_front.specs.Texts.{KeepsRules, Reads}
+use Rattle.sp_print.specs.Lines.{refusal_text}
+use Rattle.sp_scan.proofs.Scanning.{too_long}
+use Rattle.sp_tree.specs.Breaches.{IsFirstBroken}
+use Rattle.sp_tree.specs.Places.{start}
 use Rattle.sp_words.specs.Words.{command_of}
 use Rattle.sp_words.specs.declared.command.Command.{Command}
 use Rattle.sp_words.specs.declared.command.Command.TheVariants as command
@@ -16,11 +23,15 @@ use Rattle.superpascal.specs.declared.ending.Ending.TheVariants as e
 use Rattle.superpascal.specs.declared.ending.Answer.{Answer}
 use Rattle.superpascal.specs.Answers.{status_of, line_of, notes_by, has_run}
 use Rattle.superpascal.specs.Runs.{Reports, run_notes}
-use Rattle.superpascal.specs.Calls.{All, AnswersOthers, Asked, Call, Cause, Ends, EndsWith, Exactly, FitsInput, Found, Got, InputTooLong, IsOutside, IsProgram, IsTold, IsTooLong, IsUnbuilt, IsUnbuiltAfter, IsWithin, OfRun, Ran, ReadsFail, RefusesWords, RunsTo, WritesLine, WritesNotes, WritesOutput, asks, cause, ended_cause, file_of, is_other, is_unbuilt_for, run_cause, silent, text_cause}
+use Rattle.superpascal.specs.Calls.{All, AnswersOthers, Asked, Call, Cause, Ends, EndsWith, Exactly, FitsInput, Found, Got, InputTooLong, IsOutside, IsProgram, IsTold, IsTooLong, IsUnbuilt, IsUnbuiltAfter, IsWithin, IsRefused, OfRun, OfText, Ran, ReadsFail, Refuses, RefusesWords, RunsTo, SaysLine, SaysRefusal, SaysUnbuilt, WritesLine, WritesNotes, WritesOutput, asks, cause, ended_cause, file_of, is_other, is_unbuilt_for, kept_cause, run_cause, silent, text_cause}
 
 -- all trees of a text have one meaning
 abbrev pub Once : Type 0
 Once = (text : List ℕ) (p q : Program) → IsFirstForm text p → IsFirstForm text q → meaning p ≡ meaning q
+
+-- a text breaks one rule first
+abbrev pub OneRefusal : Type 0
+OneRefusal = (text : List ℕ) (a b : Refusal) → IsFirstBroken text a → IsFirstBroken text b → a ≡ b
 
 ends_once : Once → (text : List ℕ) (f g : Option Fault) (out put : List ℕ) → Ends text f out → Ends text g put → ◌≡◌ {A = Ended} (record { output = out; fault = f }) (record { output = put; fault = g })
 ends_once once text f g out put a b = sym a.2 ∙ once text a.0 b.0 a.1 b.1 ∙ b.2
@@ -62,25 +73,18 @@ no_false g = cc
 
 -- ---- from a text to the cause of an answer
 
--- a text that is longer than the form allows
-pub long_is_unbuilt : (left : Option (List ℕ)) (limits : Limits) (text : List ℕ) → 65536 < length text → IsUnbuiltAfter left limits text
-long_is_unbuilt left limits text l = (
-  λ fault w. let s = w.1.0.1.short in omega arith,
-  λ p. let s = p.1.short in absurd (omega arith),
-)
-
-module _ (once : Once) (reports : Reports) (left : Option (List ℕ)) (taken taken' : ℕ) (limits : Limits) (show : Show) (text : List ℕ) (ended : Ended) (gives : Gives text (Ok (Some ended))) (fits : FitsInput left) where
+module _ (once : Once) (reports : Reports) (left : Option (List ℕ)) (taken taken' : ℕ) (limits : Limits) (show : Show) (text : List ℕ) (ended : Ended) (gives : Gives text (Ok (Some ended))) (fits : FitsInput left) (keeps : KeepsRules text) where
   ends_so : (fault : Option Fault) (output : List ℕ) → ended.fault ≡ fault → output ≡ ended.output → Ends text fault output
   ends_so fault output f o = (gives.0, gives.1, sym gives.2 ∙ (λ i. record { output = sym o i; fault = f i }))
 
   runs_to : (fault : Option Fault) (output notes : List ℕ) → ended.fault ≡ fault → output ≡ ended.output → IsWithin limits ended.output → notes ≡ run_notes reports show ended.fault → RunsTo reports limits show text fault output notes
   runs_to fault output notes f o w n = record {
-    ends = (ends_so fault output f o, subst (IsWithin limits) (sym o) w);
+    ends = (ends_so fault output f o, subst (IsWithin limits) (sym o) w, keeps);
     notes_are = n ∙ ap (run_notes reports show) f;
   }
 
   meets : (IsWithin limits ended.output → ⊥) → IsUnbuilt limits text
-  meets h fault w = h (subst (IsWithin limits) (sym (ap (λ (r : Ended). r.output) (ends_once once text ended.fault fault ended.output w.0 (ends_so ended.fault ended.output refl refl) w.1.0))) w.1.1)
+  meets h = (keeps, λ fault w. h (subst (IsWithin limits) (sym (ap (λ (r : Ended). r.output) (ends_once once text ended.fault fault ended.output w.0 (ends_so ended.fault ended.output refl refl) w.1.0))) w.1.1))
 
   pub run_of_ended : (ending : Ending) (output notes : List ℕ) → ended_cause reports limits show ended.fault ended.output ending output notes → run_cause reports left taken taken' limits show text ending output notes
   run_of_ended e.Done output notes k = (fits, runs_to None output notes k.0 k.1 k.2 k.3)
@@ -90,22 +94,39 @@ module _ (once : Once) (reports : Reports) (left : Option (List ℕ)) (taken tak
   run_of_ended e.ReadFault output notes k = absurd k
   run_of_ended e.TooLong output notes k = absurd k
   run_of_ended e.BadWords output notes k = absurd k
+  run_of_ended (e.Refused r) output notes k = absurd k
 
 -- a text that is not of the first form
-pub unbuilt_text : (reports : Reports) (left : Option (List ℕ)) (taken taken' : ℕ) (limits : Limits) (show : Show) (text : List ℕ) (a : Answer) → a ≡ silent e.NotBuilt → Gives text (Ok None) → run_cause reports left taken taken' limits show text a.ending a.output a.notes
-unbuilt_text reports left taken taken' limits show text a h gives =
+pub unbuilt_text : (reports : Reports) (left : Option (List ℕ)) (taken taken' : ℕ) (limits : Limits) (show : Show) (text : List ℕ) (a : Answer) → a ≡ silent e.NotBuilt → Gives text (Ok None) → KeepsRules text → run_cause reports left taken taken' limits show text a.ending a.output a.notes
+unbuilt_text reports left taken taken' limits show text a h gives keeps =
     subst (λ (b : Answer). run_cause reports left taken taken' limits show text b.ending b.output b.notes) (sym h)
-    (((λ fault w. gives w.1.0.0 w.1.0.1), (λ p. absurd (gives p.0 p.1))), (refl, refl))
+    (((keeps, λ fault w. gives w.1.0.0 w.1.0.1), λ p. absurd (gives p.1 p.2)), (refl, refl))
 
 -- the answer to a run, where the command asks for one
-pub text_of_run : (reports : Reports) (left : Option (List ℕ)) (taken taken' : ℕ) (c : Command) (file : List ℕ) (workers : ℕ) (limits : Limits) (show : Show) (text : List ℕ) (a : Answer) → c ≡ command.Run file workers limits show
-    → run_cause reports left taken taken' limits show text a.ending a.output a.notes → text_cause reports left taken taken' c text a
-text_of_run reports left taken taken' c file workers limits show text a h k = subst (λ (d : Command). text_cause reports left taken taken' d text a) (sym h) k
+pub kept_of_run : (reports : Reports) (left : Option (List ℕ)) (taken taken' : ℕ) (c : Command) (file : List ℕ) (workers : ℕ) (limits : Limits) (show : Show) (text : List ℕ) (a : Answer) → c ≡ command.Run file workers limits show
+    → run_cause reports left taken taken' limits show text a.ending a.output a.notes → kept_cause reports left taken taken' c text a
+kept_of_run reports left taken taken' c file workers limits show text a h k = subst (λ (d : Command). kept_cause reports left taken taken' d text a) (sym h) k
+
+-- the answer to a text, by what was read of it
+module _ (reports : Reports) (left : Option (List ℕ)) (taken taken' : ℕ) (c : Command) (text : List ℕ) (a : Answer) where
+  pub text_of_kept : KeepsRules text → kept_cause reports left taken taken' c text a → text_cause reports left taken taken' c text a
+  text_of_kept keeps k = inl (keeps, k)
+
+  pub text_of_refused : (r : Refusal) → IsFirstBroken text r → Refuses r a → text_cause reports left taken taken' c text a
+  text_of_refused r b k = inr (inl (r, b, k))
+
+  pub text_of_memory : a ≡ silent e.OutOfMemory → text_cause reports left taken taken' c text a
+  text_of_memory h = inr (inr h)
 
 -- an input that was read whole
 pub fits_of : (left : Option (List ℕ)) (all : List ℕ) → IfSome left (λ bytes. all ≡ bytes) → length all ≤ 16777216 → FitsInput left
 fits_of None all h l = tt
 fits_of (Some bytes) all h l = subst (λ (x : List ℕ). length x ≤ 16777216) h l
+
+-- a text for which the library says so is longer than its limit
+pub is_long : (o : Option (List ℕ)) (P Q : Type 0) → IfSome o (λ all. P ↔ ((1048576 < length all) × Q)) → P → IfSome o (λ all. 1048576 < length all)
+is_long None P Q h p = tt
+is_long (Some all) P Q h p = (h.0 p).0
 
 -- what holds of a told text holds of what is told
 when_told : (P : List ℕ → Type 0) (o : Option (List ℕ)) (text : List ℕ) → IsTold o text → P text → IfSome o P
@@ -121,27 +142,34 @@ module _ (f : Found) where
   cause_of_run a text w t e.TooLong output notes k = (a, w, when_told IsProgram (f.told a.file) text t k.0, k.1, k.2)
   cause_of_run a text w t e.OutOfMemory output notes k = k
   cause_of_run a text w t e.BadWords output notes k = absurd k
+  cause_of_run a text w t (e.Refused r) output notes k = absurd k
 
   other_cause : (c : Command) (a : Answer) → command_of f.words ≡ Some c → is_unbuilt_for f.told f.left c → a ≡ silent e.NotBuilt → Cause f a
   other_cause c a w u h = subst (Cause f) (sym h) (c, w, u, (refl, refl))
 
+  refused_cause : (r : Refusal) (c : Command) (a : Answer) → command_of f.words ≡ Some c → IfSome (f.told (file_of c)) (λ text. IsFirstBroken text r) → Refuses r a → Cause f a
+  refused_cause r c a w b (inl h) = subst (Cause f) (sym h) (c, w, b, refl, refl)
+  refused_cause r c a w b (inr h) = subst (Cause f) (sym h) (refl, refl)
+
+  cause_of_kept : (c : Command) (text : List ℕ) (a : Answer) → command_of f.words ≡ Some c → IsTold (f.told (file_of c)) text → KeepsRules text → kept_cause f.reports f.left f.taken f.taken' c text a → Cause f a
+  cause_of_kept (command.Run file workers limits show) text a w t keeps k = cause_of_run (record { file = file; workers = workers; limits = limits; show = show }) text w t a.ending a.output a.notes k
+  cause_of_kept (command.Check file) text a w t keeps k = other_cause (command.Check file) a w (when_told KeepsRules (f.told file) text t keeps) k
+  cause_of_kept (command.Code file) text a w t keeps k = other_cause (command.Code file) a w (when_told KeepsRules (f.told file) text t keeps) k
+  cause_of_kept (command.Sets file) text a w t keeps k = other_cause (command.Sets file) a w (when_told KeepsRules (f.told file) text t keeps) k
+
   -- the answer to a text is due where the library gave it
   pub cause_of_text : (c : Command) (text : List ℕ) (a : Answer) → command_of f.words ≡ Some c → IsTold (f.told (file_of c)) text → text_cause f.reports f.left f.taken f.taken' c text a → Cause f a
-  cause_of_text (command.Run file workers limits show) text a w t k = cause_of_run (record { file = file; workers = workers; limits = limits; show = show }) text w t a.ending a.output a.notes k
-  cause_of_text (command.Check file) text a w t k = other_cause (command.Check file) a w tt k
-  cause_of_text (command.Code file) text a w t k = other_cause (command.Code file) a w tt k
-  cause_of_text (command.Sets file) text a w t k = other_cause (command.Sets file) a w tt k
+  cause_of_text c text a w t (inl k) = cause_of_kept c text a w t k.0 k.1
+  cause_of_text c text a w t (inr (inl k)) = refused_cause k.0 c a w (when_told (λ x. IsFirstBroken x k.0) (f.told (file_of c)) text t k.1) k.2
+  cause_of_text c text a w t (inr (inr h)) = subst (Cause f) (sym h) (refl, refl)
 
-  long_told : (limits : Limits) (o : Option (List ℕ)) → IfSome o (λ all. 1048576 < length all) → IfSome o (IsUnbuiltAfter f.left limits)
-  long_told limits None h = tt
-  long_told limits (Some all) h = long_is_unbuilt f.left limits all (omega arith)
+  long_breaks : (o : Option (List ℕ)) → IfSome o (λ all. 1048576 < length all) → IfSome o (λ text. IsFirstBroken text (record { rule = rule.L1; at = start }))
+  long_breaks None h = tt
+  long_breaks (Some all) h = inl (too_long all start refl h)
 
   -- a text that is too long for the library
-  pub cause_of_long : (c : Command) → command_of f.words ≡ Some c → IfSome (f.told (file_of c)) (λ all. 1048576 < length all) → Cause f (silent e.NotBuilt)
-  cause_of_long (command.Run file workers limits show) w h = (command.Run file workers limits show, w, long_told limits (f.told file) h, (refl, refl))
-  cause_of_long (command.Check file) w h = (command.Check file, w, tt, (refl, refl))
-  cause_of_long (command.Code file) w h = (command.Code file, w, tt, (refl, refl))
-  cause_of_long (command.Sets file) w h = (command.Sets file, w, tt, (refl, refl))
+  pub cause_of_long : (c : Command) (a : Answer) → command_of f.words ≡ Some c → IfSome (f.told (file_of c)) (λ all. 1048576 < length all) → Refuses (record { rule = rule.L1; at = start }) a → Cause f a
+  cause_of_long c a w h k = refused_cause (record { rule = rule.L1; at = start }) c a w (long_breaks (f.told (file_of c)) h) k
 
   -- ---- from the cause to the status
 
@@ -149,8 +177,13 @@ module _ (f : Found) where
   abbrev Due : Ending → ℕ → Type 0
   Due ending s = (status_of ending ≡ s) ⊎ IsOutside (status_of ending)
 
+  -- status 1 with this line is due, or a status of the outside
+  abbrev LineDue : Ending → List ℕ → List ℕ → Type 0
+  LineDue ending notes line = ((status_of ending ≡ 1) × (notes_by ending notes ≡ line)) ⊎ IsOutside (status_of ending)
+
   pub silent_output : (ending : Ending) (output notes : List ℕ) → cause f ending output notes → has_run ending ≡ false → output ≡ []
   silent_output e.BadWords output notes k h = k.1.0
+  silent_output (e.Refused r) output notes k h = k.3
   silent_output e.NotBuilt output notes k h = k.3.0
   silent_output e.ReadFault output notes k h = k.3.0
   silent_output e.TooLong output notes k h = k.4.0
@@ -160,13 +193,14 @@ module _ (f : Found) where
 
   refuses : (ending : Ending) (output notes : List ℕ) → cause f ending output notes → status_of ending ≡ 2 → command_of f.words ≡ None
   refuses e.BadWords output notes k h = k.0
-  refuses _ output notes k h = absurd (omega arith)
+  refuses _ output notes _ h = absurd (omega arith)
 
   refused : (ending : Ending) (output notes : List ℕ) → cause f ending output notes → command_of f.words ≡ None → Due ending 2
   refused e.BadWords output notes k h = inl refl
   refused e.Done output notes k h = absurd (no_command _ _ k.words_are h)
   refused (e.Fault x) output notes k h = absurd (no_command _ _ k.words_are h)
   refused e.NotBuilt output notes k h = absurd (no_command _ _ k.1 h)
+  refused (e.Refused r) output notes k h = absurd (no_command _ _ k.1 h)
   refused e.ReadFault output notes k h = inr (omega arith, omega arith)
   refused e.TooLong output notes k h = inr (omega arith, omega arith)
   refused e.OutOfMemory output notes k h = inr (omega arith, omega arith)
@@ -175,6 +209,7 @@ module _ (f : Found) where
   others_due c w o e.Done output notes k = absurd (subst is_other (one_command _ _ _ k.words_are w) o)
   others_due c w o (e.Fault x) output notes k = absurd (subst is_other (one_command _ _ _ k.words_are w) o)
   others_due c w o e.NotBuilt output notes k = inl refl
+  others_due c w o (e.Refused r) output notes k = inl refl
   others_due c w o e.BadWords output notes k = absurd (no_command _ _ w k.0)
   others_due c w o e.ReadFault output notes k = inr (omega arith, omega arith)
   others_due c w o e.TooLong output notes k = inr (omega arith, omega arith)
@@ -182,11 +217,11 @@ module _ (f : Found) where
 
   read_fails : (ending : Ending) (output notes : List ℕ) → cause f ending output notes → status_of ending ≡ 5 → ReadsFail f.words f.before f.after f.taken f.taken'
   read_fails e.ReadFault output notes k h = (k.0, k.1, k.2)
-  read_fails _ output notes k h = absurd (omega arith)
+  read_fails _ output notes _ h = absurd (omega arith)
 
   input_long : (ending : Ending) (output notes : List ℕ) → cause f ending output notes → status_of ending ≡ 7 → (a : Asked) × (command_of f.words ≡ Some (asks a)) × IfSome (f.told a.file) IsProgram × IfSome f.left IsTooLong
   input_long e.TooLong output notes k h = (k.0, k.1, k.2, k.3)
-  input_long _ output notes k h = absurd (omega arith)
+  input_long _ output notes _ h = absurd (omega arith)
 
   fits_not : (o : Option (List ℕ)) (input : List ℕ) → FitsInput o → o ≡ Some input → IsTooLong input → ⊥
   fits_not None input h g l = no_none input g
@@ -197,6 +232,43 @@ module _ (f : Found) where
     where
       some_same : (a b : List ℕ) → ◌≡◌ {A = Option (List ℕ)} (Some a) (Some b) → a ≡ b
       some_same a b g = cc
+
+  module _ (c : Command) (text : List ℕ) (w : command_of f.words ≡ Some c) (t : f.told (file_of c) ≡ Some text) where
+    -- what holds of the text that is told holds of this one
+    of_text : (P : List ℕ → Type 0) (d : Command) → command_of f.words ≡ Some d → IfSome (f.told (file_of d)) P → P text
+    of_text P d v h = subst (λ o. IfSome o P) t (subst (λ (x : Command). IfSome (f.told (file_of x)) P) (one_command _ _ _ w v) h)
+
+    run_keeps : (fault : Option Fault) (output notes : List ℕ) → Ran f fault output notes → KeepsRules text
+    run_keeps fault output notes r = subst KeepsRules (of_text (λ x. r.text ≡ x) (asks r.asked) r.words_are r.told_is) r.runs.ends.2
+
+    unbuilt_keeps : (d : Command) → command_of f.words ≡ Some d → is_unbuilt_for f.told f.left d → KeepsRules text
+    unbuilt_keeps (command.Run file workers limits show) v u = (of_text (IsUnbuiltAfter f.left limits) (command.Run file workers limits show) v u).0.0
+    unbuilt_keeps (command.Check file) v u = of_text KeepsRules (command.Check file) v u
+    unbuilt_keeps (command.Code file) v u = of_text KeepsRules (command.Code file) v u
+    unbuilt_keeps (command.Sets file) v u = of_text KeepsRules (command.Sets file) v u
+
+    breaks : (r : Refusal) (output notes : List ℕ) → cause f (e.Refused r) output notes → IsFirstBroken text r
+    breaks r output notes k = of_text (λ x. IsFirstBroken x r) k.0 k.1 k.2
+
+    refusal_due : OneRefusal → (r : Refusal) → IsFirstBroken text r → (ending : Ending) (output notes : List ℕ) → cause f ending output notes → LineDue ending notes (refusal_text r)
+    refusal_due one r b e.Done output notes k = absurd (run_keeps None output notes k r b)
+    refusal_due one r b (e.Fault x) output notes k = absurd (run_keeps (Some x) output notes k r b)
+    refusal_due one r b (e.Refused q) output notes k = inl (refl, k.4 ∙ ap refusal_text (one text q r (breaks q output notes k) b))
+    refusal_due one r b e.NotBuilt output notes k = absurd (unbuilt_keeps k.0 k.1 k.2 r b)
+    refusal_due one r b e.BadWords output notes k = absurd (no_command _ _ w k.0)
+    refusal_due one r b e.ReadFault output notes k = inr (omega arith, omega arith)
+    refusal_due one r b e.TooLong output notes k = inr (omega arith, omega arith)
+    refusal_due one r b e.OutOfMemory output notes k = inr (omega arith, omega arith)
+
+    other_line_due : is_other c → KeepsRules text → (ending : Ending) (output notes : List ℕ) → cause f ending output notes → LineDue ending notes (line_of e.NotBuilt)
+    other_line_due o h e.Done output notes k = absurd (subst is_other (one_command _ _ _ k.words_are w) o)
+    other_line_due o h (e.Fault x) output notes k = absurd (subst is_other (one_command _ _ _ k.words_are w) o)
+    other_line_due o h (e.Refused q) output notes k = absurd (h q (breaks q output notes k))
+    other_line_due o h e.NotBuilt output notes k = inl (refl, refl)
+    other_line_due o h e.BadWords output notes k = absurd (no_command _ _ w k.0)
+    other_line_due o h e.ReadFault output notes k = inr (omega arith, omega arith)
+    other_line_due o h e.TooLong output notes k = inr (omega arith, omega arith)
+    other_line_due o h e.OutOfMemory output notes k = inr (omega arith, omega arith)
 
   module _ (a : Asked) (text : List ℕ) (w : command_of f.words ≡ Some (asks a)) (t : f.told a.file ≡ Some text) where
     told_text : (b : Asked) (all : List ℕ) → b ≡ a → IsTold (f.told b.file) all → all ≡ text
@@ -212,22 +284,27 @@ module _ (f : Found) where
     unbuilt_is c v u =
         subst (λ o. IfSome o (IsUnbuiltAfter f.left a.limits)) t (subst (is_unbuilt_for f.told f.left) (one_command _ _ _ w v) u)
 
+    broken_is : (r : Refusal) (output notes : List ℕ) → cause f (e.Refused r) output notes → IsFirstBroken text r
+    broken_is r output notes k = breaks (asks a) text w t r output notes k
+
     done_only : (ending : Ending) (output notes : List ℕ) → cause f ending output notes → status_of ending ≡ 0 → EndsWith a.limits text None
     done_only e.Done output notes k h = (output, (run_is None output notes k).ends)
-    done_only _ output notes k h = absurd (omega arith)
+    done_only _ output notes _ h = absurd (omega arith)
 
     fault_only : (ending : Ending) (output notes : List ℕ) → cause f ending output notes → status_of ending ≡ 3 → (x : Fault) × EndsWith a.limits text (Some x)
     fault_only (e.Fault x) output notes k h = (x, (output, (run_is (Some x) output notes k).ends))
-    fault_only _ output notes k h = absurd (omega arith)
+    fault_only _ output notes _ h = absurd (omega arith)
 
-    unbuilt_only : (ending : Ending) (output notes : List ℕ) → cause f ending output notes → status_of ending ≡ 1 → IsUnbuilt a.limits text
-    unbuilt_only e.NotBuilt output notes k h = (unbuilt_is k.0 k.1 k.2).0
-    unbuilt_only _ output notes k h = absurd (omega arith)
+    unbuilt_only : (ending : Ending) (output notes : List ℕ) → cause f ending output notes → status_of ending ≡ 1 → IsRefused text ⊎ IsUnbuilt a.limits text
+    unbuilt_only e.NotBuilt output notes k h = inr (unbuilt_is k.0 k.1 k.2).0
+    unbuilt_only (e.Refused r) output notes k h = inl (r, broken_is r output notes k)
+    unbuilt_only _ output notes _ h = absurd (omega arith)
 
     done_due : Once → EndsWith a.limits text None → (ending : Ending) (output notes : List ℕ) → cause f ending output notes → Due ending 0
     done_due once h e.Done output notes k = inl refl
     done_due once h (e.Fault x) output notes k = absurd (no_some x (ap (λ (r : Ended). r.fault) (ends_once once text (Some x) None output h.0 (run_is (Some x) output notes k).ends.0 h.1.0)))
-    done_due once h e.NotBuilt output notes k = absurd ((unbuilt_is k.0 k.1 k.2).0 None h)
+    done_due once h e.NotBuilt output notes k = absurd ((unbuilt_is k.0 k.1 k.2).0.1 None h)
+    done_due once h (e.Refused r) output notes k = absurd (h.1.2 r (broken_is r output notes k))
     done_due once h e.BadWords output notes k = absurd (no_command _ _ w k.0)
     done_due once h e.ReadFault output notes k = inr (omega arith, omega arith)
     done_due once h e.TooLong output notes k = inr (omega arith, omega arith)
@@ -236,16 +313,18 @@ module _ (f : Found) where
     fault_due : Once → ((x : Fault) × EndsWith a.limits text (Some x)) → (ending : Ending) (output notes : List ℕ) → cause f ending output notes → Due ending 3
     fault_due once h e.Done output notes k = absurd (no_some h.0 (ap (λ (r : Ended). r.fault) (ends_once once text (Some h.0) None h.1.0 output h.1.1.0 (run_is None output notes k).ends.0)))
     fault_due once h (e.Fault x) output notes k = inl refl
-    fault_due once h e.NotBuilt output notes k = absurd ((unbuilt_is k.0 k.1 k.2).0 (Some h.0) h.1)
+    fault_due once h e.NotBuilt output notes k = absurd ((unbuilt_is k.0 k.1 k.2).0.1 (Some h.0) h.1)
+    fault_due once h (e.Refused r) output notes k = absurd (h.1.1.2 r (broken_is r output notes k))
     fault_due once h e.BadWords output notes k = absurd (no_command _ _ w k.0)
     fault_due once h e.ReadFault output notes k = inr (omega arith, omega arith)
     fault_due once h e.TooLong output notes k = inr (omega arith, omega arith)
     fault_due once h e.OutOfMemory output notes k = inr (omega arith, omega arith)
 
-    unbuilt_due : IsUnbuilt a.limits text → (ending : Ending) (output notes : List ℕ) → cause f ending output notes → Due ending 1
-    unbuilt_due h e.Done output notes k = absurd (h None (output, (run_is None output notes k).ends))
-    unbuilt_due h (e.Fault x) output notes k = absurd (h (Some x) (output, (run_is (Some x) output notes k).ends))
-    unbuilt_due h e.NotBuilt output notes k = inl refl
+    unbuilt_due : IsUnbuilt a.limits text → (ending : Ending) (output notes : List ℕ) → cause f ending output notes → LineDue ending notes (line_of e.NotBuilt)
+    unbuilt_due h e.Done output notes k = absurd (h.1 None (output, (run_is None output notes k).ends))
+    unbuilt_due h (e.Fault x) output notes k = absurd (h.1 (Some x) (output, (run_is (Some x) output notes k).ends))
+    unbuilt_due h (e.Refused r) output notes k = absurd (h.0 r (broken_is r output notes k))
+    unbuilt_due h e.NotBuilt output notes k = inl (refl, refl)
     unbuilt_due h e.BadWords output notes k = absurd (no_command _ _ w k.0)
     unbuilt_due h e.ReadFault output notes k = inr (omega arith, omega arith)
     unbuilt_due h e.TooLong output notes k = inr (omega arith, omega arith)
@@ -255,6 +334,7 @@ module _ (f : Found) where
     long_due p input l h e.Done output notes k = absurd (fits_not f.left input k.fits l h)
     long_due p input l h (e.Fault x) output notes k = absurd (fits_not f.left input k.fits l h)
     long_due p input l h e.NotBuilt output notes k = absurd (fits_not f.left input ((unbuilt_is k.0 k.1 k.2).1 p) l h)
+    long_due p input l h (e.Refused r) output notes k = absurd (p.0 r (broken_is r output notes k))
     long_due p input l h e.BadWords output notes k = absurd (no_command _ _ w k.0)
     long_due p input l h e.ReadFault output notes k = (omega arith, omega arith)
     long_due p input l h e.TooLong output notes k = (omega arith, omega arith)
@@ -264,6 +344,7 @@ module _ (f : Found) where
     one_output : Once → (x : Option Fault) (bytes : List ℕ) → Ends text x bytes → (ending : Ending) (output notes : List ℕ) → cause f ending output notes → has_run ending ≡ true → output ≡ bytes
     one_output once x bytes h e.Done output notes k r = ap (λ (r : Ended). r.output) (ends_once once text None x output bytes (run_is None output notes k).ends.0 h)
     one_output once x bytes h (e.Fault y) output notes k r = ap (λ (r : Ended). r.output) (ends_once once text (Some y) x output bytes (run_is (Some y) output notes k).ends.0 h)
+    one_output once x bytes h (e.Refused q) output notes k r = absurd (no_false r)
     one_output once x bytes h e.NotBuilt output notes k r = absurd (no_false r)
     one_output once x bytes h e.BadWords output notes k r = absurd (no_false r)
     one_output once x bytes h e.ReadFault output notes k r = absurd (no_false r)
@@ -275,6 +356,7 @@ module _ (f : Found) where
         (run_is None output notes k).notes_are ∙ ap (run_notes f.reports a.show) (ap (λ (r : Ended). r.fault) (ends_once once text None x output bytes (run_is None output notes k).ends.0 h))
     one_notes once x bytes h (e.Fault y) output notes k r =
         (run_is (Some y) output notes k).notes_are ∙ ap (run_notes f.reports a.show) (ap (λ (r : Ended). r.fault) (ends_once once text (Some y) x output bytes (run_is (Some y) output notes k).ends.0 h))
+    one_notes once x bytes h (e.Refused q) output notes k r = absurd (no_false r)
     one_notes once x bytes h e.NotBuilt output notes k r = absurd (no_false r)
     one_notes once x bytes h e.BadWords output notes k r = absurd (no_false r)
     one_notes once x bytes h e.ReadFault output notes k r = absurd (no_false r)
@@ -285,6 +367,8 @@ module _ (f : Found) where
 run_by_status : (ending : Ending) → (status_of ending ≡ 0) ⊎ (status_of ending ≡ 3) → has_run ending ≡ true
 run_by_status e.Done h = refl
 run_by_status (e.Fault f) h = refl
+run_by_status (e.Refused r) (inl h) = absurd (omega arith)
+run_by_status (e.Refused r) (inr h) = absurd (omega arith)
 run_by_status e.NotBuilt (inl h) = absurd (omega arith)
 run_by_status e.NotBuilt (inr h) = absurd (omega arith)
 run_by_status e.BadWords (inl h) = absurd (omega arith)
@@ -299,6 +383,7 @@ run_by_status e.OutOfMemory (inr h) = absurd (omega arith)
 no_run_by_status : (ending : Ending) → (status_of ending ≡ 0 → ⊥) → (status_of ending ≡ 3 → ⊥) → has_run ending ≡ false
 no_run_by_status e.Done h k = absurd (h refl)
 no_run_by_status (e.Fault f) h k = absurd (k refl)
+no_run_by_status (e.Refused r) h k = refl
 no_run_by_status e.NotBuilt h k = refl
 no_run_by_status e.BadWords h k = refl
 no_run_by_status e.ReadFault h k = refl
@@ -306,14 +391,15 @@ no_run_by_status e.TooLong h k = refl
 no_run_by_status e.OutOfMemory h k = refl
 
 -- the notes where none has run
-line_is : (ending : Ending) (notes : List ℕ) → has_run ending ≡ false → notes_by ending notes ≡ line_of ending
-line_is e.Done notes h = absurd (no_true h)
-line_is (e.Fault f) notes h = absurd (no_true h)
-line_is e.NotBuilt notes h = refl
-line_is e.BadWords notes h = refl
-line_is e.ReadFault notes h = refl
-line_is e.TooLong notes h = refl
-line_is e.OutOfMemory notes h = refl
+line_is : (f : Found) (ending : Ending) (output notes : List ℕ) → cause f ending output notes → has_run ending ≡ false → notes_by ending notes ≡ line_of ending
+line_is f e.Done output notes k h = absurd (no_true h)
+line_is f (e.Fault x) output notes k h = absurd (no_true h)
+line_is f (e.Refused r) output notes k h = k.4
+line_is f e.NotBuilt output notes k h = refl
+line_is f e.BadWords output notes k h = refl
+line_is f e.ReadFault output notes k h = refl
+line_is f e.TooLong output notes k h = refl
+line_is f e.OutOfMemory output notes k h = refl
 
 module _ (f : Found) (output output' notes notes' : Got) (status : ℕ) (call : Call f output output' notes notes' status) where
   -- a status other than 6 is that of the answer
@@ -345,14 +431,28 @@ module _ (f : Found) (output output' notes notes' : Got) (status : ℕ) (call : 
       go (inr k) = (omega arith, omega arith)
       go (inl k) = subst IsOutside (sym k) h
 
+  says : (line : List ℕ) → ((status_of call.answer.ending ≡ 1) × (notes_by call.answer.ending call.answer.notes ≡ line)) ⊎ IsOutside (status_of call.answer.ending) → SaysLine line notes notes' status
+  says line d = go call.written.status_is d
+    where
+      go : (status ≡ status_of call.answer.ending) ⊎ (status ≡ 6) → ((status_of call.answer.ending ≡ 1) × (notes_by call.answer.ending call.answer.notes ≡ line)) ⊎ IsOutside (status_of call.answer.ending) → SaysLine line notes notes' status
+      go (inr k) h = inr (omega arith, omega arith)
+      go (inl k) (inl h) = inl (k ∙ h.0, subst (λ v. All notes notes' v) h.1 (call.written.all_written (not_six 1 (λ p. absurd (omega arith)) (k ∙ h.0))).1)
+      go (inl k) (inr h) = inr (subst IsOutside (sym k) h)
+
   pub call_bad_words : RefusesWords f.words status
   call_bad_words = (
     λ h. refuses f _ _ _ call.cause (undisplaced 2 (λ p. absurd (omega arith)) h),
     λ h. due 2 (refused f _ _ _ call.cause h),
   )
 
-  pub call_others : AnswersOthers f.words status
-  call_others c w o = due 1 (others_due f c w o _ _ _ call.cause)
+  pub call_others : AnswersOthers f.words f.told notes notes' status
+  call_others = (
+    λ c w o. due 1 (others_due f c w o _ _ _ call.cause),
+    λ c text w t o h. says (line_of e.NotBuilt) (other_line_due f c text w t o h _ _ _ call.cause),
+  )
+
+  pub call_refused : OneRefusal → OfText f.words f.told (λ c text. SaysRefusal text notes notes' status)
+  call_refused one c text w t r b = says (refusal_text r) (refusal_due f c text w t one r b _ _ _ call.cause)
 
   pub call_done : Once → OfRun f.words f.told (λ a text. Exactly status 0 (EndsWith a.limits text None))
   call_done once a text w t = (
@@ -360,10 +460,10 @@ module _ (f : Found) (output output' notes notes' : Got) (status : ℕ) (call : 
     λ h. due 0 (done_due f a text w t once h _ _ _ call.cause),
   )
 
-  pub call_not_built : OfRun f.words f.told (λ a text. Exactly status 1 (IsUnbuilt a.limits text))
+  pub call_not_built : OfRun f.words f.told (λ a text. SaysUnbuilt a.limits text notes notes' status)
   call_not_built a text w t = (
     λ h. unbuilt_only f a text w t _ _ _ call.cause (undisplaced 1 (λ p. absurd (omega arith)) h),
-    λ h. due 1 (unbuilt_due f a text w t h _ _ _ call.cause),
+    λ h. says (line_of e.NotBuilt) (unbuilt_due f a text w t h _ _ _ call.cause),
   )
 
   pub call_fault : Once → OfRun f.words f.told (λ a text. Exactly status 3 ((x : Fault) × EndsWith a.limits text (Some x)))
@@ -404,4 +504,4 @@ module _ (f : Found) (output output' notes notes' : Got) (status : ℕ) (call : 
   call_line h k l =
       let e = same_status l in
       let r = no_run_by_status call.answer.ending (λ m. h (e ∙ m)) (λ m. k (e ∙ m)) in
-      (call.answer.ending, e, r, subst (λ v. All notes notes' v) (line_is call.answer.ending call.answer.notes r) (call.written.all_written l).1)
+      (call.answer.ending, e, r, subst (λ v. All notes notes' v) (line_is f call.answer.ending call.answer.output call.answer.notes call.cause r) (call.written.all_written l).1)

@@ -1,12 +1,16 @@
 -- The contract of the top call, in parts.
 use Rattle.std.specs.Prelude.{◌≡◌, ◌≢◌, ◌⊎◌, ℕ, ◌<◌, ◌≤◌, List, [], true, false, length, take, Option, Some, None, IfSome}
 use Rattle.sp_base.specs.declared.fault.Fault.{Fault}
+use Rattle.sp_base.specs.declared.halt.Refusal.{Refusal}
 use Rattle.sp_base.specs.declared.limits.Limits.{Limits}
 use Rattle.sp_base.specs.declared.limits.Show.{Show}
 use Rattle.sp_first.specs.Grammar.{Program, IsFirstForm}
 use Rattle.sp_first.specs.Meaning.{meaning}
 use Rattle.sp_outside.specs.Counts.{Rose}
+use Rattle.sp_front.specs.Texts.{KeepsRules}
 use Rattle.sp_outside.specs.Told.{Grows}
+use Rattle.sp_print.specs.Lines.{refusal_text}
+use Rattle.sp_tree.specs.Breaches.{IsFirstBroken}
 use Rattle.sp_words.specs.Words.{command_of}
 use Rattle.sp_words.specs.declared.command.Command.{Command}
 use Rattle.sp_words.specs.declared.command.Command.TheVariants as command
@@ -41,25 +45,29 @@ file_of (command.Sets file) = file
 abbrev pub Ends : List ℕ → Option Fault → List ℕ → Type 0
 Ends text fault output = (p : Program) × IsFirstForm text p × (meaning p ≡ record { output = output; fault = fault })
 
--- the text is of the first form
+-- the text breaks no rule, and is of the first form
 abbrev pub IsProgram : List ℕ → Type 0
-IsProgram text = (p : Program) × IsFirstForm text p
+IsProgram text = KeepsRules text × (p : Program) × IsFirstForm text p
 
 -- no limit is met: there are as many cells as a text of the first form may have variables, and the output is no longer
 -- than it may be
 abbrev pub IsWithin : Limits → List ℕ → Type 0
 IsWithin limits output = (4096 ≤ limits.cells) × (length output ≤ limits.output)
 
--- the run of the text ends so, and meets no limit
+-- the text breaks no rule, and its run ends so and meets no limit
 abbrev pub EndsWithin : Limits → List ℕ → Option Fault → List ℕ → Type 0
-EndsWithin limits text fault output = Ends text fault output × IsWithin limits output
+EndsWithin limits text fault output = Ends text fault output × IsWithin limits output × KeepsRules text
 
 abbrev pub EndsWith : Limits → List ℕ → Option Fault → Type 0
 EndsWith limits text fault = (output : List ℕ) × EndsWithin limits text fault output
 
--- the text is not of the first form, or its run meets a limit
+-- the text breaks no rule, and is not of the first form, or its run meets a limit
 abbrev pub IsUnbuilt : Limits → List ℕ → Type 0
-IsUnbuilt limits text = (fault : Option Fault) → EndsWith limits text fault → ⊥
+IsUnbuilt limits text = KeepsRules text × ((fault : Option Fault) → EndsWith limits text fault → ⊥)
+
+-- the text breaks a rule of its characters or its grammar
+abbrev pub IsRefused : List ℕ → Type 0
+IsRefused text = (r : Refusal) × IsFirstBroken text r
 
 -- the text is what is told, where it is told
 abbrev pub IsTold : Option (List ℕ) → List ℕ → Type 0
@@ -73,7 +81,7 @@ IsTooLong input = 16777216 < length input
 abbrev pub FitsInput : Option (List ℕ) → Type 0
 FitsInput left = IfSome left (λ input. length input ≤ 16777216)
 
--- the text is not of the first form, or its input was read and its run meets a limit
+-- the text breaks no rule and is not of the first form, or its input was read and its run meets a limit
 abbrev pub IsUnbuiltAfter : Option (List ℕ) → Limits → List ℕ → Type 0
 IsUnbuiltAfter left limits text = IsUnbuilt limits text × (IsProgram text → FitsInput left)
 
@@ -85,6 +93,13 @@ silent ending = record { ending = ending; output = []; notes = [] }
 
 abbrev pub IsSilent : List ℕ → List ℕ → Type 0
 IsSilent output notes = (output ≡ []) × (notes ≡ [])
+
+-- the answer to a text that breaks this rule first, or want of memory
+abbrev pub refused : Refusal → Answer
+refused r = record { ending = e.Refused r; output = []; notes = refusal_text r }
+
+abbrev pub Refuses : Refusal → Answer → Type 0
+Refuses r a = (a ≡ refused r) ⊎ (a ≡ silent e.OutOfMemory)
 
 -- how a run that ended so is answered
 pub record RunsTo (reports : Reports) (limits : Limits) (show : Show) (text : List ℕ) (fault : Option Fault) (output notes : List ℕ) : Type 0 where
@@ -101,13 +116,19 @@ run_cause reports left taken taken' limits show text e.ReadFault output notes = 
 run_cause reports left taken taken' limits show text e.TooLong output notes = IsProgram text × IfSome left IsTooLong × IsSilent output notes
 run_cause reports left taken taken' limits show text e.OutOfMemory output notes = IsSilent output notes
 run_cause reports left taken taken' limits show text e.BadWords output notes = ⊥
+run_cause reports left taken taken' limits show text (e.Refused r) output notes = ⊥
 
--- the same of any command
+-- the same of any command, where the text breaks no rule
+abbrev pub kept_cause : Reports → Option (List ℕ) → ℕ → ℕ → Command → List ℕ → Answer → Type 0
+kept_cause reports left taken taken' (command.Run file workers limits show) text a = run_cause reports left taken taken' limits show text a.ending a.output a.notes
+kept_cause reports left taken taken' (command.Check file) text a = a ≡ silent e.NotBuilt
+kept_cause reports left taken taken' (command.Code file) text a = a ≡ silent e.NotBuilt
+kept_cause reports left taken taken' (command.Sets file) text a = a ≡ silent e.NotBuilt
+
+-- the same of any text
 abbrev pub text_cause : Reports → Option (List ℕ) → ℕ → ℕ → Command → List ℕ → Answer → Type 0
-text_cause reports left taken taken' (command.Run file workers limits show) text a = run_cause reports left taken taken' limits show text a.ending a.output a.notes
-text_cause reports left taken taken' (command.Check file) text a = a ≡ silent e.NotBuilt
-text_cause reports left taken taken' (command.Code file) text a = a ≡ silent e.NotBuilt
-text_cause reports left taken taken' (command.Sets file) text a = a ≡ silent e.NotBuilt
+text_cause reports left taken taken' c text a =
+    (KeepsRules text × kept_cause reports left taken taken' c text a) ⊎ (((r : Refusal) × IsFirstBroken text r × Refuses r a) ⊎ (a ≡ silent e.OutOfMemory))
 
 abbrev pub ending_of : Option Fault → Ending
 ending_of None = e.Done
@@ -122,6 +143,7 @@ ended_cause reports limits show fault bytes e.OutOfMemory output notes = IsSilen
 ended_cause reports limits show fault bytes e.ReadFault output notes = ⊥
 ended_cause reports limits show fault bytes e.TooLong output notes = ⊥
 ended_cause reports limits show fault bytes e.BadWords output notes = ⊥
+ended_cause reports limits show fault bytes (e.Refused r) output notes = ⊥
 
 -- what a call finds: the words, what the library tells of each name at entry and its counts of faults, and the same of
 -- the source; and the texts of reports
@@ -150,14 +172,15 @@ pub record Ran (f : Found) (fault : Option Fault) (output notes : List ℕ) : Ty
 -- nothing is built for the command, or for its text
 abbrev pub is_unbuilt_for : (List ℕ → Option (List ℕ)) → Option (List ℕ) → Command → Type 0
 is_unbuilt_for told left (command.Run file workers limits show) = IfSome (told file) (IsUnbuiltAfter left limits)
-is_unbuilt_for told left (command.Check file) = Unit {0}
-is_unbuilt_for told left (command.Code file) = Unit {0}
-is_unbuilt_for told left (command.Sets file) = Unit {0}
+is_unbuilt_for told left (command.Check file) = IfSome (told file) KeepsRules
+is_unbuilt_for told left (command.Code file) = IfSome (told file) KeepsRules
+is_unbuilt_for told left (command.Sets file) = IfSome (told file) KeepsRules
 
 -- Why an answer is due.
 abbrev pub cause : Found → Ending → List ℕ → List ℕ → Type 0
 cause f e.Done output notes = Ran f None output notes
 cause f (e.Fault x) output notes = Ran f (Some x) output notes
+cause f (e.Refused r) output notes = (c : Command) × (command_of f.words ≡ Some c) × IfSome (f.told (file_of c)) (λ text. IsFirstBroken text r) × (output ≡ []) × (notes ≡ refusal_text r)
 cause f e.NotBuilt output notes = (c : Command) × (command_of f.words ≡ Some c) × is_unbuilt_for f.told f.left c × IsSilent output notes
 cause f e.BadWords output notes = (command_of f.words ≡ None) × IsSilent output notes
 cause f e.ReadFault output notes = (c : Command) × (command_of f.words ≡ Some c) × (Rose (f.before (file_of c)) (f.after (file_of c)) ⊎ Rose f.taken f.taken') × IsSilent output notes
@@ -225,6 +248,23 @@ Exactly status s P = (status ≡ s → P) × (P → (status ≡ s) ⊎ IsOutside
 abbrev pub OfRun : List (List ℕ) → (List ℕ → Option (List ℕ)) → (Asked → List ℕ → Type 0) → Type 0
 OfRun words told P = (a : Asked) (text : List ℕ) → command_of words ≡ Some (asks a) → told a.file ≡ Some text → P a text
 
+-- of the command that the words ask for, and its text, where the library tells it
+abbrev pub OfText : List (List ℕ) → (List ℕ → Option (List ℕ)) → (Command → List ℕ → Type 0) → Type 0
+OfText words told P = (c : Command) (text : List ℕ) → command_of words ≡ Some c → told (file_of c) ≡ Some text → P c text
+
+-- status 1 with this line, unless the outside came in its place
+abbrev pub SaysLine : List ℕ → Got → Got → ℕ → Type 0
+SaysLine line notes notes' status = ((status ≡ 1) × All notes notes' line) ⊎ IsOutside status
+
+-- the line of the first rule that the text breaks
+abbrev pub SaysRefusal : List ℕ → Got → Got → ℕ → Type 0
+SaysRefusal text notes notes' status = (r : Refusal) → IsFirstBroken text r → SaysLine (refusal_text r) notes notes' status
+
+-- Status 1 comes only where the text breaks a rule, or breaks none and cannot be run; and where it cannot be run the line says so.
+abbrev pub SaysUnbuilt : Limits → List ℕ → Got → Got → ℕ → Type 0
+SaysUnbuilt limits text notes notes' status =
+    (status ≡ 1 → IsRefused text ⊎ IsUnbuilt limits text) × (IsUnbuilt limits text → SaysLine (line_of e.NotBuilt) notes notes' status)
+
 -- the words are refused exactly with this status
 abbrev pub RefusesWords : List (List ℕ) → ℕ → Type 0
 RefusesWords words status = Exactly status 2 (command_of words ≡ None)
@@ -236,8 +276,10 @@ is_other (command.Code file) = Unit {0}
 is_other (command.Sets file) = Unit {0}
 is_other (command.Run file workers limits show) = ⊥
 
-abbrev pub AnswersOthers : List (List ℕ) → ℕ → Type 0
-AnswersOthers words status = (c : Command) → command_of words ≡ Some c → is_other c → (status ≡ 1) ⊎ IsOutside status
+abbrev pub AnswersOthers : List (List ℕ) → (List ℕ → Option (List ℕ)) → Got → Got → ℕ → Type 0
+AnswersOthers words told notes notes' status =
+    ((c : Command) → command_of words ≡ Some c → is_other c → (status ≡ 1) ⊎ IsOutside status)
+    × OfText words told (λ c text. is_other c → KeepsRules text → SaysLine (line_of e.NotBuilt) notes notes' status)
 
 -- the library failed under the name of the text, or the source failed
 abbrev pub ReadsFail : List (List ℕ) → (List ℕ → ℕ) → (List ℕ → ℕ) → ℕ → ℕ → Type 0

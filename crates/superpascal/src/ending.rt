@@ -1,15 +1,17 @@
 //! How a call ends, and what it has to write.
 
 ghost use Rattle.std.specs.Prelude.{◌≡◌};
-ghost use Rattle.superpascal.specs.Answers.{has_run, line_of, notes_by, status_of};
+ghost use Rattle.superpascal.specs.Answers.{has_run, notes_by, status_of};
 
-use sp_base::{Fault, Text};
+use sp_base::{Fault, Refusal, Text};
 
 /// How a call ends.
 #[derive(Clone, Copy)]
 pub enum Ending {
     /// The run ended.
     Done,
+    /// The text breaks this rule first.
+    Refused(Refusal),
     /// The command or the form of the text is not built, or the run meets a limit.
     NotBuilt,
     /// The words are refused.
@@ -24,8 +26,8 @@ pub enum Ending {
     OutOfMemory,
 }
 
-/// All that a call has to write. Where a program has run the notes are those of the run; else they are a line, and
-/// what stands here for them is empty.
+/// All that a call has to write. Where a program has run the notes are those of the run, and where a text is refused
+/// the line of the refusal; else they are a line, and what stands here for them is empty.
 #[derive(Drop)]
 pub struct Answer {
     pub ending: Ending,
@@ -40,7 +42,7 @@ impl Ending {
     {
         match self {
             Ending::Done => 0,
-            Ending::NotBuilt => 1,
+            Ending::Refused(_) | Ending::NotBuilt => 1,
             Ending::BadWords => 2,
             Ending::Fault(_) => 3,
             Ending::ReadFault => 5,
@@ -55,32 +57,18 @@ impl Ending {
     {
         matches!(self, Ending::Done | Ending::Fault(_))
     }
-
-    /// The line of a call by which no program has run.
-    pub fn line(self) -> &'static str
-        ensures { result.now ≡ line_of self }
-    {
-        match self {
-            Ending::Done | Ending::Fault(_) => "",
-            Ending::NotBuilt => "not built\n",
-            Ending::BadWords => "bad words\n",
-            Ending::ReadFault => "read fault\n",
-            Ending::TooLong => "input too long\n",
-            Ending::OutOfMemory => "out of memory\n",
-        }
-    }
 }
 
-/// The notes with this ending, where these are those of the run.
+/// The notes with this ending, where these are those of the run or of the refusal.
 pub fn notes_by<'a>(ending: Ending, notes: &'a [u8]) -> &'a [u8]
     ensures { result.now ≡ notes_by ending notes.now }
 {
     match ending {
-        Ending::Done | Ending::Fault(_) => notes,
-        Ending::NotBuilt
-        | Ending::BadWords
-        | Ending::ReadFault
-        | Ending::TooLong
-        | Ending::OutOfMemory => ending.line().as_bytes(),
+        Ending::Done | Ending::Fault(_) | Ending::Refused(_) => notes,
+        Ending::NotBuilt => b"not built\n",
+        Ending::BadWords => b"bad words\n",
+        Ending::ReadFault => b"read fault\n",
+        Ending::TooLong => b"input too long\n",
+        Ending::OutOfMemory => b"out of memory\n",
     }
 }

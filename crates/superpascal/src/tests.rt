@@ -134,7 +134,6 @@ fn texts_of_one_line(rt: HostRuntime) -> Result<(), Fail> {
             "",
             "fault F4 0\nunjudged\n",
         ),
-        ("", 1, "", "not built\n"),
         (
             "PROGRAM Integer;\nVAR Total: INTEGER; begin; total:=2; write(- total*3+1,TOTAL) end .",
             0,
@@ -165,6 +164,55 @@ fn texts_of_one_line(rt: HostRuntime) -> Result<(), Fail> {
         assert_eq!(rt; given.status, status, "{text}");
         assert_eq!(rt; given.output.as_slice(), output.as_bytes(), "{text}");
         assert_eq!(rt; given.notes.as_slice(), notes.as_bytes(), "{text}");
+    }
+    Ok(())
+}
+
+#[test]
+fn refused_texts(rt: HostRuntime) -> Result<(), Fail> {
+    let cases = [
+        ("", "refused G2 1:1\n"),
+        (
+            "program a; var x: integer; begin x := 6; write(x * 7)",
+            "refused G2 1:54\n",
+        ),
+        (
+            "program e; begin [sic] parallel write(1) | write(2) end end.",
+            "refused U1 1:19\n",
+        ),
+        ("program e; begin write(1.5) end.", "refused U2 1:24\n"),
+        ("program g; begin x = 1 end.", "refused G1 1:20\n"),
+        ("program g; begin write('a) end.", "refused S3 1:24\n"),
+        ("program g begin end.", "refused G1 1:11\n"),
+        (
+            "program h;\nbegin write(9223372036854775808) end.",
+            "refused S4 2:13\n",
+        ),
+        ("program g; begin write(1); end.", "not built\n"),
+    ];
+    for (text, notes) in cases {
+        for command in ["run", "check", "code", "sets"] {
+            let given = call(rt.alloc(), &[command, "a.sp"], text.as_bytes(), NONE)?;
+            assert_eq!(rt; given.status, 1, "{text}");
+            assert!(rt; given.output.is_empty());
+            assert_eq!(rt; given.notes.as_slice(), notes.as_bytes(), "{text}");
+        }
+    }
+    Ok(())
+}
+
+#[test]
+fn long_texts(rt: HostRuntime) -> Result<(), Fail> {
+    let cases = [
+        (1_048_576, "refused G2 1:1048577\n"),
+        (1_048_577, "refused L1 1:1\n"),
+    ];
+    for (count, notes) in cases {
+        let text = spaces(rt.alloc(), count)?;
+        let given = call(rt.alloc(), &["run", "a.sp"], text.as_slice(), NONE)?;
+        assert_eq!(rt; given.status, 1);
+        assert!(rt; given.output.is_empty());
+        assert_eq!(rt; given.notes.as_slice(), notes.as_bytes());
     }
     Ok(())
 }

@@ -8,14 +8,18 @@ ghost use Rattle.sp_outside.specs.Counts.{Rose};
 ghost use Rattle.sp_outside.specs.Told.{Grows};
 ghost use Rattle.sp_report.specs.Telling.{is_chosen};
 ghost use Rattle.sp_words.specs.Words.{command_of};
+ghost use Rattle.sp_front.specs.Texts.{KeepsRules};
 ghost use Rattle.superpascal.specs.Answers.{has_run, notes_of, status_of};
-ghost use Rattle.superpascal.specs.Calls.{AnswersOthers, Call, Cause, EndsWith, Exactly, InputTooLong, IsUnbuilt, IsWithin, OfRun, ReadsFail, RefusesWords, Writes, WritesLine, WritesNotes, WritesOutput, ended_cause, ending_of, file_of, found, got, run_cause, silent, text_cause};
+ghost use Rattle.superpascal.specs.Calls.{AnswersOthers, Call, Cause, EndsWith, Exactly, InputTooLong, IsWithin, OfRun, OfText, ReadsFail, Refuses, RefusesWords, SaysRefusal, SaysUnbuilt, Writes, WritesLine, WritesNotes, WritesOutput, ended_cause, ending_of, file_of, found, got, kept_cause, run_cause, silent, text_cause};
 
 use crate::ending::{Answer, Ending, notes_by};
 use crate::notes::run_notes;
-use sp_base::{Limits, Show, Text};
+use sp_base::{Halt, Limits, Place, Refusal, Rule, Show, Text};
 use sp_first::{Ended, one_meaning, run_text};
+use sp_front::read_text;
+use sp_grammar::one_verdict;
 use sp_outside::{Failed, Library, LoadError, ReadError, Sink, Source, put_all, read_all};
+use sp_print::refusal_line;
 use sp_report::Watcher;
 use sp_words::{Command, WordsError, read_words};
 use std::alloc::Global;
@@ -29,6 +33,12 @@ pub struct Outcome {
 
 /// The longest text that is loaded, in bytes.
 const LONGEST: u32 = 1_048_576;
+
+/// What a longer text breaks.
+const TOO_LONG: Refusal = Refusal {
+    rule: Rule::L1,
+    at: Place { line: 1, column: 1 },
+};
 
 /// The longest input that is read, in bytes.
 const LONGEST_INPUT: u32 = 16_777_216;
@@ -79,7 +89,7 @@ fn command_answer<L: Library, I: Source>(
 {
     match library.load(alloc, file_of(command), LONGEST) {
         Ok(text) => text_answer(alloc, command, text.as_slice(), input, watchers),
-        Err(LoadError::TooLong) => silent(alloc, Ending::NotBuilt),
+        Err(LoadError::TooLong) => refused(alloc, TOO_LONG),
         Err(LoadError::Failed) => silent(alloc, Ending::ReadFault),
         Err(LoadError::Memory) => silent(alloc, Ending::OutOfMemory),
     }
@@ -96,7 +106,21 @@ fn silent(alloc: Global, ending: Ending) -> Answer
     }
 }
 
-// Does what the command asks of its text.
+// An answer to a text that breaks this rule first.
+fn refused(alloc: Global, refusal: Refusal) -> Answer
+    ensures { Refuses refusal result }
+{
+    match refusal_line(alloc, refusal) {
+        Ok(line) => Answer {
+            ending: Ending::Refused(refusal),
+            output: Text::of(Vec::new(alloc)),
+            notes: Text::of(line),
+        },
+        Err(_) => silent(alloc, Ending::OutOfMemory),
+    }
+}
+
+// Passes the phases over the text, and then does what the command asks.
 fn text_answer<I: Source>(
     alloc: Global,
     command: &Command,
@@ -106,6 +130,28 @@ fn text_answer<I: Source>(
 ) -> Answer
     requires { All (λ w. told w ≡ []) watchers.items }
     ensures { text_cause (λ s es. flat_map (λ w. text w es) (filter (λ w. is_chosen s (title w)) watchers.items)) (I.left input.old) (I.faults input.old) (I.faults input.new) command.now program.now result }
+{
+    match read_text(alloc, program) {
+        Ok(tree) => {
+            drop(tree);
+            kept_answer(alloc, command, program, input, watchers)
+        }
+        Err(Halt::Refused(refusal)) => refused(alloc, refusal),
+        Err(Halt::Memory) => silent(alloc, Ending::OutOfMemory),
+    }
+}
+
+// Does what the command asks of a text that breaks no rule.
+fn kept_answer<I: Source>(
+    alloc: Global,
+    command: &Command,
+    program: &[u8],
+    input: &mut I,
+    watchers: Vec<Box<dyn Watcher>>,
+) -> Answer
+    requires fresh { All (λ w. told w ≡ []) watchers.items }
+    requires kept { KeepsRules program.now }
+    ensures { kept_cause (λ s es. flat_map (λ w. text w es) (filter (λ w. is_chosen s (title w)) watchers.items)) (I.left input.old) (I.faults input.old) (I.faults input.new) command.now program.now result }
 {
     match command {
         Command::Run { limits, show, .. } => {
@@ -117,7 +163,7 @@ fn text_answer<I: Source>(
     }
 }
 
-// Runs the text.
+// Runs a text that breaks no rule.
 fn run_answer<I: Source>(
     alloc: Global,
     program: &[u8],
@@ -126,7 +172,8 @@ fn run_answer<I: Source>(
     input: &mut I,
     watchers: Vec<Box<dyn Watcher>>,
 ) -> Answer
-    requires { All (λ w. told w ≡ []) watchers.items }
+    requires fresh { All (λ w. told w ≡ []) watchers.items }
+    requires kept { KeepsRules program.now }
     ensures { run_cause (λ s es. flat_map (λ w. text w es) (filter (λ w. is_chosen s (title w)) watchers.items)) (I.left input.old) (I.faults input.old) (I.faults input.new) limits show program.now result.ending result.output result.notes }
 {
     one_meaning();
@@ -217,7 +264,8 @@ fn write_notes<N: Sink>(answer: &Answer, notes: &mut N) -> u8
 /// | status | comes | notes |
 /// |---|---|---|
 /// | 0 | where the run ends | `done`, the verdict and the reports; or the journal |
-/// | 1 | where the command or the form of the text is not built, or the run meets a limit | `not built` |
+/// | 1 | where the text breaks a rule of its characters or its grammar | `refused RULE LINE:COLUMN`, the first such rule |
+/// | 1 | else where the command or the form of the text is not built, or the run meets a limit | `not built` |
 /// | 2 | where the words are refused | `bad words` |
 /// | 3 | where a fault ends the run | `fault F NAME`, the verdict and the reports; or the journal |
 /// | 5 | where the library's count of faults under the name rose, or the source's | `read fault` |
@@ -225,9 +273,9 @@ fn write_notes<N: Sink>(answer: &Answer, notes: &mut N) -> u8
 /// | 7 | where the source gave more than 16,777,216 bytes | `input too long` |
 /// | 8 | where memory was refused | `out of memory` |
 ///
-/// The order of work is: the words; the load; compiling; the input, for `run` alone; the run; the texts; writing
-/// `output`; writing `notes`. Where the words, the load, the input or memory end the call, nothing is written to
-/// `output`. After a failed write to `output` nothing is written to `notes`.
+/// The order of work is: the words; the load; the rules of the text; compiling; the input, for `run` alone; the run; the
+/// texts; writing `output`; writing `notes`. Where the words, the load, the text, the input or memory end the call,
+/// nothing is written to `output`. After a failed write to `output` nothing is written to `notes`.
 pub fn superpascal<L: Library, I: Source, O: Sink, N: Sink>(
     alloc: Global,
     words: &[String],
@@ -239,9 +287,10 @@ pub fn superpascal<L: Library, I: Source, O: Sink, N: Sink>(
 ) -> Outcome
     requires fresh { All (λ w. told w ≡ []) watchers.items }
     ensures bad_words { RefusesWords (map string_bytes words.now) result.status }
-    ensures other_commands { AnswersOthers (map string_bytes words.now) result.status }
+    ensures other_commands { AnswersOthers (map string_bytes words.now) (L.held library.old) (got (N.written notes.old) (N.faults notes.old)) (got (N.written notes.new) (N.faults notes.new)) result.status }
+    ensures refused { OfText (map string_bytes words.now) (L.held library.old) (λ c program. SaysRefusal program (got (N.written notes.old) (N.faults notes.old)) (got (N.written notes.new) (N.faults notes.new)) result.status) }
     ensures done { OfRun (map string_bytes words.now) (L.held library.old) (λ a program. Exactly result.status 0 (EndsWith a.limits program None)) }
-    ensures not_built { OfRun (map string_bytes words.now) (L.held library.old) (λ a program. Exactly result.status 1 (IsUnbuilt a.limits program)) }
+    ensures not_built { OfRun (map string_bytes words.now) (L.held library.old) (λ a program. SaysUnbuilt a.limits program (got (N.written notes.old) (N.faults notes.old)) (got (N.written notes.new) (N.faults notes.new)) result.status) }
     ensures fault { OfRun (map string_bytes words.now) (L.held library.old) (λ a program. Exactly result.status 3 ((f : Fault) × EndsWith a.limits program (Some f))) }
     ensures read_fault { result.status ≡ 5 → ReadsFail (map string_bytes words.now) (L.faults library.old) (L.faults library.new) (I.faults input.old) (I.faults input.new) }
     ensures write_fault { result.status ≡ 6 → Rose (O.faults output.old) (O.faults output.new) ⊎ Rose (N.faults notes.old) (N.faults notes.new) }
@@ -255,6 +304,7 @@ pub fn superpascal<L: Library, I: Source, O: Sink, N: Sink>(
     ensures displaced { Call (found (map string_bytes words.now) (L.held library.old) (L.faults library.old) (L.faults library.new) (I.left input.old) (I.faults input.old) (I.faults input.new) (λ s es. flat_map (λ w. text w es) (filter (λ w. is_chosen s (title w)) watchers.items))) (got (O.written output.old) (O.faults output.old)) (got (O.written output.new) (O.faults output.new)) (got (N.written notes.old) (N.faults notes.old)) (got (N.written notes.new) (N.faults notes.new)) result.status }
 {
     one_meaning();
+    one_verdict();
     run_words(alloc, words, library, input, output, notes, watchers)
 }
 

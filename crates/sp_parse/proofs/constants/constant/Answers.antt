@@ -1,7 +1,6 @@
-use Rattle.std.proofs.Common.{refl, ap, ◌∙◌, sym as back_of, Some, None, true, false}
+use Rattle.std.proofs.Common.{refl, ap, ◌∙◌, Some, None, true, false}
 use Rattle.std.proofs.lemmas.Result.{err_from_is_err_and}
 use Rattle.sp_tree.specs.declared.syntax.SynValue.TheVariants as value
-use Rattle.sp_tree.specs.declared.syntax.SynConst.{SynConst}
 use Rattle.sp_tree.specs.Words as w
 use Rattle.sp_grammar.specs.Symbols.{AConstant}
 use Rattle.sp_grammar.specs.Table as row

@@ -1,4 +1,4 @@
-use Rattle.std.proofs.Common.{sym as back_of, ◌∙◌, refl}
+use Rattle.std.proofs.Common.{◌∙◌, refl}
 use Rattle.sp_grammar.specs.Symbols.{AnExpression}
 use Rattle.sp_parse.proofs.Steps.{fails, above}
 use Rattle.sp_parse.proofs.Rows.{too_deep_at, none_of, expression_rows}

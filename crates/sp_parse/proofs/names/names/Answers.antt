@@ -1,7 +1,7 @@
 use Rattle.std.proofs.Common.{refl, [], ◌∷◌, ◌++◌, ap, ◌∙◌}
 use Rattle.std.proofs.lemmas.Result.{err_from_is_err_and}
 use Rattle.sp_tree.specs.Words as w
-use Rattle.sp_grammar.specs.Symbols.{AName, MoreNames}
+use Rattle.sp_grammar.specs.Symbols.{AName}
 use Rattle.sp_grammar.specs.Table as row
 use Rattle.sp_parse.proofs.Steps.{read_err, passed, not_passed}
 use Rattle.sp_parse.proofs.SoFar.{halts_on}

@@ -1,4 +1,3 @@
-use Rattle.std.proofs.Common.{refl}
 use Rattle.std.proofs.lemmas.Result.{err_from_is_err_and}
 use Rattle.sp_parse.proofs.Fitting.{short}
 use Rattle.sp_parse.proofs.Parsing.{is_ready, refused, too_long, none_left, is_tree}

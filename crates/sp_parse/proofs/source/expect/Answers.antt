@@ -1,4 +1,4 @@
-use Rattle.std.proofs.Common.{arith, rules}
+use Rattle.std.proofs.Common.{rules}
 use Rattle.sp_parse.proofs.Steps.{expect_is, expect_fails}
 use Rattle.sp_parse.proofs.source.expect.Goals as goal
 

@@ -1,4 +1,4 @@
-use Rattle.std.proofs.Common.{arith, rules}
+use Rattle.std.proofs.Common.{rules}
 use Rattle.sp_parse.proofs.Steps.{passes_other}
 use Rattle.sp_parse.proofs.source.pass.Goals as goal
 

@@ -1,4 +1,4 @@
-use Rattle.std.proofs.Common.{◌≡◌, ◌-◌, ◌+◌, ◌*◌, ◌≤◌, get_or, arith}
+use Rattle.std.proofs.Common.{◌-◌, ◌+◌, ◌*◌, ◌≤◌, get_or, arith}
 use Rattle.sp_parse.proofs.Spelling.{room}
 use Rattle.sp_parse.proofs.spelled.number_at.Goals as goal
 

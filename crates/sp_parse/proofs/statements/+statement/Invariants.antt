@@ -1,4 +1,4 @@
-use Rattle.std.proofs.Common.{◌+◌, ◌*◌, [], ◌∷◌, length}
+use Rattle.std.proofs.Common.{◌+◌, ◌*◌, length}
 use Rattle.sp_parse.proofs.ReadStatements.{StatementsSoFar, ArmsSoFar, BranchesSoFar}
 use Rattle.sp_parse.proofs.statements.+statement.Given as goal
 

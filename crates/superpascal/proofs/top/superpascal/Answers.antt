@@ -1,4 +1,4 @@
-use Rattle.superpascal.proofs.Causes.{call_done, call_fault, call_not_built, call_notes, call_output, call_bad_words, call_others, call_read_fault, call_too_long, call_no_output, call_line}
+use Rattle.superpascal.proofs.Causes.{call_done, call_fault, call_not_built, call_notes, call_output, call_bad_words, call_others, call_refused, call_read_fault, call_too_long, call_no_output, call_line}
 use Rattle.superpascal.proofs.top.superpascal.Goals as goal
 
 pub returns-clause-bad_words : goal.returns-clause-bad_words
@@ -6,6 +6,9 @@ returns-clause-bad_words g c = call_bad_words _ _ _ _ _ _ c.run_words.ensures
 
 pub returns-clause-other_commands : goal.returns-clause-other_commands
 returns-clause-other_commands g c = call_others _ _ _ _ _ _ c.run_words.ensures
+
+pub returns-clause-refused : goal.returns-clause-refused
+returns-clause-refused g c = call_refused _ _ _ _ _ _ c.run_words.ensures c.one_verdict.ensures.refusal
 
 pub returns-clause-done : goal.returns-clause-done
 returns-clause-done g c = call_done _ _ _ _ _ _ c.run_words.ensures c.one_meaning.ensures

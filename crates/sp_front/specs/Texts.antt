@@ -1,0 +1,17 @@
+-- What a text is: its tree, or the first rule of its characters or its grammar that it breaks.
+use Rattle.std.specs.Prelude.{ℕ, List, Result, Ok, Err}
+use Rattle.sp_base.specs.declared.halt.Halt.{Halt}
+use Rattle.sp_base.specs.declared.halt.Halt.TheVariants as halt
+use Rattle.sp_base.specs.declared.halt.Refusal.{Refusal}
+use Rattle.sp_tree.specs.declared.syntax.Syntax.{Syntax}
+use Rattle.sp_tree.specs.SyntaxOf.{program_of}
+use Rattle.sp_tree.specs.Breaches.{IsTree, IsFirstBroken}
+
+abbrev pub Reads : List ℕ → Result Syntax Halt → Type 0
+Reads text (Ok tree) = IsTree text (program_of tree)
+Reads text (Err (halt.Refused r)) = IsFirstBroken text r
+Reads text (Err halt.Memory) = Unit {0}
+
+-- the text breaks no rule of its characters and its grammar
+abbrev pub KeepsRules : List ℕ → Type 0
+KeepsRules text = (r : Refusal) → IsFirstBroken text r → ⊥
