@@ -1,0 +1,15 @@
+use Rattle.std.proofs.Common.{◌≡◌, refl, sym, arith, rules}
+use Rattle.sp_meaning.specs.Values.{Ordinal}
+use Rattle.sp_run.specs.Machines.{setting_of}
+use Rattle.sp_run.specs.Views.{plain_address}
+use Rattle.sp_run.specs.Comings.{same}
+use Rattle.sp_run.specs.Direct.{assign}
+use Rattle.sp_run.specs.DirectDeeds.{advance}
+use Rattle.sp_run.proofs.Plains.{plain_ordinal}
+use Rattle.sp_run.proofs.Chains.{does_then}
+use Rattle.sp_run.proofs.deeds.take_in.Goals as goal
+
+pub returns-in-Ok : goal.returns-in-Ok
+returns-in-Ok c =
+    rw c.in-Takes.is (does_then c.args.run.now c.args.who.now same c.args.machine.now c.advance.new.machine c.assign.new.machine c.assign.result (advance (setting_of c.args.run.now) c.in-Takes.bytes) (λ u. assign (plain_address c.args.at.now) (Ordinal c.in-Takes.n)) tt
+      (rw c.in-Ok.is at c.in_ok-value-in-Takes.ensures) (rw c.ordinal_of-v.ensures at c.assign.ensures))
