@@ -1,3 +1,1 @@
 pub mod Joining
-pub mod OneAnswer
-pub mod Phasing

@@ -1,21 +1,6 @@
-mod Acting
-mod Arms
-mod Births
-mod Chains
-mod Changing
-mod Collecting
-mod Deeding
-mod Goings
-mod Logs
-mod Longest
-mod Pushing
-mod Reading
-mod SameDeeds
+pub mod Plains
 mod SameEval
-mod Sorting
-mod Stepped
-mod Stepping
+mod SameDeeds
 mod Stores
 mod Values
-mod Weighing
-pub mod Plains
+mod Pushing

@@ -368,8 +368,7 @@ pub fn read_at(run: &Setting, who: &Who, machine: &mut Machine, place: &Place) -
     }
 }
 
-/// The position that is held, if it is.
-pub fn position_of(held: &Held) -> usize
+fn position_of(held: &Held) -> usize
     ensures { result ≡ position_in (plain_held held.now) }
 {
     match held {

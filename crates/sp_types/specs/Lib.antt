@@ -8,7 +8,3 @@ pub mod CheckedTree
 pub mod TypeFirst
 pub mod Firsts
 pub mod Types
-pub mod Capped
-pub mod DeclarationFirsts
-pub mod Entered
-pub mod Seen
