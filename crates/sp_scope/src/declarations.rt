@@ -6,10 +6,9 @@ ghost use Rattle.sp_tree.specs.Scopes.{find};
 ghost use Rattle.sp_tree.specs.NameRules.{broken, use_rule, declare_rule, AsConstant, AsKind, Declares, Uses, UsesIn};
 ghost use Rattle.sp_tree.specs.NamedTree.{constant_number, kind_number};
 
-use crate::rules::{breaks, breaks_if};
 use crate::scopes::Scopes;
 use sp_base::{Place, Rule};
-use sp_tree::{Found, Meaning, Name, Sort, lesser};
+use sp_tree::{Found, Meaning, Name, Sort, breaks, breaks_if, lesser};
 
 fn constant_rule(at: Place, m: Option<&Meaning>) -> Found
     ensures { result ≡ use_rule AsConstant at (option_copied m.entry) }

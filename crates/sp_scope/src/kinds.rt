@@ -13,12 +13,11 @@ use crate::constants::check_bound;
 use crate::copies::copy;
 use crate::declarations::{check_own_kind, constant_number, kind_number};
 use crate::numbers::{count_of, more};
-use crate::rules::breaks_if;
 use crate::scopes::Scopes;
 use sp_base::{Halt, List, Rule, Text};
 use sp_tree::{
     Found, Name, NamedConst, NamedConstant, NamedKindForm, NamedValue, SynConst, SynGroup, SynKind,
-    SynValue, lesser,
+    SynValue, breaks_if, lesser,
 };
 use std::alloc::Global;
 use std::collections::BTreeSet;

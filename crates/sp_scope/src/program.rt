@@ -13,13 +13,12 @@ ghost use Rattle.sp_scope.specs.Walks.{seen_block, tables_behind};
 
 use crate::blocks::name_block;
 use crate::copies::{copy, join};
-use crate::rules::{breaks, breaks_if};
 use crate::scopes::Scopes;
 use crate::walked::BlockParts;
 use sp_base::{Halt, List, MAXINT, Place, Rule, Text};
 use sp_tree::{
     Found, Name, Named, NamedBlock, NamedConst, NamedConstant, NamedKind, NamedKindForm,
-    NamedValue, Role, Syntax, Variable, lesser,
+    NamedValue, Role, Syntax, Variable, breaks, breaks_if, lesser,
 };
 use std::alloc::Global;
 

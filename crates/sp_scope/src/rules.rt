@@ -5,26 +5,10 @@ ghost use Rattle.std.specs.Option.{option_copied};
 ghost use Rattle.sp_tree.specs.Found.{breaks, breaks_if};
 ghost use Rattle.sp_tree.specs.NameRules.{function_takes, procedure_takes, function_rule, procedure_rule, operand_rule, alone_rule, selects_rule, variable_rule, target_rule, assign_rule, is_local, loop_rule, width_rule, bare_rule, aims};
 
-use sp_base::{Place, Refusal, Rule};
-use sp_tree::{Found, Meaning, Passing, Role, StandardFn, StandardProcedure, lesser};
-
-/// The rule is broken at the place.
-pub fn breaks(rule: Rule, at: Place) -> Found
-    ensures { result ≡ breaks rule at }
-{
-    Some(Refusal { rule, at })
-}
-
-/// The rule is broken at the place if the test says so.
-pub fn breaks_if(rule: Rule, at: Place, broken: bool) -> Found
-    ensures { result ≡ breaks_if rule at broken }
-{
-    if broken {
-        Some(Refusal { rule, at })
-    } else {
-        None
-    }
-}
+use sp_base::{Place, Rule};
+use sp_tree::{
+    Found, Meaning, Passing, Role, StandardFn, StandardProcedure, breaks, breaks_if, lesser,
+};
 
 fn function_takes(f: StandardFn, count: usize) -> bool
     ensures { result ≡ function_takes f count }

@@ -2,9 +2,9 @@
 
 ghost use Rattle.std.specs.Prelude.{◌≡◌};
 ghost use Rattle.sp_tree.specs.First.{row, before};
-ghost use Rattle.sp_tree.specs.Found.{lesser};
+ghost use Rattle.sp_tree.specs.Found.{lesser, breaks, breaks_if};
 
-use sp_base::{Refusal, Rule};
+use sp_base::{Place, Refusal, Rule};
 use std::cmp::Ordering;
 
 /// A broken rule with its place, or none.
@@ -90,10 +90,27 @@ pub fn lesser(a: Found, b: Found) -> Found
     }
 }
 
+/// The rule is broken at the place.
+pub fn breaks(rule: Rule, at: Place) -> Found
+    ensures { result ≡ breaks rule at }
+{
+    Some(Refusal { rule, at })
+}
+
+/// The rule is broken at the place if the test says so.
+pub fn breaks_if(rule: Rule, at: Place, broken: bool) -> Found
+    ensures { result ≡ breaks_if rule at broken }
+{
+    if broken {
+        Some(Refusal { rule, at })
+    } else {
+        None
+    }
+}
+
 #[cfg(test)]
 mod tests {
     use super::*;
-    use sp_base::Place;
 
     #[test]
     fn takes_the_earlier_place_and_then_the_earlier_row(rt: HostRuntime) {

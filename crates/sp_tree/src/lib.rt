@@ -15,7 +15,7 @@ pub mod word;
 pub use checked::{
     Actual, Arm, Block, Checked, Expr, ExprForm, Form, KindOf, Role, Selector, Stmt, Var, Variable,
 };
-pub use found::{Found, before, lesser, row};
+pub use found::{Found, before, breaks, breaks_if, lesser, row};
 pub use meaning::{Counts, Meaning, Passing, Sort, StandardProcedure};
 pub use named::{
     Named, NamedAnswer, NamedArg, NamedArm, NamedBlock, NamedBranch, NamedConst, NamedConstant,

@@ -6,3 +6,8 @@ pub mod Laws
 pub mod Steps
 pub mod Counts
 pub mod Numbering
+pub mod Capping
+pub mod Declared
+pub mod KeptKinds
+pub mod Tops
+pub mod Seeing

@@ -8,3 +8,7 @@ pub mod CheckedTree
 pub mod TypeFirst
 pub mod Firsts
 pub mod Types
+pub mod Capped
+pub mod DeclarationFirsts
+pub mod Entered
+pub mod Seen

@@ -1,17 +1,32 @@
 //! The phase of types: the first broken rule of types, or the checked tree.
 #![tactic(auto)]
 
+mod blocks;
+mod bodies;
 mod calls;
 mod checks;
+mod choices;
+mod constants;
 mod copies;
 mod counting;
+mod declarations;
 mod expressions;
+mod kinds;
 pub mod law;
+mod numbers;
+mod performs;
+mod program;
 mod rules;
+mod seen;
+mod sizes;
+mod statements;
 mod tables;
+mod tabling;
 #[cfg(test)]
 mod tests;
 mod typed;
 mod values;
+mod written;
 
+pub use program::type_check;
 pub use tables::{Ordinal, Signature, Tables};

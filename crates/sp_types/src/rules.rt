@@ -8,32 +8,14 @@ ghost use Rattle.sp_types.specs.TypeRules.{is_ordinal, is_channel, ordinal, chan
 ghost use Rattle.sp_types.specs.Kinds.{element_of, element_in, element, field_kind, field, if_ordinal, standard_gives};
 
 use crate::tables::Tables;
-use sp_base::{Place, Refusal, Rule, Text};
-use sp_tree::{BinaryOp, Found, KindOf, Role, StandardFn, UnaryOp, lesser};
+use sp_base::{Place, Rule, Text};
+use sp_tree::{BinaryOp, Found, KindOf, Role, StandardFn, UnaryOp, breaks, breaks_if, lesser};
 
 const INTEGER: u32 = 0;
 
 const BOOLEAN: u32 = 1;
 
 const CHAR: u32 = 2;
-
-/// The rule is broken at the place.
-pub fn breaks(rule: Rule, at: Place) -> Found
-    ensures { result ≡ breaks rule at }
-{
-    Some(Refusal { rule, at })
-}
-
-/// The rule is broken at the place if the test says so.
-pub fn breaks_if(rule: Rule, at: Place, broken: bool) -> Found
-    ensures { result ≡ breaks_if rule at broken }
-{
-    if broken {
-        Some(Refusal { rule, at })
-    } else {
-        None
-    }
-}
 
 fn is_ordinal(k: Option<&KindOf>) -> bool
     ensures { result ≡ is_ordinal (option_copied k.entry) }

@@ -1,13 +1,14 @@
 //! What is known of constants, types, variables and blocks, by their numbers.
 
-ghost use Rattle.std.specs.Prelude.{◌≡◌, slice_get, Ok, OnOk};
+ghost use Rattle.std.specs.Prelude.{◌≡◌, slice_get, slice_set, Ok, OnOk};
 ghost use Rattle.sp_tree.specs.Found.{Answers};
 ghost use Rattle.std.specs.Option.{option_copied};
-ghost use Rattle.sp_types.specs.Tables.{kind_at, variable_kind, entry, constant_kind, formals_of, answer_kind, ordinal_kind};
+ghost use Rattle.sp_types.specs.Tables.{indexed, kind_at, variable_kind, entry, constant_kind, formals_of, answer_kind, ordinal_kind};
 ghost use Rattle.sp_types.specs.TypeWalk.{formal_role, formal_kind, counted_by};
 
 use sp_base::{Halt, List};
 use sp_tree::{KindOf, Role};
+use std::mem::replace;
 
 /// An ordinal: the number of its type, and its own.
 #[derive(Clone, Copy, Debug, PartialEq, Eq)]
@@ -132,5 +133,28 @@ impl Tables {
                 Ok(())
             }
         }
+    }
+
+    /// The index of a forall gets its type.
+    pub fn index(&mut self, x: u32, k: Option<u32>)
+        ensures { self.new ≡ indexed self.old x k }
+    {
+        let none = List::new(self.variables.alloc());
+        let variables = replace(&mut self.variables, none);
+        self.variables = with_type(variables, x, k);
+    }
+}
+
+/// The types of variables, with that of one of them.
+fn with_type(variables: List<Option<u32>>, x: u32, k: Option<u32>) -> List<Option<u32>>
+    ensures { result ≡ slice_set variables x k }
+{
+    let mut variables = variables.into_vec();
+    let x = x as usize;
+    if x < variables.len() {
+        variables[x] = k;
+        List::of(variables)
+    } else {
+        List::of(variables)
     }
 }

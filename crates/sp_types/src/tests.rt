@@ -1,7 +1,11 @@
 use crate::expressions::type_expression;
+use crate::program::type_check;
 use crate::tables::Tables;
-use sp_base::{Boxed, List, Place, Refusal, Rule, Text};
-use sp_tree::{BinaryOp, KindOf, NamedExpr, NamedExprForm};
+use sp_base::{Boxed, Halt, List, Place, Refusal, Rule, Text};
+use sp_tree::{
+    BinaryOp, Form, KindOf, Named, NamedArg, NamedBlock, NamedConstant, NamedExpr, NamedExprForm,
+    NamedForm, NamedKind, NamedKindForm, NamedStmt, NamedVar, Role, StandardProcedure, Variable,
+};
 use std::alloc::Global;
 use std::test::Fail;
 
@@ -52,5 +56,131 @@ fn a_char_is_no_operand_of_a_sum(rt: HostRuntime) -> Result<(), Fail> {
     };
     assert_eq!(rt; sum.kind, Some(0));
     assert_eq!(rt; sum.first, Some(y1));
+    Ok(())
+}
+
+fn named(alloc: Global, name: u8) -> Result<Text, Fail> {
+    Ok(Text::of(vec![in alloc; name]?))
+}
+
+fn variable(alloc: Global, name: u8, kind: u32, role: Role) -> Result<Variable, Fail> {
+    Ok(Variable {
+        name: named(alloc, name)?,
+        kind,
+        block: 0,
+        role,
+        at: at(9),
+    })
+}
+
+/// A program with one variable, an integer with the number 2.
+fn program(alloc: Global, body: NamedStmt) -> Result<Named, Fail> {
+    let mut constants = List::new(alloc);
+    constants.push(NamedConstant::Enumerated {
+        kind: 1,
+        ordinal: 0,
+    })?;
+    constants.push(NamedConstant::Enumerated {
+        kind: 1,
+        ordinal: 1,
+    })?;
+    let mut kinds = List::new(alloc);
+    kinds.push(NamedKind {
+        at: at(1),
+        form: NamedKindForm::Integer,
+    })?;
+    kinds.push(NamedKind {
+        at: at(1),
+        form: NamedKindForm::Boolean,
+    })?;
+    kinds.push(NamedKind {
+        at: at(1),
+        form: NamedKindForm::Char,
+    })?;
+    let mut variables = List::new(alloc);
+    variables.push(variable(alloc, b'i', 2, Role::Console)?)?;
+    variables.push(variable(alloc, b'o', 2, Role::Console)?)?;
+    variables.push(variable(alloc, b'x', 0, Role::Local)?)?;
+    let mut blocks = List::new(alloc);
+    blocks.push(NamedBlock {
+        name: named(alloc, b'p')?,
+        parent: None,
+        formals: List::new(alloc),
+        answer: None,
+        body,
+        at: at(9),
+    })?;
+    Ok(Named {
+        constants,
+        kinds,
+        variables,
+        blocks,
+    })
+}
+
+fn x(alloc: Global, column: u32) -> NamedVar {
+    NamedVar {
+        variable: 2,
+        at: at(column),
+        selectors: List::new(alloc),
+    }
+}
+
+fn quoted(alloc: Global, column: u32) -> Result<NamedExpr, Fail> {
+    Ok(NamedExpr {
+        at: at(column),
+        form: NamedExprForm::Quoted(named(alloc, b'a')?),
+    })
+}
+
+#[test]
+fn statements_are_numbered_and_a_call_with_two_arguments_is_two(
+    rt: HostRuntime,
+) -> Result<(), Fail> {
+    let alloc = rt.alloc();
+    let mut args = List::new(alloc);
+    let value = NamedExpr {
+        at: at(10),
+        form: NamedExprForm::Read(x(alloc, 10)),
+    };
+    args.push(NamedArg { value, width: None })?;
+    args.push(NamedArg {
+        value: quoted(alloc, 12)?,
+        width: None,
+    })?;
+    let form = NamedForm::Standard(StandardProcedure::Write, args);
+    let program = program(alloc, NamedStmt { at: at(3), form })?;
+    let checked = type_check(alloc, program)?;
+    assert_eq!(rt; checked.kinds.len(), 3);
+    assert_eq!(rt; checked.variables.len(), 3);
+    for block in checked.blocks.items() {
+        assert_eq!(rt; block.body.number, 0);
+        if let Form::Sequence(ss) = &block.body.form {
+            assert_eq!(rt; ss.len(), 2);
+            for s in ss.items() {
+                assert!(rt; s.number == 1 || s.number == 2);
+                assert!(rt; matches!(&s.form, Form::WriteValue(_, None)));
+            }
+        } else {
+            assert!(rt; false);
+        }
+    }
+    Ok(())
+}
+
+#[test]
+fn a_char_is_not_assigned_to_an_integer(rt: HostRuntime) -> Result<(), Fail> {
+    let alloc = rt.alloc();
+    let form = NamedForm::Assign(x(alloc, 3), quoted(alloc, 8)?);
+    let program = program(alloc, NamedStmt { at: at(3), form })?;
+    let refusal = Refusal {
+        rule: Rule::Y5,
+        at: at(8),
+    };
+    match type_check(alloc, program) {
+        Ok(_) => assert!(rt; false),
+        Err(Halt::Memory) => assert!(rt; false),
+        Err(Halt::Refused(r)) => assert_eq!(rt; r, refusal),
+    }
     Ok(())
 }

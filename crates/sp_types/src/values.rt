@@ -8,10 +8,9 @@ ghost use Rattle.sp_types.specs.TypeRules.{field_from, field_in, field_found, fi
 ghost use Rattle.sp_types.specs.Kinds.{field_kind, field};
 ghost use Rattle.sp_types.specs.CheckedTree.{or_zero, field_number, numbered_field};
 
-use crate::rules::breaks;
 use crate::tables::{Ordinal, Tables};
 use sp_base::{Halt, Place, Rule, Text};
-use sp_tree::{Found, KindOf};
+use sp_tree::{Found, KindOf, breaks};
 
 /// The char that a text of length 1 is.
 pub fn char_of(t: &Text) -> Option<Ordinal>

@@ -1,0 +1,6 @@
+use Rattle.std.proofs.Common.{◌≡◌, ◌++◌, drop}
+use Rattle.sp_types.specs.CheckedTree.{constant_numbers}
+use Rattle.sp_types.proofs.choices.constant_numbers.Given as goal
+
+abbrev pub invariant-loop-c : goal.invariant-loop-c
+invariant-loop-c l = l.out.items ++ constant_numbers l.t (drop l.c-index l.cs) ≡ constant_numbers l.t l.cs

@@ -1,0 +1,7 @@
+use Rattle.std.proofs.Common.{◌≡◌, [], drop}
+use Rattle.sp_tree.specs.Cells.{table}
+use Rattle.sp_types.specs.Capped.{capped_by}
+use Rattle.sp_types.proofs.sizes.sizes_of.Given as goal
+
+abbrev pub invariant-loop-k : goal.invariant-loop-k
+invariant-loop-k l = table capped_by l.known.items (drop l.k-index l.kinds) ≡ table capped_by [] l.kinds

@@ -1,0 +1,16 @@
+-- Cells counted up to just above the limit: of a larger count no more is known than that it is larger.
+use Rattle.std.specs.Prelude.{ℕ, ◌+◌, min, List, [], ◌∷◌}
+use Rattle.sp_tree.specs.declared.checked.KindOf.{KindOf}
+use Rattle.sp_tree.specs.Cells.{size_by, table}
+use Rattle.sp_types.specs.TypeRules.{most_cells}
+
+abbrev pub capped : ℕ → ℕ
+capped n = min n (most_cells + 1)
+
+-- a type's cells, where those of the types before it are known
+abbrev pub capped_by : List ℕ → KindOf → ℕ
+capped_by known k = capped (size_by known k)
+
+-- the cells of each type
+abbrev pub capped_sizes : List KindOf → List ℕ
+capped_sizes kinds = table capped_by [] kinds

@@ -1,0 +1,45 @@
+-- The phase of types behind the tables of a program.
+use Rattle.std.specs.Prelude.{ℕ, List, Option, Result}
+use Rattle.sp_base.specs.declared.halt.Refusal.{Refusal}
+use Rattle.sp_base.specs.declared.place.Place.{Place}
+use Rattle.sp_tree.specs.declared.checked.KindOf.{KindOf}
+use Rattle.sp_tree.specs.declared.checked.Variable as checked
+use Rattle.sp_tree.specs.Found.{Found, outcome}
+use Rattle.sp_tree.specs.PlainNamed as n
+use Rattle.sp_types.specs.declared.tables.Ordinal.{Ordinal}
+use Rattle.sp_types.specs.PlainChecked as c
+use Rattle.sp_types.specs.Tables.{Env, types_of, roles_of, signatures}
+use Rattle.sp_types.specs.TypeWalk.{bodies, starts_from, starts_of, blocks_after}
+use Rattle.sp_types.specs.CheckedTree.{checked_blocks, checked_variables}
+use Rattle.sp_types.specs.DeclarationFirsts.{cells_first, blocks_first}
+
+-- the first numbers of some of the blocks whose bodies are these
+abbrev pub starts_in : List (Place × ℕ) → List n.Block → List ℕ
+starts_in all bs = starts_from all (bodies bs)
+
+-- the tables of a program, by the types that its names stand for, its constants and its types
+abbrev pub tabled : List ℕ → List (Option Ordinal) → List KindOf → List checked.Variable → List n.Block → Env
+tabled numbers known kinds variables blocks = record {
+  constants = known;
+  kinds = kinds;
+  variables = types_of numbers variables;
+  roles = roles_of variables;
+  blocks = signatures blocks;
+  next = 0;
+}
+
+-- the checked tree of a program with these tables
+abbrev pub checked_by : Env → List checked.Variable → List n.Block → c.Program
+checked_by env variables blocks = record {
+  kinds = env.kinds;
+  variables = checked_variables (blocks_after env (starts_of blocks) blocks).variables variables;
+  blocks = checked_blocks env (starts_of blocks) blocks;
+}
+
+-- what the phase gives of the blocks, behind what was found before them
+abbrev pub typed_blocks : List ℕ → List ℕ → Env → List checked.Variable → List n.Block → Found → Result c.Program Refusal
+typed_blocks numbers cells env variables blocks first = outcome (blocks_first numbers cells variables 0 env (starts_of blocks) blocks first) (checked_by env variables blocks)
+
+-- what the phase gives of types whose names stand at these places, and of the blocks
+abbrev pub typed_kinds : List ℕ → List ℕ → List Place → Env → List checked.Variable → List n.Block → Found → Result c.Program Refusal
+typed_kinds numbers cells places env variables blocks first = typed_blocks numbers cells env variables blocks (cells_first places cells first)

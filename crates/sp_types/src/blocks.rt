@@ -1,0 +1,99 @@
+//! The blocks of a program with types.
+
+ghost use Rattle.std.specs.Prelude.{◌≡◌, map, Ok, OnOk};
+ghost use Rattle.sp_tree.specs.NamedOf.{block_of};
+ghost use Rattle.sp_types.specs.Types.{Walks};
+ghost use Rattle.sp_types.specs.CheckedOf as checked;
+ghost use Rattle.sp_types.specs.TypeWalk.{started, statement_after, blocks_after};
+ghost use Rattle.sp_types.specs.Firsts.{statement_first};
+ghost use Rattle.sp_types.specs.DeclarationFirsts.{answer_first, blocks_first};
+ghost use Rattle.sp_types.specs.CheckedTree.{checked_block, checked_blocks};
+ghost use Rattle.sp_types.specs.Entered.{starts_in};
+
+use crate::bodies::count_before;
+use crate::counting::sum;
+use crate::declarations::check_frame;
+use crate::rules::answer_rule;
+use crate::statements::type_statement;
+use crate::tables::Tables;
+use crate::tabling::answer_variable;
+use crate::typed::Walked;
+use sp_base::{Halt, List, Place};
+use sp_tree::{Block, Found, NamedAnswer, NamedBlock, Variable, lesser};
+use std::alloc::Global;
+
+/// The result of a function: Y14.
+fn check_answer(t: &Tables, answer: Option<NamedAnswer>, first: Found) -> Found
+    ensures { result ≡ answer_first t.now answer first }
+{
+    match answer {
+        None => first,
+        Some(a) => lesser(first, answer_rule(t, a.at, t.variable_kind(a.variable))),
+    }
+}
+
+/// A block, whose statements are numbered from `start` on.
+fn type_block(
+    b: NamedBlock,
+    alloc: Global,
+    t: &mut Tables,
+    start: u32,
+    first: Found,
+) -> Result<Walked<Block>, Halt>
+    ensures tree { Walks checked.block_of result (checked_block (started t.old start) (block_of b)) (statement_first (started t.old start) (block_of b).body (answer_first (started t.old start) b.answer first)) }
+    ensures after { OnOk result (t.new ≡ statement_after (started t.old start) (block_of b).body) }
+{
+    t.next = start;
+    let NamedBlock {
+        name,
+        parent,
+        formals,
+        answer,
+        body,
+        at,
+    } = b;
+    let first = check_answer(t, answer, first);
+    let body = type_statement(body, alloc, t, first)?;
+    Ok(Walked {
+        tree: Block {
+            name,
+            parent,
+            formals,
+            answer: answer_variable(answer),
+            body: body.tree,
+            at,
+        },
+        first: body.first,
+    })
+}
+
+/// The blocks, each with the rules at its frame, its result and its statements: L6, Y14, Y1 to Y12.
+pub fn type_blocks(
+    blocks: List<NamedBlock>,
+    alloc: Global,
+    t: &mut Tables,
+    numbers: &[u32],
+    cells: &[u32],
+    variables: &[Variable],
+    bodies: &[(Place, u32)],
+    first: Found,
+) -> Result<Walked<List<Block>>, Halt>
+    ensures tree { Walks (map checked.block_of) result (checked_blocks t.old (starts_in bodies.now (map block_of blocks)) (map block_of blocks)) (blocks_first numbers.now cells.now variables.now 0 t.old (starts_in bodies.now (map block_of blocks)) (map block_of blocks) first) }
+    ensures after { OnOk result (t.new ≡ blocks_after t.old (starts_in bodies.now (map block_of blocks)) (map block_of blocks)) }
+{
+    let mut out = Vec::new(alloc);
+    let mut first = first;
+    let mut n = 0;
+    for b in blocks.into_vec() {
+        let start = count_before(b.body.at, bodies)?;
+        let framed = lesser(first, check_frame(b.at, numbers, cells, n, variables));
+        let w = type_block(b, alloc, t, start, framed)?;
+        out.push(w.tree)?;
+        first = w.first;
+        n = sum(n, 1)?;
+    }
+    Ok(Walked {
+        tree: List::of(out),
+        first,
+    })
+}

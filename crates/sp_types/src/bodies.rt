@@ -1,0 +1,47 @@
+//! The number of each block's first statement: numbers go by the order of the text.
+
+ghost use Rattle.std.specs.Prelude.{◌≡◌, ◌∷◌, [], map, Ok};
+ghost use Rattle.sp_tree.specs.Found.{Answers};
+ghost use Rattle.sp_tree.specs.NamedOf.{block_of};
+ghost use Rattle.sp_types.specs.TypeWalk.{bodies, earlier, count_before};
+
+use crate::counting::{statement_counted, sum};
+use sp_base::{Halt, List, Place};
+use sp_tree::NamedBlock;
+use std::alloc::Global;
+
+/// For each block, the place of its statement part and how many statements it has.
+pub fn bodies(alloc: Global, blocks: &[NamedBlock]) -> Result<List<(Place, u32)>, Halt>
+    ensures { Answers result (Ok (bodies (map block_of blocks.now))) }
+{
+    let mut out = Vec::new(alloc);
+    for b in blocks {
+        let n = statement_counted(&b.body, 0)?;
+        out.push((b.body.at, n))?;
+    }
+    Ok(List::of(out))
+}
+
+fn earlier(a: Place, b: Place) -> bool
+    ensures { result ≡ earlier a b }
+{
+    a.line < b.line || (a.line == b.line && a.column < b.column)
+}
+
+/// How many statements there are with those of a part that begins before a place, and without those of any other.
+fn count_with(k: u32, at: Place, b: &(Place, u32)) -> Result<u32, Halt>
+    ensures { Answers result (Ok (count_before k at (b.now ∷ []))) }
+{
+    if earlier(b.0, at) { sum(k, b.1) } else { Ok(k) }
+}
+
+/// How many statements stand in the parts that begin before a place.
+pub fn count_before(at: Place, bodies: &[(Place, u32)]) -> Result<u32, Halt>
+    ensures { Answers result (Ok (count_before 0 at bodies.now)) }
+{
+    let mut k = 0;
+    for b in bodies {
+        k = count_with(k, at, b)?;
+    }
+    Ok(k)
+}

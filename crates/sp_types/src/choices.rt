@@ -1,0 +1,108 @@
+//! The constants of a `case` statement.
+
+ghost use Rattle.std.specs.Prelude.{◌≡◌, map, Ok, []};
+ghost use Rattle.sp_tree.specs.Found.{Answers, AnswersAs};
+ghost use Rattle.sp_tree.specs.NamedOf.{arms, arm_of};
+ghost use Rattle.sp_types.specs.TypeRules.{repeat_rule};
+ghost use Rattle.sp_types.specs.TypeWalk.{with_constant, with_constants, constant_lists};
+ghost use Rattle.sp_types.specs.Firsts.{choice_first, choices_first, lists_first};
+ghost use Rattle.sp_types.specs.CheckedTree.{constant_numbers};
+
+use crate::rules::choice_rule;
+use crate::seen::Seen;
+use crate::tables::{Ordinal, Tables, ordinal_kind};
+use crate::values::number_or;
+use crate::written::{const_rule, const_value};
+use sp_base::{Halt, List, Place, Rule};
+use sp_tree::{Found, NamedArm, NamedConst, breaks_if, lesser};
+use std::alloc::Global;
+
+/// Y12 at a constant of a `case` statement, behind others.
+fn repeat_rule(at: Place, before: &Seen, o: Option<Ordinal>) -> Found
+    ensures { result ≡ repeat_rule at before.now o }
+{
+    match o {
+        None => None,
+        Some(o) => breaks_if(Rule::Y12, at, before.contains(o)),
+    }
+}
+
+/// One more constant behind others.
+fn with_constant(o: Option<Ordinal>, before: Seen) -> Result<Seen, Halt>
+    ensures { Answers result (Ok (with_constant o before)) }
+{
+    match o {
+        None => Ok(before),
+        Some(o) => before.with(o),
+    }
+}
+
+/// One constant behind others.
+fn check_choice(
+    t: &Tables,
+    k: Option<u32>,
+    before: &Seen,
+    c: &NamedConst,
+    first: Found,
+) -> Result<Found, Halt>
+    ensures { Answers result (Ok (choice_first t.now k before.now c.now first)) }
+{
+    let known = t.constants.items();
+    let long = const_rule(known, c)?;
+    let o = const_value(known, c)?;
+    let other = choice_rule(c.at, k, ordinal_kind(o));
+    let first = lesser(lesser(first, long), other);
+    Ok(lesser(first, repeat_rule(c.at, before, o)))
+}
+
+/// The constants of one choice, behind those of others.
+fn check_constants(
+    t: &Tables,
+    k: Option<u32>,
+    before: Seen,
+    cs: &[NamedConst],
+    first: Found,
+) -> Result<(Seen, Found), Halt>
+    ensures { Answers result (Ok (with_constants t.now cs.now before, choices_first t.now k before cs.now first)) }
+{
+    let mut before = before;
+    let mut first = first;
+    for c in cs {
+        first = check_choice(t, k, &before, c, first)?;
+        let o = const_value(t.constants.items(), c)?;
+        before = with_constant(o, before)?;
+    }
+    Ok((before, first))
+}
+
+/// The constants of all choices, for a selector of a type.
+pub fn check_choices(
+    alloc: Global,
+    t: &Tables,
+    k: Option<u32>,
+    xs: &[NamedArm],
+    first: Found,
+) -> Result<Found, Halt>
+    ensures { Answers result (Ok (lists_first t.now k [] (constant_lists (arms (map arm_of xs.now))) first)) }
+{
+    let mut before = Seen::new(alloc);
+    let mut first = first;
+    for x in xs {
+        let (seen, found) = check_constants(t, k, before, x.constants.items(), first)?;
+        before = seen;
+        first = found;
+    }
+    Ok(first)
+}
+
+/// The numbers of constants.
+pub fn constant_numbers(alloc: Global, t: &Tables, cs: &[NamedConst]) -> Result<List<i64>, Halt>
+    ensures { AnswersAs (λ x. x) result (Ok (constant_numbers t.now cs.now)) }
+{
+    let mut out = Vec::new(alloc);
+    for c in cs {
+        let o = const_value(t.constants.items(), c)?;
+        out.push(number_or(0, o))?;
+    }
+    Ok(List::of(out))
+}

@@ -1,0 +1,304 @@
+//! Assignments, calls of procedures, and calls of standard procedures as the single statements that they stand for.
+
+ghost use Rattle.std.specs.Prelude.{◌≡◌, ◌++◌, ◌∷◌, [], map, Ok, OnOk};
+ghost use Rattle.std.specs.Vec.Iter.{into_iter_items};
+ghost use Rattle.sp_tree.specs.NamedOf.{variable_of, expression_of, argument_of, arguments};
+ghost use Rattle.sp_tree.specs.PlainNamed.{Assign, Call, Perform};
+ghost use Rattle.sp_types.specs.Types.{Types, Walks};
+ghost use Rattle.sp_types.specs.CheckedOf as checked;
+ghost use Rattle.sp_types.specs.PlainChecked as c;
+ghost use Rattle.sp_types.specs.Firsts.{channel_first, statement_form_first, perform_first, each_first, message_first, messages_first};
+ghost use Rattle.sp_types.specs.Kinds.{argument_kind};
+ghost use Rattle.sp_types.specs.TypeWalk.{form_after};
+ghost use Rattle.sp_types.specs.CheckedTree.{argument_variable, checked_argument, checked_statement_form, singles, sends, receives, numbered, expanded};
+ghost use Rattle.sp_tree.specs.declared.meaning.StandardProcedure.TheVariants as procedure;
+ghost use Rattle.sp_tree.specs.Found.{AnswersAs};
+
+use crate::calls::{target, type_opens, type_reads, type_writes};
+use crate::checks::{channel_value, message_value, type_assigned};
+use crate::copies::copy_expression;
+use crate::counting::{parts_count, sum};
+use crate::expressions::{type_actuals, type_variable};
+use crate::tables::Tables;
+use crate::typed::{Typed, Walked};
+use sp_base::{Halt, List, Place};
+use sp_tree::{Expr, Form, Found, NamedArg, NamedExpr, NamedVar, StandardProcedure, Stmt};
+use std::alloc::Global;
+use std::vec::IntoIter;
+
+/// An assignment.
+pub fn type_assign(
+    alloc: Global,
+    t: &Tables,
+    v: NamedVar,
+    e: NamedExpr,
+    at: Place,
+    first: Found,
+) -> Result<Walked<Form>, Halt>
+    ensures { Walks checked.statement_form_of result (checked_statement_form t.now at (Assign (variable_of v) (expression_of e))) (statement_form_first t.now (Assign (variable_of v) (expression_of e)) first) }
+{
+    let v = type_variable(alloc, t, v, first)?;
+    let e = type_assigned(alloc, t, e, v.kind, v.first)?;
+    Ok(Walked {
+        first: e.first,
+        tree: Form::Assign(v.tree, e.tree),
+    })
+}
+
+/// A call of a procedure.
+pub fn type_call(
+    alloc: Global,
+    t: &Tables,
+    f: u32,
+    args: List<NamedArg>,
+    at: Place,
+    first: Found,
+) -> Result<Walked<Form>, Halt>
+    ensures { Walks checked.statement_form_of result (checked_statement_form t.now at (Call f (arguments (map argument_of args)))) (statement_form_first t.now (Call f (arguments (map argument_of args))) first) }
+{
+    let args = type_actuals(alloc, t, args, t.formals(f), first)?;
+    Ok(Walked {
+        first: args.first,
+        tree: Form::Call(f, args.tree),
+    })
+}
+
+/// What is sent on a channel of a type, and the channel.
+fn type_sent(
+    alloc: Global,
+    t: &Tables,
+    a: NamedArg,
+    channel: &Expr,
+    kind: Option<u32>,
+    first: Found,
+) -> Result<Walked<Form>, Halt>
+    ensures { Walks checked.statement_form_of result (c.Send (checked.expression_of channel.now) (checked_argument t.now (argument_of a))) (message_first t.now kind (argument_of a) first) }
+{
+    let NamedArg { value, width: _ } = a;
+    let channel = copy_expression(alloc, channel)?;
+    let e = message_value(alloc, t, value, kind, first)?;
+    Ok(Walked {
+        first: e.first,
+        tree: Form::Send(channel, e.tree),
+    })
+}
+
+/// What is received on a channel of a type, and the channel.
+fn type_received(
+    alloc: Global,
+    t: &Tables,
+    a: NamedArg,
+    channel: &Expr,
+    kind: Option<u32>,
+    first: Found,
+) -> Result<Walked<Form>, Halt>
+    ensures { Walks checked.statement_form_of result (c.Receive (checked.expression_of channel.now) (argument_variable t.now (argument_of a))) (message_first t.now kind (argument_of a) first) }
+{
+    let NamedArg { value, width: _ } = a;
+    let channel = copy_expression(alloc, channel)?;
+    let e = message_value(alloc, t, value, kind, first)?;
+    Ok(Walked {
+        first: e.first,
+        tree: Form::Receive(channel, target(alloc, e.tree)),
+    })
+}
+
+/// All that is sent on a channel of a type.
+fn type_sends(
+    alloc: Global,
+    t: &Tables,
+    xs: IntoIter<NamedArg>,
+    channel: &Expr,
+    kind: Option<u32>,
+    first: Found,
+) -> Result<Walked<List<Form>>, Halt>
+    ensures { Walks (map checked.statement_form_of) result (sends t.now (checked.expression_of channel.now) (arguments (map argument_of (into_iter_items xs)))) (each_first t.now (message_first t.now kind) (arguments (map argument_of (into_iter_items xs))) first) }
+{
+    let mut out = Vec::new(alloc);
+    let mut first = first;
+    for x in xs {
+        let y = type_sent(alloc, t, x, channel, kind, first)?;
+        first = y.first;
+        out.push(y.tree)?;
+    }
+    Ok(Walked {
+        tree: List::of(out),
+        first,
+    })
+}
+
+/// All that is received on a channel of a type.
+fn type_receives(
+    alloc: Global,
+    t: &Tables,
+    xs: IntoIter<NamedArg>,
+    channel: &Expr,
+    kind: Option<u32>,
+    first: Found,
+) -> Result<Walked<List<Form>>, Halt>
+    ensures { Walks (map checked.statement_form_of) result (receives t.now (checked.expression_of channel.now) (arguments (map argument_of (into_iter_items xs)))) (each_first t.now (message_first t.now kind) (arguments (map argument_of (into_iter_items xs))) first) }
+{
+    let mut out = Vec::new(alloc);
+    let mut first = first;
+    for x in xs {
+        let y = type_received(alloc, t, x, channel, kind, first)?;
+        first = y.first;
+        out.push(y.tree)?;
+    }
+    Ok(Walked {
+        tree: List::of(out),
+        first,
+    })
+}
+
+/// The channel of `send` or `receive`.
+fn type_channel(alloc: Global, t: &Tables, a: NamedArg, first: Found) -> Result<Typed<Expr>, Halt>
+    ensures { Types checked.expression_of result (checked_argument t.now (argument_of a)) (argument_kind t.now (argument_of a)) (channel_first t.now (argument_of a) first) }
+{
+    let NamedArg { value, width: _ } = a;
+    channel_value(alloc, t, value, first)
+}
+
+/// A call of `send`: its channel, and what is sent on it.
+fn type_send(
+    alloc: Global,
+    t: &Tables,
+    args: List<NamedArg>,
+    first: Found,
+) -> Result<Walked<List<Form>>, Halt>
+    ensures { Walks (map checked.statement_form_of) result (singles t.now procedure.Send (arguments (map argument_of args))) (messages_first t.now (arguments (map argument_of args)) first) }
+{
+    let mut xs = args.into_vec().into_iter();
+    match xs.next() {
+        None => Ok(Walked {
+            tree: List::new(alloc),
+            first,
+        }),
+        Some(a) => {
+            let channel = type_channel(alloc, t, a, first)?;
+            type_sends(alloc, t, xs, &channel.tree, channel.kind, channel.first)
+        }
+    }
+}
+
+/// A call of `receive`: its channel, and what is received on it.
+fn type_receive(
+    alloc: Global,
+    t: &Tables,
+    args: List<NamedArg>,
+    first: Found,
+) -> Result<Walked<List<Form>>, Halt>
+    ensures { Walks (map checked.statement_form_of) result (singles t.now procedure.Receive (arguments (map argument_of args))) (messages_first t.now (arguments (map argument_of args)) first) }
+{
+    let mut xs = args.into_vec().into_iter();
+    match xs.next() {
+        None => Ok(Walked {
+            tree: List::new(alloc),
+            first,
+        }),
+        Some(a) => {
+            let channel = type_channel(alloc, t, a, first)?;
+            type_receives(alloc, t, xs, &channel.tree, channel.kind, channel.first)
+        }
+    }
+}
+
+/// One more statement, behind the others.
+fn behind(forms: List<Form>, last: Form) -> Result<List<Form>, Halt>
+    ensures { AnswersAs (map checked.statement_form_of) result (Ok (map checked.statement_form_of forms ++ checked.statement_form_of last ∷ [])) }
+{
+    let mut forms = forms;
+    forms.push(last)?;
+    Ok(forms)
+}
+
+/// The single statements that a call of a standard procedure stands for.
+fn type_singles(
+    alloc: Global,
+    t: &Tables,
+    p: StandardProcedure,
+    args: List<NamedArg>,
+    first: Found,
+) -> Result<Walked<List<Form>>, Halt>
+    ensures { Walks (map checked.statement_form_of) result (singles t.now p (arguments (map argument_of args))) (perform_first t.now p (arguments (map argument_of args)) first) }
+{
+    match p {
+        StandardProcedure::Read => type_reads(alloc, t, args, first),
+        StandardProcedure::Readln => {
+            let forms = type_reads(alloc, t, args, first)?;
+            Ok(Walked {
+                tree: behind(forms.tree, Form::ReadLine)?,
+                first: forms.first,
+            })
+        }
+        StandardProcedure::Write => type_writes(alloc, t, args, first),
+        StandardProcedure::Writeln => {
+            let forms = type_writes(alloc, t, args, first)?;
+            Ok(Walked {
+                tree: behind(forms.tree, Form::WriteLine)?,
+                first: forms.first,
+            })
+        }
+        StandardProcedure::Open => type_opens(alloc, t, args, first),
+        StandardProcedure::Send => type_send(alloc, t, args, first),
+        StandardProcedure::Receive => type_receive(alloc, t, args, first),
+    }
+}
+
+/// Statements at one place, numbered from a number on.
+fn numbered(alloc: Global, n: u32, at: Place, forms: List<Form>) -> Result<List<Stmt>, Halt>
+    ensures { AnswersAs (map checked.statement_of) result (Ok (numbered n at (map checked.statement_form_of forms))) }
+{
+    let mut out = Vec::new(alloc);
+    let mut n = n;
+    for form in forms.into_vec() {
+        out.push(Stmt {
+            number: n,
+            at,
+            form,
+        })?;
+        n = sum(n, 1)?;
+    }
+    Ok(List::of(out))
+}
+
+/// Statements at one place as one: a single one is itself, several stand in a sequence.
+fn expanded(alloc: Global, n: u32, at: Place, forms: List<Form>) -> Result<Form, Halt>
+    ensures { AnswersAs checked.statement_form_of result (Ok (expanded n at (map checked.statement_form_of forms))) }
+{
+    let mut forms = forms.into_vec();
+    match forms.pop() {
+        None => Ok(Form::Sequence(List::new(alloc))),
+        Some(last) => {
+            if forms.is_empty() {
+                Ok(last)
+            } else {
+                forms.push(last)?;
+                let ss = numbered(alloc, n, at, List::of(forms))?;
+                Ok(Form::Sequence(ss))
+            }
+        }
+    }
+}
+
+/// A call of a standard procedure. Its single statements have the next numbers, unless there is one alone.
+pub fn type_perform(
+    alloc: Global,
+    t: &mut Tables,
+    p: StandardProcedure,
+    args: List<NamedArg>,
+    at: Place,
+    first: Found,
+) -> Result<Walked<Form>, Halt>
+    ensures tree { Walks checked.statement_form_of result (checked_statement_form t.old at (Perform p (arguments (map argument_of args)))) (statement_form_first t.old (Perform p (arguments (map argument_of args))) first) }
+    ensures after { OnOk result (t.new ≡ form_after t.old (Perform p (arguments (map argument_of args)))) }
+{
+    let count = parts_count(p, args.items())?;
+    let forms = type_singles(alloc, t, p, args, first)?;
+    let tree = expanded(alloc, t.next, at, forms.tree)?;
+    t.count(count)?;
+    Ok(Walked {
+        tree,
+        first: forms.first,
+    })
+}

@@ -1,0 +1,179 @@
+//! The types of a program.
+
+ghost use Rattle.std.specs.Prelude.{◌≡◌, ◌++◌, ◌∷◌, [], drop, map, None, Ok, OnOk};
+ghost use Rattle.sp_tree.specs.Cells.{sizes};
+ghost use Rattle.sp_tree.specs.Found.{Answers, AnswersAs};
+ghost use Rattle.sp_tree.specs.NamedOf as plain;
+ghost use Rattle.sp_types.specs.CheckedOf as checked;
+ghost use Rattle.sp_types.specs.CheckedTree.{checked_variables};
+ghost use Rattle.sp_types.specs.DeclarationFirsts.{constants_first, kinds_first};
+ghost use Rattle.sp_types.specs.Entered.{tabled, typed_blocks, typed_kinds};
+ghost use Rattle.sp_types.specs.TypeFirst.{typed};
+
+use crate::blocks::type_blocks;
+use crate::bodies::bodies;
+use crate::constants::constants_of;
+use crate::counting::sum;
+use crate::declarations::{check_cells, check_constants, check_kinds, places_of};
+use crate::kinds::kinds_of;
+use crate::numbers::numbers_of;
+use crate::sizes::sizes_of;
+use crate::tables::{Ordinal, Tables};
+use crate::tabling::tables_of;
+use crate::values::or_zero;
+use sp_base::{Halt, List, Place};
+use sp_tree::{Checked, Found, KindOf, Named, NamedBlock, NamedConstant, NamedKind, Variable};
+use std::alloc::Global;
+
+/// One variable more behind others, with its type.
+fn push_variable(
+    out: &mut Vec<Variable>,
+    kinds: &[Option<u32>],
+    i: u32,
+    x: Variable,
+) -> Result<(), Halt>
+    ensures memory { Answers result (Ok tt) }
+    ensures after { OnOk result (out.new.items ≡ out.old.items ++ checked_variables (drop i kinds.now) (x ∷ [])) }
+{
+    match kinds.get(i as usize) {
+        None => Ok(()),
+        Some(k) => {
+            let Variable {
+                name,
+                kind: _,
+                block,
+                role,
+                at,
+            } = x;
+            out.push(Variable {
+                name,
+                kind: or_zero(*k),
+                block,
+                role,
+                at,
+            })?;
+            Ok(())
+        }
+    }
+}
+
+/// The variables with their types.
+fn typed_variables(
+    alloc: Global,
+    kinds: &[Option<u32>],
+    variables: List<Variable>,
+) -> Result<List<Variable>, Halt>
+    ensures { Answers result (Ok (checked_variables kinds.now variables)) }
+{
+    let mut out = Vec::new(alloc);
+    let mut i = 0;
+    for x in variables.into_vec() {
+        push_variable(&mut out, kinds, i, x)?;
+        i = sum(i, 1)?;
+    }
+    Ok(List::of(out))
+}
+
+/// The rules at constants and at the bounds of types.
+fn check_declared(
+    known: &[Option<Ordinal>],
+    constants: &[NamedConstant],
+    kinds: &[NamedKind],
+) -> Result<Found, Halt>
+    ensures { Answers result (Ok (kinds_first known.now kinds.now (constants_first known.now constants.now None))) }
+{
+    let first = check_constants(known, constants, None)?;
+    check_kinds(known, kinds, first)
+}
+
+/// The blocks, where the tables are known.
+#[tactic(auto, using(crate::proofs::KeptKinds::blocks_kinds))]
+fn type_tabled(
+    alloc: Global,
+    t: Tables,
+    numbers: &[u32],
+    cells: &[u32],
+    variables: List<Variable>,
+    blocks: List<NamedBlock>,
+    first: Found,
+) -> Result<Checked, Halt>
+    ensures { AnswersAs checked.program_of result (typed_blocks numbers.now cells.now t variables (map plain.block_of blocks) first) }
+{
+    let mut t = t;
+    let bodies = bodies(alloc, blocks.items())?;
+    let w = type_blocks(
+        blocks,
+        alloc,
+        &mut t,
+        numbers,
+        cells,
+        variables.items(),
+        bodies.items(),
+        first,
+    )?;
+    match w.first {
+        Some(r) => Err(Halt::Refused(r)),
+        None => {
+            let variables = typed_variables(alloc, t.variables.items(), variables)?;
+            Ok(Checked {
+                kinds: t.kinds,
+                variables,
+                blocks: w.tree,
+            })
+        }
+    }
+}
+
+/// The types and the blocks, where the constants are known.
+fn type_kinds(
+    alloc: Global,
+    numbers: &[u32],
+    known: List<Option<Ordinal>>,
+    kinds: List<KindOf>,
+    places: &[Place],
+    variables: List<Variable>,
+    blocks: List<NamedBlock>,
+    first: Found,
+) -> Result<Checked, Halt>
+    ensures { AnswersAs checked.program_of result (typed_kinds numbers.now (sizes kinds) places.now (tabled numbers.now known kinds variables (map plain.block_of blocks)) variables (map plain.block_of blocks) first) }
+{
+    let cells = sizes_of(alloc, kinds.items())?;
+    let first = check_cells(places, cells.items(), first);
+    let t = tables_of(
+        alloc,
+        numbers,
+        known,
+        kinds,
+        variables.items(),
+        blocks.items(),
+    )?;
+    type_tabled(alloc, t, numbers, cells.items(), variables, blocks, first)
+}
+
+/// The checked tree, or the first rule among Y1 to Y14, L3 and L6 that is broken: of the earliest place, and of several
+/// at one place the one that stands first in the table of rules. The tree with numbers for names is consumed.
+pub fn type_check(alloc: Global, named: Named) -> Result<Checked, Halt>
+    ensures { AnswersAs checked.program_of result (typed (plain.program_of named)) }
+{
+    let Named {
+        constants,
+        kinds,
+        variables,
+        blocks,
+    } = named;
+    let numbers = numbers_of(alloc, kinds.items())?;
+    let known = constants_of(alloc, numbers.items(), constants.items())?;
+    let first = check_declared(known.items(), constants.items(), kinds.items())?;
+    let places = places_of(alloc, kinds.items())?;
+    let kinds = kinds_of(alloc, numbers.items(), known.items(), kinds)?;
+    type_kinds(
+        alloc,
+        numbers.items(),
+        known,
+        kinds,
+        places.items(),
+        variables,
+        blocks,
+        first,
+    )
+}

@@ -1,0 +1,143 @@
+//! The cells of types and frames, counted up to just above the limit.
+
+ghost use Rattle.std.specs.Prelude.{◌≡◌, ◌+◌, ◌*◌, ◌∷◌, ℕ, List, [], map, sum, slice_get, Ok};
+ghost use Rattle.sp_tree.specs.Found.{Answers};
+ghost use Rattle.sp_tree.specs.Cells.{count, first_or, cells_by};
+ghost use Rattle.sp_types.specs.Tables.{type_number};
+ghost use Rattle.sp_types.specs.TypeRules.{frame_cells};
+ghost use Rattle.sp_types.specs.Capped.{capped, capped_by, capped_sizes};
+
+use crate::numbers::type_number;
+use sp_base::{Halt, List, Text};
+use sp_tree::{KindOf, Role, Variable};
+use std::alloc::Global;
+
+/// One more than a type or a frame may have.
+const TOO_MANY: u32 = 1_048_577;
+
+fn capped(n: u64) -> u32
+    ensures { result ≡ capped n }
+{
+    if n < TOO_MANY as u64 {
+        n as u32
+    } else {
+        TOO_MANY
+    }
+}
+
+/// How many elements an array has.
+fn count(low: i64, high: i64) -> u32
+    ensures { result ≡ capped (count low high) }
+{
+    let n = (high as i128 - low as i128 + 1).unsigned_abs();
+    if n < TOO_MANY as u128 {
+        n as u32
+    } else {
+        TOO_MANY
+    }
+}
+
+fn product(count: u32, cells: u32) -> u32
+    ensures { result ≡ capped (count * cells) }
+{
+    capped(count as u64 * cells as u64)
+}
+
+fn total(a: u32, b: u32) -> u32
+    ensures { result ≡ capped (a + b) }
+{
+    capped(a as u64 + b as u64)
+}
+
+/// The cells of a type, 0 where it is none.
+fn cells_at(sizes: &[u32], k: u32) -> u32
+    ensures { result ≡ first_or 0 (slice_get sizes.now k) }
+{
+    match sizes.get(k as usize) {
+        None => 0,
+        Some(n) => *n,
+    }
+}
+
+#[tactic(auto, using(crate::proofs::Capping::counted))]
+fn array_cells(low: i64, high: i64, element: u32) -> u32
+    ensures { result ≡ capped (count low high * element) }
+{
+    product(count(low, high), element)
+}
+
+#[tactic(auto, using(crate::proofs::Capping::summed))]
+fn fields_cells(known: &[u32], fields: &[(Text, u32)]) -> u32
+    ensures { result ≡ capped (sum (map (λ (f : List ℕ × ℕ). first_or 0 (slice_get known.now f.1)) fields.now)) }
+{
+    let mut cells = 0;
+    for f in fields {
+        cells = total(cells, cells_at(known, f.1));
+    }
+    cells
+}
+
+/// A type's cells, where those of the types before it are known.
+fn size_by(known: &[u32], k: &KindOf) -> u32
+    ensures { result ≡ capped_by known.now k.now }
+{
+    match k {
+        KindOf::Integer => 1,
+        KindOf::Boolean => 1,
+        KindOf::Char => 1,
+        KindOf::Enumeration(_) => 1,
+        KindOf::Array {
+            low,
+            high,
+            index: _,
+            element,
+        } => array_cells(*low, *high, cells_at(known, *element)),
+        KindOf::Fields(fields) => fields_cells(known, fields.items()),
+        KindOf::Channel(_) => 1,
+    }
+}
+
+/// The cells of each type.
+pub fn sizes_of(alloc: Global, kinds: &[KindOf]) -> Result<List<u32>, Halt>
+    ensures { Answers result (Ok (capped_sizes kinds.now)) }
+{
+    let mut known = Vec::new(alloc);
+    for k in kinds {
+        let n = size_by(known.as_slice(), k);
+        known.push(n)?;
+    }
+    Ok(List::of(known))
+}
+
+/// A variable's cells in its frame: the consoles and the index of a forall have none, and a variable parameter has one.
+fn cells_by(sizes: &[u32], role: Role, k: u32) -> u32
+    ensures { result ≡ cells_by sizes.now role k }
+{
+    match role {
+        Role::Console | Role::Index => 0,
+        Role::Local | Role::Value | Role::Answer => cells_at(sizes, k),
+        Role::Reference => 1,
+    }
+}
+
+fn cells_in(numbers: &[u32], sizes: &[u32], block: u32, x: &Variable) -> u32
+    ensures { result ≡ frame_cells numbers.now sizes.now block (x.now ∷ []) }
+{
+    if x.block == block {
+        cells_by(sizes, x.role, type_number(numbers, x.kind))
+    } else {
+        0
+    }
+}
+
+/// The cells of one block's variables.
+#[tactic(auto, using(crate::proofs::Capping::summed))]
+pub fn frame_cells(numbers: &[u32], sizes: &[u32], block: u32, variables: &[Variable]) -> u32
+    ensures { result ≡ capped (frame_cells numbers.now sizes.now block variables.now) }
+{
+    let mut cells = 0;
+    for x in variables {
+        cells = total(cells, cells_in(numbers, sizes, block, x));
+    }
+    cells
+}
