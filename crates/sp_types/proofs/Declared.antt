@@ -36,7 +36,7 @@ cells_on at places [] first = back_of (none_left places first)
 cells_on at places (n ∷ cells) first = refl
 
 -- behind one index more
-drop_head : {A : Type 0} (xs : List A) (i : ℕ) (d : A) → i < length xs → drop i xs ≡ get_or xs i d ∷ drop (i + 1) xs
+pub drop_head : {A : Type 0} (xs : List A) (i : ℕ) (d : A) → i < length xs → drop i xs ≡ get_or xs i d ∷ drop (i + 1) xs
 drop_head xs i d lt = rw add-one (drop-cons xs i d lt)
 
 pub cells_step : (places : List Place) (cells : List ℕ) (i : ℕ) (d : Place) (given found all : Found) →

@@ -11,3 +11,4 @@ pub mod Declared
 pub mod KeptKinds
 pub mod Tops
 pub mod Seeing
+pub mod Noting

@@ -1,5 +1,6 @@
 pub mod PlainChecked
 pub mod CheckedOf
+pub mod Entries
 pub mod Tables
 pub mod TypeRules
 pub mod Kinds

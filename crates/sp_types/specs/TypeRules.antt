@@ -21,6 +21,7 @@ use Rattle.sp_tree.specs.declared.named.NamedConst.{NamedConst}
 use Rattle.sp_tree.specs.Found.{Found, breaks, breaks_if, lesser}
 use Rattle.sp_tree.specs.Cells.{first_or, cells_by}
 use Rattle.sp_types.specs.declared.tables.Ordinal.{Ordinal}
+use Rattle.sp_types.specs.Entries.{field_from}
 use Rattle.sp_types.specs.Tables.{Env, kind_at, value_by, has_wrong_sign, is_long, are_wrong}
 
 -- the three types that every program has
@@ -121,11 +122,6 @@ index_kind_rule at index_at i (Some k) = index_of_rule at index_at i k
 abbrev pub index_rule : Env → Place → Option ℕ → Place → Option ℕ → Found
 index_rule env at None index_at i = None
 index_rule env at (Some k) index_at i = index_kind_rule at index_at i (kind_at env k)
-
--- a field's number and type
-abbrev pub field_from : ℕ → List ℕ → List (List ℕ × ℕ) → Option (ℕ × ℕ)
-field_from n name [] = None
-field_from n name (f ∷ fs) = if bytes_eq name f.0 then Some (n, f.1) else field_from (n + 1) name fs
 
 abbrev pub field_in : List ℕ → Option KindOf → Option (ℕ × ℕ)
 field_in name (Some (kind.Fields fs)) = field_from 0 name fs

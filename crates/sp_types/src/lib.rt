@@ -10,6 +10,7 @@ mod constants;
 mod copies;
 mod counting;
 mod declarations;
+mod entries;
 mod expressions;
 mod kinds;
 pub mod law;

@@ -19,7 +19,7 @@ use crate::kinds::kinds_of;
 use crate::numbers::numbers_of;
 use crate::sizes::sizes_of;
 use crate::tables::{Ordinal, Tables};
-use crate::tabling::tables_of;
+use crate::tabling::{kinds_in, tables_of};
 use crate::values::or_zero;
 use sp_base::{Halt, List, Place};
 use sp_tree::{Checked, Found, KindOf, Named, NamedBlock, NamedConstant, NamedKind, Variable};
@@ -115,8 +115,9 @@ fn type_tabled(
         Some(r) => Err(Halt::Refused(r)),
         None => {
             let variables = typed_variables(alloc, t.variables.items(), variables)?;
+            let kinds = kinds_in(alloc, t.kinds)?;
             Ok(Checked {
-                kinds: t.kinds,
+                kinds,
                 variables,
                 blocks: w.tree,
             })

@@ -1,11 +1,11 @@
 //! The rules of types at one node, by the types of its parts.
 
-ghost use Rattle.std.specs.Prelude.{◌≡◌, nat_eq};
-ghost use Rattle.std.specs.List.{list_any};
+ghost use Rattle.std.specs.Prelude.{◌≡◌};
 ghost use Rattle.std.specs.Option.{option_copied};
 ghost use Rattle.sp_tree.specs.Found.{breaks, breaks_if};
-ghost use Rattle.sp_types.specs.TypeRules.{is_ordinal, is_channel, ordinal, channel, differ, unary_takes, binary_takes, binary_gives, unary_rule, left_rule, right_rule, index_of_rule, index_kind_rule, index_rule, field_from, field_in, field_found, field_rule, condition_rule, assign_rule, value_rule, reference_rule, actual_rule, standard_takes, standard_rule, readable, writable, read_rule, write_rule, width_rule, channel_rule, messages_in, messages, message_in_rule, message_rule, range_rule, limit_rule, selector_rule, choice_rule, bounds_rule, answer_rule, frame_rule, text_rule, message_in_rule, messages_in, message_rule};
-ghost use Rattle.sp_types.specs.Kinds.{element_of, element_in, element, field_kind, field, if_ordinal, standard_gives};
+ghost use Rattle.sp_types.specs.Tables.{kind_at};
+ghost use Rattle.sp_types.specs.TypeRules.{is_ordinal, is_channel, ordinal, channel, differ, unary_takes, binary_takes, binary_gives, unary_rule, left_rule, right_rule, index_kind_rule, index_rule, condition_rule, assign_rule, value_rule, reference_rule, actual_rule, standard_takes, standard_rule, read_rule, write_rule, width_rule, channel_rule, messages_in, message_in_rule, message_rule, range_rule, limit_rule, selector_rule, choice_rule, answer_rule, text_rule};
+ghost use Rattle.sp_types.specs.Kinds.{element_in, element, if_ordinal, standard_gives};
 
 use crate::tables::Tables;
 use sp_base::{Place, Rule, Text};
@@ -330,33 +330,15 @@ pub fn channel_rule(t: &Tables, at: Place, k: Option<u32>) -> Found
     }
 }
 
-/// Whether a type is among these.
-fn among(k: u32, kinds: &[u32]) -> bool
-    ensures { result ≡ list_any (nat_eq k) kinds.now }
+fn message_in_rule(t: &Tables, at: Place, channel: u32, k: Option<u32>) -> Found
+    ensures { result ≡ message_in_rule at (messages_in (kind_at t.now channel)) k }
 {
-    for j in kinds {
-        if k == *j {
-            return true;
-        }
-    }
-    false
-}
-
-fn message_kind_rule(at: Place, channel: Option<&KindOf>, k: Option<u32>) -> Found
-    ensures { result ≡ message_in_rule at (messages_in (option_copied channel.entry)) k }
-{
-    match channel {
+    match k {
         None => None,
-        Some(KindOf::Channel(kinds)) => match k {
+        Some(k) => match t.takes(channel, k) {
             None => None,
-            Some(k) => breaks_if(Rule::Y9, at, !among(k, kinds.items())),
+            Some(takes) => breaks_if(Rule::Y9, at, !takes),
         },
-        Some(KindOf::Integer) => None,
-        Some(KindOf::Boolean) => None,
-        Some(KindOf::Char) => None,
-        Some(KindOf::Enumeration(_)) => None,
-        Some(KindOf::Array { .. }) => None,
-        Some(KindOf::Fields(_)) => None,
     }
 }
 
@@ -366,7 +348,7 @@ pub fn message_rule(t: &Tables, at: Place, channel: Option<u32>, k: Option<u32>)
 {
     match channel {
         None => None,
-        Some(c) => message_kind_rule(at, t.kind_at(c), k),
+        Some(c) => message_in_rule(t, at, c, k),
     }
 }
 

@@ -1,12 +1,15 @@
 //! What is known of constants, types, variables and blocks, by their numbers.
 
-ghost use Rattle.std.specs.Prelude.{◌≡◌, slice_get, slice_set, Ok, OnOk};
+ghost use Rattle.std.specs.Prelude.{◌≡◌, nat_eq, slice_get, slice_set, Ok, OnOk};
 ghost use Rattle.sp_tree.specs.Found.{Answers};
-ghost use Rattle.std.specs.Option.{option_copied};
+ghost use Rattle.std.specs.Option.{option_copied, option_map};
+ghost use Rattle.std.specs.List.{list_any};
+ghost use Rattle.sp_types.specs.TypeRules.{field_in, messages_in};
 ghost use Rattle.sp_types.specs.Tables.{indexed, kind_at, variable_kind, entry, constant_kind, formals_of, answer_kind, ordinal_kind};
 ghost use Rattle.sp_types.specs.TypeWalk.{formal_role, formal_kind, counted_by};
 
-use sp_base::{Halt, List};
+use crate::entries::KindEntry;
+use sp_base::{Halt, List, Text};
 use sp_tree::{KindOf, Role};
 use std::mem::replace;
 
@@ -30,7 +33,7 @@ pub struct Signature {
 #[derive(Drop)]
 pub struct Tables {
     pub constants: List<Option<Ordinal>>,
-    pub kinds: List<KindOf>,
+    pub kinds: List<KindEntry>,
     pub variables: List<Option<u32>>,
     pub roles: List<Role>,
     pub blocks: List<Signature>,
@@ -52,7 +55,33 @@ impl Tables {
     pub fn kind_at(&self, k: u32) -> Option<&KindOf>
         ensures { option_copied result ≡ kind_at self.now k }
     {
-        self.kinds.get(k as usize)
+        match self.kinds.get(k as usize) {
+            None => None,
+            Some(entry) => Some(entry.kind()),
+        }
+    }
+
+    /// The number and type of a field of the type with this number.
+    pub fn field(&self, k: u32, name: &Text) -> Option<(usize, u32)>
+        ensures { result ≡ field_in name.now (kind_at self.now k) }
+    {
+        match self.kinds.get(k as usize) {
+            None => None,
+            Some(entry) => entry.field(name),
+        }
+    }
+
+    /// Whether the channel type with this number has a message type; none: it is no channel.
+    pub fn takes(&self, channel: u32, k: u32) -> Option<bool>
+        ensures { result ≡ option_map (list_any (nat_eq k)) (messages_in (kind_at self.now channel)) }
+    {
+        match self.kinds.get(channel as usize) {
+            None => None,
+            Some(entry) => match entry.kind() {
+                KindOf::Channel(_) => Some(entry.takes(k)),
+                _ => None,
+            },
+        }
     }
 
     /// The type of a variable.

@@ -5,6 +5,7 @@ ghost use Rattle.sp_tree.specs.Found.{Answers};
 ghost use Rattle.sp_tree.specs.NamedOf.{block_of};
 ghost use Rattle.sp_types.specs.Tables.{answer_variable, type_of, types_of, roles_of, signatures};
 
+use crate::entries::KindEntry;
 use crate::numbers::type_number;
 use crate::tables::{Ordinal, Signature, Tables};
 use sp_base::{Halt, List};
@@ -68,6 +69,28 @@ fn signatures(alloc: Global, blocks: &[NamedBlock]) -> Result<List<Signature>, H
     Ok(List::of(out))
 }
 
+/// The types, each with what is looked up in it.
+fn entries_of(alloc: Global, kinds: List<KindOf>) -> Result<List<KindEntry>, Halt>
+    ensures { Answers result (Ok kinds) }
+{
+    let mut out = Vec::new(alloc);
+    for k in kinds.into_vec() {
+        out.push(KindEntry::of(alloc, k)?)?;
+    }
+    Ok(List::of(out))
+}
+
+/// The types alone.
+pub fn kinds_in(alloc: Global, entries: List<KindEntry>) -> Result<List<KindOf>, Halt>
+    ensures { Answers result (Ok entries) }
+{
+    let mut out = Vec::new(alloc);
+    for e in entries.into_vec() {
+        out.push(e.into_kind())?;
+    }
+    Ok(List::of(out))
+}
+
 /// What is known before the statements are read.
 pub fn tables_of(
     alloc: Global,
@@ -79,6 +102,7 @@ pub fn tables_of(
 ) -> Result<Tables, Halt>
     ensures { Answers result (Ok (record { constants = constants; kinds = kinds; variables = types_of numbers.now variables.now; roles = roles_of variables.now; blocks = signatures (map block_of blocks.now); next = 0 })) }
 {
+    let kinds = entries_of(alloc, kinds)?;
     let types = types_of(alloc, numbers, variables)?;
     let roles = roles_of(alloc, variables)?;
     let blocks = signatures(alloc, blocks)?;

@@ -1,3 +1,4 @@
+use crate::entries::KindEntry;
 use crate::expressions::type_expression;
 use crate::program::type_check;
 use crate::tables::Tables;
@@ -15,9 +16,9 @@ fn at(column: u32) -> Place {
 
 fn standard_tables(alloc: Global) -> Result<Tables, Fail> {
     let mut kinds = List::new(alloc);
-    kinds.push(KindOf::Integer)?;
-    kinds.push(KindOf::Boolean)?;
-    kinds.push(KindOf::Char)?;
+    for k in [KindOf::Integer, KindOf::Boolean, KindOf::Char] {
+        kinds.push(KindEntry::of(alloc, k)?)?;
+    }
     Ok(Tables {
         constants: List::new(alloc),
         kinds,

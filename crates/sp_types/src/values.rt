@@ -1,16 +1,15 @@
 //! Constants, chars and fields.
 
-ghost use Rattle.std.specs.Prelude.{◌≡◌, pos, drop, Ok, ◌+◌};
-ghost use Rattle.std.specs.Option.{option_copied};
+ghost use Rattle.std.specs.Prelude.{◌≡◌, pos, Ok};
 ghost use Rattle.sp_tree.specs.Found.{Answers};
 ghost use Rattle.sp_types.specs.Tables.{char_of, number_or, kind_at};
-ghost use Rattle.sp_types.specs.TypeRules.{field_from, field_in, field_found, field_rule};
+ghost use Rattle.sp_types.specs.TypeRules.{field_in, field_found, field_rule};
 ghost use Rattle.sp_types.specs.Kinds.{field_kind, field};
 ghost use Rattle.sp_types.specs.CheckedTree.{or_zero, field_number, numbered_field};
 
 use crate::tables::{Ordinal, Tables};
 use sp_base::{Halt, Place, Rule, Text};
-use sp_tree::{Found, KindOf, breaks};
+use sp_tree::{Found, breaks};
 
 /// The char that a text of length 1 is.
 pub fn char_of(t: &Text) -> Option<Ordinal>
@@ -56,41 +55,6 @@ pub fn or_zero(k: Option<u32>) -> u32
     }
 }
 
-/// The number and the type of the first field with this name.
-fn field_from(fields: &[(Text, u32)], name: &Text) -> Option<(usize, u32)>
-    ensures { result ≡ field_from 0 name.now fields.now }
-{
-    let mut n = 0;
-    for f in fields {
-        if *name == f.0 {
-            return Some((n, f.1));
-        }
-        n += 1;
-    }
-    None
-}
-
-fn field_in(name: &Text, k: Option<&KindOf>) -> Option<(usize, u32)>
-    ensures { result ≡ field_in name.now (option_copied k.entry) }
-{
-    match k {
-        None => None,
-        Some(KindOf::Fields(fields)) => field_from(fields.items(), name),
-        Some(KindOf::Integer) => None,
-        Some(KindOf::Boolean) => None,
-        Some(KindOf::Char) => None,
-        Some(KindOf::Enumeration(_)) => None,
-        Some(KindOf::Array { .. }) => None,
-        Some(KindOf::Channel(_)) => None,
-    }
-}
-
-fn field_at(t: &Tables, k: u32, name: &Text) -> Option<(usize, u32)>
-    ensures { result ≡ field_in name.now (kind_at t.now k) }
-{
-    field_in(name, t.kind_at(k))
-}
-
 /// A field's number. One that is no `u32` is answered as want of memory.
 fn field_number(f: Option<(usize, u32)>) -> Result<u32, Halt>
     ensures { Answers result (Ok (field_number f)) }
@@ -113,7 +77,7 @@ pub fn numbered_field(t: &Tables, k: Option<u32>, name: &Text) -> Result<u32, Ha
 {
     match k {
         None => Ok(0),
-        Some(k) => field_number(field_at(t, k, name)),
+        Some(k) => field_number(t.field(k, name)),
     }
 }
 
@@ -132,7 +96,7 @@ pub fn field(t: &Tables, k: Option<u32>, name: &Text) -> Option<u32>
 {
     match k {
         None => None,
-        Some(k) => field_kind(field_at(t, k, name)),
+        Some(k) => field_kind(t.field(k, name)),
     }
 }
 
@@ -151,6 +115,6 @@ pub fn field_rule(t: &Tables, at: Place, k: Option<u32>, name: &Text) -> Found
 {
     match k {
         None => None,
-        Some(k) => field_found(at, field_at(t, k, name)),
+        Some(k) => field_found(at, t.field(k, name)),
     }
 }

@@ -1,0 +1,94 @@
+-- A table of fields by name grows with the fields, and a set of numbers with the numbers.
+use Rattle.std.proofs.Common.{◌≡◌, refl, ap, sym, ◌∙◌, subst, rules, ℕ, ◌+◌, nat_eq, Bool, true, false, cond, ◌||◌, if◌then◌else◌, List, [], ◌∷◌, Option, Some, None, arith}
+use Rattle.std.specs.List.{list_any}
+use Rattle.std.specs.Option.{option_or, is_some}
+use Rattle.std.specs.Str.{bytes_eq}
+use Rattle.std.specs.Ordering.{nat_cmp, is_eq}
+use Rattle.std.specs.Cmp.Lexicographic.{slice_cmp}
+use Rattle.std.specs.Bool.{Decides}
+use Rattle.std.proofs.lemmas.Map.Text.{is_eq-slice_cmp}
+use Rattle.std.proofs.lemmas.Slice.Eq.{bytes_eq-Decides}
+use Rattle.std.proofs.lemmas.Bool.Decides.{nat_tests}
+use Rattle.sp_types.specs.Entries.{Index, under, Notes, IsIndex, IsNumbers, field_from}
+
+is_off : true ≡ false → ⊥
+is_off p = subst IsOn p tt
+  where
+    IsOn : Bool → Type 0
+    IsOn true = Unit {0}
+    IsOn false = ⊥
+
+by_test : (b : Bool) (x : ℕ × ℕ) (rest : Option (ℕ × ℕ)) → option_or (if b then Some x else None) rest ≡ (if b then Some x else rest)
+by_test true x rest = refl
+by_test false x rest = refl
+
+one_field : (found : Option (ℕ × ℕ)) (n : ℕ) (f : List ℕ × ℕ) (rest : List (List ℕ × ℕ)) (name : List ℕ)
+    → option_or (option_or found (if bytes_eq name f.0 then Some (n, f.1) else None)) (field_from (n + 1) name rest) ≡ option_or found (field_from n name (f ∷ rest))
+one_field (Some x) n f rest name = refl
+one_field None n f rest name = by_test (bytes_eq name f.0) (n, f.1) (field_from (n + 1) name rest)
+
+-- a field that is noted is no longer ahead
+pub noted : (old new : Index) (n : ℕ) (f : List ℕ × ℕ) (rest : List (List ℕ × ℕ)) → Notes old new n f → (name : List ℕ)
+    → option_or (under new name) (field_from (n + 1) name rest) ≡ option_or (under old name) (field_from n name (f ∷ rest))
+noted old new n f rest h name = ap (λ u. option_or u (field_from (n + 1) name rest)) (h name) ∙ one_field (under old name) n f rest name
+
+or_none : (u : Option (ℕ × ℕ)) → option_or u None ≡ u
+or_none (Some x) = refl
+or_none None = refl
+
+is_name : (name other : List ℕ) → bytes_eq name other ≡ true → name ≡ other
+is_name name other e = (bytes_eq-Decides name other).0 e
+
+-- a field whose name is there changes nothing
+pub not_noted : (index : Index) (n : ℕ) (f : List ℕ × ℕ) → is_some (under index f.0) ≡ true → Notes index index n f
+not_noted index n f h name = by (under index name) (bytes_eq name f.0) refl refl
+  where
+    by : (u : Option (ℕ × ℕ)) (b : Bool) → under index name ≡ u → bytes_eq name f.0 ≡ b → u ≡ option_or u (if b then Some (n, f.1) else None)
+    by (Some x) b e k = refl
+    by None false e k = refl
+    by None true e k = absurd (is_off (sym h ∙ ap (λ x. is_some (under index x)) (sym (is_name name f.0 k)) ∙ ap is_some e))
+
+swapped : (name other : List ℕ) → bytes_eq name other ≡ bytes_eq other name
+swapped name other = search (rules, bytes_eq-Decides)
+
+-- a field whose name is not there is put there
+pub put : (old new : Index) (n : ℕ) (f : List ℕ × ℕ) → is_some (under old f.0) ≡ false
+    → ((q : List ℕ) → under new q ≡ cond (is_eq (slice_cmp nat_cmp f.0 q)) (Some (n, f.1)) (under old q)) → Notes old new n f
+put old new n f h up name =
+    up name ∙ ap (λ b. cond b (Some (n, f.1)) (under old name)) (is_eq-slice_cmp f.0 name ∙ swapped f.0 name)
+    ∙ by (under old name) (bytes_eq name f.0) refl refl
+  where
+    by : (u : Option (ℕ × ℕ)) (b : Bool) → under old name ≡ u → bytes_eq name f.0 ≡ b → cond b (Some (n, f.1)) u ≡ option_or u (if b then Some (n, f.1) else None)
+    by None true e k = refl
+    by None false e k = refl
+    by (Some x) false e k = refl
+    by (Some x) true e k = absurd (is_off (sym (ap is_some e) ∙ ap (λ x. is_some (under old x)) (is_name name f.0 k) ∙ h))
+
+abbrev pub has : List ℕ → ℕ → Bool
+has numbers k = list_any (λ j. is_eq (nat_cmp k j)) numbers
+
+or_test : (a b c : Bool) → cond a true b || c ≡ b || (a || c)
+or_test true true c = refl
+or_test true false c = refl
+or_test false b c = refl
+
+same_number : (j k : ℕ) → is_eq (nat_cmp j k) ≡ nat_eq k j
+same_number j k = grind (arith, nat_tests)
+
+-- a number that is put in the set is no longer ahead
+pub counted : (old new : List ℕ) (j : ℕ) (rest : List ℕ) → ((k : ℕ) → has new k ≡ cond (is_eq (nat_cmp j k)) true (has old k)) → (k : ℕ)
+    → has new k || list_any (nat_eq k) rest ≡ has old k || list_any (nat_eq k) (j ∷ rest)
+counted old new j rest h k =
+    ap (λ b. b || list_any (nat_eq k) rest) (h k ∙ ap (λ b. cond b true (has old k)) (same_number j k))
+    ∙ or_test (nat_eq k j) (has old k) (list_any (nat_eq k) rest)
+
+or_false : (b : Bool) → b || false ≡ b
+or_false true = refl
+or_false false = refl
+
+-- at the end nothing is ahead
+pub index_done : (index : Index) (fields : List (List ℕ × ℕ)) → ((name : List ℕ) → option_or (under index name) None ≡ field_from 0 name fields) → IsIndex index fields
+index_done index fields h name = sym (or_none (under index name)) ∙ h name
+
+pub numbers_done : (numbers kinds : List ℕ) → ((k : ℕ) → has numbers k || false ≡ list_any (nat_eq k) kinds) → IsNumbers numbers kinds
+numbers_done numbers kinds h k = sym (or_false (has numbers k)) ∙ h k
