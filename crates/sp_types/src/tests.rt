@@ -4,8 +4,9 @@ use crate::program::type_check;
 use crate::tables::Tables;
 use sp_base::{Boxed, Halt, List, Place, Refusal, Rule, Text};
 use sp_tree::{
-    BinaryOp, Form, KindOf, Named, NamedArg, NamedBlock, NamedConstant, NamedExpr, NamedExprForm,
-    NamedForm, NamedKind, NamedKindForm, NamedStmt, NamedVar, Role, StandardProcedure, Variable,
+    BinaryOp, Checked, Form, KindOf, Named, NamedArg, NamedBlock, NamedConstant, NamedExpr,
+    NamedExprForm, NamedForm, NamedKind, NamedKindForm, NamedStmt, NamedVar, Role,
+    StandardProcedure, Variable,
 };
 use std::alloc::Global;
 use std::test::Fail;
@@ -74,47 +75,57 @@ fn variable(alloc: Global, name: u8, kind: u32, role: Role) -> Result<Variable, 
     })
 }
 
-/// A program with one variable, an integer with the number 2.
-fn program(alloc: Global, body: NamedStmt) -> Result<Named, Fail> {
-    let mut constants = List::new(alloc);
-    constants.push(NamedConstant::Enumerated {
-        kind: 1,
-        ordinal: 0,
-    })?;
-    constants.push(NamedConstant::Enumerated {
-        kind: 1,
-        ordinal: 1,
-    })?;
-    let mut kinds = List::new(alloc);
-    kinds.push(NamedKind {
-        at: at(1),
-        form: NamedKindForm::Integer,
-    })?;
-    kinds.push(NamedKind {
-        at: at(1),
-        form: NamedKindForm::Boolean,
-    })?;
-    kinds.push(NamedKind {
-        at: at(1),
-        form: NamedKindForm::Char,
-    })?;
-    let mut variables = List::new(alloc);
-    variables.push(variable(alloc, b'i', 2, Role::Console)?)?;
-    variables.push(variable(alloc, b'o', 2, Role::Console)?)?;
-    variables.push(variable(alloc, b'x', 0, Role::Local)?)?;
-    let mut blocks = List::new(alloc);
-    blocks.push(NamedBlock {
+fn constants(alloc: Global) -> Result<List<NamedConstant>, Fail> {
+    let mut out = List::new(alloc);
+    for ordinal in [0, 1] {
+        out.push(NamedConstant::Enumerated { kind: 1, ordinal })?;
+    }
+    Ok(out)
+}
+
+fn kinds(alloc: Global) -> Result<List<NamedKind>, Fail> {
+    let mut out = List::new(alloc);
+    for form in [
+        NamedKindForm::Integer,
+        NamedKindForm::Boolean,
+        NamedKindForm::Char,
+    ] {
+        out.push(NamedKind { at: at(1), form })?;
+    }
+    Ok(out)
+}
+
+fn variables(alloc: Global) -> Result<List<Variable>, Fail> {
+    let mut out = List::new(alloc);
+    for (name, kind, role) in [
+        (b'i', 2, Role::Console),
+        (b'o', 2, Role::Console),
+        (b'x', 0, Role::Local),
+    ] {
+        out.push(variable(alloc, name, kind, role)?)?;
+    }
+    Ok(out)
+}
+
+fn block(alloc: Global, body: NamedStmt) -> Result<NamedBlock, Fail> {
+    Ok(NamedBlock {
         name: named(alloc, b'p')?,
         parent: None,
         formals: List::new(alloc),
         answer: None,
         body,
         at: at(9),
-    })?;
+    })
+}
+
+/// A program with one variable, an integer with the number 2.
+fn program(alloc: Global, body: NamedStmt) -> Result<Named, Fail> {
+    let mut blocks = List::new(alloc);
+    blocks.push(block(alloc, body)?)?;
     Ok(Named {
-        constants,
-        kinds,
-        variables,
+        constants: constants(alloc)?,
+        kinds: kinds(alloc)?,
+        variables: variables(alloc)?,
         blocks,
     })
 }
@@ -134,24 +145,33 @@ fn quoted(alloc: Global, column: u32) -> Result<NamedExpr, Fail> {
     })
 }
 
-#[test]
-fn statements_are_numbered_and_a_call_with_two_arguments_is_two(
-    rt: HostRuntime,
-) -> Result<(), Fail> {
-    let alloc = rt.alloc();
+// x and 'a'.
+fn arguments(alloc: Global) -> Result<List<NamedArg>, Fail> {
     let mut args = List::new(alloc);
     let value = NamedExpr {
         at: at(10),
         form: NamedExprForm::Read(x(alloc, 10)),
     };
     args.push(NamedArg { value, width: None })?;
-    args.push(NamedArg {
-        value: quoted(alloc, 12)?,
-        width: None,
-    })?;
+    let value = quoted(alloc, 12)?;
+    args.push(NamedArg { value, width: None })?;
+    Ok(args)
+}
+
+// The phase, without its promise: what it answers is for the run of a test to say.
+fn answer(alloc: Global, named: Named) -> Result<Checked, Halt> {
+    type_check(alloc, named)
+}
+
+#[test]
+fn statements_are_numbered_and_a_call_with_two_arguments_is_two(
+    rt: HostRuntime,
+) -> Result<(), Fail> {
+    let alloc = rt.alloc();
+    let args = arguments(alloc)?;
     let form = NamedForm::Standard(StandardProcedure::Write, args);
     let program = program(alloc, NamedStmt { at: at(3), form })?;
-    let checked = type_check(alloc, program)?;
+    let checked = answer(alloc, program)?;
     assert_eq!(rt; checked.kinds.len(), 3);
     assert_eq!(rt; checked.variables.len(), 3);
     for block in checked.blocks.items() {
@@ -178,7 +198,7 @@ fn a_char_is_not_assigned_to_an_integer(rt: HostRuntime) -> Result<(), Fail> {
         rule: Rule::Y5,
         at: at(8),
     };
-    match type_check(alloc, program) {
+    match answer(alloc, program) {
         Ok(_) => assert!(rt; false),
         Err(Halt::Memory) => assert!(rt; false),
         Err(Halt::Refused(r)) => assert_eq!(rt; r, refusal),
