@@ -1,18 +1,16 @@
 -- What scanner and parser answer, as one answer about the text.
 use Rattle.std.proofs.Common.{◌≡◌, ℕ, List, Result, Ok, Err, inl, inr, sym as back_of, ap, ◌∙◌, subst}
-use Rattle.std.specs.Result.{IfOk}
 use Rattle.sp_base.specs.declared.halt.Halt.{Halt}
 use Rattle.sp_base.specs.declared.halt.Halt.TheVariants as halt
 use Rattle.sp_base.specs.declared.halt.Refusal.{Refusal}
 use Rattle.sp_tree.specs.declared.token.Token.{Token}
 use Rattle.sp_tree.specs.declared.syntax.Syntax.{Syntax}
-use Rattle.sp_tree.specs.PlainSyntax.{Program}
 use Rattle.sp_tree.specs.SyntaxOf.{program_of}
 use Rattle.sp_tree.specs.Breaches.{IsTree, IsFirstBroken}
 use Rattle.sp_tree.specs.Scans.{IsTokens}
 use Rattle.sp_scan.specs.Finds.{Scanned}
 use Rattle.sp_parse.specs.Parses.{Parsed}
-use Rattle.sp_front.specs.Texts.{KeepsRules, Reads}
+use Rattle.sp_front.specs.Texts.{Reads}
 
 scan_fails : (text : List ℕ) (e : Halt) → Scanned text (Err e) → Reads text (Err e)
 scan_fails text halt.Memory h = tt
@@ -25,11 +23,3 @@ pub by_tokens : (text : List ℕ) (ts : List Token) → IsTokens text ts → (re
 by_tokens text ts h (Ok tree) x = record { tokens = ts; are_tokens = h; spells = x.spells; kept = x.kept }
 by_tokens text ts h (Err halt.Memory) x = tt
 by_tokens text ts h (Err (halt.Refused r)) x = inr (ts, h, x)
-
--- no text has both a tree and a broken rule
-abbrev pub NotBoth : Type 0
-NotBoth = (text : List ℕ) (p : Program) (r : Refusal) → IsTree text p → IsFirstBroken text r → ⊥
-
-pub keeps : NotBoth → (text : List ℕ) (result : Result Syntax Halt) → Reads text result → IfOk result (λ tree. KeepsRules text)
-keeps one text (Ok tree) h = λ r b. one text (program_of tree) r h b
-keeps one text (Err e) h = tt

@@ -11,7 +11,3 @@ abbrev pub Reads : List ℕ → Result Syntax Halt → Type 0
 Reads text (Ok tree) = IsTree text (program_of tree)
 Reads text (Err (halt.Refused r)) = IsFirstBroken text r
 Reads text (Err halt.Memory) = Unit {0}
-
--- the text breaks no rule of its characters and its grammar
-abbrev pub KeepsRules : List ℕ → Type 0
-KeepsRules text = (r : Refusal) → IsFirstBroken text r → ⊥

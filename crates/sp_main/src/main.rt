@@ -12,13 +12,14 @@ use sp_report::{Census, ProcessTree, Timeline, Waiting, Watcher};
 use std::alloc::Global;
 use std::io::ErrorKind;
 use std::process::ExitCode;
+use std::thread::Threads;
 use std::{env, io};
 use superpascal::superpascal;
 
 /// Runs the words behind the program's name, and ends with the status of the call.
 fn main(rt: HostRuntime) -> ExitCode {
     let mut notes = StreamSink::new(rt.stderr());
-    match run(&rt, &mut notes) {
+    match run(&rt, &rt, &mut notes) {
         Ok(status) => ExitCode::from(status),
         Err(error) => {
             // Words are text, so others are refused.
@@ -36,7 +37,7 @@ fn main(rt: HostRuntime) -> ExitCode {
 }
 
 // Makes the watchers, and makes the call over the files and streams of the system.
-fn run<N: Sink>(rt: &HostRuntime, notes: &mut N) -> io::Result<u8> {
+fn run<N: Sink>(rt: &HostRuntime, threads: &impl Threads, notes: &mut N) -> io::Result<u8> {
     let words = words(rt)?;
     let alloc = rt.alloc();
     let timeline = Box::new(alloc, Timeline::new(alloc))?;
@@ -47,6 +48,7 @@ fn run<N: Sink>(rt: &HostRuntime, notes: &mut N) -> io::Result<u8> {
     let mut input = StreamSource::new(rt.stdin());
     let mut output = StreamSink::new(rt.stdout());
     watched(
+        threads,
         alloc,
         words.as_slice(),
         &mut library,
@@ -59,6 +61,7 @@ fn run<N: Sink>(rt: &HostRuntime, notes: &mut N) -> io::Result<u8> {
 
 // The call with these watchers in their order, and its status.
 fn watched<L: Library, I: Source, O: Sink, N: Sink>(
+    threads: &impl Threads,
     alloc: Global,
     words: &[String],
     library: &mut L,
@@ -80,7 +83,9 @@ fn watched<L: Library, I: Source, O: Sink, N: Sink>(
 {
     let (timeline, census, tree, waiting) = watchers;
     let watchers = vec![in alloc; timeline, census, tree, waiting]?;
-    let outcome = superpascal(alloc, words, library, input, output, notes, watchers);
+    let outcome = superpascal(
+        threads, alloc, words, library, input, output, notes, watchers,
+    );
     Ok(outcome.status)
 }
 

@@ -1,6 +1,6 @@
 -- What follows from the cause of an answer.
 use Rattle.std.proofs.Common.{◌≡◌, ◌≢◌, ◌⊎◌, inl, inr, ℕ, ◌<◌, ◌≤◌, List, [], length, Option, Some, None, true, false, Ok, refl, sym, ◌∙◌, ap, subst, arith}
-use Rattle.std.specs.Prelude.{IfSome, ◌↔◌}
+use Rattle.std.specs.Prelude.{IfSome}
 use Rattle.sp_base.specs.declared.fault.Fault.{Fault}
 use Rattle.sp_base.specs.declared.halt.Refusal.{Refusal}
 use Rattle.sp_base.specs.declared.limits.Limits.{Limits}
@@ -10,10 +10,9 @@ use Rattle.sp_first.specs.declared.machine.Ended.{Ended}
 use Rattle.sp_first.specs.Grammar.{Program, IsFirstForm}
 use Rattle.sp_first.specs.Meaning.{meaning}
 use Rattle.sp_first.specs.Runs.{Gives}
-use Rattle.sp_front.specs.Texts.{KeepsRules, Reads}
+use Rattle.sp_front.specs.Checks.{BreaksFirst, KeepsRules}
 use Rattle.sp_print.specs.Lines.{refusal_text}
 use Rattle.sp_scan.proofs.Scanning.{too_long}
-use Rattle.sp_tree.specs.Breaches.{IsFirstBroken}
 use Rattle.sp_tree.specs.Places.{start}
 use Rattle.sp_words.specs.Words.{command_of}
 use Rattle.sp_words.specs.declared.command.Command.{Command}
@@ -31,7 +30,7 @@ Once = (text : List ℕ) (p q : Program) → IsFirstForm text p → IsFirstForm 
 
 -- a text breaks one rule first
 abbrev pub OneRefusal : Type 0
-OneRefusal = (text : List ℕ) (a b : Refusal) → IsFirstBroken text a → IsFirstBroken text b → a ≡ b
+OneRefusal = (text : List ℕ) (a b : Refusal) → BreaksFirst text a → BreaksFirst text b → a ≡ b
 
 ends_once : Once → (text : List ℕ) (f g : Option Fault) (out put : List ℕ) → Ends text f out → Ends text g put → ◌≡◌ {A = Ended} (record { output = out; fault = f }) (record { output = put; fault = g })
 ends_once once text f g out put a b = sym a.2 ∙ once text a.0 b.0 a.1 b.1 ∙ b.2
@@ -112,7 +111,7 @@ module _ (reports : Reports) (left : Option (List ℕ)) (taken taken' : ℕ) (c 
   pub text_of_kept : KeepsRules text → kept_cause reports left taken taken' c text a → text_cause reports left taken taken' c text a
   text_of_kept keeps k = inl (keeps, k)
 
-  pub text_of_refused : (r : Refusal) → IsFirstBroken text r → Refuses r a → text_cause reports left taken taken' c text a
+  pub text_of_refused : (r : Refusal) → BreaksFirst text r → Refuses r a → text_cause reports left taken taken' c text a
   text_of_refused r b k = inr (inl (r, b, k))
 
   pub text_of_memory : a ≡ silent e.OutOfMemory → text_cause reports left taken taken' c text a
@@ -122,11 +121,6 @@ module _ (reports : Reports) (left : Option (List ℕ)) (taken taken' : ℕ) (c 
 pub fits_of : (left : Option (List ℕ)) (all : List ℕ) → IfSome left (λ bytes. all ≡ bytes) → length all ≤ 16777216 → FitsInput left
 fits_of None all h l = tt
 fits_of (Some bytes) all h l = subst (λ (x : List ℕ). length x ≤ 16777216) h l
-
--- a text for which the library says so is longer than its limit
-pub is_long : (o : Option (List ℕ)) (P Q : Type 0) → IfSome o (λ all. P ↔ ((1048576 < length all) × Q)) → P → IfSome o (λ all. 1048576 < length all)
-is_long None P Q h p = tt
-is_long (Some all) P Q h p = (h.0 p).0
 
 -- what holds of a told text holds of what is told
 when_told : (P : List ℕ → Type 0) (o : Option (List ℕ)) (text : List ℕ) → IsTold o text → P text → IfSome o P
@@ -147,7 +141,7 @@ module _ (f : Found) where
   other_cause : (c : Command) (a : Answer) → command_of f.words ≡ Some c → is_unbuilt_for f.told f.left c → a ≡ silent e.NotBuilt → Cause f a
   other_cause c a w u h = subst (Cause f) (sym h) (c, w, u, (refl, refl))
 
-  refused_cause : (r : Refusal) (c : Command) (a : Answer) → command_of f.words ≡ Some c → IfSome (f.told (file_of c)) (λ text. IsFirstBroken text r) → Refuses r a → Cause f a
+  refused_cause : (r : Refusal) (c : Command) (a : Answer) → command_of f.words ≡ Some c → IfSome (f.told (file_of c)) (λ text. BreaksFirst text r) → Refuses r a → Cause f a
   refused_cause r c a w b (inl h) = subst (Cause f) (sym h) (c, w, b, refl, refl)
   refused_cause r c a w b (inr h) = subst (Cause f) (sym h) (refl, refl)
 
@@ -160,12 +154,12 @@ module _ (f : Found) where
   -- the answer to a text is due where the library gave it
   pub cause_of_text : (c : Command) (text : List ℕ) (a : Answer) → command_of f.words ≡ Some c → IsTold (f.told (file_of c)) text → text_cause f.reports f.left f.taken f.taken' c text a → Cause f a
   cause_of_text c text a w t (inl k) = cause_of_kept c text a w t k.0 k.1
-  cause_of_text c text a w t (inr (inl k)) = refused_cause k.0 c a w (when_told (λ x. IsFirstBroken x k.0) (f.told (file_of c)) text t k.1) k.2
+  cause_of_text c text a w t (inr (inl k)) = refused_cause k.0 c a w (when_told (λ x. BreaksFirst x k.0) (f.told (file_of c)) text t k.1) k.2
   cause_of_text c text a w t (inr (inr h)) = subst (Cause f) (sym h) (refl, refl)
 
-  long_breaks : (o : Option (List ℕ)) → IfSome o (λ all. 1048576 < length all) → IfSome o (λ text. IsFirstBroken text (record { rule = rule.L1; at = start }))
+  long_breaks : (o : Option (List ℕ)) → IfSome o (λ all. 1048576 < length all) → IfSome o (λ text. BreaksFirst text (record { rule = rule.L1; at = start }))
   long_breaks None h = tt
-  long_breaks (Some all) h = inl (too_long all start refl h)
+  long_breaks (Some all) h = inl (inl (too_long all start refl h))
 
   -- a text that is too long for the library
   pub cause_of_long : (c : Command) (a : Answer) → command_of f.words ≡ Some c → IfSome (f.told (file_of c)) (λ all. 1048576 < length all) → Refuses (record { rule = rule.L1; at = start }) a → Cause f a
@@ -247,10 +241,10 @@ module _ (f : Found) where
     unbuilt_keeps (command.Code file) v u = of_text KeepsRules (command.Code file) v u
     unbuilt_keeps (command.Sets file) v u = of_text KeepsRules (command.Sets file) v u
 
-    breaks : (r : Refusal) (output notes : List ℕ) → cause f (e.Refused r) output notes → IsFirstBroken text r
-    breaks r output notes k = of_text (λ x. IsFirstBroken x r) k.0 k.1 k.2
+    breaks : (r : Refusal) (output notes : List ℕ) → cause f (e.Refused r) output notes → BreaksFirst text r
+    breaks r output notes k = of_text (λ x. BreaksFirst x r) k.0 k.1 k.2
 
-    refusal_due : OneRefusal → (r : Refusal) → IsFirstBroken text r → (ending : Ending) (output notes : List ℕ) → cause f ending output notes → LineDue ending notes (refusal_text r)
+    refusal_due : OneRefusal → (r : Refusal) → BreaksFirst text r → (ending : Ending) (output notes : List ℕ) → cause f ending output notes → LineDue ending notes (refusal_text r)
     refusal_due one r b e.Done output notes k = absurd (run_keeps None output notes k r b)
     refusal_due one r b (e.Fault x) output notes k = absurd (run_keeps (Some x) output notes k r b)
     refusal_due one r b (e.Refused q) output notes k = inl (refl, k.4 ∙ ap refusal_text (one text q r (breaks q output notes k) b))
@@ -284,7 +278,7 @@ module _ (f : Found) where
     unbuilt_is c v u =
         subst (λ o. IfSome o (IsUnbuiltAfter f.left a.limits)) t (subst (is_unbuilt_for f.told f.left) (one_command _ _ _ w v) u)
 
-    broken_is : (r : Refusal) (output notes : List ℕ) → cause f (e.Refused r) output notes → IsFirstBroken text r
+    broken_is : (r : Refusal) (output notes : List ℕ) → cause f (e.Refused r) output notes → BreaksFirst text r
     broken_is r output notes k = breaks (asks a) text w t r output notes k
 
     done_only : (ending : Ending) (output notes : List ℕ) → cause f ending output notes → status_of ending ≡ 0 → EndsWith a.limits text None

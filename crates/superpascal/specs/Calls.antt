@@ -7,10 +7,9 @@ use Rattle.sp_base.specs.declared.limits.Show.{Show}
 use Rattle.sp_first.specs.Grammar.{Program, IsFirstForm}
 use Rattle.sp_first.specs.Meaning.{meaning}
 use Rattle.sp_outside.specs.Counts.{Rose}
-use Rattle.sp_front.specs.Texts.{KeepsRules}
+use Rattle.sp_front.specs.Checks.{BreaksFirst, KeepsRules}
 use Rattle.sp_outside.specs.Told.{Grows}
 use Rattle.sp_print.specs.Lines.{refusal_text}
-use Rattle.sp_tree.specs.Breaches.{IsFirstBroken}
 use Rattle.sp_words.specs.Words.{command_of}
 use Rattle.sp_words.specs.declared.command.Command.{Command}
 use Rattle.sp_words.specs.declared.command.Command.TheVariants as command
@@ -65,9 +64,9 @@ EndsWith limits text fault = (output : List ℕ) × EndsWithin limits text fault
 abbrev pub IsUnbuilt : Limits → List ℕ → Type 0
 IsUnbuilt limits text = KeepsRules text × ((fault : Option Fault) → EndsWith limits text fault → ⊥)
 
--- the text breaks a rule of its characters or its grammar
+-- the text breaks a rule
 abbrev pub IsRefused : List ℕ → Type 0
-IsRefused text = (r : Refusal) × IsFirstBroken text r
+IsRefused text = (r : Refusal) × BreaksFirst text r
 
 -- the text is what is told, where it is told
 abbrev pub IsTold : Option (List ℕ) → List ℕ → Type 0
@@ -128,7 +127,7 @@ kept_cause reports left taken taken' (command.Sets file) text a = a ≡ silent e
 -- the same of any text
 abbrev pub text_cause : Reports → Option (List ℕ) → ℕ → ℕ → Command → List ℕ → Answer → Type 0
 text_cause reports left taken taken' c text a =
-    (KeepsRules text × kept_cause reports left taken taken' c text a) ⊎ (((r : Refusal) × IsFirstBroken text r × Refuses r a) ⊎ (a ≡ silent e.OutOfMemory))
+    (KeepsRules text × kept_cause reports left taken taken' c text a) ⊎ (((r : Refusal) × BreaksFirst text r × Refuses r a) ⊎ (a ≡ silent e.OutOfMemory))
 
 abbrev pub ending_of : Option Fault → Ending
 ending_of None = e.Done
@@ -180,7 +179,7 @@ is_unbuilt_for told left (command.Sets file) = IfSome (told file) KeepsRules
 abbrev pub cause : Found → Ending → List ℕ → List ℕ → Type 0
 cause f e.Done output notes = Ran f None output notes
 cause f (e.Fault x) output notes = Ran f (Some x) output notes
-cause f (e.Refused r) output notes = (c : Command) × (command_of f.words ≡ Some c) × IfSome (f.told (file_of c)) (λ text. IsFirstBroken text r) × (output ≡ []) × (notes ≡ refusal_text r)
+cause f (e.Refused r) output notes = (c : Command) × (command_of f.words ≡ Some c) × IfSome (f.told (file_of c)) (λ text. BreaksFirst text r) × (output ≡ []) × (notes ≡ refusal_text r)
 cause f e.NotBuilt output notes = (c : Command) × (command_of f.words ≡ Some c) × is_unbuilt_for f.told f.left c × IsSilent output notes
 cause f e.BadWords output notes = (command_of f.words ≡ None) × IsSilent output notes
 cause f e.ReadFault output notes = (c : Command) × (command_of f.words ≡ Some c) × (Rose (f.before (file_of c)) (f.after (file_of c)) ⊎ Rose f.taken f.taken') × IsSilent output notes
@@ -258,7 +257,7 @@ SaysLine line notes notes' status = ((status ≡ 1) × All notes notes' line) �
 
 -- the line of the first rule that the text breaks
 abbrev pub SaysRefusal : List ℕ → Got → Got → ℕ → Type 0
-SaysRefusal text notes notes' status = (r : Refusal) → IsFirstBroken text r → SaysLine (refusal_text r) notes notes' status
+SaysRefusal text notes notes' status = (r : Refusal) → BreaksFirst text r → SaysLine (refusal_text r) notes notes' status
 
 -- Status 1 comes only where the text breaks a rule, or breaks none and cannot be run; and where it cannot be run the line says so.
 abbrev pub SaysUnbuilt : Limits → List ℕ → Got → Got → ℕ → Type 0

@@ -8,6 +8,7 @@ use sp_outside::{MemoryLibrary, MemorySink, MemorySource};
 use sp_report::{Census, ProcessTree, Timeline, Waiting, Watcher};
 use std::alloc::{AllocError, Global};
 use std::test::Fail;
+use std::thread::Threads;
 
 const ANSWER: &str = "program a; var x: integer; begin x := 6; write(x * 7) end.";
 
@@ -57,6 +58,7 @@ fn sink(alloc: Global, failing: &[u32]) -> Result<MemorySink, AllocError> {
 
 // The call with four watchers, and its status.
 fn call_four(
+    threads: &impl Threads,
     alloc: Global,
     words: &[String],
     library: &mut MemoryLibrary,
@@ -77,12 +79,15 @@ fn call_four(
 {
     let (first, second, third, fourth) = watchers;
     let watchers = vec![in alloc; first, second, third, fourth]?;
-    let outcome = superpascal(alloc, words, library, input, output, notes, watchers);
+    let outcome = superpascal(
+        threads, alloc, words, library, input, output, notes, watchers,
+    );
     Ok(outcome.status)
 }
 
 // Calls with sinks that take a byte a call and the four watchers.
 fn call_with(
+    threads: &impl Threads,
     alloc: Global,
     words: &[&str],
     text: &[u8],
@@ -99,6 +104,7 @@ fn call_with(
     let tree = Box::new(alloc, ProcessTree::new(alloc))?;
     let waiting = Box::new(alloc, Waiting::new(alloc))?;
     let status = call_four(
+        threads,
         alloc,
         words.as_slice(),
         &mut library,
@@ -114,8 +120,15 @@ fn call_with(
     })
 }
 
-fn call(alloc: Global, words: &[&str], text: &[u8], failing: Failing) -> Result<Given, AllocError> {
+fn call(
+    threads: &impl Threads,
+    alloc: Global,
+    words: &[&str],
+    text: &[u8],
+    failing: Failing,
+) -> Result<Given, AllocError> {
     call_with(
+        threads,
         alloc,
         words,
         text,
@@ -144,7 +157,7 @@ fn texts_of_one_line(rt: HostRuntime) -> Result<(), Fail> {
             "program a; var x, x: integer; begin end.",
             1,
             "",
-            "not built\n",
+            "refused N2 1:19\n",
         ),
         (
             "program a; var x: integer; begin write((1)) end.",
@@ -160,7 +173,7 @@ fn texts_of_one_line(rt: HostRuntime) -> Result<(), Fail> {
         ),
     ];
     for (text, status, output, notes) in cases {
-        let given = call(rt.alloc(), &["run", "a.sp"], text.as_bytes(), NONE)?;
+        let given = call(&rt, rt.alloc(), &["run", "a.sp"], text.as_bytes(), NONE)?;
         assert_eq!(rt; given.status, status, "{text}");
         assert_eq!(rt; given.output.as_slice(), output.as_bytes(), "{text}");
         assert_eq!(rt; given.notes.as_slice(), notes.as_bytes(), "{text}");
@@ -188,11 +201,20 @@ fn refused_texts(rt: HostRuntime) -> Result<(), Fail> {
             "program h;\nbegin write(9223372036854775808) end.",
             "refused S4 2:13\n",
         ),
+        ("program g; begin x := 1 end.", "refused N1 1:18\n"),
+        (
+            "program g; var x: integer; begin x := true end.",
+            "refused Y5 1:39\n",
+        ),
+        (
+            "program g; var x: integer; begin y := 1; x := true end.",
+            "refused N1 1:34\n",
+        ),
         ("program g; begin write(1); end.", "not built\n"),
     ];
     for (text, notes) in cases {
         for command in ["run", "check", "code", "sets"] {
-            let given = call(rt.alloc(), &[command, "a.sp"], text.as_bytes(), NONE)?;
+            let given = call(&rt, rt.alloc(), &[command, "a.sp"], text.as_bytes(), NONE)?;
             assert_eq!(rt; given.status, 1, "{text}");
             assert!(rt; given.output.is_empty());
             assert_eq!(rt; given.notes.as_slice(), notes.as_bytes(), "{text}");
@@ -209,7 +231,7 @@ fn long_texts(rt: HostRuntime) -> Result<(), Fail> {
     ];
     for (count, notes) in cases {
         let text = spaces(rt.alloc(), count)?;
-        let given = call(rt.alloc(), &["run", "a.sp"], text.as_slice(), NONE)?;
+        let given = call(&rt, rt.alloc(), &["run", "a.sp"], text.as_slice(), NONE)?;
         assert_eq!(rt; given.status, 1);
         assert!(rt; given.output.is_empty());
         assert_eq!(rt; given.notes.as_slice(), notes.as_bytes());
@@ -229,7 +251,7 @@ fn the_ends_of_the_integers(rt: HostRuntime) -> Result<(), Fail> {
     ];
     for (body, status) in cases {
         let text = format!(in rt.alloc(); "program h; var x: integer; begin {body} end.")?;
-        let given = call(rt.alloc(), &["run", "a.sp"], text.as_bytes(), NONE)?;
+        let given = call(&rt, rt.alloc(), &["run", "a.sp"], text.as_bytes(), NONE)?;
         assert_eq!(rt; given.status, status, "{body}");
     }
     Ok(())
@@ -248,7 +270,7 @@ fn words_that_are_refused(rt: HostRuntime) -> Result<(), Fail> {
         &[],
     ];
     for words in cases {
-        let given = call(rt.alloc(), words, ANSWER.as_bytes(), NONE)?;
+        let given = call(&rt, rt.alloc(), words, ANSWER.as_bytes(), NONE)?;
         assert_eq!(rt; given.status, 2);
         assert!(rt; given.output.is_empty());
         assert_eq!(rt; given.notes.as_slice(), b"bad words\n".as_slice());
@@ -281,14 +303,14 @@ fn words_with_options(rt: HostRuntime) -> Result<(), Fail> {
         (&["sets", "a"], 5, "", "read fault\n"),
     ];
     for (words, status, output, notes) in cases {
-        let given = call(rt.alloc(), words, ANSWER.as_bytes(), NONE)?;
+        let given = call(&rt, rt.alloc(), words, ANSWER.as_bytes(), NONE)?;
         assert_eq!(rt; given.status, status);
         assert_eq!(rt; given.output.as_slice(), output.as_bytes());
         assert_eq!(rt; given.notes.as_slice(), notes.as_bytes());
     }
     let fault = "program a; var x: integer; begin write(7, x) end.";
     let words = ["run", "a.sp", "--show", "journal"];
-    let given = call(rt.alloc(), words.as_slice(), fault.as_bytes(), NONE)?;
+    let given = call(&rt, rt.alloc(), words.as_slice(), fault.as_bytes(), NONE)?;
     let notes = b"superpascal journal 2\n0 fault F4\n".as_slice();
     assert_eq!(rt; given.status, 3);
     assert_eq!(rt; given.output.as_slice(), b"7".as_slice());
@@ -306,7 +328,14 @@ fn long_inputs(rt: HostRuntime) -> Result<(), Fail> {
     for (count, status) in [(16_777_216, 0), (16_777_217, 7)] {
         let input = spaces(rt.alloc(), count)?;
         let words = ["run", "a.sp"];
-        let given = call_with(rt.alloc(), words.as_slice(), ANSWER.as_bytes(), input, NONE)?;
+        let given = call_with(
+            &rt,
+            rt.alloc(),
+            words.as_slice(),
+            ANSWER.as_bytes(),
+            input,
+            NONE,
+        )?;
         let notes: &str = if status == 0 {
             "done\nordered\n"
         } else {
@@ -347,7 +376,13 @@ fn faults_outside(rt: HostRuntime) -> Result<(), Fail> {
         (between, 6, "4", ""),
     ];
     for (failing, status, output, notes) in cases {
-        let given = call(rt.alloc(), &["run", "a.sp"], ANSWER.as_bytes(), failing)?;
+        let given = call(
+            &rt,
+            rt.alloc(),
+            &["run", "a.sp"],
+            ANSWER.as_bytes(),
+            failing,
+        )?;
         assert_eq!(rt; given.status, status);
         assert_eq!(rt; given.output.as_slice(), output.as_bytes());
         assert_eq!(rt; given.notes.as_slice(), notes.as_bytes());
@@ -361,10 +396,10 @@ fn the_longest_text(rt: HostRuntime) -> Result<(), Fail> {
     for _ in text.len()..65536 {
         text.push(b' ')?;
     }
-    let given = call(rt.alloc(), &["run", "a.sp"], text.as_slice(), NONE)?;
+    let given = call(&rt, rt.alloc(), &["run", "a.sp"], text.as_slice(), NONE)?;
     assert_eq!(rt; given.status, 0);
     text.push(b' ')?;
-    let longer = call(rt.alloc(), &["run", "a.sp"], text.as_slice(), NONE)?;
+    let longer = call(&rt, rt.alloc(), &["run", "a.sp"], text.as_slice(), NONE)?;
     assert_eq!(rt; longer.status, 1);
     Ok(())
 }

@@ -8,7 +8,7 @@ ghost use Rattle.sp_outside.specs.Counts.{Rose};
 ghost use Rattle.sp_outside.specs.Told.{Grows};
 ghost use Rattle.sp_report.specs.Telling.{is_chosen};
 ghost use Rattle.sp_words.specs.Words.{command_of};
-ghost use Rattle.sp_front.specs.Texts.{KeepsRules};
+ghost use Rattle.sp_front.specs.Checks.{KeepsRules};
 ghost use Rattle.superpascal.specs.Answers.{has_run, notes_of, status_of};
 ghost use Rattle.superpascal.specs.Calls.{AnswersOthers, Call, Cause, EndsWith, Exactly, InputTooLong, IsWithin, OfRun, OfText, ReadsFail, Refuses, RefusesWords, SaysRefusal, SaysUnbuilt, Writes, WritesLine, WritesNotes, WritesOutput, ended_cause, ending_of, file_of, found, got, kept_cause, run_cause, silent, text_cause};
 
@@ -16,13 +16,13 @@ use crate::ending::{Answer, Ending, notes_by};
 use crate::notes::run_notes;
 use sp_base::{Halt, Limits, Place, Refusal, Rule, Show, Text};
 use sp_first::{Ended, one_meaning, run_text};
-use sp_front::read_text;
-use sp_grammar::one_verdict;
+use sp_front::{one_answer, typed_apart};
 use sp_outside::{Failed, Library, LoadError, ReadError, Sink, Source, put_all, read_all};
 use sp_print::refusal_line;
 use sp_report::Watcher;
 use sp_words::{Command, WordsError, read_words};
 use std::alloc::Global;
+use std::thread::Threads;
 
 /// How the program ends.
 #[derive(Clone, Copy, Debug, PartialEq, Eq)]
@@ -48,6 +48,7 @@ const MOST_VARIABLES: u32 = 4_096;
 
 // Does the words, the load, the input and the run.
 fn answer<L: Library, I: Source>(
+    rt: &impl Threads,
     alloc: Global,
     words: &[String],
     library: &mut L,
@@ -58,7 +59,7 @@ fn answer<L: Library, I: Source>(
     ensures { Cause (found (map string_bytes words.now) (L.held library.old) (L.faults library.old) (L.faults library.new) (I.left input.old) (I.faults input.old) (I.faults input.new) (λ s es. flat_map (λ w. text w es) (filter (λ w. is_chosen s (title w)) watchers.items))) result }
 {
     match read_words(alloc, words) {
-        Ok(command) => command_answer(alloc, &command, library, input, watchers),
+        Ok(command) => command_answer(rt, alloc, &command, library, input, watchers),
         Err(WordsError::Refused) => silent(alloc, Ending::BadWords),
         Err(WordsError::Memory) => silent(alloc, Ending::OutOfMemory),
     }
@@ -76,6 +77,7 @@ fn file_of(command: &Command) -> &str
 
 // Does the load, the input and the run.
 fn command_answer<L: Library, I: Source>(
+    rt: &impl Threads,
     alloc: Global,
     command: &Command,
     library: &mut L,
@@ -88,7 +90,7 @@ fn command_answer<L: Library, I: Source>(
         (λ s es. flat_map (λ w. text w es) (filter (λ w. is_chosen s (title w)) watchers.items))) result }
 {
     match library.load(alloc, file_of(command), LONGEST) {
-        Ok(text) => text_answer(alloc, command, text.as_slice(), input, watchers),
+        Ok(text) => text_answer(rt, alloc, command, text.as_slice(), input, watchers),
         Err(LoadError::TooLong) => refused(alloc, TOO_LONG),
         Err(LoadError::Failed) => silent(alloc, Ending::ReadFault),
         Err(LoadError::Memory) => silent(alloc, Ending::OutOfMemory),
@@ -122,6 +124,7 @@ fn refused(alloc: Global, refusal: Refusal) -> Answer
 
 // Passes the phases over the text, and then does what the command asks.
 fn text_answer<I: Source>(
+    rt: &impl Threads,
     alloc: Global,
     command: &Command,
     program: &[u8],
@@ -131,7 +134,7 @@ fn text_answer<I: Source>(
     requires { All (λ w. told w ≡ []) watchers.items }
     ensures { text_cause (λ s es. flat_map (λ w. text w es) (filter (λ w. is_chosen s (title w)) watchers.items)) (I.left input.old) (I.faults input.old) (I.faults input.new) command.now program.now result }
 {
-    match read_text(alloc, program) {
+    match typed_apart(rt, alloc, program) {
         Ok(tree) => {
             drop(tree);
             kept_answer(alloc, command, program, input, watchers)
@@ -264,7 +267,7 @@ fn write_notes<N: Sink>(answer: &Answer, notes: &mut N) -> u8
 /// | status | comes | notes |
 /// |---|---|---|
 /// | 0 | where the run ends | `done`, the verdict and the reports; or the journal |
-/// | 1 | where the text breaks a rule of its characters or its grammar | `refused RULE LINE:COLUMN`, the first such rule |
+/// | 1 | where the text breaks a rule | `refused RULE LINE:COLUMN`, the first such rule |
 /// | 1 | else where the command or the form of the text is not built, or the run meets a limit | `not built` |
 /// | 2 | where the words are refused | `bad words` |
 /// | 3 | where a fault ends the run | `fault F NAME`, the verdict and the reports; or the journal |
@@ -275,8 +278,10 @@ fn write_notes<N: Sink>(answer: &Answer, notes: &mut N) -> u8
 ///
 /// The order of work is: the words; the load; the rules of the text; compiling; the input, for `run` alone; the run; the
 /// texts; writing `output`; writing `notes`. Where the words, the load, the text, the input or memory end the call,
-/// nothing is written to `output`. After a failed write to `output` nothing is written to `notes`.
+/// nothing is written to `output`. After a failed write to `output` nothing is written to `notes`. The rules of the text
+/// are checked by a thread of `rt` with a large stack, so a chain of operators may be as long as the text.
 pub fn superpascal<L: Library, I: Source, O: Sink, N: Sink>(
+    rt: &impl Threads,
     alloc: Global,
     words: &[String],
     library: &mut L,
@@ -304,12 +309,13 @@ pub fn superpascal<L: Library, I: Source, O: Sink, N: Sink>(
     ensures displaced { Call (found (map string_bytes words.now) (L.held library.old) (L.faults library.old) (L.faults library.new) (I.left input.old) (I.faults input.old) (I.faults input.new) (λ s es. flat_map (λ w. text w es) (filter (λ w. is_chosen s (title w)) watchers.items))) (got (O.written output.old) (O.faults output.old)) (got (O.written output.new) (O.faults output.new)) (got (N.written notes.old) (N.faults notes.old)) (got (N.written notes.new) (N.faults notes.new)) result.status }
 {
     one_meaning();
-    one_verdict();
-    run_words(alloc, words, library, input, output, notes, watchers)
+    one_answer();
+    run_words(rt, alloc, words, library, input, output, notes, watchers)
 }
 
 // Does the whole call.
 fn run_words<L: Library, I: Source, O: Sink, N: Sink>(
+    rt: &impl Threads,
     alloc: Global,
     words: &[String],
     library: &mut L,
@@ -321,7 +327,7 @@ fn run_words<L: Library, I: Source, O: Sink, N: Sink>(
     requires { All (λ w. told w ≡ []) watchers.items }
     ensures { Call (found (map string_bytes words.now) (L.held library.old) (L.faults library.old) (L.faults library.new) (I.left input.old) (I.faults input.old) (I.faults input.new) (λ s es. flat_map (λ w. text w es) (filter (λ w. is_chosen s (title w)) watchers.items))) (got (O.written output.old) (O.faults output.old)) (got (O.written output.new) (O.faults output.new)) (got (N.written notes.old) (N.faults notes.old)) (got (N.written notes.new) (N.faults notes.new)) result.status }
 {
-    let answer = answer(alloc, words, library, input, watchers);
+    let answer = answer(rt, alloc, words, library, input, watchers);
     let status = write(&answer, output, notes);
     Outcome { status }
 }

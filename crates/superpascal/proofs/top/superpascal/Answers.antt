@@ -8,7 +8,7 @@ pub returns-clause-other_commands : goal.returns-clause-other_commands
 returns-clause-other_commands g c = call_others _ _ _ _ _ _ c.run_words.ensures
 
 pub returns-clause-refused : goal.returns-clause-refused
-returns-clause-refused g c = call_refused _ _ _ _ _ _ c.run_words.ensures c.one_verdict.ensures.refusal
+returns-clause-refused g c = call_refused _ _ _ _ _ _ c.run_words.ensures c.one_answer.ensures.refusal
 
 pub returns-clause-done : goal.returns-clause-done
 returns-clause-done g c = call_done _ _ _ _ _ _ c.run_words.ensures c.one_meaning.ensures

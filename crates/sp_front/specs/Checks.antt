@@ -1,0 +1,42 @@
+-- What a text is by all phases: its checked tree, or the first rule that it breaks.
+use Rattle.std.specs.Prelude.{◌≡◌, ◌⊎◌, ℕ, List, Result, Ok, Err}
+use Rattle.sp_base.specs.declared.halt.Halt.{Halt}
+use Rattle.sp_base.specs.declared.halt.Halt.TheVariants as halt
+use Rattle.sp_base.specs.declared.halt.Refusal.{Refusal}
+use Rattle.sp_tree.specs.declared.checked.Checked.{Checked}
+use Rattle.sp_tree.specs.PlainSyntax as s
+use Rattle.sp_tree.specs.PlainNamed as n
+use Rattle.sp_tree.specs.Breaches.{IsTree, IsFirstBroken}
+use Rattle.sp_tree.specs.NameFirst.{resolved}
+use Rattle.sp_types.specs.PlainChecked as c
+use Rattle.sp_types.specs.CheckedOf as checked
+use Rattle.sp_types.specs.TypeFirst.{typed}
+
+-- the text is that of the tree, and the names in it stand for these declarations
+abbrev pub IsNamed : List ℕ → n.Program → Type 0
+IsNamed text p = (tree : s.Program) × IsTree text tree × (resolved tree ≡ Ok p)
+
+-- the text has this checked tree
+abbrev pub IsChecked : List ℕ → c.Program → Type 0
+IsChecked text p = (named : n.Program) × IsNamed text named × (typed named ≡ Ok p)
+
+-- the text has a tree, and this is the first rule of names that it breaks
+abbrev pub BreaksNames : List ℕ → Refusal → Type 0
+BreaksNames text r = (tree : s.Program) × IsTree text tree × (resolved tree ≡ Err r)
+
+-- the text breaks no rule of names, and this is the first rule of types that it breaks
+abbrev pub BreaksTypes : List ℕ → Refusal → Type 0
+BreaksTypes text r = (named : n.Program) × IsNamed text named × (typed named ≡ Err r)
+
+-- the first rule that the text breaks: of its characters and its grammar, then of its names, then of its types
+abbrev pub BreaksFirst : List ℕ → Refusal → Type 0
+BreaksFirst text r = IsFirstBroken text r ⊎ (BreaksNames text r ⊎ BreaksTypes text r)
+
+abbrev pub Checks : List ℕ → Result Checked Halt → Type 0
+Checks text (Ok tree) = IsChecked text (checked.program_of tree)
+Checks text (Err (halt.Refused r)) = BreaksFirst text r
+Checks text (Err halt.Memory) = Unit {0}
+
+-- the text breaks no rule
+abbrev pub KeepsRules : List ℕ → Type 0
+KeepsRules text = (r : Refusal) → BreaksFirst text r → ⊥
