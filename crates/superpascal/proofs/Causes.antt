@@ -1,6 +1,6 @@
 -- What follows from the cause of an answer.
 use Rattle.std.proofs.Common.{◌≡◌, ◌≢◌, ◌⊎◌, inl, inr, ℕ, ◌<◌, ◌≤◌, List, [], length, Option, Some, None, true, false, Ok, refl, sym, ◌∙◌, ap, subst, arith}
-use Rattle.std.specs.Prelude.{IfSome}
+use Rattle.std.specs.Prelude.{IfSome, ◌↔◌}
 use Rattle.sp_base.specs.declared.fault.Fault.{Fault}
 use Rattle.sp_base.specs.declared.halt.Refusal.{Refusal}
 use Rattle.sp_base.specs.declared.limits.Limits.{Limits}
@@ -121,6 +121,11 @@ module _ (reports : Reports) (left : Option (List ℕ)) (taken taken' : ℕ) (c 
 pub fits_of : (left : Option (List ℕ)) (all : List ℕ) → IfSome left (λ bytes. all ≡ bytes) → length all ≤ 16777216 → FitsInput left
 fits_of None all h l = tt
 fits_of (Some bytes) all h l = subst (λ (x : List ℕ). length x ≤ 16777216) h l
+
+-- a text for which the library says so is longer than its limit
+pub is_long : (o : Option (List ℕ)) (P Q : Type 0) → IfSome o (λ all. P ↔ ((1048576 < length all) × Q)) → P → IfSome o (λ all. 1048576 < length all)
+is_long None P Q h p = tt
+is_long (Some all) P Q h p = (h.0 p).0
 
 -- what holds of a told text holds of what is told
 when_told : (P : List ℕ → Type 0) (o : Option (List ℕ)) (text : List ℕ) → IsTold o text → P text → IfSome o P

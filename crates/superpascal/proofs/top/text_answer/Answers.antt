@@ -7,5 +7,5 @@ returns-in-Ok g c = text_of_kept _ _ _ _ _ _ _ c.in-Ok.ensures.keeps c.kept_answ
 pub returns-in-Err-Refused : goal.returns-in-Err-Refused
 returns-in-Err-Refused g c = text_of_refused _ _ _ _ _ _ _ c.in-Err-Refused.refusal (rw c.in-Err-Refused.field-0-is at c.in-Err-Refused.ensures.checks) c.refused.ensures
 
-pub returns-in-Err-Memory : goal.returns-in-Err-Memory
-returns-in-Err-Memory g c = text_of_memory _ _ _ _ _ _ _ c.silent.ensures
+pub returns : goal.returns
+returns g c = text_of_memory _ _ _ _ _ _ _ c.silent.ensures
