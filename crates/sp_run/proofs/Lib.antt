@@ -1,6 +1,26 @@
-pub mod Plains
-mod SameEval
+mod Acting
+mod Arms
+mod Births
+mod Chains
+mod Changing
+mod Collecting
+mod Deeding
+mod Ending
+mod Goings
+mod Handing
+mod Logs
+mod Longest
+mod Naming
+mod Opening
+mod Placing
+mod Pushing
+mod Reading
 mod SameDeeds
+mod SameEval
+mod Sorting
+mod Stepped
+mod Stepping
 mod Stores
 mod Values
-mod Pushing
+mod Weighing
+pub mod Plains

@@ -1,23 +1,31 @@
 //! Calls of procedures and functions: their frames.
 
-ghost use Rattle.std.specs.Prelude.{◌≡◌, ◌∷◌, drop, IfOk, Option};
-ghost use Rattle.sp_meaning.specs.Deeds.{references, cells_of_home};
-ghost use Rattle.sp_run.specs.Machines.{setting_of, plain_references, plain_home};
-ghost use Rattle.sp_run.specs.Comings.{Does, same};
-ghost use Rattle.sp_run.specs.Doings.{given_of};
+ghost use Rattle.std.specs.Prelude.{◌≡◌, ◌∷◌, drop, IfOk, OnOk, map, length, Option, Some, None};
+ghost use Rattle.sp_tree.specs.PlainOf.{variable_of, block_of};
+ghost use Rattle.sp_tree.specs.Cells.{variables_of};
+ghost use Rattle.sp_meaning.specs.Own.{is_block};
+ghost use Rattle.sp_meaning.specs.Deeds.{begins, references, pushed_frame, without_frame, cells_of_home};
+ghost use Rattle.sp_meaning.specs.Values.{initials};
+ghost use Rattle.sp_run.specs.Machines.{setting_of, plain_references, plain_own, plain_home, plain_who};
+ghost use Rattle.sp_run.specs.Comings.{Does, same, pointed};
+ghost use Rattle.sp_run.specs.Doings.{given_of, block_in};
 ghost use Rattle.sp_run.specs.Views.{plain_value};
-ghost use Rattle.sp_run.specs.Direct.{tick, deepen, widen};
+ghost use Rattle.sp_run.specs.Direct.{tick, deepen, widen, reach, or_lost};
 ghost use Rattle.sp_run.specs.DirectEval.{read_at};
-ghost use Rattle.sp_run.specs.DirectDeeds.{enclosing, leave, answer_of};
+ghost use Rattle.std.specs.Option.{option_copied, option_map};
+ghost use Rattle.sp_run.specs.Calling.{laid, entered};
+ghost use Rattle.sp_run.specs.DirectDeeds.{lay_one, lay, copy_in, enclosing, enter, leave, answer_of};
 
 use crate::frames::{Wanted, place_of, reach};
-use crate::kinds::{size_of_frame, sum_of};
-use crate::machine::{Home, Machine, Reference, Setting, Who};
+use crate::kinds::{beginning, initials_of, size_of_frame, sum_of};
+use crate::machine::{Frame, Held, Home, Machine, Own, Reference, Setting, Who};
 use crate::operators::read_at;
 use crate::stop::{Done, Halted};
+use crate::store::put;
 use crate::take;
-use crate::value::{Address, Value, copy_address};
+use crate::value::{Address, Loc, Value, copy_address, copy_name, copy_value};
 use sp_base::{Fault, List, Memory};
+use sp_tree::{Block, Variable};
 use std::mem;
 
 /// An evaluated argument.
@@ -109,6 +117,191 @@ fn first_reference(r: Reference, rest: List<Reference>) -> Result<List<Reference
     let mut all = rest.into_vec();
     all.insert(0, r)?;
     Ok(List::of(all))
+}
+
+fn first_frame(f: Frame, rest: List<Frame>) -> Result<List<Frame>, Memory>
+    ensures { IfOk result (λ fs. fs ≡ f ∷ rest) }
+{
+    let mut all = rest.into_vec();
+    all.insert(0, f)?;
+    Ok(List::of(all))
+}
+
+/// A variable of a new frame is undefined, if it has cells of its own.
+fn lay_one(
+    run: &Setting,
+    who: &Who,
+    machine: &mut Machine,
+    frame: usize,
+    x: usize,
+    v: &Variable,
+    first: Option<&Value>,
+) -> Done<()>
+    ensures { Does run.now who.now same machine.old result machine.new (lay_one (setting_of run.now) frame (x, variable_of v.now) (option_map plain_value (option_copied first.entry))) }
+{
+    match first {
+        None => Ok(Ok(())),
+        Some(first) => {
+            let first = copy_value(run.alloc, first)?;
+            let owner = copy_name(run.alloc, &who.name)?;
+            let at = Loc::Cell {
+                owner,
+                frame,
+                variable: x,
+            };
+            take!(put(run, who, machine, at, Held::Tree(first)));
+            Ok(Ok(()))
+        }
+    }
+}
+
+/// The value parameters are copied.
+fn copy_in(
+    run: &Setting,
+    who: &Who,
+    machine: &mut Machine,
+    frame: usize,
+    formals: &[u32],
+    given: &[Given],
+) -> Done<()>
+    ensures { Does run.now who.now same machine.old result machine.new (copy_in (setting_of run.now) frame formals.now (given_of given.now)) }
+{
+    let Some((x, xs)) = formals.split_first() else {
+        return Ok(Ok(()));
+    };
+    let Some((g, gs)) = given.split_first() else {
+        return Ok(Ok(()));
+    };
+    match g {
+        Given::Value(v) => {
+            let v = copy_value(run.alloc, v)?;
+            let owner = copy_name(run.alloc, &who.name)?;
+            let at = Loc::Cell {
+                owner,
+                frame,
+                variable: *x as usize,
+            };
+            take!(put(run, who, machine, at, Held::Tree(v)));
+            take!(copy_in(run, who, machine, frame, xs, gs));
+            Ok(Ok(()))
+        }
+        Given::Place(_) => copy_in(run, who, machine, frame, xs, gs),
+    }
+}
+
+/// The variables of a new frame are undefined.
+fn lay(
+    run: &Setting,
+    who: &Who,
+    machine: &mut Machine,
+    frame: usize,
+    block: usize,
+    known: &[Value],
+    x: usize,
+    variables: &[Variable],
+) -> Done<()>
+    requires { map plain_value known.now ≡ initials run.now.checked.now.kinds }
+    ensures { Does run.now who.now same machine.old result machine.new (lay (setting_of run.now) frame (variables_of block x (map variable_of variables.now))) }
+{
+    let Some((v, rest)) = variables.split_first() else {
+        return Ok(Ok(()));
+    };
+    let Some(next) = x.checked_add(1) else {
+        return Err(Memory);
+    };
+    if v.block as usize == block {
+        take!(lay_one(run, who, machine, frame, x, v, beginning(known, v)));
+        take!(lay(run, who, machine, frame, block, known, next, rest));
+        Ok(Ok(()))
+    } else {
+        lay(run, who, machine, frame, block, known, next, rest)
+    }
+}
+
+/// The variables of a new frame are laid and the value parameters copied.
+fn laid<'a>(
+    run: &Setting,
+    who: &Who,
+    machine: &mut Machine,
+    frame: usize,
+    f: u32,
+    b: &'a Block,
+    given: &[Given],
+) -> Done<&'a Block>
+    ensures { Does run.now who.now block_in machine.old result machine.new (laid (setting_of run.now) frame f (block_of b.now) (given_of given.now)) }
+{
+    let known = initials_of(run.alloc, run.checked.kinds.items())?;
+    take!(lay(
+        run,
+        who,
+        machine,
+        frame,
+        f as usize,
+        known.items(),
+        0,
+        run.checked.variables.items()
+    ));
+    take!(copy_in(run, who, machine, frame, b.formals.items(), given));
+    Ok(Ok(b))
+}
+
+/// A frame is the newest.
+fn push_frame(run: &Setting, machine: &mut Machine, f: Frame) -> Result<(), Memory>
+    ensures { OnOk result (machine.new ≡ record machine.old { own = record machine.old.own { frames = f ∷ machine.old.own.frames } }) }
+{
+    let frames = mem::replace(&mut machine.own.frames, List::new(run.alloc));
+    machine.own.frames = first_frame(f, frames)?;
+    Ok(())
+}
+
+/// The new frame, and what stands in it.
+fn entered<'a>(
+    run: &Setting,
+    who: &Who,
+    machine: &mut Machine,
+    f: u32,
+    b: &'a Block,
+    given: &[Given],
+) -> Done<&'a Block>
+    ensures { Does run.now who.now block_in machine.old result machine.new (entered (setting_of run.now) f (block_of b.now) (given_of given.now)) }
+{
+    let link = take!(enclosing(run, who, machine, b.parent));
+    let references = references_of(run, b.formals.items(), given)?;
+    let owner = copy_name(run.alloc, &who.name)?;
+    let number = machine.own.frames.len();
+    let frame = Frame {
+        owner,
+        number,
+        home: Home::Block(f as usize),
+        link,
+        references,
+    };
+    push_frame(run, machine, frame)?;
+    let b = take!(laid(run, who, machine, number, f, b, given));
+    Ok(Ok(b))
+}
+
+/// A call, after its arguments: tick, depth, cells, the new frame.
+pub fn enter<'a>(
+    run: &Setting<'a>,
+    who: &Who,
+    machine: &mut Machine,
+    f: u32,
+    given: &[Given],
+) -> Done<&'a Block>
+    ensures { Does run.now who.now block_in machine.old result machine.new (enter (setting_of run.now) f (given_of given.now)) }
+{
+    match run.checked.blocks.get(f as usize) {
+        Some(b) => {
+            take!(tick(run, who, machine));
+            take!(deepen(run, who, machine));
+            let size = size_of_frame(run, f as usize)?;
+            take!(widen(run, who, machine, size));
+            let b = take!(entered(run, who, machine, f, b, given));
+            Ok(Ok(b))
+        }
+        None => Ok(Err(Halted::Lost)),
+    }
 }
 
 /// The cells of a frame.

@@ -368,7 +368,8 @@ pub fn read_at(run: &Setting, who: &Who, machine: &mut Machine, place: &Place) -
     }
 }
 
-fn position_of(held: &Held) -> usize
+/// The position that is held, if it is.
+pub fn position_of(held: &Held) -> usize
     ensures { result ≡ position_in (plain_held held.now) }
 {
     match held {

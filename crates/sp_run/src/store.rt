@@ -18,7 +18,7 @@ use sp_base::{List, Memory};
 use std::alloc::Global;
 
 /// The same once more.
-fn copy_held(alloc: Global, held: &Held) -> Result<Held, Memory>
+pub fn copy_held(alloc: Global, held: &Held) -> Result<Held, Memory>
     ensures { IfOk result (λ h. h ≡ held.now) }
 {
     match held {
@@ -109,7 +109,7 @@ fn value_of(held: Held) -> Value
 }
 
 /// What is held after a value was put to an address.
-fn with_value(run: &Setting, a: &Address, held: Held, v: &Value) -> Result<Held, Memory>
+pub fn with_value(run: &Setting, a: &Address, held: Held, v: &Value) -> Result<Held, Memory>
     ensures { IfOk result (λ h. plain_held h ≡ assigned (plain_address a.now) (plain_held held) (Tree (plain_value v.now))) }
 {
     let old = value_of(held);

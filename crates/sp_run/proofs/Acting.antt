@@ -1,0 +1,59 @@
+-- The parts of calls and of steps, one after another.
+use Rattle.std.proofs.Common.{◌≡◌, ℕ, suc, ◌+◌, List, [], ◌∷◌, Option, Some, None, refl, ap, ◌∙◌, sym, subst, arith, drop, slice_get}
+use Rattle.std.proofs.lemmas.Bool.{eq-eqb}
+use Rattle.sp_run.specs.declared.stop.Halted.{Halted}
+use Rattle.sp_tree.specs.declared.checked.KindOf.{KindOf}
+use Rattle.sp_tree.specs.declared.operators.StandardFn.{StandardFn}
+use Rattle.sp_tree.specs.Plain.{Variable, AtInput}
+use Rattle.sp_tree.specs.Cells.{variables_of}
+use Rattle.sp_meaning.specs.Maps.{at_key}
+use Rattle.sp_meaning.specs.Values.{Value, initials}
+use Rattle.sp_meaning.specs.Own.{Setting, Cell, Input, Tree, Position, Address, Item, Own, Who, same_loc, position_in}
+use Rattle.sp_meaning.specs.Eval.{Given, ValueOf}
+use Rattle.sp_meaning.specs.Deeds.{Deed, Went, begins, taken_by}
+use Rattle.sp_meaning.specs.Texts.{Taken, line_length}
+use Rattle.sp_run.specs.Direct.{Store, Came, Got, Not, put}
+use Rattle.sp_run.specs.DirectEval.{Calls, kind_at, left_of, input_op, form_value}
+use Rattle.sp_run.specs.DirectDeeds.{lay_one, lay, copy_in, take_in, advance}
+use Rattle.sp_run.specs.Acts.{read_value, read_line}
+
+pub copy_not : (g : Setting) (n x : ℕ) (xs ys : List ℕ) (v : Value) (gs hs : List Given) (w : Who) (o o1 : Own) (s s1 : Store) (u : Unit {0}) (h : Halted) → ys ≡ x ∷ xs → hs ≡ ValueOf v ∷ gs → put (Cell w.name n x) (Tree v) w o s ≡ Got u o1 s1 → copy_in g n xs gs w o1 s1 ≡ Not h → copy_in g n ys hs w o s ≡ Not h
+copy_not g n x xs ys v gs hs w o o1 s s1 u h e1 e2 e3 e4 =
+    let p : o1 ≡ o = cc in
+    let q : s1 ≡ at_key same_loc (Cell w.name n x) (Tree v) s = cc in
+    let f = rw (p, q) at e4 in
+    rw (e1, e2) f
+
+pub lay_not : (g : Setting) (n b x y : ℕ) (v : Variable) (vs us : List Variable) (w : Who) (o o1 : Own) (s s1 : Store) (u : Unit {0}) (h : Halted) → us ≡ v ∷ vs → v.block ≡ b → y ≡ x + 1 → lay_one g n (x, v) (begins (initials g.program.kinds) v.role v.kind) w o s ≡ Got u o1 s1 → lay g n (variables_of b y vs) w o1 s1 ≡ Not h → lay g n (variables_of b x us) w o s ≡ Not h
+lay_not g n b x y v vs us w o o1 s s1 u h e1 e2 e3 e4 e5 =
+    let k : y ≡ suc x = omega arith in
+    let f = rw k at e5 in
+    rw (e1, eq-eqb v.block b e2, e4) f
+
+pub line_read : (g : Setting) (todo : List Item) (w : Who) (o o1 o2 : Own) (s s1 s2 : Store) (left : List ℕ) (n : ℕ) (u : Unit {0}) → left_of g w o s ≡ Got left o1 s1 → n ≡ line_length left → advance g n w o1 s1 ≡ Got u o2 s2 → read_line g todo w o s ≡ Got (Went todo) o2 s2
+line_read g todo w o o1 o2 s s1 s2 left n u e1 e2 e3 =
+    let l : drop (position_in (s Input)) g.input ≡ left = cc in
+    let p : o1 ≡ o = cc in
+    let q : s1 ≡ s = cc in
+    let m : n ≡ line_length (drop (position_in (s Input)) g.input) = e2 ∙ ap line_length (sym l) in
+    let f = rw (p, q, m) at e3 in
+    let a : o2 ≡ o = cc in
+    let b : s2 ≡ at_key same_loc Input (Position (position_in (s Input) + line_length (drop (position_in (s Input)) g.input))) s = cc in
+    rw (a, b) refl
+
+pub value_read : (g : Setting) (a : Address) (todo : List Item) (w : Who) (o o1 o2 : Own) (s s1 s2 : Store) (k : KindOf) (left : List ℕ) (t : Taken) (u : Unit {0}) → kind_at g a.kind w o s ≡ Got k o s → left_of g w o s ≡ Got left o1 s1 → Some t ≡ taken_by k left → take_in g a t w o1 s1 ≡ Got u o2 s2 → read_value g a todo w o s ≡ Got (Went todo) o2 s2
+value_read g a todo w o o1 o2 s s1 s2 k left t u e1 e2 e3 e4 =
+    let l : drop (position_in (s Input)) g.input ≡ left = cc in
+    let p : o1 ≡ o = cc in
+    let q : s1 ≡ s = cc in
+    let m : taken_by k (drop (position_in (s Input)) g.input) ≡ Some t = ap (taken_by k) l ∙ sym e3 in
+    let f = rw (p, q) at e4 in
+    rw (e1, m, f) refl
+
+pub input_is : (g : Setting) (call : Calls) (k : ℕ) (f : StandardFn) (w : Who) (o o1 : Own) (s s1 : Store) (left : List ℕ) (c : Came Value) → left_of g w o s ≡ Got left o1 s1 → input_op f left w o1 s1 ≡ c → form_value g call k (AtInput f) w o s ≡ c
+input_is g call k f w o o1 s s1 left c e1 e2 =
+    let l : drop (position_in (s Input)) g.input ≡ left = cc in
+    let p : o1 ≡ o = cc in
+    let q : s1 ≡ s = cc in
+    let e = rw (p, q) at e2 in
+    rw l e

@@ -1,0 +1,64 @@
+-- One computation after another, as calls tell of them.
+use Rattle.std.proofs.Common.{◌≡◌, ℕ, zero, suc, ◌+◌, ◌≤◌, Bool, true, false, List, [], ◌∷◌, drop, Some, None, refl, ap, ◌∙◌, sym, arith, if◌then◌else◌}
+use Rattle.std.proofs.lemmas.Bool.Decides.{nat_tests}
+use Rattle.std.specs.Prelude.{Result, slice_get, not, nat_lt}
+use Rattle.std.proofs.lemmas.Grind.{common_steps}
+use Rattle.sp_base.specs.declared.halt.Memory.{Memory}
+use Rattle.sp_run.specs.declared.stop.Halted.{Halted}
+use Rattle.sp_run.specs.declared.machine.Machine.{Machine}
+use Rattle.sp_run.specs.declared.machine.Setting.{Setting}
+use Rattle.sp_run.specs.declared.machine.Who.{Who}
+use Rattle.sp_run.specs.declared.item.Item.{Item}
+use Rattle.sp_meaning.specs.Own as m
+use Rattle.sp_meaning.specs.Values.{Value}
+use Rattle.sp_meaning.specs.Deeds.{goes_on}
+use Rattle.sp_run.specs.Machines.{setting_of, plain_own, plain_who, store_of}
+use Rattle.sp_run.specs.Comings.{Does}
+use Rattle.sp_run.specs.Items.{item_of, items_of}
+use Rattle.sp_run.specs.Texts.{leaves}
+use Rattle.sp_run.specs.Direct.{Store, Came, Got, Not, Work, bind, give, go_on}
+use Rattle.sp_run.specs.DirectDeeds.{peek, settle}
+
+-- a call after another computes what the two compute one after the other
+pub does_then : {R A B : Type 0} (g : Setting) (w : Who) (view : R → B) (before mid after : Machine) (result : Result (Result R Halted) Memory) (h : Work A) (k : A → Work B) (a : A)
+    → h (plain_who w) (plain_own before.own) (store_of g before.log) ≡ Got a (plain_own mid.own) (store_of g mid.log)
+    → Does g w view mid result after (k a) → Does g w view before result after (bind h k)
+does_then g w view before mid after result h k a e d = rw e d
+
+pub first_is : {A : Type 0} (xs : List A) (x : A) → slice_get xs 0 ≡ Some x → xs ≡ x ∷ drop 1 xs
+first_is [] x e = absurd (cc e)
+first_is (y ∷ ys) x e = let h : y ≡ x = cc e in ap (λ z. z ∷ ys) h
+
+-- leaving loops, one at a time
+pub settle_step : (g : m.Setting) (i : m.Item) (todo : List m.Item) (w : m.Who) (o : m.Own) (s : Store) → settle g (i ∷ todo) w o s ≡ bind (leaves g i) (λ b. if b then settle g todo else give (i ∷ todo)) w o s
+settle_step g (m.Do x) todo w o s = refl
+settle_step g (m.First x low high down b) todo w o s = refl
+settle_step g (m.Again x n down b) todo w o s = go (peek g x w o s)
+  where
+    flip : (b1 : Bool) (o1 : m.Own) (s1 : Store) → (if b1 then give (m.Again x n down b ∷ todo) else settle g todo) w o1 s1 ≡ (if not b1 then settle g todo else give (m.Again x n down b ∷ todo)) w o1 s1
+    flip true o1 s1 = refl
+    flip false o1 s1 = refl
+
+    go : (c : Came Value) → go_on (λ v. if goes_on down n v then give (m.Again x n down b ∷ todo) else settle g todo) w c ≡ go_on (λ b1. if b1 then settle g todo else give (m.Again x n down b ∷ todo)) w (go_on (λ v. give (not (goes_on down n v))) w c)
+    go (Got v o1 s1) = flip (goes_on down n v) o1 s1
+    go (Not h) = refl
+settle_step g (m.Test x e) todo w o s = refl
+settle_step g m.Leave todo w o s = refl
+settle_step g (m.Break f) todo w o s = refl
+
+pub settle_on : {R : Type 0} (g : Setting) (w : Who) (before mid after : Machine) (view : R → List m.Item) (result : Result (Result R Halted) Memory) (todo rest : List Item) (i : Item)
+    → todo ≡ i ∷ rest
+    → leaves (setting_of g) (item_of i) (plain_who w) (plain_own before.own) (store_of g before.log) ≡ Got true (plain_own mid.own) (store_of g mid.log)
+    → Does g w view mid result after (settle (setting_of g) (items_of rest)) → Does g w view before result after (settle (setting_of g) (items_of todo))
+settle_on g w before mid after view result todo rest i e l d =
+    rw e (rw (settle_step (setting_of g) (item_of i) (items_of rest) (plain_who w) (plain_own before.own) (store_of g before.log)) (rw l d))
+
+pub settle_here : (g : Setting) (w : Who) (before mid : Machine) (todo rest : List Item) (i : Item)
+    → todo ≡ i ∷ rest
+    → leaves (setting_of g) (item_of i) (plain_who w) (plain_own before.own) (store_of g before.log) ≡ Got false (plain_own mid.own) (store_of g mid.log)
+    → settle (setting_of g) (items_of todo) (plain_who w) (plain_own before.own) (store_of g before.log) ≡ Got (items_of todo) (plain_own mid.own) (store_of g mid.log)
+settle_here g w before mid todo rest i e l =
+    rw e (rw (settle_step (setting_of g) (item_of i) (items_of rest) (plain_who w) (plain_own before.own) (store_of g before.log)) (rw l refl))
+
+pub not_over : (out a b t : ℕ) → t ≡ a + b → t ≤ out → nat_lt out (a + b) ≡ false
+not_over out a b t e h = grind (arith, nat_tests)

@@ -1,0 +1,119 @@
+-- All processes of a state, gone through one after another: none is running, and those that wait.
+use Rattle.std.proofs.Common.{◌≡◌, ◌⊎◌, ⊎_elim, inl, inr, ℕ, zero, suc, ◌+◌, ◌<◌, ◌≤◌, Bool, true, false, List, [], ◌∷◌, Option, Some, None, map, length, get_or, refl, ap, ◌∙◌, sym, subst, arith, add-one}
+use Rattle.std.specs.Prelude.{◌≢◌}
+use Rattle.sp_run.specs.declared.machine.Setting as set
+use Rattle.sp_run.specs.declared.state.Became.{Became}
+use Rattle.sp_run.specs.declared.state.State.{State}
+use Rattle.sp_run.specs.declared.state.Offer.{Offer}
+use Rattle.sp_journal.specs.declared.entry.Way.{Way}
+use Rattle.sp_meaning.specs.Model as m
+use Rattle.sp_meaning.specs.Model.{Name, Channel}
+use Rattle.sp_meaning.specs.Own as o
+use Rattle.sp_meaning.specs.Runs.{StateOf, running}
+use Rattle.sp_meaning.specs.Steps.{way_of, working_in}
+use Rattle.sp_meaning.specs.Ends.{Waiting, IsIn, IsSorted, IsIdle, WaitsSo}
+use Rattle.sp_run.specs.Machines.{setting_of}
+use Rattle.sp_run.specs.Views.{plain_channel}
+use Rattle.sp_run.specs.Doings.{plain_cargo}
+use Rattle.sp_run.specs.States.{Standing, plain_condition, plain_offer, offer_in, conditions_of, state_of}
+use Rattle.sp_run.specs.Meanings.{inserted, AreWaiting}
+use Rattle.sp_run.proofs.Sorting.{sorted_inserted, in_inserted, inserted_keeps, inserted_has, waits_once, entered}
+
+-- the name of an entry
+abbrev pub name_at : List Became → ℕ → Name
+name_at bs k = get_or (map (λ (b : Became). b.name) bs) k []
+
+pub name_at_is : (bs : List Became) (k : ℕ) (b : Became) → k < length bs → b ≡ get_or bs k b → name_at bs k ≡ b.name
+name_at_is [] k b h e = absurd (omega arith)
+name_at_is (c ∷ bs) zero b h e = ap (λ (x : Became). x.name) (sym e)
+name_at_is (c ∷ bs) (suc k) b h e = name_at_is bs k b (omega arith) e
+
+-- a process is absent, or it is one of the entries
+known : (bs : List Became) (q : Name) → (conditions_of bs q ≡ m.Absent) ⊎ ((k : ℕ) × (k < length bs) × (name_at bs k ≡ q))
+known bs q = entered (λ (b : Became). b.name) (λ (b : Became). plain_condition b.condition) (λ p. m.Absent) bs q
+
+pub idle_all : (run : set.Setting) (s : State) → ((k : ℕ) → k < length s.conditions → running (setting_of run) (state_of run s) (name_at s.conditions k) ≡ None) → IsIdle (setting_of run) (state_of run s)
+unfolding state_of
+idle_all run s h q = ⊎_elim
+    (λ (e : conditions_of s.conditions q ≡ m.Absent). ap (working_in (conditions_of s.conditions) q) e)
+    (λ (x : (k : ℕ) × (k < length s.conditions) × (name_at s.conditions k ≡ q)). subst (λ z. running (setting_of run) (state_of run s) z ≡ None) x.2 (h x.0 x.1))
+    (known s.conditions q)
+
+-- an offer stands in a condition where its process waits
+pub waits_with : (c : Standing) (f : m.Offer o.Process o.Held o.Address) → offer_in c ≡ Some f → c ≡ m.Waits f
+waits_with m.Absent f e = absurd (cc e)
+waits_with (m.Works p) f e = absurd (cc e)
+waits_with (m.Waits h) f e = cc e
+waits_with (m.Joins k n p) f e = absurd (cc e)
+waits_with m.Ended f e = absurd (cc e)
+
+-- of the entries below one, those that wait
+pub record AreBelow (run : set.Setting) (s : State) (i : ℕ) (vs : List Waiting) : Type 0 where
+  pub sorted : IsSorted vs
+  pub only : (w : Waiting) → IsIn w vs → WaitsSo (setting_of run) (state_of run s) w
+  pub whole : (k : ℕ) → k < i → (w : Waiting) → WaitsSo (setting_of run) (state_of run s) w → name_at s.conditions k ≡ w.who → IsIn w vs
+
+pub below_nothing : (run : set.Setting) (s : State) → AreBelow run s 0 []
+below_nothing run s = record { sorted = tt; only = λ w i. absurd i; whole = λ k h. absurd (omega arith) }
+
+at_or_below : (k i : ℕ) → k < suc i → (k < i) ⊎ (k ≡ i)
+at_or_below k i h = grind arith
+
+pub below_waits : (run : set.Setting) (s : State) (i : ℕ) (vs : List Waiting) (f : m.Offer o.Process o.Held o.Address) → AreBelow run s i vs
+    → offer_in (conditions_of s.conditions (name_at s.conditions i)) ≡ Some f
+    → AreBelow run s (suc i) (inserted (record { who = name_at s.conditions i; way = way_of f.cargo; channel = f.channel }) vs)
+unfolding state_of
+below_waits run s i vs f h e =
+    let w : Waiting = record { who = name_at s.conditions i; way = way_of f.cargo; channel = f.channel } in
+    let so : WaitsSo (setting_of run) (state_of run s) w = (f, waits_with (conditions_of s.conditions (name_at s.conditions i)) f e, refl, refl) in
+    let has : IsIn w (inserted w vs) = inserted_has w vs (λ v k n. waits_once (setting_of run) (state_of run s) w v so (h.only v k) n) in
+    record {
+      sorted = sorted_inserted w vs h.sorted;
+      only = λ v k. ⊎_elim (λ (z : v ≡ w). subst (WaitsSo (setting_of run) (state_of run s)) (sym z) so) (λ (z : IsIn v vs). h.only v z) (in_inserted v w vs k);
+      whole = λ k l v t n. ⊎_elim
+          (λ (z : k < i). inserted_keeps v w vs (h.whole k z v t n))
+          (λ (z : k ≡ i). let q : w.who ≡ v.who = ap (name_at s.conditions) (sym z) ∙ n in
+          let is : w ≡ v = waits_once (setting_of run) (state_of run s) w v so t q in
+          subst (λ u. IsIn u (inserted w vs)) is has)
+          (at_or_below k i l);
+    }
+
+pub below_past : (run : set.Setting) (s : State) (i : ℕ) (vs : List Waiting) → AreBelow run s i vs → offer_in (conditions_of s.conditions (name_at s.conditions i)) ≡ None → AreBelow run s (suc i) vs
+unfolding state_of
+below_past run s i vs h e = record {
+  sorted = h.sorted;
+  only = h.only;
+  whole = λ k l v t n. ⊎_elim
+      (λ (z : k < i). h.whole k z v t n)
+      (λ (z : k ≡ i). let c : conditions_of s.conditions (name_at s.conditions i) ≡ m.Waits t.0 = ap (conditions_of s.conditions) (ap (name_at s.conditions) (sym z) ∙ n) ∙ t.1 in
+      let x : Some t.0 ≡ None = sym (ap offer_in c) ∙ e in absurd (cc x))
+      (at_or_below k i l);
+}
+
+pub below_on : (run : set.Setting) (s : State) (i : ℕ) (b : Became) (vs us : List Waiting) (f : Offer) (who : Name) (way : Way) (on : Channel) → AreBelow run s i vs
+    → i < length s.conditions → b ≡ get_or s.conditions i b → Some (plain_offer f) ≡ offer_in (conditions_of s.conditions b.name)
+    → who ≡ b.name → way ≡ way_of (plain_cargo f.cargo) → on ≡ plain_channel f.channel → us ≡ inserted (record { who = who; way = way; channel = on }) vs → AreBelow run s (i + 1) us
+below_on run s i b vs us f who way on h l e o p q r u =
+    let at : name_at s.conditions i ≡ b.name = name_at_is s.conditions i b l e in
+    let x : name_at s.conditions i ≡ who = at ∙ sym p in
+    let y : way_of (plain_cargo f.cargo) ≡ way = sym q in
+    let z : plain_channel f.channel ≡ on = sym r in
+    let is : offer_in (conditions_of s.conditions (name_at s.conditions i)) ≡ Some (plain_offer f) = ap (λ (n : Name). offer_in (conditions_of s.conditions n)) at ∙ sym o in
+    rw (u, add-one) (subst (λ (v : Waiting). AreBelow run s (suc i) (inserted v vs)) (λ n. record { who = x n; way = y n; channel = z n }) (below_waits run s i vs (plain_offer f) h is))
+
+pub below_off : (run : set.Setting) (s : State) (i : ℕ) (b : Became) (vs : List Waiting) → AreBelow run s i vs
+    → i < length s.conditions → b ≡ get_or s.conditions i b → None ≡ offer_in (conditions_of s.conditions b.name) → AreBelow run s (i + 1) vs
+below_off run s i b vs h l e o =
+    let at : name_at s.conditions i ≡ b.name = name_at_is s.conditions i b l e in
+    rw add-one (below_past run s i vs h (ap (λ (n : Name). offer_in (conditions_of s.conditions n)) at ∙ sym o))
+
+pub below_all : (run : set.Setting) (s : State) (i : ℕ) (vs : List Waiting) → AreBelow run s i vs → length s.conditions ≤ i → AreWaiting (setting_of run) (state_of run s) vs
+unfolding state_of
+below_all run s i vs h l = record {
+  sorted = h.sorted;
+  only = h.only;
+  whole = λ w t. ⊎_elim
+      (λ (e : conditions_of s.conditions w.who ≡ m.Absent). let x : m.Absent ≡ m.Waits t.0 = sym e ∙ t.1 in absurd (cc x))
+      (λ (x : (k : ℕ) × (k < length s.conditions) × (name_at s.conditions k ≡ w.who)). h.whole x.0 (omega (arith, x.1)) w t x.2)
+      (known s.conditions w.who);
+}

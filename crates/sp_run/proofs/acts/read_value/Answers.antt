@@ -1,0 +1,16 @@
+use Rattle.std.proofs.Common.{rules, ◌≡◌, refl, Some}
+use Rattle.sp_meaning.specs.Deeds.{taken_by}
+use Rattle.sp_run.specs.Machines.{setting_of, plain_who, plain_own, store_of}
+use Rattle.sp_run.specs.Views.{plain_address}
+use Rattle.sp_run.specs.Items.{items_of}
+use Rattle.sp_run.specs.Texts.{plain_taken, taken_of}
+use Rattle.sp_run.proofs.Acting.{value_read}
+use Rattle.sp_run.proofs.acts.read_value.Goals as goal
+
+pub returns : goal.returns
+returns c =
+    let e1 = rw c.in-Ok.is at c.in_ok-value.ensures in
+    let e2 = rw c.in-Ok-2.is at c.in_ok-value-2.ensures in
+    let e3 : Some (plain_taken c.in-Some.taken) ≡ taken_by c.in-Ok.value.now c.in-Ok-2.value.now = rw c.in-Some.is at c.taken_by.ensures in
+    let e4 = rw c.in-Ok-3.is at c.in_ok-value-3.ensures in
+    value_read (setting_of c.args.run.now) (plain_address c.args.at.now) (items_of c.args.todo.now.items) (plain_who c.args.who.now) (plain_own c.args.machine.now.own) (plain_own c.left_of.new.machine.own) (plain_own c.take_in.new.machine.own) (store_of c.args.run.now c.args.machine.now.log) (store_of c.args.run.now c.left_of.new.machine.log) (store_of c.args.run.now c.take_in.new.machine.log) c.in-Ok.value.now c.in-Ok-2.value.now (plain_taken c.in-Some.taken) c.in-Ok-3.value e1 e2 e3 e4

@@ -1,0 +1,97 @@
+use Rattle.std.proofs.Common.{◌≡◌}
+use Rattle.sp_run.specs.Items.{items_of}
+use Rattle.sp_run.specs.Machines.{setting_of, plain_who, plain_own, store_of}
+use Rattle.sp_run.specs.DirectDeeds.{all}
+use Rattle.sp_run.proofs.interpret.+interpret.Given as goal
+
+abbrev pub invariant-all-loop-left : goal.invariant-all-loop-left
+invariant-all-loop-left l =
+    all (setting_of l.run) l.left (items_of l.todo.items) (plain_who l.who) (plain_own l.machine.own) (store_of l.run l.machine.log) ≡
+    all (setting_of l.run) l.initial.left (items_of l.initial.todo.items) (plain_who l.who) (plain_own l.initial.machine.own) (store_of l.run l.initial.machine.log)
+
+abbrev pub decreases-all-loop-left : goal.decreases-all-loop-left
+decreases-all-loop-left l = l.left
+
+abbrev pub decreases-value : goal.decreases-value
+decreases-value l = l.levels
+
+abbrev pub decreases-form_value : goal.decreases-form_value
+decreases-form_value l = l.levels
+
+abbrev pub decreases-place : goal.decreases-place
+decreases-place l = l.levels
+
+abbrev pub decreases-selected : goal.decreases-selected
+decreases-selected l = l.levels
+
+abbrev pub decreases-actuals : goal.decreases-actuals
+decreases-actuals l = l.levels
+
+abbrev pub decreases-call : goal.decreases-call
+decreases-call l = l.levels
+
+abbrev pub decreases-all : goal.decreases-all
+decreases-all l = l.levels
+
+abbrev pub decreases-one : goal.decreases-one
+decreases-one l = l.levels
+
+abbrev pub decreases-ordinal_of : goal.decreases-ordinal_of
+decreases-ordinal_of l = l.levels
+
+abbrev pub decreases-address : goal.decreases-address
+decreases-address l = l.levels
+
+abbrev pub decreases-width : goal.decreases-width
+decreases-width l = l.levels
+
+abbrev pub decreases-act : goal.decreases-act
+decreases-act l = l.levels
+
+abbrev pub decreases-start_assign : goal.decreases-start_assign
+decreases-start_assign l = l.levels
+
+abbrev pub decreases-start_call : goal.decreases-start_call
+decreases-start_call l = l.levels
+
+abbrev pub decreases-start_if : goal.decreases-start_if
+decreases-start_if l = l.levels
+
+abbrev pub decreases-start_either : goal.decreases-start_either
+decreases-start_either l = l.levels
+
+abbrev pub decreases-start_while : goal.decreases-start_while
+decreases-start_while l = l.levels
+
+abbrev pub decreases-start_for : goal.decreases-start_for
+decreases-start_for l = l.levels
+
+abbrev pub decreases-start_case : goal.decreases-start_case
+decreases-start_case l = l.levels
+
+abbrev pub decreases-start_forall : goal.decreases-start_forall
+decreases-start_forall l = l.levels
+
+abbrev pub decreases-start_assume : goal.decreases-start_assume
+decreases-start_assume l = l.levels
+
+abbrev pub decreases-start_read : goal.decreases-start_read
+decreases-start_read l = l.levels
+
+abbrev pub decreases-start_write : goal.decreases-start_write
+decreases-start_write l = l.levels
+
+abbrev pub decreases-start_text : goal.decreases-start_text
+decreases-start_text l = l.levels
+
+abbrev pub decreases-start_open : goal.decreases-start_open
+decreases-start_open l = l.levels
+
+abbrev pub decreases-start_send : goal.decreases-start_send
+decreases-start_send l = l.levels
+
+abbrev pub decreases-start_receive : goal.decreases-start_receive
+decreases-start_receive l = l.levels
+
+abbrev pub decreases-start : goal.decreases-start
+decreases-start l = l.levels

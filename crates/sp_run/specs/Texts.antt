@@ -1,0 +1,36 @@
+-- Items read and written, as they are kept in memory; the children of a forall; the arms of a case.
+use Rattle.std.specs.Prelude.{ℕ, ℤ, pos, ◌+ℤ◌, ◌-ℤ◌, nat_abs, int_lt, List, Bool, true, false, not, Option, if◌then◌else◌}
+use Rattle.std.specs.Option.{option_map}
+use Rattle.sp_run.specs.declared.texts.Taken.{Taken}
+use Rattle.sp_run.specs.declared.texts.Taken.TheVariants as taken
+use Rattle.sp_tree.specs.Items as i
+use Rattle.sp_tree.specs.declared.checked.Arm as ast_a
+use Rattle.sp_tree.specs.Plain.{Stmt, Arm}
+use Rattle.sp_tree.specs.PlainOf.{stmt_form_step, arm_step, stmt_step}
+use Rattle.sp_meaning.specs.Own.{Setting, Item, Do, First, Again, Test, Leave, Break}
+use Rattle.sp_meaning.specs.Deeds.{Deed, Went, indexed_children, goes_on}
+use Rattle.sp_run.specs.Direct.{Work, bind, give}
+use Rattle.sp_run.specs.DirectDeeds.{fork, peek}
+
+abbrev pub plain_taken : Taken → i.Taken
+plain_taken (taken.Takes n bytes) = i.Takes n bytes
+plain_taken (taken.Fails f) = i.Fails f
+
+abbrev pub taken_of : Option Taken → Option i.Taken
+taken_of o = option_map plain_taken o
+
+abbrev pub arm_of : ast_a.Arm → Arm
+arm_of = ast_a.fold-Arm Stmt Arm Stmt stmt_form_step arm_step stmt_step
+
+-- the children of a forall, if its range has values
+abbrev pub forall : Setting → ℕ → ℤ → ℤ → Stmt → List Item → Work Deed
+forall g x m n s todo = if int_lt n m then give (Went todo) else fork g (indexed_children x s m (nat_abs ((n -ℤ m) +ℤ pos 1))) todo
+
+-- whether it is a loop that is at its end
+abbrev pub leaves : Setting → Item → Work Bool
+leaves g (Do s) = give false
+leaves g (First x m n down s) = give false
+leaves g (Again x n down s) = bind (peek g x) (λ v. give (not (goes_on down n v)))
+leaves g (Test s e) = give false
+leaves g Leave = give false
+leaves g (Break f) = give false

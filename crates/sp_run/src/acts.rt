@@ -1,0 +1,410 @@
+//! What a step does once its expressions have values.
+
+ghost use Rattle.std.specs.Prelude.{◌≡◌, ◌∷◌, IfOk, OnOk, map};
+ghost use Rattle.sp_tree.specs.PlainOf.{expr_of, stmt_of, arms_of};
+ghost use Rattle.sp_meaning.specs.Deeds.{push, arm_for, is_range, next_value};
+ghost use Rattle.sp_run.specs.Items.{items_of, item_of};
+ghost use Rattle.sp_run.specs.Machines.{setting_of, plain_who};
+ghost use Rattle.sp_run.specs.Comings.{Does};
+ghost use Rattle.sp_run.specs.Views.{plain_value, plain_address};
+ghost use Rattle.sp_run.specs.Doings.{given_of, plain_deed};
+ghost use Rattle.sp_run.specs.Texts.{arm_of};
+ghost use Rattle.sp_run.specs.DirectDeeds.{chosen, turn_of};
+ghost use Rattle.sp_run.specs.Acts.{assigned_to, picked, either, ranged, tested, assumed, opened, next_channel, called, looped, repeated, next_turn, returned, read_value, read_line, write_bytes, write_text, write_shown};
+
+use crate::calls::{Given, enter, leave, tick};
+use crate::deeds::{Deed, advance, arm_for, take_in, turn_of, write};
+use crate::frames::place_of;
+use crate::item::{Item, push};
+use crate::machine::{Machine, Setting, Who};
+use crate::operators::{kind_at, left_of, ordinal, read_at};
+use crate::stop::{Done, Halted};
+use crate::store::assign;
+use crate::take;
+use crate::texts::{in_width, line_length, shown, taken_by};
+use crate::value::{Address, Chan, Value, copy_name};
+use sp_base::{Fault, Memory};
+use sp_tree::{Arm, Expr, Stmt};
+
+/// Puts one thing before what is left.
+pub fn push_item<'a>(item: Item<'a>, todo: &mut Vec<Item<'a>>) -> Result<(), Memory>
+    ensures { OnOk result (items_of todo.new.items ≡ item_of item.entry ∷ items_of todo.old.items) }
+{
+    todo.insert(0, item)?;
+    Ok(())
+}
+
+/// Puts a statement and then one thing before what is left.
+fn push_both<'a>(s: &'a Stmt, item: Item<'a>, todo: &mut Vec<Item<'a>>) -> Result<(), Memory>
+    ensures { OnOk result (items_of todo.new.items ≡ push (stmt_of s.now) (item_of item.entry ∷ items_of todo.old.items)) }
+{
+    push_item(item, todo)?;
+    push(s, todo)?;
+    Ok(())
+}
+
+/// A value goes to an address.
+pub fn assigned_to<'a>(
+    run: &Setting,
+    who: &Who,
+    machine: &mut Machine,
+    at: &Address,
+    v: &Value,
+    todo: &mut Vec<Item<'a>>,
+) -> Done<Deed<'a>>
+    ensures { Does run.now who.now (plain_deed (items_of todo.new.items)) machine.old result machine.new (assigned_to (plain_address at.now) (plain_value v.now) (items_of todo.old.items)) }
+{
+    take!(assign(run, who, machine, at, v));
+    Ok(Ok(Deed::Went))
+}
+
+/// A statement, if an ordinal is true.
+pub fn picked<'a>(
+    run: &Setting,
+    who: &Who,
+    machine: &Machine,
+    n: i64,
+    a: &'a Stmt,
+    todo: &mut Vec<Item<'a>>,
+) -> Done<Deed<'a>>
+    ensures { Does run.now who.now (plain_deed (items_of todo.new.items)) machine.now result machine.now (picked n (stmt_of a.now) (items_of todo.old.items)) }
+{
+    if n <= 0 {
+        return Ok(Ok(Deed::Went));
+    }
+    push(a, todo)?;
+    Ok(Ok(Deed::Went))
+}
+
+/// One of two statements.
+pub fn either<'a>(
+    run: &Setting,
+    who: &Who,
+    machine: &Machine,
+    n: i64,
+    a: &'a Stmt,
+    b: &'a Stmt,
+    todo: &mut Vec<Item<'a>>,
+) -> Done<Deed<'a>>
+    ensures { Does run.now who.now (plain_deed (items_of todo.new.items)) machine.now result machine.now (either n (stmt_of a.now) (stmt_of b.now) (items_of todo.old.items)) }
+{
+    if n <= 0 {
+        push(b, todo)?;
+        return Ok(Ok(Deed::Went));
+    }
+    push(a, todo)?;
+    Ok(Ok(Deed::Went))
+}
+
+/// Whether a `for` loop has a value.
+fn is_range(down: bool, low: i64, high: i64) -> bool
+    ensures { result ≡ is_range down low high }
+{
+    if down { high <= low } else { low <= high }
+}
+
+/// A `for` loop begins, if it has a value.
+pub fn ranged<'a>(
+    run: &Setting,
+    who: &Who,
+    machine: &Machine,
+    variable: u32,
+    low: i64,
+    high: i64,
+    down: bool,
+    body: &'a Stmt,
+    todo: &mut Vec<Item<'a>>,
+) -> Done<Deed<'a>>
+    ensures { Does run.now who.now (plain_deed (items_of todo.new.items)) machine.now result machine.now (ranged variable low high down (stmt_of body.now) (items_of todo.old.items)) }
+{
+    if !is_range(down, low, high) {
+        return Ok(Ok(Deed::Went));
+    }
+    let first = Item::First {
+        variable,
+        low,
+        high,
+        down,
+        body,
+    };
+    push_item(first, todo)?;
+    Ok(Ok(Deed::Went))
+}
+
+/// The statement of the arm with this constant, or F9.
+pub fn chosen<'a>(
+    run: &Setting,
+    who: &Who,
+    machine: &Machine,
+    n: i64,
+    arms: &'a [Arm],
+    todo: &mut Vec<Item<'a>>,
+) -> Done<Deed<'a>>
+    ensures { Does run.now who.now (plain_deed (items_of todo.new.items)) machine.now result machine.now (chosen (setting_of run.now) (arm_for n (arms_of (map arm_of arms.now))) (items_of todo.old.items)) }
+{
+    match arm_for(n, arms) {
+        Some(s) => {
+            push(s, todo)?;
+            Ok(Ok(Deed::Went))
+        }
+        None => Ok(Err(Halted::Fault(Fault::F9))),
+    }
+}
+
+/// The test of a `repeat` loop, with its ordinal.
+pub fn tested<'a>(
+    run: &Setting,
+    who: &Who,
+    machine: &Machine,
+    n: i64,
+    s: &'a Stmt,
+    e: &'a Expr,
+    todo: &mut Vec<Item<'a>>,
+) -> Done<Deed<'a>>
+    ensures { Does run.now who.now (plain_deed (items_of todo.new.items)) machine.now result machine.now (tested n (stmt_of s.now) (expr_of e.now) (items_of todo.old.items)) }
+{
+    if n <= 0 {
+        push_item(Item::Repeat(s, e), todo)?;
+        return Ok(Ok(Deed::Went));
+    }
+    Ok(Ok(Deed::Went))
+}
+
+/// An ordinal is true, or F8.
+pub fn assumed<'a>(
+    run: &Setting,
+    who: &Who,
+    machine: &Machine,
+    n: i64,
+    todo: &mut Vec<Item<'a>>,
+) -> Done<Deed<'a>>
+    ensures { Does run.now who.now (plain_deed (items_of todo.new.items)) machine.now result machine.now (assumed n (items_of todo.old.items)) }
+{
+    if n <= 0 {
+        return Ok(Err(Halted::Fault(Fault::F8)));
+    }
+    Ok(Ok(Deed::Went))
+}
+
+/// A new channel goes to an address.
+pub fn opened<'a>(
+    run: &Setting,
+    who: &Who,
+    machine: &mut Machine,
+    at: &Address,
+    todo: &mut Vec<Item<'a>>,
+) -> Done<Deed<'a>>
+    ensures { Does run.now who.now (plain_deed (items_of todo.new.items)) machine.old result machine.new (opened (plain_address at.now) (items_of todo.old.items)) }
+{
+    let c = new_channel(run, who)?;
+    take!(assign(run, who, machine, at, &c));
+    Ok(Ok(Deed::Opened))
+}
+
+/// The channel that a process opens next.
+fn new_channel(run: &Setting, who: &Who) -> Result<Value, Memory>
+    ensures { IfOk result (λ v. plain_value v ≡ next_channel (plain_who who.now)) }
+{
+    let owner = copy_name(run.alloc, &who.name)?;
+    Ok(Value::Chan(Chan {
+        owner,
+        nth: who.opens,
+    }))
+}
+
+/// A procedure's block is entered, and its body comes first.
+pub fn called<'a>(
+    run: &Setting<'a>,
+    who: &Who,
+    machine: &mut Machine,
+    f: u32,
+    given: &[Given],
+    todo: &mut Vec<Item<'a>>,
+) -> Done<Deed<'a>>
+    ensures { Does run.now who.now (plain_deed (items_of todo.new.items)) machine.old result machine.new (called (setting_of run.now) f (given_of given.now) (items_of todo.old.items)) }
+{
+    let block = take!(enter(run, who, machine, f, given));
+    push_both(&block.body, Item::Leave, todo)?;
+    Ok(Ok(Deed::Beat))
+}
+
+/// One more turn of a `while` loop, if its ordinal is true.
+pub fn looped<'a>(
+    run: &Setting,
+    who: &Who,
+    machine: &mut Machine,
+    n: i64,
+    e: &'a Expr,
+    s: &'a Stmt,
+    todo: &mut Vec<Item<'a>>,
+) -> Done<Deed<'a>>
+    ensures { Does run.now who.now (plain_deed (items_of todo.new.items)) machine.old result machine.new (looped (setting_of run.now) n (expr_of e.now) (stmt_of s.now) (items_of todo.old.items)) }
+{
+    if n <= 0 {
+        return Ok(Ok(Deed::Went));
+    }
+    take!(tick(run, who, machine));
+    push_both(s, Item::While(e, s), todo)?;
+    Ok(Ok(Deed::Beat))
+}
+
+/// One more turn of a `repeat` loop.
+pub fn repeated<'a>(
+    run: &Setting,
+    who: &Who,
+    machine: &mut Machine,
+    s: &'a Stmt,
+    e: &'a Expr,
+    todo: &mut Vec<Item<'a>>,
+) -> Done<Deed<'a>>
+    ensures { Does run.now who.now (plain_deed (items_of todo.new.items)) machine.old result machine.new (repeated (setting_of run.now) (stmt_of s.now) (expr_of e.now) (items_of todo.old.items)) }
+{
+    take!(tick(run, who, machine));
+    push_both(s, Item::Test(s, e), todo)?;
+    Ok(Ok(Deed::Beat))
+}
+
+/// The value after this one, or want of memory where 64 bits do not hold it.
+fn next_value(down: bool, n: i64) -> Result<i64, Memory>
+    ensures { IfOk result (λ m. m ≡ next_value down n) }
+{
+    if down {
+        n.checked_sub(1).ok_or(Memory)
+    } else {
+        n.checked_add(1).ok_or(Memory)
+    }
+}
+
+/// The turn of a `for` loop after this value.
+fn turn_after<'a>(
+    run: &Setting,
+    who: &Who,
+    machine: &mut Machine,
+    variable: u32,
+    n: i64,
+    limit: i64,
+    down: bool,
+    body: &'a Stmt,
+    todo: &mut Vec<Item<'a>>,
+) -> Done<Deed<'a>>
+    ensures { Does run.now who.now (plain_deed (items_of todo.new.items)) machine.old result machine.new (turn_of (setting_of run.now) variable (next_value down n) limit down (stmt_of body.now) (items_of todo.old.items)) }
+{
+    let n = next_value(down, n)?;
+    let d = take!(turn_of(run, who, machine, variable, n, limit, down, body, todo));
+    Ok(Ok(d))
+}
+
+/// The next turn of a `for` loop.
+pub fn next_turn<'a>(
+    run: &Setting,
+    who: &Who,
+    machine: &mut Machine,
+    variable: u32,
+    limit: i64,
+    down: bool,
+    body: &'a Stmt,
+    todo: &mut Vec<Item<'a>>,
+) -> Done<Deed<'a>>
+    ensures { Does run.now who.now (plain_deed (items_of todo.new.items)) machine.old result machine.new (next_turn (setting_of run.now) variable limit down (stmt_of body.now) (items_of todo.old.items)) }
+{
+    let q = take!(place_of(run, who, machine, variable));
+    let v = take!(read_at(run, who, machine, &q));
+    let n = take!(ordinal(run, who, machine, &v));
+    let d = take!(turn_after(run, who, machine, variable, n, limit, down, body, todo));
+    Ok(Ok(d))
+}
+
+/// The end of a procedure.
+pub fn returned<'a>(
+    run: &Setting,
+    who: &Who,
+    machine: &mut Machine,
+    todo: &mut Vec<Item<'a>>,
+) -> Done<Deed<'a>>
+    ensures { Does run.now who.now (plain_deed (items_of todo.new.items)) machine.old result machine.new (returned (setting_of run.now) (items_of todo.old.items)) }
+{
+    take!(leave(run, who, machine));
+    Ok(Ok(Deed::Went))
+}
+
+/// The next item of the input goes to an address.
+pub fn read_value<'a>(
+    run: &Setting,
+    who: &Who,
+    machine: &mut Machine,
+    at: &Address,
+    todo: &mut Vec<Item<'a>>,
+) -> Done<Deed<'a>>
+    ensures { Does run.now who.now (plain_deed (items_of todo.new.items)) machine.old result machine.new (read_value (setting_of run.now) (plain_address at.now) (items_of todo.old.items)) }
+{
+    let kind = take!(kind_at(run, who, machine, at.kind));
+    let left = take!(left_of(run, who, machine));
+    let Some(taken) = taken_by(kind, left) else {
+        return Ok(Err(Halted::Lost));
+    };
+    take!(take_in(run, who, machine, at, taken));
+    Ok(Ok(Deed::Went))
+}
+
+/// The rest of the input's line is skipped.
+pub fn read_line<'a>(
+    run: &Setting,
+    who: &Who,
+    machine: &mut Machine,
+    todo: &mut Vec<Item<'a>>,
+) -> Done<Deed<'a>>
+    ensures { Does run.now who.now (plain_deed (items_of todo.new.items)) machine.old result machine.new (read_line (setting_of run.now) (items_of todo.old.items)) }
+{
+    let left = take!(left_of(run, who, machine));
+    take!(advance(run, who, machine, line_length(left)));
+    Ok(Ok(Deed::Went))
+}
+
+/// Bytes are written.
+pub fn write_bytes<'a>(
+    run: &Setting,
+    who: &Who,
+    machine: &mut Machine,
+    text: &[u8],
+    todo: &mut Vec<Item<'a>>,
+) -> Done<Deed<'a>>
+    ensures { Does run.now who.now (plain_deed (items_of todo.new.items)) machine.old result machine.new (write_bytes (setting_of run.now) text.now (items_of todo.old.items)) }
+{
+    take!(write(run, who, machine, text));
+    Ok(Ok(Deed::Went))
+}
+
+/// A text is written in its width.
+pub fn write_text<'a>(
+    run: &Setting,
+    who: &Who,
+    machine: &mut Machine,
+    cut: bool,
+    text: &[u8],
+    width: Option<i64>,
+    todo: &mut Vec<Item<'a>>,
+) -> Done<Deed<'a>>
+    ensures { Does run.now who.now (plain_deed (items_of todo.new.items)) machine.old result machine.new (write_text (setting_of run.now) cut text.now width (items_of todo.old.items)) }
+{
+    let bytes = take!(in_width(run, who, machine, cut, text, width));
+    let d = take!(write_bytes(run, who, machine, bytes.items(), todo));
+    Ok(Ok(d))
+}
+
+/// An ordinal of a type is written in its width.
+pub fn write_shown<'a>(
+    run: &Setting,
+    who: &Who,
+    machine: &mut Machine,
+    kind: u32,
+    n: i64,
+    width: Option<i64>,
+    todo: &mut Vec<Item<'a>>,
+) -> Done<Deed<'a>>
+    ensures { Does run.now who.now (plain_deed (items_of todo.new.items)) machine.old result machine.new (write_shown (setting_of run.now) kind n width (items_of todo.old.items)) }
+{
+    let kind = take!(kind_at(run, who, machine, kind));
+    let (cut, text) = shown(run.alloc, kind, n)?;
+    let d = take!(write_text(run, who, machine, cut, text.items(), width, todo));
+    Ok(Ok(d))
+}

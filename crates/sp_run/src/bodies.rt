@@ -1,0 +1,69 @@
+//! What is left of a function's body, and the end of the function.
+
+ghost use Rattle.std.specs.Prelude.{◌≡◌, [], IfOk};
+ghost use Rattle.sp_tree.specs.PlainOf.{stmt_of};
+ghost use Rattle.sp_meaning.specs.Deeds.{push};
+ghost use Rattle.sp_run.specs.Items.{items_of};
+ghost use Rattle.sp_run.specs.Machines.{setting_of};
+ghost use Rattle.sp_run.specs.Comings.{Does};
+ghost use Rattle.sp_run.specs.Views.{plain_value};
+ghost use Rattle.sp_run.specs.Doings.{plain_deed};
+ghost use Rattle.sp_run.specs.Acts.{ended, left_after, left_if, before};
+
+use crate::calls::{give_back, leave};
+use crate::deeds::Deed;
+use crate::item::{Item, push};
+use crate::machine::{Machine, Setting, Who};
+use crate::stop::{Done, Halted};
+use crate::take;
+use crate::value::Value;
+use sp_base::Memory;
+use sp_tree::Stmt;
+
+/// All that a body has to do.
+pub fn body_of<'a>(run: &Setting<'a>, body: &'a Stmt) -> Result<Vec<Item<'a>>, Memory>
+    ensures { IfOk result (λ todo. items_of todo.items ≡ push (stmt_of body.now) []) }
+{
+    let mut todo = Vec::new(run.alloc);
+    push(body, &mut todo)?;
+    Ok(todo)
+}
+
+/// Takes the first of what is left.
+pub fn take_first<'a>(todo: &mut Vec<Item<'a>>) -> Option<Item<'a>>
+    ensures { items_of todo.old.items ≡ before result (items_of todo.new.items) }
+{
+    if todo.is_empty() {
+        return None;
+    }
+    Some(todo.remove(0))
+}
+
+/// Whether something is left after a step, which is a local one.
+pub fn left_after<'a>(
+    run: &Setting,
+    who: &Who,
+    machine: &Machine,
+    todo: &Vec<Item<'a>>,
+    deed: &Deed<'a>,
+) -> Done<bool>
+    ensures { Does run.now who.now (left_if (items_of todo.now.items)) machine.now result machine.now (left_after (setting_of run.now) (plain_deed (items_of todo.now.items) deed.now)) }
+{
+    match deed {
+        Deed::Went => Ok(Ok(true)),
+        Deed::Beat => Ok(Ok(true)),
+        Deed::Opened => Ok(Err(Halted::Lost)),
+        Deed::Forked(_) => Ok(Err(Halted::Lost)),
+        Deed::Offered { .. } => Ok(Err(Halted::Lost)),
+        Deed::Over => Ok(Err(Halted::Lost)),
+    }
+}
+
+/// The end of a function: its result, and its frame goes.
+pub fn ended(run: &Setting, who: &Who, machine: &mut Machine, answer: Option<u32>) -> Done<Value>
+    ensures { Does run.now who.now plain_value machine.old result machine.new (ended (setting_of run.now) answer) }
+{
+    let v = take!(give_back(run, who, machine, answer));
+    take!(leave(run, who, machine));
+    Ok(Ok(v))
+}

@@ -1,0 +1,309 @@
+//! What a step of a process does.
+
+ghost use Rattle.std.specs.Prelude.{◌≡◌, ◌++◌, IfOk, map, drop};
+ghost use Rattle.std.specs.Option.{option_copied, option_map};
+ghost use Rattle.sp_tree.specs.PlainOf.{stmt_of, arms_of};
+ghost use Rattle.sp_meaning.specs.Deeds.{is_before, goes_on, has, arm_for};
+ghost use Rattle.sp_meaning.specs.Own.{bytes_in};
+ghost use Rattle.sp_run.specs.Machines.{setting_of, plain_held};
+ghost use Rattle.sp_run.specs.Comings.{Does, same};
+ghost use Rattle.sp_run.specs.Items.{item_of, items_of};
+ghost use Rattle.sp_run.specs.Views.{plain_value, plain_address};
+ghost use Rattle.sp_run.specs.Doings.{plain_deed, births_of};
+ghost use Rattle.sp_run.specs.Texts.{arm_of, forall, leaves, plain_taken};
+ghost use Rattle.sp_run.specs.DirectDeeds.{peek, settle, turn_of, fork, write, advance, take_in};
+
+use crate::calls::tick;
+use crate::frames::{address_of, place_of};
+use crate::item::{Item, push};
+use crate::kinds::{count_of, sum_of};
+use crate::machine::{Held, Machine, Setting, Who};
+use crate::operators::position_of;
+use crate::stop::{Done, Halted};
+use crate::store::{assign, fetch, look, put};
+use crate::take;
+use crate::texts::Taken;
+use crate::value::{Address, Chan, Loc, Value};
+use sp_base::{Fault, List, Memory};
+use sp_tree::{Arm, Stmt};
+
+/// The children that are to be born: one for each process statement, or one for each value of an index.
+#[derive(Clone, Copy)]
+pub enum Births<'a> {
+    Children(&'a [Stmt]),
+    Indexed {
+        variable: usize,
+        low: i64,
+        count: u64,
+        body: &'a Stmt,
+    },
+}
+
+/// What goes over a channel, or where it is put.
+#[derive(Drop)]
+pub enum Cargo {
+    Gives(Value),
+    Takes(Address),
+}
+
+/// What a process does. What is left to do is told beside it.
+#[derive(Drop)]
+pub enum Deed<'a> {
+    /// A local step.
+    Went,
+    /// A local step that ends with a tick of its own.
+    Beat,
+    Opened,
+    Forked(Births<'a>),
+    Offered {
+        channel: Chan,
+        kind: u32,
+        cargo: Cargo,
+    },
+    Over,
+}
+
+pub fn is_before(down: bool, n: i64, limit: i64) -> bool
+    ensures { result ≡ is_before down n limit }
+{
+    if down { limit < n } else { n < limit }
+}
+
+/// Whether the value of a `for` variable lets its loop go on.
+fn goes_on(down: bool, limit: i64, v: &Value) -> bool
+    ensures { result ≡ goes_on down limit (plain_value v.now) }
+{
+    match v {
+        Value::Undefined => true,
+        Value::Ordinal(n) => is_before(down, *n, limit),
+        Value::Chan(_) => true,
+        Value::Parts(_) => true,
+    }
+}
+
+/// The value of the `for` variable, whatever it is.
+fn peek(run: &Setting, who: &Who, machine: &mut Machine, variable: u32) -> Done<Value>
+    ensures { Does run.now who.now plain_value machine.old result machine.new (peek (setting_of run.now) variable) }
+{
+    let place = take!(place_of(run, who, machine, variable));
+    let at = take!(address_of(run, who, machine, place));
+    fetch(run, who, machine, &at)
+}
+
+/// Whether it is a loop that is at its end.
+fn leaves(run: &Setting, who: &Who, machine: &mut Machine, item: &Item) -> Done<bool>
+    ensures { Does run.now who.now same machine.old result machine.new (leaves (setting_of run.now) (item_of item.now)) }
+{
+    match item {
+        Item::Again {
+            variable,
+            limit,
+            down,
+            body: _,
+        } => {
+            let v = take!(peek(run, who, machine, *variable));
+            Ok(Ok(!goes_on(*down, *limit, &v)))
+        }
+        Item::Do(_) => Ok(Ok(false)),
+        Item::First { .. } => Ok(Ok(false)),
+        Item::While(_, _) => Ok(Ok(false)),
+        Item::Repeat(_, _) => Ok(Ok(false)),
+        Item::Test(_, _) => Ok(Ok(false)),
+        Item::Leave => Ok(Ok(false)),
+        Item::Break(_) => Ok(Ok(false)),
+    }
+}
+
+/// What is first is done.
+pub fn drop_first<'a>(todo: &mut Vec<Item<'a>>)
+    ensures { todo.new.items ≡ drop 1 todo.old.items }
+{
+    if !todo.is_empty() {
+        let _ = todo.remove(0);
+    }
+}
+
+/// Leaves the loops that are at their end.
+pub fn settle<'a>(
+    run: &Setting,
+    who: &Who,
+    machine: &mut Machine,
+    todo: &mut Vec<Item<'a>>,
+) -> Done<()>
+    ensures { Does run.now who.now (λ u. items_of todo.new.items) machine.old result machine.new (settle (setting_of run.now) (items_of todo.old.items)) }
+{
+    let Some(first) = todo.first() else {
+        return Ok(Ok(()));
+    };
+    let item = *first;
+    if take!(leaves(run, who, machine, &item)) {
+        drop_first(todo);
+        settle(run, who, machine, todo)
+    } else {
+        Ok(Ok(()))
+    }
+}
+
+/// The `for` variable gets a value, and then there is a tick.
+pub fn turn_of<'a>(
+    run: &Setting,
+    who: &Who,
+    machine: &mut Machine,
+    variable: u32,
+    n: i64,
+    limit: i64,
+    down: bool,
+    body: &'a Stmt,
+    todo: &mut Vec<Item<'a>>,
+) -> Done<Deed<'a>>
+    ensures { Does run.now who.now (plain_deed (items_of todo.new.items)) machine.old result machine.new (turn_of (setting_of run.now) variable n limit down (stmt_of body.now) (items_of todo.old.items)) }
+{
+    let place = take!(place_of(run, who, machine, variable));
+    let at = take!(address_of(run, who, machine, place));
+    take!(assign(run, who, machine, &at, &Value::Ordinal(n)));
+    take!(tick(run, who, machine));
+    todo.insert(
+        0,
+        Item::Again {
+            variable,
+            limit,
+            down,
+            body,
+        },
+    )?;
+    push(body, todo)?;
+    Ok(Ok(Deed::Beat))
+}
+
+/// The children are made, if one level more is allowed.
+pub fn fork<'a>(
+    run: &Setting,
+    who: &Who,
+    machine: &Machine,
+    births: Births<'a>,
+    todo: &Vec<Item<'a>>,
+) -> Done<Deed<'a>>
+    ensures { Does run.now who.now (plain_deed (items_of todo.now.items)) machine.now result machine.now (fork (setting_of run.now) (births_of births.entry) (items_of todo.now.items)) }
+{
+    if machine.own.depth < run.limits.depth as u64 {
+        Ok(Ok(Deed::Forked(births)))
+    } else {
+        Ok(Err(Halted::Fault(Fault::F11)))
+    }
+}
+
+/// The children of a forall, if its range has values.
+pub fn forall<'a>(
+    run: &Setting,
+    who: &Who,
+    machine: &Machine,
+    variable: u32,
+    low: i64,
+    high: i64,
+    body: &'a Stmt,
+    todo: &Vec<Item<'a>>,
+) -> Done<Deed<'a>>
+    ensures { Does run.now who.now (plain_deed (items_of todo.now.items)) machine.now result machine.now (forall (setting_of run.now) variable low high (stmt_of body.now) (items_of todo.now.items)) }
+{
+    if high < low {
+        return Ok(Ok(Deed::Went));
+    }
+    let count = count_of(&low, &high)?;
+    let births = Births::Indexed {
+        variable: variable as usize,
+        low,
+        count,
+        body,
+    };
+    fork(run, who, machine, births, todo)
+}
+
+/// Whether a number is among these.
+#[tactic(auto, using(crate::proofs::Reading::has_on, crate::proofs::Reading::has_stop, crate::proofs::Reading::has_end))]
+fn has(n: i64, constants: &[i64]) -> bool
+    ensures { result ≡ has n constants.now }
+{
+    for c in constants {
+        if n == *c {
+            return true;
+        }
+    }
+    false
+}
+
+/// The statement of the first arm with this constant.
+#[tactic(auto, using(crate::proofs::Arms::arm_on, crate::proofs::Arms::arm_stop, crate::proofs::Arms::arm_end))]
+pub fn arm_for(n: i64, arms: &[Arm]) -> Option<&Stmt>
+    ensures { option_map stmt_of (option_copied result) ≡ arm_for n (arms_of (map arm_of arms.now)) }
+{
+    for arm in arms {
+        if has(n, arm.constants.items()) {
+            return Some(&arm.body);
+        }
+    }
+    None
+}
+
+/// The bytes that are held, if they are.
+pub fn bytes_of(run: &Setting, held: Held) -> List<u8>
+    ensures { result ≡ bytes_in (plain_held held) }
+{
+    match held {
+        Held::Written(bytes) => bytes,
+        Held::Tree(_) => List::new(run.alloc),
+        Held::Position(_) => List::new(run.alloc),
+    }
+}
+
+/// Bytes behind bytes.
+fn joined(bytes: List<u8>, text: &[u8]) -> Result<List<u8>, Memory>
+    ensures { IfOk result (λ all. all ≡ bytes ++ text.now) }
+{
+    let mut all = bytes.into_vec();
+    all.extend_from_slice(text)?;
+    Ok(List::of(all))
+}
+
+/// The output gets a text, or F16.
+pub fn write(run: &Setting, who: &Who, machine: &mut Machine, text: &[u8]) -> Done<()>
+    ensures { Does run.now who.now same machine.old result machine.new (write (setting_of run.now) text.now) }
+{
+    let held = take!(look(run, who, machine, &Loc::Output));
+    let bytes = bytes_of(run, held);
+    let total = sum_of(bytes.len() as u64, text.len() as u64)?;
+    if run.limits.output < total {
+        return Ok(Err(Halted::Fault(Fault::F16)));
+    }
+    let bytes = joined(bytes, text)?;
+    put(run, who, machine, Loc::Output, Held::Written(bytes))
+}
+
+/// So many bytes of the input are taken.
+pub fn advance(run: &Setting, who: &Who, machine: &mut Machine, n: usize) -> Done<()>
+    ensures { Does run.now who.now same machine.old result machine.new (advance (setting_of run.now) n) }
+{
+    let held = take!(look(run, who, machine, &Loc::Input));
+    let Some(next) = position_of(&held).checked_add(n) else {
+        return Err(Memory);
+    };
+    put(run, who, machine, Loc::Input, Held::Position(next))
+}
+
+/// What is read goes to a variable.
+pub fn take_in(
+    run: &Setting,
+    who: &Who,
+    machine: &mut Machine,
+    at: &Address,
+    taken: Taken,
+) -> Done<()>
+    ensures { Does run.now who.now same machine.old result machine.new (take_in (setting_of run.now) (plain_address at.now) (plain_taken taken)) }
+{
+    match taken {
+        Taken::Takes(n, bytes) => {
+            take!(advance(run, who, machine, bytes));
+            assign(run, who, machine, at, &Value::Ordinal(n))
+        }
+        Taken::Fails(f) => Ok(Err(Halted::Fault(f))),
+    }
+}

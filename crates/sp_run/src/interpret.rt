@@ -1,0 +1,883 @@
+//! Expressions and statements, by their definitions, with every function that they call.
+
+ghost use Rattle.std.specs.Prelude.{◌≡◌, ◌∷◌, IfOk, map};
+ghost use Rattle.sp_tree.specs.PlainOf.{expr_of, form_of, var_of, actuals, actual_of, selectors, selector_of, stmt_of, arms_of, width_of};
+ghost use Rattle.sp_tree.specs.Plain.{Assign, Call, If, IfElse, While, For, Case, Forall, Assume, ReadValue, WriteValue, WriteText, Open, Send, Receive};
+ghost use Rattle.sp_run.specs.Items.{items_of, item_of};
+ghost use Rattle.sp_run.specs.Machines.{setting_of};
+ghost use Rattle.sp_run.specs.Comings.{Does, same};
+ghost use Rattle.sp_run.specs.Places.{plain_place};
+ghost use Rattle.sp_run.specs.Views.{plain_value, plain_address};
+ghost use Rattle.sp_run.specs.Doings.{calls_of, given_of, plain_deed, nothing_left};
+ghost use Rattle.sp_run.specs.Texts.{arm_of};
+ghost use Rattle.sp_run.specs.DirectEval.{value, form_value, place, selected, actuals as given_by, address, ordinal_of};
+ghost use Rattle.sp_run.specs.DirectDeeds.{all, act, start, width};
+ghost use Rattle.sp_run.specs.Acts.{one, left_if};
+
+use crate::acts::{
+    assigned_to, assumed, called, chosen, either, looped, next_turn, opened, picked, ranged,
+    read_line, read_value, repeated, returned, tested, write_bytes, write_shown, write_text,
+};
+use crate::bodies::{body_of, ended, left_after, take_first};
+use crate::calls::{Given, enter};
+use crate::deeds::{Births, Cargo, Deed, forall, fork, settle, turn_of};
+use crate::frames::{Place, address_of, place_of};
+use crate::item::{Item, push_all};
+use crate::machine::{Machine, Setting, Who};
+use crate::operators::{
+    at_input, channel, fielded, indexed, kind_at, left_of, operate, ordinal, read_at, standard,
+    worked_of,
+};
+use crate::stop::{Done, Halted};
+use crate::take;
+use crate::value::{Address, Value};
+use sp_arithmetic::unary;
+use sp_base::{List, Memory};
+use sp_tree::{Actual, Arm, Expr, ExprForm, Form, Selector, Stmt, Var};
+
+/// The value of an expression, with every function that it calls. `fuel` bounds the steps that stand inside one
+/// another, and `levels` how deep the calls of this interpreter may nest: where none is left, that is want of memory.
+#[cycle(interpret)]
+pub fn value(
+    run: &Setting,
+    who: &Who,
+    fuel: u128,
+    levels: u64,
+    machine: &mut Machine,
+    e: &Expr,
+) -> Done<Value>
+    ensures { Does run.now who.now plain_value machine.old result machine.new (value (setting_of run.now) (calls_of run.now fuel) (expr_of e.now)) }
+{
+    if levels == 0 {
+        return Err(Memory);
+    }
+    let v = take!(form_value(run, who, fuel, levels - 1, machine, e.kind, &e.form));
+    Ok(Ok(v))
+}
+
+#[cycle(interpret)]
+fn form_value(
+    run: &Setting,
+    who: &Who,
+    fuel: u128,
+    levels: u64,
+    machine: &mut Machine,
+    kind: u32,
+    form: &ExprForm,
+) -> Done<Value>
+    ensures { Does run.now who.now plain_value machine.old result machine.new (form_value (setting_of run.now) (calls_of run.now fuel) kind (form_of form.now)) }
+{
+    if levels == 0 {
+        return Err(Memory);
+    }
+    match form {
+        ExprForm::Number(n) => Ok(Ok(Value::Ordinal(*n))),
+        ExprForm::Read(x) => {
+            let q = take!(place(run, who, fuel, levels - 1, machine, x));
+            let v = take!(read_at(run, who, machine, &q));
+            Ok(Ok(v))
+        }
+        ExprForm::Unary(op, a) => {
+            let n = take!(ordinal_of(run, who, fuel, levels - 1, machine, a.get()));
+            let v = take!(worked_of(run, who, machine, unary(*op, n)));
+            Ok(Ok(v))
+        }
+        ExprForm::Binary(op, a, b) => {
+            let v = take!(value(run, who, fuel, levels - 1, machine, a.get()));
+            let w = take!(value(run, who, fuel, levels - 1, machine, b.get()));
+            let v = take!(operate(run, who, machine, *op, &v, &w));
+            Ok(Ok(v))
+        }
+        ExprForm::Call(f, _, args) => {
+            let given = take!(actuals(run, who, fuel, levels - 1, machine, args.items()));
+            let v = take!(call(run, who, fuel, levels - 1, machine, *f, given));
+            Ok(Ok(v))
+        }
+        ExprForm::Standard(f, args) => match args.items().split_first() {
+            Some((a, _rest)) => {
+                let n = take!(ordinal_of(run, who, fuel, levels - 1, machine, a));
+                let t = take!(kind_at(run, who, machine, kind));
+                let v = take!(standard(run, who, machine, *f, t, n));
+                Ok(Ok(v))
+            }
+            None => {
+                let left = take!(left_of(run, who, machine));
+                let v = take!(at_input(run, who, machine, *f, left));
+                Ok(Ok(v))
+            }
+        },
+    }
+}
+
+/// Where a variable with its selectors stands.
+#[cycle(interpret)]
+fn place(
+    run: &Setting,
+    who: &Who,
+    fuel: u128,
+    levels: u64,
+    machine: &mut Machine,
+    x: &Var,
+) -> Done<Place>
+    ensures { Does run.now who.now plain_place machine.old result machine.new (place (setting_of run.now) (calls_of run.now fuel) (var_of x.now)) }
+{
+    if levels == 0 {
+        return Err(Memory);
+    }
+    let q = take!(place_of(run, who, machine, x.variable));
+    let q = take!(selected(run, who, fuel, levels - 1, machine, x.selectors.items(), q));
+    Ok(Ok(q))
+}
+
+#[cycle(interpret)]
+fn selected(
+    run: &Setting,
+    who: &Who,
+    fuel: u128,
+    levels: u64,
+    machine: &mut Machine,
+    ss: &[Selector],
+    q: Place,
+) -> Done<Place>
+    ensures { Does run.now who.now plain_place machine.old result machine.new (selected (setting_of run.now) (calls_of run.now fuel) (selectors (map selector_of ss.now)) (plain_place q)) }
+{
+    if levels == 0 {
+        return Err(Memory);
+    }
+    let Some((s, rest)) = ss.split_first() else {
+        return Ok(Ok(q));
+    };
+    match s {
+        Selector::Index(e) => {
+            let n = take!(ordinal_of(run, who, fuel, levels - 1, machine, e));
+            let r = take!(indexed(run, who, machine, q, &n));
+            let r = take!(selected(run, who, fuel, levels - 1, machine, rest, r));
+            Ok(Ok(r))
+        }
+        Selector::Field(f) => {
+            let r = take!(fielded(run, who, machine, *f, q));
+            let r = take!(selected(run, who, fuel, levels - 1, machine, rest, r));
+            Ok(Ok(r))
+        }
+    }
+}
+
+/// The arguments of a call.
+#[cycle(interpret)]
+fn actuals(
+    run: &Setting,
+    who: &Who,
+    fuel: u128,
+    levels: u64,
+    machine: &mut Machine,
+    args: &[Actual],
+) -> Done<List<Given>>
+    ensures { Does run.now who.now given_of machine.old result machine.new (given_by (setting_of run.now) (calls_of run.now fuel) (actuals (map actual_of args.now))) }
+{
+    if levels == 0 {
+        return Err(Memory);
+    }
+    let Some((a, rest)) = args.split_first() else {
+        return Ok(Ok(List::new(run.alloc)));
+    };
+    match a {
+        Actual::Value(e) => {
+            let v = take!(value(run, who, fuel, levels - 1, machine, e));
+            let given = take!(actuals(run, who, fuel, levels - 1, machine, rest));
+            Ok(Ok(first_given(Given::Value(v), given)?))
+        }
+        Actual::Reference(x) => {
+            let q = take!(place(run, who, fuel, levels - 1, machine, x));
+            let a = take!(address_of(run, who, machine, q));
+            let given = take!(actuals(run, who, fuel, levels - 1, machine, rest));
+            Ok(Ok(first_given(Given::Place(a), given)?))
+        }
+    }
+}
+
+fn first_given(g: Given, rest: List<Given>) -> Result<List<Given>, Memory>
+    ensures { IfOk result (λ gs. gs ≡ g ∷ rest) }
+{
+    let mut all = rest.into_vec();
+    all.insert(0, g)?;
+    Ok(List::of(all))
+}
+
+/// A call of a function.
+#[cycle(interpret)]
+fn call(
+    run: &Setting,
+    who: &Who,
+    fuel: u128,
+    levels: u64,
+    machine: &mut Machine,
+    f: u32,
+    given: List<Given>,
+) -> Done<Value>
+    ensures { Does run.now who.now plain_value machine.old result machine.new (calls_of run.now fuel f (given_of given)) }
+{
+    if levels == 0 {
+        return Err(Memory);
+    }
+    let block = take!(enter(run, who, machine, f, given.items()));
+    let todo = body_of(run, &block.body)?;
+    take!(all(run, who, fuel, levels - 1, machine, todo));
+    let v = take!(ended(run, who, machine, block.answer));
+    Ok(Ok(v))
+}
+
+/// All that is left, where no more than `fuel` steps and calls stand inside one another.
+#[cycle(interpret)]
+fn all<'a>(
+    run: &Setting<'a>,
+    who: &Who,
+    fuel: u128,
+    levels: u64,
+    machine: &mut Machine,
+    todo: Vec<Item<'a>>,
+) -> Done<()>
+    ensures { Does run.now who.now nothing_left machine.old result machine.new (all (setting_of run.now) fuel (items_of todo.entry.items)) }
+{
+    if levels == 0 {
+        return Err(Memory);
+    }
+    let mut todo = todo;
+    let mut left = fuel;
+    while left > 0 {
+        left -= 1;
+        let more = take!(one(run, who, left, levels - 1, machine, &mut todo));
+        if !more {
+            return Ok(Ok(()));
+        }
+    }
+    Ok(Err(Halted::Long))
+}
+
+/// One step of a function's body, and whether something was left to do.
+#[cycle(interpret)]
+fn one<'a>(
+    run: &Setting<'a>,
+    who: &Who,
+    fuel: u128,
+    levels: u64,
+    machine: &mut Machine,
+    todo: &mut Vec<Item<'a>>,
+) -> Done<bool>
+    ensures { Does run.now who.now (left_if (items_of todo.new.items)) machine.old result machine.new (one (setting_of run.now) fuel (items_of todo.old.items)) }
+{
+    if levels == 0 {
+        return Err(Memory);
+    }
+    take!(settle(run, who, machine, todo));
+    let Some(item) = take_first(todo) else {
+        return Ok(Ok(false));
+    };
+    let deed = take!(act(run, who, fuel, levels - 1, machine, item, todo));
+    let more = take!(left_after(run, who, machine, todo, &deed));
+    Ok(Ok(more))
+}
+
+/// The ordinal of an expression.
+#[cycle(interpret)]
+fn ordinal_of(
+    run: &Setting,
+    who: &Who,
+    fuel: u128,
+    levels: u64,
+    machine: &mut Machine,
+    e: &Expr,
+) -> Done<i64>
+    ensures { Does run.now who.now same machine.old result machine.new (ordinal_of (setting_of run.now) (calls_of run.now fuel) (expr_of e.now)) }
+{
+    if levels == 0 {
+        return Err(Memory);
+    }
+    let v = take!(value(run, who, fuel, levels - 1, machine, e));
+    let n = take!(ordinal(run, who, machine, &v));
+    Ok(Ok(n))
+}
+
+/// The address of a variable with its selectors.
+#[cycle(interpret)]
+fn address(
+    run: &Setting,
+    who: &Who,
+    fuel: u128,
+    levels: u64,
+    machine: &mut Machine,
+    x: &Var,
+) -> Done<Address>
+    ensures { Does run.now who.now plain_address machine.old result machine.new (address (setting_of run.now) (calls_of run.now fuel) (var_of x.now)) }
+{
+    if levels == 0 {
+        return Err(Memory);
+    }
+    let q = take!(place(run, who, fuel, levels - 1, machine, x));
+    let a = take!(address_of(run, who, machine, q));
+    Ok(Ok(a))
+}
+
+/// The width of an item that is written, if it has one.
+#[cycle(interpret)]
+fn width(
+    run: &Setting,
+    who: &Who,
+    fuel: u128,
+    levels: u64,
+    machine: &mut Machine,
+    e: &Option<Expr>,
+) -> Done<Option<i64>>
+    ensures { Does run.now who.now same machine.old result machine.new (width (setting_of run.now) (calls_of run.now fuel) (width_of e.now)) }
+{
+    if levels == 0 {
+        return Err(Memory);
+    }
+    match e {
+        Some(e) => {
+            let n = take!(ordinal_of(run, who, fuel, levels - 1, machine, e));
+            Ok(Ok(Some(n)))
+        }
+        None => Ok(Ok(None)),
+    }
+}
+
+/// The step of what is first.
+#[cycle(interpret)]
+pub fn act<'a>(
+    run: &Setting<'a>,
+    who: &Who,
+    fuel: u128,
+    levels: u64,
+    machine: &mut Machine,
+    item: Item<'a>,
+    todo: &mut Vec<Item<'a>>,
+) -> Done<Deed<'a>>
+    ensures { Does run.now who.now (plain_deed (items_of todo.new.items)) machine.old result machine.new (act (setting_of run.now) (calls_of run.now fuel) (item_of item.entry) (items_of todo.old.items)) }
+{
+    if levels == 0 {
+        return Err(Memory);
+    }
+    match item {
+        Item::Do(s) => {
+            let d = take!(start(run, who, fuel, levels - 1, machine, s, todo));
+            Ok(Ok(d))
+        }
+        Item::First {
+            variable,
+            low,
+            high,
+            down,
+            body,
+        } => {
+            let d = take!(turn_of(run, who, machine, variable, low, high, down, body, todo));
+            Ok(Ok(d))
+        }
+        Item::Again {
+            variable,
+            limit,
+            down,
+            body,
+        } => {
+            let d = take!(next_turn(run, who, machine, variable, limit, down, body, todo));
+            Ok(Ok(d))
+        }
+        Item::While(e, s) => {
+            let d = take!(start_while(run, who, fuel, levels - 1, machine, e, s, todo));
+            Ok(Ok(d))
+        }
+        Item::Repeat(s, e) => {
+            let d = take!(repeated(run, who, machine, s, e, todo));
+            Ok(Ok(d))
+        }
+        Item::Test(s, e) => {
+            let n = take!(ordinal_of(run, who, fuel, levels - 1, machine, e));
+            let d = take!(tested(run, who, machine, n, s, e, todo));
+            Ok(Ok(d))
+        }
+        Item::Leave => {
+            let d = take!(returned(run, who, machine, todo));
+            Ok(Ok(d))
+        }
+        Item::Break(f) => Ok(Err(Halted::Fault(f))),
+    }
+}
+
+#[cycle(interpret)]
+fn start_assign<'a>(
+    run: &Setting<'a>,
+    who: &Who,
+    fuel: u128,
+    levels: u64,
+    machine: &mut Machine,
+    x: &'a Var,
+    e: &'a Expr,
+    todo: &mut Vec<Item<'a>>,
+) -> Done<Deed<'a>>
+    ensures { Does run.now who.now (plain_deed (items_of todo.new.items)) machine.old result machine.new (start (setting_of run.now) (calls_of run.now fuel) (Assign (var_of x.now) (expr_of e.now)) (items_of todo.old.items)) }
+{
+    if levels == 0 {
+        return Err(Memory);
+    }
+    let at = take!(address(run, who, fuel, levels - 1, machine, x));
+    let v = take!(value(run, who, fuel, levels - 1, machine, e));
+    let d = take!(assigned_to(run, who, machine, &at, &v, todo));
+    Ok(Ok(d))
+}
+
+#[cycle(interpret)]
+fn start_call<'a>(
+    run: &Setting<'a>,
+    who: &Who,
+    fuel: u128,
+    levels: u64,
+    machine: &mut Machine,
+    f: u32,
+    args: &'a [Actual],
+    todo: &mut Vec<Item<'a>>,
+) -> Done<Deed<'a>>
+    ensures { Does run.now who.now (plain_deed (items_of todo.new.items)) machine.old result machine.new (start (setting_of run.now) (calls_of run.now fuel) (Call f (actuals (map actual_of args.now))) (items_of todo.old.items)) }
+{
+    if levels == 0 {
+        return Err(Memory);
+    }
+    let given = take!(actuals(run, who, fuel, levels - 1, machine, args));
+    let d = take!(called(run, who, machine, f, given.items(), todo));
+    Ok(Ok(d))
+}
+
+#[cycle(interpret)]
+fn start_if<'a>(
+    run: &Setting<'a>,
+    who: &Who,
+    fuel: u128,
+    levels: u64,
+    machine: &mut Machine,
+    e: &'a Expr,
+    a: &'a Stmt,
+    todo: &mut Vec<Item<'a>>,
+) -> Done<Deed<'a>>
+    ensures { Does run.now who.now (plain_deed (items_of todo.new.items)) machine.old result machine.new (start (setting_of run.now) (calls_of run.now fuel) (If (expr_of e.now) (stmt_of a.now)) (items_of todo.old.items)) }
+{
+    if levels == 0 {
+        return Err(Memory);
+    }
+    let n = take!(ordinal_of(run, who, fuel, levels - 1, machine, e));
+    let d = take!(picked(run, who, machine, n, a, todo));
+    Ok(Ok(d))
+}
+
+#[cycle(interpret)]
+fn start_either<'a>(
+    run: &Setting<'a>,
+    who: &Who,
+    fuel: u128,
+    levels: u64,
+    machine: &mut Machine,
+    e: &'a Expr,
+    a: &'a Stmt,
+    b: &'a Stmt,
+    todo: &mut Vec<Item<'a>>,
+) -> Done<Deed<'a>>
+    ensures { Does run.now who.now (plain_deed (items_of todo.new.items)) machine.old result machine.new (start (setting_of run.now) (calls_of run.now fuel) (IfElse (expr_of e.now) (stmt_of a.now) (stmt_of b.now)) (items_of todo.old.items)) }
+{
+    if levels == 0 {
+        return Err(Memory);
+    }
+    let n = take!(ordinal_of(run, who, fuel, levels - 1, machine, e));
+    let d = take!(either(run, who, machine, n, a, b, todo));
+    Ok(Ok(d))
+}
+
+#[cycle(interpret)]
+fn start_while<'a>(
+    run: &Setting<'a>,
+    who: &Who,
+    fuel: u128,
+    levels: u64,
+    machine: &mut Machine,
+    e: &'a Expr,
+    s: &'a Stmt,
+    todo: &mut Vec<Item<'a>>,
+) -> Done<Deed<'a>>
+    ensures { Does run.now who.now (plain_deed (items_of todo.new.items)) machine.old result machine.new (start (setting_of run.now) (calls_of run.now fuel) (While (expr_of e.now) (stmt_of s.now)) (items_of todo.old.items)) }
+{
+    if levels == 0 {
+        return Err(Memory);
+    }
+    let n = take!(ordinal_of(run, who, fuel, levels - 1, machine, e));
+    let d = take!(looped(run, who, machine, n, e, s, todo));
+    Ok(Ok(d))
+}
+
+#[cycle(interpret)]
+fn start_for<'a>(
+    run: &Setting<'a>,
+    who: &Who,
+    fuel: u128,
+    levels: u64,
+    machine: &mut Machine,
+    variable: u32,
+    from: &'a Expr,
+    down: bool,
+    to: &'a Expr,
+    body: &'a Stmt,
+    todo: &mut Vec<Item<'a>>,
+) -> Done<Deed<'a>>
+    ensures { Does run.now who.now (plain_deed (items_of todo.new.items)) machine.old result machine.new (start (setting_of run.now) (calls_of run.now fuel) (For variable (expr_of from.now) down (expr_of to.now) (stmt_of body.now)) (items_of todo.old.items)) }
+{
+    if levels == 0 {
+        return Err(Memory);
+    }
+    let low = take!(ordinal_of(run, who, fuel, levels - 1, machine, from));
+    let high = take!(ordinal_of(run, who, fuel, levels - 1, machine, to));
+    let d = take!(ranged(run, who, machine, variable, low, high, down, body, todo));
+    Ok(Ok(d))
+}
+
+#[cycle(interpret)]
+fn start_case<'a>(
+    run: &Setting<'a>,
+    who: &Who,
+    fuel: u128,
+    levels: u64,
+    machine: &mut Machine,
+    e: &'a Expr,
+    arms: &'a [Arm],
+    todo: &mut Vec<Item<'a>>,
+) -> Done<Deed<'a>>
+    ensures { Does run.now who.now (plain_deed (items_of todo.new.items)) machine.old result machine.new (start (setting_of run.now) (calls_of run.now fuel) (Case (expr_of e.now) (arms_of (map arm_of arms.now))) (items_of todo.old.items)) }
+{
+    if levels == 0 {
+        return Err(Memory);
+    }
+    let n = take!(ordinal_of(run, who, fuel, levels - 1, machine, e));
+    let d = take!(chosen(run, who, machine, n, arms, todo));
+    Ok(Ok(d))
+}
+
+#[cycle(interpret)]
+fn start_forall<'a>(
+    run: &Setting<'a>,
+    who: &Who,
+    fuel: u128,
+    levels: u64,
+    machine: &mut Machine,
+    index: u32,
+    from: &'a Expr,
+    to: &'a Expr,
+    body: &'a Stmt,
+    todo: &mut Vec<Item<'a>>,
+) -> Done<Deed<'a>>
+    ensures { Does run.now who.now (plain_deed (items_of todo.new.items)) machine.old result machine.new (start (setting_of run.now) (calls_of run.now fuel) (Forall index (expr_of from.now) (expr_of to.now) (stmt_of body.now)) (items_of todo.old.items)) }
+{
+    if levels == 0 {
+        return Err(Memory);
+    }
+    let low = take!(ordinal_of(run, who, fuel, levels - 1, machine, from));
+    let high = take!(ordinal_of(run, who, fuel, levels - 1, machine, to));
+    let d = take!(forall(run, who, machine, index, low, high, body, todo));
+    Ok(Ok(d))
+}
+
+#[cycle(interpret)]
+fn start_assume<'a>(
+    run: &Setting<'a>,
+    who: &Who,
+    fuel: u128,
+    levels: u64,
+    machine: &mut Machine,
+    e: &'a Expr,
+    todo: &mut Vec<Item<'a>>,
+) -> Done<Deed<'a>>
+    ensures { Does run.now who.now (plain_deed (items_of todo.new.items)) machine.old result machine.new (start (setting_of run.now) (calls_of run.now fuel) (Assume (expr_of e.now)) (items_of todo.old.items)) }
+{
+    if levels == 0 {
+        return Err(Memory);
+    }
+    let n = take!(ordinal_of(run, who, fuel, levels - 1, machine, e));
+    let d = take!(assumed(run, who, machine, n, todo));
+    Ok(Ok(d))
+}
+
+#[cycle(interpret)]
+fn start_read<'a>(
+    run: &Setting<'a>,
+    who: &Who,
+    fuel: u128,
+    levels: u64,
+    machine: &mut Machine,
+    x: &'a Var,
+    todo: &mut Vec<Item<'a>>,
+) -> Done<Deed<'a>>
+    ensures { Does run.now who.now (plain_deed (items_of todo.new.items)) machine.old result machine.new (start (setting_of run.now) (calls_of run.now fuel) (ReadValue (var_of x.now)) (items_of todo.old.items)) }
+{
+    if levels == 0 {
+        return Err(Memory);
+    }
+    let at = take!(address(run, who, fuel, levels - 1, machine, x));
+    let d = take!(read_value(run, who, machine, &at, todo));
+    Ok(Ok(d))
+}
+
+#[cycle(interpret)]
+fn start_write<'a>(
+    run: &Setting<'a>,
+    who: &Who,
+    fuel: u128,
+    levels: u64,
+    machine: &mut Machine,
+    e: &'a Expr,
+    w: &'a Option<Expr>,
+    todo: &mut Vec<Item<'a>>,
+) -> Done<Deed<'a>>
+    ensures { Does run.now who.now (plain_deed (items_of todo.new.items)) machine.old result machine.new (start (setting_of run.now) (calls_of run.now fuel) (WriteValue (expr_of e.now) (width_of w.now)) (items_of todo.old.items)) }
+{
+    if levels == 0 {
+        return Err(Memory);
+    }
+    let n = take!(ordinal_of(run, who, fuel, levels - 1, machine, e));
+    let m = take!(width(run, who, fuel, levels - 1, machine, w));
+    let d = take!(write_shown(run, who, machine, e.kind, n, m, todo));
+    Ok(Ok(d))
+}
+
+#[cycle(interpret)]
+fn start_text<'a>(
+    run: &Setting<'a>,
+    who: &Who,
+    fuel: u128,
+    levels: u64,
+    machine: &mut Machine,
+    t: &'a [u8],
+    w: &'a Option<Expr>,
+    todo: &mut Vec<Item<'a>>,
+) -> Done<Deed<'a>>
+    ensures { Does run.now who.now (plain_deed (items_of todo.new.items)) machine.old result machine.new (start (setting_of run.now) (calls_of run.now fuel) (WriteText t.now (width_of w.now)) (items_of todo.old.items)) }
+{
+    if levels == 0 {
+        return Err(Memory);
+    }
+    let m = take!(width(run, who, fuel, levels - 1, machine, w));
+    let d = take!(write_text(run, who, machine, true, t, m, todo));
+    Ok(Ok(d))
+}
+
+#[cycle(interpret)]
+fn start_open<'a>(
+    run: &Setting<'a>,
+    who: &Who,
+    fuel: u128,
+    levels: u64,
+    machine: &mut Machine,
+    x: &'a Var,
+    todo: &mut Vec<Item<'a>>,
+) -> Done<Deed<'a>>
+    ensures { Does run.now who.now (plain_deed (items_of todo.new.items)) machine.old result machine.new (start (setting_of run.now) (calls_of run.now fuel) (Open (var_of x.now)) (items_of todo.old.items)) }
+{
+    if levels == 0 {
+        return Err(Memory);
+    }
+    let at = take!(address(run, who, fuel, levels - 1, machine, x));
+    let d = take!(opened(run, who, machine, &at, todo));
+    Ok(Ok(d))
+}
+
+#[cycle(interpret)]
+fn start_send<'a>(
+    run: &Setting<'a>,
+    who: &Who,
+    fuel: u128,
+    levels: u64,
+    machine: &mut Machine,
+    c: &'a Expr,
+    e: &'a Expr,
+    todo: &mut Vec<Item<'a>>,
+) -> Done<Deed<'a>>
+    ensures { Does run.now who.now (plain_deed (items_of todo.new.items)) machine.old result machine.new (start (setting_of run.now) (calls_of run.now fuel) (Send (expr_of c.now) (expr_of e.now)) (items_of todo.old.items)) }
+{
+    if levels == 0 {
+        return Err(Memory);
+    }
+    let v = take!(value(run, who, fuel, levels - 1, machine, c));
+    let to = take!(channel(run, who, machine, &v));
+    let w = take!(value(run, who, fuel, levels - 1, machine, e));
+    let d = Deed::Offered {
+        channel: to,
+        kind: e.kind,
+        cargo: Cargo::Gives(w),
+    };
+    Ok(Ok(d))
+}
+
+#[cycle(interpret)]
+fn start_receive<'a>(
+    run: &Setting<'a>,
+    who: &Who,
+    fuel: u128,
+    levels: u64,
+    machine: &mut Machine,
+    c: &'a Expr,
+    x: &'a Var,
+    todo: &mut Vec<Item<'a>>,
+) -> Done<Deed<'a>>
+    ensures { Does run.now who.now (plain_deed (items_of todo.new.items)) machine.old result machine.new (start (setting_of run.now) (calls_of run.now fuel) (Receive (expr_of c.now) (var_of x.now)) (items_of todo.old.items)) }
+{
+    if levels == 0 {
+        return Err(Memory);
+    }
+    let v = take!(value(run, who, fuel, levels - 1, machine, c));
+    let from = take!(channel(run, who, machine, &v));
+    let at = take!(address(run, who, fuel, levels - 1, machine, x));
+    let d = Deed::Offered {
+        channel: from,
+        kind: at.kind,
+        cargo: Cargo::Takes(at),
+    };
+    Ok(Ok(d))
+}
+
+/// The step of a statement that is first.
+#[cycle(interpret)]
+fn start<'a>(
+    run: &Setting<'a>,
+    who: &Who,
+    fuel: u128,
+    levels: u64,
+    machine: &mut Machine,
+    s: &'a Stmt,
+    todo: &mut Vec<Item<'a>>,
+) -> Done<Deed<'a>>
+    ensures { Does run.now who.now (plain_deed (items_of todo.new.items)) machine.old result machine.new (start (setting_of run.now) (calls_of run.now fuel) (stmt_of s.now) (items_of todo.old.items)) }
+{
+    if levels == 0 {
+        return Err(Memory);
+    }
+    match &s.form {
+        Form::Empty => Ok(Ok(Deed::Went)),
+        Form::Assign(x, e) => {
+            let d = take!(start_assign(run, who, fuel, levels - 1, machine, x, e, todo));
+            Ok(Ok(d))
+        }
+        Form::Call(f, args) => {
+            let d = take!(start_call(run, who, fuel, levels - 1, machine, *f, args.items(), todo));
+            Ok(Ok(d))
+        }
+        Form::Sequence(ss) => {
+            push_all(ss.items(), todo)?;
+            Ok(Ok(Deed::Went))
+        }
+        Form::If(e, a, None) => {
+            let d = take!(start_if(run, who, fuel, levels - 1, machine, e, a.get(), todo));
+            Ok(Ok(d))
+        }
+        Form::If(e, a, Some(b)) => {
+            let d = take!(start_either(
+                run,
+                who,
+                fuel,
+                levels - 1,
+                machine,
+                e,
+                a.get(),
+                b.get(),
+                todo
+            ));
+            Ok(Ok(d))
+        }
+        Form::While(e, s) => {
+            let d = take!(start_while(run, who, fuel, levels - 1, machine, e, s.get(), todo));
+            Ok(Ok(d))
+        }
+        Form::Repeat(s, e) => {
+            let d = take!(repeated(run, who, machine, s.get(), e, todo));
+            Ok(Ok(d))
+        }
+        Form::For {
+            variable,
+            at: _,
+            from,
+            down,
+            to,
+            body,
+        } => {
+            let d = take!(start_for(
+                run,
+                who,
+                fuel,
+                levels - 1,
+                machine,
+                *variable,
+                from,
+                *down,
+                to,
+                body.get(),
+                todo
+            ));
+            Ok(Ok(d))
+        }
+        Form::Case(e, arms) => {
+            let d = take!(start_case(run, who, fuel, levels - 1, machine, e, arms.items(), todo));
+            Ok(Ok(d))
+        }
+        Form::Parallel(ss) => {
+            let d = take!(fork(run, who, machine, Births::Children(ss.items()), todo));
+            Ok(Ok(d))
+        }
+        Form::Forall {
+            index,
+            from,
+            to,
+            body,
+        } => {
+            let d = take!(start_forall(
+                run,
+                who,
+                fuel,
+                levels - 1,
+                machine,
+                *index,
+                from,
+                to,
+                body.get(),
+                todo
+            ));
+            Ok(Ok(d))
+        }
+        Form::Assume(e) => {
+            let d = take!(start_assume(run, who, fuel, levels - 1, machine, e, todo));
+            Ok(Ok(d))
+        }
+        Form::ReadValue(x) => {
+            let d = take!(start_read(run, who, fuel, levels - 1, machine, x, todo));
+            Ok(Ok(d))
+        }
+        Form::ReadLine => {
+            let d = take!(read_line(run, who, machine, todo));
+            Ok(Ok(d))
+        }
+        Form::WriteValue(e, w) => {
+            let d = take!(start_write(run, who, fuel, levels - 1, machine, e, w, todo));
+            Ok(Ok(d))
+        }
+        Form::WriteText(t, w) => {
+            let d = take!(start_text(run, who, fuel, levels - 1, machine, t.bytes(), w, todo));
+            Ok(Ok(d))
+        }
+        Form::WriteLine => {
+            let d = take!(write_bytes(run, who, machine, b"\n", todo));
+            Ok(Ok(d))
+        }
+        Form::Open(x) => {
+            let d = take!(start_open(run, who, fuel, levels - 1, machine, x, todo));
+            Ok(Ok(d))
+        }
+        Form::Send(c, e) => {
+            let d = take!(start_send(run, who, fuel, levels - 1, machine, c, e, todo));
+            Ok(Ok(d))
+        }
+        Form::Receive(c, x) => {
+            let d = take!(start_receive(run, who, fuel, levels - 1, machine, c, x, todo));
+            Ok(Ok(d))
+        }
+    }
+}

@@ -1,0 +1,526 @@
+//! One step of one process in a state.
+
+ghost use Rattle.std.specs.Prelude.{◌≡◌, ◌+◌, ◌+ℤ◌, ◌∷◌, [], IfOk, OnOk, Option, Some, None, length, map, pos, replicate};
+ghost use Rattle.std.specs.Option.{option_map};
+ghost use Rattle.sp_tree.specs.PlainOf.{stmt_of, stmts, program_of};
+ghost use Rattle.sp_meaning.specs.Model.{Writes, Pends as PendsIn, Adds, Faults, Becomes, Works, Forks, Offering, changed};
+ghost use Rattle.sp_meaning.specs.Steps.{message, meeting, waiting, hands, meets, births as births_in, acts, result_of, outcome};
+ghost use Rattle.sp_meaning.specs.Own.{Who as WhoIn, Own as OwnIn, Tree, assigned};
+ghost use Rattle.sp_meaning.specs.SuperPascal.{weight_of, with_todo, enough};
+ghost use Rattle.sp_meaning.specs.Deeds.{push, children, indexed_children, newborn, newborns, with_index, Opened};
+ghost use Rattle.sp_meaning.specs.Runs.{most};
+ghost use Rattle.sp_run.specs.Machines.{setting_of, plain_own, plain_who, plain_frames, store_of};
+ghost use Rattle.sp_run.specs.Views.{plain_channel, plain_address, plain_value};
+ghost use Rattle.sp_run.specs.Items.{items_of};
+ghost use Rattle.sp_run.specs.Comings.{Does};
+ghost use Rattle.sp_run.specs.Direct.{Got, Not};
+ghost use Rattle.sp_run.specs.DirectDeeds.{deed};
+ghost use Rattle.sp_run.specs.declared.deeds.Deed.TheVariants.{Forked};
+ghost use Rattle.sp_run.specs.Doings.{births_of, plain_deed, plain_cargo};
+ghost use Rattle.sp_run.specs.States.{plain_process, plain_offer, state_of, stepped, with_store, Changes, Steps};
+ghost use Rattle.sp_run.specs.Passing.{passing};
+
+use crate::deeds::{Births, Cargo, Deed, drop_first, settle};
+use crate::interpret::act;
+use crate::item::{Item, push};
+use crate::kinds::sum_of;
+use crate::machine::{Frame, Home, Machine, Own, Setting, Who, Write};
+use crate::state::{
+    Condition, Offer, Process, State, add_fork, adds, becomes, child_of, copy_frames, copy_log,
+    copy_process, delivers, fails, forks_made, offer_of, passed, pending_on, running, set_pending,
+};
+use crate::stop::{Done, Halted};
+use crate::take;
+use crate::value::{Address, Chan, Name, Value, copy_channel, copy_name};
+use crate::weights::enough;
+use sp_base::{Fault, List, Memory};
+use sp_tree::Stmt;
+
+/// How deep the calls of the interpreter may nest.
+const LEVELS: u64 = 1 << 32;
+
+/// The frames of a forall's child: its index stands in a frame of its own.
+fn with_index(
+    run: &Setting,
+    name: &Name,
+    index: Option<(usize, i64)>,
+    frames: List<Frame>,
+) -> Result<List<Frame>, Memory>
+    ensures { IfOk result (λ fs. plain_frames fs ≡ with_index name.now index (plain_frames frames)) }
+{
+    match index {
+        None => Ok(frames),
+        Some((variable, value)) => {
+            let number = frames.len();
+            let owner = copy_name(run.alloc, name)?;
+            let mut all = frames.into_vec();
+            all.insert(
+                0,
+                Frame {
+                    owner,
+                    number,
+                    home: Home::Index(variable, value),
+                    link: number,
+                    references: List::new(run.alloc),
+                },
+            )?;
+            Ok(List::of(all))
+        }
+    }
+}
+
+/// A child is born, of its parent.
+fn newborn<'a>(
+    run: &Setting,
+    who: &Who,
+    own: &Own,
+    i: u64,
+    body: &'a Stmt,
+    index: Option<(usize, i64)>,
+) -> Result<Process<'a>, Memory>
+    ensures { IfOk result (λ c. plain_process c ≡ newborn (plain_who who.now) (plain_own own.now) i (record { todo = push (stmt_of body.now) []; index = index })) }
+{
+    let name = child_of(run.alloc, who.name.items(), who.forks, i)?;
+    let frames = copy_frames(run.alloc, own.frames.items())?;
+    let frames = with_index(run, &name, index, frames)?;
+    let mut todo = Vec::new(run.alloc);
+    push(body, &mut todo)?;
+    let depth = sum_of(own.depth, 1)?;
+    Ok(Process {
+        todo,
+        who: Who {
+            name,
+            forks: 0,
+            opens: 0,
+        },
+        own: Own {
+            frames,
+            depth,
+            ticks: 0,
+            cells: 0,
+        },
+    })
+}
+
+/// A child begins to work.
+fn birth<'a>(
+    run: &Setting,
+    s: &mut State<'a>,
+    p: &[(u64, u64)],
+    fork: u64,
+    i: u64,
+    child: Process<'a>,
+) -> Result<(), Memory>
+    ensures { OnOk result (Changes run.now s.old (Becomes ((fork, i) ∷ p.now) (Works (plain_process child.entry)) ∷ []) s.new) }
+{
+    let name = child_of(run.alloc, p, fork, i)?;
+    becomes(run, s, name.items(), Condition::Works(child))?;
+    Ok(())
+}
+
+/// A child for each process statement.
+#[tactic(auto, using(crate::proofs::Births::born_on, crate::proofs::Births::born_end))]
+fn births_of_each<'a>(
+    run: &Setting,
+    s: &mut State<'a>,
+    p: &[(u64, u64)],
+    fork: u64,
+    parent: &Process<'a>,
+    bodies: &'a [Stmt],
+) -> Result<(), Memory>
+    ensures { OnOk result (Changes run.now s.old (births_in p.now fork 0 (newborns (plain_who parent.now.who) (plain_own parent.now.own) 0 (children (stmts (map stmt_of bodies.now))))) s.new) }
+{
+    let mut i = 0;
+    for body in bodies {
+        let child = newborn(run, &parent.who, &parent.own, i, body, None)?;
+        birth(run, s, p, fork, i, child)?;
+        i = sum_of(i, 1)?;
+    }
+    Ok(())
+}
+
+/// A value of a forall's index.
+fn value_at(low: i64, i: u64) -> Result<i64, Memory>
+    ensures { IfOk result (λ n. n ≡ low +ℤ pos i) }
+{
+    match i64::try_from(low as i128 + i as i128) {
+        Ok(n) => Ok(n),
+        Err(_) => Err(Memory),
+    }
+}
+
+/// A child for each value of an index.
+#[tactic(auto, using(crate::proofs::Births::indexed_on, crate::proofs::Births::indexed_end))]
+fn births_of_index<'a>(
+    run: &Setting,
+    s: &mut State<'a>,
+    p: &[(u64, u64)],
+    fork: u64,
+    parent: &Process<'a>,
+    variable: usize,
+    low: i64,
+    count: u64,
+    body: &'a Stmt,
+) -> Result<(), Memory>
+    ensures { OnOk result (Changes run.now s.old (births_in p.now fork 0 (newborns (plain_who parent.now.who) (plain_own parent.now.own) 0 (indexed_children variable (stmt_of body.now) low count))) s.new) }
+{
+    for i in 0..count {
+        let value = value_at(low, i)?;
+        let child = newborn(
+            run,
+            &parent.who,
+            &parent.own,
+            i,
+            body,
+            Some((variable, value)),
+        )?;
+        birth(run, s, p, fork, i, child)?;
+    }
+    Ok(())
+}
+
+/// All children are born.
+fn births<'a>(
+    run: &Setting,
+    s: &mut State<'a>,
+    p: &[(u64, u64)],
+    fork: u64,
+    parent: &Process<'a>,
+    births: Births<'a>,
+) -> Result<(), Memory>
+    ensures { OnOk result (Changes run.now s.old (births_in p.now fork 0 (newborns (plain_who parent.now.who) (plain_own parent.now.own) 0 (births_of births.entry))) s.new) }
+{
+    match births {
+        Births::Children(bodies) => births_of_each(run, s, p, fork, parent, bodies),
+        Births::Indexed {
+            variable,
+            low,
+            count,
+            body,
+        } => births_of_index(run, s, p, fork, parent, variable, low, count, body),
+    }
+}
+
+fn count_of<'a>(births: &Births<'a>) -> u64
+    ensures { (w : WhoIn) (o : OwnIn) → result ≡ length (newborns w o 0 (births_of births.now)) }
+{
+    match births {
+        Births::Children(bodies) => bodies.len() as u64,
+        Births::Indexed { count, .. } => *count,
+    }
+}
+
+/// The same process with one fork more.
+fn forked<'a>(run: &Setting, parent: &Process<'a>) -> Result<Process<'a>, Memory>
+    ensures { IfOk result (λ c. plain_process c ≡ with_todo (items_of parent.now.todo.items) (record { name = parent.now.who.name; forks = parent.now.who.forks + 1; opens = parent.now.who.opens }) (plain_own parent.now.own)) }
+{
+    let Process { todo, who, own } = copy_process(run.alloc, parent)?;
+    let forks = sum_of(who.forks, 1)?;
+    Ok(Process {
+        todo,
+        who: Who {
+            name: who.name,
+            forks,
+            opens: who.opens,
+        },
+        own,
+    })
+}
+
+/// A process makes children and joins them.
+fn makes_children<'a>(
+    run: &Setting,
+    s: &mut State<'a>,
+    p: &[(u64, u64)],
+    parent: &Process<'a>,
+    children: Births<'a>,
+) -> Result<(), Memory>
+    ensures { OnOk result (state_of run.now s.new ≡ result_of (state_of run.now s.old) p.now (acts (state_of run.now s.old) p.now (Forks (with_todo (items_of parent.now.todo.items) (record { name = parent.now.who.name; forks = parent.now.who.forks + 1; opens = parent.now.who.opens }) (plain_own parent.now.own)) (newborns (plain_who parent.now.who) (plain_own parent.now.own) 0 (births_of children.entry))))) }
+{
+    let count = count_of(&children);
+    let fork = forks_made(s.forks.items(), p);
+    let next = forked(run, parent)?;
+    becomes(run, s, p, Condition::Joins { fork, count, next })?;
+    add_fork(run, s, p)?;
+    adds(run, s, count, 0)?;
+    births(run, s, p, fork, parent, children)
+}
+
+/// A process makes children and joins them, if they pass no limit.
+fn splits<'a>(
+    run: &Setting,
+    s: &mut State<'a>,
+    p: &[(u64, u64)],
+    parent: Process<'a>,
+    children: Births<'a>,
+) -> Result<(), Memory>
+    ensures { OnOk result (state_of run.now s.new ≡ stepped (setting_of run.now) p.now (plain_who parent.entry.who) (state_of run.now s.old) (Got (plain_deed (items_of parent.entry.todo.items) (Forked children.entry)) (plain_own parent.entry.own) (store_of run.now s.old.log))) }
+{
+    let count = count_of(&children);
+    if let Some(f) = passed(run, &s.totals, count, 0)? {
+        return fails(run, s, p, f);
+    }
+    makes_children(run, s, p, &parent, children)
+}
+
+/// What goes over, and to where; nothing where both offers have one way.
+fn message(c: Cargo, d: Cargo) -> Option<(Address, Value)>
+    ensures { option_map passing result ≡ message (plain_cargo c) (plain_cargo d) }
+{
+    match (c, d) {
+        (Cargo::Gives(v), Cargo::Takes(a)) => Some((a, v)),
+        (Cargo::Takes(a), Cargo::Gives(v)) => Some((a, v)),
+        (Cargo::Gives(_), Cargo::Gives(_)) => None,
+        (Cargo::Takes(_), Cargo::Takes(_)) => None,
+    }
+}
+
+/// An offer finds none on its channel, and its process waits.
+fn waits<'a>(run: &Setting, s: &mut State<'a>, p: &[(u64, u64)], o: Offer<'a>) -> Result<(), Memory>
+    ensures { OnOk result (Changes run.now s.old (waiting (state_of run.now s.old) p.now (plain_offer o.entry)) s.new) }
+{
+    let channel = copy_channel(run.alloc, &o.channel)?;
+    let name = List::from_slice(run.alloc, p)?;
+    becomes(run, s, p, Condition::Waits(o))?;
+    set_pending(run, s, channel, Some(name))?;
+    adds(run, s, 0, 0)
+}
+
+/// Both processes go on, nothing is pending, and the message is assigned.
+fn meeting<'a>(
+    run: &Setting,
+    s: &mut State<'a>,
+    p: &[(u64, u64)],
+    next: Process<'a>,
+    z: &Name,
+    other: Process<'a>,
+    channel: Chan,
+    a: &Address,
+    v: &Value,
+) -> Result<(), Memory>
+    ensures { OnOk result (Changes run.now s.old (Becomes p.now (Works (plain_process next.entry)) ∷ Becomes z.now (Works (plain_process other.entry)) ∷ PendsIn (plain_channel channel) None ∷ Writes (plain_address a.now).spot (assigned (plain_address a.now) (store_of run.now s.old.log (plain_address a.now).spot) (Tree (plain_value v.now))) ∷ Adds (record { processes = 0; channels = 0; entries = 1 }) ∷ []) s.new) }
+{
+    becomes(run, s, p, Condition::Works(next))?;
+    becomes(run, s, z.items(), Condition::Works(other))?;
+    set_pending(run, s, channel, None)?;
+    delivers(run, s, a, v)?;
+    adds(run, s, 0, 0)
+}
+
+/// An offer meets that of a process that waits: F6 where both have one way, F7 where the message types differ.
+fn hands<'a>(
+    run: &Setting,
+    s: &mut State<'a>,
+    p: &[(u64, u64)],
+    o: Offer<'a>,
+    z: &Name,
+    w: Offer<'a>,
+) -> Result<(), Memory>
+    ensures { OnOk result (state_of run.now s.new ≡ result_of (state_of run.now s.old) p.now (hands (state_of run.now s.old) p.now (plain_offer o.entry) z.now (plain_offer w.entry) (message (plain_cargo o.entry.cargo) (plain_cargo w.entry.cargo)))) }
+{
+    let Offer {
+        channel,
+        kind,
+        cargo,
+        next,
+    } = o;
+    let Offer {
+        channel: _,
+        kind: other_kind,
+        cargo: other_cargo,
+        next: other,
+    } = w;
+    match message(cargo, other_cargo) {
+        None => fails(run, s, p, Fault::F6),
+        Some((a, v)) => {
+            if kind == other_kind {
+                meeting(run, s, p, next, z, other, channel, &a, &v)
+            } else {
+                fails(run, s, p, Fault::F7)
+            }
+        }
+    }
+}
+
+/// An offer meets a pending one.
+fn meets<'a>(
+    run: &Setting,
+    s: &mut State<'a>,
+    p: &[(u64, u64)],
+    o: Offer<'a>,
+    z: &Name,
+) -> Result<(), Memory>
+    ensures { OnOk result (state_of run.now s.new ≡ result_of (state_of run.now s.old) p.now (meets (state_of run.now s.old) p.now (plain_offer o.entry) z.now ((state_of run.now s.old).condition z.now))) }
+{
+    match offer_of(run.alloc, s.conditions.items(), z.items())? {
+        Some(w) => hands(run, s, p, o, z, w),
+        None => fails(run, s, p, Fault::F6),
+    }
+}
+
+/// A process offers a message, or a place for one.
+fn offers<'a>(
+    run: &Setting,
+    s: &mut State<'a>,
+    p: &[(u64, u64)],
+    o: Offer<'a>,
+) -> Result<(), Memory>
+    ensures { OnOk result (state_of run.now s.new ≡ result_of (state_of run.now s.old) p.now (outcome (most (setting_of run.now)) (state_of run.now s.old) p.now (Offering (plain_offer o.entry)))) }
+{
+    if let Some(f) = passed(run, &s.totals, 0, 0)? {
+        return fails(run, s, p, f);
+    }
+    match pending_on(s.pending.items(), &o.channel) {
+        Some(z) => {
+            let z = copy_name(run.alloc, z)?;
+            meets(run, s, p, o, &z)
+        }
+        None => waits(run, s, p, o),
+    }
+}
+
+/// A local step.
+#[tactic(auto, unfolding(crate::specs::States::state_of))]
+fn moves<'a>(
+    run: &Setting,
+    s: &mut State<'a>,
+    p: &[(u64, u64)],
+    next: Process<'a>,
+    log: List<Write>,
+) -> Result<(), Memory>
+    ensures { OnOk result (state_of run.now s.new ≡ with_store (setting_of run.now) (store_of run.now log) (changed (Becomes p.now (Works (plain_process next.entry))) (state_of run.now s.old))) }
+{
+    becomes(run, s, p, Condition::Works(next))?;
+    s.log = log;
+    Ok(())
+}
+
+/// A channel is opened, if its entry and the channel pass no limit.
+fn opens<'a>(
+    run: &Setting,
+    s: &mut State<'a>,
+    p: &[(u64, u64)],
+    next: Process<'a>,
+    log: List<Write>,
+) -> Result<(), Memory>
+    ensures { OnOk result (state_of run.now s.new ≡ stepped (setting_of run.now) p.now (plain_who next.entry.who) (state_of run.now s.old) (Got (Opened (items_of next.entry.todo.items)) (plain_own next.entry.own) (store_of run.now log))) }
+{
+    if let Some(f) = passed(run, &s.totals, 0, 1)? {
+        return fails(run, s, p, f);
+    }
+    let Process { todo, who, own } = next;
+    let who = Who {
+        name: who.name,
+        forks: who.forks,
+        opens: sum_of(who.opens, 1)?,
+    };
+    becomes(run, s, p, Condition::Works(Process { todo, who, own }))?;
+    adds(run, s, 0, 1)?;
+    s.log = log;
+    Ok(())
+}
+
+/// What a process does becomes of the state.
+fn completes<'a>(
+    run: &Setting,
+    s: &mut State<'a>,
+    p: &[(u64, u64)],
+    next: Process<'a>,
+    log: List<Write>,
+    deed: Deed<'a>,
+) -> Result<(), Memory>
+    ensures { OnOk result (state_of run.now s.new ≡ stepped (setting_of run.now) p.now (plain_who next.entry.who) (state_of run.now s.old) (Got (plain_deed (items_of next.entry.todo.items) deed.entry) (plain_own next.entry.own) (store_of run.now log))) }
+{
+    match deed {
+        Deed::Went => moves(run, s, p, next, log),
+        Deed::Beat => moves(run, s, p, next, log),
+        Deed::Opened => opens(run, s, p, next, log),
+        Deed::Forked(children) => splits(run, s, p, next, children),
+        Deed::Offered {
+            channel,
+            kind,
+            cargo,
+        } => offers(
+            run,
+            s,
+            p,
+            Offer {
+                channel,
+                kind,
+                cargo,
+                next,
+            },
+        ),
+        Deed::Over => becomes(run, s, p, Condition::Ended),
+    }
+}
+
+/// A step that comes to no deed is a fault.
+fn stops(run: &Setting, s: &mut State, p: &[(u64, u64)], halted: Halted) -> Result<(), Memory>
+    ensures { (w : WhoIn) → OnOk result (state_of run.now s.new ≡ stepped (setting_of run.now) p.now w (state_of run.now s.old) (Not halted)) }
+{
+    match halted {
+        Halted::Fault(f) => fails(run, s, p, f),
+        Halted::Lost => fails(run, s, p, Fault::F8),
+        Halted::Long => fails(run, s, p, Fault::F8),
+    }
+}
+
+/// What a process does next.
+fn deed_of<'a>(
+    run: &Setting<'a>,
+    who: &Who,
+    fuel: u128,
+    machine: &mut Machine,
+    todo: &mut Vec<Item<'a>>,
+) -> Done<Deed<'a>>
+    ensures { Does run.now who.now (plain_deed (items_of todo.new.items)) machine.old result machine.new (deed (setting_of run.now) fuel (items_of todo.old.items)) }
+{
+    take!(settle(run, who, machine, todo));
+    let Some(first) = todo.first() else {
+        return Ok(Ok(Deed::Over));
+    };
+    let item = *first;
+    drop_first(todo);
+    act(run, who, fuel, LEVELS, machine, item, todo)
+}
+
+/// One step of a process: whether it can make one.
+pub fn step<'a>(
+    run: &Setting<'a>,
+    weight: u64,
+    s: &mut State<'a>,
+    p: &[(u64, u64)],
+) -> Result<bool, Memory>
+    requires { weight ≡ weight_of (program_of run.now.checked.now) }
+    ensures { IfOk result (λ can. Steps run.now s.old p.now can s.new) }
+{
+    let Some(process) = running(run, s, p)? else {
+        return Ok(false);
+    };
+    works(run, weight, s, p, process)?;
+    Ok(true)
+}
+
+/// A process that is running makes its step.
+fn works<'a>(
+    run: &Setting<'a>,
+    weight: u64,
+    s: &mut State<'a>,
+    p: &[(u64, u64)],
+    process: Process<'a>,
+) -> Result<(), Memory>
+    requires { weight ≡ weight_of (program_of run.now.checked.now) }
+    ensures { OnOk result (state_of run.now s.new ≡ stepped (setting_of run.now) p.now (plain_who process.entry.who) (state_of run.now s.old) (deed (setting_of run.now) (enough (setting_of run.now) (plain_own process.entry.own)) (items_of process.entry.todo.items) (plain_who process.entry.who) (plain_own process.entry.own) (store_of run.now s.old.log))) }
+{
+    let Process { mut todo, who, own } = process;
+    let fuel = enough(run, weight, &own)?;
+    let log = copy_log(run.alloc, s.log.items())?;
+    let mut machine = Machine { own, log };
+    let came = deed_of(run, &who, fuel, &mut machine, &mut todo)?;
+    let Machine { own, log } = machine;
+    match came {
+        Ok(deed) => completes(run, s, p, Process { todo, who, own }, log, deed),
+        Err(halted) => stops(run, s, p, halted),
+    }
+}

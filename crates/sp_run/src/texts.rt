@@ -1,0 +1,259 @@
+//! Items read and written.
+
+ghost use Rattle.std.specs.Prelude.{◌≡◌, ◌+◌, ◌<◌, ◌≤◌, ◌^◌, ◌∷◌, [], IfOk, MatchOption, take, length, codes, if◌then◌else◌, pos, nat_abs};
+ghost use Rattle.std.specs.Fmt.{signed_decimal};
+ghost use Rattle.sp_tree.specs.Items.{is_blank, is_digit, blanks, digits, number_from, signed, number_in, number_after, digits_after, char_in, line_length, padded, truth_text};
+ghost use Rattle.sp_meaning.specs.Deeds.{shown, taken_by};
+ghost use Rattle.sp_run.specs.Comings.{Does, same};
+ghost use Rattle.sp_run.specs.DirectDeeds.{in_width};
+ghost use Rattle.sp_run.specs.Texts.{plain_taken, taken_of};
+
+use crate::machine::{Machine, Setting, Who};
+use crate::stop::{Done, Halted};
+use itoa::Buffer;
+use sp_base::{Fault, List, MAXINT, Memory};
+use sp_tree::KindOf;
+use std::alloc::Global;
+
+/// What reading gives: a value and how many bytes it took, or a fault.
+#[derive(Clone, Copy)]
+pub enum Taken {
+    Takes(i64, usize),
+    Fails(Fault),
+}
+
+fn is_blank(b: u8) -> bool
+    ensures { result ≡ is_blank b }
+{
+    b == 32 || b == 9 || b == 12 || b == 13 || b == 10
+}
+
+/// How many blanks stand first.
+#[tactic(auto, using(crate::proofs::Reading::blanks_on, crate::proofs::Reading::blanks_stop, crate::proofs::Reading::blanks_end))]
+fn blanks(bytes: &[u8]) -> usize
+    ensures value { result ≡ blanks bytes.now }
+    ensures within { result ≤ length bytes.now }
+{
+    let mut n = 0;
+    for b in bytes {
+        if !is_blank(*b) {
+            return n;
+        }
+        n += 1;
+    }
+    n
+}
+
+fn is_digit(b: u8) -> bool
+    ensures { result ≡ is_digit b }
+{
+    48 <= b && b <= 57
+}
+
+/// How many digits stand first.
+#[tactic(auto, using(crate::proofs::Reading::digits_on, crate::proofs::Reading::digits_stop, crate::proofs::Reading::digits_end))]
+fn digits(bytes: &[u8]) -> usize
+    ensures value { result ≡ digits bytes.now }
+    ensures within { result ≤ length bytes.now }
+{
+    let mut n = 0;
+    for b in bytes {
+        if !is_digit(*b) {
+            return n;
+        }
+        n += 1;
+    }
+    n
+}
+
+/// The number that digits spell, or none where it is above the integers.
+#[tactic(auto, using(crate::proofs::Reading::number_on, crate::proofs::Reading::number_end, crate::proofs::Reading::number_grows))]
+fn number_of(digits: &[u8]) -> Option<u64>
+    ensures { MatchOption result (2 ^ 63 ≤ number_from 0 digits.now) (λ n. (n < 2 ^ 63) × (n ≡ number_from 0 digits.now)) }
+{
+    let mut n = 0u64;
+    for b in digits {
+        let next = n as u128 * 10 + b.saturating_sub(48) as u128;
+        if next > MAXINT as u128 {
+            return None;
+        }
+        n = next as u64;
+    }
+    Some(n)
+}
+
+fn signed(minus: bool, n: u64) -> i64
+    requires { n < 2 ^ 63 }
+    ensures { result ≡ signed minus n }
+{
+    let n = n as i64;
+    if minus { -n } else { n }
+}
+
+/// The number of the digits that stand first, after so many bytes: F17 without a digit, F2 outside the integers.
+fn digits_after(before: usize, minus: bool, bytes: &[u8]) -> Taken
+    requires { before + length bytes.now < 2 ^ 64 }
+    ensures { plain_taken result ≡ digits_after before minus bytes.now }
+{
+    let count = digits(bytes);
+    if count == 0 {
+        return Taken::Fails(Fault::F17);
+    }
+    match number_of(&bytes[..count]) {
+        Some(n) => Taken::Takes(signed(minus, n), before + count),
+        None => Taken::Fails(Fault::F2),
+    }
+}
+
+/// A number after so many blanks, F18 where nothing is left.
+fn number_after(before: usize, bytes: &[u8]) -> Taken
+    requires { before + length bytes.now < 2 ^ 64 }
+    ensures { plain_taken result ≡ number_after before bytes.now }
+{
+    let Some((first, _rest)) = bytes.split_first() else {
+        return Taken::Fails(Fault::F18);
+    };
+    let minus = *first == 45;
+    let sign = if minus || *first == 43 { 1 } else { 0 };
+    digits_after(before + sign, minus, &bytes[sign..])
+}
+
+/// An integer: blanks, a sign, and as many digits as there are.
+fn number_in(bytes: &[u8]) -> Taken
+    ensures { plain_taken result ≡ number_in bytes.now }
+{
+    let before = blanks(bytes);
+    number_after(before, &bytes[before..])
+}
+
+/// A char: the next byte, a space for a line feed.
+fn char_in(bytes: &[u8]) -> Taken
+    ensures { plain_taken result ≡ char_in bytes.now }
+{
+    match bytes.split_first() {
+        Some((b, _rest)) => Taken::Takes(if *b == 10 { 32 } else { *b as i64 }, 1),
+        None => Taken::Fails(Fault::F18),
+    }
+}
+
+/// What is read of a type.
+pub fn taken_by(kind: &KindOf, bytes: &[u8]) -> Option<Taken>
+    ensures { taken_of result ≡ taken_by kind.now bytes.now }
+{
+    match kind {
+        KindOf::Integer => Some(number_in(bytes)),
+        KindOf::Char => Some(char_in(bytes)),
+        KindOf::Boolean => None,
+        KindOf::Enumeration(_) => None,
+        KindOf::Array { .. } => None,
+        KindOf::Fields(_) => None,
+        KindOf::Channel(_) => None,
+    }
+}
+
+/// How many bytes a line has yet, with its line feed.
+#[tactic(auto, using(crate::proofs::Reading::line_on, crate::proofs::Reading::line_stop, crate::proofs::Reading::line_end))]
+pub fn line_length(bytes: &[u8]) -> usize
+    ensures { result ≡ line_length bytes.now }
+{
+    let mut n = 0;
+    for b in bytes {
+        n += 1;
+        if *b == 10 {
+            return n;
+        }
+    }
+    n
+}
+
+fn number_text(alloc: Global, n: i64) -> Result<List<u8>, Memory>
+    ensures { IfOk result (λ t. t ≡ signed_decimal n) }
+{
+    let mut buffer = Buffer::new();
+    Ok(List::from_slice(alloc, buffer.format(n).as_bytes())?)
+}
+
+fn truth_text(alloc: Global, n: i64) -> Result<List<u8>, Memory>
+    ensures { IfOk result (λ t. t ≡ truth_text n) }
+{
+    if n <= 0 {
+        Ok(List::from_slice(alloc, b"false")?)
+    } else {
+        Ok(List::from_slice(alloc, b"true")?)
+    }
+}
+
+/// The byte of a char. No char has an ordinal above 255; a number beyond that is answered as want of memory.
+fn char_text(alloc: Global, n: i64) -> Result<List<u8>, Memory>
+    ensures { IfOk result (λ t. t ≡ nat_abs n ∷ []) }
+{
+    let Ok(byte) = u8::try_from(n.unsigned_abs()) else {
+        return Err(Memory);
+    };
+    let mut out = List::new(alloc);
+    out.push(byte)?;
+    Ok(out)
+}
+
+/// An item of a type as text, and whether a width cuts it.
+pub fn shown(alloc: Global, kind: &KindOf, n: i64) -> Result<(bool, List<u8>), Memory>
+    ensures { IfOk result (λ r. (r.0, r.1) ≡ shown kind.now n) }
+{
+    match kind {
+        KindOf::Integer => Ok((false, number_text(alloc, n)?)),
+        KindOf::Boolean => Ok((true, truth_text(alloc, n)?)),
+        KindOf::Char => Ok((false, char_text(alloc, n)?)),
+        KindOf::Enumeration(_) => Ok((false, List::new(alloc))),
+        KindOf::Array { .. } => Ok((false, List::new(alloc))),
+        KindOf::Fields(_) => Ok((false, List::new(alloc))),
+        KindOf::Channel(_) => Ok((false, List::new(alloc))),
+    }
+}
+
+/// The text, cut where it is to be cut.
+fn cut_to<'a>(cut: bool, m: usize, text: &'a [u8]) -> &'a [u8]
+    ensures { result.now ≡ (if cut then take m text.now else text.now) }
+{
+    if cut && m < text.len() {
+        &text[..m]
+    } else {
+        text
+    }
+}
+
+/// The text right in `m` places.
+fn padded(alloc: Global, m: usize, text: &[u8]) -> Result<List<u8>, Memory>
+    ensures { IfOk result (λ t. t ≡ padded m text.now) }
+{
+    let mut out = Vec::new(alloc);
+    for i in 0..m.saturating_sub(text.len()) {
+        let _ = i;
+        out.push(32)?;
+    }
+    out.extend_from_slice(text)?;
+    Ok(List::of(out))
+}
+
+/// The text of an item with its width: the bytes, or F1.
+pub fn in_width(
+    run: &Setting,
+    who: &Who,
+    machine: &Machine,
+    cut: bool,
+    text: &[u8],
+    width: Option<i64>,
+) -> Done<List<u8>>
+    ensures { Does run.now who.now same machine.now result machine.now (in_width cut text.now width) }
+{
+    match width {
+        None => Ok(Ok(List::from_slice(run.alloc, text)?)),
+        Some(m) => {
+            if m <= 0 {
+                return Ok(Err(Halted::Fault(Fault::F1)));
+            }
+            let m = m as usize;
+            let shown = padded(run.alloc, m, cut_to(cut, m, text))?;
+            Ok(Ok(shown))
+        }
+    }
+}
