@@ -8,6 +8,7 @@ mod scanner;
 mod tables;
 mod token;
 
+pub use rules::item;
 pub use scanner::{scan, spelling};
 
 #[cfg(test)]
