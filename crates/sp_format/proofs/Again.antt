@@ -1,16 +1,16 @@
 -- An item as it is spelled in canonical text: where it stands again, and what follows does not go on with it, it is read
 -- as the same item.
-use Rattle.std.proofs.Common.{◌≡◌, ◌≢◌, ℕ, ◌+◌, ◌-◌, ◌<◌, ◌≤◌, Bool, true, false, ◌||◌, ◌&&◌, ◌==◌, List, [], ◌∷◌, ◌++◌, length, length-append, append_assoc, map, take, Option, Some, None, ◌⊎◌, inl, inr, refl, sym as back_of, ap, ◌∙◌, subst, arith}
+use Rattle.std.proofs.Common.{◌≡◌, ℕ, ◌-◌, ◌≤◌, Bool, true, false, ◌||◌, ◌&&◌, ◌==◌, List, [], ◌∷◌, ◌++◌, length, length-append, map, take, Some, refl, sym as back_of, ap, ◌∙◌, subst, arith}
 use Rattle.std.specs.Prelude.{slice_get}
 use Rattle.std.proofs.lemmas.Bool.Decides.{nat_tests}
 use Rattle.std.proofs.Math.Seq.{take-append_seam}
 use Rattle.sp_tree.specs.declared.token.Kind.{Kind}
 use Rattle.sp_tree.specs.declared.token.Kind.TheVariants as kind
-use Rattle.sp_tree.specs.Characters.{is_blank, is_letter, is_digit, is_name_byte, lower}
+use Rattle.sp_tree.specs.Characters.{is_letter, is_digit, is_name_byte, lower}
 use Rattle.sp_tree.specs.Lexemes.{signs, Lacks, Run, run_ends, run_goes_on, TextBody, text_ends, two_quotes, text_byte, BraceBody, brace_ends, brace_byte, StarBody, star_ends, star_byte, Comment, brace_comment, star_comment, opens_comment, lowered, Lexeme, name, word, number, text, sign, Longest}
 use Rattle.sp_grammar.proofs.Rising.{Each, each_at}
 use Rattle.sp_grammar.proofs.OneList.{sign_plain, no_letter, no_digit, no_quote, differ}
-use Rattle.sp_scan.specs.Finds.{EndsRun, HasSign, IsWordOf}
+use Rattle.sp_scan.specs.Finds.{IsWordOf}
 use Rattle.sp_scan.proofs.Tokens.{longest_name, longest_number, longest_text, longest_sign}
 use Rattle.sp_format.specs.Items.{spelled, front}
 

@@ -1,23 +1,22 @@
 -- The canonical text of items has these items.
-use Rattle.std.proofs.Common.{◌≡◌, ◌≢◌, ℕ, zero, suc, ◌+◌, ◌-◌, ◌<◌, ◌≤◌, Bool, true, false, ◌||◌, ◌&&◌, ◌==◌, cond, List, [], ◌∷◌, ◌++◌, length, append_assoc, map, Option, Some, None, ◌⊎◌, inl, inr, refl, sym as back_of, ap, ◌∙◌, subst, arith, add_assoc, add-one}
+use Rattle.std.proofs.Common.{◌≡◌, ◌≢◌, ℕ, zero, suc, ◌+◌, Bool, true, false, ◌&&◌, ◌==◌, cond, List, [], ◌∷◌, ◌++◌, append_assoc, map, Option, Some, None, refl, sym as back_of, ap, ◌∙◌, subst, arith}
 use Rattle.std.specs.Prelude.{slice_get}
 use Rattle.std.proofs.lemmas.Bool.Decides.{nat_tests}
 use Rattle.sp_tree.specs.declared.token.Token.{Token}
 use Rattle.sp_tree.specs.declared.token.Kind.{Kind}
 use Rattle.sp_tree.specs.declared.token.Kind.TheVariants as kind
-use Rattle.sp_tree.specs.Characters.{is_blank, is_letter, is_digit, is_name_byte, lower}
-use Rattle.sp_tree.specs.Lexemes.{signs, Lacks, Comment, opens_comment, Lexeme, name, word, number, text, sign, Longest}
+use Rattle.sp_tree.specs.Characters.{is_letter, is_digit, is_name_byte}
+use Rattle.sp_tree.specs.Lexemes.{signs, Comment}
 use Rattle.sp_tree.specs.Scans as s
 use Rattle.sp_tree.specs.Scans.{Scans}
 use Rattle.sp_grammar.proofs.Rising.{Each, each_at}
-use Rattle.sp_grammar.proofs.OneList.{differ}
 use Rattle.sp_format.specs.declared.context.Context.{Context}
 use Rattle.sp_format.specs.Items.{Item, item, item_from, spelled, front, HasItems, no_item, blank, comment, token}
-use Rattle.sp_format.specs.Layout.{context_of, gap, laid, canonical, indentation, breaks, touches, depth, previous}
+use Rattle.sp_format.specs.Layout.{context_of, gap, laid, canonical, indentation, breaks, touches, depth}
 use Rattle.sp_format.specs.Formats.{HasTree, IsCanonical}
 use Rattle.sp_format.proofs.Walking.{one_items}
 use Rattle.sp_format.proofs.Neat.{clash, apart_from, program_apart}
-use Rattle.sp_format.proofs.Again.{Stops, Parts, Reads, goes_on, front_is, map_twice, comment_again, token_again, lexeme_first, First, SignForm, signs_form}
+use Rattle.sp_format.proofs.Again.{Stops, Parts, Reads, goes_on, front_is, map_twice, comment_again, token_again, lexeme_first, First}
 
 -- ---- an item as it is spelled
 

@@ -7,7 +7,6 @@ use Rattle.sp_base.specs.declared.halt.Halt.TheVariants as halt
 use Rattle.sp_tree.specs.declared.token.Token.{Token}
 use Rattle.sp_tree.specs.declared.syntax.Syntax.{Syntax}
 use Rattle.sp_tree.specs.SyntaxOf.{program_of}
-use Rattle.sp_tree.specs.Breaches.{IsTree}
 use Rattle.sp_tree.specs.Scans.{IsTokens}
 use Rattle.sp_scan.specs.Finds.{Scanned}
 use Rattle.sp_parse.specs.Parses.{Parsed}

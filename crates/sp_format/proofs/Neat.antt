@@ -8,10 +8,10 @@ use Rattle.sp_tree.specs.declared.operators.BinaryOp.{BinaryOp}
 use Rattle.sp_tree.specs.PlainSyntax.{Program}
 use Rattle.sp_tree.specs.Grammar.{IsRelational, equal, unequal, less, at_most, greater, at_least, IsAdding, plus, minus, or, IsMultiplying, times, quotient, modulo, and}
 use Rattle.sp_tree.specs.Viable.{Any, Spells}
-use Rattle.sp_grammar.specs.Symbols.{Symbol, AToken, AName, AProgram, AHeading, MoreNames, AConstant, AValue, AType, MoreFields, FieldOrEnd, AFormal, MoreFormals, Formals, ABlock, Parts, MoreConstants, MoreTypes, MoreVariables, AStatement, AfterName, AnElse, MoreStatements, MoreBranches, MoreLabels, MoreArms, ArmOrEnd, ADirection, AnExpression, ARelation, ASimple, MoreTerms, ATerm, MoreFactors, AFactor, ANegated, AReference, Selectors, MoreIndices, MoreArguments, AWidth, Value, part}
+use Rattle.sp_grammar.specs.Symbols.{Symbol, AToken, AName, AProgram, AFormal, AStatement, MoreLabels, MoreArms, AnExpression, ARelation, ASimple, MoreTerms, ATerm, MoreFactors, AFactor, Value}
 use Rattle.sp_grammar.specs.Table as row
 use Rattle.sp_grammar.specs.Table.{ConstantRow, PartsRow, FormRow, SelectorRow, FactorRow, SimpleRow, Row, Entry, rows, look, gap}
-use Rattle.sp_grammar.specs.Machine.{Why, Bad, Act, Take, Skip, Fail, takes_if, skips_if, acts, act, Next, On, No, acted, after, going, End, Done, Stuck, run}
+use Rattle.sp_grammar.specs.Machine.{Why, Bad, acts, Next, On, No, acted, after, going, End, Done, Stuck, run}
 use Rattle.sp_grammar.proofs.From.{found}
 use Rattle.sp_grammar.proofs.Run.{leads}
 use Rattle.sp_grammar.proofs.To.{program}

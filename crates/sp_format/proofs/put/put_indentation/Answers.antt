@@ -1,4 +1,4 @@
-use Rattle.std.proofs.Common.{List, ◌∷◌, [], ◌++◌, ap, ◌∙◌, arith}
+use Rattle.std.proofs.Common.{◌∷◌, [], ◌++◌, ap, ◌∙◌, arith}
 use Rattle.sp_format.proofs.Walking.{indent_more}
 use Rattle.sp_format.proofs.put.put_indentation.Goals as goal
 
