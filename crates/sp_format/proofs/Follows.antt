@@ -1,28 +1,43 @@
 -- The canonical text of items has these items.
-use Rattle.std.proofs.Common.{◌≡◌, ◌≢◌, ℕ, zero, suc, ◌+◌, Bool, true, false, ◌&&◌, ◌==◌, cond, List, [], ◌∷◌, ◌++◌, append_assoc, map, Option, Some, None, refl, sym as back_of, ap, ◌∙◌, subst, arith}
+use Rattle.std.proofs.Common.{◌≡◌, ◌≢◌, ℕ, zero, suc, ◌+◌, ◌-◌, ◌<◌, ◌≤◌, ◌||◌, ◌⊎◌, inl, inr, length, length-append, length-take, Bool, true, false, nat_le, ◌&&◌, ◌==◌, cond, List, [], ◌∷◌, ◌++◌, append_assoc, map, Option, Some, None, refl, sym as back_of, ap, ◌∙◌, subst, arith}
 use Rattle.std.specs.Prelude.{slice_get}
 use Rattle.std.proofs.lemmas.Bool.Decides.{nat_tests}
+use Rattle.std.proofs.lemmas.Bool.{cases_lt}
+use Rattle.std.proofs.lemmas.List.{length-map}
+use Rattle.sp_base.specs.declared.rule.Rule.{Rule}
+use Rattle.sp_base.specs.declared.rule.Rule.TheVariants as rule
 use Rattle.sp_tree.specs.declared.token.Token.{Token}
 use Rattle.sp_tree.specs.declared.token.Kind.{Kind}
 use Rattle.sp_tree.specs.declared.token.Kind.TheVariants as kind
-use Rattle.sp_tree.specs.Characters.{is_letter, is_digit, is_name_byte}
-use Rattle.sp_tree.specs.Lexemes.{signs, Comment}
+use Rattle.sp_tree.specs.Characters.{is_blank, is_letter, is_digit, is_name_byte, lower}
+use Rattle.sp_tree.specs.Spelling.{digits_value}
+use Rattle.sp_tree.specs.Lexemes.{signs, refused_words, lowered, opens_comment, Longest, Comment}
 use Rattle.sp_tree.specs.Scans as s
-use Rattle.sp_tree.specs.Scans.{Scans}
+use Rattle.sp_tree.specs.Scans.{Scans, BreaksHere, begins_digit, goes_on_real}
 use Rattle.sp_grammar.proofs.Rising.{Each, each_at}
 use Rattle.sp_format.specs.declared.context.Context.{Context}
 use Rattle.sp_format.specs.Items.{Item, item, item_from, spelled, front, HasItems, no_item, blank, comment, token}
 use Rattle.sp_format.specs.Layout.{context_of, gap, laid, canonical, indentation, breaks, touches, depth}
 use Rattle.sp_format.specs.Formats.{HasTree, IsCanonical}
-use Rattle.sp_format.proofs.Walking.{one_items}
+use Rattle.sp_scan.proofs.Breaches.{fine_number, fine_name, other_token}
+use Rattle.sp_tree.specs.Places.{place_at}
+use Rattle.sp_tree.specs.PlainSyntax.{Program}
+use Rattle.sp_tree.specs.Breaches.{IsTree}
+use Rattle.sp_format.proofs.Walking.{one_items, to_lexis}
 use Rattle.sp_format.proofs.Neat.{clash, apart_from, program_apart}
 use Rattle.sp_format.proofs.Again.{Stops, Parts, Reads, goes_on, front_is, map_twice, comment_again, token_again, lexeme_first, First}
 
 -- ---- an item as it is spelled
 
+-- a number is an integer of the language; a name is short enough and no refused word
+abbrev pub Keeps : Kind → List ℕ → Type 0
+Keeps kind.Number c = digits_value 0 (map lower c) ≤ 9223372036854775807
+Keeps kind.Name c = (length c ≤ 127) × ((n : ℕ) → slice_get refused_words n ≢ Some (map lower c))
+Keeps k c = Unit {0}
+
 abbrev Good : Option Kind → List ℕ → Type 0
 Good None c = (r : List ℕ) → Comment (c ++ r) r
-Good (Some k) c = First k c × ((r : List ℕ) → Parts k c r → Reads k c r) × (spelled (Some k) c ≡ c)
+Good (Some k) c = First k c × ((r : List ℕ) → Parts k c r → Reads k c r) × (spelled (Some k) c ≡ c) × Keeps k c
 
 abbrev GoodAll : List Item → Type 0
 GoodAll [] = Unit {0}
@@ -35,11 +50,21 @@ spelled_twice kind.Number c = refl
 spelled_twice kind.Text c = refl
 spelled_twice (kind.Sign n) c = refl
 
-good_items : {bs : List ℕ} {is : List Item} → HasItems bs is → GoodAll is
-good_items no_item = tt
-good_items (blank b h x) = good_items x
-good_items (comment c x) = (comment_again c, good_items x)
-good_items (token {bs = bs} {u = u} k o l x) = ((lexeme_first l.spelled, token_again o l, spelled_twice k (front bs u)), good_items x)
+-- no rule is broken at a token that stands in a text that breaks none
+keeps_of : {bs u : List ℕ} (k : Kind) → Longest k bs u → ((r : Rule) → BreaksHere r bs → ⊥) → Keeps k (spelled (Some k) (front bs u))
+keeps_of {bs} {u} kind.Number l f = split (cases_lt 9223372036854775807 (digits_value 0 (lowered bs u)))
+  where
+    split : (9223372036854775807 < digits_value 0 (lowered bs u)) ⊎ (digits_value 0 (lowered bs u) ≤ 9223372036854775807) → digits_value 0 (lowered bs u) ≤ 9223372036854775807
+    split (inl h) = absurd (f rule.S4 (record { rest = u; number = l; above = h }))
+    split (inr h) = h
+keeps_of {bs} {u} kind.Name l f = (omega (arith, length-map (front bs u) lower, length-take (length bs - length u) bs, short (cases_lt 127 (length bs - length u))), λ n e. f rule.U1 (inl (record { rest = u; name = l; number = n; refused = e ∙ ap Some (map_twice (front bs u)) })))
+  where
+    short : (127 < length bs - length u) ⊎ (length bs - length u ≤ 127) → length bs - length u ≤ 127
+    short (inl h) = absurd (f rule.S5 (record { rest = u; name = l; above = h }))
+    short (inr h) = h
+keeps_of kind.Text l f = tt
+keeps_of (kind.Word n) l f = tt
+keeps_of (kind.Sign n) l f = tt
 
 -- ---- neighbours
 
@@ -52,21 +77,36 @@ abbrev Apart : Option Kind → List Item → Type 0
 Apart p [] = Unit {0}
 Apart p (i ∷ is) = Clear p i.kind × Apart i.kind is
 
-abbrev with_kind : Option Kind → List Kind → List Kind
+abbrev pub with_kind : Option Kind → List Kind → List Kind
 with_kind None ks = ks
 with_kind (Some k) ks = k ∷ ks
 
 -- the kinds of the tokens among items
-abbrev kinds_of : List Item → List Kind
+abbrev pub kinds_of : List Item → List Kind
 kinds_of [] = []
 kinds_of (i ∷ is) = with_kind i.kind (kinds_of is)
 
--- the tokens and the items of bytes
-all_kinds : {text bs r : List ℕ} {ts : List Token} → r ≡ [] → Scans text bs r ts → (is : List Item) × HasItems bs is × (kinds_of is ≡ map (λ t. t.kind) ts)
-all_kinds e s.nothing = ([], subst (λ r. HasItems r []) (back_of e) no_item, refl)
-all_kinds e (s.blank b h x) = let y = all_kinds e x in (y.0, blank b h y.1, y.2)
-all_kinds e (s.comment {bs = bs} {u = u} c x) = let y = all_kinds e x in (item_from None bs u ∷ y.0, comment c y.1, y.2)
-all_kinds e (s.token {bs = bs} {u = u} k o l x) = let y = all_kinds e x in (item_from (Some k) bs u ∷ y.0, token k o l y.1, ap (λ ks. k ∷ ks) y.2)
+-- no rule is broken along these bytes
+abbrev pub IsFine : List ℕ → List ℕ → Type 0
+IsFine text bs = (rest : List ℕ) (ts : List Token) → Scans text bs rest ts → (r : Rule) → BreaksHere r rest → ⊥
+
+-- the items of bytes with these tokens
+record AllItems (bs : List ℕ) (ks : List Kind) : Type 0 where
+  items : List Item
+  has : HasItems bs items
+  kinds : kinds_of items ≡ ks
+  good : GoodAll items
+
+all_items : {text bs r : List ℕ} {ts : List Token} → r ≡ [] → IsFine text bs → Scans text bs r ts → AllItems bs (map (λ t. t.kind) ts)
+all_items e f s.nothing = record { items = []; has = subst (λ r. HasItems r []) (back_of e) no_item; kinds = refl; good = tt }
+all_items e f (s.blank b h x) = let y = all_items e (λ rest ts z. f rest ts (s.blank b h z)) x in record { items = y.items; has = blank b h y.has; kinds = y.kinds; good = y.good }
+all_items e f (s.comment {bs = bs} {u = u} c x) = let y = all_items e (λ rest ts z. f rest ts (s.comment c z)) x in record { items = item_from None bs u ∷ y.items; has = comment c y.has; kinds = y.kinds; good = (comment_again c, y.good) }
+all_items {text} e f (s.token {bs = bs} {u = u} k o l x) = let y = all_items e (λ rest ts z. f rest (s.token_from text k bs u ∷ ts) (s.token k o l z)) x in record {
+  items = item_from (Some k) bs u ∷ y.items;
+  has = token k o l y.has;
+  kinds = ap (λ ks. k ∷ ks) y.kinds;
+  good = ((lexeme_first l.spelled, token_again o l, spelled_twice k (front bs u), keeps_of k l (f bs [] s.nothing)), y.good);
+}
 
 -- what stands before is the last token, or a comment
 data Last (j : Kind) : Option Kind → Type 0 where
@@ -262,54 +302,189 @@ parts_next : (j : Kind) (c : List ℕ) (before is : List Item) → First j c →
 parts_next j c before [] e g h = parts_line j c []
 parts_next j c before (i ∷ is) e g h = parts_after j c before i.kind i.bytes (laid (i ∷ item (Some j) c ∷ before) is) e g.0 h.0
 
+-- ---- what follows a number
+
+-- a sign of two bytes goes on with no number; one of one byte only if it is the dot
+abbrev tail_ok : ℕ → List ℕ → Bool
+tail_ok n [] = false
+tail_ok n (y ∷ []) = cond (y == 101 || y == 69) false (cond (y == 46) (n == 14) true)
+tail_ok n (y ∷ z ∷ d) = cond (y == 101 || y == 69) false (cond (nat_le 48 z && nat_le z 57) false true)
+
+all_tails : all_from tail_ok 0 signs ≡ true
+all_tails = refl
+
+tail_of : (n : ℕ) (d : List ℕ) → slice_get signs n ≡ Some d → tail_ok n d ≡ true
+tail_of n d p = subst (λ i. tail_ok i d ≡ true) (let z : 0 + n ≡ n = omega arith in z) (sign_at tail_ok 0 signs n d all_tails p)
+
+one_real : (y n : ℕ) (b c : Bool) → cond (y == 101 || y == 69) false (cond (y == 46) (n == 14) true) ≡ true → (n ≡ 14 → b ≡ false) → ((y == 46 && b) || ((y == 101 || y == 69) && c)) ≡ false
+one_real y n true c h f = grind (arith, nat_tests)
+one_real y n false c h f = grind (arith, nat_tests)
+
+two_real : (y z : ℕ) (c : Bool) → cond (y == 101 || y == 69) false (cond (nat_le 48 z && nat_le z 57) false true) ≡ true → ((y == 46 && (nat_le 48 z && nat_le z 57)) || ((y == 101 || y == 69) && c)) ≡ false
+two_real y z c h = grind (arith, nat_tests)
+
+sign_real : (n : ℕ) (d rest : List ℕ) → tail_ok n d ≡ true → (n ≡ 14 → begins_digit rest ≡ false) → goes_on_real (d ++ rest) ≡ false
+sign_real n [] rest h f = absurd cc
+sign_real n (y ∷ []) rest h f = one_real y n (begins_digit rest) (s.begins_signed rest) h f
+sign_real n (y ∷ z ∷ d) rest h f = two_real y z (s.begins_signed (z ∷ (d ++ rest))) h
+
+-- behind a dot there is no digit
+letter_digits : (y : ℕ) → is_letter y ≡ true → is_digit y ≡ false
+letter_digits y h = grind (arith, nat_tests)
+
+quote_digits : (y : ℕ) → (y == 39) ≡ true → is_digit y ≡ false
+quote_digits y h = grind (arith, nat_tests)
+
+no_digit_first : (k : Kind) (d rest : List ℕ) → First k d → clash (kind.Sign 14) k ≡ false → begins_digit (d ++ rest) ≡ false
+no_digit_first kind.Name [] rest f h = absurd f
+no_digit_first kind.Name (y ∷ d) rest f h = letter_digits y f
+no_digit_first (kind.Word n) [] rest f h = absurd f
+no_digit_first (kind.Word n) (y ∷ d) rest f h = letter_digits y f
+no_digit_first kind.Text [] rest f h = absurd f
+no_digit_first kind.Text (y ∷ d) rest f h = quote_digits y f
+no_digit_first kind.Number d rest f h = absurd cc
+no_digit_first (kind.Sign n) d rest f h = by_head d rest (each_at SignHead signs n d signs_head f)
+  where
+    by_head : (d rest : List ℕ) → SignHead d → begins_digit (d ++ rest) ≡ false
+    by_head [] rest g = absurd g
+    by_head (y ∷ d) rest g = g.1
+
+dot_by : (k : Kind) (d g rest : List ℕ) (b t : Bool) → First k d → clash (kind.Sign 14) k ≡ false → begins_digit (((cond b (10 ∷ g) (cond t [] (32 ∷ [])) ++ d) ++ rest) ++ 10 ∷ []) ≡ false
+dot_by k d g rest true t f h = refl
+dot_by k d g rest false true f h = subst (λ l. begins_digit l ≡ false) (back_of (append_assoc d rest (10 ∷ []))) (no_digit_first k d (rest ++ 10 ∷ []) f h)
+dot_by k d g rest false false f h = refl
+
+dot_after : (c : List ℕ) (before : List Item) (k : Option Kind) (d rest : List ℕ) → Good k d → Clear (Some (kind.Sign 14)) k → begins_digit (((gap (context_of (item (Some (kind.Sign 14)) c ∷ before)) k ++ d) ++ rest) ++ 10 ∷ []) ≡ false
+dot_after c before None d rest g h = refl
+dot_after c before (Some k) d rest g h =
+    let x : Context = context_of (item (Some (kind.Sign 14)) c ∷ before) in
+    dot_by k d (indentation (depth x (Some k))) rest (breaks x (Some k)) (touches (Some (kind.Sign 14)) (Some k)) g.0 h
+
+dot_next : (n : ℕ) (c : List ℕ) (before is : List Item) → GoodAll is → Apart (Some (kind.Sign n)) is → n ≡ 14 → begins_digit (laid (item (Some (kind.Sign n)) c ∷ before) is ++ 10 ∷ []) ≡ false
+dot_next n c before is g h e = at_dot is g (subst (λ n. Apart (Some (kind.Sign n)) is) e h)
+  where
+    at_fourteen : (is : List Item) → GoodAll is → Apart (Some (kind.Sign 14)) is → begins_digit (laid (item (Some (kind.Sign 14)) c ∷ before) is ++ 10 ∷ []) ≡ false
+    at_fourteen [] g h = refl
+    at_fourteen (i ∷ is) g h = dot_after c before i.kind i.bytes (laid (i ∷ item (Some (kind.Sign 14)) c ∷ before) is) g.0 h.0
+
+    at_dot : (is : List Item) → GoodAll is → Apart (Some (kind.Sign 14)) is → begins_digit (laid (item (Some (kind.Sign n)) c ∷ before) is ++ 10 ∷ []) ≡ false
+    at_dot is g h = subst (λ n. begins_digit (laid (item (Some (kind.Sign n)) c ∷ before) is ++ 10 ∷ []) ≡ false) (back_of e) (at_fourteen is g h)
+
+-- behind a number: no real one
+real_touch : (k : Kind) (d rest : List ℕ) → First k d → touches (Some kind.Number) (Some k) ≡ true → ((n : ℕ) → k ≡ kind.Sign n → n ≡ 14 → begins_digit rest ≡ false) → goes_on_real (d ++ rest) ≡ false
+real_touch kind.Name d rest f t g = absurd cc
+real_touch kind.Number d rest f t g = absurd cc
+real_touch kind.Text d rest f t g = absurd cc
+real_touch (kind.Word n) d rest f t g = absurd cc
+real_touch (kind.Sign n) d rest f t g = sign_real n d rest (tail_of n d f) (g n refl)
+
+real_by : (k : Kind) (d g rest : List ℕ) (b t : Bool) → First k d → touches (Some kind.Number) (Some k) ≡ t → ((n : ℕ) → k ≡ kind.Sign n → n ≡ 14 → begins_digit (rest ++ 10 ∷ []) ≡ false) → goes_on_real (((cond b (10 ∷ g) (cond t [] (32 ∷ [])) ++ d) ++ rest) ++ 10 ∷ []) ≡ false
+real_by k d g rest true t f e h = refl
+real_by k d g rest false true f e h = subst (λ l. goes_on_real l ≡ false) (back_of (append_assoc d rest (10 ∷ []))) (real_touch k d (rest ++ 10 ∷ []) f e h)
+real_by k d g rest false false f e h = refl
+
+real_after : (c : List ℕ) (before : List Item) (k : Option Kind) (d : List ℕ) (is : List Item) → Good k d → GoodAll is → Apart k is → goes_on_real (((gap (context_of (item (Some kind.Number) c ∷ before)) k ++ d) ++ laid (item k d ∷ item (Some kind.Number) c ∷ before) is) ++ 10 ∷ []) ≡ false
+real_after c before None d is g gs h = refl
+real_after c before (Some k) d is g gs h =
+    let x : Context = context_of (item (Some kind.Number) c ∷ before) in
+    real_by k d (indentation (depth x (Some k))) (laid (item (Some k) d ∷ item (Some kind.Number) c ∷ before) is) (breaks x (Some k)) (touches (Some kind.Number) (Some k)) g.0 refl
+      (λ n e f. subst (λ k. begins_digit (laid (item (Some k) d ∷ item (Some kind.Number) c ∷ before) is ++ 10 ∷ []) ≡ false) (back_of e) (dot_next n d (item (Some kind.Number) c ∷ before) is gs (subst (λ k. Apart (Some k) is) e h) f))
+
+-- what has to follow a token that no rule is broken at it
+abbrev Ends : Kind → List ℕ → Type 0
+Ends kind.Number r = goes_on_real r ≡ false
+Ends k r = Unit {0}
+
+number_next : (c : List ℕ) (before is : List Item) → GoodAll is → Apart (Some kind.Number) is → goes_on_real (laid (item (Some kind.Number) c ∷ before) is ++ 10 ∷ []) ≡ false
+number_next c before [] g h = refl
+number_next c before (i ∷ is) g h = real_after c before i.kind i.bytes is g.0 g.1 h.1
+
+ends_next : (k : Kind) (c : List ℕ) (before is : List Item) → GoodAll is → Apart (Some k) is → Ends k (laid (item (Some k) c ∷ before) is ++ 10 ∷ [])
+ends_next kind.Number c before is g h = number_next c before is g h
+ends_next kind.Name c before is g h = tt
+ends_next kind.Text c before is g h = tt
+ends_next (kind.Word n) c before is g h = tt
+ends_next (kind.Sign n) c before is g h = tt
+
+-- there no rule is broken
+no_breach : (k : Kind) (c r : List ℕ) → Reads k c r → Keeps k c → Ends k r → (s : Rule) → BreaksHere s (c ++ r) → ⊥
+no_breach kind.Number c r y h e = fine_number y.0 y.1 (subst (λ v. digits_value 0 (map lower v) ≤ 9223372036854775807) (back_of (front_is (c ++ r) c r refl)) h) e
+no_breach kind.Name c r y h e = fine_name y.0 y.1 (omega (arith, length-append c r, h.0)) (λ n. subst (λ v. slice_get refused_words n ≢ Some (map lower v)) (back_of (front_is (c ++ r) c r refl)) (h.1 n))
+no_breach kind.Text c r y h e = other_token y.0 kind.Text y.1 (λ e. cc) (λ e. cc)
+no_breach (kind.Word n) c r y h e = other_token y.0 (kind.Word n) y.1 (λ e. cc) (λ e. cc)
+no_breach (kind.Sign n) c r y h e = other_token y.0 (kind.Sign n) y.1 (λ e. cc) (λ e. cc)
+
 -- ---- the text again
 
+-- Bytes with these items, at which no rule of characters is broken.
+pub data Kept : List ℕ → List Item → Type 0 where
+  kept_end : Kept [] []
+  kept_blank : {bs : List ℕ} {is : List Item} → (b : ℕ) → is_blank b ≡ true → Kept bs is → Kept (b ∷ bs) is
+  kept_comment : {bs u : List ℕ} {is : List Item} → Comment bs u → Kept u is → Kept bs (item_from None bs u ∷ is)
+  kept_token : {bs u : List ℕ} {is : List Item} → (k : Kind) → opens_comment bs ≡ false → Longest k bs u → ((r : Rule) → BreaksHere r bs → ⊥) → Kept u is → Kept bs (item_from (Some k) bs u ∷ is)
+
+pub has_items : {bs : List ℕ} {is : List Item} → Kept bs is → HasItems bs is
+has_items kept_end = no_item
+has_items (kept_blank b h x) = blank b h (has_items x)
+has_items (kept_comment c x) = comment c (has_items x)
+has_items (kept_token k o l f x) = token k o l (has_items x)
+
 -- blanks stand before an item
-behind_indentation : (n : ℕ) {x : List ℕ} {is : List Item} → HasItems x is → HasItems (indentation n ++ x) is
+behind_indentation : (n : ℕ) {x : List ℕ} {is : List Item} → Kept x is → Kept (indentation n ++ x) is
 behind_indentation zero h = h
-behind_indentation (suc n) h = blank 32 refl (blank 32 refl (behind_indentation n h))
+behind_indentation (suc n) h = kept_blank 32 refl (kept_blank 32 refl (behind_indentation n h))
 
-behind_by : (a b t : Bool) (n : ℕ) {x : List ℕ} {is : List Item} → HasItems x is → HasItems (cond a [] (cond b (10 ∷ indentation n) (cond t [] (32 ∷ []))) ++ x) is
+behind_by : (a b t : Bool) (n : ℕ) {x : List ℕ} {is : List Item} → Kept x is → Kept (cond a [] (cond b (10 ∷ indentation n) (cond t [] (32 ∷ []))) ++ x) is
 behind_by true b t n h = h
-behind_by false true t n h = blank 10 refl (behind_indentation n h)
+behind_by false true t n h = kept_blank 10 refl (behind_indentation n h)
 behind_by false false true n h = h
-behind_by false false false n h = blank 32 refl h
+behind_by false false false n h = kept_blank 32 refl h
 
-behind_gap : (x : Context) (k : Option Kind) {bs : List ℕ} {is : List Item} → HasItems bs is → HasItems (gap x k ++ bs) is
+behind_gap : (x : Context) (k : Option Kind) {bs : List ℕ} {is : List Item} → Kept bs is → Kept (gap x k ++ bs) is
 behind_gap x k h = behind_by x.first (breaks x k) (touches x.previous k) (depth x k) h
 
 regroup : (g c l m : List ℕ) → ((g ++ c) ++ l) ++ m ≡ g ++ (c ++ (l ++ m))
 regroup g c l m = append_assoc (g ++ c) l m ∙ append_assoc g c (l ++ m)
 
 -- an item that is read again
-reads_comment : {r : List ℕ} {is : List Item} (c : List ℕ) → Good None c → HasItems r is → HasItems (c ++ r) (item None c ∷ is)
-reads_comment {r} {is} c g h = subst (λ v. HasItems (c ++ r) (item None v ∷ is)) (front_is (c ++ r) c r refl) (comment (g r) h)
+reads_comment : {r : List ℕ} {is : List Item} (c : List ℕ) → Good None c → Kept r is → Kept (c ++ r) (item None c ∷ is)
+reads_comment {r} {is} c g h = subst (λ v. Kept (c ++ r) (item None v ∷ is)) (front_is (c ++ r) c r refl) (kept_comment (g r) h)
 
-reads_token : {r : List ℕ} {is : List Item} (k : Kind) (c : List ℕ) → Good (Some k) c → Parts k c r → HasItems r is → HasItems (c ++ r) (item (Some k) c ∷ is)
-reads_token {r} {is} k c g p h =
+reads_token : {r : List ℕ} {is : List Item} (k : Kind) (c : List ℕ) → Good (Some k) c → Parts k c r → Ends k r → Kept r is → Kept (c ++ r) (item (Some k) c ∷ is)
+reads_token {r} {is} k c g p e h =
     let y = g.1 r p in
-    subst (λ v. HasItems (c ++ r) (item (Some k) v ∷ is)) (ap (spelled (Some k)) (front_is (c ++ r) c r refl) ∙ g.2) (token k y.0 y.1 h)
+    subst (λ v. Kept (c ++ r) (item (Some k) v ∷ is)) (ap (spelled (Some k)) (front_is (c ++ r) c r refl) ∙ g.2) (kept_token k y.0 y.1 (no_breach k c r y g.3 e) h)
 
-again_by : (before : List Item) (k : Option Kind) (c : List ℕ) (is : List Item) → Good k c → GoodAll is → Apart k is → ((b : List Item) → HasItems (laid b is ++ 10 ∷ []) is) → HasItems (laid before (item k c ∷ is) ++ 10 ∷ []) (item k c ∷ is)
+again_by : (before : List Item) (k : Option Kind) (c : List ℕ) (is : List Item) → Good k c → GoodAll is → Apart k is → ((b : List Item) → Kept (laid b is ++ 10 ∷ []) is) → Kept (laid before (item k c ∷ is) ++ 10 ∷ []) (item k c ∷ is)
 again_by before None c is g gs h go =
     let l : List ℕ = laid (item None c ∷ before) is in
-    subst (λ v. HasItems v (item None c ∷ is)) (back_of (regroup (gap (context_of before) None) c l (10 ∷ [])))
+    subst (λ v. Kept v (item None c ∷ is)) (back_of (regroup (gap (context_of before) None) c l (10 ∷ [])))
       (behind_gap (context_of before) None (reads_comment c g (go (item None c ∷ before))))
 again_by before (Some k) c is g gs h go =
     let l : List ℕ = laid (item (Some k) c ∷ before) is in
-    subst (λ v. HasItems v (item (Some k) c ∷ is)) (back_of (regroup (gap (context_of before) (Some k)) c l (10 ∷ [])))
-      (behind_gap (context_of before) (Some k) (reads_token k c g (parts_next k c before is g.0 gs h) (go (item (Some k) c ∷ before))))
+    subst (λ v. Kept v (item (Some k) c ∷ is)) (back_of (regroup (gap (context_of before) (Some k)) c l (10 ∷ [])))
+      (behind_gap (context_of before) (Some k) (reads_token k c g (parts_next k c before is g.0 gs h) (ends_next k c before is gs h) (go (item (Some k) c ∷ before))))
 
-again : (is : List Item) (p : Option Kind) → GoodAll is → Apart p is → (before : List Item) → HasItems (laid before is ++ 10 ∷ []) is
-again [] p g h before = blank 10 refl no_item
+again : (is : List Item) (p : Option Kind) → GoodAll is → Apart p is → (before : List Item) → Kept (laid before is ++ 10 ∷ []) is
+again [] p g h before = kept_blank 10 refl kept_end
 again (i ∷ is) p g h before = again_by before i.kind i.bytes is g.0 g.1 h.1 (again is i.kind g.1 h.1)
 
--- The canonical text of a program's items has these items.
+-- The canonical text of a program's items has these items, and its tokens are of the kinds of the program's.
+pub record Again (text : List ℕ) (is : List Item) (ks : List Kind) : Type 0 where
+  pub kept : Kept (canonical is) is
+  pub kinds : kinds_of is ≡ ks
+
+pub canonical_kept : {text : List ℕ} {is : List Item} (p : Program) (t : IsTree text p) → HasItems text is → Again text is (map (λ t. t.kind) t.tokens)
+canonical_kept {text} {is} p t x =
+    let y = all_items refl (λ rest ts z r b. t.are_tokens.kept r (place_at text (s.offset text rest)) (to_lexis text r (place_at text (s.offset text rest)) (record { rest = rest; tokens = ts; along = z; here = b; place = refl }))) t.are_tokens.scans in
+    let same : y.items ≡ is = one_items y.has x in
+    let kinds : kinds_of is ≡ map (λ t. t.kind) t.tokens = ap kinds_of (back_of same) ∙ y.kinds in record {
+      kept = again is None (subst GoodAll same y.good) (to_apart kind.Name None is is_comment (subst (apart_from kind.Name) (back_of kinds) (program_apart text t.tokens p t.spells))) [];
+      kinds = kinds;
+    }
+
 pub canonical_items : {text : List ℕ} {is : List Item} → HasTree text → HasItems text is → HasItems (canonical is) is
-canonical_items {text} {is} (p, t) x =
-    let y = all_kinds refl t.are_tokens.scans in
-    let same : kinds_of is ≡ map (λ t. t.kind) t.tokens = ap kinds_of (one_items x y.1) ∙ y.2 in
-    again is None (good_items x) (to_apart kind.Name None is is_comment (subst (apart_from kind.Name) (back_of same) (program_apart text t.tokens p t.spells))) []
+canonical_items (p, t) x = has_items (canonical_kept p t x).kept
 
 -- The canonical text of a canonical text is itself.
 pub canonical_again : {text out other : List ℕ} → HasTree text → IsCanonical text out → IsCanonical out other → other ≡ out

@@ -3,3 +3,4 @@ pub mod Joining
 pub mod Neat
 pub mod Again
 pub mod Follows
+pub mod Accepts

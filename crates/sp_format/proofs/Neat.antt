@@ -1,4 +1,5 @@
--- What the tokens of a program have next to each other: no star behind an opening parenthesis, and no dot behind a dot.
+-- What the tokens of a program have next to each other: no star behind an opening parenthesis, and no dot or number behind a
+-- dot.
 use Rattle.std.proofs.Common.{◌≡◌, ℕ, suc, Bool, true, false, ◌||◌, ◌&&◌, ◌==◌, cond, ◌<◌, length, map, List, [], ◌∷◌, ◌++◌, append_assoc, Option, Some, None, ◌⊎◌, inl, inr, refl, sym as back_of, ap, ◌∙◌, subst, arith}
 use Rattle.std.proofs.lemmas.Bool.Decides.{nat_tests}
 use Rattle.sp_tree.specs.declared.token.Token.{Token}
@@ -19,6 +20,7 @@ use Rattle.sp_grammar.proofs.To.{program}
 -- a token that may not stand behind another
 abbrev pub clash : Kind → Kind → Bool
 clash (kind.Sign a) (kind.Sign b) = (a == 9 && b == 2) || (a == 14 && (b == 14 || b == 18))
+clash (kind.Sign a) kind.Number = a == 14
 clash j k = false
 
 -- ---- what is pending
@@ -291,8 +293,18 @@ star_by q n t a b h e p true false false f g i w = refl
 star_by q n t a b h e p false y true f g i w = absurd (no_dot q n t b (if_true (a == 14) _ i (if_false (a == 9) _ f h)) e p)
 star_by q n t a b h e p false y false f g i w = refl
 
+no_digits : (q n : List Symbol) (t : Token) → holds_name q ≡ true → t.kind ≡ kind.Number → after None q t ≡ On n → ⊥
+no_digits [] n t h e p = cc
+no_digits (AName ∷ q) n t h e p = stuck AName q n t kind.Number e refl refl p
+no_digits (s ∷ q) n t h e p = cc
+
+not_true : (b : Bool) → (b ≡ true → ⊥) → b ≡ false
+not_true true h = absurd (h refl)
+not_true false h = refl
+
 no_clash : (q n : List Symbol) (t : Token) (j k : Kind) → ready j q ≡ true → t.kind ≡ k → after None q t ≡ On n → clash j k ≡ false
 no_clash q n t (kind.Sign a) (kind.Sign b) h e p = star_by q n t a b h e p (a == 9) (b == 2) (a == 14) refl refl refl (b == 14 || b == 18)
+no_clash q n t (kind.Sign a) kind.Number h e p = not_true (a == 14) (λ f. no_digits q n t (if_true (a == 14) _ f (if_false (a == 9) _ (ne_by a f) h)) e p)
 no_clash q n t j k h e p = refl
 
 -- ---- all tokens

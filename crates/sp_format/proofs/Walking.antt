@@ -136,7 +136,7 @@ lay_start text out context ts h e f = let y = items_of refl h.scans in let l = i
   few_closed = omega (arith, ap (λ (c : Context). c.closed) f);
 }
 
-to_lexis : (text : List ℕ) (r : Rule) (at : Place) → BreaksAlong text r at → BreaksLexis text r at
+pub to_lexis : (text : List ℕ) (r : Rule) (at : Place) → BreaksAlong text r at → BreaksLexis text r at
 to_lexis text rule.L1 at b = absurd b.here
 to_lexis text r at b = b
 

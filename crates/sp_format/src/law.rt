@@ -1,8 +1,10 @@
 //! Laws of canonical texts. The functions do nothing: what counts is their contracts.
 
-ghost use Rattle.std.specs.Prelude.{◌≡◌, ℕ, List};
+ghost use Rattle.std.specs.Prelude.{◌≡◌, ◌⊎◌, ℕ, List};
+ghost use Rattle.sp_base.specs.declared.halt.Refusal.{Refusal};
+ghost use Rattle.sp_tree.specs.Breaches.{IsFirstBroken};
 ghost use Rattle.sp_format.specs.Items.{Item as AnItem, HasItems};
-ghost use Rattle.sp_format.specs.Formats.{HasTree, IsCanonical};
+ghost use Rattle.sp_format.specs.Formats.{HasTree, IsCanonical, IsLong};
 ghost use Rattle.sp_format.specs.Layout.{canonical};
 
 /// A text has at most one list of items, and so at most one canonical text. Texts of the same items have the same one.
@@ -12,9 +14,11 @@ pub fn one_canonical_text()
     ensures same { (text other a b : List ℕ) (is : List AnItem) → HasItems text is → HasItems other is → IsCanonical text a → IsCanonical other b → a ≡ b }
 {}
 
-/// The canonical text of a program has the items of the program. So whatever has canonical text has it once: laid out
-/// again it is itself.
+/// The canonical text of a program has the items of the program, breaks no rule of its characters and its grammar either,
+/// and is its own canonical text: laid out again it is itself, and no rule is named.
 pub fn items_kept()
     ensures items { (text : List ℕ) (is : List AnItem) → HasTree text → HasItems text is → HasItems (canonical is) is }
-    ensures again { (text out other : List ℕ) → HasTree text → IsCanonical text out → IsCanonical out other → other ≡ out }
+    ensures accepted { (text out : List ℕ) → HasTree text → IsCanonical text out → HasTree out }
+    ensures again { (text out : List ℕ) → HasTree text → IsCanonical text out → IsCanonical out out }
+    ensures not_refused { (text out : List ℕ) (r : Refusal) → HasTree text → IsCanonical text out → IsFirstBroken out r ⊎ (HasTree out × IsLong out r) → ⊥ }
 {}
