@@ -7,3 +7,5 @@ pub mod FusedStatements
 pub mod Sited
 pub mod NoBreach
 pub mod Reached
+pub mod Unbroken
+pub mod BreachRows

@@ -1,5 +1,5 @@
 -- What stands around a place in a program: the scopes, the innermost first, and what variable parameters stand for.
-use Rattle.std.specs.Prelude.{ℕ, zero, suc, ◌==◌, List, [], ◌∷◌, Option, Some, None, Bool, true, false, if◌then◌else◌, slice_get, length}
+use Rattle.std.specs.Prelude.{ℕ, zero, suc, ◌==◌, List, [], ◌∷◌, Option, Some, None, Bool, false, if◌then◌else◌, slice_get, length}
 use Rattle.sp_tree.specs.Plain.{Program, Block}
 
 -- a scope: a block, or the element statement of a forall
