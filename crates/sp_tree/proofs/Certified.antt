@@ -5,6 +5,7 @@ use Rattle.sp_tree.specs.declared.checked.Role.TheVariants as role
 use Rattle.sp_tree.specs.Plain.{Actuals, Program, Variable, Block, Stmts, No, And}
 use Rattle.sp_tree.specs.Uses.{Use, Aims, Sees, Runs, Splits, Spreads, Stops, In_stmt, In_stmts}
 use Rattle.sp_tree.specs.Sets.{IsBelow, IsFree, Reach, IsTarget, IsSeen, IsUsed, Implicit}
+use Rattle.sp_tree.specs.Formed.{is_answer}
 use Rattle.sp_tree.specs.Interference.{refs, IsMember, AllDifferent, KeepsI1, KeepsRules, IsFreeOfInterference}
 use Rattle.sp_tree.proofs.UsesOf.{Among, stmt_uses, stmts_uses, stmt_among, stmts_among}
 
@@ -93,14 +94,6 @@ is_index role.Value = false
 is_index role.Reference = false
 is_index role.Index = true
 is_index role.Answer = false
-
-abbrev pub is_answer : Role → Bool
-is_answer role.Console = false
-is_answer role.Local = false
-is_answer role.Value = false
-is_answer role.Reference = false
-is_answer role.Index = false
-is_answer role.Answer = true
 
 console_is : (r : Role) → is_console r ≡ true → r ≡ role.Console
 console_is role.Console h = refl

@@ -9,3 +9,4 @@ pub mod NoBreach
 pub mod Reached
 pub mod Unbroken
 pub mod BreachRows
+pub mod FormedRows
