@@ -9,6 +9,3 @@ mod tables;
 mod token;
 
 pub use scanner::{scan, spelling};
-
-#[cfg(test)]
-mod tests;

@@ -18,8 +18,6 @@ mod rules;
 mod scopes;
 mod standard;
 mod statements;
-#[cfg(test)]
-mod tests;
 mod variables;
 mod walked;
 

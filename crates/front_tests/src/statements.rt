@@ -1,7 +1,7 @@
 //! Statements and expressions, spelled again from their trees with their parts marked.
 
-use crate::read_text;
-use crate::tests_declarations::{add, add_constant, add_name};
+use sp_front::read_text;
+use crate::declarations::{add, add_constant, add_name};
 use sp_base::Place;
 use sp_tree::{
     BinaryOp, SynArg, SynArm, SynBranch, SynExpr, SynExprForm, SynForm, SynSelector, SynStmt,

@@ -1,4 +1,4 @@
-use crate::scanner::{scan, spelling};
+use sp_scan::{scan, spelling};
 use sp_base::{Halt, Place, Refusal, Rule};
 use sp_tree::{Kind, MAX_TEXT, Token, sign, word};
 use std::alloc::{AllocError, Global};

@@ -1,6 +1,6 @@
 //! Texts that break rules of the grammar.
 
-use crate::read_text;
+use sp_front::read_text;
 use sp_base::{Halt, Place, Refusal, Rule};
 use sp_scan::scan;
 use std::alloc::Global;

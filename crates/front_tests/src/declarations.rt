@@ -1,7 +1,7 @@
 //! Declarations, spelled again from their trees, and tokens that may not follow in them.
 
-use crate::read_text;
-use crate::tests::refuses;
+use sp_front::read_text;
+use crate::grammar::refuses;
 use sp_base::{List, Rule};
 use sp_tree::{Name, SynConst, SynFormal, SynGroup, SynKind, SynPart, SynValue, Syntax};
 use std::alloc::{AllocError, Global};

@@ -1,6 +1,6 @@
 //! Each rule of types with a text that breaks it, beside a near one that breaks none.
 
-use crate::typed;
+use sp_front::typed;
 use sp_base::{Halt, Place, Refusal, Rule};
 use std::alloc::Global;
 use std::test::Fail;

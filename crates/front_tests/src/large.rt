@@ -1,6 +1,6 @@
 //! Texts with parts that are nested up to the limit, and long ones.
 
-use crate::tests::{accepts, refuses};
+use crate::grammar::{accepts, refuses};
 use sp_base::Rule;
 use std::alloc::{AllocError, Global};
 use std::test::Fail;

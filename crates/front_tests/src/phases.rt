@@ -1,6 +1,6 @@
 //! Large texts through all phases, on the thread that has the stack for them.
 
-use crate::phases::typed_apart;
+use sp_front::typed_apart;
 use sp_base::{Halt, Place, Refusal, Rule};
 use std::alloc::{AllocError, Global};
 use std::test::Fail;
