@@ -3,7 +3,7 @@
 ghost use Rattle.std.specs.Prelude.{◌≡◌, map, None, Ok};
 ghost use Rattle.std.specs.Option.{option_copied};
 ghost use Rattle.sp_scope.specs.Walks.{Walks};
-ghost use Rattle.sp_tree.specs.Scopes.{find};
+ghost use Rattle.sp_tree.specs.Scopes.{Env, find};
 ghost use Rattle.sp_tree.specs.NameWalk.{is_whole};
 ghost use Rattle.sp_tree.specs.NamedTree.{named_expression, named_form, named_operand, named_selectors, named_selector, named_arguments, named_argument, named_width, operand_named, function_named, variable_number, variable_read};
 ghost use Rattle.sp_tree.specs.NamedOf as named;
@@ -131,9 +131,9 @@ fn name_operand(
     ensures { Walks named.expression_form_of result (named_operand scopes.now (variable_of v)) (operand_first scopes.now (variable_of v) first) }
 {
     let SynVar { name, selectors } = v;
-    let whole = is_whole(selectors.items());
-    let broken = operand_rule(name.at, whole, scopes.find(&name.text));
-    name_read(alloc, scopes, selectors, &name, lesser(first, broken))
+    let m = scopes.find(&name.text);
+    let broken = operand_rule(name.at, is_whole(selectors.items()), m);
+    name_read(alloc, scopes, selectors, &name, m, lesser(first, broken))
 }
 
 #[cycle(expression)]
@@ -142,13 +142,14 @@ fn name_read(
     scopes: &Scopes,
     xs: List<SynSelector>,
     x: &Name,
+    m: Option<&Meaning>,
     first: Found,
 ) -> Result<Walked<NamedExprForm>, Halt>
-    ensures { Walks named.expression_form_of result (operand_named (find scopes.now x.now.text) x.now (named.selectors (named_selectors scopes.now (selectors (map selector_of xs))))) (selectors_first scopes.now (selectors (map selector_of xs)) first) }
+    ensures { Walks named.expression_form_of result (operand_named (option_copied m.entry) x.now (named.selectors (named_selectors scopes.now (selectors (map selector_of xs))))) (selectors_first scopes.now (selectors (map selector_of xs)) first) }
 {
     let Walked { tree, first } = name_selectors(alloc, scopes, xs, first)?;
     Ok(Walked {
-        tree: operand_form(alloc, scopes.find(&x.text), x, tree),
+        tree: operand_form(alloc, m, x, tree),
         first,
     })
 }
@@ -360,15 +361,21 @@ fn name_passed_variable(
     ensures { Walks named.expression_form_of result (named_operand scopes.now (variable_of v)) (passed_first scopes.now p (At at (Read (variable_of v))) first) }
 {
     let SynVar { name, selectors } = v;
-    let whole = is_whole(selectors.items());
-    let first = passed_name(scopes, p, at, &name, whole, first);
-    name_read(alloc, scopes, selectors, &name, first)
+    let m = scopes.find(&name.text);
+    let first = passed_name(m, p, at, &name, is_whole(selectors.items()), first);
+    name_read(alloc, scopes, selectors, &name, m, first)
 }
 
-fn passed_name(scopes: &Scopes, p: Passing, at: Place, x: &Name, whole: bool, first: Found) -> Found
-    ensures { result ≡ passed_name_first scopes.now p at x.now whole first }
+fn passed_name(
+    m: Option<&Meaning>,
+    p: Passing,
+    at: Place,
+    x: &Name,
+    whole: bool,
+    first: Found,
+) -> Found
+    ensures { (env : Env) → find env x.now.text ≡ option_copied m.entry → result ≡ passed_name_first env p at x.now whole first }
 {
-    let m = scopes.find(&x.text);
     if aims(p) && at == x.at {
         lesser(first, target_rule(x.at, m))
     } else {

@@ -4,7 +4,6 @@
 mod blocks;
 mod calls;
 mod constants;
-mod copies;
 mod declarations;
 mod expressions;
 mod headings;
