@@ -8,4 +8,4 @@ mod scanner;
 mod tables;
 mod token;
 
-pub use scanner::{scan, spelling};
+pub use scanner::{first_breach, scan, spelling};
