@@ -1,4 +1,6 @@
-use sp_scan::{scan, spelling};
+//! Tokens, and the rules of characters.
+
+use sp_scan::{first_breach, scan, spelling};
 use sp_base::{Halt, Place, Refusal, Rule};
 use sp_tree::{Kind, MAX_TEXT, Token, sign, word};
 use std::alloc::{AllocError, Global};
@@ -148,6 +150,17 @@ fn gives_kinds_and_spans(rt: HostRuntime) -> Result<(), Fail> {
         at: Place { line: 1, column: 7 },
     };
     assert!(rt; spelling(text, &name) == b"x".as_slice());
+    Ok(())
+}
+
+#[test]
+fn finds_the_first_breach_alone(rt: HostRuntime) -> Result<(), Fail> {
+    assert!(rt; first_breach(b"a . b { c } (* d *) 'e' 12").is_none());
+    let found = Refusal {
+        rule: Rule::S1,
+        at: Place { line: 2, column: 2 },
+    };
+    assert!(rt; first_breach(b"a\n\t? '") == Some(found));
     Ok(())
 }
 
