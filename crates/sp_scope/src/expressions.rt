@@ -3,7 +3,7 @@
 ghost use Rattle.std.specs.Prelude.{◌≡◌, map, None, Ok};
 ghost use Rattle.std.specs.Option.{option_copied};
 ghost use Rattle.sp_scope.specs.Walks.{Walks};
-ghost use Rattle.sp_tree.specs.Scopes.{Env, find};
+ghost use Rattle.sp_tree.specs.Scopes.{find};
 ghost use Rattle.sp_tree.specs.NameWalk.{is_whole};
 ghost use Rattle.sp_tree.specs.NamedTree.{named_expression, named_form, named_operand, named_selectors, named_selector, named_arguments, named_argument, named_width, operand_named, function_named, variable_number, variable_read};
 ghost use Rattle.sp_tree.specs.NamedOf as named;
@@ -145,7 +145,8 @@ fn name_read(
     m: Option<&Meaning>,
     first: Found,
 ) -> Result<Walked<NamedExprForm>, Halt>
-    ensures { Walks named.expression_form_of result (operand_named (option_copied m.entry) x.now (named.selectors (named_selectors scopes.now (selectors (map selector_of xs))))) (selectors_first scopes.now (selectors (map selector_of xs)) first) }
+    requires found { option_copied m ≡ find scopes.now x.now.text }
+    ensures { Walks named.expression_form_of result (operand_named (find scopes.now x.now.text) x.now (named.selectors (named_selectors scopes.now (selectors (map selector_of xs))))) (selectors_first scopes.now (selectors (map selector_of xs)) first) }
 {
     let Walked { tree, first } = name_selectors(alloc, scopes, xs, first)?;
     Ok(Walked {
@@ -361,26 +362,29 @@ fn name_passed_variable(
     ensures { Walks named.expression_form_of result (named_operand scopes.now (variable_of v)) (passed_first scopes.now p (At at (Read (variable_of v))) first) }
 {
     let SynVar { name, selectors } = v;
-    let m = scopes.find(&name.text);
-    let first = passed_name(m, p, at, &name, is_whole(selectors.items()), first);
+    let whole = is_whole(selectors.items());
+    let (m, first) = passed_name(scopes, p, at, &name, whole, first);
     name_read(alloc, scopes, selectors, &name, m, first)
 }
 
-fn passed_name(
-    m: Option<&Meaning>,
+/// What the name of an argument stands for, and the first broken rule up to its end.
+fn passed_name<'s>(
+    scopes: &'s Scopes,
     p: Passing,
     at: Place,
     x: &Name,
     whole: bool,
     first: Found,
-) -> Found
-    ensures { (env : Env) → find env x.now.text ≡ option_copied m.entry → result ≡ passed_name_first env p at x.now whole first }
+) -> (Option<&'s Meaning>, Found)
+    ensures found { option_copied result.0 ≡ find scopes.now x.now.text }
+    ensures first { result.1 ≡ passed_name_first scopes.now p at x.now whole first }
 {
+    let m = scopes.find(&x.text);
     if aims(p) && at == x.at {
-        lesser(first, target_rule(x.at, m))
+        (m, lesser(first, target_rule(x.at, m)))
     } else {
         let first = lesser(first, bare_rule(at, p));
-        lesser(first, operand_rule(x.at, whole, m))
+        (m, lesser(first, operand_rule(x.at, whole, m)))
     }
 }
 
