@@ -131,9 +131,9 @@ fn name_operand(
     ensures { Walks named.expression_form_of result (named_operand scopes.now (variable_of v)) (operand_first scopes.now (variable_of v) first) }
 {
     let SynVar { name, selectors } = v;
-    let m = scopes.find(&name.text);
-    let broken = operand_rule(name.at, is_whole(selectors.items()), m);
-    name_read(alloc, scopes, selectors, &name, m, lesser(first, broken))
+    let whole = is_whole(selectors.items());
+    let broken = operand_rule(name.at, whole, scopes.find(&name.text));
+    name_read(alloc, scopes, selectors, &name, lesser(first, broken))
 }
 
 #[cycle(expression)]
@@ -142,15 +142,13 @@ fn name_read(
     scopes: &Scopes,
     xs: List<SynSelector>,
     x: &Name,
-    m: Option<&Meaning>,
     first: Found,
 ) -> Result<Walked<NamedExprForm>, Halt>
-    requires found { option_copied m ≡ find scopes.now x.now.text }
     ensures { Walks named.expression_form_of result (operand_named (find scopes.now x.now.text) x.now (named.selectors (named_selectors scopes.now (selectors (map selector_of xs))))) (selectors_first scopes.now (selectors (map selector_of xs)) first) }
 {
     let Walked { tree, first } = name_selectors(alloc, scopes, xs, first)?;
     Ok(Walked {
-        tree: operand_form(alloc, m, x, tree),
+        tree: operand_form(alloc, scopes.find(&x.text), x, tree),
         first,
     })
 }
@@ -363,28 +361,19 @@ fn name_passed_variable(
 {
     let SynVar { name, selectors } = v;
     let whole = is_whole(selectors.items());
-    let (m, first) = passed_name(scopes, p, at, &name, whole, first);
-    name_read(alloc, scopes, selectors, &name, m, first)
+    let first = passed_name(scopes, p, at, &name, whole, first);
+    name_read(alloc, scopes, selectors, &name, first)
 }
 
-/// What the name of an argument stands for, and the first broken rule up to its end.
-fn passed_name<'s>(
-    scopes: &'s Scopes,
-    p: Passing,
-    at: Place,
-    x: &Name,
-    whole: bool,
-    first: Found,
-) -> (Option<&'s Meaning>, Found)
-    ensures found { option_copied result.0 ≡ find scopes.now x.now.text }
-    ensures first { result.1 ≡ passed_name_first scopes.now p at x.now whole first }
+fn passed_name(scopes: &Scopes, p: Passing, at: Place, x: &Name, whole: bool, first: Found) -> Found
+    ensures { result ≡ passed_name_first scopes.now p at x.now whole first }
 {
     let m = scopes.find(&x.text);
     if aims(p) && at == x.at {
-        (m, lesser(first, target_rule(x.at, m)))
+        lesser(first, target_rule(x.at, m))
     } else {
         let first = lesser(first, bare_rule(at, p));
-        (m, lesser(first, operand_rule(x.at, whole, m)))
+        lesser(first, operand_rule(x.at, whole, m))
     }
 }
 
