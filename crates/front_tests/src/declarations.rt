@@ -1,8 +1,8 @@
 //! Declarations, spelled again from their trees, and tokens that may not follow in them.
 
-use sp_front::read_text;
 use crate::grammar::refuses;
 use sp_base::{List, Rule};
+use sp_front::read_text;
 use sp_tree::{Name, SynConst, SynFormal, SynGroup, SynKind, SynPart, SynValue, Syntax};
 use std::alloc::{AllocError, Global};
 use std::test::Fail;

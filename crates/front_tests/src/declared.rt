@@ -1,7 +1,7 @@
 //! Trees without a text, by the numbers of their names.
 
-use sp_scope::resolve;
 use sp_base::{Halt, List, Place, Refusal, Rule, Text};
+use sp_scope::resolve;
 use sp_tree::{Name, SynBlock, SynConst, SynForm, SynKind, SynPart, SynStmt, SynValue, Syntax};
 use std::alloc::{AllocError, Global};
 use std::test::Fail;

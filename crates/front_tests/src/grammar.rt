@@ -1,7 +1,7 @@
 //! Texts that break rules of the grammar.
 
-use sp_front::read_text;
 use sp_base::{Halt, Place, Refusal, Rule};
+use sp_front::read_text;
 use sp_scan::scan;
 use std::alloc::Global;
 use std::test::Fail;

@@ -1,7 +1,7 @@
 //! Each rule of names with a text that breaks it, beside a near one that breaks none.
 
-use sp_front::read_text;
 use sp_base::{Halt, Place, Refusal, Rule};
+use sp_front::read_text;
 use sp_scope::resolve;
 use sp_tree::Named;
 use std::alloc::Global;

@@ -1,7 +1,7 @@
 //! Large texts through all phases, on the thread that has the stack for them.
 
-use sp_front::typed_apart;
 use sp_base::{Halt, Place, Refusal, Rule};
+use sp_front::typed_apart;
 use std::alloc::{AllocError, Global};
 use std::test::Fail;
 use std::thread::Threads;

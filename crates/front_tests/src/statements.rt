@@ -1,8 +1,8 @@
 //! Statements and expressions, spelled again from their trees with their parts marked.
 
-use sp_front::read_text;
 use crate::declarations::{add, add_constant, add_name};
 use sp_base::Place;
+use sp_front::read_text;
 use sp_tree::{
     BinaryOp, SynArg, SynArm, SynBranch, SynExpr, SynExprForm, SynForm, SynSelector, SynStmt,
     SynVar, UnaryOp,

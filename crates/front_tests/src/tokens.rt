@@ -1,7 +1,7 @@
 //! Tokens, and the rules of characters.
 
-use sp_scan::{first_breach, scan, spelling};
 use sp_base::{Halt, Place, Refusal, Rule};
+use sp_scan::{first_breach, scan, spelling};
 use sp_tree::{Kind, MAX_TEXT, Token, sign, word};
 use std::alloc::{AllocError, Global};
 use std::test::Fail;

@@ -1,7 +1,7 @@
 //! Each rule of types with a text that breaks it, beside a near one that breaks none.
 
-use sp_front::typed;
 use sp_base::{Halt, Place, Refusal, Rule};
+use sp_front::typed;
 use std::alloc::Global;
 use std::test::Fail;
 
