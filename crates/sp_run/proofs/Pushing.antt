@@ -1,5 +1,6 @@
 -- Statements pushed one after another.
 use Rattle.std.proofs.Common.{◌≡◌, ℕ, zero, suc, List, [], ◌∷◌, ◌++◌, ◌-◌, ◌<◌, ◌≤◌, slice_get, map, take, length, get_or, refl, ap, ◌∙◌, sym, arith, sub-one}
+use Rattle.std.proofs.lemmas.List.{take_all}
 use Rattle.sp_tree.specs.declared.checked.Expr as ast_e
 use Rattle.sp_tree.specs.declared.checked.Var as ast_v
 use Rattle.sp_tree.specs.Plain.{Expr, Stmt, Send, Receive, And}
@@ -26,3 +27,10 @@ sends_are c (e ∷ es) = ap (And (Send c (expr_of e))) (sends_are c es)
 pub receives_are : (c : Expr) (vs : List ast_v.Var) → stmts (map (λ (v : ast_v.Var). Receive c (var_of v)) vs) ≡ receives c (map var_of vs)
 receives_are c [] = refl
 receives_are c (v ∷ vs) = ap (And (Receive c (var_of v))) (receives_are c vs)
+
+-- all of them, in the form of a loop that counts down
+pub sends_start : (c : Expr) (es : List ast_e.Expr) (n : ℕ) (todo : List Item) → length es ≤ n → push_all (stmts (map (λ (e : ast_e.Expr). Send c (expr_of e)) (take n es))) todo ≡ push_all (sends c (map expr_of es)) todo
+sends_start c es n todo h = rw (take_all n es h) (ap (λ z. push_all z todo) (sends_are c es))
+
+pub receives_start : (c : Expr) (vs : List ast_v.Var) (n : ℕ) (todo : List Item) → length vs ≤ n → push_all (stmts (map (λ (v : ast_v.Var). Receive c (var_of v)) (take n vs))) todo ≡ push_all (receives c (map var_of vs)) todo
+receives_start c vs n todo h = rw (take_all n vs h) (ap (λ z. push_all z todo) (receives_are c vs))

@@ -1,6 +1,6 @@
 //! What a step of a process does.
 
-ghost use Rattle.std.specs.Prelude.{◌≡◌, ◌+◌, ◌++◌, IfOk, map, drop, nat_lt, replicate};
+ghost use Rattle.std.specs.Prelude.{◌≡◌, ◌+◌, ◌++◌, IfOk, map, drop, length, nat_lt, replicate};
 ghost use Rattle.std.specs.Option.{option_copied, option_map};
 ghost use Rattle.sp_tree.specs.PlainOf.{stmt_of, arms_of};
 ghost use Rattle.sp_meaning.specs.Deeds.{is_before, goes_on, has, arm_for};
@@ -267,10 +267,11 @@ fn joined(bytes: List<u8>, text: &[u8]) -> Result<List<u8>, Memory>
 }
 
 /// Whether so many bytes, blanks, and bytes of a text pass the limit of the output.
-fn is_full(limit: u64, bytes: usize, blanks: usize, text: usize) -> bool
-    ensures { result ≡ nat_lt limit (bytes + (blanks + text)) }
+#[tactic(auto, using(crate::proofs::Chains::behind_blanks))]
+fn is_full(limit: u64, bytes: &[u8], blanks: usize, text: &[u8]) -> bool
+    ensures { result ≡ nat_lt limit (length bytes.now + length (replicate blanks 32 ++ text.now)) }
 {
-    (limit as u128) < bytes as u128 + (blanks as u128 + text as u128)
+    (limit as u128) < bytes.len() as u128 + (blanks as u128 + text.len() as u128)
 }
 
 /// The output gets a text behind so many blanks, or F16 before anything is built.
@@ -285,7 +286,7 @@ pub fn write(
 {
     let held = take!(look(run, who, machine, &Loc::Output));
     let bytes = bytes_of(run, held);
-    if is_full(run.limits.output, bytes.len(), blanks, text.len()) {
+    if is_full(run.limits.output, bytes.items(), blanks, text) {
         return Ok(Err(Halted::Fault(Fault::F16)));
     }
     let text = padded(run.alloc, blanks, text)?;

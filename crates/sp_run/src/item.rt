@@ -53,7 +53,6 @@ pub fn push_item<'a>(item: Item<'a>, todo: &mut Vec<Item<'a>>) -> Result<(), Mem
 }
 
 /// Puts a send of each value before what is left.
-#[tactic(auto, using(crate::proofs::Pushing::sends_are))]
 pub fn push_sends<'a>(
     channel: &'a Expr,
     values: &'a [Expr],
@@ -70,7 +69,6 @@ pub fn push_sends<'a>(
 }
 
 /// Puts a receive of each variable before what is left.
-#[tactic(auto, using(crate::proofs::Pushing::receives_are))]
 pub fn push_receives<'a>(
     channel: &'a Expr,
     variables: &'a [Var],

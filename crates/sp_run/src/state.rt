@@ -1,10 +1,10 @@
 //! The state of a run: what each process is doing, the store, the offers that are pending, totals and a fault.
 
-ghost use Rattle.std.specs.Prelude.{◌≡◌, ◌∷◌, [], List, IfOk, OnOk, Option, Some, None, length, ◌+◌, nat_lt};
+ghost use Rattle.std.specs.Prelude.{◌≡◌, ◌∷◌, [], List, IfOk, OnOk, Option, Some, None, length};
 ghost use Rattle.std.specs.Option.{option_copied, option_map};
 ghost use Rattle.sp_tree.specs.PlainOf.{stmt_of};
 ghost use Rattle.sp_meaning.specs.Model.{Becomes, Forked, Writes, Pends as PendsIn, Adds, Faults, changed};
-ghost use Rattle.sp_meaning.specs.Steps.{has_ended, all_ended, passed};
+ghost use Rattle.sp_meaning.specs.Steps.{has_ended, all_ended, is_over, passed};
 ghost use Rattle.sp_meaning.specs.SuperPascal.{main, root};
 ghost use Rattle.sp_meaning.specs.Deeds.{size_of_frame};
 ghost use Rattle.sp_run.specs.Items.{items_of};
@@ -431,9 +431,9 @@ pub fn fails(run: &Setting, s: &mut State, p: &[(u64, u64)], f: Fault) -> Result
 
 /// Whether a total that grows by so many passes its limit.
 fn passes(limit: u32, total: u64, more: u64) -> bool
-    ensures { result ≡ nat_lt limit (total + more) }
+    ensures { result ≡ is_over limit total more }
 {
-    (limit as u128) < total as u128 + more as u128
+    0 < more && (limit as u128) < total as u128 + more as u128
 }
 
 /// The fault of the total that would pass its limit: first F15, then F13, then F14.

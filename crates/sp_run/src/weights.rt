@@ -55,10 +55,14 @@ pub fn weight_of(s: &Stmt) -> Result<u64, Memory>
         Form::Send(_, _) => Ok(1),
         Form::Receive(_, _) => Ok(1),
         Form::SendEach {
-            channel, values, ..
+            channel,
+            values,
+            ..
         } => sum_of(weight_of_sends(channel, values.items()), 1),
         Form::ReceiveEach {
-            channel, variables, ..
+            channel,
+            variables,
+            ..
         } => sum_of(weight_of_receives(channel, variables.items()), 1),
     }
 }
