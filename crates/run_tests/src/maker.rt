@@ -10,8 +10,11 @@ pub const HERE: Place = Place { line: 1, column: 1 };
 
 /// The variables of each program: a channel, two numbers, and an array `[1..3]` of numbers.
 pub const C: u32 = 2;
+
 pub const X: u32 = 3;
+
 pub const Y: u32 = 4;
+
 pub const A: u32 = 5;
 
 pub const LIMITS: Limits = Limits {

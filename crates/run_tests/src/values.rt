@@ -5,10 +5,7 @@ use sp_base::{Boxed, Fault, Limits, MAXINT, Memory, Text};
 use sp_tree::{BinaryOp, ExprForm, Form, Stmt};
 use std::test::Fail;
 
-const NO_TICKS: Limits = Limits {
-    ticks: 0,
-    ..LIMITS
-};
+const NO_TICKS: Limits = Limits { ticks: 0, ..LIMITS };
 
 fn quotient(m: &Maker, a: i64, b: i64) -> Result<ExprForm, Memory> {
     let a = Boxed::new(m.alloc, m.number(a))?;
@@ -48,10 +45,7 @@ fn endless(m: &Maker) -> Result<Stmt, Memory> {
 
 /// A text of no bytes in so many places.
 fn wide(m: &Maker, width: i64) -> Stmt {
-    m.stmt(Form::WriteText(
-        Text::of(Vec::new(m.alloc)),
-        Some(m.number(width)),
-    ))
+    m.stmt(Form::WriteText(Text::of(Vec::new(m.alloc)), Some(m.number(width))))
 }
 
 #[test]
