@@ -1,5 +1,5 @@
 -- Statements in steps: what a process does first, and what is left to do.
-use Rattle.std.specs.Prelude.{ℕ, zero, suc, ◌+◌, ◌-◌, ℤ, pos, ◌+ℤ◌, ◌-ℤ◌, nat_abs, int_lt, int_le, List, [], ◌∷◌, ◌++◌, Option, Some, None, Bool, true, false, if◌then◌else◌, nat_lt, length, take, slice_get}
+use Rattle.std.specs.Prelude.{ℕ, zero, suc, ◌+◌, ◌-◌, ◌%◌, ℤ, pos, ◌+ℤ◌, ◌-ℤ◌, nat_abs, int_lt, int_le, List, [], ◌∷◌, ◌++◌, Option, Some, None, Bool, true, false, if◌then◌else◌, nat_lt, length, take, slice_get}
 use Rattle.std.specs.Fmt.{signed_decimal}
 use Rattle.sp_base.specs.declared.fault.Fault.TheVariants as fault
 use Rattle.sp_tree.specs.declared.checked.KindOf.{KindOf}
@@ -114,7 +114,7 @@ in_width cut t (Some m) = if int_le m (pos 0) then fail fault.F1 else give (padd
 abbrev pub shown : KindOf → ℤ → Bool × List ℕ
 shown kind.Integer n = (false, signed_decimal n)
 shown kind.Boolean n = (true, truth_text n)
-shown kind.Char n = (false, nat_abs n ∷ [])
+shown kind.Char n = (false, nat_abs n % 256 ∷ [])
 shown (kind.Enumeration m) n = (false, [])
 shown (kind.Array low high index element) n = (false, [])
 shown (kind.Fields fs) n = (false, [])

@@ -1,0 +1,7 @@
+pub mod Joints
+pub mod Shapes
+pub mod Formed
+pub mod Relation
+pub mod Executions
+pub mod Standing
+pub mod Meets
