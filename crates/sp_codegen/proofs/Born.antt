@@ -31,7 +31,7 @@ use Rattle.sp_code.specs.Places.{after}
 use Rattle.sp_code.specs.Scopes.{Scope, level, one_more, is_index, as_list, is_local, frame_of}
 use Rattle.sp_code.specs.Scopes as s
 use Rattle.sp_code.specs.Emitted.{children_tables, child_table}
-use Rattle.sp_code.specs.Stands.{Rights, granted, Stands, HasFork, HasWords, StandsAt, ChildrenAt}
+use Rattle.sp_code.specs.Stands.{Stands, HasFork, HasWords, StandsAt, ChildrenAt}
 use Rattle.sp_codegen.specs.Joints.{Joint, sources, machines, from, up_at, HomeIs, Chain}
 use Rattle.sp_codegen.specs.Formed.{IsFormed, is_parameter, is_answer, among}
 use Rattle.sp_codegen.specs.Executions.{Execution}
@@ -41,22 +41,22 @@ use Rattle.sp_codegen.proofs.Joints.{from_length, up_from, paired_from, last_mac
 use Rattle.sp_codegen.proofs.Numbers.{AreKnown, are_known, frame_is}
 use Rattle.sp_codegen.proofs.Closing.{Laid}
 use Rattle.sp_codegen.proofs.Handing.{in_either, spot_no_frame, from_all}
-use Rattle.sp_codegen.proofs.Follows.{Origin, Of_child, slides, Follows, push_follows}
+use Rattle.sp_codegen.proofs.Follows.{slides, Follows, push_follows}
 
 -- ---- the code of each child
 
-module _ (p : Program) (moves shares : Stmt → List ℕ) (code : Code) (hush : ℕ → Type 0) (needs : ℕ → Rights) (free : Bool) (holds : Rights) (sc : List Scope) where
+module _ (p : Program) (moves shares : Stmt → List ℕ) (code : Code) (hush : ℕ → Type 0) (free : Bool) (sc : List Scope) where
   -- child k of a parallel statement
   pub record ChildIs (ss : Stmts) (q k : ℕ) (b : Birth) : Type 0 where
     pub statement : Stmt
     pub entry : ℕ
     pub table : slice_get (children_tables p moves shares q ss) k ≡ Some (child_table p moves shares entry None statement)
     pub birth : b ≡ record { todo = push statement []; index = None }
-    pub body : StandsAt p moves shares (Stands code) (HasFork code) (HasWords code) hush needs free (granted (moves statement) (shares statement) None) sc entry statement
+    pub body : StandsAt p moves shares (Stands code) (HasFork code) (HasWords code) hush free sc entry statement
     pub end : slice_get code.instrs (after p entry statement) ≡ Some i.End
     pub inside : (u : Use) → In_stmt statement u → In_stmts ss u
 
-  pub child_is : (ss : Stmts) (q k : ℕ) (b : Birth) → slice_get (children ss) k ≡ Some b → ChildrenAt p moves shares (Stands code) (HasFork code) (HasWords code) hush needs free holds sc q ss → ChildIs ss q k b
+  pub child_is : (ss : Stmts) (q k : ℕ) (b : Birth) → slice_get (children ss) k ≡ Some b → ChildrenAt p moves shares (Stands code) (HasFork code) (HasWords code) hush free sc q ss → ChildIs ss q k b
   child_is No q k b e h = absurd (cc e)
   child_is (And st rest) q zero b e h = record { statement = st; entry = q; table = refl; birth = sym (cc e); body = h.0; end = h.1; inside = λ u. inl }
   child_is (And st rest) q (suc k) b e h =
@@ -109,14 +109,14 @@ module _ (g : Setting) (W R : Loc → Type 0) (J : ℕ → Type 0) (sc : List Sc
 -- ---- its first step
 
 module _ {M : Type 0} (ex : Execution M) where
-  open ex use {setting as g, code, moves, shares, Quiet as hush, needs, Writes as W, Reads as R, Indexes as J}
+  open ex use {setting as g, code, moves, shares, Quiet as hush, Writes as W, Reads as R, Indexes as J}
 
   -- a child's code is that of its statement, and then comes its end
   pub child_follows : (st : Stmt) (sc : List Scope) (entry : ℕ) (moved shared : List ℕ) (index : Option ℕ) (js : List Joint) → Placed g W R J sc js (In_stmt st)
-      → StandsAt g.program moves shares (Stands code) (HasFork code) (HasWords code) hush needs true (granted moved shared index) sc entry st
+      → StandsAt g.program moves shares (Stands code) (HasFork code) (HasWords code) hush true sc entry st
       → Follows ex (after g.program entry st) [] js entry [] js (push st [])
   child_follows st sc entry moved shared index js pl h =
-      push_follows ex st (after g.program entry st) [] js sc entry [] js [] pl (Of_child moved shared index) h (slides ex _ _, refl, refl)
+      push_follows ex st (after g.program entry st) [] js sc entry [] js [] pl h (slides ex _ _, refl, refl)
 
 -- ---- indexes
 

@@ -18,8 +18,8 @@ use Rattle.sp_code.specs.PlainStore.{plain}
 use Rattle.sp_code.specs.Places.{after}
 use Rattle.sp_code.specs.Scopes.{scopes_of}
 use Rattle.sp_code.specs.Emitted.{program_code}
-use Rattle.sp_code.specs.Stands.{Rights, BlockAt, BlocksAt, IsFine}
-use Rattle.sp_code.specs.Quiet.{IsQuiet, needs_of}
+use Rattle.sp_code.specs.Stands.{BlockAt, BlocksAt, IsFine}
+use Rattle.sp_code.specs.Quiet.{IsQuiet}
 use Rattle.sp_code.proofs.Blocks.{blocks_stand, layout_found}
 use Rattle.sp_codegen.specs.Formed.{IsFormed}
 use Rattle.sp_codegen.specs.Joints.{Joint}
@@ -29,20 +29,20 @@ use Rattle.sp_codegen.specs.Standing.{machine_setting, relation}
 use Rattle.sp_codegen.specs.Meets.{code_run, due_after, EndsAlike}
 use Rattle.sp_codegen.proofs.Closing.{Laid}
 use Rattle.sp_codegen.proofs.Instance.{instance}
-use Rattle.sp_codegen.proofs.Follows.{Of_block, push_follows, slides}
+use Rattle.sp_codegen.proofs.Follows.{push_follows, slides}
 use Rattle.sp_codegen.proofs.Turn.{Turned, turn_meets}
 use Rattle.sp_codegen.proofs.Root.{NoChannel, IsFirst, NoIndexes, W, who, j0, root_stands, root_placed}
 
-pub laid_of : (p : Program) (code : Code) (moves shares : Stmt → List ℕ) (hush : ℕ → Type 0) (needs : ℕ → Rights) → BlocksAt p moves shares code hush needs → ((f : ℕ) (l : Layout) → slice_get code.layouts f ≡ Some l → layout_of code.layouts f ≡ Some l) → Laid p code.layouts
-laid_of p code moves shares hush needs blocks finds f b e = let z = blocks f b e in (z.layout, finds f z.layout z.at, z.is)
+pub laid_of : (p : Program) (code : Code) (moves shares : Stmt → List ℕ) (hush : ℕ → Type 0) → BlocksAt p moves shares code hush → ((f : ℕ) (l : Layout) → slice_get code.layouts f ≡ Some l → layout_of code.layouts f ≡ Some l) → Laid p code.layouts
+laid_of p code moves shares hush blocks finds f b e = let z = blocks f b e in (z.layout, finds f z.layout z.at, z.is)
 
-module _ (g : Setting) (code : Code) (formed : IsFormed g.program) (b : Block) (eb : slice_get g.program.blocks 0 ≡ Some b) (pause : ℕ) (moves shares : Stmt → List ℕ) (hush : ℕ → Type 0) (needs : ℕ → Rights) (free : IsFreeOfInterference g.program)
-    (finds : (f : ℕ) (l : Layout) → slice_get code.layouts f ≡ Some l → layout_of code.layouts f ≡ Some l) (blocks : BlocksAt g.program moves shares code hush needs) (small : g.limits.depth ≤ 4294967295) (fits : size_of_frame g 0 ≤ g.limits.cells) where
+module _ (g : Setting) (code : Code) (formed : IsFormed g.program) (b : Block) (eb : slice_get g.program.blocks 0 ≡ Some b) (pause : ℕ) (moves shares : Stmt → List ℕ) (hush : ℕ → Type 0) (free : IsFreeOfInterference g.program)
+    (finds : (f : ℕ) (l : Layout) → slice_get code.layouts f ≡ Some l → layout_of code.layouts f ≡ Some l) (blocks : BlocksAt g.program moves shares code hush) (small : g.limits.depth ≤ 4294967295) (fits : size_of_frame g 0 ≤ g.limits.cells) where
   abbrev p : Program
   p = g.program
 
   pub laid : Laid p code.layouts
-  laid = laid_of p code moves shares hush needs blocks finds
+  laid = laid_of p code moves shares hush blocks finds
 
   abbrev w : Who
   w = who g code formed laid b eb pause
@@ -54,10 +54,10 @@ module _ (g : Setting) (code : Code) (formed : IsFormed g.program) (b : Block) (
   law = instance g code w NoChannel IsFirst V V NoIndexes 1 1 0 0 pause formed laid (omega arith) (λ n x. inl refl) (omega (arith, small)) (λ c d i j h k. absurd h)
 
   abbrev execution : Execution (Memory Plain)
-  execution = record { setting = g; code = code; moves = moves; shares = shares; Quiet = hush; needs = needs; who = w; due = due_after 0 pause; Writes = V; Reads = V; Indexes = NoIndexes;
+  execution = record { setting = g; code = code; moves = moves; shares = shares; Quiet = hush; who = w; due = due_after 0 pause; Writes = V; Reads = V; Indexes = NoIndexes;
       operations = memory plain (code_run g code pause); relation = relation g code w NoChannel IsFirst V V NoIndexes 1 1 0 0 pause; laws = law; reads_written = λ l h. h; free = free; own_written = λ n x. inl refl; layouts_found = finds }
 
-  layout : BlockAt p moves shares code hush needs 0 b
+  layout : BlockAt p moves shares code hush 0 b
   layout = blocks 0 b eb
 
   abbrev js : List Joint
@@ -81,7 +81,7 @@ module _ (g : Setting) (code : Code) (formed : IsFormed g.program) (b : Block) (
   turned k = turn_meets execution
       blocks end [] js layout.stands.end refl k (push b.body []) layout.layout.entry [] js (root g).own (first_store g) n0 (root_stands g code formed laid b eb pause fits)
       (push_follows execution
-          b.body end [] js (scopes_of p 0) layout.layout.entry [] js [] (root_placed g code formed laid b eb pause free) (Of_block 0) (layout.stands.body true tt)
+          b.body end [] js (scopes_of p 0) layout.layout.entry [] js [] (root_placed g code formed laid b eb pause free) (layout.stands.body true tt)
           (slides execution end [], refl, refl))
 
   fits_first : (memory plain (code_run g code pause)).fits n0 ≡ true
@@ -103,8 +103,8 @@ module _ (g : Setting) (code : Code) (formed : IsFormed g.program) (b : Block) (
   first_turn k = subst (λ z. EndsAlike (code_run g code pause) (At z [] n0) (run (source.turn g (due_after 0 pause) k (push b.body [])) w (root g).own (first_store g))) (sym entry_is) (by_outcome (run (source.turn g (due_after 0 pause) k (push b.body [])) w (root g).own (first_store g)) (turned k))
 
 -- for the code of every tree whose blocks keep the rules
-pub first_turn_of_tree : (g : Setting) (moves shares : Stmt → List ℕ) (pause k : ℕ) (b : Block) → IsFormed g.program → IsFreeOfInterference g.program → ((f q : ℕ) (b : Block) → slice_get g.program.blocks f ≡ Some b → IsFine g.program moves shares (IsQuiet g.program) (needs_of g.program) f q b)
+pub first_turn_of_tree : (g : Setting) (moves shares : Stmt → List ℕ) (pause k : ℕ) (b : Block) → IsFormed g.program → IsFreeOfInterference g.program → ((f q : ℕ) (b : Block) → slice_get g.program.blocks f ≡ Some b → IsFine g.program moves shares (IsQuiet g.program) f q b)
     → slice_get g.program.blocks 0 ≡ Some b → g.limits.depth ≤ 4294967295 → size_of_frame g 0 ≤ g.limits.cells
     → EndsAlike (code_run g (program_code g.program moves shares) pause) (first plain (code_run g (program_code g.program moves shares) pause)) (run (source.turn g (due_after 0 pause) k (push b.body [])) (record { name = []; forks = 0; opens = 0 }) (root g).own (first_store g))
 first_turn_of_tree g moves shares pause k b formed free fine eb small fits =
-    first_turn g (program_code g.program moves shares) formed b eb pause moves shares (IsQuiet g.program) (needs_of g.program) free (λ f l e. layout_found g.program f l e) (blocks_stand g.program moves shares (IsQuiet g.program) (needs_of g.program) fine) small fits k
+    first_turn g (program_code g.program moves shares) formed b eb pause moves shares (IsQuiet g.program) free (λ f l e. layout_found g.program f l e) (blocks_stand g.program moves shares (IsQuiet g.program) fine) small fits k

@@ -23,7 +23,7 @@ use Rattle.sp_code.specs.Machine as m
 use Rattle.sp_code.specs.Turns.{Comes}
 use Rattle.sp_code.specs.Scopes.{Scope, OfIndex, Sort, sort}
 use Rattle.sp_code.specs.Places.{after, after_all, after_value}
-use Rattle.sp_code.specs.Stands.{Rights, granted, rights_of, Stands, HasFork, HasWords, StandsAt, AllAt, ChildrenAt, TurnsAt}
+use Rattle.sp_code.specs.Stands.{Stands, HasFork, HasWords, StandsAt, AllAt, ChildrenAt, TurnsAt}
 use Rattle.sp_code.specs.Emitted.{children_tables, child_table}
 use Rattle.sp_codegen.specs.Joints.{Joint}
 use Rattle.sp_codegen.specs.Executions.{Execution}
@@ -39,20 +39,11 @@ cells_in (m.Cells cs) = cs
 cells_in (m.Link r) = []
 cells_in (m.Reply r) = []
 
--- whose code it is: a block's, or that of a child of a fork
-pub data Origin : Type 0 where
-  Of_block : (f : ℕ) → Origin
-  Of_child : (moved shared : List ℕ) (index : Option ℕ) → Origin
-
 module _ {M : Type 0} (ex : Execution M) where
-  open ex use {setting as g, code, moves, shares, Quiet as hush, needs, who as w, Reads as R, operations as ops, relation as rel, free}
+  open ex use {setting as g, code, moves, shares, Quiet as hush, who as w, Reads as R, operations as ops, relation as rel, free}
 
   abbrev p : Program
   p = g.program
-
-  abbrev pub rights : Origin → Rights
-  rights (Of_block f) = rights_of p moves shares (Stands code) (HasFork code) (HasWords code) hush needs f
-  rights (Of_child moved shared index) = granted moved shared index
 
   abbrev Pl : List Scope → List Joint → (Use → Type 0) → Type 0
   Pl sc js Here = P ex sc js Here
@@ -70,20 +61,20 @@ module _ {M : Type 0} (ex : Execution M) where
   pub jumps : (q to : ℕ) (stack : List Entry) → slice_get code.instrs q ≡ Some (i.Jump to) → Slides q to stack
   jumps q to stack h = record { by = λ n. goes ops rel w code (ap (λ o. instruction ops code o q stack n) h) }
 
-  abbrev pub Turns : Bool → Origin → List Scope → ℕ → ℕ → Bool → Stmt → Type 0
-  Turns free r sc q x down s = TurnsAt p moves shares (Stands code) (HasFork code) (HasWords code) hush needs (rights r) sc q x down (after p (q + 1 + 1) s) (StandsAt p moves shares (Stands code) (HasFork code) (HasWords code) hush needs free (rights r) sc (q + 1 + 1) s)
+  abbrev pub Turns : Bool → List Scope → ℕ → ℕ → Bool → Stmt → Type 0
+  Turns free sc q x down s = TurnsAt p moves shares (Stands code) (HasFork code) (HasWords code) hush sc q x down (after p (q + 1 + 1) s) (StandsAt p moves shares (Stands code) (HasFork code) (HasWords code) hush free sc (q + 1 + 1) s)
 
   -- from this place, with this stack and these frames, the code is that of what is left, and then comes to the end, with the stack base and the frames below
   abbrev pub Follows : ℕ → List Entry → List Joint → ℕ → List Entry → List Joint → List Item → Type 0
   Follows end base below pc stack fs [] = Slides pc end stack × (stack ≡ base) × (fs ≡ below)
   Follows end base below pc stack fs (Do s ∷ todo) =
-      (q : ℕ) × (sc : List Scope) × Slides pc q stack × Pl sc fs (In_stmt s) × ((r : Origin) × StandsAt p moves shares (Stands code) (HasFork code) (HasWords code) hush needs (outside stack) (rights r) sc q s) × Follows end base below (after p q s) stack fs todo
+      (q : ℕ) × (sc : List Scope) × Slides pc q stack × Pl sc fs (In_stmt s) × (StandsAt p moves shares (Stands code) (HasFork code) (HasWords code) hush (outside stack) sc q s) × Follows end base below (after p q s) stack fs todo
   Follows end base below pc stack fs (First x low high down s ∷ todo) =
-      (q : ℕ) × (sc : List Scope) × (st : List Entry) × Slides pc q stack × (stack ≡ m.Number high ∷ m.Number low ∷ st) × Pl sc fs (In_loop x s) × ((r : Origin) × Turns (outside st) r sc q x down s) × Follows end base below (after p (q + 1 + 1) s + 1) st fs todo × (is_range down low high ≡ true)
+      (q : ℕ) × (sc : List Scope) × (st : List Entry) × Slides pc q stack × (stack ≡ m.Number high ∷ m.Number low ∷ st) × Pl sc fs (In_loop x s) × (Turns (outside st) sc q x down s) × Follows end base below (after p (q + 1 + 1) s + 1) st fs todo × (is_range down low high ≡ true)
   Follows end base below pc stack fs (Again x limit down s ∷ todo) =
-      (q : ℕ) × (sc : List Scope) × (st : List Entry) × Slides pc (after p (q + 1 + 1) s) stack × (stack ≡ m.Number limit ∷ st) × Pl sc fs (In_loop x s) × ((r : Origin) × Turns (outside st) r sc q x down s) × Follows end base below (after p (q + 1 + 1) s + 1) st fs todo
+      (q : ℕ) × (sc : List Scope) × (st : List Entry) × Slides pc (after p (q + 1 + 1) s) stack × (stack ≡ m.Number limit ∷ st) × Pl sc fs (In_loop x s) × (Turns (outside st) sc q x down s) × Follows end base below (after p (q + 1 + 1) s + 1) st fs todo
   Follows end base below pc stack fs (Test s e ∷ todo) =
-      (q : ℕ) × (sc : List Scope) × Slides pc (after p (q + 1) s) stack × Pl sc fs (In_stmt (Repeat s e)) × ((r : Origin) × StandsAt p moves shares (Stands code) (HasFork code) (HasWords code) hush needs (outside stack) (rights r) sc q (Repeat s e)) × Follows end base below (after p q (Repeat s e)) stack fs todo
+      (q : ℕ) × (sc : List Scope) × Slides pc (after p (q + 1) s) stack × Pl sc fs (In_stmt (Repeat s e)) × (StandsAt p moves shares (Stands code) (HasFork code) (HasWords code) hush (outside stack) sc q (Repeat s e)) × Follows end base below (after p q (Repeat s e)) stack fs todo
   Follows end base below pc stack fs (Leave ∷ todo) =
       (q r : ℕ) × (st : List Entry) × (f : Joint) × (rest : List Joint) × Slides pc q stack × (stack ≡ m.Link r ∷ st) × (slice_get code.instrs q ≡ Some i.Return) × (fs ≡ f ∷ rest) × Follows end base below r st rest todo × rel.Mine f rest
   Follows end base below pc stack fs (Break f ∷ todo) = ⊥
@@ -98,33 +89,33 @@ module _ {M : Type 0} (ex : Execution M) where
   slide_follows end base below pc q stack fs (Break f ∷ todo) h k = k
 
   mutual
-    pub push_follows : (s : Stmt) (end : ℕ) (base : List Entry) (below : List Joint) (sc : List Scope) (q : ℕ) (stack : List Entry) (fs : List Joint) (todo : List Item) → Pl sc fs (In_stmt s) → (r : Origin) → StandsAt p moves shares (Stands code) (HasFork code) (HasWords code) hush needs (outside stack) (rights r) sc q s → Follows end base below (after p q s) stack fs todo → Follows end base below q stack fs (push s todo)
-    push_follows Empty end base below sc q stack fs todo ch r h k = k
-    push_follows (Assign v (Typed x f)) end base below sc q stack fs todo ch r h k = (q, sc, slides q stack, ch, (r, h), k)
-    push_follows (Call f args) end base below sc q stack fs todo ch r h k = (q, sc, slides q stack, ch, (r, h), k)
-    push_follows (Sequence ss) end base below sc q stack fs todo ch r h k = push_all_follows ss end base below sc q stack fs todo ch r h k
-    push_follows (If e a) end base below sc q stack fs todo ch r h k = (q, sc, slides q stack, ch, (r, h), k)
-    push_follows (IfElse e a b) end base below sc q stack fs todo ch r h k = (q, sc, slides q stack, ch, (r, h), k)
-    push_follows (While e s) end base below sc q stack fs todo ch r h k = (q, sc, slides q stack, ch, (r, h), k)
-    push_follows (Repeat s e) end base below sc q stack fs todo ch r h k = (q, sc, slides q stack, ch, (r, h), k)
-    push_follows (For x from down to s) end base below sc q stack fs todo ch r h k = (q, sc, slides q stack, ch, (r, h), k)
-    push_follows (Case e arms) end base below sc q stack fs todo ch r h k = (q, sc, slides q stack, ch, (r, h), k)
-    push_follows (Parallel ss) end base below sc q stack fs todo ch r h k = (q, sc, slides q stack, ch, (r, h), k)
-    push_follows (Forall x from to s) end base below sc q stack fs todo ch r h k = (q, sc, slides q stack, ch, (r, h), k)
-    push_follows (Assume e) end base below sc q stack fs todo ch r h k = (q, sc, slides q stack, ch, (r, h), k)
-    push_follows (ReadValue v) end base below sc q stack fs todo ch r h k = (q, sc, slides q stack, ch, (r, h), k)
-    push_follows ReadLine end base below sc q stack fs todo ch r h k = (q, sc, slides q stack, ch, (r, h), k)
-    push_follows (WriteValue e x) end base below sc q stack fs todo ch r h k = (q, sc, slides q stack, ch, (r, h), k)
-    push_follows (WriteText t x) end base below sc q stack fs todo ch r h k = (q, sc, slides q stack, ch, (r, h), k)
-    push_follows WriteLine end base below sc q stack fs todo ch r h k = (q, sc, slides q stack, ch, (r, h), k)
-    push_follows (Open v) end base below sc q stack fs todo ch r h k = (q, sc, slides q stack, ch, (r, h), k)
-    push_follows (Send c e) end base below sc q stack fs todo ch r h k = (q, sc, slides q stack, ch, (r, h), k)
-    push_follows (Receive c v) end base below sc q stack fs todo ch r h k = (q, sc, slides q stack, ch, (r, h), k)
+    pub push_follows : (s : Stmt) (end : ℕ) (base : List Entry) (below : List Joint) (sc : List Scope) (q : ℕ) (stack : List Entry) (fs : List Joint) (todo : List Item) → Pl sc fs (In_stmt s) → StandsAt p moves shares (Stands code) (HasFork code) (HasWords code) hush (outside stack) sc q s → Follows end base below (after p q s) stack fs todo → Follows end base below q stack fs (push s todo)
+    push_follows Empty end base below sc q stack fs todo ch h k = k
+    push_follows (Assign v (Typed x f)) end base below sc q stack fs todo ch h k = (q, sc, slides q stack, ch, h, k)
+    push_follows (Call f args) end base below sc q stack fs todo ch h k = (q, sc, slides q stack, ch, h, k)
+    push_follows (Sequence ss) end base below sc q stack fs todo ch h k = push_all_follows ss end base below sc q stack fs todo ch h k
+    push_follows (If e a) end base below sc q stack fs todo ch h k = (q, sc, slides q stack, ch, h, k)
+    push_follows (IfElse e a b) end base below sc q stack fs todo ch h k = (q, sc, slides q stack, ch, h, k)
+    push_follows (While e s) end base below sc q stack fs todo ch h k = (q, sc, slides q stack, ch, h, k)
+    push_follows (Repeat s e) end base below sc q stack fs todo ch h k = (q, sc, slides q stack, ch, h, k)
+    push_follows (For x from down to s) end base below sc q stack fs todo ch h k = (q, sc, slides q stack, ch, h, k)
+    push_follows (Case e arms) end base below sc q stack fs todo ch h k = (q, sc, slides q stack, ch, h, k)
+    push_follows (Parallel ss) end base below sc q stack fs todo ch h k = (q, sc, slides q stack, ch, h, k)
+    push_follows (Forall x from to s) end base below sc q stack fs todo ch h k = (q, sc, slides q stack, ch, h, k)
+    push_follows (Assume e) end base below sc q stack fs todo ch h k = (q, sc, slides q stack, ch, h, k)
+    push_follows (ReadValue v) end base below sc q stack fs todo ch h k = (q, sc, slides q stack, ch, h, k)
+    push_follows ReadLine end base below sc q stack fs todo ch h k = (q, sc, slides q stack, ch, h, k)
+    push_follows (WriteValue e x) end base below sc q stack fs todo ch h k = (q, sc, slides q stack, ch, h, k)
+    push_follows (WriteText t x) end base below sc q stack fs todo ch h k = (q, sc, slides q stack, ch, h, k)
+    push_follows WriteLine end base below sc q stack fs todo ch h k = (q, sc, slides q stack, ch, h, k)
+    push_follows (Open v) end base below sc q stack fs todo ch h k = (q, sc, slides q stack, ch, h, k)
+    push_follows (Send c e) end base below sc q stack fs todo ch h k = (q, sc, slides q stack, ch, h, k)
+    push_follows (Receive c v) end base below sc q stack fs todo ch h k = (q, sc, slides q stack, ch, h, k)
 
-    pub push_all_follows : (ss : Stmts) (end : ℕ) (base : List Entry) (below : List Joint) (sc : List Scope) (q : ℕ) (stack : List Entry) (fs : List Joint) (todo : List Item) → Pl sc fs (In_stmts ss) → (r : Origin) → AllAt p moves shares (Stands code) (HasFork code) (HasWords code) hush needs (outside stack) (rights r) sc q ss → Follows end base below (after_all p q ss) stack fs todo → Follows end base below q stack fs (push_all ss todo)
-    push_all_follows No end base below sc q stack fs todo ch r h k = k
-    push_all_follows (And s rest) end base below sc q stack fs todo ch r h k =
-        push_follows s end base below sc q stack fs (push_all rest todo) (within (λ u. inl) ch) r h.0 (push_all_follows rest end base below sc (after p q s) stack fs todo (within (λ u. inr) ch) r h.1 k)
+    pub push_all_follows : (ss : Stmts) (end : ℕ) (base : List Entry) (below : List Joint) (sc : List Scope) (q : ℕ) (stack : List Entry) (fs : List Joint) (todo : List Item) → Pl sc fs (In_stmts ss) → AllAt p moves shares (Stands code) (HasFork code) (HasWords code) hush (outside stack) sc q ss → Follows end base below (after_all p q ss) stack fs todo → Follows end base below q stack fs (push_all ss todo)
+    push_all_follows No end base below sc q stack fs todo ch h k = k
+    push_all_follows (And s rest) end base below sc q stack fs todo ch h k =
+        push_follows s end base below sc q stack fs (push_all rest todo) (within (λ u. inl) ch) h.0 (push_all_follows rest end base below sc (after p q s) stack fs todo (within (λ u. inr) ch) h.1 k)
 
   -- what was pushed since is no function's link
   pub outside_follows : (end : ℕ) (base : List Entry) (below : List Joint) (pc : ℕ) (stack : List Entry) (fs : List Joint) (todo : List Item) → Follows end base below pc stack fs todo → outside stack ≡ outside base
@@ -146,15 +137,15 @@ module _ {M : Type 0} (ex : Execution M) where
   -- the children of a parallel statement with their code, which begins at q
   abbrev pub ParallelIs : Bool → List Joint → List Birth → Stop → Type 0
   ParallelIs free fs bs z =
-      (ss : Stmts) × (table q : ℕ) × (sc : List Scope) × (r : Origin) × (z ≡ Forks table (pos 0) (length (children_tables p moves shares q ss))) × HasFork code table (record { children = children_tables p moves shares q ss }) × (bs ≡ children ss)
-      × ChildrenAt p moves shares (Stands code) (HasFork code) (HasWords code) hush needs free (rights r) sc q ss × Pl sc fs (In_stmt (Parallel ss))
+      (ss : Stmts) × (table q : ℕ) × (sc : List Scope) × (z ≡ Forks table (pos 0) (length (children_tables p moves shares q ss))) × HasFork code table (record { children = children_tables p moves shares q ss }) × (bs ≡ children ss)
+      × ChildrenAt p moves shares (Stands code) (HasFork code) (HasWords code) hush free sc q ss × Pl sc fs (In_stmt (Parallel ss))
 
   -- those of a forall, of which there is one for each value
   abbrev pub ForallIs : Bool → List Joint → List Birth → Stop → Type 0
   ForallIs free fs bs z =
       (x : ℕ) × (from to : Expr) × (s : Stmt) × (lo hi : ℤ) × (table q : ℕ) × (sc : List Scope) × (z ≡ Forks table lo (values_in lo hi)) × HasFork code table (record { children = child_table p moves shares q (Some x) s ∷ [] })
       × (bs ≡ indexed_children x s lo (nat_abs ((hi -ℤ lo) +ℤ pos 1))) × (int_lt hi lo ≡ false)
-      × StandsAt p moves shares (Stands code) (HasFork code) (HasWords code) hush needs free (granted (moves s) (shares s) (Some x)) (OfIndex x ∷ sc) q s × (slice_get code.instrs (after p q s) ≡ Some i.End) × Pl sc fs (In_stmt (Forall x from to s))
+      × StandsAt p moves shares (Stands code) (HasFork code) (HasWords code) hush free (OfIndex x ∷ sc) q s × (slice_get code.instrs (after p q s) ≡ Some i.End) × Pl sc fs (In_stmt (Forall x from to s))
 
   abbrev pub ForkIs : Bool → List Joint → List Birth → Stop → Type 0
   ForkIs free fs bs z = ParallelIs free fs bs z ⊎ ForallIs free fs bs z

@@ -13,7 +13,6 @@ use Rattle.sp_code.specs.declared.code.Layout.{Layout}
 use Rattle.sp_code.specs.declared.code.Parts.{Parts as Code}
 use Rattle.sp_code.specs.Machine.{Entry, Ops, Config, At, One, Goes, Stops, Fails, Stuck, one, layout_of}
 use Rattle.sp_code.specs.Turns.{ComesIn, Comes, IsSafe}
-use Rattle.sp_code.specs.Stands.{Rights}
 use Rattle.sp_codegen.specs.Joints.{Joint}
 use Rattle.sp_codegen.specs.Executions.{Execution}
 use Rattle.sp_codegen.specs.Relation.{Relation, Keeps}

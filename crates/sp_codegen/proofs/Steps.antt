@@ -40,7 +40,7 @@ use Rattle.sp_code.specs.Scopes as places
 use Rattle.sp_code.specs.Places.{after_value, after_form, after_var, after_actuals, after_right, after_width, after_test, after_tests, after, after_all, after_arms}
 use Rattle.sp_code.specs.Emitted.{write_instr, end_instr}
 use Rattle.sp_code.specs.Emitted as emitted
-use Rattle.sp_code.specs.Stands.{Rights, Stands, HasFork, HasWords, IsTarget, ForVar, RightAt, PlaceAt, StandsAt, AllAt, ArmsAt, TestAt, TestsAt, TurnsAt, OrdinalAt, WidthAt, ReadsAt, CallAt, Around, Hushed, IsWritten, BlockAt, BlocksAt, rights_of}
+use Rattle.sp_code.specs.Stands.{Stands, HasFork, HasWords, IsTarget, ForVar, RightAt, PlaceAt, StandsAt, AllAt, ArmsAt, TestAt, TestsAt, TurnsAt, OrdinalAt, WidthAt, ReadsAt, CallAt, Around, Hushed, IsWritten, BlockAt, BlocksAt}
 use Rattle.sp_codegen.specs.Joints.{Joint, sources, from, up_at, HomeIs, Chain}
 use Rattle.sp_codegen.specs.Shapes.{CellIs}
 use Rattle.sp_codegen.specs.Executions.{Execution}
@@ -50,7 +50,7 @@ use Rattle.sp_codegen.proofs.Joints.{sources_length, up_from, from_length}
 use Rattle.sp_codegen.proofs.Chains.{block_agrees, Found, found, seek_all, find_in}
 use Rattle.sp_codegen.proofs.Closing.{length_map}
 use Rattle.sp_codegen.proofs.Values.{P, pushed, within, MayRead, may_see, may_aim, at_console, CallsMeet, at_one, value_gives, form_gives, place_gives, address_gives, ordinal_gives, actuals_gives, rest_of, left_known, kind_known, or_known, fetch_known, visible_known, block_home, Top, PlaceIs, target_gives, var_of, selectors_of, IsMany}
-use Rattle.sp_codegen.proofs.Follows.{Origin, Of_block, Of_child, rights, Slides, slides, jumps, Follows, slide_follows, push_follows, push_all_follows, outside_follows, cells_in, CargoIs, ForkIs, Makes, Made, makes_after, makes_bind, makes_known, makes_by, makes_went, makes_fail, makes_tick}
+use Rattle.sp_codegen.proofs.Follows.{Slides, slides, jumps, Follows, slide_follows, push_follows, push_all_follows, outside_follows, cells_in, CargoIs, ForkIs, Makes, Made, makes_after, makes_bind, makes_known, makes_by, makes_went, makes_fail, makes_tick}
 
 abbrev rev_onto : List Entry → List Entry → List Entry
 rev_onto [] ws = ws
@@ -78,7 +78,7 @@ no_index_scope p (suc n) (Some b) x up e = go (level (places.is_index x) (scopes
     go (Some k) ih e = ih k refl
 
 module _ {M : Type 0} (ex : Execution M) where
-  open ex use {setting as g, code, moves, shares, Quiet as hush, needs, who as w, Writes as W, Reads as R, operations as ops, relation as rel, laws as law, reads_written as reads, free, own_written as mine_written, layouts_found as finds}
+  open ex use {setting as g, code, moves, shares, Quiet as hush, who as w, Writes as W, Reads as R, operations as ops, relation as rel, laws as law, reads_written as reads, free, own_written as mine_written, layouts_found as finds}
 
   abbrev p : Program
   p = g.program
@@ -95,11 +95,8 @@ module _ {M : Type 0} (ex : Execution M) where
   abbrev pub After : ℕ → List Entry → List Joint → List Item → List Joint → ℕ → List Entry → Type 0
   After end base below todo fs pc st = Follows ex end base below pc st fs todo
 
-  abbrev pub rig : Origin → Rights
-  rig r = rights ex r
-
-  abbrev pub S : Bool → Origin → List Scope → ℕ → Stmt → Type 0
-  S free r sc q d = StandsAt p moves shares (Stands code) (HasFork code) (HasWords code) hush needs free (rig r) sc q d
+  abbrev pub S : Bool → List Scope → ℕ → Stmt → Type 0
+  S free sc q d = StandsAt p moves shares (Stands code) (HasFork code) (HasWords code) hush free sc q d
 
   abbrev pub Pl : List Scope → List Joint → (Use → Type 0) → Type 0
   Pl sc js Here = P ex sc js Here
@@ -169,20 +166,20 @@ module _ {M : Type 0} (ex : Execution M) where
   both_true a b e f = ap (λ z. z && b) e ∙ f
 
   -- assignment
-  assign_makes : (call : Calls) → Oks call → (end : ℕ) (base : List Entry) (below : List Joint) (z : Sort) (k : ℕ) (form : ExprForm) (sc : List Scope) (q : ℕ) (stack : List Entry) (todo : List Item) (a : Address) (u : Ptr) (fs : List Joint) (o : Own) (s : Store) (n : M) → rel.Stand fs o s n → Pl sc fs (In_form form) → (r : Origin) → sort p k ≡ z → a.kind ≡ k → rel.Points fs a u → R a.spot
-      → RightAt p moves shares (Stands code) (HasFork code) (HasWords code) hush needs (rig r) sc q k z form → After end base below todo fs (after_right q z form + 1) stack
+  assign_makes : (call : Calls) → Oks call → (end : ℕ) (base : List Entry) (below : List Joint) (z : Sort) (k : ℕ) (form : ExprForm) (sc : List Scope) (q : ℕ) (stack : List Entry) (todo : List Item) (a : Address) (u : Ptr) (fs : List Joint) (o : Own) (s : Store) (n : M) → rel.Stand fs o s n → Pl sc fs (In_form form) → sort p k ≡ z → a.kind ≡ k → rel.Points fs a u → R a.spot
+      → RightAt p moves shares (Stands code) (HasFork code) (HasWords code) hush sc q k z form → After end base below todo fs (after_right q z form + 1) stack
       → K (m.At q (m.Pointer u ∷ stack) n) o s (After end base below) (bind (form_value g call k form) (λ v. bind (assign a v) (λ x. give (Went todo))))
-  assign_makes call ok end base below Ordinals k form sc q stack todo a u fs o s n t pl r ez ek pt ra h fo =
-      makes_bind ex _ (form_gives ex call ok k form (rig r) sc q (m.Pointer u ∷ stack) fs o s n t pl h.0) (λ v e o1 s1 n1 t1 x.
+  assign_makes call ok end base below Ordinals k form sc q stack todo a u fs o s n t pl ez ek pt ra h fo =
+      makes_bind ex _ (form_gives ex call ok k form sc q (m.Pointer u ∷ stack) fs o s n t pl h.0) (λ v e o1 s1 n1 t1 x.
       makes_bind ex _ (assign_gives (after_form q form + 1) a u v e stack t1 pt ra (subst OneCell (sym (ap (sort p) ek ∙ ez)) tt) (subst (λ y. Stood rel p (sort p y) y v e) (sym ek) x) (store_one (after_form q form) Ordinals k v e u stack n1 (subst (λ y. Stood rel p y k v e) ez x) tt (law.has_one t1 a u pt ra) h.1)) (λ x1 x2 o2 s2 n2 t2 x3.
       makes_went ex todo fs (after_form q form + 1) stack n2 (stays ops rel w code _) t2 fo))
-  assign_makes call ok end base below Channels k form sc q stack todo a u fs o s n t pl r ez ek pt ra h fo =
-      makes_bind ex _ (form_gives ex call ok k form (rig r) sc q (m.Pointer u ∷ stack) fs o s n t pl h.0) (λ v e o1 s1 n1 t1 x.
+  assign_makes call ok end base below Channels k form sc q stack todo a u fs o s n t pl ez ek pt ra h fo =
+      makes_bind ex _ (form_gives ex call ok k form sc q (m.Pointer u ∷ stack) fs o s n t pl h.0) (λ v e o1 s1 n1 t1 x.
       makes_bind ex _ (assign_gives (after_form q form + 1) a u v e stack t1 pt ra (subst OneCell (sym (ap (sort p) ek ∙ ez)) tt) (subst (λ y. Stood rel p (sort p y) y v e) (sym ek) x) (store_one (after_form q form) Channels k v e u stack n1 (subst (λ y. Stood rel p y k v e) ez x) tt (law.has_one t1 a u pt ra) h.1)) (λ x1 x2 o2 s2 n2 t2 x3.
       makes_went ex todo fs (after_form q form + 1) stack n2 (stays ops rel w code _) t2 fo))
-  assign_makes call ok end base below Many k (Read (Entire y ss)) sc q stack todo a u fs o s n t pl r ez ek pt ra h fo =
+  assign_makes call ok end base below Many k (Read (Entire y ss)) sc q stack todo a u fs o s n t pl ez ek pt ra h fo =
       makes_assoc (place g call (Entire y ss)) (read_at g) _
-      (makes_bind ex _ (place_gives ex call ok (Entire y ss) k (rig r) sc q (m.Pointer u ∷ stack) fs o s n t (within (λ u. inr) pl) (may_see ex sc fs y pl (inl refl)) h.0) (λ pl b o1 s1 n1 t1 x. by_place pl b o1 s1 n1 t1 x))
+      (makes_bind ex _ (place_gives ex call ok (Entire y ss) k sc q (m.Pointer u ∷ stack) fs o s n t (within (λ u. inr) pl) (may_see ex sc fs y pl (inl refl)) h.0) (λ pl b o1 s1 n1 t1 x. by_place pl b o1 s1 n1 t1 x))
     where
       v : Var
       v = Entire y ss
@@ -197,13 +194,13 @@ module _ {M : Type 0} (ex : Execution M) where
           makes_known ex (λ v. bind (assign a v) (λ x. give (Went todo))) val (known_bind ops rel w code (λ y. bind (fetch c) (checked y)) ty.0 val (kind_known ex c.kind k ty.0 x.0 ty.1) (known_bind ops rel w code (checked ty.0) val val (fetch_known ex c) (ty.2 val o1 s1)))
           (record { by = (after_var q v + 1, stack, ops.copy u b (size p k) n1, fs, goes ops rel w code (one_at (after_var q v) _ n1 h.1 ∙ holds_when (ops.has b (size p k) n1 && ops.has u (size p k) n1) _ (both_true _ _ has_from has_to)),
               subst (λ y. rel.Stand fs o1 (at_key same_loc a.spot (assigned a (s1 a.spot) (Tree (get_at c.path (value_in (s1 c.spot))))) s1) (ops.copy u b (size p y) n1)) ek (law.copy t1 a c u b pt x.1 ra x.2 (ek ∙ sym x.0)), fo) })
-  assign_makes call ok end base below Many k (Number v) sc q stack todo a u fs o s n t pl r ez ek pt ra h fo = absurd h
-  assign_makes call ok end base below Many k (Unary op e) sc q stack todo a u fs o s n t pl r ez ek pt ra h fo = absurd h
-  assign_makes call ok end base below Many k (Binary op d e) sc q stack todo a u fs o s n t pl r ez ek pt ra h fo = absurd h
-  assign_makes call ok end base below Many k (Apply f args) sc q stack todo a u fs o s n t pl r ez ek pt ra h fo = absurd h
-  assign_makes call ok end base below Many k (Standard f e) sc q stack todo a u fs o s n t pl r ez ek pt ra h fo = absurd h
-  assign_makes call ok end base below Many k (AtInput f) sc q stack todo a u fs o s n t pl r ez ek pt ra h fo = absurd h
-  assign_makes call ok end base below NoSort k form sc q stack todo a u fs o s n t pl r ez ek pt ra h fo = absurd h
+  assign_makes call ok end base below Many k (Number v) sc q stack todo a u fs o s n t pl ez ek pt ra h fo = absurd h
+  assign_makes call ok end base below Many k (Unary op e) sc q stack todo a u fs o s n t pl ez ek pt ra h fo = absurd h
+  assign_makes call ok end base below Many k (Binary op d e) sc q stack todo a u fs o s n t pl ez ek pt ra h fo = absurd h
+  assign_makes call ok end base below Many k (Apply f args) sc q stack todo a u fs o s n t pl ez ek pt ra h fo = absurd h
+  assign_makes call ok end base below Many k (Standard f e) sc q stack todo a u fs o s n t pl ez ek pt ra h fo = absurd h
+  assign_makes call ok end base below Many k (AtInput f) sc q stack todo a u fs o s n t pl ez ek pt ra h fo = absurd h
+  assign_makes call ok end base below NoSort k form sc q stack todo a u fs o s n t pl ez ek pt ra h fo = absurd h
 
   -- the variable of a for loop
   pub record ForPlace (fs : List Joint) (x : ℕ) (n : M) (o : Own) (s : Store) : Type 0 where
@@ -215,8 +212,8 @@ module _ {M : Type 0} (ex : Execution M) where
     pub may : R address.spot
     pub sorted : sort p address.kind ≡ Ordinals
 
-  pub for_place : {Here : Use → Type 0} {fs : List Joint} {o : Own} {s : Store} {n : M} (r : Origin) (sc : List Scope) (x : ℕ) → rel.Stand fs o s n → Pl sc fs Here → Here (Aims x) → ForVar p moves shares (Stands code) (HasFork code) (HasWords code) hush needs (rig r) sc x → ForPlace fs x n o s
-  for_place {fs = fs} {o = o} {s = s} {n = n} rr sc x t pl ai h =
+  pub for_place : {Here : Use → Type 0} {fs : List Joint} {o : Own} {s : Store} {n : M} (sc : List Scope) (x : ℕ) → rel.Stand fs o s n → Pl sc fs Here → Here (Aims x) → ForVar p moves shares (Stands code) (HasFork code) (HasWords code) hush sc x → ForPlace fs x n o s
+  for_place {fs = fs} {o = o} {s = s} {n = n} sc x t pl ai h =
       let v = h.0 in
       let r = found (is_block v.block) (places.is_block v.block) (block_agrees v.block) sc fs 0 pl.chain h.3 in
       let a = law.addr t 0 x r.frame r.rest r.at v h.1 (block_home ex v.block r.frame.source.home r.fit) (subst Owns (sym h.2) tt) in
@@ -229,15 +226,15 @@ module _ {M : Type 0} (ex : Execution M) where
         at = a.1; points = a.2; may = reads (in_frame g x v r.frame.source).spot (pl.sound.allowed [] (Aims x) ai x (in_frame g x v r.frame.source).spot (refl, at)); sorted = h.4 }
 
   -- the value of a for loop's turn is assigned, and then there is a tick
-  pub turn_makes : (end : ℕ) (base : List Entry) (below : List Joint) (x : ℕ) (v limit : ℤ) (down : Bool) (d : Stmt) (sc : List Scope) (q : ℕ) (st : List Entry) (todo : List Item) (fs : List Joint) (c : Config M) (o : Own) (s : Store) (n : M) → rel.Stand fs o s n → Pl sc fs (In_loop x d) → (r : Origin) → TurnsAt p moves shares (Stands code) (HasFork code) (HasWords code) hush needs (rig r) sc q x down (after p (q + 1 + 1) d) (S (outside st) r sc (q + 1 + 1) d)
+  pub turn_makes : (end : ℕ) (base : List Entry) (below : List Joint) (x : ℕ) (v limit : ℤ) (down : Bool) (d : Stmt) (sc : List Scope) (q : ℕ) (st : List Entry) (todo : List Item) (fs : List Joint) (c : Config M) (o : Own) (s : Store) (n : M) → rel.Stand fs o s n → Pl sc fs (In_loop x d) → TurnsAt p moves shares (Stands code) (HasFork code) (HasWords code) hush sc q x down (after p (q + 1 + 1) d) (S (outside st) sc (q + 1 + 1) d)
       → After end base below todo fs (after p (q + 1 + 1) d + 1) st → (z : ForPlace fs x n o s) → one ops code c ≡ Goes (m.At (q + 1) (m.Number limit ∷ st) (ops.put z.cell (cell.Ordinal v) n))
       → K c o s (After end base below) (turn_of g x v limit down d todo)
-  turn_makes end base below x v limit down d sc q st todo fs c o s n t pl r h fo z ge =
+  turn_makes end base below x v limit down d sc q st todo fs c o s n t pl h fo z ge =
       makes_known ex _ (At z.address) z.known
       (makes_known ex (λ a. bind (assign a (Ordinal v)) (λ u. bind (tick g.limits) (λ u. give (Beat (push d (Again x limit down d ∷ todo)))))) z.address (address_known z.address)
       (makes_bind ex _ (assign_gives (q + 1) z.address z.cell (Ordinal v) (m.Number v) (m.Number limit ∷ st) t z.points z.may (subst OneCell (sym z.sorted) tt) (subst (λ y. Stood rel p y z.address.kind (Ordinal v) (m.Number v)) (sym z.sorted) (v, refl, refl)) ge) (λ x1 x2 o2 s2 n2 t2 x3.
       makes_tick ex (push d (Again x limit down d ∷ todo)) fs (q + 1 + 1) (m.Number limit ∷ st) (ops.beat n2) (law.beat t2) (one_at (q + 1) (m.Number limit ∷ st) n2 h.2)
-          (push_follows ex d end base below sc (q + 1 + 1) (m.Number limit ∷ st) fs (Again x limit down d ∷ todo) (within (λ u. inr) pl) r h.3 (q, sc, st, slides ex _ _, refl, pl, (r, h), fo)))))
+          (push_follows ex d end base below sc (q + 1 + 1) (m.Number limit ∷ st) fs (Again x limit down d ∷ todo) (within (λ u. inr) pl) h.3 (q, sc, st, slides ex _ _, refl, pl, h, fo)))))
 
   -- an item is written
   print_gives : {fs : List Joint} {c : Config M} {o : Own} {s : Store} {n : M} (q : ℕ) (t : List ℕ) (stack : List Entry) → rel.Stand fs o s n → R Output → one ops code c ≡ m.prints ops code t q stack n → G fs c o s q (λ (u : Unit {0}) (z : Unit {0}). stack) (λ u z. Unit {0}) (write g t)
@@ -262,7 +259,7 @@ module _ {M : Type 0} (ex : Execution M) where
   abbrev Tested : Bool → ℤ → ℕ → ℕ → ℕ → List Entry → M → Type 0
   Tested b v q to past stack n = if_type b (C (m.At q (m.Number v ∷ stack) n) (m.At to stack n)) (C (m.At q (m.Number v ∷ stack) n) (m.At past (m.Number v ∷ stack) n))
 
-  test_comes : (v : ℤ) (ms : List ℤ) (q to : ℕ) (stack : List Entry) (n : M) → TestAt p moves shares (Stands code) (HasFork code) (HasWords code) hush needs q ms to → Tested (has v ms) v q to (after_test q ms) stack n
+  test_comes : (v : ℤ) (ms : List ℤ) (q to : ℕ) (stack : List Entry) (n : M) → TestAt p moves shares (Stands code) (HasFork code) (HasWords code) hush q ms to → Tested (has v ms) v q to (after_test q ms) stack n
   test_comes v [] q to stack n h = stays ops rel w code _
   test_comes v (x ∷ ms) q to stack n h = go (same_ordinal v x) (has v ms) (one_at q (m.Number v ∷ stack) n h.0) (test_comes v ms (q + 1) to stack n h.1)
     where
@@ -271,14 +268,14 @@ module _ {M : Type 0} (ex : Execution M) where
       go false true e k = comes_on ops rel w code (goes ops rel w code e) k
       go false false e k = comes_on ops rel w code (goes ops rel w code e) k
 
-  case_makes : (end : ℕ) (base : List Entry) (below : List Joint) (v : ℤ) (arms : Arms) (sc : List Scope) (q b past : ℕ) (stack : List Entry) (todo : List Item) (fs : List Joint) (o : Own) (s : Store) (n : M) → rel.Stand fs o s n → Pl sc fs (In_arms arms) → (r : Origin) → TestsAt p moves shares (Stands code) (HasFork code) (HasWords code) hush needs q arms b → slice_get code.instrs (after_tests q arms) ≡ Some i.Nocase → ArmsAt p moves shares (Stands code) (HasFork code) (HasWords code) hush needs (outside stack) (rig r) sc b arms past → After end base below todo fs past stack
+  case_makes : (end : ℕ) (base : List Entry) (below : List Joint) (v : ℤ) (arms : Arms) (sc : List Scope) (q b past : ℕ) (stack : List Entry) (todo : List Item) (fs : List Joint) (o : Own) (s : Store) (n : M) → rel.Stand fs o s n → Pl sc fs (In_arms arms) → TestsAt p moves shares (Stands code) (HasFork code) (HasWords code) hush q arms b → slice_get code.instrs (after_tests q arms) ≡ Some i.Nocase → ArmsAt p moves shares (Stands code) (HasFork code) (HasWords code) hush (outside stack) sc b arms past → After end base below todo fs past stack
       → K (m.At q (m.Number v ∷ stack) n) o s (After end base below) (chosen g (arm_for v arms) todo)
-  case_makes end base below v NoArm sc q b past stack todo fs o s n t pl r h hn ha fo = makes_fail ex fault.F9 (one_at q (m.Number v ∷ stack) n hn)
-  case_makes end base below v (Or (On ms d) rest) sc q b past stack todo fs o s n t pl r h hn ha fo =
-      go (has v ms) (test_comes v ms q b stack n h.0) (case_makes end base below v rest sc (after_test q ms) (after p b d + 1) past stack todo fs o s n t (within (λ u. inr) pl) r h.1 hn ha.2 fo)
+  case_makes end base below v NoArm sc q b past stack todo fs o s n t pl h hn ha fo = makes_fail ex fault.F9 (one_at q (m.Number v ∷ stack) n hn)
+  case_makes end base below v (Or (On ms d) rest) sc q b past stack todo fs o s n t pl h hn ha fo =
+      go (has v ms) (test_comes v ms q b stack n h.0) (case_makes end base below v rest sc (after_test q ms) (after p b d + 1) past stack todo fs o s n t (within (λ u. inr) pl) h.1 hn ha.2 fo)
     where
       go : (y : Bool) → Tested y v q b (after_test q ms) stack n → K (m.At (after_test q ms) (m.Number v ∷ stack) n) o s (After end base below) (chosen g (arm_for v rest) todo) → K (m.At q (m.Number v ∷ stack) n) o s (After end base below) (chosen g (if y then Some d else arm_for v rest) todo)
-      go true c k = makes_went ex (push d todo) fs b stack n c t (push_follows ex d end base below sc b stack fs todo (within (λ u. inl) pl) r ha.0 (slide_follows ex end base below (after p b d) past stack fs todo (jumps ex (after p b d) past stack ha.1) fo))
+      go true c k = makes_went ex (push d todo) fs b stack n c t (push_follows ex d end base below sc b stack fs todo (within (λ u. inl) pl) ha.0 (slide_follows ex end base below (after p b d) past stack fs todo (jumps ex (after p b d) past stack ha.1) fo))
       go false c k = makes_after ex c k
 
   -- a fork, where the depth allows it
@@ -297,14 +294,14 @@ module _ {M : Type 0} (ex : Execution M) where
   took_gives q (Faulty f) a u stack st ri pt ra so ge = gives_fail ops rel w code f ge
 
   -- a width
-  width_text : (call : Calls) → Oks call → (end : ℕ) (base : List Entry) (below : List Joint) (t : List ℕ) (j : ℕ) (x : Option Expr) (r : Origin) (sc : List Scope) (q : ℕ) (stack : List Entry) (todo : List Item) (fs : List Joint) (o : Own) (s : Store) (n : M) → rel.Stand fs o s n → Pl sc fs (In_width x) → R Output → slice_get code.texts j ≡ Some t → WidthAt p moves shares (Stands code) (HasFork code) (HasWords code) hush needs (rig r) sc q x
+  width_text : (call : Calls) → Oks call → (end : ℕ) (base : List Entry) (below : List Joint) (t : List ℕ) (j : ℕ) (x : Option Expr) (sc : List Scope) (q : ℕ) (stack : List Entry) (todo : List Item) (fs : List Joint) (o : Own) (s : Store) (n : M) → rel.Stand fs o s n → Pl sc fs (In_width x) → R Output → slice_get code.texts j ≡ Some t → WidthAt p moves shares (Stands code) (HasFork code) (HasWords code) hush sc q x
       → slice_get code.instrs (after_width q x) ≡ Some (if is_given x then i.WritewText j else i.WriteText j) → After end base below todo fs (after_width q x + 1) stack
       → K (m.At q stack n) o s (After end base below) (bind (width g call x) (λ mm. bind (in_width true t mm) (λ bs. bind (write g bs) (λ u. give (Went todo)))))
-  width_text call ok end base below t j None r sc q stack todo fs o s n st pl ro et h ge fo =
+  width_text call ok end base below t j None sc q stack todo fs o s n st pl ro et h ge fo =
       plain_makes (After end base below) fs (q + 1) t stack todo (m.At q stack n) o s n st ro (one_at q stack n ge ∙ ap (λ y. there y (λ z. m.prints ops code z (q + 1) stack n)) et) fo
-  width_text call ok end base below t j (Some e) r sc q stack todo fs o s n st pl ro et h ge fo =
+  width_text call ok end base below t j (Some e) sc q stack todo fs o s n st pl ro et h ge fo =
       makes_assoc (ordinal_of g call e) (λ y. give (Some y)) _
-      (makes_bind ex _ (ordinal_gives ex call ok e (rig r) sc q stack fs o s n st pl h) (λ v u o1 s1 n1 t1 x1.
+      (makes_bind ex _ (ordinal_gives ex call ok e sc q stack fs o s n st pl h) (λ v u o1 s1 n1 t1 x1.
       wide_makes (After end base below) fs (after_value q e + 1) true t v stack todo (m.At (after_value q e) (m.Number v ∷ stack) n1) o1 s1 n1 t1 ro (one_at (after_value q e) (m.Number v ∷ stack) n1 ge ∙ ap (λ y. there y (λ z. m.wide ops code true z v (after_value q e + 1) stack n1)) et) fo))
 
   -- an item without and with a width
@@ -328,23 +325,23 @@ module _ {M : Type 0} (ex : Execution M) where
   item_wide Q (kind.Fields a) v mm fs q stack todo o s n t ro e h k = absurd h
   item_wide Q (kind.Channel a) v mm fs q stack todo o s n t ro e h k = absurd h
 
-  width_item : (call : Calls) → Oks call → (end : ℕ) (base : List Entry) (below : List Joint) (ty : KindOf) (k : ℕ) (v : ℤ) (x : Option Expr) (r : Origin) (sc : List Scope) (q : ℕ) (stack : List Entry) (todo : List Item) (fs : List Joint) (o : Own) (s : Store) (n : M) → rel.Stand fs o s n → Pl sc fs (In_width x) → R Output → slice_get p.kinds k ≡ Some ty → WidthAt p moves shares (Stands code) (HasFork code) (HasWords code) hush needs (rig r) sc q x
+  width_item : (call : Calls) → Oks call → (end : ℕ) (base : List Entry) (below : List Joint) (ty : KindOf) (k : ℕ) (v : ℤ) (x : Option Expr) (sc : List Scope) (q : ℕ) (stack : List Entry) (todo : List Item) (fs : List Joint) (o : Own) (s : Store) (n : M) → rel.Stand fs o s n → Pl sc fs (In_width x) → R Output → slice_get p.kinds k ≡ Some ty → WidthAt p moves shares (Stands code) (HasFork code) (HasWords code) hush sc q x
       → slice_get code.instrs (after_width q x) ≡ Some (write_instr (Some ty) (is_given x)) → IsWritten ty → After end base below todo fs (after_width q x + 1) stack
       → K (m.At q (m.Number v ∷ stack) n) o s (After end base below) (bind (width g call x) (λ mm. bind (kind_at g k) (λ u. bind (in_width (shown u v).0 (shown u v).1 mm) (λ bs. bind (write g bs) (λ u. give (Went todo))))))
-  width_item call ok end base below ty k v None r sc q stack todo fs o s n st pl ro ek h e1 e2 fo =
+  width_item call ok end base below ty k v None sc q stack todo fs o s n st pl ro ek h e1 e2 fo =
       makes_known ex _ ty (kind_known ex k k ty refl ek) (item_plain (After end base below) ty v fs q stack todo o s n st ro e1 e2 fo)
-  width_item call ok end base below ty k v (Some e) r sc q stack todo fs o s n st pl ro ek h e1 e2 fo =
+  width_item call ok end base below ty k v (Some e) sc q stack todo fs o s n st pl ro ek h e1 e2 fo =
       makes_assoc (ordinal_of g call e) (λ y. give (Some y)) _
-      (makes_bind ex _ (ordinal_gives ex call ok e (rig r) sc q (m.Number v ∷ stack) fs o s n st pl h) (λ mm u o1 s1 n1 t1 x1.
+      (makes_bind ex _ (ordinal_gives ex call ok e sc q (m.Number v ∷ stack) fs o s n st pl h) (λ mm u o1 s1 n1 t1 x1.
       makes_known ex _ ty (kind_known ex k k ty refl ek) (item_wide (After end base below) ty v mm fs (after_value q e) stack todo o1 s1 n1 t1 ro e1 e2 fo)))
 
   -- ---- calls
 
   abbrev pub BlockIs : ℕ → Block → Type 0
-  BlockIs f b = BlockAt p moves shares code hush needs f b
+  BlockIs f b = BlockAt p moves shares code hush f b
 
   abbrev pub Blocks : Type 0
-  Blocks = BlocksAt p moves shares code hush needs
+  Blocks = BlocksAt p moves shares code hush
 
   -- what the machine does at a call
   abbrev pub calls_to : Layout → ℕ → List Entry → Did M → One M
@@ -375,10 +372,10 @@ module _ {M : Type 0} (ex : Execution M) where
   chain_of fs around f up_sc j b gs e fr es ch =
       subst (λ y. Chain y (j ∷ fs)) (sym es) (j, fs, refl, subst (λ y. HomeIs (places.OfBlock f) y) (sym (ap (λ (z : Frame). z.home) e)) refl, subst (λ y. Chain up_sc y) (sym (ap (λ (z : Frame). from z.link fs) e ∙ fr)) ch)
 
-  pub call_finds : {fs : List Joint} {o : Own} {s : Store} {n : M} (f : ℕ) (args : Actuals) (b : Block) (sc : List Scope) (q : ℕ) (stack : List Entry) (gs : List Given) (es : List Entry) → rel.Stand fs o s n → Pl sc fs (In_call f args) → CallAt p moves shares (Stands code) (HasFork code) (HasWords code) hush needs sc q f b → (z : BlockIs f b) → GivensAre rel p fs b.formals gs es → Gave p (sources fs) args gs → CallFinds fs f b q stack gs es o s n z.layout
+  pub call_finds : {fs : List Joint} {o : Own} {s : Store} {n : M} (f : ℕ) (args : Actuals) (b : Block) (sc : List Scope) (q : ℕ) (stack : List Entry) (gs : List Given) (es : List Entry) → rel.Stand fs o s n → Pl sc fs (In_call f args) → CallAt p moves shares (Stands code) (HasFork code) (HasWords code) hush sc q f b → (z : BlockIs f b) → GivensAre rel p fs b.formals gs es → Gave p (sources fs) args gs → CallFinds fs f b q stack gs es o s n z.layout
   call_finds {fs} {o} {s} {n} f args b sc q stack gs es t pl h z gv ga = by_parent b.parent refl h.2
     where
-      by_parent : (y : Option ℕ) → b.parent ≡ y → Around p moves shares (Stands code) (HasFork code) (HasWords code) hush needs sc f y h.0 → CallFinds fs f b q stack gs es o s n z.layout
+      by_parent : (y : Option ℕ) → b.parent ≡ y → Around p moves shares (Stands code) (HasFork code) (HasWords code) hush sc f y h.0 → CallFinds fs f b q stack gs es o s n z.layout
       by_parent None e x = absurd x
       by_parent (Some c) e x =
           let r = found (is_block c) (places.is_block c) (block_agrees c) sc fs h.0 pl.chain x.0 in
@@ -415,7 +412,7 @@ module _ {M : Type 0} (ex : Execution M) where
       go false t = refl
 
   -- a procedure's call
-  call_makes : Blocks → (end : ℕ) (base : List Entry) (below : List Joint) (f : ℕ) (args : Actuals) (b : Block) (sc : List Scope) (q : ℕ) (stack : List Entry) (gs : List Given) (es : List Entry) (todo : List Item) (fs : List Joint) (o : Own) (s : Store) (n : M) → rel.Stand fs o s n → Pl sc fs (In_call f args) → CallAt p moves shares (Stands code) (HasFork code) (HasWords code) hush needs sc q f b → b.answer ≡ None → Hushed hush (outside stack) f → GivensAre rel p fs b.formals gs es → Gave p (sources fs) args gs
+  call_makes : Blocks → (end : ℕ) (base : List Entry) (below : List Joint) (f : ℕ) (args : Actuals) (b : Block) (sc : List Scope) (q : ℕ) (stack : List Entry) (gs : List Given) (es : List Entry) (todo : List Item) (fs : List Joint) (o : Own) (s : Store) (n : M) → rel.Stand fs o s n → Pl sc fs (In_call f args) → CallAt p moves shares (Stands code) (HasFork code) (HasWords code) hush sc q f b → b.answer ≡ None → Hushed hush (outside stack) f → GivensAre rel p fs b.formals gs es → Gave p (sources fs) args gs
       → After end base below todo fs (q + 1) stack → K (m.At q (pushed es stack) n) o s (After end base below) (bind (enter g f gs) (λ y. give (Beat (push y.body (Leave ∷ todo)))))
   call_makes blocks end base below f args b sc q stack gs es todo fs o s n t pl h ha hu gv ga fo =
       record { by = subst (Made ex c (After end base below)) (sym (run_bind (enter g f gs) next w o s)) (go (run (enter g f gs) w o s) r.did r.entered r.goes) }
@@ -443,7 +440,7 @@ module _ {M : Type 0} (ex : Execution M) where
           let fr = al.1.0 in
           (l.entry, m.Link (q + 1) ∷ stack, n1, fr ∷ fs, c, stays ops rel w code c, e ∙ ap (λ y. if y then Goes (m.At l.entry (m.Reply (q + 1) ∷ stack) n1) else paced ops code l.entry (m.Link (q + 1) ∷ stack) n1) no_answer, al.1.2,
               subst (λ (y : Block). After end base below (push y.body (Leave ∷ todo)) (fr ∷ fs) l.entry (m.Link (q + 1) ∷ stack)) (sym al.0)
-                  (push_follows ex b.body end base below (scopes_of p f) l.entry (m.Link (q + 1) ∷ stack) (fr ∷ fs) (Leave ∷ todo) (r.placed fr al.1.1) (Of_block f) (z.stands.body (outside stack) hu)
+                  (push_follows ex b.body end base below (scopes_of p f) l.entry (m.Link (q + 1) ∷ stack) (fr ∷ fs) (Leave ∷ todo) (r.placed fr al.1.1) (z.stands.body (outside stack) hu)
                       (after p l.entry b.body, q + 1, stack, fr, fs, slides ex _ _, refl, z.stands.end ∙ ap Some (return_at f r.parent.0 b h.1 r.parent.1), refl, fo, al.1.3)))
       go (Got b1 o1, s1) (Failed x) al e = absurd al
       go (Bad x, s1) (Done n1) al e = absurd al
@@ -457,18 +454,18 @@ module _ {M : Type 0} (ex : Execution M) where
   first_one false q to x stack n lo hi h u e ha = one_at q _ n h ∙ ap (λ z. there z (λ a. when (ops.has a 1 n) (if is_range false lo hi then Goes (m.At (q + 1) (m.Number hi ∷ stack) (ops.put a (cell.Ordinal lo) n)) else Goes (m.At to stack n)))) e ∙ holds_when (ops.has u 1 n) _ ha
 
   -- both limits of a for loop are there
-  for_begins : (end : ℕ) (base : List Entry) (below : List Joint) (x : ℕ) (down : Bool) (d : Stmt) (sc : List Scope) (q : ℕ) (stack : List Entry) (todo : List Item) (fs : List Joint) (lo hi : ℤ) (o : Own) (s : Store) (n : M) → rel.Stand fs o s n → Pl sc fs (In_loop x d) → (r : Origin) → TurnsAt p moves shares (Stands code) (HasFork code) (HasWords code) hush needs (rig r) sc q x down (after p (q + 1 + 1) d) (S (outside stack) r sc (q + 1 + 1) d)
+  for_begins : (end : ℕ) (base : List Entry) (below : List Joint) (x : ℕ) (down : Bool) (d : Stmt) (sc : List Scope) (q : ℕ) (stack : List Entry) (todo : List Item) (fs : List Joint) (lo hi : ℤ) (o : Own) (s : Store) (n : M) → rel.Stand fs o s n → Pl sc fs (In_loop x d) → TurnsAt p moves shares (Stands code) (HasFork code) (HasWords code) hush sc q x down (after p (q + 1 + 1) d) (S (outside stack) sc (q + 1 + 1) d)
       → After end base below todo fs (after p (q + 1 + 1) d + 1) stack → K (m.At q (m.Number hi ∷ m.Number lo ∷ stack) n) o s (After end base below) (give (Went (if is_range down lo hi then First x lo hi down d ∷ todo else todo)))
-  for_begins end base below x down d sc q stack todo fs lo hi o s n t pl r h k = go (is_range down lo hi) refl
+  for_begins end base below x down d sc q stack todo fs lo hi o s n t pl h k = go (is_range down lo hi) refl
     where
       z : ForPlace fs x n o s
-      z = for_place r sc x t pl (inl refl) h.0
+      z = for_place sc x t pl (inl refl) h.0
 
       step : one ops code (m.At q (m.Number hi ∷ m.Number lo ∷ stack) n) ≡ (if is_range down lo hi then Goes (m.At (q + 1) (m.Number hi ∷ stack) (ops.put z.cell (cell.Ordinal lo) n)) else Goes (m.At (after p (q + 1 + 1) d + 1) stack n))
       step = first_one down q (after p (q + 1 + 1) d + 1) x stack n lo hi h.1 z.cell z.at (law.has_one t z.address z.cell z.points z.may)
 
       go : (b : Bool) → is_range down lo hi ≡ b → K (m.At q (m.Number hi ∷ m.Number lo ∷ stack) n) o s (After end base below) (give (Went (if b then First x lo hi down d ∷ todo else todo)))
-      go true e = makes_went ex (First x lo hi down d ∷ todo) fs q (m.Number hi ∷ m.Number lo ∷ stack) n (stays ops rel w code _) t (q, sc, stack, slides ex _ _, refl, pl, (r, h), k, e)
+      go true e = makes_went ex (First x lo hi down d ∷ todo) fs q (m.Number hi ∷ m.Number lo ∷ stack) n (stays ops rel w code _) t (q, sc, stack, slides ex _ _, refl, pl, h, k, e)
       go false e = makes_went ex todo fs (after p (q + 1 + 1) d + 1) stack n (goes ops rel w code (step ∙ ap (λ b. if b then Goes (m.At (q + 1) (m.Number hi ∷ stack) (ops.put z.cell (cell.Ordinal lo) n)) else Goes (m.At (after p (q + 1 + 1) d + 1) stack n)) e)) t k
 
   forall_makes : (Q : List Item → List Joint → ℕ → List Entry → Type 0) (fs : List Joint) (q tb x : ℕ) (d : Stmt) (lo hi : ℤ) (stack : List Entry) (todo : List Item) (o : Own) (s : Store) (n : M) → rel.Stand fs o s n → slice_get code.instrs q ≡ Some (i.Forall tb) → Q todo fs (q + 1) stack → outside stack ≡ true
@@ -488,7 +485,7 @@ module _ {M : Type 0} (ex : Execution M) where
       go true e = makes_fail ex fault.F8 e
       go false e = makes_went ex todo fs (q + 1) stack n (goes ops rel w code e) t k
 
-  reads_makes : (Q : List Item → List Joint → ℕ → List Entry → Type 0) (fs : List Joint) (ty : KindOf) (q : ℕ) (a : Address) (u : Ptr) (stack : List Entry) (todo : List Item) (o : Own) (s : Store) (n : M) → rel.Stand fs o s n → R Input → rel.Points fs a u → R a.spot → slice_get p.kinds a.kind ≡ Some ty → ReadsAt p moves shares (Stands code) (HasFork code) (HasWords code) hush needs q ty → Q todo fs (q + 1) stack
+  reads_makes : (Q : List Item → List Joint → ℕ → List Entry → Type 0) (fs : List Joint) (ty : KindOf) (q : ℕ) (a : Address) (u : Ptr) (stack : List Entry) (todo : List Item) (o : Own) (s : Store) (n : M) → rel.Stand fs o s n → R Input → rel.Points fs a u → R a.spot → slice_get p.kinds a.kind ≡ Some ty → ReadsAt p moves shares (Stands code) (HasFork code) (HasWords code) hush q ty → Q todo fs (q + 1) stack
       → K (m.At q (m.Pointer u ∷ stack) n) o s Q (bind (or_lost (taken_by ty (rest_of ex s))) (λ x. bind (take_in g a x) (λ y. give (Went todo))))
   reads_makes Q fs kind.Integer q a u stack todo o s n t ri pt ra ek h k =
       let bs = rest_of ex s in
@@ -527,91 +524,91 @@ module _ {M : Type 0} (ex : Execution M) where
   aims_output sc fs pl h = reads Output (pl.sound.allowed [] (Aims 1) h 1 Output (refl, at_console ex fs 1 free.output))
 
   -- the step of a statement that is first
-  pub start_makes : (call : Calls) → Oks call → Blocks → (end : ℕ) (base : List Entry) (below : List Joint) (d : Stmt) (r : Origin) (sc : List Scope) (q : ℕ) (stack : List Entry) (todo : List Item) (fs : List Joint) (o : Own) (s : Store) (n : M) → rel.Stand fs o s n → Pl sc fs (In_stmt d) → S (outside stack) r sc q d → After end base below todo fs (after p q d) stack
+  pub start_makes : (call : Calls) → Oks call → Blocks → (end : ℕ) (base : List Entry) (below : List Joint) (d : Stmt) (sc : List Scope) (q : ℕ) (stack : List Entry) (todo : List Item) (fs : List Joint) (o : Own) (s : Store) (n : M) → rel.Stand fs o s n → Pl sc fs (In_stmt d) → S (outside stack) sc q d → After end base below todo fs (after p q d) stack
       → K (m.At q stack n) o s (After end base below) (start g call d todo)
-  start_makes call ok bl end base below Empty r sc q stack todo fs o s n t pl h k = makes_went ex todo fs q stack n (stays ops rel w code _) t k
-  start_makes call ok bl end base below (Assign v (Typed x form)) r sc q stack todo fs o s n t pl h k =
-      makes_bind ex _ (address_gives ex call ok v x (rig r) sc q stack fs o s n t (within (λ u. inl) pl) h.0 h.1) (λ a u o1 s1 n1 t1 x1.
-      assign_makes call ok end base below (sort p x) x form sc (after_var q v) stack todo a u fs o1 s1 n1 t1 (within (λ u. inr) pl) r refl x1.0 x1.1 x1.2 h.2 k)
-  start_makes call ok bl end base below (Call f args) r sc q stack todo fs o s n t pl h k =
-      makes_bind ex _ (actuals_gives ex call ok args h.0.formals (rig r) sc q stack fs o s n t (within (λ u. inr) pl) h.1) (λ gs es o1 s1 n1 t1 x1.
+  start_makes call ok bl end base below Empty sc q stack todo fs o s n t pl h k = makes_went ex todo fs q stack n (stays ops rel w code _) t k
+  start_makes call ok bl end base below (Assign v (Typed x form)) sc q stack todo fs o s n t pl h k =
+      makes_bind ex _ (address_gives ex call ok v x sc q stack fs o s n t (within (λ u. inl) pl) h.0 h.1) (λ a u o1 s1 n1 t1 x1.
+      assign_makes call ok end base below (sort p x) x form sc (after_var q v) stack todo a u fs o1 s1 n1 t1 (within (λ u. inr) pl) refl x1.0 x1.1 x1.2 h.2 k)
+  start_makes call ok bl end base below (Call f args) sc q stack todo fs o s n t pl h k =
+      makes_bind ex _ (actuals_gives ex call ok args h.0.formals sc q stack fs o s n t (within (λ u. inr) pl) h.1) (λ gs es o1 s1 n1 t1 x1.
       call_makes bl end base below f args h.0 sc (after_actuals q args) stack gs es todo fs o1 s1 n1 t1 pl h.2 h.3 h.4 x1.0 x1.1 k)
-  start_makes call ok bl end base below (Sequence ss) r sc q stack todo fs o s n t pl h k =
-      makes_went ex (push_all ss todo) fs q stack n (stays ops rel w code _) t (push_all_follows ex ss end base below sc q stack fs todo pl r h k)
-  start_makes call ok bl end base below (If e a) r sc q stack todo fs o s n t pl h k =
-      makes_bind ex _ (ordinal_gives ex call ok e (rig r) sc q stack fs o s n t (within (λ u. inl) pl) h.0) (λ v u o1 s1 n1 t1 x1.
+  start_makes call ok bl end base below (Sequence ss) sc q stack todo fs o s n t pl h k =
+      makes_went ex (push_all ss todo) fs q stack n (stays ops rel w code _) t (push_all_follows ex ss end base below sc q stack fs todo pl h k)
+  start_makes call ok bl end base below (If e a) sc q stack todo fs o s n t pl h k =
+      makes_bind ex _ (ordinal_gives ex call ok e sc q stack fs o s n t (within (λ u. inl) pl) h.0) (λ v u o1 s1 n1 t1 x1.
       makes_by ex (went_if (int_le v (pos 0)) todo (push a todo))
           (branch (After end base below) v (after_value q e) (after p (after_value q e + 1) a) stack o1 s1 n1 _ _ h.1
               (makes_went ex todo fs _ stack n1 (stays ops rel w code _) t1 k)
-              (makes_went ex (push a todo) fs _ stack n1 (stays ops rel w code _) t1 (push_follows ex a end base below sc _ stack fs todo (within (λ u. inr) pl) r h.2 k))))
-  start_makes call ok bl end base below (IfElse e a b) r sc q stack todo fs o s n t pl h k =
-      makes_bind ex _ (ordinal_gives ex call ok e (rig r) sc q stack fs o s n t (within (λ u. inl) pl) h.0) (λ v u o1 s1 n1 t1 x1.
+              (makes_went ex (push a todo) fs _ stack n1 (stays ops rel w code _) t1 (push_follows ex a end base below sc _ stack fs todo (within (λ u. inr) pl) h.2 k))))
+  start_makes call ok bl end base below (IfElse e a b) sc q stack todo fs o s n t pl h k =
+      makes_bind ex _ (ordinal_gives ex call ok e sc q stack fs o s n t (within (λ u. inl) pl) h.0) (λ v u o1 s1 n1 t1 x1.
       makes_by ex (went_if (int_le v (pos 0)) (push b todo) (push a todo))
           (branch (After end base below) v (after_value q e) (after p (after_value q e + 1) a + 1) stack o1 s1 n1 _ _ h.1
-              (makes_went ex (push b todo) fs _ stack n1 (stays ops rel w code _) t1 (push_follows ex b end base below sc _ stack fs todo (within (λ u i. inr (inr i)) pl) r h.4 k))
-              (makes_went ex (push a todo) fs _ stack n1 (stays ops rel w code _) t1 (push_follows ex a end base below sc _ stack fs todo (within (λ u i. inr (inl i)) pl) r h.2 (slide_follows ex end base below _ _ stack fs todo (jumps ex _ _ stack h.3) k)))))
-  start_makes call ok bl end base below (While e d) r sc q stack todo fs o s n t pl h k =
-      makes_bind ex _ (ordinal_gives ex call ok e (rig r) sc q stack fs o s n t (within (λ u. inl) pl) h.0) (λ v u o1 s1 n1 t1 x1.
+              (makes_went ex (push b todo) fs _ stack n1 (stays ops rel w code _) t1 (push_follows ex b end base below sc _ stack fs todo (within (λ u i. inr (inr i)) pl) h.4 k))
+              (makes_went ex (push a todo) fs _ stack n1 (stays ops rel w code _) t1 (push_follows ex a end base below sc _ stack fs todo (within (λ u i. inr (inl i)) pl) h.2 (slide_follows ex end base below _ _ stack fs todo (jumps ex _ _ stack h.3) k)))))
+  start_makes call ok bl end base below (While e d) sc q stack todo fs o s n t pl h k =
+      makes_bind ex _ (ordinal_gives ex call ok e sc q stack fs o s n t (within (λ u. inl) pl) h.0) (λ v u o1 s1 n1 t1 x1.
           branch (After end base below) v (after_value q e) (after p (after_value q e + 1 + 1) d + 1) stack o1 s1 n1 _ _ h.1
               (makes_went ex todo fs _ stack n1 (stays ops rel w code _) t1 k)
               (makes_tick ex (push d (Do (While e d) ∷ todo)) fs (after_value q e + 1 + 1) stack (ops.beat n1) (law.beat t1) (one_at (after_value q e + 1) stack n1 h.2)
-                  (push_follows ex d end base below sc _ stack fs (Do (While e d) ∷ todo) (within (λ u. inr) pl) r h.3 (q, sc, jumps ex _ q stack h.4, pl, (r, h), k))))
-  start_makes call ok bl end base below (Repeat d e) r sc q stack todo fs o s n t pl h k =
+                  (push_follows ex d end base below sc _ stack fs (Do (While e d) ∷ todo) (within (λ u. inr) pl) h.3 (q, sc, jumps ex _ q stack h.4, pl, h, k))))
+  start_makes call ok bl end base below (Repeat d e) sc q stack todo fs o s n t pl h k =
       makes_tick ex (push d (Test d e ∷ todo)) fs (q + 1) stack (ops.beat n) (law.beat t) (one_at q stack n h.0)
-          (push_follows ex d end base below sc (q + 1) stack fs (Test d e ∷ todo) (within (λ u. inr) pl) r h.1 (q, sc, slides ex _ _, pl, (r, h), k))
-  start_makes call ok bl end base below (For x from down to d) r sc q stack todo fs o s n t pl h k =
-      makes_bind ex _ (ordinal_gives ex call ok from (rig r) sc q stack fs o s n t (within (λ u i. inr (inl i)) pl) h.0) (λ lo u o1 s1 n1 t1 x1.
-      makes_bind ex _ (ordinal_gives ex call ok to (rig r) sc (after_value q from) (m.Number lo ∷ stack) fs o1 s1 n1 t1 (within (λ u i. inr (inr (inl i))) pl) h.1) (λ hi u2 o2 s2 n2 t2 x2.
-      for_begins end base below x down d sc (after_value (after_value q from) to) stack todo fs lo hi o2 s2 n2 t2 (within (loop x from down to d) pl) r h.2 k))
+          (push_follows ex d end base below sc (q + 1) stack fs (Test d e ∷ todo) (within (λ u. inr) pl) h.1 (q, sc, slides ex _ _, pl, h, k))
+  start_makes call ok bl end base below (For x from down to d) sc q stack todo fs o s n t pl h k =
+      makes_bind ex _ (ordinal_gives ex call ok from sc q stack fs o s n t (within (λ u i. inr (inl i)) pl) h.0) (λ lo u o1 s1 n1 t1 x1.
+      makes_bind ex _ (ordinal_gives ex call ok to sc (after_value q from) (m.Number lo ∷ stack) fs o1 s1 n1 t1 (within (λ u i. inr (inr (inl i))) pl) h.1) (λ hi u2 o2 s2 n2 t2 x2.
+      for_begins end base below x down d sc (after_value (after_value q from) to) stack todo fs lo hi o2 s2 n2 t2 (within (loop x from down to d) pl) h.2 k))
     where
       loop : (x : ℕ) (from : Expr) (down : Bool) (to : Expr) (d : Stmt) (u : Use) → In_loop x d u → In_stmt (For x from down to d) u
       loop x from down to d u (inl e) = inl e
       loop x from down to d u (inr i) = inr (inr (inr i))
-  start_makes call ok bl end base below (Case e arms) r sc q stack todo fs o s n t pl h k =
-      makes_bind ex _ (ordinal_gives ex call ok e (rig r) sc q stack fs o s n t (within (λ u. inl) pl) h.0) (λ v u o1 s1 n1 t1 x1.
-      case_makes end base below v arms sc (after_value q e) (after_tests (after_value q e) arms + 1) (after p q (Case e arms)) stack todo fs o1 s1 n1 t1 (within (λ u. inr) pl) r h.1 h.2 h.3 k)
-  start_makes call ok bl end base below (Parallel ss) r sc q stack todo fs o s n t pl h k =
+  start_makes call ok bl end base below (Case e arms) sc q stack todo fs o s n t pl h k =
+      makes_bind ex _ (ordinal_gives ex call ok e sc q stack fs o s n t (within (λ u. inl) pl) h.0) (λ v u o1 s1 n1 t1 x1.
+      case_makes end base below v arms sc (after_value q e) (after_tests (after_value q e) arms + 1) (after p q (Case e arms)) stack todo fs o1 s1 n1 t1 (within (λ u. inr) pl) h.1 h.2 h.3 k)
+  start_makes call ok bl end base below (Parallel ss) sc q stack todo fs o s n t pl h k =
       fork_makes (After end base below) fs (q + 1) h.0 (pos 0) (length (emitted.children_tables p moves shares (q + 1 + 1) ss)) stack (children ss) todo (m.At q stack n) o s n t (one_at q stack n h.2 ∙ ap (λ y. there y (λ table. m.forked ops code h.0 (pos 0) (length table.children) (q + 1) stack n)) h.1)
-          (slide_follows ex end base below (q + 1) _ stack fs todo (jumps ex (q + 1) _ stack h.3) k) h.5 (inl (ss, h.0, q + 1 + 1, sc, r, refl, h.1, refl, h.4, pl))
-  start_makes call ok bl end base below (Forall x from to d) r sc q stack todo fs o s n t pl h k =
-      makes_bind ex _ (ordinal_gives ex call ok from (rig r) sc q stack fs o s n t (within (λ u i. inr (inl i)) pl) h.2) (λ lo u o1 s1 n1 t1 x1.
-      makes_bind ex _ (ordinal_gives ex call ok to (rig r) sc (after_value q from) (m.Number lo ∷ stack) fs o1 s1 n1 t1 (within (λ u i. inr (inr (inl i))) pl) h.3) (λ hi u2 o2 s2 n2 t2 x2.
+          (slide_follows ex end base below (q + 1) _ stack fs todo (jumps ex (q + 1) _ stack h.3) k) h.5 (inl (ss, h.0, q + 1 + 1, sc, refl, h.1, refl, h.4, pl))
+  start_makes call ok bl end base below (Forall x from to d) sc q stack todo fs o s n t pl h k =
+      makes_bind ex _ (ordinal_gives ex call ok from sc q stack fs o s n t (within (λ u i. inr (inl i)) pl) h.2) (λ lo u o1 s1 n1 t1 x1.
+      makes_bind ex _ (ordinal_gives ex call ok to sc (after_value q from) (m.Number lo ∷ stack) fs o1 s1 n1 t1 (within (λ u i. inr (inr (inl i))) pl) h.3) (λ hi u2 o2 s2 n2 t2 x2.
       forall_makes (After end base below) fs (after_value (after_value q from) to) h.0 x d lo hi stack todo o2 s2 n2 t2 h.4
           (slide_follows ex end base below _ _ stack fs todo (jumps ex _ _ stack h.5) k) h.8 (λ b. inr (x, from, to, d, lo, hi, h.0, after_value (after_value q from) to + 1 + 1, sc, refl, h.1, refl, b, h.6, h.7, pl))))
-  start_makes call ok bl end base below (Assume e) r sc q stack todo fs o s n t pl h k =
-      makes_bind ex _ (ordinal_gives ex call ok e (rig r) sc q stack fs o s n t pl h.0) (λ v u o1 s1 n1 t1 x1.
+  start_makes call ok bl end base below (Assume e) sc q stack todo fs o s n t pl h k =
+      makes_bind ex _ (ordinal_gives ex call ok e sc q stack fs o s n t pl h.0) (λ v u o1 s1 n1 t1 x1.
       assume_makes (After end base below) fs v (after_value q e) stack todo o1 s1 n1 t1 h.1 k)
-  start_makes call ok bl end base below (ReadValue v) r sc q stack todo fs o s n t pl h k =
+  start_makes call ok bl end base below (ReadValue v) sc q stack todo fs o s n t pl h k =
       let ri = aims_input sc fs pl (inl refl) in
-      makes_bind ex _ (address_gives ex call ok v h.0 (rig r) sc q stack fs o s n t (within (λ u i. inr (inl i)) pl) h.2 h.3) (λ a u o1 s1 n1 t1 x1.
+      makes_bind ex _ (address_gives ex call ok v h.0 sc q stack fs o s n t (within (λ u i. inr (inl i)) pl) h.2 h.3) (λ a u o1 s1 n1 t1 x1.
       makes_known ex _ h.1 (kind_known ex a.kind h.0 h.1 x1.0 h.4)
       (makes_known ex (λ bs. bind (or_lost (taken_by h.1 bs)) (λ z. bind (take_in g a z) (λ y. give (Went todo)))) (rest_of ex s1) (left_known ex)
       (reads_makes (After end base below) fs h.1 (after_var q v) a u stack todo o1 s1 n1 t1 ri x1.1 x1.2 (ap (λ y. slice_get p.kinds y) x1.0 ∙ h.4) h.5 k)))
-  start_makes call ok bl end base below ReadLine r sc q stack todo fs o s n t pl h k =
+  start_makes call ok bl end base below ReadLine sc q stack todo fs o s n t pl h k =
       let ri = aims_input sc fs pl (inl refl) in
       let bs = rest_of ex s in
       makes_known ex (λ bs. bind (advance g (line_length bs)) (λ u. give (Went todo))) bs (left_known ex)
-      (record { by = (q + 1, stack, ops.advance (line_length bs) n, fs, goes ops rel w code (one_at q stack n h.0 ∙ ap (λ z. there z (λ bs. Goes (m.At (q + 1) stack (ops.advance (line_length bs) n)))) (law.left t ri)), law.advance t ri (line_length bs), k) })
-  start_makes call ok bl end base below (WriteValue (Typed x form) wd) r sc q stack todo fs o s n t pl h k =
+      (record { by = (q + 1, stack, ops.advance (line_length bs) n, fs, goes ops rel w code (one_at q stack n h ∙ ap (λ z. there z (λ bs. Goes (m.At (q + 1) stack (ops.advance (line_length bs) n)))) (law.left t ri)), law.advance t ri (line_length bs), k) })
+  start_makes call ok bl end base below (WriteValue (Typed x form) wd) sc q stack todo fs o s n t pl h k =
       let ro = aims_output sc fs pl (inl refl) in
-      makes_bind ex _ (ordinal_gives ex call ok (Typed x form) (rig r) sc q stack fs o s n t (within (λ u i. inr (inl i)) pl) h.1) (λ v u o1 s1 n1 t1 x1.
-      width_item call ok end base below h.0 x v wd r sc (after_form q form) stack todo fs o1 s1 n1 t1 (within (λ u i. inr (inr (inl i))) pl) ro h.2 h.3 h.4 h.5 k)
-  start_makes call ok bl end base below (WriteText tx wd) r sc q stack todo fs o s n t pl h k =
+      makes_bind ex _ (ordinal_gives ex call ok (Typed x form) sc q stack fs o s n t (within (λ u i. inr (inl i)) pl) h.1) (λ v u o1 s1 n1 t1 x1.
+      width_item call ok end base below h.0 x v wd sc (after_form q form) stack todo fs o1 s1 n1 t1 (within (λ u i. inr (inr (inl i))) pl) ro h.2 h.3 h.4 h.5 k)
+  start_makes call ok bl end base below (WriteText tx wd) sc q stack todo fs o s n t pl h k =
       let ro = aims_output sc fs pl (inl refl) in
-      width_text call ok end base below tx h.0 wd r sc q stack todo fs o s n t (within (λ u i. inr (inl i)) pl) ro h.1 h.2 h.3 k
-  start_makes call ok bl end base below WriteLine r sc q stack todo fs o s n t pl h k =
+      width_text call ok end base below tx h.0 wd sc q stack todo fs o s n t (within (λ u i. inr (inl i)) pl) ro h.1 h.2 h.3 k
+  start_makes call ok bl end base below WriteLine sc q stack todo fs o s n t pl h k =
       let ro = aims_output sc fs pl (inl refl) in
-      plain_makes (After end base below) fs (q + 1) (10 ∷ []) stack todo (m.At q stack n) o s n t ro (one_at q stack n h.0) k
-  start_makes call ok bl end base below (Open v) r sc q stack todo fs o s n t pl h k =
-      makes_bind ex (λ a. bind who (λ z. bind (assign a (Chan (record { owner = z.name; nth = z.opens }))) (λ u. give (Opened todo)))) (address_gives ex call ok v h.0 (rig r) sc q stack fs o s n t (within (λ u. inl) pl) h.1 h.2) (λ a u o1 s1 n1 t1 x1.
+      plain_makes (After end base below) fs (q + 1) (10 ∷ []) stack todo (m.At q stack n) o s n t ro (one_at q stack n h) k
+  start_makes call ok bl end base below (Open v) sc q stack todo fs o s n t pl h k =
+      makes_bind ex (λ a. bind who (λ z. bind (assign a (Chan (record { owner = z.name; nth = z.opens }))) (λ u. give (Opened todo)))) (address_gives ex call ok v h.0 sc q stack fs o s n t (within (λ u. inl) pl) h.1 h.2) (λ a u o1 s1 n1 t1 x1.
       record { by = (after_var q v + 1, stack, ops.own u n1, fs, m.At (after_var q v) (m.Pointer u ∷ stack) n1, a, u, s1, stays ops rel w code _, one_at (after_var q v) _ n1 h.4 ∙ holds_when (ops.has u 1 n1) _ (law.has_one t1 a u x1.1 x1.2), law.own t1 a u x1.1 x1.2, x1.1, x1.2, refl, k, h.5) })
-  start_makes call ok bl end base below (Send c (Typed x form)) r sc q stack todo fs o s n t pl h k =
-      makes_bind ex _ (value_gives ex call ok c (rig r) sc q stack fs o s n t (within (λ u. inl) pl) h.0) (λ v e o1 s1 n1 t1 x1.
+  start_makes call ok bl end base below (Send c (Typed x form)) sc q stack todo fs o s n t pl h k =
+      makes_bind ex _ (value_gives ex call ok c sc q stack fs o s n t (within (λ u. inl) pl) h.0) (λ v e o1 s1 n1 t1 x1.
       with_channel (After end base below) (kind_of c) v e (λ to. bind (value g call (Typed x form)) (λ z. give (Offered to x (Offers (Tree z)) todo))) (after_value q c) stack o1 s1 n1 h.1 x1 (λ ch1 j nm.
-      makes_bind ex (λ z. give (Offered ch1 x (Offers (Tree z)) todo)) (form_gives ex call ok x form (rig r) sc (after_value q c) (m.Chan j ∷ stack) fs o1 s1 n1 t1 (within (λ u i. inr (inl i)) pl) h.2) (λ v2 e2 o2 s2 n2 t2 x2.
+      makes_bind ex (λ z. give (Offered ch1 x (Offers (Tree z)) todo)) (form_gives ex call ok x form sc (after_value q c) (m.Chan j ∷ stack) fs o1 s1 n1 t1 (within (λ u i. inr (inl i)) pl) h.2) (λ v2 e2 o2 s2 n2 t2 x2.
       record { by = (after_form (after_value q c) form + 1, stack, n2, fs, m.At (after_form (after_value q c) form) (e2 ∷ m.Chan j ∷ stack) n2, Sends j x (cells_in e2), stays ops rel w code _, send_one (after_form (after_value q c) form) x (sort p x) v2 e2 j stack n2 x2 h.3, t2, (j, e2, refl, nm, x2), k, h.4) })))
-  start_makes call ok bl end base below (Receive c v) r sc q stack todo fs o s n t pl h k =
-      makes_bind ex _ (value_gives ex call ok c (rig r) sc q stack fs o s n t (within (λ u. inl) pl) h.1) (λ y e o1 s1 n1 t1 x1.
+  start_makes call ok bl end base below (Receive c v) sc q stack todo fs o s n t pl h k =
+      makes_bind ex _ (value_gives ex call ok c sc q stack fs o s n t (within (λ u. inl) pl) h.1) (λ y e o1 s1 n1 t1 x1.
       with_channel (After end base below) (kind_of c) y e (λ from. bind (address g call v) (λ a. give (Offered from a.kind (Takes a) todo))) (after_value q c) stack o1 s1 n1 h.2 x1 (λ ch1 j nm.
-      makes_bind ex (λ a. give (Offered ch1 a.kind (Takes a) todo)) (address_gives ex call ok v h.0 (rig r) sc (after_value q c) (m.Chan j ∷ stack) fs o1 s1 n1 t1 (within (λ u i. inr (inl i)) pl) h.3 h.4) (λ a u o2 s2 n2 t2 x2.
+      makes_bind ex (λ a. give (Offered ch1 a.kind (Takes a) todo)) (address_gives ex call ok v h.0 sc (after_value q c) (m.Chan j ∷ stack) fs o1 s1 n1 t1 (within (λ u i. inr (inl i)) pl) h.3 h.4) (λ a u o2 s2 n2 t2 x2.
       record { by = (after_var (after_value q c) v + 1, stack, ops.own u n2, fs, m.At (after_var (after_value q c) v) (m.Pointer u ∷ m.Chan j ∷ stack) n2, Receives j h.0 u, stays ops rel w code _, one_at (after_var (after_value q c) v) _ n2 h.5 ∙ holds_when (ops.has u 1 n2) _ (law.has_one t2 a u x2.1 x2.2), law.own t2 a u x2.1 x2.2, receive_is fs ch1 h.0 a u j x2.0 nm x2.1 x2.2, k, h.6) })))

@@ -35,7 +35,7 @@ use Rattle.sp_code.specs.Turns.{Comes}
 use Rattle.sp_code.specs.Scopes.{Sort, Ordinals, Channels, Many, NoSort, Scope, sort, sort_by, slot, level, is_given, scopes_of}
 use Rattle.sp_code.specs.Scopes as places
 use Rattle.sp_code.specs.Places.{after_value, after}
-use Rattle.sp_code.specs.Stands.{Rights, Stands, HasFork, HasWords, StandsAt, TurnsAt, CallAt, Around}
+use Rattle.sp_code.specs.Stands.{Stands, HasFork, HasWords, StandsAt, TurnsAt, CallAt, Around}
 use Rattle.sp_codegen.specs.Joints.{Joint, sources, from, up_at, Chain}
 use Rattle.sp_codegen.specs.Shapes.{CellIs}
 use Rattle.sp_codegen.specs.Executions.{Execution}
@@ -43,8 +43,8 @@ use Rattle.sp_codegen.specs.Relation.{Relation, Keeps, Placed, Stood, OneCell, E
 use Rattle.sp_codegen.proofs.Runs.{Breaks, Gives, Known, Ends, ends_after, stays, goes, comes_on, breaks_after, gives_after, gives_bind, gives_known, known_bind, gives_give, gives_by}
 use Rattle.sp_codegen.proofs.Chains.{block_agrees, Found, found, seek_all}
 use Rattle.sp_codegen.proofs.Values.{P, pushed, within, CallsMeet, ordinal_gives, kind_known, or_known, fetch_known, visible_known, Top, checked_as, read_as}
-use Rattle.sp_codegen.proofs.Follows.{Origin, Of_block, Slides, slides, Follows, push_follows, outside_follows, Makes, Made, made_after, makes_after, makes_bind, makes_known, makes_by, makes_went}
-use Rattle.sp_codegen.proofs.Steps.{C, G, K, S, Pl, Oks, After, rig, one_at, went_if, branch, makes_assoc, ForPlace, for_place, turn_makes, first_one, start_makes, BlockIs, Blocks, calls_to, CallFinds, call_finds, return_at, address_known, mine_known}
+use Rattle.sp_codegen.proofs.Follows.{Slides, slides, Follows, push_follows, outside_follows, Makes, Made, made_after, makes_after, makes_bind, makes_known, makes_by, makes_went}
+use Rattle.sp_codegen.proofs.Steps.{C, G, K, S, Pl, Oks, After, one_at, went_if, branch, makes_assoc, ForPlace, for_place, turn_makes, first_one, start_makes, BlockIs, Blocks, calls_to, CallFinds, call_finds, return_at, address_known, mine_known}
 
 abbrev IsTrue : Bool → Type 0
 IsTrue true = ⊥
@@ -61,7 +61,7 @@ kind_of_sort None e = absurd (subst IsOrdinals (sym e) tt)
 kind_of_sort (Some ty) e = (ty, refl)
 
 module _ {M : Type 0} (ex : Execution M) where
-  open ex use {setting as g, code, moves, shares, Quiet as hush, needs, who as w, due, Writes as W, Reads as R, operations as ops, relation as rel, laws as law, reads_written as reads, own_written as mine_written}
+  open ex use {setting as g, code, moves, shares, Quiet as hush, who as w, due, Writes as W, Reads as R, operations as ops, relation as rel, laws as law, reads_written as reads, own_written as mine_written}
 
   abbrev p : Program
   p = g.program
@@ -133,10 +133,10 @@ module _ {M : Type 0} (ex : Execution M) where
       j = after p (h.0 + 1 + 1) d
 
       z : FP fs x n o s
-      z = for_place ex h.6.0 h.1 x t h.5 (inl refl) h.6.1.0
+      z = for_place ex h.1 x t h.5 (inl refl) h.6.0
 
       at_end : one ops code (m.At j (m.Number hi ∷ h.2) n) ≡ ordinal_in (ops.look z.cell n) (λ v. if is_before down v hi then Goes (m.At (q + 1) (m.Number hi ∷ h.2) (ops.put z.cell (cell.Ordinal (next_value down v)) n)) else Goes (m.At (j + 1) h.2 n))
-      at_end = next_one down j (q + 1) x h.2 n hi h.6.1.4 z.cell z.at (law.has_one t z.address z.cell z.points z.may)
+      at_end = next_one down j (q + 1) x h.2 n hi h.6.4 z.cell z.at (law.has_one t z.address z.cell z.points z.may)
 
       peeked : Known ops rel w code o s (peek g x) (held z)
       peeked = known_bind ops rel w code (λ y. bind (address_of g y) fetch) (At z.address) (held z) z.known (known_bind ops rel w code fetch z.address (held z) (address_known ex z.address) (fetch_known ex z.address))
@@ -159,10 +159,10 @@ module _ {M : Type 0} (ex : Execution M) where
       go (Ordinal a) e c oi ge k = by_test a e (ge ∙ cell_is a c (subst (λ y. CellIs rel.Named y c) e oi) (λ v. if is_before down v hi then Goes (m.At (q + 1) (m.Number hi ∷ h.2) (ops.put z.cell (cell.Ordinal (next_value down v)) n)) else Goes (m.At (j + 1) h.2 n))) k (is_before down a hi) refl
 
   -- the next value of a for loop
-  again_makes : (end : ℕ) (base : List Entry) (below : List Joint) (x : ℕ) (hi : ℤ) (down : Bool) (d : Stmt) (sc : List Scope) (q : ℕ) (st : List Entry) (todo : List Item) (fs : List Joint) (o : Own) (s : Store) (n : M) → rel.Stand fs o s n → Pl ex sc fs (In_loop x d) → (r : Origin) → TurnsAt p moves shares (Stands code) (HasFork code) (HasWords code) hush needs (rig ex r) sc q x down (after p (q + 1 + 1) d) (S ex (outside st) r sc (q + 1 + 1) d)
+  again_makes : (end : ℕ) (base : List Entry) (below : List Joint) (x : ℕ) (hi : ℤ) (down : Bool) (d : Stmt) (sc : List Scope) (q : ℕ) (st : List Entry) (todo : List Item) (fs : List Joint) (o : Own) (s : Store) (n : M) → rel.Stand fs o s n → Pl ex sc fs (In_loop x d) → TurnsAt p moves shares (Stands code) (HasFork code) (HasWords code) hush sc q x down (after p (q + 1 + 1) d) (S ex (outside st) sc (q + 1 + 1) d)
       → F end base below (after p (q + 1 + 1) d + 1) st fs todo → (z : FP fs x n o s) → goes_on down hi (held z) ≡ true
       → Ka end base below (m.At (after p (q + 1 + 1) d) (m.Number hi ∷ st) n) o s (bind (place_of g x) (λ y. bind (read_at g y) (λ v. bind (ordinal v) (λ a. turn_of g x (next_value down a) hi down d todo))))
-  again_makes end base below x hi down d sc q st todo fs o s n t pl r h k z gz =
+  again_makes end base below x hi down d sc q st todo fs o s n t pl h k z gz =
       let ty = kind_of_sort (slice_get p.kinds z.address.kind) z.sorted in
       makes_known ex (λ y. bind (read_at g y) rest) (At z.address) z.known
       (makes_assoc ex (kind_at g z.address.kind) (λ u. bind (fetch z.address) (checked u)) rest
@@ -190,27 +190,27 @@ module _ {M : Type 0} (ex : Execution M) where
       go (Chan y) e (cell.Channel a) oi ge = fails (Chan y) refl ge
       go (Parts y) e u oi ge = absurd oi
       go (Ordinal a) e u oi ge =
-          turn_makes ex end base below x (next_value down a) hi down d sc q st todo fs c o s n t pl r h k z
+          turn_makes ex end base below x (next_value down a) hi down d sc q st todo fs c o s n t pl h k z
               (ge ∙ cell_is a u oi (λ a. if is_before down a hi then Goes (m.At (q + 1) (m.Number hi ∷ st) (ops.put z.cell (cell.Ordinal (next_value down a)) n)) else Goes (m.At (after p (q + 1 + 1) d + 1) st n)) ∙ ap (λ b. if b then Goes (m.At (q + 1) (m.Number hi ∷ st) (ops.put z.cell (cell.Ordinal (next_value down a)) n)) else Goes (m.At (after p (q + 1 + 1) d + 1) st n)) e)
 
   -- what is first, where the machine stands before it
   act_makes : (call : Calls) → Oks ex call → Blocks ex → (end : ℕ) (base : List Entry) (below : List Joint) (item : Item) (pc : ℕ) (stack : List Entry) (todo : List Item) (fs : List Joint) (o : Own) (s : Store) (n : M) → rel.Stand fs o s n → F end base below pc stack fs (item ∷ todo) → Ready fs o s n (item ∷ todo)
       → Ka end base below (m.At pc stack n) o s (act g call item todo)
   act_makes call ok bl end base below (Do d) pc stack todo fs o s n t h r =
-      makes_after ex (h.2.by n) (start_makes ex call ok bl end base below d h.4.0 h.1 h.0 stack todo fs o s n t h.3 h.4.1 h.5)
+      makes_after ex (h.2.by n) (start_makes ex call ok bl end base below d h.1 h.0 stack todo fs o s n t h.3 h.4 h.5)
   act_makes call ok bl end base below (First x lo hi down d) pc stack todo fs o s n t h r =
-      let z = for_place ex h.6.0 h.1 x t h.5 (inl refl) h.6.1.0 in
+      let z = for_place ex h.1 x t h.5 (inl refl) h.6.0 in
       makes_after ex (h.3.by n) (subst (λ y. Ka end base below (m.At h.0 y n) o s (turn_of g x lo hi down d todo)) (sym h.4)
-          (turn_makes ex end base below x lo hi down d h.1 h.0 h.2 todo fs (m.At h.0 (m.Number hi ∷ m.Number lo ∷ h.2) n) o s n t h.5 h.6.0 h.6.1 h.7 z
-              (first_one ex down h.0 (after p (h.0 + 1 + 1) d + 1) x h.2 n lo hi h.6.1.1 z.cell z.at (law.has_one t z.address z.cell z.points z.may) ∙ ap (λ b. if b then Goes (m.At (h.0 + 1) (m.Number hi ∷ h.2) (ops.put z.cell (cell.Ordinal lo) n)) else Goes (m.At (after p (h.0 + 1 + 1) d + 1) h.2 n)) h.8)))
+          (turn_makes ex end base below x lo hi down d h.1 h.0 h.2 todo fs (m.At h.0 (m.Number hi ∷ m.Number lo ∷ h.2) n) o s n t h.5 h.6 h.7 z
+              (first_one ex down h.0 (after p (h.0 + 1 + 1) d + 1) x h.2 n lo hi h.6.1 z.cell z.at (law.has_one t z.address z.cell z.points z.may) ∙ ap (λ b. if b then Goes (m.At (h.0 + 1) (m.Number hi ∷ h.2) (ops.put z.cell (cell.Ordinal lo) n)) else Goes (m.At (after p (h.0 + 1 + 1) d + 1) h.2 n)) h.8)))
   act_makes call ok bl end base below (Again x hi down d) pc stack todo fs o s n t h r =
       makes_after ex (h.3.by n) (subst (λ y. Ka end base below (m.At (after p (h.0 + 1 + 1) d) y n) o s (act g call (Again x hi down d) todo)) (sym h.4)
-          (again_makes end base below x hi down d h.1 h.0 h.2 todo fs o s n t h.5 h.6.0 h.6.1 h.7 r.0 r.1))
+          (again_makes end base below x hi down d h.1 h.0 h.2 todo fs o s n t h.5 h.6 h.7 r.0 r.1))
   act_makes call ok bl end base below (Test d e) pc stack todo fs o s n t h r =
       makes_after ex (h.2.by n)
-      (makes_bind ex _ (ordinal_gives ex call ok e (rig ex h.4.0) h.1 (after p (h.0 + 1) d) stack fs o s n t (within (λ u. inl) h.3) h.4.1.2) (λ v u o1 s1 n1 t1 x1.
+      (makes_bind ex _ (ordinal_gives ex call ok e h.1 (after p (h.0 + 1) d) stack fs o s n t (within (λ u. inl) h.3) h.4.2) (λ v u o1 s1 n1 t1 x1.
       makes_by ex (went_if ex (int_le v (pos 0)) (Do (Repeat d e) ∷ todo) todo)
-          (branch ex (After ex end base below) v (after_value (after p (h.0 + 1) d) e) h.0 stack o1 s1 n1 _ _ h.4.1.3
+          (branch ex (After ex end base below) v (after_value (after p (h.0 + 1) d) e) h.0 stack o1 s1 n1 _ _ h.4.3
               (makes_went ex (Do (Repeat d e) ∷ todo) fs _ stack n1 (stays ops rel w code _) t1 (h.0, h.1, slides ex _ _, h.3, h.4, h.5))
               (makes_went ex todo fs _ stack n1 (stays ops rel w code _) t1 h.5))))
   act_makes call ok bl end base below Leave pc stack todo fs o s n t h r =
@@ -322,7 +322,7 @@ module _ {M : Type 0} (ex : Execution M) where
   pub call_meets : Blocks ex → (go : List Item → Work (List Item)) → AllMeets go → Oks ex (call_by g go)
   call_meets bl go ih = record { by = λ f args b sc q k stack fs o s n t pl ca ans ek gs es gv ga. function_gives f args b sc q k stack fs o s n t pl ca ans ek gs es gv ga (bl f b ca.1) }
     where
-      function_gives : (f : ℕ) (args : Actuals) (b : Block) (sc : List Scope) (q k : ℕ) (stack : List Entry) (fs : List Joint) (o : Own) (s : Store) (n : M) → rel.Stand fs o s n → Pl ex sc fs (In_call f args) → CallAt p moves shares (Stands code) (HasFork code) (HasWords code) hush needs sc q f b → ((x : ℕ) × (b.answer ≡ Some x)) → sort p k ≡ Ordinals
+      function_gives : (f : ℕ) (args : Actuals) (b : Block) (sc : List Scope) (q k : ℕ) (stack : List Entry) (fs : List Joint) (o : Own) (s : Store) (n : M) → rel.Stand fs o s n → Pl ex sc fs (In_call f args) → CallAt p moves shares (Stands code) (HasFork code) (HasWords code) hush sc q f b → ((x : ℕ) × (b.answer ≡ Some x)) → sort p k ≡ Ordinals
           → (gs : List Given) (es : List Entry) → GivensAre rel p fs b.formals gs es → Gave p (sources fs) args gs → (z : BlockIs ex f b) → G ex fs (m.At q (pushed es stack) n) o s (q + 1) (Top ex stack) (StK k) (call_by g go f gs)
       function_gives f args b sc q k stack fs o s n t pl ca ans ek gs es gv ga z =
           record { by = subst (Ends ops rel w code fs c (q + 1) (Top ex stack) (StK k)) (sym (run_bind (enter g f gs) body w o s)) (by_enter (run (enter g f gs) w o s) r.did r.entered r.goes) }
@@ -373,14 +373,14 @@ module _ {M : Type 0} (ex : Execution M) where
               let a = z.stands.answer ans.0 ans.1 in
               let hh : fr.source.home ≡ OfBlock f = ap (λ (y : Frame). y.home) ej in
               let ow : fr.source.owner ≡ w.name = ap (λ (y : Frame). y.owner) ej in
-              gives_bind ops rel w code (ih.by end st (fr ∷ fs) refl (push b.body []) l.entry st (fr ∷ fs) o1 s1 n1 t1 (push_follows ex b.body end st (fr ∷ fs) (scopes_of p f) l.entry st (fr ∷ fs) [] pl1 (Of_block f) (z.stands.body false (z.stands.hushed ans.0 ans.1)) (slides ex _ _, refl, refl))) (λ rest u o2 s2 n2 t2 x.
+              gives_bind ops rel w code (ih.by end st (fr ∷ fs) refl (push b.body []) l.entry st (fr ∷ fs) o1 s1 n1 t1 (push_follows ex b.body end st (fr ∷ fs) (scopes_of p f) l.entry st (fr ∷ fs) [] pl1 (z.stands.body false (z.stands.hushed ans.0 ans.1)) (slides ex _ _, refl, refl))) (λ rest u o2 s2 n2 t2 x.
               let re = law.result t2 b f ans.0 a.0 hh ca.1 ans.1 a.1 a.2 a.3 in
               gives_by ops rel w code (ap (λ y. bind (answer_of g y) (λ v. bind (leave g) (λ u. give v))) ans.1)
               (gives_assoc (place_of g ans.0) (read_at g) (λ v. bind (leave g) (λ u. give v))
               (gives_known ops rel w code (λ y. bind (read_at g y) (λ v. bind (leave g) (λ u. give v))) (At (in_frame g ans.0 a.0 fr.source)) (answer_place f ans.0 (drop ca.0 sc) a.0 t2 (subst (λ y. Chain y (fr ∷ fs)) scoped pl1.chain) a.1 a.2 a.3)
               (at_answer fr a.0 re.0 a.4 o2 s2 n2 t2 mi ow re.1 re.2))))
             where
-              around_at : (y : Option ℕ) → b.parent ≡ y → Around p moves shares (Stands code) (HasFork code) (HasWords code) hush needs sc f y ca.0 → scopes_of p f ≡ places.OfBlock f ∷ drop ca.0 sc
+              around_at : (y : Option ℕ) → b.parent ≡ y → Around p moves shares (Stands code) (HasFork code) (HasWords code) hush sc f y ca.0 → scopes_of p f ≡ places.OfBlock f ∷ drop ca.0 sc
               around_at None e x = absurd x
               around_at (Some c1) e x = x.1
 

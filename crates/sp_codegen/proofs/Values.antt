@@ -41,7 +41,7 @@ use Rattle.sp_code.specs.Scopes.{Sort, Ordinals, Channels, Many, NoSort, Scope, 
 use Rattle.sp_code.specs.Scopes as places
 use Rattle.sp_code.specs.Places.{after_value, after_form, after_var, after_selectors, after_actuals, after_unary, after_standard}
 use Rattle.sp_code.specs.Emitted.{binary_instr}
-use Rattle.sp_code.specs.Stands.{Rights, Stands, HasFork, HasWords, VarRole, VarAt, NoIndex, IsTarget, ReadAt, UnaryAt, Operands, StandardAt, InputAt, CallAt, Formal, TakesChannels, ValueAt, FormAt, PlaceAt, SelectedAt, ActualsAt, OrdinalAt, Covers}
+use Rattle.sp_code.specs.Stands.{Stands, HasFork, HasWords, VarRole, VarAt, NoIndex, IsTarget, ReadAt, UnaryAt, Operands, StandardAt, InputAt, CallAt, Formal, TakesChannels, ValueAt, FormAt, PlaceAt, SelectedAt, ActualsAt, OrdinalAt}
 use Rattle.sp_codegen.specs.Joints.{Joint, sources, up_at, Chain}
 use Rattle.sp_codegen.specs.Shapes.{CellIs, Flat}
 use Rattle.sp_codegen.specs.Executions.{Execution}
@@ -88,7 +88,7 @@ pub within : {g : Setting} {W R : Loc → Type 0} {J : ℕ → Type 0} {sc : Lis
 within f pl = record { chain = pl.chain; linked = pl.linked; sound = part f pl.sound; indexes = λ x up h. pl.indexes x up (f (Sees x) h) }
 
 module _ {M : Type 0} (ex : Execution M) where
-  open ex use {setting as g, code, moves, shares, Quiet as hush, needs, who as w, Writes as W, Reads as R, Indexes as J, operations as ops, relation as rel, laws as law, reads_written as reads, free}
+  open ex use {setting as g, code, moves, shares, Quiet as hush, who as w, Writes as W, Reads as R, Indexes as J, operations as ops, relation as rel, laws as law, reads_written as reads, free}
 
   abbrev p : Program
   p = g.program
@@ -138,7 +138,7 @@ module _ {M : Type 0} (ex : Execution M) where
       → G js c o s pc2 st2 F2 (bind (as_ordinal h) gg)
   with_ordinal k stack h gg e hh next = gives_bind ops rel w code (as_ordinal_gives k stack h e hh) (λ v u o1 s1 n1 t1 x. next v o1 s1 n1 t1)
 
-  unary_gives : {js : List Joint} {o : Own} {s : Store} (op : UnaryOp) (q k : ℕ) (stack : List Entry) (v : ℤ) (n : M) → rel.Stand js o s n → sort p k ≡ Ordinals → UnaryAt p moves shares (Stands code) (HasFork code) (HasWords code) hush needs q op
+  unary_gives : {js : List Joint} {o : Own} {s : Store} (op : UnaryOp) (q k : ℕ) (stack : List Entry) (v : ℤ) (n : M) → rel.Stand js o s n → sort p k ≡ Ordinals → UnaryAt p moves shares (Stands code) (HasFork code) (HasWords code) hush q op
       → G js (m.At q (m.Number v ∷ stack) n) o s (after_unary op q) (Top stack) (St k) (work_of (unary_op op v))
   unary_gives unary.Plus q k stack v n t e h = gives_give ops rel w code (Ordinal v) (m.Number v) (stays ops rel w code _) t (subst (λ z. Stood rel p z k (Ordinal v) (m.Number v)) (sym e) (v, refl, refl))
   unary_gives unary.Minus q k stack v n t e h = worked_gives (m.At q (m.Number v ∷ stack) n) (q + 1) k stack n t e (unary_op unary.Minus v) (at_one q (m.Number v ∷ stack) n h)
@@ -203,7 +203,7 @@ module _ {M : Type 0} (ex : Execution M) where
   binary_gives op q k ka kb stack Many y u v d e n t a b z r h = absurd z
   binary_gives op q k ka kb stack NoSort y u v d e n t a b z r h = absurd z
 
-  standard_gives : {js : List Joint} {o : Own} {s : Store} (f : StandardFn) (q k : ℕ) (ty : KindOf) (stack : List Entry) (v : ℤ) (n : M) → rel.Stand js o s n → sort p k ≡ Ordinals → StandardAt p moves shares (Stands code) (HasFork code) (HasWords code) hush needs q f ty
+  standard_gives : {js : List Joint} {o : Own} {s : Store} (f : StandardFn) (q k : ℕ) (ty : KindOf) (stack : List Entry) (v : ℤ) (n : M) → rel.Stand js o s n → sort p k ≡ Ordinals → StandardAt p moves shares (Stands code) (HasFork code) (HasWords code) hush q f ty
       → G js (m.At q (m.Number v ∷ stack) n) o s (after_standard f q) (Top stack) (St k) (standard_op f ty v)
   standard_gives standard.Abs q k ty stack v n t e h = worked_gives _ (q + 1) k stack n t e (absolute v) (at_one q (m.Number v ∷ stack) n h)
   standard_gives standard.Sqr q k ty stack v n t e h = worked_gives _ (q + 1) k stack n t e (square v) (at_one q (m.Number v ∷ stack) n h)
@@ -222,7 +222,7 @@ module _ {M : Type 0} (ex : Execution M) where
   pub left_known : {o : Own} {s : Store} → Known ops rel w code o s (left_of g) (rest_of s)
   left_known = record { by = refl }
 
-  input_gives : {js : List Joint} {o : Own} {s : Store} (f : StandardFn) (q k : ℕ) (stack : List Entry) (n : M) → rel.Stand js o s n → R Input → sort p k ≡ Ordinals → InputAt p moves shares (Stands code) (HasFork code) (HasWords code) hush needs q f
+  input_gives : {js : List Joint} {o : Own} {s : Store} (f : StandardFn) (q k : ℕ) (stack : List Entry) (n : M) → rel.Stand js o s n → R Input → sort p k ≡ Ordinals → InputAt p moves shares (Stands code) (HasFork code) (HasWords code) hush q f
       → G js (m.At q stack n) o s (q + 1) (Top stack) (St k) (input_op f (rest_of s))
   input_gives standard.Abs q k stack n t r e h = absurd h
   input_gives standard.Sqr q k stack n t r e h = absurd h
@@ -251,8 +251,8 @@ module _ {M : Type 0} (ex : Execution M) where
   pub may_see : {Here : Use → Type 0} (sc : List Scope) (js : List Joint) (x : ℕ) → P sc js Here → Here (Sees x) → MayRead sc js x
   may_see sc js x pl h = record { location = λ l e. pl.sound.allowed [] (Sees x) h x l (refl, e); index = λ v ev er up lv j rest e. pl.indexes x up h lv j rest e }
 
-  pub may_aim : {Here : Use → Type 0} (holds : Rights) (sc : List Scope) (js : List Joint) (x : ℕ) (ss : Selectors) → P sc js Here → Here (Aims x) → IsTarget p moves shares (Stands code) (HasFork code) (HasWords code) hush needs holds (Entire x ss) → MayRead sc js x
-  may_aim holds sc js x ss pl h ta = record {
+  pub may_aim : {Here : Use → Type 0} (sc : List Scope) (js : List Joint) (x : ℕ) (ss : Selectors) → P sc js Here → Here (Aims x) → IsTarget p moves shares (Stands code) (HasFork code) (HasWords code) hush (Entire x ss) → MayRead sc js x
+  may_aim sc js x ss pl h ta = record {
     location = λ l e. reads l (pl.sound.allowed [] (Aims x) h x l (refl, e));
     index = λ v ev er up lv j rest e. let d = same_some ta.0 v ta.1 ev in absurd (subst NoIndex (ap (λ (y : Variable). y.role) d ∙ er) ta.2);
   }
@@ -283,9 +283,9 @@ module _ {M : Type 0} (ex : Execution M) where
   index_home x (OfIndex y v) e = let z : y ≡ x = Prim.grind (arith, nat_tests, e) in (v, ap (λ u. OfIndex u v) z)
 
   -- an entire variable
-  pub var_gives : {js : List Joint} {o : Own} {s : Store} (holds : Rights) (sc : List Scope) (q x k : ℕ) (stack : List Entry) (n : M) → rel.Stand js o s n → Chain sc js → MayRead sc js x → VarAt p moves shares (Stands code) (HasFork code) (HasWords code) hush needs holds sc q x k
+  pub var_gives : {js : List Joint} {o : Own} {s : Store} (sc : List Scope) (q x k : ℕ) (stack : List Entry) (n : M) → rel.Stand js o s n → Chain sc js → MayRead sc js x → VarAt p moves shares (Stands code) (HasFork code) (HasWords code) hush sc q x k
       → G js (m.At q stack n) o s (q + 1) (PlaceTop stack) (PlaceIs js x k) (place_of g x)
-  var_gives {js} {o} {s} holds sc q x k stack n t ch may h =
+  var_gives {js} {o} {s} sc q x k stack n t ch may h =
       gives_known ops rel w code (λ i. place_by g x i i.role) h.0 (or_known (slice_get p.variables x) h.0 h.1) (by_role h.0.role refl h.3)
     where
       v : Variable
@@ -294,7 +294,7 @@ module _ {M : Type 0} (ex : Execution M) where
       Goal : Role → Type 0
       Goal r = G js (m.At q stack n) o s (q + 1) (PlaceTop stack) (PlaceIs js x k) (place_by g x v r)
 
-      by_role : (r : Role) → v.role ≡ r → VarRole p moves shares (Stands code) (HasFork code) (HasWords code) hush needs sc q x v r → Goal r
+      by_role : (r : Role) → v.role ≡ r → VarRole p moves shares (Stands code) (HasFork code) (HasWords code) hush sc q x v r → Goal r
       by_role role.Console er z = absurd z
       by_role role.Local er z = own_gives sc q x k stack n t ch may v h.1 h.2 (subst Owns (sym er) tt) (λ f. ap (stands_by (sources js) x v) er) z.0 z.1 z.2
       by_role role.Value er z = own_gives sc q x k stack n t ch may v h.1 h.2 (subst Owns (sym er) tt) (λ f. ap (stands_by (sources js) x v) er) z.0 z.1 z.2
@@ -415,12 +415,12 @@ module _ {M : Type 0} (ex : Execution M) where
       go None e h = absurd h
       go (Some ty) e h = (ty, e)
 
-  pub read_gives : {js : List Joint} {o : Own} {s : Store} (q x k : ℕ) (stack : List Entry) (pl : Place) (a : Ptr) (n : M) → rel.Stand js o s n → PlaceIs js x k pl a → ReadAt p moves shares (Stands code) (HasFork code) (HasWords code) hush needs q k (sort p k)
+  pub read_gives : {js : List Joint} {o : Own} {s : Store} (q x k : ℕ) (stack : List Entry) (pl : Place) (a : Ptr) (n : M) → rel.Stand js o s n → PlaceIs js x k pl a → ReadAt p moves shares (Stands code) (HasFork code) (HasWords code) hush q k (sort p k)
       → G js (m.At q (m.Pointer a ∷ stack) n) o s (q + 1) (Top stack) (St k) (read_at g pl)
   read_gives {js} {o} {s} q x k stack (Fixed z) a n t pi h =
       let l = law.load_index t z a pi.1 in
       gives_give ops rel w code (Ordinal z) (m.Number z)
-          (goes ops rel w code (at_one q (m.Pointer a ∷ stack) n (subst (ReadAt p moves shares (Stands code) (HasFork code) (HasWords code) hush needs q k) pi.0 h) ∙ selects (ops.has a 1 n) _ l.0 ∙ ap (λ y. ordinal_in y (λ u. Goes (m.At (q + 1) (m.Number u ∷ stack) n))) l.1))
+          (goes ops rel w code (at_one q (m.Pointer a ∷ stack) n (subst (ReadAt p moves shares (Stands code) (HasFork code) (HasWords code) hush q k) pi.0 h) ∙ selects (ops.has a 1 n) _ l.0 ∙ ap (λ y. ordinal_in y (λ u. Goes (m.At (q + 1) (m.Number u ∷ stack) n))) l.1))
           t (subst (λ y. Stood rel p y k (Ordinal z) (m.Number z)) (sym pi.0) (z, refl, refl))
   read_gives {js} {o} {s} q x k stack (At b) a n t pi h = by_sort (sort p k) refl h
     where
@@ -443,7 +443,7 @@ module _ {M : Type 0} (ex : Execution M) where
       one_cell : (z : Sort) → sort p k ≡ z → OneCell z → OneCell (sort p b.kind)
       one_cell z e h = subst OneCell (sym (same_sort ∙ e)) h
 
-      by_sort : (z : Sort) → sort p k ≡ z → ReadAt p moves shares (Stands code) (HasFork code) (HasWords code) hush needs q k z → G js c o s (q + 1) (Top stack) (St k) (read_at g (At b))
+      by_sort : (z : Sort) → sort p k ≡ z → ReadAt p moves shares (Stands code) (HasFork code) (HasWords code) hush q k z → G js c o s (q + 1) (Top stack) (St k) (read_at g (At b))
       by_sort Ordinals e h = from_kind Ordinals e tt (ordinal_cell (q + 1) k stack c n t e v (ops.look a n) (law.load t b a pi.1 pi.2 (one_cell Ordinals e tt)) (at_one q (m.Pointer a ∷ stack) n h ∙ selects (ops.has a 1 n) _ (law.has_one t b a pi.1 pi.2)))
       by_sort Channels e h = from_kind Channels e tt (channel_cell (q + 1) k stack c n t e v (ops.look a n) (law.load t b a pi.1 pi.2 (one_cell Channels e tt)) (at_one q (m.Pointer a ∷ stack) n h ∙ selects (ops.has a 1 n) _ (law.has_one t b a pi.1 pi.2)))
       by_sort Many e h =
@@ -453,14 +453,14 @@ module _ {M : Type 0} (ex : Execution M) where
 
   -- the machine calls a function as the meaning does
   pub record CallsMeet (call : Calls) : Type 0 where
-    pub by : (f : ℕ) (args : Actuals) (b : Block) (sc : List Scope) (q k : ℕ) (stack : List Entry) (js : List Joint) (o : Own) (s : Store) (n : M) → rel.Stand js o s n → P sc js (In_call f args) → CallAt p moves shares (Stands code) (HasFork code) (HasWords code) hush needs sc q f b → ((x : ℕ) × (b.answer ≡ Some x)) → sort p k ≡ Ordinals
+    pub by : (f : ℕ) (args : Actuals) (b : Block) (sc : List Scope) (q k : ℕ) (stack : List Entry) (js : List Joint) (o : Own) (s : Store) (n : M) → rel.Stand js o s n → P sc js (In_call f args) → CallAt p moves shares (Stands code) (HasFork code) (HasWords code) hush sc q f b → ((x : ℕ) × (b.answer ≡ Some x)) → sort p k ≡ Ordinals
         → (gs : List Given) (es : List Entry) → GivensAre rel p js b.formals gs es → Gave p (sources js) args gs → G js (m.At q (pushed es stack) n) o s (q + 1) (Top stack) (St k) (call f gs)
 
   -- it is no index
-  pub target_gives : {js : List Joint} {o : Own} {s : Store} {c : Config M} {n : M} (holds : Rights) (q k : ℕ) (stack : List Entry) (x : ℕ) (ss : Selectors) (pl : Place) (a : Ptr) → Comes ops code c (m.At q (m.Pointer a ∷ stack) n) → rel.Stand js o s n → PlaceIs js x k pl a → IsTarget p moves shares (Stands code) (HasFork code) (HasWords code) hush needs holds (Entire x ss)
+  pub target_gives : {js : List Joint} {o : Own} {s : Store} {c : Config M} {n : M} (q k : ℕ) (stack : List Entry) (x : ℕ) (ss : Selectors) (pl : Place) (a : Ptr) → Comes ops code c (m.At q (m.Pointer a ∷ stack) n) → rel.Stand js o s n → PlaceIs js x k pl a → IsTarget p moves shares (Stands code) (HasFork code) (HasWords code) hush (Entire x ss)
       → G js c o s q (λ (b : Address) (u : Ptr). m.Pointer u ∷ stack) (λ b u. (b.kind ≡ k) × rel.Points js b u × R b.spot × (stands p (sources js) x ≡ Some b.spot)) (address_of g pl)
-  target_gives holds q k stack x ss (At b) a c t pi h = gives_give ops rel w code b a c t pi
-  target_gives holds q k stack x ss (Fixed z) a c t pi h =
+  target_gives q k stack x ss (At b) a c t pi h = gives_give ops rel w code b a c t pi
+  target_gives q k stack x ss (Fixed z) a c t pi h =
       let e = same_some h.0 pi.2.0 h.1 pi.2.1 in
       absurd (subst NoIndex (ap (λ (y : Variable). y.role) e ∙ pi.2.2) h.2)
 
@@ -472,68 +472,68 @@ module _ {M : Type 0} (ex : Execution M) where
   input_read sc js pl a = pl.sound.allowed [] (Sees 0) a 0 Input (refl, at_console js 0 free.input)
 
   mutual
-    pub value_gives : (call : Calls) → CallsMeet call → (e : Expr) (holds : Rights) (sc : List Scope) (q : ℕ) (stack : List Entry) (js : List Joint) (o : Own) (s : Store) (n : M) → rel.Stand js o s n → P sc js (In_expr e) → ValueAt p moves shares (Stands code) (HasFork code) (HasWords code) hush needs holds sc q e
+    pub value_gives : (call : Calls) → CallsMeet call → (e : Expr) (sc : List Scope) (q : ℕ) (stack : List Entry) (js : List Joint) (o : Own) (s : Store) (n : M) → rel.Stand js o s n → P sc js (In_expr e) → ValueAt p moves shares (Stands code) (HasFork code) (HasWords code) hush sc q e
         → G js (m.At q stack n) o s (after_value q e) (Top stack) (St (kind_of e)) (value g call e)
-    value_gives call ok (Typed k form) holds sc q stack js o s n t pl h = form_gives call ok k form holds sc q stack js o s n t pl h
+    value_gives call ok (Typed k form) sc q stack js o s n t pl h = form_gives call ok k form sc q stack js o s n t pl h
 
-    pub form_gives : (call : Calls) → CallsMeet call → (k : ℕ) (form : ExprForm) (holds : Rights) (sc : List Scope) (q : ℕ) (stack : List Entry) (js : List Joint) (o : Own) (s : Store) (n : M) → rel.Stand js o s n → P sc js (In_form form) → FormAt p moves shares (Stands code) (HasFork code) (HasWords code) hush needs holds sc q k form
+    pub form_gives : (call : Calls) → CallsMeet call → (k : ℕ) (form : ExprForm) (sc : List Scope) (q : ℕ) (stack : List Entry) (js : List Joint) (o : Own) (s : Store) (n : M) → rel.Stand js o s n → P sc js (In_form form) → FormAt p moves shares (Stands code) (HasFork code) (HasWords code) hush sc q k form
         → G js (m.At q stack n) o s (after_form q form) (Top stack) (St k) (form_value g call k form)
-    form_gives call ok k (Number v) holds sc q stack js o s n t pl h = worked_gives (m.At q stack n) (q + 1) k stack n t h.1 (Yields v) (at_one q stack n h.0)
-    form_gives call ok k (Read (Entire x ss)) holds sc q stack js o s n t pl h =
-        gives_bind ops rel w code (place_gives call ok (Entire x ss) k holds sc q stack js o s n t (within (λ u. inr) pl) (may_see sc js x pl (inl refl)) h.0) (λ z a o1 s1 n1 t1 pi. read_gives (after_selectors (q + 1) ss) x k stack z a n1 t1 pi h.1)
-    form_gives call ok k (Unary op a) holds sc q stack js o s n t pl h =
-        with_ordinal (kind_of a) stack _ _ h.1 (value_gives call ok a holds sc q stack js o s n t pl h.0) (λ v o1 s1 n1 t1. unary_gives op (after_value q a) k stack v n1 t1 h.2 h.3)
-    form_gives call ok k (Binary op a b) holds sc q stack js o s n t pl h =
-        gives_bind ops rel w code (value_gives call ok a holds sc q stack js o s n t (within (λ u. inl) pl) h.0) (λ u d o1 s1 n1 t1 x1.
-        gives_bind ops rel w code (value_gives call ok b holds sc (after_value q a) (d ∷ stack) js o1 s1 n1 t1 (within (λ u. inr) pl) h.1) (λ v e o2 s2 n2 t2 x2.
+    form_gives call ok k (Number v) sc q stack js o s n t pl h = worked_gives (m.At q stack n) (q + 1) k stack n t h.1 (Yields v) (at_one q stack n h.0)
+    form_gives call ok k (Read (Entire x ss)) sc q stack js o s n t pl h =
+        gives_bind ops rel w code (place_gives call ok (Entire x ss) k sc q stack js o s n t (within (λ u. inr) pl) (may_see sc js x pl (inl refl)) h.0) (λ z a o1 s1 n1 t1 pi. read_gives (after_selectors (q + 1) ss) x k stack z a n1 t1 pi h.1)
+    form_gives call ok k (Unary op a) sc q stack js o s n t pl h =
+        with_ordinal (kind_of a) stack _ _ h.1 (value_gives call ok a sc q stack js o s n t pl h.0) (λ v o1 s1 n1 t1. unary_gives op (after_value q a) k stack v n1 t1 h.2 h.3)
+    form_gives call ok k (Binary op a b) sc q stack js o s n t pl h =
+        gives_bind ops rel w code (value_gives call ok a sc q stack js o s n t (within (λ u. inl) pl) h.0) (λ u d o1 s1 n1 t1 x1.
+        gives_bind ops rel w code (value_gives call ok b sc (after_value q a) (d ∷ stack) js o1 s1 n1 t1 (within (λ u. inr) pl) h.1) (λ v e o2 s2 n2 t2 x2.
         binary_gives op (after_value (after_value q a) b) k (kind_of a) (kind_of b) stack (sort p (kind_of a)) (sort p (kind_of b)) u v d e n2 t2 x1 x2 h.3 h.4 h.2))
-    form_gives call ok k (Apply f args) holds sc q stack js o s n t pl h =
-        gives_bind ops rel w code (actuals_gives call ok args h.0.formals holds sc q stack js o s n t (within (λ u. inr) pl) h.1) (λ gs es o1 s1 n1 t1 x1.
+    form_gives call ok k (Apply f args) sc q stack js o s n t pl h =
+        gives_bind ops rel w code (actuals_gives call ok args h.0.formals sc q stack js o s n t (within (λ u. inr) pl) h.1) (λ gs es o1 s1 n1 t1 x1.
         ok.by f args h.0 sc (after_actuals q args) k stack js o1 s1 n1 t1 pl h.2 h.3 h.4 gs es x1.0 x1.1)
-    form_gives call ok k (Standard f a) holds sc q stack js o s n t pl h =
-        with_ordinal (kind_of a) stack _ _ h.3 (value_gives call ok a holds sc q stack js o s n t pl h.2) (λ v o1 s1 n1 t1.
+    form_gives call ok k (Standard f a) sc q stack js o s n t pl h =
+        with_ordinal (kind_of a) stack _ _ h.3 (value_gives call ok a sc q stack js o s n t pl h.2) (λ v o1 s1 n1 t1.
         gives_known ops rel w code (λ ty. standard_op f ty v) h.0 (kind_known k k h.0 refl h.1) (standard_gives f (after_value q a) k h.0 stack v n1 t1 h.4 h.5))
-    form_gives call ok k (AtInput f) holds sc q stack js o s n t pl h =
+    form_gives call ok k (AtInput f) sc q stack js o s n t pl h =
         gives_known ops rel w code (input_op f) (rest_of s) left_known (input_gives f q k stack n t (input_read sc js pl refl) h.1 h.0)
 
-    pub place_gives : (call : Calls) → CallsMeet call → (v : Var) (k : ℕ) (holds : Rights) (sc : List Scope) (q : ℕ) (stack : List Entry) (js : List Joint) (o : Own) (s : Store) (n : M) → rel.Stand js o s n → P sc js (In_selectors (selectors_of v)) → MayRead sc js (var_of v) → PlaceAt p moves shares (Stands code) (HasFork code) (HasWords code) hush needs holds sc q v k
+    pub place_gives : (call : Calls) → CallsMeet call → (v : Var) (k : ℕ) (sc : List Scope) (q : ℕ) (stack : List Entry) (js : List Joint) (o : Own) (s : Store) (n : M) → rel.Stand js o s n → P sc js (In_selectors (selectors_of v)) → MayRead sc js (var_of v) → PlaceAt p moves shares (Stands code) (HasFork code) (HasWords code) hush sc q v k
         → G js (m.At q stack n) o s (after_var q v) (PlaceTop stack) (PlaceIs js (var_of v) k) (place g call v)
-    place_gives call ok (Entire x ss) k holds sc q stack js o s n t pl may h =
-        gives_bind ops rel w code (var_gives holds sc q x h.0 stack n t pl.chain may h.1) (λ z a o1 s1 n1 t1 pi. selected_gives call ok ss x h.0 k holds sc (q + 1) stack z a js o1 s1 n1 t1 pl pi h.2)
+    place_gives call ok (Entire x ss) k sc q stack js o s n t pl may h =
+        gives_bind ops rel w code (var_gives sc q x h.0 stack n t pl.chain may h.1) (λ z a o1 s1 n1 t1 pi. selected_gives call ok ss x h.0 k sc (q + 1) stack z a js o1 s1 n1 t1 pl pi h.2)
 
-    selected_gives : (call : Calls) → CallsMeet call → (ss : Selectors) (x k k2 : ℕ) (holds : Rights) (sc : List Scope) (q : ℕ) (stack : List Entry) (z : Place) (a : Ptr) (js : List Joint) (o : Own) (s : Store) (n : M) → rel.Stand js o s n → P sc js (In_selectors ss) → PlaceIs js x k z a → SelectedAt p moves shares (Stands code) (HasFork code) (HasWords code) hush needs holds sc q ss k k2
+    selected_gives : (call : Calls) → CallsMeet call → (ss : Selectors) (x k k2 : ℕ) (sc : List Scope) (q : ℕ) (stack : List Entry) (z : Place) (a : Ptr) (js : List Joint) (o : Own) (s : Store) (n : M) → rel.Stand js o s n → P sc js (In_selectors ss) → PlaceIs js x k z a → SelectedAt p moves shares (Stands code) (HasFork code) (HasWords code) hush sc q ss k k2
         → G js (m.At q (m.Pointer a ∷ stack) n) o s (after_selectors q ss) (PlaceTop stack) (PlaceIs js x k2) (selected g call ss z)
-    selected_gives call ok Whole x k k2 holds sc q stack z a js o s n t pl pi h = gives_give ops rel w code z a (stays ops rel w code _) t (subst (λ y. PlaceIs js x y z a) h pi)
-    selected_gives call ok (Select (Index e) rest) x k k2 holds sc q stack z a js o s n t pl pi h =
-        with_ordinal (kind_of e) (m.Pointer a ∷ stack) _ _ h.6 (value_gives call ok e holds sc q (m.Pointer a ∷ stack) js o s n t (within (λ u. inl) pl) h.5) (λ v o1 s1 n1 t1.
+    selected_gives call ok Whole x k k2 sc q stack z a js o s n t pl pi h = gives_give ops rel w code z a (stays ops rel w code _) t (subst (λ y. PlaceIs js x y z a) h pi)
+    selected_gives call ok (Select (Index e) rest) x k k2 sc q stack z a js o s n t pl pi h =
+        with_ordinal (kind_of e) (m.Pointer a ∷ stack) _ _ h.6 (value_gives call ok e sc q (m.Pointer a ∷ stack) js o s n t (within (λ u. inl) pl) h.5) (λ v o1 s1 n1 t1.
         gives_bind ops rel w code (indexed_gives (after_value q e) x k h.0 h.1 h.2 h.3 stack z a v n1 t1 pi h.4 h.7) (λ z2 a2 o2 s2 n2 t2 pi2.
-        selected_gives call ok rest x h.3 k2 holds sc (after_value q e + 1) stack z2 a2 js o2 s2 n2 t2 (within (λ u. inr) pl) pi2 h.8))
-    selected_gives call ok (Select (Field f) rest) x k k2 holds sc q stack z a js o s n t pl pi h =
+        selected_gives call ok rest x h.3 k2 sc (after_value q e + 1) stack z2 a2 js o2 s2 n2 t2 (within (λ u. inr) pl) pi2 h.8))
+    selected_gives call ok (Select (Field f) rest) x k k2 sc q stack z a js o s n t pl pi h =
         gives_bind ops rel w code (fielded_gives q x k f h.2 h.1 h.0 stack z a n t pi h.3 h.4 h.5) (λ z2 a2 o2 s2 n2 t2 pi2.
-        selected_gives call ok rest x h.2 k2 holds sc (q + 1) stack z2 a2 js o2 s2 n2 t2 pl pi2 h.6)
+        selected_gives call ok rest x h.2 k2 sc (q + 1) stack z2 a2 js o2 s2 n2 t2 pl pi2 h.6)
 
-    pub actuals_gives : (call : Calls) → CallsMeet call → (args : Actuals) (xs : List ℕ) (holds : Rights) (sc : List Scope) (q : ℕ) (stack : List Entry) (js : List Joint) (o : Own) (s : Store) (n : M) → rel.Stand js o s n → P sc js (In_actuals args) → ActualsAt p moves shares (Stands code) (HasFork code) (HasWords code) hush needs holds sc q args xs
+    pub actuals_gives : (call : Calls) → CallsMeet call → (args : Actuals) (xs : List ℕ) (sc : List Scope) (q : ℕ) (stack : List Entry) (js : List Joint) (o : Own) (s : Store) (n : M) → rel.Stand js o s n → P sc js (In_actuals args) → ActualsAt p moves shares (Stands code) (HasFork code) (HasWords code) hush sc q args xs
         → G js (m.At q stack n) o s (after_actuals q args) (λ (gs : List Given) (es : List Entry). pushed es stack) (λ gs es. GivensAre rel p js xs gs es × Gave p (sources js) args gs) (actuals g call args)
-    actuals_gives call ok Nothing [] holds sc q stack js o s n t pl h = gives_give ops rel w code [] [] (stays ops rel w code _) t (tt, tt)
-    actuals_gives call ok Nothing (x ∷ xs) holds sc q stack js o s n t pl h = absurd h
-    actuals_gives call ok (Pass a rest) [] holds sc q stack js o s n t pl h = absurd h
-    actuals_gives call ok (Pass (ByValue e) rest) (x ∷ xs) holds sc q stack js o s n t pl h =
-        gives_bind ops rel w code (value_gives call ok e holds sc q stack js o s n t (within (λ u. inl) pl) h.0) (λ v en o1 s1 n1 t1 x1.
-        gives_bind ops rel w code (actuals_gives call ok rest xs holds sc (after_value q e) (en ∷ stack) js o1 s1 n1 t1 (within (λ u. inr) pl) h.2) (λ gs es o2 s2 n2 t2 x2.
+    actuals_gives call ok Nothing [] sc q stack js o s n t pl h = gives_give ops rel w code [] [] (stays ops rel w code _) t (tt, tt)
+    actuals_gives call ok Nothing (x ∷ xs) sc q stack js o s n t pl h = absurd h
+    actuals_gives call ok (Pass a rest) [] sc q stack js o s n t pl h = absurd h
+    actuals_gives call ok (Pass (ByValue e) rest) (x ∷ xs) sc q stack js o s n t pl h =
+        gives_bind ops rel w code (value_gives call ok e sc q stack js o s n t (within (λ u. inl) pl) h.0) (λ v en o1 s1 n1 t1 x1.
+        gives_bind ops rel w code (actuals_gives call ok rest xs sc (after_value q e) (en ∷ stack) js o1 s1 n1 t1 (within (λ u. inr) pl) h.2) (λ gs es o2 s2 n2 t2 x2.
         gives_give ops rel w code (ValueOf v ∷ gs) (en ∷ es) (stays ops rel w code _) t2 (((h.1.0, h.1.1, (h.1.3, subst (λ y. Stood rel p (sort p y) y v en) (sym h.1.2) x1)), x2.0), x2.1)))
-    actuals_gives call ok (Pass (ByReference (Entire y ss)) rest) (x ∷ xs) holds sc q stack js o s n t pl h =
-        gives_bind ops rel w code (place_gives call ok (Entire y ss) h.0 holds sc q stack js o s n t (within (λ u a. inl (inr a)) pl) (may_aim holds sc js y ss pl (inl (inl refl)) h.2) h.1) (λ z a o1 s1 n1 t1 pi.
-        gives_bind ops rel w code (target_gives holds (after_selectors (q + 1) ss) h.0 stack y ss z a (stays ops rel w code _) t1 pi h.2) (λ b u o2 s2 n2 t2 x2.
-        gives_bind ops rel w code (actuals_gives call ok rest xs holds sc (after_selectors (q + 1) ss) (m.Pointer u ∷ stack) js o2 s2 n2 t2 (within (λ u. inr) pl) h.4) (λ gs es o3 s3 n3 t3 x3.
+    actuals_gives call ok (Pass (ByReference (Entire y ss)) rest) (x ∷ xs) sc q stack js o s n t pl h =
+        gives_bind ops rel w code (place_gives call ok (Entire y ss) h.0 sc q stack js o s n t (within (λ u a. inl (inr a)) pl) (may_aim sc js y ss pl (inl (inl refl)) h.2) h.1) (λ z a o1 s1 n1 t1 pi.
+        gives_bind ops rel w code (target_gives (after_selectors (q + 1) ss) h.0 stack y ss z a (stays ops rel w code _) t1 pi h.2) (λ b u o2 s2 n2 t2 x2.
+        gives_bind ops rel w code (actuals_gives call ok rest xs sc (after_selectors (q + 1) ss) (m.Pointer u ∷ stack) js o2 s2 n2 t2 (within (λ u. inr) pl) h.4) (λ gs es o3 s3 n3 t3 x3.
         gives_give ops rel w code (PlaceOf b ∷ gs) (m.Pointer u ∷ es) (stays ops rel w code _) t3 (((h.3.0, h.3.1, (h.3.3, x2.0 ∙ sym h.3.2, (u, refl, x2.1))), x3.0), (x2.3, x3.1)))))
 
   -- the address of a target
-  pub address_gives : (call : Calls) → CallsMeet call → (v : Var) (k : ℕ) (holds : Rights) (sc : List Scope) (q : ℕ) (stack : List Entry) (js : List Joint) (o : Own) (s : Store) (n : M) → rel.Stand js o s n → P sc js (In_target v) → PlaceAt p moves shares (Stands code) (HasFork code) (HasWords code) hush needs holds sc q v k → IsTarget p moves shares (Stands code) (HasFork code) (HasWords code) hush needs holds v
+  pub address_gives : (call : Calls) → CallsMeet call → (v : Var) (k : ℕ) (sc : List Scope) (q : ℕ) (stack : List Entry) (js : List Joint) (o : Own) (s : Store) (n : M) → rel.Stand js o s n → P sc js (In_target v) → PlaceAt p moves shares (Stands code) (HasFork code) (HasWords code) hush sc q v k → IsTarget p moves shares (Stands code) (HasFork code) (HasWords code) hush v
       → G js (m.At q stack n) o s (after_var q v) (λ (b : Address) (u : Ptr). m.Pointer u ∷ stack) (λ b u. (b.kind ≡ k) × rel.Points js b u × R b.spot × (stands p (sources js) (var_of v) ≡ Some b.spot)) (address g call v)
-  address_gives call ok (Entire x ss) k holds sc q stack js o s n t pl h ht =
-      gives_bind ops rel w code (place_gives call ok (Entire x ss) k holds sc q stack js o s n t (within (λ u. inr) pl) (may_aim holds sc js x ss pl (inl refl) ht) h) (λ z a o1 s1 n1 t1 pi. target_gives holds (after_selectors (q + 1) ss) k stack x ss z a (stays ops rel w code _) t1 pi ht)
+  address_gives call ok (Entire x ss) k sc q stack js o s n t pl h ht =
+      gives_bind ops rel w code (place_gives call ok (Entire x ss) k sc q stack js o s n t (within (λ u. inr) pl) (may_aim sc js x ss pl (inl refl) ht) h) (λ z a o1 s1 n1 t1 pi. target_gives (after_selectors (q + 1) ss) k stack x ss z a (stays ops rel w code _) t1 pi ht)
 
   -- an ordinal
-  pub ordinal_gives : (call : Calls) → CallsMeet call → (e : Expr) (holds : Rights) (sc : List Scope) (q : ℕ) (stack : List Entry) (js : List Joint) (o : Own) (s : Store) (n : M) → rel.Stand js o s n → P sc js (In_expr e) → OrdinalAt p moves shares (Stands code) (HasFork code) (HasWords code) hush needs holds sc q e
+  pub ordinal_gives : (call : Calls) → CallsMeet call → (e : Expr) (sc : List Scope) (q : ℕ) (stack : List Entry) (js : List Joint) (o : Own) (s : Store) (n : M) → rel.Stand js o s n → P sc js (In_expr e) → OrdinalAt p moves shares (Stands code) (HasFork code) (HasWords code) hush sc q e
       → G js (m.At q stack n) o s (after_value q e) (λ (v : ℤ) (u : Unit {0}). m.Number v ∷ stack) (λ v u. Unit {0}) (ordinal_of g call e)
-  ordinal_gives call ok e holds sc q stack js o s n t pl h = as_ordinal_gives (kind_of e) stack (value g call e) h.1 (value_gives call ok e holds sc q stack js o s n t pl h.0)
+  ordinal_gives call ok e sc q stack js o s n t pl h = as_ordinal_gives (kind_of e) stack (value g call e) h.1 (value_gives call ok e sc q stack js o s n t pl h.0)

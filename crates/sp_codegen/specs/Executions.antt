@@ -6,7 +6,6 @@ use Rattle.sp_meaning.specs.Own.{Setting, Loc, Cell, Own, Who}
 use Rattle.sp_code.specs.declared.code.Layout.{Layout}
 use Rattle.sp_code.specs.declared.code.Parts.{Parts}
 use Rattle.sp_code.specs.Machine.{Ops, layout_of}
-use Rattle.sp_code.specs.Stands.{Rights}
 use Rattle.sp_codegen.specs.Relation.{Relation, Keeps}
 
 pub record Execution (M : Type 0) : Type 1 where
@@ -17,7 +16,6 @@ pub record Execution (M : Type 0) : Type 1 where
   pub shares : Stmt → List ℕ
   -- the blocks that lead to no statement of the kernel
   pub Quiet : ℕ → Type 0
-  pub needs : ℕ → Rights
   -- the process, and when it is due to pause
   pub who : Who
   pub due : Own → Bool
