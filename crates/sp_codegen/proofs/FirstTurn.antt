@@ -50,12 +50,12 @@ module _ (g : Setting) (code : Code) (formed : IsFormed g.program) (b : Block) (
   abbrev V : Loc → Type 0
   V l = W g code formed laid b eb pause l
 
-  law : Keeps g w (due_after 0 pause) V V NoIndexes (memory plain (code_run g code pause)) (relation g code w NoChannel IsFirst V V NoIndexes 1 1 0 0 pause)
-  law = instance g code w NoChannel IsFirst V V NoIndexes 1 1 0 0 pause formed laid (omega arith) (λ n x. inl refl) (omega (arith, small)) (λ c d i j h k. absurd h)
+  law : Keeps g w (due_after 0 pause) V V NoIndexes (memory plain (code_run g code pause)) (relation g code w NoChannel IsFirst V V NoIndexes 1 1 0 0 pause [])
+  law = instance g code w NoChannel IsFirst V V NoIndexes 1 1 0 0 pause [] formed laid (omega arith) (λ n x. inl refl) (omega (arith, small)) (λ c d i j h k. absurd h)
 
   abbrev execution : Execution (Memory Plain)
   execution = record { setting = g; code = code; moves = moves; shares = shares; Quiet = hush; who = w; due = due_after 0 pause; Writes = V; Reads = V; Indexes = NoIndexes;
-      operations = memory plain (code_run g code pause); relation = relation g code w NoChannel IsFirst V V NoIndexes 1 1 0 0 pause; laws = law; reads_written = λ l h. h; free = free; own_written = λ n x. inl refl; layouts_found = finds }
+      operations = memory plain (code_run g code pause); relation = relation g code w NoChannel IsFirst V V NoIndexes 1 1 0 0 pause []; laws = law; reads_written = λ l h. h; free = free; own_written = λ n x. inl refl; layouts_found = finds }
 
   layout : BlockAt p moves shares code hush 0 b
   layout = blocks 0 b eb
