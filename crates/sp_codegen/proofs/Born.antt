@@ -33,7 +33,7 @@ use Rattle.sp_code.specs.Scopes as s
 use Rattle.sp_code.specs.Emitted.{children_tables, child_table}
 use Rattle.sp_code.specs.Stands.{Stands, HasFork, HasWords, StandsAt, ChildrenAt}
 use Rattle.sp_codegen.specs.Joints.{Joint, sources, machines, from, up_at, HomeIs, Chain}
-use Rattle.sp_codegen.specs.Formed.{IsFormed, is_parameter, is_answer, among}
+use Rattle.sp_tree.specs.Formed.{IsFormed, is_parameter, is_answer, among}
 use Rattle.sp_codegen.specs.Executions.{Execution}
 use Rattle.sp_codegen.specs.Relation.{Relation, Keeps, Placed}
 use Rattle.sp_codegen.specs.Standing.{spot_at, HomesAre, Paired, IsIn}

@@ -21,7 +21,7 @@ use Rattle.sp_code.specs.Emitted.{program_code}
 use Rattle.sp_code.specs.Stands.{BlockAt, BlocksAt, IsFine}
 use Rattle.sp_code.specs.Quiet.{IsQuiet}
 use Rattle.sp_code.proofs.Blocks.{blocks_stand, layout_found}
-use Rattle.sp_codegen.specs.Formed.{IsFormed}
+use Rattle.sp_tree.specs.Formed.{IsFormed}
 use Rattle.sp_codegen.specs.Joints.{Joint}
 use Rattle.sp_codegen.specs.Executions.{Execution}
 use Rattle.sp_codegen.specs.Relation.{Keeps}

@@ -159,7 +159,7 @@ module _ {M : Type 0} (ex : Execution M) where
       (pc : ℕ) × (st : List Entry) × (n : M) × (fs : List Joint) × (d : Config M) × (a : Address) × (t : Ptr) × (s0 : Store) × Comes ops code c d × (one ops code d ≡ Stops (Opens t) (At pc st n)) × rel.Stand fs o s0 n × rel.Points fs a t × R a.spot
       × (s ≡ at_key same_loc a.spot (assigned a (s0 a.spot) (Tree (Chan (record { owner = w.name; nth = w.opens })))) s0) × Q todo fs pc st × (outside st ≡ true)
   Made c Q (Got (Forked bs todo) o, s) =
-      (pc : ℕ) × (st : List Entry) × (n : M) × (fs : List Joint) × (d : Config M) × (z : Stop) × Comes ops code c d × (one ops code d ≡ Stops z (At pc st n)) × rel.Stand fs o s n × Q todo fs pc st × (outside st ≡ true) × ForkIs (outside st) fs bs z
+      (pc : ℕ) × (st : List Entry) × (n : M) × (fs : List Joint) × (d : Config M) × (z : Stop) × Comes ops code c d × (one ops code d ≡ Stops z (At pc st n)) × rel.Stand fs o s n × Q todo fs pc st × (outside st ≡ true) × ForkIs (outside st) fs bs z × (nat_lt o.depth g.limits.depth ≡ true)
   Made c Q (Got (Offered ch k g todo) o, s) =
       (pc : ℕ) × (st : List Entry) × (n : M) × (fs : List Joint) × (d : Config M) × (z : Stop) × Comes ops code c d × (one ops code d ≡ Stops z (At pc st n)) × rel.Stand fs o s n × CargoIs fs ch k g z × Q todo fs pc st × (outside st ≡ true)
   Made c Q (Got Over o, s) = (pc : ℕ) × (st : List Entry) × (n : M) × (fs : List Joint) × Comes ops code c (At pc st n) × (one ops code (At pc st n) ≡ Stops Ended (At pc st n)) × rel.Stand fs o s n × Q [] fs pc st × (outside st ≡ true)
@@ -174,7 +174,7 @@ module _ {M : Type 0} (ex : Execution M) where
   made_after c d Q (Got (Went todo) o, s) h k = (k.0, k.1, k.2, k.3, comes_on ops rel w code h k.4, k.5, k.6)
   made_after c d Q (Got (Beat todo) o, s) h k = (k.0, k.1, k.2, k.3, k.4, comes_on ops rel w code h k.5, k.6, k.7, k.8)
   made_after c d Q (Got (Opened todo) o, s) h k = (k.0, k.1, k.2, k.3, k.4, k.5, k.6, k.7, comes_on ops rel w code h k.8, k.9, k.10, k.11, k.12, k.13, k.14, k.15)
-  made_after c d Q (Got (Forked bs todo) o, s) h k = (k.0, k.1, k.2, k.3, k.4, k.5, comes_on ops rel w code h k.6, k.7, k.8, k.9, k.10, k.11)
+  made_after c d Q (Got (Forked bs todo) o, s) h k = (k.0, k.1, k.2, k.3, k.4, k.5, comes_on ops rel w code h k.6, k.7, k.8, k.9, k.10, k.11, k.12)
   made_after c d Q (Got (Offered ch x g todo) o, s) h k = (k.0, k.1, k.2, k.3, k.4, k.5, comes_on ops rel w code h k.6, k.7, k.8, k.9, k.10, k.11)
   made_after c d Q (Got Over o, s) h k = (k.0, k.1, k.2, k.3, comes_on ops rel w code h k.4, k.5, k.6, k.7, k.8)
   made_after c d Q (Bad f, s) h k = breaks_after ops rel w code h k

@@ -281,11 +281,11 @@ module _ {M : Type 0} (ex : Execution M) where
   -- a fork, where the depth allows it
   fork_makes : (Q : List Item → List Joint → ℕ → List Entry → Type 0) (fs : List Joint) (q table : ℕ) (first : ℤ) (count : ℕ) (stack : List Entry) (bs : List Birth) (todo : List Item) (c : Config M) (o : Own) (s : Store) (n : M) → rel.Stand fs o s n → one ops code c ≡ m.forked ops code table first count q stack n → Q todo fs q stack → outside stack ≡ true → ForkIs ex (outside stack) fs bs (Forks table first count) → K c o s Q (fork g bs todo)
   fork_makes Q fs q table first count stack bs todo c o s n t ge k fr fi =
-      makes_known ex (λ y. if nat_lt y.depth g.limits.depth then give (Forked bs todo) else fail fault.F11) o mine_known (go (nat_lt o.depth g.limits.depth) (ge ∙ ap (λ b. if b then Stops (Forks table first count) (m.At q stack n) else Fails fault.F11) (sym (law.may_fork t))))
+      makes_known ex (λ y. if nat_lt y.depth g.limits.depth then give (Forked bs todo) else fail fault.F11) o mine_known (go (nat_lt o.depth g.limits.depth) refl (ge ∙ ap (λ b. if b then Stops (Forks table first count) (m.At q stack n) else Fails fault.F11) (sym (law.may_fork t))))
     where
-      go : (b : Bool) → one ops code c ≡ (if b then Stops (Forks table first count) (m.At q stack n) else Fails fault.F11) → K c o s Q (if b then give (Forked bs todo) else fail fault.F11)
-      go true e = record { by = (q, stack, n, fs, c, Forks table first count, stays ops rel w code c, e, t, k, fr, fi) }
-      go false e = makes_fail ex fault.F11 e
+      go : (b : Bool) → nat_lt o.depth g.limits.depth ≡ b → one ops code c ≡ (if b then Stops (Forks table first count) (m.At q stack n) else Fails fault.F11) → K c o s Q (if b then give (Forked bs todo) else fail fault.F11)
+      go true room e = record { by = (q, stack, n, fs, c, Forks table first count, stays ops rel w code c, e, t, k, fr, fi, room) }
+      go false room e = makes_fail ex fault.F11 e
 
   -- a value is read
   took_gives : {fs : List Joint} {c : Config M} {o : Own} {s : Store} {n : M} (q : ℕ) (x : Taken) (a : Address) (u : Ptr) (stack : List Entry) → rel.Stand fs o s n → R Input → rel.Points fs a u → R a.spot → sort p a.kind ≡ Ordinals → one ops code c ≡ m.taken ops code x u q stack n → G fs c o s q (λ (u : Unit {0}) (z : Unit {0}). stack) (λ u z. Unit {0}) (take_in g a x)

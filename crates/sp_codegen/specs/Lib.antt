@@ -1,6 +1,5 @@
 pub mod Joints
 pub mod Shapes
-pub mod Formed
 pub mod Relation
 pub mod Executions
 pub mod Standing
