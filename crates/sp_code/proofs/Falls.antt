@@ -15,7 +15,8 @@ use Rattle.sp_code.specs.declared.instr.Instr.{Instr}
 use Rattle.sp_code.specs.declared.instr.Instr.TheVariants as i
 use Rattle.sp_code.specs.declared.code.Layout.{Layout}
 use Rattle.sp_code.specs.declared.code.Parts.{Parts}
-use Rattle.sp_code.specs.Machine.{Entry, Number, Chan, Pointer, Cells, Link, Reply, further, Did, Done, Failed, Ops, Config, At, One, Goes, Stops, Fails, Stuck, outside, is_range, is_before, next_value, byte, values_in, fit_formals, layout_of, on_number, on_channel, on_address, on_cell, on_cells, on_equals, pop, when, there, then_go, worked, ordinal_in, channel_in, on_one, on_two, told, selected, paced, entered, called, returned, taken, reads, prints, wide, writes, writes_wide, begins_loop, ends_loop, forked, instruction, one}
+use Rattle.sp_tree.specs.Items.{byte}
+use Rattle.sp_code.specs.Machine.{Entry, Number, Chan, Pointer, Cells, Link, Reply, further, Did, Done, Failed, Ops, Config, At, One, Goes, Stops, Fails, Stuck, outside, is_range, is_before, next_value, values_in, fit_formals, layout_of, on_number, on_channel, on_address, on_cell, on_cells, on_equals, pop, when, there, then_go, worked, ordinal_in, channel_in, on_one, on_two, told, selected, paced, entered, called, returned, taken, reads, prints, wide, writes, writes_wide, begins_loop, ends_loop, forked, instruction, one}
 use Rattle.sp_code.specs.Turns.{ran_by, ran, started, turn_within, begins}
 use Rattle.sp_code.specs.Ranks.{ways, larger, most, rank, AllBelow, IsRanked}
 use Rattle.sp_code.specs.Budgets.{HasBudget, back, left_by, IsOver}

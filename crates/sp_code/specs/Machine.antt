@@ -7,7 +7,7 @@ use Rattle.sp_tree.specs.declared.operators.BinaryOp.{BinaryOp}
 use Rattle.sp_tree.specs.declared.operators.BinaryOp.TheVariants as op
 use Rattle.sp_tree.specs.declared.operators.UnaryOp.TheVariants as sign
 use Rattle.sp_tree.specs.Operators.{Worked, Yields, Refuses, truth, ranged, successor, predecessor, absolute, square, is_odd, unary_op, binary_op, same_ordinal, is_true}
-use Rattle.sp_tree.specs.Items.{Taken, Takes, Fails as Faulty, number_in, char_in, line_length, at_line_end, padded, truth_text}
+use Rattle.sp_tree.specs.Items.{Taken, Takes, Fails as Faulty, number_in, char_in, line_length, at_line_end, padded, truth_text, byte}
 use Rattle.sp_cell.specs.declared.cell.Cell.{Cell}
 use Rattle.sp_cell.specs.declared.cell.Cell.TheVariants as cell
 use Rattle.sp_cell.specs.declared.spot.Address.{Address}
@@ -113,10 +113,6 @@ is_before down n limit = if down then int_lt limit n else int_lt n limit
 
 abbrev pub next_value : Bool → ℤ → ℤ
 next_value down n = if down then n -ℤ pos 1 else n +ℤ pos 1
-
--- the byte of a char
-abbrev pub byte : ℤ → ℕ
-byte n = nat_abs n % 256
 
 -- how many values a forall's range has, or 2 ^ 64 - 1 where it has more
 abbrev pub values_in : ℤ → ℤ → ℕ

@@ -4,6 +4,7 @@ use Rattle.sp_tree.specs.declared.checked.KindOf.{KindOf}
 use Rattle.sp_tree.specs.declared.checked.KindOf.TheVariants as kind
 use Rattle.sp_tree.specs.declared.checked.Role.{Role}
 use Rattle.sp_tree.specs.declared.checked.Role.TheVariants as role
+pub use Rattle.sp_tree.specs.Formed.{as_list}
 use Rattle.sp_tree.specs.Cells.{sizes, first_or, variables_of}
 use Rattle.sp_tree.specs.Plain.{Expr, Typed, Var, Entire, Selectors, Whole, Select, Index, Field, Program, Variable, Block}
 
@@ -53,10 +54,6 @@ level fits (s ∷ sc) = if fits s then Some 0 else one_more (level fits sc)
 abbrev pub is_given : {A : Type 0} → Option A → Bool
 is_given None = false
 is_given (Some x) = true
-
-abbrev pub as_list : Option ℕ → List ℕ
-as_list None = []
-as_list (Some x) = x ∷ []
 
 -- variables of a role, by their numbers
 abbrev pub is_local : Role → Bool

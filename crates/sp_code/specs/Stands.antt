@@ -329,7 +329,6 @@ AnyText n text = Unit {0}
 abbrev pub IsFine : (p : Program) (moves shares : Stmt → List ℕ) (hush : ℕ → Type 0) → (f q : ℕ) → Block → Type 0
 IsFine p moves shares hush f q b = BlockStands p moves shares AnyInstr AnyTable AnyText hush f q b
 
-
 -- these items stand in a list from place q on
 abbrev pub HasAt : {X : Type 0} → List X → ℕ → List X → Type 0
 HasAt xs q [] = Unit {0}

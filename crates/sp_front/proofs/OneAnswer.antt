@@ -5,7 +5,7 @@ use Rattle.sp_tree.specs.PlainSyntax as s
 use Rattle.sp_tree.specs.PlainNamed as n
 use Rattle.sp_tree.specs.Breaches.{IsTree, IsFirstBroken}
 use Rattle.sp_tree.specs.NameFirst.{resolved}
-use Rattle.sp_types.specs.PlainChecked as c
+use Rattle.sp_tree.specs.PlainChecked as c
 use Rattle.sp_types.specs.TypeFirst.{typed}
 use Rattle.sp_front.specs.Checks.{IsNamed, IsChecked, BreaksNames, BreaksTypes, BreaksFirst}
 

@@ -14,8 +14,8 @@ use Rattle.sp_tree.specs.NamedOf as named
 use Rattle.sp_tree.specs.SyntaxOf as plain
 use Rattle.sp_tree.specs.Breaches.{IsTree}
 use Rattle.sp_tree.specs.NameFirst.{resolved}
-use Rattle.sp_types.specs.PlainChecked.{Program}
-use Rattle.sp_types.specs.CheckedOf as checked
+use Rattle.sp_tree.specs.PlainChecked.{Program}
+use Rattle.sp_tree.specs.CheckedOf as checked
 use Rattle.sp_types.specs.TypeFirst.{typed}
 use Rattle.sp_front.specs.Checks.{BreaksFirst, Checks, IsChecked, IsNamed, KeepsRules}
 use Rattle.sp_front.specs.Texts.{Reads}

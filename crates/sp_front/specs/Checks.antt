@@ -8,8 +8,8 @@ use Rattle.sp_tree.specs.PlainSyntax as s
 use Rattle.sp_tree.specs.PlainNamed as n
 use Rattle.sp_tree.specs.Breaches.{IsTree, IsFirstBroken}
 use Rattle.sp_tree.specs.NameFirst.{resolved}
-use Rattle.sp_types.specs.PlainChecked as c
-use Rattle.sp_types.specs.CheckedOf as checked
+use Rattle.sp_tree.specs.PlainChecked as c
+use Rattle.sp_tree.specs.CheckedOf as checked
 use Rattle.sp_types.specs.TypeFirst.{typed}
 
 -- the text is that of the tree, and the names in it stand for these declarations

@@ -2,7 +2,7 @@
 
 ghost use Rattle.std.specs.Prelude.{◌≡◌, ℕ, List};
 ghost use Rattle.sp_base.specs.declared.halt.Refusal.{Refusal};
-ghost use Rattle.sp_types.specs.PlainChecked.{Program};
+ghost use Rattle.sp_tree.specs.PlainChecked.{Program};
 ghost use Rattle.sp_front.specs.Checks.{BreaksFirst, IsChecked};
 
 use sp_grammar::one_verdict;

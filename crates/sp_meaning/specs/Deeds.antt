@@ -12,7 +12,7 @@ use Rattle.sp_tree.specs.Cells.{variables_of, cells_of_frame}
 use Rattle.sp_meaning.specs.Values.{Value, Undefined, Ordinal, Chan, Parts, initials}
 use Rattle.sp_meaning.specs.Own.{Setting, Cell, Input, Output, Held, Tree, Position, Written, Address, Home, OfBlock, OfIndex, Frame, Own, Who, Item, Do, First, Again, Test, Leave, Break, Process, Work, bind, give, fail, lost, long, mine, who, become, look, put, fetch, assign, or_lost, position_in, bytes_in, reach, is_block, tick, deepen, widen}
 use Rattle.sp_meaning.specs.Operators.{same_ordinal}
-use Rattle.sp_meaning.specs.Texts.{Taken, Takes as Took, Fails as Stops, number_in, char_in, line_length, padded, truth_text}
+use Rattle.sp_meaning.specs.Texts.{Taken, Takes as Took, Fails as Stops, number_in, char_in, line_length, padded, truth_text, byte}
 use Rattle.sp_meaning.specs.Eval.{Given, ValueOf, PlaceOf, Calls, kind_at, read_at, address_of, place_of, left_of, value, actuals, address, ordinal_of, ordinal, channel}
 
 -- a child that is to be born: what it does, and the index of a forall with its value
@@ -114,7 +114,7 @@ in_width cut t (Some m) = if int_le m (pos 0) then fail fault.F1 else give (padd
 abbrev pub shown : KindOf → ℤ → Bool × List ℕ
 shown kind.Integer n = (false, signed_decimal n)
 shown kind.Boolean n = (true, truth_text n)
-shown kind.Char n = (false, nat_abs n % 256 ∷ [])
+shown kind.Char n = (false, byte n ∷ [])
 shown (kind.Enumeration m) n = (false, [])
 shown (kind.Array low high index element) n = (false, [])
 shown (kind.Fields fs) n = (false, [])

@@ -1,5 +1,9 @@
 pub mod Plain
 pub mod PlainOf
+pub mod PlainChecked
+pub mod CheckedOf
+pub mod Bare
+pub mod Formed
 pub mod PlainSyntax
 pub mod SyntaxOf
 pub mod Words

@@ -11,8 +11,8 @@ use Rattle.sp_tree.specs.declared.named.NamedConst.{NamedConst}
 use Rattle.sp_tree.specs.PlainNamed as n
 use Rattle.sp_tree.specs.PlainNamed.{Expression, At, ExpressionForm, Number, Quoted, Constant, Read, Apply, Standard, Unary, Binary, Variable, Entire, Selector, Index, Field, Selectors, Whole, Select, Argument, Pass, Width, NoWidth, Within, Arguments, NoArgument, AndArgument, Statement, Does, Form, Empty, Assign, Call, Perform, Sequence, If, While, Repeat, Case, For, Parallel, Forall, Assume, Other, NoElse, Else, Statements, NoStatement, AndThen, Arm, On, Arms, NoArm, Or, Branches, NoBranch, Beside}
 use Rattle.sp_types.specs.declared.tables.Ordinal.{Ordinal}
-use Rattle.sp_types.specs.PlainChecked as c
-use Rattle.sp_types.specs.CheckedOf as of_
+use Rattle.sp_tree.specs.PlainChecked as c
+use Rattle.sp_tree.specs.CheckedOf as of_
 use Rattle.sp_types.specs.Tables.{Env, entry, kind_at, const_value, char_of, number_or, variable_kind, formals_of, counted, indexed, env_of, answer_variable}
 use Rattle.sp_types.specs.TypeRules.{field_in}
 use Rattle.sp_types.specs.Kinds.{form_kind, expression_kind, selection}

@@ -1,5 +1,3 @@
-pub mod PlainChecked
-pub mod CheckedOf
 pub mod Entries
 pub mod Tables
 pub mod TypeRules

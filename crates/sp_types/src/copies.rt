@@ -2,7 +2,7 @@
 
 ghost use Rattle.std.specs.Prelude.{◌≡◌, map, Ok};
 ghost use Rattle.sp_tree.specs.Found.{Answers, AnswersAs};
-ghost use Rattle.sp_types.specs.CheckedOf as checked;
+ghost use Rattle.sp_tree.specs.CheckedOf as checked;
 
 use sp_base::{Boxed, Halt, List};
 use sp_tree::{Actual, Expr, ExprForm, Selector, Var};

@@ -1,5 +1,5 @@
 use Rattle.std.proofs.Common.{◌≡◌, ◌++◌, map, drop}
-use Rattle.sp_types.specs.CheckedOf as checked
+use Rattle.sp_tree.specs.CheckedOf as checked
 use Rattle.sp_types.proofs.copies.+copy.Given as goal
 
 abbrev pub invariant-copy_selectors-loop-x : goal.invariant-copy_selectors-loop-x

@@ -4,8 +4,8 @@ use Rattle.sp_tree.specs.declared.named.NamedArg.{NamedArg}
 use Rattle.sp_tree.specs.declared.meaning.StandardProcedure.TheVariants as procedure
 use Rattle.sp_tree.specs.Found.{Found}
 use Rattle.sp_tree.specs.NamedOf.{arguments, argument_of}
-use Rattle.sp_types.specs.PlainChecked as k
-use Rattle.sp_types.specs.CheckedOf as checked
+use Rattle.sp_tree.specs.PlainChecked as k
+use Rattle.sp_tree.specs.CheckedOf as checked
 use Rattle.sp_types.specs.CheckedTree.{singles, sends}
 use Rattle.sp_types.specs.Firsts.{each_first, message_first, messages_first}
 use Rattle.sp_types.specs.Types.{Walks, walked_as}

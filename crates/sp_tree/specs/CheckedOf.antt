@@ -1,5 +1,6 @@
 -- The plain tree, with its places, of a checked one in memory.
-use Rattle.std.specs.Prelude.{List, [], ◌∷◌, map, Option, Some, None}
+use Rattle.std.specs.Prelude.{ℕ, ◌+◌, List, [], ◌∷◌, map, Option, Some, None}
+use Rattle.sp_base.specs.declared.place.Place.{Place}
 use Rattle.sp_tree.specs.declared.checked.Actual.TheOpen as e
 use Rattle.sp_tree.specs.declared.checked.Form.TheOpen as s
 use Rattle.sp_tree.specs.declared.checked.Expr as checked_expr
@@ -12,7 +13,7 @@ use Rattle.sp_tree.specs.declared.checked.Form as checked_stmt_form
 use Rattle.sp_tree.specs.declared.checked.Arm as checked_arm
 use Rattle.sp_tree.specs.declared.checked.Block as checked_block
 use Rattle.sp_tree.specs.declared.checked.Checked as checked
-use Rattle.sp_types.specs.PlainChecked.{Expression, At, ExpressionForm, Number, Read, Unary, Binary, Apply, Standard, Variable, Entire, Selector, Index, Field, Selectors, Whole, Select, Actual, ByValue, ByReference, Actuals, Nothing, Pass, Expressions, NoExpression, AndExpression, Statement, Does, Form, Empty, Assign, Call, Sequence, If, While, Repeat, For, Case, Parallel, Forall, Assume, ReadValue, ReadLine, WriteValue, WriteText, WriteLine, Open, Send, Receive, Other, NoElse, Else, Statements, NoStatement, AndThen, Arm, On, Arms, NoArm, Or, Block, Program}
+use Rattle.sp_tree.specs.PlainChecked.{Expression, At, ExpressionForm, Number, Read, Unary, Binary, Apply, Standard, Variable, Entire, Selector, Index, Field, Selectors, Whole, Select, Actual, ByValue, ByReference, Actuals, Nothing, Pass, Expressions, NoExpression, AndExpression, Statement, Does, Form, Empty, Assign, Call, Sequence, If, While, Repeat, For, Case, Parallel, Forall, Assume, ReadValue, ReadLine, WriteValue, WriteText, WriteLine, Open, Send, Receive, Other, NoElse, Else, Statements, NoStatement, AndThen, Arm, On, Arms, NoArm, Or, Block, Program}
 
 -- lists of the plain tree
 abbrev pub selectors : List Selector → Selectors
@@ -82,6 +83,15 @@ abbrev pub other : Option Statement → Other
 other None = NoElse
 other (Some b) = Else b
 
+-- the single statements for several values, or variables, on one channel: at one place, numbered from a number on
+abbrev pub sends : ℕ → Place → Expression → List Expression → Statements
+sends n at c [] = NoStatement
+sends n at c (e ∷ rest) = AndThen (Does n at (Send c e)) (sends (n + 1) at c rest)
+
+abbrev pub receives : ℕ → Place → Expression → List Variable → Statements
+receives n at c [] = NoStatement
+receives n at c (v ∷ rest) = AndThen (Does n at (Receive c v)) (receives (n + 1) at c rest)
+
 -- one level of a statement
 abbrev pub statement_form_step : s.Form-F Form Arm Statement → Form
 statement_form_step s.Empty = Empty
@@ -104,6 +114,8 @@ statement_form_step s.WriteLine = WriteLine
 statement_form_step (s.Open v) = Open (variable_of v)
 statement_form_step (s.Send c a) = Send (expression_of c) (expression_of a)
 statement_form_step (s.Receive c v) = Receive (expression_of c) (variable_of v)
+statement_form_step (s.SendEach at n c es) = Sequence (sends n at (expression_of c) (map expression_of es))
+statement_form_step (s.ReceiveEach at n c vs) = Sequence (receives n at (expression_of c) (map variable_of vs))
 
 abbrev pub arm_step : s.Arm-F Form Arm Statement → Arm
 arm_step a = On a.constants a.body
