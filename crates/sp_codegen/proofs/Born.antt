@@ -6,7 +6,7 @@ use Rattle.sp_tree.specs.declared.checked.Role.TheVariants as role
 use Rattle.sp_tree.specs.Cells.{variables_of}
 use Rattle.sp_tree.specs.Plain.{Expr, Program, Variable, Block, Stmt, Parallel, Forall, Stmts, No, And}
 use Rattle.sp_tree.specs.Uses.{Use, Aims, Sees, Spreads, In_stmt, In_stmts}
-use Rattle.sp_tree.specs.Interference.{IsFreeOfInterference, IsIndexOf}
+use Rattle.sp_tree.specs.Interference.{IsFreeOfInterference, IsIndexOf, IsMember}
 use Rattle.sp_cell.specs.declared.spot.Spot.{Spot}
 use Rattle.sp_cell.specs.FrameLaws.{is_other}
 use Rattle.sp_meaning.specs.Model.{Name, Channel}
@@ -36,7 +36,7 @@ use Rattle.sp_codegen.specs.Joints.{Joint, sources, machines, from, up_at, HomeI
 use Rattle.sp_tree.specs.Formed.{IsFormed, is_parameter, is_answer, among}
 use Rattle.sp_codegen.specs.Executions.{Execution}
 use Rattle.sp_codegen.specs.Relation.{Relation, Keeps, Placed}
-use Rattle.sp_codegen.specs.Standing.{spot_at, HomesAre, Paired, IsIn}
+use Rattle.sp_codegen.specs.Standing.{spot_at, HomesAre, Paired}
 use Rattle.sp_codegen.proofs.Joints.{from_length, up_from, paired_from, last_machines, machines_length, sources_length}
 use Rattle.sp_codegen.proofs.Numbers.{AreKnown, are_known, frame_is}
 use Rattle.sp_codegen.proofs.Closing.{Laid}
@@ -124,11 +124,11 @@ is_some : {A : Type 0} (a b : A) → Some a ≡ Some b → a ≡ b
 is_some a b e = cc e
 
 module _ (p : Program) (formed : IsFormed p) (ls : List Layout) (laid : Laid p ls) (Called : Name → ℕ → Type 0) (x : ℕ) (v : Variable) (ev : slice_get p.variables x ≡ Some v) (iv : v.role ≡ role.Index) where
-  not_among : (fits : Role → Bool) → fits role.Index ≡ false → (xs : List (ℕ × Variable)) → AreKnown p formed xs → IsIn x (among fits xs) → ⊥
+  not_among : (fits : Role → Bool) → fits role.Index ≡ false → (xs : List (ℕ × Variable)) → AreKnown p formed xs → IsMember x (among fits xs) → ⊥
   not_among fits f [] k h = h
   not_among fits f (y ∷ ys) k h = go (fits y.1.role) refl (not_among fits f ys k.1) h
     where
-      go : (c : Bool) → fits y.1.role ≡ c → (IsIn x (among fits ys) → ⊥) → IsIn x (if c then y.0 ∷ among fits ys else among fits ys) → ⊥
+      go : (c : Bool) → fits y.1.role ≡ c → (IsMember x (among fits ys) → ⊥) → IsMember x (if c then y.0 ∷ among fits ys else among fits ys) → ⊥
       go true e ih (inl a) =
           let vy : v ≡ y.1 = is_some v y.1 (sym ev ∙ ap (λ z. slice_get p.variables z) a ∙ k.0) in
           let bad : false ≡ true = sym f ∙ ap fits (sym iv ∙ ap (λ (z : Variable). z.role) vy) ∙ e in
@@ -136,14 +136,14 @@ module _ (p : Program) (formed : IsFormed p) (ls : List Layout) (laid : Laid p l
       go true e ih (inr a) = ih a
       go false e ih a = ih a
 
-  not_in_frame : (f : ℕ) (b : Block) → slice_get p.blocks f ≡ Some b → IsIn x (frame_of p f) → ⊥
+  not_in_frame : (f : ℕ) (b : Block) → slice_get p.blocks f ≡ Some b → IsMember x (frame_of p f) → ⊥
   not_in_frame f b e h = ⊎_elim
-      (λ (a : IsIn x (b.formals ++ as_list b.answer)). ⊎_elim
-          (λ (c : IsIn x b.formals). not_among is_parameter refl vs (are_known p formed f) (subst (λ z. IsIn x z) (formed.formals f b e) c))
-          (λ (c : IsIn x (as_list b.answer)). not_among is_answer refl vs (are_known p formed f) (subst (λ z. IsIn x z) (formed.answers f b e) c))
+      (λ (a : IsMember x (b.formals ++ as_list b.answer)). ⊎_elim
+          (λ (c : IsMember x b.formals). not_among is_parameter refl vs (are_known p formed f) (subst (λ z. IsMember x z) (formed.formals f b e) c))
+          (λ (c : IsMember x (as_list b.answer)). not_among is_answer refl vs (are_known p formed f) (subst (λ z. IsMember x z) (formed.answers f b e) c))
           (in_either x b.formals (as_list b.answer) a))
-      (λ (a : IsIn x (among is_local vs)). not_among is_local refl vs (are_known p formed f) a)
-      (in_either x (b.formals ++ as_list b.answer) (among is_local vs) (subst (λ z. IsIn x z) (frame_is p formed f b e) h))
+      (λ (a : IsMember x (among is_local vs)). not_among is_local refl vs (are_known p formed f) a)
+      (in_either x (b.formals ++ as_list b.answer) (among is_local vs) (subst (λ z. IsMember x z) (frame_is p formed f b e) h))
     where
       vs : List (ℕ × Variable)
       vs = variables_of f 0 p.variables

@@ -1,6 +1,6 @@
 -- Where the code of what is left to do stands.
 use Rattle.std.proofs.Common.{◌≡◌, ◌⊎◌, inl, inr, ℕ, zero, suc, ◌+◌, ℤ, List, [], ◌∷◌, Option, Some, None, Bool, true, false, if◌then◌else◌, refl, sym, ap, ◌∙◌, subst}
-use Rattle.std.specs.Prelude.{slice_get, length, pos, ◌+ℤ◌, ◌-ℤ◌, nat_abs, int_lt}
+use Rattle.std.specs.Prelude.{nat_lt, slice_get, length, pos, ◌+ℤ◌, ◌-ℤ◌, nat_abs, int_lt}
 use Rattle.sp_base.specs.declared.fault.Fault.{Fault}
 use Rattle.sp_tree.specs.Plain.{Expr, Program, Stmt, Empty, Assign, Call, Sequence, If, IfElse, While, Repeat, For, Case, Parallel, Forall, Assume, ReadValue, ReadLine, WriteValue, WriteText, WriteLine, Open, Send, Receive, Stmts, No, And, Typed}
 use Rattle.sp_tree.specs.Uses.{Use, In_stmt, In_stmts, In_loop}
