@@ -12,3 +12,4 @@ pub mod KeptKinds
 pub mod Tops
 pub mod Seeing
 pub mod Noting
+pub mod Singles

@@ -1,64 +1,14 @@
-use crate::entries::KindEntry;
-use crate::expressions::type_expression;
-use crate::program::type_check;
-use crate::tables::Tables;
 use sp_base::{Boxed, Halt, List, Place, Refusal, Rule, Text};
 use sp_tree::{
-    BinaryOp, Checked, Form, KindOf, Named, NamedArg, NamedBlock, NamedConstant, NamedExpr,
-    NamedExprForm, NamedForm, NamedKind, NamedKindForm, NamedStmt, NamedVar, Role,
-    StandardProcedure, Variable,
+    BinaryOp, Checked, Form, Named, NamedArg, NamedBlock, NamedConstant, NamedExpr, NamedExprForm,
+    NamedForm, NamedKind, NamedKindForm, NamedStmt, NamedVar, Role, StandardProcedure, Variable,
 };
+use sp_types::type_check;
 use std::alloc::Global;
 use std::test::Fail;
 
 fn at(column: u32) -> Place {
     Place { line: 1, column }
-}
-
-fn standard_tables(alloc: Global) -> Result<Tables, Fail> {
-    let mut kinds = List::new(alloc);
-    for k in [KindOf::Integer, KindOf::Boolean, KindOf::Char] {
-        kinds.push(KindEntry::of(alloc, k)?)?;
-    }
-    Ok(Tables {
-        constants: List::new(alloc),
-        kinds,
-        variables: List::new(alloc),
-        roles: List::new(alloc),
-        blocks: List::new(alloc),
-        next: 0,
-    })
-}
-
-#[test]
-fn a_char_is_no_operand_of_a_sum(rt: HostRuntime) -> Result<(), Fail> {
-    let alloc = rt.alloc();
-    let t = standard_tables(alloc)?;
-    let one = NamedExpr {
-        at: at(9),
-        form: NamedExprForm::Number(1),
-    };
-    let text = Text::of(vec![in alloc; b'a']?);
-    let char = NamedExpr {
-        at: at(13),
-        form: NamedExprForm::Quoted(text),
-    };
-    let sum = NamedExpr {
-        at: at(9),
-        form: NamedExprForm::Binary(
-            BinaryOp::Add,
-            Boxed::new(alloc, one)?,
-            Boxed::new(alloc, char)?,
-        ),
-    };
-    let sum = type_expression(alloc, &t, sum, None)?;
-    let y1 = Refusal {
-        rule: Rule::Y1,
-        at: at(13),
-    };
-    assert_eq!(rt; sum.kind, Some(0));
-    assert_eq!(rt; sum.first, Some(y1));
-    Ok(())
 }
 
 fn named(alloc: Global, name: u8) -> Result<Text, Fail> {
@@ -189,19 +139,45 @@ fn statements_are_numbered_and_a_call_with_two_arguments_is_two(
     Ok(())
 }
 
+// The rule that refuses `x := e` and its place.
+fn refusal_of(alloc: Global, e: NamedExpr) -> Result<Option<Refusal>, Fail> {
+    let form = NamedForm::Assign(x(alloc, 3), e);
+    let program = program(alloc, NamedStmt { at: at(3), form })?;
+    match answer(alloc, program) {
+        Ok(_) => Ok(None),
+        Err(Halt::Memory) => Ok(None),
+        Err(Halt::Refused(r)) => Ok(Some(r)),
+    }
+}
+
+#[test]
+fn a_char_is_no_operand_of_a_sum(rt: HostRuntime) -> Result<(), Fail> {
+    let alloc = rt.alloc();
+    let one = NamedExpr {
+        at: at(9),
+        form: NamedExprForm::Number(1),
+    };
+    let one = Boxed::new(alloc, one)?;
+    let char = Boxed::new(alloc, quoted(alloc, 13)?)?;
+    let sum = NamedExpr {
+        at: at(9),
+        form: NamedExprForm::Binary(BinaryOp::Add, one, char),
+    };
+    let y1 = Refusal {
+        rule: Rule::Y1,
+        at: at(13),
+    };
+    assert_eq!(rt; refusal_of(alloc, sum)?, Some(y1));
+    Ok(())
+}
+
 #[test]
 fn a_char_is_not_assigned_to_an_integer(rt: HostRuntime) -> Result<(), Fail> {
     let alloc = rt.alloc();
-    let form = NamedForm::Assign(x(alloc, 3), quoted(alloc, 8)?);
-    let program = program(alloc, NamedStmt { at: at(3), form })?;
-    let refusal = Refusal {
+    let y5 = Refusal {
         rule: Rule::Y5,
         at: at(8),
     };
-    match answer(alloc, program) {
-        Ok(_) => assert!(rt; false),
-        Err(Halt::Memory) => assert!(rt; false),
-        Err(Halt::Refused(r)) => assert_eq!(rt; r, refusal),
-    }
+    assert_eq!(rt; refusal_of(alloc, quoted(alloc, 8)?)?, Some(y5));
     Ok(())
 }
