@@ -45,10 +45,10 @@ module _ (g : Setting) (code : Code) (formed : IsFormed g.program) (b : Block) (
   laid = laid_of p code moves shares hush blocks finds
 
   abbrev w : Who
-  w = who g code formed laid b eb pause
+  w = who g code formed laid b eb pause NoChannel IsFirst (refl, refl)
 
   abbrev V : Loc → Type 0
-  V l = W g code formed laid b eb pause l
+  V l = W g code formed laid b eb pause NoChannel IsFirst (refl, refl) l
 
   law : Keeps g w (due_after 0 pause) V V NoIndexes (memory plain (code_run g code pause)) (relation g code w NoChannel IsFirst V V NoIndexes 1 1 0 0 pause [])
   law = instance g code w NoChannel IsFirst V V NoIndexes 1 1 0 0 pause [] formed laid (omega arith) (λ n x. inl refl) (omega (arith, small)) (λ c d i j h k. absurd h)
@@ -61,7 +61,7 @@ module _ (g : Setting) (code : Code) (formed : IsFormed g.program) (b : Block) (
   layout = blocks 0 b eb
 
   abbrev js : List Joint
-  js = j0 g code formed laid b eb pause ∷ []
+  js = j0 g code formed laid b eb pause NoChannel IsFirst (refl, refl) ∷ []
 
   -- a turn that begins and runs so
   turn_by : (c : Config (Memory Plain)) (t : Turn (Memory Plain)) → begins (memory plain (code_run g code pause)) code c ≡ true → Runs (memory plain (code_run g code pause)) code c t → IsTurn (memory plain (code_run g code pause)) code c t
@@ -79,13 +79,13 @@ module _ (g : Setting) (code : Code) (formed : IsFormed g.program) (b : Block) (
   turned : (k : ℕ) → Turned execution (At layout.layout.entry [] n0) end [] js
       (run (source.turn g (due_after 0 pause) k (push b.body [])) w (root g).own (first_store g))
   turned k = turn_meets execution
-      blocks end [] js layout.stands.end refl k (push b.body []) layout.layout.entry [] js (root g).own (first_store g) n0 (root_stands g code formed laid b eb pause fits)
+      blocks end [] js layout.stands.end refl k (push b.body []) layout.layout.entry [] js (root g).own (first_store g) n0 (root_stands g code formed laid b eb pause NoChannel IsFirst (refl, refl) fits)
       (push_follows execution
-          b.body end [] js (scopes_of p 0) layout.layout.entry [] js [] (root_placed g code formed laid b eb pause free) (layout.stands.body true tt)
+          b.body end [] js (scopes_of p 0) layout.layout.entry [] js [] (root_placed g code formed laid b eb pause NoChannel IsFirst (refl, refl) free) (layout.stands.body true tt)
           (slides execution end [], refl, refl))
 
   fits_first : (memory plain (code_run g code pause)).fits n0 ≡ true
-  fits_first = law.fits (root_stands g code formed laid b eb pause fits)
+  fits_first = law.fits (root_stands g code formed laid b eb pause NoChannel IsFirst (refl, refl) fits)
 
   by_outcome : (r : Came source.Stop × Store) → Turned execution (At layout.layout.entry [] n0) end [] js r → EndsAlike (code_run g code pause) (At layout.layout.entry [] n0) r
   by_outcome (Got (source.Paused todo) o, s) q = (At q.0 q.1 q.2, turn_by (At layout.layout.entry [] n0) (Stopped Pauses (At q.0 q.1 q.2)) fits_first (q.4, q.5, q.6))
