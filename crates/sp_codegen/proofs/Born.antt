@@ -89,7 +89,8 @@ Seen sc js st h = (x : ℕ) × (up : ℕ) × In_stmt st (Sees x) × (level (is_i
 module _ (g : Setting) (W R : Loc → Type 0) (J : ℕ → Type 0) (sc : List Scope) (js : List Joint) (V T : Loc → Type 0) (st : Stmt) (aims : (l : Loc) → Aimed g.program (sources js) st l → V l) (uses : (l : Loc) → Used g.program (sources js) st l → T l) where
   pub child_placed : (ss : Stmts) → Placed g W R J sc js (In_stmt (Parallel ss)) → ((u : Use) → In_stmt st u → In_stmts ss u) → Placed g V T (Seen sc js st) sc js (In_stmt st)
   child_placed ss pl inside = record {
-    chain = pl.chain; linked = pl.linked;
+    chain = pl.chain;
+    linked = pl.linked;
     sound = child_sound g.program W R V T (sources js) [] None st (part (λ u a. inr (inl (inside u a))) pl.sound) aims uses;
     indexes = λ x up a l j rest e. (x, up, a, l, (j, rest, e, refl));
   }
@@ -139,9 +140,9 @@ module _ (p : Program) (formed : IsFormed p) (ls : List Layout) (laid : Laid p l
   not_in_frame : (f : ℕ) (b : Block) → slice_get p.blocks f ≡ Some b → IsMember x (frame_of p f) → ⊥
   not_in_frame f b e h = ⊎_elim
       (λ (a : IsMember x (b.formals ++ as_list b.answer)). ⊎_elim
-          (λ (c : IsMember x b.formals). not_among is_parameter refl vs (are_known p formed f) (subst (λ z. IsMember x z) (formed.formals f b e) c))
-          (λ (c : IsMember x (as_list b.answer)). not_among is_answer refl vs (are_known p formed f) (subst (λ z. IsMember x z) (formed.answers f b e) c))
-          (in_either x b.formals (as_list b.answer) a))
+      (λ (c : IsMember x b.formals). not_among is_parameter refl vs (are_known p formed f) (subst (λ z. IsMember x z) (formed.formals f b e) c))
+      (λ (c : IsMember x (as_list b.answer)). not_among is_answer refl vs (are_known p formed f) (subst (λ z. IsMember x z) (formed.answers f b e) c))
+      (in_either x b.formals (as_list b.answer) a))
       (λ (a : IsMember x (among is_local vs)). not_among is_local refl vs (are_known p formed f) a)
       (in_either x (b.formals ++ as_list b.answer) (among is_local vs) (subst (λ z. IsMember x z) (frame_is p formed f b e) h))
     where

@@ -54,8 +54,25 @@ module _ (g : Setting) (code : Code) (formed : IsFormed g.program) (b : Block) (
   law = instance g code w NoChannel IsFirst V V NoIndexes 1 1 0 0 pause [] formed laid (omega arith) (λ n x. inl refl) (omega (arith, small)) (λ c d i j h k. absurd h)
 
   abbrev execution : Execution (Memory Plain)
-  execution = record { setting = g; code = code; moves = moves; shares = shares; Quiet = hush; who = w; due = due_after 0 pause; Writes = V; Reads = V; Indexes = NoIndexes;
-      operations = memory plain (code_run g code pause); relation = relation g code w NoChannel IsFirst V V NoIndexes 1 1 0 0 pause []; laws = law; reads_written = λ l h. h; free = free; own_written = λ n x. inl refl; layouts_found = finds }
+  execution = record {
+    setting = g;
+    code = code;
+    moves = moves;
+    shares = shares;
+    Quiet = hush;
+    who = w;
+    due = due_after 0 pause;
+    Writes = V;
+    Reads = V;
+    Indexes = NoIndexes;
+    operations = memory plain (code_run g code pause);
+    relation = relation g code w NoChannel IsFirst V V NoIndexes 1 1 0 0 pause [];
+    laws = law;
+    reads_written = λ l h. h;
+    free = free;
+    own_written = λ n x. inl refl;
+    layouts_found = finds;
+  }
 
   layout : BlockAt p moves shares code hush 0 b
   layout = blocks 0 b eb
@@ -81,8 +98,8 @@ module _ (g : Setting) (code : Code) (formed : IsFormed g.program) (b : Block) (
   turned k = turn_meets execution
       blocks end [] js layout.stands.end refl k (push b.body []) layout.layout.entry [] js (root g).own (first_store g) n0 (root_stands g code formed laid b eb pause NoChannel IsFirst (refl, refl) fits)
       (push_follows execution
-          b.body end [] js (scopes_of p 0) layout.layout.entry [] js [] (root_placed g code formed laid b eb pause NoChannel IsFirst (refl, refl) free) (layout.stands.body true tt)
-          (slides execution end [], refl, refl))
+      b.body end [] js (scopes_of p 0) layout.layout.entry [] js [] (root_placed g code formed laid b eb pause NoChannel IsFirst (refl, refl) free) (layout.stands.body true tt)
+      (slides execution end [], refl, refl))
 
   fits_first : (memory plain (code_run g code pause)).fits n0 ≡ true
   fits_first = law.fits (root_stands g code formed laid b eb pause NoChannel IsFirst (refl, refl) fits)

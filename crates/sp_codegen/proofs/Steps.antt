@@ -192,8 +192,17 @@ module _ {M : Type 0} (ex : Execution M) where
           let has_from : ops.has b (size p k) n1 ≡ true = subst (λ z. ops.has b (size p z) n1 ≡ true) x.0 (law.has t1 c b x.1 x.2) in
           let has_to : ops.has u (size p k) n1 ≡ true = subst (λ z. ops.has u (size p z) n1 ≡ true) ek (law.has t1 a u pt ra) in
           makes_known ex (λ v. bind (assign a v) (λ x. give (Went todo))) val (known_bind ops rel w code (λ y. bind (fetch c) (checked y)) ty.0 val (kind_known ex c.kind k ty.0 x.0 ty.1) (known_bind ops rel w code (checked ty.0) val val (fetch_known ex c) (ty.2 val o1 s1)))
-          (record { by = (after_var q v + 1, stack, ops.copy u b (size p k) n1, fs, goes ops rel w code (one_at (after_var q v) _ n1 h.1 ∙ holds_when (ops.has b (size p k) n1 && ops.has u (size p k) n1) _ (both_true _ _ has_from has_to)),
-              subst (λ y. rel.Stand fs o1 (at_key same_loc a.spot (assigned a (s1 a.spot) (Tree (get_at c.path (value_in (s1 c.spot))))) s1) (ops.copy u b (size p y) n1)) ek (law.copy t1 a c u b pt x.1 ra x.2 (ek ∙ sym x.0)), fo) })
+          (record {
+            by = (
+              after_var q v + 1,
+              stack,
+              ops.copy u b (size p k) n1,
+              fs,
+              goes ops rel w code (one_at (after_var q v) _ n1 h.1 ∙ holds_when (ops.has b (size p k) n1 && ops.has u (size p k) n1) _ (both_true _ _ has_from has_to)),
+              subst (λ y. rel.Stand fs o1 (at_key same_loc a.spot (assigned a (s1 a.spot) (Tree (get_at c.path (value_in (s1 c.spot))))) s1) (ops.copy u b (size p y) n1)) ek (law.copy t1 a c u b pt x.1 ra x.2 (ek ∙ sym x.0)),
+              fo,
+            );
+          })
   assign_makes call ok end base below Many k (Number v) sc q stack todo a u fs o s n t pl ez ek pt ra h fo = absurd h
   assign_makes call ok end base below Many k (Unary op e) sc q stack todo a u fs o s n t pl ez ek pt ra h fo = absurd h
   assign_makes call ok end base below Many k (Binary op d e) sc q stack todo a u fs o s n t pl ez ek pt ra h fo = absurd h
@@ -219,11 +228,16 @@ module _ {M : Type 0} (ex : Execution M) where
       let a = law.addr t 0 x r.frame r.rest r.at v h.1 (block_home ex v.block r.frame.source.home r.fit) (subst Owns (sym h.2) tt) in
       let at : stands p (sources fs) x ≡ Some (in_frame g x v r.frame.source).spot = ap (stands_at (sources fs) x) h.1 ∙ ap (stands_by (sources fs) x v) h.2 ∙ ap (cell_in x) (find_in (is_block v.block) fs r.frame r.rest r.sought) in
       record {
-        address = in_frame g x v r.frame.source; cell = a.0;
+        address = in_frame g x v r.frame.source;
+        cell = a.0;
         known = known_bind ops rel w code (λ i. place_by g x i i.role) v (At (in_frame g x v r.frame.source)) (or_known ex (slice_get p.variables x) v h.1)
             (subst (λ y. Known ops rel w code o s (place_by g x v y) (At (in_frame g x v r.frame.source))) (sym h.2)
-                (known_bind ops rel w code (λ f. give (At (in_frame g x v f))) r.frame.source (At (in_frame g x v r.frame.source)) (visible_known ex t (is_block v.block) r.frame r.rest (seek_all (is_block v.block) fs ∙ r.sought)) (record { by = refl })));
-        at = a.1; points = a.2; may = reads (in_frame g x v r.frame.source).spot (pl.sound.allowed [] (Aims x) ai x (in_frame g x v r.frame.source).spot (refl, at)); sorted = h.4 }
+            (known_bind ops rel w code (λ f. give (At (in_frame g x v f))) r.frame.source (At (in_frame g x v r.frame.source)) (visible_known ex t (is_block v.block) r.frame r.rest (seek_all (is_block v.block) fs ∙ r.sought)) (record { by = refl })));
+        at = a.1;
+        points = a.2;
+        may = reads (in_frame g x v r.frame.source).spot (pl.sound.allowed [] (Aims x) ai x (in_frame g x v r.frame.source).spot (refl, at));
+        sorted = h.4;
+      }
 
   -- the value of a for loop's turn is assigned, and then there is a tick
   pub turn_makes : (end : ℕ) (base : List Entry) (below : List Joint) (x : ℕ) (v limit : ℤ) (down : Bool) (d : Stmt) (sc : List Scope) (q : ℕ) (st : List Entry) (todo : List Item) (fs : List Joint) (c : Config M) (o : Own) (s : Store) (n : M) → rel.Stand fs o s n → Pl sc fs (In_loop x d) → TurnsAt p moves shares (Stands code) (HasFork code) (HasWords code) hush sc q x down (after p (q + 1 + 1) d) (S (outside st) sc (q + 1 + 1) d)
@@ -234,7 +248,7 @@ module _ {M : Type 0} (ex : Execution M) where
       (makes_known ex (λ a. bind (assign a (Ordinal v)) (λ u. bind (tick g.limits) (λ u. give (Beat (push d (Again x limit down d ∷ todo)))))) z.address (address_known z.address)
       (makes_bind ex _ (assign_gives (q + 1) z.address z.cell (Ordinal v) (m.Number v) (m.Number limit ∷ st) t z.points z.may (subst OneCell (sym z.sorted) tt) (subst (λ y. Stood rel p y z.address.kind (Ordinal v) (m.Number v)) (sym z.sorted) (v, refl, refl)) ge) (λ x1 x2 o2 s2 n2 t2 x3.
       makes_tick ex (push d (Again x limit down d ∷ todo)) fs (q + 1 + 1) (m.Number limit ∷ st) (ops.beat n2) (law.beat t2) (one_at (q + 1) (m.Number limit ∷ st) n2 h.2)
-          (push_follows ex d end base below sc (q + 1 + 1) (m.Number limit ∷ st) fs (Again x limit down d ∷ todo) (within (λ u. inr) pl) h.3 (q, sc, st, slides ex _ _, refl, pl, h, fo)))))
+      (push_follows ex d end base below sc (q + 1 + 1) (m.Number limit ∷ st) fs (Again x limit down d ∷ todo) (within (λ u. inr) pl) h.3 (q, sc, st, slides ex _ _, refl, pl, h, fo)))))
 
   -- an item is written
   print_gives : {fs : List Joint} {c : Config M} {o : Own} {s : Store} {n : M} (q : ℕ) (t : List ℕ) (stack : List Entry) → rel.Stand fs o s n → R Output → one ops code c ≡ m.prints ops code t q stack n → G fs c o s q (λ (u : Unit {0}) (z : Unit {0}). stack) (λ u z. Unit {0}) (write g t)
@@ -383,12 +397,13 @@ module _ {M : Type 0} (ex : Execution M) where
           let op = law.open_frame t f b z.layout h.1 z.is c h.0 r.frame r.rest e r.at seek_is gs es gv in
           let formals_are : length z.layout.formals ≡ length b.formals = ap (λ (y : Layout). length y.formals) z.is ∙ length_map _ b.formals in
           let fresh_is : fresh p w.name W R mine_written reads free (sources fs) f b args gs c r.frame.source ≡ frame_for rel w f b fs (r.frame ∷ r.rest) gs =
-                  (let a = sources_length fs in let k = sym (sought (is_block c) (length (sources fs)) (sources fs) r.frame.source (sources r.rest) pl.linked seek_is).1 ∙ sources_length (r.frame ∷ r.rest) in
-                  λ i. record { owner = w.name; number = a i; home = OfBlock f; link = k i; references = references b.formals gs }) in
+          (let a = sources_length fs in let k = sym (sought (is_block c) (length (sources fs)) (sources fs) r.frame.source (sources r.rest) pl.linked seek_is).1 ∙ sources_length (r.frame ∷ r.rest) in
+          λ i. record { owner = w.name; number = a i; home = OfBlock f; link = k i; references = references b.formals gs }) in
           let found_is : find (is_block c) (length (sources fs)) (sources fs) ≡ Some r.frame.source = find_in (is_block c) fs r.frame r.rest r.sought in
           let before : c < f = free.parents f b c h.1 e in
           record {
-            did = ops.open_frame z.layout h.0 es n; around = r.frame ∷ r.rest;
+            did = ops.open_frame z.layout h.0 es n;
+            around = r.frame ∷ r.rest;
             entered = op.2;
             goes = one_at q (pushed es stack) n h.3 ∙ ap (λ y. there y (λ l. m.called ops code l h.0 (q + 1) (pushed es stack) n)) (finds f z.layout z.at)
                 ∙ pop_pushed es (length z.layout.formals) 0 stack [] (λ es st. when (fit_formals z.layout.formals es) (when (ops.may_open h.0 n) (then_go (ops.open_frame z.layout h.0 es n) (λ n1. m.entered ops code z.layout (q + 1) st n1)))) (zero_plus (length z.layout.formals) (length es) (length b.formals) formals_are (givens_length fs b.formals gs es gv))
@@ -437,11 +452,19 @@ module _ {M : Type 0} (ex : Execution M) where
 
       go : (x : Came Block × Store) (d : Did M) → Entered rel w fs f b r.around gs x d → one ops code c ≡ calls_to l (q + 1) stack d → Made ex c (After end base below) (then_run next w x)
       go (Got b1 o1, s1) (Done n1) al e =
-          let fr = al.1.0 in
-          (l.entry, m.Link (q + 1) ∷ stack, n1, fr ∷ fs, c, stays ops rel w code c, e ∙ ap (λ y. if y then Goes (m.At l.entry (m.Reply (q + 1) ∷ stack) n1) else paced ops code l.entry (m.Link (q + 1) ∷ stack) n1) no_answer, al.1.2,
-              subst (λ (y : Block). After end base below (push y.body (Leave ∷ todo)) (fr ∷ fs) l.entry (m.Link (q + 1) ∷ stack)) (sym al.0)
-                  (push_follows ex b.body end base below (scopes_of p f) l.entry (m.Link (q + 1) ∷ stack) (fr ∷ fs) (Leave ∷ todo) (r.placed fr al.1.1) (z.stands.body (outside stack) hu)
-                      (after p l.entry b.body, q + 1, stack, fr, fs, slides ex _ _, refl, z.stands.end ∙ ap Some (return_at f r.parent.0 b h.1 r.parent.1), refl, fo, al.1.3)))
+          let fr = al.1.0 in (
+            l.entry,
+            m.Link (q + 1) ∷ stack,
+            n1,
+            fr ∷ fs,
+            c,
+            stays ops rel w code c,
+            e ∙ ap (λ y. if y then Goes (m.At l.entry (m.Reply (q + 1) ∷ stack) n1) else paced ops code l.entry (m.Link (q + 1) ∷ stack) n1) no_answer,
+            al.1.2,
+            subst (λ (y : Block). After end base below (push y.body (Leave ∷ todo)) (fr ∷ fs) l.entry (m.Link (q + 1) ∷ stack)) (sym al.0)
+                (push_follows ex b.body end base below (scopes_of p f) l.entry (m.Link (q + 1) ∷ stack) (fr ∷ fs) (Leave ∷ todo) (r.placed fr al.1.1) (z.stands.body (outside stack) hu)
+                (after p l.entry b.body, q + 1, stack, fr, fs, slides ex _ _, refl, z.stands.end ∙ ap Some (return_at f r.parent.0 b h.1 r.parent.1), refl, fo, al.1.3)),
+          )
       go (Got b1 o1, s1) (Failed x) al e = absurd al
       go (Bad x, s1) (Done n1) al e = absurd al
       go (Bad x, s1) (Failed y) al e = record { at = c; comes = stays ops rel w code c; fails = e ∙ ap Fails (sym al) }
@@ -538,24 +561,24 @@ module _ {M : Type 0} (ex : Execution M) where
   start_makes call ok bl end base below (If e a) sc q stack todo fs o s n t pl h k =
       makes_bind ex _ (ordinal_gives ex call ok e sc q stack fs o s n t (within (λ u. inl) pl) h.0) (λ v u o1 s1 n1 t1 x1.
       makes_by ex (went_if (int_le v (pos 0)) todo (push a todo))
-          (branch (After end base below) v (after_value q e) (after p (after_value q e + 1) a) stack o1 s1 n1 _ _ h.1
-              (makes_went ex todo fs _ stack n1 (stays ops rel w code _) t1 k)
-              (makes_went ex (push a todo) fs _ stack n1 (stays ops rel w code _) t1 (push_follows ex a end base below sc _ stack fs todo (within (λ u. inr) pl) h.2 k))))
+      (branch (After end base below) v (after_value q e) (after p (after_value q e + 1) a) stack o1 s1 n1 _ _ h.1
+      (makes_went ex todo fs _ stack n1 (stays ops rel w code _) t1 k)
+      (makes_went ex (push a todo) fs _ stack n1 (stays ops rel w code _) t1 (push_follows ex a end base below sc _ stack fs todo (within (λ u. inr) pl) h.2 k))))
   start_makes call ok bl end base below (IfElse e a b) sc q stack todo fs o s n t pl h k =
       makes_bind ex _ (ordinal_gives ex call ok e sc q stack fs o s n t (within (λ u. inl) pl) h.0) (λ v u o1 s1 n1 t1 x1.
       makes_by ex (went_if (int_le v (pos 0)) (push b todo) (push a todo))
-          (branch (After end base below) v (after_value q e) (after p (after_value q e + 1) a + 1) stack o1 s1 n1 _ _ h.1
-              (makes_went ex (push b todo) fs _ stack n1 (stays ops rel w code _) t1 (push_follows ex b end base below sc _ stack fs todo (within (λ u i. inr (inr i)) pl) h.4 k))
-              (makes_went ex (push a todo) fs _ stack n1 (stays ops rel w code _) t1 (push_follows ex a end base below sc _ stack fs todo (within (λ u i. inr (inl i)) pl) h.2 (slide_follows ex end base below _ _ stack fs todo (jumps ex _ _ stack h.3) k)))))
+      (branch (After end base below) v (after_value q e) (after p (after_value q e + 1) a + 1) stack o1 s1 n1 _ _ h.1
+      (makes_went ex (push b todo) fs _ stack n1 (stays ops rel w code _) t1 (push_follows ex b end base below sc _ stack fs todo (within (λ u i. inr (inr i)) pl) h.4 k))
+      (makes_went ex (push a todo) fs _ stack n1 (stays ops rel w code _) t1 (push_follows ex a end base below sc _ stack fs todo (within (λ u i. inr (inl i)) pl) h.2 (slide_follows ex end base below _ _ stack fs todo (jumps ex _ _ stack h.3) k)))))
   start_makes call ok bl end base below (While e d) sc q stack todo fs o s n t pl h k =
       makes_bind ex _ (ordinal_gives ex call ok e sc q stack fs o s n t (within (λ u. inl) pl) h.0) (λ v u o1 s1 n1 t1 x1.
-          branch (After end base below) v (after_value q e) (after p (after_value q e + 1 + 1) d + 1) stack o1 s1 n1 _ _ h.1
-              (makes_went ex todo fs _ stack n1 (stays ops rel w code _) t1 k)
-              (makes_tick ex (push d (Do (While e d) ∷ todo)) fs (after_value q e + 1 + 1) stack (ops.beat n1) (law.beat t1) (one_at (after_value q e + 1) stack n1 h.2)
-                  (push_follows ex d end base below sc _ stack fs (Do (While e d) ∷ todo) (within (λ u. inr) pl) h.3 (q, sc, jumps ex _ q stack h.4, pl, h, k))))
+      branch (After end base below) v (after_value q e) (after p (after_value q e + 1 + 1) d + 1) stack o1 s1 n1 _ _ h.1
+      (makes_went ex todo fs _ stack n1 (stays ops rel w code _) t1 k)
+      (makes_tick ex (push d (Do (While e d) ∷ todo)) fs (after_value q e + 1 + 1) stack (ops.beat n1) (law.beat t1) (one_at (after_value q e + 1) stack n1 h.2)
+      (push_follows ex d end base below sc _ stack fs (Do (While e d) ∷ todo) (within (λ u. inr) pl) h.3 (q, sc, jumps ex _ q stack h.4, pl, h, k))))
   start_makes call ok bl end base below (Repeat d e) sc q stack todo fs o s n t pl h k =
       makes_tick ex (push d (Test d e ∷ todo)) fs (q + 1) stack (ops.beat n) (law.beat t) (one_at q stack n h.0)
-          (push_follows ex d end base below sc (q + 1) stack fs (Test d e ∷ todo) (within (λ u. inr) pl) h.1 (q, sc, slides ex _ _, pl, h, k))
+      (push_follows ex d end base below sc (q + 1) stack fs (Test d e ∷ todo) (within (λ u. inr) pl) h.1 (q, sc, slides ex _ _, pl, h, k))
   start_makes call ok bl end base below (For x from down to d) sc q stack todo fs o s n t pl h k =
       makes_bind ex _ (ordinal_gives ex call ok from sc q stack fs o s n t (within (λ u i. inr (inl i)) pl) h.0) (λ lo u o1 s1 n1 t1 x1.
       makes_bind ex _ (ordinal_gives ex call ok to sc (after_value q from) (m.Number lo ∷ stack) fs o1 s1 n1 t1 (within (λ u i. inr (inr (inl i))) pl) h.1) (λ hi u2 o2 s2 n2 t2 x2.
@@ -569,12 +592,12 @@ module _ {M : Type 0} (ex : Execution M) where
       case_makes end base below v arms sc (after_value q e) (after_tests (after_value q e) arms + 1) (after p q (Case e arms)) stack todo fs o1 s1 n1 t1 (within (λ u. inr) pl) h.1 h.2 h.3 k)
   start_makes call ok bl end base below (Parallel ss) sc q stack todo fs o s n t pl h k =
       fork_makes (After end base below) fs (q + 1) h.0 (pos 0) (length (emitted.children_tables p moves shares (q + 1 + 1) ss)) stack (children ss) todo (m.At q stack n) o s n t (one_at q stack n h.2 ∙ ap (λ y. there y (λ table. m.forked ops code h.0 (pos 0) (length table.children) (q + 1) stack n)) h.1)
-          (slide_follows ex end base below (q + 1) _ stack fs todo (jumps ex (q + 1) _ stack h.3) k) h.5 (inl (ss, h.0, q + 1 + 1, sc, refl, h.1, refl, h.4, pl))
+      (slide_follows ex end base below (q + 1) _ stack fs todo (jumps ex (q + 1) _ stack h.3) k) h.5 (inl (ss, h.0, q + 1 + 1, sc, refl, h.1, refl, h.4, pl))
   start_makes call ok bl end base below (Forall x from to d) sc q stack todo fs o s n t pl h k =
       makes_bind ex _ (ordinal_gives ex call ok from sc q stack fs o s n t (within (λ u i. inr (inl i)) pl) h.2) (λ lo u o1 s1 n1 t1 x1.
       makes_bind ex _ (ordinal_gives ex call ok to sc (after_value q from) (m.Number lo ∷ stack) fs o1 s1 n1 t1 (within (λ u i. inr (inr (inl i))) pl) h.3) (λ hi u2 o2 s2 n2 t2 x2.
       forall_makes (After end base below) fs (after_value (after_value q from) to) h.0 x d lo hi stack todo o2 s2 n2 t2 h.4
-          (slide_follows ex end base below _ _ stack fs todo (jumps ex _ _ stack h.5) k) h.8 (λ b. inr (x, from, to, d, lo, hi, h.0, after_value (after_value q from) to + 1 + 1, sc, refl, h.1, refl, b, h.6, h.7, pl))))
+      (slide_follows ex end base below _ _ stack fs todo (jumps ex _ _ stack h.5) k) h.8 (λ b. inr (x, from, to, d, lo, hi, h.0, after_value (after_value q from) to + 1 + 1, sc, refl, h.1, refl, b, h.6, h.7, pl))))
   start_makes call ok bl end base below (Assume e) sc q stack todo fs o s n t pl h k =
       makes_bind ex _ (ordinal_gives ex call ok e sc q stack fs o s n t pl h.0) (λ v u o1 s1 n1 t1 x1.
       assume_makes (After end base below) fs v (after_value q e) stack todo o1 s1 n1 t1 h.1 k)

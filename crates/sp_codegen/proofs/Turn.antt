@@ -145,8 +145,15 @@ module _ {M : Type 0} (ex : Execution M) where
       on e = record { left = Again x hi down d ∷ todo; known = known_bind ops rel w code (λ v. if goes_on down hi v then give (Again x hi down d ∷ todo) else settle g todo) (held z) (Again x hi down d ∷ todo) peeked (record { by = ap (λ b. run (if b then give (Again x hi down d ∷ todo) else settle g todo) w o s) e }); place = pc; st = stack; comes = stays ops rel w code _; follows = h; ready = (z, e) }
 
       off : goes_on down hi (held z) ≡ false → one ops code (m.At j (m.Number hi ∷ h.2) n) ≡ Goes (m.At (j + 1) h.2 n) → Settled end base below fs o s n (j + 1) h.2 todo → Settled end base below fs o s n pc stack (Again x hi down d ∷ todo)
-      off e ge k = record { left = k.left; known = known_bind ops rel w code (λ v. if goes_on down hi v then give (Again x hi down d ∷ todo) else settle g todo) (held z) k.left peeked (record { by = ap (λ b. run (if b then give (Again x hi down d ∷ todo) else settle g todo) w o s) e ∙ k.known.by }); place = k.place; st = k.st;
-          comes = comes_on ops rel w code (h.3.by n) (comes_on ops rel w code (goes ops rel w code (ap (λ y. one ops code (m.At j y n)) h.4 ∙ ge)) k.comes); follows = k.follows; ready = k.ready }
+      off e ge k = record {
+        left = k.left;
+        known = known_bind ops rel w code (λ v. if goes_on down hi v then give (Again x hi down d ∷ todo) else settle g todo) (held z) k.left peeked (record { by = ap (λ b. run (if b then give (Again x hi down d ∷ todo) else settle g todo) w o s) e ∙ k.known.by });
+        place = k.place;
+        st = k.st;
+        comes = comes_on ops rel w code (h.3.by n) (comes_on ops rel w code (goes ops rel w code (ap (λ y. one ops code (m.At j y n)) h.4 ∙ ge)) k.comes);
+        follows = k.follows;
+        ready = k.ready;
+      }
 
       by_test : (a : ℤ) → held z ≡ Ordinal a → one ops code (m.At j (m.Number hi ∷ h.2) n) ≡ (if is_before down a hi then Goes (m.At (q + 1) (m.Number hi ∷ h.2) (ops.put z.cell (cell.Ordinal (next_value down a)) n)) else Goes (m.At (j + 1) h.2 n)) → Settled end base below fs o s n (j + 1) h.2 todo → (b : Bool) → is_before down a hi ≡ b → Settled end base below fs o s n pc stack (Again x hi down d ∷ todo)
       by_test a e ge k true eb = on (ap (goes_on down hi) e ∙ eb)
@@ -191,7 +198,7 @@ module _ {M : Type 0} (ex : Execution M) where
       go (Parts y) e u oi ge = absurd oi
       go (Ordinal a) e u oi ge =
           turn_makes ex end base below x (next_value down a) hi down d sc q st todo fs c o s n t pl h k z
-              (ge ∙ cell_is a u oi (λ a. if is_before down a hi then Goes (m.At (q + 1) (m.Number hi ∷ st) (ops.put z.cell (cell.Ordinal (next_value down a)) n)) else Goes (m.At (after p (q + 1 + 1) d + 1) st n)) ∙ ap (λ b. if b then Goes (m.At (q + 1) (m.Number hi ∷ st) (ops.put z.cell (cell.Ordinal (next_value down a)) n)) else Goes (m.At (after p (q + 1 + 1) d + 1) st n)) e)
+          (ge ∙ cell_is a u oi (λ a. if is_before down a hi then Goes (m.At (q + 1) (m.Number hi ∷ st) (ops.put z.cell (cell.Ordinal (next_value down a)) n)) else Goes (m.At (after p (q + 1 + 1) d + 1) st n)) ∙ ap (λ b. if b then Goes (m.At (q + 1) (m.Number hi ∷ st) (ops.put z.cell (cell.Ordinal (next_value down a)) n)) else Goes (m.At (after p (q + 1 + 1) d + 1) st n)) e)
 
   -- what is first, where the machine stands before it
   act_makes : (call : Calls) → Oks ex call → Blocks ex → (end : ℕ) (base : List Entry) (below : List Joint) (item : Item) (pc : ℕ) (stack : List Entry) (todo : List Item) (fs : List Joint) (o : Own) (s : Store) (n : M) → rel.Stand fs o s n → F end base below pc stack fs (item ∷ todo) → Ready fs o s n (item ∷ todo)
@@ -201,18 +208,18 @@ module _ {M : Type 0} (ex : Execution M) where
   act_makes call ok bl end base below (First x lo hi down d) pc stack todo fs o s n t h r =
       let z = for_place ex h.1 x t h.5 (inl refl) h.6.0 in
       makes_after ex (h.3.by n) (subst (λ y. Ka end base below (m.At h.0 y n) o s (turn_of g x lo hi down d todo)) (sym h.4)
-          (turn_makes ex end base below x lo hi down d h.1 h.0 h.2 todo fs (m.At h.0 (m.Number hi ∷ m.Number lo ∷ h.2) n) o s n t h.5 h.6 h.7 z
-              (first_one ex down h.0 (after p (h.0 + 1 + 1) d + 1) x h.2 n lo hi h.6.1 z.cell z.at (law.has_one t z.address z.cell z.points z.may) ∙ ap (λ b. if b then Goes (m.At (h.0 + 1) (m.Number hi ∷ h.2) (ops.put z.cell (cell.Ordinal lo) n)) else Goes (m.At (after p (h.0 + 1 + 1) d + 1) h.2 n)) h.8)))
+      (turn_makes ex end base below x lo hi down d h.1 h.0 h.2 todo fs (m.At h.0 (m.Number hi ∷ m.Number lo ∷ h.2) n) o s n t h.5 h.6 h.7 z
+      (first_one ex down h.0 (after p (h.0 + 1 + 1) d + 1) x h.2 n lo hi h.6.1 z.cell z.at (law.has_one t z.address z.cell z.points z.may) ∙ ap (λ b. if b then Goes (m.At (h.0 + 1) (m.Number hi ∷ h.2) (ops.put z.cell (cell.Ordinal lo) n)) else Goes (m.At (after p (h.0 + 1 + 1) d + 1) h.2 n)) h.8)))
   act_makes call ok bl end base below (Again x hi down d) pc stack todo fs o s n t h r =
       makes_after ex (h.3.by n) (subst (λ y. Ka end base below (m.At (after p (h.0 + 1 + 1) d) y n) o s (act g call (Again x hi down d) todo)) (sym h.4)
-          (again_makes end base below x hi down d h.1 h.0 h.2 todo fs o s n t h.5 h.6 h.7 r.0 r.1))
+      (again_makes end base below x hi down d h.1 h.0 h.2 todo fs o s n t h.5 h.6 h.7 r.0 r.1))
   act_makes call ok bl end base below (Test d e) pc stack todo fs o s n t h r =
       makes_after ex (h.2.by n)
       (makes_bind ex _ (ordinal_gives ex call ok e h.1 (after p (h.0 + 1) d) stack fs o s n t (within (λ u. inl) h.3) h.4.2) (λ v u o1 s1 n1 t1 x1.
       makes_by ex (went_if ex (int_le v (pos 0)) (Do (Repeat d e) ∷ todo) todo)
-          (branch ex (After ex end base below) v (after_value (after p (h.0 + 1) d) e) h.0 stack o1 s1 n1 _ _ h.4.3
-              (makes_went ex (Do (Repeat d e) ∷ todo) fs _ stack n1 (stays ops rel w code _) t1 (h.0, h.1, slides ex _ _, h.3, h.4, h.5))
-              (makes_went ex todo fs _ stack n1 (stays ops rel w code _) t1 h.5))))
+      (branch ex (After ex end base below) v (after_value (after p (h.0 + 1) d) e) h.0 stack o1 s1 n1 _ _ h.4.3
+      (makes_went ex (Do (Repeat d e) ∷ todo) fs _ stack n1 (stays ops rel w code _) t1 (h.0, h.1, slides ex _ _, h.3, h.4, h.5))
+      (makes_went ex todo fs _ stack n1 (stays ops rel w code _) t1 h.5))))
   act_makes call ok bl end base below Leave pc stack todo fs o s n t h r =
       let c = law.close_frame (subst (λ y. rel.Stand y o s n) h.8 t) h.10 in
       record { by = (h.1, h.2, ops.close_frame n, h.4, comes_on ops rel w code (h.5.by n) (goes ops rel w code (one_at ex h.0 stack n h.7 ∙ ap (λ y. m.returned ops code y n) h.6 ∙ holds_when (ops.may_close n) _ c.0)), c.1, h.9) }
@@ -252,8 +259,8 @@ module _ {M : Type 0} (ex : Execution M) where
       by_deed (Got (Went todo) o1, s1) q = ends_after ops rel w code below c (m.At q.0 q.1 q.2) end (BaseTop base) No_more (run (go todo) w o1 s1) q.4 (ih.by end base below ob todo q.0 q.1 q.3 o1 s1 q.2 q.5 q.6).by
       by_deed (Got (Beat todo) o1, s1) q =
           ends_after ops rel w code below c (m.At q.0 q.1 q.2) end (BaseTop base) No_more (run (go todo) w o1 s1)
-              (comes_on ops rel w code q.5 (goes ops rel w code (q.6 ∙ ap (λ b. if b then (if ops.due q.2 then Stops m.Pauses (m.At q.0 q.1 q.2) else Goes (m.At q.0 q.1 q.2)) else Goes (m.At q.0 q.1 q.2)) (outside_follows ex end base below q.0 q.1 q.3 todo q.8 ∙ ob))))
-              (ih.by end base below ob todo q.0 q.1 q.3 o1 s1 q.2 q.7 q.8).by
+          (comes_on ops rel w code q.5 (goes ops rel w code (q.6 ∙ ap (λ b. if b then (if ops.due q.2 then Stops m.Pauses (m.At q.0 q.1 q.2) else Goes (m.At q.0 q.1 q.2)) else Goes (m.At q.0 q.1 q.2)) (outside_follows ex end base below q.0 q.1 q.3 todo q.8 ∙ ob))))
+          (ih.by end base below ob todo q.0 q.1 q.3 o1 s1 q.2 q.7 q.8).by
       by_deed (Got (Opened todo) o1, s1) q = absurd (no q.1 q.0 q.3 todo q.14 q.15)
       by_deed (Got (Forked bs todo) o1, s1) q = absurd (no q.1 q.0 q.3 todo q.9 q.10)
       by_deed (Got (Offered ch x cg todo) o1, s1) q = absurd (no q.1 q.0 q.3 todo q.10 q.11)
@@ -302,7 +309,8 @@ module _ {M : Type 0} (ex : Execution M) where
   all_meets bl calls (suc k) = record {
     by = λ end base below ob todo pc stack fs o s n t h.
         let z = settle_follows end base below fs o s n t pc stack todo h in
-        gives_known ops rel w code (rest_by g (all g k)) z.left z.known (gives_after ops rel w code z.comes (rest_gives bl (all g k) (all_meets bl calls k) (calls (all g k) (all_meets bl calls k)) end base below ob z.left z.place z.st fs o s n t z.follows z.ready)) }
+        gives_known ops rel w code (rest_by g (all g k)) z.left z.known (gives_after ops rel w code z.comes (rest_gives bl (all g k) (all_meets bl calls k) (calls (all g k) (all_meets bl calls k)) end base below ob z.left z.place z.st fs o s n t z.follows z.ready));
+  }
 
   abbrev same_head : Joint → List Joint → Joint
   same_head d [] = d
@@ -316,8 +324,8 @@ module _ {M : Type 0} (ex : Execution M) where
       let r = found (is_block v.block) (places.is_block v.block) (block_agrees v.block) (places.OfBlock f ∷ sc) (fr ∷ fs) 0 ch lv in
       let top : r.frame ≡ fr = ap (same_head fr) (sym r.at) in
       known_bind ops rel w code (λ i. place_by g x i i.role) v (At (in_frame g x v fr.source)) (or_known ex (slice_get p.variables x) v ev)
-          (subst (λ y. Known ops rel w code o s (place_by g x v y) (At (in_frame g x v fr.source))) (sym er)
-              (known_bind ops rel w code (λ y. give (At (in_frame g x v y))) r.frame.source (At (in_frame g x v fr.source)) (visible_known ex t (is_block v.block) r.frame r.rest (seek_all (is_block v.block) (fr ∷ fs) ∙ r.sought)) (record { by = ap (λ (y : Joint). run (give (At (in_frame g x v y.source))) w o s) top })))
+      (subst (λ y. Known ops rel w code o s (place_by g x v y) (At (in_frame g x v fr.source))) (sym er)
+      (known_bind ops rel w code (λ y. give (At (in_frame g x v y))) r.frame.source (At (in_frame g x v fr.source)) (visible_known ex t (is_block v.block) r.frame r.rest (seek_all (is_block v.block) (fr ∷ fs) ∙ r.sought)) (record { by = ap (λ (y : Joint). run (give (At (in_frame g x v y.source))) w o s) top })))
 
   pub call_meets : Blocks ex → (go : List Item → Work (List Item)) → AllMeets go → Oks ex (call_by g go)
   call_meets bl go ih = record { by = λ f args b sc q k stack fs o s n t pl ca ans ek gs es gv ga. function_gives f args b sc q k stack fs o s n t pl ca ans ek gs es gv ga (bl f b ca.1) }
@@ -365,7 +373,7 @@ module _ {M : Type 0} (ex : Execution M) where
               (gives_known ops rel w code (λ y. bind (checked ty.0 y) out) val (fetch_known ex a)
               (gives_by ops rel w code (ap (λ (y : Work Value). bind y out) (checked_as ex ty.0 val ∙ ap (λ y. read_as ex y val) (sym (ap sort_by ty.1) ∙ so)))
               (answer_gives (q + 1) k stack fs fr (m.At end st n2) o2 s2 n2 cl.1 ek val (ops.look a1 n2) (law.load t2 a a1 pt may (subst OneCell (sym so) tt))
-                  (one_at ex end st n2 ends ∙ holds_when (ops.may_close n2) _ cl.0 ∙ ap (λ y. there y (λ a. when (ops.has a 1 n2) (ordinal_in (ops.look a n2) (λ v. Goes (m.At (q + 1) (m.Number v ∷ stack) (ops.close_frame n2)))))) ea ∙ holds_when (ops.has a1 1 n2) _ (law.has_one t2 a a1 pt may)))))))
+              (one_at ex end st n2 ends ∙ holds_when (ops.may_close n2) _ cl.0 ∙ ap (λ y. there y (λ a. when (ops.has a 1 n2) (ordinal_in (ops.look a n2) (λ v. Goes (m.At (q + 1) (m.Number v ∷ stack) (ops.close_frame n2)))))) ea ∙ holds_when (ops.has a1 1 n2) _ (law.has_one t2 a a1 pt may)))))))
 
           inner : (fr : Joint) (o1 : Own) (s1 : Store) (n1 : M) → fr.source ≡ frame_for rel w f b fs r.around gs → rel.Stand (fr ∷ fs) o1 s1 n1 → rel.Mine fr fs → G ex fs (m.At l.entry st n1) o1 s1 (q + 1) (Top ex stack) (StK k) (body b)
           inner fr o1 s1 n1 ej t1 mi =
@@ -390,8 +398,8 @@ module _ {M : Type 0} (ex : Execution M) where
           by_enter : (x : Came Block × Store) (d : Did M) → Entered rel w fs f b r.around gs x d → one ops code c ≡ calls_to ex l (q + 1) stack d → Ends ops rel w code fs c (q + 1) (Top ex stack) (StK k) (then_run body w x)
           by_enter (Got b1 o1, s1) (Done n1) al e =
               ends_after ops rel w code fs c (m.At l.entry st n1) (q + 1) (Top ex stack) (StK k) (run (body b1) w o1 s1)
-                  (goes ops rel w code (e ∙ ap (λ y. if y then Goes (m.At l.entry st n1) else paced ops code l.entry (m.Link (q + 1) ∷ stack) n1) answers))
-                  (subst (λ (y : Block). G ex fs (m.At l.entry st n1) o1 s1 (q + 1) (Top ex stack) (StK k) (body y)) (sym al.0) (inner al.1.0 o1 s1 n1 al.1.1 al.1.2 al.1.3)).by
+              (goes ops rel w code (e ∙ ap (λ y. if y then Goes (m.At l.entry st n1) else paced ops code l.entry (m.Link (q + 1) ∷ stack) n1) answers))
+              (subst (λ (y : Block). G ex fs (m.At l.entry st n1) o1 s1 (q + 1) (Top ex stack) (StK k) (body y)) (sym al.0) (inner al.1.0 o1 s1 n1 al.1.1 al.1.2 al.1.3)).by
           by_enter (Got b1 o1, s1) (Failed x) al e = absurd al
           by_enter (Bad x, s1) (Done n1) al e = absurd al
           by_enter (Bad x, s1) (Failed y) al e = record { at = c; comes = stays ops rel w code c; fails = e ∙ ap Fails (sym al) }
@@ -424,7 +432,7 @@ module _ {M : Type 0} (ex : Execution M) where
   turn_meets bl end base below e ob zero todo pc stack fs o s n t h = tt
   turn_meets bl end base below e ob (suc k) todo pc stack fs o s n t h =
       subst (Turned (m.At pc stack n) end base below) (sym (run_bind (source.one g due todo) (source.onward g due (source.turn g due k)) w o s))
-          (go (run (source.one g due todo) w o s) (step_makes (enough g o) (calls_meet bl (enough g o)) bl end base below e ob todo pc stack fs o s n t h).by (λ todo1 pc1 st1 fs1 o1 s1 n1 t1 h1. turn_meets bl end base below e ob k todo1 pc1 st1 fs1 o1 s1 n1 t1 h1))
+      (go (run (source.one g due todo) w o s) (step_makes (enough g o) (calls_meet bl (enough g o)) bl end base below e ob todo pc stack fs o s n t h).by (λ todo1 pc1 st1 fs1 o1 s1 n1 t1 h1. turn_meets bl end base below e ob k todo1 pc1 st1 fs1 o1 s1 n1 t1 h1))
     where
       c : Config M
       c = m.At pc stack n

@@ -126,7 +126,7 @@ module _ {M : Type 0} (ex : Execution M) where
   ordinal_top : {js : List Joint} {o1 : Own} {s1 : Store} (k pc : ℕ) (stack : List Entry) (v : Value) (en : Entry) (n1 : M) → rel.Stand js o1 s1 n1 → Stood rel p Ordinals k v en → G js (m.At pc (en ∷ stack) n1) o1 s1 pc (NumberTop stack) Nothing_more (ordinal v)
   ordinal_top {js} {o1} {s1} k pc stack v en n1 t1 q =
       subst (λ z. G js (m.At pc (z ∷ stack) n1) o1 s1 pc (NumberTop stack) Nothing_more (ordinal v)) (sym q.2)
-          (gives_by ops rel w code (ap ordinal q.1) (gives_give ops rel w code q.0 tt (stays ops rel w code (m.At pc (m.Number q.0 ∷ stack) n1)) t1 tt))
+      (gives_by ops rel w code (ap ordinal q.1) (gives_give ops rel w code q.0 tt (stays ops rel w code (m.At pc (m.Number q.0 ∷ stack) n1)) t1 tt))
 
   as_ordinal_gives : {js : List Joint} {c : Config M} {o : Own} {s : Store} {pc : ℕ} (k : ℕ) (stack : List Entry) (h : Work Value) → sort p k ≡ Ordinals → G js c o s pc (Top stack) (St k) h → G js c o s pc (NumberTop stack) Nothing_more (as_ordinal h)
   as_ordinal_gives {pc = pc} k stack h e hh = gives_bind ops rel w code hh (λ v en o1 s1 n1 t1 q. ordinal_top k pc stack v en n1 t1 (subst (λ z. Stood rel p z k v en) e q))
@@ -186,18 +186,18 @@ module _ {M : Type 0} (ex : Execution M) where
       → G js (m.At q (e ∷ d ∷ stack) n) o s (q + 1) (Top stack) (St k) (operate op u v)
   binary_gives {js} {o} {s} op q k ka kb stack Ordinals Ordinals u v d e n t a b z r h =
       subst (λ y. G js (m.At q (y ∷ d ∷ stack) n) o s (q + 1) (Top stack) (St k) (operate op u v)) (sym b.2)
-          (subst (λ y. G js (m.At q (m.Number b.0 ∷ y ∷ stack) n) o s (q + 1) (Top stack) (St k) (operate op u v)) (sym a.2)
-              (gives_by ops rel w code (ap (λ y. operate op y v) a.1 ∙ ap (λ y. operate op (Ordinal a.0) y) b.1)
-                  (gives_known ops rel w code (λ j. work_of (binary_op op a.0 j)) b.0 (ordinal_known b.0) (worked_gives _ (q + 1) k stack n t r (binary_op op a.0 b.0) (calc_one op q stack a.0 b.0 n h)))))
+      (subst (λ y. G js (m.At q (m.Number b.0 ∷ y ∷ stack) n) o s (q + 1) (Top stack) (St k) (operate op u v)) (sym a.2)
+      (gives_by ops rel w code (ap (λ y. operate op y v) a.1 ∙ ap (λ y. operate op (Ordinal a.0) y) b.1)
+      (gives_known ops rel w code (λ j. work_of (binary_op op a.0 j)) b.0 (ordinal_known b.0) (worked_gives _ (q + 1) k stack n t r (binary_op op a.0 b.0) (calc_one op q stack a.0 b.0 n h)))))
   binary_gives op q k ka kb stack Ordinals Channels u v d e n t a b z r h = absurd z
   binary_gives op q k ka kb stack Ordinals Many u v d e n t a b z r h = absurd z
   binary_gives op q k ka kb stack Ordinals NoSort u v d e n t a b z r h = absurd z
   binary_gives op q k ka kb stack Channels Ordinals u v d e n t a b z r h = absurd z
   binary_gives {js} {o} {s} op q k ka kb stack Channels Channels u v d e n t a b z r h =
       subst (λ y. G js (m.At q (y ∷ d ∷ stack) n) o s (q + 1) (Top stack) (St k) (operate op u v)) (sym b.3)
-          (subst (λ y. G js (m.At q (m.Chan b.1 ∷ y ∷ stack) n) o s (q + 1) (Top stack) (St k) (operate op u v)) (sym a.3)
-              (gives_by ops rel w code (ap (λ y. operate op y v) a.2 ∙ ap (λ y. operate op (Chan a.0) y) b.2)
-                  (gives_known ops rel w code (λ j. channels_op op a.0 j) b.0 (channel_known b.0) (channels_gives op q k stack a.0 b.0 a.1 b.1 n t a.4 b.4 r h z))))
+      (subst (λ y. G js (m.At q (m.Chan b.1 ∷ y ∷ stack) n) o s (q + 1) (Top stack) (St k) (operate op u v)) (sym a.3)
+      (gives_by ops rel w code (ap (λ y. operate op y v) a.2 ∙ ap (λ y. operate op (Chan a.0) y) b.2)
+      (gives_known ops rel w code (λ j. channels_op op a.0 j) b.0 (channel_known b.0) (channels_gives op q k stack a.0 b.0 a.1 b.1 n t a.4 b.4 r h z))))
   binary_gives op q k ka kb stack Channels Many u v d e n t a b z r h = absurd z
   binary_gives op q k ka kb stack Channels NoSort u v d e n t a b z r h = absurd z
   binary_gives op q k ka kb stack Many y u v d e n t a b z r h = absurd z
@@ -276,7 +276,7 @@ module _ {M : Type 0} (ex : Execution M) where
       let a = law.addr t up x r.frame r.rest r.at v e (block_home v.block r.frame.source.home r.fit) ow in
       let at : stands p (sources js) x ≡ Some (in_frame g x v r.frame.source).spot = ap (stands_at (sources js) x) e ∙ by None ∙ ap (cell_of x) (find_in (is_block v.block) js r.frame r.rest r.sought) in
       gives_known ops rel w code _ r.frame.source (visible_known t (is_block v.block) r.frame r.rest (seek_all (is_block v.block) js ∙ r.sought))
-          (gives_give ops rel w code (At (in_frame g x v r.frame.source)) a.0 (goes ops rel w code (at_one q stack n h ∙ ap (λ z. there z (λ u. Goes (m.At (q + 1) (m.Pointer u ∷ stack) n))) a.1)) t (ek, a.2, may.location (in_frame g x v r.frame.source).spot at, at))
+      (gives_give ops rel w code (At (in_frame g x v r.frame.source)) a.0 (goes ops rel w code (at_one q stack n h ∙ ap (λ z. there z (λ u. Goes (m.At (q + 1) (m.Pointer u ∷ stack) n))) a.1)) t (ek, a.2, may.location (in_frame g x v r.frame.source).spot at, at))
 
   index_home : (x : ℕ) (h : Home) → is_index x h ≡ true → (v : ℤ) × (h ≡ OfIndex x v)
   index_home x (OfBlock c) e = absurd (subst IsTrue e tt)
@@ -304,15 +304,15 @@ module _ {M : Type 0} (ex : Execution M) where
           let a = law.deref t z.0 x r.frame r.rest r.at v h.1 (block_home v.block r.frame.source.home r.fit) er in
           let at : stands p (sources js) x ≡ Some a.0.spot = ap (stands_at (sources js) x) h.1 ∙ ap (stands_by (sources js) x v) er ∙ ap (reference_of x) (find_in (is_block v.block) js r.frame r.rest r.sought) ∙ ap spot_of a.1 in
           gives_known ops rel w code (λ f. bind (or_lost (referred x f.references)) (λ a. give (At a))) r.frame.source (visible_known t (is_block v.block) r.frame r.rest (seek_all (is_block v.block) js ∙ r.sought))
-              (gives_known ops rel w code (λ a. give (At a)) a.0 (or_known (referred x r.frame.source.references) a.0 a.1)
-                  (gives_give ops rel w code (At a.0) a.3.0 (goes ops rel w code (at_one q stack n z.2 ∙ ap (λ y. there y (λ u. Goes (m.At (q + 1) (m.Pointer u ∷ stack) n))) a.3.1)) t (a.2 ∙ h.2, a.3.2, may.location a.0.spot at, at)))
+          (gives_known ops rel w code (λ a. give (At a)) a.0 (or_known (referred x r.frame.source.references) a.0 a.1)
+          (gives_give ops rel w code (At a.0) a.3.0 (goes ops rel w code (at_one q stack n z.2 ∙ ap (λ y. there y (λ u. Goes (m.At (q + 1) (m.Pointer u ∷ stack) n))) a.3.1)) t (a.2 ∙ h.2, a.3.2, may.location a.0.spot at, at)))
       by_role role.Index er z =
           let r = found (is_index x) (places.is_index x) (index_agrees x) sc js z.0 ch z.1 in
           let b = index_home x r.frame.source.home r.fit in
           let a = law.index t z.0 x b.0 r.frame r.rest r.at b.1 (may.index v h.1 er z.0 z.1 r.frame r.rest r.at) in
           gives_known ops rel w code (λ f. index_in g f.home) r.frame.source (visible_known t (is_index x) r.frame r.rest (seek_all (is_index x) js ∙ r.sought))
-              (gives_by ops rel w code (ap (index_in g) b.1)
-                  (gives_give ops rel w code (Fixed b.0) a.0 (goes ops rel w code (at_one q stack n z.2 ∙ ap (λ y. there y (λ u. Goes (m.At (q + 1) (m.Pointer u ∷ stack) n))) a.1)) t (subst (λ y. sort p y ≡ Ordinals) h.2 z.3, a.2, (v, h.1, er))))
+          (gives_by ops rel w code (ap (index_in g) b.1)
+          (gives_give ops rel w code (Fixed b.0) a.0 (goes ops rel w code (at_one q stack n z.2 ∙ ap (λ y. there y (λ u. Goes (m.At (q + 1) (m.Pointer u ∷ stack) n))) a.1)) t (subst (λ y. sort p y ≡ Ordinals) h.2 z.3, a.2, (v, h.1, er))))
 
   pub kind_known : {o : Own} {s : Store} (k j : ℕ) (ty : KindOf) → k ≡ j → slice_get p.kinds j ≡ Some ty → Known ops rel w code o s (kind_at g k) ty
   kind_known k j ty e h = or_known (slice_get p.kinds k) ty (ap (λ y. slice_get p.kinds y) e ∙ h)
@@ -329,7 +329,7 @@ module _ {M : Type 0} (ex : Execution M) where
   indexed_gives q x k low high ix el stack (Fixed z) a v n t pi hk h = absurd (not_many (slice_get p.kinds k) (kind.Array low high ix el) hk refl pi.0)
   indexed_gives {js} {o} {s} q x k low high ix el stack (At b) a v n t pi hk h =
       gives_known ops rel w code (element_at b v) (kind.Array low high ix el) (kind_known b.kind k (kind.Array low high ix el) pi.0 hk)
-          (by_test (int_le low v && int_le v high) refl (at_one q (m.Number v ∷ m.Pointer a ∷ stack) n h))
+      (by_test (int_le low v && int_le v high) refl (at_one q (m.Number v ∷ m.Pointer a ∷ stack) n h))
     where
       b1 : Address
       b1 = record { spot = b.spot; path = b.path ++ nat_abs (v -ℤ low) ∷ []; kind = el }
@@ -349,8 +349,8 @@ module _ {M : Type 0} (ex : Execution M) where
   fielded_gives q x k f j name gs stack (Fixed z) a n t pi hk hf h = absurd (not_many (slice_get p.kinds k) (kind.Fields gs) hk refl pi.0)
   fielded_gives {js} {o} {s} q x k f j name gs stack (At b) a n t pi hk hf h =
       gives_known ops rel w code (λ y. bind (or_lost (field_kind f y)) (λ u. give (At (record { spot = b.spot; path = b.path ++ f ∷ []; kind = u })))) (kind.Fields gs) (kind_known b.kind k (kind.Fields gs) pi.0 hk)
-          (gives_known ops rel w code (λ u. give (At (record { spot = b.spot; path = b.path ++ f ∷ []; kind = u }))) j (or_known (field_kind f (kind.Fields gs)) j (rw hf refl))
-              (gives_give ops rel w code (At b1) a1 (goes ops rel w code (at_one q (m.Pointer a ∷ stack) n h ∙ selects (ops.has a1 1 n) (Goes (m.At (q + 1) (m.Pointer a1 ∷ stack) n)) (law.has_one t b1 a1 pt pi.2))) t (refl, pt, pi.2, pi.3)))
+      (gives_known ops rel w code (λ u. give (At (record { spot = b.spot; path = b.path ++ f ∷ []; kind = u }))) j (or_known (field_kind f (kind.Fields gs)) j (rw hf refl))
+      (gives_give ops rel w code (At b1) a1 (goes ops rel w code (at_one q (m.Pointer a ∷ stack) n h ∙ selects (ops.has a1 1 n) (Goes (m.At (q + 1) (m.Pointer a1 ∷ stack) n)) (law.has_one t b1 a1 pt pi.2))) t (refl, pt, pi.2, pi.3)))
     where
       b1 : Address
       b1 = record { spot = b.spot; path = b.path ++ f ∷ []; kind = j }
@@ -420,8 +420,8 @@ module _ {M : Type 0} (ex : Execution M) where
   read_gives {js} {o} {s} q x k stack (Fixed z) a n t pi h =
       let l = law.load_index t z a pi.1 in
       gives_give ops rel w code (Ordinal z) (m.Number z)
-          (goes ops rel w code (at_one q (m.Pointer a ∷ stack) n (subst (ReadAt p moves shares (Stands code) (HasFork code) (HasWords code) hush q k) pi.0 h) ∙ selects (ops.has a 1 n) _ l.0 ∙ ap (λ y. ordinal_in y (λ u. Goes (m.At (q + 1) (m.Number u ∷ stack) n))) l.1))
-          t (subst (λ y. Stood rel p y k (Ordinal z) (m.Number z)) (sym pi.0) (z, refl, refl))
+      (goes ops rel w code (at_one q (m.Pointer a ∷ stack) n (subst (ReadAt p moves shares (Stands code) (HasFork code) (HasWords code) hush q k) pi.0 h) ∙ selects (ops.has a 1 n) _ l.0 ∙ ap (λ y. ordinal_in y (λ u. Goes (m.At (q + 1) (m.Number u ∷ stack) n))) l.1))
+      t (subst (λ y. Stood rel p y k (Ordinal z) (m.Number z)) (sym pi.0) (z, refl, refl))
   read_gives {js} {o} {s} q x k stack (At b) a n t pi h = by_sort (sort p k) refl h
     where
       c : Config M
@@ -437,8 +437,8 @@ module _ {M : Type 0} (ex : Execution M) where
       from_kind z e nn gg =
           let ty = kind_there k z e nn in
           gives_known ops rel w code (λ y. bind (fetch b) (checked y)) ty.0 (kind_known b.kind k ty.0 pi.0 ty.1)
-              (gives_known ops rel w code (checked ty.0) v (fetch_known b)
-                  (gives_by ops rel w code (checked_as ty.0 v ∙ ap (λ y. read_as y v) (sym (ap sort_by ty.1) ∙ e)) gg))
+          (gives_known ops rel w code (checked ty.0) v (fetch_known b)
+          (gives_by ops rel w code (checked_as ty.0 v ∙ ap (λ y. read_as y v) (sym (ap sort_by ty.1) ∙ e)) gg))
 
       one_cell : (z : Sort) → sort p k ≡ z → OneCell z → OneCell (sort p b.kind)
       one_cell z e h = subst OneCell (sym (same_sort ∙ e)) h
@@ -448,7 +448,7 @@ module _ {M : Type 0} (ex : Execution M) where
       by_sort Channels e h = from_kind Channels e tt (channel_cell (q + 1) k stack c n t e v (ops.look a n) (law.load t b a pi.1 pi.2 (one_cell Channels e tt)) (at_one q (m.Pointer a ∷ stack) n h ∙ selects (ops.has a 1 n) _ (law.has_one t b a pi.1 pi.2)))
       by_sort Many e h =
           from_kind Many e tt (gives_give ops rel w code v (m.Cells (ops.cells a (size p k) n)) (goes ops rel w code (at_one q (m.Pointer a ∷ stack) n h ∙ selects (ops.has a (size p k) n) _ (subst (λ y. ops.has a (size p y) n ≡ true) pi.0 (law.has t b a pi.1 pi.2)))) t
-              (subst (λ y. Stood rel p y k v (m.Cells (ops.cells a (size p k) n))) (sym e) (ops.cells a (size p k) n, refl, subst (λ y. Flat p rel.Named y v (ops.cells a (size p y) n)) pi.0 (law.pack t b a pi.1 pi.2))))
+          (subst (λ y. Stood rel p y k v (m.Cells (ops.cells a (size p k) n))) (sym e) (ops.cells a (size p k) n, refl, subst (λ y. Flat p rel.Named y v (ops.cells a (size p y) n)) pi.0 (law.pack t b a pi.1 pi.2))))
       by_sort NoSort e h = absurd h
 
   -- the machine calls a function as the meaning does
