@@ -57,8 +57,10 @@ no_forall p f = go (length p.blocks)
 
 module _ (p : plain.Program) (m : ℕ) (moves shares : Stmt → List ℕ) (hush : ℕ → Type 0) where
   ready_at : (f : ℕ) (env : Env) (k : ℕ) → Knows p m env → Ready p m (started env k) (scopes_of p f)
-  ready_at f env k h = (record { kinds = h.kinds; integer = h.integer; boolean = h.boolean; char = h.char; given = h.given; variables = h.variables; room = h.room; roles = h.roles; blocks = h.blocks; formals = h.formals; answers = h.answers; elements = h.elements; fields = h.fields },
-      λ x up v e at. absurd (no_index p (length p.blocks) (Some f) x up e))
+  ready_at f env k h = (
+    record { kinds = h.kinds; integer = h.integer; boolean = h.boolean; char = h.char; given = h.given; variables = h.variables; room = h.room; roles = h.roles; blocks = h.blocks; formals = h.formals; answers = h.answers; elements = h.elements; fields = h.fields },
+    λ x up v e at. absurd (no_index p (length p.blocks) (Some f) x up e),
+  )
 
   -- all blocks from a number on; calm_use: what the rules of interference give where no function is being called
   pub blocks_fine : (numbers cells : List ℕ) (variables : List checked.Variable) (k : ℕ) (env : Env) (starts : List ℕ) (bs : List n.Block) → Knows p m env → AreScoped p m k bs → w.blocks_sites [] together listed numbers cells variables k env starts bs ≡ [] → AreBlocksTyped p env starts bs
@@ -68,7 +70,7 @@ module _ (p : plain.Program) (m : ℕ) (moves shares : Stmt → List ℕ) (hush 
   blocks_fine numbers cells variables k env [] (b ∷ bs) knows here calm typed calm_use free i c e quiet = absurd (cc e)
   blocks_fine numbers cells variables k env (z ∷ starts) (b ∷ bs) knows (in_b, in_bs) calm (typed_b, typed_bs) calm_use free i c e quiet =
       by i e quiet (λ j e2 q2. blocks_fine numbers cells variables (suc k) next starts bs grown.0 in_bs (subst (λ y. w.blocks_sites [] together listed numbers cells variables y next starts bs ≡ []) (let y : k + 1 ≡ suc k = omega arith in y) two.1) typed_bs
-          (λ j d e3. subst (λ y. Quiet p m moves shares hush true (scopes_of p y) (In_stmt d.body)) (let y : k + suc j ≡ suc k + j = omega arith in y) (calm_use (suc j) d e3)) free j c e2 q2)
+      (λ j d e3. subst (λ y. Quiet p m moves shares hush true (scopes_of p y) (In_stmt d.body)) (let y : k + suc j ≡ suc k + j = omega arith in y) (calm_use (suc j) d e3)) free j c e2 q2)
     where
       next : Env
       next = statement_after (started env z) b.body
@@ -142,5 +144,5 @@ module _ (s : syntax.Program) (calm : names_broken s ≡ []) (no_types : types_b
       stands : (free : Bool) → Hushed (IsQuiet p_) free f → StandsAt p_ moves shares AnyInstr AnyTable AnyText (IsQuiet p_) free (scopes_of p_ f) q c.body
       stands free h = subst (λ y. Done p_ m_ moves shares (IsQuiet p_) free (scopes_of p_ y) c.body) z
           (blocks_fine p_ m_ moves shares (IsQuiet p_) (numbers_of n_) (sizes (env_of n_).kinds) n_.variables 0 (env_of n_) (starts_of n_.blocks) n_.blocks knows (scoped s calm) blocks_calm typed
-              (λ i d e. subst (λ y. Quiet p_ m_ moves shares (IsQuiet p_) true (scopes_of p_ y) (In_stmt d.body)) (let y : i ≡ 0 + i = omega arith in y) (quiet_in true i d e tt))
-              free f c at (subst (λ y. Quiet p_ m_ moves shares (IsQuiet p_) free (scopes_of p_ y) (In_stmt c.body)) (sym z) (quiet_in free f c at h))) q
+          (λ i d e. subst (λ y. Quiet p_ m_ moves shares (IsQuiet p_) true (scopes_of p_ y) (In_stmt d.body)) (let y : i ≡ 0 + i = omega arith in y) (quiet_in true i d e tt))
+          free f c at (subst (λ y. Quiet p_ m_ moves shares (IsQuiet p_) free (scopes_of p_ y) (In_stmt c.body)) (sym z) (quiet_in free f c at h))) q

@@ -63,7 +63,6 @@ mutual
   branches_kinds env NoBranch = refl
   branches_kinds env (Beside ss rest) = branches_kinds (statements_after (counted env) ss) rest ∙ statements_kinds (counted env) ss
 
-
 -- ---- over the blocks
 
 answers_ordinal : (p : plain.Program) (numbers cells : List ℕ) (variables : List checked.Variable) (k : ℕ) (env : Env) (starts : List ℕ) (bs : List n.Block) → env.kinds ≡ p.kinds → length starts ≡ length bs → AreSpans p k bs → w.blocks_sites [] together listed numbers cells variables k env starts bs ≡ []
@@ -85,7 +84,7 @@ answers_ordinal p numbers cells variables k env (z ∷ starts) (c ∷ bs) same l
     let two = calm_parts (w.block_sites [] together listed numbers cells variables k (started env z) c) (w.blocks_sites [] together listed numbers cells variables (k + 1) next starts bs) calm in
     let stays = others_stay p k env (z ∷ []) (c ∷ []) a.variable v at d (span, tt) in
     answers_ordinal p numbers cells variables (suc k) next starts bs (statement_kinds (started env z) c.body ∙ same) (omega (arith, len)) spans
-        (subst (λ y. w.blocks_sites [] together listed numbers cells variables y next starts bs ≡ []) (let y : k + 1 ≡ suc k = omega arith in y) two.1) i b a v e ans at d (ap entry stays ∙ known)
+    (subst (λ y. w.blocks_sites [] together listed numbers cells variables y next starts bs ≡ []) (let y : k + 1 ≡ suc k = omega arith in y) two.1) i b a v e ans at d (ap entry stays ∙ known)
 
 -- ---- the program
 
@@ -103,7 +102,7 @@ program_answers s calm no_types f b x v at ans vat =
     let kinds = w.kinds_sites [] together listed (constants_of n_) n_.kinds in
     let blocks_calm = (calm_parts cells rest (calm_parts kinds (together cells rest) (calm_parts (w.constants_sites [] together listed (constants_of n_) n_.constants) (together kinds (together cells rest)) no_types).1).1).1 in
     answers_ordinal p_ (numbers_of n_) (sizes (env_of n_).kinds) n_.variables 0 (env_of n_) (starts_of n_.blocks) n_.blocks refl (starts_length n_.blocks) (spans s calm) blocks_calm f r.0 a.0 v r.1 a.1
-        (subst (λ z. slice_get p_.variables z ≡ Some v) (sym a.2) vat) d (subst (λ z. variable_kind (env_of n_) z ≡ Some v.kind) (sym a.2) known)
+    (subst (λ z. slice_get p_.variables z ≡ Some v) (sym a.2) vat) d (subst (λ z. variable_kind (env_of n_) z ≡ Some v.kind) (sym a.2) known)
   where
     same : (a b : plain.Variable) → Some a ≡ Some b → a ≡ b
     same a b e = cc e

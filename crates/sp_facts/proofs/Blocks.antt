@@ -32,7 +32,6 @@ use Rattle.sp_code.specs.Stands.{NoIndex}
 use Rattle.sp_facts.specs.Scoped.{SeenIn, SeenRole, AimedIn, AimedExpression, CallIn, AroundIn, InExpression, InForm, InVariable, InSelectors, InActuals, InArguments, InWidth}
 use Rattle.sp_facts.specs.Visible.{IsScope, AreFlags, IsAround, IsBlockIn, IsValid, AreValid, AllValid, IsVisible, IsChain}
 use Rattle.sp_facts.proofs.Calm.{calm_parts, calm_site, calm_at, calm_lesser, calm_if, nat_eq_is, not_true}
-
 use Rattle.std.proofs.lemmas.List.{length-append}
 use Rattle.sp_tree.specs.declared.checked.Variable as checked
 use Rattle.sp_tree.specs.declared.meaning.StandardProcedure.{StandardProcedure}
@@ -48,7 +47,6 @@ use Rattle.sp_tree.specs.PlainSyntax.{Statement, Does, Form, Empty, Assign, Call
 use Rattle.sp_facts.specs.Scoped.{IsInForall, ForIn, AreAimed, AreAimedLater, AimsOf, InStatement, InStatementForm, InOther, InStatements, InArms, InBranches}
 use Rattle.sp_facts.proofs.Names.{level_block, IsFound, find_valid, seen, aimed, called, target_in, expression_in, selectors_in, arguments_in, actuals_in, counts, passed_in}
 use Rattle.sp_facts.proofs.Numbering.{room_at, Adds, statement_adds, statements_adds, arms_adds, branches_adds, other_adds}
-
 use Rattle.sp_tree.specs.declared.meaning.Counts.{Counts}
 use Rattle.sp_tree.specs.declared.syntax.SynFormal.{SynFormal}
 use Rattle.sp_tree.specs.declared.syntax.SynKind.{SynKind}
@@ -66,7 +64,6 @@ use Rattle.sp_facts.proofs.NameStatements.{IsKept, statement_keeps, Holds, holds
 below_join : (k : ℕ) (xs ys : List n.Block) → AreBelow k xs → AreBelow (k + length xs) ys → AreBelow k (xs ++ ys)
 below_join k [] ys x y = subst (λ z. AreBelow z ys) (let z : k + 0 ≡ k = omega arith in z) y
 below_join k (b ∷ xs) ys x y = (x.0, below_join (suc k) xs ys x.1 (subst (λ z. AreBelow z ys) (let z : k + suc (length xs) ≡ suc k + length xs = omega arith in z) y))
-
 
 -- ---- parents come before
 
@@ -357,7 +354,10 @@ module _ (p : plain.Program) (m : ℕ) where
           let outer = place_declared sc block a around l x.text sort.Block (block_meaning l fs answer) place valid in
           let base : IsOpen sc2 f 0 in_ (opened f 0 title) = record {
             visible = (all_behind p m sc2 around title.here (more_all p m (OfBlock f) sc around outer.visible.0) (more_valid p m (OfBlock f) sc title.here outer.visible.1), tt);
-            own = refl; home = inl refl; near = inl (own_level f sc); result = refl;
+            own = refl;
+            home = inl refl;
+            near = inl (own_level f sc);
+            result = refl;
           } in
           let formals_open = formals_place sc2 f 0 in_ (opened f 0 title) fs env base pieces.1 (subst (λ z. Holds p m z av) at_title v1.0) in
           let head_open = answer_open sc2 f in_ formals answer formals_open in
@@ -366,12 +366,16 @@ module _ (p : plain.Program) (m : ℕ) where
           let in_blocks = head_blocks around l x fs answer parts body calm in
           let r = parts_scoped sc f head.answer in_ head parts chain2 head_open pieces.2 (few2, subst (λ z. Holds p m z inner.variables) at_head v3.0, subst (λ z. HoldsBlocks p m z inner.blocks) (sym in_blocks) blocks) in
           let body_place : IsPlace p m sc2 f in_ (parts_local head parts) = record {
-            visible = r.0.visible; own = r.0.own; home = r.0.home; near = r.0.near;
+            visible = r.0.visible;
+            own = r.0.own;
+            home = r.0.home;
+            near = r.0.near;
             answer = λ u y uat ans. r.0.result ∙ answer_is answer head.answer y c.answer ca (ap (λ (z : plain.Block). z.answer) (block_is c u (sym cat ∙ uat)) ∙ ans);
           } in
-          let body_in = statement_in p m steps results f sc2 in_ (parts_local head parts) body chain2 body_place pieces.3 (subst (λ z. Holds p m (next_variable (parts_local head parts).counts) (indices z body)) number (subst (λ z. Holds p m z d) at_body v3.1)) in
-          (record { visible = outer.visible; own = outer.own; home = outer.home; near = outer.near; result = outer.result },
-              (subst (λ z. InStatement p m z (named_statement in_ (parts_local head parts) body)) (sym chain2.0) body_in, subst (λ z. AreScoped p m z inner.blocks) in_blocks r.1))
+          let body_in = statement_in p m steps results f sc2 in_ (parts_local head parts) body chain2 body_place pieces.3 (subst (λ z. Holds p m (next_variable (parts_local head parts).counts) (indices z body)) number (subst (λ z. Holds p m z d) at_body v3.1)) in (
+            record { visible = outer.visible; own = outer.own; home = outer.home; near = outer.near; result = outer.result },
+            (subst (λ z. InStatement p m z (named_statement in_ (parts_local head parts) body)) (sym chain2.0) body_in, subst (λ z. AreScoped p m z inner.blocks) in_blocks r.1),
+          )
         where
           block_is : (c u : plain.Block) → Some c ≡ Some u → c ≡ u
           block_is c u e = cc e

@@ -32,7 +32,6 @@ use Rattle.sp_code.specs.Stands.{NoIndex}
 use Rattle.sp_facts.specs.Scoped.{SeenIn, SeenRole, AimedIn, AimedExpression, CallIn, AroundIn, InExpression, InForm, InVariable, InSelectors, InActuals, InArguments, InWidth}
 use Rattle.sp_facts.specs.Visible.{IsScope, AreFlags, IsAround, IsBlockIn, IsValid, AreValid, AllValid, IsVisible, IsChain}
 use Rattle.sp_facts.proofs.Calm.{calm_parts, calm_site, calm_at, calm_lesser, calm_if, nat_eq_is, not_true}
-
 use Rattle.std.proofs.lemmas.List.{length-append}
 use Rattle.sp_tree.specs.declared.checked.Variable as checked
 use Rattle.sp_tree.specs.declared.meaning.StandardProcedure.{StandardProcedure}
@@ -48,7 +47,6 @@ use Rattle.sp_tree.specs.PlainSyntax.{Statement, Does, Form, Empty, Assign, Call
 use Rattle.sp_facts.specs.Scoped.{IsInForall, ForIn, AreAimed, AreAimedLater, AimsOf, InStatement, InStatementForm, InOther, InStatements, InArms, InBranches}
 use Rattle.sp_facts.proofs.Names.{level_block, IsFound, find_valid, seen, aimed, called, target_in, expression_in, selectors_in, arguments_in, actuals_in, counts, passed_in}
 use Rattle.sp_facts.proofs.Numbering.{room_at, Adds, statement_adds, statements_adds, arms_adds, branches_adds, other_adds}
-
 use Rattle.sp_tree.specs.declared.meaning.Counts.{Counts}
 use Rattle.sp_tree.specs.declared.syntax.SynFormal.{SynFormal}
 use Rattle.sp_tree.specs.declared.syntax.SynKind.{SynKind}
@@ -62,14 +60,12 @@ use Rattle.sp_types.specs.Tables.{answer_variable}
 use Rattle.sp_facts.specs.Held.{HoldsBlocks, AreScoped, AreBelow}
 use Rattle.sp_facts.proofs.Numbering.{Moved, MovedBy, declared_counts, one_variable, moves_on, kind_moves, constants_move, names_adds, formals_adds, answer_adds, parts_move, part_moves, sum5}
 use Rattle.sp_facts.proofs.NameStatements.{IsKept, statement_keeps, Holds, holds_parts, more_all, more_valid, all_behind, IsPlace, place_after, statement_in}
-
 use Rattle.sp_tree.specs.NamedTree.{Inside, inside_with, procedure_block, program_named}
 use Rattle.sp_tree.specs.PlainOf.{variable_of}
 use Rattle.sp_tree.specs.Cells.{variables_of}
 use Rattle.sp_code.specs.Scopes.{as_list}
 use Rattle.sp_tree.specs.Formed.{is_parameter, is_answer, among}
 use Rattle.sp_facts.proofs.Blocks.{part_block, calm_pieces, title_moves, formals_move, head_blocks, head_number}
-
 use Rattle.sp_tree.specs.declared.syntax.SynGroup.{SynGroup}
 use Rattle.sp_tree.specs.declared.named.NamedKind.{NamedKind}
 use Rattle.sp_tree.specs.declared.named.NamedKindForm.{NamedKindForm}
@@ -314,9 +310,11 @@ mutual
       let two = calm_parts (w.kind_sites [] together all_at (inside around l) x d) (w.kind_constants_sites [] together all_at around (type_local l x) d) one.1 in
       let te : next_constant (type_local l x).counts ≡ next_constant l.counts = ap next_constant (declared_counts l x.text sort.Kind y (room_at (inside around l) x sort.Kind one.0)) in
       let up : next_constant l.counts ≤ k = omega (arith, e) in
-      let few : next_constant (type_local l x).counts + length (constants_named (next_kind l.counts) d) ≤ k = omega (arith, e, te) in
-      (kind_bound around k (type_local l x) d two.1 (next_kind l.counts) few (declared_bound k l x.text sort.Kind y (all_bound_more (next_constant l.counts) k l.here up here) tt), constants_behind (next_constant l.counts) (next_kind l.counts) d,
-          bounds_more (next_constant l.counts) k (record { at = x.at; form = kind_named (inside around l) d } ∷ []) up (kind_behind (next_constant l.counts) (inside around l) out here x d two.0, tt))
+      let few : next_constant (type_local l x).counts + length (constants_named (next_kind l.counts) d) ≤ k = omega (arith, e, te) in (
+        kind_bound around k (type_local l x) d two.1 (next_kind l.counts) few (declared_bound k l x.text sort.Kind y (all_bound_more (next_constant l.counts) k l.here up here) tt),
+        constants_behind (next_constant l.counts) (next_kind l.counts) d,
+        bounds_more (next_constant l.counts) k (record { at = x.at; form = kind_named (inside around l) d } ∷ []) up (kind_behind (next_constant l.counts) (inside around l) out here x d two.0, tt),
+      )
   part_behind around l (Var xs t) out here calm =
       let e = (part_moves around l (Var xs t) calm).0 in
       let k = next_constant (part_local l (Var xs t)).counts in
@@ -352,9 +350,10 @@ pub program_behind : (s : syntax.Program) → names_broken s ≡ [] → IsGiven 
 program_behind s calm given_ =
     let n_ = program_named s in
     let r = parts_behind (standard ∷ []) empty s.block.parts (standard_bound, tt) tt two.0 in
-    let e = (parts_move (standard ∷ []) empty s.block.parts two.0).0 in
-    (both_behind (env_of n_).kinds (numbers_of n_) 0 n_.constants (tt, r.0) given_,
-        (tt, (tt, (tt, bounds_more (next_constant (parts_local empty s.block.parts).counts) (length n_.constants) (parts_named (standard ∷ []) empty s.block.parts).kinds (omega (arith, e)) r.1))))
+    let e = (parts_move (standard ∷ []) empty s.block.parts two.0).0 in (
+      both_behind (env_of n_).kinds (numbers_of n_) 0 n_.constants (tt, r.0) given_,
+      (tt, (tt, (tt, bounds_more (next_constant (parts_local empty s.block.parts).counts) (length n_.constants) (parts_named (standard ∷ []) empty s.block.parts).kinds (omega (arith, e)) r.1))),
+    )
   where
     two : (w.parts_sites [] together all_at (standard ∷ []) empty s.block.parts ≡ []) × (w.statement_sites [] together all_at (standard ∷ []) (parts_local empty s.block.parts) s.block.body ≡ [])
     two = calm_parts (w.parts_sites [] together all_at (standard ∷ []) empty s.block.parts) (w.statement_sites [] together all_at (standard ∷ []) (parts_local empty s.block.parts) s.block.body)

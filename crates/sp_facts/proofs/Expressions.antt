@@ -345,9 +345,12 @@ module _ (p : Program) (m : ℕ) (moves shares : Stmt → List ℕ) (hush : ℕ 
         let passes = actuals_fine b.formals args (subst (λ z. actuals_sites [] together listed env z args ≡ []) formals calm) (knows.formals f b call.1) acts in
         let w = knows.answers f b x call.1 ans in
         let kv = (knows.variables x w.0 w.1 (subst NoIndex (sym w.2) tt)).0 in
-        let gives : answer_kind env f ≡ Some w.0.kind = ap (answer_in env) sig ∙ ap (kind_of_variable env) ans ∙ kv in
-        (w.0.kind, gives, ordinal_there (slice_get p.kinds w.0.kind) w.4,
-            λ q. (b, subst (λ z. Passes q (bare_actuals (of_.actuals (checked_actuals env z args))) b.formals) (sym formals) (passes q), call_at f b call (after_actuals q (bare_actuals (of_.actuals (checked_actuals env (formals_of env f) args)))), (x, ans), ordinal_sort (slice_get p.kinds w.0.kind) w.4))
+        let gives : answer_kind env f ≡ Some w.0.kind = ap (answer_in env) sig ∙ ap (kind_of_variable env) ans ∙ kv in (
+          w.0.kind,
+          gives,
+          ordinal_there (slice_get p.kinds w.0.kind) w.4,
+          λ q. (b, subst (λ z. Passes q (bare_actuals (of_.actuals (checked_actuals env z args))) b.formals) (sym formals) (passes q), call_at f b call (after_actuals q (bare_actuals (of_.actuals (checked_actuals env (formals_of env f) args)))), (x, ans), ordinal_sort (slice_get p.kinds w.0.kind) w.4),
+        )
     form_fine at (n.Standard f args) calm here = standard_fine f args calm here.0 here.1
     form_fine at (n.Unary op a) calm here =
         let parts = calm_at (expression_sites [] together listed env a) (unary_rule op (place a) (expression_kind env a)) calm in
@@ -363,9 +366,18 @@ module _ (p : Program) (m : ℕ) (moves shares : Stmt → List ℕ) (hush : ℕ 
         let both = calm_lesser (unless rule.Y1 (place b) (binary_takes env op) (expression_kind env b)) (breaks_if rule.Y1 (place b) (differ (expression_kind env a) (expression_kind env b))) right.1 in
         let takes = calm_unless rule.Y1 (place a) (binary_takes env op) (expression_kind env a) ra.0 ra.1 left.1 in
         let same = calm_differ (expression_kind env a) (expression_kind env b) ra.0 rb.0 ra.1 rb.1 (calm_if rule.Y1 (place b) (differ (expression_kind env a) (expression_kind env b)) both.1) in
-        let w = binary_sort op in
-        (binary_gives op, refl, w.1, λ q. (ra.4 q, rb.4 (after_value q (bare_expression (checked_expression env a))), tt,
-            subst (λ z. Operands op (sort p z) (sort p (kind_of (bare_expression (checked_expression env b))))) (sym ra.3) (subst (λ z. Operands op (sort p ra.0) (sort p z)) (same ∙ sym rb.3) (operands op ra.0 takes)), w.0))
+        let w = binary_sort op in (
+          binary_gives op,
+          refl,
+          w.1,
+          λ q. (
+            ra.4 q,
+            rb.4 (after_value q (bare_expression (checked_expression env a))),
+            tt,
+            subst (λ z. Operands op (sort p z) (sort p (kind_of (bare_expression (checked_expression env b))))) (sym ra.3) (subst (λ z. Operands op (sort p ra.0) (sort p z)) (same ∙ sym rb.3) (operands op ra.0 takes)),
+            w.0,
+          ),
+        )
 
     pub variable_fine : (v : n.Variable) → variable_sites [] together listed env v ≡ [] → InVariable p m sc v → (k : ℕ) × (selected env v ≡ Some k) × IsKind p k × ((q : ℕ) → Place_ q (bare_variable (checked_variable env v)) k)
     variable_fine (n.Entire x at ss) calm here =

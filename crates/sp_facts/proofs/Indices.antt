@@ -129,9 +129,10 @@ module _ (p : Program) (last : List (Option ℕ)) (has : (x : ℕ) (v : Variable
     form_typed k env (If e s NoElse) l h a = (typed k env s l h.0 a, tt)
     form_typed k env (If e s (Else b)) l h a =
         let x = ends_after k s in
-        let y = ends_after (ends k s) b in
-        (typed k env s l h.0 (λ z m r. a z m (omega (arith, r, y)) ∙ stays (ends k s) (statement_after env s) b z h.1 (inl (omega (arith, r)))),
-            typed (ends k s) (statement_after env s) b (statement_length env s ∙ l) h.1 (λ z m r. a z (omega (arith, m, x)) r))
+        let y = ends_after (ends k s) b in (
+          typed k env s l h.0 (λ z m r. a z m (omega (arith, r, y)) ∙ stays (ends k s) (statement_after env s) b z h.1 (inl (omega (arith, r)))),
+          typed (ends k s) (statement_after env s) b (statement_length env s ∙ l) h.1 (λ z m r. a z (omega (arith, m, x)) r),
+        )
     form_typed k env (While e s) l h a = typed k env s l h a
     form_typed k env (Repeat ss e) l h a = all_typed k (counted env) ss l h a
     form_typed k env (Case e arms) l h a = arms_typed k env arms l h a
@@ -139,37 +140,41 @@ module _ (p : Program) (last : List (Option ℕ)) (has : (x : ℕ) (v : Variable
     form_typed k env (Parallel bs) l h a = branches_typed k env bs l h a
     form_typed k env (Forall x from to s) l h a =
         let inner = indexed env x (expression_kind env from) in
-        let y = ends_after (suc k) s in
-        ((λ v at kk ke. (let r = room x v at in let r2 : suc x ≤ length env.variables = omega (arith, r, l) in
-            has x v (expression_kind env from) at (subst (λ z. slice_get last z ≡ Some (expression_kind env from)) (sym h.0)
-                (a k (omega arith) (omega (arith, y)) ∙ stays (suc k) inner s k h.1 (inl (omega arith)) ∙ subst (λ z. slice_get (slice_set env.variables x (expression_kind env from)) z ≡ Some (expression_kind env from)) h.0 (get_set env.variables x (expression_kind env from) r2)))
-            ∙ ap or_zero ke)),
-            typed (suc k) inner s (set_length env.variables x (expression_kind env from) ∙ l) h.1 (λ z m r. a z (omega (arith, m)) r))
+        let y = ends_after (suc k) s in (
+          (λ v at kk ke. (let r = room x v at in let r2 : suc x ≤ length env.variables = omega (arith, r, l) in
+              has x v (expression_kind env from) at (subst (λ z. slice_get last z ≡ Some (expression_kind env from)) (sym h.0)
+              (a k (omega arith) (omega (arith, y)) ∙ stays (suc k) inner s k h.1 (inl (omega arith)) ∙ subst (λ z. slice_get (slice_set env.variables x (expression_kind env from)) z ≡ Some (expression_kind env from)) h.0 (get_set env.variables x (expression_kind env from) r2)))
+              ∙ ap or_zero ke)),
+          typed (suc k) inner s (set_length env.variables x (expression_kind env from) ∙ l) h.1 (λ z m r. a z (omega (arith, m)) r),
+        )
     form_typed k env (Assume e) l h a = tt
 
     all_typed : (k : ℕ) (env : Env) (ss : Statements) → length env.variables ≡ n → AreNumbered k ss → Agrees k (ends_all k ss) (statements_after env ss) → AreTyped p env ss
     all_typed k env NoStatement l h a = tt
     all_typed k env (AndThen s rest) l h a =
         let x = ends_after k s in
-        let y = all_ends (ends k s) rest in
-        (typed k env s l h.0 (λ z m r. a z m (omega (arith, r, y)) ∙ all_stay (ends k s) (statement_after env s) rest z h.1 (inl (omega (arith, r)))),
-            all_typed (ends k s) (statement_after env s) rest (statement_length env s ∙ l) h.1 (λ z m r. a z (omega (arith, m, x)) r))
+        let y = all_ends (ends k s) rest in (
+          typed k env s l h.0 (λ z m r. a z m (omega (arith, r, y)) ∙ all_stay (ends k s) (statement_after env s) rest z h.1 (inl (omega (arith, r)))),
+          all_typed (ends k s) (statement_after env s) rest (statement_length env s ∙ l) h.1 (λ z m r. a z (omega (arith, m, x)) r),
+        )
 
     arms_typed : (k : ℕ) (env : Env) (arms : Arms) → length env.variables ≡ n → AreNumberedArms k arms → Agrees k (ends_arms k arms) (arms_after env arms) → AreTypedArms p env arms
     arms_typed k env NoArm l h a = tt
     arms_typed k env (Or (On cs s) rest) l h a =
         let x = ends_after k s in
-        let y = arms_ends (ends k s) rest in
-        (typed k env s l h.0 (λ z m r. a z m (omega (arith, r, y)) ∙ arms_stay (ends k s) (statement_after env s) rest z h.1 (inl (omega (arith, r)))),
-            arms_typed (ends k s) (statement_after env s) rest (statement_length env s ∙ l) h.1 (λ z m r. a z (omega (arith, m, x)) r))
+        let y = arms_ends (ends k s) rest in (
+          typed k env s l h.0 (λ z m r. a z m (omega (arith, r, y)) ∙ arms_stay (ends k s) (statement_after env s) rest z h.1 (inl (omega (arith, r)))),
+          arms_typed (ends k s) (statement_after env s) rest (statement_length env s ∙ l) h.1 (λ z m r. a z (omega (arith, m, x)) r),
+        )
 
     branches_typed : (k : ℕ) (env : Env) (bs : Branches) → length env.variables ≡ n → AreNumberedBranches k bs → Agrees k (ends_branches k bs) (branches_after env bs) → AreTypedBranches p env bs
     branches_typed k env NoBranch l h a = tt
     branches_typed k env (Beside ss rest) l h a =
         let x = all_ends k ss in
-        let y = branches_ends (ends_all k ss) rest in
-        (all_typed k (counted env) ss l h.0 (λ z m r. a z m (omega (arith, r, y)) ∙ branches_stay (ends_all k ss) (statements_after (counted env) ss) rest z h.1 (inl (omega (arith, r)))),
-            branches_typed (ends_all k ss) (statements_after (counted env) ss) rest (statements_length (counted env) ss ∙ l) h.1 (λ z m r. a z (omega (arith, m, x)) r))
+        let y = branches_ends (ends_all k ss) rest in (
+          all_typed k (counted env) ss l h.0 (λ z m r. a z m (omega (arith, r, y)) ∙ branches_stay (ends_all k ss) (statements_after (counted env) ss) rest z h.1 (inl (omega (arith, r)))),
+          branches_typed (ends_all k ss) (statements_after (counted env) ss) rest (statements_length (counted env) ss ∙ l) h.1 (λ z m r. a z (omega (arith, m, x)) r),
+        )
 
 -- ---- over the blocks
 
@@ -241,6 +246,7 @@ module _ (p : Program) (last : List (Option ℕ)) (has : (x : ℕ) (v : Variable
   blocks_typed k env starts [] l h e = tt
   blocks_typed k env [] (b ∷ bs) l h e = tt
   blocks_typed k env (z ∷ starts) (b ∷ bs) l ((lo, num, own), h) e =
-      let next = statement_after (started env z) b.body in
-      (typed p last has n_ room lo (started env z) b.body l num (λ y x r. (let u = own y x r in let s = u.2 in ap (λ zs. slice_get zs y) e ∙ later_stays p (suc k) next starts bs y u.0 u.1 (omega (arith, s)) h)),
-          blocks_typed (suc k) next starts bs (statement_length (started env z) b.body ∙ l) h e)
+      let next = statement_after (started env z) b.body in (
+        typed p last has n_ room lo (started env z) b.body l num (λ y x r. (let u = own y x r in let s = u.2 in ap (λ zs. slice_get zs y) e ∙ later_stays p (suc k) next starts bs y u.0 u.1 (omega (arith, s)) h)),
+        blocks_typed (suc k) next starts bs (statement_length (started env z) b.body ∙ l) h e,
+      )

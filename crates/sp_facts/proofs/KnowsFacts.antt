@@ -184,7 +184,10 @@ module _ (s : syntax.Program) (calm : names_broken s ≡ []) (no_types : types_b
 
   pub knows : (answers_ : (f : ℕ) (b : plain.Block) (x : ℕ) (v : plain.Variable) → slice_get (tree s calm).blocks f ≡ Some b → b.answer ≡ Some x → slice_get (tree s calm).variables x ≡ Some v → is_ordinal (slice_get (tree s calm).kinds v.kind) ≡ true) → Knows p_ (length n_.constants) (env_of n_)
   knows answers_ = record {
-    kinds = refl; integer = refl; boolean = refl; char = refl;
+    kinds = refl;
+    integer = refl;
+    boolean = refl;
+    char = refl;
     given = λ k l. known.0 k (subst (λ z. suc k ≤ z) few l);
     variables = variable_is;
     room = λ x v at. (let l = room_ s calm last n_.variables x v at in let z = types_length s calm (numbers_of n_) n_.variables in omega (arith, l, z));

@@ -32,7 +32,6 @@ use Rattle.sp_code.specs.Stands.{NoIndex}
 use Rattle.sp_facts.specs.Scoped.{SeenIn, SeenRole, AimedIn, AimedExpression, CallIn, AroundIn, InExpression, InForm, InVariable, InSelectors, InActuals, InArguments, InWidth}
 use Rattle.sp_facts.specs.Visible.{IsScope, AreFlags, IsAround, IsBlockIn, IsValid, AreValid, AllValid, IsVisible, IsChain}
 use Rattle.sp_facts.proofs.Calm.{calm_parts, calm_site, calm_at, calm_lesser, calm_if, nat_eq_is, not_true}
-
 use Rattle.std.proofs.lemmas.List.{length-append}
 use Rattle.sp_tree.specs.declared.checked.Variable as checked
 use Rattle.sp_tree.specs.declared.meaning.StandardProcedure.{StandardProcedure}
@@ -261,9 +260,11 @@ module _ (p : plain.Program) (m : ℕ) where
           go (Some (meaning.Procedure g fs)) (b, is, none) e c =
               let l = nat_eq_is (length fs) (w.count args) (not_true (nat_eq (length fs) (w.count args)) (calm_if rule.N6 f.at (not (nat_eq (length fs) (w.count args))) e)) in
               (b, called p m steps sc chain g fs b is, none, actuals_in p m steps sc chain env visible fs b.formals passing.Value args is.1 l c)
-          go (Some (meaning.StandardProcedure g)) h e c =
-              (subst (λ z. procedure_takes g z ≡ true) (sym (counts p m steps sc chain env visible args)) (not_true (procedure_takes g (w.count args)) (calm_if rule.N6 f.at (not (procedure_takes g (w.count args))) e)), aims_in g c,
-                  arguments_in p m steps sc chain env visible (references_of (Some (meaning.StandardProcedure g))) (rest_of (Some (meaning.StandardProcedure g))) args c)
+          go (Some (meaning.StandardProcedure g)) h e c = (
+            subst (λ z. procedure_takes g z ≡ true) (sym (counts p m steps sc chain env visible args)) (not_true (procedure_takes g (w.count args)) (calm_if rule.N6 f.at (not (procedure_takes g (w.count args))) e)),
+            aims_in g c,
+            arguments_in p m steps sc chain env visible (references_of (Some (meaning.StandardProcedure g))) (rest_of (Some (meaning.StandardProcedure g))) args c,
+          )
 
     mutual
       pub statement_in : (sc : List Scope) (around : List names.Scope) (l : Local) (s : Statement) → IsChain p m sc → IsPlace sc block around l → w.statement_sites [] together all_at around l s ≡ [] → Holds (next_variable l.counts) (indices block s) → InStatement p m sc (named_statement around l s)
@@ -300,9 +301,12 @@ module _ (p : plain.Program) (m : ℕ) where
           let env = inside around l in
           let one = calm_parts (all_at env (Loops x)) (together (w.expression_sites [] together all_at env from) (together (w.expression_sites [] together all_at env to) (w.statement_sites [] together all_at around l a))) calm in
           let two = calm_parts (w.expression_sites [] together all_at env from) (together (w.expression_sites [] together all_at env to) (w.statement_sites [] together all_at around l a)) one.1 in
-          let three = calm_parts (w.expression_sites [] together all_at env to) (w.statement_sites [] together all_at around l a) two.1 in
-          (loop_in sc around l place x (find env x.text) (find_valid p m sc env x.text place.visible) (calm_site (loop_rule l.block x.at (find env x.text)) one.0),
-              expression_in p m steps sc chain env place.visible from two.0, expression_in p m steps sc chain env place.visible to three.0, statement_in sc around l a chain place three.1 holds)
+          let three = calm_parts (w.expression_sites [] together all_at env to) (w.statement_sites [] together all_at around l a) two.1 in (
+            loop_in sc around l place x (find env x.text) (find_valid p m sc env x.text place.visible) (calm_site (loop_rule l.block x.at (find env x.text)) one.0),
+            expression_in p m steps sc chain env place.visible from two.0,
+            expression_in p m steps sc chain env place.visible to three.0,
+            statement_in sc around l a chain place three.1 holds,
+          )
       form_in_ sc around l (Parallel bs) chain place calm holds = branches_in sc around l bs chain place calm holds
       form_in_ sc around l (Forall x from to a) chain place calm ((v, vat, vr, vb), holds) =
           let env = inside around l in

@@ -252,8 +252,8 @@ module _ (p : plain.Program) (m : ℕ) where
         form_in (Apply f args) calm =
             let two = calm_parts (all_at env (Computes f (w.count args))) (w.arguments_sites [] together all_at env (references_of (find env f.text)) (rest_of (find env f.text)) args) calm in
             function_in f (find env f.text) (w.count args) (of_.arguments (named_arguments env args)) (find_valid sc env f.text visible) (counts args) (calm_site (function_rule f.at (w.count args) (find env f.text)) two.0)
-                (arguments_in (references_of (find env f.text)) (rest_of (find env f.text)) args two.1)
-                (λ fs xs e l flags. actuals_in fs xs (rest_of (find env f.text)) args flags l (subst (λ z. w.arguments_sites [] together all_at env z (rest_of (find env f.text)) args ≡ []) e two.1))
+            (arguments_in (references_of (find env f.text)) (rest_of (find env f.text)) args two.1)
+            (λ fs xs e l flags. actuals_in fs xs (rest_of (find env f.text)) args flags l (subst (λ z. w.arguments_sites [] together all_at env z (rest_of (find env f.text)) args ≡ []) e two.1))
         form_in (Unary op a) calm = expression_in a calm
         form_in (Binary op a b) calm = let two = calm_parts (w.expression_sites [] together all_at env a) (w.expression_sites [] together all_at env b) calm in (expression_in a two.0, expression_in b two.1)
 

@@ -32,7 +32,6 @@ use Rattle.sp_code.specs.Stands.{NoIndex}
 use Rattle.sp_facts.specs.Scoped.{SeenIn, SeenRole, AimedIn, AimedExpression, CallIn, AroundIn, InExpression, InForm, InVariable, InSelectors, InActuals, InArguments, InWidth}
 use Rattle.sp_facts.specs.Visible.{IsScope, AreFlags, IsAround, IsBlockIn, IsValid, AreValid, AllValid, IsVisible, IsChain}
 use Rattle.sp_facts.proofs.Calm.{calm_parts, calm_site, calm_at, calm_lesser, calm_if, nat_eq_is, not_true}
-
 use Rattle.std.proofs.lemmas.List.{length-append}
 use Rattle.sp_tree.specs.declared.checked.Variable as checked
 use Rattle.sp_tree.specs.declared.meaning.StandardProcedure.{StandardProcedure}
@@ -48,7 +47,6 @@ use Rattle.sp_tree.specs.PlainSyntax.{Statement, Does, Form, Empty, Assign, Call
 use Rattle.sp_facts.specs.Scoped.{IsInForall, ForIn, AreAimed, AreAimedLater, AimsOf, InStatement, InStatementForm, InOther, InStatements, InArms, InBranches}
 use Rattle.sp_facts.proofs.Names.{level_block, IsFound, find_valid, seen, aimed, called, target_in, expression_in, selectors_in, arguments_in, actuals_in, counts, passed_in}
 use Rattle.sp_facts.proofs.Numbering.{room_at, Adds, statement_adds, statements_adds, arms_adds, branches_adds, other_adds}
-
 use Rattle.sp_tree.specs.declared.meaning.Counts.{Counts}
 use Rattle.sp_tree.specs.declared.syntax.SynFormal.{SynFormal}
 use Rattle.sp_tree.specs.declared.syntax.SynKind.{SynKind}
@@ -62,7 +60,6 @@ use Rattle.sp_types.specs.Tables.{answer_variable}
 use Rattle.sp_facts.specs.Held.{HoldsBlocks, AreScoped, AreBelow}
 use Rattle.sp_facts.proofs.Numbering.{Moved, MovedBy, declared_counts, one_variable, moves_on, kind_moves, constants_move, names_adds, formals_adds, answer_adds, parts_move, part_moves, sum5}
 use Rattle.sp_facts.proofs.NameStatements.{IsKept, statement_keeps, Holds, holds_parts, more_all, more_valid, all_behind, IsPlace, place_after, statement_in}
-
 use Rattle.sp_tree.specs.NamedTree.{Inside, inside_with, procedure_block, program_named}
 use Rattle.sp_tree.specs.PlainOf.{variable_of}
 use Rattle.sp_tree.specs.Cells.{variables_of}
@@ -235,8 +232,8 @@ same_formals e1 e2 b (f ∷ fs) =
 -- fits: a test of roles, which local variables and indices don't pass; g: a block's list; heading: it is that of the variables of its heading
 module _ (fits : Role → Bool) (no_local : fits role.Local ≡ false) (no_index : fits role.Index ≡ false) (g : n.Block → List ℕ)
     (heading : (l : Local) (x : Name) (fs : List SynFormal) (answer : Option Name) (i : Inside) → next_variable (formals_local (opened (next_block l.counts) 0 (title_local l x fs answer)) fs).counts ≡ next_variable l.counts + length (formals_named (inside [] l) (next_block l.counts) fs)
-        → (env : Env) → env.local ≡ l → i.answer ≡ (heading_local l x fs answer).answer
-        → own fits (next_block l.counts) (next_variable l.counts) (formals_named env (next_block l.counts) fs ++ answer_named env (next_block l.counts) x answer) ≡ g (procedure_block env x fs answer i)) (f : ℕ) where
+    → (env : Env) → env.local ≡ l → i.answer ≡ (heading_local l x fs answer).answer
+    → own fits (next_block l.counts) (next_variable l.counts) (formals_named env (next_block l.counts) fs ++ answer_named env (next_block l.counts) x answer) ≡ g (procedure_block env x fs answer i)) (f : ℕ) where
   mutual
     pub parts_own : (around : List names.Scope) (l : Local) (ps : Parts) → w.parts_sites [] together all_at around l ps ≡ [] → own fits f (next_variable l.counts) (parts_named around l ps).variables ≡ in_blocks g f (next_block l.counts) (parts_named around l ps).blocks
     parts_own around l NoPart calm = refl

@@ -39,7 +39,6 @@ use Rattle.sp_facts.specs.Knows.{IsKind, IsFormal, AreFormals, Knows, HasIndices
 use Rattle.sp_code.specs.Stands.{ValueAt, FormAt, PlaceAt, VarAt, VarRole, SelectedAt, ActualsAt, ReadAt, UnaryAt, StandardAt, InputAt, Operands, NoIndex, IsTarget, Formal, CallAt, Around, AnyInstr, AnyTable, AnyText}
 use Rattle.sp_facts.specs.Scoped.{SeenIn, SeenRole, AimedIn, AimedExpression, CallIn, AroundIn, InExpression, InForm, InVariable, InSelectors, InActuals, InArguments, InWidth}
 use Rattle.sp_facts.proofs.Calm.{calm_parts, calm_site, calm_at, calm_lesser, calm_if, calm_unless, calm_differ, nat_eq_is, not_true, or_false}
-
 use Rattle.sp_tree.specs.declared.meaning.StandardProcedure.{StandardProcedure}
 use Rattle.sp_tree.specs.declared.named.NamedConst.{NamedConst}
 use Rattle.sp_tree.specs.Uses.{Use, Aims, Spreads, Stops, Runs, In_stmt, In_stmts, In_arms}
@@ -55,7 +54,6 @@ use Rattle.sp_facts.specs.Knows.{IsTyped, IsTypedForm, IsTypedOther, AreTyped, A
 use Rattle.sp_code.specs.Stands.{Hushed, StandsAt, AllAt, ChildrenAt, ArmsAt, RightAt, OrdinalAt, TestAt, TestsAt, TurnsAt, ForVar}
 use Rattle.sp_facts.specs.Scoped.{IsInForall, InStatement, InStatementForm, InOther, InStatements, InArms, InBranches}
 use Rattle.sp_facts.proofs.Expressions.{form_fine, some_is, ordinal_sort, ordinal_there, expression_fine, variable_fine, selectors_fine, actuals_fine, entire_fine, call_at, ValueIs, ordinal_is, boolean_is}
-
 use Rattle.sp_tree.specs.declared.meaning.StandardProcedure.TheVariants as procedure
 use Rattle.sp_tree.specs.NameRules.{procedure_takes}
 use Rattle.sp_types.specs.Tables.{kind_at}
@@ -83,9 +81,10 @@ module _ (p : Program) (m : ℕ) (moves shares : Stmt → List ℕ) (hush : ℕ 
   numbered_fine sc k at [] h quiet q = tt
   numbered_fine sc k at (f ∷ fs) h quiet q =
       let s_ = bare_statement_form f in
-      let r_ = bare_statements (of_.statements (numbered (k + 1) at fs)) in
-      (h.0 (within p m moves shares hush free sc (In_stmts (plain.And s_ r_)) (In_stmt s_) (λ u i. inl i) quiet) q,
-          numbered_fine sc (k + 1) at fs h.1 (within p m moves shares hush free sc (In_stmts (plain.And s_ r_)) (In_stmts r_) (λ u i. inr i) quiet) (after p q s_))
+      let r_ = bare_statements (of_.statements (numbered (k + 1) at fs)) in (
+        h.0 (within p m moves shares hush free sc (In_stmts (plain.And s_ r_)) (In_stmt s_) (λ u i. inl i) quiet) q,
+        numbered_fine sc (k + 1) at fs h.1 (within p m moves shares hush free sc (In_stmts (plain.And s_ r_)) (In_stmts r_) (λ u i. inr i) quiet) (after p q s_),
+      )
 
   expanded_fine : (sc : List Scope) (k : ℕ) (at : Place) (fs : List c.Form) → AllFine sc fs → Quiet p m moves shares hush free sc (In_stmt (bare_statement_form (expanded k at fs))) → Done p m moves shares hush free sc (bare_statement_form (expanded k at fs))
   expanded_fine sc k at [] h quiet q = tt

@@ -39,7 +39,6 @@ use Rattle.sp_facts.specs.Knows.{IsKind, IsFormal, AreFormals, Knows, HasIndices
 use Rattle.sp_code.specs.Stands.{ValueAt, FormAt, PlaceAt, VarAt, VarRole, SelectedAt, ActualsAt, ReadAt, UnaryAt, StandardAt, InputAt, Operands, NoIndex, IsTarget, Formal, CallAt, Around, AnyInstr, AnyTable, AnyText}
 use Rattle.sp_facts.specs.Scoped.{SeenIn, SeenRole, AimedIn, AimedExpression, CallIn, AroundIn, InExpression, InForm, InVariable, InSelectors, InActuals, InArguments, InWidth}
 use Rattle.sp_facts.proofs.Calm.{calm_parts, calm_site, calm_at, calm_lesser, calm_if, calm_unless, calm_differ, nat_eq_is, not_true, or_false}
-
 use Rattle.sp_tree.specs.declared.meaning.StandardProcedure.{StandardProcedure}
 use Rattle.sp_tree.specs.declared.named.NamedConst.{NamedConst}
 use Rattle.sp_tree.specs.Uses.{Use, Aims, Spreads, Stops, Runs, In_stmt, In_stmts, In_arms}
@@ -87,10 +86,19 @@ module _ (p : Program) (m : ℕ) where
 
   knows_indexed : (env : Env) (x : ℕ) (k : Option ℕ) → IsIndex x → Knows p m env → Knows p m (indexed env x k)
   knows_indexed env x k (v, at, r) h = record {
-    kinds = h.kinds; integer = h.integer; boolean = h.boolean; char = h.char; given = h.given;
+    kinds = h.kinds;
+    integer = h.integer;
+    boolean = h.boolean;
+    char = h.char;
+    given = h.given;
     variables = λ y u ya d. (ap entry (get_other env.variables x y k (λ e. subst NoIndex (ap (λ (z : Variable). z.role) (some_is u v (sym ya ∙ ap (slice_get p.variables) e ∙ at)) ∙ r) d)) ∙ (h.variables y u ya d).0, (h.variables y u ya d).1);
     room = λ y u ya. (let l = h.room y u ya in let z = set_length env.variables x k in omega (arith, l, z));
-    roles = h.roles; blocks = h.blocks; formals = h.formals; answers = h.answers; elements = h.elements; fields = h.fields;
+    roles = h.roles;
+    blocks = h.blocks;
+    formals = h.formals;
+    answers = h.answers;
+    elements = h.elements;
+    fields = h.fields;
   }
 
   pub more_indices : (env : Env) (x k : ℕ) (sc : List Scope) (o : Option ℕ) → Knows p m env → o ≡ Some k → is_ordinal (slice_get p.kinds k) ≡ true → ((v : Variable) → slice_get p.variables x ≡ Some v → v.kind ≡ k) → HasIndices p env sc → HasIndices p (indexed env x o) (OfIndex x ∷ sc)
@@ -276,15 +284,24 @@ module _ (p : Program) (m : ℕ) where
             let rv = variable_fine p m moves shares hush env ready.0 sc ready.1 (n.Entire x name ss) parts.0 (seen, in_ss) in
             let re = form_fine p m moves shares hush env ready.0 sc ready.1 eat form one.0 in_e in
             let is = calm_differ (selected env (n.Entire x name ss)) (form_kind env form) rv.0 re.0 rv.1 re.1 (calm_if rule.Y5 eat (differ (selected env (n.Entire x name ss)) (form_kind env form)) one.1) in
-            let v = bare_variable (checked_variable env (n.Entire x name ss)) in
-            (same env ready.0, λ q. subst (λ z. StandsAt p moves shares AnyInstr AnyTable AnyText hush free sc q (plain.Assign v (plain.Typed z (bare_form (checked_form env form))))) (sym (ap or_zero re.1))
-                (subst (λ z. PlaceAt p moves shares AnyInstr AnyTable AnyText hush sc q v z) is (rv.3 q), aimed, right_at sc (after_var q v) re.0 (sort p re.0) (bare_form (checked_form env form)) refl re.2 (re.3 (after_var q v))))
+            let v = bare_variable (checked_variable env (n.Entire x name ss)) in (
+              same env ready.0,
+              λ q. subst (λ z. StandsAt p moves shares AnyInstr AnyTable AnyText hush free sc q (plain.Assign v (plain.Typed z (bare_form (checked_form env form))))) (sym (ap or_zero re.1))
+                  (subst (λ z. PlaceAt p moves shares AnyInstr AnyTable AnyText hush sc q v z) is (rv.3 q), aimed, right_at sc (after_var q v) re.0 (sort p re.0) (bare_form (checked_form env form)) refl re.2 (re.3 (after_var q v))),
+            )
         statement_form_fine env sc at (n.Call f args) ready calm (b, call, none, acts) typed quiet =
             let formals : formals_of env f ≡ b.formals = ap formals_in (ready.0.blocks f b call.1) in
             let passes = actuals_fine p m moves shares hush env ready.0 sc ready.1 b.formals args (subst (λ z. actuals_sites [] together listed env z args ≡ []) formals calm) (ready.0.formals f b call.1) acts in
-            let args_ = bare_actuals (of_.actuals (checked_actuals env (formals_of env f) args)) in
-            (same env ready.0, λ q. (b, subst (λ z. ActualsAt p moves shares AnyInstr AnyTable AnyText hush sc q (bare_actuals (of_.actuals (checked_actuals env z args))) b.formals) (sym formals) (passes q),
-                call_at p m moves shares hush env ready.0 sc ready.1 f b call (after_actuals q args_), none, hushed free sc (In_stmt (plain.Call f args_)) f args_ quiet (inl refl)))
+            let args_ = bare_actuals (of_.actuals (checked_actuals env (formals_of env f) args)) in (
+              same env ready.0,
+              λ q. (
+                b,
+                subst (λ z. ActualsAt p moves shares AnyInstr AnyTable AnyText hush sc q (bare_actuals (of_.actuals (checked_actuals env z args))) b.formals) (sym formals) (passes q),
+                call_at p m moves shares hush env ready.0 sc ready.1 f b call (after_actuals q args_),
+                none,
+                hushed free sc (In_stmt (plain.Call f args_)) f args_ quiet (inl refl),
+              ),
+            )
         statement_form_fine env sc at (n.Perform f args) ready calm here typed quiet = ((knows_by env ready.0 (parts_count (single_count f args)), λ y v at e. e), performs free env sc at f args ready calm here quiet)
         statement_form_fine env sc at (n.Sequence ss) ready calm here typed quiet = statements_fine env sc ss ready calm here typed quiet
         statement_form_fine env sc at (n.If e a n.NoElse) ready calm (in_e, in_a, in_o) (ta, to) quiet =
@@ -358,7 +375,7 @@ module _ (p : Program) (m : ℕ) where
             let a_ = bare_statement (checked_statement inner a) in
             let all_ = In_stmt (plain.Forall x f_ t_ a_) in
             let ra = statement_fine inner (OfIndex x ∷ sc) a (up.0, more_indices env x c1.0 sc (expression_kind env from) ready.0 c1.1 c1.2 is_kind ready.1) two.1 in_a typed
-                (forall_part free sc x f_ t_ a_ quiet) in
+            (forall_part free sc x f_ t_ a_ quiet) in
             (then_ env inner (statement_after inner a) up ra.0, λ q. (0, tt, c1.3 q, l2 (after_value q f_), tt, tt, ra.1 (after_value (after_value q f_) t_ + 1 + 1), tt, free_is free sc all_ quiet (inr (inr (inr (inr refl))))))
         statement_form_fine env sc at (n.Assume e) ready calm here typed quiet = let c1 = condition env sc ready e calm here in (same env ready.0, λ q. (c1 q, tt))
 

@@ -89,17 +89,19 @@ module _ (p : plain.Program) (m : ℕ) where
   pub variables_held : (k : ℕ) (ks : List (Option ℕ)) (us : List checked.Variable) → length ks ≡ length us → ((i : ℕ) → slice_get p.variables (k + i) ≡ slice_get (map variable_of (checked_variables ks us)) i) → Holds p m k us
   variables_held k ks [] e h = tt
   variables_held k [] (u ∷ us) e h = absurd (omega (arith, e))
-  variables_held k (z ∷ ks) (u ∷ us) e h =
-      ((variable_of (record u { kind = or_zero z }), subst (λ j. slice_get p.variables j ≡ Some (variable_of (record u { kind = or_zero z }))) (let j : k + 0 ≡ k = omega arith in j) (h 0), refl, refl),
-          variables_held (suc k) ks us (omega (arith, e)) (λ i. subst (λ j. slice_get p.variables j ≡ slice_get (map variable_of (checked_variables ks us)) i) (let j : k + suc i ≡ suc k + i = omega arith in j) (h (suc i))))
+  variables_held k (z ∷ ks) (u ∷ us) e h = (
+    (variable_of (record u { kind = or_zero z }), subst (λ j. slice_get p.variables j ≡ Some (variable_of (record u { kind = or_zero z }))) (let j : k + 0 ≡ k = omega arith in j) (h 0), refl, refl),
+    variables_held (suc k) ks us (omega (arith, e)) (λ i. subst (λ j. slice_get p.variables j ≡ slice_get (map variable_of (checked_variables ks us)) i) (let j : k + suc i ≡ suc k + i = omega arith in j) (h (suc i))),
+  )
 
   pub blocks_held : (k : ℕ) (env : Env) (starts : List ℕ) (bs : List n.Block) → length starts ≡ length bs → ((i : ℕ) → slice_get p.blocks (k + i) ≡ slice_get (map bare_block (checked_blocks env starts bs)) i) → HoldsBlocks p m k bs
   blocks_held k env starts [] e h = tt
   blocks_held k env [] (b ∷ bs) e h = absurd (omega (arith, e))
   blocks_held k env (z ∷ starts) (b ∷ bs) e h =
-      let c = bare_block (checked_block (started env z) b) in
-      ((c, subst (λ j. slice_get p.blocks j ≡ Some c) (let j : k + 0 ≡ k = omega arith in j) (h 0), refl, refl, refl),
-          blocks_held (suc k) (statement_after (started env z) b.body) starts bs (omega (arith, e)) (λ i. subst (λ j. slice_get p.blocks j ≡ slice_get (map bare_block (checked_blocks (statement_after (started env z) b.body) starts bs)) i) (let j : k + suc i ≡ suc k + i = omega arith in j) (h (suc i))))
+      let c = bare_block (checked_block (started env z) b) in (
+        (c, subst (λ j. slice_get p.blocks j ≡ Some c) (let j : k + 0 ≡ k = omega arith in j) (h 0), refl, refl, refl),
+        blocks_held (suc k) (statement_after (started env z) b.body) starts bs (omega (arith, e)) (λ i. subst (λ j. slice_get p.blocks j ≡ slice_get (map bare_block (checked_blocks (statement_after (started env z) b.body) starts bs)) i) (let j : k + suc i ≡ suc k + i = omega arith in j) (h (suc i))),
+      )
 
 -- a block of the tree is one of the tree with numbers for names
 pub block_from : (env : Env) (starts : List ℕ) (bs : List n.Block) (f : ℕ) (c : plain.Block) → slice_get (map bare_block (checked_blocks env starts bs)) f ≡ Some c → (b : n.Block) × (slice_get bs f ≡ Some b) × (c.parent ≡ b.parent) × (c.formals ≡ b.formals) × (c.answer ≡ answer_variable b.answer)

@@ -32,7 +32,6 @@ use Rattle.sp_code.specs.Stands.{NoIndex}
 use Rattle.sp_facts.specs.Scoped.{SeenIn, SeenRole, AimedIn, AimedExpression, CallIn, AroundIn, InExpression, InForm, InVariable, InSelectors, InActuals, InArguments, InWidth}
 use Rattle.sp_facts.specs.Visible.{IsScope, AreFlags, IsAround, IsBlockIn, IsValid, AreValid, AllValid, IsVisible, IsChain}
 use Rattle.sp_facts.proofs.Calm.{calm_parts, calm_site, calm_at, calm_lesser, calm_if, nat_eq_is, not_true}
-
 use Rattle.std.proofs.lemmas.List.{length-append}
 use Rattle.sp_tree.specs.declared.checked.Variable as checked
 use Rattle.sp_tree.specs.declared.meaning.StandardProcedure.{StandardProcedure}
@@ -48,7 +47,6 @@ use Rattle.sp_tree.specs.PlainSyntax.{Statement, Does, Form, Empty, Assign, Call
 use Rattle.sp_facts.specs.Scoped.{IsInForall, ForIn, AreAimed, AreAimedLater, AimsOf, InStatement, InStatementForm, InOther, InStatements, InArms, InBranches}
 use Rattle.sp_facts.proofs.Names.{level_block, IsFound, find_valid, seen, aimed, called, target_in, expression_in, selectors_in, arguments_in, actuals_in, counts, passed_in}
 use Rattle.sp_facts.proofs.Numbering.{room_at, Adds, statement_adds, statements_adds, arms_adds, branches_adds, other_adds}
-
 use Rattle.sp_tree.specs.declared.meaning.Counts.{Counts}
 use Rattle.sp_tree.specs.declared.syntax.SynFormal.{SynFormal}
 use Rattle.sp_tree.specs.declared.syntax.SynKind.{SynKind}
@@ -62,14 +60,12 @@ use Rattle.sp_types.specs.Tables.{answer_variable}
 use Rattle.sp_facts.specs.Held.{HoldsBlocks, AreScoped, AreBelow}
 use Rattle.sp_facts.proofs.Numbering.{Moved, MovedBy, declared_counts, one_variable, moves_on, kind_moves, constants_move, names_adds, formals_adds, answer_adds, parts_move, part_moves, sum5}
 use Rattle.sp_facts.proofs.NameStatements.{IsKept, statement_keeps, Holds, holds_parts, more_all, more_valid, all_behind, IsPlace, place_after, statement_in}
-
 use Rattle.sp_tree.specs.NamedTree.{Inside, inside_with, procedure_block, program_named}
 use Rattle.sp_tree.specs.PlainOf.{variable_of}
 use Rattle.sp_tree.specs.Cells.{variables_of}
 use Rattle.sp_code.specs.Scopes.{as_list}
 use Rattle.sp_tree.specs.Formed.{is_parameter, is_answer, among}
 use Rattle.sp_facts.proofs.Blocks.{part_block, calm_pieces, title_moves, formals_move, head_blocks, head_number}
-
 use Rattle.sp_tree.specs.declared.syntax.SynGroup.{SynGroup}
 use Rattle.sp_tree.specs.declared.named.NamedKind.{NamedKind}
 use Rattle.sp_tree.specs.NameRules.{UsesIn, Fields, own_rule, use_rule}
@@ -79,7 +75,6 @@ use Rattle.sp_tree.specs.PlainSyntax as syntax
 use Rattle.sp_tree.specs.NamedTree.{kind_named, groups_named, fields_named}
 use Rattle.sp_tree.specs.Formed.{AreBefore}
 use Rattle.sp_facts.specs.Earlier.{IsEarlier, AreEarlier}
-
 use Rattle.sp_facts.proofs.EarlierFacts.{EachBound, AllBound, each_bound_more, all_bound_more, each_behind, declared_bound, formals_bound, answer_bound, block_bound, kind_found, find_bound, part_earlier}
 
 -- the types of these variables have lower numbers
