@@ -163,8 +163,8 @@ same_entries s l (e ∷ es) (d ∷ ds) g h f =
     let k = sym (entry_line s l e g.0 (entries_text (after_entry s e) es)) ∙ ap (first_split 10) f ∙ entry_line s l d h.0 (entries_text (after_entry s d) ds) in
     let one : e ≡ d = entries_differ s l e d g.0 h.0 (parts_first _ _ _ _ k) in
     let rest = same_entries (after_entry s e) (lawful_after s e l g.0) es ds g.1
-        (subst (λ (x : Entry). NameableFrom (after_entry s x) ds) (sym one) h.1)
-        (parts_second _ _ _ _ k ∙ ap (λ (x : Entry). entries_text (after_entry s x) ds) (sym one)) in
+    (subst (λ (x : Entry). NameableFrom (after_entry s x) ds) (sym one) h.1)
+    (parts_second _ _ _ _ k ∙ ap (λ (x : Entry). entries_text (after_entry s x) ds) (sym one)) in
     λ i. one i ∷ rest i
 
 -- two texts of journals, in whatever versions

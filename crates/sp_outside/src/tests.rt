@@ -3,10 +3,9 @@
 use super::*;
 use sp_base::{List, Text};
 use std::alloc::{AllocError, Global};
-use std::fs;
-use std::io;
 use std::io::{ErrorKind, Write};
 use std::test::Fail;
+use std::{fs, io};
 
 /// A writer that takes all bytes and fails at each flush.
 #[derive(Drop)]
