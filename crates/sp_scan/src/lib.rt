@@ -8,7 +8,4 @@ mod scanner;
 mod tables;
 mod token;
 
-pub use scanner::{scan, spelling};
-
-#[cfg(test)]
-mod tests;
+pub use scanner::{first_breach, scan, spelling};
