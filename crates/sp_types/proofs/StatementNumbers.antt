@@ -1,20 +1,20 @@
 -- The numbers of a statement's tree are those from its own up to the one behind it, in this order; so blocks whose statement
 -- parts stand at different places have different numbers.
 use Rattle.std.proofs.Common.{◌≡◌, refl, ap, sym, subst, ◌∙◌, ℕ, zero, suc, ◌+◌, ◌<◌, ◌≤◌, List, [], ◌∷◌, ◌++◌, Bool, true, false, ◌⊎◌, inl, inr, arith}
-use Rattle.std.specs.Prelude.{◌≢◌, nat_eq, nat_lt, ◌&&◌, ◌||◌, if◌then◌else◌, Option, Some, None}
+use Rattle.std.specs.Prelude.{◌≢◌, if◌then◌else◌, Option, Some, None}
 use Rattle.std.specs.Bool.{Decides}
 use Rattle.std.proofs.lemmas.Bool.Decides.{Decides-or, Decides-and, Decides-ltb, Decides-eqb}
 use Rattle.sp_base.specs.declared.place.Place.{Place}
 use Rattle.sp_tree.specs.declared.meaning.StandardProcedure.{StandardProcedure}
 use Rattle.sp_tree.specs.declared.meaning.StandardProcedure.TheVariants as procedure
-use Rattle.sp_tree.specs.PlainNamed.{Expression, At, ExpressionForm, Number, Quoted, Constant, Read, Apply, Standard, Unary, Binary, Argument, Pass, Width, Arguments, NoArgument, AndArgument, Statement, Does, Form, Empty, Assign, Call, Perform, Sequence, If, While, Repeat, Case, For, Parallel, Forall, Assume, Other, NoElse, Else, Statements, NoStatement, AndThen, Arm, On, Arms, NoArm, Or, Branches, NoBranch, Beside, Block, Program}
+use Rattle.sp_tree.specs.PlainNamed.{Expression, At, Number, Quoted, Constant, Read, Apply, Standard, Unary, Binary, Pass, Arguments, NoArgument, AndArgument, Statement, Does, Form, Empty, Assign, Call, Perform, Sequence, If, While, Repeat, Case, For, Parallel, Forall, Assume, Other, NoElse, Else, Statements, NoStatement, AndThen, On, Arms, NoArm, Or, Branches, NoBranch, Beside, Block, Program}
 use Rattle.sp_tree.specs.PlainChecked as c
 use Rattle.sp_tree.specs.CheckedOf as of_
 use Rattle.sp_types.specs.declared.tables.Ordinal.{Ordinal}
 use Rattle.sp_types.specs.Tables.{Env, char_of, counted, indexed, env_of}
 use Rattle.sp_types.specs.Kinds.{expression_kind}
-use Rattle.sp_types.specs.TypeWalk.{count, behind, single_count, parts_count, statement_after, form_after, other_after, statements_after, arms_after, arm_after, branches_after, statement_counted, form_counted, other_counted, statements_counted, arms_counted, arm_counted, branches_counted, statement_place, bodies, earlier, count_before, starts_from, starts_of, started}
-use Rattle.sp_types.specs.CheckedTree.{written, written_form, written_text, reads, writes, opens, sends, receives, singles, argument_variable, checked_argument, checked_width, expanded, numbered, first_place, in_sequence, checked_statement, checked_statement_form, checked_other, checked_statements, checked_arms, checked_arm, checked_branches, checked_blocks, program_checked}
+use Rattle.sp_types.specs.TypeWalk.{count, single_count, parts_count, statement_after, form_after, other_after, statements_after, arms_after, branches_after, statement_counted, form_counted, other_counted, statements_counted, arms_counted, branches_counted, statement_place, bodies, earlier, count_before, starts_from, started}
+use Rattle.sp_types.specs.CheckedTree.{written, written_form, written_text, reads, writes, opens, sends, receives, singles, argument_variable, checked_argument, checked_width, expanded, numbered, checked_statement, checked_statement_form, checked_other, checked_statements, checked_arms, checked_branches, checked_blocks, program_checked}
 use Rattle.sp_types.specs.StatementNumbers.{statement_numbers, form_numbers, other_numbers, statements_numbers, arms_numbers, blocks_numbers, body_places, DiffersFrom, AllDiffer}
 use Rattle.sp_types.proofs.Numbering.{statement_next}
 

@@ -1,7 +1,7 @@
 -- The numbers of the statements of a checked tree, in the order of its blocks, and what it is that no two are the same.
 use Rattle.std.specs.Prelude.{ℕ, List, [], ◌∷◌, ◌++◌, ◌≢◌}
 use Rattle.sp_base.specs.declared.place.Place.{Place}
-use Rattle.sp_tree.specs.PlainChecked.{Statement, Does, Form, Empty, Assign, Call, Sequence, If, While, Repeat, For, Case, Parallel, Forall, Assume, ReadValue, ReadLine, WriteValue, WriteText, WriteLine, Open, Send, Receive, Other, NoElse, Else, Statements, NoStatement, AndThen, Arm, On, Arms, NoArm, Or, Block}
+use Rattle.sp_tree.specs.PlainChecked.{Statement, Does, Form, Sequence, If, While, Repeat, For, Case, Parallel, Forall, Other, NoElse, Else, Statements, NoStatement, AndThen, On, Arms, NoArm, Or, Block}
 use Rattle.sp_tree.specs.PlainNamed as n
 use Rattle.sp_types.specs.TypeWalk.{statement_place}
 
