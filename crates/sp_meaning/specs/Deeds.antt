@@ -11,6 +11,7 @@ use Rattle.sp_meaning.specs.Model.{Name, Channel, Cargo, Gives, Takes}
 use Rattle.sp_tree.specs.Cells.{variables_of, cells_of_frame}
 use Rattle.sp_meaning.specs.Values.{Value, Undefined, Ordinal, Chan, Parts, initials}
 use Rattle.sp_meaning.specs.Own.{Setting, Cell, Input, Output, Held, Tree, Position, Written, Address, Home, OfBlock, OfIndex, Frame, Own, Who, Item, Do, First, Again, Test, Leave, Break, Process, Work, bind, give, fail, lost, long, mine, who, become, look, put, fetch, assign, or_lost, position_in, bytes_in, reach, is_block, tick, deepen, widen}
+pub use Rattle.sp_meaning.specs.Operators.{is_range, is_before, next_value}
 use Rattle.sp_meaning.specs.Operators.{same_ordinal}
 use Rattle.sp_meaning.specs.Texts.{Taken, Takes as Took, Fails as Stops, number_in, char_in, line_length, padded, truth_text, byte}
 use Rattle.sp_meaning.specs.Eval.{Given, ValueOf, PlaceOf, Calls, kind_at, read_at, address_of, place_of, left_of, value, actuals, address, ordinal_of, ordinal, channel}
@@ -69,17 +70,6 @@ arm_for n (Or (On ms s) rest) = if has n ms then Some s else arm_for n rest
 
 abbrev pub if_true : {A : Type 0} → ℤ → A → A → A
 if_true n a b = if int_le n (pos 0) then b else a
-
--- for loops, up and down
-
-abbrev pub is_range : Bool → ℤ → ℤ → Bool
-is_range down from to = if down then int_le to from else int_le from to
-
-abbrev pub is_before : Bool → ℤ → ℤ → Bool
-is_before down n limit = if down then int_lt limit n else int_lt n limit
-
-abbrev pub next_value : Bool → ℤ → ℤ
-next_value down n = if down then n -ℤ pos 1 else n +ℤ pos 1
 
 -- a loop goes on where its variable is before the limit, or holds no ordinal (and then the step is F4)
 abbrev pub goes_on : Bool → ℤ → Value → Bool

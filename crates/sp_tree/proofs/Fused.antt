@@ -1,5 +1,5 @@
 -- The plain tree of an expression is its tree with places, without them.
-use Rattle.std.proofs.Common.{◌≡◌, ℕ, List, [], ◌∷◌, map, Option, Some, None, refl, sym, subst, ap, ◌∙◌}
+use Rattle.std.proofs.Common.{◌≡◌, List, [], ◌∷◌, map, refl, sym, subst, ap, ◌∙◌}
 use Rattle.sp_tree.specs.declared.checked.Expr.{Expr, roll-Expr, map-Expr, fold-roll-Expr, ind-Expr}
 use Rattle.sp_tree.specs.declared.checked.ExprForm.{ExprForm, roll-ExprForm, map-ExprForm, fold-roll-ExprForm}
 use Rattle.sp_tree.specs.declared.checked.Actual.{Actual, roll-Actual, map-Actual, fold-roll-Actual, ind-Actual}

@@ -14,8 +14,8 @@ use Rattle.sp_tree.specs.Plain as b
 use Rattle.sp_tree.specs.PlainOf as plain
 use Rattle.sp_tree.specs.PlainChecked as p
 use Rattle.sp_tree.specs.CheckedOf as placed
-use Rattle.sp_tree.specs.Bare.{bare_expression, bare_variable, bare_actuals, bare_width, bare_statement, bare_statement_form, bare_statements, bare_arms, bare_block, bare}
-use Rattle.sp_tree.proofs.Fused.{bare_actual, pass_is, expression_fused, actual_is, variable_is}
+use Rattle.sp_tree.specs.Bare.{bare_actuals, bare_width, bare_statement, bare_statement_form, bare_statements, bare_arms, bare_block, bare}
+use Rattle.sp_tree.proofs.Fused.{pass_is, expression_fused, actual_is, variable_is}
 
 abbrev bare_arm : p.Arm → b.Arm
 bare_arm (p.On cs s) = b.On cs (bare_statement s)

@@ -7,3 +7,6 @@ pub mod FusedStatements
 pub mod Sited
 pub mod NoBreach
 pub mod Reached
+pub mod Unbroken
+pub mod BreachRows
+pub mod FormedRows

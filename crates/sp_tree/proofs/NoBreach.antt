@@ -1,16 +1,16 @@
 -- A tree that breaks no rule of interference keeps them at every use in it.
-use Rattle.std.proofs.Common.{◌≡◌, ◌⊎◌, inl, inr, ℕ, zero, suc, List, [], ◌∷◌, map, Some, None, slice_get, refl, sym, subst}
+use Rattle.std.proofs.Common.{◌≡◌, ◌⊎◌, inl, inr, ℕ, zero, suc, List, [], ◌∷◌, map, Some, slice_get, refl, sym, subst}
 use Rattle.sp_base.specs.declared.place.Place.{Place}
 use Rattle.sp_base.specs.declared.rule.Rule.{Rule}
 use Rattle.sp_base.specs.declared.rule.Rule.TheVariants as rule
 use Rattle.sp_tree.specs.PlainChecked as p
-use Rattle.sp_tree.specs.Plain.{Program, Block, Stmts, Actuals}
+use Rattle.sp_tree.specs.Plain.{Program, Block}
 use Rattle.sp_tree.specs.Bare.{bare_statement, bare_statements, bare_actuals, bare_block, bare}
-use Rattle.sp_tree.specs.Uses.{Use, Aims, Sees, Runs, In_stmt, In_stmts}
+use Rattle.sp_tree.specs.Uses.{Use, Aims, Sees, In_stmt, In_stmts}
 use Rattle.sp_tree.specs.Sets.{Reach, IsTarget, IsUsed, Implicit}
-use Rattle.sp_tree.specs.Interference.{refs, IsMember, AllDifferent, KeepsI1, KeepsI4, KeepsI5, IsIndexOf, KeepsRules}
+use Rattle.sp_tree.specs.Interference.{refs, IsMember, AllDifferent, KeepsI1, KeepsI5, IsIndexOf, KeepsRules}
 use Rattle.sp_tree.specs.Sites.{Site, SplitsAt, SpreadsAt, LoopsAt, CallsAt, StopsAt, statement_sites}
-use Rattle.sp_tree.specs.Interferes.{IsSite, place_of, Interfere, ClashesIn, SplitBreaks, Repeats, CallRepeats, PassesImplicit, SiteBreaks, Interferes}
+use Rattle.sp_tree.specs.Interferes.{IsSite, place_of, ClashesIn, SplitBreaks, Repeats, CallRepeats, PassesImplicit, Interferes}
 use Rattle.sp_tree.proofs.Sited.{KeepsSite, AllKeep, statement_kept}
 
 module _ (g : Program) where
@@ -91,6 +91,14 @@ module _ (g : Program) where
   HasIndex (SpreadsAt at x s) = IsIndexOf g x
   HasIndex site = Unit
 
+-- a block without places is that of one with places
+pub block_at : (ks : List p.Block) (b : ℕ) (k : Block) → slice_get (map bare_block ks) b ≡ Some k → (m : p.Block) × (slice_get ks b ≡ Some m) × (bare_block m ≡ k)
+block_at [] b k e = absurd (cc e)
+block_at (m ∷ ms) zero k e = (m, refl, some_is (bare_block m) k e)
+  where
+    some_is : (x y : Block) → Some x ≡ Some y → x ≡ y
+    some_is x y e = cc e
+block_at (m ∷ ms) (suc b) k e = block_at ms b k e
 
 module _ (c : p.Program) (calm : (r : Rule) (at : Place) → Interferes c r at → ⊥) where
   pub site_kept : (b : ℕ) (k : p.Block) → slice_get c.blocks b ≡ Some k → (site : Site) → IsSite site (statement_sites k.body) → HasIndex (bare c) site → KeepsSite (bare c) site
@@ -103,14 +111,6 @@ module _ (c : p.Program) (calm : (r : Rule) (at : Place) → Interferes c r at �
   all_kept : (sites : List Site) → ((site : Site) → IsSite site sites → KeepsSite (bare c) site) → AllKeep (bare c) sites
   all_kept [] h = tt
   all_kept (s ∷ ss) h = (h s (inl refl), all_kept ss (λ t m. h t (inr m)))
-
-  block_at : (ks : List p.Block) (b : ℕ) (k : Block) → slice_get (map bare_block ks) b ≡ Some k → (m : p.Block) × (slice_get ks b ≡ Some m) × (bare_block m ≡ k)
-  block_at [] b k e = absurd (cc e)
-  block_at (m ∷ ms) zero k e = (m, refl, some_is (bare_block m) k e)
-    where
-      some_is : (x y : Block) → Some x ≡ Some y → x ≡ y
-      some_is x y e = cc e
-  block_at (m ∷ ms) (suc b) k e = block_at ms b k e
 
   -- every use in every block keeps the rules on which disjointness rests
   pub blocks_kept : ((b : ℕ) (k : p.Block) → slice_get c.blocks b ≡ Some k → (site : Site) → IsSite site (statement_sites k.body) → HasIndex (bare c) site)

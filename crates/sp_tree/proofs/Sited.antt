@@ -1,11 +1,11 @@
 -- Each use in a statement has its site: where all sites keep the rules, all uses do.
-use Rattle.std.proofs.Common.{◌≡◌, ◌⊎◌, inl, inr, ℕ, List, [], ◌∷◌, ◌++◌, Option, Some, None, refl, sym, subst}
+use Rattle.std.proofs.Common.{◌≡◌, inl, inr, ℕ, List, [], ◌∷◌, ◌++◌, Option, Some, None, sym, subst}
 use Rattle.sp_tree.specs.PlainChecked as p
 use Rattle.sp_tree.specs.Plain.{Program}
-use Rattle.sp_tree.specs.Bare.{bare_expression, bare_form, bare_variable, bare_selectors, bare_actuals, bare_width, bare_statement, bare_statement_form, bare_statements, bare_arms}
+use Rattle.sp_tree.specs.Bare.{bare_expression, bare_form, bare_variable, bare_selectors, bare_actuals, bare_width, bare_statement, bare_statements, bare_arms}
 use Rattle.sp_tree.specs.Uses.{Use, Aims, Stops, In_expr, In_form, In_read, In_target, In_selectors, In_actuals, In_width, In_stmt, In_stmts, In_arms}
 use Rattle.sp_tree.specs.Interference.{KeepsI1, KeepsI2, KeepsI4, KeepsI5, IsIndexOf, KeepsRules}
-use Rattle.sp_tree.specs.Sites.{Site, SplitsAt, SpreadsAt, LoopsAt, CallsAt, StopsAt, expression_sites, form_sites, variable_sites, selectors_sites, actuals_sites, width_sites, statement_sites, statement_form_sites, statements_sites, arms_sites}
+use Rattle.sp_tree.specs.Sites.{Site, SplitsAt, SpreadsAt, LoopsAt, CallsAt, StopsAt, expression_sites, form_sites, variable_sites, selectors_sites, actuals_sites, width_sites, statement_sites, statements_sites, arms_sites}
 
 module _ (g : Program) where
   abbrev pub KeepsSite : Site → Type 0

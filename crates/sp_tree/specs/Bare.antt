@@ -1,9 +1,8 @@
 -- The plain tree without places, which the meaning runs, of one with places.
-use Rattle.std.specs.Prelude.{List, [], ◌∷◌, map, Option, Some, None}
-use Rattle.sp_tree.specs.declared.operators.StandardFn.{StandardFn}
+use Rattle.std.specs.Prelude.{map, Option, Some, None}
 use Rattle.sp_tree.specs.PlainOf.{variable_of}
 use Rattle.sp_tree.specs.PlainChecked as p
-use Rattle.sp_tree.specs.Plain.{Expr, Typed, ExprForm, Number, Read, Unary, Binary, Apply, Standard, AtInput, Var, Entire, Selectors, Whole, Select, Index, Field, Actuals, Nothing, Pass, ByValue, ByReference, Stmt, Empty, Assign, Call, Sequence, If, IfElse, While, Repeat, For, Case, Parallel, Forall, Assume, ReadValue, ReadLine, WriteValue, WriteText, WriteLine, Open, Send, Receive, Stmts, No, And, On, Arms, NoArm, Or, Variable, Block, Program}
+use Rattle.sp_tree.specs.Plain.{Expr, Typed, ExprForm, Number, Read, Unary, Binary, Apply, Standard, AtInput, Var, Entire, Selectors, Whole, Select, Index, Field, Actuals, Nothing, Pass, ByValue, ByReference, Stmt, Empty, Assign, Call, Sequence, If, IfElse, While, Repeat, For, Case, Parallel, Forall, Assume, ReadValue, ReadLine, WriteValue, WriteText, WriteLine, Open, Send, Receive, Stmts, No, And, On, Arms, NoArm, Or, Block, Program}
 
 abbrev mutual
   pub bare_expression : p.Expression → Expr

@@ -4,6 +4,7 @@ pub mod PlainChecked
 pub mod CheckedOf
 pub mod Bare
 pub mod Formed
+pub mod Around
 pub mod PlainSyntax
 pub mod SyntaxOf
 pub mod Words

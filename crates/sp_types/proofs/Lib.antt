@@ -6,6 +6,7 @@ pub mod Laws
 pub mod Steps
 pub mod Counts
 pub mod Numbering
+pub mod StatementNumbers
 pub mod Capping
 pub mod Declared
 pub mod KeptKinds

@@ -4,6 +4,7 @@ pub mod TypeRules
 pub mod Kinds
 pub mod TypeWalk
 pub mod CheckedTree
+pub mod StatementNumbers
 pub mod TypeFirst
 pub mod Firsts
 pub mod Types
