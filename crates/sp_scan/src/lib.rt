@@ -8,4 +8,5 @@ mod scanner;
 mod tables;
 mod token;
 
+pub use rules::item;
 pub use scanner::{first_breach, scan, spelling};

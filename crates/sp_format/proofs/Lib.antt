@@ -1,0 +1,5 @@
+pub mod Walking
+pub mod Joining
+pub mod Neat
+pub mod Again
+pub mod Follows

@@ -1,0 +1,9 @@
+use Rattle.std.proofs.Common.{◌≡◌, ◌++◌, map, length}
+use Rattle.sp_tree.specs.Characters.{lower as lower_of}
+use Rattle.sp_format.proofs.put.put_lower.Given as goal
+
+abbrev pub invariant-more : goal.invariant-more
+invariant-more l = l.out.items ++ map lower_of l.rest ≡ l.initial.out.items ++ map lower_of l.bytes
+
+abbrev pub decreases-more : goal.decreases-more
+decreases-more l = length l.rest

@@ -1,0 +1,13 @@
+//! The canonical text of a program's text: one layout for every program.
+#![tactic(auto)]
+
+mod canonical;
+mod context;
+mod kinds;
+mod law;
+mod put;
+#[cfg(test)]
+mod tests;
+
+pub use canonical::format;
+pub use law::{items_kept, one_canonical_text};
