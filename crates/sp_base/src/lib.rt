@@ -2,6 +2,7 @@
 #![tactic(auto)]
 
 mod boxed;
+mod decimal;
 mod fault;
 mod halt;
 mod limits;
@@ -14,6 +15,7 @@ mod tests;
 mod text;
 
 pub use boxed::Boxed;
+pub use decimal::{put_decimal, put_signed};
 pub use fault::Fault;
 pub use halt::{Halt, Memory, Refusal};
 pub use limits::{Limits, MAXINT, Show, TURN_TICKS};

@@ -1,6 +1,6 @@
 //! Lists that contracts see as plain lists.
 
-ghost use Rattle.std.specs.Prelude.{◌≡◌, ◌++◌, ◌∷◌, [], length, slice_get};
+ghost use Rattle.std.specs.Prelude.{◌≡◌, ◌<◌, ◌++◌, ◌∷◌, [], length, slice_get, slice_set, swap, take};
 ghost use Rattle.std.specs.Option.{option_copied};
 ghost use Rattle.std.specs.Prelude.{IfOk, IfErr, OnOk, OnErr, IsTrue, ◌↔◌, MatchOption, Some, None};
 ghost use Rattle.std.specs.Borrow.{sem};
@@ -10,6 +10,7 @@ ghost use Rattle.std.specs.Cmp.Lexicographic.{pointwise, slice_cmp, slice_partia
 use std::alloc::{AllocError, AllocFailed, Global};
 use std::cmp::Ordering;
 use std::marker::Model;
+use std::mem;
 
 /// A `Vec` that contracts see as the list of its items.
 #[derive(Debug, Drop)]
@@ -89,6 +90,31 @@ impl<T> List<T> {
         self.inner.push(item)
     }
 
+    /// Takes the last item away and gives it. Undoes `push`.
+    pub fn pop(&mut self) -> Option<T>
+        ensures { MatchOption result ((self.old ≡ []) × (self.new ≡ [])) (λ item. self.old ≡ self.new ++ item ∷ []) }
+    {
+        self.inner.pop()
+    }
+
+    /// Puts the item where another one stands, and gives that one.
+    pub fn replace(&mut self, at: usize, item: T) -> T
+        requires { at < length self.old }
+        ensures list { self.new ≡ slice_set self.old at item }
+        ensures replaced { slice_get self.old at ≡ Some result }
+    {
+        mem::replace(&mut self.inner[at], item)
+    }
+
+    /// Exchanges two items.
+    pub fn swap(&mut self, i: usize, j: usize)
+        requires first { i < length self.old }
+        requires second { j < length self.old }
+        ensures { self.new ≡ swap self.old i j }
+    {
+        self.inner.swap(i, j);
+    }
+
     /// Gives the `Vec` back.
     pub fn into_vec(self) -> Vec<T>
         ensures { result.items ≡ self }
@@ -98,7 +124,35 @@ impl<T> List<T> {
     }
 }
 
+impl<T: Drop> List<T> {
+    /// Drops all items but the first `count`. Undoes what was put last.
+    pub fn truncate(&mut self, count: usize)
+        ensures { self.new ≡ take count self.old }
+    {
+        self.inner.truncate(count);
+    }
+
+    /// The items of both lists, those of `other` last. Where memory is refused both are dropped.
+    pub fn join(self, other: List<T>) -> Result<List<T>, AllocFailed<T>>
+        ensures { IfOk result (λ all. all ≡ self ++ other) }
+    {
+        let mut all = self.into_vec();
+        for item in other.into_vec() {
+            all.push(item)?;
+        }
+        Ok(List::of(all))
+    }
+}
+
 impl<T: Copy> List<T> {
+    /// Puts the items last, all of them or, where memory is refused, none.
+    pub fn extend_from_slice(&mut self, items: &[T]) -> Result<(), AllocError>
+        ensures ok { OnOk result (self.new ≡ self.old ++ items.now) }
+        ensures err { OnErr result (self.new ≡ self.old) }
+    {
+        self.inner.extend_from_slice(items)
+    }
+
     pub fn from_slice(alloc: Global, items: &[T]) -> Result<List<T>, AllocError>
         ensures { IfOk result (λ it. it ≡ items.now) }
     {

@@ -1,13 +1,13 @@
 //! The names of processes and channels. A name is the same in every run in which its process forks and opens alike.
 
-ghost use Rattle.std.specs.Prelude.{◌≡◌, ◌++◌, IfOk, OnOk, Some};
+ghost use Rattle.std.specs.Prelude.{◌≡◌, ◌++◌, IfOk, OnErr, OnOk, Some, length, take};
 ghost use Rattle.std.specs.Ordering.{is_eq};
 ghost use Rattle.sp_base.specs.Order.{name_cmp, channel_cmp, IsOrder};
-ghost use Rattle.sp_base.specs.Names.{name_text, channel_text};
+ghost use Rattle.sp_base.specs.Names.{name_text, pair_text, channel_text};
 
+use crate::decimal::put_decimal;
 use crate::halt::Memory;
 use crate::list::List;
-use itoa::Buffer;
 use std::alloc::Global;
 use std::cmp::Ordering;
 use std::fmt;
@@ -61,20 +61,39 @@ impl ProcName {
         Ok(ProcName { pairs })
     }
 
-    /// Puts the name's text last into `out`, as `0/2.1`. Where memory is refused a part of it may stand there.
+    /// Puts the name's text last into `out`, as `0/2.1`. Where memory is refused `out` is as before.
     pub fn put(&self, out: &mut Vec<u8>) -> Result<(), Memory>
-        ensures { OnOk result (out.new.items ≡ out.old.items ++ name_text self.now) }
+        ensures ok { OnOk result (out.new.items ≡ out.old.items ++ name_text self.now) }
+        ensures err { OnErr result (out.new.items ≡ out.old.items) }
     {
-        let mut buffer = Buffer::new();
+        let before = out.len();
+        let done = self.put_parts(out);
+        if done.is_err() {
+            out.truncate(before);
+        }
+        done
+    }
+
+    fn put_parts(&self, out: &mut Vec<u8>) -> Result<(), Memory>
+        ensures ok { OnOk result (out.new.items ≡ out.old.items ++ name_text self.now) }
+        ensures kept { take (length out.old.items) out.new.items ≡ out.old.items }
+    {
         out.extend_from_slice(b"0")?;
         for pair in self.pairs.items() {
-            out.extend_from_slice(b"/")?;
-            out.extend_from_slice(buffer.format(pair.fork).as_bytes())?;
-            out.extend_from_slice(b".")?;
-            out.extend_from_slice(buffer.format(pair.child).as_bytes())?;
+            put_pair(out, *pair)?;
         }
         Ok(())
     }
+}
+
+fn put_pair(out: &mut Vec<u8>, pair: Pair) -> Result<(), Memory>
+    ensures ok { OnOk result (out.new.items ≡ out.old.items ++ pair_text pair) }
+    ensures kept { take (length out.old.items) out.new.items ≡ out.old.items }
+{
+    out.extend_from_slice(b"/")?;
+    put_decimal(out, u64::from(pair.fork))?;
+    out.extend_from_slice(b".")?;
+    put_decimal(out, u64::from(pair.child))
 }
 
 impl ChanName {
@@ -97,15 +116,26 @@ impl ChanName {
         })
     }
 
-    /// Puts the name's text last into `out`, as `0/2.1#3`. Where memory is refused a part of it may stand there.
+    /// Puts the name's text last into `out`, as `0/2.1#3`. Where memory is refused `out` is as before.
     pub fn put(&self, out: &mut Vec<u8>) -> Result<(), Memory>
-        ensures { OnOk result (out.new.items ≡ out.old.items ++ channel_text self.now) }
+        ensures ok { OnOk result (out.new.items ≡ out.old.items ++ channel_text self.now) }
+        ensures err { OnErr result (out.new.items ≡ out.old.items) }
+    {
+        let before = out.len();
+        let done = self.put_parts(out);
+        if done.is_err() {
+            out.truncate(before);
+        }
+        done
+    }
+
+    fn put_parts(&self, out: &mut Vec<u8>) -> Result<(), Memory>
+        ensures ok { OnOk result (out.new.items ≡ out.old.items ++ channel_text self.now) }
+        ensures kept { take (length out.old.items) out.new.items ≡ out.old.items }
     {
         self.owner.put(out)?;
-        let mut buffer = Buffer::new();
         out.extend_from_slice(b"#")?;
-        out.extend_from_slice(buffer.format(self.nth).as_bytes())?;
-        Ok(())
+        put_decimal(out, u64::from(self.nth))
     }
 }
 

@@ -99,9 +99,39 @@ fn lists_boxes_and_texts(rt: HostRuntime) -> Result<(), Fail> {
     assert_eq!(rt; *boxed.get(), 6);
     assert_eq!(rt; boxed.into_inner(), 6);
 
-    let text = Text::of(Vec::from_slice(rt.alloc(), b"ab")?);
+    let text = Text::of(Vec::from_slice(rt.alloc(), b"ab")?).duplicate(rt.alloc())?;
     assert_eq!(rt; text.bytes(), b"ab".as_slice());
     let word = Word::of(String::from_str(rt.alloc(), "cd")?);
     assert_eq!(rt; word.text(), "cd");
+    Ok(())
+}
+
+#[test]
+fn lists_that_change(rt: HostRuntime) -> Result<(), Fail> {
+    let mut list = List::from_slice(rt.alloc(), &[1u32, 2])?;
+    list.extend_from_slice(&[3, 4, 5])?;
+    assert_eq!(rt; list.pop(), Some(5));
+    assert_eq!(rt; list.replace(1, 7), 2);
+    list.swap(0, 3);
+    assert_eq!(rt; list.items(), [4, 7, 3, 1].as_slice());
+    list.truncate(2);
+    let mut all = list.join(List::from_slice(rt.alloc(), &[8])?)?;
+    assert_eq!(rt; all.items(), [4, 7, 8].as_slice());
+    all.truncate(0);
+    assert_eq!(rt; all.pop(), None);
+    Ok(())
+}
+
+#[test]
+fn numbers_in_decimal(rt: HostRuntime) -> Result<(), Fail> {
+    let mut out = Vec::new(rt.alloc());
+    put_decimal(&mut out, 0)?;
+    put_decimal(&mut out, 18_446_744_073_709_551_615)?;
+    put_signed(&mut out, -MAXINT)?;
+    put_signed(&mut out, 42)?;
+    assert_eq!(rt;
+        out.as_slice(),
+        b"018446744073709551615-922337203685477580742".as_slice()
+    );
     Ok(())
 }

@@ -1,6 +1,6 @@
 //! Bytes and words that contracts see as lists of bytes.
 
-ghost use Rattle.std.specs.Prelude.{◌≡◌, Some};
+ghost use Rattle.std.specs.Prelude.{◌≡◌, IfOk, Some};
 ghost use Rattle.std.specs.Cmp;
 ghost use Rattle.std.specs.Ordering.{nat_cmp};
 ghost use Rattle.std.proofs.Common.{refl};
@@ -10,6 +10,8 @@ ghost use Rattle.std.specs.Prelude.{nat_eq};
 ghost use borrow.Author.Rules.{rules};
 ghost use Rattle.std.specs.Cmp.Lexicographic.{nat_list_eq_equiv, nat_list_cmp_total, texts_ties, texts_po, pointwise, slice_cmp};
 
+use crate::halt::Memory;
+use std::alloc::Global;
 use std::cmp::Ordering;
 use std::hash::{Hash, Hasher};
 use std::marker::Model;
@@ -39,6 +41,14 @@ impl Text {
         ensures { result.now ≡ self.now }
     {
         self.inner.as_slice()
+    }
+
+    /// The same bytes once more.
+    pub fn duplicate(&self, alloc: Global) -> Result<Text, Memory>
+        ensures { IfOk result (λ text. text ≡ self.now) }
+    {
+        let inner = Vec::from_slice(alloc, self.inner.as_slice())?;
+        Ok(Text { inner })
     }
 }
 

@@ -13,7 +13,7 @@ use Rattle.sp_code.specs.Scopes.{scopes_of}
 use Rattle.sp_code.specs.Places.{after, after_block}
 use Rattle.sp_code.specs.Lengths.{stmt_length, tree_length}
 use Rattle.sp_code.specs.Emitted.{tables_in, texts_in, texts_of, end_instr, code, tables, block_code, blocks_code, blocks_texts, layout_of, layouts_from, blocks_tables, program_code}
-use Rattle.sp_code.specs.Stands.{Rights, AnyInstr, AnyTable, AnyText, HasAt, BlockAt, BlocksAt, IsFine, rights_of}
+use Rattle.sp_code.specs.Stands.{AnyInstr, AnyTable, AnyText, HasAt, BlockAt, BlocksAt, IsFine}
 use Rattle.sp_code.proofs.Counts.{last_count, blocks_count, code_count, stmt_after}
 use Rattle.sp_code.proofs.Standing.{has_front, has_back, stands, code_stop, tables_stop, texts_stop}
 
@@ -60,10 +60,10 @@ module _ (p : Program) (moves shares : Stmt → List ℕ) where
   pub program_count : length (program_code p moves shares).instrs ≡ tree_length p
   program_count = blocks_count p 0 0 0 0 p.blocks
 
-  module _ (all : Parts) (hush : ℕ → Type 0) (needs : ℕ → Rights) where
+  module _ (all : Parts) (hush : ℕ → Type 0) where
     -- the block that stands first
-    first_stands : (b t n q : ℕ) (k : Block) (more : List Instr) (tables_more : List ForkTable) (texts_more : List (List ℕ)) → IsFine p moves shares hush needs b q k → slice_get all.layouts b ≡ Some (layout_of p b q k)
-        → HasAt all.instrs q (block_code p b t n q k ++ more) → HasAt all.forks t (tables p moves shares q k.body ++ tables_more) → HasAt all.texts n (texts_of k.body ++ texts_more) → BlockAt p moves shares all hush needs b k
+    first_stands : (b t n q : ℕ) (k : Block) (more : List Instr) (tables_more : List ForkTable) (texts_more : List (List ℕ)) → IsFine p moves shares hush b q k → slice_get all.layouts b ≡ Some (layout_of p b q k)
+        → HasAt all.instrs q (block_code p b t n q k ++ more) → HasAt all.forks t (tables p moves shares q k.body ++ tables_more) → HasAt all.texts n (texts_of k.body ++ texts_more) → BlockAt p moves shares all hush b k
     first_stands b t n q k more tables_more texts_more f l h a w =
         let body = has_front all.instrs q (block_code p b t n q k) more h in
         record {
@@ -71,8 +71,8 @@ module _ (p : Program) (moves shares : Stmt → List ℕ) where
           at = l;
           is = refl;
           stands = record {
-            body = λ free hushed. stands p moves shares all hush needs free (rights_of p moves shares AnyInstr AnyTable AnyText hush needs b) (scopes_of p b) t n q k.body (f.body free hushed) (has_front all.instrs q (code p (scopes_of p b) t n q k.body) _ body) (has_front all.forks t (tables p moves shares q k.body) tables_more a) (has_front all.texts n (texts_of k.body) texts_more w);
-            end = (has_back all.instrs q (after p q k.body) (code p (scopes_of p b) t n q k.body) _ (code_stop p moves shares all hush needs (scopes_of p b) t n q k.body) body).0;
+            body = λ free hushed. stands p moves shares all hush free (scopes_of p b) t n q k.body (f.body free hushed) (has_front all.instrs q (code p (scopes_of p b) t n q k.body) _ body) (has_front all.forks t (tables p moves shares q k.body) tables_more a) (has_front all.texts n (texts_of k.body) texts_more w);
+            end = (has_back all.instrs q (after p q k.body) (code p (scopes_of p b) t n q k.body) _ (code_stop p moves shares all hush (scopes_of p b) t n q k.body) body).0;
             hushed = f.hushed;
             answer = f.answer;
           };
@@ -82,36 +82,36 @@ module _ (p : Program) (moves shares : Stmt → List ℕ) where
     block_stop b t n q k =
         omega (arith, last_count (code p (scopes_of p b) t n q k.body) (end_instr b) (stmt_length p k.body) (code_count p (scopes_of p b) t n q k.body), stmt_after p q k.body)
 
-    blocks_stand_from : (b t n q : ℕ) (ks : List Block) → ((f r : ℕ) (k : Block) → slice_get ks f ≡ Some k → IsFine p moves shares hush needs (b + f) r k)
+    blocks_stand_from : (b t n q : ℕ) (ks : List Block) → ((f r : ℕ) (k : Block) → slice_get ks f ≡ Some k → IsFine p moves shares hush (b + f) r k)
         → HasAt all.layouts b (layouts_from p b q ks) → HasAt all.instrs q (blocks_code p b t n q ks) → HasAt all.forks t (blocks_tables p moves shares q ks) → HasAt all.texts n (blocks_texts ks)
-        → (f : ℕ) (k : Block) → slice_get ks f ≡ Some k → BlockAt p moves shares all hush needs (b + f) k
+        → (f : ℕ) (k : Block) → slice_get ks f ≡ Some k → BlockAt p moves shares all hush (b + f) k
     blocks_stand_from b t n q [] fine l h a w f k e = absurd cc
     blocks_stand_from b t n q (j ∷ ks) fine l h a w zero k e =
         let z : b + 0 ≡ b = omega arith in
         let same : j ≡ k = cc in
-        subst (λ (x : ℕ). BlockAt p moves shares all hush needs x k) (sym z) (subst (λ (x : Block). BlockAt p moves shares all hush needs b x) same
-        (first_stands b t n q j _ _ _ (subst (λ (x : ℕ). IsFine p moves shares hush needs x q j) z (fine 0 q j refl)) l.0 h a w))
+        subst (λ (x : ℕ). BlockAt p moves shares all hush x k) (sym z) (subst (λ (x : Block). BlockAt p moves shares all hush b x) same
+        (first_stands b t n q j _ _ _ (subst (λ (x : ℕ). IsFine p moves shares hush x q j) z (fine 0 q j refl)) l.0 h a w))
     blocks_stand_from b t n q (j ∷ ks) fine l h a w (suc f) k e =
         let z : suc b + f ≡ b + suc f = omega arith in
         let y : b + 1 ≡ suc b = omega arith in
-        subst (λ (x : ℕ). BlockAt p moves shares all hush needs x k) z
+        subst (λ (x : ℕ). BlockAt p moves shares all hush x k) z
         (blocks_stand_from (suc b) (t + tables_in j.body) (n + texts_in j.body) (after_block p q j) ks
-        (λ g r i d. subst (λ (x : ℕ). IsFine p moves shares hush needs x r i) (more b g) (fine (suc g) r i d))
+        (λ g r i d. subst (λ (x : ℕ). IsFine p moves shares hush x r i) (more b g) (fine (suc g) r i d))
         (subst (λ (x : ℕ). HasAt all.layouts x (layouts_from p (suc b) (after_block p q j) ks)) y l.1)
         (has_back all.instrs q (after_block p q j) (block_code p b t n q j) _ (block_stop b t n q j) h)
-        (has_back all.forks t _ (tables p moves shares q j.body) _ (tables_stop p moves shares all hush needs t q j.body) a)
-        (has_back all.texts n _ (texts_of j.body) _ (texts_stop p moves shares all hush needs n j.body) w) f k e)
+        (has_back all.forks t _ (tables p moves shares q j.body) _ (tables_stop p moves shares all hush t q j.body) a)
+        (has_back all.texts n _ (texts_of j.body) _ (texts_stop p moves shares all hush n j.body) w) f k e)
       where
         more : (b g : ℕ) → b + suc g ≡ suc b + g
         more b g = omega arith
 
   -- in its own code
-  pub blocks_stand : (hush : ℕ → Type 0) (needs : ℕ → Rights) → ((f q : ℕ) (b : Block) → slice_get p.blocks f ≡ Some b → IsFine p moves shares hush needs f q b) → BlocksAt p moves shares (program_code p moves shares) hush needs
-  blocks_stand hush needs fine f b e =
+  pub blocks_stand : (hush : ℕ → Type 0) → ((f q : ℕ) (b : Block) → slice_get p.blocks f ≡ Some b → IsFine p moves shares hush f q b) → BlocksAt p moves shares (program_code p moves shares) hush
+  blocks_stand hush fine f b e =
       let all = program_code p moves shares in
       let none : 0 + f ≡ f = omega arith in
-      subst (λ (x : ℕ). BlockAt p moves shares all hush needs x b) none
-      (blocks_stand_from all hush needs 0 0 0 0 p.blocks (λ g r k d. subst (λ (x : ℕ). IsFine p moves shares hush needs x r k) (sym (none_of g)) (fine g r k d))
+      subst (λ (x : ℕ). BlockAt p moves shares all hush x b) none
+      (blocks_stand_from all hush 0 0 0 0 p.blocks (λ g r k d. subst (λ (x : ℕ). IsFine p moves shares hush x r k) (sym (none_of g)) (fine g r k d))
       (has_self all.layouts) (has_self all.instrs) (has_self all.forks) (has_self all.texts) f b e)
     where
       none_of : (g : ℕ) → 0 + g ≡ g

@@ -6,7 +6,7 @@ use Rattle.std.specs.Fmt.{signed_decimal}
 use Rattle.sp_tree.specs.declared.operators.BinaryOp.{BinaryOp}
 use Rattle.sp_tree.specs.declared.operators.BinaryOp.TheVariants as op
 use Rattle.sp_tree.specs.declared.operators.UnaryOp.TheVariants as sign
-use Rattle.sp_tree.specs.Operators.{Worked, Yields, Refuses, ranged, successor, predecessor, absolute, square, is_odd, unary_op, binary_op, same_ordinal, is_true}
+use Rattle.sp_tree.specs.Operators.{Worked, Yields, Refuses, ranged, successor, predecessor, absolute, square, is_odd, unary_op, binary_op, same_ordinal}
 use Rattle.sp_tree.specs.Items.{Taken, Takes, Fails as Faulty, number_in, char_in, at_line_end, padded, truth_text}
 use Rattle.sp_cell.specs.declared.cell.Cell.{Cell}
 use Rattle.sp_cell.specs.declared.cell.Cell.TheVariants as cell
@@ -15,7 +15,8 @@ use Rattle.sp_code.specs.declared.instr.Instr.{Instr}
 use Rattle.sp_code.specs.declared.instr.Instr.TheVariants as i
 use Rattle.sp_code.specs.declared.code.Layout.{Layout}
 use Rattle.sp_code.specs.declared.code.Parts.{Parts}
-use Rattle.sp_code.specs.Machine.{Entry, Number, Chan, Pointer, Cells, Link, Reply, further, Did, Done, Failed, Ops, Config, At, One, Goes, Stops, Fails, Stuck, outside, is_range, is_before, next_value, byte, values_in, fit_formals, layout_of, on_number, on_channel, on_address, on_cell, on_cells, on_equals, pop, when, there, then_go, worked, ordinal_in, channel_in, on_one, on_two, told, selected, paced, entered, called, returned, taken, reads, prints, wide, writes, writes_wide, begins_loop, ends_loop, forked, instruction, one}
+use Rattle.sp_tree.specs.Items.{byte}
+use Rattle.sp_code.specs.Machine.{Entry, Number, Chan, Pointer, Cells, Link, Reply, further, Did, Done, Failed, Ops, Config, At, One, Goes, Stops, Fails, Stuck, outside, is_range, is_before, next_value, values_in, fit_formals, layout_of, on_number, on_channel, on_address, on_cell, on_cells, on_equals, pop, when, there, then_go, worked, ordinal_in, channel_in, on_one, on_two, told, selected, paced, entered, called, returned, taken, reads, prints, wide, writes, writes_wide, begins_loop, ends_loop, forked, instruction, one}
 use Rattle.sp_code.specs.Turns.{ran_by, ran, started, turn_within, begins}
 use Rattle.sp_code.specs.Ranks.{ways, larger, most, rank, AllBelow, IsRanked}
 use Rattle.sp_code.specs.Budgets.{HasBudget, back, left_by, IsOver}
@@ -270,11 +271,11 @@ module _ {M : Type 0} (ops : Ops M) (code : Parts) (budget : M → ℕ) (law : H
   instruction_down (Some (i.Succ high)) pc st n p h = one_down pc st n (successor high) h.0
   instruction_down (Some (i.Pred low)) pc st n p h = one_down pc st n (predecessor low) h.0
   instruction_down (Some (i.Jump to)) pc st n p h = on_to pc st n to st n h.0 (omega arith) (same_budget pc st n)
-  instruction_down (Some (i.Jumpf to)) pc st n p h = falls_number left _ r st _ (λ v st1 e. falls_if left _ r (is_true v) _ _ (on_to pc st n (pc + 1) st1 n h.1.0 e (same_budget pc st n)) (on_to pc st n to st1 n h.0 e (same_budget pc st n)))
+  instruction_down (Some (i.Jumpf to)) pc st n p h = falls_number left _ r st _ (λ v st1 e. falls_if left _ r (not (int_le v (pos 0))) _ _ (on_to pc st n (pc + 1) st1 n h.1.0 e (same_budget pc st n)) (on_to pc st n to st1 n h.0 e (same_budget pc st n)))
   instruction_down (Some (i.Casej v to)) pc st n p h = falls_number left _ r st _ (λ u st1 e. falls_if left _ r (same_ordinal u v) _ _ (on_to pc st n to st1 n h.0 e (same_budget pc st n)) (on_to pc st n (pc + 1) (Number u ∷ st1) n h.1.0 e (same_budget pc st n)))
   instruction_down (Some i.Nocase) pc st n p h = tt
   instruction_down (Some i.Tick) pc st n p h = falls_then left _ r (ops.beat n) _ (λ m k. paced_down pc st n (pc + 1) st m (ticks_down pc (pc + 1) st st n m (law.beat n m k) (omega arith)))
-  instruction_down (Some i.Assume) pc st n p h = falls_number left _ r st _ (λ v st1 e. falls_if left _ r (is_true v) _ _ (on_to pc st n (pc + 1) st1 n h.0 e (same_budget pc st n)) tt)
+  instruction_down (Some i.Assume) pc st n p h = falls_number left _ r st _ (λ v st1 e. falls_if left _ r (not (int_le v (pos 0))) _ _ (on_to pc st n (pc + 1) st1 n h.0 e (same_budget pc st n)) tt)
   instruction_down (Some (i.Forup var to)) pc st n p h = begins_down pc st n false var to h.0 h.1.0
   instruction_down (Some (i.Fordown var to)) pc st n p h = begins_down pc st n true var to h.0 h.1.0
   instruction_down (Some (i.Nextup var to)) pc st n p h = ends_down pc st n false var to h.0 h.1.0

@@ -19,6 +19,10 @@ answer = code_of (i.Addr 0 2 ∷ i.Const (pos 6) ∷ i.Store ∷ i.Addr 0 2 ∷ 
 writes_42 : seen (first_turn (of answer)) ≡ (Some Ends, None, 42 ∷ [])
 writes_42 = refl
 
+-- an ordinal above 255, which only code from a file can write as a char, is written modulo 256
+writes_modulo_256 : seen (first_turn (of (code_of (i.Const (pos 298) ∷ i.WriteChar ∷ i.End ∷ []) (main [] ∷ [])))) ≡ (Some Ends, None, 42 ∷ [])
+writes_modulo_256 = refl
+
 -- the program's frame has one cell
 fits_one_cell : seen (first_turn (record (of answer) { limits = record wide { cells = 1 } })) ≡ (Some Ends, None, 42 ∷ [])
 fits_one_cell = refl

@@ -15,5 +15,6 @@ pub mod Places
 pub mod Lengths
 pub mod Emitted
 pub mod Stands
+pub mod Shares
 pub mod Budgets
 pub mod Quiet

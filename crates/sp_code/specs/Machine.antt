@@ -6,8 +6,9 @@ use Rattle.sp_base.specs.declared.fault.Fault.TheVariants as fault
 use Rattle.sp_tree.specs.declared.operators.BinaryOp.{BinaryOp}
 use Rattle.sp_tree.specs.declared.operators.BinaryOp.TheVariants as op
 use Rattle.sp_tree.specs.declared.operators.UnaryOp.TheVariants as sign
-use Rattle.sp_tree.specs.Operators.{Worked, Yields, Refuses, truth, ranged, successor, predecessor, absolute, square, is_odd, unary_op, binary_op, same_ordinal, is_true}
-use Rattle.sp_tree.specs.Items.{Taken, Takes, Fails as Faulty, number_in, char_in, line_length, at_line_end, padded, truth_text}
+use Rattle.sp_tree.specs.Operators.{Worked, Yields, Refuses, truth, ranged, successor, predecessor, absolute, square, is_odd, unary_op, binary_op, same_ordinal}
+pub use Rattle.sp_tree.specs.Operators.{is_range, is_before, next_value}
+use Rattle.sp_tree.specs.Items.{Taken, Takes, Fails as Faulty, number_in, char_in, line_length, at_line_end, padded, truth_text, byte}
 use Rattle.sp_cell.specs.declared.cell.Cell.{Cell}
 use Rattle.sp_cell.specs.declared.cell.Cell.TheVariants as cell
 use Rattle.sp_cell.specs.declared.spot.Address.{Address}
@@ -103,20 +104,6 @@ outside (Pointer a ∷ stack) = outside stack
 outside (Cells cs ∷ stack) = outside stack
 outside (Link r ∷ stack) = outside stack
 outside (Reply r ∷ stack) = false
-
--- for loops, up and down: there is a value, there is a next one, the next one
-abbrev pub is_range : Bool → ℤ → ℤ → Bool
-is_range down from to = if down then int_le to from else int_le from to
-
-abbrev pub is_before : Bool → ℤ → ℤ → Bool
-is_before down n limit = if down then int_lt limit n else int_lt n limit
-
-abbrev pub next_value : Bool → ℤ → ℤ
-next_value down n = if down then n -ℤ pos 1 else n +ℤ pos 1
-
--- the byte of a char
-abbrev pub byte : ℤ → ℕ
-byte n = nat_abs n % 256
 
 -- how many values a forall's range has, or 2 ^ 64 - 1 where it has more
 abbrev pub values_in : ℤ → ℤ → ℕ
@@ -348,11 +335,11 @@ module _ {M : Type 0} (ops : Ops M) (code : Parts) where
   instruction (Some (i.Succ high)) pc stack n = on_one (successor high) pc stack n
   instruction (Some (i.Pred low)) pc stack n = on_one (predecessor low) pc stack n
   instruction (Some (i.Jump to)) pc stack n = Goes (At to stack n)
-  instruction (Some (i.Jumpf to)) pc stack n = on_number stack (λ v st. if is_true v then Goes (At (pc + 1) st n) else Goes (At to st n))
+  instruction (Some (i.Jumpf to)) pc stack n = on_number stack (λ v st. if not (int_le v (pos 0)) then Goes (At (pc + 1) st n) else Goes (At to st n))
   instruction (Some (i.Casej v to)) pc stack n = on_number stack (λ u st. if same_ordinal u v then Goes (At to st n) else Goes (At (pc + 1) (Number u ∷ st) n))
   instruction (Some i.Nocase) pc stack n = Fails fault.F9
   instruction (Some i.Tick) pc stack n = then_go (ops.beat n) (λ m. paced (pc + 1) stack m)
-  instruction (Some i.Assume) pc stack n = on_number stack (λ v st. if is_true v then Goes (At (pc + 1) st n) else Fails fault.F8)
+  instruction (Some i.Assume) pc stack n = on_number stack (λ v st. if not (int_le v (pos 0)) then Goes (At (pc + 1) st n) else Fails fault.F8)
   instruction (Some (i.Forup var to)) pc stack n = begins_loop false var to pc stack n
   instruction (Some (i.Fordown var to)) pc stack n = begins_loop true var to pc stack n
   instruction (Some (i.Nextup var to)) pc stack n = ends_loop false var to pc stack n

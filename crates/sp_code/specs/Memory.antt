@@ -10,6 +10,7 @@ use Rattle.sp_cell.specs.declared.spot.Handing.{Handing}
 use Rattle.sp_cell.specs.Lists.{overwritten, part}
 use Rattle.sp_code.specs.declared.code.Layout.{Layout}
 use Rattle.sp_code.specs.declared.code.Parts.{Parts}
+pub use Rattle.sp_tree.specs.Around.{referred}
 use Rattle.sp_code.specs.Machine.{Entry, Number, Chan, Pointer, Cells, Link, Reply, Did, Done, Failed, Ops, Config, At, layout_of}
 
 -- what a run is of: the code, the input, the limits, and after how many ticks since its last entry a process has to pause
@@ -88,11 +89,6 @@ cell_at frame variable = record { spot = record { frame = frame; variable = vari
 abbrev pub addr_in : List Frame → ℕ → Option Address
 addr_in [] var = None
 addr_in (f ∷ fs) var = Some (cell_at f.number var)
-
--- what the variable parameter of this number stands for
-abbrev pub referred : ℕ → List (ℕ × Address) → Option Address
-referred x [] = None
-referred x (r ∷ rs) = if x == r.0 then Some r.1 else referred x rs
 
 abbrev pub deref_in : List Frame → ℕ → Option Address
 deref_in [] var = None

@@ -4,6 +4,8 @@ use Rattle.sp_tree.specs.declared.checked.KindOf.{KindOf}
 use Rattle.sp_tree.specs.declared.checked.KindOf.TheVariants as kind
 use Rattle.sp_tree.specs.declared.checked.Role.{Role}
 use Rattle.sp_tree.specs.declared.checked.Role.TheVariants as role
+pub use Rattle.sp_tree.specs.Around.{Scope, OfBlock, OfIndex, is_block, is_index, one_more, level, parent_of, scopes_by, scopes_of}
+pub use Rattle.sp_tree.specs.Formed.{as_list}
 use Rattle.sp_tree.specs.Cells.{sizes, first_or, variables_of}
 use Rattle.sp_tree.specs.Plain.{Expr, Typed, Var, Entire, Selectors, Whole, Select, Index, Field, Program, Variable, Block}
 
@@ -28,35 +30,9 @@ sort_by (Some (kind.Channel ks)) = Channels
 abbrev pub kind_of : Expr → ℕ
 kind_of (Typed k form) = k
 
--- the scopes around a place, the innermost first: a block, or the element statement of a forall
-pub data Scope : Type 0 where
-  OfBlock : (b : ℕ) → Scope
-  OfIndex : (x : ℕ) → Scope
-
-abbrev pub is_block : ℕ → Scope → Bool
-is_block b (OfBlock c) = b == c
-is_block b (OfIndex x) = false
-
-abbrev pub is_index : ℕ → Scope → Bool
-is_index x (OfBlock c) = false
-is_index x (OfIndex y) = x == y
-
-abbrev pub one_more : Option ℕ → Option ℕ
-one_more None = None
-one_more (Some n) = Some (suc n)
-
--- how many levels outward the first scope is that fits
-abbrev pub level : (Scope → Bool) → List Scope → Option ℕ
-level fits [] = None
-level fits (s ∷ sc) = if fits s then Some 0 else one_more (level fits sc)
-
 abbrev pub is_given : {A : Type 0} → Option A → Bool
 is_given None = false
 is_given (Some x) = true
-
-abbrev pub as_list : Option ℕ → List ℕ
-as_list None = []
-as_list (Some x) = x ∷ []
 
 -- variables of a role, by their numbers
 abbrev pub is_local : Role → Bool
@@ -101,10 +77,6 @@ element_type k (Some (kind.Array low high index element)) = element
 element_type k (Some (kind.Fields fs)) = k
 element_type k (Some (kind.Channel ks)) = k
 
-abbrev pub parent_of : Option Block → Option ℕ
-parent_of None = None
-parent_of (Some k) = k.parent
-
 abbrev pub parameters_of : Option Block → List ℕ
 parameters_of None = []
 parameters_of (Some b) = b.formals ++ as_list b.answer
@@ -142,15 +114,6 @@ module _ (p : Program) where
 
   abbrev pub slot : ℕ → ℕ
   slot x = slot_by x (slice_get p.variables x)
-
-  -- the scopes of a block's statement part: it, and those around it, no more than n
-  abbrev pub scopes_by : ℕ → Option ℕ → List Scope
-  scopes_by zero b = []
-  scopes_by (suc n) None = []
-  scopes_by (suc n) (Some b) = OfBlock b ∷ scopes_by n (parent_of (slice_get p.blocks b))
-
-  abbrev pub scopes_of : ℕ → List Scope
-  scopes_of b = scopes_by (length p.blocks) (Some b)
 
   -- the type behind selectors
   abbrev pub selected_type : ℕ → Selectors → ℕ

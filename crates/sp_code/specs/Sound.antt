@@ -103,8 +103,17 @@ module _ (g : Setting) where
     pub sends : (q z c k j : ℕ) (a : Address) (cells : List Cell) (d e : Config (Memory Plain)) → StopsAt s q (Sends c k cells) d → s.pending c ≡ Some z → s.condition z ≡ Waits (Receives c j a) e → CanPut (store_of e) a cells
     pub receives : (q z c k j : ℕ) (a : Address) (cells : List Cell) (d e : Config (Memory Plain)) → StopsAt s q (Receives c k a) d → s.pending c ≡ Some z → s.condition z ≡ Waits (Sends c j cells) e → CanPut (store_of d) a cells
 
--- for every input, every journal and all limits whose depth is below 2 ^ 32
+-- limits within their types, with room for the first process
+pub record AreLimits (lim : Limits) : Type 0 where
+  pub depth : lim.depth ≤ 4294967295
+  pub cells : lim.cells ≤ 4294967295
+  pub processes : lim.processes ≤ 4294967295
+  pub channels : lim.channels ≤ 4294967295
+  pub entries : lim.entries ≤ 4294967295
+  pub root : 1 ≤ lim.processes
+
+-- for every input, every journal and all limits within their types
 pub record IsSound (code : Parts) : Type 0 where
   pub ranked : IsRanked code.instrs
   pub blocks : HasDistinctBlocks code.layouts
-  pub safe : (input : List ℕ) (lim : Limits) → lim.depth ≤ 4294967295 → (es : List Entry) (s : System Plain) → IsSystem plain (run_of code input lim) es s → IsSafeSystem (run_of code input lim) s
+  pub safe : (input : List ℕ) (lim : Limits) → AreLimits lim → (es : List Entry) (s : System Plain) → IsSystem plain (run_of code input lim) es s → IsSafeSystem (run_of code input lim) s

@@ -21,31 +21,6 @@ use Rattle.sp_code.specs.Scopes.{Sort, Ordinals, Channels, Many, NoSort, kind_of
 use Rattle.sp_code.specs.Places.{after_value, after_form, after_var, after_actuals, after_width, after_test, after_tests, after, after_children, after_arms}
 use Rattle.sp_code.specs.Emitted.{binary_instr, write_instr, children_tables, child_table, end_instr, layout_of}
 
--- which variables the process may change (true) or only read (false) here
-abbrev pub Rights : Type 1
-Rights = ℕ → Bool → Type 0
-
-abbrev pub IsIn : ℕ → List ℕ → Type 0
-IsIn x [] = ⊥
-IsIn x (y ∷ ys) = (x ≡ y) ⊎ IsIn x ys
-
--- a child may change what moved to it, and read that, what is shared with it, and its own index
-abbrev pub granted : List ℕ → List ℕ → Option ℕ → Rights
-granted moved shared index x true = IsIn x moved
-granted moved shared index x false = IsIn x moved ⊎ (IsIn x shared ⊎ (index ≡ Some x))
-
--- what a child is handed is held here
-abbrev pub Lends : Rights → List ℕ → List ℕ → Type 0
-Lends holds moved shared = ((x : ℕ) → IsIn x moved → holds x true) × ((x : ℕ) → IsIn x shared → holds x false)
-
--- no variable of the first list is in the second
-abbrev pub AreApart : List ℕ → List ℕ → Type 0
-AreApart xs ys = (x : ℕ) → IsIn x xs → IsIn x ys → ⊥
-
-abbrev pub IsDistinct : List ℕ → Type 0
-IsDistinct [] = Unit {0}
-IsDistinct (x ∷ xs) = (IsIn x xs → ⊥) × IsDistinct xs
-
 -- no index of a forall
 abbrev pub NoIndex : Role → Type 0
 NoIndex role.Console = Unit {0}
@@ -98,14 +73,9 @@ abbrev pub Hushed : (ℕ → Type 0) → Bool → ℕ → Type 0
 Hushed hush true f = Unit {0}
 Hushed hush false f = hush f
 
--- what a block needs of variables that it does not declare is held where it is called
-abbrev pub Covers : (ℕ → Rights) → Rights → ℕ → Type 0
-Covers needs holds f = (x : ℕ) (changes : Bool) → needs f x changes → holds x changes
-
 -- p: the program; moves, shares: what a process statement may change and only reads; Is: this instruction stands at a place; HasTable,
--- HasText: this fork table, this text has a number; hush: a block that leads to no kernel statement; needs: what a block needs of
--- variables that it does not declare
-module _ (p : Program) (moves shares : Stmt → List ℕ) (Is : ℕ → Instr → Type 0) (HasTable : ℕ → ForkTable → Type 0) (HasText : ℕ → List ℕ → Type 0) (hush : ℕ → Type 0) (needs : ℕ → Rights) where
+-- HasText: this fork table, this text has a number; hush: a block that leads to no kernel statement
+module _ (p : Program) (moves shares : Stmt → List ℕ) (Is : ℕ → Instr → Type 0) (HasTable : ℕ → ForkTable → Type 0) (HasText : ℕ → List ℕ → Type 0) (hush : ℕ → Type 0) where
   -- an entire variable with this role
   abbrev pub VarRole : List Scope → ℕ → ℕ → Variable → Role → Type 0
   VarRole sc q x v role.Console = ⊥
@@ -116,17 +86,17 @@ module _ (p : Program) (moves shares : Stmt → List ℕ) (Is : ℕ → Instr �
   VarRole sc q x v role.Answer = (up : ℕ) × (level (is_block v.block) sc ≡ Some up) × Is q (i.Addr up (slot p x))
 
   -- an entire variable of type k, which the process holds
-  abbrev pub VarAt : Rights → List Scope → ℕ → ℕ → ℕ → Type 0
-  VarAt holds sc q x k = (v : Variable) × (slice_get p.variables x ≡ Some v) × (v.kind ≡ k) × VarRole sc q x v v.role × holds x false
+  abbrev pub VarAt : List Scope → ℕ → ℕ → ℕ → Type 0
+  VarAt sc q x k = (v : Variable) × (slice_get p.variables x ≡ Some v) × (v.kind ≡ k) × VarRole sc q x v v.role
 
   -- a variable that is changed
-  abbrev pub IsTarget : Rights → Var → Type 0
-  IsTarget holds (Entire x ss) = (v : Variable) × (slice_get p.variables x ≡ Some v) × NoIndex v.role × holds x true
+  abbrev pub IsTarget : Var → Type 0
+  IsTarget (Entire x ss) = (v : Variable) × (slice_get p.variables x ≡ Some v) × NoIndex v.role
 
   -- a for variable is a local one of the innermost block
-  abbrev pub ForVar : Rights → List Scope → ℕ → Type 0
-  ForVar holds sc x =
-      (v : Variable) × (slice_get p.variables x ≡ Some v) × (v.role ≡ role.Local) × (level (is_block v.block) sc ≡ Some 0) × (sort p v.kind ≡ Ordinals) × holds x true × holds x false
+  abbrev pub ForVar : List Scope → ℕ → Type 0
+  ForVar sc x =
+      (v : Variable) × (slice_get p.variables x ≡ Some v) × (v.role ≡ role.Local) × (level (is_block v.block) sc ≡ Some 0) × (sort p v.kind ≡ Ordinals)
 
   abbrev pub ReadAt : ℕ → ℕ → Sort → Type 0
   ReadAt q k Ordinals = Is q i.Load
@@ -175,47 +145,47 @@ module _ (p : Program) (moves shares : Stmt → List ℕ) (Is : ℕ → Instr �
   Formal x k r = (v : Variable) × (slice_get p.variables x ≡ Some v) × (v.kind ≡ k) × (v.role ≡ r)
 
   abbrev mutual
-    pub ValueAt : Rights → List Scope → ℕ → Expr → Type 0
-    ValueAt holds sc q (Typed k form) = FormAt holds sc q k form
+    pub ValueAt : List Scope → ℕ → Expr → Type 0
+    ValueAt sc q (Typed k form) = FormAt sc q k form
 
-    pub FormAt : Rights → List Scope → ℕ → ℕ → ExprForm → Type 0
-    FormAt holds sc q k (Number n) = Is q (i.Const n) × (sort p k ≡ Ordinals)
-    FormAt holds sc q k (Read v) = PlaceAt holds sc q v k × ReadAt (after_var q v) k (sort p k)
-    FormAt holds sc q k (Unary op a) = ValueAt holds sc q a × (sort p (kind_of a) ≡ Ordinals) × (sort p k ≡ Ordinals) × UnaryAt (after_value q a) op
-    FormAt holds sc q k (Binary op a b) =
-        ValueAt holds sc q a × ValueAt holds sc (after_value q a) b × Is (after_value (after_value q a) b) (binary_instr op) × Operands op (sort p (kind_of a)) (sort p (kind_of b)) × (sort p k ≡ Ordinals)
-    FormAt holds sc q k (Apply f args) =
-        (b : Block) × ActualsAt holds sc q args b.formals × CallAt sc (after_actuals q args) f b × ((x : ℕ) × (b.answer ≡ Some x)) × (sort p k ≡ Ordinals) × Covers needs holds f
-    FormAt holds sc q k (Standard f a) =
-        (t : KindOf) × (kind_at p k ≡ Some t) × ValueAt holds sc q a × (sort p (kind_of a) ≡ Ordinals) × (sort p k ≡ Ordinals) × StandardAt (after_value q a) f t
-    FormAt holds sc q k (AtInput f) = InputAt q f × (sort p k ≡ Ordinals) × holds 0 false
+    pub FormAt : List Scope → ℕ → ℕ → ExprForm → Type 0
+    FormAt sc q k (Number n) = Is q (i.Const n) × (sort p k ≡ Ordinals)
+    FormAt sc q k (Read v) = PlaceAt sc q v k × ReadAt (after_var q v) k (sort p k)
+    FormAt sc q k (Unary op a) = ValueAt sc q a × (sort p (kind_of a) ≡ Ordinals) × (sort p k ≡ Ordinals) × UnaryAt (after_value q a) op
+    FormAt sc q k (Binary op a b) =
+        ValueAt sc q a × ValueAt sc (after_value q a) b × Is (after_value (after_value q a) b) (binary_instr op) × Operands op (sort p (kind_of a)) (sort p (kind_of b)) × (sort p k ≡ Ordinals)
+    FormAt sc q k (Apply f args) =
+        (b : Block) × ActualsAt sc q args b.formals × CallAt sc (after_actuals q args) f b × ((x : ℕ) × (b.answer ≡ Some x)) × (sort p k ≡ Ordinals)
+    FormAt sc q k (Standard f a) =
+        (t : KindOf) × (kind_at p k ≡ Some t) × ValueAt sc q a × (sort p (kind_of a) ≡ Ordinals) × (sort p k ≡ Ordinals) × StandardAt (after_value q a) f t
+    FormAt sc q k (AtInput f) = InputAt q f × (sort p k ≡ Ordinals)
 
-    pub PlaceAt : Rights → List Scope → ℕ → Var → ℕ → Type 0
-    PlaceAt holds sc q (Entire x ss) k = (k1 : ℕ) × VarAt holds sc q x k1 × SelectedAt holds sc (q + 1) ss k1 k
+    pub PlaceAt : List Scope → ℕ → Var → ℕ → Type 0
+    PlaceAt sc q (Entire x ss) k = (k1 : ℕ) × VarAt sc q x k1 × SelectedAt sc (q + 1) ss k1 k
 
     -- selectors lead from a type to a type
-    pub SelectedAt : Rights → List Scope → ℕ → Selectors → ℕ → ℕ → Type 0
-    SelectedAt holds sc q Whole k k2 = k ≡ k2
-    SelectedAt holds sc q (Select (Index e) rest) k k2 =
-        (low high : ℤ) × (index element : ℕ) × (kind_at p k ≡ Some (kind.Array low high index element)) × ValueAt holds sc q e × (sort p (kind_of e) ≡ Ordinals) × Is (after_value q e) (i.Index low high (size p element))
-        × SelectedAt holds sc (after_value q e + 1) rest element k2
-    SelectedAt holds sc q (Select (Field f) rest) k k2 =
-        (fs : List (List ℕ × ℕ)) × (name : List ℕ) × (t : ℕ) × (kind_at p k ≡ Some (kind.Fields fs)) × (slice_get fs f ≡ Some (name, t)) × Is q (i.Field (field_offset p fs f)) × SelectedAt holds sc (q + 1) rest t k2
+    pub SelectedAt : List Scope → ℕ → Selectors → ℕ → ℕ → Type 0
+    SelectedAt sc q Whole k k2 = k ≡ k2
+    SelectedAt sc q (Select (Index e) rest) k k2 =
+        (low high : ℤ) × (index element : ℕ) × (kind_at p k ≡ Some (kind.Array low high index element)) × ValueAt sc q e × (sort p (kind_of e) ≡ Ordinals) × Is (after_value q e) (i.Index low high (size p element))
+        × SelectedAt sc (after_value q e + 1) rest element k2
+    SelectedAt sc q (Select (Field f) rest) k k2 =
+        (fs : List (List ℕ × ℕ)) × (name : List ℕ) × (t : ℕ) × (kind_at p k ≡ Some (kind.Fields fs)) × (slice_get fs f ≡ Some (name, t)) × Is q (i.Field (field_offset p fs f)) × SelectedAt sc (q + 1) rest t k2
 
-    pub ActualsAt : Rights → List Scope → ℕ → Actuals → List ℕ → Type 0
-    ActualsAt holds sc q Nothing [] = Unit {0}
-    ActualsAt holds sc q Nothing (x ∷ xs) = ⊥
-    ActualsAt holds sc q (Pass a rest) [] = ⊥
-    ActualsAt holds sc q (Pass (ByValue e) rest) (x ∷ xs) = ValueAt holds sc q e × Formal x (kind_of e) role.Value × ActualsAt holds sc (after_value q e) rest xs
-    ActualsAt holds sc q (Pass (ByReference v) rest) (x ∷ xs) = (k : ℕ) × PlaceAt holds sc q v k × IsTarget holds v × Formal x k role.Reference × ActualsAt holds sc (after_var q v) rest xs
+    pub ActualsAt : List Scope → ℕ → Actuals → List ℕ → Type 0
+    ActualsAt sc q Nothing [] = Unit {0}
+    ActualsAt sc q Nothing (x ∷ xs) = ⊥
+    ActualsAt sc q (Pass a rest) [] = ⊥
+    ActualsAt sc q (Pass (ByValue e) rest) (x ∷ xs) = ValueAt sc q e × Formal x (kind_of e) role.Value × ActualsAt sc (after_value q e) rest xs
+    ActualsAt sc q (Pass (ByReference v) rest) (x ∷ xs) = (k : ℕ) × PlaceAt sc q v k × IsTarget v × Formal x k role.Reference × ActualsAt sc (after_var q v) rest xs
 
   -- an expression that is an ordinal
-  abbrev pub OrdinalAt : Rights → List Scope → ℕ → Expr → Type 0
-  OrdinalAt holds sc q e = ValueAt holds sc q e × (sort p (kind_of e) ≡ Ordinals)
+  abbrev pub OrdinalAt : List Scope → ℕ → Expr → Type 0
+  OrdinalAt sc q e = ValueAt sc q e × (sort p (kind_of e) ≡ Ordinals)
 
-  abbrev pub WidthAt : Rights → List Scope → ℕ → Option Expr → Type 0
-  WidthAt holds sc q None = Unit {0}
-  WidthAt holds sc q (Some e) = OrdinalAt holds sc q e
+  abbrev pub WidthAt : List Scope → ℕ → Option Expr → Type 0
+  WidthAt sc q None = Unit {0}
+  WidthAt sc q (Some e) = OrdinalAt sc q e
 
   abbrev pub ReadsAt : ℕ → KindOf → Type 0
   ReadsAt q kind.Integer = Is q i.ReadInt
@@ -227,22 +197,22 @@ module _ (p : Program) (moves shares : Stmt → List ℕ) (Is : ℕ → Instr �
   ReadsAt q (kind.Channel ks) = ⊥
 
   -- the right side of an assignment, and the instruction that assigns
-  abbrev pub RightAt : Rights → List Scope → ℕ → ℕ → Sort → ExprForm → Type 0
-  RightAt holds sc q k Ordinals form = FormAt holds sc q k form × Is (after_form q form) i.Store
-  RightAt holds sc q k Channels form = FormAt holds sc q k form × Is (after_form q form) i.Store
-  RightAt holds sc q k Many (Read v) = PlaceAt holds sc q v k × Is (after_var q v) (i.Copy (size p k))
-  RightAt holds sc q k Many (Number n) = ⊥
-  RightAt holds sc q k Many (Unary op a) = ⊥
-  RightAt holds sc q k Many (Binary op a b) = ⊥
-  RightAt holds sc q k Many (Apply f args) = ⊥
-  RightAt holds sc q k Many (Standard f a) = ⊥
-  RightAt holds sc q k Many (AtInput f) = ⊥
-  RightAt holds sc q k NoSort form = ⊥
+  abbrev pub RightAt : List Scope → ℕ → ℕ → Sort → ExprForm → Type 0
+  RightAt sc q k Ordinals form = FormAt sc q k form × Is (after_form q form) i.Store
+  RightAt sc q k Channels form = FormAt sc q k form × Is (after_form q form) i.Store
+  RightAt sc q k Many (Read v) = PlaceAt sc q v k × Is (after_var q v) (i.Copy (size p k))
+  RightAt sc q k Many (Number n) = ⊥
+  RightAt sc q k Many (Unary op a) = ⊥
+  RightAt sc q k Many (Binary op a b) = ⊥
+  RightAt sc q k Many (Apply f args) = ⊥
+  RightAt sc q k Many (Standard f a) = ⊥
+  RightAt sc q k Many (AtInput f) = ⊥
+  RightAt sc q k NoSort form = ⊥
 
   -- the turns of a for loop, whose first instruction stands at q and whose last one at j
-  abbrev pub TurnsAt : Rights → List Scope → ℕ → ℕ → Bool → ℕ → Type 0 → Type 0
-  TurnsAt holds sc q x down j body =
-      ForVar holds sc x × Is q (if down then i.Fordown (slot p x) (j + 1) else i.Forup (slot p x) (j + 1)) × Is (q + 1) i.Tick × body × Is j (if down then i.Nextdown (slot p x) (q + 1) else i.Nextup (slot p x) (q + 1))
+  abbrev pub TurnsAt : List Scope → ℕ → ℕ → Bool → ℕ → Type 0 → Type 0
+  TurnsAt sc q x down j body =
+      ForVar sc x × Is q (if down then i.Fordown (slot p x) (j + 1) else i.Forup (slot p x) (j + 1)) × Is (q + 1) i.Tick × body × Is j (if down then i.Nextdown (slot p x) (q + 1) else i.Nextup (slot p x) (q + 1))
 
   -- the tests of an arm of a case, with its statement at b
   abbrev pub TestAt : ℕ → List ℤ → ℕ → Type 0
@@ -253,81 +223,71 @@ module _ (p : Program) (moves shares : Stmt → List ℕ) (Is : ℕ → Instr �
   TestsAt q NoArm b = Unit {0}
   TestsAt q (Or (On ms s) rest) b = TestAt q ms b × TestsAt (after_test q ms) rest (after p b s + 1)
 
-  -- what a child may change is in no other list of its fork
-  abbrev pub IsApartFrom : Stmt → Stmts → Type 0
-  IsApartFrom s No = Unit {0}
-  IsApartFrom s (And c rest) = AreApart (moves s) (moves c) × AreApart (moves s) (shares c) × AreApart (shares s) (moves c) × IsApartFrom s rest
-
   abbrev mutual
     -- a statement that stands at q; free: no function is being called
-    pub StandsAt : (free : Bool) → Rights → List Scope → ℕ → Stmt → Type 0
-    StandsAt free holds sc q Empty = Unit {0}
-    StandsAt free holds sc q (Assign v (Typed k form)) = PlaceAt holds sc q v k × IsTarget holds v × RightAt holds sc (after_var q v) k (sort p k) form
-    StandsAt free holds sc q (Call f args) =
-        (b : Block) × ActualsAt holds sc q args b.formals × CallAt sc (after_actuals q args) f b × (b.answer ≡ None) × Hushed hush free f × Covers needs holds f
-    StandsAt free holds sc q (Sequence ss) = AllAt free holds sc q ss
-    StandsAt free holds sc q (If e a) =
+    pub StandsAt : (free : Bool) → List Scope → ℕ → Stmt → Type 0
+    StandsAt free sc q Empty = Unit {0}
+    StandsAt free sc q (Assign v (Typed k form)) = PlaceAt sc q v k × IsTarget v × RightAt sc (after_var q v) k (sort p k) form
+    StandsAt free sc q (Call f args) =
+        (b : Block) × ActualsAt sc q args b.formals × CallAt sc (after_actuals q args) f b × (b.answer ≡ None) × Hushed hush free f
+    StandsAt free sc q (Sequence ss) = AllAt free sc q ss
+    StandsAt free sc q (If e a) =
         let t = after_value q e in
-        OrdinalAt holds sc q e × Is t (i.Jumpf (after p (t + 1) a)) × StandsAt free holds sc (t + 1) a
-    StandsAt free holds sc q (IfElse e a b) =
+        OrdinalAt sc q e × Is t (i.Jumpf (after p (t + 1) a)) × StandsAt free sc (t + 1) a
+    StandsAt free sc q (IfElse e a b) =
         let t = after_value q e in
         let j = after p (t + 1) a in
-        OrdinalAt holds sc q e × Is t (i.Jumpf (j + 1)) × StandsAt free holds sc (t + 1) a × Is j (i.Jump (after p (j + 1) b)) × StandsAt free holds sc (j + 1) b
-    StandsAt free holds sc q (While e s) =
+        OrdinalAt sc q e × Is t (i.Jumpf (j + 1)) × StandsAt free sc (t + 1) a × Is j (i.Jump (after p (j + 1) b)) × StandsAt free sc (j + 1) b
+    StandsAt free sc q (While e s) =
         let t = after_value q e in
         let j = after p (t + 1 + 1) s in
-        OrdinalAt holds sc q e × Is t (i.Jumpf (j + 1)) × Is (t + 1) i.Tick × StandsAt free holds sc (t + 1 + 1) s × Is j (i.Jump q)
-    StandsAt free holds sc q (Repeat s e) =
+        OrdinalAt sc q e × Is t (i.Jumpf (j + 1)) × Is (t + 1) i.Tick × StandsAt free sc (t + 1 + 1) s × Is j (i.Jump q)
+    StandsAt free sc q (Repeat s e) =
         let t = after p (q + 1) s in
-        Is q i.Tick × StandsAt free holds sc (q + 1) s × OrdinalAt holds sc t e × Is (after_value t e) (i.Jumpf q)
-    StandsAt free holds sc q (For x from down to s) =
+        Is q i.Tick × StandsAt free sc (q + 1) s × OrdinalAt sc t e × Is (after_value t e) (i.Jumpf q)
+    StandsAt free sc q (For x from down to s) =
         let t = after_value (after_value q from) to in
-        OrdinalAt holds sc q from × OrdinalAt holds sc (after_value q from) to × TurnsAt holds sc t x down (after p (t + 1 + 1) s) (StandsAt free holds sc (t + 1 + 1) s)
-    StandsAt free holds sc q (Case e arms) =
+        OrdinalAt sc q from × OrdinalAt sc (after_value q from) to × TurnsAt sc t x down (after p (t + 1 + 1) s) (StandsAt free sc (t + 1 + 1) s)
+    StandsAt free sc q (Case e arms) =
         let t = after_value q e in
         let b = after_tests t arms in
-        OrdinalAt holds sc q e × TestsAt t arms (b + 1) × Is b i.Nocase × ArmsAt free holds sc (b + 1) arms (after_arms p (b + 1) arms)
-    StandsAt free holds sc q (Parallel ss) =
-        (t : ℕ) × HasTable t (record { children = children_tables p moves shares (q + 1 + 1) ss }) × Is q (i.Fork t) × Is (q + 1) (i.Jump (after_children p (q + 1 + 1) ss)) × ChildrenAt free holds sc (q + 1 + 1) ss × (free ≡ true)
-    StandsAt free holds sc q (Forall x from to s) =
+        OrdinalAt sc q e × TestsAt t arms (b + 1) × Is b i.Nocase × ArmsAt free sc (b + 1) arms (after_arms p (b + 1) arms)
+    StandsAt free sc q (Parallel ss) =
+        (t : ℕ) × HasTable t (record { children = children_tables p moves shares (q + 1 + 1) ss }) × Is q (i.Fork t) × Is (q + 1) (i.Jump (after_children p (q + 1 + 1) ss)) × ChildrenAt free sc (q + 1 + 1) ss × (free ≡ true)
+    StandsAt free sc q (Forall x from to s) =
         let b = after_value (after_value q from) to in
-        (t : ℕ) × HasTable t (record { children = child_table p moves shares (b + 1 + 1) (Some x) s ∷ [] }) × OrdinalAt holds sc q from × OrdinalAt holds sc (after_value q from) to × Is b (i.Forall t) × Is (b + 1) (i.Jump (after p (b + 1 + 1) s + 1))
-        × StandsAt free (granted (moves s) (shares s) (Some x)) (OfIndex x ∷ sc) (b + 1 + 1) s × Is (after p (b + 1 + 1) s) i.End × (free ≡ true) × Lends holds (moves s) (shares s) × (moves s ≡ [])
-    StandsAt free holds sc q (Assume e) = OrdinalAt holds sc q e × Is (after_value q e) i.Assume
-    StandsAt free holds sc q (ReadValue v) = (k : ℕ) × (t : KindOf) × PlaceAt holds sc q v k × IsTarget holds v × (kind_at p k ≡ Some t) × ReadsAt (after_var q v) t × holds 0 true
-    StandsAt free holds sc q ReadLine = Is q i.Readln × holds 0 true
-    StandsAt free holds sc q (WriteValue e w) =
-        (t : KindOf) × OrdinalAt holds sc q e × (kind_at p (kind_of e) ≡ Some t) × WidthAt holds sc (after_value q e) w × Is (after_width (after_value q e) w) (write_instr (Some t) (is_given w)) × IsWritten t × holds 1 true
-    StandsAt free holds sc q (WriteText t w) = (n : ℕ) × HasText n t × WidthAt holds sc q w × Is (after_width q w) (if is_given w then i.WritewText n else i.WriteText n) × holds 1 true
-    StandsAt free holds sc q WriteLine = Is q i.Writeln × holds 1 true
-    StandsAt free holds sc q (Open v) = (k : ℕ) × PlaceAt holds sc q v k × IsTarget holds v × (sort p k ≡ Channels) × Is (after_var q v) i.Open × (free ≡ true)
-    StandsAt free holds sc q (Send c e) =
-        ValueAt holds sc q c × (sort p (kind_of c) ≡ Channels) × ValueAt holds sc (after_value q c) e × Is (after_value (after_value q c) e) (i.Send (kind_of e)) × (free ≡ true)
-    StandsAt free holds sc q (Receive c v) =
-        (k : ℕ) × ValueAt holds sc q c × (sort p (kind_of c) ≡ Channels) × PlaceAt holds sc (after_value q c) v k × IsTarget holds v × Is (after_var (after_value q c) v) (i.Receive k) × (free ≡ true)
+        (t : ℕ) × HasTable t (record { children = child_table p moves shares (b + 1 + 1) (Some x) s ∷ [] }) × OrdinalAt sc q from × OrdinalAt sc (after_value q from) to × Is b (i.Forall t) × Is (b + 1) (i.Jump (after p (b + 1 + 1) s + 1))
+        × StandsAt free (OfIndex x ∷ sc) (b + 1 + 1) s × Is (after p (b + 1 + 1) s) i.End × (free ≡ true)
+    StandsAt free sc q (Assume e) = OrdinalAt sc q e × Is (after_value q e) i.Assume
+    StandsAt free sc q (ReadValue v) = (k : ℕ) × (t : KindOf) × PlaceAt sc q v k × IsTarget v × (kind_at p k ≡ Some t) × ReadsAt (after_var q v) t
+    StandsAt free sc q ReadLine = Is q i.Readln
+    StandsAt free sc q (WriteValue e w) =
+        (t : KindOf) × OrdinalAt sc q e × (kind_at p (kind_of e) ≡ Some t) × WidthAt sc (after_value q e) w × Is (after_width (after_value q e) w) (write_instr (Some t) (is_given w)) × IsWritten t
+    StandsAt free sc q (WriteText t w) = (n : ℕ) × HasText n t × WidthAt sc q w × Is (after_width q w) (if is_given w then i.WritewText n else i.WriteText n)
+    StandsAt free sc q WriteLine = Is q i.Writeln
+    StandsAt free sc q (Open v) = (k : ℕ) × PlaceAt sc q v k × IsTarget v × (sort p k ≡ Channels) × Is (after_var q v) i.Open × (free ≡ true)
+    StandsAt free sc q (Send c e) =
+        ValueAt sc q c × (sort p (kind_of c) ≡ Channels) × ValueAt sc (after_value q c) e × Is (after_value (after_value q c) e) (i.Send (kind_of e)) × (free ≡ true)
+    StandsAt free sc q (Receive c v) =
+        (k : ℕ) × ValueAt sc q c × (sort p (kind_of c) ≡ Channels) × PlaceAt sc (after_value q c) v k × IsTarget v × Is (after_var (after_value q c) v) (i.Receive k) × (free ≡ true)
 
-    pub AllAt : Bool → Rights → List Scope → ℕ → Stmts → Type 0
-    AllAt free holds sc q No = Unit {0}
-    AllAt free holds sc q (And s rest) = StandsAt free holds sc q s × AllAt free holds sc (after p q s) rest
+    pub AllAt : Bool → List Scope → ℕ → Stmts → Type 0
+    AllAt free sc q No = Unit {0}
+    AllAt free sc q (And s rest) = StandsAt free sc q s × AllAt free sc (after p q s) rest
 
     -- the children of a fork, each with what it is handed
-    pub ChildrenAt : Bool → Rights → List Scope → ℕ → Stmts → Type 0
-    ChildrenAt free holds sc q No = Unit {0}
-    ChildrenAt free holds sc q (And s rest) =
-        StandsAt free (granted (moves s) (shares s) None) sc q s × Is (after p q s) i.End × ChildrenAt free holds sc (after p q s + 1) rest
-        × Lends holds (moves s) (shares s) × IsDistinct (moves s) × AreApart (moves s) (shares s) × IsApartFrom s rest
+    pub ChildrenAt : Bool → List Scope → ℕ → Stmts → Type 0
+    ChildrenAt free sc q No = Unit {0}
+    ChildrenAt free sc q (And s rest) =
+        StandsAt free sc q s × Is (after p q s) i.End × ChildrenAt free sc (after p q s + 1) rest
 
-    pub ArmsAt : Bool → Rights → List Scope → ℕ → Arms → (end : ℕ) → Type 0
-    ArmsAt free holds sc q NoArm end = Unit {0}
-    ArmsAt free holds sc q (Or (On ms s) rest) end = StandsAt free holds sc q s × Is (after p q s) (i.Jump end) × ArmsAt free holds sc (after p q s + 1) rest end
-
-  -- a block holds what it declares and what it needs besides
-  abbrev pub rights_of : ℕ → Rights
-  rights_of f x changes = ((v : Variable) × (slice_get p.variables x ≡ Some v) × (v.block ≡ f)) ⊎ needs f x changes
+    pub ArmsAt : Bool → List Scope → ℕ → Arms → (end : ℕ) → Type 0
+    ArmsAt free sc q NoArm end = Unit {0}
+    ArmsAt free sc q (Or (On ms s) rest) end = StandsAt free sc q s × Is (after p q s) (i.Jump end) × ArmsAt free sc (after p q s + 1) rest end
 
   -- the code of block f stands at q
   pub record BlockStands (f q : ℕ) (b : Block) : Type 0 where
-    pub body : (free : Bool) → Hushed hush free f → StandsAt free (rights_of f) (scopes_of p f) q b.body
+    pub body : (free : Bool) → Hushed hush free f → StandsAt free (scopes_of p f) q b.body
     pub end : Is (after p q b.body) (end_instr f)
     -- a function leads to no kernel statement, and its result is an ordinal of its own frame
     pub hushed : (x : ℕ) → b.answer ≡ Some x → hush f
@@ -345,15 +305,15 @@ abbrev pub HasWords : Parts → ℕ → List ℕ → Type 0
 HasWords code n text = slice_get code.texts n ≡ Some text
 
 -- a block's layout is the one that it has in the tree, and its code stands at the entry
-pub record BlockAt (p : Program) (moves shares : Stmt → List ℕ) (code : Parts) (hush : ℕ → Type 0) (needs : ℕ → Rights) (f : ℕ) (b : Block) : Type 0 where
+pub record BlockAt (p : Program) (moves shares : Stmt → List ℕ) (code : Parts) (hush : ℕ → Type 0) (f : ℕ) (b : Block) : Type 0 where
   pub layout : Layout
   pub at : slice_get code.layouts f ≡ Some layout
   pub is : layout ≡ layout_of p f layout.entry b
-  pub stands : BlockStands p moves shares (Stands code) (HasFork code) (HasWords code) hush needs f layout.entry b
+  pub stands : BlockStands p moves shares (Stands code) (HasFork code) (HasWords code) hush f layout.entry b
 
 -- the code of all blocks of the program stands
-abbrev pub BlocksAt : (p : Program) (moves shares : Stmt → List ℕ) (code : Parts) (hush : ℕ → Type 0) (needs : ℕ → Rights) → Type 0
-BlocksAt p moves shares code hush needs = (f : ℕ) (b : Block) → slice_get p.blocks f ≡ Some b → BlockAt p moves shares code hush needs f b
+abbrev pub BlocksAt : (p : Program) (moves shares : Stmt → List ℕ) (code : Parts) (hush : ℕ → Type 0) → Type 0
+BlocksAt p moves shares code hush = (f : ℕ) (b : Block) → slice_get p.blocks f ≡ Some b → BlockAt p moves shares code hush f b
 
 -- nothing is said of the code: what the rules of names, types and variables give alone
 abbrev pub AnyInstr : ℕ → Instr → Type 0
@@ -366,8 +326,8 @@ abbrev pub AnyText : ℕ → List ℕ → Type 0
 AnyText n text = Unit {0}
 
 -- a tree that keeps the rules, at its block f
-abbrev pub IsFine : (p : Program) (moves shares : Stmt → List ℕ) (hush : ℕ → Type 0) (needs : ℕ → Rights) → (f q : ℕ) → Block → Type 0
-IsFine p moves shares hush needs f q b = BlockStands p moves shares AnyInstr AnyTable AnyText hush needs f q b
+abbrev pub IsFine : (p : Program) (moves shares : Stmt → List ℕ) (hush : ℕ → Type 0) → (f q : ℕ) → Block → Type 0
+IsFine p moves shares hush f q b = BlockStands p moves shares AnyInstr AnyTable AnyText hush f q b
 
 -- these items stand in a list from place q on
 abbrev pub HasAt : {X : Type 0} → List X → ℕ → List X → Type 0

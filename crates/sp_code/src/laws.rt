@@ -18,7 +18,7 @@ ghost use Rattle.sp_code.specs.Scopes.{Scope};
 ghost use Rattle.sp_code.specs.Lengths.{stmt_length, tree_length};
 ghost use Rattle.sp_code.specs.Emitted.{code, program_code};
 ghost use Rattle.sp_code.specs.Stands.{IsFine, BlocksAt};
-ghost use Rattle.sp_code.specs.Quiet.{IsQuiet, needs_of};
+ghost use Rattle.sp_code.specs.Quiet.{IsQuiet};
 
 /// One instruction, and one turn, is a function of the process; and where a turn is computed to an end, that is its end.
 pub fn turns_are_functions()
@@ -49,7 +49,7 @@ pub fn code_has_its_length()
 /// Where each block keeps the rules of names, types and variables, its code stands in the code of the program as it should; and a
 /// call finds the layout that the block has in the tree.
 pub fn code_stands()
-    ensures blocks { (p : Program) (moves shares : Stmt → List ℕ) → ((f q : ℕ) (b : Block) → slice_get p.blocks f ≡ Some b → IsFine p moves shares (IsQuiet p) (needs_of p) f q b)
-        → BlocksAt p moves shares (program_code p moves shares) (IsQuiet p) (needs_of p) }
+    ensures blocks { (p : Program) (moves shares : Stmt → List ℕ) → ((f q : ℕ) (b : Block) → slice_get p.blocks f ≡ Some b → IsFine p moves shares (IsQuiet p) f q b)
+        → BlocksAt p moves shares (program_code p moves shares) (IsQuiet p) }
     ensures layouts { (p : Program) (moves shares : Stmt → List ℕ) (f : ℕ) (l : Layout) → slice_get (program_code p moves shares).layouts f ≡ Some l → layout_of (program_code p moves shares).layouts f ≡ Some l }
 {}

@@ -1,22 +1,13 @@
 //! The listing of code.
 
-ghost use Rattle.std.specs.Prelude.{◌≡◌, ◌++◌, IfOk, OnOk, decimal, codes};
+ghost use Rattle.std.specs.Prelude.{◌≡◌, ◌++◌, IfOk, OnOk, codes};
 ghost use Rattle.std.specs.List.{flat_map};
 ghost use Rattle.sp_code.specs.Listing.{number_text, instr_line, child_line, table_lines, numbered, listing_text};
 
 use crate::code::{ChildTable, Code, ForkTable};
 use crate::instr::Instr;
-use itoa::Buffer;
-use sp_base::Memory;
+use sp_base::{Memory, put_decimal};
 use std::alloc::Global;
-
-fn put_decimal(out: &mut Vec<u8>, number: usize) -> Result<(), Memory>
-    ensures { OnOk result (out.new.items ≡ out.old.items ++ decimal number) }
-{
-    let mut buffer = Buffer::new();
-    out.extend_from_slice(buffer.format(number).as_bytes())?;
-    Ok(())
-}
 
 /// Puts each number after a space.
 fn put_numbers(out: &mut Vec<u8>, numbers: &[u32]) -> Result<(), Memory>
@@ -24,7 +15,7 @@ fn put_numbers(out: &mut Vec<u8>, numbers: &[u32]) -> Result<(), Memory>
 {
     for number in numbers {
         out.extend_from_slice(b" ")?;
-        put_decimal(out, *number as usize)?;
+        put_decimal(out, u64::from(*number))?;
     }
     Ok(())
 }
@@ -32,7 +23,7 @@ fn put_numbers(out: &mut Vec<u8>, numbers: &[u32]) -> Result<(), Memory>
 fn put_instr_line(out: &mut Vec<u8>, number: usize, instr: Instr) -> Result<(), Memory>
     ensures { OnOk result (out.new.items ≡ out.old.items ++ instr_line number instr) }
 {
-    put_decimal(out, number)?;
+    put_decimal(out, number as u64)?;
     out.extend_from_slice(b" ")?;
     instr.put(out)?;
     out.extend_from_slice(b"\n")?;
@@ -48,11 +39,11 @@ fn put_child_line(
     ensures { OnOk result (out.new.items ≡ out.old.items ++ child_line table number child.now) }
 {
     out.extend_from_slice(b"table ")?;
-    put_decimal(out, table)?;
+    put_decimal(out, table as u64)?;
     out.extend_from_slice(b" child ")?;
-    put_decimal(out, number)?;
+    put_decimal(out, number as u64)?;
     out.extend_from_slice(b" entry ")?;
-    put_decimal(out, child.entry as usize)?;
+    put_decimal(out, u64::from(child.entry))?;
     out.extend_from_slice(b" moves")?;
     put_numbers(out, child.moved.items())?;
     out.extend_from_slice(b" shares")?;

@@ -6,8 +6,7 @@ ghost use Rattle.sp_code.specs.Listing.{word, operands, operand_text, instr_text
 ghost use Rattle.sp_code.specs.Operands.{operand_list};
 
 use crate::instr::Instr;
-use itoa::Buffer;
-use sp_base::Memory;
+use sp_base::{Memory, put_signed};
 
 /// The numbers after an instruction's word.
 pub(crate) enum Operands {
@@ -20,10 +19,8 @@ pub(crate) enum Operands {
 fn put_operand(out: &mut Vec<u8>, number: i64) -> Result<(), Memory>
     ensures { OnOk result (out.new.items ≡ out.old.items ++ operand_text number) }
 {
-    let mut buffer = Buffer::new();
     out.extend_from_slice(b" ")?;
-    out.extend_from_slice(buffer.format(number).as_bytes())?;
-    Ok(())
+    put_signed(out, number)
 }
 
 fn put_two(out: &mut Vec<u8>, first: i64, second: i64) -> Result<(), Memory>

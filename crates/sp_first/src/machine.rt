@@ -5,8 +5,7 @@ ghost use Rattle.sp_first.specs.Meaning.{checked, defined};
 ghost use Rattle.sp_first.specs.Code.{one, pushed, assigned, printed, operation, operator, exec, opening, ended};
 ghost use Rattle.sp_first.specs.States.{state_of, Pops, Does};
 
-use itoa::Buffer;
-use sp_base::{Fault, Memory, Text};
+use sp_base::{Fault, Memory, Text, put_signed};
 use std::alloc::Global;
 
 /// One instruction. An operation takes its operands off the stack and puts its result there. It does nothing where
@@ -138,10 +137,7 @@ impl Machine {
     fn write(&mut self, value: i64) -> Result<(), Memory>
         ensures { OnOk result (state_of self.new ≡ printed (state_of self.old) value) }
     {
-        let mut digits = Buffer::new();
-        self.output
-            .extend_from_slice(digits.format(value).as_bytes())?;
-        Ok(())
+        put_signed(&mut self.output, value)
     }
 
     // Does one instruction, and answers its fault, if there is one.

@@ -198,11 +198,12 @@ not_true false h = refl
 
 sign_again_by : (n b : ℕ) (s u : List ℕ) → slice_get signs n ≡ Some (b ∷ s) → SignForm (b ∷ s) → opens_comment (b ∷ (s ++ u)) ≡ false → (r : List ℕ) → Stops (goes_on (b ∷ s)) r → Reads (kind.Sign n) (b ∷ s) r
 sign_again_by n b s u h f o r g =
-    let p = sign_plain b (s ++ r) (b ∷ s) r n h refl in
-    (sign_opens b s r u f o g,
-     longest_sign (b ∷ (s ++ r)) (s ++ r) r b n refl (not_true (is_letter b) (no_letter b p)) (not_true (is_digit b) (no_digit b p)) (no_quote b p)
-       (record { text = b ∷ s; is = h; all = refl })
-       (λ m r' l x. sign_bound (b ∷ s) x.text r r' f (each_at SignForm signs m x.text signs_form x.is) g x.all))
+    let p = sign_plain b (s ++ r) (b ∷ s) r n h refl in (
+      sign_opens b s r u f o g,
+      longest_sign (b ∷ (s ++ r)) (s ++ r) r b n refl (not_true (is_letter b) (no_letter b p)) (not_true (is_digit b) (no_digit b p)) (no_quote b p)
+          (record { text = b ∷ s; is = h; all = refl })
+          (λ m r' l x. sign_bound (b ∷ s) x.text r r' f (each_at SignForm signs m x.text signs_form x.is) g x.all),
+    )
 
 sign_again : (n : ℕ) (s bs u : List ℕ) → slice_get signs n ≡ Some s → SignForm s → bs ≡ s ++ u → opens_comment bs ≡ false → (r : List ℕ) → Stops (goes_on (front bs u)) r → Reads (kind.Sign n) (front bs u) r
 sign_again n [] bs u h f e o r g = absurd f

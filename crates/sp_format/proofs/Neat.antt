@@ -98,7 +98,6 @@ extend {k} {l} f m g = record {
   ready' = λ q. ap (ready k) (append_assoc l m q) ∙ f.ready' (m ++ q);
 }
 
-
 of_constant : {k : Kind} {l : List Symbol} → ConstantRow k l → Fine k l
 of_constant row.constant_number = record { same = λ q. refl; ready' = λ q. refl }
 of_constant row.constant_name = record { same = λ q. refl; ready' = λ q. refl }
@@ -273,7 +272,6 @@ no_dot [] n t b h e p = cc
 no_dot (AName ∷ q) n t b h e p = stuck AName q n t (kind.Sign b) e refl refl p
 no_dot (s ∷ q) n t b h e p = cc
 
-
 if_true : (b : Bool) {x : Bool} (y : Bool) → b ≡ true → cond b x y ≡ true → x ≡ true
 if_true b {x} y e h = let f : cond true x y ≡ true = subst (λ b. cond b x y ≡ true) e h in f
 
@@ -313,8 +311,6 @@ no_clash q n t j k h e p = refl
 abbrev pub apart_from : Kind → List Kind → Type 0
 apart_from j [] = Unit {0}
 apart_from j (k ∷ ks) = (clash j k ≡ false) × apart_from k ks
-
-
 
 abbrev Behind : Kind → List Token → Type 0
 Behind j ts = apart_from j (map (λ t. t.kind) ts)

@@ -49,11 +49,7 @@ fn put_lower(out: &mut Vec<u8>, bytes: &[u8]) -> Result<(), AllocError>
     Ok(())
 }
 
-fn put_spelled(
-    out: &mut Vec<u8>,
-    kind: Option<Kind>,
-    bytes: &[u8],
-) -> Result<(), AllocError>
+fn put_spelled(out: &mut Vec<u8>, kind: Option<Kind>, bytes: &[u8]) -> Result<(), AllocError>
     ensures { OnOk result (out.new.items ≡ out.old.items ++ spelled kind bytes.now) }
 {
     match kind {

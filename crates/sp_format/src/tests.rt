@@ -100,7 +100,13 @@ fn refused_texts(rt: HostRuntime) -> Result<(), Fail> {
 }
 
 // A program whose statement part is this many bytes of a kind, and the rest.
-fn filled(alloc: Global, first: &[u8], middle: &[u8], count: usize, last: &[u8]) -> Result<Vec<u8>, AllocError> {
+fn filled(
+    alloc: Global,
+    first: &[u8],
+    middle: &[u8],
+    count: usize,
+    last: &[u8],
+) -> Result<Vec<u8>, AllocError> {
     let mut text = Vec::new(alloc);
     text.extend_from_slice(first)?;
     for _ in 0..count {
@@ -144,6 +150,9 @@ fn deep_parts(rt: HostRuntime) -> Result<(), Fail> {
     }
     text.extend_from_slice(b"end.")?;
     // "program g;", and for each depth up to 199 a line with "begin" and one with "end", and a dot
-    assert_eq!(rt; length(alloc, text.as_slice()), 11 + 200 * (6 + 4) + 1 + 4 * 19_900);
+    assert_eq!(rt;
+        length(alloc, text.as_slice()),
+        11 + 200 * (6 + 4) + 1 + 4 * 19_900
+    );
     Ok(())
 }

@@ -1,3 +1,4 @@
+pub mod Existence
 pub mod Joining
 pub mod OneAnswer
 pub mod Phasing

@@ -5,9 +5,11 @@ use Rattle.sp_tree.specs.PlainSyntax as s
 use Rattle.sp_tree.specs.PlainNamed as n
 use Rattle.sp_tree.specs.Breaches.{IsTree, IsFirstBroken}
 use Rattle.sp_tree.specs.NameFirst.{resolved}
-use Rattle.sp_types.specs.PlainChecked as c
+use Rattle.sp_tree.specs.PlainChecked as c
 use Rattle.sp_types.specs.TypeFirst.{typed}
-use Rattle.sp_front.specs.Checks.{IsNamed, IsChecked, BreaksNames, BreaksTypes, BreaksFirst}
+use Rattle.sp_tree.specs.Bare.{bare}
+use Rattle.sp_tree.specs.Plain as m
+use Rattle.sp_front.specs.Checks.{IsNamed, IsChecked, IsProgramOf, BreaksNames, BreaksTypes, BreaksFirst}
 
 -- what the characters and the grammar say
 abbrev pub OneTree : Type 0
@@ -50,6 +52,9 @@ module _ (one : OneTree) (text : List ℕ) where
 
   pub checked_once : (p q : c.Program) → IsChecked text p → IsChecked text q → p ≡ q
   checked_once p q (m, h, x) (o, k, y) = same_value p q (onward typed m o (Ok p) (Ok q) (named_once m o h k) x y)
+
+  pub program_once : (p q : m.Program) → IsProgramOf text p → IsProgramOf text q → p ≡ q
+  program_once p q (t, h, x) (u, k, y) = back_of x ∙ (ap bare (checked_once t u h k) ∙ y)
 
   named_or_broken : (p : n.Program) (r : Refusal) → IsNamed text p → BreaksNames text r → ⊥
   named_or_broken p r (t, h, x) (u, k, y) = never_both p r (onward resolved t u (Ok p) (Err r) (one text t u h k) x y)

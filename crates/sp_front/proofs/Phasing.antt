@@ -14,10 +14,12 @@ use Rattle.sp_tree.specs.NamedOf as named
 use Rattle.sp_tree.specs.SyntaxOf as plain
 use Rattle.sp_tree.specs.Breaches.{IsTree}
 use Rattle.sp_tree.specs.NameFirst.{resolved}
-use Rattle.sp_types.specs.PlainChecked.{Program}
-use Rattle.sp_types.specs.CheckedOf as checked
+use Rattle.sp_tree.specs.PlainChecked.{Program}
+use Rattle.sp_tree.specs.CheckedOf as checked
+use Rattle.sp_tree.specs.PlainOf as meant
+use Rattle.sp_tree.proofs.FusedStatements.{program_fused}
 use Rattle.sp_types.specs.TypeFirst.{typed}
-use Rattle.sp_front.specs.Checks.{BreaksFirst, Checks, IsChecked, IsNamed, KeepsRules}
+use Rattle.sp_front.specs.Checks.{BreaksFirst, Checks, IsChecked, IsNamed, IsProgramOf, KeepsRules}
 use Rattle.sp_front.specs.Texts.{Reads}
 
 abbrev pub Passed : Result Checked Halt → Halt → Type 0
@@ -52,3 +54,8 @@ Apart = (text : List ℕ) (p : Program) (r : Refusal) → IsChecked text p → B
 pub keeps : Apart → (text : List ℕ) (result : Result Checked Halt) → Checks text result → IfOk result (λ tree. KeepsRules text)
 keeps apart text (Ok tree) h = λ r b. apart text (checked.program_of tree) r h b
 keeps apart text (Err e) h = tt
+
+-- the tree in memory stands for the program of the text
+pub programs : (text : List ℕ) (result : Result Checked Halt) → Checks text result → IfOk result (λ tree. IsProgramOf text (meant.program_of tree))
+programs text (Ok tree) h = (checked.program_of tree, h, program_fused tree)
+programs text (Err e) h = tt

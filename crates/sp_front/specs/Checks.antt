@@ -8,8 +8,10 @@ use Rattle.sp_tree.specs.PlainSyntax as s
 use Rattle.sp_tree.specs.PlainNamed as n
 use Rattle.sp_tree.specs.Breaches.{IsTree, IsFirstBroken}
 use Rattle.sp_tree.specs.NameFirst.{resolved}
-use Rattle.sp_types.specs.PlainChecked as c
-use Rattle.sp_types.specs.CheckedOf as checked
+use Rattle.sp_tree.specs.PlainChecked as c
+use Rattle.sp_tree.specs.CheckedOf as checked
+use Rattle.sp_tree.specs.Bare.{bare}
+use Rattle.sp_tree.specs.Plain as m
 use Rattle.sp_types.specs.TypeFirst.{typed}
 
 -- the text is that of the tree, and the names in it stand for these declarations
@@ -40,3 +42,7 @@ Checks text (Err halt.Memory) = Unit {0}
 -- the text breaks no rule
 abbrev pub KeepsRules : List ℕ → Type 0
 KeepsRules text = (r : Refusal) → BreaksFirst text r → ⊥
+
+-- The program of the text, as the meaning takes it: its checked tree without the places.
+abbrev pub IsProgramOf : List ℕ → m.Program → Type 0
+IsProgramOf text p = (tree : c.Program) × IsChecked text tree × (bare tree ≡ p)

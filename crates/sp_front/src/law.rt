@@ -1,18 +1,30 @@
-//! The law which shows that the phases together give one answer. The function does nothing: what counts is its contract.
+//! Laws which show that the phases together give each text one answer. Of the functions only their contracts count.
 
-ghost use Rattle.std.specs.Prelude.{◌≡◌, ℕ, List};
+ghost use Rattle.std.specs.Prelude.{◌≡◌, ◌⊎◌, ℕ, List};
 ghost use Rattle.sp_base.specs.declared.halt.Refusal.{Refusal};
-ghost use Rattle.sp_types.specs.PlainChecked.{Program};
-ghost use Rattle.sp_front.specs.Checks.{BreaksFirst, IsChecked};
+ghost use Rattle.sp_tree.specs.PlainChecked.{Program};
+ghost use Rattle.sp_tree.specs.Plain.{Program as Meant};
+ghost use Rattle.sp_front.specs.Checks.{BreaksFirst, IsChecked, IsProgramOf, KeepsRules};
 
-use sp_grammar::one_verdict;
+use sp_grammar::{one_verdict, some_verdict};
+use sp_scan::first_breach;
 
 /// The first rule that a text breaks is one rule at one place. A text that breaks one has no checked tree, and no text
-/// has two checked trees.
+/// has two checked trees, or two programs.
 pub fn one_answer()
     ensures refusal { (text : List ℕ) (a b : Refusal) → BreaksFirst text a → BreaksFirst text b → a ≡ b }
     ensures tree { (text : List ℕ) (p q : Program) → IsChecked text p → IsChecked text q → p ≡ q }
     ensures not_both { (text : List ℕ) (p : Program) (r : Refusal) → IsChecked text p → BreaksFirst text r → ⊥ }
+    ensures program { (text : List ℕ) (p q : Meant) → IsProgramOf text p → IsProgramOf text q → p ≡ q }
 {
     one_verdict();
+}
+
+/// A text has a checked tree, or a rule that is the first it breaks. So a text that breaks no rule has a program.
+pub fn some_answer(text: &[u8])
+    ensures either { ((p : Program) × IsChecked text.now p) ⊎ ((r : Refusal) × BreaksFirst text.now r) }
+    ensures kept { KeepsRules text.now → (p : Meant) × IsProgramOf text.now p }
+{
+    some_verdict();
+    let _found = first_breach(text);
 }

@@ -1,7 +1,8 @@
 //! From the bytes of a text through all phases to its checked tree.
 
 ghost use Rattle.std.specs.Prelude.{IfOk};
-ghost use Rattle.sp_front.specs.Checks.{Checks, KeepsRules};
+ghost use Rattle.sp_tree.specs.PlainOf.{program_of};
+ghost use Rattle.sp_front.specs.Checks.{Checks, IsProgramOf, KeepsRules};
 
 use crate::law::one_answer;
 use crate::reader::read_text;
@@ -20,6 +21,7 @@ use std::thread::{Builder, Promise, Threads};
 pub fn typed(alloc: Global, text: &[u8]) -> Result<Checked, Halt>
     ensures checks { Checks text.now result }
     ensures keeps { IfOk result (λ tree. KeepsRules text.now) }
+    ensures program { IfOk result (λ tree. IsProgramOf text.now (program_of tree)) }
 {
     one_answer();
     let syntax = read_text(alloc, text)?;
@@ -38,11 +40,12 @@ impl Promise<Result<Checked, Halt>> for TypedOf {
     ghost kept_by = { λ p r. Checks p.0.value.items r };
 }
 
-/// `typed`, on a thread of its own with a stack for the longest text. Where no thread can be made the caller's own
-/// stack serves.
+/// `typed`, on a thread of its own with a stack for the longest text. Where no thread can be made the answer is want of
+/// memory: the caller's own stack would not hold a long chain of operators.
 pub fn typed_apart(rt: &impl Threads, alloc: Global, text: &[u8]) -> Result<Checked, Halt>
     ensures checks { Checks text.now result }
     ensures keeps { IfOk result (λ tree. KeepsRules text.now) }
+    ensures program { IfOk result (λ tree. IsProgramOf text.now (program_of tree)) }
 {
     one_answer();
     let mut copy = Vec::new(alloc);
@@ -53,6 +56,6 @@ pub fn typed_apart(rt: &impl Threads, alloc: Global, text: &[u8]) -> Result<Chec
         .spawn_with(rt, promise, move || typed(alloc, copy.as_slice()));
     match started {
         Ok(thread) => thread.join(rt),
-        Err(_) => typed(alloc, text),
+        Err(_) => Err(Halt::Memory),
     }
 }

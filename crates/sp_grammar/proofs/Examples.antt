@@ -9,23 +9,11 @@ use Rattle.sp_tree.specs.PlainSyntax.{Program}
 use Rattle.sp_tree.specs.Viable.{Any, Spells}
 use Rattle.sp_grammar.specs.Symbols.{Symbol, AProgram}
 use Rattle.sp_grammar.specs.Machine.{Why, Bad, Deep, Next, On, No, after, going, Done, Stuck, run}
-use Rattle.sp_grammar.proofs.Completes.{All, none, and, back}
+use Rattle.sp_grammar.proofs.Existence.{spelled}
 
 -- tokens that the machine takes whole spell a program
-accepts_by : (text : List ℕ) (t : Token) (ts : List Token) (stack : List Symbol) (n : Next) → after None stack t ≡ n → going n (t ∷ ts) (run None ts) ≡ Done → ((stack' : List Symbol) → run None ts stack' ≡ Done → All text Any stack' ts []) → All text Any stack (t ∷ ts) []
-accepts_by text t ts stack (On stack') e h go = back text Any None (λ d t ts g. tt) stack t stack' e ts [] (go stack' h)
-accepts_by text t ts stack (No why) e h go = absurd cc
-
-accepts : (text : List ℕ) (ts : List Token) (stack : List Symbol) → run None ts stack ≡ Done → All text Any stack ts []
-accepts text [] [] e = none
-accepts text [] (s ∷ stack) e = absurd cc
-accepts text (t ∷ ts) stack e = accepts_by text t ts stack (after None stack t) refl e (λ stack' h. accepts text ts stack' h)
-
-spelled : (text : List ℕ) (ts : List Token) → All text Any (AProgram ∷ []) ts [] → (p : Program) × Spells text ts p
-spelled text ts (and p none) = p
-
 pub is_program : (text : List ℕ) (ts : List Token) → run None ts (AProgram ∷ []) ≡ Done → (p : Program) × Spells text ts p
-is_program text ts e = spelled text ts (accepts text ts (AProgram ∷ []) e)
+is_program text ts e = spelled text Any None (λ d t us h. tt) ts e
 
 -- tokens of these kinds
 abbrev tokens : List Kind → List Token

@@ -9,4 +9,5 @@ pub mod Order
 pub mod Rising
 pub mod Firsts
 pub mod OneList
+pub mod Existence
 pub mod Examples

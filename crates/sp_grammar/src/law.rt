@@ -1,10 +1,10 @@
 //! Laws which show that the definitions are the right ones. The functions do nothing: what counts is their contracts.
 
-ghost use Rattle.std.specs.Prelude.{◌≡◌, ℕ, List, []};
+ghost use Rattle.std.specs.Prelude.{◌≡◌, ◌⊎◌, ℕ, List, []};
 ghost use Rattle.sp_base.specs.declared.halt.Refusal.{Refusal};
 ghost use Rattle.sp_tree.specs.declared.token.Token.{Token as AToken};
 ghost use Rattle.sp_tree.specs.PlainSyntax.{Program};
-ghost use Rattle.sp_tree.specs.Scans.{Scans};
+ghost use Rattle.sp_tree.specs.Scans.{IsTokens, Scans};
 ghost use Rattle.sp_tree.specs.Viable.{Spells, IsFirstBad};
 ghost use Rattle.sp_tree.specs.Breaches.{IsFirstBroken, IsTree};
 
@@ -30,4 +30,9 @@ pub fn one_verdict()
     ensures refusal { (text : List ℕ) (a b : Refusal) → IsFirstBroken text a → IsFirstBroken text b → a ≡ b }
     ensures tree { (text : List ℕ) (p q : Program) → IsTree text p → IsTree text q → p ≡ q }
     ensures not_both { (text : List ℕ) (p : Program) (r : Refusal) → IsTree text p → IsFirstBroken text r → ⊥ }
+{}
+
+/// A text that has tokens has a tree, or a rule that is the first it breaks.
+pub fn some_verdict()
+    ensures { (text : List ℕ) (ts : List AToken) → IsTokens text ts → ((p : Program) × IsTree text p) ⊎ ((r : Refusal) × IsFirstBroken text r) }
 {}

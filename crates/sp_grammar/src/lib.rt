@@ -3,4 +3,4 @@
 
 mod law;
 
-pub use law::{one_first_bad, one_list, one_tree, one_verdict};
+pub use law::{one_first_bad, one_list, one_tree, one_verdict, some_verdict};

@@ -123,7 +123,7 @@ module _ (bytes : List ℕ) (v : Version) (es : List Entry) (rest : List ℕ) (b
       not_empty : rest ≢ []
       not_empty z = none_some (line, after) (sym (f ∙ ap (first_split 10) z))
 
-line_of_version : (v : Version) (rest : List ℕ) → first_split 10 (heading v ++ rest) ≡ Some (first_line v, rest)
+pub line_of_version : (v : Version) (rest : List ℕ) → first_split 10 (heading v ++ rest) ≡ Some (first_line v, rest)
 line_of_version version.One rest = refl
 line_of_version version.Two rest = refl
 

@@ -1,5 +1,5 @@
 -- Tests on numbers, as facts.
-use Rattle.std.proofs.Common.{◌≡◌, ◌≢◌, ◌⊎◌, inl, inr, ℕ, ◌<◌, ◌≤◌, true, false, ◌&&◌, ◌==◌, nat_lt, nat_le, refl, arith, Option, Some, None, Result, Ok, Err, ap}
+use Rattle.std.proofs.Common.{◌≡◌, ◌≢◌, ◌⊎◌, inl, inr, ℕ, ◌<◌, ◌≤◌, Bool, true, false, ◌&&◌, ◌==◌, nat_lt, nat_le, is_err, refl, sym, ◌∙◌, arith, Option, Some, None, Result, Ok, Err, ap}
 use Rattle.std.specs.Option.{SomeIff}
 use Rattle.std.specs.Result.{OnOk}
 use Rattle.std.proofs.lemmas.Bool.Decides.{nat_tests}
@@ -41,7 +41,15 @@ pub some_if : {P : Type 0} (o : Option ℕ) (v : ℕ) → SomeIff o P v → P �
 some_if None v h p = absurd (h p)
 some_if (Some x) v h p = ap (λ y. Some y) h.1
 
--- two facts of an `Ok`, and what follows from both
-pub on_both : {T E A B C : Type 0} (r : Result T E) → OnOk r A → OnOk r B → (A → B → C) → OnOk r C
-on_both (Ok x) a b f = f a b
-on_both (Err e) a b f = tt
+-- what follows from a fact of an `Ok`
+pub on_ok : {T E A B : Type 0} (r : Result T E) → OnOk r A → (A → B) → OnOk r B
+on_ok (Ok x) a f = f a
+on_ok (Err e) a f = tt
+
+-- what holds of an `Ok` that was tested
+pub if_not_err : {T E P : Type 0} (r : Result T E) (b : Bool) → b ≡ is_err r → b ≡ false → OnOk r P → P
+if_not_err (Ok x) b e f p = p
+if_not_err (Err x) b e f p = absurd (true_false (sym e ∙ f))
+  where
+    true_false : ◌≡◌ {A = Bool} true false → ⊥
+    true_false g = cc

@@ -5,6 +5,7 @@ pub mod Facts
 mod Families
 mod LedgerLaws
 mod NameLaws
+mod OneText
 mod Quiet
 mod ReaderLaws
 mod ReadingLaws

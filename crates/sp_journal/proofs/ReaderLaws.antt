@@ -18,6 +18,7 @@ use Rattle.sp_journal.proofs.Facts.{old_or_new}
 use Rattle.sp_journal.proofs.SplitLaws.{Within, without_low, first_at}
 use Rattle.sp_journal.proofs.TextLaws.{name_within, family_within, channel_within, child_split, parts_first, parts_second, none_parts}
 use Rattle.sp_journal.proofs.BirthLaws.{Lawful, Born, lawful}
+use Rattle.sp_journal.proofs.OneText.{split_entry}
 
 pub ascii_within : (lo hi : ℕ) (xs : List ℕ) → hi < 128 → Within lo hi xs → IsAscii xs
 ascii_within lo hi [] l w i = omega arith
@@ -79,10 +80,7 @@ module _ (r : Reader) (reader : IsReader r) where
   channel_small c l = channel_within (channel (known r) c) (laws.small_names ((known r).opening c).owner (laws.owned c l)) (laws.small_nth c l)
 
   pub entry_split : (e : Entry) → CanFollow (known r) e → first_split 32 (entry_text (known r) e) ≡ Some (name_text (proc_name ((known r).name e.process)), event_text (known r) e.event)
-  entry_split e h =
-      let n : List ℕ = name_text (proc_name ((known r).name e.process)) in
-      ap (first_split 32) (append_assoc n (32 ∷ []) (event_text (known r) e.event))
-      ∙ first_at 32 n (event_text (known r) e.event) (without_low 32 46 57 n (omega arith) (name_within ((known r).name e.process) (laws.small_names e.process h.0)))
+  entry_split e h = split_entry (known r) laws e h
 
 -- what an event's text is made of
 abbrev pub Told : Births → Event → Option (List ℕ × List ℕ) → Type 0

@@ -1,6 +1,6 @@
 //! A journal with the tables of the names that its entries give.
 
-ghost use Rattle.std.specs.Prelude.{◌≡◌, ◌++◌, ◌∷◌, [], ◌<◌, ◌≤◌, ◌^◌, ◌↔◌, IsTrue, IfOk, OnOk};
+ghost use Rattle.std.specs.Prelude.{◌≡◌, ◌++◌, ◌∷◌, [], ◌<◌, ◌≤◌, ◌^◌, ◌↔◌, IsTrue, IfOk, OnErr, OnOk};
 ghost use Rattle.sp_journal.specs.Births.{births, channel, CanFollow, IsNameable};
 ghost use Rattle.sp_journal.specs.Names.{proc_name, chan_name};
 ghost use Rattle.sp_journal.specs.Ledger.{IsLedger};
@@ -71,8 +71,8 @@ impl Ledger {
         Ok(ledger)
     }
 
-    /// The journal as far as it has grown.
-    pub(crate) fn into_journal(self) -> Journal
+    /// The journal as far as it has grown, without the tables.
+    pub fn into_journal(self) -> Journal
         ensures { result ≡ self.journal }
     {
         let Ledger { journal, .. } = self;
@@ -130,12 +130,13 @@ impl Ledger {
         }
     }
 
-    /// Takes the next entry in. After `Memory` the ledger is of no more use.
+    /// Takes the next entry in. Where memory is refused it is the ledger of the same journal as before.
     pub fn add(&mut self, entry: Entry) -> Result<(), Memory>
         requires ledger { IsLedger self.old }
         requires next { CanFollow (births self.old.journal.entries) entry }
-        ensures ledger { OnOk result (IsLedger self.new) }
+        ensures ledger { IsLedger self.new }
         ensures added { OnOk result (self.new.journal.entries ≡ self.old.journal.entries ++ entry ∷ []) }
+        ensures kept { OnErr result (self.new.journal ≡ self.old.journal) }
     {
         match entry.event {
             Event::Fork(count) => self.add_fork(entry.process, count),
@@ -155,48 +156,66 @@ impl Ledger {
     fn add_fork(&mut self, process: u32, count: u32) -> Result<(), Memory>
         requires ledger { IsLedger self.old }
         requires next { CanFollow (births self.old.journal.entries) (record { process = process; event = Event.Fork count }) }
-        ensures ledger { OnOk result (IsLedger self.new) }
+        ensures ledger { IsLedger self.new }
         ensures added { OnOk result (self.new.journal.entries ≡ self.old.journal.entries ++ record { process = process; event = Event.Fork count } ∷ []) }
+        ensures kept { OnErr result (self.new.journal ≡ self.old.journal) }
     {
         let made = self.made(process);
-        self.families.push(Family {
+        let family = Family {
             first: self.processes,
             parent: process,
             fork: made.forks as u32,
-        })?;
+        };
         let made = Made {
             forks: made.forks + 1,
             opens: made.opens,
         };
-        self.made.insert(process, made)?;
-        self.processes += u64::from(count);
         self.journal.entries.push(Entry {
             process,
             event: Event::Fork(count),
         })?;
+        if self.families.push(family).is_err() {
+            self.journal.entries.pop();
+            return Err(Memory);
+        }
+        if self.made.insert(process, made).is_err() {
+            self.families.pop();
+            self.journal.entries.pop();
+            return Err(Memory);
+        }
+        self.processes += u64::from(count);
         Ok(())
     }
 
     fn add_open(&mut self, process: u32) -> Result<(), Memory>
         requires ledger { IsLedger self.old }
         requires next { CanFollow (births self.old.journal.entries) (record { process = process; event = Event.Open }) }
-        ensures ledger { OnOk result (IsLedger self.new) }
+        ensures ledger { IsLedger self.new }
         ensures added { OnOk result (self.new.journal.entries ≡ self.old.journal.entries ++ record { process = process; event = Event.Open } ∷ []) }
+        ensures kept { OnErr result (self.new.journal ≡ self.old.journal) }
     {
         let made = self.made(process);
-        self.openings.push(Opening {
+        let opening = Opening {
             owner: process,
             nth: made.opens as u32,
-        })?;
+        };
         let made = Made {
             forks: made.forks,
             opens: made.opens + 1,
         };
-        self.made.insert(process, made)?;
         self.journal.entries.push(Entry {
             process,
             event: Event::Open,
         })?;
+        if self.openings.push(opening).is_err() {
+            self.journal.entries.pop();
+            return Err(Memory);
+        }
+        if self.made.insert(process, made).is_err() {
+            self.openings.pop();
+            self.journal.entries.pop();
+            return Err(Memory);
+        }
         Ok(())
     }
 

@@ -3,17 +3,17 @@
 
 mod entry;
 mod journal;
+mod law;
 mod ledger;
 mod outcome;
 mod print;
 mod read;
 mod reader;
 mod split;
-#[cfg(test)]
-mod tests;
 mod version;
 
 pub use entry::{Birth, Entry, Event, Journal, Note, Opening, Way};
+pub use law::one_journal_of_a_text;
 pub use ledger::Ledger;
 pub use outcome::{End, Verdict, Waiter};
 pub use print::print_journal;

@@ -1,6 +1,6 @@
 //! The text of a journal.
 
-ghost use Rattle.std.specs.Prelude.{◌≡◌, ◌++◌, ◌<◌, IfOk, OnOk, codes, decimal};
+ghost use Rattle.std.specs.Prelude.{◌≡◌, ◌++◌, ◌<◌, IfOk, OnErr, OnOk, codes, decimal, length, take};
 ghost use Rattle.sp_journal.specs.Births.{births, CanFollow, GivesNumbers, IsNameable};
 ghost use Rattle.sp_journal.specs.Texts.{entry_text, event_text, offer_text, way_text, journal_text};
 ghost use Rattle.sp_journal.specs.Ledger.{IsLedger};
@@ -8,8 +8,7 @@ ghost use Rattle.sp_journal.specs.declared.version.Version.TheVariants as versio
 
 use crate::entry::{Entry, Event, Journal, Way};
 use crate::ledger::Ledger;
-use itoa::Buffer;
-use sp_base::Memory;
+use sp_base::{Memory, put_decimal};
 use std::alloc::Global;
 
 impl Way {
@@ -25,12 +24,27 @@ impl Way {
 }
 
 impl Ledger {
-    /// Puts the text of an entry that can come next last into `out`, without a line feed. Where memory is refused a
-    /// part of it may stand there.
+    /// Puts the text of an entry that can come next last into `out`, without a line feed. Where memory is refused
+    /// `out` is as before.
     pub fn put_entry(&self, out: &mut Vec<u8>, entry: Entry) -> Result<(), Memory>
         requires ledger { IsLedger self.now }
         requires next { CanFollow (births self.now.journal.entries) entry }
-        ensures { OnOk result (out.new.items ≡ out.old.items ++ entry_text (births self.now.journal.entries) entry) }
+        ensures ok { OnOk result (out.new.items ≡ out.old.items ++ entry_text (births self.now.journal.entries) entry) }
+        ensures err { OnErr result (out.new.items ≡ out.old.items) }
+    {
+        let before = out.len();
+        let done = self.put_parts(out, entry);
+        if done.is_err() {
+            out.truncate(before);
+        }
+        done
+    }
+
+    fn put_parts(&self, out: &mut Vec<u8>, entry: Entry) -> Result<(), Memory>
+        requires ledger { IsLedger self.now }
+        requires next { CanFollow (births self.now.journal.entries) entry }
+        ensures ok { OnOk result (out.new.items ≡ out.old.items ++ entry_text (births self.now.journal.entries) entry) }
+        ensures kept { take (length out.old.items) out.new.items ≡ out.old.items }
     {
         let name = self.name(entry.process)?;
         name.put(out)?;
@@ -41,13 +55,13 @@ impl Ledger {
     fn put_event(&self, out: &mut Vec<u8>, entry: Entry) -> Result<(), Memory>
         requires ledger { IsLedger self.now }
         requires next { CanFollow (births self.now.journal.entries) entry }
-        ensures { OnOk result (out.new.items ≡ out.old.items ++ event_text (births self.now.journal.entries) entry.event) }
+        ensures ok { OnOk result (out.new.items ≡ out.old.items ++ event_text (births self.now.journal.entries) entry.event) }
+        ensures kept { take (length out.old.items) out.new.items ≡ out.old.items }
     {
         match entry.event {
             Event::Fork(count) => {
-                let mut buffer = Buffer::new();
                 out.extend_from_slice(b"fork ")?;
-                out.extend_from_slice(buffer.format(count).as_bytes())?;
+                put_decimal(out, u64::from(count))?;
             }
             Event::Open => out.extend_from_slice(b"open")?,
             Event::Send(channel) => self.put_offer(out, Way::Send, channel)?,
@@ -66,7 +80,8 @@ impl Ledger {
     fn put_offer(&self, out: &mut Vec<u8>, way: Way, number: u32) -> Result<(), Memory>
         requires ledger { IsLedger self.now }
         requires there { number < (births self.now.journal.entries).channels }
-        ensures { OnOk result (out.new.items ≡ out.old.items ++ offer_text (births self.now.journal.entries) way number) }
+        ensures ok { OnOk result (out.new.items ≡ out.old.items ++ offer_text (births self.now.journal.entries) way number) }
+        ensures kept { take (length out.old.items) out.new.items ≡ out.old.items }
     {
         let channel = self.channel(number)?;
         out.extend_from_slice(way.word().as_bytes())?;

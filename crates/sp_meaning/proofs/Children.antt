@@ -93,7 +93,7 @@ module _ (p : Program) (fs : List Frame) (q : Name) (ix : Option (ℕ × ℤ)) w
   index_touches (Spreads y s) x l t = t
   index_touches Stops x l t = t
 
-  index_linked : Linked fs → Linked (with_index q ix fs)
+  pub index_linked : Linked fs → Linked (with_index q ix fs)
   index_linked l = go ix
     where
       go : (iy : Option (ℕ × ℤ)) → Linked (with_index q iy fs)
@@ -113,7 +113,7 @@ module _ (p : Program) (W R V T : Loc → Type 0) (fs : List Frame) (q : Name) (
   may bs (Spreads y e) r x l t = tt
   may bs Stops r x l t = tt
 
-  child_sound : Sound p V T inner (In_stmt s)
+  pub child_sound : Sound p V T inner (In_stmt s)
   child_sound = record {
     allowed = λ bs u r x l t. may bs u r x l (index_touches p fs q ix u x l t);
     apart = λ bs cs u v r k x y l n a b. so.apart bs cs u v r k x y l n (index_touches p fs q ix u x l a) (index_touches p fs q ix v y l b);

@@ -34,7 +34,7 @@ Result F Lost = Unit {0}
 Result F Long = Unit {0}
 
 module _ {A B : Type 0} (W R : Loc → Type 0) (F : A → Own → Type 0) (g : Came A → B) where
-  result_within : (t : Asking Loc Held (Came A)) (m : Loc → Held) → Within W R F t → Result F (answer same_loc t m).0
+  pub result_within : (t : Asking Loc Held (Came A)) (m : Loc → Held) → Within W R F t → Result F (answer same_loc t m).0
   result_within (Done (Got a o)) m h = h
   result_within (Done (Bad f)) m h = tt
   result_within (Done Lost) m h = tt
@@ -42,14 +42,14 @@ module _ {A B : Type 0} (W R : Loc → Type 0) (F : A → Own → Type 0) (g : C
   result_within (Reads l more) m h = result_within (more (m l)) m (h.1 (m l))
   result_within (Puts l v more) m h = result_within more (at_key same_loc l v m) h.1
 
-  asked : ((l : Loc) → W l → R l) → (t : Asking Loc Held (Came A)) (m : Loc → Held) → Within W R F t → (l : Loc) → Asks same_loc (and_then t (λ r. Done (g r))) m l → R l
+  pub asked : ((l : Loc) → W l → R l) → (t : Asking Loc Held (Came A)) (m : Loc → Held) → Within W R F t → (l : Loc) → Asks same_loc (and_then t (λ r. Done (g r))) m l → R l
   asked i (Done a) m h l k = absurd k
   asked i (Reads j more) m h l (inl e) = subst R e h.0
   asked i (Reads j more) m h l (inr k) = asked i (more (m j)) m (h.1 (m j)) l k
   asked i (Puts j v more) m h l (inl e) = subst R e (i j h.0)
   asked i (Puts j v more) m h l (inr k) = asked i more (at_key same_loc j v m) h.1 l k
 
-  written : (t : Asking Loc Held (Came A)) (m : Loc → Held) → Within W R F t → (l : Loc) → IsAmong (put_by same_loc (and_then t (λ r. Done (g r))) m) l → W l
+  pub written : (t : Asking Loc Held (Came A)) (m : Loc → Held) → Within W R F t → (l : Loc) → IsAmong (put_by same_loc (and_then t (λ r. Done (g r))) m) l → W l
   written (Done a) m h l k = absurd k
   written (Reads j more) m h l k = written (more (m j)) m (h.1 (m j)) l k
   written (Puts j v more) m h l (inl e) = subst W e h.0
@@ -86,14 +86,14 @@ module _ (p : Program) where
   IsKnown f [] = Unit {0}
   IsKnown f (a ∷ q) = a.0 < f q
 
-  known_if : (W R : Name → Loc → Type 0) (c : Name → Condition Process Held Address) (f : Name → ℕ) → Inv W R c f → (q : Name) → (c q ≡ Absent → ⊥) → IsKnown f q
+  pub known_if : (W R : Name → Loc → Type 0) (c : Name → Condition Process Held Address) (f : Name → ℕ) → Inv W R c f → (q : Name) → (c q ≡ Absent → ⊥) → IsKnown f q
   known_if W R c f i [] h = tt
   known_if W R c f i (a ∷ q) h = ⊎_elim (λ (lt : a.0 < f q). lt) (λ (le : f q ≤ a.0). absurd (h (i.unborn q a.0 a.1 le))) (either_lt a.0 (f q))
 
-  known_is : (f : Name → ℕ) (q r : Name) (k i : ℕ) → IsKnown f q → q ≡ (k, i) ∷ r → f r ≤ k → ⊥
+  pub known_is : (f : Name → ℕ) (q r : Name) (k i : ℕ) → IsKnown f q → q ≡ (k, i) ∷ r → f r ≤ k → ⊥
   known_is f q r k i h e le = let x : IsKnown f ((k, i) ∷ r) = subst (λ z. IsKnown f z) e h in absurd (omega (arith, x, le))
 
-  becomes : (W R : Name → Loc → Type 0) (c : Name → Condition Process Held Address) (f : Name → ℕ) (q : Name) (x : Condition Process Held Address) → Inv W R c f → IsKnown f q → Holds W R f q x → Inv W R (at_key same_name q x c) f
+  pub becomes : (W R : Name → Loc → Type 0) (c : Name → Condition Process Held Address) (f : Name → ℕ) (q : Name) (x : Condition Process Held Address) → Inv W R c f → IsKnown f q → Holds W R f q x → Inv W R (at_key same_name q x c) f
   becomes W R c f q x i known h = record { holds = λ r. one r (same_name q r) refl; unborn = λ r k n le. none r k n le (same_name q ((k, n) ∷ r)) refl; fair = i.fair; unknown = i.unknown }
     where
       one : (r : Name) (b : Bool) → same_name q r ≡ b → Holds W R f r (cond b x (c r))
@@ -113,10 +113,10 @@ module _ (p : Program) where
     more_right (Spreads x s) l h = tt
     more_right Stops l h = tt
 
-    more_sound : (fs : List Frame) {Here : Use → Type 0} → Sound p W R fs Here → Sound p V T fs Here
+    pub more_sound : (fs : List Frame) {Here : Use → Type 0} → Sound p W R fs Here → Sound p V T fs Here
     more_sound fs so = record { allowed = λ bs u d x l t. more_right u l (so.allowed bs u d x l t); apart = so.apart; kept = so.kept }
 
-    more_ready : (fs : List Frame) (todo : List Item) → Ready p W R fs todo → Ready p V T fs todo
+    pub more_ready : (fs : List Frame) (todo : List Item) → Ready p W R fs todo → Ready p V T fs todo
     more_ready fs [] h = tt
     more_ready fs (Do s ∷ todo) h = (more_sound fs h.0, more_ready fs todo h.1)
     more_ready fs (First x m n down s ∷ todo) h = (more_sound fs h.0, more_ready fs todo h.1)
@@ -125,7 +125,7 @@ module _ (p : Program) where
     more_ready fs (Leave ∷ todo) h = more_ready (below fs) todo h
     more_ready fs (Break f ∷ todo) h = more_ready fs todo h
 
-    more_fit : (z fs : List Frame) (todo : List Item) → Fit p W R z fs todo → Fit p V T z fs todo
+    pub more_fit : (z fs : List Frame) (todo : List Item) → Fit p W R z fs todo → Fit p V T z fs todo
     more_fit z fs todo f = record { linked = f.linked; ready = more_ready fs todo f.ready; ends = f.ends }
 
     more_take : (g : Cargo Held Address) → MayTake p W R g → MayTake p V T g
@@ -265,11 +265,11 @@ module _ (p : Program) where
 none_some : {A : Type 0} {a : A} → None ≡ Some a → ⊥
 none_some e = absurd (cc e)
 
-puts_condition : (L : Language) (ws : List (L.Loc × L.Value)) (s : State L) → (after (puts {L = L} ws) s).condition ≡ s.condition
+pub puts_condition : (L : Language) (ws : List (L.Loc × L.Value)) (s : State L) → (after (puts {L = L} ws) s).condition ≡ s.condition
 puts_condition L [] s = refl
 puts_condition L (w ∷ ws) s = puts_condition L ws (changed (Writes w.0 w.1) s)
 
-puts_forks : (L : Language) (ws : List (L.Loc × L.Value)) (s : State L) → (after (puts {L = L} ws) s).forks ≡ s.forks
+pub puts_forks : (L : Language) (ws : List (L.Loc × L.Value)) (s : State L) → (after (puts {L = L} ws) s).forks ≡ s.forks
 puts_forks L [] s = refl
 puts_forks L (w ∷ ws) s = puts_forks L ws (changed (Writes w.0 w.1) s)
 
@@ -277,21 +277,21 @@ module _ (set : Setting) (totals : Totals) (free : IsFreeOfInterference set.prog
   abbrev L : Language
   L = superpascal set
 
-  born_condition : (q : Name) (k i : ℕ) (os : List Process) (s : State L) → (after (births {L = L} q k i os) s).condition ≡ after_births set.program q k i os s.condition
+  pub born_condition : (q : Name) (k i : ℕ) (os : List Process) (s : State L) → (after (births {L = L} q k i os) s).condition ≡ after_births set.program q k i os s.condition
   born_condition q k i [] s = refl
   born_condition q k i (o ∷ os) s = born_condition q k (suc i) os (changed {L = L} (Becomes ((k, i) ∷ q) (Works o)) s)
 
-  born_forks : (q : Name) (k i : ℕ) (os : List Process) (s : State L) → (after (births {L = L} q k i os) s).forks ≡ s.forks
+  pub born_forks : (q : Name) (k i : ℕ) (os : List Process) (s : State L) → (after (births {L = L} q k i os) s).forks ≡ s.forks
   born_forks q k i [] s = refl
   born_forks q k i (o ∷ os) s = born_forks q k (suc i) os (changed {L = L} (Becomes ((k, i) ∷ q) (Works o)) s)
 
   -- the invariant after a step, with more rights
-  record Next (W R : Name → Loc → Type 0) (m : State L) : Type 1 where
-    W' : Name → Loc → Type 0
-    R' : Name → Loc → Type 0
-    inv : Inv set.program W' R' m.condition m.forks
-    grow_w : (q : Name) (l : Loc) → All W q l → All W' q l
-    grow_r : (q : Name) (l : Loc) → All R q l → All R' q l
+  pub record Next (W R : Name → Loc → Type 0) (m : State L) : Type 1 where
+    pub W' : Name → Loc → Type 0
+    pub R' : Name → Loc → Type 0
+    pub inv : Inv set.program W' R' m.condition m.forks
+    pub grow_w : (q : Name) (l : Loc) → All W q l → All W' q l
+    pub grow_r : (q : Name) (l : Loc) → All R q l → All R' q l
 
   module _ (W R : Name → Loc → Type 0) (s : State L) (inv : Inv set.program W R s.condition s.forks) (q : Name) (pr : Process) (k : Keeps_to set.program W R s.forks q pr) (known : IsKnown set.program s.forks q) where
     as_it_is : (m : State L) → Inv set.program W R m.condition m.forks → Next W R m
@@ -384,13 +384,13 @@ module _ (set : Setting) (totals : Totals) (free : IsFreeOfInterference set.prog
     abbrev writes : List (Loc × Held)
     writes = put_by same_loc (asks set pr) s.store
 
-    next_act : L.next pr s.store ≡ act_of pr.who came writes
+    pub next_act : L.next pr s.store ≡ act_of pr.who came writes
     next_act = ap (λ (x : (List (Loc × Held) → ActOf L) × (Loc → Held)). x.0 writes) (answer_then loc_test (deed_of set pr) (λ r. Done (act_of pr.who r)) s.store)
 
     abbrev good : Result (λ d o. Fair set.program (All W q) (All R q) k.last d o.frames) came
     good = result_within (All W q) (All R q) (λ d o. Fair set.program (All W q) (All R q) k.last d o.frames) (act_of pr.who) (deed_of set pr) s.store within
 
-    step_keeps : Next W R (result_of s q (unless (passed totals s.totals (cost (L.next pr s.store))) (acts s q (L.next pr s.store))))
+    pub step_keeps : Next W R (result_of s q (unless (passed totals s.totals (cost (L.next pr s.store))) (acts s q (L.next pr s.store))))
     step_keeps = subst (λ (a : ActOf L). Next W R (result_of s q (unless (passed totals s.totals (cost a)) (acts s q a)))) (sym next_act)
         (or_fault W R s inv q pr k known (passed totals s.totals (cost (act_of pr.who came writes))) (acts {L = L} s q (act_of pr.who came writes)) (acts_keep W R s inv q pr k known came good writes))
 
@@ -430,16 +430,16 @@ module _ (set : Setting) (totals : Totals) (free : IsFreeOfInterference set.prog
     received who other (Gives v) (Gives w) x e a b n = absurd (cc e)
     received who other (Takes t) (Takes u) x e a b n = absurd (cc e)
 
-    gets_right : (who : Name) (l : Loc) → Receiving s q (L.next pr s.store) who l → All W who l
+    pub gets_right : (who : Name) (l : Loc) → Receiving s q (L.next pr s.store) who l → All W who l
     gets_right who l g = subst (λ z. All W who z) g.goes.there (received who g.goes.other g.offer.cargo g.goes.its.cargo g.goes.passes g.goes.is
         (subst (λ (a : ActOf L). TakesWell q a) (sym next_act ∙ g.is) (takes_well came writes good))
         (subst (λ (c : ConditionOf L). Holds set.program W R s.forks g.goes.other c) g.goes.waits (inv.holds g.goes.other)).1 g.who_is)
 
-    writes_right : (who : Name) (l : Loc) → WritesIn s q pr who l → All W who l
+    pub writes_right : (who : Name) (l : Loc) → WritesIn s q pr who l → All W who l
     writes_right who l (inl h) = subst (λ z. All W z l) (sym h.0) (written (All W q) (All R q) (λ d o. Fair set.program (All W q) (All R q) k.last d o.frames) (act_of pr.who) (deed_of set pr) s.store within l (assigned came writes l (subst (λ (a : ActOf L). Assigns a l) next_act h.1)))
     writes_right who l (inr g) = gets_right who l g
 
-    accesses_right : (who : Name) (l : Loc) → AccessesIn s q pr who l → All R who l
+    pub accesses_right : (who : Name) (l : Loc) → AccessesIn s q pr who l → All R who l
     accesses_right who l (inl h) = subst (λ z. All R z l) (sym h.0) (asked (All W q) (All R q) (λ d o. Fair set.program (All W q) (All R q) k.last d o.frames) (act_of pr.who) reads_all (deed_of set pr) s.store within l h.1)
     accesses_right who l (inr h) = all_read who l (writes_right who l h)
       where
@@ -448,7 +448,7 @@ module _ (set : Setting) (totals : Totals) (free : IsFreeOfInterference set.prog
         all_read who l (inr h) = inr (inv.fair.reads who l h)
 
   -- who can step keeps to its rights
-  works_well : (W R : Name → Loc → Type 0) (s : State L) → Inv set.program W R s.condition s.forks → (q : Name) (pr : Process) → working_in s.condition q (s.condition q) ≡ Some pr → Keeps_to set.program W R s.forks q pr × IsKnown set.program s.forks q
+  pub works_well : (W R : Name → Loc → Type 0) (s : State L) → Inv set.program W R s.condition s.forks → (q : Name) (pr : Process) → working_in s.condition q (s.condition q) ≡ Some pr → Keeps_to set.program W R s.forks q pr × IsKnown set.program s.forks q
   works_well W R s inv q pr e = go (s.condition q) refl e
     where
       known : (c : ConditionOf L) → s.condition q ≡ c → (c ≡ Absent → ⊥) → IsKnown set.program s.forks q
@@ -470,8 +470,8 @@ module _ (set : Setting) (totals : Totals) (free : IsFreeOfInterference set.prog
 
   -- rights that hold along a whole schedule
   record Tracked (W R : Name → Loc → Type 0) (s : State L) (ps : List Name) : Type 1 where
-    W' : Name → Loc → Type 0
-    R' : Name → Loc → Type 0
+    pub W' : Name → Loc → Type 0
+    pub R' : Name → Loc → Type 0
     fair : Fair_rights W' R'
     grow_w : (q : Name) (l : Loc) → All W q l → All W' q l
     grow_r : (q : Name) (l : Loc) → All R q l → All R' q l

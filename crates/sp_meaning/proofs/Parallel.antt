@@ -29,11 +29,11 @@ pub record Last (r : Name) : Type 0 where
   pub last : ℕ × ℕ
   pub is : r ≡ front ++ last ∷ []
 
-last_of : (x : ℕ × ℕ) (r : Name) → Last (x ∷ r)
+pub last_of : (x : ℕ × ℕ) (r : Name) → Last (x ∷ r)
 last_of x [] = record { front = []; last = x; is = refl }
 last_of x (y ∷ r) = let l = last_of y r in record { front = x ∷ l.front; last = l.last; is = ap (λ z. x ∷ z) l.is }
 
-moved : (u : Name) (x : ℕ × ℕ) (z : Name) → (u ++ x ∷ []) ++ z ≡ u ++ x ∷ z
+pub moved : (u : Name) (x : ℕ × ℕ) (z : Name) → (u ++ x ∷ []) ++ z ≡ u ++ x ∷ z
 moved u x z = append_assoc u (x ∷ []) z
 
 same_pair : (x y : ℕ × ℕ) → (x ≡ y) ⊎ (x ≢ y)
@@ -45,7 +45,7 @@ same_pair x y = ⊎_elim
     head : (x y : ℕ × ℕ) → (x ∷ []) ≡ (y ∷ []) → x ≡ y
     head x y e = cc
 
-parts : (a b : Name) → Below a b ⊎ (Below b a ⊎ Parts a b)
+pub parts : (a b : Name) → Below a b ⊎ (Below b a ⊎ Parts a b)
 parts [] b = inr (inl (record { rest = b; is = sym (append-nil b) }))
 parts (x ∷ a) b = ⊎_elim
     (λ (h : Below a b). inl (record { rest = x ∷ h.rest; is = ap (λ z. x ∷ z) h.is }))
@@ -63,14 +63,14 @@ parts (x ∷ a) b = ⊎_elim
         (λ (apart : x ≢ l.last). inr (inr (record { common = a; x = x; y = l.last; apart = apart; after_x = []; after_y = l.front; a_is = refl; b_is = b_is })))
         (same_pair x l.last)
 
-joins_lives : {O V T : Type 0} (k i : ℕ) (c : Condition O V T) → JoinsAt k i c → Lives c
+pub joins_lives : {O V T : Type 0} (k i : ℕ) (c : Condition O V T) → JoinsAt k i c → Lives c
 joins_lives k i Absent h = h
 joins_lives k i (Works o) h = tt
 joins_lives k i (Waits w) h = tt
 joins_lives k i (Joins m n o) h = tt
 joins_lives k i Ended h = h
 
-one_fork : {O V T : Type 0} (k i m j : ℕ) (c : Condition O V T) → JoinsAt k i c → JoinsAt m j c → k ≡ m
+pub one_fork : {O V T : Type 0} (k i m j : ℕ) (c : Condition O V T) → JoinsAt k i c → JoinsAt m j c → k ≡ m
 one_fork k i m j Absent h g = absurd h
 one_fork k i m j (Works o) h g = absurd h
 one_fork k i m j (Waits w) h g = absurd h
@@ -89,12 +89,12 @@ IsAlone {L} s p = ((own : L.Own) × (working s p ≡ Some own)) ⊎ ((c : Channe
 pub alone_lives : {L : Language} (s : State L) (p : Name) → IsAlone s p → Lives (s.condition p)
 alone_lives s p h = ⊎_elim (λ w. working_lives s.condition p (s.condition p) w.0 w.1) (λ w. waits_lives w.0 (s.condition p) w.1) h
 
-alone_childless : {L : Language} (s : State L) (p : Name) (k i : ℕ) → IsAlone s p → Lives (s.condition ((k, i) ∷ p)) → JoinsAt k i (s.condition p) → ⊥
+pub alone_childless : {L : Language} (s : State L) (p : Name) (k i : ℕ) → IsAlone s p → Lives (s.condition ((k, i) ∷ p)) → JoinsAt k i (s.condition p) → ⊥
 alone_childless s p k i h l j = ⊎_elim
     (λ w. lives_ended (s.condition ((k, i) ∷ p)) l (working_joins s.condition p (s.condition p) w.0 k i w.1 j))
     (λ w. waits_joins w.0 k i (s.condition p) w.1 j) h
 
-not_above : {L : Language} (s : State L) (a b : Name) → Sound s → IsAlone s b → Lives (s.condition a) → a ≢ b → Below a b → ⊥
+pub not_above : {L : Language} (s : State L) (a b : Name) → Sound s → IsAlone s b → Lives (s.condition a) → a ≢ b → Below a b → ⊥
 not_above {L} s a b sound alone lives apart h = over h.rest h.is
   where
     over : (r : Name) → a ≡ r ++ b → ⊥

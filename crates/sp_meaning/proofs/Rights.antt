@@ -28,39 +28,39 @@ pub record Fair_rights (W R : Name → Loc → Type 0) : Type 0 where
   pub apart : (q : Name) (k i j : ℕ) (l : Loc) → i ≢ j → W ((k, i) ∷ q) l → R ((k, j) ∷ q) l → ⊥
 
 -- the owner is this process or one below it
-abbrev IsBelow : Name → Loc → Type 0
+abbrev pub IsBelow : Name → Loc → Type 0
 IsBelow q (Cell r n x) = (more : Name) × (r ≡ more ++ q)
 IsBelow q Input = ⊥
 IsBelow q Output = ⊥
 
-mine_below : (more q : Name) (l : Loc) → Mine (more ++ q) l → IsBelow q l
+pub mine_below : (more q : Name) (l : Loc) → Mine (more ++ q) l → IsBelow q l
 mine_below more q (Cell r n x) e = (more, e)
 mine_below more q Input e = absurd e
 mine_below more q Output e = absurd e
 
-came_down : (V : Name → Loc → Type 0) → ((q : Name) (k i : ℕ) (l : Loc) → V ((k, i) ∷ q) l → All V q l) → (more q : Name) (l : Loc) → All V (more ++ q) l → IsBelow q l ⊎ V q l
+pub came_down : (V : Name → Loc → Type 0) → ((q : Name) (k i : ℕ) (l : Loc) → V ((k, i) ∷ q) l → All V q l) → (more q : Name) (l : Loc) → All V (more ++ q) l → IsBelow q l ⊎ V q l
 came_down V less [] q l (inl m) = inl (mine_below [] q l m)
 came_down V less [] q l (inr v) = inr v
 came_down V less (a ∷ more) q l (inl m) = inl (mine_below (a ∷ more) q l m)
 came_down V less (a ∷ more) q l (inr v) = came_down V less more q l (less (more ++ q) a.0 a.1 l v)
 
-not_both : (q r : Name) (l : Loc) → length q ≡ length r → IsBelow q l → IsAbove r l → ⊥
+pub not_both : (q r : Name) (l : Loc) → length q ≡ length r → IsBelow q l → IsAbove r l → ⊥
 not_both q r (Cell o n x) e b a = let h = ap length b.1 ∙ length-append b.0 q in absurd (omega (arith, h, a, e))
 not_both q r Input e b a = b
 not_both q r Output e b a = b
 
-drop_front : {A : Type 0} (xs ys : List A) → drop (length xs) (xs ++ ys) ≡ ys
+pub drop_front : {A : Type 0} (xs ys : List A) → drop (length xs) (xs ++ ys) ≡ ys
 drop_front [] ys = refl
 drop_front (x ∷ xs) ys = drop_front xs ys
 
-same_end : (xs ys u v : Name) → length u ≡ length v → xs ++ u ≡ ys ++ v → u ≡ v
+pub same_end : (xs ys u v : Name) → length u ≡ length v → xs ++ u ≡ ys ++ v → u ≡ v
 same_end xs ys u v e h =
     let lx = length-append xs u in
     let ly = length-append ys v in
     let d : length xs ≡ length ys = omega (arith, lx, ly, e, ap length h) in
     sym (drop_front xs u) ∙ ap (drop (length xs)) h ∙ ap (λ n. drop n (ys ++ v)) d ∙ drop_front ys v
 
-below_both : (z : Name) (k i j : ℕ) (l : Loc) → i ≢ j → IsBelow ((k, i) ∷ z) l → IsBelow ((k, j) ∷ z) l → ⊥
+pub below_both : (z : Name) (k i j : ℕ) (l : Loc) → i ≢ j → IsBelow ((k, i) ∷ z) l → IsBelow ((k, j) ∷ z) l → ⊥
 below_both z k i j (Cell o n x) apart a b =
     let h : (k, i) ∷ z ≡ (k, j) ∷ z = same_end a.0 b.0 ((k, i) ∷ z) ((k, j) ∷ z) refl (sym a.1 ∙ b.1) in
     apart (ap second h)

@@ -1,6 +1,6 @@
 -- Worked programs in one schedule or another, by computing. std's decimal digits do not compute here, so numbers are written as chars.
 use Rattle.std.proofs.Common.{◌≡◌, ℕ, List, [], ◌∷◌, Some, None, refl}
-use Rattle.std.specs.Prelude.{negsuc}
+use Rattle.std.specs.Prelude.{negsuc, pos}
 use Rattle.sp_base.specs.declared.fault.Fault.TheVariants as fault
 use Rattle.sp_journal.specs.declared.entry.Way.TheVariants as way
 use Rattle.sp_tree.specs.declared.checked.KindOf.TheVariants as kind
@@ -67,6 +67,14 @@ product_over = refl
 
 product_early : prints product (root ∷ root ∷ []) ≡ 42 ∷ []
 product_early = refl
+
+-- a constant above 255, which no accepted program has, is written modulo 256
+modulo_256 : prints (with_body (WriteValue (Typed 2 (Number (pos 298))) None ∷ [])) (root ∷ root ∷ []) ≡ 42 ∷ []
+modulo_256 = refl
+
+-- with no room for processes, an `open` still counts its channel alone
+opens_alone : fault_of (record (with_body (opens ∷ [])) { limits = record ample { processes = 0 } }) (root ∷ root ∷ []) ≡ None
+opens_alone = refl
 
 -- open(c); parallel begin receive(c, x); receive(c, y) end | send(c, 1) | send(c, 2) end; write(x, y)
 abbrev raced : Setting

@@ -20,7 +20,7 @@ use Rattle.sp_meaning.proofs.Rights.{All, IsAbove, Fair_rights}
 use Rattle.sp_meaning.proofs.Owned.{Holds, Inv, disjoint_from}
 
 -- the root may use the input and the output
-abbrev First : Name → Loc → Type 0
+abbrev pub First : Name → Loc → Type 0
 First [] (Cell r n x) = ⊥
 First [] Input = Unit {0}
 First [] Output = Unit {0}
@@ -36,7 +36,7 @@ first_fair : Fair_rights First First
 first_fair = record { reads = λ q l h. h; above = first_above; less_write = λ q k i l h. absurd h; less_read = λ q k i l h. absurd h; apart = λ q k i j l n h g. h }
 
 module _ (set : Setting) (free : IsFreeOfInterference set.program) where
-  abbrev bottom : Frame
+  abbrev pub bottom : Frame
   bottom = record { owner = []; number = 0; home = OfBlock 0; link = 0; references = [] }
 
   -- what a variable of the program stands for
@@ -103,7 +103,7 @@ module _ (set : Setting) (free : IsFreeOfInterference set.program) where
   touched (Spreads y s) x l t = absurd t
   touched Stops x l t = absurd t
 
-  body_sound : (b : Block) → slice_get set.program.blocks 0 ≡ Some b → Sound set.program (All First []) (All First []) (bottom ∷ []) (In_stmt b.body)
+  pub body_sound : (b : Block) → slice_get set.program.blocks 0 ≡ Some b → Sound set.program (All First []) (All First []) (bottom ∷ []) (In_stmt b.body)
   body_sound b e = record {
     allowed = λ bs u r x l t. (touched u x l t).0;
     apart = λ bs cs u v r k x y l n t z. differ x y l n (touched u x l t).1 (touched v y l z).1;

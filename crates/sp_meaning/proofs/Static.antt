@@ -58,7 +58,7 @@ lower fits n (g ∷ fs) f l e = go (λ m x. lower fits m fs f l.3 x) (length (g 
     go ih true e = inner ih (fits g.home) e
     go ih false e = omega (arith, ih n e)
 
-home_is : (c : ℕ) (h : Home) → is_block c h ≡ true → h ≡ OfBlock c
+pub home_is : (c : ℕ) (h : Home) → is_block c h ≡ true → h ≡ OfBlock c
 home_is c (OfBlock b) e = ap OfBlock (sym (eqb-true c b e))
 home_is c (OfIndex x n) e = absurd (cc e)
 

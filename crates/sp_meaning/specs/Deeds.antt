@@ -1,5 +1,5 @@
 -- Statements in steps: what a process does first, and what is left to do.
-use Rattle.std.specs.Prelude.{ℕ, zero, suc, ◌+◌, ◌-◌, ℤ, pos, ◌+ℤ◌, ◌-ℤ◌, nat_abs, int_lt, int_le, List, [], ◌∷◌, ◌++◌, Option, Some, None, Bool, true, false, if◌then◌else◌, nat_lt, length, take, slice_get}
+use Rattle.std.specs.Prelude.{ℕ, zero, suc, ◌+◌, ◌-◌, ◌%◌, ℤ, pos, ◌+ℤ◌, ◌-ℤ◌, nat_abs, int_lt, int_le, List, [], ◌∷◌, ◌++◌, Option, Some, None, Bool, true, false, if◌then◌else◌, nat_lt, length, take, slice_get}
 use Rattle.std.specs.Fmt.{signed_decimal}
 use Rattle.sp_base.specs.declared.fault.Fault.TheVariants as fault
 use Rattle.sp_tree.specs.declared.checked.KindOf.{KindOf}
@@ -11,8 +11,9 @@ use Rattle.sp_meaning.specs.Model.{Name, Channel, Cargo, Gives, Takes}
 use Rattle.sp_tree.specs.Cells.{variables_of, cells_of_frame}
 use Rattle.sp_meaning.specs.Values.{Value, Undefined, Ordinal, Chan, Parts, initials}
 use Rattle.sp_meaning.specs.Own.{Setting, Cell, Input, Output, Held, Tree, Position, Written, Address, Home, OfBlock, OfIndex, Frame, Own, Who, Item, Do, First, Again, Test, Leave, Break, Process, Work, bind, give, fail, lost, long, mine, who, become, look, put, fetch, assign, or_lost, position_in, bytes_in, reach, is_block, tick, deepen, widen}
+pub use Rattle.sp_meaning.specs.Operators.{is_range, is_before, next_value}
 use Rattle.sp_meaning.specs.Operators.{same_ordinal}
-use Rattle.sp_meaning.specs.Texts.{Taken, Takes as Took, Fails as Stops, number_in, char_in, line_length, padded, truth_text}
+use Rattle.sp_meaning.specs.Texts.{Taken, Takes as Took, Fails as Stops, number_in, char_in, line_length, padded, truth_text, byte}
 use Rattle.sp_meaning.specs.Eval.{Given, ValueOf, PlaceOf, Calls, kind_at, read_at, address_of, place_of, left_of, value, actuals, address, ordinal_of, ordinal, channel}
 
 -- a child that is to be born: what it does, and the index of a forall with its value
@@ -70,17 +71,6 @@ arm_for n (Or (On ms s) rest) = if has n ms then Some s else arm_for n rest
 abbrev pub if_true : {A : Type 0} → ℤ → A → A → A
 if_true n a b = if int_le n (pos 0) then b else a
 
--- for loops, up and down
-
-abbrev pub is_range : Bool → ℤ → ℤ → Bool
-is_range down from to = if down then int_le to from else int_le from to
-
-abbrev pub is_before : Bool → ℤ → ℤ → Bool
-is_before down n limit = if down then int_lt limit n else int_lt n limit
-
-abbrev pub next_value : Bool → ℤ → ℤ
-next_value down n = if down then n -ℤ pos 1 else n +ℤ pos 1
-
 -- a loop goes on where its variable is before the limit, or holds no ordinal (and then the step is F4)
 abbrev pub goes_on : Bool → ℤ → Value → Bool
 goes_on down limit Undefined = true
@@ -114,7 +104,7 @@ in_width cut t (Some m) = if int_le m (pos 0) then fail fault.F1 else give (padd
 abbrev pub shown : KindOf → ℤ → Bool × List ℕ
 shown kind.Integer n = (false, signed_decimal n)
 shown kind.Boolean n = (true, truth_text n)
-shown kind.Char n = (false, nat_abs n ∷ [])
+shown kind.Char n = (false, byte n ∷ [])
 shown (kind.Enumeration m) n = (false, [])
 shown (kind.Array low high index element) n = (false, [])
 shown (kind.Fields fs) n = (false, [])

@@ -4,6 +4,7 @@ use Rattle.sp_base.specs.declared.fault.Fault.{Fault}
 use Rattle.sp_base.specs.declared.fault.Fault.TheVariants as fault
 use Rattle.sp_base.specs.declared.limits.Limits.{Limits}
 use Rattle.sp_tree.specs.Plain.{Expr, Stmt, Program}
+pub use Rattle.sp_tree.specs.Around.{referred}
 use Rattle.sp_meaning.specs.Model.{Name, same_name}
 use Rattle.sp_meaning.specs.Asking.{Asking, Done, Reads, Puts, and_then}
 use Rattle.sp_meaning.specs.Values.{Value, Undefined, get_at, set_at}
@@ -196,11 +197,6 @@ reached (f ∷ fs) = give (length (f ∷ fs))
 -- how long the list is that begins with it
 abbrev pub reach : (Home → Bool) → Work ℕ
 reach fits w o = reached (seek fits (length o.frames) o.frames) w o
-
--- what a variable parameter stands for
-abbrev pub referred : ℕ → List (ℕ × Address) → Option Address
-referred x [] = None
-referred x (r ∷ rs) = if x == r.0 then Some r.1 else referred x rs
 
 -- a tick, or F10
 abbrev pub tick : Limits → Work (Unit {0})

@@ -115,13 +115,17 @@ cost (Offering o) = Some an_entry
 cost Ends = None
 cost (Fails f) = None
 
+-- a total that grows by n would pass its limit; one that does not grow passes none
+abbrev pub is_over : ℕ → ℕ → ℕ → Bool
+is_over limit total n = nat_lt 0 n && nat_lt limit (total + n)
+
 -- the fault of the total that would pass its limit: first F15, then F13, then F14
 abbrev pub passed : Totals → Totals → Option Totals → Option Fault
 passed limits t None = None
 passed limits t (Some n) =
-    if nat_lt limits.entries (t.entries + n.entries) then Some fault.F15
-    else (if nat_lt limits.processes (t.processes + n.processes) then Some fault.F13
-    else (if nat_lt limits.channels (t.channels + n.channels) then Some fault.F14 else None))
+    if is_over limits.entries t.entries n.entries then Some fault.F15
+    else (if is_over limits.processes t.processes n.processes then Some fault.F13
+    else (if is_over limits.channels t.channels n.channels then Some fault.F14 else None))
 
 abbrev pub unless : {L : Language} → Option Fault → Outcome L → Outcome L
 unless None x = x

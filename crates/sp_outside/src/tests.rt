@@ -3,8 +3,23 @@
 use super::*;
 use sp_base::{List, Text};
 use std::alloc::{AllocError, Global};
-use std::fs;
+use std::io::{ErrorKind, Write};
 use std::test::Fail;
+use std::{fs, io};
+
+/// A writer that takes all bytes and fails at each flush.
+#[derive(Drop)]
+struct Unflushed;
+
+impl Write for Unflushed {
+    fn write(&mut self, buf: &[u8]) -> io::Result<usize> {
+        Ok(buf.len())
+    }
+
+    fn flush(&mut self) -> io::Result<()> {
+        Err(io::Error::from(ErrorKind::Other))
+    }
+}
 
 fn text(alloc: Global, bytes: &[u8]) -> Result<Text, AllocError> {
     Ok(Text::of(Vec::from_slice(alloc, bytes)?))
@@ -156,6 +171,15 @@ fn a_stream_that_gets_full(rt: HostRuntime) -> Result<(), Fail> {
     let mut sink = StreamSink::new(room.as_mut_slice());
     put_all(&mut sink, b"42")?;
     assert!(rt; put_all(&mut sink, b"!").is_err());
+    Ok(())
+}
+
+#[test]
+fn a_stream_whose_flush_fails(rt: HostRuntime) -> Result<(), Fail> {
+    let mut sink = StreamSink::new(Unflushed);
+    assert!(rt; sink.put(b"42").is_err());
+    assert_eq!(rt; sink.put(b"")?, 0);
+    assert!(rt; put_all(&mut sink, b"42").is_err());
     Ok(())
 }
 

@@ -8,7 +8,7 @@ ghost use Rattle.sp_parse.specs.Reads.{Fits};
 
 use crate::source::Source;
 use sp_base::Text;
-use sp_tree::{Name, Token};
+use sp_tree::{Name, Token, lower};
 use std::alloc::{AllocError, Global};
 
 /// The bytes of a token.
@@ -17,16 +17,6 @@ fn spelled<'a>(source: &Source<'a>, token: Token) -> &'a [u8]
     ensures { result.now ≡ spelling source.now.text.now token }
 {
     &source.text[token.from as usize..token.to as usize]
-}
-
-fn lower(byte: u8) -> u8
-    ensures { result ≡ lower_of byte }
-{
-    if byte >= b'A' && byte <= b'Z' {
-        byte + 32
-    } else {
-        byte
-    }
 }
 
 fn lowered(alloc: Global, bytes: &[u8]) -> Result<Text, AllocError>

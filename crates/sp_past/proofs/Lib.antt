@@ -1,2 +1,2 @@
-mod Keys
-mod Prefixing
+pub mod Keys
+pub mod Prefixing

@@ -6,15 +6,15 @@ use Rattle.sp_journal.specs.Past.{Judged, learn, teach, report, now, met_now, ju
 use Rattle.sp_past.specs.Prefixes.{is_counted, Counts, WaitsForNone, QuietFrom, IsQuiet, KnowsPrefixes, KnowsCounted}
 use Rattle.sp_past.proofs.Keys.{name_itself, name_is, channel_is, channel_itself}
 
-or_cases : (a b : Bool) → a || b ≡ true → (a ≡ true) ⊎ (b ≡ true)
+pub or_cases : (a b : Bool) → a || b ≡ true → (a ≡ true) ⊎ (b ≡ true)
 or_cases true b h = inl refl
 or_cases false b h = inr h
 
-or_left : (a b : Bool) → a ≡ true → a || b ≡ true
+pub or_left : (a b : Bool) → a ≡ true → a || b ≡ true
 or_left true b h = refl
 or_left false b h = absurd (cc h)
 
-or_right : (a b : Bool) → b ≡ true → a || b ≡ true
+pub or_right : (a b : Bool) → b ≡ true → a || b ≡ true
 or_right true b h = refl
 or_right false b h = h
 
@@ -31,23 +31,23 @@ union_fine es f g a b = record {
 
 -- what holds of the sets before, and of what is told, holds of the sets after
 module _ (P : (ℕ → Bool) → Type 0) (union : (f g : ℕ → Bool) → P f → P g → P (λ i. f i || g i)) (known : ℕ → Bool) (a : P known) where
-  learn_all : (p : Name) (past : Name → ℕ → Bool) → ((q : Name) → P (past q)) → (q : Name) → P (learn p known past q)
+  pub learn_all : (p : Name) (past : Name → ℕ → Bool) → ((q : Name) → P (past q)) → (q : Name) → P (learn p known past q)
   learn_all p past b q = by (same_name p q)
     where
       by : (t : Bool) → P (λ i. cond t (past q i || known i) (past q i))
       by true = union (past q) known (b q) a
       by false = b q
 
-  teach_all : (p : Name) (fork i n : ℕ) (past : Name → ℕ → Bool) → ((q : Name) → P (past q)) → (q : Name) → P (teach p fork known i n past q)
+  pub teach_all : (p : Name) (fork i n : ℕ) (past : Name → ℕ → Bool) → ((q : Name) → P (past q)) → (q : Name) → P (teach p fork known i n past q)
   teach_all p fork i zero past b = b
   teach_all p fork i (suc n) past b = teach_all p fork (suc i) n (learn ((fork, i) ∷ p) known past) (learn_all ((fork, i) ∷ p) past b)
 
-  report_all : (p : Name) (past : Name → ℕ → Bool) → ((q : Name) → P (past q)) → (q : Name) → P (report p known past q)
+  pub report_all : (p : Name) (past : Name → ℕ → Bool) → ((q : Name) → P (past q)) → (q : Name) → P (report p known past q)
   report_all [] past b = b
   report_all (x ∷ p) past b = learn_all p past b
 
 -- nothing is forgotten
-learn_more : (p : Name) (known : ℕ → Bool) (past : Name → ℕ → Bool) (q : Name) (i : ℕ) → past q i ≡ true → learn p known past q i ≡ true
+pub learn_more : (p : Name) (known : ℕ → Bool) (past : Name → ℕ → Bool) (q : Name) (i : ℕ) → past q i ≡ true → learn p known past q i ≡ true
 learn_more p known past q i h = by (same_name p q)
   where
     by : (t : Bool) → cond t (past q i || known i) (past q i) ≡ true
@@ -57,25 +57,25 @@ learn_more p known past q i h = by (same_name p q)
 learn_here : (p : Name) (known : ℕ → Bool) (past : Name → ℕ → Bool) (i : ℕ) → known i ≡ true → learn p known past p i ≡ true
 learn_here p known past i h = ap (λ t. cond t (past p i || known i) (past p i)) (name_itself p) ∙ or_right (past p i) (known i) h
 
-teach_more : (p : Name) (fork : ℕ) (known : ℕ → Bool) (x n : ℕ) (past : Name → ℕ → Bool) (q : Name) (i : ℕ) → past q i ≡ true → teach p fork known x n past q i ≡ true
+pub teach_more : (p : Name) (fork : ℕ) (known : ℕ → Bool) (x n : ℕ) (past : Name → ℕ → Bool) (q : Name) (i : ℕ) → past q i ≡ true → teach p fork known x n past q i ≡ true
 teach_more p fork known x zero past q i h = h
 teach_more p fork known x (suc n) past q i h = teach_more p fork known (suc x) n (learn ((fork, x) ∷ p) known past) q i (learn_more ((fork, x) ∷ p) known past q i h)
 
-report_more : (p : Name) (known : ℕ → Bool) (past : Name → ℕ → Bool) (q : Name) (i : ℕ) → past q i ≡ true → report p known past q i ≡ true
+pub report_more : (p : Name) (known : ℕ → Bool) (past : Name → ℕ → Bool) (q : Name) (i : ℕ) → past q i ≡ true → report p known past q i ≡ true
 report_more [] known past q i h = h
 report_more (x ∷ p) known past q i h = learn_more p known past q i h
 
 -- looking an index up in a list with one more entry
-get_low : (es : List Occurrence) (e : Occurrence) (i : ℕ) → i < length es → slice_get (es ++ e ∷ []) i ≡ slice_get es i
+pub get_low : (es : List Occurrence) (e : Occurrence) (i : ℕ) → i < length es → slice_get (es ++ e ∷ []) i ≡ slice_get es i
 get_low [] e i l = absurd (omega arith)
 get_low (x ∷ es) e zero l = refl
 get_low (x ∷ es) e (suc i) l = get_low es e i (omega arith)
 
-get_last : (es : List Occurrence) (e : Occurrence) → slice_get (es ++ e ∷ []) (length es) ≡ Some e
+pub get_last : (es : List Occurrence) (e : Occurrence) → slice_get (es ++ e ∷ []) (length es) ≡ Some e
 get_last [] e = refl
 get_last (x ∷ es) e = get_last es e
 
-get_inside : (es : List Occurrence) (i : ℕ) (e : Occurrence) → slice_get es i ≡ Some e → i < length es
+pub get_inside : (es : List Occurrence) (i : ℕ) (e : Occurrence) → slice_get es i ≡ Some e → i < length es
 get_inside [] i e h = absurd (cc h)
 get_inside (x ∷ es) zero e h = omega arith
 get_inside (x ∷ es) (suc i) e h = let l = get_inside es i e h in omega arith
@@ -83,7 +83,7 @@ get_inside (x ∷ es) (suc i) e h = let l = get_inside es i e h in omega arith
 some_is : (x y : Occurrence) → ◌≡◌ {A = Option Occurrence} (Some x) (Some y) → x ≡ y
 some_is x y e = cc
 
-low_or_last : (i n : ℕ) → i < suc n → (i < n) ⊎ (i ≡ n)
+pub low_or_last : (i n : ℕ) → i < suc n → (i < n) ⊎ (i ≡ n)
 low_or_last i n l = elim (i == n) as (λ b. i == n ≡ b → (i < n) ⊎ (i ≡ n)) [ true ↦ λ e. inr (eqb-true i n e) | false ↦ λ e. inl (strict e) ] refl
   where
     strict : i == n ≡ false → i < n
@@ -336,7 +336,7 @@ own_index j es e kept quiet counted q = by (same_name e.who q) (name_is e.who q)
     by true f = subst (λ (x : Name). IsFine (es ++ e ∷ []) (λ i. j.past x i || (length es == i))) (f refl) (mine j es e kept quiet counted)
     by false f = past_fine j es e kept quiet q
 
-one_entry : (j : Judged) (es : List Occurrence) (p : Name) (h : Happening) → Kept j es → WaitsForNone j p → Kept (judged_by j (length es) p h) (es ++ record { who = p; what = h } ∷ [])
+pub one_entry : (j : Judged) (es : List Occurrence) (p : Name) (h : Happening) → Kept j es → WaitsForNone j p → Kept (judged_by j (length es) p h) (es ++ record { who = p; what = h } ∷ [])
 one_entry j es p Opened k w = grown j es (record { who = p; what = Opened }) k w refl (judged_by j (length es) p Opened) refl (own_index j es (record { who = p; what = Opened }) k w refl) (λ q i h. learn_more p (λ i. length es == i) j.past q i h) (learn_here p (λ i. length es == i) j.past (length es) (eq-eqb (length es) (length es) refl))
 one_entry j es p (Split c) k w =
     let e : Occurrence = record { who = p; what = Split c } in
@@ -372,7 +372,7 @@ along j done (e ∷ es) k q =
     let r : Kept (judged_from next (length (done ++ e ∷ [])) es) ((done ++ e ∷ []) ++ es) = along next (done ++ e ∷ []) es one (subst (λ (x : ℕ). QuietFrom next x es) (sym l) q.1) in
     subst (Kept (judged_from next (suc (length done)) es)) (append_assoc done (e ∷ []) es) (subst (λ (x : ℕ). Kept (judged_from next x es) ((done ++ e ∷ []) ++ es)) l r)
 
-nothing_kept : Kept nothing_judged []
+pub nothing_kept : Kept nothing_judged []
 nothing_kept = record {
   fine = λ q. record { closed = λ p i k h. absurd (false_true h); counted = λ i h. absurd (false_true h) };
   own = λ q k c. absurd (let l = get_inside [] k _ c.1 in omega arith);

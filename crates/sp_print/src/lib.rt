@@ -2,7 +2,6 @@
 #![tactic(auto)]
 
 mod end;
-mod number;
 mod refusal;
 #[cfg(test)]
 mod tests;

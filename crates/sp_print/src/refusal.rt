@@ -3,8 +3,7 @@
 ghost use Rattle.std.specs.Prelude.{◌≡◌, IfOk};
 ghost use Rattle.sp_print.specs.Lines.{refusal_text};
 
-use crate::number::put_number;
-use sp_base::{Memory, Refusal};
+use sp_base::{Memory, Refusal, put_decimal};
 use std::alloc::Global;
 
 /// The line of a broken rule and its place: `refused RULE LINE:COLUMN`.
@@ -15,9 +14,9 @@ pub fn refusal_line(alloc: Global, refusal: Refusal) -> Result<Vec<u8>, Memory>
     out.extend_from_slice(b"refused ")?;
     out.extend_from_slice(refusal.rule.name().as_bytes())?;
     out.extend_from_slice(b" ")?;
-    put_number(&mut out, refusal.at.line as u64)?;
+    put_decimal(&mut out, u64::from(refusal.at.line))?;
     out.extend_from_slice(b":")?;
-    put_number(&mut out, refusal.at.column as u64)?;
+    put_decimal(&mut out, u64::from(refusal.at.column))?;
     out.extend_from_slice(b"\n")?;
     Ok(out)
 }

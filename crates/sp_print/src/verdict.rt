@@ -3,8 +3,7 @@
 ghost use Rattle.std.specs.Prelude.{◌≡◌, IfOk};
 ghost use Rattle.sp_print.specs.Lines.{verdict_text};
 
-use crate::number::put_number;
-use sp_base::Memory;
+use sp_base::{Memory, put_decimal};
 use sp_journal::Verdict;
 use std::alloc::Global;
 
@@ -27,9 +26,9 @@ pub fn verdict_line(alloc: Global, verdict: &Verdict) -> Result<Vec<u8>, Memory>
             out.extend_from_slice(b" ")?;
             channel.put(&mut out)?;
             out.extend_from_slice(b" ")?;
-            put_number(&mut out, *earlier)?;
+            put_decimal(&mut out, *earlier)?;
             out.extend_from_slice(b" ")?;
-            put_number(&mut out, *later)?;
+            put_decimal(&mut out, *later)?;
             out.extend_from_slice(b"\n")?;
         }
         Verdict::Unjudged => out.extend_from_slice(b"unjudged\n")?,

@@ -1,10 +1,11 @@
 -- The exchange of two steps that are not both offers on one channel.
-use Rattle.std.proofs.Common.{◌≡◌, ◌≢◌, ◌⊎◌, ⊎_elim, inl, inr, ℕ, suc, ◌+◌, ◌≤◌, Bool, true, false, cond, ◌==◌, List, [], ◌∷◌, length, Option, Some, None, nat_lt, refl, sym, ap, ◌∙◌, subst, arith}
+use Rattle.std.proofs.Common.{◌≡◌, ◌≢◌, ◌⊎◌, ⊎_elim, inl, inr, ℕ, zero, suc, ◌+◌, ◌<◌, ◌≤◌, Bool, true, false, cond, ◌==◌, List, [], ◌∷◌, length, Option, Some, None, refl, sym, ap, ◌∙◌, subst, arith}
+use Rattle.std.proofs.lemmas.Bool.Decides.{nat_tests}
 use Rattle.sp_base.specs.declared.fault.Fault.{Fault}
 use Rattle.sp_base.specs.declared.fault.Fault.TheVariants as fault
 use Rattle.sp_meaning.specs.Maps.{IsTest}
 use Rattle.sp_meaning.specs.Model.{Name, Channel, Totals, add, Language, Moves, Opens, Forks, Offering, Ends, Fails, Absent, Works, Waits, Joins, Ended, State, Change, Becomes, Forked, Writes, Pends, Adds, Faults, changed, after}
-use Rattle.sp_meaning.specs.Steps.{ActOf, OfferOf, ConditionOf, working, Outcome, Does, Faulty, puts, births, message, an_entry, meeting, hands, meets, offered, acts, cost, passed, Laws, Sound}
+use Rattle.sp_meaning.specs.Steps.{ActOf, OfferOf, ConditionOf, working, Outcome, Does, Faulty, puts, births, message, an_entry, meeting, hands, meets, offered, acts, cost, is_over, passed, Laws, Sound}
 use Rattle.sp_meaning.specs.Disjoint.{Delivers}
 use Rattle.sp_meaning.proofs.Frames.{IsOn, WritesTo, IsPartner, IsChild, IsNear, IsIn, AllIn, all_in, condition_frame, forks_frame, pending_frame, store_frame}
 use Rattle.sp_meaning.proofs.Status.{Makes, Stands, working_stands, child_absent, child_below, waits_absent, far, keeps_working, on_partner, waiting_far}
@@ -85,38 +86,71 @@ pub totals_made : {L : Language} (s : State L) (p : Name) (a : ActOf L) (cs : Li
 totals_made s p a cs e = totals_after cs s ∙ ap (add s.totals) (subst (Costs a) e (acts_cost s p a))
 
 record Fits (l t n : Totals) : Type 0 where
-  entries : t.entries + n.entries ≤ l.entries
-  processes : t.processes + n.processes ≤ l.processes
-  channels : t.channels + n.channels ≤ l.channels
+  entries : 0 < n.entries → t.entries + n.entries ≤ l.entries
+  processes : 0 < n.processes → t.processes + n.processes ≤ l.processes
+  channels : 0 < n.channels → t.channels + n.channels ≤ l.channels
 
 gone : (b : Bool) (f : Fault) (x : Option Fault) → cond b (Some f) x ≡ None → (b ≡ false) × (x ≡ None)
 gone true f x h = absurd (cc h)
 gone false f x h = (refl, h)
 
-at_most : (a b : ℕ) → nat_lt a b ≡ false → b ≤ a
-at_most a b h = grind (arith, h)
+at_most : (l t n : ℕ) → is_over l t n ≡ false → 0 < n → t + n ≤ l
+at_most l t n h p = grind (arith, nat_tests)
 
 passed_fits : (l t n : Totals) → passed l t (Some n) ≡ None → Fits l t n
 passed_fits l t n h =
-    let e = gone (nat_lt l.entries (t.entries + n.entries)) fault.F15 _ h in
-    let p = gone (nat_lt l.processes (t.processes + n.processes)) fault.F13 _ e.1 in
-    let c = gone (nat_lt l.channels (t.channels + n.channels)) fault.F14 None p.1 in
-    record { entries = at_most _ _ e.0; processes = at_most _ _ p.0; channels = at_most _ _ c.0 }
+    let e = gone (is_over l.entries t.entries n.entries) fault.F15 _ h in
+    let p = gone (is_over l.processes t.processes n.processes) fault.F13 _ e.1 in
+    let c = gone (is_over l.channels t.channels n.channels) fault.F14 None p.1 in
+    record { entries = at_most _ _ _ e.0; processes = at_most _ _ _ p.0; channels = at_most _ _ _ c.0 }
 
-not_below : (a b : ℕ) → b ≤ a → nat_lt a b ≡ false
-not_below a b h = elim (nat_lt a b) as (λ x. nat_lt a b ≡ x → nat_lt a b ≡ false) [ true ↦ λ e. absurd (grind (arith, e)) | false ↦ λ e. e ] refl
+not_over : (l t n : ℕ) → (0 < n → t + n ≤ l) → is_over l t n ≡ false
+not_over l t n h = by (is_over l t n) refl
+  where
+    more : (l t n : ℕ) → is_over l t n ≡ true → (0 < n) × (l < t + n)
+    more l t n e = grind (arith, nat_tests)
+
+    by : (b : Bool) → is_over l t n ≡ b → b ≡ false
+    by true e = let m = more l t n e in let f = h m.0 in let g = m.1 in absurd (omega arith)
+    by false e = refl
 
 fits_passed : (l t n : Totals) → Fits l t n → passed l t (Some n) ≡ None
-fits_passed l t n h = rw (not_below l.entries (t.entries + n.entries) h.entries) (rw (not_below l.processes (t.processes + n.processes) h.processes) (rw (not_below l.channels (t.channels + n.channels) h.channels) refl))
+fits_passed l t n h =
+    let e = not_over l.entries t.entries n.entries h.entries in
+    let p = not_over l.processes t.processes n.processes h.processes in
+    let c = not_over l.channels t.channels n.channels h.channels in
+    λ i. cond (e i) (Some fault.F15) (cond (p i) (Some fault.F13) (cond (c i) (Some fault.F14) None))
+
+-- with less before it, it fits too
+less_before : (l t n m : ℕ) → (0 < m → (t + n) + m ≤ l) → 0 < m → t + m ≤ l
+less_before l t n m f p = let x = f p in omega arith
+
+-- in the other order it fits too
+in_other_order : (l t n m : ℕ) → (0 < n → t + n ≤ l) → (0 < m → (t + n) + m ≤ l) → 0 < n → (t + m) + n ≤ l
+in_other_order l t n zero h f p = let x = h p in omega arith
+in_other_order l t n (suc m) h f p = let x = f (omega arith) in omega arith
 
 pub passed_earlier : (l t n : Totals) (c : Option Totals) → passed l (add t n) c ≡ None → passed l t c ≡ None
 passed_earlier l t n None h = refl
-passed_earlier l t n (Some m) h = let f = passed_fits l (add t n) m h in fits_passed l t m (record { entries = omega (arith, f.entries); processes = omega (arith, f.processes); channels = omega (arith, f.channels) })
+passed_earlier l t n (Some m) h =
+    let f = passed_fits l (add t n) m h in
+    fits_passed l t m (record {
+      entries = less_before l.entries t.entries n.entries m.entries f.entries;
+      processes = less_before l.processes t.processes n.processes m.processes f.processes;
+      channels = less_before l.channels t.channels n.channels m.channels f.channels;
+    })
 
 passed_later : (l t : Totals) (c d : Option Totals) → passed l t c ≡ None → passed l (add t (spent c)) d ≡ None → passed l (add t (spent d)) c ≡ None
 passed_later l t None d h k = refl
 passed_later l t (Some n) None h k = subst (λ z. passed l z (Some n) ≡ None) (add_none t) h
-passed_later l t (Some n) (Some m) h k = let f = passed_fits l (add t n) m k in fits_passed l (add t m) n (record { entries = omega (arith, f.entries); processes = omega (arith, f.processes); channels = omega (arith, f.channels) })
+passed_later l t (Some n) (Some m) h k =
+    let g = passed_fits l t n h in
+    let f = passed_fits l (add t n) m k in
+    fits_passed l (add t m) n (record {
+      entries = in_other_order l.entries t.entries n.entries m.entries g.entries f.entries;
+      processes = in_other_order l.processes t.processes n.processes m.processes g.processes f.processes;
+      channels = in_other_order l.channels t.channels n.channels m.channels g.channels f.channels;
+    })
 
 -- what an act does goes by these parts of the state alone
 module _ {L : Language} (t s : State L) (q : Name) where

@@ -16,8 +16,8 @@ abbrev pub IsClosed : (ℕ → Option ℕ) → (ℕ → Bool) → Type 0
 IsClosed done known = (i m : ℕ) → done i ≡ Some m → known m ≡ true → known i ≡ true
 
 pub record Paired (j : Judged) (n : ℕ) : Type 0 where
-  closed : (q : Name) → IsClosed j.completed (j.past q)
-  below : (q : Name) (i : ℕ) → j.past q i ≡ true → i < n
+  pub closed : (q : Name) → IsClosed j.completed (j.past q)
+  pub below : (q : Name) (i : ℕ) → j.past q i ≡ true → i < n
   bound : (i m : ℕ) → j.completed i ≡ Some m → m < n
   itself : (i m : ℕ) → j.completed i ≡ Some m → j.completed m ≡ Some m
   waits : (c : Channel) (z : Name) (k : ℕ) → j.pending c ≡ Some (z, k) → (k < n) × (j.completed k ≡ None)
@@ -402,7 +402,7 @@ module _ (j : Judged) (done : List Occurrence) (n : ℕ) (paired : Paired j n) (
   completed_by LaidDown k = tt
   completed_by Paused k = tt
 
-nothing_rounded : Rounded nothing_judged [] 0
+pub nothing_rounded : Rounded nothing_judged [] 0
 nothing_rounded = record {
   size = refl;
   complete = λ q i z w c e h. absurd (none_is e);

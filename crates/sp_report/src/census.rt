@@ -5,8 +5,7 @@ ghost use Rattle.std.specs.List.{flat_map};
 ghost use Rattle.sp_report.specs.Census.{census_text, count_line, count_of, is_counted, kind_name, kinds};
 
 use crate::watcher::Watcher;
-use itoa::Buffer;
-use sp_base::{List, Memory};
+use sp_base::{List, Memory, put_decimal};
 use sp_journal::{Entry, Event};
 use std::alloc::Global;
 
@@ -64,10 +63,9 @@ impl Kind {
     fn put(self, out: &mut Vec<u8>, entries: &[Entry]) -> Result<(), Memory>
         ensures { OnOk result (out.new.items ≡ out.old.items ++ count_line entries.now self) }
     {
-        let mut buffer = Buffer::new();
         out.extend_from_slice(self.name().as_bytes())?;
         out.extend_from_slice(b" ")?;
-        out.extend_from_slice(buffer.format(self.count(entries) as u64).as_bytes())?;
+        put_decimal(out, self.count(entries) as u64)?;
         out.extend_from_slice(b"\n")?;
         Ok(())
     }

@@ -6,8 +6,7 @@ ghost use Rattle.sp_report.specs.Nameable.{nameable_prop};
 ghost use Rattle.sp_report.specs.Timeline.{numbered, timeline_text};
 
 use crate::watcher::Watcher;
-use itoa::Buffer;
-use sp_base::{List, Memory};
+use sp_base::{List, Memory, put_decimal};
 use sp_journal::{Entry, Journal, print_journal};
 use std::alloc::Global;
 
@@ -36,8 +35,7 @@ impl Timeline {
 fn put_number(out: &mut Vec<u8>, number: u64) -> Result<(), Memory>
     ensures { OnOk result (out.new.items ≡ out.old.items ++ (decimal number ++ codes " ")) }
 {
-    let mut buffer = Buffer::new();
-    out.extend_from_slice(buffer.format(number).as_bytes())?;
+    put_decimal(out, number)?;
     out.extend_from_slice(b" ")?;
     Ok(())
 }

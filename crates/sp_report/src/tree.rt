@@ -8,8 +8,7 @@ ghost use Rattle.sp_report.specs.Nameable.{nameable_prop};
 ghost use Rattle.sp_report.specs.Tree.{forked, last_pair, tree_line, tree_lines, tree_text};
 
 use crate::watcher::Watcher;
-use itoa::Buffer;
-use sp_base::{List, Memory, Pair, ProcName};
+use sp_base::{List, Memory, Pair, ProcName, put_decimal};
 use sp_journal::{Entry, Journal, Ledger};
 use std::alloc::Global;
 use std::collections::BTreeMap;
@@ -53,11 +52,9 @@ fn forked(alloc: Global, ledger: &Ledger) -> Result<BTreeMap<ProcName, u32>, Mem
 fn put_pair(out: &mut Vec<u8>, pair: Pair) -> Result<(), Memory>
     ensures { OnOk result (out.new.items ≡ out.old.items ++ (decimal pair.fork ++ codes "." ++ decimal pair.child)) }
 {
-    let mut buffer = Buffer::new();
-    out.extend_from_slice(buffer.format(pair.fork).as_bytes())?;
+    put_decimal(out, u64::from(pair.fork))?;
     out.extend_from_slice(b".")?;
-    out.extend_from_slice(buffer.format(pair.child).as_bytes())?;
-    Ok(())
+    put_decimal(out, u64::from(pair.child))
 }
 
 /// Puts the last pair, where there is one.

@@ -28,9 +28,13 @@ pub trait Watcher: Drop {
         ensures title { title self.new ≡ title self.old }
         ensures err { OnErr result (self.new ≡ self.old) };
 
-    /// Puts its text over the entries that it was told last into `out`. Where memory is refused both are unchanged.
+    /// Puts its text over the entries that it was told last into `out`. It stays what it was: told the same entries,
+    /// with the same title and the same text over every list. Where memory is refused both are unchanged.
     fn finish(&mut self, out: &mut Vec<u8>) -> Result<(), Memory>
         ensures ok { OnOk result (out.new.items ≡ out.old.items ++ text self.old (told self.old)) }
         ensures err { OnErr result (out.new.items ≡ out.old.items) }
+        ensures told { told self.new ≡ told self.old }
+        ensures text { text self.new ≡ text self.old }
+        ensures title { title self.new ≡ title self.old }
         ensures same { OnErr result (self.new ≡ self.old) };
 }

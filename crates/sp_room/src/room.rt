@@ -106,6 +106,13 @@ fn object_off<K: Kept>(desk: Desk<K, K::Note>) -> K
 }
 
 impl<K: Kept> RoomSeat<K> {
+    /// The seat's number, from 0, which is that of its worker.
+    pub fn number(&self) -> u32
+        ensures { result ≡ number_of self.now }
+    {
+        self.number
+    }
+
     /// Puts the ask to the object, when no other seat has the turn. The worker is the seat's number.
     ///
     /// One call of the object is made while the turn is held, and its note, if it leaves one, is the next of the history. Want of

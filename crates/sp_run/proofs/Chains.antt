@@ -1,7 +1,7 @@
 -- One computation after another, as calls tell of them.
-use Rattle.std.proofs.Common.{◌≡◌, ℕ, zero, suc, ◌+◌, ◌≤◌, Bool, true, false, List, [], ◌∷◌, drop, Some, None, refl, ap, ◌∙◌, sym, arith, if◌then◌else◌}
-use Rattle.std.proofs.lemmas.Bool.Decides.{nat_tests}
-use Rattle.std.specs.Prelude.{Result, slice_get, not, nat_lt}
+use Rattle.std.proofs.Common.{◌≡◌, ℕ, zero, suc, ◌+◌, ◌≤◌, Bool, true, false, List, [], ◌∷◌, ◌++◌, drop, length, Some, None, refl, ap, ◌∙◌, sym, arith, if◌then◌else◌, length-append}
+use Rattle.std.specs.Prelude.{Result, slice_get, not, replicate}
+use Rattle.std.proofs.lemmas.List.{length-replicate}
 use Rattle.std.proofs.lemmas.Grind.{common_steps}
 use Rattle.sp_base.specs.declared.halt.Memory.{Memory}
 use Rattle.sp_run.specs.declared.stop.Halted.{Halted}
@@ -60,5 +60,6 @@ pub settle_here : (g : Setting) (w : Who) (before mid : Machine) (todo rest : Li
 settle_here g w before mid todo rest i e l =
     rw e (rw (settle_step (setting_of g) (item_of i) (items_of rest) (plain_who w) (plain_own before.own) (store_of g before.log)) (rw l refl))
 
-pub not_over : (out a b t : ℕ) → t ≡ a + b → t ≤ out → nat_lt out (a + b) ≡ false
-not_over out a b t e h = grind (arith, nat_tests)
+-- blanks and a text
+pub behind_blanks : (n : ℕ) (t : List ℕ) → length (replicate n 32 ++ t) ≡ n + length t
+behind_blanks n t = grind (arith, length-replicate, length-append)

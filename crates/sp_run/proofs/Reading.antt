@@ -1,7 +1,8 @@
 -- Bytes read one after another: how far blanks, digits and a line go, and the number that digits spell.
 use Rattle.std.proofs.Common.{◌≡◌, ℕ, zero, suc, ◌+◌, ◌-◌, ◌*◌, ◌==◌, ◌<◌, ◌≤◌, Bool, true, false, List, [], ◌∷◌, drop, length, get_or, refl, ap, ◌∙◌, sym, arith, if◌then◌else◌}
 use Rattle.std.specs.Prelude.{ℤ, ◌^◌}
-use Rattle.sp_tree.specs.Items.{is_blank, is_digit, blanks, digits, number_from, line_length}
+use Rattle.sp_tree.specs.Characters.{is_blank, is_digit}
+use Rattle.sp_tree.specs.Items.{blanks, digits, number_from, line_length}
 use Rattle.sp_tree.specs.Operators.{same_ordinal}
 use Rattle.sp_meaning.specs.Deeds.{has}
 

@@ -3,7 +3,10 @@ use Rattle.std.proofs.Common.{◌≡◌, ℕ, zero, suc, ◌+◌, ◌<◌, ◌�
 use Rattle.sp_tree.specs.declared.checked.Arm.{Arm, out-Arm}
 use Rattle.sp_tree.specs.declared.checked.Block.{Block}
 use Rattle.sp_tree.specs.declared.checked.Stmt.{Stmt}
-use Rattle.sp_tree.specs.PlainOf.{stmt_of, stmts, arms_of, block_of}
+use Rattle.sp_tree.specs.declared.checked.Expr as ast_e
+use Rattle.sp_tree.specs.declared.checked.Var as ast_v
+use Rattle.sp_tree.specs.Plain.{Expr}
+use Rattle.sp_tree.specs.PlainOf.{stmt_of, stmts, arms_of, block_of, sends, receives, expr_of, var_of}
 use Rattle.sp_meaning.specs.SuperPascal.{weight, weight_all, weight_arms, weight_blocks}
 use Rattle.sp_run.specs.Texts.{arm_of}
 use Rattle.sp_run.proofs.Arms.{arm_is}
@@ -40,3 +43,12 @@ blocks_end [] zero h = refl
 blocks_end [] (suc i) h = refl
 blocks_end (c ∷ bs) zero h = absurd (omega arith)
 blocks_end (c ∷ bs) (suc i) h = blocks_end bs i (omega arith)
+
+-- each of several sends, or receives, weighs one
+pub sends_weigh : (c : Expr) (es : List ast_e.Expr) → weight_all (sends c (map expr_of es)) ≡ length es
+sends_weigh c [] = refl
+sends_weigh c (e ∷ es) = omega (arith, sends_weigh c es)
+
+pub receives_weigh : (c : Expr) (vs : List ast_v.Var) → weight_all (receives c (map var_of vs)) ≡ length vs
+receives_weigh c [] = refl
+receives_weigh c (v ∷ vs) = omega (arith, receives_weigh c vs)

@@ -1,6 +1,6 @@
 //! What a step does once its expressions have values.
 
-ghost use Rattle.std.specs.Prelude.{◌≡◌, ◌∷◌, IfOk, OnOk, map};
+ghost use Rattle.std.specs.Prelude.{◌≡◌, ◌++◌, ◌∷◌, IfOk, OnOk, map, replicate};
 ghost use Rattle.sp_tree.specs.PlainOf.{expr_of, stmt_of, arms_of};
 ghost use Rattle.sp_meaning.specs.Deeds.{push, arm_for, is_range, next_value};
 ghost use Rattle.sp_run.specs.Items.{items_of, item_of};
@@ -15,24 +15,16 @@ ghost use Rattle.sp_run.specs.Acts.{assigned_to, picked, either, ranged, tested,
 use crate::calls::{Given, enter, leave, tick};
 use crate::deeds::{Deed, advance, arm_for, take_in, turn_of, write};
 use crate::frames::place_of;
-use crate::item::{Item, push};
+use crate::item::{Item, push, push_item};
 use crate::machine::{Machine, Setting, Who};
 use crate::operators::{kind_at, left_of, ordinal, read_at};
 use crate::stop::{Done, Halted};
 use crate::store::assign;
 use crate::take;
-use crate::texts::{in_width, line_length, shown, taken_by};
+use crate::texts::{cut_to, line_length, shown, taken_by};
 use crate::value::{Address, Chan, Value, copy_name};
 use sp_base::{Fault, Memory};
 use sp_tree::{Arm, Expr, Stmt};
-
-/// Puts one thing before what is left.
-pub fn push_item<'a>(item: Item<'a>, todo: &mut Vec<Item<'a>>) -> Result<(), Memory>
-    ensures { OnOk result (items_of todo.new.items ≡ item_of item.entry ∷ items_of todo.old.items) }
-{
-    todo.insert(0, item)?;
-    Ok(())
-}
 
 /// Puts a statement and then one thing before what is left.
 fn push_both<'a>(s: &'a Stmt, item: Item<'a>, todo: &mut Vec<Item<'a>>) -> Result<(), Memory>
@@ -360,6 +352,21 @@ pub fn read_line<'a>(
     Ok(Ok(Deed::Went))
 }
 
+/// A text is written behind so many blanks.
+fn write_behind<'a>(
+    run: &Setting,
+    who: &Who,
+    machine: &mut Machine,
+    blanks: usize,
+    text: &[u8],
+    todo: &mut Vec<Item<'a>>,
+) -> Done<Deed<'a>>
+    ensures { Does run.now who.now (plain_deed (items_of todo.new.items)) machine.old result machine.new (write_bytes (setting_of run.now) (replicate blanks 32 ++ text.now) (items_of todo.old.items)) }
+{
+    take!(write(run, who, machine, blanks, text));
+    Ok(Ok(Deed::Went))
+}
+
 /// Bytes are written.
 pub fn write_bytes<'a>(
     run: &Setting,
@@ -370,8 +377,7 @@ pub fn write_bytes<'a>(
 ) -> Done<Deed<'a>>
     ensures { Does run.now who.now (plain_deed (items_of todo.new.items)) machine.old result machine.new (write_bytes (setting_of run.now) text.now (items_of todo.old.items)) }
 {
-    take!(write(run, who, machine, text));
-    Ok(Ok(Deed::Went))
+    write_behind(run, who, machine, 0, text, todo)
 }
 
 /// A text is written in its width.
@@ -386,9 +392,17 @@ pub fn write_text<'a>(
 ) -> Done<Deed<'a>>
     ensures { Does run.now who.now (plain_deed (items_of todo.new.items)) machine.old result machine.new (write_text (setting_of run.now) cut text.now width (items_of todo.old.items)) }
 {
-    let bytes = take!(in_width(run, who, machine, cut, text, width));
-    let d = take!(write_bytes(run, who, machine, bytes.items(), todo));
-    Ok(Ok(d))
+    match width {
+        None => write_bytes(run, who, machine, text, todo),
+        Some(m) => {
+            if m <= 0 {
+                return Ok(Err(Halted::Fault(Fault::F1)));
+            }
+            let m = m as usize;
+            let text = cut_to(cut, m, text);
+            write_behind(run, who, machine, m.saturating_sub(text.len()), text, todo)
+        }
+    }
 }
 
 /// An ordinal of a type is written in its width.
@@ -405,6 +419,5 @@ pub fn write_shown<'a>(
 {
     let kind = take!(kind_at(run, who, machine, kind));
     let (cut, text) = shown(run.alloc, kind, n)?;
-    let d = take!(write_text(run, who, machine, cut, text.items(), width, todo));
-    Ok(Ok(d))
+    write_text(run, who, machine, cut, text.items(), width, todo)
 }

@@ -1,6 +1,6 @@
 //! What a step of a process does.
 
-ghost use Rattle.std.specs.Prelude.{◌≡◌, ◌++◌, IfOk, map, drop};
+ghost use Rattle.std.specs.Prelude.{◌≡◌, ◌+◌, ◌++◌, IfOk, map, drop, length, nat_lt, replicate};
 ghost use Rattle.std.specs.Option.{option_copied, option_map};
 ghost use Rattle.sp_tree.specs.PlainOf.{stmt_of, arms_of};
 ghost use Rattle.sp_meaning.specs.Deeds.{is_before, goes_on, has, arm_for};
@@ -16,13 +16,13 @@ ghost use Rattle.sp_run.specs.DirectDeeds.{peek, settle, turn_of, fork, write, a
 use crate::calls::tick;
 use crate::frames::{address_of, place_of};
 use crate::item::{Item, push};
-use crate::kinds::{count_of, sum_of};
+use crate::kinds::count_of;
 use crate::machine::{Held, Machine, Setting, Who};
 use crate::operators::position_of;
 use crate::stop::{Done, Halted};
 use crate::store::{assign, fetch, look, put};
 use crate::take;
-use crate::texts::Taken;
+use crate::texts::{Taken, padded};
 use crate::value::{Address, Chan, Loc, Value};
 use sp_base::{Fault, List, Memory};
 use sp_tree::{Arm, Stmt};
@@ -109,6 +109,8 @@ fn leaves(run: &Setting, who: &Who, machine: &mut Machine, item: &Item) -> Done<
         Item::While(_, _) => Ok(Ok(false)),
         Item::Repeat(_, _) => Ok(Ok(false)),
         Item::Test(_, _) => Ok(Ok(false)),
+        Item::Send(_, _) => Ok(Ok(false)),
+        Item::Receive(_, _) => Ok(Ok(false)),
         Item::Leave => Ok(Ok(false)),
         Item::Break(_) => Ok(Ok(false)),
     }
@@ -264,17 +266,31 @@ fn joined(bytes: List<u8>, text: &[u8]) -> Result<List<u8>, Memory>
     Ok(List::of(all))
 }
 
-/// The output gets a text, or F16.
-pub fn write(run: &Setting, who: &Who, machine: &mut Machine, text: &[u8]) -> Done<()>
-    ensures { Does run.now who.now same machine.old result machine.new (write (setting_of run.now) text.now) }
+/// Whether so many bytes, blanks, and bytes of a text pass the limit of the output.
+#[tactic(auto, using(crate::proofs::Chains::behind_blanks))]
+fn is_full(limit: u64, bytes: &[u8], blanks: usize, text: &[u8]) -> bool
+    ensures { result ≡ nat_lt limit (length bytes.now + length (replicate blanks 32 ++ text.now)) }
+{
+    (limit as u128) < bytes.len() as u128 + (blanks as u128 + text.len() as u128)
+}
+
+/// The output gets a text behind so many blanks, or F16 before anything is built.
+pub fn write(
+    run: &Setting,
+    who: &Who,
+    machine: &mut Machine,
+    blanks: usize,
+    text: &[u8],
+) -> Done<()>
+    ensures { Does run.now who.now same machine.old result machine.new (write (setting_of run.now) (replicate blanks 32 ++ text.now)) }
 {
     let held = take!(look(run, who, machine, &Loc::Output));
     let bytes = bytes_of(run, held);
-    let total = sum_of(bytes.len() as u64, text.len() as u64)?;
-    if run.limits.output < total {
+    if is_full(run.limits.output, bytes.items(), blanks, text) {
         return Ok(Err(Halted::Fault(Fault::F16)));
     }
-    let bytes = joined(bytes, text)?;
+    let text = padded(run.alloc, blanks, text)?;
+    let bytes = joined(bytes, text.items())?;
     put(run, who, machine, Loc::Output, Held::Written(bytes))
 }
 

@@ -22,7 +22,7 @@ use crate::bodies::{body_of, ended, left_after, take_first};
 use crate::calls::{Given, enter};
 use crate::deeds::{Births, Cargo, Deed, forall, fork, settle, turn_of};
 use crate::frames::{Place, address_of, place_of};
-use crate::item::{Item, push_all};
+use crate::item::{Item, push_all, push_receives, push_sends};
 use crate::machine::{Machine, Setting, Who};
 use crate::operators::{
     at_input, channel, fielded, indexed, kind_at, left_of, operate, ordinal, read_at, standard,
@@ -394,6 +394,8 @@ pub fn act<'a>(
             let d = take!(tested(run, who, machine, n, s, e, todo));
             Ok(Ok(d))
         }
+        Item::Send(c, e) => start_send(run, who, fuel, levels - 1, machine, c, e, todo),
+        Item::Receive(c, x) => start_receive(run, who, fuel, levels - 1, machine, c, x, todo),
         Item::Leave => {
             let d = take!(returned(run, who, machine, todo));
             Ok(Ok(d))
@@ -878,6 +880,24 @@ fn start<'a>(
         Form::Receive(c, x) => {
             let d = take!(start_receive(run, who, fuel, levels - 1, machine, c, x, todo));
             Ok(Ok(d))
+        }
+        Form::SendEach {
+            at: _,
+            number: _,
+            channel,
+            values,
+        } => {
+            push_sends(channel, values.items(), todo)?;
+            Ok(Ok(Deed::Went))
+        }
+        Form::ReceiveEach {
+            at: _,
+            number: _,
+            channel,
+            variables,
+        } => {
+            push_receives(channel, variables.items(), todo)?;
+            Ok(Ok(Deed::Went))
         }
     }
 }

@@ -1,12 +1,12 @@
 //! What a process has left to do.
 
-ghost use Rattle.std.specs.Prelude.{◌≡◌, OnOk, map};
-ghost use Rattle.sp_tree.specs.PlainOf.{stmt_of, stmts};
+ghost use Rattle.std.specs.Prelude.{◌≡◌, ◌∷◌, OnOk, map};
+ghost use Rattle.sp_tree.specs.PlainOf.{stmt_of, stmts, expr_of, var_of, sends, receives};
 ghost use Rattle.sp_meaning.specs.Deeds.{push, push_all};
-ghost use Rattle.sp_run.specs.Items.{items_of};
+ghost use Rattle.sp_run.specs.Items.{item_of, items_of};
 
 use sp_base::{Fault, Memory};
-use sp_tree::{Expr, Form, Stmt};
+use sp_tree::{Expr, Form, Stmt, Var};
 
 /// One thing that is left to do.
 #[derive(Clone, Copy)]
@@ -34,10 +34,54 @@ pub enum Item<'a> {
     Repeat(&'a Stmt, &'a Expr),
     /// The test of a `repeat` loop.
     Test(&'a Stmt, &'a Expr),
+    /// One of several values sent on a channel.
+    Send(&'a Expr, &'a Expr),
+    /// One of several variables received from a channel.
+    Receive(&'a Expr, &'a Var),
     /// A return from a procedure.
     Leave,
     /// A fault at the start of the root.
     Break(Fault),
+}
+
+/// Puts one thing before what is left.
+pub fn push_item<'a>(item: Item<'a>, todo: &mut Vec<Item<'a>>) -> Result<(), Memory>
+    ensures { OnOk result (items_of todo.new.items ≡ item_of item.entry ∷ items_of todo.old.items) }
+{
+    todo.insert(0, item)?;
+    Ok(())
+}
+
+/// Puts a send of each value before what is left.
+pub fn push_sends<'a>(
+    channel: &'a Expr,
+    values: &'a [Expr],
+    todo: &mut Vec<Item<'a>>,
+) -> Result<(), Memory>
+    ensures { OnOk result (items_of todo.new.items ≡ push_all (sends (expr_of channel.now) (map expr_of values.now)) (items_of todo.old.items)) }
+{
+    let mut i = values.len();
+    while i > 0 {
+        i -= 1;
+        push_item(Item::Send(channel, &values[i]), todo)?;
+    }
+    Ok(())
+}
+
+/// Puts a receive of each variable before what is left.
+pub fn push_receives<'a>(
+    channel: &'a Expr,
+    variables: &'a [Var],
+    todo: &mut Vec<Item<'a>>,
+) -> Result<(), Memory>
+    ensures { OnOk result (items_of todo.new.items ≡ push_all (receives (expr_of channel.now) (map var_of variables.now)) (items_of todo.old.items)) }
+{
+    let mut i = variables.len();
+    while i > 0 {
+        i -= 1;
+        push_item(Item::Receive(channel, &variables[i]), todo)?;
+    }
+    Ok(())
 }
 
 /// Puts a statement before what is left. The empty statement and sequences are no steps.
@@ -48,6 +92,18 @@ pub fn push<'a>(s: &'a Stmt, todo: &mut Vec<Item<'a>>) -> Result<(), Memory>
     match &s.form {
         Form::Empty => Ok(()),
         Form::Sequence(ss) => push_all(ss.items(), todo),
+        Form::SendEach {
+            at: _,
+            number: _,
+            channel,
+            values,
+        } => push_sends(channel, values.items(), todo),
+        Form::ReceiveEach {
+            at: _,
+            number: _,
+            channel,
+            variables,
+        } => push_receives(channel, variables.items(), todo),
         _ => {
             todo.insert(0, Item::Do(s))?;
             Ok(())

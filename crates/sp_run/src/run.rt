@@ -22,7 +22,7 @@ use std::alloc::Global;
 
 /// What a schedule means: how many of its steps can be made, the bytes that they write, and the end of the run,
 /// where it has one.
-#[derive(Debug, Drop)]
+#[derive(Drop)]
 pub struct Meant {
     pub steps: u64,
     pub output: Text,

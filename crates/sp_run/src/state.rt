@@ -4,7 +4,7 @@ ghost use Rattle.std.specs.Prelude.{◌≡◌, ◌∷◌, [], List, IfOk, OnOk, 
 ghost use Rattle.std.specs.Option.{option_copied, option_map};
 ghost use Rattle.sp_tree.specs.PlainOf.{stmt_of};
 ghost use Rattle.sp_meaning.specs.Model.{Becomes, Forked, Writes, Pends as PendsIn, Adds, Faults, changed};
-ghost use Rattle.sp_meaning.specs.Steps.{has_ended, all_ended, passed};
+ghost use Rattle.sp_meaning.specs.Steps.{has_ended, all_ended, is_over, passed};
 ghost use Rattle.sp_meaning.specs.SuperPascal.{main, root};
 ghost use Rattle.sp_meaning.specs.Deeds.{size_of_frame};
 ghost use Rattle.sp_run.specs.Items.{items_of};
@@ -429,25 +429,27 @@ pub fn fails(run: &Setting, s: &mut State, p: &[(u64, u64)], f: Fault) -> Result
     Ok(())
 }
 
-/// The fault of the total that would pass its limit: first F15, then F13, then F14.
-pub fn passed(
-    run: &Setting,
-    t: &Totals,
-    processes: u64,
-    channels: u64,
-) -> Result<Option<Fault>, Memory>
-    ensures { IfOk result (λ f. f ≡ passed (most (setting_of run.now)) (plain_totals t.now) (Some (record { processes = processes; channels = channels; entries = 1 }))) }
+/// Whether a total that grows by so many passes its limit.
+fn passes(limit: u32, total: u64, more: u64) -> bool
+    ensures { result ≡ is_over limit total more }
 {
-    if (run.limits.entries as u64) < sum_of(t.entries, 1)? {
-        return Ok(Some(Fault::F15));
+    0 < more && (limit as u128) < total as u128 + more as u128
+}
+
+/// The fault of the total that would pass its limit: first F15, then F13, then F14.
+pub fn passed(run: &Setting, t: &Totals, processes: u64, channels: u64) -> Option<Fault>
+    ensures { result ≡ passed (most (setting_of run.now)) (plain_totals t.now) (Some (record { processes = processes; channels = channels; entries = 1 })) }
+{
+    if passes(run.limits.entries, t.entries, 1) {
+        return Some(Fault::F15);
     }
-    if (run.limits.processes as u64) < sum_of(t.processes, processes)? {
-        return Ok(Some(Fault::F13));
+    if passes(run.limits.processes, t.processes, processes) {
+        return Some(Fault::F13);
     }
-    if (run.limits.channels as u64) < sum_of(t.channels, channels)? {
-        return Ok(Some(Fault::F14));
+    if passes(run.limits.channels, t.channels, channels) {
+        return Some(Fault::F14);
     }
-    Ok(None)
+    None
 }
 
 /// What the root has to do: the program's statement part, or a fault where its frame is too large.

@@ -257,7 +257,7 @@ fn splits<'a>(
     ensures { OnOk result (state_of run.now s.new ≡ stepped (setting_of run.now) p.now (plain_who parent.entry.who) (state_of run.now s.old) (Got (plain_deed (items_of parent.entry.todo.items) (Forked children.entry)) (plain_own parent.entry.own) (store_of run.now s.old.log))) }
 {
     let count = count_of(&children);
-    if let Some(f) = passed(run, &s.totals, count, 0)? {
+    if let Some(f) = passed(run, &s.totals, count, 0) {
         return fails(run, s, p, f);
     }
     makes_children(run, s, p, &parent, children)
@@ -286,6 +286,13 @@ fn waits<'a>(run: &Setting, s: &mut State<'a>, p: &[(u64, u64)], o: Offer<'a>) -
     adds(run, s, 0, 0)
 }
 
+/// Nobody waits on the channel any more.
+fn clears(run: &Setting, s: &mut State, channel: Chan) -> Result<(), Memory>
+    ensures { OnOk result (Changes run.now s.old (PendsIn (plain_channel channel) None ∷ []) s.new) }
+{
+    set_pending(run, s, channel, None)
+}
+
 /// Both processes go on, nothing is pending, and the message is assigned.
 fn meeting<'a>(
     run: &Setting,
@@ -302,7 +309,7 @@ fn meeting<'a>(
 {
     becomes(run, s, p, Condition::Works(next))?;
     becomes(run, s, z.items(), Condition::Works(other))?;
-    set_pending(run, s, channel, None)?;
+    clears(run, s, channel)?;
     delivers(run, s, a, v)?;
     adds(run, s, 0, 0)
 }
@@ -367,7 +374,7 @@ fn offers<'a>(
 ) -> Result<(), Memory>
     ensures { OnOk result (state_of run.now s.new ≡ result_of (state_of run.now s.old) p.now (outcome (most (setting_of run.now)) (state_of run.now s.old) p.now (Offering (plain_offer o.entry)))) }
 {
-    if let Some(f) = passed(run, &s.totals, 0, 0)? {
+    if let Some(f) = passed(run, &s.totals, 0, 0) {
         return fails(run, s, p, f);
     }
     match pending_on(s.pending.items(), &o.channel) {
@@ -405,7 +412,7 @@ fn opens<'a>(
 ) -> Result<(), Memory>
     ensures { OnOk result (state_of run.now s.new ≡ stepped (setting_of run.now) p.now (plain_who next.entry.who) (state_of run.now s.old) (Got (Opened (items_of next.entry.todo.items)) (plain_own next.entry.own) (store_of run.now log))) }
 {
-    if let Some(f) = passed(run, &s.totals, 0, 1)? {
+    if let Some(f) = passed(run, &s.totals, 0, 1) {
         return fails(run, s, p, f);
     }
     let Process { todo, who, own } = next;

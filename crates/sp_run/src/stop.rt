@@ -3,7 +3,7 @@
 use sp_base::{Fault, Memory};
 
 /// How a computation ends without a value.
-#[derive(Clone, Copy, Debug, PartialEq, Eq)]
+#[derive(Clone, Copy)]
 pub enum Halted {
     /// A fault of the program.
     Fault(Fault),

@@ -1,17 +1,13 @@
 //! Items read and written.
 
-ghost use Rattle.std.specs.Prelude.{◌≡◌, ◌+◌, ◌<◌, ◌≤◌, ◌^◌, ◌∷◌, [], IfOk, MatchOption, take, length, codes, if◌then◌else◌, pos, nat_abs};
+ghost use Rattle.std.specs.Prelude.{◌≡◌, ◌+◌, ◌<◌, ◌≤◌, ◌^◌, ◌++◌, ◌∷◌, [], IfOk, MatchOption, replicate, take, length, codes, if◌then◌else◌, pos};
 ghost use Rattle.std.specs.Fmt.{signed_decimal};
-ghost use Rattle.sp_tree.specs.Items.{is_blank, is_digit, blanks, digits, number_from, signed, number_in, number_after, digits_after, char_in, line_length, padded, truth_text};
+ghost use Rattle.sp_tree.specs.Characters.{is_blank, is_digit};
+ghost use Rattle.sp_tree.specs.Items.{blanks, digits, number_from, signed, number_in, number_after, digits_after, char_in, line_length, truth_text, byte};
 ghost use Rattle.sp_meaning.specs.Deeds.{shown, taken_by};
-ghost use Rattle.sp_run.specs.Comings.{Does, same};
-ghost use Rattle.sp_run.specs.DirectDeeds.{in_width};
 ghost use Rattle.sp_run.specs.Texts.{plain_taken, taken_of};
 
-use crate::machine::{Machine, Setting, Who};
-use crate::stop::{Done, Halted};
-use itoa::Buffer;
-use sp_base::{Fault, List, MAXINT, Memory};
+use sp_base::{Fault, List, MAXINT, Memory, put_signed};
 use sp_tree::KindOf;
 use std::alloc::Global;
 
@@ -169,8 +165,9 @@ pub fn line_length(bytes: &[u8]) -> usize
 fn number_text(alloc: Global, n: i64) -> Result<List<u8>, Memory>
     ensures { IfOk result (λ t. t ≡ signed_decimal n) }
 {
-    let mut buffer = Buffer::new();
-    Ok(List::from_slice(alloc, buffer.format(n).as_bytes())?)
+    let mut out = Vec::new(alloc);
+    put_signed(&mut out, n)?;
+    Ok(List::of(out))
 }
 
 fn truth_text(alloc: Global, n: i64) -> Result<List<u8>, Memory>
@@ -183,15 +180,12 @@ fn truth_text(alloc: Global, n: i64) -> Result<List<u8>, Memory>
     }
 }
 
-/// The byte of a char. No char has an ordinal above 255; a number beyond that is answered as want of memory.
+/// The byte of a char: its ordinal modulo 256.
 fn char_text(alloc: Global, n: i64) -> Result<List<u8>, Memory>
-    ensures { IfOk result (λ t. t ≡ nat_abs n ∷ []) }
+    ensures { IfOk result (λ t. t ≡ byte n ∷ []) }
 {
-    let Ok(byte) = u8::try_from(n.unsigned_abs()) else {
-        return Err(Memory);
-    };
     let mut out = List::new(alloc);
-    out.push(byte)?;
+    out.push((n.unsigned_abs() % 256) as u8)?;
     Ok(out)
 }
 
@@ -211,7 +205,7 @@ pub fn shown(alloc: Global, kind: &KindOf, n: i64) -> Result<(bool, List<u8>), M
 }
 
 /// The text, cut where it is to be cut.
-fn cut_to<'a>(cut: bool, m: usize, text: &'a [u8]) -> &'a [u8]
+pub fn cut_to<'a>(cut: bool, m: usize, text: &'a [u8]) -> &'a [u8]
     ensures { result.now ≡ (if cut then take m text.now else text.now) }
 {
     if cut && m < text.len() {
@@ -221,39 +215,15 @@ fn cut_to<'a>(cut: bool, m: usize, text: &'a [u8]) -> &'a [u8]
     }
 }
 
-/// The text right in `m` places.
-fn padded(alloc: Global, m: usize, text: &[u8]) -> Result<List<u8>, Memory>
-    ensures { IfOk result (λ t. t ≡ padded m text.now) }
+/// The text behind so many blanks.
+pub fn padded(alloc: Global, blanks: usize, text: &[u8]) -> Result<List<u8>, Memory>
+    ensures { IfOk result (λ t. t ≡ replicate blanks 32 ++ text.now) }
 {
     let mut out = Vec::new(alloc);
-    for i in 0..m.saturating_sub(text.len()) {
+    for i in 0..blanks {
         let _ = i;
         out.push(32)?;
     }
     out.extend_from_slice(text)?;
     Ok(List::of(out))
-}
-
-/// The text of an item with its width: the bytes, or F1.
-pub fn in_width(
-    run: &Setting,
-    who: &Who,
-    machine: &Machine,
-    cut: bool,
-    text: &[u8],
-    width: Option<i64>,
-) -> Done<List<u8>>
-    ensures { Does run.now who.now same machine.now result machine.now (in_width cut text.now width) }
-{
-    match width {
-        None => Ok(Ok(List::from_slice(run.alloc, text)?)),
-        Some(m) => {
-            if m <= 0 {
-                return Ok(Err(Halted::Fault(Fault::F1)));
-            }
-            let m = m as usize;
-            let shown = padded(run.alloc, m, cut_to(cut, m, text))?;
-            Ok(Ok(shown))
-        }
-    }
 }

@@ -1,7 +1,7 @@
 //! How much one step may evaluate.
 
 ghost use Rattle.std.specs.Prelude.{◌≡◌, IfOk, map};
-ghost use Rattle.sp_tree.specs.PlainOf.{stmt_of, stmts, arms_of, block_of, program_of};
+ghost use Rattle.sp_tree.specs.PlainOf.{expr_of, var_of, sends, receives, stmt_of, stmts, arms_of, block_of, program_of};
 ghost use Rattle.sp_meaning.specs.SuperPascal.{weight, weight_all, weight_arms, weight_of as weight_in, weight_blocks, enough};
 ghost use Rattle.sp_run.specs.Machines.{setting_of, plain_own};
 ghost use Rattle.sp_run.specs.Texts.{arm_of};
@@ -9,7 +9,23 @@ ghost use Rattle.sp_run.specs.Texts.{arm_of};
 use crate::kinds::sum_of;
 use crate::machine::{Own, Setting};
 use sp_base::Memory;
-use sp_tree::{Arm, Block, Checked, Form, Stmt};
+use sp_tree::{Arm, Block, Checked, Expr, Form, Stmt, Var};
+
+/// Each send is one step.
+#[tactic(auto, using(crate::proofs::Weighing::sends_weigh))]
+fn weight_of_sends(channel: &Expr, values: &[Expr]) -> u64
+    ensures { result ≡ weight_all (sends (expr_of channel.now) (map expr_of values.now)) }
+{
+    values.len() as u64
+}
+
+/// Each receive is one step.
+#[tactic(auto, using(crate::proofs::Weighing::receives_weigh))]
+fn weight_of_receives(channel: &Expr, variables: &[Var]) -> u64
+    ensures { result ≡ weight_all (receives (expr_of channel.now) (map var_of variables.now)) }
+{
+    variables.len() as u64
+}
 
 /// How many steps stand between two ticks, at most. A number beyond all memory is answered as want of memory.
 #[cycle(weight)]
@@ -38,6 +54,16 @@ pub fn weight_of(s: &Stmt) -> Result<u64, Memory>
         Form::Open(_) => Ok(1),
         Form::Send(_, _) => Ok(1),
         Form::Receive(_, _) => Ok(1),
+        Form::SendEach {
+            channel,
+            values,
+            ..
+        } => sum_of(weight_of_sends(channel, values.items()), 1),
+        Form::ReceiveEach {
+            channel,
+            variables,
+            ..
+        } => sum_of(weight_of_receives(channel, variables.items()), 1),
     }
 }
 

@@ -251,6 +251,21 @@ scan_breaks text rest tokens at r s f = record {
             let e : b.rest ≡ rest = tail_same (scans_tail b.along) (scans_tail s.along) (omega arith) in
             no_sooner o (record { rule = r; at = at }) (b.place ∙ ap (λ l. place_at text (offset text l)) e ∙ sym s.place) (f.first o.rule (subst (BreaksHere o.rule) e b.here))
 
+-- the same where the tokens are not kept
+abbrev pub PassedSoFar : List ℕ → List ℕ → Place → Type 0
+PassedSoFar text rest at = (tokens : List Token) × ScannedSoFar text rest tokens at
+
+pub pass_start : (text : List ℕ) (at : Place) → at ≡ start → length text ≤ 1048576 → PassedSoFar text text at
+pass_start text at p h = ([], scan_start text [] at refl p h)
+
+pub item_shorter : (bs r : List ℕ) (o : Option Kind) → Item bs o r → length r < length bs
+item_shorter bs r None x = gap_shorter x
+item_shorter bs r (Some k) x = lexeme_length x.1.spelled
+
+pub pass_item : (text rest after : List ℕ) (at next : Place) (o : Option Kind) → PassedSoFar text rest at → Item rest o after → ((r : Rule) → BreaksHere r rest → ⊥) → next ≡ place_behind at (take (length rest - length after) rest) → PassedSoFar text after next
+pass_item text rest after at next None (ts, s) x n e = (ts, scan_gap s after next x n e)
+pass_item text rest after at next (Some k) (ts, s) x n e = (_, scan_token s after next k _ x.0 x.1 n e refl)
+
 -- what stands first, by what it is called
 pub as_gap : (bs r : List ℕ) (o : Option Kind) → o ≡ None → Item bs o r → IsGap bs r
 as_gap bs r o e x = subst (λ o. Item bs o r) e x

@@ -4,6 +4,7 @@ use Rattle.std.specs.Borrow.{Bor}
 use Rattle.sp_tree.specs.declared.token.Kind.{Kind}
 use Rattle.sp_tree.specs.declared.token.Kind.TheVariants as kind
 use Rattle.sp_base.specs.declared.rule.Rule.{Rule}
+use Rattle.sp_base.specs.declared.halt.Refusal.{Refusal}
 use Rattle.sp_base.specs.declared.halt.Halt.{Halt}
 use Rattle.sp_base.specs.declared.halt.Halt.TheVariants as halt
 use Rattle.sp_tree.specs.declared.token.Token.{Token}
@@ -93,3 +94,8 @@ abbrev pub Scanned : List ℕ → Result (List Token) Halt → Type 0
 Scanned text (Ok ts) = IsTokens text ts
 Scanned text (Err (halt.Refused r)) = IsFirst (BreaksLexis text) r
 Scanned text (Err halt.Memory) = Unit {0}
+
+-- The text has tokens, or this is the first rule of its characters that it breaks.
+abbrev pub Passed : List ℕ → Option Refusal → Type 0
+Passed text None = (ts : List Token) × IsTokens text ts
+Passed text (Some r) = IsFirst (BreaksLexis text) r

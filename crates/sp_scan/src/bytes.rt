@@ -5,6 +5,8 @@ ghost use Rattle.sp_tree.specs.Characters.{is_blank as is_a_blank, is_letter as 
 ghost use Rattle.sp_tree.specs.Characters.{lower as lower_case};
 ghost use Rattle.sp_scan.specs.Finds.{Cuts, Passes, Strips};
 
+use sp_tree::lower;
+
 /// The first byte and the others, or none.
 pub fn cut(bytes: &[u8]) -> Option<(u8, &[u8])>
     ensures { Cuts bytes.now result }
@@ -44,17 +46,6 @@ pub fn is_digit(byte: u8) -> bool
     ensures { result ≡ is_a_digit byte }
 {
     byte.is_ascii_digit()
-}
-
-/// The lower case of a letter, and any other byte itself.
-pub fn lower(byte: u8) -> u8
-    ensures { result ≡ lower_case byte }
-{
-    if byte >= b'A' && byte <= b'Z' {
-        byte + 32
-    } else {
-        byte
-    }
 }
 
 /// Whether the bytes are the word, in upper or lower case.

@@ -9,7 +9,4 @@ mod tables;
 mod token;
 
 pub use rules::item;
-pub use scanner::{scan, spelling};
-
-#[cfg(test)]
-mod tests;
+pub use scanner::{first_breach, scan, spelling};

@@ -16,7 +16,7 @@ use Rattle.sp_tree.specs.NamedTree.{Inside, named_expression, part_named, inside
 use Rattle.sp_tree.specs.NamedOf as named
 use Rattle.sp_tree.specs.PlainNamed as n
 use Rattle.sp_tree.specs.PlainSyntax as p
-use Rattle.sp_scope.specs.declared.walked.Walked.{Walked}
+use Rattle.sp_tree.specs.declared.found.Walked.{Walked}
 use Rattle.sp_scope.specs.declared.walked.Heading.{Heading}
 use Rattle.sp_scope.specs.Walks.{Walks, heading_named, declared_by, tables_behind}
 use Rattle.sp_scope.specs.Firsts.{files_first, block_first, expression_first, title_first, part_first, opened_first, opened_named}

@@ -1,7 +1,6 @@
 -- What a part of the walk answers.
-use Rattle.std.specs.Prelude.{List, ◌∷◌, ◌++◌, Option, Some, Result, Ok, Err}
-use Rattle.sp_base.specs.declared.halt.Halt.{Halt}
-use Rattle.sp_tree.specs.Found.{Found, AnswersAs}
+use Rattle.std.specs.Prelude.{List, ◌∷◌, ◌++◌, Option, Some}
+pub use Rattle.sp_tree.specs.Found.{Walks}
 use Rattle.sp_tree.specs.declared.syntax.Name.{Name}
 use Rattle.sp_tree.specs.declared.syntax.SynFormal.{SynFormal}
 use Rattle.sp_tree.specs.PlainNamed as n
@@ -11,17 +10,8 @@ use Rattle.sp_tree.specs.declared.checked.Variable.{Variable}
 use Rattle.sp_tree.specs.NamedOf.{statement_of, program_of}
 use Rattle.sp_tree.specs.NamedTree.{Inside, program_block, formals_named, answer_named, numbers, answer_of}
 use Rattle.sp_tree.specs.Scopes.{Env, next_block, next_variable}
-use Rattle.sp_scope.specs.declared.walked.Walked.{Walked}
 use Rattle.sp_scope.specs.declared.walked.BlockParts.{BlockParts}
 use Rattle.sp_scope.specs.declared.walked.Heading.{Heading}
-
--- a part in memory as the plain tree that it stands for, with the first broken rule
-abbrev pub seen : {A B : Type 0} → (A → B) → Walked A → B × Found
-seen view w = (view w.tree, w.first)
-
--- This tree and this first broken rule up to its end, or memory was refused.
-abbrev pub Walks : {A B : Type 0} → (A → B) → Result (Walked A) Halt → B → Found → Type 0
-Walks view result tree first = AnswersAs (seen view) result (Ok (tree, first))
 
 -- a part that is plain already
 abbrev pub itself : {A : Type 0} → A → A

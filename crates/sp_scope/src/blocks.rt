@@ -11,7 +11,6 @@ ghost use Rattle.sp_tree.specs.SyntaxOf.{block_of, part_of, parts};
 ghost use Rattle.sp_scope.specs.Walks.{Walks, seen_block, declared_by};
 ghost use Rattle.sp_scope.specs.Firsts.{parts_first, part_first, block_first, block_local, inner_first, inner_local, opened_first, opened_local, opened_named, inner_named};
 
-use crate::copies::join;
 use crate::headings::{declare_title, name_heading, procedure_part};
 use crate::indices::push_indices;
 use crate::parts::{name_constant, name_type, name_variables};
@@ -38,10 +37,10 @@ fn nothing(alloc: Global) -> Named
 fn beside(a: Named, b: Named) -> Result<Named, Halt>
     ensures { AnswersAs named.program_of result (Ok (beside (named.program_of a) (named.program_of b))) }
 {
-    let constants = join(a.constants, b.constants)?;
-    let kinds = join(a.kinds, b.kinds)?;
-    let variables = join(a.variables, b.variables)?;
-    let blocks = join(a.blocks, b.blocks)?;
+    let constants = a.constants.join(b.constants)?;
+    let kinds = a.kinds.join(b.kinds)?;
+    let variables = a.variables.join(b.variables)?;
+    let blocks = a.blocks.join(b.blocks)?;
     Ok(Named {
         constants,
         kinds,

@@ -3,6 +3,8 @@
 ghost use Rattle.std.specs.Prelude.{◌≡◌, map, None, Ok};
 ghost use Rattle.std.specs.Option.{option_copied};
 ghost use Rattle.sp_scope.specs.Walks.{Walks};
+ghost use Rattle.sp_tree.specs.Found.{lesser};
+ghost use Rattle.sp_tree.specs.NameRules.{broken, Operand};
 ghost use Rattle.sp_tree.specs.Scopes.{find};
 ghost use Rattle.sp_tree.specs.NameWalk.{is_whole};
 ghost use Rattle.sp_tree.specs.NamedTree.{named_expression, named_form, named_operand, named_selectors, named_selector, named_arguments, named_argument, named_width, operand_named, function_named, variable_number, variable_read};
@@ -132,8 +134,22 @@ fn name_operand(
 {
     let SynVar { name, selectors } = v;
     let whole = is_whole(selectors.items());
-    let broken = operand_rule(name.at, whole, scopes.find(&name.text));
-    name_read(alloc, scopes, selectors, &name, lesser(first, broken))
+    let (m, first) = operand_name(scopes, &name, whole, first);
+    name_read(alloc, scopes, selectors, &name, m, first)
+}
+
+/// What a name in an expression stands for, and the first broken rule up to its end.
+fn operand_name<'s>(
+    scopes: &'s Scopes,
+    x: &Name,
+    whole: bool,
+    first: Found,
+) -> (Option<&'s Meaning>, Found)
+    ensures found { option_copied result.0 ≡ find scopes.now x.now.text }
+    ensures first { result.1 ≡ lesser first (broken scopes.now (Operand x.now whole)) }
+{
+    let m = scopes.find(&x.text);
+    (m, lesser(first, operand_rule(x.at, whole, m)))
 }
 
 #[cycle(expression)]
@@ -142,13 +158,15 @@ fn name_read(
     scopes: &Scopes,
     xs: List<SynSelector>,
     x: &Name,
+    m: Option<&Meaning>,
     first: Found,
 ) -> Result<Walked<NamedExprForm>, Halt>
+    requires found { option_copied m ≡ find scopes.now x.now.text }
     ensures { Walks named.expression_form_of result (operand_named (find scopes.now x.now.text) x.now (named.selectors (named_selectors scopes.now (selectors (map selector_of xs))))) (selectors_first scopes.now (selectors (map selector_of xs)) first) }
 {
     let Walked { tree, first } = name_selectors(alloc, scopes, xs, first)?;
     Ok(Walked {
-        tree: operand_form(alloc, scopes.find(&x.text), x, tree),
+        tree: operand_form(alloc, m, x, tree),
         first,
     })
 }
@@ -361,19 +379,28 @@ fn name_passed_variable(
 {
     let SynVar { name, selectors } = v;
     let whole = is_whole(selectors.items());
-    let first = passed_name(scopes, p, at, &name, whole, first);
-    name_read(alloc, scopes, selectors, &name, first)
+    let (m, first) = passed_name(scopes, p, at, &name, whole, first);
+    name_read(alloc, scopes, selectors, &name, m, first)
 }
 
-fn passed_name(scopes: &Scopes, p: Passing, at: Place, x: &Name, whole: bool, first: Found) -> Found
-    ensures { result ≡ passed_name_first scopes.now p at x.now whole first }
+/// What the name of an argument stands for, and the first broken rule up to its end.
+fn passed_name<'s>(
+    scopes: &'s Scopes,
+    p: Passing,
+    at: Place,
+    x: &Name,
+    whole: bool,
+    first: Found,
+) -> (Option<&'s Meaning>, Found)
+    ensures found { option_copied result.0 ≡ find scopes.now x.now.text }
+    ensures first { result.1 ≡ passed_name_first scopes.now p at x.now whole first }
 {
     let m = scopes.find(&x.text);
     if aims(p) && at == x.at {
-        lesser(first, target_rule(x.at, m))
+        (m, lesser(first, target_rule(x.at, m)))
     } else {
         let first = lesser(first, bare_rule(at, p));
-        lesser(first, operand_rule(x.at, whole, m))
+        (m, lesser(first, operand_rule(x.at, whole, m)))
     }
 }
 

@@ -10,7 +10,6 @@ ghost use Rattle.sp_scope.specs.Walks.{Walks, itself, seen_block, heading_named,
 ghost use Rattle.sp_scope.specs.Flags.{flags, all_flags};
 ghost use Rattle.sp_scope.specs.Firsts.{answer_first, title_first};
 
-use crate::copies::{copy, join};
 use crate::declarations::{check_declares, check_kind, kind_number};
 use crate::numbers::{next_block, next_variable};
 use crate::scopes::Scopes;
@@ -44,7 +43,7 @@ fn name_answer(
     match answer {
         None => Ok(List::of(out)),
         Some(t) => {
-            let name = copy(alloc, &x.text)?;
+            let name = x.text.duplicate(alloc)?;
             let kind = kind_number(scopes.find(&t.text));
             out.push(Variable {
                 name,
@@ -172,10 +171,10 @@ pub fn procedure_part(
         indices,
         parts,
     } = b;
-    let name = copy(alloc, &x.text)?;
-    let locals = join(parts.variables, indices)?;
-    let locals = join(h.results, locals)?;
-    let variables = join(h.formals, locals)?;
+    let name = x.text.duplicate(alloc)?;
+    let locals = parts.variables.join(indices)?;
+    let locals = h.results.join(locals)?;
+    let variables = h.formals.join(locals)?;
     let mut blocks = Vec::new(alloc);
     blocks.push(NamedBlock {
         name,
@@ -185,7 +184,7 @@ pub fn procedure_part(
         body,
         at: x.at,
     })?;
-    let blocks = join(List::of(blocks), parts.blocks)?;
+    let blocks = List::of(blocks).join(parts.blocks)?;
     Ok(Named {
         constants: parts.constants,
         kinds: parts.kinds,

@@ -5,7 +5,6 @@ ghost use Rattle.sp_tree.specs.Found.{Answers};
 ghost use Rattle.sp_tree.specs.NamedTree.{indices, form_indices, statements_indices, arms_indices, arm_indices, branches_indices};
 ghost use Rattle.sp_tree.specs.SyntaxOf.{statement_of, statement_form_of, statements, arms, arm_of, branches, branch_of};
 
-use crate::copies::copy;
 use sp_base::Halt;
 use sp_tree::{Role, SynArm, SynBranch, SynForm, SynStmt, Variable};
 use std::alloc::Global;
@@ -47,7 +46,7 @@ fn push_form(alloc: Global, form: &SynForm, block: u32, out: &mut Vec<Variable>)
         SynForm::For { body, .. } => push_indices(alloc, body.get(), block, out),
         SynForm::Parallel(bs) => push_branches(alloc, bs.items(), block, out),
         SynForm::Forall { name, body, .. } => {
-            let text = copy(alloc, &name.text)?;
+            let text = name.text.duplicate(alloc)?;
             out.push(Variable {
                 name: text,
                 kind: 0,

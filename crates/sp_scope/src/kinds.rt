@@ -10,7 +10,6 @@ ghost use Rattle.sp_scope.specs.Fields.{held, held_behind, fields_held, groups_h
 ghost use Rattle.sp_scope.specs.Firsts.{groups_first, messages_first, kind_first};
 
 use crate::constants::check_bound;
-use crate::copies::copy;
 use crate::declarations::{check_own_kind, constant_number, kind_number};
 use crate::numbers::{count_of, more};
 use crate::scopes::Scopes;
@@ -28,7 +27,7 @@ fn note(alloc: Global, names: &mut BTreeSet<Text>, x: &Text) -> Result<bool, Hal
     ensures after { OnOk result (names.new.keys ≡ insert_key (slice_cmp nat_cmp) names.old.keys x.now) }
 {
     let again = names.contains(x);
-    let text = copy(alloc, x)?;
+    let text = x.duplicate(alloc)?;
     names.insert(text)?;
     Ok(again)
 }
@@ -123,7 +122,7 @@ fn copy_value(alloc: Global, scopes: &Scopes, v: &SynValue) -> Result<NamedValue
     match v {
         SynValue::Number(n) => Ok(NamedValue::Number(*n)),
         SynValue::Quoted(t) => {
-            let t = copy(alloc, t)?;
+            let t = t.duplicate(alloc)?;
             Ok(NamedValue::Quoted(t))
         }
         SynValue::Named(x) => Ok(NamedValue::Constant(constant_number(scopes.find(&x.text)))),
@@ -152,7 +151,7 @@ fn push_fields(
     ensures after { OnOk result (out.new.items ≡ out.old.items ++ fields_named kind xs.now) }
 {
     for x in xs {
-        let text = copy(alloc, &x.text)?;
+        let text = x.text.duplicate(alloc)?;
         out.push((text, kind))?;
     }
     Ok(())

@@ -4,7 +4,6 @@
 mod blocks;
 mod calls;
 mod constants;
-mod copies;
 mod declarations;
 mod expressions;
 mod headings;
@@ -18,8 +17,6 @@ mod rules;
 mod scopes;
 mod standard;
 mod statements;
-#[cfg(test)]
-mod tests;
 mod variables;
 mod walked;
 

@@ -12,7 +12,6 @@ ghost use Rattle.sp_scope.specs.Firsts.{files_first};
 ghost use Rattle.sp_scope.specs.Walks.{seen_block, tables_behind};
 
 use crate::blocks::name_block;
-use crate::copies::{copy, join};
 use crate::scopes::Scopes;
 use crate::walked::BlockParts;
 use sp_base::{Halt, List, MAXINT, Place, Rule, Text};
@@ -129,11 +128,11 @@ fn tables_behind(
         indices,
         parts,
     } = b;
-    let name = copy(alloc, &x.text)?;
-    let constants = join(constants, parts.constants)?;
-    let kinds = join(kinds, parts.kinds)?;
-    let own = join(parts.variables, indices)?;
-    let variables = join(consoles, own)?;
+    let name = x.text.duplicate(alloc)?;
+    let constants = constants.join(parts.constants)?;
+    let kinds = kinds.join(parts.kinds)?;
+    let own = parts.variables.join(indices)?;
+    let variables = consoles.join(own)?;
     let mut blocks = Vec::new(alloc);
     blocks.push(NamedBlock {
         name,
@@ -143,7 +142,7 @@ fn tables_behind(
         body,
         at: x.at,
     })?;
-    let blocks = join(List::of(blocks), parts.blocks)?;
+    let blocks = List::of(blocks).join(parts.blocks)?;
     Ok(Named {
         constants,
         kinds,

@@ -9,7 +9,6 @@ ghost use Rattle.sp_tree.specs.NamedTree.{variables_named, formals_named, number
 ghost use Rattle.sp_scope.specs.Walks.{Walks, itself};
 ghost use Rattle.sp_scope.specs.Firsts.{names_first, formals_first, heading_first};
 
-use crate::copies::copy;
 use crate::declarations::{check_declares, check_kind, kind_number};
 use crate::numbers::{more, next_variable};
 use crate::scopes::Scopes;
@@ -107,7 +106,7 @@ pub fn push_variables(
     ensures after { OnOk result (out.new.items ≡ out.old.items ++ variables_named block role kind xs.now) }
 {
     for x in xs {
-        let name = copy(alloc, &x.text)?;
+        let name = x.text.duplicate(alloc)?;
         out.push(Variable {
             name,
             kind,

@@ -1,14 +1,8 @@
 //! What the walk gives of a part of the tree.
 
 use sp_base::List;
-use sp_tree::{Found, Named, NamedStmt, Variable};
-
-/// A part with numbers for names, and the first rule that is broken up to its end.
-#[derive(Drop)]
-pub struct Walked<T> {
-    pub tree: T,
-    pub first: Found,
-}
+pub use sp_tree::Walked;
+use sp_tree::{Named, NamedStmt, Variable};
 
 /// What stands in a block: the number of its result's variable, its statement part, the indices of the foralls there, and
 /// what its parts declare.

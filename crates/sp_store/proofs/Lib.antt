@@ -1,3 +1,2 @@
 pub mod Frames
 pub mod Places
-pub mod Rooted

@@ -2,6 +2,7 @@
 //! back.
 #![tactic(auto)]
 
+mod asks;
 mod entry;
 mod fork;
 mod frame;
@@ -9,7 +10,5 @@ mod hand;
 mod send;
 mod slots;
 mod store;
-#[cfg(test)]
-mod tests;
 
 pub use store::Store;

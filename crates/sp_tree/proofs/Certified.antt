@@ -5,34 +5,35 @@ use Rattle.sp_tree.specs.declared.checked.Role.TheVariants as role
 use Rattle.sp_tree.specs.Plain.{Actuals, Program, Variable, Block, Stmts, No, And}
 use Rattle.sp_tree.specs.Uses.{Use, Aims, Sees, Runs, Splits, Spreads, Stops, In_stmt, In_stmts}
 use Rattle.sp_tree.specs.Sets.{IsBelow, IsFree, Reach, IsTarget, IsSeen, IsUsed, Implicit}
+use Rattle.sp_tree.specs.Formed.{is_answer}
 use Rattle.sp_tree.specs.Interference.{refs, IsMember, AllDifferent, KeepsI1, KeepsRules, IsFreeOfInterference}
 use Rattle.sp_tree.proofs.UsesOf.{Among, stmt_uses, stmts_uses, stmt_among, stmts_among}
 
-and_left : (a b : Bool) → a && b ≡ true → a ≡ true
+pub and_left : (a b : Bool) → a && b ≡ true → a ≡ true
 and_left true b h = refl
 and_left false b h = h
 
-and_right : (a b : Bool) → a && b ≡ true → b ≡ true
+pub and_right : (a b : Bool) → a && b ≡ true → b ≡ true
 and_right true b h = h
 and_right false b h = absurd (cc h)
 
-or_cases : (a b : Bool) → a || b ≡ true → (a ≡ true) ⊎ (b ≡ true)
+pub or_cases : (a b : Bool) → a || b ≡ true → (a ≡ true) ⊎ (b ≡ true)
 or_cases true b h = inl refl
 or_cases false b h = inr h
 
-or_left : (a b : Bool) → a ≡ true → a || b ≡ true
+pub or_left : (a b : Bool) → a ≡ true → a || b ≡ true
 or_left true b h = refl
 or_left false b h = absurd (cc h)
 
-or_right : (a b : Bool) → b ≡ true → a || b ≡ true
+pub or_right : (a b : Bool) → b ≡ true → a || b ≡ true
 or_right true b h = refl
 or_right false b h = h
 
-not_true : (b : Bool) → not b ≡ true → b ≡ true → ⊥
+pub not_true : (b : Bool) → not b ≡ true → b ≡ true → ⊥
 not_true true h e = cc h
 not_true false h e = cc e
 
-some_is : {A : Type 0} (x y : A) → Some x ≡ Some y → x ≡ y
+pub some_is : {A : Type 0} (x y : A) → Some x ≡ Some y → x ≡ y
 some_is x y e = cc e
 
 abbrev pub has : List ℕ → ℕ → Bool
@@ -43,7 +44,7 @@ abbrev pub each : (ℕ → Bool) → List ℕ → Bool
 each f [] = true
 each f (x ∷ xs) = f x && each f xs
 
-each_has : (f : ℕ → Bool) (xs : List ℕ) (x : ℕ) → each f xs ≡ true → has xs x ≡ true → f x ≡ true
+pub each_has : (f : ℕ → Bool) (xs : List ℕ) (x : ℕ) → each f xs ≡ true → has xs x ≡ true → f x ≡ true
 each_has f [] x h e = absurd (cc e)
 each_has f (y ∷ ys) x h e = go (or_cases (x == y) (has ys x) e) (λ k. each_has f ys x (and_right (f y) (each f ys) h) k)
   where
@@ -51,7 +52,7 @@ each_has f (y ∷ ys) x h e = go (or_cases (x == y) (has ys x) e) (λ k. each_ha
     go (inl k) ih = subst (λ z. f z ≡ true) (sym (eqb-true x y k)) (and_left (f y) (each f ys) h)
     go (inr k) ih = ih k
 
-member_has : (x : ℕ) (xs : List ℕ) → IsMember x xs → has xs x ≡ true
+pub member_has : (x : ℕ) (xs : List ℕ) → IsMember x xs → has xs x ≡ true
 member_has x [] h = absurd h
 member_has x (y ∷ ys) (inl e) = or_left (x == y) (has ys x) (eq-eqb x y e)
 member_has x (y ∷ ys) (inr h) = or_right (x == y) (has ys x) (member_has x ys h)
@@ -94,14 +95,6 @@ is_index role.Reference = false
 is_index role.Index = true
 is_index role.Answer = false
 
-abbrev pub is_answer : Role → Bool
-is_answer role.Console = false
-is_answer role.Local = false
-is_answer role.Value = false
-is_answer role.Reference = false
-is_answer role.Index = false
-is_answer role.Answer = true
-
 console_is : (r : Role) → is_console r ≡ true → r ≡ role.Console
 console_is role.Console h = refl
 console_is role.Local h = absurd (cc h)
@@ -138,7 +131,7 @@ abbrev pub all_uses : (Use → Bool) → List Use → Bool
 all_uses f [] = true
 all_uses f (u ∷ us) = f u && all_uses f us
 
-use_passes : (f : Use → Bool) (us : List Use) (u : Use) → all_uses f us ≡ true → Among u us → f u ≡ true
+pub use_passes : (f : Use → Bool) (us : List Use) (u : Use) → all_uses f us ≡ true → Among u us → f u ≡ true
 use_passes f [] u h a = absurd a
 use_passes f (v ∷ vs) u h (inl e) = subst (λ z. f z ≡ true) (sym e) (and_left (f v) (all_uses f vs) h)
 use_passes f (v ∷ vs) u h (inr a) = use_passes f vs u (and_right (f v) (all_uses f vs) h) a
@@ -197,7 +190,7 @@ module _ (p : Program) (claims : List Claim) where
   abbrev pub declares : ℕ → ℕ → Bool
   declares b x = by_variable (λ i. below_in (length p.blocks) i.block b) (slice_get p.variables x)
 
-  not_free : (b x : ℕ) → declares b x ≡ true → IsFree p b x → ⊥
+  pub not_free : (b x : ℕ) → declares b x ≡ true → IsFree p b x → ⊥
   not_free b x h f = let i = variable_is (λ i. below_in (length p.blocks) i.block b) (slice_get p.variables x) h in let r = is_below (length p.blocks) i.0.block b i.2 in f i.0 i.1 r.0 r.1
 
   abbrev pub T : ℕ → List ℕ
@@ -288,13 +281,13 @@ module _ (p : Program) (claims : List Claim) where
     closed_use b k e u h = use_passes (is_closed b) (stmt_uses k.body) u (and_left _ (all_uses keeps (stmt_uses k.body)) (body_of b k e)) (stmt_among k.body u h)
 
     -- what paths reach was claimed
-    reached_target : (bs : List ℕ) (x b : ℕ) (k : Block) → slice_get p.blocks b ≡ Some k → Reach p (In_stmt k.body) bs (Aims x) → IsFree p b x → has (T b) x ≡ true
+    pub reached_target : (bs : List ℕ) (x b : ℕ) (k : Block) → slice_get p.blocks b ≡ Some k → Reach p (In_stmt k.body) bs (Aims x) → IsFree p b x → has (T b) x ≡ true
     reached_target [] x b k e r f = covered b x (T b) (closed_use b k e (Aims x) r) f
     reached_target (c ∷ bs) x b k e r f =
         let inner : has (T c) x ≡ true = reached_target bs x c r.2 r.3 r.5 r.4 in
         covered b x (T b) (each_has (covers b (T b)) (T c) x (and_left _ (each (covers b (S b)) (S c)) (closed_use b k e (Runs c r.0) r.1)) inner) f
 
-    reached_seen : (bs : List ℕ) (x b : ℕ) (k : Block) → slice_get p.blocks b ≡ Some k → Reach p (In_stmt k.body) bs (Sees x) → IsFree p b x → has (S b) x ≡ true
+    pub reached_seen : (bs : List ℕ) (x b : ℕ) (k : Block) → slice_get p.blocks b ≡ Some k → Reach p (In_stmt k.body) bs (Sees x) → IsFree p b x → has (S b) x ≡ true
     reached_seen [] x b k e r f = covered b x (S b) (closed_use b k e (Sees x) r) f
     reached_seen (c ∷ bs) x b k e r f =
         let inner : has (S c) x ≡ true = reached_seen bs x c r.2 r.3 r.5 r.4 in
@@ -360,7 +353,7 @@ module _ (p : Program) (claims : List Claim) where
     seen_called (Stops ∷ us) x c args (inl e) h = absurd (cc e)
     seen_called (Stops ∷ us) x c args (inr a) h = seen_called us x c args a h
 
-    target_has : (Here : Use → Type 0) (us : List Use) → ((u : Use) → Here u → Among u us) → (x : ℕ) → IsTarget p Here x → has (aims_of us) x ≡ true
+    pub target_has : (Here : Use → Type 0) (us : List Use) → ((u : Use) → Here u → Among u us) → (x : ℕ) → IsTarget p Here x → has (aims_of us) x ≡ true
     target_has Here us m x ([], r) = aimed_here us x (m (Aims x) r)
     target_has Here us m x (c ∷ bs, r) = aimed_called us x c r.0 (m (Runs c r.0) r.1) (reached_target bs x c r.2 r.3 r.5 r.4)
 
@@ -389,7 +382,7 @@ module _ (p : Program) (claims : List Claim) where
     none_here : (xs : List ℕ) (x : ℕ) → each (λ y. false) xs ≡ true → has xs x ≡ true → ⊥
     none_here xs x h a = let e = each_has (λ y. false) xs x h a in absurd (cc e)
 
-    use_kept : (u : Use) → keeps u ≡ true → KeepsRules p u
+    pub use_kept : (u : Use) → keeps u ≡ true → KeepsRules p u
     use_kept (Aims x) h = tt
     use_kept (Sees x) h = tt
     use_kept (Runs c args) h =

@@ -1,13 +1,12 @@
 -- Worked programs that keep the rules of interference, by computing, and some that break them.
-use Rattle.std.proofs.Common.{◌≡◌, inl, inr, ℕ, zero, suc, sym, subst, ap, ◌∙◌, [], ◌∷◌, Some, None, refl, arith}
-use Rattle.std.specs.Prelude.{pos, slice_get}
+use Rattle.std.proofs.Common.{inl, inr, ℕ, [], ◌∷◌, Some, None, refl}
+use Rattle.std.specs.Prelude.{pos}
 use Rattle.sp_tree.specs.declared.checked.KindOf.TheVariants as kind
 use Rattle.sp_tree.specs.declared.checked.Role.{Role}
 use Rattle.sp_tree.specs.declared.checked.Role.TheVariants as role
 use Rattle.sp_tree.specs.declared.operators.BinaryOp.TheVariants as op
-use Rattle.sp_tree.specs.Plain.{Expr, Typed, Number, Read, Binary, Apply, Var, Entire, Whole, Index, Select, ByValue, ByReference, Actuals, Nothing, Pass, Program, Variable, Block, Stmt, Assign, Call, Sequence, If, IfElse, Parallel, Forall, WriteValue, Open, Send, Receive, No, And}
-use Rattle.sp_tree.specs.Sets.{IsFree}
-use Rattle.sp_tree.specs.Interference.{KeepsI1, KeepsI2, KeepsI4, KeepsI6, IsFreeOfInterference}
+use Rattle.sp_tree.specs.Plain.{Expr, Typed, Number, Read, Binary, Apply, Var, Entire, Whole, Index, Select, ByValue, ByReference, Actuals, Nothing, Pass, Program, Variable, Block, Stmt, Assign, Call, Sequence, IfElse, Parallel, Forall, WriteValue, Open, Send, Receive, No, And}
+use Rattle.sp_tree.specs.Interference.{KeepsI1, KeepsI2, KeepsI4, IsFreeOfInterference}
 use Rattle.sp_tree.proofs.Certified.{Claim, certified}
 
 abbrev num : ℕ → Expr
@@ -149,26 +148,3 @@ components_refused h = h.0 2 ([], inl (inl refl)) (inl ([], inl (inl (inl refl))
 -- an element statement with a target
 pub element_target_refused : KeepsI2 pipeline (Assign (var 3) (get 7)) → ⊥
 element_target_refused h = h 3 ([], inl (inl refl))
-
--- a recursive procedure with an implicit variable
-abbrev counts_itself : Block
-counts_itself = record { parent = Some 0; formals = []; answer = None; body = Sequence (And (Assign (var 2) (plus (get 2) 1)) (And (If (Typed 0 (Binary op.Lt (get 2) (num 3))) (Call 1 Nothing)) No)) }
-
-abbrev recursive : Program
-recursive = record {
-  kinds = kind.Integer ∷ [];
-  variables = console ∷ console ∷ declared 0 0 role.Local ∷ [];
-  blocks = the_program (Sequence (And (Assign (var 2) (num 0)) (And (Call 1 Nothing) No))) ∷ counts_itself ∷ [];
-}
-
-pub recursive_refused : KeepsI6 recursive 1 → ⊥
-recursive_refused h = absurd (omega (arith, h (0, 1, refl, counts_itself, refl, Nothing, inr (inl (inr (inl refl)))) 2 (counts_itself, refl, outside, inl ([], inl (inl (inl refl))))))
-  where
-    outside : IsFree recursive 1 2
-    outside i e zero d = let s : declared 0 0 role.Local ≡ i = cc e in cc (s, d)
-    outside i e (suc n) d =
-        let s : declared 0 0 role.Local ≡ i = cc e in
-        let at : slice_get recursive.blocks 0 ≡ Some d.0 = subst (λ (z : Variable). slice_get recursive.blocks z.block ≡ Some d.0) (sym s) d.1 in
-        let b : the_program (Sequence (And (Assign (var 2) (num 0)) (And (Call 1 Nothing) No))) ≡ d.0 = cc at in
-        let p : None ≡ Some d.2 = ap (λ (z : Block). z.parent) b ∙ d.3 in
-        absurd (cc p)

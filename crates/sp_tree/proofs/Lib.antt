@@ -2,3 +2,11 @@ pub mod UsesOf
 pub mod Certified
 pub mod Closure
 pub mod InterferenceRows
+pub mod Fused
+pub mod FusedStatements
+pub mod Sited
+pub mod NoBreach
+pub mod Reached
+pub mod Unbroken
+pub mod BreachRows
+pub mod FormedRows

@@ -5,6 +5,7 @@ use Rattle.sp_base.specs.declared.rule.Rule.{Rule}
 use Rattle.sp_base.specs.declared.halt.Refusal.{Refusal}
 use Rattle.sp_base.specs.declared.halt.Halt.{Halt}
 use Rattle.sp_base.specs.declared.halt.Halt.TheVariants as halt
+use Rattle.sp_tree.specs.declared.found.Walked.{Walked}
 use Rattle.sp_tree.specs.First.{before}
 
 -- a broken rule with its place, or none
@@ -52,3 +53,11 @@ abbrev pub AnswersAs : {A B : Type 0} → (A → B) → Result A Halt → Result
 AnswersAs view (Ok x) d = d ≡ Ok (view x)
 AnswersAs view (Err (halt.Refused r)) d = d ≡ Err r
 AnswersAs view (Err halt.Memory) d = Unit {0}
+
+-- a part in memory as the plain tree that it stands for, with the first broken rule
+abbrev pub walked_as : {A B : Type 0} → (A → B) → Walked A → B × Found
+walked_as view w = (view w.tree, w.first)
+
+-- This tree and this first broken rule up to its end, or memory was refused.
+abbrev pub Walks : {A B : Type 0} → (A → B) → Result (Walked A) Halt → B → Found → Type 0
+Walks view result tree first = AnswersAs (walked_as view) result (Ok (tree, first))

@@ -3,7 +3,7 @@ use Rattle.std.specs.Prelude.{◌≡◌, ◌⊎◌, ℕ, ◌<◌, List, [], ◌�
 use Rattle.sp_tree.specs.declared.checked.Role.TheVariants as role
 use Rattle.sp_tree.specs.Plain.{Entire, ByValue, ByReference, Actuals, Nothing, Pass, Program, Variable, Block, Stmt, Stmts, No, And}
 use Rattle.sp_tree.specs.Uses.{Use, Aims, Sees, Runs, Splits, Spreads, Stops, In_stmt, In_stmts}
-use Rattle.sp_tree.specs.Sets.{IsBelow, IsTarget, IsUsed, ImplicitTarget, Implicit, LeadsToStop}
+use Rattle.sp_tree.specs.Sets.{IsBelow, IsTarget, IsUsed, Implicit}
 
 -- the entire variables of the actual variable parameters
 abbrev pub refs : Actuals → List ℕ
@@ -38,20 +38,8 @@ module _ (p : Program) where
   abbrev pub IsCalledInside : ℕ → Type 0
   IsCalledInside b = (n c : ℕ) × IsBelow p n c b × (k : Block) × (slice_get p.blocks c ≡ Some k) × (args : Actuals) × In_stmt k.body (Runs b args)
 
-  abbrev pub KeepsI6 : ℕ → Type 0
-  KeepsI6 b = IsCalledInside b → (x : ℕ) → Implicit p b x → x < 2
-
   abbrev pub IsFunction : ℕ → Type 0
   IsFunction b = (k : Block) × (x : ℕ) × (slice_get p.blocks b ≡ Some k) × (k.answer ≡ Some x)
-
-  abbrev pub KeepsI7 : ℕ → Type 0
-  KeepsI7 b = IsFunction b → (k : Block) → slice_get p.blocks b ≡ Some k → (x : ℕ) → IsMember x k.formals → (i : Variable) → slice_get p.variables x ≡ Some i → i.role ≡ role.Reference → ⊥
-
-  abbrev pub KeepsI8 : ℕ → Type 0
-  KeepsI8 b = IsFunction b → (x : ℕ) → ImplicitTarget p b x → ⊥
-
-  abbrev pub KeepsI9 : ℕ → Type 0
-  KeepsI9 b = IsFunction b → LeadsToStop p b → ⊥
 
   abbrev pub IsIndexOf : ℕ → Type 0
   IsIndexOf x = (i : Variable) × (slice_get p.variables x ≡ Some i) × (i.role ≡ role.Index)

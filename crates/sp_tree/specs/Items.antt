@@ -1,15 +1,9 @@
 -- Numbers read from the input, and items as they are written.
-use Rattle.std.specs.Prelude.{ℕ, suc, ◌+◌, ◌-◌, ◌*◌, ◌==◌, ℤ, pos, neg_ℤ, List, [], ◌∷◌, ◌++◌, Bool, true, false, ◌&&◌, ◌||◌, if◌then◌else◌, nat_le, int_le, length, take, drop, replicate, codes}
+use Rattle.std.specs.Prelude.{ℕ, suc, ◌+◌, ◌-◌, ◌*◌, ◌%◌, ◌==◌, nat_abs, ℤ, pos, neg_ℤ, List, [], ◌∷◌, ◌++◌, Bool, true, false, ◌||◌, if◌then◌else◌, int_le, length, take, drop, replicate, codes}
 use Rattle.sp_base.specs.declared.fault.Fault.{Fault}
 use Rattle.sp_base.specs.declared.fault.Fault.TheVariants as fault
+pub use Rattle.sp_tree.specs.Characters.{is_blank, is_digit}
 use Rattle.sp_tree.specs.Operators.{is_integer}
-
--- space, tab, form feed, carriage return, line feed
-abbrev pub is_blank : ℕ → Bool
-is_blank b = (b == 32) || ((b == 9) || ((b == 12) || ((b == 13) || (b == 10))))
-
-abbrev pub is_digit : ℕ → Bool
-is_digit b = nat_le 48 b && nat_le b 57
 
 -- how many blanks stand first
 abbrev pub blanks : List ℕ → ℕ
@@ -79,3 +73,7 @@ padded m t = replicate (m - length t) 32 ++ t
 
 abbrev pub truth_text : ℤ → List ℕ
 truth_text n = if int_le n (pos 0) then codes "false" else codes "true"
+
+-- the byte of a char, which is its ordinal modulo 256: only code from a file can have a greater one
+abbrev pub byte : ℤ → ℕ
+byte n = nat_abs n % 256

@@ -1,5 +1,10 @@
 pub mod Plain
 pub mod PlainOf
+pub mod PlainChecked
+pub mod CheckedOf
+pub mod Bare
+pub mod Formed
+pub mod Around
 pub mod PlainSyntax
 pub mod SyntaxOf
 pub mod Words

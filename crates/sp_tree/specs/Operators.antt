@@ -45,8 +45,15 @@ modulo i j = if int_lt (int_rem i j) (pos 0) then int_rem i j +ℤ j else int_re
 abbrev pub same_ordinal : ℤ → ℤ → Bool
 same_ordinal m n = int_le m n && int_le n m
 
-abbrev pub is_true : ℤ → Bool
-is_true n = not (int_le n (pos 0))
+-- for loops, up and down: there is a value, there is a next one, the next one
+abbrev pub is_range : Bool → ℤ → ℤ → Bool
+is_range down from to = if down then int_le to from else int_le from to
+
+abbrev pub is_before : Bool → ℤ → ℤ → Bool
+is_before down n limit = if down then int_lt limit n else int_lt n limit
+
+abbrev pub next_value : Bool → ℤ → ℤ
+next_value down n = if down then n -ℤ pos 1 else n +ℤ pos 1
 
 abbrev pub absolute : ℤ → Worked
 absolute n = integer (pos (nat_abs n))

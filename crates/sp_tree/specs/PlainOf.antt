@@ -84,6 +84,15 @@ abbrev pub chosen : Expr → Stmt → Option Stmt → Stmt
 chosen c a None = If c a
 chosen c a (Some b) = IfElse c a b
 
+-- the single statements for several values, or variables, on one channel
+abbrev pub sends : Expr → List Expr → Stmts
+sends c [] = No
+sends c (e ∷ rest) = And (Send c e) (sends c rest)
+
+abbrev pub receives : Expr → List Var → Stmts
+receives c [] = No
+receives c (v ∷ rest) = And (Receive c v) (receives c rest)
+
 abbrev pub stmt_form_step : s.Form-F Stmt Arm Stmt → Stmt
 stmt_form_step s.Empty = Empty
 stmt_form_step (s.Assign v a) = Assign (var_of v) (expr_of a)
@@ -105,6 +114,8 @@ stmt_form_step s.WriteLine = WriteLine
 stmt_form_step (s.Open v) = Open (var_of v)
 stmt_form_step (s.Send c a) = Send (expr_of c) (expr_of a)
 stmt_form_step (s.Receive c v) = Receive (expr_of c) (var_of v)
+stmt_form_step (s.SendEach at n c es) = Sequence (sends (expr_of c) (map expr_of es))
+stmt_form_step (s.ReceiveEach at n c vs) = Sequence (receives (expr_of c) (map var_of vs))
 
 abbrev pub arm_step : s.Arm-F Stmt Arm Stmt → Arm
 arm_step a = On a.constants a.body

@@ -208,6 +208,20 @@ pub enum Form {
     Send(Expr, Expr),
     /// A channel and a variable.
     Receive(Expr, Var),
+    /// Several values on one channel: single statements at one place, numbered from a number on.
+    SendEach {
+        at: Place,
+        number: u32,
+        channel: Expr,
+        values: List<Expr>,
+    },
+    /// Several variables from one channel: single statements at one place, numbered from a number on.
+    ReceiveEach {
+        at: Place,
+        number: u32,
+        channel: Expr,
+        variables: List<Var>,
+    },
 }
 
 /// One choice of a `case` statement: its constants and its statement.

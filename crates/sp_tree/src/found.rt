@@ -10,6 +10,13 @@ use std::cmp::Ordering;
 /// A broken rule with its place, or none.
 pub type Found = Option<Refusal>;
 
+/// A part of a tree, and the first rule that is broken up to its end.
+#[derive(Drop)]
+pub struct Walked<T> {
+    pub tree: T,
+    pub first: Found,
+}
+
 /// The rule's row in the rule table, counted from 0.
 pub fn row(rule: Rule) -> u32
     ensures { result ≡ row rule }

@@ -3,6 +3,7 @@
 
 mod checked;
 mod found;
+mod letter;
 mod meaning;
 mod named;
 mod operators;
@@ -15,7 +16,8 @@ pub mod word;
 pub use checked::{
     Actual, Arm, Block, Checked, Expr, ExprForm, Form, KindOf, Role, Selector, Stmt, Var, Variable,
 };
-pub use found::{Found, before, breaks, breaks_if, lesser, row};
+pub use found::{Found, Walked, before, breaks, breaks_if, lesser, row};
+pub use letter::lower;
 pub use meaning::{Counts, Meaning, Passing, Sort, StandardProcedure};
 pub use named::{
     Named, NamedAnswer, NamedArg, NamedArm, NamedBlock, NamedBranch, NamedConst, NamedConstant,

@@ -6,9 +6,11 @@ pub mod Laws
 pub mod Steps
 pub mod Counts
 pub mod Numbering
+pub mod StatementNumbers
 pub mod Capping
 pub mod Declared
 pub mod KeptKinds
 pub mod Tops
 pub mod Seeing
 pub mod Noting
+pub mod Singles

@@ -10,7 +10,7 @@ use Rattle.sp_tree.specs.declared.syntax.SynKind.TheVariants as kinds
 use Rattle.sp_tree.specs.NameFirst.{resolved}
 use Rattle.sp_tree.specs.PlainNamed as n
 use Rattle.sp_tree.specs.PlainSyntax as p
-use Rattle.sp_types.specs.PlainChecked as c
+use Rattle.sp_tree.specs.PlainChecked as c
 use Rattle.sp_types.specs.TypeFirst.{typed}
 use Rattle.sp_tree.specs.Found.{Found, breaks}
 use Rattle.sp_types.proofs.Rows.{col}

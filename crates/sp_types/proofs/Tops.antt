@@ -8,7 +8,7 @@ use Rattle.sp_tree.specs.Cells.{sizes}
 use Rattle.sp_tree.specs.Found.{Found, lesser, outcome}
 use Rattle.sp_tree.specs.PlainNamed as n
 use Rattle.sp_types.specs.declared.tables.Ordinal.{Ordinal}
-use Rattle.sp_types.specs.PlainChecked as c
+use Rattle.sp_tree.specs.PlainChecked as c
 use Rattle.sp_types.specs.Capped.{capped, capped_sizes}
 use Rattle.sp_types.specs.Tables.{Env, numbers_from, constants_from, kinds_from, numbers_of, constants_of, env_of}
 use Rattle.sp_types.specs.TypeRules.{frame_rule, frame_cells}

@@ -10,8 +10,8 @@ use Rattle.sp_tree.specs.declared.named.NamedValue.TheVariants as given
 use Rattle.sp_tree.specs.NamedOf.{statements, arms, branches, arguments}
 use Rattle.sp_tree.specs.NamedTree.{standard_constants, standard_kinds, consoles}
 use Rattle.sp_tree.specs.PlainNamed as n
-use Rattle.sp_types.specs.PlainChecked as c
-use Rattle.sp_types.specs.CheckedOf as of_
+use Rattle.sp_tree.specs.PlainChecked as c
+use Rattle.sp_tree.specs.CheckedOf as of_
 use Rattle.sp_types.specs.Tables.{env_of}
 use Rattle.sp_types.specs.TypeWalk.{started, starts_of}
 use Rattle.sp_types.specs.CheckedTree.{program_checked, checked_statement}

@@ -1,6 +1,6 @@
 -- The checked tree of a program. It is there for every tree with numbers for names; where no rule of types is broken, each
 -- part has its type.
-use Rattle.std.specs.Prelude.{ℕ, ◌+◌, ℤ, pos, List, [], ◌∷◌, ◌++◌, Option, Some, None, slice_get}
+use Rattle.std.specs.Prelude.{ℕ, ◌+◌, ℤ, pos, List, [], ◌∷◌, ◌++◌, Option, Some, None, slice_get, map}
 use Rattle.sp_base.specs.declared.place.Place.{Place}
 use Rattle.sp_tree.specs.declared.checked.Role.{Role}
 use Rattle.sp_tree.specs.declared.checked.Role.TheVariants as role
@@ -11,8 +11,8 @@ use Rattle.sp_tree.specs.declared.named.NamedConst.{NamedConst}
 use Rattle.sp_tree.specs.PlainNamed as n
 use Rattle.sp_tree.specs.PlainNamed.{Expression, At, ExpressionForm, Number, Quoted, Constant, Read, Apply, Standard, Unary, Binary, Variable, Entire, Selector, Index, Field, Selectors, Whole, Select, Argument, Pass, Width, NoWidth, Within, Arguments, NoArgument, AndArgument, Statement, Does, Form, Empty, Assign, Call, Perform, Sequence, If, While, Repeat, Case, For, Parallel, Forall, Assume, Other, NoElse, Else, Statements, NoStatement, AndThen, Arm, On, Arms, NoArm, Or, Branches, NoBranch, Beside}
 use Rattle.sp_types.specs.declared.tables.Ordinal.{Ordinal}
-use Rattle.sp_types.specs.PlainChecked as c
-use Rattle.sp_types.specs.CheckedOf as of_
+use Rattle.sp_tree.specs.PlainChecked as c
+use Rattle.sp_tree.specs.CheckedOf as of_
 use Rattle.sp_types.specs.Tables.{Env, entry, kind_at, const_value, char_of, number_or, variable_kind, formals_of, counted, indexed, env_of, answer_variable}
 use Rattle.sp_types.specs.TypeRules.{field_in}
 use Rattle.sp_types.specs.Kinds.{form_kind, expression_kind, selection}
@@ -119,14 +119,17 @@ module _ (env : Env) where
   opens NoArgument = []
   opens (AndArgument a rest) = c.Open (argument_variable a) ∷ opens rest
 
+  -- the variables of several arguments
+  abbrev pub argument_variables : Arguments → List c.Variable
+  argument_variables NoArgument = []
+  argument_variables (AndArgument a rest) = argument_variable a ∷ argument_variables rest
+
   -- the channel is evaluated in each
   abbrev pub sends : c.Expression → Arguments → List c.Form
-  sends channel NoArgument = []
-  sends channel (AndArgument a rest) = c.Send channel (checked_argument a) ∷ sends channel rest
+  sends channel args = map (λ (e : c.Expression). c.Send channel e) (checked_arguments args)
 
   abbrev pub receives : c.Expression → Arguments → List c.Form
-  receives channel NoArgument = []
-  receives channel (AndArgument a rest) = c.Receive channel (argument_variable a) ∷ receives channel rest
+  receives channel args = map (λ (v : c.Variable). c.Receive channel v) (argument_variables args)
 
   abbrev pub singles : StandardProcedure → Arguments → List c.Form
   singles procedure.Read args = reads args

@@ -7,7 +7,7 @@ use Rattle.sp_tree.specs.declared.checked.Variable as checked
 use Rattle.sp_tree.specs.Found.{Found, outcome}
 use Rattle.sp_tree.specs.PlainNamed as n
 use Rattle.sp_types.specs.declared.tables.Ordinal.{Ordinal}
-use Rattle.sp_types.specs.PlainChecked as c
+use Rattle.sp_tree.specs.PlainChecked as c
 use Rattle.sp_types.specs.Tables.{Env, types_of, roles_of, signatures}
 use Rattle.sp_types.specs.TypeWalk.{bodies, starts_from, starts_of, blocks_after}
 use Rattle.sp_types.specs.CheckedTree.{checked_blocks, checked_variables}

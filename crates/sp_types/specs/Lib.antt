@@ -1,11 +1,10 @@
-pub mod PlainChecked
-pub mod CheckedOf
 pub mod Entries
 pub mod Tables
 pub mod TypeRules
 pub mod Kinds
 pub mod TypeWalk
 pub mod CheckedTree
+pub mod StatementNumbers
 pub mod TypeFirst
 pub mod Firsts
 pub mod Types

@@ -4,7 +4,7 @@ use Rattle.sp_base.specs.declared.halt.Refusal.{Refusal}
 use Rattle.sp_tree.specs.Found.{Found, lesser, listed, outcome}
 use Rattle.sp_tree.specs.NameFirst.{Onward, none_more, both, together}
 use Rattle.sp_tree.specs.PlainNamed.{Program}
-use Rattle.sp_types.specs.PlainChecked as c
+use Rattle.sp_tree.specs.PlainChecked as c
 use Rattle.sp_types.specs.TypeWalk.{program_sites}
 use Rattle.sp_types.specs.CheckedTree.{program_checked}
 

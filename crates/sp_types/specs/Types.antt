@@ -1,9 +1,9 @@
 -- What a part of the walk answers.
 use Rattle.std.specs.Prelude.{ℕ, Option, Result, Ok}
 use Rattle.sp_base.specs.declared.halt.Halt.{Halt}
+pub use Rattle.sp_tree.specs.Found.{walked_as, Walks}
 use Rattle.sp_tree.specs.Found.{Found, AnswersAs}
 use Rattle.sp_types.specs.declared.typed.Typed.{Typed}
-use Rattle.sp_types.specs.declared.typed.Walked.{Walked}
 
 -- a part in memory as the plain tree that it stands for, with its type and the first broken rule
 abbrev pub typed_as : {A B : Type 0} → (A → B) → Typed A → B × Option ℕ × Found
@@ -12,10 +12,3 @@ typed_as view w = (view w.tree, w.kind, w.first)
 -- This tree, this type and this first broken rule up to its end, or memory was refused.
 abbrev pub Types : {A B : Type 0} → (A → B) → Result (Typed A) Halt → B → Option ℕ → Found → Type 0
 Types view result tree kind first = AnswersAs (typed_as view) result (Ok (tree, kind, first))
-
--- the same of a part without a type
-abbrev pub walked_as : {A B : Type 0} → (A → B) → Walked A → B × Found
-walked_as view w = (view w.tree, w.first)
-
-abbrev pub Walks : {A B : Type 0} → (A → B) → Result (Walked A) Halt → B → Found → Type 0
-Walks view result tree first = AnswersAs (walked_as view) result (Ok (tree, first))

@@ -3,7 +3,7 @@
 ghost use Rattle.std.specs.Prelude.{◌≡◌, map, Ok, OnOk};
 ghost use Rattle.sp_tree.specs.NamedOf.{block_of};
 ghost use Rattle.sp_types.specs.Types.{Walks};
-ghost use Rattle.sp_types.specs.CheckedOf as checked;
+ghost use Rattle.sp_tree.specs.CheckedOf as checked;
 ghost use Rattle.sp_types.specs.TypeWalk.{started, statement_after, blocks_after};
 ghost use Rattle.sp_types.specs.Firsts.{statement_first};
 ghost use Rattle.sp_types.specs.DeclarationFirsts.{answer_first, blocks_first};

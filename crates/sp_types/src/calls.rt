@@ -3,8 +3,8 @@
 ghost use Rattle.std.specs.Prelude.{◌≡◌, map, Ok, option_map};
 ghost use Rattle.sp_tree.specs.NamedOf.{expression_of, argument_of, arguments, width};
 ghost use Rattle.sp_types.specs.Types.{Walks};
-ghost use Rattle.sp_types.specs.CheckedOf as checked;
-ghost use Rattle.sp_types.specs.PlainChecked as c;
+ghost use Rattle.sp_tree.specs.CheckedOf as checked;
+ghost use Rattle.sp_tree.specs.PlainChecked as c;
 ghost use Rattle.sp_types.specs.Kinds.{expression_kind};
 ghost use Rattle.sp_types.specs.Tables.{char_of};
 ghost use Rattle.sp_types.specs.TypeFirst.{at_node};

@@ -3,7 +3,7 @@
 ghost use Rattle.std.specs.Prelude.{◌≡◌};
 ghost use Rattle.sp_tree.specs.NamedOf.{expression_of};
 ghost use Rattle.sp_types.specs.Types.{Types};
-ghost use Rattle.sp_types.specs.CheckedOf as checked;
+ghost use Rattle.sp_tree.specs.CheckedOf as checked;
 ghost use Rattle.sp_types.specs.Kinds.{expression_kind};
 ghost use Rattle.sp_types.specs.Firsts.{expression_first, condition_first, limit_first};
 ghost use Rattle.sp_types.specs.TypeFirst.{at_node};

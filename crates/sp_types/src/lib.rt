@@ -7,7 +7,6 @@ mod calls;
 mod checks;
 mod choices;
 mod constants;
-mod copies;
 mod counting;
 mod declarations;
 mod entries;
@@ -23,8 +22,6 @@ mod sizes;
 mod statements;
 mod tables;
 mod tabling;
-#[cfg(test)]
-mod tests;
 mod typed;
 mod values;
 mod written;

@@ -4,25 +4,24 @@ ghost use Rattle.std.specs.Prelude.{◌≡◌, ◌++◌, ◌∷◌, [], map, Ok,
 ghost use Rattle.std.specs.Vec.Iter.{into_iter_items};
 ghost use Rattle.sp_tree.specs.NamedOf.{variable_of, expression_of, argument_of, arguments};
 ghost use Rattle.sp_tree.specs.PlainNamed.{Assign, Call, Perform};
-ghost use Rattle.sp_types.specs.Types.{Types, Walks};
-ghost use Rattle.sp_types.specs.CheckedOf as checked;
-ghost use Rattle.sp_types.specs.PlainChecked as c;
+ghost use Rattle.sp_types.specs.Types.{Types, Walks, walked_as};
+ghost use Rattle.sp_tree.specs.CheckedOf as checked;
+ghost use Rattle.sp_tree.specs.PlainChecked as c;
 ghost use Rattle.sp_types.specs.Firsts.{channel_first, statement_form_first, perform_first, each_first, message_first, messages_first};
 ghost use Rattle.sp_types.specs.Kinds.{argument_kind};
 ghost use Rattle.sp_types.specs.TypeWalk.{form_after};
-ghost use Rattle.sp_types.specs.CheckedTree.{argument_variable, checked_argument, checked_statement_form, singles, sends, receives, numbered, expanded};
+ghost use Rattle.sp_types.specs.CheckedTree.{argument_variable, argument_variables, checked_argument, checked_arguments, checked_statement_form, singles, numbered, expanded};
 ghost use Rattle.sp_tree.specs.declared.meaning.StandardProcedure.TheVariants as procedure;
 ghost use Rattle.sp_tree.specs.Found.{AnswersAs};
 
 use crate::calls::{target, type_opens, type_reads, type_writes};
 use crate::checks::{channel_value, message_value, type_assigned};
-use crate::copies::copy_expression;
 use crate::counting::{parts_count, sum};
 use crate::expressions::{type_actuals, type_variable};
 use crate::tables::Tables;
 use crate::typed::{Typed, Walked};
 use sp_base::{Halt, List, Place};
-use sp_tree::{Expr, Form, Found, NamedArg, NamedExpr, NamedVar, StandardProcedure, Stmt};
+use sp_tree::{Expr, Form, Found, NamedArg, NamedExpr, NamedVar, StandardProcedure, Stmt, Var};
 use std::alloc::Global;
 use std::vec::IntoIter;
 
@@ -63,61 +62,56 @@ pub fn type_call(
     })
 }
 
-/// What is sent on a channel of a type, and the channel.
-fn type_sent(
+/// What is sent on a channel of a type.
+fn type_value(
     alloc: Global,
     t: &Tables,
     a: NamedArg,
-    channel: &Expr,
     kind: Option<u32>,
     first: Found,
-) -> Result<Walked<Form>, Halt>
-    ensures { Walks checked.statement_form_of result (c.Send (checked.expression_of channel.now) (checked_argument t.now (argument_of a))) (message_first t.now kind (argument_of a) first) }
+) -> Result<Walked<Expr>, Halt>
+    ensures { Walks checked.expression_of result (checked_argument t.now (argument_of a)) (message_first t.now kind (argument_of a) first) }
 {
     let NamedArg { value, width: _ } = a;
-    let channel = copy_expression(alloc, channel)?;
     let e = message_value(alloc, t, value, kind, first)?;
     Ok(Walked {
         first: e.first,
-        tree: Form::Send(channel, e.tree),
+        tree: e.tree,
     })
 }
 
-/// What is received on a channel of a type, and the channel.
+/// What is received on a channel of a type.
 fn type_received(
     alloc: Global,
     t: &Tables,
     a: NamedArg,
-    channel: &Expr,
     kind: Option<u32>,
     first: Found,
-) -> Result<Walked<Form>, Halt>
-    ensures { Walks checked.statement_form_of result (c.Receive (checked.expression_of channel.now) (argument_variable t.now (argument_of a))) (message_first t.now kind (argument_of a) first) }
+) -> Result<Walked<Var>, Halt>
+    ensures { Walks checked.variable_of result (argument_variable t.now (argument_of a)) (message_first t.now kind (argument_of a) first) }
 {
     let NamedArg { value, width: _ } = a;
-    let channel = copy_expression(alloc, channel)?;
     let e = message_value(alloc, t, value, kind, first)?;
     Ok(Walked {
         first: e.first,
-        tree: Form::Receive(channel, target(alloc, e.tree)),
+        tree: target(alloc, e.tree),
     })
 }
 
 /// All that is sent on a channel of a type.
-fn type_sends(
+fn type_values(
     alloc: Global,
     t: &Tables,
     xs: IntoIter<NamedArg>,
-    channel: &Expr,
     kind: Option<u32>,
     first: Found,
-) -> Result<Walked<List<Form>>, Halt>
-    ensures { Walks (map checked.statement_form_of) result (sends t.now (checked.expression_of channel.now) (arguments (map argument_of (into_iter_items xs)))) (each_first t.now (message_first t.now kind) (arguments (map argument_of (into_iter_items xs))) first) }
+) -> Result<Walked<List<Expr>>, Halt>
+    ensures { Walks (map checked.expression_of) result (checked_arguments t.now (arguments (map argument_of (into_iter_items xs)))) (each_first t.now (message_first t.now kind) (arguments (map argument_of (into_iter_items xs))) first) }
 {
     let mut out = Vec::new(alloc);
     let mut first = first;
     for x in xs {
-        let y = type_sent(alloc, t, x, channel, kind, first)?;
+        let y = type_value(alloc, t, x, kind, first)?;
         first = y.first;
         out.push(y.tree)?;
     }
@@ -128,20 +122,19 @@ fn type_sends(
 }
 
 /// All that is received on a channel of a type.
-fn type_receives(
+fn type_variables(
     alloc: Global,
     t: &Tables,
     xs: IntoIter<NamedArg>,
-    channel: &Expr,
     kind: Option<u32>,
     first: Found,
-) -> Result<Walked<List<Form>>, Halt>
-    ensures { Walks (map checked.statement_form_of) result (receives t.now (checked.expression_of channel.now) (arguments (map argument_of (into_iter_items xs)))) (each_first t.now (message_first t.now kind) (arguments (map argument_of (into_iter_items xs))) first) }
+) -> Result<Walked<List<Var>>, Halt>
+    ensures { Walks (map checked.variable_of) result (argument_variables t.now (arguments (map argument_of (into_iter_items xs)))) (each_first t.now (message_first t.now kind) (arguments (map argument_of (into_iter_items xs))) first) }
 {
     let mut out = Vec::new(alloc);
     let mut first = first;
     for x in xs {
-        let y = type_received(alloc, t, x, channel, kind, first)?;
+        let y = type_received(alloc, t, x, kind, first)?;
         first = y.first;
         out.push(y.tree)?;
     }
@@ -159,24 +152,87 @@ fn type_channel(alloc: Global, t: &Tables, a: NamedArg, first: Found) -> Result<
     channel_value(alloc, t, value, first)
 }
 
+/// Values sent on one channel: one alone is a single statement, of several the channel stands once in memory.
+#[tactic(auto, using(crate::proofs::Singles::sends_are))]
+fn sent(n: u32, at: Place, channel: Expr, values: List<Expr>) -> Result<Form, Halt>
+    ensures { AnswersAs checked.statement_form_of result (Ok (expanded n at (map (λ e. c.Send (checked.expression_of channel) e) (map checked.expression_of values)))) }
+{
+    let mut values = values.into_vec();
+    match values.pop() {
+        None => Ok(Form::SendEach {
+            at,
+            number: n,
+            channel,
+            values: List::of(values),
+        }),
+        Some(last) => {
+            if values.is_empty() {
+                Ok(Form::Send(channel, last))
+            } else {
+                values.push(last)?;
+                Ok(Form::SendEach {
+                    at,
+                    number: n,
+                    channel,
+                    values: List::of(values),
+                })
+            }
+        }
+    }
+}
+
+/// Variables received on one channel: one alone is a single statement, of several the channel stands once in memory.
+#[tactic(auto, using(crate::proofs::Singles::receives_are))]
+fn received(n: u32, at: Place, channel: Expr, variables: List<Var>) -> Result<Form, Halt>
+    ensures { AnswersAs checked.statement_form_of result (Ok (expanded n at (map (λ v. c.Receive (checked.expression_of channel) v) (map checked.variable_of variables)))) }
+{
+    let mut variables = variables.into_vec();
+    match variables.pop() {
+        None => Ok(Form::ReceiveEach {
+            at,
+            number: n,
+            channel,
+            variables: List::of(variables),
+        }),
+        Some(last) => {
+            if variables.is_empty() {
+                Ok(Form::Receive(channel, last))
+            } else {
+                variables.push(last)?;
+                Ok(Form::ReceiveEach {
+                    at,
+                    number: n,
+                    channel,
+                    variables: List::of(variables),
+                })
+            }
+        }
+    }
+}
+
 /// A call of `send`: its channel, and what is sent on it.
 fn type_send(
     alloc: Global,
     t: &Tables,
     args: List<NamedArg>,
+    at: Place,
     first: Found,
-) -> Result<Walked<List<Form>>, Halt>
-    ensures { Walks (map checked.statement_form_of) result (singles t.now procedure.Send (arguments (map argument_of args))) (messages_first t.now (arguments (map argument_of args)) first) }
+) -> Result<Walked<Form>, Halt>
+    ensures { Walks checked.statement_form_of result (expanded t.now.next at (singles t.now procedure.Send (arguments (map argument_of args)))) (messages_first t.now (arguments (map argument_of args)) first) }
 {
     let mut xs = args.into_vec().into_iter();
     match xs.next() {
         None => Ok(Walked {
-            tree: List::new(alloc),
+            tree: Form::Sequence(List::new(alloc)),
             first,
         }),
         Some(a) => {
             let channel = type_channel(alloc, t, a, first)?;
-            type_sends(alloc, t, xs, &channel.tree, channel.kind, channel.first)
+            let values = type_values(alloc, t, xs, channel.kind, channel.first)?;
+            Ok(Walked {
+                tree: sent(t.next, at, channel.tree, values.tree)?,
+                first: values.first,
+            })
         }
     }
 }
@@ -186,19 +242,24 @@ fn type_receive(
     alloc: Global,
     t: &Tables,
     args: List<NamedArg>,
+    at: Place,
     first: Found,
-) -> Result<Walked<List<Form>>, Halt>
-    ensures { Walks (map checked.statement_form_of) result (singles t.now procedure.Receive (arguments (map argument_of args))) (messages_first t.now (arguments (map argument_of args)) first) }
+) -> Result<Walked<Form>, Halt>
+    ensures { Walks checked.statement_form_of result (expanded t.now.next at (singles t.now procedure.Receive (arguments (map argument_of args)))) (messages_first t.now (arguments (map argument_of args)) first) }
 {
     let mut xs = args.into_vec().into_iter();
     match xs.next() {
         None => Ok(Walked {
-            tree: List::new(alloc),
+            tree: Form::Sequence(List::new(alloc)),
             first,
         }),
         Some(a) => {
             let channel = type_channel(alloc, t, a, first)?;
-            type_receives(alloc, t, xs, &channel.tree, channel.kind, channel.first)
+            let variables = type_variables(alloc, t, xs, channel.kind, channel.first)?;
+            Ok(Walked {
+                tree: received(t.next, at, channel.tree, variables.tree)?,
+                first: variables.first,
+            })
         }
     }
 }
@@ -210,39 +271,6 @@ fn behind(forms: List<Form>, last: Form) -> Result<List<Form>, Halt>
     let mut forms = forms;
     forms.push(last)?;
     Ok(forms)
-}
-
-/// The single statements that a call of a standard procedure stands for.
-fn type_singles(
-    alloc: Global,
-    t: &Tables,
-    p: StandardProcedure,
-    args: List<NamedArg>,
-    first: Found,
-) -> Result<Walked<List<Form>>, Halt>
-    ensures { Walks (map checked.statement_form_of) result (singles t.now p (arguments (map argument_of args))) (perform_first t.now p (arguments (map argument_of args)) first) }
-{
-    match p {
-        StandardProcedure::Read => type_reads(alloc, t, args, first),
-        StandardProcedure::Readln => {
-            let forms = type_reads(alloc, t, args, first)?;
-            Ok(Walked {
-                tree: behind(forms.tree, Form::ReadLine)?,
-                first: forms.first,
-            })
-        }
-        StandardProcedure::Write => type_writes(alloc, t, args, first),
-        StandardProcedure::Writeln => {
-            let forms = type_writes(alloc, t, args, first)?;
-            Ok(Walked {
-                tree: behind(forms.tree, Form::WriteLine)?,
-                first: forms.first,
-            })
-        }
-        StandardProcedure::Open => type_opens(alloc, t, args, first),
-        StandardProcedure::Send => type_send(alloc, t, args, first),
-        StandardProcedure::Receive => type_receive(alloc, t, args, first),
-    }
 }
 
 /// Statements at one place, numbered from a number on.
@@ -281,6 +309,121 @@ fn expanded(alloc: Global, n: u32, at: Place, forms: List<Form>) -> Result<Form,
     }
 }
 
+/// The single statements in one, where none of them has a channel.
+fn joined(
+    alloc: Global,
+    t: &Tables,
+    forms: Walked<List<Form>>,
+    at: Place,
+) -> Result<Walked<Form>, Halt>
+    ensures { AnswersAs (walked_as checked.statement_form_of) result (Ok (expanded t.now.next at (map checked.statement_form_of forms.tree), forms.first)) }
+{
+    Ok(Walked {
+        tree: expanded(alloc, t.next, at, forms.tree)?,
+        first: forms.first,
+    })
+}
+
+/// A call of `read`.
+fn type_read(
+    alloc: Global,
+    t: &Tables,
+    args: List<NamedArg>,
+    at: Place,
+    first: Found,
+) -> Result<Walked<Form>, Halt>
+    ensures { Walks checked.statement_form_of result (expanded t.now.next at (singles t.now procedure.Read (arguments (map argument_of args)))) (perform_first t.now procedure.Read (arguments (map argument_of args)) first) }
+{
+    let forms = type_reads(alloc, t, args, first)?;
+    joined(alloc, t, forms, at)
+}
+
+/// A call of `readln`.
+fn type_readln(
+    alloc: Global,
+    t: &Tables,
+    args: List<NamedArg>,
+    at: Place,
+    first: Found,
+) -> Result<Walked<Form>, Halt>
+    ensures { Walks checked.statement_form_of result (expanded t.now.next at (singles t.now procedure.Readln (arguments (map argument_of args)))) (perform_first t.now procedure.Readln (arguments (map argument_of args)) first) }
+{
+    let forms = type_reads(alloc, t, args, first)?;
+    let forms = Walked {
+        tree: behind(forms.tree, Form::ReadLine)?,
+        first: forms.first,
+    };
+    joined(alloc, t, forms, at)
+}
+
+/// A call of `write`.
+fn type_write(
+    alloc: Global,
+    t: &Tables,
+    args: List<NamedArg>,
+    at: Place,
+    first: Found,
+) -> Result<Walked<Form>, Halt>
+    ensures { Walks checked.statement_form_of result (expanded t.now.next at (singles t.now procedure.Write (arguments (map argument_of args)))) (perform_first t.now procedure.Write (arguments (map argument_of args)) first) }
+{
+    let forms = type_writes(alloc, t, args, first)?;
+    joined(alloc, t, forms, at)
+}
+
+/// A call of `writeln`.
+fn type_writeln(
+    alloc: Global,
+    t: &Tables,
+    args: List<NamedArg>,
+    at: Place,
+    first: Found,
+) -> Result<Walked<Form>, Halt>
+    ensures { Walks checked.statement_form_of result (expanded t.now.next at (singles t.now procedure.Writeln (arguments (map argument_of args)))) (perform_first t.now procedure.Writeln (arguments (map argument_of args)) first) }
+{
+    let forms = type_writes(alloc, t, args, first)?;
+    let forms = Walked {
+        tree: behind(forms.tree, Form::WriteLine)?,
+        first: forms.first,
+    };
+    joined(alloc, t, forms, at)
+}
+
+/// A call of `open`.
+fn type_open(
+    alloc: Global,
+    t: &Tables,
+    args: List<NamedArg>,
+    at: Place,
+    first: Found,
+) -> Result<Walked<Form>, Halt>
+    ensures { Walks checked.statement_form_of result (expanded t.now.next at (singles t.now procedure.Open (arguments (map argument_of args)))) (perform_first t.now procedure.Open (arguments (map argument_of args)) first) }
+{
+    let forms = type_opens(alloc, t, args, first)?;
+    joined(alloc, t, forms, at)
+}
+
+/// A call of a standard procedure, as the single statements that it stands for.
+fn type_call_of_standard(
+    alloc: Global,
+    t: &Tables,
+    p: StandardProcedure,
+    args: List<NamedArg>,
+    at: Place,
+    first: Found,
+) -> Result<Walked<Form>, Halt>
+    ensures { Walks checked.statement_form_of result (expanded t.now.next at (singles t.now p (arguments (map argument_of args)))) (perform_first t.now p (arguments (map argument_of args)) first) }
+{
+    match p {
+        StandardProcedure::Read => type_read(alloc, t, args, at, first),
+        StandardProcedure::Readln => type_readln(alloc, t, args, at, first),
+        StandardProcedure::Write => type_write(alloc, t, args, at, first),
+        StandardProcedure::Writeln => type_writeln(alloc, t, args, at, first),
+        StandardProcedure::Open => type_open(alloc, t, args, at, first),
+        StandardProcedure::Send => type_send(alloc, t, args, at, first),
+        StandardProcedure::Receive => type_receive(alloc, t, args, at, first),
+    }
+}
+
 /// A call of a standard procedure. Its single statements have the next numbers, unless there is one alone.
 pub fn type_perform(
     alloc: Global,
@@ -294,11 +437,7 @@ pub fn type_perform(
     ensures after { OnOk result (t.new ≡ form_after t.old (Perform p (arguments (map argument_of args)))) }
 {
     let count = parts_count(p, args.items())?;
-    let forms = type_singles(alloc, t, p, args, first)?;
-    let tree = expanded(alloc, t.next, at, forms.tree)?;
+    let form = type_call_of_standard(alloc, t, p, args, at, first)?;
     t.count(count)?;
-    Ok(Walked {
-        tree,
-        first: forms.first,
-    })
+    Ok(form)
 }

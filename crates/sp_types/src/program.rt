@@ -4,7 +4,7 @@ ghost use Rattle.std.specs.Prelude.{◌≡◌, ◌++◌, ◌∷◌, [], drop, ma
 ghost use Rattle.sp_tree.specs.Cells.{sizes};
 ghost use Rattle.sp_tree.specs.Found.{Answers, AnswersAs};
 ghost use Rattle.sp_tree.specs.NamedOf as plain;
-ghost use Rattle.sp_types.specs.CheckedOf as checked;
+ghost use Rattle.sp_tree.specs.CheckedOf as checked;
 ghost use Rattle.sp_types.specs.CheckedTree.{checked_variables};
 ghost use Rattle.sp_types.specs.DeclarationFirsts.{constants_first, kinds_first};
 ghost use Rattle.sp_types.specs.Entered.{tabled, typed_blocks, typed_kinds};

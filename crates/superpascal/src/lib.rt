@@ -6,6 +6,3 @@ mod notes;
 mod top;
 
 pub use top::{Outcome, superpascal};
-
-#[cfg(test)]
-mod tests;

@@ -17,7 +17,7 @@ loop-entry-preserved c =
     let i = c.loop-entry.entry-index in
     let h = c.loop-entry.invariant in
     let line : List ℕ = entry_text (births (take i es)) (this es i c.loop-entry-test.true) in
-    let e = c.in_ok-put_entry.ensures ∙ ap (λ (x : List Entry). c.loop-entry.out.items ++ entry_text (births x) (this es i c.loop-entry-test.true)) h.1 in (
+    let e = c.in_ok-put_entry.ensures.ok ∙ ap (λ (x : List Entry). c.loop-entry.out.items ++ entry_text (births x) (this es i c.loop-entry-test.true)) h.1 in (
       c.in_ok-add.ensures.ledger,
       kept_whole es i c.loop-entry-test.true c.loop-entry.ledger.journal.entries c.add.new.self.journal.entries h.1 c.in_ok-add.ensures.added,
       still_nameable es i any_entry c.loop-entry-test.true h.2,

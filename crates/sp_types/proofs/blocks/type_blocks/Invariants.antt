@@ -1,7 +1,7 @@
 use Rattle.std.proofs.Common.{◌≡◌, ◌++◌, map}
 use Rattle.std.specs.Vec.Iter.{into_iter_items}
 use Rattle.sp_tree.specs.NamedOf.{block_of}
-use Rattle.sp_types.specs.CheckedOf as checked
+use Rattle.sp_tree.specs.CheckedOf as checked
 use Rattle.sp_types.specs.TypeWalk.{blocks_after}
 use Rattle.sp_types.specs.CheckedTree.{checked_blocks}
 use Rattle.sp_types.specs.DeclarationFirsts.{blocks_first}

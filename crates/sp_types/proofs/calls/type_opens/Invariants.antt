@@ -1,7 +1,7 @@
 use Rattle.std.proofs.Common.{◌≡◌, ◌++◌, map}
 use Rattle.std.specs.Vec.Iter.{into_iter_items}
 use Rattle.sp_tree.specs.NamedOf.{arguments, argument_of}
-use Rattle.sp_types.specs.CheckedOf as checked
+use Rattle.sp_tree.specs.CheckedOf as checked
 use Rattle.sp_types.specs.CheckedTree.{opens}
 use Rattle.sp_types.specs.Firsts.{each_first, channel_first}
 use Rattle.sp_types.proofs.calls.type_opens.Given as goal

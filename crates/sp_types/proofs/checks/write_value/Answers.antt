@@ -1,5 +1,5 @@
 use Rattle.std.proofs.Common.{ℕ, Option}
-use Rattle.sp_types.specs.PlainChecked as k
+use Rattle.sp_tree.specs.PlainChecked as k
 use Rattle.sp_types.specs.TypeRules.{write_rule}
 use Rattle.sp_types.proofs.Steps.{ruled}
 use Rattle.sp_types.proofs.checks.write_value.Goals as goal

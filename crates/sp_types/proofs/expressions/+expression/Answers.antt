@@ -1,7 +1,7 @@
 use Rattle.std.proofs.Common.{ℕ, ap, ◌∙◌, Some, Option}
 use Rattle.sp_tree.specs.NamedOf.{expression_of}
-use Rattle.sp_types.specs.PlainChecked as k
-use Rattle.sp_types.specs.CheckedOf as checked
+use Rattle.sp_tree.specs.PlainChecked as k
+use Rattle.sp_tree.specs.CheckedOf as checked
 use Rattle.sp_types.specs.TypeRules.{unary_rule, unary_takes, left_rule, right_rule, binary_gives, standard_rule}
 use Rattle.sp_types.specs.TypeWalk.{place}
 use Rattle.sp_types.proofs.Steps.{ruled}

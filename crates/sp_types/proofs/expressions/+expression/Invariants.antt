@@ -1,7 +1,7 @@
 use Rattle.std.proofs.Common.{◌≡◌, ◌++◌, map, None}
 use Rattle.std.specs.Vec.Iter.{into_iter_items}
 use Rattle.sp_tree.specs.NamedOf.{selectors, selector_of, arguments, argument_of}
-use Rattle.sp_types.specs.CheckedOf as checked
+use Rattle.sp_tree.specs.CheckedOf as checked
 use Rattle.sp_types.specs.CheckedTree.{checked_selectors, checked_actuals, checked_arguments}
 use Rattle.sp_types.specs.Kinds.{selected_kind, parameter_kind}
 use Rattle.sp_types.specs.Firsts.{selectors_first, actuals_first, standard_first}

@@ -1,6 +1,6 @@
 use Rattle.std.proofs.Common.{◌≡◌, ◌++◌, map}
 use Rattle.std.specs.Vec.Iter.{into_iter_items}
-use Rattle.sp_types.specs.CheckedOf as checked
+use Rattle.sp_tree.specs.CheckedOf as checked
 use Rattle.sp_types.specs.CheckedTree.{numbered}
 use Rattle.sp_types.proofs.performs.numbered.Given as goal
 

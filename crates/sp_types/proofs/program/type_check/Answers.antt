@@ -12,10 +12,10 @@ use Rattle.sp_tree.specs.Found.{AnswersAs}
 use Rattle.sp_tree.specs.NamedOf as plain
 use Rattle.sp_types.specs.declared.tables.Ordinal.{Ordinal}
 use Rattle.sp_types.specs.Capped.{capped_sizes}
-use Rattle.sp_types.specs.CheckedOf as checked
+use Rattle.sp_tree.specs.CheckedOf as checked
 use Rattle.sp_types.specs.DeclarationFirsts.{cells_first, constants_first, kinds_first}
 use Rattle.sp_types.specs.Entered.{tabled, typed_blocks, typed_kinds}
-use Rattle.sp_types.specs.PlainChecked as k
+use Rattle.sp_tree.specs.PlainChecked as k
 use Rattle.sp_types.specs.Tables.{numbers_from, constants_from, kinds_from}
 use Rattle.sp_types.specs.TypeWalk.{places_of}
 use Rattle.sp_types.proofs.Declared.{ok}

@@ -1,7 +1,7 @@
 use Rattle.std.proofs.Common.{◌≡◌, ◌++◌, map}
 use Rattle.std.specs.Vec.Iter.{into_iter_items}
 use Rattle.sp_tree.specs.NamedOf.{statements, statement_of, arms, arm_of, branches, branch_of}
-use Rattle.sp_types.specs.CheckedOf as checked
+use Rattle.sp_tree.specs.CheckedOf as checked
 use Rattle.sp_types.specs.CheckedTree.{checked_statements, checked_arms, checked_branches}
 use Rattle.sp_types.specs.Firsts.{statements_first, arms_first, branches_first}
 use Rattle.sp_types.specs.TypeWalk.{statements_after, arms_after, branches_after}

@@ -10,4 +10,5 @@ returns-in_ok-push-in-Send c =
     record {
       ledger = other_ledger l _ c.args.entry.process c.requires.ledger c.args.entry.event c.requires.next (quiet (births l.journal.entries) c.args.entry.process c.args.entry.event c.in-Send.is) c.in_ok-push-in-Send.ensures.ok refl refl refl (λ q. refl);
       added = c.in_ok-push-in-Send.ensures.ok;
+      kept = tt;
     }

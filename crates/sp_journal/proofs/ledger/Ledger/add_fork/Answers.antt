@@ -1,6 +1,7 @@
 use Rattle.std.proofs.Common.{◌+◌, ◌++◌, ◌∷◌, [], cond, nat_eq, Some, ℕ, refl, ap, ◌∙◌}
 use Rattle.std.specs.HashMap as hash
 use Rattle.sp_journal.specs.declared.ledger.Made.{Made}
+use Rattle.sp_journal.proofs.Facts.{if_not_err}
 use Rattle.sp_journal.proofs.LedgerLaws.{fork_ledger}
 use Rattle.sp_journal.proofs.ledger.Ledger.add_fork.Goals as goal
 
@@ -8,8 +9,8 @@ pub returns-clause-ledger : goal.returns-clause-ledger
 returns-clause-ledger c =
     let l = c.args.self.now in
     fork_ledger l _ c.args.process c.requires.ledger c.args.count c.requires.next
-    c.in_ok-push-2.ensures.ok
+    c.in_ok-push.ensures.ok
     (ap (λ (x : ℕ). l.processes + x) c.from.ensures)
-    (c.in_ok-push.ensures.ok ∙ ap (λ (x : ℕ). l.families ++ record { first = l.processes; parent = c.args.process; fork = x } ∷ []) c.made-made.ensures.forks)
+    (if_not_err _ _ c.is_err.ensures.value c.if-is_err.false c.push-2.ensures.ok ∙ ap (λ (x : ℕ). l.families ++ record { first = l.processes; parent = c.args.process; fork = x } ∷ []) c.made-made.ensures.forks)
     refl
-    (λ q. c.in_ok-insert.ensures.updates.0 q ∙ ap (λ (v : Made). cond (nat_eq c.args.process q) (Some v) (hash.get nat_eq l.made q)) (λ i. record { forks = c.made-made.ensures.forks i + 1; opens = c.made-made.ensures.opens i }))
+    (λ q. (if_not_err _ _ c.is_err-2.ensures.value c.if-is_err-2.false c.insert.ensures.updates).0 q ∙ ap (λ (v : Made). cond (nat_eq c.args.process q) (Some v) (hash.get nat_eq l.made q)) (λ i. record { forks = c.made-made.ensures.forks i + 1; opens = c.made-made.ensures.opens i }))

@@ -1,6 +1,6 @@
 use Rattle.std.proofs.Common.{refl}
 use Rattle.sp_journal.specs.Reader.{known}
-use Rattle.sp_journal.proofs.Facts.{on_both}
+use Rattle.sp_journal.proofs.Facts.{on_ok}
 use Rattle.sp_journal.proofs.Quiet.{quiet}
 use Rattle.sp_journal.proofs.ReadingLaws.{other_reader}
 use Rattle.sp_journal.proofs.reader.Reader.add.Goals as goal
@@ -10,8 +10,8 @@ returns-in-Send c =
     let r = c.args.self.now in
     let e = c.args.entry in
     record {
-      reader = on_both c.add.result c.add.ensures.ledger c.add.ensures.added
-          (λ ledger added. other_reader r _ e.process c.requires.reader ledger e.event (quiet (known r) e.process e.event c.in-Send.is) added refl refl);
+      reader = on_ok c.add.result c.add.ensures.added
+          (λ added. other_reader r _ e.process c.requires.reader c.add.ensures.ledger e.event (quiet (known r) e.process e.event c.in-Send.is) added refl refl);
       added = c.add.ensures.added;
-      version = on_both c.add.result c.add.ensures.ledger c.add.ensures.added (λ _ _. refl);
+      version = on_ok c.add.result c.add.ensures.added (λ _. refl);
     }

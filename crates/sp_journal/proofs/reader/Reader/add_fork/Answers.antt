@@ -6,7 +6,7 @@ use Rattle.std.specs.HashMap.{get_by_text}
 use Rattle.std.proofs.lemmas.Map.Text.{hash_map_updates_text}
 use Rattle.sp_base.specs.Names.{name_text}
 use Rattle.sp_journal.specs.Reader.{family_text, known}
-use Rattle.sp_journal.proofs.Facts.{on_both}
+use Rattle.sp_journal.proofs.Facts.{on_ok}
 use Rattle.sp_journal.proofs.ReadingLaws.{fork_reader}
 use Rattle.sp_journal.proofs.reader.Reader.add_fork.Goals as goal
 
@@ -20,5 +20,5 @@ returns-clause-reader c =
     let found : (cs : List ℕ) → get_by_text c.insert.new.self cs ≡ cond (bytes_eq (family_text ((known r).name p) ((known r).forks p)) cs) (Some (known r).processes) (get_by_text r.families cs) =
     λ cs. hash_map_updates_text (string_bytes c.in_ok-family.family) r.families c.insert.new.self _ c.in_ok-insert.ensures.updates cs
     ∙ (λ i. cond (bytes_eq (key i) cs) (Some (c.processes-first.ensures.value i)) (get_by_text r.families cs)) in
-    on_both c.add.result c.add.ensures.ledger c.add.ensures.added
-    (λ ledger added. fork_reader r _ p c.requires.reader ledger c.args.count c.requires.next added found refl)
+    on_ok c.add.result c.add.ensures.added
+    (λ added. fork_reader r _ p c.requires.reader c.add.ensures.ledger c.args.count c.requires.next added found refl)

@@ -7,7 +7,7 @@ use Rattle.std.proofs.lemmas.Map.Text.{hash_map_updates_text}
 use Rattle.sp_base.specs.Names.{name_text, channel_text}
 use Rattle.sp_journal.specs.Names.{Channel, chan_name}
 use Rattle.sp_journal.specs.Reader.{known}
-use Rattle.sp_journal.proofs.Facts.{on_both}
+use Rattle.sp_journal.proofs.Facts.{on_ok}
 use Rattle.sp_journal.proofs.TextLaws.{channel_is}
 use Rattle.sp_journal.proofs.ReadingLaws.{open_reader}
 use Rattle.sp_journal.proofs.reader.Reader.add_open.Goals as goal
@@ -22,5 +22,5 @@ returns-clause-reader c =
     let found : (cs : List ℕ) → get_by_text c.insert.new.self cs ≡ cond (bytes_eq (channel_text (chan_name this)) cs) (Some (known r).channels) (get_by_text r.channels cs) =
     λ cs. hash_map_updates_text (string_bytes c.in_ok-channel.channel) r.channels c.insert.new.self _ c.in_ok-insert.ensures.updates cs
     ∙ (λ i. cond (bytes_eq (key i) cs) (Some (c.channels-number.ensures.value i)) (get_by_text r.channels cs)) in
-    on_both c.add.result c.add.ensures.ledger c.add.ensures.added
-    (λ ledger added. open_reader r _ p c.requires.reader ledger c.requires.next added refl found)
+    on_ok c.add.result c.add.ensures.added
+    (λ added. open_reader r _ p c.requires.reader c.add.ensures.ledger c.requires.next added refl found)

@@ -1,0 +1,150 @@
+//! Texts that break rules of the grammar.
+
+use sp_base::{Halt, Place, Refusal, Rule};
+use sp_front::read_text;
+use sp_scan::scan;
+use std::alloc::Global;
+use std::test::Fail;
+
+const PIPE: &[u8] = b"program pipe;
+type chan = *(integer); net = array [0..3] of chan;
+var c: net; r: integer;
+procedure node(a, b: chan);
+var x: integer;
+begin receive(a, x); send(b, x + 1) end;
+begin
+  open(c[0], c[1], c[2], c[3]);
+  parallel send(c[0], 10)
+  | forall i := 1 to 3 do node(c[i-1], c[i])
+  | receive(c[3], r)
+  end;
+  write(r)
+end.";
+
+/// Whether the text has a tree.
+pub(crate) fn accepts(alloc: Global, text: &[u8]) -> bool {
+    read_text(alloc, text).is_ok()
+}
+
+/// Whether the text is refused for this rule at this place.
+pub(crate) fn refuses(alloc: Global, text: &[u8], rule: Rule, line: u32, column: u32) -> bool {
+    match read_text(alloc, text) {
+        Err(Halt::Refused(found)) => {
+            found
+                == Refusal {
+                    rule,
+                    at: Place { line, column },
+                }
+        }
+        _ => false,
+    }
+}
+
+#[test]
+fn texts_that_end_too_early(rt: HostRuntime) -> Result<(), Fail> {
+    assert!(rt; refuses(rt.alloc(), b"", Rule::G2, 1, 1));
+    let text = b"program a; var x: integer; begin x := 6; write(x * 7)";
+    assert!(rt; refuses(rt.alloc(), text, Rule::G2, 1, 54));
+    Ok(())
+}
+
+// The text up to the end of a token.
+fn up_to(text: &[u8], end: usize) -> &[u8] {
+    if end <= text.len() {
+        &text[..end]
+    } else {
+        text
+    }
+}
+
+// Whether a text ends too early, and that is said of its end.
+fn is_unfinished(alloc: Global, text: &[u8]) -> bool {
+    match read_text(alloc, text) {
+        Err(Halt::Refused(found)) => {
+            let (line, column) = end_of(text);
+            found.rule == Rule::G2 && found.at.line == line && found.at.column == column
+        }
+        _ => false,
+    }
+}
+
+fn end_of(text: &[u8]) -> (u32, u32) {
+    let mut line = 1u32;
+    let mut column = 1u32;
+    for byte in text {
+        if *byte == b'\n' {
+            line = line.saturating_add(1);
+            column = 1;
+        } else {
+            column = column.saturating_add(1);
+        }
+    }
+    (line, column)
+}
+
+// How many tokens a text has, and behind how many of them it may be cut so that it ends too early.
+fn cuts(alloc: Global, text: &[u8]) -> (usize, u32) {
+    let Ok(tokens) = scan(alloc, text) else {
+        return (0, 0);
+    };
+    let mut unfinished = 0u32;
+    for token in tokens.items() {
+        if is_unfinished(alloc, up_to(text, token.to as usize)) {
+            unfinished = unfinished.saturating_add(1);
+        }
+    }
+    (tokens.len(), unfinished)
+}
+
+#[test]
+fn a_program_cut_behind_each_token(rt: HostRuntime) -> Result<(), Fail> {
+    assert!(rt; accepts(rt.alloc(), PIPE));
+    let (tokens, unfinished) = cuts(rt.alloc(), PIPE);
+    assert_eq!(rt; tokens, 138);
+    assert_eq!(rt; unfinished, 137);
+    Ok(())
+}
+
+#[test]
+fn tokens_that_may_not_follow(rt: HostRuntime) -> Result<(), Fail> {
+    let cases: [(&[u8], u32); 30] = [
+        (b"program g; begin x = 1 end.", 20),
+        (b"program g begin end.", 11),
+        (b"begin end.", 1),
+        (b"program begin; begin end.", 9),
+        (b"program g(a,); begin end.", 13),
+        (b"program g; const a 1; begin end.", 20),
+        (b"program g; const a = -'x'; begin end.", 23),
+        (b"program g; const a = 1 begin end.", 24),
+        (b"program g; const begin end.", 18),
+        (b"program g; type t = array 1..2] of u; begin end.", 27),
+        (b"program g; type t = record end; begin end.", 28),
+        (b"program g; type t = *integer; begin end.", 22),
+        (b"program g; var x, : y; begin end.", 19),
+        (b"program g; procedure p(); begin end; begin end.", 24),
+        (b"program g; function f; begin end; begin end.", 22),
+        (b"program g; procedure p begin end; begin end.", 24),
+        (b"program g; begin x := 1 * -2 end.", 27),
+        (b"program g; begin x := - - 1 end.", 25),
+        (b"program g; begin x := 1 = 2 = 3 end.", 29),
+        (b"program g; begin x := (1 end.", 26),
+        (b"program g; begin x := a[1 end.", 27),
+        (b"program g; begin p(1; 2) end.", 21),
+        (b"program g; begin if x y end.", 23),
+        (b"program g; begin repeat x end.", 27),
+        (b"program g; begin for i := 1 do x end.", 29),
+        (b"program g; begin forall i := 3 downto 1 do x end.", 32),
+        (b"program g; begin case x of end end.", 28),
+        (b"program g; begin parallel x; y | ) end end.", 34),
+        (b"program g; begin end", 0),
+        (b"program g; begin end..", 21),
+    ];
+    for (text, column) in cases {
+        if column > 0 {
+            assert!(rt; refuses(rt.alloc(), text, Rule::G1, 1, column), "{column}");
+        }
+    }
+    assert!(rt; refuses(rt.alloc(), b"program g; begin end. a", Rule::G1, 1, 23));
+    assert!(rt; accepts(rt.alloc(), b"program g; begin write(1); end."));
+    Ok(())
+}

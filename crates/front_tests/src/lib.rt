@@ -1,0 +1,21 @@
+//! Tests of all that goes from the bytes of a text: they stand here, so that the crates of the phases are proved once.
+#![tactic(auto)]
+
+#[cfg(test)]
+mod declarations;
+#[cfg(test)]
+mod declared;
+#[cfg(test)]
+mod grammar;
+#[cfg(test)]
+mod large;
+#[cfg(test)]
+mod names;
+#[cfg(test)]
+mod phases;
+#[cfg(test)]
+mod statements;
+#[cfg(test)]
+mod tokens;
+#[cfg(test)]
+mod types;

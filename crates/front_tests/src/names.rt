@@ -1,0 +1,139 @@
+//! Each rule of names with a text that breaks it, beside a near one that breaks none.
+
+use sp_base::{Halt, Place, Refusal, Rule};
+use sp_front::read_text;
+use sp_scope::resolve;
+use sp_tree::Named;
+use std::alloc::Global;
+use std::test::Fail;
+
+fn named(alloc: Global, text: &[u8]) -> Result<Named, Halt> {
+    let syntax = read_text(alloc, text)?;
+    resolve(alloc, syntax)
+}
+
+struct Row<'a> {
+    rule: Rule,
+    column: u32,
+    refused: &'a [u8],
+    accepted: &'a [u8],
+}
+
+const ROWS: [Row; 15] = [
+    Row {
+        rule: Rule::N1,
+        column: 18,
+        refused: b"program e; begin x := 1 end.",
+        accepted: b"program e; var x: integer; begin x := 1 end.",
+    },
+    Row {
+        rule: Rule::N1,
+        column: 22,
+        refused: b"program e; const b = a; a = 1; begin end.",
+        accepted: b"program e; const a = 1; b = a; begin end.",
+    },
+    Row {
+        rule: Rule::N1,
+        column: 11,
+        refused: b"program e(file1); begin end.",
+        accepted: b"program e(input, output); begin end.",
+    },
+    Row {
+        rule: Rule::N2,
+        column: 19,
+        refused: b"program e; var x, x: integer; begin end.",
+        accepted: b"program e; var x, y: integer; begin end.",
+    },
+    Row {
+        rule: Rule::N2,
+        column: 38,
+        refused: b"program e; procedure p(x: char); var x: char; begin end; begin end.",
+        accepted: b"program e; procedure p(x: char); procedure q; var x: char; begin end; begin end; begin end.",
+    },
+    Row {
+        rule: Rule::N2,
+        column: 37,
+        refused: b"program e; type t = record a: char; a: char end; begin end.",
+        accepted: b"program e; type t = record a: char end; a = char; begin end.",
+    },
+    Row {
+        rule: Rule::N3,
+        column: 24,
+        refused: b"program e; begin write(integer) end.",
+        accepted: b"program e; var integer: char; begin integer := 'a'; write(integer) end.",
+    },
+    Row {
+        rule: Rule::N4,
+        column: 37,
+        refused: b"program e; type t = array [1..2] of t; begin end.",
+        accepted: b"program e; type s = char; t = array [1..2] of s; begin end.",
+    },
+    Row {
+        rule: Rule::N5,
+        column: 56,
+        refused: b"program e; procedure p(x: integer); begin end; begin p(1:2) end.",
+        accepted: b"program e; procedure p(x: integer); begin end; begin p(1); write(1:2) end.",
+    },
+    Row {
+        rule: Rule::N5,
+        column: 39,
+        refused: b"program e; var x: integer; begin read((x)) end.",
+        accepted: b"program e; var x: integer; begin read(x) end.",
+    },
+    Row {
+        rule: Rule::N6,
+        column: 24,
+        refused: b"program e; begin write(abs(1, 2)) end.",
+        accepted: b"program e; begin write(abs(1)) end.",
+    },
+    Row {
+        rule: Rule::N7,
+        column: 18,
+        refused: b"program e; begin maxint := 1 end.",
+        accepted: b"program e; var maxint: integer; begin maxint := 1 end.",
+    },
+    Row {
+        rule: Rule::N7,
+        column: 52,
+        refused: b"program e; function f: integer; procedure p; begin f := 1 end; begin f := 1 end; begin end.",
+        accepted: b"program e; function f: integer; procedure p; begin end; begin f := 1 end; begin end.",
+    },
+    Row {
+        rule: Rule::N7,
+        column: 46,
+        refused: b"program e; begin forall i := 1 to 2 do begin i := 1 end end.",
+        accepted: b"program e; var i: integer; begin forall i := 1 to 2 do begin end; i := 1 end.",
+    },
+    Row {
+        rule: Rule::N8,
+        column: 47,
+        refused: b"program e; procedure p(i: integer); begin for i := 1 to 2 do end; begin end.",
+        accepted: b"program e; procedure p; var i: integer; begin for i := 1 to 2 do end; begin end.",
+    },
+];
+
+fn refuses(alloc: Global, text: &[u8], rule: Rule, column: u32) -> bool {
+    match named(alloc, text) {
+        Err(Halt::Refused(found)) => {
+            found
+                == Refusal {
+                    rule,
+                    at: Place { line: 1, column },
+                }
+        }
+        _ => false,
+    }
+}
+
+#[test]
+fn rules_of_names(rt: HostRuntime) -> Result<(), Fail> {
+    for row in &ROWS {
+        let column = row.column;
+        assert!(rt;
+            refuses(rt.alloc(), row.refused, row.rule, column),
+            "{column}"
+        );
+        assert!(rt; named(rt.alloc(), row.accepted).is_ok(), "{column}");
+    }
+    Ok(())
+}

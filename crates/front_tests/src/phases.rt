@@ -1,0 +1,136 @@
+//! Large texts through all phases, on the thread that has the stack for them.
+
+use sp_base::{Halt, Place, Refusal, Rule};
+use sp_front::typed_apart;
+use std::alloc::{AllocError, Global};
+use std::test::Fail;
+use std::thread::Threads;
+
+const DIGITS: &[u8] = b"abcdefghijklmnopqrstuvwxyz0123456789";
+
+fn digit(n: u32) -> u8 {
+    DIGITS.get(n as usize).copied().unwrap_or(b'a')
+}
+
+// A name of three characters that no word symbol is.
+fn put_name(text: &mut Vec<u8>, n: u32) -> Result<(), AllocError> {
+    let first: u8 = if n < 1296 {
+        b'q'
+    } else if n < 2592 {
+        b'x'
+    } else if n < 3888 {
+        b'y'
+    } else {
+        b'z'
+    };
+    text.push(first)?;
+    text.push(digit(n / 36 % 36))?;
+    text.push(digit(n % 36))?;
+    Ok(())
+}
+
+fn put_names(text: &mut Vec<u8>, count: u32) -> Result<(), AllocError> {
+    for n in 0..count {
+        if n > 0 {
+            text.push(b',')?;
+        }
+        put_name(text, n)?;
+    }
+    Ok(())
+}
+
+fn is_accepted(threads: &impl Threads, alloc: Global, text: &[u8]) -> bool {
+    typed_apart(threads, alloc, text).is_ok()
+}
+
+fn is_refused(threads: &impl Threads, alloc: Global, text: &[u8], rule: Rule, column: u32) -> bool {
+    match typed_apart(threads, alloc, text) {
+        Err(Halt::Refused(found)) => {
+            found
+                == Refusal {
+                    rule,
+                    at: Place { line: 1, column },
+                }
+        }
+        _ => false,
+    }
+}
+
+// So many variables, used 300,000 times.
+fn variables(alloc: Global, count: u32) -> Result<Vec<u8>, AllocError> {
+    let mut text = Vec::from_slice(alloc, b"program p; var ")?;
+    put_names(&mut text, count)?;
+    text.extend_from_slice(b": integer; begin qaa := ")?;
+    for n in 0..150_000 {
+        put_name(&mut text, n % count.max(1))?;
+        text.extend_from_slice(b"+1+")?;
+    }
+    text.extend_from_slice(b"1 end.")?;
+    Ok(text)
+}
+
+#[test]
+fn the_most_variables(rt: HostRuntime) -> Result<(), Fail> {
+    let text = variables(rt.alloc(), 4096)?;
+    assert!(rt; is_accepted(&rt, rt.alloc(), &text));
+    let text = variables(rt.alloc(), 4097)?;
+    assert!(rt; is_refused(&rt, rt.alloc(), &text, Rule::L4, 16400));
+    Ok(())
+}
+
+// A chain of array types, each of arrays of the one before.
+fn chain(alloc: Global, count: u32, bounds: &[u8]) -> Result<Vec<u8>, AllocError> {
+    let mut text = Vec::from_slice(alloc, b"program p; type ")?;
+    for n in 0..count {
+        put_name(&mut text, n)?;
+        text.extend_from_slice(b"=array[")?;
+        text.extend_from_slice(bounds)?;
+        text.extend_from_slice(b"]of ")?;
+        if n == 0 {
+            text.extend_from_slice(b"char;")?;
+        } else {
+            put_name(&mut text, n.saturating_sub(1))?;
+            text.push(b';')?;
+        }
+    }
+    text.extend_from_slice(b"begin end.")?;
+    Ok(text)
+}
+
+#[test]
+fn a_chain_of_the_most_types(rt: HostRuntime) -> Result<(), Fail> {
+    let text = chain(rt.alloc(), 4096, b"1..1")?;
+    assert!(rt; is_accepted(&rt, rt.alloc(), &text));
+    let text = chain(rt.alloc(), 4097, b"1..1")?;
+    assert!(rt; is_refused(&rt, rt.alloc(), &text, Rule::L4, 90130));
+    let text = chain(rt.alloc(), 4096, b"1..2")?;
+    assert!(rt; is_refused(&rt, rt.alloc(), &text, Rule::L3, 458));
+    Ok(())
+}
+
+#[test]
+fn operands(rt: HostRuntime) -> Result<(), Fail> {
+    let mut text = Vec::from_slice(rt.alloc(), b"program p; var x: integer; begin x := ")?;
+    for _ in 0..400_000 {
+        text.extend_from_slice(b"1+")?;
+    }
+    text.extend_from_slice(b"1 end.")?;
+    assert!(rt; is_accepted(&rt, rt.alloc(), &text));
+    Ok(())
+}
+
+// Fields and message types are looked up, not searched.
+#[test]
+fn many_fields(rt: HostRuntime) -> Result<(), Fail> {
+    let mut text = Vec::from_slice(rt.alloc(), b"program p; type t = record ")?;
+    put_names(&mut text, 5184)?;
+    text.extend_from_slice(b": char end; var v: t; begin ")?;
+    for n in 0..60_000 {
+        text.extend_from_slice(b"v.")?;
+        put_name(&mut text, n % 5184)?;
+        text.extend_from_slice(b":='a';")?;
+    }
+    text.extend_from_slice(b"end.")?;
+    assert!(rt; is_accepted(&rt, rt.alloc(), &text));
+    Ok(())
+}

@@ -1,0 +1,355 @@
+//! Statements and expressions, spelled again from their trees with their parts marked.
+
+use crate::declarations::{add, add_constant, add_name};
+use sp_base::Place;
+use sp_front::read_text;
+use sp_tree::{
+    BinaryOp, SynArg, SynArm, SynBranch, SynExpr, SynExprForm, SynForm, SynSelector, SynStmt,
+    SynVar, UnaryOp,
+};
+use std::alloc::{AllocError, Global};
+use std::test::Fail;
+
+fn unary_text(op: UnaryOp) -> &'static [u8] {
+    match op {
+        UnaryOp::Plus => b"+",
+        UnaryOp::Minus => b"-",
+        UnaryOp::Not => b"not ",
+    }
+}
+
+fn binary_text(op: BinaryOp) -> &'static [u8] {
+    match op {
+        BinaryOp::Eq => b"=",
+        BinaryOp::Ne => b"<>",
+        BinaryOp::Lt => b"<",
+        BinaryOp::Le => b"<=",
+        BinaryOp::Gt => b">",
+        BinaryOp::Ge => b">=",
+        BinaryOp::Add => b"+",
+        BinaryOp::Sub => b"-",
+        BinaryOp::Or => b" or ",
+        BinaryOp::Mul => b"*",
+        BinaryOp::Div => b" div ",
+        BinaryOp::Mod => b" mod ",
+        BinaryOp::And => b" and ",
+    }
+}
+
+// An expression with each operator and its operands in parentheses. A number is one digit.
+#[cycle(spell_expression)]
+fn add_expression(all: &mut Vec<u8>, e: &SynExpr) -> Result<(), AllocError> {
+    match &e.form {
+        SynExprForm::Number(n) => all.push(b'0' + (*n % 10) as u8)?,
+        SynExprForm::Quoted(text) => {
+            add(all, b"'")?;
+            add(all, text.bytes())?;
+            add(all, b"'")?;
+        }
+        SynExprForm::Read(v) => add_variable(all, v)?,
+        SynExprForm::Call(name, args) => {
+            add_name(all, name)?;
+            add_arguments(all, args.items())?;
+        }
+        SynExprForm::Unary(op, a) => {
+            add(all, b"(")?;
+            add(all, unary_text(*op))?;
+            add_expression(all, a.get())?;
+            add(all, b")")?;
+        }
+        SynExprForm::Binary(op, a, b) => {
+            add(all, b"(")?;
+            add_expression(all, a.get())?;
+            add(all, binary_text(*op))?;
+            add_expression(all, b.get())?;
+            add(all, b")")?;
+        }
+    }
+    Ok(())
+}
+
+#[cycle(spell_expression)]
+fn add_variable(all: &mut Vec<u8>, v: &SynVar) -> Result<(), AllocError> {
+    add_name(all, &v.name)?;
+    for selector in v.selectors.items() {
+        add_selector(all, selector)?;
+    }
+    Ok(())
+}
+
+#[cycle(spell_expression)]
+fn add_selector(all: &mut Vec<u8>, selector: &SynSelector) -> Result<(), AllocError> {
+    match selector {
+        SynSelector::Index(e) => {
+            add(all, b"[")?;
+            add_expression(all, e)?;
+            add(all, b"]")
+        }
+        SynSelector::Field(name) => {
+            add(all, b".")?;
+            add_name(all, name)
+        }
+    }
+}
+
+#[cycle(spell_expression)]
+fn add_arguments(all: &mut Vec<u8>, args: &[SynArg]) -> Result<(), AllocError> {
+    let mut before: &[u8] = b"(";
+    for arg in args {
+        add(all, before)?;
+        add_argument(all, arg)?;
+        before = b",";
+    }
+    add(all, b")")
+}
+
+#[cycle(spell_expression)]
+fn add_argument(all: &mut Vec<u8>, arg: &SynArg) -> Result<(), AllocError> {
+    add_expression(all, &arg.value)?;
+    if let Some(width) = &arg.width {
+        add(all, b":")?;
+        add_expression(all, width)?;
+    }
+    Ok(())
+}
+
+// A statement, with an end of its own where the language has none.
+#[cycle(spell_statement)]
+fn add_statement(all: &mut Vec<u8>, s: &SynStmt) -> Result<(), AllocError> {
+    match &s.form {
+        SynForm::Empty => Ok(()),
+        SynForm::Assign(to, value) => {
+            add_variable(all, to)?;
+            add(all, b":=")?;
+            add_expression(all, value)
+        }
+        SynForm::Call(name, args) => {
+            add_name(all, name)?;
+            if args.is_empty() {
+                return Ok(());
+            }
+            add_arguments(all, args.items())
+        }
+        SynForm::Sequence(body) => {
+            add(all, b"begin ")?;
+            add_statements(all, body.items())?;
+            add(all, b" end")
+        }
+        SynForm::If(test, body, other) => {
+            add(all, b"if ")?;
+            add_expression(all, test)?;
+            add(all, b" then ")?;
+            add_statement(all, body.get())?;
+            if let Some(other) = other {
+                add(all, b" else ")?;
+                add_statement(all, other.get())?;
+            }
+            add(all, b" fi")
+        }
+        SynForm::While(test, body) => {
+            add(all, b"while ")?;
+            add_expression(all, test)?;
+            add_body(all, body.get())
+        }
+        SynForm::Repeat(body, test) => {
+            add(all, b"repeat ")?;
+            add_statements(all, body.items())?;
+            add(all, b" until ")?;
+            add_expression(all, test)
+        }
+        SynForm::Case(test, arms) => {
+            add(all, b"case ")?;
+            add_expression(all, test)?;
+            add(all, b" of ")?;
+            for arm in arms.items() {
+                add_arm(all, arm)?;
+            }
+            add(all, b"end")
+        }
+        SynForm::For {
+            name,
+            from,
+            down,
+            to,
+            body,
+        } => {
+            add(all, b"for ")?;
+            add_name(all, name)?;
+            add(all, b":=")?;
+            add_expression(all, from)?;
+            let way: &[u8] = if *down { b" downto " } else { b" to " };
+            add(all, way)?;
+            add_expression(all, to)?;
+            add_body(all, body.get())
+        }
+        SynForm::Parallel(branches) => {
+            add(all, b"parallel")?;
+            for branch in branches.items() {
+                add(all, b"|")?;
+                add_branch(all, branch)?;
+            }
+            add(all, b" end")
+        }
+        SynForm::Forall {
+            name,
+            from,
+            to,
+            body,
+        } => {
+            add(all, b"forall ")?;
+            add_name(all, name)?;
+            add(all, b":=")?;
+            add_expression(all, from)?;
+            add(all, b" to ")?;
+            add_expression(all, to)?;
+            add_body(all, body.get())
+        }
+        SynForm::Assume(test) => {
+            add(all, b"assume ")?;
+            add_expression(all, test)
+        }
+    }
+}
+
+// What is done again and again, or in each process.
+#[cycle(spell_statement)]
+fn add_body(all: &mut Vec<u8>, body: &SynStmt) -> Result<(), AllocError> {
+    add(all, b" do ")?;
+    add_statement(all, body)?;
+    add(all, b" od")
+}
+
+#[cycle(spell_statement)]
+fn add_statements(all: &mut Vec<u8>, body: &[SynStmt]) -> Result<(), AllocError> {
+    let mut before: &[u8] = b"";
+    for s in body {
+        add(all, before)?;
+        add_statement(all, s)?;
+        before = b";";
+    }
+    Ok(())
+}
+
+#[cycle(spell_statement)]
+fn add_arm(all: &mut Vec<u8>, arm: &SynArm) -> Result<(), AllocError> {
+    let mut before: &[u8] = b"";
+    for constant in arm.constants.items() {
+        add(all, before)?;
+        add_constant(all, constant)?;
+        before = b",";
+    }
+    add(all, b":")?;
+    add_statement(all, &arm.body)?;
+    add(all, b"; ")
+}
+
+#[cycle(spell_statement)]
+fn add_branch(all: &mut Vec<u8>, branch: &SynBranch) -> Result<(), AllocError> {
+    add_statements(all, branch.statements.items())
+}
+
+// The statement part of a program with these statements, spelled again; nothing where the text is refused.
+fn spelled(alloc: Global, statements: &str) -> Result<Vec<u8>, AllocError> {
+    let text = format!(in alloc; "program g; begin {statements} end.")?;
+    let mut all = Vec::new(alloc);
+    if let Ok(tree) = read_text(alloc, text.as_bytes()) {
+        add_statement(&mut all, &tree.block.body)?;
+    }
+    Ok(all)
+}
+
+// The number of the first statement part that is not spelled as it should be.
+fn first_wrong(alloc: Global, cases: &[(&str, &str)]) -> Result<Option<usize>, AllocError> {
+    for (i, (statements, wanted)) in cases.iter().enumerate() {
+        let found = spelled(alloc, statements)?;
+        if found.as_slice() != wanted.as_bytes() {
+            return Ok(Some(i));
+        }
+    }
+    Ok(None)
+}
+
+// Where the value that the first statement assigns begins.
+fn place_of_value(alloc: Global, text: &[u8]) -> Option<Place> {
+    let Ok(tree) = read_text(alloc, text) else {
+        return None;
+    };
+    let SynForm::Sequence(all) = &tree.block.body.form else {
+        return None;
+    };
+    let SynForm::Assign(_, value) = &all.get(0)?.form else {
+        return None;
+    };
+    Some(value.at)
+}
+
+#[test]
+fn an_expression_begins_at_its_outermost_parenthesis(rt: HostRuntime) -> Result<(), Fail> {
+    let found = place_of_value(rt.alloc(), b"program g; begin x := ((a) + b) end.");
+    let wanted = Place {
+        line: 1,
+        column: 23,
+    };
+    assert_eq!(rt; found, Some(wanted));
+    Ok(())
+}
+
+#[test]
+fn each_form_of_statement(rt: HostRuntime) -> Result<(), Fail> {
+    let cases = [
+        ("", "begin  end"),
+        ("; begin end; P; x := 1", "begin ;begin  end;p;x:=1 end"),
+        ("p(1, x: 2, y)", "begin p(1,x:2,y) end"),
+        (
+            "if a then b else c; if a then else",
+            "begin if a then b else c fi;if a then  else  fi end",
+        ),
+        (
+            "if a then while b do if c then d else e",
+            "begin if a then while b do if c then d else e fi od fi end",
+        ),
+        ("repeat a; b until c; d", "begin repeat a;b until c;d end"),
+        (
+            "for i := 1 to 2 do a; for i := 2 downto 1 do",
+            "begin for i:=1 to 2 do a od;for i:=2 downto 1 do  od end",
+        ),
+        (
+            "case x of 1, -a: b; 'c': ; end; case y of +2: end",
+            "begin case x of 1,-a:b; 'c':; end;case y of +2:; end end",
+        ),
+        (
+            "parallel a; b | c | end; forall i := 1 to 2 do a",
+            "begin parallel|a;b|c| end;forall i:=1 to 2 do a od end",
+        ),
+        ("assume a < b", "begin assume (a<b) end"),
+    ];
+    assert_eq!(rt; first_wrong(rt.alloc(), cases.as_slice())?, None);
+    Ok(())
+}
+
+#[test]
+fn each_form_of_expression(rt: HostRuntime) -> Result<(), Fail> {
+    let cases = [
+        ("x := a = b", "begin x:=(a=b) end"),
+        ("x := a <> b", "begin x:=(a<>b) end"),
+        ("x := a <= b + c", "begin x:=(a<=(b+c)) end"),
+        ("x := a > b; x := c >= d", "begin x:=(a>b);x:=(c>=d) end"),
+        ("x := +a + b - c or d", "begin x:=((((+a)+b)-c) or d) end"),
+        (
+            "x := a * b div c mod d and e",
+            "begin x:=((((a*b) div c) mod d) and e) end",
+        ),
+        ("x := -a * b + c", "begin x:=((-(a*b))+c) end"),
+        ("x := a - (b - c)", "begin x:=(a-(b-c)) end"),
+        (
+            "x := not (f(1, 2: 3) + 'a''b') and not g",
+            "begin x:=((not (f(1,2:3)+'a'b')) and (not g)) end",
+        ),
+        (
+            "a[1, 2].b[c] := d.e[f, g][h].i",
+            "begin a[1][2].b[c]:=d.e[f][g][h].i end",
+        ),
+    ];
+    assert_eq!(rt; first_wrong(rt.alloc(), cases.as_slice())?, None);
+    Ok(())
+}

@@ -1,0 +1,168 @@
+//! Each rule of types with a text that breaks it, beside a near one that breaks none.
+
+use sp_base::{Halt, Place, Refusal, Rule};
+use sp_front::typed;
+use std::alloc::Global;
+use std::test::Fail;
+
+struct Row<'a> {
+    rule: Rule,
+    column: u32,
+    refused: &'a [u8],
+    accepted: &'a [u8],
+}
+
+const ROWS: [Row; 21] = [
+    Row {
+        rule: Rule::Y1,
+        column: 28,
+        refused: b"program e; begin write(1 + true) end.",
+        accepted: b"program e; begin write(1 + ord(true)) end.",
+    },
+    Row {
+        rule: Rule::Y1,
+        column: 75,
+        refused: b"program e; type t = *(char); u = *(char); var a: t; b: u; begin write(a = b) end.",
+        accepted: b"program e; type t = *(char); u = t; var a: t; b: u; begin write(a = b) end.",
+    },
+    Row {
+        rule: Rule::Y2,
+        column: 34,
+        refused: b"program e; var x: integer; begin x[1] := 1 end.",
+        accepted: b"program e; type t = array [1..2] of integer; var x: t; begin x[1] := 1 end.",
+    },
+    Row {
+        rule: Rule::Y2,
+        column: 64,
+        refused: b"program e; type t = array [1..2] of integer; var x: t; begin x['a'] := 1 end.",
+        accepted: b"program e; type t = array ['a'..'b'] of integer; var x: t; begin x['a'] := 1 end.",
+    },
+    Row {
+        rule: Rule::Y3,
+        column: 34,
+        refused: b"program e; var x: integer; begin x.y := 1 end.",
+        accepted: b"program e; type t = record y: integer end; var x: t; begin x.y := 1 end.",
+    },
+    Row {
+        rule: Rule::Y4,
+        column: 24,
+        refused: b"program e; begin while 1 do end.",
+        accepted: b"program e; begin while false do end.",
+    },
+    Row {
+        rule: Rule::Y5,
+        column: 39,
+        refused: b"program e; var b: boolean; begin b := 1 end.",
+        accepted: b"program e; var b: boolean; begin b := true end.",
+    },
+    Row {
+        rule: Rule::Y5,
+        column: 96,
+        refused: b"program e; type t = array [1..2] of char; u = array [1..2] of char; var a: t; b: u; begin a := b end.",
+        accepted: b"program e; type t = array [1..2] of char; u = t; var a: t; b: u; begin a := b end.",
+    },
+    Row {
+        rule: Rule::Y6,
+        column: 56,
+        refused: b"program e; procedure p(b: boolean); begin end; begin p(1) end.",
+        accepted: b"program e; procedure p(b: integer); begin end; begin p(1) end.",
+    },
+    Row {
+        rule: Rule::Y7,
+        column: 60,
+        refused: b"program e; procedure p(var b: boolean); begin end; begin p(1) end.",
+        accepted: b"program e; var x: boolean; procedure p(var b: boolean); begin end; begin p(x) end.",
+    },
+    Row {
+        rule: Rule::Y8,
+        column: 24,
+        refused: b"program e; begin write(1:true) end.",
+        accepted: b"program e; begin write(true:1) end.",
+    },
+    Row {
+        rule: Rule::Y9,
+        column: 54,
+        refused: b"program e; type t = *(char); var c: t; begin send(c, 1) end.",
+        accepted: b"program e; type t = *(char, integer); var c: t; begin send(c, 1) end.",
+    },
+    Row {
+        rule: Rule::Y10,
+        column: 43,
+        refused: b"program e; var i: integer; begin for i := true to 2 do end.",
+        accepted: b"program e; var i: boolean; begin for i := false to true do end.",
+    },
+    Row {
+        rule: Rule::Y11,
+        column: 28,
+        refused: b"program e; begin case 1 of true: end end.",
+        accepted: b"program e; begin case 1 of 1: end end.",
+    },
+    Row {
+        rule: Rule::Y12,
+        column: 33,
+        refused: b"program e; begin case 1 of 1: ; 1: end end.",
+        accepted: b"program e; begin case 1 of 1: ; 2: end end.",
+    },
+    Row {
+        rule: Rule::Y13,
+        column: 31,
+        refused: b"program e; type t = array [2..1] of char; begin end.",
+        accepted: b"program e; type t = array [2..2] of char; begin end.",
+    },
+    Row {
+        rule: Rule::Y14,
+        column: 22,
+        refused: b"program e; const c = -true; begin end.",
+        accepted: b"program e; const c = -maxint; begin end.",
+    },
+    Row {
+        rule: Rule::Y14,
+        column: 36,
+        refused: b"program e; var c: char; begin c := 'ab' end.",
+        accepted: b"program e; var c: char; begin c := 'a'; write('ab') end.",
+    },
+    Row {
+        rule: Rule::L3,
+        column: 17,
+        refused: b"program e; type a = array [1..1048577] of integer; begin end.",
+        accepted: b"program e; type a = array [1..1048576] of integer; begin end.",
+    },
+    Row {
+        rule: Rule::L3,
+        column: 17,
+        refused: b"program e; type t = array [0..maxint] of char; begin end.",
+        accepted: b"program e; type t = array [1..1048576] of char; begin end.",
+    },
+    Row {
+        rule: Rule::L6,
+        column: 9,
+        refused: b"program e; type t = array [1..1048576] of char; var x, y: t; begin end.",
+        accepted: b"program e; type t = array [1..1048576] of char; var x: t; begin end.",
+    },
+];
+
+fn refuses(alloc: Global, text: &[u8], rule: Rule, column: u32) -> bool {
+    match typed(alloc, text) {
+        Err(Halt::Refused(found)) => {
+            found
+                == Refusal {
+                    rule,
+                    at: Place { line: 1, column },
+                }
+        }
+        _ => false,
+    }
+}
+
+#[test]
+fn rules_of_types(rt: HostRuntime) -> Result<(), Fail> {
+    for row in &ROWS {
+        let column = row.column;
+        assert!(rt;
+            refuses(rt.alloc(), row.refused, row.rule, column),
+            "{column}"
+        );
+        assert!(rt; typed(rt.alloc(), row.accepted).is_ok(), "{column}");
+    }
+    Ok(())
+}

@@ -1,0 +1,11 @@
+//! Tests of the plain interpreter of the meaning: worked programs, each by a schedule that leads to its end.
+#![tactic(auto)]
+
+#[cfg(test)]
+mod channels;
+#[cfg(test)]
+mod depth;
+#[cfg(test)]
+mod maker;
+#[cfg(test)]
+mod values;

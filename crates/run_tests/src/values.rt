@@ -1,0 +1,63 @@
+//! One process: what it writes, and the faults of its steps.
+
+use crate::maker::{LIMITS, Maker, X, Y, is_done};
+use sp_base::{Boxed, Fault, Limits, MAXINT, Memory, Text};
+use sp_tree::{BinaryOp, ExprForm, Form, Stmt};
+use std::test::Fail;
+
+const NO_TICKS: Limits = Limits { ticks: 0, ..LIMITS };
+
+fn quotient(m: &Maker, a: i64, b: i64) -> Result<ExprForm, Memory> {
+    let a = Boxed::new(m.alloc, m.number(a))?;
+    let b = Boxed::new(m.alloc, m.number(b))?;
+    Ok(ExprForm::Binary(BinaryOp::Div, a, b))
+}
+
+#[test]
+fn a_quotient_is_written(rt: HostRuntime) -> Result<(), Fail> {
+    let m = Maker { alloc: rt.alloc() };
+    let body = m.both(m.assign(X, quotient(&m, 85, 2)?), m.write(X))?;
+    let one = m.run_all(body, &[0])?;
+    assert!(rt; one.steps == 1 && one.output.bytes() == b"".as_slice() && one.end.is_none());
+    let body = m.both(m.assign(X, quotient(&m, 85, 2)?), m.write(X))?;
+    let all = m.run_all(body, &[0, 0, 0, 0])?;
+    assert!(rt; is_done(&all, 3, b"42"));
+    Ok(())
+}
+
+#[test]
+fn faults_of_expressions(rt: HostRuntime) -> Result<(), Fail> {
+    let m = Maker { alloc: rt.alloc() };
+    let undefined = m.fault(&LIMITS, m.assign(X, ExprForm::Read(m.var(Y))))?;
+    assert!(rt; undefined == Some(Fault::F4));
+    let outside = m.fault(&LIMITS, m.assign(X, ExprForm::Read(m.element(4)?)))?;
+    assert!(rt; outside == Some(Fault::F1));
+    let by_zero = m.fault(&LIMITS, m.assign(X, quotient(&m, 1, 0)?))?;
+    assert!(rt; by_zero == Some(Fault::F3));
+    Ok(())
+}
+
+/// `while 1 do`, whose turn is a tick.
+fn endless(m: &Maker) -> Result<Stmt, Memory> {
+    let body = Boxed::new(m.alloc, m.stmt(Form::Empty))?;
+    Ok(m.stmt(Form::While(m.number(1), body)))
+}
+
+/// A text of no bytes in so many places.
+fn wide(m: &Maker, width: i64) -> Stmt {
+    m.stmt(Form::WriteText(Text::of(Vec::new(m.alloc)), Some(m.number(width))))
+}
+
+#[test]
+fn faults_of_limits(rt: HostRuntime) -> Result<(), Fail> {
+    let m = Maker { alloc: rt.alloc() };
+    let ticked = m.fault(&NO_TICKS, endless(&m)?)?;
+    assert!(rt; ticked == Some(Fault::F10));
+    let narrow = m.fault(&LIMITS, wide(&m, 0))?;
+    assert!(rt; narrow == Some(Fault::F1));
+    let far_too_wide = m.fault(&LIMITS, wide(&m, MAXINT))?;
+    assert!(rt; far_too_wide == Some(Fault::F16));
+    let far_too_many = m.fault(&LIMITS, m.forall(-MAXINT, MAXINT)?)?;
+    assert!(rt; far_too_many == Some(Fault::F13));
+    Ok(())
+}

@@ -1,0 +1,219 @@
+-- Where the code of what is left to do stands.
+use Rattle.std.proofs.Common.{◌≡◌, ◌⊎◌, inl, inr, ℕ, zero, suc, ◌+◌, ℤ, List, [], ◌∷◌, Option, Some, None, Bool, true, false, if◌then◌else◌, refl, sym, ap, ◌∙◌, subst}
+use Rattle.std.specs.Prelude.{nat_lt, slice_get, length, pos, ◌+ℤ◌, ◌-ℤ◌, nat_abs, int_lt}
+use Rattle.sp_base.specs.declared.fault.Fault.{Fault}
+use Rattle.sp_tree.specs.Plain.{Expr, Program, Stmt, Empty, Assign, Call, Sequence, If, IfElse, While, Repeat, For, Case, Parallel, Forall, Assume, ReadValue, ReadLine, WriteValue, WriteText, WriteLine, Open, Send, Receive, Stmts, No, And, Typed}
+use Rattle.sp_tree.specs.Uses.{Use, In_stmt, In_stmts, In_loop}
+use Rattle.sp_tree.specs.Interference.{IsFreeOfInterference}
+use Rattle.sp_cell.specs.declared.cell.Cell.{Cell}
+use Rattle.sp_cell.specs.declared.cell.Cell.TheVariants as cell
+use Rattle.sp_cell.specs.declared.spot.Address.{Address as Ptr}
+use Rattle.sp_meaning.specs.Maps.{at_key}
+use Rattle.sp_meaning.specs.Model.{Channel, Cargo, Gives as Given, Takes}
+use Rattle.sp_meaning.specs.Values.{Value, Chan}
+use Rattle.sp_meaning.specs.Own.{Setting, Loc, Held, Tree, Position, Written, Address, Own, Who, Item, Do, First, Again, Test, Leave, Break, Came, Got, Bad, Lost, Long, Work, bind, give, fail, assigned, same_loc, tick}
+use Rattle.sp_meaning.specs.Deeds.{Deed, Went, Beat, Opened, Forked, Offered, Over, Birth, push, push_all, is_range, children, indexed_children}
+use Rattle.sp_meaning.specs.Run.{Store, run}
+use Rattle.sp_meaning.proofs.Run.{then_run, run_bind}
+use Rattle.sp_code.specs.declared.code.Parts.{Parts as Code}
+use Rattle.sp_code.specs.declared.instr.Instr.{Instr}
+use Rattle.sp_code.specs.declared.instr.Instr.TheVariants as i
+use Rattle.sp_code.specs.Machine.{Entry, Did, Done, Failed, Stop, Opens, Sends, Receives, Forks, Ends as Ended, Pauses, Ops, Config, At, One, Goes, Stops, Fails, outside, paced, then_go, one, instruction, values_in}
+use Rattle.sp_code.specs.Machine as m
+use Rattle.sp_code.specs.Turns.{Comes}
+use Rattle.sp_code.specs.Scopes.{Scope, OfIndex, Sort, sort}
+use Rattle.sp_code.specs.Places.{after, after_all, after_value}
+use Rattle.sp_code.specs.Stands.{Stands, HasFork, HasWords, StandsAt, AllAt, ChildrenAt, TurnsAt}
+use Rattle.sp_code.specs.Emitted.{children_tables, child_table}
+use Rattle.sp_codegen.specs.Joints.{Joint}
+use Rattle.sp_codegen.specs.Executions.{Execution}
+use Rattle.sp_codegen.specs.Relation.{Relation, Keeps, Placed, Alike, Stood}
+use Rattle.sp_codegen.proofs.Runs.{Breaks, Gives, Known, Ends, stays, goes, comes_on, breaks_after}
+use Rattle.sp_codegen.proofs.Values.{P, within}
+
+abbrev pub cells_in : Entry → List Cell
+cells_in (m.Number n) = cell.Ordinal n ∷ []
+cells_in (m.Chan c) = cell.Channel c ∷ []
+cells_in (m.Pointer a) = []
+cells_in (m.Cells cs) = cs
+cells_in (m.Link r) = []
+cells_in (m.Reply r) = []
+
+module _ {M : Type 0} (ex : Execution M) where
+  open ex use {setting as g, code, moves, shares, Quiet as hush, who as w, Reads as R, operations as ops, relation as rel, free}
+
+  abbrev p : Program
+  p = g.program
+
+  abbrev Pl : List Scope → List Joint → (Use → Type 0) → Type 0
+  Pl sc js Here = P ex sc js Here
+
+  -- the machine comes from one place to another, and only jumps
+  pub record Slides (pc q : ℕ) (stack : List Entry) : Type 0 where
+    pub by : (n : M) → Comes ops code (At pc stack n) (At q stack n)
+
+  pub slides : (pc : ℕ) (stack : List Entry) → Slides pc pc stack
+  slides pc stack = record { by = λ n. stays ops rel w code (At pc stack n) }
+
+  pub slides_on : {a b c : ℕ} {stack : List Entry} → Slides a b stack → Slides b c stack → Slides a c stack
+  slides_on h k = record { by = λ n. comes_on ops rel w code (h.by n) (k.by n) }
+
+  pub jumps : (q to : ℕ) (stack : List Entry) → slice_get code.instrs q ≡ Some (i.Jump to) → Slides q to stack
+  jumps q to stack h = record { by = λ n. goes ops rel w code (ap (λ o. instruction ops code o q stack n) h) }
+
+  abbrev pub Turns : Bool → List Scope → ℕ → ℕ → Bool → Stmt → Type 0
+  Turns free sc q x down s = TurnsAt p moves shares (Stands code) (HasFork code) (HasWords code) hush sc q x down (after p (q + 1 + 1) s) (StandsAt p moves shares (Stands code) (HasFork code) (HasWords code) hush free sc (q + 1 + 1) s)
+
+  -- from this place, with this stack and these frames, the code is that of what is left, and then comes to the end, with the stack base and the frames below
+  abbrev pub Follows : ℕ → List Entry → List Joint → ℕ → List Entry → List Joint → List Item → Type 0
+  Follows end base below pc stack fs [] = Slides pc end stack × (stack ≡ base) × (fs ≡ below)
+  Follows end base below pc stack fs (Do s ∷ todo) =
+      (q : ℕ) × (sc : List Scope) × Slides pc q stack × Pl sc fs (In_stmt s) × (StandsAt p moves shares (Stands code) (HasFork code) (HasWords code) hush (outside stack) sc q s) × Follows end base below (after p q s) stack fs todo
+  Follows end base below pc stack fs (First x low high down s ∷ todo) =
+      (q : ℕ) × (sc : List Scope) × (st : List Entry) × Slides pc q stack × (stack ≡ m.Number high ∷ m.Number low ∷ st) × Pl sc fs (In_loop x s) × (Turns (outside st) sc q x down s) × Follows end base below (after p (q + 1 + 1) s + 1) st fs todo × (is_range down low high ≡ true)
+  Follows end base below pc stack fs (Again x limit down s ∷ todo) =
+      (q : ℕ) × (sc : List Scope) × (st : List Entry) × Slides pc (after p (q + 1 + 1) s) stack × (stack ≡ m.Number limit ∷ st) × Pl sc fs (In_loop x s) × (Turns (outside st) sc q x down s) × Follows end base below (after p (q + 1 + 1) s + 1) st fs todo
+  Follows end base below pc stack fs (Test s e ∷ todo) =
+      (q : ℕ) × (sc : List Scope) × Slides pc (after p (q + 1) s) stack × Pl sc fs (In_stmt (Repeat s e)) × (StandsAt p moves shares (Stands code) (HasFork code) (HasWords code) hush (outside stack) sc q (Repeat s e)) × Follows end base below (after p q (Repeat s e)) stack fs todo
+  Follows end base below pc stack fs (Leave ∷ todo) =
+      (q r : ℕ) × (st : List Entry) × (f : Joint) × (rest : List Joint) × Slides pc q stack × (stack ≡ m.Link r ∷ st) × (slice_get code.instrs q ≡ Some i.Return) × (fs ≡ f ∷ rest) × Follows end base below r st rest todo × rel.Mine f rest
+  Follows end base below pc stack fs (Break f ∷ todo) = ⊥
+
+  pub slide_follows : (end : ℕ) (base : List Entry) (below : List Joint) (pc q : ℕ) (stack : List Entry) (fs : List Joint) (todo : List Item) → Slides pc q stack → Follows end base below q stack fs todo → Follows end base below pc stack fs todo
+  slide_follows end base below pc q stack fs [] h k = (slides_on h k.0, k.1, k.2)
+  slide_follows end base below pc q stack fs (Do s ∷ todo) h k = (k.0, k.1, slides_on h k.2, k.3, k.4, k.5)
+  slide_follows end base below pc q stack fs (First x lo hi d s ∷ todo) h k = (k.0, k.1, k.2, slides_on h k.3, k.4, k.5, k.6, k.7, k.8)
+  slide_follows end base below pc q stack fs (Again x hi d s ∷ todo) h k = (k.0, k.1, k.2, slides_on h k.3, k.4, k.5, k.6, k.7)
+  slide_follows end base below pc q stack fs (Test s e ∷ todo) h k = (k.0, k.1, slides_on h k.2, k.3, k.4, k.5)
+  slide_follows end base below pc q stack fs (Leave ∷ todo) h k = (k.0, k.1, k.2, k.3, k.4, slides_on h k.5, k.6, k.7, k.8, k.9, k.10)
+  slide_follows end base below pc q stack fs (Break f ∷ todo) h k = k
+
+  mutual
+    pub push_follows : (s : Stmt) (end : ℕ) (base : List Entry) (below : List Joint) (sc : List Scope) (q : ℕ) (stack : List Entry) (fs : List Joint) (todo : List Item) → Pl sc fs (In_stmt s) → StandsAt p moves shares (Stands code) (HasFork code) (HasWords code) hush (outside stack) sc q s → Follows end base below (after p q s) stack fs todo → Follows end base below q stack fs (push s todo)
+    push_follows Empty end base below sc q stack fs todo ch h k = k
+    push_follows (Assign v (Typed x f)) end base below sc q stack fs todo ch h k = (q, sc, slides q stack, ch, h, k)
+    push_follows (Call f args) end base below sc q stack fs todo ch h k = (q, sc, slides q stack, ch, h, k)
+    push_follows (Sequence ss) end base below sc q stack fs todo ch h k = push_all_follows ss end base below sc q stack fs todo ch h k
+    push_follows (If e a) end base below sc q stack fs todo ch h k = (q, sc, slides q stack, ch, h, k)
+    push_follows (IfElse e a b) end base below sc q stack fs todo ch h k = (q, sc, slides q stack, ch, h, k)
+    push_follows (While e s) end base below sc q stack fs todo ch h k = (q, sc, slides q stack, ch, h, k)
+    push_follows (Repeat s e) end base below sc q stack fs todo ch h k = (q, sc, slides q stack, ch, h, k)
+    push_follows (For x from down to s) end base below sc q stack fs todo ch h k = (q, sc, slides q stack, ch, h, k)
+    push_follows (Case e arms) end base below sc q stack fs todo ch h k = (q, sc, slides q stack, ch, h, k)
+    push_follows (Parallel ss) end base below sc q stack fs todo ch h k = (q, sc, slides q stack, ch, h, k)
+    push_follows (Forall x from to s) end base below sc q stack fs todo ch h k = (q, sc, slides q stack, ch, h, k)
+    push_follows (Assume e) end base below sc q stack fs todo ch h k = (q, sc, slides q stack, ch, h, k)
+    push_follows (ReadValue v) end base below sc q stack fs todo ch h k = (q, sc, slides q stack, ch, h, k)
+    push_follows ReadLine end base below sc q stack fs todo ch h k = (q, sc, slides q stack, ch, h, k)
+    push_follows (WriteValue e x) end base below sc q stack fs todo ch h k = (q, sc, slides q stack, ch, h, k)
+    push_follows (WriteText t x) end base below sc q stack fs todo ch h k = (q, sc, slides q stack, ch, h, k)
+    push_follows WriteLine end base below sc q stack fs todo ch h k = (q, sc, slides q stack, ch, h, k)
+    push_follows (Open v) end base below sc q stack fs todo ch h k = (q, sc, slides q stack, ch, h, k)
+    push_follows (Send c e) end base below sc q stack fs todo ch h k = (q, sc, slides q stack, ch, h, k)
+    push_follows (Receive c v) end base below sc q stack fs todo ch h k = (q, sc, slides q stack, ch, h, k)
+
+    pub push_all_follows : (ss : Stmts) (end : ℕ) (base : List Entry) (below : List Joint) (sc : List Scope) (q : ℕ) (stack : List Entry) (fs : List Joint) (todo : List Item) → Pl sc fs (In_stmts ss) → AllAt p moves shares (Stands code) (HasFork code) (HasWords code) hush (outside stack) sc q ss → Follows end base below (after_all p q ss) stack fs todo → Follows end base below q stack fs (push_all ss todo)
+    push_all_follows No end base below sc q stack fs todo ch h k = k
+    push_all_follows (And s rest) end base below sc q stack fs todo ch h k =
+        push_follows s end base below sc q stack fs (push_all rest todo) (within (λ u. inl) ch) h.0 (push_all_follows rest end base below sc (after p q s) stack fs todo (within (λ u. inr) ch) h.1 k)
+
+  -- what was pushed since is no function's link
+  pub outside_follows : (end : ℕ) (base : List Entry) (below : List Joint) (pc : ℕ) (stack : List Entry) (fs : List Joint) (todo : List Item) → Follows end base below pc stack fs todo → outside stack ≡ outside base
+  outside_follows end base below pc stack fs [] h = ap outside h.1
+  outside_follows end base below pc stack fs (Do s ∷ todo) h = outside_follows end base below (after p h.0 s) stack fs todo h.5
+  outside_follows end base below pc stack fs (First x lo hi d s ∷ todo) h = ap outside h.4 ∙ outside_follows end base below (after p (h.0 + 1 + 1) s + 1) h.2 fs todo h.7
+  outside_follows end base below pc stack fs (Again x hi d s ∷ todo) h = ap outside h.4 ∙ outside_follows end base below (after p (h.0 + 1 + 1) s + 1) h.2 fs todo h.7
+  outside_follows end base below pc stack fs (Test s e ∷ todo) h = outside_follows end base below (after p h.0 (Repeat s e)) stack fs todo h.5
+  outside_follows end base below pc stack fs (Leave ∷ todo) h = ap outside h.6 ∙ outside_follows end base below h.1 h.2 h.4 todo h.9
+  outside_follows end base below pc stack fs (Break f ∷ todo) h = absurd h
+
+  -- what is sent or received, at the stop
+  abbrev pub CargoIs : List Joint → Channel → ℕ → Cargo Held Address → Stop → Type 0
+  CargoIs fs c k (Given (Tree v)) z = (j : ℕ) × (e : Entry) × (z ≡ Sends j k (cells_in e)) × rel.Named c j × Stood rel p (sort p k) k v e
+  CargoIs fs c k (Given (Position n)) z = ⊥
+  CargoIs fs c k (Given (Written bs)) z = ⊥
+  CargoIs fs c k (Takes a) z = (j : ℕ) × (t : Ptr) × (z ≡ Receives j k t) × rel.Named c j × (a.kind ≡ k) × rel.Points fs a t × R a.spot
+
+  -- the children of a parallel statement with their code, which begins at q
+  abbrev pub ParallelIs : Bool → List Joint → List Birth → Stop → Type 0
+  ParallelIs free fs bs z =
+      (ss : Stmts) × (table q : ℕ) × (sc : List Scope) × (z ≡ Forks table (pos 0) (length (children_tables p moves shares q ss))) × HasFork code table (record { children = children_tables p moves shares q ss }) × (bs ≡ children ss)
+      × ChildrenAt p moves shares (Stands code) (HasFork code) (HasWords code) hush free sc q ss × Pl sc fs (In_stmt (Parallel ss))
+
+  -- those of a forall, of which there is one for each value
+  abbrev pub ForallIs : Bool → List Joint → List Birth → Stop → Type 0
+  ForallIs free fs bs z =
+      (x : ℕ) × (from to : Expr) × (s : Stmt) × (lo hi : ℤ) × (table q : ℕ) × (sc : List Scope) × (z ≡ Forks table lo (values_in lo hi)) × HasFork code table (record { children = child_table p moves shares q (Some x) s ∷ [] })
+      × (bs ≡ indexed_children x s lo (nat_abs ((hi -ℤ lo) +ℤ pos 1))) × (int_lt hi lo ≡ false)
+      × StandsAt p moves shares (Stands code) (HasFork code) (HasWords code) hush free (OfIndex x ∷ sc) q s × (slice_get code.instrs (after p q s) ≡ Some i.End) × Pl sc fs (In_stmt (Forall x from to s))
+
+  abbrev pub ForkIs : Bool → List Joint → List Birth → Stop → Type 0
+  ForkIs free fs bs z = ParallelIs free fs bs z ⊎ ForallIs free fs bs z
+
+  -- one step of a process: where the machine stands after it, or at which stop
+  abbrev pub Made : Config M → (List Item → List Joint → ℕ → List Entry → Type 0) → Came Deed × Store → Type 0
+  Made c Q (Got (Went todo) o, s) = (pc : ℕ) × (st : List Entry) × (n : M) × (fs : List Joint) × Comes ops code c (At pc st n) × rel.Stand fs o s n × Q todo fs pc st
+  Made c Q (Got (Beat todo) o, s) =
+      (pc : ℕ) × (st : List Entry) × (n : M) × (fs : List Joint) × (d : Config M) × Comes ops code c d × (one ops code d ≡ paced ops code pc st n) × rel.Stand fs o s n × Q todo fs pc st
+  Made c Q (Got (Opened todo) o, s) =
+      (pc : ℕ) × (st : List Entry) × (n : M) × (fs : List Joint) × (d : Config M) × (a : Address) × (t : Ptr) × (s0 : Store) × Comes ops code c d × (one ops code d ≡ Stops (Opens t) (At pc st n)) × rel.Stand fs o s0 n × rel.Points fs a t × R a.spot
+      × (s ≡ at_key same_loc a.spot (assigned a (s0 a.spot) (Tree (Chan (record { owner = w.name; nth = w.opens })))) s0) × Q todo fs pc st × (outside st ≡ true)
+  Made c Q (Got (Forked bs todo) o, s) =
+      (pc : ℕ) × (st : List Entry) × (n : M) × (fs : List Joint) × (d : Config M) × (z : Stop) × Comes ops code c d × (one ops code d ≡ Stops z (At pc st n)) × rel.Stand fs o s n × Q todo fs pc st × (outside st ≡ true) × ForkIs (outside st) fs bs z × (nat_lt o.depth g.limits.depth ≡ true)
+  Made c Q (Got (Offered ch k g todo) o, s) =
+      (pc : ℕ) × (st : List Entry) × (n : M) × (fs : List Joint) × (d : Config M) × (z : Stop) × Comes ops code c d × (one ops code d ≡ Stops z (At pc st n)) × rel.Stand fs o s n × CargoIs fs ch k g z × Q todo fs pc st × (outside st ≡ true)
+  Made c Q (Got Over o, s) = (pc : ℕ) × (st : List Entry) × (n : M) × (fs : List Joint) × Comes ops code c (At pc st n) × (one ops code (At pc st n) ≡ Stops Ended (At pc st n)) × rel.Stand fs o s n × Q [] fs pc st × (outside st ≡ true)
+  Made c Q (Bad f, s) = Breaks ops rel w code c f
+  Made c Q (Lost, s) = ⊥
+  Made c Q (Long, s) = Unit {0}
+
+  pub record Makes (c : Config M) (o : Own) (s : Store) (Q : List Item → List Joint → ℕ → List Entry → Type 0) (h : Work Deed) : Type 0 where
+    pub by : Made c Q (run h w o s)
+
+  pub made_after : (c d : Config M) (Q : List Item → List Joint → ℕ → List Entry → Type 0) (r : Came Deed × Store) → Comes ops code c d → Made d Q r → Made c Q r
+  made_after c d Q (Got (Went todo) o, s) h k = (k.0, k.1, k.2, k.3, comes_on ops rel w code h k.4, k.5, k.6)
+  made_after c d Q (Got (Beat todo) o, s) h k = (k.0, k.1, k.2, k.3, k.4, comes_on ops rel w code h k.5, k.6, k.7, k.8)
+  made_after c d Q (Got (Opened todo) o, s) h k = (k.0, k.1, k.2, k.3, k.4, k.5, k.6, k.7, comes_on ops rel w code h k.8, k.9, k.10, k.11, k.12, k.13, k.14, k.15)
+  made_after c d Q (Got (Forked bs todo) o, s) h k = (k.0, k.1, k.2, k.3, k.4, k.5, comes_on ops rel w code h k.6, k.7, k.8, k.9, k.10, k.11, k.12)
+  made_after c d Q (Got (Offered ch x g todo) o, s) h k = (k.0, k.1, k.2, k.3, k.4, k.5, comes_on ops rel w code h k.6, k.7, k.8, k.9, k.10, k.11)
+  made_after c d Q (Got Over o, s) h k = (k.0, k.1, k.2, k.3, comes_on ops rel w code h k.4, k.5, k.6, k.7, k.8)
+  made_after c d Q (Bad f, s) h k = breaks_after ops rel w code h k
+  made_after c d Q (Lost, s) h k = k
+  made_after c d Q (Long, s) h k = k
+
+  pub makes_after : {c d : Config M} {o : Own} {s : Store} {Q : List Item → List Joint → ℕ → List Entry → Type 0} {h : Work Deed} → Comes ops code c d → Makes d o s Q h → Makes c o s Q h
+  makes_after {c} {d} {o} {s} {Q} {h} e k = record { by = made_after c d Q (run h w o s) e k.by }
+
+  pub makes_bind : {A E : Type 0} {fs : List Joint} {c : Config M} {o : Own} {s : Store} {pc : ℕ} {st : A → E → List Entry} {F : A → E → Type 0} {Q : List Item → List Joint → ℕ → List Entry → Type 0} {h : Work A} (gg : A → Work Deed)
+      → Gives ops rel w code fs c o s pc st F h → ((a : A) (e : E) (o1 : Own) (s1 : Store) (n1 : M) → rel.Stand fs o1 s1 n1 → F a e → Makes (At pc (st a e) n1) o1 s1 Q (gg a)) → Makes c o s Q (bind h gg)
+  makes_bind {A} {E} {fs} {c} {o} {s} {pc} {st} {F} {Q} {h} gg k next = record { by = subst (Made c Q) (sym (run_bind h gg w o s)) (go (run h w o s) k.by) }
+    where
+      go : (r : Came A × Store) → Ends ops rel w code fs c pc st F r → Made c Q (then_run gg w r)
+      go (Got a o1, s1) q = made_after c (At pc (st a q.0) q.1) Q (run (gg a) w o1 s1) q.2 (next a q.0 o1 s1 q.1 q.3 q.4).by
+      go (Bad f, s1) q = q
+      go (Lost, s1) q = q
+      go (Long, s1) q = q
+
+  pub makes_known : {A : Type 0} {c : Config M} {o : Own} {s : Store} {Q : List Item → List Joint → ℕ → List Entry → Type 0} {h : Work A} (gg : A → Work Deed) (a : A) → Known ops rel w code o s h a → Makes c o s Q (gg a) → Makes c o s Q (bind h gg)
+  makes_known {A} {c} {o} {s} {Q} {h} gg a k next = record { by = subst (Made c Q) (sym (run_bind h gg w o s ∙ ap (then_run gg w) k.by)) next.by }
+
+  pub makes_by : {c : Config M} {o : Own} {s : Store} {Q : List Item → List Joint → ℕ → List Entry → Type 0} {h k : Work Deed} → h ≡ k → Makes c o s Q k → Makes c o s Q h
+  makes_by {c} {o} {s} {Q} e q = subst (λ x. Makes c o s Q x) (sym e) q
+
+  pub makes_went : {c : Config M} {o : Own} {s : Store} {Q : List Item → List Joint → ℕ → List Entry → Type 0} (todo : List Item) (fs : List Joint) (pc : ℕ) (st : List Entry) (n : M) → Comes ops code c (At pc st n) → rel.Stand fs o s n → Q todo fs pc st → Makes c o s Q (give (Went todo))
+  makes_went todo fs pc st n e t q = record { by = (pc, st, n, fs, e, t, q) }
+
+  pub makes_fail : {c : Config M} {o : Own} {s : Store} {Q : List Item → List Joint → ℕ → List Entry → Type 0} (f : Fault) → one ops code c ≡ Fails f → Makes c o s Q (fail f)
+  makes_fail {c} f e = record { by = record { at = c; comes = stays ops rel w code c; fails = e } }
+
+  -- a tick of the process, where a Tick stands
+  pub makes_tick : {c : Config M} {o : Own} {s : Store} {Q : List Item → List Joint → ℕ → List Entry → Type 0} (todo : List Item) (fs : List Joint) (pc : ℕ) (st : List Entry) (d : Did M) → Alike rel fs (run (tick g.limits) w o s) d → one ops code c ≡ then_go d (λ n1. paced ops code pc st n1) → Q todo fs pc st → Makes c o s Q (bind (tick g.limits) (λ u. give (Beat todo)))
+  makes_tick {c} {o} {s} {Q} todo fs pc st d al e q = record { by = subst (Made c Q) (sym (run_bind (tick g.limits) (λ u. give (Beat todo)) w o s)) (go (run (tick g.limits) w o s) d al e) }
+    where
+      go : (r : Came (Unit {0}) × Store) (d : Did M) → Alike rel fs r d → one ops code c ≡ then_go d (λ n1. paced ops code pc st n1) → Made c Q (then_run (λ u. give (Beat todo)) w r)
+      go (Got a o1, s1) (Done n1) al e = (pc, st, n1, fs, c, stays ops rel w code c, e, al, q)
+      go (Got a o1, s1) (Failed f) al e = absurd al
+      go (Bad f, s1) (Done n1) al e = absurd al
+      go (Bad f, s1) (Failed g1) al e = record { at = c; comes = stays ops rel w code c; fails = e ∙ ap Fails (sym al) }
+      go (Lost, s1) d al e = absurd al
+      go (Long, s1) d al e = absurd al

@@ -1,0 +1,33 @@
+-- One process that runs the code of a tree: all that the simulation of its turns speaks of, and what it asks of it.
+use Rattle.std.specs.Prelude.{◌≡◌, ℕ, List, Option, Some, Bool, slice_get}
+use Rattle.sp_tree.specs.Plain.{Stmt}
+use Rattle.sp_tree.specs.Interference.{IsFreeOfInterference}
+use Rattle.sp_meaning.specs.Own.{Setting, Loc, Cell, Own, Who}
+use Rattle.sp_code.specs.declared.code.Layout.{Layout}
+use Rattle.sp_code.specs.declared.code.Parts.{Parts}
+use Rattle.sp_code.specs.Machine.{Ops, layout_of}
+use Rattle.sp_codegen.specs.Relation.{Relation, Keeps}
+
+pub record Execution (M : Type 0) : Type 1 where
+  -- the program with its input and limits, its code, and which variables each child of a fork takes over
+  pub setting : Setting
+  pub code : Parts
+  pub moves : Stmt → List ℕ
+  pub shares : Stmt → List ℕ
+  -- the blocks that lead to no statement of the kernel
+  pub Quiet : ℕ → Type 0
+  -- the process, and when it is due to pause
+  pub who : Who
+  pub due : Own → Bool
+  -- what it may write and read, and the heights of the frames of indexes that it holds
+  pub Writes : Loc → Type 0
+  pub Reads : Loc → Type 0
+  pub Indexes : ℕ → Type 0
+  -- the memory of the machine, how it stands for that of the meaning, and that all operations keep this
+  pub operations : Ops M
+  pub relation : Relation M
+  pub laws : Keeps setting who due Writes Reads Indexes operations relation
+  pub reads_written : (l : Loc) → Writes l → Reads l
+  pub free : IsFreeOfInterference setting.program
+  pub own_written : (n x : ℕ) → Writes (Cell who.name n x)
+  pub layouts_found : (f : ℕ) (l : Layout) → slice_get code.layouts f ≡ Some l → layout_of code.layouts f ≡ Some l

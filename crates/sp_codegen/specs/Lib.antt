@@ -1,0 +1,6 @@
+pub mod Joints
+pub mod Shapes
+pub mod Relation
+pub mod Executions
+pub mod Standing
+pub mod Meets

@@ -1,0 +1,301 @@
+-- The parameters and the result of a block are its variables of these roles, in order.
+use Rattle.std.proofs.Common.{◌≡◌, ◌⊎◌, inl, inr, refl, ap, sym, ◌∙◌, subst, ℕ, zero, suc, ◌+◌, ◌≤◌, ◌==◌, List, [], ◌∷◌, ◌++◌, Option, Some, None, Bool, true, false, if◌then◌else◌, length, slice_get, arith, eq-eqb}
+use Rattle.std.specs.Prelude.{not, nat_eq, nat_le, ◌&&◌, drop, map}
+use Rattle.std.specs.Map.{lookup}
+use Rattle.std.specs.Str.{bytes_eq}
+use Rattle.sp_base.specs.declared.place.Place.{Place}
+use Rattle.sp_base.specs.declared.rule.Rule.TheVariants as rule
+use Rattle.sp_base.specs.declared.halt.Refusal.{Refusal}
+use Rattle.sp_tree.specs.declared.checked.Role.{Role}
+use Rattle.sp_tree.specs.declared.checked.Role.TheVariants as role
+use Rattle.sp_tree.specs.declared.operators.StandardFn.{StandardFn}
+use Rattle.sp_tree.specs.declared.meaning.Meaning.{Meaning}
+use Rattle.sp_tree.specs.declared.meaning.Meaning.TheVariants as meaning
+use Rattle.sp_tree.specs.declared.meaning.Passing.{Passing}
+use Rattle.sp_tree.specs.declared.meaning.Passing.TheVariants as passing
+use Rattle.sp_tree.specs.declared.syntax.Name.{Name}
+use Rattle.sp_tree.specs.Found.{Found, breaks, breaks_if, lesser, listed}
+use Rattle.sp_tree.specs.NameFirst.{together, all_at}
+use Rattle.sp_tree.specs.NameRules.{Site, Operand, Targets, Computes, Bare, Widens, broken, operand_rule, alone_rule, selects_rule, function_rule, function_takes, target_rule, variable_rule, next_passing, others, references_of, rest_of, aims, same_place}
+use Rattle.sp_tree.specs.Scopes as names
+use Rattle.sp_tree.specs.Scopes.{Env, look, find, find_in, or_else}
+use Rattle.sp_tree.specs.NameWalk as w
+use Rattle.sp_tree.specs.NameWalk.{role_of}
+use Rattle.sp_tree.specs.NamedOf as of_
+use Rattle.sp_tree.specs.PlainNamed as n
+use Rattle.sp_tree.specs.NamedTree.{variable_number, operand_named, function_named, named_expression, named_form, named_operand, named_selectors, named_selector, named_arguments, named_argument, named_width}
+use Rattle.sp_tree.specs.PlainSyntax.{Expression, At, ExpressionForm, Number, Quoted, Read, Apply, Unary, Binary, Variable, Entire, Selector, Index, Field, Selectors, Whole, Select, Argument, Pass, Width, NoWidth, Within, Arguments, NoArgument, AndArgument}
+use Rattle.sp_tree.specs.Plain as plain
+use Rattle.sp_code.specs.Scopes.{Scope, OfBlock, OfIndex, is_block, is_index, level, one_more, scopes_of}
+use Rattle.sp_types.specs.TypeWalk.{count, is_variable}
+use Rattle.sp_code.specs.Stands.{NoIndex}
+use Rattle.sp_facts.specs.Scoped.{SeenIn, SeenRole, AimedIn, AimedExpression, CallIn, AroundIn, InExpression, InForm, InVariable, InSelectors, InActuals, InArguments, InWidth}
+use Rattle.sp_facts.specs.Visible.{IsScope, AreFlags, IsAround, IsBlockIn, IsValid, AreValid, AllValid, IsVisible, IsChain}
+use Rattle.sp_facts.proofs.Calm.{calm_parts, calm_site, calm_at, calm_lesser, calm_if, nat_eq_is, not_true}
+use Rattle.std.proofs.lemmas.List.{length-append}
+use Rattle.sp_tree.specs.declared.checked.Variable as checked
+use Rattle.sp_tree.specs.declared.meaning.StandardProcedure.{StandardProcedure}
+use Rattle.sp_tree.specs.declared.meaning.StandardProcedure.TheVariants as procedure
+use Rattle.sp_tree.specs.declared.meaning.Sort.{Sort}
+use Rattle.sp_tree.specs.declared.meaning.Sort.TheVariants as sort
+use Rattle.sp_tree.specs.declared.syntax.SynConst.{SynConst}
+use Rattle.sp_tree.specs.NameRules.{Declares, Assigns, Loops, Runs, procedure_rule, procedure_takes, assign_rule, loop_rule, is_local}
+use Rattle.sp_tree.specs.Scopes.{Local, inside, opened, declared, most, variable, next_variable}
+use Rattle.sp_tree.specs.NameWalk.{statement_local, statements_local, other_local, arms_local, arm_local, branches_local, form_local, indexed, deeper}
+use Rattle.sp_tree.specs.NamedTree.{assigned_number, procedure_named, named_target, named_statement, named_statement_form, named_other, named_statements, named_arms, named_arm, named_branches, indices, form_indices, other_indices, statements_indices, arms_indices, arm_indices, branches_indices}
+use Rattle.sp_tree.specs.PlainSyntax.{Statement, Does, Form, Empty, Assign, Call, Sequence, If, While, Repeat, Case, For, Parallel, Forall, Assume, Other, NoElse, Else, Statements, NoStatement, AndThen, Arm, On, Arms, NoArm, Or, Branches, NoBranch, Beside}
+use Rattle.sp_facts.specs.Scoped.{IsInForall, ForIn, AreAimed, AreAimedLater, AimsOf, InStatement, InStatementForm, InOther, InStatements, InArms, InBranches}
+use Rattle.sp_facts.proofs.Names.{level_block, IsFound, find_valid, seen, aimed, called, target_in, expression_in, selectors_in, arguments_in, actuals_in, counts, passed_in}
+use Rattle.sp_facts.proofs.Numbering.{room_at, Adds, statement_adds, statements_adds, arms_adds, branches_adds, other_adds}
+use Rattle.sp_tree.specs.declared.meaning.Counts.{Counts}
+use Rattle.sp_tree.specs.declared.syntax.SynFormal.{SynFormal}
+use Rattle.sp_tree.specs.declared.syntax.SynKind.{SynKind}
+use Rattle.sp_tree.specs.declared.syntax.SynKind.TheVariants as kinds
+use Rattle.sp_tree.specs.NameRules.{Uses, AsKind}
+use Rattle.sp_tree.specs.Scopes.{put, closed, next_constant, next_kind, next_block}
+use Rattle.sp_tree.specs.NameWalk.{names_local, formals_local, title_local, answer_local, heading_local, constants_local, kind_local, type_local, parts_local, part_local, block_meaning, references}
+use Rattle.sp_tree.specs.NamedTree.{kind_number, variables_named, formals_named, numbers, answer_named, answer_of, enumerated, constants_named, parts_named, part_named}
+use Rattle.sp_tree.specs.PlainSyntax.{Part, Const, Kind, Var, Proc, Parts, NoPart, Declare}
+use Rattle.sp_types.specs.Tables.{answer_variable}
+use Rattle.sp_facts.specs.Held.{HoldsBlocks, AreScoped, AreBelow}
+use Rattle.sp_facts.proofs.Numbering.{Moved, MovedBy, declared_counts, one_variable, moves_on, kind_moves, constants_move, names_adds, formals_adds, answer_adds, parts_move, part_moves, sum5}
+use Rattle.sp_facts.proofs.NameStatements.{IsKept, statement_keeps, Holds, holds_parts, more_all, more_valid, all_behind, IsPlace, place_after, statement_in}
+use Rattle.sp_tree.specs.NamedTree.{Inside, inside_with, procedure_block, program_named}
+use Rattle.sp_tree.specs.PlainOf.{variable_of}
+use Rattle.sp_tree.specs.Cells.{variables_of}
+use Rattle.sp_code.specs.Scopes.{as_list}
+use Rattle.sp_tree.specs.Formed.{is_parameter, is_answer, among}
+use Rattle.sp_facts.proofs.Blocks.{part_block, calm_pieces, title_moves, formals_move, head_blocks, head_number}
+
+-- the numbers of a block's variables with such a role, from a number on
+abbrev pub own : (Role → Bool) → ℕ → ℕ → List checked.Variable → List ℕ
+own fits f k [] = []
+own fits f k (u ∷ us) = if (u.block == f) && fits u.role then k ∷ own fits f (suc k) us else own fits f (suc k) us
+
+-- a block's list, by its number
+abbrev pub in_blocks : (n.Block → List ℕ) → ℕ → ℕ → List n.Block → List ℕ
+in_blocks g f k [] = []
+in_blocks g f k (b ∷ bs) = if k == f then g b else in_blocks g f (suc k) bs
+
+pub among_own : (fits : Role → Bool) (f k : ℕ) (us : List checked.Variable) → among fits (variables_of f k (map variable_of us)) ≡ own fits f k us
+among_own fits f k [] = refl
+among_own fits f k (u ∷ us) = go (u.block == f) (fits u.role) refl (among_own fits f (suc k) us)
+  where
+    go : (b r : Bool) → fits u.role ≡ r → among fits (variables_of f (suc k) (map variable_of us)) ≡ own fits f (suc k) us
+        → among fits (if b then (k, variable_of u) ∷ variables_of f (suc k) (map variable_of us) else variables_of f (suc k) (map variable_of us)) ≡ (if b && r then k ∷ own fits f (suc k) us else own fits f (suc k) us)
+    go true true e h = ap (λ (z : Bool). if z then k ∷ among fits (variables_of f (suc k) (map variable_of us)) else among fits (variables_of f (suc k) (map variable_of us))) e ∙ ap (λ z. k ∷ z) h
+    go true false e h = ap (λ (z : Bool). if z then k ∷ among fits (variables_of f (suc k) (map variable_of us)) else among fits (variables_of f (suc k) (map variable_of us))) e ∙ h
+    go false r e h = h
+
+pub own_join : (fits : Role → Bool) (f k : ℕ) (us vs : List checked.Variable) → own fits f k (us ++ vs) ≡ own fits f k us ++ own fits f (k + length us) vs
+own_join fits f k [] vs = ap (λ z. own fits f z vs) (let z : k ≡ k + 0 = omega arith in z)
+own_join fits f k (u ∷ us) vs = go ((u.block == f) && fits u.role) (own_join fits f (suc k) us vs ∙ ap (λ z. own fits f (suc k) us ++ own fits f z vs) (let z : suc k + length us ≡ k + suc (length us) = omega arith in z))
+  where
+    go : (b : Bool) → own fits f (suc k) (us ++ vs) ≡ own fits f (suc k) us ++ own fits f (k + suc (length us)) vs
+        → (if b then k ∷ own fits f (suc k) (us ++ vs) else own fits f (suc k) (us ++ vs)) ≡ (if b then k ∷ own fits f (suc k) us else own fits f (suc k) us) ++ own fits f (k + suc (length us)) vs
+    go true h = ap (λ z. k ∷ z) h
+    go false h = h
+
+-- all are of this block
+abbrev pub AllOf : ℕ → List checked.Variable → Type 0
+AllOf b [] = Unit {0}
+AllOf b (u ∷ us) = (u.block ≡ b) × AllOf b us
+
+-- all are of roles for which the test says this
+abbrev pub AllFit : (Role → Bool) → Bool → List checked.Variable → Type 0
+AllFit fits r [] = Unit {0}
+AllFit fits r (u ∷ us) = (fits u.role ≡ r) × AllFit fits r us
+
+all_of_join : (b : ℕ) (us vs : List checked.Variable) → AllOf b us → AllOf b vs → AllOf b (us ++ vs)
+all_of_join b [] vs x y = y
+all_of_join b (u ∷ us) vs x y = (x.0, all_of_join b us vs x.1 y)
+
+all_fit_join : (fits : Role → Bool) (r : Bool) (us vs : List checked.Variable) → AllFit fits r us → AllFit fits r vs → AllFit fits r (us ++ vs)
+all_fit_join fits r [] vs x y = y
+all_fit_join fits r (u ∷ us) vs x y = (x.0, all_fit_join fits r us vs x.1 y)
+
+pub own_all : (fits : Role → Bool) (b k : ℕ) (us : List checked.Variable) → AllOf b us → AllFit fits true us → own fits b k us ≡ numbers k us
+own_all fits b k [] x y = refl
+own_all fits b k (u ∷ us) x y = ap (λ (z : Bool). if z && fits u.role then k ∷ own fits b (suc k) us else own fits b (suc k) us) (eq-eqb u.block b x.0)
+    ∙ ap (λ (z : Bool). if z then k ∷ own fits b (suc k) us else own fits b (suc k) us) y.0 ∙ ap (λ z. k ∷ z) (own_all fits b (suc k) us x.1 y.1)
+
+own_other : (fits : Role → Bool) (b f k : ℕ) (us : List checked.Variable) → AllOf b us → (b == f) ≡ false → own fits f k us ≡ []
+own_other fits b f k [] x d = refl
+own_other fits b f k (u ∷ us) x d = ap (λ (z : Bool). if z && fits u.role then k ∷ own fits f (suc k) us else own fits f (suc k) us) (subst (λ z. (z == f) ≡ false) (sym x.0) d) ∙ own_other fits b f (suc k) us x.1 d
+
+pub own_none : (fits : Role → Bool) (f k : ℕ) (us : List checked.Variable) → AllFit fits false us → own fits f k us ≡ []
+own_none fits f k [] y = refl
+own_none fits f k (u ∷ us) y = both (u.block == f) ∙ own_none fits f (suc k) us y.1
+  where
+    both : (b : Bool) → (if b && fits u.role then k ∷ own fits f (suc k) us else own fits f (suc k) us) ≡ own fits f (suc k) us
+    both true = ap (λ (z : Bool). if z then k ∷ own fits f (suc k) us else own fits f (suc k) us) y.0
+    both false = refl
+
+pub blocks_below : (g : n.Block → List ℕ) (f k : ℕ) (bs : List n.Block) → suc f ≤ k → in_blocks g f k bs ≡ []
+blocks_below g f k [] l = refl
+blocks_below g f k (b ∷ bs) l = ap (λ (z : Bool). if z then g b else in_blocks g f (suc k) bs) (differs k f l) ∙ blocks_below g f (suc k) bs (omega (arith, l))
+  where
+    differs : (k f : ℕ) → suc f ≤ k → (k == f) ≡ false
+    differs k f l = Prim.grind (arith, l)
+
+blocks_join : (g : n.Block → List ℕ) (f k : ℕ) (xs ys : List n.Block) → in_blocks g f k (xs ++ ys) ≡ in_blocks g f k xs ++ in_blocks g f (k + length xs) ys
+blocks_join g f k [] ys = ap (λ z. in_blocks g f z ys) (let z : k ≡ k + 0 = omega arith in z)
+blocks_join g f k (b ∷ xs) ys = go (k == f) refl (blocks_join g f (suc k) xs ys ∙ ap (λ z. in_blocks g f (suc k) xs ++ in_blocks g f z ys) (let z : suc k + length xs ≡ k + suc (length xs) = omega arith in z))
+  where
+    same : (k f : ℕ) → (k == f) ≡ true → k ≡ f
+    same k f e = Prim.grind (arith, e)
+
+    last : (xs : List ℕ) → xs ≡ xs ++ []
+    last [] = refl
+    last (x ∷ xs) = ap (λ z. x ∷ z) (last xs)
+
+    go : (z : Bool) → (k == f) ≡ z → in_blocks g f (suc k) (xs ++ ys) ≡ in_blocks g f (suc k) xs ++ in_blocks g f (k + suc (length xs)) ys
+        → (if z then g b else in_blocks g f (suc k) (xs ++ ys)) ≡ (if z then g b else in_blocks g f (suc k) xs) ++ in_blocks g f (k + suc (length xs)) ys
+    go true e h = let s = same k f e in last (g b) ∙ ap (λ z. g b ++ z) (sym (blocks_below g f (k + suc (length xs)) ys (omega (arith, s))))
+    go false e h = h
+
+names_of : (b k : ℕ) (r : Role) (xs : List Name) → AllOf b (variables_named b r k xs)
+names_of b k r [] = tt
+names_of b k r (x ∷ xs) = (refl, names_of b k r xs)
+
+names_fit : (fits : Role → Bool) (z : Bool) (b k : ℕ) (r : Role) (xs : List Name) → fits r ≡ z → AllFit fits z (variables_named b r k xs)
+names_fit fits z b k r [] e = tt
+names_fit fits z b k r (x ∷ xs) e = (e, names_fit fits z b k r xs e)
+
+pub formals_of_ : (env : Env) (b : ℕ) (fs : List SynFormal) → AllOf b (formals_named env b fs)
+formals_of_ env b [] = tt
+formals_of_ env b (f ∷ fs) = all_of_join b (variables_named b (role_of f.by_reference) (kind_number (find env f.kind.text)) f.names) (formals_named env b fs) (names_of b (kind_number (find env f.kind.text)) (role_of f.by_reference) f.names) (formals_of_ env b fs)
+
+pub formals_fit : (fits : Role → Bool) (z : Bool) → ((r : Bool) → fits (role_of r) ≡ z) → (env : Env) (b : ℕ) (fs : List SynFormal) → AllFit fits z (formals_named env b fs)
+formals_fit fits z h env b [] = tt
+formals_fit fits z h env b (f ∷ fs) = all_fit_join fits z (variables_named b (role_of f.by_reference) (kind_number (find env f.kind.text)) f.names) (formals_named env b fs) (names_fit fits z b (kind_number (find env f.kind.text)) (role_of f.by_reference) f.names (h f.by_reference)) (formals_fit fits z h env b fs)
+
+pub answer_of_ : (env : Env) (b : ℕ) (x : Name) (answer : Option Name) → AllOf b (answer_named env b x answer)
+answer_of_ env b x None = tt
+answer_of_ env b x (Some t) = (refl, tt)
+
+pub answer_fit : (fits : Role → Bool) (z : Bool) → fits role.Answer ≡ z → (env : Env) (b : ℕ) (x : Name) (answer : Option Name) → AllFit fits z (answer_named env b x answer)
+answer_fit fits z e env b x None = tt
+answer_fit fits z e env b x (Some t) = (e, tt)
+
+module _ (fits : Role → Bool) (no : fits role.Index ≡ false) (block : ℕ) where
+  mutual
+    pub indices_fit : (s : Statement) → AllFit fits false (indices block s)
+    indices_fit (Does at form) = form_fit form
+
+    form_fit : (form : Form) → AllFit fits false (form_indices block form)
+    form_fit Empty = tt
+    form_fit (Assign v e) = tt
+    form_fit (Call f args) = tt
+    form_fit (Sequence ss) = statements_fit ss
+    form_fit (If e a o) = all_fit_join fits false (indices block a) (other_indices block o) (indices_fit a) (other_fit o)
+    form_fit (While e a) = indices_fit a
+    form_fit (Repeat ss e) = statements_fit ss
+    form_fit (Case e arms) = arms_fit arms
+    form_fit (For x from down to a) = indices_fit a
+    form_fit (Parallel bs) = branches_fit bs
+    form_fit (Forall x from to a) = (no, indices_fit a)
+    form_fit (Assume e) = tt
+
+    other_fit : (o : Other) → AllFit fits false (other_indices block o)
+    other_fit NoElse = tt
+    other_fit (Else a) = indices_fit a
+
+    statements_fit : (ss : Statements) → AllFit fits false (statements_indices block ss)
+    statements_fit NoStatement = tt
+    statements_fit (AndThen a rest) = all_fit_join fits false (indices block a) (statements_indices block rest) (indices_fit a) (statements_fit rest)
+
+    arms_fit : (arms : Arms) → AllFit fits false (arms_indices block arms)
+    arms_fit NoArm = tt
+    arms_fit (Or (On cs a) rest) = all_fit_join fits false (indices block a) (arms_indices block rest) (indices_fit a) (arms_fit rest)
+
+    branches_fit : (bs : Branches) → AllFit fits false (branches_indices block bs)
+    branches_fit NoBranch = tt
+    branches_fit (Beside ss rest) = all_fit_join fits false (statements_indices block ss) (branches_indices block rest) (statements_fit ss) (branches_fit rest)
+
+same_names : (b k1 k2 : ℕ) (r : Role) (xs : List Name) → length (variables_named b r k1 xs) ≡ length (variables_named b r k2 xs)
+same_names b k1 k2 r [] = refl
+same_names b k1 k2 r (x ∷ xs) = ap suc (same_names b k1 k2 r xs)
+
+pub same_formals : (e1 e2 : Env) (b : ℕ) (fs : List SynFormal) → length (formals_named e1 b fs) ≡ length (formals_named e2 b fs)
+same_formals e1 e2 b [] = refl
+same_formals e1 e2 b (f ∷ fs) =
+    let k1 = kind_number (find e1 f.kind.text) in
+    let k2 = kind_number (find e2 f.kind.text) in
+    let r = role_of f.by_reference in
+    let x = length-append (variables_named b r k1 f.names) (formals_named e1 b fs) in
+    let y = length-append (variables_named b r k2 f.names) (formals_named e2 b fs) in
+    let u = same_names b k1 k2 r f.names in
+    let v = same_formals e1 e2 b fs in
+    omega (arith, x, y, u, v)
+
+-- fits: a test of roles, which local variables and indices don't pass; g: a block's list; heading: it is that of the variables of its heading
+module _ (fits : Role → Bool) (no_local : fits role.Local ≡ false) (no_index : fits role.Index ≡ false) (g : n.Block → List ℕ)
+    (heading : (l : Local) (x : Name) (fs : List SynFormal) (answer : Option Name) (i : Inside) → next_variable (formals_local (opened (next_block l.counts) 0 (title_local l x fs answer)) fs).counts ≡ next_variable l.counts + length (formals_named (inside [] l) (next_block l.counts) fs)
+    → (env : Env) → env.local ≡ l → i.answer ≡ (heading_local l x fs answer).answer
+    → own fits (next_block l.counts) (next_variable l.counts) (formals_named env (next_block l.counts) fs ++ answer_named env (next_block l.counts) x answer) ≡ g (procedure_block env x fs answer i)) (f : ℕ) where
+  mutual
+    pub parts_own : (around : List names.Scope) (l : Local) (ps : Parts) → w.parts_sites [] together all_at around l ps ≡ [] → own fits f (next_variable l.counts) (parts_named around l ps).variables ≡ in_blocks g f (next_block l.counts) (parts_named around l ps).blocks
+    parts_own around l NoPart calm = refl
+    parts_own around l (Declare q rest) calm =
+        let next = part_local l q in
+        let two = calm_parts (w.part_sites [] together all_at around l q) (w.parts_sites [] together all_at around next rest) calm in
+        let a = part_named around l q in
+        let b = parts_named around next rest in
+        let moved = part_moves around l q two.0 in
+        let k = next_variable l.counts in
+        let j = next_block l.counts in
+        let later : own fits f (k + length a.variables) b.variables ≡ in_blocks g f (j + length a.blocks) b.blocks = subst (λ z. own fits f z b.variables ≡ in_blocks g f (j + length a.blocks) b.blocks) moved.2 (subst (λ z. own fits f (next_variable next.counts) b.variables ≡ in_blocks g f z b.blocks) moved.3 (parts_own around next rest two.1)) in
+        own_join fits f k a.variables b.variables ∙ ap (λ z. z ++ own fits f (k + length a.variables) b.variables) (part_own around l q two.0) ∙ ap (λ z. in_blocks g f j a.blocks ++ z) later ∙ sym (blocks_join g f j a.blocks b.blocks)
+
+    part_own : (around : List names.Scope) (l : Local) (q : Part) → w.part_sites [] together all_at around l q ≡ [] → own fits f (next_variable l.counts) (part_named around l q).variables ≡ in_blocks g f (next_block l.counts) (part_named around l q).blocks
+    part_own around l (Const x c) calm = refl
+    part_own around l (Kind x k) calm = refl
+    part_own around l (Var xs t) calm = own_none fits f (next_variable l.counts) (variables_named l.block role.Local (kind_number (find (inside around l) t.text)) xs) (names_fit fits false l.block (kind_number (find (inside around l) t.text)) role.Local xs no_local)
+    part_own around l (Proc x fs answer parts body) calm =
+        let j = next_block l.counts in
+        let k = next_variable l.counts in
+        let env = inside around l in
+        let title = title_local l x fs answer in
+        let in_ = deeper around title in
+        let head = heading_local l x fs answer in
+        let formals = formals_local (opened j 0 title) fs in
+        let pieces = calm_pieces around l x fs answer parts body calm in
+        let a = formals_named env j fs in
+        let b = answer_named env j x answer in
+        let inner = parts_named in_ head parts in
+        let d = indices head.block body in
+        let m1 = (title_moves around l x fs answer parts body calm).2 in
+        let m2 = (formals_move around l x fs answer parts body calm).2 in
+        let m3 = (answer_adds formals env j x answer).2 in
+        let at_head : k + length a + length b ≡ next_variable head.counts = omega (arith, m1, m2, m3) in
+        let inside_ = parts_own in_ head parts pieces.2 in
+        let blocks_ = head_blocks around l x fs answer parts body calm in
+        let none = own_none fits f (k + length a + length b + length inner.variables) d (indices_fit fits no_index head.block body) in
+        let mid : own fits f (k + length a + length b) inner.variables ≡ in_blocks g f (suc j) inner.blocks = subst (λ z. own fits f z inner.variables ≡ in_blocks g f (suc j) inner.blocks) (sym at_head) (subst (λ z. own fits f (next_variable head.counts) inner.variables ≡ in_blocks g f z inner.blocks) blocks_ inside_) in
+        let i = inside_with in_ head parts body inner in
+        let tail : own fits f (k + length a + length b) (inner.variables ++ d) ≡ in_blocks g f (suc j) inner.blocks = own_join fits f (k + length a + length b) inner.variables d ∙ ap (λ z. own fits f (k + length a + length b) inner.variables ++ z) none ∙ nothing (own fits f (k + length a + length b) inner.variables) ∙ mid in
+        let same_length = same_formals env (inside [] l) j fs in
+        let first = heading l x fs answer i (let z : next_variable formals.counts ≡ k + length (formals_named (inside [] l) j fs) = omega (arith, m1, m2, same_length) in z) env refl refl in
+        split (j == f) refl k a b (inner.variables ++ d) (g (procedure_block env x fs answer i)) (in_blocks g f (suc j) inner.blocks) (all_of_join j a b (formals_of_ env j fs) (answer_of_ env j x answer)) first tail (λ e. blocks_below g f (suc j) inner.blocks (omega (arith, e)))
+      where
+        nothing : (xs : List ℕ) → xs ++ [] ≡ xs
+        nothing [] = refl
+        nothing (x ∷ xs) = ap (λ z. x ∷ z) (nothing xs)
+
+        same : (a b : ℕ) → (a == b) ≡ true → a ≡ b
+        same a b e = Prim.grind (arith, e)
+
+        split : (z : Bool) → (next_block l.counts == f) ≡ z → (k : ℕ) (a b rest : List checked.Variable) (mine others_ : List ℕ) → AllOf (next_block l.counts) (a ++ b) → own fits (next_block l.counts) k (a ++ b) ≡ mine → own fits f (k + length a + length b) rest ≡ others_ → (next_block l.counts ≡ f → others_ ≡ [])
+            → own fits f k (a ++ (b ++ rest)) ≡ (if z then mine else others_)
+        split z e k a b rest mine others_ all first tail below =
+            own_join fits f k a (b ++ rest) ∙ ap (λ z. own fits f k a ++ z) (own_join fits f (k + length a) b rest) ∙ assoc (own fits f k a) (own fits f (k + length a) b) (own fits f (k + length a + length b) rest)
+            ∙ ap (λ z. z ++ own fits f (k + length a + length b) rest) (sym (own_join fits f k a b)) ∙ ap (λ z. own fits f k (a ++ b) ++ z) tail ∙ go z e
+          where
+            assoc : (xs ys zs : List ℕ) → xs ++ (ys ++ zs) ≡ (xs ++ ys) ++ zs
+            assoc [] ys zs = refl
+            assoc (x ∷ xs) ys zs = ap (λ z. x ∷ z) (assoc xs ys zs)
+
+            go : (z : Bool) → (next_block l.counts == f) ≡ z → own fits f k (a ++ b) ++ others_ ≡ (if z then mine else others_)
+            go true e = let s = same (next_block l.counts) f e in ap (λ z. own fits f k (a ++ b) ++ z) (below s) ∙ nothing (own fits f k (a ++ b)) ∙ subst (λ z. own fits z k (a ++ b) ≡ mine) s first
+            go false e = ap (λ z. z ++ others_) (own_other fits (next_block l.counts) f k (a ++ b) all e)

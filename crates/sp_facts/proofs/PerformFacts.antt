@@ -1,0 +1,236 @@
+-- The calls of standard procedures are fine, where no rule of types is broken and each name is of a visible declaration.
+use Rattle.std.proofs.Common.{◌≡◌, ◌⊎◌, inl, inr, refl, ap, sym, ◌∙◌, subst, ℕ, zero, suc, ◌+◌, ◌≤◌, List, [], ◌∷◌, ◌++◌, Option, Some, None, Bool, true, false, if◌then◌else◌, length, slice_get, slice_set, arith, ⊎_elim, eq-eqb, eqb-true, ◌==◌}
+use Rattle.std.specs.Prelude.{ℤ, pos, not, nat_eq, ◌||◌}
+use Rattle.std.specs.Str.{bytes_eq}
+use Rattle.sp_base.specs.declared.place.Place.{Place}
+use Rattle.sp_base.specs.declared.rule.Rule.{Rule}
+use Rattle.sp_base.specs.declared.rule.Rule.TheVariants as rule
+use Rattle.sp_base.specs.declared.halt.Refusal.{Refusal}
+use Rattle.sp_tree.specs.declared.checked.KindOf.{KindOf}
+use Rattle.sp_tree.specs.declared.checked.KindOf.TheVariants as kind
+use Rattle.sp_tree.specs.declared.checked.Role.{Role}
+use Rattle.sp_tree.specs.declared.checked.Role.TheVariants as role
+use Rattle.sp_tree.specs.declared.operators.UnaryOp.{UnaryOp}
+use Rattle.sp_tree.specs.declared.operators.UnaryOp.TheVariants as unary
+use Rattle.sp_tree.specs.declared.operators.BinaryOp.{BinaryOp}
+use Rattle.sp_tree.specs.declared.operators.BinaryOp.TheVariants as binary
+use Rattle.sp_tree.specs.declared.operators.StandardFn.{StandardFn}
+use Rattle.sp_tree.specs.declared.operators.StandardFn.TheVariants as fn
+use Rattle.sp_tree.specs.Found.{Found, breaks, breaks_if, lesser, listed}
+use Rattle.sp_tree.specs.NameFirst.{together}
+use Rattle.sp_tree.specs.NameRules.{function_takes}
+use Rattle.sp_tree.specs.Plain.{Program, Variable, Block, Stmt, Expr, ExprForm, Actuals}
+use Rattle.sp_tree.specs.Plain as plain
+use Rattle.sp_tree.specs.PlainNamed as n
+use Rattle.sp_code.specs.Scopes.{Sort, Ordinals, Channels, Many, NoSort, kind_of, Scope, is_block, is_index, level, sort, sort_by}
+use Rattle.sp_code.specs.Places.{after_value, after_form, after_var, after_actuals}
+use Rattle.sp_types.specs.declared.tables.Ordinal.{Ordinal}
+use Rattle.sp_types.specs.declared.tables.Signature.{Signature}
+use Rattle.sp_types.specs.Entries.{field_from}
+use Rattle.sp_types.specs.Tables.{Env, entry, variable_kind, formals_of, formals_in, answer_in, answer_kind, kind_of_variable, ordinal_kind, constant_kind, number_or, char_of}
+use Rattle.sp_types.specs.TypeRules.{is_ordinal, is_channel, ordinal, channel, unless, differ, unary_takes, binary_takes, binary_gives, unary_rule, left_rule, right_rule, index_rule, index_kind_rule, index_of_rule, field_rule, field_found, field_in, actual_rule, value_rule, reference_rule, standard_takes, standard_rule, text_rule}
+use Rattle.sp_types.specs.Kinds.{expression_kind, form_kind, selected, selected_kind, selection, element, element_in, element_of, field, field_kind, standard_gives, if_ordinal, parameter_kind}
+use Rattle.sp_types.specs.TypeWalk.{expression_sites, form_sites, variable_sites, selectors_sites, selector_sites, actuals_sites, actual_sites, standard_sites, place, is_variable, count, formal, others, formal_role, formal_kind}
+use Rattle.sp_types.specs.CheckedTree.{or_zero, checked_expression, checked_form, checked_variable, checked_selectors, checked_actuals, checked_actual, checked_arguments, numbered_field, field_number, passed, referenced}
+use Rattle.sp_tree.specs.PlainChecked as c
+use Rattle.sp_tree.specs.CheckedOf as of_
+use Rattle.sp_tree.specs.Bare.{bare_expression, bare_form, bare_variable, bare_selectors, bare_actuals}
+use Rattle.sp_facts.specs.Knows.{IsKind, IsFormal, AreFormals, Knows, HasIndices}
+use Rattle.sp_code.specs.Stands.{ValueAt, FormAt, PlaceAt, VarAt, VarRole, SelectedAt, ActualsAt, ReadAt, UnaryAt, StandardAt, InputAt, Operands, NoIndex, IsTarget, Formal, CallAt, Around, AnyInstr, AnyTable, AnyText}
+use Rattle.sp_facts.specs.Scoped.{SeenIn, SeenRole, AimedIn, AimedExpression, CallIn, AroundIn, InExpression, InForm, InVariable, InSelectors, InActuals, InArguments, InWidth}
+use Rattle.sp_facts.proofs.Calm.{calm_parts, calm_site, calm_at, calm_lesser, calm_if, calm_unless, calm_differ, nat_eq_is, not_true, or_false}
+use Rattle.sp_tree.specs.declared.meaning.StandardProcedure.{StandardProcedure}
+use Rattle.sp_tree.specs.declared.named.NamedConst.{NamedConst}
+use Rattle.sp_tree.specs.Uses.{Use, Aims, Spreads, Stops, Runs, In_stmt, In_stmts, In_arms}
+use Rattle.sp_code.specs.Scopes.{OfBlock, OfIndex, one_more}
+use Rattle.sp_code.specs.Places.{after_right, after_width, after_test, after_tests, after, after_children, after_arms}
+use Rattle.sp_types.specs.Tables.{counted, indexed}
+use Rattle.sp_types.specs.TypeRules.{condition_rule, assign_rule, range_rule, limit_rule, selector_rule}
+use Rattle.sp_types.specs.TypeWalk as w
+use Rattle.sp_types.specs.TypeWalk.{statement_after, statements_after, arm_after, other_after, branches_after, arms_after, form_after, counted_by, parts_count, single_count}
+use Rattle.sp_types.specs.CheckedTree.{checked_statement, checked_statement_form, checked_statements, checked_other, checked_arms, checked_arm, checked_branches, in_sequence, first_place, constant_numbers}
+use Rattle.sp_tree.specs.Bare.{bare_statement, bare_statement_form, bare_statements, bare_arms}
+use Rattle.sp_facts.specs.Knows.{IsTyped, IsTypedForm, IsTypedOther, AreTyped, AreTypedArms, AreTypedBranches}
+use Rattle.sp_code.specs.Stands.{Hushed, StandsAt, AllAt, ChildrenAt, ArmsAt, RightAt, OrdinalAt, TestAt, TestsAt, TurnsAt, ForVar}
+use Rattle.sp_facts.specs.Scoped.{IsInForall, InStatement, InStatementForm, InOther, InStatements, InArms, InBranches}
+use Rattle.sp_facts.proofs.Expressions.{form_fine, some_is, ordinal_sort, ordinal_there, expression_fine, variable_fine, selectors_fine, actuals_fine, entire_fine, call_at, ValueIs, ordinal_is, boolean_is}
+use Rattle.sp_tree.specs.declared.meaning.StandardProcedure.TheVariants as procedure
+use Rattle.sp_tree.specs.NameRules.{procedure_takes}
+use Rattle.sp_types.specs.Tables.{kind_at}
+use Rattle.sp_types.specs.TypeRules.{read_rule, readable, write_rule, writable, width_rule, channel_rule, message_rule}
+use Rattle.sp_types.specs.CheckedTree.{target, written_text, checked_argument, argument_variable, checked_width, written_form, written, reads, writes, opens, sends, receives, singles, numbered, expanded}
+use Rattle.sp_tree.specs.Bare.{bare_width}
+use Rattle.sp_code.specs.Stands.{ReadsAt, WidthAt, IsWritten}
+use Rattle.sp_facts.specs.Scoped.{AreAimed, AreAimedLater, AimsOf}
+use Rattle.sp_facts.proofs.Expressions.{channel_is, integer_is}
+use Rattle.sp_facts.proofs.Statements.{Ready, Done, Quiet, within, free_is, Performs}
+
+module _ (p : Program) (m : ℕ) (moves shares : Stmt → List ℕ) (hush : ℕ → Type 0) (free : Bool) where
+  abbrev pub Fine : List Scope → c.Form → Type 0
+  Fine sc f = Quiet p m moves shares hush free sc (In_stmt (bare_statement_form f)) → Done p m moves shares hush free sc (bare_statement_form f)
+
+  abbrev pub AllFine : List Scope → List c.Form → Type 0
+  AllFine sc [] = Unit {0}
+  AllFine sc (f ∷ fs) = Fine sc f × AllFine sc fs
+
+  all_join : (sc : List Scope) (fs gs : List c.Form) → AllFine sc fs → AllFine sc gs → AllFine sc (fs ++ gs)
+  all_join sc [] gs x y = y
+  all_join sc (f ∷ fs) gs x y = (x.0, all_join sc fs gs x.1 y)
+
+  numbered_fine : (sc : List Scope) (k : ℕ) (at : Place) (fs : List c.Form) → AllFine sc fs → Quiet p m moves shares hush free sc (In_stmts (bare_statements (of_.statements (numbered k at fs)))) → (q : ℕ) → AllAt p moves shares AnyInstr AnyTable AnyText hush free sc q (bare_statements (of_.statements (numbered k at fs)))
+  numbered_fine sc k at [] h quiet q = tt
+  numbered_fine sc k at (f ∷ fs) h quiet q =
+      let s_ = bare_statement_form f in
+      let r_ = bare_statements (of_.statements (numbered (k + 1) at fs)) in (
+        h.0 (within p m moves shares hush free sc (In_stmts (plain.And s_ r_)) (In_stmt s_) (λ u i. inl i) quiet) q,
+        numbered_fine sc (k + 1) at fs h.1 (within p m moves shares hush free sc (In_stmts (plain.And s_ r_)) (In_stmts r_) (λ u i. inr i) quiet) (after p q s_),
+      )
+
+  expanded_fine : (sc : List Scope) (k : ℕ) (at : Place) (fs : List c.Form) → AllFine sc fs → Quiet p m moves shares hush free sc (In_stmt (bare_statement_form (expanded k at fs))) → Done p m moves shares hush free sc (bare_statement_form (expanded k at fs))
+  expanded_fine sc k at [] h quiet q = tt
+  expanded_fine sc k at (f ∷ []) h quiet q = h.0 quiet q
+  expanded_fine sc k at (f ∷ g ∷ fs) h quiet q = numbered_fine sc k at (f ∷ g ∷ fs) h quiet q
+
+  module _ (env : Env) (sc : List Scope) (ready : Ready p m env sc) where
+    value : (e : n.Expression) (f : Found) → together (expression_sites [] together listed env e) (listed f) ≡ [] → InExpression p m sc e → ValueIs p m moves shares hush env ready.0 sc ready.1 (expression_kind env e) (bare_expression (checked_expression env e)) × (f ≡ None)
+    value e f calm here = let two = calm_at (expression_sites [] together listed env e) f calm in (expression_fine p m moves shares hush env ready.0 sc ready.1 e two.0 here, two.1)
+
+    width_fine : (at : Place) (wd : n.Width) → w.width_sites [] together listed env at wd ≡ [] → InWidth p m sc wd → (q : ℕ) → WidthAt p moves shares AnyInstr AnyTable AnyText hush sc q (bare_width (checked_width env wd))
+    width_fine at n.NoWidth calm here q = tt
+    width_fine at (n.Within e) calm here q =
+        let r = value e (width_rule at (expression_kind env e)) calm here in
+        let is = nat_eq_is 0 r.0.0 (calm_unless rule.Y8 at (nat_eq 0) (expression_kind env e) r.0.0 r.0.1 r.1) in
+        (r.0.4 q, integer_is p m moves shares hush env ready.0 sc ready.1 (kind_of (bare_expression (checked_expression env e))) (r.0.3 ∙ sym is))
+
+    -- what is written: an integer, a char or a boolean
+    writes_kind : (k : ℕ) → writable k ≡ true → (t : KindOf) × (slice_get p.kinds k ≡ Some t) × IsWritten t × (sort p k ≡ Ordinals)
+    writes_kind k e = go (nat_eq k 0) (nat_eq k 2) refl refl e
+      where
+        go : (a b : Bool) → nat_eq k 0 ≡ a → nat_eq k 2 ≡ b → (a || (b || nat_eq k 1)) ≡ true → (t : KindOf) × (slice_get p.kinds k ≡ Some t) × IsWritten t × (sort p k ≡ Ordinals)
+        go true b ae be e = let x = ap (slice_get p.kinds) (nat_eq_is k 0 ae) ∙ ready.0.integer in (kind.Integer, x, tt, ap sort_by x)
+        go false true ae be e = let x = ap (slice_get p.kinds) (nat_eq_is k 2 be) ∙ ready.0.char in (kind.Char, x, tt, ap sort_by x)
+        go false false ae be e = let x = ap (slice_get p.kinds) (nat_eq_is k 1 e) ∙ ready.0.boolean in (kind.Boolean, x, tt, ap sort_by x)
+
+    write_one : (e : n.Expression) (wd : n.Width) → w.width_sites [] together listed env (place e) wd ≡ [] → together (expression_sites [] together listed env e) (listed (write_rule (place e) (expression_kind env e))) ≡ [] → InExpression p m sc e → InWidth p m sc wd → Fine sc (c.WriteValue (checked_expression env e) (checked_width env wd))
+    write_one e wd cw ce here in_w quiet q =
+        let r = value e (write_rule (place e) (expression_kind env e)) ce here in
+        let e_ = bare_expression (checked_expression env e) in
+        let x = writes_kind r.0.0 (calm_unless rule.Y8 (place e) writable (expression_kind env e) r.0.0 r.0.1 r.1) in
+        (x.0, (r.0.4 q, ap (sort p) r.0.3 ∙ x.3), ap (slice_get p.kinds) r.0.3 ∙ x.1, width_fine (place e) wd cw in_w (after_value q e_), tt, x.2)
+
+    text_one : (at : Place) (t : List ℕ) (wd : n.Width) → w.width_sites [] together listed env at wd ≡ [] → InWidth p m sc wd → Fine sc (written_text at t (char_of t) (checked_width env wd))
+    text_one at [] wd cw in_w quiet q = (0, tt, width_fine at wd cw in_w q, tt)
+    text_one at (x ∷ []) wd cw in_w quiet q = (kind.Char, (((tt, ap sort_by ready.0.char)), ap sort_by ready.0.char), ready.0.char, width_fine at wd cw in_w (q + 1), tt, tt)
+    text_one at (x ∷ y ∷ t) wd cw in_w quiet q = (0, tt, width_fine at wd cw in_w q, tt)
+
+    written_one : (e : n.Expression) (wd : n.Width) → w.width_sites [] together listed env (place e) wd ≡ [] → w.written_sites [] together listed env e ≡ [] → InExpression p m sc e → InWidth p m sc wd → Fine sc (written_form env e (checked_width env wd))
+    written_one (n.At at (n.Quoted t)) wd cw ce here in_w = text_one at t wd cw in_w
+    written_one (n.At at (n.Number k)) wd cw ce here in_w = write_one (n.At at (n.Number k)) wd cw ce here in_w
+    written_one (n.At at (n.Constant k)) wd cw ce here in_w = write_one (n.At at (n.Constant k)) wd cw ce here in_w
+    written_one (n.At at (n.Read v)) wd cw ce here in_w = write_one (n.At at (n.Read v)) wd cw ce here in_w
+    written_one (n.At at (n.Apply f name args)) wd cw ce here in_w = write_one (n.At at (n.Apply f name args)) wd cw ce here in_w
+    written_one (n.At at (n.Standard f args)) wd cw ce here in_w = write_one (n.At at (n.Standard f args)) wd cw ce here in_w
+    written_one (n.At at (n.Unary op a)) wd cw ce here in_w = write_one (n.At at (n.Unary op a)) wd cw ce here in_w
+    written_one (n.At at (n.Binary op a b)) wd cw ce here in_w = write_one (n.At at (n.Binary op a b)) wd cw ce here in_w
+
+    writes_fine : (args : n.Arguments) → w.each_sites [] together listed env (w.write_sites [] together listed env) args ≡ [] → InArguments p m sc args → AllFine sc (writes env args)
+    writes_fine n.NoArgument calm here = tt
+    writes_fine (n.AndArgument (n.Pass e wd) rest) calm here =
+        let two = calm_parts (together (w.width_sites [] together listed env (place e) wd) (w.written_sites [] together listed env e)) (w.each_sites [] together listed env (w.write_sites [] together listed env) rest) calm in
+        let one = calm_parts (w.width_sites [] together listed env (place e) wd) (w.written_sites [] together listed env e) two.0 in
+        (written_one e wd one.0 one.1 here.0 here.1, writes_fine rest two.1 here.2)
+
+    -- an argument that is a variable, with a rule of its type
+    aimed_one : (at : Place) (x : ℕ) (name : Place) (ss : n.Selectors) (f : Found) → together (variable_sites [] together listed env (n.Entire x name ss)) (listed f) ≡ [] → InVariable p m sc (n.Entire x name ss)
+        → ((k : ℕ) × (selected env (n.Entire x name ss) ≡ Some k) × IsKind p k × ((q : ℕ) → PlaceAt p moves shares AnyInstr AnyTable AnyText hush sc q (bare_variable (checked_variable env (n.Entire x name ss))) k)) × (f ≡ None)
+    aimed_one at x name ss f calm here = let two = calm_at (variable_sites [] together listed env (n.Entire x name ss)) f calm in (variable_fine p m moves shares hush env ready.0 sc ready.1 (n.Entire x name ss) two.0 here, two.1)
+
+    reads_kind : (k : ℕ) → readable k ≡ true → (t : KindOf) × (slice_get p.kinds k ≡ Some t) × ((q : ℕ) → ReadsAt p moves shares AnyInstr AnyTable AnyText hush q t)
+    reads_kind k e = go (nat_eq k 0) refl e
+      where
+        go : (a : Bool) → nat_eq k 0 ≡ a → (a || nat_eq k 2) ≡ true → (t : KindOf) × (slice_get p.kinds k ≡ Some t) × ((q : ℕ) → ReadsAt p moves shares AnyInstr AnyTable AnyText hush q t)
+        go true ae e = (kind.Integer, ap (slice_get p.kinds) (nat_eq_is k 0 ae) ∙ ready.0.integer, λ q. tt)
+        go false ae e = (kind.Char, ap (slice_get p.kinds) (nat_eq_is k 2 e) ∙ ready.0.char, λ q. tt)
+
+    reads_fine : (args : n.Arguments) → w.each_sites [] together listed env (w.read_sites [] together listed env) args ≡ [] → AreAimed p m args → InArguments p m sc args → AllFine sc (reads env args)
+    reads_fine n.NoArgument calm aims here = tt
+    reads_fine (n.AndArgument (n.Pass (n.At at (n.Read (n.Entire x name ss))) wd) rest) calm aims here =
+        let two = calm_parts (w.read_sites [] together listed env (n.Pass (n.At at (n.Read (n.Entire x name ss))) wd)) (w.each_sites [] together listed env (w.read_sites [] together listed env) rest) calm in
+        let r = aimed_one at x name ss (read_rule at (selected env (n.Entire x name ss))) two.0 here.0 in
+        let t = reads_kind r.0.0 (calm_unless rule.Y8 at readable (selected env (n.Entire x name ss)) r.0.0 r.0.1 r.1) in
+        ((λ quiet q. (r.0.0, t.0, r.0.3 q, aims.0, t.1, t.2 (after_var q (bare_variable (checked_variable env (n.Entire x name ss)))))), reads_fine rest two.1 aims.1 here.2)
+    reads_fine (n.AndArgument (n.Pass (n.At at (n.Number k)) wd) rest) calm aims here = absurd aims
+    reads_fine (n.AndArgument (n.Pass (n.At at (n.Quoted t)) wd) rest) calm aims here = absurd aims
+    reads_fine (n.AndArgument (n.Pass (n.At at (n.Constant k)) wd) rest) calm aims here = absurd aims
+    reads_fine (n.AndArgument (n.Pass (n.At at (n.Apply f name args)) wd) rest) calm aims here = absurd aims
+    reads_fine (n.AndArgument (n.Pass (n.At at (n.Standard f args)) wd) rest) calm aims here = absurd aims
+    reads_fine (n.AndArgument (n.Pass (n.At at (n.Unary op a)) wd) rest) calm aims here = absurd aims
+    reads_fine (n.AndArgument (n.Pass (n.At at (n.Binary op a b)) wd) rest) calm aims here = absurd aims
+
+    opens_fine : (args : n.Arguments) → w.each_sites [] together listed env (w.channel_sites [] together listed env) args ≡ [] → AreAimed p m args → InArguments p m sc args → AllFine sc (opens env args)
+    opens_fine n.NoArgument calm aims here = tt
+    opens_fine (n.AndArgument (n.Pass (n.At at (n.Read (n.Entire x name ss))) wd) rest) calm aims here =
+        let two = calm_parts (w.channel_sites [] together listed env (n.Pass (n.At at (n.Read (n.Entire x name ss))) wd)) (w.each_sites [] together listed env (w.channel_sites [] together listed env) rest) calm in
+        let r = aimed_one at x name ss (channel_rule env at (selected env (n.Entire x name ss))) two.0 here.0 in
+        let is = channel_is p m moves shares hush env ready.0 sc ready.1 r.0.0 (calm_unless rule.Y8 at (channel env) (selected env (n.Entire x name ss)) r.0.0 r.0.1 r.1) in
+        let v_ = bare_variable (checked_variable env (n.Entire x name ss)) in
+        ((λ quiet q. (r.0.0, r.0.3 q, aims.0, is, tt, free_is p m moves shares hush free sc (In_stmt (plain.Open v_)) quiet (inr refl))), opens_fine rest two.1 aims.1 here.2)
+    opens_fine (n.AndArgument (n.Pass (n.At at (n.Number k)) wd) rest) calm aims here = absurd aims
+    opens_fine (n.AndArgument (n.Pass (n.At at (n.Quoted t)) wd) rest) calm aims here = absurd aims
+    opens_fine (n.AndArgument (n.Pass (n.At at (n.Constant k)) wd) rest) calm aims here = absurd aims
+    opens_fine (n.AndArgument (n.Pass (n.At at (n.Apply f name args)) wd) rest) calm aims here = absurd aims
+    opens_fine (n.AndArgument (n.Pass (n.At at (n.Standard f args)) wd) rest) calm aims here = absurd aims
+    opens_fine (n.AndArgument (n.Pass (n.At at (n.Unary op a)) wd) rest) calm aims here = absurd aims
+    opens_fine (n.AndArgument (n.Pass (n.At at (n.Binary op a b)) wd) rest) calm aims here = absurd aims
+
+    -- a channel, and what is sent or received
+    abbrev ChannelIs : n.Expression → Type 0
+    ChannelIs e = ((q : ℕ) → ValueAt p moves shares AnyInstr AnyTable AnyText hush sc q (bare_expression (checked_expression env e))) × (sort p (kind_of (bare_expression (checked_expression env e))) ≡ Channels)
+
+    channel_one : (e : n.Expression) (wd : n.Width) → w.channel_sites [] together listed env (n.Pass e wd) ≡ [] → InExpression p m sc e → ChannelIs e
+    channel_one e wd calm here =
+        let r = value e (channel_rule env (place e) (expression_kind env e)) calm here in
+        (r.0.4, ap (sort p) r.0.3 ∙ channel_is p m moves shares hush env ready.0 sc ready.1 r.0.0 (calm_unless rule.Y8 (place e) (channel env) (expression_kind env e) r.0.0 r.0.1 r.1))
+
+    sends_fine : (ch : n.Expression) (o : Option ℕ) → ChannelIs ch → (args : n.Arguments) → w.each_sites [] together listed env (w.message_sites [] together listed env o) args ≡ [] → InArguments p m sc args → AllFine sc (sends env (checked_expression env ch) args)
+    sends_fine ch o is n.NoArgument calm here = tt
+    sends_fine ch o is (n.AndArgument (n.Pass e wd) rest) calm here =
+        let two = calm_parts (w.message_sites [] together listed env o (n.Pass e wd)) (w.each_sites [] together listed env (w.message_sites [] together listed env o) rest) calm in
+        let r = value e (message_rule env (place e) o (expression_kind env e)) two.0 here.0 in
+        let c_ = bare_expression (checked_expression env ch) in
+        let e_ = bare_expression (checked_expression env e) in
+        ((λ quiet q. (is.0 q, is.1, r.0.4 (after_value q c_), tt, free_is p m moves shares hush free sc (In_stmt (plain.Send c_ e_)) quiet (inr (inr refl)))), sends_fine ch o is rest two.1 here.2)
+
+    receives_fine : (ch : n.Expression) (o : Option ℕ) → ChannelIs ch → (args : n.Arguments) → w.each_sites [] together listed env (w.message_sites [] together listed env o) args ≡ [] → AreAimed p m args → InArguments p m sc args → AllFine sc (receives env (checked_expression env ch) args)
+    receives_fine ch o is n.NoArgument calm aims here = tt
+    receives_fine ch o is (n.AndArgument (n.Pass (n.At at (n.Read (n.Entire x name ss))) wd) rest) calm aims here =
+        let two = calm_parts (w.message_sites [] together listed env o (n.Pass (n.At at (n.Read (n.Entire x name ss))) wd)) (w.each_sites [] together listed env (w.message_sites [] together listed env o) rest) calm in
+        let r = aimed_one at x name ss (message_rule env at o (selected env (n.Entire x name ss))) two.0 here.0 in
+        let c_ = bare_expression (checked_expression env ch) in
+        let v_ = bare_variable (checked_variable env (n.Entire x name ss)) in
+        ((λ quiet q. (r.0.0, is.0 q, is.1, r.0.3 (after_value q c_), aims.0, tt, free_is p m moves shares hush free sc (In_stmt (plain.Receive c_ v_)) quiet (inr (inr refl)))), receives_fine ch o is rest two.1 aims.1 here.2)
+    receives_fine ch o is (n.AndArgument (n.Pass (n.At at (n.Number k)) wd) rest) calm aims here = absurd aims
+    receives_fine ch o is (n.AndArgument (n.Pass (n.At at (n.Quoted t)) wd) rest) calm aims here = absurd aims
+    receives_fine ch o is (n.AndArgument (n.Pass (n.At at (n.Constant k)) wd) rest) calm aims here = absurd aims
+    receives_fine ch o is (n.AndArgument (n.Pass (n.At at (n.Apply f name args)) wd) rest) calm aims here = absurd aims
+    receives_fine ch o is (n.AndArgument (n.Pass (n.At at (n.Standard f args)) wd) rest) calm aims here = absurd aims
+    receives_fine ch o is (n.AndArgument (n.Pass (n.At at (n.Unary op a)) wd) rest) calm aims here = absurd aims
+    receives_fine ch o is (n.AndArgument (n.Pass (n.At at (n.Binary op a b)) wd) rest) calm aims here = absurd aims
+
+    singles_fine : (f : StandardProcedure) (args : n.Arguments) → w.perform_sites [] together listed env f args ≡ [] → AimsOf p m f args → InArguments p m sc args → AllFine sc (singles env f args)
+    singles_fine procedure.Read args calm aims here = reads_fine args calm aims here
+    singles_fine procedure.Readln args calm aims here = all_join sc (reads env args) (c.ReadLine ∷ []) (reads_fine args calm aims here) ((λ quiet q. tt), tt)
+    singles_fine procedure.Write args calm aims here = writes_fine args calm here
+    singles_fine procedure.Writeln args calm aims here = all_join sc (writes env args) (c.WriteLine ∷ []) (writes_fine args calm here) ((λ quiet q. tt), tt)
+    singles_fine procedure.Open args calm aims here = opens_fine args calm aims here
+    singles_fine procedure.Send n.NoArgument calm aims here = tt
+    singles_fine procedure.Send (n.AndArgument (n.Pass e wd) rest) calm aims here =
+        let two = calm_parts (w.channel_sites [] together listed env (n.Pass e wd)) (w.each_sites [] together listed env (w.message_sites [] together listed env (expression_kind env e)) rest) calm in
+        sends_fine e (expression_kind env e) (channel_one e wd two.0 here.0) rest two.1 here.2
+    singles_fine procedure.Receive n.NoArgument calm aims here = tt
+    singles_fine procedure.Receive (n.AndArgument (n.Pass e wd) rest) calm aims here =
+        let two = calm_parts (w.channel_sites [] together listed env (n.Pass e wd)) (w.each_sites [] together listed env (w.message_sites [] together listed env (expression_kind env e)) rest) calm in
+        receives_fine e (expression_kind env e) (channel_one e wd two.0 here.0) rest two.1 aims here.2
+
+pub performs : (p : Program) (m : ℕ) (moves shares : Stmt → List ℕ) (hush : ℕ → Type 0) → Performs p m moves shares hush
+performs p m moves shares hush free env sc at f args ready calm here quiet = expanded_fine p m moves shares hush free sc env.next at (singles env f args) (singles_fine p m moves shares hush free env sc ready f args calm here.1 here.2) quiet

@@ -1,0 +1,254 @@
+-- The foralls of each block have numbers of the block's own indices.
+use Rattle.std.proofs.Common.{◌≡◌, ◌⊎◌, inl, inr, refl, ap, sym, ◌∙◌, subst, ℕ, zero, suc, ◌+◌, ◌≤◌, ◌==◌, List, [], ◌∷◌, ◌++◌, Option, Some, None, Bool, true, false, if◌then◌else◌, length, slice_get, arith, eq-eqb}
+use Rattle.std.specs.Prelude.{not, nat_eq, nat_le, ◌&&◌, drop, map}
+use Rattle.std.specs.Map.{lookup}
+use Rattle.std.specs.Str.{bytes_eq}
+use Rattle.sp_base.specs.declared.place.Place.{Place}
+use Rattle.sp_base.specs.declared.rule.Rule.TheVariants as rule
+use Rattle.sp_base.specs.declared.halt.Refusal.{Refusal}
+use Rattle.sp_tree.specs.declared.checked.Role.{Role}
+use Rattle.sp_tree.specs.declared.checked.Role.TheVariants as role
+use Rattle.sp_tree.specs.declared.operators.StandardFn.{StandardFn}
+use Rattle.sp_tree.specs.declared.meaning.Meaning.{Meaning}
+use Rattle.sp_tree.specs.declared.meaning.Meaning.TheVariants as meaning
+use Rattle.sp_tree.specs.declared.meaning.Passing.{Passing}
+use Rattle.sp_tree.specs.declared.meaning.Passing.TheVariants as passing
+use Rattle.sp_tree.specs.declared.syntax.Name.{Name}
+use Rattle.sp_tree.specs.Found.{Found, breaks, breaks_if, lesser, listed}
+use Rattle.sp_tree.specs.NameFirst.{together, all_at}
+use Rattle.sp_tree.specs.NameRules.{Site, Operand, Targets, Computes, Bare, Widens, broken, operand_rule, alone_rule, selects_rule, function_rule, function_takes, target_rule, variable_rule, next_passing, others, references_of, rest_of, aims, same_place}
+use Rattle.sp_tree.specs.Scopes as names
+use Rattle.sp_tree.specs.Scopes.{Env, look, find, find_in, or_else}
+use Rattle.sp_tree.specs.NameWalk as w
+use Rattle.sp_tree.specs.NameWalk.{role_of}
+use Rattle.sp_tree.specs.NamedOf as of_
+use Rattle.sp_tree.specs.PlainNamed as n
+use Rattle.sp_tree.specs.NamedTree.{variable_number, operand_named, function_named, named_expression, named_form, named_operand, named_selectors, named_selector, named_arguments, named_argument, named_width}
+use Rattle.sp_tree.specs.PlainSyntax.{Expression, At, ExpressionForm, Number, Quoted, Read, Apply, Unary, Binary, Variable, Entire, Selector, Index, Field, Selectors, Whole, Select, Argument, Pass, Width, NoWidth, Within, Arguments, NoArgument, AndArgument}
+use Rattle.sp_tree.specs.Plain as plain
+use Rattle.sp_code.specs.Scopes.{Scope, OfBlock, OfIndex, is_block, is_index, level, one_more, scopes_of}
+use Rattle.sp_types.specs.TypeWalk.{count, is_variable}
+use Rattle.sp_code.specs.Stands.{NoIndex}
+use Rattle.sp_facts.specs.Scoped.{SeenIn, SeenRole, AimedIn, AimedExpression, CallIn, AroundIn, InExpression, InForm, InVariable, InSelectors, InActuals, InArguments, InWidth}
+use Rattle.sp_facts.specs.Visible.{IsScope, AreFlags, IsAround, IsBlockIn, IsValid, AreValid, AllValid, IsVisible, IsChain}
+use Rattle.sp_facts.proofs.Calm.{calm_parts, calm_site, calm_at, calm_lesser, calm_if, nat_eq_is, not_true}
+use Rattle.std.proofs.lemmas.List.{length-append}
+use Rattle.sp_tree.specs.declared.checked.Variable as checked
+use Rattle.sp_tree.specs.declared.meaning.StandardProcedure.{StandardProcedure}
+use Rattle.sp_tree.specs.declared.meaning.StandardProcedure.TheVariants as procedure
+use Rattle.sp_tree.specs.declared.meaning.Sort.{Sort}
+use Rattle.sp_tree.specs.declared.meaning.Sort.TheVariants as sort
+use Rattle.sp_tree.specs.declared.syntax.SynConst.{SynConst}
+use Rattle.sp_tree.specs.NameRules.{Declares, Assigns, Loops, Runs, procedure_rule, procedure_takes, assign_rule, loop_rule, is_local}
+use Rattle.sp_tree.specs.Scopes.{Local, inside, opened, declared, most, variable, next_variable}
+use Rattle.sp_tree.specs.NameWalk.{statement_local, statements_local, other_local, arms_local, arm_local, branches_local, form_local, indexed, deeper}
+use Rattle.sp_tree.specs.NamedTree.{assigned_number, procedure_named, named_target, named_statement, named_statement_form, named_other, named_statements, named_arms, named_arm, named_branches, indices, form_indices, other_indices, statements_indices, arms_indices, arm_indices, branches_indices}
+use Rattle.sp_tree.specs.PlainSyntax.{Statement, Does, Form, Empty, Assign, Call, Sequence, If, While, Repeat, Case, For, Parallel, Forall, Assume, Other, NoElse, Else, Statements, NoStatement, AndThen, Arm, On, Arms, NoArm, Or, Branches, NoBranch, Beside}
+use Rattle.sp_facts.specs.Scoped.{IsInForall, ForIn, AreAimed, AreAimedLater, AimsOf, InStatement, InStatementForm, InOther, InStatements, InArms, InBranches}
+use Rattle.sp_facts.proofs.Names.{level_block, IsFound, find_valid, seen, aimed, called, target_in, expression_in, selectors_in, arguments_in, actuals_in, counts, passed_in}
+use Rattle.sp_facts.proofs.Numbering.{room_at, Adds, statement_adds, statements_adds, arms_adds, branches_adds, other_adds}
+use Rattle.sp_tree.specs.declared.meaning.Counts.{Counts}
+use Rattle.sp_tree.specs.declared.syntax.SynFormal.{SynFormal}
+use Rattle.sp_tree.specs.declared.syntax.SynKind.{SynKind}
+use Rattle.sp_tree.specs.declared.syntax.SynKind.TheVariants as kinds
+use Rattle.sp_tree.specs.NameRules.{Uses, AsKind}
+use Rattle.sp_tree.specs.Scopes.{put, closed, next_constant, next_kind, next_block}
+use Rattle.sp_tree.specs.NameWalk.{names_local, formals_local, title_local, answer_local, heading_local, constants_local, kind_local, type_local, parts_local, part_local, block_meaning, references}
+use Rattle.sp_tree.specs.NamedTree.{kind_number, variables_named, formals_named, numbers, answer_named, answer_of, enumerated, constants_named, parts_named, part_named}
+use Rattle.sp_tree.specs.PlainSyntax.{Part, Const, Kind, Var, Proc, Parts, NoPart, Declare}
+use Rattle.sp_types.specs.Tables.{answer_variable}
+use Rattle.sp_facts.specs.Held.{HoldsBlocks, AreScoped, AreBelow}
+use Rattle.sp_facts.proofs.Numbering.{Moved, MovedBy, declared_counts, one_variable, moves_on, kind_moves, constants_move, names_adds, formals_adds, answer_adds, parts_move, part_moves, sum5}
+use Rattle.sp_facts.proofs.NameStatements.{IsKept, statement_keeps, Holds, holds_parts, more_all, more_valid, all_behind, IsPlace, place_after, statement_in}
+use Rattle.sp_tree.specs.NamedTree.{Inside, inside_with, procedure_block, program_named}
+use Rattle.sp_tree.specs.PlainOf.{variable_of}
+use Rattle.sp_tree.specs.Cells.{variables_of}
+use Rattle.sp_code.specs.Scopes.{as_list}
+use Rattle.sp_tree.specs.Formed.{is_parameter, is_answer, among}
+use Rattle.sp_facts.proofs.Blocks.{part_block, calm_pieces, title_moves, formals_move, head_blocks, head_number}
+use Rattle.std.specs.Prelude.{◌-◌}
+use Rattle.sp_tree.specs.PlainSyntax as syntax
+use Rattle.sp_tree.specs.NameFirst.{names_broken}
+use Rattle.sp_tree.specs.Scopes.{empty, standard}
+use Rattle.sp_types.specs.Tables.{env_of, types_of, numbers_of}
+use Rattle.sp_types.specs.TypeWalk.{starts_of, blocks_after}
+use Rattle.sp_types.specs.CheckedTree.{checked_variables, or_zero}
+use Rattle.sp_facts.specs.Numbered.{ends, IsNumbered}
+use Rattle.sp_facts.specs.TypedBlocks.{AreBlocksTyped}
+use Rattle.sp_facts.proofs.Spans.{statement_numbered}
+use Rattle.sp_facts.proofs.Indices.{AreSpans, blocks_typed}
+use Rattle.sp_facts.proofs.Program.{named, tree, held}
+use Rattle.sp_facts.proofs.Tree.{final_length}
+
+-- all are indices of this block
+abbrev AllOf : ℕ → List checked.Variable → Type 0
+AllOf b [] = Unit {0}
+AllOf b (u ∷ us) = ((u.block ≡ b) × (u.role ≡ role.Index)) × AllOf b us
+
+all_of_join : (b : ℕ) (us vs : List checked.Variable) → AllOf b us → AllOf b vs → AllOf b (us ++ vs)
+all_of_join b [] vs x y = y
+all_of_join b (u ∷ us) vs x y = (x.0, all_of_join b us vs x.1 y)
+
+module _ (block : ℕ) where
+  mutual
+    pub indices_of_ : (s : Statement) → AllOf block (indices block s)
+    indices_of_ (Does at form) = form_of_ form
+
+    form_of_ : (form : Form) → AllOf block (form_indices block form)
+    form_of_ Empty = tt
+    form_of_ (Assign v e) = tt
+    form_of_ (Call f args) = tt
+    form_of_ (Sequence ss) = statements_of_ ss
+    form_of_ (If e a o) = all_of_join block (indices block a) (other_indices block o) (indices_of_ a) (other_of_ o)
+    form_of_ (While e a) = indices_of_ a
+    form_of_ (Repeat ss e) = statements_of_ ss
+    form_of_ (Case e arms) = arms_of_ arms
+    form_of_ (For x from down to a) = indices_of_ a
+    form_of_ (Parallel bs) = branches_of_ bs
+    form_of_ (Forall x from to a) = ((refl, refl), indices_of_ a)
+    form_of_ (Assume e) = tt
+
+    other_of_ : (o : Other) → AllOf block (other_indices block o)
+    other_of_ NoElse = tt
+    other_of_ (Else a) = indices_of_ a
+
+    statements_of_ : (ss : Statements) → AllOf block (statements_indices block ss)
+    statements_of_ NoStatement = tt
+    statements_of_ (AndThen a rest) = all_of_join block (indices block a) (statements_indices block rest) (indices_of_ a) (statements_of_ rest)
+
+    arms_of_ : (arms : Arms) → AllOf block (arms_indices block arms)
+    arms_of_ NoArm = tt
+    arms_of_ (Or (On cs a) rest) = all_of_join block (indices block a) (arms_indices block rest) (indices_of_ a) (arms_of_ rest)
+
+    branches_of_ : (bs : Branches) → AllOf block (branches_indices block bs)
+    branches_of_ NoBranch = tt
+    branches_of_ (Beside ss rest) = all_of_join block (statements_indices block ss) (branches_indices block rest) (statements_of_ ss) (branches_of_ rest)
+
+module _ (p : plain.Program) (m : ℕ) where
+  -- a number between is that of one of them
+  between : (k block : ℕ) (us : List checked.Variable) → Holds p m k us → AllOf block us → (y : ℕ) → k ≤ y → suc y ≤ k + length us → (v : plain.Variable) × (slice_get p.variables y ≡ Some v) × (v.block ≡ block) × (v.role ≡ role.Index)
+  between k block [] h a y l r = absurd (omega (arith, l, r))
+  between k block (u ∷ us) h a y l r = go (λ c. between (suc k) block us h.1 a.1 y c (omega (arith, r))) (nat_le y k) refl
+    where
+      yes : nat_le y k ≡ true → y ≤ k
+      yes e = Prim.grind (arith, e)
+
+      not_ : nat_le y k ≡ false → suc k ≤ y
+      not_ e = Prim.grind (arith, e)
+
+      go : (suc k ≤ y → (v : plain.Variable) × (slice_get p.variables y ≡ Some v) × (v.block ≡ block) × (v.role ≡ role.Index)) → (b : Bool) → nat_le y k ≡ b → (v : plain.Variable) × (slice_get p.variables y ≡ Some v) × (v.block ≡ block) × (v.role ≡ role.Index)
+      go next true e = let z = yes e in (h.0.0, subst (λ w. slice_get p.variables w ≡ Some h.0.0) (let w : k ≡ y = omega (arith, l, z) in w) h.0.1, h.0.3 ∙ a.0.0, h.0.2 ∙ a.0.1)
+      go next false e = next (not_ e)
+
+  spans_join : (k : ℕ) (xs ys : List n.Block) → AreSpans p k xs → AreSpans p (k + length xs) ys → AreSpans p k (xs ++ ys)
+  spans_join k [] ys x y = subst (λ z. AreSpans p z ys) (let z : k + 0 ≡ k = omega arith in z) y
+  spans_join k (b ∷ xs) ys x y = (x.0, spans_join (suc k) xs ys x.1 (subst (λ z. AreSpans p z ys) (let z : k + suc (length xs) ≡ suc k + length xs = omega arith in z) y))
+
+  -- the statement part of a block
+  body_spans : (around : List names.Scope) (l : Local) (block : ℕ) (body : Statement) → w.statement_sites [] together all_at around l body ≡ [] → Holds p m (next_variable l.counts) (indices block body)
+      → (lo : ℕ) × IsNumbered lo (named_statement around l body) × ((y : ℕ) → lo ≤ y → suc y ≤ ends lo (named_statement around l body) → (v : plain.Variable) × (slice_get p.variables y ≡ Some v) × (v.block ≡ block) × (v.role ≡ role.Index))
+  body_spans around l block body calm holds =
+      let r = statement_numbered around l body calm in
+      let e = r.1 in
+      let a = (statement_adds block around l body calm).2 in
+      (next_variable l.counts, r.0, λ y x z. between (next_variable l.counts) block (indices block body) holds (indices_of_ block body) y x (omega (arith, z, e, a)))
+
+  mutual
+    pub parts_spans : (around : List names.Scope) (l : Local) (ps : Parts) → w.parts_sites [] together all_at around l ps ≡ [] → Holds p m (next_variable l.counts) (parts_named around l ps).variables → AreSpans p (next_block l.counts) (parts_named around l ps).blocks
+    parts_spans around l NoPart calm holds = tt
+    parts_spans around l (Declare q rest) calm holds =
+        let next = part_local l q in
+        let two = calm_parts (w.part_sites [] together all_at around l q) (w.parts_sites [] together all_at around next rest) calm in
+        let a = part_named around l q in
+        let b = parts_named around next rest in
+        let moved = part_moves around l q two.0 in
+        let h = holds_parts p m (next_variable l.counts) a.variables b.variables holds in
+        spans_join (next_block l.counts) a.blocks b.blocks (part_spans around l q two.0 h.0) (subst (λ z. AreSpans p z b.blocks) moved.3 (parts_spans around next rest two.1 (subst (λ z. Holds p m z b.variables) (sym moved.2) h.1)))
+
+    part_spans : (around : List names.Scope) (l : Local) (q : Part) → w.part_sites [] together all_at around l q ≡ [] → Holds p m (next_variable l.counts) (part_named around l q).variables → AreSpans p (next_block l.counts) (part_named around l q).blocks
+    part_spans around l (Const x c) calm holds = tt
+    part_spans around l (Kind x k) calm holds = tt
+    part_spans around l (Var xs t) calm holds = tt
+    part_spans around l (Proc x fs answer parts body) calm holds =
+        let f = next_block l.counts in
+        let k = next_variable l.counts in
+        let env = inside around l in
+        let title = title_local l x fs answer in
+        let in_ = deeper around title in
+        let head = heading_local l x fs answer in
+        let formals = formals_local (opened f 0 title) fs in
+        let pieces = calm_pieces around l x fs answer parts body calm in
+        let av = formals_named env f fs in
+        let bv = answer_named env f x answer in
+        let inner = parts_named in_ head parts in
+        let d = indices head.block body in
+        let v1 = holds_parts p m k av (bv ++ (inner.variables ++ d)) holds in
+        let v2 = holds_parts p m (k + length av) bv (inner.variables ++ d) v1.1 in
+        let v3 = holds_parts p m (k + length av + length bv) inner.variables d v2.1 in
+        let t2 = (title_moves around l x fs answer parts body calm).2 in
+        let f2 = (formals_move around l x fs answer parts body calm).2 in
+        let a2 = (answer_adds formals env f x answer).2 in
+        let p2 = (parts_move in_ head parts pieces.2).2 in
+        let at_head : k + length av + length bv ≡ next_variable head.counts = omega (arith, t2, f2, a2) in
+        let at_body : k + length av + length bv + length inner.variables ≡ next_variable (parts_local head parts).counts = omega (arith, t2, f2, a2, p2) in
+        let number = head_number around l x fs answer parts body calm in
+        let blocks_ = head_blocks around l x fs answer parts body calm in (
+          body_spans in_ (parts_local head parts) f body pieces.3 (subst (λ z. Holds p m (next_variable (parts_local head parts).counts) (indices z body)) number (subst (λ z. Holds p m z d) at_body v3.1)),
+          subst (λ z. AreSpans p z inner.blocks) blocks_ (parts_spans in_ head parts pieces.2 (subst (λ z. Holds p m z inner.variables) at_head v3.0)),
+        )
+
+-- ---- the program
+
+module _ (s : syntax.Program) (calm : names_broken s ≡ []) where
+  abbrev std : List names.Scope
+  std = standard ∷ []
+
+  abbrev inner_ : n.Program
+  inner_ = parts_named std empty s.block.parts
+
+  calm_two : (w.parts_sites [] together all_at std empty s.block.parts ≡ []) × (w.statement_sites [] together all_at std (parts_local empty s.block.parts) s.block.body ≡ [])
+  calm_two = calm_parts (w.parts_sites [] together all_at std empty s.block.parts) (w.statement_sites [] together all_at std (parts_local empty s.block.parts) s.block.body)
+      (calm_parts (w.files_sites [] together all_at [] s.heading) (together (w.parts_sites [] together all_at std empty s.block.parts) (w.statement_sites [] together all_at std (parts_local empty s.block.parts) s.block.body)) calm).1
+
+  abbrev p_ : plain.Program
+  p_ = tree s calm
+
+  abbrev n_ : n.Program
+  n_ = named s calm
+
+  pub spans : AreSpans p_ 0 n_.blocks
+  spans =
+      let m_ = length n_.constants in
+      let rest = (held s calm).1.1 in
+      let vs = holds_parts p_ m_ 2 inner_.variables (indices 0 s.block.body) rest in
+      let moved = (parts_move std empty s.block.parts calm_two.0).2 in
+      (body_spans p_ m_ std (parts_local empty s.block.parts) 0 s.block.body calm_two.1 (subst (λ z. Holds p_ m_ z (indices 0 s.block.body)) (sym moved) vs.1), parts_spans p_ m_ std empty s.block.parts calm_two.0 vs.0)
+
+  abbrev last : List (Option ℕ)
+  last = (blocks_after (env_of n_) (starts_of n_.blocks) n_.blocks).variables
+
+  pub has_ : (ks : List (Option ℕ)) (us : List checked.Variable) (x : ℕ) (v : plain.Variable) (o : Option ℕ) → slice_get (map variable_of (checked_variables ks us)) x ≡ Some v → slice_get ks x ≡ Some o → v.kind ≡ or_zero o
+  has_ ks [] x v o e f = absurd (cc e)
+  has_ [] (u ∷ us) x v o e f = absurd (cc e)
+  has_ (k ∷ ks) (u ∷ us) zero v o e f = sym (ap (λ (z : plain.Variable). z.kind) (same_v (variable_of (record u { kind = or_zero k })) v e)) ∙ ap or_zero (same_o k o f)
+    where
+      same_v : (a b : plain.Variable) → Some a ≡ Some b → a ≡ b
+      same_v a b e = cc e
+
+      same_o : (a b : Option ℕ) → Some a ≡ Some b → a ≡ b
+      same_o a b e = cc e
+  has_ (k ∷ ks) (u ∷ us) (suc x) v o e f = has_ ks us x v o e f
+
+  pub room_ : (ks : List (Option ℕ)) (us : List checked.Variable) (x : ℕ) (v : plain.Variable) → slice_get (map variable_of (checked_variables ks us)) x ≡ Some v → suc x ≤ length us
+  room_ ks [] x v e = absurd (cc e)
+  room_ [] (u ∷ us) x v e = absurd (cc e)
+  room_ (k ∷ ks) (u ∷ us) zero v e = omega arith
+  room_ (k ∷ ks) (u ∷ us) (suc x) v e = let l = room_ ks us x v e in omega (arith, l)
+
+  pub types_length : (ns : List ℕ) (us : List checked.Variable) → length (types_of ns us) ≡ length us
+  types_length ns [] = refl
+  types_length ns (u ∷ us) = ap suc (types_length ns us)
+
+  -- each index has in the tree the type of its forall's first limit
+  pub indices_typed : AreBlocksTyped p_ (env_of n_) (starts_of n_.blocks) n_.blocks
+  indices_typed = blocks_typed p_ last (λ x v o at l. has_ last n_.variables x v o at l) (length n_.variables) (λ x v at. room_ last n_.variables x v at) 0 (env_of n_) (starts_of n_.blocks) n_.blocks (types_length (numbers_of n_) n_.variables) spans refl

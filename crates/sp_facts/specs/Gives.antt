@@ -1,0 +1,30 @@
+-- What the phases of names and types give of the tree of a program that breaks no rule.
+use Rattle.std.specs.Prelude.{◌≡◌, ℕ, suc, ◌≤◌, List, [], Option, Some, None, length, slice_get}
+use Rattle.sp_tree.specs.declared.checked.Role.TheVariants as role
+use Rattle.sp_tree.specs.Cells.{variables_of}
+use Rattle.sp_tree.specs.PlainSyntax as syntax
+use Rattle.sp_tree.specs.NamedTree.{program_named}
+use Rattle.sp_tree.specs.Plain.{Program, Variable, Block, Stmt}
+use Rattle.sp_tree.specs.Sets.{LeadsToStop}
+use Rattle.sp_code.specs.Scopes.{as_list}
+use Rattle.sp_types.specs.CheckedTree.{program_checked}
+use Rattle.sp_tree.specs.Bare.{bare}
+use Rattle.sp_tree.specs.Formed.{is_parameter, is_answer, among}
+
+-- the tree without places of a program
+abbrev pub tree : syntax.Program → Program
+tree s = bare (program_checked (program_named s))
+
+-- facts of the tree, of names alone
+pub record IsNumberedTree (p : Program) : Type 0 where
+  -- a block stands in one with a lower number
+  pub parents : (f q : ℕ) (b : Block) → slice_get p.blocks f ≡ Some b → b.parent ≡ Some q → suc q ≤ f
+  -- parameters and result
+  pub formals : (f : ℕ) (b : Block) → slice_get p.blocks f ≡ Some b → b.formals ≡ among is_parameter (variables_of f 0 p.variables)
+  pub answers : (f : ℕ) (b : Block) → slice_get p.blocks f ≡ Some b → as_list b.answer ≡ among is_answer (variables_of f 0 p.variables)
+  pub results : (f : ℕ) (b : Block) (x : ℕ) → slice_get p.blocks f ≡ Some b → b.answer ≡ Some x → (v : Variable) × (slice_get p.variables x ≡ Some v) × (v.role ≡ role.Answer) × (v.block ≡ f)
+  pub input : (v : Variable) × (slice_get p.variables 0 ≡ Some v) × (v.role ≡ role.Console)
+  pub output : (v : Variable) × (slice_get p.variables 1 ≡ Some v) × (v.role ≡ role.Console)
+
+abbrev pub IsQuiet : Program → ℕ → Type 0
+IsQuiet p f = LeadsToStop p f → ⊥

@@ -1,0 +1,9 @@
+pub mod Knows
+pub mod Scoped
+pub mod Visible
+pub mod Held
+pub mod Earlier
+pub mod Numbered
+pub mod TypedBlocks
+pub mod Gives
+pub mod Given

@@ -1,0 +1,12 @@
+-- The index of each forall has in the tree the type of its first limit.
+use Rattle.std.specs.Prelude.{ℕ, List, [], ◌∷◌}
+use Rattle.sp_tree.specs.Plain.{Program}
+use Rattle.sp_tree.specs.PlainNamed as n
+use Rattle.sp_types.specs.Tables.{Env}
+use Rattle.sp_types.specs.TypeWalk.{started, statement_after}
+use Rattle.sp_facts.specs.Knows.{IsTyped}
+
+abbrev pub AreBlocksTyped : Program → Env → List ℕ → List n.Block → Type 0
+AreBlocksTyped p env starts [] = Unit {0}
+AreBlocksTyped p env [] (b ∷ bs) = Unit {0}
+AreBlocksTyped p env (k ∷ starts) (b ∷ bs) = IsTyped p (started env k) b.body × AreBlocksTyped p (statement_after (started env k) b.body) starts bs

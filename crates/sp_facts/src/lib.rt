@@ -1,0 +1,4 @@
+//! What the phases of names and types give of a tree.
+#![tactic(auto)]
+
+pub mod laws;

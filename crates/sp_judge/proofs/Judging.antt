@@ -1,0 +1,103 @@
+-- From the tables before the first entry to the verdict.
+use Rattle.std.proofs.Common.{◌≡◌, ℕ, zero, suc, ◌+◌, ◌<◌, ◌≤◌, List, [], ◌∷◌, take, length, Option, Some, None, slice_get, refl, sym, ap, ◌∙◌, subst, arith}
+use Rattle.sp_base.specs.declared.name.ChanName.{ChanName}
+use Rattle.sp_journal.specs.declared.entry.Entry.{Entry}
+use Rattle.sp_journal.specs.declared.entry.Journal.{Journal}
+use Rattle.sp_journal.specs.declared.outcome.End.{End}
+use Rattle.sp_journal.specs.declared.outcome.Verdict.{Verdict}
+use Rattle.sp_journal.specs.declared.outcome.Verdict.TheVariants as verdict
+use Rattle.sp_journal.specs.Names.{chan_name, Offered, Occurrence}
+use Rattle.sp_journal.specs.Births.{Births, births, channel, happening, occurrence, occurrences, IsNameable}
+use Rattle.sp_journal.specs.Past.{judged, AreOrdered}
+use Rattle.sp_journal.proofs.BirthLaws.{Lawful, lawful}
+use Rattle.sp_past.specs.Prefixes.{IsQuiet}
+use Rattle.sp_race.specs.Known.{KnowsOffers, AreKnown}
+use Rattle.sp_race.proofs.Completion.{known_ordered, ordered_known}
+use Rattle.sp_judge.specs.declared.bench.Bench.{Bench}
+use Rattle.sp_judge.specs.declared.bench.Racer.{Racer}
+use Rattle.sp_judge.specs.Bench.{named, Holds, IsTame, IsBlank, IsRacing, IsUnknown, IsFirstUnknown, offer_event}
+use Rattle.sp_judge.specs.Races.{IsFault, IsJudged, IsVerdict}
+use Rattle.sp_judge.proofs.Numbers.{all_named}
+use Rattle.sp_judge.proofs.Fronts.{named_get, get_within}
+use Rattle.sp_judge.proofs.Fronts as front
+use Rattle.sp_judge.proofs.VerdictLaws.{known_more, known_at, named_take, offer_happens, nothing_unknown, first_race, channel_there}
+
+pub tame_of : (j : Journal) → IsNameable j → IsQuiet (occurrences j) → IsTame j.entries
+tame_of j n q = record { nameable = n; quiet = subst IsQuiet (all_named j.entries n) q }
+
+take_whole : {X : Type 0} (xs : List X) (n : ℕ) → length xs ≤ n → take n xs ≡ xs
+take_whole [] zero l = refl
+take_whole [] (suc n) l = refl
+take_whole (x ∷ xs) zero l = absurd (omega arith)
+take_whole (x ∷ xs) (suc n) l = ap (λ ys. x ∷ ys) (take_whole xs n (omega arith))
+
+pub all_ordered : (j : Journal) → IsNameable j → (n : ℕ) → length j.entries ≤ n → AreKnown (named (births j.entries) (take n j.entries)) → AreOrdered (occurrences j)
+all_ordered j nameable n l known = known_ordered (occurrences j) (subst AreKnown (ap (named (births j.entries)) (take_whole j.entries n l) ∙ sym (all_named j.entries nameable)) known)
+
+nothing_offered : {A : Type 0} (o : Occurrence) → ◌≡◌ {A = Option Occurrence} None (Some o) → A
+nothing_offered o e = absurd (cc)
+
+pub blank_holds : (all : List Entry) (b : Bench) → IsBlank b (births all).processes (births all).channels → Holds (births all) [] b
+blank_holds all b k = record {
+  all_clocks = k.all_clocks;
+  all_made = k.all_made;
+  all_lines = k.all_lines;
+  all_places = ap length k.no_places;
+  clocks = λ p q l h. k.clocks p q;
+  made_is = k.made_is;
+  lines = λ c l. (record { waiting = None; sent = None; received = None }, k.lines c l, record { waiting = tt; sent = λ i z o. nothing_offered _ o; received = λ i z o. nothing_offered _ o });
+  places = λ i e h. none_entry e h;
+  next = k.next;
+}
+  where
+    none_entry : {A : Type 0} (e : Entry) → ◌≡◌ {A = Option Entry} None (Some e) → A
+    none_entry e h = absurd (cc)
+
+module _ (all : List Entry) (t : IsTame all) (at : ℕ) where
+  abbrev s : Births
+  s = births all
+
+  law : Lawful s
+  law = lawful all t.nameable
+
+  pub known_next : (e : Entry) → slice_get all at ≡ Some e → AreKnown (named s (take at all)) → KnowsOffers (judged (named s (take at all))) (named s (take at all)) (s.name e.process) (happening s e.event) → AreKnown (named s (take (at + 1) all))
+  known_next e inside known k = subst AreKnown (sym (front.grown all t.nameable t.quiet law at e inside)) (known_more (named s (take at all)) (occurrence s e) known k)
+
+  module _ (b : Bench) (h : Holds s (take at all) b) (known : AreKnown (named s (take at all))) (r : Racer) (racing : IsRacing all at (Some r)) where
+    abbrev e : Entry
+    e = record { process = r.process; event = offer_event r.way r.channel }
+
+    pub places_there : at ≤ length b.places.items
+    places_there = let a = h.all_places in let c = front.at_length all t.nameable t.quiet law at e racing.0 in omega arith
+
+    pub at_inside : at ≤ length all
+    at_inside = let a = get_within all at e racing.0 in omega arith
+
+    pub process_inside : r.process < length b.clocks.items
+    process_inside = let a = front.there all t.nameable t.quiet law at e racing.0 in let c = h.all_clocks in omega arith
+
+    pub channel_inside : r.channel < s.channels
+    channel_inside = channel_there all t.nameable t.quiet law at e r.way r.channel racing.0 refl
+
+    pub not_unknown : ((i : ℕ) → i < at → IsUnknown b all r.process r.way r.channel i → ⊥) → ⊥
+    not_unknown none = racing.1 (nothing_unknown all t.nameable t.quiet law at e racing.0 b h r.way r.channel refl none)
+
+    pub race_judged : (i : ℕ) → IsFirstUnknown b all at r.process r.way r.channel i → (name : ChanName) → name ≡ chan_name (channel s r.channel) → IsJudged (named s all) (verdict.Race r.way name i at)
+    race_judged i f name is = (λ o. racing.1 (in_order o), (channel s r.channel, is, first_race all t.nameable t.quiet law at e racing.0 b h r.way r.channel refl i f known))
+      where
+        in_order : AreOrdered (named s all) → KnowsOffers (judged (named s (take at all))) (named s (take at all)) (s.name r.process) (Offered r.way (channel s r.channel))
+        in_order o =
+            let k = known_at (named s all) at (occurrence s e) (named_get s all at e racing.0) (ordered_known (named s all) o) in
+            subst (KnowsOffers (judged (named s (take at all))) (named s (take at all)) (s.name r.process)) (offer_happens s r.way r.channel)
+            (subst (λ xs. KnowsOffers (judged xs) xs (s.name r.process) (happening s (offer_event r.way r.channel))) (sym (named_take s all at)) k)
+
+-- where nothing races
+pub none_racing : (es : List Entry) (at : ℕ) (r : Option Racer) → IsRacing es at r → ((x : Racer) → r ≡ Some x → ⊥) → IsRacing es at None
+none_racing es at None f off = f
+none_racing es at (Some x) f off = absurd (off x refl)
+
+-- a verdict on a run that ended by no fault
+pub verdict_from : (os : List Occurrence) (e : End) (v : Verdict) → (IsFault e → ⊥) → IsJudged os v → IsVerdict os e v
+verdict_from os e verdict.Ordered f j = (f, j)
+verdict_from os e (verdict.Race w c i k) f j = (f, j)
+verdict_from os e verdict.Unjudged f j = absurd j

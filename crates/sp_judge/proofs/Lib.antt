@@ -1,0 +1,12 @@
+mod ClockLaws
+mod Tallies
+mod Standing
+mod Chains
+mod TableLaws
+mod Numbers
+mod Fronts
+mod BenchLaws
+mod OfferLaws
+mod VerdictLaws
+mod Steps
+mod Judging

@@ -1,0 +1,378 @@
+-- The sparse clocks of a journal by names: counts that stand for what each process knows.
+use Rattle.std.proofs.Common.{◌≡◌, ◌⊎◌, ⊎_elim, inl, inr, ℕ, zero, suc, ◌<◌, ◌≤◌, Bool, true, false, cond, max, ◌&&◌, ◌||◌, ◌==◌, nat_lt, List, [], ◌∷◌, ◌++◌, take, length, length-append, Option, Some, None, refl, sym, ap, ◌∙◌, subst, arith, eqb-true, eq-eqb}
+use Rattle.std.proofs.lemmas.Bool.Decides.{nat_tests}
+use Rattle.std.proofs.Math.Nat.{le-max_left, le-max_right, max-le, max_comm, max-eq_left}
+use Rattle.sp_journal.proofs.Facts.{old_or_new}
+use Rattle.sp_journal.specs.Names.{Name, Channel, same_name, Happening, Opened, Split, Offered, Finished, Failed, LaidDown, Paused, Occurrence}
+use Rattle.sp_journal.specs.Past.{Judged, learn, teach, report, now, met_now, judged_by}
+use Rattle.sp_past.specs.Prefixes.{is_counted, Counts, WaitsForNone}
+use Rattle.sp_judge.specs.Counts.{made, PlaceOf, becomes, gains, shares, gives_back, mine, theirs, both, met_counts, counted_by}
+use Rattle.sp_past.proofs.Keys.{name_itself, name_is}
+use Rattle.sp_past.proofs.Prefixing.{Kept, or_right, or_cases, get_low, get_last, get_inside, low_or_last}
+
+-- counts that say which of these entries are known
+pub record Says (es : List Occurrence) (f : ℕ → Bool) (g : Name → ℕ) : Type 0 where
+  pub says : (q : Name) (i k : ℕ) → PlaceOf es q i k → f i ≡ nat_lt k (g q)
+  pub bound : (q : Name) → g q ≤ made es q
+
+-- laws of places
+
+lt_true : (a b : ℕ) → a < b → nat_lt a b ≡ true
+lt_true a b l = grind (arith, nat_tests)
+
+lt_false : (a b : ℕ) → b ≤ a → nat_lt a b ≡ false
+lt_false a b l = grind (arith, nat_tests)
+
+lt_of : (a b : ℕ) → nat_lt a b ≡ true → a < b
+lt_of a b e = grind (arith, nat_tests)
+
+true_false : {A : Type 0} → ◌≡◌ {A = Bool} true false → A
+true_false e = absurd (cc)
+
+name_or_not : (p q : Name) → (p ≡ q) ⊎ (same_name p q ≡ false)
+name_or_not p q = elim (same_name p q) as (λ b. same_name p q ≡ b → (p ≡ q) ⊎ (same_name p q ≡ false)) [ true ↦ λ e. inl (name_is p q e) | false ↦ λ e. inr e ] refl
+
+pub index_or_not : (a b : ℕ) → (a ≡ b) ⊎ (a == b ≡ false)
+index_or_not a b = elim (a == b) as (λ c. a == b ≡ c → (a ≡ b) ⊎ (a == b ≡ false)) [ true ↦ λ e. inl (eqb-true a b e) | false ↦ λ e. inr e ] refl
+
+same_here : (p q : Name) → p ≡ q → same_name p q ≡ true
+same_here p q e = subst (λ x. same_name p x ≡ true) e (name_itself p)
+
+pub made_last : (es : List Occurrence) (e : Occurrence) (q : Name) → made (es ++ e ∷ []) q ≡ cond (same_name e.who q && is_counted e.what) (suc (made es q)) (made es q)
+made_last [] e q = refl
+made_last (x ∷ es) e q = by (same_name x.who q && is_counted x.what) (same_name e.who q && is_counted e.what) (made_last es e q)
+  where
+    by : (a b : Bool) → made (es ++ e ∷ []) q ≡ cond b (suc (made es q)) (made es q) → cond a (suc (made (es ++ e ∷ []) q)) (made (es ++ e ∷ []) q) ≡ cond b (suc (cond a (suc (made es q)) (made es q))) (cond a (suc (made es q)) (made es q))
+    by true true h = ap suc h
+    by true false h = ap suc h
+    by false true h = h
+    by false false h = h
+
+pub take_low : (es : List Occurrence) (e : Occurrence) (i : ℕ) → i ≤ length es → take i (es ++ e ∷ []) ≡ take i es
+take_low [] e zero l = refl
+take_low [] e (suc i) l = absurd (omega arith)
+take_low (x ∷ es) e zero l = refl
+take_low (x ∷ es) e (suc i) l = ap (λ ys. x ∷ ys) (take_low es e i (omega arith))
+
+pub take_all : (es : List Occurrence) → take (length es) es ≡ es
+take_all [] = refl
+take_all (x ∷ es) = ap (λ ys. x ∷ ys) (take_all es)
+
+made_grows : (es : List Occurrence) (e : Occurrence) (q : Name) → made es q ≤ made (es ++ e ∷ []) q
+made_grows es e q = subst (λ x. made es q ≤ x) (sym (made_last es e q)) (by (same_name e.who q && is_counted e.what))
+  where
+    by : (b : Bool) → made es q ≤ cond b (suc (made es q)) (made es q)
+    by true = omega arith
+    by false = omega arith
+
+-- an entry of a process has fewer before it than all
+pub place_few : (es : List Occurrence) (q : Name) (i k : ℕ) → PlaceOf es q i k → k < made es q
+place_few [] q i k p = absurd (let l = get_inside [] i _ p.1 in omega arith)
+place_few (x ∷ es) q zero k p =
+    let e : x ≡ record { who = q; what = p.0 } = some_occurrence x _ p.1 in
+    let t : same_name x.who q && is_counted x.what ≡ true = ap (λ (y : Occurrence). same_name y.who q && is_counted y.what) e ∙ both_true (same_name q q) (is_counted p.0) (name_itself q) p.2 in
+    let m : made (x ∷ es) q ≡ suc (made es q) = ap (λ b. cond b (suc (made es q)) (made es q)) t in
+    let z = p.3 in
+    omega arith
+  where
+    some_occurrence : (a b : Occurrence) → ◌≡◌ {A = Option Occurrence} (Some a) (Some b) → a ≡ b
+    some_occurrence a b h = cc
+
+    both_true : (a b : Bool) → a ≡ true → b ≡ true → a && b ≡ true
+    both_true true b e f = f
+    both_true false b e f = absurd (cc e)
+place_few (x ∷ es) q (suc i) k p = by (place_few es q i (made (take i es) q) (p.0, p.1, p.2, refl)) (same_name x.who q && is_counted x.what) p.3
+  where
+    by : made (take i es) q < made es q → (b : Bool) → k ≡ cond b (suc (made (take i es) q)) (made (take i es) q) → k < cond b (suc (made es q)) (made es q)
+    by l true e = omega arith
+    by l false e = omega arith
+
+module _ (es : List Occurrence) (e : Occurrence) where
+  abbrev more : List Occurrence
+  more = es ++ e ∷ []
+
+  pub place_inside : (q : Name) (i k : ℕ) → PlaceOf more q i k → i < suc (length es)
+  place_inside q i k p = let l = get_inside more i _ p.1 in let a = length-append es (e ∷ []) in omega arith
+
+  pub place_low : (q : Name) (i k : ℕ) → i < length es → PlaceOf more q i k → PlaceOf es q i k
+  place_low q i k l p = (p.0, sym (get_low es e i l) ∙ p.1, p.2, p.3 ∙ ap (λ xs. made xs q) (take_low es e i (omega arith)))
+
+  pub place_more : (q : Name) (i k : ℕ) → PlaceOf es q i k → PlaceOf more q i k
+  place_more q i k p = let l = get_inside es i _ p.1 in (p.0, get_low es e i l ∙ p.1, p.2, p.3 ∙ ap (λ xs. made xs q) (sym (take_low es e i (omega arith))))
+
+  pub place_last : (q : Name) (k : ℕ) → PlaceOf more q (length es) k → (e.who ≡ q) × (is_counted e.what ≡ true) × (k ≡ made es q)
+  place_last q k p =
+      let f : e ≡ record { who = q; what = p.0 } = some_is e _ (sym (get_last es e) ∙ p.1) in
+      (ap (λ (x : Occurrence). x.who) f, ap (λ (x : Occurrence). is_counted x.what) f ∙ p.2, p.3 ∙ ap (λ xs. made xs q) (take_low es e (length es) (omega arith) ∙ take_all es))
+    where
+      some_is : (a b : Occurrence) → ◌≡◌ {A = Option Occurrence} (Some a) (Some b) → a ≡ b
+      some_is a b h = cc
+
+  -- what says it before says it after, where the new index is not known
+  says_more : (f : ℕ → Bool) (g : Name → ℕ) → ((i : ℕ) → f i ≡ true → i < length es) → Says es f g → Says more f g
+  says_more f g below s = record {
+    says = λ q i k p. ⊎_elim
+        (λ (l : i < length es). s.says q i k (place_low q i k l p))
+        (λ (l : i ≡ length es).
+        let x = place_last q k (subst (λ y. PlaceOf more q y k) l p) in
+        let b = s.bound q in
+        unknown (f i) refl (λ h. let y = below i h in omega arith) ∙ sym (lt_false k (g q) (omega (arith, x.2, b))))
+        (low_or_last i (length es) (place_inside q i k p));
+    bound = λ q. let a = s.bound q in let b = made_grows es e q in omega arith;
+  }
+    where
+      unknown : (b : Bool) → {i : ℕ} → f i ≡ b → (f i ≡ true → ⊥) → f i ≡ false
+      unknown true h n = absurd (n h)
+      unknown false h n = h
+
+-- both together say what either knows
+absorb_left : (x y : Bool) → (x ≡ true → y ≡ true) → x || y ≡ y
+absorb_left true y h = sym (h refl)
+absorb_left false y h = refl
+
+absorb_right : (x y : Bool) → (y ≡ true → x ≡ true) → x || y ≡ x
+absorb_right true y h = refl
+absorb_right false true h = sym (h refl)
+absorb_right false false h = refl
+
+or_max : (k a b : ℕ) → nat_lt k a || nat_lt k b ≡ nat_lt k (max a b)
+or_max k a b = ⊎_elim
+    (λ (l : a < b). absorb_left (nat_lt k a) (nat_lt k b) (λ h. lt_true k b (let x = lt_of k a h in omega arith)) ∙ ap (nat_lt k) (sym (max_comm a b ∙ max-eq_left (omega arith))))
+    (λ (l : b ≤ a). absorb_right (nat_lt k a) (nat_lt k b) (λ h. lt_true k a (let x = lt_of k b h in omega arith)) ∙ ap (nat_lt k) (sym (max-eq_left l)))
+    (old_or_new a b)
+
+pub says_both : (es : List Occurrence) (f g : ℕ → Bool) (a b : Name → ℕ) → Says es f a → Says es g b → Says es (λ i. f i || g i) (λ q. max (a q) (b q))
+says_both es f g a b s t = record {
+  says = λ q i k p. (λ j. s.says q i k p j || t.says q i k p j) ∙ or_max k (a q) (b q);
+  bound = λ q. max-le (s.bound q) (t.bound q);
+}
+
+-- what holds of each clock before, and of what is merged in, holds of each clock after
+module _ (P : (ℕ → Bool) → (Name → ℕ) → Type 0) (union : (f g : ℕ → Bool) (a b : Name → ℕ) → P f a → P g b → P (λ i. f i || g i) (λ q. max (a q) (b q))) (known : ℕ → Bool) (clock : Name → ℕ) (holds : P known clock) where
+  gains_all : (p : Name) (past : Name → ℕ → Bool) (count : Name → Name → ℕ) → ((q : Name) → P (past q) (count q)) → (q : Name) → P (learn p known past q) (gains p clock count q)
+  gains_all p past count b q = by (same_name p q)
+    where
+      by : (t : Bool) → P (λ i. cond t (past q i || known i) (past q i)) (λ r. cond t (max (count q r) (clock r)) (count q r))
+      by true = union (past q) known (count q) clock (b q) holds
+      by false = b q
+
+  shares_all : (p : Name) (fork i n : ℕ) (past : Name → ℕ → Bool) (count : Name → Name → ℕ) → ((q : Name) → P (past q) (count q)) → (q : Name) → P (teach p fork known i n past q) (shares p fork clock i n count q)
+  shares_all p fork i zero past count b = b
+  shares_all p fork i (suc n) past count b = shares_all p fork (suc i) n (learn ((fork, i) ∷ p) known past) (gains ((fork, i) ∷ p) clock count) (gains_all ((fork, i) ∷ p) past count b)
+
+  gives_back_all : (p : Name) (past : Name → ℕ → Bool) (count : Name → Name → ℕ) → ((q : Name) → P (past q) (count q)) → (q : Name) → P (report p known past q) (gives_back p clock count q)
+  gives_back_all [] past count b = b
+  gives_back_all (x ∷ p) past count b = gains_all p past count b
+
+pair_first : (x y : Name × ℕ) → ◌≡◌ {A = Option (Name × ℕ)} (Some x) (Some y) → x.0 ≡ y.0
+pair_first x y e = ap (λ (z : Name × ℕ). z.0) (same x y e)
+  where
+    same : (x y : Name × ℕ) → ◌≡◌ {A = Option (Name × ℕ)} (Some x) (Some y) → x ≡ y
+    same x y e = cc
+
+pair_second : (x y : Name × ℕ) → ◌≡◌ {A = Option (Name × ℕ)} (Some x) (Some y) → x.1 ≡ y.1
+pair_second x y e = ap (λ (z : Name × ℕ). z.1) (same x y e)
+  where
+    same : (x y : Name × ℕ) → ◌≡◌ {A = Option (Name × ℕ)} (Some x) (Some y) → x ≡ y
+    same x y e = cc
+
+module _ (j : Judged) (es : List Occurrence) (count : Name → Name → ℕ) (kept : Kept j es) (below : (q : Name) (i : ℕ) → j.past q i ≡ true → i < length es) (says : (q : Name) → Says es (j.past q) (count q)) where
+  abbrev n : ℕ
+  n = length es
+
+  past_clear : (q : Name) (i : ℕ) → n ≤ i → j.past q i ≡ false
+  past_clear q i l = by (j.past q i) refl
+    where
+      by : (b : Bool) → j.past q i ≡ b → b ≡ false
+      by true h = absurd (let x = below q i h in omega arith)
+      by false h = refl
+
+  counts_of : (q : Name) (i k : ℕ) → PlaceOf es q i k → Counts es q i
+  counts_of q i k p = (p.0, p.1, p.2)
+
+  -- who waits, with the offer that waits
+  module _ (c : Channel) (z : Name) (x : ℕ) (met : j.pending c ≡ Some (z, x)) where
+    its_place : PlaceOf es z x (made (take x es) z)
+    its_place = let w = kept.waiting c z x met in (w.0, w.1, w.2, refl)
+
+    its_index : x < n
+    its_index = get_inside es x _ its_place.1
+
+    -- each other counted entry of it is known to it
+    knows_others : (i k : ℕ) → x == i ≡ false → PlaceOf es z i k → j.past z i ≡ true
+    knows_others i k d p = ⊎_elim
+        (λ (h : j.past z i ≡ true). h)
+        (λ (h : (f : Channel) × (j.pending f ≡ Some (z, i))).
+        let s : c ≡ h.0 = kept.single c h.0 z x i met h.1 in
+        let y : x ≡ i = pair_second (z, x) (z, i) (sym met ∙ ap j.pending s ∙ h.1) in
+        true_false (sym (eq-eqb x i y) ∙ d))
+        (kept.own z i (counts_of z i k p))
+
+    same_place : (q : Name) (k : ℕ) → PlaceOf es q x k → (z ≡ q) × (k ≡ made (take x es) z)
+    same_place q k p =
+        let e : z ≡ q = who _ _ (sym its_place.1 ∙ p.1) in
+        (e, p.3 ∙ ap (λ r. made (take x es) r) (sym e))
+      where
+        same : (a b : Occurrence) → ◌≡◌ {A = Option Occurrence} (Some a) (Some b) → a ≡ b
+        same a b e = cc
+
+        who : (a b : Occurrence) → ◌≡◌ {A = Option Occurrence} (Some a) (Some b) → a.who ≡ b.who
+        who a b e = ap (λ (o : Occurrence). o.who) (same a b e)
+
+    theirs_say : Says es (now j z x) (theirs count es z x)
+    theirs_say = record { says = told; bound = within }
+      where
+        place : ℕ
+        place = made (take x es) z
+
+        told : (q : Name) (i k : ℕ) → PlaceOf es q i k → now j z x i ≡ nat_lt k (theirs count es z x q)
+        told q i k p = ⊎_elim here there (index_or_not x i)
+          where
+            here : x ≡ i → now j z x i ≡ nat_lt k (theirs count es z x q)
+            here e =
+                let s = same_place q k (subst (λ y. PlaceOf es q y k) (sym e) p) in
+                let g : theirs count es z x q ≡ max (count z q) (suc place) = ap (λ b. cond b (max (count z q) (suc place)) (count z q)) (same_here z q s.0) in
+                or_right (j.past z i) (x == i) (eq-eqb x i e)
+                ∙ sym (ap (nat_lt k) g ∙ lt_true k (max (count z q) (suc place)) (let m = le-max_right (count z q) (suc place) in let y = s.1 in omega arith))
+
+            there : x == i ≡ false → now j z x i ≡ nat_lt k (theirs count es z x q)
+            there d = ap (λ b. j.past z i || b) d ∙ no_more (j.past z i) ∙ ⊎_elim own other (name_or_not z q)
+              where
+                no_more : (b : Bool) → b || false ≡ b
+                no_more true = refl
+                no_more false = refl
+
+                own : z ≡ q → j.past z i ≡ nat_lt k (theirs count es z x q)
+                own e =
+                    let h : j.past z i ≡ true = knows_others i k d (subst (λ r. PlaceOf es r i k) (sym e) p) in
+                    let l : k < count z q = lt_of k (count z q) (sym ((says z).says q i k p) ∙ h) in
+                    let g : theirs count es z x q ≡ max (count z q) (suc place) = ap (λ b. cond b (max (count z q) (suc place)) (count z q)) (same_here z q e) in
+                    h ∙ sym (ap (nat_lt k) g ∙ lt_true k (max (count z q) (suc place)) (let m = le-max_left (count z q) (suc place) in omega arith))
+
+                other : same_name z q ≡ false → j.past z i ≡ nat_lt k (theirs count es z x q)
+                other e = (says z).says q i k p ∙ ap (nat_lt k) (sym (ap (λ b. cond b (max (count z q) (suc place)) (count z q)) e))
+
+        within : (q : Name) → theirs count es z x q ≤ made es q
+        within q = ⊎_elim
+            (λ (e : z ≡ q).
+            let l = place_few es z x place its_place in
+            let m : place < made es q = subst (λ r. place < made es r) e l in
+            subst (λ y. y ≤ made es q) (sym (ap (λ b. cond b (max (count z q) (suc place)) (count z q)) (same_here z q e))) (max-le ((says z).bound q) m))
+            (λ (e : same_name z q ≡ false). subst (λ y. y ≤ made es q) (sym (ap (λ b. cond b (max (count z q) (suc place)) (count z q)) e)) ((says z).bound q))
+            (name_or_not z q)
+
+  module _ (p : Name) (h : Happening) where
+    abbrev entry : Occurrence
+    entry = record { who = p; what = h }
+
+    abbrev longer : List Occurrence
+    longer = es ++ entry ∷ []
+
+    still : (q : Name) → Says longer (j.past q) (count q)
+    still q = says_more es entry (j.past q) (count q) (below q) (says q)
+
+    module _ (counted : is_counted h ≡ true) (quiet : WaitsForNone j p) where
+      -- each counted entry of p is known to p
+      knows_own : (i k : ℕ) → PlaceOf es p i k → j.past p i ≡ true
+      knows_own i k o = ⊎_elim
+          (λ (x : j.past p i ≡ true). x)
+          (λ (x : (c : Channel) × (j.pending c ≡ Some (p, i))). absurd (quiet x.0 i x.1))
+          (kept.own p i (counts_of p i k o))
+
+      mine_is : (q : Name) → p ≡ q → mine count es p q ≡ max (count p q) (suc (made es q))
+      mine_is q e = ap (λ b. cond b (max (count p q) (suc (made es p))) (count p q)) (same_here p q e) ∙ ap (λ r. max (count p q) (suc (made es r))) e
+
+      mine_other : (q : Name) → same_name p q ≡ false → mine count es p q ≡ count p q
+      mine_other q e = ap (λ b. cond b (max (count p q) (suc (made es p))) (count p q)) e
+
+      mine_says : Says longer (now j p n) (mine count es p)
+      mine_says = record { says = told; bound = within }
+        where
+          told : (q : Name) (i k : ℕ) → PlaceOf longer q i k → now j p n i ≡ nat_lt k (mine count es p q)
+          told q i k o = ⊎_elim low last (low_or_last i n (place_inside es entry q i k o))
+            where
+              low : i < n → now j p n i ≡ nat_lt k (mine count es p q)
+              low l = ap (λ b. j.past p i || b) apart ∙ no_more (j.past p i) ∙ ⊎_elim own other (name_or_not p q)
+                where
+                  old : PlaceOf es q i k
+                  old = place_low es entry q i k l o
+
+                  apart : n == i ≡ false
+                  apart = ⊎_elim (λ (e : n ≡ i). absurd (omega arith)) (λ (e : n == i ≡ false). e) (index_or_not n i)
+
+                  no_more : (b : Bool) → b || false ≡ b
+                  no_more true = refl
+                  no_more false = refl
+
+                  own : p ≡ q → j.past p i ≡ nat_lt k (mine count es p q)
+                  own e =
+                      let f = place_few es q i k old in
+                      knows_own i k (subst (λ r. PlaceOf es r i k) (sym e) old)
+                      ∙ sym (ap (nat_lt k) (mine_is q e) ∙ lt_true k (max (count p q) (suc (made es q))) (let m = le-max_right (count p q) (suc (made es q)) in omega arith))
+
+                  other : same_name p q ≡ false → j.past p i ≡ nat_lt k (mine count es p q)
+                  other e = (says p).says q i k old ∙ ap (nat_lt k) (sym (mine_other q e))
+
+              last : i ≡ n → now j p n i ≡ nat_lt k (mine count es p q)
+              last e =
+                  let x = place_last es entry q k (subst (λ y. PlaceOf longer q y k) e o) in
+                  or_right (j.past p i) (n == i) (eq-eqb n i (sym e))
+                  ∙ sym (ap (nat_lt k) (mine_is q x.0) ∙ lt_true k (max (count p q) (suc (made es q))) (let m = le-max_right (count p q) (suc (made es q)) in let y = x.2 in omega arith))
+
+          within : (q : Name) → mine count es p q ≤ made longer q
+          within q = ⊎_elim
+              (λ (e : p ≡ q).
+              let m : made longer q ≡ suc (made es q) = made_last es entry q ∙ ap (λ b. cond b (suc (made es q)) (made es q)) (both_true (same_name p q) (is_counted h) (same_here p q e) counted) in
+              let b = (says p).bound q in
+              subst (λ y. y ≤ made longer q) (sym (mine_is q e)) (max-le (omega arith) (omega arith)))
+              (λ (e : same_name p q ≡ false). subst (λ y. y ≤ made longer q) (sym (mine_other q e)) ((still p).bound q))
+              (name_or_not p q)
+            where
+              both_true : (a b : Bool) → a ≡ true → b ≡ true → a && b ≡ true
+              both_true true b e f = f
+              both_true false b e f = absurd (cc e)
+
+      -- the new index alone, learned by its process
+      own_says : (q : Name) → Says longer (learn p (λ i. n == i) j.past q) (becomes p (mine count es p) count q)
+      own_says q = by (same_name p q) (name_is p q)
+        where
+          by : (t : Bool) → (t ≡ true → p ≡ q) → Says longer (λ i. cond t (j.past q i || (n == i)) (j.past q i)) (λ r. cond t (mine count es p r) (count q r))
+          by true f = subst (λ (x : Name). Says longer (λ i. j.past x i || (n == i)) (mine count es p)) (f refl) mine_says
+          by false f = still q
+
+      met_says : (c : Channel) (o : Option (Name × ℕ)) → j.pending c ≡ o → (q : Name) → Says longer ((met_now j p n c o).past q) (met_counts count es p o q)
+      met_says c None e = still
+      met_says c (Some o) e = gains_all (Says longer) (says_both longer) known clocks known_says o.0 (learn p known j.past) (gains p clocks count) (gains_all (Says longer) (says_both longer) known clocks known_says p j.past count still)
+        where
+          known : ℕ → Bool
+          known i = now j p n i || now j o.0 o.1 i
+
+          clocks : Name → ℕ
+          clocks = both (mine count es p) (theirs count es o.0 o.1)
+
+          its_below : (i : ℕ) → now j o.0 o.1 i ≡ true → i < n
+          its_below i t = ⊎_elim (λ (x : j.past o.0 i ≡ true). below o.0 i x) (λ (x : o.1 == i ≡ true). let y = eqb-true o.1 i x in let l = its_index c o.0 o.1 e in omega arith) (or_cases (j.past o.0 i) (o.1 == i) t)
+
+          known_says : Says longer known clocks
+          known_says = says_both longer (now j p n) (now j o.0 o.1) (mine count es p) (theirs count es o.0 o.1) mine_says (says_more es entry (now j o.0 o.1) (theirs count es o.0 o.1) its_below (theirs_say c o.0 o.1 e))
+
+-- the clocks say what each process knows after one more entry
+pub one_more : (j : Judged) (es : List Occurrence) (count : Name → Name → ℕ) → Kept j es → ((q : Name) (i : ℕ) → j.past q i ≡ true → i < length es) → ((q : Name) → Says es (j.past q) (count q))
+    → (p : Name) (h : Happening) → WaitsForNone j p → (q : Name) → Says (es ++ record { who = p; what = h } ∷ []) ((judged_by j (length es) p h).past q) (counted_by count j es p h q)
+one_more j es count kept below says p Opened w = own_says j es count kept below says p Opened refl w
+one_more j es count kept below says p (Split k) w =
+    let m : List Occurrence = es ++ record { who = p; what = Split k } ∷ [] in
+    shares_all (Says m) (says_both m) (now j p (length es)) (mine count es p) (mine_says j es count kept below says p (Split k) refl w) p (j.forks p) 0 k (learn p (λ i. length es == i) j.past) (becomes p (mine count es p) count) (own_says j es count kept below says p (Split k) refl w)
+one_more j es count kept below says p Finished w =
+    let m : List Occurrence = es ++ record { who = p; what = Finished } ∷ [] in
+    gives_back_all (Says m) (says_both m) (now j p (length es)) (mine count es p) (mine_says j es count kept below says p Finished refl w) p (learn p (λ i. length es == i) j.past) (becomes p (mine count es p) count) (own_says j es count kept below says p Finished refl w)
+one_more j es count kept below says p (Offered v c) w = met_says j es count kept below says p (Offered v c) refl w c (j.pending c) refl
+one_more j es count kept below says p (Failed f) w = still j es count kept below says p (Failed f)
+one_more j es count kept below says p LaidDown w = still j es count kept below says p LaidDown
+one_more j es count kept below says p Paused w = still j es count kept below says p Paused
+
+pub nothing_said : (q : Name) → Says [] (λ i. false) (λ r. 0)
+nothing_said q = record {
+  says = λ r i k p. absurd (let l = get_inside [] i _ p.1 in omega arith);
+  bound = λ r. omega arith;
+}

@@ -1,0 +1,115 @@
+-- What the judge's tables hold. No public contract cites these.
+use Rattle.std.specs.Prelude.{◌≡◌, ℕ, ◌<◌, ◌≤◌, List, [], map, take, length, Option, Some, None, slice_get, unwrap_or}
+use Rattle.sp_journal.specs.declared.entry.Entry.{Entry}
+use Rattle.sp_journal.specs.declared.entry.Event.{Event}
+use Rattle.sp_journal.specs.declared.entry.Event.TheVariants as event
+use Rattle.sp_journal.specs.declared.entry.Way.{Way}
+use Rattle.sp_journal.specs.declared.entry.Way.TheVariants as way
+use Rattle.sp_journal.specs.Names.{Name, Channel, Offered, Occurrence}
+use Rattle.sp_journal.specs.Births.{Births, at_start, births, channel, happening, occurrence, NameableFrom}
+use Rattle.sp_past.specs.Prefixes.{IsQuiet}
+use Rattle.sp_journal.specs.Past.{judged}
+use Rattle.sp_race.specs.Known.{KnowsOffers}
+use Rattle.sp_judge.specs.declared.bench.Offer.{Offer}
+use Rattle.sp_judge.specs.declared.bench.Racer.{Racer}
+use Rattle.sp_judge.specs.declared.bench.Line.{Line}
+use Rattle.sp_judge.specs.declared.bench.Bench.{Bench}
+use Rattle.sp_judge.specs.Clocks.{clock_at}
+use Rattle.sp_judge.specs.Counts.{made, counts}
+
+-- these entries by the names that stand in the end
+abbrev pub named : Births → List Entry → List Occurrence
+named s es = map (occurrence s) es
+
+abbrev pub number_at : List ℕ → ℕ → ℕ
+number_at xs p = unwrap_or (slice_get xs p) 0
+
+abbrev pub last_of : Way → Line → Option Offer
+last_of way.Send l = l.sent
+last_of way.Receive l = l.received
+
+-- this is the offer that waits
+abbrev pub Waits : Births → List Occurrence → Option Offer → Option (Name × ℕ) → Type 0
+Waits s os None None = Unit {0}
+Waits s os None (Some x) = ⊥
+Waits s os (Some o) None = ⊥
+Waits s os (Some o) (Some x) = (o.process < s.processes) × (s.name o.process ≡ x.0) × (o.place ≡ made (take x.1 os) x.0)
+
+abbrev pub OfferIn : List Occurrence → ℕ → Name → Way → Channel → Type 0
+OfferIn os i z w d = slice_get os i ≡ Some (record { who = z; what = Offered w d })
+
+-- this is the last offer of this way on this channel
+abbrev pub IsLast : Births → List Occurrence → Way → Channel → Option Offer → Type 0
+IsLast s os w d None = (i : ℕ) (z : Name) → OfferIn os i z w d → ⊥
+IsLast s os w d (Some o) =
+    (i : ℕ) × (o.process < s.processes) × OfferIn os i (s.name o.process) w d × (o.place ≡ made (take i os) (s.name o.process))
+    × ((k : ℕ) (y : Name) → OfferIn os k y w d → k ≤ i)
+
+pub record IsLine (s : Births) (os : List Occurrence) (d : Channel) (l : Line) : Type 0 where
+  pub waiting : Waits s os l.waiting ((judged os).pending d)
+  pub sent : IsLast s os way.Send d l.sent
+  pub received : IsLast s os way.Receive d l.received
+
+-- the entries of a journal that gives names, in which no process makes an entry while its own offer waits
+pub record IsTame (es : List Entry) : Type 0 where
+  pub nameable : NameableFrom at_start es
+  pub quiet : IsQuiet (named (births es) es)
+
+-- a line with this last offer of a way, and this offer that waits
+abbrev pub then_line : Way → Offer → Option Offer → Line → Line
+then_line way.Send o w l = record { waiting = w; sent = Some o; received = l.received }
+then_line way.Receive o w l = record { waiting = w; sent = l.sent; received = Some o }
+
+-- the tables after these entries of a journal with these births
+pub record Holds (s : Births) (es : List Entry) (b : Bench) : Type 0 where
+  pub all_clocks : length b.clocks.items ≡ s.processes
+  pub all_made : length b.made.items ≡ s.processes
+  pub all_lines : length b.lines.items ≡ s.channels
+  pub all_places : length b.places.items ≡ length es
+  pub clocks : (p q : ℕ) → p < s.processes → q < s.processes → clock_at b.clocks.items p q ≡ counts (named s es) (s.name p) (s.name q)
+  pub made_is : (p : ℕ) → p < s.processes → slice_get b.made.items p ≡ Some (made (named s es) (s.name p))
+  pub lines : (c : ℕ) → c < s.channels → (l : Line) × (slice_get b.lines.items c ≡ Some l) × IsLine s (named s es) (channel s c) l
+  pub places : (i : ℕ) (e : Entry) → slice_get es i ≡ Some e → slice_get b.places.items i ≡ Some (made (take i (named s es)) (s.name e.process))
+  pub next : b.next ≡ (births es).processes
+
+-- an offer of this way on this channel, as an event
+abbrev pub offer_event : Way → ℕ → Event
+offer_event way.Send c = event.Send c
+offer_event way.Receive c = event.Receive c
+
+-- an event that nobody comes to know
+abbrev pub IsPlain : Event → Type 0
+IsPlain (event.Fork n) = ⊥
+IsPlain event.Open = ⊥
+IsPlain (event.Send c) = ⊥
+IsPlain (event.Receive c) = ⊥
+IsPlain event.End = ⊥
+IsPlain (event.Fault f) = Unit {0}
+IsPlain event.Laid = Unit {0}
+IsPlain event.Pause = Unit {0}
+
+-- the entry of index i makes this offer, and by the tables the process does not know of it
+abbrev pub IsUnknown : Bench → List Entry → ℕ → Way → ℕ → ℕ → Type 0
+IsUnknown b es p w c i = (e : Entry) × (slice_get es i ≡ Some e) × (e.event ≡ offer_event w c) × (number_at b.places.items i < clock_at b.clocks.items p e.process → ⊥)
+
+-- the first such entry before this index
+abbrev pub IsFirstUnknown : Bench → List Entry → ℕ → ℕ → Way → ℕ → ℕ → Type 0
+IsFirstUnknown b es at p w c i = (i < at) × IsUnknown b es p w c i × ((k : ℕ) → k < i → IsUnknown b es p w c k → ⊥)
+
+-- whether the entry of this index is an offer whose process does not know of an earlier one of its way on its channel
+abbrev pub IsRacing : List Entry → ℕ → Option Racer → Type 0
+IsRacing es at None = (e : Entry) → slice_get es at ≡ Some e → KnowsOffers (judged (named (births es) (take at es))) (named (births es) (take at es)) ((births es).name e.process) (happening (births es) e.event)
+IsRacing es at (Some r) =
+    (slice_get es at ≡ Some (record { process = r.process; event = offer_event r.way r.channel }))
+    × (KnowsOffers (judged (named (births es) (take at es))) (named (births es) (take at es)) ((births es).name r.process) (Offered r.way (channel (births es) r.channel)) → ⊥)
+
+-- the tables before the first entry
+pub record IsBlank (b : Bench) (processes channels : ℕ) : Type 0 where
+  pub all_clocks : length b.clocks.items ≡ processes
+  pub all_made : length b.made.items ≡ processes
+  pub all_lines : length b.lines.items ≡ channels
+  pub no_places : b.places.items ≡ []
+  pub next : b.next ≡ 1
+  pub clocks : (p q : ℕ) → clock_at b.clocks.items p q ≡ 0
+  pub made_is : (p : ℕ) → p < processes → slice_get b.made.items p ≡ Some 0
+  pub lines : (c : ℕ) → c < channels → slice_get b.lines.items c ≡ Some (record { waiting = None; sent = None; received = None })

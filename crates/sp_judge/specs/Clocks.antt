@@ -1,0 +1,25 @@
+-- What a clock says.
+use Rattle.std.specs.Prelude.{ℕ, cond, max, ◌==◌, List, Option, Some, None, unwrap_or, slice_get}
+use Rattle.std.specs.Ordering.{nat_cmp}
+use Rattle.std.specs.BTreeMap as tree
+use Rattle.sp_judge.specs.declared.clock.Clock.{Clock}
+
+-- the count of a process, 0 where it has no pair
+abbrev pub count_of : Clock → ℕ → ℕ
+count_of c q = unwrap_or (tree.get nat_cmp c.counts q) 0
+
+abbrev pub count_at : Option Clock → ℕ → ℕ
+count_at None q = 0
+count_at (Some c) q = count_of c q
+
+-- the count of q in the clock of p
+abbrev pub clock_at : List Clock → ℕ → ℕ → ℕ
+clock_at cs p q = count_at (slice_get cs p) q
+
+-- the clock of p with its own count raised to n
+abbrev pub with_own : (ℕ → ℕ → ℕ) → ℕ → ℕ → ℕ → ℕ
+with_own clocks p n q = cond (p == q) (max (clocks p q) n) (clocks p q)
+
+-- two processes have met, each with its own count: both have the greater counts
+abbrev pub met_at : (ℕ → ℕ → ℕ) → ℕ → ℕ → ℕ → ℕ → ℕ → ℕ → ℕ
+met_at clocks p n z m r q = cond (p == r) (max (with_own clocks p n q) (with_own clocks z m q)) (cond (z == r) (max (with_own clocks p n q) (with_own clocks z m q)) (clocks r q))

@@ -1,0 +1,4 @@
+pub mod Bench
+pub mod Clocks
+pub mod Counts
+pub mod Races

@@ -1,0 +1,65 @@
+//! What a process knows of the others, as a count for each process that it knows of.
+
+ghost use Rattle.std.specs.Prelude.{◌≡◌, ◌<◌, ◌↔◌, ◌==◌, cond, max, ℕ, IsTrue, IfOk, OnOk};
+ghost use Rattle.sp_judge.specs.Clocks.{count_of};
+
+use sp_base::Memory;
+use std::alloc::Global;
+use std::collections::BTreeMap;
+
+/// A count for each process that has one, in order of their numbers. A process without a pair has the count 0. The
+/// count n of a process stands for its first n entries of the kinds fork, open, send, receive and end.
+#[derive(Drop)]
+pub struct Clock {
+    counts: BTreeMap<u32, u64>,
+}
+
+impl Clock {
+    /// The clock without pairs. It takes no memory, and keeps the allocator.
+    pub fn new(alloc: Global) -> Clock
+        ensures { (q : ℕ) → count_of result q ≡ 0 }
+    {
+        Clock {
+            counts: BTreeMap::new(alloc),
+        }
+    }
+
+    fn count(&self, process: u32) -> u64
+        ensures { result ≡ count_of self.now process }
+    {
+        self.counts.get(&process).copied().unwrap_or(0)
+    }
+
+    /// The process's count becomes the greater of its old one and `count`. The other pairs stay.
+    pub fn raise(&mut self, process: u32, count: u64) -> Result<(), Memory>
+        ensures { OnOk result ((q : ℕ) → count_of self.new q ≡ cond (process == q) (max (count_of self.old q) count) (count_of self.old q)) }
+    {
+        let raised = self.count(process).max(count);
+        self.counts.insert(process, raised)?;
+        Ok(())
+    }
+
+    /// Whether the count of this process is above `place`: the entry of that place, from 0 on, is known.
+    pub fn knows(&self, process: u32, place: u64) -> bool
+        ensures { IsTrue result ↔ (place < count_of self.now process) }
+    {
+        self.count(process) > place
+    }
+
+    /// Whether the entry of this place of this process is not known.
+    pub(crate) fn misses(&self, process: u32, place: u64) -> bool
+        ensures { IsTrue result ↔ (place < count_of self.now process → ⊥) }
+    {
+        self.count(process) <= place
+    }
+
+    /// Each count becomes the greater of both clocks'. After `Memory` the clock is of no more use.
+    pub fn merge(&mut self, other: &Clock) -> Result<(), Memory>
+        ensures { OnOk result ((q : ℕ) → count_of self.new q ≡ max (count_of self.old q) (count_of other.now q)) }
+    {
+        for (process, count) in other.counts.iter() {
+            self.raise(*process, *count)?;
+        }
+        Ok(())
+    }
+}

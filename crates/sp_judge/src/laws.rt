@@ -1,0 +1,11 @@
+ghost use Rattle.std.specs.Prelude.{◌≡◌, ℕ, List, nat_lt};
+ghost use Rattle.sp_journal.specs.Names.{Name, Occurrence};
+ghost use Rattle.sp_journal.specs.Past.{judged};
+ghost use Rattle.sp_past.specs.Prefixes.{IsQuiet};
+ghost use Rattle.sp_judge.specs.Counts.{PlaceOf, counts};
+
+/// After every journal in which no process makes an entry while its own offer waits, the clocks say what each process
+/// knows: the counted entry of a process with k counted ones of it before is known exactly where the count is above k.
+pub fn clocks_say_what_is_known()
+    ensures { (es : List Occurrence) → IsQuiet es → (p q : Name) (i k : ℕ) → PlaceOf es q i k → (judged es).past p i ≡ nat_lt k (counts es p q) }
+{}

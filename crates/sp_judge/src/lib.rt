@@ -1,0 +1,12 @@
+//! The judge: whether the result of a run depends on the schedule, by its journal alone.
+#![tactic(auto)]
+
+mod bench;
+mod clock;
+mod laws;
+mod table;
+mod verdict;
+
+pub use clock::Clock;
+pub use laws::clocks_say_what_is_known;
+pub use verdict::verdict_of;

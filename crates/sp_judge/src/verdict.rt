@@ -1,0 +1,137 @@
+//! The verdict on a run, by its journal and its end.
+
+ghost use Rattle.std.specs.Prelude.{◌≡◌, ◌<◌, ◌↔◌, Some, IsTrue, IfOk, length, slice_get, take};
+ghost use Rattle.sp_journal.specs.Births.{births, occurrences, IsNameable, channel as channel_named};
+ghost use Rattle.sp_journal.specs.Ledger.{IsLedger};
+ghost use Rattle.sp_journal.specs.Names.{Offered};
+ghost use Rattle.sp_journal.specs.Past.{judged};
+ghost use Rattle.sp_past.specs.Prefixes.{IsQuiet};
+ghost use Rattle.sp_race.specs.Known.{KnowsOffers, AreKnown};
+ghost use Rattle.sp_judge.specs.Bench.{named, offer_event, IsTame, Holds, IsRacing};
+ghost use Rattle.sp_judge.specs.Races.{IsFault, IsJudged, IsVerdict};
+
+use crate::bench::{Bench, Racer};
+use sp_base::Memory;
+use sp_journal::{End, Entry, Event, Journal, Ledger, Verdict, Way};
+use std::alloc::Global;
+
+/// Whether the result of a run depends on the schedule. It is unjudged exactly where the run ended by a fault. Else it is
+/// ordered exactly where of any two sends on one channel, and of any two receives on one channel, the earlier one was
+/// completed, and the later one's process knew that just before it offered. Else the verdict has the least pair of
+/// indices of which this does not hold, by the later and then the earlier one, with its way and its channel. The journal
+/// gives names, and no process of it makes an entry while its own offer waits, as in every run.
+pub fn verdict_of(alloc: Global, journal: &Journal, end: &End) -> Result<Verdict, Memory>
+    requires nameable { IsNameable journal.now }
+    requires quiet { IsQuiet (occurrences journal.now) }
+    ensures { IfOk result (λ verdict. IsVerdict (occurrences journal.now) end.now verdict) }
+{
+    if is_fault(end) {
+        Ok(Verdict::Unjudged)
+    } else {
+        judged_entries(alloc, journal)
+    }
+}
+
+fn is_fault(end: &End) -> bool
+    ensures { IsTrue result ↔ IsFault end.now }
+{
+    match end {
+        End::Fault { .. } => true,
+        End::Done | End::Deadlock(_) | End::Memory => false,
+    }
+}
+
+/// Ordered, or the least race, by all entries.
+fn judged_entries(alloc: Global, journal: &Journal) -> Result<Verdict, Memory>
+    requires nameable { IsNameable journal.now }
+    requires quiet { IsQuiet (occurrences journal.now) }
+    ensures { IfOk result (λ verdict. IsJudged (occurrences journal.now) verdict) }
+{
+    let ledger = Ledger::of(alloc, journal)?;
+    let entries = journal.entries.items();
+    let mut bench = Bench::new(alloc, ledger.processes(), ledger.channels())?;
+    for at in 0..entries.len() {
+        if let Some(racer) = racing(&bench, entries, at) {
+            return race(&ledger, &bench, entries, at, racer);
+        }
+        bench.see(&ledger, entries, at)?;
+    }
+    Ok(Verdict::Ordered)
+}
+
+/// The next entry's offer, where its process does not know of an earlier one of its way on its channel.
+fn racing(bench: &Bench, entries: &[Entry], at: usize) -> Option<Racer>
+    requires tame { IsTame entries.now }
+    requires inside { at < length entries.now }
+    requires holds { Holds (births entries.now) (take at entries.now) bench.now }
+    requires in_order { AreKnown (named (births entries.now) (take at entries.now)) }
+    ensures { IsRacing entries.now at result }
+{
+    let Entry { process, event } = entries[at];
+    match event {
+        Event::Send(channel) => offer_racing(
+            bench,
+            entries,
+            at,
+            Racer {
+                process,
+                way: Way::Send,
+                channel,
+            },
+        ),
+        Event::Receive(channel) => offer_racing(
+            bench,
+            entries,
+            at,
+            Racer {
+                process,
+                way: Way::Receive,
+                channel,
+            },
+        ),
+        Event::Fork(_) | Event::Open | Event::End | Event::Fault(_) | Event::Laid | Event::Pause =>
+            None,
+    }
+}
+
+/// This offer, where its process does not know of an earlier one.
+fn offer_racing(bench: &Bench, entries: &[Entry], at: usize, offer: Racer) -> Option<Racer>
+    requires tame { IsTame entries.now }
+    requires holds { Holds (births entries.now) (take at entries.now) bench.now }
+    requires here { slice_get entries.now at ≡ Some (record { process = offer.process; event = offer_event offer.way offer.channel }) }
+    requires in_order { AreKnown (named (births entries.now) (take at entries.now)) }
+    ensures { IsRacing entries.now at result }
+{
+    if bench.knows_offers(entries, at, offer.process, offer.way, offer.channel) {
+        None
+    } else {
+        Some(offer)
+    }
+}
+
+/// The race of the next entry with the first earlier offer that its process does not know.
+fn race(
+    ledger: &Ledger,
+    bench: &Bench,
+    entries: &[Entry],
+    at: usize,
+    racer: Racer,
+) -> Result<Verdict, Memory>
+    requires tame { IsTame entries.now }
+    requires ledger { IsLedger ledger.now }
+    requires its_journal { ledger.now.journal.entries ≡ entries.now }
+    requires holds { Holds (births entries.now) (take at entries.now) bench.now }
+    requires in_order { AreKnown (named (births entries.now) (take at entries.now)) }
+    requires racing { IsRacing entries.now at (Some racer) }
+    ensures { IfOk result (λ verdict. IsJudged (named (births entries.now) entries.now) verdict) }
+{
+    match bench.first_unknown(entries, at, racer.process, racer.way, racer.channel) {
+        None => Ok(Verdict::Ordered),
+        Some(earlier) => Ok(Verdict::Race {
+            way: racer.way,
+            channel: ledger.channel(racer.channel)?,
+            earlier,
+            later: at as u64,
+        }),
+    }
+}

@@ -1,0 +1,37 @@
+//! What the calls of a store ask for, as questions that a caller may put where it does not know it.
+
+ghost use Rattle.std.specs.Prelude.{◌≡◌, ◌↔◌, IsTrue, Some};
+ghost use Rattle.std.specs.FinMap as map;
+ghost use Rattle.sp_cell.specs.Map.{HasCells, IsOwn, Away as IsAway};
+
+use crate::entry::Entry;
+use crate::store::Store;
+use sp_cell::{Address, Spot};
+
+impl Store {
+    /// Whether so many cells from the address on are in a piece that is held.
+    pub fn has_cells(&self, at: Address, cells: u32) -> bool
+        ensures { IsTrue result ↔ HasCells self.now.map at cells }
+    {
+        let len = match self.slots.find(at.spot) {
+            Some(Entry::Own(piece)) => piece.len(),
+            Some(Entry::Shared(piece)) => piece.len(),
+            _ => return false,
+        };
+        u64::from(at.offset) + u64::from(cells) <= u64::from(len)
+    }
+
+    /// Whether an own piece is held.
+    pub fn is_own(&self, spot: Spot) -> bool
+        ensures { IsTrue result ↔ IsOwn (map.get self.now.map spot) }
+    {
+        matches!(self.slots.find(spot), Some(Entry::Own(_)))
+    }
+
+    /// Whether what stands at the spot has moved to a child.
+    pub fn is_away(&self, spot: Spot) -> bool
+        ensures { IsTrue result ↔ (map.get self.now.map spot ≡ Some IsAway) }
+    {
+        matches!(self.slots.find(spot), Some(Entry::Away))
+    }
+}

@@ -1,0 +1,44 @@
+-- What stands around a place in a program: the scopes, the innermost first, and what variable parameters stand for.
+use Rattle.std.specs.Prelude.{ℕ, zero, suc, ◌==◌, List, [], ◌∷◌, Option, Some, None, Bool, false, if◌then◌else◌, slice_get, length}
+use Rattle.sp_tree.specs.Plain.{Program, Block}
+
+-- a scope: a block, or the element statement of a forall
+pub data Scope : Type 0 where
+  OfBlock : (b : ℕ) → Scope
+  OfIndex : (x : ℕ) → Scope
+
+abbrev pub is_block : ℕ → Scope → Bool
+is_block b (OfBlock c) = b == c
+is_block b (OfIndex x) = false
+
+abbrev pub is_index : ℕ → Scope → Bool
+is_index x (OfBlock c) = false
+is_index x (OfIndex y) = x == y
+
+abbrev pub one_more : Option ℕ → Option ℕ
+one_more None = None
+one_more (Some n) = Some (suc n)
+
+-- how many levels outward the first scope is that fits
+abbrev pub level : (Scope → Bool) → List Scope → Option ℕ
+level fits [] = None
+level fits (s ∷ sc) = if fits s then Some 0 else one_more (level fits sc)
+
+abbrev pub parent_of : Option Block → Option ℕ
+parent_of None = None
+parent_of (Some k) = k.parent
+
+module _ (p : Program) where
+  -- the scopes of a block's statement part: it, and those around it, no more than n
+  abbrev pub scopes_by : ℕ → Option ℕ → List Scope
+  scopes_by zero b = []
+  scopes_by (suc n) None = []
+  scopes_by (suc n) (Some b) = OfBlock b ∷ scopes_by n (parent_of (slice_get p.blocks b))
+
+  abbrev pub scopes_of : ℕ → List Scope
+  scopes_of b = scopes_by (length p.blocks) (Some b)
+
+-- what the variable parameter of this number stands for
+abbrev pub referred : {A : Type 0} → ℕ → List (ℕ × A) → Option A
+referred x [] = None
+referred x (r ∷ rs) = if x == r.0 then Some r.1 else referred x rs

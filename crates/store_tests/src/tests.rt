@@ -1,0 +1,211 @@
+//! The calls of `sp_store`, each once.
+
+ghost use Rattle.std.specs.Prelude.{◌≡◌, ◌≢◌, ◌+◌, ◌≤◌, IfOk, OnOk, Some, None, replicate, length, [], ◌∷◌};
+ghost use Rattle.std.specs.Bool.{OnTrue};
+ghost use Rattle.std.specs.FinMap as map;
+ghost use Rattle.sp_cell.specs.declared.spot.Spot.{Spot};
+ghost use Rattle.sp_cell.specs.Frame.{next_frame};
+ghost use Rattle.sp_cell.specs.Map.{IsOutput, IsPiece, Away, output_spot};
+
+use sp_base::{List, Memory};
+use sp_cell::{Address, Cell, Handing, Spot};
+use sp_store::Store;
+use std::alloc::Global;
+use std::test::Fail;
+
+fn spot(variable: u32) -> Spot {
+    Spot { frame: 0, variable }
+}
+
+fn at(variable: u32, offset: u32) -> Address {
+    Address {
+        spot: spot(variable),
+        offset,
+    }
+}
+
+// Whether the output is held.
+fn has_output(store: &Store) -> bool
+    ensures { OnTrue result (IsOutput (map.get store.now.map output_spot)) }
+{
+    match store.output() {
+        Some(_) => true,
+        None => false,
+    }
+}
+
+// Pushes as many frames of one cell.
+fn push_all(store: &mut Store, frames: u32) -> Result<(), Memory>
+    requires number { next_frame store.old ≤ 1 }
+    requires here { (q : Spot) → map.get store.old.map q ≢ Some Away }
+    ensures frames { OnOk result (length store.new.own ≡ length store.old.own + frames) }
+    ensures here { OnOk result ((q : Spot) → map.get store.new.map q ≢ Some Away) }
+{
+    for _ in 0..frames {
+        store.push_frame(&[1])?;
+    }
+    Ok(())
+}
+
+// Pops as many frames.
+fn pop_all(store: &mut Store, frames: u32)
+    requires frames { frames ≤ length store.old.own }
+    requires here { (q : Spot) → map.get store.old.map q ≢ Some Away }
+{
+    for _ in 0..frames {
+        store.pop_frame();
+    }
+}
+
+// A plan that shares one variable with as many children.
+fn sharing(alloc: Global, spot: Spot, children: u32) -> Result<List<Handing>, Memory>
+    ensures { IfOk result (λ plan. plan ≡ replicate children (record { moved = []; shared = spot ∷ []; index = None })) }
+{
+    let mut plan = List::new(alloc);
+    for _ in 0..children {
+        plan.push(Handing {
+            moved: List::new(alloc),
+            shared: List::from_slice(alloc, &[spot])?,
+            index: None,
+        })?;
+    }
+    Ok(plan)
+}
+
+// Forks as many children that share one variable.
+fn share_with(
+    store: &mut Store,
+    alloc: Global,
+    spot: Spot,
+    children: u32,
+) -> Result<List<Store>, Memory>
+    requires { IsPiece (map.get store.old.map spot) }
+{
+    let plan = sharing(alloc, spot, children)?;
+    store.split(&plan)
+}
+
+#[test]
+fn cells_are_stored_loaded_and_put(rt: HostRuntime) -> Result<(), Fail> {
+    let mut store = Store::root(rt.alloc(), &[1, 3])?;
+    let a = at(2, 0);
+    assert!(rt; store.has_cells(a, 1));
+    assert_eq!(rt; store.load(a), Cell::Undefined);
+    store.store(a, Cell::Ordinal(5))?;
+    assert!(rt; store.has_cells(a, 1));
+    assert_eq!(rt; store.load(a), Cell::Ordinal(5));
+    store.make_own(a.spot)?;
+    let cells = List::from_slice(rt.alloc(), &[Cell::Ordinal(1), Cell::Channel(2)])?;
+    let b = at(3, 0);
+    assert!(rt; store.has_cells(b, 2) && store.is_own(b.spot));
+    store.put(b, &cells);
+    let from = at(3, 0);
+    let to = at(3, 1);
+    assert!(rt; store.has_cells(from, 2) && store.has_cells(to, 2));
+    store.copy(to, from, 2)?;
+    assert!(rt; store.has_cells(from, 3));
+    let all = [Cell::Ordinal(1), Cell::Ordinal(1), Cell::Channel(2)];
+    assert_eq!(rt; store.cells(from, 3)?.items(), all.as_slice());
+    Ok(())
+}
+
+#[test]
+fn the_output_grows(rt: HostRuntime) -> Result<(), Fail> {
+    let mut store = Store::root(rt.alloc(), &[])?;
+    assert!(rt; has_output(&store));
+    store.append(b"ab")?;
+    assert!(rt; has_output(&store));
+    store.append(b"c")?;
+    assert_eq!(rt; store.output(), Some(b"abc".as_slice()));
+    Ok(())
+}
+
+#[test]
+fn ten_thousand_frames_are_pushed_and_popped(rt: HostRuntime) -> Result<(), Fail> {
+    let mut store = Store::root(rt.alloc(), &[1])?;
+    push_all(&mut store, 10_000)?;
+    pop_all(&mut store, 10_000);
+    Ok(())
+}
+
+#[test]
+fn a_frame_has_4096_variables(rt: HostRuntime) -> Result<(), Fail> {
+    let mut store = Store::root(rt.alloc(), &[])?;
+    let frame = store.push_frame(&[2; 4096])?;
+    assert_eq!(rt; frame, 1);
+    let last = Address {
+        spot: Spot {
+            frame,
+            variable: 4095,
+        },
+        offset: 1,
+    };
+    assert!(rt; store.has_cells(last, 1));
+    store.store(last, Cell::Ordinal(3))?;
+    assert!(rt; store.has_cells(last, 1));
+    assert_eq!(rt; store.load(last), Cell::Ordinal(3));
+    Ok(())
+}
+
+#[test]
+fn what_moves_comes_back_and_what_is_shared_is_read(rt: HostRuntime) -> Result<(), Fail> {
+    let mut store = Store::root(rt.alloc(), &[1])?;
+    let input = Spot {
+        frame: 0,
+        variable: 0,
+    };
+    let target = Spot {
+        frame: 0,
+        variable: 2,
+    };
+    let read = Address {
+        spot: input,
+        offset: 0,
+    };
+    let written = Address {
+        spot: target,
+        offset: 0,
+    };
+    let index = Address {
+        spot: Spot {
+            frame: 1,
+            variable: 7,
+        },
+        offset: 0,
+    };
+    let mut plan = List::new(rt.alloc());
+    plan.push(Handing {
+        moved: List::from_slice(rt.alloc(), &[target])?,
+        shared: List::from_slice(rt.alloc(), &[input])?,
+        index: Some((7, -3)),
+    })?;
+    assert!(rt; store.is_own(target) && store.is_own(input));
+    let mut children = store.split(&plan)?.into_vec();
+    let Some(mut child) = children.pop() else {
+        return Ok(());
+    };
+    assert!(rt; child.has_cells(index, 1));
+    assert_eq!(rt; child.load(index), Cell::Ordinal(-3));
+    assert!(rt; child.has_cells(read, 1));
+    assert_eq!(rt; child.load(read), Cell::Ordinal(0));
+    assert!(rt; child.has_cells(written, 1));
+    child.store(written, Cell::Ordinal(9))?;
+    assert!(rt; child.is_own(target) && store.is_away(target));
+    store.join(child);
+    assert!(rt; store.has_cells(written, 1));
+    assert_eq!(rt; store.load(written), Cell::Ordinal(9));
+    Ok(())
+}
+
+#[test]
+fn a_hundred_thousand_children_share_one_piece(rt: HostRuntime) -> Result<(), Fail> {
+    let mut store = Store::root(rt.alloc(), &[])?;
+    let input = Spot {
+        frame: 0,
+        variable: 0,
+    };
+    assert!(rt; store.is_own(input));
+    let children = share_with(&mut store, rt.alloc(), input, 100_000)?;
+    assert_eq!(rt; children.len(), 100_000);
+    Ok(())
+}

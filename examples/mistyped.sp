@@ -1,0 +1,5 @@
+program mistyped;
+var x: integer;
+begin
+  x := 'a'
+end.

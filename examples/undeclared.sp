@@ -1,0 +1,5 @@
+program undeclared;
+var x: integer;
+begin
+  y := 6
+end.

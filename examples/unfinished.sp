@@ -1,0 +1,6 @@
+program unfinished;
+var x: integer;
+begin
+  x := 6;
+  write(x *
+
