@@ -166,7 +166,6 @@ abbrev SignHead : List ℕ → Type 0
 SignHead [] = ⊥
 SignHead (y ∷ s) = (is_name_byte y ≡ false) × (is_digit y ≡ false) × ((y == 39) ≡ false)
 
-
 signs_head : Each SignHead signs
 signs_head = ((refl, refl, refl), ((refl, refl, refl), ((refl, refl, refl), ((refl, refl, refl), ((refl, refl, refl), ((refl, refl, refl), ((refl, refl, refl), ((refl, refl, refl), ((refl, refl, refl), ((refl, refl, refl), ((refl, refl, refl), ((refl, refl, refl), ((refl, refl, refl), ((refl, refl, refl), ((refl, refl, refl), ((refl, refl, refl), ((refl, refl, refl), ((refl, refl, refl), ((refl, refl, refl), ((refl, refl, refl), tt))))))))))))))))))))
 
@@ -225,10 +224,10 @@ fine_by false true false p q h = refl
 signs_fine : (m n : ℕ) (c d : List ℕ) → slice_get signs m ≡ Some c → slice_get signs n ≡ Some d → clash (kind.Sign m) (kind.Sign n) ≡ false → touches (Some (kind.Sign m)) (Some (kind.Sign n)) ≡ true → goes_with c d ≡ false
 signs_fine m n c d p q h t =
     fine_by (clash (kind.Sign m) (kind.Sign n)) (touches (Some (kind.Sign m)) (Some (kind.Sign n))) (goes_with c d) h t
-      (subst (λ i. fine m c i d ≡ true) (let z : 0 + n ≡ n = omega arith in z)
-        (sign_at (λ n d. fine m c n d) 0 signs n d
-          (subst (λ i. all_from (λ n d. fine i c n d) 0 signs ≡ true) (let z : 0 + m ≡ m = omega arith in z)
-            (sign_at (λ m c. all_from (λ n d. fine m c n d) 0 signs) 0 signs m c all_fine p)) q))
+    (subst (λ i. fine m c i d ≡ true) (let z : 0 + n ≡ n = omega arith in z)
+    (sign_at (λ n d. fine m c n d) 0 signs n d
+    (subst (λ i. all_from (λ n d. fine i c n d) 0 signs ≡ true) (let z : 0 + m ≡ m = omega arith in z)
+    (sign_at (λ m c. all_from (λ n d. fine m c n d) 0 signs) 0 signs m c all_fine p)) q))
 
 stops_with : (c d rest : List ℕ) → SignHead d → goes_with c d ≡ false → Stops (goes_on c) (d ++ rest)
 stops_with c [] rest h e = absurd h
@@ -388,7 +387,7 @@ real_after c before None d is g gs h = refl
 real_after c before (Some k) d is g gs h =
     let x : Context = context_of (item (Some kind.Number) c ∷ before) in
     real_by k d (indentation (depth x (Some k))) (laid (item (Some k) d ∷ item (Some kind.Number) c ∷ before) is) (breaks x (Some k)) (touches (Some kind.Number) (Some k)) g.0 refl
-      (λ n e f. subst (λ k. begins_digit (laid (item (Some k) d ∷ item (Some kind.Number) c ∷ before) is ++ 10 ∷ []) ≡ false) (back_of e) (dot_next n d (item (Some kind.Number) c ∷ before) is gs (subst (λ k. Apart (Some k) is) e h) f))
+    (λ n e f. subst (λ k. begins_digit (laid (item (Some k) d ∷ item (Some kind.Number) c ∷ before) is ++ 10 ∷ []) ≡ false) (back_of e) (dot_next n d (item (Some kind.Number) c ∷ before) is gs (subst (λ k. Apart (Some k) is) e h) f))
 
 -- what has to follow a token that no rule is broken at it
 abbrev Ends : Kind → List ℕ → Type 0
@@ -459,11 +458,11 @@ again_by : (before : List Item) (k : Option Kind) (c : List ℕ) (is : List Item
 again_by before None c is g gs h go =
     let l : List ℕ = laid (item None c ∷ before) is in
     subst (λ v. Kept v (item None c ∷ is)) (back_of (regroup (gap (context_of before) None) c l (10 ∷ [])))
-      (behind_gap (context_of before) None (reads_comment c g (go (item None c ∷ before))))
+    (behind_gap (context_of before) None (reads_comment c g (go (item None c ∷ before))))
 again_by before (Some k) c is g gs h go =
     let l : List ℕ = laid (item (Some k) c ∷ before) is in
     subst (λ v. Kept v (item (Some k) c ∷ is)) (back_of (regroup (gap (context_of before) (Some k)) c l (10 ∷ [])))
-      (behind_gap (context_of before) (Some k) (reads_token k c g (parts_next k c before is g.0 gs h) (ends_next k c before is gs h) (go (item (Some k) c ∷ before))))
+    (behind_gap (context_of before) (Some k) (reads_token k c g (parts_next k c before is g.0 gs h) (ends_next k c before is gs h) (go (item (Some k) c ∷ before))))
 
 again : (is : List Item) (p : Option Kind) → GoodAll is → Apart p is → (before : List Item) → Kept (laid before is ++ 10 ∷ []) is
 again [] p g h before = kept_blank 10 refl kept_end
