@@ -21,9 +21,9 @@ syntax keyword superpascalProcedure read readln write writeln open send receive
 syntax match superpascalNumber "\<\d\+\>"
 syntax match superpascalSign ":=\|<>\|<=\|>=\|\.\.\||"
 syntax match superpascalText "'\([^'\n\r]\|''\)*'"
-" A comment of either form ends at either end, and does not nest.
-syntax region superpascalComment start="{" end="}\|\*)"
-syntax region superpascalComment start="(\*" end="\*)\|}"
+" A comment is closed as it was opened, and does not nest.
+syntax region superpascalComment start="{" end="}"
+syntax region superpascalComment start="(\*" end="\*)"
 
 highlight default link superpascalDeclaration Keyword
 highlight default link superpascalConditional Conditional
