@@ -1,31 +1,27 @@
 -- The children of a fork: where the code of each begins, its place in the tree, and the indexes that it is handed.
-use Rattle.std.proofs.Common.{◌≡◌, ◌⊎◌, inl, inr, ⊎_elim, ℕ, zero, suc, ◌+◌, ◌<◌, ◌≤◌, ◌==◌, ℤ, List, [], ◌∷◌, ◌++◌, Option, Some, None, Bool, true, false, if◌then◌else◌, length, refl, sym, ap, ◌∙◌, subst, arith, eqb-true, eq-eqb}
-use Rattle.std.specs.Prelude.{◌+ℤ◌, pos, nat_lt, slice_get}
+use Rattle.std.proofs.Common.{◌≡◌, inl, inr, ⊎_elim, ℕ, zero, suc, ◌+◌, ◌≤◌, ◌==◌, ℤ, List, [], ◌∷◌, ◌++◌, Option, Some, None, Bool, true, false, if◌then◌else◌, length, refl, sym, ap, ◌∙◌, subst, arith, eqb-true, eq-eqb}
+use Rattle.std.specs.Prelude.{◌+ℤ◌, pos, slice_get}
 use Rattle.sp_tree.specs.declared.checked.Role.{Role}
 use Rattle.sp_tree.specs.declared.checked.Role.TheVariants as role
 use Rattle.sp_tree.specs.Cells.{variables_of}
 use Rattle.sp_tree.specs.Plain.{Expr, Program, Variable, Block, Stmt, Parallel, Forall, Stmts, No, And}
-use Rattle.sp_tree.specs.Uses.{Use, Aims, Sees, Spreads, In_stmt, In_stmts}
-use Rattle.sp_tree.specs.Interference.{IsFreeOfInterference, IsIndexOf, IsMember}
+use Rattle.sp_tree.specs.Uses.{Use, Sees, In_stmt, In_stmts}
+use Rattle.sp_tree.specs.Interference.{IsMember}
 use Rattle.sp_cell.specs.declared.spot.Spot.{Spot}
 use Rattle.sp_cell.specs.FrameLaws.{is_other}
-use Rattle.sp_meaning.specs.Model.{Name, Channel}
-use Rattle.sp_meaning.specs.Own.{Setting, Loc, Home, OfBlock, OfIndex, Frame, Own, Who, Item}
+use Rattle.sp_meaning.specs.Model.{Name}
+use Rattle.sp_meaning.specs.Own.{Setting, Loc, Home, OfBlock, OfIndex, Frame}
 use Rattle.sp_meaning.specs.Deeds.{Birth, push, children, indexed_children}
 use Rattle.sp_meaning.specs.Owning.{Linked, Aimed, Used, Sound}
 use Rattle.sp_meaning.proofs.Within.{part}
 use Rattle.sp_meaning.proofs.Children.{child_sound, index_linked}
 use Rattle.sp_meaning.proofs.Deeding.{element_sound}
-use Rattle.sp_code.specs.declared.code.ChildTable.{ChildTable}
-use Rattle.sp_code.specs.declared.code.ForkTable.{ForkTable}
 use Rattle.sp_code.specs.declared.code.Layout.{Layout}
 use Rattle.sp_code.specs.declared.code.Parts.{Parts as Code}
-use Rattle.sp_code.specs.declared.instr.Instr.{Instr}
 use Rattle.sp_code.specs.declared.instr.Instr.TheVariants as i
-use Rattle.sp_code.specs.Machine.{Entry, Ops}
 use Rattle.sp_code.specs.Memory.{last_frames}
 use Rattle.sp_code.specs.Memory as m
-use Rattle.sp_code.specs.System.{or_outward, spot_in, spot_from, spot_of}
+use Rattle.sp_code.specs.System.{or_outward, spot_in, spot_from}
 use Rattle.sp_code.specs.Tables.{child_at}
 use Rattle.sp_code.specs.Places.{after}
 use Rattle.sp_code.specs.Scopes.{Scope, level, one_more, is_index, as_list, is_local, frame_of}
@@ -35,9 +31,9 @@ use Rattle.sp_code.specs.Stands.{Stands, HasFork, HasWords, StandsAt, ChildrenAt
 use Rattle.sp_codegen.specs.Joints.{Joint, sources, machines, from, up_at, HomeIs, Chain}
 use Rattle.sp_tree.specs.Formed.{IsFormed, is_parameter, is_answer, among}
 use Rattle.sp_codegen.specs.Executions.{Execution}
-use Rattle.sp_codegen.specs.Relation.{Relation, Keeps, Placed}
+use Rattle.sp_codegen.specs.Relation.{Placed}
 use Rattle.sp_codegen.specs.Standing.{spot_at, HomesAre, Paired}
-use Rattle.sp_codegen.proofs.Joints.{from_length, up_from, paired_from, last_machines, machines_length, sources_length}
+use Rattle.sp_codegen.proofs.Joints.{paired_from, last_machines, sources_length}
 use Rattle.sp_codegen.proofs.Numbers.{AreKnown, are_known, frame_is}
 use Rattle.sp_codegen.proofs.Closing.{Laid}
 use Rattle.sp_codegen.proofs.Handing.{in_either, spot_no_frame, from_all}

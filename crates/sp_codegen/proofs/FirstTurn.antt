@@ -1,18 +1,18 @@
 -- The first turn of a run of the code of a tree is that of the meaning.
-use Rattle.std.proofs.Common.{◌≡◌, ℕ, suc, ◌+◌, ◌≤◌, ◌==◌, List, [], ◌∷◌, Some, Bool, true, refl, sym, ap, ◌∙◌, subst, arith, inl}
+use Rattle.std.proofs.Common.{◌≡◌, ℕ, ◌≤◌, List, [], ◌∷◌, Some, true, refl, sym, ap, subst, arith, inl}
 use Rattle.std.specs.Prelude.{slice_get}
 use Rattle.sp_tree.specs.Plain.{Program, Block, Stmt}
 use Rattle.sp_tree.specs.Interference.{IsFreeOfInterference}
 use Rattle.sp_cell.specs.Map.{Plain}
-use Rattle.sp_meaning.specs.Own.{Setting, Loc, Own, Who, Came, Got, Bad, Lost, Long}
+use Rattle.sp_meaning.specs.Own.{Setting, Loc, Who, Came, Got, Bad, Lost, Long}
 use Rattle.sp_meaning.specs.Deeds.{Went, Beat, Opened, Forked, Offered, Over, push, size_of_frame}
 use Rattle.sp_meaning.specs.Run.{Store, run}
 use Rattle.sp_meaning.specs.SuperPascal.{root, first_store}
 use Rattle.sp_meaning.specs.Turn as source
 use Rattle.sp_code.specs.declared.code.Layout.{Layout}
 use Rattle.sp_code.specs.declared.code.Parts.{Parts as Code}
-use Rattle.sp_code.specs.Machine.{Config, At, Pauses, Opens, Ends as Ended, Ops, layout_of}
-use Rattle.sp_code.specs.Turns.{Comes, Turn, Stopped, Faulted, IsTurn, Begins, Runs, begins}
+use Rattle.sp_code.specs.Machine.{Config, At, Pauses, Opens, Ends as Ended, layout_of}
+use Rattle.sp_code.specs.Turns.{Turn, Stopped, Faulted, IsTurn, Begins, Runs, begins}
 use Rattle.sp_code.specs.Memory.{Memory, memory, first, first_memory, entry_of}
 use Rattle.sp_code.specs.PlainStore.{plain}
 use Rattle.sp_code.specs.Places.{after}
@@ -25,7 +25,7 @@ use Rattle.sp_tree.specs.Formed.{IsFormed}
 use Rattle.sp_codegen.specs.Joints.{Joint}
 use Rattle.sp_codegen.specs.Executions.{Execution}
 use Rattle.sp_codegen.specs.Relation.{Keeps}
-use Rattle.sp_codegen.specs.Standing.{machine_setting, relation}
+use Rattle.sp_codegen.specs.Standing.{relation}
 use Rattle.sp_codegen.specs.Meets.{code_run, due_after, EndsAlike}
 use Rattle.sp_codegen.proofs.Closing.{Laid}
 use Rattle.sp_codegen.proofs.Instance.{instance}

@@ -1,43 +1,27 @@
 -- Where the code of what is left to do stands.
-use Rattle.std.proofs.Common.{◌≡◌, ◌⊎◌, inl, inr, ℕ, zero, suc, ◌+◌, ℤ, List, [], ◌∷◌, Option, Some, None, Bool, true, false, if◌then◌else◌, refl, sym, ap, ◌∙◌, subst}
-use Rattle.std.specs.Prelude.{nat_lt, slice_get, length, pos, ◌+ℤ◌, ◌-ℤ◌, nat_abs, int_lt}
+use Rattle.std.proofs.Common.{◌≡◌, inl, inr, ℕ, ◌+◌, List, [], ◌∷◌, Some, Bool, sym, ap, ◌∙◌, subst}
+use Rattle.std.specs.Prelude.{slice_get}
 use Rattle.sp_base.specs.declared.fault.Fault.{Fault}
-use Rattle.sp_tree.specs.Plain.{Expr, Program, Stmt, Empty, Assign, Call, Sequence, If, IfElse, While, Repeat, For, Case, Parallel, Forall, Assume, ReadValue, ReadLine, WriteValue, WriteText, WriteLine, Open, Send, Receive, Stmts, No, And, Typed}
-use Rattle.sp_tree.specs.Uses.{Use, In_stmt, In_stmts, In_loop}
-use Rattle.sp_tree.specs.Interference.{IsFreeOfInterference}
-use Rattle.sp_cell.specs.declared.cell.Cell.{Cell}
-use Rattle.sp_cell.specs.declared.cell.Cell.TheVariants as cell
-use Rattle.sp_cell.specs.declared.spot.Address.{Address as Ptr}
-use Rattle.sp_meaning.specs.Maps.{at_key}
-use Rattle.sp_meaning.specs.Model.{Channel, Cargo, Gives as Given, Takes}
-use Rattle.sp_meaning.specs.Values.{Value, Chan}
-use Rattle.sp_meaning.specs.Own.{Setting, Loc, Held, Tree, Position, Written, Address, Own, Who, Item, Do, First, Again, Test, Leave, Break, Came, Got, Bad, Lost, Long, Work, bind, give, fail, assigned, same_loc, tick}
-use Rattle.sp_meaning.specs.Deeds.{Deed, Went, Beat, Opened, Forked, Offered, Over, Birth, push, push_all, is_range, children, indexed_children}
+use Rattle.sp_tree.specs.Plain.{Program, Stmt, Empty, Assign, Call, Sequence, If, IfElse, While, Repeat, For, Case, Parallel, Forall, Assume, ReadValue, ReadLine, WriteValue, WriteText, WriteLine, Open, Send, Receive, Stmts, No, And, Typed}
+use Rattle.sp_tree.specs.Uses.{Use, In_stmt, In_stmts}
+use Rattle.sp_meaning.specs.Model.{Channel, Cargo}
+use Rattle.sp_meaning.specs.Own.{Held, Address, Own, Item, Do, First, Again, Test, Leave, Break, Came, Got, Bad, Lost, Long, Work, bind, give, fail, tick}
+use Rattle.sp_meaning.specs.Deeds.{Deed, Went, Beat, Opened, Forked, Offered, Over, Birth, push, push_all}
 use Rattle.sp_meaning.specs.Run.{Store, run}
 use Rattle.sp_meaning.proofs.Run.{then_run, run_bind}
-use Rattle.sp_code.specs.declared.code.Parts.{Parts as Code}
-use Rattle.sp_code.specs.declared.instr.Instr.{Instr}
 use Rattle.sp_code.specs.declared.instr.Instr.TheVariants as i
-use Rattle.sp_code.specs.Machine.{Entry, Did, Done, Failed, Stop, Opens, Sends, Receives, Forks, Ends as Ended, Pauses, Ops, Config, At, One, Goes, Stops, Fails, outside, paced, then_go, one, instruction, values_in}
-use Rattle.sp_code.specs.Machine as m
+use Rattle.sp_code.specs.Machine.{Entry, Did, Done, Failed, Stop, Config, At, Fails, outside, paced, then_go, one, instruction}
 use Rattle.sp_code.specs.Turns.{Comes}
-use Rattle.sp_code.specs.Scopes.{Scope, OfIndex, Sort, sort}
-use Rattle.sp_code.specs.Places.{after, after_all, after_value}
-use Rattle.sp_code.specs.Stands.{Stands, HasFork, HasWords, StandsAt, AllAt, ChildrenAt, TurnsAt}
-use Rattle.sp_code.specs.Emitted.{children_tables, child_table}
+use Rattle.sp_code.specs.Scopes.{Scope}
+use Rattle.sp_code.specs.Places.{after, after_all}
+use Rattle.sp_code.specs.Stands.{Stands, HasFork, HasWords, StandsAt, AllAt}
 use Rattle.sp_codegen.specs.Joints.{Joint}
 use Rattle.sp_codegen.specs.Executions.{Execution}
-use Rattle.sp_codegen.specs.Relation.{Relation, Keeps, Placed, Alike, Stood}
-use Rattle.sp_codegen.proofs.Runs.{Breaks, Gives, Known, Ends, stays, goes, comes_on, breaks_after}
+use Rattle.sp_codegen.specs.Following as following
+pub use Rattle.sp_codegen.specs.Following.{cells_in}
+use Rattle.sp_codegen.specs.Relation.{Alike}
+use Rattle.sp_codegen.proofs.Runs.{Gives, Known, Ends, stays, goes, comes_on, breaks_after}
 use Rattle.sp_codegen.proofs.Values.{P, within}
-
-abbrev pub cells_in : Entry → List Cell
-cells_in (m.Number n) = cell.Ordinal n ∷ []
-cells_in (m.Chan c) = cell.Channel c ∷ []
-cells_in (m.Pointer a) = []
-cells_in (m.Cells cs) = cs
-cells_in (m.Link r) = []
-cells_in (m.Reply r) = []
 
 module _ {M : Type 0} (ex : Execution M) where
   open ex use {setting as g, code, moves, shares, Quiet as hush, who as w, Reads as R, operations as ops, relation as rel, free}
@@ -48,9 +32,8 @@ module _ {M : Type 0} (ex : Execution M) where
   abbrev Pl : List Scope → List Joint → (Use → Type 0) → Type 0
   Pl sc js Here = P ex sc js Here
 
-  -- the machine comes from one place to another, and only jumps
-  pub record Slides (pc q : ℕ) (stack : List Entry) : Type 0 where
-    pub by : (n : M) → Comes ops code (At pc stack n) (At q stack n)
+  abbrev pub Slides : ℕ → ℕ → List Entry → Type 0
+  Slides pc q stack = following.Slides ex pc q stack
 
   pub slides : (pc : ℕ) (stack : List Entry) → Slides pc pc stack
   slides pc stack = record { by = λ n. stays ops rel w code (At pc stack n) }
@@ -62,22 +45,10 @@ module _ {M : Type 0} (ex : Execution M) where
   jumps q to stack h = record { by = λ n. goes ops rel w code (ap (λ o. instruction ops code o q stack n) h) }
 
   abbrev pub Turns : Bool → List Scope → ℕ → ℕ → Bool → Stmt → Type 0
-  Turns free sc q x down s = TurnsAt p moves shares (Stands code) (HasFork code) (HasWords code) hush sc q x down (after p (q + 1 + 1) s) (StandsAt p moves shares (Stands code) (HasFork code) (HasWords code) hush free sc (q + 1 + 1) s)
+  Turns free sc q x down s = following.Turns ex free sc q x down s
 
-  -- from this place, with this stack and these frames, the code is that of what is left, and then comes to the end, with the stack base and the frames below
   abbrev pub Follows : ℕ → List Entry → List Joint → ℕ → List Entry → List Joint → List Item → Type 0
-  Follows end base below pc stack fs [] = Slides pc end stack × (stack ≡ base) × (fs ≡ below)
-  Follows end base below pc stack fs (Do s ∷ todo) =
-      (q : ℕ) × (sc : List Scope) × Slides pc q stack × Pl sc fs (In_stmt s) × (StandsAt p moves shares (Stands code) (HasFork code) (HasWords code) hush (outside stack) sc q s) × Follows end base below (after p q s) stack fs todo
-  Follows end base below pc stack fs (First x low high down s ∷ todo) =
-      (q : ℕ) × (sc : List Scope) × (st : List Entry) × Slides pc q stack × (stack ≡ m.Number high ∷ m.Number low ∷ st) × Pl sc fs (In_loop x s) × (Turns (outside st) sc q x down s) × Follows end base below (after p (q + 1 + 1) s + 1) st fs todo × (is_range down low high ≡ true)
-  Follows end base below pc stack fs (Again x limit down s ∷ todo) =
-      (q : ℕ) × (sc : List Scope) × (st : List Entry) × Slides pc (after p (q + 1 + 1) s) stack × (stack ≡ m.Number limit ∷ st) × Pl sc fs (In_loop x s) × (Turns (outside st) sc q x down s) × Follows end base below (after p (q + 1 + 1) s + 1) st fs todo
-  Follows end base below pc stack fs (Test s e ∷ todo) =
-      (q : ℕ) × (sc : List Scope) × Slides pc (after p (q + 1) s) stack × Pl sc fs (In_stmt (Repeat s e)) × (StandsAt p moves shares (Stands code) (HasFork code) (HasWords code) hush (outside stack) sc q (Repeat s e)) × Follows end base below (after p q (Repeat s e)) stack fs todo
-  Follows end base below pc stack fs (Leave ∷ todo) =
-      (q r : ℕ) × (st : List Entry) × (f : Joint) × (rest : List Joint) × Slides pc q stack × (stack ≡ m.Link r ∷ st) × (slice_get code.instrs q ≡ Some i.Return) × (fs ≡ f ∷ rest) × Follows end base below r st rest todo × rel.Mine f rest
-  Follows end base below pc stack fs (Break f ∷ todo) = ⊥
+  Follows end base below pc stack fs todo = following.Follows ex end base below pc stack fs todo
 
   pub slide_follows : (end : ℕ) (base : List Entry) (below : List Joint) (pc q : ℕ) (stack : List Entry) (fs : List Joint) (todo : List Item) → Slides pc q stack → Follows end base below q stack fs todo → Follows end base below pc stack fs todo
   slide_follows end base below pc q stack fs [] h k = (slides_on h k.0, k.1, k.2)
@@ -127,45 +98,20 @@ module _ {M : Type 0} (ex : Execution M) where
   outside_follows end base below pc stack fs (Leave ∷ todo) h = ap outside h.6 ∙ outside_follows end base below h.1 h.2 h.4 todo h.9
   outside_follows end base below pc stack fs (Break f ∷ todo) h = absurd h
 
-  -- what is sent or received, at the stop
   abbrev pub CargoIs : List Joint → Channel → ℕ → Cargo Held Address → Stop → Type 0
-  CargoIs fs c k (Given (Tree v)) z = (j : ℕ) × (e : Entry) × (z ≡ Sends j k (cells_in e)) × rel.Named c j × Stood rel p (sort p k) k v e
-  CargoIs fs c k (Given (Position n)) z = ⊥
-  CargoIs fs c k (Given (Written bs)) z = ⊥
-  CargoIs fs c k (Takes a) z = (j : ℕ) × (t : Ptr) × (z ≡ Receives j k t) × rel.Named c j × (a.kind ≡ k) × rel.Points fs a t × R a.spot
+  CargoIs fs c k x z = following.CargoIs ex fs c k x z
 
-  -- the children of a parallel statement with their code, which begins at q
   abbrev pub ParallelIs : Bool → List Joint → List Birth → Stop → Type 0
-  ParallelIs free fs bs z =
-      (ss : Stmts) × (table q : ℕ) × (sc : List Scope) × (z ≡ Forks table (pos 0) (length (children_tables p moves shares q ss))) × HasFork code table (record { children = children_tables p moves shares q ss }) × (bs ≡ children ss)
-      × ChildrenAt p moves shares (Stands code) (HasFork code) (HasWords code) hush free sc q ss × Pl sc fs (In_stmt (Parallel ss))
+  ParallelIs free fs bs z = following.ParallelIs ex free fs bs z
 
-  -- those of a forall, of which there is one for each value
   abbrev pub ForallIs : Bool → List Joint → List Birth → Stop → Type 0
-  ForallIs free fs bs z =
-      (x : ℕ) × (from to : Expr) × (s : Stmt) × (lo hi : ℤ) × (table q : ℕ) × (sc : List Scope) × (z ≡ Forks table lo (values_in lo hi)) × HasFork code table (record { children = child_table p moves shares q (Some x) s ∷ [] })
-      × (bs ≡ indexed_children x s lo (nat_abs ((hi -ℤ lo) +ℤ pos 1))) × (int_lt hi lo ≡ false)
-      × StandsAt p moves shares (Stands code) (HasFork code) (HasWords code) hush free (OfIndex x ∷ sc) q s × (slice_get code.instrs (after p q s) ≡ Some i.End) × Pl sc fs (In_stmt (Forall x from to s))
+  ForallIs free fs bs z = following.ForallIs ex free fs bs z
 
   abbrev pub ForkIs : Bool → List Joint → List Birth → Stop → Type 0
-  ForkIs free fs bs z = ParallelIs free fs bs z ⊎ ForallIs free fs bs z
+  ForkIs free fs bs z = following.ForkIs ex free fs bs z
 
-  -- one step of a process: where the machine stands after it, or at which stop
   abbrev pub Made : Config M → (List Item → List Joint → ℕ → List Entry → Type 0) → Came Deed × Store → Type 0
-  Made c Q (Got (Went todo) o, s) = (pc : ℕ) × (st : List Entry) × (n : M) × (fs : List Joint) × Comes ops code c (At pc st n) × rel.Stand fs o s n × Q todo fs pc st
-  Made c Q (Got (Beat todo) o, s) =
-      (pc : ℕ) × (st : List Entry) × (n : M) × (fs : List Joint) × (d : Config M) × Comes ops code c d × (one ops code d ≡ paced ops code pc st n) × rel.Stand fs o s n × Q todo fs pc st
-  Made c Q (Got (Opened todo) o, s) =
-      (pc : ℕ) × (st : List Entry) × (n : M) × (fs : List Joint) × (d : Config M) × (a : Address) × (t : Ptr) × (s0 : Store) × Comes ops code c d × (one ops code d ≡ Stops (Opens t) (At pc st n)) × rel.Stand fs o s0 n × rel.Points fs a t × R a.spot
-      × (s ≡ at_key same_loc a.spot (assigned a (s0 a.spot) (Tree (Chan (record { owner = w.name; nth = w.opens })))) s0) × Q todo fs pc st × (outside st ≡ true)
-  Made c Q (Got (Forked bs todo) o, s) =
-      (pc : ℕ) × (st : List Entry) × (n : M) × (fs : List Joint) × (d : Config M) × (z : Stop) × Comes ops code c d × (one ops code d ≡ Stops z (At pc st n)) × rel.Stand fs o s n × Q todo fs pc st × (outside st ≡ true) × ForkIs (outside st) fs bs z × (nat_lt o.depth g.limits.depth ≡ true)
-  Made c Q (Got (Offered ch k g todo) o, s) =
-      (pc : ℕ) × (st : List Entry) × (n : M) × (fs : List Joint) × (d : Config M) × (z : Stop) × Comes ops code c d × (one ops code d ≡ Stops z (At pc st n)) × rel.Stand fs o s n × CargoIs fs ch k g z × Q todo fs pc st × (outside st ≡ true)
-  Made c Q (Got Over o, s) = (pc : ℕ) × (st : List Entry) × (n : M) × (fs : List Joint) × Comes ops code c (At pc st n) × (one ops code (At pc st n) ≡ Stops Ended (At pc st n)) × rel.Stand fs o s n × Q [] fs pc st × (outside st ≡ true)
-  Made c Q (Bad f, s) = Breaks ops rel w code c f
-  Made c Q (Lost, s) = ⊥
-  Made c Q (Long, s) = Unit {0}
+  Made c Q r = following.Made ex c Q r
 
   pub record Makes (c : Config M) (o : Own) (s : Store) (Q : List Item → List Joint → ℕ → List Entry → Type 0) (h : Work Deed) : Type 0 where
     pub by : Made c Q (run h w o s)

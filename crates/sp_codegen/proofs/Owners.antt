@@ -1,5 +1,5 @@
 -- Owners of frames: no process has a frame of one with a longer name.
-use Rattle.std.proofs.Common.{◌≡◌, ◌⊎◌, ⊎_elim, ℕ, suc, ◌≤◌, List, [], ◌∷◌, length, ap, subst, arith}
+use Rattle.std.proofs.Common.{◌≡◌, ⊎_elim, ℕ, suc, ◌≤◌, List, [], ◌∷◌, length, subst, arith}
 use Rattle.sp_codegen.specs.Joints.{Joint, from}
 use Rattle.sp_codegen.specs.Standing.{OwnersWithin}
 use Rattle.sp_codegen.proofs.Joints.{from_cases}

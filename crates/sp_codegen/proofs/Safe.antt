@@ -1,21 +1,14 @@
 -- A turn that ends as the meaning's does never lacks what it needs.
-use Rattle.std.proofs.Common.{◌≡◌, ℕ, zero, suc, List, [], ◌∷◌, Option, Some, Bool, true, refl, sym, ap, ◌∙◌, subst}
-use Rattle.std.specs.Prelude.{slice_get}
-use Rattle.sp_base.specs.declared.fault.Fault.{Fault}
-use Rattle.sp_tree.specs.Plain.{Stmt}
-use Rattle.sp_tree.specs.Interference.{IsFreeOfInterference}
-use Rattle.sp_meaning.specs.Own.{Setting, Loc, Own, Who, Came, Got, Bad, Lost, Long}
-use Rattle.sp_meaning.specs.Own as own
+use Rattle.std.proofs.Common.{◌≡◌, ℕ, zero, suc, List, sym, ap, ◌∙◌, subst}
+use Rattle.sp_meaning.specs.Own.{Came, Got, Bad, Lost, Long}
 use Rattle.sp_meaning.specs.Deeds.{Went, Beat, Opened, Forked, Offered, Over}
 use Rattle.sp_meaning.specs.Run.{Store}
 use Rattle.sp_meaning.specs.Turn as source
-use Rattle.sp_code.specs.declared.code.Layout.{Layout}
 use Rattle.sp_code.specs.declared.code.Parts.{Parts as Code}
-use Rattle.sp_code.specs.Machine.{Entry, Ops, Config, At, One, Goes, Stops, Fails, Stuck, one, layout_of}
+use Rattle.sp_code.specs.Machine.{Entry, Ops, Config, At, One, Goes, Stops, Fails, Stuck, one}
 use Rattle.sp_code.specs.Turns.{ComesIn, Comes, IsSafe}
 use Rattle.sp_codegen.specs.Joints.{Joint}
 use Rattle.sp_codegen.specs.Executions.{Execution}
-use Rattle.sp_codegen.specs.Relation.{Relation, Keeps}
 use Rattle.sp_codegen.proofs.Turn.{Turned}
 
 module _ {M : Type 0} (ops : Ops M) (code : Code) where

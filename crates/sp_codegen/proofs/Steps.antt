@@ -1,35 +1,28 @@
 -- Statements, calls and forks: one step of the meaning is a stretch of the code.
-use Rattle.std.proofs.Common.{◌≡◌, ◌⊎◌, inl, inr, ℕ, zero, suc, ◌+◌, ◌<◌, ◌*◌, ◌==◌, ℤ, List, [], ◌∷◌, ◌++◌, Option, Some, None, Bool, true, false, ◌&&◌, if◌then◌else◌, drop, take, length, refl, sym, ap, ◌∙◌, subst, arith, eqb-true, eq-eqb}
-use Rattle.std.specs.Prelude.{pos, ◌+ℤ◌, ◌-ℤ◌, nat_abs, int_lt, int_le, slice_get, nat_lt, not, map, ◌%◌}
+use Rattle.std.proofs.Common.{◌≡◌, inl, inr, ℕ, zero, suc, ◌+◌, ◌<◌, ◌==◌, ℤ, List, [], ◌∷◌, Option, Some, None, Bool, true, false, ◌&&◌, if◌then◌else◌, drop, take, length, refl, sym, ap, ◌∙◌, subst, arith, eqb-true}
+use Rattle.std.specs.Prelude.{pos, ◌+ℤ◌, ◌-ℤ◌, nat_abs, int_lt, int_le, slice_get, nat_lt, not, ◌%◌}
 use Rattle.std.specs.Fmt.{signed_decimal}
-use Rattle.sp_base.specs.declared.fault.Fault.{Fault}
 use Rattle.sp_base.specs.declared.fault.Fault.TheVariants as fault
 use Rattle.sp_tree.specs.declared.checked.KindOf.{KindOf}
 use Rattle.sp_tree.specs.declared.checked.KindOf.TheVariants as kind
-use Rattle.sp_tree.specs.declared.checked.Role.{Role}
-use Rattle.sp_tree.specs.declared.checked.Role.TheVariants as role
-use Rattle.sp_tree.specs.Plain.{Expr, Typed, ExprForm, Number, Read, Unary, Binary, Apply, Standard, AtInput, Var, Entire, Selectors, Actuals, Program, Variable, Block, Stmt, Empty, Assign, Call, Sequence, If, IfElse, While, Repeat, For, Case, Parallel, Forall, Assume, ReadValue, ReadLine, WriteValue, WriteText, WriteLine, Open, Send, Receive, Stmts, No, And, On, Arms, NoArm, Or}
+use Rattle.sp_tree.specs.Plain.{Expr, Typed, ExprForm, Number, Read, Unary, Binary, Apply, Standard, AtInput, Var, Entire, Actuals, Program, Block, Stmt, Empty, Assign, Call, Sequence, If, IfElse, While, Repeat, For, Case, Parallel, Forall, Assume, ReadValue, ReadLine, WriteValue, WriteText, WriteLine, Open, Send, Receive, On, Arms, NoArm, Or}
 use Rattle.sp_tree.specs.Operators.{same_ordinal}
-use Rattle.sp_tree.specs.Uses.{Use, Aims, Sees, In_stmt, In_stmts, In_arms, In_loop, In_expr, In_form, In_width, In_call, In_actuals}
-use Rattle.sp_tree.specs.Interference.{IsFreeOfInterference}
-use Rattle.sp_cell.specs.declared.cell.Cell.{Cell}
+use Rattle.sp_tree.specs.Uses.{Use, Aims, In_stmt, In_arms, In_loop, In_form, In_width, In_call}
 use Rattle.sp_cell.specs.declared.cell.Cell.TheVariants as cell
 use Rattle.sp_cell.specs.declared.spot.Address.{Address as Ptr}
 use Rattle.sp_meaning.specs.Maps.{at_key}
 use Rattle.sp_meaning.specs.Model.{Channel, Takes, Gives as Offers}
-use Rattle.sp_meaning.specs.Values.{Value, Undefined, Ordinal, Chan, Parts, get_at}
-use Rattle.sp_meaning.specs.Own.{Setting, Loc, Input, Output, Held, Tree, Position, Address, Home, OfBlock, OfIndex, Frame, Own, Who, Item, Do, First, Again, Test, Leave, Break, Came, Got, Bad, Lost, Long, Work, bind, give, fail, lost, mine, who, or_lost, fetch, assign, assigned, same_loc, tick, value_in, position_in, is_block, seek}
-use Rattle.sp_meaning.specs.Own as own
+use Rattle.sp_meaning.specs.Values.{Value, Ordinal, Chan, get_at}
+use Rattle.sp_meaning.specs.Own.{Input, Output, Tree, Address, OfBlock, Frame, Own, Item, Do, First, Again, Test, Leave, Came, Got, Bad, Lost, Long, Work, bind, give, fail, mine, who, or_lost, fetch, assign, assigned, same_loc, tick, value_in, is_block, seek}
 use Rattle.sp_meaning.specs.Owning.{stands, stands_at, stands_by, cell_of as cell_in, find, Linked, Sound, Gave}
 use Rattle.sp_meaning.specs.Texts.{Taken, Takes as Took, Fails as Faulty, number_in, char_in, line_length, padded, truth_text}
-use Rattle.sp_meaning.specs.Eval.{Place, At, Fixed, Given, Calls, ordinal, channel, checked, kind_at, read_at, address_of, place_of, left_of, value, form_value, place, actuals, address, ordinal_of, in_frame, place_by}
-use Rattle.sp_meaning.specs.Deeds.{Deed, Went, Beat, Opened, Forked, Offered, Over, Birth, push, push_all, has, arm_for, if_true, is_range, is_before, next_value, goes_on, in_width, shown, taken_by, children, indexed_children, enter, leave, write, advance, take_in, width, peek, turn_of, fork, chosen, start, act, settle, references}
+use Rattle.sp_meaning.specs.Eval.{Place, At, Fixed, Given, Calls, channel, checked, kind_at, read_at, address_of, place_of, value, form_value, place, address, ordinal_of, in_frame, place_by}
+use Rattle.sp_meaning.specs.Deeds.{Deed, Went, Beat, Opened, Forked, Offered, Birth, push, push_all, has, arm_for, if_true, is_range, in_width, shown, taken_by, children, indexed_children, enter, write, advance, take_in, width, turn_of, fork, chosen, start, references}
 use Rattle.sp_meaning.specs.Run.{Store, run}
 use Rattle.sp_meaning.proofs.Run.{then_run, run_bind}
 use Rattle.sp_meaning.proofs.Static.{sought}
 use Rattle.sp_meaning.proofs.Entered.{fresh, fresh_linked, fresh_sound}
 use Rattle.sp_code.specs.declared.code.Layout.{Layout}
-use Rattle.sp_code.specs.declared.code.Parts.{Parts as Code}
 use Rattle.sp_code.specs.declared.instr.Instr.{Instr}
 use Rattle.sp_code.specs.declared.instr.Instr.TheVariants as i
 use Rattle.sp_code.specs.Machine.{Entry, Did, Done, Failed, Stop, Opens, Sends, Receives, Forks, Ops, Config, One, Goes, Stops, Fails, outside, when, there, paced, then_go, values_in, fit_formals, instruction, one, layout_of}
@@ -37,20 +30,19 @@ use Rattle.sp_code.specs.Machine as m
 use Rattle.sp_code.specs.Turns.{Comes}
 use Rattle.sp_code.specs.Scopes.{Sort, Ordinals, Channels, Many, NoSort, Scope, sort, sort_by, size, slot, kind_of, level, is_given, scopes_of, scopes_by}
 use Rattle.sp_code.specs.Scopes as places
-use Rattle.sp_code.specs.Places.{after_value, after_form, after_var, after_actuals, after_right, after_width, after_test, after_tests, after, after_all, after_arms}
+use Rattle.sp_code.specs.Places.{after_value, after_form, after_var, after_actuals, after_right, after_width, after_test, after_tests, after}
 use Rattle.sp_code.specs.Emitted.{write_instr, end_instr}
 use Rattle.sp_code.specs.Emitted as emitted
-use Rattle.sp_code.specs.Stands.{Stands, HasFork, HasWords, IsTarget, ForVar, RightAt, PlaceAt, StandsAt, AllAt, ArmsAt, TestAt, TestsAt, TurnsAt, OrdinalAt, WidthAt, ReadsAt, CallAt, Around, Hushed, IsWritten, BlockAt, BlocksAt}
-use Rattle.sp_codegen.specs.Joints.{Joint, sources, from, up_at, HomeIs, Chain}
-use Rattle.sp_codegen.specs.Shapes.{CellIs}
+use Rattle.sp_code.specs.Stands.{Stands, HasFork, HasWords, ForVar, RightAt, StandsAt, ArmsAt, TestAt, TestsAt, TurnsAt, WidthAt, ReadsAt, CallAt, Around, Hushed, IsWritten, BlockAt, BlocksAt}
+use Rattle.sp_codegen.specs.Joints.{Joint, sources, from, HomeIs, Chain}
 use Rattle.sp_codegen.specs.Executions.{Execution}
-use Rattle.sp_codegen.specs.Relation.{Relation, Keeps, Placed, Stood, OneCell, cell_of, Alike, Entered, GivensAre, Owns, frame_for}
-use Rattle.sp_codegen.proofs.Runs.{Breaks, Gives, Known, Ends, ends_after, stays, goes, comes_on, gives_after, gives_bind, gives_known, known_bind, gives_give, gives_fail, gives_by, gives_alike}
-use Rattle.sp_codegen.proofs.Joints.{sources_length, up_from, from_length}
-use Rattle.sp_codegen.proofs.Chains.{block_agrees, Found, found, seek_all, find_in}
+use Rattle.sp_codegen.specs.Relation.{Stood, OneCell, cell_of, Entered, GivensAre, Owns, frame_for}
+use Rattle.sp_codegen.proofs.Runs.{Gives, Known, stays, goes, comes_on, known_bind, gives_fail, gives_alike}
+use Rattle.sp_codegen.proofs.Joints.{sources_length, up_from}
+use Rattle.sp_codegen.proofs.Chains.{block_agrees, found, seek_all, find_in}
 use Rattle.sp_codegen.proofs.Closing.{length_map}
-use Rattle.sp_codegen.proofs.Values.{P, pushed, within, MayRead, may_see, may_aim, at_console, CallsMeet, at_one, value_gives, form_gives, place_gives, address_gives, ordinal_gives, actuals_gives, rest_of, left_known, kind_known, or_known, fetch_known, visible_known, block_home, Top, PlaceIs, target_gives, var_of, selectors_of, IsMany}
-use Rattle.sp_codegen.proofs.Follows.{Slides, slides, jumps, Follows, slide_follows, push_follows, push_all_follows, outside_follows, cells_in, CargoIs, ForkIs, Makes, Made, makes_after, makes_bind, makes_known, makes_by, makes_went, makes_fail, makes_tick}
+use Rattle.sp_codegen.proofs.Values.{P, pushed, within, may_see, at_console, CallsMeet, at_one, value_gives, form_gives, place_gives, address_gives, ordinal_gives, actuals_gives, rest_of, left_known, kind_known, or_known, fetch_known, visible_known, block_home, PlaceIs, IsMany}
+use Rattle.sp_codegen.proofs.Follows.{slides, jumps, Follows, slide_follows, push_follows, push_all_follows, cells_in, CargoIs, ForkIs, Makes, Made, makes_after, makes_bind, makes_known, makes_by, makes_went, makes_fail, makes_tick}
 
 abbrev rev_onto : List Entry → List Entry → List Entry
 rev_onto [] ws = ws

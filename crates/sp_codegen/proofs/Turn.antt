@@ -1,50 +1,43 @@
 -- Loops that are left, items, calls of functions, and a turn.
-use Rattle.std.proofs.Common.{◌≡◌, ◌⊎◌, inl, inr, ℕ, zero, suc, ◌+◌, ◌<◌, ◌*◌, ◌==◌, ℤ, List, [], ◌∷◌, ◌++◌, Option, Some, None, Bool, true, false, ◌&&◌, if◌then◌else◌, drop, take, length, refl, sym, ap, ◌∙◌, subst, arith}
+use Rattle.std.proofs.Common.{◌≡◌, inl, ℕ, zero, suc, ◌+◌, ◌==◌, ℤ, List, [], ◌∷◌, Option, Some, None, Bool, true, false, if◌then◌else◌, drop, refl, sym, ap, ◌∙◌, subst, arith}
 use Rattle.std.proofs.lemmas.Bool.Decides.{nat_tests}
-use Rattle.std.specs.Prelude.{pos, ◌+ℤ◌, ◌-ℤ◌, nat_abs, int_lt, int_le, slice_get, nat_lt, not}
-use Rattle.sp_base.specs.declared.fault.Fault.{Fault}
+use Rattle.std.specs.Prelude.{pos, int_le, slice_get}
 use Rattle.sp_base.specs.declared.fault.Fault.TheVariants as fault
 use Rattle.sp_tree.specs.declared.checked.KindOf.{KindOf}
-use Rattle.sp_tree.specs.declared.checked.KindOf.TheVariants as kind
-use Rattle.sp_tree.specs.declared.checked.Role.{Role}
 use Rattle.sp_tree.specs.declared.checked.Role.TheVariants as role
 use Rattle.sp_tree.specs.Plain.{Actuals, Program, Variable, Block, Stmt, Repeat}
-use Rattle.sp_tree.specs.Uses.{Use, Aims, Sees, In_stmt, In_loop, In_call}
-use Rattle.sp_tree.specs.Interference.{IsFreeOfInterference}
+use Rattle.sp_tree.specs.Uses.{In_loop, In_call}
 use Rattle.sp_cell.specs.declared.cell.Cell.{Cell}
 use Rattle.sp_cell.specs.declared.cell.Cell.TheVariants as cell
 use Rattle.sp_cell.specs.declared.spot.Address.{Address as Ptr}
-use Rattle.sp_meaning.specs.Maps.{at_key}
 use Rattle.sp_meaning.specs.Values.{Value, Undefined, Ordinal, Chan, Parts, get_at}
 use Rattle.sp_meaning.specs.Own.{Setting, Loc, Held, Address, Home, OfBlock, OfIndex, Frame, Own, Who, Item, Do, First, Again, Test, Leave, Break, Came, Got, Bad, Lost, Long, Work, bind, give, fail, mine, fetch, same_loc, value_in, is_block, seek}
 use Rattle.sp_meaning.specs.Own as own
-use Rattle.sp_meaning.specs.Owning.{Linked, Gave}
-use Rattle.sp_meaning.specs.Eval.{Place, At, Fixed, Given, Calls, as_ordinal, ordinal, checked, ordinal_read, kind_at, read_at, address_of, place_of, ordinal_of, in_frame, place_by}
+use Rattle.sp_meaning.specs.Owning.{Gave}
+use Rattle.sp_meaning.specs.Eval.{At, Given, Calls, ordinal, checked, ordinal_read, kind_at, read_at, address_of, place_of, in_frame, place_by}
 use Rattle.sp_meaning.specs.Deeds.{Deed, Went, Beat, Opened, Forked, Offered, Over, push, is_before, next_value, goes_on, enter, leave, peek, turn_of, act, settle, without_frame, answer_of, left_by, call_by, rest_by, all, deed_by, deed}
 use Rattle.sp_meaning.specs.Run.{Store, run}
 use Rattle.sp_meaning.specs.SuperPascal.{enough}
 use Rattle.sp_meaning.specs.Turn as source
 use Rattle.sp_meaning.proofs.Run.{then_run, run_bind}
 use Rattle.sp_code.specs.declared.code.Layout.{Layout}
-use Rattle.sp_code.specs.declared.code.Parts.{Parts as Code}
-use Rattle.sp_code.specs.declared.instr.Instr.{Instr}
 use Rattle.sp_code.specs.declared.instr.Instr.TheVariants as i
 use Rattle.sp_code.specs.Machine.{Entry, Did, Done, Failed, Stop, Ops, Config, One, Goes, Stops, Fails, outside, when, there, ordinal_in, paced, then_go, one, layout_of}
 use Rattle.sp_code.specs.Machine as m
-use Rattle.sp_code.specs.Turns.{Comes}
 use Rattle.sp_code.specs.Scopes.{Sort, Ordinals, Channels, Many, NoSort, Scope, sort, sort_by, slot, level, is_given, scopes_of}
 use Rattle.sp_code.specs.Scopes as places
 use Rattle.sp_code.specs.Places.{after_value, after}
-use Rattle.sp_code.specs.Stands.{Stands, HasFork, HasWords, StandsAt, TurnsAt, CallAt, Around}
-use Rattle.sp_codegen.specs.Joints.{Joint, sources, from, up_at, Chain}
+use Rattle.sp_code.specs.Stands.{Stands, HasFork, HasWords, TurnsAt, CallAt, Around}
+use Rattle.sp_codegen.specs.Joints.{Joint, sources, Chain}
 use Rattle.sp_codegen.specs.Shapes.{CellIs}
 use Rattle.sp_codegen.specs.Executions.{Execution}
-use Rattle.sp_codegen.specs.Relation.{Relation, Keeps, Placed, Stood, OneCell, Entered, GivensAre, Owns, frame_for}
-use Rattle.sp_codegen.proofs.Runs.{Breaks, Gives, Known, Ends, ends_after, stays, goes, comes_on, breaks_after, gives_after, gives_bind, gives_known, known_bind, gives_give, gives_by}
-use Rattle.sp_codegen.proofs.Chains.{block_agrees, Found, found, seek_all}
-use Rattle.sp_codegen.proofs.Values.{P, pushed, within, CallsMeet, ordinal_gives, kind_known, or_known, fetch_known, visible_known, Top, checked_as, read_as}
-use Rattle.sp_codegen.proofs.Follows.{Slides, slides, Follows, push_follows, outside_follows, Makes, Made, made_after, makes_after, makes_bind, makes_known, makes_by, makes_went}
-use Rattle.sp_codegen.proofs.Steps.{C, G, K, S, Pl, Oks, After, one_at, went_if, branch, makes_assoc, ForPlace, for_place, turn_makes, first_one, start_makes, BlockIs, Blocks, calls_to, CallFinds, call_finds, return_at, address_known, mine_known}
+use Rattle.sp_codegen.specs.Following as following
+use Rattle.sp_codegen.specs.Relation.{Stood, OneCell, Entered, GivensAre, frame_for}
+use Rattle.sp_codegen.proofs.Runs.{Known, Ends, ends_after, stays, goes, comes_on, breaks_after, gives_after, gives_bind, gives_known, known_bind, gives_give, gives_by}
+use Rattle.sp_codegen.proofs.Chains.{block_agrees, found, seek_all}
+use Rattle.sp_codegen.proofs.Values.{pushed, within, ordinal_gives, kind_known, or_known, fetch_known, visible_known, Top, checked_as, read_as}
+use Rattle.sp_codegen.proofs.Follows.{slides, Follows, push_follows, outside_follows, Made, made_after, makes_after, makes_bind, makes_known, makes_by, makes_went}
+use Rattle.sp_codegen.proofs.Steps.{C, G, K, S, Pl, Oks, After, one_at, went_if, branch, makes_assoc, ForPlace, for_place, turn_makes, first_one, start_makes, BlockIs, Blocks, calls_to, CallFinds, call_finds, return_at, address_known}
 
 abbrev IsTrue : Bool → Type 0
 IsTrue true = ⊥
@@ -412,12 +405,7 @@ module _ {M : Type 0} (ex : Execution M) where
 
   -- where a turn ends: the machine comes to the same stop, and stands where what is left stands
   abbrev pub Turned : Config M → ℕ → List Entry → List Joint → Came source.Stop × Store → Type 0
-  Turned c end base below (Got (source.Paused todo) o, s) =
-      (pc : ℕ) × (st : List Entry) × (n : M) × (fs : List Joint) × (d : Config M) × C ex c d × (one ops code d ≡ Stops m.Pauses (m.At pc st n)) × rel.Stand fs o s n × F end base below pc st fs todo
-  Turned c end base below (Got (source.Stops d) o, s) = Made ex c (After ex end base below) (Got d o, s)
-  Turned c end base below (Bad f, s) = Breaks ops rel w code c f
-  Turned c end base below (Lost, s) = ⊥
-  Turned c end base below (Long, s) = Unit {0}
+  Turned c end base below r = following.Turned ex c end base below r
 
   turned_after : (c d : Config M) (end : ℕ) (base : List Entry) (below : List Joint) (r : Came source.Stop × Store) → C ex c d → Turned d end base below r → Turned c end base below r
   turned_after c d end base below (Got (source.Paused todo) o, s) h k = (k.0, k.1, k.2, k.3, k.4, comes_on ops rel w code h k.5, k.6, k.7, k.8)

@@ -1,8 +1,7 @@
 -- The code of an expression gives its value, that of a variable its address.
-use Rattle.std.proofs.Common.{◌≡◌, ◌⊎◌, inl, inr, ℕ, zero, suc, ◌+◌, ◌*◌, ◌==◌, ℤ, List, [], ◌∷◌, ◌++◌, Option, Some, None, Bool, true, false, ◌&&◌, if◌then◌else◌, drop, length, refl, sym, ap, ◌∙◌, subst, arith}
+use Rattle.std.proofs.Common.{◌≡◌, inl, inr, ℕ, ◌+◌, ◌*◌, ◌==◌, ℤ, List, [], ◌∷◌, ◌++◌, Option, Some, None, Bool, true, false, ◌&&◌, if◌then◌else◌, drop, length, refl, sym, ap, ◌∙◌, subst, arith}
 use Rattle.std.proofs.lemmas.Bool.Decides.{nat_tests}
 use Rattle.std.specs.Prelude.{pos, ◌-ℤ◌, nat_abs, int_le, not, slice_get}
-use Rattle.sp_base.specs.declared.fault.Fault.{Fault}
 use Rattle.sp_base.specs.declared.fault.Fault.TheVariants as fault
 use Rattle.sp_tree.specs.declared.checked.KindOf.{KindOf}
 use Rattle.sp_tree.specs.declared.checked.KindOf.TheVariants as kind
@@ -15,23 +14,19 @@ use Rattle.sp_tree.specs.declared.operators.BinaryOp.TheVariants as binary
 use Rattle.sp_tree.specs.declared.operators.StandardFn.{StandardFn}
 use Rattle.sp_tree.specs.declared.operators.StandardFn.TheVariants as standard
 use Rattle.sp_tree.specs.Operators.{Worked, Yields, Refuses, truth, ranged, successor, predecessor, absolute, square, is_odd, unary_op, binary_op, least, greatest}
-use Rattle.sp_tree.specs.Plain.{Expr, Typed, ExprForm, Number, Read, Unary, Binary, Apply, Standard, AtInput, Var, Entire, Index, Field, Selectors, Whole, Select, ByValue, ByReference, Actuals, Nothing, Pass, Program, Variable, Block, Stmt}
+use Rattle.sp_tree.specs.Plain.{Expr, Typed, ExprForm, Number, Read, Unary, Binary, Apply, Standard, AtInput, Var, Entire, Index, Field, Selectors, Whole, Select, ByValue, ByReference, Actuals, Nothing, Pass, Program, Variable, Block}
 use Rattle.sp_tree.specs.Uses.{Use, Aims, Sees, In_expr, In_form, In_target, In_selectors, In_actuals, In_call}
-use Rattle.sp_tree.specs.Sets.{Reach}
-use Rattle.sp_tree.specs.Interference.{IsFreeOfInterference}
 use Rattle.sp_cell.specs.declared.cell.Cell.{Cell}
 use Rattle.sp_cell.specs.declared.cell.Cell.TheVariants as cell
 use Rattle.sp_cell.specs.declared.spot.Address.{Address as Ptr}
 use Rattle.sp_meaning.specs.Model.{Channel, same_channel}
 use Rattle.sp_meaning.specs.Values.{Value, Undefined, Ordinal, Chan, Parts, get_at}
-use Rattle.sp_meaning.specs.Own.{Setting, Loc, Input, Held, Address, Home, OfBlock, OfIndex, Frame, Own, Who, Came, Got, Bad, Lost, Long, Work, bind, give, fail, lost, or_lost, visible, fetch, is_block, is_index, seek, newest, value_in, position_in, referred}
-use Rattle.sp_meaning.specs.Own as own
-use Rattle.sp_meaning.specs.Owning.{stands, stands_at, stands_by, cell_of, reference_of, spot_of, find, console, Gave, Sound, Linked}
+use Rattle.sp_meaning.specs.Own.{Setting, Loc, Input, Address, Home, OfBlock, OfIndex, Frame, Own, Work, bind, give, fail, lost, or_lost, visible, fetch, is_block, is_index, seek, newest, value_in, position_in, referred}
+use Rattle.sp_meaning.specs.Owning.{stands, stands_at, stands_by, cell_of, reference_of, spot_of, find, console, Gave}
 use Rattle.sp_meaning.specs.Texts.{at_line_end}
 use Rattle.sp_meaning.specs.Eval.{Place, At, Fixed, Given, ValueOf, PlaceOf, Calls, work_of, as_ordinal, ordinal, channel, channels_op, operate, standard_op, input_op, ordinal_read, channel_read, checked, element_at, field_kind, kind_at, indexed, fielded, read_at, address_of, in_frame, index_in, place_by, place_of, left_of, value, form_value, place, selected, actuals, address, ordinal_of}
 use Rattle.sp_meaning.specs.Run.{Store, run}
 use Rattle.sp_meaning.proofs.Within.{part}
-use Rattle.sp_code.specs.declared.code.Parts.{Parts as Code}
 use Rattle.sp_code.specs.declared.instr.Instr.{Instr}
 use Rattle.sp_code.specs.declared.instr.Instr.TheVariants as i
 use Rattle.sp_code.specs.Machine.{further, Entry, Ops, Config, One, Goes, Fails, Stuck, when, there, worked, on_two, ordinal_in, channel_in, instruction, one}
@@ -41,13 +36,13 @@ use Rattle.sp_code.specs.Scopes.{Sort, Ordinals, Channels, Many, NoSort, Scope, 
 use Rattle.sp_code.specs.Scopes as places
 use Rattle.sp_code.specs.Places.{after_value, after_form, after_var, after_selectors, after_actuals, after_unary, after_standard}
 use Rattle.sp_code.specs.Emitted.{binary_instr}
-use Rattle.sp_code.specs.Stands.{Stands, HasFork, HasWords, VarRole, VarAt, NoIndex, IsTarget, ReadAt, UnaryAt, Operands, StandardAt, InputAt, CallAt, Formal, TakesChannels, ValueAt, FormAt, PlaceAt, SelectedAt, ActualsAt, OrdinalAt}
+use Rattle.sp_code.specs.Stands.{Stands, HasFork, HasWords, VarRole, VarAt, NoIndex, IsTarget, ReadAt, UnaryAt, Operands, StandardAt, InputAt, CallAt, TakesChannels, ValueAt, FormAt, PlaceAt, SelectedAt, ActualsAt, OrdinalAt}
 use Rattle.sp_codegen.specs.Joints.{Joint, sources, up_at, Chain}
 use Rattle.sp_codegen.specs.Shapes.{CellIs, Flat}
 use Rattle.sp_codegen.specs.Executions.{Execution}
-use Rattle.sp_codegen.specs.Relation.{Relation, Keeps, Placed, Stood, GivenIs, GivensAre, Owns, OneCell}
-use Rattle.sp_codegen.proofs.Runs.{Breaks, Gives, Known, stays, goes, gives_after, gives_bind, gives_known, known_bind, gives_give, gives_fail, gives_by, gives_alike}
-use Rattle.sp_codegen.proofs.Chains.{Agrees, block_agrees, index_agrees, Found, found, seek_all, find_in}
+use Rattle.sp_codegen.specs.Relation.{Placed, Stood, GivensAre, Owns, OneCell}
+use Rattle.sp_codegen.proofs.Runs.{Gives, Known, stays, goes, gives_bind, gives_known, gives_give, gives_fail, gives_by}
+use Rattle.sp_codegen.proofs.Chains.{block_agrees, index_agrees, found, seek_all, find_in}
 
 -- entries on the stack, the last one on top
 abbrev pub pushed : List Entry → List Entry → List Entry

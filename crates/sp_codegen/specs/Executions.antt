@@ -1,5 +1,5 @@
 -- One process that runs the code of a tree: all that the simulation of its turns speaks of, and what it asks of it.
-use Rattle.std.specs.Prelude.{◌≡◌, ℕ, List, Option, Some, Bool, slice_get}
+use Rattle.std.specs.Prelude.{◌≡◌, ℕ, List, Some, Bool, slice_get}
 use Rattle.sp_tree.specs.Plain.{Stmt}
 use Rattle.sp_tree.specs.Interference.{IsFreeOfInterference}
 use Rattle.sp_meaning.specs.Own.{Setting, Loc, Cell, Own, Who}
