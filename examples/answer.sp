@@ -1,1 +1,6 @@
-program a; var x: integer; begin x := 6; write(x * 7) end.
+program answer;
+var x: integer;
+begin
+  x := 6;
+  write(x * 7)
+end.
