@@ -8,7 +8,7 @@ ghost use Rattle.sp_format.specs.Layout.{indentation, gap};
 
 use crate::context::{Context, breaks, depth};
 use crate::kinds::touches;
-use sp_tree::Kind;
+use sp_tree::{Kind, lower};
 use std::alloc::AllocError;
 
 /// The first byte and the others, or none.
@@ -26,16 +26,6 @@ pub fn is_blank(byte: u8) -> bool
     ensures { result ≡ is_a_blank byte }
 {
     matches!(byte, b' ' | b'\t' | 12 | b'\r' | b'\n')
-}
-
-fn lower(byte: u8) -> u8
-    ensures { result ≡ lower_of byte }
-{
-    if byte >= b'A' && byte <= b'Z' {
-        byte + 32
-    } else {
-        byte
-    }
 }
 
 fn put_lower(out: &mut Vec<u8>, bytes: &[u8]) -> Result<(), AllocError>
