@@ -285,7 +285,7 @@ word_looks d n h true q = absurd (h (ap kind.Word (back_of (eqb-true 9 n q))))
 word_looks d n h false q = ap (λ b. cond b (Some (entry _ _ row.other)) None) q
 
 -- values one after another
-join : (l m : List Symbol) → Values l → Values m → Values (l ++ m)
+pub join : (l m : List Symbol) → Values l → Values m → Values (l ++ m)
 join [] m vs us = us
 join (s ∷ l) m vs us = (vs.0, join l m vs.1 us)
 
@@ -295,165 +295,165 @@ split_join [] m vs us = refl
 split_join (s ∷ l) m vs us = ap (λ p. ((vs.0, p.0), p.1)) (split_join l m vs.1 us)
 
 module _ (text : List ℕ) (Ok : ℕ → List Token → Type 0) where
-  abbrev D : (s : Symbol) → List Token → List Token → Value s → Type 0
+  abbrev pub D : (s : Symbol) → List Token → List Token → Value s → Type 0
   D = Derives text Ok
 
-  abbrev All : (l : List Symbol) → List Token → List Token → Values l → Type 0
+  abbrev pub All : (l : List Symbol) → List Token → List Token → Values l → Type 0
   All = DerivesAll text Ok
 
-  join_all : (l m : List Symbol) {ts u r : List Token} {vs : Values l} {us : Values m} → All l ts u vs → All m u r us → All (l ++ m) ts r (join l m vs us)
+  pub join_all : (l m : List Symbol) {ts u r : List Token} {vs : Values l} {us : Values m} → All l ts u vs → All m u r us → All (l ++ m) ts r (join l m vs us)
   unfolding join
   join_all [] m none b = b
   join_all (s ∷ l) m (and x a) b = and x (join_all l m a b)
 
   -- a symbol takes this token by this row
-  take : {s : Symbol} {k : Kind} {l : List Symbol} (c : Row s k l) → look (rows s) k ≡ Some (entry k l c) → (t : Token) → t.kind ≡ k → {ts r : List Token} {vs : Values l} → Begins Ok (part s) (t ∷ ts) → All l ts r vs → D s (t ∷ ts) r (build text c t vs)
+  pub take : {s : Symbol} {k : Kind} {l : List Symbol} (c : Row s k l) → look (rows s) k ≡ Some (entry k l c) → (t : Token) → t.kind ≡ k → {ts r : List Token} {vs : Values l} → Begins Ok (part s) (t ∷ ts) → All l ts r vs → D s (t ∷ ts) r (build text c t vs)
   take {s} {k} {l} c h t p o x = takes t (entry k l c) (ap (look (rows s)) p ∙ h) o x
 
-  skip : {s : Symbol} {r : List Token} {v : Value s} → Ends s r → ((t : Token) → gap s t ≡ Some v) → D s r r v
+  pub skip : {s : Symbol} {r : List Token} {v : Value s} → Ends s r → ((t : Token) → gap s t ≡ Some v) → D s r r v
   skip {r = []} h f = absurd h
   skip {r = t ∷ r} h f = skips t h (f t)
 
-  token : {k : Kind} → look (rows (sym.AToken k)) k ≡ Some (entry k [] row.token) → {ts r : List Token} → g.Is k ts r → D (sym.AToken k) ts r tt
+  pub token : {k : Kind} → look (rows (sym.AToken k)) k ≡ Some (entry k [] row.token) → {ts r : List Token} → g.Is k ts r → D (sym.AToken k) ts r tt
   token h (g.it_is t p) = take row.token h t p tt none
 
-  name : {ts r : List Token} {n : Name} → g.IsName text ts r n → D sym.AName ts r n
+  pub name : {ts r : List Token} {n : Name} → g.IsName text ts r n → D sym.AName ts r n
   name (g.name t p) = take row.name refl t p tt none
 
   -- after a name
-  more_names : {ts r : List Token} {ns : List Name} → g.IsMoreNames text ts r ns → Ends sym.MoreNames r → D sym.MoreNames ts r ns
+  pub more_names : {ts r : List Token} {ns : List Name} → g.IsMoreNames text ts r ns → Ends sym.MoreNames r → D sym.MoreNames ts r ns
   more_names g.names_end h = skip h (λ t. refl)
   more_names (g.names_go_on (g.it_is t p) (g.names n ns)) h = take row.next_name refl t p tt (and (name n) (and (more_names ns h) none))
 
-  value : {ts r : List Token} {v : SynValue} → g.IsValue text ts r v → D sym.AValue ts r v
+  pub value : {ts r : List Token} {v : SynValue} → g.IsValue text ts r v → D sym.AValue ts r v
   value (g.number_value t p) = take row.value_number refl t p tt none
   value (g.name_value t p) = take row.value_name refl t p tt none
 
   -- the row of a part and what it leaves
-  data Constant : List Token → List Token → SynConst → Type 0 where
+  pub data Constant : List Token → List Token → SynConst → Type 0 where
     begins : {k : Kind} {l : List Symbol} {ts r : List Token} {vs : Values l} (c : ConstantRow k l) (t : Token) → t.kind ≡ k → All l ts r vs → Constant (t ∷ ts) r (constant_value text c t vs)
 
-  constant_row : {ts r : List Token} {c : SynConst} → g.IsConstant text ts r c → Constant ts r c
+  pub constant_row : {ts r : List Token} {c : SynConst} → g.IsConstant text ts r c → Constant ts r c
   constant_row (g.unsigned (g.number_value t p)) = begins row.constant_number t p none
   constant_row (g.unsigned (g.name_value t p)) = begins row.constant_name t p none
   constant_row (g.positive t p v) = begins row.constant_plus t p (and (value v) none)
   constant_row (g.negative t p v) = begins row.constant_minus t p (and (value v) none)
   constant_row (g.quoted t p) = begins row.constant_text t p none
 
-  as_constant : {ts r : List Token} {c : SynConst} → Constant ts r c → D sym.AConstant ts r c
+  pub as_constant : {ts r : List Token} {c : SynConst} → Constant ts r c → D sym.AConstant ts r c
   as_constant (begins c t p x) = take (row.constant c) (look_constant 0 c) t p tt x
 
-  constant : {ts r : List Token} {c : SynConst} → g.IsConstant text ts r c → D sym.AConstant ts r c
+  pub constant : {ts r : List Token} {c : SynConst} → g.IsConstant text ts r c → D sym.AConstant ts r c
   constant c = as_constant (constant_row c)
 
-  colon_ends : {ts r : List Token} → g.Is w.Colon ts r → Ends sym.MoreNames ts
+  pub colon_ends : {ts r : List Token} → g.Is w.Colon ts r → Ends sym.MoreNames ts
   colon_ends i = ends sym.MoreNames w.Colon refl i
 
-  close_ends : {ts r : List Token} → g.Is w.Close ts r → Ends sym.MoreNames ts
+  pub close_ends : {ts r : List Token} → g.Is w.Close ts r → Ends sym.MoreNames ts
   close_ends i = ends sym.MoreNames w.Close refl i
 
-  more_fields : {ts r : List Token} {gs : List SynGroup} → g.IsMoreFields text ts r gs → D sym.MoreFields ts r gs
+  pub more_fields : {ts r : List Token} {gs : List SynGroup} → g.IsMoreFields text ts r gs → D sym.MoreFields ts r gs
   more_fields (g.fields_end (g.it_is t p)) = take row.fields_end refl t p tt none
   more_fields (g.last_field (g.it_is t p) (g.it_is e q)) = take row.fields_go_on refl t p tt (and (take row.no_field refl e q tt none) none)
   more_fields (g.fields_go_on (g.it_is t p) (g.group (g.names (g.name n q) ns) c k) gs) = take row.fields_go_on refl t p tt (and (take row.next_field refl n q tt (and (more_names ns (colon_ends c)) (and (token refl c) (and (name k) (and (more_fields gs) none))))) none)
 
-  type_of : {ts r : List Token} {k : SynKind} → g.IsType text ts r k → D sym.AType ts r k
+  pub type_of : {ts r : List Token} {k : SynKind} → g.IsType text ts r k → D sym.AType ts r k
   type_of (g.alias (g.name t p)) = take row.alias refl t p tt none
   type_of (g.enumeration (g.it_is t p) (g.names n ns) c) = take row.enumeration refl t p tt (and (name n) (and (more_names ns (close_ends c)) (and (token refl c) none)))
   type_of (g.array (g.it_is t p) i low m high c f n) = take row.array refl t p tt (and (token refl i) (and (constant low) (and (token refl m) (and (constant high) (and (token refl c) (and (token refl f) (and (name n) none)))))))
   type_of (g.fields (g.it_is t p) (g.group (g.names n ns) c k) gs) = take row.fields refl t p tt (and (name n) (and (more_names ns (colon_ends c)) (and (token refl c) (and (name k) (and (more_fields gs) none)))))
   type_of (g.channel (g.it_is t p) o (g.names n ns) c) = take row.channel refl t p tt (and (token refl o) (and (name n) (and (more_names ns (close_ends c)) (and (token refl c) none))))
 
-  formal : {ts r : List Token} {f : SynFormal} → g.IsFormal text ts r f → D sym.AFormal ts r f
+  pub formal : {ts r : List Token} {f : SynFormal} → g.IsFormal text ts r f → D sym.AFormal ts r f
   formal (g.by_value (g.group (g.names (g.name t p) ns) c k)) = take row.by_value refl t p tt (and (more_names ns (colon_ends c)) (and (token refl c) (and (name k) none)))
   formal (g.by_reference (g.it_is t p) (g.group (g.names n ns) c k)) = take row.by_reference refl t p tt (and (name n) (and (more_names ns (colon_ends c)) (and (token refl c) (and (name k) none))))
 
-  more_formals : {ts r : List Token} {fs : List SynFormal} → g.IsMoreFormals text ts r fs → D sym.MoreFormals ts r fs
+  pub more_formals : {ts r : List Token} {fs : List SynFormal} → g.IsMoreFormals text ts r fs → D sym.MoreFormals ts r fs
   more_formals (g.formals_end (g.it_is t p)) = take row.formals_end refl t p tt none
   more_formals (g.formals_go_on (g.it_is t p) f fs) = take row.next_formal refl t p tt (and (formal f) (and (more_formals fs) none))
 
-  formals : {ts r : List Token} {fs : List SynFormal} → g.IsFormals text ts r fs → Ends sym.Formals r → D sym.Formals ts r fs
+  pub formals : {ts r : List Token} {fs : List SynFormal} → g.IsFormals text ts r fs → Ends sym.Formals r → D sym.Formals ts r fs
   formals g.no_formals h = skip h (λ t. refl)
   formals (g.formals (g.it_is t p) f fs) h = take row.formals refl t p tt (and (formal f) (and (more_formals fs) none))
 
-  heading : {ts r : List Token} {ns : List Name} → g.IsHeading text ts r ns → Ends sym.AHeading r → D sym.AHeading ts r ns
+  pub heading : {ts r : List Token} {ns : List Name} → g.IsHeading text ts r ns → Ends sym.AHeading r → D sym.AHeading ts r ns
   heading g.no_heading h = skip h (λ t. refl)
   heading (g.heading (g.it_is t p) (g.names n ns) c) h = take row.heading refl t p tt (and (name n) (and (more_names ns (close_ends c)) (and (token refl c) none)))
 
-  record Relates (d : ℕ) (a : tree.Expression) (ts r : List Token) (x : tree.Expression) : Type 0 where
+  pub record Relates (d : ℕ) (a : tree.Expression) (ts r : List Token) (x : tree.Expression) : Type 0 where
     f : tree.Expression → tree.Expression
     is : D (sym.ARelation d) ts r f
     gives : f a ≡ x
 
-  record Adds (d : ℕ) (a : tree.Expression) (ts r : List Token) (x : tree.Expression) : Type 0 where
+  pub record Adds (d : ℕ) (a : tree.Expression) (ts r : List Token) (x : tree.Expression) : Type 0 where
     f : tree.Expression → tree.Expression
     is : D (sym.MoreTerms d) ts r f
     gives : f a ≡ x
 
-  record Multiplies (d : ℕ) (a : tree.Expression) (ts r : List Token) (x : tree.Expression) : Type 0 where
+  pub record Multiplies (d : ℕ) (a : tree.Expression) (ts r : List Token) (x : tree.Expression) : Type 0 where
     f : tree.Expression → tree.Expression
     is : D (sym.MoreFactors d) ts r f
     gives : f a ≡ x
 
-  data Factor (d : ℕ) : List Token → List Token → tree.Expression → Type 0 where
+  pub data Factor (d : ℕ) : List Token → List Token → tree.Expression → Type 0 where
     factor_begins : {k : Kind} {l : List Symbol} {ts r : List Token} {vs : Values l} (c : FactorRow d k l) (t : Token) → t.kind ≡ k → All l ts r vs → Factor d (t ∷ ts) r (factor_value text c t vs)
 
-  data Simple (d : ℕ) : List Token → List Token → tree.Expression → Type 0 where
+  pub data Simple (d : ℕ) : List Token → List Token → tree.Expression → Type 0 where
     simple_begins : {k : Kind} {l : List Symbol} {ts r : List Token} {vs : Values l} (c : SimpleRow d k l) (t : Token) → t.kind ≡ k → All l ts r vs → Simple d (t ∷ ts) r (simple_value text c t vs)
 
-  as_factor : {d : ℕ} {ts r : List Token} {x : tree.Expression} → Factor d ts r x → D (sym.AFactor d) ts r x
+  pub as_factor : {d : ℕ} {ts r : List Token} {x : tree.Expression} → Factor d ts r x → D (sym.AFactor d) ts r x
   as_factor {d} (factor_begins c t p x) = take (row.factor c) (look_factor d c) t p tt x
 
-  as_negated : {d : ℕ} {ts r : List Token} {x : tree.Expression} → Ok d ts → Factor (suc d) ts r x → D (sym.ANegated d) ts r x
+  pub as_negated : {d : ℕ} {ts r : List Token} {x : tree.Expression} → Ok d ts → Factor (suc d) ts r x → D (sym.ANegated d) ts r x
   as_negated {d} ok (factor_begins c t p x) = take (row.negated c) (look_negated d c) t p ok x
 
   -- a factor and the further ones
-  as_term : {d : ℕ} {ts u r : List Token} {a x : tree.Expression} → Factor d ts u a → Multiplies d a u r x → D (sym.ATerm d) ts r x
+  pub as_term : {d : ℕ} {ts u r : List Token} {a x : tree.Expression} → Factor d ts u a → Multiplies d a u r x → D (sym.ATerm d) ts r x
   as_term {d} {r = r} (factor_begins {l = l} {ts = ts} {vs = vs} c t p x) m =
       let f = m.f in
       subst (D (sym.ATerm d) (t ∷ ts) r) (ap (λ p. p.1.0 (factor_value text c t p.0)) (split_join l (sym.MoreFactors d ∷ []) vs (f, tt)) ∙ m.gives)
       (take (row.term c) (look_term d c) t p tt (join_all l (sym.MoreFactors d ∷ []) x (and m.is none)))
 
   -- and further terms
-  as_terms : {d : ℕ} {ts u v r : List Token} {a b x : tree.Expression} → Factor d ts u a → Multiplies d a u v b → Adds d b v r x → Simple d ts r x
+  pub as_terms : {d : ℕ} {ts u v r : List Token} {a b x : tree.Expression} → Factor d ts u a → Multiplies d a u v b → Adds d b v r x → Simple d ts r x
   as_terms {d} {r = r} (factor_begins {l = l} {ts = ts} {vs = vs} c t p x) m n =
       subst (Simple d (t ∷ ts) r) (ap (λ p. p.1.1.0 (p.1.0 (factor_value text c t p.0))) (split_join l (sym.MoreFactors d ∷ sym.MoreTerms d ∷ []) vs (m.f, (n.f, tt))) ∙ ap n.f m.gives ∙ n.gives)
       (simple_begins (row.simple_factor c) t p (join_all l (sym.MoreFactors d ∷ sym.MoreTerms d ∷ []) x (and m.is (and n.is none))))
 
-  as_simple : {d : ℕ} {ts r : List Token} {x : tree.Expression} → Simple d ts r x → D (sym.ASimple d) ts r x
+  pub as_simple : {d : ℕ} {ts r : List Token} {x : tree.Expression} → Simple d ts r x → D (sym.ASimple d) ts r x
   as_simple {d} (simple_begins c t p x) = take (row.simple c) (look_simple d c) t p tt x
 
-  as_expression : {d : ℕ} {ts u r : List Token} {a x : tree.Expression} → Ok d ts → Simple (suc d) ts u a → Relates (suc d) a u r x → D (sym.AnExpression d) ts r x
+  pub as_expression : {d : ℕ} {ts u r : List Token} {a x : tree.Expression} → Ok d ts → Simple (suc d) ts u a → Relates (suc d) a u r x → D (sym.AnExpression d) ts r x
   as_expression {d} {r = r} ok (simple_begins {l = l} {ts = ts} {vs = vs} c t p x) m =
       subst (D (sym.AnExpression d) (t ∷ ts) r) (ap (λ p. p.1.0 (simple_value text c t p.0)) (split_join l (sym.ARelation (suc d) ∷ []) vs (m.f, tt)) ∙ m.gives)
       (take (row.expression c) (look_expression d c) t p ok (join_all l (sym.ARelation (suc d) ∷ []) x (and m.is none)))
 
   -- what stands before a tail
-  terms_quiet : {d : ℕ} {a x : tree.Expression} {ts r : List Token} → g.IsRelation text Ok d a ts r x → Quiet r → QuietSimple ts
+  pub terms_quiet : {d : ℕ} {a x : tree.Expression} {ts r : List Token} → g.IsRelation text Ok d a ts r x → Quiet r → QuietSimple ts
   terms_quiet g.no_relation q = q.simple
   terms_quiet (g.relation c i s) q = quiet_relational c i
 
-  factors_quiet : {d : ℕ} {a x : tree.Expression} {ts r : List Token} → g.IsMoreTerms text Ok d a ts r x → QuietSimple r → QuietTerm ts
+  pub factors_quiet : {d : ℕ} {a x : tree.Expression} {ts r : List Token} → g.IsMoreTerms text Ok d a ts r x → QuietSimple r → QuietTerm ts
   factors_quiet g.terms_end q = q.term
   factors_quiet (g.terms_go_on c i s m) q = quiet_adding c i
 
-  factor_quiet : {d : ℕ} {a x : tree.Expression} {ts r : List Token} → g.IsMoreFactors text Ok d a ts r x → QuietTerm r → QuietFactor ts
+  pub factor_quiet : {d : ℕ} {a x : tree.Expression} {ts r : List Token} → g.IsMoreFactors text Ok d a ts r x → QuietTerm r → QuietFactor ts
   factor_quiet g.factors_end q = q.factor
   factor_quiet (g.factors_go_on c i s m) q = quiet_multiplying c i
 
-  width_quiet : {d : ℕ} {m : tree.Width} {ts r : List Token} → g.IsWidth text Ok d ts r m → Quiet r → Quiet ts
+  pub width_quiet : {d : ℕ} {m : tree.Width} {ts r : List Token} → g.IsWidth text Ok d ts r m → Quiet r → Quiet ts
   width_quiet g.no_width q = q
   width_quiet (g.width i x) q = quiet_colon i
 
-  indices_quiet : {d : ℕ} {ss : tree.Selectors} {ts r : List Token} → g.IsMoreIndices text Ok d ts r ss → Quiet ts
+  pub indices_quiet : {d : ℕ} {ss : tree.Selectors} {ts r : List Token} → g.IsMoreIndices text Ok d ts r ss → Quiet ts
   indices_quiet (g.indices_end i ss) = quiet_closeindex i
   indices_quiet (g.indices_go_on i x ss) = quiet_comma i
 
-  arguments_quiet : {d : ℕ} {rest : tree.Arguments} {ts r : List Token} → g.IsMoreArguments text Ok d ts r rest → Quiet ts
+  pub arguments_quiet : {d : ℕ} {rest : tree.Arguments} {ts r : List Token} → g.IsMoreArguments text Ok d ts r rest → Quiet ts
   arguments_quiet (g.arguments_end i) = quiet_close i
   arguments_quiet (g.arguments_go_on i a rest) = quiet_comma i
 
-  arguments_width : (d : ℕ) {e : ℕ} {rest : tree.Arguments} {ts r : List Token} → g.IsMoreArguments text Ok e ts r rest → Ends (sym.AWidth d) ts
+  pub arguments_width : (d : ℕ) {e : ℕ} {rest : tree.Arguments} {ts r : List Token} → g.IsMoreArguments text Ok e ts r rest → Ends (sym.AWidth d) ts
   arguments_width d (g.arguments_end i) = ends (sym.AWidth d) w.Close refl i
   arguments_width d (g.arguments_go_on i a rest) = ends (sym.AWidth d) w.Comma refl i
 
@@ -461,27 +461,27 @@ module _ (text : List ℕ) (Ok : ℕ → List Token → Type 0) where
     pub expression : {d : ℕ} {ts r : List Token} {x : tree.Expression} → g.IsExpression text Ok d ts r x → Quiet r → D (sym.AnExpression d) ts r x
     expression (g.expression ok s m) q = as_expression ok (simple s (terms_quiet m q)) (relates m q)
 
-    relates : {d : ℕ} {a x : tree.Expression} {ts r : List Token} → g.IsRelation text Ok d a ts r x → Quiet r → Relates d a ts r x
+    pub relates : {d : ℕ} {a x : tree.Expression} {ts r : List Token} → g.IsRelation text Ok d a ts r x → Quiet r → Relates d a ts r x
     relates {d} g.no_relation q = record { f = λ a. a; is = skip (q.relation d) (λ t. refl); gives = refl }
     relates {d} {a} (g.relation {b = b} {o = o} c (g.it_is t p) s) q = record { f = λ a. g.joined o a b; is = take (row.relation c) (look_relation d c) t p tt (and (as_simple (simple s q.simple)) none); gives = refl }
 
-    simple : {d : ℕ} {ts r : List Token} {x : tree.Expression} → g.IsSimple text Ok d ts r x → QuietSimple r → Simple d ts r x
+    pub simple : {d : ℕ} {ts r : List Token} {x : tree.Expression} → g.IsSimple text Ok d ts r x → QuietSimple r → Simple d ts r x
     simple (g.simple (g.term f m) n) q = as_terms (factor f (factor_quiet m (factors_quiet n q))) (multiplies m (factors_quiet n q)) (adds n q)
     simple {d} {r = r} (g.after_plus {ts = ts} t p a n) q = let m = adds n q in subst (Simple d (t ∷ ts) r) m.gives (simple_begins row.simple_plus t p (and (term a (factors_quiet n q)) (and m.is none)))
     simple {d} {r = r} (g.after_minus {ts = ts} t p a n) q = let m = adds n q in subst (Simple d (t ∷ ts) r) m.gives (simple_begins row.simple_minus t p (and (term a (factors_quiet n q)) (and m.is none)))
 
-    adds : {d : ℕ} {a x : tree.Expression} {ts r : List Token} → g.IsMoreTerms text Ok d a ts r x → QuietSimple r → Adds d a ts r x
+    pub adds : {d : ℕ} {a x : tree.Expression} {ts r : List Token} → g.IsMoreTerms text Ok d a ts r x → QuietSimple r → Adds d a ts r x
     adds {d} g.terms_end q = record { f = λ a. a; is = skip (q.terms d) (λ t. refl); gives = refl }
     adds {d} (g.terms_go_on {b = b} {o = o} c (g.it_is t p) s n) q = let m = adds n q in let h = m.f in record { f = λ a. h (g.joined o a b); is = take (row.next_term c) (look_adding d c) t p tt (and (term s (factors_quiet n q)) (and m.is none)); gives = m.gives }
 
-    term : {d : ℕ} {ts r : List Token} {x : tree.Expression} → g.IsTerm text Ok d ts r x → QuietTerm r → D (sym.ATerm d) ts r x
+    pub term : {d : ℕ} {ts r : List Token} {x : tree.Expression} → g.IsTerm text Ok d ts r x → QuietTerm r → D (sym.ATerm d) ts r x
     term (g.term f m) q = as_term (factor f (factor_quiet m q)) (multiplies m q)
 
-    multiplies : {d : ℕ} {a x : tree.Expression} {ts r : List Token} → g.IsMoreFactors text Ok d a ts r x → QuietTerm r → Multiplies d a ts r x
+    pub multiplies : {d : ℕ} {a x : tree.Expression} {ts r : List Token} → g.IsMoreFactors text Ok d a ts r x → QuietTerm r → Multiplies d a ts r x
     multiplies {d} g.factors_end q = record { f = λ a. a; is = skip (q.factors d) (λ t. refl); gives = refl }
     multiplies {d} (g.factors_go_on {b = b} {o = o} c (g.it_is t p) s n) q = let m = multiplies n q in let h = m.f in record { f = λ a. h (g.joined o a b); is = take (row.next_factor c) (look_multiplying d c) t p tt (and (as_factor (factor s (factor_quiet n q))) (and m.is none)); gives = m.gives }
 
-    factor : {d : ℕ} {ts r : List Token} {x : tree.Expression} → g.IsFactor text Ok d ts r x → QuietFactor r → Factor d ts r x
+    pub factor : {d : ℕ} {ts r : List Token} {x : tree.Expression} → g.IsFactor text Ok d ts r x → QuietFactor r → Factor d ts r x
     factor (g.number t p) q = factor_begins row.factor_number t p none
     factor (g.text_factor t p) q = factor_begins row.factor_text t p none
     factor {d} (g.variable_factor (g.variable (g.name t p) g.selectors_end)) q = factor_begins row.factor_name t p (and (skip (q.reference d) (λ t. refl)) none)
@@ -491,78 +491,78 @@ module _ (text : List ℕ) (Ok : ℕ → List Token → Type 0) where
     factor (g.in_parentheses t p x c) q = factor_begins row.factor_open t p (and (expression x (quiet_close c)) (and (token refl c) none))
     factor (g.negated t p ok x) q = factor_begins row.factor_not t p (and (as_negated ok (factor x q)) none)
 
-    selectors : {d : ℕ} {ts r : List Token} {ss : tree.Selectors} → g.IsSelectors text Ok d ts r ss → ((d : ℕ) → Ends (sym.Selectors d) r) → D (sym.Selectors d) ts r ss
+    pub selectors : {d : ℕ} {ts r : List Token} {ss : tree.Selectors} → g.IsSelectors text Ok d ts r ss → ((d : ℕ) → Ends (sym.Selectors d) r) → D (sym.Selectors d) ts r ss
     selectors {d} g.selectors_end q = skip (q d) (λ t. refl)
     selectors (g.index (g.it_is o s) x ss) q = take (row.selector row.selector_index) refl o s tt (and (expression x (indices_quiet ss)) (and (indices ss q) none))
     selectors (g.field (g.it_is o s) n ss) q = take (row.selector row.selector_field) refl o s tt (and (name n) (and (selectors ss q) none))
 
-    indices : {d : ℕ} {ts r : List Token} {ss : tree.Selectors} → g.IsMoreIndices text Ok d ts r ss → ((d : ℕ) → Ends (sym.Selectors d) r) → D (sym.MoreIndices d) ts r ss
+    pub indices : {d : ℕ} {ts r : List Token} {ss : tree.Selectors} → g.IsMoreIndices text Ok d ts r ss → ((d : ℕ) → Ends (sym.Selectors d) r) → D (sym.MoreIndices d) ts r ss
     indices (g.indices_end (g.it_is t p) ss) q = take row.indices_end refl t p tt (and (selectors ss q) none)
     indices (g.indices_go_on (g.it_is t p) x ss) q = take row.next_index refl t p tt (and (expression x (indices_quiet ss)) (and (indices ss q) none))
 
-    arguments : {d : ℕ} {ts r : List Token} {rest : tree.Arguments} → g.IsMoreArguments text Ok d ts r rest → D (sym.MoreArguments d) ts r rest
+    pub arguments : {d : ℕ} {ts r : List Token} {rest : tree.Arguments} → g.IsMoreArguments text Ok d ts r rest → D (sym.MoreArguments d) ts r rest
     arguments (g.arguments_end (g.it_is t p)) = take row.arguments_end refl t p tt none
     arguments {d} (g.arguments_go_on (g.it_is t p) (g.argument x m) rest) = take row.next_argument refl t p tt (and (expression x (width_quiet m (arguments_quiet rest))) (and (width m (arguments_quiet rest) (arguments_width d rest)) (and (arguments rest) none)))
 
-    width : {d : ℕ} {ts r : List Token} {m : tree.Width} → g.IsWidth text Ok d ts r m → Quiet r → Ends (sym.AWidth d) r → D (sym.AWidth d) ts r m
+    pub width : {d : ℕ} {ts r : List Token} {m : tree.Width} → g.IsWidth text Ok d ts r m → Quiet r → Ends (sym.AWidth d) r → D (sym.AWidth d) ts r m
     width g.no_width q h = skip h (λ t. refl)
     width (g.width (g.it_is t p) x) q h = take row.width refl t p tt (and (expression x q) none)
 
   -- statements
-  labels_to : {ts r : List Token} {cs : List SynConst} → g.IsMoreLabels text Ok ts r cs → D sym.MoreLabels ts r cs
+  pub labels_to : {ts r : List Token} {cs : List SynConst} → g.IsMoreLabels text Ok ts r cs → D sym.MoreLabels ts r cs
   labels_to (g.labels_end (g.it_is t p)) = take row.labels_end refl t p tt none
   labels_to (g.labels_go_on (g.it_is t p) (g.labels c cs)) = take row.next_label refl t p tt (and (constant c) (and (labels_to cs) none))
 
-  direction : {ts r : List Token} {b : _} → g.IsDirection text Ok ts r b → D sym.ADirection ts r b
+  pub direction : {ts r : List Token} {b : _} → g.IsDirection text Ok ts r b → D sym.ADirection ts r b
   direction (g.upward (g.it_is t p)) = take row.upward refl t p tt none
   direction (g.downward (g.it_is t p)) = take row.downward refl t p tt none
 
-  direction_quiet : {ts r : List Token} {b : _} → g.IsDirection text Ok ts r b → Quiet ts
+  pub direction_quiet : {ts r : List Token} {b : _} → g.IsDirection text Ok ts r b → Quiet ts
   direction_quiet (g.upward i) = quiet_to i
   direction_quiet (g.downward i) = quiet_downto i
 
-  else_ended : {d : ℕ} {ts r : List Token} {o : tree.Other} → g.IsElse text Ok d ts r o → Ended r → Ended ts
+  pub else_ended : {d : ℕ} {ts r : List Token} {o : tree.Other} → g.IsElse text Ok d ts r o → Ended r → Ended ts
   else_ended (g.no_else h) q = q
   else_ended (g.other i s) q = ended_else i
 
-  statements_ended : {d : ℕ} {ts r : List Token} {ss : tree.Statements} → g.IsMoreStatements text Ok d ts r ss → Ended r → Ended ts
+  pub statements_ended : {d : ℕ} {ts r : List Token} {ss : tree.Statements} → g.IsMoreStatements text Ok d ts r ss → Ended r → Ended ts
   statements_ended g.statements_end q = q
   statements_ended (g.statements_go_on i ss) q = ended_semicolon i
 
-  arms_ended : {d : ℕ} {ts r : List Token} {rest : tree.Arms} → g.IsMoreArms text Ok d ts r rest → Ended ts
+  pub arms_ended : {d : ℕ} {ts r : List Token} {rest : tree.Arms} → g.IsMoreArms text Ok d ts r rest → Ended ts
   arms_ended (g.arms_end i) = ended_end i
   arms_ended (g.last_arm i e) = ended_semicolon i
   arms_ended (g.arms_go_on i a rest) = ended_semicolon i
 
-  branches_ended : {d : ℕ} {ts r : List Token} {bs : tree.Branches} → g.IsMoreBranches text Ok d ts r bs → Ended ts
+  pub branches_ended : {d : ℕ} {ts r : List Token} {bs : tree.Branches} → g.IsMoreBranches text Ok d ts r bs → Ended ts
   branches_ended (g.branches_end i) = ended_end i
   branches_ended (g.branches_go_on i bs) = ended_bar i
 
-  branches_statements : (d : ℕ) {e : ℕ} {ts r : List Token} {bs : tree.Branches} → g.IsMoreBranches text Ok e ts r bs → Ends (sym.MoreStatements d) ts
+  pub branches_statements : (d : ℕ) {e : ℕ} {ts r : List Token} {bs : tree.Branches} → g.IsMoreBranches text Ok e ts r bs → Ends (sym.MoreStatements d) ts
   branches_statements d (g.branches_end i) = ends (sym.MoreStatements d) w.End refl i
   branches_statements d (g.branches_go_on i bs) = ends (sym.MoreStatements d) w.Bar refl i
 
-  else_looks : (d : ℕ) (k : Kind) → k ≢ w.Else → look (rows (sym.AnElse d)) k ≡ None
+  pub else_looks : (d : ℕ) (k : Kind) → k ≢ w.Else → look (rows (sym.AnElse d)) k ≡ None
   else_looks d kind.Name h = refl
   else_looks d kind.Number h = refl
   else_looks d kind.Text h = refl
   else_looks d (kind.Sign n) h = refl
   else_looks d (kind.Word n) h = word_looks d n h (9 == n) refl
 
-  else_ends : (d : ℕ) (r : List Token) → g.Lacks w.Else r → Ended r → Ends (sym.AnElse d) r
+  pub else_ends : (d : ℕ) (r : List Token) → g.Lacks w.Else r → Ended r → Ends (sym.AnElse d) r
   else_ends d [] h q = q.statement 0
   else_ends d (t ∷ r) h q = else_looks d t.kind h
 
   -- a target with selectors
-  as_target : {d : ℕ} {ts u v r : List Token} {x : tree.Expression} {k : Kind} {l : List Symbol} {vs : Values l} (c : SelectorRow d k l) (t : Token) → t.kind ≡ k → All l ts u vs → g.Is w.Becomes u v → D (sym.AnExpression d) v r x → D (sym.AfterName d) (t ∷ ts) r (λ n. tree.Assign (tree.Entire n (selector_value text c t vs)) x)
+  pub as_target : {d : ℕ} {ts u v r : List Token} {x : tree.Expression} {k : Kind} {l : List Symbol} {vs : Values l} (c : SelectorRow d k l) (t : Token) → t.kind ≡ k → All l ts u vs → g.Is w.Becomes u v → D (sym.AnExpression d) v r x → D (sym.AfterName d) (t ∷ ts) r (λ n. tree.Assign (tree.Entire n (selector_value text c t vs)) x)
   as_target {d} {ts} {r = r} {x = x} {l = l} {vs = vs} c t p a b e =
       subst (D (sym.AfterName d) (t ∷ ts) r) (ap (λ p. λ n. tree.Assign (tree.Entire n (selector_value text c t p.0)) p.1.1.0) (split_join l (sym.AToken w.Becomes ∷ sym.AnExpression d ∷ []) vs (tt, (x, tt))))
       (take (row.target c) (look_target d c) t p tt (join_all l (sym.AToken w.Becomes ∷ sym.AnExpression d ∷ []) a (and (token refl b) (and e none))))
 
-  becomes_ends : {ts r : List Token} → g.Is w.Becomes ts r → (d : ℕ) → Ends (sym.Selectors d) ts
+  pub becomes_ends : {ts r : List Token} → g.Is w.Becomes ts r → (d : ℕ) → Ends (sym.Selectors d) ts
   becomes_ends i d = ends (sym.Selectors d) w.Becomes refl i
 
-  as_arm : {d : ℕ} {ts u v x r : List Token} {c : SynConst} {cs : List SynConst} {s : tree.Statement} {m : tree.Arms} → Constant ts u c → D sym.MoreLabels u v cs → D (sym.AStatement d) v x s → D (sym.MoreArms d) x r m → D (sym.ArmOrEnd d) ts r (tree.Or (tree.On (c ∷ cs) s) m)
+  pub as_arm : {d : ℕ} {ts u v x r : List Token} {c : SynConst} {cs : List SynConst} {s : tree.Statement} {m : tree.Arms} → Constant ts u c → D sym.MoreLabels u v cs → D (sym.AStatement d) v x s → D (sym.MoreArms d) x r m → D (sym.ArmOrEnd d) ts r (tree.Or (tree.On (c ∷ cs) s) m)
   as_arm {d} {r = r} {cs = cs} {s = s} {m = m} (begins {l = l} {ts = ts} {vs = vs} c t p a) x y z =
       subst (D (sym.ArmOrEnd d) (t ∷ ts) r) (ap (λ p. tree.Or (tree.On (constant_value text c t p.0 ∷ p.1.0) p.1.1.0) p.1.1.1.0) (split_join l (sym.MoreLabels ∷ sym.AStatement d ∷ sym.MoreArms d ∷ []) vs (cs, (s, (m, tt)))))
       (take (row.next_arm c) (look_arm d c) t p tt (join_all l (sym.MoreLabels ∷ sym.AStatement d ∷ sym.MoreArms d ∷ []) a (and x (and y (and z none)))))
@@ -585,47 +585,47 @@ module _ (text : List ℕ) (Ok : ℕ → List Token → Type 0) where
     statement {d} (g.statement t ok (g.forall (g.it_is t' p) n b x v y h s)) q = take (row.statement row.form_forall) refl t p ok (and (name n) (and (token refl b) (and (expression x (quiet_to v)) (and (token refl v) (and (expression y (quiet_do h)) (and (token refl h) (and (statement s q) none)))))))
     statement {d} (g.statement t ok (g.assume (g.it_is t' p) e)) q = take (row.statement row.form_assume) refl t p ok (and (expression e q.expression) none)
 
-    else_to : {d : ℕ} {ts r : List Token} {o : tree.Other} → g.IsElse text Ok d ts r o → Ended r → D (sym.AnElse d) ts r o
+    pub else_to : {d : ℕ} {ts r : List Token} {o : tree.Other} → g.IsElse text Ok d ts r o → Ended r → D (sym.AnElse d) ts r o
     else_to {d} (g.no_else h) q = skip (else_ends d _ h q) (λ t. refl)
     else_to (g.other (g.it_is t p) s) q = take row.other refl t p tt (and (statement s q) none)
 
-    statements : {d : ℕ} {ts r : List Token} {ss : tree.Statements} → g.IsMoreStatements text Ok d ts r ss → Ended r → Ends (sym.MoreStatements d) r → D (sym.MoreStatements d) ts r ss
+    pub statements : {d : ℕ} {ts r : List Token} {ss : tree.Statements} → g.IsMoreStatements text Ok d ts r ss → Ended r → Ends (sym.MoreStatements d) r → D (sym.MoreStatements d) ts r ss
     statements g.statements_end q h = skip h (λ t. refl)
     statements (g.statements_go_on (g.it_is t p) (g.sequence s ss)) q h = take row.next_statement refl t p tt (and (statement s (statements_ended ss q)) (and (statements ss q h) none))
 
-    arms : {d : ℕ} {ts r : List Token} {rest : tree.Arms} → g.IsMoreArms text Ok d ts r rest → D (sym.MoreArms d) ts r rest
+    pub arms : {d : ℕ} {ts r : List Token} {rest : tree.Arms} → g.IsMoreArms text Ok d ts r rest → D (sym.MoreArms d) ts r rest
     arms (g.arms_end (g.it_is t p)) = take row.arms_end refl t p tt none
     arms (g.last_arm (g.it_is t p) (g.it_is e s)) = take row.arms_go_on refl t p tt (and (take row.no_arm refl e s tt none) none)
     arms (g.arms_go_on (g.it_is t p) (g.arm (g.labels c cs) s) rest) = take row.arms_go_on refl t p tt (and (as_arm (constant_row c) (labels_to cs) (statement s (arms_ended rest)) (arms rest)) none)
 
-    branches : {d : ℕ} {ts r : List Token} {bs : tree.Branches} → g.IsMoreBranches text Ok d ts r bs → D (sym.MoreBranches d) ts r bs
+    pub branches : {d : ℕ} {ts r : List Token} {bs : tree.Branches} → g.IsMoreBranches text Ok d ts r bs → D (sym.MoreBranches d) ts r bs
     branches (g.branches_end (g.it_is t p)) = take row.branches_end refl t p tt none
     branches {d} (g.branches_go_on (g.it_is t p) (g.branches (g.sequence s ss) bs)) = take row.next_branch refl t p tt (and (statement s (statements_ended ss (branches_ended bs))) (and (statements ss (branches_ended bs) (branches_statements d bs)) (and (branches bs) none)))
 
   -- blocks
-  data Declares (d : ℕ) : List Token → List Token → tree.Block → Type 0 where
+  pub data Declares (d : ℕ) : List Token → List Token → tree.Block → Type 0 where
     parts_begin : {k : Kind} {l : List Symbol} {ts r : List Token} {vs : Values l} (c : PartsRow d k l) (t : Token) → t.kind ≡ k → All l ts r vs → Declares d (t ∷ ts) r (parts_value text c t vs)
 
-  as_block : {d : ℕ} {ts r : List Token} {b : tree.Block} → Ok d ts → Declares (suc d) ts r b → D (sym.ABlock d) ts r b
+  pub as_block : {d : ℕ} {ts r : List Token} {b : tree.Block} → Ok d ts → Declares (suc d) ts r b → D (sym.ABlock d) ts r b
   as_block {d} ok (parts_begin c t p x) = take (row.block c) (look_block d c) t p ok x
 
-  as_parts : {d : ℕ} {ts r : List Token} {b : tree.Block} → Declares d ts r b → D (sym.Parts d) ts r b
+  pub as_parts : {d : ℕ} {ts r : List Token} {b : tree.Block} → Declares d ts r b → D (sym.Parts d) ts r b
   as_parts {d} (parts_begin c t p x) = take (row.parts c) (look_parts d c) t p tt x
 
-  as_after_constants : {d : ℕ} {ts r : List Token} {b : tree.Block} → Declares d ts r b → D (sym.MoreConstants d) ts r b
+  pub as_after_constants : {d : ℕ} {ts r : List Token} {b : tree.Block} → Declares d ts r b → D (sym.MoreConstants d) ts r b
   as_after_constants {d} (parts_begin c t p x) = take (row.after_constants c) (look_after_constants d c) t p tt x
 
-  as_after_types : {d : ℕ} {ts r : List Token} {b : tree.Block} → Declares d ts r b → D (sym.MoreTypes d) ts r b
+  pub as_after_types : {d : ℕ} {ts r : List Token} {b : tree.Block} → Declares d ts r b → D (sym.MoreTypes d) ts r b
   as_after_types {d} (parts_begin c t p x) = take (row.after_types c) (look_after_types d c) t p tt x
 
-  as_after_variables : {d : ℕ} {ts r : List Token} {b : tree.Block} → Declares d ts r b → D (sym.MoreVariables d) ts r b
+  pub as_after_variables : {d : ℕ} {ts r : List Token} {b : tree.Block} → Declares d ts r b → D (sym.MoreVariables d) ts r b
   as_after_variables {d} (parts_begin c t p x) = take (row.after_variables c) (look_after_variables d c) t p tt x
 
   mutual
-    block : {d : ℕ} {ts r : List Token} {b : tree.Block} → g.IsBlock text Ok d ts r b → D (sym.ABlock d) ts r b
+    pub block : {d : ℕ} {ts r : List Token} {b : tree.Block} → g.IsBlock text Ok d ts r b → D (sym.ABlock d) ts r b
     block (g.block ok b) = as_block ok (parts b)
 
-    parts : {d : ℕ} {ts r : List Token} {b : tree.Block} → g.IsParts text Ok d ts r b → Declares d ts r b
+    pub parts : {d : ℕ} {ts r : List Token} {b : tree.Block} → g.IsParts text Ok d ts r b → Declares d ts r b
     parts {d} (g.body (g.compound (g.it_is t p) (g.sequence s ss) e)) = parts_begin row.parts_begin t p (and (statement s (statements_ended ss (ended_end e))) (and (statements ss (ended_end e) (ends (sym.MoreStatements d) w.End refl e)) (and (token refl e) none)))
     parts (g.constants (g.it_is t p) (g.constant_part n e c s) b) = parts_begin row.parts_const t p (and (name n) (and (token refl e) (and (constant c) (and (token refl s) (and (more_constants b) none)))))
     parts (g.types (g.it_is t p) (g.type_part n e c s) b) = parts_begin row.parts_type t p (and (name n) (and (token refl e) (and (type_of c) (and (token refl s) (and (more_types b) none)))))
@@ -633,15 +633,15 @@ module _ (text : List ℕ) (Ok : ℕ → List Token → Type 0) where
     parts (g.procedure (g.it_is t p) n fs s b e m) = parts_begin row.parts_procedure t p (and (name n) (and (formals fs (ends sym.Formals w.Semicolon refl s)) (and (token refl s) (and (block b) (and (token refl e) (and (as_parts (parts m)) none))))))
     parts (g.function (g.it_is t p) n fs c a s b e m) = parts_begin row.parts_function t p (and (name n) (and (formals fs (ends sym.Formals w.Colon refl c)) (and (token refl c) (and (name a) (and (token refl s) (and (block b) (and (token refl e) (and (as_parts (parts m)) none))))))))
 
-    more_constants : {d : ℕ} {ts r : List Token} {b : tree.Block} → g.IsMoreConstants text Ok d ts r b → D (sym.MoreConstants d) ts r b
+    pub more_constants : {d : ℕ} {ts r : List Token} {b : tree.Block} → g.IsMoreConstants text Ok d ts r b → D (sym.MoreConstants d) ts r b
     more_constants (g.constants_end b) = as_after_constants (parts b)
     more_constants (g.constants_go_on (g.constant_part (g.name t p) e c s) b) = take row.next_constant refl t p tt (and (token refl e) (and (constant c) (and (token refl s) (and (more_constants b) none))))
 
-    more_types : {d : ℕ} {ts r : List Token} {b : tree.Block} → g.IsMoreTypes text Ok d ts r b → D (sym.MoreTypes d) ts r b
+    pub more_types : {d : ℕ} {ts r : List Token} {b : tree.Block} → g.IsMoreTypes text Ok d ts r b → D (sym.MoreTypes d) ts r b
     more_types (g.types_end b) = as_after_types (parts b)
     more_types (g.types_go_on (g.type_part (g.name t p) e c s) b) = take row.next_type refl t p tt (and (token refl e) (and (type_of c) (and (token refl s) (and (more_types b) none))))
 
-    more_variables : {d : ℕ} {ts r : List Token} {b : tree.Block} → g.IsMoreVariables text Ok d ts r b → D (sym.MoreVariables d) ts r b
+    pub more_variables : {d : ℕ} {ts r : List Token} {b : tree.Block} → g.IsMoreVariables text Ok d ts r b → D (sym.MoreVariables d) ts r b
     more_variables (g.variables_end b) = as_after_variables (parts b)
     more_variables (g.variables_go_on (g.variable_part (g.group (g.names (g.name t p) ns) c k) s) b) = take row.next_variable refl t p tt (and (more_names ns (colon_ends c)) (and (token refl c) (and (name k) (and (token refl s) (and (more_variables b) none)))))
 
