@@ -19,8 +19,9 @@ use Rattle.sp_codegen.specs.Joints.{Joint}
 use Rattle.sp_codegen.specs.Executions.{Execution}
 use Rattle.sp_codegen.specs.Following as following
 pub use Rattle.sp_codegen.specs.Following.{cells_in}
+use Rattle.sp_codegen.specs.Following.{StandsFor}
 use Rattle.sp_codegen.specs.Relation.{Alike}
-use Rattle.sp_codegen.proofs.Runs.{Gives, Known, Ends, stays, goes, comes_on, breaks_after}
+use Rattle.sp_codegen.proofs.Runs.{Gives, Known, Ends, stays, goes, comes_on, breaks, breaks_after}
 use Rattle.sp_codegen.proofs.Values.{P, within}
 
 module _ {M : Type 0} (ex : Execution M) where
@@ -149,17 +150,17 @@ module _ {M : Type 0} (ex : Execution M) where
   pub makes_went : {c : Config M} {o : Own} {s : Store} {Q : List Item → List Joint → ℕ → List Entry → Type 0} (todo : List Item) (fs : List Joint) (pc : ℕ) (st : List Entry) (n : M) → Comes ops code c (At pc st n) → rel.Stand fs o s n → Q todo fs pc st → Makes c o s Q (give (Went todo))
   makes_went todo fs pc st n e t q = record { by = (pc, st, n, fs, e, t, q) }
 
-  pub makes_fail : {c : Config M} {o : Own} {s : Store} {Q : List Item → List Joint → ℕ → List Entry → Type 0} (f : Fault) → one ops code c ≡ Fails f → Makes c o s Q (fail f)
-  makes_fail {c} f e = record { by = record { at = c; comes = stays ops rel w code c; fails = e } }
+  pub makes_fail : {c : Config M} {o : Own} {s : Store} {Q : List Item → List Joint → ℕ → List Entry → Type 0} (f : Fault) → StandsFor rel c s → one ops code c ≡ Fails f → Makes c o s Q (fail f)
+  makes_fail {c} {s = s} f t e = record { by = breaks ops rel w code c f s t e }
 
   -- a tick of the process, where a Tick stands
-  pub makes_tick : {c : Config M} {o : Own} {s : Store} {Q : List Item → List Joint → ℕ → List Entry → Type 0} (todo : List Item) (fs : List Joint) (pc : ℕ) (st : List Entry) (d : Did M) → Alike rel fs (run (tick g.limits) w o s) d → one ops code c ≡ then_go d (λ n1. paced ops code pc st n1) → Q todo fs pc st → Makes c o s Q (bind (tick g.limits) (λ u. give (Beat todo)))
-  makes_tick {c} {o} {s} {Q} todo fs pc st d al e q = record { by = subst (Made c Q) (sym (run_bind (tick g.limits) (λ u. give (Beat todo)) w o s)) (go (run (tick g.limits) w o s) d al e) }
+  pub makes_tick : {c : Config M} {o : Own} {s : Store} {Q : List Item → List Joint → ℕ → List Entry → Type 0} (todo : List Item) (fs : List Joint) (pc : ℕ) (st : List Entry) (d : Did M) → StandsFor rel c s → Alike rel fs s (run (tick g.limits) w o s) d → one ops code c ≡ then_go d (λ n1. paced ops code pc st n1) → Q todo fs pc st → Makes c o s Q (bind (tick g.limits) (λ u. give (Beat todo)))
+  makes_tick {c} {o} {s} {Q} todo fs pc st d t al e q = record { by = subst (Made c Q) (sym (run_bind (tick g.limits) (λ u. give (Beat todo)) w o s)) (go (run (tick g.limits) w o s) d al e) }
     where
-      go : (r : Came (Unit {0}) × Store) (d : Did M) → Alike rel fs r d → one ops code c ≡ then_go d (λ n1. paced ops code pc st n1) → Made c Q (then_run (λ u. give (Beat todo)) w r)
+      go : (r : Came (Unit {0}) × Store) (d : Did M) → Alike rel fs s r d → one ops code c ≡ then_go d (λ n1. paced ops code pc st n1) → Made c Q (then_run (λ u. give (Beat todo)) w r)
       go (Got a o1, s1) (Done n1) al e = (pc, st, n1, fs, c, stays ops rel w code c, e, al, q)
       go (Got a o1, s1) (Failed f) al e = absurd al
       go (Bad f, s1) (Done n1) al e = absurd al
-      go (Bad f, s1) (Failed g1) al e = record { at = c; comes = stays ops rel w code c; fails = e ∙ ap Fails (sym al) }
+      go (Bad f, s1) (Failed g1) al e = breaks ops rel w code c f s1 (subst (StandsFor rel c) (sym al.1) t) (e ∙ ap Fails (sym al.0))
       go (Lost, s1) d al e = absurd al
       go (Long, s1) d al e = absurd al

@@ -36,8 +36,9 @@ use Rattle.sp_code.specs.Emitted as emitted
 use Rattle.sp_code.specs.Stands.{Stands, HasFork, HasWords, ForVar, RightAt, StandsAt, ArmsAt, TestAt, TestsAt, TurnsAt, WidthAt, ReadsAt, CallAt, Around, Hushed, IsWritten, BlockAt, BlocksAt}
 use Rattle.sp_codegen.specs.Joints.{Joint, sources, from, HomeIs, Chain}
 use Rattle.sp_codegen.specs.Executions.{Execution}
+use Rattle.sp_codegen.specs.Following.{StandsFor}
 use Rattle.sp_codegen.specs.Relation.{Stood, OneCell, cell_of, Entered, GivensAre, Owns, frame_for}
-use Rattle.sp_codegen.proofs.Runs.{Gives, Known, stays, goes, comes_on, known_bind, gives_fail, gives_alike}
+use Rattle.sp_codegen.proofs.Runs.{Gives, Known, stays, goes, breaks, comes_on, known_bind, gives_fail, gives_alike}
 use Rattle.sp_codegen.proofs.Joints.{sources_length, up_from}
 use Rattle.sp_codegen.proofs.Chains.{block_agrees, found, seek_all, find_in}
 use Rattle.sp_codegen.proofs.Closing.{length_map}
@@ -239,27 +240,27 @@ module _ {M : Type 0} (ex : Execution M) where
       makes_known ex _ (At z.address) z.known
       (makes_known ex (λ a. bind (assign a (Ordinal v)) (λ u. bind (tick g.limits) (λ u. give (Beat (push d (Again x limit down d ∷ todo)))))) z.address (address_known z.address)
       (makes_bind ex _ (assign_gives (q + 1) z.address z.cell (Ordinal v) (m.Number v) (m.Number limit ∷ st) t z.points z.may (subst OneCell (sym z.sorted) tt) (subst (λ y. Stood rel p y z.address.kind (Ordinal v) (m.Number v)) (sym z.sorted) (v, refl, refl)) ge) (λ x1 x2 o2 s2 n2 t2 x3.
-      makes_tick ex (push d (Again x limit down d ∷ todo)) fs (q + 1 + 1) (m.Number limit ∷ st) (ops.beat n2) (law.beat t2) (one_at (q + 1) (m.Number limit ∷ st) n2 h.2)
+      makes_tick ex (push d (Again x limit down d ∷ todo)) fs (q + 1 + 1) (m.Number limit ∷ st) (ops.beat n2) (_, _, t2) (law.beat t2) (one_at (q + 1) (m.Number limit ∷ st) n2 h.2)
       (push_follows ex d end base below sc (q + 1 + 1) (m.Number limit ∷ st) fs (Again x limit down d ∷ todo) (within (λ u. inr) pl) h.3 (q, sc, st, slides ex _ _, refl, pl, h, fo)))))
 
   -- an item is written
-  print_gives : {fs : List Joint} {c : Config M} {o : Own} {s : Store} {n : M} (q : ℕ) (t : List ℕ) (stack : List Entry) → rel.Stand fs o s n → R Output → one ops code c ≡ m.prints ops code t q stack n → G fs c o s q (λ (u : Unit {0}) (z : Unit {0}). stack) (λ u z. Unit {0}) (write g t)
-  print_gives {n = n} q t stack st ro ge = gives_alike ops rel w code q stack (ops.print t n) (law.print st ro t) (ge ∙ holds_when (ops.has_output n) _ (law.has_output st ro))
+  print_gives : {fs : List Joint} {c : Config M} {o : Own} {s : Store} {n : M} (q : ℕ) (t : List ℕ) (stack : List Entry) → rel.Stand fs o s n → StandsFor rel c s → R Output → one ops code c ≡ m.prints ops code t q stack n → G fs c o s q (λ (u : Unit {0}) (z : Unit {0}). stack) (λ u z. Unit {0}) (write g t)
+  print_gives {n = n} q t stack st f ro ge = gives_alike ops rel w code q stack (ops.print t n) f (law.print st ro t) (ge ∙ holds_when (ops.has_output n) _ (law.has_output st ro))
 
-  wide_makes : (Q : List Item → List Joint → ℕ → List Entry → Type 0) (fs : List Joint) (q : ℕ) (cut : Bool) (t : List ℕ) (mm : ℤ) (stack : List Entry) (todo : List Item) (c : Config M) (o : Own) (s : Store) (n : M) → rel.Stand fs o s n → R Output → one ops code c ≡ m.wide ops code cut t mm q stack n → Q todo fs q stack
+  wide_makes : (Q : List Item → List Joint → ℕ → List Entry → Type 0) (fs : List Joint) (q : ℕ) (cut : Bool) (t : List ℕ) (mm : ℤ) (stack : List Entry) (todo : List Item) (c : Config M) (o : Own) (s : Store) (n : M) → rel.Stand fs o s n → StandsFor rel c s → R Output → one ops code c ≡ m.wide ops code cut t mm q stack n → Q todo fs q stack
       → K c o s Q (bind (in_width cut t (Some mm)) (λ bs. bind (write g bs) (λ u. give (Went todo))))
-  wide_makes Q fs q cut t mm stack todo c o s n st ro ge k = go (int_le mm (pos 0)) ge
+  wide_makes Q fs q cut t mm stack todo c o s n st f ro ge k = go (int_le mm (pos 0)) ge
     where
       text : List ℕ
       text = padded (nat_abs mm) (if cut then take (nat_abs mm) t else t)
 
       go : (b : Bool) → one ops code c ≡ (if b then Fails fault.F1 else m.prints ops code text q stack n) → K c o s Q (bind (if b then fail fault.F1 else give text) (λ bs. bind (write g bs) (λ u. give (Went todo))))
-      go true ge = record { by = record { at = c; comes = stays ops rel w code c; fails = ge } }
-      go false ge = makes_bind ex _ (print_gives q text stack st ro ge) (λ x1 x2 o2 s2 n2 t2 x3. makes_went ex todo fs q stack n2 (stays ops rel w code _) t2 k)
+      go true ge = record { by = breaks ops rel w code c fault.F1 s f ge }
+      go false ge = makes_bind ex _ (print_gives q text stack st f ro ge) (λ x1 x2 o2 s2 n2 t2 x3. makes_went ex todo fs q stack n2 (stays ops rel w code _) t2 k)
 
-  plain_makes : (Q : List Item → List Joint → ℕ → List Entry → Type 0) (fs : List Joint) (q : ℕ) (t : List ℕ) (stack : List Entry) (todo : List Item) (c : Config M) (o : Own) (s : Store) (n : M) → rel.Stand fs o s n → R Output → one ops code c ≡ m.prints ops code t q stack n → Q todo fs q stack
+  plain_makes : (Q : List Item → List Joint → ℕ → List Entry → Type 0) (fs : List Joint) (q : ℕ) (t : List ℕ) (stack : List Entry) (todo : List Item) (c : Config M) (o : Own) (s : Store) (n : M) → rel.Stand fs o s n → StandsFor rel c s → R Output → one ops code c ≡ m.prints ops code t q stack n → Q todo fs q stack
       → K c o s Q (bind (write g t) (λ u. give (Went todo)))
-  plain_makes Q fs q t stack todo c o s n st ro ge k = makes_bind ex _ (print_gives q t stack st ro ge) (λ x1 x2 o2 s2 n2 t2 x3. makes_went ex todo fs q stack n2 (stays ops rel w code _) t2 k)
+  plain_makes Q fs q t stack todo c o s n st f ro ge k = makes_bind ex _ (print_gives q t stack st f ro ge) (λ x1 x2 o2 s2 n2 t2 x3. makes_went ex todo fs q stack n2 (stays ops rel w code _) t2 k)
 
   -- the tests of a case
   abbrev Tested : Bool → ℤ → ℕ → ℕ → ℕ → List Entry → M → Type 0
@@ -276,7 +277,7 @@ module _ {M : Type 0} (ex : Execution M) where
 
   case_makes : (end : ℕ) (base : List Entry) (below : List Joint) (v : ℤ) (arms : Arms) (sc : List Scope) (q b past : ℕ) (stack : List Entry) (todo : List Item) (fs : List Joint) (o : Own) (s : Store) (n : M) → rel.Stand fs o s n → Pl sc fs (In_arms arms) → TestsAt p moves shares (Stands code) (HasFork code) (HasWords code) hush q arms b → slice_get code.instrs (after_tests q arms) ≡ Some i.Nocase → ArmsAt p moves shares (Stands code) (HasFork code) (HasWords code) hush (outside stack) sc b arms past → After end base below todo fs past stack
       → K (m.At q (m.Number v ∷ stack) n) o s (After end base below) (chosen g (arm_for v arms) todo)
-  case_makes end base below v NoArm sc q b past stack todo fs o s n t pl h hn ha fo = makes_fail ex fault.F9 (one_at q (m.Number v ∷ stack) n hn)
+  case_makes end base below v NoArm sc q b past stack todo fs o s n t pl h hn ha fo = makes_fail ex fault.F9 (fs, o, t) (one_at q (m.Number v ∷ stack) n hn)
   case_makes end base below v (Or (On ms d) rest) sc q b past stack todo fs o s n t pl h hn ha fo =
       go (has v ms) (test_comes v ms q b stack n h.0) (case_makes end base below v rest sc (after_test q ms) (after p b d + 1) past stack todo fs o s n t (within (λ u. inr) pl) h.1 hn ha.2 fo)
     where
@@ -285,37 +286,37 @@ module _ {M : Type 0} (ex : Execution M) where
       go false c k = makes_after ex c k
 
   -- a fork, where the depth allows it
-  fork_makes : (Q : List Item → List Joint → ℕ → List Entry → Type 0) (fs : List Joint) (q table : ℕ) (first : ℤ) (count : ℕ) (stack : List Entry) (bs : List Birth) (todo : List Item) (c : Config M) (o : Own) (s : Store) (n : M) → rel.Stand fs o s n → one ops code c ≡ m.forked ops code table first count q stack n → Q todo fs q stack → outside stack ≡ true → ForkIs ex (outside stack) fs bs (Forks table first count) → K c o s Q (fork g bs todo)
-  fork_makes Q fs q table first count stack bs todo c o s n t ge k fr fi =
+  fork_makes : (Q : List Item → List Joint → ℕ → List Entry → Type 0) (fs : List Joint) (q table : ℕ) (first : ℤ) (count : ℕ) (stack : List Entry) (bs : List Birth) (todo : List Item) (c : Config M) (o : Own) (s : Store) (n : M) → rel.Stand fs o s n → StandsFor rel c s → one ops code c ≡ m.forked ops code table first count q stack n → Q todo fs q stack → outside stack ≡ true → ForkIs ex (outside stack) fs bs (Forks table first count) → K c o s Q (fork g bs todo)
+  fork_makes Q fs q table first count stack bs todo c o s n t f ge k fr fi =
       makes_known ex (λ y. if nat_lt y.depth g.limits.depth then give (Forked bs todo) else fail fault.F11) o mine_known (go (nat_lt o.depth g.limits.depth) refl (ge ∙ ap (λ b. if b then Stops (Forks table first count) (m.At q stack n) else Fails fault.F11) (sym (law.may_fork t))))
     where
       go : (b : Bool) → nat_lt o.depth g.limits.depth ≡ b → one ops code c ≡ (if b then Stops (Forks table first count) (m.At q stack n) else Fails fault.F11) → K c o s Q (if b then give (Forked bs todo) else fail fault.F11)
       go true room e = record { by = (q, stack, n, fs, c, Forks table first count, stays ops rel w code c, e, t, k, fr, fi, room) }
-      go false room e = makes_fail ex fault.F11 e
+      go false room e = makes_fail ex fault.F11 f e
 
   -- a value is read
-  took_gives : {fs : List Joint} {c : Config M} {o : Own} {s : Store} {n : M} (q : ℕ) (x : Taken) (a : Address) (u : Ptr) (stack : List Entry) → rel.Stand fs o s n → R Input → rel.Points fs a u → R a.spot → sort p a.kind ≡ Ordinals → one ops code c ≡ m.taken ops code x u q stack n → G fs c o s q (λ (u : Unit {0}) (z : Unit {0}). stack) (λ u z. Unit {0}) (take_in g a x)
-  took_gives {n = n} q (Took v bytes) a u stack st ri pt ra so ge =
+  took_gives : {fs : List Joint} {c : Config M} {o : Own} {s : Store} {n : M} (q : ℕ) (x : Taken) (a : Address) (u : Ptr) (stack : List Entry) → rel.Stand fs o s n → StandsFor rel c s → R Input → rel.Points fs a u → R a.spot → sort p a.kind ≡ Ordinals → one ops code c ≡ m.taken ops code x u q stack n → G fs c o s q (λ (u : Unit {0}) (z : Unit {0}). stack) (λ u z. Unit {0}) (take_in g a x)
+  took_gives {n = n} q (Took v bytes) a u stack st f ri pt ra so ge =
       record { by = (tt, ops.put u (cell.Ordinal v) (ops.advance bytes n), goes ops rel w code ge, law.store (law.advance st ri bytes) a u pt ra (subst OneCell (sym so) tt) (Ordinal v) (m.Number v) (subst (λ y. Stood rel p y a.kind (Ordinal v) (m.Number v)) (sym so) (v, refl, refl)), tt) }
-  took_gives q (Faulty f) a u stack st ri pt ra so ge = gives_fail ops rel w code f ge
+  took_gives q (Faulty x) a u stack st f ri pt ra so ge = gives_fail ops rel w code x f ge
 
   -- a width
   width_text : (call : Calls) → Oks call → (end : ℕ) (base : List Entry) (below : List Joint) (t : List ℕ) (j : ℕ) (x : Option Expr) (sc : List Scope) (q : ℕ) (stack : List Entry) (todo : List Item) (fs : List Joint) (o : Own) (s : Store) (n : M) → rel.Stand fs o s n → Pl sc fs (In_width x) → R Output → slice_get code.texts j ≡ Some t → WidthAt p moves shares (Stands code) (HasFork code) (HasWords code) hush sc q x
       → slice_get code.instrs (after_width q x) ≡ Some (if is_given x then i.WritewText j else i.WriteText j) → After end base below todo fs (after_width q x + 1) stack
       → K (m.At q stack n) o s (After end base below) (bind (width g call x) (λ mm. bind (in_width true t mm) (λ bs. bind (write g bs) (λ u. give (Went todo)))))
   width_text call ok end base below t j None sc q stack todo fs o s n st pl ro et h ge fo =
-      plain_makes (After end base below) fs (q + 1) t stack todo (m.At q stack n) o s n st ro (one_at q stack n ge ∙ ap (λ y. there y (λ z. m.prints ops code z (q + 1) stack n)) et) fo
+      plain_makes (After end base below) fs (q + 1) t stack todo (m.At q stack n) o s n st (fs, o, st) ro (one_at q stack n ge ∙ ap (λ y. there y (λ z. m.prints ops code z (q + 1) stack n)) et) fo
   width_text call ok end base below t j (Some e) sc q stack todo fs o s n st pl ro et h ge fo =
       makes_assoc (ordinal_of g call e) (λ y. give (Some y)) _
       (makes_bind ex _ (ordinal_gives ex call ok e sc q stack fs o s n st pl h) (λ v u o1 s1 n1 t1 x1.
-      wide_makes (After end base below) fs (after_value q e + 1) true t v stack todo (m.At (after_value q e) (m.Number v ∷ stack) n1) o1 s1 n1 t1 ro (one_at (after_value q e) (m.Number v ∷ stack) n1 ge ∙ ap (λ y. there y (λ z. m.wide ops code true z v (after_value q e + 1) stack n1)) et) fo))
+      wide_makes (After end base below) fs (after_value q e + 1) true t v stack todo (m.At (after_value q e) (m.Number v ∷ stack) n1) o1 s1 n1 t1 (fs, o1, t1) ro (one_at (after_value q e) (m.Number v ∷ stack) n1 ge ∙ ap (λ y. there y (λ z. m.wide ops code true z v (after_value q e + 1) stack n1)) et) fo))
 
   -- an item without and with a width
   item_plain : (Q : List Item → List Joint → ℕ → List Entry → Type 0) (ty : KindOf) (v : ℤ) (fs : List Joint) (q : ℕ) (stack : List Entry) (todo : List Item) (o : Own) (s : Store) (n : M) → rel.Stand fs o s n → R Output → slice_get code.instrs q ≡ Some (write_instr (Some ty) false) → IsWritten ty → Q todo fs (q + 1) stack
       → K (m.At q (m.Number v ∷ stack) n) o s Q (bind (in_width (shown ty v).0 (shown ty v).1 None) (λ bs. bind (write g bs) (λ u. give (Went todo))))
-  item_plain Q kind.Integer v fs q stack todo o s n t ro e h k = plain_makes Q fs (q + 1) (signed_decimal v) stack todo _ o s n t ro (one_at q (m.Number v ∷ stack) n e) k
-  item_plain Q kind.Boolean v fs q stack todo o s n t ro e h k = plain_makes Q fs (q + 1) (truth_text v) stack todo _ o s n t ro (one_at q (m.Number v ∷ stack) n e) k
-  item_plain Q kind.Char v fs q stack todo o s n t ro e h k = plain_makes Q fs (q + 1) (nat_abs v % 256 ∷ []) stack todo _ o s n t ro (one_at q (m.Number v ∷ stack) n e) k
+  item_plain Q kind.Integer v fs q stack todo o s n t ro e h k = plain_makes Q fs (q + 1) (signed_decimal v) stack todo (m.At q (m.Number v ∷ stack) n) o s n t (fs, o, t) ro (one_at q (m.Number v ∷ stack) n e) k
+  item_plain Q kind.Boolean v fs q stack todo o s n t ro e h k = plain_makes Q fs (q + 1) (truth_text v) stack todo (m.At q (m.Number v ∷ stack) n) o s n t (fs, o, t) ro (one_at q (m.Number v ∷ stack) n e) k
+  item_plain Q kind.Char v fs q stack todo o s n t ro e h k = plain_makes Q fs (q + 1) (nat_abs v % 256 ∷ []) stack todo (m.At q (m.Number v ∷ stack) n) o s n t (fs, o, t) ro (one_at q (m.Number v ∷ stack) n e) k
   item_plain Q (kind.Enumeration x) v fs q stack todo o s n t ro e h k = absurd h
   item_plain Q (kind.Array a b c d) v fs q stack todo o s n t ro e h k = absurd h
   item_plain Q (kind.Fields a) v fs q stack todo o s n t ro e h k = absurd h
@@ -323,9 +324,9 @@ module _ {M : Type 0} (ex : Execution M) where
 
   item_wide : (Q : List Item → List Joint → ℕ → List Entry → Type 0) (ty : KindOf) (v mm : ℤ) (fs : List Joint) (q : ℕ) (stack : List Entry) (todo : List Item) (o : Own) (s : Store) (n : M) → rel.Stand fs o s n → R Output → slice_get code.instrs q ≡ Some (write_instr (Some ty) true) → IsWritten ty → Q todo fs (q + 1) stack
       → K (m.At q (m.Number mm ∷ m.Number v ∷ stack) n) o s Q (bind (in_width (shown ty v).0 (shown ty v).1 (Some mm)) (λ bs. bind (write g bs) (λ u. give (Went todo))))
-  item_wide Q kind.Integer v mm fs q stack todo o s n t ro e h k = wide_makes Q fs (q + 1) false (signed_decimal v) mm stack todo _ o s n t ro (one_at q _ n e) k
-  item_wide Q kind.Boolean v mm fs q stack todo o s n t ro e h k = wide_makes Q fs (q + 1) true (truth_text v) mm stack todo _ o s n t ro (one_at q _ n e) k
-  item_wide Q kind.Char v mm fs q stack todo o s n t ro e h k = wide_makes Q fs (q + 1) false (nat_abs v % 256 ∷ []) mm stack todo _ o s n t ro (one_at q _ n e) k
+  item_wide Q kind.Integer v mm fs q stack todo o s n t ro e h k = wide_makes Q fs (q + 1) false (signed_decimal v) mm stack todo (m.At q (m.Number mm ∷ m.Number v ∷ stack) n) o s n t (fs, o, t) ro (one_at q _ n e) k
+  item_wide Q kind.Boolean v mm fs q stack todo o s n t ro e h k = wide_makes Q fs (q + 1) true (truth_text v) mm stack todo (m.At q (m.Number mm ∷ m.Number v ∷ stack) n) o s n t (fs, o, t) ro (one_at q _ n e) k
+  item_wide Q kind.Char v mm fs q stack todo o s n t ro e h k = wide_makes Q fs (q + 1) false (nat_abs v % 256 ∷ []) mm stack todo (m.At q (m.Number mm ∷ m.Number v ∷ stack) n) o s n t (fs, o, t) ro (one_at q _ n e) k
   item_wide Q (kind.Enumeration x) v mm fs q stack todo o s n t ro e h k = absurd h
   item_wide Q (kind.Array a b c d) v mm fs q stack todo o s n t ro e h k = absurd h
   item_wide Q (kind.Fields a) v mm fs q stack todo o s n t ro e h k = absurd h
@@ -369,7 +370,7 @@ module _ {M : Type 0} (ex : Execution M) where
   pub record CallFinds (fs : List Joint) (f : ℕ) (b : Block) (q : ℕ) (stack : List Entry) (gs : List Given) (es : List Entry) (o : Own) (s : Store) (n : M) (l : Layout) : Type 0 where
     pub did : Did M
     pub around : List Joint
-    pub entered : Entered rel w fs f b around gs (run (enter g f gs) w o s) did
+    pub entered : Entered rel w fs s f b around gs (run (enter g f gs) w o s) did
     pub goes : one ops code (m.At q (pushed es stack) n) ≡ calls_to l (q + 1) stack did
     pub parent : (c : ℕ) × (b.parent ≡ Some c)
     pub placed : (j : Joint) → j.source ≡ frame_for rel w f b fs around gs → Pl (scopes_of p f) (j ∷ fs) (In_stmt b.body)
@@ -442,7 +443,7 @@ module _ {M : Type 0} (ex : Execution M) where
       no_answer : l.answer ≡ false
       no_answer = ap (λ (y : Layout). y.answer) z.is ∙ ap is_given ha
 
-      go : (x : Came Block × Store) (d : Did M) → Entered rel w fs f b r.around gs x d → one ops code c ≡ calls_to l (q + 1) stack d → Made ex c (After end base below) (then_run next w x)
+      go : (x : Came Block × Store) (d : Did M) → Entered rel w fs s f b r.around gs x d → one ops code c ≡ calls_to l (q + 1) stack d → Made ex c (After end base below) (then_run next w x)
       go (Got b1 o1, s1) (Done n1) al e =
           let fr = al.1.0 in (
             l.entry,
@@ -459,7 +460,7 @@ module _ {M : Type 0} (ex : Execution M) where
           )
       go (Got b1 o1, s1) (Failed x) al e = absurd al
       go (Bad x, s1) (Done n1) al e = absurd al
-      go (Bad x, s1) (Failed y) al e = record { at = c; comes = stays ops rel w code c; fails = e ∙ ap Fails (sym al) }
+      go (Bad x, s1) (Failed y) al e = breaks ops rel w code c x s1 (subst (StandsFor rel c) (sym al.1) (fs, o, t)) (e ∙ ap Fails (sym al.0))
       go (Lost, s1) d al e = absurd al
       go (Long, s1) d al e = absurd al
 
@@ -490,14 +491,14 @@ module _ {M : Type 0} (ex : Execution M) where
     where
       go : (b : Bool) → int_lt hi lo ≡ b → one ops code (m.At q (m.Number hi ∷ m.Number lo ∷ stack) n) ≡ (if b then Goes (m.At (q + 1) stack n) else m.forked ops code tb lo (values_in lo hi) (q + 1) stack n) → K (m.At q (m.Number hi ∷ m.Number lo ∷ stack) n) o s Q (if b then give (Went todo) else fork g (indexed_children x d lo (nat_abs ((hi -ℤ lo) +ℤ pos 1))) todo)
       go true b e = makes_went ex todo fs (q + 1) stack n (goes ops rel w code e) t k
-      go false b e = fork_makes Q fs (q + 1) tb lo (values_in lo hi) stack (indexed_children x d lo (nat_abs ((hi -ℤ lo) +ℤ pos 1))) todo _ o s n t e k fr (fi b)
+      go false b e = fork_makes Q fs (q + 1) tb lo (values_in lo hi) stack (indexed_children x d lo (nat_abs ((hi -ℤ lo) +ℤ pos 1))) todo (m.At q (m.Number hi ∷ m.Number lo ∷ stack) n) o s n t (fs, o, t) e k fr (fi b)
 
   assume_makes : (Q : List Item → List Joint → ℕ → List Entry → Type 0) (fs : List Joint) (v : ℤ) (q : ℕ) (stack : List Entry) (todo : List Item) (o : Own) (s : Store) (n : M) → rel.Stand fs o s n → slice_get code.instrs q ≡ Some i.Assume → Q todo fs (q + 1) stack
       → K (m.At q (m.Number v ∷ stack) n) o s Q (if_true v (give (Went todo)) (fail fault.F8))
   assume_makes Q fs v q stack todo o s n t h k = go (int_le v (pos 0)) (one_at q (m.Number v ∷ stack) n h)
     where
       go : (b : Bool) → one ops code (m.At q (m.Number v ∷ stack) n) ≡ (if not b then Goes (m.At (q + 1) stack n) else Fails fault.F8) → K (m.At q (m.Number v ∷ stack) n) o s Q (if b then fail fault.F8 else give (Went todo))
-      go true e = makes_fail ex fault.F8 e
+      go true e = makes_fail ex fault.F8 (fs, o, t) e
       go false e = makes_went ex todo fs (q + 1) stack n (goes ops rel w code e) t k
 
   reads_makes : (Q : List Item → List Joint → ℕ → List Entry → Type 0) (fs : List Joint) (ty : KindOf) (q : ℕ) (a : Address) (u : Ptr) (stack : List Entry) (todo : List Item) (o : Own) (s : Store) (n : M) → rel.Stand fs o s n → R Input → rel.Points fs a u → R a.spot → slice_get p.kinds a.kind ≡ Some ty → ReadsAt p moves shares (Stands code) (HasFork code) (HasWords code) hush q ty → Q todo fs (q + 1) stack
@@ -505,11 +506,11 @@ module _ {M : Type 0} (ex : Execution M) where
   reads_makes Q fs kind.Integer q a u stack todo o s n t ri pt ra ek h k =
       let bs = rest_of ex s in
       makes_known ex (λ x. bind (take_in g a x) (λ y. give (Went todo))) (number_in bs) (or_known ex (Some (number_in bs)) (number_in bs) refl)
-      (makes_bind ex _ (took_gives (q + 1) (number_in bs) a u stack t ri pt ra (ap sort_by ek) (one_at q _ n h ∙ holds_when (ops.has u 1 n) _ (law.has_one t a u pt ra) ∙ ap (λ z. there z (λ bs. m.taken ops code (number_in bs) u (q + 1) stack n)) (law.left t ri))) (λ x1 x2 o2 s2 n2 t2 x3. makes_went ex todo fs (q + 1) stack n2 (stays ops rel w code _) t2 k))
+      (makes_bind ex _ (took_gives (q + 1) (number_in bs) a u stack t (fs, o, t) ri pt ra (ap sort_by ek) (one_at q _ n h ∙ holds_when (ops.has u 1 n) _ (law.has_one t a u pt ra) ∙ ap (λ z. there z (λ bs. m.taken ops code (number_in bs) u (q + 1) stack n)) (law.left t ri))) (λ x1 x2 o2 s2 n2 t2 x3. makes_went ex todo fs (q + 1) stack n2 (stays ops rel w code _) t2 k))
   reads_makes Q fs kind.Char q a u stack todo o s n t ri pt ra ek h k =
       let bs = rest_of ex s in
       makes_known ex (λ x. bind (take_in g a x) (λ y. give (Went todo))) (char_in bs) (or_known ex (Some (char_in bs)) (char_in bs) refl)
-      (makes_bind ex _ (took_gives (q + 1) (char_in bs) a u stack t ri pt ra (ap sort_by ek) (one_at q _ n h ∙ holds_when (ops.has u 1 n) _ (law.has_one t a u pt ra) ∙ ap (λ z. there z (λ bs. m.taken ops code (char_in bs) u (q + 1) stack n)) (law.left t ri))) (λ x1 x2 o2 s2 n2 t2 x3. makes_went ex todo fs (q + 1) stack n2 (stays ops rel w code _) t2 k))
+      (makes_bind ex _ (took_gives (q + 1) (char_in bs) a u stack t (fs, o, t) ri pt ra (ap sort_by ek) (one_at q _ n h ∙ holds_when (ops.has u 1 n) _ (law.has_one t a u pt ra) ∙ ap (λ z. there z (λ bs. m.taken ops code (char_in bs) u (q + 1) stack n)) (law.left t ri))) (λ x1 x2 o2 s2 n2 t2 x3. makes_went ex todo fs (q + 1) stack n2 (stays ops rel w code _) t2 k))
   reads_makes Q fs kind.Boolean q a u stack todo o s n t ri pt ra ek h k = absurd h
   reads_makes Q fs (kind.Enumeration x) q a u stack todo o s n t ri pt ra ek h k = absurd h
   reads_makes Q fs (kind.Array b c d e) q a u stack todo o s n t ri pt ra ek h k = absurd h
@@ -566,10 +567,10 @@ module _ {M : Type 0} (ex : Execution M) where
       makes_bind ex _ (ordinal_gives ex call ok e sc q stack fs o s n t (within (λ u. inl) pl) h.0) (λ v u o1 s1 n1 t1 x1.
       branch (After end base below) v (after_value q e) (after p (after_value q e + 1 + 1) d + 1) stack o1 s1 n1 _ _ h.1
       (makes_went ex todo fs _ stack n1 (stays ops rel w code _) t1 k)
-      (makes_tick ex (push d (Do (While e d) ∷ todo)) fs (after_value q e + 1 + 1) stack (ops.beat n1) (law.beat t1) (one_at (after_value q e + 1) stack n1 h.2)
+      (makes_tick ex (push d (Do (While e d) ∷ todo)) fs (after_value q e + 1 + 1) stack (ops.beat n1) (_, _, t1) (law.beat t1) (one_at (after_value q e + 1) stack n1 h.2)
       (push_follows ex d end base below sc _ stack fs (Do (While e d) ∷ todo) (within (λ u. inr) pl) h.3 (q, sc, jumps ex _ q stack h.4, pl, h, k))))
   start_makes call ok bl end base below (Repeat d e) sc q stack todo fs o s n t pl h k =
-      makes_tick ex (push d (Test d e ∷ todo)) fs (q + 1) stack (ops.beat n) (law.beat t) (one_at q stack n h.0)
+      makes_tick ex (push d (Test d e ∷ todo)) fs (q + 1) stack (ops.beat n) (_, _, t) (law.beat t) (one_at q stack n h.0)
       (push_follows ex d end base below sc (q + 1) stack fs (Test d e ∷ todo) (within (λ u. inr) pl) h.1 (q, sc, slides ex _ _, pl, h, k))
   start_makes call ok bl end base below (For x from down to d) sc q stack todo fs o s n t pl h k =
       makes_bind ex _ (ordinal_gives ex call ok from sc q stack fs o s n t (within (λ u i. inr (inl i)) pl) h.0) (λ lo u o1 s1 n1 t1 x1.
@@ -583,7 +584,7 @@ module _ {M : Type 0} (ex : Execution M) where
       makes_bind ex _ (ordinal_gives ex call ok e sc q stack fs o s n t (within (λ u. inl) pl) h.0) (λ v u o1 s1 n1 t1 x1.
       case_makes end base below v arms sc (after_value q e) (after_tests (after_value q e) arms + 1) (after p q (Case e arms)) stack todo fs o1 s1 n1 t1 (within (λ u. inr) pl) h.1 h.2 h.3 k)
   start_makes call ok bl end base below (Parallel ss) sc q stack todo fs o s n t pl h k =
-      fork_makes (After end base below) fs (q + 1) h.0 (pos 0) (length (emitted.children_tables p moves shares (q + 1 + 1) ss)) stack (children ss) todo (m.At q stack n) o s n t (one_at q stack n h.2 ∙ ap (λ y. there y (λ table. m.forked ops code h.0 (pos 0) (length table.children) (q + 1) stack n)) h.1)
+      fork_makes (After end base below) fs (q + 1) h.0 (pos 0) (length (emitted.children_tables p moves shares (q + 1 + 1) ss)) stack (children ss) todo (m.At q stack n) o s n t (fs, o, t) (one_at q stack n h.2 ∙ ap (λ y. there y (λ table. m.forked ops code h.0 (pos 0) (length table.children) (q + 1) stack n)) h.1)
       (slide_follows ex end base below (q + 1) _ stack fs todo (jumps ex (q + 1) _ stack h.3) k) h.5 (inl (ss, h.0, q + 1 + 1, sc, refl, h.1, refl, h.4, pl))
   start_makes call ok bl end base below (Forall x from to d) sc q stack todo fs o s n t pl h k =
       makes_bind ex _ (ordinal_gives ex call ok from sc q stack fs o s n t (within (λ u i. inr (inl i)) pl) h.2) (λ lo u o1 s1 n1 t1 x1.
@@ -613,7 +614,7 @@ module _ {M : Type 0} (ex : Execution M) where
       width_text call ok end base below tx h.0 wd sc q stack todo fs o s n t (within (λ u i. inr (inl i)) pl) ro h.1 h.2 h.3 k
   start_makes call ok bl end base below WriteLine sc q stack todo fs o s n t pl h k =
       let ro = aims_output sc fs pl (inl refl) in
-      plain_makes (After end base below) fs (q + 1) (10 ∷ []) stack todo (m.At q stack n) o s n t ro (one_at q stack n h) k
+      plain_makes (After end base below) fs (q + 1) (10 ∷ []) stack todo (m.At q stack n) o s n t (fs, o, t) ro (one_at q stack n h) k
   start_makes call ok bl end base below (Open v) sc q stack todo fs o s n t pl h k =
       makes_bind ex (λ a. bind who (λ z. bind (assign a (Chan (record { owner = z.name; nth = z.opens }))) (λ u. give (Opened todo)))) (address_gives ex call ok v h.0 sc q stack fs o s n t (within (λ u. inl) pl) h.1 h.2) (λ a u o1 s1 n1 t1 x1.
       record { by = (after_var q v + 1, stack, ops.own u n1, fs, m.At (after_var q v) (m.Pointer u ∷ stack) n1, a, u, s1, stays ops rel w code _, one_at (after_var q v) _ n1 h.4 ∙ holds_when (ops.has u 1 n1) _ (law.has_one t1 a u x1.1 x1.2), law.own t1 a u x1.1 x1.2, x1.1, x1.2, refl, k, h.5) })

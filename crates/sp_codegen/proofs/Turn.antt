@@ -31,9 +31,10 @@ use Rattle.sp_code.specs.Stands.{Stands, HasFork, HasWords, TurnsAt, CallAt, Aro
 use Rattle.sp_codegen.specs.Joints.{Joint, sources, Chain}
 use Rattle.sp_codegen.specs.Shapes.{CellIs}
 use Rattle.sp_codegen.specs.Executions.{Execution}
+use Rattle.sp_codegen.specs.Following.{StandsFor}
 use Rattle.sp_codegen.specs.Following as following
 use Rattle.sp_codegen.specs.Relation.{Stood, OneCell, Entered, GivensAre, frame_for}
-use Rattle.sp_codegen.proofs.Runs.{Known, Ends, ends_after, stays, goes, comes_on, breaks_after, gives_after, gives_bind, gives_known, known_bind, gives_give, gives_by}
+use Rattle.sp_codegen.proofs.Runs.{Known, Ends, ends_after, stays, goes, comes_on, breaks, breaks_after, gives_after, gives_bind, gives_known, known_bind, gives_give, gives_by}
 use Rattle.sp_codegen.proofs.Chains.{block_agrees, found, seek_all}
 use Rattle.sp_codegen.proofs.Values.{pushed, within, ordinal_gives, kind_known, or_known, fetch_known, visible_known, Top, checked_as, read_as}
 use Rattle.sp_codegen.proofs.Follows.{slides, Follows, push_follows, outside_follows, Made, made_after, makes_after, makes_bind, makes_known, makes_by, makes_went}
@@ -179,7 +180,7 @@ module _ {M : Type 0} (ex : Execution M) where
       c = m.At (after p (q + 1 + 1) d) (m.Number hi ∷ st) n
 
       fails : (v : Value) → ordinal_read v ≡ fail fault.F4 → one ops code c ≡ Fails fault.F4 → Ka end base below c o s (bind (ordinal_read v) rest)
-      fails v e ge = makes_by ex (ap (λ (y : Work Value). bind y rest) e) (record { by = record { at = c; comes = stays ops rel w code c; fails = ge } })
+      fails v e ge = makes_by ex (ap (λ (y : Work Value). bind y rest) e) (record { by = breaks ops rel w code c fault.F4 s (fs, o, t) ge })
 
       go : (v : Value) → goes_on down hi v ≡ true → (u : Cell) → CellIs rel.Named v u → one ops code c ≡ ordinal_in u (λ a. if is_before down a hi then Goes (m.At (q + 1) (m.Number hi ∷ st) (ops.put z.cell (cell.Ordinal (next_value down a)) n)) else Goes (m.At (after p (q + 1 + 1) d + 1) st n)) → Ka end base below c o s (bind (ordinal_read v) rest)
       go Undefined e cell.Undefined oi ge = fails Undefined refl ge
@@ -276,18 +277,18 @@ module _ {M : Type 0} (ex : Execution M) where
   StK k v e = Stood rel p (sort p k) k v e
 
   -- a function's return
-  answer_gives : (r k : ℕ) (stack : List Entry) (fs : List Joint) (fr : Joint) (c : Config M) (o : Own) (s : Store) (n : M) → rel.Stand fs (without_frame g o.frames o) s (ops.close_frame n) → sort p k ≡ Ordinals → (v : Value) (u : Cell) → CellIs rel.Named v u → one ops code c ≡ ordinal_in u (λ a. Goes (m.At r (m.Number a ∷ stack) (ops.close_frame n)))
+  answer_gives : (r k : ℕ) (stack : List Entry) (fs : List Joint) (fr : Joint) (c : Config M) (o : Own) (s : Store) (n : M) → StandsFor rel c s → rel.Stand fs (without_frame g o.frames o) s (ops.close_frame n) → sort p k ≡ Ordinals → (v : Value) (u : Cell) → CellIs rel.Named v u → one ops code c ≡ ordinal_in u (λ a. Goes (m.At r (m.Number a ∷ stack) (ops.close_frame n)))
       → G ex fs c o s r (Top ex stack) (StK k) (bind (ordinal_read v) (λ y. bind (leave g) (λ z. give y)))
-  answer_gives r k stack fs fr c o s n t e Undefined cell.Undefined oi ge = record { by = record { at = c; comes = stays ops rel w code c; fails = ge } }
-  answer_gives r k stack fs fr c o s n t e Undefined (cell.Ordinal a) oi ge = absurd oi
-  answer_gives r k stack fs fr c o s n t e Undefined (cell.Channel a) oi ge = absurd oi
-  answer_gives r k stack fs fr c o s n t e (Chan y) cell.Undefined oi ge = absurd oi
-  answer_gives r k stack fs fr c o s n t e (Chan y) (cell.Ordinal a) oi ge = absurd oi
-  answer_gives r k stack fs fr c o s n t e (Chan y) (cell.Channel a) oi ge = record { by = record { at = c; comes = stays ops rel w code c; fails = ge } }
-  answer_gives r k stack fs fr c o s n t e (Parts y) u oi ge = absurd oi
-  answer_gives r k stack fs fr c o s n t e (Ordinal a) cell.Undefined oi ge = absurd oi
-  answer_gives r k stack fs fr c o s n t e (Ordinal a) (cell.Channel b) oi ge = absurd oi
-  answer_gives r k stack fs fr c o s n t e (Ordinal a) (cell.Ordinal b) oi ge =
+  answer_gives r k stack fs fr c o s n f t e Undefined cell.Undefined oi ge = record { by = breaks ops rel w code c fault.F4 s f ge }
+  answer_gives r k stack fs fr c o s n f t e Undefined (cell.Ordinal a) oi ge = absurd oi
+  answer_gives r k stack fs fr c o s n f t e Undefined (cell.Channel a) oi ge = absurd oi
+  answer_gives r k stack fs fr c o s n f t e (Chan y) cell.Undefined oi ge = absurd oi
+  answer_gives r k stack fs fr c o s n f t e (Chan y) (cell.Ordinal a) oi ge = absurd oi
+  answer_gives r k stack fs fr c o s n f t e (Chan y) (cell.Channel a) oi ge = record { by = breaks ops rel w code c fault.F4 s f ge }
+  answer_gives r k stack fs fr c o s n f t e (Parts y) u oi ge = absurd oi
+  answer_gives r k stack fs fr c o s n f t e (Ordinal a) cell.Undefined oi ge = absurd oi
+  answer_gives r k stack fs fr c o s n f t e (Ordinal a) (cell.Channel b) oi ge = absurd oi
+  answer_gives r k stack fs fr c o s n f t e (Ordinal a) (cell.Ordinal b) oi ge =
       record { by = (m.Number b, ops.close_frame n, goes ops rel w code ge, t, subst (λ z. Stood rel p z k (Ordinal a) (m.Number b)) (sym e) (a, refl, ap m.Number (sym oi))) }
 
   rest_gives : Blocks ex → (go : List Item → Work (List Item)) → AllMeets go → Oks ex (call_by g go) → (end : ℕ) (base : List Entry) (below : List Joint) → outside base ≡ false → (todo : List Item) (pc : ℕ) (stack : List Entry) (fs : List Joint) (o : Own) (s : Store) (n : M) → rel.Stand fs o s n → F end base below pc stack fs todo → Ready fs o s n todo
@@ -365,7 +366,7 @@ module _ {M : Type 0} (ex : Execution M) where
               (gives_assoc (fetch a) (checked ty.0) out
               (gives_known ops rel w code (λ y. bind (checked ty.0 y) out) val (fetch_known ex a)
               (gives_by ops rel w code (ap (λ (y : Work Value). bind y out) (checked_as ex ty.0 val ∙ ap (λ y. read_as ex y val) (sym (ap sort_by ty.1) ∙ so)))
-              (answer_gives (q + 1) k stack fs fr (m.At end st n2) o2 s2 n2 cl.1 ek val (ops.look a1 n2) (law.load t2 a a1 pt may (subst OneCell (sym so) tt))
+              (answer_gives (q + 1) k stack fs fr (m.At end st n2) o2 s2 n2 (_, _, t2) cl.1 ek val (ops.look a1 n2) (law.load t2 a a1 pt may (subst OneCell (sym so) tt))
               (one_at ex end st n2 ends ∙ holds_when (ops.may_close n2) _ cl.0 ∙ ap (λ y. there y (λ a. when (ops.has a 1 n2) (ordinal_in (ops.look a n2) (λ v. Goes (m.At (q + 1) (m.Number v ∷ stack) (ops.close_frame n2)))))) ea ∙ holds_when (ops.has a1 1 n2) _ (law.has_one t2 a a1 pt may)))))))
 
           inner : (fr : Joint) (o1 : Own) (s1 : Store) (n1 : M) → fr.source ≡ frame_for rel w f b fs r.around gs → rel.Stand (fr ∷ fs) o1 s1 n1 → rel.Mine fr fs → G ex fs (m.At l.entry st n1) o1 s1 (q + 1) (Top ex stack) (StK k) (body b)
@@ -388,14 +389,14 @@ module _ {M : Type 0} (ex : Execution M) where
               scoped : scopes_of p f ≡ places.OfBlock f ∷ drop ca.0 sc
               scoped = around_at b.parent refl ca.2
 
-          by_enter : (x : Came Block × Store) (d : Did M) → Entered rel w fs f b r.around gs x d → one ops code c ≡ calls_to ex l (q + 1) stack d → Ends ops rel w code fs c (q + 1) (Top ex stack) (StK k) (then_run body w x)
+          by_enter : (x : Came Block × Store) (d : Did M) → Entered rel w fs s f b r.around gs x d → one ops code c ≡ calls_to ex l (q + 1) stack d → Ends ops rel w code fs c (q + 1) (Top ex stack) (StK k) (then_run body w x)
           by_enter (Got b1 o1, s1) (Done n1) al e =
               ends_after ops rel w code fs c (m.At l.entry st n1) (q + 1) (Top ex stack) (StK k) (run (body b1) w o1 s1)
               (goes ops rel w code (e ∙ ap (λ y. if y then Goes (m.At l.entry st n1) else paced ops code l.entry (m.Link (q + 1) ∷ stack) n1) answers))
               (subst (λ (y : Block). G ex fs (m.At l.entry st n1) o1 s1 (q + 1) (Top ex stack) (StK k) (body y)) (sym al.0) (inner al.1.0 o1 s1 n1 al.1.1 al.1.2 al.1.3)).by
           by_enter (Got b1 o1, s1) (Failed x) al e = absurd al
           by_enter (Bad x, s1) (Done n1) al e = absurd al
-          by_enter (Bad x, s1) (Failed y) al e = record { at = c; comes = stays ops rel w code c; fails = e ∙ ap Fails (sym al) }
+          by_enter (Bad x, s1) (Failed y) al e = breaks ops rel w code c x s1 (subst (StandsFor rel c) (sym al.1) (fs, o, t)) (e ∙ ap Fails (sym al.0))
           by_enter (Lost, s1) d al e = absurd al
           by_enter (Long, s1) d al e = absurd al
 

@@ -40,6 +40,7 @@ use Rattle.sp_code.specs.Stands.{Stands, HasFork, HasWords, VarRole, VarAt, NoIn
 use Rattle.sp_codegen.specs.Joints.{Joint, sources, up_at, Chain}
 use Rattle.sp_codegen.specs.Shapes.{CellIs, Flat}
 use Rattle.sp_codegen.specs.Executions.{Execution}
+use Rattle.sp_codegen.specs.Following.{StandsFor}
 use Rattle.sp_codegen.specs.Relation.{Placed, Stood, GivensAre, Owns, OneCell}
 use Rattle.sp_codegen.proofs.Runs.{Gives, Known, stays, goes, gives_bind, gives_known, gives_give, gives_fail, gives_by}
 use Rattle.sp_codegen.proofs.Chains.{block_agrees, index_agrees, found, seek_all, find_in}
@@ -106,10 +107,10 @@ module _ {M : Type 0} (ex : Execution M) where
   abbrev pub St : ℕ → Value → Entry → Type 0
   St k v e = Stood rel p (sort p k) k v e
 
-  pub worked_gives : {js : List Joint} {o : Own} {s : Store} (c : Config M) (pc k : ℕ) (stack : List Entry) (n : M) → rel.Stand js o s n → sort p k ≡ Ordinals → (x : Worked) → one ops code c ≡ worked x (λ v. Goes (m.At pc (m.Number v ∷ stack) n))
+  pub worked_gives : {js : List Joint} {o : Own} {s : Store} (c : Config M) (pc k : ℕ) (stack : List Entry) (n : M) → rel.Stand js o s n → StandsFor rel c s → sort p k ≡ Ordinals → (x : Worked) → one ops code c ≡ worked x (λ v. Goes (m.At pc (m.Number v ∷ stack) n))
       → G js c o s pc (Top stack) (St k) (work_of x)
-  worked_gives c pc k stack n t e (Yields v) h = gives_give ops rel w code (Ordinal v) (m.Number v) (goes ops rel w code h) t (subst (λ z. Stood rel p z k (Ordinal v) (m.Number v)) (sym e) (v, refl, refl))
-  worked_gives c pc k stack n t e (Refuses f) h = gives_fail ops rel w code f h
+  worked_gives c pc k stack n t f e (Yields v) h = gives_give ops rel w code (Ordinal v) (m.Number v) (goes ops rel w code h) t (subst (λ z. Stood rel p z k (Ordinal v) (m.Number v)) (sym e) (v, refl, refl))
+  worked_gives c pc k stack n t f e (Refuses x) h = gives_fail ops rel w code x f h
 
   -- an ordinal on top of the stack
   abbrev pub NumberTop : List Entry → ℤ → Unit {0} → List Entry
@@ -136,8 +137,8 @@ module _ {M : Type 0} (ex : Execution M) where
   unary_gives : {js : List Joint} {o : Own} {s : Store} (op : UnaryOp) (q k : ℕ) (stack : List Entry) (v : ℤ) (n : M) → rel.Stand js o s n → sort p k ≡ Ordinals → UnaryAt p moves shares (Stands code) (HasFork code) (HasWords code) hush q op
       → G js (m.At q (m.Number v ∷ stack) n) o s (after_unary op q) (Top stack) (St k) (work_of (unary_op op v))
   unary_gives unary.Plus q k stack v n t e h = gives_give ops rel w code (Ordinal v) (m.Number v) (stays ops rel w code _) t (subst (λ z. Stood rel p z k (Ordinal v) (m.Number v)) (sym e) (v, refl, refl))
-  unary_gives unary.Minus q k stack v n t e h = worked_gives (m.At q (m.Number v ∷ stack) n) (q + 1) k stack n t e (unary_op unary.Minus v) (at_one q (m.Number v ∷ stack) n h)
-  unary_gives unary.Not q k stack v n t e h = worked_gives (m.At q (m.Number v ∷ stack) n) (q + 1) k stack n t e (unary_op unary.Not v) (at_one q (m.Number v ∷ stack) n h)
+  unary_gives unary.Minus q k stack v n t e h = worked_gives (m.At q (m.Number v ∷ stack) n) (q + 1) k stack n t (_, _, t) e (unary_op unary.Minus v) (at_one q (m.Number v ∷ stack) n h)
+  unary_gives unary.Not q k stack v n t e h = worked_gives (m.At q (m.Number v ∷ stack) n) (q + 1) k stack n t (_, _, t) e (unary_op unary.Not v) (at_one q (m.Number v ∷ stack) n h)
 
   calc_one : (op : BinaryOp) (q : ℕ) (stack : List Entry) (u v : ℤ) (n : M) → slice_get code.instrs q ≡ Some (binary_instr op) → one ops code (m.At q (m.Number v ∷ m.Number u ∷ stack) n) ≡ worked (binary_op op u v) (λ z. Goes (m.At (q + 1) (m.Number z ∷ stack) n))
   calc_one binary.Eq q stack u v n h = at_one q _ n h
@@ -157,8 +158,8 @@ module _ {M : Type 0} (ex : Execution M) where
   -- two operands
   channels_gives : {js : List Joint} {o : Own} {s : Store} (op : BinaryOp) (q k : ℕ) (stack : List Entry) (c d : Channel) (a b : ℕ) (n : M) → rel.Stand js o s n → rel.Named c a → rel.Named d b → sort p k ≡ Ordinals → slice_get code.instrs q ≡ Some (binary_instr op) → TakesChannels op
       → G js (m.At q (m.Chan b ∷ m.Chan a ∷ stack) n) o s (q + 1) (Top stack) (St k) (channels_op op c d)
-  channels_gives binary.Eq q k stack c d a b n t x y e h z = worked_gives _ (q + 1) k stack n t e (truth (same_channel c d)) (at_one q _ n h ∙ ap (λ r. worked (truth r) (λ v. Goes (m.At (q + 1) (m.Number v ∷ stack) n))) (sym (law.named_same c d a b x y)))
-  channels_gives binary.Ne q k stack c d a b n t x y e h z = worked_gives _ (q + 1) k stack n t e (truth (not (same_channel c d))) (at_one q _ n h ∙ ap (λ r. worked (truth (not r)) (λ v. Goes (m.At (q + 1) (m.Number v ∷ stack) n))) (sym (law.named_same c d a b x y)))
+  channels_gives binary.Eq q k stack c d a b n t x y e h z = worked_gives (m.At q (m.Chan b ∷ m.Chan a ∷ stack) n) (q + 1) k stack n t (_, _, t) e (truth (same_channel c d)) (at_one q _ n h ∙ ap (λ r. worked (truth r) (λ v. Goes (m.At (q + 1) (m.Number v ∷ stack) n))) (sym (law.named_same c d a b x y)))
+  channels_gives binary.Ne q k stack c d a b n t x y e h z = worked_gives (m.At q (m.Chan b ∷ m.Chan a ∷ stack) n) (q + 1) k stack n t (_, _, t) e (truth (not (same_channel c d))) (at_one q _ n h ∙ ap (λ r. worked (truth (not r)) (λ v. Goes (m.At (q + 1) (m.Number v ∷ stack) n))) (sym (law.named_same c d a b x y)))
   channels_gives binary.Lt q k stack c d a b n t x y e h z = absurd z
   channels_gives binary.Le q k stack c d a b n t x y e h z = absurd z
   channels_gives binary.Gt q k stack c d a b n t x y e h z = absurd z
@@ -183,7 +184,7 @@ module _ {M : Type 0} (ex : Execution M) where
       subst (λ y. G js (m.At q (y ∷ d ∷ stack) n) o s (q + 1) (Top stack) (St k) (operate op u v)) (sym b.2)
       (subst (λ y. G js (m.At q (m.Number b.0 ∷ y ∷ stack) n) o s (q + 1) (Top stack) (St k) (operate op u v)) (sym a.2)
       (gives_by ops rel w code (ap (λ y. operate op y v) a.1 ∙ ap (λ y. operate op (Ordinal a.0) y) b.1)
-      (gives_known ops rel w code (λ j. work_of (binary_op op a.0 j)) b.0 (ordinal_known b.0) (worked_gives _ (q + 1) k stack n t r (binary_op op a.0 b.0) (calc_one op q stack a.0 b.0 n h)))))
+      (gives_known ops rel w code (λ j. work_of (binary_op op a.0 j)) b.0 (ordinal_known b.0) (worked_gives (m.At q (m.Number b.0 ∷ m.Number a.0 ∷ stack) n) (q + 1) k stack n t (_, _, t) r (binary_op op a.0 b.0) (calc_one op q stack a.0 b.0 n h)))))
   binary_gives op q k ka kb stack Ordinals Channels u v d e n t a b z r h = absurd z
   binary_gives op q k ka kb stack Ordinals Many u v d e n t a b z r h = absurd z
   binary_gives op q k ka kb stack Ordinals NoSort u v d e n t a b z r h = absurd z
@@ -200,13 +201,13 @@ module _ {M : Type 0} (ex : Execution M) where
 
   standard_gives : {js : List Joint} {o : Own} {s : Store} (f : StandardFn) (q k : ℕ) (ty : KindOf) (stack : List Entry) (v : ℤ) (n : M) → rel.Stand js o s n → sort p k ≡ Ordinals → StandardAt p moves shares (Stands code) (HasFork code) (HasWords code) hush q f ty
       → G js (m.At q (m.Number v ∷ stack) n) o s (after_standard f q) (Top stack) (St k) (standard_op f ty v)
-  standard_gives standard.Abs q k ty stack v n t e h = worked_gives _ (q + 1) k stack n t e (absolute v) (at_one q (m.Number v ∷ stack) n h)
-  standard_gives standard.Sqr q k ty stack v n t e h = worked_gives _ (q + 1) k stack n t e (square v) (at_one q (m.Number v ∷ stack) n h)
-  standard_gives standard.Odd q k ty stack v n t e h = worked_gives _ (q + 1) k stack n t e (is_odd v) (at_one q (m.Number v ∷ stack) n h)
+  standard_gives standard.Abs q k ty stack v n t e h = worked_gives (m.At q (m.Number v ∷ stack) n) (q + 1) k stack n t (_, _, t) e (absolute v) (at_one q (m.Number v ∷ stack) n h)
+  standard_gives standard.Sqr q k ty stack v n t e h = worked_gives (m.At q (m.Number v ∷ stack) n) (q + 1) k stack n t (_, _, t) e (square v) (at_one q (m.Number v ∷ stack) n h)
+  standard_gives standard.Odd q k ty stack v n t e h = worked_gives (m.At q (m.Number v ∷ stack) n) (q + 1) k stack n t (_, _, t) e (is_odd v) (at_one q (m.Number v ∷ stack) n h)
   standard_gives standard.Ord q k ty stack v n t e h = gives_give ops rel w code (Ordinal v) (m.Number v) (stays ops rel w code _) t (subst (λ z. Stood rel p z k (Ordinal v) (m.Number v)) (sym e) (v, refl, refl))
-  standard_gives standard.Chr q k ty stack v n t e h = worked_gives _ (q + 1) k stack n t e (ranged (pos 0) (pos 255) v) (at_one q (m.Number v ∷ stack) n h)
-  standard_gives standard.Succ q k ty stack v n t e h = worked_gives _ (q + 1) k stack n t e (successor (greatest ty) v) (at_one q (m.Number v ∷ stack) n h)
-  standard_gives standard.Pred q k ty stack v n t e h = worked_gives _ (q + 1) k stack n t e (predecessor (least ty) v) (at_one q (m.Number v ∷ stack) n h)
+  standard_gives standard.Chr q k ty stack v n t e h = worked_gives (m.At q (m.Number v ∷ stack) n) (q + 1) k stack n t (_, _, t) e (ranged (pos 0) (pos 255) v) (at_one q (m.Number v ∷ stack) n h)
+  standard_gives standard.Succ q k ty stack v n t e h = worked_gives (m.At q (m.Number v ∷ stack) n) (q + 1) k stack n t (_, _, t) e (successor (greatest ty) v) (at_one q (m.Number v ∷ stack) n h)
+  standard_gives standard.Pred q k ty stack v n t e h = worked_gives (m.At q (m.Number v ∷ stack) n) (q + 1) k stack n t (_, _, t) e (predecessor (least ty) v) (at_one q (m.Number v ∷ stack) n h)
   standard_gives standard.Eof q k ty stack v n t e h = absurd h
   standard_gives standard.Eoln q k ty stack v n t e h = absurd h
 
@@ -226,8 +227,8 @@ module _ {M : Type 0} (ex : Execution M) where
   input_gives standard.Chr q k stack n t r e h = absurd h
   input_gives standard.Succ q k stack n t r e h = absurd h
   input_gives standard.Pred q k stack n t r e h = absurd h
-  input_gives {s = s} standard.Eof q k stack n t r e h = worked_gives _ (q + 1) k stack n t e (truth (length (rest_of s) == 0)) (at_one q stack n h ∙ ap (λ z. there z (λ bs. m.told ops code (length bs == 0) (q + 1) stack n)) (law.left t r))
-  input_gives {s = s} standard.Eoln q k stack n t r e h = worked_gives _ (q + 1) k stack n t e (truth (at_line_end (rest_of s))) (at_one q stack n h ∙ ap (λ z. there z (λ bs. m.told ops code (at_line_end bs) (q + 1) stack n)) (law.left t r))
+  input_gives {s = s} standard.Eof q k stack n t r e h = worked_gives (m.At q stack n) (q + 1) k stack n t (_, _, t) e (truth (length (rest_of s) == 0)) (at_one q stack n h ∙ ap (λ z. there z (λ bs. m.told ops code (length bs == 0) (q + 1) stack n)) (law.left t r))
+  input_gives {s = s} standard.Eoln q k stack n t r e h = worked_gives (m.At q stack n) (q + 1) k stack n t (_, _, t) e (truth (at_line_end (rest_of s))) (at_one q stack n h ∙ ap (λ z. there z (λ bs. m.told ops code (at_line_end bs) (q + 1) stack n)) (law.left t r))
 
   -- places
 
@@ -337,7 +338,7 @@ module _ {M : Type 0} (ex : Execution M) where
       by_test true e gg =
           let pt = law.element b a pi.1 low high ix el (ap (λ y. slice_get p.kinds y) pi.0 ∙ hk) v e in
           gives_give ops rel w code (At b1) a1 (goes ops rel w code (gg ∙ selects (ops.has a1 1 n) (Goes (m.At (q + 1) (m.Pointer a1 ∷ stack) n)) (law.has_one t b1 a1 pt pi.2))) t (refl, pt, pi.2, pi.3)
-      by_test false e gg = gives_fail ops rel w code fault.F1 gg
+      by_test false e gg = gives_fail ops rel w code fault.F1 (js, o, t) gg
 
   fielded_gives : {js : List Joint} {o : Own} {s : Store} (q x k f j : ℕ) (name : List ℕ) (gs : List (List ℕ × ℕ)) (stack : List Entry) (pl : Place) (a : Ptr) (n : M) → rel.Stand js o s n → PlaceIs js x k pl a → slice_get p.kinds k ≡ Some (kind.Fields gs) → slice_get gs f ≡ Some (name, j) → slice_get code.instrs q ≡ Some (i.Field (places.field_offset p gs f))
       → G js (m.At q (m.Pointer a ∷ stack) n) o s (q + 1) (PlaceTop stack) (PlaceIs js x j) (fielded g f pl)
@@ -357,31 +358,31 @@ module _ {M : Type 0} (ex : Execution M) where
       pt = law.field b a pi.1 gs (ap (λ y. slice_get p.kinds y) pi.0 ∙ hk) f j name hf
 
   -- what is read at a place
-  pub ordinal_cell : {js : List Joint} {o : Own} {s : Store} (q k : ℕ) (stack : List Entry) (c : Config M) (n : M) → rel.Stand js o s n → sort p k ≡ Ordinals → (v : Value) (z : Cell) → CellIs rel.Named v z → one ops code c ≡ ordinal_in z (λ u. Goes (m.At q (m.Number u ∷ stack) n))
+  pub ordinal_cell : {js : List Joint} {o : Own} {s : Store} (q k : ℕ) (stack : List Entry) (c : Config M) (n : M) → rel.Stand js o s n → StandsFor rel c s → sort p k ≡ Ordinals → (v : Value) (z : Cell) → CellIs rel.Named v z → one ops code c ≡ ordinal_in z (λ u. Goes (m.At q (m.Number u ∷ stack) n))
       → G js c o s q (Top stack) (St k) (ordinal_read v)
-  ordinal_cell q k stack c n t e Undefined cell.Undefined h gg = gives_fail ops rel w code fault.F4 gg
-  ordinal_cell q k stack c n t e Undefined (cell.Ordinal u) h gg = absurd h
-  ordinal_cell q k stack c n t e Undefined (cell.Channel u) h gg = absurd h
-  ordinal_cell q k stack c n t e (Ordinal v) cell.Undefined h gg = absurd h
-  ordinal_cell q k stack c n t e (Ordinal v) (cell.Ordinal u) h gg = gives_give ops rel w code (Ordinal v) (m.Number u) (goes ops rel w code gg) t (subst (λ z. Stood rel p z k (Ordinal v) (m.Number u)) (sym e) (v, refl, ap m.Number (sym h)))
-  ordinal_cell q k stack c n t e (Ordinal v) (cell.Channel u) h gg = absurd h
-  ordinal_cell q k stack c n t e (Chan v) cell.Undefined h gg = absurd h
-  ordinal_cell q k stack c n t e (Chan v) (cell.Ordinal u) h gg = absurd h
-  ordinal_cell q k stack c n t e (Chan v) (cell.Channel u) h gg = gives_fail ops rel w code fault.F4 gg
-  ordinal_cell q k stack c n t e (Parts v) z h gg = absurd h
+  ordinal_cell q k stack c n t f e Undefined cell.Undefined h gg = gives_fail ops rel w code fault.F4 f gg
+  ordinal_cell q k stack c n t f e Undefined (cell.Ordinal u) h gg = absurd h
+  ordinal_cell q k stack c n t f e Undefined (cell.Channel u) h gg = absurd h
+  ordinal_cell q k stack c n t f e (Ordinal v) cell.Undefined h gg = absurd h
+  ordinal_cell q k stack c n t f e (Ordinal v) (cell.Ordinal u) h gg = gives_give ops rel w code (Ordinal v) (m.Number u) (goes ops rel w code gg) t (subst (λ z. Stood rel p z k (Ordinal v) (m.Number u)) (sym e) (v, refl, ap m.Number (sym h)))
+  ordinal_cell q k stack c n t f e (Ordinal v) (cell.Channel u) h gg = absurd h
+  ordinal_cell q k stack c n t f e (Chan v) cell.Undefined h gg = absurd h
+  ordinal_cell q k stack c n t f e (Chan v) (cell.Ordinal u) h gg = absurd h
+  ordinal_cell q k stack c n t f e (Chan v) (cell.Channel u) h gg = gives_fail ops rel w code fault.F4 f gg
+  ordinal_cell q k stack c n t f e (Parts v) z h gg = absurd h
 
-  channel_cell : {js : List Joint} {o : Own} {s : Store} (q k : ℕ) (stack : List Entry) (c : Config M) (n : M) → rel.Stand js o s n → sort p k ≡ Channels → (v : Value) (z : Cell) → CellIs rel.Named v z → one ops code c ≡ channel_in z (λ u. Goes (m.At q (m.Chan u ∷ stack) n))
+  channel_cell : {js : List Joint} {o : Own} {s : Store} (q k : ℕ) (stack : List Entry) (c : Config M) (n : M) → rel.Stand js o s n → StandsFor rel c s → sort p k ≡ Channels → (v : Value) (z : Cell) → CellIs rel.Named v z → one ops code c ≡ channel_in z (λ u. Goes (m.At q (m.Chan u ∷ stack) n))
       → G js c o s q (Top stack) (St k) (channel_read v)
-  channel_cell q k stack c n t e Undefined cell.Undefined h gg = gives_fail ops rel w code fault.F5 gg
-  channel_cell q k stack c n t e Undefined (cell.Ordinal u) h gg = absurd h
-  channel_cell q k stack c n t e Undefined (cell.Channel u) h gg = absurd h
-  channel_cell q k stack c n t e (Ordinal v) cell.Undefined h gg = absurd h
-  channel_cell q k stack c n t e (Ordinal v) (cell.Ordinal u) h gg = gives_fail ops rel w code fault.F5 gg
-  channel_cell q k stack c n t e (Ordinal v) (cell.Channel u) h gg = absurd h
-  channel_cell q k stack c n t e (Chan v) cell.Undefined h gg = absurd h
-  channel_cell q k stack c n t e (Chan v) (cell.Ordinal u) h gg = absurd h
-  channel_cell q k stack c n t e (Chan v) (cell.Channel u) h gg = gives_give ops rel w code (Chan v) (m.Chan u) (goes ops rel w code gg) t (subst (λ z. Stood rel p z k (Chan v) (m.Chan u)) (sym e) (v, u, refl, refl, h))
-  channel_cell q k stack c n t e (Parts v) z h gg = absurd h
+  channel_cell q k stack c n t f e Undefined cell.Undefined h gg = gives_fail ops rel w code fault.F5 f gg
+  channel_cell q k stack c n t f e Undefined (cell.Ordinal u) h gg = absurd h
+  channel_cell q k stack c n t f e Undefined (cell.Channel u) h gg = absurd h
+  channel_cell q k stack c n t f e (Ordinal v) cell.Undefined h gg = absurd h
+  channel_cell q k stack c n t f e (Ordinal v) (cell.Ordinal u) h gg = gives_fail ops rel w code fault.F5 f gg
+  channel_cell q k stack c n t f e (Ordinal v) (cell.Channel u) h gg = absurd h
+  channel_cell q k stack c n t f e (Chan v) cell.Undefined h gg = absurd h
+  channel_cell q k stack c n t f e (Chan v) (cell.Ordinal u) h gg = absurd h
+  channel_cell q k stack c n t f e (Chan v) (cell.Channel u) h gg = gives_give ops rel w code (Chan v) (m.Chan u) (goes ops rel w code gg) t (subst (λ z. Stood rel p z k (Chan v) (m.Chan u)) (sym e) (v, u, refl, refl, h))
+  channel_cell q k stack c n t f e (Parts v) z h gg = absurd h
 
   pub fetch_known : {o : Own} {s : Store} (a : Address) → Known ops rel w code o s (fetch a) (get_at a.path (value_in (s a.spot)))
   fetch_known a = record { by = refl }
@@ -439,8 +440,8 @@ module _ {M : Type 0} (ex : Execution M) where
       one_cell z e h = subst OneCell (sym (same_sort ∙ e)) h
 
       by_sort : (z : Sort) → sort p k ≡ z → ReadAt p moves shares (Stands code) (HasFork code) (HasWords code) hush q k z → G js c o s (q + 1) (Top stack) (St k) (read_at g (At b))
-      by_sort Ordinals e h = from_kind Ordinals e tt (ordinal_cell (q + 1) k stack c n t e v (ops.look a n) (law.load t b a pi.1 pi.2 (one_cell Ordinals e tt)) (at_one q (m.Pointer a ∷ stack) n h ∙ selects (ops.has a 1 n) _ (law.has_one t b a pi.1 pi.2)))
-      by_sort Channels e h = from_kind Channels e tt (channel_cell (q + 1) k stack c n t e v (ops.look a n) (law.load t b a pi.1 pi.2 (one_cell Channels e tt)) (at_one q (m.Pointer a ∷ stack) n h ∙ selects (ops.has a 1 n) _ (law.has_one t b a pi.1 pi.2)))
+      by_sort Ordinals e h = from_kind Ordinals e tt (ordinal_cell (q + 1) k stack c n t (js, o, t) e v (ops.look a n) (law.load t b a pi.1 pi.2 (one_cell Ordinals e tt)) (at_one q (m.Pointer a ∷ stack) n h ∙ selects (ops.has a 1 n) _ (law.has_one t b a pi.1 pi.2)))
+      by_sort Channels e h = from_kind Channels e tt (channel_cell (q + 1) k stack c n t (js, o, t) e v (ops.look a n) (law.load t b a pi.1 pi.2 (one_cell Channels e tt)) (at_one q (m.Pointer a ∷ stack) n h ∙ selects (ops.has a 1 n) _ (law.has_one t b a pi.1 pi.2)))
       by_sort Many e h =
           from_kind Many e tt (gives_give ops rel w code v (m.Cells (ops.cells a (size p k) n)) (goes ops rel w code (at_one q (m.Pointer a ∷ stack) n h ∙ selects (ops.has a (size p k) n) _ (subst (λ y. ops.has a (size p y) n ≡ true) pi.0 (law.has t b a pi.1 pi.2)))) t
           (subst (λ y. Stood rel p y k v (m.Cells (ops.cells a (size p k) n))) (sym e) (ops.cells a (size p k) n, refl, subst (λ y. Flat p rel.Named y v (ops.cells a (size p y) n)) pi.0 (law.pack t b a pi.1 pi.2))))
@@ -473,7 +474,7 @@ module _ {M : Type 0} (ex : Execution M) where
 
     pub form_gives : (call : Calls) → CallsMeet call → (k : ℕ) (form : ExprForm) (sc : List Scope) (q : ℕ) (stack : List Entry) (js : List Joint) (o : Own) (s : Store) (n : M) → rel.Stand js o s n → P sc js (In_form form) → FormAt p moves shares (Stands code) (HasFork code) (HasWords code) hush sc q k form
         → G js (m.At q stack n) o s (after_form q form) (Top stack) (St k) (form_value g call k form)
-    form_gives call ok k (Number v) sc q stack js o s n t pl h = worked_gives (m.At q stack n) (q + 1) k stack n t h.1 (Yields v) (at_one q stack n h.0)
+    form_gives call ok k (Number v) sc q stack js o s n t pl h = worked_gives (m.At q stack n) (q + 1) k stack n t (_, _, t) h.1 (Yields v) (at_one q stack n h.0)
     form_gives call ok k (Read (Entire x ss)) sc q stack js o s n t pl h =
         gives_bind ops rel w code (place_gives call ok (Entire x ss) k sc q stack js o s n t (within (λ u. inr) pl) (may_see sc js x pl (inl refl)) h.0) (λ z a o1 s1 n1 t1 pi. read_gives (after_selectors (q + 1) ss) x k stack z a n1 t1 pi h.1)
     form_gives call ok k (Unary op a) sc q stack js o s n t pl h =

@@ -10,7 +10,7 @@ use Rattle.sp_cell.specs.declared.spot.Address.{Address as Ptr}
 use Rattle.sp_meaning.specs.Maps.{at_key}
 use Rattle.sp_meaning.specs.Model.{Channel, Cargo, Gives as Given, Takes}
 use Rattle.sp_meaning.specs.Values.{Chan}
-use Rattle.sp_meaning.specs.Own.{Held, Tree, Position, Written, Address, Item, Do, First, Again, Test, Leave, Break, Came, Got, Bad, Lost, Long, assigned, same_loc}
+use Rattle.sp_meaning.specs.Own.{Held, Tree, Position, Written, Address, Own, Item, Do, First, Again, Test, Leave, Break, Came, Got, Bad, Lost, Long, assigned, same_loc}
 use Rattle.sp_meaning.specs.Deeds.{Deed, Went, Beat, Opened, Forked, Offered, Over, Birth, is_range, children, indexed_children}
 use Rattle.sp_meaning.specs.Run.{Store}
 use Rattle.sp_code.specs.declared.code.Parts.{Parts as Code}
@@ -24,14 +24,19 @@ use Rattle.sp_code.specs.Stands.{Stands, HasFork, HasWords, StandsAt, ChildrenAt
 use Rattle.sp_code.specs.Emitted.{children_tables, child_table}
 use Rattle.sp_codegen.specs.Joints.{Joint}
 use Rattle.sp_codegen.specs.Executions.{Execution}
-use Rattle.sp_codegen.specs.Relation.{Placed, Stood}
+use Rattle.sp_codegen.specs.Relation.{Relation, Placed, Stood}
 use Rattle.sp_meaning.specs.Turn as source
 
--- the machine comes to an instruction that fails
-pub record Breaks {M : Type 0} (ops : Ops M) (code : Code) (c : Config M) (f : Fault) : Type 0 where
+-- the memory of the machine stands for the store
+abbrev pub StandsFor : {M : Type 0} → Relation M → Config M → Store → Type 0
+StandsFor rel (At pc st n) s = (js : List Joint) × (o : Own) × rel.Stand js o s n
+
+-- the machine comes to an instruction that fails, and its memory stands for the store that the meaning then has
+pub record Breaks {M : Type 0} (ops : Ops M) (rel : Relation M) (code : Code) (c : Config M) (f : Fault) (s : Store) : Type 0 where
   pub at : Config M
   pub comes : Comes ops code c at
   pub fails : one ops code at ≡ Fails f
+  pub stands : StandsFor rel at s
 
 abbrev pub cells_in : Entry → List Cell
 cells_in (m.Number n) = cell.Ordinal n ∷ []
@@ -108,7 +113,7 @@ module _ {M : Type 0} (ex : Execution M) where
   Made c Q (Got (Offered ch k g todo) o, s) =
       (pc : ℕ) × (st : List Entry) × (n : M) × (fs : List Joint) × (d : Config M) × (z : Stop) × Comes ops code c d × (one ops code d ≡ Stops z (At pc st n)) × rel.Stand fs o s n × CargoIs fs ch k g z × Q todo fs pc st × (outside st ≡ true)
   Made c Q (Got Over o, s) = (pc : ℕ) × (st : List Entry) × (n : M) × (fs : List Joint) × Comes ops code c (At pc st n) × (one ops code (At pc st n) ≡ Stops Ended (At pc st n)) × rel.Stand fs o s n × Q [] fs pc st × (outside st ≡ true)
-  Made c Q (Bad f, s) = Breaks ops code c f
+  Made c Q (Bad f, s) = Breaks ops rel code c f s
   Made c Q (Lost, s) = ⊥
   Made c Q (Long, s) = Unit {0}
 
@@ -118,6 +123,6 @@ module _ {M : Type 0} (ex : Execution M) where
   Turned c end base below (Got (source.Paused todo) o, s) =
       (pc : ℕ) × (st : List Entry) × (n : M) × (fs : List Joint) × (d : Config M) × Comes ops code c d × (one ops code d ≡ Stops Pauses (At pc st n)) × rel.Stand fs o s n × Follows end base below pc st fs todo
   Turned c end base below (Got (source.Stops d) o, s) = Made c (λ todo fs pc st. Follows end base below pc st fs todo) (Got d o, s)
-  Turned c end base below (Bad f, s) = Breaks ops code c f
+  Turned c end base below (Bad f, s) = Breaks ops rel code c f s
   Turned c end base below (Lost, s) = ⊥
   Turned c end base below (Long, s) = Unit {0}
