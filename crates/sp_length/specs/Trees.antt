@@ -1,0 +1,30 @@
+-- Parts of a tree in memory, and their lengths one at a time.
+use Rattle.std.specs.Prelude.{ℕ, ◌+◌, Bool, true, false, Option, Some, None}
+use Rattle.sp_tree.specs.declared.checked.Form as ast_f
+use Rattle.sp_tree.specs.declared.checked.Arm as ast_a
+use Rattle.sp_tree.specs.PlainOf.{stmt_form_step, arm_step, stmt_step}
+use Rattle.sp_tree.specs.Plain.{Expr, Typed, Stmt, Arm, Program}
+use Rattle.sp_code.specs.Scopes.{Sort, Ordinals, Channels, Many, NoSort, sort}
+use Rattle.sp_code.specs.Lengths.{right_length, stmt_length}
+
+-- the plain statement of a form, and the plain choice of a `case`
+abbrev pub stmt_form_of : ast_f.Form → Stmt
+stmt_form_of = ast_f.fold-Form Stmt Arm Stmt stmt_form_step arm_step stmt_step
+
+abbrev pub arm_of : ast_a.Arm → Arm
+arm_of = ast_a.fold-Arm Stmt Arm Stmt stmt_form_step arm_step stmt_step
+
+abbrev pub is_many : Sort → Bool
+is_many Ordinals = false
+is_many Channels = false
+is_many Many = true
+is_many NoSort = false
+
+-- the right side of an assignment
+abbrev pub right_side : Program → Expr → ℕ
+right_side p (Typed k form) = right_length (sort p k) form
+
+-- what an `if` has behind its first statement
+abbrev pub else_length : Program → Option Stmt → ℕ
+else_length p None = 1
+else_length p (Some b) = stmt_length p b + 2
