@@ -1,0 +1,78 @@
+-- A process at its stop, before its kernel step: all others stand as before its turn, with the system of the machine unchanged
+-- (`does_at`), and rights and totals are those of before.
+use Rattle.std.proofs.Common.{◌≡◌, inl, ⊎_elim, ℕ, ◌<◌, ◌∷◌, Some, Bool, true, false, refl, sym, ap, ◌∙◌, arith}
+use Rattle.std.specs.Prelude.{◌≢◌}
+use Rattle.sp_cell.specs.Map.{Plain}
+use Rattle.sp_meaning.specs.Model.{Name}
+use Rattle.sp_meaning.specs.Steps.{has_ended}
+use Rattle.sp_meaning.specs.Entries.{Happening}
+use Rattle.sp_meaning.specs.Own.{Setting, Loc, Own, Process, Came, Got, Bad}
+use Rattle.sp_meaning.specs.Deeds.{Deed}
+use Rattle.sp_meaning.specs.Run.{Store}
+use Rattle.sp_meaning.specs.Runs.{StateOf, says}
+use Rattle.sp_meaning.specs.Along.{Course}
+use Rattle.sp_meaning.proofs.Keys.{name_test}
+use Rattle.sp_meaning.proofs.Maps.{same_or_not}
+use Rattle.sp_meaning.proofs.Owned.{Inv, Keeps_to}
+use Rattle.sp_meaning.proofs.Parallel.{IsAlone}
+use Rattle.sp_meaning.proofs.Reached.{Known}
+use Rattle.sp_meaning.proofs.Status.{working_lives, lives_ended}
+use Rattle.sp_code.specs.Machine.{Config}
+use Rattle.sp_code.specs.Memory.{Memory}
+use Rattle.sp_code.specs.System.{System}
+use Rattle.sp_code.specs.System as sys
+use Rattle.sp_link.proofs.TurnsMeet.{Keeps_it, keeps, turn_known}
+use Rattle.sp_link.proofs.OneChanges.{q, pr, runs, alone, light, keeps_to, here, present, not_ended, holds_by, inv_local}
+use Rattle.sp_link.proofs.Pauses.{kids}
+use Rattle.sp_link.proofs.Relation.{Ground, Lives, W_of, R_of, Stands, Does_all, Linked}
+use Rattle.sp_link.proofs.OthersStay.{does_stay}
+use Rattle.sp_link.proofs.SourceTurns.{Comes_to}
+
+module _ (G : Ground) (lv : Lives G) (c : Course) (s : StateOf G.g) (u : System Plain) (l : Linked G lv c s u) (i : ℕ) (d : Config (Memory Plain)) (at_i : u.condition i ≡ sys.Runs d) where
+  abbrev pub w : Name
+  w = q G lv c s u l i d at_i
+
+  abbrev pub p1 : Process
+  p1 = pr G lv c s u l i d at_i
+
+  abbrev pub kt : Keeps_to G.g.program (W_of G lv) (R_of G lv) s.forks w p1
+  kt = keeps_to G lv c s u l i d at_i
+
+  module _ (z : Stands G (lv w) (kids G lv c s u l i d at_i) w (c.since w) p1 s.store d) where
+    abbrev pub Stopped_at : Came Deed × Store → Type 0
+    Stopped_at r = Comes_to G.g w G.pause (c.since w) (Keeps_it G (lv w) (kids G lv c s u l i d at_i) w (c.since w) s p1 d z (runs G lv c s u l i d at_i) (light G lv c s u l i d at_i) kt.last kt.fit) (keeps G (lv w) (kids G lv c s u l i d at_i) w (c.since w) s p1 d z (runs G lv c s u l i d at_i) (light G lv c s u l i d at_i) kt.last kt.fit) s p1 r
+
+    module _ (r : Came Deed × Store) (x : Stopped_at r) (what : Happening) (said : says G.g x.at w x.left ≡ Some what) where
+      pub alone_at : IsAlone x.at w
+      alone_at = inl (x.left, x.runs)
+
+      pub known_at : Known G.g x.at
+      known_at = turn_known G.g G.pause (c.since w) w x.steps s x.at false l.known (x.turn what said)
+
+      pub keeps_at : Keeps_to G.g.program (W_of G lv) (R_of G lv) s.forks w x.left
+      keeps_at = record { named = x.good.named; forked = ap (λ (y : Rattle.sp_meaning.specs.Own.Who). y.forks) x.who_is ∙ kt.forked; last = kt.last; fit = x.good.fit }
+
+      pub rights_at : Inv G.g.program (W_of G lv) (R_of G lv) x.at.condition x.at.forks
+      rights_at = inv_local G (W_of G lv) (R_of G lv) s.condition x.at.condition s.forks x.at.forks w l.rights x.elsewhere.forks (present G lv c s u l i d at_i) x.elsewhere.condition (holds_by G (W_of G lv) (R_of G lv) x.at.condition s.forks w (x.at.condition w) x.left x.runs keeps_at)
+
+      pub ended_at : has_ended (x.at.condition w) ≡ false
+      ended_at = go (has_ended (x.at.condition w)) refl
+        where
+          go : (b : Bool) → has_ended (x.at.condition w) ≡ b → b ≡ false
+          go true e = absurd (lives_ended (x.at.condition w) (working_lives x.at.condition w (x.at.condition w) x.left x.runs) e)
+          go false e = refl
+
+      ended_same : (r1 : Name) → has_ended (x.at.condition r1) ≡ has_ended (s.condition r1)
+      ended_same r1 = ⊎_elim (λ (e : r1 ≡ w). ap (λ y. has_ended (x.at.condition y)) e ∙ ended_at ∙ sym (not_ended G lv c s u l i d at_i) ∙ ap (λ y. has_ended (s.condition y)) (sym e)) (λ (e : r1 ≢ w). ap (λ y. has_ended y) (x.elsewhere.condition r1 e)) (same_or_not name_test r1 w)
+
+      pub other_name : (j : ℕ) → j < u.births.processes → i ≢ j → G.births.name j ≢ w
+      other_name j lt e h = e (G.one_name i j (few i (here G lv c s u l i d at_i)) (few j lt) (sym h))
+        where
+          few : (j : ℕ) → j < u.births.processes → j < G.births.processes
+          few j lt = let a = l.began.processes in omega (arith, lt, a)
+
+      -- the others
+      pub does_at : (j : ℕ) → j < u.births.processes → i ≢ j → Does_all G lv (G.births.name j) c x.at (u.births.opens j) (u.condition j)
+      does_at j lt e =
+          let apart = other_name j lt e in
+          does_stay G lv s x.at l.known.sound l.rights.fair w (alone G lv c s u l i d at_i) x.good.stays (G.births.name j) apart (x.elsewhere.condition (G.births.name j) apart) (λ k n. ended_same ((k, n) ∷ G.births.name j)) c c refl refl (λ h. h) (u.births.opens j) (u.condition j) (l.does j lt)

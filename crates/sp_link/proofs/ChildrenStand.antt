@@ -1,0 +1,172 @@
+-- A fork: a child of a parallel statement stands as it is born (`child_stands`), its parent keeps of it what its join will need
+-- (`handed_facts`), and joins with what moved away (`parent_joins`).
+use Rattle.std.proofs.Common.{◌≡◌, ◌⊎◌, inl, inr, ⊎_elim, ℕ, zero, suc, ◌+◌, ◌<◌, ◌≤◌, ℤ, List, [], ◌∷◌, length, Some, None, true, false, if◌then◌else◌, refl, sym, ap, ◌∙◌, arith}
+use Rattle.std.specs.Prelude.{IsSome, slice_get}
+use Rattle.std.specs.FinMap as fin
+use Rattle.sp_tree.specs.declared.checked.Role.TheVariants as role
+use Rattle.sp_tree.specs.Plain.{Variable, Stmts, Parallel}
+use Rattle.sp_tree.specs.Uses.{In_stmt}
+use Rattle.sp_tree.specs.Sets.{IsTarget, IsUsed}
+use Rattle.sp_cell.specs.declared.spot.Spot.{Spot}
+use Rattle.sp_cell.specs.declared.spot.Handing.{Handing}
+use Rattle.sp_cell.specs.Fork.{index_frame, handed, moved_of, shared_of}
+use Rattle.sp_cell.specs.Map.{Plain, output_spot}
+use Rattle.sp_cell.specs.Spots.{In, NotIn}
+use Rattle.sp_meaning.specs.Model.{Name}
+use Rattle.sp_meaning.specs.Own.{Loc, Cell, Input, Output, Own, Who, Process}
+use Rattle.sp_meaning.specs.Deeds.{Birth, push}
+use Rattle.sp_meaning.specs.Owning.{Aimed, Used, Sound}
+use Rattle.sp_meaning.specs.Run.{Store}
+use Rattle.sp_meaning.proofs.Rights.{Mine}
+use Rattle.sp_code.specs.declared.code.ChildTable.{ChildTable}
+use Rattle.sp_code.specs.Machine.{Entry, Config, At}
+use Rattle.sp_code.specs.Memory.{Memory}
+use Rattle.sp_code.specs.PlainStore.{plain}
+use Rattle.sp_code.specs.System.{spot_of, newborn, handing_of, on_store as On_store}
+use Rattle.sp_meaning.specs.Steps.{has_ended}
+use Rattle.sp_meaning.specs.Runs.{StateOf}
+use Rattle.sp_codegen.proofs.Joining.{handed_joining}
+use Rattle.sp_link.proofs.OthersStay.{joining_more}
+use Rattle.sp_code.specs.Scopes.{Scope}
+use Rattle.sp_code.specs.Places.{after}
+use Rattle.sp_code.specs.Emitted.{child_table}
+use Rattle.sp_codegen.specs.Joints.{Joint, sources, from}
+use Rattle.sp_codegen.specs.Relation.{Placed}
+use Rattle.sp_codegen.proofs.Owners.{within_at}
+use Rattle.sp_codegen.proofs.Begins.{child_begins}
+use Rattle.sp_codegen.proofs.Birth.{low_small}
+use Rattle.sp_codegen.proofs.Born.{ChildIs, Seen, child_follows}
+use Rattle.sp_codegen.proofs.Handed.{in_spots, found_at, is_input, console_only, moved_aimed, moved_known, output_handed}
+use Rattle.sp_codegen.specs.Standing.{Live, spot_at}
+use Rattle.sp_code.specs.Scopes.{slot}
+use Rattle.sp_code.specs.Memory.{position_at}
+use Rattle.sp_tree.specs.Interference.{IsIndexOf}
+use Rattle.sp_meaning.proofs.Within.{part}
+use Rattle.sp_link.proofs.Relation.{Ground, Life, Called, Named, Fresh, St, Stands, Joined, Handed, Fo, left_of, execution, run_is}
+
+-- the memory of a process
+abbrev pub memory_in : Config (Memory Plain) → Memory Plain
+memory_in (At pc st n) = n
+
+module _ (G : Ground) (lf : Life) (kids : ℕ → ℕ → Life) (q : Name) where
+  abbrev Wr : Loc → Type 0
+  Wr l = Mine q l ⊎ lf.W l
+
+  abbrev Rd : Loc → Type 0
+  Rd l = Mine q l ⊎ lf.R l
+
+  consoles : (y : ℕ) (v : Variable) → slice_get G.g.program.variables y ≡ Some v → v.role ≡ role.Console → y < 2
+  consoles y v e r = (G.free.consoles y v e r).1
+
+  module _ (f : Fresh G lf kids q) {w : Who} {since : ℕ} {js : List Joint} {o : Own} {s : Store} {n : Memory Plain} (t : St G lf kids q w since js o s n) (may_fork : o.depth + 1 ≤ G.g.limits.depth)
+      (ss : Stmts) (sc : List Scope) (pl : Placed G.g Wr Rd lf.J sc js (In_stmt (Parallel ss))) (first k : ℕ) (b : Birth) (z : ChildIs G.g.program G.moves G.shares G.code G.hush true sc ss first k b)
+      (unread : IsUsed G.g.program (In_stmt z.statement) 1 → IsTarget G.g.program (In_stmt z.statement) 1)
+      (child : Name) (longer : suc (length w.name) ≤ length child) (number : ℕ) (called : Called G child number) (pc : ℕ) (stack : List Entry) (value : ℤ) where
+    new_name : (h : ℕ) (j : Joint) (rest : List Joint) → from (suc h) js ≡ j ∷ rest → j.source.owner ≡ child → ⊥
+    new_name h j rest e i = let a = within_at (length w.name) (suc h) js j rest t.owners e in let b = ap (λ z. length z) i in omega (arith, a, b, longer)
+
+    abbrev pub table : ChildTable
+    table = child_table G.g.program G.moves G.shares z.entry None z.statement
+
+    abbrev pub handing : Handing
+    handing = handing_of G.code.layouts n.frames value k table
+
+    -- what its birth gives it
+    abbrev pub life : Life
+    life = record {
+      W = λ l. Aimed G.g.program (sources js) z.statement l;
+      R = λ l. Used G.g.program (sources js) z.statement l;
+      J = λ h. Seen sc js z.statement h;
+      low = suc (index_frame handing);
+      born = o.depth + 1;
+      moved = handing.moved;
+      below = js;
+      end = after G.g.program z.entry z.statement;
+    }
+
+    abbrev pub own : Process
+    own = record { todo = push z.statement []; who = record { name = child; forks = 0; opens = 0 }; own = record { frames = o.frames; depth = o.depth + 1; ticks = 0; cells = 0 } }
+
+    module _ (moved_known : (a : Spot) → In a handing.moved → IsSome (fin.get n.store.map a)) (shared_known : (a : Spot) → In a handing.shared → IsSome (fin.get n.store.map a)) (more : ℕ → ℕ → Life) where
+      begins : Rattle.sp_codegen.specs.Standing.Stand G.g G.code own.who (Named G) (Called G) (λ l. Mine child l ⊎ life.W l) (λ l. Mine child l ⊎ life.R l) life.J life.low (length js) life.born 0 G.pause life.moved js own.own s
+          (memory_in (newborn plain (run_is G) (At pc stack n) value number k table))
+          × Placed G.g (λ l. Mine child l ⊎ life.W l) (λ l. Mine child l ⊎ life.R l) life.J sc js (In_stmt z.statement)
+      begins = child_begins G.g G.code w (Named G) (Called G) Wr Rd lf.J lf.low (length lf.below) lf.born since G.pause lf.moved f.based G.formed G.laid G.free f.reads G.moves G.shares G.sets consoles t may_fork
+          ss sc pl G.hush first k b z unread own.who longer number called pc stack value moved_known
+
+      pub fresh : Fresh G life more child
+      fresh = record {
+        based = (let a = t.above_base in let c = f.based in omega (arith, a, c));
+        reads = λ l h. ⊎_elim (λ a. inl a) (λ a. inr (a.0, inl a.1, a.2)) h;
+        low_small = low_small G.g G.code w (Named G) (Called G) Wr Rd lf.J lf.low (length lf.below) lf.born since G.pause lf.moved f.based t may_fork handing moved_known own.who (omega (arith, longer)) number called (λ a. ⊥) (λ a. ⊥) (λ a. ⊥) (λ r h x l a. absurd a) (λ h a lt j rest e. absurd a) (λ a. absurd a) (λ a. absurd a) shared_known f.low_small;
+        ends = z.end;
+      }
+
+      pub child_stands : Stands G life more child 0 own s (newborn plain (run_is G) (At pc stack n) value number k table)
+      child_stands = record {
+        fresh = fresh;
+        named = refl;
+        js = js;
+        pc = z.entry;
+        stack = [];
+        memory = memory_in (newborn plain (run_is G) (At pc stack n) value number k table);
+        is = refl;
+        stand = begins.0;
+        follows = child_follows (execution G life more child fresh own.who refl 0)
+            z.statement sc z.entry (G.moves z.statement) (G.shares z.statement) None js begins.1 z.body;
+      }
+
+    -- what its parent keeps of it, as far as the lemmas on handings go today
+    module _ (no_index_aimed : (y : ℕ) → IsIndexOf G.g.program y → IsTarget G.g.program (In_stmt z.statement) y → ⊥) (declared : (y : ℕ) → IsTarget G.g.program (In_stmt z.statement) y → (v : Variable) × (slice_get G.g.program.variables y ≡ Some v))
+        (no_index : (h : ℕ) → lf.J h → (j : Joint) (rest : List Joint) → from (suc h) js ≡ j ∷ rest → NotIn (spot_at j.machine.number 0) handing.moved)
+        (input : In position_at.spot handing.moved → life.R Input) (output : In output_spot handing.moved → life.R Output)
+        (kept : (a : Spot) → In a handing.moved → (life.R Input × (a ≡ position_at.spot)) ⊎ ((life.R Output × (a ≡ output_spot))
+        ⊎ ((r : Name) × (h : ℕ) × (x : ℕ) × (l : Live G.g.program js r h x) × (Mine child (Cell r h x) ⊎ life.R (Cell r h x)) × (a ≡ spot_at l.joint.machine.number (slot G.g.program x))))) where
+      sound : Sound G.g.program Wr Rd (sources js) (In_stmt z.statement)
+      sound = part (λ u a. inr (inl (z.inside u a))) pl.sound
+
+      pub handed_facts : Handed G lf kids q js n life child
+      handed_facts = record {
+        live = λ r h x l m i. (let a = moved_aimed G.g G.code w (Named G) (Called G) Wr Rd lf.J lf.low (length lf.below) lf.born since G.pause lf.moved G.formed G.laid G.free f.reads G.moves G.shares G.sets t z.statement sound unread child new_name table refl refl value k consoles no_index_aimed declared r h x l m i in (inr (a.0, inl a.1, a.2), (l, refl, refl)));
+        aims = λ r h x l a. in_spots G.code.layouts n.frames (G.moves z.statement) a.0 (spot_at l.joint.machine.number (slot G.g.program x)) (G.sets.moved z.statement a.0 a.1)
+            (ap (λ y. spot_of G.code.layouts y a.0) t.machine_frames ∙ found_at G.g G.code w (Named G) (Called G) Wr Rd lf.J lf.low (length lf.below) lf.born since G.pause lf.moved G.formed G.laid G.free f.reads G.moves G.shares G.sets t z.statement sound unread child new_name table refl refl value k a.0 r h x a.2 l);
+        no_index = no_index;
+        input = input;
+        output = output;
+        input_aims = λ a. (let y0 : a.0 ≡ 0 = is_input G.g G.code w (Named G) (Called G) Wr Rd lf.J lf.low (length lf.below) lf.born since G.pause lf.moved G.formed G.laid G.free f.reads G.moves G.shares G.sets t z.statement sound unread child new_name table refl refl value k a.0
+            (console_only G.g G.code w (Named G) (Called G) Wr Rd lf.J lf.low (length lf.below) lf.born since G.pause lf.moved G.formed G.laid G.free f.reads G.moves G.shares G.sets t z.statement sound unread child new_name table refl refl value k a.0 Input (λ q k x e. absurd (cc e)) a.2).0 in
+            in_spots G.code.layouts n.frames (G.moves z.statement) a.0 position_at.spot (G.sets.moved z.statement a.0 a.1) (ap (λ y. spot_of G.code.layouts n.frames y) y0));
+        output_aims = λ a. (output_handed G.g G.code w (Named G) (Called G) Wr Rd lf.J lf.low (length lf.below) lf.born since G.pause lf.moved G.formed G.laid G.free f.reads G.moves G.shares G.sets t z.statement sound unread child new_name table refl refl value k consoles (inr (a.0, inl a.1, a.2))).1;
+        old = λ a i. moved_known G.g G.code w (Named G) (Called G) Wr Rd lf.J lf.low (length lf.below) lf.born since G.pause lf.moved G.formed G.laid G.free f.reads G.moves G.shares G.sets t z.statement sound unread child new_name table refl refl value k consoles no_index_aimed declared a i;
+        kept = kept;
+      }
+
+-- and its parent joins: what moved is away
+module _ (G : Ground) (lf : Life) (kids : ℕ → ℕ → Life) (q : Name) (f : Fresh G lf kids q) (since k n : ℕ) (next : Process) (js : List Joint) (s : StateOf G.g) (m : Memory Plain) (t : St G lf kids q next.who since js next.own s.store m) (named : next.who.name ≡ q)
+    (pc : ℕ) (stack : List Entry) (follows : Fo G lf kids q f next.who named since pc stack js next.todo)
+    (hs : List Handing) (known : (a : Spot) → In a (moved_of hs) ⊎ In a (shared_of hs) → IsSome (fin.get m.store.map a)) (dry : NotIn output_spot (shared_of hs))
+    (some : 1 ≤ n) (living : (j : ℕ) → j < n → has_ended (s.condition ((k, j) ∷ q)) ≡ false) (parts : (a : Spot) → In a (moved_of hs) → (j : ℕ) × (j < n) × In a (kids k j).moved)
+    (children : (j : ℕ) → j < n → Handed G lf kids q js m (kids k j) ((k, j) ∷ q)) where
+  all_left : (a : ℕ) → a ≤ n → left_of G lf kids q s.condition k a ≡ a
+  all_left zero h = refl
+  all_left (suc a) h =
+      let x : left_of G lf kids q s.condition k (suc a) ≡ 1 + left_of G lf kids q s.condition k a = ap (λ b. (if b then 0 else 1) + left_of G lf kids q s.condition k a) (living a (omega (arith, h))) in
+      let y = all_left a (omega (arith, h)) in omega (arith, x, y)
+
+  pub parent_joins : Joined G lf kids q since k n n next s (On_store (λ y. plain.handed y hs) (At pc stack m))
+  parent_joins = record {
+    fresh = f;
+    named = named;
+    js = js;
+    pc = pc;
+    stack = stack;
+    memory = m;
+    held = handed m.store.map hs;
+    is = refl;
+    joining = joining_more G lf kids q (λ a h. let z = parts a h in (z.0, (z.1, living z.0 z.1), z.2))
+        (handed_joining G.g G.code next.who (Named G) (Called G) (λ l. Mine q l ⊎ lf.W l) (λ l. Mine q l ⊎ lf.R l) lf.J lf.low (length lf.below) lf.born since G.pause lf.moved t hs known dry);
+    follows = follows;
+    count = sym (all_left n (omega arith));
+    some = some;
+    children = λ j h. children j h.0;
+  }

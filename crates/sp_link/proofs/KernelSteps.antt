@@ -1,0 +1,80 @@
+-- The step at a stop: what it is in the meaning (`kernel_next`, `kernel_says`). A fork, an offer and an end write nothing but cells of
+-- frames that are gone; the meaning leaves these writes out (`QuietDeeds`, a premise today), and a process stands without them.
+use Rattle.std.proofs.Common.{◌≡◌, ◌⊎◌, ⊎_elim, ℕ, suc, ◌≤◌, List, length, Some, ap, ◌∙◌, arith}
+use Rattle.sp_cell.specs.Map.{Plain}
+use Rattle.sp_meaning.specs.Model.{Name}
+use Rattle.sp_meaning.specs.Asking.{answer, put_by}
+use Rattle.sp_meaning.specs.Steps.{ActOf, outcome, result_of, step_with}
+use Rattle.sp_meaning.specs.Own.{Setting, Loc, Cell, Input, Output, Own, Who, Process, Came, Got, same_loc}
+use Rattle.sp_meaning.specs.Deeds.{Deed, Forked, Offered, Over}
+use Rattle.sp_meaning.specs.SuperPascal.{superpascal, asks, deed_of, act_of}
+use Rattle.sp_meaning.specs.Run.{Store}
+use Rattle.sp_meaning.specs.Runs.{StateOf, most, running, next, says, said_of}
+use Rattle.sp_meaning.proofs.Reached.{next_is}
+use Rattle.sp_code.specs.Memory.{Memory}
+use Rattle.sp_codegen.specs.Joints.{Joint}
+use Rattle.sp_codegen.proofs.Joints.{from_length}
+use Rattle.sp_link.proofs.Relation.{Ground, Life, St}
+
+module _ (g : Setting) (q : Name) (s : StateOf g) (pr : Process) (runs : running g s q ≡ Some pr) (r : Came Deed × Store) (does : ◌≡◌ {A = Came Deed × Store} (answer same_loc (deed_of g pr) s.store) r) where
+  abbrev pub act : ActOf (superpascal g)
+  act = act_of pr.who r.0 (put_by same_loc (asks g pr) s.store)
+
+  act_is : (superpascal g).next pr s.store ≡ act
+  act_is = next_is g pr s.store ∙ ap (λ (x : Came Deed × Store). act_of pr.who x.0 (put_by same_loc (asks g pr) s.store)) does
+
+  pub kernel_next : next g s q ≡ Some (result_of s q (outcome (most g) s q act))
+  kernel_next = ap (step_with (most g) s q) runs ∙ ap (λ (a : ActOf (superpascal g)). Some (result_of s q (outcome (most g) s q a))) act_is
+
+  pub kernel_says : says g s q pr ≡ said_of act (outcome (most g) s q act)
+  kernel_says = ap (λ (a : ActOf (superpascal g)). said_of a (outcome (most g) s q a)) act_is
+
+-- a cell of a frame that is not there any more
+abbrev pub IsDead : ℕ → Loc → Type 0
+IsDead n (Cell r h x) = n ≤ h
+IsDead n Input = ⊥
+IsDead n Output = ⊥
+
+abbrev pub IsStop : Deed → Type 0
+IsStop (Rattle.sp_meaning.specs.Deeds.Went todo) = ⊥
+IsStop (Rattle.sp_meaning.specs.Deeds.Beat todo) = ⊥
+IsStop (Rattle.sp_meaning.specs.Deeds.Opened todo) = ⊥
+IsStop (Forked bs todo) = Unit {0}
+IsStop (Offered c k x todo) = Unit {0}
+IsStop Over = Unit {0}
+
+-- a fork, an offer and an end write nothing but cells of frames that calls of functions made and that are gone. The meaning
+-- leaves these writes out. (To be proved in sp_meaning: an expression writes nothing that is there)
+abbrev pub QuietDeeds : Setting → Type 0
+QuietDeeds g = (pr : Process) (s : Store) (d : Deed) (o : Own) (m : Store) → IsStop d → ◌≡◌ {A = Came Deed × Store} (answer same_loc (deed_of g pr) s) (Got d o, m) → (l : Loc) → (s l ≡ m l) ⊎ IsDead (length o.frames) l
+
+module _ (G : Ground) (lf : Life) (kids : ℕ → ℕ → Life) (q : Name) where
+  -- so it stands without them
+  pub stand_dead : {w : Who} {since : ℕ} {js : List Joint} {o : Own} {s : Store} {n : Memory Plain} → St G lf kids q w since js o s n → (s1 : Store) → ((l : Loc) → (s1 l ≡ s l) ⊎ IsDead (length js) l) → St G lf kids q w since js o s1 n
+  stand_dead {js = js} t s1 same = record {
+    frames = t.frames;
+    machine_frames = t.machine_frames;
+    paired = t.paired;
+    process = t.process;
+    ticks = t.ticks;
+    since_is = t.since_is;
+    moved_is = t.moved_is;
+    owners = t.owners;
+    depth = t.depth;
+    cells = t.cells;
+    fits = t.fits;
+    shallow = t.shallow;
+    own_frames = t.own_frames;
+    above_base = t.above_base;
+    deep = t.deep;
+    counts = t.counts;
+    known = t.known;
+    unaway = t.unaway;
+    apart = t.apart;
+    root = t.root;
+    bottom = t.bottom;
+    held = λ r h x l m. (let z = t.held r h x l m in record { tree = z.tree; is = ⊎_elim (λ e. e) (λ (d : length js ≤ h). (let a = (from_length (suc h) js l.joint l.rest l.at).1 in absurd (omega (arith, a, d)))) (same (Cell r h x)) ∙ z.is; cells = z.cells; piece = z.piece; flat = z.flat });
+    indexes = t.indexes;
+    position = λ m. (let z = t.position m in (z.0, ⊎_elim (λ e. e) (λ d. absurd d) (same Input) ∙ z.1, z.2));
+    output = λ m. (let z = t.output m in (z.0, ⊎_elim (λ e. e) (λ d. absurd d) (same Output) ∙ z.1, z.2));
+  }

@@ -1,0 +1,303 @@
+-- How the system of the machine stands for the state of the meaning after the same entries. `Ground` is what a run is of, `Life` what
+-- its birth gives to a process for good, `Does` what one process does on both sides, condition by condition, and `Linked` the whole:
+-- names, totals, pending offers, faults, and every process. Names and numbers are those of the whole journal, so that nothing in the
+-- relation has to grow when a process is born; of channels only those are named that are open so far.
+use Rattle.std.proofs.Common.{◌≡◌, ◌⊎◌, ℕ, zero, suc, ◌+◌, ◌<◌, ◌≤◌, ◌==◌, List, [], ◌∷◌, length, Option, Some, None, Bool, true, false, if◌then◌else◌, eqb-true, eq-eqb, sym, arith, refl, ap, ◌∙◌, inl}
+use Rattle.std.specs.Prelude.{◌≢◌, IsSome, slice_get}
+use Rattle.std.specs.FinMap as fin
+use Rattle.sp_tree.specs.Plain.{Program, Stmt}
+use Rattle.sp_tree.specs.Interference.{IsFreeOfInterference}
+use Rattle.sp_journal.specs.declared.entry.Birth.{Birth}
+use Rattle.sp_journal.specs.Births.{Births, channel}
+use Rattle.sp_cell.specs.declared.spot.Spot.{Spot}
+use Rattle.sp_cell.specs.Map.{Map, Plain, with_map, output_spot, output_of}
+use Rattle.sp_cell.specs.Spots.{In, NotIn}
+use Rattle.sp_meaning.specs.Model.{Name, Channel, same_channel, Cargo, Offer, Condition, Absent, Waits, Joins, Ended}
+use Rattle.sp_meaning.specs.Steps.{working_in, has_ended}
+use Rattle.sp_meaning.specs.Own.{Setting, Loc, Cell, Input, Output, Held, Written, Address, Own, Who, Item, Process}
+use Rattle.sp_meaning.specs.Deeds.{size_of_frame}
+use Rattle.sp_meaning.specs.Run.{Store}
+use Rattle.sp_meaning.specs.SuperPascal.{root}
+use Rattle.sp_meaning.specs.Runs.{StateOf}
+use Rattle.sp_meaning.specs.Along.{Course}
+use Rattle.sp_meaning.proofs.Rights.{Mine}
+use Rattle.sp_meaning.proofs.Keys.{channel_test}
+use Rattle.sp_meaning.proofs.Owned.{Inv}
+use Rattle.sp_meaning.proofs.Reached.{Known}
+use Rattle.sp_code.specs.declared.code.Layout.{Layout}
+use Rattle.sp_code.specs.declared.code.Parts.{Parts as Code}
+use Rattle.sp_code.specs.declared.instr.Instr.TheVariants as i
+use Rattle.sp_code.specs.Machine.{Entry, Stop, Config, At, Ops, layout_of}
+use Rattle.sp_code.specs.Turns.{begins}
+use Rattle.sp_code.specs.Memory.{Memory, memory, position_at, first}
+use Rattle.sp_code.specs.Memory as m
+use Rattle.sp_code.specs.PlainStore.{plain}
+use Rattle.sp_code.specs.System.{System}
+use Rattle.sp_code.specs.System as sys
+use Rattle.sp_code.specs.Scopes.{slot}
+use Rattle.sp_code.specs.Shares.{SetsAre}
+use Rattle.sp_code.specs.Sound.{AreLimits}
+use Rattle.sp_code.specs.Stands.{BlocksAt}
+use Rattle.sp_tree.specs.Formed.{IsFormed}
+use Rattle.sp_codegen.specs.Joints.{Joint, from}
+use Rattle.sp_codegen.specs.Meets.{code_run, due_after}
+use Rattle.sp_codegen.specs.Executions.{Execution}
+use Rattle.sp_codegen.specs.Following.{Follows, CargoIs}
+use Rattle.sp_codegen.specs.Relation.{Relation, Keeps}
+use Rattle.sp_codegen.specs.Standing.{Live, Stand, relation, spot_at}
+use Rattle.sp_codegen.proofs.Closing.{Laid}
+use Rattle.sp_codegen.proofs.Instance.{instance}
+use Rattle.sp_codegen.proofs.Joining.{Joining}
+
+-- what a run of the code of a tree is of, and all that its journal gives
+pub record Ground : Type 1 where
+  pub g : Setting
+  pub code : Code
+  pub moves : Stmt → List ℕ
+  pub shares : Stmt → List ℕ
+  pub hush : ℕ → Type 0
+  pub pause : ℕ
+  pub births : Births
+  -- how many channels are open so far
+  pub opened : ℕ
+  pub formed : IsFormed g.program
+  pub laid : Laid g.program code.layouts
+  pub free : IsFreeOfInterference g.program
+  pub finds : (f : ℕ) (l : Layout) → slice_get code.layouts f ≡ Some l → layout_of code.layouts f ≡ Some l
+  pub blocks : BlocksAt g.program moves shares code hush
+  pub sets : SetsAre g.program moves shares
+  pub limits : AreLimits g.limits
+  pub one_name : (a b : ℕ) → a < births.processes → b < births.processes → births.name a ≡ births.name b → a ≡ b
+  pub one_channel : (c d : ℕ) → c < births.channels → d < births.channels → channel births c ≡ channel births d → c ≡ d
+
+-- so many channels are open
+abbrev pub at_open : Ground → ℕ → Ground
+at_open G n = record G { opened = n }
+
+-- what its birth gave to a process: what it may write and read in the frames of others, whose indexes it holds, above which number
+-- its frames are, its depth, what moved to it, its frames, and where its code ends
+pub record Life : Type 1 where
+  pub W : Loc → Type 0
+  pub R : Loc → Type 0
+  pub J : ℕ → Type 0
+  pub low : ℕ
+  pub born : ℕ
+  pub moved : List Spot
+  pub below : List Joint
+  pub end : ℕ
+
+-- so far the entries have given what they have given in the end
+pub record Begun (all b : Births) : Type 0 where
+  pub processes : b.processes ≤ all.processes
+  pub channels : b.channels ≤ all.channels
+  pub names : (i : ℕ) → i < b.processes → b.name i ≡ all.name i
+  pub openings : (j : ℕ) → j < b.channels → channel b j ≡ channel all j
+  -- how each came to be
+  pub root : (b.birth 0 ≡ None) × (b.name 0 ≡ []) × (0 < b.processes)
+  pub born : (i : ℕ) → 0 < i → i < b.processes → (z : Birth) × (b.birth i ≡ Some z) × (z.parent < i) × (b.name i ≡ (z.fork, z.child) ∷ b.name z.parent) × (z.fork < b.forks z.parent)
+
+abbrev pub Began : Ground → Births → Type 0
+Began G b = Begun G.births b
+
+module _ (G : Ground) where
+  abbrev pub p : Program
+  p = G.g.program
+
+  abbrev pub run_is : m.Setting
+  run_is = code_run G.g G.code G.pause
+
+  abbrev pub ops : Ops (Memory Plain)
+  ops = memory plain run_is
+
+  -- a process with this name has this number, and so a channel
+  abbrev pub Called : Name → ℕ → Type 0
+  Called q i = (i < G.births.processes) × (G.births.name i ≡ q)
+
+  abbrev pub Named : Channel → ℕ → Type 0
+  Named c j = (j < G.opened) × (j < G.births.channels) × (channel G.births j ≡ c)
+
+  pub told : (c d : Channel) (a b : ℕ) → Named c a → Named d b → same_channel c d ≡ (a == b)
+  told c d a b h k = go (a == b) refl
+    where
+      go : (z : Bool) → a == b ≡ z → same_channel c d ≡ z
+      go true e = (channel_test c d).1 (sym h.2 ∙ ap (channel G.births) (eqb-true a b e) ∙ k.2)
+      go false e = other (same_channel c d) refl
+        where
+          other : (z : Bool) → same_channel c d ≡ z → z ≡ false
+          other true f = let same = G.one_channel a b h.1 k.1 (h.2 ∙ (channel_test c d).0 f ∙ sym k.2) in absurd (cc (sym e ∙ eq-eqb a b same))
+          other false f = refl
+
+  -- kids: the lives of its children, by fork and number
+  module _ (lf : Life) (kids : ℕ → ℕ → Life) (q : Name) where
+    abbrev pub Writes : Loc → Type 0
+    Writes l = Mine q l ⊎ lf.W l
+
+    abbrev pub Reads : Loc → Type 0
+    Reads l = Mine q l ⊎ lf.R l
+
+    abbrev pub base : ℕ
+    base = length lf.below
+
+    abbrev pub St : Who → ℕ → List Joint → Own → Store → Memory Plain → Type 0
+    St w since js o s n = Stand G.g G.code w Named Called Writes Reads lf.J lf.low base lf.born since G.pause lf.moved js o s n
+
+    abbrev pub Rel : Who → ℕ → Relation (Memory Plain)
+    Rel w since = relation G.g G.code w Named Called Writes Reads lf.J lf.low base lf.born since G.pause lf.moved
+
+    -- of a birth
+    pub record Fresh : Type 0 where
+      pub based : 1 ≤ base
+      pub reads : (l : Loc) → Writes l → Reads l
+      pub low_small : lf.low ≤ lf.born + 1
+      pub ends : slice_get G.code.instrs lf.end ≡ Some i.End
+
+    module _ (f : Fresh) (w : Who) (named : w.name ≡ q) (since : ℕ) where
+      pub law : Keeps G.g w (due_after since G.pause) Writes Reads lf.J ops (Rel w since)
+      law = instance G.g G.code w Named Called Writes Reads lf.J lf.low base lf.born since G.pause lf.moved G.formed G.laid f.based (λ n x. inl named) (let a = f.low_small in let b = G.limits.depth in omega (arith, a, b)) told
+
+      -- all that the simulation of its turns speaks of
+      abbrev pub execution : Execution (Memory Plain)
+      execution = record {
+        setting = G.g;
+        code = G.code;
+        moves = G.moves;
+        shares = G.shares;
+        Quiet = G.hush;
+        who = w;
+        due = due_after since G.pause;
+        Writes = Writes;
+        Reads = Reads;
+        Indexes = lf.J;
+        operations = ops;
+        relation = Rel w since;
+        laws = law;
+        reads_written = f.reads;
+        free = G.free;
+        own_written = λ n x. inl named;
+        layouts_found = G.finds;
+      }
+
+      -- the code of what is left, from a place with a stack and frames, to the process's end
+      abbrev pub Fo : ℕ → List Entry → List Joint → List Item → Type 0
+      Fo pc stack js todo = Follows execution lf.end [] lf.below pc stack js todo
+
+      -- the offer of a waiting process
+      abbrev pub Ca : List Joint → Channel → ℕ → Cargo Held Address → Stop → Type 0
+      Ca js c k x z = CargoIs execution js c k x z
+
+    -- a process that runs, or that waits at an offer: c is where the machine has it
+    pub record Stands (since : ℕ) (pr : Process) (s : Store) (c : Config (Memory Plain)) : Type 0 where
+      pub fresh : Fresh
+      pub named : pr.who.name ≡ q
+      pub js : List Joint
+      pub pc : ℕ
+      pub stack : List Entry
+      pub memory : Memory Plain
+      pub is : c ≡ At pc stack memory
+      pub stand : St pr.who since js pr.own s memory
+      pub follows : Fo fresh pr.who named since pc stack js pr.todo
+
+    -- a child of which the process that forked it at js with the memory n keeps these facts, as long as it lives
+    pub record Handed (js : List Joint) (n : Memory Plain) (v : Life) (z : Name) : Type 0 where
+      -- what moved to it is what it may read there, in frames that it knows; and what it may write there moved to it
+      pub live : (r : Name) (h x : ℕ) → (l : Live p js r h x) → Reads (Cell r h x) → In (spot_at l.joint.machine.number (slot p x)) v.moved
+          → (Mine z (Cell r h x) ⊎ v.R (Cell r h x)) × ((k : Live p v.below r h x) × (k.joint ≡ l.joint) × (k.info ≡ l.info))
+      pub aims : (r : Name) (h x : ℕ) → (l : Live p js r h x) → v.W (Cell r h x) → In (spot_at l.joint.machine.number (slot p x)) v.moved
+      pub no_index : (h : ℕ) → lf.J h → (j : Joint) (rest : List Joint) → from (suc h) js ≡ j ∷ rest → NotIn (spot_at j.machine.number 0) v.moved
+      pub input : In position_at.spot v.moved → (v.R Input)
+      pub output : In output_spot v.moved → (v.R Output)
+      pub input_aims : v.W Input → In position_at.spot v.moved
+      pub output_aims : v.W Output → In output_spot v.moved
+      pub old : (a : Spot) → In a v.moved → IsSome (fin.get n.store.map a)
+      -- and each spot that moved is one that it holds
+      pub kept : (a : Spot) → In a v.moved → (v.R Input × (a ≡ position_at.spot)) ⊎ ((v.R Output × (a ≡ output_spot))
+          ⊎ ((r : Name) × (h : ℕ) × (x : ℕ) × (k : Live p v.below r h x) × (Mine z (Cell r h x) ⊎ v.R (Cell r h x)) × (a ≡ spot_at k.joint.machine.number (slot p x))))
+
+    -- child i of fork k has not ended
+    abbrev pub Lives_yet : StateOf G.g → ℕ → ℕ → ℕ → Type 0
+    Lives_yet s k n i = (i < n) × (has_ended (s.condition ((k, i) ∷ q)) ≡ false)
+
+    -- what is away with the children that have not ended
+    abbrev pub Away_yet : StateOf G.g → ℕ → ℕ → Spot → Type 0
+    Away_yet s k n a = (i : ℕ) × Lives_yet s k n i × In a (kids k i).moved
+
+    -- how many of the first n children of fork k have not ended
+    abbrev pub left_of : (Name → Condition Process Held Address) → ℕ → ℕ → ℕ
+    left_of c k zero = 0
+    left_of c k (suc i) = (if has_ended (c ((k, i) ∷ q)) then 0 else 1) + left_of c k i
+
+    -- a process that joins: its memory is that of the fork, with another map
+    pub record Joined (since k n left : ℕ) (pr : Process) (s : StateOf G.g) (c : Config (Memory Plain)) : Type 0 where
+      pub fresh : Fresh
+      pub named : pr.who.name ≡ q
+      pub js : List Joint
+      pub pc : ℕ
+      pub stack : List Entry
+      pub memory : Memory Plain
+      pub held : Map
+      pub is : c ≡ At pc stack (record memory { store = with_map memory.store held })
+      pub joining : Joining G.g G.code pr.who Named Called Writes Reads lf.J lf.low base lf.born since G.pause lf.moved (Away_yet s k n) js pr.own s.store memory held
+      pub follows : Fo fresh pr.who named since pc stack js pr.todo
+      pub count : left ≡ left_of s.condition k n
+      pub some : 1 ≤ left
+      pub children : (i : ℕ) → Lives_yet s k n i → Handed js memory (kids k i) ((k, i) ∷ q)
+
+    -- the output, of a process that does nothing more
+    abbrev pub Told : Store → Config (Memory Plain) → Type 0
+    Told s (At pc st n) = Reads Output → (bs : List ℕ) × (s Output ≡ Written bs) × (output_of (fin.get n.store.map output_spot) ≡ Some bs)
+
+    -- the first process where the frame of the program is too large: F12 comes before its first instruction
+    abbrev pub TooLarge : Process → Config (Memory Plain) → Type 0
+    TooLarge pr c = (q ≡ []) × (G.g.limits.cells < size_of_frame G.g 0) × (pr ≡ root G.g) × (c ≡ first plain run_is) × (begins ops G.code c ≡ false)
+
+    -- condition by condition
+    abbrev pub Does : Course → StateOf G.g → ℕ → sys.Condition Plain → Type 0
+    Does c s opens sys.Absent = ⊥
+    Does c s opens (sys.Runs d) = (pr : Process) × (working_in s.condition q (s.condition q) ≡ Some pr) × (Stands (c.since q) pr s.store d ⊎ TooLarge pr d) × (pr.who.opens ≡ opens) × (c.laid q ≡ false)
+    Does c s opens (sys.Waits z d) = (o : Offer Process Held Address) × (s.condition q ≡ Waits o) × (t : Stands (c.since q) o.next s.store d) × Ca t.fresh o.next.who t.named (c.since q) t.js o.channel o.kind o.cargo z × (o.next.who.opens ≡ opens) × (c.laid q ≡ false)
+    Does c s opens (sys.Joins left d) = (k n : ℕ) × (pr : Process) × (s.condition q ≡ Joins k n pr) × Joined (c.since q) k n left pr s d × (pr.who.opens ≡ opens) × (c.laid q ≡ false)
+    Does c s opens (sys.Laid d) = (c.laid q ≡ true) × (c.faulted ≡ true) × ((pr : Process) × (working_in s.condition q (s.condition q) ≡ Some pr)) × Told s.store d
+    Does c s opens sys.Gone = s.condition q ≡ Ended
+    Does c s opens (sys.Over d) = (s.condition q ≡ Ended) × (q ≡ []) × Told s.store d
+
+  -- the lives of all
+  abbrev pub Lives : Type 1
+  Lives = Name → Life
+
+  abbrev pub W_of : Lives → Name → Loc → Type 0
+  W_of lv q l = (lv q).W l
+
+  abbrev pub R_of : Lives → Name → Loc → Type 0
+  R_of lv q l = (lv q).R l
+
+  abbrev pub Does_all : Lives → Name → Course → StateOf G.g → ℕ → sys.Condition Plain → Type 0
+  Does_all lv q c s opens x = Does (lv q) (λ k i. lv ((k, i) ∷ q)) q c s opens x
+
+  -- whose offer is pending, by name and by number
+  abbrev pub IsPending : Option Name → Option ℕ → Type 0
+  IsPending None None = Unit {0}
+  IsPending None (Some z) = ⊥
+  IsPending (Some q) None = ⊥
+  IsPending (Some q) (Some z) = Called q z
+
+  -- the two states, after the same entries
+  pub record Linked (lv : Lives) (c : Course) (s : StateOf G.g) (u : System Plain) : Type 0 where
+    pub rights : Inv G.g.program (W_of lv) (R_of lv) s.condition s.forks
+    pub known : Known G.g s
+    pub began : Began G u.births
+    pub open_is : G.opened ≡ u.births.channels
+    pub forks : (i : ℕ) → i < u.births.processes → s.forks (G.births.name i) ≡ u.births.forks i
+    pub processes : s.totals.processes ≡ u.births.processes
+    pub channels : s.totals.channels ≡ u.births.channels
+    pub entries : s.totals.entries ≡ u.entries
+    -- who is not born yet has made no entry
+    pub fresh_since : (q : Name) → s.condition q ≡ Absent → c.since q ≡ 0
+    pub pending : (j : ℕ) → j < u.births.channels → IsPending (s.pending (channel G.births j)) (u.pending j)
+    pub none_pending : (j : ℕ) → u.births.channels ≤ j → u.pending j ≡ None
+    pub faulted : c.faulted ≡ u.faulted
+    pub quiet : u.faulted ≡ false → s.fault ≡ None
+    pub unlaid : u.faulted ≡ false → (q : Name) → c.laid q ≡ false
+    pub does : (i : ℕ) → i < u.births.processes → Does_all lv (G.births.name i) c s (u.births.opens i) (u.condition i)
+    pub unborn : (i : ℕ) → u.births.processes ≤ i → u.condition i ≡ sys.Absent
+    -- who is anything in the meaning has a number
+    pub numbered : (q : Name) → s.condition q ≢ Absent → (i : ℕ) × (i < u.births.processes) × (G.births.name i ≡ q)

@@ -1,0 +1,165 @@
+-- The run of a turn of one process, as the simulation of its code has it, is its local steps in the state of the meaning: up to the
+-- moment at which it is due (`Pauses`), or to its next kernel step (`Comes_to`). `P` is what local steps keep.
+use Rattle.std.proofs.Common.{◌≡◌, ◌⊎◌, inl, inr, ℕ, zero, suc, ◌+◌, List, Some, None, Bool, true, false, ◌&&◌, if◌then◌else◌, refl, sym, ap, ◌∙◌, subst}
+use Rattle.std.specs.Prelude.{◌≢◌, nat_le}
+use Rattle.sp_meaning.specs.Model.{Name, Works}
+use Rattle.sp_meaning.specs.Asking.{answer, put_by}
+use Rattle.sp_meaning.specs.Steps.{ActOf, outcome, working_in}
+use Rattle.sp_meaning.specs.Entries.{Happening}
+use Rattle.sp_meaning.specs.Own.{Setting, Own, Item, Process, Came, Got, Bad, Lost, Long, same_loc, give}
+use Rattle.sp_meaning.specs.Deeds.{Deed, Went, Beat, Opened, Forked, Offered, Over}
+use Rattle.sp_meaning.specs.SuperPascal.{superpascal, asks, deed_of, act_of, with_todo, is_beat}
+use Rattle.sp_meaning.specs.Run.{Store, run}
+use Rattle.sp_meaning.specs.Runs.{StateOf, most, running, next, says, said_of}
+use Rattle.sp_meaning.specs.Along.{Either, ticks_in, ticks_of, due, Turn}
+use Rattle.sp_meaning.specs.Turn as source
+use Rattle.sp_meaning.proofs.Keys.{name_test}
+use Rattle.sp_meaning.proofs.Maps.{at_same, at_other}
+use Rattle.sp_meaning.proofs.Moved.{moved, local_step, pausing_step}
+use Rattle.sp_meaning.proofs.Reached.{next_is}
+use Rattle.sp_meaning.proofs.Run.{then_run, run_bind}
+use Rattle.sp_codegen.specs.Meets.{due_after}
+
+-- P: what local steps keep
+module _ (g : Setting) (q : Name) (pause since : ℕ) (P : Process → Store → Type 0)
+    (keeps : (pr : Process) (s : Store) → P pr s → (todo : List Item) (o : Own) (m : Store) (d : Deed) → ◌≡◌ {A = Came Deed × Store} (answer same_loc (deed_of g pr) s) (Got d o, m) → (d ≡ Went todo) ⊎ (d ≡ Beat todo) → P (with_todo todo pr.who o) m) where
+  abbrev is_due : Own → Bool
+  is_due o = due_after since pause o
+
+  -- all but q's own condition and the store
+  pub record Elsewhere (s t : StateOf g) : Type 0 where
+    pub condition : (r : Name) → r ≢ q → t.condition r ≡ s.condition r
+    pub forks : t.forks ≡ s.forks
+    pub pending : t.pending ≡ s.pending
+    pub totals : t.totals ≡ s.totals
+    pub fault : t.fault ≡ s.fault
+
+  pub nowhere : (s : StateOf g) → Elsewhere s s
+  nowhere s = record { condition = λ r d. refl; forks = refl; pending = refl; totals = refl; fault = refl }
+
+  pub elsewhere_on : {s t u : StateOf g} → Elsewhere s t → Elsewhere t u → Elsewhere s u
+  elsewhere_on a b = record { condition = λ r d. b.condition r d ∙ a.condition r d; forks = b.forks ∙ a.forks; pending = b.pending ∙ a.pending; totals = b.totals ∙ a.totals; fault = b.fault ∙ a.fault }
+
+  moved_elsewhere : (s : StateOf g) (pr : Process) (m : Store) → Elsewhere s (moved g s q pr m)
+  moved_elsewhere s pr m = record { condition = λ r d. at_other name_test s.condition q r (Works pr) (λ e. d (sym e)); forks = refl; pending = refl; totals = refl; fault = refl }
+
+  moved_runs : (s : StateOf g) (pr : Process) (m : Store) → running g (moved g s q pr m) q ≡ Some pr
+  moved_runs s pr m = ap (λ c. working_in (moved g s q pr m).condition q c) (at_same name_test s.condition q (Works pr))
+
+  moved_ticks : (s : StateOf g) (pr : Process) (m : Store) → ticks_of g (moved g s q pr m) q ≡ pr.own.ticks
+  moved_ticks s pr m = ap ticks_in (at_same name_test s.condition q (Works pr))
+
+  -- local steps of q lead from s to t, where it has pr left to do and its next step does what r says
+  pub record Comes_to (s : StateOf g) (pr : Process) (r : Came Deed × Store) : Type 0 where
+    pub steps : ℕ
+    pub at : StateOf g
+    pub left : Process
+    pub elsewhere : Elsewhere s at
+    pub runs : running g at q ≡ Some left
+    pub who_is : left.who ≡ pr.who
+    pub good : P left at.store
+    pub does : ◌≡◌ {A = Came Deed × Store} (answer same_loc (deed_of g left) at.store) r
+    pub turn : (what : Happening) → says g at q left ≡ Some what → Turn g pause since q steps s at false
+
+  -- or to the first moment at which it is due
+  pub record Pauses (s : StateOf g) (pr : Process) (todo : List Item) (o : Own) (m : Store) : Type 0 where
+    pub steps : ℕ
+    pub at : StateOf g
+    pub elsewhere : Elsewhere s at
+    pub runs : running g at q ≡ Some (with_todo todo pr.who o)
+    pub condition : at.condition q ≡ Works (with_todo todo pr.who o)
+    pub store : at.store ≡ m
+    pub good : P (with_todo todo pr.who o) m
+    pub turn : Turn g pause since q steps s at true
+
+  abbrev pub Outcome : StateOf g → Process → Came source.Stop × Store → Type 0
+  Outcome s pr (Got (source.Paused todo) o, m) = Pauses s pr todo o m
+  Outcome s pr (Got (source.Stops d) o, m) = Comes_to s pr (Got d o, m)
+  Outcome s pr (Bad f, m) = Comes_to s pr (Bad f, m)
+  Outcome s pr (Lost, m) = Unit {0}
+  Outcome s pr (Long, m) = Unit {0}
+
+  -- a local step says nothing
+  says_none : (s : StateOf g) (pr : Process) (todo : List Item) (o : Own) (m : Store) (d : Deed) → ◌≡◌ {A = Came Deed × Store} (answer same_loc (deed_of g pr) s.store) (Got d o, m) → (d ≡ Went todo) ⊎ (d ≡ Beat todo) → says g s q pr ≡ None
+  says_none s pr todo o m d e k =
+      ap (λ (a : ActOf (superpascal g)). said_of a (outcome (most g) s q a)) (next_is g pr s.store ∙ ap (λ (x : Came Deed × Store). act_of pr.who x.0 (put_by same_loc (asks g pr) s.store)) e) ∙ by k
+    where
+      act : Deed → ActOf (superpascal g)
+      act x = act_of pr.who (Got x o) (put_by same_loc (asks g pr) s.store)
+
+      by : (d ≡ Went todo) ⊎ (d ≡ Beat todo) → said_of (act d) (outcome (most g) s q (act d)) ≡ None
+      by (inl h) = ap (λ x. said_of (act x) (outcome (most g) s q (act x))) h
+      by (inr h) = ap (λ x. said_of (act x) (outcome (most g) s q (act x))) h
+
+  -- one step in front
+  front : (s : StateOf g) (pr : Process) → running g s q ≡ Some pr → (todo : List Item) (o : Own) (m : Store) (d : Deed) → ◌≡◌ {A = Came Deed × Store} (answer same_loc (deed_of g pr) s.store) (Got d o, m) → (d ≡ Went todo) ⊎ (d ≡ Beat todo)
+      → next g s q ≡ Some (moved g s q (with_todo todo pr.who o) m) → (b : Bool) → is_beat (Got d o) && is_due o ≡ b
+      → (n : ℕ) (at : StateOf g) (paused : Bool) → Either b ((n ≡ 0) × (at ≡ moved g s q (with_todo todo pr.who o) m) × (paused ≡ true)) (Turn g pause since q n (moved g s q (with_todo todo pr.who o) m) at paused)
+      → Turn g pause since q (suc n) s at paused
+  front s pr e todo o m d er k st b eb n at paused h = (
+    pr,
+    e,
+    says_none s pr todo o m d er k,
+    moved g s q (with_todo todo pr.who o) m,
+    st,
+    subst (λ z. Either z ((n ≡ 0) × (at ≡ moved g s q (with_todo todo pr.who o) m) × (paused ≡ true)) (Turn g pause since q n (moved g s q (with_todo todo pr.who o) m) at paused)) (sym due_is) h,
+  )
+    where
+      due_is : due g pause since s pr q (moved g s q (with_todo todo pr.who o) m) ≡ b
+      due_is = ap (λ (x : Came Deed × Store). is_beat x.0 && nat_le (since + pause) (ticks_of g (moved g s q (with_todo todo pr.who o) m) q)) er
+          ∙ ap (λ z. is_beat (Got d o) && nat_le (since + pause) z) (moved_ticks s (with_todo todo pr.who o) m) ∙ eb
+
+  -- a step that does not end the turn
+  after : (s : StateOf g) (pr : Process) → running g s q ≡ Some pr → (todo : List Item) (o : Own) (m : Store) (d : Deed) → ◌≡◌ {A = Came Deed × Store} (answer same_loc (deed_of g pr) s.store) (Got d o, m) → (d ≡ Went todo) ⊎ (d ≡ Beat todo)
+      → next g s q ≡ Some (moved g s q (with_todo todo pr.who o) m) → is_beat (Got d o) && is_due o ≡ false
+      → (r : Came source.Stop × Store) → Outcome (moved g s q (with_todo todo pr.who o) m) (with_todo todo pr.who o) r → Outcome s pr r
+  after s pr e todo o m d er k st eb (Got (source.Paused left) o1, m1) h =
+      record { steps = suc h.steps; at = h.at; elsewhere = elsewhere_on (moved_elsewhere s (with_todo todo pr.who o) m) h.elsewhere; runs = h.runs; condition = h.condition; store = h.store; good = h.good; turn = front s pr e todo o m d er k st false eb h.steps h.at true h.turn }
+  after s pr e todo o m d er k st eb (Got (source.Stops x) o1, m1) h =
+      record { steps = suc h.steps; at = h.at; left = h.left; elsewhere = elsewhere_on (moved_elsewhere s (with_todo todo pr.who o) m) h.elsewhere; runs = h.runs; who_is = h.who_is; good = h.good; does = h.does; turn = λ what y. front s pr e todo o m d er k st false eb h.steps h.at false (h.turn what y) }
+  after s pr e todo o m d er k st eb (Bad f, m1) h =
+      record { steps = suc h.steps; at = h.at; left = h.left; elsewhere = elsewhere_on (moved_elsewhere s (with_todo todo pr.who o) m) h.elsewhere; runs = h.runs; who_is = h.who_is; good = h.good; does = h.does; turn = λ what y. front s pr e todo o m d er k st false eb h.steps h.at false (h.turn what y) }
+  after s pr e todo o m d er k st eb (Lost, m1) h = tt
+  after s pr e todo o m d er k st eb (Long, m1) h = tt
+
+  comes_now : (s : StateOf g) (pr : Process) → P pr s.store → running g s q ≡ Some pr → (r : Came Deed × Store) → ◌≡◌ {A = Came Deed × Store} (answer same_loc (deed_of g pr) s.store) r → Comes_to s pr r
+  comes_now s pr x e r er = record { good = x; steps = 0; at = s; left = pr; elsewhere = nowhere s; runs = e; who_is = refl; does = er; turn = λ what h. (refl, refl, pr, e, what, h) }
+
+  -- the run of a turn
+  pub turns : (k : ℕ) (s : StateOf g) (pr : Process) → P pr s.store → running g s q ≡ Some pr → Outcome s pr (run (source.turn g is_due k pr.todo) pr.who pr.own s.store)
+  turns zero s pr x e = tt
+  turns (suc k) s pr x e =
+      subst (Outcome s pr) (sym (run_bind (source.one g is_due pr.todo) (source.onward g is_due (source.turn g is_due k)) pr.who pr.own s.store))
+      (go (λ s1 pr1 y h. turns k s1 pr1 y h) (run (source.one g is_due pr.todo) pr.who pr.own s.store) refl)
+    where
+      go : ((s1 : StateOf g) (pr1 : Process) → P pr1 s1.store → running g s1 q ≡ Some pr1 → Outcome s1 pr1 (run (source.turn g is_due k pr1.todo) pr1.who pr1.own s1.store)) → (r : Came Deed × Store) → ◌≡◌ {A = Came Deed × Store} (answer same_loc (deed_of g pr) s.store) r → Outcome s pr (then_run (source.onward g is_due (source.turn g is_due k)) pr.who r)
+      go ih (Got (Went todo) o, m) er =
+          let pr1 = with_todo todo pr.who o in
+          after s pr e todo o m (Went todo) er (inl refl) (local_step g s q pr todo o m e er) refl (run (source.turn g is_due k todo) pr.who o m) (ih (moved g s q pr1 m) pr1 (keeps pr s.store x todo o m (Went todo) er (inl refl)) (moved_runs s pr1 m))
+      go ih (Got (Beat todo) o, m) er = by_due (is_due o) refl
+        where
+          pr1 : Process
+          pr1 = with_todo todo pr.who o
+
+          st : next g s q ≡ Some (moved g s q pr1 m)
+          st = pausing_step g s q pr todo o m e er
+
+          by_due : (b : Bool) → is_due o ≡ b → Outcome s pr (run (if b then give (source.Paused todo) else source.turn g is_due k todo) pr.who o m)
+          by_due true eb = record {
+            steps = 1;
+            at = moved g s q pr1 m;
+            elsewhere = moved_elsewhere s pr1 m;
+            runs = moved_runs s pr1 m;
+            condition = at_same name_test s.condition q (Works pr1);
+            store = refl;
+            good = keeps pr s.store x todo o m (Beat todo) er (inr refl);
+            turn = front s pr e todo o m (Beat todo) er (inr refl) st true eb 0 (moved g s q pr1 m) true (refl, refl, refl);
+          }
+          by_due false eb = after s pr e todo o m (Beat todo) er (inr refl) st eb (run (source.turn g is_due k todo) pr.who o m) (ih (moved g s q pr1 m) pr1 (keeps pr s.store x todo o m (Beat todo) er (inr refl)) (moved_runs s pr1 m))
+      go ih (Got (Opened todo) o, m) er = comes_now s pr x e (Got (Opened todo) o, m) er
+      go ih (Got (Forked bs todo) o, m) er = comes_now s pr x e (Got (Forked bs todo) o, m) er
+      go ih (Got (Offered c y cargo todo) o, m) er = comes_now s pr x e (Got (Offered c y cargo todo) o, m) er
+      go ih (Got Over o, m) er = comes_now s pr x e (Got Over o, m) er
+      go ih (Bad f, m) er = comes_now s pr x e (Bad f, m) er
+      go ih (Lost, m) er = tt
+      go ih (Long, m) er = tt

@@ -1,0 +1,37 @@
+-- The system along a journal is the meaning along that journal, where the premises hold: that deeds of the kernel write nothing that is
+-- there, the events of `Events`, and that the opening states are linked.
+use Rattle.std.proofs.Common.{◌≡◌, ℕ, List}
+use Rattle.sp_journal.specs.declared.entry.Entry.{Entry}
+use Rattle.sp_journal.specs.Births.{at_start, births_from, occurrences_from, NameableFrom}
+use Rattle.sp_journal.proofs.BirthLaws.{lawful_start}
+use Rattle.sp_cell.specs.Map.{Plain}
+use Rattle.sp_meaning.specs.Runs.{StateOf, start}
+use Rattle.sp_meaning.specs.Along.{no_course, IsAlong}
+use Rattle.sp_code.specs.Machine.{Config}
+use Rattle.sp_code.specs.Turns.{IsSafe}
+use Rattle.sp_code.specs.Memory.{Memory}
+use Rattle.sp_code.specs.PlainStore.{plain}
+use Rattle.sp_code.specs.System.{System, Runs, IsSystem, opening}
+use Rattle.sp_link.proofs.Fronts.{all_began}
+use Rattle.sp_link.proofs.Entries.{Events, system_is_meaning}
+use Rattle.sp_link.proofs.Journal.{Goes_along, Now}
+use Rattle.sp_link.proofs.KernelSteps.{QuietDeeds}
+use Rattle.sp_link.proofs.Relation.{Ground, Lives, at_open, run_is, ops}
+use Rattle.sp_link.proofs.Replay.{replays}
+use Rattle.sp_link.proofs.TurnsSafe.{turn_safe}
+
+module _ (G : Ground) (dry : QuietDeeds G.g) (events : (n : ℕ) → Events (at_open G n)) (lv : Lives G) (root : Now G lv no_course (start G.g) (opening plain (run_is G))) (es : List Entry) (named : NameableFrom at_start es) (all : births_from at_start es ≡ G.births) where
+  -- with the relation at its end
+  pub linked_along : (t : System Plain) → IsSystem plain (run_is G) es t → Goes_along G no_course (start G.g) at_start es t
+  linked_along t h = system_is_meaning G dry events lv root es t (all_began G es at_start lawful_start named all) h
+
+  pub meaning_of_system : (t : System Plain) → IsSystem plain (run_is G) es t → (n : ℕ) × (s : StateOf G.g) × IsAlong G.g G.pause (occurrences_from at_start es) n s
+  meaning_of_system t h = let z = linked_along t h in (z.steps, z.state, z.along)
+
+  -- each turn of the system after these entries is safe
+  pub turns_safe : (t : System Plain) → IsSystem plain (run_is G) es t → (i : ℕ) (d : Config (Memory Plain)) → t.condition i ≡ Runs d → IsSafe (ops G) G.code d
+  turns_safe t h i d at = let z = linked_along t h in turn_safe (at_open G t.births.channels) z.lives z.course z.state t z.linked i d at
+
+  -- and the other way round
+  pub system_of_meaning : (n : ℕ) (s : StateOf G.g) → IsAlong G.g G.pause (occurrences_from at_start es) n s → (t : System Plain) × IsSystem plain (run_is G) es t
+  system_of_meaning n s h = replays G dry events es lv no_course (start G.g) (opening plain (run_is G)) root (all_began G es at_start lawful_start named all) named n s h

@@ -1,0 +1,29 @@
+-- No turn of a system that is linked lacks what it needs (`turn_safe`), and each has an entry (`goes_on`).
+use Rattle.std.proofs.Common.{◌≡◌, ⊎_elim, ℕ, ◌∷◌, true, false, refl, sym, ◌∙◌}
+use Rattle.sp_cell.specs.Map.{Plain}
+use Rattle.sp_meaning.specs.Runs.{StateOf}
+use Rattle.sp_meaning.specs.Along.{Course}
+use Rattle.sp_journal.specs.declared.entry.Event.{Event}
+use Rattle.sp_code.specs.Machine.{Config}
+use Rattle.sp_code.specs.Turns.{IsSafe}
+use Rattle.sp_code.specs.Memory.{Memory}
+use Rattle.sp_code.specs.PlainStore.{plain}
+use Rattle.sp_code.specs.System.{System, Runs, Enters}
+use Rattle.sp_link.proofs.TurnsMeet.{safe}
+use Rattle.sp_link.proofs.Entries.{Events, entry}
+use Rattle.sp_link.proofs.KernelSteps.{QuietDeeds}
+use Rattle.sp_link.proofs.OneChanges.{q, pr, its, runs, light, keeps_to}
+use Rattle.sp_link.proofs.Relation.{Ground, Lives, Linked, run_is, ops}
+
+module _ (G : Ground) (lv : Lives G) (c : Course) (s : StateOf G.g) (u : System Plain) (l : Linked G lv c s u) (i : ℕ) (d : Config (Memory Plain)) (at : u.condition i ≡ Runs d) where
+  pub turn_safe : IsSafe (ops G) G.code d
+  turn_safe = ⊎_elim
+      (λ z. safe G (lv (q G lv c s u l i d at)) (λ k n. lv ((k, n) ∷ q G lv c s u l i d at)) (q G lv c s u l i d at) (c.since (q G lv c s u l i d at)) s (pr G lv c s u l i d at) d z (runs G lv c s u l i d at) (light G lv c s u l i d at) (keeps_to G lv c s u l i d at).last (keeps_to G lv c s u l i d at).fit)
+      (λ z b. absurd (let a : false ≡ true = sym z.4 ∙ b in cc a))
+      (its G lv c s u l i d at).2
+
+  -- and the system goes on with it
+  pub goes_on : (dry : QuietDeeds G.g) → Events G → (e : Event) × (t : System Plain) × Enters plain (run_is G) u i e t
+  goes_on dry events =
+      let en = entry G dry events lv c s u l i d at in
+      (Rattle.sp_code.specs.System.event_of G.g.limits u en.turn, Rattle.sp_code.specs.System.after plain (run_is G) i en.turn u, (d, at, en.turn, en.is, refl, refl))
