@@ -1,0 +1,34 @@
+-- The statements that stand in a statement, itself among them.
+use Rattle.std.specs.Prelude.{◌≡◌, ◌⊎◌, ℕ}
+use Rattle.sp_tree.specs.PlainChecked.{Statement, Does, Form, Sequence, If, While, Repeat, For, Case, Parallel, Forall, Other, NoElse, Else, Statements, NoStatement, AndThen, On, Arms, NoArm, Or}
+
+abbrev pub number_of : Statement → ℕ
+number_of (Does n at form) = n
+
+abbrev mutual
+  -- the first is the second, or stands in it
+  pub IsPart : Statement → Statement → Type 0
+  IsPart t (Does n at form) = (t ≡ Does n at form) ⊎ IsInForm t form
+
+  pub IsInForm : Statement → Form → Type 0
+  IsInForm t (Sequence ss) = IsAmong t ss
+  IsInForm t (If e s o) = IsPart t s ⊎ IsInOther t o
+  IsInForm t (While e s) = IsPart t s
+  IsInForm t (Repeat s e) = IsPart t s
+  IsInForm t (For x at from down to s) = IsPart t s
+  IsInForm t (Case e choices) = IsInArms t choices
+  IsInForm t (Parallel ss) = IsAmong t ss
+  IsInForm t (Forall x from to s) = IsPart t s
+  IsInForm t form = ⊥
+
+  pub IsInOther : Statement → Other → Type 0
+  IsInOther t NoElse = ⊥
+  IsInOther t (Else s) = IsPart t s
+
+  pub IsAmong : Statement → Statements → Type 0
+  IsAmong t NoStatement = ⊥
+  IsAmong t (AndThen s rest) = IsPart t s ⊎ IsAmong t rest
+
+  pub IsInArms : Statement → Arms → Type 0
+  IsInArms t NoArm = ⊥
+  IsInArms t (Or (On cs s) rest) = IsPart t s ⊎ IsInArms t rest

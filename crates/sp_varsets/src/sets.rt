@@ -1,0 +1,94 @@
+//! The sets of a tree.
+
+ghost use Rattle.std.specs.Prelude.{◌≡◌, get_or};
+ghost use Rattle.sp_varsets.specs.AreSets.{targets_of, expressions_of, implicit_targets_of, implicit_expressions_of, stops_of};
+
+use crate::var_set::VarSet;
+use sp_base::List;
+
+/// Where the two sets of a statement, or the two implicit ones of a block, stand in the pool.
+#[derive(Clone, Copy, Debug, PartialEq, Eq)]
+pub(crate) struct Entry {
+    pub targets: u32,
+    pub expressions: u32,
+}
+
+/// The sets of the statements and blocks of a tree. Equal sets often stand once in the pool.
+#[derive(Drop)]
+pub struct Sets {
+    pub(crate) nothing: VarSet,
+    pub(crate) pool: List<VarSet>,
+    pub(crate) statements: List<Entry>,
+    pub(crate) blocks: List<Entry>,
+    pub(crate) stops: List<bool>,
+}
+
+impl Sets {
+    #[tactic(auto, using(crate::proofs::Items::read_or, crate::proofs::Items::none_or))]
+    fn pooled(&self, at: u32) -> &VarSet
+        ensures { result.now ≡ get_or self.now.pool at self.now.nothing }
+    {
+        match self.pool.get(at as usize) {
+            Some(set) => set,
+            None => &self.nothing,
+        }
+    }
+
+    /// The target variables of the statement with this number, those of the procedures and functions that it calls
+    /// among them.
+    #[tactic(auto, unfolding(crate::specs::AreSets::targets_of))]
+    pub fn targets(&self, statement: u32) -> &VarSet
+        ensures { result.now ≡ targets_of self.now statement }
+    {
+        match self.statements.get(statement as usize) {
+            Some(entry) => self.pooled(entry.targets),
+            None => self.pooled(0),
+        }
+    }
+
+    /// The expression variables of the statement with this number, those of the procedures and functions that it
+    /// calls among them.
+    #[tactic(auto, unfolding(crate::specs::AreSets::expressions_of))]
+    pub fn expressions(&self, statement: u32) -> &VarSet
+        ensures { result.now ≡ expressions_of self.now statement }
+    {
+        match self.statements.get(statement as usize) {
+            Some(entry) => self.pooled(entry.expressions),
+            None => self.pooled(0),
+        }
+    }
+
+    /// The targets of the block's statement part that neither it nor a block inside it declares.
+    #[tactic(auto, unfolding(crate::specs::AreSets::implicit_targets_of))]
+    pub fn implicit_targets(&self, block: u32) -> &VarSet
+        ensures { result.now ≡ implicit_targets_of self.now block }
+    {
+        match self.blocks.get(block as usize) {
+            Some(entry) => self.pooled(entry.targets),
+            None => self.pooled(0),
+        }
+    }
+
+    /// The expression variables of the block's statement part that neither it nor a block inside it declares.
+    #[tactic(auto, unfolding(crate::specs::AreSets::implicit_expressions_of))]
+    pub fn implicit_expressions(&self, block: u32) -> &VarSet
+        ensures { result.now ≡ implicit_expressions_of self.now block }
+    {
+        match self.blocks.get(block as usize) {
+            Some(entry) => self.pooled(entry.expressions),
+            None => self.pooled(0),
+        }
+    }
+
+    /// Whether a call of the block leads to `open`, `send`, `receive`, `parallel`, `forall`, `read`, `readln`, `write`
+    /// or `writeln`, or its statement part has one.
+    #[tactic(auto, using(crate::proofs::Items::read_or, crate::proofs::Items::none_or), unfolding(crate::specs::AreSets::stops_of))]
+    pub fn stops(&self, block: u32) -> bool
+        ensures { result ≡ stops_of self.now block }
+    {
+        match self.stops.get(block as usize) {
+            Some(stops) => *stops,
+            None => false,
+        }
+    }
+}

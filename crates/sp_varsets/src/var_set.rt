@@ -1,0 +1,102 @@
+//! Sets of variables.
+
+ghost use Rattle.std.specs.Prelude.{◌≡◌, ◌↔◌, ℕ, ◌+◌, ◌*◌, ◌^◌, ◌<◌, ◌≤◌, true, false, IsTrue, MatchOption};
+ghost use Rattle.sp_varsets.specs.Members.{has, IsNext};
+
+use sp_base::List;
+use std::alloc::Global;
+
+/// A set of variables, by their numbers. Its bits stand in words of 64, none where it is empty.
+#[derive(Drop)]
+pub struct VarSet {
+    pub(crate) words: List<u64>,
+}
+
+impl VarSet {
+    /// The empty set. It takes no memory, and keeps the allocator.
+    #[tactic(auto, using(crate::proofs::Words::in_none))]
+    pub fn new(alloc: Global) -> VarSet
+        ensures { (x : ℕ) → has result x ≡ false }
+    {
+        VarSet {
+            words: List::new(alloc),
+        }
+    }
+
+    /// How many words the set has. All of its variables are below 64 times that.
+    #[tactic(auto, using(crate::proofs::Words::below_words))]
+    pub fn words(&self) -> usize
+        ensures { (x : ℕ) → has self.now x ≡ true → x < 64 * result }
+    {
+        self.words.len()
+    }
+
+    /// Whether the set has the variable.
+    #[tactic(auto, using(crate::proofs::Words::test_is, crate::proofs::Words::past_is))]
+    pub fn contains(&self, variable: u32) -> bool
+        ensures { result ≡ has self.now variable }
+    {
+        match self.words.get((variable / 64) as usize) {
+            Some(word) => (*word >> (variable % 64)) & 1 == 1,
+            None => false,
+        }
+    }
+
+    /// Whether two sets have a variable in common.
+    pub fn meets(&self, other: &VarSet) -> bool
+        ensures { IsTrue result ↔ ((x : ℕ) × (has self.now x ≡ true) × (has other.now x ≡ true)) }
+    {
+        let words = self.words.items();
+        let others = other.words.items();
+        let count = words.len().min(others.len());
+        'words: for k in 0..count {
+            if words[k] & others[k] != 0 {
+                return true;
+            }
+        }
+        false
+    }
+
+    /// Whether the set has no variable.
+    pub fn is_empty(&self) -> bool
+        ensures { IsTrue result ↔ ((x : ℕ) → has self.now x ≡ false) }
+    {
+        let words = self.words.items();
+        'words: for k in 0..words.len() {
+            if words[k] != 0 {
+                return false;
+            }
+        }
+        true
+    }
+
+    /// The least variable of the set that is `from` or above.
+    pub fn next(&self, from: u32) -> Option<u32>
+        ensures { MatchOption result ((x : ℕ) → from ≤ x → x < 2 ^ 32 → has self.now x ≡ false) (λ y. IsNext self.now from y) }
+    {
+        let at = (from / 64) as usize;
+        if let Some(word) = self.words.get(at) {
+            let rest = *word >> (from % 64);
+            if rest != 0 {
+                return Some(from + rest.trailing_zeros());
+            }
+        }
+        self.next_after(at as u32)
+    }
+
+    // The least variable that stands in a word after this one.
+    fn next_after(&self, at: u32) -> Option<u32>
+        ensures { MatchOption result ((x : ℕ) → 64 * at + 64 ≤ x → x < 2 ^ 32 → has self.now x ≡ false) (λ y. IsNext self.now (64 * at + 64) y) }
+    {
+        let words = self.words.items();
+        'words: for k in at as usize + 1..words.len() {
+            if words[k] != 0 {
+                if k >= 67_108_864 {
+                    return None;
+                }
+                return Some(k as u32 * 64 + words[k].trailing_zeros());
+            }
+        }
+        None
+    }
+}
