@@ -1,5 +1,5 @@
 -- What the sets of a tree are: exactly the variables that paths of calls reach.
-use Rattle.std.specs.Prelude.{◌≡◌, ◌↔◌, ℕ, ◌<◌, Bool, true, false, List, get_or, Option, Some, None, slice_get}
+use Rattle.std.specs.Prelude.{◌≡◌, ◌↔◌, ℕ, ◌<◌, Bool, true, false, get_or, Option, Some, None, slice_get}
 use Rattle.sp_tree.specs.PlainChecked as p
 use Rattle.sp_tree.specs.Bare.{bare_statement, bare}
 use Rattle.sp_tree.specs.Plain.{Program, Block}
