@@ -1,0 +1,33 @@
+//! What follows from the definitions of legal histories of the kernel, for every code, input and limits. These functions do
+//! nothing: each one's contract is a law, and whoever rests on the law cites it.
+
+ghost use Rattle.std.specs.Prelude.{◌≡◌, ◌≢◌, ℕ, List, [], ◌++◌};
+ghost use Rattle.sp_cell.specs.Map.{Plain};
+ghost use Rattle.sp_journal.specs.declared.entry.Note.{Note};
+ghost use Rattle.sp_code.specs.Machine.{Config};
+ghost use Rattle.sp_code.specs.Memory.{Setting, Memory};
+ghost use Rattle.sp_code.specs.PlainStore.{plain};
+ghost use Rattle.sp_code.specs.Control.{Out, Gone, control, control_at_start, noted_all, entries_of};
+ghost use Rattle.sp_code.specs.System.{System, Runs, IsSystem, IsLegal, opening};
+ghost use Rattle.sp_history.specs.Agreement.{IsOrderly, Agrees, Reaches, NoneBy, HasOuts, IsOver, Running, phase_in};
+
+/// A legal history leads to exactly one system: the one along the journal of its notes. The control of its notes and that
+/// system tell the same of every process; and the control counts the processes that are out.
+pub fn histories_lead_to_systems()
+    ensures leads { (g : Setting) (ns : List Note) → IsLegal plain g ns → (s : System Plain) × Reaches plain g control_at_start (opening plain g) ns s }
+    ensures legal { (g : Setting) (ns : List Note) (s : System Plain) → Reaches plain g control_at_start (opening plain g) ns s → IsLegal plain g ns }
+    ensures journal { (g : Setting) (ns : List Note) (s : System Plain) → Reaches plain g control_at_start (opening plain g) ns s → IsSystem plain g (entries_of ns) s }
+    ensures one { (g : Setting) (ns : List Note) (s t : System Plain) → Reaches plain g control_at_start (opening plain g) ns s → Reaches plain g control_at_start (opening plain g) ns t → s ≡ t }
+    ensures alike { (g : Setting) (ns : List Note) (s : System Plain) → Reaches plain g control_at_start (opening plain g) ns s → IsOrderly (control ns) × Agrees (control ns) s × HasOuts (control ns) }
+{}
+
+/// While a worker leaves no note, a process that is out with it stays out, in the very same state. Where no process is ready
+/// and none is out or was given up, none runs in the system; and once the run has ended and nothing is out, no history makes
+/// another event.
+pub fn histories_keep_what_is_out()
+    ensures stays { (g : Setting) (ns more : List Note) (s t : System Plain) (p w : ℕ) (c : Config (Memory Plain)) → Reaches plain g control_at_start (opening plain g) ns s → Reaches plain g (control ns) s more t
+        → NoneBy w more → (control ns).doing p ≡ Out w → s.condition p ≡ Runs c → ((control (ns ++ more)).doing p ≡ Out w) × (t.condition p ≡ Runs c) }
+    ensures idle { (g : Setting) (ns : List Note) (s : System Plain) → Reaches plain g control_at_start (opening plain g) ns s → (control ns).ready ≡ [] → (control ns).out ≡ 0
+        → ((q : ℕ) → (control ns).doing q ≢ Gone) → (q : ℕ) → phase_in (s.condition q) ≢ Running }
+    ensures over { (g : Setting) (ns more : List Note) (s t : System Plain) → Reaches plain g control_at_start (opening plain g) ns s → IsOver (control ns) → Reaches plain g (control ns) s more t → entries_of more ≡ [] }
+{}
