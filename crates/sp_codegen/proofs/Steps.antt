@@ -389,7 +389,7 @@ module _ {M : Type 0} (ex : Execution M) where
           let seek_is : seek (is_block c) (length (sources fs)) (sources fs) ≡ sources (r.frame ∷ r.rest) = seek_all (is_block c) fs ∙ r.sought in
           let op = law.open_frame t f b z.layout h.1 z.is c h.0 r.frame r.rest e r.at seek_is gs es gv in
           let formals_are : length z.layout.formals ≡ length b.formals = ap (λ (y : Layout). length y.formals) z.is ∙ length_map _ b.formals in
-          let fresh_is : fresh p w.name W R mine_written reads free (sources fs) f b args gs c r.frame.source ≡ frame_for rel w f b fs (r.frame ∷ r.rest) gs =
+          let fresh_is : fresh p w.name W R 0 (λ m x h. mine_written m x) reads free (sources fs) f b args gs c r.frame.source ≡ frame_for rel w f b fs (r.frame ∷ r.rest) gs =
           (let a = sources_length fs in let k = sym (sought (is_block c) (length (sources fs)) (sources fs) r.frame.source (sources r.rest) pl.linked seek_is).1 ∙ sources_length (r.frame ∷ r.rest) in
           λ i. record { owner = w.name; number = a i; home = OfBlock f; link = k i; references = references b.formals gs }) in
           let found_is : find (is_block c) (length (sources fs)) (sources fs) ≡ Some r.frame.source = find_in (is_block c) fs r.frame r.rest r.sought in
@@ -405,8 +405,8 @@ module _ {M : Type 0} (ex : Execution M) where
             parent = (c, e);
             placed = λ j ej. record {
               chain = chain_of fs (r.frame ∷ r.rest) f (drop h.0 sc) j b gs ej (up_from h.0 fs r.frame r.rest r.at) x.1 r.chain;
-              linked = subst (λ y. Linked (y ∷ sources fs)) (fresh_is ∙ sym ej) (fresh_linked p w.name W R mine_written reads free (sources fs) f b args gs c r.frame.source pl.linked h.1 ga before found_is);
-              sound = subst (λ y. Sound p W R (y ∷ sources fs) (In_stmt b.body)) (fresh_is ∙ sym ej) (fresh_sound p w.name W R mine_written reads free (sources fs) f b args gs c r.frame.source pl.linked h.1 ga before found_is pl.sound);
+              linked = subst (λ y. Linked (y ∷ sources fs)) (fresh_is ∙ sym ej) (fresh_linked p w.name W R 0 (λ m x h. mine_written m x) reads free (sources fs) f b args gs c r.frame.source pl.linked h.1 ga before found_is);
+              sound = subst (λ y. Sound p W R (y ∷ sources fs) (In_stmt b.body)) (fresh_is ∙ sym ej) (fresh_sound p w.name W R 0 (λ m x h. mine_written m x) reads free (sources fs) f b args gs c r.frame.source pl.linked h.1 ga before found_is (omega arith) pl.sound);
               indexes = λ x up hx lv. absurd (no_index_scope p (length p.blocks) (Some f) x up lv);
             };
           }

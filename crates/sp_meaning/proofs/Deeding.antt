@@ -1,5 +1,5 @@
 -- What a step reads and writes is the process's to read and write, and what it comes to is fair (statements, calls, items).
-use Rattle.std.proofs.Common.{◌≡◌, ◌≢◌, ◌⊎◌, inl, inr, ⊎_elim, sym, ap, ◌∙◌, subst, ◌==◌, eqb-true, eq-eqb, ℕ, zero, suc, ◌+◌, Bool, true, false, List, [], ◌∷◌, ◌++◌, length, Option, Some, None, refl, if◌then◌else◌}
+use Rattle.std.proofs.Common.{◌≡◌, ◌≢◌, ◌⊎◌, inl, inr, ⊎_elim, sym, ap, ◌∙◌, subst, arith, ◌==◌, eqb-true, eq-eqb, ℕ, zero, suc, ◌+◌, ◌≤◌, Bool, true, false, List, [], ◌∷◌, ◌++◌, length, Option, Some, None, refl, if◌then◌else◌}
 use Rattle.std.specs.Prelude.{◌+ℤ◌, ◌-ℤ◌, ℤ, pos, nat_abs, slice_get, nat_lt, int_le, int_lt, take}
 use Rattle.sp_tree.specs.Plain.{Expr, Typed, Actuals, Var, Program, Variable, Block, Stmt, Empty, Assign, Call, Sequence, If, IfElse, While, Repeat, For, Case, Parallel, Forall, Assume, ReadValue, ReadLine, WriteValue, WriteText, WriteLine, Open, Send, Receive, Stmts, No, And, On, Arms, NoArm, Or}
 use Rattle.sp_base.specs.declared.fault.Fault.{Fault}
@@ -190,26 +190,44 @@ linked_below : (fs : List Frame) → Linked fs → Linked (below fs)
 linked_below [] l = tt
 linked_below (f ∷ fs) l = l.3
 
-module _ (set : Setting) (q : Name) (W R : Loc → Type 0) (own : (n x : ℕ) → W (Cell q n x)) (reads : (l : Loc) → W l → R l) (free : IsFreeOfInterference set.program) where
-  own_cell : (w : Who) (n x : ℕ) → w.name ≡ q → W (Cell w.name n x)
-  own_cell w n x e = subst (λ z. W (Cell z n x)) (sym e) (own n x)
+-- no more frames are left than there were
+last_shorter : (fs : List Frame) (todo : List Item) → length (last_of fs todo) ≤ length fs
+last_shorter fs [] = omega arith
+last_shorter fs (Do s ∷ todo) = last_shorter fs todo
+last_shorter fs (First x m n down s ∷ todo) = last_shorter fs todo
+last_shorter fs (Again x n down s ∷ todo) = last_shorter fs todo
+last_shorter fs (Test s e ∷ todo) = last_shorter fs todo
+last_shorter fs (Leave ∷ todo) = let a = last_shorter (below fs) todo in let b = below_shorter fs in omega (arith, a, b)
+  where
+    below_shorter : (gs : List Frame) → length (below gs) ≤ length gs
+    below_shorter [] = omega arith
+    below_shorter (g ∷ gs) = omega arith
+last_shorter fs (Break f ∷ todo) = last_shorter fs todo
+
+-- low: what stands in the process's frames from this number on is its own to write
+module _ (set : Setting) (q : Name) (W R : Loc → Type 0) (low : ℕ) (own : (n x : ℕ) → low ≤ n → W (Cell q n x)) (reads : (l : Loc) → W l → R l) (free : IsFreeOfInterference set.program) where
+  own_cell : (w : Who) (n x : ℕ) → low ≤ n → w.name ≡ q → W (Cell w.name n x)
+  own_cell w n x h e = subst (λ z. W (Cell z n x)) (sym e) (own n x h)
+
+  high_at : (z fs : List Frame) (todo : List Item) → low ≤ length z → Fit set.program W R z fs todo → low ≤ length fs
+  high_at z fs todo h f = let a = last_shorter fs todo in let b = ap (λ (y : List Frame). length y) f.ends in omega (arith, h, a, b)
 
   module _ (fs : List Frame) where
-    tick_stays : Keeps q W R fs Any (tick set.limits)
+    pub tick_stays : Keeps q W R fs Any (tick set.limits)
     tick_stays = record { by = λ w o n e. go w o e (nat_lt o.ticks set.limits.ticks) }
       where
         go : (w : Who) (o : Own) → o.frames ≡ fs → (b : Bool) → Within {A = Unit {0}} W R (λ a o1. (o1.frames ≡ fs) × Unit {0}) (if b then become (record o { ticks = o.ticks + 1 }) w o else fail fault.F10 w o)
         go w o e true = (e, tt)
         go w o e false = tt
 
-    deepen_stays : Keeps q W R fs Any (deepen set.limits)
+    pub deepen_stays : Keeps q W R fs Any (deepen set.limits)
     deepen_stays = record { by = λ w o n e. go w o e (nat_lt o.depth set.limits.depth) }
       where
         go : (w : Who) (o : Own) → o.frames ≡ fs → (b : Bool) → Within {A = Unit {0}} W R (λ a o1. (o1.frames ≡ fs) × Unit {0}) (if b then become (record o { depth = o.depth + 1 }) w o else fail fault.F11 w o)
         go w o e true = (e, tt)
         go w o e false = tt
 
-    widen_stays : (m : ℕ) → Keeps q W R fs Any (widen set.limits m)
+    pub widen_stays : (m : ℕ) → Keeps q W R fs Any (widen set.limits m)
     widen_stays m = record { by = λ w o n e. go w o e (nat_lt set.limits.cells (o.cells + m)) }
       where
         go : (w : Who) (o : Own) → o.frames ≡ fs → (b : Bool) → Within {A = Unit {0}} W R (λ a o1. (o1.frames ≡ fs) × Unit {0}) (if b then fail fault.F12 w o else become (record o { cells = o.cells + m }) w o)
@@ -227,23 +245,23 @@ module _ (set : Setting) (q : Name) (W R : Loc → Type 0) (own : (n x : ℕ) �
         found [] s = lost_keeps q W R fs
         found (f ∷ gs) s = let h = sought (is_block c) (length fs) fs f gs l s in give_keeps q W R fs (length (f ∷ gs)) (c, f, refl, h.0, sym h.1)
 
-    enclosing_keeps : Linked fs → (parent : Option ℕ) → Keeps q W R fs (Encloses parent) (enclosing set parent)
+    pub enclosing_keeps : Linked fs → (parent : Option ℕ) → Keeps q W R fs (Encloses parent) (enclosing set parent)
     enclosing_keeps l None = lost_keeps q W R fs
     enclosing_keeps l (Some c) = reach_keeps l c
 
-    lay_one_stays : (n : ℕ) (x : ℕ × Variable) (v : Option Value) → Keeps q W R fs Any (lay_one set n x v)
-    lay_one_stays n x None = give_stays q W R fs tt
-    lay_one_stays n x (Some v) = record { by = λ w o m e. (own_cell w n x.0 m, (e, tt)) }
+    lay_one_stays : (n : ℕ) → low ≤ n → (x : ℕ × Variable) (v : Option Value) → Keeps q W R fs Any (lay_one set n x v)
+    lay_one_stays n h x None = give_stays q W R fs tt
+    lay_one_stays n h x (Some v) = record { by = λ w o m e. (own_cell w n x.0 h m, (e, tt)) }
 
-    lay_stays : (n : ℕ) (xs : List (ℕ × Variable)) → Keeps q W R fs Any (lay set n xs)
-    lay_stays n [] = give_stays q W R fs tt
-    lay_stays n (x ∷ xs) = then_stays q W R fs (lay_one set n x (begins (initials set.program.kinds) x.1.role x.1.kind)) _ (lay_one_stays n x _) (λ u. lay_stays n xs)
+    pub lay_stays : (n : ℕ) → low ≤ n → (xs : List (ℕ × Variable)) → Keeps q W R fs Any (lay set n xs)
+    lay_stays n h [] = give_stays q W R fs tt
+    lay_stays n h (x ∷ xs) = then_stays q W R fs (lay_one set n x (begins (initials set.program.kinds) x.1.role x.1.kind)) _ (lay_one_stays n h x _) (λ u. lay_stays n h xs)
 
-    copy_stays : (n : ℕ) (xs : List ℕ) (gs : List Given) → Keeps q W R fs Any (copy_in set n xs gs)
-    copy_stays n [] gs = give_stays q W R fs tt
-    copy_stays n (x ∷ xs) [] = give_stays q W R fs tt
-    copy_stays n (x ∷ xs) (ValueOf v ∷ gs) = record { by = λ w o m e. (own_cell w n x m, (copy_stays n xs gs).by w o m e) }
-    copy_stays n (x ∷ xs) (PlaceOf a ∷ gs) = copy_stays n xs gs
+    pub copy_stays : (n : ℕ) → low ≤ n → (xs : List ℕ) (gs : List Given) → Keeps q W R fs Any (copy_in set n xs gs)
+    copy_stays n h [] gs = give_stays q W R fs tt
+    copy_stays n h (x ∷ xs) [] = give_stays q W R fs tt
+    copy_stays n h (x ∷ xs) (ValueOf v ∷ gs) = record { by = λ w o m e. (own_cell w n x h m, (copy_stays n h xs gs).by w o m e) }
+    copy_stays n h (x ∷ xs) (PlaceOf a ∷ gs) = copy_stays n h xs gs
 
     leave_from : From q W R fs (λ (u : Unit {0}) gs. gs ≡ below fs) (leave set)
     leave_from = record { by = λ w o n e. go o.frames o refl ∙ ap below e }
@@ -266,7 +284,7 @@ module _ (set : Setting) (q : Name) (W R : Loc → Type 0) (own : (n x : ℕ) �
     take_stays i a u (Took n bytes) = then_stays q W R fs (advance set bytes) _ (advance_stays i bytes) (λ z. assign_stays q W R fs a (Ordinal n) (reads a.spot u) u)
     take_stays i a u (Refuses_it f) = fail_stays q W R fs _ f
 
-    in_width_stays : (cut : Bool) (bs : List ℕ) (w : Option ℤ) → Keeps q W R fs Any (in_width cut bs w)
+    pub in_width_stays : (cut : Bool) (bs : List ℕ) (w : Option ℤ) → Keeps q W R fs Any (in_width cut bs w)
     in_width_stays cut bs None = give_stays q W R fs bs
     in_width_stays cut bs (Some m) = go (int_le m (pos 0))
       where
@@ -278,22 +296,22 @@ module _ (set : Setting) (q : Name) (W R : Loc → Type 0) (own : (n x : ℕ) �
   abbrev Enters : ℕ → List Frame → Block → List Frame → Type 0
   Enters f fs b gs = (slice_get set.program.blocks f ≡ Some b) × Linked gs × Sound set.program W R gs (In_stmt b.body) × (new : Frame) × (gs ≡ new ∷ fs) × (new.owner ≡ q) × (new.home ≡ OfBlock f)
 
-  enter_from : (fs : List Frame) (f : ℕ) (args : Actuals) (gs : List Given) → Linked fs → Sound set.program W R fs (In_call f args) → Gave set.program fs args gs → From q W R fs (Enters f fs) (enter set f gs)
-  enter_from fs f args gs l s g =
+  enter_from : (fs : List Frame) → low ≤ length fs → (f : ℕ) (args : Actuals) (gs : List Given) → Linked fs → Sound set.program W R fs (In_call f args) → Gave set.program fs args gs → From q W R fs (Enters f fs) (enter set f gs)
+  enter_from fs high f args gs l s g =
       after q W R _ _ (or_lost_keeps q W R fs (slice_get set.program.blocks f)) (λ b is. after q W R _ _ (tick_stays fs) (λ u _. after q W R _ _ (deepen_stays fs) (λ u _. after q W R _ _ (widen_stays fs (size_of_frame set f)) (λ u _.
-      after q W R _ _ (enclosing_keeps fs l b.parent) (λ link en. record { by = λ w o n e. (laid b is link en o.frames).by w (pushed_frame set f link (references b.formals gs) w o) n (same b link en w o n e) })))))
+      after q W R _ _ (enclosing_keeps fs l b.parent) (λ link en. record { by = λ w o n e. (laid b is link en o.frames (subst (λ y. low ≤ length y) (sym e) high)).by w (pushed_frame set f link (references b.formals gs) w o) n (same b link en w o n e) })))))
     where
       fresh_of : (b : Block) (link : ℕ) → Encloses fs b.parent link → Frame
-      fresh_of b link en = fresh set.program q W R own reads free fs f b args gs en.0 en.1
+      fresh_of b link en = fresh set.program q W R low own reads free fs f b args gs en.0 en.1
 
       same : (b : Block) (link : ℕ) (en : Encloses fs b.parent link) (w : Who) (o : Own) → w.name ≡ q → o.frames ≡ fs → (pushed_frame set f link (references b.formals gs) w o).frames ≡ fresh_of b link en ∷ fs
       same b link en w o n e = λ i. record { owner = n i; number = length (e i); home = OfBlock f; link = sym en.4 i; references = references b.formals gs } ∷ e i
 
-      laid : (b : Block) → slice_get set.program.blocks f ≡ Some b → (link : ℕ) (en : Encloses fs b.parent link) (hs : List Frame) → From q W R (fresh_of b link en ∷ fs) (Enters f fs) (bind (lay set (length hs) (variables_of f 0 set.program.variables)) (λ u. bind (copy_in set (length hs) b.formals gs) (λ u. give b)))
-      laid b is link en hs = after q W R _ _ (lay_stays (fresh_of b link en ∷ fs) (length hs) (variables_of f 0 set.program.variables)) (λ u _. after q W R _ _ (copy_stays (fresh_of b link en ∷ fs) (length hs) b.formals gs) (λ u _.
-          gives q W R b (is, fresh_linked set.program q W R own reads free fs f b args gs en.0 en.1 l is g (free.parents f b en.0 is en.2) en.3, fresh_sound set.program q W R own reads free fs f b args gs en.0 en.1 l is g (free.parents f b en.0 is en.2) en.3 s, fresh_of b link en, refl, refl, refl)))
+      laid : (b : Block) → slice_get set.program.blocks f ≡ Some b → (link : ℕ) (en : Encloses fs b.parent link) (hs : List Frame) → low ≤ length hs → From q W R (fresh_of b link en ∷ fs) (Enters f fs) (bind (lay set (length hs) (variables_of f 0 set.program.variables)) (λ u. bind (copy_in set (length hs) b.formals gs) (λ u. give b)))
+      laid b is link en hs h = after q W R _ _ (lay_stays (fresh_of b link en ∷ fs) (length hs) h (variables_of f 0 set.program.variables)) (λ u _. after q W R _ _ (copy_stays (fresh_of b link en ∷ fs) (length hs) h b.formals gs) (λ u _.
+          gives q W R b (is, fresh_linked set.program q W R low own reads free fs f b args gs en.0 en.1 l is g (free.parents f b en.0 is en.2) en.3, fresh_sound set.program q W R low own reads free fs f b args gs en.0 en.1 l is g (free.parents f b en.0 is en.2) en.3 high s, fresh_of b link en, refl, refl, refl)))
 
-  module _ (fs z : List Frame) where
+  module _ (fs z : List Frame) (high : low ≤ length fs) where
     abbrev Does : (Use → Type 0) → Type 0
     Does Here = Sound set.program W R fs Here
 
@@ -348,7 +366,7 @@ module _ (set : Setting) (q : Name) (W R : Loc → Type 0) (own : (n x : ℕ) �
       start_from Empty todo so f = went todo f
       start_from (Assign v e) todo so f = after q W R _ _ (target v (part (λ u. inl) so)) (λ a w. after q W R _ _ (expr e (part (λ u. inr) so)) (λ x _. after q W R _ _ (assign_stays q W R fs a x (reads a.spot w) w) (λ u _. went todo f)))
       start_from (Call g args) todo so f =
-          after q W R _ _ (actuals_keeps q W R fs set free reads call ok args (part (λ u. inr) so)) (λ gs gave. after_from q W R _ _ (enter_from fs g args gs f.linked so gave) (λ b hs h.
+          after q W R _ _ (actuals_keeps q W R fs set free reads call ok args (part (λ u. inr) so)) (λ gs gave. after_from q W R _ _ (enter_from fs high g args gs f.linked so gave) (λ b hs h.
           gives q W R (Beat (push b.body (Leave ∷ todo))) (push_good set.program W R z hs b.body (Leave ∷ todo) h.2 (back hs b h))))
         where
           back : (hs : List Frame) (b : Block) → Enters g fs b hs → Fit set.program W R z hs (Leave ∷ todo)
@@ -460,7 +478,7 @@ module _ (set : Setting) (q : Name) (W R : Loc → Type 0) (own : (n x : ℕ) �
   settle_from z fs (Break x ∷ todo) f = gives q W R (Break x ∷ todo) f
 
   pub record AllKeep (n : ℕ) : Type 0 where
-    pub by : (z fs : List Frame) (todo : List Item) → Fit set.program W R z fs todo → From q W R fs (λ (xs : List Item) gs. gs ≡ z) (all set n todo)
+    pub by : (z fs : List Frame) (todo : List Item) → low ≤ length z → Fit set.program W R z fs todo → From q W R fs (λ (xs : List Item) gs. gs ≡ z) (all set n todo)
 
   at_same : {A : Type 0} (G : A → List Frame → Type 0) (fs gs : List Frame) (h : Work A) → gs ≡ fs → From q W R fs G h → From q W R gs G h
   at_same G fs gs h e f = subst (λ y. From q W R y G h) (sym e) f
@@ -478,12 +496,15 @@ module _ (set : Setting) (q : Name) (W R : Loc → Type 0) (own : (n x : ℕ) �
       found : find (is_block i.block) (length (new ∷ fs)) (new ∷ fs) ≡ Some new
       found = ap (λ c. if c then (if is_block i.block new.home then Some new else outside) else further) (eq-eqb (length (new ∷ fs)) (length (new ∷ fs)) refl) ∙ ap (λ c. if c then Some new else outside) (ap (is_block i.block) h ∙ eq-eqb i.block f b)
 
-  answer_stays : (fs hs : List Frame) (f : ℕ) (b : Block) → Enters f fs b hs → (x : Option ℕ) → b.answer ≡ x → Keeps q W R hs Any (answer_of set x)
-  answer_stays fs hs f b h None e = lost_stays q W R hs _
-  answer_stays fs hs f b h (Some x) e = then_keeps q W R hs _ _ (place_of_keeps q W R hs set x) (λ y d. read_stays q W R hs set y (may y d))
+  answer_stays : (fs hs : List Frame) → low ≤ length fs → (f : ℕ) (b : Block) → Enters f fs b hs → (x : Option ℕ) → b.answer ≡ x → Keeps q W R hs Any (answer_of set x)
+  answer_stays fs hs high f b h None e = lost_stays q W R hs _
+  answer_stays fs hs high f b h (Some x) e = then_keeps q W R hs _ _ (place_of_keeps q W R hs set x) (λ y d. read_stays q W R hs set y (may y d))
     where
       it : (i : Variable) × (slice_get set.program.variables x ≡ Some i) × (i.role ≡ role.Answer) × (i.block ≡ f)
       it = free.answers f b x h.0 e
+
+      number : low ≤ h.3.number
+      number = let l : Linked (h.3 ∷ fs) = subst Linked h.4 h.1 in let e = l.0 in omega (arith, high, e)
 
       is : stands set.program hs x ≡ Some (Cell h.3.owner h.3.number x)
       is = ap (λ y. stands set.program y x) h.4 ∙ answer_stands h.3 fs f x h.6 it.0 it.1 it.2 it.3
@@ -491,45 +512,53 @@ module _ (set : Setting) (q : Name) (W R : Loc → Type 0) (own : (n x : ℕ) �
       may : (y : Place) → Of q W R hs (stands set.program hs x) y → MayRead q W R hs set y
       may (At a) d =
           let same : Cell h.3.owner h.3.number x ≡ a.spot = some_is (Cell h.3.owner h.3.number x) a.spot (sym is ∙ d) in
-          reads a.spot (subst W same (subst (λ y. W (Cell y h.3.number x)) (sym h.5) (own h.3.number x)))
+          reads a.spot (subst W same (subst (λ y. W (Cell y h.3.number x)) (sym h.5) (own h.3.number x number)))
       may (Fixed n) d = tt
 
-  call_keeps : (n : ℕ) → AllKeep n → (fs : List Frame) → Linked fs → CallsKeep q W R fs set free reads (call_by set (all set n))
-  call_keeps n ih fs l = record { by = λ f args gs so gave. record { by = λ w o m e. (whole f args gs so gave).by w o m e } }
+  pub call_keeps : (n : ℕ) → AllKeep n → (fs : List Frame) → low ≤ length fs → Linked fs → CallsKeep q W R fs set free reads (call_by set (all set n))
+  call_keeps n ih fs high l = record { by = λ f args gs so gave. record { by = λ w o m e. (whole f args gs so gave).by w o m e } }
     where
       Ended : Value → List Frame → Type 0
       Ended v gs = (gs ≡ fs) × Unit {0}
+
+      higher : (hs : List Frame) (new : Frame) → hs ≡ new ∷ fs → low ≤ length hs
+      higher hs new e = let a = ap (λ (y : List Frame). length y) e in omega (arith, high, a)
 
       finish : Block → Work Value
       finish b = bind (answer_of set b.answer) (λ v. bind (leave set) (λ u. give v))
 
       finished : (f : ℕ) (b : Block) (hs : List Frame) → Enters f fs b hs → From q W R hs Ended (finish b)
-      finished f b hs h = after q W R _ _ (answer_stays fs hs f b h b.answer refl) (λ v _. after_from q W R _ _ (leave_from hs) (λ u gs e. gives q W R v (e ∙ ap below h.4, tt)))
+      finished f b hs h = after q W R _ _ (answer_stays fs hs high f b h b.answer refl) (λ v _. after_from q W R _ _ (leave_from hs) (λ u gs e. gives q W R v (e ∙ ap below h.4, tt)))
 
       whole : (f : ℕ) (args : Actuals) (gs : List Given) → Sound set.program W R fs (In_call f args) → Gave set.program fs args gs → From q W R fs Ended (bind (enter set f gs) (λ b. bind (all set n (push b.body [])) (λ rest. finish b)))
-      whole f args gs so gave = after_from q W R _ _ (enter_from fs f args gs l so gave) (λ b hs h.
-          after_from q W R _ _ (ih.by hs hs (push b.body []) (push_good set.program W R hs hs b.body [] h.2 (record { linked = h.1; ready = tt; ends = refl }))) (λ rest is e. at_same Ended hs is (finish b) e (finished f b hs h)))
+      whole f args gs so gave = after_from q W R _ _ (enter_from fs high f args gs l so gave) (λ b hs h.
+          after_from q W R _ _ (ih.by hs hs (push b.body []) (higher hs h.3 h.4) (push_good set.program W R hs hs b.body [] h.2 (record { linked = h.1; ready = tt; ends = refl }))) (λ rest is e. at_same Ended hs is (finish b) e (finished f b hs h)))
 
-  rest_by_from : (n : ℕ) → AllKeep n → (z fs : List Frame) (todo : List Item) → Fit set.program W R z fs todo → From q W R fs (λ (xs : List Item) gs. gs ≡ z) (rest_by set (all set n) todo)
-  rest_by_from n ih z fs [] f = gives q W R [] f.ends
-  rest_by_from n ih z fs (i ∷ todo) f = after_from q W R _ _ (act_from fs z (call_by set (all set n)) (call_keeps n ih fs f.linked) i todo f) go
+  rest_by_from : (n : ℕ) → AllKeep n → (z fs : List Frame) (todo : List Item) → low ≤ length z → Fit set.program W R z fs todo → From q W R fs (λ (xs : List Item) gs. gs ≡ z) (rest_by set (all set n) todo)
+  rest_by_from n ih z fs [] high f = gives q W R [] f.ends
+  rest_by_from n ih z fs (i ∷ todo) high f = let h = high_at z fs (i ∷ todo) high f in after_from q W R _ _ (act_from fs z h (call_by set (all set n)) (call_keeps n ih fs h f.linked) i todo f) go
     where
       go : (d : Deed) (gs : List Frame) → Fair set.program W R z d gs → From q W R gs (λ (xs : List Item) hs. hs ≡ z) (bind (left_by set d) (all set n))
-      go (Went todo1) gs h = record { by = λ w o m e. (ih.by z gs todo1 h).by w o m e }
-      go (Beat todo1) gs h = record { by = λ w o m e. (ih.by z gs todo1 h).by w o m e }
+      go (Went todo1) gs h = record { by = λ w o m e. (ih.by z gs todo1 high h).by w o m e }
+      go (Beat todo1) gs h = record { by = λ w o m e. (ih.by z gs todo1 high h).by w o m e }
       go (Opened todo1) gs h = record { by = λ w o m e. tt }
       go (Forked bs todo1) gs h = record { by = λ w o m e. tt }
       go (Offered c k g todo1) gs h = record { by = λ w o m e. tt }
       go Over gs h = record { by = λ w o m e. tt }
 
-  all_keep : (n : ℕ) → AllKeep n
-  all_keep zero = record { by = λ z fs todo f. record { by = λ w o m e. tt } }
-  all_keep (suc n) = record { by = λ z fs todo f. after_from q W R _ _ (settle_from z fs todo f) (λ todo1 gs g. rest_by_from n (all_keep n) z gs todo1 g) }
+  pub all_keep : (n : ℕ) → AllKeep n
+  all_keep zero = record { by = λ z fs todo high f. record { by = λ w o m e. tt } }
+  all_keep (suc n) = record { by = λ z fs todo high f. after_from q W R _ _ (settle_from z fs todo f) (λ todo1 gs g. rest_by_from n (all_keep n) z gs todo1 high g) }
 
   -- a step of a process reads R's locations and writes W's, and comes to what is fair
-  pub deed_from : (n : ℕ) (z fs : List Frame) (todo : List Item) → Fit set.program W R z fs todo → From q W R fs (Fair set.program W R z) (deed set n todo)
-  deed_from n z fs todo f = after_from q W R _ _ (settle_from z fs todo f) go
+  deed_above : (n : ℕ) (z fs : List Frame) (todo : List Item) → low ≤ length z → Fit set.program W R z fs todo → From q W R fs (Fair set.program W R z) (deed set n todo)
+  deed_above n z fs todo high f = after_from q W R _ _ (settle_from z fs todo f) go
     where
       go : (todo1 : List Item) (gs : List Frame) → Fit set.program W R z gs todo1 → From q W R gs (Fair set.program W R z) (deed_by set (all set n) todo1)
       go [] gs g = gives q W R Over tt
-      go (i ∷ rest) gs g = act_from gs z (call_by set (all set n)) (call_keeps n (all_keep n) gs g.linked) i rest g
+      go (i ∷ rest) gs g = let h = high_at z gs (i ∷ rest) high g in act_from gs z h (call_by set (all set n)) (call_keeps n (all_keep n) gs h g.linked) i rest g
+
+-- where all that stands in the process's frames is its own to write
+pub deed_from : (set : Setting) (q : Name) (W R : Loc → Type 0) (own : (n x : ℕ) → W (Cell q n x)) (reads : (l : Loc) → W l → R l) (free : IsFreeOfInterference set.program) (n : ℕ) (z fs : List Frame) (todo : List Item) → Fit set.program W R z fs todo
+    → From q W R fs (Fair set.program W R z) (deed set n todo)
+deed_from set q W R own reads free n z fs todo f = deed_above set q W R 0 (λ m x h. own m x) reads free n z fs todo (omega arith) f

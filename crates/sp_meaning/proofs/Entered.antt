@@ -176,7 +176,8 @@ used_of p fs (Splits ss) x l Here bs t r = absurd t
 used_of p fs (Spreads y s) x l Here bs t r = absurd t
 used_of p fs Stops x l Here bs t r = absurd t
 
-module _ (p : Program) (q : Name) (W R : Loc → Type 0) (own : (n x : ℕ) → W (Cell q n x)) (reads : (l : Loc) → W l → R l) (free : IsFreeOfInterference p) where
+-- low: what stands in the process's frames from this number on is its own to write
+module _ (p : Program) (q : Name) (W R : Loc → Type 0) (low : ℕ) (own : (n x : ℕ) → low ≤ n → W (Cell q n x)) (reads : (l : Loc) → W l → R l) (free : IsFreeOfInterference p) where
   below_le : (n c b : ℕ) → IsBelow p n c b → b ≤ c
   below_le zero c b h = omega (arith, h)
   below_le (suc n) c b h = omega (arith, free.parents c h.0 h.2 h.1 h.3, below_le n h.2 b h.4)
@@ -250,7 +251,7 @@ module _ (p : Program) (q : Name) (W R : Loc → Type 0) (own : (n x : ℕ) → 
       right_of_own (Spreads x s) l w = tt
       right_of_own Stops l w = tt
 
-      module _ (s : Sound p W R fs (In_call b args)) where
+      module _ (high : low ≤ length fs) (s : Sound p W R fs (In_call b args)) where
         target : (v : ℕ) → IsMember v (refs args) → In_call b args (Aims v)
         target v m = inr (member_in args v m)
 
@@ -258,7 +259,7 @@ module _ (p : Program) (q : Name) (W R : Loc → Type 0) (own : (n x : ℕ) → 
         outer_use bs u x l r t f = (args, inl refl, k, is_block_b, passes_of p (fresh ∷ fs) u x l b t f, r)
 
         may : (bs : List ℕ) (u : Use) (x : ℕ) (l : Loc) → Reach p (In_stmt k.body) bs u → Touches p (fresh ∷ fs) u x l → Stands x l → Right p W R u l
-        may bs u x l r t (Own e) = right_of_own u l (subst W e (own (length fs) x))
+        may bs u x l r t (Own e) = right_of_own u l (subst W e (own (length fs) x high))
         may bs u x l r t (Refers a d e) = let h = comes p fs args k.formals gs gave x a d in right_of_own u l (subst W e (s.allowed [] (Aims h.0) (target h.0 h.1) h.0 a.spot (refl, h.2)))
         may bs u x l r t (Outer f e) = s.allowed (b ∷ bs) u (outer_use bs u x l r t f) x l (touches_in p (fresh ∷ fs) fs u x l t e)
 

@@ -32,3 +32,5 @@ pub mod Deeding
 pub mod Children
 pub mod Owned
 pub mod Started
+pub mod Pure
+pub mod QuietDeeds

@@ -60,6 +60,7 @@ with_todo todo w o = record { todo = todo; who = w; own = o }
 
 -- what a deed is to the other processes. A tree that breaks a rule has no meaning (Lost), and Long never comes up;
 -- so that a step is a function both stand under F8, a false assumption
+-- The writes of a step that forks, offers or ends are left out: they are of frames that calls made and that are gone (proofs/QuietDeeds)
 abbrev pub act_of : Who → Came Deed → List (Loc × Held) → Act Process Loc Held Address
 act_of w (Got (Went todo) o) ws = Moves (with_todo todo w o) ws
 act_of w (Got (Beat todo) o) ws = Moves (with_todo todo w o) ws
