@@ -1,13 +1,10 @@
 -- Every entry on both sides: each process that runs makes one, by how its turn ends (`entry`). `Events` has the events whose lemmas are
 -- still to come; with them the meaning goes along every journal of the system (`system_is_meaning`).
-use Rattle.std.proofs.Common.{◌≡◌, ⊎_elim, ℕ, List, Option, Some, None, ◌+◌, Bool, true, false, refl, sym, ap, ◌∙◌, subst}
-use Rattle.std.specs.Prelude.{nat_lt}
-use Rattle.sp_base.specs.declared.fault.Fault.{Fault}
+use Rattle.std.proofs.Common.{◌≡◌, ⊎_elim, ℕ, List, Bool, true, false, refl, sym, ap, ◌∙◌, subst}
 use Rattle.sp_journal.specs.declared.entry.Entry.{Entry}
 use Rattle.sp_journal.specs.Births.{at_start, happening}
 use Rattle.sp_cell.specs.Map.{Plain}
-use Rattle.sp_meaning.specs.Model.{Name, Channel, Cargo}
-use Rattle.sp_meaning.specs.Own.{Held, Address, Own, Item, Came, Got, Bad, Lost, Long}
+use Rattle.sp_meaning.specs.Own.{Own, Item, Came, Got, Bad, Lost, Long}
 use Rattle.sp_meaning.specs.Deeds.{Birth, Went, Beat, Opened, Forked, Offered, Over}
 use Rattle.sp_meaning.specs.Run.{Store}
 use Rattle.sp_meaning.specs.Runs.{StateOf, start}
@@ -21,35 +18,24 @@ use Rattle.sp_code.proofs.Turning.{turn_same}
 use Rattle.sp_codegen.proofs.Safe.{AtEnd}
 use Rattle.sp_link.proofs.TurnsMeet.{outcome, kept, turned, ends, result}
 use Rattle.sp_link.proofs.Ends.{finishing}
-use Rattle.sp_link.proofs.KernelSteps.{QuietDeeds}
+use Rattle.sp_link.proofs.Halts.{failing, laying, too_large_laid, too_large_fails}
+use Rattle.sp_link.proofs.KernelSteps.{QuietDeeds, QuietFaults}
 use Rattle.sp_link.proofs.Journal.{Now, Goes_on, OneEntry, Goes_along, AllBegan, goes_along}
 use Rattle.sp_link.proofs.OneChanges.{q, pr, its, runs, light, keeps_to}
 use Rattle.sp_link.proofs.Pauses.{Entry_of, Meant, Machined, Kept_to, kids, pausing}
-use Rattle.sp_link.proofs.OffersWait.{waiting_entry}
+use Rattle.sp_link.proofs.Offers.{offering}
 use Rattle.sp_link.proofs.Relation.{Ground, Lives, Stands, TooLarge, Linked, Began, at_open, run_is, ops}
 
 -- what is left to prove: an entry of each kind, at a process that stands, where its turn ends so on both sides
 pub record Events (G : Ground) : Type 1 where
-  pub laid : (lv : Lives G) (c : Course) (s : StateOf G.g) (u : System Plain) (l : Linked G lv c s u) (i : ℕ) (d : Config (Memory Plain)) (at : u.condition i ≡ Runs d)
-      (z : Stands G (lv (q G lv c s u l i d at)) (kids G lv c s u l i d at) (q G lv c s u l i d at) (c.since (q G lv c s u l i d at)) (pr G lv c s u l i d at) s.store d)
-      (r : Came source.Stop × Store) → AtEnd r → Meant G lv c s u l i d at z r → Machined G lv c s u l i d at z r → Kept_to G lv c s u l i d at z r → u.faulted ≡ true → Entry_of G c s u i d
-  pub too_large : (lv : Lives G) (c : Course) (s : StateOf G.g) (u : System Plain) (l : Linked G lv c s u) (i : ℕ) (d : Config (Memory Plain)) (at : u.condition i ≡ Runs d)
-      → TooLarge G (lv (q G lv c s u l i d at)) (kids G lv c s u l i d at) (q G lv c s u l i d at) (pr G lv c s u l i d at) d → Entry_of G c s u i d
-  pub failed : (lv : Lives G) (c : Course) (s : StateOf G.g) (u : System Plain) (l : Linked G lv c s u) (i : ℕ) (d : Config (Memory Plain)) (at : u.condition i ≡ Runs d)
-      (z : Stands G (lv (q G lv c s u l i d at)) (kids G lv c s u l i d at) (q G lv c s u l i d at) (c.since (q G lv c s u l i d at)) (pr G lv c s u l i d at) s.store d)
-      (f : Fault) (m : Store) → Meant G lv c s u l i d at z (Bad f, m) → Machined G lv c s u l i d at z (Bad f, m) → Kept_to G lv c s u l i d at z (Bad f, m) → u.faulted ≡ false → Entry_of G c s u i d
   pub opened : (lv : Lives G) (c : Course) (s : StateOf G.g) (u : System Plain) (l : Linked G lv c s u) (i : ℕ) (d : Config (Memory Plain)) (at : u.condition i ≡ Runs d)
       (z : Stands G (lv (q G lv c s u l i d at)) (kids G lv c s u l i d at) (q G lv c s u l i d at) (c.since (q G lv c s u l i d at)) (pr G lv c s u l i d at) s.store d)
       (todo : List Item) (o : Own) (m : Store) → Meant G lv c s u l i d at z (Got (source.Stops (Opened todo)) o, m) → Machined G lv c s u l i d at z (Got (source.Stops (Opened todo)) o, m) → Kept_to G lv c s u l i d at z (Got (source.Stops (Opened todo)) o, m) → u.faulted ≡ false → Entry_of G c s u i d
   pub forked : (lv : Lives G) (c : Course) (s : StateOf G.g) (u : System Plain) (l : Linked G lv c s u) (i : ℕ) (d : Config (Memory Plain)) (at : u.condition i ≡ Runs d)
       (z : Stands G (lv (q G lv c s u l i d at)) (kids G lv c s u l i d at) (q G lv c s u l i d at) (c.since (q G lv c s u l i d at)) (pr G lv c s u l i d at) s.store d)
       (bs : List Birth) (todo : List Item) (o : Own) (m : Store) → Meant G lv c s u l i d at z (Got (source.Stops (Forked bs todo)) o, m) → Machined G lv c s u l i d at z (Got (source.Stops (Forked bs todo)) o, m) → Kept_to G lv c s u l i d at z (Got (source.Stops (Forked bs todo)) o, m) → u.faulted ≡ false → Entry_of G c s u i d
-  -- but for one that waits
-  pub offered : (lv : Lives G) (c : Course) (s : StateOf G.g) (u : System Plain) (l : Linked G lv c s u) (i : ℕ) (d : Config (Memory Plain)) (at : u.condition i ≡ Runs d)
-      (z : Stands G (lv (q G lv c s u l i d at)) (kids G lv c s u l i d at) (q G lv c s u l i d at) (c.since (q G lv c s u l i d at)) (pr G lv c s u l i d at) s.store d)
-      (ch : Channel) (k : ℕ) (x : Cargo Held Address) (todo : List Item) (o : Own) (m : Store) → Meant G lv c s u l i d at z (Got (source.Stops (Offered ch k x todo)) o, m) → Machined G lv c s u l i d at z (Got (source.Stops (Offered ch k x todo)) o, m) → Kept_to G lv c s u l i d at z (Got (source.Stops (Offered ch k x todo)) o, m) → u.faulted ≡ false → (s.pending ch ≡ None → nat_lt G.g.limits.entries (u.entries + 1) ≡ false → ⊥) → Entry_of G c s u i d
 
-module _ (G : Ground) (dry : QuietDeeds G.g) (events : Events G) where
+module _ (G : Ground) (dry : QuietDeeds G.g) (still : QuietFaults G.g) (events : Events G) where
   module _ (lv : Lives G) (c : Course) (s : StateOf G.g) (u : System Plain) (l : Linked G lv c s u) (i : ℕ) (d : Config (Memory Plain)) (at : u.condition i ≡ Runs d) where
     module _ (z : Stands G (lv (q G lv c s u l i d at)) (kids G lv c s u l i d at) (q G lv c s u l i d at) (c.since (q G lv c s u l i d at)) (pr G lv c s u l i d at) s.store d) where
       by_quiet : (r : Came source.Stop × Store) → AtEnd r → Meant G lv c s u l i d at z r → Machined G lv c s u l i d at z r → Kept_to G lv c s u l i d at z r → u.faulted ≡ false → Entry_of G c s u i d
@@ -58,22 +44,14 @@ module _ (G : Ground) (dry : QuietDeeds G.g) (events : Events G) where
       by_quiet (Got (source.Stops (Beat todo)) o, m) e x t y f = absurd e
       by_quiet (Got (source.Stops (Opened todo)) o, m) e x t y f = events.opened lv c s u l i d at z todo o m x t y f
       by_quiet (Got (source.Stops (Forked bs todo)) o, m) e x t y f = events.forked lv c s u l i d at z bs todo o m x t y f
-      by_quiet (Got (source.Stops (Offered ch k a todo)) o, m) e x t y f = by_pending (s.pending ch) refl (nat_lt G.g.limits.entries (u.entries + 1)) refl
-        where
-          by_pending : (b : Option Name) → s.pending ch ≡ b → (e1 : Bool) → nat_lt G.g.limits.entries (u.entries + 1) ≡ e1 → Entry_of G c s u i d
-          by_pending None g e1 h = by_limit e1 h
-            where
-              by_limit : (e1 : Bool) → nat_lt G.g.limits.entries (u.entries + 1) ≡ e1 → Entry_of G c s u i d
-              by_limit false h = waiting_entry G dry lv c s u l i d at z ch k a todo o m x t y f g h
-              by_limit true h = events.offered lv c s u l i d at z ch k a todo o m x t y f (λ p q. let b : true ≡ false = sym h ∙ q in absurd (cc b))
-          by_pending (Some b) g e1 h = events.offered lv c s u l i d at z ch k a todo o m x t y f (λ p q. let n : ◌≡◌ {A = Option Name} None (Some b) = sym p ∙ g in absurd (cc n))
+      by_quiet (Got (source.Stops (Offered ch k a todo)) o, m) e x t y f = offering G dry lv c s u l i d at z ch k a todo o m x t y still f
       by_quiet (Got (source.Stops Over) o, m) e x t y f = finishing G dry lv c s u l i d at z o m x t f
-      by_quiet (Bad f, m) e x t y q = events.failed lv c s u l i d at z f m x t y q
+      by_quiet (Bad f, m) e x t y q = failing G lv c s u l i d at dry still z f m x t q
       by_quiet (Lost, m) e x t y f = absurd e
       by_quiet (Long, m) e x t y f = absurd e
 
       by_fault : (b : Bool) → u.faulted ≡ b → (r : Came source.Stop × Store) → AtEnd r → Meant G lv c s u l i d at z r → Machined G lv c s u l i d at z r → Kept_to G lv c s u l i d at z r → Entry_of G c s u i d
-      by_fault true f r e x t y = events.laid lv c s u l i d at z r e x t y f
+      by_fault true f r e x t y = laying G lv c s u l i d at dry still z r e x t f
       by_fault false f r e x t y = by_quiet r e x t y f
 
       abbrev kt : Rattle.sp_meaning.proofs.Owned.Keeps_to G.g.program (Rattle.sp_link.proofs.Relation.W_of G lv) (Rattle.sp_link.proofs.Relation.R_of G lv) s.forks (q G lv c s u l i d at) (pr G lv c s u l i d at)
@@ -89,14 +67,18 @@ module _ (G : Ground) (dry : QuietDeeds G.g) (events : Events G) where
 
     -- the entry of a process that runs: it has one
     pub entry : Entry_of G c s u i d
-    entry = ⊎_elim (λ z. standing z) (λ z. events.too_large lv c s u l i d at z) (its G lv c s u l i d at).2
+    entry = ⊎_elim (λ z. standing z) (λ z. by z u.faulted refl) (its G lv c s u l i d at).2
+      where
+        by : TooLarge G (lv (q G lv c s u l i d at)) (kids G lv c s u l i d at) (q G lv c s u l i d at) s.store (pr G lv c s u l i d at) d → (b : Bool) → u.faulted ≡ b → Entry_of G c s u i d
+        by z true f = too_large_laid G lv c s u l i d at z f
+        by z false f = too_large_fails G lv c s u l i d at z f
 
 -- however many channels are open
-module _ (G : Ground) (dry : QuietDeeds G.g) (events : (n : ℕ) → Events (at_open G n)) where
+module _ (G : Ground) (dry : QuietDeeds G.g) (still : QuietFaults G.g) (events : (n : ℕ) → Events (at_open G n)) where
   -- one entry on both sides
   pub one_entry : OneEntry G
   one_entry lv c s u t i e l h began =
-      let en = entry (at_open G u.births.channels) dry (events u.births.channels) lv c s u l i h.0 h.1 in
+      let en = entry (at_open G u.births.channels) dry still (events u.births.channels) lv c s u l i h.0 h.1 in
       let same : en.turn ≡ h.2 = turn_same (ops G) G.code h.0 en.turn h.2 en.is h.3 in
       let at : after plain (run_is G) i en.turn u ≡ t = ap (λ x. after plain (run_is G) i x u) same ∙ sym h.5 in
       let said : event_of G.g.limits u en.turn ≡ e = ap (λ x. event_of G.g.limits u x) same ∙ h.4 in

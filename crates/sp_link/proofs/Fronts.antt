@@ -62,7 +62,7 @@ grows_event b p (event.Fault f) w = grows_same b
 grows_event b p event.Laid w = grows_same b
 grows_event b p event.Pause w = grows_same b
 
-grows_from : (es : List Entry) (b : Births) → Lawful b → NameableFrom b es → Grows b (births_from b es)
+pub grows_from : (es : List Entry) (b : Births) → Lawful b → NameableFrom b es → Grows b (births_from b es)
 grows_from [] b w n = grows_same b
 grows_from (e ∷ es) b w n = grows_on b (after_event b e.process e.event) (births_from (after_event b e.process e.event) es) (grows_event b e.process e.event w) (grows_from es (after_event b e.process e.event) (lawful_after b e w n.0) n.1)
 

@@ -5,7 +5,7 @@ use Rattle.sp_cell.specs.Map.{Plain}
 use Rattle.sp_meaning.specs.Model.{Name}
 use Rattle.sp_meaning.specs.Asking.{answer, put_by}
 use Rattle.sp_meaning.specs.Steps.{ActOf, outcome, result_of, step_with}
-use Rattle.sp_meaning.specs.Own.{Setting, Loc, Cell, Input, Output, Own, Who, Process, Came, Got, same_loc}
+use Rattle.sp_meaning.specs.Own.{Setting, Loc, Cell, Input, Output, Own, Who, Process, Came, Got, Bad, Lost, Long, same_loc}
 use Rattle.sp_meaning.specs.Deeds.{Deed, Forked, Offered, Over}
 use Rattle.sp_meaning.specs.SuperPascal.{superpascal, asks, deed_of, act_of}
 use Rattle.sp_meaning.specs.Run.{Store}
@@ -47,6 +47,22 @@ IsStop Over = Unit {0}
 -- leaves these writes out. (To be proved in sp_meaning: an expression writes nothing that is there)
 abbrev pub QuietDeeds : Setting → Type 0
 QuietDeeds g = (pr : Process) (s : Store) (d : Deed) (o : Own) (m : Store) → IsStop d → ◌≡◌ {A = Came Deed × Store} (answer same_loc (deed_of g pr) s) (Got d o, m) → (l : Loc) → (s l ≡ m l) ⊎ IsDead (length o.frames) l
+
+-- an open and a fault, at which the output is what it was
+abbrev pub IsHalt : Came Deed → Type 0
+IsHalt (Got (Rattle.sp_meaning.specs.Deeds.Went todo) o) = ⊥
+IsHalt (Got (Rattle.sp_meaning.specs.Deeds.Beat todo) o) = ⊥
+IsHalt (Got (Rattle.sp_meaning.specs.Deeds.Opened todo) o) = Unit {0}
+IsHalt (Got (Forked bs todo) o) = ⊥
+IsHalt (Got (Offered c k x todo) o) = ⊥
+IsHalt (Got Over o) = ⊥
+IsHalt (Bad f) = Unit {0}
+IsHalt Lost = ⊥
+IsHalt Long = ⊥
+
+-- so do an open and a fault leave the output alone: no expression writes it. (To be proved with the other)
+abbrev pub QuietFaults : Setting → Type 0
+QuietFaults g = (pr : Process) (s : Store) (r : Came Deed) (m : Store) → IsHalt r → ◌≡◌ {A = Came Deed × Store} (answer same_loc (deed_of g pr) s) (r, m) → s Output ≡ m Output
 
 module _ (G : Ground) (lf : Life) (kids : ℕ → ℕ → Life) (q : Name) where
   -- so it stands without them

@@ -11,9 +11,11 @@ pub mod OneChanges
 pub mod Pauses
 pub mod KernelSteps
 pub mod Rejoins
+pub mod FirstRelation
 pub mod Entries
 pub mod AtStop
 pub mod Ends
+pub mod Halts
 pub mod ChildrenStand
 pub mod TurnsSafe
 pub mod OneState
@@ -24,4 +26,7 @@ pub mod Theorem
 pub mod NewLives
 pub mod MoreChannels
 pub mod WhoRuns
+pub mod AtOffer
 pub mod OffersWait
+pub mod OffersMeet
+pub mod Offers

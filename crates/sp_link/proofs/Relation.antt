@@ -5,6 +5,7 @@
 use Rattle.std.proofs.Common.{◌≡◌, ◌⊎◌, ℕ, zero, suc, ◌+◌, ◌<◌, ◌≤◌, ◌==◌, List, [], ◌∷◌, length, Option, Some, None, Bool, true, false, if◌then◌else◌, eqb-true, eq-eqb, sym, arith, refl, ap, ◌∙◌, inl}
 use Rattle.std.specs.Prelude.{◌≢◌, IsSome, slice_get}
 use Rattle.std.specs.FinMap as fin
+use Rattle.sp_base.specs.declared.fault.Fault.TheVariants as fault
 use Rattle.sp_tree.specs.Plain.{Program, Stmt}
 use Rattle.sp_tree.specs.Interference.{IsFreeOfInterference}
 use Rattle.sp_journal.specs.declared.entry.Birth.{Birth}
@@ -14,8 +15,7 @@ use Rattle.sp_cell.specs.Map.{Map, Plain, with_map, output_spot, output_of}
 use Rattle.sp_cell.specs.Spots.{In, NotIn}
 use Rattle.sp_meaning.specs.Model.{Name, Channel, same_channel, Cargo, Offer, Condition, Absent, Waits, Joins, Ended}
 use Rattle.sp_meaning.specs.Steps.{working_in, has_ended}
-use Rattle.sp_meaning.specs.Own.{Setting, Loc, Cell, Input, Output, Held, Written, Address, Own, Who, Item, Process}
-use Rattle.sp_meaning.specs.Deeds.{size_of_frame}
+use Rattle.sp_meaning.specs.Own.{Setting, Loc, Cell, Input, Output, Held, Written, Address, Own, Who, Item, Break, Process}
 use Rattle.sp_meaning.specs.Run.{Store}
 use Rattle.sp_meaning.specs.SuperPascal.{root}
 use Rattle.sp_meaning.specs.Runs.{StateOf}
@@ -247,13 +247,13 @@ module _ (G : Ground) where
     Told s (At pc st n) = Reads Output → (bs : List ℕ) × (s Output ≡ Written bs) × (output_of (fin.get n.store.map output_spot) ≡ Some bs)
 
     -- the first process where the frame of the program is too large: F12 comes before its first instruction
-    abbrev pub TooLarge : Process → Config (Memory Plain) → Type 0
-    TooLarge pr c = (q ≡ []) × (G.g.limits.cells < size_of_frame G.g 0) × (pr ≡ root G.g) × (c ≡ first plain run_is) × (begins ops G.code c ≡ false)
+    abbrev pub TooLarge : Store → Process → Config (Memory Plain) → Type 0
+    TooLarge s pr c = (q ≡ []) × ((root G.g).todo ≡ Break fault.F12 ∷ []) × (pr ≡ root G.g) × (c ≡ first plain run_is) × (begins ops G.code c ≡ false) × Told s c
 
     -- condition by condition
     abbrev pub Does : Course → StateOf G.g → ℕ → sys.Condition Plain → Type 0
     Does c s opens sys.Absent = ⊥
-    Does c s opens (sys.Runs d) = (pr : Process) × (working_in s.condition q (s.condition q) ≡ Some pr) × (Stands (c.since q) pr s.store d ⊎ TooLarge pr d) × (pr.who.opens ≡ opens) × (c.laid q ≡ false)
+    Does c s opens (sys.Runs d) = (pr : Process) × (working_in s.condition q (s.condition q) ≡ Some pr) × (Stands (c.since q) pr s.store d ⊎ TooLarge s.store pr d) × (pr.who.opens ≡ opens) × (c.laid q ≡ false)
     Does c s opens (sys.Waits z d) = (o : Offer Process Held Address) × (s.condition q ≡ Waits o) × (t : Stands (c.since q) o.next s.store d) × Ca t.fresh o.next.who t.named (c.since q) t.js o.channel o.kind o.cargo z × (o.next.who.opens ≡ opens) × (c.laid q ≡ false)
     Does c s opens (sys.Joins left d) = (k n : ℕ) × (pr : Process) × (s.condition q ≡ Joins k n pr) × Joined (c.since q) k n left pr s d × (pr.who.opens ≡ opens) × (c.laid q ≡ false)
     Does c s opens (sys.Laid d) = (c.laid q ≡ true) × (c.faulted ≡ true) × ((pr : Process) × (working_in s.condition q (s.condition q) ≡ Some pr)) × Told s.store d

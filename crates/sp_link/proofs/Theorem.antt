@@ -1,6 +1,8 @@
 -- The system along a journal is the meaning along that journal, where the premises hold: that deeds of the kernel write nothing that is
--- there, the events of `Events`, and that the opening states are linked.
-use Rattle.std.proofs.Common.{◌≡◌, ℕ, List}
+-- there (`QuietDeeds`, `QuietFaults`), and the events of `Events`.
+use Rattle.std.proofs.Common.{◌≡◌, ℕ, List, Some, subst}
+use Rattle.std.specs.Prelude.{slice_get}
+use Rattle.sp_tree.specs.Plain.{Block}
 use Rattle.sp_journal.specs.declared.entry.Entry.{Entry}
 use Rattle.sp_journal.specs.Births.{at_start, births_from, occurrences_from, NameableFrom}
 use Rattle.sp_journal.proofs.BirthLaws.{lawful_start}
@@ -12,18 +14,22 @@ use Rattle.sp_code.specs.Turns.{IsSafe}
 use Rattle.sp_code.specs.Memory.{Memory}
 use Rattle.sp_code.specs.PlainStore.{plain}
 use Rattle.sp_code.specs.System.{System, Runs, IsSystem, opening}
-use Rattle.sp_link.proofs.Fronts.{all_began}
+use Rattle.sp_link.proofs.FirstRelation.{lives, opening_now}
+use Rattle.sp_link.proofs.Fronts.{Grows, began, grows_from, all_began}
 use Rattle.sp_link.proofs.Entries.{Events, system_is_meaning}
-use Rattle.sp_link.proofs.Journal.{Goes_along, Now}
-use Rattle.sp_link.proofs.KernelSteps.{QuietDeeds}
-use Rattle.sp_link.proofs.Relation.{Ground, Lives, at_open, run_is, ops}
+use Rattle.sp_link.proofs.Journal.{Goes_along}
+use Rattle.sp_link.proofs.KernelSteps.{QuietDeeds, QuietFaults}
+use Rattle.sp_link.proofs.Relation.{Ground, Began, at_open, run_is, ops}
 use Rattle.sp_link.proofs.Replay.{replays}
 use Rattle.sp_link.proofs.TurnsSafe.{turn_safe}
 
-module _ (G : Ground) (dry : QuietDeeds G.g) (events : (n : ℕ) → Events (at_open G n)) (lv : Lives G) (root : Now G lv no_course (start G.g) (opening plain (run_is G))) (es : List Entry) (named : NameableFrom at_start es) (all : births_from at_start es ≡ G.births) where
+module _ (G : Ground) (dry : QuietDeeds G.g) (still : QuietFaults G.g) (events : (n : ℕ) → Events (at_open G n)) (b : Block) (eb : slice_get G.g.program.blocks 0 ≡ Some b) (es : List Entry) (named : NameableFrom at_start es) (all : births_from at_start es ≡ G.births) where
+  begun : Began G at_start
+  begun = began G at_start lawful_start (subst (λ y. Grows at_start y) all (grows_from es at_start lawful_start named))
+
   -- with the relation at its end
   pub linked_along : (t : System Plain) → IsSystem plain (run_is G) es t → Goes_along G no_course (start G.g) at_start es t
-  linked_along t h = system_is_meaning G dry events lv root es t (all_began G es at_start lawful_start named all) h
+  linked_along t h = system_is_meaning G dry still events (lives (at_open G 0) b eb begun) (opening_now G b eb begun) es t (all_began G es at_start lawful_start named all) h
 
   pub meaning_of_system : (t : System Plain) → IsSystem plain (run_is G) es t → (n : ℕ) × (s : StateOf G.g) × IsAlong G.g G.pause (occurrences_from at_start es) n s
   meaning_of_system t h = let z = linked_along t h in (z.steps, z.state, z.along)
@@ -34,4 +40,4 @@ module _ (G : Ground) (dry : QuietDeeds G.g) (events : (n : ℕ) → Events (at_
 
   -- and the other way round
   pub system_of_meaning : (n : ℕ) (s : StateOf G.g) → IsAlong G.g G.pause (occurrences_from at_start es) n s → (t : System Plain) × IsSystem plain (run_is G) es t
-  system_of_meaning n s h = replays G dry events es lv no_course (start G.g) (opening plain (run_is G)) root (all_began G es at_start lawful_start named all) named n s h
+  system_of_meaning n s h = replays G dry still events es (lives (at_open G 0) b eb begun) no_course (start G.g) (opening plain (run_is G)) (opening_now G b eb begun) (all_began G es at_start lawful_start named all) named n s h
