@@ -1,8 +1,6 @@
 -- The blocks of a tree that breaks no rule are fine.
-use Rattle.std.proofs.Common.{◌≡◌, ◌⊎◌, inl, inr, refl, ap, sym, ◌∙◌, subst, ℕ, zero, suc, ◌+◌, ◌≤◌, List, [], ◌∷◌, ◌++◌, Option, Some, None, Bool, true, false, length, slice_get, arith}
+use Rattle.std.proofs.Common.{◌≡◌, refl, sym, subst, ℕ, zero, suc, ◌+◌, List, [], ◌∷◌, Option, Some, None, Bool, true, false, length, slice_get, arith}
 use Rattle.std.specs.Prelude.{map}
-use Rattle.sp_base.specs.declared.place.Place.{Place}
-use Rattle.sp_base.specs.declared.halt.Refusal.{Refusal}
 use Rattle.sp_tree.specs.declared.checked.Variable as checked
 use Rattle.sp_tree.specs.NameFirst.{together, names_broken}
 use Rattle.sp_tree.specs.Found.{listed}
@@ -11,32 +9,27 @@ use Rattle.sp_tree.specs.Plain as plain
 use Rattle.sp_tree.specs.Plain.{Stmt, Actuals}
 use Rattle.sp_tree.specs.PlainNamed as n
 use Rattle.sp_tree.specs.PlainSyntax as syntax
-use Rattle.sp_tree.specs.Uses.{Use, Aims, Spreads, Stops, Runs, In_stmt}
-use Rattle.sp_tree.specs.Sets.{LeadsToStop}
+use Rattle.sp_tree.specs.Uses.{Spreads, Stops, Runs, In_stmt}
+use Rattle.sp_code.specs.Quiet.{IsQuiet}
 use Rattle.sp_tree.specs.Interference.{IsFreeOfInterference}
-use Rattle.sp_code.specs.Scopes.{Scope, is_index, level, one_more, scopes_by, scopes_of, parent_of}
-use Rattle.sp_types.specs.Tables.{Env, variable_kind, env_of, constants_of, numbers_of}
-use Rattle.sp_types.specs.TypeRules.{is_ordinal, frame_rule, frame_cells}
+use Rattle.sp_code.specs.Scopes.{is_index, level, one_more, scopes_by, scopes_of, parent_of}
+use Rattle.sp_types.specs.Tables.{Env, env_of, constants_of, numbers_of}
+use Rattle.sp_types.specs.TypeRules.{frame_rule, frame_cells}
 use Rattle.sp_types.specs.TypeFirst.{types_broken}
 use Rattle.sp_types.specs.TypeWalk as w
 use Rattle.sp_types.specs.TypeWalk.{started, starts_of, statement_after, places_of}
-use Rattle.sp_types.specs.CheckedTree.{checked_statement, checked_block, checked_blocks, program_checked}
-use Rattle.sp_tree.specs.Bare.{bare_block, bare_statement, bare}
-use Rattle.sp_facts.specs.Knows.{Knows, HasIndices}
+use Rattle.sp_types.specs.CheckedTree.{checked_statement, checked_block, checked_blocks}
+use Rattle.sp_tree.specs.Bare.{bare_block, bare_statement}
+use Rattle.sp_facts.specs.Knows.{Knows}
 use Rattle.sp_facts.specs.TypedBlocks.{AreBlocksTyped}
 use Rattle.sp_facts.specs.Scoped.{IsInForall}
 use Rattle.sp_facts.specs.Held.{AreScoped}
-use Rattle.sp_code.specs.Stands.{Hushed, StandsAt, BlockStands, IsFine, AnyInstr, AnyTable, AnyText}
+use Rattle.sp_code.specs.Stands.{Hushed, StandsAt, IsFine, AnyInstr, AnyTable, AnyText}
 use Rattle.sp_facts.proofs.Calm.{calm_parts}
 use Rattle.sp_facts.proofs.Expressions.{ordinal_sort}
 use Rattle.sp_facts.proofs.Statements.{Ready, Done, Quiet, Grown, statement_fine}
 use Rattle.sp_facts.proofs.PerformFacts.{performs}
-use Rattle.sp_facts.proofs.Tree.{starts_length}
 use Rattle.sp_facts.proofs.Program.{named, tree, scoped}
-
--- a call of it leads to no statement that a function may not have
-abbrev pub IsQuiet : plain.Program → ℕ → Type 0
-IsQuiet p f = LeadsToStop p f → ⊥
 
 -- in the scopes of a block there is no forall
 no_index : (p : plain.Program) (k : ℕ) (o : Option ℕ) (x up : ℕ) → level (is_index x) (scopes_by p k o) ≡ Some up → ⊥

@@ -1,8 +1,6 @@
 -- The result of a function is of an ordinal type.
-use Rattle.std.proofs.Common.{◌≡◌, refl, ap, sym, ◌∙◌, subst, ℕ, zero, suc, ◌+◌, ◌≤◌, List, [], ◌∷◌, Option, Some, None, Bool, true, false, length, slice_get, arith}
-use Rattle.sp_base.specs.declared.place.Place.{Place}
+use Rattle.std.proofs.Common.{◌≡◌, refl, ap, sym, ◌∙◌, subst, ℕ, zero, suc, ◌+◌, List, [], ◌∷◌, Option, Some, None, true, length, slice_get, arith}
 use Rattle.sp_base.specs.declared.rule.Rule.TheVariants as rule
-use Rattle.sp_tree.specs.declared.checked.Role.TheVariants as role
 use Rattle.sp_tree.specs.declared.checked.Variable as checked
 use Rattle.sp_tree.specs.declared.named.NamedAnswer.{NamedAnswer}
 use Rattle.sp_tree.specs.Found.{listed}

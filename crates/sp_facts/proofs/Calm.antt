@@ -1,11 +1,11 @@
 -- Lists of broken rules that are empty: no part of them has one.
-use Rattle.std.proofs.Common.{◌≡◌, refl, ap, sym, ◌∙◌, subst, ℕ, List, [], ◌∷◌, ◌++◌, Option, Some, None, Bool, true, false, if◌then◌else◌, arith}
+use Rattle.std.proofs.Common.{◌≡◌, refl, ap, sym, ◌∙◌, ℕ, List, [], ◌∷◌, Option, Some, None, Bool, true, false, if◌then◌else◌, arith}
 use Rattle.std.specs.Prelude.{not, nat_eq, ◌||◌}
 use Rattle.sp_base.specs.declared.place.Place.{Place}
 use Rattle.sp_base.specs.declared.rule.Rule.{Rule}
 use Rattle.sp_base.specs.declared.halt.Refusal.{Refusal}
 use Rattle.sp_tree.specs.First.{before}
-use Rattle.sp_tree.specs.Found.{Found, breaks, breaks_if, lesser, listed, taken, outcome}
+use Rattle.sp_tree.specs.Found.{Found, breaks_if, lesser, listed, taken}
 use Rattle.sp_tree.specs.NameFirst.{together}
 use Rattle.sp_types.specs.TypeRules.{unless, differ}
 

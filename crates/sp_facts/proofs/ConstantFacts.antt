@@ -1,6 +1,6 @@
 -- Where no rule of types is broken, each constant has a value of an ordinal type.
 use Rattle.std.proofs.Common.{◌≡◌, refl, ap, sym, ◌∙◌, subst, ℕ, zero, suc, ◌+◌, ◌≤◌, List, [], ◌∷◌, ◌++◌, Option, Some, None, Bool, true, false, if◌then◌else◌, length, slice_get, arith}
-use Rattle.std.specs.Prelude.{ℤ, pos, neg_ℤ, not, nat_eq, ◌||◌}
+use Rattle.std.specs.Prelude.{ℤ, pos, neg_ℤ, nat_eq, ◌||◌}
 use Rattle.std.proofs.lemmas.List.{length-append}
 use Rattle.sp_base.specs.declared.rule.Rule.TheVariants as rule
 use Rattle.sp_tree.specs.declared.checked.KindOf.{KindOf}
@@ -16,10 +16,10 @@ use Rattle.sp_tree.specs.declared.named.NamedKindForm.TheVariants as form
 use Rattle.sp_tree.specs.Found.{listed}
 use Rattle.sp_tree.specs.NameFirst.{together}
 use Rattle.sp_types.specs.declared.tables.Ordinal.{Ordinal}
-use Rattle.sp_types.specs.Tables.{entry, value_by, signed, const_value, constant_by, constants_from, char_of, is_long, has_wrong_sign, type_number, type_or, number_or, are_bounds, array_of, kinds_by, kinds_from}
+use Rattle.sp_types.specs.Tables.{entry, value_by, signed, const_value, constant_by, constants_from, is_long, has_wrong_sign, type_number, type_or, number_or, are_bounds, kinds_by, kinds_from}
 use Rattle.sp_types.specs.TypeRules.{is_ordinal, const_rule, bounds_rule}
 use Rattle.sp_types.specs.TypeWalk as w
-use Rattle.sp_facts.specs.Earlier.{HasValue, HaveValues, AllHaveValues}
+use Rattle.sp_facts.specs.Earlier.{HaveValues, AllHaveValues}
 use Rattle.sp_facts.specs.Given.{IsBehind, AreBehind, IsBoundBehind, AreBoundsBehind}
 use Rattle.sp_facts.proofs.Calm.{calm_parts, calm_site, calm_if, not_true, or_false, nat_eq_is}
 

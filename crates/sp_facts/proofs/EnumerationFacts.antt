@@ -1,88 +1,38 @@
 -- The constants of an enumeration are of an ordinal type.
-use Rattle.std.proofs.Common.{◌≡◌, ◌⊎◌, inl, inr, refl, ap, sym, ◌∙◌, subst, ℕ, zero, suc, ◌+◌, ◌≤◌, ◌==◌, List, [], ◌∷◌, ◌++◌, Option, Some, None, Bool, true, false, if◌then◌else◌, length, slice_get, arith, eq-eqb}
-use Rattle.std.specs.Prelude.{not, nat_eq, nat_le, ◌&&◌, drop, map}
-use Rattle.std.specs.Map.{lookup}
-use Rattle.std.specs.Str.{bytes_eq}
+use Rattle.std.proofs.Common.{◌≡◌, refl, ap, sym, ◌∙◌, subst, ℕ, zero, suc, ◌+◌, List, [], ◌∷◌, ◌++◌, Option, Some, true, length, slice_get, arith}
 use Rattle.sp_base.specs.declared.place.Place.{Place}
-use Rattle.sp_base.specs.declared.rule.Rule.TheVariants as rule
-use Rattle.sp_base.specs.declared.halt.Refusal.{Refusal}
-use Rattle.sp_tree.specs.declared.checked.Role.{Role}
-use Rattle.sp_tree.specs.declared.checked.Role.TheVariants as role
-use Rattle.sp_tree.specs.declared.operators.StandardFn.{StandardFn}
-use Rattle.sp_tree.specs.declared.meaning.Meaning.{Meaning}
-use Rattle.sp_tree.specs.declared.meaning.Meaning.TheVariants as meaning
-use Rattle.sp_tree.specs.declared.meaning.Passing.{Passing}
-use Rattle.sp_tree.specs.declared.meaning.Passing.TheVariants as passing
 use Rattle.sp_tree.specs.declared.syntax.Name.{Name}
-use Rattle.sp_tree.specs.Found.{Found, breaks, breaks_if, lesser, listed}
 use Rattle.sp_tree.specs.NameFirst.{together, all_at}
-use Rattle.sp_tree.specs.NameRules.{Site, Operand, Targets, Computes, Bare, Widens, broken, operand_rule, alone_rule, selects_rule, function_rule, function_takes, target_rule, variable_rule, next_passing, others, references_of, rest_of, aims, same_place}
 use Rattle.sp_tree.specs.Scopes as names
 use Rattle.sp_tree.specs.Scopes.{Env, look, find, find_in, or_else}
 use Rattle.sp_tree.specs.NameWalk as w
 use Rattle.sp_tree.specs.NameWalk.{role_of}
-use Rattle.sp_tree.specs.NamedOf as of_
-use Rattle.sp_tree.specs.PlainNamed as n
-use Rattle.sp_tree.specs.NamedTree.{variable_number, operand_named, function_named, named_expression, named_form, named_operand, named_selectors, named_selector, named_arguments, named_argument, named_width}
 use Rattle.sp_tree.specs.PlainSyntax.{Expression, At, ExpressionForm, Number, Quoted, Read, Apply, Unary, Binary, Variable, Entire, Selector, Index, Field, Selectors, Whole, Select, Argument, Pass, Width, NoWidth, Within, Arguments, NoArgument, AndArgument}
-use Rattle.sp_tree.specs.Plain as plain
-use Rattle.sp_code.specs.Scopes.{Scope, OfBlock, OfIndex, is_block, is_index, level, one_more, scopes_of}
-use Rattle.sp_types.specs.TypeWalk.{count, is_variable}
-use Rattle.sp_code.specs.Stands.{NoIndex}
-use Rattle.sp_facts.specs.Scoped.{SeenIn, SeenRole, AimedIn, AimedExpression, CallIn, AroundIn, InExpression, InForm, InVariable, InSelectors, InActuals, InArguments, InWidth}
-use Rattle.sp_facts.specs.Visible.{IsScope, AreFlags, IsAround, IsBlockIn, IsValid, AreValid, AllValid, IsVisible, IsChain}
-use Rattle.sp_facts.proofs.Calm.{calm_parts, calm_site, calm_at, calm_lesser, calm_if, nat_eq_is, not_true}
+use Rattle.sp_facts.proofs.Calm.{calm_parts}
 use Rattle.std.proofs.lemmas.List.{length-append}
-use Rattle.sp_tree.specs.declared.checked.Variable as checked
-use Rattle.sp_tree.specs.declared.meaning.StandardProcedure.{StandardProcedure}
-use Rattle.sp_tree.specs.declared.meaning.StandardProcedure.TheVariants as procedure
-use Rattle.sp_tree.specs.declared.meaning.Sort.{Sort}
-use Rattle.sp_tree.specs.declared.meaning.Sort.TheVariants as sort
-use Rattle.sp_tree.specs.declared.syntax.SynConst.{SynConst}
-use Rattle.sp_tree.specs.NameRules.{Declares, Assigns, Loops, Runs, procedure_rule, procedure_takes, assign_rule, loop_rule, is_local}
 use Rattle.sp_tree.specs.Scopes.{Local, inside, opened, declared, most, variable, next_variable}
 use Rattle.sp_tree.specs.NameWalk.{statement_local, statements_local, other_local, arms_local, arm_local, branches_local, form_local, indexed, deeper}
-use Rattle.sp_tree.specs.NamedTree.{assigned_number, procedure_named, named_target, named_statement, named_statement_form, named_other, named_statements, named_arms, named_arm, named_branches, indices, form_indices, other_indices, statements_indices, arms_indices, arm_indices, branches_indices}
 use Rattle.sp_tree.specs.PlainSyntax.{Statement, Does, Form, Empty, Assign, Call, Sequence, If, While, Repeat, Case, For, Parallel, Forall, Assume, Other, NoElse, Else, Statements, NoStatement, AndThen, Arm, On, Arms, NoArm, Or, Branches, NoBranch, Beside}
-use Rattle.sp_facts.specs.Scoped.{IsInForall, ForIn, AreAimed, AreAimedLater, AimsOf, InStatement, InStatementForm, InOther, InStatements, InArms, InBranches}
-use Rattle.sp_facts.proofs.Names.{level_block, IsFound, find_valid, seen, aimed, called, target_in, expression_in, selectors_in, arguments_in, actuals_in, counts, passed_in}
-use Rattle.sp_facts.proofs.Numbering.{room_at, Adds, statement_adds, statements_adds, arms_adds, branches_adds, other_adds}
-use Rattle.sp_tree.specs.declared.meaning.Counts.{Counts}
-use Rattle.sp_tree.specs.declared.syntax.SynFormal.{SynFormal}
-use Rattle.sp_tree.specs.declared.syntax.SynKind.{SynKind}
 use Rattle.sp_tree.specs.declared.syntax.SynKind.TheVariants as kinds
-use Rattle.sp_tree.specs.NameRules.{Uses, AsKind}
 use Rattle.sp_tree.specs.Scopes.{put, closed, next_constant, next_kind, next_block}
 use Rattle.sp_tree.specs.NameWalk.{names_local, formals_local, title_local, answer_local, heading_local, constants_local, kind_local, type_local, parts_local, part_local, block_meaning, references}
-use Rattle.sp_tree.specs.NamedTree.{kind_number, variables_named, formals_named, numbers, answer_named, answer_of, enumerated, constants_named, parts_named, part_named}
+use Rattle.sp_tree.specs.NamedTree.{enumerated, parts_named, part_named}
 use Rattle.sp_tree.specs.PlainSyntax.{Part, Const, Kind, Var, Proc, Parts, NoPart, Declare}
-use Rattle.sp_types.specs.Tables.{answer_variable}
-use Rattle.sp_facts.specs.Held.{HoldsBlocks, AreScoped, AreBelow}
-use Rattle.sp_facts.proofs.Numbering.{Moved, MovedBy, declared_counts, one_variable, moves_on, kind_moves, constants_move, names_adds, formals_adds, answer_adds, parts_move, part_moves, sum5}
-use Rattle.sp_facts.proofs.NameStatements.{IsKept, statement_keeps, Holds, holds_parts, more_all, more_valid, all_behind, IsPlace, place_after, statement_in}
-use Rattle.sp_tree.specs.NamedTree.{Inside, inside_with, procedure_block, program_named}
-use Rattle.sp_tree.specs.PlainOf.{variable_of}
-use Rattle.sp_tree.specs.Cells.{variables_of}
-use Rattle.sp_code.specs.Scopes.{as_list}
-use Rattle.sp_tree.specs.Formed.{is_parameter, is_answer, among}
-use Rattle.sp_facts.proofs.Blocks.{part_block, calm_pieces, title_moves, formals_move, head_blocks, head_number}
-use Rattle.sp_tree.specs.declared.syntax.SynGroup.{SynGroup}
+use Rattle.sp_facts.proofs.Numbering.{answer_adds, part_moves}
+use Rattle.sp_tree.specs.NamedTree.{program_named}
+use Rattle.sp_facts.proofs.Blocks.{calm_pieces, title_moves, formals_move}
 use Rattle.sp_tree.specs.declared.named.NamedKind.{NamedKind}
-use Rattle.sp_tree.specs.NameRules.{UsesIn, Fields, own_rule, use_rule}
 use Rattle.sp_tree.specs.NameFirst.{names_broken}
 use Rattle.sp_tree.specs.Scopes.{empty, standard}
 use Rattle.sp_tree.specs.PlainSyntax as syntax
-use Rattle.sp_tree.specs.NamedTree.{kind_named, groups_named, fields_named}
-use Rattle.sp_tree.specs.Formed.{AreBefore}
 use Rattle.sp_tree.specs.declared.checked.KindOf.{KindOf}
-use Rattle.sp_tree.specs.declared.checked.KindOf.TheVariants as kind
 use Rattle.sp_tree.specs.declared.named.NamedConstant.{NamedConstant}
 use Rattle.sp_tree.specs.declared.named.NamedConstant.TheVariants as constant
 use Rattle.sp_tree.specs.declared.named.NamedKindForm.{NamedKindForm}
 use Rattle.sp_tree.specs.declared.named.NamedKindForm.TheVariants as form
 use Rattle.sp_tree.specs.Cells.{first_or}
 use Rattle.sp_types.specs.declared.tables.Ordinal.{Ordinal}
-use Rattle.sp_types.specs.Tables.{number_by, next_by, numbers_from, type_number, kinds_by, kinds_from, array_of, numbers_of, constants_of, env_of}
+use Rattle.sp_types.specs.Tables.{number_by, next_by, numbers_from, type_number, kinds_by, kinds_from, numbers_of, constants_of, env_of}
 use Rattle.sp_types.specs.TypeRules.{is_ordinal}
 use Rattle.sp_facts.specs.Given.{AreEnumerated, IsGiven}
 use Rattle.sp_facts.proofs.KindFacts.{keeps}

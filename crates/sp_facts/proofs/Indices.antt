@@ -1,6 +1,5 @@
 -- The index of a forall has in the tree the type of its first limit: no other statement gives it one.
-use Rattle.std.proofs.Common.{◌≡◌, ◌⊎◌, inl, inr, refl, ap, sym, ◌∙◌, subst, ℕ, zero, suc, ◌+◌, ◌<◌, ◌≤◌, List, [], ◌∷◌, ◌++◌, Option, Some, None, Bool, true, false, length, slice_get, slice_set, arith}
-use Rattle.sp_base.specs.declared.place.Place.{Place}
+use Rattle.std.proofs.Common.{◌≡◌, ◌⊎◌, inl, inr, refl, ap, sym, ◌∙◌, subst, ℕ, suc, ◌<◌, ◌≤◌, List, [], ◌∷◌, Option, Some, Bool, true, false, length, slice_get, slice_set, arith}
 use Rattle.std.specs.Prelude.{nat_le}
 use Rattle.sp_tree.specs.declared.checked.Role.TheVariants as role
 use Rattle.sp_tree.specs.Plain.{Program, Variable}
@@ -8,12 +7,12 @@ use Rattle.sp_tree.specs.PlainNamed as n
 use Rattle.sp_tree.specs.PlainNamed.{Statement, Does, Form, Empty, Assign, Call, Perform, Sequence, If, While, Repeat, Case, For, Parallel, Forall, Assume, Other, NoElse, Else, Statements, NoStatement, AndThen, On, Arms, NoArm, Or, Branches, NoBranch, Beside}
 use Rattle.sp_types.specs.Tables.{Env, counted, indexed}
 use Rattle.sp_types.specs.Kinds.{expression_kind}
-use Rattle.sp_types.specs.TypeWalk.{started, blocks_after, statement_after, statements_after, arms_after, branches_after, form_after, other_after, counted_by, parts_count, single_count}
+use Rattle.sp_types.specs.TypeWalk.{started, blocks_after, statement_after, statements_after, arms_after, branches_after, form_after}
 use Rattle.sp_types.specs.CheckedTree.{or_zero}
-use Rattle.sp_facts.specs.Knows.{IsTyped, IsTypedForm, IsTypedOther, AreTyped, AreTypedArms, AreTypedBranches}
+use Rattle.sp_facts.specs.Knows.{IsTyped, IsTypedForm, AreTyped, AreTypedArms, AreTypedBranches}
 use Rattle.sp_code.specs.Stands.{NoIndex}
 use Rattle.sp_facts.specs.TypedBlocks.{AreBlocksTyped}
-use Rattle.sp_facts.specs.Numbered.{ends, ends_form, ends_other, ends_all, ends_arms, ends_branches, IsNumbered, IsNumberedForm, IsNumberedOther, AreNumbered, AreNumberedArms, AreNumberedBranches}
+use Rattle.sp_facts.specs.Numbered.{ends, ends_form, ends_all, ends_arms, ends_branches, IsNumbered, IsNumberedForm, AreNumbered, AreNumberedArms, AreNumberedBranches}
 use Rattle.sp_facts.proofs.Statements.{get_set, get_other, set_length}
 use Rattle.sp_facts.proofs.Tree.{statement_length, statements_length}
 

@@ -1,7 +1,6 @@
 -- What the answers of the phases say: where a tree comes out, no rule is broken, and the tree is the one of the definitions.
-use Rattle.std.proofs.Common.{◌≡◌, List, [], Option, Some, None, Ok, refl, sym, ◌∙◌}
-use Rattle.sp_base.specs.declared.halt.Refusal.{Refusal}
-use Rattle.sp_tree.specs.Found.{Found, outcome, taken}
+use Rattle.std.proofs.Common.{◌≡◌, [], Some, None, Ok, refl, sym, ◌∙◌}
+use Rattle.sp_tree.specs.Found.{Found, outcome}
 use Rattle.sp_tree.specs.PlainSyntax as syntax
 use Rattle.sp_tree.specs.PlainNamed as n
 use Rattle.sp_tree.specs.PlainChecked as c

@@ -1,6 +1,6 @@
 -- Where no rule of types is broken, an array or record is of earlier types, and an array is not empty.
-use Rattle.std.proofs.Common.{◌≡◌, ◌⊎◌, inl, inr, refl, ap, sym, ◌∙◌, subst, ℕ, zero, suc, ◌+◌, ◌≤◌, List, [], ◌∷◌, ◌++◌, Option, Some, None, Bool, true, false, if◌then◌else◌, ◌&&◌, length, slice_get, arith}
-use Rattle.std.specs.Prelude.{ℤ, pos, int_le, not, nat_eq, map, ◌||◌}
+use Rattle.std.proofs.Common.{◌≡◌, refl, ap, sym, subst, ℕ, zero, suc, ◌+◌, ◌≤◌, List, [], ◌∷◌, ◌++◌, Option, Some, Bool, true, false, if◌then◌else◌, ◌&&◌, length, slice_get, arith}
+use Rattle.std.specs.Prelude.{pos, int_le, not, nat_eq, map, ◌||◌}
 use Rattle.std.proofs.lemmas.List.{length-append}
 use Rattle.sp_base.specs.declared.rule.Rule.TheVariants as rule
 use Rattle.sp_tree.specs.declared.checked.KindOf.{KindOf}
@@ -14,11 +14,11 @@ use Rattle.sp_tree.specs.PlainSyntax as syntax
 use Rattle.sp_tree.specs.NamedTree.{program_named}
 use Rattle.sp_tree.specs.NameFirst.{names_broken}
 use Rattle.sp_types.specs.TypeFirst.{types_broken}
-use Rattle.sp_facts.proofs.EarlierFacts.{program_earlier}
+use Rattle.sp_facts.proofs.Declared.{program_earlier}
 use Rattle.sp_tree.specs.Found.{listed}
 use Rattle.sp_tree.specs.NameFirst.{together}
 use Rattle.sp_types.specs.declared.tables.Ordinal.{Ordinal}
-use Rattle.sp_types.specs.Tables.{constants_of, numbers_of, env_of, number_by, next_by, numbers_from, type_number, const_value, value_by, has_wrong_sign, is_long, are_wrong, are_bounds, number_or, type_or, array_of, kinds_by, kinds_from}
+use Rattle.sp_types.specs.Tables.{constants_of, numbers_of, env_of, number_by, next_by, numbers_from, type_number, const_value, value_by, has_wrong_sign, is_long, are_wrong, number_or, type_or, array_of, kinds_by, kinds_from}
 use Rattle.sp_types.specs.TypeRules.{const_rule, bounds_rule}
 use Rattle.sp_types.specs.TypeWalk as w
 use Rattle.sp_tree.specs.Formed.{AreBefore}

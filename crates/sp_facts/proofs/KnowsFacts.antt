@@ -1,6 +1,6 @@
 -- The tables of the phase of types say what the tree is.
-use Rattle.std.proofs.Common.{◌≡◌, ◌⊎◌, inl, inr, refl, ap, sym, ◌∙◌, subst, ℕ, zero, suc, ◌+◌, ◌≤◌, ◌==◌, List, [], ◌∷◌, ◌++◌, Option, Some, None, Bool, true, false, if◌then◌else◌, length, slice_get, arith}
-use Rattle.std.specs.Prelude.{ℤ, map}
+use Rattle.std.proofs.Common.{◌≡◌, inl, inr, refl, ap, sym, ◌∙◌, subst, ℕ, zero, suc, ◌+◌, ◌≤◌, ◌==◌, List, [], ◌∷◌, Option, Some, Bool, true, false, if◌then◌else◌, length, slice_get, arith}
+use Rattle.std.specs.Prelude.{map}
 use Rattle.sp_tree.specs.declared.checked.KindOf.{KindOf}
 use Rattle.sp_tree.specs.declared.checked.KindOf.TheVariants as kind
 use Rattle.sp_tree.specs.declared.checked.Role.{Role}
@@ -12,7 +12,6 @@ use Rattle.sp_tree.specs.Plain as plain
 use Rattle.sp_tree.specs.PlainNamed as n
 use Rattle.sp_tree.specs.PlainOf.{variable_of}
 use Rattle.sp_tree.specs.PlainSyntax as syntax
-use Rattle.sp_types.specs.declared.tables.Signature.{Signature}
 use Rattle.sp_types.specs.Tables.{Env, entry, env_of, types_of, type_of, type_number, roles_of, signatures, numbers_of, constants_of, variable_kind}
 use Rattle.sp_types.specs.TypeRules.{is_ordinal}
 use Rattle.sp_types.specs.TypeFirst.{types_broken}
@@ -20,22 +19,20 @@ use Rattle.sp_types.specs.TypeWalk.{started, starts_of, statement_after, blocks_
 use Rattle.sp_types.specs.CheckedTree.{checked_variables, checked_blocks, checked_block, or_zero}
 use Rattle.sp_tree.specs.Bare.{bare_block}
 use Rattle.sp_tree.specs.Formed.{AreBefore, is_parameter, among}
-use Rattle.sp_facts.specs.Earlier.{IsFormedKind, AreFormedKinds}
-use Rattle.sp_facts.specs.Knows.{IsKind, IsFormal, AreFormals, Knows}
+use Rattle.sp_facts.specs.Earlier.{HaveTypes, IsFormedKind, AreFormedKinds}
+use Rattle.sp_facts.specs.Knows.{IsKind, AreFormals, Knows}
 use Rattle.sp_code.specs.Stands.{NoIndex}
 use Rattle.sp_facts.specs.Given.{IsGiven, AreBoundsBehind}
 use Rattle.sp_tree.specs.Found.{listed}
 use Rattle.sp_tree.specs.Cells.{sizes}
 use Rattle.sp_types.specs.TypeWalk as w
 use Rattle.sp_facts.proofs.Calm.{calm_parts}
-use Rattle.sp_facts.proofs.ConstantNames.{program_behind}
 use Rattle.sp_facts.proofs.ConstantFacts.{IsKnown, constants_known, bounds_known, index_ordinal}
 use Rattle.sp_facts.proofs.Indices.{others_stay}
 use Rattle.sp_facts.proofs.KindFacts.{formed_at, program_formed, number_there}
-use Rattle.sp_facts.proofs.VariableKinds.{AllKinds, program_kinds}
+use Rattle.sp_facts.proofs.Declared.{program_behind, program_typed}
 use Rattle.sp_facts.proofs.Program.{named, tree, formals, results}
 use Rattle.sp_facts.proofs.SpanFacts.{spans, has_, room_, types_length}
-use Rattle.sp_facts.proofs.Tree.{final_length}
 
 same_variable : (a b : plain.Variable) → Some a ≡ Some b → a ≡ b
 same_variable a b e = cc e
@@ -47,7 +44,7 @@ roles_at (k ∷ ks) (u ∷ us) zero v e = ap (λ (z : plain.Variable). Some z.ro
 roles_at (k ∷ ks) (u ∷ us) (suc x) v e = roles_at ks us x v e
 
 -- a variable of the tree is one of the tree with numbers for names
-variable_from : (ks : List (Option ℕ)) (us : List checked.Variable) (x : ℕ) (v : plain.Variable) → slice_get (map variable_of (checked_variables ks us)) x ≡ Some v → (u : checked.Variable) × (slice_get us x ≡ Some u) × (v.role ≡ u.role) × (v.block ≡ u.block)
+pub variable_from : (ks : List (Option ℕ)) (us : List checked.Variable) (x : ℕ) (v : plain.Variable) → slice_get (map variable_of (checked_variables ks us)) x ≡ Some v → (u : checked.Variable) × (slice_get us x ≡ Some u) × (v.role ≡ u.role) × (v.block ≡ u.block)
 variable_from ks [] x v e = absurd (cc e)
 variable_from [] (u ∷ us) x v e = absurd (cc e)
 variable_from (k ∷ ks) (u ∷ us) zero v e = let s = same_variable (variable_of (record u { kind = or_zero k })) v e in (u, refl, ap (λ (z : plain.Variable). z.role) (sym s), ap (λ (z : plain.Variable). z.block) (sym s))
@@ -98,12 +95,12 @@ among_formals p f k (v ∷ vs) h = go (v.block == f) (among_formals p f (suc k) 
     go true r = one v.role refl r
     go false r = r
 
-within : (ts : List KindOf) (k : ℕ) (t : KindOf) → slice_get ts k ≡ Some t → suc k ≤ length ts
+pub within : (ts : List KindOf) (k : ℕ) (t : KindOf) → slice_get ts k ≡ Some t → suc k ≤ length ts
 within [] k t e = absurd (cc e)
 within (u ∷ ts) zero t e = omega arith
 within (u ∷ ts) (suc k) t e = let l = within ts k t e in omega (arith, l)
 
-there : (ts : List KindOf) (k : ℕ) → suc k ≤ length ts → (t : KindOf) × (slice_get ts k ≡ Some t)
+pub there : (ts : List KindOf) (k : ℕ) → suc k ≤ length ts → (t : KindOf) × (slice_get ts k ≡ Some t)
 there [] k l = absurd (omega (arith, l))
 there (u ∷ ts) zero l = (u, refl)
 there (u ∷ ts) (suc k) l = there ts k (omega (arith, l))
@@ -116,7 +113,7 @@ before_at k (g ∷ fs) zero x h e = subst (λ (z : List ℕ × ℕ). suc z.1 ≤
     same a b e = cc e
 before_at k (g ∷ fs) (suc f) x h e = before_at k fs f x h.1 e
 
-kind_low : (k : ℕ) (us : List checked.Variable) (x : ℕ) (u : checked.Variable) → AllKinds k us → slice_get us x ≡ Some u → suc u.kind ≤ k
+pub kind_low : (k : ℕ) (us : List checked.Variable) (x : ℕ) (u : checked.Variable) → HaveTypes k us → slice_get us x ≡ Some u → suc u.kind ≤ k
 kind_low k [] x u h e = absurd (cc e)
 kind_low k (w ∷ us) zero u h e = subst (λ (z : checked.Variable). suc z.kind ≤ k) (same w u e) h.0
   where
@@ -156,7 +153,7 @@ module _ (s : syntax.Program) (calm : names_broken s ≡ []) (no_types : types_b
       let one = calm_parts (w.constants_sites [] together listed (constants_of n_) n_.constants) (together kinds (together cells rest)) no_types in
       (one.0, (calm_parts kinds (together cells rest) one.1).0)
 
-  known : IsKnown p_.kinds refl refl (constants_of n_) × (length (constants_of n_) ≡ 0 + length n_.constants)
+  pub known : IsKnown p_.kinds refl refl (constants_of n_) × (length (constants_of n_) ≡ 0 + length n_.constants)
   known = constants_known p_.kinds refl refl (numbers_of n_) (constants_of n_) [] n_.constants (λ i l. absurd (none i l)) (program_behind s calm given).0 calm_tables.0
     where
       none : (i : ℕ) → suc i ≤ 0 → ⊥
@@ -171,7 +168,7 @@ module _ (s : syntax.Program) (calm : names_broken s ≡ []) (no_types : types_b
   pub kinds_are_formed : AreFormedKinds 0 p_.kinds
   kinds_are_formed = program_formed s calm no_types (bounds_known p_.kinds refl refl (constants_of n_) n_.kinds known.0 bounds calm_tables.1)
 
-  formed : (k : ℕ) (t : KindOf) → slice_get p_.kinds k ≡ Some t → IsFormedKind k t
+  pub formed : (k : ℕ) (t : KindOf) → slice_get p_.kinds k ≡ Some t → IsFormedKind k t
   formed k t e = subst (λ z. IsFormedKind z t) (let z : 0 + k ≡ k = omega arith in z) (formed_at 0 k p_.kinds t (program_formed s calm no_types (bounds_known p_.kinds refl refl (constants_of n_) n_.kinds known.0 bounds calm_tables.1)) e)
 
   lower : (k j : ℕ) (t : KindOf) → slice_get p_.kinds k ≡ Some t → suc j ≤ k → IsKind p_ j
@@ -180,7 +177,7 @@ module _ (s : syntax.Program) (calm : names_broken s ≡ []) (no_types : types_b
   variable_is : (x : ℕ) (v : plain.Variable) → slice_get p_.variables x ≡ Some v → NoIndex v.role → (variable_kind (env_of n_) x ≡ Some v.kind) × IsKind p_ v.kind
   variable_is x v at d =
       let w = variable_type s calm x v at d in
-      (ap entry w.2 ∙ ap Some (sym w.3), subst (IsKind p_) (sym w.3) (there p_.kinds (type_number (numbers_of n_) w.0.kind) (number_there s calm w.0.kind (kind_low (length n_.kinds) n_.variables x w.0 (program_kinds s calm) w.1))))
+      (ap entry w.2 ∙ ap Some (sym w.3), subst (IsKind p_) (sym w.3) (there p_.kinds (type_number (numbers_of n_) w.0.kind) (number_there s calm w.0.kind (kind_low (length n_.kinds) n_.variables x w.0 (program_typed s calm) w.1))))
 
   pub knows : (answers_ : (f : ℕ) (b : plain.Block) (x : ℕ) (v : plain.Variable) → slice_get (tree s calm).blocks f ≡ Some b → b.answer ≡ Some x → slice_get (tree s calm).variables x ≡ Some v → is_ordinal (slice_get (tree s calm).kinds v.kind) ≡ true) → Knows p_ (length n_.constants) (env_of n_)
   knows answers_ = record {

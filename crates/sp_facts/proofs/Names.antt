@@ -1,37 +1,32 @@
 -- Where no rule of names is broken, each name in an expression is of a visible declaration.
-use Rattle.std.proofs.Common.{◌≡◌, ◌⊎◌, inl, inr, refl, ap, sym, ◌∙◌, subst, ℕ, zero, suc, ◌+◌, ◌≤◌, ◌==◌, List, [], ◌∷◌, ◌++◌, Option, Some, None, Bool, true, false, if◌then◌else◌, length, slice_get, arith, eq-eqb}
+use Rattle.std.proofs.Common.{◌≡◌, ◌⊎◌, inl, inr, refl, ap, sym, ◌∙◌, subst, ℕ, suc, ◌==◌, List, [], ◌∷◌, Option, Some, None, Bool, true, false, if◌then◌else◌, length, slice_get, arith, eq-eqb}
 use Rattle.std.specs.Prelude.{not, nat_eq, ◌&&◌, drop}
-use Rattle.std.specs.Map.{lookup}
 use Rattle.std.specs.Str.{bytes_eq}
 use Rattle.sp_base.specs.declared.place.Place.{Place}
 use Rattle.sp_base.specs.declared.rule.Rule.TheVariants as rule
-use Rattle.sp_base.specs.declared.halt.Refusal.{Refusal}
 use Rattle.sp_tree.specs.declared.checked.Role.{Role}
 use Rattle.sp_tree.specs.declared.checked.Role.TheVariants as role
-use Rattle.sp_tree.specs.declared.operators.StandardFn.{StandardFn}
 use Rattle.sp_tree.specs.declared.meaning.Meaning.{Meaning}
 use Rattle.sp_tree.specs.declared.meaning.Meaning.TheVariants as meaning
 use Rattle.sp_tree.specs.declared.meaning.Passing.{Passing}
-use Rattle.sp_tree.specs.declared.meaning.Passing.TheVariants as passing
 use Rattle.sp_tree.specs.declared.syntax.Name.{Name}
-use Rattle.sp_tree.specs.Found.{Found, breaks, breaks_if, lesser, listed}
 use Rattle.sp_tree.specs.NameFirst.{together, all_at}
-use Rattle.sp_tree.specs.NameRules.{Site, Operand, Targets, Computes, Bare, Widens, broken, operand_rule, alone_rule, selects_rule, function_rule, function_takes, target_rule, variable_rule, next_passing, others, references_of, rest_of, aims, same_place}
+use Rattle.sp_tree.specs.NameRules.{Operand, Targets, Computes, Bare, Widens, operand_rule, function_rule, function_takes, target_rule, variable_rule, next_passing, others, references_of, rest_of, aims, same_place}
 use Rattle.sp_tree.specs.Scopes as names
 use Rattle.sp_tree.specs.Scopes.{Env, look, find, find_in, or_else}
 use Rattle.sp_tree.specs.NameWalk as w
 use Rattle.sp_tree.specs.NameWalk.{role_of}
 use Rattle.sp_tree.specs.NamedOf as of_
 use Rattle.sp_tree.specs.PlainNamed as n
-use Rattle.sp_tree.specs.NamedTree.{variable_number, operand_named, function_named, named_expression, named_form, named_operand, named_selectors, named_selector, named_arguments, named_argument, named_width}
-use Rattle.sp_tree.specs.PlainSyntax.{Expression, At, ExpressionForm, Number, Quoted, Read, Apply, Unary, Binary, Variable, Entire, Selector, Index, Field, Selectors, Whole, Select, Argument, Pass, Width, NoWidth, Within, Arguments, NoArgument, AndArgument}
+use Rattle.sp_tree.specs.NamedTree.{variable_number, operand_named, function_named, named_expression, named_form, named_selectors, named_arguments, named_width}
+use Rattle.sp_tree.specs.PlainSyntax.{Expression, At, ExpressionForm, Number, Quoted, Read, Apply, Unary, Binary, Entire, Index, Field, Selectors, Whole, Select, Pass, Width, NoWidth, Within, Arguments, NoArgument, AndArgument}
 use Rattle.sp_tree.specs.Plain as plain
 use Rattle.sp_code.specs.Scopes.{Scope, OfBlock, OfIndex, is_block, is_index, level, one_more, scopes_of}
 use Rattle.sp_types.specs.TypeWalk.{count, is_variable}
 use Rattle.sp_code.specs.Stands.{NoIndex}
-use Rattle.sp_facts.specs.Scoped.{SeenIn, SeenRole, AimedIn, AimedExpression, CallIn, AroundIn, InExpression, InForm, InVariable, InSelectors, InActuals, InArguments, InWidth}
+use Rattle.sp_facts.specs.Scoped.{SeenIn, SeenRole, AimedIn, AimedExpression, CallIn, AroundIn, InExpression, InForm, InSelectors, InActuals, InArguments, InWidth}
 use Rattle.sp_facts.specs.Visible.{IsScope, AreFlags, IsAround, IsBlockIn, IsValid, AreValid, AllValid, IsVisible, IsChain}
-use Rattle.sp_facts.proofs.Calm.{calm_parts, calm_site, calm_at, calm_lesser, calm_if, nat_eq_is, not_true}
+use Rattle.sp_facts.proofs.Calm.{calm_parts, calm_site, calm_at, calm_if, nat_eq_is, not_true}
 
 -- ---- scopes of the code
 

@@ -1,52 +1,25 @@
 -- The indices of the foralls in a statement have one number after the other.
-use Rattle.std.proofs.Common.{◌≡◌, ◌⊎◌, inl, inr, refl, ap, sym, ◌∙◌, subst, ℕ, zero, suc, ◌+◌, ◌≤◌, ◌==◌, List, [], ◌∷◌, ◌++◌, Option, Some, None, Bool, true, false, if◌then◌else◌, length, slice_get, arith, eq-eqb}
-use Rattle.std.specs.Prelude.{not, nat_eq, ◌&&◌, drop}
-use Rattle.std.specs.Map.{lookup}
-use Rattle.std.specs.Str.{bytes_eq}
-use Rattle.sp_base.specs.declared.place.Place.{Place}
-use Rattle.sp_base.specs.declared.rule.Rule.TheVariants as rule
-use Rattle.sp_base.specs.declared.halt.Refusal.{Refusal}
-use Rattle.sp_tree.specs.declared.checked.Role.{Role}
+use Rattle.std.proofs.Common.{◌≡◌, refl, ap, sym, ◌∙◌, subst, ℕ, suc, List, [], Option, Some, None, arith}
 use Rattle.sp_tree.specs.declared.checked.Role.TheVariants as role
-use Rattle.sp_tree.specs.declared.operators.StandardFn.{StandardFn}
 use Rattle.sp_tree.specs.declared.meaning.Meaning.{Meaning}
 use Rattle.sp_tree.specs.declared.meaning.Meaning.TheVariants as meaning
-use Rattle.sp_tree.specs.declared.meaning.Passing.{Passing}
-use Rattle.sp_tree.specs.declared.meaning.Passing.TheVariants as passing
-use Rattle.sp_tree.specs.declared.syntax.Name.{Name}
-use Rattle.sp_tree.specs.Found.{Found, breaks, breaks_if, lesser, listed}
 use Rattle.sp_tree.specs.NameFirst.{together, all_at}
-use Rattle.sp_tree.specs.NameRules.{Site, Operand, Targets, Computes, Bare, Widens, broken, operand_rule, alone_rule, selects_rule, function_rule, function_takes, target_rule, variable_rule, next_passing, others, references_of, rest_of, aims, same_place}
 use Rattle.sp_tree.specs.Scopes as names
 use Rattle.sp_tree.specs.Scopes.{Env, look, find, find_in, or_else}
 use Rattle.sp_tree.specs.NameWalk as w
 use Rattle.sp_tree.specs.NameWalk.{role_of}
 use Rattle.sp_tree.specs.NamedOf as of_
 use Rattle.sp_tree.specs.PlainNamed as n
-use Rattle.sp_tree.specs.NamedTree.{variable_number, operand_named, function_named, named_expression, named_form, named_operand, named_selectors, named_selector, named_arguments, named_argument, named_width}
-use Rattle.sp_tree.specs.PlainSyntax.{Expression, At, ExpressionForm, Number, Quoted, Read, Apply, Unary, Binary, Variable, Entire, Selector, Index, Field, Selectors, Whole, Select, Argument, Pass, Width, NoWidth, Within, Arguments, NoArgument, AndArgument}
-use Rattle.sp_tree.specs.Plain as plain
-use Rattle.sp_code.specs.Scopes.{Scope, OfBlock, OfIndex, is_block, is_index, level, one_more, scopes_of}
-use Rattle.sp_types.specs.TypeWalk.{count, is_variable}
-use Rattle.sp_code.specs.Stands.{NoIndex}
-use Rattle.sp_facts.specs.Scoped.{SeenIn, SeenRole, AimedIn, AimedExpression, CallIn, AroundIn, InExpression, InForm, InVariable, InSelectors, InActuals, InArguments, InWidth}
-use Rattle.sp_facts.specs.Visible.{IsScope, AreFlags, IsAround, IsBlockIn, IsValid, AreValid, AllValid, IsVisible, IsChain}
-use Rattle.sp_facts.proofs.Calm.{calm_parts, calm_site, calm_at, calm_lesser, calm_if, nat_eq_is, not_true}
-use Rattle.std.proofs.lemmas.List.{length-append}
-use Rattle.sp_tree.specs.declared.checked.Variable as checked
-use Rattle.sp_tree.specs.declared.meaning.StandardProcedure.{StandardProcedure}
-use Rattle.sp_tree.specs.declared.meaning.StandardProcedure.TheVariants as procedure
+use Rattle.sp_tree.specs.NamedTree.{named_arguments}
+use Rattle.sp_facts.proofs.Calm.{calm_parts}
 use Rattle.sp_tree.specs.declared.meaning.Sort.TheVariants as sort
-use Rattle.sp_tree.specs.declared.syntax.SynConst.{SynConst}
-use Rattle.sp_tree.specs.NameRules.{Declares, Assigns, Loops, Runs, procedure_rule, procedure_takes, assign_rule, loop_rule, is_local}
+use Rattle.sp_tree.specs.NameRules.{Declares, Loops}
 use Rattle.sp_tree.specs.Scopes.{Local, inside, opened, declared, most, variable, next_variable}
 use Rattle.sp_tree.specs.NameWalk.{statement_local, statements_local, other_local, arms_local, arm_local, branches_local, form_local, indexed, deeper}
-use Rattle.sp_tree.specs.NamedTree.{assigned_number, procedure_named, named_target, named_statement, named_statement_form, named_other, named_statements, named_arms, named_arm, named_branches, indices, form_indices, other_indices, statements_indices, arms_indices, arm_indices, branches_indices}
-use Rattle.sp_tree.specs.PlainSyntax.{Statement, Does, Form, Empty, Assign, Call, Sequence, If, While, Repeat, Case, For, Parallel, Forall, Assume, Other, NoElse, Else, Statements, NoStatement, AndThen, Arm, On, Arms, NoArm, Or, Branches, NoBranch, Beside}
-use Rattle.sp_facts.specs.Scoped.{IsInForall, ForIn, AreAimed, AreAimedLater, AimsOf, InStatement, InStatementForm, InOther, InStatements, InArms, InBranches}
-use Rattle.sp_facts.proofs.Names.{level_block, IsFound, find_valid, seen, aimed, called, target_in, expression_in, selectors_in, arguments_in, actuals_in, counts, passed_in}
-use Rattle.sp_facts.proofs.Numbering.{room_at, Adds, statement_adds, statements_adds, arms_adds, branches_adds, other_adds}
-use Rattle.sp_facts.specs.Numbered.{ends, ends_form, ends_other, ends_all, ends_arms, ends_branches, IsNumbered, IsNumberedForm, IsNumberedOther, AreNumbered, AreNumberedArms, AreNumberedBranches}
+use Rattle.sp_tree.specs.NamedTree.{procedure_named, named_statement, named_statement_form, named_statements, named_arms, named_branches}
+use Rattle.sp_tree.specs.PlainSyntax.{Statement, Does, Form, Empty, Assign, Call, Sequence, If, While, Repeat, Case, For, Parallel, Forall, Assume, NoElse, Else, Statements, NoStatement, AndThen, On, Arms, NoArm, Or, Branches, NoBranch, Beside}
+use Rattle.sp_facts.proofs.Numbering.{room_at}
+use Rattle.sp_facts.specs.Numbered.{ends, ends_form, ends_all, ends_arms, ends_branches, IsNumbered, IsNumberedForm, AreNumbered, AreNumberedArms, AreNumberedBranches}
 use Rattle.sp_facts.proofs.Numbering.{one_variable}
 
 call_numbered : (k : ℕ) (o : Option Meaning) (args : n.Arguments) → IsNumberedForm k (procedure_named o args) × (ends_form k (procedure_named o args) ≡ k)

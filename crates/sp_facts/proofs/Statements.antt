@@ -1,59 +1,44 @@
 -- Where no rule of types is broken, and each name is of a visible declaration, a statement is fine.
-use Rattle.std.proofs.Common.{◌≡◌, ◌⊎◌, inl, inr, refl, ap, sym, ◌∙◌, subst, ℕ, zero, suc, ◌+◌, ◌≤◌, List, [], ◌∷◌, ◌++◌, Option, Some, None, Bool, true, false, if◌then◌else◌, length, slice_get, slice_set, arith, ⊎_elim, eq-eqb, eqb-true, ◌==◌}
-use Rattle.std.specs.Prelude.{ℤ, pos, not, nat_eq, ◌||◌}
-use Rattle.std.specs.Str.{bytes_eq}
+use Rattle.std.proofs.Common.{◌≡◌, ◌⊎◌, inl, inr, refl, ap, sym, ◌∙◌, subst, ℕ, zero, suc, ◌+◌, ◌≤◌, List, [], ◌∷◌, Option, Some, None, Bool, true, false, if◌then◌else◌, length, slice_get, slice_set, arith, eq-eqb, eqb-true, ◌==◌}
+use Rattle.std.specs.Prelude.{ℤ, nat_eq}
 use Rattle.sp_base.specs.declared.place.Place.{Place}
 use Rattle.sp_base.specs.declared.rule.Rule.{Rule}
 use Rattle.sp_base.specs.declared.rule.Rule.TheVariants as rule
-use Rattle.sp_base.specs.declared.halt.Refusal.{Refusal}
 use Rattle.sp_tree.specs.declared.checked.KindOf.{KindOf}
 use Rattle.sp_tree.specs.declared.checked.KindOf.TheVariants as kind
-use Rattle.sp_tree.specs.declared.checked.Role.{Role}
 use Rattle.sp_tree.specs.declared.checked.Role.TheVariants as role
-use Rattle.sp_tree.specs.declared.operators.UnaryOp.{UnaryOp}
-use Rattle.sp_tree.specs.declared.operators.UnaryOp.TheVariants as unary
-use Rattle.sp_tree.specs.declared.operators.BinaryOp.{BinaryOp}
-use Rattle.sp_tree.specs.declared.operators.BinaryOp.TheVariants as binary
-use Rattle.sp_tree.specs.declared.operators.StandardFn.{StandardFn}
-use Rattle.sp_tree.specs.declared.operators.StandardFn.TheVariants as fn
-use Rattle.sp_tree.specs.Found.{Found, breaks, breaks_if, lesser, listed}
+use Rattle.sp_tree.specs.Found.{listed}
 use Rattle.sp_tree.specs.NameFirst.{together}
-use Rattle.sp_tree.specs.NameRules.{function_takes}
 use Rattle.sp_tree.specs.Plain.{Program, Variable, Block, Stmt, Expr, ExprForm, Actuals}
 use Rattle.sp_tree.specs.Plain as plain
 use Rattle.sp_tree.specs.PlainNamed as n
 use Rattle.sp_code.specs.Scopes.{Sort, Ordinals, Channels, Many, NoSort, kind_of, Scope, is_block, is_index, level, sort, sort_by}
-use Rattle.sp_code.specs.Places.{after_value, after_form, after_var, after_actuals}
-use Rattle.sp_types.specs.declared.tables.Ordinal.{Ordinal}
-use Rattle.sp_types.specs.declared.tables.Signature.{Signature}
-use Rattle.sp_types.specs.Entries.{field_from}
-use Rattle.sp_types.specs.Tables.{Env, entry, variable_kind, formals_of, formals_in, answer_in, answer_kind, kind_of_variable, ordinal_kind, constant_kind, number_or, char_of}
-use Rattle.sp_types.specs.TypeRules.{is_ordinal, is_channel, ordinal, channel, unless, differ, unary_takes, binary_takes, binary_gives, unary_rule, left_rule, right_rule, index_rule, index_kind_rule, index_of_rule, field_rule, field_found, field_in, actual_rule, value_rule, reference_rule, standard_takes, standard_rule, text_rule}
-use Rattle.sp_types.specs.Kinds.{expression_kind, form_kind, selected, selected_kind, selection, element, element_in, element_of, field, field_kind, standard_gives, if_ordinal, parameter_kind}
+use Rattle.sp_code.specs.Places.{after_value, after_var, after_actuals}
+use Rattle.sp_types.specs.Tables.{Env, entry, variable_kind, formals_of, formals_in}
+use Rattle.sp_types.specs.TypeRules.{is_ordinal, ordinal, unless, differ}
+use Rattle.sp_types.specs.Kinds.{expression_kind, form_kind, selected, element}
 use Rattle.sp_types.specs.TypeWalk.{expression_sites, form_sites, variable_sites, selectors_sites, selector_sites, actuals_sites, actual_sites, standard_sites, place, is_variable, count, formal, others, formal_role, formal_kind}
-use Rattle.sp_types.specs.CheckedTree.{or_zero, checked_expression, checked_form, checked_variable, checked_selectors, checked_actuals, checked_actual, checked_arguments, numbered_field, field_number, passed, referenced}
-use Rattle.sp_tree.specs.PlainChecked as c
+use Rattle.sp_types.specs.CheckedTree.{or_zero, checked_expression, checked_form, checked_variable, checked_actuals}
 use Rattle.sp_tree.specs.CheckedOf as of_
-use Rattle.sp_tree.specs.Bare.{bare_expression, bare_form, bare_variable, bare_selectors, bare_actuals}
-use Rattle.sp_facts.specs.Knows.{IsKind, IsFormal, AreFormals, Knows, HasIndices}
-use Rattle.sp_code.specs.Stands.{ValueAt, FormAt, PlaceAt, VarAt, VarRole, SelectedAt, ActualsAt, ReadAt, UnaryAt, StandardAt, InputAt, Operands, NoIndex, IsTarget, Formal, CallAt, Around, AnyInstr, AnyTable, AnyText}
-use Rattle.sp_facts.specs.Scoped.{SeenIn, SeenRole, AimedIn, AimedExpression, CallIn, AroundIn, InExpression, InForm, InVariable, InSelectors, InActuals, InArguments, InWidth}
-use Rattle.sp_facts.proofs.Calm.{calm_parts, calm_site, calm_at, calm_lesser, calm_if, calm_unless, calm_differ, nat_eq_is, not_true, or_false}
+use Rattle.sp_tree.specs.Bare.{bare_expression, bare_form, bare_variable, bare_actuals}
+use Rattle.sp_facts.specs.Knows.{IsKind, Knows, HasIndices}
+use Rattle.sp_code.specs.Stands.{FormAt, PlaceAt, ActualsAt, NoIndex, AnyInstr, AnyTable, AnyText}
+use Rattle.sp_facts.specs.Scoped.{InExpression}
+use Rattle.sp_facts.proofs.Calm.{calm_parts, calm_site, calm_at, calm_if, calm_unless, calm_differ, nat_eq_is}
 use Rattle.sp_tree.specs.declared.meaning.StandardProcedure.{StandardProcedure}
-use Rattle.sp_tree.specs.declared.named.NamedConst.{NamedConst}
 use Rattle.sp_tree.specs.Uses.{Use, Aims, Spreads, Stops, Runs, In_stmt, In_stmts, In_arms}
-use Rattle.sp_code.specs.Scopes.{OfBlock, OfIndex, one_more}
-use Rattle.sp_code.specs.Places.{after_right, after_width, after_test, after_tests, after, after_children, after_arms}
+use Rattle.sp_code.specs.Scopes.{OfIndex, one_more}
+use Rattle.sp_code.specs.Places.{after_test, after_tests, after, after_arms}
 use Rattle.sp_types.specs.Tables.{counted, indexed}
 use Rattle.sp_types.specs.TypeRules.{condition_rule, assign_rule, range_rule, limit_rule, selector_rule}
 use Rattle.sp_types.specs.TypeWalk as w
 use Rattle.sp_types.specs.TypeWalk.{statement_after, statements_after, arm_after, other_after, branches_after, arms_after, form_after, counted_by, parts_count, single_count}
-use Rattle.sp_types.specs.CheckedTree.{checked_statement, checked_statement_form, checked_statements, checked_other, checked_arms, checked_arm, checked_branches, in_sequence, first_place, constant_numbers}
+use Rattle.sp_types.specs.CheckedTree.{checked_statement, checked_statement_form, checked_statements, checked_arms, checked_branches, in_sequence, first_place, constant_numbers}
 use Rattle.sp_tree.specs.Bare.{bare_statement, bare_statement_form, bare_statements, bare_arms}
-use Rattle.sp_facts.specs.Knows.{IsTyped, IsTypedForm, IsTypedOther, AreTyped, AreTypedArms, AreTypedBranches}
-use Rattle.sp_code.specs.Stands.{Hushed, StandsAt, AllAt, ChildrenAt, ArmsAt, RightAt, OrdinalAt, TestAt, TestsAt, TurnsAt, ForVar}
-use Rattle.sp_facts.specs.Scoped.{IsInForall, InStatement, InStatementForm, InOther, InStatements, InArms, InBranches}
-use Rattle.sp_facts.proofs.Expressions.{form_fine, some_is, ordinal_sort, ordinal_there, expression_fine, variable_fine, selectors_fine, actuals_fine, entire_fine, call_at, ValueIs, ordinal_is, boolean_is}
+use Rattle.sp_facts.specs.Knows.{IsTyped, IsTypedForm, AreTyped, AreTypedArms, AreTypedBranches}
+use Rattle.sp_code.specs.Stands.{Hushed, StandsAt, AllAt, ChildrenAt, ArmsAt, RightAt, OrdinalAt, TestAt, TestsAt}
+use Rattle.sp_facts.specs.Scoped.{IsInForall, InStatement, InStatementForm, InStatements, InArms, InBranches}
+use Rattle.sp_facts.proofs.Expressions.{form_fine, some_is, ordinal_sort, expression_fine, variable_fine, actuals_fine, call_at, ordinal_is, boolean_is}
 
 -- ---- what is known goes on
 

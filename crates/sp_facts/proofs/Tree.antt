@@ -1,21 +1,19 @@
 -- The tree of a program, piece by piece, is that of its tree with numbers for names: blocks, roles and blocks of variables.
-use Rattle.std.proofs.Common.{◌≡◌, ◌⊎◌, inl, inr, refl, ap, sym, ◌∙◌, subst, ℕ, zero, suc, ◌+◌, ◌≤◌, ◌==◌, List, [], ◌∷◌, ◌++◌, Option, Some, None, Bool, true, false, if◌then◌else◌, ◌&&◌, length, slice_get, slice_set, arith, eq-eqb}
+use Rattle.std.proofs.Common.{◌≡◌, refl, ap, sym, ◌∙◌, subst, ℕ, zero, suc, ◌+◌, ◌≤◌, ◌==◌, List, [], ◌∷◌, Option, Some, None, Bool, if◌then◌else◌, ◌&&◌, length, slice_get, slice_set, arith}
 use Rattle.std.specs.Prelude.{map}
 use Rattle.sp_base.specs.declared.place.Place.{Place}
 use Rattle.sp_tree.specs.declared.checked.Role.{Role}
-use Rattle.sp_tree.specs.declared.checked.Role.TheVariants as role
 use Rattle.sp_tree.specs.declared.checked.Variable as checked
-use Rattle.sp_tree.specs.Cells.{variables_of}
 use Rattle.sp_tree.specs.PlainOf.{variable_of}
 use Rattle.sp_tree.specs.Plain as plain
 use Rattle.sp_tree.specs.PlainNamed as n
 use Rattle.sp_tree.specs.PlainNamed.{Statement, Does, Form, Empty, Assign, Call, Perform, Sequence, If, While, Repeat, Case, For, Parallel, Forall, Assume, NoElse, Else, Statements, NoStatement, AndThen, On, Arms, NoArm, Or, Branches, NoBranch, Beside}
-use Rattle.sp_code.specs.Scopes.{Scope, OfBlock, scopes_by, scopes_of, parent_of}
+use Rattle.sp_code.specs.Scopes.{OfBlock, scopes_by, scopes_of, parent_of}
 use Rattle.sp_types.specs.Tables.{Env, answer_variable, counted, indexed, env_of, types_of, numbers_of}
-use Rattle.sp_types.specs.TypeWalk.{statement_after, statements_after, arms_after, branches_after, form_after, other_after, started, starts_of, starts_from, bodies, blocks_after}
+use Rattle.sp_types.specs.TypeWalk.{statement_after, statements_after, arms_after, branches_after, form_after, started, starts_of, starts_from, bodies, blocks_after}
 use Rattle.sp_types.specs.Kinds.{expression_kind}
-use Rattle.sp_types.specs.CheckedTree.{checked_statement, checked_block, checked_blocks, checked_variables, program_checked, or_zero}
-use Rattle.sp_tree.specs.Bare.{bare_statement, bare_block, bare}
+use Rattle.sp_types.specs.CheckedTree.{checked_block, checked_blocks, checked_variables, or_zero}
+use Rattle.sp_tree.specs.Bare.{bare_block}
 use Rattle.sp_facts.specs.Held.{HoldsBlocks, AreBelow}
 use Rattle.sp_facts.proofs.NameStatements.{Holds}
 use Rattle.sp_facts.proofs.Owned.{own}

@@ -1,5 +1,5 @@
 -- A type's definition names earlier types alone.
-use Rattle.std.specs.Prelude.{◌≡◌, ℕ, suc, ◌≤◌, ℤ, int_le, List, [], ◌∷◌, Option, Some, true}
+use Rattle.std.specs.Prelude.{◌≡◌, ℕ, suc, ◌≤◌, int_le, List, [], ◌∷◌, Option, Some, true}
 use Rattle.sp_tree.specs.declared.checked.KindOf.{KindOf}
 use Rattle.sp_tree.specs.declared.checked.KindOf.TheVariants as kind
 use Rattle.sp_tree.specs.declared.named.NamedConst.{NamedConst}
@@ -9,6 +9,7 @@ use Rattle.sp_tree.specs.declared.named.NamedKindForm.TheVariants as form
 use Rattle.sp_types.specs.declared.tables.Ordinal.{Ordinal}
 use Rattle.sp_types.specs.Tables.{const_value}
 use Rattle.sp_tree.specs.Formed.{AreBefore}
+use Rattle.sp_tree.specs.declared.checked.Variable as checked
 
 abbrev pub IsEarlier : ℕ → NamedKindForm → Type 0
 IsEarlier j form.Integer = Unit {0}
@@ -23,6 +24,11 @@ IsEarlier j (form.Channel ks) = Unit {0}
 abbrev pub AreEarlier : ℕ → List NamedKind → Type 0
 AreEarlier j [] = Unit {0}
 AreEarlier j (k ∷ ks) = IsEarlier j k.form × AreEarlier (suc j) ks
+
+-- the types of these variables have lower numbers
+abbrev pub HaveTypes : ℕ → List checked.Variable → Type 0
+HaveTypes k [] = Unit {0}
+HaveTypes k (u ∷ us) = (suc u.kind ≤ k) × HaveTypes k us
 
 -- a constant of the text has a value
 abbrev pub HasValue : List (Option Ordinal) → NamedConst → Type 0

@@ -1,5 +1,5 @@
 -- What is left to prove of a program that breaks no rule of names: constants are named behind their declarations.
-use Rattle.std.specs.Prelude.{◌≡◌, ℕ, suc, ◌≤◌, List, [], ◌∷◌, true, length, slice_get}
+use Rattle.std.specs.Prelude.{◌≡◌, ℕ, suc, ◌≤◌, List, [], ◌∷◌, true, slice_get}
 use Rattle.sp_tree.specs.declared.checked.KindOf.{KindOf}
 use Rattle.sp_tree.specs.declared.named.NamedConstant.{NamedConstant}
 use Rattle.sp_tree.specs.declared.named.NamedConstant.TheVariants as constant
@@ -9,7 +9,7 @@ use Rattle.sp_tree.specs.declared.named.NamedKind.{NamedKind}
 use Rattle.sp_tree.specs.declared.named.NamedKindForm.{NamedKindForm}
 use Rattle.sp_tree.specs.declared.named.NamedKindForm.TheVariants as form
 use Rattle.sp_tree.specs.PlainNamed as n
-use Rattle.sp_types.specs.Tables.{numbers_of, type_number, constants_of, env_of}
+use Rattle.sp_types.specs.Tables.{numbers_of, type_number, env_of}
 use Rattle.sp_types.specs.TypeRules.{is_ordinal}
 
 -- a named constant has a lower number

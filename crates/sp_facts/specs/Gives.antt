@@ -1,11 +1,18 @@
 -- What the phases of names and types give of the tree of a program that breaks no rule.
-use Rattle.std.specs.Prelude.{◌≡◌, ℕ, suc, ◌≤◌, List, [], Option, Some, None, length, slice_get}
+use Rattle.std.specs.Prelude.{◌≡◌, ℕ, suc, ◌≤◌, List, Some, Ok, slice_get}
 use Rattle.sp_tree.specs.declared.checked.Role.TheVariants as role
 use Rattle.sp_tree.specs.Cells.{variables_of}
 use Rattle.sp_tree.specs.PlainSyntax as syntax
 use Rattle.sp_tree.specs.NamedTree.{program_named}
-use Rattle.sp_tree.specs.Plain.{Program, Variable, Block, Stmt}
-use Rattle.sp_tree.specs.Sets.{LeadsToStop}
+use Rattle.sp_tree.specs.Plain.{Program, Variable, Block}
+use Rattle.sp_base.specs.declared.place.Place.{Place}
+use Rattle.sp_base.specs.declared.rule.Rule.{Rule}
+use Rattle.sp_tree.specs.PlainChecked as checked
+use Rattle.sp_tree.specs.PlainNamed as named
+use Rattle.sp_tree.specs.Breaches.{IsTree}
+use Rattle.sp_tree.specs.NameFirst.{resolved}
+use Rattle.sp_types.specs.TypeFirst.{typed}
+use Rattle.sp_tree.specs.Interferes.{Interferes}
 use Rattle.sp_code.specs.Scopes.{as_list}
 use Rattle.sp_types.specs.CheckedTree.{program_checked}
 use Rattle.sp_tree.specs.Bare.{bare}
@@ -26,5 +33,10 @@ pub record IsNumberedTree (p : Program) : Type 0 where
   pub input : (v : Variable) × (slice_get p.variables 0 ≡ Some v) × (v.role ≡ role.Console)
   pub output : (v : Variable) × (slice_get p.variables 1 ≡ Some v) × (v.role ≡ role.Console)
 
-abbrev pub IsQuiet : Program → ℕ → Type 0
-IsQuiet p f = LeadsToStop p f → ⊥
+-- no rule of interference is broken
+abbrev pub KeepsInterference : checked.Program → Type 0
+KeepsInterference c = (r : Rule) (at : Place) → Interferes c r at → ⊥
+
+-- the text breaks no rule, and has this checked tree
+abbrev pub IsAccepted : List ℕ → checked.Program → Type 0
+IsAccepted text c = ((m : named.Program) × ((s : syntax.Program) × IsTree text s × (resolved s ≡ Ok m)) × (typed m ≡ Ok c)) × KeepsInterference c

@@ -1,10 +1,7 @@
 -- What a part declares stands in the tables of the program from the next numbers on.
-use Rattle.std.specs.Prelude.{◌≡◌, ℕ, suc, ◌+◌, ◌≤◌, List, [], ◌∷◌, Option, Some, None, length, slice_get}
-use Rattle.sp_tree.specs.declared.checked.Variable as checked
-use Rattle.sp_tree.specs.declared.meaning.Counts.{Counts}
+use Rattle.std.specs.Prelude.{◌≡◌, ℕ, suc, ◌≤◌, List, [], ◌∷◌, Some, slice_get}
 use Rattle.sp_tree.specs.PlainNamed as n
-use Rattle.sp_tree.specs.Plain.{Program, Variable, Block}
-use Rattle.sp_tree.specs.Scopes.{next_constant, next_variable, next_block}
+use Rattle.sp_tree.specs.Plain.{Program, Block}
 use Rattle.sp_code.specs.Scopes.{scopes_of}
 use Rattle.sp_types.specs.Tables.{answer_variable}
 use Rattle.sp_facts.specs.Scoped.{InStatement}

@@ -1,17 +1,15 @@
 -- What the tables of the phase of types say of the plain tree without places.
-use Rattle.std.specs.Prelude.{◌≡◌, ◌⊎◌, ℕ, suc, ◌≤◌, ℤ, List, [], ◌∷◌, Option, Some, None, Bool, true, length, slice_get}
+use Rattle.std.specs.Prelude.{◌≡◌, ◌⊎◌, ℕ, suc, ◌≤◌, ℤ, List, [], ◌∷◌, Some, true, length, slice_get}
 use Rattle.sp_tree.specs.declared.checked.KindOf.{KindOf}
 use Rattle.sp_tree.specs.declared.checked.KindOf.TheVariants as kind
-use Rattle.sp_tree.specs.declared.checked.Role.{Role}
 use Rattle.sp_tree.specs.declared.checked.Role.TheVariants as role
 use Rattle.sp_tree.specs.Plain.{Program, Variable, Block}
 use Rattle.sp_code.specs.Scopes.{Scope, is_index, level}
 use Rattle.sp_types.specs.declared.tables.Ordinal.{Ordinal}
-use Rattle.sp_types.specs.declared.tables.Signature.{Signature}
 use Rattle.sp_types.specs.Tables.{Env, variable_kind, counted, indexed}
 use Rattle.sp_types.specs.TypeRules.{is_ordinal}
 use Rattle.sp_types.specs.Kinds.{expression_kind}
-use Rattle.sp_types.specs.TypeWalk.{statement_after, statements_after, arm_after}
+use Rattle.sp_types.specs.TypeWalk.{statement_after, statements_after}
 use Rattle.sp_tree.specs.PlainNamed as n
 use Rattle.sp_code.specs.Stands.{NoIndex}
 

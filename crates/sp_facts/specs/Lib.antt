@@ -7,3 +7,7 @@ pub mod Numbered
 pub mod TypedBlocks
 pub mod Gives
 pub mod Given
+pub mod Has
+pub mod Homed
+pub mod Tabled
+pub mod Filled

@@ -1,0 +1,539 @@
+-- What a program declares is of what it has declared before: constants are named behind their declarations, types and variables are
+-- of types that have been declared.
+use Rattle.std.proofs.Common.{◌≡◌, ap, subst, ℕ, suc, ◌+◌, ◌≤◌, List, [], ◌∷◌, ◌++◌, Option, Some, None, Bool, true, false, if◌then◌else◌, length, arith}
+use Rattle.std.specs.Prelude.{nat_le}
+use Rattle.std.specs.Str.{bytes_eq}
+use Rattle.sp_base.specs.declared.place.Place.{Place}
+use Rattle.sp_base.specs.declared.rule.Rule.TheVariants as rule
+use Rattle.sp_tree.specs.declared.checked.Role.{Role}
+use Rattle.sp_tree.specs.declared.checked.Role.TheVariants as role
+use Rattle.sp_tree.specs.declared.meaning.Meaning.{Meaning}
+use Rattle.sp_tree.specs.declared.meaning.Meaning.TheVariants as meaning
+use Rattle.sp_tree.specs.declared.syntax.Name.{Name}
+use Rattle.sp_tree.specs.Found.{Found, breaks}
+use Rattle.sp_tree.specs.NameFirst.{together, all_at}
+use Rattle.sp_tree.specs.Scopes as names
+use Rattle.sp_tree.specs.Scopes.{Env, look, find, find_in, or_else}
+use Rattle.sp_tree.specs.NameWalk as w
+use Rattle.sp_tree.specs.NameWalk.{role_of}
+use Rattle.sp_tree.specs.PlainNamed as n
+use Rattle.sp_tree.specs.PlainSyntax.{Expression, At, ExpressionForm, Number, Quoted, Read, Apply, Unary, Binary, Variable, Entire, Selector, Index, Field, Selectors, Whole, Select, Argument, Pass, Width, NoWidth, Within, Arguments, NoArgument, AndArgument}
+use Rattle.sp_facts.proofs.Calm.{calm_parts, calm_site}
+use Rattle.sp_tree.specs.declared.checked.Variable as checked
+use Rattle.sp_tree.specs.declared.meaning.Sort.{Sort}
+use Rattle.sp_tree.specs.declared.meaning.Sort.TheVariants as sort
+use Rattle.sp_tree.specs.NameRules.{Declares}
+use Rattle.sp_tree.specs.Scopes.{Local, inside, opened, declared, most, variable, next_variable}
+use Rattle.sp_tree.specs.NameWalk.{statement_local, statements_local, other_local, arms_local, arm_local, branches_local, form_local, indexed, deeper}
+use Rattle.sp_tree.specs.NamedTree.{indices, form_indices, other_indices, statements_indices, arms_indices, branches_indices}
+use Rattle.sp_tree.specs.PlainSyntax.{Statement, Does, Form, Empty, Assign, Call, Sequence, If, While, Repeat, Case, For, Parallel, Forall, Assume, Other, NoElse, Else, Statements, NoStatement, AndThen, Arm, On, Arms, NoArm, Or, Branches, NoBranch, Beside}
+use Rattle.sp_facts.proofs.Numbering.{room_at, statement_adds}
+use Rattle.sp_tree.specs.declared.meaning.Counts.{Counts}
+use Rattle.sp_tree.specs.declared.syntax.SynFormal.{SynFormal}
+use Rattle.sp_tree.specs.declared.syntax.SynKind.{SynKind}
+use Rattle.sp_tree.specs.declared.syntax.SynKind.TheVariants as kinds
+use Rattle.sp_tree.specs.NameRules.{Uses, AsKind}
+use Rattle.sp_tree.specs.Scopes.{put, closed, next_constant, next_kind, next_block}
+use Rattle.sp_tree.specs.NameWalk.{names_local, formals_local, title_local, answer_local, heading_local, constants_local, kind_local, type_local, parts_local, part_local, block_meaning, references}
+use Rattle.sp_tree.specs.NamedTree.{kind_number, variables_named, formals_named, answer_named, enumerated, constants_named, parts_named, part_named}
+use Rattle.sp_tree.specs.PlainSyntax.{Part, Const, Kind, Var, Proc, Parts, NoPart, Declare}
+use Rattle.sp_facts.proofs.Numbering.{declared_counts, answer_adds, parts_move, part_moves}
+use Rattle.sp_tree.specs.NamedTree.{program_named}
+use Rattle.sp_facts.proofs.Blocks.{calm_pieces, title_moves, formals_move}
+use Rattle.sp_tree.specs.declared.syntax.SynGroup.{SynGroup}
+use Rattle.sp_tree.specs.declared.named.NamedKind.{NamedKind}
+use Rattle.sp_tree.specs.declared.named.NamedKindForm.{NamedKindForm}
+use Rattle.sp_tree.specs.declared.named.NamedKindForm.TheVariants as form
+use Rattle.sp_tree.specs.declared.named.NamedValue.{NamedValue}
+use Rattle.sp_tree.specs.declared.named.NamedValue.TheVariants as given
+use Rattle.sp_tree.specs.NameRules.{UsesIn, own_rule, use_rule}
+use Rattle.sp_tree.specs.NameFirst.{names_broken}
+use Rattle.sp_tree.specs.Scopes.{empty, standard}
+use Rattle.sp_tree.specs.PlainSyntax as syntax
+use Rattle.sp_tree.specs.NamedTree.{kind_named, groups_named, fields_named}
+use Rattle.sp_tree.specs.Formed.{AreBefore}
+use Rattle.sp_tree.specs.declared.syntax.SynValue.{SynValue}
+use Rattle.sp_tree.specs.declared.syntax.SynValue.TheVariants as value
+use Rattle.sp_tree.specs.declared.named.NamedConstant.{NamedConstant}
+use Rattle.sp_tree.specs.declared.named.NamedConstant.TheVariants as constant
+use Rattle.sp_tree.specs.NameRules.{AsConstant}
+use Rattle.sp_tree.specs.NamedTree.{constant_number, named_value}
+use Rattle.sp_facts.specs.Given.{IsBehind, IsBoundBehind, AreBoundsBehind, AreValuesBehind, AreBehind, AreEnumerated, IsGiven}
+use Rattle.sp_tree.specs.declared.checked.KindOf.{KindOf}
+use Rattle.sp_types.specs.Tables.{env_of, numbers_of}
+use Rattle.sp_facts.specs.Earlier.{HaveTypes, IsEarlier, AreEarlier}
+
+-- ---- the constants and types in scope have been declared
+
+abbrev Bound : Counts → Meaning → Type 0
+Bound c (meaning.Constant k) = suc k ≤ next_constant c
+Bound c (meaning.Kind k) = suc k ≤ next_kind c
+Bound c (meaning.Variable x b r) = Unit {0}
+Bound c (meaning.Procedure f fs) = Unit {0}
+Bound c (meaning.Function f fs) = Unit {0}
+Bound c (meaning.StandardFunction f) = Unit {0}
+Bound c (meaning.StandardProcedure f) = Unit {0}
+
+abbrev AllBound : Counts → names.Scope → Type 0
+AllBound c [] = Unit {0}
+AllBound c (e ∷ es) = Bound c e.1 × AllBound c es
+
+abbrev EachBound : Counts → List names.Scope → Type 0
+EachBound c [] = Unit {0}
+EachBound c (b ∷ bs) = AllBound c b × EachBound c bs
+
+abbrev FoundBound : Counts → Option Meaning → Type 0
+FoundBound c None = Unit {0}
+FoundBound c (Some y) = Bound c y
+
+-- no fewer constants and types
+abbrev UpTo : Counts → Counts → Type 0
+UpTo c d = (next_constant c ≤ next_constant d) × (next_kind c ≤ next_kind d)
+
+bound_more : (c d : Counts) (y : Meaning) → UpTo c d → Bound c y → Bound d y
+bound_more c d (meaning.Constant k) l h = let a = l.0 in omega (arith, a, h)
+bound_more c d (meaning.Kind k) l h = let a = l.1 in omega (arith, a, h)
+bound_more c d (meaning.Variable x b r) l h = tt
+bound_more c d (meaning.Procedure f fs) l h = tt
+bound_more c d (meaning.Function f fs) l h = tt
+bound_more c d (meaning.StandardFunction f) l h = tt
+bound_more c d (meaning.StandardProcedure f) l h = tt
+
+all_bound_more : (c d : Counts) (b : names.Scope) → UpTo c d → AllBound c b → AllBound d b
+all_bound_more c d [] l h = tt
+all_bound_more c d (e ∷ es) l h = (bound_more c d e.1 l h.0, all_bound_more c d es l h.1)
+
+each_bound_more : (c d : Counts) (bs : List names.Scope) → UpTo c d → EachBound c bs → EachBound d bs
+each_bound_more c d [] l h = tt
+each_bound_more c d (b ∷ bs) l h = (all_bound_more c d b l h.0, each_bound_more c d bs l h.1)
+
+each_behind : (c : Counts) (bs : List names.Scope) (b : names.Scope) → EachBound c bs → AllBound c b → EachBound c (bs ++ (b ∷ []))
+each_behind c [] b h x = (x, tt)
+each_behind c (d ∷ bs) b h x = (h.0, each_behind c bs b h.1 x)
+
+look_bound : (c : Counts) (b : names.Scope) (name : List ℕ) → AllBound c b → FoundBound c (look b name)
+look_bound c [] name h = tt
+look_bound c (e ∷ es) name h = go (bytes_eq name e.0) (look_bound c es name h.1)
+  where
+    go : (z : Bool) → FoundBound c (look es name) → FoundBound c (if z then Some e.1 else look es name)
+    go true r = h.0
+    go false r = r
+
+or_bound : (c : Counts) (a b : Option Meaning) → FoundBound c a → FoundBound c b → FoundBound c (or_else a b)
+or_bound c None b x y = y
+or_bound c (Some z) b x y = x
+
+in_bound : (c : Counts) (bs : List names.Scope) (name : List ℕ) (o : Option Meaning) → EachBound c bs → FoundBound c o → FoundBound c (find_in bs name o)
+in_bound c [] name o h x = x
+in_bound c (b ∷ bs) name o h x = in_bound c bs name (or_else (look b name) o) h.1 (or_bound c (look b name) o (look_bound c b name h.0) x)
+
+put_bound : (c : Counts) (b : names.Scope) (name : List ℕ) (y : Meaning) → AllBound c b → Bound c y → AllBound c (put b name y)
+put_bound c [] name y h v = (v, tt)
+put_bound c (e ∷ es) name y h v = go (bytes_eq name e.0) (put_bound c es name y h.1 v)
+  where
+    go : (z : Bool) → AllBound c (put es name y) → AllBound c (if z then (e.0, y) ∷ es else e ∷ put es name y)
+    go true r = (v, h.1)
+    go false r = (h.0, r)
+
+-- a declaration, where the number is bounded behind it
+declared_bound : (c : Counts) (l : Local) (name : List ℕ) (s : Sort) (y : Meaning) → AllBound c l.here → Bound c y → AllBound c (declared l name s y).here
+declared_bound c l name s y h v = go (nat_le most (names.count s l.counts))
+  where
+    go : (b : Bool) → AllBound c (if b then l else record { here = put l.here name y; block = l.block; answer = l.answer; counts = names.more s l.counts }).here
+    go true = h
+    go false = put_bound c l.here name y h v
+
+names_bound : (c : Counts) (r : Role) (l : Local) (xs : List Name) → AllBound c l.here → AllBound c (names_local r l xs).here
+names_bound c r l [] h = h
+names_bound c r l (x ∷ xs) h = names_bound c r (declared l x.text sort.Variable (variable l r)) xs (declared_bound c l x.text sort.Variable (variable l r) h tt)
+
+formals_bound : (c : Counts) (l : Local) (fs : List SynFormal) → AllBound c l.here → AllBound c (formals_local l fs).here
+formals_bound c l [] h = h
+formals_bound c l (f ∷ fs) h = formals_bound c (names_local (role_of f.by_reference) l f.names) fs (names_bound c (role_of f.by_reference) l f.names h)
+
+answer_bound : (c : Counts) (l : Local) (answer : Option Name) → AllBound c l.here → AllBound c (answer_local l answer).here
+answer_bound c l None h = h
+answer_bound c l (Some t) h = h
+
+constants_bound : (around : List names.Scope) (c : Counts) (l : Local) (xs : List Name) → w.enumerated_sites [] together all_at around l xs ≡ [] → (j i : ℕ) → next_constant l.counts + length (enumerated j i xs) ≤ next_constant c → AllBound c l.here → AllBound c (constants_local l xs).here
+constants_bound around c l [] calm j i few h = h
+constants_bound around c l (x ∷ xs) calm j i few h =
+    let y = meaning.Constant (next_constant l.counts) in
+    let next = declared l x.text sort.Constant y in
+    let two = calm_parts (all_at (inside around l) (Declares x sort.Constant)) (w.enumerated_sites [] together all_at around next xs) calm in
+    let e = ap next_constant (declared_counts l x.text sort.Constant y (room_at (inside around l) x sort.Constant two.0)) in
+    constants_bound around c next xs two.1 j (suc i) (omega (arith, few, e)) (declared_bound c l x.text sort.Constant y h (omega (arith, few)))
+
+kind_bound : (around : List names.Scope) (c : Counts) (l : Local) (d : SynKind) → w.kind_constants_sites [] together all_at around l d ≡ [] → (j : ℕ) → next_constant l.counts + length (constants_named j d) ≤ next_constant c → AllBound c l.here → AllBound c (kind_local l d).here
+kind_bound around c l (kinds.Alias t) calm j few h = h
+kind_bound around c l (kinds.Enumeration xs) calm j few h = constants_bound around c l xs calm j 0 few h
+kind_bound around c l (kinds.Array lo hi t) calm j few h = h
+kind_bound around c l (kinds.Record gs) calm j few h = h
+kind_bound around c l (kinds.Channel ts) calm j few h = h
+
+block_bound : (c : Counts) (l : Local) (fs : List SynFormal) (answer : Option Name) → Bound c (block_meaning l fs answer)
+block_bound c l fs None = tt
+block_bound c l fs (Some t) = tt
+
+-- ---- a name of a constant or type that is used
+
+constant_found : (c : Counts) (at : Place) (o : Option Meaning) → FoundBound c o → use_rule AsConstant at o ≡ None → suc (constant_number o) ≤ next_constant c
+constant_found c at None h e = absurd (cc e)
+constant_found c at (Some (meaning.Constant k)) h e = h
+constant_found c at (Some (meaning.Kind k)) h e = absurd (cc e)
+constant_found c at (Some (meaning.Variable x b r)) h e = absurd (cc e)
+constant_found c at (Some (meaning.Procedure f fs)) h e = absurd (cc e)
+constant_found c at (Some (meaning.Function f fs)) h e = absurd (cc e)
+constant_found c at (Some (meaning.StandardFunction f)) h e = absurd (cc e)
+constant_found c at (Some (meaning.StandardProcedure f)) h e = absurd (cc e)
+
+kind_found : (c : Counts) (at : Place) (o : Option Meaning) → FoundBound c o → use_rule AsKind at o ≡ None → suc (kind_number o) ≤ next_kind c
+kind_found c at None h e = absurd (cc e)
+kind_found c at (Some (meaning.Constant k)) h e = absurd (cc e)
+kind_found c at (Some (meaning.Kind k)) h e = h
+kind_found c at (Some (meaning.Variable x b r)) h e = absurd (cc e)
+kind_found c at (Some (meaning.Procedure f fs)) h e = absurd (cc e)
+kind_found c at (Some (meaning.Function f fs)) h e = absurd (cc e)
+kind_found c at (Some (meaning.StandardFunction f)) h e = absurd (cc e)
+kind_found c at (Some (meaning.StandardProcedure f)) h e = absurd (cc e)
+
+own_calm : (own_ x : Name) (f : Found) → own_rule own_ x f ≡ None → f ≡ None
+own_calm own_ x f e = go (bytes_eq own_.text x.text) e
+  where
+    go : (b : Bool) → (if b then breaks rule.N4 x.at else f) ≡ None → f ≡ None
+    go true e = absurd (cc e)
+    go false e = e
+
+module _ (c : Counts) (env : Env) (around : EachBound c env.around) (here : AllBound c env.local.here) where
+  find_bound : (name : List ℕ) → FoundBound c (find env name)
+  find_bound name = or_bound c (look env.local.here name) (find_in env.around name None) (look_bound c env.local.here name here) (in_bound c env.around name None around tt)
+
+  -- ---- constants in declarations
+
+  value_behind : (v : SynValue) → w.value_sites [] together all_at env v ≡ [] → IsBehind (next_constant c) (named_value env v)
+  value_behind (value.Number k) calm = tt
+  value_behind (value.Quoted t) calm = tt
+  value_behind (value.Named x) calm = constant_found c x.at (find env x.text) (find_bound x.text) (calm_site (use_rule AsConstant x.at (find env x.text)) calm)
+
+  bound_behind : (own_ : Name) (v : SynValue) → w.bound_sites [] together all_at env own_ v ≡ [] → IsBehind (next_constant c) (named_value env v)
+  bound_behind own_ (value.Number k) calm = tt
+  bound_behind own_ (value.Quoted t) calm = tt
+  bound_behind own_ (value.Named x) calm = constant_found c x.at (find env x.text) (find_bound x.text) (own_calm own_ x (use_rule AsConstant x.at (find env x.text)) (calm_site (own_rule own_ x (use_rule AsConstant x.at (find env x.text))) calm))
+
+  -- ---- the definition of a type
+
+  type_bound : (own_ t : Name) → all_at env (UsesIn own_ t AsKind) ≡ [] → suc (kind_number (find env t.text)) ≤ next_kind c
+  type_bound own_ t calm = kind_found c t.at (find env t.text) (find_bound t.text) (own_calm own_ t (use_rule AsKind t.at (find env t.text)) (calm_site (own_rule own_ t (use_rule AsKind t.at (find env t.text))) calm))
+
+  before_join : (k : ℕ) (fs gs : List (List ℕ × ℕ)) → AreBefore k fs → AreBefore k gs → AreBefore k (fs ++ gs)
+  before_join k [] gs x y = y
+  before_join k (f ∷ fs) gs x y = (x.0, before_join k fs gs x.1 y)
+
+  fields_before : (k j : ℕ) (xs : List Name) → suc j ≤ k → AreBefore k (fields_named j xs)
+  fields_before k j [] l = tt
+  fields_before k j (x ∷ xs) l = (l, fields_before k j xs l)
+
+  groups_before : (own_ : Name) (before : List (List ℕ)) (gs : List SynGroup) → w.groups_sites [] together all_at env own_ before gs ≡ [] → AreBefore (next_kind c) (groups_named env gs)
+  groups_before own_ before [] calm = tt
+  groups_before own_ before (g ∷ gs) calm =
+      let later = w.groups_sites [] together all_at env own_ (w.behind before g.names) gs in
+      let one = calm_parts (w.fields_sites [] together all_at env before g.names) (together (all_at env (UsesIn own_ g.kind AsKind)) later) calm in
+      let two = calm_parts (all_at env (UsesIn own_ g.kind AsKind)) later one.1 in
+      let k = kind_number (find env g.kind.text) in
+      before_join (next_kind c) (fields_named k g.names) (groups_named env gs) (fields_before (next_kind c) k g.names (type_bound own_ g.kind two.0)) (groups_before own_ (w.behind before g.names) gs two.1)
+
+  -- of earlier types, with bounds of earlier constants
+  kind_behind : (own_ : Name) (d : SynKind) → w.kind_sites [] together all_at env own_ d ≡ [] → IsEarlier (next_kind c) (kind_named env d) × IsBoundBehind (next_constant c) (kind_named env d)
+  kind_behind own_ (kinds.Alias t) calm = (type_bound own_ t calm, tt)
+  kind_behind own_ (kinds.Enumeration xs) calm = (tt, tt)
+  kind_behind own_ (kinds.Array lo hi t) calm =
+      let one = calm_parts (w.bound_sites [] together all_at env own_ lo.value) (together (w.bound_sites [] together all_at env own_ hi.value) (all_at env (UsesIn own_ t AsKind))) calm in
+      let two = calm_parts (w.bound_sites [] together all_at env own_ hi.value) (all_at env (UsesIn own_ t AsKind)) one.1 in
+      (type_bound own_ t two.1, (bound_behind own_ lo.value one.0, bound_behind own_ hi.value two.0))
+  kind_behind own_ (kinds.Record gs) calm = (groups_before own_ [] gs calm, tt)
+  kind_behind own_ (kinds.Channel ts) calm = (tt, tt)
+
+  used_kind : (t : Name) → all_at env (Uses t AsKind) ≡ [] → suc (kind_number (find env t.text)) ≤ next_kind c
+  used_kind t calm = kind_found c t.at (find env t.text) (find_bound t.text) (calm_site (use_rule AsKind t.at (find env t.text)) calm)
+
+-- ---- lists of declarations
+
+behind_join : (k : ℕ) (xs ys : List NamedConstant) → AreValuesBehind k xs → AreValuesBehind (k + length xs) ys → AreValuesBehind k (xs ++ ys)
+behind_join k [] ys x y = subst (λ z. AreValuesBehind z ys) (let z : k + 0 ≡ k = omega arith in z) y
+behind_join k (constant.Value c ∷ xs) ys x y = (x.0, behind_join (suc k) xs ys x.1 (subst (λ z. AreValuesBehind z ys) (let z : k + suc (length xs) ≡ suc k + length xs = omega arith in z) y))
+behind_join k (constant.Enumerated j i ∷ xs) ys x y = behind_join (suc k) xs ys x (subst (λ z. AreValuesBehind z ys) (let z : k + suc (length xs) ≡ suc k + length xs = omega arith in z) y)
+
+earlier_join : (k : ℕ) (xs ys : List NamedKind) → AreEarlier k xs → AreEarlier (k + length xs) ys → AreEarlier k (xs ++ ys)
+earlier_join k [] ys x y = subst (λ z. AreEarlier z ys) (let z : k + 0 ≡ k = omega arith in z) y
+earlier_join k (b ∷ xs) ys x y = (x.0, earlier_join (suc k) xs ys x.1 (subst (λ z. AreEarlier z ys) (let z : k + suc (length xs) ≡ suc k + length xs = omega arith in z) y))
+
+enumerated_behind : (k j i : ℕ) (xs : List Name) → AreValuesBehind k (enumerated j i xs)
+enumerated_behind k j i [] = tt
+enumerated_behind k j i (x ∷ xs) = enumerated_behind (suc k) j (suc i) xs
+
+constants_behind : (k j : ℕ) (d : SynKind) → AreValuesBehind k (constants_named j d)
+constants_behind k j (kinds.Alias t) = tt
+constants_behind k j (kinds.Enumeration xs) = enumerated_behind k j 0 xs
+constants_behind k j (kinds.Array lo hi t) = tt
+constants_behind k j (kinds.Record gs) = tt
+constants_behind k j (kinds.Channel ts) = tt
+
+behind_more : (k j : ℕ) (v : NamedValue) → k ≤ j → IsBehind k v → IsBehind j v
+behind_more k j (given.Number c) l h = tt
+behind_more k j (given.Quoted t) l h = tt
+behind_more k j (given.Constant c) l h = omega (arith, l, h)
+
+bounds_more : (k j : ℕ) (ks : List NamedKind) → k ≤ j → AreBoundsBehind k ks → AreBoundsBehind j ks
+bounds_more k j [] l h = tt
+bounds_more k j (d ∷ ks) l h = (one d.form h.0, bounds_more k j ks l h.1)
+  where
+    one : (f : NamedKindForm) → IsBoundBehind k f → IsBoundBehind j f
+    one form.Integer h = tt
+    one form.Boolean h = tt
+    one form.Char h = tt
+    one (form.Alias i) h = tt
+    one (form.Enumeration i) h = tt
+    one (form.Array a b e) h = (behind_more k j a.value l h.0, behind_more k j b.value l h.1)
+    one (form.Fields fs) h = tt
+    one (form.Channel cs) h = tt
+
+bounds_join : (k : ℕ) (xs ys : List NamedKind) → AreBoundsBehind k xs → AreBoundsBehind k ys → AreBoundsBehind k (xs ++ ys)
+bounds_join k [] ys x y = y
+bounds_join k (d ∷ xs) ys x y = (x.0, bounds_join k xs ys x.1 y)
+
+typed_more : (k j : ℕ) (us : List checked.Variable) → k ≤ j → HaveTypes k us → HaveTypes j us
+typed_more k j [] l h = tt
+typed_more k j (u ∷ us) l h = (let x = h.0 in omega (arith, l, x), typed_more k j us l h.1)
+
+typed_join : (k : ℕ) (us vs : List checked.Variable) → HaveTypes k us → HaveTypes k vs → HaveTypes k (us ++ vs)
+typed_join k [] vs x y = y
+typed_join k (u ∷ us) vs x y = (x.0, typed_join k us vs x.1 y)
+
+names_typed : (k b j : ℕ) (r : Role) (xs : List Name) → suc j ≤ k → HaveTypes k (variables_named b r j xs)
+names_typed k b j r [] l = tt
+names_typed k b j r (x ∷ xs) l = (l, names_typed k b j r xs l)
+
+module _ (k : ℕ) (some : 1 ≤ k) (block : ℕ) where
+  mutual
+    indices_typed : (s : Statement) → HaveTypes k (indices block s)
+    indices_typed (Does at form) = form_typed form
+
+    form_typed : (form : Form) → HaveTypes k (form_indices block form)
+    form_typed Empty = tt
+    form_typed (Assign v e) = tt
+    form_typed (Call f args) = tt
+    form_typed (Sequence ss) = statements_typed ss
+    form_typed (If e a o) = typed_join k (indices block a) (other_indices block o) (indices_typed a) (other_typed o)
+    form_typed (While e a) = indices_typed a
+    form_typed (Repeat ss e) = statements_typed ss
+    form_typed (Case e arms) = arms_typed arms
+    form_typed (For x from down to a) = indices_typed a
+    form_typed (Parallel bs) = branches_typed bs
+    form_typed (Forall x from to a) = (some, indices_typed a)
+    form_typed (Assume e) = tt
+
+    other_typed : (o : Other) → HaveTypes k (other_indices block o)
+    other_typed NoElse = tt
+    other_typed (Else a) = indices_typed a
+
+    statements_typed : (ss : Statements) → HaveTypes k (statements_indices block ss)
+    statements_typed NoStatement = tt
+    statements_typed (AndThen a rest) = typed_join k (indices block a) (statements_indices block rest) (indices_typed a) (statements_typed rest)
+
+    arms_typed : (arms : Arms) → HaveTypes k (arms_indices block arms)
+    arms_typed NoArm = tt
+    arms_typed (Or (On cs a) rest) = typed_join k (indices block a) (arms_indices block rest) (indices_typed a) (arms_typed rest)
+
+    branches_typed : (bs : Branches) → HaveTypes k (branches_indices block bs)
+    branches_typed NoBranch = tt
+    branches_typed (Beside ss rest) = typed_join k (statements_indices block ss) (branches_indices block rest) (statements_typed ss) (branches_typed rest)
+
+module _ (c : Counts) (env : Env) (out : EachBound c env.around) (here : AllBound c env.local.here) (b : ℕ) where
+  formals_typed : (fs : List SynFormal) → w.heading_sites [] together all_at env fs ≡ [] → HaveTypes (next_kind c) (formals_named env b fs)
+  formals_typed [] calm = tt
+  formals_typed (f ∷ fs) calm =
+      let two = calm_parts (all_at env (Uses f.kind AsKind)) (w.heading_sites [] together all_at env fs) calm in
+      let k = kind_number (find env f.kind.text) in
+      typed_join (next_kind c) (variables_named b (role_of f.by_reference) k f.names) (formals_named env b fs) (names_typed (next_kind c) b k (role_of f.by_reference) f.names (used_kind c env out here f.kind two.0)) (formals_typed fs two.1)
+
+  answer_typed : (x : Name) (answer : Option Name) → w.answer_sites [] together all_at env answer ≡ [] → HaveTypes (next_kind c) (answer_named env b x answer)
+  answer_typed x None calm = tt
+  answer_typed x (Some t) calm = (used_kind c env out here t calm, tt)
+
+-- ---- parts
+
+-- what is declared here, between these counts, and what is in scope behind it
+record Behind (from : Counts) (l : Local) (p : n.Program) : Type 0 where
+  scope : AllBound l.counts l.here
+  values : AreValuesBehind (next_constant from) p.constants
+  bounds : AreBoundsBehind (next_constant l.counts) p.kinds
+  types : AreEarlier (next_kind from) p.kinds
+  variables : HaveTypes (next_kind l.counts) p.variables
+
+mutual
+  parts_declare : (around : List names.Scope) (l : Local) (ps : Parts) → EachBound l.counts around → AllBound l.counts l.here → w.parts_sites [] together all_at around l ps ≡ [] → Behind l.counts (parts_local l ps) (parts_named around l ps)
+  parts_declare around l NoPart out here calm = record { scope = here; values = tt; bounds = tt; types = tt; variables = tt }
+  parts_declare around l (Declare q rest) out here calm =
+      let next = part_local l q in
+      let last = parts_local next rest in
+      let two = calm_parts (w.part_sites [] together all_at around l q) (w.parts_sites [] together all_at around next rest) calm in
+      let a = part_named around l q in
+      let b = parts_named around next rest in
+      let m1 = part_moves around l q two.0 in
+      let m2 = parts_move around next rest two.1 in
+      let c1 = m1.0 in
+      let k1 = m1.1 in
+      let c2 = m2.0 in
+      let k2 = m2.1 in
+      let r = part_declares around l q out here two.0 in
+      let t = parts_declare around next rest (each_bound_more l.counts next.counts around (omega (arith, c1), omega (arith, k1)) out) r.scope two.1 in
+      record {
+        scope = t.scope;
+        values = behind_join (next_constant l.counts) a.constants b.constants r.values (subst (λ z. AreValuesBehind z b.constants) c1 t.values);
+        bounds = bounds_join (next_constant last.counts) a.kinds b.kinds (bounds_more (next_constant next.counts) (next_constant last.counts) a.kinds (omega (arith, c2)) r.bounds) t.bounds;
+        types = earlier_join (next_kind l.counts) a.kinds b.kinds r.types (subst (λ z. AreEarlier z b.kinds) k1 t.types);
+        variables = typed_join (next_kind last.counts) a.variables b.variables (typed_more (next_kind next.counts) (next_kind last.counts) a.variables (omega (arith, k2)) r.variables) t.variables;
+      }
+
+  part_declares : (around : List names.Scope) (l : Local) (q : Part) → EachBound l.counts around → AllBound l.counts l.here → w.part_sites [] together all_at around l q ≡ [] → Behind l.counts (part_local l q) (part_named around l q)
+  part_declares around l (Const x c) out here calm =
+      let next = (part_local l (Const x c)).counts in
+      let moved = part_moves around l (Const x c) calm in
+      let c1 = moved.0 in
+      let k1 = moved.1 in
+      let two = calm_parts (all_at (inside around l) (Declares x sort.Constant)) (w.value_sites [] together all_at (inside around l) c.value) calm in
+      record {
+        scope = declared_bound next l x.text sort.Constant (meaning.Constant (next_constant l.counts)) (all_bound_more l.counts next l.here (omega (arith, c1), omega (arith, k1)) here) (omega (arith, c1));
+        values = (value_behind l.counts (inside around l) out here c.value two.1, tt);
+        bounds = tt;
+        types = tt;
+        variables = tt;
+      }
+  part_declares around l (Kind x d) out here calm =
+      let y = meaning.Kind (next_kind l.counts) in
+      let next = (part_local l (Kind x d)).counts in
+      let moved = part_moves around l (Kind x d) calm in
+      let c1 = moved.0 in
+      let k1 = moved.1 in
+      let one = calm_parts (all_at (inside around l) (Declares x sort.Kind)) (together (w.kind_sites [] together all_at (inside around l) x d) (w.kind_constants_sites [] together all_at around (type_local l x) d)) calm in
+      let two = calm_parts (w.kind_sites [] together all_at (inside around l) x d) (w.kind_constants_sites [] together all_at around (type_local l x) d) one.1 in
+      let te : next_constant (type_local l x).counts ≡ next_constant l.counts = ap next_constant (declared_counts l x.text sort.Kind y (room_at (inside around l) x sort.Kind one.0)) in
+      let few : next_constant (type_local l x).counts + length (constants_named (next_kind l.counts) d) ≤ next_constant next = omega (arith, c1, te) in
+      let of_kind = kind_behind l.counts (inside around l) out here x d two.0 in
+      record {
+        scope = kind_bound around next (type_local l x) d two.1 (next_kind l.counts) few (declared_bound next l x.text sort.Kind y (all_bound_more l.counts next l.here (omega (arith, c1), omega (arith, k1)) here) (omega (arith, k1)));
+        values = constants_behind (next_constant l.counts) (next_kind l.counts) d;
+        bounds = bounds_more (next_constant l.counts) (next_constant next) (record { at = x.at; form = kind_named (inside around l) d } ∷ []) (omega (arith, c1)) (of_kind.1, tt);
+        types = (of_kind.0, tt);
+        variables = tt;
+      }
+  part_declares around l (Var xs t) out here calm =
+      let next = (part_local l (Var xs t)).counts in
+      let moved = part_moves around l (Var xs t) calm in
+      let c1 = moved.0 in
+      let k1 = moved.1 in
+      let two = calm_parts (all_at (inside around l) (Uses t AsKind)) (w.names_sites [] together all_at around role.Local l xs) calm in
+      let u = used_kind l.counts (inside around l) out here t two.0 in
+      record {
+        scope = names_bound next role.Local l xs (all_bound_more l.counts next l.here (omega (arith, c1), omega (arith, k1)) here);
+        values = tt;
+        bounds = tt;
+        types = tt;
+        variables = names_typed (next_kind next) l.block (kind_number (find (inside around l) t.text)) role.Local xs (omega (arith, k1, u));
+      }
+  part_declares around l (Proc x fs answer parts body) out here calm =
+      let next = (part_local l (Proc x fs answer parts body)).counts in
+      let moved = part_moves around l (Proc x fs answer parts body) calm in
+      let c1 = moved.0 in
+      let k1 = moved.1 in
+      let f = next_block l.counts in
+      let env = inside around l in
+      let title = title_local l x fs answer in
+      let in_ = deeper around title in
+      let head = heading_local l x fs answer in
+      let formals = formals_local (opened f 0 title) fs in
+      let pieces = calm_pieces around l x fs answer parts body calm in
+      let m1 = title_moves around l x fs answer parts body calm in
+      let m2 = formals_move around l x fs answer parts body calm in
+      let m3 = answer_adds formals env f x answer in
+      let m4 = statement_adds head.block in_ (parts_local head parts) body pieces.3 in
+      let t0 = m1.0 in
+      let f0 = m2.0 in
+      let a0 = m3.0 in
+      let p0 = m4.0 in
+      let t1 = m1.1 in
+      let f1 = m2.1 in
+      let a1 = m3.1 in
+      let p1 = m4.1 in
+      let constants_at : next_constant head.counts ≡ next_constant l.counts = omega (arith, t0, f0, a0) in
+      let kinds_at : next_kind head.counts ≡ next_kind l.counts = omega (arith, t1, f1, a1) in
+      let same : UpTo l.counts head.counts = (omega (arith, constants_at), omega (arith, kinds_at)) in
+      let up : UpTo l.counts next = (omega (arith, c1), omega (arith, k1)) in
+      let titled = λ (z : Counts) (le : UpTo l.counts z). declared_bound z l x.text sort.Block (block_meaning l fs answer) (all_bound_more l.counts z l.here le here) (block_bound z l fs answer) in
+      let inner = parts_declare in_ head parts (each_behind head.counts around title.here (each_bound_more l.counts head.counts around same out) (titled head.counts same)) (answer_bound head.counts formals answer (formals_bound head.counts (opened f 0 title) fs tt)) pieces.2 in
+      let one = calm_parts (w.title_sites [] together all_at env x fs answer) (together (w.formals_sites [] together all_at in_ (opened f 0 title) fs) (together (w.parts_sites [] together all_at in_ head parts) (w.statement_sites [] together all_at in_ (parts_local head parts) body))) calm in
+      let two = calm_parts (all_at env (Declares x sort.Block)) (together (w.heading_sites [] together all_at env fs) (w.answer_sites [] together all_at env answer)) one.0 in
+      let three = calm_parts (w.heading_sites [] together all_at env fs) (w.answer_sites [] together all_at env answer) two.1 in
+      let k = next_kind next in
+      let last = (parts_local head parts).counts in
+      let av = formals_named env f fs in
+      let bv = answer_named env f x answer in
+      let iv = (parts_named in_ head parts).variables in
+      let dv = indices head.block body in
+      record {
+        scope = titled next up;
+        values = subst (λ z. AreValuesBehind z (parts_named in_ head parts).constants) constants_at inner.values;
+        bounds = bounds_more (next_constant last) (next_constant next) (parts_named in_ head parts).kinds (omega (arith, p0)) inner.bounds;
+        types = subst (λ z. AreEarlier z (parts_named in_ head parts).kinds) kinds_at inner.types;
+        variables = typed_join k av (bv ++ (iv ++ dv)) (typed_more (next_kind l.counts) k av up.1 (formals_typed l.counts env out here f fs three.0))
+            (typed_join k bv (iv ++ dv) (typed_more (next_kind l.counts) k bv up.1 (answer_typed l.counts env out here f x answer three.1))
+            (typed_join k iv dv (typed_more (next_kind last) k iv (omega (arith, p1)) inner.variables) (indices_typed k (omega arith) head.block body)));
+      }
+
+-- ---- the program
+
+both_behind : (kinds2 : List KindOf) (ns : List ℕ) (j : ℕ) (cs : List NamedConstant) → AreValuesBehind j cs → AreEnumerated kinds2 ns cs → AreBehind kinds2 ns j cs
+both_behind kinds2 ns j [] v e = tt
+both_behind kinds2 ns j (constant.Value c ∷ cs) v e = (v.0, both_behind kinds2 ns (suc j) cs v.1 e)
+both_behind kinds2 ns j (constant.Enumerated k i ∷ cs) v e = (e.0, both_behind kinds2 ns (suc j) cs v e.1)
+
+module _ (s : syntax.Program) (calm : names_broken s ≡ []) where
+  abbrev n_ : n.Program
+  n_ = program_named s
+
+  abbrev inner_ : n.Program
+  inner_ = parts_named (standard ∷ []) empty s.block.parts
+
+  abbrev last_ : Counts
+  last_ = (parts_local empty s.block.parts).counts
+
+  calm_block : w.parts_sites [] together all_at (standard ∷ []) empty s.block.parts ≡ []
+  calm_block =
+      let parts = w.parts_sites [] together all_at (standard ∷ []) empty s.block.parts in
+      let body = w.statement_sites [] together all_at (standard ∷ []) (parts_local empty s.block.parts) s.block.body in
+      (calm_parts parts body (calm_parts (w.files_sites [] together all_at [] s.heading) (together parts body) calm).1).0
+
+  standard_bound : AllBound empty.counts standard
+  standard_bound = (omega arith, (omega arith, (omega arith, (omega arith, (omega arith, (omega arith, (tt, (tt, (tt, (tt, (tt, (tt, (tt, (tt, (tt, (tt, (tt, (tt, (tt, (tt, (tt, (tt, tt))))))))))))))))))))))
+
+  declares : Behind empty.counts (parts_local empty s.block.parts) inner_
+  declares = parts_declare (standard ∷ []) empty s.block.parts (standard_bound, tt) tt calm_block
+
+  -- types are of earlier types
+  pub program_earlier : AreEarlier 0 n_.kinds
+  program_earlier = (tt, (tt, (tt, declares.types)))
+
+  -- constants are named behind their declarations
+  pub program_behind : IsGiven n_ → AreBehind (env_of n_).kinds (numbers_of n_) 0 n_.constants × AreBoundsBehind (length n_.constants) n_.kinds
+  program_behind given_ =
+      let e = (parts_move (standard ∷ []) empty s.block.parts calm_block).0 in (
+        both_behind (env_of n_).kinds (numbers_of n_) 0 n_.constants (tt, declares.values) given_,
+        (tt, (tt, (tt, bounds_more (next_constant last_) (length n_.constants) inner_.kinds (omega (arith, e)) declares.bounds))),
+      )
+
+  -- variables are of declared types
+  pub program_typed : HaveTypes (length n_.kinds) n_.variables
+  program_typed =
+      let e = (parts_move (standard ∷ []) empty s.block.parts calm_block).1 in
+      let k = length n_.kinds in
+      (omega arith, (omega arith, typed_join k inner_.variables (indices 0 s.block.body) (typed_more (next_kind last_) k inner_.variables (omega (arith, e)) declares.variables) (indices_typed k (omega arith) 0 s.block.body)))

@@ -1,0 +1,187 @@
+-- What a program declares is of blocks that there are; the input and the output are the only consoles.
+use Rattle.std.proofs.Common.{◌≡◌, ap, sym, ◌∙◌, subst, ℕ, zero, suc, ◌+◌, ◌≤◌, List, [], ◌∷◌, ◌++◌, Option, Some, None, Bool, true, false, length, slice_get, arith}
+use Rattle.std.specs.Prelude.{◌<◌}
+use Rattle.std.proofs.lemmas.List.{length-append}
+use Rattle.sp_tree.specs.declared.checked.Role.{Role}
+use Rattle.sp_tree.specs.declared.checked.Role.TheVariants as role
+use Rattle.sp_tree.specs.declared.checked.Variable as checked
+use Rattle.sp_tree.specs.declared.syntax.Name.{Name}
+use Rattle.sp_tree.specs.declared.syntax.SynFormal.{SynFormal}
+use Rattle.sp_tree.specs.NameFirst.{together, all_at, names_broken}
+use Rattle.sp_tree.specs.Scopes as names
+use Rattle.sp_tree.specs.Scopes.{Env, Local, find, inside, empty, standard, next_block}
+use Rattle.sp_tree.specs.NameWalk as w
+use Rattle.sp_tree.specs.NameWalk.{role_of, title_local, heading_local, parts_local, part_local, deeper}
+use Rattle.sp_tree.specs.NamedTree.{kind_number, variables_named, formals_named, answer_named, parts_named, part_named, indices, form_indices, other_indices, statements_indices, arms_indices, branches_indices}
+use Rattle.sp_tree.specs.PlainNamed as n
+use Rattle.sp_tree.specs.Plain as plain
+use Rattle.sp_tree.specs.PlainSyntax as syntax
+use Rattle.sp_tree.specs.PlainSyntax.{Statement, Does, Form, Empty, Assign, Call, Sequence, If, While, Repeat, For, Case, Parallel, Forall, Assume, Other, NoElse, Else, Statements, NoStatement, AndThen, On, Arms, NoArm, Or, Branches, NoBranch, Beside, Part, Const, Kind, Var, Proc, Parts, NoPart, Declare}
+use Rattle.sp_types.specs.Tables.{env_of}
+use Rattle.sp_types.specs.TypeWalk.{starts_of, blocks_after}
+use Rattle.sp_facts.specs.Homed.{NoConsole, AreHomed}
+use Rattle.sp_facts.specs.Held.{HoldsBlocks}
+use Rattle.sp_facts.proofs.Calm.{calm_parts}
+use Rattle.sp_facts.proofs.Numbering.{part_moves}
+use Rattle.sp_facts.proofs.Blocks.{part_block, calm_pieces, head_blocks, head_number}
+use Rattle.sp_facts.proofs.KnowsFacts.{variable_from}
+use Rattle.sp_facts.proofs.Program.{named, tree, held_blocks}
+
+homed_join : (b : ℕ) (us vs : List checked.Variable) → AreHomed b us → AreHomed b vs → AreHomed b (us ++ vs)
+homed_join b [] vs h k = k
+homed_join b (u ∷ us) vs h k = (h.0, homed_join b us vs h.1 k)
+
+homed_at : (b : ℕ) (us : List checked.Variable) (x : ℕ) (u : checked.Variable) → AreHomed b us → slice_get us x ≡ Some u → (suc u.block ≤ b) × NoConsole u.role
+homed_at b [] x u h e = absurd (cc e)
+homed_at b (w ∷ us) zero u h e = subst (λ (z : checked.Variable). (suc z.block ≤ b) × NoConsole z.role) (same w u e) h.0
+  where
+    same : (a b : checked.Variable) → Some a ≡ Some b → a ≡ b
+    same a b e = cc e
+homed_at b (w ∷ us) (suc x) u h e = homed_at b us x u h.1 e
+
+-- so many blocks there are
+module _ (b : ℕ) where
+  names_homed : (block k : ℕ) (r : Role) (xs : List Name) → suc block ≤ b → NoConsole r → AreHomed b (variables_named block r k xs)
+  names_homed block k r [] l d = tt
+  names_homed block k r (x ∷ xs) l d = ((l, d), names_homed block k r xs l d)
+
+  formals_homed : (env : Env) (block : ℕ) (fs : List SynFormal) → suc block ≤ b → AreHomed b (formals_named env block fs)
+  formals_homed env block [] l = tt
+  formals_homed env block (f ∷ fs) l =
+      let k = kind_number (find env f.kind.text) in
+      homed_join b (variables_named block (role_of f.by_reference) k f.names) (formals_named env block fs) (names_homed block k (role_of f.by_reference) f.names l (no_console f.by_reference)) (formals_homed env block fs l)
+    where
+      no_console : (r : Bool) → NoConsole (role_of r)
+      no_console true = tt
+      no_console false = tt
+
+  answer_homed : (env : Env) (block : ℕ) (x : Name) (answer : Option Name) → suc block ≤ b → AreHomed b (answer_named env block x answer)
+  answer_homed env block x None l = tt
+  answer_homed env block x (Some t) l = ((l, tt), tt)
+
+  module _ (block : ℕ) (l : suc block ≤ b) where
+    mutual
+      indices_homed : (s : Statement) → AreHomed b (indices block s)
+      indices_homed (Does at form) = form_homed form
+
+      form_homed : (form : Form) → AreHomed b (form_indices block form)
+      form_homed Empty = tt
+      form_homed (Assign v e) = tt
+      form_homed (Call f args) = tt
+      form_homed (Sequence ss) = all_homed ss
+      form_homed (If e a o) = homed_join b (indices block a) (other_indices block o) (indices_homed a) (other_homed o)
+      form_homed (While e a) = indices_homed a
+      form_homed (Repeat ss e) = all_homed ss
+      form_homed (Case e arms) = arms_homed arms
+      form_homed (For x from down to a) = indices_homed a
+      form_homed (Parallel bs) = branches_homed bs
+      form_homed (Forall x from to a) = ((l, tt), indices_homed a)
+      form_homed (Assume e) = tt
+
+      other_homed : (o : Other) → AreHomed b (other_indices block o)
+      other_homed NoElse = tt
+      other_homed (Else a) = indices_homed a
+
+      all_homed : (ss : Statements) → AreHomed b (statements_indices block ss)
+      all_homed NoStatement = tt
+      all_homed (AndThen a rest) = homed_join b (indices block a) (statements_indices block rest) (indices_homed a) (all_homed rest)
+
+      arms_homed : (arms : Arms) → AreHomed b (arms_indices block arms)
+      arms_homed NoArm = tt
+      arms_homed (Or (On cs a) rest) = homed_join b (indices block a) (arms_indices block rest) (indices_homed a) (arms_homed rest)
+
+      branches_homed : (bs : Branches) → AreHomed b (branches_indices block bs)
+      branches_homed NoBranch = tt
+      branches_homed (Beside ss rest) = homed_join b (statements_indices block ss) (branches_indices block rest) (all_homed ss) (branches_homed rest)
+
+  mutual
+    parts_homed : (around : List names.Scope) (l : Local) (ps : Parts) → w.parts_sites [] together all_at around l ps ≡ [] → suc l.block ≤ b → next_block l.counts + length (parts_named around l ps).blocks ≤ b → AreHomed b (parts_named around l ps).variables
+    parts_homed around l NoPart calm low room = tt
+    parts_homed around l (Declare q rest) calm low room =
+        let next = part_local l q in
+        let two = calm_parts (w.part_sites [] together all_at around l q) (w.parts_sites [] together all_at around next rest) calm in
+        let one = part_named around l q in
+        let others = parts_named around next rest in
+        let moved = (part_moves around l q two.0).3 in
+        let space : next_block l.counts + length (one.blocks ++ others.blocks) ≤ b = room in
+        let sum = length-append one.blocks others.blocks in
+        homed_join b one.variables others.variables (part_homed around l q two.0 low (omega (arith, space, sum)))
+        (parts_homed around next rest two.1 (subst (λ z. suc z ≤ b) (sym (part_block l q)) low) (omega (arith, space, sum, moved)))
+
+    part_homed : (around : List names.Scope) (l : Local) (q : Part) → w.part_sites [] together all_at around l q ≡ [] → suc l.block ≤ b → next_block l.counts + length (part_named around l q).blocks ≤ b → AreHomed b (part_named around l q).variables
+    part_homed around l (Const x c) calm low room = tt
+    part_homed around l (Kind x k) calm low room = tt
+    part_homed around l (Var xs t) calm low room = names_homed l.block (kind_number (find (inside around l) t.text)) role.Local xs low tt
+    part_homed around l (Proc x fs answer parts body) calm low room =
+        let f = next_block l.counts in
+        let env = inside around l in
+        let in_ = deeper around (title_local l x fs answer) in
+        let head = heading_local l x fs answer in
+        let inner = parts_named in_ head parts in
+        let pieces = calm_pieces around l x fs answer parts body calm in
+        let up = head_blocks around l x fs answer parts body calm in
+        let number = head_number around l x fs answer parts body calm in
+        let space : f + suc (length inner.blocks) ≤ b = room in
+        let own : suc f ≤ b = omega (arith, space) in
+        homed_join b (formals_named env f fs) (answer_named env f x answer ++ (inner.variables ++ indices head.block body)) (formals_homed env f fs own)
+        (homed_join b (answer_named env f x answer) (inner.variables ++ indices head.block body) (answer_homed env f x answer own)
+        (homed_join b inner.variables (indices head.block body) (parts_homed in_ head parts pieces.2 (subst (λ z. suc z ≤ b) (sym number) own) (omega (arith, space, up)))
+        (indices_homed head.block (subst (λ z. suc z ≤ b) (sym number) own) body)))
+
+module _ (s : syntax.Program) (calm : names_broken s ≡ []) where
+  abbrev body_ : Statement
+  body_ = s.block.body
+
+  abbrev inner_ : n.Program
+  inner_ = parts_named (standard ∷ []) empty s.block.parts
+
+  rest_homed : AreHomed (suc (length inner_.blocks)) (inner_.variables ++ indices 0 body_)
+  rest_homed =
+      let std = standard ∷ [] in
+      let parts = w.parts_sites [] together all_at std empty s.block.parts in
+      let body = w.statement_sites [] together all_at std (parts_local empty s.block.parts) body_ in
+      let two = calm_parts parts body (calm_parts (w.files_sites [] together all_at [] s.heading) (together parts body) calm).1 in
+      homed_join (suc (length inner_.blocks)) inner_.variables (indices 0 body_) (parts_homed (suc (length inner_.blocks)) std empty s.block.parts two.0 (omega arith) (omega arith)) (indices_homed (suc (length inner_.blocks)) 0 (omega arith) body_)
+
+  -- a variable of the tree with numbers for names
+  role_home : (x : ℕ) (u : checked.Variable) → slice_get (named s calm).variables x ≡ Some u → (suc u.block ≤ suc (length inner_.blocks)) × (u.role ≡ role.Console → (u.block ≡ 0) × (suc x ≤ 2))
+  role_home zero u e = (subst (λ (z : checked.Variable). suc z.block ≤ suc (length inner_.blocks)) (same e) (omega arith), λ c. (ap (λ (z : checked.Variable). z.block) (sym (same e)), omega arith))
+    where
+      same : {a b : checked.Variable} → Some a ≡ Some b → a ≡ b
+      same e = cc e
+  role_home (suc zero) u e = (subst (λ (z : checked.Variable). suc z.block ≤ suc (length inner_.blocks)) (same e) (omega arith), λ c. (ap (λ (z : checked.Variable). z.block) (sym (same e)), omega arith))
+    where
+      same : {a b : checked.Variable} → Some a ≡ Some b → a ≡ b
+      same e = cc e
+  role_home (suc (suc x)) u e = let h = homed_at (suc (length inner_.blocks)) (inner_.variables ++ indices 0 body_) x u rest_homed e in (h.0, λ c. absurd (subst NoConsole c h.1))
+
+  block_there : (k : ℕ) (bs : List n.Block) (j : ℕ) → HoldsBlocks (tree s calm) (length (named s calm).constants) k bs → suc j ≤ length bs → (b : plain.Block) × (slice_get (tree s calm).blocks (k + j) ≡ Some b)
+  block_there k [] j h l = absurd (omega (arith, l))
+  block_there k (b ∷ bs) zero h l = (h.0.0, subst (λ z. slice_get (tree s calm).blocks z ≡ Some h.0.0) (let z : k ≡ k + 0 = omega arith in z) h.0.1)
+  block_there k (b ∷ bs) (suc j) h l = let r = block_there (suc k) bs j h.1 (omega (arith, l)) in (r.0, subst (λ z. slice_get (tree s calm).blocks z ≡ Some r.0) (let z : suc k + j ≡ k + suc j = omega arith in z) r.1)
+
+  abbrev last : List (Option ℕ)
+  last = (blocks_after (env_of (named s calm)) (starts_of (named s calm).blocks) (named s calm).blocks).variables
+
+  pub homes : (x : ℕ) (v : plain.Variable) → slice_get (tree s calm).variables x ≡ Some v → (b : plain.Block) × (slice_get (tree s calm).blocks v.block ≡ Some b)
+  homes x v at =
+      let u = variable_from last (named s calm).variables x v at in
+      let h = (role_home x u.0 u.1).0 in
+      let b = block_there 0 (named s calm).blocks u.0.block (held_blocks s calm) h in
+      (b.0, subst (λ z. slice_get (tree s calm).blocks z ≡ Some b.0) (let z : 0 + u.0.block ≡ u.0.block = omega arith in z ∙ sym u.3) b.1)
+
+  pub consoles : (x : ℕ) (v : plain.Variable) → slice_get (tree s calm).variables x ≡ Some v → v.role ≡ role.Console → (v.block ≡ 0) × (x < 2)
+  consoles x v at e =
+      let u = variable_from last (named s calm).variables x v at in
+      let h = (role_home x u.0 u.1).1 (sym u.2 ∙ e) in
+      (u.3 ∙ h.0, h.1)
+
+  -- the program's block stands in none, and has no parameters and no result
+  pub program_block : (b : plain.Block) → slice_get (tree s calm).blocks 0 ≡ Some b → (b.parent ≡ None) × (b.formals ≡ []) × (b.answer ≡ None)
+  program_block b at =
+      let c = (held_blocks s calm).0 in
+      let e = same c.0 b (sym c.1 ∙ at) in
+      (ap (λ (z : plain.Block). z.parent) (sym e) ∙ c.2, ap (λ (z : plain.Block). z.formals) (sym e) ∙ c.3, ap (λ (z : plain.Block). z.answer) (sym e) ∙ c.4)
+    where
+      same : (x y : plain.Block) → Some x ≡ Some y → x ≡ y
+      same x y e = cc e

@@ -1,0 +1,77 @@
+-- A tree that breaks no rule of interference keeps them at every use, and a call of a function leads to no statement that it may not have.
+use Rattle.std.proofs.Common.{◌≡◌, refl, sym, subst, ℕ, [], ◌∷◌, Some, length, slice_get}
+use Rattle.sp_base.specs.declared.place.Place.{Place}
+use Rattle.sp_base.specs.declared.rule.Rule.TheVariants as rule
+use Rattle.sp_tree.specs.PlainChecked as c
+use Rattle.sp_tree.specs.PlainNamed as n
+use Rattle.sp_tree.specs.PlainSyntax as syntax
+use Rattle.sp_tree.specs.Plain as plain
+use Rattle.sp_tree.specs.NamedTree.{program_named}
+use Rattle.sp_tree.specs.NameFirst.{names_broken}
+use Rattle.sp_tree.specs.Bare.{bare_statement, bare}
+use Rattle.sp_tree.specs.Uses.{Use, Aims, Sees, Runs, Splits, Spreads, Stops, In_stmt}
+use Rattle.sp_tree.specs.Sets.{LeadsToStop}
+use Rattle.sp_tree.specs.Interference.{IsIndexOf, IsFunction, IsFreeOfInterference}
+use Rattle.sp_tree.specs.Sites.{Site, statement_sites}
+use Rattle.sp_tree.specs.Interferes.{SiteStops}
+use Rattle.sp_tree.proofs.NoBreach.{HasIndex, block_at, blocks_kept}
+use Rattle.sp_types.specs.Tables.{env_of}
+use Rattle.sp_types.specs.TypeWalk.{starts_of}
+use Rattle.sp_types.specs.CheckedTree.{program_checked}
+use Rattle.sp_facts.specs.Has.{AnyBranches, AllFit}
+use Rattle.sp_code.specs.Quiet.{IsQuiet}
+use Rattle.sp_facts.specs.Gives.{KeepsInterference}
+use Rattle.sp_facts.proofs.Sites.{fit_at, fit_each, blocks_fit}
+use Rattle.sp_facts.proofs.UsesFit.{statement_kept}
+use Rattle.sp_facts.proofs.IndexRoles.{blocks_have}
+use Rattle.sp_facts.proofs.Homes.{consoles}
+use Rattle.sp_facts.proofs.Program.{parents, results, input, output, scoped}
+
+module _ (g : c.Program) (calm : KeepsInterference g) where
+  -- nothing at this site is what a function may not have
+  abbrev IsSilent : Site → Type 0
+  IsSilent site = (at : Place) → SiteStops (bare g) site at → ⊥
+
+  -- nor is this use
+  abbrev IsQuietUse : Use → Type 0
+  IsQuietUse (Aims x) = Unit {0}
+  IsQuietUse (Sees x) = Unit {0}
+  IsQuietUse (Runs f args) = LeadsToStop (bare g) f → ⊥
+  IsQuietUse (Splits ss) = Unit {0}
+  IsQuietUse (Spreads x s) = Unit {0}
+  IsQuietUse Stops = ⊥
+
+  quiet_use : (f : ℕ) (k : c.Block) → slice_get g.blocks f ≡ Some k → IsFunction (bare g) f → (u : Use) → In_stmt (bare_statement k.body) u → IsQuietUse u
+  quiet_use f k at function u i =
+      statement_kept IsSilent IsQuietUse (λ x. tt) (λ x. tt) (λ b here args h leads. h here (refl, leads)) (λ ss h. tt) (λ here x s h. tt) (λ here h. h here refl) k.body u
+      (fit_each IsSilent (statement_sites k.body) (λ site s here h. calm rule.I9 here (f, k, at, function, site, s, h))) i
+
+  -- a function leads to no statement that it may not have
+  pub function_quiet : (f x : ℕ) (b : plain.Block) → slice_get (bare g).blocks f ≡ Some b → b.answer ≡ Some x → IsQuiet (bare g) f
+  function_quiet f x b at ans (k, kat, [], r) =
+      let m = block_at g.blocks f k kat in
+      quiet_use f m.0 m.1 (b, x, at, ans) Stops (subst (λ (z : plain.Block). In_stmt z.body Stops) (sym m.2) r)
+  function_quiet f x b at ans (k, kat, d ∷ ds, (args, h, next, nat, passes, r)) =
+      let m = block_at g.blocks f k kat in
+      quiet_use f m.0 m.1 (b, x, at, ans) (Runs d args) (subst (λ (z : plain.Block). In_stmt z.body (Runs d args)) (sym m.2) h) (next, nat, ds, r)
+
+module _ (s : syntax.Program) (calm : names_broken s ≡ []) (kept : KeepsInterference (program_checked (program_named s))) where
+  abbrev g_ : c.Program
+  g_ = program_checked (program_named s)
+
+  abbrev n_ : n.Program
+  n_ = program_named s
+
+  indices_fit : (f : ℕ) (b : c.Block) → slice_get g_.blocks f ≡ Some b → AllFit (HasIndex (bare g_)) (statement_sites b.body)
+  indices_fit f b at = blocks_fit (HasIndex (bare g_)) (λ f at args. tt) (λ x at s. tt) (λ at. tt) (IsIndexOf (bare g_)) AnyBranches (λ at x s h. h) (λ env at bs h. tt) (env_of n_) (starts_of n_.blocks) n_.blocks
+      (blocks_have (bare g_) (length n_.constants) 0 n_.blocks (scoped s calm)) f b at
+
+  pub program_free : IsFreeOfInterference (bare g_)
+  program_free = record {
+    blocks = blocks_kept g_ kept (λ b k at site i. fit_at (HasIndex (bare g_)) (statement_sites k.body) site (indices_fit b k at) i);
+    parents = λ b k q at e. parents s calm b q k at e;
+    consoles = consoles s calm;
+    answers = λ b k x at e. results s calm b k x at e;
+    input = input s calm;
+    output = output s calm;
+  }

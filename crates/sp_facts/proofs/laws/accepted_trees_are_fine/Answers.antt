@@ -1,0 +1,11 @@
+use Rattle.sp_facts.proofs.Joining.{accepted_formed, accepted_free, accepted_fine}
+use Rattle.sp_facts.proofs.laws.accepted_trees_are_fine.Goals as goal
+
+pub returns-clause-formed : goal.returns-clause-formed
+returns-clause-formed c = λ text g accepted. accepted_formed text g accepted
+
+pub returns-clause-free : goal.returns-clause-free
+returns-clause-free c = λ text g accepted. accepted_free text g accepted
+
+pub returns-clause-fine : goal.returns-clause-fine
+returns-clause-fine c = λ text g accepted moves shares f q b at. accepted_fine text g accepted moves shares f q b at
