@@ -11,6 +11,7 @@
 //! far a set goes, so that a few windows see it whole.
 #![tactic(auto)]
 
+mod from;
 mod sets;
 mod union;
 mod var_set;

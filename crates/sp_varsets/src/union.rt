@@ -6,6 +6,7 @@ ghost use Rattle.sp_varsets.specs.Members.{has, InWindow, joined};
 use crate::var_set::VarSet;
 
 /// The union of the sets that were added, of the 8,256 variables from number `64 * first` on. It takes no memory.
+#[derive(Drop)]
 pub struct VarUnion {
     pub(crate) first: u32,
     pub(crate) words: [u64; 129],
