@@ -27,7 +27,7 @@ two_conds f g true false x x1 y y1 e h k = absurd (cc e)
 two_conds f g false true x x1 y y1 e h k = absurd (cc e)
 two_conds f g false false x x1 y y1 e h k = k
 
-pending_at : (p : ℕ) (a : Option (Way × ℕ)) (b : Option ℕ) (m : ℕ → Option (Way × ℕ)) (n : ℕ → Option ℕ) → SamePending a b → ((q : ℕ) → SamePending (m q) (n q)) → (q : ℕ) → SamePending (at_key ◌==◌ p a m q) (at_key ◌==◌ p b n q)
+pub pending_at : (p : ℕ) (a : Option (Way × ℕ)) (b : Option ℕ) (m : ℕ → Option (Way × ℕ)) (n : ℕ → Option ℕ) → SamePending a b → ((q : ℕ) → SamePending (m q) (n q)) → (q : ℕ) → SamePending (at_key ◌==◌ p a m q) (at_key ◌==◌ p b n q)
 pending_at p a b m n e h q = go (p == q)
   where
     go : (t : Bool) → SamePending (cond t a (m q)) (cond t b (n q))

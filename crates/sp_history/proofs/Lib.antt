@@ -4,3 +4,11 @@ pub mod Agreeing
 pub mod Staying
 pub mod Legal
 pub mod Outs
+pub mod Keeping
+pub mod Cells
+pub mod Memories
+pub mod Speaking
+pub mod Families
+pub mod InTurn
+pub mod Naming
+pub mod OneFault

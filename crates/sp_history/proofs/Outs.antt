@@ -27,11 +27,11 @@ outs_start = record { outs = []; count = refl; distinct = tt {0}; each = tt {0};
 
 -- ---- a list without a number
 
-abbrev without : ℕ → List ℕ → List ℕ
+abbrev pub without : ℕ → List ℕ → List ℕ
 without p [] = []
 without p (x ∷ xs) = cond (p == x) xs (x ∷ without p xs)
 
-without_length : (p : ℕ) (xs : List ℕ) → Among p xs → length (without p xs) ≡ length xs - 1
+pub without_length : (p : ℕ) (xs : List ℕ) → Among p xs → length (without p xs) ≡ length xs - 1
 without_length p [] i = absurd i
 without_length p (x ∷ xs) i = go (number_or p x) i (without_length p xs) (some xs)
   where
@@ -68,7 +68,7 @@ without_gone p (x ∷ xs) d = go (number_or p x) (without_gone p xs d.1)
     go (inl is) h = rw (subst (λ y. p == y ≡ true) is (itself p)) (each_of (λ y. y ≢ x) (λ y. y ≢ p) xs (λ y n e. n (e ∙ is)) d.0)
     go (inr n) h = rw (n.1) ((λ e. n.0 (sym e)), h)
 
-without_has : (p q : ℕ) (xs : List ℕ) → q ≢ p → Among q xs → Among q (without p xs)
+pub without_has : (p q : ℕ) (xs : List ℕ) → q ≢ p → Among q xs → Among q (without p xs)
 without_has p q [] n i = absurd i
 without_has p q (x ∷ xs) n i = go (number_or p x) i (without_has p q xs n)
   where

@@ -1,1 +1,6 @@
 pub mod Agreement
+pub mod Channels
+pub mod Spoken
+pub mod Lines
+pub mod Counted
+pub mod Faults

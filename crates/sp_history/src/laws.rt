@@ -1,15 +1,25 @@
 //! What follows from the definitions of legal histories of the kernel, for every code, input and limits. These functions do
 //! nothing: each one's contract is a law, and whoever rests on the law cites it.
 
-ghost use Rattle.std.specs.Prelude.{◌≡◌, ◌≢◌, ℕ, List, [], ◌++◌};
+ghost use Rattle.std.specs.Prelude.{◌≡◌, ◌≢◌, ◌<◌, ℕ, List, [], ◌++◌, None, Some, slice_get};
 ghost use Rattle.sp_cell.specs.Map.{Plain};
 ghost use Rattle.sp_journal.specs.declared.entry.Note.{Note};
-ghost use Rattle.sp_code.specs.Machine.{Config};
-ghost use Rattle.sp_code.specs.Memory.{Setting, Memory};
+ghost use Rattle.sp_journal.specs.declared.entry.Birth.{Birth};
+ghost use Rattle.sp_journal.specs.declared.entry.Entry.{Entry};
+ghost use Rattle.sp_journal.specs.Births.{at_start, NameableFrom};
+ghost use Rattle.sp_journal.specs.Queue.{line_at_start, InTurnFrom};
+ghost use Rattle.sp_code.specs.Machine.{Config, Stop};
+ghost use Rattle.sp_code.specs.Turns.{Stopped, IsTurn};
+ghost use Rattle.sp_code.specs.Sound.{AreLimits};
+ghost use Rattle.sp_code.specs.Memory.{Setting, Memory, memory};
 ghost use Rattle.sp_code.specs.PlainStore.{plain};
-ghost use Rattle.sp_code.specs.Control.{Out, Gone, control, control_at_start, noted_all, entries_of};
+ghost use Rattle.sp_code.specs.Control.{Out, Joining, Gone, control, control_at_start, noted_all, entries_of};
 ghost use Rattle.sp_code.specs.System.{System, Runs, IsSystem, IsLegal, opening};
 ghost use Rattle.sp_history.specs.Agreement.{IsOrderly, Agrees, Reaches, NoneBy, HasOuts, IsOver, Running, phase_in};
+ghost use Rattle.sp_history.specs.Channels.{StopHas};
+ghost use Rattle.sp_history.specs.Spoken.{IsSpoken};
+ghost use Rattle.sp_history.specs.Lines.{OneByOne};
+ghost use Rattle.sp_history.specs.Faults.{IsFaulty};
 
 /// A legal history leads to exactly one system: the one along the journal of its notes. The control of its notes and that
 /// system tell the same of every process; and the control counts the processes that are out.
@@ -30,4 +40,23 @@ pub fn histories_keep_what_is_out()
     ensures idle { (g : Setting) (ns : List Note) (s : System Plain) → Reaches plain g control_at_start (opening plain g) ns s → (control ns).ready ≡ [] → (control ns).out ≡ 0
         → ((q : ℕ) → (control ns).doing q ≢ Gone) → (q : ℕ) → phase_in (s.condition q) ≢ Running }
     ensures over { (g : Setting) (ns more : List Note) (s t : System Plain) → Reaches plain g control_at_start (opening plain g) ns s → IsOver (control ns) → Reaches plain g (control ns) s more t → entries_of more ≡ [] }
+{}
+
+/// Every process of a run has the number at which it stands, and all channels in its operands, its offer and its variables are
+/// there; so a turn that ends at an offer offers on a channel that is there. The journal of a run with limits of 32 bits is
+/// nameable, and has one fault at most.
+pub fn journals_name_what_is_there()
+    ensures spoken { (g : Setting) (es : List Entry) (s : System Plain) → IsSystem plain g es s → IsSpoken s }
+    ensures offered { (g : Setting) (es : List Entry) (s : System Plain) (q : ℕ) (c d : Config (Memory Plain)) (stop : Stop) → IsSystem plain g es s → s.condition q ≡ Runs c
+        → IsTurn (memory plain g) g.code c (Stopped stop d) → StopHas (λ n. n < s.births.channels) stop }
+    ensures nameable { (g : Setting) (es : List Entry) (s : System Plain) → AreLimits g.limits → IsSystem plain g es s → NameableFrom at_start es }
+    ensures fault { (g : Setting) (es : List Entry) (s : System Plain) (i j : ℕ) (d e : Entry) → IsSystem plain g es s → slice_get es i ≡ Some d → slice_get es j ≡ Some e → IsFaulty d.event → IsFaulty e.event → i ≡ j }
+{}
+
+/// After a legal history the parent of a process that is out waits for its children. Where one worker hands in with each ask what
+/// it holds, the journal is first in, first out.
+pub fn histories_keep_turns()
+    ensures joined { (g : Setting) (ns : List Note) (s : System Plain) (q w : ℕ) (b : Birth) → Reaches plain g control_at_start (opening plain g) ns s → (control ns).doing q ≡ Out w → (control ns).births.birth q ≡ Some b
+        → (n : ℕ) × ((control ns).doing b.parent ≡ Joining n) }
+    ensures turns { (g : Setting) (ns : List Note) (s : System Plain) → Reaches plain g control_at_start (opening plain g) ns s → OneByOne None ns → InTurnFrom at_start line_at_start (entries_of ns) }
 {}

@@ -1,0 +1,59 @@
+-- The channels that a process can speak of: those in its operands, its stop and the cells of its store.
+use Rattle.std.specs.Prelude.{ℕ, List, [], ◌∷◌}
+use Rattle.sp_cell.specs.declared.cell.Cell.{Cell}
+use Rattle.sp_cell.specs.declared.cell.Cell.TheVariants as cell
+use Rattle.sp_cell.specs.declared.spot.Spot.{Spot}
+use Rattle.sp_code.specs.Machine.{Entry, Number, Chan, Pointer, Cells, Link, Reply, Stop, Forks, Opens, Sends, Receives, Ends, Pauses, Config, At, One, Goes, Stops, Fails, Stuck}
+use Rattle.sp_code.specs.Turns.{Turn, Stopped, Faulted}
+use Rattle.sp_code.specs.Memory.{Stores, cells_at}
+
+module _ (C : ℕ → Type 0) where
+  -- the channel in a cell, if there is one, has the property
+  abbrev pub CellHas : Cell → Type 0
+  CellHas cell.Undefined = Unit {0}
+  CellHas (cell.Ordinal v) = Unit {0}
+  CellHas (cell.Channel c) = C c
+
+  abbrev pub CellsHave : List Cell → Type 0
+  CellsHave [] = Unit {0}
+  CellsHave (c ∷ cs) = CellHas c × CellsHave cs
+
+  abbrev pub EntryHas : Entry → Type 0
+  EntryHas (Number v) = Unit {0}
+  EntryHas (Chan c) = C c
+  EntryHas (Pointer a) = Unit {0}
+  EntryHas (Cells cs) = CellsHave cs
+  EntryHas (Link r) = Unit {0}
+  EntryHas (Reply r) = Unit {0}
+
+  abbrev pub EntriesHave : List Entry → Type 0
+  EntriesHave [] = Unit {0}
+  EntriesHave (e ∷ es) = EntryHas e × EntriesHave es
+
+  -- what a process stops at speaks of such channels alone
+  abbrev pub StopHas : Stop → Type 0
+  StopHas (Forks t v n) = Unit {0}
+  StopHas (Opens a) = Unit {0}
+  StopHas (Sends c k cs) = C c × CellsHave cs
+  StopHas (Receives c k a) = C c
+  StopHas Ends = Unit {0}
+  StopHas Pauses = Unit {0}
+
+  -- each cell of each piece that a store holds
+  abbrev pub StoreHas : {S : Type 0} → Stores S → S → Type 0
+  StoreHas stores s = (p : Spot) → CellsHave (cells_at stores s p)
+
+  module _ {M : Type 0} (I : M → Type 0) where
+    -- a process with such channels, and with a memory of which I holds
+    abbrev pub ConfigHas : Config M → Type 0
+    ConfigHas (At pc st n) = EntriesHave st × I n
+
+    abbrev pub TurnHas : Turn M → Type 0
+    TurnHas (Stopped stop c) = StopHas stop × ConfigHas c
+    TurnHas (Faulted f c) = ConfigHas c
+
+    abbrev pub OneHas : One M → Type 0
+    OneHas (Goes c) = ConfigHas c
+    OneHas (Stops stop c) = StopHas stop × ConfigHas c
+    OneHas (Fails f) = Unit {0}
+    OneHas Stuck = Unit {0}

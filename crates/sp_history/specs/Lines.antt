@@ -1,0 +1,41 @@
+-- Histories of one worker that hands in what it holds, with each of its asks.
+use Rattle.std.specs.Prelude.{◌≡◌, ℕ, List, [], ◌∷◌, length, Option, Some}
+use Rattle.sp_journal.specs.declared.entry.Note.{Note}
+use Rattle.sp_journal.specs.declared.entry.Birth.{Birth}
+use Rattle.sp_code.specs.Control.{Control, Doing, Unborn, Ready, Out, Sending, Receiving, Joining, Laid, Ended, Gone}
+use Rattle.sp_history.specs.Agreement.{Among}
+
+-- each note gives what the one before it got: at first o
+abbrev pub OneByOne : Option ℕ → List Note → Type 0
+OneByOne o [] = Unit {0}
+OneByOne o (n ∷ ns) = (n.given ≡ o) × OneByOne n.got ns
+
+-- how many children a process still waits for
+abbrev pub left_of : Doing → ℕ
+left_of Unborn = 0
+left_of Ready = 0
+left_of (Out w) = 0
+left_of (Sending c) = 0
+left_of (Receiving c) = 0
+left_of (Joining n) = n
+left_of Laid = 0
+left_of Ended = 0
+left_of Gone = 0
+
+-- it is there, and has not ended
+abbrev pub IsLive : Doing → Type 0
+IsLive Unborn = ⊥
+IsLive Ready = Unit {0}
+IsLive (Out w) = Unit {0}
+IsLive (Sending c) = Unit {0}
+IsLive (Receiving c) = Unit {0}
+IsLive (Joining n) = Unit {0}
+IsLive Laid = Unit {0}
+IsLive Ended = ⊥
+IsLive Gone = Unit {0}
+
+-- each process waits for as many children as it has that have not ended
+pub record HasChildren (k : Control) : Type 0 where
+  pub children : ℕ → List ℕ
+  pub count : (p : ℕ) → length (children p) ≡ left_of (k.doing p)
+  pub all : (q : ℕ) (b : Birth) → k.births.birth q ≡ Some b → IsLive (k.doing q) → Among q (children b.parent)
