@@ -1,0 +1,12 @@
+pub mod Along
+pub mod Broken
+pub mod Calls
+pub mod Clashes
+pub mod Each
+pub mod Exact
+pub mod Fits
+pub mod Least
+pub mod Means
+pub mod Some
+pub mod Standing
+pub mod Taken

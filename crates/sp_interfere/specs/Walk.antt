@@ -1,0 +1,83 @@
+-- Through a tree, site by site, in the order of the text: what is found from what was found before.
+use Rattle.std.specs.Prelude.{ℕ, List, [], ◌∷◌, Option, Some, None}
+use Rattle.sp_base.specs.declared.place.Place.{Place}
+use Rattle.sp_tree.specs.Found.{Found}
+use Rattle.sp_tree.specs.PlainChecked.{Expression, At, ExpressionForm, Number, Read, Unary, Binary, Apply, Standard, Variable, Entire, Selectors, Whole, Select, Index, Field, Actuals, Nothing, Pass, ByValue, ByReference, Expressions, NoExpression, AndExpression, Statement, Does, Form, Empty, Assign, Call, Sequence, If, While, Repeat, For, Case, Parallel, Forall, Assume, ReadValue, ReadLine, WriteValue, WriteText, WriteLine, Open, Send, Receive, Other, NoElse, Else, Statements, NoStatement, AndThen, On, Arms, NoArm, Or}
+use Rattle.sp_tree.specs.Sites.{Site, SplitsAt, SpreadsAt, LoopsAt, CallsAt, StopsAt}
+
+-- from one item to the next
+abbrev pub each_first : {A : Type 0} → (A → Found → Found) → List A → Found → Found
+each_first one [] given = given
+each_first one (x ∷ xs) given = each_first one xs (one x given)
+
+module _ (site : Site → Found → Found) where
+  abbrev mutual
+    pub expression_first : Expression → Found → Found
+    expression_first (At at k form) given = form_first form given
+
+    pub form_first : ExpressionForm → Found → Found
+    form_first (Number n) given = given
+    form_first (Read v) given = variable_first v given
+    form_first (Unary op a) given = expression_first a given
+    form_first (Binary op a b) given = expression_first b (expression_first a given)
+    form_first (Apply f at args) given = actuals_first args (site (CallsAt f at args) given)
+    form_first (Standard f args) given = parameter_first args given
+
+    pub parameter_first : Expressions → Found → Found
+    parameter_first NoExpression given = given
+    parameter_first (AndExpression a rest) given = expression_first a given
+
+    pub variable_first : Variable → Found → Found
+    variable_first (Entire x at ss) given = selectors_first ss given
+
+    pub selectors_first : Selectors → Found → Found
+    selectors_first Whole given = given
+    selectors_first (Select (Index e) rest) given = selectors_first rest (expression_first e given)
+    selectors_first (Select (Field f) rest) given = selectors_first rest given
+
+    pub actuals_first : Actuals → Found → Found
+    actuals_first Nothing given = given
+    actuals_first (Pass (ByValue e) rest) given = actuals_first rest (expression_first e given)
+    actuals_first (Pass (ByReference v) rest) given = actuals_first rest (variable_first v given)
+
+  abbrev pub width_first : Option Expression → Found → Found
+  width_first None given = given
+  width_first (Some e) given = expression_first e given
+
+  abbrev mutual
+    pub statement_first : Statement → Found → Found
+    statement_first (Does n at form) given = statement_form_first at form given
+
+    pub statement_form_first : Place → Form → Found → Found
+    statement_form_first at Empty given = given
+    statement_form_first at (Assign v e) given = expression_first e (variable_first v given)
+    statement_form_first at (Call f args) given = actuals_first args (site (CallsAt f at args) given)
+    statement_form_first at (Sequence ss) given = statements_first ss given
+    statement_form_first at (If e s o) given = other_first o (statement_first s (expression_first e given))
+    statement_form_first at (While e s) given = statement_first s (expression_first e given)
+    statement_form_first at (Repeat s e) given = statement_first s (expression_first e given)
+    statement_form_first at (For x name from down to s) given = statement_first s (expression_first to (expression_first from (site (LoopsAt x name s) given)))
+    statement_form_first at (Case e arms) given = arms_first arms (expression_first e given)
+    statement_form_first at (Parallel ss) given = statements_first ss (site (StopsAt at) (site (SplitsAt ss) given))
+    statement_form_first at (Forall x from to s) given = statement_first s (expression_first to (expression_first from (site (StopsAt at) (site (SpreadsAt at x s) given))))
+    statement_form_first at (Assume e) given = expression_first e given
+    statement_form_first at (ReadValue v) given = variable_first v (site (StopsAt at) given)
+    statement_form_first at ReadLine given = site (StopsAt at) given
+    statement_form_first at (WriteValue e w) given = width_first w (expression_first e (site (StopsAt at) given))
+    statement_form_first at (WriteText t w) given = width_first w (site (StopsAt at) given)
+    statement_form_first at WriteLine given = site (StopsAt at) given
+    statement_form_first at (Open v) given = variable_first v (site (StopsAt at) given)
+    statement_form_first at (Send c e) given = expression_first e (expression_first c (site (StopsAt at) given))
+    statement_form_first at (Receive c v) given = variable_first v (expression_first c (site (StopsAt at) given))
+
+    pub other_first : Other → Found → Found
+    other_first NoElse given = given
+    other_first (Else s) given = statement_first s given
+
+    pub statements_first : Statements → Found → Found
+    statements_first NoStatement given = given
+    statements_first (AndThen s rest) given = statements_first rest (statement_first s given)
+
+    pub arms_first : Arms → Found → Found
+    arms_first NoArm given = given
+    arms_first (Or (On cs s) rest) given = arms_first rest (statement_first s given)

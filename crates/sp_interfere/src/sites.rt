@@ -1,0 +1,217 @@
+//! The rules at each place where one could be broken.
+
+ghost use Rattle.std.specs.Prelude.{◌≡◌, ◌∷◌, [], ◌==◌, Some, map, length, slice_get};
+ghost use Rattle.std.specs.List.{list_any};
+ghost use Rattle.std.specs.Option.{option_copied, option_map};
+ghost use Rattle.sp_tree.specs.CheckedOf.{actuals, actual_of, block_of, statement_of, statements, program_of};
+ghost use Rattle.sp_tree.specs.Sites.{CallsAt, LoopsAt, SpreadsAt, SplitsAt, StopsAt};
+ghost use Rattle.sp_interfere.specs.Rules.{parent_of, stands_in, inside_rule, called_first, passed_first, repeats_first, references, site_first};
+
+use crate::asked::{has_declared, has_implicit, is_any};
+use crate::parts::parts_first;
+use sp_base::{List, Place, Rule};
+use sp_tree::{Actual, Block, Checked, Found, Stmt, breaks_if, lesser};
+use sp_varsets::Sets;
+
+/// The block around a block.
+fn parent_of(c: &Checked, b: u32) -> Option<u32>
+    ensures { result ≡ parent_of (slice_get (program_of c.now).blocks b) }
+{
+    match c.blocks.get(b as usize) {
+        None => None,
+        Some(k) => k.parent,
+    }
+}
+
+/// Whether block `d` is block `f` or stands in it.
+#[tactic(auto, using(crate::proofs::Standing::standing, crate::proofs::Standing::standing_nowhere))]
+fn stands_in(c: &Checked, d: u32, f: u32) -> bool
+    ensures { result ≡ stands_in (program_of c.now).blocks (length (program_of c.now).blocks) (Some d) f }
+{
+    let mut here = Some(d);
+    'up: for _ in 0..c.blocks.len() {
+        match here {
+            None => return false,
+            Some(b) => {
+                if b == f {
+                    return true;
+                }
+                here = parent_of(c, b);
+            }
+        }
+    }
+    false
+}
+
+/// I6 at the heading of block `f`, which is called in block `d`.
+fn inside_rule(d: u32, f: u32, at: Place, c: &Checked, s: &Sets) -> Found
+    ensures { result ≡ inside_rule s.now (program_of c.now) d f at }
+{
+    breaks_if(Rule::I6, at, stands_in(c, d, f) && has_declared(s, f))
+}
+
+/// Whether the variable is a variable parameter among these.
+fn is_passed(y: u32, earlier: &[Actual]) -> bool
+    ensures { result ≡ list_any (λ x. y == x) (references (actuals (map actual_of earlier.now))) }
+{
+    for a in earlier {
+        match a {
+            Actual::Value(_) => {}
+            Actual::Reference(v) => {
+                if y == v.variable {
+                    return true;
+                }
+            }
+        }
+    }
+    false
+}
+
+/// I4 at a parameter of a call, behind earlier ones.
+fn repeat_first(earlier: &[Actual], a: &Actual, s: &Sets, first: Found) -> Found
+    ensures { result ≡ repeats_first s.now (references (actuals (map actual_of earlier.now))) (actuals (map actual_of (a.now ∷ []))) first }
+{
+    match a {
+        Actual::Value(_) => first,
+        Actual::Reference(v) => {
+            lesser(
+                first,
+                breaks_if(Rule::I4, v.at, is_passed(v.variable, earlier)),
+            )
+        }
+    }
+}
+
+/// I4 at the parameters of a call.
+fn repeats_first(args: &[Actual], s: &Sets, first: Found) -> Found
+    ensures { result ≡ repeats_first s.now [] (actuals (map actual_of args.now)) first }
+{
+    let mut first = first;
+    'each: for i in 0..args.len() {
+        first = repeat_first(&args[..i], &args[i], s, first);
+    }
+    first
+}
+
+/// I5 at the parameters of a call of block `f`.
+fn passed_first(f: u32, args: &[Actual], s: &Sets, first: Found) -> Found
+    ensures { result ≡ passed_first s.now f (actuals (map actual_of args.now)) first }
+{
+    let mut first = first;
+    for a in args {
+        match a {
+            Actual::Value(_) => {}
+            Actual::Reference(v) => {
+                let broken = has_implicit(s, f, v.variable);
+                first = lesser(first, breaks_if(Rule::I5, v.at, broken));
+            }
+        }
+    }
+    first
+}
+
+/// I5, I6 and I9 at a call in block `d`.
+fn called_first(
+    k: Option<&Block>,
+    f: u32,
+    at: Place,
+    args: &[Actual],
+    c: &Checked,
+    s: &Sets,
+    in_function: bool,
+    d: u32,
+    first: Found,
+) -> Found
+    ensures { result ≡ called_first s.now (program_of c.now) in_function d f at (actuals (map actual_of args.now)) (option_map block_of (option_copied k.entry)) first }
+{
+    match k {
+        None => first,
+        Some(k) => {
+            let first = passed_first(f, args, s, first);
+            let first = lesser(first, inside_rule(d, f, k.at, c, s));
+            lesser(first, breaks_if(Rule::I9, at, in_function && s.stops(f)))
+        }
+    }
+}
+
+/// A call in block `d`, which is a function or not.
+#[tactic(auto, using(crate::proofs::Standing::block_there))]
+pub fn call_first(
+    f: u32,
+    at: Place,
+    args: &List<Actual>,
+    c: &Checked,
+    s: &Sets,
+    in_function: bool,
+    d: u32,
+    first: Found,
+) -> Found
+    ensures { result ≡ site_first s.now (program_of c.now) in_function d (CallsAt f at (actuals (map actual_of args.now))) first }
+{
+    let first = repeats_first(args.items(), s, first);
+    let k = c.blocks.get(f as usize);
+    called_first(k, f, at, args.items(), c, s, in_function, d, first)
+}
+
+/// A parallel statement.
+pub fn split_first(
+    parts: &List<Stmt>,
+    c: &Checked,
+    s: &Sets,
+    in_function: bool,
+    d: u32,
+    first: Found,
+) -> Found
+    ensures { result ≡ site_first s.now (program_of c.now) in_function d (SplitsAt (statements (map statement_of parts.now))) first }
+{
+    parts_first(parts.items(), s, first)
+}
+
+/// A forall statement with this element statement.
+pub fn spread_first(
+    at: Place,
+    x: u32,
+    t: &Stmt,
+    c: &Checked,
+    s: &Sets,
+    in_function: bool,
+    d: u32,
+    first: Found,
+) -> Found
+    ensures { result ≡ site_first s.now (program_of c.now) in_function d (SpreadsAt at x (statement_of t.now)) first }
+{
+    lesser(first, breaks_if(Rule::I2, at, is_any(s.targets(t.number))))
+}
+
+/// A `for` statement with this variable and this body.
+pub fn loop_first(
+    x: u32,
+    at: Place,
+    t: &Stmt,
+    c: &Checked,
+    s: &Sets,
+    in_function: bool,
+    d: u32,
+    first: Found,
+) -> Found
+    ensures { result ≡ site_first s.now (program_of c.now) in_function d (LoopsAt x at (statement_of t.now)) first }
+{
+    lesser(
+        first,
+        breaks_if(Rule::I3, at, s.targets(t.number).contains(x)),
+    )
+}
+
+/// A statement that a function may not have.
+pub fn stop_first(
+    at: Place,
+    c: &Checked,
+    s: &Sets,
+    in_function: bool,
+    d: u32,
+    first: Found,
+) -> Found
+    ensures { result ≡ site_first s.now (program_of c.now) in_function d (StopsAt at) first }
+{
+    lesser(first, breaks_if(Rule::I9, at, in_function))
+}
