@@ -2,7 +2,6 @@
 use Rattle.std.proofs.Common.{◌≡◌, ap, sym, ◌∙◌, subst, ℕ, zero, suc, ◌+◌, ◌≤◌, List, [], ◌∷◌, ◌++◌, Option, Some, None, Bool, true, false, length, slice_get, arith}
 use Rattle.std.specs.Prelude.{◌<◌}
 use Rattle.std.proofs.lemmas.List.{length-append}
-use Rattle.sp_tree.specs.declared.checked.Role.{Role}
 use Rattle.sp_tree.specs.declared.checked.Role.TheVariants as role
 use Rattle.sp_tree.specs.declared.checked.Variable as checked
 use Rattle.sp_tree.specs.declared.syntax.Name.{Name}
@@ -12,7 +11,7 @@ use Rattle.sp_tree.specs.Scopes as names
 use Rattle.sp_tree.specs.Scopes.{Env, Local, find, inside, empty, standard, next_block}
 use Rattle.sp_tree.specs.NameWalk as w
 use Rattle.sp_tree.specs.NameWalk.{role_of, title_local, heading_local, parts_local, part_local, deeper}
-use Rattle.sp_tree.specs.NamedTree.{kind_number, variables_named, formals_named, answer_named, parts_named, part_named, indices, form_indices, other_indices, statements_indices, arms_indices, branches_indices}
+use Rattle.sp_tree.specs.NamedTree.{kind_number, formals_named, answer_named, parts_named, part_named, indices}
 use Rattle.sp_tree.specs.PlainNamed as n
 use Rattle.sp_tree.specs.Plain as plain
 use Rattle.sp_tree.specs.PlainSyntax as syntax
@@ -22,14 +21,14 @@ use Rattle.sp_types.specs.TypeWalk.{starts_of, blocks_after}
 use Rattle.sp_facts.specs.Homed.{NoConsole, AreHomed}
 use Rattle.sp_facts.specs.Held.{HoldsBlocks}
 use Rattle.sp_facts.proofs.Calm.{calm_parts}
+use Rattle.sp_facts.proofs.Variables.{each_join, names_each, formals_each, answer_each, indices_each}
 use Rattle.sp_facts.proofs.Numbering.{part_moves}
 use Rattle.sp_facts.proofs.Blocks.{part_block, calm_pieces, head_blocks, head_number}
 use Rattle.sp_facts.proofs.KnowsFacts.{variable_from}
 use Rattle.sp_facts.proofs.Program.{named, tree, held_blocks}
 
 homed_join : (b : ℕ) (us vs : List checked.Variable) → AreHomed b us → AreHomed b vs → AreHomed b (us ++ vs)
-homed_join b [] vs h k = k
-homed_join b (u ∷ us) vs h k = (h.0, homed_join b us vs h.1 k)
+homed_join b us vs h k = each_join (λ (u : checked.Variable). (suc u.block ≤ b) × NoConsole u.role) us vs h k
 
 homed_at : (b : ℕ) (us : List checked.Variable) (x : ℕ) (u : checked.Variable) → AreHomed b us → slice_get us x ≡ Some u → (suc u.block ≤ b) × NoConsole u.role
 homed_at b [] x u h e = absurd (cc e)
@@ -41,58 +40,21 @@ homed_at b (w ∷ us) (suc x) u h e = homed_at b us x u h.1 e
 
 -- so many blocks there are
 module _ (b : ℕ) where
-  names_homed : (block k : ℕ) (r : Role) (xs : List Name) → suc block ≤ b → NoConsole r → AreHomed b (variables_named block r k xs)
-  names_homed block k r [] l d = tt
-  names_homed block k r (x ∷ xs) l d = ((l, d), names_homed block k r xs l d)
+  abbrev IsHomed : checked.Variable → Type 0
+  IsHomed u = (suc u.block ≤ b) × NoConsole u.role
 
   formals_homed : (env : Env) (block : ℕ) (fs : List SynFormal) → suc block ≤ b → AreHomed b (formals_named env block fs)
-  formals_homed env block [] l = tt
-  formals_homed env block (f ∷ fs) l =
-      let k = kind_number (find env f.kind.text) in
-      homed_join b (variables_named block (role_of f.by_reference) k f.names) (formals_named env block fs) (names_homed block k (role_of f.by_reference) f.names l (no_console f.by_reference)) (formals_homed env block fs l)
+  formals_homed env block fs l = formals_each IsHomed block env fs (λ x k r. (l, no_console r))
     where
       no_console : (r : Bool) → NoConsole (role_of r)
       no_console true = tt
       no_console false = tt
 
   answer_homed : (env : Env) (block : ℕ) (x : Name) (answer : Option Name) → suc block ≤ b → AreHomed b (answer_named env block x answer)
-  answer_homed env block x None l = tt
-  answer_homed env block x (Some t) l = ((l, tt), tt)
+  answer_homed env block x answer l = answer_each IsHomed block env x answer (λ k. (l, tt))
 
-  module _ (block : ℕ) (l : suc block ≤ b) where
-    mutual
-      indices_homed : (s : Statement) → AreHomed b (indices block s)
-      indices_homed (Does at form) = form_homed form
-
-      form_homed : (form : Form) → AreHomed b (form_indices block form)
-      form_homed Empty = tt
-      form_homed (Assign v e) = tt
-      form_homed (Call f args) = tt
-      form_homed (Sequence ss) = all_homed ss
-      form_homed (If e a o) = homed_join b (indices block a) (other_indices block o) (indices_homed a) (other_homed o)
-      form_homed (While e a) = indices_homed a
-      form_homed (Repeat ss e) = all_homed ss
-      form_homed (Case e arms) = arms_homed arms
-      form_homed (For x from down to a) = indices_homed a
-      form_homed (Parallel bs) = branches_homed bs
-      form_homed (Forall x from to a) = ((l, tt), indices_homed a)
-      form_homed (Assume e) = tt
-
-      other_homed : (o : Other) → AreHomed b (other_indices block o)
-      other_homed NoElse = tt
-      other_homed (Else a) = indices_homed a
-
-      all_homed : (ss : Statements) → AreHomed b (statements_indices block ss)
-      all_homed NoStatement = tt
-      all_homed (AndThen a rest) = homed_join b (indices block a) (statements_indices block rest) (indices_homed a) (all_homed rest)
-
-      arms_homed : (arms : Arms) → AreHomed b (arms_indices block arms)
-      arms_homed NoArm = tt
-      arms_homed (Or (On cs a) rest) = homed_join b (indices block a) (arms_indices block rest) (indices_homed a) (arms_homed rest)
-
-      branches_homed : (bs : Branches) → AreHomed b (branches_indices block bs)
-      branches_homed NoBranch = tt
-      branches_homed (Beside ss rest) = homed_join b (statements_indices block ss) (branches_indices block rest) (all_homed ss) (branches_homed rest)
+  indices_homed : (block : ℕ) → suc block ≤ b → (s : Statement) → AreHomed b (indices block s)
+  indices_homed block l s = indices_each IsHomed block (λ x. (l, tt)) s
 
   mutual
     parts_homed : (around : List names.Scope) (l : Local) (ps : Parts) → w.parts_sites [] together all_at around l ps ≡ [] → suc l.block ≤ b → next_block l.counts + length (parts_named around l ps).blocks ≤ b → AreHomed b (parts_named around l ps).variables
@@ -111,7 +73,7 @@ module _ (b : ℕ) where
     part_homed : (around : List names.Scope) (l : Local) (q : Part) → w.part_sites [] together all_at around l q ≡ [] → suc l.block ≤ b → next_block l.counts + length (part_named around l q).blocks ≤ b → AreHomed b (part_named around l q).variables
     part_homed around l (Const x c) calm low room = tt
     part_homed around l (Kind x k) calm low room = tt
-    part_homed around l (Var xs t) calm low room = names_homed l.block (kind_number (find (inside around l) t.text)) role.Local xs low tt
+    part_homed around l (Var xs t) calm low room = names_each IsHomed l.block role.Local (kind_number (find (inside around l) t.text)) xs (λ x. (low, tt))
     part_homed around l (Proc x fs answer parts body) calm low room =
         let f = next_block l.counts in
         let env = inside around l in

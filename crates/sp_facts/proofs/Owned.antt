@@ -1,5 +1,5 @@
 -- The parameters and the result of a block are its variables of these roles, in order.
-use Rattle.std.proofs.Common.{◌≡◌, refl, ap, sym, ◌∙◌, subst, ℕ, suc, ◌+◌, ◌≤◌, ◌==◌, List, [], ◌∷◌, ◌++◌, Option, Some, None, Bool, true, false, if◌then◌else◌, length, arith, eq-eqb}
+use Rattle.std.proofs.Common.{◌≡◌, refl, ap, sym, ◌∙◌, subst, ℕ, suc, ◌+◌, ◌≤◌, ◌==◌, List, [], ◌∷◌, ◌++◌, Option, Bool, true, false, if◌then◌else◌, length, arith, eq-eqb}
 use Rattle.std.specs.Prelude.{◌&&◌, map}
 use Rattle.sp_tree.specs.declared.checked.Role.{Role}
 use Rattle.sp_tree.specs.declared.checked.Role.TheVariants as role
@@ -15,8 +15,8 @@ use Rattle.std.proofs.lemmas.List.{length-append}
 use Rattle.sp_tree.specs.declared.checked.Variable as checked
 use Rattle.sp_tree.specs.Scopes.{Local, inside, opened, declared, most, variable, next_variable}
 use Rattle.sp_tree.specs.NameWalk.{statement_local, statements_local, other_local, arms_local, arm_local, branches_local, form_local, indexed, deeper}
-use Rattle.sp_tree.specs.NamedTree.{indices, form_indices, other_indices, statements_indices, arms_indices, branches_indices}
-use Rattle.sp_tree.specs.PlainSyntax.{Statement, Does, Form, Empty, Assign, Call, Sequence, If, While, Repeat, Case, For, Parallel, Forall, Assume, Other, NoElse, Else, Statements, NoStatement, AndThen, On, Arms, NoArm, Or, Branches, NoBranch, Beside}
+use Rattle.sp_tree.specs.NamedTree.{indices}
+use Rattle.sp_tree.specs.PlainSyntax.{Statement}
 use Rattle.sp_tree.specs.declared.syntax.SynFormal.{SynFormal}
 use Rattle.sp_tree.specs.Scopes.{put, closed, next_constant, next_kind, next_block}
 use Rattle.sp_tree.specs.NameWalk.{names_local, formals_local, title_local, answer_local, heading_local, constants_local, kind_local, type_local, parts_local, part_local, block_meaning, references}
@@ -27,6 +27,8 @@ use Rattle.sp_tree.specs.NamedTree.{Inside, inside_with, procedure_block}
 use Rattle.sp_tree.specs.PlainOf.{variable_of}
 use Rattle.sp_tree.specs.Cells.{variables_of}
 use Rattle.sp_tree.specs.Formed.{among}
+use Rattle.sp_facts.specs.Each.{Each}
+use Rattle.sp_facts.proofs.Variables.{each_join, names_each, formals_each, answer_each, indices_each}
 use Rattle.sp_facts.proofs.Blocks.{calm_pieces, title_moves, formals_move, head_blocks}
 
 -- the numbers of a block's variables with such a role, from a number on
@@ -60,21 +62,11 @@ own_join fits f k (u ∷ us) vs = go ((u.block == f) && fits u.role) (own_join f
 
 -- all are of this block
 abbrev pub AllOf : ℕ → List checked.Variable → Type 0
-AllOf b [] = Unit {0}
-AllOf b (u ∷ us) = (u.block ≡ b) × AllOf b us
+AllOf b = Each (λ (u : checked.Variable). u.block ≡ b)
 
 -- all are of roles for which the test says this
 abbrev pub AllFit : (Role → Bool) → Bool → List checked.Variable → Type 0
-AllFit fits r [] = Unit {0}
-AllFit fits r (u ∷ us) = (fits u.role ≡ r) × AllFit fits r us
-
-all_of_join : (b : ℕ) (us vs : List checked.Variable) → AllOf b us → AllOf b vs → AllOf b (us ++ vs)
-all_of_join b [] vs x y = y
-all_of_join b (u ∷ us) vs x y = (x.0, all_of_join b us vs x.1 y)
-
-all_fit_join : (fits : Role → Bool) (r : Bool) (us vs : List checked.Variable) → AllFit fits r us → AllFit fits r vs → AllFit fits r (us ++ vs)
-all_fit_join fits r [] vs x y = y
-all_fit_join fits r (u ∷ us) vs x y = (x.0, all_fit_join fits r us vs x.1 y)
+AllFit fits r = Each (λ (u : checked.Variable). fits u.role ≡ r)
 
 pub own_all : (fits : Role → Bool) (b k : ℕ) (us : List checked.Variable) → AllOf b us → AllFit fits true us → own fits b k us ≡ numbers k us
 own_all fits b k [] x y = refl
@@ -116,64 +108,20 @@ blocks_join g f k (b ∷ xs) ys = go (k == f) refl (blocks_join g f (suc k) xs y
     go true e h = let s = same k f e in last (g b) ∙ ap (λ z. g b ++ z) (sym (blocks_below g f (k + suc (length xs)) ys (omega (arith, s))))
     go false e h = h
 
-names_of : (b k : ℕ) (r : Role) (xs : List Name) → AllOf b (variables_named b r k xs)
-names_of b k r [] = tt
-names_of b k r (x ∷ xs) = (refl, names_of b k r xs)
-
-names_fit : (fits : Role → Bool) (z : Bool) (b k : ℕ) (r : Role) (xs : List Name) → fits r ≡ z → AllFit fits z (variables_named b r k xs)
-names_fit fits z b k r [] e = tt
-names_fit fits z b k r (x ∷ xs) e = (e, names_fit fits z b k r xs e)
-
 pub formals_of_ : (env : Env) (b : ℕ) (fs : List SynFormal) → AllOf b (formals_named env b fs)
-formals_of_ env b [] = tt
-formals_of_ env b (f ∷ fs) = all_of_join b (variables_named b (role_of f.by_reference) (kind_number (find env f.kind.text)) f.names) (formals_named env b fs) (names_of b (kind_number (find env f.kind.text)) (role_of f.by_reference) f.names) (formals_of_ env b fs)
+formals_of_ env b fs = formals_each (λ (u : checked.Variable). u.block ≡ b) b env fs (λ x k r. refl)
 
 pub formals_fit : (fits : Role → Bool) (z : Bool) → ((r : Bool) → fits (role_of r) ≡ z) → (env : Env) (b : ℕ) (fs : List SynFormal) → AllFit fits z (formals_named env b fs)
-formals_fit fits z h env b [] = tt
-formals_fit fits z h env b (f ∷ fs) = all_fit_join fits z (variables_named b (role_of f.by_reference) (kind_number (find env f.kind.text)) f.names) (formals_named env b fs) (names_fit fits z b (kind_number (find env f.kind.text)) (role_of f.by_reference) f.names (h f.by_reference)) (formals_fit fits z h env b fs)
+formals_fit fits z h env b fs = formals_each (λ (u : checked.Variable). fits u.role ≡ z) b env fs (λ x k r. h r)
 
 pub answer_of_ : (env : Env) (b : ℕ) (x : Name) (answer : Option Name) → AllOf b (answer_named env b x answer)
-answer_of_ env b x None = tt
-answer_of_ env b x (Some t) = (refl, tt)
+answer_of_ env b x answer = answer_each (λ (u : checked.Variable). u.block ≡ b) b env x answer (λ k. refl)
 
 pub answer_fit : (fits : Role → Bool) (z : Bool) → fits role.Answer ≡ z → (env : Env) (b : ℕ) (x : Name) (answer : Option Name) → AllFit fits z (answer_named env b x answer)
-answer_fit fits z e env b x None = tt
-answer_fit fits z e env b x (Some t) = (e, tt)
+answer_fit fits z e env b x answer = answer_each (λ (u : checked.Variable). fits u.role ≡ z) b env x answer (λ k. e)
 
-module _ (fits : Role → Bool) (no : fits role.Index ≡ false) (block : ℕ) where
-  mutual
-    pub indices_fit : (s : Statement) → AllFit fits false (indices block s)
-    indices_fit (Does at form) = form_fit form
-
-    form_fit : (form : Form) → AllFit fits false (form_indices block form)
-    form_fit Empty = tt
-    form_fit (Assign v e) = tt
-    form_fit (Call f args) = tt
-    form_fit (Sequence ss) = statements_fit ss
-    form_fit (If e a o) = all_fit_join fits false (indices block a) (other_indices block o) (indices_fit a) (other_fit o)
-    form_fit (While e a) = indices_fit a
-    form_fit (Repeat ss e) = statements_fit ss
-    form_fit (Case e arms) = arms_fit arms
-    form_fit (For x from down to a) = indices_fit a
-    form_fit (Parallel bs) = branches_fit bs
-    form_fit (Forall x from to a) = (no, indices_fit a)
-    form_fit (Assume e) = tt
-
-    other_fit : (o : Other) → AllFit fits false (other_indices block o)
-    other_fit NoElse = tt
-    other_fit (Else a) = indices_fit a
-
-    statements_fit : (ss : Statements) → AllFit fits false (statements_indices block ss)
-    statements_fit NoStatement = tt
-    statements_fit (AndThen a rest) = all_fit_join fits false (indices block a) (statements_indices block rest) (indices_fit a) (statements_fit rest)
-
-    arms_fit : (arms : Arms) → AllFit fits false (arms_indices block arms)
-    arms_fit NoArm = tt
-    arms_fit (Or (On cs a) rest) = all_fit_join fits false (indices block a) (arms_indices block rest) (indices_fit a) (arms_fit rest)
-
-    branches_fit : (bs : Branches) → AllFit fits false (branches_indices block bs)
-    branches_fit NoBranch = tt
-    branches_fit (Beside ss rest) = all_fit_join fits false (statements_indices block ss) (branches_indices block rest) (statements_fit ss) (branches_fit rest)
+pub indices_fit : (fits : Role → Bool) → fits role.Index ≡ false → (block : ℕ) (s : Statement) → AllFit fits false (indices block s)
+indices_fit fits d block s = indices_each (λ (u : checked.Variable). fits u.role ≡ false) block (λ x. d) s
 
 same_names : (b k1 k2 : ℕ) (r : Role) (xs : List Name) → length (variables_named b r k1 xs) ≡ length (variables_named b r k2 xs)
 same_names b k1 k2 r [] = refl
@@ -213,7 +161,7 @@ module _ (fits : Role → Bool) (no_local : fits role.Local ≡ false) (no_index
     part_own : (around : List names.Scope) (l : Local) (q : Part) → w.part_sites [] together all_at around l q ≡ [] → own fits f (next_variable l.counts) (part_named around l q).variables ≡ in_blocks g f (next_block l.counts) (part_named around l q).blocks
     part_own around l (Const x c) calm = refl
     part_own around l (Kind x k) calm = refl
-    part_own around l (Var xs t) calm = own_none fits f (next_variable l.counts) (variables_named l.block role.Local (kind_number (find (inside around l) t.text)) xs) (names_fit fits false l.block (kind_number (find (inside around l) t.text)) role.Local xs no_local)
+    part_own around l (Var xs t) calm = own_none fits f (next_variable l.counts) (variables_named l.block role.Local (kind_number (find (inside around l) t.text)) xs) (names_each (λ (u : checked.Variable). fits u.role ≡ false) l.block role.Local (kind_number (find (inside around l) t.text)) xs (λ x. no_local))
     part_own around l (Proc x fs answer parts body) calm =
         let j = next_block l.counts in
         let k = next_variable l.counts in
@@ -239,7 +187,7 @@ module _ (fits : Role → Bool) (no_local : fits role.Local ≡ false) (no_index
         let tail : own fits f (k + length a + length b) (inner.variables ++ d) ≡ in_blocks g f (suc j) inner.blocks = own_join fits f (k + length a + length b) inner.variables d ∙ ap (λ z. own fits f (k + length a + length b) inner.variables ++ z) none ∙ nothing (own fits f (k + length a + length b) inner.variables) ∙ mid in
         let same_length = same_formals env (inside [] l) j fs in
         let first = heading l x fs answer i (let z : next_variable formals.counts ≡ k + length (formals_named (inside [] l) j fs) = omega (arith, m1, m2, same_length) in z) env refl refl in
-        split (j == f) refl k a b (inner.variables ++ d) (g (procedure_block env x fs answer i)) (in_blocks g f (suc j) inner.blocks) (all_of_join j a b (formals_of_ env j fs) (answer_of_ env j x answer)) first tail (λ e. blocks_below g f (suc j) inner.blocks (omega (arith, e)))
+        split (j == f) refl k a b (inner.variables ++ d) (g (procedure_block env x fs answer i)) (in_blocks g f (suc j) inner.blocks) (each_join (λ (u : checked.Variable). u.block ≡ j) a b (formals_of_ env j fs) (answer_of_ env j x answer)) first tail (λ e. blocks_below g f (suc j) inner.blocks (omega (arith, e)))
       where
         nothing : (xs : List ℕ) → xs ++ [] ≡ xs
         nothing [] = refl

@@ -14,27 +14,28 @@ use Rattle.sp_types.specs.Tables.{Env, char_of, formals_of, counted, indexed}
 use Rattle.sp_types.specs.Kinds.{expression_kind}
 use Rattle.sp_types.specs.TypeWalk.{statement_after, statements_after, started}
 use Rattle.sp_types.specs.CheckedTree.{checked_expression, checked_variable, checked_actuals, checked_arguments, argument_variable, argument_variables, checked_argument, checked_width, written_form, written_text, reads, writes, opens, singles, expanded, numbered, checked_statement, checked_statement_form, checked_statements, checked_arms, checked_branches, checked_block, checked_blocks}
-use Rattle.sp_facts.specs.Has.{Has, HasForm, HaveAll, HaveArms, HaveBranches, BlocksHave, AllFit}
+use Rattle.sp_facts.specs.Has.{Has, HasForm, HaveAll, HaveArms, HaveBranches, BlocksHave}
+use Rattle.sp_facts.specs.Each.{Each}
+use Rattle.sp_facts.proofs.Variables.{each_join}
 
-pub fit_join : (Fits : Site → Type 0) (xs ys : List Site) → AllFit Fits xs → AllFit Fits ys → AllFit Fits (xs ++ ys)
-fit_join Fits [] ys h k = k
-fit_join Fits (x ∷ xs) ys h k = (h.0, fit_join Fits xs ys h.1 k)
+fit_join : (Fits : Site → Type 0) (xs ys : List Site) → Each Fits xs → Each Fits ys → Each Fits (xs ++ ys)
+fit_join Fits xs ys h k = each_join Fits xs ys h k
 
-pub fit_at : (Fits : Site → Type 0) (xs : List Site) (s : Site) → AllFit Fits xs → IsSite s xs → Fits s
+pub fit_at : (Fits : Site → Type 0) (xs : List Site) (s : Site) → Each Fits xs → IsSite s xs → Fits s
 fit_at Fits [] s h i = absurd i
 fit_at Fits (x ∷ xs) s h (inl e) = subst Fits (sym e) h.0
 fit_at Fits (x ∷ xs) s h (inr i) = fit_at Fits xs s h.1 i
 
-pub fit_each : (Fits : Site → Type 0) (xs : List Site) → ((s : Site) → IsSite s xs → Fits s) → AllFit Fits xs
+pub fit_each : (Fits : Site → Type 0) (xs : List Site) → ((s : Site) → IsSite s xs → Fits s) → Each Fits xs
 fit_each Fits [] h = tt
 fit_each Fits (x ∷ xs) h = (h x (inl refl), fit_each Fits xs (λ s i. h s (inr i)))
 
 module _ (Fits : Site → Type 0) (calls : (f : ℕ) (at : Place) (args : c.Actuals) → Fits (CallsAt f at args)) (loops : (x : ℕ) (at : Place) (s : c.Statement) → Fits (LoopsAt x at s)) (stops : (at : Place) → Fits (StopsAt at)) where
   mutual
-    expression_fits : (e : c.Expression) → AllFit Fits (expression_sites e)
+    expression_fits : (e : c.Expression) → Each Fits (expression_sites e)
     expression_fits (c.At at k form) = form_fits form
 
-    form_fits : (form : c.ExpressionForm) → AllFit Fits (form_sites form)
+    form_fits : (form : c.ExpressionForm) → Each Fits (form_sites form)
     form_fits (c.Number k) = tt
     form_fits (c.Read v) = variable_fits v
     form_fits (c.Unary op a) = expression_fits a
@@ -43,27 +44,27 @@ module _ (Fits : Site → Type 0) (calls : (f : ℕ) (at : Place) (args : c.Actu
     form_fits (c.Standard f c.NoExpression) = tt
     form_fits (c.Standard f (c.AndExpression a rest)) = expression_fits a
 
-    variable_fits : (v : c.Variable) → AllFit Fits (variable_sites v)
+    variable_fits : (v : c.Variable) → Each Fits (variable_sites v)
     variable_fits (c.Entire x at ss) = selectors_fit ss
 
-    selectors_fit : (ss : c.Selectors) → AllFit Fits (selectors_sites ss)
+    selectors_fit : (ss : c.Selectors) → Each Fits (selectors_sites ss)
     selectors_fit c.Whole = tt
     selectors_fit (c.Select (c.Index e) rest) = fit_join Fits (expression_sites e) (selectors_sites rest) (expression_fits e) (selectors_fit rest)
     selectors_fit (c.Select (c.Field f) rest) = selectors_fit rest
 
-    actuals_fit : (args : c.Actuals) → AllFit Fits (actuals_sites args)
+    actuals_fit : (args : c.Actuals) → Each Fits (actuals_sites args)
     actuals_fit c.Nothing = tt
     actuals_fit (c.Pass (c.ByValue e) rest) = fit_join Fits (expression_sites e) (actuals_sites rest) (expression_fits e) (actuals_fit rest)
     actuals_fit (c.Pass (c.ByReference v) rest) = fit_join Fits (variable_sites v) (actuals_sites rest) (variable_fits v) (actuals_fit rest)
 
-  width_fits : (w : Option c.Expression) → AllFit Fits (width_sites w)
+  width_fits : (w : Option c.Expression) → Each Fits (width_sites w)
   width_fits None = tt
   width_fits (Some e) = expression_fits e
 
   -- ---- calls of standard procedures
 
   abbrev FormFits : c.Form → Type 0
-  FormFits form = (at : Place) → AllFit Fits (statement_form_sites at form)
+  FormFits form = (at : Place) → Each Fits (statement_form_sites at form)
 
   abbrev FormsFit : List c.Form → Type 0
   FormsFit [] = Unit {0}
@@ -124,11 +125,11 @@ module _ (Fits : Site → Type 0) (calls : (f : ℕ) (at : Place) (args : c.Actu
   singles_fit env procedure.Receive n.NoArgument = tt
   singles_fit env procedure.Receive (n.AndArgument a rest) = receives_fit (checked_argument env a) (argument_variables env rest)
 
-  numbered_fit : (k : ℕ) (at : Place) (fs : List c.Form) → FormsFit fs → AllFit Fits (statements_sites (of_.statements (numbered k at fs)))
+  numbered_fit : (k : ℕ) (at : Place) (fs : List c.Form) → FormsFit fs → Each Fits (statements_sites (of_.statements (numbered k at fs)))
   numbered_fit k at [] h = tt
   numbered_fit k at (f ∷ fs) h = fit_join Fits (statement_form_sites at f) (statements_sites (of_.statements (numbered (k + 1) at fs))) (h.0 at) (numbered_fit (k + 1) at fs h.1)
 
-  expanded_fits : (k : ℕ) (at : Place) (fs : List c.Form) → FormsFit fs → AllFit Fits (statement_form_sites at (expanded k at fs))
+  expanded_fits : (k : ℕ) (at : Place) (fs : List c.Form) → FormsFit fs → Each Fits (statement_form_sites at (expanded k at fs))
   expanded_fits k at [] h = tt
   expanded_fits k at (f ∷ []) h = h.0 at
   expanded_fits k at (f ∷ g ∷ fs) h = numbered_fit k at (f ∷ g ∷ fs) h
@@ -137,10 +138,10 @@ module _ (Fits : Site → Type 0) (calls : (f : ℕ) (at : Place) (args : c.Actu
 
   module _ (OnIndex : ℕ → Type 0) (OnBranches : n.Branches → Type 0) (spreads : (at : Place) (x : ℕ) (s : c.Statement) → OnIndex x → Fits (SpreadsAt at x s)) (splits : (env : Env) (at : Place) (bs : n.Branches) → OnBranches bs → Fits (SplitsAt (of_.statements (checked_branches env at bs)))) where
     mutual
-      statement_fits : (env : Env) (s : n.Statement) → Has OnIndex OnBranches s → AllFit Fits (statement_sites (checked_statement env s))
+      statement_fits : (env : Env) (s : n.Statement) → Has OnIndex OnBranches s → Each Fits (statement_sites (checked_statement env s))
       statement_fits env (n.Does at form) h = statement_form_fits (counted env) at form h
 
-      statement_form_fits : (env : Env) (at : Place) (form : n.Form) → HasForm OnIndex OnBranches form → AllFit Fits (statement_form_sites at (checked_statement_form env at form))
+      statement_form_fits : (env : Env) (at : Place) (form : n.Form) → HasForm OnIndex OnBranches form → Each Fits (statement_form_sites at (checked_statement_form env at form))
       statement_form_fits env at n.Empty h = tt
       statement_form_fits env at (n.Assign v e) h = fit_join Fits (variable_sites (checked_variable env v)) (expression_sites (checked_expression env e)) (variable_fits (checked_variable env v)) (expression_fits (checked_expression env e))
       statement_form_fits env at (n.Call f args) h = (calls f at (of_.actuals (checked_actuals env (formals_of env f) args)), actuals_fit (of_.actuals (checked_actuals env (formals_of env f) args)))
@@ -171,23 +172,23 @@ module _ (Fits : Site → Type 0) (calls : (f : ℕ) (at : Place) (args : c.Actu
           (spreads at x body h.0, (stops at, fit_join Fits (expression_sites one) (expression_sites two ++ statement_sites body) (expression_fits one) (fit_join Fits (expression_sites two) (statement_sites body) (expression_fits two) (statement_fits next a h.1))))
       statement_form_fits env at (n.Assume e) h = expression_fits (checked_expression env e)
 
-      all_fit : (env : Env) (ss : n.Statements) → HaveAll OnIndex OnBranches ss → AllFit Fits (statements_sites (of_.statements (checked_statements env ss)))
+      all_fit : (env : Env) (ss : n.Statements) → HaveAll OnIndex OnBranches ss → Each Fits (statements_sites (of_.statements (checked_statements env ss)))
       all_fit env n.NoStatement h = tt
       all_fit env (n.AndThen a rest) h = fit_join Fits (statement_sites (checked_statement env a)) (statements_sites (of_.statements (checked_statements (statement_after env a) rest))) (statement_fits env a h.0) (all_fit (statement_after env a) rest h.1)
 
-      arms_fit : (env : Env) (arms : n.Arms) → HaveArms OnIndex OnBranches arms → AllFit Fits (arms_sites (of_.arms (checked_arms env arms)))
+      arms_fit : (env : Env) (arms : n.Arms) → HaveArms OnIndex OnBranches arms → Each Fits (arms_sites (of_.arms (checked_arms env arms)))
       arms_fit env n.NoArm h = tt
       arms_fit env (n.Or (n.On cs a) rest) h = fit_join Fits (statement_sites (checked_statement env a)) (arms_sites (of_.arms (checked_arms (statement_after env a) rest))) (statement_fits env a h.0) (arms_fit (statement_after env a) rest h.1)
 
-      branches_fit : (env : Env) (at : Place) (bs : n.Branches) → HaveBranches OnIndex OnBranches bs → AllFit Fits (statements_sites (of_.statements (checked_branches env at bs)))
+      branches_fit : (env : Env) (at : Place) (bs : n.Branches) → HaveBranches OnIndex OnBranches bs → Each Fits (statements_sites (of_.statements (checked_branches env at bs)))
       branches_fit env at n.NoBranch h = tt
       branches_fit env at (n.Beside ss rest) h = fit_join Fits (statements_sites (of_.statements (checked_statements (counted env) ss))) (statements_sites (of_.statements (checked_branches (statements_after (counted env) ss) at rest))) (all_fit (counted env) ss h.0) (branches_fit (statements_after (counted env) ss) at rest h.1)
 
     -- the sites in each block
-    pub blocks_fit : (env : Env) (starts : List ℕ) (bs : List n.Block) → BlocksHave OnIndex OnBranches bs → (f : ℕ) (b : c.Block) → slice_get (checked_blocks env starts bs) f ≡ Some b → AllFit Fits (statement_sites b.body)
+    pub blocks_fit : (env : Env) (starts : List ℕ) (bs : List n.Block) → BlocksHave OnIndex OnBranches bs → (f : ℕ) (b : c.Block) → slice_get (checked_blocks env starts bs) f ≡ Some b → Each Fits (statement_sites b.body)
     blocks_fit env starts [] h f b e = absurd (cc e)
     blocks_fit env [] (a ∷ bs) h f b e = absurd (cc e)
-    blocks_fit env (k ∷ starts) (a ∷ bs) h zero b e = subst (λ (z : c.Block). AllFit Fits (statement_sites z.body)) (same (checked_block (started env k) a) b e) (statement_fits (started env k) a.body h.0)
+    blocks_fit env (k ∷ starts) (a ∷ bs) h zero b e = subst (λ (z : c.Block). Each Fits (statement_sites z.body)) (same (checked_block (started env k) a) b e) (statement_fits (started env k) a.body h.0)
       where
         same : (x y : c.Block) → Some x ≡ Some y → x ≡ y
         same x y e = cc e

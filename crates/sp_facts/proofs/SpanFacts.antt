@@ -14,7 +14,7 @@ use Rattle.sp_facts.proofs.Calm.{calm_parts}
 use Rattle.sp_tree.specs.declared.checked.Variable as checked
 use Rattle.sp_tree.specs.Scopes.{Local, inside, opened, declared, most, variable, next_variable}
 use Rattle.sp_tree.specs.NameWalk.{statement_local, statements_local, other_local, arms_local, arm_local, branches_local, form_local, indexed, deeper}
-use Rattle.sp_tree.specs.NamedTree.{named_statement, indices, form_indices, other_indices, statements_indices, arms_indices, branches_indices}
+use Rattle.sp_tree.specs.NamedTree.{named_statement, indices}
 use Rattle.sp_tree.specs.PlainSyntax.{Statement, Does, Form, Empty, Assign, Call, Sequence, If, While, Repeat, Case, For, Parallel, Forall, Assume, Other, NoElse, Else, Statements, NoStatement, AndThen, Arm, On, Arms, NoArm, Or, Branches, NoBranch, Beside}
 use Rattle.sp_facts.proofs.Numbering.{statement_adds}
 use Rattle.sp_tree.specs.Scopes.{put, closed, next_constant, next_kind, next_block}
@@ -33,53 +33,18 @@ use Rattle.sp_types.specs.TypeWalk.{starts_of, blocks_after}
 use Rattle.sp_types.specs.CheckedTree.{checked_variables, or_zero}
 use Rattle.sp_facts.specs.Numbered.{ends, IsNumbered}
 use Rattle.sp_facts.specs.TypedBlocks.{AreBlocksTyped}
+use Rattle.sp_facts.specs.Each.{Each}
+use Rattle.sp_facts.proofs.Variables.{indices_each}
 use Rattle.sp_facts.proofs.Spans.{statement_numbered}
 use Rattle.sp_facts.proofs.Indices.{AreSpans, blocks_typed}
 use Rattle.sp_facts.proofs.Program.{named, tree, held}
 
 -- all are indices of this block
 abbrev AllOf : ℕ → List checked.Variable → Type 0
-AllOf b [] = Unit {0}
-AllOf b (u ∷ us) = ((u.block ≡ b) × (u.role ≡ role.Index)) × AllOf b us
+AllOf b = Each (λ (u : checked.Variable). (u.block ≡ b) × (u.role ≡ role.Index))
 
-all_of_join : (b : ℕ) (us vs : List checked.Variable) → AllOf b us → AllOf b vs → AllOf b (us ++ vs)
-all_of_join b [] vs x y = y
-all_of_join b (u ∷ us) vs x y = (x.0, all_of_join b us vs x.1 y)
-
-module _ (block : ℕ) where
-  mutual
-    pub indices_of_ : (s : Statement) → AllOf block (indices block s)
-    indices_of_ (Does at form) = form_of_ form
-
-    form_of_ : (form : Form) → AllOf block (form_indices block form)
-    form_of_ Empty = tt
-    form_of_ (Assign v e) = tt
-    form_of_ (Call f args) = tt
-    form_of_ (Sequence ss) = statements_of_ ss
-    form_of_ (If e a o) = all_of_join block (indices block a) (other_indices block o) (indices_of_ a) (other_of_ o)
-    form_of_ (While e a) = indices_of_ a
-    form_of_ (Repeat ss e) = statements_of_ ss
-    form_of_ (Case e arms) = arms_of_ arms
-    form_of_ (For x from down to a) = indices_of_ a
-    form_of_ (Parallel bs) = branches_of_ bs
-    form_of_ (Forall x from to a) = ((refl, refl), indices_of_ a)
-    form_of_ (Assume e) = tt
-
-    other_of_ : (o : Other) → AllOf block (other_indices block o)
-    other_of_ NoElse = tt
-    other_of_ (Else a) = indices_of_ a
-
-    statements_of_ : (ss : Statements) → AllOf block (statements_indices block ss)
-    statements_of_ NoStatement = tt
-    statements_of_ (AndThen a rest) = all_of_join block (indices block a) (statements_indices block rest) (indices_of_ a) (statements_of_ rest)
-
-    arms_of_ : (arms : Arms) → AllOf block (arms_indices block arms)
-    arms_of_ NoArm = tt
-    arms_of_ (Or (On cs a) rest) = all_of_join block (indices block a) (arms_indices block rest) (indices_of_ a) (arms_of_ rest)
-
-    branches_of_ : (bs : Branches) → AllOf block (branches_indices block bs)
-    branches_of_ NoBranch = tt
-    branches_of_ (Beside ss rest) = all_of_join block (statements_indices block ss) (branches_indices block rest) (statements_of_ ss) (branches_of_ rest)
+indices_of_ : (block : ℕ) (s : Statement) → AllOf block (indices block s)
+indices_of_ block s = indices_each (λ (u : checked.Variable). (u.block ≡ block) × (u.role ≡ role.Index)) block (λ x. (refl, refl)) s
 
 module _ (p : plain.Program) (m : ℕ) where
   -- a number between is that of one of them

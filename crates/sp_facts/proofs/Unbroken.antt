@@ -18,7 +18,8 @@ use Rattle.sp_tree.proofs.NoBreach.{HasIndex, block_at, blocks_kept}
 use Rattle.sp_types.specs.Tables.{env_of}
 use Rattle.sp_types.specs.TypeWalk.{starts_of}
 use Rattle.sp_types.specs.CheckedTree.{program_checked}
-use Rattle.sp_facts.specs.Has.{AnyBranches, AllFit}
+use Rattle.sp_facts.specs.Has.{AnyBranches}
+use Rattle.sp_facts.specs.Each.{Each}
 use Rattle.sp_code.specs.Quiet.{IsQuiet}
 use Rattle.sp_facts.specs.Gives.{KeepsInterference}
 use Rattle.sp_facts.proofs.Sites.{fit_at, fit_each, blocks_fit}
@@ -62,7 +63,7 @@ module _ (s : syntax.Program) (calm : names_broken s ≡ []) (kept : KeepsInterf
   abbrev n_ : n.Program
   n_ = program_named s
 
-  indices_fit : (f : ℕ) (b : c.Block) → slice_get g_.blocks f ≡ Some b → AllFit (HasIndex (bare g_)) (statement_sites b.body)
+  indices_fit : (f : ℕ) (b : c.Block) → slice_get g_.blocks f ≡ Some b → Each (HasIndex (bare g_)) (statement_sites b.body)
   indices_fit f b at = blocks_fit (HasIndex (bare g_)) (λ f at args. tt) (λ x at s. tt) (λ at. tt) (IsIndexOf (bare g_)) AnyBranches (λ at x s h. h) (λ env at bs h. tt) (env_of n_) (starts_of n_.blocks) n_.blocks
       (blocks_have (bare g_) (length n_.constants) 0 n_.blocks (scoped s calm)) f b at
 

@@ -9,6 +9,7 @@ use Rattle.sp_tree.specs.declared.named.NamedKindForm.TheVariants as form
 use Rattle.sp_types.specs.declared.tables.Ordinal.{Ordinal}
 use Rattle.sp_types.specs.Tables.{const_value}
 use Rattle.sp_tree.specs.Formed.{AreBefore}
+use Rattle.sp_facts.specs.Each.{Each}
 use Rattle.sp_tree.specs.declared.checked.Variable as checked
 
 abbrev pub IsEarlier : ℕ → NamedKindForm → Type 0
@@ -27,8 +28,7 @@ AreEarlier j (k ∷ ks) = IsEarlier j k.form × AreEarlier (suc j) ks
 
 -- the types of these variables have lower numbers
 abbrev pub HaveTypes : ℕ → List checked.Variable → Type 0
-HaveTypes k [] = Unit {0}
-HaveTypes k (u ∷ us) = (suc u.kind ≤ k) × HaveTypes k us
+HaveTypes k = Each (λ (u : checked.Variable). suc u.kind ≤ k)
 
 -- a constant of the text has a value
 abbrev pub HasValue : List (Option Ordinal) → NamedConst → Type 0

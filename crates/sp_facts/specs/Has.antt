@@ -65,8 +65,3 @@ HasPart (SpreadsAt at x s) = Unit {0}
 HasPart (LoopsAt x at s) = Unit {0}
 HasPart (CallsAt f at args) = Unit {0}
 HasPart (StopsAt at) = Unit {0}
-
--- each of these sites fits
-abbrev pub AllFit : (Site → Type 0) → List Site → Type 0
-AllFit Fits [] = Unit {0}
-AllFit Fits (s ∷ ss) = Fits s × AllFit Fits ss

@@ -1,8 +1,9 @@
 -- Variables of blocks that there are, none of them a console.
-use Rattle.std.specs.Prelude.{ℕ, suc, ◌≤◌, List, [], ◌∷◌}
+use Rattle.std.specs.Prelude.{ℕ, suc, ◌≤◌, List}
 use Rattle.sp_tree.specs.declared.checked.Role.{Role}
 use Rattle.sp_tree.specs.declared.checked.Role.TheVariants as role
 use Rattle.sp_tree.specs.declared.checked.Variable as checked
+use Rattle.sp_facts.specs.Each.{Each}
 
 abbrev pub NoConsole : Role → Type 0
 NoConsole role.Console = ⊥
@@ -14,5 +15,4 @@ NoConsole role.Answer = Unit {0}
 
 -- so many blocks there are
 abbrev pub AreHomed : ℕ → List checked.Variable → Type 0
-AreHomed blocks [] = Unit {0}
-AreHomed blocks (u ∷ us) = ((suc u.block ≤ blocks) × NoConsole u.role) × AreHomed blocks us
+AreHomed blocks = Each (λ (u : checked.Variable). (suc u.block ≤ blocks) × NoConsole u.role)

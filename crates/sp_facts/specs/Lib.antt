@@ -1,3 +1,4 @@
+pub mod Each
 pub mod Knows
 pub mod Scoped
 pub mod Visible
