@@ -24,7 +24,7 @@ use Rattle.sp_facts.proofs.Calm.{calm_parts}
 use Rattle.sp_facts.proofs.Variables.{each_join, names_each, formals_each, answer_each, indices_each}
 use Rattle.sp_facts.proofs.Numbering.{part_moves}
 use Rattle.sp_facts.proofs.Blocks.{part_block, calm_pieces, head_blocks, head_number}
-use Rattle.sp_facts.proofs.KnowsFacts.{variable_from}
+use Rattle.sp_facts.proofs.TablesKnow.{variable_from}
 use Rattle.sp_facts.proofs.Program.{named, tree, held_blocks}
 
 homed_join : (b : ℕ) (us vs : List checked.Variable) → AreHomed b us → AreHomed b vs → AreHomed b (us ++ vs)

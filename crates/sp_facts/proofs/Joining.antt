@@ -16,12 +16,12 @@ use Rattle.sp_types.specs.CheckedTree.{program_checked}
 use Rattle.sp_code.specs.Stands.{IsFine}
 use Rattle.sp_code.specs.Quiet.{IsQuiet}
 use Rattle.sp_facts.specs.Gives.{KeepsInterference, IsAccepted}
-use Rattle.sp_facts.proofs.Accepted.{block_fine}
-use Rattle.sp_facts.proofs.SpanFacts.{indices_typed}
-use Rattle.sp_facts.proofs.KnowsFacts.{knows}
-use Rattle.sp_facts.proofs.EnumerationFacts.{program_given}
-use Rattle.sp_facts.proofs.AnswerFacts.{program_answers}
-use Rattle.sp_facts.proofs.Kept.{names_kept, types_kept}
+use Rattle.sp_facts.proofs.FineBlocks.{block_fine}
+use Rattle.sp_facts.proofs.BlockIndices.{indices_typed}
+use Rattle.sp_facts.proofs.TablesKnow.{knows}
+use Rattle.sp_facts.proofs.Enumerations.{program_given}
+use Rattle.sp_facts.proofs.Results.{program_answers}
+use Rattle.sp_facts.proofs.PhaseAnswers.{names_kept, types_kept}
 use Rattle.sp_facts.proofs.Unbroken.{program_free, function_quiet}
 use Rattle.sp_facts.proofs.Grammatical.{program_full}
 use Rattle.sp_facts.proofs.TreeFormed.{program_formed}

@@ -42,7 +42,7 @@ use Rattle.sp_types.specs.Tables.{env_of}
 use Rattle.sp_types.specs.TypeWalk.{starts_of, blocks_after}
 use Rattle.sp_types.specs.CheckedTree.{program_checked, checked_variables}
 use Rattle.sp_tree.specs.Bare.{bare}
-use Rattle.sp_facts.proofs.Owned.{own, in_blocks, among_own, own_join, own_none, own_all, blocks_below, formals_of_, formals_fit, answer_of_, answer_fit, indices_fit, same_formals, parts_own}
+use Rattle.sp_facts.proofs.Headings.{own, in_blocks, among_own, own_join, own_none, own_all, blocks_below, formals_of_, formals_fit, answer_of_, answer_fit, indices_fit, same_formals, parts_own}
 use Rattle.sp_facts.proofs.Blocks.{parts_below, parts_scoped, IsOpen}
 use Rattle.sp_facts.proofs.Tree.{checked_own, variables_held, blocks_held, block_from, parent_below, steps, top, final_length, starts_length}
 

@@ -16,7 +16,7 @@ use Rattle.sp_types.specs.CheckedTree.{checked_block, checked_blocks, checked_va
 use Rattle.sp_tree.specs.Bare.{bare_block}
 use Rattle.sp_facts.specs.Held.{HoldsBlocks, AreBelow}
 use Rattle.sp_facts.proofs.NameStatements.{Holds}
-use Rattle.sp_facts.proofs.Owned.{own}
+use Rattle.sp_facts.proofs.Headings.{own}
 
 -- ---- the table of types keeps its length
 

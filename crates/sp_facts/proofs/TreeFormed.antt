@@ -37,12 +37,12 @@ use Rattle.sp_facts.proofs.Sites.{blocks_fit}
 use Rattle.sp_facts.proofs.UsesFit.{statement_kept}
 use Rattle.sp_facts.proofs.UsesFormed.{IsGoodUse, stands_uses}
 use Rattle.sp_facts.proofs.Homes.{homes, program_block}
-use Rattle.sp_facts.proofs.KindFacts.{number_there}
-use Rattle.sp_facts.proofs.KnowsFacts.{within, known, formed}
+use Rattle.sp_facts.proofs.TypesFormed.{number_there}
+use Rattle.sp_facts.proofs.TablesKnow.{within, known, formed}
 use Rattle.sp_facts.proofs.Declared.{program_typed}
 use Rattle.sp_facts.proofs.Grammatical.{record_filled}
 use Rattle.sp_facts.proofs.TypesThere.{blocks_tabled, variable_there}
-use Rattle.sp_facts.proofs.EnumerationFacts.{program_given}
+use Rattle.sp_facts.proofs.Enumerations.{program_given}
 use Rattle.sp_facts.proofs.Program.{tree, formals, answers, input, output}
 
 -- an ordinal type is one that there is

@@ -1,4 +1,4 @@
--- What is left to prove of a program that breaks no rule of names: constants are named behind their declarations.
+-- Constants are named behind their declarations, and those of an enumeration are of an ordinal type.
 use Rattle.std.specs.Prelude.{◌≡◌, ℕ, suc, ◌≤◌, List, [], ◌∷◌, true, slice_get}
 use Rattle.sp_tree.specs.declared.checked.KindOf.{KindOf}
 use Rattle.sp_tree.specs.declared.named.NamedConstant.{NamedConstant}

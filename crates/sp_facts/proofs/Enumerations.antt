@@ -35,7 +35,7 @@ use Rattle.sp_types.specs.declared.tables.Ordinal.{Ordinal}
 use Rattle.sp_types.specs.Tables.{number_by, next_by, numbers_from, type_number, kinds_by, kinds_from, numbers_of, constants_of, env_of}
 use Rattle.sp_types.specs.TypeRules.{is_ordinal}
 use Rattle.sp_facts.specs.Given.{AreEnumerated, IsGiven}
-use Rattle.sp_facts.proofs.KindFacts.{keeps}
+use Rattle.sp_facts.proofs.TypesFormed.{keeps}
 
 abbrev IsOrdinalForm : NamedKindForm → Type 0
 IsOrdinalForm form.Integer = Unit {0}

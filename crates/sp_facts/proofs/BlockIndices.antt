@@ -35,8 +35,8 @@ use Rattle.sp_facts.specs.Numbered.{ends, IsNumbered}
 use Rattle.sp_facts.specs.TypedBlocks.{AreBlocksTyped}
 use Rattle.sp_facts.specs.Each.{Each}
 use Rattle.sp_facts.proofs.Variables.{indices_each}
-use Rattle.sp_facts.proofs.Spans.{statement_numbered}
-use Rattle.sp_facts.proofs.Indices.{AreSpans, blocks_typed}
+use Rattle.sp_facts.proofs.IndexNumbers.{statement_numbered}
+use Rattle.sp_facts.proofs.IndexTypes.{AreSpans, blocks_typed}
 use Rattle.sp_facts.proofs.Program.{named, tree, held}
 
 -- all are indices of this block

@@ -18,11 +18,11 @@ use Rattle.sp_types.specs.TypeWalk as w
 use Rattle.sp_types.specs.TypeWalk.{statement_after, statements_after, arms_after, branches_after, form_after, other_after, started, starts_of, blocks_after}
 use Rattle.sp_code.specs.Stands.{NoIndex}
 use Rattle.sp_facts.proofs.Calm.{calm_parts, calm_site, calm_unless}
-use Rattle.sp_facts.proofs.Indices.{AreSpans, others_stay}
+use Rattle.sp_facts.proofs.IndexTypes.{AreSpans, others_stay}
 use Rattle.sp_facts.proofs.Program.{named, tree, results}
-use Rattle.sp_facts.proofs.SpanFacts.{spans}
+use Rattle.sp_facts.proofs.BlockIndices.{spans}
 use Rattle.sp_facts.proofs.Tree.{block_from, starts_length}
-use Rattle.sp_facts.proofs.KnowsFacts.{variable_is_of}
+use Rattle.sp_facts.proofs.TablesKnow.{variable_is_of}
 
 -- ---- the types stay as they are
 

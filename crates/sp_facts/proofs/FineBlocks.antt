@@ -28,7 +28,7 @@ use Rattle.sp_code.specs.Stands.{Hushed, StandsAt, IsFine, AnyInstr, AnyTable, A
 use Rattle.sp_facts.proofs.Calm.{calm_parts}
 use Rattle.sp_facts.proofs.Expressions.{ordinal_sort}
 use Rattle.sp_facts.proofs.Statements.{Ready, Done, Quiet, Grown, statement_fine}
-use Rattle.sp_facts.proofs.PerformFacts.{performs}
+use Rattle.sp_facts.proofs.StandardCalls.{performs}
 use Rattle.sp_facts.proofs.Program.{named, tree, scoped}
 
 -- in the scopes of a block there is no forall

@@ -27,12 +27,12 @@ use Rattle.sp_tree.specs.Found.{listed}
 use Rattle.sp_tree.specs.Cells.{sizes}
 use Rattle.sp_types.specs.TypeWalk as w
 use Rattle.sp_facts.proofs.Calm.{calm_parts}
-use Rattle.sp_facts.proofs.ConstantFacts.{IsKnown, constants_known, bounds_known, index_ordinal}
-use Rattle.sp_facts.proofs.Indices.{others_stay}
-use Rattle.sp_facts.proofs.KindFacts.{formed_at, program_formed, number_there}
+use Rattle.sp_facts.proofs.ConstantValues.{IsKnown, constants_known, bounds_known, index_ordinal}
+use Rattle.sp_facts.proofs.IndexTypes.{others_stay}
+use Rattle.sp_facts.proofs.TypesFormed.{formed_at, program_formed, number_there}
 use Rattle.sp_facts.proofs.Declared.{program_behind, program_typed}
 use Rattle.sp_facts.proofs.Program.{named, tree, formals, results}
-use Rattle.sp_facts.proofs.SpanFacts.{spans, has_, room_, types_length}
+use Rattle.sp_facts.proofs.BlockIndices.{spans, has_, room_, types_length}
 
 same_variable : (a b : plain.Variable) → Some a ≡ Some b → a ≡ b
 same_variable a b e = cc e
