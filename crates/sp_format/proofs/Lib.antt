@@ -4,3 +4,4 @@ pub mod Neat
 pub mod Again
 pub mod Follows
 pub mod Accepts
+pub mod OneLayout

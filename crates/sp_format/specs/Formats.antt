@@ -35,8 +35,16 @@ Lays text (Err halt.Memory) = Unit {0}
 abbrev pub HasTree : List ℕ → Type 0
 HasTree text = (p : Program) × IsTree text p
 
+-- why a text has no canonical text: the first rule of these phases that it breaks, or L1
+abbrev pub HasNoLayout : List ℕ → Refusal → Type 0
+HasNoLayout text r = IsFirstBroken text r ⊎ (HasTree text × IsLong text r)
+
+-- this is the canonical text of a text that breaks no rule of these phases
+abbrev pub HasLayout : List ℕ → List ℕ → Type 0
+HasLayout text out = HasTree text × IsCanonical text out
+
 -- The canonical text of a text that breaks no rule of these phases; or the first rule that it breaks; or L1.
 abbrev pub Formats : List ℕ → Result (Vec ℕ Global) Halt → Type 0
-Formats text (Ok out) = HasTree text × IsCanonical text out.items
-Formats text (Err (halt.Refused r)) = IsFirstBroken text r ⊎ (HasTree text × IsLong text r)
+Formats text (Ok out) = HasLayout text out.items
+Formats text (Err (halt.Refused r)) = HasNoLayout text r
 Formats text (Err halt.Memory) = Unit {0}

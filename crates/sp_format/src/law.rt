@@ -1,10 +1,9 @@
 //! Laws of canonical texts. The functions do nothing: what counts is their contracts.
 
-ghost use Rattle.std.specs.Prelude.{◌≡◌, ◌⊎◌, ℕ, List};
+ghost use Rattle.std.specs.Prelude.{◌≡◌, ℕ, List};
 ghost use Rattle.sp_base.specs.declared.halt.Refusal.{Refusal};
-ghost use Rattle.sp_tree.specs.Breaches.{IsFirstBroken};
 ghost use Rattle.sp_format.specs.Items.{Item as AnItem, HasItems};
-ghost use Rattle.sp_format.specs.Formats.{HasTree, IsCanonical, IsLong};
+ghost use Rattle.sp_format.specs.Formats.{HasLayout, HasNoLayout, HasTree, IsCanonical};
 ghost use Rattle.sp_format.specs.Layout.{canonical};
 
 /// A text has at most one list of items, and so at most one canonical text. Texts of the same items have the same one.
@@ -20,5 +19,12 @@ pub fn items_kept()
     ensures items { (text : List ℕ) (is : List AnItem) → HasTree text → HasItems text is → HasItems (canonical is) is }
     ensures accepted { (text out : List ℕ) → HasTree text → IsCanonical text out → HasTree out }
     ensures again { (text out : List ℕ) → HasTree text → IsCanonical text out → IsCanonical out out }
-    ensures not_refused { (text out : List ℕ) (r : Refusal) → HasTree text → IsCanonical text out → IsFirstBroken out r ⊎ (HasTree out × IsLong out r) → ⊥ }
+    ensures not_refused { (text out : List ℕ) (r : Refusal) → HasTree text → IsCanonical text out → HasNoLayout out r → ⊥ }
+{}
+
+/// A text has a canonical text or a rule for which it has none, one of them, and never both.
+pub fn one_layout()
+    ensures layout { (text a b : List ℕ) → HasLayout text a → HasLayout text b → a ≡ b }
+    ensures refusal { (text : List ℕ) (a b : Refusal) → HasNoLayout text a → HasNoLayout text b → a ≡ b }
+    ensures not_both { (text out : List ℕ) (r : Refusal) → HasLayout text out → HasNoLayout text r → ⊥ }
 {}

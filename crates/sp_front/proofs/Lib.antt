@@ -1,4 +1,6 @@
+pub mod BodyPlaces
 pub mod Existence
 pub mod Joining
+pub mod Numbered
 pub mod OneAnswer
 pub mod Phasing

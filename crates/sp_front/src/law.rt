@@ -4,6 +4,7 @@ ghost use Rattle.std.specs.Prelude.{◌≡◌, ◌⊎◌, ℕ, List};
 ghost use Rattle.sp_base.specs.declared.halt.Refusal.{Refusal};
 ghost use Rattle.sp_tree.specs.PlainChecked.{Program};
 ghost use Rattle.sp_tree.specs.Plain.{Program as Meant};
+ghost use Rattle.sp_types.specs.StatementNumbers.{AllDiffer, blocks_numbers};
 ghost use Rattle.sp_front.specs.Checks.{BreaksFirst, IsChecked, IsProgramOf, KeepsRules};
 
 use sp_grammar::{one_verdict, some_verdict};
@@ -28,3 +29,8 @@ pub fn some_answer(text: &[u8])
     some_verdict();
     let _found = first_breach(text);
 }
+
+/// No two statements of the checked tree of a text have one number, in one block or in two.
+pub fn numbers_differ()
+    ensures { (text : List ℕ) (p : Program) → IsChecked text p → AllDiffer (blocks_numbers p.blocks) }
+{}

@@ -5,6 +5,6 @@ mod law;
 mod phases;
 mod reader;
 
-pub use law::{one_answer, some_answer};
+pub use law::{numbers_differ, one_answer, some_answer};
 pub use phases::{typed, typed_apart};
 pub use reader::read_text;

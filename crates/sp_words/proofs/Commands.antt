@@ -29,7 +29,7 @@ use Rattle.sp_words.specs.Options.{is_number_in, is_numeral, option_names, optio
 use Rattle.sp_words.specs.Parsers.{IsShowParser, app_with, run_parsers}
 use Rattle.sp_words.specs.Words.{command_named, command_names, command_of, command_of_items, command_read, command_with, each_once, is_accepted, lookup}
 use Rattle.sp_words.specs.declared.command.CommandName.{CommandName}
-use Rattle.sp_words.specs.declared.command.CommandName.TheVariants.{Check, Run, Code, Sets}
+use Rattle.sp_words.specs.declared.command.CommandName.TheVariants.{Check, Run, Code, Sets, Format}
 use Rattle.sp_words.proofs.Readings.{Each}
 use Rattle.sp_words.proofs.Rules.{Parsers, clear, file_id, level, rules}
 use Rattle.sp_words.proofs.Levels.{and-false, good, names}
@@ -42,6 +42,7 @@ word_for Check = codes "check"
 word_for Run = codes "run"
 word_for Code = codes "code"
 word_for Sets = codes "sets"
+word_for Format = codes "format"
 
 some_same : {X : Type 0} {x y : X} → Some x ≡ Some y → x ≡ y
 some_same {X} {x} {y} e = ap (λ o. Rattle.std.specs.Prelude.unwrap_or o x) e
@@ -62,7 +63,7 @@ word_found (x ∷ xs) word command each e = found_step x word command (find (λ 
 
 -- the word that names a command
 pub word_of_command : (word : Text) (command : CommandName) → command_named word ≡ Some command → word ≡ word_for command
-word_of_command word command e = word_found command_names word command (refl, (refl, (refl, (refl, tt)))) e
+word_of_command word command e = word_found command_names word command (refl, (refl, (refl, (refl, (refl, tt))))) e
 
 -- ---- the walk past the command
 
@@ -142,9 +143,10 @@ parsers_for q Check = []
 parsers_for q Run = run_parsers q
 parsers_for q Code = []
 parsers_for q Sets = []
+parsers_for q Format = []
 
 abbrev pub shapes : ValueParser → List Shape
-shapes q = level (codes "check") [] ∷ level (codes "run") (run_parsers q) ∷ level (codes "code") [] ∷ level (codes "sets") [] ∷ []
+shapes q = level (codes "check") [] ∷ level (codes "run") (run_parsers q) ∷ level (codes "code") [] ∷ level (codes "sets") [] ∷ level (codes "format") [] ∷ []
 
 built_is : (q : ValueParser) → built (app_with q) ≡ app (shapes q)
 built_is q = refl
@@ -160,6 +162,7 @@ enters_command q Check words = enters (shapes q) (codes "check") (level (codes "
 enters_command q Run words = enters (shapes q) (codes "run") (level (codes "run") (run_parsers q)) words refl refl
 enters_command q Code words = enters (shapes q) (codes "code") (level (codes "code") []) words refl refl
 enters_command q Sets words = enters (shapes q) (codes "sets") (level (codes "sets") []) words refl refl
+enters_command q Format words = enters (shapes q) (codes "format") (level (codes "format") []) words refl refl
 
 number_test : (a b : Bool) (n : ℕ) (f : ℕ → Bool) → (a && (b && f n)) ≡ option_map_or f (cond (a && b) (Some n) None) false
 number_test true true n f = refl
@@ -193,12 +196,14 @@ agrees q Run show = (
 )
 agrees q Code show = tt
 agrees q Sets show = tt
+agrees q Format show = tt
 
 no_file : (q : ValueParser) (command : CommandName) → contains (names (parsers_for q command)) file_id ≡ false
 no_file q Check = refl
 no_file q Run = refl
 no_file q Code = refl
 no_file q Sets = refl
+no_file q Format = refl
 
 -- ---- the words
 

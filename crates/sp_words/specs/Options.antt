@@ -56,6 +56,7 @@ options_of name.Check = []
 options_of name.Run = run_options
 options_of name.Code = []
 options_of name.Sets = []
+options_of name.Format = []
 
 abbrev pub option_names : CommandName → List Text
 option_names command = map (λ o. o.0) (options_of command)

@@ -52,5 +52,5 @@ app_with q = record {
     subcommand_required = true;
   };
   subs = shape_with (codes "check") [] ∷ shape_with (codes "run") (run_parsers q)
-      ∷ shape_with (codes "code") [] ∷ shape_with (codes "sets") [] ∷ [];
+      ∷ shape_with (codes "code") [] ∷ shape_with (codes "sets") [] ∷ shape_with (codes "format") [] ∷ [];
 }

@@ -51,6 +51,7 @@ command_from name.Check value word = command.Check word
 command_from name.Run value word = command.Run word (number_or (2 ^ 32) 4 (value (codes "workers"))) (limits_from value) (show_or_end (value (codes "show")))
 command_from name.Code value word = command.Code word
 command_from name.Sets value word = command.Sets word
+command_from name.Format value word = command.Format word
 
 abbrev pub command_with : CommandName → (Text → Option Text) → Option Command
 command_with command value = option_map (command_from command value) (value (codes "FILE"))
@@ -62,7 +63,7 @@ command_of_items command is =
     else None
 
 abbrev pub command_names : List (Text × CommandName)
-command_names = (codes "check", name.Check) ∷ (codes "run", name.Run) ∷ (codes "code", name.Code) ∷ (codes "sets", name.Sets) ∷ []
+command_names = (codes "check", name.Check) ∷ (codes "run", name.Run) ∷ (codes "code", name.Code) ∷ (codes "sets", name.Sets) ∷ (codes "format", name.Format) ∷ []
 
 abbrev pub command_named : Text → Option CommandName
 command_named word = option_map (λ p. p.1) (find (λ p. bytes_eq p.0 word) command_names)

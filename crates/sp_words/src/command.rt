@@ -25,6 +25,8 @@ pub enum Command {
     Code(Word),
     /// List the variable sets of its statements.
     Sets(Word),
+    /// Lay the text out in the canonical way.
+    Format(Word),
 }
 
 /// The names of the commands.
@@ -34,6 +36,7 @@ pub(crate) enum CommandName {
     Run,
     Code,
     Sets,
+    Format,
 }
 
 /// Why the words give no command.

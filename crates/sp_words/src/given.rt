@@ -92,5 +92,6 @@ pub(crate) fn command_given(
         },
         CommandName::Code => Command::Code(file),
         CommandName::Sets => Command::Sets(file),
+        CommandName::Format => Command::Format(file),
     })
 }

@@ -107,5 +107,6 @@ pub(crate) fn parser<'a>(alloc: Global) -> Result<Command<'a>, AllocError>
         .subcommand(plain_command(alloc, "check")?)?
         .subcommand(run_command(alloc)?)?
         .subcommand(plain_command(alloc, "code")?)?
-        .subcommand(plain_command(alloc, "sets")?)
+        .subcommand(plain_command(alloc, "sets")?)?
+        .subcommand(plain_command(alloc, "format")?)
 }

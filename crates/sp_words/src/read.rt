@@ -34,6 +34,7 @@ fn command_named(word: &str) -> Option<CommandName>
         "run" => Some(CommandName::Run),
         "code" => Some(CommandName::Code),
         "sets" => Some(CommandName::Sets),
+        "format" => Some(CommandName::Format),
         _ => None,
     }
 }
@@ -43,7 +44,10 @@ fn option_names(command: CommandName) -> &'static [&'static str]
 {
     match command {
         CommandName::Run => RUN_OPTIONS.as_slice(),
-        CommandName::Check | CommandName::Code | CommandName::Sets => &[],
+        CommandName::Check
+        | CommandName::Code
+        | CommandName::Sets
+        | CommandName::Format => &[],
     }
 }
 

@@ -23,6 +23,7 @@ fn shown(alloc: Global, command: &Command) -> Result<String, AllocError> {
         Command::Check(file) => format!(in alloc; "check {}", file.text()),
         Command::Code(file) => format!(in alloc; "code {}", file.text()),
         Command::Sets(file) => format!(in alloc; "sets {}", file.text()),
+        Command::Format(file) => format!(in alloc; "format {}", file.text()),
         Command::Run {
             file,
             workers,
@@ -59,6 +60,7 @@ fn commands(rt: HostRuntime) -> Result<(), AllocError> {
     check(&rt, alloc, &["check", "a"], "check a")?;
     check(&rt, alloc, &["code", "a"], "code a")?;
     check(&rt, alloc, &["sets", "--", "-a"], "sets -a")?;
+    check(&rt, alloc, &["format", "a.sp"], "format a.sp")?;
     check(
         &rt,
         alloc,

@@ -10,6 +10,7 @@ use Rattle.sp_first.specs.declared.machine.Ended.{Ended}
 use Rattle.sp_first.specs.Grammar.{Program, IsFirstForm}
 use Rattle.sp_first.specs.Meaning.{meaning}
 use Rattle.sp_first.specs.Runs.{Gives}
+use Rattle.sp_format.specs.Formats.{HasLayout, HasNoLayout}
 use Rattle.sp_front.specs.Checks.{BreaksFirst, KeepsRules}
 use Rattle.sp_print.specs.Lines.{refusal_text}
 use Rattle.sp_scan.proofs.Scanning.{too_long}
@@ -20,9 +21,9 @@ use Rattle.sp_words.specs.declared.command.Command.TheVariants as command
 use Rattle.superpascal.specs.declared.ending.Ending.{Ending}
 use Rattle.superpascal.specs.declared.ending.Ending.TheVariants as e
 use Rattle.superpascal.specs.declared.ending.Answer.{Answer}
-use Rattle.superpascal.specs.Answers.{status_of, line_of, notes_by, has_run}
+use Rattle.superpascal.specs.Answers.{status_of, line_of, notes_by, has_output}
 use Rattle.superpascal.specs.Runs.{Reports, run_notes}
-use Rattle.superpascal.specs.Calls.{All, AnswersOthers, Asked, Call, Cause, Ends, EndsWith, Exactly, FitsInput, Found, Got, InputTooLong, IsOutside, IsProgram, IsTold, IsTooLong, IsUnbuilt, IsUnbuiltAfter, IsWithin, IsRefused, OfRun, OfText, Ran, ReadsFail, Refuses, RefusesWords, RunsTo, SaysLine, SaysRefusal, SaysUnbuilt, WritesLine, WritesNotes, WritesOutput, asks, cause, ended_cause, file_of, is_other, is_unbuilt_for, kept_cause, run_cause, silent, text_cause}
+use Rattle.superpascal.specs.Calls.{All, AnswersOthers, Asked, Breaks, Call, Cause, Ends, EndsWith, Exactly, FitsInput, Found, Got, InputTooLong, IsOutside, IsProgram, IsStopped, IsTold, IsTooLong, IsUnbuilt, IsUnbuiltAfter, IsWithin, IsRefused, Keeps, Makes, OfRun, OfText, Ran, ReadsFail, Refuses, RefusesWords, RunsTo, SaysLine, SaysRefusal, SaysUnbuilt, WritesLine, WritesNotes, WritesOutput, WritesText, accepted, asks, asks_text, cause, ended_cause, file_of, is_other, is_unbuilt_for, kept_cause, layout_cause, run_cause, silent, text_cause}
 
 -- all trees of a text have one meaning
 abbrev pub Once : Type 0
@@ -31,6 +32,35 @@ Once = (text : List ℕ) (p q : Program) → IsFirstForm text p → IsFirstForm 
 -- a text breaks one rule first
 abbrev pub OneRefusal : Type 0
 OneRefusal = (text : List ℕ) (a b : Refusal) → BreaksFirst text a → BreaksFirst text b → a ≡ b
+
+-- a text has one canonical text or one rule for which it has none, and never both
+pub record OneLayout : Type 0 where
+  pub layout : (text a b : List ℕ) → HasLayout text a → HasLayout text b → a ≡ b
+  pub refusal : (text : List ℕ) (a b : Refusal) → HasNoLayout text a → HasNoLayout text b → a ≡ b
+  pub not_both : (text out : List ℕ) (r : Refusal) → HasLayout text out → HasNoLayout text r → ⊥
+
+-- a command refuses a text for one rule
+one_break : OneRefusal → OneLayout → (c : Command) (text : List ℕ) (a b : Refusal) → Breaks c text a → Breaks c text b → a ≡ b
+one_break one l (command.Check file) text a b x y = one text a b x y
+one_break one l (command.Run file workers limits show) text a b x y = one text a b x y
+one_break one l (command.Code file) text a b x y = one text a b x y
+one_break one l (command.Sets file) text a b x y = one text a b x y
+one_break one l (command.Format file) text a b x y = l.refusal text a b x y
+
+-- of a text of which the command makes one it refuses none
+made_keeps : OneLayout → (c : Command) (text out : List ℕ) → Makes c text out → Keeps c text
+made_keeps l (command.Check file) text out m = absurd m
+made_keeps l (command.Run file workers limits show) text out m = absurd m
+made_keeps l (command.Code file) text out m = absurd m
+made_keeps l (command.Sets file) text out m = absurd m
+made_keeps l (command.Format file) text out m = λ r b. l.not_both text out r m b
+
+made_once : OneLayout → (c : Command) (text a b : List ℕ) → Makes c text a → Makes c text b → a ≡ b
+made_once l (command.Check file) text a b m n = absurd m
+made_once l (command.Run file workers limits show) text a b m n = absurd m
+made_once l (command.Code file) text a b m n = absurd m
+made_once l (command.Sets file) text a b m n = absurd m
+made_once l (command.Format file) text a b m n = l.layout text a b m n
 
 ends_once : Once → (text : List ℕ) (f g : Option Fault) (out put : List ℕ) → Ends text f out → Ends text g put → ◌≡◌ {A = Ended} (record { output = out; fault = f }) (record { output = put; fault = g })
 ends_once once text f g out put a b = sym a.2 ∙ once text a.0 b.0 a.1 b.1 ∙ b.2
@@ -94,6 +124,7 @@ module _ (once : Once) (reports : Reports) (left : Option (List ℕ)) (taken tak
   run_of_ended e.TooLong output notes k = absurd k
   run_of_ended e.BadWords output notes k = absurd k
   run_of_ended (e.Refused r) output notes k = absurd k
+  run_of_ended e.Accepted output notes k = absurd k
 
 -- a text that is not of the first form
 pub unbuilt_text : (reports : Reports) (left : Option (List ℕ)) (taken taken' : ℕ) (limits : Limits) (show : Show) (text : List ℕ) (a : Answer) → a ≡ silent e.NotBuilt → Gives text (Ok None) → KeepsRules text → run_cause reports left taken taken' limits show text a.ending a.output a.notes
@@ -101,21 +132,41 @@ unbuilt_text reports left taken taken' limits show text a h gives keeps =
     subst (λ (b : Answer). run_cause reports left taken taken' limits show text b.ending b.output b.notes) (sym h)
     (((keeps, λ fault w. gives w.1.0.0 w.1.0.1), λ p. absurd (gives p.1 p.2)), (refl, refl))
 
--- the answer to a run, where the command asks for one
-pub kept_of_run : (reports : Reports) (left : Option (List ℕ)) (taken taken' : ℕ) (c : Command) (file : List ℕ) (workers : ℕ) (limits : Limits) (show : Show) (text : List ℕ) (a : Answer) → c ≡ command.Run file workers limits show
-    → run_cause reports left taken taken' limits show text a.ending a.output a.notes → kept_cause reports left taken taken' c text a
-kept_of_run reports left taken taken' c file workers limits show text a h k = subst (λ (d : Command). kept_cause reports left taken taken' d text a) (sym h) k
-
--- the answer to a text, by what was read of it
+-- the answer to a text, by what the command asks
 module _ (reports : Reports) (left : Option (List ℕ)) (taken taken' : ℕ) (c : Command) (text : List ℕ) (a : Answer) where
-  pub text_of_kept : KeepsRules text → kept_cause reports left taken taken' c text a → text_cause reports left taken taken' c text a
-  text_of_kept keeps k = inl (keeps, k)
+  abbrev Due_text : Command → Type 0
+  Due_text d = text_cause reports left taken taken' d text a
 
-  pub text_of_refused : (r : Refusal) → BreaksFirst text r → Refuses r a → text_cause reports left taken taken' c text a
-  text_of_refused r b k = inr (inl (r, b, k))
+  pub text_of_run : (file : List ℕ) (workers : ℕ) (limits : Limits) (show : Show) → c ≡ command.Run file workers limits show → KeepsRules text → run_cause reports left taken taken' limits show text a.ending a.output a.notes → Due_text c
+  text_of_run file workers limits show h keeps k = subst Due_text (sym h) (inl (keeps, k))
 
-  pub text_of_memory : a ≡ silent e.OutOfMemory → text_cause reports left taken taken' c text a
-  text_of_memory h = inr (inr h)
+  pub stopped_run : (file : List ℕ) (workers : ℕ) (limits : Limits) (show : Show) → c ≡ command.Run file workers limits show → IsStopped text a → Due_text c
+  stopped_run file workers limits show h k = subst Due_text (sym h) (inr k)
+
+  pub text_of_layout : (file : List ℕ) → OneLayout → c ≡ command.Format file → layout_cause text a → Due_text c
+  text_of_layout file l h (inl k) = subst Due_text (sym h) (inl (λ r b. l.not_both text k.0 r k.1 b, k))
+  text_of_layout file l h (inr k) = subst Due_text (sym h) (inr k)
+
+  -- of a command for which nothing is built
+  pub text_of_other : (d : Command) → c ≡ d → is_other d → KeepsRules text → a ≡ silent e.NotBuilt → Due_text c
+  text_of_other d h o keeps k = subst Due_text (sym h) (go d o)
+    where
+      go : (d : Command) → is_other d → Due_text d
+      go (command.Check file) o = inl (keeps, k)
+      go (command.Code file) o = inl (keeps, k)
+      go (command.Sets file) o = inl (keeps, k)
+      go (command.Run file workers limits show) o = absurd o
+      go (command.Format file) o = absurd o
+
+  pub stopped_other : (d : Command) → c ≡ d → is_other d → IsStopped text a → Due_text c
+  stopped_other d h o k = subst Due_text (sym h) (go d o)
+    where
+      go : (d : Command) → is_other d → Due_text d
+      go (command.Check file) o = inr k
+      go (command.Code file) o = inr k
+      go (command.Sets file) o = inr k
+      go (command.Run file workers limits show) o = absurd o
+      go (command.Format file) o = absurd o
 
 -- an input that was read whole
 pub fits_of : (left : Option (List ℕ)) (all : List ℕ) → IfSome left (λ bytes. all ≡ bytes) → length all ≤ 16777216 → FitsInput left
@@ -132,6 +183,14 @@ when_told : (P : List ℕ → Type 0) (o : Option (List ℕ)) (text : List ℕ) 
 when_told P None text h k = tt
 when_told P (Some all) text h k = subst P h k
 
+-- a command for which nothing is built refuses a text for no rule where it breaks none
+others_keep : (c : Command) → is_other c → (text : List ℕ) → KeepsRules text → Keeps c text
+others_keep (command.Check file) o text h = h
+others_keep (command.Code file) o text h = h
+others_keep (command.Sets file) o text h = h
+others_keep (command.Run file workers limits show) o text h = absurd o
+others_keep (command.Format file) o text h = absurd o
+
 module _ (f : Found) where
   cause_of_run : (a : Asked) (text : List ℕ) → command_of f.words ≡ Some (asks a) → IsTold (f.told a.file) text → (ending : Ending) (output notes : List ℕ) → run_cause f.reports f.left f.taken f.taken' a.limits a.show text ending output notes → cause f ending output notes
   cause_of_run a text w t e.Done output notes k = record { asked = a; text = text; words_are = w; told_is = t; fits = k.0; runs = k.1 }
@@ -142,33 +201,43 @@ module _ (f : Found) where
   cause_of_run a text w t e.OutOfMemory output notes k = k
   cause_of_run a text w t e.BadWords output notes k = absurd k
   cause_of_run a text w t (e.Refused r) output notes k = absurd k
+  cause_of_run a text w t e.Accepted output notes k = absurd k
 
   other_cause : (c : Command) (a : Answer) → command_of f.words ≡ Some c → is_unbuilt_for f.told f.left c → a ≡ silent e.NotBuilt → Cause f a
   other_cause c a w u h = subst (Cause f) (sym h) (c, w, u, (refl, refl))
 
-  refused_cause : (r : Refusal) (c : Command) (a : Answer) → command_of f.words ≡ Some c → IfSome (f.told (file_of c)) (λ text. BreaksFirst text r) → Refuses r a → Cause f a
+  refused_cause : (r : Refusal) (c : Command) (a : Answer) → command_of f.words ≡ Some c → IfSome (f.told (file_of c)) (λ text. Breaks c text r) → Refuses r a → Cause f a
   refused_cause r c a w b (inl h) = subst (Cause f) (sym h) (c, w, b, refl, refl)
   refused_cause r c a w b (inr h) = subst (Cause f) (sym h) (refl, refl)
 
-  cause_of_kept : (c : Command) (text : List ℕ) (a : Answer) → command_of f.words ≡ Some c → IsTold (f.told (file_of c)) text → KeepsRules text → kept_cause f.reports f.left f.taken f.taken' c text a → Cause f a
+  cause_of_kept : (c : Command) (text : List ℕ) (a : Answer) → command_of f.words ≡ Some c → IsTold (f.told (file_of c)) text → Keeps c text → kept_cause f.reports f.left f.taken f.taken' c text a → Cause f a
   cause_of_kept (command.Run file workers limits show) text a w t keeps k = cause_of_run (record { file = file; workers = workers; limits = limits; show = show }) text w t a.ending a.output a.notes k
   cause_of_kept (command.Check file) text a w t keeps k = other_cause (command.Check file) a w (when_told KeepsRules (f.told file) text t keeps) k
   cause_of_kept (command.Code file) text a w t keeps k = other_cause (command.Code file) a w (when_told KeepsRules (f.told file) text t keeps) k
   cause_of_kept (command.Sets file) text a w t keeps k = other_cause (command.Sets file) a w (when_told KeepsRules (f.told file) text t keeps) k
+  cause_of_kept (command.Format file) text a w t keeps k = subst (Cause f) (sym k.2) (command.Format file, w, text, t, k.1, refl)
 
   -- the answer to a text is due where the library gave it
   pub cause_of_text : (c : Command) (text : List ℕ) (a : Answer) → command_of f.words ≡ Some c → IsTold (f.told (file_of c)) text → text_cause f.reports f.left f.taken f.taken' c text a → Cause f a
   cause_of_text c text a w t (inl k) = cause_of_kept c text a w t k.0 k.1
-  cause_of_text c text a w t (inr (inl k)) = refused_cause k.0 c a w (when_told (λ x. BreaksFirst x k.0) (f.told (file_of c)) text t k.1) k.2
+  cause_of_text c text a w t (inr (inl k)) = refused_cause k.0 c a w (when_told (λ x. Breaks c x k.0) (f.told (file_of c)) text t k.1) k.2
   cause_of_text c text a w t (inr (inr h)) = subst (Cause f) (sym h) (refl, refl)
 
-  long_breaks : (o : Option (List ℕ)) → IfSome o (λ all. 1048576 < length all) → IfSome o (λ text. BreaksFirst text (record { rule = rule.L1; at = start }))
-  long_breaks None h = tt
-  long_breaks (Some all) h = inl (inl (too_long all start refl h))
+  -- every command refuses a text that is longer than a text may be
+  long_broken : (c : Command) (all : List ℕ) → 1048576 < length all → Breaks c all (record { rule = rule.L1; at = start })
+  long_broken (command.Check file) all h = inl (inl (too_long all start refl h))
+  long_broken (command.Run file workers limits show) all h = inl (inl (too_long all start refl h))
+  long_broken (command.Code file) all h = inl (inl (too_long all start refl h))
+  long_broken (command.Sets file) all h = inl (inl (too_long all start refl h))
+  long_broken (command.Format file) all h = inl (inl (too_long all start refl h))
+
+  long_breaks : (c : Command) (o : Option (List ℕ)) → IfSome o (λ all. 1048576 < length all) → IfSome o (λ text. Breaks c text (record { rule = rule.L1; at = start }))
+  long_breaks c None h = tt
+  long_breaks c (Some all) h = long_broken c all h
 
   -- a text that is too long for the library
   pub cause_of_long : (c : Command) (a : Answer) → command_of f.words ≡ Some c → IfSome (f.told (file_of c)) (λ all. 1048576 < length all) → Refuses (record { rule = rule.L1; at = start }) a → Cause f a
-  cause_of_long c a w h k = refused_cause (record { rule = rule.L1; at = start }) c a w (long_breaks (f.told (file_of c)) h) k
+  cause_of_long c a w h k = refused_cause (record { rule = rule.L1; at = start }) c a w (long_breaks c (f.told (file_of c)) h) k
 
   -- ---- from the cause to the status
 
@@ -180,7 +249,7 @@ module _ (f : Found) where
   abbrev LineDue : Ending → List ℕ → List ℕ → Type 0
   LineDue ending notes line = ((status_of ending ≡ 1) × (notes_by ending notes ≡ line)) ⊎ IsOutside (status_of ending)
 
-  pub silent_output : (ending : Ending) (output notes : List ℕ) → cause f ending output notes → has_run ending ≡ false → output ≡ []
+  pub silent_output : (ending : Ending) (output notes : List ℕ) → cause f ending output notes → has_output ending ≡ false → output ≡ []
   silent_output e.BadWords output notes k h = k.1.0
   silent_output (e.Refused r) output notes k h = k.3
   silent_output e.NotBuilt output notes k h = k.3.0
@@ -189,6 +258,7 @@ module _ (f : Found) where
   silent_output e.OutOfMemory output notes k h = k.0
   silent_output e.Done output notes k h = absurd (no_true h)
   silent_output (e.Fault x) output notes k h = absurd (no_true h)
+  silent_output e.Accepted output notes k h = absurd (no_true h)
 
   refuses : (ending : Ending) (output notes : List ℕ) → cause f ending output notes → status_of ending ≡ 2 → command_of f.words ≡ None
   refuses e.BadWords output notes k h = k.0
@@ -198,15 +268,28 @@ module _ (f : Found) where
   refused e.BadWords output notes k h = inl refl
   refused e.Done output notes k h = absurd (no_command _ _ k.words_are h)
   refused (e.Fault x) output notes k h = absurd (no_command _ _ k.words_are h)
+  refused e.Accepted output notes k h = absurd (no_command _ _ k.1 h)
   refused e.NotBuilt output notes k h = absurd (no_command _ _ k.1 h)
   refused (e.Refused r) output notes k h = absurd (no_command _ _ k.1 h)
   refused e.ReadFault output notes k h = inr (omega arith, omega arith)
   refused e.TooLong output notes k h = inr (omega arith, omega arith)
   refused e.OutOfMemory output notes k h = inr (omega arith, omega arith)
 
+  -- commands for which nothing is built make no text
+  no_text : (c : Command) → is_other c → (text out : List ℕ) → Makes c text out → ⊥
+  no_text (command.Check file) o text out m = m
+  no_text (command.Run file workers limits show) o text out m = m
+  no_text (command.Code file) o text out m = m
+  no_text (command.Sets file) o text out m = m
+  no_text (command.Format file) o text out m = o
+
+  others_make : {c d : Command} {out : List ℕ} → c ≡ d → is_other c → (text : List ℕ) → Makes d text out → ⊥
+  others_make {d = d} {out = out} h o text m = no_text d (subst is_other h o) text out m
+
   others_due : (c : Command) → command_of f.words ≡ Some c → is_other c → (ending : Ending) (output notes : List ℕ) → cause f ending output notes → Due ending 1
   others_due c w o e.Done output notes k = absurd (subst is_other (one_command _ _ _ k.words_are w) o)
   others_due c w o (e.Fault x) output notes k = absurd (subst is_other (one_command _ _ _ k.words_are w) o)
+  others_due c w o e.Accepted output notes k = absurd (others_make (one_command _ _ _ k.1 w) o k.2 k.4)
   others_due c w o e.NotBuilt output notes k = inl refl
   others_due c w o (e.Refused r) output notes k = inl refl
   others_due c w o e.BadWords output notes k = absurd (no_command _ _ w k.0)
@@ -237,32 +320,83 @@ module _ (f : Found) where
     of_text : (P : List ℕ → Type 0) (d : Command) → command_of f.words ≡ Some d → IfSome (f.told (file_of d)) P → P text
     of_text P d v h = subst (λ o. IfSome o P) t (subst (λ (x : Command). IfSome (f.told (file_of x)) P) (one_command _ _ _ w v) h)
 
-    run_keeps : (fault : Option Fault) (output notes : List ℕ) → Ran f fault output notes → KeepsRules text
-    run_keeps fault output notes r = subst KeepsRules (of_text (λ x. r.text ≡ x) (asks r.asked) r.words_are r.told_is) r.runs.ends.2
+    run_keeps : (fault : Option Fault) (output notes : List ℕ) → Ran f fault output notes → Keeps c text
+    run_keeps fault output notes r = subst (λ d. Keeps d text) (one_command _ _ _ w r.words_are) (subst KeepsRules (of_text (λ x. r.text ≡ x) (asks r.asked) r.words_are r.told_is) r.runs.ends.2)
 
-    unbuilt_keeps : (d : Command) → command_of f.words ≡ Some d → is_unbuilt_for f.told f.left d → KeepsRules text
+    unbuilt_keeps : (d : Command) → command_of f.words ≡ Some d → is_unbuilt_for f.told f.left d → Keeps d text
     unbuilt_keeps (command.Run file workers limits show) v u = (of_text (IsUnbuiltAfter f.left limits) (command.Run file workers limits show) v u).0.0
     unbuilt_keeps (command.Check file) v u = of_text KeepsRules (command.Check file) v u
     unbuilt_keeps (command.Code file) v u = of_text KeepsRules (command.Code file) v u
     unbuilt_keeps (command.Sets file) v u = of_text KeepsRules (command.Sets file) v u
+    unbuilt_keeps (command.Format file) v u = absurd u
 
-    breaks : (r : Refusal) (output notes : List ℕ) → cause f (e.Refused r) output notes → BreaksFirst text r
-    breaks r output notes k = of_text (λ x. BreaksFirst x r) k.0 k.1 k.2
+    keeps_unbuilt : (d : Command) → command_of f.words ≡ Some d → is_unbuilt_for f.told f.left d → Keeps c text
+    keeps_unbuilt d v u = subst (λ (x : Command). Keeps x text) (one_command _ _ _ w v) (unbuilt_keeps d v u)
 
-    refusal_due : OneRefusal → (r : Refusal) → BreaksFirst text r → (ending : Ending) (output notes : List ℕ) → cause f ending output notes → LineDue ending notes (refusal_text r)
-    refusal_due one r b e.Done output notes k = absurd (run_keeps None output notes k r b)
-    refusal_due one r b (e.Fault x) output notes k = absurd (run_keeps (Some x) output notes k r b)
-    refusal_due one r b (e.Refused q) output notes k = inl (refl, k.4 ∙ ap refusal_text (one text q r (breaks q output notes k) b))
-    refusal_due one r b e.NotBuilt output notes k = absurd (unbuilt_keeps k.0 k.1 k.2 r b)
-    refusal_due one r b e.BadWords output notes k = absurd (no_command _ _ w k.0)
-    refusal_due one r b e.ReadFault output notes k = inr (omega arith, omega arith)
-    refusal_due one r b e.TooLong output notes k = inr (omega arith, omega arith)
-    refusal_due one r b e.OutOfMemory output notes k = inr (omega arith, omega arith)
+    breaks : (r : Refusal) (output notes : List ℕ) → cause f (e.Refused r) output notes → Breaks c text r
+    breaks r output notes k = subst (λ (x : Command). Breaks x text r) (one_command _ _ _ w k.1) (of_text (λ x. Breaks k.0 x r) k.0 k.1 k.2)
 
-    other_line_due : is_other c → KeepsRules text → (ending : Ending) (output notes : List ℕ) → cause f ending output notes → LineDue ending notes (line_of e.NotBuilt)
+    -- what was made is made of this text, by this command
+    makes : (output notes : List ℕ) → cause f e.Accepted output notes → Makes c text output
+    makes output notes k =
+        subst (λ (x : Command). Makes x text output) (one_command _ _ _ w k.1) (subst (λ (x : List ℕ). Makes k.0 x output) (of_text (λ x. k.2 ≡ x) k.0 k.1 k.3) k.4)
+
+    refusal_due : OneRefusal → OneLayout → (r : Refusal) → Breaks c text r → (ending : Ending) (output notes : List ℕ) → cause f ending output notes → LineDue ending notes (refusal_text r)
+    refusal_due one l r b e.Done output notes k = absurd (run_keeps None output notes k r b)
+    refusal_due one l r b (e.Fault x) output notes k = absurd (run_keeps (Some x) output notes k r b)
+    refusal_due one l r b e.Accepted output notes k = absurd (made_keeps l c text output (makes output notes k) r b)
+    refusal_due one l r b (e.Refused q) output notes k = inl (refl, k.4 ∙ ap refusal_text (one_break one l c text q r (breaks q output notes k) b))
+    refusal_due one l r b e.NotBuilt output notes k = absurd (keeps_unbuilt k.0 k.1 k.2 r b)
+    refusal_due one l r b e.BadWords output notes k = absurd (no_command _ _ w k.0)
+    refusal_due one l r b e.ReadFault output notes k = inr (omega arith, omega arith)
+    refusal_due one l r b e.TooLong output notes k = inr (omega arith, omega arith)
+    refusal_due one l r b e.OutOfMemory output notes k = inr (omega arith, omega arith)
+
+    -- a command that asks for a text
+    not_run : (b : Asked) → asks_text c → command_of f.words ≡ Some (asks b) → ⊥
+    not_run b q v = subst asks_text (one_command _ _ _ v w) q
+
+    not_unbuilt : (d : Command) → asks_text c → command_of f.words ≡ Some d → is_unbuilt_for f.told f.left d → ⊥
+    not_unbuilt d q v u = go d (subst asks_text (one_command _ _ _ v w) q) u
+      where
+        go : (d : Command) → asks_text d → is_unbuilt_for f.told f.left d → ⊥
+        go (command.Check file) q u = q
+        go (command.Run file workers limits show) q u = q
+        go (command.Code file) q u = q
+        go (command.Sets file) q u = q
+        go (command.Format file) q u = u
+
+    text_only : asks_text c → (ending : Ending) (output notes : List ℕ) → cause f ending output notes → status_of ending ≡ 0 → (out : List ℕ) × Makes c text out
+    text_only q e.Done output notes k h = absurd (not_run k.asked q k.words_are)
+    text_only q e.Accepted output notes k h = (output, makes output notes k)
+    text_only q _ output notes _ h = absurd (omega arith)
+
+    text_due : asks_text c → OneLayout → ((out : List ℕ) × Makes c text out) → (ending : Ending) (output notes : List ℕ) → cause f ending output notes → Due ending 0
+    text_due q l m e.Done output notes k = inl refl
+    text_due q l m (e.Fault x) output notes k = absurd (not_run k.asked q k.words_are)
+    text_due q l m e.Accepted output notes k = inl refl
+    text_due q l m (e.Refused r) output notes k = absurd (made_keeps l c text m.0 m.1 r (breaks r output notes k))
+    text_due q l m e.NotBuilt output notes k = absurd (not_unbuilt k.0 q k.1 k.2)
+    text_due q l m e.BadWords output notes k = absurd (no_command _ _ w k.0)
+    text_due q l m e.ReadFault output notes k = inr (omega arith, omega arith)
+    text_due q l m e.TooLong output notes k = inr (omega arith, omega arith)
+    text_due q l m e.OutOfMemory output notes k = inr (omega arith, omega arith)
+
+    made_output : asks_text c → OneLayout → (out : List ℕ) → Makes c text out → (ending : Ending) (output notes : List ℕ) → cause f ending output notes → status_of ending ≡ 0 → (output ≡ out) × (notes_by ending notes ≡ [])
+    made_output q l out m e.Done output notes k h = absurd (not_run k.asked q k.words_are)
+    made_output q l out m e.Accepted output notes k h = (made_once l c text output out (makes output notes k) m, k.5)
+    made_output q l out m _ output notes _ h = absurd (omega arith)
+
+    refused_only : asks_text c → (ending : Ending) (output notes : List ℕ) → cause f ending output notes → status_of ending ≡ 1 → (r : Refusal) × Breaks c text r
+    refused_only q (e.Refused r) output notes k h = (r, breaks r output notes k)
+    refused_only q e.NotBuilt output notes k h = absurd (not_unbuilt k.0 q k.1 k.2)
+    refused_only q _ output notes _ h = absurd (omega arith)
+
+    other_line_due : is_other c → Keeps c text → (ending : Ending) (output notes : List ℕ) → cause f ending output notes → LineDue ending notes (line_of e.NotBuilt)
     other_line_due o h e.Done output notes k = absurd (subst is_other (one_command _ _ _ k.words_are w) o)
     other_line_due o h (e.Fault x) output notes k = absurd (subst is_other (one_command _ _ _ k.words_are w) o)
     other_line_due o h (e.Refused q) output notes k = absurd (h q (breaks q output notes k))
+    other_line_due o h e.Accepted output notes k = absurd (no_text c o text output (makes output notes k))
     other_line_due o h e.NotBuilt output notes k = inl (refl, refl)
     other_line_due o h e.BadWords output notes k = absurd (no_command _ _ w k.0)
     other_line_due o h e.ReadFault output notes k = inr (omega arith, omega arith)
@@ -286,8 +420,13 @@ module _ (f : Found) where
     broken_is : (r : Refusal) (output notes : List ℕ) → cause f (e.Refused r) output notes → BreaksFirst text r
     broken_is r output notes k = breaks (asks a) text w t r output notes k
 
+    -- a run is no command that asks for a text
+    none_made : (output notes : List ℕ) → cause f e.Accepted output notes → ⊥
+    none_made output notes k = makes (asks a) text w t output notes k
+
     done_only : (ending : Ending) (output notes : List ℕ) → cause f ending output notes → status_of ending ≡ 0 → EndsWith a.limits text None
     done_only e.Done output notes k h = (output, (run_is None output notes k).ends)
+    done_only e.Accepted output notes k h = absurd (none_made output notes k)
     done_only _ output notes _ h = absurd (omega arith)
 
     fault_only : (ending : Ending) (output notes : List ℕ) → cause f ending output notes → status_of ending ≡ 3 → (x : Fault) × EndsWith a.limits text (Some x)
@@ -301,6 +440,7 @@ module _ (f : Found) where
 
     done_due : Once → EndsWith a.limits text None → (ending : Ending) (output notes : List ℕ) → cause f ending output notes → Due ending 0
     done_due once h e.Done output notes k = inl refl
+    done_due once h e.Accepted output notes k = absurd (none_made output notes k)
     done_due once h (e.Fault x) output notes k = absurd (no_some x (ap (λ (r : Ended). r.fault) (ends_once once text (Some x) None output h.0 (run_is (Some x) output notes k).ends.0 h.1.0)))
     done_due once h e.NotBuilt output notes k = absurd ((unbuilt_is k.0 k.1 k.2).0.1 None h)
     done_due once h (e.Refused r) output notes k = absurd (h.1.2 r (broken_is r output notes k))
@@ -312,6 +452,7 @@ module _ (f : Found) where
     fault_due : Once → ((x : Fault) × EndsWith a.limits text (Some x)) → (ending : Ending) (output notes : List ℕ) → cause f ending output notes → Due ending 3
     fault_due once h e.Done output notes k = absurd (no_some h.0 (ap (λ (r : Ended). r.fault) (ends_once once text (Some h.0) None h.1.0 output h.1.1.0 (run_is None output notes k).ends.0)))
     fault_due once h (e.Fault x) output notes k = inl refl
+    fault_due once h e.Accepted output notes k = absurd (none_made output notes k)
     fault_due once h e.NotBuilt output notes k = absurd ((unbuilt_is k.0 k.1 k.2).0.1 (Some h.0) h.1)
     fault_due once h (e.Refused r) output notes k = absurd (h.1.1.2 r (broken_is r output notes k))
     fault_due once h e.BadWords output notes k = absurd (no_command _ _ w k.0)
@@ -322,6 +463,7 @@ module _ (f : Found) where
     unbuilt_due : IsUnbuilt a.limits text → (ending : Ending) (output notes : List ℕ) → cause f ending output notes → LineDue ending notes (line_of e.NotBuilt)
     unbuilt_due h e.Done output notes k = absurd (h.1 None (output, (run_is None output notes k).ends))
     unbuilt_due h (e.Fault x) output notes k = absurd (h.1 (Some x) (output, (run_is (Some x) output notes k).ends))
+    unbuilt_due h e.Accepted output notes k = absurd (none_made output notes k)
     unbuilt_due h (e.Refused r) output notes k = absurd (h.0 r (broken_is r output notes k))
     unbuilt_due h e.NotBuilt output notes k = inl (refl, refl)
     unbuilt_due h e.BadWords output notes k = absurd (no_command _ _ w k.0)
@@ -333,6 +475,7 @@ module _ (f : Found) where
     long_due p input l h e.Done output notes k = absurd (fits_not f.left input k.fits l h)
     long_due p input l h (e.Fault x) output notes k = absurd (fits_not f.left input k.fits l h)
     long_due p input l h e.NotBuilt output notes k = absurd (fits_not f.left input ((unbuilt_is k.0 k.1 k.2).1 p) l h)
+    long_due p input l h e.Accepted output notes k = absurd (none_made output notes k)
     long_due p input l h (e.Refused r) output notes k = absurd (p.0 r (broken_is r output notes k))
     long_due p input l h e.BadWords output notes k = absurd (no_command _ _ w k.0)
     long_due p input l h e.ReadFault output notes k = (omega arith, omega arith)
@@ -340,9 +483,10 @@ module _ (f : Found) where
     long_due p input l h e.OutOfMemory output notes k = (omega arith, omega arith)
 
     -- the output and the notes of an answer are those of the text's run
-    one_output : Once → (x : Option Fault) (bytes : List ℕ) → Ends text x bytes → (ending : Ending) (output notes : List ℕ) → cause f ending output notes → has_run ending ≡ true → output ≡ bytes
+    one_output : Once → (x : Option Fault) (bytes : List ℕ) → Ends text x bytes → (ending : Ending) (output notes : List ℕ) → cause f ending output notes → has_output ending ≡ true → output ≡ bytes
     one_output once x bytes h e.Done output notes k r = ap (λ (r : Ended). r.output) (ends_once once text None x output bytes (run_is None output notes k).ends.0 h)
     one_output once x bytes h (e.Fault y) output notes k r = ap (λ (r : Ended). r.output) (ends_once once text (Some y) x output bytes (run_is (Some y) output notes k).ends.0 h)
+    one_output once x bytes h e.Accepted output notes k r = absurd (none_made output notes k)
     one_output once x bytes h (e.Refused q) output notes k r = absurd (no_false r)
     one_output once x bytes h e.NotBuilt output notes k r = absurd (no_false r)
     one_output once x bytes h e.BadWords output notes k r = absurd (no_false r)
@@ -350,11 +494,12 @@ module _ (f : Found) where
     one_output once x bytes h e.TooLong output notes k r = absurd (no_false r)
     one_output once x bytes h e.OutOfMemory output notes k r = absurd (no_false r)
 
-    one_notes : Once → (x : Option Fault) (bytes : List ℕ) → Ends text x bytes → (ending : Ending) (output notes : List ℕ) → cause f ending output notes → has_run ending ≡ true → notes_by ending notes ≡ run_notes f.reports a.show x
+    one_notes : Once → (x : Option Fault) (bytes : List ℕ) → Ends text x bytes → (ending : Ending) (output notes : List ℕ) → cause f ending output notes → has_output ending ≡ true → notes_by ending notes ≡ run_notes f.reports a.show x
     one_notes once x bytes h e.Done output notes k r =
         (run_is None output notes k).notes_are ∙ ap (run_notes f.reports a.show) (ap (λ (r : Ended). r.fault) (ends_once once text None x output bytes (run_is None output notes k).ends.0 h))
     one_notes once x bytes h (e.Fault y) output notes k r =
         (run_is (Some y) output notes k).notes_are ∙ ap (run_notes f.reports a.show) (ap (λ (r : Ended). r.fault) (ends_once once text (Some y) x output bytes (run_is (Some y) output notes k).ends.0 h))
+    one_notes once x bytes h e.Accepted output notes k r = absurd (none_made output notes k)
     one_notes once x bytes h (e.Refused q) output notes k r = absurd (no_false r)
     one_notes once x bytes h e.NotBuilt output notes k r = absurd (no_false r)
     one_notes once x bytes h e.BadWords output notes k r = absurd (no_false r)
@@ -363,9 +508,10 @@ module _ (f : Found) where
     one_notes once x bytes h e.OutOfMemory output notes k r = absurd (no_false r)
 
 -- a program has run where the status is 0 or 3
-run_by_status : (ending : Ending) → (status_of ending ≡ 0) ⊎ (status_of ending ≡ 3) → has_run ending ≡ true
+run_by_status : (ending : Ending) → (status_of ending ≡ 0) ⊎ (status_of ending ≡ 3) → has_output ending ≡ true
 run_by_status e.Done h = refl
 run_by_status (e.Fault f) h = refl
+run_by_status e.Accepted h = refl
 run_by_status (e.Refused r) (inl h) = absurd (omega arith)
 run_by_status (e.Refused r) (inr h) = absurd (omega arith)
 run_by_status e.NotBuilt (inl h) = absurd (omega arith)
@@ -379,9 +525,10 @@ run_by_status e.TooLong (inr h) = absurd (omega arith)
 run_by_status e.OutOfMemory (inl h) = absurd (omega arith)
 run_by_status e.OutOfMemory (inr h) = absurd (omega arith)
 
-no_run_by_status : (ending : Ending) → (status_of ending ≡ 0 → ⊥) → (status_of ending ≡ 3 → ⊥) → has_run ending ≡ false
+no_run_by_status : (ending : Ending) → (status_of ending ≡ 0 → ⊥) → (status_of ending ≡ 3 → ⊥) → has_output ending ≡ false
 no_run_by_status e.Done h k = absurd (h refl)
 no_run_by_status (e.Fault f) h k = absurd (k refl)
+no_run_by_status e.Accepted h k = absurd (h refl)
 no_run_by_status (e.Refused r) h k = refl
 no_run_by_status e.NotBuilt h k = refl
 no_run_by_status e.BadWords h k = refl
@@ -390,9 +537,10 @@ no_run_by_status e.TooLong h k = refl
 no_run_by_status e.OutOfMemory h k = refl
 
 -- the notes where none has run
-line_is : (f : Found) (ending : Ending) (output notes : List ℕ) → cause f ending output notes → has_run ending ≡ false → notes_by ending notes ≡ line_of ending
+line_is : (f : Found) (ending : Ending) (output notes : List ℕ) → cause f ending output notes → has_output ending ≡ false → notes_by ending notes ≡ line_of ending
 line_is f e.Done output notes k h = absurd (no_true h)
 line_is f (e.Fault x) output notes k h = absurd (no_true h)
+line_is f e.Accepted output notes k h = absurd (no_true h)
 line_is f (e.Refused r) output notes k h = k.4
 line_is f e.NotBuilt output notes k h = refl
 line_is f e.BadWords output notes k h = refl
@@ -447,11 +595,24 @@ module _ (f : Found) (output output' notes notes' : Got) (status : ℕ) (call : 
   pub call_others : AnswersOthers f.words f.told notes notes' status
   call_others = (
     λ c w o. due 1 (others_due f c w o _ _ _ call.cause),
-    λ c text w t o h. says (line_of e.NotBuilt) (other_line_due f c text w t o h _ _ _ call.cause),
+    λ c text w t o h. says (line_of e.NotBuilt) (other_line_due f c text w t o (others_keep c o text h) _ _ _ call.cause),
   )
 
-  pub call_refused : OneRefusal → OfText f.words f.told (λ c text. SaysRefusal text notes notes' status)
-  call_refused one c text w t r b = says (refusal_text r) (refusal_due f c text w t one r b _ _ _ call.cause)
+  pub call_refused : OneRefusal → OneLayout → OfText f.words f.told (λ c text. SaysRefusal c text notes notes' status)
+  call_refused one l c text w t r b = says (refusal_text r) (refusal_due f c text w t one l r b _ _ _ call.cause)
+
+  pub call_text : OneLayout → OfText f.words f.told (λ c text. asks_text c → WritesText c text output output' notes notes' status)
+  call_text l c text w t q = (
+    (
+      λ h. text_only f c text w t q _ _ _ call.cause (undisplaced 0 (λ p. absurd (omega arith)) h),
+      λ m. due 0 (text_due f c text w t q l m _ _ _ call.cause),
+    ),
+    λ out m s.
+      let made = made_output f c text w t q l out m _ _ _ call.cause (undisplaced 0 (λ p. absurd (omega arith)) s) in
+      let all = call.written.all_written (not_six 0 (λ p. absurd (omega arith)) s) in
+      (subst (λ v. All output output' v) made.0 all.0, subst (λ v. All notes notes' v) made.1 all.1),
+    λ s. refused_only f c text w t q _ _ _ call.cause (undisplaced 1 (λ p. absurd (omega arith)) s),
+  )
 
   pub call_done : Once → OfRun f.words f.told (λ a text. Exactly status 0 (EndsWith a.limits text None))
   call_done once a text w t = (

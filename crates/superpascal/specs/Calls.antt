@@ -1,5 +1,5 @@
 -- The contract of the top call, in parts.
-use Rattle.std.specs.Prelude.{◌≡◌, ◌≢◌, ◌⊎◌, ℕ, ◌<◌, ◌≤◌, List, [], true, false, length, take, Option, Some, None, IfSome}
+use Rattle.std.specs.Prelude.{◌≡◌, ◌≢◌, ◌⊎◌, ℕ, ◌<◌, ◌≤◌, List, [], true, false, length, take, Option, Some, None, IfSome, Result, Ok, Err}
 use Rattle.sp_base.specs.declared.fault.Fault.{Fault}
 use Rattle.sp_base.specs.declared.halt.Refusal.{Refusal}
 use Rattle.sp_base.specs.declared.limits.Limits.{Limits}
@@ -7,6 +7,7 @@ use Rattle.sp_base.specs.declared.limits.Show.{Show}
 use Rattle.sp_first.specs.Grammar.{Program, IsFirstForm}
 use Rattle.sp_first.specs.Meaning.{meaning}
 use Rattle.sp_outside.specs.Counts.{Rose}
+use Rattle.sp_format.specs.Formats.{HasLayout, HasNoLayout}
 use Rattle.sp_front.specs.Checks.{BreaksFirst, KeepsRules}
 use Rattle.sp_outside.specs.Told.{Grows}
 use Rattle.sp_print.specs.Lines.{refusal_text}
@@ -16,7 +17,7 @@ use Rattle.sp_words.specs.declared.command.Command.TheVariants as command
 use Rattle.superpascal.specs.declared.ending.Ending.{Ending}
 use Rattle.superpascal.specs.declared.ending.Ending.TheVariants as e
 use Rattle.superpascal.specs.declared.ending.Answer.{Answer}
-use Rattle.superpascal.specs.Answers.{status_of, line_of, notes_of, has_run}
+use Rattle.superpascal.specs.Answers.{status_of, line_of, notes_of, has_output}
 use Rattle.superpascal.specs.Runs.{Reports, run_notes}
 
 -- ---- words
@@ -37,6 +38,7 @@ file_of (command.Check file) = file
 file_of (command.Run file workers limits show) = file
 file_of (command.Code file) = file
 file_of (command.Sets file) = file
+file_of (command.Format file) = file
 
 -- ---- texts
 
@@ -68,6 +70,34 @@ IsUnbuilt limits text = KeepsRules text × ((fault : Option Fault) → EndsWith 
 abbrev pub IsRefused : List ℕ → Type 0
 IsRefused text = (r : Refusal) × BreaksFirst text r
 
+-- the first rule for which the command refuses the text: of all phases, or of those that `format` goes through
+abbrev pub Breaks : Command → List ℕ → Refusal → Type 0
+Breaks (command.Check file) text r = BreaksFirst text r
+Breaks (command.Run file workers limits show) text r = BreaksFirst text r
+Breaks (command.Code file) text r = BreaksFirst text r
+Breaks (command.Sets file) text r = BreaksFirst text r
+Breaks (command.Format file) text r = HasNoLayout text r
+
+-- the command refuses the text for no rule
+abbrev pub Keeps : Command → List ℕ → Type 0
+Keeps c text = (r : Refusal) → Breaks c text r → ⊥
+
+-- the commands that ask for a text
+abbrev pub asks_text : Command → Type 0
+asks_text (command.Format file) = Unit {0}
+asks_text (command.Check file) = ⊥
+asks_text (command.Run file workers limits show) = ⊥
+asks_text (command.Code file) = ⊥
+asks_text (command.Sets file) = ⊥
+
+-- what the command makes of the text
+abbrev pub Makes : Command → List ℕ → List ℕ → Type 0
+Makes (command.Format file) text out = HasLayout text out
+Makes (command.Check file) text out = ⊥
+Makes (command.Run file workers limits show) text out = ⊥
+Makes (command.Code file) text out = ⊥
+Makes (command.Sets file) text out = ⊥
+
 -- the text is what is told, where it is told
 abbrev pub IsTold : Option (List ℕ) → List ℕ → Type 0
 IsTold o text = IfSome o (λ all. text ≡ all)
@@ -86,9 +116,13 @@ IsUnbuiltAfter left limits text = IsUnbuilt limits text × (IsProgram text → F
 
 -- ---- answers
 
--- an answer of a call by which no program has run
+-- an answer without an output
 abbrev pub silent : Ending → Answer
 silent ending = record { ending = ending; output = []; notes = [] }
+
+-- the answer of a command that asks for this text
+abbrev pub accepted : List ℕ → Answer
+accepted out = record { ending = e.Accepted; output = out; notes = [] }
 
 abbrev pub IsSilent : List ℕ → List ℕ → Type 0
 IsSilent output notes = (output ≡ []) × (notes ≡ [])
@@ -115,19 +149,34 @@ run_cause reports left taken taken' limits show text e.ReadFault output notes = 
 run_cause reports left taken taken' limits show text e.TooLong output notes = IsProgram text × IfSome left IsTooLong × IsSilent output notes
 run_cause reports left taken taken' limits show text e.OutOfMemory output notes = IsSilent output notes
 run_cause reports left taken taken' limits show text e.BadWords output notes = ⊥
+run_cause reports left taken taken' limits show text e.Accepted output notes = ⊥
 run_cause reports left taken taken' limits show text (e.Refused r) output notes = ⊥
 
--- the same of any command, where the text breaks no rule
+-- the same of any command, where it refuses the text for no rule
 abbrev pub kept_cause : Reports → Option (List ℕ) → ℕ → ℕ → Command → List ℕ → Answer → Type 0
 kept_cause reports left taken taken' (command.Run file workers limits show) text a = run_cause reports left taken taken' limits show text a.ending a.output a.notes
 kept_cause reports left taken taken' (command.Check file) text a = a ≡ silent e.NotBuilt
 kept_cause reports left taken taken' (command.Code file) text a = a ≡ silent e.NotBuilt
 kept_cause reports left taken taken' (command.Sets file) text a = a ≡ silent e.NotBuilt
+kept_cause reports left taken taken' (command.Format file) text a = (out : List ℕ) × HasLayout text out × (a ≡ accepted out)
 
 -- the same of any text
 abbrev pub text_cause : Reports → Option (List ℕ) → ℕ → ℕ → Command → List ℕ → Answer → Type 0
 text_cause reports left taken taken' c text a =
-    (KeepsRules text × kept_cause reports left taken taken' c text a) ⊎ (((r : Refusal) × BreaksFirst text r × Refuses r a) ⊎ (a ≡ silent e.OutOfMemory))
+    (Keeps c text × kept_cause reports left taken taken' c text a) ⊎ (((r : Refusal) × Breaks c text r × Refuses r a) ⊎ (a ≡ silent e.OutOfMemory))
+
+-- why a text does not come through all phases
+abbrev pub IsStopped : List ℕ → Answer → Type 0
+IsStopped text a = ((r : Refusal) × BreaksFirst text r × Refuses r a) ⊎ (a ≡ silent e.OutOfMemory)
+
+-- the text comes through all phases, or this is the answer
+abbrev pub Passes : List ℕ → Result Unit Answer → Type 0
+Passes text (Ok x) = KeepsRules text
+Passes text (Err a) = IsStopped text a
+
+-- the answer of `format`
+abbrev pub layout_cause : List ℕ → Answer → Type 0
+layout_cause text a = ((out : List ℕ) × HasLayout text out × (a ≡ accepted out)) ⊎ (((r : Refusal) × HasNoLayout text r × Refuses r a) ⊎ (a ≡ silent e.OutOfMemory))
 
 abbrev pub ending_of : Option Fault → Ending
 ending_of None = e.Done
@@ -142,6 +191,7 @@ ended_cause reports limits show fault bytes e.OutOfMemory output notes = IsSilen
 ended_cause reports limits show fault bytes e.ReadFault output notes = ⊥
 ended_cause reports limits show fault bytes e.TooLong output notes = ⊥
 ended_cause reports limits show fault bytes e.BadWords output notes = ⊥
+ended_cause reports limits show fault bytes e.Accepted output notes = ⊥
 ended_cause reports limits show fault bytes (e.Refused r) output notes = ⊥
 
 -- what a call finds: the words, what the library tells of each name at entry and its counts of faults, and the same of
@@ -174,12 +224,14 @@ is_unbuilt_for told left (command.Run file workers limits show) = IfSome (told f
 is_unbuilt_for told left (command.Check file) = IfSome (told file) KeepsRules
 is_unbuilt_for told left (command.Code file) = IfSome (told file) KeepsRules
 is_unbuilt_for told left (command.Sets file) = IfSome (told file) KeepsRules
+is_unbuilt_for told left (command.Format file) = ⊥
 
 -- Why an answer is due.
 abbrev pub cause : Found → Ending → List ℕ → List ℕ → Type 0
 cause f e.Done output notes = Ran f None output notes
 cause f (e.Fault x) output notes = Ran f (Some x) output notes
-cause f (e.Refused r) output notes = (c : Command) × (command_of f.words ≡ Some c) × IfSome (f.told (file_of c)) (λ text. BreaksFirst text r) × (output ≡ []) × (notes ≡ refusal_text r)
+cause f e.Accepted output notes = (c : Command) × (command_of f.words ≡ Some c) × (text : List ℕ) × IsTold (f.told (file_of c)) text × Makes c text output × (notes ≡ [])
+cause f (e.Refused r) output notes = (c : Command) × (command_of f.words ≡ Some c) × IfSome (f.told (file_of c)) (λ text. Breaks c text r) × (output ≡ []) × (notes ≡ refusal_text r)
 cause f e.NotBuilt output notes = (c : Command) × (command_of f.words ≡ Some c) × is_unbuilt_for f.told f.left c × IsSilent output notes
 cause f e.BadWords output notes = (command_of f.words ≡ None) × IsSilent output notes
 cause f e.ReadFault output notes = (c : Command) × (command_of f.words ≡ Some c) × (Rose (f.before (file_of c)) (f.after (file_of c)) ⊎ Rose f.taken f.taken') × IsSilent output notes
@@ -222,10 +274,10 @@ pub record Writes (a : Answer) (output output' notes notes' : Got) (status : ℕ
   pub whole_output : (Failed output output' → ⊥) → All output output' a.output
   -- the notes come after the whole output
   pub output_first : (notes' ≡ notes) ⊎ All output output' a.output
-  -- the count of the output rises only after a run, whose status is 0 or 3
-  pub after_a_run : output.faults < output'.faults → has_run a.ending ≡ true
-  -- nothing is written to the output where no program has run
-  pub untouched : has_run a.ending ≡ false → output' ≡ output
+  -- the count of the output rises only where there is one, whose status is 0 or 3
+  pub with_output : output.faults < output'.faults → has_output a.ending ≡ true
+  -- nothing is written to the output where there is none
+  pub untouched : has_output a.ending ≡ false → output' ≡ output
 
 -- A call: the answer that is due, why, and how it is written.
 pub record Call (f : Found) (output output' notes notes' : Got) (status : ℕ) : Type 0 where
@@ -255,9 +307,17 @@ OfText words told P = (c : Command) (text : List ℕ) → command_of words ≡ S
 abbrev pub SaysLine : List ℕ → Got → Got → ℕ → Type 0
 SaysLine line notes notes' status = ((status ≡ 1) × All notes notes' line) ⊎ IsOutside status
 
--- the line of the first rule that the text breaks
-abbrev pub SaysRefusal : List ℕ → Got → Got → ℕ → Type 0
-SaysRefusal text notes notes' status = (r : Refusal) → BreaksFirst text r → SaysLine (refusal_text r) notes notes' status
+-- the line of the first rule for which the command refuses the text
+abbrev pub SaysRefusal : Command → List ℕ → Got → Got → ℕ → Type 0
+SaysRefusal c text notes notes' status = (r : Refusal) → Breaks c text r → SaysLine (refusal_text r) notes notes' status
+
+-- Status 0 comes exactly where the command makes a text of this one, which is then written whole, and no notes. Status 1
+-- comes only where it refuses the text.
+abbrev pub WritesText : Command → List ℕ → Got → Got → Got → Got → ℕ → Type 0
+WritesText c text output output' notes notes' status =
+    Exactly status 0 ((out : List ℕ) × Makes c text out)
+    × ((out : List ℕ) → Makes c text out → status ≡ 0 → All output output' out × All notes notes' [])
+    × (status ≡ 1 → (r : Refusal) × Breaks c text r)
 
 -- Status 1 comes only where the text breaks a rule, or breaks none and cannot be run; and where it cannot be run the line says so.
 abbrev pub SaysUnbuilt : Limits → List ℕ → Got → Got → ℕ → Type 0
@@ -273,6 +333,7 @@ abbrev pub is_other : Command → Type 0
 is_other (command.Check file) = Unit {0}
 is_other (command.Code file) = Unit {0}
 is_other (command.Sets file) = Unit {0}
+is_other (command.Format file) = ⊥
 is_other (command.Run file workers limits show) = ⊥
 
 abbrev pub AnswersOthers : List (List ℕ) → (List ℕ → Option (List ℕ)) → Got → Got → ℕ → Type 0
@@ -300,4 +361,4 @@ WritesNotes reports a text notes notes' status = (fault : Option Fault) (bytes :
 
 -- otherwise the line of the status
 abbrev pub WritesLine : Got → Got → ℕ → Type 0
-WritesLine notes notes' status = (ending : Ending) × (status ≡ status_of ending) × (has_run ending ≡ false) × All notes notes' (line_of ending)
+WritesLine notes notes' status = (ending : Ending) × (status ≡ status_of ending) × (has_output ending ≡ false) × All notes notes' (line_of ending)

@@ -1,7 +1,7 @@
 //! How a call ends, and what it has to write.
 
 ghost use Rattle.std.specs.Prelude.{◌≡◌};
-ghost use Rattle.superpascal.specs.Answers.{has_run, notes_by, status_of};
+ghost use Rattle.superpascal.specs.Answers.{has_output, notes_by, status_of};
 
 use sp_base::{Fault, Refusal, Text};
 
@@ -10,6 +10,8 @@ use sp_base::{Fault, Refusal, Text};
 pub enum Ending {
     /// The run ended.
     Done,
+    /// The text that the command asks for was made.
+    Accepted,
     /// The text breaks this rule first.
     Refused(Refusal),
     /// The command or the form of the text is not built, or the run meets a limit.
@@ -27,7 +29,8 @@ pub enum Ending {
 }
 
 /// All that a call has to write. Where a program has run the notes are those of the run, and where a text is refused
-/// the line of the refusal; else they are a line, and what stands here for them is empty.
+/// the line of the refusal; a command that asks for a text has no notes; else they are a line, and what stands here for
+/// them is empty.
 #[derive(Drop)]
 pub struct Answer {
     pub ending: Ending,
@@ -41,7 +44,7 @@ impl Ending {
         ensures { result ≡ status_of self }
     {
         match self {
-            Ending::Done => 0,
+            Ending::Done | Ending::Accepted => 0,
             Ending::Refused(_) | Ending::NotBuilt => 1,
             Ending::BadWords => 2,
             Ending::Fault(_) => 3,
@@ -51,11 +54,11 @@ impl Ending {
         }
     }
 
-    /// Whether the program of the text has run.
-    pub fn has_run(self) -> bool
-        ensures { result ≡ has_run self }
+    /// Whether there is an output: that of a run, or the text that the command asks for.
+    pub fn has_output(self) -> bool
+        ensures { result ≡ has_output self }
     {
-        matches!(self, Ending::Done | Ending::Fault(_))
+        matches!(self, Ending::Done | Ending::Fault(_) | Ending::Accepted)
     }
 }
 
@@ -64,7 +67,7 @@ pub fn notes_by<'a>(ending: Ending, notes: &'a [u8]) -> &'a [u8]
     ensures { result.now ≡ notes_by ending notes.now }
 {
     match ending {
-        Ending::Done | Ending::Fault(_) | Ending::Refused(_) => notes,
+        Ending::Done | Ending::Fault(_) | Ending::Accepted | Ending::Refused(_) => notes,
         Ending::NotBuilt => b"not built\n",
         Ending::BadWords => b"bad words\n",
         Ending::ReadFault => b"read fault\n",

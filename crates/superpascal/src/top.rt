@@ -9,13 +9,14 @@ ghost use Rattle.sp_outside.specs.Told.{Grows};
 ghost use Rattle.sp_report.specs.Telling.{is_chosen};
 ghost use Rattle.sp_words.specs.Words.{command_of};
 ghost use Rattle.sp_front.specs.Checks.{KeepsRules};
-ghost use Rattle.superpascal.specs.Answers.{has_run, notes_of, status_of};
-ghost use Rattle.superpascal.specs.Calls.{AnswersOthers, Call, Cause, EndsWith, Exactly, InputTooLong, IsWithin, OfRun, OfText, ReadsFail, Refuses, RefusesWords, SaysRefusal, SaysUnbuilt, Writes, WritesLine, WritesNotes, WritesOutput, ended_cause, ending_of, file_of, found, got, kept_cause, run_cause, silent, text_cause};
+ghost use Rattle.superpascal.specs.Answers.{has_output, notes_of, status_of};
+ghost use Rattle.superpascal.specs.Calls.{AnswersOthers, Call, Cause, EndsWith, Exactly, InputTooLong, IsWithin, OfRun, OfText, Passes, ReadsFail, Refuses, RefusesWords, SaysRefusal, SaysUnbuilt, Writes, WritesLine, WritesNotes, WritesOutput, WritesText, asks_text, ended_cause, ending_of, file_of, found, got, layout_cause, run_cause, silent, text_cause};
 
 use crate::ending::{Answer, Ending, notes_by};
 use crate::notes::run_notes;
 use sp_base::{Halt, Limits, Place, Refusal, Rule, Show, Text};
 use sp_first::{Ended, one_meaning, run_text};
+use sp_format::{format, one_layout};
 use sp_front::{one_answer, typed_apart};
 use sp_outside::{Failed, Library, LoadError, ReadError, Sink, Source, put_all, read_all};
 use sp_print::refusal_line;
@@ -70,7 +71,10 @@ fn file_of(command: &Command) -> &str
     ensures { result.now ≡ file_of command.now }
 {
     match command {
-        Command::Check(file) | Command::Code(file) | Command::Sets(file) => file.text(),
+        Command::Check(file)
+        | Command::Code(file)
+        | Command::Sets(file)
+        | Command::Format(file) => file.text(),
         Command::Run { file, .. } => file.text(),
     }
 }
@@ -97,7 +101,7 @@ fn command_answer<L: Library, I: Source>(
     }
 }
 
-// An answer by which no program has run.
+// An answer without an output.
 fn silent(alloc: Global, ending: Ending) -> Answer
     ensures { result ≡ silent ending }
 {
@@ -122,7 +126,7 @@ fn refused(alloc: Global, refusal: Refusal) -> Answer
     }
 }
 
-// Passes the phases over the text, and then does what the command asks.
+// Does what the command asks of the text.
 fn text_answer<I: Source>(
     rt: &impl Threads,
     alloc: Global,
@@ -134,35 +138,47 @@ fn text_answer<I: Source>(
     requires { All (λ w. told w ≡ []) watchers.items }
     ensures { text_cause (λ s es. flat_map (λ w. text w es) (filter (λ w. is_chosen s (title w)) watchers.items)) (I.left input.old) (I.faults input.old) (I.faults input.new) command.now program.now result }
 {
-    match typed_apart(rt, alloc, program) {
-        Ok(tree) => {
-            drop(tree);
-            kept_answer(alloc, command, program, input, watchers)
+    match command {
+        Command::Format(_) => layout_answer(alloc, program),
+        Command::Run { limits, show, .. } => match phases(rt, alloc, program) {
+            Ok(()) => run_answer(alloc, program, *limits, *show, input, watchers),
+            Err(stopped) => stopped,
+        },
+        Command::Check(_) | Command::Code(_) | Command::Sets(_) => {
+            match phases(rt, alloc, program) {
+                Ok(()) => silent(alloc, Ending::NotBuilt),
+                Err(stopped) => stopped,
+            }
         }
-        Err(Halt::Refused(refusal)) => refused(alloc, refusal),
-        Err(Halt::Memory) => silent(alloc, Ending::OutOfMemory),
     }
 }
 
-// Does what the command asks of a text that breaks no rule.
-fn kept_answer<I: Source>(
-    alloc: Global,
-    command: &Command,
-    program: &[u8],
-    input: &mut I,
-    watchers: Vec<Box<dyn Watcher>>,
-) -> Answer
-    requires fresh { All (λ w. told w ≡ []) watchers.items }
-    requires kept { KeepsRules program.now }
-    ensures { kept_cause (λ s es. flat_map (λ w. text w es) (filter (λ w. is_chosen s (title w)) watchers.items)) (I.left input.old) (I.faults input.old) (I.faults input.new) command.now program.now result }
+// Passes the phases over the text, or gives the answer to a text that does not come through.
+fn phases(rt: &impl Threads, alloc: Global, program: &[u8]) -> Result<(), Answer>
+    ensures { Passes program.now result }
 {
-    match command {
-        Command::Run { limits, show, .. } => {
-            run_answer(alloc, program, *limits, *show, input, watchers)
+    match typed_apart(rt, alloc, program) {
+        Ok(tree) => {
+            drop(tree);
+            Ok(())
         }
-        Command::Check(_) | Command::Code(_) | Command::Sets(_) => {
-            silent(alloc, Ending::NotBuilt)
-        }
+        Err(Halt::Refused(refusal)) => Err(refused(alloc, refusal)),
+        Err(Halt::Memory) => Err(silent(alloc, Ending::OutOfMemory)),
+    }
+}
+
+// Lays the text out.
+fn layout_answer(alloc: Global, program: &[u8]) -> Answer
+    ensures { layout_cause program.now result }
+{
+    match format(alloc, program) {
+        Ok(layout) => Answer {
+            ending: Ending::Accepted,
+            output: Text::of(layout),
+            notes: Text::of(Vec::new(alloc)),
+        },
+        Err(Halt::Refused(refusal)) => refused(alloc, refusal),
+        Err(Halt::Memory) => silent(alloc, Ending::OutOfMemory),
     }
 }
 
@@ -234,10 +250,10 @@ fn ending_of(fault: Option<sp_base::Fault>) -> Ending
 
 // Writes the output and then the notes, and gives the status.
 fn write<O: Sink, N: Sink>(answer: &Answer, output: &mut O, notes: &mut N) -> u8
-    requires { has_run answer.now.ending ≡ false → answer.now.output ≡ [] }
+    requires { has_output answer.now.ending ≡ false → answer.now.output ≡ [] }
     ensures { Writes answer.now (got (O.written output.old) (O.faults output.old)) (got (O.written output.new) (O.faults output.new)) (got (N.written notes.old) (N.faults notes.old)) (got (N.written notes.new) (N.faults notes.new)) result }
 {
-    if answer.ending.has_run() {
+    if answer.ending.has_output() {
         match put_all(output, answer.output.bytes()) {
             Ok(()) => write_notes(answer, notes),
             Err(Failed) => 6,
@@ -267,7 +283,8 @@ fn write_notes<N: Sink>(answer: &Answer, notes: &mut N) -> u8
 /// | status | comes | notes |
 /// |---|---|---|
 /// | 0 | where the run ends | `done`, the verdict and the reports; or the journal |
-/// | 1 | where the text breaks a rule | `refused RULE LINE:COLUMN`, the first such rule |
+/// | 0 | where `format` has laid the text out | none |
+/// | 1 | where the text breaks a rule, for `format` one of its characters and grammar | `refused RULE LINE:COLUMN`, the first such rule |
 /// | 1 | else where the command or the form of the text is not built, or the run meets a limit | `not built` |
 /// | 2 | where the words are refused | `bad words` |
 /// | 3 | where a fault ends the run | `fault F NAME`, the verdict and the reports; or the journal |
@@ -293,7 +310,8 @@ pub fn superpascal<L: Library, I: Source, O: Sink, N: Sink>(
     requires fresh { All (λ w. told w ≡ []) watchers.items }
     ensures bad_words { RefusesWords (map string_bytes words.now) result.status }
     ensures other_commands { AnswersOthers (map string_bytes words.now) (L.held library.old) (got (N.written notes.old) (N.faults notes.old)) (got (N.written notes.new) (N.faults notes.new)) result.status }
-    ensures refused { OfText (map string_bytes words.now) (L.held library.old) (λ c program. SaysRefusal program (got (N.written notes.old) (N.faults notes.old)) (got (N.written notes.new) (N.faults notes.new)) result.status) }
+    ensures refused { OfText (map string_bytes words.now) (L.held library.old) (λ c program. SaysRefusal c program (got (N.written notes.old) (N.faults notes.old)) (got (N.written notes.new) (N.faults notes.new)) result.status) }
+    ensures text { OfText (map string_bytes words.now) (L.held library.old) (λ c program. asks_text c → WritesText c program (got (O.written output.old) (O.faults output.old)) (got (O.written output.new) (O.faults output.new)) (got (N.written notes.old) (N.faults notes.old)) (got (N.written notes.new) (N.faults notes.new)) result.status) }
     ensures done { OfRun (map string_bytes words.now) (L.held library.old) (λ a program. Exactly result.status 0 (EndsWith a.limits program None)) }
     ensures not_built { OfRun (map string_bytes words.now) (L.held library.old) (λ a program. SaysUnbuilt a.limits program (got (N.written notes.old) (N.faults notes.old)) (got (N.written notes.new) (N.faults notes.new)) result.status) }
     ensures fault { OfRun (map string_bytes words.now) (L.held library.old) (λ a program. Exactly result.status 3 ((f : Fault) × EndsWith a.limits program (Some f))) }
@@ -310,6 +328,7 @@ pub fn superpascal<L: Library, I: Source, O: Sink, N: Sink>(
 {
     one_meaning();
     one_answer();
+    one_layout();
     run_words(rt, alloc, words, library, input, output, notes, watchers)
 }
 

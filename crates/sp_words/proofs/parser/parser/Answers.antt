@@ -31,9 +31,11 @@ returns c =
     let two = c.in_ok-subcommand-2.ensures.shape c.in_ok-run_command.ensures.local ∙ ap₂ with_subcommand one run.1 in
     let three = c.in_ok-subcommand-3.ensures.shape c.in_ok-plain_command-2.ensures.local
     ∙ ap₂ with_subcommand two (ap (λ (a : App). a.top) c.in_ok-plain_command-2.ensures.app) in
-    IfOk-weaker c.subcommand-4.result _ _ (λ m h. (
+    let four = c.in_ok-subcommand-4.ensures.shape c.in_ok-plain_command-3.ensures.local
+    ∙ ap₂ with_subcommand three (ap (λ (a : App). a.top) c.in_ok-plain_command-3.ensures.app) in
+    IfOk-weaker c.subcommand-5.result _ _ (λ m h. (
       run.0,
-      h.shape c.in_ok-plain_command-3.ensures.local
-          ∙ ap₂ with_subcommand three (ap (λ (a : App). a.top) c.in_ok-plain_command-3.ensures.app),
+      h.shape c.in_ok-plain_command-4.ensures.local
+          ∙ ap₂ with_subcommand four (ap (λ (a : App). a.top) c.in_ok-plain_command-4.ensures.app),
       run.2,
-    )) c.subcommand-4.ensures
+    )) c.subcommand-5.ensures

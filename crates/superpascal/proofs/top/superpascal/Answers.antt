@@ -1,4 +1,4 @@
-use Rattle.superpascal.proofs.Causes.{call_done, call_fault, call_not_built, call_notes, call_output, call_bad_words, call_others, call_refused, call_read_fault, call_too_long, call_no_output, call_line}
+use Rattle.superpascal.proofs.Causes.{call_done, call_fault, call_not_built, call_notes, call_output, call_bad_words, call_others, call_refused, call_text, call_read_fault, call_too_long, call_no_output, call_line}
 use Rattle.superpascal.proofs.top.superpascal.Goals as goal
 
 pub returns-clause-bad_words : goal.returns-clause-bad_words
@@ -8,7 +8,10 @@ pub returns-clause-other_commands : goal.returns-clause-other_commands
 returns-clause-other_commands g c = call_others _ _ _ _ _ _ c.run_words.ensures
 
 pub returns-clause-refused : goal.returns-clause-refused
-returns-clause-refused g c = call_refused _ _ _ _ _ _ c.run_words.ensures c.one_answer.ensures.refusal
+returns-clause-refused g c = call_refused _ _ _ _ _ _ c.run_words.ensures c.one_answer.ensures.refusal (layouts c.one_layout.ensures.layout c.one_layout.ensures.refusal c.one_layout.ensures.not_both)
+
+pub returns-clause-text : goal.returns-clause-text
+returns-clause-text g c = call_text _ _ _ _ _ _ c.run_words.ensures (layouts c.one_layout.ensures.layout c.one_layout.ensures.refusal c.one_layout.ensures.not_both)
 
 pub returns-clause-done : goal.returns-clause-done
 returns-clause-done g c = call_done _ _ _ _ _ _ c.run_words.ensures c.one_meaning.ensures

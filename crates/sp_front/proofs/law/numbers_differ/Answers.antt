@@ -1,0 +1,5 @@
+use Rattle.sp_front.proofs.Numbered.{text_numbers_differ}
+use Rattle.sp_front.proofs.law.numbers_differ.Goals as goal
+
+pub returns : goal.returns
+returns c = text_numbers_differ
