@@ -23,7 +23,7 @@ use Rattle.superpascal.specs.declared.ending.Ending.TheVariants as e
 use Rattle.superpascal.specs.declared.ending.Answer.{Answer}
 use Rattle.superpascal.specs.Answers.{status_of, line_of, notes_by, has_output}
 use Rattle.superpascal.specs.Runs.{Reports, run_notes}
-use Rattle.superpascal.specs.Calls.{All, AnswersOthers, Asked, Breaks, Call, Cause, Ends, EndsWith, Exactly, FitsInput, Found, Got, InputTooLong, IsOutside, IsProgram, IsStopped, IsTold, IsTooLong, IsUnbuilt, IsUnbuiltAfter, IsWithin, IsRefused, Keeps, Makes, OfRun, OfText, Ran, ReadsFail, Refuses, RefusesWords, RunsTo, SaysLine, SaysRefusal, SaysUnbuilt, WritesLine, WritesNotes, WritesOutput, WritesText, accepted, asks, asks_text, cause, ended_cause, file_of, is_other, is_unbuilt_for, kept_cause, layout_cause, run_cause, silent, text_cause}
+use Rattle.superpascal.specs.Calls.{All, AnswersOthers, Asked, Breaks, Call, Cause, Ends, EndsWith, Exactly, FitsInput, Found, Got, InputTooLong, IsOutside, IsProgram, IsStopped, IsTold, IsTooLong, IsUnbuilt, IsUnbuiltAfter, IsWithin, IsRefused, Keeps, Makes, OfRun, OfText, Ran, ReadsFail, Refuses, RefusesWords, RunsTo, SaysLine, SaysRefusal, SaysUnbuilt, WritesLine, WritesNotes, WritesOutput, WritesText, accepted, asks, asks_text, cause, ended_cause, file_of, is_other, is_unbuilt_for, kept_cause, layout_cause, run_cause, silent, text_cause, unbuilt_cause}
 
 -- all trees of a text have one meaning
 abbrev pub Once : Type 0
@@ -38,6 +38,9 @@ pub record OneLayout : Type 0 where
   pub layout : (text a b : List ℕ) → HasLayout text a → HasLayout text b → a ≡ b
   pub refusal : (text : List ℕ) (a b : Refusal) → HasNoLayout text a → HasNoLayout text b → a ≡ b
   pub not_both : (text out : List ℕ) (r : Refusal) → HasLayout text out → HasNoLayout text r → ⊥
+
+pub layouts : ((text a b : List ℕ) → HasLayout text a → HasLayout text b → a ≡ b) → ((text : List ℕ) (a b : Refusal) → HasNoLayout text a → HasNoLayout text b → a ≡ b) → ((text out : List ℕ) (r : Refusal) → HasLayout text out → HasNoLayout text r → ⊥) → OneLayout
+layouts x y z = record { layout = x; refusal = y; not_both = z }
 
 -- a command refuses a text for one rule
 one_break : OneRefusal → OneLayout → (c : Command) (text : List ℕ) (a b : Refusal) → Breaks c text a → Breaks c text b → a ≡ b
@@ -148,25 +151,15 @@ module _ (reports : Reports) (left : Option (List ℕ)) (taken taken' : ℕ) (c 
   text_of_layout file l h (inr k) = subst Due_text (sym h) (inr k)
 
   -- of a command for which nothing is built
-  pub text_of_other : (d : Command) → c ≡ d → is_other d → KeepsRules text → a ≡ silent e.NotBuilt → Due_text c
-  text_of_other d h o keeps k = subst Due_text (sym h) (go d o)
+  pub text_of_other : (d : Command) → c ≡ d → is_other d → unbuilt_cause text a → Due_text c
+  text_of_other d h o k = subst Due_text (sym h) (go d o k)
     where
-      go : (d : Command) → is_other d → Due_text d
-      go (command.Check file) o = inl (keeps, k)
-      go (command.Code file) o = inl (keeps, k)
-      go (command.Sets file) o = inl (keeps, k)
-      go (command.Run file workers limits show) o = absurd o
-      go (command.Format file) o = absurd o
-
-  pub stopped_other : (d : Command) → c ≡ d → is_other d → IsStopped text a → Due_text c
-  stopped_other d h o k = subst Due_text (sym h) (go d o)
-    where
-      go : (d : Command) → is_other d → Due_text d
-      go (command.Check file) o = inr k
-      go (command.Code file) o = inr k
-      go (command.Sets file) o = inr k
-      go (command.Run file workers limits show) o = absurd o
-      go (command.Format file) o = absurd o
+      go : (d : Command) → is_other d → unbuilt_cause text a → Due_text d
+      go (command.Check file) o k = k
+      go (command.Code file) o k = k
+      go (command.Sets file) o k = k
+      go (command.Run file workers limits show) o k = absurd o
+      go (command.Format file) o k = absurd o
 
 -- an input that was read whole
 pub fits_of : (left : Option (List ℕ)) (all : List ℕ) → IfSome left (λ bytes. all ≡ bytes) → length all ≤ 16777216 → FitsInput left
@@ -283,13 +276,13 @@ module _ (f : Found) where
   no_text (command.Sets file) o text out m = m
   no_text (command.Format file) o text out m = o
 
-  others_make : {c d : Command} {out : List ℕ} → c ≡ d → is_other c → (text : List ℕ) → Makes d text out → ⊥
-  others_make {d = d} {out = out} h o text m = no_text d (subst is_other h o) text out m
+  others_make : (c d : Command) (text out : List ℕ) → c ≡ d → is_other c → Makes d text out → ⊥
+  others_make c d text out h o m = no_text d (subst is_other h o) text out m
 
   others_due : (c : Command) → command_of f.words ≡ Some c → is_other c → (ending : Ending) (output notes : List ℕ) → cause f ending output notes → Due ending 1
   others_due c w o e.Done output notes k = absurd (subst is_other (one_command _ _ _ k.words_are w) o)
   others_due c w o (e.Fault x) output notes k = absurd (subst is_other (one_command _ _ _ k.words_are w) o)
-  others_due c w o e.Accepted output notes k = absurd (others_make (one_command _ _ _ k.1 w) o k.2 k.4)
+  others_due c w o e.Accepted output notes k = absurd (others_make c k.0 k.2 output (one_command _ _ _ k.1 w) o k.4)
   others_due c w o e.NotBuilt output notes k = inl refl
   others_due c w o (e.Refused r) output notes k = inl refl
   others_due c w o e.BadWords output notes k = absurd (no_command _ _ w k.0)

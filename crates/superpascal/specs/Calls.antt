@@ -174,6 +174,10 @@ abbrev pub Passes : List ℕ → Result Unit Answer → Type 0
 Passes text (Ok x) = KeepsRules text
 Passes text (Err a) = IsStopped text a
 
+-- the answer of a command of which nothing more is built
+abbrev pub unbuilt_cause : List ℕ → Answer → Type 0
+unbuilt_cause text a = (KeepsRules text × (a ≡ silent e.NotBuilt)) ⊎ IsStopped text a
+
 -- the answer of `format`
 abbrev pub layout_cause : List ℕ → Answer → Type 0
 layout_cause text a = ((out : List ℕ) × HasLayout text out × (a ≡ accepted out)) ⊎ (((r : Refusal) × HasNoLayout text r × Refuses r a) ⊎ (a ≡ silent e.OutOfMemory))

@@ -10,7 +10,7 @@ ghost use Rattle.sp_report.specs.Telling.{is_chosen};
 ghost use Rattle.sp_words.specs.Words.{command_of};
 ghost use Rattle.sp_front.specs.Checks.{KeepsRules};
 ghost use Rattle.superpascal.specs.Answers.{has_output, notes_of, status_of};
-ghost use Rattle.superpascal.specs.Calls.{AnswersOthers, Call, Cause, EndsWith, Exactly, InputTooLong, IsWithin, OfRun, OfText, Passes, ReadsFail, Refuses, RefusesWords, SaysRefusal, SaysUnbuilt, Writes, WritesLine, WritesNotes, WritesOutput, WritesText, asks_text, ended_cause, ending_of, file_of, found, got, layout_cause, run_cause, silent, text_cause};
+ghost use Rattle.superpascal.specs.Calls.{AnswersOthers, Call, Cause, EndsWith, Exactly, InputTooLong, IsWithin, OfRun, OfText, Passes, ReadsFail, Refuses, RefusesWords, SaysRefusal, SaysUnbuilt, Writes, WritesLine, WritesNotes, WritesOutput, WritesText, asks_text, ended_cause, ending_of, file_of, found, got, layout_cause, run_cause, silent, text_cause, unbuilt_cause};
 
 use crate::ending::{Answer, Ending, notes_by};
 use crate::notes::run_notes;
@@ -138,18 +138,26 @@ fn text_answer<I: Source>(
     requires { All (λ w. told w ≡ []) watchers.items }
     ensures { text_cause (λ s es. flat_map (λ w. text w es) (filter (λ w. is_chosen s (title w)) watchers.items)) (I.left input.old) (I.faults input.old) (I.faults input.new) command.now program.now result }
 {
+    one_layout();
     match command {
         Command::Format(_) => layout_answer(alloc, program),
         Command::Run { limits, show, .. } => match phases(rt, alloc, program) {
             Ok(()) => run_answer(alloc, program, *limits, *show, input, watchers),
             Err(stopped) => stopped,
         },
-        Command::Check(_) | Command::Code(_) | Command::Sets(_) => {
-            match phases(rt, alloc, program) {
-                Ok(()) => silent(alloc, Ending::NotBuilt),
-                Err(stopped) => stopped,
-            }
-        }
+        Command::Check(_) => unbuilt_answer(rt, alloc, program),
+        Command::Code(_) => unbuilt_answer(rt, alloc, program),
+        Command::Sets(_) => unbuilt_answer(rt, alloc, program),
+    }
+}
+
+// Passes the phases over the text, of which nothing more is built.
+fn unbuilt_answer(rt: &impl Threads, alloc: Global, program: &[u8]) -> Answer
+    ensures { unbuilt_cause program.now result }
+{
+    match phases(rt, alloc, program) {
+        Ok(()) => silent(alloc, Ending::NotBuilt),
+        Err(stopped) => stopped,
     }
 }
 

@@ -6,6 +6,7 @@ use sp_base::{List, Text};
 use sp_outside::{MemoryLibrary, MemorySink, MemorySource};
 use sp_report::{Census, ProcessTree, Timeline, Waiting, Watcher};
 use std::alloc::{AllocError, Global};
+use std::process::Abort;
 use std::test::Fail;
 use std::thread::Threads;
 use superpascal::superpascal;
@@ -220,6 +221,63 @@ fn refused_texts(rt: HostRuntime) -> Result<(), Fail> {
             assert_eq!(rt; given.notes.as_slice(), notes.as_bytes(), "{text}");
         }
     }
+    Ok(())
+}
+
+/// A text, its canonical text, and the same again of that one.
+fn laid_out(rt: &(impl Threads + Abort), alloc: Global, text: &str, layout: &str) -> Result<(), Fail> {
+    for given in [text, layout] {
+        let words = ["format", "a.sp"];
+        let answer = call(rt, alloc, words.as_slice(), given.as_bytes(), NONE)?;
+        assert_eq!(rt; answer.status, 0, "{given}");
+        assert_eq!(rt; answer.output.as_slice(), layout.as_bytes(), "{given}");
+        assert!(rt; answer.notes.is_empty());
+    }
+    Ok(())
+}
+
+#[test]
+fn canonical_texts(rt: HostRuntime) -> Result<(), Fail> {
+    laid_out(
+        &rt,
+        rt.alloc(),
+        ANSWER,
+        "program a;\nvar x: integer;\nbegin\n  x := 6;\n  write(x * 7)\nend.\n",
+    )?;
+    laid_out(
+        &rt,
+        rt.alloc(),
+        "program B; begin parallel write(1) {one} | begin end end end.",
+        "program b;\nbegin\n  parallel\n    write(1)\n    {one}\n  | begin\n    end\n  end\nend.\n",
+    )?;
+    // rules of names and types are not asked for
+    laid_out(
+        &rt,
+        rt.alloc(),
+        "program g; begin y := true + 1 end.",
+        "program g;\nbegin\n  y := true + 1\nend.\n",
+    )
+}
+
+#[test]
+fn texts_that_are_not_laid_out(rt: HostRuntime) -> Result<(), Fail> {
+    let cases = [
+        ("program g; begin x = 1 end.", "refused G1 1:20\n"),
+        ("program g; begin write('a) end.", "refused S3 1:24\n"),
+        ("", "refused G2 1:1\n"),
+    ];
+    for (text, notes) in cases {
+        let given = call(&rt, rt.alloc(), &["format", "a.sp"], text.as_bytes(), NONE)?;
+        assert_eq!(rt; given.status, 1, "{text}");
+        assert!(rt; given.output.is_empty());
+        assert_eq!(rt; given.notes.as_slice(), notes.as_bytes(), "{text}");
+    }
+    let long = spaces(rt.alloc(), 1_048_577)?;
+    let given = call(&rt, rt.alloc(), &["format", "a.sp"], long.as_slice(), NONE)?;
+    assert_eq!(rt; given.status, 1);
+    assert_eq!(rt; given.notes.as_slice(), b"refused L1 1:1\n".as_slice());
+    let unread = call(&rt, rt.alloc(), &["format", "a"], ANSWER.as_bytes(), NONE)?;
+    assert_eq!(rt; unread.status, 5);
     Ok(())
 }
 

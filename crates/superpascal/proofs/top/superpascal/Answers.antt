@@ -1,4 +1,4 @@
-use Rattle.superpascal.proofs.Causes.{call_done, call_fault, call_not_built, call_notes, call_output, call_bad_words, call_others, call_refused, call_text, call_read_fault, call_too_long, call_no_output, call_line}
+use Rattle.superpascal.proofs.Causes.{layouts, call_done, call_fault, call_not_built, call_notes, call_output, call_bad_words, call_others, call_refused, call_text, call_read_fault, call_too_long, call_no_output, call_line}
 use Rattle.superpascal.proofs.top.superpascal.Goals as goal
 
 pub returns-clause-bad_words : goal.returns-clause-bad_words
