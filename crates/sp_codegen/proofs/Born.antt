@@ -1,11 +1,11 @@
 -- The children of a fork: where the code of each begins, its place in the tree, and the indexes that it is handed.
 use Rattle.std.proofs.Common.{◌≡◌, inl, inr, ⊎_elim, ℕ, zero, suc, ◌+◌, ◌≤◌, ◌==◌, ℤ, List, [], ◌∷◌, ◌++◌, Option, Some, None, Bool, true, false, if◌then◌else◌, length, refl, sym, ap, ◌∙◌, subst, arith, eqb-true, eq-eqb}
-use Rattle.std.specs.Prelude.{◌+ℤ◌, pos, slice_get}
+use Rattle.std.specs.Prelude.{◌≢◌, ◌+ℤ◌, pos, slice_get}
 use Rattle.sp_tree.specs.declared.checked.Role.{Role}
 use Rattle.sp_tree.specs.declared.checked.Role.TheVariants as role
 use Rattle.sp_tree.specs.Cells.{variables_of}
 use Rattle.sp_tree.specs.Plain.{Expr, Program, Variable, Block, Stmt, Parallel, Forall, Stmts, No, And}
-use Rattle.sp_tree.specs.Uses.{Use, Sees, In_stmt, In_stmts}
+use Rattle.sp_tree.specs.Uses.{Use, Aims, Sees, Runs, Splits, Spreads, Stops, In_stmt, In_stmts}
 use Rattle.sp_tree.specs.Interference.{IsMember}
 use Rattle.sp_cell.specs.declared.spot.Spot.{Spot}
 use Rattle.sp_cell.specs.FrameLaws.{is_other}
@@ -29,7 +29,7 @@ use Rattle.sp_code.specs.Scopes as s
 use Rattle.sp_code.specs.Emitted.{children_tables, child_table}
 use Rattle.sp_code.specs.Stands.{Stands, HasFork, HasWords, StandsAt, ChildrenAt}
 use Rattle.sp_codegen.specs.Joints.{Joint, sources, machines, from, up_at, HomeIs, Chain}
-use Rattle.sp_tree.specs.Formed.{IsFormed, is_parameter, is_answer, among}
+use Rattle.sp_tree.specs.Formed.{IsFormed, IsFormedUse, is_parameter, is_answer, among}
 use Rattle.sp_codegen.specs.Executions.{Execution}
 use Rattle.sp_codegen.specs.Relation.{Placed}
 use Rattle.sp_codegen.specs.Standing.{spot_at, HomesAre, Paired}
@@ -88,20 +88,35 @@ module _ (g : Setting) (W R : Loc → Type 0) (J : ℕ → Type 0) (sc : List Sc
     chain = pl.chain;
     linked = pl.linked;
     sound = child_sound g.program W R V T (sources js) [] None st (part (λ u a. inr (inl (inside u a))) pl.sound) aims uses;
+    formed = λ u a. pl.formed u (inr (inl (inside u a)));
     indexes = λ x up a l j rest e. (x, up, a, l, (j, rest, e, refl));
   }
 
-  pub index_child_placed : (x : ℕ) (from1 to : Expr) → Placed g W R J sc js (In_stmt (Forall x from1 to st)) → (q : Name) (v : ℤ) (jx : Joint) → jx.source ≡ record { owner = q; number = length js; home = OfIndex x v; link = length js; references = [] }
+  pub index_child_placed : (x : ℕ) (from1 to : Expr) → x ≢ 1 → Placed g W R J sc js (In_stmt (Forall x from1 to st)) → (q : Name) (v : ℤ) (jx : Joint) → jx.source ≡ record { owner = q; number = length js; home = OfIndex x v; link = length js; references = [] }
       → Placed g V T (Seen (s.OfIndex x ∷ sc) (jx ∷ js) st) (s.OfIndex x ∷ sc) (jx ∷ js) (In_stmt st)
-  index_child_placed x from1 to pl q v jx e = record {
+  index_child_placed x from1 to input pl q v jx e = record {
     chain = (jx, js, refl, subst (λ z. HomeIs (s.OfIndex x) z) (sym (ap (λ (f : Frame). f.home) e)) refl, subst (λ z. Chain sc z) (sym (ap (λ (f : Frame). from f.link js) e ∙ from_all js)) pl.chain);
     linked = subst (λ z. Linked (z ∷ sources js)) (sym new) (index_linked g.program (sources js) q (Some (x, v)) pl.linked);
     sound = subst (λ z. Sound g.program V T (z ∷ sources js) (In_stmt st)) (sym new) (child_sound g.program W R V T (sources js) q (Some (x, v)) st (element_sound x from1 to st pl.sound) aims uses);
+    formed = λ u a. formed_by u a;
     indexes = λ y up a l j rest u. (y, up, a, l, (j, rest, u, refl));
   }
     where
       new : jx.source ≡ record { owner = q; number = length (sources js); home = OfIndex x v; link = length (sources js); references = [] }
       new = e ∙ ap (λ z. record { owner = q; number = z; home = OfIndex x v; link = z; references = [] }) (sym (sources_length js))
+
+      -- it has no target, and its index is not the output
+      formed_by : (u : Use) → In_stmt st u → IsFormedUse g.program u
+      formed_by (Aims y) a = absurd ((pl.sound.kept (Spreads x st) (inl refl)).1 y ([], a))
+      formed_by (Sees y) a = go (x == y) refl
+        where
+          go : (b : Bool) → x == y ≡ b → y ≢ 1
+          go true f = λ h. input (eqb-true x y f ∙ h)
+          go false f = pl.formed (Sees y) (inr (inr (inr (inl (a, λ h. (let bad : false ≡ true = sym f ∙ eq-eqb x y h in absurd (cc bad)))))))
+      formed_by (Runs b args) a = pl.formed (Runs b args) (inr (inr (inr (inl (a, tt)))))
+      formed_by (Splits ss) a = pl.formed (Splits ss) (inr (inr (inr (inl (a, tt)))))
+      formed_by (Spreads y s) a = pl.formed (Spreads y s) (inr (inr (inr (inl (a, tt)))))
+      formed_by Stops a = pl.formed Stops (inr (inr (inr (inl (a, tt)))))
 
 -- ---- its first step
 

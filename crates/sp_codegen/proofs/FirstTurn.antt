@@ -71,6 +71,7 @@ module _ (g : Setting) (code : Code) (formed : IsFormed g.program) (b : Block) (
     reads_written = λ l h. h;
     free = free;
     own_written = λ n x. inl refl;
+    uses_formed = formed.uses;
     layouts_found = finds;
   }
 

@@ -71,7 +71,7 @@ no_index_scope p (suc n) (Some b) x up e = go (level (places.is_index x) (scopes
     go (Some k) ih e = ih k refl
 
 module _ {M : Type 0} (ex : Execution M) where
-  open ex use {setting as g, code, moves, shares, Quiet as hush, who as w, Writes as W, Reads as R, operations as ops, relation as rel, laws as law, reads_written as reads, free, own_written as mine_written, layouts_found as finds}
+  open ex use {setting as g, code, moves, shares, Quiet as hush, who as w, Writes as W, Reads as R, operations as ops, relation as rel, laws as law, reads_written as reads, free, own_written as mine_written, uses_formed, layouts_found as finds}
 
   abbrev p : Program
   p = g.program
@@ -407,6 +407,7 @@ module _ {M : Type 0} (ex : Execution M) where
               chain = chain_of fs (r.frame ∷ r.rest) f (drop h.0 sc) j b gs ej (up_from h.0 fs r.frame r.rest r.at) x.1 r.chain;
               linked = subst (λ y. Linked (y ∷ sources fs)) (fresh_is ∙ sym ej) (fresh_linked p w.name W R 0 (λ m x h. mine_written m x) reads free (sources fs) f b args gs c r.frame.source pl.linked h.1 ga before found_is);
               sound = subst (λ y. Sound p W R (y ∷ sources fs) (In_stmt b.body)) (fresh_is ∙ sym ej) (fresh_sound p w.name W R 0 (λ m x h. mine_written m x) reads free (sources fs) f b args gs c r.frame.source pl.linked h.1 ga before found_is (omega arith) pl.sound);
+              formed = λ u hx. uses_formed f b h.1 u hx;
               indexes = λ x up hx lv. absurd (no_index_scope p (length p.blocks) (Some f) x up lv);
             };
           }
@@ -617,7 +618,7 @@ module _ {M : Type 0} (ex : Execution M) where
       plain_makes (After end base below) fs (q + 1) (10 ∷ []) stack todo (m.At q stack n) o s n t (fs, o, t) ro (one_at q stack n h) k
   start_makes call ok bl end base below (Open v) sc q stack todo fs o s n t pl h k =
       makes_bind ex (λ a. bind who (λ z. bind (assign a (Chan (record { owner = z.name; nth = z.opens }))) (λ u. give (Opened todo)))) (address_gives ex call ok v h.0 sc q stack fs o s n t (within (λ u. inl) pl) h.1 h.2) (λ a u o1 s1 n1 t1 x1.
-      record { by = (after_var q v + 1, stack, ops.own u n1, fs, m.At (after_var q v) (m.Pointer u ∷ stack) n1, a, u, s1, stays ops rel w code _, one_at (after_var q v) _ n1 h.4 ∙ holds_when (ops.has u 1 n1) _ (law.has_one t1 a u x1.1 x1.2), law.own t1 a u x1.1 x1.2, x1.1, x1.2, refl, k, h.5) })
+      record { by = (after_var q v + 1, stack, ops.own u n1, fs, m.At (after_var q v) (m.Pointer u ∷ stack) n1, a, u, s1, stays ops rel w code _, one_at (after_var q v) _ n1 h.4 ∙ holds_when (ops.has u 1 n1) _ (law.has_one t1 a u x1.1 x1.2), law.own t1 a u x1.1 x1.2, x1.1, x1.2, refl, k, h.5, ap (λ y. sort p y) x1.0 ∙ h.3) })
   start_makes call ok bl end base below (Send c (Typed x form)) sc q stack todo fs o s n t pl h k =
       makes_bind ex _ (value_gives ex call ok c sc q stack fs o s n t (within (λ u. inl) pl) h.0) (λ v e o1 s1 n1 t1 x1.
       with_channel (After end base below) (kind_of c) v e (λ to. bind (value g call (Typed x form)) (λ z. give (Offered to x (Offers (Tree z)) todo))) (after_value q c) stack o1 s1 n1 h.1 x1 (λ ch1 j nm.

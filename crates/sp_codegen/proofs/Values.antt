@@ -81,7 +81,7 @@ same_some a b h k = ap (or_zero a) (sym h ∙ k)
 
 -- a part of what stands here
 pub within : {g : Setting} {W R : Loc → Type 0} {J : ℕ → Type 0} {sc : List Scope} {js : List Joint} {Here Above : Use → Type 0} → ((u : Use) → Here u → Above u) → Placed g W R J sc js Above → Placed g W R J sc js Here
-within f pl = record { chain = pl.chain; linked = pl.linked; sound = part f pl.sound; indexes = λ x up h. pl.indexes x up (f (Sees x) h) }
+within f pl = record { chain = pl.chain; linked = pl.linked; sound = part f pl.sound; formed = λ u h. pl.formed u (f u h); indexes = λ x up h. pl.indexes x up (f (Sees x) h) }
 
 module _ {M : Type 0} (ex : Execution M) where
   open ex use {setting as g, code, moves, shares, Quiet as hush, who as w, Writes as W, Reads as R, Indexes as J, operations as ops, relation as rel, laws as law, reads_written as reads, free}

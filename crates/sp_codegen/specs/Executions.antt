@@ -1,6 +1,8 @@
 -- One process that runs the code of a tree: all that the simulation of its turns speaks of, and what it asks of it.
 use Rattle.std.specs.Prelude.{◌≡◌, ℕ, List, Some, Bool, slice_get}
-use Rattle.sp_tree.specs.Plain.{Stmt}
+use Rattle.sp_tree.specs.Formed.{IsFormedUse}
+use Rattle.sp_tree.specs.Plain.{Block, Stmt}
+use Rattle.sp_tree.specs.Uses.{Use, In_stmt}
 use Rattle.sp_tree.specs.Interference.{IsFreeOfInterference}
 use Rattle.sp_meaning.specs.Own.{Setting, Loc, Cell, Own, Who}
 use Rattle.sp_code.specs.declared.code.Layout.{Layout}
@@ -30,4 +32,5 @@ pub record Execution (M : Type 0) : Type 1 where
   pub reads_written : (l : Loc) → Writes l → Reads l
   pub free : IsFreeOfInterference setting.program
   pub own_written : (n x : ℕ) → Writes (Cell who.name n x)
+  pub uses_formed : (f : ℕ) (b : Block) → slice_get setting.program.blocks f ≡ Some b → (u : Use) → In_stmt b.body u → IsFormedUse setting.program u
   pub layouts_found : (f : ℕ) (l : Layout) → slice_get code.layouts f ≡ Some l → layout_of code.layouts f ≡ Some l

@@ -18,7 +18,7 @@ use Rattle.sp_code.specs.declared.instr.Instr.TheVariants as i
 use Rattle.sp_code.specs.Machine.{Entry, Did, Done, Failed, Stop, Opens, Sends, Receives, Forks, Ends as Ended, Pauses, Ops, Config, At, One, Goes, Stops, Fails, outside, paced, then_go, one, instruction, values_in}
 use Rattle.sp_code.specs.Machine as m
 use Rattle.sp_code.specs.Turns.{Comes}
-use Rattle.sp_code.specs.Scopes.{Scope, OfIndex, sort}
+use Rattle.sp_code.specs.Scopes.{Scope, OfIndex, Channels, sort}
 use Rattle.sp_code.specs.Places.{after}
 use Rattle.sp_code.specs.Stands.{Stands, HasFork, HasWords, StandsAt, ChildrenAt, TurnsAt}
 use Rattle.sp_code.specs.Emitted.{children_tables, child_table}
@@ -107,7 +107,7 @@ module _ {M : Type 0} (ex : Execution M) where
       (pc : ℕ) × (st : List Entry) × (n : M) × (fs : List Joint) × (d : Config M) × Comes ops code c d × (one ops code d ≡ paced ops code pc st n) × rel.Stand fs o s n × Q todo fs pc st
   Made c Q (Got (Opened todo) o, s) =
       (pc : ℕ) × (st : List Entry) × (n : M) × (fs : List Joint) × (d : Config M) × (a : Address) × (t : Ptr) × (s0 : Store) × Comes ops code c d × (one ops code d ≡ Stops (Opens t) (At pc st n)) × rel.Stand fs o s0 n × rel.Points fs a t × R a.spot
-      × (s ≡ at_key same_loc a.spot (assigned a (s0 a.spot) (Tree (Chan (record { owner = w.name; nth = w.opens })))) s0) × Q todo fs pc st × (outside st ≡ true)
+      × (s ≡ at_key same_loc a.spot (assigned a (s0 a.spot) (Tree (Chan (record { owner = w.name; nth = w.opens })))) s0) × Q todo fs pc st × (outside st ≡ true) × (sort p a.kind ≡ Channels)
   Made c Q (Got (Forked bs todo) o, s) =
       (pc : ℕ) × (st : List Entry) × (n : M) × (fs : List Joint) × (d : Config M) × (z : Stop) × Comes ops code c d × (one ops code d ≡ Stops z (At pc st n)) × rel.Stand fs o s n × Q todo fs pc st × (outside st ≡ true) × ForkIs (outside st) fs bs z × (nat_lt o.depth g.limits.depth ≡ true)
   Made c Q (Got (Offered ch k g todo) o, s) =

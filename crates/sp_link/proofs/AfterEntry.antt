@@ -2,7 +2,9 @@
 -- or open: its memory, the code of what it has left to do, and its offer.
 use Rattle.std.proofs.Common.{◌≡◌, ◌⊎◌, inl, ℕ, ◌+◌, List, [], ◌∷◌, length, Some, sym, subst}
 use Rattle.std.specs.Prelude.{Bool, slice_get}
-use Rattle.sp_tree.specs.Plain.{Stmt, Repeat}
+use Rattle.sp_tree.specs.Formed.{IsFormedUse}
+use Rattle.sp_tree.specs.Plain.{Block, Stmt, Repeat}
+use Rattle.sp_tree.specs.Uses.{Use, In_stmt}
 use Rattle.sp_tree.specs.Interference.{IsFreeOfInterference}
 use Rattle.sp_cell.specs.Map.{Plain}
 use Rattle.sp_meaning.specs.Model.{Name, Channel, Cargo, Gives, Takes}
@@ -24,7 +26,7 @@ use Rattle.sp_link.proofs.Relation.{Ground, Life, Called, Fresh, Fo, Ca, St, Rel
 
 -- the code of what is left goes by the frames that a process made, and by nothing else of what it is
 module _ {M : Type 0} (g : Setting) (code : Code) (moves shares : Stmt → List ℕ) (hush : ℕ → Type 0) (W R : Loc → Type 0) (J : ℕ → Type 0) (ops : Ops M) (free : IsFreeOfInterference g.program)
-    (finds : (f : ℕ) (l : Layout) → slice_get code.layouts f ≡ Some l → layout_of code.layouts f ≡ Some l) (reads reads1 : (l : Loc) → W l → R l)
+    (finds : (f : ℕ) (l : Layout) → slice_get code.layouts f ≡ Some l → layout_of code.layouts f ≡ Some l) (formed : (f : ℕ) (b : Block) → slice_get g.program.blocks f ≡ Some b → (u : Use) → In_stmt b.body u → IsFormedUse g.program u) (reads reads1 : (l : Loc) → W l → R l)
     (w : Who) (due : Own → Bool) (rel : Relation M) (law : Keeps g w due W R J ops rel) (own : (n x : ℕ) → W (Cell w.name n x))
     (w1 : Who) (due1 : Own → Bool) (rel1 : Relation M) (law1 : Keeps g w1 due1 W R J ops rel1) (own1 : (n x : ℕ) → W (Cell w1.name n x)) (mine : (j : Joint) (js : List Joint) → rel.Mine j js → rel1.Mine j js) where
   abbrev before : Execution M
@@ -45,6 +47,7 @@ module _ {M : Type 0} (g : Setting) (code : Code) (moves shares : Stmt → List 
     reads_written = reads;
     free = free;
     own_written = own;
+    uses_formed = formed;
     layouts_found = finds;
   }
 
@@ -66,6 +69,7 @@ module _ {M : Type 0} (g : Setting) (code : Code) (moves shares : Stmt → List 
     reads_written = reads1;
     free = free;
     own_written = own1;
+    uses_formed = formed;
     layouts_found = finds;
   }
 
@@ -115,7 +119,7 @@ module _ (G : Ground) (lf : Life) (kids : ℕ → ℕ → Life) (q : Name) where
   module _ (f f1 : Fresh G lf kids q) (w w1 : Who) (n : w.name ≡ q) (n1 : w1.name ≡ q) (a b : ℕ) where
     -- the code of what is left
     pub follows_again : (pc : ℕ) (stack : List Entry) (js : List Joint) (todo : List Item) → Fo G lf kids q f w n a pc stack js todo → Fo G lf kids q f1 w1 n1 b pc stack js todo
-    follows_again pc stack js todo h = again G.g G.code G.moves G.shares G.hush (λ l. Mine q l ⊎ lf.W l) (λ l. Mine q l ⊎ lf.R l) lf.J (ops G) G.free G.finds f.reads f1.reads w (due_after a G.pause) (Rel G lf kids q w a) (law G lf kids q f w n a) (λ h x. inl n)
+    follows_again pc stack js todo h = again G.g G.code G.moves G.shares G.hush (λ l. Mine q l ⊎ lf.W l) (λ l. Mine q l ⊎ lf.R l) lf.J (ops G) G.free G.finds G.formed.uses f.reads f1.reads w (due_after a G.pause) (Rel G lf kids q w a) (law G lf kids q f w n a) (λ h x. inl n)
         w1 (due_after b G.pause) (Rel G lf kids q w1 b) (law G lf kids q f1 w1 n1 b) (λ h x. inl n1) (λ j js m. m) lf.end [] lf.below pc stack js todo h
 
     -- the offer of one that waits

@@ -18,13 +18,14 @@ use Rattle.sp_code.specs.System.{System}
 use Rattle.sp_code.specs.System as sys
 use Rattle.sp_codegen.proofs.Joints.{sources_length}
 use Rattle.sp_link.proofs.AfterEntry.{stand_again, follows_again, cargo_again}
-use Rattle.sp_link.proofs.AtStop.{w, p1, kt}
-use Rattle.sp_link.proofs.KernelSteps.{QuietDeeds, IsDead, stand_dead}
+use Rattle.sp_meaning.proofs.QuietDeeds.{IsDead}
+use Rattle.sp_link.proofs.AtStop.{same_but_dead, w, p1, kt}
+use Rattle.sp_link.proofs.KernelSteps.{stand_dead}
 use Rattle.sp_link.proofs.OneChanges.{its}
 use Rattle.sp_link.proofs.Pauses.{Meant, Machined, Kept_to, kids, turn_is}
 use Rattle.sp_link.proofs.Relation.{Ground, Lives, W_of, R_of, Stands, Ca, Linked, ops}
 
-module _ (G : Ground) (dry : QuietDeeds G.g) (lv : Lives G) (c : Course) (s : StateOf G.g) (u : System Plain) (l : Linked G lv c s u) (i : ℕ) (d : Config (Memory Plain)) (at_i : u.condition i ≡ sys.Runs d)
+module _ (G : Ground) (lv : Lives G) (c : Course) (s : StateOf G.g) (u : System Plain) (l : Linked G lv c s u) (i : ℕ) (d : Config (Memory Plain)) (at_i : u.condition i ≡ sys.Runs d)
     (z : Stands G (lv (w G lv c s u l i d at_i)) (kids G lv c s u l i d at_i) (w G lv c s u l i d at_i) (c.since (w G lv c s u l i d at_i)) (p1 G lv c s u l i d at_i) s.store d)
     (ch : Channel) (kd : ℕ) (cg : Cargo Held Address) (todo : List Item) (o : Own) (m : Store) (x : Meant G lv c s u l i d at_i z (Got (source.Stops (Offered ch kd cg todo)) o, m)) (t : Machined G lv c s u l i d at_i z (Got (source.Stops (Offered ch kd cg todo)) o, m))
     (y : Kept_to G lv c s u l i d at_i z (Got (source.Stops (Offered ch kd cg todo)) o, m)) where
@@ -65,7 +66,7 @@ module _ (G : Ground) (dry : QuietDeeds G.g) (lv : Lives G) (c : Course) (s : St
       memory = n1;
       is = refl;
       stand = stand_again G (lv v) (λ a b. lv ((a, b) ∷ v)) v {w = (p1 G lv c s u l i d at_i).who} {w1 = x.left.who} {since = c.since v} {since1 = since1} (ap (λ (a : Who). a.name) x.who_is) since_is
-          (stand_dead G (lv v) (λ a b. lv ((a, b) ∷ v)) v t.8 x.at.store (λ a. subst (λ b. (x.at.store a ≡ m a) ⊎ IsDead b a) (ap (λ b. length b) (t.8).frames ∙ sources_length t.3) (dry x.left x.at.store (Offered ch kd cg todo) o m tt x.does a)));
+          (stand_dead G (lv v) (λ a b. lv ((a, b) ∷ v)) v t.8 x.at.store (λ a. subst (λ b. (x.at.store a ≡ m a) ⊎ IsDead b a) (ap (λ b. length b) (t.8).frames ∙ sources_length t.3) (same_but_dead G lv c s u l i d at_i z (Offered ch kd cg todo) o m x tt a)));
       follows = follows_again G (lv v) (λ a b. lv ((a, b) ∷ v)) v z.fresh z.fresh (p1 G lv c s u l i d at_i).who x.left.who z.named x.good.named (c.since v) since1 t.0 t.1 t.3 todo t.10;
     }
 

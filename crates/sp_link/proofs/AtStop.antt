@@ -1,13 +1,14 @@
 -- A process at its stop, before its kernel step: all others stand as before its turn, with the system of the machine unchanged
 -- (`does_at`), and rights and totals are those of before.
-use Rattle.std.proofs.Common.{◌≡◌, inl, ⊎_elim, ℕ, ◌<◌, ◌∷◌, Some, Bool, true, false, refl, sym, ap, ◌∙◌, arith}
+use Rattle.std.proofs.Common.{◌≡◌, ◌⊎◌, inl, ⊎_elim, ℕ, ◌<◌, ◌∷◌, Some, Bool, true, false, refl, sym, ap, ◌∙◌, arith, List, length}
 use Rattle.std.specs.Prelude.{◌≢◌}
 use Rattle.sp_cell.specs.Map.{Plain}
 use Rattle.sp_meaning.specs.Model.{Name}
 use Rattle.sp_meaning.specs.Steps.{has_ended}
 use Rattle.sp_meaning.specs.Entries.{Happening}
-use Rattle.sp_meaning.specs.Own.{Setting, Loc, Own, Process, Came, Got, Bad}
-use Rattle.sp_meaning.specs.Deeds.{Deed}
+use Rattle.sp_meaning.specs.Own.{Setting, Loc, Output, Item, Own, Process, Came, Got, Bad}
+use Rattle.sp_meaning.specs.Deeds.{Deed, Opened}
+use Rattle.sp_base.specs.declared.fault.Fault.{Fault}
 use Rattle.sp_meaning.specs.Run.{Store}
 use Rattle.sp_meaning.specs.Runs.{StateOf, says}
 use Rattle.sp_meaning.specs.Along.{Course}
@@ -15,13 +16,14 @@ use Rattle.sp_meaning.proofs.Keys.{name_test}
 use Rattle.sp_meaning.proofs.Maps.{same_or_not}
 use Rattle.sp_meaning.proofs.Owned.{Inv, Keeps_to}
 use Rattle.sp_meaning.proofs.Parallel.{IsAlone}
+use Rattle.sp_meaning.proofs.QuietDeeds.{IsStop, IsDead, IsSameButOne, quiet_deeds, quiet_opens, quiet_faults}
 use Rattle.sp_meaning.proofs.Reached.{Known}
 use Rattle.sp_meaning.proofs.Status.{working_lives, lives_ended}
 use Rattle.sp_code.specs.Machine.{Config}
 use Rattle.sp_code.specs.Memory.{Memory}
 use Rattle.sp_code.specs.System.{System}
 use Rattle.sp_code.specs.System as sys
-use Rattle.sp_link.proofs.TurnsMeet.{Keeps_it, keeps, turn_known}
+use Rattle.sp_link.proofs.TurnsMeet.{Keeps_it, keeps, turn_known, pure_blocks, Wr, Rd}
 use Rattle.sp_link.proofs.OneChanges.{q, pr, runs, alone, light, keeps_to, here, present, not_ended, holds_by, inv_local}
 use Rattle.sp_link.proofs.Pauses.{kids}
 use Rattle.sp_link.proofs.Relation.{Ground, Lives, W_of, R_of, Stands, Does_all, Linked}
@@ -41,6 +43,16 @@ module _ (G : Ground) (lv : Lives G) (c : Course) (s : StateOf G.g) (u : System 
   module _ (z : Stands G (lv w) (kids G lv c s u l i d at_i) w (c.since w) p1 s.store d) where
     abbrev pub Stopped_at : Came Deed × Store → Type 0
     Stopped_at r = Comes_to G.g w G.pause (c.since w) (Keeps_it G (lv w) (kids G lv c s u l i d at_i) w (c.since w) s p1 d z (runs G lv c s u l i d at_i) (light G lv c s u l i d at_i) kt.last kt.fit) (keeps G (lv w) (kids G lv c s u l i d at_i) w (c.since w) s p1 d z (runs G lv c s u l i d at_i) (light G lv c s u l i d at_i) kt.last kt.fit) s p1 r
+
+    -- what its step wrote: of a fork, an offer or an end nothing that is still there, of an open one variable, of a fault no output
+    pub same_but_dead : (e : Deed) (o : Own) (m : Store) (x : Stopped_at (Got e o, m)) → IsStop e → (a : Loc) → (x.at.store a ≡ m a) ⊎ IsDead (length o.frames) a
+    same_but_dead e o m x stop = quiet_deeds G.g G.free G.pure (pure_blocks G) (Wr G (lv w) (kids G lv c s u l i d at_i) w (c.since w)) (Rd G (lv w) (kids G lv c s u l i d at_i) w (c.since w)) kt.last x.left x.good.fit x.good.pure x.at.store e o m stop x.does
+
+    pub same_but_one : (todo : List Item) (o : Own) (m : Store) (x : Stopped_at (Got (Opened todo) o, m)) → IsSameButOne (length x.left.own.frames) x.at.store m
+    same_but_one todo o m x = quiet_opens G.g G.free G.pure (pure_blocks G) (Wr G (lv w) (kids G lv c s u l i d at_i) w (c.since w)) (Rd G (lv w) (kids G lv c s u l i d at_i) w (c.since w)) kt.last x.left x.good.fit x.good.pure x.at.store todo o m x.does
+
+    pub same_output : (f : Fault) (m : Store) (x : Stopped_at (Bad f, m)) → x.at.store Output ≡ m Output
+    same_output f m x = quiet_faults G.g G.free G.pure (pure_blocks G) (Wr G (lv w) (kids G lv c s u l i d at_i) w (c.since w)) (Rd G (lv w) (kids G lv c s u l i d at_i) w (c.since w)) kt.last x.left x.good.fit x.good.pure x.at.store f m x.does
 
     module _ (r : Came Deed × Store) (x : Stopped_at r) (what : Happening) (said : says G.g x.at w x.left ≡ Some what) where
       pub alone_at : IsAlone x.at w

@@ -32,15 +32,16 @@ use Rattle.sp_code.specs.PlainStore.{plain}
 use Rattle.sp_code.specs.System.{System, after, event_of, entered_now, rejoined, reported, becomes}
 use Rattle.sp_code.specs.System as sys
 use Rattle.sp_link.proofs.Journal.{Way_on, IsOpen, now_by}
-use Rattle.sp_link.proofs.KernelSteps.{kernel_next, kernel_says, QuietDeeds, IsDead, stand_dead}
+use Rattle.sp_link.proofs.KernelSteps.{kernel_next, kernel_says, stand_dead}
 use Rattle.sp_link.proofs.OneChanges.{its, here, number_or, inv_local}
 use Rattle.sp_link.proofs.Pauses.{Entry_of, Meant, Machined, kids, turn_is, after_quiet}
 use Rattle.sp_link.proofs.Rejoins.{memory_after, joins_on, runs_on, one_fewer, all_over}
 use Rattle.sp_link.proofs.Relation.{Ground, Life, Lives, W_of, R_of, St, Stands, Joined, Does_all, Told, Linked, Began, run_is, ops, left_of}
 use Rattle.sp_link.proofs.OthersStay.{does_stay}
-use Rattle.sp_link.proofs.AtStop.{w, p1, alone_at, known_at, rights_at, ended_at, other_name, does_at}
+use Rattle.sp_meaning.proofs.QuietDeeds.{IsDead}
+use Rattle.sp_link.proofs.AtStop.{same_but_dead, w, p1, alone_at, known_at, rights_at, ended_at, other_name, does_at}
 
-module _ (G : Ground) (dry : QuietDeeds G.g) (lv : Lives G) (c : Course) (s : StateOf G.g) (u : System Plain) (l : Linked G lv c s u) (i : ℕ) (d : Config (Memory Plain)) (at_i : u.condition i ≡ sys.Runs d)
+module _ (G : Ground) (lv : Lives G) (c : Course) (s : StateOf G.g) (u : System Plain) (l : Linked G lv c s u) (i : ℕ) (d : Config (Memory Plain)) (at_i : u.condition i ≡ sys.Runs d)
     (z : Stands G (lv (w G lv c s u l i d at_i)) (kids G lv c s u l i d at_i) (w G lv c s u l i d at_i) (c.since (w G lv c s u l i d at_i)) (p1 G lv c s u l i d at_i) s.store d)
     (o : Own) (m : Store) (x : Meant G lv c s u l i d at_i z (Got (source.Stops Over) o, m)) (t : Machined G lv c s u l i d at_i z (Got (source.Stops Over) o, m)) (quiet : u.faulted ≡ false) where
   abbrev v : Name
@@ -105,7 +106,7 @@ module _ (G : Ground) (dry : QuietDeeds G.g) (lv : Lives G) (c : Course) (s : St
 
   stood : St G (lv v) (λ a b. lv ((a, b) ∷ v)) v (p1 G lv c s u l i d at_i).who (c.since v) (lv v).below o x.at.store t.2
   stood = subst (λ y. St G (lv v) (λ a b. lv ((a, b) ∷ v)) v (p1 G lv c s u l i d at_i).who (c.since v) y o x.at.store t.2) (t.7).2
-      (stand_dead G (lv v) (λ a b. lv ((a, b) ∷ v)) v t.6 x.at.store (λ a. subst (λ y. (x.at.store a ≡ m a) ⊎ IsDead y a) lengths (dry x.left x.at.store Over o m tt x.does a)))
+      (stand_dead G (lv v) (λ a b. lv ((a, b) ∷ v)) v t.6 x.at.store (λ a. subst (λ y. (x.at.store a ≡ m a) ⊎ IsDead y a) lengths (same_but_dead G lv c s u l i d at_i z Over o m x tt a)))
     where
       count : (js : List Rattle.sp_codegen.specs.Joints.Joint) → length (Rattle.sp_codegen.specs.Joints.sources js) ≡ length js
       count js = Rattle.sp_codegen.proofs.Joints.sources_length js
@@ -139,6 +140,7 @@ module _ (G : Ground) (dry : QuietDeeds G.g) (lv : Lives G) (c : Course) (s : St
     unlaid = λ e. l.unlaid (sym ef ∙ e);
     does = λ j lt. subst (λ (y : Rattle.sp_journal.specs.Births.Births). Does_all G lv (G.births.name j) c1 t1 (y.opens j) (u1.condition j)) (sym eb) (does j (subst (λ y. j < y) (ap (λ (y : Rattle.sp_journal.specs.Births.Births). y.processes) eb) lt));
     unborn = λ j le. unborn j (subst (λ y. y ≤ j) (ap (λ (y : Rattle.sp_journal.specs.Births.Births). y.processes) eb) le);
+    unmade = λ j le. subst (λ (y : Rattle.sp_journal.specs.Births.Births). (y.forks j ≡ 0) × (y.opens j ≡ 0)) (sym eb) (l.unmade j (subst (λ y. y ≤ j) (ap (λ (y : Rattle.sp_journal.specs.Births.Births). y.processes) eb) le));
     numbered = λ a h. subst (λ (y : Rattle.sp_journal.specs.Births.Births). (k : ℕ) × (k < y.processes) × (G.births.name k ≡ a)) (sym eb) (⊎_elim (λ (e : a ≡ v). (i, here G lv c s u l i d at_i, sym e)) (λ (e : a ≢ v). l.numbered a (λ f. h (same a e ∙ x.elsewhere.condition a e ∙ f))) (same_or_not name_test a v));
   }
 
@@ -270,7 +272,7 @@ module _ (G : Ground) (dry : QuietDeeds G.g) (lv : Lives G) (c : Course) (s : St
     rejoin (sys.Waits y dd) h = absurd (subst (λ a. JoinsAt b.fork b.child a) h.1 joins_at)
     rejoin (sys.Joins left dd) h = rejoins left dd h.0 h.1 h.2 h.3 h.4 h.5 h.6
     rejoin (sys.Laid dd) h = absurd (not_alone (inl h.2))
-    rejoin sys.Gone h = absurd (subst (λ a. JoinsAt b.fork b.child a) h joins_at)
+    rejoin sys.Gone h = absurd (subst (λ a. JoinsAt b.fork b.child a) h.0 joins_at)
     rejoin (sys.Over dd) h = absurd (subst (λ a. JoinsAt b.fork b.child a) h.0 joins_at)
 
     abbrev pub u1 : System Plain
@@ -296,12 +298,15 @@ module _ (G : Ground) (dry : QuietDeeds G.g) (lv : Lives G) (c : Course) (s : St
     rest_of [] = []
     rest_of (y ∷ a) = a
 
+    no_empty : {a : Name} → (b.fork, b.child) ∷ a ≡ [] → ⊥
+    no_empty h = cc h
+
     pub child_ends : Linked G lv c1 t1 u1
     child_ends = linked_by u1 refl refl refl refl
         (λ a lt. ⊎_elim
         (λ (e : b.parent ≡ a). subst (λ y. Does_all G lv (G.births.name y) c1 t1 (u.births.opens y) (u1.condition y)) e (subst (λ y. Does_all G lv P c1 t1 op y) (sym at_p) (rejoin (u.condition b.parent) (does_at G lv c s u l i d at_i z r x Finished said b.parent known_parent (λ h. older (sym h))))))
         (λ (e : b.parent ≢ a). ⊎_elim
-        (λ (f : i ≡ a). subst (λ y. Does_all G lv (G.births.name y) c1 t1 (u.births.opens y) (u1.condition y)) f (subst (λ y. Does_all G lv v c1 t1 (u.births.opens i) y) (sym (at_else i (λ h. older h) ∙ ap (λ y. cond y sys.Gone (u.condition i)) (eq-eqb i i refl))) gone))
+        (λ (f : i ≡ a). subst (λ y. Does_all G lv (G.births.name y) c1 t1 (u.births.opens y) (u1.condition y)) f (subst (λ y. Does_all G lv v c1 t1 (u.births.opens i) y) (sym (at_else i (λ h. older h) ∙ ap (λ y. cond y sys.Gone (u.condition i)) (eq-eqb i i refl))) (gone, λ h. no_empty (sym name_is ∙ h))))
         (λ (f : i ≢ a). subst (λ y. Does_all G lv (G.births.name a) c1 t1 (u.births.opens a) y) (sym (at_far a e f)) (does_other a lt f (λ k n h. e (sym (G.one_name a b.parent (few a lt) (few b.parent known_parent) (ends_alike k n a (h ∙ name_is)))))))
         (number_or G lv c s u l i d at_i i a))
         (number_or G lv c s u l i d at_i b.parent a))

@@ -166,6 +166,7 @@ module _ (G : Ground) (b : Block) (eb : slice_get G.g.program.blocks 0 ≡ Some 
     unlaid = λ e q. refl;
     does = λ i lt. does_by i lt;
     unborn = λ i le. absent i le;
+    unmade = λ i le. (refl, refl);
     numbered = λ q h. (0, omega arith, sym (first_name q h));
   }
     where

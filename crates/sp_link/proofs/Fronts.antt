@@ -28,7 +28,7 @@ grows_on b d e h k = record {
   openings = λ j l. h.openings j l ∙ k.openings j (let x = h.channels in omega (arith, x, l));
 }
 
-old : (b : Births) (n i : ℕ) → i < b.processes → is_next b n i ≡ false
+pub old : (b : Births) (n i : ℕ) → i < b.processes → is_next b n i ≡ false
 old b n i l = ap (λ x. x && nat_lt i (b.processes + n)) (below (nat_le b.processes i) refl)
   where
     below : (x : Bool) → nat_le b.processes i ≡ x → nat_le b.processes i ≡ false

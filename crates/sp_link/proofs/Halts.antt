@@ -36,9 +36,10 @@ use Rattle.sp_code.specs.System.{System, after, event_of, event_or, fault_of, co
 use Rattle.sp_code.specs.System as sys
 use Rattle.sp_codegen.specs.Joints.{Joint}
 use Rattle.sp_codegen.specs.Following.{StandsFor}
-use Rattle.sp_link.proofs.AtStop.{known_at, keeps_at}
+use Rattle.sp_meaning.proofs.QuietDeeds.{IsSameButOne}
+use Rattle.sp_link.proofs.AtStop.{keeps_at, same_but_dead, same_but_one, same_output}
 use Rattle.sp_link.proofs.Journal.{Way_on, IsOpen, now_by}
-use Rattle.sp_link.proofs.KernelSteps.{kernel_next, kernel_says, act, QuietDeeds, QuietFaults, IsStop}
+use Rattle.sp_link.proofs.KernelSteps.{kernel_next, kernel_says, act}
 use Rattle.sp_link.proofs.OneChanges.{its, runs, linked_local}
 use Rattle.sp_link.proofs.Pauses.{Entry_of, Meant, Machined, Kept_to, kids, turn_is, after_quiet, after_laid, kt}
 use Rattle.sp_link.proofs.Pauses as at
@@ -65,6 +66,9 @@ something_said g (Offering p) h (Faulty f) = (Failed f, refl)
 something_said g Ends h (Does cs) = (Finished, refl)
 something_said g Ends h (Faulty f) = (Failed f, refl)
 something_said g (Fails e) h o = absurd h
+
+pub no_tree : (y : Rattle.sp_meaning.specs.Values.Value) (bs : List ℕ) → Rattle.sp_meaning.specs.Own.Tree y ≡ Rattle.sp_meaning.specs.Own.Written bs → ⊥
+no_tree y bs e = cc e
 
 -- a component of a variable is not in the output
 pub cell_no_output : (a : Rattle.sp_meaning.specs.Own.Address) (owner : Name) (frame variable : ℕ) → a.spot ≡ Cell owner frame variable → same_loc a.spot Output ≡ false
@@ -234,7 +238,7 @@ module _ (G : Ground) (lv : Lives G) (c : Course) (s : StateOf G.g) (u : System 
 
   -- ---- where a turn has come to, by its end
 
-  module _ (dry : QuietDeeds G.g) (still : QuietFaults G.g) (z : Stands G (lv v) (kids G lv c s u l i d at_i) v (c.since v) (at.p1 G lv c s u l i d at_i) s.store d) where
+  module _ (z : Stands G (lv v) (kids G lv c s u l i d at_i) v (c.since v) (at.p1 G lv c s u l i d at_i) s.store d) where
     abbrev pub paused_halt : (todo : List Item) (o : Own) (m : Store) → Meant G lv c s u l i d at_i z (Got (source.Paused todo) o, m) → Machined G lv c s u l i d at_i z (Got (source.Paused todo) o, m) → Halted
     paused_halt todo o m x t = record {
       turn = Stopped machine.Pauses (At t.0 t.1 t.2);
@@ -255,8 +259,8 @@ module _ (G : Ground) (lv : Lives G) (c : Course) (s : StateOf G.g) (u : System 
     }
 
     module _ (r : Came Deed × Store) (x : Rattle.sp_link.proofs.AtStop.Stopped_at G lv c s u l i d at_i z r) (what : Happening) (said : says G.g x.at v x.left ≡ Some what) where
-      abbrev pub halt_by : (tn : Turn (Memory Plain)) → IsTurn (ops G) G.code d tn → (x.at.store Output ≡ r.1 Output) → Told G (lv v) (λ k n. lv ((k, n) ∷ v)) v r.1 (config_of tn) → Halted
-      halt_by tn is same told = record {
+      abbrev pub halt_by : (tn : Turn (Memory Plain)) → IsTurn (ops G) G.code d tn → Told G (lv v) (λ k n. lv ((k, n) ∷ v)) v x.at.store (config_of tn) → Halted
+      halt_by tn is told = record {
         turn = tn;
         is = is;
         steps = x.steps;
@@ -271,7 +275,7 @@ module _ (G : Ground) (lv : Lives G) (c : Course) (s : StateOf G.g) (u : System 
         totals = x.elsewhere.totals;
         stays = x.good.stays;
         rights = keeps_at G lv c s u l i d at_i z r x what said;
-        told = told_same G (lv v) (λ k n. lv ((k, n) ∷ v)) v (config_of tn) r.1 x.at.store same told;
+        told = told;
       }
 
     -- what the step at a stop says
@@ -280,38 +284,37 @@ module _ (G : Ground) (lv : Lives G) (c : Course) (s : StateOf G.g) (u : System 
         let y = something_said G.g (act G.g v x.at x.left x.runs r x.does) k (Rattle.sp_meaning.specs.Steps.outcome (most G.g) x.at v (act G.g v x.at x.left x.runs r x.does)) in
         (y.0, kernel_says G.g v x.at x.left x.runs r x.does ∙ y.1)
 
-    pub same_output : (pr : Process) (st : Store) (e : Deed) (o : Own) (m : Store) → IsStop e → ◌≡◌ {A = Came Deed × Store} (answer same_loc (deed_of G.g pr) st) (Got e o, m) → st Output ≡ m Output
-    same_output pr st e o m k h = ⊎_elim (λ y. y) (λ y. absurd y) (dry pr st e o m k h Output)
-
     abbrev pub forked_halt : (bs : List Birth) (todo : List Item) (o : Own) (m : Store) → Meant G lv c s u l i d at_i z (Got (source.Stops (Forked bs todo)) o, m) → Machined G lv c s u l i d at_i z (Got (source.Stops (Forked bs todo)) o, m) → Halted
     forked_halt bs todo o m x t = let y = says_something (Got (Forked bs todo) o, m) x tt in
         halt_by (Got (Forked bs todo) o, m) x y.0 y.1 (Stopped t.5 (At t.0 t.1 t.2)) (turn_is G lv c s u l i d at_i z (Stopped t.5 (At t.0 t.1 t.2)) (t.4, t.6, t.7))
-        (same_output x.left x.at.store (Forked bs todo) o m tt x.does) (told_by G (lv v) (λ k n. lv ((k, n) ∷ v)) v t.0 t.1 t.8)
+        (told_same G (lv v) (λ k n. lv ((k, n) ∷ v)) v (At t.0 t.1 t.2) m x.at.store (⊎_elim (λ b. b) (λ b. absurd b) (same_but_dead G lv c s u l i d at_i z (Forked bs todo) o m x tt Output)) (told_by G (lv v) (λ k n. lv ((k, n) ∷ v)) v t.0 t.1 t.8))
 
     abbrev pub offered_halt : (ch : Rattle.sp_meaning.specs.Model.Channel) (k : ℕ) (cg : Rattle.sp_meaning.specs.Model.Cargo Held Rattle.sp_meaning.specs.Own.Address) (todo : List Item) (o : Own) (m : Store) → Meant G lv c s u l i d at_i z (Got (source.Stops (Offered ch k cg todo)) o, m) → Machined G lv c s u l i d at_i z (Got (source.Stops (Offered ch k cg todo)) o, m) → Halted
     offered_halt ch k cg todo o m x t = let y = says_something (Got (Offered ch k cg todo) o, m) x tt in
         halt_by (Got (Offered ch k cg todo) o, m) x y.0 y.1 (Stopped t.5 (At t.0 t.1 t.2)) (turn_is G lv c s u l i d at_i z (Stopped t.5 (At t.0 t.1 t.2)) (t.4, t.6, t.7))
-        (same_output x.left x.at.store (Offered ch k cg todo) o m tt x.does) (told_by G (lv v) (λ k n. lv ((k, n) ∷ v)) v t.0 t.1 t.8)
+        (told_same G (lv v) (λ k n. lv ((k, n) ∷ v)) v (At t.0 t.1 t.2) m x.at.store (⊎_elim (λ b. b) (λ b. absurd b) (same_but_dead G lv c s u l i d at_i z (Offered ch k cg todo) o m x tt Output)) (told_by G (lv v) (λ k n. lv ((k, n) ∷ v)) v t.0 t.1 t.8))
 
     abbrev pub over_halt : (o : Own) (m : Store) → Meant G lv c s u l i d at_i z (Got (source.Stops Over) o, m) → Machined G lv c s u l i d at_i z (Got (source.Stops Over) o, m) → Halted
     over_halt o m x t = let y = says_something (Got Over o, m) x tt in
         halt_by (Got Over o, m) x y.0 y.1 (Stopped machine.Ends (At t.0 t.1 t.2)) (turn_is G lv c s u l i d at_i z (Stopped machine.Ends (At t.0 t.1 t.2)) (At t.0 t.1 t.2, t.4, t.5))
-        (same_output x.left x.at.store Over o m tt x.does) (told_by G (lv v) (λ k n. lv ((k, n) ∷ v)) v t.0 t.1 t.6)
+        (told_same G (lv v) (λ k n. lv ((k, n) ∷ v)) v (At t.0 t.1 t.2) m x.at.store (⊎_elim (λ b. b) (λ b. absurd b) (same_but_dead G lv c s u l i d at_i z Over o m x tt Output)) (told_by G (lv v) (λ k n. lv ((k, n) ∷ v)) v t.0 t.1 t.6))
 
     -- the target of an open is no console
     abbrev pub opened_halt : (todo : List Item) (o : Own) (m : Store) → Meant G lv c s u l i d at_i z (Got (source.Stops (Opened todo)) o, m) → Machined G lv c s u l i d at_i z (Got (source.Stops (Opened todo)) o, m) → Halted
     opened_halt todo o m x t = let y = says_something (Got (Opened todo) o, m) x tt in
         halt_by (Got (Opened todo) o, m) x y.0 y.1 (Stopped (machine.Opens t.6) (At t.0 t.1 t.2)) (turn_is G lv c s u l i d at_i z (Stopped (machine.Opens t.6) (At t.0 t.1 t.2)) (t.4, t.8, t.9))
-        (still x.left x.at.store (Got (Opened todo) o) m tt x.does)
-        (told_same G (lv v) (λ k n. lv ((k, n) ∷ v)) v (At t.0 t.1 t.2) t.7 m output_is (told_by G (lv v) (λ k n. lv ((k, n) ∷ v)) v t.0 t.1 t.10))
+        (λ may. (let y = (t.10).output may in (y.0, wrote may (same_but_one G lv c s u l i d at_i z todo o m x) ∙ y.1, ap output_of y.2)))
       where
         output_is : m Output ≡ t.7 Output
         output_is = ap (λ (y : Store). y Output) t.13 ∙ ap (λ b. cond b (Rattle.sp_meaning.specs.Own.assigned t.5 (t.7 t.5.spot) (Rattle.sp_meaning.specs.Own.Tree (Rattle.sp_meaning.specs.Values.Chan (record { owner = (at.p1 G lv c s u l i d at_i).who.name; nth = (at.p1 G lv c s u l i d at_i).who.opens })))) (t.7 Output)) (cell_no_output t.5 t.11.owner t.11.frame t.11.variable t.11.is)
 
+        wrote : Rattle.sp_link.proofs.Relation.Reads G (lv v) (λ k n. lv ((k, n) ∷ v)) v Output → IsSameButOne (length x.left.own.frames) x.at.store m → x.at.store Output ≡ t.7 Output
+        wrote may h = ⊎_elim (λ e. e ∙ output_is) (λ e. ⊎_elim (λ b. absurd b) (λ b. absurd (let y = (t.10).output may in no_tree h.value y.0 (sym h.now ∙ ap m b ∙ output_is ∙ y.1))) e) (h.others Output)
+
     abbrev pub bad_halt : (f : Fault) (m : Store) → Meant G lv c s u l i d at_i z (Bad f, m) → Machined G lv c s u l i d at_i z (Bad f, m) → Halted
     bad_halt f m x t =
         halt_by (Bad f, m) x (Failed f) (kernel_says G.g v x.at x.left x.runs (Bad f, m) x.does) (Faulted f t.at) (turn_is G lv c s u l i d at_i z (Faulted f t.at) (t.at, t.comes, (t.fails, refl)))
-        (still x.left x.at.store (Bad f) m tt x.does) (told_break G (lv v) (λ k n. lv ((k, n) ∷ v)) v (at.p1 G lv c s u l i d at_i).who (c.since v) t.at m t.stands)
+        (told_same G (lv v) (λ k n. lv ((k, n) ∷ v)) v t.at m x.at.store (same_output G lv c s u l i d at_i z f m x) (told_break G (lv v) (λ k n. lv ((k, n) ∷ v)) v (at.p1 G lv c s u l i d at_i).who (c.since v) t.at m t.stands))
 
     -- the entry of a fault of an instruction
     pub failing : (f : Fault) (m : Store) → Meant G lv c s u l i d at_i z (Bad f, m) → Machined G lv c s u l i d at_i z (Bad f, m) → u.faulted ≡ false → Entry_of G c s u i d

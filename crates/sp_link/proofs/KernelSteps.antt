@@ -1,15 +1,16 @@
 -- The step at a stop: what it is in the meaning (`kernel_next`, `kernel_says`). A fork, an offer and an end write nothing but cells of
--- frames that are gone; the meaning leaves these writes out (`QuietDeeds`, a premise today), and a process stands without them.
+-- frames that are gone, which the meaning leaves out; a process stands without them (`stand_dead`).
 use Rattle.std.proofs.Common.{◌≡◌, ◌⊎◌, ⊎_elim, ℕ, suc, ◌≤◌, List, length, Some, ap, ◌∙◌, arith}
 use Rattle.sp_cell.specs.Map.{Plain}
 use Rattle.sp_meaning.specs.Model.{Name}
 use Rattle.sp_meaning.specs.Asking.{answer, put_by}
 use Rattle.sp_meaning.specs.Steps.{ActOf, outcome, result_of, step_with}
-use Rattle.sp_meaning.specs.Own.{Setting, Loc, Cell, Input, Output, Own, Who, Process, Came, Got, Bad, Lost, Long, same_loc}
-use Rattle.sp_meaning.specs.Deeds.{Deed, Forked, Offered, Over}
+use Rattle.sp_meaning.specs.Own.{Setting, Loc, Cell, Input, Output, Own, Who, Process, Came, same_loc}
+use Rattle.sp_meaning.specs.Deeds.{Deed}
 use Rattle.sp_meaning.specs.SuperPascal.{superpascal, asks, deed_of, act_of}
 use Rattle.sp_meaning.specs.Run.{Store}
 use Rattle.sp_meaning.specs.Runs.{StateOf, most, running, next, says, said_of}
+use Rattle.sp_meaning.proofs.QuietDeeds.{IsDead}
 use Rattle.sp_meaning.proofs.Reached.{next_is}
 use Rattle.sp_code.specs.Memory.{Memory}
 use Rattle.sp_codegen.specs.Joints.{Joint}
@@ -28,41 +29,6 @@ module _ (g : Setting) (q : Name) (s : StateOf g) (pr : Process) (runs : running
 
   pub kernel_says : says g s q pr ≡ said_of act (outcome (most g) s q act)
   kernel_says = ap (λ (a : ActOf (superpascal g)). said_of a (outcome (most g) s q a)) act_is
-
--- a cell of a frame that is not there any more
-abbrev pub IsDead : ℕ → Loc → Type 0
-IsDead n (Cell r h x) = n ≤ h
-IsDead n Input = ⊥
-IsDead n Output = ⊥
-
-abbrev pub IsStop : Deed → Type 0
-IsStop (Rattle.sp_meaning.specs.Deeds.Went todo) = ⊥
-IsStop (Rattle.sp_meaning.specs.Deeds.Beat todo) = ⊥
-IsStop (Rattle.sp_meaning.specs.Deeds.Opened todo) = ⊥
-IsStop (Forked bs todo) = Unit {0}
-IsStop (Offered c k x todo) = Unit {0}
-IsStop Over = Unit {0}
-
--- a fork, an offer and an end write nothing but cells of frames that calls of functions made and that are gone. The meaning
--- leaves these writes out. (To be proved in sp_meaning: an expression writes nothing that is there)
-abbrev pub QuietDeeds : Setting → Type 0
-QuietDeeds g = (pr : Process) (s : Store) (d : Deed) (o : Own) (m : Store) → IsStop d → ◌≡◌ {A = Came Deed × Store} (answer same_loc (deed_of g pr) s) (Got d o, m) → (l : Loc) → (s l ≡ m l) ⊎ IsDead (length o.frames) l
-
--- an open and a fault, at which the output is what it was
-abbrev pub IsHalt : Came Deed → Type 0
-IsHalt (Got (Rattle.sp_meaning.specs.Deeds.Went todo) o) = ⊥
-IsHalt (Got (Rattle.sp_meaning.specs.Deeds.Beat todo) o) = ⊥
-IsHalt (Got (Rattle.sp_meaning.specs.Deeds.Opened todo) o) = Unit {0}
-IsHalt (Got (Forked bs todo) o) = ⊥
-IsHalt (Got (Offered c k x todo) o) = ⊥
-IsHalt (Got Over o) = ⊥
-IsHalt (Bad f) = Unit {0}
-IsHalt Lost = ⊥
-IsHalt Long = ⊥
-
--- so do an open and a fault leave the output alone: no expression writes it. (To be proved with the other)
-abbrev pub QuietFaults : Setting → Type 0
-QuietFaults g = (pr : Process) (s : Store) (r : Came Deed) (m : Store) → IsHalt r → ◌≡◌ {A = Came Deed × Store} (answer same_loc (deed_of g pr) s) (r, m) → s Output ≡ m Output
 
 module _ (G : Ground) (lf : Life) (kids : ℕ → ℕ → Life) (q : Name) where
   -- so it stands without them

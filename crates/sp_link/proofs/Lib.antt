@@ -11,6 +11,10 @@ pub mod OneChanges
 pub mod Pauses
 pub mod KernelSteps
 pub mod Rejoins
+pub mod Forks
+pub mod Scoping
+pub mod Parallels
+pub mod Opens
 pub mod FirstRelation
 pub mod Entries
 pub mod AtStop
@@ -23,6 +27,7 @@ pub mod Replay
 pub mod Messages
 pub mod Fronts
 pub mod Theorem
+pub mod Programs
 pub mod NewLives
 pub mod MoreChannels
 pub mod WhoRuns

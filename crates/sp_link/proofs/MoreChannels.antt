@@ -15,6 +15,20 @@ use Rattle.sp_codegen.specs.Joints.{Joint}
 use Rattle.sp_codegen.specs.Shapes.{leaves, CellIs, CellsAre, Flat}
 use Rattle.sp_codegen.specs.Standing.{Stand}
 use Rattle.sp_codegen.proofs.Joining.{Joining}
+use Rattle.std.proofs.Common.{◌≡◌, ◌⊎◌, zero, suc, ◌+◌, length, if◌then◌else◌, refl, sym, ap, ◌∙◌, arith}
+use Rattle.sp_meaning.specs.Model.{Condition, Cargo, Gives, Takes}
+use Rattle.sp_meaning.specs.Own.{Held, Tree, Position, Written, Address, Item, Process}
+use Rattle.sp_meaning.specs.Runs.{StateOf}
+use Rattle.sp_meaning.specs.Along.{Course}
+use Rattle.sp_meaning.specs.Steps.{has_ended}
+use Rattle.sp_meaning.proofs.Rights.{Mine}
+use Rattle.sp_code.specs.Machine.{Entry, Config, Stop}
+use Rattle.sp_code.specs.Scopes.{Sort, Ordinals, Channels, Many, NoSort, sort}
+use Rattle.sp_code.specs.System as sys
+use Rattle.sp_codegen.specs.Meets.{due_after}
+use Rattle.sp_codegen.specs.Relation.{Stood}
+use Rattle.sp_link.proofs.AfterEntry.{again}
+use Rattle.sp_link.proofs.Relation.{Ground, Life, Called, Named, Fresh, Stands, Joined, Handed, Does, Fo, Ca, Rel, law, left_of, at_open, ops}
 
 module _ (Named Named1 : Channel → ℕ → Type 0) (more : (c : Channel) (j : ℕ) → Named c j → Named1 c j) where
   cell_more : (v : Value) (c : OneCell) → CellIs Named v c → CellIs Named1 v c
@@ -79,3 +93,78 @@ module _ (Named Named1 : Channel → ℕ → Type 0) (more : (c : Channel) (j : 
       position = t.position;
       output = t.output;
     }
+
+-- one more channel is open
+abbrev pub one_more : Ground → Ground
+one_more G = at_open G (G.opened + 1)
+
+module _ (G : Ground) where
+  pub named_more : (c : Channel) (j : ℕ) → Named G c j → Named (one_more G) c j
+  named_more c j h = ((let a = h.0 in omega (arith, a)), h.1, h.2)
+
+  module _ (lf : Life) (kids : ℕ → ℕ → Life) (q : Name) where
+    abbrev pub fresh_more : Fresh G lf kids q → Fresh (one_more G) lf kids q
+    fresh_more f = record { based = f.based; reads = f.reads; low_small = f.low_small; ends = f.ends }
+
+    pub follows_more : (f : Fresh G lf kids q) (w : Who) (n : w.name ≡ q) (since pc : ℕ) (stack : List Entry) (js : List Joint) (todo : List Item) → Fo G lf kids q f w n since pc stack js todo → Fo (one_more G) lf kids q (fresh_more f) w n since pc stack js todo
+    follows_more f w n since pc stack js todo h = again G.g G.code G.moves G.shares G.hush (λ l. Mine q l ⊎ lf.W l) (λ l. Mine q l ⊎ lf.R l) lf.J (ops G) G.free G.finds G.formed.uses f.reads f.reads w (due_after since G.pause) (Rel G lf kids q w since) (law G lf kids q f w n since) (λ h x. inl n)
+        w (due_after since G.pause) (Rel (one_more G) lf kids q w since) (law (one_more G) lf kids q (fresh_more f) w n since) (λ h x. inl n) (λ j js m. m) lf.end [] lf.below pc stack js todo h
+
+    abbrev pub stands_more : (since : ℕ) (pr : Process) (s : Store) (d : Config (Memory Plain)) → Stands G lf kids q since pr s d → Stands (one_more G) lf kids q since pr s d
+    stands_more since pr s d z = record {
+      fresh = fresh_more z.fresh;
+      named = z.named;
+      js = z.js;
+      pc = z.pc;
+      stack = z.stack;
+      memory = z.memory;
+      is = z.is;
+      stand = stand_more (Named G) (Named (one_more G)) named_more G.g G.code pr.who (Called G) (λ l. Mine q l ⊎ lf.W l) (λ l. Mine q l ⊎ lf.R l) lf.J lf.low (length lf.below) lf.born since G.pause lf.moved z.stand;
+      follows = follows_more z.fresh pr.who z.named since z.pc z.stack z.js pr.todo z.follows;
+    }
+
+    stood_more : (w : Who) (since : ℕ) (y : Sort) (k : ℕ) (v : Value) (e : Entry) → Stood (Rel G lf kids q w since) G.g.program y k v e → Stood (Rel (one_more G) lf kids q w since) G.g.program y k v e
+    stood_more w since Ordinals k v e h = h
+    stood_more w since Channels k v e h = (h.0, h.1, h.2, h.3, named_more h.0 h.1 h.4)
+    stood_more w since Many k v e h = (h.0, h.1, flat_more (Named G) (Named (one_more G)) named_more G.g.program k v h.0 h.2)
+    stood_more w since NoSort k v e h = h
+
+    cargo_more : (f : Fresh G lf kids q) (w : Who) (n : w.name ≡ q) (since : ℕ) (js : List Joint) (c : Channel) (k : ℕ) (x : Cargo Held Address) (z : Stop) → Ca G lf kids q f w n since js c k x z → Ca (one_more G) lf kids q (fresh_more f) w n since js c k x z
+    cargo_more f w n since js c k (Gives (Tree v)) z h = (h.0, h.1, h.2, named_more c h.0 h.3, stood_more w since (sort G.g.program k) k v h.1 h.4)
+    cargo_more f w n since js c k (Gives (Position m)) z h = h
+    cargo_more f w n since js c k (Gives (Written bs)) z h = h
+    cargo_more f w n since js c k (Takes a) z h = (h.0, h.1, h.2, named_more c h.0 h.3, h.4, h.5, h.6)
+
+    handed_more : (js : List Joint) (n : Memory Plain) (v : Life) (z : Name) → Handed G lf kids q js n v z → Handed (one_more G) lf kids q js n v z
+    handed_more js n v z h = record { live = h.live; aims = h.aims; no_index = h.no_index; input = h.input; output = h.output; input_aims = h.input_aims; output_aims = h.output_aims; old = h.old; kept = h.kept }
+
+    left_more : (c : Name → Condition Process Held Address) (k n : ℕ) → left_of (one_more G) lf kids q c k n ≡ left_of G lf kids q c k n
+    left_more c k zero = refl
+    left_more c k (suc i) = ap (λ n. (if has_ended (c ((k, i) ∷ q)) then 0 else 1) + n) (left_more c k i)
+
+    joined_more : (since k n left : ℕ) (pr : Process) (s : StateOf G.g) (d : Config (Memory Plain)) → Joined G lf kids q since k n left pr s d → Joined (one_more G) lf kids q since k n left pr s d
+    joined_more since k n left pr s d z = record {
+      fresh = fresh_more z.fresh;
+      named = z.named;
+      js = z.js;
+      pc = z.pc;
+      stack = z.stack;
+      memory = z.memory;
+      held = z.held;
+      is = z.is;
+      joining = joining_grows (Named G) (Named (one_more G)) named_more G.g G.code pr.who (Called G) (λ l. Mine q l ⊎ lf.W l) (λ l. Mine q l ⊎ lf.R l) lf.J lf.low (length lf.below) lf.born since G.pause lf.moved z.joining;
+      follows = follows_more z.fresh pr.who z.named since z.pc z.stack z.js pr.todo z.follows;
+      count = z.count ∙ sym (left_more s.condition k n);
+      some = z.some;
+      children = λ i h. handed_more z.js z.memory (kids k i) ((k, i) ∷ q) (z.children i h);
+    }
+
+    -- whatever it does
+    pub does_more : (c : Course) (s : StateOf G.g) (opens : ℕ) (x : sys.Condition Plain) → Does G lf kids q c s opens x → Does (one_more G) lf kids q c s opens x
+    does_more c s opens sys.Absent h = h
+    does_more c s opens (sys.Runs d) h = (h.0, h.1, ⊎_elim (λ z. inl (stands_more (c.since q) h.0 s.store d z)) (λ z. inr z) h.2, h.3, h.4)
+    does_more c s opens (sys.Waits y d) h = (h.0, h.1, stands_more (c.since q) (h.0).next s.store d h.2, cargo_more (h.2).fresh (h.0).next.who (h.2).named (c.since q) (h.2).js (h.0).channel (h.0).kind (h.0).cargo y h.3, h.4, h.5)
+    does_more c s opens (sys.Joins left d) h = (h.0, h.1, h.2, h.3, joined_more (c.since q) h.0 h.1 left h.2 s d h.4, h.5, h.6)
+    does_more c s opens (sys.Laid d) h = h
+    does_more c s opens sys.Gone h = h
+    does_more c s opens (sys.Over d) h = h

@@ -23,17 +23,17 @@ use Rattle.sp_code.specs.System as sys
 use Rattle.sp_link.proofs.AtOffer as ao
 use Rattle.sp_link.proofs.AtStop.{w, p1, does_at}
 use Rattle.sp_link.proofs.Halts.{failed_entry, offered_halt, says_something}
-use Rattle.sp_link.proofs.KernelSteps.{kernel_next, kernel_says, QuietDeeds, QuietFaults}
+use Rattle.sp_link.proofs.KernelSteps.{kernel_next, kernel_says}
 use Rattle.sp_link.proofs.OffersMeet.{waiting_idle, meeting_entry}
 use Rattle.sp_link.proofs.OffersWait.{waiting_entry}
 use Rattle.sp_link.proofs.OneChanges.{runs}
 use Rattle.sp_link.proofs.Pauses.{Entry_of, Meant, Machined, Kept_to, kids}
 use Rattle.sp_link.proofs.Relation.{Ground, Lives, Named, Stands, Ca, Does_all, IsPending, Linked}
 
-module _ (G : Ground) (dry : QuietDeeds G.g) (lv : Lives G) (c : Course) (s : StateOf G.g) (u : System Plain) (l : Linked G lv c s u) (i : ℕ) (d : Config (Memory Plain)) (at_i : u.condition i ≡ sys.Runs d)
+module _ (G : Ground) (lv : Lives G) (c : Course) (s : StateOf G.g) (u : System Plain) (l : Linked G lv c s u) (i : ℕ) (d : Config (Memory Plain)) (at_i : u.condition i ≡ sys.Runs d)
     (z : Stands G (lv (w G lv c s u l i d at_i)) (kids G lv c s u l i d at_i) (w G lv c s u l i d at_i) (c.since (w G lv c s u l i d at_i)) (p1 G lv c s u l i d at_i) s.store d)
     (ch : Channel) (kd : ℕ) (cg : Cargo Held Address) (todo : List Item) (o : Own) (m : Store) (x : Meant G lv c s u l i d at_i z (Got (source.Stops (Offered ch kd cg todo)) o, m)) (t : Machined G lv c s u l i d at_i z (Got (source.Stops (Offered ch kd cg todo)) o, m))
-    (y : Kept_to G lv c s u l i d at_i z (Got (source.Stops (Offered ch kd cg todo)) o, m)) (still : QuietFaults G.g) (quiet : u.faulted ≡ false) where
+    (y : Kept_to G lv c s u l i d at_i z (Got (source.Stops (Offered ch kd cg todo)) o, m)) (quiet : u.faulted ≡ false) where
   abbrev v : Name
   v = w G lv c s u l i d at_i
 
@@ -41,16 +41,16 @@ module _ (G : Ground) (dry : QuietDeeds G.g) (lv : Lives G) (c : Course) (s : St
   r = (Got (Offered ch kd cg todo) o, m)
 
   abbrev off : OfferOf (superpascal G.g)
-  off = ao.off G dry lv c s u l i d at_i z ch kd cg todo o m x t y
+  off = ao.off G lv c s u l i d at_i z ch kd cg todo o m x t y
 
   -- what the step says, whatever it comes to
   said_any : (what : Happening) × (says G.g x.at v x.left ≡ Some what)
-  said_any = says_something G lv c s u l i d at_i dry still z r x tt
+  said_any = says_something G lv c s u l i d at_i z r x tt
 
   -- ---- the entries are at their limit
 
   over_entry : nat_lt G.g.limits.entries (u.entries + 1) ≡ true → Entry_of G c s u i d
-  over_entry full = failed_entry G lv c s u l i d at_i (offered_halt G lv c s u l i d at_i dry still z ch kd cg todo o m x t) refl fault.F15
+  over_entry full = failed_entry G lv c s u l i d at_i (offered_halt G lv c s u l i d at_i z ch kd cg todo o m x t) refl fault.F15
       (kernel_says G.g v x.at x.left x.runs r x.does ∙ ap (λ b. said_of {L = superpascal G.g} (Offering off) b) faults)
       (kernel_next G.g v x.at x.left x.runs r x.does ∙ ap (λ b. Some (result_of {L = superpascal G.g} x.at v b)) faults) (found cg refl t.9) quiet
     where
@@ -90,10 +90,10 @@ module _ (G : Ground) (dry : QuietDeeds G.g) (lv : Lives G) (c : Course) (s : St
     by_condition : (X : sys.Condition Plain) → u.condition zi ≡ X → Does_all G lv (G.births.name zi) c x.at (u.births.opens zi) X → Entry_of G c s u i d
     by_condition sys.Absent e h = absurd h
     by_condition (sys.Runs a) e h = absurd (waiting_idle x.at.condition (G.births.name zi) ch (x.at.condition (G.births.name zi)) h.0 waits_then h.1)
-    by_condition (sys.Waits st2 d2) e h = meeting_entry G dry lv c s u l i d at_i z ch kd cg todo o m x t y said_any.0 said_any.1 quiet zi few pends j named pending_is enough apart st2 d2 e h.0 h.1 (subst (λ b. WaitsOn ch b) h.1 waits_then) h.2 h.3 h.4 h.5 still
+    by_condition (sys.Waits st2 d2) e h = meeting_entry G lv c s u l i d at_i z ch kd cg todo o m x t y said_any.0 said_any.1 quiet zi few pends j named pending_is enough apart st2 d2 e h.0 h.1 (subst (λ b. WaitsOn ch b) h.1 waits_then) h.2 h.3 h.4 h.5
     by_condition (sys.Joins left a) e h = absurd (subst (λ b. WaitsOn ch b) h.3 waits_then)
     by_condition (sys.Laid a) e h = absurd (waiting_idle x.at.condition (G.births.name zi) ch (x.at.condition (G.births.name zi)) h.2.0 waits_then h.2.1)
-    by_condition sys.Gone e h = absurd (subst (λ b. WaitsOn ch b) h waits_then)
+    by_condition sys.Gone e h = absurd (subst (λ b. WaitsOn ch b) h.0 waits_then)
     by_condition (sys.Over a) e h = absurd (subst (λ b. WaitsOn ch b) h.0 waits_then)
 
     meets_it : Entry_of G c s u i d
@@ -121,7 +121,7 @@ module _ (G : Ground) (dry : QuietDeeds G.g) (lv : Lives G) (c : Course) (s : St
       number (Takes a) h = (h.0, h.3)
 
       by_offer : (b : Option Name) → s.pending ch ≡ b → nat_lt G.g.limits.entries (u.entries + 1) ≡ false → Entry_of G c s u i d
-      by_offer None e h = waiting_entry G dry lv c s u l i d at_i z ch kd cg todo o m x t y quiet e h
+      by_offer None e h = waiting_entry G lv c s u l i d at_i z ch kd cg todo o m x t y quiet e h
       by_offer (Some zn) e h = let n = number cg t.9 in by_pending zn e n.0 n.1 h
 
       by_limit : (b : Bool) → nat_lt G.g.limits.entries (u.entries + 1) ≡ b → Entry_of G c s u i d

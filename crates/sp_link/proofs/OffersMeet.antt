@@ -45,7 +45,7 @@ use Rattle.sp_link.proofs.AtOffer as ao
 use Rattle.sp_link.proofs.AtStop.{w, p1, known_at, rights_at, ended_at, other_name, does_at}
 use Rattle.sp_link.proofs.Halts.{failed_entry, offered_halt}
 use Rattle.sp_link.proofs.Journal.{Way_on, IsOpen, now_by}
-use Rattle.sp_link.proofs.KernelSteps.{kernel_next, kernel_says, QuietDeeds, QuietFaults}
+use Rattle.sp_link.proofs.KernelSteps.{kernel_next, kernel_says}
 use Rattle.sp_link.proofs.Messages.{sent_flat, receiver_stands}
 use Rattle.sp_link.proofs.OneChanges.{its, here, number_or, inv_local}
 use Rattle.sp_link.proofs.OthersStay.{does_stay, stands_stay}
@@ -60,7 +60,7 @@ waiting_idle m q ch (Waits w) own h e = absurd (cc e)
 waiting_idle m q ch (Joins k n pr) own h e = h
 waiting_idle m q ch Ended own h e = h
 
-module _ (G : Ground) (dry : QuietDeeds G.g) (lv : Lives G) (c : Course) (s : StateOf G.g) (u : System Plain) (l : Linked G lv c s u) (i : ℕ) (d : Config (Memory Plain)) (at_i : u.condition i ≡ sys.Runs d)
+module _ (G : Ground) (lv : Lives G) (c : Course) (s : StateOf G.g) (u : System Plain) (l : Linked G lv c s u) (i : ℕ) (d : Config (Memory Plain)) (at_i : u.condition i ≡ sys.Runs d)
     (z : Stands G (lv (w G lv c s u l i d at_i)) (kids G lv c s u l i d at_i) (w G lv c s u l i d at_i) (c.since (w G lv c s u l i d at_i)) (p1 G lv c s u l i d at_i) s.store d)
     (ch : Channel) (kd : ℕ) (cg : Cargo Held Address) (todo : List Item) (o : Own) (m : Store) (x : Meant G lv c s u l i d at_i z (Got (source.Stops (Offered ch kd cg todo)) o, m)) (t : Machined G lv c s u l i d at_i z (Got (source.Stops (Offered ch kd cg todo)) o, m))
     (y : Kept_to G lv c s u l i d at_i z (Got (source.Stops (Offered ch kd cg todo)) o, m))
@@ -79,7 +79,7 @@ module _ (G : Ground) (dry : QuietDeeds G.g) (lv : Lives G) (c : Course) (s : St
   r = (Got (Offered ch kd cg todo) o, m)
 
   abbrev off : OfferOf (superpascal G.g)
-  off = ao.off G dry lv c s u l i d at_i z ch kd cg todo o m x t y
+  off = ao.off G lv c s u l i d at_i z ch kd cg todo o m x t y
 
   known_then : Known G.g x.at
   known_then = known_at G lv c s u l i d at_i z r x what said
@@ -151,7 +151,7 @@ module _ (G : Ground) (dry : QuietDeeds G.g) (lv : Lives G) (c : Course) (s : St
     rights_now : Inv G.g.program (W_of G lv) (R_of G lv) t1.condition t1.forks
     rights_now = inv_local G (W_of G lv) (R_of G lv) first t1.condition x.at.forks x.at.forks zn
         (inv_local G (W_of G lv) (R_of G lv) x.at.condition first x.at.forks x.at.forks v rights_then refl (λ e. subst (λ b. IsLive b) e (working_lives x.at.condition v (x.at.condition v) x.left x.runs))
-        (λ b e. at_other name_test x.at.condition v b (Works off.next) (λ f. e (sym f))) (subst (λ b. Holds G.g.program (W_of G lv) (R_of G lv) x.at.forks v b) (sym (at_same name_test x.at.condition v (Works off.next))) (ao.holds G dry lv c s u l i d at_i z ch kd cg todo o m x t y).0))
+        (λ b e. at_other name_test x.at.condition v b (Works off.next) (λ f. e (sym f))) (subst (λ b. Holds G.g.program (W_of G lv) (R_of G lv) x.at.forks v b) (sym (at_same name_test x.at.condition v (Works off.next))) (ao.holds G lv c s u l i d at_i z ch kd cg todo o m x t y).0))
         refl (λ e. no_absent (sym waits ∙ sym (at_other name_test x.at.condition v zn (Works off.next) (λ f. apart (sym f))) ∙ e))
         (λ b e. at_other name_test first zn b (Works off2.next) (λ f. e (sym f))) (subst (λ b. Holds G.g.program (W_of G lv) (R_of G lv) x.at.forks zn b) (sym cond_z) holds_z.0)
       where
@@ -220,7 +220,7 @@ module _ (G : Ground) (dry : QuietDeeds G.g) (lv : Lives G) (c : Course) (s : St
       at_far k e f = ap (λ b. cond b (sys.Runs e1) (cond (zi == k) (sys.Runs e2) (u.condition k))) (number_is i k e) ∙ ap (λ b. cond b (sys.Runs e2) (u.condition k)) (number_is zi k f)
 
       its_does : Does_all G lv v c1 t1 (u.births.opens i) (sys.Runs e1)
-      its_does = (off.next, ap (working_in t1.condition v) cond_v, inl do_v, ao.opens_same G dry lv c s u l i d at_i z ch kd cg todo o m x t y, (its G lv c s u l i d at_i).4)
+      its_does = (off.next, ap (working_in t1.condition v) cond_v, inl do_v, ao.opens_same G lv c s u l i d at_i z ch kd cg todo o m x t y, (its G lv c s u l i d at_i).4)
 
       other_does : Does_all G lv zn c1 t1 (u.births.opens zi) (sys.Runs e2)
       other_does = (off2.next, ap (working_in t1.condition zn) cond_z, inl (subst (λ k. Stands G (lv zn) (λ a b. lv ((a, b) ∷ zn)) zn k off2.next t1.store e2) (sym (since_other zn apart)) do_z), opens2, laid2)
@@ -263,6 +263,7 @@ module _ (G : Ground) (dry : QuietDeeds G.g) (lv : Lives G) (c : Course) (s : St
             (number_or G lv c s u l i d at_i zi k))
             (number_or G lv c s u l i d at_i i k);
         unborn = λ k le. at_far k (λ e. let b = here G lv c s u l i d at_i in omega (arith, b, le, e)) (λ e. omega (arith, few, le, e)) ∙ l.unborn k le;
+        unmade = l.unmade;
         numbered = λ b h. ⊎_elim (λ (e : b ≡ v). (i, here G lv c s u l i d at_i, sym e)) (λ (nv : b ≢ v). ⊎_elim (λ (e : b ≡ zn). (zi, few, sym e))
             (λ (nz : b ≢ zn). l.numbered b (λ f. h (cond_r b nv nz ∙ x.elsewhere.condition b nv ∙ f))) (same_or_not name_test b zn)) (same_or_not name_test b v);
       }
@@ -272,7 +273,7 @@ module _ (G : Ground) (dry : QuietDeeds G.g) (lv : Lives G) (c : Course) (s : St
 
       -- once it is known what the machine's turn makes
       entry_by : after plain (run_is G) i (Stopped t.5 (At t.0 t.1 t.2)) u ≡ u1 → happening u.births (event_of G.g.limits u (Stopped t.5 (At t.0 t.1 t.2))) ≡ says_now → IsOpen u.births (event_of G.g.limits u (Stopped t.5 (At t.0 t.1 t.2))) → Entry_of G c s u i d
-      entry_by is told speaks = record { turn = Stopped t.5 (At t.0 t.1 t.2); is = ao.tn_is G dry lv c s u l i d at_i z ch kd cg todo o m x t y; way = way_by _ (sym told); speaks = speaks; lives = lv; linked = λ began. now_by G lv c1 t1 (after plain (run_is G) i (Stopped t.5 (At t.0 t.1 t.2)) u) (subst (λ a. Linked G lv c1 t1 a) (sym is) linked) }
+      entry_by is told speaks = record { turn = Stopped t.5 (At t.0 t.1 t.2); is = ao.tn_is G lv c s u l i d at_i z ch kd cg todo o m x t y; way = way_by _ (sym told); speaks = speaks; lives = lv; linked = λ began. now_by G lv c1 t1 (after plain (run_is G) i (Stopped t.5 (At t.0 t.1 t.2)) u) (subst (λ a. Linked G lv c1 t1 a) (sym is) linked) }
         where
           way_by : (e : Happening) → says_now ≡ e → Way_on G c s v e
           way_by e h = record {
@@ -314,7 +315,7 @@ module _ (G : Ground) (dry : QuietDeeds G.g) (lv : Lives G) (c : Course) (s : St
 
     -- what it gives, at the stop, and where the other takes it
     gives : Ca G (lv v) (λ a b. lv ((a, b) ∷ v)) v z.fresh x.left.who x.good.named (c1s.since v) t.3 ch kd (Gives (Tree value)) t.5
-    gives = subst (λ b. Ca G (lv v) (λ a b. lv ((a, b) ∷ v)) v z.fresh x.left.who x.good.named (c1s.since v) t.3 ch kd b t.5) cg_is (ao.cargo G dry lv c s u l i d at_i z ch kd cg todo o m x t y (c1s.since v) since_s)
+    gives = subst (λ b. Ca G (lv v) (λ a b. lv ((a, b) ∷ v)) v z.fresh x.left.who x.good.named (c1s.since v) t.3 ch kd b t.5) cg_is (ao.cargo G lv c s u l i d at_i z ch kd cg todo o m x t y (c1s.since v) since_s)
 
     takes : Ca G (lv zn) (λ a b. lv ((a, b) ∷ zn)) zn t2.fresh off2.next.who t2.named (c.since zn) t2.js off2.channel off2.kind (Takes a) st2
     takes = subst (λ b. Ca G (lv zn) (λ a b. lv ((a, b) ∷ zn)) zn t2.fresh off2.next.who t2.named (c.since zn) t2.js off2.channel off2.kind b st2) cargo2 ca2
@@ -326,9 +327,9 @@ module _ (G : Ground) (dry : QuietDeeds G.g) (lv : Lives G) (c : Course) (s : St
     flat = subst (λ k. Rattle.sp_codegen.specs.Shapes.Flat G.g.program (Named G) k value (cells_in gives.1)) (eqb-true kd off2.kind same_kind)
         (sent_flat G (lv v) (λ a b. lv ((a, b) ∷ v)) v x.left.who (c1s.since v) kd (sort G.g.program kd) refl value gives.1 gives.4)
 
-    sender : Stands G (lv v) (λ a b. lv ((a, b) ∷ v)) v (c1s.since v) off.next t1s.store (ao.there G dry lv c s u l i d at_i z ch kd cg todo o m x t y)
+    sender : Stands G (lv v) (λ a b. lv ((a, b) ∷ v)) v (c1s.since v) off.next t1s.store (ao.there G lv c s u l i d at_i z ch kd cg todo o m x t y)
     sender = stands_stay G lv x.at (with_message a (Tree value) same_kind msg zn alone_z (inr refl) may_z) known_then.sound rights_then.fair zn alone_z (stays a (Tree value) same_kind msg zn alone_z (inr refl) may_z) v (λ e. apart (sym e)) refl (λ k n. refl)
-        (c1s.since v) off.next (ao.there G dry lv c s u l i d at_i z ch kd cg todo o m x t y) (inl (x.left, x.runs)) (ao.stands G dry lv c s u l i d at_i z ch kd cg todo o m x t y (c1s.since v) since_s)
+        (c1s.since v) off.next (ao.there G lv c s u l i d at_i z ch kd cg todo o m x t y) (inl (x.left, x.runs)) (ao.stands G lv c s u l i d at_i z ch kd cg todo o m x t y (c1s.since v) since_s)
 
     receiver : Stands G (lv zn) (λ a b. lv ((a, b) ∷ zn)) zn (c.since zn) off2.next t1s.store (on_store (put_cells plain takes.1 (cells_in gives.1)) d2)
     receiver = receiver_stands G (lv zn) (λ a b. lv ((a, b) ∷ zn)) zn t2 off2.channel off2.kind a st2 takes value (cells_in gives.1) flat
@@ -353,19 +354,19 @@ module _ (G : Ground) (dry : QuietDeeds G.g) (lv : Lives G) (c : Course) (s : St
         ∙ ap (λ b. if b then None else Some fault.F7) kinds_back
 
     abbrev u1s : System Plain
-    u1s = u1 a (Tree value) same_kind msg zn alone_z (inr refl) may_z (ao.there G dry lv c s u l i d at_i z ch kd cg todo o m x t y) (on_store (put_cells plain takes.1 (cells_in gives.1)) d2) sender receiver
+    u1s = u1 a (Tree value) same_kind msg zn alone_z (inr refl) may_z (ao.there G lv c s u l i d at_i z ch kd cg todo o m x t y) (on_store (put_cells plain takes.1 (cells_in gives.1)) d2) sender receiver
 
     after_is : after plain (run_is G) i tn u ≡ u1s
     after_is = after_quiet G i tn u quiet ∙ ap (λ f. record (unless_fault plain (run_is G) f i tn u) { births = after_event u.births i (event_or f tn) }) no_fault
-        ∙ ap (λ b. record (sys.counted plain (run_is G) (sys.sent plain (run_is G) i (Sends j kd (cells_in gives.1)) j (cells_in gives.1) (ao.there G dry lv c s u l i d at_i z ch kd cg todo o m x t y) b u)) { births = u.births }) pending_is
-        ∙ ap (λ b. record u { condition = at_key ◌==◌ i (sys.Runs (ao.there G dry lv c s u l i d at_i z ch kd cg todo o m x t y)) (at_key ◌==◌ zi (sys.received plain (run_is G) (cells_in gives.1) b) u.condition); pending = at_key ◌==◌ j None u.pending; entries = u.entries + 1 }) at_z
-        ∙ ap (λ b. record u { condition = at_key ◌==◌ i (sys.Runs (ao.there G dry lv c s u l i d at_i z ch kd cg todo o m x t y)) (at_key ◌==◌ zi (sys.received plain (run_is G) (cells_in gives.1) (sys.Waits b d2)) u.condition); pending = at_key ◌==◌ j None u.pending; entries = u.entries + 1 }) takes.2
+        ∙ ap (λ b. record (sys.counted plain (run_is G) (sys.sent plain (run_is G) i (Sends j kd (cells_in gives.1)) j (cells_in gives.1) (ao.there G lv c s u l i d at_i z ch kd cg todo o m x t y) b u)) { births = u.births }) pending_is
+        ∙ ap (λ b. record u { condition = at_key ◌==◌ i (sys.Runs (ao.there G lv c s u l i d at_i z ch kd cg todo o m x t y)) (at_key ◌==◌ zi (sys.received plain (run_is G) (cells_in gives.1) b) u.condition); pending = at_key ◌==◌ j None u.pending; entries = u.entries + 1 }) at_z
+        ∙ ap (λ b. record u { condition = at_key ◌==◌ i (sys.Runs (ao.there G lv c s u l i d at_i z ch kd cg todo o m x t y)) (at_key ◌==◌ zi (sys.received plain (run_is G) (cells_in gives.1) (sys.Waits b d2)) u.condition); pending = at_key ◌==◌ j None u.pending; entries = u.entries + 1 }) takes.2
 
     event_is : event_of G.g.limits u tn ≡ event.Send j
     event_is = ap (λ b. if b then event.Laid else event_or (fault_of G.g.limits u tn) tn) quiet ∙ ap (λ f. event_or f tn) no_fault
 
     pub sending_meets : Entry_of G c s u i d
-    sending_meets = entry_by a (Tree value) same_kind msg zn alone_z (inr refl) may_z (ao.there G dry lv c s u l i d at_i z ch kd cg todo o m x t y) (on_store (put_cells plain takes.1 (cells_in gives.1)) d2) sender receiver
+    sending_meets = entry_by a (Tree value) same_kind msg zn alone_z (inr refl) may_z (ao.there G lv c s u l i d at_i z ch kd cg todo o m x t y) (on_store (put_cells plain takes.1 (cells_in gives.1)) d2) sender receiver
         (ap (λ st. after plain (run_is G) i (Stopped st (At t.0 t.1 t.2)) u) stop_is ∙ after_is)
         (ap (λ st. happening u.births (event_of G.g.limits u (Stopped st (At t.0 t.1 t.2)))) stop_is ∙ ap (λ f. happening u.births f) event_is ∙ ap (λ k. Is_offered way.Send k) name_of ∙ ap (λ b. Is_offered (way_of b) ch) (sym cg_is))
         (subst (λ st. IsOpen u.births (event_of G.g.limits u (Stopped st (At t.0 t.1 t.2)))) (sym stop_is) (subst (λ f. IsOpen u.births f) (sym event_is) is_open))
@@ -380,7 +381,7 @@ module _ (G : Ground) (dry : QuietDeeds G.g) (lv : Lives G) (c : Course) (s : St
     alone_v = inl (x.left, x.runs)
 
     may_v : All (W_of G lv) v a.spot
-    may_v = subst (λ b. Rattle.sp_meaning.specs.Owning.MayTake G.g.program (λ k. All (W_of G lv) v k) (λ k. All (R_of G lv) v k) b) cg_is (ao.holds G dry lv c s u l i d at_i z ch kd cg todo o m x t y).1
+    may_v = subst (λ b. Rattle.sp_meaning.specs.Owning.MayTake G.g.program (λ k. All (W_of G lv) v k) (λ k. All (R_of G lv) v k) b) cg_is (ao.holds G lv c s u l i d at_i z ch kd cg todo o m x t y).1
 
     abbrev t1r : StateOf G.g
     t1r = t1 a (Tree value) same_kind msg_r v alone_v (inl refl) may_v
@@ -392,7 +393,7 @@ module _ (G : Ground) (dry : QuietDeeds G.g) (lv : Lives G) (c : Course) (s : St
     since_r = since_here a (Tree value) same_kind msg_r v alone_v (inl refl) may_v
 
     takes_v : Ca G (lv v) (λ a b. lv ((a, b) ∷ v)) v z.fresh x.left.who x.good.named (c1r.since v) t.3 ch kd (Takes a) t.5
-    takes_v = subst (λ b. Ca G (lv v) (λ a b. lv ((a, b) ∷ v)) v z.fresh x.left.who x.good.named (c1r.since v) t.3 ch kd b t.5) cg_is (ao.cargo G dry lv c s u l i d at_i z ch kd cg todo o m x t y (c1r.since v) since_r)
+    takes_v = subst (λ b. Ca G (lv v) (λ a b. lv ((a, b) ∷ v)) v z.fresh x.left.who x.good.named (c1r.since v) t.3 ch kd b t.5) cg_is (ao.cargo G lv c s u l i d at_i z ch kd cg todo o m x t y (c1r.since v) since_r)
 
     gives_z : Ca G (lv zn) (λ a b. lv ((a, b) ∷ zn)) zn t2.fresh off2.next.who t2.named (c.since zn) t2.js off2.channel off2.kind (Gives (Tree value)) st2
     gives_z = subst (λ b. Ca G (lv zn) (λ a b. lv ((a, b) ∷ zn)) zn t2.fresh off2.next.who t2.named (c.since zn) t2.js off2.channel off2.kind b st2) cargo2 ca2
@@ -405,8 +406,8 @@ module _ (G : Ground) (dry : QuietDeeds G.g) (lv : Lives G) (c : Course) (s : St
     sender_z = stands_stay G lv x.at (with_message a (Tree value) same_kind msg_r v alone_v (inl refl) may_v) known_then.sound rights_then.fair v alone_v (stays a (Tree value) same_kind msg_r v alone_v (inl refl) may_v) zn apart refl (λ k n. refl)
         (c.since zn) off2.next d2 (inr (ch, subst (λ b. WaitsOn ch b) (sym waits) on)) t2
 
-    receiver_v : Stands G (lv v) (λ a b. lv ((a, b) ∷ v)) v (c1r.since v) off.next t1r.store (on_store (put_cells plain takes_v.1 (cells_in gives_z.1)) (ao.there G dry lv c s u l i d at_i z ch kd cg todo o m x t y))
-    receiver_v = receiver_stands G (lv v) (λ a b. lv ((a, b) ∷ v)) v (ao.stands G dry lv c s u l i d at_i z ch kd cg todo o m x t y (c1r.since v) since_r) ch kd a t.5 takes_v value (cells_in gives_z.1) flat_r
+    receiver_v : Stands G (lv v) (λ a b. lv ((a, b) ∷ v)) v (c1r.since v) off.next t1r.store (on_store (put_cells plain takes_v.1 (cells_in gives_z.1)) (ao.there G lv c s u l i d at_i z ch kd cg todo o m x t y))
+    receiver_v = receiver_stands G (lv v) (λ a b. lv ((a, b) ∷ v)) v (ao.stands G lv c s u l i d at_i z ch kd cg todo o m x t y (c1r.since v) since_r) ch kd a t.5 takes_v value (cells_in gives_z.1) flat_r
 
     jj_r : takes_v.0 ≡ j
     jj_r = G.one_channel takes_v.0 j takes_v.3.1 named.1 (takes_v.3.2 ∙ sym named.2)
@@ -426,28 +427,28 @@ module _ (G : Ground) (dry : QuietDeeds G.g) (lv : Lives G) (c : Course) (s : St
         ∙ ap (λ b. if b then None else Some fault.F7) kinds_back_r
 
     abbrev u1r : System Plain
-    u1r = u1 a (Tree value) same_kind msg_r v alone_v (inl refl) may_v (on_store (put_cells plain takes_v.1 (cells_in gives_z.1)) (ao.there G dry lv c s u l i d at_i z ch kd cg todo o m x t y)) d2 receiver_v sender_z
+    u1r = u1 a (Tree value) same_kind msg_r v alone_v (inl refl) may_v (on_store (put_cells plain takes_v.1 (cells_in gives_z.1)) (ao.there G lv c s u l i d at_i z ch kd cg todo o m x t y)) d2 receiver_v sender_z
 
     after_is_r : after plain (run_is G) i tr u ≡ u1r
     after_is_r = after_quiet G i tr u quiet ∙ ap (λ f. record (unless_fault plain (run_is G) f i tr u) { births = after_event u.births i (event_or f tr) }) no_fault_r
-        ∙ ap (λ b. record (sys.counted plain (run_is G) (sys.taken plain (run_is G) i (Receives j kd takes_v.1) j takes_v.1 (ao.there G dry lv c s u l i d at_i z ch kd cg todo o m x t y) b u)) { births = u.births }) pending_is
-        ∙ ap (λ b. record u { condition = at_key ◌==◌ i (sys.Runs (on_store (put_cells plain takes_v.1 (sys.message_of plain (run_is G) (sys.stop_of {S = Plain} b))) (ao.there G dry lv c s u l i d at_i z ch kd cg todo o m x t y))) (at_key ◌==◌ zi (sys.received plain (run_is G) [] b) u.condition); pending = at_key ◌==◌ j None u.pending; entries = u.entries + 1 }) at_z
-        ∙ ap (λ b. record u { condition = at_key ◌==◌ i (sys.Runs (on_store (put_cells plain takes_v.1 (sys.message_of plain (run_is G) (Some b))) (ao.there G dry lv c s u l i d at_i z ch kd cg todo o m x t y))) (at_key ◌==◌ zi (sys.received plain (run_is G) [] (sys.Waits b d2)) u.condition); pending = at_key ◌==◌ j None u.pending; entries = u.entries + 1 }) gives_z.2
+        ∙ ap (λ b. record (sys.counted plain (run_is G) (sys.taken plain (run_is G) i (Receives j kd takes_v.1) j takes_v.1 (ao.there G lv c s u l i d at_i z ch kd cg todo o m x t y) b u)) { births = u.births }) pending_is
+        ∙ ap (λ b. record u { condition = at_key ◌==◌ i (sys.Runs (on_store (put_cells plain takes_v.1 (sys.message_of plain (run_is G) (sys.stop_of {S = Plain} b))) (ao.there G lv c s u l i d at_i z ch kd cg todo o m x t y))) (at_key ◌==◌ zi (sys.received plain (run_is G) [] b) u.condition); pending = at_key ◌==◌ j None u.pending; entries = u.entries + 1 }) at_z
+        ∙ ap (λ b. record u { condition = at_key ◌==◌ i (sys.Runs (on_store (put_cells plain takes_v.1 (sys.message_of plain (run_is G) (Some b))) (ao.there G lv c s u l i d at_i z ch kd cg todo o m x t y))) (at_key ◌==◌ zi (sys.received plain (run_is G) [] (sys.Waits b d2)) u.condition); pending = at_key ◌==◌ j None u.pending; entries = u.entries + 1 }) gives_z.2
 
     event_is_r : event_of G.g.limits u tr ≡ event.Receive j
     event_is_r = ap (λ b. if b then event.Laid else event_or (fault_of G.g.limits u tr) tr) quiet ∙ ap (λ f. event_or f tr) no_fault_r
 
     pub receiving_meets : Entry_of G c s u i d
-    receiving_meets = entry_by a (Tree value) same_kind msg_r v alone_v (inl refl) may_v (on_store (put_cells plain takes_v.1 (cells_in gives_z.1)) (ao.there G dry lv c s u l i d at_i z ch kd cg todo o m x t y)) d2 receiver_v sender_z
+    receiving_meets = entry_by a (Tree value) same_kind msg_r v alone_v (inl refl) may_v (on_store (put_cells plain takes_v.1 (cells_in gives_z.1)) (ao.there G lv c s u l i d at_i z ch kd cg todo o m x t y)) d2 receiver_v sender_z
         (ap (λ st. after plain (run_is G) i (Stopped st (At t.0 t.1 t.2)) u) stop_is_r ∙ after_is_r)
         (ap (λ st. happening u.births (event_of G.g.limits u (Stopped st (At t.0 t.1 t.2)))) stop_is_r ∙ ap (λ f. happening u.births f) event_is_r ∙ ap (λ k. Is_offered way.Receive k) name_of ∙ ap (λ b. Is_offered (way_of b) ch) (sym cg_is))
         (subst (λ st. IsOpen u.births (event_of G.g.limits u (Stopped st (At t.0 t.1 t.2)))) (sym stop_is_r) (subst (λ f. IsOpen u.births f) (sym event_is_r) is_open))
 
   -- ---- the two do not go together
 
-  module _ (still : QuietFaults G.g) (f : Fault) (faults : outcome {L = superpascal G.g} (most G.g) x.at v (Offering off) ≡ Faulty f) (fault_is : fault_of G.g.limits u (Stopped t.5 (At t.0 t.1 t.2)) ≡ Some f) where
+  module _ (f : Fault) (faults : outcome {L = superpascal G.g} (most G.g) x.at v (Offering off) ≡ Faulty f) (fault_is : fault_of G.g.limits u (Stopped t.5 (At t.0 t.1 t.2)) ≡ Some f) where
     clash_entry : Entry_of G c s u i d
-    clash_entry = failed_entry G lv c s u l i d at_i (offered_halt G lv c s u l i d at_i dry still z ch kd cg todo o m x t) refl f
+    clash_entry = failed_entry G lv c s u l i d at_i (offered_halt G lv c s u l i d at_i z ch kd cg todo o m x t) refl f
         (kernel_says G.g v x.at x.left x.runs r x.does ∙ ap (λ b. said_of {L = superpascal G.g} (Offering off) b) faults)
         (kernel_next G.g v x.at x.left x.runs r x.does ∙ ap (λ b. Some (result_of {L = superpascal G.g} x.at v b)) faults) fault_is quiet
 
@@ -465,42 +466,41 @@ module _ (G : Ground) (dry : QuietDeeds G.g) (lv : Lives G) (c : Course) (s : St
 
   -- ---- the entry, by the two cargos
 
-  module _ (still : QuietFaults G.g) where
-    abbrev Mine : Cargo Held Address → Type 0
-    Mine g1 = Ca G (lv v) (λ a b. lv ((a, b) ∷ v)) v z.fresh (p1 G lv c s u l i d at_i).who z.named (c.since v) t.3 ch kd g1 t.5
+  abbrev Mine : Cargo Held Address → Type 0
+  Mine g1 = Ca G (lv v) (λ a b. lv ((a, b) ∷ v)) v z.fresh (p1 G lv c s u l i d at_i).who z.named (c.since v) t.3 ch kd g1 t.5
 
-    abbrev Other : Cargo Held Address → Type 0
-    Other g2 = Ca G (lv zn) (λ a b. lv ((a, b) ∷ zn)) zn t2.fresh off2.next.who t2.named (c.since zn) t2.js off2.channel off2.kind g2 st2
+  abbrev Other : Cargo Held Address → Type 0
+  Other g2 = Ca G (lv zn) (λ a b. lv ((a, b) ∷ zn)) zn t2.fresh off2.next.who t2.named (c.since zn) t2.js off2.channel off2.kind g2 st2
 
-    other_kind : (b : Bool) → kd == off2.kind ≡ b → off2.kind == kd ≡ b
-    other_kind true e = eq-eqb off2.kind kd (sym (eqb-true kd off2.kind e))
-    other_kind false e = number_is off2.kind kd (λ f. let g : true ≡ false = sym (eq-eqb kd off2.kind (sym f)) ∙ e in absurd (cc g))
+  other_kind : (b : Bool) → kd == off2.kind ≡ b → off2.kind == kd ≡ b
+  other_kind true e = eq-eqb off2.kind kd (sym (eqb-true kd off2.kind e))
+  other_kind false e = number_is off2.kind kd (λ f. let g : true ≡ false = sym (eq-eqb kd off2.kind (sym f)) ∙ e in absurd (cc g))
 
-    send_take : (value : Value) (a : Address) → cg ≡ Gives (Tree value) → off2.cargo ≡ Takes a → Mine (Gives (Tree value)) → Other (Takes a) → (b : Bool) → kd == off2.kind ≡ b → Entry_of G c s u i d
-    send_take value a e f h k true q = sending_meets value e a f q
-    send_take value a e f h k false q = clash_entry still fault.F7
-        (outcome_is (Some (a, Tree value)) (ap (λ b. message b off2.cargo) e ∙ ap (λ b. message (Gives (Tree value)) b) f) ∙ ap (λ b. if b then Does (meeting {L = superpascal G.g} x.at v off zn off2 (a, Tree value)) else Faulty fault.F7) q)
-        (sends_found (cells_in h.1) h.0 h.3 h.2 ∙ ap (λ b. sys.clash_by way.Send kd (Some b)) k.2 ∙ ap (λ b. if b then None else Some fault.F7) (other_kind false q))
+  send_take : (value : Value) (a : Address) → cg ≡ Gives (Tree value) → off2.cargo ≡ Takes a → Mine (Gives (Tree value)) → Other (Takes a) → (b : Bool) → kd == off2.kind ≡ b → Entry_of G c s u i d
+  send_take value a e f h k true q = sending_meets value e a f q
+  send_take value a e f h k false q = clash_entry fault.F7
+      (outcome_is (Some (a, Tree value)) (ap (λ b. message b off2.cargo) e ∙ ap (λ b. message (Gives (Tree value)) b) f) ∙ ap (λ b. if b then Does (meeting {L = superpascal G.g} x.at v off zn off2 (a, Tree value)) else Faulty fault.F7) q)
+      (sends_found (cells_in h.1) h.0 h.3 h.2 ∙ ap (λ b. sys.clash_by way.Send kd (Some b)) k.2 ∙ ap (λ b. if b then None else Some fault.F7) (other_kind false q))
 
-    take_send : (value : Value) (a : Address) → cg ≡ Takes a → off2.cargo ≡ Gives (Tree value) → Mine (Takes a) → Other (Gives (Tree value)) → (b : Bool) → kd == off2.kind ≡ b → Entry_of G c s u i d
-    take_send value a e f h k true q = receiving_meets value a e f q
-    take_send value a e f h k false q = clash_entry still fault.F7
-        (outcome_is (Some (a, Tree value)) (ap (λ b. message b off2.cargo) e ∙ ap (λ b. message (Takes a) b) f) ∙ ap (λ b. if b then Does (meeting {L = superpascal G.g} x.at v off zn off2 (a, Tree value)) else Faulty fault.F7) q)
-        (takes_found h.1 h.0 h.3 h.2 ∙ ap (λ b. sys.clash_by way.Receive kd (Some b)) k.2 ∙ ap (λ b. if b then None else Some fault.F7) (other_kind false q))
+  take_send : (value : Value) (a : Address) → cg ≡ Takes a → off2.cargo ≡ Gives (Tree value) → Mine (Takes a) → Other (Gives (Tree value)) → (b : Bool) → kd == off2.kind ≡ b → Entry_of G c s u i d
+  take_send value a e f h k true q = receiving_meets value a e f q
+  take_send value a e f h k false q = clash_entry fault.F7
+      (outcome_is (Some (a, Tree value)) (ap (λ b. message b off2.cargo) e ∙ ap (λ b. message (Takes a) b) f) ∙ ap (λ b. if b then Does (meeting {L = superpascal G.g} x.at v off zn off2 (a, Tree value)) else Faulty fault.F7) q)
+      (takes_found h.1 h.0 h.3 h.2 ∙ ap (λ b. sys.clash_by way.Receive kd (Some b)) k.2 ∙ ap (λ b. if b then None else Some fault.F7) (other_kind false q))
 
-    both : (g1 g2 : Cargo Held Address) → cg ≡ g1 → off2.cargo ≡ g2 → Mine g1 → Other g2 → Entry_of G c s u i d
-    both (Gives (Tree value)) (Takes a) e f h k = send_take value a e f h k (kd == off2.kind) refl
-    both (Takes a) (Gives (Tree value)) e f h k = take_send value a e f h k (kd == off2.kind) refl
-    both (Gives (Tree value)) (Gives (Tree other)) e f h k = clash_entry still fault.F6
-        (outcome_is None (ap (λ b. message b off2.cargo) e ∙ ap (λ b. message (Gives (Tree value)) b) f)) (sends_found (cells_in h.1) h.0 h.3 h.2 ∙ ap (λ b. sys.clash_by way.Send kd (Some b)) k.2)
-    both (Takes a) (Takes b) e f h k = clash_entry still fault.F6
-        (outcome_is None (ap (λ b. message b off2.cargo) e ∙ ap (λ b. message (Takes a) b) f)) (takes_found h.1 h.0 h.3 h.2 ∙ ap (λ b. sys.clash_by way.Receive kd (Some b)) k.2)
-    both (Gives (Position n)) g2 e f h k = absurd h
-    both (Gives (Written bs)) g2 e f h k = absurd h
-    both (Gives (Tree value)) (Gives (Position n)) e f h k = absurd k
-    both (Gives (Tree value)) (Gives (Written bs)) e f h k = absurd k
-    both (Takes a) (Gives (Position n)) e f h k = absurd k
-    both (Takes a) (Gives (Written bs)) e f h k = absurd k
+  both : (g1 g2 : Cargo Held Address) → cg ≡ g1 → off2.cargo ≡ g2 → Mine g1 → Other g2 → Entry_of G c s u i d
+  both (Gives (Tree value)) (Takes a) e f h k = send_take value a e f h k (kd == off2.kind) refl
+  both (Takes a) (Gives (Tree value)) e f h k = take_send value a e f h k (kd == off2.kind) refl
+  both (Gives (Tree value)) (Gives (Tree other)) e f h k = clash_entry fault.F6
+      (outcome_is None (ap (λ b. message b off2.cargo) e ∙ ap (λ b. message (Gives (Tree value)) b) f)) (sends_found (cells_in h.1) h.0 h.3 h.2 ∙ ap (λ b. sys.clash_by way.Send kd (Some b)) k.2)
+  both (Takes a) (Takes b) e f h k = clash_entry fault.F6
+      (outcome_is None (ap (λ b. message b off2.cargo) e ∙ ap (λ b. message (Takes a) b) f)) (takes_found h.1 h.0 h.3 h.2 ∙ ap (λ b. sys.clash_by way.Receive kd (Some b)) k.2)
+  both (Gives (Position n)) g2 e f h k = absurd h
+  both (Gives (Written bs)) g2 e f h k = absurd h
+  both (Gives (Tree value)) (Gives (Position n)) e f h k = absurd k
+  both (Gives (Tree value)) (Gives (Written bs)) e f h k = absurd k
+  both (Takes a) (Gives (Position n)) e f h k = absurd k
+  both (Takes a) (Gives (Written bs)) e f h k = absurd k
 
-    pub meeting_entry : Entry_of G c s u i d
-    meeting_entry = both cg off2.cargo refl refl t.9 ca2
+  pub meeting_entry : Entry_of G c s u i d
+  meeting_entry = both cg off2.cargo refl refl t.9 ca2

@@ -37,14 +37,15 @@ use Rattle.sp_code.specs.PlainStore.{plain}
 use Rattle.sp_code.specs.System.{System, after, event_of, entered_now, rejoined, reported, becomes}
 use Rattle.sp_code.specs.System as sys
 use Rattle.sp_link.proofs.Journal.{Way_on, IsOpen, now_by}
-use Rattle.sp_link.proofs.KernelSteps.{kernel_next, kernel_says, QuietDeeds, IsDead, stand_dead}
+use Rattle.sp_link.proofs.KernelSteps.{kernel_next, kernel_says, stand_dead}
 use Rattle.sp_link.proofs.OneChanges.{its, here, number_or, inv_local}
 use Rattle.sp_link.proofs.Pauses.{Entry_of, Meant, Machined, Kept_to, kids, turn_is, after_quiet}
 use Rattle.sp_link.proofs.Relation.{Ground, Life, Lives, W_of, R_of, St, Stands, Joined, Does_all, Told, Ca, IsPending, Linked, Began, run_is, ops, left_of}
 use Rattle.sp_link.proofs.OthersStay.{does_stay}
-use Rattle.sp_link.proofs.AtStop.{w, p1, kt, alone_at, known_at, rights_at, ended_at, other_name, does_at}
+use Rattle.sp_meaning.proofs.QuietDeeds.{IsDead}
+use Rattle.sp_link.proofs.AtStop.{same_but_dead, w, p1, kt, alone_at, known_at, rights_at, ended_at, other_name, does_at}
 
-module _ (G : Ground) (dry : QuietDeeds G.g) (lv : Lives G) (c : Course) (s : StateOf G.g) (u : System Plain) (l : Linked G lv c s u) (i : ℕ) (d : Config (Memory Plain)) (at_i : u.condition i ≡ sys.Runs d)
+module _ (G : Ground) (lv : Lives G) (c : Course) (s : StateOf G.g) (u : System Plain) (l : Linked G lv c s u) (i : ℕ) (d : Config (Memory Plain)) (at_i : u.condition i ≡ sys.Runs d)
     (z : Stands G (lv (w G lv c s u l i d at_i)) (kids G lv c s u l i d at_i) (w G lv c s u l i d at_i) (c.since (w G lv c s u l i d at_i)) (p1 G lv c s u l i d at_i) s.store d)
     (ch : Channel) (kd : ℕ) (cg : Cargo Held Address) (todo : List Item) (o : Own) (m : Store) (x : Meant G lv c s u l i d at_i z (Got (source.Stops (Offered ch kd cg todo)) o, m)) (t : Machined G lv c s u l i d at_i z (Got (source.Stops (Offered ch kd cg todo)) o, m))
     (y : Kept_to G lv c s u l i d at_i z (Got (source.Stops (Offered ch kd cg todo)) o, m)) (quiet : u.faulted ≡ false) (alone_there : s.pending ch ≡ None) (enough : nat_lt G.g.limits.entries (u.entries + 1) ≡ false) where
@@ -147,7 +148,7 @@ module _ (G : Ground) (dry : QuietDeeds G.g) (lv : Lives G) (c : Course) (s : St
     memory = n1;
     is = refl;
     stand = stand_again G (lv v) (λ a b. lv ((a, b) ∷ v)) v {w = (p1 G lv c s u l i d at_i).who} {w1 = x.left.who} {since = c.since v} {since1 = c1.since v} (ap (λ (a : Rattle.sp_meaning.specs.Own.Who). a.name) x.who_is) since_here
-        (stand_dead G (lv v) (λ a b. lv ((a, b) ∷ v)) v t.8 x.at.store (λ a. subst (λ b. (x.at.store a ≡ m a) ⊎ IsDead b a) (ap (λ b. length b) (t.8).frames ∙ Rattle.sp_codegen.proofs.Joints.sources_length t.3) (dry x.left x.at.store (Offered ch kd cg todo) o m tt x.does a)));
+        (stand_dead G (lv v) (λ a b. lv ((a, b) ∷ v)) v t.8 x.at.store (λ a. subst (λ b. (x.at.store a ≡ m a) ⊎ IsDead b a) (ap (λ b. length b) (t.8).frames ∙ Rattle.sp_codegen.proofs.Joints.sources_length t.3) (same_but_dead G lv c s u l i d at_i z (Offered ch kd cg todo) o m x tt a)));
     follows = follows_again G (lv v) (λ a b. lv ((a, b) ∷ v)) v z.fresh z.fresh (p1 G lv c s u l i d at_i).who x.left.who z.named name_is (c.since v) (c1.since v) t.0 t.1 t.3 todo t.10;
   }
 
@@ -221,6 +222,7 @@ module _ (G : Ground) (dry : QuietDeeds G.g) (lv : Lives G) (c : Course) (s : St
           (λ (e : i ≢ a). subst (λ b. Does_all G lv (G.births.name a) c1 t1 (u.births.opens a) b) (sym (at_other_number a e)) (does_other a lt e))
           (number_or G lv c s u l i d at_i i a);
       unborn = λ a le. at_other_number a (λ e. let b = here G lv c s u l i d at_i in omega (arith, b, le, e)) ∙ l.unborn a le;
+      unmade = l.unmade;
       numbered = λ a h. ⊎_elim (λ (e : a ≡ v). (i, here G lv c s u l i d at_i, sym e)) (λ (e : a ≢ v). l.numbered a (λ f. h (same a e ∙ x.elsewhere.condition a e ∙ f))) (same_or_not name_test a v);
     }
       where

@@ -150,5 +150,6 @@ module _ (G : Ground) (lv : Lives G) (c : Course) (s : StateOf G.g) (u : System 
       unlaid = unlaid;
       does = all_do;
       unborn = λ j le. at_other j (λ e. let a = here in omega (arith, a, le, e)) ∙ l.unborn j le;
+      unmade = l.unmade;
       numbered = λ r h. ⊎_elim (λ (e : r ≡ q). (i, here, sym e)) (λ (e : r ≢ q). l.numbered r (λ a. h (other r e ∙ a))) (same_or_not name_test r q);
     }

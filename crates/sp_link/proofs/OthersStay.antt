@@ -158,7 +158,7 @@ module _ (G : Ground) (lv : Lives G) (s t : StateOf G.g) (sound : Sound s) (fair
         (h.0, h.1, h.2, same ∙ h.3, subst (λ y. Joined G (lv r) kids r y h.0 h.1 left h.2 t d) (sym si) (joined_stay (c.since r) h.0 h.1 left h.2 d h.3 h.4), h.5, la ∙ h.6)
     does_stay c c1 si la fa opens (sys.Laid d) h =
         (la ∙ h.0, fa h.1, (h.2.0, working_same h.2.0 h.2.1), told_stay d (unread (inl h.2) Output) h.3)
-    does_stay c c1 si la fa opens sys.Gone h = same ∙ h
+    does_stay c c1 si la fa opens sys.Gone h = (same ∙ h.0, h.1)
     does_stay c c1 si la fa opens (sys.Over d) h = absurd (subst (λ y. IsLive y) h.0 (subst (λ y. IsLive (s.condition y)) (sym h.1) root_lives))
       where
         root_lives : IsLive (s.condition [])

@@ -140,8 +140,8 @@ module _ (G : Ground) (lv : Lives G) (P : Name) (since k n left i : ℕ) (pr : P
     joining_now : Jo G (lv P) kids P pr.who since (λ a. Away_yet G (lv P) kids P at k n a × NotIn a nc.store.moved) z.js pr.own at.store z.memory (joined z.held nc.store)
     joining_now = joined_joining G.g G.code pr.who (Named G) (Called G) (λ l. Mine P l ⊎ (lv P).W l) (λ l. Mine P l ⊎ (lv P).R l) (lv P).J (lv P).low (length (lv P).below) (lv P).born since G.pause (lv P).moved z.joining
         w (λ l. Mine child_name l ⊎ (lv child_name).W l) (λ l. Mine child_name l ⊎ (lv child_name).R l) (lv child_name).J (lv child_name).low (length (lv child_name).below) (lv child_name).born since_c G.pause (lv child_name).moved child
-        (λ r h x l m a. hd.live r h x l m (in_moved _ a)) (λ h jh j rest e. subst (λ y. NotIn (spot_at j.machine.number 0) y) (sym mo) (hd.no_index h jh j rest e))
-        (λ a. inr (hd.input (in_moved _ a))) (λ a. inr (hd.output (in_moved _ a))) kept_now (λ a h. hd.old a (in_moved a h))
+        (λ r h x l m a. hd.live r h x l m (in_moved _ a)) (λ h jh j rest x v e i. subst (λ y. NotIn (spot_at j.machine.number 0) y) (sym mo) (hd.no_index h jh j rest x v e i))
+        (λ r a. inr (hd.input r (in_moved _ a))) (λ r a. inr (hd.output r (in_moved _ a))) kept_now (λ a h. hd.old a (in_moved a h))
 
     pub joining_after : Jo G (lv P) kids P pr.who since (Away_yet G (lv P) kids P t1 k n) z.js pr.own t1.store z.memory (joined z.held nc.store)
     joining_after = joining_more G (lv P) kids P (λ a h. by a h.0.0 h.0.1 h.0.2 h.1 (h.0.0 == i) refl) joining_now

@@ -3,7 +3,7 @@
 -- names, totals, pending offers, faults, and every process. Names and numbers are those of the whole journal, so that nothing in the
 -- relation has to grow when a process is born; of channels only those are named that are open so far.
 use Rattle.std.proofs.Common.{◌≡◌, ◌⊎◌, ℕ, zero, suc, ◌+◌, ◌<◌, ◌≤◌, ◌==◌, List, [], ◌∷◌, length, Option, Some, None, Bool, true, false, if◌then◌else◌, eqb-true, eq-eqb, sym, arith, refl, ap, ◌∙◌, inl}
-use Rattle.std.specs.Prelude.{◌≢◌, IsSome, slice_get}
+use Rattle.std.specs.Prelude.{◌≢◌, ℤ, IsSome, slice_get}
 use Rattle.std.specs.FinMap as fin
 use Rattle.sp_base.specs.declared.fault.Fault.TheVariants as fault
 use Rattle.sp_tree.specs.Plain.{Program, Stmt}
@@ -15,7 +15,7 @@ use Rattle.sp_cell.specs.Map.{Map, Plain, with_map, output_spot, output_of}
 use Rattle.sp_cell.specs.Spots.{In, NotIn}
 use Rattle.sp_meaning.specs.Model.{Name, Channel, same_channel, Cargo, Offer, Condition, Absent, Waits, Joins, Ended}
 use Rattle.sp_meaning.specs.Steps.{working_in, has_ended}
-use Rattle.sp_meaning.specs.Own.{Setting, Loc, Cell, Input, Output, Held, Written, Address, Own, Who, Item, Break, Process}
+use Rattle.sp_meaning.specs.Own.{Setting, Loc, Cell, Input, Output, OfIndex, Held, Written, Address, Own, Who, Item, Break, Process}
 use Rattle.sp_meaning.specs.Run.{Store}
 use Rattle.sp_meaning.specs.SuperPascal.{root}
 use Rattle.sp_meaning.specs.Runs.{StateOf}
@@ -23,6 +23,7 @@ use Rattle.sp_meaning.specs.Along.{Course}
 use Rattle.sp_meaning.proofs.Rights.{Mine}
 use Rattle.sp_meaning.proofs.Keys.{channel_test}
 use Rattle.sp_meaning.proofs.Owned.{Inv}
+use Rattle.sp_meaning.proofs.Pure.{AreFunctionsPure, DoFunctionsTakeValues}
 use Rattle.sp_meaning.proofs.Reached.{Known}
 use Rattle.sp_code.specs.declared.code.Layout.{Layout}
 use Rattle.sp_code.specs.declared.code.Parts.{Parts as Code}
@@ -63,6 +64,9 @@ pub record Ground : Type 1 where
   pub formed : IsFormed g.program
   pub laid : Laid g.program code.layouts
   pub free : IsFreeOfInterference g.program
+  -- functions change nothing outside themselves, and take values alone
+  pub pure : AreFunctionsPure g.program
+  pub values : DoFunctionsTakeValues g.program
   pub finds : (f : ℕ) (l : Layout) → slice_get code.layouts f ≡ Some l → layout_of code.layouts f ≡ Some l
   pub blocks : BlocksAt g.program moves shares code hush
   pub sets : SetsAre g.program moves shares
@@ -174,6 +178,7 @@ module _ (G : Ground) where
         reads_written = f.reads;
         free = G.free;
         own_written = λ n x. inl named;
+        uses_formed = G.formed.uses;
         layouts_found = G.finds;
       }
 
@@ -203,9 +208,9 @@ module _ (G : Ground) where
       pub live : (r : Name) (h x : ℕ) → (l : Live p js r h x) → Reads (Cell r h x) → In (spot_at l.joint.machine.number (slot p x)) v.moved
           → (Mine z (Cell r h x) ⊎ v.R (Cell r h x)) × ((k : Live p v.below r h x) × (k.joint ≡ l.joint) × (k.info ≡ l.info))
       pub aims : (r : Name) (h x : ℕ) → (l : Live p js r h x) → v.W (Cell r h x) → In (spot_at l.joint.machine.number (slot p x)) v.moved
-      pub no_index : (h : ℕ) → lf.J h → (j : Joint) (rest : List Joint) → from (suc h) js ≡ j ∷ rest → NotIn (spot_at j.machine.number 0) v.moved
-      pub input : In position_at.spot v.moved → (v.R Input)
-      pub output : In output_spot v.moved → (v.R Output)
+      pub no_index : (h : ℕ) → lf.J h → (j : Joint) (rest : List Joint) (x : ℕ) (i : ℤ) → from (suc h) js ≡ j ∷ rest → j.source.home ≡ OfIndex x i → NotIn (spot_at j.machine.number 0) v.moved
+      pub input : Reads Input → In position_at.spot v.moved → v.R Input
+      pub output : Reads Output → In output_spot v.moved → v.R Output
       pub input_aims : v.W Input → In position_at.spot v.moved
       pub output_aims : v.W Output → In output_spot v.moved
       pub old : (a : Spot) → In a v.moved → IsSome (fin.get n.store.map a)
@@ -257,7 +262,7 @@ module _ (G : Ground) where
     Does c s opens (sys.Waits z d) = (o : Offer Process Held Address) × (s.condition q ≡ Waits o) × (t : Stands (c.since q) o.next s.store d) × Ca t.fresh o.next.who t.named (c.since q) t.js o.channel o.kind o.cargo z × (o.next.who.opens ≡ opens) × (c.laid q ≡ false)
     Does c s opens (sys.Joins left d) = (k n : ℕ) × (pr : Process) × (s.condition q ≡ Joins k n pr) × Joined (c.since q) k n left pr s d × (pr.who.opens ≡ opens) × (c.laid q ≡ false)
     Does c s opens (sys.Laid d) = (c.laid q ≡ true) × (c.faulted ≡ true) × ((pr : Process) × (working_in s.condition q (s.condition q) ≡ Some pr)) × Told s.store d
-    Does c s opens sys.Gone = s.condition q ≡ Ended
+    Does c s opens sys.Gone = (s.condition q ≡ Ended) × (q ≢ [])
     Does c s opens (sys.Over d) = (s.condition q ≡ Ended) × (q ≡ []) × Told s.store d
 
   -- the lives of all
@@ -299,5 +304,7 @@ module _ (G : Ground) where
     pub unlaid : u.faulted ≡ false → (q : Name) → c.laid q ≡ false
     pub does : (i : ℕ) → i < u.births.processes → Does_all lv (G.births.name i) c s (u.births.opens i) (u.condition i)
     pub unborn : (i : ℕ) → u.births.processes ≤ i → u.condition i ≡ sys.Absent
+    -- who is not there yet has made no fork and no open
+    pub unmade : (i : ℕ) → u.births.processes ≤ i → (u.births.forks i ≡ 0) × (u.births.opens i ≡ 0)
     -- who is anything in the meaning has a number
     pub numbered : (q : Name) → s.condition q ≢ Absent → (i : ℕ) × (i < u.births.processes) × (G.births.name i ≡ q)

@@ -21,7 +21,6 @@ use Rattle.sp_code.specs.System.{System, Leads}
 use Rattle.sp_code.specs.System as sys
 use Rattle.sp_link.proofs.Entries.{Events, entry}
 use Rattle.sp_link.proofs.Journal.{Now, IsOpen, AllBegan}
-use Rattle.sp_link.proofs.KernelSteps.{QuietDeeds, QuietFaults}
 use Rattle.sp_link.proofs.OneState.{Same, turn_one, some_is, none_some}
 use Rattle.sp_link.proofs.Relation.{Ground, Life, Lives, Linked, Began, at_open, Does_all, run_is, left_of}
 
@@ -195,10 +194,10 @@ module _ (G : Ground) where
       go (sys.Waits y d) h z = absurd (none_some own (idle (Waits z.0) z.1))
       go (sys.Joins left d) h z = absurd (joined left z.0 z.1 z.2 d z.3 z.4)
       go (sys.Laid d) h z = absurd (let a : true ≡ false = sym z.0 ∙ la in cc a)
-      go sys.Gone h z = absurd (none_some own (idle Ended z))
+      go sys.Gone h z = absurd (none_some own (idle Ended z.0))
       go (sys.Over d) h z = absurd (none_some own (idle Ended z.0))
 
-module _ (G : Ground) (dry : QuietDeeds G.g) (still : QuietFaults G.g) (events : (n : ℕ) → Events (at_open G n)) where
+module _ (G : Ground) (events : (n : ℕ) → Events (at_open G n)) where
   turn_runs : (s m : StateOf G.g) (q : Name) (since n : ℕ) (p : Bool) → Turn G.g G.pause since q n s m p → (own : Process) × (running G.g s q ≡ Some own)
   turn_runs s m q since zero p h = (h.2, h.3)
   turn_runs s m q since (suc n) p h = (h.0, h.1)
@@ -235,7 +234,7 @@ module _ (G : Ground) (dry : QuietDeeds G.g) (still : QuietFaults G.g) (events :
       at = runs_there (at_open G u.births.channels) lv c s u l e.process lt own.0 own.1 unlaid
 
       en : Rattle.sp_link.proofs.Pauses.Entry_of (at_open G u.births.channels) c s u e.process at.0
-      en = entry (at_open G u.births.channels) dry still (events u.births.channels) lv c s u l e.process at.0 at.1
+      en = entry (at_open G u.births.channels) (events u.births.channels) lv c s u l e.process at.0 at.1
 
       f : Event
       f = sys.event_of G.g.limits u en.turn

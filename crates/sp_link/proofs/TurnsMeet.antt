@@ -14,6 +14,9 @@ use Rattle.sp_meaning.specs.Along.{Turn, Either, due, ticks_in}
 use Rattle.sp_meaning.specs.Turn as source
 use Rattle.sp_meaning.proofs.Deeding.{deed_from}
 use Rattle.sp_meaning.proofs.EnoughSteps.{AllFit}
+use Rattle.sp_meaning.proofs.Pure.{PureItems, AreBlocksPure}
+use Rattle.sp_meaning.proofs.QuietDeeds.{pure_kept}
+use Rattle.sp_codegen.proofs.PureCode.{blocks_pure, follows_pure}
 use Rattle.sp_meaning.proofs.Owned.{Result, result_within}
 use Rattle.sp_meaning.proofs.Reached.{Known, step_well, raised, lowered}
 use Rattle.sp_meaning.proofs.Rights.{Mine}
@@ -43,6 +46,10 @@ turn_known g turn since q (suc n) s t paused k h = by (due g turn since s h.0 q 
     by true x go = subst (Known g) (sym x.1) after
     by false x go = go x
 
+-- all expressions of the program are pure
+pub pure_blocks : (G : Ground) → AreBlocksPure G.g.program
+pure_blocks G = blocks_pure G.g.program G.values G.moves G.shares G.code G.hush G.blocks
+
 module _ (G : Ground) (lf : Life) (kids : ℕ → ℕ → Life) (q : Name) (since : ℕ) where
   abbrev pub Wr : Loc → Type 0
   Wr l = Mine q l ⊎ lf.W l
@@ -61,6 +68,7 @@ module _ (G : Ground) (lf : Life) (kids : ℕ → ℕ → Life) (q : Name) (sinc
     pub named : pr.who.name ≡ q
     pub fit : Fit G.g.program Wr Rd last pr.own.frames pr.todo
     pub stays : (l : Loc) → (s l ≡ s0 l) ⊎ Wr l
+    pub pure : PureItems G.g.program pr.todo
 
   module _ (s : StateOf G.g) (pr : Process) (d : Config (Memory Plain)) (z : Stands G lf kids q since pr s.store d) (runs : running G.g s q ≡ Some pr) (light : AllFit (weight_of G.g.program) pr.todo)
       (last : List Frame) (fit : Fit G.g.program Wr Rd last pr.own.frames pr.todo) where
@@ -68,7 +76,12 @@ module _ (G : Ground) (lf : Life) (kids : ℕ → ℕ → Life) (q : Name) (sinc
     Keeps_it p1 s1 = Keeps_right s.store last p1 s1
 
     pub keeps : (p1 : Process) (s1 : Store) → Keeps_it p1 s1 → (todo : List Item) (o : Own) (m : Store) (e : Deed) → ◌≡◌ {A = Came Deed × Store} (answer same_loc (deed_of G.g p1) s1) (Got e o, m) → (e ≡ Went todo) ⊎ (e ≡ Beat todo) → Keeps_it (with_todo todo p1.who o) m
-    keeps p1 s1 k todo o m e er w = record { named = k.named; fit = by w; stays = stays_on G.g G.free q Wr Rd own_right z.fresh.reads dues s.store s1 m k.stays (subst (λ (x : Came Deed × Store). Stays G.g G.free q Wr Rd own_right z.fresh.reads dues s1 x.1) er (stored_within G.g G.free q Wr Rd own_right z.fresh.reads dues F (deed_of G.g p1) s1 within)) }
+    keeps p1 s1 k todo o m e er w = record {
+      named = k.named;
+      fit = by w;
+      stays = stays_on G.g G.free q Wr Rd own_right z.fresh.reads dues s.store s1 m k.stays (subst (λ (x : Came Deed × Store). Stays G.g G.free q Wr Rd own_right z.fresh.reads dues s1 x.1) er (stored_within G.g G.free q Wr Rd own_right z.fresh.reads dues F (deed_of G.g p1) s1 within));
+      pure = pure_kept G.g G.free G.pure (pure_blocks G) Wr Rd last p1 k.fit k.pure s1 e o m er todo w;
+    }
       where
         F : Deed → Own → Type 0
         F x o1 = Fair G.g.program Wr Rd last x o1.frames
@@ -91,7 +104,12 @@ module _ (G : Ground) (lf : Life) (kids : ℕ → ℕ → Life) (q : Name) (sinc
     Outcome_of r = Outcome G.g q G.pause since Keeps_it keeps s pr r
 
     pub outcome : Outcome_of result
-    outcome = turns G.g q G.pause since Keeps_it keeps (enough_turn G.g dues pr) s pr (record { named = z.named; fit = fit; stays = λ l. inl refl }) runs
+    outcome = turns G.g q G.pause since Keeps_it keeps (enough_turn G.g dues pr) s pr (record {
+      named = z.named;
+      fit = fit;
+      stays = λ l. inl refl;
+      pure = follows_pure (execution G lf kids q z.fresh pr.who z.named since) G.values lf.end [] lf.below z.pc z.stack z.js pr.todo z.follows;
+    }) runs
 
     abbrev pub Kept_of : Came source.Stop × Store → Type 0
     Kept_of r = Kept G.g G.free q Wr Rd own_right z.fresh.reads dues last s.store r

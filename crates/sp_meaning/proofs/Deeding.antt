@@ -89,7 +89,7 @@ clear_of {p} so s i (And t ts) j a b =
     (clear so s t i (λ u h. j u (inl h)) (λ x h k. a x h (used_part p (λ u. inl) x k)) (λ x h k. b x h (target_part p (λ u. inl) x k)), clear_of so s i ts (λ u h. j u (inr h)) (λ x h k. a x h (used_part p (λ u. inr) x k)) (λ x h k. b x h (target_part p (λ u. inr) x k)))
 
 -- by rule I1
-born_of : {p : Program} {W R : Loc → Type 0} {fs : List Frame} → (ss : Stmts) → Sound p W R fs (In_stmts ss) → KeepsI1 p ss → Born p W R fs (list_of ss) (children ss)
+pub born_of : {p : Program} {W R : Loc → Type 0} {fs : List Frame} → (ss : Stmts) → Sound p W R fs (In_stmts ss) → KeepsI1 p ss → Born p W R fs (list_of ss) (children ss)
 born_of No so i = tt
 born_of (And s rest) so i = (refl, part (λ u. inl) so, clear_of so s (λ u. inl) rest (λ u. inr) i.0 i.1, born_of rest (part (λ u. inr) so) i.2)
 
@@ -102,7 +102,7 @@ clear_copies : (p : Program) (fs : List Frame) (s : Stmt) → ((x : ℕ) → IsT
 clear_copies p fs s i zero = tt
 clear_copies p fs s i (suc n) = (λ l. (λ h k. i h.0 h.1, λ h k. i k.0 k.1), clear_copies p fs s i n)
 
-born_copies : {p : Program} {W R : Loc → Type 0} {fs : List Frame} (x : ℕ) (s : Stmt) → Sound p W R fs (In_stmt s) → ((x : ℕ) → IsTarget p (In_stmt s) x → ⊥) → (m : ℤ) (n : ℕ) → Born p W R fs (copies n s) (indexed_children x s m n)
+pub born_copies : {p : Program} {W R : Loc → Type 0} {fs : List Frame} (x : ℕ) (s : Stmt) → Sound p W R fs (In_stmt s) → ((x : ℕ) → IsTarget p (In_stmt s) x → ⊥) → (m : ℤ) (n : ℕ) → Born p W R fs (copies n s) (indexed_children x s m n)
 born_copies x s so i m zero = tt
 born_copies {p} {W} {R} {fs} x s so i m (suc n) = (refl, so, clear_copies p fs s i n, born_copies x s so i (m +ℤ pos 1) n)
 

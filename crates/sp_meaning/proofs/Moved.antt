@@ -13,7 +13,7 @@ use Rattle.sp_meaning.proofs.Instance.{loc_test}
 use Rattle.sp_meaning.specs.Runs.{StateOf, most, running, next}
 
 -- the writes of a tree, made one after another, give the store that its run leaves
-stored : (L : Language) {A : Type 0} (t : Asking L.Loc L.Value A) (s : State L) → after (puts {L = L} (put_by L.same_loc t s.store)) s ≡ record s { store = (answer L.same_loc t s.store).1 }
+pub stored : (L : Language) {A : Type 0} (t : Asking L.Loc L.Value A) (s : State L) → after (puts {L = L} (put_by L.same_loc t s.store)) s ≡ record s { store = (answer L.same_loc t s.store).1 }
 stored L (Done a) s = refl
 stored L (Reads l more) s = stored L (more (s.store l)) s
 stored L (Puts l v more) s = stored L more (changed (Writes l v) s)
@@ -30,7 +30,7 @@ module _ (g : Setting) where
   writes_of s pr = put_by same_loc (asks g pr) s.store
 
   -- what act a tree's answer is
-  answered : (s : StateOf g) (pr : Process) (r : Came Deed) (m : Store) → ◌≡◌ {A = Came Deed × Store} (answer same_loc (deed_of g pr) s.store) (r, m) → answer same_loc (asks g pr) s.store ≡ (act_of pr.who r, m)
+  pub answered : (s : StateOf g) (pr : Process) (r : Came Deed) (m : Store) → ◌≡◌ {A = Came Deed × Store} (answer same_loc (deed_of g pr) s.store) (r, m) → answer same_loc (asks g pr) s.store ≡ (act_of pr.who r, m)
   answered s pr r m e = answer_then loc_test (deed_of g pr) (λ x. Done (act_of pr.who x)) s.store ∙ ap (λ (x : Came Deed × Store). answer same_loc (Done (act_of pr.who x.0)) x.1) e
 
   move : (s : StateOf g) (q : Name) (pr : Process) (to : Process) (ws : List (Loc × Held)) → L.next pr s.store ≡ Moves to ws → running g s q ≡ Some pr → next g s q ≡ Some (after (puts {L = L} ws) (changed (Becomes q (Works to)) s))

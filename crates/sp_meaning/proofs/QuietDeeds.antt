@@ -14,7 +14,7 @@ use Rattle.sp_meaning.specs.Maps.{at_key}
 use Rattle.sp_meaning.specs.Model.{Name, Channel, Cargo, Gives, Takes}
 use Rattle.sp_meaning.specs.Asking.{Asking, Done, Reads, Puts, answer}
 use Rattle.sp_meaning.specs.Values.{Value, Ordinal, Chan}
-use Rattle.sp_meaning.specs.Own.{Setting, Loc, Cell, Input, Output, Held, Tree, Written, Address, Frame, Own, Who, Process, Item, Do, First, Again, Test, Leave, Break, Came, Got, Bad, Lost, Long, Work, bind, give, fail, who, become, put, tick, assign, same_loc, bytes_in, is_block}
+use Rattle.sp_meaning.specs.Own.{Setting, Loc, Cell, Input, Output, Held, Tree, Written, Address, Frame, Own, Who, Process, Item, Do, First, Again, Test, Leave, Break, Came, Got, Bad, Lost, Long, Work, bind, give, fail, who, become, put, tick, assign, assigned, same_loc, bytes_in, is_block}
 use Rattle.sp_meaning.specs.Texts.{Taken, Takes as Took, Fails as Refuses_it, line_length}
 use Rattle.sp_meaning.specs.Eval.{Place, At, Fixed, Given, Calls, value, place, actuals, ordinal_of, place_of, address_of, address}
 use Rattle.sp_meaning.specs.Deeds.{Birth, Deed, Went, Beat, Opened, Forked, Offered, Over, push, push_all, children, indexed_children, has, arm_for, is_range, goes_on, next_value, enter, pushed_frame, references, lay, copy_in, write, advance, take_in, width, peek, turn_of, fork, chosen, start, act, settle, call_by, all, deed_by, deed, size_of_frame, taken_by, shown}
@@ -46,6 +46,22 @@ IsStop (Opened todo) = ⊥
 IsStop (Forked bs todo) = Unit {0}
 IsStop (Offered c k x todo) = Unit {0}
 IsStop Over = Unit {0}
+
+-- a step that opens a channel
+abbrev pub IsOpening : Deed → Type 0
+IsOpening (Went todo) = ⊥
+IsOpening (Beat todo) = ⊥
+IsOpening (Opened todo) = Unit {0}
+IsOpening (Forked bs todo) = ⊥
+IsOpening (Offered c k x todo) = ⊥
+IsOpening Over = ⊥
+
+-- of all that is there one variable at most has another value
+pub record IsSameButOne (n : ℕ) (s m : Store) : Type 0 where
+  pub one : Loc
+  pub value : Value
+  pub now : m one ≡ Tree value
+  pub others : (l : Loc) → (s l ≡ m l) ⊎ (IsDead n l ⊎ (one ≡ l))
 
 same_on : (n : ℕ) (s t u : Store) → IsSame n s t → IsSame n t u → IsSame n s u
 same_on n s t u a b l = ⊎_elim (λ (e : s l ≡ t l). ⊎_elim (λ (f : t l ≡ u l). inl (e ∙ f)) (λ d. inr d) (b l)) (λ d. inr d) (a l)
@@ -156,7 +172,7 @@ module _ (set : Setting) (free : IsFreeOfInterference set.program) (pure : AreFu
 
   -- what is told of a step
   abbrev Told : Store → Came Deed × Store → Type 0
-  Told s (Got d o, m) = PureDeed p d × (IsStop d → (o.frames ≡ fs) × IsSame (length fs) s m)
+  Told s (Got d o, m) = PureDeed p d × (IsStop d → (o.frames ≡ fs) × IsSame (length fs) s m) × (IsOpening d → IsSameButOne (length fs) s m)
   Told s (Bad f, m) = s Output ≡ m Output
   Told s (Lost, m) = Unit {0}
   Told s (Long, m) = Unit {0}
@@ -165,7 +181,12 @@ module _ (set : Setting) (free : IsFreeOfInterference set.program) (pure : AreFu
     by : (w : Who) (o : Own) (s : Store) → w.name ≡ q → o.frames ≡ fs → Told s (run h w o s)
 
   told_on : (s m : Store) → IsSame (length fs) s m → (r : Came Deed × Store) → Told m r → Told s r
-  told_on s m a (Got d o, u) t = (t.0, λ h. (let z = t.1 h in (z.0, same_on (length fs) s m u a z.1)))
+  told_on s m a (Got d o, u) t = (t.0, λ h. (let z = t.1 h in (z.0, same_on (length fs) s m u a z.1)), λ h. (let z = t.2 h in record { one = z.one; value = z.value; now = z.now; others = λ l. on l z.one (a l) (z.others l) }))
+    where
+      on : (l one : Loc) → (s l ≡ m l) ⊎ IsDead (length fs) l → (m l ≡ u l) ⊎ (IsDead (length fs) l ⊎ (one ≡ l)) → (s l ≡ u l) ⊎ (IsDead (length fs) l ⊎ (one ≡ l))
+      on l one (inl e) (inl f) = inl (e ∙ f)
+      on l one (inr d) b = inr (inl d)
+      on l one (inl e) (inr f) = inr f
   told_on s m a (Bad f, u) t = output_same (length fs) s m a ∙ t
   told_on s m a (Lost, u) t = tt
   told_on s m a (Long, u) t = tt
@@ -180,7 +201,7 @@ module _ (set : Setting) (free : IsFreeOfInterference set.program) (pure : AreFu
       go w s n (Long, m) c = tt
 
   -- what writes cells alone, and then does something that does not stop
-  cells_tell : {A : Type 0} {F : A → Type 0} (h : Work A) (g : A → Deed) → From q IsCell All fs (λ a gs. F a) h → ((a : A) → F a → PureDeed p (g a) × (IsStop (g a) → ⊥)) → Tells (bind h (λ a. give (g a)))
+  cells_tell : {A : Type 0} {F : A → Type 0} (h : Work A) (g : A → Deed) → From q IsCell All fs (λ a gs. F a) h → ((a : A) → F a → PureDeed p (g a) × ((IsStop (g a) → ⊥) × (IsOpening (g a) → ⊥))) → Tells (bind h (λ a. give (g a)))
   cells_tell {A} {F} h g k next = record {
     by = λ w o s n e. subst (Told s) (sym (run_bind h (λ a. give (g a)) w o s))
         (go w s (run h w o s) (λ l. stored IsCell All G (h w o) s (k.by w o n e) l) (result_within IsCell All G (λ r. r) (h w o) s (k.by w o n e)));
@@ -190,49 +211,64 @@ module _ (set : Setting) (free : IsFreeOfInterference set.program) (pure : AreFu
       G a o1 = F a
 
       go : (w : Who) (s : Store) (r : Came A × Store) → ((l : Loc) → (s l ≡ r.1 l) ⊎ IsCell l) → Result G r.0 → Told s (then_run (λ a. give (g a)) w r)
-      go w s (Got a o, m) i f = ((next a f).0, λ h. absurd ((next a f).1 h))
+      go w s (Got a o, m) i f = ((next a f).0, λ h. absurd ((next a f).1.0 h), λ h. absurd ((next a f).1.1 h))
       go w s (Bad x, m) i f = ⊎_elim (λ (e : s Output ≡ m Output). e) (λ d. absurd d) (i Output)
       go w s (Lost, m) i f = tt
       go w s (Long, m) i f = tt
 
   went : (todo : List Item) → PureItems p todo → Tells (give (Went todo))
-  went todo k = record { by = λ w o s n e. (k, λ h. absurd h) }
+  went todo k = record { by = λ w o s n e. (k, λ h. absurd h, λ h. absurd h) }
 
   fails : (f : Fault) → Tells (fail f)
   fails f = record { by = λ w o s n e. refl }
 
   beat : (todo : List Item) → PureItems p todo → Tells (bind (tick set.limits) (λ u. give (Beat todo)))
-  beat todo k = then_tells (tick set.limits) _ (tick_stays set q New All (length fs) (λ n x h. h) (λ l w. tt) free fs) (λ u _. record { by = λ w o s n e. (k, λ h. absurd h) })
+  beat todo k = then_tells (tick set.limits) _ (tick_stays set q New All (length fs) (λ n x h. h) (λ l w. tt) free fs) (λ u _. record { by = λ w o s n e. (k, λ h. absurd h, λ h. absurd h) })
 
   -- a value is assigned, and nothing fails after it
   stores : (a : Address) (v : Value) (todo : List Item) → PureItems p todo → Tells (bind (assign a v) (λ u. give (Went todo)))
-  stores a v todo k = record { by = λ w o s n e. (k, λ h. absurd h) }
+  stores a v todo k = record { by = λ w o s n e. (k, λ h. absurd h, λ h. absurd h) }
 
   takes : (a : Address) (t : Taken) (todo : List Item) → PureItems p todo → Tells (bind (take_in set a t) (λ u. give (Went todo)))
-  takes a (Took n bytes) todo k = record { by = λ w o s m e. (k, λ h. absurd h) }
+  takes a (Took n bytes) todo k = record { by = λ w o s m e. (k, λ h. absurd h, λ h. absurd h) }
   takes a (Refuses_it f) todo k = record { by = λ w o s m e. refl }
 
   skips : (n : ℕ) (todo : List Item) → PureItems p todo → Tells (bind (advance set n) (λ u. give (Went todo)))
-  skips n todo k = record { by = λ w o s m e. (k, λ h. absurd h) }
+  skips n todo k = record { by = λ w o s m e. (k, λ h. absurd h, λ h. absurd h) }
 
   opens : (a : Address) (todo : List Item) → PureItems p todo → Tells (bind who (λ w. bind (assign a (Chan (record { owner = w.name; nth = w.opens }))) (λ u. give (Opened todo))))
-  opens a todo k = record { by = λ w o s n e. (k, λ h. absurd h) }
+  opens a todo k = record { by = λ w o s n e. (k, λ h. absurd h, λ h. one_put s (assigned_value a (s a.spot) (Chan (record { owner = w.name; nth = w.opens })))) }
+    where
+      assigned_value : (a : Address) (v : Held) (x : Value) → (y : Value) × (assigned a v (Tree x) ≡ Tree y)
+      assigned_value a v x = (_, refl)
+
+      one_put : (s : Store) {v : Held} → (y : Value) × (v ≡ Tree y) → IsSameButOne (length fs) s (at_key same_loc a.spot v s)
+      one_put s {v} y = record {
+        one = a.spot;
+        value = y.0;
+        now = ap (λ b. cond b v (s a.spot)) ((loc_test a.spot a.spot).1 refl) ∙ y.1;
+        others = λ l. go l (same_loc a.spot l) refl;
+      }
+        where
+          go : (l : Loc) (b : Bool) → same_loc a.spot l ≡ b → (s l ≡ cond (same_loc a.spot l) v (s l)) ⊎ (IsDead (length fs) l ⊎ (a.spot ≡ l))
+          go l true e = inr (inr ((loc_test a.spot l).0 e))
+          go l false e = inl (sym (ap (λ b. cond b v (s l)) e))
 
   offers : (c : Channel) (t : ℕ) (x : Cargo Held Address) (todo : List Item) → PureItems p todo → Tells (give (Offered c t x todo))
-  offers c t x todo k = record { by = λ w o s n e. (k, λ h. (e, λ l. inl refl)) }
+  offers c t x todo k = record { by = λ w o s n e. (k, λ h. (e, λ l. inl refl), λ h. absurd h) }
 
   prints : (bs : List ℕ) (todo : List Item) → PureItems p todo → Tells (bind (write set bs) (λ u. give (Went todo)))
   prints bs todo k = record { by = λ w o s n e. go w o s (nat_lt set.limits.output (length (bytes_in (s Output)) + length bs)) }
     where
       go : (w : Who) (o : Own) (s : Store) (b : Bool) → Told s (run (bind (if b then fail fault.F16 else put Output (Written (bytes_in (s Output) ++ bs))) (λ u. give (Went todo))) w o s)
       go w o s true = refl
-      go w o s false = (k, λ h. absurd h)
+      go w o s false = (k, λ h. absurd h, λ h. absurd h)
 
   forks : (bs : List Birth) (todo : List Item) → PureItems p todo → Tells (fork set bs todo)
   forks bs todo k = record { by = λ w o s n e. go w o s e (nat_lt o.depth set.limits.depth) }
     where
       go : (w : Who) (o : Own) (s : Store) → o.frames ≡ fs → (b : Bool) → Told s (run (if b then give (Forked bs todo) else fail fault.F11) w o s)
-      go w o s e true = (k, λ h. (e, λ l. inl refl))
+      go w o s e true = (k, λ h. (e, λ l. inl refl), λ h. absurd h)
       go w o s e false = refl
 
   -- the for variable is a cell, and then a tick may fail
@@ -250,7 +286,7 @@ module _ (set : Setting) (free : IsFreeOfInterference set.program) (pure : AreFu
       counting b w o = if b then become (record o { ticks = o.ticks + 1 }) w o else fail fault.F10 w o
 
       ticks_on : (l : Loc) (v : Held) → IsCell l → (w : Who) (o : Own) (m : Store) (b : Bool) → Told m (run (bind (counting b) (λ u. give (Beat next))) w o (at_key same_loc l v m))
-      ticks_on (Cell r h y) v c w o m true = (push_pure p s (Again x limit down s ∷ todo) ps ((lx, ps), k), λ h. absurd h)
+      ticks_on (Cell r h y) v c w o m true = (push_pure p s (Again x limit down s ∷ todo) ps ((lx, ps), k), λ h. absurd h, λ h. absurd h)
       ticks_on (Cell r h y) v c w o m false = refl
       ticks_on Input v c w o m b = absurd c
       ticks_on Output v c w o m b = absurd c
@@ -325,7 +361,7 @@ module _ (set : Setting) (free : IsFreeOfInterference set.program) (pure : AreFu
     start_tells Empty todo h k so = went todo k
     start_tells (Assign v e) todo h k so = then_tells _ _ (target v h.0 (inside v (λ u i. inl i) so)) (λ a _. then_tells _ _ (expr e h.1 (part (λ u. inr) so)) (λ x _. stores a x todo k))
     start_tells (Call f args) todo h k so =
-        then_tells _ _ (arguments args h (part (λ u. inr) so)) (λ gs _. cells_tell (enter set f gs) (λ b. Beat (push b.body (Leave ∷ todo))) (entered f gs) (λ b e. (push_pure p b.body (Leave ∷ todo) (blocks f b e) k, λ z. z)))
+        then_tells _ _ (arguments args h (part (λ u. inr) so)) (λ gs _. cells_tell (enter set f gs) (λ b. Beat (push b.body (Leave ∷ todo))) (entered f gs) (λ b e. (push_pure p b.body (Leave ∷ todo) (blocks f b e) k, (λ z. z, λ z. z))))
     start_tells (Sequence ss) todo h k so = went (push_all ss todo) (push_all_pure p ss todo h k)
     start_tells (If e a) todo h k so = then_tells _ _ (test e h.0 (part (λ u. inl) so)) (λ m _. go (int_le m (pos 0)))
       where
@@ -398,7 +434,7 @@ module _ (set : Setting) (free : IsFreeOfInterference set.program) (pure : AreFu
           go : (b : Bool) → Tells (give (Went (if b then Do (Repeat s e) ∷ todo else todo)))
           go true = went (Do (Repeat s e) ∷ todo) (h.0, h.1)
           go false = went todo h.1
-      act_tells Leave todo h f = record { by = λ w o m n e. (h, λ y. absurd y) }
+      act_tells Leave todo h f = record { by = λ w o m n e. (h, λ y. absurd y, λ y. absurd y) }
       act_tells (Break x) todo h f = fails x
 
       abbrev Left : List Item → Type 0
@@ -424,7 +460,7 @@ module _ (set : Setting) (free : IsFreeOfInterference set.program) (pure : AreFu
       deed_tells todo h f = then_tells _ _ (settles todo h f) go
         where
           go : (xs : List Item) → Left xs → Tells (deed_by set (all set n) xs)
-          go [] l = record { by = λ w o m _ e. (tt, λ y. (e, λ k. inl refl)) }
+          go [] l = record { by = λ w o m _ e. (tt, λ y. (e, λ k. inl refl), λ y. absurd y) }
           go (i ∷ rest) l = act_tells i rest l.0 l.1
 
 -- of a process whose rights are known, with pure expressions
@@ -441,6 +477,10 @@ module _ (set : Setting) (free : IsFreeOfInterference set.program) (pure : AreFu
       let t = subst Told_of e told in
       let u = t.1 stop in
       subst (λ fs. IsSame (length fs) s m) (sym u.0) u.1
+
+  -- a step that opens a channel changed one variable
+  pub quiet_opens : (todo : List Item) (o : Own) (m : Store) → ◌≡◌ {A = Came Deed × Store} (answer same_loc (deed_of set pr) s) (Got (Opened todo) o, m) → IsSameButOne (length pr.own.frames) s m
+  quiet_opens todo o m e = (subst Told_of e told).2 tt
 
   -- a step that fails wrote nothing to the output
   pub quiet_faults : (f : Fault) (m : Store) → ◌≡◌ {A = Came Deed × Store} (answer same_loc (deed_of set pr) s) (Bad f, m) → s Output ≡ m Output

@@ -1,0 +1,377 @@
+-- The entry `Open` on both sides: the new channel has the next number and its name, and stands in the target (`opening_entry`); or the
+-- entries or the channels are at their limit: F15, F14.
+use Rattle.std.proofs.Common.{◌≡◌, ◌⊎◌, inl, ⊎_elim, ℕ, suc, ◌+◌, ◌<◌, ◌==◌, List, ◌∷◌, length, Option, Some, None, Bool, true, false, cond, if◌then◌else◌, eqb-true, eq-eqb, refl, sym, ap, ◌∙◌, subst, arith}
+use Rattle.std.specs.Prelude.{◌≢◌, nat_lt}
+use Rattle.sp_base.specs.declared.fault.Fault.{Fault}
+use Rattle.sp_base.specs.declared.fault.Fault.TheVariants as fault
+use Rattle.sp_journal.specs.Births.{Births, channel, happening, after_event}
+use Rattle.sp_journal.specs.declared.entry.Event.TheVariants as event
+use Rattle.sp_journal.specs.declared.entry.Opening.{Opening}
+use Rattle.sp_journal.specs.Maps.{at_key}
+use Rattle.sp_cell.specs.declared.cell.Cell.TheVariants as cell
+use Rattle.sp_cell.specs.Map.{Plain}
+use Rattle.sp_meaning.specs.Maps.{at_key as put_at}
+use Rattle.sp_meaning.specs.Model.{Name, same_name, Channel, Cargo, Gives, Takes, Condition, Absent, Works, Waits, Joins, Ended, Becomes, Adds, Opens, changed, add, Totals}
+use Rattle.sp_meaning.specs.Asking.{put_by}
+use Rattle.sp_meaning.specs.Steps.{ActOf, has_ended, working_in, WaitsOn, Does, Faulty, outcome, passed, unless, acts, puts, result_of}
+use Rattle.sp_meaning.specs.Entries.{Happening, Opened as Is_opened}
+use Rattle.sp_meaning.specs.Own.{Loc, Held, Address, Own, Who, Process, Came, Got, Item, Tree, Position, Written, same_loc}
+use Rattle.sp_meaning.specs.Values.{Chan}
+use Rattle.sp_meaning.specs.Deeds.{Deed, Opened}
+use Rattle.sp_meaning.specs.SuperPascal.{superpascal, asks, with_todo}
+use Rattle.sp_meaning.specs.Run.{Store}
+use Rattle.sp_meaning.specs.Runs.{StateOf, most, next, says, said_of}
+use Rattle.sp_meaning.specs.Along.{Course, ticks_in, ticks_of, noted, Entered}
+use Rattle.sp_meaning.specs.Turn as source
+use Rattle.sp_meaning.proofs.Keys.{name_test}
+use Rattle.sp_meaning.proofs.Maps.{at_same, at_other, differs, itself, same_or_not}
+use Rattle.sp_meaning.proofs.Moved.{stored, answered}
+use Rattle.sp_meaning.proofs.Owned.{Inv, Holds, Keeps_to}
+use Rattle.sp_meaning.proofs.Reached.{Known, step_well, raised, lowered}
+use Rattle.sp_meaning.proofs.Rights.{Mine}
+use Rattle.sp_meaning.proofs.Sound.{step_sound}
+use Rattle.sp_code.specs.Machine.{Config, At}
+use Rattle.sp_code.specs.Machine as machine
+use Rattle.sp_code.specs.Turns.{Turn, Stopped, IsTurn}
+use Rattle.sp_code.specs.Memory.{Memory, put_cell}
+use Rattle.sp_code.specs.PlainStore.{plain}
+use Rattle.sp_code.specs.Scopes.{sort}
+use Rattle.sp_code.specs.System.{System, after, event_of, event_or, fault_of, unless_fault, on_store}
+use Rattle.sp_code.specs.System as sys
+use Rattle.sp_codegen.specs.Relation.{OneCell, Stood}
+use Rattle.sp_codegen.proofs.Writing.{store_law}
+use Rattle.sp_link.proofs.AfterEntry.{stand_again, follows_again}
+use Rattle.sp_link.proofs.AtStop.{known_at}
+use Rattle.sp_link.proofs.Halts.{failed_entry, opened_halt}
+use Rattle.sp_link.proofs.Journal.{Way_on, IsOpen, Now}
+use Rattle.sp_link.proofs.KernelSteps.{kernel_next, kernel_says}
+use Rattle.sp_link.proofs.MoreChannels.{one_more, stands_more, does_more}
+use Rattle.sp_link.proofs.OneChanges.{q, pr, its, alone, here, present, not_ended, keeps_to, number_or, inv_local}
+use Rattle.sp_link.proofs.OthersStay.{does_stay}
+use Rattle.sp_link.proofs.Pauses.{Entry_of, Meant, Machined, Kept_to, kids, turn_is, after_quiet}
+use Rattle.sp_link.proofs.Relation.{Ground, Life, Lives, W_of, R_of, Called, Named, Stands, Ca, Rel, St, Does_all, IsPending, Linked, Began, at_open, run_is, ops}
+
+module _ (G : Ground) (lv : Lives G) (c : Course) (s : StateOf G.g) (u : System Plain) (l : Linked G lv c s u) where
+  -- a pending offer is on a channel that is open
+  pending_open : (ch : Channel) (zn : Name) → s.pending ch ≡ Some zn → (j : ℕ) × Named G ch j
+  pending_open ch zn e = by (u.condition k) (subst (λ y. Does_all G lv y c s (u.births.opens k) (u.condition k)) name_is (l.does k lt))
+    where
+      waits : WaitsOn ch (s.condition zn)
+      waits = l.known.sound.waits ch zn e
+
+      n : (k : ℕ) × (k < u.births.processes) × (G.births.name k ≡ zn)
+      n = l.numbered zn (λ a. subst (λ b. WaitsOn ch b) a waits)
+
+      k : ℕ
+      k = n.0
+
+      lt : k < u.births.processes
+      lt = n.1
+
+      name_is : G.births.name k ≡ zn
+      name_is = n.2
+
+      idle : (x : Condition Process Held Address) (own : Process) → WaitsOn ch x → working_in s.condition zn x ≡ Some own → ⊥
+      idle Absent own h f = h
+      idle (Works pr) own h f = h
+      idle (Waits w) own h f = absurd (cc f)
+      idle (Joins a b pr) own h f = h
+      idle Ended own h f = h
+
+      cargo : (lf : Life) (more : ℕ → ℕ → Life) (f : Rattle.sp_link.proofs.Relation.Fresh G lf more zn) (w : Who) (nm : w.name ≡ zn) (since : ℕ) (js : List Rattle.sp_codegen.specs.Joints.Joint) (c1 : Channel) (kd : ℕ) (g : Cargo Held Address) (z : machine.Stop) → Ca G lf more zn f w nm since js c1 kd g z → (j : ℕ) × Named G c1 j
+      cargo lf more f w nm since js c1 kd (Gives (Tree a)) z h = (h.0, h.3)
+      cargo lf more f w nm since js c1 kd (Gives (Position m)) z h = absurd h
+      cargo lf more f w nm since js c1 kd (Gives (Written bs)) z h = absurd h
+      cargo lf more f w nm since js c1 kd (Takes a) z h = (h.0, h.3)
+
+      by : (x : sys.Condition Plain) → Does_all G lv zn c s (u.births.opens k) x → (j : ℕ) × Named G ch j
+      by sys.Absent h = absurd h
+      by (sys.Runs a) h = absurd (idle (s.condition zn) h.0 waits h.1)
+      by (sys.Waits z a) h =
+          let on : (h.0).channel ≡ ch = subst (λ b. WaitsOn ch b) h.1 waits in
+          let y = cargo (lv zn) (λ a b. lv ((a, b) ∷ zn)) (h.2).fresh (h.0).next.who (h.2).named (c.since zn) (h.2).js (h.0).channel (h.0).kind (h.0).cargo z h.3 in
+          (y.0, subst (λ b. Named G b y.0) on y.1)
+      by (sys.Joins left a) h = absurd (subst (λ b. WaitsOn ch b) h.3 waits)
+      by (sys.Laid a) h = absurd (idle (s.condition zn) h.2.0 waits h.2.1)
+      by sys.Gone h = absurd (subst (λ b. WaitsOn ch b) h.0 waits)
+      by (sys.Over a) h = absurd (subst (λ b. WaitsOn ch b) h.0 waits)
+
+module _ (G : Ground) (lv : Lives G) (c : Course) (s : StateOf G.g) (u : System Plain) (l : Linked G lv c s u) (i : ℕ) (d : Config (Memory Plain)) (at_i : u.condition i ≡ sys.Runs d)
+    (z : Stands G (lv (q G lv c s u l i d at_i)) (kids G lv c s u l i d at_i) (q G lv c s u l i d at_i) (c.since (q G lv c s u l i d at_i)) (pr G lv c s u l i d at_i) s.store d)
+    (todo : List Item) (o : Own) (m : Store) (x : Meant G lv c s u l i d at_i z (Got (source.Stops (Opened todo)) o, m)) (t : Machined G lv c s u l i d at_i z (Got (source.Stops (Opened todo)) o, m))
+    (y : Kept_to G lv c s u l i d at_i z (Got (source.Stops (Opened todo)) o, m)) (quiet : u.faulted ≡ false) where
+  abbrev v : Name
+  v = q G lv c s u l i d at_i
+
+  abbrev p1 : Process
+  p1 = pr G lv c s u l i d at_i
+
+  abbrev r : Came Deed × Store
+  r = (Got (Opened todo) o, m)
+
+  abbrev ws : List (Loc × Held)
+  ws = put_by same_loc (asks G.g x.left) x.at.store
+
+  abbrev goes_on : Process
+  goes_on = with_todo todo (record (x.left.who) { opens = x.left.who.opens + 1 }) o
+
+  abbrev a_channel : Totals
+  a_channel = record { processes = 0; channels = 1; entries = 1 }
+
+  abbrev tn : Turn (Memory Plain)
+  tn = Stopped (machine.Opens t.6) (At t.0 t.1 t.2)
+
+  tn_is : IsTurn (ops G) G.code d (Stopped (machine.Opens t.6) (At t.0 t.1 t.2))
+  tn_is = turn_is G lv c s u l i d at_i z (Stopped (machine.Opens t.6) (At t.0 t.1 t.2)) (t.4, t.8, t.9)
+
+  -- the faults of the totals, on both sides
+  totals_fault : (e1 e2 : Bool) → Option Fault
+  totals_fault e1 e2 = if e1 then Some fault.F15 else (if e2 then Some fault.F14 else None)
+
+  passes : (e1 e2 : Bool) → nat_lt G.g.limits.entries (u.entries + 1) ≡ e1 → nat_lt G.g.limits.channels (u.births.channels + 1) ≡ e2 → passed (most G.g) x.at.totals (Some a_channel) ≡ (if e1 then Some fault.F15 else (if e2 then Some fault.F14 else None))
+  passes e1 e2 h1 h2 =
+      ap (λ (a : Totals). passed (most G.g) a (Some a_channel)) x.elsewhere.totals
+      ∙ ap (λ n. if nat_lt G.g.limits.entries (n + 1) then Some fault.F15 else (if nat_lt G.g.limits.channels (s.totals.channels + 1) then Some fault.F14 else None)) l.entries
+      ∙ ap (λ n. if nat_lt G.g.limits.entries (u.entries + 1) then Some fault.F15 else (if nat_lt G.g.limits.channels (n + 1) then Some fault.F14 else None)) l.channels
+      ∙ ap (λ b. if b then Some fault.F15 else (if nat_lt G.g.limits.channels (u.births.channels + 1) then Some fault.F14 else None)) h1
+      ∙ ap (λ b. if e1 then Some fault.F15 else (if b then Some fault.F14 else None)) h2
+
+  found : (e1 e2 : Bool) → nat_lt G.g.limits.entries (u.entries + 1) ≡ e1 → nat_lt G.g.limits.channels (u.births.channels + 1) ≡ e2 → fault_of G.g.limits u tn ≡ sys.first_fault (if e1 then Some fault.F15 else (if e2 then Some fault.F14 else None)) None
+  found e1 e2 h1 h2 =
+      ap (λ b. sys.first_fault (if b then Some fault.F15 else (if nat_lt G.g.limits.channels (u.births.channels + 1) then Some fault.F14 else None)) None) h1
+      ∙ ap (λ b. sys.first_fault (if e1 then Some fault.F15 else (if b then Some fault.F14 else None)) None) h2
+
+  comes_to : (f : Option Fault) → passed (most G.g) x.at.totals (Some a_channel) ≡ f → outcome {L = superpascal G.g} (most G.g) x.at v (Opens goes_on ws) ≡ unless f (acts {L = superpascal G.g} x.at v (Opens goes_on ws))
+  comes_to f e = ap (λ a. unless a (acts {L = superpascal G.g} x.at v (Opens goes_on ws))) e
+
+  fails : (f : Fault) → outcome {L = superpascal G.g} (most G.g) x.at v (Opens goes_on ws) ≡ Faulty f → fault_of G.g.limits u tn ≡ Some f → Entry_of G c s u i d
+  fails f e h = failed_entry G lv c s u l i d at_i (opened_halt G lv c s u l i d at_i z todo o m x t) refl f
+      (kernel_says G.g v x.at x.left x.runs r x.does ∙ ap (λ b. said_of {L = superpascal G.g} (Opens goes_on ws) b) e)
+      (kernel_next G.g v x.at x.left x.runs r x.does ∙ ap (λ b. Some (result_of {L = superpascal G.g} x.at v b)) e) h quiet
+
+  -- ---- it opens
+
+  module _ (room1 : nat_lt G.g.limits.entries (u.entries + 1) ≡ false) (room2 : nat_lt G.g.limits.channels (u.births.channels + 1) ≡ false) where
+    does_it : outcome {L = superpascal G.g} (most G.g) x.at v (Opens goes_on ws) ≡ Does (Becomes v (Works goes_on) ∷ Adds a_channel ∷ puts {L = superpascal G.g} ws)
+    does_it = comes_to None (passes false false room1 room2)
+
+    abbrev t1 : StateOf G.g
+    t1 = record (x.at) { condition = put_at same_name v (Works goes_on) x.at.condition; totals = add x.at.totals a_channel; store = m }
+
+    said_now : says G.g x.at v x.left ≡ Some Is_opened
+    said_now = kernel_says G.g v x.at x.left x.runs r x.does ∙ ap (λ b. said_of {L = superpascal G.g} (Opens goes_on ws) b) does_it
+
+    goes_next : next G.g x.at v ≡ Some t1
+    goes_next = kernel_next G.g v x.at x.left x.runs r x.does ∙ ap (λ b. Some (result_of {L = superpascal G.g} x.at v b)) does_it
+        ∙ ap (λ b. Some b) (stored (superpascal G.g) (asks G.g x.left) (changed {L = superpascal G.g} (Adds a_channel) (changed {L = superpascal G.g} (Becomes v (Works goes_on)) x.at))
+        ∙ ap (λ (b : (List (Loc × Held) → ActOf (superpascal G.g)) × Store). record (x.at) { condition = put_at same_name v (Works goes_on) x.at.condition; totals = add x.at.totals a_channel; store = b.1 }) (answered G.g x.at x.left (Got (Opened todo) o) m x.does))
+
+    cond_v : t1.condition v ≡ Works goes_on
+    cond_v = at_same name_test x.at.condition v (Works goes_on)
+
+    cond_r : (b : Name) → b ≢ v → t1.condition b ≡ s.condition b
+    cond_r b e = at_other name_test x.at.condition v b (Works goes_on) (λ f. e (sym f)) ∙ x.elsewhere.condition b e
+
+    known_then : Known G.g x.at
+    known_then = known_at G lv c s u l i d at_i z r x Is_opened said_now
+
+    known_now : Known G.g t1
+    known_now = record { sound = step_sound (most G.g) x.at v t1 known_then.sound goes_next; well = lowered G.g (λ b. ticks_in (x.at.condition b)) t1 (step_well G.g x.at known_then.sound v (raised G.g x.at known_then.well) t1 goes_next) }
+
+    kt : Keeps_to G.g.program (W_of G lv) (R_of G lv) s.forks v p1
+    kt = keeps_to G lv c s u l i d at_i
+
+    rights_now : Inv G.g.program (W_of G lv) (R_of G lv) t1.condition t1.forks
+    rights_now = inv_local G (W_of G lv) (R_of G lv) s.condition t1.condition s.forks t1.forks v l.rights x.elsewhere.forks (present G lv c s u l i d at_i) cond_r
+        (subst (λ b. Holds G.g.program (W_of G lv) (R_of G lv) s.forks v b) (sym cond_v) (record { named = x.good.named; forked = ap (λ (a : Who). a.forks) x.who_is ∙ (keeps_to G lv c s u l i d at_i).forked; last = (keeps_to G lv c s u l i d at_i).last; fit = y.final }))
+
+    ended_same : (b : Name) → has_ended (t1.condition b) ≡ has_ended (s.condition b)
+    ended_same b = ⊎_elim (λ (e : b ≡ v). ap (λ k. has_ended (t1.condition k)) e ∙ ap (λ k. has_ended k) cond_v ∙ sym (not_ended G lv c s u l i d at_i) ∙ ap (λ k. has_ended (s.condition k)) (sym e)) (λ (e : b ≢ v). ap (λ k. has_ended k) (cond_r b e)) (same_or_not name_test b v)
+
+    abbrev c1 : Course
+    c1 = noted v (ticks_of G.g t1 v) c
+
+    since_other : (b : Name) → b ≢ v → c1.since b ≡ c.since b
+    since_other b e = ap (λ f. cond f (ticks_of G.g t1 v) (c.since b)) (differs name_test v b (λ h. e (sym h)))
+
+    since_here : c1.since v ≡ (t.2).ticks
+    since_here = ap (λ b. cond b (ticks_of G.g t1 v) (c.since v)) (itself name_test v) ∙ ap ticks_in cond_v ∙ (t.10).ticks
+
+    few : (k : ℕ) → k < u.births.processes → k < G.births.processes
+    few k lt = let b = l.began.processes in omega (arith, lt, b)
+
+    does_other : (k : ℕ) → k < u.births.processes → i ≢ k → Does_all (one_more G) lv (G.births.name k) c1 t1 (u.births.opens k) (u.condition k)
+    does_other k lt e =
+        let apart : G.births.name k ≢ v = λ h. e (G.one_name i k (few i (here G lv c s u l i d at_i)) (few k lt) (sym h)) in
+        does_more G (lv (G.births.name k)) (λ a b. lv ((a, b) ∷ G.births.name k)) (G.births.name k) c1 t1 (u.births.opens k) (u.condition k)
+        (does_stay G lv s t1 l.known.sound l.rights.fair v (alone G lv c s u l i d at_i) y.stays (G.births.name k) apart (cond_r (G.births.name k) apart) (λ a b. ended_same ((a, b) ∷ G.births.name k)) c c1 (since_other (G.births.name k) apart) refl (λ h. h) (u.births.opens k) (u.condition k) (l.does k lt))
+
+    -- ---- the machine
+
+    abbrev n1 : Memory Plain
+    n1 = record (t.2) { since = (t.2).ticks }
+
+    abbrev there : Config (Memory Plain)
+    there = on_store (put_cell plain t.6 (cell.Channel u.births.channels)) (At t.0 t.1 n1)
+
+    abbrev b1 : Births
+    b1 = after_event u.births i event.Open
+
+    abbrev u1 : System Plain
+    u1 = record u { condition = at_key ◌==◌ i (sys.Runs there) u.condition; entries = u.entries + 1; births = b1 }
+
+    after_is : after plain (run_is G) i tn u ≡ u1
+    after_is = after_quiet G i tn u quiet ∙ ap (λ f. record (unless_fault plain (run_is G) f i tn u) { births = after_event u.births i (event_or f tn) }) (found false false room1 room2)
+
+    event_is : event_of G.g.limits u tn ≡ event.Open
+    event_is = ap (λ b. if b then event.Laid else event_or (fault_of G.g.limits u tn) tn) quiet ∙ ap (λ f. event_or f tn) (found false false room1 room2)
+
+    number_is : (a e : ℕ) → a ≢ e → a == e ≡ false
+    number_is a e h = go (a == e) refl
+      where
+        go : (b : Bool) → a == e ≡ b → b ≡ false
+        go true f = absurd (h (eqb-true a e f))
+        go false f = refl
+
+    module _ (began : Began G b1) where
+      abbrev k : ℕ
+      k = u.births.channels
+
+      abbrev nm : Channel
+      nm = record { owner = p1.who.name; nth = p1.who.opens }
+
+      below : k < G.births.channels
+      below = let a = began.channels in omega (arith, a)
+
+      -- the name of the new channel
+      channel_is : channel G.births k ≡ nm
+      channel_is = sym (began.openings k (omega arith)) ∙ ap (λ (a : Opening). record { owner = u.births.name a.owner; nth = a.nth }) (ap (λ b. cond b (record { owner = i; nth = u.births.opens i }) (u.births.opening k)) (eq-eqb k k refl))
+          ∙ ap (λ a. record { owner = a; nth = u.births.opens i }) (l.began.names i (here G lv c s u l i d at_i) ∙ sym z.named) ∙ ap (λ a. record { owner = p1.who.name; nth = a }) (sym (its G lv c s u l i d at_i).3)
+
+      named : Named (one_more G) nm k
+      named = ((let a = l.open_is in omega (arith, a)), below, channel_is)
+
+      -- nothing is pending on it
+      none_there : s.pending (channel G.births k) ≡ None
+      none_there = go (s.pending (channel G.births k)) refl
+        where
+          go : (a : Option Name) → s.pending (channel G.births k) ≡ a → a ≡ None
+          go None e = refl
+          go (Some zn) e =
+              let w = pending_open G lv c s u l (channel G.births k) zn e in
+              let same : w.0 ≡ k = G.one_channel w.0 k w.1.1 below w.1.2 in
+              let lt = w.1.0 in let op = l.open_is in
+              absurd (omega (arith, same, lt, op))
+
+      -- before the channel stands in its target
+      abbrev before : Stands (one_more G) (lv v) (λ a b. lv ((a, b) ∷ v)) v (c1.since v) goes_on t.7 (At t.0 t.1 n1)
+      before = stands_more G (lv v) (λ a b. lv ((a, b) ∷ v)) v (c1.since v) goes_on t.7 (At t.0 t.1 n1) (record {
+        fresh = z.fresh;
+        named = x.good.named;
+        js = t.3;
+        pc = t.0;
+        stack = t.1;
+        memory = n1;
+        is = refl;
+        stand = stand_again G (lv v) (λ a b. lv ((a, b) ∷ v)) v {w = p1.who} {w1 = goes_on.who} {since = c.since v} {since1 = c1.since v} (ap (λ (a : Who). a.name) x.who_is) since_here t.10;
+        follows = follows_again G (lv v) (λ a b. lv ((a, b) ∷ v)) v z.fresh z.fresh p1.who goes_on.who z.named x.good.named (c.since v) (c1.since v) t.0 t.1 t.3 todo t.14;
+      })
+
+      stood : Stood (Rel (one_more G) (lv v) (λ a b. lv ((a, b) ∷ v)) v goes_on.who (c1.since v)) G.g.program (sort G.g.program (t.5).kind) (t.5).kind (Chan nm) (machine.Chan k)
+      stood = subst (λ b. Stood (Rel (one_more G) (lv v) (λ a b. lv ((a, b) ∷ v)) v goes_on.who (c1.since v)) G.g.program b (t.5).kind (Chan nm) (machine.Chan k)) (sym t.16) (nm, k, refl, refl, named)
+
+      stand_now : St (one_more G) (lv v) (λ a b. lv ((a, b) ∷ v)) v goes_on.who (c1.since v) t.3 o m (record n1 { store = put_cell plain t.6 (cell.Channel k) n1.store })
+      stand_now = subst (λ b. St (one_more G) (lv v) (λ a b. lv ((a, b) ∷ v)) v goes_on.who (c1.since v) t.3 o b (record n1 { store = put_cell plain t.6 (cell.Channel k) n1.store })) (sym t.13)
+          (store_law G.g G.code goes_on.who (Named (one_more G)) (Called G) (λ a. Mine v a ⊎ (lv v).W a) (λ a. Mine v a ⊎ (lv v).R a) (lv v).J (lv v).low (length (lv v).below) (lv v).born (c1.since v) G.pause (lv v).moved G.formed before.stand t.5 t.6 t.11 t.12 (subst OneCell (sym t.16) tt) (Chan nm) (machine.Chan k) stood)
+
+      stands_now : Stands (one_more G) (lv v) (λ a b. lv ((a, b) ∷ v)) v (c1.since v) goes_on m there
+      stands_now = record {
+        fresh = before.fresh;
+        named = before.named;
+        js = t.3;
+        pc = t.0;
+        stack = t.1;
+        memory = record n1 { store = put_cell plain t.6 (cell.Channel k) n1.store };
+        is = refl;
+        stand = stand_now;
+        follows = before.follows;
+      }
+
+      opens_here : b1.opens i ≡ u.births.opens i + 1
+      opens_here = ap (λ b. cond b (u.births.opens i + 1) (u.births.opens i)) (eq-eqb i i refl)
+
+      its_does : Does_all (one_more G) lv v c1 t1 (b1.opens i) (sys.Runs there)
+      its_does = (goes_on, ap (working_in t1.condition v) cond_v, inl stands_now, ap (λ a. a + 1) (ap (λ (a : Who). a.opens) x.who_is ∙ (its G lv c s u l i d at_i).3) ∙ sym opens_here, (its G lv c s u l i d at_i).4)
+
+      linked : Linked (one_more G) lv c1 t1 u1
+      linked = record {
+        rights = rights_now;
+        known = known_now;
+        began = began;
+        open_is = ap (λ a. a + 1) l.open_is;
+        forks = λ a lt. ap (λ b. b (G.births.name a)) x.elsewhere.forks ∙ l.forks a lt;
+        processes = (let a = ap (λ (b : Totals). b.processes) x.elsewhere.totals in let b = l.processes in omega (arith, a, b));
+        channels = (let a = ap (λ (b : Totals). b.channels) x.elsewhere.totals in let b = l.channels in omega (arith, a, b));
+        entries = (let a = ap (λ (b : Totals). b.entries) x.elsewhere.totals in let b = l.entries in omega (arith, a, b));
+        fresh_since = λ a e. ⊎_elim (λ (b : a ≡ v). absurd (no_absent (sym cond_v ∙ subst (λ k. t1.condition k ≡ Absent) b e))) (λ (b : a ≢ v). since_other a b ∙ l.fresh_since a (sym (cond_r a b) ∙ e)) (same_or_not name_test a v);
+        pending = λ a lt. ⊎_elim
+            (λ (e : k ≡ a). subst (λ b. IsPending G (t1.pending (channel G.births b)) (u.pending b)) e
+            (subst (λ b. IsPending G b (u.pending k)) (sym (ap (λ b. b (channel G.births k)) x.elsewhere.pending ∙ none_there)) (subst (λ b. IsPending G None b) (sym (l.none_pending k (omega arith))) tt)))
+            (λ (e : k ≢ a). subst (λ b. IsPending G (b (channel G.births a)) (u.pending a)) (sym x.elsewhere.pending) (l.pending a (omega (arith, lt, e))))
+            (number_or G lv c s u l i d at_i k a);
+        none_pending = λ a le. l.none_pending a (omega (arith, le));
+        faulted = l.faulted;
+        quiet = λ e. x.elsewhere.fault ∙ l.quiet e;
+        unlaid = l.unlaid;
+        does = λ a lt. ⊎_elim
+            (λ (e : i ≡ a). subst (λ b. Does_all (one_more G) lv (G.births.name b) c1 t1 (b1.opens b) (u1.condition b)) e (subst (λ b. Does_all (one_more G) lv v c1 t1 (b1.opens i) b) (sym (ap (λ b. cond b (sys.Runs there) (u.condition i)) (eq-eqb i i refl))) its_does))
+            (λ (e : i ≢ a). subst (λ b. Does_all (one_more G) lv (G.births.name a) c1 t1 b (u1.condition a)) (sym (ap (λ b. cond b (u.births.opens i + 1) (u.births.opens a)) (number_is i a e)))
+            (subst (λ b. Does_all (one_more G) lv (G.births.name a) c1 t1 (u.births.opens a) b) (sym (ap (λ b. cond b (sys.Runs there) (u.condition a)) (number_is i a e))) (does_other a lt e)))
+            (number_or G lv c s u l i d at_i i a);
+        unborn = λ a le. ap (λ b. cond b (sys.Runs there) (u.condition a)) (number_is i a (λ e. let b = here G lv c s u l i d at_i in omega (arith, b, le, e))) ∙ l.unborn a le;
+        unmade = λ a le. ((l.unmade a le).0, ap (λ b. cond b (u.births.opens i + 1) (u.births.opens a)) (number_is i a (λ e. let b = here G lv c s u l i d at_i in omega (arith, b, le, e))) ∙ (l.unmade a le).1);
+        numbered = λ a h. ⊎_elim (λ (e : a ≡ v). (i, here G lv c s u l i d at_i, sym e)) (λ (e : a ≢ v). l.numbered a (λ f. h (cond_r a e ∙ f))) (same_or_not name_test a v);
+      }
+        where
+          no_absent : ◌≡◌ {A = Condition Process Held Address} (Works goes_on) Absent → ⊥
+          no_absent e = cc e
+
+      now : Now G lv c1 t1 u1
+      now = subst (λ n. Linked (at_open G (n + 1)) lv c1 t1 u1) l.open_is linked
+
+    opens_entry : Entry_of G c s u i d
+    opens_entry = record {
+      turn = tn;
+      is = tn_is;
+      way = way_by _ (sym told);
+      speaks = subst (λ f. IsOpen u.births f) (sym event_is) tt;
+      lives = lv;
+      linked = λ began. subst (λ a. Now G lv c1 t1 a) (sym after_is) (now (subst (λ (a : System Plain). Began G a.births) after_is began));
+    }
+      where
+        told : happening u.births (event_of G.g.limits u tn) ≡ Is_opened
+        told = ap (λ f. happening u.births f) event_is
+
+        way_by : (e : Happening) → Is_opened ≡ e → Way_on G c s v e
+        way_by e h = record {
+          unlaid = (its G lv c s u l i d at_i).4;
+          steps = x.steps;
+          at = x.at;
+          paused = false;
+          turn = x.turn Is_opened said_now;
+          cost = 1;
+          course = c1;
+          state = t1;
+          enters = λ left n a. subst (λ f. Entered G.g left c x.at false v f (1 + n)) h (l.faulted ∙ quiet, refl, t1, n, next_one n, (x.left, x.runs, said_now, goes_next), a);
+        }
+          where
+            next_one : (n : ℕ) → 1 + n ≡ suc n
+            next_one n = omega arith
+
+  pub opening_entry : Entry_of G c s u i d
+  opening_entry = by (nat_lt G.g.limits.entries (u.entries + 1)) (nat_lt G.g.limits.channels (u.births.channels + 1)) refl refl
+    where
+      by : (e1 e2 : Bool) → nat_lt G.g.limits.entries (u.entries + 1) ≡ e1 → nat_lt G.g.limits.channels (u.births.channels + 1) ≡ e2 → Entry_of G c s u i d
+      by true e2 h1 h2 = fails fault.F15 (comes_to (Some fault.F15) (passes true e2 h1 h2)) (found true e2 h1 h2)
+      by false true h1 h2 = fails fault.F14 (comes_to (Some fault.F14) (passes false true h1 h2)) (found false true h1 h2)
+      by false false h1 h2 = opens_entry h1 h2

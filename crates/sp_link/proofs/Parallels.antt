@@ -1,0 +1,333 @@
+-- A parallel statement forks: each child has a life by its statement and its place in the code, stands as it is born, and its parent
+-- keeps of it what the join will need (`parallel_entry`).
+use Rattle.std.proofs.Common.{◌≡◌, ◌⊎◌, inl, inr, ⊎_elim, ℕ, zero, suc, ◌+◌, ◌<◌, ◌≤◌, ℤ, List, [], ◌∷◌, ◌++◌, length, Option, Some, None, Bool, true, false, refl, sym, ap, ◌∙◌, subst, arith}
+use Rattle.std.specs.Prelude.{◌≢◌, nat_lt, pos, IsSome, slice_get}
+use Rattle.std.specs.FinMap as fin
+use Rattle.sp_tree.specs.Plain.{Program, Stmt, Stmts, No, And}
+use Rattle.sp_tree.specs.Uses.{Sees, Splits}
+use Rattle.sp_cell.specs.declared.spot.Spot.{Spot}
+use Rattle.sp_cell.specs.declared.spot.Handing.{Handing}
+use Rattle.sp_cell.specs.Fork.{index_frame, moved_of, shared_of}
+use Rattle.sp_cell.specs.Map.{Plain, output_spot}
+use Rattle.sp_cell.specs.Plan.{in_or}
+use Rattle.sp_cell.specs.Spots.{In, NotIn}
+use Rattle.sp_meaning.specs.Model.{Name}
+use Rattle.sp_meaning.specs.Own.{Loc, Output, Own, Who, Got, Item}
+use Rattle.sp_meaning.specs.Deeds.{Birth, Forked, newborn, push, children}
+use Rattle.sp_meaning.specs.Owning.{Aimed, Used, Born}
+use Rattle.sp_meaning.specs.Run.{Store}
+use Rattle.sp_meaning.specs.Runs.{StateOf}
+use Rattle.sp_meaning.specs.Along.{Course}
+use Rattle.sp_meaning.specs.Turn as source
+use Rattle.sp_meaning.proofs.Children.{AimedAt, UsedAt}
+use Rattle.sp_meaning.proofs.Deeding.{list_of, born_of}
+use Rattle.sp_meaning.proofs.Rights.{All, Mine}
+use Rattle.sp_meaning.proofs.Within.{part}
+use Rattle.sp_code.specs.declared.code.ForkTable.{ForkTable}
+use Rattle.sp_code.specs.declared.code.Layout.{Layout}
+use Rattle.sp_code.specs.Machine.{Config, At}
+use Rattle.sp_code.specs.Memory.{Memory}
+use Rattle.sp_code.specs.Memory as mem
+use Rattle.sp_code.specs.PlainStore.{plain}
+use Rattle.sp_code.specs.Places.{after}
+use Rattle.sp_code.specs.Scopes.{Scope}
+use Rattle.sp_code.specs.Emitted.{children_tables, child_table}
+use Rattle.sp_code.specs.Stands.{Stands as StandsIn, HasFork, HasWords, ChildrenAt}
+use Rattle.sp_code.specs.Tables.{child_at}
+use Rattle.sp_code.specs.System.{System, handing_of, plan_from, child_or, table_or}
+use Rattle.sp_code.specs.System as sys
+use Rattle.sp_codegen.specs.Following.{ParallelIs}
+use Rattle.sp_codegen.specs.Joints.{sources}
+use Rattle.sp_codegen.proofs.Born.{ChildIs, Seen, table_at}
+use Rattle.sp_codegen.proofs.Handed.{shared_known, output_unshared}
+use Rattle.sp_link.proofs.ChildrenStand as cs
+use Rattle.sp_link.proofs.Forks as fk
+use Rattle.sp_link.proofs.OneChanges.{q, pr}
+use Rattle.sp_link.proofs.Pauses.{Entry_of, Meant, Machined, Kept_to, kids}
+use Rattle.sp_link.proofs.Scoping.{IsScoped, is_scoped}
+use Rattle.sp_link.proofs.Relation.{Ground, Life, Lives, W_of, R_of, Called, Named, Fresh, Stands, Handed, St, Linked, execution, run_is}
+
+-- ---- the handings of a fork
+
+zero_plus : (j : ℕ) → 0 + j ≡ j
+zero_plus j = omega arith
+
+pub in_either : (a : Spot) (xs ys : List Spot) → In a (xs ++ ys) → In a xs ⊎ In a ys
+in_either a [] ys h = inr h
+in_either a (b ∷ xs) ys (inl e) = inl (inl e)
+in_either a (b ∷ xs) ys (inr h) = ⊎_elim (λ k. inl (inr k)) (λ k. inr k) (in_either a xs ys h)
+
+module _ (ls : List Layout) (fs : List mem.Frame) (t : ForkTable) (val : ℤ) where
+  abbrev pub one : ℕ → Handing
+  one j = handing_of ls fs val j (child_or (child_at t j))
+
+  pub in_moved : (i n : ℕ) (a : Spot) → In a (moved_of (plan_from ls fs t val i n)) → (j : ℕ) × (j < n) × In a (one (i + j)).moved
+  in_moved i zero a h = absurd h
+  in_moved i (suc n) a h = ⊎_elim (λ k. (0, omega arith, subst (λ z. In a (one z).moved) (nothing i) k))
+      (λ k. (let w = in_moved (suc i) n a k in (suc w.0, (let b = w.1 in omega (arith, b)), subst (λ z. In a (one z).moved) (shift i w.0) w.2)))
+      (in_either a (one i).moved (moved_of (plan_from ls fs t val (suc i) n)) h)
+    where
+      nothing : (i : ℕ) → i ≡ i + 0
+      nothing i = omega arith
+
+      shift : (i j : ℕ) → suc i + j ≡ i + suc j
+      shift i j = omega arith
+
+  pub in_shared : (i n : ℕ) (a : Spot) → In a (shared_of (plan_from ls fs t val i n)) → (j : ℕ) × (j < n) × In a (one (i + j)).shared
+  in_shared i zero a h = absurd h
+  in_shared i (suc n) a h = ⊎_elim (λ k. (0, omega arith, subst (λ z. In a (one z).shared) (nothing i) k))
+      (λ k. (let w = in_shared (suc i) n a k in (suc w.0, (let b = w.1 in omega (arith, b)), subst (λ z. In a (one z).shared) (shift i w.0) w.2)))
+      (in_either a (one i).shared (shared_of (plan_from ls fs t val (suc i) n)) h)
+    where
+      nothing : (i : ℕ) → i ≡ i + 0
+      nothing i = omega arith
+
+      shift : (i j : ℕ) → suc i + j ≡ i + suc j
+      shift i j = omega arith
+
+  pub moved_by : (n : ℕ) (a : Spot) → In a (moved_of (plan_from ls fs t val 0 n)) → (j : ℕ) × (j < n) × In a (one j).moved
+  moved_by n a h = let w = in_moved 0 n a h in (w.0, w.1, subst (λ z. In a (one z).moved) (zero_plus w.0) w.2)
+
+  pub shared_by : (n : ℕ) (a : Spot) → In a (shared_of (plan_from ls fs t val 0 n)) → (j : ℕ) × (j < n) × In a (one j).shared
+  shared_by n a h = let w = in_shared 0 n a h in (w.0, w.1, subst (λ z. In a (one z).shared) (zero_plus w.0) w.2)
+
+-- ---- the children of a parallel statement
+
+-- where the code of child j begins
+abbrev entry_at : Program → Stmts → ℕ → ℕ → ℕ
+entry_at p No q j = q
+entry_at p (And st rest) q zero = q
+entry_at p (And st rest) q (suc j) = entry_at p rest (after p q st + 1) j
+
+module _ (G : Ground) (free : Bool) (sc : List Scope) where
+  record Child (ss : Stmts) (q j : ℕ) (b : Birth) : Type 0 where
+    pub statement : Stmt
+    pub is : slice_get (list_of ss) j ≡ Some statement
+    pub child : ChildIs G.g.program G.moves G.shares G.code G.hush free sc ss q j b
+    pub same : child.statement ≡ statement
+    pub at : child.entry ≡ entry_at G.g.program ss q j
+
+  child_here : (ss : Stmts) (q j : ℕ) (b : Birth) → slice_get (children ss) j ≡ Some b → ChildrenAt G.g.program G.moves G.shares (StandsIn G.code) (HasFork G.code) (HasWords G.code) G.hush free sc q ss → Child ss q j b
+  child_here No q j b e h = absurd (cc e)
+  child_here (And st rest) q zero b e h = record { statement = st; is = refl; child = record { statement = st; entry = q; table = refl; birth = sym (cc e); body = h.0; end = h.1; inside = λ u. inl }; same = refl; at = refl }
+  child_here (And st rest) q (suc j) b e h =
+      let z = child_here rest (after G.g.program q st + 1) j b e h.2 in
+      record { statement = z.statement; is = z.is; child = record { statement = z.child.statement; entry = z.child.entry; table = z.child.table; birth = z.child.birth; body = z.child.body; end = z.child.end; inside = λ u a. inr (z.child.inside u a) }; same = z.same; at = z.at }
+
+  tables_count : (ss : Stmts) (q : ℕ) → length (children ss) ≡ length (children_tables G.g.program G.moves G.shares q ss)
+  tables_count No q = refl
+  tables_count (And st rest) q = ap suc (tables_count rest (after G.g.program q st + 1))
+
+abbrev cons : ℕ × ℕ → Name → Name
+cons a w = a ∷ w
+
+some_part : (ss : Stmts) → ss ≢ No → 1 ≤ length (children ss)
+some_part No h = absurd (h refl)
+some_part (And st rest) h = omega arith
+
+lt_true : (a b : ℕ) → nat_lt a b ≡ true → a + 1 ≤ b
+lt_true a b e = Prim.grind (arith, e)
+
+module _ (G : Ground) (lv : Lives G) (c : Course) (s : StateOf G.g) (u : System Plain) (l : Linked G lv c s u) (i : ℕ) (d : Config (Memory Plain)) (at_i : u.condition i ≡ sys.Runs d)
+    (z : Stands G (lv (q G lv c s u l i d at_i)) (kids G lv c s u l i d at_i) (q G lv c s u l i d at_i) (c.since (q G lv c s u l i d at_i)) (pr G lv c s u l i d at_i) s.store d)
+    (bs : List Birth) (todo : List Item) (o : Own) (m : Store) (x : Meant G lv c s u l i d at_i z (Got (source.Stops (Forked bs todo)) o, m)) (t : Machined G lv c s u l i d at_i z (Got (source.Stops (Forked bs todo)) o, m))
+    (y : Kept_to G lv c s u l i d at_i z (Got (source.Stops (Forked bs todo)) o, m)) (quiet : u.faulted ≡ false)
+    (h : ParallelIs (execution G (lv (q G lv c s u l i d at_i)) (kids G lv c s u l i d at_i) (q G lv c s u l i d at_i) z.fresh (pr G lv c s u l i d at_i).who z.named (c.since (q G lv c s u l i d at_i))) true t.3 bs t.5) where
+  abbrev v : Name
+  v = q G lv c s u l i d at_i
+
+  abbrev p : Program
+  p = G.g.program
+
+  abbrev ss : Stmts
+  ss = h.0
+
+  abbrev n : ℕ
+  n = length (children_tables p G.moves G.shares h.2 ss)
+
+  some : 1 ≤ length bs
+  some = subst (λ b. 1 ≤ length b) (sym h.6) (some_part ss (h.8.formed (Splits ss) (inl refl)))
+
+  abbrev k : ℕ
+  k = x.at.forks v
+
+  abbrev n1 : Memory Plain
+  n1 = record (t.2) { since = (t.2).ticks }
+
+  abbrev w1 : Who
+  w1 = record (x.left.who) { forks = x.left.who.forks + 1 }
+
+  abbrev Wr : Loc → Type 0
+  Wr a = Mine v a ⊎ (lv v).W a
+
+  abbrev Rd : Loc → Type 0
+  Rd a = Mine v a ⊎ (lv v).R a
+
+  frames_are : o.frames ≡ sources t.3
+  frames_are = (t.8).frames
+
+  may_fork : o.depth + 1 ≤ G.g.limits.depth
+  may_fork = lt_true o.depth G.g.limits.depth t.12
+
+  abbrev handing_at : ℕ → ℕ → Stmt → Handing
+  handing_at e b st = handing_of G.code.layouts n1.frames (pos 0) b (child_table p G.moves G.shares e None st)
+
+  -- the life of child b, whose statement is this one and begins at e
+  abbrev life_by : Option Stmt → ℕ → ℕ → Life
+  life_by None e b = record { W = λ a. ⊥; R = λ a. ⊥; J = λ a. ⊥; low = 0; born = 0; moved = []; below = []; end = 0 }
+  life_by (Some st) e b = record {
+    W = λ a. Aimed p (sources t.3) st a;
+    R = λ a. Used p (sources t.3) st a;
+    J = λ a. Seen h.3 t.3 st a;
+    low = suc (index_frame (handing_at e b st));
+    born = o.depth + 1;
+    moved = (handing_at e b st).moved;
+    below = t.3;
+    end = after p e st;
+  }
+
+  abbrev new_life : ℕ → Life
+  new_life b = life_by (slice_get (list_of ss) b) (entry_at p ss h.2 b) b
+
+  abbrev Aims_by : Option Stmt → Loc → Type 0
+  Aims_by a b = AimedAt p (λ a. All (W_of G lv) v a) (λ a. All (R_of G lv) v a) o.frames a b
+
+  abbrev Uses_by : Option Stmt → Loc → Type 0
+  Uses_by a b = UsedAt p (λ a. All (W_of G lv) v a) (λ a. All (R_of G lv) v a) o.frames a b
+
+  to_w : (b : ℕ) (a : Loc) → Aims_by (slice_get (list_of ss) b) a → (new_life b).W a
+  to_w b a g = go (slice_get (list_of ss) b) g
+    where
+      go : (st : Option Stmt) → Aims_by st a → (life_by st (entry_at p ss h.2 b) b).W a
+      go None g = g
+      go (Some st) g = subst (λ f. Aimed p f st a) frames_are g
+
+  from_w : (b : ℕ) (a : Loc) → (new_life b).W a → Aims_by (slice_get (list_of ss) b) a
+  from_w b a g = go (slice_get (list_of ss) b) g
+    where
+      go : (st : Option Stmt) → (life_by st (entry_at p ss h.2 b) b).W a → Aims_by st a
+      go None g = g
+      go (Some st) g = subst (λ f. Aimed p f st a) (sym frames_are) g
+
+  to_r : (b : ℕ) (a : Loc) → Uses_by (slice_get (list_of ss) b) a → (new_life b).R a
+  to_r b a g = go (slice_get (list_of ss) b) g
+    where
+      go : (st : Option Stmt) → Uses_by st a → (life_by st (entry_at p ss h.2 b) b).R a
+      go None g = g
+      go (Some st) g = subst (λ f. Used p f st a) frames_are g
+
+  from_r : (b : ℕ) (a : Loc) → (new_life b).R a → Uses_by (slice_get (list_of ss) b) a
+  from_r b a g = go (slice_get (list_of ss) b) g
+    where
+      go : (st : Option Stmt) → (life_by st (entry_at p ss h.2 b) b).R a → Uses_by st a
+      go None g = g
+      go (Some st) g = subst (λ f. Used p f st a) (sym frames_are) g
+
+  born : Born p (λ a. All (W_of G lv) v a) (λ a. All (R_of G lv) v a) o.frames (list_of ss) bs
+  born = subst (λ f. Born p (λ a. All (W_of G lv) v a) (λ a. All (R_of G lv) v a) f (list_of ss) bs) (sym frames_are)
+      (subst (λ b. Born p (λ a. All (W_of G lv) v a) (λ a. All (R_of G lv) v a) (sources t.3) (list_of ss) b) (sym h.6)
+      (born_of ss (part (λ u a. inr (inl a)) h.8.sound) (h.8.sound.kept (Splits ss) (inl refl))))
+
+  -- its parent's memory
+  stood : St G (lv v) (λ a b. lv ((a, b) ∷ v)) v w1 (t.2).ticks t.3 o x.at.store n1
+  stood = fk.parent_stand G lv c s u l i d at_i z bs todo o m x t y quiet h.1 (pos 0) (length (children_tables G.g.program G.moves G.shares h.2 h.0)) h.4 some (t.2).ticks refl
+
+  longer : (j : ℕ) → suc (length w1.name) ≤ length ((k, j) ∷ v)
+  longer j = let a = ap (λ (a : Name). length a) x.good.named in omega (arith, a)
+
+  module _ (more : ℕ → ℕ → Life) where
+    abbrev fresh : Fresh G (lv v) more v
+    fresh = record { based = z.fresh.based; reads = z.fresh.reads; low_small = z.fresh.low_small; ends = z.fresh.ends }
+
+    module _ (j : ℕ) (b : Birth) (e : slice_get bs j ≡ Some b) where
+      here : Child G true h.3 ss h.2 j b
+      here = child_here G true h.3 ss h.2 j b (ap (λ a. slice_get a j) (sym h.6) ∙ e) h.7
+
+      abbrev ch : ChildIs p G.moves G.shares G.code G.hush true h.3 ss h.2 j b
+      ch = here.child
+
+      -- its life is that by its statement
+      life_is : new_life j ≡ life_by (Some ch.statement) ch.entry j
+      life_is = ap (λ a. life_by a (entry_at p ss h.2 j) j) (here.is ∙ ap (λ a. Some a) (sym here.same)) ∙ ap (λ a. life_by (Some ch.statement) a j) (sym here.at)
+
+      table_is : child_or (child_at (table_or (slice_get G.code.forks h.1)) j) ≡ child_table p G.moves G.shares ch.entry None ch.statement
+      table_is = ap (λ a. child_or (child_at (table_or a) j)) h.5 ∙ ap (λ a. child_or a) (table_at p G.moves G.shares ss h.2 j ∙ ch.table)
+
+      in_scope : IsScoped p h.3 ch.statement
+      in_scope = is_scoped G true h.3 ch.entry ch.statement ch.body (λ u1 a1. h.8.formed u1 (inr (inl (ch.inside u1 a1))))
+
+      kept_of_it : Handed G (lv v) more v t.3 n1 (new_life j) ((k, j) ∷ v)
+      kept_of_it = subst (λ (lf : Life). Handed G (lv v) more v t.3 n1 lf ((k, j) ∷ v)) (sym life_is) (cs.handed_facts G (lv v) more v fresh stood may_fork ss h.3 h.8 h.2 j b ch ((k, j) ∷ v) (longer j) (pos 0))
+
+      shares_known : (a : Spot) → In a (handing_at ch.entry j ch.statement).shared → IsSome (fin.get n1.store.map a)
+      shares_known a f = shared_known G.g G.code w1 (Named G) (Called G) Wr Rd (lv v).J (lv v).low (length (lv v).below) (lv v).born (t.2).ticks G.pause (lv v).moved G.formed G.laid G.free z.fresh.reads G.moves G.shares G.sets stood ch.statement (cs.sound G (lv v) more v fresh stood may_fork ss h.3 h.8 h.2 j b ch ((k, j) ∷ v) (longer j) (pos 0)) (cs.unread G (lv v) more v fresh stood may_fork ss h.3 h.8 h.2 j b ch ((k, j) ∷ v) (longer j) (pos 0)) ((k, j) ∷ v) (cs.new_name G (lv v) more v fresh stood may_fork ss h.3 h.8 h.2 j b ch ((k, j) ∷ v) (longer j) (pos 0)) (child_table p G.moves G.shares ch.entry None ch.statement) refl refl (pos 0) j (cs.consoles G (lv v) more v) h.3 h.8.chain (λ x1 up a1. h.8.indexes x1 up (inr (inl (ch.inside (Sees x1) a1)))) in_scope a f
+
+      output_stays : Rd Output → In output_spot (handing_at ch.entry j ch.statement).shared → ⊥
+      output_stays may f = output_unshared G.g G.code w1 (Named G) (Called G) Wr Rd (lv v).J (lv v).low (length (lv v).below) (lv v).born (t.2).ticks G.pause (lv v).moved G.formed G.laid G.free z.fresh.reads G.moves G.shares G.sets stood ch.statement (cs.sound G (lv v) more v fresh stood may_fork ss h.3 h.8 h.2 j b ch ((k, j) ∷ v) (longer j) (pos 0)) (cs.unread G (lv v) more v fresh stood may_fork ss h.3 h.8 h.2 j b ch ((k, j) ∷ v) (longer j) (pos 0)) ((k, j) ∷ v) (cs.new_name G (lv v) more v fresh stood may_fork ss h.3 h.8 h.2 j b ch ((k, j) ∷ v) (longer j) (pos 0)) (child_table p G.moves G.shares ch.entry None ch.statement) refl refl (pos 0) j (cs.consoles G (lv v) more v) h.3 h.8.chain (λ x1 up a1. h.8.indexes x1 up (inr (inl (ch.inside (Sees x1) a1)))) in_scope may f
+
+      moves_known : (a : Spot) → In a (handing_at ch.entry j ch.statement).moved → IsSome (fin.get n1.store.map a)
+      moves_known a f = cs.all_moved_known G (lv v) more v fresh stood may_fork ss h.3 h.8 h.2 j b ch ((k, j) ∷ v) (longer j) (pos 0) a f
+
+      -- and it stands as it is born
+      process_is : newborn x.left.who o j b ≡ cs.own G (lv v) more v fresh stood may_fork ss h.3 h.8 h.2 j b ch ((k, j) ∷ v) (longer j) (pos 0)
+      process_is = ap (λ a. newborn x.left.who o j a) ch.birth
+          ∙ ap (λ (a : Name). record { todo = push ch.statement []; who = record { name = a; forks = 0; opens = 0 }; own = record { frames = o.frames; depth = o.depth + 1; ticks = 0; cells = 0 } })
+          (ap (λ a. cons (a, j) x.left.who.name) (fk.counted G lv c s u l i d at_i z bs todo o m x t y quiet h.1 (pos 0) (length (children_tables G.g.program G.moves G.shares h.2 h.0)) h.4 some) ∙ ap (λ a. cons (k, j) a) x.good.named)
+
+      it_stands : (number : ℕ) → Called G ((k, j) ∷ v) number → (own_more : ℕ → ℕ → Life)
+          → Stands G (new_life j) own_more ((k, j) ∷ v) 0 (newborn x.left.who o j b) x.at.store (sys.newborn plain (run_is G) (At t.0 t.1 n1) (pos 0) number j (child_or (child_at (table_or (slice_get G.code.forks h.1)) j)))
+      it_stands number called own_more =
+          subst (λ (lf : Life). Stands G lf own_more ((k, j) ∷ v) 0 (newborn x.left.who o j b) x.at.store (sys.newborn plain (run_is G) (At t.0 t.1 n1) (pos 0) number j (child_or (child_at (table_or (slice_get G.code.forks h.1)) j)))) (sym life_is)
+          (subst (λ a. Stands G (life_by (Some ch.statement) ch.entry j) own_more ((k, j) ∷ v) 0 a x.at.store (sys.newborn plain (run_is G) (At t.0 t.1 n1) (pos 0) number j (child_or (child_at (table_or (slice_get G.code.forks h.1)) j)))) (sym process_is)
+          (subst (λ a. Stands G (life_by (Some ch.statement) ch.entry j) own_more ((k, j) ∷ v) 0 (cs.own G (lv v) more v fresh stood may_fork ss h.3 h.8 h.2 j b ch ((k, j) ∷ v) (longer j) (pos 0)) x.at.store (sys.newborn plain (run_is G) (At t.0 t.1 n1) (pos 0) number j a)) (sym table_is)
+          (cs.child_stands G (lv v) more v fresh stood may_fork ss h.3 h.8 h.2 j b ch ((k, j) ∷ v) (longer j) (pos 0) number called t.0 t.1 shares_known own_more)))
+
+  count_is : length bs ≡ n
+  count_is = ap (λ b. length b) h.6 ∙ tables_count G true h.3 ss h.2
+
+  at_place : (j : ℕ) → j < n → (b : Birth) × (slice_get bs j ≡ Some b)
+  at_place j lt = fk.has_place bs j (omega (arith, lt, count_is))
+
+  -- no children of the parent's own matter here
+  abbrev none : ℕ → ℕ → Life
+  none a b = lv ((a, b) ∷ v)
+
+  abbrev one_of : ℕ → Handing
+  one_of j = handing_of G.code.layouts n1.frames (pos 0) j (child_or (child_at (table_or (slice_get G.code.forks h.1)) j))
+
+  known : (a : Spot) → In a (moved_of (fk.hs G lv c s u l i d at_i z bs todo o m x t y quiet h.1 (pos 0) (length (children_tables G.g.program G.moves G.shares h.2 h.0)) h.4 some)) ⊎ In a (shared_of (fk.hs G lv c s u l i d at_i z bs todo o m x t y quiet h.1 (pos 0) (length (children_tables G.g.program G.moves G.shares h.2 h.0)) h.4 some)) → IsSome (fin.get n1.store.map a)
+  known a (inl g) =
+      let w = moved_by G.code.layouts n1.frames (table_or (slice_get G.code.forks h.1)) (pos 0) n a g in
+      let b = at_place w.0 w.1 in
+      moves_known none w.0 b.0 b.1 a (subst (λ tb. In a (handing_of G.code.layouts n1.frames (pos 0) w.0 tb).moved) (table_is none w.0 b.0 b.1) w.2)
+  known a (inr g) =
+      let w = shared_by G.code.layouts n1.frames (table_or (slice_get G.code.forks h.1)) (pos 0) n a g in
+      let b = at_place w.0 w.1 in
+      shares_known none w.0 b.0 b.1 a (subst (λ tb. In a (handing_of G.code.layouts n1.frames (pos 0) w.0 tb).shared) (table_is none w.0 b.0 b.1) w.2)
+
+  dry : All (R_of G lv) v Output → NotIn output_spot (shared_of (fk.hs G lv c s u l i d at_i z bs todo o m x t y quiet h.1 (pos 0) (length (children_tables G.g.program G.moves G.shares h.2 h.0)) h.4 some))
+  dry may = ⊎_elim (λ g. absurd (wet g)) (λ g. g) (in_or output_spot (shared_of (fk.hs G lv c s u l i d at_i z bs todo o m x t y quiet h.1 (pos 0) (length (children_tables G.g.program G.moves G.shares h.2 h.0)) h.4 some)))
+    where
+      wet : In output_spot (shared_of (fk.hs G lv c s u l i d at_i z bs todo o m x t y quiet h.1 (pos 0) (length (children_tables G.g.program G.moves G.shares h.2 h.0)) h.4 some)) → ⊥
+      wet g =
+          let w = shared_by G.code.layouts n1.frames (table_or (slice_get G.code.forks h.1)) (pos 0) n output_spot g in
+          let b = at_place w.0 w.1 in
+          output_stays none w.0 b.0 b.1 may (subst (λ tb. In output_spot (handing_of G.code.layouts n1.frames (pos 0) w.0 tb).shared) (table_is none w.0 b.0 b.1) w.2)
+
+  parts : (a : Spot) → In a (moved_of (fk.hs G lv c s u l i d at_i z bs todo o m x t y quiet h.1 (pos 0) (length (children_tables G.g.program G.moves G.shares h.2 h.0)) h.4 some)) → (j : ℕ) × (j < n) × In a (new_life j).moved
+  parts a g =
+      let w = moved_by G.code.layouts n1.frames (table_or (slice_get G.code.forks h.1)) (pos 0) n a g in
+      let b = at_place w.0 w.1 in
+      (w.0, w.1, subst (λ (lf : Life). In a lf.moved) (sym (life_is none w.0 b.0 b.1)) (subst (λ tb. In a (handing_of G.code.layouts n1.frames (pos 0) w.0 tb).moved) (table_is none w.0 b.0 b.1) w.2))
+
+  pub parallel_entry : Entry_of G c s u i d
+  parallel_entry = by (nat_lt G.g.limits.entries (u.entries + 1)) (nat_lt G.g.limits.processes (u.births.processes + n)) refl refl
+    where
+      os_are : length (Rattle.sp_meaning.specs.Deeds.newborns x.left.who o 0 bs) ≡ n
+      os_are = fk.newborns_length x.left.who o 0 bs ∙ count_is
+
+      by : (e1 e2 : Bool) → nat_lt G.g.limits.entries (u.entries + 1) ≡ e1 → nat_lt G.g.limits.processes (u.births.processes + n) ≡ e2 → Entry_of G c s u i d
+      by true e2 h1 h2 = fk.over_entry G lv c s u l i d at_i z bs todo o m x t y quiet h.1 (pos 0) (length (children_tables G.g.program G.moves G.shares h.2 h.0)) h.4 some h1
+      by false true h1 h2 = fk.many_entry G lv c s u l i d at_i z bs todo o m x t y quiet h.1 (pos 0) (length (children_tables G.g.program G.moves G.shares h.2 h.0)) h.4 some h1 (ap (λ a. nat_lt G.g.limits.processes (u.births.processes + a)) os_are ∙ h2) h2
+      by false false h1 h2 = fk.fork_entry G lv c s u l i d at_i z bs todo o m x t y quiet h.1 (pos 0) (length (children_tables G.g.program G.moves G.shares h.2 h.0)) h.4 some h1 h2 count_is (list_of ss) born new_life to_w from_w to_r from_r known dry parts
+          (λ more j lt. (let b = at_place j lt in kept_of_it more j b.0 b.1)) (λ more j lt b e called. it_stands none j b e (u.births.processes + j) called more)

@@ -1,0 +1,85 @@
+-- The theorem for programs: the code of a program that is ready, along each journal that can be named, is the program's meaning along
+-- that journal, both ways, and no turn of it lacks what it needs.
+use Rattle.std.proofs.Common.{◌≡◌, ℕ, ◌<◌, List, Option, Some, None, refl, ap}
+use Rattle.sp_journal.specs.declared.entry.Entry.{Entry}
+use Rattle.sp_journal.specs.Births.{Births, channel, at_start, births_from, occurrences_from, NameableFrom}
+use Rattle.sp_journal.specs.Names.{Channel}
+use Rattle.sp_journal.proofs.BirthLaws.{Lawful}
+use Rattle.sp_journal.proofs.BirthLaws.{lawful as lawful_births}
+use Rattle.sp_tree.specs.Plain.{Stmt}
+use Rattle.sp_cell.specs.Map.{Plain}
+use Rattle.sp_meaning.specs.Own.{Setting}
+use Rattle.sp_meaning.specs.Runs.{StateOf}
+use Rattle.sp_meaning.specs.Along.{IsAlong}
+use Rattle.sp_code.specs.declared.code.Parts.{Parts as Code}
+use Rattle.sp_code.specs.Emitted.{program_code}
+use Rattle.sp_code.specs.Quiet.{IsQuiet}
+use Rattle.sp_code.specs.Stands.{BlocksAt}
+use Rattle.sp_code.specs.Machine.{Config}
+use Rattle.sp_code.specs.Turns.{IsSafe}
+use Rattle.sp_code.specs.Memory.{Memory, memory}
+use Rattle.sp_code.specs.PlainStore.{plain}
+use Rattle.sp_code.specs.System.{System, Runs, IsSystem}
+use Rattle.sp_code.proofs.Blocks.{blocks_stand, layout_found}
+use Rattle.sp_codegen.specs.Meets.{code_run}
+use Rattle.sp_codegen.proofs.FirstTurn.{laid_of}
+use Rattle.sp_link.specs.Premises.{IsReady}
+use Rattle.sp_link.proofs.Entries.{Events}
+use Rattle.sp_link.proofs.Relation.{Ground, at_open}
+use Rattle.sp_link.proofs.Theorem.{meaning_of_system, turns_safe, system_of_meaning}
+
+-- no two channels have one name
+one_channel : (b : Births) → Lawful b → (c d : ℕ) → c < b.channels → d < b.channels → channel b c ≡ channel b d → c ≡ d
+one_channel b w c d lc ld e =
+    let owners : (b.opening c).owner ≡ (b.opening d).owner = w.one_name (b.opening c).owner (b.opening d).owner (w.owned c lc) (w.owned d ld) (ap (λ (y : Channel). y.owner) e) in
+    let nths : (b.opening c).nth ≡ (b.opening d).nth = ap (λ (y : Channel). y.nth) e in
+    w.one_opening c d lc ld (λ i. record { owner = owners i; nth = nths i })
+
+module _ (g : Setting) (moves shares : Stmt → List ℕ) (pause : ℕ) (ready : IsReady g moves shares) (es : List Entry) (named : NameableFrom at_start es) where
+  abbrev code : Code
+  code = program_code g.program moves shares
+
+  blocks : BlocksAt g.program moves shares code (IsQuiet g.program)
+  blocks = blocks_stand g.program moves shares (IsQuiet g.program) ready.fine
+
+  lawful : Lawful (births_from at_start es)
+  lawful = lawful_births es named
+
+  abbrev ground : Ground
+  ground = record {
+    g = g;
+    code = code;
+    moves = moves;
+    shares = shares;
+    hush = IsQuiet g.program;
+    pause = pause;
+    births = births_from at_start es;
+    opened = 0;
+    formed = ready.formed;
+    laid = laid_of g.program code moves shares (IsQuiet g.program) blocks (λ f l e. layout_found g.program f l e);
+    free = ready.free;
+    pure = ready.pure;
+    values = ready.values;
+    finds = λ f l e. layout_found g.program f l e;
+    blocks = blocks;
+    sets = ready.sets;
+    limits = ready.limits;
+    one_name = λ a b la lb e. lawful.one_name a b la lb e;
+    one_channel = λ c d lc ld e. one_channel (births_from at_start es) lawful c d lc ld e;
+  }
+
+  none_some : (x : ℕ) → ◌≡◌ {A = Option ℕ} (Some x) None → ⊥
+  none_some x e = cc e
+
+  -- no forall forks
+  events : (n : ℕ) → Events (at_open ground n)
+  events n = record { spread = λ lv c s u l i d at z bs todo o m x t y quiet h. absurd (none_some h.0 (ready.no_index h.6 _ h.10 0 _ refl)) }
+
+  pub program_means : (t : System Plain) → IsSystem plain (code_run g code pause) es t → (n : ℕ) × (s : StateOf g) × IsAlong g pause (occurrences_from at_start es) n s
+  program_means t h = meaning_of_system ground events ready.main ready.first es named refl t h
+
+  pub program_runs : (n : ℕ) (s : StateOf g) → IsAlong g pause (occurrences_from at_start es) n s → (t : System Plain) × IsSystem plain (code_run g code pause) es t
+  program_runs n s h = system_of_meaning ground events ready.main ready.first es named refl n s h
+
+  pub program_safe : (t : System Plain) → IsSystem plain (code_run g code pause) es t → (i : ℕ) (d : Config (Memory Plain)) → t.condition i ≡ Runs d → IsSafe (memory plain (code_run g code pause)) code d
+  program_safe t h i d at = turns_safe ground events ready.main ready.first es named refl t h i d at
