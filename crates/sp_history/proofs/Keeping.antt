@@ -16,10 +16,10 @@ use Rattle.sp_code.specs.declared.code.Layout.{Layout}
 use Rattle.sp_code.specs.declared.code.Parts.{Parts}
 use Rattle.sp_code.specs.Machine.{Entry, Number, Chan, Pointer, Cells, Link, Reply, further, Did, Done, Failed, Ops, Config, At, One, outside, is_range, is_before, next_value, values_in, fit_formals, layout_of, on_number, on_channel, on_address, on_cell, on_cells, on_equals, pop, when, there, then_go, worked, ordinal_in, channel_in, on_one, on_two, told, selected, paced, entered, called, returned, taken, reads, prints, wide, writes, writes_wide, begins_loop, ends_loop, forked, instruction, one}
 use Rattle.sp_code.specs.Turns.{Turn, Stopped, Faulted, Begins, ComesIn, EndsSo, Runs, begins, IsTurn}
-use Rattle.sp_history.specs.Channels.{CellHas, CellsHave, EntriesHave, ConfigHas, TurnHas, OneHas}
+use Rattle.sp_history.specs.Channels.{CellHas, CellsHave, EntriesHave, ConfigHas, TurnHas, TurnDoes, OneHas}
 
 -- what the operations of a memory keep of I, where each channel that they are handed is one of C
-pub record HasKeeping {M : Type 0} (ops : Ops M) (C : ℕ → Type 0) (I : M → Type 0) : Type 0 where
+pub record HasKeeping {M : Type 0} (ops : Ops M) (C : ℕ → Type 0) (I : M → Type 0) (J : Address → M → Type 0) : Type 0 where
   pub look : (a : Address) (n : M) → I n → CellHas C (ops.look a n)
   pub cells : (a : Address) (k : ℕ) (n : M) → I n → CellsHave C (ops.cells a k n)
   pub put : (a : Address) (c : Cell) (n : M) → I n → ops.has a 1 n ≡ true → CellHas C c → I (ops.put a c n)
@@ -27,6 +27,7 @@ pub record HasKeeping {M : Type 0} (ops : Ops M) (C : ℕ → Type 0) (I : M →
   pub advance : (k : ℕ) (bs : List ℕ) (n : M) → I n → ops.left n ≡ Some bs → I (ops.advance k n)
   pub copy : (to from : Address) (k : ℕ) (n : M) → I n → ops.has to k n ≡ true → I (ops.copy to from k n)
   pub own : (a : Address) (n : M) → I n → ops.has a 1 n ≡ true → I (ops.own a n)
+  pub target : (a : Address) (n : M) → I n → ops.has a 1 n ≡ true → J a (ops.own a n)
   pub print : (t : List ℕ) (n m : M) → I n → ops.has_output n ≡ true → ops.print t n ≡ Done m → I m
   pub beat : (n m : M) → I n → ops.beat n ≡ Done m → I m
   pub open_frame : (l : Layout) (up : ℕ) (es : List Entry) (n m : M) → I n → EntriesHave C es → ops.open_frame l up es n ≡ Done m → I m
@@ -36,9 +37,9 @@ both_true : (a b : Bool) → (a && b) ≡ true → (a ≡ true) × (b ≡ true)
 both_true true b e = (refl, e)
 both_true false b e = absurd cc
 
-module _ {M : Type 0} (C : ℕ → Type 0) (I : M → Type 0) where
+module _ {M : Type 0} (C : ℕ → Type 0) (I : M → Type 0) (J : Address → M → Type 0) where
   abbrev K : One M → Type 0
-  K o = OneHas C I o
+  K o = OneHas C I J o
 
   k_number : (st : List Entry) (go : ℤ → List Entry → One M) → EntriesHave C st → ((x : ℤ) (st1 : List Entry) → EntriesHave C st1 → K (go x st1)) → K (on_number st go)
   k_number [] go e h = tt
@@ -129,83 +130,83 @@ module _ {M : Type 0} (C : ℕ → Type 0) (I : M → Type 0) where
   k_if true x y h k = h
   k_if false x y h k = k
 
-module _ {M : Type 0} (ops : Ops M) (code : Parts) (C : ℕ → Type 0) (I : M → Type 0) (law : HasKeeping ops C I) where
+module _ {M : Type 0} (ops : Ops M) (code : Parts) (C : ℕ → Type 0) (I : M → Type 0) (J : Address → M → Type 0) (law : HasKeeping ops C I J) where
   module _ (pc : ℕ) (st : List Entry) (n : M) (e : EntriesHave C st) (h : I n) where
-    one_keeps : (g : ℤ → Worked) → OneHas C I (on_one ops code g pc st n)
-    one_keeps g = k_number C I st _ e (λ v st1 f. k_worked C I (g v) _ (λ w. ((tt, f), h)))
+    one_keeps : (g : ℤ → Worked) → OneHas C I J (on_one ops code g pc st n)
+    one_keeps g = k_number C I J st _ e (λ v st1 f. k_worked C I J (g v) _ (λ w. ((tt, f), h)))
 
-    two_keeps : (o : BinaryOp) → OneHas C I (on_two ops code o pc st n)
-    two_keeps o = k_number C I st _ e (λ v st1 f. k_number C I st1 _ f (λ u st2 k. k_worked C I (binary_op o u v) _ (λ w. ((tt, k), h))))
+    two_keeps : (o : BinaryOp) → OneHas C I J (on_two ops code o pc st n)
+    two_keeps o = k_number C I J st _ e (λ v st1 f. k_number C I J st1 _ f (λ u st2 k. k_worked C I J (binary_op o u v) _ (λ w. ((tt, k), h))))
 
-    told_keeps : (t : Bool) (st1 : List Entry) → EntriesHave C st1 → OneHas C I (told ops code t (pc + 1) st1 n)
+    told_keeps : (t : Bool) (st1 : List Entry) → EntriesHave C st1 → OneHas C I J (told ops code t (pc + 1) st1 n)
     told_keeps t st1 f = ((tt, f), h)
 
-    selected_keeps : (a : Address) (st1 : List Entry) → EntriesHave C st1 → OneHas C I (selected ops code a (pc + 1) st1 n)
-    selected_keeps a st1 f = k_when C I (ops.has a 1 n) _ (λ w. ((tt, f), h))
+    selected_keeps : (a : Address) (st1 : List Entry) → EntriesHave C st1 → OneHas C I J (selected ops code a (pc + 1) st1 n)
+    selected_keeps a st1 f = k_when C I J (ops.has a 1 n) _ (λ w. ((tt, f), h))
 
-    paced_keeps : (next : ℕ) (st1 : List Entry) (m : M) → EntriesHave C st1 → I m → OneHas C I (paced ops code next st1 m)
-    paced_keeps next st1 m f k = k_if C I (outside st1) _ _ (k_if C I (ops.due m) _ _ (tt, (f, k)) (f, k)) (f, k)
+    paced_keeps : (next : ℕ) (st1 : List Entry) (m : M) → EntriesHave C st1 → I m → OneHas C I J (paced ops code next st1 m)
+    paced_keeps next st1 m f k = k_if C I J (outside st1) _ _ (k_if C I J (ops.due m) _ _ ((tt, tt), (f, k)) (f, k)) (f, k)
 
-    entered_keeps : (l : Layout) (st1 : List Entry) (m : M) → EntriesHave C st1 → I m → OneHas C I (entered ops code l (pc + 1) st1 m)
-    entered_keeps l st1 m f k = k_if C I l.answer _ _ ((tt, f), k) (paced_keeps l.entry (Link (pc + 1) ∷ st1) m (tt, f) k)
+    entered_keeps : (l : Layout) (st1 : List Entry) (m : M) → EntriesHave C st1 → I m → OneHas C I J (entered ops code l (pc + 1) st1 m)
+    entered_keeps l st1 m f k = k_if C I J l.answer _ _ ((tt, f), k) (paced_keeps l.entry (Link (pc + 1) ∷ st1) m (tt, f) k)
 
-    called_keeps : (l : Layout) (up : ℕ) → OneHas C I (called ops code l up (pc + 1) st n)
+    called_keeps : (l : Layout) (up : ℕ) → OneHas C I J (called ops code l up (pc + 1) st n)
     called_keeps l up =
-        k_pop C I (length l.formals) st [] _ e tt (λ es st1 f k. k_when C I (fit_formals l.formals es) _ (λ w. k_when C I (ops.may_open up n) _ (λ x. k_then C I (ops.open_frame l up es n) _ (λ m d. entered_keeps l st1 m k (law.open_frame l up es n m h f d)))))
+        k_pop C I J (length l.formals) st [] _ e tt (λ es st1 f k. k_when C I J (fit_formals l.formals es) _ (λ w. k_when C I J (ops.may_open up n) _ (λ x. k_then C I J (ops.open_frame l up es n) _ (λ m d. entered_keeps l st1 m k (law.open_frame l up es n m h f d)))))
 
-    taken_keeps : (t : Taken) (a : Address) (bs : List ℕ) (st1 : List Entry) → EntriesHave C st1 → ops.has a 1 n ≡ true → ops.left n ≡ Some bs → OneHas C I (taken ops code t a (pc + 1) st1 n)
+    taken_keeps : (t : Taken) (a : Address) (bs : List ℕ) (st1 : List Entry) → EntriesHave C st1 → ops.has a 1 n ≡ true → ops.left n ≡ Some bs → OneHas C I J (taken ops code t a (pc + 1) st1 n)
     taken_keeps (Takes v k) a bs st1 f w x = (f, law.read a v k bs n h w x)
     taken_keeps (Faulty g) a bs st1 f w x = tt
 
-    reads_keeps : (item : List ℕ → Taken) → OneHas C I (reads ops code item (pc + 1) st n)
-    reads_keeps item = k_address C I st _ e (λ a st1 f. k_when C I (ops.has a 1 n) _ (λ w. k_there C I (ops.left n) _ (λ bs x. taken_keeps (item bs) a bs st1 f w x)))
+    reads_keeps : (item : List ℕ → Taken) → OneHas C I J (reads ops code item (pc + 1) st n)
+    reads_keeps item = k_address C I J st _ e (λ a st1 f. k_when C I J (ops.has a 1 n) _ (λ w. k_there C I J (ops.left n) _ (λ bs x. taken_keeps (item bs) a bs st1 f w x)))
 
-    prints_keeps : (t : List ℕ) (st1 : List Entry) → EntriesHave C st1 → OneHas C I (prints ops code t (pc + 1) st1 n)
-    prints_keeps t st1 f = k_when C I (ops.has_output n) _ (λ w. k_then C I (ops.print t n) _ (λ m d. (f, law.print t n m h w d)))
+    prints_keeps : (t : List ℕ) (st1 : List Entry) → EntriesHave C st1 → OneHas C I J (prints ops code t (pc + 1) st1 n)
+    prints_keeps t st1 f = k_when C I J (ops.has_output n) _ (λ w. k_then C I J (ops.print t n) _ (λ m d. (f, law.print t n m h w d)))
 
-    wide_keeps : (cut : Bool) (t : List ℕ) (w : ℤ) (st1 : List Entry) → EntriesHave C st1 → OneHas C I (wide ops code cut t w (pc + 1) st1 n)
-    wide_keeps cut t w st1 f = k_if C I (int_le w (pos 0)) _ _ tt (prints_keeps (padded (nat_abs w) (if cut then take (nat_abs w) t else t)) st1 f)
+    wide_keeps : (cut : Bool) (t : List ℕ) (w : ℤ) (st1 : List Entry) → EntriesHave C st1 → OneHas C I J (wide ops code cut t w (pc + 1) st1 n)
+    wide_keeps cut t w st1 f = k_if C I J (int_le w (pos 0)) _ _ tt (prints_keeps (padded (nat_abs w) (if cut then take (nat_abs w) t else t)) st1 f)
 
-    writes_keeps : (text : ℤ → List ℕ) → OneHas C I (writes ops code text (pc + 1) st n)
-    writes_keeps text = k_number C I st _ e (λ v st1 f. prints_keeps (text v) st1 f)
+    writes_keeps : (text : ℤ → List ℕ) → OneHas C I J (writes ops code text (pc + 1) st n)
+    writes_keeps text = k_number C I J st _ e (λ v st1 f. prints_keeps (text v) st1 f)
 
-    writes_wide_keeps : (cut : Bool) (text : ℤ → List ℕ) → OneHas C I (writes_wide ops code cut text (pc + 1) st n)
-    writes_wide_keeps cut text = k_number C I st _ e (λ w st1 f. k_number C I st1 _ f (λ v st2 k. wide_keeps cut (text v) w st2 k))
+    writes_wide_keeps : (cut : Bool) (text : ℤ → List ℕ) → OneHas C I J (writes_wide ops code cut text (pc + 1) st n)
+    writes_wide_keeps cut text = k_number C I J st _ e (λ w st1 f. k_number C I J st1 _ f (λ v st2 k. wide_keeps cut (text v) w st2 k))
 
-    begins_keeps : (down : Bool) (var to : ℕ) → OneHas C I (begins_loop ops code down var to pc st n)
+    begins_keeps : (down : Bool) (var to : ℕ) → OneHas C I J (begins_loop ops code down var to pc st n)
     begins_keeps down var to =
-        k_number C I st _ e (λ last st1 f. k_number C I st1 _ f (λ first st2 k. k_there C I (ops.addr 0 var n) _ (λ a x. k_when C I (ops.has a 1 n) _ (λ w.
-        k_if C I (is_range down first last) _ _ ((tt, k), law.put a (cell.Ordinal first) n h w tt) (k, h)))))
+        k_number C I J st _ e (λ last st1 f. k_number C I J st1 _ f (λ first st2 k. k_there C I J (ops.addr 0 var n) _ (λ a x. k_when C I J (ops.has a 1 n) _ (λ w.
+        k_if C I J (is_range down first last) _ _ ((tt, k), law.put a (cell.Ordinal first) n h w tt) (k, h)))))
 
-    ends_keeps : (down : Bool) (var to : ℕ) → OneHas C I (ends_loop ops code down var to pc st n)
+    ends_keeps : (down : Bool) (var to : ℕ) → OneHas C I J (ends_loop ops code down var to pc st n)
     ends_keeps down var to =
-        k_number C I st _ e (λ last st1 f. k_there C I (ops.addr 0 var n) _ (λ a x. k_when C I (ops.has a 1 n) _ (λ w. k_ordinal C I (ops.look a n) _ (λ v.
-        k_if C I (is_before down v last) _ _ ((tt, f), law.put a (cell.Ordinal (next_value down v)) n h w tt) (f, h)))))
+        k_number C I J st _ e (λ last st1 f. k_there C I J (ops.addr 0 var n) _ (λ a x. k_when C I J (ops.has a 1 n) _ (λ w. k_ordinal C I J (ops.look a n) _ (λ v.
+        k_if C I J (is_before down v last) _ _ ((tt, f), law.put a (cell.Ordinal (next_value down v)) n h w tt) (f, h)))))
 
-    forked_keeps : (t : ℕ) (first : ℤ) (count : ℕ) (next : ℕ) (st1 : List Entry) → EntriesHave C st1 → OneHas C I (forked ops code t first count next st1 n)
-    forked_keeps t first count next st1 f = k_if C I (ops.may_fork n) _ _ (tt, (f, h)) tt
+    forked_keeps : (t : ℕ) (first : ℤ) (count : ℕ) (next : ℕ) (st1 : List Entry) → EntriesHave C st1 → OneHas C I J (forked ops code t first count next st1 n)
+    forked_keeps t first count next st1 f = k_if C I J (ops.may_fork n) _ _ ((tt, tt), (f, h)) tt
 
-  returned_keeps : (st : List Entry) (n : M) → EntriesHave C st → I n → OneHas C I (returned ops code st n)
+  returned_keeps : (st : List Entry) (n : M) → EntriesHave C st → I n → OneHas C I J (returned ops code st n)
   returned_keeps [] n e h = tt
   returned_keeps (Number v ∷ st) n e h = tt
   returned_keeps (Chan c ∷ st) n e h = tt
   returned_keeps (Pointer a ∷ st) n e h = tt
   returned_keeps (Cells cs ∷ st) n e h = tt
-  returned_keeps (Link k ∷ st) n e h = k_when C I (ops.may_close n) _ (λ w. (e.1, law.close_frame n h w))
+  returned_keeps (Link k ∷ st) n e h = k_when C I J (ops.may_close n) _ (λ w. (e.1, law.close_frame n h w))
   returned_keeps (Reply k ∷ st) n e h =
-      k_when C I (ops.may_close n) _ (λ w. k_there C I (ops.answer n) _ (λ a x. k_when C I (ops.has a 1 n) _ (λ y. k_ordinal C I (ops.look a n) _ (λ v. ((tt, e.1), law.close_frame n h w)))))
+      k_when C I J (ops.may_close n) _ (λ w. k_there C I J (ops.answer n) _ (λ a x. k_when C I J (ops.has a 1 n) _ (λ y. k_ordinal C I J (ops.look a n) _ (λ v. ((tt, e.1), law.close_frame n h w)))))
 
-  instruction_keeps : (o : Option Instr) (pc : ℕ) (st : List Entry) (n : M) → EntriesHave C st → I n → OneHas C I (instruction ops code o pc st n)
+  instruction_keeps : (o : Option Instr) (pc : ℕ) (st : List Entry) (n : M) → EntriesHave C st → I n → OneHas C I J (instruction ops code o pc st n)
   instruction_keeps None pc st n e h = tt
   instruction_keeps (Some (i.Const v)) pc st n e h = ((tt, e), h)
-  instruction_keeps (Some (i.Addr up var)) pc st n e h = k_there C I (ops.addr up var n) _ (λ a x. ((tt, e), h))
-  instruction_keeps (Some (i.Deref up var)) pc st n e h = k_there C I (ops.deref up var n) _ (λ a x. ((tt, e), h))
-  instruction_keeps (Some (i.Index low high size)) pc st n e h = k_number C I st _ e (λ v st1 f. k_address C I st1 _ f (λ a st2 k. k_if C I (int_le low v && int_le v high) _ _ (selected_keeps pc st n e h (further (nat_abs (v -ℤ low) * size) a) st2 k) tt))
-  instruction_keeps (Some (i.Field k)) pc st n e h = k_address C I st _ e (λ a st1 f. selected_keeps pc st n e h (further k a) st1 f)
-  instruction_keeps (Some i.Load) pc st n e h = k_address C I st _ e (λ a st1 f. k_when C I (ops.has a 1 n) _ (λ w. k_ordinal C I (ops.look a n) _ (λ v. ((tt, f), h))))
-  instruction_keeps (Some i.Loadc) pc st n e h = k_address C I st _ e (λ a st1 f. k_when C I (ops.has a 1 n) _ (λ w. k_channel_in C I (ops.look a n) _ (law.look a n h) (λ c k. ((k, f), h))))
-  instruction_keeps (Some i.Store) pc st n e h = k_cell C I st _ e (λ c st1 k f. k_address C I st1 _ f (λ a st2 j. k_when C I (ops.has a 1 n) _ (λ w. (j, law.put a c n h w k))))
-  instruction_keeps (Some (i.Copy k)) pc st n e h = k_address C I st _ e (λ from st1 f. k_address C I st1 _ f (λ to st2 j. k_when C I (ops.has from k n && ops.has to k n) _ (λ w. (j, law.copy to from k n h (both_true (ops.has from k n) (ops.has to k n) w).1))))
+  instruction_keeps (Some (i.Addr up var)) pc st n e h = k_there C I J (ops.addr up var n) _ (λ a x. ((tt, e), h))
+  instruction_keeps (Some (i.Deref up var)) pc st n e h = k_there C I J (ops.deref up var n) _ (λ a x. ((tt, e), h))
+  instruction_keeps (Some (i.Index low high size)) pc st n e h = k_number C I J st _ e (λ v st1 f. k_address C I J st1 _ f (λ a st2 k. k_if C I J (int_le low v && int_le v high) _ _ (selected_keeps pc st n e h (further (nat_abs (v -ℤ low) * size) a) st2 k) tt))
+  instruction_keeps (Some (i.Field k)) pc st n e h = k_address C I J st _ e (λ a st1 f. selected_keeps pc st n e h (further k a) st1 f)
+  instruction_keeps (Some i.Load) pc st n e h = k_address C I J st _ e (λ a st1 f. k_when C I J (ops.has a 1 n) _ (λ w. k_ordinal C I J (ops.look a n) _ (λ v. ((tt, f), h))))
+  instruction_keeps (Some i.Loadc) pc st n e h = k_address C I J st _ e (λ a st1 f. k_when C I J (ops.has a 1 n) _ (λ w. k_channel_in C I J (ops.look a n) _ (law.look a n h) (λ c k. ((k, f), h))))
+  instruction_keeps (Some i.Store) pc st n e h = k_cell C I J st _ e (λ c st1 k f. k_address C I J st1 _ f (λ a st2 j. k_when C I J (ops.has a 1 n) _ (λ w. (j, law.put a c n h w k))))
+  instruction_keeps (Some (i.Copy k)) pc st n e h = k_address C I J st _ e (λ from st1 f. k_address C I J st1 _ f (λ to st2 j. k_when C I J (ops.has from k n && ops.has to k n) _ (λ w. (j, law.copy to from k n h (both_true (ops.has from k n) (ops.has to k n) w).1))))
   instruction_keeps (Some i.Add) pc st n e h = two_keeps pc st n e h op.Add
   instruction_keeps (Some i.Sub) pc st n e h = two_keeps pc st n e h op.Sub
   instruction_keeps (Some i.Mul) pc st n e h = two_keeps pc st n e h op.Mul
@@ -218,8 +219,8 @@ module _ {M : Type 0} (ops : Ops M) (code : Parts) (C : ℕ → Type 0) (I : M �
   instruction_keeps (Some i.And) pc st n e h = two_keeps pc st n e h op.And
   instruction_keeps (Some i.Or) pc st n e h = two_keeps pc st n e h op.Or
   instruction_keeps (Some i.Not) pc st n e h = one_keeps pc st n e h (unary_op sign.Not)
-  instruction_keeps (Some i.Eq) pc st n e h = k_equals C I st _ e (λ t st1 f. told_keeps pc st n e h t st1 f)
-  instruction_keeps (Some i.Ne) pc st n e h = k_equals C I st _ e (λ t st1 f. told_keeps pc st n e h (not t) st1 f)
+  instruction_keeps (Some i.Eq) pc st n e h = k_equals C I J st _ e (λ t st1 f. told_keeps pc st n e h t st1 f)
+  instruction_keeps (Some i.Ne) pc st n e h = k_equals C I J st _ e (λ t st1 f. told_keeps pc st n e h (not t) st1 f)
   instruction_keeps (Some i.Lt) pc st n e h = two_keeps pc st n e h op.Lt
   instruction_keeps (Some i.Le) pc st n e h = two_keeps pc st n e h op.Le
   instruction_keeps (Some i.Gt) pc st n e h = two_keeps pc st n e h op.Gt
@@ -228,54 +229,66 @@ module _ {M : Type 0} (ops : Ops M) (code : Parts) (C : ℕ → Type 0) (I : M �
   instruction_keeps (Some (i.Succ high)) pc st n e h = one_keeps pc st n e h (successor high)
   instruction_keeps (Some (i.Pred low)) pc st n e h = one_keeps pc st n e h (predecessor low)
   instruction_keeps (Some (i.Jump to)) pc st n e h = (e, h)
-  instruction_keeps (Some (i.Jumpf to)) pc st n e h = k_number C I st _ e (λ v st1 f. k_if C I (not (int_le v (pos 0))) _ _ (f, h) (f, h))
-  instruction_keeps (Some (i.Casej v to)) pc st n e h = k_number C I st _ e (λ u st1 f. k_if C I (same_ordinal u v) _ _ (f, h) ((tt, f), h))
+  instruction_keeps (Some (i.Jumpf to)) pc st n e h = k_number C I J st _ e (λ v st1 f. k_if C I J (not (int_le v (pos 0))) _ _ (f, h) (f, h))
+  instruction_keeps (Some (i.Casej v to)) pc st n e h = k_number C I J st _ e (λ u st1 f. k_if C I J (same_ordinal u v) _ _ (f, h) ((tt, f), h))
   instruction_keeps (Some i.Nocase) pc st n e h = tt
-  instruction_keeps (Some i.Tick) pc st n e h = k_then C I (ops.beat n) _ (λ m d. paced_keeps pc st n e h (pc + 1) st m e (law.beat n m h d))
-  instruction_keeps (Some i.Assume) pc st n e h = k_number C I st _ e (λ v st1 f. k_if C I (not (int_le v (pos 0))) _ _ (f, h) tt)
+  instruction_keeps (Some i.Tick) pc st n e h = k_then C I J (ops.beat n) _ (λ m d. paced_keeps pc st n e h (pc + 1) st m e (law.beat n m h d))
+  instruction_keeps (Some i.Assume) pc st n e h = k_number C I J st _ e (λ v st1 f. k_if C I J (not (int_le v (pos 0))) _ _ (f, h) tt)
   instruction_keeps (Some (i.Forup var to)) pc st n e h = begins_keeps pc st n e h false var to
   instruction_keeps (Some (i.Fordown var to)) pc st n e h = begins_keeps pc st n e h true var to
   instruction_keeps (Some (i.Nextup var to)) pc st n e h = ends_keeps pc st n e h false var to
   instruction_keeps (Some (i.Nextdown var to)) pc st n e h = ends_keeps pc st n e h true var to
-  instruction_keeps (Some (i.Call b up)) pc st n e h = k_there C I (layout_of code.layouts b) _ (λ l x. called_keeps pc st n e h l up)
+  instruction_keeps (Some (i.Call b up)) pc st n e h = k_there C I J (layout_of code.layouts b) _ (λ l x. called_keeps pc st n e h l up)
   instruction_keeps (Some i.Return) pc st n e h = returned_keeps st n e h
   instruction_keeps (Some i.ReadInt) pc st n e h = reads_keeps pc st n e h number_in
   instruction_keeps (Some i.ReadChar) pc st n e h = reads_keeps pc st n e h char_in
-  instruction_keeps (Some i.Readln) pc st n e h = k_there C I (ops.left n) _ (λ bs x. (e, law.advance (line_length bs) bs n h x))
-  instruction_keeps (Some i.Eof) pc st n e h = k_there C I (ops.left n) _ (λ bs x. told_keeps pc st n e h (length bs == 0) st e)
-  instruction_keeps (Some i.Eoln) pc st n e h = k_there C I (ops.left n) _ (λ bs x. told_keeps pc st n e h (at_line_end bs) st e)
+  instruction_keeps (Some i.Readln) pc st n e h = k_there C I J (ops.left n) _ (λ bs x. (e, law.advance (line_length bs) bs n h x))
+  instruction_keeps (Some i.Eof) pc st n e h = k_there C I J (ops.left n) _ (λ bs x. told_keeps pc st n e h (length bs == 0) st e)
+  instruction_keeps (Some i.Eoln) pc st n e h = k_there C I J (ops.left n) _ (λ bs x. told_keeps pc st n e h (at_line_end bs) st e)
   instruction_keeps (Some i.WriteInt) pc st n e h = writes_keeps pc st n e h signed_decimal
   instruction_keeps (Some i.WriteChar) pc st n e h = writes_keeps pc st n e h (λ v. byte v ∷ [])
   instruction_keeps (Some i.WriteBool) pc st n e h = writes_keeps pc st n e h truth_text
-  instruction_keeps (Some (i.WriteText k)) pc st n e h = k_there C I (slice_get code.texts k) _ (λ t x. prints_keeps pc st n e h t st e)
+  instruction_keeps (Some (i.WriteText k)) pc st n e h = k_there C I J (slice_get code.texts k) _ (λ t x. prints_keeps pc st n e h t st e)
   instruction_keeps (Some i.WritewInt) pc st n e h = writes_wide_keeps pc st n e h false signed_decimal
   instruction_keeps (Some i.WritewChar) pc st n e h = writes_wide_keeps pc st n e h false (λ v. byte v ∷ [])
   instruction_keeps (Some i.WritewBool) pc st n e h = writes_wide_keeps pc st n e h true truth_text
-  instruction_keeps (Some (i.WritewText k)) pc st n e h = k_number C I st _ e (λ w st1 f. k_there C I (slice_get code.texts k) _ (λ t x. wide_keeps pc st n e h true t w st1 f))
+  instruction_keeps (Some (i.WritewText k)) pc st n e h = k_number C I J st _ e (λ w st1 f. k_there C I J (slice_get code.texts k) _ (λ t x. wide_keeps pc st n e h true t w st1 f))
   instruction_keeps (Some i.Writeln) pc st n e h = prints_keeps pc st n e h (10 ∷ []) st e
-  instruction_keeps (Some (i.Pack k)) pc st n e h = k_address C I st _ e (λ a st1 f. k_when C I (ops.has a k n) _ (λ w. ((law.cells a k n h, f), h)))
-  instruction_keeps (Some i.Open) pc st n e h = k_address C I st _ e (λ a st1 f. k_when C I (ops.has a 1 n) _ (λ w. (tt, (f, law.own a n h w))))
-  instruction_keeps (Some (i.Send k)) pc st n e h = k_cells C I st _ e (λ cs st1 d f. k_channel C I st1 _ f (λ c st2 x k. ((x, d), (k, h))))
-  instruction_keeps (Some (i.Receive k)) pc st n e h = k_address C I st _ e (λ a st1 f. k_channel C I st1 _ f (λ c st2 x k. k_when C I (ops.has a 1 n) _ (λ w. (x, (k, law.own a n h w)))))
-  instruction_keeps (Some (i.Fork t)) pc st n e h = k_there C I (slice_get code.forks t) _ (λ table x. forked_keeps pc st n e h t (pos 0) (length table.children) (pc + 1) st e)
-  instruction_keeps (Some (i.Forall t)) pc st n e h = k_number C I st _ e (λ last st1 f. k_number C I st1 _ f (λ first st2 k. k_if C I (int_lt last first) _ _ (k, h) (forked_keeps pc st n e h t first (values_in first last) (pc + 1) st2 k)))
-  instruction_keeps (Some i.End) pc st n e h = (tt, (e, h))
+  instruction_keeps (Some (i.Pack k)) pc st n e h = k_address C I J st _ e (λ a st1 f. k_when C I J (ops.has a k n) _ (λ w. ((law.cells a k n h, f), h)))
+  instruction_keeps (Some i.Open) pc st n e h = k_address C I J st _ e (λ a st1 f. k_when C I J (ops.has a 1 n) _ (λ w. ((tt, law.target a n h w), (f, law.own a n h w))))
+  instruction_keeps (Some (i.Send k)) pc st n e h = k_cells C I J st _ e (λ cs st1 d f. k_channel C I J st1 _ f (λ c st2 x k. (((x, d), tt), (k, h))))
+  instruction_keeps (Some (i.Receive k)) pc st n e h = k_address C I J st _ e (λ a st1 f. k_channel C I J st1 _ f (λ c st2 x k. k_when C I J (ops.has a 1 n) _ (λ w. ((x, law.target a n h w), (k, law.own a n h w)))))
+  instruction_keeps (Some (i.Fork t)) pc st n e h = k_there C I J (slice_get code.forks t) _ (λ table x. forked_keeps pc st n e h t (pos 0) (length table.children) (pc + 1) st e)
+  instruction_keeps (Some (i.Forall t)) pc st n e h = k_number C I J st _ e (λ last st1 f. k_number C I J st1 _ f (λ first st2 k. k_if C I J (int_lt last first) _ _ (k, h) (forked_keeps pc st n e h t first (values_in first last) (pc + 1) st2 k)))
+  instruction_keeps (Some i.End) pc st n e h = ((tt, tt), (e, h))
 
-  one_has : (c : Config M) → ConfigHas C I c → OneHas C I (one ops code c)
+  one_has : (c : Config M) → ConfigHas C I c → OneHas C I J (one ops code c)
   one_has (At pc st n) h = instruction_keeps (slice_get code.instrs pc) pc st n h.0 h.1
 
   comes_has : (k : ℕ) (c d : Config M) → ConfigHas C I c → ComesIn ops code k c d → ConfigHas C I d
   comes_has zero c d h b = subst (ConfigHas C I) b h
-  comes_has (suc k) c d h b = comes_has k b.0 d (subst (OneHas C I) b.1 (one_has c h)) b.2
+  comes_has (suc k) c d h b = comes_has k b.0 d (subst (OneHas C I J) b.1 (one_has c h)) b.2
 
-  ends_has : (c : Config M) (t : Turn M) → ConfigHas C I c → EndsSo ops code c t → TurnHas C I t
-  ends_has c (Stopped s d) h b = subst (OneHas C I) b (one_has c h)
+  ends_has : (c : Config M) (t : Turn M) → ConfigHas C I c → EndsSo ops code c t → TurnDoes C I J t
+  ends_has c (Stopped s d) h b = subst (OneHas C I J) b (one_has c h)
   ends_has c (Faulted f d) h b = subst (ConfigHas C I) (sym b.1) h
 
   -- a turn keeps it
-  pub turn_has : (c : Config M) (t : Turn M) → ConfigHas C I c → IsTurn ops code c t → TurnHas C I t
-  turn_has c t h = go (begins ops code c)
+  pub turn_does : (c : Config M) (t : Turn M) → ConfigHas C I c → IsTurn ops code c t → TurnDoes C I J t
+  turn_does c t h = go (begins ops code c)
     where
-      go : (b : Bool) → Begins b c t (Runs ops code c t) → TurnHas C I t
+      go : (b : Bool) → Begins b c t (Runs ops code c t) → TurnDoes C I J t
       go true r = ends_has r.0 t (comes_has r.1.steps c r.0 h r.1.by) r.2
-      go false r = subst (TurnHas C I) (sym r) h
+      go false r = subst (TurnDoes C I J) (sym r) h
+
+-- where nothing is said of addresses
+abbrev pub Anywhere : {M : Type 0} → Address → M → Type 0
+Anywhere a n = Unit {0}
+
+module _ {M : Type 0} (ops : Ops M) (code : Parts) (C : ℕ → Type 0) (I : M → Type 0) (law : HasKeeping ops C I Anywhere) where
+  pub turn_has : (c : Config M) (t : Turn M) → ConfigHas C I c → IsTurn ops code c t → TurnHas C I t
+  turn_has c t h turn = go t (turn_does ops code C I Anywhere law c t h turn)
+    where
+      go : (t : Turn M) → TurnDoes C I Anywhere t → TurnHas C I t
+      go (Stopped stop d) k = (k.0.0, k.1)
+      go (Faulted f d) k = k

@@ -12,3 +12,7 @@ pub mod Families
 pub mod InTurn
 pub mod Naming
 pub mod OneFault
+pub mod Outputs
+pub mod Holding
+pub mod Splitting
+pub mod Holders

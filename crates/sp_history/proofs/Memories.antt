@@ -17,7 +17,7 @@ use Rattle.sp_code.specs.PlainStore.{plain}
 use Rattle.sp_history.specs.Channels.{CellHas, CellsHave, EntriesHave, StoreHas}
 use Rattle.sp_history.specs.Spoken.{Keeps}
 use Rattle.sp_history.proofs.Cells.{have_set, have_at, have_part, have_over, insert_has, pieces_has, without_has}
-use Rattle.sp_history.proofs.Keeping.{HasKeeping}
+use Rattle.sp_history.proofs.Keeping.{HasKeeping, Anywhere}
 
 pub is_done : {M : Type 0} (n m : M) → ◌≡◌ {A = Did M} (Done n) (Done m) → n ≡ m
 is_done n m e = cc
@@ -61,7 +61,7 @@ module _ (g : Setting) (C : ℕ → Type 0) (q : ℕ) where
   advances_has : (k : ℕ) (n : Memory Plain) → Keeps C q n → Keeps C q ((memory plain g).advance k n)
   advances_has k n h = (h.0, put_has position_at _ n.store h.1 tt)
 
-  pub keeping : HasKeeping (memory plain g) C (Keeps C q)
+  pub keeping : HasKeeping (memory plain g) C (Keeps C q) Anywhere
   keeping = record {
     look = λ a n h. have_at C (cells_at plain n.store a.spot) a.offset cell.Undefined (h.1 a.spot) tt;
     cells = λ a k n h. have_part C (cells_at plain n.store a.spot) a.offset k (h.1 a.spot);
@@ -70,6 +70,7 @@ module _ (g : Setting) (C : ℕ → Type 0) (q : ℕ) where
     advance = λ k bs n h x. advances_has k n h;
     copy = λ to from k n h w. (h.0, puts_has to (part (cells_at plain n.store from.spot) from.offset k) n.store h.1 (have_part C (cells_at plain n.store from.spot) from.offset k (h.1 from.spot)));
     own = λ a n h w. (h.0, insert_has C n.store.map a.spot (Own (cells_at plain n.store a.spot)) h.1 (h.1 a.spot));
+    target = λ a n h w. tt;
     print = λ t n m h w d. prints t n m h (nat_lt g.limits.output (length (bytes_in (plain.output n.store)) + length t)) d;
     beat = λ n m h d. beats n m h (nat_lt n.ticks g.limits.ticks) d;
     open_frame = λ l up es n m h e d. opens_has l up es n m h e d;

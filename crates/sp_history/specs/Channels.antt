@@ -3,9 +3,20 @@ use Rattle.std.specs.Prelude.{ℕ, List, [], ◌∷◌}
 use Rattle.sp_cell.specs.declared.cell.Cell.{Cell}
 use Rattle.sp_cell.specs.declared.cell.Cell.TheVariants as cell
 use Rattle.sp_cell.specs.declared.spot.Spot.{Spot}
+use Rattle.sp_cell.specs.declared.spot.Address.{Address}
 use Rattle.sp_code.specs.Machine.{Entry, Number, Chan, Pointer, Cells, Link, Reply, Stop, Forks, Opens, Sends, Receives, Ends, Pauses, Config, At, One, Goes, Stops, Fails, Stuck}
 use Rattle.sp_code.specs.Turns.{Turn, Stopped, Faulted}
 use Rattle.sp_code.specs.Memory.{Stores, cells_at}
+
+-- the address that waits for a channel or a message is one of J
+module _ {M : Type 0} (J : Address → M → Type 0) where
+  abbrev pub AimsAt : Stop → Config M → Type 0
+  AimsAt (Opens a) (At pc st n) = J a n
+  AimsAt (Receives c k a) (At pc st n) = J a n
+  AimsAt (Forks t v k) (At pc st n) = Unit {0}
+  AimsAt (Sends c k cs) (At pc st n) = Unit {0}
+  AimsAt Ends (At pc st n) = Unit {0}
+  AimsAt Pauses (At pc st n) = Unit {0}
 
 module _ (C : ℕ → Type 0) where
   -- the channel in a cell, if there is one, has the property
@@ -52,8 +63,14 @@ module _ (C : ℕ → Type 0) where
     TurnHas (Stopped stop c) = StopHas stop × ConfigHas c
     TurnHas (Faulted f c) = ConfigHas c
 
-    abbrev pub OneHas : One M → Type 0
-    OneHas (Goes c) = ConfigHas c
-    OneHas (Stops stop c) = StopHas stop × ConfigHas c
-    OneHas (Fails f) = Unit {0}
-    OneHas Stuck = Unit {0}
+    -- so for what comes of an instruction and of a turn, where an address that waits for a channel or a message is one of J
+    module _ (J : Address → M → Type 0) where
+      abbrev pub TurnDoes : Turn M → Type 0
+      TurnDoes (Stopped stop c) = (StopHas stop × AimsAt J stop c) × ConfigHas c
+      TurnDoes (Faulted f c) = ConfigHas c
+
+      abbrev pub OneHas : One M → Type 0
+      OneHas (Goes c) = ConfigHas c
+      OneHas (Stops stop c) = (StopHas stop × AimsAt J stop c) × ConfigHas c
+      OneHas (Fails f) = Unit {0}
+      OneHas Stuck = Unit {0}

@@ -4,3 +4,4 @@ pub mod Spoken
 pub mod Lines
 pub mod Counted
 pub mod Faults
+pub mod Holding

@@ -10,7 +10,7 @@ ghost use Rattle.sp_journal.specs.Births.{at_start, NameableFrom};
 ghost use Rattle.sp_journal.specs.Queue.{line_at_start, InTurnFrom};
 ghost use Rattle.sp_code.specs.Machine.{Config, Stop};
 ghost use Rattle.sp_code.specs.Turns.{Stopped, IsTurn};
-ghost use Rattle.sp_code.specs.Sound.{AreLimits};
+ghost use Rattle.sp_code.specs.Sound.{AreLimits, IsSafeSystem};
 ghost use Rattle.sp_code.specs.Memory.{Setting, Memory, memory};
 ghost use Rattle.sp_code.specs.PlainStore.{plain};
 ghost use Rattle.sp_code.specs.Control.{Out, Joining, Gone, control, control_at_start, noted_all, entries_of};
@@ -20,6 +20,7 @@ ghost use Rattle.sp_history.specs.Channels.{StopHas};
 ghost use Rattle.sp_history.specs.Spoken.{IsSpoken};
 ghost use Rattle.sp_history.specs.Lines.{OneByOne};
 ghost use Rattle.sp_history.specs.Faults.{IsFaulty};
+ghost use Rattle.sp_history.specs.Holding.{IsOutputOf};
 
 /// A legal history leads to exactly one system: the one along the journal of its notes. The control of its notes and that
 /// system tell the same of every process; and the control counts the processes that are out.
@@ -59,4 +60,10 @@ pub fn histories_keep_turns()
     ensures joined { (g : Setting) (ns : List Note) (s : System Plain) (q w : ℕ) (b : Birth) → Reaches plain g control_at_start (opening plain g) ns s → (control ns).doing q ≡ Out w → (control ns).births.birth q ≡ Some b
         → (n : ℕ) × ((control ns).doing b.parent ≡ Joining n) }
     ensures turns { (g : Setting) (ns : List Note) (s : System Plain) → Reaches plain g control_at_start (opening plain g) ns s → OneByOne None ns → InTurnFrom at_start line_at_start (entries_of ns) }
+{}
+
+/// After a legal history of safe code exactly one process holds the output.
+pub fn one_process_holds_the_output()
+    ensures { (g : Setting) (ns : List Note) (s : System Plain) → ((es : List Entry) (t : System Plain) → IsSystem plain g es t → IsSafeSystem g t) → Reaches plain g control_at_start (opening plain g) ns s
+        → (q : ℕ) × (bs : List ℕ) × IsOutputOf s q bs }
 {}

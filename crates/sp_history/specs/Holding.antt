@@ -1,0 +1,73 @@
+-- Which process holds the output of a run.
+use Rattle.std.specs.Prelude.{◌≡◌, ◌≢◌, ℕ, List, Option, Some}
+use Rattle.std.specs.FinMap as map
+use Rattle.sp_cell.specs.declared.spot.Address.{Address}
+use Rattle.sp_cell.specs.Map.{Away, Plain, IsOutput, IsOwn, output_spot}
+use Rattle.sp_cell.specs.Spots.{In}
+use Rattle.sp_journal.specs.declared.entry.Birth.{Birth}
+use Rattle.sp_code.specs.Memory.{Memory}
+use Rattle.sp_code.specs.PlainStore.{plain}
+use Rattle.sp_code.specs.System.{System, Condition, Absent, Runs, Waits, Joins, Laid, Gone, Over, store_in}
+use Rattle.sp_history.specs.Agreement.{Each}
+use Rattle.sp_history.specs.Channels.{AimsAt}
+
+-- a process holds the output; or it has lent it to a child, which may have lent it on; or it has nothing of it
+pub data Share : Type 0 where
+  Holds : Share
+  Lends : Share
+  Lacks : Share
+
+-- none of its own frames is the program's
+abbrev pub HasOtherFrames : List ℕ → Type 0
+HasOtherFrames ns = Each (λ n. n ≢ 0) ns
+
+abbrev pub StoreIs : Share → Plain → Type 0
+StoreIs Holds p = IsOutput (map.get p.map output_spot) × HasOtherFrames p.own
+StoreIs Lends p = (map.get p.map output_spot ≡ Some Away) × HasOtherFrames p.own
+StoreIs Lacks p = IsOutput (map.get p.map output_spot) → ⊥
+
+-- it has the output, or one of those to which it lent it has
+abbrev pub IsPart : Share → Type 0
+IsPart Holds = Unit {0}
+IsPart Lends = Unit {0}
+IsPart Lacks = ⊥
+
+-- an address in a piece of the process's own
+abbrev pub Owned : Address → Memory Plain → Type 0
+Owned a n = IsOwn (map.get n.store.map a.spot)
+
+-- who waits for a message has a piece of its own for it
+abbrev pub AimsIn : Condition Plain → Type 0
+AimsIn Absent = Unit {0}
+AimsIn (Runs c) = Unit {0}
+AimsIn (Waits stop c) = AimsAt Owned stop c
+AimsIn (Joins left c) = Unit {0}
+AimsIn (Laid c) = Unit {0}
+AimsIn Gone = Unit {0}
+AimsIn (Over c) = Unit {0}
+
+-- the processes with these shares: one holds the output, and no other; a child that is part of it had it from its parent, which
+-- lends it, and there is one such child at most; another child was not handed it by one that is part
+pub record IsShared (share : ℕ → Share) (holder : ℕ) (condition : ℕ → Condition Plain) (birth : ℕ → Option Birth) : Type 0 where
+  pub holds : share holder ≡ Holds
+  pub only : (q : ℕ) → share q ≡ Holds → q ≡ holder
+  pub here : (p : Plain) × (store_in (condition holder) ≡ Some p)
+  pub stores : (q : ℕ) (p : Plain) → store_in (condition q) ≡ Some p → StoreIs (share q) p
+  pub up : (q : ℕ) (b : Birth) → birth q ≡ Some b → IsPart (share q) → share b.parent ≡ Lends
+  pub one : (q r : ℕ) (b d : Birth) → birth q ≡ Some b → birth r ≡ Some d → b.parent ≡ d.parent → IsPart (share q) → IsPart (share r) → q ≡ r
+  pub had : (q : ℕ) (b : Birth) (p : Plain) → birth q ≡ Some b → store_in (condition q) ≡ Some p → IsPart (share q) → In output_spot p.moved
+  pub not_had : (q : ℕ) (b : Birth) (p : Plain) → birth q ≡ Some b → store_in (condition q) ≡ Some p → (IsPart (share q) → ⊥) → IsPart (share b.parent) → In output_spot p.moved → ⊥
+  pub aims : (q : ℕ) → AimsIn (condition q)
+
+-- the output of a system is held by one process
+pub record HasHolder (s : System Plain) : Type 0 where
+  pub share : ℕ → Share
+  pub holder : ℕ
+  pub shared : IsShared share holder s.condition s.births.birth
+
+-- a process holds the output, and its text is that of the system: no other holds one
+pub record IsOutputOf (s : System Plain) (q : ℕ) (bs : List ℕ) : Type 0 where
+  pub store : Plain
+  pub at : store_in (s.condition q) ≡ Some store
+  pub output : plain.output store ≡ Some bs
+  pub only : (r : ℕ) (p : Plain) (cs : List ℕ) → store_in (s.condition r) ≡ Some p → plain.output p ≡ Some cs → r ≡ q
