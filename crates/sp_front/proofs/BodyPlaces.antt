@@ -211,15 +211,15 @@ module _ (text : List ℕ) (Ok : ℕ → List Token → Type 0) where
   behind_block : {lo mid next hi : ℕ} {n : Name} {fs : List SynFormal} {answer : Option Name} {k m : tree.Block} → mid ≤ next → Bodies lo mid k → Bodies next hi m → Bodies lo hi (declared (tree.Proc n fs answer k.parts k.body) m)
   behind_block {lo} {mid} {next} {hi} {k = k} {m = m} l x y =
       let xl = x.low in let xh = x.high in let yl = y.low in record {
-    at = y.at;
-    inner = (x.at ∷ x.inner) ++ y.inner;
-    at_is = y.at_is;
-    inner_are = ap₂ (λ p q. p ++ q) (ap₂ (λ p (q : List Place). p ∷ q) x.at_is x.inner_are) y.inner_are ∙ back_of (map_both (x.at ∷ x.inner) y.inner);
-    low = omega arith;
-    high = y.high;
-    between = both_in lo y.at (x.at ∷ x.inner) y.inner (xl, omega arith, wider lo x.at lo y.at x.inner (omega arith) (omega arith) x.between) (wider next y.at lo y.at y.inner (omega arith) (omega arith) y.between);
-    differ = all_both lo mid next y.at (x.at ∷ x.inner) y.inner l (xl, xh, wider lo x.at lo mid x.inner (omega arith) (omega arith) x.between) y.between (turned x.inner x.between, x.differ) y.differ;
-  }
+        at = y.at;
+        inner = (x.at ∷ x.inner) ++ y.inner;
+        at_is = y.at_is;
+        inner_are = ap₂ (λ p q. p ++ q) (ap₂ (λ p (q : List Place). p ∷ q) x.at_is x.inner_are) y.inner_are ∙ back_of (map_both (x.at ∷ x.inner) y.inner);
+        low = omega arith;
+        high = y.high;
+        between = both_in lo y.at (x.at ∷ x.inner) y.inner (xl, omega arith, wider lo x.at lo y.at x.inner (omega arith) (omega arith) x.between) (wider next y.at lo y.at y.inner (omega arith) (omega arith) y.between);
+        differ = all_both lo mid next y.at (x.at ∷ x.inner) y.inner l (xl, xh, wider lo x.at lo mid x.inner (omega arith) (omega arith) x.between) y.between (turned x.inner x.between, x.differ) y.differ;
+      }
     where
       turned : (is : List ℕ) → AllIn lo x.at is → DiffersFrom x.at is
       turned [] a = tt
@@ -287,6 +287,7 @@ module _ (text : List ℕ) (Ok : ℕ → List Token → Type 0) where
           next (inl l) = inl (omega arith)
           next (inr (inl e)) = inr (inl (ap suc e))
           next (inr (inr l)) = inr (inr (omega arith))
+
       go : (i < j) ⊎ ((i ≡ j) ⊎ (j < i)) → ⊥
       go (inl l) = not_earlier (place_at text j) (subst (λ p. Earlier p (place_at text j)) e (rises text start i j l (omega arith)))
       go (inr (inl l)) = n l

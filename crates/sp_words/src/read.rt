@@ -44,10 +44,7 @@ fn option_names(command: CommandName) -> &'static [&'static str]
 {
     match command {
         CommandName::Run => RUN_OPTIONS.as_slice(),
-        CommandName::Check
-        | CommandName::Code
-        | CommandName::Sets
-        | CommandName::Format => &[],
+        CommandName::Check | CommandName::Code | CommandName::Sets | CommandName::Format => &[],
     }
 }
 

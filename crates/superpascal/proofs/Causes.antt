@@ -601,9 +601,9 @@ module _ (f : Found) (output output' notes notes' : Got) (status : ℕ) (call : 
       λ m. due 0 (text_due f c text w t q l m _ _ _ call.cause),
     ),
     λ out m s.
-      let made = made_output f c text w t q l out m _ _ _ call.cause (undisplaced 0 (λ p. absurd (omega arith)) s) in
-      let all = call.written.all_written (not_six 0 (λ p. absurd (omega arith)) s) in
-      (subst (λ v. All output output' v) made.0 all.0, subst (λ v. All notes notes' v) made.1 all.1),
+        let made = made_output f c text w t q l out m _ _ _ call.cause (undisplaced 0 (λ p. absurd (omega arith)) s) in
+        let all = call.written.all_written (not_six 0 (λ p. absurd (omega arith)) s) in
+        (subst (λ v. All output output' v) made.0 all.0, subst (λ v. All notes notes' v) made.1 all.1),
     λ s. refused_only f c text w t q _ _ _ call.cause (undisplaced 1 (λ p. absurd (omega arith)) s),
   )
 

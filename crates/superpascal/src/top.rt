@@ -71,10 +71,8 @@ fn file_of(command: &Command) -> &str
     ensures { result.now ≡ file_of command.now }
 {
     match command {
-        Command::Check(file)
-        | Command::Code(file)
-        | Command::Sets(file)
-        | Command::Format(file) => file.text(),
+        Command::Check(file) | Command::Code(file) | Command::Sets(file) | Command::Format(file) =>
+            file.text(),
         Command::Run { file, .. } => file.text(),
     }
 }

@@ -225,7 +225,12 @@ fn refused_texts(rt: HostRuntime) -> Result<(), Fail> {
 }
 
 /// A text, its canonical text, and the same again of that one.
-fn laid_out(rt: &(impl Threads + Abort), alloc: Global, text: &str, layout: &str) -> Result<(), Fail> {
+fn laid_out(
+    rt: &(impl Threads + Abort),
+    alloc: Global,
+    text: &str,
+    layout: &str,
+) -> Result<(), Fail> {
     for given in [text, layout] {
         let words = ["format", "a.sp"];
         let answer = call(rt, alloc, words.as_slice(), given.as_bytes(), NONE)?;
