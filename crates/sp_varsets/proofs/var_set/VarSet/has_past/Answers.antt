@@ -18,5 +18,5 @@ returns c = (
       let e : length c.items-words.result.now ≡ length c.args.self.now.words = ap length c.items-words.ensures in
       let z = subst (λ ws. get_or ws (x / 64) 0 ≡ 0) c.items-words.ensures (c.words.invariant (x / 64) (omega arith) (omega arith)) in
       in_word_zero c.args.self.now.words x z m
-    ),
+      ),
 )
