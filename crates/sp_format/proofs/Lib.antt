@@ -5,3 +5,4 @@ pub mod Again
 pub mod Follows
 pub mod Accepts
 pub mod OneLayout
+pub mod SameTree

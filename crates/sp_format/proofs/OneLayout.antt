@@ -1,8 +1,7 @@
 -- A text has one canonical text, or one rule for which it has none.
-use Rattle.std.proofs.Common.{◌≡◌, ◌⊎◌, inl, inr, ℕ, ◌<◌, ◌≤◌, List, length, refl, sym, ◌∙◌, ap, subst, arith}
+use Rattle.std.proofs.Common.{◌≡◌, inl, inr, ℕ, List, length, sym, ◌∙◌, ap, arith}
 use Rattle.sp_base.specs.declared.halt.Refusal.{Refusal}
 use Rattle.sp_grammar.proofs.OneList.{one_verdict, not_both}
-use Rattle.sp_format.specs.Items.{Item, HasItems}
 use Rattle.sp_format.specs.Layout.{canonical}
 use Rattle.sp_format.specs.Formats.{HasLayout, HasNoLayout, IsCanonical, IsLong}
 use Rattle.sp_format.proofs.Walking.{one_items, one_text}

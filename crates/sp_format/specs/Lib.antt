@@ -1,3 +1,4 @@
 pub mod Items
 pub mod Layout
 pub mod Formats
+pub mod SameTrees

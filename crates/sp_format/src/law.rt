@@ -5,6 +5,9 @@ ghost use Rattle.sp_base.specs.declared.halt.Refusal.{Refusal};
 ghost use Rattle.sp_format.specs.Items.{Item as AnItem, HasItems};
 ghost use Rattle.sp_format.specs.Formats.{HasLayout, HasNoLayout, HasTree, IsCanonical};
 ghost use Rattle.sp_format.specs.Layout.{canonical};
+ghost use Rattle.sp_format.specs.SameTrees.{SpellsAlike};
+ghost use Rattle.sp_tree.specs.Breaches.{IsTree};
+ghost use Rattle.sp_tree.specs.PlainSyntax.{Program};
 
 /// A text has at most one list of items, and so at most one canonical text. Texts of the same items have the same one.
 pub fn one_canonical_text()
@@ -27,4 +30,9 @@ pub fn one_layout()
     ensures layout { (text a b : List ℕ) → HasLayout text a → HasLayout text b → a ≡ b }
     ensures refusal { (text : List ℕ) (a b : Refusal) → HasNoLayout text a → HasNoLayout text b → a ≡ b }
     ensures not_both { (text out : List ℕ) (r : Refusal) → HasLayout text out → HasNoLayout text r → ⊥ }
+{}
+
+/// A program and its canonical text spell one tree but for places.
+pub fn one_tree_but_for_places()
+    ensures { (text out : List ℕ) (p : Program) → IsTree text p → IsCanonical text out → SpellsAlike text out p }
 {}

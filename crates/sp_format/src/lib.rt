@@ -10,4 +10,4 @@ mod put;
 mod tests;
 
 pub use canonical::format;
-pub use law::{items_kept, one_canonical_text, one_layout};
+pub use law::{items_kept, one_canonical_text, one_layout, one_tree_but_for_places};
