@@ -1,10 +1,10 @@
 -- A process at its stop, before its kernel step: all others stand as before its turn, with the system of the machine unchanged
 -- (`does_at`), and rights and totals are those of before.
-use Rattle.std.proofs.Common.{◌≡◌, ◌⊎◌, inl, ⊎_elim, ℕ, ◌<◌, ◌∷◌, Some, Bool, true, false, refl, sym, ap, ◌∙◌, arith, List, length}
+use Rattle.std.proofs.Common.{◌≡◌, ◌⊎◌, inl, ⊎_elim, ℕ, ◌<◌, ◌∷◌, Some, Bool, true, false, refl, sym, ap, ◌∙◌, subst, arith, List, length}
 use Rattle.std.specs.Prelude.{◌≢◌}
 use Rattle.sp_cell.specs.Map.{Plain}
-use Rattle.sp_meaning.specs.Model.{Name}
-use Rattle.sp_meaning.specs.Steps.{has_ended}
+use Rattle.sp_meaning.specs.Model.{Name, Absent}
+use Rattle.sp_meaning.specs.Steps.{has_ended, Lives as IsLive}
 use Rattle.sp_meaning.specs.Entries.{Happening}
 use Rattle.sp_meaning.specs.Own.{Setting, Loc, Output, Item, Own, Process, Came, Got, Bad}
 use Rattle.sp_meaning.specs.Deeds.{Deed, Opened}
@@ -77,6 +77,9 @@ module _ (G : Ground) (lv : Lives G) (c : Course) (s : StateOf G.g) (u : System 
       ended_same : (r1 : Name) → has_ended (x.at.condition r1) ≡ has_ended (s.condition r1)
       ended_same r1 = ⊎_elim (λ (e : r1 ≡ w). ap (λ y. has_ended (x.at.condition y)) e ∙ ended_at ∙ sym (not_ended G lv c s u l i d at_i) ∙ ap (λ y. has_ended (s.condition y)) (sym e)) (λ (e : r1 ≢ w). ap (λ y. has_ended y) (x.elsewhere.condition r1 e)) (same_or_not name_test r1 w)
 
+      present_same : (r1 : Name) → s.condition r1 ≢ Absent → x.at.condition r1 ≢ Absent
+      present_same r1 h e = ⊎_elim (λ (f : r1 ≡ w). subst (λ y. IsLive y) (subst (λ a. x.at.condition a ≡ Absent) f e) (working_lives x.at.condition w (x.at.condition w) x.left x.runs)) (λ (f : r1 ≢ w). h (sym (x.elsewhere.condition r1 f) ∙ e)) (same_or_not name_test r1 w)
+
       pub other_name : (j : ℕ) → j < u.births.processes → i ≢ j → G.births.name j ≢ w
       other_name j lt e h = e (G.one_name i j (few i (here G lv c s u l i d at_i)) (few j lt) (sym h))
         where
@@ -87,4 +90,4 @@ module _ (G : Ground) (lv : Lives G) (c : Course) (s : StateOf G.g) (u : System 
       pub does_at : (j : ℕ) → j < u.births.processes → i ≢ j → Does_all G lv (G.births.name j) c x.at (u.births.opens j) (u.condition j)
       does_at j lt e =
           let apart = other_name j lt e in
-          does_stay G lv s x.at l.known.sound l.rights.fair w (alone G lv c s u l i d at_i) x.good.stays (G.births.name j) apart (x.elsewhere.condition (G.births.name j) apart) (λ k n. ended_same ((k, n) ∷ G.births.name j)) c c refl refl (λ h. h) (u.births.opens j) (u.condition j) (l.does j lt)
+          does_stay G lv s x.at l.known.sound l.rights.fair w (alone G lv c s u l i d at_i) x.good.stays (G.births.name j) apart (x.elsewhere.condition (G.births.name j) apart) (λ k n. ended_same ((k, n) ∷ G.births.name j)) (λ k n. present_same ((k, n) ∷ G.births.name j)) c c refl refl (λ h. h) (u.births.opens j) (u.condition j) (l.does j lt)

@@ -1,7 +1,7 @@
 -- A fork: a child of a parallel statement stands as it is born (`child_stands`), its parent keeps of it what its join will need
 -- (`handed_facts`), and joins with what moved away (`parent_joins`).
 use Rattle.std.proofs.Common.{◌≡◌, ◌⊎◌, inl, inr, ⊎_elim, ℕ, zero, suc, ◌+◌, ◌<◌, ◌≤◌, ℤ, List, [], ◌∷◌, length, Some, None, true, false, if◌then◌else◌, refl, sym, ap, ◌∙◌, arith}
-use Rattle.std.specs.Prelude.{IsSome, slice_get}
+use Rattle.std.specs.Prelude.{◌≢◌, IsSome, slice_get}
 use Rattle.std.specs.FinMap as fin
 use Rattle.sp_tree.specs.declared.checked.Role.TheVariants as role
 use Rattle.sp_tree.specs.Plain.{Variable, Stmts, Parallel}
@@ -12,7 +12,7 @@ use Rattle.sp_cell.specs.declared.spot.Handing.{Handing}
 use Rattle.sp_cell.specs.Fork.{index_frame, handed, moved_of, shared_of}
 use Rattle.sp_cell.specs.Map.{Plain, output_spot}
 use Rattle.sp_cell.specs.Spots.{In, NotIn}
-use Rattle.sp_meaning.specs.Model.{Name}
+use Rattle.sp_meaning.specs.Model.{Name, Absent}
 use Rattle.sp_meaning.specs.Own.{Loc, Cell, Input, Output, OfIndex, Own, Who, Process}
 use Rattle.sp_meaning.specs.Deeds.{Birth, push}
 use Rattle.sp_meaning.specs.Owning.{Aimed, Used, Sound}
@@ -212,7 +212,7 @@ module _ (G : Ground) (lf : Life) (kids : ℕ → ℕ → Life) (q : Name) where
 module _ (G : Ground) (lf : Life) (kids : ℕ → ℕ → Life) (q : Name) (f : Fresh G lf kids q) (since k n : ℕ) (next : Process) (js : List Joint) (s : StateOf G.g) (m : Memory Plain) (t : St G lf kids q next.who since js next.own s.store m) (named : next.who.name ≡ q)
     (pc : ℕ) (stack : List Entry) (follows : Fo G lf kids q f next.who named since pc stack js next.todo)
     (hs : List Handing) (known : (a : Spot) → In a (moved_of hs) ⊎ In a (shared_of hs) → IsSome (fin.get m.store.map a)) (dry : Mine q Output ⊎ lf.R Output → NotIn output_spot (shared_of hs))
-    (some : 1 ≤ n) (living : (j : ℕ) → j < n → has_ended (s.condition ((k, j) ∷ q)) ≡ false) (parts : (a : Spot) → In a (moved_of hs) → (j : ℕ) × (j < n) × In a (kids k j).moved)
+    (some : 1 ≤ n) (living : (j : ℕ) → j < n → has_ended (s.condition ((k, j) ∷ q)) ≡ false) (born : (j : ℕ) → j < n → s.condition ((k, j) ∷ q) ≢ Absent) (parts : (a : Spot) → In a (moved_of hs) → (j : ℕ) × (j < n) × In a (kids k j).moved)
     (children : (j : ℕ) → j < n → Handed G lf kids q js m (kids k j) ((k, j) ∷ q)) where
   all_left : (a : ℕ) → a ≤ n → left_of G lf kids q s.condition k a ≡ a
   all_left zero h = refl
@@ -235,5 +235,6 @@ module _ (G : Ground) (lf : Life) (kids : ℕ → ℕ → Life) (q : Name) (f : 
     follows = follows;
     count = sym (all_left n (omega arith));
     some = some;
+    there = born;
     children = λ j h. children j h.0;
   }

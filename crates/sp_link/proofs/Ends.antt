@@ -89,7 +89,7 @@ module _ (G : Ground) (lv : Lives G) (c : Course) (s : StateOf G.g) (u : System 
   does_other j lt e far =
       let apart = other_name G lv c s u l i d at_i z r x Finished said j lt e in
       does_stay G lv x.at t1 known_then.sound rights_then.fair v (alone_at G lv c s u l i d at_i z r x Finished said) (λ a. inl refl) (G.births.name j) apart (same (G.births.name j) apart)
-      (λ k n. ap (λ a. has_ended a) (same ((k, n) ∷ G.births.name j) (far k n))) c c1 (since_other (G.births.name j) apart) refl (λ h. h) (u.births.opens j) (u.condition j) (does_at G lv c s u l i d at_i z r x Finished said j lt e)
+      (λ k n. ap (λ a. has_ended a) (same ((k, n) ∷ G.births.name j) (far k n))) (λ k n h e. h (sym (same ((k, n) ∷ G.births.name j) (far k n)) ∙ e)) c c1 (since_other (G.births.name j) apart) refl (λ h. h) (u.births.opens j) (u.condition j) (does_at G lv c s u l i d at_i z r x Finished said j lt e)
 
   -- what it leaves
   abbrev n1 : Memory Plain
@@ -126,6 +126,7 @@ module _ (G : Ground) (lv : Lives G) (c : Course) (s : StateOf G.g) (u : System 
   linked_by u1 eb ep ef ee does unborn = record {
     rights = rights_now;
     known = known_now;
+    reads_output = l.reads_output;
     began = subst (λ y. Began G y) (sym eb) l.began;
     open_is = l.open_is ∙ ap (λ (y : Rattle.sp_journal.specs.Births.Births). y.channels) (sym eb);
     forks = λ j lt. ap (λ y. y (G.births.name j)) x.elsewhere.forks ∙ l.forks j (subst (λ y. j < y) (ap (λ (y : Rattle.sp_journal.specs.Births.Births). y.processes) eb) lt) ∙ ap (λ (y : Rattle.sp_journal.specs.Births.Births). y.forks j) (sym eb);

@@ -152,6 +152,7 @@ module _ (G : Ground) (b : Block) (eb : slice_get G.g.program.blocks 0 ≡ Some 
   opening_linked none = record {
     rights = rights;
     known = record { sound = start_sound G.g; well = start_well G.g };
+    reads_output = tt;
     began = begun;
     open_is = none;
     forks = λ i lt. refl;

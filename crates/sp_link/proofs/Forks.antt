@@ -440,6 +440,12 @@ module _ (G : Ground) (lv : Lives G) (c : Course) (s : StateOf G.g) (u : System 
         (child_or_not b))
         (same_or_not name_test b v)
 
+    present_same : (b : Name) → s.condition b ≢ Absent → t1.condition b ≢ Absent
+    present_same b h e = ⊎_elim
+        (λ (f : b ≡ v). subst (λ k. IsLive k) (sym cond_v ∙ subst (λ k. t1.condition k ≡ Absent) f e) tt)
+        (λ (f : b ≢ v). ⊎_elim (λ (g : (j : ℕ) × (j < n) × (b ≡ (k, j) ∷ v)). h (ap (λ a. s.condition a) g.2 ∙ unborn g.0)) (λ (g : (j : ℕ) → j < n → b ≢ (k, j) ∷ v). h (sym (cond_r b f g) ∙ e)) (child_or_not b))
+        (same_or_not name_test b v)
+
     abbrev c1 : Course
     c1 = noted v (ticks_of G.g t1 v) c
 
@@ -458,7 +464,7 @@ module _ (G : Ground) (lv : Lives G) (c : Course) (s : StateOf G.g) (u : System 
         let living : s.condition (G.births.name a) ≢ Absent = not_absent G (lv (G.births.name a)) (λ a1 b1. lv ((a1, b1) ∷ G.births.name a)) (G.births.name a) c s (u.births.opens a) (u.condition a) (l.does a lt) in
         let far : (j : ℕ) → j < n → G.births.name a ≢ (k, j) ∷ v = λ j h f. living (ap (λ b. s.condition b) f ∙ unborn j) in
         does_lives G lv lv1 (G.births.name a) (lv1_other (G.births.name a) living) (λ a1 b1. lv1_kids (G.births.name a) (λ h. apart (sym h)) a1 b1) c1 t1 (u.births.opens a) (u.condition a)
-        (does_stay G lv s t1 l.known.sound l.rights.fair v (alone G lv c s u l i d at_i) x.good.stays (G.births.name a) apart (cond_r (G.births.name a) apart far) (λ a1 b1. ended_same ((a1, b1) ∷ G.births.name a)) c c1 (since_other (G.births.name a) apart) refl (λ h. h) (u.births.opens a) (u.condition a) (l.does a lt))
+        (does_stay G lv s t1 l.known.sound l.rights.fair v (alone G lv c s u l i d at_i) x.good.stays (G.births.name a) apart (cond_r (G.births.name a) apart far) (λ a1 b1. ended_same ((a1, b1) ∷ G.births.name a)) (λ a1 b1. present_same ((a1, b1) ∷ G.births.name a)) c c1 (since_other (G.births.name a) apart) refl (λ h. h) (u.births.opens a) (u.condition a) (l.does a lt))
 
     -- ---- the parent
 
@@ -477,6 +483,7 @@ module _ (G : Ground) (lv : Lives G) (c : Course) (s : StateOf G.g) (u : System 
         p1.who (due_after (c.since v) G.pause) (Rel G (lv v) (kids G lv c s u l i d at_i) v p1.who (c.since v)) (law G (lv v) (kids G lv c s u l i d at_i) v z.fresh p1.who z.named (c.since v)) (λ a b. inl z.named)
         goes_on.who (due_after (c1.since v) G.pause) (Rel G (lv v) kids1 v goes_on.who (c1.since v)) (law G (lv v) kids1 v fresh1 goes_on.who x.good.named (c1.since v)) (λ a b. inl x.good.named) (λ j js m. m) (lv v).end [] (lv v).below t.0 t.1 t.3 todo t.9) hs known dry (omega (arith, some, count_is))
         (λ j lt. (let p = at_place j lt in ap (λ b. has_ended b) (cond_child j p.0 p.1)))
+        (λ j lt e. (let p = at_place j lt in subst (λ b. IsLive b) (sym (cond_child j p.0 p.1) ∙ e) tt))
         (λ a h. (let w = parts a h in (w.0, w.1, subst (λ (lf : Life). In a lf.moved) (sym (lv1_child w.0)) w.2)))
         (λ j lt. subst (λ (lf : Life). Handed G (lv v) kids1 v t.3 n1 lf ((k, j) ∷ v)) (sym (lv1_child j)) (handed kids1 j lt))
 
@@ -601,6 +608,7 @@ module _ (G : Ground) (lv : Lives G) (c : Course) (s : StateOf G.g) (u : System 
       linked = record {
         rights = rights_now;
         known = known_now;
+        reads_output = l.reads_output;
         began = began;
         open_is = l.open_is;
         forks = λ a lt. ⊎_elim (λ (h : a < P). forks_old a h) (λ (h : P ≤ a). subst (λ b. t1.forks (G.births.name b) ≡ b1.forks b) (back a h) (forks_new (a - P) (omega (arith, h, lt)))) (either a P);

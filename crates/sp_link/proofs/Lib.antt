@@ -26,6 +26,7 @@ pub mod OneState
 pub mod Replay
 pub mod Messages
 pub mod Fronts
+pub mod Outputs
 pub mod Theorem
 pub mod Programs
 pub mod NewLives

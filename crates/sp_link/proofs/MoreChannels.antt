@@ -156,6 +156,7 @@ module _ (G : Ground) where
       follows = follows_more z.fresh pr.who z.named since z.pc z.stack z.js pr.todo z.follows;
       count = z.count ∙ sym (left_more s.condition k n);
       some = z.some;
+      there = z.there;
       children = λ i h. handed_more z.js z.memory (kids k i) ((k, i) ∷ q) (z.children i h);
     }
 

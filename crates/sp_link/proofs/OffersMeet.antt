@@ -177,6 +177,12 @@ module _ (G : Ground) (lv : Lives G) (c : Course) (s : StateOf G.g) (u : System 
         (same_or_not name_test b zn))
         (same_or_not name_test b v)
 
+    present_same : (b : Name) → x.at.condition b ≢ Absent → t1.condition b ≢ Absent
+    present_same b h e = ⊎_elim
+        (λ (f : b ≡ v). subst (λ k. IsLive k) (sym cond_v ∙ subst (λ k. t1.condition k ≡ Absent) f e) tt)
+        (λ (nv : b ≢ v). ⊎_elim (λ (f : b ≡ zn). subst (λ k. IsLive k) (sym cond_z ∙ subst (λ k. t1.condition k ≡ Absent) f e) tt) (λ (nz : b ≢ zn). h (sym (cond_r b nv nz) ∙ e)) (same_or_not name_test b zn))
+        (same_or_not name_test b v)
+
     abbrev c1 : Course
     c1 = noted v (ticks_of G.g t1 v) c
 
@@ -200,7 +206,7 @@ module _ (G : Ground) (lv : Lives G) (c : Course) (s : StateOf G.g) (u : System 
         let nv = other_name G lv c s u l i d at_i z r x what said k lt e in
         let nz = other_z k lt f in
         does_stay G lv x.at t1 known_then.sound rights_then.fair wr wr_alone stays (G.births.name k) (not_writer (G.births.name k) nv nz) (cond_r (G.births.name k) nv nz)
-        (λ a b. ended_same ((a, b) ∷ G.births.name k)) c c1 (since_other (G.births.name k) nv) refl (λ h. h) (u.births.opens k) (u.condition k) (does_at G lv c s u l i d at_i z r x what said k lt e)
+        (λ a b. ended_same ((a, b) ∷ G.births.name k)) (λ a b. present_same ((a, b) ∷ G.births.name k)) c c1 (since_other (G.births.name k) nv) refl (λ h. h) (u.births.opens k) (u.condition k) (does_at G lv c s u l i d at_i z r x what said k lt e)
 
     -- with the message, and with nothing else changed
     abbrev with_message : StateOf G.g
@@ -241,6 +247,7 @@ module _ (G : Ground) (lv : Lives G) (c : Course) (s : StateOf G.g) (u : System 
       linked = record {
         rights = rights_now;
         known = known_now;
+        reads_output = l.reads_output;
         began = l.began;
         open_is = l.open_is;
         forks = λ k lt. ap (λ b. b (G.births.name k)) x.elsewhere.forks ∙ l.forks k lt;
@@ -328,7 +335,7 @@ module _ (G : Ground) (lv : Lives G) (c : Course) (s : StateOf G.g) (u : System 
         (sent_flat G (lv v) (λ a b. lv ((a, b) ∷ v)) v x.left.who (c1s.since v) kd (sort G.g.program kd) refl value gives.1 gives.4)
 
     sender : Stands G (lv v) (λ a b. lv ((a, b) ∷ v)) v (c1s.since v) off.next t1s.store (ao.there G lv c s u l i d at_i z ch kd cg todo o m x t y)
-    sender = stands_stay G lv x.at (with_message a (Tree value) same_kind msg zn alone_z (inr refl) may_z) known_then.sound rights_then.fair zn alone_z (stays a (Tree value) same_kind msg zn alone_z (inr refl) may_z) v (λ e. apart (sym e)) refl (λ k n. refl)
+    sender = stands_stay G lv x.at (with_message a (Tree value) same_kind msg zn alone_z (inr refl) may_z) known_then.sound rights_then.fair zn alone_z (stays a (Tree value) same_kind msg zn alone_z (inr refl) may_z) v (λ e. apart (sym e)) refl (λ k n. refl) (λ k n h. h)
         (c1s.since v) off.next (ao.there G lv c s u l i d at_i z ch kd cg todo o m x t y) (inl (x.left, x.runs)) (ao.stands G lv c s u l i d at_i z ch kd cg todo o m x t y (c1s.since v) since_s)
 
     receiver : Stands G (lv zn) (λ a b. lv ((a, b) ∷ zn)) zn (c.since zn) off2.next t1s.store (on_store (put_cells plain takes.1 (cells_in gives.1)) d2)
@@ -403,7 +410,7 @@ module _ (G : Ground) (lv : Lives G) (c : Course) (s : StateOf G.g) (u : System 
         (sent_flat G (lv zn) (λ a b. lv ((a, b) ∷ zn)) zn off2.next.who (c.since zn) off2.kind (sort G.g.program off2.kind) refl value gives_z.1 gives_z.4)
 
     sender_z : Stands G (lv zn) (λ a b. lv ((a, b) ∷ zn)) zn (c.since zn) off2.next t1r.store d2
-    sender_z = stands_stay G lv x.at (with_message a (Tree value) same_kind msg_r v alone_v (inl refl) may_v) known_then.sound rights_then.fair v alone_v (stays a (Tree value) same_kind msg_r v alone_v (inl refl) may_v) zn apart refl (λ k n. refl)
+    sender_z = stands_stay G lv x.at (with_message a (Tree value) same_kind msg_r v alone_v (inl refl) may_v) known_then.sound rights_then.fair v alone_v (stays a (Tree value) same_kind msg_r v alone_v (inl refl) may_v) zn apart refl (λ k n. refl) (λ k n h. h)
         (c.since zn) off2.next d2 (inr (ch, subst (λ b. WaitsOn ch b) (sym waits) on)) t2
 
     receiver_v : Stands G (lv v) (λ a b. lv ((a, b) ∷ v)) v (c1r.since v) off.next t1r.store (on_store (put_cells plain takes_v.1 (cells_in gives_z.1)) (ao.there G lv c s u l i d at_i z ch kd cg todo o m x t y))

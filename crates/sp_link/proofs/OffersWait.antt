@@ -116,11 +116,14 @@ module _ (G : Ground) (lv : Lives G) (c : Course) (s : StateOf G.g) (u : System 
   ended_same : (a : Name) → has_ended (t1.condition a) ≡ has_ended (x.at.condition a)
   ended_same a = ⊎_elim (λ (e : a ≡ v). ap (λ b. has_ended (t1.condition b)) e ∙ ap (λ b. has_ended b) waits ∙ sym (ended_at G lv c s u l i d at_i z r x what said) ∙ ap (λ b. has_ended (x.at.condition b)) (sym e)) (λ (e : a ≢ v). ap (λ b. has_ended b) (same a e)) (same_or_not name_test a v)
 
+  present_same : (a : Name) → x.at.condition a ≢ Absent → t1.condition a ≢ Absent
+  present_same a h e = ⊎_elim (λ (f : a ≡ v). subst (λ b. IsLive b) (sym waits ∙ subst (λ b. t1.condition b ≡ Absent) f e) tt) (λ (f : a ≢ v). h (sym (same a f) ∙ e)) (same_or_not name_test a v)
+
   does_other : (j : ℕ) → j < u.births.processes → i ≢ j → Does_all G lv (G.births.name j) c1 t1 (u.births.opens j) (u.condition j)
   does_other j lt e =
       let apart = other_name G lv c s u l i d at_i z r x what said j lt e in
       does_stay G lv x.at t1 known_then.sound rights_then.fair v (alone_at G lv c s u l i d at_i z r x what said) (λ a. inl refl) (G.births.name j) apart (same (G.births.name j) apart)
-      (λ k n. ended_same ((k, n) ∷ G.births.name j)) c c1 (since_other (G.births.name j) apart) refl (λ h. h) (u.births.opens j) (u.condition j) (does_at G lv c s u l i d at_i z r x what said j lt e)
+      (λ k n. ended_same ((k, n) ∷ G.births.name j)) (λ k n. present_same ((k, n) ∷ G.births.name j)) c c1 (since_other (G.births.name j) apart) refl (λ h. h) (u.births.opens j) (u.condition j) (does_at G lv c s u l i d at_i z r x what said j lt e)
 
   -- it stands where it waits
   abbrev n1 : Memory Plain
@@ -205,6 +208,7 @@ module _ (G : Ground) (lv : Lives G) (c : Course) (s : StateOf G.g) (u : System 
     linked = record {
       rights = rights_now;
       known = known_now;
+      reads_output = l.reads_output;
       began = l.began;
       open_is = l.open_is;
       forks = λ a lt. ap (λ b. b (G.births.name a)) x.elsewhere.forks ∙ l.forks a lt;

@@ -108,6 +108,9 @@ module _ (G : Ground) (lv : Lives G) (c : Course) (s : StateOf G.g) (u : System 
     ended_same : (r : Name) → has_ended (t.condition r) ≡ has_ended (s.condition r)
     ended_same r = ⊎_elim (λ (e : r ≡ q). ap (λ y. has_ended (t.condition y)) e ∙ ended_now ∙ sym not_ended ∙ ap (λ y. has_ended (s.condition y)) (sym e)) (λ (e : r ≢ q). ap (λ y. has_ended y) (other r e)) (same_or_not name_test r q)
 
+    present_same : (r : Name) → s.condition r ≢ Absent → t.condition r ≢ Absent
+    present_same r h e = ⊎_elim (λ (f : r ≡ q). absent_not_ended (t.condition q) (subst (λ a. t.condition a ≡ Absent) f e)) (λ (f : r ≢ q). h (sym (other r f) ∙ e)) (same_or_not name_test r q)
+
     abbrev pub u1 : System Plain
     u1 = record u { condition = at_key ◌==◌ i x u.condition; faulted = f }
 
@@ -126,7 +129,7 @@ module _ (G : Ground) (lv : Lives G) (c : Course) (s : StateOf G.g) (u : System 
         (λ (e : i ≡ j). subst (λ y. Does_all G lv (G.births.name y) c1 t (u.births.opens y) (u1.condition y)) e (subst (λ y. Does_all G lv q c1 t (u.births.opens i) y) (sym at_this) does))
         (λ (e : i ≢ j). (let apart : G.births.name j ≢ q = λ h. e (G.one_name i j (few i here) (few j lt) (sym h)) in
         subst (λ y. Does_all G lv (G.births.name j) c1 t (u.births.opens j) y) (sym (at_other j e))
-        (does_stay G lv s t l.known.sound l.rights.fair q alone stays (G.births.name j) apart (other (G.births.name j) apart) (λ k n. ended_same ((k, n) ∷ G.births.name j)) c c1 (since (G.births.name j) apart) (laid (G.births.name j) apart) more (u.births.opens j) (u.condition j) (l.does j lt))))
+        (does_stay G lv s t l.known.sound l.rights.fair q alone stays (G.births.name j) apart (other (G.births.name j) apart) (λ k n. ended_same ((k, n) ∷ G.births.name j)) (λ k n. present_same ((k, n) ∷ G.births.name j)) c c1 (since (G.births.name j) apart) (laid (G.births.name j) apart) more (u.births.opens j) (u.condition j) (l.does j lt))))
         (number_or i j)
       where
         few : (j : ℕ) → j < u.births.processes → j < G.births.processes
@@ -136,6 +139,7 @@ module _ (G : Ground) (lv : Lives G) (c : Course) (s : StateOf G.g) (u : System 
     linked_local = record {
       rights = inv_local G (W_of G lv) (R_of G lv) s.condition t.condition s.forks t.forks q l.rights forks present other (holds_by G (W_of G lv) (R_of G lv) t.condition s.forks q (t.condition q) left works rights);
       known = known;
+      reads_output = l.reads_output;
       began = l.began;
       open_is = l.open_is;
       forks = λ j lt. ap (λ y. y (G.births.name j)) forks ∙ l.forks j lt;

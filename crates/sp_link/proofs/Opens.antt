@@ -13,7 +13,7 @@ use Rattle.sp_cell.specs.Map.{Plain}
 use Rattle.sp_meaning.specs.Maps.{at_key as put_at}
 use Rattle.sp_meaning.specs.Model.{Name, same_name, Channel, Cargo, Gives, Takes, Condition, Absent, Works, Waits, Joins, Ended, Becomes, Adds, Opens, changed, add, Totals}
 use Rattle.sp_meaning.specs.Asking.{put_by}
-use Rattle.sp_meaning.specs.Steps.{ActOf, has_ended, working_in, WaitsOn, Does, Faulty, outcome, passed, unless, acts, puts, result_of}
+use Rattle.sp_meaning.specs.Steps.{ActOf, has_ended, working_in, Lives as IsLive, WaitsOn, Does, Faulty, outcome, passed, unless, acts, puts, result_of}
 use Rattle.sp_meaning.specs.Entries.{Happening, Opened as Is_opened}
 use Rattle.sp_meaning.specs.Own.{Loc, Held, Address, Own, Who, Process, Came, Got, Item, Tree, Position, Written, same_loc}
 use Rattle.sp_meaning.specs.Values.{Chan}
@@ -188,6 +188,9 @@ module _ (G : Ground) (lv : Lives G) (c : Course) (s : StateOf G.g) (u : System 
     ended_same : (b : Name) → has_ended (t1.condition b) ≡ has_ended (s.condition b)
     ended_same b = ⊎_elim (λ (e : b ≡ v). ap (λ k. has_ended (t1.condition k)) e ∙ ap (λ k. has_ended k) cond_v ∙ sym (not_ended G lv c s u l i d at_i) ∙ ap (λ k. has_ended (s.condition k)) (sym e)) (λ (e : b ≢ v). ap (λ k. has_ended k) (cond_r b e)) (same_or_not name_test b v)
 
+    present_same : (b : Name) → s.condition b ≢ Absent → t1.condition b ≢ Absent
+    present_same b h e = ⊎_elim (λ (f : b ≡ v). subst (λ k. IsLive k) (sym cond_v ∙ subst (λ k. t1.condition k ≡ Absent) f e) tt) (λ (f : b ≢ v). h (sym (cond_r b f) ∙ e)) (same_or_not name_test b v)
+
     abbrev c1 : Course
     c1 = noted v (ticks_of G.g t1 v) c
 
@@ -204,7 +207,7 @@ module _ (G : Ground) (lv : Lives G) (c : Course) (s : StateOf G.g) (u : System 
     does_other k lt e =
         let apart : G.births.name k ≢ v = λ h. e (G.one_name i k (few i (here G lv c s u l i d at_i)) (few k lt) (sym h)) in
         does_more G (lv (G.births.name k)) (λ a b. lv ((a, b) ∷ G.births.name k)) (G.births.name k) c1 t1 (u.births.opens k) (u.condition k)
-        (does_stay G lv s t1 l.known.sound l.rights.fair v (alone G lv c s u l i d at_i) y.stays (G.births.name k) apart (cond_r (G.births.name k) apart) (λ a b. ended_same ((a, b) ∷ G.births.name k)) c c1 (since_other (G.births.name k) apart) refl (λ h. h) (u.births.opens k) (u.condition k) (l.does k lt))
+        (does_stay G lv s t1 l.known.sound l.rights.fair v (alone G lv c s u l i d at_i) y.stays (G.births.name k) apart (cond_r (G.births.name k) apart) (λ a b. ended_same ((a, b) ∷ G.births.name k)) (λ a b. present_same ((a, b) ∷ G.births.name k)) c c1 (since_other (G.births.name k) apart) refl (λ h. h) (u.births.opens k) (u.condition k) (l.does k lt))
 
     -- ---- the machine
 
@@ -307,6 +310,7 @@ module _ (G : Ground) (lv : Lives G) (c : Course) (s : StateOf G.g) (u : System 
       linked = record {
         rights = rights_now;
         known = known_now;
+        reads_output = l.reads_output;
         began = began;
         open_is = ap (λ a. a + 1) l.open_is;
         forks = λ a lt. ap (λ b. b (G.births.name a)) x.elsewhere.forks ∙ l.forks a lt;

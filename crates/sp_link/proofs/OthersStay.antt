@@ -45,7 +45,7 @@ waits_is : (c : Condition Process Held Address) (o : Rattle.sp_meaning.specs.Mod
 waits_is c o e = subst (λ z. Rattle.sp_meaning.specs.Steps.WaitsOn o.channel z) (sym e) refl
 
 module _ (G : Ground) (lv : Lives G) (s t : StateOf G.g) (sound : Sound s) (fair : Fair_rights (W_of G lv) (R_of G lv)) (w : Name) (alone : IsAlone s w) (stays : (l : Loc) → (t.store l ≡ s.store l) ⊎ All (W_of G lv) w l) where
-  module _ (r : Name) (apart : r ≢ w) (same : t.condition r ≡ s.condition r) (ended : (k i : ℕ) → has_ended (t.condition ((k, i) ∷ r)) ≡ has_ended (s.condition ((k, i) ∷ r))) where
+  module _ (r : Name) (apart : r ≢ w) (same : t.condition r ≡ s.condition r) (ended : (k i : ℕ) → has_ended (t.condition ((k, i) ∷ r)) ≡ has_ended (s.condition ((k, i) ∷ r))) (present : (k i : ℕ) → s.condition ((k, i) ∷ r) ≢ Absent → t.condition ((k, i) ∷ r) ≢ Absent) where
     abbrev pub kids : ℕ → ℕ → Life
     kids k i = lv ((k, i) ∷ r)
 
@@ -137,6 +137,7 @@ module _ (G : Ground) (lv : Lives G) (s t : StateOf G.g) (sound : Sound s) (fair
         follows = z.follows;
         count = z.count ∙ sym (left_same k n);
         some = z.some;
+        there = λ i h. present k i (z.there i h);
         children = λ i h. z.children i (back i h);
       }
 

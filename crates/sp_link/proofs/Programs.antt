@@ -1,6 +1,6 @@
 -- The theorem for programs: the code of a program that is ready, along each journal that can be named, is the program's meaning along
 -- that journal, both ways, and no turn of it lacks what it needs.
-use Rattle.std.proofs.Common.{◌≡◌, ℕ, ◌<◌, List, Option, Some, None, refl, ap}
+use Rattle.std.proofs.Common.{◌≡◌, ℕ, ◌<◌, List, Option, Some, None, false, refl, ap}
 use Rattle.sp_journal.specs.declared.entry.Entry.{Entry}
 use Rattle.sp_journal.specs.Births.{Births, channel, at_start, births_from, occurrences_from, NameableFrom}
 use Rattle.sp_journal.specs.Names.{Channel}
@@ -9,7 +9,8 @@ use Rattle.sp_journal.proofs.BirthLaws.{lawful as lawful_births}
 use Rattle.sp_tree.specs.Plain.{Stmt}
 use Rattle.sp_cell.specs.Map.{Plain}
 use Rattle.sp_meaning.specs.Own.{Setting}
-use Rattle.sp_meaning.specs.Runs.{StateOf}
+use Rattle.sp_meaning.specs.Runs.{StateOf, output_of}
+use Rattle.sp_meaning.specs.Ends.{IsDone, IsIdle}
 use Rattle.sp_meaning.specs.Along.{IsAlong}
 use Rattle.sp_code.specs.declared.code.Parts.{Parts as Code}
 use Rattle.sp_code.specs.Emitted.{program_code}
@@ -19,14 +20,14 @@ use Rattle.sp_code.specs.Machine.{Config}
 use Rattle.sp_code.specs.Turns.{IsSafe}
 use Rattle.sp_code.specs.Memory.{Memory, memory}
 use Rattle.sp_code.specs.PlainStore.{plain}
-use Rattle.sp_code.specs.System.{System, Runs, IsSystem}
+use Rattle.sp_code.specs.System.{System, Runs, Over, IsSystem, OutputIs}
 use Rattle.sp_code.proofs.Blocks.{blocks_stand, layout_found}
 use Rattle.sp_codegen.specs.Meets.{code_run}
 use Rattle.sp_codegen.proofs.FirstTurn.{laid_of}
 use Rattle.sp_link.specs.Premises.{IsReady}
 use Rattle.sp_link.proofs.Entries.{Events}
 use Rattle.sp_link.proofs.Relation.{Ground, at_open}
-use Rattle.sp_link.proofs.Theorem.{meaning_of_system, turns_safe, system_of_meaning}
+use Rattle.sp_link.proofs.Theorem.{meaning_of_system, turns_safe, system_of_meaning, output_same, done_means, done_runs, idle_means}
 
 -- no two channels have one name
 one_channel : (b : Births) → Lawful b → (c d : ℕ) → c < b.channels → d < b.channels → channel b c ≡ channel b d → c ≡ d
@@ -83,3 +84,15 @@ module _ (g : Setting) (moves shares : Stmt → List ℕ) (pause : ℕ) (ready :
 
   pub program_safe : (t : System Plain) → IsSystem plain (code_run g code pause) es t → (i : ℕ) (d : Config (Memory Plain)) → t.condition i ≡ Runs d → IsSafe (memory plain (code_run g code pause)) code d
   program_safe t h i d at = turns_safe ground events ready.main ready.first es named refl t h i d at
+
+  pub program_output : (t : System Plain) → IsSystem plain (code_run g code pause) es t → (n : ℕ) (s : StateOf g) → IsAlong g pause (occurrences_from at_start es) n s → OutputIs plain (code_run g code pause) t (output_of g s)
+  program_output t h n s k = output_same ground events ready.main ready.first es named refl t h n s k
+
+  pub program_done : (t : System Plain) → IsSystem plain (code_run g code pause) es t → (n : ℕ) (s : StateOf g) → IsAlong g pause (occurrences_from at_start es) n s → (d : Config (Memory Plain)) → t.condition 0 ≡ Over d → IsDone g s
+  program_done t h n s k d e = done_means ground events ready.main ready.first es named refl t h n s k d e
+
+  pub program_over : (t : System Plain) → IsSystem plain (code_run g code pause) es t → (n : ℕ) (s : StateOf g) → IsAlong g pause (occurrences_from at_start es) n s → IsDone g s → (d : Config (Memory Plain)) × (t.condition 0 ≡ Over d)
+  program_over t h n s k e = done_runs ground events ready.main ready.first es named refl t h n s k e
+
+  pub program_idle : (t : System Plain) → IsSystem plain (code_run g code pause) es t → (n : ℕ) (s : StateOf g) → IsAlong g pause (occurrences_from at_start es) n s → t.faulted ≡ false → ((i : ℕ) (d : Config (Memory Plain)) → t.condition i ≡ Runs d → ⊥) → IsIdle g s
+  program_idle t h n s k quiet none = idle_means ground events ready.main ready.first es named refl t h n s k quiet none

@@ -8,7 +8,7 @@ use Rattle.sp_cell.specs.declared.spot.Spot.{Spot}
 use Rattle.sp_cell.specs.Fork.{joined}
 use Rattle.sp_cell.specs.Map.{Plain, Content, with_map}
 use Rattle.sp_cell.specs.Spots.{In, NotIn}
-use Rattle.sp_meaning.specs.Model.{Name, Condition, Ended, Becomes, changed}
+use Rattle.sp_meaning.specs.Model.{Name, Condition, Absent, Ended, Becomes, changed}
 use Rattle.sp_meaning.specs.Steps.{has_ended, all_ended}
 use Rattle.sp_meaning.specs.Own.{Held, Address, Own, Who, Process}
 use Rattle.sp_meaning.specs.SuperPascal.{superpascal}
@@ -122,6 +122,16 @@ module _ (G : Ground) (lv : Lives G) (P : Name) (since k n left i : ℕ) (pr : P
       apart : j ≢ i
       apart e = let x : true ≡ false = sym (ap (λ y. has_ended y) gone) ∙ ap (λ a. has_ended (t1.condition ((k, a) ∷ P))) (sym e) ∙ h.1 in absurd (cc x)
 
+  there_still : (j : ℕ) → j < n → t1.condition ((k, j) ∷ P) ≢ Absent
+  there_still j h e = by (j == i) refl
+    where
+      ended_there : ◌≡◌ {A = Condition Rattle.sp_meaning.specs.Own.Process Rattle.sp_meaning.specs.Own.Held Rattle.sp_meaning.specs.Own.Address} Ended Rattle.sp_meaning.specs.Model.Absent → ⊥
+      ended_there f = cc f
+
+      by : (b : Bool) → j == i ≡ b → ⊥
+      by true f = ended_there (sym gone ∙ ap (λ a. t1.condition ((k, a) ∷ P)) (sym (eqb-true j i f)) ∙ e)
+      by false f = let apart : j ≢ i = λ g. (let x : false ≡ true = sym f ∙ eq-eqb j i g in absurd (cc x)) in z.there j h (sym (others ((k, j) ∷ P) (brother j apart)) ∙ e)
+
   pub hd : Handed G (lv P) kids P z.js z.memory (kids k i) child_name
   hd = z.children i (lt, yet)
 
@@ -168,6 +178,7 @@ module _ (G : Ground) (lv : Lives G) (P : Name) (since k n left i : ℕ) (pr : P
       follows = z.follows;
       count = refl;
       some = some;
+      there = λ j h. there_still j h;
       children = λ j h. z.children j (still j h).0;
     }
 

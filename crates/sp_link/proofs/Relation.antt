@@ -245,6 +245,7 @@ module _ (G : Ground) where
       pub follows : Fo fresh pr.who named since pc stack js pr.todo
       pub count : left ≡ left_of s.condition k n
       pub some : 1 ≤ left
+      pub there : (i : ℕ) → i < n → s.condition ((k, i) ∷ q) ≢ Absent
       pub children : (i : ℕ) → Lives_yet s k n i → Handed js memory (kids k i) ((k, i) ∷ q)
 
     -- the output, of a process that does nothing more
@@ -289,6 +290,8 @@ module _ (G : Ground) where
   pub record Linked (lv : Lives) (c : Course) (s : StateOf G.g) (u : System Plain) : Type 0 where
     pub rights : Inv G.g.program (W_of lv) (R_of lv) s.condition s.forks
     pub known : Known G.g s
+    -- the first process may read the output
+    pub reads_output : R_of lv [] Output
     pub began : Began G u.births
     pub open_is : G.opened ≡ u.births.channels
     pub forks : (i : ℕ) → i < u.births.processes → s.forks (G.births.name i) ≡ u.births.forks i

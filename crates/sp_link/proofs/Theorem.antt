@@ -1,24 +1,28 @@
--- The system along a journal is the meaning along that journal, where the premises hold: that deeds of the kernel write nothing that is
--- there (`QuietDeeds`, `QuietFaults`), and the events of `Events`.
-use Rattle.std.proofs.Common.{◌≡◌, ℕ, List, Some, subst}
+-- The system along a journal is the meaning along that journal, both ways, where the events of `Events` hold; with the same output, and
+-- the first process ended in both or in neither.
+use Rattle.std.proofs.Common.{◌≡◌, ℕ, List, [], Some, None, false, sym, subst}
 use Rattle.std.specs.Prelude.{slice_get}
 use Rattle.sp_tree.specs.Plain.{Block}
 use Rattle.sp_journal.specs.declared.entry.Entry.{Entry}
 use Rattle.sp_journal.specs.Births.{at_start, births_from, occurrences_from, NameableFrom}
 use Rattle.sp_journal.proofs.BirthLaws.{lawful_start}
 use Rattle.sp_cell.specs.Map.{Plain}
-use Rattle.sp_meaning.specs.Runs.{StateOf, start}
+use Rattle.sp_meaning.specs.Runs.{StateOf, start, running, output_of}
 use Rattle.sp_meaning.specs.Along.{no_course, IsAlong}
 use Rattle.sp_code.specs.Machine.{Config}
 use Rattle.sp_code.specs.Turns.{IsSafe}
 use Rattle.sp_code.specs.Memory.{Memory}
 use Rattle.sp_code.specs.PlainStore.{plain}
-use Rattle.sp_code.specs.System.{System, Runs, IsSystem, opening}
+use Rattle.sp_code.specs.System.{System, Runs, Over, IsSystem, OutputIs, opening}
 use Rattle.sp_link.proofs.FirstRelation.{lives, opening_now}
 use Rattle.sp_link.proofs.Fronts.{Grows, began, grows_from, all_began}
 use Rattle.sp_link.proofs.Entries.{Events, system_is_meaning}
 use Rattle.sp_link.proofs.Journal.{Goes_along}
 use Rattle.sp_link.proofs.Relation.{Ground, Began, at_open, run_is, ops}
+use Rattle.sp_link.proofs.OneState.{one_state}
+use Rattle.sp_link.proofs.Outputs.{output_is, done_there}
+use Rattle.sp_link.proofs.WhoRuns.{root_over, nobody}
+use Rattle.sp_meaning.specs.Model.{Name, Ended}
 use Rattle.sp_link.proofs.Replay.{replays}
 use Rattle.sp_link.proofs.TurnsSafe.{turn_safe}
 
@@ -40,3 +44,26 @@ module _ (G : Ground) (events : (n : ℕ) → Events (at_open G n)) (b : Block) 
   -- and the other way round
   pub system_of_meaning : (n : ℕ) (s : StateOf G.g) → IsAlong G.g G.pause (occurrences_from at_start es) n s → (t : System Plain) × IsSystem plain (run_is G) es t
   system_of_meaning n s h = replays G events es (lives (at_open G 0) b eb begun) no_course (start G.g) (opening plain (run_is G)) (opening_now G b eb begun) (all_began G es at_start lawful_start named all) named n s h
+
+  -- the state of the meaning that the relation has is the one along the journal
+  module _ (t : System Plain) (h : IsSystem plain (run_is G) es t) (n : ℕ) (s : StateOf G.g) (k : IsAlong G.g G.pause (occurrences_from at_start es) n s) where
+    at_end : Goes_along G no_course (start G.g) at_start es t
+    at_end = linked_along t h
+
+    is_it : at_end.state ≡ s
+    is_it = (one_state G.g G.pause (occurrences_from at_start es) at_end.steps n at_end.state s at_end.along k).1
+
+    -- the same output
+    pub output_same : OutputIs plain (run_is G) t (output_of G.g s)
+    output_same = subst (λ y. OutputIs plain (run_is G) t (output_of G.g y)) is_it (output_is (at_open G t.births.channels) at_end.lives at_end.course at_end.state t at_end.linked)
+
+    -- done on both sides
+    pub done_means : (d : Config (Memory Plain)) → t.condition 0 ≡ Over d → s.condition [] ≡ Ended
+    done_means d e = subst (λ (y : StateOf G.g). y.condition [] ≡ Ended) is_it (root_over (at_open G t.births.channels) at_end.lives at_end.course at_end.state t at_end.linked d e)
+
+    pub done_runs : s.condition [] ≡ Ended → (d : Config (Memory Plain)) × (t.condition 0 ≡ Over d)
+    done_runs e = done_there (at_open G t.births.channels) at_end.lives at_end.course at_end.state t at_end.linked (subst (λ (y : StateOf G.g). y.condition [] ≡ Ended) (sym is_it) e)
+
+    -- nobody runs on both sides
+    pub idle_means : t.faulted ≡ false → ((i : ℕ) (d : Config (Memory Plain)) → t.condition i ≡ Runs d → ⊥) → (q : Name) → running G.g s q ≡ None
+    idle_means quiet none q = subst (λ y. running G.g y q ≡ None) is_it (nobody (at_open G t.births.channels) at_end.lives at_end.course at_end.state t at_end.linked quiet none q)
