@@ -1,8 +1,8 @@
 //! What the calls of a store ask for, as questions that a caller may put where it does not know it.
 
-ghost use Rattle.std.specs.Prelude.{◌≡◌, ◌↔◌, IsTrue, Some};
+ghost use Rattle.std.specs.Prelude.{◌≡◌, ◌↔◌, IsTrue, Some, length};
 ghost use Rattle.std.specs.FinMap as map;
-ghost use Rattle.sp_cell.specs.Map.{HasCells, IsOwn, Away as IsAway};
+ghost use Rattle.sp_cell.specs.Map.{HasCells, IsOwn, IsPiece, cells_at, Away as IsAway};
 
 use crate::entry::Entry;
 use crate::store::Store;
@@ -19,6 +19,18 @@ impl Store {
             _ => return false,
         };
         u64::from(at.offset) + u64::from(cells) <= u64::from(len)
+    }
+
+    /// How many cells the piece at the spot has.
+    pub fn len(&self, spot: Spot) -> u32
+        requires { IsPiece (map.get self.now.map spot) }
+        ensures { result ≡ length (cells_at self.now.map spot) }
+    {
+        match self.slots.entry(spot) {
+            Entry::Own(piece) => piece.len(),
+            Entry::Shared(piece) => piece.len(),
+            Entry::Output(_) | Entry::Away => unreachable!(),
+        }
     }
 
     /// Whether an own piece is held.

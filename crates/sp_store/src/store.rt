@@ -82,6 +82,17 @@ impl Store {
         })
     }
 
+    /// A store that holds nothing. It takes no memory.
+    pub fn empty(alloc: Global) -> Store
+        ensures { result ≡ record { map = map.empty; own = []; moved = [] } }
+    {
+        Store {
+            slots: Slots::new(alloc),
+            own: Vec::new(alloc),
+            moved: List::of(Vec::new(alloc)),
+        }
+    }
+
     /// Makes a frame with an undefined piece for each size, in cells, from variable 0 on. Its number is one above all
     /// that the store knows. Where memory is refused, the store is unchanged.
     pub fn push_frame(&mut self, sizes: &[u32]) -> Result<u64, Memory>

@@ -1,0 +1,8 @@
+-- What reading gives, as it is kept in memory.
+use Rattle.sp_items.specs.declared.Taken.{Taken}
+use Rattle.sp_items.specs.declared.Taken.TheVariants as taken
+use Rattle.sp_tree.specs.Items as i
+
+abbrev pub taken_of : Taken → i.Taken
+taken_of (taken.Takes n bytes) = i.Takes n bytes
+taken_of (taken.Fails f) = i.Fails f

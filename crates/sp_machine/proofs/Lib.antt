@@ -1,0 +1,4 @@
+pub mod Framing
+pub mod Positions
+pub mod Printing
+pub mod Stacking

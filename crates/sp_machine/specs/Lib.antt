@@ -1,0 +1,6 @@
+pub mod Entries
+pub mod Frames
+pub mod Procs
+pub mod Conversions
+pub mod Texts
+pub mod Arguments

@@ -1,0 +1,134 @@
+-- A process in memory as the definitions see it, and what one instruction and one turn of it do.
+use Rattle.std.specs.Prelude.{◌≡◌, ◌≢◌, ℕ, ℤ, List, [], ◌∷◌, Option, Some, None, pos, slice_get, length, ◌≤◌}
+use Rattle.sp_base.specs.declared.fault.Fault.{Fault}
+use Rattle.sp_base.specs.declared.limits.Limits.{Limits}
+use Rattle.sp_cell.specs.declared.cell.Cell.{Cell}
+use Rattle.sp_cell.specs.declared.spot.Address.{Address}
+use Rattle.sp_cell.specs.Map.{Plain}
+use Rattle.sp_code.specs.declared.code.Formal.{Formal}
+use Rattle.sp_code.specs.declared.code.Formal.TheVariants as formal
+use Rattle.sp_code.specs.declared.code.Layout.{Layout}
+use Rattle.sp_code.specs.declared.code.Parts.{Parts}
+use Rattle.sp_code.specs.declared.instr.Instr.{Instr}
+use Rattle.sp_code.specs.Machine as m
+use Rattle.sp_code.specs.Turns.{Turn, Stopped, Faulted, IsTurn, IsSafe}
+use Rattle.sp_code.specs.Memory.{Memory, memory, Setting}
+use Rattle.sp_code.specs.PlainStore.{plain}
+use Rattle.sp_code.specs.Sound.{run_of}
+use Rattle.sp_machine.specs.declared.state.State.{State}
+use Rattle.sp_machine.specs.declared.state.Stop.{Stop}
+use Rattle.sp_machine.specs.declared.state.Stop.TheVariants as stop
+use Rattle.sp_machine.specs.Entries.{entries_of}
+
+abbrev pub memory_of : State → Memory Plain
+memory_of p = record { process = p.number; frames = p.frames; depth = p.depth; ticks = p.ticks; since = p.since; cells = p.cells; store = p.store }
+
+abbrev pub config_of : State → m.Config (Memory Plain)
+config_of p = m.At p.pc (entries_of p.stack) (memory_of p)
+
+abbrev pub setting_of : State → Parts → Limits → Setting
+setting_of p code lim = run_of code p.input.value lim
+
+-- what waits for an answer goes there
+abbrev pub target_of : State → Address
+target_of p = p.target
+
+-- ---- one instruction
+
+-- this instruction of a process
+abbrev pub does : Option Instr → State → Parts → Limits → m.One (Memory Plain)
+does o p code lim = m.instruction (memory plain (setting_of p code lim)) code o p.pc (entries_of p.stack) (memory_of p)
+
+-- the next instruction of a process
+abbrev pub next_of : State → Parts → Limits → m.One (Memory Plain)
+next_of p code lim = does (slice_get code.instrs p.pc) p code lim
+
+-- the process keeps its number and its input
+abbrev pub Stays : State → State → Type 0
+Stays p q = (q.number ≡ p.number) × (q.input ≡ p.input)
+
+-- a process that stopped so is at this stop of the definition
+abbrev pub StopIs : Stop → State → m.Stop → Type 0
+StopIs (stop.Fork t v n) q s = (s ≡ m.Forks t v n) × ((q.table ≡ t) × (q.first ≡ v))
+StopIs stop.Open q s = s ≡ m.Opens q.target
+StopIs (stop.Send c k cs) q s = s ≡ m.Sends c k cs
+StopIs (stop.Receive c k) q s = s ≡ m.Receives c k q.target
+StopIs stop.End q s = s ≡ m.Ends
+StopIs stop.Pause q s = s ≡ m.Pauses
+StopIs (stop.Fault f) q s = ⊥
+StopIs stop.Memory q s = ⊥
+
+abbrev pub FaultIs : Stop → Fault → Type 0
+FaultIs (stop.Fork t v n) f = ⊥
+FaultIs stop.Open f = ⊥
+FaultIs (stop.Send c k cs) f = ⊥
+FaultIs (stop.Receive c k) f = ⊥
+FaultIs stop.End f = ⊥
+FaultIs stop.Pause f = ⊥
+FaultIs (stop.Fault g) f = g ≡ f
+FaultIs stop.Memory f = ⊥
+
+-- what came of an instruction: the process goes on, it stopped, or it met a fault
+abbrev pub Came : m.One (Memory Plain) → State → State → Option Stop → Type 0
+Came (m.Goes d) p q None = config_of q ≡ d
+Came (m.Goes d) p q (Some s) = ⊥
+Came (m.Stops t d) p q None = ⊥
+Came (m.Stops t d) p q (Some s) = StopIs s q t × (config_of q ≡ d)
+Came (m.Fails f) p q None = ⊥
+Came (m.Fails f) p q (Some s) = FaultIs s f × (config_of q ≡ config_of p)
+Came m.Stuck p q s = Unit {0}
+
+-- ---- a turn
+
+-- a frame has room for a parameter
+abbrev pub HasRoom : Formal → Option ℕ → Type 0
+HasRoom f None = ⊥
+HasRoom (formal.Value n) (Some m) = n ≤ m
+HasRoom (formal.Reference n) (Some m) = Unit {0}
+
+-- the frame of a block begins with its parameters
+abbrev pub BeginsWithFormals : Layout → Type 0
+BeginsWithFormals l = (k : ℕ) (f : Formal) → slice_get l.formals k ≡ Some f → HasRoom f (slice_get l.sizes k)
+
+abbrev pub HaveFormals : List Layout → Type 0
+HaveFormals ls = (b : ℕ) (l : Layout) → m.layout_of ls b ≡ Some l → BeginsWithFormals l
+
+-- the turn that a process made which stopped so
+abbrev pub turn_by : Stop → State → Turn (Memory Plain)
+turn_by (stop.Fork t v n) q = Stopped (m.Forks t v n) (config_of q)
+turn_by stop.Open q = Stopped (m.Opens q.target) (config_of q)
+turn_by (stop.Send c k cs) q = Stopped (m.Sends c k cs) (config_of q)
+turn_by (stop.Receive c k) q = Stopped (m.Receives c k q.target) (config_of q)
+turn_by stop.End q = Stopped m.Ends (config_of q)
+turn_by stop.Pause q = Stopped m.Pauses (config_of q)
+turn_by (stop.Fault f) q = Faulted f (config_of q)
+turn_by stop.Memory q = Stopped m.Ends (config_of q)
+
+-- a process that stopped at a fork keeps its table and its first value
+abbrev pub KeepsFork : Stop → State → Type 0
+KeepsFork (stop.Fork t v n) q = (q.table ≡ t) × (q.first ≡ v)
+KeepsFork stop.Open q = Unit {0}
+KeepsFork (stop.Send c k cs) q = Unit {0}
+KeepsFork (stop.Receive c k) q = Unit {0}
+KeepsFork stop.End q = Unit {0}
+KeepsFork stop.Pause q = Unit {0}
+KeepsFork (stop.Fault f) q = Unit {0}
+KeepsFork stop.Memory q = Unit {0}
+
+-- no instruction of the turn lacks what it needs
+abbrev pub CanTurn : State → Parts → Limits → Type 0
+CanTurn p code lim = IsSafe (memory plain (setting_of p code lim)) code (config_of p)
+
+abbrev pub IsTurnBy : State → Parts → Limits → State → Stop → Type 0
+IsTurnBy p code lim q s = IsTurn (memory plain (setting_of p code lim)) code (config_of p) (turn_by s q) × KeepsFork s q
+
+-- the turn that was made; of one that memory ended nothing is said
+abbrev pub IsTurnOf : State → Parts → Limits → State → Stop → Type 0
+IsTurnOf p code lim q (stop.Fork t v n) = IsTurnBy p code lim q (stop.Fork t v n)
+IsTurnOf p code lim q stop.Open = IsTurnBy p code lim q stop.Open
+IsTurnOf p code lim q (stop.Send c k cs) = IsTurnBy p code lim q (stop.Send c k cs)
+IsTurnOf p code lim q (stop.Receive c k) = IsTurnBy p code lim q (stop.Receive c k)
+IsTurnOf p code lim q stop.End = IsTurnBy p code lim q stop.End
+IsTurnOf p code lim q stop.Pause = IsTurnBy p code lim q stop.Pause
+IsTurnOf p code lim q (stop.Fault f) = IsTurnBy p code lim q (stop.Fault f)
+IsTurnOf p code lim q stop.Memory = Unit {0}

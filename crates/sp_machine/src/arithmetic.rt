@@ -1,0 +1,134 @@
+//! Instructions on ordinals.
+
+ghost use Rattle.std.specs.Prelude.{◌≡◌, ◌≢◌, ◌+◌, ◌<◌, IfOk, Some, not, if◌then◌else◌};
+ghost use Rattle.sp_code.specs.Machine.{Stuck, on_two, on_one, on_equals, told};
+ghost use Rattle.sp_code.specs.Memory.{memory};
+ghost use Rattle.sp_code.specs.PlainStore.{plain};
+ghost use Rattle.sp_code.specs.declared.instr.Instr.TheVariants as instr;
+ghost use Rattle.sp_arithmetic.specs.Worked.{worked};
+ghost use Rattle.sp_machine.specs.Entries.{entries_of};
+ghost use Rattle.sp_machine.specs.Procs.{does, Came, Stays, setting_of, memory_of};
+ghost use Rattle.sp_machine.specs.Conversions.{converted};
+
+use crate::stack::Operand;
+use crate::state::{State, Stop};
+use sp_arithmetic::{absolute_of, binary, next_of, odd, previous_of, square_of, truth_of, unary, within};
+use sp_base::{Fault, Limits, Memory};
+use sp_code::Code;
+use sp_tree::{BinaryOp, UnaryOp};
+
+/// An operation on one ordinal.
+#[derive(Clone, Copy)]
+pub(crate) enum Conversion {
+    Negative,
+    Absolute,
+    Square,
+    Odd,
+    Not,
+    Range(i64, i64),
+    Successor(i64),
+    Predecessor(i64),
+}
+
+/// What it gives, or the fault.
+fn convert(conversion: Conversion, n: i64) -> Result<i64, Fault>
+    ensures { worked result ≡ converted conversion n }
+{
+    match conversion {
+        Conversion::Negative => unary(UnaryOp::Minus, n),
+        Conversion::Absolute => absolute_of(n),
+        Conversion::Square => square_of(n),
+        Conversion::Odd => odd(n),
+        Conversion::Not => unary(UnaryOp::Not, n),
+        Conversion::Range(low, high) => within(low, high, n),
+        Conversion::Successor(high) => next_of(high, n),
+        Conversion::Predecessor(low) => previous_of(low, n),
+    }
+}
+
+impl State {
+    // Pushes an ordinal.
+    pub(crate) fn constant(&mut self, value: i64, code: &Code, limits: &Limits) -> Result<Option<Stop>, Memory>
+        requires { self.old.pc + 1 < 4294967296 }
+        ensures came { IfOk result (λ s. Came (does (Some (instr.Const value)) self.old code.now limits.now) self.old self.new s) }
+        ensures same { Stays self.old self.new }
+    {
+        self.stack.push(Operand::Number(value))?;
+        self.pc += 1;
+        Ok(None)
+    }
+
+    // What an operation makes of the ordinal on top.
+    pub(crate) fn convert(&mut self, conversion: Conversion, code: &Code, limits: &Limits) -> Result<Option<Stop>, Memory>
+        requires next { self.old.pc + 1 < 4294967296 }
+        requires safe { on_one (memory plain (setting_of self.old code.now limits.now)) code.now (converted conversion) self.old.pc (entries_of self.old.stack) (memory_of self.old) ≢ Stuck }
+        ensures came { IfOk result (λ s. Came (on_one (memory plain (setting_of self.old code.now limits.now)) code.now (converted conversion) self.old.pc (entries_of self.old.stack) (memory_of self.old)) self.old self.new s) }
+        ensures same { Stays self.old self.new }
+    {
+        match self.stack.pop() {
+            Some(Operand::Number(n)) => match convert(conversion, n) {
+                Ok(value) => {
+                    self.stack.push(Operand::Number(value))?;
+                    self.pc += 1;
+                    Ok(None)
+                }
+                Err(fault) => {
+                    self.stack.push(Operand::Number(n))?;
+                    Ok(Some(Stop::Fault(fault)))
+                }
+            },
+            _ => unreachable!(),
+        }
+    }
+
+    // What an operator makes of two ordinals.
+    pub(crate) fn operate(&mut self, op: BinaryOp, code: &Code, limits: &Limits) -> Result<Option<Stop>, Memory>
+        requires next { self.old.pc + 1 < 4294967296 }
+        requires safe { on_two (memory plain (setting_of self.old code.now limits.now)) code.now op self.old.pc (entries_of self.old.stack) (memory_of self.old) ≢ Stuck }
+        ensures came { IfOk result (λ s. Came (on_two (memory plain (setting_of self.old code.now limits.now)) code.now op self.old.pc (entries_of self.old.stack) (memory_of self.old)) self.old self.new s) }
+        ensures same { Stays self.old self.new }
+    {
+        match self.stack.pop() {
+            Some(Operand::Number(n)) => match self.stack.pop() {
+                Some(Operand::Number(m)) => match binary(op, m, n) {
+                    Ok(value) => {
+                        self.stack.push(Operand::Number(value))?;
+                        self.pc += 1;
+                        Ok(None)
+                    }
+                    Err(fault) => {
+                        self.stack.push(Operand::Number(m))?;
+                        self.stack.push(Operand::Number(n))?;
+                        Ok(Some(Stop::Fault(fault)))
+                    }
+                },
+                _ => unreachable!(),
+            },
+            _ => unreachable!(),
+        }
+    }
+
+    // Whether two ordinals or two channels are equal, or whether they are different.
+    pub(crate) fn equals(&mut self, different: bool, code: &Code, limits: &Limits) -> Result<Option<Stop>, Memory>
+        requires next { self.old.pc + 1 < 4294967296 }
+        requires safe { on_equals (entries_of self.old.stack) (λ b st. told (memory plain (setting_of self.old code.now limits.now)) code.now (if different then not b else b) (self.old.pc + 1) st (memory_of self.old)) ≢ Stuck }
+        ensures came { IfOk result (λ s. Came (on_equals (entries_of self.old.stack) (λ b st. told (memory plain (setting_of self.old code.now limits.now)) code.now (if different then not b else b) (self.old.pc + 1) st (memory_of self.old))) self.old self.new s) }
+        ensures same { Stays self.old self.new }
+    {
+        let equal = match self.stack.pop() {
+            Some(Operand::Number(n)) => match self.stack.pop() {
+                Some(Operand::Number(m)) => m == n,
+                _ => unreachable!(),
+            },
+            Some(Operand::Channel(d)) => match self.stack.pop() {
+                Some(Operand::Channel(c)) => c == d,
+                _ => unreachable!(),
+            },
+            _ => unreachable!(),
+        };
+        let told = if different { !equal } else { equal };
+        self.stack.push(Operand::Number(truth_of(told)))?;
+        self.pc += 1;
+        Ok(None)
+    }
+}

@@ -1,0 +1,198 @@
+//! Jumps, loops and ticks.
+
+ghost use Rattle.std.specs.Prelude.{◌≡◌, ◌≢◌, ◌+◌, ◌<◌, IfOk, Some, nat_le, true};
+ghost use Rattle.sp_base.specs.declared.limits.TheConstants.{TURN_TICKS};
+ghost use Rattle.sp_tree.specs.Operators.{is_range, is_before, next_value};
+ghost use Rattle.sp_code.specs.Machine.{Stuck, begins_loop, ends_loop};
+ghost use Rattle.sp_code.specs.Memory.{memory};
+ghost use Rattle.sp_code.specs.PlainStore.{plain};
+ghost use Rattle.sp_code.specs.declared.instr.Instr.TheVariants as instr;
+ghost use Rattle.sp_machine.specs.Entries.{entries_of};
+ghost use Rattle.sp_machine.specs.Procs.{does, Came, Stays, setting_of, memory_of};
+
+use crate::stack::Operand;
+use crate::state::{State, Stop};
+use sp_base::{Fault, Limits, Memory, TURN_TICKS};
+use sp_cell::Cell;
+use sp_code::Code;
+
+/// Whether a loop has a value from `first` to `last`.
+fn has_range(down: bool, first: i64, last: i64) -> bool
+    ensures { result ≡ is_range down first last }
+{
+    if down { last <= first } else { first <= last }
+}
+
+/// Whether a loop has a value after this one.
+fn has_next(down: bool, value: i64, last: i64) -> bool
+    ensures { result ≡ is_before down value last }
+{
+    if down { last < value } else { value < last }
+}
+
+/// The value after this one.
+fn following(down: bool, value: i64, last: i64) -> i64
+    requires { is_before down value last ≡ true }
+    ensures { result ≡ next_value down value }
+{
+    if down { value - 1 } else { value + 1 }
+}
+
+impl State {
+    /// Whether it has made so many ticks since its last entry that it has to pause.
+    pub(crate) fn is_due(&self) -> bool
+        ensures { result ≡ nat_le (self.now.since + TURN_TICKS) self.now.ticks }
+    {
+        self.since <= self.ticks && self.ticks - self.since >= TURN_TICKS
+    }
+
+    // Goes on there.
+    pub(crate) fn jump(&mut self, to: u32, code: &Code, limits: &Limits) -> Result<Option<Stop>, Memory>
+        requires next { self.old.pc + 1 < 4294967296 }
+        requires safe { does (Some (instr.Jump to)) self.old code.now limits.now ≢ Stuck }
+        ensures came { IfOk result (λ s. Came (does (Some (instr.Jump to)) self.old code.now limits.now) self.old self.new s) }
+        ensures same { Stays self.old self.new }
+    {
+        self.pc = to;
+        Ok(None)
+    }
+
+    // Goes on there where the operand is false.
+    pub(crate) fn jump_false(&mut self, to: u32, code: &Code, limits: &Limits) -> Result<Option<Stop>, Memory>
+        requires next { self.old.pc + 1 < 4294967296 }
+        requires safe { does (Some (instr.Jumpf to)) self.old code.now limits.now ≢ Stuck }
+        ensures came { IfOk result (λ s. Came (does (Some (instr.Jumpf to)) self.old code.now limits.now) self.old self.new s) }
+        ensures same { Stays self.old self.new }
+    {
+        match self.stack.pop() {
+            Some(Operand::Number(value)) => {
+                if value <= 0 {
+                    self.pc = to;
+                    return Ok(None);
+                }
+                self.pc += 1;
+                Ok(None)
+            }
+            _ => unreachable!(),
+        }
+    }
+
+    // Goes on there where the operand is the value; else the operand stays.
+    pub(crate) fn jump_equal(&mut self, value: i64, to: u32, code: &Code, limits: &Limits) -> Result<Option<Stop>, Memory>
+        requires next { self.old.pc + 1 < 4294967296 }
+        requires safe { does (Some (instr.Casej value to)) self.old code.now limits.now ≢ Stuck }
+        ensures came { IfOk result (λ s. Came (does (Some (instr.Casej value to)) self.old code.now limits.now) self.old self.new s) }
+        ensures same { Stays self.old self.new }
+    {
+        match self.stack.pop() {
+            Some(Operand::Number(n)) => {
+                if n == value {
+                    self.pc = to;
+                    return Ok(None);
+                }
+                self.stack.push(Operand::Number(n))?;
+                self.pc += 1;
+                Ok(None)
+            }
+            _ => unreachable!(),
+        }
+    }
+
+    // Goes on where the operand is true.
+    pub(crate) fn assume(&mut self, code: &Code, limits: &Limits) -> Result<Option<Stop>, Memory>
+        requires next { self.old.pc + 1 < 4294967296 }
+        requires safe { does (Some instr.Assume) self.old code.now limits.now ≢ Stuck }
+        ensures came { IfOk result (λ s. Came (does (Some instr.Assume) self.old code.now limits.now) self.old self.new s) }
+        ensures same { Stays self.old self.new }
+    {
+        match self.stack.pop() {
+            Some(Operand::Number(value)) => {
+                if value <= 0 {
+                    self.stack.push(Operand::Number(value))?;
+                    return Ok(Some(Stop::Fault(Fault::F8)));
+                }
+                self.pc += 1;
+                Ok(None)
+            }
+            _ => unreachable!(),
+        }
+    }
+
+    // Counts a tick. The process may pause.
+    pub(crate) fn tick(&mut self, code: &Code, limits: &Limits) -> Result<Option<Stop>, Memory>
+        requires next { self.old.pc + 1 < 4294967296 }
+        requires safe { does (Some instr.Tick) self.old code.now limits.now ≢ Stuck }
+        ensures came { IfOk result (λ s. Came (does (Some instr.Tick) self.old code.now limits.now) self.old self.new s) }
+        ensures same { Stays self.old self.new }
+    {
+        if self.ticks >= limits.ticks {
+            return Ok(Some(Stop::Fault(Fault::F10)));
+        }
+        self.ticks += 1;
+        self.pc += 1;
+        if self.stack.is_outside() && self.is_due() {
+            return Ok(Some(Stop::Pause));
+        }
+        Ok(None)
+    }
+
+    // Begins a loop with its first value, or leaves it.
+    pub(crate) fn begin_loop(&mut self, down: bool, var: u32, to: u32, code: &Code, limits: &Limits) -> Result<Option<Stop>, Memory>
+        requires next { self.old.pc + 1 < 4294967296 }
+        requires safe { begins_loop (memory plain (setting_of self.old code.now limits.now)) code.now down var to self.old.pc (entries_of self.old.stack) (memory_of self.old) ≢ Stuck }
+        ensures came { IfOk result (λ s. Came (begins_loop (memory plain (setting_of self.old code.now limits.now)) code.now down var to self.old.pc (entries_of self.old.stack) (memory_of self.old)) self.old self.new s) }
+        ensures same { Stays self.old self.new }
+    {
+        match self.stack.pop() {
+            Some(Operand::Number(last)) => match self.stack.pop() {
+                Some(Operand::Number(first)) => match self.frames.address(0, var) {
+                    Some(at) => {
+                        if has_range(down, first, last) {
+                            self.store.store(at, Cell::Ordinal(first))?;
+                            self.stack.push(Operand::Number(last))?;
+                            self.pc += 1;
+                            return Ok(None);
+                        }
+                        self.pc = to;
+                        Ok(None)
+                    }
+                    None => unreachable!(),
+                },
+                _ => unreachable!(),
+            },
+            _ => unreachable!(),
+        }
+    }
+
+    // Goes on with the next value of a loop, or leaves it.
+    pub(crate) fn go_on_loop(&mut self, down: bool, var: u32, to: u32, code: &Code, limits: &Limits) -> Result<Option<Stop>, Memory>
+        requires next { self.old.pc + 1 < 4294967296 }
+        requires safe { ends_loop (memory plain (setting_of self.old code.now limits.now)) code.now down var to self.old.pc (entries_of self.old.stack) (memory_of self.old) ≢ Stuck }
+        ensures came { IfOk result (λ s. Came (ends_loop (memory plain (setting_of self.old code.now limits.now)) code.now down var to self.old.pc (entries_of self.old.stack) (memory_of self.old)) self.old self.new s) }
+        ensures same { Stays self.old self.new }
+    {
+        match self.stack.pop() {
+            Some(Operand::Number(last)) => match self.frames.address(0, var) {
+                Some(at) => match self.store.load(at) {
+                    Cell::Ordinal(value) => {
+                        if has_next(down, value, last) {
+                            let next = following(down, value, last);
+                            self.store.store(at, Cell::Ordinal(next))?;
+                            self.stack.push(Operand::Number(last))?;
+                            self.pc = to;
+                            return Ok(None);
+                        }
+                        self.pc += 1;
+                        Ok(None)
+                    }
+                    Cell::Undefined | Cell::Channel(_) => {
+                        self.stack.push(Operand::Number(last))?;
+                        Ok(Some(Stop::Fault(Fault::F4)))
+                    }
+                },
+                None => unreachable!(),
+            },
+            _ => unreachable!(),
+        }
+    }
+}

@@ -1,0 +1,220 @@
+//! The frames of a process.
+
+ghost use Rattle.std.specs.Prelude.{◌≡◌, ◌≢◌, ◌<◌, ◌≤◌, ◌+◌, ◌∷◌, ◌++◌, [], List, length, min, take, drop, IfOk, OnOk, OnErr};
+ghost use Rattle.sp_code.specs.Memory.{Frame as PlainFrame, last_frames, frames_up, addr_in, deref_in, referred};
+ghost use Rattle.sp_machine.specs.Frames.{plain_frames, frame_of, home_of};
+
+use sp_base::{List, Memory};
+use sp_cell::{Address, Spot};
+use std::alloc::Global;
+use std::marker::Model;
+use std::sync::Arc;
+
+/// What a frame is of.
+#[derive(Clone, Copy)]
+pub enum Home {
+    /// The block of this number.
+    Block(u32),
+    /// The index of a `forall`, by its number in the tree.
+    Index(u32),
+}
+
+/// A frame.
+#[derive(Drop)]
+pub struct Frame {
+    /// The process that made it.
+    pub(crate) owner: u32,
+    /// Its number in that one's store.
+    pub(crate) number: u64,
+    pub(crate) home: Home,
+    /// How many frames there are from the enclosing one on.
+    pub(crate) link: usize,
+    /// What the variable parameters stand for, by their numbers.
+    pub(crate) references: List<(u32, Address)>,
+}
+
+/// The live frames of a process, the newest last in memory: the visible ones of those that it shares with others, and then its
+/// own. Contracts see the newest first, as the definitions do.
+#[derive(Drop)]
+pub struct Frames {
+    shared: Arc<List<Frame>>,
+    visible: usize,
+    own: List<Frame>,
+}
+
+impl Model for Frames {
+    ghost use Rattle.std.specs.Prelude.{List, ◌++◌, ◌≤◌, take, length};
+    ghost use Rattle.sp_code.specs.Memory.{Frame as PlainFrame};
+    ghost use Rattle.sp_machine.specs.Frames.{plain_frames};
+
+    ghost Value = { List PlainFrame };
+
+    ghost view = { λ it. plain_frames (take it.visible it.shared.value ++ it.own) };
+
+    ghost invariant = { λ it. it.visible ≤ length it.shared.value };
+}
+
+// The frames of both parts, counted.
+#[tactic(auto, using(crate::proofs::Framing::length_parts))]
+fn count_in(shared: &[Frame], visible: usize, own: &[Frame]) -> usize
+    requires { visible ≤ length shared.now }
+    ensures { result ≡ length (plain_frames (take visible shared.now ++ own.now)) }
+{
+    let _all = shared.len();
+    visible + own.len()
+}
+
+// The frame at a place, counted from the oldest.
+#[tactic(auto, using(crate::proofs::Framing::at_shared, crate::proofs::Framing::at_own))]
+fn frame_in<'a>(shared: &'a [Frame], visible: usize, own: &'a [Frame], place: usize) -> &'a Frame
+    requires within { visible ≤ length shared.now }
+    requires there { place < visible + length own.now }
+    ensures { last_frames (place + 1) (plain_frames (take visible shared.now ++ own.now)) ≡ frame_of result.now ∷ last_frames place (plain_frames (take visible shared.now ++ own.now)) }
+{
+    if place < visible {
+        return &shared[place];
+    }
+    &own[place - visible]
+}
+
+fn lesser(a: usize, b: usize) -> usize
+    ensures { result ≡ min a b }
+{
+    if a < b { a } else { b }
+}
+
+impl Frames {
+    /// The frames of a run's first process: that of the program.
+    #[tactic(auto, using(crate::proofs::Framing::one_plain))]
+    pub(crate) fn first(alloc: Global, frame: Frame) -> Result<Frames, Memory>
+        ensures { IfOk result (λ r. r ≡ frame_of frame ∷ []) }
+    {
+        let mut own = List::new(alloc);
+        own.push(frame)?;
+        let shared = Arc::new(alloc, List::new(alloc))?;
+        Ok(Frames {
+            shared,
+            visible: 0,
+            own,
+        })
+    }
+
+    /// How many there are.
+    pub(crate) fn len(&self) -> usize
+        ensures { result ≡ length self.now }
+    {
+        count_in(self.shared.items(), self.visible, self.own.items())
+    }
+
+    /// The frame at a place, counted from the oldest.
+    #[tactic(auto, using(crate::proofs::Framing::within_parts))]
+    pub(crate) fn at(&self, place: usize) -> &Frame
+        requires { place < length self.now }
+        ensures { last_frames (place + 1) self.now ≡ frame_of result.now ∷ last_frames place self.now }
+    {
+        frame_in(self.shared.items(), self.visible, self.own.items(), place)
+    }
+
+    /// How many frames there are from the one so many static levels outward on, 0 where there is none.
+    #[tactic(auto, using(crate::proofs::Framing::none_last, crate::proofs::Framing::all_last, crate::proofs::Framing::up_none))]
+    fn outward(&self, up: u32) -> usize
+        ensures same { frames_up up self.now ≡ last_frames result self.now }
+        ensures within { result ≤ length self.now }
+    {
+        let mut count = self.len();
+        for _ in 0..up {
+            if count == 0 {
+                return 0;
+            }
+            let link = self.at(count - 1).link;
+            let next = lesser(link, count - 1);
+            count = next;
+        }
+        count
+    }
+
+    /// How many frames there are from the one so many static levels outward on.
+    #[tactic(auto, using(crate::proofs::Framing::length_last))]
+    pub(crate) fn level(&self, up: u32) -> usize
+        ensures { result ≡ length (frames_up up self.now) }
+    {
+        self.outward(up)
+    }
+
+    /// A variable of the frame so many static levels outward.
+    #[tactic(auto, using(crate::proofs::Framing::none_last, crate::proofs::Framing::addr_first))]
+    pub(crate) fn address(&self, up: u32, variable: u32) -> Option<Address>
+        ensures { result ≡ addr_in (frames_up up self.now) variable }
+    {
+        let count = self.outward(up);
+        if count == 0 {
+            return None;
+        }
+        let frame = self.at(count - 1).number;
+        Some(Address {
+            spot: Spot { frame, variable },
+            offset: 0,
+        })
+    }
+
+    /// What a variable parameter of the frame so many static levels outward stands for.
+    #[tactic(auto, using(crate::proofs::Framing::none_last, crate::proofs::Framing::deref_first))]
+    pub(crate) fn reference(&self, up: u32, variable: u32) -> Option<Address>
+        ensures { result ≡ deref_in (frames_up up self.now) variable }
+    {
+        let count = self.outward(up);
+        if count == 0 {
+            return None;
+        }
+        let frame = self.at(count - 1);
+        referred(variable, frame.references.items())
+    }
+
+    /// The number and the home of the newest.
+    #[tactic(auto, using(crate::proofs::Framing::newest_first, crate::proofs::Framing::none_shorter))]
+    pub(crate) fn newest(&self) -> (u64, Home)
+        requires { self.now ≢ [] }
+        ensures { (f : PlainFrame) (fs : List PlainFrame) → self.now ≡ f ∷ fs → (f.number ≡ result.0) × (f.home ≡ home_of result.1) }
+    {
+        let count = self.len();
+        let frame = self.at(count - 1);
+        (frame.number, frame.home)
+    }
+
+    /// Puts a frame on top. Where memory is refused, nothing has changed.
+    #[tactic(auto, using(crate::proofs::Framing::more_plain))]
+    pub(crate) fn push(&mut self, frame: Frame) -> Result<(), Memory>
+        ensures ok { OnOk result (self.new ≡ frame_of frame ∷ self.old) }
+        ensures err { OnErr result (self.new ≡ self.old) }
+    {
+        match self.own.push(frame) {
+            Ok(()) => Ok(()),
+            Err(_) => Err(Memory),
+        }
+    }
+
+    /// The newest goes.
+    #[tactic(auto, using(crate::proofs::Framing::less_own, crate::proofs::Framing::less_shared, crate::proofs::Framing::some_visible))]
+    pub(crate) fn drop_newest(&mut self)
+        requires { self.old ≢ [] }
+        ensures { self.new ≡ drop 1 self.old }
+    {
+        match self.own.pop() {
+            Some(_) => {}
+            None => self.visible -= 1,
+        }
+    }
+}
+
+// What the variable parameter of this number stands for.
+#[tactic(auto, using(crate::proofs::Framing::referred_on, crate::proofs::Framing::referred_here, crate::proofs::Framing::referred_end))]
+fn referred(variable: u32, references: &[(u32, Address)]) -> Option<Address>
+    ensures { result ≡ referred variable references.now }
+{
+    for r in references {
+        if r.0 == variable {
+            return Some(r.1);
+        }
+    }
+    None
+}

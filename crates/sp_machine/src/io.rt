@@ -1,0 +1,332 @@
+//! Input and output.
+
+ghost use Rattle.std.specs.Prelude.{◌≡◌, ◌≢◌, ◌+◌, ◌<◌, ◌++◌, IfOk, OnOk, OnErr, Some, None, true, pos, drop, replicate};
+ghost use Rattle.sp_cell.specs.declared.cell.Cell.TheVariants.{Ordinal};
+ghost use Rattle.sp_code.specs.Machine.{Stuck, reads, writes, writes_wide};
+ghost use Rattle.sp_code.specs.Memory.{memory, is_held, left_after, position_in, position_at, or_zero, put_cell};
+ghost use Rattle.sp_code.specs.PlainStore.{plain};
+ghost use Rattle.sp_code.specs.declared.instr.Instr.TheVariants as instr;
+ghost use Rattle.sp_items.specs.Taking.{taken_of};
+ghost use Rattle.sp_machine.specs.Entries.{entries_of};
+ghost use Rattle.sp_machine.specs.Procs.{does, Came, Stays, setting_of, memory_of};
+ghost use Rattle.sp_machine.specs.Texts.{item_in, text_of, is_cut, Emits};
+
+use crate::stack::Operand;
+use crate::state::{State, Stop};
+use sp_arithmetic::truth_of;
+use sp_base::{Fault, Limits, Memory, put_signed};
+use sp_cell::{Address, Cell, Spot};
+use sp_code::Code;
+use sp_items::{Taken, byte_of, char_in, cut_to, is_at_line_end, line_length, number_in, truth_text};
+use sp_store::Store;
+
+/// What is read.
+#[derive(Clone, Copy)]
+pub(crate) enum Item {
+    Number,
+    Char,
+}
+
+/// How a value is written.
+#[derive(Clone, Copy)]
+pub(crate) enum Shown {
+    Number,
+    Char,
+    Truth,
+}
+
+/// An item read.
+fn taken(item: Item, bytes: &[u8]) -> Taken
+    ensures { taken_of result ≡ item_in item bytes.now }
+{
+    match item {
+        Item::Number => number_in(bytes),
+        Item::Char => char_in(bytes),
+    }
+}
+
+/// Puts the text of a value in place of another text.
+fn spell(text: &mut Vec<u8>, shown: Shown, n: i64) -> Result<(), Memory>
+    ensures { OnOk result (text.new.items ≡ text_of shown n) }
+{
+    text.clear();
+    match shown {
+        Shown::Number => put_signed(text, n),
+        Shown::Char => {
+            text.push(byte_of(n))?;
+            Ok(())
+        }
+        Shown::Truth => {
+            text.extend_from_slice(truth_text(n))?;
+            Ok(())
+        }
+    }
+}
+
+fn cuts(shown: Shown) -> bool
+    ensures { result ≡ is_cut shown }
+{
+    match shown {
+        Shown::Number => false,
+        Shown::Char => false,
+        Shown::Truth => true,
+    }
+}
+
+/// The bytes from a place on.
+#[tactic(auto, using(std::proofs::lemmas::List::drop_all))]
+fn bytes_from(bytes: &[u8], from: u64) -> &[u8]
+    ensures { result.now ≡ drop from bytes.now }
+{
+    if from < bytes.len() as u64 {
+        return &bytes[from as usize..];
+    }
+    &bytes[bytes.len()..]
+}
+
+/// Where the place in the input stands.
+fn input_address() -> Address
+    ensures { result ≡ position_at }
+{
+    Address {
+        spot: Spot {
+            frame: 0,
+            variable: 0,
+        },
+        offset: 0,
+    }
+}
+
+/// Writes a text behind so many blanks. `false` where the output would pass its limit; then nothing is written.
+#[tactic(auto, using(crate::proofs::Printing::appended_none, crate::proofs::Printing::appended_more, crate::proofs::Printing::appended_held, crate::proofs::Printing::blanks_more, crate::proofs::Printing::length_blanks))]
+fn emit(store: &mut Store, blanks: u64, text: &[u8], limits: &Limits) -> Result<bool, Memory>
+    requires { is_held (plain.output store.old) ≡ true }
+    ensures { IfOk result (λ b. Emits b limits.now.output (replicate blanks 32 ++ text.now) store.old store.new) }
+{
+    let written = match store.output() {
+        Some(bytes) => bytes.len(),
+        None => unreachable!(),
+    };
+    let all = written as u128 + blanks as u128 + text.len() as u128;
+    if all > limits.output as u128 {
+        return Ok(false);
+    }
+    for _ in 0..blanks {
+        store.append(b" ")?;
+    }
+    store.append(text)?;
+    Ok(true)
+}
+
+impl State {
+    /// What is left of the input.
+    #[tactic(auto, using(crate::proofs::Positions::position_held, crate::proofs::Positions::position_is, crate::proofs::Positions::position_not_undefined, crate::proofs::Positions::position_not_channel, crate::proofs::Positions::left_held))]
+    fn left(&self) -> &[u8]
+        requires { left_after self.now.input.value (position_in (plain.piece self.now.store position_at.spot)) ≢ None }
+        ensures { left_after self.now.input.value (position_in (plain.piece self.now.store position_at.spot)) ≡ Some result.now }
+    {
+        match self.store.load(input_address()) {
+            Cell::Ordinal(place) => bytes_from(self.input.bytes(), place.unsigned_abs()),
+            Cell::Undefined | Cell::Channel(_) => unreachable!(),
+        }
+    }
+
+    /// So many bytes of the input are taken. A place that no cell can hold counts as want of memory; only code that writes over
+    /// the place in the input comes to one.
+    #[tactic(auto, using(crate::proofs::Positions::position_held, crate::proofs::Positions::position_is, crate::proofs::Positions::position_not_undefined, crate::proofs::Positions::position_not_channel, crate::proofs::Positions::left_held, sp_code::proofs::StoreLaws::cells_same))]
+    fn advance(&mut self, bytes: usize) -> Result<(), Memory>
+        requires { left_after self.old.input.value (position_in (plain.piece self.old.store position_at.spot)) ≢ None }
+        ensures taken { OnOk result (self.new ≡ record self.old { store = put_cell plain position_at (Ordinal (pos (or_zero (position_in (plain.piece self.old.store position_at.spot)) + bytes))) self.old.store }) }
+        ensures same { Stays self.old self.new }
+    {
+        match self.store.load(input_address()) {
+            Cell::Ordinal(place) => {
+                let next = place.unsigned_abs() as u128 + bytes as u128;
+                let Ok(next) = i64::try_from(next) else {
+                    return Err(Memory);
+                };
+                self.store.store(input_address(), Cell::Ordinal(next))
+            }
+            Cell::Undefined | Cell::Channel(_) => unreachable!(),
+        }
+    }
+
+    // Reads an item into an address.
+    #[tactic(auto, using(crate::proofs::Positions::still_has, sp_code::proofs::StoreLaws::has_held, sp_code::proofs::StoreLaws::cells_same))]
+    pub(crate) fn read(&mut self, item: Item, code: &Code, limits: &Limits) -> Result<Option<Stop>, Memory>
+        requires next { self.old.pc + 1 < 4294967296 }
+        requires safe { reads (memory plain (setting_of self.old code.now limits.now)) code.now (item_in item) (self.old.pc + 1) (entries_of self.old.stack) (memory_of self.old) ≢ Stuck }
+        ensures came { IfOk result (λ s. Came (reads (memory plain (setting_of self.old code.now limits.now)) code.now (item_in item) (self.old.pc + 1) (entries_of self.old.stack) (memory_of self.old)) self.old self.new s) }
+        ensures same { Stays self.old self.new }
+    {
+        match self.stack.pop() {
+            Some(Operand::Pointer(at)) => match taken(item, self.left()) {
+                Taken::Takes(value, bytes) => {
+                    self.advance(bytes)?;
+                    self.store.store(at, Cell::Ordinal(value))?;
+                    self.pc += 1;
+                    Ok(None)
+                }
+                Taken::Fails(fault) => {
+                    self.stack.push(Operand::Pointer(at))?;
+                    Ok(Some(Stop::Fault(fault)))
+                }
+            },
+            _ => unreachable!(),
+        }
+    }
+
+    // Drops the rest of the line.
+    pub(crate) fn read_line(&mut self, code: &Code, limits: &Limits) -> Result<Option<Stop>, Memory>
+        requires next { self.old.pc + 1 < 4294967296 }
+        requires safe { does (Some instr.Readln) self.old code.now limits.now ≢ Stuck }
+        ensures came { IfOk result (λ s. Came (does (Some instr.Readln) self.old code.now limits.now) self.old self.new s) }
+        ensures same { Stays self.old self.new }
+    {
+        let bytes = line_length(self.left());
+        self.advance(bytes)?;
+        self.pc += 1;
+        Ok(None)
+    }
+
+    // Whether nothing is left of the input.
+    pub(crate) fn is_input_over(&mut self, code: &Code, limits: &Limits) -> Result<Option<Stop>, Memory>
+        requires next { self.old.pc + 1 < 4294967296 }
+        requires safe { does (Some instr.Eof) self.old code.now limits.now ≢ Stuck }
+        ensures came { IfOk result (λ s. Came (does (Some instr.Eof) self.old code.now limits.now) self.old self.new s) }
+        ensures same { Stays self.old self.new }
+    {
+        let over = self.left().len() == 0;
+        self.stack.push(Operand::Number(truth_of(over)))?;
+        self.pc += 1;
+        Ok(None)
+    }
+
+    // Whether nothing is left of the line.
+    pub(crate) fn is_line_over(&mut self, code: &Code, limits: &Limits) -> Result<Option<Stop>, Memory>
+        requires next { self.old.pc + 1 < 4294967296 }
+        requires safe { does (Some instr.Eoln) self.old code.now limits.now ≢ Stuck }
+        ensures came { IfOk result (λ s. Came (does (Some instr.Eoln) self.old code.now limits.now) self.old self.new s) }
+        ensures same { Stays self.old self.new }
+    {
+        let over = is_at_line_end(self.left());
+        self.stack.push(Operand::Number(truth_of(over)))?;
+        self.pc += 1;
+        Ok(None)
+    }
+
+    // Writes a value.
+    pub(crate) fn write(&mut self, shown: Shown, code: &Code, limits: &Limits) -> Result<Option<Stop>, Memory>
+        requires next { self.old.pc + 1 < 4294967296 }
+        requires safe { writes (memory plain (setting_of self.old code.now limits.now)) code.now (text_of shown) (self.old.pc + 1) (entries_of self.old.stack) (memory_of self.old) ≢ Stuck }
+        ensures came { IfOk result (λ s. Came (writes (memory plain (setting_of self.old code.now limits.now)) code.now (text_of shown) (self.old.pc + 1) (entries_of self.old.stack) (memory_of self.old)) self.old self.new s) }
+        ensures same { Stays self.old self.new }
+    {
+        match self.stack.pop() {
+            Some(Operand::Number(n)) => {
+                spell(&mut self.text, shown, n)?;
+                if !emit(&mut self.store, 0, self.text.as_slice(), limits)? {
+                    self.stack.push(Operand::Number(n))?;
+                    return Ok(Some(Stop::Fault(Fault::F16)));
+                }
+                self.pc += 1;
+                Ok(None)
+            }
+            _ => unreachable!(),
+        }
+    }
+
+    // Writes a value in a width.
+    pub(crate) fn write_wide(&mut self, shown: Shown, code: &Code, limits: &Limits) -> Result<Option<Stop>, Memory>
+        requires next { self.old.pc + 1 < 4294967296 }
+        requires safe { writes_wide (memory plain (setting_of self.old code.now limits.now)) code.now (is_cut shown) (text_of shown) (self.old.pc + 1) (entries_of self.old.stack) (memory_of self.old) ≢ Stuck }
+        ensures came { IfOk result (λ s. Came (writes_wide (memory plain (setting_of self.old code.now limits.now)) code.now (is_cut shown) (text_of shown) (self.old.pc + 1) (entries_of self.old.stack) (memory_of self.old)) self.old self.new s) }
+        ensures same { Stays self.old self.new }
+    {
+        match self.stack.pop() {
+            Some(Operand::Number(width)) => match self.stack.pop() {
+                Some(Operand::Number(n)) => {
+                    if width <= 0 {
+                        self.stack.push(Operand::Number(n))?;
+                        self.stack.push(Operand::Number(width))?;
+                        return Ok(Some(Stop::Fault(Fault::F1)));
+                    }
+                    spell(&mut self.text, shown, n)?;
+                    let text = cut_to(cuts(shown), width.unsigned_abs(), self.text.as_slice());
+                    let blanks = width.unsigned_abs().saturating_sub(text.len() as u64);
+                    if !emit(&mut self.store, blanks, text, limits)? {
+                        self.stack.push(Operand::Number(n))?;
+                        self.stack.push(Operand::Number(width))?;
+                        return Ok(Some(Stop::Fault(Fault::F16)));
+                    }
+                    self.pc += 1;
+                    Ok(None)
+                }
+                _ => unreachable!(),
+            },
+            _ => unreachable!(),
+        }
+    }
+
+    // Writes a text.
+    pub(crate) fn write_text(&mut self, number: u32, code: &Code, limits: &Limits) -> Result<Option<Stop>, Memory>
+        requires next { self.old.pc + 1 < 4294967296 }
+        requires safe { does (Some (instr.WriteText number)) self.old code.now limits.now ≢ Stuck }
+        ensures came { IfOk result (λ s. Came (does (Some (instr.WriteText number)) self.old code.now limits.now) self.old self.new s) }
+        ensures same { Stays self.old self.new }
+    {
+        match code.text(number) {
+            Some(text) => {
+                if !emit(&mut self.store, 0, text.bytes(), limits)? {
+                    return Ok(Some(Stop::Fault(Fault::F16)));
+                }
+                self.pc += 1;
+                Ok(None)
+            }
+            None => unreachable!(),
+        }
+    }
+
+    // Writes a text in a width.
+    pub(crate) fn write_text_wide(&mut self, number: u32, code: &Code, limits: &Limits) -> Result<Option<Stop>, Memory>
+        requires next { self.old.pc + 1 < 4294967296 }
+        requires safe { does (Some (instr.WritewText number)) self.old code.now limits.now ≢ Stuck }
+        ensures came { IfOk result (λ s. Came (does (Some (instr.WritewText number)) self.old code.now limits.now) self.old self.new s) }
+        ensures same { Stays self.old self.new }
+    {
+        match self.stack.pop() {
+            Some(Operand::Number(width)) => match code.text(number) {
+                Some(text) => {
+                    if width <= 0 {
+                        self.stack.push(Operand::Number(width))?;
+                        return Ok(Some(Stop::Fault(Fault::F1)));
+                    }
+                    let bytes = cut_to(true, width.unsigned_abs(), text.bytes());
+                    let blanks = width.unsigned_abs().saturating_sub(bytes.len() as u64);
+                    if !emit(&mut self.store, blanks, bytes, limits)? {
+                        self.stack.push(Operand::Number(width))?;
+                        return Ok(Some(Stop::Fault(Fault::F16)));
+                    }
+                    self.pc += 1;
+                    Ok(None)
+                }
+                None => unreachable!(),
+            },
+            _ => unreachable!(),
+        }
+    }
+
+    // Writes a line feed.
+    pub(crate) fn new_line(&mut self, code: &Code, limits: &Limits) -> Result<Option<Stop>, Memory>
+        requires next { self.old.pc + 1 < 4294967296 }
+        requires safe { does (Some instr.Writeln) self.old code.now limits.now ≢ Stuck }
+        ensures came { IfOk result (λ s. Came (does (Some instr.Writeln) self.old code.now limits.now) self.old self.new s) }
+        ensures same { Stays self.old self.new }
+    {
+        if !emit(&mut self.store, 0, b"\n", limits)? {
+            return Ok(Some(Stop::Fault(Fault::F16)));
+        }
+        self.pc += 1;
+        Ok(None)
+    }
+}

@@ -1,0 +1,109 @@
+//! The stack of a process.
+
+ghost use Rattle.std.specs.Prelude.{◌≡◌, ◌∷◌, [], Some, None, OnOk, OnErr, MatchOption};
+ghost use Rattle.sp_code.specs.Machine.{outside};
+ghost use Rattle.sp_machine.specs.Entries.{entries_of, counted};
+
+use sp_base::{List, Memory};
+use sp_cell::{Address, Cell};
+use std::alloc::Global;
+use std::marker::Model;
+
+/// An entry of the stack.
+#[derive(Drop)]
+pub enum Operand {
+    /// An ordinal.
+    Number(i64),
+    /// The number of a channel.
+    Channel(u32),
+    /// The address of a variable, or of a part of one.
+    Pointer(Address),
+    /// All cells of an array or record.
+    Cells(List<Cell>),
+    /// Where the caller of a procedure goes on.
+    Link(u32),
+    /// Where the caller of a function goes on.
+    Reply(u32),
+}
+
+/// Entries, the top last in memory. Contracts see the top first.
+#[derive(Drop)]
+pub struct Stack {
+    entries: Vec<Operand>,
+    // How many entries are those of a function that is being called.
+    answering: usize,
+}
+
+impl Model for Stack {
+    ghost use Rattle.std.specs.Prelude.{◌≡◌, List, reverse};
+    ghost use Rattle.sp_machine.specs.declared.stack.Operand.{Operand};
+    ghost use Rattle.sp_machine.specs.Entries.{replies};
+
+    ghost Value = { List Operand };
+
+    ghost view = { λ it. reverse it.entries.items };
+
+    ghost invariant = { λ it. it.answering ≡ replies (reverse it.entries.items) };
+}
+
+impl Stack {
+    /// An empty stack. It takes no memory.
+    pub(crate) fn new(alloc: Global) -> Stack
+        ensures { result ≡ [] }
+    {
+        Stack {
+            entries: Vec::new(alloc),
+            answering: 0,
+        }
+    }
+
+    /// Puts an entry on top. Where memory is refused, the stack is unchanged.
+    #[tactic(auto, using(crate::proofs::Stacking::replies_few))]
+    pub(crate) fn push(&mut self, entry: Operand) -> Result<(), Memory>
+        ensures ok { OnOk result (self.new ≡ entry ∷ self.old) }
+        ensures err { OnErr result (self.new ≡ self.old) }
+    {
+        let more = counted(&entry);
+        let _few = self.entries.len();
+        match self.entries.push(entry) {
+            Ok(()) => {
+                self.answering += more;
+                Ok(())
+            }
+            Err(_) => Err(Memory),
+        }
+    }
+
+    /// Takes the top.
+    pub(crate) fn pop(&mut self) -> Option<Operand>
+        ensures { MatchOption result (self.old ≡ []) (λ o. self.old ≡ o ∷ self.new) }
+    {
+        match self.entries.pop() {
+            Some(entry) => {
+                self.answering -= counted(&entry);
+                Some(entry)
+            }
+            None => None,
+        }
+    }
+
+    /// Whether no function is being called.
+    #[tactic(auto, using(crate::proofs::Stacking::outside_yes, crate::proofs::Stacking::outside_no))]
+    pub(crate) fn is_outside(&self) -> bool
+        ensures { result ≡ outside (entries_of self.now) }
+    {
+        if self.answering == 0 {
+            return true;
+        }
+        false
+    }
+}
+
+fn counted(entry: &Operand) -> usize
+    ensures { result ≡ counted entry.now }
+{
+    match entry {
+        Operand::Reply(_) => 1,
+        _ => 0,
+    }
+}

@@ -1,0 +1,157 @@
+//! Instructions at which a turn stops: offers and forks.
+
+ghost use Rattle.std.specs.Prelude.{◌≡◌, ◌≢◌, ◌+◌, ◌<◌, ◌≤◌, IfOk, Some, int_le, true, ◌∷◌, []};
+ghost use Rattle.sp_code.specs.Machine.{Stuck, values_in};
+ghost use Rattle.sp_code.specs.declared.instr.Instr.TheVariants as instr;
+ghost use Rattle.sp_machine.specs.Procs.{does, Came, Stays};
+
+use crate::stack::Operand;
+use crate::state::{State, Stop};
+use sp_base::{Fault, Limits, List, Memory};
+use sp_cell::Cell;
+use sp_code::Code;
+
+/// How many values a range has, or `u64::MAX` where it has more.
+fn count_values(first: i64, last: i64) -> u64
+    requires { int_le first last ≡ true }
+    ensures { result ≡ values_in first last }
+{
+    last.abs_diff(first).saturating_add(1)
+}
+
+impl State {
+    // Stops to open a channel.
+    pub(crate) fn open(&mut self, code: &Code, limits: &Limits) -> Result<Option<Stop>, Memory>
+        requires next { self.old.pc + 1 < 4294967296 }
+        requires safe { does (Some instr.Open) self.old code.now limits.now ≢ Stuck }
+        ensures came { IfOk result (λ s. Came (does (Some instr.Open) self.old code.now limits.now) self.old self.new s) }
+        ensures same { Stays self.old self.new }
+    {
+        match self.stack.pop() {
+            Some(Operand::Pointer(at)) => {
+                self.store.make_own(at.spot)?;
+                self.target = at;
+                self.pc += 1;
+                Ok(Some(Stop::Open))
+            }
+            _ => unreachable!(),
+        }
+    }
+
+    // Stops to send a message.
+    pub(crate) fn send(&mut self, message: u32, code: &Code, limits: &Limits) -> Result<Option<Stop>, Memory>
+        requires next { self.old.pc + 1 < 4294967296 }
+        requires safe { does (Some (instr.Send message)) self.old code.now limits.now ≢ Stuck }
+        ensures came { IfOk result (λ s. Came (does (Some (instr.Send message)) self.old code.now limits.now) self.old self.new s) }
+        ensures same { Stays self.old self.new }
+    {
+        let cells = match self.stack.pop() {
+            Some(Operand::Number(value)) => self.one_cell(Cell::Ordinal(value))?,
+            Some(Operand::Channel(channel)) => self.one_cell(Cell::Channel(channel))?,
+            Some(Operand::Cells(cells)) => cells,
+            _ => unreachable!(),
+        };
+        match self.stack.pop() {
+            Some(Operand::Channel(channel)) => {
+                self.pc += 1;
+                Ok(Some(Stop::Send {
+                    channel,
+                    message,
+                    cells,
+                }))
+            }
+            _ => unreachable!(),
+        }
+    }
+
+    // A message of one cell.
+    fn one_cell(&self, cell: Cell) -> Result<List<Cell>, Memory>
+        ensures { IfOk result (λ cells. cells ≡ cell ∷ []) }
+    {
+        let mut cells = List::new(*self.text.allocator());
+        cells.push(cell)?;
+        Ok(cells)
+    }
+
+    // Stops to receive a message.
+    pub(crate) fn receive(&mut self, message: u32, code: &Code, limits: &Limits) -> Result<Option<Stop>, Memory>
+        requires next { self.old.pc + 1 < 4294967296 }
+        requires safe { does (Some (instr.Receive message)) self.old code.now limits.now ≢ Stuck }
+        ensures came { IfOk result (λ s. Came (does (Some (instr.Receive message)) self.old code.now limits.now) self.old self.new s) }
+        ensures same { Stays self.old self.new }
+    {
+        match self.stack.pop() {
+            Some(Operand::Pointer(at)) => match self.stack.pop() {
+                Some(Operand::Channel(channel)) => {
+                    self.store.make_own(at.spot)?;
+                    self.target = at;
+                    self.pc += 1;
+                    Ok(Some(Stop::Receive { channel, message }))
+                }
+                _ => unreachable!(),
+            },
+            _ => unreachable!(),
+        }
+    }
+
+    // Stops to start the children of a fork table.
+    pub(crate) fn fork(&mut self, table: u32, code: &Code, limits: &Limits) -> Result<Option<Stop>, Memory>
+        requires next { self.old.pc + 1 < 4294967296 }
+        requires safe { does (Some (instr.Fork table)) self.old code.now limits.now ≢ Stuck }
+        ensures came { IfOk result (λ s. Came (does (Some (instr.Fork table)) self.old code.now limits.now) self.old self.new s) }
+        ensures same { Stays self.old self.new }
+    {
+        match code.table(table) {
+            Some(forks) => {
+                if self.depth >= limits.depth {
+                    return Ok(Some(Stop::Fault(Fault::F11)));
+                }
+                let count = forks.children.len() as u64;
+                self.table = table;
+                self.first = 0;
+                self.pc += 1;
+                Ok(Some(Stop::Fork {
+                    table,
+                    first: 0,
+                    count,
+                }))
+            }
+            None => unreachable!(),
+        }
+    }
+
+    // Stops to start a child for each value of a range.
+    pub(crate) fn fork_all(&mut self, table: u32, code: &Code, limits: &Limits) -> Result<Option<Stop>, Memory>
+        requires next { self.old.pc + 1 < 4294967296 }
+        requires safe { does (Some (instr.Forall table)) self.old code.now limits.now ≢ Stuck }
+        ensures came { IfOk result (λ s. Came (does (Some (instr.Forall table)) self.old code.now limits.now) self.old self.new s) }
+        ensures same { Stays self.old self.new }
+    {
+        match self.stack.pop() {
+            Some(Operand::Number(last)) => match self.stack.pop() {
+                Some(Operand::Number(first)) => {
+                    if last < first {
+                        self.pc += 1;
+                        return Ok(None);
+                    }
+                    if self.depth >= limits.depth {
+                        self.stack.push(Operand::Number(first))?;
+                        self.stack.push(Operand::Number(last))?;
+                        return Ok(Some(Stop::Fault(Fault::F11)));
+                    }
+                    let count = count_values(first, last);
+                    self.table = table;
+                    self.first = first;
+                    self.pc += 1;
+                    Ok(Some(Stop::Fork {
+                        table,
+                        first,
+                        count,
+                    }))
+                }
+                _ => unreachable!(),
+            },
+            _ => unreachable!(),
+        }
+    }
+}
