@@ -7,10 +7,11 @@ use Rattle.sp_cell.specs.declared.cell.Cell.{Cell}
 use Rattle.sp_cell.specs.declared.cell.Cell.TheVariants as cell
 use Rattle.sp_cell.specs.declared.spot.Spot.{Spot}
 use Rattle.sp_cell.specs.declared.spot.Address.{Address}
-use Rattle.sp_cell.specs.Map.{Content, Own, Shared, Output, Away, Map, IsPiece, HasCells, cells_of, cells_at}
+use Rattle.sp_cell.specs.Map.{Content, Own, Shared, Output, Away, Map, Plain, IsPiece, HasCells, cells_of, cells_at}
 use Rattle.sp_cell.specs.Laws.{get_other, get_here, same_or}
-use Rattle.sp_code.specs.Memory.{position_in, left_after}
-use Rattle.sp_code.specs.PlainStore.{piece_of}
+use Rattle.sp_code.specs.Memory.{position_in, left_after, put_cell}
+use Rattle.sp_code.specs.PlainStore.{piece_of, plain}
+use Rattle.sp_code.proofs.StoreLaws.{cells_same}
 
 pub left_held : (input : List ℕ) (o : Option (List Cell)) → left_after input (position_in o) ≢ None → position_in o ≢ None
 left_held input o h e = h (ap (left_after input) e)
@@ -76,3 +77,7 @@ still_has m p i c a k h = go (same_or a.spot p)
     go (inr w) =
         let there : map.get n a.spot ≡ map.get m a.spot = get_other m p (Own (slice_set (cells_at m p) i c)) a.spot w in
         (subst IsPiece (sym there) h.0, rw (ap (λ (o : Option Content). length (cells_of o)) there) h.1)
+
+pub put_has : (s : Plain) (p : Address) (c : Cell) (a : Address) (k : ℕ) → HasCells s.map a k → HasCells (put_cell plain p c s).map a k
+put_has s p c a k h =
+    subst (λ (cs : List Cell). HasCells (map.insert s.map p.spot (Own (slice_set cs p.offset c))) a k) (sym (cells_same (map.get s.map p.spot))) (still_has s.map p.spot p.offset c a k h)

@@ -4,3 +4,4 @@ pub mod Procs
 pub mod Conversions
 pub mod Texts
 pub mod Arguments
+pub mod Answers

@@ -1,8 +1,7 @@
 -- A process in memory as the definitions see it, and what one instruction and one turn of it do.
-use Rattle.std.specs.Prelude.{◌≡◌, ◌≢◌, ℕ, ℤ, List, [], ◌∷◌, Option, Some, None, pos, slice_get, length, ◌≤◌}
+use Rattle.std.specs.Prelude.{◌≡◌, ℕ, ◌+◌, ◌≤◌, ℤ, pos, ◌+ℤ◌, ◌≤ℤ◌, List, Option, Some, None, slice_get}
 use Rattle.sp_base.specs.declared.fault.Fault.{Fault}
 use Rattle.sp_base.specs.declared.limits.Limits.{Limits}
-use Rattle.sp_cell.specs.declared.cell.Cell.{Cell}
 use Rattle.sp_cell.specs.declared.spot.Address.{Address}
 use Rattle.sp_cell.specs.Map.{Plain}
 use Rattle.sp_code.specs.declared.code.Formal.{Formal}
@@ -47,9 +46,14 @@ next_of p code lim = does (slice_get code.instrs p.pc) p code lim
 abbrev pub Stays : State → State → Type 0
 Stays p q = (q.number ≡ p.number) × (q.input ≡ p.input)
 
+-- a process that stopped at a fork keeps its table and its first value; its children's depth and their values are no larger than
+-- the machine's numbers
+abbrev pub IsAtFork : State → ℕ → ℤ → ℕ → Type 0
+IsAtFork q table value count = (q.table ≡ table) × ((q.first ≡ value) × ((q.depth + 1 ≤ 4294967295) × (value +ℤ pos count ≤ℤ pos 9223372036854775808)))
+
 -- a process that stopped so is at this stop of the definition
 abbrev pub StopIs : Stop → State → m.Stop → Type 0
-StopIs (stop.Fork t v n) q s = (s ≡ m.Forks t v n) × ((q.table ≡ t) × (q.first ≡ v))
+StopIs (stop.Fork t v n) q s = (s ≡ m.Forks t v n) × IsAtFork q t v n
 StopIs stop.Open q s = s ≡ m.Opens q.target
 StopIs (stop.Send c k cs) q s = s ≡ m.Sends c k cs
 StopIs (stop.Receive c k) q s = s ≡ m.Receives c k q.target
@@ -104,9 +108,9 @@ turn_by stop.Pause q = Stopped m.Pauses (config_of q)
 turn_by (stop.Fault f) q = Faulted f (config_of q)
 turn_by stop.Memory q = Stopped m.Ends (config_of q)
 
--- a process that stopped at a fork keeps its table and its first value
+-- what a process keeps for the children of a fork at which it stopped
 abbrev pub KeepsFork : Stop → State → Type 0
-KeepsFork (stop.Fork t v n) q = (q.table ≡ t) × (q.first ≡ v)
+KeepsFork (stop.Fork t v n) q = IsAtFork q t v n
 KeepsFork stop.Open q = Unit {0}
 KeepsFork (stop.Send c k cs) q = Unit {0}
 KeepsFork (stop.Receive c k) q = Unit {0}

@@ -81,6 +81,36 @@ impl State {
         }
     }
 
+    // The same number, where it is in the range.
+    pub(crate) fn range(&mut self, low: i64, high: i64, code: &Code, limits: &Limits) -> Result<Option<Stop>, Memory>
+        requires next { self.old.pc + 1 < 4294967296 }
+        requires safe { does (Some (instr.Range low high)) self.old code.now limits.now ≢ Stuck }
+        ensures came { IfOk result (λ s. Came (does (Some (instr.Range low high)) self.old code.now limits.now) self.old self.new s) }
+        ensures same { Stays self.old self.new }
+    {
+        self.convert(Conversion::Range(low, high), code, limits)
+    }
+
+    // The next number.
+    pub(crate) fn successor(&mut self, high: i64, code: &Code, limits: &Limits) -> Result<Option<Stop>, Memory>
+        requires next { self.old.pc + 1 < 4294967296 }
+        requires safe { does (Some (instr.Succ high)) self.old code.now limits.now ≢ Stuck }
+        ensures came { IfOk result (λ s. Came (does (Some (instr.Succ high)) self.old code.now limits.now) self.old self.new s) }
+        ensures same { Stays self.old self.new }
+    {
+        self.convert(Conversion::Successor(high), code, limits)
+    }
+
+    // The number before.
+    pub(crate) fn predecessor(&mut self, low: i64, code: &Code, limits: &Limits) -> Result<Option<Stop>, Memory>
+        requires next { self.old.pc + 1 < 4294967296 }
+        requires safe { does (Some (instr.Pred low)) self.old code.now limits.now ≢ Stuck }
+        ensures came { IfOk result (λ s. Came (does (Some (instr.Pred low)) self.old code.now limits.now) self.old self.new s) }
+        ensures same { Stays self.old self.new }
+    {
+        self.convert(Conversion::Predecessor(low), code, limits)
+    }
+
     // What an operator makes of two ordinals.
     pub(crate) fn operate(&mut self, op: BinaryOp, code: &Code, limits: &Limits) -> Result<Option<Stop>, Memory>
         requires next { self.old.pc + 1 < 4294967296 }

@@ -1,7 +1,8 @@
 //! Input and output.
 
-ghost use Rattle.std.specs.Prelude.{◌≡◌, ◌≢◌, ◌+◌, ◌<◌, ◌++◌, IfOk, OnOk, OnErr, Some, None, true, pos, drop, replicate};
+ghost use Rattle.std.specs.Prelude.{◌≡◌, ◌≢◌, ◌+◌, ◌<◌, ◌++◌, IfOk, OnOk, Some, None, true, pos, drop, replicate};
 ghost use Rattle.sp_cell.specs.declared.cell.Cell.TheVariants.{Ordinal};
+ghost use Rattle.sp_cell.specs.Map.{HasCells};
 ghost use Rattle.sp_code.specs.Machine.{Stuck, reads, writes, writes_wide};
 ghost use Rattle.sp_code.specs.Memory.{memory, is_held, left_after, position_in, position_at, or_zero, put_cell};
 ghost use Rattle.sp_code.specs.PlainStore.{plain};
@@ -151,8 +152,19 @@ impl State {
         }
     }
 
+    /// A value of so many bytes of the input goes to an address.
+    fn take(&mut self, at: Address, value: i64, bytes: usize) -> Result<(), Memory>
+        requires input { left_after self.old.input.value (position_in (plain.piece self.old.store position_at.spot)) ≢ None }
+        requires has { HasCells self.old.store.map at 1 }
+        ensures taken { OnOk result (self.new ≡ record self.old { store = put_cell plain at (Ordinal value) (put_cell plain position_at (Ordinal (pos (or_zero (position_in (plain.piece self.old.store position_at.spot)) + bytes))) self.old.store) }) }
+        ensures same { Stays self.old self.new }
+    {
+        self.advance(bytes)?;
+        self.store.store(at, Cell::Ordinal(value))
+    }
+
     // Reads an item into an address.
-    #[tactic(auto, using(crate::proofs::Positions::still_has, sp_code::proofs::StoreLaws::has_held, sp_code::proofs::StoreLaws::cells_same))]
+    #[tactic(auto, using(sp_code::proofs::StoreLaws::has_held))]
     pub(crate) fn read(&mut self, item: Item, code: &Code, limits: &Limits) -> Result<Option<Stop>, Memory>
         requires next { self.old.pc + 1 < 4294967296 }
         requires safe { reads (memory plain (setting_of self.old code.now limits.now)) code.now (item_in item) (self.old.pc + 1) (entries_of self.old.stack) (memory_of self.old) ≢ Stuck }
@@ -162,8 +174,7 @@ impl State {
         match self.stack.pop() {
             Some(Operand::Pointer(at)) => match taken(item, self.left()) {
                 Taken::Takes(value, bytes) => {
-                    self.advance(bytes)?;
-                    self.store.store(at, Cell::Ordinal(value))?;
+                    self.take(at, value, bytes)?;
                     self.pc += 1;
                     Ok(None)
                 }

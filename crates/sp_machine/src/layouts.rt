@@ -1,10 +1,9 @@
 //! The layouts of blocks.
 
-ghost use Rattle.std.specs.Prelude.{◌≡◌, ◌≤◌, All, IfSome, length, sum};
+ghost use Rattle.std.specs.Prelude.{◌≡◌, ◌≤◌, length, sum};
 ghost use Rattle.std.specs.Option.{option_copied};
 ghost use Rattle.sp_code.specs.Machine.{layout_of};
-ghost use Rattle.sp_code.specs.Memory.{sizes_of, cells_of_home, answer_of};
-ghost use Rattle.sp_code.specs.Sizes.{HasNumbers};
+ghost use Rattle.sp_code.specs.Memory.{cells_of_home, answer_of};
 ghost use Rattle.sp_code.specs.Sound.{HasDistinctBlocks};
 ghost use Rattle.sp_machine.specs.Frames.{home_of};
 ghost use Rattle.sp_machine.specs.Procs.{HaveFormals};
@@ -15,7 +14,7 @@ use sp_cell::{Address, Spot};
 use sp_code::{Code, Layout};
 
 /// The first layout of a block.
-#[tactic(auto, using(crate::proofs::Layouts::layout_on, crate::proofs::Layouts::layout_here, crate::proofs::Layouts::layout_end))]
+#[tactic(auto, using(crate::proofs::Finding::layout_on, crate::proofs::Finding::layout_here, crate::proofs::Finding::layout_end))]
 fn search(layouts: &[Layout], block: u32) -> Option<&Layout>
     ensures { option_copied result ≡ layout_of layouts.now block }
 {
@@ -28,7 +27,7 @@ fn search(layouts: &[Layout], block: u32) -> Option<&Layout>
 }
 
 /// The layout of a block. In most code it stands at the block's number.
-#[tactic(auto, using(crate::proofs::Layouts::layout_found))]
+#[tactic(auto, using(crate::proofs::Finding::layout_found))]
 pub(crate) fn layout_of(code: &Code, block: u32) -> Option<&Layout>
     requires { HasDistinctBlocks code.now.layouts }
     ensures { option_copied result ≡ layout_of code.now.layouts block }
@@ -45,7 +44,7 @@ pub(crate) fn layout_of(code: &Code, block: u32) -> Option<&Layout>
 }
 
 /// The cells of a frame.
-#[tactic(auto, using(crate::proofs::Layouts::sum_more, crate::proofs::Layouts::sum_all))]
+#[tactic(auto, using(crate::proofs::Finding::sum_more, crate::proofs::Finding::sum_all))]
 pub(crate) fn cells_of(sizes: &[u32]) -> u64
     requires { length sizes.now ≤ 4294967294 }
     ensures { result ≡ sum sizes.now }
@@ -58,7 +57,7 @@ pub(crate) fn cells_of(sizes: &[u32]) -> u64
 }
 
 /// The cells of the frame of a home.
-#[tactic(auto, using(crate::proofs::Layouts::few_sizes))]
+#[tactic(auto, using(crate::proofs::Finding::few_sizes))]
 pub(crate) fn cells_of_home(code: &Code, home: Home) -> u64
     requires { HasDistinctBlocks code.now.layouts }
     ensures { result ≡ cells_of_home code.now.layouts (home_of home) }
@@ -76,7 +75,7 @@ pub(crate) fn cells_of_home(code: &Code, home: Home) -> u64
 }
 
 /// The result of the block of a frame.
-#[tactic(auto, using(crate::proofs::Layouts::few_sizes, crate::proofs::Layouts::few_formals))]
+#[tactic(auto, using(crate::proofs::Finding::few_sizes, crate::proofs::Finding::few_formals))]
 pub(crate) fn answer_of(code: &Code, frame: u64, home: Home) -> Option<Address>
     requires blocks { HasDistinctBlocks code.now.layouts }
     requires formals { HaveFormals code.now.layouts }

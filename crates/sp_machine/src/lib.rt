@@ -3,14 +3,19 @@
 #![tactic(auto)]
 
 mod arithmetic;
+mod calls;
 mod control;
 mod frames;
 mod io;
+mod layouts;
+mod proc;
 mod stack;
 mod state;
 mod stops;
+mod turn;
 mod variables;
 
-pub use frames::{Frame, Home};
-pub use stack::Operand;
+pub use frames::{Frame, Frames, Home};
+pub use proc::{Answer, Proc};
+pub use stack::{Operand, Stack};
 pub use state::{State, Stop};

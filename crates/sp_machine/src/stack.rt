@@ -1,6 +1,6 @@
 //! The stack of a process.
 
-ghost use Rattle.std.specs.Prelude.{◌≡◌, ◌∷◌, [], Some, None, OnOk, OnErr, MatchOption};
+ghost use Rattle.std.specs.Prelude.{◌≡◌, ◌≤◌, ◌∷◌, [], Some, None, OnOk, OnErr, MatchOption, length, reverse, take, drop};
 ghost use Rattle.sp_code.specs.Machine.{outside};
 ghost use Rattle.sp_machine.specs.Entries.{entries_of, counted};
 
@@ -84,6 +84,30 @@ impl Stack {
                 Some(entry)
             }
             None => None,
+        }
+    }
+
+    /// So many entries from the top, the lowest first.
+    #[tactic(auto, using(crate::proofs::Stacking::top_part))]
+    pub(crate) fn top(&self, count: usize) -> &[Operand]
+        requires { count ≤ length self.now }
+        ensures { result.now ≡ reverse (take count self.now) }
+    {
+        let entries = self.entries.as_slice();
+        &entries[entries.len() - count..]
+    }
+
+    /// So many entries from the top go.
+    #[tactic(auto, using(crate::proofs::Stacking::drop_more, crate::proofs::Stacking::some_left))]
+    pub(crate) fn drop_top(&mut self, count: usize)
+        requires { count ≤ length self.old }
+        ensures { self.new ≡ drop count self.old }
+    {
+        for _ in 0..count {
+            match self.pop() {
+                Some(_) => {}
+                None => unreachable!(),
+            }
         }
     }
 

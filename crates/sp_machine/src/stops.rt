@@ -1,6 +1,6 @@
 //! Instructions at which a turn stops: offers and forks.
 
-ghost use Rattle.std.specs.Prelude.{◌≡◌, ◌≢◌, ◌+◌, ◌<◌, ◌≤◌, IfOk, Some, int_le, true, ◌∷◌, []};
+ghost use Rattle.std.specs.Prelude.{◌≡◌, ◌≢◌, ◌+◌, ◌<◌, ◌∷◌, [], IfOk, Some, true, int_le, pos, ◌+ℤ◌, ◌≤ℤ◌};
 ghost use Rattle.sp_code.specs.Machine.{Stuck, values_in};
 ghost use Rattle.sp_code.specs.declared.instr.Instr.TheVariants as instr;
 ghost use Rattle.sp_machine.specs.Procs.{does, Came, Stays};
@@ -14,7 +14,8 @@ use sp_code::Code;
 /// How many values a range has, or `u64::MAX` where it has more.
 fn count_values(first: i64, last: i64) -> u64
     requires { int_le first last ≡ true }
-    ensures { result ≡ values_in first last }
+    ensures count { result ≡ values_in first last }
+    ensures last { first +ℤ pos result ≤ℤ pos 9223372036854775808 }
 {
     last.abs_diff(first).saturating_add(1)
 }
@@ -106,7 +107,8 @@ impl State {
                 if self.depth >= limits.depth {
                     return Ok(Some(Stop::Fault(Fault::F11)));
                 }
-                let count = forks.children.len() as u64;
+                let children = forks.children.items();
+                let count = children.len() as u64;
                 self.table = table;
                 self.first = 0;
                 self.pc += 1;

@@ -1,8 +1,10 @@
 -- The layout of a block, and the cells of a frame.
 use Rattle.std.proofs.Common.{◌≡◌, ◌≢◌, ℕ, zero, suc, ◌+◌, ◌*◌, ◌≤◌, ◌<◌, List, [], ◌∷◌, ◌++◌, length, take, drop, get_or, Option, Some, None, Bool, true, false, refl, sym, ap, ◌∙◌, subst, arith}
-use Rattle.std.specs.Prelude.{All, sum, slice_get, ◌==◌, if◌then◌else◌}
-use Rattle.std.proofs.lemmas.Bool.{eq-eqb, ne_eqb, eqb-true, eqb_tells}
-use Rattle.std.proofs.lemmas.List.{drop_all, take_more}
+use Rattle.std.specs.List.{All}
+use Rattle.std.proofs.lemmas.List.Elements.{All-get_or}
+use Rattle.std.specs.Prelude.{sum, slice_get, ◌==◌, if◌then◌else◌}
+use Rattle.std.proofs.lemmas.Bool.{eq-eqb, ne_eqb}
+use Rattle.std.proofs.lemmas.List.{drop_all, take_all}
 use Rattle.sp_code.specs.declared.code.Formal.{Formal}
 use Rattle.sp_code.specs.declared.code.Layout.{Layout}
 use Rattle.sp_code.specs.declared.code.Parts.{Parts}
@@ -47,16 +49,35 @@ layout_found ls b i l d h e k = ap (layout_of ls) (sym k) ∙ found ls i l d (go
 pub sum_more : (xs : List ℕ) (i x : ℕ) → i < length xs → x ≡ get_or xs i x → sum (take (i + 1) xs) ≡ sum (take i xs) + x
 sum_more [] i x h e = absurd (omega (arith, h))
 sum_more (y ∷ xs) zero x h e = omega (arith, e)
-sum_more (y ∷ xs) (suc i) x h e = let one : suc i + 1 ≡ suc (i + 1) = omega arith in ap (λ n. sum (take n (y ∷ xs))) one ∙ omega (arith, sum_more xs i x (omega (arith, h)) e)
+sum_more (y ∷ xs) (suc i) x h e =
+    let one : suc i + 1 ≡ suc (i + 1) = omega arith in
+    let rest : sum (take (i + 1) xs) ≡ sum (take i xs) + x = sum_more xs i x (omega (arith, h)) e in
+    let all : y + sum (take (i + 1) xs) ≡ y + sum (take i xs) + x = omega (arith, rest) in
+    ap (λ n. sum (take n (y ∷ xs))) one ∙ all
 
 pub sum_all : (xs : List ℕ) (i : ℕ) → length xs ≤ i → sum (take i xs) ≡ sum xs
-sum_all xs i h = ?
+sum_all xs i h = ap sum (take_all i xs h)
 
 place_of : (ls : List Layout) (b : ℕ) (l : Layout) → layout_of ls b ≡ Some l → (i : ℕ) × (i < length ls) × (l ≡ get_or ls i l)
-place_of ls b l e = ?
+place_of [] b l e = absurd cc
+place_of (k ∷ ls) b l e = go (k.block == b) (place_of ls b l) e
+  where
+    go : (t : Bool) → (layout_of ls b ≡ Some l → (i : ℕ) × (i < length ls) × (l ≡ get_or ls i l)) → (if t then Some k else layout_of ls b) ≡ Some l → (i : ℕ) × (i < length (k ∷ ls)) × (l ≡ get_or (k ∷ ls) i l)
+    go true rest w = (0, omega arith, sym (some_same k l w))
+    go false rest w = let r = rest w in (suc r.0, omega (arith, r.1), r.2)
 
 pub few_sizes : (p : Parts) (b : ℕ) (l : Layout) → KeepsSizes p → layout_of p.layouts b ≡ Some l → length l.sizes ≤ 4294967294
-few_sizes p b l h e = ?
+few_sizes p b l h e =
+    let r = place_of p.layouts b l e in
+    subst (λ (x : Layout). length x.sizes ≤ 4294967294) (sym r.2) (All-get_or HasNumbers p.layouts r.0 l r.1 h.frames)
+
+room_each : (fs : List Formal) (ss : List ℕ) → ((k : ℕ) (f : Formal) → slice_get fs k ≡ Some f → HasRoom f (slice_get ss k)) → length fs ≤ length ss
+room_each [] ss h = omega arith
+room_each (f ∷ fs) [] h = absurd (no_room f (h 0 f refl))
+  where
+    no_room : (f : Formal) → HasRoom f None → ⊥
+    no_room f w = w
+room_each (f ∷ fs) (s ∷ ss) h = let w = room_each fs ss (λ k g e. h (suc k) g e) in omega (arith, w)
 
 pub few_formals : (ls : List Layout) (b : ℕ) (l : Layout) → HaveFormals ls → layout_of ls b ≡ Some l → length l.formals ≤ length l.sizes
-few_formals ls b l h e = ?
+few_formals ls b l h e = room_each l.formals l.sizes (h b l e)

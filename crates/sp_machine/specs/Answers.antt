@@ -1,0 +1,24 @@
+-- What a process gets that waits at its stop.
+use Rattle.std.specs.Prelude.{ℕ, List, [], ◌∷◌}
+use Rattle.sp_cell.specs.declared.cell.Cell.{Cell}
+use Rattle.sp_cell.specs.declared.cell.Cell.TheVariants as cell
+use Rattle.sp_code.specs.Memory.{put_cell, put_cells}
+use Rattle.sp_code.specs.PlainStore.{plain}
+use Rattle.sp_code.specs.Sound.{CanPut}
+use Rattle.sp_machine.specs.declared.state.State.{State}
+use Rattle.sp_machine.specs.declared.proc.Answer.{Answer}
+use Rattle.sp_machine.specs.declared.proc.Answer.TheVariants as answer
+
+-- what goes to a process fits at its target, in a piece of its own
+abbrev pub CanResume : Answer → State → Type 0
+CanResume (answer.Opened c) p = CanPut p.store p.target (cell.Channel c ∷ [])
+CanResume answer.Sent p = Unit {0}
+CanResume (answer.Received cs) p = CanPut p.store p.target cs
+CanResume answer.Joined p = Unit {0}
+
+-- the process that got it
+abbrev pub resumed : Answer → State → State
+resumed (answer.Opened c) p = record p { store = put_cell plain p.target (cell.Channel c) p.store }
+resumed answer.Sent p = p
+resumed (answer.Received cs) p = record p { store = put_cells plain p.target cs p.store }
+resumed answer.Joined p = p

@@ -1,0 +1,199 @@
+//! A process.
+
+ghost use Rattle.std.specs.Prelude.{◌≡◌, ◌≤◌, ◌∷◌, [], IfOk, length, sum};
+ghost use Rattle.sp_base.specs.declared.limits.Limits.{Limits};
+ghost use Rattle.sp_code.specs.Memory.{first, OfBlock};
+ghost use Rattle.sp_code.specs.Machine.{At};
+ghost use Rattle.sp_code.specs.PlainStore.{plain};
+ghost use Rattle.sp_code.specs.Ranks.{IsRanked};
+ghost use Rattle.sp_code.specs.Sound.{HasDistinctBlocks, CanJoin, run_of};
+ghost use Rattle.sp_code.specs.System.{entered_now};
+ghost use Rattle.sp_machine.specs.Procs.{config_of, Stays, HaveFormals, CanTurn, IsTurnOf};
+ghost use Rattle.sp_machine.specs.Answers.{CanResume, resumed};
+
+use crate::frames::{Frame, Frames, Home};
+use crate::layouts::{cells_of, layout_of};
+use crate::stack::Stack;
+use crate::state::{State, Stop};
+use sp_base::{Limits, List, Memory, Text};
+use sp_cell::{Address, Cell, Spot};
+use sp_code::Code;
+use sp_store::Store;
+use std::alloc::Global;
+use std::marker::Model;
+use std::sync::Arc;
+
+/// A process: its state behind one box, so that it is handed on as one word. Contracts see the state.
+#[derive(Drop)]
+pub struct Proc {
+    state: Box<State>,
+}
+
+impl Model for Proc {
+    ghost use Rattle.sp_machine.specs.declared.state.State.{State};
+
+    ghost Value = { State };
+
+    ghost view = { λ p. p.state.value };
+}
+
+/// What a process gets that waits at its stop.
+#[derive(Drop)]
+pub enum Answer {
+    /// The number of the channel that it opened.
+    Opened(u32),
+    /// Its message was taken.
+    Sent,
+    /// The message that it waited for.
+    Received(List<Cell>),
+    /// All its children were joined.
+    Joined,
+}
+
+impl Proc {
+    /// Process 0 of a run of the code on an input. It has the frame of the program, and is at its first instruction.
+    pub fn root(alloc: Global, code: &Code, input: Arc<Text>) -> Result<Proc, Memory>
+        requires { HasDistinctBlocks code.now.layouts }
+        ensures config { IfOk result (λ p. (lim : Limits) → config_of p ≡ first plain (run_of code.now input.value lim)) }
+        ensures same { IfOk result (λ p. (p.number ≡ 0) × (p.input ≡ input)) }
+    {
+        let state = State::root(alloc, code, input)?;
+        Ok(Proc {
+            state: Box::new(alloc, state)?,
+        })
+    }
+
+    /// Its number in the run.
+    pub fn number(&self) -> u32
+        ensures { result ≡ self.now.number }
+    {
+        self.state.number
+    }
+
+    /// Its variables.
+    pub fn store(&self) -> &Store
+        ensures { result.now ≡ self.now.store }
+    {
+        &self.state.store
+    }
+
+    /// Runs the process to its next stop, or until it is due. `Stop::Fault` comes exactly where an instruction has the fault.
+    /// Before it stops with `Open` or `Receive`, the piece to which the answer goes is own. `Stop::Memory` is want of memory:
+    /// the process can't go on then. It also comes where the place in the input would be more than a cell can hold, which only
+    /// code that writes over the input's place brings about.
+    pub fn turn(&mut self, code: &Code, limits: &Limits) -> Stop
+        requires ranked { IsRanked code.now.instrs }
+        requires blocks { HasDistinctBlocks code.now.layouts }
+        requires formals { HaveFormals code.now.layouts }
+        requires safe { CanTurn self.old code.now limits.now }
+        ensures turn { IsTurnOf self.old code.now limits.now self.new result }
+        ensures same { Stays self.old self.new }
+    {
+        self.state.turn(code, limits)
+    }
+
+    /// At its entry in the journal: from here on its ticks count for the next pause.
+    pub fn enter(&mut self)
+        ensures config { config_of self.new ≡ entered_now (config_of self.old) }
+        ensures state { self.new ≡ record self.old { since = self.old.ticks } }
+    {
+        self.state.since = self.state.ticks;
+    }
+
+    /// The process gets what it waits for: a channel or a message goes to its target.
+    pub fn resume(&mut self, answer: Answer)
+        requires { CanResume answer self.old }
+        ensures { self.new ≡ resumed answer self.old }
+    {
+        self.state.resume(answer);
+    }
+
+    /// Takes back from a child that has ended what moved to it.
+    pub fn join(&mut self, child: Proc)
+        requires { CanJoin self.old.store child.store }
+        ensures { self.new ≡ record self.old { store = plain.joined self.old.store child.store } }
+    {
+        let Proc { state } = child;
+        self.state.join(Box::into_inner(state));
+    }
+}
+
+impl State {
+    /// The state of process 0.
+    #[tactic(auto, using(crate::proofs::Finding::few_sizes))]
+    fn root(alloc: Global, code: &Code, input: Arc<Text>) -> Result<State, Memory>
+        requires { HasDistinctBlocks code.now.layouts }
+        ensures config { IfOk result (λ p. (lim : Limits) → config_of p ≡ first plain (run_of code.now input.value lim)) }
+        ensures same { IfOk result (λ p. (p.number ≡ 0) × (p.input ≡ input)) }
+    {
+        let _parts = code.parts();
+        match layout_of(code, 0) {
+            Some(layout) => State::begin(alloc, layout.entry, layout.sizes.items(), input),
+            None => State::begin(alloc, 0, &[], input),
+        }
+    }
+
+    /// Process 0 at an instruction, with the program's frame.
+    fn begin(alloc: Global, entry: u32, sizes: &[u32], input: Arc<Text>) -> Result<State, Memory>
+        requires { length sizes.now ≤ 4294967294 }
+        ensures config { IfOk result (λ p. config_of p ≡ At entry [] (record { process = 0; frames = record { owner = 0; number = 0; home = OfBlock 0; link = 0; references = [] } ∷ []; depth = 0; ticks = 0; since = 0; cells = sum sizes.now; store = plain.root sizes.now })) }
+        ensures same { IfOk result (λ p. (p.number ≡ 0) × (p.input ≡ input)) }
+    {
+        let frames = Frames::first(
+            alloc,
+            Frame {
+                owner: 0,
+                number: 0,
+                home: Home::Block(0),
+                link: 0,
+                references: List::new(alloc),
+            },
+        )?;
+        let store = Store::root(alloc, sizes)?;
+        Ok(State {
+            number: 0,
+            pc: entry,
+            stack: Stack::new(alloc),
+            frames,
+            depth: 0,
+            ticks: 0,
+            since: 0,
+            cells: cells_of(sizes),
+            store,
+            input,
+            target: Address {
+                spot: Spot {
+                    frame: 0,
+                    variable: 0,
+                },
+                offset: 0,
+            },
+            table: 0,
+            first: 0,
+            text: Vec::new(alloc),
+        })
+    }
+
+    #[tactic(auto, using(sp_code::proofs::StoreLaws::cells_same, crate::proofs::Resuming::own_held))]
+    fn resume(&mut self, answer: Answer)
+        requires { CanResume answer self.old }
+        ensures { self.new ≡ resumed answer self.old }
+    {
+        match answer {
+            Answer::Opened(channel) => match self.store.store(self.target, Cell::Channel(channel)) {
+                Ok(()) => {}
+                Err(_) => unreachable!(),
+            },
+            Answer::Received(cells) => self.store.put(self.target, &cells),
+            Answer::Sent | Answer::Joined => {}
+        }
+    }
+
+    fn join(&mut self, child: State)
+        requires { CanJoin self.old.store child.store }
+        ensures { self.new ≡ record self.old { store = plain.joined self.old.store child.store } }
+    {
+        let State { store, .. } = child;
+        self.store.join(store);
+    }
+}
