@@ -1,6 +1,6 @@
 -- A call: its arguments, the new frame, and what the definition makes of it.
 use Rattle.std.proofs.Common.{◌≡◌, ◌≢◌, ℕ, zero, suc, ◌+◌, ◌-◌, ◌≤◌, ◌<◌, List, [], ◌∷◌, ◌++◌, length, take, drop, get_or, replicate, Option, Some, None, Bool, true, false, refl, sym, ap, ◌∙◌, subst, arith, inl, inr, append_assoc, rules}
-use Rattle.std.specs.Prelude.{Result, Ok, Err, IfOk, if◌then◌else◌, reverse, ◌⊎◌, slice_get, slice_set, nat_lt, ◌&&◌, sum, ℤ}
+use Rattle.std.specs.Prelude.{Result, Ok, Err, IfOk, if◌then◌else◌, reverse, ◌⊎◌, slice_get, nat_lt, nat_le, ◌&&◌, sum, ℤ}
 use Rattle.std.proofs.lemmas.List.{append-nil, reverse-append, drop_all, length-replicate, length-append, length-take-le}
 use Rattle.std.proofs.Math.Seq.{drop-cons}
 use Rattle.std.proofs.lemmas.Bool.{lt-ltb, le-ltb, eqb-true, leb-true}
@@ -20,7 +20,7 @@ use Rattle.sp_code.specs.declared.code.Formal.TheVariants as formal
 use Rattle.sp_code.specs.declared.code.Layout.{Layout}
 use Rattle.sp_code.specs.declared.code.Parts.{Parts}
 use Rattle.sp_code.specs.Machine as m
-use Rattle.sp_code.specs.Memory.{Memory, Setting, memory, references, filled, opened, pushes}
+use Rattle.sp_code.specs.Memory.{Memory, Setting, memory, references, filled, opened, pushes, is_there, frames_up}
 use Rattle.sp_code.specs.PlainStore.{plain}
 use Rattle.sp_machine.specs.declared.stack.Operand.{Operand}
 use Rattle.sp_machine.specs.declared.stack.Operand.TheVariants as operand
@@ -239,8 +239,24 @@ module _ (g : Setting) (code : Parts) (l : Layout) (up r : ℕ) (os : List Opera
   abbrev call : m.One (Memory Plain)
   call = m.called (memory plain g) code l up r (entries_of os) n
 
+  abbrev go_on : List m.Entry → Memory Plain → m.One (Memory Plain)
+  go_on st x = m.entered (memory plain g) code l r st x
+
+  abbrev third : List m.Entry → List m.Entry → m.One (Memory Plain)
+  third es st = m.then_go (pushes plain g l up es n) (go_on st)
+
+  abbrev second : List m.Entry → List m.Entry → m.One (Memory Plain)
+  second es st = m.when ((memory plain g).may_open up n) (third es st)
+
   abbrev begun : List m.Entry → List m.Entry → m.One (Memory Plain)
-  begun es st = m.when (m.fit_formals l.formals es) (m.when ((memory plain g).may_open up n) (m.then_go (pushes plain g l up es n) (λ x. m.entered (memory plain g) code l r st x)))
+  begun es st = m.when (m.fit_formals l.formals es) (second es st)
+
+  -- the tests of a call, from the last one on
+  abbrev cells_test : m.Did (Memory Plain)
+  cells_test = if nat_lt g.limits.cells (n.cells + sum l.sizes) then m.Failed fault.F12 else m.Done (opened plain g l up arguments n)
+
+  abbrev depth_test : m.Did (Memory Plain)
+  depth_test = if nat_lt n.depth g.limits.depth then cells_test else m.Failed fault.F11
 
   module _ (safe : call ≢ m.Stuck) where
     pub call_enough : length l.formals ≤ length os
@@ -250,28 +266,34 @@ module _ (g : Setting) (code : Parts) (l : Layout) (up r : ℕ) (os : List Opera
     begun_safe e = safe (pops begun (length l.formals) os call_enough ∙ e)
 
     pub call_fits : m.fit_formals l.formals arguments ≡ true
-    call_fits = when_true (m.fit_formals l.formals arguments) _ begun_safe
+    call_fits = when_true (m.fit_formals l.formals arguments) (second arguments rest) begun_safe
 
     pub call_may : (memory plain g).may_open up n ≡ true
-    call_may = when_true ((memory plain g).may_open up n) _ (λ e. begun_safe (when_is (m.fit_formals l.formals arguments) _ call_fits ∙ e))
+    call_may = when_true ((memory plain g).may_open up n) (third arguments rest) (λ e. begun_safe (when_is (m.fit_formals l.formals arguments) (second arguments rest) call_fits ∙ e))
 
     pub call_numbered : next_frame n.store ≤ 18446744073709551615
-    call_numbered = leb-true (next_frame n.store) 18446744073709551615 (both_true _ _ call_may).1
+    call_numbered = leb-true (next_frame n.store) 18446744073709551615 (both_true (is_there (frames_up up n.frames)) (nat_le (next_frame n.store) 18446744073709551615) call_may).1
 
-    call_is : call ≡ m.then_go (pushes plain g l up arguments n) (λ x. m.entered (memory plain g) code l r rest x)
-    call_is = pops begun (length l.formals) os call_enough ∙ when_is (m.fit_formals l.formals arguments) _ call_fits ∙ when_is ((memory plain g).may_open up n) _ call_may
+    call_is : call ≡ third arguments rest
+    call_is = pops begun (length l.formals) os call_enough ∙ when_is (m.fit_formals l.formals arguments) (second arguments rest) call_fits ∙ when_is ((memory plain g).may_open up n) (third arguments rest) call_may
 
     pub call_f10 : g.limits.ticks ≤ n.ticks → call ≡ m.Fails fault.F10
-    call_f10 h = call_is ∙ rw (le-ltb n.ticks g.limits.ticks h) refl
+    call_f10 h = call_is ∙ ap (λ (b : Bool). m.then_go (if b then depth_test else m.Failed fault.F10) (go_on rest)) (le-ltb n.ticks g.limits.ticks h)
+
+    in_time : n.ticks < g.limits.ticks → call ≡ m.then_go depth_test (go_on rest)
+    in_time h = call_is ∙ ap (λ (b : Bool). m.then_go (if b then depth_test else m.Failed fault.F10) (go_on rest)) (lt-ltb n.ticks g.limits.ticks h)
 
     pub call_f11 : n.ticks < g.limits.ticks → g.limits.depth ≤ n.depth → call ≡ m.Fails fault.F11
-    call_f11 h k = call_is ∙ rw (lt-ltb n.ticks g.limits.ticks h) (rw (le-ltb n.depth g.limits.depth k) refl)
+    call_f11 h k = in_time h ∙ ap (λ (b : Bool). m.then_go (if b then cells_test else m.Failed fault.F11) (go_on rest)) (le-ltb n.depth g.limits.depth k)
+
+    not_deep : n.ticks < g.limits.ticks → n.depth < g.limits.depth → call ≡ m.then_go cells_test (go_on rest)
+    not_deep h k = in_time h ∙ ap (λ (b : Bool). m.then_go (if b then cells_test else m.Failed fault.F11) (go_on rest)) (lt-ltb n.depth g.limits.depth k)
 
     pub call_f12 : n.ticks < g.limits.ticks → n.depth < g.limits.depth → g.limits.cells < n.cells + sum l.sizes → call ≡ m.Fails fault.F12
-    call_f12 h k q = call_is ∙ rw (lt-ltb n.ticks g.limits.ticks h) (rw (lt-ltb n.depth g.limits.depth k) (rw (lt-ltb g.limits.cells (n.cells + sum l.sizes) q) refl))
+    call_f12 h k q = not_deep h k ∙ ap (λ (b : Bool). m.then_go (if b then m.Failed fault.F12 else m.Done (opened plain g l up arguments n)) (go_on rest)) (lt-ltb g.limits.cells (n.cells + sum l.sizes) q)
 
     pub call_done : n.ticks < g.limits.ticks → n.depth < g.limits.depth → n.cells + sum l.sizes ≤ g.limits.cells → call ≡ m.entered (memory plain g) code l r rest (opened plain g l up arguments n)
-    call_done h k q = call_is ∙ rw (lt-ltb n.ticks g.limits.ticks h) (rw (lt-ltb n.depth g.limits.depth k) (rw (le-ltb g.limits.cells (n.cells + sum l.sizes) q) refl))
+    call_done h k q = not_deep h k ∙ ap (λ (b : Bool). m.then_go (if b then m.Failed fault.F12 else m.Done (opened plain g l up arguments n)) (go_on rest)) (le-ltb g.limits.cells (n.cells + sum l.sizes) q)
 
 -- ---- the end of a call
 

@@ -49,7 +49,7 @@ Stays p q = (q.number ≡ p.number) × (q.input ≡ p.input)
 -- a process that stopped at a fork keeps its table and its first value; its children's depth and their values are no larger than
 -- the machine's numbers
 abbrev pub IsAtFork : State → ℕ → ℤ → ℕ → Type 0
-IsAtFork q table value count = (q.table ≡ table) × ((q.first ≡ value) × ((q.depth + 1 ≤ 4294967295) × (value +ℤ pos count ≤ℤ pos 9223372036854775808)))
+IsAtFork q table value count = (q.table ≡ table) × ((q.first ≡ value) × ((q.depth + 1 ≤ 4294967295) × ((value +ℤ pos count) ≤ℤ pos 9223372036854775808)))
 
 -- a process that stopped so is at this stop of the definition
 abbrev pub StopIs : Stop → State → m.Stop → Type 0

@@ -9,6 +9,7 @@ mod frames;
 mod io;
 mod layouts;
 mod proc;
+mod send;
 mod stack;
 mod state;
 mod stops;

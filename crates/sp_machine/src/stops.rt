@@ -1,6 +1,6 @@
 //! Instructions at which a turn stops: offers and forks.
 
-ghost use Rattle.std.specs.Prelude.{◌≡◌, ◌≢◌, ◌+◌, ◌<◌, ◌∷◌, [], IfOk, Some, true, int_le, pos, ◌+ℤ◌, ◌≤ℤ◌};
+ghost use Rattle.std.specs.Prelude.{◌≡◌, ◌≢◌, ◌+◌, ◌<◌, ◌∷◌, [], IfOk, Some, true, length, int_le, pos, ◌+ℤ◌, ◌≤ℤ◌};
 ghost use Rattle.sp_code.specs.Machine.{Stuck, values_in};
 ghost use Rattle.sp_code.specs.declared.instr.Instr.TheVariants as instr;
 ghost use Rattle.sp_machine.specs.Procs.{does, Came, Stays};
@@ -9,15 +9,23 @@ use crate::stack::Operand;
 use crate::state::{State, Stop};
 use sp_base::{Fault, Limits, List, Memory};
 use sp_cell::Cell;
-use sp_code::Code;
+use sp_code::{Code, ForkTable};
 
 /// How many values a range has, or `u64::MAX` where it has more.
 fn count_values(first: i64, last: i64) -> u64
     requires { int_le first last ≡ true }
     ensures count { result ≡ values_in first last }
-    ensures last { first +ℤ pos result ≤ℤ pos 9223372036854775808 }
+    ensures last { (first +ℤ pos result) ≤ℤ pos 9223372036854775808 }
 {
     last.abs_diff(first).saturating_add(1)
+}
+
+/// How many children a fork table has.
+fn count_children(table: &ForkTable) -> u64
+    ensures count { result ≡ length table.now.children }
+    ensures few { (pos 0 +ℤ pos result) ≤ℤ pos 9223372036854775808 }
+{
+    table.children.items().len() as u64
 }
 
 impl State {
@@ -107,8 +115,7 @@ impl State {
                 if self.depth >= limits.depth {
                     return Ok(Some(Stop::Fault(Fault::F11)));
                 }
-                let children = forks.children.items();
-                let count = children.len() as u64;
+                let count = count_children(forks);
                 self.table = table;
                 self.first = 0;
                 self.pc += 1;

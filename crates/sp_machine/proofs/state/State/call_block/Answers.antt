@@ -2,7 +2,7 @@ use Rattle.std.proofs.Common.{◌≡◌, ◌+◌, ◌≤◌, ◌<◌, ap, subst,
 use Rattle.std.specs.Prelude.{sum}
 use Rattle.sp_base.specs.declared.fault.Fault.TheVariants as fault
 use Rattle.sp_machine.specs.Procs.{setting_of, memory_of}
-use Rattle.sp_machine.proofs.Calling.{faulted, call, call_f10, call_f11, call_f12, call_enough, call_fits, call_numbered, call_came}
+use Rattle.sp_machine.proofs.Calling.{faulted, call_f10, call_f11, call_f12, call_enough, call_fits, call_numbered, call_came}
 use Rattle.sp_machine.proofs.state.State.call_block.Goals as goal
 
 pub returns-then-self-limits-clause-came : goal.returns-then-self-limits-clause-came
