@@ -83,7 +83,7 @@ other_spot n j k h e = h (ap (λ (s : Spot). s.variable) e)
 keeps_own : (mm : Map) (n j k c : ℕ) (cs : List Cell) → j ≢ k → HasOwn mm (record { frame = n; variable = j }) c → HasOwn (map.insert mm (record { frame = n; variable = k }) (Own cs)) (record { frame = n; variable = j }) c
 keeps_own mm n j k c cs h w =
     let same : map.get (map.insert mm (record { frame = n; variable = k }) (Own cs)) (record { frame = n; variable = j }) ≡ map.get mm (record { frame = n; variable = j })
-      = get_other mm (record { frame = n; variable = k }) (Own cs) (record { frame = n; variable = j }) (other_spot n j k h) in
+    = get_other mm (record { frame = n; variable = k }) (Own cs) (record { frame = n; variable = j }) (other_spot n j k h) in
     (subst IsOwn (sym same) w.0, subst (λ (o : Option Content). c ≤ length (cells_of o)) (sym same) w.1)
 
 keeps_one : (mm : Map) (n j k : ℕ) (cs : List Cell) (e : m.Entry) → j ≢ k → Takes mm n j e → Takes (map.insert mm (record { frame = n; variable = k }) (Own cs)) n j e
@@ -158,7 +158,7 @@ pieces_stay mm n v k (c ∷ cs) h =
 new_piece : (mm : Map) (n v c k : ℕ) (cs : List ℕ) → k ≤ c → HasOwn (with_pieces mm n v (c ∷ cs)) (record { frame = n; variable = v }) k
 new_piece mm n v c k cs h =
     let is : map.get (with_pieces mm n v (c ∷ cs)) (record { frame = n; variable = v }) ≡ Some (Own (replicate c cell.Undefined))
-      = pieces_stay (map.insert mm (record { frame = n; variable = v }) (Own (replicate c cell.Undefined))) n (v + 1) v cs (omega arith) ∙ get_here mm (record { frame = n; variable = v }) (Own (replicate c cell.Undefined)) in
+    = pieces_stay (map.insert mm (record { frame = n; variable = v }) (Own (replicate c cell.Undefined))) n (v + 1) v cs (omega arith) ∙ get_here mm (record { frame = n; variable = v }) (Own (replicate c cell.Undefined)) in
     (subst IsOwn (sym is) tt, subst (λ (o : Option Content). k ≤ length (cells_of o)) (sym is) (rw (length-replicate c cell.Undefined) h))
 
 both_true : (a b : Bool) → (a && b) ≡ true → (a ≡ true) × (b ≡ true)
@@ -189,10 +189,11 @@ take_from mm n v (f ∷ fs) (x ∷ es) [] e h = absurd (none f (h 0 f refl))
     none f w = w
 take_from mm n v (f ∷ fs) (x ∷ es) (c ∷ ss) e h =
     let w = both_true (m.fits_formal f x) (m.fit_formals fs es) e in
-    let one : v + 1 ≡ suc v = omega arith in
-    (first_takes mm n v f x c ss w.0 (h 0 f refl),
-     subst (λ j. TakeAll (with_pieces (map.insert mm (record { frame = n; variable = v }) (Own (replicate c cell.Undefined))) n (v + 1) ss) n j es) one
-       (take_from (map.insert mm (record { frame = n; variable = v }) (Own (replicate c cell.Undefined))) n (v + 1) fs es ss w.1 (λ k g q. h (suc k) g q)))
+    let one : v + 1 ≡ suc v = omega arith in (
+      first_takes mm n v f x c ss w.0 (h 0 f refl),
+      subst (λ j. TakeAll (with_pieces (map.insert mm (record { frame = n; variable = v }) (Own (replicate c cell.Undefined))) n (v + 1) ss) n j es) one
+          (take_from (map.insert mm (record { frame = n; variable = v }) (Own (replicate c cell.Undefined))) n (v + 1) fs es ss w.1 (λ k g q. h (suc k) g q)),
+    )
 
 -- the variables of a new frame take the arguments that fit
 pub take_all : (s : Plain) (l : Layout) (es : List m.Entry) → m.fit_formals l.formals es ≡ true → ((k : ℕ) (f : Formal) → slice_get l.formals k ≡ Some f → HasRoom f (slice_get l.sizes k)) → TakeAll (pushed s l.sizes).map (next_frame s) 0 es
@@ -211,7 +212,7 @@ module _ {M : Type 0} (go : List m.Entry → List m.Entry → m.One M) where
   popped_onto (suc k) (o ∷ os) es h =
       popped_onto k os (entry_of o ∷ es) (omega (arith, h))
       ∙ ap (λ (xs : List m.Entry). go xs (entries_of (drop k os)))
-        (sym (ap (λ (xs : List m.Entry). xs ++ es) (ap entries_of (reverse-append (o ∷ []) (take k os)) ∙ entries_append (reverse (take k os)) (o ∷ [])) ∙ append_assoc (entries_of (reverse (take k os))) (entry_of o ∷ []) es))
+      (sym (ap (λ (xs : List m.Entry). xs ++ es) (ap entries_of (reverse-append (o ∷ []) (take k os)) ∙ entries_append (reverse (take k os)) (o ∷ [])) ∙ append_assoc (entries_of (reverse (take k os))) (entry_of o ∷ []) es))
 
   pub pops : (k : ℕ) (os : List Operand) → k ≤ length os → m.pop k (entries_of os) [] go ≡ go (entries_of (reverse (take k os))) (entries_of (drop k os))
   pops k os h = popped_onto k os [] h ∙ ap (λ (xs : List m.Entry). go xs (entries_of (drop k os))) (append-nil (entries_of (reverse (take k os))))
@@ -321,9 +322,9 @@ entered_never g code l r st n = go l.answer (m.outside st) ((memory plain g).due
     go false false d = tt
 
 module _ (p s q : State) (code : Parts) (lim : Limits) (l : Layout) (up : ℕ) (safe : call (setting_of p code lim) code l up (p.pc + 1) p.stack (memory_of p) ≢ m.Stuck)
-  (ticks : p.ticks < lim.ticks) (depth : p.depth < lim.depth) (cells : p.cells + sum l.sizes ≤ lim.cells)
-  (opens : memory_of s ≡ opened plain (setting_of p code lim) l up (arguments (setting_of p code lim) code l up (p.pc + 1) p.stack (memory_of p)) (memory_of p))
-  (stack : s.stack ≡ drop (length l.formals) p.stack) (place : s.pc ≡ p.pc) (same : Stays p s) where
+    (ticks : p.ticks < lim.ticks) (depth : p.depth < lim.depth) (cells : p.cells + sum l.sizes ≤ lim.cells)
+    (opens : memory_of s ≡ opened plain (setting_of p code lim) l up (arguments (setting_of p code lim) code l up (p.pc + 1) p.stack (memory_of p)) (memory_of p))
+    (stack : s.stack ≡ drop (length l.formals) p.stack) (place : s.pc ≡ p.pc) (same : Stays p s) where
   abbrev new : Memory Plain
   new = opened plain (setting_of p code lim) l up (arguments (setting_of p code lim) code l up (p.pc + 1) p.stack (memory_of p)) (memory_of p)
 

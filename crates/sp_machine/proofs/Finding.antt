@@ -46,15 +46,6 @@ got (k ∷ ls) (suc i) l h e = got ls i l (omega (arith, h)) e
 pub layout_found : (ls : List Layout) (b i : ℕ) (l : Layout) → HasDistinctBlocks ls → i < length ls → l ≡ get_or ls i l → l.block ≡ b → layout_of ls b ≡ Some l
 layout_found ls b i l d h e k = ap (layout_of ls) (sym k) ∙ found ls i l d (got ls i l h e)
 
-pub sum_more : (xs : List ℕ) (i x : ℕ) → i < length xs → x ≡ get_or xs i x → sum (take (i + 1) xs) ≡ sum (take i xs) + x
-sum_more [] i x h e = absurd (omega (arith, h))
-sum_more (y ∷ xs) zero x h e = omega (arith, e)
-sum_more (y ∷ xs) (suc i) x h e =
-    let one : suc i + 1 ≡ suc (i + 1) = omega arith in
-    let rest : sum (take (i + 1) xs) ≡ sum (take i xs) + x = sum_more xs i x (omega (arith, h)) e in
-    let all : y + sum (take (i + 1) xs) ≡ y + sum (take i xs) + x = omega (arith, rest) in
-    ap (λ n. sum (take n (y ∷ xs))) one ∙ all
-
 pub sum_all : (xs : List ℕ) (i : ℕ) → length xs ≤ i → sum (take i xs) ≡ sum xs
 sum_all xs i h = ap sum (take_all i xs h)
 

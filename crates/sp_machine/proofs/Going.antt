@@ -46,6 +46,7 @@ module _ (g : Setting) where
       where
         done : (z : m.Stop) → t ≡ z → IsTurn (memory plain (setting_of x code lim)) code (config_of x) (Stopped z (config_of q))
         done z k = moved (Stopped z (config_of q)) (ended c (config_of p) (Stopped z (config_of q)) n b h (e ∙ ap (λ (y : m.Stop). m.Stops y d) k ∙ ap (m.Stops z) (sym w)))
+
         by : (s : Stop) → StopIs s q t → IsTurnOf x code lim q s
         by (stop.Fork table v k) i = (done (m.Forks table v k) i.0, i.1)
         by stop.Open i = (done (m.Opens q.target) i, tt)
@@ -61,6 +62,7 @@ module _ (g : Setting) where
       where
         done : (z : Fault) → z ≡ f → IsTurn (memory plain (setting_of x code lim)) code (config_of x) (Faulted z (config_of q))
         done z k = moved (Faulted z (config_of q)) (ended c (config_of p) (Faulted z (config_of q)) n b h (e ∙ ap m.Fails (sym k), w))
+
         by : (s : Stop) → FaultIs s f → IsTurnOf x code lim q s
         by (stop.Fork table v k) i = absurd i
         by stop.Open i = absurd i

@@ -6,3 +6,4 @@ pub mod Finding
 pub mod Calling
 pub mod Going
 pub mod Resuming
+pub mod Stepping

@@ -69,11 +69,13 @@ still_has m p i c a k h = go (same_or a.spot p)
   where
     n : Map
     n = map.insert m p (Own (slice_set (cells_at m p) i c))
+
     go : (a.spot ≡ p) ⊎ (a.spot ≢ p) → HasCells n a k
     go (inl e) =
-        let here : map.get n a.spot ≡ Some (Own (slice_set (cells_at m p) i c)) = ap (map.get n) e ∙ get_here m p (Own (slice_set (cells_at m p) i c)) in
-        (subst IsPiece (sym here) tt,
-         rw (ap (λ (o : Option Content). length (cells_of o)) here ∙ length_set (cells_at m p) i c ∙ ap (λ (s : Spot). length (cells_at m s)) (sym e)) h.1)
+        let here : map.get n a.spot ≡ Some (Own (slice_set (cells_at m p) i c)) = ap (map.get n) e ∙ get_here m p (Own (slice_set (cells_at m p) i c)) in (
+          subst IsPiece (sym here) tt,
+          rw (ap (λ (o : Option Content). length (cells_of o)) here ∙ length_set (cells_at m p) i c ∙ ap (λ (s : Spot). length (cells_at m s)) (sym e)) h.1,
+        )
     go (inr w) =
         let there : map.get n a.spot ≡ map.get m a.spot = get_other m p (Own (slice_set (cells_at m p) i c)) a.spot w in
         (subst IsPiece (sym there) h.0, rw (ap (λ (o : Option Content). length (cells_of o)) there) h.1)

@@ -23,9 +23,9 @@ pub appended_more : (p : Plain) (a b : List ℕ) → plain.appended (plain.appen
 appended_more p a b =
     let old : List ℕ = bytes_of (map.get p.map output_spot) in
     ap (with_map p) (
-      ap (λ (o : Option Content). map.insert (appended p.map a) output_spot (Output (bytes_of o ++ b))) (get_here p.map output_spot (Output (old ++ a)))
-      ∙ insert_twice p.map output_spot (Output (old ++ a)) (Output ((old ++ a) ++ b))
-      ∙ ap (λ bs. map.insert p.map output_spot (Output bs)) (append_assoc old a b))
+    ap (λ (o : Option Content). map.insert (appended p.map a) output_spot (Output (bytes_of o ++ b))) (get_here p.map output_spot (Output (old ++ a)))
+    ∙ insert_twice p.map output_spot (Output (old ++ a)) (Output ((old ++ a) ++ b))
+    ∙ ap (λ bs. map.insert p.map output_spot (Output bs)) (append_assoc old a b))
 
 pub appended_held : (p : Plain) (a : List ℕ) → is_held (plain.output (plain.appended p a)) ≡ true
 appended_held p a = ap (λ (o : Option Content). is_held (output_of o)) (get_here p.map output_spot (Output (bytes_of (map.get p.map output_spot) ++ a)))

@@ -49,8 +49,8 @@ top_is xs k h =
     let enough : k ≤ length (reverse (drop (length xs - k) xs)) = omega (arith, h, size, front) in
     let most : length (reverse (drop (length xs - k) xs)) ≤ k = omega (arith, h, size, front) in
     sym (ap (λ ys. reverse (take k ys)) both
-      ∙ ap reverse (take-append-le k (reverse (drop (length xs - k) xs)) (reverse (take (length xs - k) xs)) enough ∙ take_all k (reverse (drop (length xs - k) xs)) most)
-      ∙ reverse-reverse (drop (length xs - k) xs))
+    ∙ ap reverse (take-append-le k (reverse (drop (length xs - k) xs)) (reverse (take (length xs - k) xs)) enough ∙ take_all k (reverse (drop (length xs - k) xs)) most)
+    ∙ reverse-reverse (drop (length xs - k) xs))
 
 pub top_part : (xs : List Operand) (k : ℕ) → k ≤ length (reverse xs) → take (length xs - (length xs - k)) (drop (length xs - k) xs) ≡ reverse (take k (reverse xs))
 top_part xs k h =

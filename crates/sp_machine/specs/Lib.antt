@@ -5,3 +5,4 @@ pub mod Conversions
 pub mod Texts
 pub mod Arguments
 pub mod Answers
+pub mod Codes

@@ -12,7 +12,9 @@ ghost use Rattle.sp_machine.specs.Conversions.{converted};
 
 use crate::stack::Operand;
 use crate::state::{State, Stop};
-use sp_arithmetic::{absolute_of, binary, next_of, odd, previous_of, square_of, truth_of, unary, within};
+use sp_arithmetic::{
+    absolute_of, binary, next_of, odd, previous_of, square_of, truth_of, unary, within,
+};
 use sp_base::{Fault, Limits, Memory};
 use sp_code::Code;
 use sp_tree::{BinaryOp, UnaryOp};
@@ -48,7 +50,12 @@ fn convert(conversion: Conversion, n: i64) -> Result<i64, Fault>
 
 impl State {
     // Pushes an ordinal.
-    pub(crate) fn constant(&mut self, value: i64, code: &Code, limits: &Limits) -> Result<Option<Stop>, Memory>
+    pub(crate) fn constant(
+        &mut self,
+        value: i64,
+        code: &Code,
+        limits: &Limits,
+    ) -> Result<Option<Stop>, Memory>
         requires { self.old.pc + 1 < 4294967296 }
         ensures came { IfOk result (λ s. Came (does (Some (instr.Const value)) self.old code.now limits.now) self.old self.new s) }
         ensures same { Stays self.old self.new }
@@ -59,7 +66,12 @@ impl State {
     }
 
     // What an operation makes of the ordinal on top.
-    pub(crate) fn convert(&mut self, conversion: Conversion, code: &Code, limits: &Limits) -> Result<Option<Stop>, Memory>
+    pub(crate) fn convert(
+        &mut self,
+        conversion: Conversion,
+        code: &Code,
+        limits: &Limits,
+    ) -> Result<Option<Stop>, Memory>
         requires next { self.old.pc + 1 < 4294967296 }
         requires safe { on_one (memory plain (setting_of self.old code.now limits.now)) code.now (converted conversion) self.old.pc (entries_of self.old.stack) (memory_of self.old) ≢ Stuck }
         ensures came { IfOk result (λ s. Came (on_one (memory plain (setting_of self.old code.now limits.now)) code.now (converted conversion) self.old.pc (entries_of self.old.stack) (memory_of self.old)) self.old self.new s) }
@@ -82,7 +94,13 @@ impl State {
     }
 
     // The same number, where it is in the range.
-    pub(crate) fn range(&mut self, low: i64, high: i64, code: &Code, limits: &Limits) -> Result<Option<Stop>, Memory>
+    pub(crate) fn range(
+        &mut self,
+        low: i64,
+        high: i64,
+        code: &Code,
+        limits: &Limits,
+    ) -> Result<Option<Stop>, Memory>
         requires next { self.old.pc + 1 < 4294967296 }
         requires safe { does (Some (instr.Range low high)) self.old code.now limits.now ≢ Stuck }
         ensures came { IfOk result (λ s. Came (does (Some (instr.Range low high)) self.old code.now limits.now) self.old self.new s) }
@@ -92,7 +110,12 @@ impl State {
     }
 
     // The next number.
-    pub(crate) fn successor(&mut self, high: i64, code: &Code, limits: &Limits) -> Result<Option<Stop>, Memory>
+    pub(crate) fn successor(
+        &mut self,
+        high: i64,
+        code: &Code,
+        limits: &Limits,
+    ) -> Result<Option<Stop>, Memory>
         requires next { self.old.pc + 1 < 4294967296 }
         requires safe { does (Some (instr.Succ high)) self.old code.now limits.now ≢ Stuck }
         ensures came { IfOk result (λ s. Came (does (Some (instr.Succ high)) self.old code.now limits.now) self.old self.new s) }
@@ -102,7 +125,12 @@ impl State {
     }
 
     // The number before.
-    pub(crate) fn predecessor(&mut self, low: i64, code: &Code, limits: &Limits) -> Result<Option<Stop>, Memory>
+    pub(crate) fn predecessor(
+        &mut self,
+        low: i64,
+        code: &Code,
+        limits: &Limits,
+    ) -> Result<Option<Stop>, Memory>
         requires next { self.old.pc + 1 < 4294967296 }
         requires safe { does (Some (instr.Pred low)) self.old code.now limits.now ≢ Stuck }
         ensures came { IfOk result (λ s. Came (does (Some (instr.Pred low)) self.old code.now limits.now) self.old self.new s) }
@@ -112,7 +140,12 @@ impl State {
     }
 
     // What an operator makes of two ordinals.
-    pub(crate) fn operate(&mut self, op: BinaryOp, code: &Code, limits: &Limits) -> Result<Option<Stop>, Memory>
+    pub(crate) fn operate(
+        &mut self,
+        op: BinaryOp,
+        code: &Code,
+        limits: &Limits,
+    ) -> Result<Option<Stop>, Memory>
         requires next { self.old.pc + 1 < 4294967296 }
         requires safe { on_two (memory plain (setting_of self.old code.now limits.now)) code.now op self.old.pc (entries_of self.old.stack) (memory_of self.old) ≢ Stuck }
         ensures came { IfOk result (λ s. Came (on_two (memory plain (setting_of self.old code.now limits.now)) code.now op self.old.pc (entries_of self.old.stack) (memory_of self.old)) self.old self.new s) }
@@ -139,7 +172,12 @@ impl State {
     }
 
     // Whether two ordinals or two channels are equal, or whether they are different.
-    pub(crate) fn equals(&mut self, different: bool, code: &Code, limits: &Limits) -> Result<Option<Stop>, Memory>
+    pub(crate) fn equals(
+        &mut self,
+        different: bool,
+        code: &Code,
+        limits: &Limits,
+    ) -> Result<Option<Stop>, Memory>
         requires next { self.old.pc + 1 < 4294967296 }
         requires safe { on_equals (entries_of self.old.stack) (λ b st. told (memory plain (setting_of self.old code.now limits.now)) code.now (if different then not b else b) (self.old.pc + 1) st (memory_of self.old)) ≢ Stuck }
         ensures came { IfOk result (λ s. Came (on_equals (entries_of self.old.stack) (λ b st. told (memory plain (setting_of self.old code.now limits.now)) code.now (if different then not b else b) (self.old.pc + 1) st (memory_of self.old))) self.old self.new s) }

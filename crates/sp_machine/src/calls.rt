@@ -87,7 +87,14 @@ fn fill_one(store: &mut Store, frame: u64, variable: u32, argument: &Operand) ->
 impl State {
     /// Opens a frame for a block with the arguments on the stack, which go.
     #[tactic(auto, using(crate::proofs::Calling::take_all))]
-    fn open_frame(&mut self, layout: &Layout, up: u32, cells: u64, code: &Code, limits: &Limits) -> Result<(), Memory>
+    fn open_frame(
+        &mut self,
+        layout: &Layout,
+        up: u32,
+        cells: u64,
+        code: &Code,
+        limits: &Limits,
+    ) -> Result<(), Memory>
         requires sizes { length layout.now.sizes ≤ 4294967294 }
         requires formals { BeginsWithFormals layout.now }
         requires few { length layout.now.formals ≤ length layout.now.sizes }
@@ -124,7 +131,13 @@ impl State {
     }
 
     /// Goes to the first instruction of a block that was called.
-    fn enter_block(&mut self, layout: &Layout, to: u32, code: &Code, limits: &Limits) -> Result<Option<Stop>, Memory>
+    fn enter_block(
+        &mut self,
+        layout: &Layout,
+        to: u32,
+        code: &Code,
+        limits: &Limits,
+    ) -> Result<Option<Stop>, Memory>
         ensures came { IfOk result (λ s. Came (entered (memory plain (setting_of self.old code.now limits.now)) code.now layout.now to (entries_of self.old.stack) (memory_of self.old)) self.old self.new s) }
         ensures same { Stays self.old self.new }
     {
@@ -141,7 +154,13 @@ impl State {
     }
 
     /// Calls a block.
-    fn call_block(&mut self, layout: &Layout, up: u32, code: &Code, limits: &Limits) -> Result<Option<Stop>, Memory>
+    fn call_block(
+        &mut self,
+        layout: &Layout,
+        up: u32,
+        code: &Code,
+        limits: &Limits,
+    ) -> Result<Option<Stop>, Memory>
         requires next { self.old.pc + 1 < 4294967296 }
         requires sizes { length layout.now.sizes ≤ 4294967294 }
         requires formals { BeginsWithFormals layout.now }
@@ -167,7 +186,13 @@ impl State {
 
     // Calls a block.
     #[tactic(auto, using(crate::proofs::Finding::few_sizes, crate::proofs::Finding::few_formals))]
-    pub(crate) fn call(&mut self, block: u32, up: u32, code: &Code, limits: &Limits) -> Result<Option<Stop>, Memory>
+    pub(crate) fn call(
+        &mut self,
+        block: u32,
+        up: u32,
+        code: &Code,
+        limits: &Limits,
+    ) -> Result<Option<Stop>, Memory>
         requires next { self.old.pc + 1 < 4294967296 }
         requires blocks { HasDistinctBlocks code.now.layouts }
         requires formals { HaveFormals code.now.layouts }

@@ -47,7 +47,12 @@ impl State {
     }
 
     // Goes on there.
-    pub(crate) fn jump(&mut self, to: u32, code: &Code, limits: &Limits) -> Result<Option<Stop>, Memory>
+    pub(crate) fn jump(
+        &mut self,
+        to: u32,
+        code: &Code,
+        limits: &Limits,
+    ) -> Result<Option<Stop>, Memory>
         requires next { self.old.pc + 1 < 4294967296 }
         requires safe { does (Some (instr.Jump to)) self.old code.now limits.now ≢ Stuck }
         ensures came { IfOk result (λ s. Came (does (Some (instr.Jump to)) self.old code.now limits.now) self.old self.new s) }
@@ -58,7 +63,12 @@ impl State {
     }
 
     // Goes on there where the operand is false.
-    pub(crate) fn jump_false(&mut self, to: u32, code: &Code, limits: &Limits) -> Result<Option<Stop>, Memory>
+    pub(crate) fn jump_false(
+        &mut self,
+        to: u32,
+        code: &Code,
+        limits: &Limits,
+    ) -> Result<Option<Stop>, Memory>
         requires next { self.old.pc + 1 < 4294967296 }
         requires safe { does (Some (instr.Jumpf to)) self.old code.now limits.now ≢ Stuck }
         ensures came { IfOk result (λ s. Came (does (Some (instr.Jumpf to)) self.old code.now limits.now) self.old self.new s) }
@@ -78,7 +88,13 @@ impl State {
     }
 
     // Goes on there where the operand is the value; else the operand stays.
-    pub(crate) fn jump_equal(&mut self, value: i64, to: u32, code: &Code, limits: &Limits) -> Result<Option<Stop>, Memory>
+    pub(crate) fn jump_equal(
+        &mut self,
+        value: i64,
+        to: u32,
+        code: &Code,
+        limits: &Limits,
+    ) -> Result<Option<Stop>, Memory>
         requires next { self.old.pc + 1 < 4294967296 }
         requires safe { does (Some (instr.Casej value to)) self.old code.now limits.now ≢ Stuck }
         ensures came { IfOk result (λ s. Came (does (Some (instr.Casej value to)) self.old code.now limits.now) self.old self.new s) }
@@ -137,7 +153,14 @@ impl State {
     }
 
     // Begins a loop with its first value, or leaves it.
-    pub(crate) fn begin_loop(&mut self, down: bool, var: u32, to: u32, code: &Code, limits: &Limits) -> Result<Option<Stop>, Memory>
+    pub(crate) fn begin_loop(
+        &mut self,
+        down: bool,
+        var: u32,
+        to: u32,
+        code: &Code,
+        limits: &Limits,
+    ) -> Result<Option<Stop>, Memory>
         requires next { self.old.pc + 1 < 4294967296 }
         requires safe { begins_loop (memory plain (setting_of self.old code.now limits.now)) code.now down var to self.old.pc (entries_of self.old.stack) (memory_of self.old) ≢ Stuck }
         ensures came { IfOk result (λ s. Came (begins_loop (memory plain (setting_of self.old code.now limits.now)) code.now down var to self.old.pc (entries_of self.old.stack) (memory_of self.old)) self.old self.new s) }
@@ -165,7 +188,14 @@ impl State {
     }
 
     // Goes on with the next value of a loop, or leaves it.
-    pub(crate) fn go_on_loop(&mut self, down: bool, var: u32, to: u32, code: &Code, limits: &Limits) -> Result<Option<Stop>, Memory>
+    pub(crate) fn go_on_loop(
+        &mut self,
+        down: bool,
+        var: u32,
+        to: u32,
+        code: &Code,
+        limits: &Limits,
+    ) -> Result<Option<Stop>, Memory>
         requires next { self.old.pc + 1 < 4294967296 }
         requires safe { ends_loop (memory plain (setting_of self.old code.now limits.now)) code.now down var to self.old.pc (entries_of self.old.stack) (memory_of self.old) ≢ Stuck }
         ensures came { IfOk result (λ s. Came (ends_loop (memory plain (setting_of self.old code.now limits.now)) code.now down var to self.old.pc (entries_of self.old.stack) (memory_of self.old)) self.old self.new s) }

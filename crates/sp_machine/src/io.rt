@@ -18,7 +18,9 @@ use sp_arithmetic::truth_of;
 use sp_base::{Fault, Limits, Memory, put_signed};
 use sp_cell::{Address, Cell, Spot};
 use sp_code::Code;
-use sp_items::{Taken, byte_of, char_in, cut_to, is_at_line_end, line_length, number_in, truth_text};
+use sp_items::{
+    Taken, byte_of, char_in, cut_to, is_at_line_end, line_length, number_in, truth_text,
+};
 use sp_store::Store;
 
 /// What is read.
@@ -165,7 +167,12 @@ impl State {
 
     // Reads an item into an address.
     #[tactic(auto, using(sp_code::proofs::StoreLaws::has_held))]
-    pub(crate) fn read(&mut self, item: Item, code: &Code, limits: &Limits) -> Result<Option<Stop>, Memory>
+    pub(crate) fn read(
+        &mut self,
+        item: Item,
+        code: &Code,
+        limits: &Limits,
+    ) -> Result<Option<Stop>, Memory>
         requires next { self.old.pc + 1 < 4294967296 }
         requires safe { reads (memory plain (setting_of self.old code.now limits.now)) code.now (item_in item) (self.old.pc + 1) (entries_of self.old.stack) (memory_of self.old) ≢ Stuck }
         ensures came { IfOk result (λ s. Came (reads (memory plain (setting_of self.old code.now limits.now)) code.now (item_in item) (self.old.pc + 1) (entries_of self.old.stack) (memory_of self.old)) self.old self.new s) }
@@ -201,7 +208,11 @@ impl State {
     }
 
     // Whether nothing is left of the input.
-    pub(crate) fn is_input_over(&mut self, code: &Code, limits: &Limits) -> Result<Option<Stop>, Memory>
+    pub(crate) fn is_input_over(
+        &mut self,
+        code: &Code,
+        limits: &Limits,
+    ) -> Result<Option<Stop>, Memory>
         requires next { self.old.pc + 1 < 4294967296 }
         requires safe { does (Some instr.Eof) self.old code.now limits.now ≢ Stuck }
         ensures came { IfOk result (λ s. Came (does (Some instr.Eof) self.old code.now limits.now) self.old self.new s) }
@@ -214,7 +225,11 @@ impl State {
     }
 
     // Whether nothing is left of the line.
-    pub(crate) fn is_line_over(&mut self, code: &Code, limits: &Limits) -> Result<Option<Stop>, Memory>
+    pub(crate) fn is_line_over(
+        &mut self,
+        code: &Code,
+        limits: &Limits,
+    ) -> Result<Option<Stop>, Memory>
         requires next { self.old.pc + 1 < 4294967296 }
         requires safe { does (Some instr.Eoln) self.old code.now limits.now ≢ Stuck }
         ensures came { IfOk result (λ s. Came (does (Some instr.Eoln) self.old code.now limits.now) self.old self.new s) }
@@ -227,7 +242,12 @@ impl State {
     }
 
     // Writes a value.
-    pub(crate) fn write(&mut self, shown: Shown, code: &Code, limits: &Limits) -> Result<Option<Stop>, Memory>
+    pub(crate) fn write(
+        &mut self,
+        shown: Shown,
+        code: &Code,
+        limits: &Limits,
+    ) -> Result<Option<Stop>, Memory>
         requires next { self.old.pc + 1 < 4294967296 }
         requires safe { writes (memory plain (setting_of self.old code.now limits.now)) code.now (text_of shown) (self.old.pc + 1) (entries_of self.old.stack) (memory_of self.old) ≢ Stuck }
         ensures came { IfOk result (λ s. Came (writes (memory plain (setting_of self.old code.now limits.now)) code.now (text_of shown) (self.old.pc + 1) (entries_of self.old.stack) (memory_of self.old)) self.old self.new s) }
@@ -248,7 +268,12 @@ impl State {
     }
 
     // Writes a value in a width.
-    pub(crate) fn write_wide(&mut self, shown: Shown, code: &Code, limits: &Limits) -> Result<Option<Stop>, Memory>
+    pub(crate) fn write_wide(
+        &mut self,
+        shown: Shown,
+        code: &Code,
+        limits: &Limits,
+    ) -> Result<Option<Stop>, Memory>
         requires next { self.old.pc + 1 < 4294967296 }
         requires safe { writes_wide (memory plain (setting_of self.old code.now limits.now)) code.now (is_cut shown) (text_of shown) (self.old.pc + 1) (entries_of self.old.stack) (memory_of self.old) ≢ Stuck }
         ensures came { IfOk result (λ s. Came (writes_wide (memory plain (setting_of self.old code.now limits.now)) code.now (is_cut shown) (text_of shown) (self.old.pc + 1) (entries_of self.old.stack) (memory_of self.old)) self.old self.new s) }
@@ -280,7 +305,12 @@ impl State {
     }
 
     // Writes a text.
-    pub(crate) fn write_text(&mut self, number: u32, code: &Code, limits: &Limits) -> Result<Option<Stop>, Memory>
+    pub(crate) fn write_text(
+        &mut self,
+        number: u32,
+        code: &Code,
+        limits: &Limits,
+    ) -> Result<Option<Stop>, Memory>
         requires next { self.old.pc + 1 < 4294967296 }
         requires safe { does (Some (instr.WriteText number)) self.old code.now limits.now ≢ Stuck }
         ensures came { IfOk result (λ s. Came (does (Some (instr.WriteText number)) self.old code.now limits.now) self.old self.new s) }
@@ -299,7 +329,12 @@ impl State {
     }
 
     // Writes a text in a width.
-    pub(crate) fn write_text_wide(&mut self, number: u32, code: &Code, limits: &Limits) -> Result<Option<Stop>, Memory>
+    pub(crate) fn write_text_wide(
+        &mut self,
+        number: u32,
+        code: &Code,
+        limits: &Limits,
+    ) -> Result<Option<Stop>, Memory>
         requires next { self.old.pc + 1 < 4294967296 }
         requires safe { does (Some (instr.WritewText number)) self.old code.now limits.now ≢ Stuck }
         ensures came { IfOk result (λ s. Came (does (Some (instr.WritewText number)) self.old code.now limits.now) self.old self.new s) }

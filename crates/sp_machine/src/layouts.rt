@@ -44,7 +44,7 @@ pub(crate) fn layout_of(code: &Code, block: u32) -> Option<&Layout>
 }
 
 /// The cells of a frame.
-#[tactic(auto, using(crate::proofs::Finding::sum_more, crate::proofs::Finding::sum_all))]
+#[tactic(auto, using(crate::proofs::Finding::sum_all))]
 pub(crate) fn cells_of(sizes: &[u32]) -> u64
     requires { length sizes.now ≤ 4294967294 }
     ensures { result ≡ sum sizes.now }

@@ -31,11 +31,11 @@ pub struct Proc {
 
 impl Model for Proc {
     ghost use Rattle.sp_machine.specs.declared.state.State.{State};
-    ghost use Rattle.sp_machine.specs.contracts.state.State as state;
+    ghost use Rattle.sp_machine.specs.Codes.{state_code};
 
     ghost Value = { State };
 
-    ghost coded = { state.the_row.coded };
+    ghost coded = { state_code };
 
     ghost view = { λ p. p.state.value };
 }

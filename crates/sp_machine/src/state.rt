@@ -38,7 +38,11 @@ pub struct State {
 pub enum Stop {
     /// At a fork with this table, and for a `forall` the first value of its range. `count` is the number of its children, or
     /// 18,446,744,073,709,551,615 where that number is greater.
-    Fork { table: u32, first: i64, count: u64 },
+    Fork {
+        table: u32,
+        first: i64,
+        count: u64,
+    },
     /// At an `open`. The piece to which the channel goes is own.
     Open,
     /// At a `send` of these cells.
@@ -48,7 +52,10 @@ pub enum Stop {
         cells: List<Cell>,
     },
     /// At a `receive`. The piece to which the message goes is own.
-    Receive { channel: u32, message: u32 },
+    Receive {
+        channel: u32,
+        message: u32,
+    },
     /// At its end.
     End,
     /// It is due.

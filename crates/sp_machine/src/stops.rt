@@ -1,9 +1,10 @@
 //! Instructions at which a turn stops: offers and forks.
 
-ghost use Rattle.std.specs.Prelude.{◌≡◌, ◌≢◌, ◌+◌, ◌<◌, ◌∷◌, [], IfOk, Some, true, length, int_le, pos, ◌+ℤ◌, ◌≤ℤ◌};
-ghost use Rattle.sp_code.specs.Machine.{Stuck, values_in};
+ghost use Rattle.std.specs.Prelude.{◌≡◌, ◌≢◌, ◌+◌, ◌<◌, ◌≤◌, ◌∷◌, [], IfOk, Some, true, length, int_le, pos, ◌+ℤ◌, ◌≤ℤ◌};
+ghost use Rattle.sp_code.specs.Machine.{Stuck, At, Forks, values_in};
 ghost use Rattle.sp_code.specs.declared.instr.Instr.TheVariants as instr;
-ghost use Rattle.sp_machine.specs.Procs.{does, Came, Stays};
+ghost use Rattle.sp_machine.specs.Procs.{does, Came, Stays, StopIs, config_of, memory_of};
+ghost use Rattle.sp_machine.specs.Entries.{entries_of};
 
 use crate::stack::Operand;
 use crate::state::{State, Stop};
@@ -48,7 +49,12 @@ impl State {
     }
 
     // Stops to send a message.
-    pub(crate) fn send(&mut self, message: u32, code: &Code, limits: &Limits) -> Result<Option<Stop>, Memory>
+    pub(crate) fn send(
+        &mut self,
+        message: u32,
+        code: &Code,
+        limits: &Limits,
+    ) -> Result<Option<Stop>, Memory>
         requires next { self.old.pc + 1 < 4294967296 }
         requires safe { does (Some (instr.Send message)) self.old code.now limits.now ≢ Stuck }
         ensures came { IfOk result (λ s. Came (does (Some (instr.Send message)) self.old code.now limits.now) self.old self.new s) }
@@ -83,7 +89,12 @@ impl State {
     }
 
     // Stops to receive a message.
-    pub(crate) fn receive(&mut self, message: u32, code: &Code, limits: &Limits) -> Result<Option<Stop>, Memory>
+    pub(crate) fn receive(
+        &mut self,
+        message: u32,
+        code: &Code,
+        limits: &Limits,
+    ) -> Result<Option<Stop>, Memory>
         requires next { self.old.pc + 1 < 4294967296 }
         requires safe { does (Some (instr.Receive message)) self.old code.now limits.now ≢ Stuck }
         ensures came { IfOk result (λ s. Came (does (Some (instr.Receive message)) self.old code.now limits.now) self.old self.new s) }
@@ -104,7 +115,12 @@ impl State {
     }
 
     // Stops to start the children of a fork table.
-    pub(crate) fn fork(&mut self, table: u32, code: &Code, limits: &Limits) -> Result<Option<Stop>, Memory>
+    pub(crate) fn fork(
+        &mut self,
+        table: u32,
+        code: &Code,
+        limits: &Limits,
+    ) -> Result<Option<Stop>, Memory>
         requires next { self.old.pc + 1 < 4294967296 }
         requires safe { does (Some (instr.Fork table)) self.old code.now limits.now ≢ Stuck }
         ensures came { IfOk result (λ s. Came (does (Some (instr.Fork table)) self.old code.now limits.now) self.old self.new s) }
@@ -112,25 +128,43 @@ impl State {
     {
         match code.table(table) {
             Some(forks) => {
-                if self.depth >= limits.depth {
+                let most = limits.depth;
+                if self.depth >= most {
                     return Ok(Some(Stop::Fault(Fault::F11)));
                 }
                 let count = count_children(forks);
-                self.table = table;
-                self.first = 0;
-                self.pc += 1;
-                Ok(Some(Stop::Fork {
-                    table,
-                    first: 0,
-                    count,
-                }))
+                Ok(Some(self.stop_at_fork(table, count)))
             }
             None => unreachable!(),
         }
     }
 
+    /// Stops at a fork of so many children, each with its own table.
+    fn stop_at_fork(&mut self, table: u32, count: u64) -> Stop
+        requires next { self.old.pc + 1 < 4294967296 }
+        requires deeper { self.old.depth + 1 ≤ 4294967295 }
+        requires values { (pos 0 +ℤ pos count) ≤ℤ pos 9223372036854775808 }
+        ensures stop { StopIs result self.new (Forks table (pos 0) count) }
+        ensures config { config_of self.new ≡ At (self.old.pc + 1) (entries_of self.old.stack) (memory_of self.old) }
+        ensures same { Stays self.old self.new }
+    {
+        self.table = table;
+        self.first = 0;
+        self.pc += 1;
+        Stop::Fork {
+            table,
+            first: 0,
+            count,
+        }
+    }
+
     // Stops to start a child for each value of a range.
-    pub(crate) fn fork_all(&mut self, table: u32, code: &Code, limits: &Limits) -> Result<Option<Stop>, Memory>
+    pub(crate) fn fork_all(
+        &mut self,
+        table: u32,
+        code: &Code,
+        limits: &Limits,
+    ) -> Result<Option<Stop>, Memory>
         requires next { self.old.pc + 1 < 4294967296 }
         requires safe { does (Some (instr.Forall table)) self.old code.now limits.now ≢ Stuck }
         ensures came { IfOk result (λ s. Came (does (Some (instr.Forall table)) self.old code.now limits.now) self.old self.new s) }

@@ -29,7 +29,13 @@ fn beyond(offset: u32, place: u64, size: u32) -> Option<u32>
 
 impl State {
     // Pushes the address of a variable.
-    pub(crate) fn address(&mut self, up: u32, var: u32, code: &Code, limits: &Limits) -> Result<Option<Stop>, Memory>
+    pub(crate) fn address(
+        &mut self,
+        up: u32,
+        var: u32,
+        code: &Code,
+        limits: &Limits,
+    ) -> Result<Option<Stop>, Memory>
         requires next { self.old.pc + 1 < 4294967296 }
         requires safe { does (Some (instr.Addr up var)) self.old code.now limits.now ≢ Stuck }
         ensures came { IfOk result (λ s. Came (does (Some (instr.Addr up var)) self.old code.now limits.now) self.old self.new s) }
@@ -46,7 +52,13 @@ impl State {
     }
 
     // Pushes the address that a variable parameter stands for.
-    pub(crate) fn reference(&mut self, up: u32, var: u32, code: &Code, limits: &Limits) -> Result<Option<Stop>, Memory>
+    pub(crate) fn reference(
+        &mut self,
+        up: u32,
+        var: u32,
+        code: &Code,
+        limits: &Limits,
+    ) -> Result<Option<Stop>, Memory>
         requires next { self.old.pc + 1 < 4294967296 }
         requires safe { does (Some (instr.Deref up var)) self.old code.now limits.now ≢ Stuck }
         ensures came { IfOk result (λ s. Came (does (Some (instr.Deref up var)) self.old code.now limits.now) self.old self.new s) }
@@ -64,7 +76,14 @@ impl State {
 
     // Selects an element of an array.
     #[tactic(auto, using(sp_code::proofs::StoreLaws::has_held, sp_code::proofs::StoreLaws::cells_same))]
-    pub(crate) fn element(&mut self, low: i64, high: i64, size: u32, code: &Code, limits: &Limits) -> Result<Option<Stop>, Memory>
+    pub(crate) fn element(
+        &mut self,
+        low: i64,
+        high: i64,
+        size: u32,
+        code: &Code,
+        limits: &Limits,
+    ) -> Result<Option<Stop>, Memory>
         requires next { self.old.pc + 1 < 4294967296 }
         requires safe { does (Some (instr.Index low high size)) self.old code.now limits.now ≢ Stuck }
         ensures came { IfOk result (λ s. Came (does (Some (instr.Index low high size)) self.old code.now limits.now) self.old self.new s) }
@@ -101,7 +120,12 @@ impl State {
 
     // Selects what begins so many cells further on.
     #[tactic(auto, using(sp_code::proofs::StoreLaws::has_held, sp_code::proofs::StoreLaws::cells_same))]
-    pub(crate) fn field(&mut self, cells: u32, code: &Code, limits: &Limits) -> Result<Option<Stop>, Memory>
+    pub(crate) fn field(
+        &mut self,
+        cells: u32,
+        code: &Code,
+        limits: &Limits,
+    ) -> Result<Option<Stop>, Memory>
         requires next { self.old.pc + 1 < 4294967296 }
         requires safe { does (Some (instr.Field cells)) self.old code.now limits.now ≢ Stuck }
         ensures came { IfOk result (λ s. Came (does (Some (instr.Field cells)) self.old code.now limits.now) self.old self.new s) }
@@ -150,7 +174,11 @@ impl State {
     }
 
     // The channel at an address.
-    pub(crate) fn load_channel(&mut self, code: &Code, limits: &Limits) -> Result<Option<Stop>, Memory>
+    pub(crate) fn load_channel(
+        &mut self,
+        code: &Code,
+        limits: &Limits,
+    ) -> Result<Option<Stop>, Memory>
         requires next { self.old.pc + 1 < 4294967296 }
         requires safe { does (Some instr.Loadc) self.old code.now limits.now ≢ Stuck }
         ensures came { IfOk result (λ s. Came (does (Some instr.Loadc) self.old code.now limits.now) self.old self.new s) }
@@ -195,7 +223,12 @@ impl State {
     }
 
     // Assigns cells.
-    pub(crate) fn copy(&mut self, cells: u32, code: &Code, limits: &Limits) -> Result<Option<Stop>, Memory>
+    pub(crate) fn copy(
+        &mut self,
+        cells: u32,
+        code: &Code,
+        limits: &Limits,
+    ) -> Result<Option<Stop>, Memory>
         requires next { self.old.pc + 1 < 4294967296 }
         requires safe { does (Some (instr.Copy cells)) self.old code.now limits.now ≢ Stuck }
         ensures came { IfOk result (λ s. Came (does (Some (instr.Copy cells)) self.old code.now limits.now) self.old self.new s) }
@@ -215,7 +248,12 @@ impl State {
     }
 
     // The cells from an address on, as one operand.
-    pub(crate) fn pack(&mut self, cells: u32, code: &Code, limits: &Limits) -> Result<Option<Stop>, Memory>
+    pub(crate) fn pack(
+        &mut self,
+        cells: u32,
+        code: &Code,
+        limits: &Limits,
+    ) -> Result<Option<Stop>, Memory>
         requires next { self.old.pc + 1 < 4294967296 }
         requires safe { does (Some (instr.Pack cells)) self.old code.now limits.now ≢ Stuck }
         ensures came { IfOk result (λ s. Came (does (Some (instr.Pack cells)) self.old code.now limits.now) self.old self.new s) }

@@ -16,7 +16,7 @@ returns-then-self-limits-2-clause-came c =
 pub returns-then-self-cells-clause-came : goal.returns-then-self-cells-clause-came
 returns-then-self-cells-clause-came c =
     faulted _ fault.F12 c.args.self.now (call_f12 (setting_of c.args.self.now c.args.code.now c.args.limits.now) c.args.code.now c.args.layout.now c.args.up (c.args.self.now.pc + 1) c.args.self.now.stack (memory_of c.args.self.now) c.requires.safe c.if-self-limits.false c.if-self-limits-2.false
-      (subst (λ k. c.args.limits.now.cells < c.args.self.now.cells + k) (c.cells_of-cells.ensures ∙ ap sum c.items.ensures) c.if-self-cells.true))
+    (subst (λ k. c.args.limits.now.cells < c.args.self.now.cells + k) (c.cells_of-cells.ensures ∙ ap sum c.items.ensures) c.if-self-cells.true))
 
 pub open_frame-requires-clause-arguments : goal.open_frame-requires-clause-arguments
 open_frame-requires-clause-arguments c = call_enough (setting_of c.args.self.now c.args.code.now c.args.limits.now) c.args.code.now c.args.layout.now c.args.up (c.args.self.now.pc + 1) c.args.self.now.stack (memory_of c.args.self.now) c.requires.safe
@@ -30,5 +30,5 @@ open_frame-requires-clause-number c = call_numbered (setting_of c.args.self.now 
 pub returns-clause-came : goal.returns-clause-came
 returns-clause-came c =
     call_came c.args.self.now c.open_frame.new.self c.enter_block.new.self c.args.code.now c.args.limits.now c.args.layout.now c.args.up c.requires.safe c.if-self-limits.false c.if-self-limits-2.false
-      (subst (λ k. c.args.self.now.cells + k ≤ c.args.limits.now.cells) (c.cells_of-cells.ensures ∙ ap sum c.items.ensures) c.if-self-cells.false)
-      c.in_ok-open_frame.ensures.opened c.in_ok-open_frame.ensures.stack c.open_frame.ensures.place c.open_frame.ensures.same c.enter_block.result c.enter_block.ensures.came
+    (subst (λ k. c.args.self.now.cells + k ≤ c.args.limits.now.cells) (c.cells_of-cells.ensures ∙ ap sum c.items.ensures) c.if-self-cells.false)
+    c.in_ok-open_frame.ensures.opened c.in_ok-open_frame.ensures.stack c.open_frame.ensures.place c.open_frame.ensures.same c.enter_block.result c.enter_block.ensures.came
