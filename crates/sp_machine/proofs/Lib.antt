@@ -6,4 +6,3 @@ pub mod Finding
 pub mod Calling
 pub mod Going
 pub mod Resuming
-pub mod Stepping

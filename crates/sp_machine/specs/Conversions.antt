@@ -1,7 +1,7 @@
 -- The operations on one ordinal.
 use Rattle.std.specs.Prelude.{ℤ}
 use Rattle.sp_tree.specs.declared.operators.UnaryOp.TheVariants as sign
-use Rattle.sp_tree.specs.Operators.{Worked, ranged, successor, predecessor, absolute, square, is_odd, unary_op}
+use Rattle.sp_tree.specs.Operators.{Worked, absolute, square, is_odd, unary_op}
 use Rattle.sp_machine.specs.declared.arithmetic.Conversion.{Conversion}
 use Rattle.sp_machine.specs.declared.arithmetic.Conversion.TheVariants as conversion
 
@@ -11,6 +11,3 @@ converted conversion.Absolute = absolute
 converted conversion.Square = square
 converted conversion.Odd = is_odd
 converted conversion.Not = unary_op sign.Not
-converted (conversion.Range low high) = ranged low high
-converted (conversion.Successor high) = successor high
-converted (conversion.Predecessor low) = predecessor low

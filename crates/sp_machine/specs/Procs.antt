@@ -11,7 +11,7 @@ use Rattle.sp_code.specs.declared.code.Parts.{Parts}
 use Rattle.sp_code.specs.declared.instr.Instr.{Instr}
 use Rattle.sp_code.specs.Machine as m
 use Rattle.sp_code.specs.Turns.{Turn, Stopped, Faulted, IsTurn, IsSafe}
-use Rattle.sp_code.specs.Memory.{Memory, memory, Setting}
+use Rattle.sp_code.specs.Memory.{Memory, memory, first, Setting}
 use Rattle.sp_code.specs.PlainStore.{plain}
 use Rattle.sp_code.specs.Sound.{run_of}
 use Rattle.sp_machine.specs.declared.state.State.{State}
@@ -27,6 +27,10 @@ config_of p = m.At p.pc (entries_of p.stack) (memory_of p)
 
 abbrev pub setting_of : State → Parts → Limits → Setting
 setting_of p code lim = run_of code p.input.value lim
+
+-- the first process of a run; limits make no difference to it
+abbrev pub start_of : Parts → List ℕ → m.Config (Memory Plain)
+start_of code input = first plain (run_of code input (record { ticks = 0; depth = 0; cells = 0; processes = 0; channels = 0; entries = 0; output = 0 }))
 
 -- what waits for an answer goes there
 abbrev pub target_of : State → Address

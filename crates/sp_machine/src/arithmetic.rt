@@ -16,7 +16,7 @@ use sp_arithmetic::{
     absolute_of, binary, next_of, odd, previous_of, square_of, truth_of, unary, within,
 };
 use sp_base::{Fault, Limits, Memory};
-use sp_code::Code;
+use sp_code::{Code, Instr};
 use sp_tree::{BinaryOp, UnaryOp};
 
 /// An operation on one ordinal.
@@ -27,9 +27,6 @@ pub(crate) enum Conversion {
     Square,
     Odd,
     Not,
-    Range(i64, i64),
-    Successor(i64),
-    Predecessor(i64),
 }
 
 /// What it gives, or the fault.
@@ -42,9 +39,6 @@ fn convert(conversion: Conversion, n: i64) -> Result<i64, Fault>
         Conversion::Square => square_of(n),
         Conversion::Odd => odd(n),
         Conversion::Not => unary(UnaryOp::Not, n),
-        Conversion::Range(low, high) => within(low, high, n),
-        Conversion::Successor(high) => next_of(high, n),
-        Conversion::Predecessor(low) => previous_of(low, n),
     }
 }
 
@@ -93,50 +87,100 @@ impl State {
         }
     }
 
-    // The same number, where it is in the range.
+    // The same number, where it is in the range of the instruction.
     pub(crate) fn range(
         &mut self,
-        low: i64,
-        high: i64,
+        this: Instr,
         code: &Code,
         limits: &Limits,
     ) -> Result<Option<Stop>, Memory>
         requires next { self.old.pc + 1 < 4294967296 }
-        requires safe { does (Some (instr.Range low high)) self.old code.now limits.now ≢ Stuck }
-        ensures came { IfOk result (λ s. Came (does (Some (instr.Range low high)) self.old code.now limits.now) self.old self.new s) }
+        requires safe { does (Some this) self.old code.now limits.now ≢ Stuck }
+        ensures came { IfOk result (λ s. Came (does (Some this) self.old code.now limits.now) self.old self.new s) }
         ensures same { Stays self.old self.new }
     {
-        self.convert(Conversion::Range(low, high), code, limits)
+        match this {
+            Instr::Range { low, high } => match self.stack.pop() {
+                Some(Operand::Number(n)) => match within(low, high, n) {
+                    Ok(value) => {
+                        self.stack.push(Operand::Number(value))?;
+                        self.pc += 1;
+                        Ok(None)
+                    }
+                    Err(fault) => {
+                        self.stack.push(Operand::Number(n))?;
+                        Ok(Some(Stop::Fault(fault)))
+                    }
+                },
+                _ => unreachable!(),
+            },
+            // No other instruction comes here.
+            _ => Err(Memory),
+        }
     }
 
-    // The next number.
+    // The next number, up to that of the instruction.
     pub(crate) fn successor(
         &mut self,
-        high: i64,
+        this: Instr,
         code: &Code,
         limits: &Limits,
     ) -> Result<Option<Stop>, Memory>
         requires next { self.old.pc + 1 < 4294967296 }
-        requires safe { does (Some (instr.Succ high)) self.old code.now limits.now ≢ Stuck }
-        ensures came { IfOk result (λ s. Came (does (Some (instr.Succ high)) self.old code.now limits.now) self.old self.new s) }
+        requires safe { does (Some this) self.old code.now limits.now ≢ Stuck }
+        ensures came { IfOk result (λ s. Came (does (Some this) self.old code.now limits.now) self.old self.new s) }
         ensures same { Stays self.old self.new }
     {
-        self.convert(Conversion::Successor(high), code, limits)
+        match this {
+            Instr::Succ(high) => match self.stack.pop() {
+                Some(Operand::Number(n)) => match next_of(high, n) {
+                    Ok(value) => {
+                        self.stack.push(Operand::Number(value))?;
+                        self.pc += 1;
+                        Ok(None)
+                    }
+                    Err(fault) => {
+                        self.stack.push(Operand::Number(n))?;
+                        Ok(Some(Stop::Fault(fault)))
+                    }
+                },
+                _ => unreachable!(),
+            },
+            // No other instruction comes here.
+            _ => Err(Memory),
+        }
     }
 
-    // The number before.
+    // The number before, down to that of the instruction.
     pub(crate) fn predecessor(
         &mut self,
-        low: i64,
+        this: Instr,
         code: &Code,
         limits: &Limits,
     ) -> Result<Option<Stop>, Memory>
         requires next { self.old.pc + 1 < 4294967296 }
-        requires safe { does (Some (instr.Pred low)) self.old code.now limits.now ≢ Stuck }
-        ensures came { IfOk result (λ s. Came (does (Some (instr.Pred low)) self.old code.now limits.now) self.old self.new s) }
+        requires safe { does (Some this) self.old code.now limits.now ≢ Stuck }
+        ensures came { IfOk result (λ s. Came (does (Some this) self.old code.now limits.now) self.old self.new s) }
         ensures same { Stays self.old self.new }
     {
-        self.convert(Conversion::Predecessor(low), code, limits)
+        match this {
+            Instr::Pred(low) => match self.stack.pop() {
+                Some(Operand::Number(n)) => match previous_of(low, n) {
+                    Ok(value) => {
+                        self.stack.push(Operand::Number(value))?;
+                        self.pc += 1;
+                        Ok(None)
+                    }
+                    Err(fault) => {
+                        self.stack.push(Operand::Number(n))?;
+                        Ok(Some(Stop::Fault(fault)))
+                    }
+                },
+                _ => unreachable!(),
+            },
+            // No other instruction comes here.
+            _ => Err(Memory),
+        }
     }
 
     // What an operator makes of two ordinals.

@@ -1,14 +1,13 @@
 //! A process.
 
 ghost use Rattle.std.specs.Prelude.{◌≡◌, ◌≤◌, ◌∷◌, [], IfOk, length, sum};
-ghost use Rattle.sp_base.specs.declared.limits.Limits.{Limits};
-ghost use Rattle.sp_code.specs.Memory.{first, OfBlock};
+ghost use Rattle.sp_code.specs.Memory.{OfBlock};
 ghost use Rattle.sp_code.specs.Machine.{At};
 ghost use Rattle.sp_code.specs.PlainStore.{plain};
 ghost use Rattle.sp_code.specs.Ranks.{IsRanked};
-ghost use Rattle.sp_code.specs.Sound.{HasDistinctBlocks, CanJoin, run_of};
+ghost use Rattle.sp_code.specs.Sound.{HasDistinctBlocks, CanJoin};
 ghost use Rattle.sp_code.specs.System.{entered_now};
-ghost use Rattle.sp_machine.specs.Procs.{config_of, Stays, HaveFormals, CanTurn, IsTurnOf};
+ghost use Rattle.sp_machine.specs.Procs.{config_of, start_of, Stays, HaveFormals, CanTurn, IsTurnOf};
 ghost use Rattle.sp_machine.specs.Answers.{CanResume, resumed};
 
 use crate::frames::{Frame, Frames, Home};
@@ -57,13 +56,14 @@ impl Proc {
     /// Process 0 of a run of the code on an input. It has the frame of the program, and is at its first instruction.
     pub fn root(alloc: Global, code: &Code, input: Arc<Text>) -> Result<Proc, Memory>
         requires { HasDistinctBlocks code.now.layouts }
-        ensures config { IfOk result (λ p. (lim : Limits) → config_of p ≡ first plain (run_of code.now input.value lim)) }
+        ensures config { IfOk result (λ p. config_of p ≡ start_of code.now input.value) }
         ensures same { IfOk result (λ p. (p.number ≡ 0) × (p.input ≡ input)) }
     {
         let state = State::root(alloc, code, input)?;
-        Ok(Proc {
-            state: Box::new(alloc, state)?,
-        })
+        match Proc::boxed(alloc, state) {
+            Ok(proc) => Ok(proc),
+            Err(e) => Err(e),
+        }
     }
 
     /// Its number in the run.
@@ -121,12 +121,23 @@ impl Proc {
     }
 }
 
+impl Proc {
+    /// A process with this state.
+    pub(crate) fn boxed(alloc: Global, state: State) -> Result<Proc, Memory>
+        ensures { IfOk result (λ p. p ≡ state) }
+    {
+        Ok(Proc {
+            state: Box::new(alloc, state)?,
+        })
+    }
+}
+
 impl State {
     /// The state of process 0.
     #[tactic(auto, using(crate::proofs::Finding::few_sizes))]
     fn root(alloc: Global, code: &Code, input: Arc<Text>) -> Result<State, Memory>
         requires { HasDistinctBlocks code.now.layouts }
-        ensures config { IfOk result (λ p. (lim : Limits) → config_of p ≡ first plain (run_of code.now input.value lim)) }
+        ensures config { IfOk result (λ p. config_of p ≡ start_of code.now input.value) }
         ensures same { IfOk result (λ p. (p.number ≡ 0) × (p.input ≡ input)) }
     {
         let _parts = code.parts();

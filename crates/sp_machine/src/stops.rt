@@ -126,9 +126,9 @@ impl State {
         ensures came { IfOk result (λ s. Came (does (Some (instr.Fork table)) self.old code.now limits.now) self.old self.new s) }
         ensures same { Stays self.old self.new }
     {
+        let most = limits.depth;
         match code.table(table) {
             Some(forks) => {
-                let most = limits.depth;
                 if self.depth >= most {
                     return Ok(Some(Stop::Fault(Fault::F11)));
                 }
