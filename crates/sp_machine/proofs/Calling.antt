@@ -1,7 +1,7 @@
 -- A call: its arguments, the new frame, and what the definition makes of it.
-use Rattle.std.proofs.Common.{◌≡◌, ◌≢◌, ℕ, zero, suc, ◌+◌, ◌-◌, ◌≤◌, ◌<◌, List, [], ◌∷◌, ◌++◌, length, take, drop, get_or, replicate, Option, Some, None, Bool, true, false, refl, sym, ap, ◌∙◌, subst, arith, inl, inr, append_assoc, rules}
-use Rattle.std.specs.Prelude.{Result, Ok, Err, IfOk, if◌then◌else◌, reverse, ◌⊎◌, slice_get, nat_lt, nat_le, ◌&&◌, sum, ℤ}
-use Rattle.std.proofs.lemmas.List.{append-nil, reverse-append, drop_all, length-replicate, length-append, length-take-le}
+use Rattle.std.proofs.Common.{◌≡◌, ◌≢◌, ℕ, zero, suc, ◌+◌, ◌≤◌, ◌<◌, List, [], ◌∷◌, ◌++◌, length, take, drop, get_or, replicate, Option, Some, None, Bool, true, false, refl, sym, ap, ◌∙◌, subst, arith, append_assoc}
+use Rattle.std.specs.Prelude.{Result, Ok, Err, IfOk, if◌then◌else◌, reverse, slice_get, nat_lt, nat_le, ◌&&◌, sum}
+use Rattle.std.proofs.lemmas.List.{append-nil, reverse-append, drop_all, length-replicate}
 use Rattle.std.proofs.Math.Seq.{drop-cons}
 use Rattle.std.proofs.lemmas.Bool.{lt-ltb, le-ltb, eqb-true, leb-true}
 use Rattle.std.specs.FinMap as map

@@ -1,6 +1,5 @@
 -- The layout of a block, and the cells of a frame.
-use Rattle.std.proofs.Common.{◌≡◌, ◌≢◌, ℕ, zero, suc, ◌+◌, ◌*◌, ◌≤◌, ◌<◌, List, [], ◌∷◌, ◌++◌, length, take, drop, get_or, Option, Some, None, Bool, true, false, refl, sym, ap, ◌∙◌, subst, arith}
-use Rattle.std.specs.List.{All}
+use Rattle.std.proofs.Common.{◌≡◌, ◌≢◌, ℕ, zero, suc, ◌+◌, ◌≤◌, ◌<◌, List, [], ◌∷◌, length, take, drop, get_or, Option, Some, None, Bool, true, false, refl, sym, ap, ◌∙◌, subst, arith}
 use Rattle.std.proofs.lemmas.List.Elements.{All-get_or}
 use Rattle.std.specs.Prelude.{sum, slice_get, ◌==◌, if◌then◌else◌}
 use Rattle.std.proofs.lemmas.Bool.{eq-eqb, ne_eqb}
@@ -11,7 +10,7 @@ use Rattle.sp_code.specs.declared.code.Parts.{Parts}
 use Rattle.sp_code.specs.Machine.{layout_of}
 use Rattle.sp_code.specs.Sizes.{HasNumbers, KeepsSizes}
 use Rattle.sp_code.specs.Sound.{HasDistinctBlocks}
-use Rattle.sp_machine.specs.Procs.{HaveFormals, BeginsWithFormals, HasRoom}
+use Rattle.sp_machine.specs.Procs.{HaveFormals, HasRoom}
 
 pub layout_here : (ls : List Layout) (b i : ℕ) (l : Layout) → i < length ls → l ≡ get_or ls i l → l.block ≡ b → layout_of (drop i ls) b ≡ Some l
 layout_here [] b i l h e k = absurd (omega (arith, h))

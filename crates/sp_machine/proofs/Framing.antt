@@ -1,6 +1,6 @@
 -- The frames in memory, the newest last, and the frames of the definitions, the newest first.
-use Rattle.std.proofs.Common.{◌≡◌, ℕ, zero, suc, ◌+◌, ◌-◌, ◌<◌, ◌≤◌, List, [], ◌∷◌, ◌++◌, length, take, drop, get_or, refl, sym, ap, ◌∙◌, subst, arith, append_assoc, ◌≢◌}
-use Rattle.std.specs.Prelude.{map, reverse, Option, Some, None, min}
+use Rattle.std.proofs.Common.{◌≡◌, ℕ, zero, suc, ◌+◌, ◌-◌, ◌<◌, ◌≤◌, List, [], ◌∷◌, ◌++◌, length, take, drop, get_or, refl, sym, ap, ◌∙◌, arith, append_assoc, ◌≢◌}
+use Rattle.std.specs.Prelude.{map, reverse, Some, None, min}
 use Rattle.std.proofs.lemmas.Bool.{eq-eqb, ne_eqb}
 use Rattle.sp_cell.specs.declared.spot.Address.{Address}
 use Rattle.std.proofs.lemmas.List.{reverse-append, map-append, length-reverse, length-map, length-drop, take-append-drop, take_more, length-take-le, drop_all, length-append, append-nil, get_or-take, get_or_append_left, get_or-append_right}

@@ -1,11 +1,11 @@
 -- From instructions to a turn.
-use Rattle.std.proofs.Common.{◌≡◌, ◌≢◌, ℕ, zero, suc, ◌+◌, ◌<◌, Bool, true, false, List, Option, Some, None, refl, sym, ap, ◌∙◌, subst, arith}
+use Rattle.std.proofs.Common.{◌≡◌, ◌≢◌, ℕ, zero, suc, ◌<◌, Bool, true, Some, None, refl, sym, ap, ◌∙◌, subst}
 use Rattle.sp_base.specs.declared.fault.Fault.{Fault}
 use Rattle.sp_base.specs.declared.limits.Limits.{Limits}
 use Rattle.sp_cell.specs.Map.{Plain}
 use Rattle.sp_code.specs.declared.code.Parts.{Parts}
 use Rattle.sp_code.specs.Machine as m
-use Rattle.sp_code.specs.Turns.{Turn, Stopped, Faulted, ComesIn, Comes, EndsSo, Runs, Begins, begins, IsTurn, IsSafe}
+use Rattle.sp_code.specs.Turns.{Turn, Stopped, Faulted, ComesIn, EndsSo, Runs, Begins, begins, IsTurn, IsSafe}
 use Rattle.sp_code.specs.Memory.{Memory, memory, Setting}
 use Rattle.sp_code.specs.PlainStore.{plain}
 use Rattle.sp_code.specs.Sound.{run_of}
@@ -16,7 +16,7 @@ use Rattle.sp_code.proofs.Spending.{spends}
 use Rattle.sp_machine.specs.declared.state.State.{State}
 use Rattle.sp_machine.specs.declared.state.Stop.{Stop}
 use Rattle.sp_machine.specs.declared.state.Stop.TheVariants as stop
-use Rattle.sp_machine.specs.Procs.{config_of, setting_of, next_of, Came, StopIs, FaultIs, IsTurnOf, turn_by}
+use Rattle.sp_machine.specs.Procs.{config_of, setting_of, next_of, Came, StopIs, FaultIs, IsTurnOf}
 
 module _ (g : Setting) where
   abbrev ops : m.Ops (Memory Plain)

@@ -1,8 +1,8 @@
 -- Bytes put after the output, one text after another.
-use Rattle.std.proofs.Common.{◌≡◌, ℕ, zero, suc, ◌+◌, ◌≤◌, List, [], ◌∷◌, ◌++◌, length, Option, Some, None, Bool, true, false, refl, sym, ap, ◌∙◌, subst, arith, replicate, append_assoc}
-use Rattle.std.proofs.lemmas.List.{append-nil, length-append}
+use Rattle.std.proofs.Common.{◌≡◌, ℕ, zero, suc, ◌+◌, List, [], ◌∷◌, ◌++◌, length, Option, Some, None, true, refl, sym, ap, ◌∙◌, arith, replicate, append_assoc}
+use Rattle.std.proofs.lemmas.List.{append-nil}
 use Rattle.std.specs.FinMap as map
-use Rattle.sp_cell.specs.Map.{Content, Own, Shared, Output, Away, Map, Plain, with_map, appended, output_of, output_spot, bytes_of}
+use Rattle.sp_cell.specs.Map.{Content, Own, Shared, Output, Away, Plain, with_map, appended, output_of, output_spot, bytes_of}
 use Rattle.sp_cell.specs.Laws.{insert_same, insert_twice, get_here}
 use Rattle.sp_code.specs.Memory.{is_held}
 use Rattle.sp_code.specs.PlainStore.{plain}

@@ -1,5 +1,5 @@
 -- A piece of the process's own is one that is held.
-use Rattle.std.proofs.Common.{◌≡◌, Option, Some, None}
+use Rattle.std.proofs.Common.{Option, Some, None}
 use Rattle.sp_cell.specs.Map.{Content, Own, Shared, Output, Away, IsPiece, IsOwn}
 
 pub own_held : (o : Option Content) → IsOwn o → IsPiece o

@@ -1,6 +1,5 @@
 -- What a process gets that waits at its stop.
-use Rattle.std.specs.Prelude.{ℕ, List, [], ◌∷◌}
-use Rattle.sp_cell.specs.declared.cell.Cell.{Cell}
+use Rattle.std.specs.Prelude.{[], ◌∷◌}
 use Rattle.sp_cell.specs.declared.cell.Cell.TheVariants as cell
 use Rattle.sp_code.specs.Memory.{put_cell, put_cells}
 use Rattle.sp_code.specs.PlainStore.{plain}

@@ -1,5 +1,4 @@
-use Rattle.std.proofs.Common.{◌≡◌, ◌+◌, ◌-◌, ◌≤◌, length, ◌∙◌, sym, ap, subst, arith}
-use Rattle.std.specs.Prelude.{min}
+use Rattle.std.proofs.Common.{◌+◌, ◌-◌, ◌∙◌, sym, ap, arith}
 use Rattle.sp_code.specs.Memory.{last_frames, frames_up}
 use Rattle.sp_machine.specs.Frames.{frame_of}
 use Rattle.sp_machine.proofs.Framing.{up_more}

@@ -1,4 +1,4 @@
-use Rattle.std.proofs.Common.{◌≡◌, sym, subst}
+use Rattle.std.proofs.Common.{sym, subst}
 use Rattle.sp_cell.specs.Map.{HasCells}
 use Rattle.sp_code.specs.Memory.{position_at}
 use Rattle.sp_machine.specs.declared.state.State.{State}

@@ -1,4 +1,4 @@
-use Rattle.std.proofs.Common.{◌≡◌, ℕ, suc, Some, None, sym, ap, refl, subst, ◌∙◌}
+use Rattle.std.proofs.Common.{suc, subst, ◌∙◌}
 use Rattle.sp_machine.specs.Procs.{Came, next_of}
 use Rattle.sp_machine.proofs.Going.{safe_next, on_it, smaller, ends_it}
 use Rattle.sp_machine.proofs.state.State.turn.Goals as goal
