@@ -31,6 +31,8 @@ use Rattle.sp_code.specs.Stands.{Stands, HasFork, HasWords, StandsAt, ChildrenAt
 use Rattle.sp_codegen.specs.Joints.{Joint, sources, machines, from, up_at, HomeIs, Chain}
 use Rattle.sp_tree.specs.Formed.{IsFormed, IsFormedUse, is_parameter, is_answer, among}
 use Rattle.sp_codegen.specs.Executions.{Execution}
+pub use Rattle.sp_codegen.specs.Lives.{Seen}
+pub use Rattle.sp_codegen.specs.Parents.{ChildIs}
 use Rattle.sp_codegen.specs.Relation.{Placed}
 use Rattle.sp_codegen.specs.Standing.{spot_at, HomesAre, Paired}
 use Rattle.sp_codegen.proofs.Joints.{paired_from, last_machines, sources_length}
@@ -42,17 +44,10 @@ use Rattle.sp_codegen.proofs.Follows.{slides, Follows, push_follows}
 -- ---- the code of each child
 
 module _ (p : Program) (moves shares : Stmt → List ℕ) (code : Code) (hush : ℕ → Type 0) (free : Bool) (sc : List Scope) where
-  -- child k of a parallel statement
-  pub record ChildIs (ss : Stmts) (q k : ℕ) (b : Birth) : Type 0 where
-    pub statement : Stmt
-    pub entry : ℕ
-    pub table : slice_get (children_tables p moves shares q ss) k ≡ Some (child_table p moves shares entry None statement)
-    pub birth : b ≡ record { todo = push statement []; index = None }
-    pub body : StandsAt p moves shares (Stands code) (HasFork code) (HasWords code) hush free sc entry statement
-    pub end : slice_get code.instrs (after p entry statement) ≡ Some i.End
-    pub inside : (u : Use) → In_stmt statement u → In_stmts ss u
+  abbrev Is : Stmts → ℕ → ℕ → Birth → Type 0
+  Is ss q k b = ChildIs p moves shares code hush free sc ss q k b
 
-  pub child_is : (ss : Stmts) (q k : ℕ) (b : Birth) → slice_get (children ss) k ≡ Some b → ChildrenAt p moves shares (Stands code) (HasFork code) (HasWords code) hush free sc q ss → ChildIs ss q k b
+  pub child_is : (ss : Stmts) (q k : ℕ) (b : Birth) → slice_get (children ss) k ≡ Some b → ChildrenAt p moves shares (Stands code) (HasFork code) (HasWords code) hush free sc q ss → Is ss q k b
   child_is No q k b e h = absurd (cc e)
   child_is (And st rest) q zero b e h = record { statement = st; entry = q; table = refl; birth = sym (cc e); body = h.0; end = h.1; inside = λ u. inl }
   child_is (And st rest) q (suc k) b e h =
@@ -77,10 +72,6 @@ indexed_is x st low (suc n) (suc k) b e = indexed_is x st (low +ℤ pos 1) n k b
     one_on a k = Prim.grind arith
 
 -- ---- its place
-
--- how many frames stand below that of an index that it uses
-abbrev pub Seen : List Scope → List Joint → Stmt → ℕ → Type 0
-Seen sc js st h = (x : ℕ) × (up : ℕ) × In_stmt st (Sees x) × (level (is_index x) sc ≡ Some up) × ((j : Joint) × (rest : List Joint) × (up_at up js ≡ j ∷ rest) × (length rest ≡ h))
 
 module _ (g : Setting) (W R : Loc → Type 0) (J : ℕ → Type 0) (sc : List Scope) (js : List Joint) (V T : Loc → Type 0) (st : Stmt) (aims : (l : Loc) → Aimed g.program (sources js) st l → V l) (uses : (l : Loc) → Used g.program (sources js) st l → T l) where
   pub child_placed : (ss : Stmts) → Placed g W R J sc js (In_stmt (Parallel ss)) → ((u : Use) → In_stmt st u → In_stmts ss u) → Placed g V T (Seen sc js st) sc js (In_stmt st)

@@ -9,6 +9,7 @@ use Rattle.sp_code.specs.Machine.{Entry, Ops, Config, At, One, Goes, Stops, Fail
 use Rattle.sp_code.specs.Turns.{ComesIn, Comes, IsSafe}
 use Rattle.sp_codegen.specs.Joints.{Joint}
 use Rattle.sp_codegen.specs.Executions.{Execution}
+pub use Rattle.sp_codegen.specs.Meets.{AtEnd}
 use Rattle.sp_codegen.proofs.Turn.{Turned}
 
 module _ {M : Type 0} (ops : Ops M) (code : Code) where
@@ -39,19 +40,6 @@ module _ {M : Type 0} (ops : Ops M) (code : Code) where
 
   pub finishes_safe : (c : Config M) → Finishes c → IsSafe ops code c
   finishes_safe c f b d k x = safe_in f.1.steps k.steps c f.0 d f.1.by f.2 k.by x
-
--- the meaning's turn has ended
-abbrev pub AtEnd : Came source.Stop × Store → Type 0
-AtEnd (Got (source.Paused todo) o, s) = Unit {0}
-AtEnd (Got (source.Stops (Went todo)) o, s) = ⊥
-AtEnd (Got (source.Stops (Beat todo)) o, s) = ⊥
-AtEnd (Got (source.Stops (Opened todo)) o, s) = Unit {0}
-AtEnd (Got (source.Stops (Forked bs todo)) o, s) = Unit {0}
-AtEnd (Got (source.Stops (Offered c k g todo)) o, s) = Unit {0}
-AtEnd (Got (source.Stops Over) o, s) = Unit {0}
-AtEnd (Bad f, s) = Unit {0}
-AtEnd (Lost, s) = ⊥
-AtEnd (Long, s) = ⊥
 
 module _ {M : Type 0} (ex : Execution M) where
   open ex use {code, operations as ops}

@@ -5,3 +5,5 @@ pub mod Executions
 pub mod Following
 pub mod Standing
 pub mod Meets
+pub mod Lives
+pub mod Parents

@@ -1,0 +1,186 @@
+-- A process of a run as data: its name, what its birth gave it, and the numbers of channels and processes. What it may write and read
+-- follows from this; so the laws of its turns can be told of every process, memory and store.
+use Rattle.std.specs.Prelude.{◌≡◌, ◌⊎◌, ℕ, ℤ, suc, ◌+◌, ◌≤◌, ◌==◌, Bool, true, List, [], ◌∷◌, Some, IsSome, slice_get, length}
+use Rattle.std.specs.FinMap as map
+use Rattle.sp_cell.specs.declared.spot.Handing.{Handing}
+use Rattle.sp_cell.specs.declared.spot.Spot.{Spot}
+use Rattle.sp_cell.specs.Fork.{index_frame, moved_of}
+use Rattle.sp_cell.specs.Map.{Plain}
+use Rattle.sp_cell.specs.Spots.{In, NotIn}
+use Rattle.sp_tree.specs.Formed.{IsFormed, IsFormedUse}
+use Rattle.sp_tree.specs.Interference.{IsFreeOfInterference}
+use Rattle.sp_tree.specs.Plain.{Program, Block, Stmt}
+use Rattle.sp_tree.specs.Uses.{Use, Sees, In_stmt}
+use Rattle.sp_meaning.specs.Model.{Name, Channel, same_channel}
+use Rattle.sp_meaning.specs.Own.{Setting, Loc, Cell, OfIndex as Home_of, Frame, Own, Who, Item}
+use Rattle.sp_meaning.specs.Owning.{Aimed, Used}
+use Rattle.sp_meaning.specs.Run.{Store}
+use Rattle.sp_meaning.proofs.Rights.{Mine, All}
+use Rattle.sp_meaning.proofs.Started.{First}
+use Rattle.sp_code.specs.declared.code.Layout.{Layout}
+use Rattle.sp_code.specs.declared.code.Parts.{Parts}
+use Rattle.sp_code.specs.Emitted.{program_code}
+use Rattle.sp_code.specs.declared.instr.Instr.TheVariants as i
+use Rattle.sp_code.specs.Machine.{Entry, Ops, Config, At, outside, layout_of}
+use Rattle.sp_code.specs.Memory.{Memory, memory}
+use Rattle.sp_code.specs.PlainStore.{plain}
+use Rattle.sp_code.specs.Quiet.{IsQuiet}
+use Rattle.sp_code.specs.Scopes.{Scope, level, is_index}
+use Rattle.sp_code.specs.Stands.{IsFine}
+use Rattle.sp_codegen.specs.Executions.{Execution}
+use Rattle.sp_codegen.specs.Following.{Follows}
+use Rattle.sp_codegen.specs.Joints.{Joint, sources, up_at}
+use Rattle.sp_codegen.specs.Meets.{code_run, due_after}
+use Rattle.sp_codegen.specs.Relation.{Relation, Keeps, Placed}
+use Rattle.sp_codegen.specs.Standing.{Stand, relation}
+
+-- a tree that the code of a program may be made of
+pub record IsCompilable (p : Program) (moves shares : Stmt → List ℕ) : Type 0 where
+  pub formed : IsFormed p
+  pub free : IsFreeOfInterference p
+  pub fine : (f q : ℕ) (b : Block) → slice_get p.blocks f ≡ Some b → IsFine p moves shares (IsQuiet p) f q b
+
+-- what a process has beside its own: the first one the input and the output, a child what its statement has to do with in the
+-- frames of its parent. scopes, frames: those in which it begins
+pub data Given : Type 0 where
+  Consoles : Given
+  Handed : (parent : List Joint) (scopes : List Scope) (frames : List Joint) (statement : Stmt) → Given
+
+-- how many frames stand below that of an index that the statement uses
+abbrev pub Seen : List Scope → List Joint → Stmt → ℕ → Type 0
+Seen sc js st h = (x : ℕ) × (up : ℕ) × In_stmt st (Sees x) × (level (is_index x) sc ≡ Some up) × ((j : Joint) × (rest : List Joint) × (up_at up js ≡ j ∷ rest) × (length rest ≡ h))
+
+abbrev pub writes_by : Program → Name → Given → Loc → Type 0
+writes_by p q Consoles l = All First q l
+writes_by p q (Handed older sc js st) l = Mine q l ⊎ Aimed p (sources older) st l
+
+abbrev pub reads_by : Program → Name → Given → Loc → Type 0
+reads_by p q Consoles l = All First q l
+reads_by p q (Handed older sc js st) l = Mine q l ⊎ Used p (sources older) st l
+
+abbrev pub indexes_by : Given → ℕ → Type 0
+indexes_by Consoles h = ⊥
+indexes_by (Handed older sc js st) h = Seen sc js st h
+
+-- channels, processes: by their numbers. low: above the frame numbers that its store knew at its birth; base: how many frames it had
+-- then; born: its depth then; since: its ticks at its last entry; moved: what its fork gave it for its own
+pub record Life : Type 0 where
+  pub who : Who
+  pub given : Given
+  pub channels : List Channel
+  pub processes : List Name
+  pub low : ℕ
+  pub base : ℕ
+  pub born : ℕ
+  pub since : ℕ
+  pub moved : List Spot
+
+-- no channel has two numbers; a process was born above what its store knew, with a frame at least
+pub record IsLife (life : Life) : Type 0 where
+  pub channels : (c d : Channel) (i j : ℕ) → slice_get life.channels i ≡ Some c → slice_get life.channels j ≡ Some d → same_channel c d ≡ (i == j)
+  pub based : 1 ≤ life.base
+  pub low : life.low ≤ life.born + 1
+
+module _ (g : Setting) (moves shares : Stmt → List ℕ) (pause : ℕ) (life : Life) where
+  abbrev pub code_of : Parts
+  code_of = program_code g.program moves shares
+
+  abbrev pub Named : Channel → ℕ → Type 0
+  Named c j = slice_get life.channels j ≡ Some c
+
+  abbrev pub Called : Name → ℕ → Type 0
+  Called q i = slice_get life.processes i ≡ Some q
+
+  abbrev pub Writes : Loc → Type 0
+  Writes l = writes_by g.program life.who.name life.given l
+
+  abbrev pub Reads : Loc → Type 0
+  Reads l = reads_by g.program life.who.name life.given l
+
+  abbrev pub Indexes : ℕ → Type 0
+  Indexes h = indexes_by life.given h
+
+  -- due so many ticks after its last entry
+  abbrev pub due_of : Own → Bool
+  due_of o = due_after life.since pause o
+
+  abbrev pub operations_of : Ops (Memory Plain)
+  operations_of = memory plain (code_run g code_of pause)
+
+  abbrev pub relation_of : Relation (Memory Plain)
+  relation_of = relation g code_of life.who Named Called Writes Reads Indexes life.low life.base life.born life.since pause life.moved
+
+  -- its memory stands for its own part and what it holds of the store
+  abbrev pub Stands : List Joint → Own → Store → Memory Plain → Type 0
+  Stands js o s n = Stand g code_of life.who Named Called Writes Reads Indexes life.low life.base life.born life.since pause life.moved js o s n
+
+  -- what all operations keep, and that a call finds its block
+  pub record Laws : Type 0 where
+    pub keeps : Keeps g life.who due_of Writes Reads Indexes operations_of relation_of
+    pub free : IsFreeOfInterference g.program
+    pub reads_written : (l : Loc) → Writes l → Reads l
+    pub own_written : (n x : ℕ) → Writes (Cell life.who.name n x)
+    pub uses_formed : (f : ℕ) (b : Block) → slice_get g.program.blocks f ≡ Some b → (u : Use) → In_stmt b.body u → IsFormedUse g.program u
+    pub layouts_found : (f : ℕ) (l : Layout) → slice_get code_of.layouts f ≡ Some l → layout_of code_of.layouts f ≡ Some l
+
+  abbrev pub execution_of : Laws → Execution (Memory Plain)
+  execution_of h = record {
+    setting = g;
+    code = code_of;
+    moves = moves;
+    shares = shares;
+    Quiet = IsQuiet g.program;
+    who = life.who;
+    due = due_of;
+    Writes = Writes;
+    Reads = Reads;
+    Indexes = Indexes;
+    operations = operations_of;
+    relation = relation_of;
+    laws = h.keeps;
+    reads_written = h.reads_written;
+    free = h.free;
+    own_written = h.own_written;
+    uses_formed = h.uses_formed;
+    layouts_found = h.layouts_found;
+  }
+
+  -- what stands here may be done in these frames
+  abbrev pub IsPlaced : List Scope → List Joint → (Use → Type 0) → Type 0
+  IsPlaced sc js Here = Placed g Writes Reads Indexes sc js Here
+
+  -- it stands, and its code follows what it has left to do and then comes to the end of a process. No function is being called
+  pub record IsAt (h : Laws) (end : ℕ) (base : List Entry) (below js : List Joint) (todo : List Item) (pc : ℕ) (stack : List Entry) (o : Own) (s : Store) (n : Memory Plain) : Type 0 where
+    pub stands : Stands js o s n
+    pub follows : Follows (execution_of h) end base below pc stack js todo
+    pub ends : slice_get code_of.instrs end ≡ Some i.End
+    pub outer : outside base ≡ true
+
+  -- it is about to begin, with this to do
+  abbrev pub Begins : List Joint → List Item → Own → Store → Config (Memory Plain) → Type 0
+  Begins js todo o s (At pc stack n) = (h : Laws) → (end : ℕ) × IsAt h end [] js js todo pc stack o s n
+
+-- the first process
+abbrev pub first_life : List Channel → List Name → Life
+first_life channels processes = record { who = record { name = []; forks = 0; opens = 0 }; given = Consoles; channels = channels; processes = processes; low = 1; base = 1; born = 0; since = 0; moved = [] }
+
+-- a child that does a statement: older: the frames of its parent; depth: that of its parent
+abbrev pub child_life : Life → Who → (older : List Joint) → List Scope → (frames : List Joint) → Stmt → (depth : ℕ) → Handing → Life
+child_life parent who older scopes frames s depth h =
+    record { who = who; given = Handed older scopes frames s; channels = parent.channels; processes = parent.processes; low = suc (index_frame h); base = length frames; born = depth + 1; since = 0; moved = h.moved }
+
+-- its own part at its birth
+abbrev pub own_at_birth : List Frame → (depth : ℕ) → Own
+own_at_birth frames depth = record { frames = frames; depth = depth + 1; ticks = 0; cells = 0 }
+
+-- its parent has what it hands over
+abbrev pub IsKnown : Memory Plain → Handing → Type 0
+IsKnown n h = (q : Spot) → In q h.moved ⊎ In q h.shared → IsSome (map.get n.store.map q)
+
+-- what moved to children and is not back yet
+abbrev pub IsAway : List Handing → (back : List Spot) → Spot → Type 0
+IsAway hs back q = In q (moved_of hs) × NotIn q back
+
+-- the frame of a forall's index, above these
+abbrev pub index_frame_of : Name → (below : List Joint) → ℕ → ℤ → Frame
+index_frame_of q below x value = record { owner = q; number = length below; home = Home_of x value; link = length below; references = [] }
