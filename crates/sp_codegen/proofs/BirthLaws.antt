@@ -1,13 +1,12 @@
 -- The first process, the children of a fork, and their parent: each stands where it begins, and stands again where it goes on.
-use Rattle.std.proofs.Common.{◌≡◌, ◌≢◌, ◌⊎◌, inl, inr, ℕ, suc, ◌+◌, ◌≤◌, ◌<◌, ℤ, List, [], ◌∷◌, length, Some, None, refl, sym, ap, ◌∙◌, subst, arith, true, ◌++◌}
+use Rattle.std.proofs.Common.{◌≡◌, ◌⊎◌, inl, inr, ℕ, suc, ◌+◌, ◌≤◌, ◌<◌, ℤ, List, [], ◌∷◌, length, Some, None, refl, sym, ap, subst, arith, true, ◌++◌}
 use Rattle.std.specs.Prelude.{◌+ℤ◌, pos, IsSome, slice_get}
 use Rattle.std.specs.FinMap as fin
 use Rattle.sp_tree.specs.declared.checked.Role.TheVariants as role
-use Rattle.sp_tree.specs.Formed.{IsFormed, IsFormedUse}
-use Rattle.sp_tree.specs.Interference.{IsMember}
-use Rattle.sp_tree.specs.Plain.{Program, Variable, Block, Expr, Stmt, Stmts, Parallel, Forall}
+use Rattle.sp_tree.specs.Formed.{IsFormedUse}
+use Rattle.sp_tree.specs.Plain.{Variable, Block, Expr, Stmt, Stmts, Parallel, Forall}
 use Rattle.sp_tree.specs.Sets.{Reach, IsTarget, IsUsed}
-use Rattle.sp_tree.specs.Uses.{Use, Aims, Sees, In_stmt}
+use Rattle.sp_tree.specs.Uses.{Use, Sees, In_stmt}
 use Rattle.sp_cell.specs.declared.spot.Handing.{Handing}
 use Rattle.sp_cell.specs.declared.spot.Spot.{Spot}
 use Rattle.sp_cell.specs.Fork.{index_frame, handed, joined, moved_of, shared_of}
@@ -15,7 +14,7 @@ use Rattle.sp_cell.specs.Map.{Map, Plain, output_spot, with_map}
 use Rattle.sp_cell.specs.Spots.{In, NotIn}
 use Rattle.sp_meaning.specs.Model.{Name, Channel}
 use Rattle.sp_meaning.specs.Own.{Setting, Loc, Cell, Input, Output, Own, Who, Item}
-use Rattle.sp_meaning.specs.Deeds.{Birth, push, children, indexed_children, size_of_frame}
+use Rattle.sp_meaning.specs.Deeds.{Birth, push, size_of_frame}
 use Rattle.sp_meaning.specs.Run.{Store}
 use Rattle.sp_meaning.specs.SuperPascal.{root, first_store}
 use Rattle.sp_code.specs.declared.code.ChildTable.{ChildTable}
@@ -26,19 +25,19 @@ use Rattle.sp_code.specs.Memory.{Memory, first, first_memory, entry_of, position
 use Rattle.sp_code.specs.Places.{after}
 use Rattle.sp_code.specs.PlainStore.{plain}
 use Rattle.sp_code.specs.Quiet.{IsQuiet}
-use Rattle.sp_code.specs.Scopes.{Scope, OfIndex, scopes_of, slot}
+use Rattle.sp_code.specs.Scopes.{Scope, OfIndex, scopes_of}
 use Rattle.sp_code.specs.Shares.{SetsAre}
-use Rattle.sp_code.specs.Stands.{BlockAt, BlocksAt, ChildrenAt, StandsAt, Stands as Instr_at, HasFork, HasWords}
+use Rattle.sp_code.specs.Stands.{BlockAt, BlocksAt, StandsAt, Stands as Instr_at, HasFork, HasWords}
 use Rattle.sp_code.specs.System.{newborn, handing_of}
 use Rattle.sp_code.proofs.Blocks.{blocks_stand, layout_found}
 use Rattle.sp_codegen.specs.Following.{Follows}
 use Rattle.sp_codegen.specs.Joints.{Joint, sources, from}
-use Rattle.sp_codegen.specs.Lives.{IsCompilable, Consoles, Life, IsLife, code_of, Named, Called, Writes, Reads, Indexes, Stands, Laws, execution_of, IsPlaced, IsAt, Begins, first_life, child_life, own_at_birth, IsKnown, IsAway}
+use Rattle.sp_codegen.specs.Lives.{IsCompilable, Life, IsLife, Named, Called, Writes, Reads, Indexes, Stands, Laws, execution_of, IsPlaced, IsAt, Begins, first_life, child_life, own_at_birth, IsKnown, IsAway}
 use Rattle.sp_codegen.specs.Meets.{code_run}
 use Rattle.sp_codegen.specs.Parents.{ChildIs, Joins, GivesBack}
 use Rattle.sp_codegen.specs.Relation.{Placed}
-use Rattle.sp_codegen.specs.Standing.{Live, Stand, spot_at}
-use Rattle.sp_codegen.proofs.Begins.{child_begins, index_child_begins, with_index}
+use Rattle.sp_codegen.specs.Standing.{Stand}
+use Rattle.sp_codegen.proofs.Begins.{child_begins, index_child_begins}
 use Rattle.sp_codegen.proofs.Birth.{low_small}
 use Rattle.sp_codegen.proofs.Born.{child_follows}
 use Rattle.sp_codegen.proofs.Closing.{Laid}
@@ -87,8 +86,16 @@ module _ (g : Setting) (moves shares : Stmt → List ℕ) (pause : ℕ) (tree : 
       entry_is = ap (λ z. entry_of plain (code_run g code pause) z) (layout_found g.program 0 layout.layout layout.at)
 
       go : (h : Laws g moves shares pause (first_life channels processes)) → (end : ℕ) × IsAt g moves shares pause (first_life channels processes) h end [] js js (push b.body []) (entry_of plain (code_run g code pause) (layout_of code.layouts 0)) [] (root g).own (first_store g) (first_memory plain (code_run g code pause) (layout_of code.layouts 0))
-      go h = (end, record { stands = root_stands g code tree.formed laid b eb pause N C called fits; follows = subst (λ z. Follows (execution_of g moves shares pause (first_life channels processes) h) end [] js z [] js (push b.body [])) (sym entry_is)
-          (push_follows (execution_of g moves shares pause (first_life channels processes) h) b.body end [] js (scopes_of g.program 0) layout.layout.entry [] js [] (root_placed g code tree.formed laid b eb pause N C called tree.free) (layout.stands.body true tt) (slides (execution_of g moves shares pause (first_life channels processes) h) end [], refl, refl)); ends = layout.stands.end; outer = refl })
+      go h = (
+        end,
+        record {
+          stands = root_stands g code tree.formed laid b eb pause N C called fits;
+          follows = subst (λ z. Follows (execution_of g moves shares pause (first_life channels processes) h) end [] js z [] js (push b.body [])) (sym entry_is)
+              (push_follows (execution_of g moves shares pause (first_life channels processes) h) b.body end [] js (scopes_of g.program 0) layout.layout.entry [] js [] (root_placed g code tree.formed laid b eb pause N C called tree.free) (layout.stands.body true tt) (slides (execution_of g moves shares pause (first_life channels processes) h) end [], refl, refl));
+          ends = layout.stands.end;
+          outer = refl;
+        },
+      )
 
   -- what is reached from uses that are formed is formed
   reached_formed : (bs : List ℕ) (Here : Use → Type 0) (u : Use) → ((u : Use) → Here u → IsFormedUse g.program u) → Reach g.program Here bs u → IsFormedUse g.program u
@@ -144,8 +151,16 @@ module _ (g : Setting) (moves shares : Stmt → List ℕ) (pause : ℕ) (tree : 
         todo_is = ap (λ (y : Birth). y.todo) z.birth
 
         go : (l : Laws g moves shares pause lf) → (end : ℕ) × IsAt g moves shares pause lf l end [] js js b.todo z.entry [] (own_at_birth o.frames o.depth) s (memory_in (newborn plain (code_run g code pause) (At pc stack n) value number k table))
-        go l = (after g.program z.entry z.statement, record { stands = begun.0; ends = z.end; outer = refl; follows = subst (λ y. Follows (execution_of g moves shares pause lf l) (after g.program z.entry z.statement) [] js z.entry [] js y) (sym todo_is)
-            (child_follows (execution_of g moves shares pause lf l) z.statement sc z.entry (moves z.statement) (shares z.statement) None js begun.1 z.body) })
+        go l = (
+          after g.program z.entry z.statement,
+          record {
+            stands = begun.0;
+            ends = z.end;
+            outer = refl;
+            follows = subst (λ y. Follows (execution_of g moves shares pause lf l) (after g.program z.entry z.statement) [] js z.entry [] js y) (sym todo_is)
+                (child_follows (execution_of g moves shares pause lf l) z.statement sc z.entry (moves z.statement) (shares z.statement) None js begun.1 z.body);
+          },
+        )
 
     -- ---- a child of a forall, with its index
 

@@ -18,7 +18,6 @@ use Rattle.sp_meaning.proofs.Children.{child_sound, index_linked}
 use Rattle.sp_meaning.proofs.Deeding.{element_sound}
 use Rattle.sp_code.specs.declared.code.Layout.{Layout}
 use Rattle.sp_code.specs.declared.code.Parts.{Parts as Code}
-use Rattle.sp_code.specs.declared.instr.Instr.TheVariants as i
 use Rattle.sp_code.specs.Memory.{last_frames}
 use Rattle.sp_code.specs.Memory as m
 use Rattle.sp_code.specs.System.{or_outward, spot_in, spot_from}
@@ -26,7 +25,7 @@ use Rattle.sp_code.specs.Tables.{child_at}
 use Rattle.sp_code.specs.Places.{after}
 use Rattle.sp_code.specs.Scopes.{Scope, level, one_more, is_index, as_list, is_local, frame_of}
 use Rattle.sp_code.specs.Scopes as s
-use Rattle.sp_code.specs.Emitted.{children_tables, child_table}
+use Rattle.sp_code.specs.Emitted.{children_tables}
 use Rattle.sp_code.specs.Stands.{Stands, HasFork, HasWords, StandsAt, ChildrenAt}
 use Rattle.sp_codegen.specs.Joints.{Joint, sources, machines, from, up_at, HomeIs, Chain}
 use Rattle.sp_tree.specs.Formed.{IsFormed, IsFormedUse, is_parameter, is_answer, among}

@@ -1,18 +1,16 @@
 -- The laws of a process of a run: all operations keep that it stands, and its turns end as those of the meaning do.
-use Rattle.std.proofs.Common.{◌≡◌, inl, inr, ℕ, suc, ◌+◌, ◌≤◌, ◌<◌, List, [], ◌∷◌, Some, true, refl, sym, ap, ◌∙◌, subst, arith}
+use Rattle.std.proofs.Common.{◌≡◌, inl, inr, ℕ, suc, ◌+◌, ◌≤◌, ◌<◌, List, Some, refl, arith}
 use Rattle.std.specs.Prelude.{slice_get}
 use Rattle.sp_cell.specs.Map.{Plain}
-use Rattle.sp_tree.specs.Plain.{Block, Stmt}
-use Rattle.sp_meaning.specs.Model.{Name, Channel}
-use Rattle.sp_meaning.specs.Own.{Setting, Loc, Cell, Own, Who, Item, Process, Came, Got, Bad, Lost, Long}
-use Rattle.sp_meaning.specs.Deeds.{Went, Beat, Opened, Forked, Offered, Over, push, size_of_frame}
+use Rattle.sp_tree.specs.Plain.{Stmt}
+use Rattle.sp_meaning.specs.Model.{Name}
+use Rattle.sp_meaning.specs.Own.{Setting, Loc, Cell, Own, Item, Came, Got, Bad, Lost, Long}
+use Rattle.sp_meaning.specs.Deeds.{Went, Beat, Opened, Forked, Offered, Over}
 use Rattle.sp_meaning.specs.Run.{Store, run}
-use Rattle.sp_meaning.specs.SuperPascal.{root, first_store, weight_of}
+use Rattle.sp_meaning.specs.SuperPascal.{weight_of}
 use Rattle.sp_meaning.specs.Turn as source
 use Rattle.sp_meaning.proofs.EnoughSteps.{AllFit, weights, budget}
 use Rattle.sp_code.specs.declared.code.Layout.{Layout}
-use Rattle.sp_code.specs.declared.instr.Instr.TheVariants as i
-use Rattle.sp_code.specs.Emitted.{program_code}
 use Rattle.sp_code.specs.Machine.{Entry, At, layout_of}
 use Rattle.sp_code.specs.Turns.{IsSafe}
 use Rattle.sp_code.specs.Memory.{Memory}

@@ -1,14 +1,12 @@
 -- The output of the system is that of the meaning (`output_is`). Who may write the output holds it, or has handed it to a child that has
 -- not ended; so it is found from the first process downward, and each child has a greater number than its parent.
-use Rattle.std.proofs.Common.{◌≡◌, ◌⊎◌, inl, inr, ⊎_elim, ℕ, zero, suc, ◌+◌, ◌<◌, ◌≤◌, List, [], ◌∷◌, Option, Some, None, Bool, true, false, refl, sym, ap, ◌∙◌, subst, arith}
+use Rattle.std.proofs.Common.{◌≡◌, ◌⊎◌, inl, inr, ⊎_elim, ℕ, zero, suc, ◌+◌, ◌<◌, ◌≤◌, List, [], ◌∷◌, Option, Some, None, true, false, refl, sym, ap, ◌∙◌, subst, arith}
 use Rattle.std.specs.Prelude.{◌≢◌}
 use Rattle.std.specs.FinMap as fin
-use Rattle.sp_journal.specs.declared.entry.Birth.{Birth}
 use Rattle.sp_cell.specs.Map.{Plain, output_of, output_spot}
-use Rattle.sp_meaning.specs.Model.{Name, Condition, Absent, Works, Waits, Joins, Ended}
+use Rattle.sp_meaning.specs.Model.{Name, Condition, Absent, Waits, Joins, Ended}
 use Rattle.sp_meaning.specs.Steps.{has_ended, working_in, Lives as IsLive}
 use Rattle.sp_meaning.specs.Own.{Output, Written, bytes_in, Process}
-use Rattle.sp_meaning.specs.Run.{Store}
 use Rattle.sp_meaning.specs.Runs.{StateOf}
 use Rattle.sp_meaning.specs.Runs as run
 use Rattle.sp_meaning.specs.Along.{Course}
@@ -18,7 +16,7 @@ use Rattle.sp_code.specs.Memory.{Memory}
 use Rattle.sp_code.specs.PlainStore.{plain}
 use Rattle.sp_code.specs.System.{System, OutputIs, store_in, store_of}
 use Rattle.sp_code.specs.System as sys
-use Rattle.sp_link.proofs.Relation.{Ground, Life, Lives, W_of, R_of, Told, Does, Does_all, Linked, run_is}
+use Rattle.sp_link.proofs.Relation.{Ground, Lives, R_of, Told, Does_all, Linked, run_is}
 
 module _ (G : Ground) (lv : Lives G) (c : Course) (s : StateOf G.g) (u : System Plain) (l : Linked G lv c s u) where
   abbrev Found : Type 0
