@@ -1,0 +1,9 @@
+pub mod Sorts
+pub mod Tabled
+pub mod Views
+pub mod Tables
+pub mod Handings
+pub mod Steps
+pub mod Written
+pub mod Puts
+pub mod Generated
