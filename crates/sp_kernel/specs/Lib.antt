@@ -1,0 +1,10 @@
+pub mod Lines
+pub mod Procs
+pub mod Kernels
+pub mod Sends
+pub mod Faults
+pub mod Fits
+pub mod Asks
+pub mod Keeping
+pub mod Works
+pub mod Outputs
