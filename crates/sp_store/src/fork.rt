@@ -3,7 +3,7 @@
 ghost use Rattle.std.specs.Prelude.{◌≡◌, ◌+◌, ◌<◌, IfOk, OnOk, length};
 ghost use Rattle.std.specs.FinMap as map;
 ghost use Rattle.sp_cell.specs.Map.{Shared, IsPiece, cells_at};
-ghost use Rattle.sp_cell.specs.Fork.{lent, away, IsLentAt};
+ghost use Rattle.sp_cell.specs.Fork.{lent, away, index_frame, IsLentAt};
 ghost use Rattle.sp_cell.specs.Spots.{PieceAtEach};
 ghost use Rattle.sp_cell.specs.Frame.{above, frames};
 ghost use Rattle.sp_store.specs.Layout.{content, IsLent, FramesBelow};
@@ -12,7 +12,7 @@ use crate::entry;
 use crate::entry::Entry;
 use crate::slots::Slots;
 use sp_base::Memory;
-use sp_cell::Spot;
+use sp_cell::{Handing, Spot};
 use std::alloc::Global;
 
 /// The least number above every frame.
@@ -28,6 +28,16 @@ pub(crate) fn above_all(spots: &[Spot]) -> u64
         }
     }
     least
+}
+
+/// The number of the frame of a child's index: the least above the frames of all that the child is handed.
+pub fn index_frame(handing: &Handing) -> u64
+    requires { FramesBelow handing.now.moved 18446744073709551615 × FramesBelow handing.now.shared 18446744073709551615 }
+    ensures { result ≡ index_frame handing.now }
+{
+    let moved = above_all(handing.moved.items());
+    let shared = above_all(handing.shared.items());
+    if moved < shared { shared } else { moved }
 }
 
 /// Adds every spot, with nothing there yet.

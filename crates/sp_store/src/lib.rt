@@ -11,4 +11,5 @@ mod send;
 mod slots;
 mod store;
 
+pub use fork::index_frame;
 pub use store::Store;

@@ -280,9 +280,7 @@ impl Store {
         fork::keep_room(&mut slots, handing.moved.items())?;
         fork::lend(alloc, from, ready, &mut slots, handing.shared.items())?;
         if let Some((variable, value)) = handing.index {
-            let moved = fork::above_all(handing.moved.items());
-            let shared = fork::above_all(handing.shared.items());
-            let frame = if moved < shared { shared } else { moved };
+            let frame = fork::index_frame(handing);
             let mut piece = Piece::new(alloc, 1)?;
             piece.write(0, Cell::Ordinal(value));
             slots.insert(Spot { frame, variable }, Entry::Own(piece))?;
