@@ -1,16 +1,17 @@
 //! What follows from the definitions of names and types. These functions do nothing: each one's contract is a law.
 
-ghost use Rattle.std.specs.Prelude.{◌≡◌, ℕ, List, [], Some, length, slice_get};
+ghost use Rattle.std.specs.Prelude.{◌≡◌, ℕ, ◌<◌, List, [], Some, Ok, length, slice_get};
 ghost use Rattle.sp_tree.specs.PlainSyntax.{Program};
 ghost use Rattle.sp_tree.specs.Plain.{Block, Stmt};
 ghost use Rattle.sp_tree.specs.NamedTree.{program_named};
-ghost use Rattle.sp_tree.specs.NameFirst.{names_broken};
+ghost use Rattle.sp_tree.specs.NameFirst.{names_broken, resolved};
 ghost use Rattle.sp_tree.specs.Interference.{IsFreeOfInterference};
-ghost use Rattle.sp_types.specs.TypeFirst.{types_broken};
+ghost use Rattle.sp_types.specs.TypeFirst.{types_broken, typed};
 ghost use Rattle.sp_facts.specs.Earlier.{AreFormedKinds};
 ghost use Rattle.sp_facts.specs.Held.{AreScoped};
 ghost use Rattle.sp_code.specs.Stands.{IsFine};
-ghost use Rattle.sp_tree.specs.PlainChecked.{Program as Checked};
+ghost use Rattle.sp_tree.specs.PlainChecked.{Program as Checked, Block as CheckedBlock};
+ghost use Rattle.sp_tree.specs.PlainNamed.{Program as Named};
 ghost use Rattle.sp_tree.specs.Bare.{bare};
 ghost use Rattle.sp_types.specs.CheckedTree.{program_checked};
 ghost use Rattle.sp_code.specs.Quiet.{IsQuiet};
@@ -31,6 +32,12 @@ pub fn names_are_visible()
 /// Arrays and records are of earlier types, and an array has an element.
 pub fn types_are_formed()
     ensures { (s : Program) → names_broken s ≡ [] → types_broken (program_named s) ≡ [] → AreFormedKinds 0 (tree s).kinds }
+{}
+
+/// In the tree that the phases of names and types give, a block stands in an earlier one.
+pub fn blocks_stand_in_earlier_ones()
+    ensures { (s : Program) (m : Named) (c : Checked) → resolved s ≡ Ok m → typed m ≡ Ok c
+        → (b : ℕ) (k : CheckedBlock) (q : ℕ) → slice_get c.blocks b ≡ Some k → k.parent ≡ Some q → q < b }
 {}
 
 /// A tree that breaks no rule of names and none of interference is free of interference.
