@@ -1,2 +1,10 @@
 pub mod Items
+pub mod Found
+pub mod Gathering
+pub mod Paths
+pub mod Totalling
+pub mod Walking
+pub mod Reaching
 pub mod Words
+pub mod Adding
+pub mod WordChanges

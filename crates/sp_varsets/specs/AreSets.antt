@@ -1,5 +1,5 @@
 -- What the sets of a tree are: exactly the variables that paths of calls reach.
-use Rattle.std.specs.Prelude.{◌≡◌, ◌↔◌, ℕ, ◌<◌, Bool, true, false, get_or, Option, Some, None, slice_get}
+use Rattle.std.specs.Prelude.{◌≡◌, ◌↔◌, ℕ, zero, suc, ◌<◌, Bool, true, false, List, get_or, Option, Some, None, slice_get}
 use Rattle.sp_tree.specs.PlainChecked as p
 use Rattle.sp_tree.specs.Bare.{bare_statement, bare}
 use Rattle.sp_tree.specs.Plain.{Program, Block}
@@ -11,27 +11,32 @@ use Rattle.sp_varsets.specs.declared.var_set.VarSet.{VarSet}
 use Rattle.sp_varsets.specs.Members.{has}
 use Rattle.sp_varsets.specs.Parts.{number_of, IsPart}
 
-abbrev target_index : Option Entry → ℕ
+-- 0 names the empty set, n + 1 the set of place n in the pool
+abbrev pub chosen : List VarSet → VarSet → ℕ → VarSet
+chosen pool nothing zero = nothing
+chosen pool nothing (suc i) = get_or pool i nothing
+
+abbrev pub target_index : Option Entry → ℕ
 target_index None = 0
 target_index (Some e) = e.targets
 
-abbrev expression_index : Option Entry → ℕ
+abbrev pub expression_index : Option Entry → ℕ
 expression_index None = 0
 expression_index (Some e) = e.expressions
 
 -- the targets and the expression variables of a statement, by its number
 unfoldable pub targets_of : Sets → ℕ → VarSet
-targets_of s n = get_or s.pool (target_index (slice_get s.statements n)) s.nothing
+targets_of s n = chosen s.pool s.nothing (target_index (slice_get s.statements n))
 
 unfoldable pub expressions_of : Sets → ℕ → VarSet
-expressions_of s n = get_or s.pool (expression_index (slice_get s.statements n)) s.nothing
+expressions_of s n = chosen s.pool s.nothing (expression_index (slice_get s.statements n))
 
 -- the implicit ones of a block
 unfoldable pub implicit_targets_of : Sets → ℕ → VarSet
-implicit_targets_of s b = get_or s.pool (target_index (slice_get s.blocks b)) s.nothing
+implicit_targets_of s b = chosen s.pool s.nothing (target_index (slice_get s.blocks b))
 
 unfoldable pub implicit_expressions_of : Sets → ℕ → VarSet
-implicit_expressions_of s b = get_or s.pool (expression_index (slice_get s.blocks b)) s.nothing
+implicit_expressions_of s b = chosen s.pool s.nothing (expression_index (slice_get s.blocks b))
 
 -- a call of the block leads to a statement that a function may not have
 unfoldable pub stops_of : Sets → ℕ → Bool

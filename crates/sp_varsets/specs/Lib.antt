@@ -1,3 +1,9 @@
 pub mod Members
 pub mod Parts
 pub mod AreSets
+pub mod Adds
+pub mod Records
+pub mod Walks
+pub mod Paths
+pub mod Bodies
+pub mod Totals

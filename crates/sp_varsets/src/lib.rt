@@ -1,6 +1,6 @@
 //! The variables that statements and blocks use.
 //!
-//! `sets(checked)` gives a `Sets`: for each statement, by its number, its target variables (`targets`) and its
+//! `sets_of(alloc, checked)` gives a `Sets`: for each statement, by its number, its target variables (`targets`) and its
 //! expression variables (`expressions`); for each block, by its number, those of its statement part that neither it
 //! nor a block inside it declares (`implicit_targets`, `implicit_expressions`), followed through calls; and whether a
 //! call of it leads to a statement that a function may not have (`stops`). `AreSets` of `specs/AreSets.antt` says it,
@@ -11,10 +11,19 @@
 //! far a set goes, so that a few windows see it whole.
 #![tactic(auto)]
 
+mod bodies;
+mod closure;
+mod find;
+mod order;
 mod sets;
+mod simple;
+mod totals;
 mod union;
+mod uses;
 mod var_set;
+mod walk;
 
+pub use find::sets_of;
 pub use sets::Sets;
 pub use union::VarUnion;
 pub use var_set::VarSet;

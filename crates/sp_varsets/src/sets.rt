@@ -1,7 +1,7 @@
 //! The sets of a tree.
 
-ghost use Rattle.std.specs.Prelude.{◌≡◌, get_or};
-ghost use Rattle.sp_varsets.specs.AreSets.{targets_of, expressions_of, implicit_targets_of, implicit_expressions_of, stops_of};
+ghost use Rattle.std.specs.Prelude.{◌≡◌};
+ghost use Rattle.sp_varsets.specs.AreSets.{chosen, targets_of, expressions_of, implicit_targets_of, implicit_expressions_of, stops_of};
 
 use crate::var_set::VarSet;
 use sp_base::List;
@@ -24,11 +24,15 @@ pub struct Sets {
 }
 
 impl Sets {
-    #[tactic(auto, using(crate::proofs::Items::read_or, crate::proofs::Items::none_or))]
+    // The set of this index: 0 names the empty set, n + 1 the set of place n in the pool.
+    #[tactic(auto, using(crate::proofs::Items::chosen_none, crate::proofs::Items::chosen_first, crate::proofs::Items::chosen_past))]
     fn pooled(&self, at: u32) -> &VarSet
-        ensures { result.now ≡ get_or self.now.pool at self.now.nothing }
+        ensures { result.now ≡ chosen self.now.pool self.now.nothing at }
     {
-        match self.pool.get(at as usize) {
+        if at == 0 {
+            return &self.nothing;
+        }
+        match self.pool.get(at as usize - 1) {
             Some(set) => set,
             None => &self.nothing,
         }

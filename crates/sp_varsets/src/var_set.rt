@@ -1,9 +1,9 @@
 //! Sets of variables.
 
-ghost use Rattle.std.specs.Prelude.{◌≡◌, ◌↔◌, ℕ, ◌+◌, ◌*◌, ◌^◌, ◌<◌, ◌≤◌, true, false, IsTrue, MatchOption};
+ghost use Rattle.std.specs.Prelude.{◌≡◌, ◌↔◌, ℕ, ◌+◌, ◌*◌, ◌^◌, ◌<◌, ◌≤◌, true, false, not, ◌||◌, ◌&&◌, ◌==◌, IsTrue, IfOk, OnOk, MatchOption, length, get_or};
 ghost use Rattle.sp_varsets.specs.Members.{has, IsNext};
 
-use sp_base::List;
+use sp_base::{List, Memory};
 use std::alloc::Global;
 
 /// A set of variables, by their numbers. Its bits stand in words of 64, none where it is empty.
@@ -98,5 +98,80 @@ impl VarSet {
             }
         }
         None
+    }
+
+    // Whether every variable of the other set is one of this set.
+    pub(crate) fn includes(&self, other: &VarSet) -> bool
+        ensures { IsTrue result ↔ ((x : ℕ) → has other.now x ≡ true → has self.now x ≡ true) }
+    {
+        let others = other.words.items();
+        'words: for k in 0..others.len() {
+            if others[k] & !self.word(k) != 0 {
+                return false;
+            }
+        }
+        true
+    }
+
+    // Puts empty words last until there are so many.
+    fn grow(&mut self, count: usize) -> Result<(), Memory>
+        ensures same { OnOk result ((x : ℕ) → has self.new x ≡ has self.old x) }
+        ensures words { OnOk result (count ≤ length self.new.words) }
+    {
+        'words: for _k in self.words.len()..count {
+            self.words.push(0)?;
+        }
+        Ok(())
+    }
+
+    // Puts the variable in.
+    pub(crate) fn insert(&mut self, variable: u32) -> Result<(), Memory>
+        ensures { OnOk result ((x : ℕ) → has self.new x ≡ (variable == x) || has self.old x) }
+    {
+        let at = (variable / 64) as usize;
+        self.grow(at + 1)?;
+        let word = self.words.items()[at];
+        let _old = self.words.replace(at, word | 1 << (variable % 64));
+        Ok(())
+    }
+
+    // Takes the variable out.
+    pub(crate) fn remove(&mut self, variable: u32)
+        ensures { (x : ℕ) → has self.new x ≡ has self.old x && not (variable == x) }
+    {
+        let at = (variable / 64) as usize;
+        if at < self.words.len() {
+            let word = self.words.items()[at];
+            let _old = self.words.replace(at, word & !(1 << (variable % 64)));
+        }
+    }
+
+    // Puts in the variables of the other set but for the hidden ones, and says whether one of them is new.
+    pub(crate) fn add(&mut self, other: &VarSet, hidden: &VarSet) -> Result<bool, Memory>
+        ensures added { OnOk result ((x : ℕ) → has self.new x ≡ has self.old x || (has other.now x && not (has hidden.now x))) }
+        ensures same { IfOk result (λ changed. changed ≡ false → (x : ℕ) → has self.new x ≡ has self.old x) }
+        ensures changed { IfOk result (λ changed. changed ≡ true → (x : ℕ) × (has self.new x ≡ true) × (has self.old x ≡ false)) }
+    {
+        let others = other.words.items();
+        self.grow(others.len())?;
+        let mut changed = false;
+        'words: for k in 0..others.len() {
+            let word = self.words.items()[k];
+            let more = others[k] & !hidden.word(k) & !word;
+            changed |= more != 0;
+            let _old = self.words.replace(k, word | more);
+        }
+        Ok(changed)
+    }
+
+    // The word of this number, 0 where there is none.
+    #[tactic(auto, using(crate::proofs::Items::read_or, crate::proofs::Items::none_or))]
+    fn word(&self, k: usize) -> u64
+        ensures { result ≡ get_or self.now.words k 0 }
+    {
+        match self.words.get(k) {
+            Some(word) => *word,
+            None => 0,
+        }
     }
 }

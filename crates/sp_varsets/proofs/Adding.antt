@@ -1,0 +1,228 @@
+-- What is added part by part.
+use Rattle.std.proofs.Common.{◌≡◌, ◌↔◌, ◌⊎◌, ℕ, zero, suc, ◌<◌, ◌≤◌, Bool, true, false, not, ◌==◌, ◌||◌, ◌&&◌, List, [], ◌∷◌, map, drop, length, get_or, refl, sym, ap, subst, ◌∙◌, arith, inl, inr, ◌+◌, add-one, Result, Ok, Err, OnOk, eqb-true, eq-eqb}
+use Rattle.sp_tree.specs.declared.checked.Actual.{Actual}
+use Rattle.sp_tree.specs.declared.checked.Selector.{Selector}
+use Rattle.sp_tree.specs.PlainChecked as p
+use Rattle.sp_tree.specs.CheckedOf.{selector_of, selectors, actual_of, actuals}
+use Rattle.sp_tree.specs.Bare.{bare_selectors, bare_actuals}
+use Rattle.sp_tree.specs.Plain.{Actuals, Stmt, Stmts}
+use Rattle.sp_tree.specs.Uses.{Use, Aims, Sees, Runs, Splits, Spreads, Stops, IsOther, In_selectors, In_actuals}
+use Rattle.sp_varsets.specs.declared.uses.Uses.{Uses}
+use Rattle.sp_varsets.specs.declared.var_set.VarSet.{VarSet}
+use Rattle.sp_varsets.specs.Members.{has}
+use Rattle.sp_varsets.specs.Adds.{Adds, AreEmpty, AreUnions, IsUnion, IsWithout, In_selector, In_actual}
+use Rattle.sp_varsets.proofs.Words.{or_in, or_out}
+
+-- a step from A to B, which adds H, and one from B to C, which adds K
+then : {A B C H K : Type 0} → B ↔ (A ⊎ H) → C ↔ (B ⊎ K) → C ↔ (A ⊎ (H ⊎ K))
+then f g = (
+  λ c. elim (g.0 c) [ inl b ↦ elim (f.0 b) [ inl a ↦ inl a | inr h ↦ inr (inl h) ] | inr k ↦ inr (inr k) ],
+  λ s. elim s [ inl a ↦ g.1 (inl (f.1 (inl a))) | inr hk ↦ elim hk [ inl h ↦ g.1 (inl (f.1 (inr h))) | inr k ↦ g.1 (inr k) ] ],
+)
+
+some_of : {A : Type 0} {H K : A → Type 0} → {B C : Type 0} → C ↔ (B ⊎ (((a : A) × H a) ⊎ ((a : A) × K a))) → C ↔ (B ⊎ ((a : A) × (H a ⊎ K a)))
+some_of f = (
+  λ c. elim (f.0 c) [ inl b ↦ inl b | inr s ↦ elim s [ inl h ↦ inr (h.0, inl h.1) | inr k ↦ inr (k.0, inr k.1) ] ],
+  λ s. elim s [ inl b ↦ f.1 (inl b) | inr h ↦ elim h.1 [ inl x ↦ f.1 (inr (inl (h.0, x))) | inr y ↦ f.1 (inr (inr (h.0, y))) ] ],
+)
+
+none_more : {A : Type 0} {H : Type 0} → (H → ⊥) → A ↔ (A ⊎ H)
+none_more n = (λ a. inl a, λ s. elim s [ inl a ↦ a | inr h ↦ absurd (n h) ])
+
+turned : {A B H K : Type 0} → B ↔ (A ⊎ H) → (H → K) → (K → H) → B ↔ (A ⊎ K)
+turned f to from = (
+  λ b. elim (f.0 b) [ inl a ↦ inl a | inr h ↦ inr (to h) ],
+  λ s. elim s [ inl a ↦ f.1 (inl a) | inr k ↦ f.1 (inr (from k)) ],
+)
+
+pub adds_then : {a b c : Uses} {H K : Use → Type 0} → Adds a b H → Adds b c K → Adds a c (λ u. H u ⊎ K u)
+adds_then f g = record {
+  aims = λ x. then (f.aims x) (g.aims x);
+  sees = λ x. then (f.sees x) (g.sees x);
+  runs = λ x. some_of (then (f.runs x) (g.runs x));
+  stops = then f.stops g.stops;
+}
+
+pub adds_nothing : (a : Uses) (H : Use → Type 0) → ((u : Use) → H u → ⊥) → Adds a a H
+adds_nothing a H n = record {
+  aims = λ x. none_more (n (Aims x));
+  sees = λ x. none_more (n (Sees x));
+  runs = λ x. none_more (λ h. n (Runs x h.0) h.1);
+  stops = none_more (n Stops);
+}
+
+pub adds_as : (a b : Uses) (H K : Use → Type 0) → Adds a b H → ((u : Use) → H u → K u) → ((u : Use) → K u → H u) → Adds a b K
+adds_as a b H K f to from = record {
+  aims = λ x. turned (f.aims x) (to (Aims x)) (from (Aims x));
+  sees = λ x. turned (f.sees x) (to (Sees x)) (from (Sees x));
+  runs = λ x. turned (f.runs x) (λ h. (h.0, to (Runs x h.0) h.1)) (λ k. (k.0, from (Runs x k.0) k.1));
+  stops = turned f.stops (to Stops) (from Stops);
+}
+
+-- where the second step may fail
+pub ok_then : {T E : Type 0} (r : Result T E) (a b c : Uses) (H K : Use → Type 0) → Adds a b H → OnOk r (Adds b c K) → OnOk r (Adds a c (λ u. H u ⊎ K u))
+ok_then (Ok v) a b c H K f g = adds_then f g
+ok_then (Err e) a b c H K f g = g
+
+-- one member more
+pub put_in : (old new : VarSet) (v : ℕ) → ((x : ℕ) → has new x ≡ (v == x) || has old x) → (x : ℕ) → (has new x ≡ true) ↔ ((has old x ≡ true) ⊎ (x ≡ v))
+put_in old new v e x = (
+  λ h. elim (or_out (v == x) (has old x) (sym (e x) ∙ h)) [ inl s ↦ inr (sym (eqb-true v x s)) | inr o ↦ inl o ],
+  λ s. elim s [ inl o ↦ e x ∙ or_in (v == x) (has old x) (inr o) | inr i ↦ e x ∙ or_in (v == x) (has old x) (inl (eq-eqb v x (sym i))) ],
+)
+
+pub aimed : (old new : Uses) (v : ℕ) → ((x : ℕ) → has new.aims x ≡ (v == x) || has old.aims x) → new.sees ≡ old.sees → new.runs ≡ old.runs → new.stops ≡ old.stops → Adds old new (λ u. u ≡ Aims v)
+aimed old new v e s r t = record {
+  aims = λ x. turned (put_in old.aims new.aims v e x) (λ i. ap (λ y. Aims y) i) (λ i. cc);
+  sees = λ x. subst (λ z. (has z x ≡ true) ↔ ((has old.sees x ≡ true) ⊎ (Sees x ≡ Aims v))) (sym s) (none_more (λ i. cc));
+  runs = λ x. subst (λ z. (has z x ≡ true) ↔ ((has old.runs x ≡ true) ⊎ ((args : Actuals) × (Runs x args ≡ Aims v)))) (sym r) (none_more (λ i. let e = i.1 in cc));
+  stops = subst (λ z. (has z 0 ≡ true) ↔ ((has old.stops 0 ≡ true) ⊎ (Stops ≡ Aims v))) (sym t) (none_more (λ i. cc));
+}
+
+pub seen : (old new : Uses) (v : ℕ) → ((x : ℕ) → has new.sees x ≡ (v == x) || has old.sees x) → new.aims ≡ old.aims → new.runs ≡ old.runs → new.stops ≡ old.stops → Adds old new (λ u. u ≡ Sees v)
+seen old new v e s r t = record {
+  aims = λ x. subst (λ z. (has z x ≡ true) ↔ ((has old.aims x ≡ true) ⊎ (Aims x ≡ Sees v))) (sym s) (none_more (λ i. cc));
+  sees = λ x. turned (put_in old.sees new.sees v e x) (λ i. ap (λ y. Sees y) i) (λ i. cc);
+  runs = λ x. subst (λ z. (has z x ≡ true) ↔ ((has old.runs x ≡ true) ⊎ ((args : Actuals) × (Runs x args ≡ Sees v)))) (sym r) (none_more (λ i. let e = i.1 in cc));
+  stops = subst (λ z. (has z 0 ≡ true) ↔ ((has old.stops 0 ≡ true) ⊎ (Stops ≡ Sees v))) (sym t) (none_more (λ i. cc));
+}
+
+pub ran : (old new : Uses) (v : ℕ) (args : Actuals) → ((x : ℕ) → has new.runs x ≡ (v == x) || has old.runs x) → new.aims ≡ old.aims → new.sees ≡ old.sees → new.stops ≡ old.stops → Adds old new (λ u. u ≡ Runs v args)
+ran old new v args e s r t = record {
+  aims = λ x. subst (λ z. (has z x ≡ true) ↔ ((has old.aims x ≡ true) ⊎ (Aims x ≡ Runs v args))) (sym s) (none_more (λ i. cc));
+  sees = λ x. subst (λ z. (has z x ≡ true) ↔ ((has old.sees x ≡ true) ⊎ (Sees x ≡ Runs v args))) (sym r) (none_more (λ i. cc));
+  runs = λ x. turned (put_in old.runs new.runs v e x) (λ i. (args, ap (λ y. Runs y args) i)) (λ i. let e = i.1 in cc);
+  stops = subst (λ z. (has z 0 ≡ true) ↔ ((has old.stops 0 ≡ true) ⊎ (Stops ≡ Runs v args))) (sym t) (none_more (λ i. cc));
+}
+
+pub stopped : (old new : Uses) → ((x : ℕ) → has new.stops x ≡ (0 == x) || has old.stops x) → new.aims ≡ old.aims → new.sees ≡ old.sees → new.runs ≡ old.runs → Adds old new (λ u. u ≡ Stops)
+stopped old new e s r t = record {
+  aims = λ x. subst (λ z. (has z x ≡ true) ↔ ((has old.aims x ≡ true) ⊎ (Aims x ≡ Stops))) (sym s) (none_more (λ i. cc));
+  sees = λ x. subst (λ z. (has z x ≡ true) ↔ ((has old.sees x ≡ true) ⊎ (Sees x ≡ Stops))) (sym r) (none_more (λ i. cc));
+  runs = λ x. subst (λ z. (has z x ≡ true) ↔ ((has old.runs x ≡ true) ⊎ ((args : Actuals) × (Runs x args ≡ Stops)))) (sym t) (none_more (λ i. let e = i.1 in cc));
+  stops = turned (put_in old.stops new.stops 0 e 0) (λ i. refl) (λ i. refl);
+}
+
+-- a set and all of another, none of which is hidden
+pub union_is : (old other nothing new : VarSet) → ((x : ℕ) → has nothing x ≡ false) → ((x : ℕ) → has new x ≡ has old x || (has other x && not (has nothing x))) → IsUnion old other new
+union_is old other nothing new none e x = (
+  λ h. or_out (has old x) (has other x) (sym (plain x) ∙ h),
+  λ s. plain x ∙ or_in (has old x) (has other x) s,
+)
+  where
+    shown : (b c : Bool) → c ≡ false → b && not c ≡ b
+    shown true c h = ap not h
+    shown false c h = refl
+
+    plain : (x : ℕ) → has new x ≡ has old x || has other x
+    plain x = e x ∙ ap (λ b. has old x || b) (shown (has other x) (has nothing x) (none x))
+
+pub without_is : (old new : VarSet) (y : ℕ) → ((x : ℕ) → has new x ≡ has old x && not (y == x)) → IsWithout old new y
+without_is old new y e x = (
+  λ h. let b = both (has old x) (y == x) (sym (e x) ∙ h) in (b.0, λ i. b.1 (eq-eqb y x i)),
+  λ s. e x ∙ join (has old x) (y == x) s.0 (λ h. s.1 (eqb-true y x h)),
+)
+  where
+    both : (a b : Bool) → a && not b ≡ true → (a ≡ true) × (b ≡ true → ⊥)
+    both true true h = absurd (let no : false ≡ true = h in cc)
+    both true false h = (refl, λ e. let no : false ≡ true = e in cc)
+    both false b h = absurd (let no : false ≡ true = h in cc)
+
+    join : (a b : Bool) → a ≡ true → (b ≡ true → ⊥) → a && not b ≡ true
+    join true true h n = absurd (n refl)
+    join true false h n = refl
+    join false b h n = absurd (let no : false ≡ true = h in cc)
+
+-- lists, item by item
+selectors_step : (ss : List Selector) (i : ℕ) (s : Selector) → i < length ss → s ≡ get_or ss i s → selectors (map selector_of (drop i ss)) ≡ p.Select (selector_of s) (selectors (map selector_of (drop (suc i) ss)))
+selectors_step [] i s h e = absurd (omega arith)
+selectors_step (t ∷ ss) zero s h e = rw (sym e) refl
+selectors_step (t ∷ ss) (suc i) s h e = selectors_step ss i s (omega arith) e
+
+pub selectors_on : (ss : List Selector) (i : ℕ) (s : Selector) → i < length ss → s ≡ get_or ss i s → selectors (map selector_of (drop i ss)) ≡ p.Select (selector_of s) (selectors (map selector_of (drop (i + 1) ss)))
+selectors_on ss i s h e = subst (λ j. selectors (map selector_of (drop i ss)) ≡ p.Select (selector_of s) (selectors (map selector_of (drop j ss)))) (sym (add-one i)) (selectors_step ss i s h e)
+
+pub selectors_end : (ss : List Selector) (i : ℕ) → length ss ≤ i → selectors (map selector_of (drop i ss)) ≡ p.Whole
+selectors_end [] zero h = refl
+selectors_end [] (suc i) h = refl
+selectors_end (t ∷ ss) zero h = absurd (omega arith)
+selectors_end (t ∷ ss) (suc i) h = selectors_end ss i (omega arith)
+
+actuals_step : (ss : List Actual) (i : ℕ) (s : Actual) → i < length ss → s ≡ get_or ss i s → actuals (map actual_of (drop i ss)) ≡ p.Pass (actual_of s) (actuals (map actual_of (drop (suc i) ss)))
+actuals_step [] i s h e = absurd (omega arith)
+actuals_step (t ∷ ss) zero s h e = rw (sym e) refl
+actuals_step (t ∷ ss) (suc i) s h e = actuals_step ss i s (omega arith) e
+
+pub actuals_on : (ss : List Actual) (i : ℕ) (s : Actual) → i < length ss → s ≡ get_or ss i s → actuals (map actual_of (drop i ss)) ≡ p.Pass (actual_of s) (actuals (map actual_of (drop (i + 1) ss)))
+actuals_on ss i s h e = subst (λ j. actuals (map actual_of (drop i ss)) ≡ p.Pass (actual_of s) (actuals (map actual_of (drop j ss)))) (sym (add-one i)) (actuals_step ss i s h e)
+
+pub actuals_end : (ss : List Actual) (i : ℕ) → length ss ≤ i → actuals (map actual_of (drop i ss)) ≡ p.Nothing
+actuals_end [] zero h = refl
+actuals_end [] (suc i) h = refl
+actuals_end (t ∷ ss) zero h = absurd (omega arith)
+actuals_end (t ∷ ss) (suc i) h = actuals_end ss i (omega arith)
+
+pub select_adds : (a b c : Uses) (s : p.Selector) (rest : p.Selectors) → Adds a b (In_selector s) → Adds b c (In_selectors (bare_selectors rest)) → Adds a c (In_selectors (bare_selectors (p.Select s rest)))
+select_adds a b c (p.Index e) rest f g = adds_then f g
+select_adds a b c (p.Field n) rest f g = adds_as a c _ _ (adds_then f g) (λ u s. elim s [ inl h ↦ absurd h | inr h ↦ h ]) (λ u h. inr h)
+
+pub pass_adds : (a b c : Uses) (s : p.Actual) (rest : p.Actuals) → Adds a b (In_actual s) → Adds b c (In_actuals (bare_actuals rest)) → Adds a c (In_actuals (bare_actuals (p.Pass s rest)))
+pass_adds a b c (p.ByValue e) rest f g = adds_then f g
+pass_adds a b c (p.ByReference v) rest f g = adds_then f g
+
+pub none_in : {X : Type 0} (xs : List X) → length xs ≡ 0 → xs ≡ []
+none_in [] h = refl
+none_in (x ∷ xs) h = absurd (omega arith)
+
+-- what begins empty has what was added
+gathered : (e m : VarSet) (x : ℕ) (H : Type 0) → has e x ≡ false → (has m x ≡ true) ↔ ((has e x ≡ true) ⊎ H) → (has m x ≡ true) ↔ H
+gathered e m x H n f = (
+  λ h. elim (f.0 h) [ inl o ↦ absurd (let no : false ≡ true = sym n ∙ o in cc) | inr k ↦ k ],
+  λ k. f.1 (inr k),
+)
+
+pub record Has (m : Uses) (Here : Use → Type 0) : Type 0 where
+  pub aims : (x : ℕ) → (has m.aims x ≡ true) ↔ Here (Aims x)
+  pub sees : (x : ℕ) → (has m.sees x ≡ true) ↔ Here (Sees x)
+  pub runs : (f : ℕ) → (has m.runs f ≡ true) ↔ ((args : Actuals) × Here (Runs f args))
+  pub stops : (has m.stops 0 ≡ true) ↔ Here Stops
+
+pub from_empty : {e m : Uses} {H : Use → Type 0} → AreEmpty e → Adds e m H → Has m H
+from_empty n f = record {
+  aims = λ x. gathered _ _ x _ (n.aims x) (f.aims x);
+  sees = λ x. gathered _ _ x _ (n.sees x) (f.sees x);
+  runs = λ x. gathered _ _ x _ (n.runs x) (f.runs x);
+  stops = gathered _ _ 0 _ (n.stops 0) f.stops;
+}
+
+joins : {A B C H : Type 0} → C ↔ (A ⊎ B) → B ↔ H → C ↔ (A ⊎ H)
+joins f g = (
+  λ c. elim (f.0 c) [ inl a ↦ inl a | inr b ↦ inr (g.0 b) ],
+  λ s. elim s [ inl a ↦ f.1 (inl a) | inr h ↦ f.1 (inr (g.1 h)) ],
+)
+
+pub merged : {a m b : Uses} {H : Use → Type 0} → Has m H → AreUnions a m b → Adds a b H
+merged f u = record {
+  aims = λ x. joins (u.aims x) (f.aims x);
+  sees = λ x. joins (u.sees x) (f.sees x);
+  runs = λ x. joins (u.runs x) (f.runs x);
+  stops = joins (u.stops 0) f.stops;
+}
+
+pub without : {m k : Uses} {H : Use → Type 0} (y : ℕ) → Has m H → IsWithout m.aims k.aims y → IsWithout m.sees k.sees y → k.runs ≡ m.runs → k.stops ≡ m.stops → Has k (λ u. H u × IsOther y u)
+without {m} {k} {H} y f a s r t = record {
+  aims = λ x. (λ h. let o = (a x).0 h in ((f.aims x).0 o.0, o.1), λ h. (a x).1 ((f.aims x).1 h.0, h.1));
+  sees = λ x. (λ h. let o = (s x).0 h in ((f.sees x).0 o.0, o.1), λ h. (s x).1 ((f.sees x).1 h.0, h.1));
+  runs = λ x. (
+    λ h. let o = (f.runs x).0 (ap (λ z. has z x) (sym r) ∙ h) in (o.0, (o.1, tt)),
+    λ h. ap (λ z. has z x) r ∙ (f.runs x).1 (h.0, h.1.0),
+  );
+  stops = (λ h. (f.stops.0 (ap (λ z. has z 0) (sym t) ∙ h), tt), λ h. ap (λ z. has z 0) t ∙ f.stops.1 h.0);
+}
+
+-- a fork is no use of a variable
+pub splits_add : (a : Uses) (ss : Stmts) → Adds a a (λ u. u ≡ Splits ss)
+splits_add a ss = record { aims = λ x. none_more (λ i. cc); sees = λ x. none_more (λ i. cc); runs = λ x. none_more (λ i. let e = i.1 in cc); stops = none_more (λ i. cc) }
+
+pub spreads_add : (a : Uses) (y : ℕ) (s : Stmt) → Adds a a (λ u. u ≡ Spreads y s)
+spreads_add a y s = record { aims = λ x. none_more (λ i. cc); sees = λ x. none_more (λ i. cc); runs = λ x. none_more (λ i. let e = i.1 in cc); stops = none_more (λ i. cc) }

@@ -1,0 +1,144 @@
+-- What rows lead to is what paths of calls reach.
+use Rattle.std.proofs.Common.{◌≡◌, ◌↔◌, ℕ, zero, suc, ◌<◌, Bool, true, false, not, ◌&&◌, List, [], ◌∷◌, map, length, slice_get, refl, sym, ap, subst, ◌∙◌, arith, inl, inr, Some, None}
+use Rattle.std.proofs.lemmas.Option.{slice_get_within}
+use Rattle.sp_tree.specs.PlainChecked as p
+use Rattle.sp_tree.specs.Bare.{bare_statement, bare_block, bare}
+use Rattle.sp_tree.specs.Plain.{Actuals, Program, Block}
+use Rattle.sp_tree.specs.Uses.{Use, Runs, In_stmt}
+use Rattle.sp_tree.specs.Sets.{IsFree, Passes}
+use Rattle.sp_tree.proofs.Closure.{IsReached}
+use Rattle.sp_tree.proofs.Reached.{OfBlock, IsClosed, all_of_block, step_here, step_call, of_part, from_part}
+use Rattle.sp_varsets.specs.declared.bodies.Bodies.{Bodies}
+use Rattle.sp_varsets.specs.declared.var_set.VarSet.{VarSet}
+use Rattle.sp_varsets.specs.Bodies.{AreBodies, AreDeclared}
+use Rattle.sp_varsets.specs.Paths.{member, Leads, Closes}
+use Rattle.sp_varsets.specs.Records.{pooled}
+use Rattle.sp_varsets.specs.Totals.{IsInTotal}
+use Rattle.sp_varsets.proofs.Paths.{within_rows}
+use Rattle.sp_varsets.proofs.Words.{not_true}
+
+-- items of a mapped list
+pub map_at : {A B : Type 0} (f : A → B) (xs : List A) (i : ℕ) (y : B) → slice_get (map f xs) i ≡ Some y → (x : A) × (slice_get xs i ≡ Some x) × (f x ≡ y)
+map_at f [] i y e = absurd (let no : None ≡ Some y = e in cc)
+map_at f (x ∷ xs) zero y e = (x, refl, let s : Some (f x) ≡ Some y = e in cc)
+map_at f (x ∷ xs) (suc i) y e = map_at f xs i y e
+
+pub at_map : {A B : Type 0} (f : A → B) (xs : List A) (i : ℕ) (x : A) → slice_get xs i ≡ Some x → slice_get (map f xs) i ≡ Some (f x)
+at_map f [] i x e = absurd (let no : None ≡ Some x = e in cc)
+at_map f (y ∷ xs) zero x e = let s : Some y ≡ Some x = e in ap (λ z. Some (f z)) (let t : y ≡ x = cc in t)
+at_map f (y ∷ xs) (suc i) x e = at_map f xs i x e
+
+pub none_map : {A B : Type 0} (f : A → B) (xs : List A) (i : ℕ) → slice_get xs i ≡ None → slice_get (map f xs) i ≡ None
+none_map f [] i e = refl
+none_map f (x ∷ xs) zero e = absurd (let no : Some x ≡ None = e in cc)
+none_map f (x ∷ xs) (suc i) e = none_map f xs i e
+
+pub item_of : {A : Type 0} (xs : List A) (i : ℕ) → i < length xs → (x : A) × (slice_get xs i ≡ Some x)
+item_of [] i h = absurd (omega arith)
+item_of (x ∷ xs) zero h = (x, refl)
+item_of (x ∷ xs) (suc i) h = item_of xs i (omega arith)
+
+pub length_map : {A B : Type 0} (f : A → B) (xs : List A) → length (map f xs) ≡ length xs
+length_map f [] = refl
+length_map f (x ∷ xs) = ap suc (length_map f xs)
+
+module _ (g : Program) (u : Use) (x : ℕ) (rows runs hidden : List VarSet) where
+  -- the rows, the calls and what is hidden are those of the blocks
+  pub record Fits : Type 0 where
+    pub rows_of : (b : ℕ) → member rows b x ≡ true → (k : Block) × (slice_get g.blocks b ≡ Some k) × Passes g b u × In_stmt k.body u
+    pub rows_in : (b : ℕ) (k : Block) → slice_get g.blocks b ≡ Some k → Passes g b u → In_stmt k.body u → member rows b x ≡ true
+    pub runs_of : (b c : ℕ) → member runs b c ≡ true → (k : Block) × (slice_get g.blocks b ≡ Some k) × (args : Actuals) × In_stmt k.body (Runs c args)
+    pub runs_in : (b c : ℕ) (k : Block) (args : Actuals) → slice_get g.blocks b ≡ Some k → In_stmt k.body (Runs c args) → member runs b c ≡ true
+    pub hidden_of : (b : ℕ) (k : Block) → slice_get g.blocks b ≡ Some k → member hidden b x ≡ false → Passes g b u
+    pub hidden_in : (b : ℕ) (k : Block) → slice_get g.blocks b ≡ Some k → Passes g b u → member hidden b x ≡ false
+
+  leads_to : Fits → (cs : List ℕ) (b : ℕ) → Leads rows runs hidden cs b x → OfBlock g b u
+  leads_to f [] b h = let r = f.rows_of b h in step_here g b r.0 u r.1 r.2 r.3
+  leads_to f (c ∷ cs) b (run, hide, l) = let r = f.runs_of b c run in step_call g b c r.0 r.2 u r.1 (f.hidden_of b r.0 r.1 hide) r.3 (leads_to f cs c l)
+
+  abbrev Claim : ℕ → Use → Type 0
+  Claim b v = v ≡ u → (cs : List ℕ) × Leads rows runs hidden cs b x
+
+  claims_closed : Fits → IsClosed g Claim
+  claims_closed f b k e v passes = (
+    λ h i. ([], f.rows_in b k e (subst (λ w. Passes g b w) i passes) (subst (λ w. In_stmt k.body w) i h)),
+    λ c args h claim i. let l = claim i in (c ∷ l.0, (f.runs_in b c k args e h, f.hidden_in b k e (subst (λ w. Passes g b w) i passes), l.1)),
+  )
+
+  to_leads : Fits → (b : ℕ) → OfBlock g b u → (cs : List ℕ) × Leads rows runs hidden cs b x
+  to_leads f b o = all_of_block g Claim (claims_closed f) b u o refl
+
+  pub closed_is : Fits → (new : List VarSet) → Closes runs hidden rows new → (b : ℕ) → (member new b x ≡ true) ↔ OfBlock g b u
+  closed_is f new c b = (
+    λ h. let l = (c.members b x).0 h in leads_to f l.0 b l.1,
+    λ o. (c.members b x).1 (to_leads f b o),
+  )
+
+-- what is declared and what is free
+pub free_of : (g : Program) (rows : List VarSet) (b x : ℕ) → AreDeclared g rows (length g.variables) → b < length g.blocks → member rows b x ≡ false → IsFree g b x
+free_of g rows b x d within h i e n below =
+    let yes = (d.members b x within).1 (slice_get_within g.variables x i e, (i, e, n, below)) in
+    let no : false ≡ true = sym h ∙ yes in cc
+
+pub free_in : (g : Program) (rows : List VarSet) (b x : ℕ) → AreDeclared g rows (length g.variables) → b < length g.blocks → IsFree g b x → member rows b x ≡ false
+free_in g rows b x d within f = not_true (member rows b x) (λ h. let m = (d.members b x within).0 h in f m.1.0 m.1.1 m.1.2 m.1.3)
+
+both : (a b : Bool) → a && not b ≡ true → (a ≡ true) × (b ≡ false)
+both true true h = absurd (let no : false ≡ true = h in cc)
+both true false h = (refl, refl)
+both false b h = absurd (let no : false ≡ true = h in cc)
+
+join : (a b : Bool) → a ≡ true → b ≡ false → a && not b ≡ true
+join true true h n = absurd (let no : true ≡ false = n in cc)
+join true false h n = refl
+join false b h n = absurd (let no : false ≡ true = h in cc)
+
+module _ (c : p.Program) (bodies : Bodies) (hidden rows own : List VarSet) (u : Use) (x : ℕ) where
+  -- rows of what stands in the blocks' own statement parts
+  pub fits : AreBodies c.blocks bodies (length c.blocks)
+      → length own ≡ length c.blocks
+      → ((b : ℕ) (k : p.Block) → slice_get c.blocks b ≡ Some k → (member own b x ≡ true) ↔ In_stmt (bare_statement k.body) u)
+      → ((b : ℕ) → member rows b x ≡ member own b x && not (member hidden b x))
+      → ((b : ℕ) → b < length c.blocks → member hidden b x ≡ false → Passes (bare c) b u)
+      → ((b : ℕ) → b < length c.blocks → Passes (bare c) b u → member hidden b x ≡ false)
+      → Fits (bare c) u x rows bodies.runs hidden
+  fits bs count own_is shown passes hides = record {
+    rows_of = λ b h.
+        let s = both (member own b x) (member hidden b x) (sym (shown b) ∙ h) in
+        let inside : b < length c.blocks = subst (λ n. b < n) count (within_rows own b x s.0) in
+        let k = item_of c.blocks b inside in
+        (bare_block k.0, at_map bare_block c.blocks b k.0 k.1, passes b inside s.1, (own_is b k.0 k.1).0 s.0);
+    rows_in = λ b k e f h.
+        let m = map_at bare_block c.blocks b k e in
+        let inside : b < length c.blocks = slice_get_within c.blocks b m.0 m.1 in
+        shown b ∙ join (member own b x) (member hidden b x) ((own_is b m.0 m.1).1 (subst (λ (z : Block). In_stmt z.body u) (sym m.2) h)) (hides b inside f);
+    runs_of = λ b f h.
+        let inside : b < length c.blocks = subst (λ n. b < n) bs.runs (within_rows bodies.runs b f h) in
+        let k = item_of c.blocks b inside in
+        let at = bs.each b k.0 inside k.1 in
+        let r = (at.runs f).0 h in
+        (bare_block k.0, at_map bare_block c.blocks b k.0 k.1, r.0, r.1);
+    runs_in = λ b f k args e h.
+        let m = map_at bare_block c.blocks b k e in
+        let inside : b < length c.blocks = slice_get_within c.blocks b m.0 m.1 in
+        let at = bs.each b m.0 inside m.1 in
+        (at.runs f).1 (args, subst (λ (z : Block). In_stmt z.body (Runs f args)) (sym m.2) h);
+    hidden_of = λ b k e h. let m = map_at bare_block c.blocks b k e in passes b (slice_get_within c.blocks b m.0 m.1) h;
+    hidden_in = λ b k e f. let m = map_at bare_block c.blocks b k e in hides b (slice_get_within c.blocks b m.0 m.1) f;
+  }
+
+-- the set of a part, from what stands in it and the rows of the blocks that it calls
+pub total_is : (g : Program) (Here : Use → Type 0) (u : Use) (pool rows : List VarSet) (own runs x : ℕ)
+    → ((pooled pool own x ≡ true) ↔ Here u) → ((f : ℕ) → (pooled pool runs f ≡ true) ↔ ((args : Actuals) × Here (Runs f args)))
+    → ((f : ℕ) → (member rows f x ≡ true) ↔ OfBlock g f u)
+    → IsInTotal pool rows own runs x ↔ IsReached g Here u
+total_is g Here u pool rows own runs x here calls reach = (
+  λ h. elim h [
+    | inl o ↦ from_part g Here u (inl (here.0 o))
+    | inr t ↦ (let a = (calls t.0).0 t.1 in from_part g Here u (inr (t.0, a.0, a.1, (reach t.0).0 t.2)))
+  ],
+  λ r. elim (of_part g Here u r) [
+    | inl h ↦ inl (here.1 h)
+    | inr t ↦ inr (t.0, (calls t.0).1 (t.1, t.2), (reach t.0).1 t.3)
+  ],
+)

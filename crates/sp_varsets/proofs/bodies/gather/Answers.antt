@@ -1,0 +1,18 @@
+use Rattle.std.proofs.Common.{map}
+use Rattle.sp_tree.specs.CheckedOf.{block_of}
+use Rattle.sp_varsets.proofs.Adding.{from_empty}
+use Rattle.sp_varsets.proofs.Gathering.{bodies_more, block_at, blocks_on, blocks_end}
+use Rattle.sp_varsets.proofs.Walking.{writes_then, writes_none}
+use Rattle.sp_varsets.proofs.bodies.gather.Goals as goal
+
+pub loop-block-preserved : goal.loop-block-preserved
+loop-block-preserved c =
+    let w = c.in_ok-statement.ensures in (
+      bodies_more (map block_of c.args.blocks.now) c.loop-block.bodies c.put.new.self c.statement.new.into (block_of c.block-item.result) c.loop-block.block-index c.loop-block.invariant.0
+          (block_at c.args.blocks.now c.loop-block.block-index c.block-item.result c.loop-block-test.true c.block-item.is)
+          c.in_ok-put.ensures.aims c.in_ok-put.ensures.sees c.in_ok-put.ensures.runs c.in_ok-put.ensures.stops (from_empty c.new-uses.ensures w.adds),
+      λ v f. c.loop-block.invariant.1 v (rw (blocks_on c.args.blocks.now c.loop-block.block-index c.block-item.result c.loop-block-test.true c.block-item.is) (writes_then w.writes f)),
+    )
+
+pub returns-clause-walk : goal.returns-clause-walk
+returns-clause-walk c = c.loop-block.invariant.1 c.loop-block.walk (rw (blocks_end c.args.blocks.now c.loop-block.block-index c.loop-block-test.false) (writes_none c.loop-block.walk (λ t. ⊥) (λ t h. h)))

@@ -1,0 +1,5 @@
+use Rattle.sp_varsets.specs.Totals.{AreRowEntries}
+use Rattle.sp_varsets.proofs.totals.row_entries.Given as goal
+
+abbrev pub invariant-rows : goal.invariant-rows
+invariant-rows l = AreRowEntries l.fn.walk.pool l.walk.pool l.targets l.seen l.entries l.b

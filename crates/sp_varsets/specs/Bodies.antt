@@ -1,0 +1,45 @@
+-- What stands in the statement parts of blocks, and what blocks declare.
+use Rattle.std.specs.Prelude.{◌≡◌, ◌↔◌, ◌⊎◌, ℕ, ◌<◌, true, List, [], ◌∷◌, length, Some, slice_get}
+use Rattle.sp_tree.specs.PlainChecked as p
+use Rattle.sp_tree.specs.Bare.{bare_statement}
+use Rattle.sp_tree.specs.Plain.{Actuals, Program, Variable}
+use Rattle.sp_tree.specs.Uses.{Use, Aims, Sees, Runs, Stops, In_stmt}
+use Rattle.sp_tree.specs.Sets.{IsBelow}
+use Rattle.sp_varsets.specs.declared.bodies.Bodies.{Bodies}
+use Rattle.sp_varsets.specs.declared.var_set.VarSet.{VarSet}
+use Rattle.sp_varsets.specs.Parts.{IsPart}
+use Rattle.sp_varsets.specs.Paths.{member}
+
+-- the statement stands in the statement part of one of the blocks
+abbrev pub IsInBlocks : List p.Block → p.Statement → Type 0
+IsInBlocks [] t = ⊥
+IsInBlocks (k ∷ ks) t = IsPart t k.body ⊎ IsInBlocks ks t
+
+-- the rows of this block have what stands here
+pub record BodyAt (bodies : Bodies) (b : ℕ) (Here : Use → Type 0) : Type 0 where
+  pub aims : (x : ℕ) → (member bodies.aims b x ≡ true) ↔ Here (Aims x)
+  pub sees : (x : ℕ) → (member bodies.sees b x ≡ true) ↔ Here (Sees x)
+  pub runs : (f : ℕ) → (member bodies.runs b f ≡ true) ↔ ((args : Actuals) × Here (Runs f args))
+  pub stops : (member bodies.stops b 0 ≡ true) ↔ Here Stops
+
+-- there is a row for each of the first n blocks
+pub record AreBodies (blocks : List p.Block) (bodies : Bodies) (n : ℕ) : Type 0 where
+  pub aims : length bodies.aims ≡ n
+  pub sees : length bodies.sees ≡ n
+  pub runs : length bodies.runs ≡ n
+  pub stops : length bodies.stops ≡ n
+  pub each : (b : ℕ) (k : p.Block) → b < n → slice_get blocks b ≡ Some k → BodyAt bodies b (In_stmt (bare_statement k.body))
+
+-- the variable is declared in the block or in one inside it
+abbrev pub IsDeclaredIn : Program → ℕ → ℕ → Type 0
+IsDeclaredIn g b x = (i : Variable) × (slice_get g.variables x ≡ Some i) × (n : ℕ) × IsBelow g n i.block b
+
+-- a variable of one block was put into the rows of it and of those around it
+pub record Declares (g : Program) (old new : List VarSet) (x c : ℕ) : Type 0 where
+  pub rows : length new ≡ length old
+  pub members : (b y : ℕ) → (member new b y ≡ true) ↔ ((member old b y ≡ true) ⊎ ((y ≡ x) × (b < length old) × (n : ℕ) × IsBelow g n c b))
+
+-- each row has what its block declares, of the variables below a number
+pub record AreDeclared (g : Program) (rows : List VarSet) (n : ℕ) : Type 0 where
+  pub count : length rows ≡ length g.blocks
+  pub members : (b x : ℕ) → b < length g.blocks → (member rows b x ≡ true) ↔ ((x < n) × IsDeclaredIn g b x)

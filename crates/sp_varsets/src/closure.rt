@@ -1,0 +1,130 @@
+//! What calls carry from block to block.
+
+ghost use Rattle.std.specs.Prelude.{◌≡◌, ℕ, ◌^◌, ◌<◌, ◌≤◌, true, false, not, ◌||◌, ◌&&◌, OnOk, IfOk, length};
+ghost use Rattle.sp_varsets.specs.Members.{has};
+ghost use Rattle.sp_varsets.specs.Paths.{member, Follows, Carried, Visited, Swept, Closes};
+
+use crate::var_set::VarSet;
+use sp_base::{List, Memory};
+
+// Adds to a row that of another block.
+pub(crate) fn add_row(
+    row: &mut VarSet,
+    rows: &[VarSet],
+    from: usize,
+    hidden: &VarSet,
+) -> Result<bool, Memory>
+    ensures added { OnOk result ((x : ℕ) → has row.new x ≡ has row.old x || (member rows.now from x && not (has hidden.now x))) }
+    ensures same { IfOk result (λ changed. changed ≡ false → (x : ℕ) → has row.new x ≡ has row.old x) }
+    ensures changed { IfOk result (λ changed. changed ≡ true → (x : ℕ) × (has row.new x ≡ true) × (has row.old x ≡ false)) }
+{
+    match rows.get(from) {
+        Some(other) => {
+            let changed = row.add(other, hidden)?;
+            Ok(changed)
+        }
+        None => Ok(false),
+    }
+}
+
+// Adds to the row of one block that of a block that it calls, and says whether it grew.
+fn carry(rows: &mut List<VarSet>, to: usize, from: usize, hidden: &VarSet) -> Result<bool, Memory>
+    requires { to < length rows.old }
+    ensures { IfOk result (λ changed. Carried rows.old rows.new to from hidden.now changed) }
+{
+    if from == to {
+        return Ok(false);
+    }
+    let empty = VarSet::new(rows.alloc());
+    let mut row = rows.replace(to, empty);
+    let changed = add_row(&mut row, rows.items(), from, hidden)?;
+    let _empty = rows.replace(to, row);
+    Ok(changed)
+}
+
+// Adds to the row of a block those of all blocks that it calls, and says whether it grew.
+fn visit(rows: &mut List<VarSet>, b: usize, runs: &VarSet, hidden: &VarSet) -> Result<bool, Memory>
+    requires { b < length rows.old }
+    ensures { IfOk result (λ changed. Visited rows.old rows.new b runs.now hidden.now (2 ^ 32) changed) }
+{
+    let mut changed = false;
+    let mut from = 0u64;
+    'calls: while from < 4_294_967_296 {
+        let f = match runs.next(from as u32) {
+            Some(f) => f,
+            None => return Ok(changed),
+        };
+        changed |= carry(rows, b, f as usize, hidden)?;
+        from = f as u64 + 1;
+    }
+    Ok(changed)
+}
+
+// Visits all blocks in order of their numbers, and says whether a row grew.
+fn sweep(rows: &mut List<VarSet>, runs: &[VarSet], hidden: &[VarSet]) -> Result<bool, Memory>
+    requires runs { length runs.now ≡ length rows.old }
+    requires hidden { length hidden.now ≡ length rows.old }
+    requires small { length rows.old ≤ 2 ^ 32 }
+    ensures { IfOk result (λ changed. Swept runs.now hidden.now rows.old rows.new (length rows.old) changed) }
+{
+    let mut changed = false;
+    'rows: for b in 0..rows.len() {
+        changed |= visit(rows, b, &runs[b], &hidden[b])?;
+    }
+    Ok(changed)
+}
+
+// Visits one block.
+fn visit_one(
+    rows: &mut List<VarSet>,
+    b: usize,
+    runs: &[VarSet],
+    hidden: &[VarSet],
+) -> Result<(), Memory>
+    requires runs { length runs.now ≡ length rows.old }
+    requires hidden { length hidden.now ≡ length rows.old }
+    ensures { OnOk result (Follows runs.now hidden.now rows.old rows.new) }
+{
+    if b >= rows.len() {
+        return Ok(());
+    }
+    let _grew = visit(rows, b, &runs[b], &hidden[b])?;
+    Ok(())
+}
+
+// Visits the blocks in the order that carries the most.
+fn hurry(
+    rows: &mut List<VarSet>,
+    order: &[u32],
+    runs: &[VarSet],
+    hidden: &[VarSet],
+) -> Result<(), Memory>
+    requires runs { length runs.now ≡ length rows.old }
+    requires hidden { length hidden.now ≡ length rows.old }
+    ensures { OnOk result (Follows runs.now hidden.now rows.old rows.new) }
+{
+    'steps: for block in order {
+        visit_one(rows, *block as usize, runs, hidden)?;
+    }
+    Ok(())
+}
+
+/// Adds to each row what paths of calls lead to. Each sweep but the last makes a row grow.
+pub(crate) fn close(
+    rows: &mut List<VarSet>,
+    order: &[u32],
+    runs: &[VarSet],
+    hidden: &[VarSet],
+) -> Result<(), Memory>
+    requires runs { length runs.now ≡ length rows.old }
+    requires hidden { length hidden.now ≡ length rows.old }
+    requires small { length rows.old ≤ 2 ^ 32 }
+    ensures { OnOk result (Closes runs.now hidden.now rows.old rows.new) }
+{
+    'sweeps: loop {
+        hurry(rows, order, runs, hidden)?;
+        if !sweep(rows, runs, hidden)? {
+            return Ok(());
+        }
+    }
+}

@@ -1,0 +1,100 @@
+//! What stands in the statements that have no others inside them.
+
+ghost use Rattle.std.specs.Prelude.{◌≡◌, ℕ, List, OnOk, map};
+ghost use Rattle.sp_tree.specs.Bare.{bare_expression, bare_variable, bare_actuals, bare_width};
+ghost use Rattle.sp_tree.specs.CheckedOf.{expression_of, variable_of, actual_of, actuals, width_of};
+ghost use Rattle.sp_tree.specs.Plain.{Assign, Call, ReadValue, ReadLine, WriteValue, WriteText, WriteLine, Open, Send, Receive};
+ghost use Rattle.sp_tree.specs.Uses.{In_stmt};
+ghost use Rattle.sp_varsets.specs.Adds.{Adds};
+
+use crate::uses::Uses;
+use sp_base::Memory;
+use sp_tree::{Actual, Expr, Var};
+
+impl Uses {
+    pub(crate) fn assign(&mut self, v: &Var, e: &Expr) -> Result<(), Memory>
+        ensures { OnOk result (Adds self.old self.new (In_stmt (Assign (bare_variable (variable_of v.now)) (bare_expression (expression_of e.now))))) }
+    {
+        self.target(v)?;
+        self.expression(e)?;
+        Ok(())
+    }
+
+    pub(crate) fn call(&mut self, block: u32, args: &[Actual]) -> Result<(), Memory>
+        ensures { OnOk result (Adds self.old self.new (In_stmt (Call block (bare_actuals (actuals (map actual_of args.now)))))) }
+    {
+        self.run(block)?;
+        self.actuals(args)?;
+        Ok(())
+    }
+
+    pub(crate) fn read_value(&mut self, v: &Var) -> Result<(), Memory>
+        ensures { OnOk result (Adds self.old self.new (In_stmt (ReadValue (bare_variable (variable_of v.now))))) }
+    {
+        self.aim(0)?;
+        self.target(v)?;
+        self.stop()?;
+        Ok(())
+    }
+
+    pub(crate) fn read_line(&mut self) -> Result<(), Memory>
+        ensures { OnOk result (Adds self.old self.new (In_stmt ReadLine)) }
+    {
+        self.aim(0)?;
+        self.stop()?;
+        Ok(())
+    }
+
+    pub(crate) fn write_value(&mut self, e: &Expr, w: &Option<Expr>) -> Result<(), Memory>
+        ensures { OnOk result (Adds self.old self.new (In_stmt (WriteValue (bare_expression (expression_of e.now)) (bare_width (width_of w.now))))) }
+    {
+        self.aim(1)?;
+        self.expression(e)?;
+        self.width(w)?;
+        self.stop()?;
+        Ok(())
+    }
+
+    pub(crate) fn write_text(&mut self, w: &Option<Expr>) -> Result<(), Memory>
+        ensures { OnOk result ((text : List ℕ) → Adds self.old self.new (In_stmt (WriteText text (bare_width (width_of w.now))))) }
+    {
+        self.aim(1)?;
+        self.width(w)?;
+        self.stop()?;
+        Ok(())
+    }
+
+    pub(crate) fn write_line(&mut self) -> Result<(), Memory>
+        ensures { OnOk result (Adds self.old self.new (In_stmt WriteLine)) }
+    {
+        self.aim(1)?;
+        self.stop()?;
+        Ok(())
+    }
+
+    pub(crate) fn open(&mut self, v: &Var) -> Result<(), Memory>
+        ensures { OnOk result (Adds self.old self.new (In_stmt (Open (bare_variable (variable_of v.now))))) }
+    {
+        self.target(v)?;
+        self.stop()?;
+        Ok(())
+    }
+
+    pub(crate) fn send(&mut self, c: &Expr, e: &Expr) -> Result<(), Memory>
+        ensures { OnOk result (Adds self.old self.new (In_stmt (Send (bare_expression (expression_of c.now)) (bare_expression (expression_of e.now))))) }
+    {
+        self.expression(c)?;
+        self.expression(e)?;
+        self.stop()?;
+        Ok(())
+    }
+
+    pub(crate) fn receive(&mut self, c: &Expr, variable: &Var) -> Result<(), Memory>
+        ensures { OnOk result (Adds self.old self.new (In_stmt (Receive (bare_expression (expression_of c.now)) (bare_variable (variable_of variable.now))))) }
+    {
+        self.expression(c)?;
+        self.target(variable)?;
+        self.stop()?;
+        Ok(())
+    }
+}

@@ -1,0 +1,182 @@
+//! What stands in expressions, variables and arguments.
+
+ghost use Rattle.std.specs.Prelude.{◌≡◌, ℕ, false, OnOk, map};
+ghost use Rattle.sp_tree.specs.Bare.{bare_expression, bare_form, bare_variable, bare_selectors, bare_actuals, bare_width};
+ghost use Rattle.sp_tree.specs.CheckedOf.{expression_of, expression_form_of, variable_of, selector_of, selectors, actual_of, actuals, width_of};
+ghost use Rattle.sp_tree.specs.Plain.{Actuals};
+ghost use Rattle.sp_tree.specs.Uses.{Aims, Sees, Runs, Stops, In_expr, In_form, In_read, In_target, In_selectors, In_actuals, In_width};
+ghost use Rattle.sp_varsets.specs.Adds.{Adds, AreEmpty, AreUnions, IsWithout, In_selector, In_actual};
+ghost use Rattle.sp_varsets.specs.Members.{has};
+
+use crate::var_set::VarSet;
+use sp_base::Memory;
+use sp_tree::{Actual, Expr, ExprForm, Selector, Var};
+use std::alloc::Global;
+
+/// What stands in a part of a tree: the variables of target positions and of expression positions, and the blocks
+/// that are called. `stops` has 0 where a statement stands there that a function may not have.
+#[derive(Drop)]
+pub(crate) struct Uses {
+    pub aims: VarSet,
+    pub sees: VarSet,
+    pub runs: VarSet,
+    pub stops: VarSet,
+}
+
+impl Uses {
+    pub(crate) fn new(alloc: Global) -> Uses
+        ensures { AreEmpty result }
+    {
+        Uses {
+            aims: VarSet::new(alloc),
+            sees: VarSet::new(alloc),
+            runs: VarSet::new(alloc),
+            stops: VarSet::new(alloc),
+        }
+    }
+
+    #[tactic(auto, using(crate::proofs::Adding::aimed))]
+    pub(crate) fn aim(&mut self, variable: u32) -> Result<(), Memory>
+        ensures { OnOk result (Adds self.old self.new (λ u. u ≡ Aims variable)) }
+    {
+        self.aims.insert(variable)
+    }
+
+    #[tactic(auto, using(crate::proofs::Adding::seen))]
+    pub(crate) fn see(&mut self, variable: u32) -> Result<(), Memory>
+        ensures { OnOk result (Adds self.old self.new (λ u. u ≡ Sees variable)) }
+    {
+        self.sees.insert(variable)
+    }
+
+    pub(crate) fn run(&mut self, block: u32) -> Result<(), Memory>
+        ensures { OnOk result ((args : Actuals) → Adds self.old self.new (λ u. u ≡ Runs block args)) }
+    {
+        self.runs.insert(block)
+    }
+
+    #[tactic(auto, using(crate::proofs::Adding::stopped))]
+    pub(crate) fn stop(&mut self) -> Result<(), Memory>
+        ensures { OnOk result (Adds self.old self.new (λ u. u ≡ Stops)) }
+    {
+        self.stops.insert(0)
+    }
+
+    /// Adds what stands elsewhere.
+    pub(crate) fn merge(&mut self, other: &Uses, nothing: &VarSet) -> Result<(), Memory>
+        requires nothing { (x : ℕ) → has nothing.now x ≡ false }
+        ensures { OnOk result (AreUnions self.old other.now self.new) }
+    {
+        self.aims.add(&other.aims, nothing)?;
+        self.sees.add(&other.sees, nothing)?;
+        self.runs.add(&other.runs, nothing)?;
+        self.stops.add(&other.stops, nothing)?;
+        Ok(())
+    }
+
+    /// Leaves out the positions of the variable.
+    pub(crate) fn forget(&mut self, variable: u32)
+        ensures aims { IsWithout self.old.aims self.new.aims variable }
+        ensures sees { IsWithout self.old.sees self.new.sees variable }
+        ensures runs { self.new.runs ≡ self.old.runs }
+        ensures stops { self.new.stops ≡ self.old.stops }
+    {
+        self.aims.remove(variable);
+        self.sees.remove(variable);
+    }
+
+    #[cycle(uses)]
+    pub(crate) fn expression(&mut self, e: &Expr) -> Result<(), Memory>
+        ensures { OnOk result (Adds self.old self.new (In_expr (bare_expression (expression_of e.now)))) }
+    {
+        self.form(&e.form)
+    }
+
+    #[cycle(uses)]
+    fn form(&mut self, form: &ExprForm) -> Result<(), Memory>
+        ensures { OnOk result (Adds self.old self.new (In_form (bare_form (expression_form_of form.now)))) }
+    {
+        match form {
+            ExprForm::Number(_) => Ok(()),
+            ExprForm::Read(v) => self.read(v),
+            ExprForm::Unary(_op, a) => self.expression(a.get()),
+            ExprForm::Binary(_op, a, b) => {
+                self.expression(a.get())?;
+                self.expression(b.get())
+            }
+            ExprForm::Call(f, _at, args) => {
+                self.run(*f)?;
+                self.actuals(args.items())
+            }
+            ExprForm::Standard(_f, args) => match args.items().split_first() {
+                Some((a, _rest)) => self.expression(a),
+                None => self.see(0),
+            },
+        }
+    }
+
+    #[cycle(uses)]
+    fn read(&mut self, v: &Var) -> Result<(), Memory>
+        ensures { OnOk result (Adds self.old self.new (In_read (bare_variable (variable_of v.now)))) }
+    {
+        self.see(v.variable)?;
+        self.selectors(v.selectors.items())
+    }
+
+    #[cycle(uses)]
+    pub(crate) fn target(&mut self, v: &Var) -> Result<(), Memory>
+        ensures { OnOk result (Adds self.old self.new (In_target (bare_variable (variable_of v.now)))) }
+    {
+        self.aim(v.variable)?;
+        self.selectors(v.selectors.items())
+    }
+
+    #[cycle(uses)]
+    fn selectors(&mut self, ss: &[Selector]) -> Result<(), Memory>
+        ensures { OnOk result (Adds self.old self.new (In_selectors (bare_selectors (selectors (map selector_of ss.now))))) }
+    {
+        for s in ss {
+            self.selector(s)?;
+        }
+        Ok(())
+    }
+
+    #[cycle(uses)]
+    fn selector(&mut self, s: &Selector) -> Result<(), Memory>
+        ensures { OnOk result (Adds self.old self.new (In_selector (selector_of s.now))) }
+    {
+        match s {
+            Selector::Index(e) => self.expression(e),
+            Selector::Field(_) => Ok(()),
+        }
+    }
+
+    #[cycle(uses)]
+    pub(crate) fn actuals(&mut self, args: &[Actual]) -> Result<(), Memory>
+        ensures { OnOk result (Adds self.old self.new (In_actuals (bare_actuals (actuals (map actual_of args.now))))) }
+    {
+        for a in args {
+            self.actual(a)?;
+        }
+        Ok(())
+    }
+
+    #[cycle(uses)]
+    fn actual(&mut self, a: &Actual) -> Result<(), Memory>
+        ensures { OnOk result (Adds self.old self.new (In_actual (actual_of a.now))) }
+    {
+        match a {
+            Actual::Value(e) => self.expression(e),
+            Actual::Reference(v) => self.target(v),
+        }
+    }
+
+    pub(crate) fn width(&mut self, w: &Option<Expr>) -> Result<(), Memory>
+        ensures { OnOk result (Adds self.old self.new (In_width (bare_width (width_of w.now)))) }
+    {
+        match w {
+            Some(e) => self.expression(e),
+            None => Ok(()),
+        }
+    }
+}

@@ -1,0 +1,311 @@
+//! The pass over statements: what stands in each of them.
+
+ghost use Rattle.std.specs.Prelude.{◌≡◌, ℕ, ◌+◌, ◌<◌, ◌≤◌, true, false, Some, OnOk, IfOk, map, length};
+ghost use Rattle.sp_tree.specs.Bare.{bare_expression};
+ghost use Rattle.sp_tree.specs.CheckedOf.{expression_of, variable_of, statement_of, statement_form_of, statements, arm_of, arms, sends, receives};
+ghost use Rattle.sp_varsets.specs.Members.{has};
+ghost use Rattle.sp_varsets.specs.Records.{Extends, Stands, Keeps, slot_at};
+ghost use Rattle.sp_varsets.specs.Walks.{WalksStatement, WalksForm, WalksStatements, WalksArms, WalksElement};
+
+use crate::uses::Uses;
+use crate::var_set::VarSet;
+use sp_base::{List, Memory, Place};
+use sp_tree::{Arm, Expr, Form, Stmt, Var};
+use std::alloc::Global;
+
+/// What stands in one statement: the sets of its target positions, of its expression positions and of the blocks
+/// called in it. 0 names the empty set, n + 1 the set of place n in the pool.
+#[derive(Clone, Copy, Debug, PartialEq, Eq)]
+pub(crate) struct Own {
+    pub aims: u32,
+    pub sees: u32,
+    pub runs: u32,
+}
+
+/// The sets so far, and what is recorded of each statement, by its number.
+#[derive(Drop)]
+pub(crate) struct Walk {
+    pub alloc: Global,
+    pub pool: List<VarSet>,
+    pub slots: List<Option<Own>>,
+}
+
+// The statement's number behind a first one.
+fn number_from(first: u32, i: usize) -> Result<usize, Memory>
+    ensures { IfOk result (λ n. n ≡ first + i) }
+{
+    (first as usize).checked_add(i).ok_or(Memory)
+}
+
+impl Walk {
+    pub(crate) fn new(alloc: Global) -> Walk
+        ensures pool { length result.pool ≡ 0 }
+        ensures slots { length result.slots ≡ 0 }
+    {
+        Walk {
+            alloc,
+            pool: List::new(alloc),
+            slots: List::new(alloc),
+        }
+    }
+
+    // Puts a set into the pool.
+    pub(crate) fn put(&mut self, set: VarSet) -> Result<u32, Memory>
+        ensures slots { self.new.slots ≡ self.old.slots }
+        ensures pool { OnOk result (Extends self.old.pool self.new.pool) }
+        ensures set { IfOk result (λ i. Stands self.new.pool i (λ x. has set x ≡ true)) }
+    {
+        if set.is_empty() {
+            return Ok(0);
+        }
+        self.pool.push(set)?;
+        u32::try_from(self.pool.len()).map_err(|_| Memory)
+    }
+
+    // Makes room for what is recorded under this number.
+    fn grow(&mut self, number: usize) -> Result<(), Memory>
+        ensures pool { self.new.pool ≡ self.old.pool }
+        ensures same { OnOk result ((n : ℕ) → slot_at self.new.slots n ≡ slot_at self.old.slots n) }
+        ensures room { OnOk result (number < length self.new.slots) }
+    {
+        'slots: for _k in self.slots.len()..=number {
+            self.slots.push(None)?;
+        }
+        Ok(())
+    }
+
+    fn keep(&mut self, number: usize, uses: Uses) -> Result<(), Memory>
+        ensures { OnOk result (Keeps self.old self.new number uses) }
+    {
+        let Uses {
+            aims,
+            sees,
+            runs,
+            stops: _,
+        } = uses;
+        let aims = self.put(aims)?;
+        let sees = self.put(sees)?;
+        let runs = self.put(runs)?;
+        self.grow(number)?;
+        let _old = self.slots.replace(number, Some(Own { aims, sees, runs }));
+        Ok(())
+    }
+
+    /// Adds what stands in the statement, and records it and the statements inside it.
+    #[cycle(walk)]
+    pub(crate) fn statement(&mut self, into: &mut Uses, s: &Stmt) -> Result<(), Memory>
+        ensures { OnOk result (WalksStatement self.old self.new into.old into.new (statement_of s.now)) }
+    {
+        let mut mine = Uses::new(self.alloc);
+        self.form(&mut mine, &s.form)?;
+        into.merge(&mine, &VarSet::new(self.alloc))?;
+        self.keep(s.number as usize, mine)?;
+        Ok(())
+    }
+
+    #[cycle(walk)]
+    fn form(&mut self, into: &mut Uses, form: &Form) -> Result<(), Memory>
+        ensures { OnOk result (WalksForm self.old self.new into.old into.new (statement_form_of form.now)) }
+    {
+        match form {
+            Form::Empty => Ok(()),
+            Form::Assign(v, e) => {
+                into.assign(v, e)?;
+                Ok(())
+            }
+            Form::Call(f, args) => {
+                into.call(*f, args.items())?;
+                Ok(())
+            }
+            Form::Sequence(ss) => {
+                self.statements(into, ss.items())?;
+                Ok(())
+            }
+            Form::If(e, a, None) => {
+                into.expression(e)?;
+                self.statement(into, a.get())?;
+                Ok(())
+            }
+            Form::If(e, a, Some(b)) => {
+                into.expression(e)?;
+                self.statement(into, a.get())?;
+                self.statement(into, b.get())?;
+                Ok(())
+            }
+            Form::While(e, s) => {
+                into.expression(e)?;
+                self.statement(into, s.get())?;
+                Ok(())
+            }
+            Form::Repeat(s, e) => {
+                into.expression(e)?;
+                self.statement(into, s.get())?;
+                Ok(())
+            }
+            Form::For {
+                variable,
+                at: _at,
+                from,
+                down: _down,
+                to,
+                body,
+            } => {
+                into.aim(*variable)?;
+                into.expression(from)?;
+                into.expression(to)?;
+                self.statement(into, body.get())?;
+                Ok(())
+            }
+            Form::Case(e, choices) => {
+                into.expression(e)?;
+                self.choices(into, choices.items())?;
+                Ok(())
+            }
+            Form::Parallel(ss) => {
+                self.statements(into, ss.items())?;
+                into.stop()?;
+                Ok(())
+            }
+            Form::Forall {
+                index,
+                from,
+                to,
+                body,
+            } => {
+                into.expression(from)?;
+                into.expression(to)?;
+                self.element(into, *index, body.get())?;
+                into.stop()?;
+                Ok(())
+            }
+            Form::Assume(e) => {
+                into.expression(e)?;
+                Ok(())
+            }
+            Form::ReadValue(v) => {
+                into.read_value(v)?;
+                Ok(())
+            }
+            Form::ReadLine => {
+                into.read_line()?;
+                Ok(())
+            }
+            Form::WriteValue(e, w) => {
+                into.write_value(e, w)?;
+                Ok(())
+            }
+            Form::WriteText(_text, w) => {
+                into.write_text(w)?;
+                Ok(())
+            }
+            Form::WriteLine => {
+                into.write_line()?;
+                Ok(())
+            }
+            Form::Open(v) => {
+                into.open(v)?;
+                Ok(())
+            }
+            Form::Send(c, e) => {
+                into.send(c, e)?;
+                Ok(())
+            }
+            Form::Receive(c, v) => {
+                into.receive(c, v)?;
+                Ok(())
+            }
+            Form::SendEach {
+                at,
+                number,
+                channel,
+                values,
+            } => {
+                self.sends(into, *number, *at, channel, values.items())?;
+                Ok(())
+            }
+            Form::ReceiveEach {
+                at,
+                number,
+                channel,
+                variables,
+            } => {
+                self.receives(into, *number, *at, channel, variables.items())?;
+                Ok(())
+            }
+        }
+    }
+
+    // The element statement of a forall, whose index is left out of the positions.
+    #[cycle(walk)]
+    fn element(&mut self, into: &mut Uses, index: u32, s: &Stmt) -> Result<(), Memory>
+        ensures { OnOk result (WalksElement self.old self.new into.old into.new index (statement_of s.now)) }
+    {
+        let mut inner = Uses::new(self.alloc);
+        self.statement(&mut inner, s)?;
+        inner.forget(index);
+        into.merge(&inner, &VarSet::new(self.alloc))?;
+        Ok(())
+    }
+
+    #[cycle(walk)]
+    fn statements(&mut self, into: &mut Uses, ss: &[Stmt]) -> Result<(), Memory>
+        ensures { OnOk result (WalksStatements self.old self.new into.old into.new (statements (map statement_of ss.now))) }
+    {
+        for s in ss {
+            self.statement(into, s)?;
+        }
+        Ok(())
+    }
+
+    #[cycle(walk)]
+    fn choices(&mut self, into: &mut Uses, choices: &[Arm]) -> Result<(), Memory>
+        ensures { OnOk result (WalksArms self.old self.new into.old into.new (arms (map arm_of choices.now))) }
+    {
+        for arm in choices {
+            self.statement(into, &arm.body)?;
+        }
+        Ok(())
+    }
+
+    // The single statements of several sends.
+    fn sends(
+        &mut self,
+        into: &mut Uses,
+        number: u32,
+        at: Place,
+        channel: &Expr,
+        values: &[Expr],
+    ) -> Result<(), Memory>
+        ensures { OnOk result (WalksStatements self.old self.new into.old into.new (sends number at (expression_of channel.now) (map expression_of values.now))) }
+    {
+        let nothing = VarSet::new(self.alloc);
+        for (i, value) in values.iter().enumerate() {
+            let mut mine = Uses::new(self.alloc);
+            mine.send(channel, value)?;
+            into.merge(&mine, &nothing)?;
+            self.keep(number_from(number, i)?, mine)?;
+        }
+        Ok(())
+    }
+
+    // The single statements of several receives.
+    fn receives(
+        &mut self,
+        into: &mut Uses,
+        number: u32,
+        at: Place,
+        channel: &Expr,
+        variables: &[Var],
+    ) -> Result<(), Memory>
+        ensures { OnOk result (WalksStatements self.old self.new into.old into.new (receives number at (expression_of channel.now) (map variable_of variables.now))) }
+    {
+        let nothing = VarSet::new(self.alloc);
+        for (i, variable) in variables.iter().enumerate() {
+            let mut mine = Uses::new(self.alloc);
+            mine.receive(channel, variable)?;
+            into.merge(&mine, &nothing)?;
+            self.keep(number_from(number, i)?, mine)?;
+        }
+        Ok(())
+    }
+}
