@@ -269,6 +269,12 @@ formal_of role.Reference n = formal.Reference n
 formal_of role.Index n = formal.Value n
 formal_of role.Answer n = formal.Value n
 
+-- what a process shares of what its statement only uses: all but the index of its own forall, which is its own from the start
+abbrev pub but_index : Option ℕ → List ℕ → List ℕ
+but_index None xs = xs
+but_index (Some x) [] = []
+but_index (Some x) (y ∷ ys) = if y == x then but_index (Some x) ys else y ∷ but_index (Some x) ys
+
 module _ (p : Program) where
   abbrev pub addr_code : List Scope → ℕ → Instr
   addr_code sc x = addr_of sc x (slot p x) (slice_get p.variables x)
@@ -425,7 +431,7 @@ module _ (p : Program) where
 
   module _ (moves shares : Stmt → List ℕ) where
     abbrev pub child_table : ℕ → Option ℕ → Stmt → ChildTable
-    child_table q index s = record { entry = q; moved = moves s; shared = shares s; index = index }
+    child_table q index s = record { entry = q; moved = moves s; shared = but_index index (shares s); index = index }
 
     abbrev pub children_tables : ℕ → Stmts → List ChildTable
     children_tables q No = []
