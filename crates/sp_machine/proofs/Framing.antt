@@ -57,7 +57,7 @@ drop_twice a (suc b) [] = drop_all a [] (omega arith) ∙ sym (drop_all (suc b +
 drop_twice a (suc b) (x ∷ xs) = let e : suc (b + a) ≡ suc b + a = omega arith in drop_twice a b xs ∙ ap (λ k. drop k (x ∷ xs)) e
 
 -- the oldest frames of the oldest ones
-last_twice : (fs : List PlainFrame) (n c : ℕ) → c ≤ length fs → last_frames n (last_frames c fs) ≡ last_frames (min n c) fs
+pub last_twice : (fs : List PlainFrame) (n c : ℕ) → c ≤ length fs → last_frames n (last_frames c fs) ≡ last_frames (min n c) fs
 last_twice fs n c h =
     let less : length fs - (length fs - c) ≡ c = omega (arith, h) in
     let size : length (drop (length fs - c) fs) ≡ c = length-drop (length fs - c) fs ∙ less in

@@ -196,7 +196,7 @@ fn handing_of(
     child: Option<&ChildTable>,
 ) -> Result<Handing, Memory>
     requires blocks { HasDistinctBlocks code.now.layouts }
-    ensures { IfOk result (λ h. h ≡ handed_to code.now.layouts frames.now value (child_or (option_copied child))) }
+    ensures { IfOk result (λ h. h ≡ handed_to code.now.layouts frames.now value (child_or (option_copied child.entry))) }
 {
     match child {
         Some(child) => {

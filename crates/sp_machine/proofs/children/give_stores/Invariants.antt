@@ -3,8 +3,8 @@ use Rattle.sp_cell.specs.Map.{Plain}
 use Rattle.sp_machine.specs.declared.state.State.{State}
 use Rattle.sp_machine.proofs.children.give_stores.Given as goal
 
-abbrev pub invariant-loop : goal.invariant-loop
-invariant-loop l = record {
+abbrev pub invariant-loop-store : goal.invariant-loop-store
+invariant-loop-store l = record {
   rest : l.stores ≡ take (length l.stores) l.fn.stores;
   few : length l.stores ≤ length l.fn.children.items;
   many : length l.children.items ≡ length l.fn.children.items;
@@ -12,5 +12,5 @@ invariant-loop l = record {
   left : (k : ℕ) (d : State) → k < length l.stores → get_or l.children.items k d ≡ get_or l.fn.children.items k d;
 }
 
-abbrev pub decreases-loop : goal.decreases-loop
-decreases-loop l = length l.stores
+abbrev pub decreases-loop-store : goal.decreases-loop-store
+decreases-loop-store l = length l.stores
