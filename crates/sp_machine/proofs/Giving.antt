@@ -12,7 +12,7 @@ take_fewer (suc n) zero xs h = absurd (omega (arith, h))
 take_fewer (suc n) (suc k) [] h = refl
 take_fewer (suc n) (suc k) (x ∷ xs) h = ap (λ (ys : List Plain). x ∷ ys) (take_fewer n k xs (omega (arith, h)))
 
-one_fewer : (some less : List Plain) (x : Plain) → some ≡ less ++ x ∷ [] → length some ≡ length less + 1
+pub one_fewer : (some less : List Plain) (x : Plain) → some ≡ less ++ x ∷ [] → length some ≡ length less + 1
 one_fewer some less x p = ap length p ∙ length-append less (x ∷ [])
 
 -- what is left once the last one was taken

@@ -86,3 +86,7 @@ spots_not ls fs xs found i x h e k =
 
 pub spots_end : (ls : List Layout) (fs : List PlainFrame) (xs : List ℕ) (found : List Spot) (i : ℕ) → length xs ≤ i → found ++ spots_of ls fs (drop i xs) ≡ found
 spots_end ls fs xs found i h = ap (λ (ys : List ℕ). found ++ spots_of ls fs ys) (drop_all i xs h) ∙ append-nil found
+
+pub nothing_found : (found : Option Spot) → ((s : Spot) → found ≡ Some s → ⊥) → found ≡ None
+nothing_found None h = refl
+nothing_found (Some s) h = absurd (h s refl)

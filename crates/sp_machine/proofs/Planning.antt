@@ -113,6 +113,20 @@ born_more cs x hs t number parent n h l e inside old new k d g less = elim (case
       (subst (λ j. BornOf x h (child_or (child_at t j)) (number + j) parent) (sym w) new))
 ]
 
+-- the child that was made for place n, with what the table says for it
+pub born_at : (x : State) (h : Handing) (t : ForkTable) (number k n j entry : ℕ) (index : Option ℕ) (fs : List PlainFrame) (parent : State) → IsBornSo x (number + k) entry fs parent → fs ≡ with_frame (number + k) h index parent.frames
+    → entry ≡ (child_or (child_at t j)).entry → index ≡ (child_or (child_at t j)).index → j ≡ k → k ≡ n → BornOf x h (child_or (child_at t n)) (number + n) parent
+born_at x h t number k n j entry index fs parent b f e i jk kn =
+    subst (λ m. BornOf x h (child_or (child_at t m)) (number + m) parent) kn
+    (subst (λ m. IsBornSo x (number + k) (child_or (child_at t m)).entry (with_frame (number + k) h (child_or (child_at t m)).index parent.frames) parent) jk
+    (subst (λ (o : Option ℕ). IsBornSo x (number + k) (child_or (child_at t j)).entry (with_frame (number + k) h o parent.frames) parent) i
+    (subst (λ y. IsBornSo x (number + k) y (with_frame (number + k) h index parent.frames) parent) e
+    (subst (λ (gs : List PlainFrame). IsBornSo x (number + k) entry gs parent) f b))))
+
+pub born_pushed : (cs ds : List State) (x : State) (hs : List Handing) (t : ForkTable) (number : ℕ) (parent : State) (n : ℕ) (h : Handing) → ds ≡ cs ++ x ∷ [] → length cs ≡ n → h ≡ get_or hs n h → n < length hs → AreBornSo cs hs t number parent n
+    → BornOf x h (child_or (child_at t n)) (number + n) parent → AreBornSo ds hs t number parent (n + 1)
+born_pushed cs ds x hs t number parent n h p l e inside old new = subst (λ (xs : List State). AreBornSo xs hs t number parent (n + 1)) (sym p) (born_more cs x hs t number parent n h l e inside old new)
+
 -- ---- the children with their stores
 
 frames_same : (g : Setting) (q : ℕ) (h : Handing) (o : Option ℕ) (fs : List PlainFrame) → with_frame q h o fs ≡ with_index_frame plain g q h o fs
@@ -154,3 +168,17 @@ module _ (code : Parts) (p : State) (t : ForkTable) (number count : ℕ) where
             subst (IsNewborn code p t number k) (sym (each k d (child_of p.store.map h) there))
             (newborn_is k (get_or cs k d) s h less (born k d (record { moved = []; shared = []; index = None }) inside) (get_or_default plan k (record { moved = []; shared = []; index = None }) h inside) from),
       )
+
+pub length_children : (m : Map) (hs : List Handing) → length (children_of m hs) ≡ length hs
+length_children m [] = refl
+length_children m (h ∷ hs) = ap suc (length_children m hs)
+
+-- the children of a parent whose frames were made shared
+pub split_newborn : (code : Parts) (p : State) (t : ForkTable) (number count : ℕ) (fs : List PlainFrame) (hs : List Handing) (cs ds os : List State) (ss : List Plain) → fs ≡ p.frames → hs ≡ plan_from code.layouts p.frames t p.first 0 count
+    → ss ≡ children_of p.store.map hs → length cs ≡ length hs → AreBornSo cs hs t number (record p { frames = fs }) (length hs) → length ds ≡ length cs
+    → ((k : ℕ) (d : State) (s : Plain) → k < length cs → get_or ds k d ≡ record (get_or cs k d) { store = get_or ss k s }) → os ≡ ds → AreNewborn code p t number count os
+split_newborn code p t number count fs hs cs ds os ss f e stores many born same each out =
+    subst (AreNewborn code p t number count) (sym out)
+    (all_newborn code p t number count cs ds ss (stores ∙ ap (children_of p.store.map) e) (many ∙ ap length e)
+    (subst (λ (xs : List Handing). AreBornSo cs xs t number p (length xs)) e (subst (λ (gs : List PlainFrame). AreBornSo cs hs t number (record p { frames = gs }) (length hs)) f born))
+    same each)
