@@ -1,15 +1,14 @@
 -- What a fork hands over, child by child, and the children.
-use Rattle.std.proofs.Common.{◌≡◌, ◌≢◌, ℕ, zero, suc, ◌+◌, ◌-◌, ◌≤◌, ◌<◌, List, [], ◌∷◌, ◌++◌, length, get_or, Option, Some, None, IsSome, refl, sym, ap, ◌∙◌, subst, arith, append_assoc, inl, inr}
-use Rattle.std.specs.Prelude.{ℤ, pos, ◌+ℤ◌, slice_set}
+use Rattle.std.proofs.Common.{◌≡◌, ℕ, zero, suc, ◌+◌, ◌-◌, ◌≤◌, ◌<◌, List, [], ◌∷◌, ◌++◌, length, get_or, Option, Some, None, IsSome, refl, sym, ap, ◌∙◌, subst, arith, append_assoc, inl, inr}
+use Rattle.std.specs.Prelude.{ℤ, pos, ◌+ℤ◌}
 use Rattle.std.proofs.lemmas.Bool.{cases_lt}
 use Rattle.std.proofs.lemmas.List.{append-nil, get_or_append_left, get_or_default}
 use Rattle.std.proofs.Math.Seq.{get_or-append_seam}
 use Rattle.std.specs.FinMap as map
-use Rattle.sp_base.specs.declared.limits.Limits.{Limits}
 use Rattle.sp_cell.specs.declared.spot.Spot.{Spot}
 use Rattle.sp_cell.specs.declared.spot.Handing.{Handing}
 use Rattle.sp_cell.specs.Map.{Map, Plain}
-use Rattle.sp_cell.specs.Fork.{children_of, child_of, HasIndex}
+use Rattle.sp_cell.specs.Fork.{children_of, child_of}
 use Rattle.sp_cell.specs.Frame.{HasNextFrame}
 use Rattle.sp_cell.specs.FrameLaws.{known_below}
 use Rattle.sp_cell.specs.Laws.{known_of_held, known_of_piece}
@@ -22,12 +21,11 @@ use Rattle.sp_code.specs.Machine.{At}
 use Rattle.sp_code.specs.Memory.{Frame as PlainFrame, Setting}
 use Rattle.sp_code.specs.PlainStore.{plain}
 use Rattle.sp_code.specs.Sound.{CanSplit, run_of}
-use Rattle.sp_code.specs.System.{handing_of, index_by, plan_from, child_or, with_index_frame, newborn}
+use Rattle.sp_code.specs.System.{handing_of, index_by, plan_from, child_or, with_index_frame}
 use Rattle.sp_code.specs.Tables.{child_at}
 use Rattle.sp_store.specs.Layout.{FramesBelow}
 use Rattle.sp_machine.specs.declared.state.State.{State}
 use Rattle.sp_machine.specs.Children.{indexed, handed_to, with_frame, IsBornSo, BornOf, AreBornSo, IsNewborn, AreNewborn}
-use Rattle.sp_machine.specs.Procs.{config_of}
 
 -- ---- the plan
 

@@ -223,7 +223,7 @@ impl State {
     #[tactic(auto, using(crate::proofs::Planning::plan_more, crate::proofs::Planning::plan_end))]
     fn plan(&self, code: &Code, table: &ForkTable, count: u32) -> Result<List<Handing>, Memory>
         requires blocks { HasDistinctBlocks code.now.layouts }
-            requires values { (self.now.first +ℤ pos count) ≤ℤ pos 9223372036854775808 }
+        requires values { (self.now.first +ℤ pos count) ≤ℤ pos 9223372036854775808 }
         ensures { IfOk result (λ hs. hs ≡ plan_from code.now.layouts self.now.frames table.now self.now.first 0 count) }
     {
         let alloc = *self.text.allocator();
@@ -331,7 +331,7 @@ impl State {
         number: u32,
     ) -> Result<List<Proc>, Memory>
         requires blocks { HasDistinctBlocks code.now.layouts }
-            requires values { (self.old.first +ℤ pos count) ≤ℤ pos 9223372036854775808 }
+        requires values { (self.old.first +ℤ pos count) ≤ℤ pos 9223372036854775808 }
         requires deeper { self.old.depth + 1 ≤ 4294967295 }
         requires numbers { number + count ≤ 4294967295 }
         requires can { CanSplit self.old.store (plan_from code.now.layouts self.old.frames table.now self.old.first 0 count) }
@@ -355,7 +355,7 @@ impl State {
         number: u32,
     ) -> Result<List<Proc>, Memory>
         requires blocks { HasDistinctBlocks code.now.layouts }
-            requires values { (self.old.first +ℤ pos count) ≤ℤ pos 9223372036854775808 }
+        requires values { (self.old.first +ℤ pos count) ≤ℤ pos 9223372036854775808 }
         requires deeper { self.old.depth + 1 ≤ 4294967295 }
         requires numbers { number + count ≤ 4294967295 }
         requires can { CanSplit self.old.store (plan_by code.now self.old count) }

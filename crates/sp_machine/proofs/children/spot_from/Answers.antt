@@ -1,5 +1,4 @@
-use Rattle.std.proofs.Common.{◌≡◌, ◌+◌, ◌-◌, ◌<◌, ◌≤◌, ℕ, length, Option, None, arith, ap, sym, ◌∙◌}
-use Rattle.sp_cell.specs.declared.spot.Spot.{Spot}
+use Rattle.std.proofs.Common.{◌≡◌, None, arith, ap, sym, ◌∙◌}
 use Rattle.sp_code.specs.Memory.{last_frames}
 use Rattle.sp_code.specs.System.{spot_in, spot_from}
 use Rattle.sp_machine.specs.Frames.{frame_of, home_of}
