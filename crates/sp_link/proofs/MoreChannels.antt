@@ -158,6 +158,8 @@ module _ (G : Ground) where
       some = z.some;
       there = z.there;
       children = λ i h. handed_more z.js z.memory (kids k i) ((k, i) ∷ q) (z.children i h);
+      gone = z.gone;
+      parted = z.parted;
     }
 
     -- whatever it does

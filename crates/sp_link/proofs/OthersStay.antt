@@ -139,6 +139,8 @@ module _ (G : Ground) (lv : Lives G) (s t : StateOf G.g) (sound : Sound s) (fair
         some = z.some;
         there = λ i h. present k i (z.there i h);
         children = λ i h. z.children i (back i h);
+        gone = λ i h. z.gone i (back i h);
+        parted = λ i j h g. z.parted i j (back i h) (back j g);
       }
 
     -- whatever it does

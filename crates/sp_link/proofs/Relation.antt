@@ -11,7 +11,7 @@ use Rattle.sp_tree.specs.Interference.{IsFreeOfInterference}
 use Rattle.sp_journal.specs.declared.entry.Birth.{Birth}
 use Rattle.sp_journal.specs.Births.{Births, channel}
 use Rattle.sp_cell.specs.declared.spot.Spot.{Spot}
-use Rattle.sp_cell.specs.Map.{Map, Plain, with_map, output_spot, output_of}
+use Rattle.sp_cell.specs.Map.{Map, Plain, Away, with_map, output_spot, output_of}
 use Rattle.sp_cell.specs.Spots.{In, NotIn}
 use Rattle.sp_meaning.specs.Model.{Name, Channel, same_channel, Cargo, Offer, Condition, Absent, Waits, Joins, Ended}
 use Rattle.sp_meaning.specs.Steps.{working_in, has_ended}
@@ -247,6 +247,9 @@ module _ (G : Ground) where
       pub some : 1 ≤ left
       pub there : (i : ℕ) → i < n → s.condition ((k, i) ∷ q) ≢ Absent
       pub children : (i : ℕ) → Lives_yet s k n i → Handed js memory (kids k i) ((k, i) ∷ q)
+      -- what moved to a child that lives is away, and moved to no other
+      pub gone : (i : ℕ) → Lives_yet s k n i → (a : Spot) → In a (kids k i).moved → fin.get held a ≡ Some Away
+      pub parted : (i j : ℕ) → Lives_yet s k n i → Lives_yet s k n j → i ≢ j → (a : Spot) → In a (kids k i).moved → In a (kids k j).moved → ⊥
 
     -- the output, of a process that does nothing more
     abbrev pub Told : Store → Config (Memory Plain) → Type 0
