@@ -41,3 +41,4 @@ pub mod OffersWait
 pub mod OffersMeet
 pub mod Offers
 pub mod Ranks
+pub mod SafeSteps
