@@ -42,3 +42,4 @@ pub mod OffersMeet
 pub mod Offers
 pub mod Ranks
 pub mod SafeSteps
+pub mod Soundness

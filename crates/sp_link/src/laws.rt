@@ -17,6 +17,7 @@ ghost use Rattle.sp_code.specs.Memory.{Memory, memory};
 ghost use Rattle.sp_code.specs.PlainStore.{plain};
 ghost use Rattle.sp_code.specs.System.{System, Runs, Over, IsSystem, OutputIs};
 ghost use Rattle.sp_code.specs.Turns.{IsSafe};
+ghost use Rattle.sp_code.specs.Sound.{IsSound};
 ghost use Rattle.sp_codegen.specs.Meets.{code_run};
 ghost use Rattle.sp_link.specs.Premises.{IsReady};
 
@@ -35,6 +36,12 @@ pub fn code_runs_as_the_program_means()
     ensures safe { (g : Setting) (moves shares : Stmt → List ℕ) (pause : ℕ) → IsReady g moves shares → (es : List Entry) → NameableFrom at_start es
         → (t : System Plain) → IsSystem plain (code_run g (program_code g.program moves shares) pause) es t → (i : ℕ) (d : Config (Memory Plain)) → t.condition i ≡ Runs d
         → IsSafe (memory plain (code_run g (program_code g.program moves shares) pause)) (program_code g.program moves shares) d }
+{}
+
+/// The code of a program is sound: for every input, all limits and every journal each turn ends and lacks nothing, a fork can be
+/// carried out, a child that ends can be joined, and a message fits where it goes.
+pub fn code_is_sound()
+    ensures { (g : Setting) (moves shares : Stmt → List ℕ) → IsReady g moves shares → IsSound (program_code g.program moves shares) }
 {}
 
 /// Along a journal both come to the same output; the first process has ended in the one where it has in the other; and nobody
