@@ -43,3 +43,7 @@ pub mod Offers
 pub mod Ranks
 pub mod SafeSteps
 pub mod Soundness
+pub mod FaultEntries
+pub mod Waiters
+pub mod Endings
+pub mod Histories
