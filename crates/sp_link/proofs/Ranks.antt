@@ -392,7 +392,7 @@ module _ (all : List Instr) where
         let ra = arms_after p (a + 1) rest in
         let ih = tests rest v (a + 1) b (has_back all q v (test_code ms m) (tests_code p rest (a + 1)) (test_stop ms q m) h) (λ x l r. g x (omega (arith, l, rs)) r) d in
         let one = tests_one ms q m (b + lt) (has_front all q (test_code ms m) (tests_code p rest (a + 1)) h) (raise m b (b + lt) (omega arith) (g m (omega arith) (omega (arith, rs, ra))))
-            (subst (λ y. Below y (b + lt)) rv (ih v (omega arith) (omega (arith, rt)))) in
+        (subst (λ y. Below y (b + lt)) rv (ih v (omega arith) (omega (arith, rt)))) in
         join q (q + length ms) v (after_tests v rest) (b + lt + length ms) (b + lt) (b + (length ms + lt)) (omega (arith, rv)) (omega arith) (omega arith) one ih
 
     mutual

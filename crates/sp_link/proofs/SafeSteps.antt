@@ -140,8 +140,11 @@ module _ (G : Ground) (lv : Lives G) (c : Course) (s : StateOf G.g) (u : System 
       by_well (Got (source.Stops (Went todo)) o, m) e x t y = absurd e
       by_well (Got (source.Stops (Beat todo)) o, m) e x t y = absurd e
       by_well (Got (source.Stops (Opened todo)) o, m) e x t y = (Stopped (machine.Opens t.6) (At t.0 t.1 t.2), turn_is G lv c s u l i d at z (Stopped (machine.Opens t.6) (At t.0 t.1 t.2)) (t.4, t.8, t.9), tt)
-      by_well (Got (source.Stops (Forked bs todo)) o, m) e x t y = (Stopped t.5 (At t.0 t.1 t.2), turn_is G lv c s u l i d at z (Stopped t.5 (At t.0 t.1 t.2)) (t.4, t.6, t.7),
-          by_form (subst (λ b. ForkIs (execution G (lv (q G lv c s u l i d at)) (kids G lv c s u l i d at) (q G lv c s u l i d at) z.fresh (pr G lv c s u l i d at).who z.named (c.since (q G lv c s u l i d at))) b t.3 bs t.5) t.10 t.11))
+      by_well (Got (source.Stops (Forked bs todo)) o, m) e x t y = (
+        Stopped t.5 (At t.0 t.1 t.2),
+        turn_is G lv c s u l i d at z (Stopped t.5 (At t.0 t.1 t.2)) (t.4, t.6, t.7),
+        by_form (subst (λ b. ForkIs (execution G (lv (q G lv c s u l i d at)) (kids G lv c s u l i d at) (q G lv c s u l i d at) z.fresh (pr G lv c s u l i d at).who z.named (c.since (q G lv c s u l i d at))) b t.3 bs t.5) t.10 t.11),
+      )
         where
           by_form : Fork_is t.3 bs t.5 → Well (Stopped t.5 (At t.0 t.1 t.2))
           by_form (inl h) = subst (λ b. Well (Stopped b (At t.0 t.1 t.2))) (sym h.4) (parallel.can_split G lv c s u l i d at z bs todo o m x t y quiet h)
@@ -154,8 +157,11 @@ module _ (G : Ground) (lv : Lives G) (c : Course) (s : StateOf G.g) (u : System 
           by_cargo (Gives (Written bs)) h = absurd h
           by_cargo (Takes w) h = subst (λ b. Well (Stopped b (At t.0 t.1 t.2))) (sym h.2)
               (taken_well G (lv v) (kids G lv c s u l i d at) v k w h.1 t.0 t.1 t.2 t.8 h.4 h.5 h.6 (subst (λ b. Ready b (At t.0 t.1 (record (t.2) { since = (t.2).ticks }))) h.2 (owned_ready G t.5 t.0 t.1 t.2 t.12)))
-      by_well (Got (source.Stops Over) o, m) e x t y = (Stopped machine.Ends (At t.0 t.1 t.2), turn_is G lv c s u l i d at z (Stopped machine.Ends (At t.0 t.1 t.2)) (At t.0 t.1 t.2, t.4, t.5),
-          record { own = o; store = m; memory = t.2; is = refl; stands = subst (λ b. St G (lv v) (kids G lv c s u l i d at) v (pr G lv c s u l i d at).who (c.since v) b o m t.2) (t.7).2 t.6 })
+      by_well (Got (source.Stops Over) o, m) e x t y = (
+        Stopped machine.Ends (At t.0 t.1 t.2),
+        turn_is G lv c s u l i d at z (Stopped machine.Ends (At t.0 t.1 t.2)) (At t.0 t.1 t.2, t.4, t.5),
+        record { own = o; store = m; memory = t.2; is = refl; stands = subst (λ b. St G (lv v) (kids G lv c s u l i d at) v (pr G lv c s u l i d at).who (c.since v) b o m t.2) (t.7).2 t.6 },
+      )
       by_well (Bad f, m) e x t y = (Faulted f t.at, turn_is G lv c s u l i d at z (Faulted f t.at) (t.at, t.comes, (t.fails, refl)), tt)
       by_well (Lost, m) e x t y = absurd e
       by_well (Long, m) e x t y = absurd e
