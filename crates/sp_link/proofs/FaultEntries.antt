@@ -1,6 +1,6 @@
 -- The fault of a run is that of its journal: along a journal the meaning comes to the fault that an entry of it says (`fault_told`), and
 -- where a fault stands in the machine an entry says it (`fault_entry`).
-use Rattle.std.proofs.Common.{◌≡◌, ◌⊎◌, inl, inr, ⊎_elim, ℕ, zero, suc, ◌+◌, List, [], ◌∷◌, length, Option, Some, None, Bool, true, false, if◌then◌else◌, refl, sym, ap, ◌∙◌, subst}
+use Rattle.std.proofs.Common.{◌≡◌, inl, inr, ℕ, zero, suc, List, [], ◌∷◌, Option, Some, None, Bool, true, false, if◌then◌else◌, refl, sym, ap, ◌∙◌, subst}
 use Rattle.sp_base.specs.declared.fault.Fault.{Fault}
 use Rattle.sp_journal.specs.declared.entry.Event.{Event}
 use Rattle.sp_journal.specs.declared.entry.Event.TheVariants as event
@@ -17,7 +17,7 @@ use Rattle.sp_meaning.specs.Entries.{Happening, Occurrence, Opened, Split, Offer
 use Rattle.sp_meaning.specs.Own.{Setting, Process}
 use Rattle.sp_meaning.specs.SuperPascal.{superpascal}
 use Rattle.sp_meaning.specs.Runs.{StateOf, most, running, next, says, said_of}
-use Rattle.sp_meaning.specs.Along.{Course, Turn, Enters, Entered, Along, Either, due, stopped, noted, after_entry, ticks_of}
+use Rattle.sp_meaning.specs.Along.{Course, Turn, Entered, Along, Either, due, stopped, noted, after_entry, ticks_of}
 use Rattle.sp_meaning.proofs.Frames.{all_in, fault_frame}
 use Rattle.sp_code.specs.Machine.{Config, Stop}
 use Rattle.sp_code.specs.Machine as machine

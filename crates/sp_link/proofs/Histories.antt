@@ -1,6 +1,6 @@
 -- A legal history of the kernel over a program's code ends as the program does along its journal: what the control of its notes tells
 -- of the end is so of the program.
-use Rattle.std.proofs.Common.{◌≡◌, ◌⊎◌, inl, inr, ⊎_elim, ℕ, zero, suc, ◌+◌, ◌-◌, ◌==◌, List, [], ◌∷◌, Option, Some, None, Bool, true, false, cond, if◌then◌else◌, ◌||◌, refl, sym, ap, ◌∙◌, subst, arith}
+use Rattle.std.proofs.Common.{◌≡◌, ◌⊎◌, inl, inr, ℕ, ◌-◌, ◌==◌, List, [], ◌∷◌, Option, Some, None, Bool, true, false, cond, if◌then◌else◌, ◌||◌, refl, sym, ap, ◌∙◌, arith}
 use Rattle.std.specs.Prelude.{◌≢◌, nat_lt}
 use Rattle.sp_base.specs.declared.fault.Fault.{Fault}
 use Rattle.sp_tree.specs.Plain.{Stmt}
@@ -24,13 +24,13 @@ use Rattle.sp_code.specs.Emitted.{program_code}
 use Rattle.sp_code.specs.Memory.{Memory}
 use Rattle.sp_code.specs.Memory as memory
 use Rattle.sp_code.specs.PlainStore.{plain}
-use Rattle.sp_code.specs.System.{System, Condition, Absent, Runs, Waits, Joins, Laid as IsLaid, Gone as HasGone, Over, IsSystem, IsLegal, OutputIs, opening}
+use Rattle.sp_code.specs.System.{System, Condition, Absent, Runs, Waits, Joins, Laid as IsLaid, Gone as HasGone, Over, IsSystem, OutputIs, opening}
 use Rattle.sp_codegen.specs.Meets.{code_run}
-use Rattle.sp_history.specs.Agreement.{Phase, Never, ToSend, ToReceive, ToJoin, Down, Finished, Odd, phase, phase_in, IsOrderly, Agrees, HasOuts, Reaches}
+use Rattle.sp_history.specs.Agreement.{ToSend, ToReceive, Finished, phase, phase_in, IsOrderly, Agrees, HasOuts, Reaches}
 use Rattle.sp_history.proofs.Agreeing.{orderly_start, agrees_start}
-use Rattle.sp_history.proofs.Legal.{legal_reaches, reaches_leads, reaches_keeps}
+use Rattle.sp_history.proofs.Legal.{reaches_leads, reaches_keeps}
 use Rattle.sp_history.proofs.Outs.{outs_start, outs_all, nobody_runs}
-use Rattle.sp_link.specs.Endings.{HasFaultEntry, waiting_at, WaitsAs, IsStuck, IsWaiting, AreAllWaiting}
+use Rattle.sp_link.specs.Endings.{HasFaultEntry, waiting_at, WaitsAs, IsWaiting, AreAllWaiting}
 use Rattle.sp_link.specs.Premises.{IsReady}
 use Rattle.sp_link.proofs.Endings.{program_root, program_stuck, program_faulted}
 use Rattle.sp_link.proofs.Programs.{program_means, program_output, program_done}

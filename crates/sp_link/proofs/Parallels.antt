@@ -1,6 +1,6 @@
 -- A parallel statement forks: each child has a life by its statement and its place in the code, stands as it is born, and its parent
 -- keeps of it what the join will need (`parallel_entry`).
-use Rattle.std.proofs.Common.{◌≡◌, ◌⊎◌, inl, inr, ⊎_elim, ℕ, zero, suc, ◌+◌, ◌<◌, ◌≤◌, ℤ, List, [], ◌∷◌, ◌++◌, length, Option, Some, None, Bool, true, false, refl, sym, ap, ◌∙◌, subst, arith}
+use Rattle.std.proofs.Common.{◌≡◌, ◌⊎◌, inl, inr, ⊎_elim, ℕ, zero, suc, ◌+◌, ◌<◌, ◌≤◌, List, [], ◌∷◌, length, Option, Some, None, Bool, true, false, refl, sym, ap, ◌∙◌, subst, arith}
 use Rattle.std.specs.Prelude.{◌≢◌, nat_lt, pos, IsSome, slice_get}
 use Rattle.std.specs.FinMap as fin
 use Rattle.sp_tree.specs.Plain.{Program, Stmt, Stmts, No, And}
@@ -24,10 +24,8 @@ use Rattle.sp_meaning.proofs.Deeding.{list_of, born_of}
 use Rattle.sp_meaning.proofs.Rights.{All, Mine}
 use Rattle.sp_meaning.proofs.Within.{part}
 use Rattle.sp_code.specs.declared.code.ForkTable.{ForkTable}
-use Rattle.sp_code.specs.declared.code.Layout.{Layout}
 use Rattle.sp_code.specs.Machine.{Config, At}
 use Rattle.sp_code.specs.Memory.{Memory}
-use Rattle.sp_code.specs.Memory as mem
 use Rattle.sp_code.specs.PlainStore.{plain}
 use Rattle.sp_code.specs.Places.{after}
 use Rattle.sp_code.specs.Scopes.{Scope}

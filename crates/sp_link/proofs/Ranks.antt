@@ -1,6 +1,6 @@
 -- The code of a program is ranked: no way of ticks and calls is longer than the code (`program_ranked`). Each part is straight, or its
 -- ways back lead to a tick; so the rank at its beginning is no higher than that behind it and the part's length.
-use Rattle.std.proofs.Common.{◌≡◌, ◌⊎◌, inl, inr, ⊎_elim, ℕ, zero, suc, ◌+◌, ◌<◌, ◌≤◌, ◌==◌, ℤ, List, [], ◌∷◌, ◌++◌, length, Option, Some, None, Bool, true, false, if◌then◌else◌, refl, sym, ap, ◌∙◌, subst, arith}
+use Rattle.std.proofs.Common.{◌≡◌, ◌⊎◌, inl, inr, ⊎_elim, ℕ, zero, suc, ◌+◌, ◌<◌, ◌≤◌, ◌==◌, ℤ, List, [], ◌∷◌, ◌++◌, length, Option, Some, None, Bool, true, false, if◌then◌else◌, refl, ap, ◌∙◌, subst, arith}
 use Rattle.std.specs.Prelude.{slice_get, nat_lt}
 use Rattle.sp_tree.specs.declared.checked.KindOf.{KindOf}
 use Rattle.sp_tree.specs.declared.checked.KindOf.TheVariants as kind
@@ -15,14 +15,14 @@ use Rattle.sp_tree.specs.declared.operators.StandardFn.TheVariants as standard
 use Rattle.sp_tree.specs.Plain.{Expr, Typed, ExprForm, Number, Read, Unary, Binary, Apply, Standard, AtInput, Var, Entire, Index, Field, Selectors, Whole, Select, ByValue, ByReference, Actuals, Nothing, Pass, Program, Variable, Block, Stmt, Empty, Assign, Call, Sequence, If, IfElse, While, Repeat, For, Case, Parallel, Forall, Assume, ReadValue, ReadLine, WriteValue, WriteText, WriteLine, Open, Send, Receive, Stmts, No, And, On, Arms, NoArm, Or}
 use Rattle.sp_code.specs.declared.instr.Instr.{Instr}
 use Rattle.sp_code.specs.declared.instr.Instr.TheVariants as i
-use Rattle.sp_code.specs.Emitted.{unary_code, binary_instr, standard_code, input_instr, read_instr, index_instr, field_instr, write_instr, reading_instr, assign_instr, addr_by, addr_of, call_instr, test_code, tables_in, texts_in, end_instr, addr_code, value_code, form_code, var_code, selectors_code, actuals_code, width_code, right_code, tests_code, code, code_all, code_children, code_arms, block_code, blocks_code, program_code}
+use Rattle.sp_code.specs.Emitted.{unary_code, binary_instr, standard_code, input_instr, read_instr, index_instr, field_instr, write_instr, reading_instr, assign_instr, addr_by, addr_of, call_instr, test_code, tables_in, texts_in, end_instr, value_code, form_code, var_code, selectors_code, actuals_code, width_code, right_code, tests_code, code, code_all, code_children, code_arms, block_code, blocks_code, program_code}
 use Rattle.sp_code.specs.Lengths.{value_length, stmt_length, all_length, children_length, arms_length, tests_length, blocks_length}
-use Rattle.sp_code.specs.Places.{after_value, after_form, after_var, after_actuals, after_width, after_right, after_test, after_tests, after, after_all, after_children, after_arms, after_block, after_blocks}
+use Rattle.sp_code.specs.Places.{after_value, after_test, after_tests, after, after_all, after_children, after_arms, after_block}
 use Rattle.sp_code.specs.Ranks.{ways, larger, most, rank, AllBelow, IsRanked}
 use Rattle.sp_code.specs.Scopes.{Sort, Ordinals, Channels, Many, NoSort, Scope, OfIndex, is_given, kind_of, kind_at, sort, size, slot, element_type, field_type, type_by, type_of, scopes_of}
 use Rattle.sp_code.specs.Stands.{HasAt}
 use Rattle.sp_code.proofs.Blocks.{has_self, program_count}
-use Rattle.sp_code.proofs.Counts.{value_count, value_after, test_after, tests_after, tests_count, stmt_after, all_after, children_after, arms_after, code_count, last_count}
+use Rattle.sp_code.proofs.Counts.{value_count, value_after, test_after, tests_after, tests_count, stmt_after, all_after, arms_after, code_count, last_count}
 use Rattle.sp_code.proofs.Standing.{has_front, has_back}
 
 -- ---- ranks that are bounded

@@ -1,9 +1,8 @@
 -- A parallel statement can be carried out: what it hands over is held, nothing is moved twice, and nothing that is moved is shared,
 -- since by the rules of interference no two of its processes share what one of them changes (`parallel_split`).
-use Rattle.std.proofs.Common.{◌≡◌, ◌⊎◌, inl, inr, ⊎_elim, ℕ, zero, suc, ◌+◌, ◌<◌, ◌≤◌, ℤ, List, [], ◌∷◌, length, Option, Some, None, true, refl, sym, ap, ◌∙◌, subst, arith}
-use Rattle.std.specs.Prelude.{◌≢◌, pos, IsSome, slice_get}
+use Rattle.std.proofs.Common.{◌≡◌, ◌⊎◌, inl, inr, ⊎_elim, ℕ, zero, suc, ◌+◌, ◌<◌, ℤ, List, ◌∷◌, length, Option, Some, None, true, refl, sym, ap, ◌∙◌, subst, arith}
+use Rattle.std.specs.Prelude.{◌≢◌, IsSome, slice_get}
 use Rattle.std.specs.FinMap as fin
-use Rattle.sp_tree.specs.Formed.{IsFormedUse}
 use Rattle.sp_tree.specs.Interference.{IsIndexOf, IsMember, KeepsI1}
 use Rattle.sp_tree.specs.Plain.{Program, Variable, Stmt, Stmts, No, And, Parallel}
 use Rattle.sp_tree.specs.Sets.{IsTarget, IsUsed}
@@ -11,9 +10,9 @@ use Rattle.sp_tree.specs.Uses.{Use, Aims, Sees, Splits, In_stmt, In_stmts}
 use Rattle.sp_cell.specs.declared.cell.Cell.{Cell as OneCell}
 use Rattle.sp_cell.specs.declared.spot.Spot.{Spot}
 use Rattle.sp_cell.specs.declared.spot.Handing.{Handing}
-use Rattle.sp_cell.specs.Fork.{moved_of, shared_of, HasIndex}
+use Rattle.sp_cell.specs.Fork.{shared_of}
 use Rattle.sp_cell.specs.Map.{Content, Own as Owned, Shared, Output as Bytes, Away, Plain, IsHeld, IsPiece}
-use Rattle.sp_cell.specs.Spots.{In, NotIn, IsDistinct}
+use Rattle.sp_cell.specs.Spots.{In, IsDistinct}
 use Rattle.sp_meaning.specs.Model.{Name}
 use Rattle.sp_meaning.specs.Own.{Loc, Input, Output, Own, Who}
 use Rattle.sp_meaning.specs.Run.{Store}
@@ -29,9 +28,9 @@ use Rattle.sp_code.specs.PlainStore.{piece_of}
 use Rattle.sp_code.specs.Scopes.{Scope}
 use Rattle.sp_code.specs.Sound.{CanSplit}
 use Rattle.sp_code.specs.Stands.{Stands as StandsIn, HasFork, HasWords, ChildrenAt}
-use Rattle.sp_code.specs.System.{spots_of, spot_of, handing_of, plan_from, child_or}
+use Rattle.sp_code.specs.System.{spot_of, handing_of, plan_from, child_or}
 use Rattle.sp_code.specs.Tables.{child_at}
-use Rattle.sp_codegen.specs.Joints.{Joint, sources, machines, from}
+use Rattle.sp_codegen.specs.Joints.{Joint, sources, from}
 use Rattle.sp_codegen.specs.Relation.{Placed}
 use Rattle.sp_codegen.proofs.Born.{table_at}
 use Rattle.sp_codegen.proofs.Handed.{in_spots, spots_from, MovedStands, moved_stands, right_of, once}

@@ -1,24 +1,23 @@
 -- Who waits in the machine waits in the meaning, with the same way and channel, and the other way round (`waits_means`, `waits_runs`); so
 -- where nobody can go on in the one, nobody can in the other, and the same ones wait (`stuck_means`, `stuck_runs`).
-use Rattle.std.proofs.Common.{◌≡◌, ◌⊎◌, ⊎_elim, ℕ, zero, suc, ◌<◌, ◌≤◌, ◌∷◌, List, Option, Some, None, Bool, true, false, refl, sym, ap, ◌∙◌, subst, arith, inl, inr}
+use Rattle.std.proofs.Common.{◌≡◌, ◌⊎◌, ⊎_elim, ℕ, zero, suc, ◌<◌, ◌≤◌, ◌∷◌, List, Option, Some, None, false, refl, sym, ap, ◌∙◌, subst, arith, inl, inr}
 use Rattle.std.specs.Prelude.{◌≢◌}
 use Rattle.sp_journal.specs.declared.entry.Way.TheVariants as way
 use Rattle.sp_journal.specs.Births.{channel}
 use Rattle.sp_cell.specs.Map.{Plain}
-use Rattle.sp_meaning.specs.Model.{Name, Channel, Cargo, Gives, Takes, Offer, Condition, Absent, Works, Waits, Joins, Ended}
+use Rattle.sp_meaning.specs.Model.{Name, Channel, Cargo, Gives, Takes, Offer, Condition, Absent, Waits, Joins, Ended}
 use Rattle.sp_meaning.specs.Steps.{working_in, way_of}
 use Rattle.sp_meaning.specs.Own.{Tree, Position, Written, Held, Address, Process}
-use Rattle.sp_meaning.specs.Runs.{StateOf, running}
+use Rattle.sp_meaning.specs.Runs.{StateOf}
 use Rattle.sp_meaning.specs.Along.{Course}
-use Rattle.sp_meaning.specs.Ends.{Waiting, WaitsSo, IsIdle, IsDeadlock}
-use Rattle.sp_code.specs.Machine.{Config, Stop, Sends, Receives}
+use Rattle.sp_meaning.specs.Ends.{Waiting, WaitsSo, IsDeadlock}
+use Rattle.sp_code.specs.Machine.{Config, Stop}
 use Rattle.sp_code.specs.Memory.{Memory}
 use Rattle.sp_code.specs.System.{System}
 use Rattle.sp_code.specs.System as sys
-use Rattle.sp_codegen.specs.Following.{cells_in}
 use Rattle.sp_link.specs.Endings.{waiting_at, WaitsAs, IsStuck}
 use Rattle.sp_link.proofs.Outputs.{done_there}
-use Rattle.sp_link.proofs.Relation.{Ground, Life, Lives, Named, Ca, Stands, Does_all, Linked}
+use Rattle.sp_link.proofs.Relation.{Ground, Lives, Named, Ca, Does_all, Linked}
 use Rattle.sp_link.proofs.WhoRuns.{nobody, somebody, root_over}
 
 module _ (G : Ground) (lv : Lives G) (c : Course) (s : StateOf G.g) (u : System Plain) (l : Linked G lv c s u) where
