@@ -2,7 +2,6 @@
 -- of the end is so of the program.
 use Rattle.std.proofs.Common.{◌≡◌, ◌⊎◌, inl, inr, ℕ, ◌-◌, ◌==◌, List, [], ◌∷◌, Option, Some, None, Bool, true, false, cond, if◌then◌else◌, ◌||◌, refl, sym, ap, ◌∙◌, arith}
 use Rattle.std.specs.Prelude.{◌≢◌, nat_lt}
-use Rattle.sp_base.specs.declared.fault.Fault.{Fault}
 use Rattle.sp_tree.specs.Plain.{Stmt}
 use Rattle.sp_journal.specs.declared.entry.Way.{Way}
 use Rattle.sp_journal.specs.declared.entry.Way.TheVariants as way
@@ -10,13 +9,15 @@ use Rattle.sp_journal.specs.declared.entry.Event.{Event}
 use Rattle.sp_journal.specs.declared.entry.Event.TheVariants as event
 use Rattle.sp_journal.specs.declared.entry.Birth.{Birth}
 use Rattle.sp_journal.specs.declared.entry.Note.{Note}
+use Rattle.sp_journal.specs.declared.outcome.End.{End}
+use Rattle.sp_journal.specs.declared.outcome.End.TheVariants as end
 use Rattle.sp_journal.specs.Maps.{at_key}
 use Rattle.sp_journal.specs.Births.{Births, at_start, channel, births_from, occurrences_from, is_next}
 use Rattle.sp_cell.specs.Map.{Plain}
 use Rattle.sp_meaning.specs.Own.{Setting}
 use Rattle.sp_meaning.specs.Runs.{StateOf, output_of}
 use Rattle.sp_meaning.specs.Along.{IsAlong}
-use Rattle.sp_meaning.specs.Ends.{Waiting, IsDone, IsDeadlock, HasFault}
+use Rattle.sp_meaning.specs.Ends.{Waiting, IsDone, IsDeadlock, EndIs}
 use Rattle.sp_code.specs.Control.{Control, Doing, Unborn, Ready, Out, Sending, Receiving, Joining, Laid, Ended, Gone, queues, offers, does, one_fewer, reports, happens, comes_back, abandons, takes, given, noted, noted_all, control, control_at_start, Standing, Running, IsMemory, IsFault, has_ended, is_ready, standing, entries_of}
 use Rattle.sp_code.specs.Control as ctrl
 use Rattle.sp_code.specs.Machine.{Stop, Forks, Opens, Sends, Receives, Ends, Pauses, Config}
@@ -30,9 +31,9 @@ use Rattle.sp_history.specs.Agreement.{ToSend, ToReceive, Finished, phase, phase
 use Rattle.sp_history.proofs.Agreeing.{orderly_start, agrees_start}
 use Rattle.sp_history.proofs.Legal.{reaches_leads, reaches_keeps}
 use Rattle.sp_history.proofs.Outs.{outs_start, outs_all, nobody_runs}
-use Rattle.sp_link.specs.Endings.{HasFaultEntry, waiting_at, WaitsAs, IsWaiting, AreAllWaiting}
+use Rattle.sp_link.specs.Endings.{waiting_at, WaitsAs, IsWaiting, AreAllWaiting, StandsAt}
 use Rattle.sp_link.specs.Premises.{IsReady}
-use Rattle.sp_link.proofs.Endings.{program_root, program_stuck, program_faulted}
+use Rattle.sp_link.proofs.Endings.{program_root, program_stuck, program_fault}
 use Rattle.sp_link.proofs.Programs.{program_means, program_output, program_done}
 use Rattle.sp_link.proofs.Soundness.{names_on}
 
@@ -134,13 +135,6 @@ stands_done false true e r h = absurd (cc h)
 stands_done false false true r h = (refl, refl, refl)
 stands_done false false false true h = absurd (cc h)
 stands_done false false false false h = absurd (cc h)
-
-stands_fault : (a f e r : Bool) → Stand a f e r ≡ IsFault → f ≡ true
-stands_fault true f e r h = absurd (cc h)
-stands_fault false true e r h = refl
-stands_fault false false true r h = absurd (cc h)
-stands_fault false false false true h = absurd (cc h)
-stands_fault false false false false h = absurd (cc h)
 
 stands_deadlock : (a f e r : Bool) → Stand a f e r ≡ ctrl.IsDeadlock → (a ≡ false) × (f ≡ false) × (e ≡ false) × (r ≡ false)
 stands_deadlock true f e r h = absurd (cc h)
@@ -317,11 +311,6 @@ module _ (g : Setting) (moves shares : Stmt → List ℕ) (pause : ℕ) (ready :
           let w = stands_done (nat_lt 0 (control ns).abandons) (control ns).faulted (has_ended ((control ns).doing 0)) (is_ready (control ns).ready || nat_lt 0 (control ns).out) e in
           over (sym (alike.1.each 0) ∙ ended_is ((control ns).doing 0) w.2)
 
-      pub history_fault : standing (control ns) ≡ IsFault → (p : ℕ) × (f : Fault) × HasFaultEntry (entries_of ns) p f × HasFault g s ((births_from at_start (entries_of ns)).name p) f
-      history_fault e =
-          let w = stands_fault (nat_lt 0 (control ns).abandons) (control ns).faulted (has_ended ((control ns).doing 0)) (is_ready (control ns).ready || nat_lt 0 (control ns).out) e in
-          program_faulted g moves shares pause ready (entries_of ns) t journal n s k (sym alike.1.faulted ∙ w)
-
       pub history_deadlock : (ws : List Waiting) → standing (control ns) ≡ ctrl.IsDeadlock → AreAllWaiting (control ns) ws → IsDeadlock g s ws
       history_deadlock ws e q =
           let w = stands_deadlock (nat_lt 0 (control ns).abandons) (control ns).faulted (has_ended ((control ns).doing 0)) (is_ready (control ns).ready || nat_lt 0 (control ns).out) e in
@@ -335,3 +324,10 @@ module _ (g : Setting) (moves shares : Stmt → List ℕ) (pause : ℕ) (ready :
             only = λ x i. control_waits (control ns) t alike.1 x (q.only x i);
             whole = λ x i. q.whole x (system_waits (control ns) t alike.1 x i);
           })
+
+      -- each end of the history is one of the program
+      pub history_ends : (e : End) → StandsAt ns e → EndIs g s e
+      history_ends end.Done h = history_done h
+      history_ends (end.Deadlock ws) h = (h.1.0, history_deadlock h.1.0 h.0 h.1.1, h.1.2)
+      history_ends (end.Fault name f) h = ((births_from at_start (entries_of ns)).name h.1.0, program_fault g moves shares pause ready (entries_of ns) t journal n s k h.1.0 f h.1.1, h.1.2)
+      history_ends end.Memory h = absurd h

@@ -47,3 +47,5 @@ pub mod FaultEntries
 pub mod Waiters
 pub mod Endings
 pub mod Histories
+pub mod NameOrder
+pub mod Contention

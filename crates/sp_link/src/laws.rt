@@ -1,29 +1,35 @@
 //! What follows for all processes of a run, of the source and of its code, along a journal. These functions do nothing: each one's
 //! contract is a law.
 
-ghost use Rattle.std.specs.Prelude.{◌≡◌, ℕ, List, None, true, false};
+ghost use Rattle.std.specs.Prelude.{◌≡◌, ◌<◌, ℕ, List, None, true, false};
+ghost use Rattle.std.specs.declared.cmp.Ordering.TheVariants.{Less};
+ghost use Rattle.sp_base.specs.Order.{name_cmp};
 ghost use Rattle.sp_base.specs.declared.fault.Fault.{Fault};
+ghost use Rattle.sp_base.specs.declared.fault.Fault.TheVariants as fault;
+ghost use Rattle.sp_base.specs.declared.limits.Limits.{Limits};
 ghost use Rattle.sp_tree.specs.Plain.{Stmt};
 ghost use Rattle.sp_journal.specs.declared.entry.Entry.{Entry};
+ghost use Rattle.sp_journal.specs.declared.entry.Event.TheVariants as event;
 ghost use Rattle.sp_journal.specs.declared.entry.Note.{Note};
+ghost use Rattle.sp_journal.specs.declared.outcome.End.{End};
+ghost use Rattle.sp_journal.specs.Names.{Name, proc_name};
 ghost use Rattle.sp_journal.specs.Births.{at_start, births, occurrences_from, NameableFrom};
 ghost use Rattle.sp_cell.specs.Map.{Plain};
 ghost use Rattle.sp_meaning.specs.Entries.{Occurrence};
 ghost use Rattle.sp_meaning.specs.Own.{Setting};
 ghost use Rattle.sp_meaning.specs.Runs.{StateOf, output_of};
-ghost use Rattle.sp_meaning.specs.Ends.{Waiting, WaitsSo, IsDone, IsIdle, IsDeadlock, HasFault};
+ghost use Rattle.sp_meaning.specs.Ends.{Waiting, WaitsSo, IsDone, IsIdle, IsDeadlock, HasFault, EndIs, name_before};
 ghost use Rattle.sp_meaning.specs.Along.{IsAlong};
-ghost use Rattle.sp_code.specs.Control.{control, control_at_start, standing, entries_of};
-ghost use Rattle.sp_code.specs.Control as control_stands;
+ghost use Rattle.sp_code.specs.Control.{control_at_start, entries_of};
 ghost use Rattle.sp_code.specs.Emitted.{program_code};
-ghost use Rattle.sp_code.specs.Machine.{Config};
+ghost use Rattle.sp_code.specs.Machine.{Config, Stop};
 ghost use Rattle.sp_code.specs.Memory.{Memory, memory};
 ghost use Rattle.sp_code.specs.PlainStore.{plain};
 ghost use Rattle.sp_code.specs.Sound.{IsSound};
-ghost use Rattle.sp_code.specs.System.{System, Runs, Over, IsSystem, IsLegal, OutputIs, opening};
-ghost use Rattle.sp_code.specs.Turns.{IsSafe};
+ghost use Rattle.sp_code.specs.System.{System, Runs, Over, IsSystem, IsLegal, OutputIs, event_of, opening};
+ghost use Rattle.sp_code.specs.Turns.{Stopped, IsSafe};
 ghost use Rattle.sp_history.specs.Agreement.{Reaches};
-ghost use Rattle.sp_link.specs.Endings.{HasFaultEntry, WaitsAs, IsStuck, AreAllWaiting};
+ghost use Rattle.sp_link.specs.Endings.{HasFaultEntry, WaitsAs, IsStuck, StandsAt, MeetsItsWay};
 ghost use Rattle.sp_link.specs.Premises.{IsReady, AreAlong, run_by};
 
 /// Along a journal the meaning comes to at most one state, by one number of steps.
@@ -83,20 +89,23 @@ pub fn code_waits_and_faults_as_the_program_does()
 
 /// A legal history of the kernel over the code of a program is a run of the program along the journal of its notes. Where the
 /// control of the notes stands at an end, the program has come to the same one: done, a deadlock with all that wait, or the fault
-/// of the journal; and the output is the program's.
+/// of the journal; and the output is the program's. Names that are kept in order are in the order of the meaning.
 pub fn histories_end_as_the_program_does()
     ensures means { (g : Setting) (moves shares : Stmt → List ℕ) (pause : ℕ) → IsReady g moves shares → (ns : List Note)
         → IsLegal plain (run_by g moves shares pause) ns → (n : ℕ) × (s : StateOf g) × IsAlong g pause (occurrences_from at_start (entries_of ns)) n s }
     ensures output { (g : Setting) (moves shares : Stmt → List ℕ) (pause : ℕ) → IsReady g moves shares → (ns : List Note) (t : System Plain)
         → Reaches plain (run_by g moves shares pause) control_at_start (opening plain (run_by g moves shares pause)) ns t
         → (n : ℕ) (s : StateOf g) → IsAlong g pause (occurrences_from at_start (entries_of ns)) n s → OutputIs plain (run_by g moves shares pause) t (output_of g s) }
-    ensures done { (g : Setting) (moves shares : Stmt → List ℕ) (pause : ℕ) → IsReady g moves shares → (ns : List Note)
+    ensures ends { (g : Setting) (moves shares : Stmt → List ℕ) (pause : ℕ) → IsReady g moves shares → (ns : List Note)
         → IsLegal plain (run_by g moves shares pause) ns → (n : ℕ) (s : StateOf g) → IsAlong g pause (occurrences_from at_start (entries_of ns)) n s
-        → standing (control ns) ≡ control_stands.IsDone → IsDone g s }
-    ensures deadlock { (g : Setting) (moves shares : Stmt → List ℕ) (pause : ℕ) → IsReady g moves shares → (ns : List Note)
-        → IsLegal plain (run_by g moves shares pause) ns → (n : ℕ) (s : StateOf g) → IsAlong g pause (occurrences_from at_start (entries_of ns)) n s
-        → standing (control ns) ≡ control_stands.IsDeadlock → (ws : List Waiting) → AreAllWaiting (control ns) ws → IsDeadlock g s ws }
-    ensures fault { (g : Setting) (moves shares : Stmt → List ℕ) (pause : ℕ) → IsReady g moves shares → (ns : List Note)
-        → IsLegal plain (run_by g moves shares pause) ns → (n : ℕ) (s : StateOf g) → IsAlong g pause (occurrences_from at_start (entries_of ns)) n s
-        → standing (control ns) ≡ control_stands.IsFault → (p : ℕ) × (f : Fault) × HasFaultEntry (entries_of ns) p f × HasFault g s ((births (entries_of ns)).name p) f }
+        → (e : End) → StandsAt ns e → EndIs g s e }
+    ensures order { (p q : Name) → name_cmp (proc_name p) (proc_name q) ≡ Less → name_before p q ≡ true }
+{}
+
+/// Contention is an entry exactly where an offer meets a pending one of its own way and the journal is not full.
+pub fn offers_of_one_way_are_contention()
+    ensures meets { (lim : Limits) (t : System Plain) (stop : Stop) (d : Config (Memory Plain)) → t.faulted ≡ false
+        → event_of lim t (Stopped stop d) ≡ event.Fault fault.F6 → MeetsItsWay t stop × (t.entries < lim.entries) }
+    ensures entry { (lim : Limits) (t : System Plain) (stop : Stop) (d : Config (Memory Plain)) → t.faulted ≡ false
+        → MeetsItsWay t stop → t.entries < lim.entries → event_of lim t (Stopped stop d) ≡ event.Fault fault.F6 }
 {}
