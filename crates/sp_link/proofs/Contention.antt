@@ -1,17 +1,16 @@
 -- Contention is an entry exactly where an offer meets one of its own way and the journal is not full.
-use Rattle.std.proofs.Common.{◌≡◌, ◌⊎◌, ℕ, suc, ◌+◌, ◌<◌, ◌≤◌, ◌==◌, List, Option, Some, None, Bool, true, false, if◌then◌else◌, refl, sym, ap, ◌∙◌, subst, arith}
+use Rattle.std.proofs.Common.{◌≡◌, ℕ, ◌+◌, ◌<◌, ◌==◌, List, Option, Some, None, Bool, true, false, if◌then◌else◌, refl, ap, ◌∙◌, subst, arith}
 use Rattle.std.specs.Prelude.{nat_lt}
 use Rattle.sp_base.specs.declared.fault.Fault.{Fault}
 use Rattle.sp_base.specs.declared.fault.Fault.TheVariants as fault
 use Rattle.sp_base.specs.declared.limits.Limits.{Limits}
-use Rattle.sp_journal.specs.declared.entry.Event.{Event}
 use Rattle.sp_journal.specs.declared.entry.Event.TheVariants as event
 use Rattle.sp_journal.specs.declared.entry.Way.TheVariants as way
 use Rattle.sp_cell.specs.Map.{Plain}
 use Rattle.sp_code.specs.Machine.{Stop, Forks, Opens, Sends, Receives, Ends, Pauses, Config}
 use Rattle.sp_code.specs.Memory.{Memory}
 use Rattle.sp_code.specs.Turns.{Stopped}
-use Rattle.sp_code.specs.System.{System, event_of, event_or, event_at, fault_of, first_fault, limit_of, clash_of, clash_by, pending_stop}
+use Rattle.sp_code.specs.System.{System, event_of, event_or, event_at, fault_of, first_fault, clash_of, clash_by, pending_stop}
 use Rattle.sp_link.specs.Endings.{MeetsItsWay}
 
 no_event : (stop : Stop) (f : Fault) → event_at stop ≡ event.Fault f → ⊥
