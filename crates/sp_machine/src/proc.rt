@@ -1,13 +1,14 @@
 //! A process.
 
-ghost use Rattle.std.specs.Prelude.{◌≡◌, ◌≤◌, ◌∷◌, [], IfOk, length, sum};
+ghost use Rattle.std.specs.Prelude.{◌≡◌, ◌+◌, ◌≤◌, ◌∷◌, [], IfOk, OnOk, OnErr, length, sum, slice_get};
 ghost use Rattle.sp_code.specs.Memory.{OfBlock};
 ghost use Rattle.sp_code.specs.Machine.{At};
 ghost use Rattle.sp_code.specs.PlainStore.{plain};
 ghost use Rattle.sp_code.specs.Ranks.{IsRanked};
-ghost use Rattle.sp_code.specs.Sound.{HasDistinctBlocks, CanJoin};
-ghost use Rattle.sp_code.specs.System.{entered_now};
-ghost use Rattle.sp_machine.specs.Procs.{config_of, start_of, Stays, HaveFormals, CanTurn, IsTurnOf};
+ghost use Rattle.sp_code.specs.Sound.{HasDistinctBlocks, CanJoin, CanSplit};
+ghost use Rattle.sp_code.specs.System.{entered_now, table_or};
+ghost use Rattle.sp_machine.specs.Procs.{config_of, start_of, Stays, HaveFormals, CanTurn, IsTurnOf, IsAtFork};
+ghost use Rattle.sp_machine.specs.Children.{AreNewborn, plan_by};
 ghost use Rattle.sp_machine.specs.Answers.{CanResume, resumed};
 
 use crate::frames::{Frame, Frames, Home};
@@ -109,6 +110,19 @@ impl Proc {
         ensures { self.new ≡ resumed answer self.old }
     {
         self.state.resume(answer);
+    }
+
+    /// STAND-IN, in this clone alone.
+    pub fn split(&mut self, _code: &Code, _count: u32, _number: u32) -> Result<List<Proc>, Memory>
+        requires blocks { HasDistinctBlocks _code.now.layouts }
+        requires fork { IsAtFork self.old self.old.table self.old.first _count }
+        requires numbers { _number + _count ≤ 4294967295 }
+        requires can { CanSplit self.old.store (plan_by _code.now self.old _count) }
+        ensures children { IfOk result (λ cs. AreNewborn _code.now self.old (table_or (slice_get _code.now.forks self.old.table)) _number _count cs) }
+        ensures parent { OnOk result (self.new ≡ record self.old { store = plain.handed self.old.store (plan_by _code.now self.old _count) }) }
+        ensures err { OnErr result (self.new ≡ self.old) }
+    {
+        Err(Memory)
     }
 
     /// Takes back from a child that has ended what moved to it.
