@@ -13,7 +13,7 @@ use Rattle.sp_machine.specs.Procs.{start_of, HaveFormals}
 use Rattle.sp_machine.specs.declared.state.State.{State as Proc}
 use Rattle.sp_history.specs.Agreement.{IsOrderly, Agrees}
 use Rattle.sp_history.proofs.Agreeing.{agrees_start, orderly_start}
-use Rattle.sp_history.proofs.Queues.{itself}
+use Rattle.sp_history.proofs.Queues.{number_or}
 use Rattle.sp_kernel.specs.declared.slot.Slot.{Slot}
 use Rattle.sp_kernel.specs.declared.slot.Slot.TheVariants as slot
 use Rattle.sp_kernel.specs.declared.slot.State.TheVariants as st
@@ -21,6 +21,13 @@ use Rattle.sp_kernel.specs.declared.kernel.Kernel.{Kernel}
 use Rattle.sp_kernel.specs.Procs.{config_of}
 use Rattle.sp_kernel.specs.Kernels.{doing_in, condition_in, control_of, system_of, setting_of, WaitsAs, NumberIn, HasParents, parent_in, parent_of, IsKernel}
 use Rattle.sp_kernel.specs.Asks.{IsOpening}
+
+later : (q : ℕ) → suc q == 0 ≡ false
+later q = go (number_or (suc q) 0)
+  where
+    go : (suc q ≡ 0) ⊎ ((suc q ≢ 0) × (suc q == 0 ≡ false)) → suc q == 0 ≡ false
+    go (inl e) = absurd (omega (arith, e))
+    go (inr o) = o.1
 
 -- the parts of a kernel that begins
 pub record IsFresh (x : Kernel) (p : Proc) : Type 0 where
@@ -41,7 +48,7 @@ module _ (x : Kernel) (p : Proc) (f : IsFresh x p) (config : config_of p ≡ sta
     where
       go : (q : ℕ) → doing_in (slice_get (slot.Here p st.Ready ∷ []) q) ≡ (if q == 0 then Ready else Unborn)
       go zero = refl
-      go (suc q) = refl
+      go (suc q) = rw (later q) refl
 
   pub control : control_of x ≡ control_at_start
   control = λ i. record {
@@ -62,7 +69,7 @@ module _ (x : Kernel) (p : Proc) (f : IsFresh x p) (config : config_of p ≡ sta
 
       go : (q : ℕ) → condition_in (slice_get (slot.Here p st.Ready ∷ []) q) ≡ (opening plain (setting_of x)).condition q
       go zero = ap (λ c. Runs c) start
-      go (suc q) = refl
+      go (suc q) = rw (later q) refl
 
   pub system : system_of x ≡ opening plain (setting_of x)
   system = λ i. record {

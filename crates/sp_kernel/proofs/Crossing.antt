@@ -41,9 +41,12 @@ slot_send = recorded_send Slot.the_field.row _ _ Slot.the_type.to_one (enum_send
 line_send : IsSend Line.the_row
 line_send = search (sendable, crosses) depth 40
 
+parent_send : IsSend (Rattle.std.specs.contracts.option.Option.the_row denote.Builtin.u32)
+parent_send = search (sendable, crosses) depth 40
+
 pub kernel_send : IsSend Kernel.the_row
 kernel_send = recorded_send Kernel.the_field.row _ _ Kernel.the_type.to_one (struct_send (s.shape Kernel.the_type)
-    (list.the_send _ slot_send, (line_send, (search sendable, (channels.the_send, (journal.the_field_send, (search sendable, (search sendable, (search sendable, (Arc-send _ code.the_send code.the_sync, (limits.the_field_send, (Arc-send _ text.the_send text.the_sync, tt))))))))))))
+    (list.the_send _ slot_send, (list.the_send _ parent_send, (line_send, (search sendable, (channels.the_send, (journal.the_field_send, (search sendable, (search sendable, (search sendable, (Arc-send _ code.the_send code.the_sync, (limits.the_field_send, (search crosses, tt)))))))))))))
 
 pub seat_send : IsSend (RoomSeat.the_row Kernel.the_row Ask.the_row Got.the_row Note.the_row Kept.ghosts)
 seat_send = seat.the_send Kernel.the_row Ask.the_row Got.the_row Note.the_row Kept.ghosts kernel_send note_send

@@ -110,7 +110,6 @@ module _ (g : Setting) where
 
   -- a turn that ends at an open
   pub open_takes : (code : Parts) (c : m.Config (Memory Plain)) (p : Proc) → IsTurn (memory plain g) code c (Stopped (m.Opens p.target) (config_of p)) → (d : Cell) → CanPut p.store p.target (d ∷ [])
-  unfolding config_of
   open_takes code c p turn = (turn_does (memory plain g) code Any Every Takes keeping c (Stopped (m.Opens p.target) (config_of p)) (any_config c) turn).0.1
 
 -- ---- no fault, or which

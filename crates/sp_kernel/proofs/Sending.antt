@@ -322,7 +322,6 @@ module _ (x : Kernel) (k : IsKernel x) (c j : ℕ) (cs : List Cell) (d : m.Confi
 -- the message fits at its receiver
 pub receiver_takes : (x : Kernel) (k : IsKernel x) (w : ℕ) (h : Handed) (c j : ℕ) (cs : List Cell) → h.stop ≡ stop.Send c j cs → x.faulted ≡ false → fault_of x.limits (system_of x) (Stopped (m.Sends c j cs) (config_of h.proc)) ≡ None
     → Fits x w h → (q : Pending) → slice_get x.channels c ≡ Some (Some q) → q.way ≡ way.Receive → IsReceiver (slice_get x.slots q.process) cs
-unfolding config_of
 receiver_takes x k w h c j cs is quiet fine fits q e f = go (slice_get x.slots q.process) refl (k.offers c q e)
   where
     stops : StopsAt (setting_of x) (system_of x) h.proc.number (m.Sends c j cs) (config_of h.proc)

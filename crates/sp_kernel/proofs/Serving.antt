@@ -1,5 +1,5 @@
 -- Each call of the kernel that leaves a note is one of the definitions.
-use Rattle.std.proofs.Common.{◌≡◌, ◌≢◌, ◌⊎◌, ℕ, zero, suc, ◌+◌, ◌-◌, ◌<◌, ◌≤◌, ◌==◌, inl, inr, Bool, true, false, cond, if◌then◌else◌, List, [], ◌∷◌, ◌++◌, length, length-append, Option, Some, None, slice_get, slice_set, refl, sym, ap, ◌∙◌, subst, arith}
+use Rattle.std.proofs.Common.{◌≡◌, ◌≢◌, ◌⊎◌, ℕ, zero, suc, ◌+◌, ◌-◌, ◌<◌, ◌≤◌, ◌==◌, ◌||◌, nat_lt, inl, inr, Bool, true, false, cond, if◌then◌else◌, List, [], ◌∷◌, ◌++◌, length, length-append, Option, Some, None, slice_get, slice_set, refl, sym, ap, ◌∙◌, subst, arith}
 use Rattle.std.specs.Option.{option_map}
 use Rattle.sp_cell.specs.Map.{Plain}
 use Rattle.sp_journal.specs.declared.entry.Way.{Way}
@@ -33,9 +33,10 @@ use Rattle.std.proofs.Math.Path.{fun_ext}
 use Rattle.sp_history.proofs.Legal.{orderly_gives_up, agrees_gives_up}
 use Rattle.sp_history.proofs.Queues.{itself, number_or}
 use Rattle.sp_kernel.proofs.Tables.{table_set, set_length}
+use Rattle.sp_kernel.proofs.Taking.{over_none}
 use Rattle.sp_kernel.proofs.Giving.{there, same_offers, same_numbers}
 
-same_setting : (x y : Kernel) → (y.code ≡ x.code) × (y.limits ≡ x.limits) × (y.root ≡ x.root) → setting_of y ≡ setting_of x
+pub same_setting : (x y : Kernel) → (y.code ≡ x.code) × (y.limits ≡ x.limits) × (y.root ≡ x.root) → setting_of y ≡ setting_of x
 same_setting x y e = λ i. run_of (e.0 i).value (e.2 i).value.input.value (e.1 i)
 
 pub noted_take : (x : Kernel) (w : ℕ) (y : Kernel) (p : Proc) → Takes x w y (Some p) → Notes x w (ask.Turn None) y (got.Work p) (record { worker = w; given = None; event = None; got = Some p.number })
@@ -184,6 +185,13 @@ abandons_one (Some p) k = refl
 abandons_out : (o : Option ℕ) (k : Control) → (abandons o k).out ≤ k.out + 1
 abandons_out None k = omega arith
 abandons_out (Some p) k = omega arith
+
+over_by : (n : ℕ) (b : Bool) → 0 < n → (nat_lt 0 n || b) ≡ true
+over_by n b l = grind (arith, l)
+
+-- nothing is taken any more
+pub none_after : (x : Kernel) (o : Option ℕ) (y : Kernel) → Abandons x o y → front (control_of y) ≡ None
+none_after x o y a = over_none (control_of y) (let e : y.abandons ≡ x.abandons + 1 = ap (λ (c : Control). c.abandons) a.control ∙ abandons_one o (control_of x) in over_by y.abandons _ (omega (arith, e)))
 
 noted_abandons : (w : ℕ) (o : Option ℕ) (k : Control) → takes w None (given o None None k) ≡ abandons o k
 noted_abandons w None k = refl

@@ -1,5 +1,5 @@
 -- How a run ends, and what is left of it.
-use Rattle.std.specs.Prelude.{◌≡◌, ℕ, suc, List, [], ◌∷◌, Option, Some, None}
+use Rattle.std.specs.Prelude.{◌≡◌, ◌<◌, ℕ, suc, List, [], ◌∷◌, Option, Some, None}
 use Rattle.std.specs.List.Sorted.{IsPermutation, IsSortedByKey}
 use Rattle.sp_base.specs.Order.{name_cmp}
 use Rattle.sp_cell.specs.Map.{Plain}
@@ -48,6 +48,18 @@ abbrev pub waiters_from : Births → ℕ → List Slot → List Waiter
 waiters_from b q [] = []
 waiters_from b q (s ∷ ss) = with_waiter b q s (waiters_from b (suc q) ss)
 
+-- who waits in a slot waits on one of so many channels
+abbrev pub SpeaksBelow : ℕ → Slot → Type 0
+SpeaksBelow n (slot.Here p (st.Sending c k cs)) = c < n
+SpeaksBelow n (slot.Here p (st.Receiving c k)) = c < n
+SpeaksBelow n (slot.Here p st.Ready) = Unit {0}
+SpeaksBelow n (slot.Here p (st.Joining m)) = Unit {0}
+SpeaksBelow n (slot.Here p st.Laid) = Unit {0}
+SpeaksBelow n (slot.Here p st.Over) = Unit {0}
+SpeaksBelow n (slot.Out w p) = Unit {0}
+SpeaksBelow n slot.Ended = Unit {0}
+SpeaksBelow n (slot.Gone p) = Unit {0}
+
 -- all that wait, in order of names
 pub record AreWaiters (y : Kernel) (ws : List Waiter) : Type 0 where
   pub all : IsPermutation (waiters_from (births y.journal.entries) 0 y.slots) ws
@@ -77,6 +89,11 @@ pub record IsNamed (y : Kernel) : Type 0 where
 -- a process that the kernel has holds this output
 abbrev pub HeldHere : Kernel → List ℕ → Type 0
 HeldHere y bs = (q : ℕ) × (m : Plain) × (((w : ℕ) → (control_of y).doing q ≡ Out w → ⊥) × ((control_of y).doing q ≡ Gone → ⊥)) × (store_in ((system_of y).condition q) ≡ Some m) × (plain.output m ≡ Some bs)
+
+-- an output, or nothing
+abbrev pub or_empty : Option (List ℕ) → List ℕ
+or_empty None = []
+or_empty (Some bs) = bs
 
 -- ---- a run that is over
 

@@ -10,3 +10,6 @@ pub mod Forks
 pub mod Fits
 pub mod Asks
 pub mod Keeping
+pub mod Faults
+pub mod Outputs
+pub mod Closes

@@ -2,6 +2,7 @@
 #![tactic(auto)]
 
 mod ask;
+mod closed;
 mod end;
 mod fork;
 mod handed;
@@ -14,5 +15,6 @@ mod serve;
 mod slot;
 
 pub use ask::{Ask, Got};
+pub use closed::Closed;
 pub use handed::Handed;
 pub use kernel::{Kernel, Standing};

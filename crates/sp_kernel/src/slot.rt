@@ -7,6 +7,7 @@ ghost use Rattle.sp_kernel.specs.declared.slot.Slot.TheVariants as slot;
 
 use sp_base::{List, Memory};
 use sp_cell::Cell;
+use sp_journal::Entry;
 use sp_machine::Proc;
 use std::mem;
 use std::snapshot::Snapshot;
@@ -55,29 +56,33 @@ pub(crate) fn put(slots: &mut List<Slot>, at: u32, slot: Slot)
     let _ = swap(slots, at, slot);
 }
 
-/// The last item goes.
-pub(crate) fn drop_last<T: Drop>(list: &mut List<T>)
-    ensures { list.new ≡ without_last list.old }
+/// The last entry goes.
+pub(crate) fn drop_last(entries: &mut List<Entry>)
+    ensures { entries.new ≡ without_last entries.old }
 {
-    let _ = list.pop();
+    let _ = entries.pop();
 }
 
 /// So many slots more, of processes that are not there yet. Where memory is refused the slots are unchanged.
+#[tactic(auto, using(crate::proofs::Lines::repeat_more, crate::proofs::Lines::front_only, crate::proofs::Lines::none_more))]
 pub(crate) fn add_slots(slots: &mut List<Slot>, count: u32) -> Result<(), Memory>
     ensures ok { OnOk result (slots.new ≡ slots.old ++ repeat count slot.Ended) }
     ensures err { OnErr result (slots.new ≡ slots.old) }
 {
     let before = slots.len();
-    for _ in 0..count {
+    let mut added = 0;
+    while added < count {
         if slots.push(Slot::Ended).is_err() {
             slots.truncate(before);
             return Err(Memory);
         }
+        added += 1;
     }
     Ok(())
 }
 
 /// So many children more of this process. Where memory is refused the list is unchanged.
+#[tactic(auto, using(crate::proofs::Lines::repeat_more, crate::proofs::Lines::front_only, crate::proofs::Lines::none_more))]
 pub(crate) fn add_parents(
     parents: &mut List<Option<u32>>,
     process: u32,
@@ -87,11 +92,13 @@ pub(crate) fn add_parents(
     ensures err { OnErr result (parents.new ≡ parents.old) }
 {
     let before = parents.len();
-    for _ in 0..count {
+    let mut added = 0;
+    while added < count {
         if parents.push(Some(process)).is_err() {
             parents.truncate(before);
             return Err(Memory);
         }
+        added += 1;
     }
     Ok(())
 }
