@@ -56,13 +56,10 @@ all_processes s (e ∷ es) = let a = more_processes s e.process e.event in let b
 
 pub fault_there : (s : Births) (es : List Entry) (p : ℕ) (f : Fault) → NameableFrom s es → fault_in es ≡ Some (p, f) → p < (births_from s es).processes
 fault_there s [] p f h e = absurd (cc e)
-fault_there s (d ∷ es) p f h e = go d.event refl e
+fault_there s (d ∷ es) p f h e = go (λ g. fault_there (after_entry s d) es p f h.1 g) d.event refl e
   where
-    on : fault_in es ≡ Some (p, f) → p < (births_from s (d ∷ es)).processes
-    on g = fault_there (after_entry s d) es p f h.1 g
-
-    go : (v : Event) → d.event ≡ v → fault_by d.process v (fault_in es) ≡ Some (p, f) → p < (births_from s (d ∷ es)).processes
-    go (event.Fault g) i w =
+    go : (fault_in es ≡ Some (p, f) → p < (births_from s (d ∷ es)).processes) → (v : Event) → d.event ≡ v → fault_by d.process v (fault_in es) ≡ Some (p, f) → p < (births_from s (d ∷ es)).processes
+    go on (event.Fault g) i w =
         let same : d.process ≡ p = ap first (some_is w) in
         let a = more_processes s d.process d.event in
         let b = all_processes (after_entry s d) es in
@@ -73,13 +70,13 @@ fault_there s (d ∷ es) p f h e = go d.event refl e
 
         some_is : {X : Type 0} {u v : X} → Some u ≡ Some v → u ≡ v
         some_is z = cc
-    go (event.Fork n) i w = on w
-    go event.Open i w = on w
-    go (event.Send c) i w = on w
-    go (event.Receive c) i w = on w
-    go event.End i w = on w
-    go event.Laid i w = on w
-    go event.Pause i w = on w
+    go on (event.Fork n) i w = on w
+    go on event.Open i w = on w
+    go on (event.Send c) i w = on w
+    go on (event.Receive c) i w = on w
+    go on event.End i w = on w
+    go on event.Laid i w = on w
+    go on event.Pause i w = on w
 
 -- ---- the output
 

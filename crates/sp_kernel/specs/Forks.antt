@@ -1,10 +1,12 @@
 -- What a fork does to the kernel.
-use Rattle.std.specs.Prelude.{◌≡◌, ℕ, ◌+◌, ◌-◌, List, [], ◌∷◌, ◌++◌, length, Some, slice_get, slice_set}
+use Rattle.std.specs.Prelude.{◌≡◌, ℕ, ℤ, ◌+◌, ◌-◌, List, [], ◌∷◌, ◌++◌, length, Some, slice_get, slice_set}
 use Rattle.sp_journal.specs.declared.entry.Event.TheVariants as event
 use Rattle.sp_journal.specs.Queue.{numbers}
 use Rattle.sp_code.specs.PlainStore.{plain}
 use Rattle.sp_code.specs.System.{on_store, entered_now, table_or}
 use Rattle.sp_machine.specs.declared.state.State.{State as Proc}
+use Rattle.sp_machine.specs.declared.state.Stop.{Stop}
+use Rattle.sp_machine.specs.declared.state.Stop.TheVariants as stop
 use Rattle.sp_machine.specs.Children.{AreNewborn, plan_by}
 use Rattle.sp_kernel.specs.declared.slot.Slot.{Slot}
 use Rattle.sp_kernel.specs.declared.slot.Slot.TheVariants as slot
@@ -47,3 +49,7 @@ pub record HasForked (x : Kernel) (p : Proc) (n : ℕ) (y : Kernel) : Type 0 whe
   pub slots : List Slot
   pub seated : Seated (x.slots ++ repeat n slot.Ended) (length x.slots) children slots
   pub is : y ≡ forks parent n slots x
+
+-- a stop at a fork of n children
+abbrev pub IsForkOf : Stop → ℕ → Type 0
+IsForkOf s n = (t : ℕ) × (v : ℤ) × (s ≡ stop.Fork t v n)

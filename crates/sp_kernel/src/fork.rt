@@ -4,10 +4,9 @@ ghost use Rattle.std.specs.Prelude.{ℕ, ◌≡◌, ◌+◌, ◌<◌, nat_lt, tr
 ghost use Rattle.sp_code.specs.Sound.{HasDistinctBlocks, CanSplit};
 ghost use Rattle.sp_machine.specs.Procs.{IsAtFork};
 ghost use Rattle.sp_machine.specs.Children.{plan_by};
-ghost use Rattle.sp_machine.specs.declared.state.Stop.TheVariants as stop;
 ghost use Rattle.sp_kernel.specs.Kernels.{IsKernel, Gave};
 ghost use Rattle.sp_kernel.specs.Fits.{Fits};
-ghost use Rattle.sp_kernel.specs.Forks.{admitted, HasForked};
+ghost use Rattle.sp_kernel.specs.Forks.{admitted, HasForked, IsForkOf};
 
 ghost use Rattle.sp_kernel.specs.declared.kernel.Kernel.{Kernel};
 
@@ -16,12 +15,12 @@ use crate::kernel::Kernel;
 use crate::slot::{Slot, State, add_parents, add_slots, drop_last, seat};
 use sp_base::{Fault, Memory};
 use sp_journal::Event;
-use sp_machine::Proc;
+use sp_machine::{Proc, Stop};
 
 impl Kernel {
     // The number of children, where there is room for them.
     fn room(&self, count: u64) -> Option<u32>
-        ensures { MatchOption result (nat_lt self.now.limits.processes (length self.now.slots + count) ≡ true) (λ n. (n ≡ count) × (nat_lt self.now.limits.processes (length self.now.slots + count) ≡ false)) }
+        ensures { MatchOption result (nat_lt self.now.limits.processes (length self.now.slots + count) ≡ true) (λ n. (n ≡ count) × (nat_lt self.now.limits.processes (length self.now.slots + count) ≡ false) × (length self.now.slots + n < 4294967296)) }
     {
         let limit = u64::from(self.limits.processes);
         let processes = self.slots.len() as u64;
@@ -106,25 +105,25 @@ impl Kernel {
         &mut self,
         _worker: u32,
         proc: Proc,
-        table: u32,
-        first: i64,
+        stop: Stop,
         count: u64,
     ) -> Result<(), Handed>
         requires whole { IsKernel self.old }
         requires quiet { self.old.faulted ≡ false }
-        requires fits { Fits self.old _worker (record { proc = proc; stop = stop.Fork table first count }) }
-        ensures ok { OnOk result (Gave self.old proc.number (record { proc = proc; stop = stop.Fork table first count }) self.new) }
+        requires forks { IsForkOf stop count }
+        requires fits { Fits self.old _worker (record { proc = proc; stop = stop }) }
+        ensures ok { OnOk result (Gave self.old proc.number (record { proc = proc; stop = stop }) self.new) }
         ensures err { OnErr result (self.new ≡ self.old) }
-        ensures returned { IfErr result (λ h. h ≡ record { proc = proc; stop = stop.Fork table first count }) }
+        ensures returned { IfErr result (λ h. h ≡ record { proc = proc; stop = stop }) }
     {
         if self.entries >= u64::from(self.limits.entries) {
-            return self.fail(Handed::forking(proc, table, first, count), Fault::F15);
+            return self.fail(Handed { proc, stop }, Fault::F15);
         }
         match self.room(count) {
-            None => self.fail(Handed::forking(proc, table, first, count), Fault::F13),
+            None => self.fail(Handed { proc, stop }, Fault::F13),
             Some(children) => match self.fork_now(proc, children) {
                 Ok(()) => Ok(()),
-                Err(proc) => Err(Handed::forking(proc, table, first, count)),
+                Err(proc) => Err(Handed { proc, stop }),
             },
         }
     }

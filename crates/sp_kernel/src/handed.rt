@@ -43,17 +43,4 @@ impl Handed {
             stop: Stop::Receive { channel, message },
         }
     }
-
-    pub(crate) fn forking(proc: Proc, table: u32, first: i64, count: u64) -> Handed
-        ensures { result ≡ record { proc = proc; stop = stop.Fork table first count } }
-    {
-        Handed {
-            proc,
-            stop: Stop::Fork {
-                table,
-                first,
-                count,
-            },
-        }
-    }
 }

@@ -173,11 +173,7 @@ impl Kernel {
         }
         let Handed { proc, stop } = handed;
         match stop {
-            Stop::Fork {
-                table,
-                first,
-                count,
-            } => self.fork(worker, proc, table, first, count),
+            Stop::Fork { count, .. } => self.fork(worker, proc, stop, count),
             Stop::Open => self.open(worker, proc),
             Stop::Send {
                 channel,
