@@ -21,6 +21,9 @@ pub returns-then-self-clause-ok : goal.returns-then-self-clause-ok
 returns-then-self-clause-ok c =
     on_ok c.lay.result _ _ (λ e. subst (Gave c.args.self.now c.args.handed.proc.number c.args.handed) (sym e) (gave_laid c.args.self.now c.requires.whole c.args.handed.proc.number c.args.worker c.requires.fits.out c.args.handed (refl, c.requires.fits.input) c.if-self.true)) c.lay.ensures.ok
 
+pub fork-requires-clause-fits : goal.fork-requires-clause-fits
+fork-requires-clause-fits c = subst (λ s. Fits c.args.self.now c.args.worker (record { proc = c.args.handed.proc; stop = s })) c.in-Fork.is c.requires.fits
+
 pub open-requires-clause-fits : goal.open-requires-clause-fits
 open-requires-clause-fits c = subst (λ s. Fits c.args.self.now c.args.worker (record { proc = c.args.handed.proc; stop = s })) c.in-Open.is c.requires.fits
 
