@@ -1,5 +1,5 @@
 -- The children of a fork.
-use Rattle.std.specs.Prelude.{◌≡◌, ℕ, ◌+◌, ◌<◌, ◌≤◌, ℤ, pos, ◌+ℤ◌, List, [], ◌∷◌, length, get_or, slice_get, Option, Some, None}
+use Rattle.std.specs.Prelude.{◌≡◌, ℕ, ◌+◌, ◌<◌, ℤ, List, [], ◌∷◌, length, get_or, slice_get, Option, Some, None}
 use Rattle.sp_base.specs.declared.limits.Limits.{Limits}
 use Rattle.sp_cell.specs.declared.spot.Handing.{Handing}
 use Rattle.sp_cell.specs.Map.{Plain}
@@ -34,7 +34,7 @@ with_frame q h (Some x) fs = record { owner = q; number = index_frame h; home = 
 -- a child at its first instruction, but for its store
 abbrev pub IsBornSo : State → ℕ → ℕ → List Frame → State → Type 0
 IsBornSo p q entry fs parent =
-    ((s : Plain) → config_of (record p { store = s }) ≡ At entry [] (record { process = q; frames = fs; depth = parent.depth + 1; ticks = 0; since = 0; cells = 0; store = s })) × ((p.number ≡ q) × (p.input ≡ parent.input))
+    ((s : Plain) → config_of (record p { store = s }) ≡ At entry [] (record { process = q; frames = fs; depth = parent.depth + 1; ticks = 0; since = 0; cells = 0; store = s })) × ((p.number ≡ q) × (p.input.value ≡ parent.input.value))
 
 abbrev pub BornOf : State → Handing → ChildTable → ℕ → State → Type 0
 BornOf p h c q parent = IsBornSo p q c.entry (with_frame q h c.index parent.frames) parent
@@ -50,7 +50,7 @@ plan_by code p count = plan_from code.layouts p.frames (table_or (slice_get code
 -- child k of a fork at which a process stopped
 abbrev pub IsNewborn : Parts → State → ForkTable → ℕ → ℕ → State → Type 0
 IsNewborn code p t number k c =
-    ((lim : Limits) → config_of c ≡ newborn plain (run_of code p.input.value lim) (config_of p) p.first (number + k) k (child_or (child_at t k))) × ((c.number ≡ number + k) × (c.input ≡ p.input))
+    ((lim : Limits) → config_of c ≡ newborn plain (run_of code p.input.value lim) (config_of p) p.first (number + k) k (child_or (child_at t k))) × ((c.number ≡ number + k) × (c.input.value ≡ p.input.value))
 
 -- all children
 abbrev pub AreNewborn : Parts → State → ForkTable → ℕ → ℕ → List State → Type 0
