@@ -249,7 +249,7 @@ module _ (x : Kernel) (k : IsKernel x) (p w : ℕ) (here : (control_of x).doing 
           let processes : l ≡ b.processes = k.processes in
           let its = (f.born.1 (q - l) h.proc (omega (arith, w.0, w.1, processes))).1 in
           let place : l + (q - l) ≡ q = omega (arith, w.0, processes) in
-          (its.0 ∙ place, (λ i. (its.1 i).value) ∙ own.1)
+          (its.0 ∙ place, its.1 ∙ own.1)
       go false e (inl z) = subst (λ j. NumberIn input (cond (p == j) (Some s) (slice_get x.slots j)) j) z (rw (Rattle.sp_history.proofs.Queues.itself p) (f.hands.1 ∙ own.0, f.hands.2 ∙ own.1))
       go false e (inr o) = rw (o.1) (k.numbers q)
 
