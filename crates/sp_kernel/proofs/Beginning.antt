@@ -1,14 +1,12 @@
 -- The kernel as it begins.
 use Rattle.std.proofs.Common.{◌≡◌, ◌≢◌, ◌⊎◌, ℕ, zero, suc, ◌==◌, inl, inr, false, List, [], ◌∷◌, length, Option, Some, None, if◌then◌else◌, slice_get, refl, sym, ap, ◌∙◌, subst, arith}
 use Rattle.std.proofs.Math.Path.{fun_ext}
-use Rattle.sp_base.specs.declared.limits.Limits.{Limits}
-use Rattle.sp_cell.specs.Map.{Plain}
 use Rattle.sp_channel.specs.declared.channels.Pending.{Pending}
 use Rattle.sp_journal.specs.Births.{births, at_start}
 use Rattle.sp_code.specs.PlainStore.{plain}
 use Rattle.sp_code.specs.Sound.{IsSound, AreLimits}
-use Rattle.sp_code.specs.Control.{Control, Ready, Unborn, control_at_start}
-use Rattle.sp_code.specs.System.{System, Absent, Runs, opening}
+use Rattle.sp_code.specs.Control.{Ready, Unborn, control_at_start}
+use Rattle.sp_code.specs.System.{Runs, opening}
 use Rattle.sp_machine.specs.Procs.{start_of, HaveFormals}
 use Rattle.sp_machine.specs.declared.state.State.{State as Proc}
 use Rattle.sp_history.specs.Agreement.{IsOrderly, Agrees}

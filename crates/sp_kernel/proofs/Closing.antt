@@ -1,5 +1,5 @@
 -- What stands once a run is over.
-use Rattle.std.proofs.Common.{◌≡◌, ◌≢◌, ◌⊎◌, ◌||◌, ◌+◌, ◌-◌, length, ℕ, ◌<◌, ◌≤◌, ◌==◌, if◌then◌else◌, cond, Bool, true, false, inl, inr, List, [], ◌∷◌, Option, Some, None, refl, sym, ap, ◌∙◌, subst, arith}
+use Rattle.std.proofs.Common.{◌≡◌, ◌≢◌, ◌⊎◌, ◌-◌, length, ℕ, ◌<◌, ◌==◌, if◌then◌else◌, cond, Bool, true, false, inl, inr, List, [], ◌∷◌, Option, Some, None, sym, ◌∙◌, subst, arith}
 use Rattle.sp_journal.specs.declared.entry.Way.{Way}
 use Rattle.sp_journal.specs.declared.entry.Way.TheVariants as way
 use Rattle.sp_journal.specs.declared.entry.Event.{Event}
@@ -9,20 +9,19 @@ use Rattle.sp_journal.specs.declared.entry.Note.{Note}
 use Rattle.sp_journal.specs.Maps.{at_key}
 use Rattle.sp_journal.specs.Births.{is_next}
 use Rattle.sp_code.specs.PlainStore.{plain}
-use Rattle.sp_code.specs.Control.{Control, Doing, Unborn, Ready, Out, Sending, Receiving, Joining, Laid, Ended, Gone, control_at_start, control, noted, noted_all, given, takes, comes_back, does, queues, offers, one_fewer, reports, standing, Standing, Running as Going, IsDone, IsDeadlock, IsFault, IsMemory, is_ready}
-use Rattle.sp_code.specs.System.{System, opening}
-use Rattle.sp_room.specs.History.{Runs as Told}
+use Rattle.sp_code.specs.Control.{Control, Doing, Unborn, Ready, Out, Sending, Receiving, Joining, Laid, Ended, Gone, control_at_start, noted, noted_all, given, takes, comes_back, does, queues, offers, one_fewer, reports}
+use Rattle.sp_code.specs.System.{opening}
 use Rattle.sp_kernel.specs.declared.kernel.Kernel.{Kernel}
 use Rattle.sp_kernel.specs.Kernels.{control_of, system_of, setting_of}
-use Rattle.sp_kernel.specs.Asks.{IsOpening, Steps}
-use Rattle.sp_kernel.specs.Closes.{RanTo, IsNamed, HeldHere}
-use Rattle.sp_history.specs.Agreement.{phase_in, Running, Among}
+use Rattle.sp_kernel.specs.Asks.{IsOpening}
+use Rattle.sp_kernel.specs.Closes.{RanTo}
+use Rattle.sp_history.specs.Agreement.{Among}
 use Rattle.sp_history.proofs.Agreeing.{agrees_start, orderly_start}
 use Rattle.sp_history.proofs.Queues.{number_or, at_same, at_other}
 use Rattle.sp_history.specs.Agreement.{HasOuts}
 use Rattle.sp_history.proofs.Outs.{outs_start, outs_all}
-use Rattle.sp_kernel.specs.Keeping.{from_start, control_is, it}
-use Rattle.sp_kernel.proofs.Serving.{back_abandons, taken_abandons}
+use Rattle.sp_kernel.specs.Keeping.{from_start, control_is}
+use Rattle.sp_kernel.proofs.Serving.{back_abandons}
 
 -- ---- a process is gone only where a worker gave up
 

@@ -4,11 +4,8 @@ use denote.Struct.Declared as s
 use denote.Enum.Declared as e
 use Rattle.std.proofs.Crossing.{crosses, Arc-send}
 use Rattle.sp_base.proofs.list.List.TheSendSync as list
-use Rattle.sp_base.proofs.text.Text.TheSendSync as text
 use Rattle.sp_base.proofs.limits.Limits.TheSendSync as limits
 use Rattle.sp_cell.proofs.cell.Cell.TheSendSync as cell
-use Rattle.sp_cell.proofs.spot.Address.TheSendSync as address
-use Rattle.sp_store.proofs.store.Store.TheSendSync as store
 use Rattle.sp_code.proofs.code.Code.TheSendSync as code
 use Rattle.sp_channel.proofs.channels.Channels.TheSendSync as channels
 use Rattle.sp_journal.proofs.entry.Journal.TheSendSync as journal

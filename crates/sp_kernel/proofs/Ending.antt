@@ -1,16 +1,12 @@
 -- The end of a run: what its journal names is there, and one process holds its output.
-use Rattle.std.proofs.Common.{◌≡◌, ◌≢◌, ◌⊎◌, ℕ, zero, suc, ◌+◌, ◌<◌, ◌≤◌, List, [], ◌∷◌, ◌++◌, Option, Some, None, slice_get, refl, sym, ap, ◌∙◌, subst, arith}
-use Rattle.sp_cell.specs.Map.{Plain}
+use Rattle.std.proofs.Common.{◌≡◌, ℕ, ◌<◌, ◌≤◌, List, [], ◌∷◌, ◌++◌, Option, Some, None, refl, sym, ap, ◌∙◌, subst, arith}
 use Rattle.sp_base.specs.declared.fault.Fault.{Fault}
 use Rattle.sp_journal.specs.declared.entry.Note.{Note}
 use Rattle.sp_journal.specs.declared.entry.Entry.{Entry}
 use Rattle.sp_journal.specs.declared.entry.Event.{Event}
 use Rattle.sp_journal.specs.declared.entry.Event.TheVariants as event
-use Rattle.sp_journal.specs.Births.{Births, at_start, births, births_from, after_event, after_entry, CanFollow, NameableFrom}
-use Rattle.sp_code.specs.Memory.{Setting}
-use Rattle.sp_code.specs.PlainStore.{plain}
-use Rattle.sp_code.specs.Sound.{IsSafeSystem}
-use Rattle.sp_code.specs.Control.{Control, entries_of}
+use Rattle.sp_journal.specs.Births.{Births, at_start, births_from, after_event, after_entry, NameableFrom}
+use Rattle.sp_code.specs.Control.{entries_of}
 use Rattle.sp_code.specs.System.{System, IsSystem}
 use Rattle.sp_history.specs.Holding.{IsOutputOf}
 use Rattle.sp_history.proofs.Speaking.{system_spoken}
@@ -18,11 +14,11 @@ use Rattle.sp_history.proofs.Naming.{system_nameable}
 use Rattle.sp_history.proofs.Holders.{one_holder}
 use Rattle.sp_room.specs.History.{Runs as Told}
 use Rattle.sp_kernel.specs.declared.kernel.Kernel.{Kernel}
-use Rattle.sp_kernel.specs.Kernels.{control_of, system_of, setting_of}
-use Rattle.sp_kernel.specs.Faults.{fault_in, fault_by, is_there}
+use Rattle.sp_kernel.specs.Kernels.{system_of, setting_of}
+use Rattle.sp_kernel.specs.Faults.{fault_in, fault_by}
 use Rattle.sp_kernel.specs.Asks.{IsOpening, Steps}
-use Rattle.sp_kernel.specs.Keeping.{from_start, control_is, it, along}
-use Rattle.sp_kernel.specs.Closes.{RanTo, RanFrom, IsNamed, or_empty}
+use Rattle.sp_kernel.specs.Keeping.{from_start, it, along}
+use Rattle.sp_kernel.specs.Closes.{RanFrom, IsNamed, or_empty}
 use Rattle.sp_kernel.specs.Outputs.{written}
 use Rattle.sp_kernel.proofs.Faulting.{fault_told}
 use Rattle.sp_kernel.proofs.Closing.{AllHere, all_here}

@@ -1,14 +1,13 @@
 -- An event that is a fault.
-use Rattle.std.proofs.Common.{◌≡◌, ℕ, ◌+◌, ◌<◌, ◌≤◌, nat_lt, Bool, true, false, Some, Result, Ok, Err, OnOk, sym, ap, subst, refl, ◌∙◌, arith}
+use Rattle.std.proofs.Common.{◌≡◌, ℕ, ◌+◌, ◌<◌, ◌≤◌, nat_lt, true, false, Some, Result, Ok, Err, OnOk, sym, ap, subst, refl, ◌∙◌, arith}
 use Rattle.sp_base.specs.declared.fault.Fault.{Fault}
 use Rattle.sp_journal.specs.declared.entry.Event.TheVariants as event
-use Rattle.sp_code.specs.Control.{Out}
 use Rattle.sp_code.specs.System.{fault_of}
 use Rattle.sp_kernel.specs.declared.slot.Slot.TheVariants as slot
 use Rattle.sp_kernel.specs.declared.slot.State.TheVariants as st
 use Rattle.sp_kernel.specs.declared.handed.Handed.{Handed}
 use Rattle.sp_kernel.specs.declared.kernel.Kernel.{Kernel}
-use Rattle.sp_kernel.specs.Kernels.{control_of, system_of, setting_of, IsKernel, back, Gave}
+use Rattle.sp_kernel.specs.Kernels.{system_of, IsKernel, back, Gave}
 use Rattle.sp_kernel.specs.Procs.{turn_of}
 use Rattle.sp_kernel.specs.Fits.{Fits}
 use Rattle.sp_kernel.proofs.Giving.{gave_fault}

@@ -1,26 +1,22 @@
 -- A fork: the children are ready, and the parent joins them.
-use Rattle.std.proofs.Common.{◌≡◌, ◌≢◌, ◌⊎◌, ℕ, zero, suc, ◌+◌, ◌-◌, ◌<◌, ◌≤◌, ◌==◌, inl, inr, Bool, true, false, cond, if◌then◌else◌, nat_lt, ℤ, List, [], ◌∷◌, ◌++◌, length, length-append, get_or, ltb-true, ltb-false, Option, Some, None, slice_get, slice_set, refl, sym, ap, ◌∙◌, subst, arith}
+use Rattle.std.proofs.Common.{◌≡◌, ◌≢◌, ◌⊎◌, ℕ, zero, suc, ◌+◌, ◌-◌, ◌<◌, ◌≤◌, ◌==◌, inl, inr, Bool, true, false, cond, nat_lt, ℤ, List, [], ◌∷◌, ◌++◌, length, length-append, get_or, ltb-true, ltb-false, Option, Some, None, slice_get, slice_set, refl, sym, ap, ◌∙◌, subst, arith}
 use Rattle.std.proofs.Math.Path.{fun_ext}
 use Rattle.std.proofs.lemmas.Option.{slice_get-get_or, slice_get_past}
 use Rattle.sp_base.specs.declared.limits.Limits.{Limits}
-use Rattle.sp_base.specs.declared.fault.Fault.{Fault}
 use Rattle.sp_base.specs.declared.fault.Fault.TheVariants as fault
 use Rattle.sp_cell.specs.Map.{Plain}
-use Rattle.sp_journal.specs.declared.entry.Birth.{Birth}
-use Rattle.sp_journal.specs.declared.entry.Event.{Event}
 use Rattle.sp_journal.specs.declared.entry.Event.TheVariants as event
-use Rattle.sp_journal.specs.Maps.{at_key}
 use Rattle.sp_journal.specs.Births.{Births, births, after_event, is_next}
 use Rattle.sp_journal.specs.Queue.{numbers}
 use Rattle.sp_channel.specs.declared.channels.Pending.{Pending}
 use Rattle.sp_code.specs.declared.code.ForkTable.{ForkTable}
 use Rattle.sp_code.specs.Machine as m
-use Rattle.sp_code.specs.Memory.{Setting, Memory, memory}
+use Rattle.sp_code.specs.Memory.{Memory, memory}
 use Rattle.sp_code.specs.PlainStore.{plain}
 use Rattle.sp_code.specs.Tables.{child_at}
-use Rattle.sp_code.specs.Turns.{Turn, Stopped, IsTurn}
+use Rattle.sp_code.specs.Turns.{Stopped, IsTurn}
 use Rattle.sp_code.specs.Sound.{StopsAt, CanSplit, run_of}
-use Rattle.sp_code.specs.Control.{Control, Doing, Ready, Out, Joining, comes_back}
+use Rattle.sp_code.specs.Control.{Doing, Out, comes_back}
 use Rattle.sp_code.specs.System.{System, Condition, Runs, Joins, after, event_of, entered_now, on_store, fault_of, newborn, plan_from, table_or, child_or}
 use Rattle.sp_kernel.specs.declared.slot.Slot.{Slot}
 use Rattle.sp_kernel.specs.declared.slot.Slot.TheVariants as slot
@@ -34,11 +30,11 @@ use Rattle.sp_kernel.specs.declared.kernel.Kernel.{Kernel}
 use Rattle.sp_kernel.specs.Procs.{config_of, turn_by, turn_of}
 use Rattle.sp_kernel.specs.Kernels.{doing_in, condition_in, control_of, system_of, setting_of, WaitsAs, IsOwn, NumberIn, HasParents, parent_in, parent_of, IsKernel, Gave}
 use Rattle.sp_kernel.specs.Lines.{repeat}
-use Rattle.sp_kernel.specs.Forks.{forks, HasForked}
+use Rattle.sp_kernel.specs.Forks.{HasForked}
 use Rattle.sp_kernel.specs.Fits.{Fits}
 use Rattle.sp_history.proofs.Queues.{number_or}
 use Rattle.sp_history.proofs.Orders.{next_yes, next_not, next_past}
-use Rattle.sp_kernel.proofs.Tables.{table_set, set_length, get_set, get_apart}
+use Rattle.sp_kernel.proofs.Tables.{table_set, set_length, get_apart}
 use Rattle.sp_kernel.proofs.Giving.{event_quiet, after_quiet, whole_after, there, no_waiter, next_births, parents_after}
 use Rattle.sp_kernel.proofs.Sending.{waiter_there}
 

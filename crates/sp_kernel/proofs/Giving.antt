@@ -1,26 +1,20 @@
 -- What the kernel's tables come to is the event of the definitions.
-use Rattle.std.proofs.Common.{◌≡◌, ◌≢◌, ◌⊎◌, ℕ, zero, suc, ◌+◌, ◌-◌, ◌<◌, ◌≤◌, ◌==◌, inl, inr, Bool, true, false, cond, if◌then◌else◌, nat_lt, List, [], ◌∷◌, ◌++◌, append_assoc, length, Option, Some, None, slice_get, slice_set, refl, sym, ap, ◌∙◌, subst, arith}
-use Rattle.std.proofs.Math.Path.{fun_ext}
+use Rattle.std.proofs.Common.{◌≡◌, ◌≢◌, ◌⊎◌, ℕ, ◌-◌, ◌<◌, ◌==◌, inl, inr, Bool, true, false, if◌then◌else◌, List, [], ◌∷◌, ◌++◌, length, Option, Some, None, slice_get, slice_set, refl, sym, ap, ◌∙◌, subst}
 use Rattle.sp_base.specs.declared.fault.Fault.{Fault}
-use Rattle.sp_base.specs.declared.fault.Fault.TheVariants as fault
 use Rattle.sp_base.specs.declared.limits.Limits.{Limits}
-use Rattle.sp_cell.specs.declared.cell.Cell.{Cell}
 use Rattle.sp_cell.specs.Map.{Plain}
-use Rattle.sp_journal.specs.declared.entry.Way.{Way}
-use Rattle.sp_journal.specs.declared.entry.Way.TheVariants as way
 use Rattle.sp_journal.specs.declared.entry.Event.{Event}
 use Rattle.sp_journal.specs.declared.entry.Event.TheVariants as event
-use Rattle.sp_journal.specs.declared.entry.Entry.{Entry}
 use Rattle.sp_journal.specs.Maps.{at_key}
 use Rattle.sp_journal.specs.Births.{Births, births, after_event}
 use Rattle.sp_journal.proofs.BirthLaws.{births_last}
 use Rattle.sp_channel.specs.declared.channels.Pending.{Pending}
 use Rattle.sp_code.specs.Machine as m
-use Rattle.sp_code.specs.Memory.{put_cells, Setting, Memory}
+use Rattle.sp_code.specs.Memory.{Setting, Memory}
 use Rattle.sp_code.specs.PlainStore.{plain}
-use Rattle.sp_code.specs.Turns.{Turn, Stopped, Faulted}
-use Rattle.sp_code.specs.Control.{Control, Doing, Out, Ready, comes_back}
-use Rattle.sp_code.specs.System.{System, Condition, Runs, Waits, Laid as IsLaid, config_of as config_at, event_at, event_or, after, event_of, entered_now, on_store, fault_of, lays, unless_fault, happens, first_fault, limit_of, clash_of, clash_by, pending_stop, stop_of, one_more_entry}
+use Rattle.sp_code.specs.Turns.{Turn, Stopped}
+use Rattle.sp_code.specs.Control.{Doing, Out, comes_back}
+use Rattle.sp_code.specs.System.{System, Condition, Runs, Laid as IsLaid, config_of as config_at, event_at, event_or, after, event_of, entered_now, fault_of, lays, unless_fault, happens}
 use Rattle.sp_kernel.specs.declared.slot.Slot.{Slot}
 use Rattle.sp_kernel.specs.declared.slot.Slot.TheVariants as slot
 use Rattle.sp_kernel.specs.declared.slot.State.TheVariants as st
@@ -29,11 +23,10 @@ use Rattle.sp_kernel.specs.declared.handed.Handed.{Handed}
 use Rattle.sp_machine.specs.declared.state.Stop.{Stop}
 use Rattle.sp_machine.specs.declared.state.Stop.TheVariants as stop
 use Rattle.sp_kernel.specs.declared.kernel.Kernel.{Kernel}
-use Rattle.sp_kernel.specs.Procs.{config_of, target_of, turn_by, turn_of, Enters}
-use Rattle.sp_kernel.specs.Kernels.{doing_in, condition_in, offer_in, process_in, control_of, system_of, setting_of, WaitsAs, IsOwn, NumberIn, HasParents, IsKernel, back, entered, Gave}
-use Rattle.sp_kernel.specs.Sends.{waits_to_send, meets_sending, Receives as Gets}
+use Rattle.sp_kernel.specs.Procs.{config_of, turn_by, turn_of, Enters}
+use Rattle.sp_kernel.specs.Kernels.{doing_in, condition_in, control_of, system_of, setting_of, WaitsAs, IsOwn, NumberIn, HasParents, IsKernel, back, Gave}
 use Rattle.sp_history.specs.Agreement.{IsOrderly, Agrees}
-use Rattle.sp_history.proofs.Queues.{itself, number_or, at_same, at_other}
+use Rattle.sp_history.proofs.Queues.{number_or}
 use Rattle.sp_kernel.proofs.Tables.{table_set, set_length, get_set, get_apart, within}
 use Rattle.sp_history.proofs.Orders.{orderly_back}
 use Rattle.sp_history.proofs.Agreeing.{agrees_after}

@@ -1,20 +1,18 @@
 -- An end: the first process is over, and a child's parent takes back from it.
-use Rattle.std.proofs.Common.{◌≡◌, ◌≢◌, ◌⊎◌, ℕ, zero, suc, ◌+◌, ◌-◌, ◌<◌, ◌≤◌, ◌==◌, inl, inr, Bool, true, false, cond, if◌then◌else◌, List, [], ◌∷◌, ◌++◌, length, Option, Some, None, slice_get, slice_set, refl, sym, ap, ◌∙◌, subst, arith}
-use Rattle.sp_base.specs.declared.fault.Fault.{Fault}
+use Rattle.std.proofs.Common.{◌≡◌, ◌≢◌, ◌⊎◌, ℕ, ◌-◌, ◌<◌, ◌==◌, inl, inr, Bool, true, false, if◌then◌else◌, List, [], ◌∷◌, ◌++◌, length, Option, Some, None, slice_get, slice_set, refl, sym, ap, ◌∙◌, subst}
 use Rattle.sp_cell.specs.Map.{Plain}
 use Rattle.sp_journal.specs.declared.entry.Birth.{Birth}
-use Rattle.sp_journal.specs.declared.entry.Event.{Event}
 use Rattle.sp_journal.specs.declared.entry.Event.TheVariants as event
 use Rattle.sp_journal.specs.Maps.{at_key}
 use Rattle.sp_journal.specs.Births.{Births, births}
 use Rattle.sp_channel.specs.declared.channels.Pending.{Pending}
 use Rattle.sp_code.specs.Machine as m
-use Rattle.sp_code.specs.Memory.{Setting, Memory, memory}
+use Rattle.sp_code.specs.Memory.{Memory, memory}
 use Rattle.sp_code.specs.PlainStore.{plain}
-use Rattle.sp_code.specs.Turns.{Turn, Stopped, IsTurn}
+use Rattle.sp_code.specs.Turns.{Stopped, IsTurn}
 use Rattle.sp_code.specs.Sound.{StopsAt}
-use Rattle.sp_code.specs.Control.{Control, Doing, Unborn, Ready, Out, Joining, Ended, comes_back, does, queues, one_fewer as control_fewer, reports}
-use Rattle.sp_code.specs.System.{System, Condition, Runs, Joins as IsJoining, Over, Gone as HasGone, after, event_of, entered_now, on_store, store_of, fault_of, rejoined, reported}
+use Rattle.sp_code.specs.Control.{Control, Out, Joining, Ended, comes_back, does, queues, one_fewer as control_fewer, reports}
+use Rattle.sp_code.specs.System.{Runs, Joins as IsJoining, Over, Gone as HasGone, after, event_of, entered_now, on_store, rejoined, reported}
 use Rattle.sp_kernel.specs.declared.slot.Slot.{Slot}
 use Rattle.sp_kernel.specs.declared.slot.Slot.TheVariants as slot
 use Rattle.sp_kernel.specs.declared.slot.State.TheVariants as st
@@ -23,8 +21,8 @@ use Rattle.sp_kernel.specs.declared.handed.Handed.{Handed}
 use Rattle.sp_machine.specs.declared.state.Stop.TheVariants as stop
 use Rattle.sp_kernel.specs.declared.kernel.Kernel.{Kernel}
 use Rattle.sp_kernel.specs.Procs.{config_of, turn_by, turn_of, Enters}
-use Rattle.sp_kernel.specs.Kernels.{doing_in, condition_in, control_of, system_of, setting_of, WaitsAs, IsOwn, NumberIn, HasParents, parent_in, parent_of, IsKernel, back, Gave}
-use Rattle.sp_kernel.specs.Ends.{left_in, one_fewer, ends_child, IsJoiner, TookBack, Joins}
+use Rattle.sp_kernel.specs.Kernels.{doing_in, condition_in, control_of, system_of, setting_of, WaitsAs, IsOwn, NumberIn, parent_in, parent_of, IsKernel, back, Gave}
+use Rattle.sp_kernel.specs.Ends.{left_in, one_fewer, ends_child, IsJoiner, Joins}
 use Rattle.sp_kernel.specs.Fits.{Fits}
 use Rattle.sp_history.proofs.Queues.{number_or, at_other}
 use Rattle.sp_kernel.proofs.Tables.{table_set, set_length, get_set, get_apart, within}

@@ -1,18 +1,15 @@
 -- An open: it has its number, or it is a fault.
-use Rattle.std.proofs.Common.{◌≡◌, ◌≢◌, ◌⊎◌, ℕ, zero, suc, ◌+◌, ◌-◌, ◌<◌, ◌≤◌, ◌==◌, inl, inr, Bool, true, false, cond, if◌then◌else◌, nat_lt, nat_le, List, [], ◌∷◌, ◌++◌, length, length-append, Option, Some, None, slice_get, slice_set, refl, sym, ap, ◌∙◌, subst, arith}
+use Rattle.std.proofs.Common.{◌≡◌, ℕ, zero, suc, ◌+◌, ◌-◌, ◌≤◌, ◌==◌, true, false, nat_lt, List, [], ◌∷◌, ◌++◌, length, length-append, Option, Some, None, slice_get, slice_set, refl, sym, ap, ◌∙◌, subst}
 use Rattle.std.proofs.lemmas.Bool.{leb-true}
 use Rattle.std.proofs.Math.Path.{fun_ext}
 use Rattle.sp_base.specs.declared.limits.Limits.{Limits}
-use Rattle.sp_base.specs.declared.fault.Fault.{Fault}
 use Rattle.sp_base.specs.declared.fault.Fault.TheVariants as fault
 use Rattle.sp_cell.specs.declared.cell.Cell.{Cell}
 use Rattle.sp_cell.specs.declared.cell.Cell.TheVariants as cell
 use Rattle.sp_cell.specs.declared.spot.Address.{Address}
 use Rattle.sp_cell.specs.Map.{Plain, Own, IsOwn as IsOwnPiece, HasCells, cells_of}
 use Rattle.sp_cell.specs.Laws.{get_here}
-use Rattle.std.specs.FinMap as map
 use Rattle.sp_journal.specs.declared.entry.Way.{Way}
-use Rattle.sp_journal.specs.declared.entry.Event.{Event}
 use Rattle.sp_journal.specs.declared.entry.Event.TheVariants as event
 use Rattle.sp_journal.specs.Maps.{at_key}
 use Rattle.sp_journal.specs.Births.{Births, births}
@@ -21,13 +18,12 @@ use Rattle.sp_code.specs.declared.code.Parts.{Parts}
 use Rattle.sp_code.specs.Machine as m
 use Rattle.sp_code.specs.Memory.{put_cell, Setting, Memory, memory, cells_at, has_cells}
 use Rattle.sp_code.specs.PlainStore.{plain}
-use Rattle.sp_code.specs.Turns.{Turn, Stopped, IsTurn}
+use Rattle.sp_code.specs.Turns.{Stopped, IsTurn}
 use Rattle.sp_code.specs.Sound.{CanPut}
-use Rattle.sp_code.specs.Control.{Control, Out, comes_back}
-use Rattle.sp_code.specs.System.{System, Condition, Runs, after, event_of, entered_now, on_store, fault_of}
+use Rattle.sp_code.specs.Control.{Out, comes_back}
+use Rattle.sp_code.specs.System.{System, Runs, after, event_of, entered_now, on_store, fault_of}
 use Rattle.sp_history.specs.Channels.{CellHas, CellsHave, EntriesHave, ConfigHas, TurnDoes}
 use Rattle.sp_history.proofs.Keeping.{HasKeeping, turn_does}
-use Rattle.sp_kernel.specs.declared.slot.Slot.{Slot}
 use Rattle.sp_kernel.specs.declared.slot.Slot.TheVariants as slot
 use Rattle.sp_kernel.specs.declared.slot.State.TheVariants as st
 use Rattle.sp_machine.specs.declared.state.State.{State as Proc}
@@ -35,13 +31,12 @@ use Rattle.sp_kernel.specs.declared.handed.Handed.{Handed}
 use Rattle.sp_machine.specs.declared.state.Stop.TheVariants as stop
 use Rattle.sp_kernel.specs.declared.kernel.Kernel.{Kernel}
 use Rattle.sp_kernel.specs.Procs.{config_of, turn_by, turn_of}
-use Rattle.sp_kernel.specs.Kernels.{offer_in, process_in, control_of, system_of, setting_of, WaitsAs, IsOwn, HasParents, IsKernel, Gave}
+use Rattle.sp_kernel.specs.Kernels.{offer_in, process_in, control_of, system_of, setting_of, WaitsAs, IsKernel, Gave}
 use Rattle.sp_kernel.specs.Opens.{opens, EntersAt}
 use Rattle.sp_kernel.proofs.Tables.{set_length}
 use Rattle.sp_kernel.proofs.Giving.{event_quiet, after_quiet, whole_after, next_doing, next_condition, next_births, same_offers, same_numbers, parents_after}
 
 -- ---- where the channel goes is a piece of the process's own
-
 
 abbrev Any : ℕ → Type 0
 Any c = Unit {0}

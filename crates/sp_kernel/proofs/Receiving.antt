@@ -1,27 +1,23 @@
 -- An offer to receive: it waits, it meets, or it is a fault.
-use Rattle.std.proofs.Common.{◌≡◌, ◌≢◌, ◌⊎◌, ℕ, zero, suc, ◌+◌, ◌-◌, ◌<◌, ◌≤◌, ◌==◌, inl, inr, Bool, true, false, cond, if◌then◌else◌, nat_lt, List, [], ◌∷◌, ◌++◌, length, Option, Some, None, slice_get, slice_set, refl, sym, ap, ◌∙◌, subst, arith}
-use Rattle.std.specs.Prelude.{slice_index_or}
-use Rattle.std.proofs.lemmas.Option.{slice_get-get_or}
+use Rattle.std.proofs.Common.{◌≡◌, ◌≢◌, ◌⊎◌, ℕ, ◌+◌, ◌-◌, ◌<◌, ◌==◌, inl, inr, Bool, true, false, if◌then◌else◌, nat_lt, List, [], ◌∷◌, ◌++◌, length, Option, Some, None, slice_get, slice_set, refl, sym, ap, ◌∙◌, subst}
 use Rattle.sp_base.specs.declared.limits.Limits.{Limits}
-use Rattle.sp_base.specs.declared.fault.Fault.{Fault}
 use Rattle.sp_base.specs.declared.fault.Fault.TheVariants as fault
 use Rattle.sp_cell.specs.declared.cell.Cell.{Cell}
 use Rattle.sp_cell.specs.declared.spot.Address.{Address}
 use Rattle.sp_cell.specs.Map.{Plain}
 use Rattle.sp_journal.specs.declared.entry.Way.{Way}
 use Rattle.sp_journal.specs.declared.entry.Way.TheVariants as way
-use Rattle.sp_journal.specs.declared.entry.Event.{Event}
 use Rattle.sp_journal.specs.declared.entry.Event.TheVariants as event
 use Rattle.sp_journal.specs.Maps.{at_key}
 use Rattle.sp_journal.specs.Births.{Births, births}
 use Rattle.sp_channel.specs.declared.channels.Pending.{Pending}
 use Rattle.sp_code.specs.Machine as m
-use Rattle.sp_code.specs.Memory.{put_cells, Setting, Memory, memory}
+use Rattle.sp_code.specs.Memory.{put_cells, Memory, memory}
 use Rattle.sp_code.specs.PlainStore.{plain}
-use Rattle.sp_code.specs.Turns.{Turn, Stopped, Faulted, IsTurn}
+use Rattle.sp_code.specs.Turns.{Stopped, IsTurn}
 use Rattle.sp_code.specs.Sound.{StopsAt}
-use Rattle.sp_code.specs.Control.{Control, Doing, Out, Ready, Receiving, comes_back, offers}
-use Rattle.sp_code.specs.System.{System, Condition, Runs, Waits, after, event_of, entered_now, on_store, fault_of, taken, received, message_of, counted, first_fault, clash_by, pending_stop, stop_of, one_more_entry, limit_of, clash_of}
+use Rattle.sp_code.specs.Control.{Out, Receiving, comes_back, offers}
+use Rattle.sp_code.specs.System.{System, Runs, Waits, after, event_of, entered_now, on_store, fault_of, taken, received, message_of, counted, clash_by, pending_stop, stop_of}
 use Rattle.sp_kernel.specs.declared.slot.Slot.{Slot}
 use Rattle.sp_kernel.specs.declared.slot.Slot.TheVariants as slot
 use Rattle.sp_kernel.specs.declared.slot.State.TheVariants as st
@@ -29,7 +25,7 @@ use Rattle.sp_machine.specs.declared.state.State.{State as Proc}
 use Rattle.sp_kernel.specs.declared.handed.Handed.{Handed}
 use Rattle.sp_machine.specs.declared.state.Stop.TheVariants as stop
 use Rattle.sp_kernel.specs.declared.kernel.Kernel.{Kernel}
-use Rattle.sp_kernel.specs.Procs.{config_of, turn_by, turn_of, target_of, CanTake, Enters}
+use Rattle.sp_kernel.specs.Procs.{config_of, turn_by, turn_of, Enters}
 use Rattle.sp_kernel.specs.Kernels.{doing_in, condition_in, offer_in, process_in, control_of, system_of, setting_of, WaitsAs, IsOwn, NumberIn, IsKernel, Gave}
 use Rattle.sp_kernel.specs.Receives.{waits_to_receive, meets_receiving, IsSender, Gives, EntersWith}
 use Rattle.sp_kernel.specs.Fits.{Fits}

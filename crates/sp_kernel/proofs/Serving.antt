@@ -1,22 +1,18 @@
 -- Each call of the kernel that leaves a note is one of the definitions.
-use Rattle.std.proofs.Common.{◌≡◌, ◌≢◌, ◌⊎◌, ℕ, zero, suc, ◌+◌, ◌-◌, ◌<◌, ◌≤◌, ◌==◌, ◌||◌, nat_lt, inl, inr, Bool, true, false, cond, if◌then◌else◌, List, [], ◌∷◌, ◌++◌, length, length-append, Option, Some, None, slice_get, slice_set, refl, sym, ap, ◌∙◌, subst, arith}
+use Rattle.std.proofs.Common.{◌≡◌, ◌≢◌, ◌⊎◌, ℕ, ◌+◌, ◌-◌, ◌<◌, ◌≤◌, ◌==◌, ◌||◌, nat_lt, inl, inr, Bool, true, false, cond, if◌then◌else◌, List, [], ◌∷◌, ◌++◌, length, length-append, Option, Some, None, slice_set, refl, sym, ap, ◌∙◌, subst, arith}
 use Rattle.std.specs.Option.{option_map}
 use Rattle.sp_cell.specs.Map.{Plain}
 use Rattle.sp_journal.specs.declared.entry.Way.{Way}
 use Rattle.sp_journal.specs.declared.entry.Event.{Event}
 use Rattle.sp_journal.specs.declared.entry.Event.TheVariants as event
-use Rattle.sp_journal.specs.declared.entry.Entry.{Entry}
 use Rattle.sp_journal.specs.declared.entry.Birth.{Birth}
-use Rattle.sp_journal.specs.declared.entry.Note.{Note}
 use Rattle.sp_journal.specs.Maps.{at_key}
-use Rattle.sp_channel.specs.declared.channels.Pending.{Pending}
 use Rattle.sp_code.specs.Memory.{Setting}
 use Rattle.sp_code.specs.PlainStore.{plain}
 use Rattle.sp_code.specs.Sound.{run_of}
 use Rattle.sp_code.specs.Control.{Control, Doing, Ready, Out, Gone, Joining, Unborn, Sending, Receiving, Laid, Ended, takes, given, entry_of, comes_back, abandons, front, offers, queues, does, one_fewer, reports}
-use Rattle.sp_code.specs.System.{System, Condition, Runs, event_of, Gives, Gets}
+use Rattle.sp_code.specs.System.{System, event_of, Gives, Gets}
 use Rattle.sp_kernel.specs.declared.slot.Slot.{Slot}
-use Rattle.sp_kernel.specs.declared.slot.Slot.TheVariants as slot
 use Rattle.sp_machine.specs.declared.state.State.{State as Proc}
 use Rattle.sp_kernel.specs.declared.handed.Handed.{Handed}
 use Rattle.sp_kernel.specs.declared.kernel.Kernel.{Kernel}
@@ -24,11 +20,11 @@ use mathlib.Core.List.{append-nil}
 use Rattle.sp_kernel.specs.declared.ask.Ask.TheVariants as ask
 use Rattle.sp_kernel.specs.declared.ask.Got.{Got}
 use Rattle.sp_kernel.specs.declared.ask.Got.TheVariants as got
-use Rattle.sp_kernel.specs.Procs.{config_of, turn_of}
+use Rattle.sp_kernel.specs.Procs.{turn_of}
 use Rattle.sp_kernel.specs.Kernels.{control_of, system_of, setting_of, doing_in, condition_in, NumberIn, IsKernel, Takes, Gave, Abandons}
 use Rattle.sp_kernel.specs.Fits.{Fits}
 use Rattle.sp_kernel.specs.Asks.{Notes, Answers, FitsAsk}
-use Rattle.sp_history.specs.Agreement.{Follows, IsOrderly, Agrees}
+use Rattle.sp_history.specs.Agreement.{IsOrderly, Agrees}
 use Rattle.std.proofs.Math.Path.{fun_ext}
 use Rattle.sp_history.proofs.Legal.{orderly_gives_up, agrees_gives_up}
 use Rattle.sp_history.proofs.Queues.{itself, number_or}

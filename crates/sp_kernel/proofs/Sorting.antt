@@ -1,5 +1,5 @@
 -- Waiters in order of names.
-use Rattle.std.proofs.Common.{◌≡◌, ℕ, zero, suc, ◌+◌, ◌<◌, Bool, List, [], ◌∷◌, ◌++◌, append_assoc, length, get_or, take, Option, Some, None, slice_get, refl, sym, ap, ◌∙◌, arith}
+use Rattle.std.proofs.Common.{◌≡◌, ℕ, zero, suc, ◌+◌, Bool, List, [], ◌∷◌, ◌++◌, append_assoc, take, Some, slice_get, refl, sym, ap, ◌∙◌, arith}
 use denote.Ref.{Bor}
 use denote.Param.Members.{Mut}
 use Rattle.std.specs.Cmp.{IsTotalOrder, IsStrictWeakOrder}
@@ -13,7 +13,6 @@ use Rattle.sp_journal.specs.Births.{Births}
 use Rattle.sp_journal.specs.declared.outcome.Waiter.{Waiter}
 use Rattle.sp_kernel.specs.declared.slot.Slot.{Slot}
 use Rattle.sp_kernel.specs.declared.slot.Slot.TheVariants as slot
-use Rattle.sp_kernel.specs.declared.slot.State.{State}
 use Rattle.sp_kernel.specs.declared.slot.State.TheVariants as st
 use Rattle.sp_kernel.specs.Closes.{with_waiter, waiters_from}
 

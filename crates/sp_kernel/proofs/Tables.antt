@@ -1,5 +1,5 @@
 -- Tables by numbers: what one write changes.
-use Rattle.std.proofs.Common.{◌≡◌, ◌≢◌, ◌⊎◌, ℕ, zero, suc, ◌<◌, ◌==◌, inl, inr, Bool, true, false, cond, List, [], ◌∷◌, length, Option, Some, None, slice_get, slice_set, refl, sym, ap, ◌∙◌, subst, arith}
+use Rattle.std.proofs.Common.{◌≡◌, ◌≢◌, ◌⊎◌, ℕ, zero, suc, ◌<◌, ◌==◌, inl, inr, false, cond, List, [], ◌∷◌, length, Option, Some, slice_get, slice_set, refl, ap, ◌∙◌, subst, arith}
 use Rattle.std.proofs.Math.Path.{fun_ext}
 use Rattle.sp_journal.specs.Maps.{at_key}
 use Rattle.sp_history.proofs.Queues.{itself, number_or}

@@ -1,13 +1,10 @@
 -- What is taken is the front of the queue.
-use Rattle.std.proofs.Common.{◌≡◌, ◌≢◌, ◌⊎◌, ℕ, zero, suc, ◌+◌, ◌-◌, ◌<◌, ◌≤◌, ◌==◌, ◌||◌, inl, inr, Bool, true, false, cond, if◌then◌else◌, nat_lt, List, [], ◌∷◌, ◌++◌, length, Option, Some, None, slice_get, slice_set, refl, sym, ap, ◌∙◌, subst, arith}
+use Rattle.std.proofs.Common.{◌≡◌, ◌≢◌, ◌⊎◌, ℕ, ◌+◌, ◌<◌, ◌==◌, ◌||◌, inl, inr, Bool, true, false, cond, if◌then◌else◌, nat_lt, List, [], ◌∷◌, length, Option, Some, None, slice_get, slice_set, refl, sym, ap, ◌∙◌, subst}
 use Rattle.std.proofs.Math.Path.{fun_ext}
-use Rattle.std.specs.Option.{option_map}
-use Rattle.sp_cell.specs.Map.{Plain}
 use Rattle.sp_journal.specs.Maps.{at_key}
-use Rattle.sp_journal.specs.Births.{Births, births}
 use Rattle.sp_channel.specs.declared.channels.Pending.{Pending}
-use Rattle.sp_code.specs.Control.{Control, Doing, Ready, Out, takes, behind, front, front_of, front_while, standing, Standing, Running, IsDone, IsDeadlock, IsFault, IsMemory, has_ended, is_ready}
-use Rattle.sp_code.specs.System.{System, Condition, Runs}
+use Rattle.sp_code.specs.Control.{Control, Ready, Out, takes, behind, front, front_of, front_while, Standing, Running, IsDone, IsDeadlock, IsFault, IsMemory, has_ended, is_ready}
+use Rattle.sp_code.specs.System.{Runs}
 use Rattle.sp_kernel.specs.declared.slot.Slot.{Slot}
 use Rattle.sp_kernel.specs.declared.slot.Slot.TheVariants as slot
 use Rattle.sp_kernel.specs.declared.slot.State.TheVariants as st

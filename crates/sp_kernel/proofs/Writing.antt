@@ -1,9 +1,9 @@
 -- Whose output is found.
-use Rattle.std.proofs.Common.{◌≡◌, ◌≢◌, ℕ, zero, suc, List, [], ◌∷◌, Option, Some, None, slice_get, refl, sym, ap, ◌∙◌, subst}
+use Rattle.std.proofs.Common.{◌≡◌, ℕ, zero, suc, List, [], ◌∷◌, Option, Some, None, slice_get, refl, sym, ap, ◌∙◌}
 use Rattle.std.specs.Prelude.{MatchOption}
 use Rattle.sp_cell.specs.Map.{Plain}
 use Rattle.sp_code.specs.PlainStore.{plain}
-use Rattle.sp_code.specs.Control.{Doing, Out, Gone}
+use Rattle.sp_code.specs.Control.{Out, Gone}
 use Rattle.sp_code.specs.System.{store_in}
 use Rattle.sp_kernel.specs.declared.slot.Slot.{Slot}
 use Rattle.sp_kernel.specs.declared.slot.Slot.TheVariants as slot

@@ -1,8 +1,6 @@
 -- What the kernel may be asked, and what comes of it.
-use Rattle.std.specs.Prelude.{◌≡◌, ◌≢◌, ◌⊎◌, ℕ, ◌+◌, ◌<◌, ◌≤◌, List, [], ◌∷◌, ◌++◌, length, Option, Some, None, Bool, true, false}
-use Rattle.sp_cell.specs.declared.cell.Cell.{Cell}
+use Rattle.std.specs.Prelude.{◌≡◌, ◌≢◌, ◌⊎◌, ℕ, ◌+◌, ◌<◌, ◌≤◌, List, [], ◌++◌, Option, Some, None, Bool, true, false}
 use Rattle.sp_cell.specs.Map.{Plain}
-use Rattle.sp_journal.specs.declared.entry.Entry.{Entry}
 use Rattle.sp_journal.specs.declared.entry.Note.{Note}
 use Rattle.sp_code.specs.Machine.{Config}
 use Rattle.sp_code.specs.Memory.{Setting, Memory, memory}
@@ -12,7 +10,6 @@ use Rattle.sp_code.specs.Sound.{IsSound, AreLimits}
 use Rattle.sp_code.specs.Control.{Out, control_at_start, control, noted, front, standing, Running, entry_of}
 use Rattle.sp_code.specs.System.{System, Runs, opening}
 use Rattle.sp_room.specs.History.{notes_by}
-use Rattle.sp_machine.specs.declared.state.State.{State as Proc}
 use Rattle.sp_kernel.specs.declared.handed.Handed.{Handed}
 use Rattle.sp_kernel.specs.declared.kernel.Kernel.{Kernel}
 use Rattle.sp_kernel.specs.declared.ask.Ask.{Ask}

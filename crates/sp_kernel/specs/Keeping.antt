@@ -1,20 +1,15 @@
 -- The laws of the kernel as an object that a room keeps.
-use Rattle.std.proofs.Common.{◌≡◌, ◌≢◌, ◌⊎◌, ℕ, zero, suc, ◌+◌, ◌-◌, ◌<◌, ◌≤◌, ◌==◌, inl, inr, Bool, true, false, List, [], ◌∷◌, ◌++◌, append_assoc, length, length-append, Option, Some, None, refl, sym, ap, ◌∙◌, subst, arith}
-use Rattle.sp_base.specs.declared.fault.Fault.{Fault}
-use Rattle.sp_cell.specs.declared.cell.Cell.{Cell}
+use Rattle.std.proofs.Common.{◌≡◌, ◌≢◌, ℕ, ◌+◌, ◌<◌, ◌≤◌, ◌==◌, Bool, true, false, List, [], ◌∷◌, ◌++◌, append_assoc, length, Some, None, refl, sym, ap, ◌∙◌, subst, arith}
 use Rattle.sp_cell.specs.Map.{Plain}
 use Rattle.sp_journal.specs.declared.entry.Note.{Note}
-use Rattle.sp_journal.specs.declared.entry.Event.{Event}
-use Rattle.sp_journal.specs.Births.{Births}
 use Rattle.sp_code.specs.Machine.{Config, Sends, Receives, Stop as MachineStop}
 use Rattle.sp_code.specs.Memory.{Setting, Memory, memory}
 use Rattle.sp_code.specs.PlainStore.{plain}
-use Rattle.sp_code.specs.Turns.{IsTurn, Turn, Stopped}
+use Rattle.sp_code.specs.Turns.{IsTurn, Stopped}
 use Rattle.sp_code.specs.Control.{Control, Out, Joining, control_at_start, control, noted, noted_all, entries_of, entry_of}
 use Rattle.sp_code.specs.System.{System, Runs, opening, IsSystem}
 use Rattle.sp_room.specs.History.{Runs as Told, notes_by, StartsWith, either_list}
 use mathlib.Core.List.{append-nil}
-use Rattle.sp_machine.specs.declared.state.State.{State as Proc}
 use Rattle.sp_kernel.specs.declared.handed.Handed.{Handed}
 use Rattle.sp_machine.specs.declared.state.Stop.{Stop}
 use Rattle.sp_machine.specs.declared.state.Stop.TheVariants as stop
@@ -33,7 +28,7 @@ use Rattle.sp_history.specs.Channels.{StopHas}
 use Rattle.sp_history.specs.Spoken.{IsSpoken}
 use Rattle.sp_history.proofs.Speaking.{system_spoken, turn_spoken}
 use Rattle.sp_history.proofs.Families.{parent_joins, children_all, children_start}
-use Rattle.sp_history.specs.Agreement.{IsOrderly, Agrees, Follows, Reaches, NoneBy}
+use Rattle.sp_history.specs.Agreement.{Reaches, NoneBy}
 use Rattle.sp_history.proofs.Queues.{itself}
 use Rattle.sp_history.proofs.Agreeing.{agrees_start, orderly_start}
 use Rattle.sp_history.proofs.Legal.{reaches_keeps, reaches_leads, reaches_same, reaches_front, stays}
@@ -170,7 +165,7 @@ module _ (x : Kernel) (fine : IsOpening x) (log : List Note) (y : Kernel) (told 
       pub parent_waits : (b : Birth) → (system_of y).births.birth q ≡ Some b → (n : ℕ) × ((control_of y).doing b.parent ≡ Joining n)
       parent_waits b e =
           let j = parent_joins (control log) (children_all plain (setting_of x) control_at_start (opening plain (setting_of x)) (system_of y) log orderly_start (agrees_start plain (setting_of x)) children_start from_start) q w b kept.0
-            (ap (λ (c : Control). c.births.birth q) (sym control_is) ∙ e) in
+          (ap (λ (c : Control). c.births.birth q) (sym control_is) ∙ e) in
           (j.0, ap (λ (c : Control). c.doing b.parent) control_is ∙ j.1)
 
     -- it offers on a channel that is there

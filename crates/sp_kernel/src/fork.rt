@@ -7,7 +7,6 @@ ghost use Rattle.sp_machine.specs.Children.{plan_by};
 ghost use Rattle.sp_kernel.specs.Kernels.{IsKernel, Gave};
 ghost use Rattle.sp_kernel.specs.Fits.{Fits};
 ghost use Rattle.sp_kernel.specs.Forks.{admitted, HasForked, IsForkOf};
-
 ghost use Rattle.sp_kernel.specs.declared.kernel.Kernel.{Kernel};
 
 use crate::handed::Handed;

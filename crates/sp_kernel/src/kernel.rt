@@ -64,12 +64,7 @@ impl Kernel {
     /// A run of the code that begins with this process: it is ready, and the journal is empty. What the kernel needs later it
     /// takes from `alloc`.
 
-    pub fn new(
-        alloc: Global,
-        root: Proc,
-        code: Arc<Code>,
-        limits: Limits,
-    ) -> Result<Kernel, Memory>
+    pub fn new(alloc: Global, root: Proc, code: Arc<Code>, limits: Limits) -> Result<Kernel, Memory>
         requires root { (config_of root ≡ start_of code.value root.input.value) × (root.number ≡ 0) }
         requires sound { IsSound code.value }
         requires formals { HaveFormals code.value.layouts }
@@ -242,12 +237,7 @@ impl Kernel {
 
     // One entry more, and two processes at the back of the queue.
     #[tactic(auto, using(crate::proofs::Lines::last_gone))]
-    pub(crate) fn note_both(
-        &mut self,
-        other: u32,
-        process: u32,
-        event: Event,
-    ) -> Result<(), Memory>
+    pub(crate) fn note_both(&mut self, other: u32, process: u32, event: Event) -> Result<(), Memory>
         ensures ok { OnOk result (self.new ≡ record (entered process event self.old) { ready = (self.old.ready ++ other ∷ []) ++ process ∷ [] }) }
         ensures err { OnErr result (self.new ≡ self.old) }
     {

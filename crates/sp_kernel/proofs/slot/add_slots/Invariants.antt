@@ -1,4 +1,4 @@
-use Rattle.std.proofs.Common.{◌≡◌, ◌≤◌, ◌-◌, ◌++◌, length, Some}
+use Rattle.std.proofs.Common.{◌≡◌, ◌≤◌, ◌-◌, ◌++◌, length}
 use Rattle.sp_kernel.specs.Lines.{repeat}
 use Rattle.sp_kernel.specs.declared.slot.Slot.TheVariants as slot
 use Rattle.sp_kernel.proofs.slot.add_slots.Given as goal

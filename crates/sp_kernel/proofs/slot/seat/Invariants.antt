@@ -1,7 +1,4 @@
-use Rattle.std.proofs.Common.{◌≡◌, ℕ, ◌+◌, ◌<◌, ◌≤◌, length, Some, slice_get}
-use Rattle.sp_machine.specs.declared.state.State.{State as Proc}
-use Rattle.sp_kernel.specs.declared.slot.Slot.TheVariants as slot
-use Rattle.sp_kernel.specs.declared.slot.State.TheVariants as st
+use Rattle.std.proofs.Common.{length}
 use Rattle.sp_kernel.proofs.Seating.{SoFar}
 use Rattle.sp_kernel.proofs.slot.seat.Given as goal
 

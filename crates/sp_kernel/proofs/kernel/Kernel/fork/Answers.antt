@@ -1,5 +1,4 @@
-use Rattle.std.proofs.Common.{◌≡◌, ◌+◌, ◌<◌, ◌≤◌, ℕ, nat_lt, true, false, None, Some, sym, ap, subst, refl, ◌∙◌, length}
-use Rattle.sp_base.specs.declared.fault.Fault.{Fault}
+use Rattle.std.proofs.Common.{◌≡◌, ◌+◌, ℕ, nat_lt, true, false, None, Some, sym, ap, subst, refl, ◌∙◌, length}
 use Rattle.sp_base.specs.declared.fault.Fault.TheVariants as fault
 use Rattle.sp_code.specs.Machine as m
 use Rattle.sp_code.specs.Sound.{CanSplit}
@@ -11,9 +10,8 @@ use Rattle.sp_machine.specs.Procs.{IsAtFork, KeepsFork}
 use Rattle.sp_machine.specs.Children.{plan_by}
 use Rattle.sp_kernel.specs.declared.handed.Handed.{Handed}
 use Rattle.sp_kernel.specs.declared.kernel.Kernel.{Kernel}
-use Rattle.sp_kernel.specs.Kernels.{system_of, setting_of, Gave, IsKernel}
+use Rattle.sp_kernel.specs.Kernels.{system_of, IsKernel}
 use Rattle.sp_kernel.specs.Procs.{config_of, turn_by, turn_of}
-use Rattle.sp_kernel.specs.Fits.{Fits}
 use Rattle.sp_kernel.specs.Forks.{IsForkOf, HasForked}
 use Rattle.sp_kernel.proofs.Failing.{failed, is_full, not_full}
 use Rattle.sp_kernel.proofs.Forking.{fork_full, fork_many, fork_fine, can_fork, gave_fork}

@@ -1,16 +1,9 @@
-use Rattle.std.proofs.Common.{rules, ◌≡◌, ℕ, Bool, true, false, Option, Some, None, Result, Ok, Err, OnOk, sym, ap, subst, refl, ◌∙◌}
-use Rattle.sp_base.specs.declared.fault.Fault.{Fault}
-use Rattle.sp_journal.specs.declared.entry.Event.TheVariants as event
-use Rattle.sp_code.specs.Control.{Out}
+use Rattle.std.proofs.Common.{Result, Ok, Err, OnOk, sym, ap, subst, refl}
 use Rattle.sp_code.specs.System.{fault_of}
-use Rattle.sp_kernel.specs.declared.slot.Slot.TheVariants as slot
-use Rattle.sp_kernel.specs.declared.handed.Handed.{Handed}
-use Rattle.sp_machine.specs.declared.state.Stop.TheVariants as stop
-use Rattle.sp_kernel.specs.declared.kernel.Kernel.{Kernel}
-use Rattle.sp_kernel.specs.Kernels.{control_of, system_of, IsKernel, back, Gave}
-use Rattle.sp_kernel.specs.Procs.{config_of, turn_by, turn_of}
+use Rattle.sp_kernel.specs.Kernels.{system_of, Gave}
+use Rattle.sp_kernel.specs.Procs.{turn_by}
 use Rattle.sp_kernel.specs.Fits.{Fits}
-use Rattle.sp_kernel.proofs.Giving.{gave_fault, gave_laid, gave_pause, there}
+use Rattle.sp_kernel.proofs.Giving.{gave_fault, gave_laid}
 use Rattle.sp_kernel.proofs.kernel.Kernel.give.Goals as goal
 
 on_ok : {A E : Type 0} (r : Result A E) (P Q : Type 0) → (P → Q) → OnOk r P → OnOk r Q
@@ -43,4 +36,3 @@ pub returns-in-Fault-clause-ok : goal.returns-in-Fault-clause-ok
 returns-in-Fault-clause-ok c =
     on_ok c.fail.result _ _ (λ e. subst (Gave c.args.self.now c.args.handed.proc.number c.args.handed) (sym e)
     (gave_fault c.args.self.now c.requires.whole c.args.handed.proc.number c.args.worker c.requires.fits.out c.args.handed c.in-Fault.fault (refl, c.requires.fits.input) c.if-self.false (ap (λ s. fault_of c.args.self.now.limits (system_of c.args.self.now) (turn_by s c.args.handed.proc)) c.in-Fault.is))) c.fail.ensures.ok
-

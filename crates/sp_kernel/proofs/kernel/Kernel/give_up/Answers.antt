@@ -1,4 +1,4 @@
-use Rattle.std.proofs.Common.{◌≡◌, Option, Some, None, ℕ, sym, ap, refl, subst}
+use Rattle.std.proofs.Common.{Option, None, ℕ, sym, subst}
 use Rattle.sp_kernel.specs.Asks.{Notes}
 use Rattle.sp_kernel.specs.declared.ask.Ask.TheVariants as ask
 use Rattle.sp_kernel.proofs.Serving.{none_after, noted_abandon}

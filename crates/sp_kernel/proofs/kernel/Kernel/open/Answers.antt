@@ -1,4 +1,4 @@
-use Rattle.std.proofs.Common.{◌≡◌, ◌+◌, ◌<◌, ◌≤◌, ℕ, nat_lt, true, false, None, Some, sym, ap, subst, refl, ◌∙◌, length, arith}
+use Rattle.std.proofs.Common.{◌≡◌, ◌+◌, ◌<◌, ◌≤◌, ℕ, nat_lt, true, false, None, sym, subst, refl, length, arith}
 use Rattle.sp_base.specs.declared.fault.Fault.TheVariants as fault
 use Rattle.sp_cell.specs.declared.cell.Cell.TheVariants as cell
 use Rattle.sp_code.specs.Machine as m
@@ -43,6 +43,6 @@ returns-in-Ok-clause-ok c =
     let x : Kernel = c.args.self.now in
     let h : Handed = at_open c.args.proc in
     let fine : fault_of x.limits (system_of x) (Stopped (m.Opens c.args.proc.target) (config_of c.args.proc)) ≡ None =
-        open_fine x.limits (system_of x) c.args.proc.target (config_of c.args.proc) (not_full x.limits.entries x.entries c.from.result c.from.ensures c.if-self-from.false) (few x c.requires.whole c.count.result c.count.ensures c.if-count-self.false) in
+    open_fine x.limits (system_of x) c.args.proc.target (config_of c.args.proc) (not_full x.limits.entries x.entries c.from.result c.from.ensures c.if-self-from.false) (few x c.requires.whole c.count.result c.count.ensures c.if-count-self.false) in
     let done = c.in-Ok.ensures.ok in
     subst (Gave x c.args.proc.number h) (sym done.2) (gave_open x c.requires.whole c.args.proc.number c.args._worker c.requires.fits.out h refl c.requires.quiet fine done.0 done.1 refl c.requires.fits.input)

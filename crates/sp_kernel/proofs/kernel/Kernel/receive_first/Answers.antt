@@ -1,4 +1,4 @@
-use Rattle.std.proofs.Common.{rules, ◌≡◌, ◌+◌, ◌∷◌, [], ◌∙◌, sym, ap, subst, refl, Option, Some, slice_set}
+use Rattle.std.proofs.Common.{rules, ap}
 use Rattle.sp_machine.specs.declared.state.State.{State as Proc}
 use Rattle.sp_kernel.proofs.kernel.Kernel.receive_first.Goals as goal
 

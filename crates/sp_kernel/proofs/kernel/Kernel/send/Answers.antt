@@ -3,20 +3,13 @@ use Rattle.sp_base.specs.declared.fault.Fault.{Fault}
 use Rattle.sp_base.specs.declared.fault.Fault.TheVariants as fault
 use Rattle.sp_cell.specs.declared.cell.Cell.{Cell}
 use Rattle.sp_journal.specs.declared.entry.Way.TheVariants as way
-use Rattle.sp_journal.specs.declared.entry.Event.TheVariants as event
 use Rattle.sp_channel.specs.declared.channels.Pending.{Pending}
-use Rattle.sp_code.specs.Machine as m
-use Rattle.sp_code.specs.Control.{Out}
-use Rattle.sp_code.specs.Turns.{Stopped}
-use Rattle.sp_code.specs.System.{fault_of}
-use Rattle.sp_kernel.specs.declared.slot.Slot.TheVariants as slot
-use Rattle.sp_kernel.specs.declared.slot.State.TheVariants as st
 use Rattle.sp_machine.specs.declared.state.State.{State as Proc}
 use Rattle.sp_kernel.specs.declared.handed.Handed.{Handed}
 use Rattle.sp_machine.specs.declared.state.Stop.TheVariants as stop
 use Rattle.sp_kernel.specs.declared.kernel.Kernel.{Kernel}
-use Rattle.sp_kernel.specs.Kernels.{control_of, system_of, setting_of, IsKernel, back, Gave}
-use Rattle.sp_kernel.specs.Procs.{config_of, turn_of}
+use Rattle.sp_kernel.specs.Kernels.{system_of, Gave}
+use Rattle.sp_kernel.specs.Procs.{config_of}
 use Rattle.sp_kernel.proofs.Giving.{there}
 use Rattle.sp_kernel.proofs.Failing.{failed, is_full, not_full}
 use Rattle.sp_kernel.proofs.Sending.{full_fault, fault_free, fault_same, fault_other, receiver_takes, table_has, gave_first, gave_met, waiter_there}

@@ -1,9 +1,5 @@
-use Rattle.std.proofs.Common.{◌≡◌, ℕ, Some, None, sym, ap, refl, subst, ◌∙◌}
-use Rattle.std.specs.Option.{option_map}
-use Rattle.sp_code.specs.System.{Runs}
-use Rattle.sp_machine.specs.declared.state.State.{State as Proc}
-use Rattle.sp_kernel.specs.Procs.{config_of}
-use Rattle.sp_kernel.specs.Kernels.{system_of, Takes}
+use Rattle.std.proofs.Common.{ℕ, Some, None, sym, ap, refl, subst, ◌∙◌}
+use Rattle.sp_kernel.specs.Kernels.{Takes}
 use Rattle.sp_kernel.specs.Asks.{Notes, Answers}
 use Rattle.sp_kernel.specs.declared.ask.Got.TheVariants as got
 use Rattle.sp_kernel.specs.declared.ask.Ask.TheVariants as ask
