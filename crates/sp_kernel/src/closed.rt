@@ -1,12 +1,13 @@
 //! A run that is over: its end, its journal and its output.
 
-ghost use Rattle.std.specs.Prelude.{◌≡◌, ◌<◌, ◌++◌, ℕ, List, [], Some, None, MatchOption, IfOk, OnOk, length, slice_get};
+ghost use Rattle.std.specs.Prelude.{◌≡◌, ◌≢◌, ◌<◌, ◌++◌, ℕ, List, [], Some, None, MatchOption, IfOk, OnOk, length, slice_get};
 ghost use Rattle.std.specs.List.Sorted.{IsPermutation, IsSortedByKey};
 ghost use Rattle.sp_base.specs.Order.{name_cmp};
 ghost use Rattle.sp_journal.specs.Births.{births};
 ghost use Rattle.sp_journal.specs.Ledger.{IsLedger};
 ghost use Rattle.sp_kernel.specs.declared.slot.Slot.{Slot};
 ghost use Rattle.sp_code.specs.Control.{standing, IsDeadlock, IsFault, entries_of};
+ghost use Rattle.sp_history.specs.Agreement.{phase_in, Running};
 ghost use Rattle.sp_history.specs.Holding.{IsOutputOf};
 ghost use Rattle.sp_room.specs.Ends.{object_of, notes_of};
 ghost use Rattle.sp_kernel.specs.Faults.{fault_in};
@@ -220,10 +221,11 @@ impl Kernel {
     }
 
     /// The run that a room has brought to its end. Its output is that of the one process that holds it, and empty where a worker
-    /// gave up.
+    /// gave up. At a deadlock no process of it can go on.
     pub fn close(alloc: Global, settled: Settled<Kernel>) -> Result<Closed, Memory>
         requires ran { RanFrom (notes_of settled) (object_of settled) }
         ensures end { IfOk result (λ c. EndIs (object_of settled) c.end) }
+        ensures idle { standing (control_of (object_of settled)) ≡ IsDeadlock → (q : ℕ) → phase_in ((system_of (object_of settled)).condition q) ≢ Running }
         ensures journal { IfOk result (λ c. c.journal.entries ≡ entries_of (notes_of settled)) }
         ensures output { IfOk result (λ c. (object_of settled).abandons ≡ 0 → (q : ℕ) × IsOutputOf (system_of (object_of settled)) q c.output) }
         ensures none { IfOk result (λ c. 0 < (object_of settled).abandons → c.output ≡ []) }
