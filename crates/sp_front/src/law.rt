@@ -5,8 +5,10 @@ ghost use Rattle.sp_base.specs.declared.halt.Refusal.{Refusal};
 ghost use Rattle.sp_tree.specs.PlainChecked.{Program};
 ghost use Rattle.sp_tree.specs.Plain.{Program as Meant};
 ghost use Rattle.sp_types.specs.StatementNumbers.{AllDiffer, blocks_numbers};
+ghost use Rattle.sp_varsets.specs.AreSets.{HaveEarlierParents, HaveOwnNumbers};
 ghost use Rattle.sp_front.specs.Checks.{BreaksFirst, IsChecked, IsProgramOf, KeepsRules};
 
+use sp_facts::laws::names_number_the_tree;
 use sp_grammar::{one_verdict, some_verdict};
 use sp_scan::first_breach;
 
@@ -34,3 +36,11 @@ pub fn some_answer(text: &[u8])
 pub fn numbers_differ()
     ensures { (text : List ℕ) (p : Program) → IsChecked text p → AllDiffer (blocks_numbers p.blocks) }
 {}
+
+/// In the checked tree of a text a block stands after the one around it, and no two statements have one number.
+pub fn numbered_trees()
+    ensures parents { (text : List ℕ) (p : Program) → IsChecked text p → HaveEarlierParents p }
+    ensures numbers { (text : List ℕ) (p : Program) → IsChecked text p → HaveOwnNumbers p }
+{
+    names_number_the_tree();
+}
