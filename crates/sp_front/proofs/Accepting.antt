@@ -14,11 +14,13 @@ use Rattle.sp_tree.specs.Plain as m
 use Rattle.sp_tree.specs.CheckedOf as checked
 use Rattle.sp_tree.specs.PlainOf as meant
 use Rattle.sp_tree.specs.Bare.{bare, bare_block}
+use Rattle.sp_tree.specs.First.{IsFirst}
 use Rattle.sp_tree.specs.Interferes.{Interferes}
 use Rattle.sp_tree.specs.Interference.{IsFreeOfInterference}
 use Rattle.sp_tree.specs.NameFirst.{names_broken}
 use Rattle.sp_tree.specs.NamedTree.{program_named}
 use Rattle.sp_tree.proofs.FusedStatements.{program_fused}
+use Rattle.sp_grammar.proofs.Order.{one_first}
 use Rattle.sp_types.specs.CheckedTree.{program_checked}
 use Rattle.sp_facts.specs.Gives.{IsNumberedTree, tree}
 use Rattle.sp_facts.proofs.PhaseAnswers.{names_kept, types_kept}
@@ -66,6 +68,18 @@ keeps_all one apart text (Ok a) ((h, calm), are) = none
 pub programs_of : (text : List ℕ) (result : Result Accepted Halt) → Compiles text result → IfOk result (λ a. IsProgramOf text (meant.program_of a.checked))
 programs_of text (Err e) h = tt
 programs_of text (Ok a) ((h, calm), are) = (checked.program_of a.checked, h, program_fused a.checked)
+
+-- the first rule of all phases is one, and none where the tree is accepted
+module _ (one : OneTree) (apart : Apart) (text : List ℕ) where
+  pub first_once : ((a b : Refusal) → BreaksFirst text a → BreaksFirst text b → a ≡ b) → (a b : Refusal) → BreaksAnyFirst text a → BreaksAnyFirst text b → a ≡ b
+  first_once once a b (inl x) (inl y) = once a b x y
+  first_once once a b (inl x) (inr (q, k, y)) = absurd (apart text q a k x)
+  first_once once a b (inr (p, h, x)) (inl y) = absurd (apart text p b h y)
+  first_once once a b (inr (p, h, x)) (inr (q, k, y)) = one_first (Interferes q) a b (subst (λ z. IsFirst (Interferes z) a) (one text p q h k) x) y
+
+  pub accepted_apart : (p : c.Program) (r : Refusal) → IsAccepted text p → BreaksAnyFirst text r → ⊥
+  accepted_apart p r (h, calm) (inl b) = apart text p r h b
+  accepted_apart p r (h, calm) (inr (q, k, first)) = calm r.rule r.at (subst (λ z. Interferes z r.rule r.at) (one text q p k h) first.breaks)
 
 abbrev pub Free : Type 0
 Free = (text : List ℕ) (p : c.Program) → IsAccepted text p → IsFreeOfInterference (bare p)

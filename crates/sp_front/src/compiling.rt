@@ -50,7 +50,7 @@ const MOST_BLOCKS: usize = 4_294_967_296;
 /// first such rule that it breaks, with its place. Interference is not looked at, so that the sets can show why a text
 /// is refused.
 ///
-/// It recurses as deep as the longest chain of operators is long: `analysed_apart` gives it the stack for that.
+/// It recurses as deep as the longest chain of operators is long: `analyse_apart` gives it the stack for that.
 pub fn analyse(alloc: Global, text: &[u8]) -> Result<(Checked, Sets), Halt>
     ensures { Analyses text.now result }
 {

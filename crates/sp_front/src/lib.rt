@@ -7,6 +7,9 @@ mod phases;
 mod reader;
 
 pub use compiling::{Accepted, analyse, analyse_apart, compile, compile_apart};
-pub use law::{numbered_trees, numbers_differ, one_answer, some_answer};
+pub use law::{
+    accepted_texts_are_disjoint, numbered_trees, numbers_differ, one_answer, one_compilation,
+    some_answer,
+};
 pub use phases::{typed, typed_apart};
 pub use reader::read_text;
