@@ -18,6 +18,9 @@ use Rattle.sp_meaning.specs.Own.{Setting}
 use Rattle.sp_meaning.specs.Runs.{IsDisjointRun}
 use Rattle.sp_tree.specs.Bare.{bare}
 use Rattle.sp_tree.specs.PlainChecked as c
+use Rattle.sp_sets.specs.SetsText.{IsSetsText}
+use Rattle.sp_varsets.specs.AreSets.{AreSets}
+use Rattle.sp_varsets.specs.declared.sets.Sets.{Sets}
 use Rattle.sp_print.specs.Lines.{refusal_text}
 use Rattle.sp_scan.proofs.Scanning.{too_long}
 use Rattle.sp_tree.specs.Places.{start}
@@ -28,9 +31,9 @@ use Rattle.superpascal.specs.declared.ending.Ending.{Ending}
 use Rattle.superpascal.specs.declared.ending.Ending.TheVariants as e
 use Rattle.superpascal.specs.declared.ending.Answer.{Answer}
 use Rattle.superpascal.specs.Answers.{status_of, line_of, notes_by, has_output}
-use Rattle.superpascal.specs.Phases.{BreaksLength, BreaksOne, IsAnalysed, IsDisjointText, KeepsAll}
+use Rattle.superpascal.specs.Phases.{BreaksLength, BreaksOne, HasSets, IsDisjointText, KeepsAll}
 use Rattle.superpascal.specs.Runs.{Reports, run_notes}
-use Rattle.superpascal.specs.Calls.{All, AnswersOthers, Asked, Breaks, Call, Cause, Ends, EndsWith, Exactly, FitsInput, Found, Got, InputTooLong, IsOutside, IsProgram, IsRefused, IsRefusedBy, IsStopped, IsTold, IsTooLong, IsUnbuilt, IsUnbuiltAfter, IsWithin, Keeps, Makes, OfRun, OfText, Ran, ReadsFail, Refuses, RefusesWords, RunsTo, SaysLine, SaysRefusal, SaysUnbuilt, WritesLine, WritesNotes, WritesOutput, WritesText, accepted, accepted_cause, asks, asks_all, asks_text, cause, check_cause, ended_cause, file_of, is_other, is_unbuilt_for, kept_cause, layout_cause, made_cause, run_cause, sets_cause, silent, text_cause, unbuilt_cause}
+use Rattle.superpascal.specs.Calls.{All, AnswersOthers, Asked, Breaks, Call, Cause, Ends, EndsWith, Exactly, FitsInput, Found, Got, InputTooLong, IsOutside, IsProgram, IsRefused, IsRefusedBy, IsStopped, IsTold, IsTooLong, IsUnbuilt, IsUnbuiltAfter, IsWithin, Keeps, Makes, OfRun, OfText, Ran, ReadsFail, Refuses, RefusesWords, RunsTo, SaysLine, SaysRefusal, SaysUnbuilt, WritesLine, WritesNotes, WritesOutput, WritesText, accepted, accepted_cause, asks, asks_all, asks_text, cause, check_cause, ended_cause, file_of, is_other, is_unbuilt_for, kept_cause, layout_cause, made_cause, printed_cause, run_cause, sets_cause, silent, text_cause, unbuilt_cause}
 
 -- all trees of a text have one meaning
 abbrev pub Once : Type 0
@@ -49,6 +52,8 @@ pub record Laws : Type 0 where
   pub layout : (text a b : List ℕ) → HasLayout text a → HasLayout text b → a ≡ b
   pub no_layout : (text : List ℕ) (a b : Refusal) → HasNoLayout text a → HasNoLayout text b → a ≡ b
   pub layout_or : (text out : List ℕ) (r : Refusal) → HasLayout text out → HasNoLayout text r → ⊥
+  -- by the text of the sets
+  pub sets_text : (p : c.Program) (s t : Sets) (a b : List ℕ) → AreSets p s → AreSets p t → IsSetsText p s a → IsSetsText p t b → a ≡ b
 
 pub laws : ((text : List ℕ) (p q : c.Program) → IsChecked text p → IsChecked text q → p ≡ q)
     → ((text : List ℕ) (a b : Refusal) → BreaksFirst text a → BreaksFirst text b → a ≡ b)
@@ -57,8 +62,9 @@ pub laws : ((text : List ℕ) (p q : c.Program) → IsChecked text p → IsCheck
     → ((text : List ℕ) (p : c.Program) (r : Refusal) → IsAccepted text p → BreaksAnyFirst text r → ⊥)
     → ((text a b : List ℕ) → HasLayout text a → HasLayout text b → a ≡ b)
     → ((text : List ℕ) (a b : Refusal) → HasNoLayout text a → HasNoLayout text b → a ≡ b)
-    → ((text out : List ℕ) (r : Refusal) → HasLayout text out → HasNoLayout text r → ⊥) → Laws
-laws s t u v w x y z = record { tree = s; first = t; not_both = u; any_first = v; accepted_or = w; layout = x; no_layout = y; layout_or = z }
+    → ((text out : List ℕ) (r : Refusal) → HasLayout text out → HasNoLayout text r → ⊥)
+    → ((p : c.Program) (s t : Sets) (a b : List ℕ) → AreSets p s → AreSets p t → IsSetsText p s a → IsSetsText p t b → a ≡ b) → Laws
+laws s t u v w x y z o = record { tree = s; first = t; not_both = u; any_first = v; accepted_or = w; layout = x; no_layout = y; layout_or = z; sets_text = o }
 
 module _ (l : Laws) (text : List ℕ) where
   one_length : (a b : Refusal) → BreaksLength text a → BreaksLength text b → a ≡ b
@@ -94,11 +100,16 @@ module _ (l : Laws) (text : List ℕ) where
   keeps_or (command.Sets file) r k x = l.not_both text k.0 r k.1 x
   keeps_or (command.Format file) r k x = l.layout_or text k.0 r k.1 x
 
+  one_sets : (a b : List ℕ) → HasSets text a → HasSets text b → a ≡ b
+  one_sets a b (p, h, s, are, x) (q, k, t, also, y) =
+      let same : q ≡ p = l.tree text q p k h in
+      l.sets_text p s t a b are (subst (λ (z : c.Program). AreSets z t) same also) x (subst (λ (z : c.Program). IsSetsText z t b) same y)
+
   made_once : (d : Command) (a b n m : List ℕ) → Makes d text a n → Makes d text b m → (a ≡ b) × (n ≡ m)
   made_once (command.Check file) a b n m x y = (x.1 ∙ sym y.1, x.2 ∙ sym y.2)
   made_once (command.Run file workers limits show) a b n m x y = absurd x
   made_once (command.Code file) a b n m x y = absurd x
-  made_once (command.Sets file) a b n m x y = absurd x
+  made_once (command.Sets file) a b n m x y = (one_sets a b x.0 y.0, x.1 ∙ sym y.1)
   made_once (command.Format file) a b n m x y = (l.layout text a b x.0 y.0, x.1 ∙ sym y.1)
 
 -- of a text of which the command makes something it refuses none
@@ -106,7 +117,7 @@ made_keeps : (d : Command) (text out line : List ℕ) → Makes d text out line 
 made_keeps (command.Check file) text out line m = m.0
 made_keeps (command.Run file workers limits show) text out line m = absurd m
 made_keeps (command.Code file) text out line m = absurd m
-made_keeps (command.Sets file) text out line m = absurd m
+made_keeps (command.Sets file) text out line m = (m.0.0, m.0.1)
 made_keeps (command.Format file) text out line m = (out, m.0)
 
 ends_once : Once → (text : List ℕ) (f g : Option Fault) (out put : List ℕ) → Ends text f out → Ends text g put → ◌≡◌ {A = Ended} (record { output = out; fault = f }) (record { output = put; fault = g })
@@ -202,7 +213,13 @@ module _ (reports : Reports) (left : Option (List ℕ)) (taken taken' : ℕ) (c 
   text_of_code file h k = subst Due_text (sym h) k
 
   pub text_of_sets : (file : List ℕ) → c ≡ command.Sets file → sets_cause text a → Due_text c
-  text_of_sets file h k = subst Due_text (sym h) k
+  text_of_sets file h (inl k) = subst Due_text (sym h) (inl (k.0, [], (k.1, refl), k.2))
+  text_of_sets file h (inr k) = subst Due_text (sym h) (inr k)
+
+-- the answer of `sets`, by what came of the phases
+pub printed_text : (text : List ℕ) (p : c.Program) (s : Sets) (a : Answer) → IsChecked text p → AreSets p s → printed_cause p s a → sets_cause text a
+printed_text text p s a h are (inl k) = inl (k.0, (p, h, s, are, k.1), k.2)
+printed_text text p s a h are (inr k) = inr (inr k)
 
 -- the answer of `check`, by what came of the phases
 pub checked_text : (text : List ℕ) (a : Answer) → KeepsAll text → accepted_cause a → check_cause text a
@@ -250,7 +267,7 @@ module _ (f : Found) where
   cause_of_kept (command.Run file workers limits show) text a w t k = cause_of_run (record { file = file; workers = workers; limits = limits; show = show }) text w t a.ending a.output a.notes k
   cause_of_kept (command.Check file) text a w t k = cause_of_made (command.Check file) text a w t k
   cause_of_kept (command.Code file) text a w t k = other_cause (command.Code file) a w (when_told KeepsAll (f.told file) text t k.0) k.1
-  cause_of_kept (command.Sets file) text a w t k = other_cause (command.Sets file) a w (when_told IsAnalysed (f.told file) text t k.0) k.1
+  cause_of_kept (command.Sets file) text a w t k = cause_of_made (command.Sets file) text a w t k
   cause_of_kept (command.Format file) text a w t k = cause_of_made (command.Format file) text a w t k
 
   pub cause_of_text : (c : Command) (text : List ℕ) (a : Answer) → command_of f.words ≡ Some c → IsTold (f.told (file_of c)) text → text_cause f.reports f.left f.taken f.taken' c text a → Cause f a
@@ -315,7 +332,7 @@ module _ (f : Found) where
   no_text (command.Check file) o text out line m = o
   no_text (command.Run file workers limits show) o text out line m = m
   no_text (command.Code file) o text out line m = m
-  no_text (command.Sets file) o text out line m = m
+  no_text (command.Sets file) o text out line m = o
   no_text (command.Format file) o text out line m = o
 
   others_make : (c d : Command) (text out line : List ℕ) → c ≡ d → is_other c → Makes d text out line → ⊥
@@ -362,7 +379,7 @@ module _ (f : Found) where
     unbuilt_keeps (command.Run file workers limits show) v u = (of_text (IsUnbuiltAfter f.left limits) (command.Run file workers limits show) v u).0.0
     unbuilt_keeps (command.Check file) v u = absurd u
     unbuilt_keeps (command.Code file) v u = of_text KeepsAll (command.Code file) v u
-    unbuilt_keeps (command.Sets file) v u = of_text IsAnalysed (command.Sets file) v u
+    unbuilt_keeps (command.Sets file) v u = absurd u
     unbuilt_keeps (command.Format file) v u = absurd u
 
     keeps_unbuilt : (d : Command) → command_of f.words ≡ Some d → is_unbuilt_for f.told f.left d → Keeps c text
@@ -406,7 +423,7 @@ module _ (f : Found) where
         go (command.Check file) q u = u
         go (command.Run file workers limits show) q u = q
         go (command.Code file) q u = q
-        go (command.Sets file) q u = q
+        go (command.Sets file) q u = u
         go (command.Format file) q u = u
 
     text_only : asks_text c → (ending : Ending) (output notes : List ℕ) → cause f ending output notes → status_of ending ≡ 0 → (out line : List ℕ) × Makes c text out line

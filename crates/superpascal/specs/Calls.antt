@@ -11,6 +11,9 @@ use Rattle.sp_format.specs.Formats.{HasLayout, HasNoLayout}
 use Rattle.sp_front.specs.Checks.{BreaksFirst}
 use Rattle.sp_outside.specs.Told.{Grows}
 use Rattle.sp_print.specs.Lines.{refusal_text}
+use Rattle.sp_sets.specs.SetsText.{IsSetsText}
+use Rattle.sp_tree.specs.PlainChecked as c
+use Rattle.sp_varsets.specs.declared.sets.Sets.{Sets}
 use Rattle.sp_words.specs.Words.{command_of}
 use Rattle.sp_words.specs.declared.command.Command.{Command}
 use Rattle.sp_words.specs.declared.command.Command.TheVariants as command
@@ -18,7 +21,7 @@ use Rattle.superpascal.specs.declared.ending.Ending.{Ending}
 use Rattle.superpascal.specs.declared.ending.Ending.TheVariants as e
 use Rattle.superpascal.specs.declared.ending.Answer.{Answer}
 use Rattle.superpascal.specs.Answers.{status_of, line_of, notes_of, has_output}
-use Rattle.superpascal.specs.Phases.{BreaksOne, IsAnalysed, KeepsAll}
+use Rattle.superpascal.specs.Phases.{BreaksOne, HasSets, IsAnalysed, KeepsAll}
 use Rattle.superpascal.specs.Runs.{Reports, run_notes}
 
 -- ---- words
@@ -93,8 +96,8 @@ abbrev pub asks_text : Command → Type 0
 asks_text (command.Format file) = Unit {0}
 asks_text (command.Check file) = Unit {0}
 asks_text (command.Run file workers limits show) = ⊥
+asks_text (command.Sets file) = Unit {0}
 asks_text (command.Code file) = ⊥
-asks_text (command.Sets file) = ⊥
 
 -- what the command makes of the text, for the output and for the notes
 abbrev pub Makes : Command → List ℕ → List ℕ → List ℕ → Type 0
@@ -102,7 +105,7 @@ Makes (command.Format file) text out line = HasLayout text out × (line ≡ [])
 Makes (command.Check file) text out line = KeepsAll text × (out ≡ []) × (line ≡ codes "accepted\n")
 Makes (command.Run file workers limits show) text out line = ⊥
 Makes (command.Code file) text out line = ⊥
-Makes (command.Sets file) text out line = ⊥
+Makes (command.Sets file) text out line = HasSets text out × (line ≡ [])
 
 -- the commands that go through all rules, and start nothing that breaks one
 abbrev pub asks_all : Command → Type 0
@@ -175,7 +178,7 @@ abbrev pub kept_cause : Reports → Option (List ℕ) → ℕ → ℕ → Comman
 kept_cause reports left taken taken' (command.Run file workers limits show) text a = run_cause reports left taken taken' limits show text a.ending a.output a.notes
 kept_cause reports left taken taken' (command.Check file) text a = made_cause (command.Check file) text a
 kept_cause reports left taken taken' (command.Code file) text a = KeepsAll text × (a ≡ silent e.NotBuilt)
-kept_cause reports left taken taken' (command.Sets file) text a = IsAnalysed text × (a ≡ silent e.NotBuilt)
+kept_cause reports left taken taken' (command.Sets file) text a = made_cause (command.Sets file) text a
 kept_cause reports left taken taken' (command.Format file) text a = made_cause (command.Format file) text a
 
 -- why the command does not accept the text
@@ -207,9 +210,13 @@ accepted_cause a = (a ≡ accepted [] (codes "accepted\n")) ⊎ (a ≡ silent e.
 abbrev pub check_cause : List ℕ → Answer → Type 0
 check_cause text a = (KeepsAll text × (a ≡ accepted [] (codes "accepted\n"))) ⊎ IsRefusedBy text a
 
+-- the answer of `sets` to a text with this tree and these sets
+abbrev pub printed_cause : c.Program → Sets → Answer → Type 0
+printed_cause p s a = ((out : List ℕ) × IsSetsText p s out × (a ≡ accepted out [])) ⊎ (a ≡ silent e.OutOfMemory)
+
 -- the answer of `sets`
 abbrev pub sets_cause : List ℕ → Answer → Type 0
-sets_cause text a = (IsAnalysed text × (a ≡ silent e.NotBuilt)) ⊎ (((r : Refusal) × BreaksFirst text r × Refuses r a) ⊎ (a ≡ silent e.OutOfMemory))
+sets_cause text a = ((out : List ℕ) × HasSets text out × (a ≡ accepted out [])) ⊎ (((r : Refusal) × BreaksFirst text r × Refuses r a) ⊎ (a ≡ silent e.OutOfMemory))
 
 -- the answer of `format`
 abbrev pub layout_cause : List ℕ → Answer → Type 0
@@ -260,7 +267,7 @@ abbrev pub is_unbuilt_for : (List ℕ → Option (List ℕ)) → Option (List �
 is_unbuilt_for told left (command.Run file workers limits show) = IfSome (told file) (IsUnbuiltAfter left limits)
 is_unbuilt_for told left (command.Check file) = ⊥
 is_unbuilt_for told left (command.Code file) = IfSome (told file) KeepsAll
-is_unbuilt_for told left (command.Sets file) = IfSome (told file) IsAnalysed
+is_unbuilt_for told left (command.Sets file) = ⊥
 is_unbuilt_for told left (command.Format file) = ⊥
 
 -- Why an answer is due.
@@ -369,7 +376,7 @@ RefusesWords words status = Exactly status 2 (command_of words ≡ None)
 abbrev pub is_other : Command → Type 0
 is_other (command.Check file) = ⊥
 is_other (command.Code file) = Unit {0}
-is_other (command.Sets file) = Unit {0}
+is_other (command.Sets file) = ⊥
 is_other (command.Format file) = ⊥
 is_other (command.Run file workers limits show) = ⊥
 

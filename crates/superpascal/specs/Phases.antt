@@ -10,11 +10,14 @@ use Rattle.sp_front.specs.Compiles.{BreaksAnyFirst, Compiles, IsAccepted}
 use Rattle.sp_front.specs.declared.compiling.Accepted.{Accepted}
 use Rattle.sp_meaning.specs.Own.{Setting}
 use Rattle.sp_meaning.specs.Runs.{IsDisjointRun}
+use Rattle.sp_sets.specs.SetsText.{IsSetsText}
 use Rattle.sp_tree.specs.Bare.{bare}
 use Rattle.sp_tree.specs.Places.{start}
 use Rattle.sp_tree.specs.Plain as m
 use Rattle.sp_tree.specs.PlainChecked as c
 use Rattle.sp_tree.specs.PlainOf as meant
+use Rattle.sp_varsets.specs.AreSets.{AreSets}
+use Rattle.sp_varsets.specs.declared.sets.Sets.{Sets}
 
 -- the text has a tree that breaks no rule of the phases, and its code is no longer than code may be
 abbrev pub KeepsAll : List ℕ → Type 0
@@ -31,6 +34,10 @@ BreaksOne text r = BreaksAnyFirst text r ⊎ BreaksLength text r
 -- the text has a tree by the rules of characters, grammar, names and types
 abbrev pub IsAnalysed : List ℕ → Type 0
 IsAnalysed text = (p : c.Program) × IsChecked text p
+
+-- this is the text of the sets of the text's tree
+abbrev pub HasSets : List ℕ → List ℕ → Type 0
+HasSets text out = (p : c.Program) × IsChecked text p × (s : Sets) × AreSets p s × IsSetsText p s out
 
 -- on no input, with no limits and in no lawful schedule does a process of the text's program write what a parallel one
 -- reads or writes

@@ -7,9 +7,10 @@ ghost use Rattle.sp_base.specs.declared.fault.Fault.{Fault};
 ghost use Rattle.sp_outside.specs.Counts.{Rose};
 ghost use Rattle.sp_outside.specs.Told.{Grows};
 ghost use Rattle.sp_report.specs.Telling.{is_chosen};
+ghost use Rattle.sp_tree.specs.CheckedOf.{program_of};
 ghost use Rattle.sp_words.specs.Words.{command_of};
 ghost use Rattle.superpascal.specs.Answers.{has_output, notes_of, status_of};
-ghost use Rattle.superpascal.specs.Calls.{AnswersOthers, Call, Cause, EndsWith, Exactly, InputTooLong, IsWithin, OfRun, OfText, Passes, ReadsFail, Refuses, RefusesWords, SaysRefusal, SaysUnbuilt, Writes, WritesLine, WritesNotes, WritesOutput, WritesText, accepted_cause, asks_all, asks_text, check_cause, ended_cause, ending_of, file_of, found, got, layout_cause, run_cause, sets_cause, silent, text_cause, unbuilt_cause};
+ghost use Rattle.superpascal.specs.Calls.{AnswersOthers, Call, Cause, EndsWith, Exactly, InputTooLong, IsWithin, OfRun, OfText, Passes, ReadsFail, Refuses, RefusesWords, SaysRefusal, SaysUnbuilt, Writes, WritesLine, WritesNotes, WritesOutput, WritesText, accepted_cause, asks_all, asks_text, check_cause, ended_cause, ending_of, file_of, found, got, layout_cause, printed_cause, run_cause, sets_cause, silent, text_cause, unbuilt_cause};
 ghost use Rattle.superpascal.specs.Phases.{IsDisjointText, KeepsAll};
 
 use crate::ending::{Answer, Ending, notes_by};
@@ -22,6 +23,9 @@ use sp_front::{accepted_texts_are_disjoint, analyse_apart, one_answer, one_compi
 use sp_outside::{Failed, Library, LoadError, ReadError, Sink, Source, put_all, read_all};
 use sp_print::refusal_line;
 use sp_report::Watcher;
+use sp_sets::{one_sets_text, print_sets};
+use sp_tree::Checked;
+use sp_varsets::Sets;
 use sp_words::{Command, WordsError, read_words};
 use std::alloc::Global;
 use std::thread::Threads;
@@ -189,11 +193,25 @@ fn sets_answer(rt: &impl Threads, alloc: Global, program: &[u8]) -> Answer
 {
     match analyse_apart(rt, alloc, program) {
         Ok(found) => {
-            drop(found);
-            silent(alloc, Ending::NotBuilt)
+            let (checked, sets) = found;
+            printed_answer(alloc, &checked, &sets)
         }
         Err(Halt::Refused(refusal)) => refused(alloc, refusal),
         Err(Halt::Memory) => silent(alloc, Ending::OutOfMemory),
+    }
+}
+
+// The answer of `sets` to a text with this tree and these sets.
+fn printed_answer(alloc: Global, checked: &Checked, sets: &Sets) -> Answer
+    ensures { printed_cause (program_of checked.now) sets.now result }
+{
+    match print_sets(alloc, checked, sets) {
+        Ok(text) => Answer {
+            ending: Ending::Accepted,
+            output: Text::of(text),
+            notes: Text::of(Vec::new(alloc)),
+        },
+        Err(_) => silent(alloc, Ending::OutOfMemory),
     }
 }
 
@@ -328,7 +346,7 @@ fn write_notes<N: Sink>(answer: &Answer, notes: &mut N) -> u8
 /// |---|---|---|
 /// | 0 | where the run ends | `done`, the verdict and the reports; or the journal |
 /// | 0 | where `check` finds no broken rule | `accepted` |
-/// | 0 | where `format` has laid the text out | none |
+/// | 0 | where `format` has laid the text out, or `sets` has given the sets of the text | none |
 /// | 1 | where the text breaks a rule, L5 among them; for `sets` one of its characters, grammar, names and types, for `format` one of its characters and grammar | `refused RULE LINE:COLUMN`, the first such rule |
 /// | 1 | else where the command or the form of the text is not built, or the run meets a limit | `not built` |
 /// | 2 | where the words are refused | `bad words` |
@@ -377,6 +395,7 @@ pub fn superpascal<L: Library, I: Source, O: Sink, N: Sink>(
     one_compilation();
     one_layout();
     accepted_texts_are_disjoint();
+    one_sets_text();
     run_words(rt, alloc, words, library, input, output, notes, watchers)
 }
 

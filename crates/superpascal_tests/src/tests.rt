@@ -237,7 +237,7 @@ fn accepted_texts(rt: HostRuntime) -> Result<(), Fail> {
         assert_eq!(rt; given.notes.as_slice(), b"accepted\n".as_slice());
     }
     let unbuilt = "program g; begin write(1); end.";
-    for command in ["run", "code", "sets"] {
+    for command in ["run", "code"] {
         let given = call(&rt, rt.alloc(), &[command, "a.sp"], unbuilt.as_bytes(), NONE)?;
         assert_eq!(rt; given.status, 1);
         assert_eq!(rt; given.notes.as_slice(), b"not built\n".as_slice());
@@ -253,6 +253,42 @@ fn texts_that_interfere(rt: HostRuntime) -> Result<(), Fail> {
         assert_eq!(rt; given.status, 1);
         assert!(rt; given.output.is_empty());
         assert_eq!(rt; given.notes.as_slice(), b"refused I1 1:63\n".as_slice());
+    }
+    Ok(())
+}
+
+#[test]
+fn sets_of_texts(rt: HostRuntime) -> Result<(), Fail> {
+    let cases = [
+        (
+            "program b; var x, y: integer; begin y := 1; parallel x := 1 | y := x end end.",
+            "parallel 1:45 0 targets x expressions\nparallel 1:45 1 targets y expressions x\n",
+        ),
+        (
+            "program d; var x: integer; begin forall i := 1 to 3 do x := i end.",
+            "forall 1:34 targets x expressions i\n",
+        ),
+        (
+            "program e; var x: integer; procedure p; begin x := x + 1; if x < 3 then p end; begin x := 0; p end.",
+            "implicit p targets x expressions x\n",
+        ),
+        // a function's result stands where its heading does
+        (
+            "program p; function f(a: integer): integer; begin parallel f := a; a := 1 end end; begin end.",
+            "implicit f targets expressions\nparallel 1:51 0 targets f a expressions a\n",
+        ),
+        // the input and the output first; an inner statement before the program's own
+        (
+            "program p; var y, x: integer; procedure q; begin parallel read(x) end end;\nbegin parallel begin write(y); q end end end.",
+            "implicit q targets input x expressions\nparallel 1:50 0 targets input x expressions\nparallel 2:7 0 targets input output x expressions y\n",
+        ),
+        ("program g; begin end.", ""),
+    ];
+    for (text, output) in cases {
+        let given = call(&rt, rt.alloc(), &["sets", "a.sp"], text.as_bytes(), NONE)?;
+        assert_eq!(rt; given.status, 0, "{text}");
+        assert_eq!(rt; given.output.as_slice(), output.as_bytes(), "{text}");
+        assert!(rt; given.notes.is_empty());
     }
     Ok(())
 }
