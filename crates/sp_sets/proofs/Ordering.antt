@@ -98,7 +98,7 @@ module _ {X : Type 0} (cmp : X → X → Ordering) (total : IsTotalOrder cmp) (t
   self_tie x = by (cmp x x) (total.antisymm x x)
     where
       by : (r : Ordering) → r ≡ ordering_reverse r → r ≡ Equal
-      by Less e = absurd (subst IsTie (sym (ap ordering_reverse e)) (absurd (subst (λ o. T (is_lt o)) e tt)))
+      by Less e = absurd (subst (λ o. T (is_lt o)) e tt)
       by Equal e = refl
       by Greater e = absurd (subst (λ o. T (is_lt o)) (sym e) tt)
 

@@ -13,6 +13,7 @@ use std::alloc::Global;
 use std::cmp::Ordering;
 
 /// The variables of the set below this number.
+#[tactic(auto, using(crate::proofs::Members::gap, crate::proofs::Members::found, crate::proofs::Members::past))]
 fn members(alloc: Global, set: &VarSet, count: u32) -> Result<Vec<u32>, Memory>
     ensures { IfOk result (λ xs. xs.items ≡ members set.now count) }
 {

@@ -85,6 +85,7 @@ fn arms_lines(lines: &mut Vec<Line>, choices: &List<Arm>) -> Result<(), Memory>
 }
 
 #[cycle(walk)]
+#[tactic(auto, using(crate::proofs::Walked::no_sends, crate::proofs::Walked::no_receives))]
 fn form_lines(lines: &mut Vec<Line>, at: Place, form: &Form) -> Result<(), Memory>
     ensures { OnOk result (lines.new.items ≡ lines.old.items ++ form_lines at (statement_form_of form.now)) }
 {
