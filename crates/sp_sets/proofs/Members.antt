@@ -1,5 +1,5 @@
 -- The variables of a set, found one after the other.
-use Rattle.std.proofs.Common.{◌≡◌, ℕ, zero, suc, ◌+◌, ◌<◌, ◌≤◌, Bool, true, false, cond, List, [], ◌∷◌, ◌++◌, ◌⊎◌, inl, inr, refl, sym, ap, ◌∙◌, subst, arith}
+use Rattle.std.proofs.Common.{◌≡◌, ℕ, zero, suc, ◌+◌, ◌<◌, ◌≤◌, true, false, cond, [], ◌∷◌, ◌++◌, ◌⊎◌, inl, inr, refl, ap, ◌∙◌, arith}
 use Rattle.std.proofs.lemmas.Bool.{cases_lt}
 use Rattle.sp_varsets.specs.Members.{has, IsNext}
 use Rattle.sp_varsets.specs.declared.var_set.VarSet.{VarSet}
@@ -14,12 +14,12 @@ module _ (v : VarSet) where
 
   -- none between
   pub gap : (from to : ℕ) → from ≤ to → ((x : ℕ) → from ≤ x → x < to → has v x ≡ false) → members v to ≡ members v from
-  gap from zero h none = ap (members v) (omega arith)
-  gap from (suc to) h none = by (cases_lt to from)
+  gap from zero h none = let e : 0 ≡ from = omega arith in ap (members v) e
+  gap from (suc to) h none = by (cases_lt to from) (λ high. gap from to high (λ x l k. none x l (omega arith)))
     where
-      by : (to < from) ⊎ (from ≤ to) → members v (suc to) ≡ members v from
-      by (inl low) = ap (members v) (omega arith)
-      by (inr high) = no_more to (none to high (omega arith)) ∙ gap from to high (λ x l k. none x l (omega arith))
+      by : (to < from) ⊎ (from ≤ to) → (from ≤ to → members v to ≡ members v from) → members v (suc to) ≡ members v from
+      by (inl low) rest = let e : suc to ≡ from = omega arith in ap (members v) e
+      by (inr high) rest = no_more to (none to high (omega arith)) ∙ rest high
 
   -- the next one
   pub found : (from x : ℕ) → IsNext v from x → members v (x + 1) ≡ members v from ++ x ∷ []

@@ -1,5 +1,5 @@
 -- A tree has one text of its sets.
-use Rattle.std.proofs.Common.{◌≡◌, ℕ, zero, suc, ◌+◌, ◌<◌, ◌≤◌, Bool, true, false, List, [], ◌∷◌, ◌++◌, length, get_or, map, Option, Some, None, ◌⊎◌, inl, inr, slice_get, refl, sym, ap, ◌∙◌, subst, arith}
+use Rattle.std.proofs.Common.{◌≡◌, ℕ, zero, suc, ◌<◌, Bool, true, List, [], ◌∷◌, ◌++◌, length, Some, None, inl, inr, slice_get, refl, sym, ap, ◌∙◌, subst}
 use Rattle.std.specs.Prelude.{◌↔◌, codes}
 use Rattle.std.specs.List.{All, flat_map}
 use Rattle.std.specs.Cmp.{both_ways}
@@ -7,10 +7,9 @@ use Rattle.std.proofs.lemmas.List.Elements.{All-nil, All-cons, All-append, All-g
 use Rattle.std.proofs.lemmas.List.Sorted.{All-permutation}
 use Rattle.std.proofs.lemmas.Option.{get_or_from_slice_get}
 use Rattle.sp_base.specs.declared.place.Place.{Place}
-use Rattle.sp_tree.specs.Bare.{bare, bare_statement}
 use Rattle.sp_tree.specs.PlainChecked.{Statement, Does, Form, Empty, Assign, Call, Sequence, If, While, Repeat, For, Case, Parallel, Forall, Assume, ReadValue, ReadLine, WriteValue, WriteText, WriteLine, Open, Send, Receive, Other, NoElse, Else, Statements, NoStatement, AndThen, On, Arms, NoArm, Or, Block, Program}
 use Rattle.sp_tree.specs.declared.checked.Variable as checked
-use Rattle.sp_varsets.specs.AreSets.{AreSets, OfBlock, OfStatement, targets_of, expressions_of, implicit_targets_of, implicit_expressions_of}
+use Rattle.sp_varsets.specs.AreSets.{AreSets, targets_of, expressions_of}
 use Rattle.sp_varsets.specs.Members.{has}
 use Rattle.sp_varsets.specs.Parts.{number_of, IsPart, IsInForm, IsInOther, IsAmong, IsInArms}
 use Rattle.sp_varsets.specs.declared.sets.Sets.{Sets}
@@ -18,7 +17,7 @@ use Rattle.sp_varsets.specs.declared.var_set.VarSet.{VarSet}
 use Rattle.sp_sets.specs.declared.line.Line.{Line}
 use Rattle.sp_sets.specs.Forks.{process_lines, statement_lines, form_lines, other_lines, statements_lines, arms_lines, blocks_lines, tree_lines}
 use Rattle.sp_sets.specs.Orders.{IsInOrder, line_cmp, variable_cmp}
-use Rattle.sp_sets.specs.SetsText.{IsBoth, IsImplicit, IsLine, IsLineAt, IsOfBlock, IsSetsText, IsVariables, Joined, head_by, members, name_text}
+use Rattle.sp_sets.specs.SetsText.{IsBoth, IsLineAt, IsOfBlock, IsSetsText, IsVariables, Joined, head_by, members, name_text}
 use Rattle.sp_sets.proofs.Joins.{joined_once}
 use Rattle.sp_sets.proofs.Members.{same_members}
 use Rattle.sp_sets.proofs.Ordering.{line_total, one_order, same_line, same_variable, variable_total}
@@ -26,54 +25,57 @@ use Rattle.sp_sets.proofs.Ordering.{line_total, one_order, same_line, same_varia
 -- ---- the statements of lines stand in the tree
 
 module _ (P : ℕ → Type 0) where
+  abbrev Of : Line → Type 0
+  Of l = P l.statement
+
   abbrev Numbers : List Line → Type 0
-  Numbers = All (λ (l : Line). P l.statement)
+  Numbers = All Of
 
   process_numbers : (at : Place) (k : ℕ) (ss : Statements) → ((t : Statement) → IsAmong t ss → P (number_of t)) → Numbers (process_lines at k ss)
-  process_numbers at k NoStatement h = All-nil _
-  process_numbers at k (AndThen (Does n here form) rest) h = All-cons _ _ _ (h (Does n here form) (inl (inl refl))) (process_numbers at (suc k) rest (λ t i. h t (inr i)))
+  process_numbers at k NoStatement h = All-nil Of
+  process_numbers at k (AndThen (Does n here form) rest) h = All-cons Of (record { at = at; part = Some k; statement = n }) (process_lines at (suc k) rest) (h (Does n here form) (inl (inl refl))) (process_numbers at (suc k) rest (λ t i. h t (inr i)))
 
   mutual
     statement_numbers : (s : Statement) → ((t : Statement) → IsPart t s → P (number_of t)) → Numbers (statement_lines s)
     statement_numbers (Does n at form) h = form_numbers at form (λ t i. h t (inr i))
 
     form_numbers : (at : Place) (form : Form) → ((t : Statement) → IsInForm t form → P (number_of t)) → Numbers (form_lines at form)
-    form_numbers at Empty h = All-nil _
-    form_numbers at (Assign v e) h = All-nil _
-    form_numbers at (Call f args) h = All-nil _
+    form_numbers at Empty h = All-nil Of
+    form_numbers at (Assign v e) h = All-nil Of
+    form_numbers at (Call f args) h = All-nil Of
     form_numbers at (Sequence ss) h = statements_numbers ss h
-    form_numbers at (If e s other) h = All-append _ _ _ (statement_numbers s (λ t i. h t (inl i))) (other_numbers other (λ t i. h t (inr i)))
+    form_numbers at (If e s other) h = All-append Of (statement_lines s) (other_lines other) (statement_numbers s (λ t i. h t (inl i))) (other_numbers other (λ t i. h t (inr i)))
     form_numbers at (While e s) h = statement_numbers s h
     form_numbers at (Repeat s e) h = statement_numbers s h
     form_numbers at (For x name from down to s) h = statement_numbers s h
     form_numbers at (Case e choices) h = arms_numbers choices h
-    form_numbers at (Parallel ss) h = All-append _ _ _ (process_numbers at 0 ss h) (statements_numbers ss h)
-    form_numbers at (Forall x from to (Does n here form)) h = All-cons _ _ _ (h (Does n here form) (inl refl)) (statement_numbers (Does n here form) h)
-    form_numbers at (Assume e) h = All-nil _
-    form_numbers at (ReadValue v) h = All-nil _
-    form_numbers at ReadLine h = All-nil _
-    form_numbers at (WriteValue e w) h = All-nil _
-    form_numbers at (WriteText t w) h = All-nil _
-    form_numbers at WriteLine h = All-nil _
-    form_numbers at (Open v) h = All-nil _
-    form_numbers at (Send c e) h = All-nil _
-    form_numbers at (Receive c v) h = All-nil _
+    form_numbers at (Parallel ss) h = All-append Of (process_lines at 0 ss) (statements_lines ss) (process_numbers at 0 ss h) (statements_numbers ss h)
+    form_numbers at (Forall x from to (Does n here form)) h = All-cons Of (record { at = at; part = None; statement = n }) (statement_lines (Does n here form)) (h (Does n here form) (inl refl)) (statement_numbers (Does n here form) h)
+    form_numbers at (Assume e) h = All-nil Of
+    form_numbers at (ReadValue v) h = All-nil Of
+    form_numbers at ReadLine h = All-nil Of
+    form_numbers at (WriteValue e w) h = All-nil Of
+    form_numbers at (WriteText t w) h = All-nil Of
+    form_numbers at WriteLine h = All-nil Of
+    form_numbers at (Open v) h = All-nil Of
+    form_numbers at (Send c e) h = All-nil Of
+    form_numbers at (Receive c v) h = All-nil Of
 
     other_numbers : (o : Other) → ((t : Statement) → IsInOther t o → P (number_of t)) → Numbers (other_lines o)
-    other_numbers NoElse h = All-nil _
+    other_numbers NoElse h = All-nil Of
     other_numbers (Else s) h = statement_numbers s h
 
     statements_numbers : (ss : Statements) → ((t : Statement) → IsAmong t ss → P (number_of t)) → Numbers (statements_lines ss)
-    statements_numbers NoStatement h = All-nil _
-    statements_numbers (AndThen s rest) h = All-append _ _ _ (statement_numbers s (λ t i. h t (inl i))) (statements_numbers rest (λ t i. h t (inr i)))
+    statements_numbers NoStatement h = All-nil Of
+    statements_numbers (AndThen s rest) h = All-append Of (statement_lines s) (statements_lines rest) (statement_numbers s (λ t i. h t (inl i))) (statements_numbers rest (λ t i. h t (inr i)))
 
     arms_numbers : (xs : Arms) → ((t : Statement) → IsInArms t xs → P (number_of t)) → Numbers (arms_lines xs)
-    arms_numbers NoArm h = All-nil _
-    arms_numbers (Or (On cs s) rest) h = All-append _ _ _ (statement_numbers s (λ t i. h t (inl i))) (arms_numbers rest (λ t i. h t (inr i)))
+    arms_numbers NoArm h = All-nil Of
+    arms_numbers (Or (On cs s) rest) h = All-append Of (statement_lines s) (arms_lines rest) (statement_numbers s (λ t i. h t (inl i))) (arms_numbers rest (λ t i. h t (inr i)))
 
   pub blocks_numbers : (ks : List Block) → ((b : ℕ) (k : Block) → slice_get ks b ≡ Some k → (t : Statement) → IsPart t k.body → P (number_of t)) → Numbers (blocks_lines ks)
-  blocks_numbers [] h = All-nil _
-  blocks_numbers (k ∷ ks) h = All-append _ _ _ (statement_numbers k.body (λ t i. h 0 k refl t i)) (blocks_numbers ks (λ b m e t i. h (suc b) m e t i))
+  blocks_numbers [] h = All-nil Of
+  blocks_numbers (k ∷ ks) h = All-append Of (statement_lines k.body) (blocks_lines ks) (statement_numbers k.body (λ t i. h 0 k refl t i)) (blocks_numbers ks (λ b m e t i. h (suc b) m e t i))
 
 -- ---- one text
 
@@ -102,10 +104,10 @@ module _ (p : Program) (s t : Sets) (first : AreSets p s) (second : AreSets p t)
       (λ x. same_bool _ _ _ (h.targets x) (g.targets x), λ x. same_bool _ _ _ (h.expressions x) (g.expressions x))
 
   agree_lines : (ls : List Line) → IsInOrder line_cmp (tree_lines p) ls → All (λ (l : Line). Agree l.statement) ls
-  agree_lines ls (moved, up) = All-permutation _ (tree_lines p) ls moved (blocks_numbers Agree p.blocks agree)
+  agree_lines ls (moved, up) = All-permutation (λ (l : Line). Agree l.statement) (tree_lines p) ls moved (blocks_numbers Agree p.blocks agree)
 
   line_once : (ls : List Line) → All (λ (l : Line). Agree l.statement) ls → (i : ℕ) (a b : List ℕ) → i < length ls → IsLineAt p.variables s ls i a → IsLineAt p.variables t ls i b → a ≡ b
-  line_once ls all i a b low (l, at, c, h, e) (m, here, d, k, f) = go m same f k
+  line_once ls all i a b low (l, at, (c, h, e)) (m, here, (d, k, f)) = go m same f k
     where
       same : l ≡ m
       same = let x : Some l ≡ Some m = sym at ∙ here in cc x
@@ -120,7 +122,7 @@ module _ (p : Program) (s t : Sets) (first : AreSets p s) (second : AreSets p t)
 
   block_once : (b : ℕ) (u v : List ℕ) → b < length p.blocks → IsOfBlock p.variables s p.blocks b u → IsOfBlock p.variables t p.blocks b v → u ≡ v
   block_once zero u v low h k = h ∙ sym k
-  block_once (suc b) u v low (l, at, c, h, e) (m, here, d, k, f) =
+  block_once (suc b) u v low (l, at, (c, h, e)) (m, here, (d, k, f)) =
       let same : l ≡ m = (let x : Some l ≡ Some m = sym at ∙ here in cc x) in
       let x = first.blocks (suc b) l at in
       let y = second.blocks (suc b) l at in

@@ -1,13 +1,14 @@
 -- The orders of lines and of variables are total, and a list has one order by each.
-use Rattle.std.proofs.Common.{◌≡◌, ℕ, zero, suc, ◌+◌, ◌<◌, ◌≤◌, Bool, true, false, cond, List, [], ◌∷◌, length, get_or, Option, Some, None, ◌⊎◌, inl, inr, refl, sym, ap, ◌∙◌, subst, arith}
+use Rattle.std.proofs.Common.{◌≡◌, ℕ, suc, ◌+◌, ◌<◌, false, cond, List, [], ◌∷◌, length, get_or, Option, Some, None, refl, sym, ap, ◌∙◌, subst, arith}
 use Rattle.std.specs.Prelude.{T}
-use Rattle.std.specs.List.{All, AllByRecursion, sum_by}
-use Rattle.std.specs.List.Sorted.{IsPermutation, IsSortedBy}
-use Rattle.std.specs.Ordering.{nat_cmp, on, then_cmp, ordering_then, ordering_reverse, is_lt, is_eq}
+use Rattle.std.specs.List.{AllByRecursion, sum_by}
+use Rattle.std.specs.List.Sorted.{IsSortedBy}
+use Rattle.std.specs.Ordering.{nat_cmp, ordering_then, ordering_reverse, is_lt, is_eq}
 use Rattle.std.specs.declared.cmp.Ordering.{Ordering}
 use Rattle.std.specs.declared.cmp.Ordering.TheVariants.{Less, Equal, Greater}
 use Rattle.std.specs.Cmp.{IsTotalOrder, IsStrictWeakOrder, then_total, on_total, nat_cmp_total}
 use Rattle.std.specs.FinMap.{nat_cmp-IsAntisymmetric}
+use native.Mathlib.Numerals.{unary_clauses}
 use Rattle.std.proofs.lemmas.List.Elements.{All-from_get_or, recursion_from_All}
 use Rattle.std.proofs.lemmas.List.Sorted.{ranks_by, sorted_far, sum_by-IsPermutation}
 use Rattle.std.proofs.lemmas.List.Sums.{sum_by-cons}
@@ -80,7 +81,13 @@ module _ {X : Type 0} (cmp : X → X → Ordering) (total : IsTotalOrder cmp) (t
 
   ascends : (xs : List X) → IsSortedBy (λ a b. is_lt (cmp a b)) xs → Ascends xs
   ascends [] up = tt
-  ascends (x ∷ xs) up = (behind x xs up, ascends xs (λ k d low high. up (suc k) d (omega arith) (let g : length (x ∷ xs) ≡ suc (length xs) = refl in omega arith)))
+  ascends (x ∷ xs) up = (
+    behind x xs up,
+    ascends xs (λ k d low high.
+        let next : suc k ≡ k + 1 = omega arith in
+        let g : length (x ∷ xs) ≡ suc (length xs) = refl in
+        subst (λ n. is_lt (cmp (get_or xs n d) (get_or xs k d)) ≡ false) next (simp unary_clauses at (up (suc k) d (omega arith) (omega arith)))),
+  )
 
   -- how often an element stands in a list
   abbrev one : X → X → ℕ
@@ -111,12 +118,12 @@ module _ {X : Type 0} (cmp : X → X → Ordering) (total : IsTotalOrder cmp) (t
 
   none : (k x : X) (xs : List X) → cmp k x ≡ Less → AllByRecursion (λ y. is_lt (cmp y x) ≡ false) xs → count k xs ≡ 0
   none k x [] h all = refl
-  none k x (y ∷ ys) h (g, all) = by (cmp y k) refl
+  none k x (y ∷ ys) h (g, all) = by (cmp y k) refl (none k x ys h all)
     where
-      by : (r : Ordering) → cmp y k ≡ r → count k (y ∷ ys) ≡ 0
-      by Less e = ap (λ r. cond (is_eq r) 1 0 + count k ys) e ∙ none k x ys h all
-      by Equal e = absurd (less_than k x y h g e)
-      by Greater e = ap (λ r. cond (is_eq r) 1 0 + count k ys) e ∙ none k x ys h all
+      by : (r : Ordering) → cmp y k ≡ r → count k ys ≡ 0 → count k (y ∷ ys) ≡ 0
+      by Less e rest = let z : one k y ≡ 0 = ap (λ r. cond (is_eq r) 1 0) e in let all : one k y + count k ys ≡ 0 = omega arith in all
+      by Equal e rest = absurd (less_than k x y h g e)
+      by Greater e rest = let z : one k y ≡ 0 = ap (λ r. cond (is_eq r) 1 0) e in let all : one k y + count k ys ≡ 0 = omega arith in all
 
   none_at : (k x : X) (xs : List X) → cmp k x ≡ Less → Ascends (x ∷ xs) → count k (x ∷ xs) ≡ 0
   none_at k x xs h (all, up) = none k x (x ∷ xs) h (ap is_lt (self_tie x), all)
@@ -128,15 +135,15 @@ module _ {X : Type 0} (cmp : X → X → Ordering) (total : IsTotalOrder cmp) (t
   once [] [] up vp c = refl
   once [] (y ∷ ys) up vp c = absurd (let e = c y ∙ some_at y ys in let h : 0 ≡ 1 + count y ys = e in omega arith)
   once (x ∷ xs) [] up vp c = absurd (let e = sym (some_at x xs) ∙ c x in let h : 1 + count x xs ≡ 0 = e in omega arith)
-  once (x ∷ xs) (y ∷ ys) up vp c = by (cmp x y) refl
+  once (x ∷ xs) (y ∷ ys) up vp c = by (cmp x y) refl (λ tails. once xs ys up.1 vp.1 tails)
     where
       tails : x ≡ y → (k : X) → count k xs ≡ count k ys
       tails e k = let h : one k x + count k xs ≡ one k x + count k ys = c k ∙ ap (λ z. one k z + count k ys) (sym e) in omega arith
 
-      by : (r : Ordering) → cmp x y ≡ r → x ∷ xs ≡ y ∷ ys
-      by Less e = absurd (let h : 1 + count x xs ≡ 0 = sym (some_at x xs) ∙ (c x ∙ none_at x y ys e vp) in omega arith)
-      by Equal e = let same = tie x y e in ap (λ z. z ∷ xs) same ∙ ap (λ zs. y ∷ zs) (once xs ys up.1 vp.1 (tails same))
-      by Greater e = absurd (let h : 0 ≡ 1 + count y ys = sym (none_at y x xs (total.antisymm y x ∙ ap ordering_reverse e) up) ∙ (c y ∙ some_at y ys) in omega arith)
+      by : (r : Ordering) → cmp x y ≡ r → (((k : X) → count k xs ≡ count k ys) → xs ≡ ys) → x ∷ xs ≡ y ∷ ys
+      by Less e rest = absurd (let h : 1 + count x xs ≡ 0 = sym (some_at x xs) ∙ (c x ∙ none_at x y ys e vp) in omega arith)
+      by Equal e rest = let same = tie x y e in ap (λ z. z ∷ xs) same ∙ ap (λ zs. y ∷ zs) (rest (tails same))
+      by Greater e rest = absurd (let h : 0 ≡ 1 + count y ys = sym (none_at y x xs (total.antisymm y x ∙ ap ordering_reverse e) up) ∙ (c y ∙ some_at y ys) in omega arith)
 
   pub one_order : (zs xs ys : List X) → IsInOrder cmp zs xs → IsInOrder cmp zs ys → xs ≡ ys
   one_order zs xs ys (p, up) (q, vp) = once xs ys (ascends xs up) (ascends ys vp)

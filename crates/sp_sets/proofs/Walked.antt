@@ -1,5 +1,5 @@
 -- Single statements on one channel have no lines; and the lines of a first part.
-use Rattle.std.proofs.Common.{◌≡◌, ℕ, suc, ◌+◌, List, [], ◌∷◌, refl}
+use Rattle.std.proofs.Common.{◌≡◌, ℕ, ◌+◌, List, [], ◌∷◌, refl}
 use Rattle.sp_base.specs.declared.place.Place.{Place}
 use Rattle.sp_tree.specs.CheckedOf.{sends, receives}
 use Rattle.sp_tree.specs.PlainChecked.{Expression, Variable}

@@ -54,7 +54,8 @@ fn put_line(
 {
     put_head(out, line.at, line.part)?;
     let n = line.statement;
-    put_both(alloc, out, variables, sets.targets(n), sets.expressions(n))
+    put_both(alloc, out, variables, sets.targets(n), sets.expressions(n))?;
+    Ok(())
 }
 
 fn put_lines(
@@ -67,7 +68,7 @@ fn put_lines(
     requires { length variables.now ≤ 2 ^ 32 - 1 }
     ensures { OnOk result ((t : List ℕ) × Joined (IsLineAt variables.now sets.now lines.now) (length lines.now) t × (out.new.items ≡ out.old.items ++ t)) }
 {
-    'lines: for i in 0..lines.len() {
+    'each: for i in 0..lines.len() {
         put_line(alloc, out, variables, sets, &lines[i])?;
     }
     Ok(())
@@ -88,7 +89,8 @@ fn put_implicit(
     out.extend_from_slice(b"implicit ")?;
     out.extend_from_slice(block.name.bytes())?;
     let targets = sets.implicit_targets(b);
-    put_both(alloc, out, variables, targets, sets.implicit_expressions(b))
+    put_both(alloc, out, variables, targets, sets.implicit_expressions(b))?;
+    Ok(())
 }
 
 /// Puts what a block has: nothing for the program.
@@ -108,7 +110,8 @@ fn put_block(
     if b == 0 {
         return Ok(());
     }
-    put_implicit(alloc, out, variables, sets, b as u32, &blocks[b])
+    put_implicit(alloc, out, variables, sets, b as u32, &blocks[b])?;
+    Ok(())
 }
 
 fn put_blocks(
@@ -122,7 +125,7 @@ fn put_blocks(
     requires numbered { length blocks.now ≤ 2 ^ 32 }
     ensures { OnOk result ((t : List ℕ) × Joined (IsOfBlock variables.now sets.now (map block_of blocks.now)) (length blocks.now) t × (out.new.items ≡ out.old.items ++ t)) }
 {
-    'blocks: for b in 0..blocks.len() {
+    'each: for b in 0..blocks.len() {
         put_block(alloc, out, variables, sets, blocks, b)?;
     }
     Ok(())

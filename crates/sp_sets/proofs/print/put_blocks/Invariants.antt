@@ -3,5 +3,5 @@ use Rattle.sp_tree.specs.CheckedOf.{block_of}
 use Rattle.sp_sets.specs.SetsText.{IsOfBlock, Joined}
 use Rattle.sp_sets.proofs.print.put_blocks.Given as goal
 
-abbrev pub invariant-blocks : goal.invariant-blocks
-invariant-blocks l = (t : List ℕ) × Joined (IsOfBlock l.variables l.sets (map block_of l.blocks)) l.b t × (l.out.items ≡ l.fn.out.items ++ t)
+abbrev pub invariant-each : goal.invariant-each
+invariant-each l = (t : List ℕ) × Joined (IsOfBlock l.variables l.sets (map block_of l.blocks)) l.b t × (l.out.items ≡ l.fn.out.items ++ t)
