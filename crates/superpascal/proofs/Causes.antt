@@ -277,9 +277,9 @@ module _ (f : Found) where
 
   -- every command refuses a text that is longer than a text may be
   long_broken : (c : Command) (all : List ℕ) → 1048576 < length all → Breaks c all (record { rule = rule.L1; at = start })
-  long_broken (command.Check file) all h = inl (inl (inl (too_long all start refl h)))
-  long_broken (command.Run file workers limits show) all h = inl (inl (inl (too_long all start refl h)))
-  long_broken (command.Code file) all h = inl (inl (inl (too_long all start refl h)))
+  long_broken (command.Check file) all h = inl (inl (inl (inl (too_long all start refl h))))
+  long_broken (command.Run file workers limits show) all h = inl (inl (inl (inl (too_long all start refl h))))
+  long_broken (command.Code file) all h = inl (inl (inl (inl (too_long all start refl h))))
   long_broken (command.Sets file) all h = inl (inl (too_long all start refl h))
   long_broken (command.Format file) all h = inl (inl (too_long all start refl h))
 
