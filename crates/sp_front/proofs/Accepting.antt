@@ -1,16 +1,10 @@
 -- What the phases answer, the phase of interference among them, as one answer about the text.
-use Rattle.std.proofs.Common.{◌≡◌, ℕ, ◌<◌, List, [], Option, Some, Result, Ok, Err, inl, inr, slice_get, refl, sym as back_of, ap, ◌∙◌, subst, arith}
+use Rattle.std.proofs.Common.{◌≡◌, ℕ, List, [], Result, Ok, Err, inl, inr, sym as back_of, ap, ◌∙◌, subst, arith}
 use Rattle.std.specs.Result.{IfOk}
 use Rattle.sp_base.specs.declared.halt.Halt.{Halt}
-use Rattle.sp_base.specs.declared.halt.Halt.TheVariants as halt
 use Rattle.sp_base.specs.declared.halt.Refusal.{Refusal}
-use Rattle.sp_base.specs.declared.place.Place.{Place}
-use Rattle.sp_base.specs.declared.rule.Rule.{Rule}
-use Rattle.sp_tree.specs.declared.checked.Checked.{Checked}
 use Rattle.sp_tree.specs.PlainSyntax as s
-use Rattle.sp_tree.specs.PlainNamed as n
 use Rattle.sp_tree.specs.PlainChecked as c
-use Rattle.sp_tree.specs.Plain as m
 use Rattle.sp_tree.specs.CheckedOf as checked
 use Rattle.sp_tree.specs.PlainOf as meant
 use Rattle.sp_tree.specs.Bare.{bare, bare_block}
@@ -26,13 +20,11 @@ use Rattle.sp_facts.specs.Gives.{IsNumberedTree, tree}
 use Rattle.sp_facts.proofs.PhaseAnswers.{names_kept, types_kept}
 use Rattle.sp_meaning.specs.Own.{Setting}
 use Rattle.sp_meaning.specs.Runs.{IsDisjointRun}
-use Rattle.sp_varsets.specs.declared.sets.Sets.{Sets}
-use Rattle.sp_varsets.specs.AreSets.{AreSets, HaveEarlierParents, HaveOwnNumbers}
-use Rattle.sp_interfere.specs.Verdict.{IsVerdict}
+use Rattle.sp_varsets.specs.AreSets.{HaveEarlierParents, HaveOwnNumbers}
 use Rattle.sp_interfere.proofs.Standing.{bare_at}
 use Rattle.sp_front.specs.declared.compiling.Accepted.{Accepted}
-use Rattle.sp_front.specs.Checks.{Checks, IsChecked, BreaksFirst, IsProgramOf}
-use Rattle.sp_front.specs.Compiles.{IsAccepted, BreaksInterference, BreaksAnyFirst, Compiles, Analyses, KeepsAllRules}
+use Rattle.sp_front.specs.Checks.{IsChecked, BreaksFirst, IsProgramOf}
+use Rattle.sp_front.specs.Compiles.{IsAccepted, BreaksAnyFirst, Compiles, KeepsAllRules}
 use Rattle.sp_front.proofs.Numbered.{text_numbers_differ}
 use Rattle.sp_front.proofs.OwnNumbers.{own_numbers}
 use Rattle.sp_front.proofs.Phasing.{Apart}

@@ -1,5 +1,5 @@
 -- What a text is by all phases, the rules of interference among them.
-use Rattle.std.specs.Prelude.{◌≡◌, ◌⊎◌, ℕ, List, Result, Ok, Err}
+use Rattle.std.specs.Prelude.{◌⊎◌, ℕ, List, Result, Ok, Err}
 use Rattle.sp_base.specs.declared.halt.Halt.{Halt}
 use Rattle.sp_base.specs.declared.halt.Halt.TheVariants as halt
 use Rattle.sp_base.specs.declared.halt.Refusal.{Refusal}
@@ -9,7 +9,6 @@ use Rattle.sp_tree.specs.declared.checked.Checked.{Checked}
 use Rattle.sp_tree.specs.First.{IsFirst}
 use Rattle.sp_tree.specs.PlainChecked as c
 use Rattle.sp_tree.specs.CheckedOf as checked
-use Rattle.sp_tree.specs.Plain as m
 use Rattle.sp_tree.specs.Interferes.{Interferes}
 use Rattle.sp_varsets.specs.declared.sets.Sets.{Sets}
 use Rattle.sp_varsets.specs.AreSets.{AreSets}

@@ -11,7 +11,7 @@ use Rattle.sp_first.specs.Grammar.{Program, IsFirstForm}
 use Rattle.sp_first.specs.Meaning.{meaning}
 use Rattle.sp_first.specs.Runs.{Gives}
 use Rattle.sp_format.specs.Formats.{HasLayout, HasNoLayout}
-use Rattle.sp_front.specs.Checks.{BreaksFirst, IsChecked, IsProgramOf}
+use Rattle.sp_front.specs.Checks.{BreaksFirst, IsChecked}
 use Rattle.sp_front.specs.Compiles.{BreaksAnyFirst, IsAccepted}
 use Rattle.sp_code.specs.Lengths.{tree_length}
 use Rattle.sp_meaning.specs.Own.{Setting}
@@ -33,7 +33,7 @@ use Rattle.superpascal.specs.declared.ending.Answer.{Answer}
 use Rattle.superpascal.specs.Answers.{status_of, line_of, notes_by, has_output}
 use Rattle.superpascal.specs.Phases.{BreaksLength, BreaksOne, HasSets, IsDisjointText, KeepsAll}
 use Rattle.superpascal.specs.Runs.{Reports, run_notes}
-use Rattle.superpascal.specs.Calls.{All, AnswersOthers, Asked, Breaks, Call, Cause, Ends, EndsWith, Exactly, FitsInput, Found, Got, InputTooLong, IsOutside, IsProgram, IsRefused, IsRefusedBy, IsStopped, IsTold, IsTooLong, IsUnbuilt, IsUnbuiltAfter, IsWithin, Keeps, Makes, OfRun, OfText, Ran, ReadsFail, Refuses, RefusesWords, RunsTo, SaysLine, SaysRefusal, SaysUnbuilt, WritesLine, WritesNotes, WritesOutput, WritesText, accepted, accepted_cause, asks, asks_all, asks_text, cause, check_cause, ended_cause, file_of, is_other, is_unbuilt_for, kept_cause, layout_cause, made_cause, printed_cause, run_cause, sets_cause, silent, text_cause, unbuilt_cause}
+use Rattle.superpascal.specs.Calls.{All, AnswersOthers, Asked, Breaks, Call, Cause, Ends, EndsWith, Exactly, FitsInput, Found, Got, InputTooLong, IsOutside, IsProgram, IsRefused, IsRefusedBy, IsTold, IsTooLong, IsUnbuilt, IsUnbuiltAfter, IsWithin, Keeps, Makes, OfRun, OfText, Ran, ReadsFail, Refuses, RefusesWords, RunsTo, SaysLine, SaysRefusal, SaysUnbuilt, WritesLine, WritesNotes, WritesOutput, WritesText, accepted_cause, asks, asks_all, asks_text, cause, check_cause, ended_cause, file_of, is_other, is_unbuilt_for, kept_cause, layout_cause, made_cause, printed_cause, run_cause, sets_cause, silent, text_cause, unbuilt_cause}
 
 -- all trees of a text have one meaning
 abbrev pub Once : Type 0

@@ -238,7 +238,13 @@ fn accepted_texts(rt: HostRuntime) -> Result<(), Fail> {
     }
     let unbuilt = "program g; begin write(1); end.";
     for command in ["run", "code"] {
-        let given = call(&rt, rt.alloc(), &[command, "a.sp"], unbuilt.as_bytes(), NONE)?;
+        let given = call(
+            &rt,
+            rt.alloc(),
+            &[command, "a.sp"],
+            unbuilt.as_bytes(),
+            NONE,
+        )?;
         assert_eq!(rt; given.status, 1);
         assert_eq!(rt; given.notes.as_slice(), b"not built\n".as_slice());
     }
