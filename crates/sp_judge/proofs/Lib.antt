@@ -10,3 +10,5 @@ mod OfferLaws
 mod VerdictLaws
 mod Steps
 mod Judging
+mod QuietRuns
+mod RunVerdicts
