@@ -3,6 +3,7 @@
 
 mod bench;
 mod clock;
+mod knowing;
 mod laws;
 mod table;
 mod verdict;
