@@ -201,7 +201,7 @@ module _ (all : List Entry) (nameable : NameableFrom at_start all) (quiet : IsQu
         taken (y ∷ xs) (suc n) zero g = g
         taken (y ∷ xs) (suc n) (suc i) g = taken xs n i g
 
-    into_front : (i : ℕ) (x : Entry) → i < at → slice_get all i ≡ Some x → slice_get (take at all) i ≡ Some x
+    pub into_front : (i : ℕ) (x : Entry) → i < at → slice_get all i ≡ Some x → slice_get (take at all) i ≡ Some x
     into_front i x l g = given all at i l g
       where
         given : (xs : List Entry) (n i : ℕ) → i < n → slice_get xs i ≡ Some x → slice_get (take n xs) i ≡ Some x

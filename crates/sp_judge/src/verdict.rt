@@ -53,7 +53,8 @@ fn judged_entries(alloc: Global, journal: &Journal) -> Result<Verdict, Memory>
     let until = questions(alloc, entries, ledger.processes(), ledger.channels())?;
     let mut bench = Bench::new(alloc, ledger.processes(), ledger.channels())?;
     for at in 0..entries.len() {
-        if let Some(racer) = racing(&bench, &ledger, entries, &until, at)? {
+        let found = racing(&bench, &ledger, entries, &until, at)?;
+        if let Some(racer) = found {
             return race(&ledger, &bench, entries, &until, at, racer);
         }
         bench.see(&ledger, entries, &until, at)?;
@@ -149,7 +150,8 @@ fn race(
     requires racing { IsRacing entries.now at (Some racer) }
     ensures { IfOk result (λ verdict. IsJudged (named (births entries.now) entries.now) verdict) }
 {
-    match first_unknown(ledger, bench, entries, until, at, racer)? {
+    let first = first_unknown(ledger, bench, entries, until, at, racer)?;
+    match first {
         None => Ok(Verdict::Ordered),
         Some(earlier) => Ok(Verdict::Race {
             way: racer.way,
