@@ -10,7 +10,7 @@ use Rattle.sp_journal.proofs.BirthLaws.{Lawful, lawful}
 use Rattle.sp_race.specs.Known.{AreKnown}
 use Rattle.sp_judge.specs.declared.clock.Clock.{Clock}
 use Rattle.sp_judge.specs.declared.bench.Bench.{Bench}
-use Rattle.sp_judge.specs.Clocks.{count_of, clock_at, number_at}
+use Rattle.sp_judge.specs.Clocks.{count_of, number_at}
 use Rattle.sp_judge.specs.Counts.{made, counts}
 use Rattle.sp_judge.specs.Bench.{named, offer_event, IsTame, Holds, IsOfferAt, IsLastOffer, IsUnknown}
 use Rattle.sp_judge.proofs.TableLaws.{clock_is}

@@ -4,7 +4,7 @@ use Rattle.sp_base.specs.declared.fault.Fault.{Fault}
 use Rattle.sp_base.specs.declared.fault.Fault.TheVariants as fault
 use Rattle.sp_journal.specs.Maps.{at_key}
 use Rattle.sp_journal.specs.Past.{Judged, met_now, judged_by, nothing_judged}
-use Rattle.sp_meaning.specs.Model.{Name, Channel, same_channel, Language, Moves, Opens, Forks, Offering, Ends, Fails, Condition, Absent, Works, Waits, Joins, Ended, State, Change, after}
+use Rattle.sp_meaning.specs.Model.{Name, Channel, same_channel, Language, Moves, Opens, Forks, Offering, Ends, Fails, Absent, Works, Waits, Joins, Ended, Change, after}
 use Rattle.sp_meaning.specs.Steps.{ActOf, OfferOf, ConditionOf, Outcome, Does, Faulty, way_of, message, meeting, hands, meets, offered, acts, cost, passed, unless, outcome, result_of, step_with, Sound}
 use Rattle.sp_meaning.specs.Own.{Setting, Process}
 use Rattle.sp_meaning.specs.SuperPascal.{superpascal, root, first_store}
@@ -148,7 +148,7 @@ module _ (g : Setting) where
       let run = turn_runs turn (c.since e.who) e.who a.1 s a.3 a.4 a.6 in (
         waits_for_none s j e.who run.0 match run.1,
         entered_on _ c a.3 a.4 e.who e.what a.2 j n (QuietFrom (judged_by j n e.who e.what) (suc n) es) a.7 (turned turn (c.since e.who) e.who a.1 s a.3 a.4 j a.6 match)
-        (λ c1 u d b more. along_quiet turn es c1 u d t (judged_by j n e.who e.what) (suc n) b more),
+            (λ c1 u d b more. along_quiet turn es c1 u d t (judged_by j n e.who e.what) (suc n) b more),
       )
 
   matches_start : Matches (start g) nothing_judged

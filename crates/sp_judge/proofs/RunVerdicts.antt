@@ -1,5 +1,5 @@
 -- An ordered run that has an end ends alike in every schedule; and a journal and an end have one verdict alone.
-use Rattle.std.proofs.Common.{◌≡◌, ◌⊎◌, inl, inr, ⊎_elim, ℕ, zero, suc, ◌<◌, ◌≤◌, Bool, true, false, cond, List, [], ◌∷◌, ◌++◌, append-nil, Option, Some, None, slice_get, refl, sym, ap, ◌∙◌, subst, arith}
+use Rattle.std.proofs.Common.{◌≡◌, ◌⊎◌, inl, inr, ⊎_elim, ℕ, zero, suc, Bool, true, false, cond, List, [], ◌∷◌, ◌++◌, append-nil, Option, Some, None, refl, sym, ap, ◌∙◌, subst, arith}
 use Rattle.sp_base.specs.declared.fault.Fault.{Fault}
 use Rattle.sp_base.specs.declared.name.ChanName.{ChanName}
 use Rattle.sp_journal.specs.declared.entry.Way.{Way}
@@ -10,13 +10,13 @@ use Rattle.sp_journal.specs.declared.outcome.Verdict.TheVariants as verdict
 use Rattle.sp_journal.specs.Names.{chan_name}
 use Rattle.sp_journal.specs.Past.{AreOrdered}
 use Rattle.sp_tree.specs.Interference.{IsFreeOfInterference}
-use Rattle.sp_meaning.specs.Model.{Name, Channel, same_name, Language, Moves, Opens, Forks, Offering, Ends, Fails, Works, Ended, State, Change, Becomes, Writes, changed, after}
-use Rattle.sp_meaning.specs.Steps.{ActOf, OfferOf, ConditionOf, Outcome, Does, Faulty, Lives, acts, cost, passed, puts, unless, outcome, result_of, step_with, Sound}
+use Rattle.sp_meaning.specs.Model.{Name, Channel, same_name, Language, Moves, Opens, Forks, Offering, Ends, Fails, Works, Ended, Change, Becomes, Writes, changed, after}
+use Rattle.sp_meaning.specs.Steps.{ActOf, ConditionOf, Outcome, Does, Faulty, Lives, acts, cost, passed, puts, unless, outcome, result_of, step_with, Sound}
 use Rattle.sp_meaning.specs.Own.{Setting, Process}
 use Rattle.sp_meaning.specs.SuperPascal.{superpascal, root, first_store}
 use Rattle.sp_meaning.specs.Entries.{Happening, Opened, Split, Offered, Finished, Failed, LaidDown, Paused, Occurrence}
 use Rattle.sp_meaning.specs.Runs.{StateOf, start, most, running, next, said_of, says}
-use Rattle.sp_meaning.specs.Along.{Either, due, Turn, Course, no_course, after_entry, stopped, Kernel, Entered, Along, IsAlong, IsCleanly, IsClean}
+use Rattle.sp_meaning.specs.Along.{Either, due, Turn, Course, no_course, stopped, Entered, Along, IsAlong, IsCleanly, IsClean}
 use Rattle.sp_meaning.specs.Ends.{IsDone, EndIs}
 use Rattle.sp_meaning.proofs.Status.{working_lives}
 use Rattle.sp_meaning.proofs.Parallel.{ancestors_live}

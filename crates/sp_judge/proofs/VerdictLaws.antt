@@ -1,5 +1,5 @@
 -- From the tables to the verdict.
-use Rattle.std.proofs.Common.{◌≡◌, ◌⊎◌, inl, inr, ⊎_elim, ℕ, zero, suc, ◌<◌, ◌≤◌, ◌↔◌, Bool, true, false, nat_lt, List, [], ◌∷◌, ◌++◌, take, length, append_assoc, append-nil, Option, Some, None, slice_get, unwrap_or, refl, sym, ap, ◌∙◌, subst, arith}
+use Rattle.std.proofs.Common.{◌≡◌, ◌⊎◌, inl, inr, ⊎_elim, ℕ, zero, suc, ◌<◌, ◌≤◌, ◌↔◌, Bool, true, false, nat_lt, List, [], ◌∷◌, ◌++◌, take, length, append_assoc, append-nil, Option, Some, None, slice_get, refl, sym, ap, ◌∙◌, subst, arith}
 use Rattle.std.proofs.lemmas.Bool.Decides.{nat_tests}
 use Rattle.sp_journal.specs.declared.entry.Entry.{Entry}
 use Rattle.sp_journal.specs.declared.entry.Event.{Event}
@@ -15,7 +15,7 @@ use Rattle.sp_race.specs.Known.{KnowsOffers, KnownFrom, AreKnown}
 use Rattle.sp_race.proofs.Completion.{Paired, judged_paired, nothing_paired}
 use Rattle.sp_judge.specs.declared.bench.Offer.{Offer}
 use Rattle.sp_judge.specs.declared.bench.Bench.{Bench}
-use Rattle.sp_judge.specs.Clocks.{clock_at, number_at, IsAsked}
+use Rattle.sp_judge.specs.Clocks.{clock_at, IsAsked}
 use Rattle.sp_judge.specs.Counts.{made, counts}
 use Rattle.sp_judge.specs.Bench.{named, OfferIn, IsLast, Holds, offer_event, IsLastOffer, IsUnknown, IsFirstUnknown}
 use Rattle.sp_judge.specs.Races.{KnowsCompletion, Race, IsLeastRace}

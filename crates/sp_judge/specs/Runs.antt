@@ -1,5 +1,5 @@
 -- What a verdict promises of a run along a journal.
-use Rattle.std.specs.Prelude.{◌≡◌, ℕ, List}
+use Rattle.std.specs.Prelude.{ℕ, List}
 use Rattle.sp_journal.specs.declared.outcome.End.{End}
 use Rattle.sp_journal.specs.declared.outcome.Verdict.{Verdict}
 use Rattle.sp_journal.specs.declared.outcome.Verdict.TheVariants as verdict

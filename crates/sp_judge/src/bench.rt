@@ -139,7 +139,13 @@ impl Bench {
         Ok(())
     }
 
-    fn opens(&mut self, entries: &[Entry], until: &[u64], at: usize, process: u32) -> Result<(), Memory>
+    fn opens(
+        &mut self,
+        entries: &[Entry],
+        until: &[u64],
+        at: usize,
+        process: u32,
+    ) -> Result<(), Memory>
         requires tame { IsTame entries.now }
         requires holds { Holds (births entries.now) until.now (take at entries.now) self.old }
         requires here { slice_get entries.now at ≡ Some (record { process = process; event = Event.Open }) }
@@ -276,7 +282,14 @@ impl Bench {
             Event::Open => self.opens(entries, until, at, process),
             Event::Fork(count) => self.forks(entries, until, at, process, count),
             Event::Send(channel) => self.offers(entries, until, at, process, Way::Send, channel),
-            Event::Receive(channel) => self.offers(entries, until, at, process, Way::Receive, channel),
+            Event::Receive(channel) => self.offers(
+                entries,
+                until,
+                at,
+                process,
+                Way::Receive,
+                channel,
+            ),
             Event::End => self.ends(ledger, entries, until, at, process),
             Event::Fault(_) | Event::Laid | Event::Pause => self.passes(
                 entries, until, at, process, event,

@@ -45,8 +45,9 @@ impl Clock {
     pub fn raise(&mut self, process: u32, count: u64) -> Result<(), Memory>
         ensures { OnOk result ((q : ℕ) → count_of self.new q ≡ cond (process == q) (max (count_of self.old q) count) (count_of self.old q)) }
     {
-        let raised = self.count(process).max(count);
-        self.counts.insert(process, raised)?;
+        if self.count(process) < count {
+            self.counts.insert(process, count)?;
+        }
         Ok(())
     }
 

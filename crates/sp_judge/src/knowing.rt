@@ -199,9 +199,5 @@ pub(crate) fn first_unknown(
             }
         }
     }
-    Ok(if first < at {
-        Some(first as u64)
-    } else {
-        None
-    })
+    Ok(if first < at { Some(first as u64) } else { None })
 }

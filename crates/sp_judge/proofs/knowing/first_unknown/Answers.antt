@@ -1,7 +1,6 @@
-use Rattle.std.proofs.Common.{rules, ◌≡◌, ◌<◌, ◌≤◌, ◌-◌, ◌/◌, ℕ, length, sym, ap, ◌∙◌, subst, arith}
+use Rattle.std.proofs.Common.{rules, ◌<◌, ◌≤◌, ◌-◌, ◌/◌, length, sym, ◌∙◌, subst, arith}
 use Rattle.sp_journal.specs.declared.entry.Entry.{Entry}
 use Rattle.sp_journal.specs.declared.entry.Event.TheVariants as event
-use Rattle.sp_judge.specs.Bench.{offer_event, IsOfferAt}
 use Rattle.sp_judge.proofs.Steps.{true_not_false}
 use Rattle.sp_judge.proofs.Halves.{inside, there, other_there, none_below, all_below, place_there, counted}
 use Rattle.sp_judge.proofs.knowing.first_unknown.Goals as goal

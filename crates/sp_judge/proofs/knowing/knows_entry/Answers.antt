@@ -1,6 +1,4 @@
 use Rattle.std.proofs.Common.{◌≡◌, ◌<◌, ◌+◌, ◌≤◌, take, length, sym, ap, ◌∙◌, subst, arith}
-use Rattle.sp_journal.specs.declared.entry.Entry.{Entry}
-use Rattle.sp_journal.specs.declared.entry.Journal.{Journal}
 use Rattle.sp_journal.specs.Births.{births}
 use Rattle.sp_judge.specs.Clocks.{number_at}
 use Rattle.sp_judge.specs.Bench.{IsBlank, Holds}

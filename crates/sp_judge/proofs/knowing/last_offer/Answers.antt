@@ -1,6 +1,6 @@
 use Rattle.std.proofs.Common.{◌≡◌, ◌⊎◌, ⊎_elim, ◌<◌, ◌≤◌, ◌-◌, ℕ, length, sym, ◌∙◌, subst, arith}
 use Rattle.sp_judge.specs.Bench.{IsOfferAt}
-use Rattle.sp_judge.proofs.Steps.{below_or_this, true_not_false}
+use Rattle.sp_judge.proofs.Steps.{true_not_false}
 use Rattle.sp_judge.proofs.Halves.{offer_here, offer_there}
 use Rattle.sp_judge.proofs.knowing.last_offer.Goals as goal
 

@@ -39,8 +39,7 @@ loop-at-preserved c =
     let at = c.loop-at.at in
     let e = get_or es at any_entry in
     let inside : slice_get es at ≡ Some e = slice_get-get_or es at any_entry c.loop-at-test.true in
-    let tame = subst IsTame (sym c.items-entries.ensures) (tame_of c.args.journal.now c.requires.nameable c.requires.quiet) in
-    (
+    let tame = subst IsTame (sym c.items-entries.ensures) (tame_of c.args.journal.now c.requires.nameable c.requires.quiet) in (
       subst (λ u. Holds (births es) u (take (at + 1) es) c.see.new.self) c.deref-in-loop-at.ensures.value c.in_ok-see.ensures,
       known_next es tame at e inside c.loop-at.invariant.1 (none_racing es at c.in_ok-found.found c.in_ok-found.ensures c.in_default.not-Some e inside),
     )

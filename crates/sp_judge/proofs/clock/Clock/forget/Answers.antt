@@ -1,7 +1,7 @@
 use Rattle.std.proofs.Common.{rules, ◌≡◌, ◌∙◌, ℕ, ◌<◌, true, nat_lt, ap, arith}
 use Rattle.std.proofs.lemmas.Bool.Decides.{nat_tests}
 use Rattle.std.proofs.lemmas.Map.Made.{filter_same_pairs}
-use Rattle.sp_judge.specs.Clocks.{number_at, IsAsked}
+use Rattle.sp_judge.specs.Clocks.{number_at}
 use Rattle.sp_judge.proofs.ClockLaws.{count_in, kept_count}
 use Rattle.sp_judge.proofs.clock.Clock.forget.Goals as goal
 
