@@ -1,21 +1,19 @@
 -- The waiters of a run in order of their names, as the program tells them, are all that wait in the control, in the order of the meaning
 -- (`all_waiting`).
 use Rattle.std.proofs.Common.{◌≡◌, ◌⊎◌, inl, inr, ⊎_elim, ℕ, zero, suc, ◌+◌, ◌<◌, ◌≤◌, List, [], ◌∷◌, length, Bool, true, false, refl, sym, ap, ◌∙◌, subst, arith}
-use Rattle.std.specs.Prelude.{map, reverse, slice_set, slice_index_or}
+use Rattle.std.specs.Prelude.{map, slice_set, slice_index_or}
 use Rattle.std.specs.List.{swap, Contains, AllByRecursion, IsDistinct}
 use Rattle.std.specs.List.Sorted.{IsPermutation, SwapsInRange, apply_swaps, IsSortedByKey}
 use Rattle.std.specs.Ordering.{is_lt, ordering_reverse}
 use Rattle.std.specs.declared.cmp.Ordering.{Ordering}
 use Rattle.std.specs.declared.cmp.Ordering.TheVariants.{Less, Equal, Greater}
-use Rattle.std.proofs.lemmas.List.{reverse-reverse}
 use Rattle.std.proofs.lemmas.List.Sorted.{Contains-permutation, IsPermutation-sym}
 use Rattle.std.proofs.lemmas.Map.Keys.{IsDistinct-IsPermutation}
 use Rattle.sp_base.specs.Order.{name_cmp, name_total, same_name as name_of_tie}
-use Rattle.sp_base.specs.declared.name.ProcName.{ProcName}
 use Rattle.sp_journal.specs.declared.entry.Way.TheVariants as way
 use Rattle.sp_journal.specs.declared.outcome.Waiter.{Waiter}
-use Rattle.sp_journal.specs.Births.{Births, channel}
-use Rattle.sp_journal.specs.Names.{Name, same_name, proc_name}
+use Rattle.sp_journal.specs.Births.{channel}
+use Rattle.sp_journal.specs.Names.{same_name, proc_name}
 use Rattle.sp_journal.proofs.BirthLaws.{Lawful}
 use Rattle.sp_meaning.specs.Ends.{Waiting, IsIn, IsSorted, name_before, waiter_of}
 use Rattle.sp_meaning.proofs.Keys.{name_test}

@@ -1,7 +1,6 @@
 -- Who waits in the machine waits in the meaning, with the same way and channel, and the other way round (`waits_means`, `waits_runs`); so
 -- where nobody can go on in the one, nobody can in the other, and the same ones wait (`stuck_means`, `stuck_runs`).
-use Rattle.std.proofs.Common.{◌≡◌, ◌⊎◌, ⊎_elim, ℕ, zero, suc, ◌<◌, ◌≤◌, ◌∷◌, List, Option, Some, None, false, refl, sym, ap, ◌∙◌, subst, arith, inl, inr}
-use Rattle.std.specs.Prelude.{◌≢◌}
+use Rattle.std.proofs.Common.{◌≡◌, ℕ, ◌<◌, ◌∷◌, List, Option, Some, None, false, refl, sym, ap, ◌∙◌, subst}
 use Rattle.sp_journal.specs.declared.entry.Way.TheVariants as way
 use Rattle.sp_journal.specs.Births.{channel}
 use Rattle.sp_cell.specs.Map.{Plain}
