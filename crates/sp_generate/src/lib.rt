@@ -1,0 +1,20 @@
+//! The code of a checked tree.
+#![tactic(auto)]
+
+mod blocks;
+mod cells;
+mod choices;
+mod draft;
+mod expressions;
+mod frames;
+mod ground;
+mod handed;
+mod levels;
+mod numbers;
+mod program;
+mod simple;
+mod single;
+mod statements;
+mod tabling;
+
+pub use program::{GenError, generate};
