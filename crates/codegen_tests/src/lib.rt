@@ -3,7 +3,3 @@
 
 #[cfg(test)]
 mod lengths;
-#[cfg(test)]
-mod listings;
-#[cfg(test)]
-mod made;

@@ -10,3 +10,4 @@ pub mod Limits
 pub mod Inside
 pub mod Deciding
 pub mod Telling
+pub mod OneCode

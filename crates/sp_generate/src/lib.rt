@@ -9,6 +9,7 @@ mod expressions;
 mod frames;
 mod ground;
 mod handed;
+mod law;
 mod levels;
 mod numbers;
 mod program;
@@ -17,4 +18,5 @@ mod single;
 mod statements;
 mod tabling;
 
+pub use law::one_code;
 pub use program::{GenError, generate};
