@@ -1,6 +1,6 @@
 //! The length of each form of statement and expression, beside the table of lengths.
 
-use sp_front::typed;
+use sp_compile::compiled;
 use sp_length::length;
 use std::alloc::Global;
 use std::test::Fail;
@@ -128,8 +128,8 @@ const ROWS: [Row; 28] = [
 #[test]
 fn lengths_are_those_of_the_table(rt: HostRuntime) -> Result<(), Fail> {
     for row in ROWS.iter() {
-        let tree = typed(rt.alloc(), row.text)?;
-        assert_eq!(rt; length(&tree), row.length);
+        let made = compiled(rt.alloc(), row.text)?;
+        assert_eq!(rt; length(made.checked()), row.length);
     }
     Ok(())
 }

@@ -2,4 +2,10 @@
 #![tactic(auto)]
 
 #[cfg(test)]
+mod large;
+#[cfg(test)]
 mod lengths;
+#[cfg(test)]
+mod listings;
+#[cfg(test)]
+mod made;

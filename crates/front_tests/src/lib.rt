@@ -8,6 +8,8 @@ mod declared;
 #[cfg(test)]
 mod grammar;
 #[cfg(test)]
+mod interference;
+#[cfg(test)]
 mod large;
 #[cfg(test)]
 mod names;

@@ -122,7 +122,7 @@ module _ {M : Type 0} (ex : Execution M) where
   made_after c d Q (Got (Beat todo) o, s) h k = (k.0, k.1, k.2, k.3, k.4, comes_on ops rel w code h k.5, k.6, k.7, k.8)
   made_after c d Q (Got (Opened todo) o, s) h k = (k.0, k.1, k.2, k.3, k.4, k.5, k.6, k.7, comes_on ops rel w code h k.8, k.9, k.10, k.11, k.12, k.13, k.14, k.15, k.16)
   made_after c d Q (Got (Forked bs todo) o, s) h k = (k.0, k.1, k.2, k.3, k.4, k.5, comes_on ops rel w code h k.6, k.7, k.8, k.9, k.10, k.11, k.12)
-  made_after c d Q (Got (Offered ch x g todo) o, s) h k = (k.0, k.1, k.2, k.3, k.4, k.5, comes_on ops rel w code h k.6, k.7, k.8, k.9, k.10, k.11)
+  made_after c d Q (Got (Offered ch x g todo) o, s) h k = (k.0, k.1, k.2, k.3, k.4, k.5, comes_on ops rel w code h k.6, k.7, k.8, k.9, k.10, k.11, k.12)
   made_after c d Q (Got Over o, s) h k = (k.0, k.1, k.2, k.3, comes_on ops rel w code h k.4, k.5, k.6, k.7, k.8)
   made_after c d Q (Bad f, s) h k = breaks_after ops rel w code h k
   made_after c d Q (Lost, s) h k = k

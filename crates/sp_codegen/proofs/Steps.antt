@@ -623,9 +623,9 @@ module _ {M : Type 0} (ex : Execution M) where
       makes_bind ex _ (value_gives ex call ok c sc q stack fs o s n t (within (λ u. inl) pl) h.0) (λ v e o1 s1 n1 t1 x1.
       with_channel (After end base below) (kind_of c) v e (λ to. bind (value g call (Typed x form)) (λ z. give (Offered to x (Offers (Tree z)) todo))) (after_value q c) stack o1 s1 n1 h.1 x1 (λ ch1 j nm.
       makes_bind ex (λ z. give (Offered ch1 x (Offers (Tree z)) todo)) (form_gives ex call ok x form sc (after_value q c) (m.Chan j ∷ stack) fs o1 s1 n1 t1 (within (λ u i. inr (inl i)) pl) h.2) (λ v2 e2 o2 s2 n2 t2 x2.
-      record { by = (after_form (after_value q c) form + 1, stack, n2, fs, m.At (after_form (after_value q c) form) (e2 ∷ m.Chan j ∷ stack) n2, Sends j x (cells_in e2), stays ops rel w code _, send_one (after_form (after_value q c) form) x (sort p x) v2 e2 j stack n2 x2 h.3, t2, (j, e2, refl, nm, x2), k, h.4) })))
+      record { by = (after_form (after_value q c) form + 1, stack, n2, fs, m.At (after_form (after_value q c) form) (e2 ∷ m.Chan j ∷ stack) n2, Sends j x (cells_in e2), stays ops rel w code _, send_one (after_form (after_value q c) form) x (sort p x) v2 e2 j stack n2 x2 h.3, t2, (j, e2, refl, nm, x2), k, h.4, tt) })))
   start_makes call ok bl end base below (Receive c v) sc q stack todo fs o s n t pl h k =
       makes_bind ex _ (value_gives ex call ok c sc q stack fs o s n t (within (λ u. inl) pl) h.1) (λ y e o1 s1 n1 t1 x1.
       with_channel (After end base below) (kind_of c) y e (λ from. bind (address g call v) (λ a. give (Offered from a.kind (Takes a) todo))) (after_value q c) stack o1 s1 n1 h.2 x1 (λ ch1 j nm.
       makes_bind ex (λ a. give (Offered ch1 a.kind (Takes a) todo)) (address_gives ex call ok v h.0 sc (after_value q c) (m.Chan j ∷ stack) fs o1 s1 n1 t1 (within (λ u i. inr (inl i)) pl) h.3 h.4) (λ a u o2 s2 n2 t2 x2.
-      record { by = (after_var (after_value q c) v + 1, stack, ops.own u n2, fs, m.At (after_var (after_value q c) v) (m.Pointer u ∷ m.Chan j ∷ stack) n2, Receives j h.0 u, stays ops rel w code _, one_at (after_var (after_value q c) v) _ n2 h.5 ∙ holds_when (ops.has u 1 n2) _ (law.has_one t2 a u x2.1 x2.2), law.own t2 a u x2.1 x2.2, receive_is fs ch1 h.0 a u j x2.0 nm x2.1 x2.2, k, h.6) })))
+      record { by = (after_var (after_value q c) v + 1, stack, ops.own u n2, fs, m.At (after_var (after_value q c) v) (m.Pointer u ∷ m.Chan j ∷ stack) n2, Receives j h.0 u, stays ops rel w code _, one_at (after_var (after_value q c) v) _ n2 h.5 ∙ holds_when (ops.has u 1 n2) _ (law.has_one t2 a u x2.1 x2.2), law.own t2 a u x2.1 x2.2, receive_is fs ch1 h.0 a u j x2.0 nm x2.1 x2.2, k, h.6, (n2, refl)) })))

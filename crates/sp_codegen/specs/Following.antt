@@ -46,6 +46,15 @@ cells_in (m.Cells cs) = cs
 cells_in (m.Link r) = []
 cells_in (m.Reply r) = []
 
+-- at the stop, the piece of a receiver's target is its own
+abbrev pub IsOwned : {M : Type 0} → Ops M → Stop → M → Type 0
+IsOwned ops (Forks t value k) n = Unit {0}
+IsOwned ops (Opens a) n = Unit {0}
+IsOwned ops (Sends c k cs) n = Unit {0}
+IsOwned {M} ops (Receives c k a) n = (before : M) × (n ≡ ops.own a before)
+IsOwned ops Ended n = Unit {0}
+IsOwned ops Pauses n = Unit {0}
+
 module _ {M : Type 0} (ex : Execution M) where
   open ex use {setting as g, code, moves, shares, Quiet as hush, who as w, Writes as W, Reads as R, Indexes as J, operations as ops, relation as rel}
 
@@ -111,7 +120,7 @@ module _ {M : Type 0} (ex : Execution M) where
   Made c Q (Got (Forked bs todo) o, s) =
       (pc : ℕ) × (st : List Entry) × (n : M) × (fs : List Joint) × (d : Config M) × (z : Stop) × Comes ops code c d × (one ops code d ≡ Stops z (At pc st n)) × rel.Stand fs o s n × Q todo fs pc st × (outside st ≡ true) × ForkIs (outside st) fs bs z × (nat_lt o.depth g.limits.depth ≡ true)
   Made c Q (Got (Offered ch k g todo) o, s) =
-      (pc : ℕ) × (st : List Entry) × (n : M) × (fs : List Joint) × (d : Config M) × (z : Stop) × Comes ops code c d × (one ops code d ≡ Stops z (At pc st n)) × rel.Stand fs o s n × CargoIs fs ch k g z × Q todo fs pc st × (outside st ≡ true)
+      (pc : ℕ) × (st : List Entry) × (n : M) × (fs : List Joint) × (d : Config M) × (z : Stop) × Comes ops code c d × (one ops code d ≡ Stops z (At pc st n)) × rel.Stand fs o s n × CargoIs fs ch k g z × Q todo fs pc st × (outside st ≡ true) × IsOwned ops z n
   Made c Q (Got Over o, s) = (pc : ℕ) × (st : List Entry) × (n : M) × (fs : List Joint) × Comes ops code c (At pc st n) × (one ops code (At pc st n) ≡ Stops Ended (At pc st n)) × rel.Stand fs o s n × Q [] fs pc st × (outside st ≡ true)
   Made c Q (Bad f, s) = Breaks ops rel code c f s
   Made c Q (Lost, s) = ⊥

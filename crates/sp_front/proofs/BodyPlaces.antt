@@ -6,9 +6,6 @@ use Rattle.sp_tree.specs.declared.token.Token.{Token}
 use Rattle.sp_tree.specs.declared.syntax.Name.{Name}
 use Rattle.sp_tree.specs.declared.syntax.SynFormal.{SynFormal}
 use Rattle.sp_tree.specs.declared.syntax.SynGroup.{SynGroup}
-use Rattle.sp_tree.specs.declared.syntax.SynConst.{SynConst}
-use Rattle.sp_tree.specs.declared.syntax.SynKind.{SynKind}
-use Rattle.sp_tree.specs.declared.token.Kind.{Kind}
 use Rattle.sp_tree.specs.PlainSyntax as tree
 use Rattle.sp_tree.specs.Places.{start, place_at}
 use Rattle.sp_tree.specs.Grammar as g

@@ -2,11 +2,8 @@
 use Rattle.std.proofs.Common.{◌≡◌, ℕ, List, Result, Ok, Err, inl, inr, sym as back_of, ap, ◌∙◌, subst}
 use Rattle.sp_base.specs.declared.halt.Halt.{Halt}
 use Rattle.sp_base.specs.declared.halt.Halt.TheVariants as halt
-use Rattle.sp_base.specs.declared.halt.Refusal.{Refusal}
 use Rattle.sp_tree.specs.declared.token.Token.{Token}
 use Rattle.sp_tree.specs.declared.syntax.Syntax.{Syntax}
-use Rattle.sp_tree.specs.SyntaxOf.{program_of}
-use Rattle.sp_tree.specs.Breaches.{IsTree, IsFirstBroken}
 use Rattle.sp_tree.specs.Scans.{IsTokens}
 use Rattle.sp_scan.specs.Finds.{Scanned}
 use Rattle.sp_parse.specs.Parses.{Parsed}

@@ -1,6 +1,8 @@
+pub mod Accepting
 pub mod BodyPlaces
 pub mod Existence
 pub mod Joining
 pub mod Numbered
 pub mod OneAnswer
+pub mod OwnNumbers
 pub mod Phasing

@@ -5,13 +5,10 @@ use Rattle.sp_base.specs.declared.halt.Halt.{Halt}
 use Rattle.sp_base.specs.declared.halt.Halt.TheVariants as halt
 use Rattle.sp_base.specs.declared.halt.Refusal.{Refusal}
 use Rattle.sp_tree.specs.declared.checked.Checked.{Checked}
-use Rattle.sp_tree.specs.declared.named.Named.{Named}
-use Rattle.sp_tree.specs.declared.syntax.Syntax.{Syntax}
 use Rattle.sp_tree.specs.PlainNamed as n
 use Rattle.sp_tree.specs.PlainSyntax as s
 use Rattle.sp_tree.specs.Found.{AnswersAs}
 use Rattle.sp_tree.specs.NamedOf as named
-use Rattle.sp_tree.specs.SyntaxOf as plain
 use Rattle.sp_tree.specs.Breaches.{IsTree}
 use Rattle.sp_tree.specs.NameFirst.{resolved}
 use Rattle.sp_tree.specs.PlainChecked.{Program}
@@ -19,7 +16,7 @@ use Rattle.sp_tree.specs.CheckedOf as checked
 use Rattle.sp_tree.specs.PlainOf as meant
 use Rattle.sp_tree.proofs.FusedStatements.{program_fused}
 use Rattle.sp_types.specs.TypeFirst.{typed}
-use Rattle.sp_front.specs.Checks.{BreaksFirst, Checks, IsChecked, IsNamed, IsProgramOf, KeepsRules}
+use Rattle.sp_front.specs.Checks.{BreaksFirst, Checks, IsChecked, IsProgramOf, KeepsRules}
 use Rattle.sp_front.specs.Texts.{Reads}
 
 abbrev pub Passed : Result Checked Halt → Halt → Type 0

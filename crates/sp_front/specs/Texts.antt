@@ -2,7 +2,6 @@
 use Rattle.std.specs.Prelude.{ℕ, List, Result, Ok, Err}
 use Rattle.sp_base.specs.declared.halt.Halt.{Halt}
 use Rattle.sp_base.specs.declared.halt.Halt.TheVariants as halt
-use Rattle.sp_base.specs.declared.halt.Refusal.{Refusal}
 use Rattle.sp_tree.specs.declared.syntax.Syntax.{Syntax}
 use Rattle.sp_tree.specs.SyntaxOf.{program_of}
 use Rattle.sp_tree.specs.Breaches.{IsTree, IsFirstBroken}

@@ -4,10 +4,17 @@ ghost use Rattle.std.specs.Prelude.{◌≡◌, ◌⊎◌, ℕ, List};
 ghost use Rattle.sp_base.specs.declared.halt.Refusal.{Refusal};
 ghost use Rattle.sp_tree.specs.PlainChecked.{Program};
 ghost use Rattle.sp_tree.specs.Plain.{Program as Meant};
+ghost use Rattle.sp_tree.specs.Bare.{bare};
+ghost use Rattle.sp_meaning.specs.Own.{Setting};
+ghost use Rattle.sp_meaning.specs.Runs.{IsDisjointRun};
 ghost use Rattle.sp_types.specs.StatementNumbers.{AllDiffer, blocks_numbers};
+ghost use Rattle.sp_varsets.specs.AreSets.{HaveEarlierParents, HaveOwnNumbers};
 ghost use Rattle.sp_front.specs.Checks.{BreaksFirst, IsChecked, IsProgramOf, KeepsRules};
+ghost use Rattle.sp_front.specs.Compiles.{BreaksAnyFirst, IsAccepted};
 
+use sp_facts::laws::{accepted_trees_are_fine, names_number_the_tree};
 use sp_grammar::{one_verdict, some_verdict};
+use sp_meaning::rule_keepers_are_disjoint;
 use sp_scan::first_breach;
 
 /// The first rule that a text breaks is one rule at one place. A text that breaks one has no checked tree, and no text
@@ -19,6 +26,15 @@ pub fn one_answer()
     ensures program { (text : List ℕ) (p q : Meant) → IsProgramOf text p → IsProgramOf text q → p ≡ q }
 {
     one_verdict();
+}
+
+/// The first rule of all phases that a text breaks is one rule at one place, and a text that has an accepted tree breaks
+/// none.
+pub fn one_compilation()
+    ensures refusal { (text : List ℕ) (a b : Refusal) → BreaksAnyFirst text a → BreaksAnyFirst text b → a ≡ b }
+    ensures not_both { (text : List ℕ) (p : Program) (r : Refusal) → IsAccepted text p → BreaksAnyFirst text r → ⊥ }
+{
+    one_answer();
 }
 
 /// A text has a checked tree, or a rule that is the first it breaks. So a text that breaks no rule has a program.
@@ -34,3 +50,20 @@ pub fn some_answer(text: &[u8])
 pub fn numbers_differ()
     ensures { (text : List ℕ) (p : Program) → IsChecked text p → AllDiffer (blocks_numbers p.blocks) }
 {}
+
+/// In the checked tree of a text a block stands after the one around it, and no two statements have one number.
+pub fn numbered_trees()
+    ensures parents { (text : List ℕ) (p : Program) → IsChecked text p → HaveEarlierParents p }
+    ensures numbers { (text : List ℕ) (p : Program) → IsChecked text p → HaveOwnNumbers p }
+{
+    names_number_the_tree();
+}
+
+/// On no input, with no limits and in no lawful schedule does a process of an accepted text write what a parallel one
+/// reads or writes.
+pub fn accepted_texts_are_disjoint()
+    ensures { (text : List ℕ) (p : Program) → IsAccepted text p → (g : Setting) → g.program ≡ bare p → IsDisjointRun g }
+{
+    accepted_trees_are_fine();
+    rule_keepers_are_disjoint();
+}

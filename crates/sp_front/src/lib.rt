@@ -1,10 +1,15 @@
 //! The tree of a text, and its checked tree, or the first rule that it breaks.
 #![tactic(auto)]
 
+mod compiling;
 mod law;
 mod phases;
 mod reader;
 
-pub use law::{numbers_differ, one_answer, some_answer};
+pub use compiling::{Accepted, analyse, analyse_apart, compile, compile_apart};
+pub use law::{
+    accepted_texts_are_disjoint, numbered_trees, numbers_differ, one_answer, one_compilation,
+    some_answer,
+};
 pub use phases::{typed, typed_apart};
 pub use reader::read_text;

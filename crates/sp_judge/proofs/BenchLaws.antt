@@ -14,9 +14,9 @@ use Rattle.sp_past.proofs.Keys.{name_itself}
 use Rattle.sp_judge.specs.declared.bench.Offer.{Offer}
 use Rattle.sp_judge.specs.declared.bench.Line.{Line}
 use Rattle.sp_judge.specs.declared.bench.Bench.{Bench}
-use Rattle.sp_judge.specs.Clocks.{clock_at, with_own}
+use Rattle.sp_judge.specs.Clocks.{clock_at, with_own, number_at, IsAsked}
 use Rattle.sp_judge.specs.Counts.{made, counts, counted_by, becomes, gives_back, mine}
-use Rattle.sp_judge.specs.Bench.{named, number_at, Waits, OfferIn, IsLast, IsLine, Holds}
+use Rattle.sp_judge.specs.Bench.{named, Waits, OfferIn, IsLast, IsLine, Holds}
 use Rattle.sp_judge.proofs.Tallies.{index_or_not, made_last, take_low, take_all}
 use Rattle.sp_judge.proofs.TableLaws.{get_set}
 use Rattle.sp_judge.proofs.Standing.{Standing}
@@ -77,7 +77,7 @@ module _ (s : Births) (os : List Occurrence) (e : Occurrence) (w : Way) (d : Cha
     λ k y a. (let b = get_within (os ++ e ∷ []) k _ a in let c = length-append os (e ∷ []) in omega arith),
   )
 
-module _ (all : List Entry) (nameable : NameableFrom at_start all) (quiet : IsQuiet (named (births all) all)) (lawful : Lawful (births all)) (at : ℕ) (e : Entry) (inside : slice_get all at ≡ Some e) (b : Bench) (h : Holds (births all) (take at all) b) where
+module _ (all : List Entry) (nameable : NameableFrom at_start all) (quiet : IsQuiet (named (births all) all)) (lawful : Lawful (births all)) (at : ℕ) (e : Entry) (inside : slice_get all at ≡ Some e) (until : List ℕ) (b : Bench) (h : Holds (births all) until (take at all) b) where
   abbrev s : Births
   s = births all
 
@@ -105,9 +105,13 @@ module _ (all : List Entry) (nameable : NameableFrom at_start all) (quiet : IsQu
   judged_more : judged (named s (take (at + 1) all)) ≡ judged_by (judged os) (length os) o.who o.what
   judged_more = ap judged grown ∙ judged_last os o
 
-  pub clocks_more : (b' : Bench) → ((r q : ℕ) → r < s.processes → q < s.processes → clock_at b'.clocks.items r q ≡ counted_by (counts os) (judged os) os (s.name p) (happening s e.event) (s.name r) (s.name q))
-      → (r q : ℕ) → r < s.processes → q < s.processes → clock_at b'.clocks.items r q ≡ counts (named s (take (at + 1) all)) (s.name r) (s.name q)
-  clocks_more b' f r q l k = f r q l k ∙ sym (ap (λ xs. counts xs (s.name r) (s.name q)) grown ∙ ap (λ g. g (s.name r) (s.name q)) (counts_last os o))
+  -- it is there, and after this entry its count is still asked for
+  abbrev pub Live : ℕ → Type 0
+  Live q = (q < s.processes) × IsAsked until (at + 1) q
+
+  pub clocks_more : (b' : Bench) → ((r q : ℕ) → r < s.processes → Live q → clock_at b'.clocks.items r q ≡ counted_by (counts os) (judged os) os (s.name p) (happening s e.event) (s.name r) (s.name q))
+      → (r q : ℕ) → r < s.processes → q < s.processes → IsAsked until (length (take (at + 1) all)) q → clock_at b'.clocks.items r q ≡ counts (named s (take (at + 1) all)) (s.name r) (s.name q)
+  clocks_more b' f r q l k asked = f r q l (k, let n = front.next_length all nameable quiet lawful at e inside in omega arith) ∙ sym (ap (λ xs. counts xs (s.name r) (s.name q)) grown ∙ ap (λ g. g (s.name r) (s.name q)) (counts_last os o))
 
   made_now : (r : ℕ) → made (named s (take (at + 1) all)) (s.name r) ≡ cond (same_name (s.name p) (s.name r) && is_counted (happening s e.event)) (suc (made os (s.name r))) (made os (s.name r))
   made_now r = ap (λ xs. made xs (s.name r)) grown ∙ made_last os o (s.name r)
@@ -190,8 +194,8 @@ module _ (all : List Entry) (nameable : NameableFrom at_start all) (quiet : IsQu
 
   -- the clocks, by numbers
 
-  pub clock_is : (r q : ℕ) → r < s.processes → q < s.processes → clock_at b.clocks.items r q ≡ counts os (s.name r) (s.name q)
-  clock_is = h.clocks
+  pub clock_is : (r q : ℕ) → r < s.processes → Live q → clock_at b.clocks.items r q ≡ counts os (s.name r) (s.name q)
+  clock_is r q l k = h.clocks r q l k.0 (let n = front.at_length all nameable quiet lawful at e inside in let a = k.1 in omega arith)
 
   abbrev m : ℕ
   m = number_at b.made.items p + 1
@@ -199,33 +203,33 @@ module _ (all : List Entry) (nameable : NameableFrom at_start all) (quiet : IsQu
   m_is : m ≡ suc (made os (s.name p))
   m_is = let a = its_made in omega arith
 
-  pub own_is : (q : ℕ) → q < s.processes → with_own (clock_at b.clocks.items) p m q ≡ mine (counts os) os (s.name p) (s.name q)
+  pub own_is : (q : ℕ) → Live q → with_own (clock_at b.clocks.items) p m q ≡ mine (counts os) os (s.name p) (s.name q)
   own_is q l =
-      let t = same_process s lawful p q here l in
+      let t = same_process s lawful p q here l.0 in
       let c = clock_is p q here l in
       let n = m_is in
       λ i. cond (t i) (max (c i) (n i)) (c i)
 
-  pub own_raised_is : (c' : ℕ → ℕ → ℕ) → ((r q : ℕ) → c' r q ≡ cond (p == r) (cond (p == q) (max (clock_at b.clocks.items p q) m) (clock_at b.clocks.items p q)) (clock_at b.clocks.items r q))
-      → (r q : ℕ) → r < s.processes → q < s.processes → c' r q ≡ becomes (s.name p) (mine (counts os) os (s.name p)) (counts os) (s.name r) (s.name q)
+  pub own_raised_is : (c' : ℕ → ℕ → ℕ) → ((r q : ℕ) → IsAsked until (at + 1) q → c' r q ≡ cond (p == r) (with_own (clock_at b.clocks.items) p m q) (clock_at b.clocks.items r q))
+      → (r q : ℕ) → r < s.processes → Live q → c' r q ≡ becomes (s.name p) (mine (counts os) os (s.name p)) (counts os) (s.name r) (s.name q)
   own_raised_is c' is r q l k =
       let t = same_process s lawful p r here l in
       let x = own_is q k in
       let y = clock_is r q l k in
-      is r q ∙ (λ i. cond (t i) (x i) (y i))
+      is r q k.1 ∙ (λ i. cond (t i) (x i) (y i))
 
   -- what the entry's process knows with its own entry
-  own_itself : (c' : ℕ → ℕ → ℕ) → ((r q : ℕ) → c' r q ≡ cond (p == r) (cond (p == q) (max (clock_at b.clocks.items p q) m) (clock_at b.clocks.items p q)) (clock_at b.clocks.items r q))
-      → (q : ℕ) → q < s.processes → c' p q ≡ mine (counts os) os (s.name p) (s.name q)
-  own_itself c' is q k = is p q ∙ ap (λ x. cond x (with_own (clock_at b.clocks.items) p m q) (clock_at b.clocks.items p q)) (eq-eqb p p refl) ∙ own_is q k
+  own_itself : (c' : ℕ → ℕ → ℕ) → ((r q : ℕ) → IsAsked until (at + 1) q → c' r q ≡ cond (p == r) (with_own (clock_at b.clocks.items) p m q) (clock_at b.clocks.items r q))
+      → (q : ℕ) → Live q → c' p q ≡ mine (counts os) os (s.name p) (s.name q)
+  own_itself c' is q k = is p q k.1 ∙ ap (λ x. cond x (with_own (clock_at b.clocks.items) p m q) (clock_at b.clocks.items p q)) (eq-eqb p p refl) ∙ own_is q k
 
   pub forked_is : (n : ℕ) → e.event ≡ event.Fork n → (c1 c2 : ℕ → ℕ → ℕ)
-      → ((r q : ℕ) → c1 r q ≡ cond (p == r) (cond (p == q) (max (clock_at b.clocks.items p q) m) (clock_at b.clocks.items p q)) (clock_at b.clocks.items r q))
+      → ((r q : ℕ) → IsAsked until (at + 1) q → c1 r q ≡ cond (p == r) (with_own (clock_at b.clocks.items) p m q) (clock_at b.clocks.items r q))
       → ((r q : ℕ) → c2 r q ≡ cond (nat_le b.next r && nat_lt r (b.next + n)) (max (c1 r q) (c1 p q)) (c1 r q))
-      → (r q : ℕ) → r < s.processes → q < s.processes → c2 r q ≡ counted_by (counts os) (judged os) os (s.name p) (Split n) (s.name r) (s.name q)
+      → (r q : ℕ) → r < s.processes → Live q → c2 r q ≡ counted_by (counts os) (judged os) os (s.name p) (Split n) (s.name r) (s.name q)
   forked_is n is c1 c2 one two r q l k =
       two r q ∙ (λ i. cond (nat_le (first_is i) r && nat_lt r (first_is i + n)) (max (c1 r q) (c1 p q)) (c1 r q))
-      ∙ shares_is s lawful p ((judged os).forks (s.name p)) (births (take at all)).processes n fits children (mine (counts os) os (s.name p)) (c1 p) (own_itself c1 one) n 0 (omega arith) (becomes (s.name p) (mine (counts os) os (s.name p)) (counts os)) c1 (own_raised_is c1 one) r q l k
+      ∙ shares_is s lawful p ((judged os).forks (s.name p)) (births (take at all)).processes n fits children Live (mine (counts os) os (s.name p)) (c1 p) (own_itself c1 one) n 0 (omega arith) (becomes (s.name p) (mine (counts os) os (s.name p)) (counts os)) c1 (own_raised_is c1 one) r q l k
     where
       first_is : b.next ≡ (births (take at all)).processes + 0
       first_is = let a = h.next in omega arith
@@ -243,16 +247,16 @@ module _ (all : List Entry) (nameable : NameableFrom at_start all) (quiet : IsQu
           ∙ (λ j. (sym f j, i) ∷ s.name p)
 
   pub ended_root_is : None ≡ s.birth p → (c1 : ℕ → ℕ → ℕ)
-      → ((r q : ℕ) → c1 r q ≡ cond (p == r) (cond (p == q) (max (clock_at b.clocks.items p q) m) (clock_at b.clocks.items p q)) (clock_at b.clocks.items r q))
-      → (r q : ℕ) → r < s.processes → q < s.processes → c1 r q ≡ counted_by (counts os) (judged os) os (s.name p) Finished (s.name r) (s.name q)
+      → ((r q : ℕ) → IsAsked until (at + 1) q → c1 r q ≡ cond (p == r) (with_own (clock_at b.clocks.items) p m q) (clock_at b.clocks.items r q))
+      → (r q : ℕ) → r < s.processes → Live q → c1 r q ≡ counted_by (counts os) (judged os) os (s.name p) Finished (s.name r) (s.name q)
   ended_root_is none c1 one r q l k =
       own_raised_is c1 one r q l k
       ∙ ap (λ (x : Name). gives_back x (mine (counts os) os (s.name p)) (becomes (s.name p) (mine (counts os) os (s.name p)) (counts os)) (s.name r) (s.name q)) (sym (name_of_root s lawful p here none))
 
   pub ended_is : (t : Birth) → Some t ≡ s.birth p → t.parent < s.processes → (c1 c2 : ℕ → ℕ → ℕ)
-      → ((r q : ℕ) → c1 r q ≡ cond (p == r) (cond (p == q) (max (clock_at b.clocks.items p q) m) (clock_at b.clocks.items p q)) (clock_at b.clocks.items r q))
+      → ((r q : ℕ) → IsAsked until (at + 1) q → c1 r q ≡ cond (p == r) (with_own (clock_at b.clocks.items) p m q) (clock_at b.clocks.items r q))
       → ((r q : ℕ) → c2 r q ≡ cond (t.parent == r) (max (c1 t.parent q) (c1 p q)) (c1 r q))
-      → (r q : ℕ) → r < s.processes → q < s.processes → c2 r q ≡ counted_by (counts os) (judged os) os (s.name p) Finished (s.name r) (s.name q)
+      → (r q : ℕ) → r < s.processes → Live q → c2 r q ≡ counted_by (counts os) (judged os) os (s.name p) Finished (s.name r) (s.name q)
   ended_is t born there c1 c2 one two r q l k =
       two r q ∙ swap
       ∙ (λ i. cond (test i) (max (own_raised_is c1 one r q l k i) (own_itself c1 one q k i)) (own_raised_is c1 one r q l k i))

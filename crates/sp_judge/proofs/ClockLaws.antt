@@ -1,5 +1,5 @@
 -- A clock while the pairs of another one are taken in.
-use Rattle.std.proofs.Common.{◌≡◌, ◌≢◌, ⊎_elim, ℕ, Bool, true, false, cond, max, ◌==◌, List, [], ◌∷◌, Some, unwrap_or, refl, sym, ap, ◌∙◌, subst, eqb-true, eq-eqb}
+use Rattle.std.proofs.Common.{◌≡◌, ◌≢◌, ⊎_elim, ℕ, Bool, true, false, cond, max, ◌==◌, List, [], ◌∷◌, Some, filter, unwrap_or, refl, sym, ap, ◌∙◌, subst, eqb-true, eq-eqb}
 use Rattle.std.specs.Ordering.{nat_cmp, eq_by_cmp, is_eq}
 use Rattle.std.specs.Cmp.{nat_cmp_total, tied_itself}
 use Rattle.std.specs.FinMap.{nat_cmp-IsAntisymmetric}
@@ -62,3 +62,23 @@ taken old new k v es none is q = ⊎_elim here there (cases_eq k q)
         not_same : (b : Bool) → k == q ≡ b → b ≡ false
         not_same true e = absurd (d (eqb-true k q e))
         not_same false e = refl
+
+-- a row of pairs, of which those of this process were kept
+pub kept_count : (p : ℕ × ℕ → Bool) (q : ℕ) → ((v : ℕ) → p (q, v) ≡ true) → (es : List (ℕ × ℕ)) → count_in (filter p es) q ≡ count_in es q
+kept_count p q keeps [] = refl
+kept_count p q keeps (e ∷ es) = by (p e) refl (is_at (nat_cmp q) e.0) refl (kept_count p q keeps es)
+  where
+    true_false : ◌≡◌ {A = Bool} true false → ⊥
+    true_false x = cc
+
+    same : is_at (nat_cmp q) e.0 ≡ true → q ≡ e.0
+    same t = nat_cmp-IsAntisymmetric q e.0 (tie_of (nat_cmp q e.0) t)
+
+    skip : (t : Bool) → is_at (nat_cmp q) e.0 ≡ t → t ≡ false → (xs : List (ℕ × ℕ)) → count_in (e ∷ xs) q ≡ count_in xs q
+    skip t is off xs = ap (λ b. unwrap_or (cond b (Some e.1) (lookup (is_at (nat_cmp q)) xs)) 0) (is ∙ off)
+
+    by : (b : Bool) → p e ≡ b → (t : Bool) → is_at (nat_cmp q) e.0 ≡ t → count_in (filter p es) q ≡ count_in es q → count_in (cond b (e ∷ filter p es) (filter p es)) q ≡ count_in (e ∷ es) q
+    by true k true t rest = ap (λ b. unwrap_or (cond b (Some e.1) (lookup (is_at (nat_cmp q)) (filter p es))) 0) t ∙ sym (ap (λ b. unwrap_or (cond b (Some e.1) (lookup (is_at (nat_cmp q)) es)) 0) t)
+    by true k false t rest = skip false t refl (filter p es) ∙ rest ∙ sym (skip false t refl es)
+    by false k true t rest = absurd (true_false (sym (keeps e.1) ∙ ap (λ (x : ℕ). p (x, e.1)) (same t) ∙ k))
+    by false k false t rest = rest ∙ sym (skip false t refl es)

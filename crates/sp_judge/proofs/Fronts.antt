@@ -161,6 +161,9 @@ module _ (all : List Entry) (nameable : NameableFrom at_start all) (quiet : IsQu
   pub at_length : length before ≡ at
   at_length = take_length all at (let l = get_within all at e inside in omega arith)
 
+  pub next_length : length (take (at + 1) all) ≡ at + 1
+  next_length = take_length all (at + 1) (let l = get_within all at e inside in omega arith)
+
   pub past_length : length past ≡ at
   past_length = named_length (births all) before ∙ at_length
 

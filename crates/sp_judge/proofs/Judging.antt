@@ -37,13 +37,13 @@ all_ordered j nameable n l known = known_ordered (occurrences j) (subst AreKnown
 nothing_offered : {A : Type 0} (o : Occurrence) → ◌≡◌ {A = Option Occurrence} None (Some o) → A
 nothing_offered o e = absurd (cc)
 
-pub blank_holds : (all : List Entry) (b : Bench) → IsBlank b (births all).processes (births all).channels → Holds (births all) [] b
-blank_holds all b k = record {
+pub blank_holds : (all : List Entry) (b : Bench) → IsBlank b (births all).processes (births all).channels → (until : List ℕ) → Holds (births all) until [] b
+blank_holds all b k until = record {
   all_clocks = k.all_clocks;
   all_made = k.all_made;
   all_lines = k.all_lines;
   all_places = ap length k.no_places;
-  clocks = λ p q l h. k.clocks p q;
+  clocks = λ p q l h asked. k.clocks p q;
   made_is = k.made_is;
   lines = λ c l. (record { waiting = None; sent = None; received = None }, k.lines c l, record { waiting = tt; sent = λ i z o. nothing_offered _ o; received = λ i z o. nothing_offered _ o });
   places = λ i e h. none_entry e h;
@@ -63,27 +63,21 @@ module _ (all : List Entry) (t : IsTame all) (at : ℕ) where
   pub known_next : (e : Entry) → slice_get all at ≡ Some e → AreKnown (named s (take at all)) → KnowsOffers (judged (named s (take at all))) (named s (take at all)) (s.name e.process) (happening s e.event) → AreKnown (named s (take (at + 1) all))
   known_next e inside known k = subst AreKnown (sym (front.grown all t.nameable t.quiet law at e inside)) (known_more (named s (take at all)) (occurrence s e) known k)
 
-  module _ (b : Bench) (h : Holds s (take at all) b) (known : AreKnown (named s (take at all))) (r : Racer) (racing : IsRacing all at (Some r)) where
+  module _ (known : AreKnown (named s (take at all))) (r : Racer) (racing : IsRacing all at (Some r)) where
     abbrev e : Entry
     e = record { process = r.process; event = offer_event r.way r.channel }
 
-    pub places_there : at ≤ length b.places.items
-    places_there = let a = h.all_places in let c = front.at_length all t.nameable t.quiet law at e racing.0 in omega arith
-
-    pub at_inside : at ≤ length all
-    at_inside = let a = get_within all at e racing.0 in omega arith
-
-    pub process_inside : r.process < length b.clocks.items
-    process_inside = let a = front.there all t.nameable t.quiet law at e racing.0 in let c = h.all_clocks in omega arith
+    pub process_inside : r.process < s.processes
+    process_inside = front.there all t.nameable t.quiet law at e racing.0
 
     pub channel_inside : r.channel < s.channels
     channel_inside = channel_there all t.nameable t.quiet law at e r.way r.channel racing.0 refl
 
-    pub not_unknown : ((i : ℕ) → i < at → IsUnknown b all r.process r.way r.channel i → ⊥) → ⊥
-    not_unknown none = racing.1 (nothing_unknown all t.nameable t.quiet law at e racing.0 b h r.way r.channel refl none)
+    pub not_unknown : ((i : ℕ) → i < at → IsUnknown s (named s (take at all)) all r.process r.way r.channel i → ⊥) → ⊥
+    not_unknown none = racing.1 (nothing_unknown all t.nameable t.quiet law at e racing.0 r.way r.channel refl none)
 
-    pub race_judged : (i : ℕ) → IsFirstUnknown b all at r.process r.way r.channel i → (name : ChanName) → name ≡ chan_name (channel s r.channel) → IsJudged (named s all) (verdict.Race r.way name i at)
-    race_judged i f name is = (λ o. racing.1 (in_order o), (channel s r.channel, is, first_race all t.nameable t.quiet law at e racing.0 b h r.way r.channel refl i f known))
+    pub race_judged : (i : ℕ) → IsFirstUnknown s (named s (take at all)) all at r.process r.way r.channel i → (name : ChanName) → name ≡ chan_name (channel s r.channel) → IsJudged (named s all) (verdict.Race r.way name i at)
+    race_judged i f name is = (λ o. racing.1 (in_order o), (channel s r.channel, is, first_race all t.nameable t.quiet law at e racing.0 r.way r.channel refl i f known))
       where
         in_order : AreOrdered (named s all) → KnowsOffers (judged (named s (take at all))) (named s (take at all)) (s.name r.process) (Offered r.way (channel s r.channel))
         in_order o =

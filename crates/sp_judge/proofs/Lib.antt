@@ -10,3 +10,6 @@ mod OfferLaws
 mod VerdictLaws
 mod Steps
 mod Judging
+mod Halves
+mod QuietRuns
+mod RunVerdicts

@@ -123,9 +123,9 @@ module _ (s : Births) (lawful : Lawful s) where
       no false e f = e
 
   -- the children of a fork learn
-  module _ (p fork first k : ℕ) (fits : first + k ≤ s.processes) (child : (i : ℕ) → i < k → s.name (first + i) ≡ (fork, i) ∷ s.name p) (clock : Name → ℕ) (known : ℕ → ℕ) (knows : (q : ℕ) → q < s.processes → known q ≡ clock (s.name q)) where
-    pub shares_is : (n i : ℕ) → i + n ≤ k → (count : Name → Name → ℕ) (c : ℕ → ℕ → ℕ) → ((r q : ℕ) → r < s.processes → q < s.processes → c r q ≡ count (s.name r) (s.name q))
-        → (r q : ℕ) → r < s.processes → q < s.processes → cond (nat_le (first + i) r && nat_lt r ((first + i) + n)) (max (c r q) (known q)) (c r q) ≡ shares (s.name p) fork clock i n count (s.name r) (s.name q)
+  module _ (p fork first k : ℕ) (fits : first + k ≤ s.processes) (child : (i : ℕ) → i < k → s.name (first + i) ≡ (fork, i) ∷ s.name p) (A : ℕ → Type 0) (clock : Name → ℕ) (known : ℕ → ℕ) (knows : (q : ℕ) → A q → known q ≡ clock (s.name q)) where
+    pub shares_is : (n i : ℕ) → i + n ≤ k → (count : Name → Name → ℕ) (c : ℕ → ℕ → ℕ) → ((r q : ℕ) → r < s.processes → A q → c r q ≡ count (s.name r) (s.name q))
+        → (r q : ℕ) → r < s.processes → A q → cond (nat_le (first + i) r && nat_lt r ((first + i) + n)) (max (c r q) (known q)) (c r q) ≡ shares (s.name p) fork clock i n count (s.name r) (s.name q)
     shares_is zero i room count c is r q a b = ap (λ x. cond x (max (c r q) (known q)) (c r q)) (nothing (first + i) r) ∙ is r q a b
       where
         nothing : (a r : ℕ) → nat_le a r && nat_lt r (a + 0) ≡ false
@@ -136,7 +136,7 @@ module _ (s : Births) (lawful : Lawful s) where
         c' : ℕ → ℕ → ℕ
         c' r q = cond (first + i == r) (max (c r q) (known q)) (c r q)
 
-        is' : (r q : ℕ) → r < s.processes → q < s.processes → c' r q ≡ gains ((fork, i) ∷ s.name p) clock count (s.name r) (s.name q)
+        is' : (r q : ℕ) → r < s.processes → A q → c' r q ≡ gains ((fork, i) ∷ s.name p) clock count (s.name r) (s.name q)
         is' r q a b =
             let t : first + i == r ≡ same_name ((fork, i) ∷ s.name p) (s.name r) = same_process (first + i) r (omega arith) a ∙ ap (λ x. same_name x (s.name r)) (child i (omega arith)) in
             let x = is r q a b in

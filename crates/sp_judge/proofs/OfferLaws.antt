@@ -13,16 +13,16 @@ use Rattle.sp_past.proofs.Keys.{channel_itself, channel_is}
 use Rattle.sp_judge.specs.declared.bench.Offer.{Offer}
 use Rattle.sp_judge.specs.declared.bench.Line.{Line}
 use Rattle.sp_judge.specs.declared.bench.Bench.{Bench}
-use Rattle.sp_judge.specs.Clocks.{clock_at, with_own, met_at}
+use Rattle.sp_judge.specs.Clocks.{clock_at, with_own, met_at, number_at, IsAsked}
 use Rattle.sp_judge.specs.Counts.{made, counts, counted_by, mine, theirs, both, met_counts}
-use Rattle.sp_judge.specs.Bench.{named, number_at, Waits, IsLast, IsLine, Holds, then_line}
+use Rattle.sp_judge.specs.Bench.{named, Waits, IsLast, IsLine, Holds, then_line}
 use Rattle.sp_judge.proofs.Tallies.{index_or_not, take_low, take_all}
 use Rattle.sp_judge.proofs.TableLaws.{get_set, differ}
 use Rattle.sp_judge.proofs.Numbers.{same_process, one_channel}
 use Rattle.sp_judge.proofs.Chains.{channel_of, way_of}
 use Rattle.sp_judge.proofs.Fronts.{judged_last}
 use Rattle.sp_judge.proofs.Fronts as front
-use Rattle.sp_judge.proofs.BenchLaws.{last_stays, new_last, line_stays, own_is, here, grown, its_made}
+use Rattle.sp_judge.proofs.BenchLaws.{last_stays, new_last, line_stays, Live, clock_is, own_is, here, grown, its_made}
 
 -- a clock with its own count raised has no smaller count
 with_own_more : (c : ℕ → ℕ → ℕ) (p n q : ℕ) → c p q ≤ with_own c p n q
@@ -61,7 +61,7 @@ met_gains c p n z m r q d = ⊎_elim
     not_same : (p ≡ r → ⊥) → p == r ≡ false
     not_same f = ⊎_elim (λ (e : p ≡ r). absurd (f e)) (λ (e : p == r ≡ false). e) (index_or_not p r)
 
-module _ (all : List Entry) (nameable : NameableFrom at_start all) (quiet : IsQuiet (named (births all) all)) (lawful : Lawful (births all)) (at : ℕ) (e : Entry) (inside : slice_get all at ≡ Some e) (b : Bench) (h : Holds (births all) (take at all) b)
+module _ (all : List Entry) (nameable : NameableFrom at_start all) (quiet : IsQuiet (named (births all) all)) (lawful : Lawful (births all)) (at : ℕ) (e : Entry) (inside : slice_get all at ≡ Some e) (until : List ℕ) (b : Bench) (h : Holds (births all) until (take at all) b)
     (w : Way) (c : ℕ) (is : happening (births all) e.event ≡ Offered w (channel (births all) c)) (is_open : c < (births all).channels) (l : Line) (line : slice_get b.lines.items c ≡ Some l) where
   abbrev s : Births
   s = births all
@@ -71,6 +71,9 @@ module _ (all : List Entry) (nameable : NameableFrom at_start all) (quiet : IsQu
 
   abbrev p : ℕ
   p = e.process
+
+  abbrev Asked : ℕ → Type 0
+  Asked = Live all nameable quiet lawful at e inside until b h
 
   abbrev d : Channel
   d = channel s c
@@ -85,19 +88,19 @@ module _ (all : List Entry) (nameable : NameableFrom at_start all) (quiet : IsQu
   its_line = let x = h.lines c is_open in subst (IsLine s os d) (some_line x.0 l (sym x.1 ∙ line)) x.2
 
   this_there : p < s.processes
-  this_there = here all nameable quiet lawful at e inside b h
+  this_there = here all nameable quiet lawful at e inside until b h
 
   occurrence_is : occurrence s e ≡ record { who = s.name p; what = Offered w d }
   occurrence_is = λ i. record { who = s.name p; what = is i }
 
   new_sent : IsLast s (os ++ occurrence s e ∷ []) w d (Some offer)
-  new_sent = new_last s os (occurrence s e) w d offer this_there occurrence_is (its_made all nameable quiet lawful at e inside b h)
+  new_sent = new_last s os (occurrence s e) w d offer this_there occurrence_is (its_made all nameable quiet lawful at e inside until b h)
 
   other_way : (v : Way) → (v ≡ w → ⊥) → (o : Option Offer) → IsLast s os v d o → IsLast s (os ++ occurrence s e ∷ []) v d o
   other_way v off o f = last_stays s os (occurrence s e) v d (λ g. off (sym (ap (way_of v) (sym is ∙ g)))) o f
 
   lines_with : (waiting : Option Offer) → Waits s (os ++ occurrence s e ∷ []) waiting ((judged_by (judged os) (length os) (s.name p) (Offered w d)).pending d) → (v : Way) → v ≡ w → IsLine s (named s (take (at + 1) all)) d (then_line v offer waiting l)
-  lines_with waiting f v same = subst (λ xs. IsLine s xs d (then_line v offer waiting l)) (sym (grown all nameable quiet lawful at e inside b h)) (by v same)
+  lines_with waiting f v same = subst (λ xs. IsLine s xs d (then_line v offer waiting l)) (sym (grown all nameable quiet lawful at e inside until b h)) (by v same)
     where
       wait : Waits s (os ++ occurrence s e ∷ []) waiting ((judged (os ++ occurrence s e ∷ [])).pending d)
       wait = subst (Waits s (os ++ occurrence s e ∷ []) waiting) (sym (ap (λ (j : Judged). j.pending d) (judged_last os (occurrence s e) ∙ ap (judged_by (judged os) (length os) (s.name p)) is))) f
@@ -129,7 +132,7 @@ module _ (all : List Entry) (nameable : NameableFrom at_start all) (quiet : IsQu
       let apart : channel s c ≡ channel s k → ⊥ = λ y. differ c k g (one_channel s lawful c k is_open inside' y) in (
         x.0,
         get_set b.lines.items c (then_line w offer waiting l) k c_inside ∙ ap (λ y. cond y (Some (then_line w offer waiting l)) (slice_get b.lines.items k)) g ∙ x.1,
-        line_stays all nameable quiet lawful at e inside b h (channel s k) x.0 (λ v y. apart (ap (channel_of d) (sym is ∙ y)))
+        line_stays all nameable quiet lawful at e inside until b h (channel s k) x.0 (λ v y. apart (ap (channel_of d) (sym is ∙ y)))
             (ap (λ y. (judged_by (judged os) (length os) (s.name p) y).pending (channel s k)) is ∙ met_same ((judged os).pending d) (channel s k) (unlike (same_channel d (channel s k)) refl (λ y. apart (channel_is d (channel s k) y)))) x.2,
       ))
       (index_or_not c k)
@@ -154,13 +157,13 @@ module _ (all : List Entry) (nameable : NameableFrom at_start all) (quiet : IsQu
         by (Some y) f = absurd f
 
     pub waits_now : Waits s (os ++ occurrence s e ∷ []) (Some offer) ((judged_by (judged os) (length os) (s.name p) (Offered w d)).pending d)
-    waits_now = subst (Waits s (os ++ occurrence s e ∷ []) (Some offer)) (sym pending) (this_there, refl, its_made all nameable quiet lawful at e inside b h ∙ ap (λ xs. made xs (s.name p)) (sym (take_low os (occurrence s e) (length os) (omega arith) ∙ take_all os)))
+    waits_now = subst (Waits s (os ++ occurrence s e ∷ []) (Some offer)) (sym pending) (this_there, refl, its_made all nameable quiet lawful at e inside until b h ∙ ap (λ xs. made xs (s.name p)) (sym (take_low os (occurrence s e) (length os) (omega arith) ∙ take_all os)))
       where
         pending : (judged_by (judged os) (length os) (s.name p) (Offered w d)).pending d ≡ Some (s.name p, length os)
         pending = ap (λ x. (met_now (judged os) (s.name p) (length os) d x).pending d) pending_none ∙ ap (λ x. cond x (Some (s.name p, length os)) ((judged os).pending d)) (channel_itself d)
 
-    pub clocks_wait : (r q : ℕ) → r < s.processes → q < s.processes → clock_at b.clocks.items r q ≡ counted_by (counts os) (judged os) os (s.name p) (happening s e.event) (s.name r) (s.name q)
-    clocks_wait r q a k = h.clocks r q a k ∙ sym (ap (λ f. f (s.name r) (s.name q)) (counted_is ∙ ap (met_counts (counts os) os (s.name p)) pending_none))
+    pub clocks_wait : (r q : ℕ) → r < s.processes → Asked q → clock_at b.clocks.items r q ≡ counted_by (counts os) (judged os) os (s.name p) (happening s e.event) (s.name r) (s.name q)
+    clocks_wait r q a k = clock_is all nameable quiet lawful at e inside until b h r q a k ∙ sym (ap (λ f. f (s.name r) (s.name q)) (counted_is ∙ ap (met_counts (counts os) os (s.name p)) pending_none))
 
   -- an offer waits: they meet
   module _ (z : Offer) (waiting : l.waiting ≡ Some z) where
@@ -186,10 +189,10 @@ module _ (all : List Entry) (nameable : NameableFrom at_start all) (quiet : IsQu
         pending : (judged_by (judged os) (length os) (s.name p) (Offered w d)).pending d ≡ None
         pending = ap (λ x. (met_now (judged os) (s.name p) (length os) d x).pending d) its_pending.1 ∙ ap (λ x. cond x None ((judged os).pending d)) (channel_itself d)
 
-    pub clocks_met : (c' : ℕ → ℕ → ℕ) → ((r q : ℕ) → c' r q ≡ met_at (clock_at b.clocks.items) p (number_at b.made.items p + 1) z.process (z.place + 1) r q)
-        → (r q : ℕ) → r < s.processes → q < s.processes → c' r q ≡ counted_by (counts os) (judged os) os (s.name p) (happening s e.event) (s.name r) (s.name q)
+    pub clocks_met : (c' : ℕ → ℕ → ℕ) → ((r q : ℕ) → IsAsked until (at + 1) q → c' r q ≡ met_at (clock_at b.clocks.items) p (number_at b.made.items p + 1) z.process (z.place + 1) r q)
+        → (r q : ℕ) → r < s.processes → Asked q → c' r q ≡ counted_by (counts os) (judged os) os (s.name p) (happening s e.event) (s.name r) (s.name q)
     clocks_met c' met r q a k =
-        met r q ∙ met_gains (clock_at b.clocks.items) p (number_at b.made.items p + 1) z.process (z.place + 1) r q apart
+        met r q k.1 ∙ met_gains (clock_at b.clocks.items) p (number_at b.made.items p + 1) z.process (z.place + 1) r q apart
         ∙ (λ i. cond (tz i) (max (cond (tp i) (max (x i) (whole i)) (x i)) (whole i)) (cond (tp i) (max (x i) (whole i)) (x i)))
         ∙ sym (ap (λ f. f (s.name r) (s.name q)) (counted_is ∙ ap (met_counts (counts os) os (s.name p)) its_pending.1))
       where
@@ -200,12 +203,12 @@ module _ (all : List Entry) (nameable : NameableFrom at_start all) (quiet : IsQu
         tp = same_process s lawful p r this_there a
 
         x : clock_at b.clocks.items r q ≡ counts os (s.name r) (s.name q)
-        x = h.clocks r q a k
+        x = clock_is all nameable quiet lawful at e inside until b h r q a k
 
         theirs_is : with_own (clock_at b.clocks.items) z.process (z.place + 1) q ≡ theirs (counts os) os y.0 y.1 (s.name q)
         theirs_is =
-            let t : z.process == q ≡ same_name y.0 (s.name q) = same_process s lawful z.process q z_there k ∙ ap (λ n. same_name n (s.name q)) its_pending.3 in
-            let u : clock_at b.clocks.items z.process q ≡ counts os y.0 (s.name q) = h.clocks z.process q z_there k ∙ ap (λ n. counts os n (s.name q)) its_pending.3 in
+            let t : z.process == q ≡ same_name y.0 (s.name q) = same_process s lawful z.process q z_there k.0 ∙ ap (λ n. same_name n (s.name q)) its_pending.3 in
+            let u : clock_at b.clocks.items z.process q ≡ counts os y.0 (s.name q) = clock_is all nameable quiet lawful at e inside until b h z.process q z_there k ∙ ap (λ n. counts os n (s.name q)) its_pending.3 in
             let v : z.place + 1 ≡ suc (made (take y.1 os) y.0) = one_more z.place _ its_pending.4 in
             λ i. cond (t i) (max (u i) (v i)) (u i)
           where
@@ -213,4 +216,4 @@ module _ (all : List Entry) (nameable : NameableFrom at_start all) (quiet : IsQu
             one_more a b f = omega arith
 
         whole : max (with_own (clock_at b.clocks.items) p (number_at b.made.items p + 1) q) (with_own (clock_at b.clocks.items) z.process (z.place + 1) q) ≡ both (mine (counts os) os (s.name p)) (theirs (counts os) os y.0 y.1) (s.name q)
-        whole = λ i. max (own_is all nameable quiet lawful at e inside b h q k i) (theirs_is i)
+        whole = λ i. max (own_is all nameable quiet lawful at e inside until b h q k i) (theirs_is i)

@@ -68,9 +68,9 @@ learned cs l t none merged h empty is p q =
         (index_or_not l t)
 
 -- the process's own count was raised
-pub own_raised : (cs : List Clock) (l n : ℕ) (old new : Clock) → l < length cs → ((q : ℕ) → count_of old q ≡ clock_at cs l q) → ((q : ℕ) → count_of new q ≡ cond (l == q) (max (count_of old q) n) (count_of old q))
-    → (p q : ℕ) → clock_at (slice_set cs l new) p q ≡ cond (l == p) (cond (l == q) (max (clock_at cs l q) n) (clock_at cs l q)) (clock_at cs p q)
-own_raised cs l n old new h is raised p q = set_clock cs l new p q h ∙ ap (λ x. cond (l == p) x (clock_at cs p q)) (raised q ∙ ap (λ x. cond (l == q) (max x n) x) (is q))
+pub own_raised : (cs : List Clock) (l n : ℕ) (old new : Clock) (A : ℕ → Type 0) → l < length cs → ((q : ℕ) → count_of old q ≡ clock_at cs l q) → ((q : ℕ) → A q → count_of new q ≡ cond (l == q) (max (count_of old q) n) (count_of old q))
+    → (p q : ℕ) → A q → clock_at (slice_set cs l new) p q ≡ cond (l == p) (with_own (clock_at cs) l n q) (clock_at cs p q)
+own_raised cs l n old new A h is raised p q a = set_clock cs l new p q h ∙ ap (λ x. cond (l == p) x (clock_at cs p q)) (raised q a ∙ ap (λ x. cond (l == q) (max x n) x) (is q))
 
 -- one more child has learned
 pub one_more_child : (first child count : ℕ) (parent : ℕ) (c0 c1 c2 : ℕ → ℕ → ℕ) → parent < first
@@ -106,13 +106,13 @@ pub child_learned : (first child at count parent : ℕ) (c0 c1 c2 : ℕ → ℕ 
 child_learned first child at count parent c0 c1 c2 e before was is = one_more_child first child count parent c0 c1 c2 before was (subst (λ x. (p q : ℕ) → c2 p q ≡ cond (x == p) (max (c1 x q) (c1 parent q)) (c1 p q)) e is)
 
 -- two processes met, step by step
-pub both_met : (p n z m : ℕ) (c0 c1 c2 c3 c4 : ℕ → ℕ → ℕ) → p ≢ z
-    → ((r q : ℕ) → c1 r q ≡ cond (p == r) (cond (p == q) (max (c0 p q) n) (c0 p q)) (c0 r q))
-    → ((r q : ℕ) → c2 r q ≡ cond (z == r) (cond (z == q) (max (c1 z q) m) (c1 z q)) (c1 r q))
+pub both_met : (A : ℕ → Type 0) (p n z m : ℕ) (c0 c1 c2 c3 c4 : ℕ → ℕ → ℕ) → p ≢ z
+    → ((r q : ℕ) → A q → c1 r q ≡ cond (p == r) (with_own c0 p n q) (c0 r q))
+    → ((r q : ℕ) → A q → c2 r q ≡ cond (z == r) (with_own c1 z m q) (c1 r q))
     → ((r q : ℕ) → c3 r q ≡ cond (p == r) (max (c2 p q) (c2 z q)) (c2 r q))
     → ((r q : ℕ) → c4 r q ≡ cond (z == r) (max (c3 z q) (c3 p q)) (c3 r q))
-    → (r q : ℕ) → c4 r q ≡ met_at c0 p n z m r q
-both_met p n z m c0 c1 c2 c3 c4 d e1 e2 e3 e4 r q = e4 r q ∙ ⊎_elim
+    → (r q : ℕ) → A q → c4 r q ≡ met_at c0 p n z m r q
+both_met A p n z m c0 c1 c2 c3 c4 d e1 e2 e3 e4 r q asked = e4 r q ∙ ⊎_elim
     (λ (e : z ≡ r).
     let b = eq-eqb z r e in
     let a : p == r ≡ false = unlike p r (λ f. d (f ∙ sym e)) in
@@ -124,7 +124,7 @@ both_met p n z m c0 c1 c2 c3 c4 d e1 e2 e3 e4 r q = e4 r q ∙ ⊎_elim
     ap (λ x. cond x (max (c2 p q) (c2 z q)) (c2 r q)) a ∙ (λ i. max (p2 i) (z2 i))
     ∙ sym (ap (λ x. cond x whole (cond (z == r) whole (c0 r q))) a))
     (λ (a : p == r ≡ false).
-    ap (λ x. cond x (max (c2 p q) (c2 z q)) (c2 r q)) a ∙ e2 r q ∙ ap (λ x. cond x (cond (z == q) (max (c1 z q) m) (c1 z q)) (c1 r q)) b ∙ e1 r q
+    ap (λ x. cond x (max (c2 p q) (c2 z q)) (c2 r q)) a ∙ e2 r q asked ∙ ap (λ x. cond x (cond (z == q) (max (c1 z q) m) (c1 z q)) (c1 r q)) b ∙ e1 r q asked
     ∙ ap (λ x. cond x (cond (p == q) (max (c0 p q) n) (c0 p q)) (c0 r q)) a
     ∙ sym (ap (λ x. cond x whole (cond (z == r) whole (c0 r q))) a ∙ ap (λ x. cond x whole (c0 r q)) b))
     (index_or_not p r))
@@ -143,16 +143,16 @@ both_met p n z m c0 c1 c2 c3 c4 d e1 e2 e3 e4 r q = e4 r q ∙ ⊎_elim
     zp = unlike z p (λ e. d (sym e))
 
     z1 : c1 z q ≡ c0 z q
-    z1 = e1 z q ∙ ap (λ x. cond x (cond (p == q) (max (c0 p q) n) (c0 p q)) (c0 z q)) pz
+    z1 = e1 z q asked ∙ ap (λ x. cond x (cond (p == q) (max (c0 p q) n) (c0 p q)) (c0 z q)) pz
 
     p1 : c1 p q ≡ with_own c0 p n q
-    p1 = e1 p q ∙ ap (λ x. cond x (cond (p == q) (max (c0 p q) n) (c0 p q)) (c0 p q)) (eq-eqb p p refl)
+    p1 = e1 p q asked ∙ ap (λ x. cond x (cond (p == q) (max (c0 p q) n) (c0 p q)) (c0 p q)) (eq-eqb p p refl)
 
     z2 : c2 z q ≡ with_own c0 z m q
-    z2 = e2 z q ∙ ap (λ x. cond x (cond (z == q) (max (c1 z q) m) (c1 z q)) (c1 z q)) (eq-eqb z z refl) ∙ ap (λ x. cond (z == q) (max x m) x) z1
+    z2 = e2 z q asked ∙ ap (λ x. cond x (cond (z == q) (max (c1 z q) m) (c1 z q)) (c1 z q)) (eq-eqb z z refl) ∙ ap (λ x. cond (z == q) (max x m) x) z1
 
     p2 : c2 p q ≡ with_own c0 p n q
-    p2 = e2 p q ∙ ap (λ x. cond x (cond (z == q) (max (c1 z q) m) (c1 z q)) (c1 p q)) zp ∙ p1
+    p2 = e2 p q asked ∙ ap (λ x. cond x (cond (z == q) (max (c1 z q) m) (c1 z q)) (c1 p q)) zp ∙ p1
 
     p3 : c3 p q ≡ whole
     p3 = e3 p q ∙ ap (λ x. cond x (max (c2 p q) (c2 z q)) (c2 p q)) (eq-eqb p p refl) ∙ (λ i. max (p2 i) (z2 i))

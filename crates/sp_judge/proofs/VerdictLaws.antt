@@ -1,5 +1,5 @@
 -- From the tables to the verdict.
-use Rattle.std.proofs.Common.{◌≡◌, ◌⊎◌, inl, inr, ⊎_elim, ℕ, zero, suc, ◌<◌, ◌≤◌, ◌↔◌, Bool, true, false, nat_lt, List, [], ◌∷◌, ◌++◌, take, length, append_assoc, append-nil, Option, Some, None, slice_get, unwrap_or, refl, sym, ap, ◌∙◌, subst, arith}
+use Rattle.std.proofs.Common.{◌≡◌, ◌⊎◌, inl, inr, ⊎_elim, ℕ, zero, suc, ◌<◌, ◌≤◌, ◌↔◌, Bool, true, false, nat_lt, List, [], ◌∷◌, ◌++◌, take, length, append_assoc, append-nil, Option, Some, None, slice_get, refl, sym, ap, ◌∙◌, subst, arith}
 use Rattle.std.proofs.lemmas.Bool.Decides.{nat_tests}
 use Rattle.sp_journal.specs.declared.entry.Entry.{Entry}
 use Rattle.sp_journal.specs.declared.entry.Event.{Event}
@@ -15,9 +15,9 @@ use Rattle.sp_race.specs.Known.{KnowsOffers, KnownFrom, AreKnown}
 use Rattle.sp_race.proofs.Completion.{Paired, judged_paired, nothing_paired}
 use Rattle.sp_judge.specs.declared.bench.Offer.{Offer}
 use Rattle.sp_judge.specs.declared.bench.Bench.{Bench}
-use Rattle.sp_judge.specs.Clocks.{clock_at}
+use Rattle.sp_judge.specs.Clocks.{clock_at, IsAsked}
 use Rattle.sp_judge.specs.Counts.{made, counts}
-use Rattle.sp_judge.specs.Bench.{named, number_at, OfferIn, IsLast, Holds, offer_event, IsUnknown, IsFirstUnknown}
+use Rattle.sp_judge.specs.Bench.{named, OfferIn, IsLast, Holds, offer_event, IsLastOffer, IsUnknown, IsFirstUnknown}
 use Rattle.sp_judge.specs.Races.{KnowsCompletion, Race, IsLeastRace}
 use Rattle.sp_judge.proofs.Standing.{Standing, size_more}
 use Rattle.sp_judge.proofs.Chains.{Chains, chains_more, nothing_chained, knows_by_last, channel_of, way_of}
@@ -151,189 +151,220 @@ module _ (all : List Entry) (nameable : NameableFrom at_start all) (quiet : IsQu
     knows_offer : (p : Name) (i : ℕ) → KnowsCompletion (judged os) p i → (judged os).past p i ≡ true
     knows_offer p i k = stands.paired.closed p i k.0 k.1 k.2
 
-    module _ (b : Bench) (h : Holds s (take at all) b) where
-      there : e.process < s.processes
-      there = front.there all nameable quiet lawful at e inside
+    there : e.process < s.processes
+    there = front.there all nameable quiet lawful at e inside
 
+    -- the counts say which offers are known
+    pub counts_say : (p : Name) (q i k : ℕ) (w : Way) (d : Channel) → OfferIn os i (s.name q) w d → k ≡ made (take i os) (s.name q) → (judged os).past p i ≡ nat_lt k (counts os p (s.name q))
+    counts_say p q i k w d o place = (stands.says p).says (s.name q) i k (Offered w d, o, refl, place)
+
+    module _ (until : List ℕ) (b : Bench) (h : Holds s until (take at all) b) where
       -- the clocks say which offers are known
-      known_is : (q i k : ℕ) (w : Way) (d : Channel) → q < s.processes → OfferIn os i (s.name q) w d → k ≡ made (take i os) (s.name q) → (judged os).past (s.name e.process) i ≡ nat_lt k (clock_at b.clocks.items e.process q)
-      known_is q i k w d l o place = (stands.says (s.name e.process)).says (s.name q) i k (Offered w d, o, refl, place) ∙ ap (nat_lt k) (sym (h.clocks e.process q there l))
+      known_is : (q i k : ℕ) (w : Way) (d : Channel) → q < s.processes → IsAsked until at q → OfferIn os i (s.name q) w d → k ≡ made (take i os) (s.name q) → (judged os).past (s.name e.process) i ≡ nat_lt k (clock_at b.clocks.items e.process q)
+      known_is q i k w d l asked o place = counts_say (s.name e.process) q i k w d o place ∙ ap (nat_lt k) (sym (h.clocks e.process q there l (let n = front.at_length all nameable quiet lawful at e inside in omega arith)))
 
-      pub last_known : (w : Way) (d : Channel) (o : Offer) → IsLast s os w d (Some o) → AreKnown os → (o.place < clock_at b.clocks.items e.process o.process) ↔ KnowsOffers (judged os) os (s.name e.process) (Offered w d)
-      last_known w d o l known = (
-        λ x. knows_by_last (judged os) os (chains_of os known) (s.name e.process) w d l.0 (s.name o.process) l.2 l.4 (known_is o.process l.0 o.place w d l.1 l.2 l.3 ∙ lt_true o.place (clock_at b.clocks.items e.process o.process) x),
-        λ x. lt_iff o.place (clock_at b.clocks.items e.process o.process) (sym (known_is o.process l.0 o.place w d l.1 l.2 l.3) ∙ x l.0 (s.name o.process) l.2),
+      pub last_known : (w : Way) (d : Channel) (o : Offer) → IsAsked until at o.process → IsLast s os w d (Some o) → AreKnown os → (o.place < clock_at b.clocks.items e.process o.process) ↔ KnowsOffers (judged os) os (s.name e.process) (Offered w d)
+      last_known w d o asked l known = (
+        λ x. knows_by_last (judged os) os (chains_of os known) (s.name e.process) w d l.0 (s.name o.process) l.2 l.4 (known_is o.process l.0 o.place w d l.1 asked l.2 l.3 ∙ lt_true o.place (clock_at b.clocks.items e.process o.process) x),
+        λ x. lt_iff o.place (clock_at b.clocks.items e.process o.process) (sym (known_is o.process l.0 o.place w d l.1 asked l.2 l.3) ∙ x l.0 (s.name o.process) l.2),
       )
 
-      pub none_known : (w : Way) (d : Channel) → IsLast s os w d None → KnowsOffers (judged os) os (s.name e.process) (Offered w d)
-      none_known w d l i z o = absurd (l i z o)
+    -- the same by the counts
+    pub last_counted : (w : Way) (d : Channel) (o : Offer) → IsLast s os w d (Some o) → AreKnown os → (o.place < counts os (s.name e.process) (s.name o.process)) ↔ KnowsOffers (judged os) os (s.name e.process) (Offered w d)
+    last_counted w d o l known = (
+      λ x. knows_by_last (judged os) os (chains_of os known) (s.name e.process) w d l.0 (s.name o.process) l.2 l.4 (counts_say (s.name e.process) o.process l.0 o.place w d l.2 l.3 ∙ lt_true o.place (counts os (s.name e.process) (s.name o.process)) x),
+      λ x. lt_iff o.place (counts os (s.name e.process) (s.name o.process)) (sym (counts_say (s.name e.process) o.process l.0 o.place w d l.2 l.3) ∙ x l.0 (s.name o.process) l.2),
+    )
 
-      low_entry : (i : ℕ) (x : Entry) → slice_get (take at all) i ≡ Some x → slice_get all i ≡ Some x
-      low_entry i x g = taken all at i g
+    -- an offer of its own is known to a process that makes an entry
+    pub own_known : (w : Way) (d : Channel) (o : Offer) → o.process ≡ e.process → IsLast s os w d (Some o) → AreKnown os → KnowsOffers (judged os) os (s.name e.process) (Offered w d)
+    own_known w d o same l known = knows_by_last (judged os) os (chains_of os known) (s.name e.process) w d l.0 (s.name o.process) l.2 l.4
+        (⊎_elim
+        (λ (k : (judged os).past (s.name o.process) l.0 ≡ true). subst (λ (x : ℕ). (judged os).past (s.name x) l.0 ≡ true) same k)
+        (λ (k : (c : Channel) × ((judged os).pending c ≡ Some (s.name o.process, l.0))).
+        absurd (front.waits_not all nameable quiet lawful at e inside k.0 l.0 (k.1 ∙ ap (λ (x : ℕ). Some (s.name x, l.0)) same)))
+        (stands.kept.own (s.name o.process) l.0 (Offered w d, l.2, refl)))
+
+    pub none_known : (w : Way) (d : Channel) → IsLast s os w d None → KnowsOffers (judged os) os (s.name e.process) (Offered w d)
+    none_known w d l i z o = absurd (l i z o)
+
+    low_entry : (i : ℕ) (x : Entry) → slice_get (take at all) i ≡ Some x → slice_get all i ≡ Some x
+    low_entry i x g = taken all at i g
+      where
+        taken : (xs : List Entry) (n i : ℕ) → slice_get (take n xs) i ≡ Some x → slice_get xs i ≡ Some x
+        taken [] zero i g = g
+        taken [] (suc n) i g = g
+        taken (y ∷ xs) zero i g = none_here x g
+          where
+            none_here : {A : Type 0} (a : Entry) → ◌≡◌ {A = Option Entry} None (Some a) → A
+            none_here a e = absurd (cc)
+        taken (y ∷ xs) (suc n) zero g = g
+        taken (y ∷ xs) (suc n) (suc i) g = taken xs n i g
+
+    pub into_front : (i : ℕ) (x : Entry) → i < at → slice_get all i ≡ Some x → slice_get (take at all) i ≡ Some x
+    into_front i x l g = given all at i l g
+      where
+        given : (xs : List Entry) (n i : ℕ) → i < n → slice_get xs i ≡ Some x → slice_get (take n xs) i ≡ Some x
+        given [] zero i l g = g
+        given [] (suc n) i l g = g
+        given (y ∷ xs) zero i l g = absurd (omega arith)
+        given (y ∷ xs) (suc n) zero l g = g
+        given (y ∷ xs) (suc n) (suc i) l g = given xs n i (omega arith) g
+
+    process_there : (i : ℕ) (x : Entry) → slice_get all i ≡ Some x → x.process < s.processes
+    process_there i x g = front.there all nameable quiet lawful i x g
+
+    offer_in : (w : Way) (c : ℕ) (i : ℕ) (x : Entry) → i < at → slice_get all i ≡ Some x → x.event ≡ offer_event w c → OfferIn os i (s.name x.process) w (channel s c)
+    offer_in w c i x l g is = named_get s (take at all) i x (into_front i x l g) ∙ (λ j. Some (record { who = s.name x.process; what = (ap (happening s) is ∙ offer_happens s w c) j }))
+
+    module _ (w : Way) (c : ℕ) (is : e.event ≡ offer_event w c) where
+      open_channel : c < s.channels
+      open_channel = channel_there at e w c inside is
+
+      -- where nothing is unknown to the tables, the entry is in order
+      pub nothing_unknown : ((i : ℕ) → i < at → IsUnknown s os all e.process w c i → ⊥) → KnowsOffers (judged os) os (s.name e.process) (Offered w (channel s c))
+      nothing_unknown none i z o = by ((judged os).past (s.name e.process) i) refl
         where
-          taken : (xs : List Entry) (n i : ℕ) → slice_get (take n xs) i ≡ Some x → slice_get xs i ≡ Some x
-          taken [] zero i g = g
-          taken [] (suc n) i g = g
-          taken (y ∷ xs) zero i g = none_here x g
+          found : (y : Entry) × (slice_get (take at all) i ≡ Some y) × (occurrence s y ≡ record { who = z; what = Offered w (channel s c) })
+          found = named_some s (take at all) i _ o
+
+          x : Entry
+          x = found.0
+
+          g : slice_get all i ≡ Some x
+          g = low_entry i x found.1
+
+          l : i < at
+          l = let a = get_within (take at all) i x found.1 in let m = front.at_length all nameable quiet lawful at e inside in omega arith
+
+          its : (k : ℕ) × (x.event ≡ offer_event w k) × (channel s k ≡ channel s c)
+          its = event_is s x.event w (channel s c) (ap (λ (y : Occurrence). y.what) found.2)
+
+          is_x : x.event ≡ offer_event w c
+          is_x = its.1 ∙ ap (offer_event w) (one_channel s lawful its.0 c (channel_there i x w its.0 g its.1) open_channel its.2)
+
+          by : (t : Bool) → (judged os).past (s.name e.process) i ≡ t → (judged os).past (s.name e.process) i ≡ true
+          by true f = f
+          by false f = absurd (none i l (x, g, is_x, λ y. false_true (sym f ∙ y)))
             where
-              none_here : {A : Type 0} (a : Entry) → ◌≡◌ {A = Option Entry} None (Some a) → A
-              none_here a e = absurd (cc)
-          taken (y ∷ xs) (suc n) zero g = g
-          taken (y ∷ xs) (suc n) (suc i) g = taken xs n i g
+              false_true : ◌≡◌ {A = Bool} false true → ⊥
+              false_true y = cc
 
-      into_front : (i : ℕ) (x : Entry) → i < at → slice_get all i ≡ Some x → slice_get (take at all) i ≡ Some x
-      into_front i x l g = given all at i l g
+      later_offer : slice_get (named s all) at ≡ Some (record { who = s.name e.process; what = Offered w (channel s c) })
+      later_offer = named_get s all at e inside ∙ (λ j. Some (record { who = s.name e.process; what = (ap (happening s) is ∙ offer_happens s w c) j }))
+
+      -- where the last offer before an index is known, so are all before that index
+      pub all_below : AreKnown os → (middle i : ℕ) → middle ≤ at → IsLastOffer all middle w c i → (judged os).past (s.name e.process) i ≡ true → (k : ℕ) → k < middle → IsUnknown s os all e.process w c k → ⊥
+      all_below known middle i m last k_i k l u = u.3 ((chains_of os known).past (s.name e.process) i k w (channel s c) (s.name last.1.0.process) (s.name u.0.process)
+          (offer_in w c i last.1.0 (let a = last.0 in omega arith) last.1.1 last.1.2) (offer_in w c k u.0 (omega arith) u.1 u.2) no_later k_i)
         where
-          given : (xs : List Entry) (n i : ℕ) → i < n → slice_get xs i ≡ Some x → slice_get (take n xs) i ≡ Some x
-          given [] zero i l g = g
-          given [] (suc n) i l g = g
-          given (y ∷ xs) zero i l g = absurd (omega arith)
-          given (y ∷ xs) (suc n) zero l g = g
-          given (y ∷ xs) (suc n) (suc i) l g = given xs n i (omega arith) g
+          later_or_not : (a b : ℕ) → (a < b) ⊎ (b ≤ a)
+          later_or_not a b = grind (arith)
 
-      process_there : (i : ℕ) (x : Entry) → slice_get all i ≡ Some x → x.process < s.processes
-      process_there i x g = front.there all nameable quiet lawful i x g
+          no_later : k ≤ i
+          no_later = ⊎_elim (λ (a : i < k). absurd (last.2 k a l (u.0, u.1, u.2))) (λ (a : k ≤ i). a) (later_or_not i k)
 
-      -- an offer that is not known is one that the tables do not know
-      unknown_in : (w : Way) (c : ℕ) (i : ℕ) (x : Entry) → i < at → slice_get all i ≡ Some x → x.event ≡ offer_event w c → (judged os).past (s.name e.process) i ≡ nat_lt (number_at b.places.items i) (clock_at b.clocks.items e.process x.process)
-      unknown_in w c i x l g is =
-          let o : OfferIn os i (s.name x.process) w (channel s c) = named_get s (take at all) i x (into_front i x l g) ∙ (λ j. Some (record { who = s.name x.process; what = (ap (happening s) is ∙ offer_happens s w c) j })) in
-          let place : number_at b.places.items i ≡ made (take i os) (s.name x.process) = ap (λ (y : Option ℕ). unwrap_or y 0) (h.places i x (into_front i x l g)) in
-          known_is x.process i (number_at b.places.items i) w (channel s c) (process_there i x g) o place
+      -- what the counts say of an offer
+      pub counted_offer : (i place : ℕ) (x : Entry) → i < at → slice_get all i ≡ Some x → x.event ≡ offer_event w c → place ≡ made (take i os) (s.name x.process) → (place < counts os (s.name e.process) (s.name x.process)) ↔ ((judged os).past (s.name e.process) i ≡ true)
+      counted_offer i place x l g is_x place_is =
+          let says = counts_say (s.name e.process) x.process i place w (channel s c) (offer_in w c i x l g is_x) place_is in
+          (λ y. says ∙ lt_true place _ y, λ y. lt_iff place _ (sym says ∙ y))
 
-      module _ (w : Way) (c : ℕ) (is : e.event ≡ offer_event w c) where
-        open_channel : c < s.channels
-        open_channel = channel_there at e w c inside is
+      -- the first unknown offer and this one are the least race
+      pub first_race : (i : ℕ) → IsFirstUnknown s os all at e.process w c i → AreKnown os → IsLeastRace (named s all) w (channel s c) i at
+      first_race i f known = (race, least)
+        where
+          x : Entry
+          x = f.1.0
 
-        -- where nothing is unknown to the tables, the entry is in order
-        pub nothing_unknown : ((i : ℕ) → i < at → IsUnknown b all e.process w c i → ⊥) → KnowsOffers (judged os) os (s.name e.process) (Offered w (channel s c))
-        nothing_unknown none i z o = by (nat_lt (number_at b.places.items i) (clock_at b.clocks.items e.process x.process)) (unknown_in w c i x l g is_x)
-          where
-            found : (y : Entry) × (slice_get (take at all) i ≡ Some y) × (occurrence s y ≡ record { who = z; what = Offered w (channel s c) })
-            found = named_some s (take at all) i _ o
+          race : Race (named s all) w (channel s c) i at
+          race = record {
+            before = f.0;
+            first = s.name x.process;
+            offered_first = named_get s all i x f.1.1 ∙ (λ j. Some (record { who = s.name x.process; what = (ap (happening s) f.1.2 ∙ offer_happens s w c) j }));
+            second = s.name e.process;
+            offered_second = later_offer;
+            unknown = λ k. f.1.3 (knows_offer (s.name e.process) i (subst (λ (xs : List Occurrence). KnowsCompletion (judged xs) (s.name e.process) i) front_is k));
+          }
 
-            x : Entry
-            x = found.0
+          same : (a d : Occurrence) → ◌≡◌ {A = Option Occurrence} (Some a) (Some d) → a ≡ d
+          same a d g = cc
 
-            g : slice_get all i ≡ Some x
-            g = low_entry i x found.1
+          least : (v : Way) (d : Channel) (m n : ℕ) → Race (named s all) v d m n → (at < n) ⊎ ((at ≡ n) × (i ≤ m))
+          least v d m n r = ⊎_elim
+              (λ (l : n < at). absurd (earlier l))
+              (λ (l : at ≤ n). ⊎_elim (λ (y : at < n). inl y) (λ (y : at ≡ n). inr (y, here y)) (more_or_same at n l))
+              (old_or_new n at)
+            where
+              old_or_new : (a b : ℕ) → (a < b) ⊎ (b ≤ a)
+              old_or_new a b = grind (arith)
 
-            l : i < at
-            l = let a = get_within (take at all) i x found.1 in let m = front.at_length all nameable quiet lawful at e inside in omega arith
+              more_or_same : (a b : ℕ) → a ≤ b → (a < b) ⊎ (a ≡ b)
+              more_or_same a b l = grind (arith)
 
-            its : (k : ℕ) × (x.event ≡ offer_event w k) × (channel s k ≡ channel s c)
-            its = event_is s x.event w (channel s c) (ap (λ (y : Occurrence). y.what) found.2)
+              later : (y : Entry) × (slice_get all n ≡ Some y) × (occurrence s y ≡ record { who = r.second; what = Offered v d })
+              later = named_some s all n _ r.offered_second
 
-            is_x : x.event ≡ offer_event w c
-            is_x = its.1 ∙ ap (offer_event w) (one_channel s lawful its.0 c (channel_there i x w its.0 g its.1) open_channel its.2)
+              -- no race ends before this entry
+              earlier : n < at → ⊥
+              earlier l =
+                  let low : slice_get os n ≡ Some (record { who = r.second; what = Offered v d }) = named_get s (take at all) n later.0 (into_front n later.0 l later.1) ∙ ap (λ y. Some y) later.2 in
+                  let front_of : take n os ≡ take n (named s all) = ap (take n) (sym front_is) ∙ take_take n at (named s all) (omega arith) in
+                  let knows : KnowsOffers (judged (take n os)) (take n os) r.second (Offered v d) = known_at os n _ low known in
+                  let again : KnowsOffers (judged (take n (named s all))) (take n (named s all)) r.second (Offered v d) = subst (λ xs. KnowsOffers (judged xs) xs r.second (Offered v d)) front_of knows in
+                  let is_front : named s (take n all) ≡ take n (named s all) = named_take s all n in
+                  let st : Standing (judged (take n (named s all))) (take n (named s all)) (counts (take n (named s all))) = subst (λ xs. Standing (judged xs) xs (counts xs)) is_front (front.stands all nameable quiet lawful n later.0 later.1) in
+                  let o : slice_get (take n (named s all)) m ≡ Some (record { who = r.first; what = Offered v d }) = take_get (named s all) n m _ r.before r.offered_first in
+                  r.unknown (st.rounded.complete r.second m r.first v d o (again m r.first o))
+                where
+                  take_take : (a b : ℕ) (xs : List Occurrence) → a ≤ b → take a (take b xs) ≡ take a xs
+                  take_take zero b [] l = refl
+                  take_take zero b (o ∷ xs) l = refl
+                  take_take (suc a) zero xs l = absurd (omega arith)
+                  take_take (suc a) (suc b) [] l = refl
+                  take_take (suc a) (suc b) (o ∷ xs) l = ap (λ ys. o ∷ ys) (take_take a b xs (omega arith))
 
-            by : (t : Bool) → (judged os).past (s.name e.process) i ≡ t → (judged os).past (s.name e.process) i ≡ true
-            by true f = f
-            by false f = absurd (none i l (x, g, is_x, λ y. false_true (sym f ∙ unknown_in w c i x l g is_x ∙ lt_true (number_at b.places.items i) (clock_at b.clocks.items e.process x.process) y)))
-              where
-                false_true : ◌≡◌ {A = Bool} false true → ⊥
-                false_true y = cc
+                  take_get : (xs : List Occurrence) (a k : ℕ) (o : Occurrence) → k < a → slice_get xs k ≡ Some o → slice_get (take a xs) k ≡ Some o
+                  take_get [] zero k o l g = g
+                  take_get [] (suc a) k o l g = g
+                  take_get (y ∷ xs) zero k o l g = absurd (omega arith)
+                  take_get (y ∷ xs) (suc a) zero o l g = g
+                  take_get (y ∷ xs) (suc a) (suc k) o l g = take_get xs a k o (omega arith) g
 
-        later_offer : slice_get (named s all) at ≡ Some (record { who = s.name e.process; what = Offered w (channel s c) })
-        later_offer = named_get s all at e inside ∙ (λ j. Some (record { who = s.name e.process; what = (ap (happening s) is ∙ offer_happens s w c) j }))
+              -- of those that end here, this one begins first
+              here : at ≡ n → i ≤ m
+              here y = ⊎_elim (λ (l : m < i). absurd (f.2 m l unknown)) (λ (l : i ≤ m). l) (old_or_new m i)
+                where
+                  this : ◌≡◌ {A = Occurrence} (record { who = s.name e.process; what = Offered w (channel s c) }) (record { who = r.second; what = Offered v d })
+                  this = same _ _ (sym later_offer ∙ ap (slice_get (named s all)) y ∙ r.offered_second)
 
-        -- the first unknown offer and this one are the least race
-        pub first_race : (i : ℕ) → IsFirstUnknown b all at e.process w c i → AreKnown os → IsLeastRace (named s all) w (channel s c) i at
-        first_race i f known = (race, least)
-          where
-            x : Entry
-            x = f.1.0
+                  is_way : w ≡ v
+                  is_way = ap (λ (a : Occurrence). way_of w a.what) this
 
-            race : Race (named s all) w (channel s c) i at
-            race = record {
-              before = f.0;
-              first = s.name x.process;
-              offered_first = named_get s all i x f.1.1 ∙ (λ j. Some (record { who = s.name x.process; what = (ap (happening s) f.1.2 ∙ offer_happens s w c) j }));
-              second = s.name e.process;
-              offered_second = later_offer;
-              unknown = λ k. f.1.3 (lt_iff _ _ (sym (unknown_in w c i x f.0 f.1.1 f.1.2) ∙ knows_offer (s.name e.process) i (subst (λ (xs : List Occurrence). KnowsCompletion (judged xs) (s.name e.process) i) front_is k)));
-            }
+                  is_channel : channel s c ≡ d
+                  is_channel = ap (λ (a : Occurrence). channel_of d a.what) this
 
-            same : (a d : Occurrence) → ◌≡◌ {A = Option Occurrence} (Some a) (Some d) → a ≡ d
-            same a d g = cc
+                  is_who : s.name e.process ≡ r.second
+                  is_who = ap (λ (a : Occurrence). a.who) this
 
-            least : (v : Way) (d : Channel) (m n : ℕ) → Race (named s all) v d m n → (at < n) ⊎ ((at ≡ n) × (i ≤ m))
-            least v d m n r = ⊎_elim
-                (λ (l : n < at). absurd (earlier l))
-                (λ (l : at ≤ n). ⊎_elim (λ (y : at < n). inl y) (λ (y : at ≡ n). inr (y, here y)) (more_or_same at n l))
-                (old_or_new n at)
-              where
-                old_or_new : (a b : ℕ) → (a < b) ⊎ (b ≤ a)
-                old_or_new a b = grind (arith)
+                  first : (a : Entry) × (slice_get all m ≡ Some a) × (occurrence s a ≡ record { who = r.first; what = Offered v d })
+                  first = named_some s all m _ r.offered_first
 
-                more_or_same : (a b : ℕ) → a ≤ b → (a < b) ⊎ (a ≡ b)
-                more_or_same a b l = grind (arith)
+                  inside_m : m < at
+                  inside_m = let a = r.before in omega arith
 
-                later : (y : Entry) × (slice_get all n ≡ Some y) × (occurrence s y ≡ record { who = r.second; what = Offered v d })
-                later = named_some s all n _ r.offered_second
+                  its : (k : ℕ) × (first.0.event ≡ offer_event v k) × (channel s k ≡ d)
+                  its = event_is s first.0.event v d (ap (λ (a : Occurrence). a.what) first.2)
 
-                -- no race ends before this entry
-                earlier : n < at → ⊥
-                earlier l =
-                    let low : slice_get os n ≡ Some (record { who = r.second; what = Offered v d }) = named_get s (take at all) n later.0 (into_front n later.0 l later.1) ∙ ap (λ y. Some y) later.2 in
-                    let front_of : take n os ≡ take n (named s all) = ap (take n) (sym front_is) ∙ take_take n at (named s all) (omega arith) in
-                    let knows : KnowsOffers (judged (take n os)) (take n os) r.second (Offered v d) = known_at os n _ low known in
-                    let again : KnowsOffers (judged (take n (named s all))) (take n (named s all)) r.second (Offered v d) = subst (λ xs. KnowsOffers (judged xs) xs r.second (Offered v d)) front_of knows in
-                    let is_front : named s (take n all) ≡ take n (named s all) = named_take s all n in
-                    let st : Standing (judged (take n (named s all))) (take n (named s all)) (counts (take n (named s all))) = subst (λ xs. Standing (judged xs) xs (counts xs)) is_front (front.stands all nameable quiet lawful n later.0 later.1) in
-                    let o : slice_get (take n (named s all)) m ≡ Some (record { who = r.first; what = Offered v d }) = take_get (named s all) n m _ r.before r.offered_first in
-                    r.unknown (st.rounded.complete r.second m r.first v d o (again m r.first o))
-                  where
-                    take_take : (a b : ℕ) (xs : List Occurrence) → a ≤ b → take a (take b xs) ≡ take a xs
-                    take_take zero b [] l = refl
-                    take_take zero b (o ∷ xs) l = refl
-                    take_take (suc a) zero xs l = absurd (omega arith)
-                    take_take (suc a) (suc b) [] l = refl
-                    take_take (suc a) (suc b) (o ∷ xs) l = ap (λ ys. o ∷ ys) (take_take a b xs (omega arith))
+                  is_first : first.0.event ≡ offer_event w c
+                  is_first = its.1 ∙ ap (λ a. offer_event a its.0) (sym is_way) ∙ ap (offer_event w) (one_channel s lawful its.0 c (channel_there m first.0 v its.0 first.1 its.1) open_channel (its.2 ∙ sym is_channel))
 
-                    take_get : (xs : List Occurrence) (a k : ℕ) (o : Occurrence) → k < a → slice_get xs k ≡ Some o → slice_get (take a xs) k ≡ Some o
-                    take_get [] zero k o l g = g
-                    take_get [] (suc a) k o l g = g
-                    take_get (y ∷ xs) zero k o l g = absurd (omega arith)
-                    take_get (y ∷ xs) (suc a) zero o l g = g
-                    take_get (y ∷ xs) (suc a) (suc k) o l g = take_get xs a k o (omega arith) g
-
-                -- of those that end here, this one begins first
-                here : at ≡ n → i ≤ m
-                here y = ⊎_elim (λ (l : m < i). absurd (f.2 m l unknown)) (λ (l : i ≤ m). l) (old_or_new m i)
-                  where
-                    this : ◌≡◌ {A = Occurrence} (record { who = s.name e.process; what = Offered w (channel s c) }) (record { who = r.second; what = Offered v d })
-                    this = same _ _ (sym later_offer ∙ ap (slice_get (named s all)) y ∙ r.offered_second)
-
-                    is_way : w ≡ v
-                    is_way = ap (λ (a : Occurrence). way_of w a.what) this
-
-                    is_channel : channel s c ≡ d
-                    is_channel = ap (λ (a : Occurrence). channel_of d a.what) this
-
-                    is_who : s.name e.process ≡ r.second
-                    is_who = ap (λ (a : Occurrence). a.who) this
-
-                    first : (a : Entry) × (slice_get all m ≡ Some a) × (occurrence s a ≡ record { who = r.first; what = Offered v d })
-                    first = named_some s all m _ r.offered_first
-
-                    inside_m : m < at
-                    inside_m = let a = r.before in omega arith
-
-                    its : (k : ℕ) × (first.0.event ≡ offer_event v k) × (channel s k ≡ d)
-                    its = event_is s first.0.event v d (ap (λ (a : Occurrence). a.what) first.2)
-
-                    is_first : first.0.event ≡ offer_event w c
-                    is_first = its.1 ∙ ap (λ a. offer_event a its.0) (sym is_way) ∙ ap (offer_event w) (one_channel s lawful its.0 c (channel_there m first.0 v its.0 first.1 its.1) open_channel (its.2 ∙ sym is_channel))
-
-                    unknown : IsUnknown b all e.process w c m
-                    unknown = (
-                      first.0,
-                      first.1,
-                      is_first,
-                      λ l.
-                          let k : (judged os).past (s.name e.process) m ≡ true = unknown_in w c m first.0 inside_m first.1 is_first ∙ lt_true _ _ l in
-                          let o : OfferIn os m (s.name first.0.process) w (channel s c) = named_get s (take at all) m first.0 (into_front m first.0 inside_m first.1) ∙ (λ j. Some (record { who = s.name first.0.process; what = (ap (happening s) is_first ∙ offer_happens s w c) j })) in
-                          let done = knows_completion (s.name e.process) m (s.name first.0.process) w (channel s c) o k in
-                          r.unknown (subst (λ (xs : List Occurrence). KnowsCompletion (judged xs) r.second m) (sym front_is ∙ ap (λ a. take a (named s all)) y) (subst (λ (a : Name). KnowsCompletion (judged os) a m) is_who done)),
-                    )
+                  unknown : IsUnknown s os all e.process w c m
+                  unknown = (
+                    first.0,
+                    first.1,
+                    is_first,
+                    λ k.
+                        let done = knows_completion (s.name e.process) m (s.name first.0.process) w (channel s c) (offer_in w c m first.0 inside_m first.1 is_first) k in
+                        r.unknown (subst (λ (xs : List Occurrence). KnowsCompletion (judged xs) r.second m) (sym front_is ∙ ap (λ a. take a (named s all)) y) (subst (λ (a : Name). KnowsCompletion (judged os) a m) is_who done)),
+                  )

@@ -1,5 +1,5 @@
 -- What the judge's tables hold. No public contract cites these.
-use Rattle.std.specs.Prelude.{◌≡◌, ℕ, ◌<◌, ◌≤◌, List, [], map, take, length, Option, Some, None, slice_get, unwrap_or}
+use Rattle.std.specs.Prelude.{◌≡◌, true, ℕ, ◌<◌, ◌≤◌, List, [], map, take, length, Option, Some, None, slice_get}
 use Rattle.sp_journal.specs.declared.entry.Entry.{Entry}
 use Rattle.sp_journal.specs.declared.entry.Event.{Event}
 use Rattle.sp_journal.specs.declared.entry.Event.TheVariants as event
@@ -14,15 +14,12 @@ use Rattle.sp_judge.specs.declared.bench.Offer.{Offer}
 use Rattle.sp_judge.specs.declared.bench.Racer.{Racer}
 use Rattle.sp_judge.specs.declared.bench.Line.{Line}
 use Rattle.sp_judge.specs.declared.bench.Bench.{Bench}
-use Rattle.sp_judge.specs.Clocks.{clock_at}
+use Rattle.sp_judge.specs.Clocks.{clock_at, IsAsked}
 use Rattle.sp_judge.specs.Counts.{made, counts}
 
 -- these entries by the names that stand in the end
 abbrev pub named : Births → List Entry → List Occurrence
 named s es = map (occurrence s) es
-
-abbrev pub number_at : List ℕ → ℕ → ℕ
-number_at xs p = unwrap_or (slice_get xs p) 0
 
 abbrev pub last_of : Way → Line → Option Offer
 last_of way.Send l = l.sent
@@ -60,13 +57,13 @@ abbrev pub then_line : Way → Offer → Option Offer → Line → Line
 then_line way.Send o w l = record { waiting = w; sent = Some o; received = l.received }
 then_line way.Receive o w l = record { waiting = w; sent = l.sent; received = Some o }
 
--- the tables after these entries of a journal with these births
-pub record Holds (s : Births) (es : List Entry) (b : Bench) : Type 0 where
+-- The tables after these entries of a journal with these births. The clocks have the counts that are still asked for
+pub record Holds (s : Births) (until : List ℕ) (es : List Entry) (b : Bench) : Type 0 where
   pub all_clocks : length b.clocks.items ≡ s.processes
   pub all_made : length b.made.items ≡ s.processes
   pub all_lines : length b.lines.items ≡ s.channels
   pub all_places : length b.places.items ≡ length es
-  pub clocks : (p q : ℕ) → p < s.processes → q < s.processes → clock_at b.clocks.items p q ≡ counts (named s es) (s.name p) (s.name q)
+  pub clocks : (p q : ℕ) → p < s.processes → q < s.processes → IsAsked until (length es) q → clock_at b.clocks.items p q ≡ counts (named s es) (s.name p) (s.name q)
   pub made_is : (p : ℕ) → p < s.processes → slice_get b.made.items p ≡ Some (made (named s es) (s.name p))
   pub lines : (c : ℕ) → c < s.channels → (l : Line) × (slice_get b.lines.items c ≡ Some l) × IsLine s (named s es) (channel s c) l
   pub places : (i : ℕ) (e : Entry) → slice_get es i ≡ Some e → slice_get b.places.items i ≡ Some (made (take i (named s es)) (s.name e.process))
@@ -88,13 +85,21 @@ IsPlain (event.Fault f) = Unit {0}
 IsPlain event.Laid = Unit {0}
 IsPlain event.Pause = Unit {0}
 
--- the entry of index i makes this offer, and by the tables the process does not know of it
-abbrev pub IsUnknown : Bench → List Entry → ℕ → Way → ℕ → ℕ → Type 0
-IsUnknown b es p w c i = (e : Entry) × (slice_get es i ≡ Some e) × (e.event ≡ offer_event w c) × (number_at b.places.items i < clock_at b.clocks.items p e.process → ⊥)
+-- the entry of index i makes this offer
+abbrev pub IsOfferAt : List Entry → Way → ℕ → ℕ → Type 0
+IsOfferAt es w c i = (e : Entry) × (slice_get es i ≡ Some e) × (e.event ≡ offer_event w c)
+
+-- the last such entry before an index
+abbrev pub IsLastOffer : List Entry → ℕ → Way → ℕ → ℕ → Type 0
+IsLastOffer es before w c i = (i < before) × IsOfferAt es w c i × ((k : ℕ) → i < k → k < before → IsOfferAt es w c k → ⊥)
+
+-- the entry of index i makes this offer, and the process does not know of it after these entries
+abbrev pub IsUnknown : Births → List Occurrence → List Entry → ℕ → Way → ℕ → ℕ → Type 0
+IsUnknown s os es p w c i = (e : Entry) × (slice_get es i ≡ Some e) × (e.event ≡ offer_event w c) × ((judged os).past (s.name p) i ≡ true → ⊥)
 
 -- the first such entry before this index
-abbrev pub IsFirstUnknown : Bench → List Entry → ℕ → ℕ → Way → ℕ → ℕ → Type 0
-IsFirstUnknown b es at p w c i = (i < at) × IsUnknown b es p w c i × ((k : ℕ) → k < i → IsUnknown b es p w c k → ⊥)
+abbrev pub IsFirstUnknown : Births → List Occurrence → List Entry → ℕ → ℕ → Way → ℕ → ℕ → Type 0
+IsFirstUnknown s os es at p w c i = (i < at) × IsUnknown s os es p w c i × ((k : ℕ) → k < i → IsUnknown s os es p w c k → ⊥)
 
 -- whether the entry of this index is an offer whose process does not know of an earlier one of its way on its channel
 abbrev pub IsRacing : List Entry → ℕ → Option Racer → Type 0

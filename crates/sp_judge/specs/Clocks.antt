@@ -1,5 +1,5 @@
 -- What a clock says.
-use Rattle.std.specs.Prelude.{ℕ, cond, max, ◌==◌, List, Option, Some, None, unwrap_or, slice_get}
+use Rattle.std.specs.Prelude.{ℕ, ◌<◌, cond, max, ◌==◌, List, Option, Some, None, unwrap_or, slice_get}
 use Rattle.std.specs.Ordering.{nat_cmp}
 use Rattle.std.specs.BTreeMap as tree
 use Rattle.sp_judge.specs.declared.clock.Clock.{Clock}
@@ -15,6 +15,13 @@ count_at (Some c) q = count_of c q
 -- the count of q in the clock of p
 abbrev pub clock_at : List Clock → ℕ → ℕ → ℕ
 clock_at cs p q = count_at (slice_get cs p) q
+
+abbrev pub number_at : List ℕ → ℕ → ℕ
+number_at xs p = unwrap_or (slice_get xs p) 0
+
+-- from the entry of index n on, the count of this process is asked for
+abbrev pub IsAsked : List ℕ → ℕ → ℕ → Type 0
+IsAsked until n q = n < number_at until q
 
 -- the clock of p with its own count raised to n
 abbrev pub with_own : (ℕ → ℕ → ℕ) → ℕ → ℕ → ℕ → ℕ

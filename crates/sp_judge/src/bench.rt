@@ -7,10 +7,11 @@ ghost use Rattle.sp_journal.specs.Births.{channel as channel_named};
 ghost use Rattle.sp_journal.specs.Names.{Offered};
 ghost use Rattle.sp_journal.specs.Past.{judged};
 ghost use Rattle.sp_race.specs.Known.{KnowsOffers, AreKnown};
-ghost use Rattle.sp_judge.specs.Bench.{named, number_at, last_of, then_line, offer_event, IsTame, IsPlain, IsBlank, Holds, IsUnknown, IsFirstUnknown};
+ghost use Rattle.sp_judge.specs.Clocks.{number_at};
+ghost use Rattle.sp_judge.specs.Bench.{named, last_of, then_line, offer_event, IsTame, IsPlain, IsBlank, Holds};
 
 use crate::clock::Clock;
-use crate::table::{learn, meet, raise, share};
+use crate::table::{Met, learn, meet, raise, share};
 use sp_base::Memory;
 use sp_journal::{Entry, Event, Ledger, Way};
 use std::alloc::Global;
@@ -138,31 +139,38 @@ impl Bench {
         Ok(())
     }
 
-    fn opens(&mut self, entries: &[Entry], at: usize, process: u32) -> Result<(), Memory>
+    fn opens(
+        &mut self,
+        entries: &[Entry],
+        until: &[u64],
+        at: usize,
+        process: u32,
+    ) -> Result<(), Memory>
         requires tame { IsTame entries.now }
-        requires holds { Holds (births entries.now) (take at entries.now) self.old }
+        requires holds { Holds (births entries.now) until.now (take at entries.now) self.old }
         requires here { slice_get entries.now at ≡ Some (record { process = process; event = Event.Open }) }
-        ensures { OnOk result (Holds (births entries.now) (take (at + 1) entries.now) self.new) }
+        ensures { OnOk result (Holds (births entries.now) until.now (take (at + 1) entries.now) self.new) }
     {
         let after = self.note(process)?;
-        raise(&mut self.clocks, process, after)?;
+        raise(&mut self.clocks, until, at as u64 + 1, process, after)?;
         Ok(())
     }
 
     fn forks(
         &mut self,
         entries: &[Entry],
+        until: &[u64],
         at: usize,
         process: u32,
         count: u32,
     ) -> Result<(), Memory>
         requires tame { IsTame entries.now }
-        requires holds { Holds (births entries.now) (take at entries.now) self.old }
+        requires holds { Holds (births entries.now) until.now (take at entries.now) self.old }
         requires here { slice_get entries.now at ≡ Some (record { process = process; event = Event.Fork count }) }
-        ensures { OnOk result (Holds (births entries.now) (take (at + 1) entries.now) self.new) }
+        ensures { OnOk result (Holds (births entries.now) until.now (take (at + 1) entries.now) self.new) }
     {
         let after = self.note(process)?;
-        raise(&mut self.clocks, process, after)?;
+        raise(&mut self.clocks, until, at as u64 + 1, process, after)?;
         share(self.alloc, &mut self.clocks, process, self.next, count)?;
         self.next += u64::from(count);
         Ok(())
@@ -172,18 +180,19 @@ impl Bench {
         &mut self,
         ledger: &Ledger,
         entries: &[Entry],
+        until: &[u64],
         at: usize,
         process: u32,
     ) -> Result<(), Memory>
         requires tame { IsTame entries.now }
         requires ledger { IsLedger ledger.now }
         requires its_journal { ledger.now.journal.entries ≡ entries.now }
-        requires holds { Holds (births entries.now) (take at entries.now) self.old }
+        requires holds { Holds (births entries.now) until.now (take at entries.now) self.old }
         requires here { slice_get entries.now at ≡ Some (record { process = process; event = Event.End }) }
-        ensures { OnOk result (Holds (births entries.now) (take (at + 1) entries.now) self.new) }
+        ensures { OnOk result (Holds (births entries.now) until.now (take (at + 1) entries.now) self.new) }
     {
         let after = self.note(process)?;
-        raise(&mut self.clocks, process, after)?;
+        raise(&mut self.clocks, until, at as u64 + 1, process, after)?;
         match ledger.birth(process) {
             None => Ok(()),
             Some(birth) => learn(self.alloc, &mut self.clocks, birth.parent, process),
@@ -193,15 +202,16 @@ impl Bench {
     fn offers(
         &mut self,
         entries: &[Entry],
+        until: &[u64],
         at: usize,
         process: u32,
         way: Way,
         channel: u32,
     ) -> Result<(), Memory>
         requires tame { IsTame entries.now }
-        requires holds { Holds (births entries.now) (take at entries.now) self.old }
+        requires holds { Holds (births entries.now) until.now (take at entries.now) self.old }
         requires here { slice_get entries.now at ≡ Some (record { process = process; event = offer_event way channel }) }
-        ensures { OnOk result (Holds (births entries.now) (take (at + 1) entries.now) self.new) }
+        ensures { OnOk result (Holds (births entries.now) until.now (take (at + 1) entries.now) self.new) }
     {
         let after = self.note(process)?;
         let offer = Offer {
@@ -218,10 +228,16 @@ impl Bench {
                 meet(
                     self.alloc,
                     &mut self.clocks,
-                    process,
-                    after,
-                    other.process,
-                    theirs,
+                    until,
+                    at as u64 + 1,
+                    Met {
+                        process,
+                        count: after,
+                    },
+                    Met {
+                        process: other.process,
+                        count: theirs,
+                    },
                 )?;
                 self.lines[channel as usize] = line.then(way, offer, None);
             }
@@ -232,15 +248,16 @@ impl Bench {
     fn passes(
         &mut self,
         entries: &[Entry],
+        until: &[u64],
         at: usize,
         process: u32,
         event: Event,
     ) -> Result<(), Memory>
         requires tame { IsTame entries.now }
-        requires holds { Holds (births entries.now) (take at entries.now) self.old }
+        requires holds { Holds (births entries.now) until.now (take at entries.now) self.old }
         requires here { slice_get entries.now at ≡ Some (record { process = process; event = event }) }
         requires plain { IsPlain event }
-        ensures { OnOk result (Holds (births entries.now) (take (at + 1) entries.now) self.new) }
+        ensures { OnOk result (Holds (births entries.now) until.now (take (at + 1) entries.now) self.new) }
     {
         self.pass(process)
     }
@@ -250,76 +267,39 @@ impl Bench {
         &mut self,
         ledger: &Ledger,
         entries: &[Entry],
+        until: &[u64],
         at: usize,
     ) -> Result<(), Memory>
         requires tame { IsTame entries.now }
         requires ledger { IsLedger ledger.now }
         requires its_journal { ledger.now.journal.entries ≡ entries.now }
         requires inside { at < length entries.now }
-        requires holds { Holds (births entries.now) (take at entries.now) self.old }
-        ensures { OnOk result (Holds (births entries.now) (take (at + 1) entries.now) self.new) }
+        requires holds { Holds (births entries.now) until.now (take at entries.now) self.old }
+        ensures { OnOk result (Holds (births entries.now) until.now (take (at + 1) entries.now) self.new) }
     {
         let Entry { process, event } = entries[at];
         match event {
-            Event::Open => self.opens(entries, at, process),
-            Event::Fork(count) => self.forks(entries, at, process, count),
-            Event::Send(channel) => self.offers(entries, at, process, Way::Send, channel),
-            Event::Receive(channel) => self.offers(entries, at, process, Way::Receive, channel),
-            Event::End => self.ends(ledger, entries, at, process),
+            Event::Open => self.opens(entries, until, at, process),
+            Event::Fork(count) => self.forks(entries, until, at, process, count),
+            Event::Send(channel) => self.offers(entries, until, at, process, Way::Send, channel),
+            Event::Receive(channel) => self.offers(
+                entries,
+                until,
+                at,
+                process,
+                Way::Receive,
+                channel,
+            ),
+            Event::End => self.ends(ledger, entries, until, at, process),
             Event::Fault(_) | Event::Laid | Event::Pause => self.passes(
-                entries, at, process, event,
+                entries, until, at, process, event,
             ),
         }
-    }
-
-    /// Whether the process knows of all offers of this way on this channel so far. All of them were in order.
-    pub(crate) fn knows_offers(
-        &self,
-        entries: &[Entry],
-        at: usize,
-        process: u32,
-        way: Way,
-        channel: u32,
-    ) -> bool
-        requires tame { IsTame entries.now }
-        requires holds { Holds (births entries.now) (take at entries.now) self.now }
-        requires here { slice_get entries.now at ≡ Some (record { process = process; event = offer_event way channel }) }
-        requires in_order { AreKnown (named (births entries.now) (take at entries.now)) }
-        ensures { IsTrue result ↔ KnowsOffers (judged (named (births entries.now) (take at entries.now))) (named (births entries.now) (take at entries.now)) ((births entries.now).name process) (Offered way (channel_named (births entries.now) channel)) }
-    {
-        match self.lines[channel as usize].last(way) {
-            None => true,
-            Some(last) => self.clocks[process as usize].knows(last.process, last.place),
-        }
-    }
-
-    /// The first earlier offer of this way on this channel of which the process does not know.
-    pub(crate) fn first_unknown(
-        &self,
-        entries: &[Entry],
-        at: usize,
-        process: u32,
-        way: Way,
-        channel: u32,
-    ) -> Option<u64>
-        requires inside { at ≤ length entries.now }
-        requires places { at ≤ length self.now.places.items }
-        requires there { process < length self.now.clocks.items }
-        ensures { MatchOption result ((i : ℕ) → i < at → IsUnknown self.now entries.now process way channel i → ⊥) (λ i. IsFirstUnknown self.now entries.now at process way channel i) }
-    {
-        let clock = &self.clocks[process as usize];
-        for i in 0..at {
-            let entry = entries[i];
-            if is_offer(entry.event, way, channel) && clock.misses(entry.process, self.places[i]) {
-                return Some(i as u64);
-            }
-        }
-        None
     }
 }
 
 /// Whether the event is an offer of this way on this channel.
-fn is_offer(event: Event, way: Way, channel: u32) -> bool
+pub(crate) fn is_offer(event: Event, way: Way, channel: u32) -> bool
     ensures { IsTrue result ↔ (event ≡ offer_event way channel) }
 {
     match (event, way) {

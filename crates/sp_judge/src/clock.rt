@@ -1,11 +1,22 @@
 //! What a process knows of the others, as a count for each process that it knows of.
 
-ghost use Rattle.std.specs.Prelude.{◌≡◌, ◌<◌, ◌↔◌, ◌==◌, cond, max, ℕ, IsTrue, IfOk, OnOk};
-ghost use Rattle.sp_judge.specs.Clocks.{count_of};
+ghost use Rattle.std.specs.Prelude.{◌≡◌, ◌<◌, ◌↔◌, ◌==◌, cond, max, nat_lt, ℕ, IsTrue, IfOk, OnOk};
+ghost use Rattle.sp_judge.specs.Clocks.{count_of, number_at, IsAsked};
 
 use sp_base::Memory;
 use std::alloc::Global;
 use std::collections::BTreeMap;
+
+/// Whether the count of this process is asked for by an entry of index `now` or later. `until` has for each process the
+/// index after the last entry that asks for it.
+pub(crate) fn is_asked(until: &[u64], process: u32, now: u64) -> bool
+    ensures { result ≡ nat_lt now (number_at until.now process) }
+{
+    match until.get(process as usize) {
+        Some(end) => now < *end,
+        None => false,
+    }
+}
 
 /// A count for each process that has one, in order of their numbers. A process without a pair has the count 0. The
 /// count n of a process stands for its first n entries of the kinds fork, open, send, receive and end.
@@ -34,8 +45,9 @@ impl Clock {
     pub fn raise(&mut self, process: u32, count: u64) -> Result<(), Memory>
         ensures { OnOk result ((q : ℕ) → count_of self.new q ≡ cond (process == q) (max (count_of self.old q) count) (count_of self.old q)) }
     {
-        let raised = self.count(process).max(count);
-        self.counts.insert(process, raised)?;
+        if self.count(process) < count {
+            self.counts.insert(process, count)?;
+        }
         Ok(())
     }
 
@@ -46,19 +58,38 @@ impl Clock {
         self.count(process) > place
     }
 
-    /// Whether the entry of this place of this process is not known.
-    pub(crate) fn misses(&self, process: u32, place: u64) -> bool
-        ensures { IsTrue result ↔ (place < count_of self.now process → ⊥) }
-    {
-        self.count(process) <= place
-    }
-
     /// Each count becomes the greater of both clocks'. After `Memory` the clock is of no more use.
     pub fn merge(&mut self, other: &Clock) -> Result<(), Memory>
         ensures { OnOk result ((q : ℕ) → count_of self.new q ≡ max (count_of self.old q) (count_of other.now q)) }
     {
         for (process, count) in other.counts.iter() {
             self.raise(*process, *count)?;
+        }
+        Ok(())
+    }
+
+    /// Drops the counts that nobody asks for from the entry of index `now` on.
+    pub(crate) fn forget(&mut self, until: &[u64], now: u64)
+        ensures { (q : ℕ) → IsAsked until.now now q → count_of self.new q ≡ count_of self.old q }
+    {
+        self.counts
+            .retain(|process, _count| is_asked(until, *process, now));
+    }
+
+    /// Drops what nobody asks for from the entry of index `now` on, and raises the count of this process where somebody
+    /// does.
+    pub(crate) fn renew(
+        &mut self,
+        until: &[u64],
+        now: u64,
+        process: u32,
+        count: u64,
+    ) -> Result<(), Memory>
+        ensures { OnOk result ((q : ℕ) → IsAsked until.now now q → count_of self.new q ≡ cond (process == q) (max (count_of self.old q) count) (count_of self.old q)) }
+    {
+        self.forget(until, now);
+        if is_asked(until, process, now) {
+            self.raise(process, count)?;
         }
         Ok(())
     }

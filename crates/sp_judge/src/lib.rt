@@ -3,10 +3,13 @@
 
 mod bench;
 mod clock;
+mod knowing;
 mod laws;
 mod table;
 mod verdict;
 
 pub use clock::Clock;
-pub use laws::clocks_say_what_is_known;
+pub use laws::{
+    clocks_say_what_is_known, runs_are_quiet, verdicts_are_exact, verdicts_hold_of_runs,
+};
 pub use verdict::verdict_of;

@@ -1,12 +1,19 @@
 //! The clocks of all processes, by their numbers.
 
 ghost use Rattle.std.specs.Prelude.{◌≡◌, ◌<◌, ◌≤◌, ◌+◌, ◌&&◌, ◌==◌, ◌≢◌, ◌^◌, nat_le, nat_lt, cond, max, ℕ, OnOk, length};
-ghost use Rattle.sp_judge.specs.Clocks.{clock_at, met_at};
+ghost use Rattle.sp_judge.specs.Clocks.{clock_at, with_own, met_at, IsAsked};
 
 use crate::clock::Clock;
 use sp_base::Memory;
 use std::alloc::Global;
 use std::mem;
+
+/// A process that meets another one, and its count with the offer by which it does.
+#[derive(Clone, Copy)]
+pub(crate) struct Met {
+    pub(crate) process: u32,
+    pub(crate) count: u64,
+}
 
 /// The learner's clock takes in the teacher's.
 pub(crate) fn learn(
@@ -26,13 +33,20 @@ pub(crate) fn learn(
     merged
 }
 
-/// The count of this process in its own clock becomes the greater of the old one and `count`.
-pub(crate) fn raise(clocks: &mut Vec<Clock>, process: u32, count: u64) -> Result<(), Memory>
+/// The count of this process in its own clock becomes the greater of the old one and `count`, where an entry of index
+/// `now` or later asks for it. The counts of its clock that are asked for no more are dropped.
+pub(crate) fn raise(
+    clocks: &mut Vec<Clock>,
+    until: &[u64],
+    now: u64,
+    process: u32,
+    count: u64,
+) -> Result<(), Memory>
     requires { process < length clocks.old.items }
     ensures len { OnOk result (length clocks.new.items ≡ length clocks.old.items) }
-    ensures clocks { OnOk result ((p q : ℕ) → clock_at clocks.new.items p q ≡ cond (process == p) (cond (process == q) (max (clock_at clocks.old.items process q) count) (clock_at clocks.old.items process q)) (clock_at clocks.old.items p q)) }
+    ensures clocks { OnOk result ((p q : ℕ) → IsAsked until.now now q → clock_at clocks.new.items p q ≡ cond (process == p) (with_own (clock_at clocks.old.items) process count q) (clock_at clocks.old.items p q)) }
 {
-    clocks[process as usize].raise(process, count)
+    clocks[process as usize].renew(until, now, process, count)
 }
 
 /// The next `count` processes from `first` on learn what this process knows, which is none of them.
@@ -59,20 +73,20 @@ pub(crate) fn share(
 pub(crate) fn meet(
     alloc: Global,
     clocks: &mut Vec<Clock>,
-    comes: u32,
-    its: u64,
-    waits: u32,
-    theirs: u64,
+    until: &[u64],
+    now: u64,
+    comes: Met,
+    waits: Met,
 ) -> Result<(), Memory>
-    requires comes { comes < length clocks.old.items }
-    requires waits { waits < length clocks.old.items }
-    requires apart { comes ≢ waits }
+    requires comes { comes.process < length clocks.old.items }
+    requires waits { waits.process < length clocks.old.items }
+    requires apart { comes.process ≢ waits.process }
     ensures len { OnOk result (length clocks.new.items ≡ length clocks.old.items) }
-    ensures clocks { OnOk result ((p q : ℕ) → clock_at clocks.new.items p q ≡ met_at (clock_at clocks.old.items) comes its waits theirs p q) }
+    ensures clocks { OnOk result ((p q : ℕ) → IsAsked until.now now q → clock_at clocks.new.items p q ≡ met_at (clock_at clocks.old.items) comes.process comes.count waits.process waits.count p q) }
 {
-    raise(clocks, comes, its)?;
-    raise(clocks, waits, theirs)?;
-    learn(alloc, clocks, comes, waits)?;
-    learn(alloc, clocks, waits, comes)?;
+    raise(clocks, until, now, comes.process, comes.count)?;
+    raise(clocks, until, now, waits.process, waits.count)?;
+    learn(alloc, clocks, comes.process, waits.process)?;
+    learn(alloc, clocks, waits.process, comes.process)?;
     Ok(())
 }

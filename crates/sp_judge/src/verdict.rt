@@ -11,6 +11,7 @@ ghost use Rattle.sp_judge.specs.Bench.{named, offer_event, IsTame, Holds, IsRaci
 ghost use Rattle.sp_judge.specs.Races.{IsFault, IsJudged, IsVerdict};
 
 use crate::bench::{Bench, Racer};
+use crate::knowing::{first_unknown, knows_offers, questions};
 use sp_base::Memory;
 use sp_journal::{End, Entry, Event, Journal, Ledger, Verdict, Way};
 use std::alloc::Global;
@@ -49,29 +50,41 @@ fn judged_entries(alloc: Global, journal: &Journal) -> Result<Verdict, Memory>
 {
     let ledger = Ledger::of(alloc, journal)?;
     let entries = journal.entries.items();
+    let until = questions(alloc, entries, ledger.processes(), ledger.channels())?;
     let mut bench = Bench::new(alloc, ledger.processes(), ledger.channels())?;
     for at in 0..entries.len() {
-        if let Some(racer) = racing(&bench, entries, at) {
-            return race(&ledger, &bench, entries, at, racer);
+        let found = racing(&bench, &ledger, entries, &until, at)?;
+        if let Some(racer) = found {
+            return race(&ledger, &bench, entries, &until, at, racer);
         }
-        bench.see(&ledger, entries, at)?;
+        bench.see(&ledger, entries, &until, at)?;
     }
     Ok(Verdict::Ordered)
 }
 
 /// The next entry's offer, where its process does not know of an earlier one of its way on its channel.
-fn racing(bench: &Bench, entries: &[Entry], at: usize) -> Option<Racer>
+fn racing(
+    bench: &Bench,
+    ledger: &Ledger,
+    entries: &[Entry],
+    until: &[u64],
+    at: usize,
+) -> Result<Option<Racer>, Memory>
     requires tame { IsTame entries.now }
+    requires ledger { IsLedger ledger.now }
+    requires its_journal { ledger.now.journal.entries ≡ entries.now }
     requires inside { at < length entries.now }
-    requires holds { Holds (births entries.now) (take at entries.now) bench.now }
+    requires holds { Holds (births entries.now) until.now (take at entries.now) bench.now }
     requires in_order { AreKnown (named (births entries.now) (take at entries.now)) }
-    ensures { IsRacing entries.now at result }
+    ensures { IfOk result (λ racer. IsRacing entries.now at racer) }
 {
     let Entry { process, event } = entries[at];
     match event {
         Event::Send(channel) => offer_racing(
             bench,
+            ledger,
             entries,
+            until,
             at,
             Racer {
                 process,
@@ -81,7 +94,9 @@ fn racing(bench: &Bench, entries: &[Entry], at: usize) -> Option<Racer>
         ),
         Event::Receive(channel) => offer_racing(
             bench,
+            ledger,
             entries,
+            until,
             at,
             Racer {
                 process,
@@ -90,22 +105,31 @@ fn racing(bench: &Bench, entries: &[Entry], at: usize) -> Option<Racer>
             },
         ),
         Event::Fork(_) | Event::Open | Event::End | Event::Fault(_) | Event::Laid | Event::Pause =>
-            None,
+            Ok(None),
     }
 }
 
 /// This offer, where its process does not know of an earlier one.
-fn offer_racing(bench: &Bench, entries: &[Entry], at: usize, offer: Racer) -> Option<Racer>
+fn offer_racing(
+    bench: &Bench,
+    ledger: &Ledger,
+    entries: &[Entry],
+    until: &[u64],
+    at: usize,
+    offer: Racer,
+) -> Result<Option<Racer>, Memory>
     requires tame { IsTame entries.now }
-    requires holds { Holds (births entries.now) (take at entries.now) bench.now }
+    requires ledger { IsLedger ledger.now }
+    requires its_journal { ledger.now.journal.entries ≡ entries.now }
+    requires holds { Holds (births entries.now) until.now (take at entries.now) bench.now }
     requires here { slice_get entries.now at ≡ Some (record { process = offer.process; event = offer_event offer.way offer.channel }) }
     requires in_order { AreKnown (named (births entries.now) (take at entries.now)) }
-    ensures { IsRacing entries.now at result }
+    ensures { IfOk result (λ racer. IsRacing entries.now at racer) }
 {
-    if bench.knows_offers(entries, at, offer.process, offer.way, offer.channel) {
-        None
+    if knows_offers(bench, ledger, entries, until, at, offer)? {
+        Ok(None)
     } else {
-        Some(offer)
+        Ok(Some(offer))
     }
 }
 
@@ -114,18 +138,20 @@ fn race(
     ledger: &Ledger,
     bench: &Bench,
     entries: &[Entry],
+    until: &[u64],
     at: usize,
     racer: Racer,
 ) -> Result<Verdict, Memory>
     requires tame { IsTame entries.now }
     requires ledger { IsLedger ledger.now }
     requires its_journal { ledger.now.journal.entries ≡ entries.now }
-    requires holds { Holds (births entries.now) (take at entries.now) bench.now }
+    requires holds { Holds (births entries.now) until.now (take at entries.now) bench.now }
     requires in_order { AreKnown (named (births entries.now) (take at entries.now)) }
     requires racing { IsRacing entries.now at (Some racer) }
     ensures { IfOk result (λ verdict. IsJudged (named (births entries.now) entries.now) verdict) }
 {
-    match bench.first_unknown(entries, at, racer.process, racer.way, racer.channel) {
+    let first = first_unknown(ledger, bench, entries, until, at, racer)?;
+    match first {
         None => Ok(Verdict::Ordered),
         Some(earlier) => Ok(Verdict::Race {
             way: racer.way,

@@ -9,7 +9,7 @@ use Rattle.sp_tree.specs.Uses.{Use, Aims, Sees, In_stmt}
 use Rattle.sp_tree.specs.Sets.{IsTarget, IsUsed}
 use Rattle.sp_cell.specs.declared.spot.Spot.{Spot}
 use Rattle.sp_cell.specs.declared.spot.Handing.{Handing}
-use Rattle.sp_cell.specs.Fork.{index_frame, handed, moved_of, shared_of}
+use Rattle.sp_cell.specs.Fork.{index_frame, away, handed, moved_of, shared_of}
 use Rattle.sp_cell.specs.Map.{Plain, output_spot}
 use Rattle.sp_cell.specs.Spots.{In, NotIn}
 use Rattle.sp_meaning.specs.Model.{Name, Absent}
@@ -37,7 +37,7 @@ use Rattle.sp_codegen.proofs.Begins.{child_begins}
 use Rattle.sp_codegen.proofs.Birth.{low_small}
 use Rattle.sp_codegen.proofs.Born.{ChildIs, Seen, child_follows}
 use Rattle.sp_codegen.proofs.Handed.{in_spots, found_at, is_input, console_only, moved_aimed, moved_known, output_handed, right_of, MovedStands, moved_stands, no_console_spot, no_index_spot, index_no_console}
-use Rattle.sp_cell.specs.Plan.{in_or}
+use Rattle.sp_cell.specs.Plan.{in_or, get_away_in, get_lent_out}
 use Rattle.sp_tree.specs.Formed.{IsFormedUse}
 use Rattle.sp_tree.specs.Sets.{Reach}
 use Rattle.sp_codegen.specs.Standing.{Live, spot_at}
@@ -213,7 +213,9 @@ module _ (G : Ground) (lf : Life) (kids : ℕ → ℕ → Life) (q : Name) (f : 
     (pc : ℕ) (stack : List Entry) (follows : Fo G lf kids q f next.who named since pc stack js next.todo)
     (hs : List Handing) (known : (a : Spot) → In a (moved_of hs) ⊎ In a (shared_of hs) → IsSome (fin.get m.store.map a)) (dry : Mine q Output ⊎ lf.R Output → NotIn output_spot (shared_of hs))
     (some : 1 ≤ n) (living : (j : ℕ) → j < n → has_ended (s.condition ((k, j) ∷ q)) ≡ false) (born : (j : ℕ) → j < n → s.condition ((k, j) ∷ q) ≢ Absent) (parts : (a : Spot) → In a (moved_of hs) → (j : ℕ) × (j < n) × In a (kids k j).moved)
-    (children : (j : ℕ) → j < n → Handed G lf kids q js m (kids k j) ((k, j) ∷ q)) where
+    (children : (j : ℕ) → j < n → Handed G lf kids q js m (kids k j) ((k, j) ∷ q))
+    (back : (j : ℕ) → j < n → (a : Spot) → In a (kids k j).moved → In a (moved_of hs)) (unshared : (a : Spot) → In a (moved_of hs) → NotIn a (shared_of hs))
+    (parted : (i j : ℕ) → i < n → j < n → i ≢ j → (a : Spot) → In a (kids k i).moved → In a (kids k j).moved → ⊥) where
   all_left : (a : ℕ) → a ≤ n → left_of G lf kids q s.condition k a ≡ a
   all_left zero h = refl
   all_left (suc a) h =
@@ -237,4 +239,6 @@ module _ (G : Ground) (lf : Life) (kids : ℕ → ℕ → Life) (q : Name) (f : 
     some = some;
     there = born;
     children = λ j h. children j h.0;
+    gone = λ i h a e. get_lent_out m.store.map (shared_of hs) (away m.store.map (moved_of hs)) a (unshared a (back i h.0 a e)) ∙ get_away_in m.store.map (moved_of hs) a (back i h.0 a e);
+    parted = λ i j h g. parted i j h.0 g.0;
   }

@@ -12,7 +12,7 @@ use Rattle.sp_tree.specs.Uses.{Use, Aims, Sees, Runs, Splits, Spreads, Stops, In
 use Rattle.sp_cell.specs.declared.spot.Spot.{Spot}
 use Rattle.sp_cell.specs.declared.spot.Handing.{Handing}
 use Rattle.sp_cell.specs.Fork.{index_frame}
-use Rattle.sp_cell.specs.Map.{Plain, output_spot}
+use Rattle.sp_cell.specs.Map.{Plain, IsPiece, output_spot}
 use Rattle.sp_cell.specs.Plan.{in_or}
 use Rattle.sp_cell.specs.Spots.{In}
 use Rattle.sp_meaning.specs.Model.{Name}
@@ -41,11 +41,12 @@ use Rattle.sp_codegen.specs.Standing.{Stand, spot_at}
 use Rattle.sp_codegen.proofs.Begins.{index_child_begins}
 use Rattle.sp_codegen.proofs.Birth.{low_small}
 use Rattle.sp_codegen.proofs.Born.{child_follows}
-use Rattle.sp_codegen.proofs.Handed.{MovedStands, moved_stands, shared_known, output_unshared}
+use Rattle.sp_codegen.proofs.Handed.{MovedStands, moved_stands, shared_piece, output_unshared}
 use Rattle.sp_codegen.proofs.Owners.{within_at}
 use Rattle.sp_link.proofs.ChildrenStand.{memory_in, reached_formed, consoles}
 use Rattle.sp_link.proofs.Relation.{Ground, Life, Called, Named, Fresh, St, Stands, Handed, execution, run_is}
 use Rattle.sp_link.proofs.Scoping.{is_scoped}
+use Rattle.sp_link.proofs.Splits.{piece_known}
 
 module _ (G : Ground) (lf : Life) (kids : ℕ → ℕ → Life) (q : Name) where
   abbrev Wr : Loc → Type 0
@@ -127,10 +128,13 @@ module _ (G : Ground) (lf : Life) (kids : ℕ → ℕ → Life) (q : Name) where
     index_held : (y up : ℕ) → (Some x ≡ Some y → ⊥) → In_stmt st (Sees y) → level (is_index y) sc ≡ Some up → (k : Joint) (rest : List Joint) → Rattle.sp_codegen.specs.Joints.up_at up js ≡ k ∷ rest → lf.J (length rest)
     index_held y up other a l k rest e = pl.indexes y up (inr (inr (inr (inl (a, λ h. other (ap Some h)))))) l k rest e
 
-    -- what it shares is there
-    pub shares_known : (a : Spot) → In a handing.shared → IsSome (fin.get n.store.map a)
-    shares_known a h = shared_known G.g G.code w (Named G) (Called G) Wr Rd lf.J lf.low (length lf.below) lf.born since G.pause lf.moved G.formed G.laid G.free f.reads G.moves G.shares G.sets t st sound unread child new_name table refl refl value j
+    -- of what it shares its parent has pieces
+    pub shares_piece : (a : Spot) → In a handing.shared → IsPiece (fin.get n.store.map a)
+    shares_piece a h = shared_piece G.g G.code w (Named G) (Called G) Wr Rd lf.J lf.low (length lf.below) lf.born since G.pause lf.moved G.formed G.laid G.free f.reads G.moves G.shares G.sets t st sound unread child new_name table refl refl value j
         (consoles G lf kids q) sc pl.chain index_held in_scope a h
+
+    pub shares_known : (a : Spot) → In a handing.shared → IsSome (fin.get n.store.map a)
+    shares_known a h = piece_known (fin.get n.store.map a) (shares_piece a h)
 
     pub output_stays : Rd Output → In output_spot handing.shared → ⊥
     output_stays may h = output_unshared G.g G.code w (Named G) (Called G) Wr Rd lf.J lf.low (length lf.below) lf.born since G.pause lf.moved G.formed G.laid G.free f.reads G.moves G.shares G.sets t st sound unread child new_name table refl refl value j

@@ -9,7 +9,7 @@ use Rattle.sp_tree.specs.Uses.{Spreads}
 use Rattle.sp_cell.specs.declared.spot.Spot.{Spot}
 use Rattle.sp_cell.specs.declared.spot.Handing.{Handing}
 use Rattle.sp_cell.specs.Fork.{index_frame, moved_of, shared_of}
-use Rattle.sp_cell.specs.Map.{Plain, output_spot}
+use Rattle.sp_cell.specs.Map.{Plain, IsPiece, output_spot}
 use Rattle.sp_cell.specs.Plan.{in_or}
 use Rattle.sp_cell.specs.Spots.{In, NotIn}
 use Rattle.sp_meaning.specs.Model.{Name}
@@ -31,10 +31,12 @@ use Rattle.sp_code.specs.Memory as mem
 use Rattle.sp_code.specs.Places.{after}
 use Rattle.sp_code.specs.PlainStore.{plain}
 use Rattle.sp_code.specs.Scopes.{Scope}
+use Rattle.sp_code.specs.Sound.{CanSplit}
 use Rattle.sp_code.specs.Scopes as places
 use Rattle.sp_code.specs.Tables.{child_at}
 use Rattle.sp_code.specs.System.{System, handing_of, child_or, table_or}
 use Rattle.sp_code.specs.System as sys
+use Rattle.sp_codegen.proofs.Numbers.{next_small}
 use Rattle.sp_codegen.specs.Following.{ForallIs}
 use Rattle.sp_codegen.specs.Joints.{Joint, sources}
 use Rattle.sp_codegen.specs.Lives.{Seen}
@@ -43,7 +45,7 @@ use Rattle.sp_codegen.proofs.Joints.{sources_length}
 use Rattle.sp_link.proofs.EachStands as each
 use Rattle.sp_link.proofs.Forks as fk
 use Rattle.sp_link.proofs.OneChanges.{q, pr}
-use Rattle.sp_link.proofs.Parallels.{moved_by, shared_by}
+use Rattle.sp_link.proofs.Plans.{none_distinct, moved_by, shared_by}
 use Rattle.sp_link.proofs.Pauses.{Entry_of, Meant, Machined, Kept_to, kids}
 use Rattle.sp_link.proofs.Relation.{Ground, Life, Lives, W_of, R_of, Called, Fresh, Stands, Handed, St, Linked, execution, run_is}
 
@@ -98,7 +100,7 @@ module _ (G : Ground) (lv : Lives G) (c : Course) (s : StateOf G.g) (u : System 
   abbrev st : Stmt
   st = h.3
 
-  abbrev lo : ℤ
+  abbrev pub lo : ℤ
   lo = h.4
 
   abbrev entry : ℕ
@@ -114,19 +116,19 @@ module _ (G : Ground) (lv : Lives G) (c : Course) (s : StateOf G.g) (u : System 
   abbrev range : ℕ
   range = nat_abs ((h.5 -ℤ lo) +ℤ pos 1)
 
-  abbrev n : ℕ
+  abbrev pub n : ℕ
   n = values_in lo h.5
 
   length_is : length bs ≡ range
   length_is = ap (λ b. length b) h.11 ∙ indexed_length ix st lo range
 
-  some : 1 ≤ length bs
+  pub some : 1 ≤ length bs
   some = let a = some_value lo h.5 h.12 in omega (arith, a, length_is)
 
   abbrev k : ℕ
   k = x.at.forks v
 
-  abbrev n1 : Memory Plain
+  abbrev pub n1 : Memory Plain
   n1 = record (t.2) { since = (t.2).ticks }
 
   abbrev w1 : Who
@@ -238,6 +240,9 @@ module _ (G : Ground) (lv : Lives G) (c : Course) (s : StateOf G.g) (u : System 
       shares_known : (a : Spot) → In a (handing_at j).shared → IsSome (fin.get n1.store.map a)
       shares_known a f = each.shares_known G (lv v) more v fresh stood may_fork ix h.1 h.2 st sc h.15 entry h.13 h.14 ((k, j) ∷ v) (longer j) lo j a f
 
+      shares_piece : (a : Spot) → In a (handing_at j).shared → IsPiece (fin.get n1.store.map a)
+      shares_piece a f = each.shares_piece G (lv v) more v fresh stood may_fork ix h.1 h.2 st sc h.15 entry h.13 h.14 ((k, j) ∷ v) (longer j) lo j a f
+
       output_stays : All (R_of G lv) v Output → In output_spot (handing_at j).shared → ⊥
       output_stays may f = each.output_stays G (lv v) more v fresh stood may_fork ix h.1 h.2 st sc h.15 entry h.13 h.14 ((k, j) ∷ v) (longer j) lo j may f
 
@@ -266,7 +271,7 @@ module _ (G : Ground) (lv : Lives G) (c : Course) (s : StateOf G.g) (u : System 
   abbrev none : ℕ → ℕ → Life
   none a b = lv ((a, b) ∷ v)
 
-  abbrev hs : List Handing
+  abbrev pub hs : List Handing
   hs = fk.hs G lv c s u l i d at_i z bs todo o m x t y quiet h.6 lo n h.9 some
 
   -- nothing moves
@@ -289,6 +294,21 @@ module _ (G : Ground) (lv : Lives G) (c : Course) (s : StateOf G.g) (u : System 
           let w = shared_by G.code.layouts n1.frames (table_or (slice_get G.code.forks h.6)) lo n output_spot g in
           output_stays none w.0 may (subst (λ tb. In output_spot (handing_of G.code.layouts n1.frames lo w.0 tb).shared) (table_is w.0) w.2)
 
+  -- ---- what it hands over
+
+  pub can_split : CanSplit n1.store hs
+  can_split = record {
+    held = λ a g. absurd (unmoved a g);
+    pieces = λ a g.
+        (let w = shared_by G.code.layouts n1.frames (table_or (slice_get G.code.forks h.6)) lo n a g in
+        shares_piece none w.0 a (subst (λ tb. In a (handing_of G.code.layouts n1.frames lo w.0 tb).shared) (table_is w.0) w.2));
+    distinct = none_distinct (moved_of hs) unmoved;
+    apart = λ a g. absurd (unmoved a g);
+    number = λ g.
+        (let a = next_small n1.store (lv v).low (length (lv v).below) t.3 stood.own_frames stood.counts stood.known in
+        let b = stood.deep in let e = stood.shallow in let r = G.limits.depth in let w = z.fresh.low_small in let b0 = stood.above_base in omega (arith, a, b, e, r, w, b0));
+  }
+
   pub forall_entry : Entry_of G c s u i d
   forall_entry = by (nat_lt G.g.limits.entries (u.entries + 1)) (nat_lt G.g.limits.processes (u.births.processes + n)) refl refl
     where
@@ -306,8 +326,12 @@ module _ (G : Ground) (lv : Lives G) (c : Course) (s : StateOf G.g) (u : System 
       few : length bs ≡ n → (j : ℕ) → j < n → j < range
       few e j lt = omega (arith, e, lt, length_is)
 
+      unmoving : length bs ≡ n → (j : ℕ) → j < n → (a : Spot) → In a (new_life j).moved → ⊥
+      unmoving e j lt a g = nothing_moves none j a (subst (λ (lf : Life). In a lf.moved) (life_is j (few e j lt)) g)
+
       by : (e1 e2 : Bool) → nat_lt G.g.limits.entries (u.entries + 1) ≡ e1 → nat_lt G.g.limits.processes (u.births.processes + n) ≡ e2 → Entry_of G c s u i d
       by true e2 h1 h2 = fk.over_entry G lv c s u l i d at_i z bs todo o m x t y quiet h.6 lo n h.9 some h1
       by false true h1 h2 = fk.many_entry G lv c s u l i d at_i z bs todo o m x t y quiet h.6 lo n h.9 some h1 (both_many h2) h2
       by false false h1 h2 = fk.fork_entry G lv c s u l i d at_i z bs todo o m x t y quiet h.6 lo n h.9 some h1 h2 (count_is h2) (copies range st) born new_life to_w from_w to_r from_r known dry (λ a g. absurd (unmoved a g))
+          (λ j lt a g. absurd (unmoving (count_is h2) j lt a g)) (λ a g. absurd (unmoved a g)) (λ a b la lb ne e g k1. unmoving (count_is h2) a la e g)
           (λ more j lt. kept_of_it more j (few (count_is h2) j lt)) (λ more j lt b e called. it_stands none j (few (count_is h2) j lt) b e called more)

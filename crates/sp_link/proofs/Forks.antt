@@ -284,6 +284,8 @@ module _ (G : Ground) (lv : Lives G) (c : Course) (s : StateOf G.g) (u : System 
       (to_w : (b : ℕ) (a : Loc) → AimedAt G.g.program (λ a. All (W_of G lv) v a) (λ a. All (R_of G lv) v a) o.frames (slice_get stmts b) a → (new_life b).W a) (from_w : (b : ℕ) (a : Loc) → (new_life b).W a → AimedAt G.g.program (λ a. All (W_of G lv) v a) (λ a. All (R_of G lv) v a) o.frames (slice_get stmts b) a)
       (to_r : (b : ℕ) (a : Loc) → UsedAt G.g.program (λ a. All (W_of G lv) v a) (λ a. All (R_of G lv) v a) o.frames (slice_get stmts b) a → (new_life b).R a) (from_r : (b : ℕ) (a : Loc) → (new_life b).R a → UsedAt G.g.program (λ a. All (W_of G lv) v a) (λ a. All (R_of G lv) v a) o.frames (slice_get stmts b) a)
       (known : (a : Spot) → In a (moved_of hs) ⊎ In a (shared_of hs) → IsSome (fin.get n1.store.map a)) (dry : All (R_of G lv) v Output → NotIn output_spot (shared_of hs)) (parts : (a : Spot) → In a (moved_of hs) → (j : ℕ) × (j < n) × In a (new_life j).moved)
+      (gives : (j : ℕ) → j < n → (a : Spot) → In a (new_life j).moved → In a (moved_of hs)) (unshared : (a : Spot) → In a (moved_of hs) → NotIn a (shared_of hs))
+      (parted : (a b : ℕ) → a < n → b < n → a ≢ b → (e : Spot) → In e (new_life a).moved → In e (new_life b).moved → ⊥)
       (handed : (more : ℕ → ℕ → Life) (j : ℕ) → j < n → Handed G (lv v) more v t.3 n1 (new_life j) ((k, j) ∷ v))
       (children : (more : ℕ → ℕ → Life) (j : ℕ) → j < n → (b : Birth) → slice_get bs j ≡ Some b → Rattle.sp_link.proofs.Relation.Called G ((k, j) ∷ v) (u.births.processes + j)
       → Stands G (new_life j) more ((k, j) ∷ v) 0 (newborn x.left.who o j b) x.at.store (child_of (u.births.processes + j) j)) where
@@ -486,6 +488,8 @@ module _ (G : Ground) (lv : Lives G) (c : Course) (s : StateOf G.g) (u : System 
         (λ j lt e. (let p = at_place j lt in subst (λ b. IsLive b) (sym (cond_child j p.0 p.1) ∙ e) tt))
         (λ a h. (let w = parts a h in (w.0, w.1, subst (λ (lf : Life). In a lf.moved) (sym (lv1_child w.0)) w.2)))
         (λ j lt. subst (λ (lf : Life). Handed G (lv v) kids1 v t.3 n1 lf ((k, j) ∷ v)) (sym (lv1_child j)) (handed kids1 j lt))
+        (λ j lt a h. gives j lt a (subst (λ (lf : Life). In a lf.moved) (lv1_child j) h)) unshared
+        (λ a b la lb ne e h g. parted a b la lb ne e (subst (λ (lf : Life). In e lf.moved) (lv1_child a) h) (subst (λ (lf : Life). In e lf.moved) (lv1_child b) g))
 
     parent_does : Does_all G lv1 v c1 t1 (u.births.opens i) (sys.Joins n left_it)
     parent_does = subst (λ (lf : Life). Does G lf kids1 v c1 t1 (u.births.opens i) (sys.Joins n left_it)) (sym (lv1_other v (present G lv c s u l i d at_i)))

@@ -1,3 +1,4 @@
+pub mod Plans
 pub mod Relation
 pub mod Journal
 pub mod SourceTurns
@@ -13,6 +14,7 @@ pub mod KernelSteps
 pub mod Rejoins
 pub mod Forks
 pub mod Scoping
+pub mod Splits
 pub mod Parallels
 pub mod Foralls
 pub mod Opens
@@ -38,3 +40,12 @@ pub mod AtOffer
 pub mod OffersWait
 pub mod OffersMeet
 pub mod Offers
+pub mod Ranks
+pub mod SafeSteps
+pub mod Soundness
+pub mod FaultEntries
+pub mod Waiters
+pub mod Endings
+pub mod Histories
+pub mod NameOrder
+pub mod Contention

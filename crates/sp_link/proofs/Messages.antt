@@ -1,24 +1,31 @@
 -- A message goes over: what is sent, in cells, is of its type (`sent_flat`), and the receiver stands with it (`receiver_stands`).
-use Rattle.std.proofs.Common.{◌≡◌, ◌⊎◌, ℕ, List, length, refl, sym, ap, subst}
+use Rattle.std.proofs.Common.{◌≡◌, ◌⊎◌, ℕ, ◌+◌, ◌<◌, ◌≤◌, List, length, Option, Some, None, true, refl, sym, ap, ◌∙◌, subst, arith}
+use Rattle.std.specs.FinMap as fin
 use Rattle.sp_cell.specs.declared.cell.Cell.{Cell as OneCell}
-use Rattle.sp_cell.specs.Map.{Plain}
+use Rattle.sp_cell.specs.declared.spot.Spot.{Spot}
+use Rattle.sp_cell.specs.declared.spot.Address.{Address as Ptr}
+use Rattle.sp_cell.specs.Laws.{get_here}
+use Rattle.sp_cell.specs.Map.{Content, Own as Owned, Shared, Output as Bytes, Away, Plain, IsOwn, IsPiece, HasCells, cells_of}
 use Rattle.sp_meaning.specs.Maps.{at_key}
 use Rattle.sp_meaning.specs.Model.{Name, Channel, Takes}
 use Rattle.sp_meaning.specs.Values.{Value, Ordinal, Chan}
-use Rattle.sp_meaning.specs.Own.{Tree, Address, Process, Who, assigned, same_loc}
+use Rattle.sp_meaning.specs.Own.{Tree, Address, Own, Process, Who, assigned, same_loc}
 use Rattle.sp_meaning.specs.Run.{Store}
 use Rattle.sp_meaning.proofs.Rights.{Mine}
-use Rattle.sp_code.specs.Machine.{Config, Entry, Stop}
-use Rattle.sp_code.specs.Memory.{Memory, put_cells}
-use Rattle.sp_code.specs.PlainStore.{plain}
-use Rattle.sp_code.specs.Scopes.{Sort, Ordinals, Channels, Many, NoSort, sort}
+use Rattle.sp_code.specs.Machine.{Config, At, Entry, Stop, Forks, Opens, Sends, Receives, Ends, Pauses}
+use Rattle.sp_code.specs.Memory.{Memory, put_cells, cells_at, has_cells}
+use Rattle.sp_code.specs.PlainStore.{plain, piece_of}
+use Rattle.sp_code.specs.Scopes.{Sort, Ordinals, Channels, Many, NoSort, sort, size}
 use Rattle.sp_code.specs.System.{on_store}
 use Rattle.sp_codegen.specs.Relation.{Stood}
-use Rattle.sp_codegen.specs.Shapes.{Flat, SameShape}
-use Rattle.sp_codegen.specs.Following.{cells_in}
-use Rattle.sp_codegen.proofs.Reading.{simple_value}
+use Rattle.sp_codegen.specs.Joints.{Joint}
+use Rattle.sp_codegen.specs.Shapes.{Flat, SameShape, leaves}
+use Rattle.sp_codegen.specs.Following.{IsOwned, cells_in}
+use Rattle.sp_codegen.specs.Standing.{PointsTo}
+use Rattle.sp_codegen.proofs.Reading.{simple_value, has_all, shaped_size}
+use Rattle.sp_codegen.proofs.Shapes.{cells_length}
 use Rattle.sp_codegen.proofs.Writing.{put_cells_law}
-use Rattle.sp_link.proofs.Relation.{Ground, Life, Called, Named, Rel, Stands, Ca}
+use Rattle.sp_link.proofs.Relation.{Ground, Life, Called, Named, Rel, St, Stands, Ca, Ready, ops}
 
 module _ (G : Ground) (lf : Life) (kids : ℕ → ℕ → Life) (q : Name) where
   -- what is sent, in cells
@@ -47,3 +54,35 @@ module _ (G : Ground) (lf : Life) (kids : ℕ → ℕ → Life) (q : Name) where
     stand = put_cells_law G.g G.code pr.who (Named G) (Called G) (λ l. Mine q l ⊎ lf.W l) (λ l. Mine q l ⊎ lf.R l) lf.J lf.low (length lf.below) lf.born since G.pause lf.moved G.formed t.stand a x.1 x.5 x.6 v ds (subst (λ y. Flat G.g.program (Named G) y v ds) (sym x.4) f);
     follows = t.follows;
   }
+
+-- a piece that is made the process's own is its own
+own_here : (n : Memory Plain) (a : Spot) (cs : List OneCell) → IsOwn (fin.get (plain.owned n.store a cs).map a)
+own_here n a cs = subst (λ c. IsOwn c) (sym (get_here n.store.map a (Owned cs))) tt
+
+-- a receiver at its stop
+pub owned_ready : (G : Ground) (z : Stop) (pc : ℕ) (st : List Entry) (n : Memory Plain) → IsOwned (ops G) z n → Ready z (At pc st (record n { since = n.ticks }))
+owned_ready G (Forks tb val k) pc st n h = tt
+owned_ready G (Opens a) pc st n h = tt
+owned_ready G (Sends ch k cs) pc st n h = tt
+owned_ready G (Receives ch k a) pc st n h = subst (λ (y : Memory Plain). IsOwn (fin.get y.store.map a.spot)) (sym h.1) (own_here h.0 a.spot (cells_at plain (h.0).store a.spot))
+owned_ready G Ends pc st n h = tt
+owned_ready G Pauses pc st n h = tt
+
+-- ---- room for a message
+
+in_piece : (c : Option Content) (offset k : ℕ) → has_cells (piece_of c) offset k ≡ true → IsPiece c × (offset + k ≤ length (cells_of c))
+in_piece None offset k e = absurd (cc e)
+in_piece (Some (Owned cs)) offset k e = (tt, Prim.grind (arith, e))
+in_piece (Some (Shared cs)) offset k e = (tt, Prim.grind (arith, e))
+in_piece (Some (Bytes bs)) offset k e = absurd (cc e)
+in_piece (Some Away) offset k e = absurd (cc e)
+
+module _ (G : Ground) (lf : Life) (kids : ℕ → ℕ → Life) (q : Name) where
+  -- where a message of type k goes there is room for it
+  pub room : {w : Who} {since : ℕ} {js : List Joint} {o : Own} {s : Store} {n : Memory Plain} → St G lf kids q w since js o s n → (a : Address) (t : Ptr) → PointsTo G.g.program js a t → Mine q a.spot ⊎ lf.R a.spot → HasCells n.store.map t (size G.g.program a.kind)
+  room {w} {since} {js} {o} {s} {n} st a t p may = in_piece (fin.get n.store.map t.spot) t.offset (size G.g.program a.kind)
+      (has_all G.g G.code w (Named G) (Called G) (λ l. Mine q l ⊎ lf.W l) (λ l. Mine q l ⊎ lf.R l) lf.J lf.low (length lf.below) lf.born since G.pause lf.moved G.formed st a t p may)
+
+-- a message is as long as its type
+pub message_length : (G : Ground) (k : ℕ) → k < length G.g.program.kinds → (v : Value) (cs : List OneCell) → Flat G.g.program (Named G) k v cs → length cs ≡ size G.g.program k
+message_length G k lt v cs f = sym (cells_length (Named G) (leaves v) cs f.1) ∙ shaped_size G.g.program G.formed k lt v f.0

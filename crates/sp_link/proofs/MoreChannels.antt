@@ -158,13 +158,15 @@ module _ (G : Ground) where
       some = z.some;
       there = z.there;
       children = λ i h. handed_more z.js z.memory (kids k i) ((k, i) ∷ q) (z.children i h);
+      gone = z.gone;
+      parted = z.parted;
     }
 
     -- whatever it does
     pub does_more : (c : Course) (s : StateOf G.g) (opens : ℕ) (x : sys.Condition Plain) → Does G lf kids q c s opens x → Does (one_more G) lf kids q c s opens x
     does_more c s opens sys.Absent h = h
     does_more c s opens (sys.Runs d) h = (h.0, h.1, ⊎_elim (λ z. inl (stands_more (c.since q) h.0 s.store d z)) (λ z. inr z) h.2, h.3, h.4)
-    does_more c s opens (sys.Waits y d) h = (h.0, h.1, stands_more (c.since q) (h.0).next s.store d h.2, cargo_more (h.2).fresh (h.0).next.who (h.2).named (c.since q) (h.2).js (h.0).channel (h.0).kind (h.0).cargo y h.3, h.4, h.5)
+    does_more c s opens (sys.Waits y d) h = (h.0, h.1, stands_more (c.since q) (h.0).next s.store d h.2, cargo_more (h.2).fresh (h.0).next.who (h.2).named (c.since q) (h.2).js (h.0).channel (h.0).kind (h.0).cargo y h.3, h.4, h.5, h.6)
     does_more c s opens (sys.Joins left d) h = (h.0, h.1, h.2, h.3, joined_more (c.since q) h.0 h.1 left h.2 s d h.4, h.5, h.6)
     does_more c s opens (sys.Laid d) h = h
     does_more c s opens sys.Gone h = h

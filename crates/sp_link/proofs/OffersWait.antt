@@ -36,6 +36,7 @@ use Rattle.sp_code.specs.Memory.{Memory}
 use Rattle.sp_code.specs.PlainStore.{plain}
 use Rattle.sp_code.specs.System.{System, after, event_of, entered_now, rejoined, reported, becomes}
 use Rattle.sp_code.specs.System as sys
+use Rattle.sp_link.proofs.Messages.{owned_ready}
 use Rattle.sp_link.proofs.Journal.{Way_on, IsOpen, now_by}
 use Rattle.sp_link.proofs.KernelSteps.{kernel_next, kernel_says, stand_dead}
 use Rattle.sp_link.proofs.OneChanges.{its, here, number_or, inv_local}
@@ -159,7 +160,7 @@ module _ (G : Ground) (lv : Lives G) (c : Course) (s : StateOf G.g) (u : System 
   cargo = cargo_again G (lv v) (λ a b. lv ((a, b) ∷ v)) v z.fresh z.fresh (p1 G lv c s u l i d at_i).who x.left.who z.named name_is (c.since v) (c1.since v) t.3 ch kd cg t.5 t.9
 
   its_does : Does_all G lv v c1 t1 (u.births.opens i) (sys.Waits t.5 there)
-  its_does = (off, waits, stands, cargo, ap (λ (a : Rattle.sp_meaning.specs.Own.Who). a.opens) x.who_is ∙ (its G lv c s u l i d at_i).3, (its G lv c s u l i d at_i).4)
+  its_does = (off, waits, stands, cargo, ap (λ (a : Rattle.sp_meaning.specs.Own.Who). a.opens) x.who_is ∙ (its G lv c s u l i d at_i).3, (its G lv c s u l i d at_i).4, owned_ready G t.5 t.0 t.1 t.2 t.12)
 
   -- ---- the machine
 

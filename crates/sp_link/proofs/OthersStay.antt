@@ -139,6 +139,8 @@ module _ (G : Ground) (lv : Lives G) (s t : StateOf G.g) (sound : Sound s) (fair
         some = z.some;
         there = λ i h. present k i (z.there i h);
         children = λ i h. z.children i (back i h);
+        gone = λ i h. z.gone i (back i h);
+        parted = λ i j h g. z.parted i j (back i h) (back j g);
       }
 
     -- whatever it does
@@ -147,7 +149,7 @@ module _ (G : Ground) (lv : Lives G) (s t : StateOf G.g) (sound : Sound s) (fair
     does_stay c c1 si la fa opens (sys.Runs d) h =
         (h.0, working_same h.0 h.1, ⊎_elim (λ z. inl (subst (λ y. Stands G (lv r) kids r y h.0 t.store d) (sym si) (stands_stay (c.since r) h.0 d (inl (h.0, h.1)) z))) (λ z. inr (z.0, z.1, z.2, z.3, z.4, told_stay d (unread (inl (h.0, h.1)) Output) z.5)) h.2, h.3, la ∙ h.4)
     does_stay c c1 si la fa opens (sys.Waits y d) h =
-        (h.0, same ∙ h.1, z.0, z.1, h.4, la ∙ h.5)
+        (h.0, same ∙ h.1, z.0, z.1, h.4, la ∙ h.5, h.6)
       where
         both : (a : ℕ) → a ≡ c.since r → (b : Stands G (lv r) kids r a (h.0).next t.store d) × Rattle.sp_link.proofs.Relation.Ca G (lv r) kids r b.fresh (h.0).next.who b.named a b.js (h.0).channel (h.0).kind (h.0).cargo y
         both a e = subst (λ a. (b : Stands G (lv r) kids r a (h.0).next t.store d) × Rattle.sp_link.proofs.Relation.Ca G (lv r) kids r b.fresh (h.0).next.who b.named a b.js (h.0).channel (h.0).kind (h.0).cargo y) (sym e)

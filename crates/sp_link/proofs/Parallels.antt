@@ -1,6 +1,6 @@
 -- A parallel statement forks: each child has a life by its statement and its place in the code, stands as it is born, and its parent
 -- keeps of it what the join will need (`parallel_entry`).
-use Rattle.std.proofs.Common.{◌≡◌, ◌⊎◌, inl, inr, ⊎_elim, ℕ, zero, suc, ◌+◌, ◌<◌, ◌≤◌, ℤ, List, [], ◌∷◌, ◌++◌, length, Option, Some, None, Bool, true, false, refl, sym, ap, ◌∙◌, subst, arith}
+use Rattle.std.proofs.Common.{◌≡◌, ◌⊎◌, inl, inr, ⊎_elim, ℕ, zero, suc, ◌+◌, ◌<◌, ◌≤◌, List, [], ◌∷◌, length, Option, Some, None, Bool, true, false, refl, sym, ap, ◌∙◌, subst, arith}
 use Rattle.std.specs.Prelude.{◌≢◌, nat_lt, pos, IsSome, slice_get}
 use Rattle.std.specs.FinMap as fin
 use Rattle.sp_tree.specs.Plain.{Program, Stmt, Stmts, No, And}
@@ -8,7 +8,7 @@ use Rattle.sp_tree.specs.Uses.{Sees, Splits}
 use Rattle.sp_cell.specs.declared.spot.Spot.{Spot}
 use Rattle.sp_cell.specs.declared.spot.Handing.{Handing}
 use Rattle.sp_cell.specs.Fork.{index_frame, moved_of, shared_of}
-use Rattle.sp_cell.specs.Map.{Plain, output_spot}
+use Rattle.sp_cell.specs.Map.{Plain, IsPiece, output_spot}
 use Rattle.sp_cell.specs.Plan.{in_or}
 use Rattle.sp_cell.specs.Spots.{In, NotIn}
 use Rattle.sp_meaning.specs.Model.{Name}
@@ -24,13 +24,12 @@ use Rattle.sp_meaning.proofs.Deeding.{list_of, born_of}
 use Rattle.sp_meaning.proofs.Rights.{All, Mine}
 use Rattle.sp_meaning.proofs.Within.{part}
 use Rattle.sp_code.specs.declared.code.ForkTable.{ForkTable}
-use Rattle.sp_code.specs.declared.code.Layout.{Layout}
 use Rattle.sp_code.specs.Machine.{Config, At}
 use Rattle.sp_code.specs.Memory.{Memory}
-use Rattle.sp_code.specs.Memory as mem
 use Rattle.sp_code.specs.PlainStore.{plain}
 use Rattle.sp_code.specs.Places.{after}
 use Rattle.sp_code.specs.Scopes.{Scope}
+use Rattle.sp_code.specs.Sound.{CanSplit}
 use Rattle.sp_code.specs.Emitted.{children_tables, child_table}
 use Rattle.sp_code.specs.Stands.{Stands as StandsIn, HasFork, HasWords, ChildrenAt}
 use Rattle.sp_code.specs.Tables.{child_at}
@@ -39,57 +38,15 @@ use Rattle.sp_code.specs.System as sys
 use Rattle.sp_codegen.specs.Following.{ParallelIs}
 use Rattle.sp_codegen.specs.Joints.{sources}
 use Rattle.sp_codegen.proofs.Born.{ChildIs, Seen, table_at}
-use Rattle.sp_codegen.proofs.Handed.{shared_known, output_unshared}
+use Rattle.sp_codegen.proofs.Handed.{shared_piece, output_unshared}
 use Rattle.sp_link.proofs.ChildrenStand as cs
 use Rattle.sp_link.proofs.Forks as fk
 use Rattle.sp_link.proofs.OneChanges.{q, pr}
 use Rattle.sp_link.proofs.Pauses.{Entry_of, Meant, Machined, Kept_to, kids}
+use Rattle.sp_link.proofs.Plans.{moved_by, shared_by, moved_in}
 use Rattle.sp_link.proofs.Scoping.{IsScoped, is_scoped}
+use Rattle.sp_link.proofs.Splits.{piece_known, parallel_split, parts_differ}
 use Rattle.sp_link.proofs.Relation.{Ground, Life, Lives, W_of, R_of, Called, Named, Fresh, Stands, Handed, St, Linked, execution, run_is}
-
--- ---- the handings of a fork
-
-zero_plus : (j : ℕ) → 0 + j ≡ j
-zero_plus j = omega arith
-
-pub in_either : (a : Spot) (xs ys : List Spot) → In a (xs ++ ys) → In a xs ⊎ In a ys
-in_either a [] ys h = inr h
-in_either a (b ∷ xs) ys (inl e) = inl (inl e)
-in_either a (b ∷ xs) ys (inr h) = ⊎_elim (λ k. inl (inr k)) (λ k. inr k) (in_either a xs ys h)
-
-module _ (ls : List Layout) (fs : List mem.Frame) (t : ForkTable) (val : ℤ) where
-  abbrev pub one : ℕ → Handing
-  one j = handing_of ls fs val j (child_or (child_at t j))
-
-  pub in_moved : (i n : ℕ) (a : Spot) → In a (moved_of (plan_from ls fs t val i n)) → (j : ℕ) × (j < n) × In a (one (i + j)).moved
-  in_moved i zero a h = absurd h
-  in_moved i (suc n) a h = ⊎_elim (λ k. (0, omega arith, subst (λ z. In a (one z).moved) (nothing i) k))
-      (λ k. (let w = in_moved (suc i) n a k in (suc w.0, (let b = w.1 in omega (arith, b)), subst (λ z. In a (one z).moved) (shift i w.0) w.2)))
-      (in_either a (one i).moved (moved_of (plan_from ls fs t val (suc i) n)) h)
-    where
-      nothing : (i : ℕ) → i ≡ i + 0
-      nothing i = omega arith
-
-      shift : (i j : ℕ) → suc i + j ≡ i + suc j
-      shift i j = omega arith
-
-  pub in_shared : (i n : ℕ) (a : Spot) → In a (shared_of (plan_from ls fs t val i n)) → (j : ℕ) × (j < n) × In a (one (i + j)).shared
-  in_shared i zero a h = absurd h
-  in_shared i (suc n) a h = ⊎_elim (λ k. (0, omega arith, subst (λ z. In a (one z).shared) (nothing i) k))
-      (λ k. (let w = in_shared (suc i) n a k in (suc w.0, (let b = w.1 in omega (arith, b)), subst (λ z. In a (one z).shared) (shift i w.0) w.2)))
-      (in_either a (one i).shared (shared_of (plan_from ls fs t val (suc i) n)) h)
-    where
-      nothing : (i : ℕ) → i ≡ i + 0
-      nothing i = omega arith
-
-      shift : (i j : ℕ) → suc i + j ≡ i + suc j
-      shift i j = omega arith
-
-  pub moved_by : (n : ℕ) (a : Spot) → In a (moved_of (plan_from ls fs t val 0 n)) → (j : ℕ) × (j < n) × In a (one j).moved
-  moved_by n a h = let w = in_moved 0 n a h in (w.0, w.1, subst (λ z. In a (one z).moved) (zero_plus w.0) w.2)
-
-  pub shared_by : (n : ℕ) (a : Spot) → In a (shared_of (plan_from ls fs t val 0 n)) → (j : ℕ) × (j < n) × In a (one j).shared
-  shared_by n a h = let w = in_shared 0 n a h in (w.0, w.1, subst (λ z. In a (one z).shared) (zero_plus w.0) w.2)
 
 -- ---- the children of a parallel statement
 
@@ -142,16 +99,16 @@ module _ (G : Ground) (lv : Lives G) (c : Course) (s : StateOf G.g) (u : System 
   abbrev ss : Stmts
   ss = h.0
 
-  abbrev n : ℕ
+  abbrev pub n : ℕ
   n = length (children_tables p G.moves G.shares h.2 ss)
 
-  some : 1 ≤ length bs
+  pub some : 1 ≤ length bs
   some = subst (λ b. 1 ≤ length b) (sym h.6) (some_part ss (h.8.formed (Splits ss) (inl refl)))
 
   abbrev k : ℕ
   k = x.at.forks v
 
-  abbrev n1 : Memory Plain
+  abbrev pub n1 : Memory Plain
   n1 = record (t.2) { since = (t.2).ticks }
 
   abbrev w1 : Who
@@ -259,8 +216,11 @@ module _ (G : Ground) (lv : Lives G) (c : Course) (s : StateOf G.g) (u : System 
       kept_of_it : Handed G (lv v) more v t.3 n1 (new_life j) ((k, j) ∷ v)
       kept_of_it = subst (λ (lf : Life). Handed G (lv v) more v t.3 n1 lf ((k, j) ∷ v)) (sym life_is) (cs.handed_facts G (lv v) more v fresh stood may_fork ss h.3 h.8 h.2 j b ch ((k, j) ∷ v) (longer j) (pos 0))
 
+      shares_piece : (a : Spot) → In a (handing_at ch.entry j ch.statement).shared → IsPiece (fin.get n1.store.map a)
+      shares_piece a f = shared_piece G.g G.code w1 (Named G) (Called G) Wr Rd (lv v).J (lv v).low (length (lv v).below) (lv v).born (t.2).ticks G.pause (lv v).moved G.formed G.laid G.free z.fresh.reads G.moves G.shares G.sets stood ch.statement (cs.sound G (lv v) more v fresh stood may_fork ss h.3 h.8 h.2 j b ch ((k, j) ∷ v) (longer j) (pos 0)) (cs.unread G (lv v) more v fresh stood may_fork ss h.3 h.8 h.2 j b ch ((k, j) ∷ v) (longer j) (pos 0)) ((k, j) ∷ v) (cs.new_name G (lv v) more v fresh stood may_fork ss h.3 h.8 h.2 j b ch ((k, j) ∷ v) (longer j) (pos 0)) (child_table p G.moves G.shares ch.entry None ch.statement) refl refl (pos 0) j (cs.consoles G (lv v) more v) h.3 h.8.chain (λ x1 up own1 a1. h.8.indexes x1 up (inr (inl (ch.inside (Sees x1) a1)))) (λ y1 used1 own1. in_scope y1 used1) a f
+
       shares_known : (a : Spot) → In a (handing_at ch.entry j ch.statement).shared → IsSome (fin.get n1.store.map a)
-      shares_known a f = shared_known G.g G.code w1 (Named G) (Called G) Wr Rd (lv v).J (lv v).low (length (lv v).below) (lv v).born (t.2).ticks G.pause (lv v).moved G.formed G.laid G.free z.fresh.reads G.moves G.shares G.sets stood ch.statement (cs.sound G (lv v) more v fresh stood may_fork ss h.3 h.8 h.2 j b ch ((k, j) ∷ v) (longer j) (pos 0)) (cs.unread G (lv v) more v fresh stood may_fork ss h.3 h.8 h.2 j b ch ((k, j) ∷ v) (longer j) (pos 0)) ((k, j) ∷ v) (cs.new_name G (lv v) more v fresh stood may_fork ss h.3 h.8 h.2 j b ch ((k, j) ∷ v) (longer j) (pos 0)) (child_table p G.moves G.shares ch.entry None ch.statement) refl refl (pos 0) j (cs.consoles G (lv v) more v) h.3 h.8.chain (λ x1 up own1 a1. h.8.indexes x1 up (inr (inl (ch.inside (Sees x1) a1)))) (λ y1 used1 own1. in_scope y1 used1) a f
+      shares_known a f = piece_known (fin.get n1.store.map a) (shares_piece a f)
 
       output_stays : Rd Output → In output_spot (handing_at ch.entry j ch.statement).shared → ⊥
       output_stays may f = output_unshared G.g G.code w1 (Named G) (Called G) Wr Rd (lv v).J (lv v).low (length (lv v).below) (lv v).born (t.2).ticks G.pause (lv v).moved G.formed G.laid G.free z.fresh.reads G.moves G.shares G.sets stood ch.statement (cs.sound G (lv v) more v fresh stood may_fork ss h.3 h.8 h.2 j b ch ((k, j) ∷ v) (longer j) (pos 0)) (cs.unread G (lv v) more v fresh stood may_fork ss h.3 h.8 h.2 j b ch ((k, j) ∷ v) (longer j) (pos 0)) ((k, j) ∷ v) (cs.new_name G (lv v) more v fresh stood may_fork ss h.3 h.8 h.2 j b ch ((k, j) ∷ v) (longer j) (pos 0)) (child_table p G.moves G.shares ch.entry None ch.statement) refl refl (pos 0) j (cs.consoles G (lv v) more v) h.3 h.8.chain (λ x1 up own1 a1. h.8.indexes x1 up (inr (inl (ch.inside (Sees x1) a1)))) (λ y1 used1 own1. in_scope y1 used1) may f
@@ -320,6 +280,37 @@ module _ (G : Ground) (lv : Lives G) (c : Course) (s : StateOf G.g) (u : System 
       let b = at_place w.0 w.1 in
       (w.0, w.1, subst (λ (lf : Life). In a lf.moved) (sym (life_is none w.0 b.0 b.1)) (subst (λ tb. In a (handing_of G.code.layouts n1.frames (pos 0) w.0 tb).moved) (table_is none w.0 b.0 b.1) w.2))
 
+  -- ---- what it hands over
+
+  abbrev table_there : ForkTable
+  table_there = record { children = children_tables p G.moves G.shares h.2 ss }
+
+  is_there : table_or (slice_get G.code.forks h.1) ≡ table_there
+  is_there = ap (λ a. table_or a) h.5
+
+  pub can_split : CanSplit n1.store (fk.hs G lv c s u l i d at_i z bs todo o m x t y quiet h.1 (pos 0) (length (children_tables G.g.program G.moves G.shares h.2 h.0)) h.4 some)
+  can_split = subst (λ a. CanSplit n1.store (plan_from G.code.layouts n1.frames a (pos 0) 0 n)) (sym is_there)
+      (parallel_split G (lv v) none v (fresh none) stood ss h.3 h.8 h.2 h.7 (pos 0) (λ a g.
+      (let w = shared_by G.code.layouts n1.frames table_there (pos 0) n a g in
+      let b = at_place w.0 w.1 in
+      shares_piece none w.0 b.0 b.1 a (subst (λ tb. In a (handing_of G.code.layouts n1.frames (pos 0) w.0 tb).shared) (table_is none w.0 b.0 b.1)
+      (subst (λ tb. In a (handing_of G.code.layouts n1.frames (pos 0) w.0 (child_or (child_at tb w.0))).shared) (sym is_there) w.2)))))
+
+  -- what moves to a child
+  moved_one : (j : ℕ) → j < n → (a : Spot) → In a (new_life j).moved → In a (one_of j).moved
+  moved_one j lt a g =
+      let b = at_place j lt in
+      subst (λ tb. In a (handing_of G.code.layouts n1.frames (pos 0) j tb).moved) (sym (table_is none j b.0 b.1)) (subst (λ (lf : Life). In a lf.moved) (life_is none j b.0 b.1) g)
+
+  gives : (j : ℕ) → j < n → (a : Spot) → In a (new_life j).moved → In a (moved_of (fk.hs G lv c s u l i d at_i z bs todo o m x t y quiet h.1 (pos 0) (length (children_tables G.g.program G.moves G.shares h.2 h.0)) h.4 some))
+  gives j lt a g = moved_in G.code.layouts n1.frames (table_or (slice_get G.code.forks h.1)) (pos 0) n j a lt (moved_one j lt a g)
+
+  parted : (j k : ℕ) → j < n → k < n → j ≢ k → (a : Spot) → In a (new_life j).moved → In a (new_life k).moved → ⊥
+  parted j k lj lk ne a e g = parts_differ G (lv v) none v (fresh none) stood ss h.3 h.8 h.2 h.7 (pos 0) j k lj lk ne a (there j lj e) (there k lk g)
+    where
+      there : (j : ℕ) → j < n → In a (new_life j).moved → In a (handing_of G.code.layouts n1.frames (pos 0) j (child_or (child_at table_there j))).moved
+      there j lt e = subst (λ tb. In a (handing_of G.code.layouts n1.frames (pos 0) j (child_or (child_at tb j))).moved) is_there (moved_one j lt a e)
+
   pub parallel_entry : Entry_of G c s u i d
   parallel_entry = by (nat_lt G.g.limits.entries (u.entries + 1)) (nat_lt G.g.limits.processes (u.births.processes + n)) refl refl
     where
@@ -329,5 +320,5 @@ module _ (G : Ground) (lv : Lives G) (c : Course) (s : StateOf G.g) (u : System 
       by : (e1 e2 : Bool) → nat_lt G.g.limits.entries (u.entries + 1) ≡ e1 → nat_lt G.g.limits.processes (u.births.processes + n) ≡ e2 → Entry_of G c s u i d
       by true e2 h1 h2 = fk.over_entry G lv c s u l i d at_i z bs todo o m x t y quiet h.1 (pos 0) (length (children_tables G.g.program G.moves G.shares h.2 h.0)) h.4 some h1
       by false true h1 h2 = fk.many_entry G lv c s u l i d at_i z bs todo o m x t y quiet h.1 (pos 0) (length (children_tables G.g.program G.moves G.shares h.2 h.0)) h.4 some h1 (ap (λ a. nat_lt G.g.limits.processes (u.births.processes + a)) os_are ∙ h2) h2
-      by false false h1 h2 = fk.fork_entry G lv c s u l i d at_i z bs todo o m x t y quiet h.1 (pos 0) (length (children_tables G.g.program G.moves G.shares h.2 h.0)) h.4 some h1 h2 count_is (list_of ss) born new_life to_w from_w to_r from_r known dry parts
+      by false false h1 h2 = fk.fork_entry G lv c s u l i d at_i z bs todo o m x t y quiet h.1 (pos 0) (length (children_tables G.g.program G.moves G.shares h.2 h.0)) h.4 some h1 h2 count_is (list_of ss) born new_life to_w from_w to_r from_r known dry parts gives (λ a g. can_split.apart a g) parted
           (λ more j lt. (let b = at_place j lt in kept_of_it more j b.0 b.1)) (λ more j lt b e called. it_stands none j b e (u.births.processes + j) called more)

@@ -29,23 +29,23 @@ use Rattle.sp_link.proofs.Relation.{Ground}
 use Rattle.sp_link.proofs.Theorem.{meaning_of_system, turns_safe, system_of_meaning, output_same, done_means, done_runs, idle_means}
 
 -- no two channels have one name
-one_channel : (b : Births) → Lawful b → (c d : ℕ) → c < b.channels → d < b.channels → channel b c ≡ channel b d → c ≡ d
+pub one_channel : (b : Births) → Lawful b → (c d : ℕ) → c < b.channels → d < b.channels → channel b c ≡ channel b d → c ≡ d
 one_channel b w c d lc ld e =
     let owners : (b.opening c).owner ≡ (b.opening d).owner = w.one_name (b.opening c).owner (b.opening d).owner (w.owned c lc) (w.owned d ld) (ap (λ (y : Channel). y.owner) e) in
     let nths : (b.opening c).nth ≡ (b.opening d).nth = ap (λ (y : Channel). y.nth) e in
     w.one_opening c d lc ld (λ i. record { owner = owners i; nth = nths i })
 
 module _ (g : Setting) (moves shares : Stmt → List ℕ) (pause : ℕ) (ready : IsReady g moves shares) (es : List Entry) (named : NameableFrom at_start es) where
-  abbrev code : Code
+  abbrev pub code : Code
   code = program_code g.program moves shares
 
-  blocks : BlocksAt g.program moves shares code (IsQuiet g.program)
+  pub blocks : BlocksAt g.program moves shares code (IsQuiet g.program)
   blocks = blocks_stand g.program moves shares (IsQuiet g.program) ready.fine
 
-  lawful : Lawful (births_from at_start es)
+  pub lawful : Lawful (births_from at_start es)
   lawful = lawful_births es named
 
-  abbrev ground : Ground
+  abbrev pub ground : Ground
   ground = record {
     g = g;
     code = code;

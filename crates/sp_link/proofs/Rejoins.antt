@@ -7,6 +7,7 @@ use Rattle.sp_cell.specs.declared.cell.Cell.{Cell as OneCell}
 use Rattle.sp_cell.specs.declared.spot.Spot.{Spot}
 use Rattle.sp_cell.specs.Fork.{joined}
 use Rattle.sp_cell.specs.Map.{Plain, Content, with_map}
+use Rattle.sp_cell.specs.Plan.{get_taken_out}
 use Rattle.sp_cell.specs.Spots.{In, NotIn}
 use Rattle.sp_meaning.specs.Model.{Name, Condition, Absent, Ended, Becomes, changed}
 use Rattle.sp_meaning.specs.Steps.{has_ended, all_ended}
@@ -23,6 +24,7 @@ use Rattle.sp_codegen.specs.Standing.{spot_at}
 use Rattle.sp_codegen.proofs.Joining.{joined_joining, all_joined}
 use Rattle.sp_link.proofs.Relation.{Ground, Life, Lives, Named, Called, St, Stands, Joined, Handed, Lives_yet, Away_yet, left_of}
 use Rattle.sp_link.proofs.OthersStay.{Jo, joining_more}
+use Rattle.sp_link.proofs.Plans.{out_of}
 
 known_piece : (c : Option Content) (cs : List OneCell) → piece_of c ≡ Some cs → IsSome c
 known_piece None cs e = absurd (cc e)
@@ -180,6 +182,8 @@ module _ (G : Ground) (lv : Lives G) (P : Name) (since k n left i : ℕ) (pr : P
       some = some;
       there = λ j h. there_still j h;
       children = λ j h. z.children j (still j h).0;
+      gone = λ j h a e. get_taken_out nc.store.map nc.store.moved z.held a (out_of a nc.store.moved (λ x. z.parted j i (still j h).0 (lt, yet) (still j h).1 a e (in_moved a x))) ∙ z.gone j (still j h).0 a e;
+      parted = λ a b h g. z.parted a b (still a h).0 (still b g).0;
     }
 
     -- or it was the last one

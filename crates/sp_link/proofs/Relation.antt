@@ -11,7 +11,7 @@ use Rattle.sp_tree.specs.Interference.{IsFreeOfInterference}
 use Rattle.sp_journal.specs.declared.entry.Birth.{Birth}
 use Rattle.sp_journal.specs.Births.{Births, channel}
 use Rattle.sp_cell.specs.declared.spot.Spot.{Spot}
-use Rattle.sp_cell.specs.Map.{Map, Plain, with_map, output_spot, output_of}
+use Rattle.sp_cell.specs.Map.{Map, Plain, Away, IsOwn, with_map, output_spot, output_of}
 use Rattle.sp_cell.specs.Spots.{In, NotIn}
 use Rattle.sp_meaning.specs.Model.{Name, Channel, same_channel, Cargo, Offer, Condition, Absent, Waits, Joins, Ended}
 use Rattle.sp_meaning.specs.Steps.{working_in, has_ended}
@@ -29,6 +29,7 @@ use Rattle.sp_code.specs.declared.code.Layout.{Layout}
 use Rattle.sp_code.specs.declared.code.Parts.{Parts as Code}
 use Rattle.sp_code.specs.declared.instr.Instr.TheVariants as i
 use Rattle.sp_code.specs.Machine.{Entry, Stop, Config, At, Ops, layout_of}
+use Rattle.sp_code.specs.Machine as machine
 use Rattle.sp_code.specs.Turns.{begins}
 use Rattle.sp_code.specs.Memory.{Memory, memory, position_at, first}
 use Rattle.sp_code.specs.Memory as m
@@ -102,6 +103,15 @@ pub record Begun (all b : Births) : Type 0 where
 
 abbrev pub Began : Ground → Births → Type 0
 Began G b = Begun G.births b
+
+-- one that waits to receive has a piece of its own for it
+abbrev pub Ready : Stop → Config (Memory Plain) → Type 0
+Ready (machine.Forks tb val k) d = Unit {0}
+Ready (machine.Opens a) d = Unit {0}
+Ready (machine.Sends ch k cs) d = Unit {0}
+Ready (machine.Receives ch k a) d = IsOwn (fin.get (sys.store_of d).map a.spot)
+Ready machine.Ends d = Unit {0}
+Ready machine.Pauses d = Unit {0}
 
 module _ (G : Ground) where
   abbrev pub p : Program
@@ -247,6 +257,9 @@ module _ (G : Ground) where
       pub some : 1 ≤ left
       pub there : (i : ℕ) → i < n → s.condition ((k, i) ∷ q) ≢ Absent
       pub children : (i : ℕ) → Lives_yet s k n i → Handed js memory (kids k i) ((k, i) ∷ q)
+      -- what moved to a child that lives is away, and moved to no other
+      pub gone : (i : ℕ) → Lives_yet s k n i → (a : Spot) → In a (kids k i).moved → fin.get held a ≡ Some Away
+      pub parted : (i j : ℕ) → Lives_yet s k n i → Lives_yet s k n j → i ≢ j → (a : Spot) → In a (kids k i).moved → In a (kids k j).moved → ⊥
 
     -- the output, of a process that does nothing more
     abbrev pub Told : Store → Config (Memory Plain) → Type 0
@@ -260,7 +273,7 @@ module _ (G : Ground) where
     abbrev pub Does : Course → StateOf G.g → ℕ → sys.Condition Plain → Type 0
     Does c s opens sys.Absent = ⊥
     Does c s opens (sys.Runs d) = (pr : Process) × (working_in s.condition q (s.condition q) ≡ Some pr) × (Stands (c.since q) pr s.store d ⊎ TooLarge s.store pr d) × (pr.who.opens ≡ opens) × (c.laid q ≡ false)
-    Does c s opens (sys.Waits z d) = (o : Offer Process Held Address) × (s.condition q ≡ Waits o) × (t : Stands (c.since q) o.next s.store d) × Ca t.fresh o.next.who t.named (c.since q) t.js o.channel o.kind o.cargo z × (o.next.who.opens ≡ opens) × (c.laid q ≡ false)
+    Does c s opens (sys.Waits z d) = (o : Offer Process Held Address) × (s.condition q ≡ Waits o) × (t : Stands (c.since q) o.next s.store d) × Ca t.fresh o.next.who t.named (c.since q) t.js o.channel o.kind o.cargo z × (o.next.who.opens ≡ opens) × (c.laid q ≡ false) × Ready z d
     Does c s opens (sys.Joins left d) = (k n : ℕ) × (pr : Process) × (s.condition q ≡ Joins k n pr) × Joined (c.since q) k n left pr s d × (pr.who.opens ≡ opens) × (c.laid q ≡ false)
     Does c s opens (sys.Laid d) = (c.laid q ≡ true) × (c.faulted ≡ true) × ((pr : Process) × (working_in s.condition q (s.condition q) ≡ Some pr)) × Told s.store d
     Does c s opens sys.Gone = (s.condition q ≡ Ended) × (q ≢ [])

@@ -209,3 +209,13 @@ module _ (G : Ground) where
   pub is_scoped : (fr : Bool) (sc : List Scope) (q : ℕ) (st : Stmt) → StandsAt G.g.program G.moves G.shares (Stands G.code) (HasFork G.code) (HasWords G.code) G.hush fr sc q st → ((u : Use) → In_stmt st u → IsFormedUse G.g.program u) → IsScoped G.g.program sc st
   is_scoped fr sc q st h formed y (inl a) = let f = reached_formed G a.0 formed (Aims y) a.1 in (f.0, f.1, λ iv. absurd (f.2 iv))
   is_scoped fr sc q st h formed y (inr a) = seen sc (λ u b. stmt G.g.program G.free G.moves G.shares (Stands G.code) (HasFork G.code) (HasWords G.code) G.hush st fr sc q h u b) a.0 y a.1
+
+  -- of all children of a parallel statement
+  pub parts_scoped : (fr : Bool) (sc : List Scope) (q : ℕ) (ss : Stmts) → ChildrenAt G.g.program G.moves G.shares (Stands G.code) (HasFork G.code) (HasWords G.code) G.hush fr sc q ss → ((u : Use) → In_stmt (Parallel ss) u → IsFormedUse G.g.program u) → IsScoped G.g.program sc (Parallel ss)
+  parts_scoped fr sc q ss h formed y (inl a) = let f = reached_formed G a.0 formed (Aims y) a.1 in (f.0, f.1, λ iv. absurd (f.2 iv))
+  parts_scoped fr sc q ss h formed y (inr a) = seen sc direct a.0 y a.1
+    where
+      direct : (u : Use) → In_stmt (Parallel ss) u → Direct G.g.program sc u
+      direct u (inl b) = subst (λ k. Direct G.g.program sc k) (sym b) tt
+      direct u (inr (inl b)) = children G.g.program G.free G.moves G.shares (Stands G.code) (HasFork G.code) (HasWords G.code) G.hush ss fr sc q h u b
+      direct u (inr (inr b)) = subst (λ k. Direct G.g.program sc k) (sym b) tt

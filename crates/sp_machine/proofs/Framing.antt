@@ -3,7 +3,7 @@ use Rattle.std.proofs.Common.{◌≡◌, ℕ, zero, suc, ◌+◌, ◌-◌, ◌<�
 use Rattle.std.specs.Prelude.{map, reverse, Some, None, min}
 use Rattle.std.proofs.lemmas.Bool.{eq-eqb, ne_eqb}
 use Rattle.sp_cell.specs.declared.spot.Address.{Address}
-use Rattle.std.proofs.lemmas.List.{reverse-append, map-append, length-reverse, length-map, length-drop, take-append-drop, take_more, length-take-le, drop_all, length-append, append-nil, get_or-take, get_or_append_left, get_or-append_right}
+use Rattle.std.proofs.lemmas.List.{reverse-append, map-append, length-reverse, length-map, length-drop, take-append-drop, take_more, length-take-le, drop_all, take_all, length-append, append-nil, get_or-take, get_or_append_left, get_or-append_right}
 use Rattle.std.proofs.Math.Seq.{drop-append_seam}
 use Rattle.sp_code.specs.Memory.{Frame as PlainFrame, last_frames, frames_up, addr_in, deref_in, cell_at, referred}
 use Rattle.sp_machine.specs.declared.frames.Frame.{Frame}
@@ -57,7 +57,7 @@ drop_twice a (suc b) [] = drop_all a [] (omega arith) ∙ sym (drop_all (suc b +
 drop_twice a (suc b) (x ∷ xs) = let e : suc (b + a) ≡ suc b + a = omega arith in drop_twice a b xs ∙ ap (λ k. drop k (x ∷ xs)) e
 
 -- the oldest frames of the oldest ones
-last_twice : (fs : List PlainFrame) (n c : ℕ) → c ≤ length fs → last_frames n (last_frames c fs) ≡ last_frames (min n c) fs
+pub last_twice : (fs : List PlainFrame) (n c : ℕ) → c ≤ length fs → last_frames n (last_frames c fs) ≡ last_frames (min n c) fs
 last_twice fs n c h =
     let less : length fs - (length fs - c) ≡ c = omega (arith, h) in
     let size : length (drop (length fs - c) fs) ≡ c = length-drop (length fs - c) fs ∙ less in
@@ -161,3 +161,20 @@ referred_end rs x i h = ap (referred x) (drop_all i rs h)
 pub some_visible : (xs : List Frame) (v : ℕ) → plain_frames (take v xs ++ []) ≢ [] → 0 < v
 some_visible xs zero h = absurd (h no_frames)
 some_visible xs (suc v) h = omega arith
+
+-- ---- frames that are shared
+
+pub all_shared : (xs ys : List Frame) (v : ℕ) → ys ≡ [] → plain_frames (take v xs ++ ys) ≡ plain_frames (take v xs)
+all_shared xs ys v e = ap (λ (zs : List Frame). plain_frames (take v xs ++ zs)) e ∙ ap plain_frames (append-nil (take v xs))
+
+pub all_gathered : (xs ys zs : List Frame) (v n : ℕ) → n ≡ length zs → zs ≡ take v xs ++ ys → plain_frames (take v xs ++ ys) ≡ plain_frames (take n zs)
+all_gathered xs ys zs v n l e = ap plain_frames (sym e ∙ sym (take_all n zs (omega (arith, l))))
+
+pub still_shared : (xs ys zs ws : List Frame) (v n : ℕ) → n ≡ length zs → zs ≡ take v xs ++ ys → ws ≡ [] → plain_frames (take n zs ++ ws) ≡ plain_frames (take v xs ++ ys)
+still_shared xs ys zs ws v n l e w = all_shared zs ws n w ∙ sym (all_gathered xs ys zs v n l e)
+
+pub copied_more : (to : List Frame) (fs : List Frame) (i : ℕ) (f : Frame) → i < length fs → f ≡ get_or fs i f → (to ++ take i fs) ++ f ∷ [] ≡ to ++ take (i + 1) fs
+copied_more to fs i f h e = append_assoc to (take i fs) (f ∷ []) ∙ ap (λ (xs : List Frame). to ++ xs) (ap (λ (x : Frame). take i fs ++ x ∷ []) e ∙ sym (take_more fs i f h))
+
+pub copied_all : (to : List Frame) (fs : List Frame) (i : ℕ) → length fs ≤ i → to ++ take i fs ≡ to ++ fs
+copied_all to fs i h = ap (λ (xs : List Frame). to ++ xs) (take_all i fs h)

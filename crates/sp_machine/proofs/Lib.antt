@@ -6,3 +6,6 @@ pub mod Finding
 pub mod Calling
 pub mod Going
 pub mod Resuming
+pub mod Placing
+pub mod Planning
+pub mod Giving

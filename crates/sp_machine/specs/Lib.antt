@@ -6,3 +6,4 @@ pub mod Texts
 pub mod Arguments
 pub mod Answers
 pub mod Codes
+pub mod Children

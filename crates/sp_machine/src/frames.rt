@@ -77,7 +77,7 @@ fn frame_in<'a>(shared: &'a [Frame], visible: usize, own: &'a [Frame], place: us
     &own[place - visible]
 }
 
-fn lesser(a: usize, b: usize) -> usize
+pub(crate) fn lesser(a: usize, b: usize) -> usize
     ensures { result ≡ min a b }
 {
     if a < b { a } else { b }
@@ -97,6 +97,43 @@ impl Frames {
             visible: 0,
             own,
         })
+    }
+
+    /// Frames that are shared with others: so many of them are visible.
+    #[tactic(auto, using(crate::proofs::Framing::all_shared))]
+    pub(crate) fn of(alloc: Global, shared: Arc<List<Frame>>, visible: usize) -> Frames
+        requires { visible ≤ length shared.value }
+        ensures { result ≡ plain_frames (take visible shared.value) }
+    {
+        Frames {
+            shared,
+            visible,
+            own: List::new(alloc),
+        }
+    }
+
+    /// All frames become shared ones. They are given with how many of them are visible.
+    #[tactic(auto, using(crate::proofs::Framing::all_shared, crate::proofs::Framing::all_gathered, crate::proofs::Framing::still_shared))]
+    pub(crate) fn share(&mut self) -> Result<(Arc<List<Frame>>, usize), Memory>
+        ensures same { self.new ≡ self.old }
+        ensures frames { IfOk result (λ r. self.old ≡ plain_frames (take r.1 r.0.value)) }
+        ensures visible { IfOk result (λ r. r.1 ≤ length r.0.value) }
+    {
+        if self.own.is_empty() {
+            let shared = Arc::try_clone(&self.shared)?;
+            return Ok((shared, self.visible));
+        }
+        let alloc = self.own.alloc();
+        let mut all = List::new(alloc);
+        copy_frames(alloc, &mut all, &self.shared.items()[..self.visible])?;
+        copy_frames(alloc, &mut all, self.own.items())?;
+        let visible = all.len();
+        let lent = Arc::new(alloc, all)?;
+        let kept = Arc::try_clone(&lent)?;
+        self.shared = kept;
+        self.visible = visible;
+        self.own = List::new(alloc);
+        Ok((lent, visible))
     }
 
     /// How many there are.
@@ -206,9 +243,34 @@ impl Frames {
     }
 }
 
+/// The same frame once more.
+fn copy_frame(alloc: Global, frame: &Frame) -> Result<Frame, Memory>
+    ensures { IfOk result (λ f. f ≡ frame.now) }
+{
+    Ok(Frame {
+        owner: frame.owner,
+        number: frame.number,
+        home: frame.home,
+        link: frame.link,
+        references: List::from_slice(alloc, frame.references.items())?,
+    })
+}
+
+/// Puts the same frames last.
+#[tactic(auto, using(crate::proofs::Framing::copied_more, crate::proofs::Framing::copied_all))]
+fn copy_frames(alloc: Global, to: &mut List<Frame>, frames: &[Frame]) -> Result<(), Memory>
+    ensures { OnOk result (to.new ≡ to.old ++ frames.now) }
+{
+    for frame in frames {
+        let copy = copy_frame(alloc, frame)?;
+        to.push(copy)?;
+    }
+    Ok(())
+}
+
 // What the variable parameter of this number stands for.
 #[tactic(auto, using(crate::proofs::Framing::referred_on, crate::proofs::Framing::referred_here, crate::proofs::Framing::referred_end))]
-fn referred(variable: u32, references: &[(u32, Address)]) -> Option<Address>
+pub(crate) fn referred(variable: u32, references: &[(u32, Address)]) -> Option<Address>
     ensures { result ≡ referred variable references.now }
 {
     for r in references {

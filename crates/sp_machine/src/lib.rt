@@ -4,6 +4,7 @@
 
 mod arithmetic;
 mod calls;
+mod children;
 mod control;
 mod frames;
 mod io;

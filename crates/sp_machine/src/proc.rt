@@ -1,13 +1,14 @@
 //! A process.
 
-ghost use Rattle.std.specs.Prelude.{◌≡◌, ◌≤◌, ◌∷◌, [], IfOk, length, sum};
+ghost use Rattle.std.specs.Prelude.{◌≡◌, ◌+◌, ◌≤◌, ◌∷◌, [], IfOk, OnOk, OnErr, length, sum, slice_get};
 ghost use Rattle.sp_code.specs.Memory.{OfBlock};
 ghost use Rattle.sp_code.specs.Machine.{At};
 ghost use Rattle.sp_code.specs.PlainStore.{plain};
 ghost use Rattle.sp_code.specs.Ranks.{IsRanked};
-ghost use Rattle.sp_code.specs.Sound.{HasDistinctBlocks, CanJoin};
-ghost use Rattle.sp_code.specs.System.{entered_now};
-ghost use Rattle.sp_machine.specs.Procs.{config_of, start_of, Stays, HaveFormals, CanTurn, IsTurnOf};
+ghost use Rattle.sp_code.specs.Sound.{HasDistinctBlocks, CanSplit, CanJoin};
+ghost use Rattle.sp_code.specs.System.{entered_now, table_or};
+ghost use Rattle.sp_machine.specs.Procs.{config_of, start_of, Stays, HaveFormals, CanTurn, IsTurnOf, IsAtFork};
+ghost use Rattle.sp_machine.specs.Children.{AreNewborn, plan_by};
 ghost use Rattle.sp_machine.specs.Answers.{CanResume, resumed};
 
 use crate::frames::{Frame, Frames, Home};
@@ -111,6 +112,20 @@ impl Proc {
         self.state.resume(answer);
     }
 
+    /// The children of the fork at which the process stopped, with the numbers from `number` on. What the fork's table moves to them
+    /// is away here after it, and what it shares is shared. Where memory is refused, the process is as before.
+    pub fn split(&mut self, code: &Code, count: u32, number: u32) -> Result<List<Proc>, Memory>
+        requires blocks { HasDistinctBlocks code.now.layouts }
+        requires fork { IsAtFork self.old self.old.table self.old.first count }
+        requires numbers { number + count ≤ 4294967295 }
+        requires can { CanSplit self.old.store (plan_by code.now self.old count) }
+        ensures children { IfOk result (λ cs. AreNewborn code.now self.old (table_or (slice_get code.now.forks self.old.table)) number count cs) }
+        ensures parent { OnOk result (self.new ≡ record self.old { store = plain.handed self.old.store (plan_by code.now self.old count) }) }
+        ensures err { OnErr result (self.new ≡ self.old) }
+    {
+        self.state.split(code, count, number)
+    }
+
     /// Takes back from a child that has ended what moved to it.
     pub fn join(&mut self, child: Proc)
         requires { CanJoin self.old.store child.store }
@@ -129,6 +144,15 @@ impl Proc {
         Ok(Proc {
             state: Box::new(alloc, state)?,
         })
+    }
+}
+
+impl Proc {
+    /// Puts another store in place of its own.
+    pub(crate) fn put_store(&mut self, store: Store)
+        ensures { self.new ≡ record self.old { store = store } }
+    {
+        self.state.store = store;
     }
 }
 

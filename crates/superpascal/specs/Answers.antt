@@ -16,7 +16,7 @@ status_of e.ReadFault = 5
 status_of e.TooLong = 7
 status_of e.OutOfMemory = 8
 
--- the answer has an output: that of a run, or the text that the command asks for
+-- the answer has an output: that of a run, or the text that the command asks for, if any
 abbrev pub has_output : Ending → Bool
 has_output e.Done = true
 has_output (e.Fault f) = true

@@ -1,5 +1,5 @@
 -- The contract of the top call, in parts.
-use Rattle.std.specs.Prelude.{◌≡◌, ◌≢◌, ◌⊎◌, ℕ, ◌<◌, ◌≤◌, List, [], true, false, length, take, Option, Some, None, IfSome, Result, Ok, Err}
+use Rattle.std.specs.Prelude.{◌≡◌, ◌≢◌, ◌⊎◌, ℕ, ◌<◌, ◌≤◌, List, [], true, false, length, take, codes, Option, Some, None, IfSome, Result, Ok, Err}
 use Rattle.sp_base.specs.declared.fault.Fault.{Fault}
 use Rattle.sp_base.specs.declared.halt.Refusal.{Refusal}
 use Rattle.sp_base.specs.declared.limits.Limits.{Limits}
@@ -8,9 +8,12 @@ use Rattle.sp_first.specs.Grammar.{Program, IsFirstForm}
 use Rattle.sp_first.specs.Meaning.{meaning}
 use Rattle.sp_outside.specs.Counts.{Rose}
 use Rattle.sp_format.specs.Formats.{HasLayout, HasNoLayout}
-use Rattle.sp_front.specs.Checks.{BreaksFirst, KeepsRules}
+use Rattle.sp_front.specs.Checks.{BreaksFirst}
 use Rattle.sp_outside.specs.Told.{Grows}
 use Rattle.sp_print.specs.Lines.{refusal_text}
+use Rattle.sp_sets.specs.SetsText.{IsSetsText}
+use Rattle.sp_tree.specs.PlainChecked as c
+use Rattle.sp_varsets.specs.declared.sets.Sets.{Sets}
 use Rattle.sp_words.specs.Words.{command_of}
 use Rattle.sp_words.specs.declared.command.Command.{Command}
 use Rattle.sp_words.specs.declared.command.Command.TheVariants as command
@@ -18,6 +21,7 @@ use Rattle.superpascal.specs.declared.ending.Ending.{Ending}
 use Rattle.superpascal.specs.declared.ending.Ending.TheVariants as e
 use Rattle.superpascal.specs.declared.ending.Answer.{Answer}
 use Rattle.superpascal.specs.Answers.{status_of, line_of, notes_of, has_output}
+use Rattle.superpascal.specs.Phases.{BreaksOne, HasSets, IsAnalysed, KeepsAll}
 use Rattle.superpascal.specs.Runs.{Reports, run_notes}
 
 -- ---- words
@@ -48,7 +52,7 @@ Ends text fault output = (p : Program) × IsFirstForm text p × (meaning p ≡ r
 
 -- the text breaks no rule, and is of the first form
 abbrev pub IsProgram : List ℕ → Type 0
-IsProgram text = KeepsRules text × (p : Program) × IsFirstForm text p
+IsProgram text = KeepsAll text × (p : Program) × IsFirstForm text p
 
 -- no limit is met: there are as many cells as a text of the first form may have variables, and the output is no longer
 -- than it may be
@@ -57,46 +61,59 @@ IsWithin limits output = (4096 ≤ limits.cells) × (length output ≤ limits.ou
 
 -- the text breaks no rule, and its run ends so and meets no limit
 abbrev pub EndsWithin : Limits → List ℕ → Option Fault → List ℕ → Type 0
-EndsWithin limits text fault output = Ends text fault output × IsWithin limits output × KeepsRules text
+EndsWithin limits text fault output = Ends text fault output × IsWithin limits output × KeepsAll text
 
 abbrev pub EndsWith : Limits → List ℕ → Option Fault → Type 0
 EndsWith limits text fault = (output : List ℕ) × EndsWithin limits text fault output
 
 -- the text breaks no rule, and is not of the first form, or its run meets a limit
 abbrev pub IsUnbuilt : Limits → List ℕ → Type 0
-IsUnbuilt limits text = KeepsRules text × ((fault : Option Fault) → EndsWith limits text fault → ⊥)
+IsUnbuilt limits text = KeepsAll text × ((fault : Option Fault) → EndsWith limits text fault → ⊥)
 
 -- the text breaks a rule
 abbrev pub IsRefused : List ℕ → Type 0
-IsRefused text = (r : Refusal) × BreaksFirst text r
+IsRefused text = (r : Refusal) × BreaksOne text r
 
--- the first rule for which the command refuses the text: of all phases, or of those that `format` goes through
+-- the first rule for which the command refuses the text: of all rules, for `sets` of those of characters, grammar, names and
+-- types, for `format` of those that it goes through
 abbrev pub Breaks : Command → List ℕ → Refusal → Type 0
-Breaks (command.Check file) text r = BreaksFirst text r
-Breaks (command.Run file workers limits show) text r = BreaksFirst text r
-Breaks (command.Code file) text r = BreaksFirst text r
+Breaks (command.Check file) text r = BreaksOne text r
+Breaks (command.Run file workers limits show) text r = BreaksOne text r
+Breaks (command.Code file) text r = BreaksOne text r
 Breaks (command.Sets file) text r = BreaksFirst text r
 Breaks (command.Format file) text r = HasNoLayout text r
 
 -- the command refuses the text for no rule
 abbrev pub Keeps : Command → List ℕ → Type 0
-Keeps c text = (r : Refusal) → Breaks c text r → ⊥
+Keeps (command.Check file) text = KeepsAll text
+Keeps (command.Run file workers limits show) text = KeepsAll text
+Keeps (command.Code file) text = KeepsAll text
+Keeps (command.Sets file) text = IsAnalysed text
+Keeps (command.Format file) text = (out : List ℕ) × HasLayout text out
 
--- the commands that ask for a text
+-- the commands that answer from the text alone
 abbrev pub asks_text : Command → Type 0
 asks_text (command.Format file) = Unit {0}
-asks_text (command.Check file) = ⊥
+asks_text (command.Check file) = Unit {0}
 asks_text (command.Run file workers limits show) = ⊥
+asks_text (command.Sets file) = Unit {0}
 asks_text (command.Code file) = ⊥
-asks_text (command.Sets file) = ⊥
 
--- what the command makes of the text
-abbrev pub Makes : Command → List ℕ → List ℕ → Type 0
-Makes (command.Format file) text out = HasLayout text out
-Makes (command.Check file) text out = ⊥
-Makes (command.Run file workers limits show) text out = ⊥
-Makes (command.Code file) text out = ⊥
-Makes (command.Sets file) text out = ⊥
+-- what the command makes of the text, for the output and for the notes
+abbrev pub Makes : Command → List ℕ → List ℕ → List ℕ → Type 0
+Makes (command.Format file) text out line = HasLayout text out × (line ≡ [])
+Makes (command.Check file) text out line = KeepsAll text × (out ≡ []) × (line ≡ codes "accepted\n")
+Makes (command.Run file workers limits show) text out line = ⊥
+Makes (command.Code file) text out line = ⊥
+Makes (command.Sets file) text out line = HasSets text out × (line ≡ [])
+
+-- the commands that go through all rules, and start nothing that breaks one
+abbrev pub asks_all : Command → Type 0
+asks_all (command.Check file) = Unit {0}
+asks_all (command.Run file workers limits show) = Unit {0}
+asks_all (command.Code file) = ⊥
+asks_all (command.Sets file) = ⊥
+asks_all (command.Format file) = ⊥
 
 -- the text is what is told, where it is told
 abbrev pub IsTold : Option (List ℕ) → List ℕ → Type 0
@@ -120,9 +137,9 @@ IsUnbuiltAfter left limits text = IsUnbuilt limits text × (IsProgram text → F
 abbrev pub silent : Ending → Answer
 silent ending = record { ending = ending; output = []; notes = [] }
 
--- the answer of a command that asks for this text
-abbrev pub accepted : List ℕ → Answer
-accepted out = record { ending = e.Accepted; output = out; notes = [] }
+-- the answer of a command that answers with this
+abbrev pub accepted : List ℕ → List ℕ → Answer
+accepted out line = record { ending = e.Accepted; output = out; notes = line }
 
 abbrev pub IsSilent : List ℕ → List ℕ → Type 0
 IsSilent output notes = (output ≡ []) × (notes ≡ [])
@@ -152,35 +169,58 @@ run_cause reports left taken taken' limits show text e.BadWords output notes = �
 run_cause reports left taken taken' limits show text e.Accepted output notes = ⊥
 run_cause reports left taken taken' limits show text (e.Refused r) output notes = ⊥
 
+-- what a command answers from the text alone
+abbrev pub made_cause : Command → List ℕ → Answer → Type 0
+made_cause c text a = (out line : List ℕ) × Makes c text out line × (a ≡ accepted out line)
+
 -- the same of any command, where it refuses the text for no rule
 abbrev pub kept_cause : Reports → Option (List ℕ) → ℕ → ℕ → Command → List ℕ → Answer → Type 0
 kept_cause reports left taken taken' (command.Run file workers limits show) text a = run_cause reports left taken taken' limits show text a.ending a.output a.notes
-kept_cause reports left taken taken' (command.Check file) text a = a ≡ silent e.NotBuilt
-kept_cause reports left taken taken' (command.Code file) text a = a ≡ silent e.NotBuilt
-kept_cause reports left taken taken' (command.Sets file) text a = a ≡ silent e.NotBuilt
-kept_cause reports left taken taken' (command.Format file) text a = (out : List ℕ) × HasLayout text out × (a ≡ accepted out)
+kept_cause reports left taken taken' (command.Check file) text a = made_cause (command.Check file) text a
+kept_cause reports left taken taken' (command.Code file) text a = KeepsAll text × (a ≡ silent e.NotBuilt)
+kept_cause reports left taken taken' (command.Sets file) text a = made_cause (command.Sets file) text a
+kept_cause reports left taken taken' (command.Format file) text a = made_cause (command.Format file) text a
+
+-- why the command does not accept the text
+abbrev pub IsStopped : Command → List ℕ → Answer → Type 0
+IsStopped c text a = ((r : Refusal) × Breaks c text r × Refuses r a) ⊎ (a ≡ silent e.OutOfMemory)
 
 -- the same of any text
 abbrev pub text_cause : Reports → Option (List ℕ) → ℕ → ℕ → Command → List ℕ → Answer → Type 0
-text_cause reports left taken taken' c text a =
-    (Keeps c text × kept_cause reports left taken taken' c text a) ⊎ (((r : Refusal) × Breaks c text r × Refuses r a) ⊎ (a ≡ silent e.OutOfMemory))
+text_cause reports left taken taken' c text a = kept_cause reports left taken taken' c text a ⊎ IsStopped c text a
 
--- why a text does not come through all phases
-abbrev pub IsStopped : List ℕ → Answer → Type 0
-IsStopped text a = ((r : Refusal) × BreaksFirst text r × Refuses r a) ⊎ (a ≡ silent e.OutOfMemory)
+-- why a text does not come through all rules
+abbrev pub IsRefusedBy : List ℕ → Answer → Type 0
+IsRefusedBy text a = ((r : Refusal) × BreaksOne text r × Refuses r a) ⊎ (a ≡ silent e.OutOfMemory)
 
--- the text comes through all phases, or this is the answer
+-- the text comes through all rules, or this is the answer
 abbrev pub Passes : List ℕ → Result Unit Answer → Type 0
-Passes text (Ok x) = KeepsRules text
-Passes text (Err a) = IsStopped text a
+Passes text (Ok x) = KeepsAll text
+Passes text (Err a) = IsRefusedBy text a
 
 -- the answer of a command of which nothing more is built
 abbrev pub unbuilt_cause : List ℕ → Answer → Type 0
-unbuilt_cause text a = (KeepsRules text × (a ≡ silent e.NotBuilt)) ⊎ IsStopped text a
+unbuilt_cause text a = (KeepsAll text × (a ≡ silent e.NotBuilt)) ⊎ IsRefusedBy text a
+
+-- the answer to a text that breaks no rule
+abbrev pub accepted_cause : Answer → Type 0
+accepted_cause a = (a ≡ accepted [] (codes "accepted\n")) ⊎ (a ≡ silent e.OutOfMemory)
+
+-- the answer of `check`
+abbrev pub check_cause : List ℕ → Answer → Type 0
+check_cause text a = (KeepsAll text × (a ≡ accepted [] (codes "accepted\n"))) ⊎ IsRefusedBy text a
+
+-- the answer of `sets` to a text with this tree and these sets
+abbrev pub printed_cause : c.Program → Sets → Answer → Type 0
+printed_cause p s a = ((out : List ℕ) × IsSetsText p s out × (a ≡ accepted out [])) ⊎ (a ≡ silent e.OutOfMemory)
+
+-- the answer of `sets`
+abbrev pub sets_cause : List ℕ → Answer → Type 0
+sets_cause text a = ((out : List ℕ) × HasSets text out × (a ≡ accepted out [])) ⊎ (((r : Refusal) × BreaksFirst text r × Refuses r a) ⊎ (a ≡ silent e.OutOfMemory))
 
 -- the answer of `format`
 abbrev pub layout_cause : List ℕ → Answer → Type 0
-layout_cause text a = ((out : List ℕ) × HasLayout text out × (a ≡ accepted out)) ⊎ (((r : Refusal) × HasNoLayout text r × Refuses r a) ⊎ (a ≡ silent e.OutOfMemory))
+layout_cause text a = ((out : List ℕ) × HasLayout text out × (a ≡ accepted out [])) ⊎ (((r : Refusal) × HasNoLayout text r × Refuses r a) ⊎ (a ≡ silent e.OutOfMemory))
 
 abbrev pub ending_of : Option Fault → Ending
 ending_of None = e.Done
@@ -225,16 +265,16 @@ pub record Ran (f : Found) (fault : Option Fault) (output notes : List ℕ) : Ty
 -- nothing is built for the command, or for its text
 abbrev pub is_unbuilt_for : (List ℕ → Option (List ℕ)) → Option (List ℕ) → Command → Type 0
 is_unbuilt_for told left (command.Run file workers limits show) = IfSome (told file) (IsUnbuiltAfter left limits)
-is_unbuilt_for told left (command.Check file) = IfSome (told file) KeepsRules
-is_unbuilt_for told left (command.Code file) = IfSome (told file) KeepsRules
-is_unbuilt_for told left (command.Sets file) = IfSome (told file) KeepsRules
+is_unbuilt_for told left (command.Check file) = ⊥
+is_unbuilt_for told left (command.Code file) = IfSome (told file) KeepsAll
+is_unbuilt_for told left (command.Sets file) = ⊥
 is_unbuilt_for told left (command.Format file) = ⊥
 
 -- Why an answer is due.
 abbrev pub cause : Found → Ending → List ℕ → List ℕ → Type 0
 cause f e.Done output notes = Ran f None output notes
 cause f (e.Fault x) output notes = Ran f (Some x) output notes
-cause f e.Accepted output notes = (c : Command) × (command_of f.words ≡ Some c) × (text : List ℕ) × IsTold (f.told (file_of c)) text × Makes c text output × (notes ≡ [])
+cause f e.Accepted output notes = (c : Command) × (command_of f.words ≡ Some c) × (text : List ℕ) × IsTold (f.told (file_of c)) text × Makes c text output notes
 cause f (e.Refused r) output notes = (c : Command) × (command_of f.words ≡ Some c) × IfSome (f.told (file_of c)) (λ text. Breaks c text r) × (output ≡ []) × (notes ≡ refusal_text r)
 cause f e.NotBuilt output notes = (c : Command) × (command_of f.words ≡ Some c) × is_unbuilt_for f.told f.left c × IsSilent output notes
 cause f e.BadWords output notes = (command_of f.words ≡ None) × IsSilent output notes
@@ -315,12 +355,12 @@ SaysLine line notes notes' status = ((status ≡ 1) × All notes notes' line) �
 abbrev pub SaysRefusal : Command → List ℕ → Got → Got → ℕ → Type 0
 SaysRefusal c text notes notes' status = (r : Refusal) → Breaks c text r → SaysLine (refusal_text r) notes notes' status
 
--- Status 0 comes exactly where the command makes a text of this one, which is then written whole, and no notes. Status 1
--- comes only where it refuses the text.
+-- Status 0 comes exactly where the command makes something of the text, which is then written whole. Status 1 comes only
+-- where it refuses the text.
 abbrev pub WritesText : Command → List ℕ → Got → Got → Got → Got → ℕ → Type 0
 WritesText c text output output' notes notes' status =
-    Exactly status 0 ((out : List ℕ) × Makes c text out)
-    × ((out : List ℕ) → Makes c text out → status ≡ 0 → All output output' out × All notes notes' [])
+    Exactly status 0 ((out line : List ℕ) × Makes c text out line)
+    × ((out line : List ℕ) → Makes c text out line → status ≡ 0 → All output output' out × All notes notes' line)
     × (status ≡ 1 → (r : Refusal) × Breaks c text r)
 
 -- Status 1 comes only where the text breaks a rule, or breaks none and cannot be run; and where it cannot be run the line says so.
@@ -334,16 +374,16 @@ RefusesWords words status = Exactly status 2 (command_of words ≡ None)
 
 -- the commands for which nothing is built
 abbrev pub is_other : Command → Type 0
-is_other (command.Check file) = Unit {0}
+is_other (command.Check file) = ⊥
 is_other (command.Code file) = Unit {0}
-is_other (command.Sets file) = Unit {0}
+is_other (command.Sets file) = ⊥
 is_other (command.Format file) = ⊥
 is_other (command.Run file workers limits show) = ⊥
 
 abbrev pub AnswersOthers : List (List ℕ) → (List ℕ → Option (List ℕ)) → Got → Got → ℕ → Type 0
 AnswersOthers words told notes notes' status =
     ((c : Command) → command_of words ≡ Some c → is_other c → (status ≡ 1) ⊎ IsOutside status)
-    × OfText words told (λ c text. is_other c → KeepsRules text → SaysLine (line_of e.NotBuilt) notes notes' status)
+    × OfText words told (λ c text. is_other c → Keeps c text → SaysLine (line_of e.NotBuilt) notes notes' status)
 
 -- the library failed under the name of the text, or the source failed
 abbrev pub ReadsFail : List (List ℕ) → (List ℕ → ℕ) → (List ℕ → ℕ) → ℕ → ℕ → Type 0

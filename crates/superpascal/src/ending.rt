@@ -10,7 +10,7 @@ use sp_base::{Fault, Refusal, Text};
 pub enum Ending {
     /// The run ended.
     Done,
-    /// The text that the command asks for was made.
+    /// The command has answered from the text alone.
     Accepted,
     /// The text breaks this rule first.
     Refused(Refusal),
@@ -28,9 +28,9 @@ pub enum Ending {
     OutOfMemory,
 }
 
-/// All that a call has to write. Where a program has run the notes are those of the run, and where a text is refused
-/// the line of the refusal; a command that asks for a text has no notes; else they are a line, and what stands here for
-/// them is empty.
+/// All that a call has to write. Where a program has run the notes are those of the run, where a text is refused the
+/// line of the refusal, and where a command has answered from the text alone its own; else they are a line, and what
+/// stands here for them is empty.
 #[derive(Drop)]
 pub struct Answer {
     pub ending: Ending,
@@ -54,7 +54,7 @@ impl Ending {
         }
     }
 
-    /// Whether there is an output: that of a run, or the text that the command asks for.
+    /// Whether there is an output: that of a run, or the text that the command asks for, if any.
     pub fn has_output(self) -> bool
         ensures { result ≡ has_output self }
     {

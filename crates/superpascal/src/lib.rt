@@ -3,6 +3,7 @@
 
 mod ending;
 mod notes;
+mod phases;
 mod top;
 
 pub use top::{Outcome, superpascal};

@@ -7,20 +7,25 @@ ghost use Rattle.sp_base.specs.declared.fault.Fault.{Fault};
 ghost use Rattle.sp_outside.specs.Counts.{Rose};
 ghost use Rattle.sp_outside.specs.Told.{Grows};
 ghost use Rattle.sp_report.specs.Telling.{is_chosen};
+ghost use Rattle.sp_tree.specs.CheckedOf.{program_of};
 ghost use Rattle.sp_words.specs.Words.{command_of};
-ghost use Rattle.sp_front.specs.Checks.{KeepsRules};
 ghost use Rattle.superpascal.specs.Answers.{has_output, notes_of, status_of};
-ghost use Rattle.superpascal.specs.Calls.{AnswersOthers, Call, Cause, EndsWith, Exactly, InputTooLong, IsWithin, OfRun, OfText, Passes, ReadsFail, Refuses, RefusesWords, SaysRefusal, SaysUnbuilt, Writes, WritesLine, WritesNotes, WritesOutput, WritesText, asks_text, ended_cause, ending_of, file_of, found, got, layout_cause, run_cause, silent, text_cause, unbuilt_cause};
+ghost use Rattle.superpascal.specs.Calls.{AnswersOthers, Call, Cause, EndsWith, Exactly, InputTooLong, IsWithin, OfRun, OfText, Passes, ReadsFail, Refuses, RefusesWords, SaysRefusal, SaysUnbuilt, Writes, WritesLine, WritesNotes, WritesOutput, WritesText, accepted_cause, asks_all, asks_text, check_cause, ended_cause, ending_of, file_of, found, got, layout_cause, printed_cause, run_cause, sets_cause, silent, text_cause, unbuilt_cause};
+ghost use Rattle.superpascal.specs.Phases.{IsDisjointText, KeepsAll};
 
 use crate::ending::{Answer, Ending, notes_by};
 use crate::notes::run_notes;
+use crate::phases::measured_apart;
 use sp_base::{Halt, Limits, Place, Refusal, Rule, Show, Text};
 use sp_first::{Ended, one_meaning, run_text};
 use sp_format::{format, one_layout};
-use sp_front::{one_answer, typed_apart};
+use sp_front::{accepted_texts_are_disjoint, analyse_apart, one_answer, one_compilation};
 use sp_outside::{Failed, Library, LoadError, ReadError, Sink, Source, put_all, read_all};
 use sp_print::refusal_line;
 use sp_report::Watcher;
+use sp_sets::{one_sets_text, print_sets};
+use sp_tree::Checked;
+use sp_varsets::Sets;
 use sp_words::{Command, WordsError, read_words};
 use std::alloc::Global;
 use std::thread::Threads;
@@ -136,20 +141,19 @@ fn text_answer<I: Source>(
     requires { All (λ w. told w ≡ []) watchers.items }
     ensures { text_cause (λ s es. flat_map (λ w. text w es) (filter (λ w. is_chosen s (title w)) watchers.items)) (I.left input.old) (I.faults input.old) (I.faults input.new) command.now program.now result }
 {
-    one_layout();
     match command {
         Command::Format(_) => layout_answer(alloc, program),
         Command::Run { limits, show, .. } => match phases(rt, alloc, program) {
             Ok(()) => run_answer(alloc, program, *limits, *show, input, watchers),
             Err(stopped) => stopped,
         },
-        Command::Check(_) => unbuilt_answer(rt, alloc, program),
+        Command::Check(_) => check_answer(rt, alloc, program),
         Command::Code(_) => unbuilt_answer(rt, alloc, program),
-        Command::Sets(_) => unbuilt_answer(rt, alloc, program),
+        Command::Sets(_) => sets_answer(rt, alloc, program),
     }
 }
 
-// Passes the phases over the text, of which nothing more is built.
+// Passes all rules over the text, with which nothing more is done.
 fn unbuilt_answer(rt: &impl Threads, alloc: Global, program: &[u8]) -> Answer
     ensures { unbuilt_cause program.now result }
 {
@@ -159,11 +163,63 @@ fn unbuilt_answer(rt: &impl Threads, alloc: Global, program: &[u8]) -> Answer
     }
 }
 
-// Passes the phases over the text, or gives the answer to a text that does not come through.
+// Says of the text that it is accepted, or which rule it breaks first.
+fn check_answer(rt: &impl Threads, alloc: Global, program: &[u8]) -> Answer
+    ensures { check_cause program.now result }
+{
+    match phases(rt, alloc, program) {
+        Ok(()) => accepted_answer(alloc),
+        Err(stopped) => stopped,
+    }
+}
+
+// The answer of `check` to a text that breaks no rule.
+fn accepted_answer(alloc: Global) -> Answer
+    ensures { accepted_cause result }
+{
+    match Vec::from_slice(alloc, b"accepted\n") {
+        Ok(line) => Answer {
+            ending: Ending::Accepted,
+            output: Text::of(Vec::new(alloc)),
+            notes: Text::of(line),
+        },
+        Err(_) => silent(alloc, Ending::OutOfMemory),
+    }
+}
+
+// Makes the sets of the text.
+fn sets_answer(rt: &impl Threads, alloc: Global, program: &[u8]) -> Answer
+    ensures { sets_cause program.now result }
+{
+    match analyse_apart(rt, alloc, program) {
+        Ok(found) => {
+            let (checked, sets) = found;
+            printed_answer(alloc, &checked, &sets)
+        }
+        Err(Halt::Refused(refusal)) => refused(alloc, refusal),
+        Err(Halt::Memory) => silent(alloc, Ending::OutOfMemory),
+    }
+}
+
+// The answer of `sets` to a text with this tree and these sets.
+fn printed_answer(alloc: Global, checked: &Checked, sets: &Sets) -> Answer
+    ensures { printed_cause (program_of checked.now) sets.now result }
+{
+    match print_sets(alloc, checked, sets) {
+        Ok(text) => Answer {
+            ending: Ending::Accepted,
+            output: Text::of(text),
+            notes: Text::of(Vec::new(alloc)),
+        },
+        Err(_) => silent(alloc, Ending::OutOfMemory),
+    }
+}
+
+// Passes all rules over the text, or gives the answer to a text that does not come through.
 fn phases(rt: &impl Threads, alloc: Global, program: &[u8]) -> Result<(), Answer>
     ensures { Passes program.now result }
 {
-    match typed_apart(rt, alloc, program) {
+    match measured_apart(rt, alloc, program) {
         Ok(tree) => {
             drop(tree);
             Ok(())
@@ -198,7 +254,7 @@ fn run_answer<I: Source>(
     watchers: Vec<Box<dyn Watcher>>,
 ) -> Answer
     requires fresh { All (λ w. told w ≡ []) watchers.items }
-    requires kept { KeepsRules program.now }
+    requires kept { KeepsAll program.now }
     ensures { run_cause (λ s es. flat_map (λ w. text w es) (filter (λ w. is_chosen s (title w)) watchers.items)) (I.left input.old) (I.faults input.old) (I.faults input.new) limits show program.now result.ending result.output result.notes }
 {
     one_meaning();
@@ -289,8 +345,9 @@ fn write_notes<N: Sink>(answer: &Answer, notes: &mut N) -> u8
 /// | status | comes | notes |
 /// |---|---|---|
 /// | 0 | where the run ends | `done`, the verdict and the reports; or the journal |
-/// | 0 | where `format` has laid the text out | none |
-/// | 1 | where the text breaks a rule, for `format` one of its characters and grammar | `refused RULE LINE:COLUMN`, the first such rule |
+/// | 0 | where `check` finds no broken rule | `accepted` |
+/// | 0 | where `format` has laid the text out, or `sets` has given the sets of the text | none |
+/// | 1 | where the text breaks a rule, L5 among them; for `sets` one of its characters, grammar, names and types, for `format` one of its characters and grammar | `refused RULE LINE:COLUMN`, the first such rule |
 /// | 1 | else where the command or the form of the text is not built, or the run meets a limit | `not built` |
 /// | 2 | where the words are refused | `bad words` |
 /// | 3 | where a fault ends the run | `fault F NAME`, the verdict and the reports; or the journal |
@@ -328,13 +385,17 @@ pub fn superpascal<L: Library, I: Source, O: Sink, N: Sink>(
     ensures no_output { result.status ≢ 0 → result.status ≢ 3 → result.status ≢ 6 → got (O.written output.new) (O.faults output.new) ≡ got (O.written output.old) (O.faults output.old) }
     ensures notes { OfRun (map string_bytes words.now) (L.held library.old) (λ a program. WritesNotes (λ s es. flat_map (λ w. text w es) (filter (λ w. is_chosen s (title w)) watchers.items)) a program (got (N.written notes.old) (N.faults notes.old)) (got (N.written notes.new) (N.faults notes.new)) result.status) }
     ensures line { result.status ≢ 0 → result.status ≢ 3 → result.status ≢ 6 → WritesLine (got (N.written notes.old) (N.faults notes.old)) (got (N.written notes.new) (N.faults notes.new)) result.status }
+    ensures disjoint { OfText (map string_bytes words.now) (L.held library.old) (λ c program. asks_all c → (result.status ≡ 0) ⊎ (result.status ≡ 3) → IsDisjointText program) }
 
     // The answer that was due, its cause, and how it was written: what stands of a status that 6 displaces.
     ensures displaced { Call (found (map string_bytes words.now) (L.held library.old) (L.faults library.old) (L.faults library.new) (I.left input.old) (I.faults input.old) (I.faults input.new) (λ s es. flat_map (λ w. text w es) (filter (λ w. is_chosen s (title w)) watchers.items))) (got (O.written output.old) (O.faults output.old)) (got (O.written output.new) (O.faults output.new)) (got (N.written notes.old) (N.faults notes.old)) (got (N.written notes.new) (N.faults notes.new)) result.status }
 {
     one_meaning();
     one_answer();
+    one_compilation();
     one_layout();
+    accepted_texts_are_disjoint();
+    one_sets_text();
     run_words(rt, alloc, words, library, input, output, notes, watchers)
 }
 

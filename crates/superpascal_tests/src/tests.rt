@@ -211,7 +211,6 @@ fn refused_texts(rt: HostRuntime) -> Result<(), Fail> {
             "program g; var x: integer; begin y := 1; x := true end.",
             "refused N1 1:34\n",
         ),
-        ("program g; begin write(1); end.", "not built\n"),
     ];
     for (text, notes) in cases {
         for command in ["run", "check", "code", "sets"] {
@@ -220,6 +219,107 @@ fn refused_texts(rt: HostRuntime) -> Result<(), Fail> {
             assert!(rt; given.output.is_empty());
             assert_eq!(rt; given.notes.as_slice(), notes.as_bytes(), "{text}");
         }
+    }
+    Ok(())
+}
+
+#[test]
+fn accepted_texts(rt: HostRuntime) -> Result<(), Fail> {
+    let texts = [
+        ANSWER,
+        "program g; begin write(1); end.",
+        "program c; var x: integer; begin parallel write(1) | x := 2 end end.",
+    ];
+    for text in texts {
+        let given = call(&rt, rt.alloc(), &["check", "a.sp"], text.as_bytes(), NONE)?;
+        assert_eq!(rt; given.status, 0, "{text}");
+        assert!(rt; given.output.is_empty());
+        assert_eq!(rt; given.notes.as_slice(), b"accepted\n".as_slice());
+    }
+    let unbuilt = "program g; begin write(1); end.";
+    for command in ["run", "code"] {
+        let given = call(
+            &rt,
+            rt.alloc(),
+            &[command, "a.sp"],
+            unbuilt.as_bytes(),
+            NONE,
+        )?;
+        assert_eq!(rt; given.status, 1);
+        assert_eq!(rt; given.notes.as_slice(), b"not built\n".as_slice());
+    }
+    Ok(())
+}
+
+#[test]
+fn texts_that_interfere(rt: HostRuntime) -> Result<(), Fail> {
+    let text = "program b; var x, y: integer; begin y := 1; parallel x := 1 | y := x end end.";
+    for command in ["run", "check", "code"] {
+        let given = call(&rt, rt.alloc(), &[command, "a.sp"], text.as_bytes(), NONE)?;
+        assert_eq!(rt; given.status, 1);
+        assert!(rt; given.output.is_empty());
+        assert_eq!(rt; given.notes.as_slice(), b"refused I1 1:63\n".as_slice());
+    }
+    Ok(())
+}
+
+#[test]
+fn sets_of_texts(rt: HostRuntime) -> Result<(), Fail> {
+    let cases = [
+        (
+            "program b; var x, y: integer; begin y := 1; parallel x := 1 | y := x end end.",
+            "parallel 1:45 0 targets x expressions\nparallel 1:45 1 targets y expressions x\n",
+        ),
+        (
+            "program d; var x: integer; begin forall i := 1 to 3 do x := i end.",
+            "forall 1:34 targets x expressions i\n",
+        ),
+        (
+            "program e; var x: integer; procedure p; begin x := x + 1; if x < 3 then p end; begin x := 0; p end.",
+            "implicit p targets x expressions x\n",
+        ),
+        // a function's result stands where its heading does
+        (
+            "program p; function f(a: integer): integer; begin parallel f := a; a := 1 end end; begin end.",
+            "implicit f targets expressions\nparallel 1:51 0 targets f a expressions a\n",
+        ),
+        // the input and the output first; an inner statement before the program's own
+        (
+            "program p; var y, x: integer; procedure q; begin parallel read(x) end end;\nbegin parallel begin write(y); q end end end.",
+            "implicit q targets input x expressions\nparallel 1:50 0 targets input x expressions\nparallel 2:7 0 targets input output x expressions y\n",
+        ),
+        ("program g; begin end.", ""),
+    ];
+    for (text, output) in cases {
+        let given = call(&rt, rt.alloc(), &["sets", "a.sp"], text.as_bytes(), NONE)?;
+        assert_eq!(rt; given.status, 0, "{text}");
+        assert_eq!(rt; given.output.as_slice(), output.as_bytes(), "{text}");
+        assert!(rt; given.notes.is_empty());
+    }
+    Ok(())
+}
+
+/// A `write` of so many arguments.
+fn many_arguments(alloc: Global, count: usize) -> Result<Vec<u8>, AllocError> {
+    let mut text = Vec::from_slice(alloc, b"program l; var a: integer; begin a := 1; write(a")?;
+    for _ in 1..count {
+        text.extend_from_slice(b",a")?;
+    }
+    text.extend_from_slice(b") end.")?;
+    Ok(text)
+}
+
+#[test]
+fn the_longest_code(rt: HostRuntime) -> Result<(), Fail> {
+    let text = many_arguments(rt.alloc(), 349_524)?;
+    let given = call(&rt, rt.alloc(), &["check", "a.sp"], text.as_slice(), NONE)?;
+    assert_eq!(rt; given.status, 0);
+    assert_eq!(rt; given.notes.as_slice(), b"accepted\n".as_slice());
+    let longer = many_arguments(rt.alloc(), 349_525)?;
+    for command in ["run", "check", "code"] {
+        let given = call(&rt, rt.alloc(), &[command, "a.sp"], longer.as_slice(), NONE)?;
+        assert_eq!(rt; given.status, 1);
+        assert_eq!(rt; given.notes.as_slice(), b"refused L5 1:1\n".as_slice());
     }
     Ok(())
 }
@@ -362,7 +462,7 @@ fn words_with_options(rt: HostRuntime) -> Result<(), Fail> {
         (&["run", "a.sp", "--output", "1"], 1, "", "not built\n"),
         (&["run", "a.sp", "--cells", "4096"], 0, "42", done),
         (&["run", "a.sp", "--cells", "4095"], 1, "", "not built\n"),
-        (&["check", "a.sp"], 1, "", "not built\n"),
+        (&["check", "a.sp"], 0, "", "accepted\n"),
         (&["sets", "a"], 5, "", "read fault\n"),
     ];
     for (words, status, output, notes) in cases {

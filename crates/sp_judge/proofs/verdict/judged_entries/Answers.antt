@@ -1,11 +1,11 @@
-use Rattle.std.proofs.Common.{◌≡◌, length, take, get_or, Some, slice_get, sym, ap, ◌∙◌, subst, arith}
+use Rattle.std.proofs.Common.{◌≡◌, ◌+◌, length, take, get_or, Some, slice_get, sym, ap, ◌∙◌, subst, arith}
 use Rattle.std.proofs.lemmas.Option.{slice_get-get_or}
 use Rattle.std.specs.Result.{IfOk}
 use Rattle.sp_journal.specs.declared.entry.Journal.{Journal}
 use Rattle.sp_journal.specs.Births.{births, occurrences}
 use Rattle.sp_journal.proofs.Walk.{any_entry}
 use Rattle.sp_race.specs.Known.{AreKnown}
-use Rattle.sp_judge.specs.Bench.{named, IsTame, IsBlank}
+use Rattle.sp_judge.specs.Bench.{named, IsTame, IsBlank, Holds}
 use Rattle.sp_judge.specs.Races.{IsJudged}
 use Rattle.sp_judge.proofs.Numbers.{all_named}
 use Rattle.sp_judge.proofs.Judging.{tame_of, blank_holds, known_next, all_ordered, none_racing}
@@ -15,9 +15,9 @@ pub loop-at-init : goal.loop-at-init
 loop-at-init c =
     let es = c.items-entries.result.now in
     let is : c.args.journal.now.entries ≡ es = sym c.items-entries.ensures in
-    let p : c.processes.result ≡ (births es).processes = c.processes.ensures.value ∙ ap (λ (j : Journal). (births j.entries).processes) c.in_ok-ledger.ensures.1 ∙ ap (λ xs. (births xs).processes) is in
-    let q : c.channels.result ≡ (births es).channels = c.channels.ensures.value ∙ ap (λ (j : Journal). (births j.entries).channels) c.in_ok-ledger.ensures.1 ∙ ap (λ xs. (births xs).channels) is in
-    (blank_holds es c.in_ok-bench.bench (subst (λ n. IsBlank c.in_ok-bench.bench n (births es).channels) p (subst (λ n. IsBlank c.in_ok-bench.bench c.processes.result n) q c.in_ok-bench.ensures)), tt)
+    let p : c.processes-2.result ≡ (births es).processes = c.processes-2.ensures.value ∙ ap (λ (j : Journal). (births j.entries).processes) c.in_ok-ledger.ensures.1 ∙ ap (λ xs. (births xs).processes) is in
+    let q : c.channels-2.result ≡ (births es).channels = c.channels-2.ensures.value ∙ ap (λ (j : Journal). (births j.entries).channels) c.in_ok-ledger.ensures.1 ∙ ap (λ xs. (births xs).channels) is in
+    (blank_holds es c.in_ok-bench.bench (subst (λ n. IsBlank c.in_ok-bench.bench n (births es).channels) p (subst (λ n. IsBlank c.in_ok-bench.bench c.processes-2.result n) q c.in_ok-bench.ensures)) c.in_ok-until.until.items, tt)
 
 pub racing-requires-clause-tame : goal.racing-requires-clause-tame
 racing-requires-clause-tame c = subst IsTame (sym c.items-entries.ensures) (tame_of c.args.journal.now c.requires.nameable c.requires.quiet)
@@ -39,8 +39,10 @@ loop-at-preserved c =
     let at = c.loop-at.at in
     let e = get_or es at any_entry in
     let inside : slice_get es at ≡ Some e = slice_get-get_or es at any_entry c.loop-at-test.true in
-    let tame = subst IsTame (sym c.items-entries.ensures) (tame_of c.args.journal.now c.requires.nameable c.requires.quiet) in
-    (c.in_ok-see.ensures, known_next es tame at e inside c.loop-at.invariant.1 (none_racing es at c.racing.result c.racing.ensures c.in_default.not-Some e inside))
+    let tame = subst IsTame (sym c.items-entries.ensures) (tame_of c.args.journal.now c.requires.nameable c.requires.quiet) in (
+      subst (λ u. Holds (births es) u (take (at + 1) es) c.see.new.self) c.deref-in-loop-at.ensures.value c.in_ok-see.ensures,
+      known_next es tame at e inside c.loop-at.invariant.1 (none_racing es at c.in_ok-found.found c.in_ok-found.ensures c.in_default.not-Some e inside),
+    )
 
 pub returns : goal.returns
 returns c =

@@ -1,24 +1,18 @@
 use Rattle.std.proofs.Common.{◌<◌, sym, ap, ◌∙◌, subst}
 use Rattle.sp_journal.specs.Names.{chan_name}
 use Rattle.sp_journal.specs.Births.{births, channel}
-use Rattle.sp_judge.proofs.Judging.{at_inside, places_there, process_inside, channel_inside, not_unknown, race_judged}
+use Rattle.sp_judge.proofs.Judging.{channel_inside, not_unknown, race_judged}
 use Rattle.sp_judge.proofs.verdict.race.Goals as goal
 
-pub first_unknown-requires-clause-inside : goal.first_unknown-requires-clause-inside
-first_unknown-requires-clause-inside c = at_inside c.args.entries.now c.requires.tame c.args.at c.args.bench.now c.requires.holds c.requires.in_order c.args.racer c.requires.racing
-
-pub first_unknown-requires-clause-places : goal.first_unknown-requires-clause-places
-first_unknown-requires-clause-places c = places_there c.args.entries.now c.requires.tame c.args.at c.args.bench.now c.requires.holds c.requires.in_order c.args.racer c.requires.racing
-
-pub first_unknown-requires-clause-there : goal.first_unknown-requires-clause-there
-first_unknown-requires-clause-there c = process_inside c.args.entries.now c.requires.tame c.args.at c.args.bench.now c.requires.holds c.requires.in_order c.args.racer c.requires.racing
+pub first_unknown-requires-clause-here : goal.first_unknown-requires-clause-here
+first_unknown-requires-clause-here c = c.requires.racing.0
 
 pub channel-requires-clause-there : goal.channel-requires-clause-there
-channel-requires-clause-there c = subst (λ es. c.args.racer.channel < (births es).channels) (sym c.requires.its_journal) (channel_inside c.args.entries.now c.requires.tame c.args.at c.args.bench.now c.requires.holds c.requires.in_order c.args.racer c.requires.racing)
+channel-requires-clause-there c = subst (λ es. c.args.racer.channel < (births es).channels) (sym c.requires.its_journal) (channel_inside c.args.entries.now c.requires.tame c.args.at c.requires.in_order c.args.racer c.requires.racing)
 
 pub returns-in-None : goal.returns-in-None
-returns-in-None c = absurd (not_unknown c.args.entries.now c.requires.tame c.args.at c.args.bench.now c.requires.holds c.requires.in_order c.args.racer c.requires.racing c.in-None.ensures)
+returns-in-None c = absurd (not_unknown c.args.entries.now c.requires.tame c.args.at c.requires.in_order c.args.racer c.requires.racing (rw c.in-None.is at c.in_ok-first.ensures))
 
 pub returns-in_ok-channel-in-Some : goal.returns-in_ok-channel-in-Some
-returns-in_ok-channel-in-Some c = race_judged c.args.entries.now c.requires.tame c.args.at c.args.bench.now c.requires.holds c.requires.in_order c.args.racer c.requires.racing c.in-Some.earlier c.in-Some.ensures
+returns-in_ok-channel-in-Some c = race_judged c.args.entries.now c.requires.tame c.args.at c.requires.in_order c.args.racer c.requires.racing c.in-Some.earlier (rw c.in-Some.is at c.in_ok-first.ensures)
     c.in_ok-channel-in-Some.field-0 (c.in_ok-channel-in-Some.ensures ∙ ap (λ es. chan_name (channel (births es) c.args.racer.channel)) c.requires.its_journal)

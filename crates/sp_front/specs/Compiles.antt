@@ -1,0 +1,43 @@
+-- What a text is by all phases, the rules of interference among them.
+use Rattle.std.specs.Prelude.{◌⊎◌, ℕ, List, Result, Ok, Err}
+use Rattle.sp_base.specs.declared.halt.Halt.{Halt}
+use Rattle.sp_base.specs.declared.halt.Halt.TheVariants as halt
+use Rattle.sp_base.specs.declared.halt.Refusal.{Refusal}
+use Rattle.sp_base.specs.declared.place.Place.{Place}
+use Rattle.sp_base.specs.declared.rule.Rule.{Rule}
+use Rattle.sp_tree.specs.declared.checked.Checked.{Checked}
+use Rattle.sp_tree.specs.First.{IsFirst}
+use Rattle.sp_tree.specs.PlainChecked as c
+use Rattle.sp_tree.specs.CheckedOf as checked
+use Rattle.sp_tree.specs.Interferes.{Interferes}
+use Rattle.sp_varsets.specs.declared.sets.Sets.{Sets}
+use Rattle.sp_varsets.specs.AreSets.{AreSets}
+use Rattle.sp_front.specs.declared.compiling.Accepted.{Accepted}
+use Rattle.sp_front.specs.Checks.{IsChecked, BreaksFirst}
+
+-- the text has this checked tree, which breaks no rule of interference
+abbrev pub IsAccepted : List ℕ → c.Program → Type 0
+IsAccepted text p = IsChecked text p × ((r : Rule) (at : Place) → Interferes p r at → ⊥)
+
+-- the text has a checked tree, and this is the first rule of interference that it breaks
+abbrev pub BreaksInterference : List ℕ → Refusal → Type 0
+BreaksInterference text r = (p : c.Program) × IsChecked text p × IsFirst (Interferes p) r
+
+-- the first rule of all phases that the text breaks
+abbrev pub BreaksAnyFirst : List ℕ → Refusal → Type 0
+BreaksAnyFirst text r = BreaksFirst text r ⊎ BreaksInterference text r
+
+abbrev pub Compiles : List ℕ → Result Accepted Halt → Type 0
+Compiles text (Ok a) = IsAccepted text (checked.program_of a.checked) × AreSets (checked.program_of a.checked) a.sets
+Compiles text (Err (halt.Refused r)) = BreaksAnyFirst text r
+Compiles text (Err halt.Memory) = Unit {0}
+
+-- the same without the phase of interference
+abbrev pub Analyses : List ℕ → Result (Checked × Sets) Halt → Type 0
+Analyses text (Ok a) = IsChecked text (checked.program_of a.0) × AreSets (checked.program_of a.0) a.1
+Analyses text (Err (halt.Refused r)) = BreaksFirst text r
+Analyses text (Err halt.Memory) = Unit {0}
+
+-- the text breaks no rule of any phase
+abbrev pub KeepsAllRules : List ℕ → Type 0
+KeepsAllRules text = (r : Refusal) → BreaksAnyFirst text r → ⊥

@@ -1,0 +1,147 @@
+//! All phases: from the bytes of a text to its tree and its sets.
+
+ghost use Rattle.std.specs.Prelude.{◌≡◌, IfOk};
+ghost use Rattle.sp_tree.specs.PlainOf.{program_of};
+ghost use Rattle.sp_tree.specs.Interference.{IsFreeOfInterference};
+ghost use Rattle.sp_meaning.specs.Own.{Setting};
+ghost use Rattle.sp_meaning.specs.Runs.{IsDisjointRun};
+ghost use Rattle.sp_front.specs.Checks.{IsProgramOf};
+ghost use Rattle.sp_front.specs.Compiles.{Analyses, Compiles, KeepsAllRules};
+
+use crate::law::{numbered_trees, one_answer};
+use crate::phases::typed;
+use sp_base::Halt;
+use sp_facts::laws::accepted_trees_are_fine;
+use sp_interfere::check_sets;
+use sp_meaning::rule_keepers_are_disjoint;
+use sp_tree::Checked;
+use sp_varsets::{Sets, sets_of};
+use std::alloc::Global;
+use std::snapshot::Snapshot;
+use std::thread::{Builder, Promise, Threads};
+
+/// A text that breaks no rule: its tree, and the variables that its statements and blocks use.
+#[derive(Drop)]
+pub struct Accepted {
+    checked: Checked,
+    sets: Sets,
+}
+
+impl Accepted {
+    /// The tree.
+    pub fn checked(&self) -> &Checked
+        ensures { result.now ≡ self.now.checked }
+    {
+        &self.checked
+    }
+
+    /// The sets of the tree.
+    pub fn sets(&self) -> &Sets
+        ensures { result.now ≡ self.now.sets }
+    {
+        &self.sets
+    }
+}
+
+/// As many blocks as there are numbers for.
+const MOST_BLOCKS: usize = 4_294_967_296;
+
+/// The tree and the sets of a text that breaks no rule of its characters, its grammar, its names and its types, or the
+/// first such rule that it breaks, with its place. Interference is not looked at, so that the sets can show why a text
+/// is refused.
+///
+/// It recurses as deep as the longest chain of operators is long: `analyse_apart` gives it the stack for that.
+pub fn analyse(alloc: Global, text: &[u8]) -> Result<(Checked, Sets), Halt>
+    ensures { Analyses text.now result }
+{
+    numbered_trees();
+    let checked = typed(alloc, text)?;
+    let sets = sets_of(alloc, &checked)?;
+    Ok((checked, sets))
+}
+
+/// The tree and the sets of a text that breaks no rule, or the first rule that it breaks, with its place: of its
+/// characters and its grammar, then of its names, of its types, and of interference. On no input, with no limits and in
+/// no lawful schedule does a process of an accepted text write what a parallel one reads or writes.
+///
+/// It recurses as deep as the longest chain of operators is long: `compile_apart` gives it the stack for that.
+pub fn compile(alloc: Global, text: &[u8]) -> Result<Accepted, Halt>
+    ensures compiles { Compiles text.now result }
+    ensures keeps { IfOk result (λ a. KeepsAllRules text.now) }
+    ensures program { IfOk result (λ a. IsProgramOf text.now (program_of a.checked)) }
+    ensures free { IfOk result (λ a. IsFreeOfInterference (program_of a.checked)) }
+    ensures disjoint { IfOk result (λ a. (g : Setting) → g.program ≡ program_of a.checked → IsDisjointRun g) }
+{
+    one_answer();
+    numbered_trees();
+    accepted_trees_are_fine();
+    rule_keepers_are_disjoint();
+    let found = analyse(alloc, text)?;
+    let (checked, sets) = found;
+    if checked.blocks.len() > MOST_BLOCKS {
+        return Err(Halt::Memory);
+    }
+    match check_sets(&checked, &sets) {
+        Ok(()) => Ok(Accepted { checked, sets }),
+        Err(refusal) => Err(Halt::Refused(refusal)),
+    }
+}
+
+/// The stack of the phases, in bytes: addresses alone, since a page is used once it is touched.
+const STACK: usize = 0x4000_0000;
+
+/// What the thread of the phases promises of its answer about this text.
+#[derive(Drop)]
+struct CompiledOf(Snapshot<Vec<u8>>);
+
+impl Promise<Result<Accepted, Halt>> for CompiledOf {
+    ghost kept_by = { λ p r. Compiles p.0.value.items r };
+}
+
+/// `compile`, on a thread of its own with a stack for the longest text. Where no thread can be made the answer is want
+/// of memory: the caller's own stack would not hold a long chain of operators.
+pub fn compile_apart(rt: &impl Threads, alloc: Global, text: &[u8]) -> Result<Accepted, Halt>
+    ensures compiles { Compiles text.now result }
+    ensures keeps { IfOk result (λ a. KeepsAllRules text.now) }
+    ensures program { IfOk result (λ a. IsProgramOf text.now (program_of a.checked)) }
+    ensures free { IfOk result (λ a. IsFreeOfInterference (program_of a.checked)) }
+    ensures disjoint { IfOk result (λ a. (g : Setting) → g.program ≡ program_of a.checked → IsDisjointRun g) }
+{
+    one_answer();
+    accepted_trees_are_fine();
+    rule_keepers_are_disjoint();
+    let mut copy = Vec::new(alloc);
+    copy.extend_from_slice(text)?;
+    let promise = CompiledOf(Snapshot::of(&copy));
+    let started = Builder::new()
+        .stack_size(STACK)
+        .spawn_with(rt, promise, move || compile(alloc, copy.as_slice()));
+    match started {
+        Ok(thread) => thread.join(rt),
+        Err(_) => Err(Halt::Memory),
+    }
+}
+
+/// What the thread of the phases up to types promises of its answer about this text.
+#[derive(Drop)]
+struct AnalysedOf(Snapshot<Vec<u8>>);
+
+impl Promise<Result<(Checked, Sets), Halt>> for AnalysedOf {
+    ghost kept_by = { λ p r. Analyses p.0.value.items r };
+}
+
+/// `analyse`, on a thread of its own, as `compile_apart`.
+pub fn analyse_apart(rt: &impl Threads, alloc: Global, text: &[u8]) -> Result<(Checked, Sets), Halt>
+    ensures { Analyses text.now result }
+{
+    let mut copy = Vec::new(alloc);
+    copy.extend_from_slice(text)?;
+    let promise = AnalysedOf(Snapshot::of(&copy));
+    let started = Builder::new()
+        .stack_size(STACK)
+        .spawn_with(rt, promise, move || analyse(alloc, copy.as_slice()));
+    match started {
+        Ok(thread) => thread.join(rt),
+        Err(_) => Err(Halt::Memory),
+    }
+}

@@ -1,0 +1,203 @@
+//! What the process of the next entry knows of the offers before it.
+
+ghost use Rattle.std.specs.Prelude.{◌≡◌, ◌<◌, ◌≤◌, ◌↔◌, ℕ, Some, IsTrue, IfOk, MatchOption, length, slice_get, take};
+ghost use Rattle.sp_journal.specs.Births.{births};
+ghost use Rattle.sp_journal.specs.Births.{channel as channel_named};
+ghost use Rattle.sp_journal.specs.Ledger.{IsLedger};
+ghost use Rattle.sp_journal.specs.Names.{Offered};
+ghost use Rattle.sp_journal.specs.Past.{judged};
+ghost use Rattle.sp_race.specs.Known.{KnowsOffers, AreKnown};
+ghost use Rattle.sp_judge.specs.Clocks.{number_at};
+ghost use Rattle.sp_judge.specs.Counts.{counts};
+ghost use Rattle.sp_judge.specs.Bench.{named, offer_event, IsTame, Holds, IsOfferAt, IsLastOffer, IsUnknown, IsFirstUnknown};
+
+use crate::bench::{Bench, Offer, Racer, is_offer};
+use crate::clock::is_asked;
+use sp_base::Memory;
+use sp_journal::{Entry, Event, Ledger, Way};
+use std::alloc::Global;
+
+/// Of one channel: the process of the last send, and that of the last receive.
+#[derive(Clone, Copy)]
+struct Users {
+    sender: Option<u32>,
+    receiver: Option<u32>,
+}
+
+/// For each process the index after the last entry that asks for its count. An offer asks for the count of the process
+/// that made the last one before it of its way on its channel, if that is another process. A channel that nobody takes
+/// over from anybody is never asked about, and no clock keeps a count for it. (Where this said less than it should, the
+/// judge would say the same and be slower.)
+pub(crate) fn questions(
+    alloc: Global,
+    entries: &[Entry],
+    processes: u64,
+    channels: u64,
+) -> Result<Vec<u64>, Memory> {
+    let mut until = Vec::new(alloc);
+    for _ in 0..processes {
+        until.push(0)?;
+    }
+    let mut users = Vec::new(alloc);
+    for _ in 0..channels {
+        users.push(Users {
+            sender: None,
+            receiver: None,
+        })?;
+    }
+    let mut end: u64 = 0;
+    for entry in entries {
+        end = end.saturating_add(1);
+        ask(&mut until, &mut users, *entry, end);
+    }
+    Ok(until)
+}
+
+/// Takes down what the entry before this index asks for.
+fn ask(until: &mut Vec<u64>, users: &mut Vec<Users>, entry: Entry, end: u64) {
+    let Entry { process, event } = entry;
+    let asked = match event {
+        Event::Send(channel) => match users.get_mut(channel as usize) {
+            Some(user) => user.sender.replace(process),
+            None => None,
+        },
+        Event::Receive(channel) => match users.get_mut(channel as usize) {
+            Some(user) => user.receiver.replace(process),
+            None => None,
+        },
+        Event::Fork(_) | Event::Open | Event::End | Event::Fault(_) | Event::Laid | Event::Pause =>
+            None,
+    };
+    if let Some(other) = asked {
+        if other != process {
+            if let Some(last) = until.get_mut(other as usize) {
+                *last = end;
+            }
+        }
+    }
+}
+
+/// Whether the process of this offer, the next entry, knows of all offers of its way on its channel so far. All of them
+/// were in order.
+pub(crate) fn knows_offers(
+    bench: &Bench,
+    ledger: &Ledger,
+    entries: &[Entry],
+    until: &[u64],
+    at: usize,
+    offer: Racer,
+) -> Result<bool, Memory>
+    requires tame { IsTame entries.now }
+    requires ledger { IsLedger ledger.now }
+    requires its_journal { ledger.now.journal.entries ≡ entries.now }
+    requires holds { Holds (births entries.now) until.now (take at entries.now) bench.now }
+    requires here { slice_get entries.now at ≡ Some (record { process = offer.process; event = offer_event offer.way offer.channel }) }
+    requires in_order { AreKnown (named (births entries.now) (take at entries.now)) }
+    ensures { IfOk result (λ knows. IsTrue knows ↔ KnowsOffers (judged (named (births entries.now) (take at entries.now))) (named (births entries.now) (take at entries.now)) ((births entries.now).name offer.process) (Offered offer.way (channel_named (births entries.now) offer.channel))) }
+{
+    match bench.lines[offer.channel as usize].last(offer.way) {
+        None => Ok(true),
+        Some(last) => {
+            if last.process == offer.process {
+                Ok(true)
+            } else if is_asked(until, last.process, at as u64) {
+                Ok(bench.clocks[offer.process as usize].knows(last.process, last.place))
+            } else {
+                knows_entry(bench.alloc, ledger, entries, at, offer.process, last)
+            }
+        }
+    }
+}
+
+/// For each process where to stop asking for its count: `end` for this one, and 0 for the others.
+fn one_question(alloc: Global, processes: u64, process: u32, end: u64) -> Result<Vec<u64>, Memory>
+    requires { process < processes }
+    ensures { IfOk result (λ until. number_at until.items process ≡ end) }
+{
+    let mut until = Vec::new(alloc);
+    for i in 0..processes {
+        until.push(if i == u64::from(process) { end } else { 0 })?;
+    }
+    Ok(until)
+}
+
+/// Whether a process knows of an offer before the entry of this index, by the count of that offer's process alone. It
+/// goes once through all entries before.
+fn knows_entry(
+    alloc: Global,
+    ledger: &Ledger,
+    entries: &[Entry],
+    at: usize,
+    process: u32,
+    offer: Offer,
+) -> Result<bool, Memory>
+    requires tame { IsTame entries.now }
+    requires ledger { IsLedger ledger.now }
+    requires its_journal { ledger.now.journal.entries ≡ entries.now }
+    requires inside { at < length entries.now }
+    requires process { process < (births entries.now).processes }
+    requires other { offer.process < (births entries.now).processes }
+    ensures { IfOk result (λ known. IsTrue known ↔ (offer.place < counts (named (births entries.now) (take at entries.now)) ((births entries.now).name process) ((births entries.now).name offer.process))) }
+{
+    let until = one_question(alloc, ledger.processes(), offer.process, at as u64 + 1)?;
+    let mut bench = Bench::new(alloc, ledger.processes(), ledger.channels())?;
+    for i in 0..at {
+        bench.see(ledger, entries, &until, i)?;
+    }
+    Ok(bench.clocks[process as usize].knows(offer.process, offer.place))
+}
+
+/// The last offer of this way on this channel before an index.
+fn last_offer(entries: &[Entry], before: usize, way: Way, channel: u32) -> Option<usize>
+    requires { before ≤ length entries.now }
+    ensures { MatchOption result ((k : ℕ) → k < before → IsOfferAt entries.now way channel k → ⊥) (λ i. IsLastOffer entries.now before way channel i) }
+{
+    let mut i = before;
+    while i > 0 {
+        i -= 1;
+        if is_offer(entries[i].event, way, channel) {
+            return Some(i);
+        }
+    }
+    None
+}
+
+/// The first earlier offer of the racer's way on its channel of which its process, that of the next entry, does not
+/// know. Who knows of an offer knows of the ones before it, so the first one is found by halves.
+pub(crate) fn first_unknown(
+    ledger: &Ledger,
+    bench: &Bench,
+    entries: &[Entry],
+    until: &[u64],
+    at: usize,
+    racer: Racer,
+) -> Result<Option<u64>, Memory>
+    requires tame { IsTame entries.now }
+    requires ledger { IsLedger ledger.now }
+    requires its_journal { ledger.now.journal.entries ≡ entries.now }
+    requires holds { Holds (births entries.now) until.now (take at entries.now) bench.now }
+    requires here { slice_get entries.now at ≡ Some (record { process = racer.process; event = offer_event racer.way racer.channel }) }
+    requires in_order { AreKnown (named (births entries.now) (take at entries.now)) }
+    ensures { IfOk result (λ first. MatchOption first ((i : ℕ) → i < at → IsUnknown (births entries.now) (named (births entries.now) (take at entries.now)) entries.now racer.process racer.way racer.channel i → ⊥) (λ i. IsFirstUnknown (births entries.now) (named (births entries.now) (take at entries.now)) entries.now at racer.process racer.way racer.channel i)) }
+{
+    let mut known = 0;
+    let mut first = at;
+    while known < first {
+        let middle = first - (first - known) / 2;
+        match last_offer(entries, middle, racer.way, racer.channel) {
+            None => known = middle,
+            Some(i) => {
+                let offer = Offer {
+                    process: entries[i].process,
+                    place: bench.places[i],
+                };
+                if knows_entry(bench.alloc, ledger, entries, at, racer.process, offer)? {
+                    known = middle;
+                } else {
+                    first = i;
+                }
+            }
+        }
+    }
+    Ok(if first < at { Some(first as u64) } else { None })
+}

@@ -1,0 +1,99 @@
+-- The end of a run: what its journal names is there, and one process holds its output.
+use Rattle.std.proofs.Common.{◌≡◌, ℕ, ◌<◌, ◌≤◌, List, [], ◌∷◌, ◌++◌, Option, Some, None, refl, sym, ap, ◌∙◌, subst, arith}
+use Rattle.sp_base.specs.declared.fault.Fault.{Fault}
+use Rattle.sp_journal.specs.declared.entry.Note.{Note}
+use Rattle.sp_journal.specs.declared.entry.Entry.{Entry}
+use Rattle.sp_journal.specs.declared.entry.Event.{Event}
+use Rattle.sp_journal.specs.declared.entry.Event.TheVariants as event
+use Rattle.sp_journal.specs.Births.{Births, at_start, births_from, after_event, after_entry, NameableFrom}
+use Rattle.sp_code.specs.Control.{entries_of}
+use Rattle.sp_code.specs.System.{System, IsSystem}
+use Rattle.sp_history.specs.Holding.{IsOutputOf}
+use Rattle.sp_history.proofs.Speaking.{system_spoken}
+use Rattle.sp_history.proofs.Naming.{system_nameable}
+use Rattle.sp_history.proofs.Holders.{one_holder}
+use Rattle.sp_room.specs.History.{Runs as Told}
+use Rattle.sp_kernel.specs.declared.kernel.Kernel.{Kernel}
+use Rattle.sp_kernel.specs.Kernels.{system_of, setting_of}
+use Rattle.sp_kernel.specs.Faults.{fault_in, fault_by}
+use Rattle.sp_kernel.specs.Asks.{IsOpening, Steps}
+use Rattle.sp_kernel.specs.Keeping.{from_start, it, along}
+use Rattle.sp_kernel.specs.Closes.{RanFrom, IsNamed, or_empty}
+use Rattle.sp_kernel.specs.Outputs.{written}
+use Rattle.sp_kernel.proofs.Faulting.{fault_told}
+use Rattle.sp_kernel.proofs.Closing.{AllHere, all_here}
+use Rattle.sp_kernel.proofs.Writing.{written_is, writes_store, none_writes}
+
+pub named : (x : Kernel) (fine : IsOpening x) (log : List Note) (y : Kernel) → Told Steps x log y → IsNamed y
+named x fine log y told =
+    let journal : y.journal.entries ≡ entries_of log = (it x fine log y told).journal ∙ ap (λ l. l ++ entries_of log) fine.journal in
+    record {
+      whole = (it x fine log y told).whole;
+      nameable = subst (NameableFrom at_start) (sym journal) (system_nameable (setting_of x) fine.limits (entries_of log) (system_of y) (along x fine log y told));
+      told = fault_told x fine log y told journal;
+      spoken = system_spoken (setting_of x) (entries_of log) (system_of y) (along x fine log y told);
+    }
+
+-- ---- the process of a fault is there
+
+more_processes : (s : Births) (p : ℕ) (e : Event) → s.processes ≤ (after_event s p e).processes
+more_processes s p (event.Fork n) = omega arith
+more_processes s p event.Open = omega arith
+more_processes s p (event.Send c) = omega arith
+more_processes s p (event.Receive c) = omega arith
+more_processes s p event.End = omega arith
+more_processes s p (event.Fault f) = omega arith
+more_processes s p event.Laid = omega arith
+more_processes s p event.Pause = omega arith
+
+all_processes : (s : Births) (es : List Entry) → s.processes ≤ (births_from s es).processes
+all_processes s [] = omega arith
+all_processes s (e ∷ es) = let a = more_processes s e.process e.event in let b = all_processes (after_entry s e) es in omega (arith, a, b)
+
+pub fault_there : (s : Births) (es : List Entry) (p : ℕ) (f : Fault) → NameableFrom s es → fault_in es ≡ Some (p, f) → p < (births_from s es).processes
+fault_there s [] p f h e = absurd (cc e)
+fault_there s (d ∷ es) p f h e = go (λ g. fault_there (after_entry s d) es p f h.1 g) d.event refl e
+  where
+    go : (fault_in es ≡ Some (p, f) → p < (births_from s (d ∷ es)).processes) → (v : Event) → d.event ≡ v → fault_by d.process v (fault_in es) ≡ Some (p, f) → p < (births_from s (d ∷ es)).processes
+    go on (event.Fault g) i w =
+        let same : d.process ≡ p = ap first (some_is w) in
+        let a = more_processes s d.process d.event in
+        let b = all_processes (after_entry s d) es in
+        omega (arith, h.0.0, same, a, b)
+      where
+        first : ℕ × Fault → ℕ
+        first z = z.0
+
+        some_is : {X : Type 0} {u v : X} → Some u ≡ Some v → u ≡ v
+        some_is z = cc
+    go on (event.Fork n) i w = on w
+    go on event.Open i w = on w
+    go on (event.Send c) i w = on w
+    go on (event.Receive c) i w = on w
+    go on event.End i w = on w
+    go on event.Laid i w = on w
+    go on event.Pause i w = on w
+
+-- ---- the output
+
+pub output_held : (log : List Note) (y : Kernel) → RanFrom log y → y.abandons ≡ 0 → (o : Option (List ℕ)) → written y.slots ≡ o → (q : ℕ) × (bs : List ℕ) × IsOutputOf (system_of y) q bs × (o ≡ Some bs)
+output_held log y (x, fine, ran) kept o is = go o is
+  where
+    here : AllHere y
+    here = all_here x fine log y ran kept
+
+    holder : (q : ℕ) × (bs : List ℕ) × IsOutputOf (system_of y) q bs
+    holder = one_holder (setting_of x) (system_of y) log (λ es t l. fine.sound.safe x.root.value.input.value x.limits fine.limits es t l) (from_start x fine log y ran.legal)
+
+    go : (o : Option (List ℕ)) → written y.slots ≡ o → (q : ℕ) × (bs : List ℕ) × IsOutputOf (system_of y) q bs × (o ≡ Some bs)
+    go None e = absurd (none_writes y.slots e holder.0 holder.2.store holder.1 (here.away holder.0) (here.gone holder.0) holder.2.at holder.2.output)
+    go (Some bs) e =
+        let w = written_is y.slots bs e in
+        let s = writes_store y.slots bs w in
+        let same : w.process ≡ holder.0 = holder.2.only w.process w.proc.store bs s.0 s.1 in
+        (holder.0, bs, record { store = w.proc.store; at = subst (λ q. Rattle.sp_code.specs.System.store_in ((system_of y).condition q) ≡ Some w.proc.store) same s.0; output = s.1; only = holder.2.only }, refl)
+
+pub output_text : (log : List Note) (y : Kernel) → RanFrom log y → (text : List ℕ) → or_empty (written y.slots) ≡ text → y.abandons ≡ 0 → (q : ℕ) × IsOutputOf (system_of y) q text
+output_text log y ran text e kept =
+    let o = output_held log y ran kept (written y.slots) refl in
+    (o.0, subst (IsOutputOf (system_of y) o.0) (ap or_empty (sym o.3) ∙ e) o.2)

@@ -1,0 +1,105 @@
+-- Whose output is found.
+use Rattle.std.proofs.Common.{◌≡◌, ℕ, zero, suc, List, [], ◌∷◌, Option, Some, None, slice_get, refl, sym, ap, ◌∙◌}
+use Rattle.std.specs.Prelude.{MatchOption}
+use Rattle.sp_cell.specs.Map.{Plain}
+use Rattle.sp_code.specs.PlainStore.{plain}
+use Rattle.sp_code.specs.Control.{Out, Gone}
+use Rattle.sp_code.specs.System.{store_in}
+use Rattle.sp_kernel.specs.declared.slot.Slot.{Slot}
+use Rattle.sp_kernel.specs.declared.slot.Slot.TheVariants as slot
+use Rattle.sp_kernel.specs.declared.slot.State.{State}
+use Rattle.sp_kernel.specs.declared.slot.State.TheVariants as st
+use Rattle.sp_machine.specs.declared.state.State.{State as Proc}
+use Rattle.sp_kernel.specs.declared.kernel.Kernel.{Kernel}
+use Rattle.sp_kernel.specs.Kernels.{doing_in, condition_in}
+use Rattle.sp_kernel.specs.Outputs.{written_by, written_in, or_rest, written}
+use Rattle.sp_kernel.specs.Closes.{HeldHere}
+
+store_here : (p : Proc) (s : State) → store_in (condition_in (Some (slot.Here p s))) ≡ Some p.store
+store_here p st.Ready = refl
+store_here p (st.Sending c k cs) = refl
+store_here p (st.Receiving c k) = refl
+store_here p (st.Joining n) = refl
+store_here p st.Laid = refl
+store_here p st.Over = refl
+
+not_out : (p : Proc) (s : State) (w : ℕ) → doing_in (Some (slot.Here p s)) ≡ Out w → ⊥
+not_out p st.Ready w e = absurd (cc e)
+not_out p (st.Sending c k cs) w e = absurd (cc e)
+not_out p (st.Receiving c k) w e = absurd (cc e)
+not_out p (st.Joining n) w e = absurd (cc e)
+not_out p st.Laid w e = absurd (cc e)
+not_out p st.Over w e = absurd (cc e)
+
+not_gone : (p : Proc) (s : State) → doing_in (Some (slot.Here p s)) ≡ Gone → ⊥
+not_gone p st.Ready e = absurd (cc e)
+not_gone p (st.Sending c k cs) e = absurd (cc e)
+not_gone p (st.Receiving c k) e = absurd (cc e)
+not_gone p (st.Joining n) e = absurd (cc e)
+not_gone p st.Laid e = absurd (cc e)
+not_gone p st.Over e = absurd (cc e)
+
+-- an output of one of these, which is here
+pub record Writes (slots : List Slot) (bs : List ℕ) : Type 0 where
+  pub process : ℕ
+  pub proc : Proc
+  pub state : State
+  pub at : slice_get slots process ≡ Some (slot.Here proc state)
+  pub output : written_by proc ≡ Some bs
+
+later : (s : Slot) (ss : List Slot) (bs : List ℕ) → Writes ss bs → Writes (s ∷ ss) bs
+later s ss bs w = record { process = suc w.process; proc = w.proc; state = w.state; at = w.at; output = w.output }
+
+pub written_is : (slots : List Slot) (bs : List ℕ) → written slots ≡ Some bs → Writes slots bs
+written_is [] bs e = absurd (cc e)
+written_is (slot.Here p s ∷ ss) bs e = go (written_by p) refl e (λ f. written_is ss bs f)
+  where
+    go : (o : Option (List ℕ)) → written_by p ≡ o → or_rest o (written ss) ≡ Some bs → (written ss ≡ Some bs → Writes ss bs) → Writes (slot.Here p s ∷ ss) bs
+    go (Some cs) is f h = record { process = zero; proc = p; state = s; at = refl; output = is ∙ f }
+    go None is f h = later (slot.Here p s) ss bs (h f)
+written_is (slot.Out w p ∷ ss) bs e = later (slot.Out w p) ss bs (written_is ss bs e)
+written_is (slot.Ended ∷ ss) bs e = later slot.Ended ss bs (written_is ss bs e)
+written_is (slot.Gone p ∷ ss) bs e = later (slot.Gone p) ss bs (written_is ss bs e)
+
+pub writes_store : (slots : List Slot) (bs : List ℕ) (w : Writes slots bs) → (store_in (condition_in (slice_get slots w.process)) ≡ Some w.proc.store) × (plain.output w.proc.store ≡ Some bs)
+writes_store slots bs w = (ap (λ o. store_in (condition_in o)) w.at ∙ store_here w.proc w.state, w.output)
+
+none_first : (o r : Option (List ℕ)) → or_rest o r ≡ None → (o ≡ None) × (r ≡ None)
+none_first None r e = (refl, e)
+none_first (Some bs) r e = absurd (cc e)
+
+none_some : (cs : List ℕ) → None ≡ Some cs → ⊥
+none_some cs f = absurd (cc f)
+
+same_store : {a b : Plain} → Some a ≡ Some b → a ≡ b
+same_store e = cc
+
+-- who is here does not hold it, where none is found
+pub none_writes : (slots : List Slot) → written slots ≡ None → (q : ℕ) (m : Plain) (bs : List ℕ) → ((w : ℕ) → doing_in (slice_get slots q) ≡ Out w → ⊥) → (doing_in (slice_get slots q) ≡ Gone → ⊥)
+    → store_in (condition_in (slice_get slots q)) ≡ Some m → plain.output m ≡ Some bs → ⊥
+none_writes [] e q m bs o g h x = absurd (cc h)
+none_writes (s ∷ ss) e (suc q) m bs o g h x = none_writes ss (none_first (written_in s) (written ss) e).1 q m bs o g h x
+none_writes (slot.Here p s ∷ ss) e zero m bs o g h x =
+    let same : p.store ≡ m = same_store (sym (store_here p s) ∙ h) in
+    let y : written_by p ≡ Some bs = ap (λ (n : Plain). plain.output n) same ∙ x in
+    let n : written_by p ≡ None = (none_first (written_by p) (written ss) e).0 in
+    none_some bs (sym n ∙ y)
+none_writes (slot.Out v p ∷ ss) e zero m bs o g h x = o v refl
+none_writes (slot.Ended ∷ ss) e zero m bs o g h x = absurd (cc h)
+none_writes (slot.Gone p ∷ ss) e zero m bs o g h x = g refl
+
+-- ---- at the call
+
+pub held : (y : Kernel) (bs : List ℕ) → written y.slots ≡ Some bs → HeldHere y bs
+held y bs e =
+    let w = written_is y.slots bs e in
+    let s = writes_store y.slots bs w in
+    (w.process, w.proc.store, ((λ v f. not_out w.proc w.state v (ap doing_in (sym w.at) ∙ f)), (λ f. not_gone w.proc w.state (ap doing_in (sym w.at) ∙ f))), s.0, s.1)
+
+pub not_held : (y : Kernel) → written y.slots ≡ None → (bs : List ℕ) → HeldHere y bs → ⊥
+not_held y e bs h = none_writes y.slots e h.0 h.1 bs h.2.0 h.2.1 h.3 h.4
+
+pub matched : {R : Type 0} (f : R → List ℕ) (o : Option R) (N : Type 0) (P : List ℕ → Type 0) (w : Option (List ℕ)) → MatchOption o (w ≡ None) (λ r. w ≡ Some (f r)) → (w ≡ None → N) → ((bs : List ℕ) → w ≡ Some bs → P bs)
+    → MatchOption o N (λ r. P (f r))
+matched f None N P w h a b = a h
+matched f (Some r) N P w h a b = b (f r) h

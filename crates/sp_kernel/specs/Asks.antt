@@ -1,0 +1,130 @@
+-- What the kernel may be asked, and what comes of it.
+use Rattle.std.specs.Prelude.{◌≡◌, ◌≢◌, ◌⊎◌, ℕ, ◌+◌, ◌<◌, ◌≤◌, List, [], ◌++◌, Option, Some, None, Bool, true, false}
+use Rattle.std.specs.Option.{option_map}
+use Rattle.sp_cell.specs.Map.{Plain}
+use Rattle.sp_journal.specs.declared.entry.Note.{Note}
+use Rattle.sp_code.specs.Machine.{Config}
+use Rattle.sp_code.specs.Memory.{Setting, Memory, memory}
+use Rattle.sp_code.specs.PlainStore.{plain}
+use Rattle.sp_code.specs.Turns.{IsTurn}
+use Rattle.sp_code.specs.Sound.{IsSound, AreLimits}
+use Rattle.sp_code.specs.Control.{Out, control_at_start, control, noted, front, standing, Running, entry_of}
+use Rattle.sp_code.specs.System.{System, Runs, opening}
+use Rattle.sp_room.specs.History.{notes_by}
+use Rattle.sp_machine.specs.declared.state.State.{State as Proc}
+use Rattle.sp_kernel.specs.declared.handed.Handed.{Handed}
+use Rattle.sp_kernel.specs.declared.kernel.Kernel.{Kernel}
+use Rattle.sp_kernel.specs.declared.ask.Ask.{Ask}
+use Rattle.sp_kernel.specs.declared.ask.Ask.TheVariants as ask
+use Rattle.sp_kernel.specs.declared.ask.Got.{Got}
+use Rattle.sp_kernel.specs.declared.ask.Got.TheVariants as got
+use Rattle.sp_kernel.specs.Procs.{config_of, turn_of}
+use Rattle.sp_kernel.specs.Kernels.{control_of, system_of, setting_of, IsKernel}
+use Rattle.sp_machine.specs.Procs.{KeepsFork, HaveFormals}
+use Rattle.sp_kernel.specs.Fits.{Fits, IsWhole}
+use Rattle.sp_history.specs.Agreement.{Follows, Reaches}
+
+-- the root alone is ready, and the journal is empty
+pub record IsOpening (x : Kernel) : Type 0 where
+  pub whole : IsKernel x
+  pub control : control_of x ≡ control_at_start
+  pub system : system_of x ≡ opening plain (setting_of x)
+  pub out : x.out ≡ 0
+  pub abandons : x.abandons ≡ 0
+  pub journal : x.journal.entries ≡ []
+  pub limits : AreLimits x.limits
+  pub sound : IsSound x.code.value
+  pub formals : HaveFormals x.code.value.layouts
+
+abbrev pub FitsAsk : Kernel → ℕ → Ask → Type 0
+FitsAsk x w (ask.Turn None) = Unit {0}
+FitsAsk x w (ask.Turn (Some h)) = Fits x w h
+FitsAsk x w (ask.Abandon None) = Unit {0}
+FitsAsk x w (ask.Abandon (Some p)) = (control_of x).doing p.number ≡ Out w
+
+pub record CanServe (x : Kernel) (w : ℕ) (a : Ask) : Type 0 where
+  pub whole : IsKernel x
+  pub out : x.out + 1 < 18446744073709551616
+  pub abandons : x.abandons + 1 < 18446744073709551616
+  pub fits : FitsAsk x w a
+
+-- what is got is the process that the note names, in the state that the system has for it
+abbrev pub Answers : Kernel → Got → Option ℕ → Type 0
+Answers y (got.Work p) None = ⊥
+Answers y (got.Work p) (Some q) = (p.number ≡ q) × ((system_of y).condition q ≡ Runs (config_of p)) × (p.input.value ≡ (setting_of y).input)
+Answers y got.Nothing None = (front (control_of y) ≡ None) × ((standing (control_of y) ≡ Running) ⊎ (0 < y.out))
+Answers y got.Nothing (Some q) = ⊥
+Answers y got.Finished None = (standing (control_of y) ≢ Running) × (y.out ≡ 0)
+Answers y got.Finished (Some q) = ⊥
+Answers y (got.Refused h) o = ⊥
+
+-- the note of an abandon has neither event nor process got
+abbrev pub GivesUp : Ask → Note → Type 0
+GivesUp (ask.Turn h) n = Unit {0}
+GivesUp (ask.Abandon p) n = (n.event ≡ None) × (n.got ≡ None)
+
+-- the process that an ask hands in or gives up
+abbrev pub given_by : Ask → Option ℕ
+given_by (ask.Turn None) = None
+given_by (ask.Turn (Some h)) = Some h.proc.number
+given_by (ask.Abandon p) = option_map (λ (q : Proc). q.number) p
+
+-- a call that leaves a note
+pub record Notes (x : Kernel) (w : ℕ) (a : Ask) (y : Kernel) (g : Got) (n : Note) : Type 0 where
+  pub worker : n.worker ≡ w
+  pub changed : y ≢ x
+  pub follows : Follows plain (setting_of x) (control_of x) (system_of x) n (system_of y)
+  pub control : control_of y ≡ noted n (control_of x)
+  pub setting : setting_of y ≡ setting_of x
+  pub whole : IsKernel y
+  pub out : y.out ≤ x.out + 1
+  pub abandons : y.abandons ≤ x.abandons + 1
+  pub answer : Answers y g n.got
+  pub journal : y.journal.entries ≡ x.journal.entries ++ entry_of n.given n.event
+  pub gives_up : GivesUp a n
+  pub given : n.given ≡ given_by a
+
+-- a call that leaves none: nothing can be taken, or memory is refused
+abbrev pub IsIdle : Kernel → Ask → Got → Type 0
+IsIdle x (ask.Turn None) g = Answers x g None
+IsIdle x (ask.Turn (Some h)) g = g ≡ got.Refused (Some h)
+IsIdle x (ask.Abandon p) g = ⊥
+
+abbrev pub Steps : Kernel → ℕ → Ask → Kernel → Got → Option Note → Type 0
+Steps x w a y g None = (y ≡ x) × IsIdle x a g
+Steps x w a y g (Some n) = Notes x w a y g n
+
+abbrev pub is_abandon : Ask → Bool
+is_abandon (ask.Turn h) = false
+is_abandon (ask.Abandon p) = true
+
+abbrev pub refusal : Ask → Got → Type 0
+refusal (ask.Turn h) g = g ≡ got.Refused h
+refusal (ask.Abandon p) g = ⊥
+
+-- ---- the condition on an ask: by the history that the seat has seen, in which these are its own notes
+
+-- process q is out with the worker by what its seat has seen, in this state
+pub record HoldsOut (g : Setting) (seen : List Note) (w q : ℕ) : Type 0 where
+  pub system : System Plain
+  pub reaches : Reaches plain g control_at_start (opening plain g) seen system
+  pub out : (control seen).doing q ≡ Out w
+  pub at : Config (Memory Plain)
+  pub runs : system.condition q ≡ Runs at
+
+-- it was run by one turn from that state, on the input of the run, to the stop that is handed in
+pub record HasRun (g : Setting) (seen : List Note) (w : ℕ) (h : Handed) : Type 0 where
+  pub holds : HoldsOut g seen w h.proc.number
+  pub turn : IsTurn (memory plain g) g.code holds.at (turn_of h)
+  pub fork : KeepsFork h.stop h.proc
+  pub input : h.proc.input.value ≡ g.input
+  pub whole : IsWhole h.stop
+
+abbrev pub StandsFor : Setting → List Note → ℕ → Ask → Type 0
+StandsFor g seen w (ask.Turn None) = Unit {0}
+StandsFor g seen w (ask.Turn (Some h)) = HasRun g seen w h
+StandsFor g seen w (ask.Abandon None) = Unit {0}
+StandsFor g seen w (ask.Abandon (Some p)) = HoldsOut g seen w p.number
+
+abbrev pub MayAsk : Kernel → ℕ → List Note → List Note → Ask → Type 0
+MayAsk x w seen own a = (notes_by (λ (n : Note). n.worker) w seen ≡ own) × StandsFor (setting_of x) seen w a

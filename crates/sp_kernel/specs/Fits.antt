@@ -1,0 +1,60 @@
+-- What may be handed in.
+use Rattle.std.specs.Prelude.{◌≡◌, ℕ, ◌<◌, length, Some}
+use Rattle.sp_journal.specs.declared.entry.Birth.{Birth}
+use Rattle.sp_code.specs.declared.code.Parts.{Parts}
+use Rattle.sp_cell.specs.Map.{Plain}
+use Rattle.sp_code.specs.Machine.{Config}
+use Rattle.sp_code.specs.Memory.{Memory, memory}
+use Rattle.sp_code.specs.PlainStore.{plain}
+use Rattle.sp_code.specs.Turns.{IsTurn}
+use Rattle.sp_code.specs.Sound.{IsSafeSystem, HasDistinctBlocks}
+use Rattle.sp_code.specs.Control.{Out, Joining}
+use Rattle.sp_code.specs.System.{Runs}
+use Rattle.sp_kernel.specs.declared.handed.Handed.{Handed}
+use Rattle.sp_machine.specs.declared.state.Stop.{Stop}
+use Rattle.sp_machine.specs.declared.state.Stop.TheVariants as stop
+use Rattle.sp_kernel.specs.declared.kernel.Kernel.{Kernel}
+use Rattle.sp_machine.specs.Procs.{KeepsFork, HaveFormals}
+use Rattle.sp_kernel.specs.Procs.{turn_of}
+use Rattle.sp_kernel.specs.Kernels.{control_of, system_of, setting_of}
+
+-- a stop that can be handed in: a turn that memory ended can't, and an offer is on one of so many channels
+abbrev pub IsOffered : ℕ → Stop → Type 0
+IsOffered n (stop.Send c k cs) = c < n
+IsOffered n (stop.Receive c k) = c < n
+IsOffered n stop.Pause = Unit {0}
+IsOffered n (stop.Fault f) = Unit {0}
+IsOffered n (stop.Fork t v count) = Unit {0}
+IsOffered n stop.Open = Unit {0}
+IsOffered n stop.End = Unit {0}
+IsOffered n stop.Memory = ⊥
+
+-- a turn that memory did not end
+abbrev pub IsWhole : Stop → Type 0
+IsWhole (stop.Send c k cs) = Unit {0}
+IsWhole (stop.Receive c k) = Unit {0}
+IsWhole stop.Pause = Unit {0}
+IsWhole (stop.Fault f) = Unit {0}
+IsWhole (stop.Fork t v count) = Unit {0}
+IsWhole stop.Open = Unit {0}
+IsWhole stop.End = Unit {0}
+IsWhole stop.Memory = ⊥
+
+-- what the machine asks of the code besides
+pub record FitsCode (code : Parts) : Type 0 where
+  pub blocks : HasDistinctBlocks code.layouts
+  pub formals : HaveFormals code.layouts
+
+-- the process is out with the worker, and was run by one turn from where the system has it
+pub record Fits (x : Kernel) (w : ℕ) (h : Handed) : Type 0 where
+  pub out : (control_of x).doing h.proc.number ≡ Out w
+  pub at : Config (Memory Plain)
+  pub runs : (system_of x).condition h.proc.number ≡ Runs at
+  pub turn : IsTurn (memory plain (setting_of x)) (setting_of x).code at (turn_of h)
+  pub safe : IsSafeSystem (setting_of x) (system_of x)
+  pub offered : IsOffered (length x.channels) h.stop
+  pub fork : KeepsFork h.stop h.proc
+  pub input : h.proc.input.value ≡ (setting_of x).input
+  -- its parent, if it has one, waits for it
+  pub parent : (b : Birth) → (system_of x).births.birth h.proc.number ≡ Some b → (n : ℕ) × ((control_of x).doing b.parent ≡ Joining n)
+  pub code : FitsCode (setting_of x).code

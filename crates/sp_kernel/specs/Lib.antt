@@ -1,0 +1,15 @@
+pub mod Lines
+pub mod Procs
+pub mod Kernels
+pub mod Sends
+pub mod Receives
+pub mod Opens
+pub mod Ends
+pub mod Seats
+pub mod Forks
+pub mod Fits
+pub mod Asks
+pub mod Keeping
+pub mod Faults
+pub mod Outputs
+pub mod Closes

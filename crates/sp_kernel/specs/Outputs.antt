@@ -1,0 +1,25 @@
+-- The output of a process that the kernel has.
+use Rattle.std.specs.Prelude.{ℕ, List, [], ◌∷◌, Option, Some, None}
+use Rattle.sp_cell.specs.Map.{output_of, output_spot}
+use Rattle.std.specs.FinMap as map
+use Rattle.sp_kernel.specs.declared.slot.Slot.{Slot}
+use Rattle.sp_kernel.specs.declared.slot.Slot.TheVariants as slot
+use Rattle.sp_machine.specs.declared.state.State.{State as Proc}
+
+abbrev pub written_by : Proc → Option (List ℕ)
+written_by p = output_of (map.get p.store.map output_spot)
+
+abbrev pub written_in : Slot → Option (List ℕ)
+written_in (slot.Here p s) = written_by p
+written_in (slot.Out w p) = None
+written_in slot.Ended = None
+written_in (slot.Gone p) = None
+
+abbrev pub or_rest : Option (List ℕ) → Option (List ℕ) → Option (List ℕ)
+or_rest (Some bs) o = Some bs
+or_rest None o = o
+
+-- the first output that one holds
+abbrev pub written : List Slot → Option (List ℕ)
+written [] = None
+written (s ∷ ss) = or_rest (written_in s) (written ss)

@@ -1,0 +1,23 @@
+-- A process in memory as the definitions see it, and the turn that was handed in.
+use Rattle.std.specs.Prelude.{◌≡◌, List}
+use Rattle.sp_cell.specs.declared.cell.Cell.{Cell}
+use Rattle.sp_cell.specs.Map.{Plain}
+use Rattle.sp_code.specs.Turns.{Turn}
+use Rattle.sp_code.specs.Memory.{Memory}
+use Rattle.sp_code.specs.System.{entered_now}
+use Rattle.sp_code.specs.Sound.{CanPut}
+pub use Rattle.sp_machine.specs.Procs.{config_of, target_of, turn_by}
+use Rattle.sp_machine.specs.declared.state.State.{State as Proc}
+use Rattle.sp_kernel.specs.declared.handed.Handed.{Handed}
+
+-- the cells fit at the target
+abbrev pub CanTake : Proc → List Cell → Type 0
+CanTake p cs = CanPut p.store p.target cs
+
+-- the turn of what is handed in
+abbrev pub turn_of : Handed → Turn (Memory Plain)
+turn_of h = turn_by h.stop h.proc
+
+-- from here on its ticks count for the next pause
+abbrev pub Enters : Proc → Proc → Type 0
+Enters p q = (config_of q ≡ entered_now (config_of p)) × (q.number ≡ p.number) × (q.target ≡ p.target) × (q.input.value ≡ p.input.value)

@@ -1,0 +1,400 @@
+//! The processes of a run, its channels and its journal.
+
+ghost use Rattle.std.specs.Option.{option_map};
+ghost use Rattle.std.specs.Prelude.{◌≡◌, ◌+◌, ◌-◌, ◌<◌, nat_lt, true, false, IfSome, Some, None, [], ◌∷◌, ◌++◌, length, slice_get, slice_set, OnOk, OnErr, IfErr, IfOk};
+ghost use Rattle.sp_journal.specs.declared.entry.Event.TheVariants as event;
+ghost use Rattle.sp_kernel.specs.declared.slot.Slot.TheVariants as slot;
+ghost use Rattle.sp_kernel.specs.declared.slot.State.TheVariants as st;
+ghost use Rattle.sp_code.specs.Control.{has_ended, Out};
+ghost use Rattle.sp_code.specs.Sound.{IsSound, AreLimits, run_of};
+ghost use Rattle.sp_machine.specs.Procs.{config_of, start_of, HaveFormals};
+ghost use Rattle.sp_kernel.specs.Kernels.{entered, back, paused, goes_out, lost, doing_in, condition_in, IsReady, IsKernel, Gave, Takes, is_over, control_of, system_of, setting_of, stands_as, Abandons};
+ghost use Rattle.sp_kernel.specs.Fits.{Fits};
+ghost use Rattle.sp_kernel.specs.Asks.{IsOpening};
+ghost use Rattle.sp_machine.specs.declared.state.Stop.TheVariants as stop;
+ghost use Rattle.sp_kernel.specs.Procs.{Enters};
+
+use crate::handed::Handed;
+use crate::line::Line;
+use crate::slot::{Slot, State, put, swap};
+use sp_base::{Fault, Limits, List, Memory};
+use sp_channel::Channels;
+use sp_code::Code;
+use sp_journal::{Entry, Event, Journal};
+use sp_machine::{Proc, Stop};
+use std::alloc::Global;
+use std::snapshot::Snapshot;
+use std::sync::Arc;
+
+/// How a run stands.
+#[derive(Clone, Copy, Debug, PartialEq, Eq)]
+pub enum Standing {
+    Running,
+    /// The root has ended.
+    Done,
+    /// No process is ready and none is out, the root has not ended, and no process met a fault.
+    Deadlock,
+    /// A process met a fault.
+    Fault,
+    /// A worker gave up. This stands before the others.
+    Memory,
+}
+
+/// The processes of a run by their numbers, the queue of those that are ready, the channels and the journal.
+#[derive(Drop)]
+pub struct Kernel {
+    pub(crate) slots: List<Slot>,
+    // The parent of each process; the first has none.
+    pub(crate) parents: List<Option<u32>>,
+    pub(crate) ready: Line,
+    pub(crate) out: u64,
+    pub(crate) channels: Channels,
+    pub(crate) journal: Journal,
+    // How many entries fork, open, send and receive.
+    pub(crate) entries: u64,
+    pub(crate) faulted: bool,
+    pub(crate) abandons: u64,
+    pub(crate) code: Arc<Code>,
+    pub(crate) limits: Limits,
+    // The first process at its start, for contracts alone.
+    pub(crate) root: Snapshot<Proc>,
+}
+
+impl Kernel {
+    /// A run of the code that begins with this process: it is ready, and the journal is empty. What the kernel needs later it
+    /// takes from `alloc`.
+
+    pub fn new(alloc: Global, root: Proc, code: Arc<Code>, limits: Limits) -> Result<Kernel, Memory>
+        requires root { (config_of root ≡ start_of code.value root.input.value) × (root.number ≡ 0) }
+        requires sound { IsSound code.value }
+        requires formals { HaveFormals code.value.layouts }
+        requires limits { AreLimits limits }
+        ensures opening { IfOk result (λ k. IsOpening k) }
+        ensures setting { IfOk result (λ k. setting_of k ≡ run_of code.value root.input.value limits) }
+    {
+        let first = Snapshot::of(&root);
+        let mut slots = List::new(alloc);
+        slots.push(Slot::Here(root, State::Ready))?;
+        let mut parents = List::new(alloc);
+        parents.push(None)?;
+        let mut ready = Line::new(alloc);
+        ready.push(0)?;
+        let journal = Journal {
+            entries: List::new(alloc),
+        };
+        Ok(Kernel {
+            slots,
+            parents,
+            ready,
+            out: 0,
+            channels: Channels::new(alloc),
+            journal,
+            entries: 0,
+            faulted: false,
+            abandons: 0,
+            code,
+            limits,
+            root: first,
+        })
+    }
+
+    /// How the run stands.
+
+    pub fn standing(&self) -> Standing
+        ensures { result ≡ stands_as (control_of self.now) }
+    {
+        if self.abandons > 0 {
+            return Standing::Memory;
+        }
+        if self.faulted {
+            return Standing::Fault;
+        }
+        if self.has_ended() {
+            return Standing::Done;
+        }
+        if self.ready.is_empty() && self.out == 0 {
+            return Standing::Deadlock;
+        }
+        Standing::Running
+    }
+
+    /// How many processes are out with workers.
+    pub fn out(&self) -> u64
+        ensures { result ≡ self.now.out }
+    {
+        self.out
+    }
+
+    /// The journal: an entry for each event so far.
+    pub fn journal(&self) -> &Journal
+        ensures { result.now ≡ self.now.journal }
+    {
+        &self.journal
+    }
+
+    /// Whether a worker gave up.
+    pub fn gave_up(&self) -> bool
+        ensures { result ≡ nat_lt 0 self.now.abandons }
+    {
+        self.abandons > 0
+    }
+
+    /// The oldest ready process goes out with the worker; none exactly where none is ready, or the run does not stand as running.
+    pub fn take(&mut self, worker: u32) -> Option<Proc>
+        requires whole { IsKernel self.old }
+        requires out { self.old.out + 1 < 18446744073709551616 }
+        ensures { Takes self.old worker self.new result }
+    {
+        if self.is_over() {
+            return None;
+        }
+        match self.ready.take() {
+            None => None,
+            Some(number) => Some(self.hand_out(worker, number)),
+        }
+    }
+
+    /// Does the one event of what is handed in, and appends its entry. Where memory is refused, nothing has changed, and what was
+    /// handed in comes back.
+    pub fn give(&mut self, worker: u32, handed: Handed) -> Result<(), Handed>
+        requires whole { IsKernel self.old }
+        requires fits { Fits self.old worker handed }
+        ensures ok { OnOk result (Gave self.old handed.proc.number handed self.new) }
+        ensures err { OnErr result (self.new ≡ self.old) }
+        ensures returned { IfErr result (λ h. h ≡ handed) }
+    {
+        if self.faulted {
+            return self.lay(handed);
+        }
+        let Handed { proc, stop } = handed;
+        match stop {
+            Stop::Fork { count, .. } => self.fork(worker, proc, stop, count),
+            Stop::Open => self.open(worker, proc),
+            Stop::Send {
+                channel,
+                message,
+                cells,
+            } => self.send(worker, proc, channel, message, cells),
+            Stop::Receive { channel, message } => self.receive(worker, proc, channel, message),
+            Stop::End => self.end_of(worker, proc),
+            Stop::Pause => self.pause(worker, proc),
+            Stop::Fault(fault) => self.fail(
+                Handed {
+                    proc,
+                    stop: Stop::Fault(fault),
+                },
+                fault,
+            ),
+            Stop::Memory => unreachable!(),
+        }
+    }
+
+    /// Counts an abandon of the worker. The process that it had, if any, is out no more.
+    pub fn abandon(&mut self, worker: u32, proc: Option<Proc>)
+        requires whole { IsKernel self.old }
+        requires few { self.old.abandons + 1 < 18446744073709551616 }
+        requires out { IfSome proc (λ p. (control_of self.old).doing p.number ≡ Out worker) }
+        ensures { Abandons self.old (option_map (λ p. p.number) proc) self.new }
+    {
+        match proc {
+            None => self.abandons += 1,
+            Some(proc) => {
+                let number = proc.number();
+                self.lose(worker, number);
+            }
+        }
+    }
+}
+
+impl Kernel {
+    // One entry more.
+    pub(crate) fn note(&mut self, process: u32, event: Event) -> Result<(), Memory>
+        ensures ok { OnOk result (self.new ≡ entered process event self.old) }
+        ensures err { OnErr result (self.new ≡ self.old) }
+    {
+        self.journal.entries.push(Entry { process, event })?;
+        Ok(())
+    }
+
+    // One entry more, and a process at the back of the queue.
+    #[tactic(auto, using(crate::proofs::Lines::last_gone))]
+    pub(crate) fn note_ready(
+        &mut self,
+        ready: u32,
+        process: u32,
+        event: Event,
+    ) -> Result<(), Memory>
+        ensures ok { OnOk result (self.new ≡ record (entered process event self.old) { ready = self.old.ready ++ ready ∷ [] }) }
+        ensures err { OnErr result (self.new ≡ self.old) }
+    {
+        self.ready.push(ready)?;
+        if self.note(process, event).is_err() {
+            self.ready.untake();
+            return Err(Memory);
+        }
+        Ok(())
+    }
+
+    // One entry more, and two processes at the back of the queue.
+    #[tactic(auto, using(crate::proofs::Lines::last_gone))]
+    pub(crate) fn note_both(&mut self, other: u32, process: u32, event: Event) -> Result<(), Memory>
+        ensures ok { OnOk result (self.new ≡ record (entered process event self.old) { ready = (self.old.ready ++ other ∷ []) ++ process ∷ [] }) }
+        ensures err { OnErr result (self.new ≡ self.old) }
+    {
+        self.ready.push(other)?;
+        if self.note_ready(process, process, event).is_err() {
+            self.ready.untake();
+            return Err(Memory);
+        }
+        Ok(())
+    }
+
+    // A process that comes back is in this slot.
+    pub(crate) fn place(&mut self, number: u32, slot: Slot)
+        requires there { number < length self.old.slots }
+        ensures { self.new ≡ record self.old { slots = slice_set self.old.slots number slot; out = self.old.out - 1 } }
+    {
+        put(&mut self.slots, number, slot);
+        self.out = self.out.saturating_sub(1);
+    }
+
+    // A process that came back after a fault is laid down.
+    fn lay(&mut self, handed: Handed) -> Result<(), Handed>
+        requires there { handed.proc.number < length self.old.slots }
+        ensures ok { OnOk result (self.new ≡ back handed.proc.number event.Laid (slot.Here handed.proc st.Laid) self.old) }
+        ensures err { OnErr result (self.new ≡ self.old) }
+        ensures returned { IfErr result (λ h. h ≡ handed) }
+    {
+        let number = handed.proc.number();
+        if self.note(number, Event::Laid).is_err() {
+            return Err(handed);
+        }
+        self.place(number, Slot::Here(handed.into_proc(), State::Laid));
+        Ok(())
+    }
+
+    // A process meets a fault.
+    pub(crate) fn fail(&mut self, handed: Handed, fault: Fault) -> Result<(), Handed>
+        requires there { handed.proc.number < length self.old.slots }
+        ensures ok { OnOk result (self.new ≡ record (back handed.proc.number (event.Fault fault) (slot.Here handed.proc st.Laid) self.old) { faulted = true }) }
+        ensures err { OnErr result (self.new ≡ self.old) }
+        ensures returned { IfErr result (λ h. h ≡ handed) }
+    {
+        let number = handed.proc.number();
+        if self.note(number, Event::Fault(fault)).is_err() {
+            return Err(handed);
+        }
+        self.place(number, Slot::Here(handed.into_proc(), State::Laid));
+        self.faulted = true;
+        Ok(())
+    }
+
+    // A process that is due goes to the back of the queue.
+    fn pause_now(&mut self, mut proc: Proc) -> Result<(), Proc>
+        requires there { proc.number < length self.old.slots }
+        ensures ok { OnOk result ((p : _) × Enters proc p × (self.new ≡ paused proc.number p self.old)) }
+        ensures err { OnErr result (self.new ≡ self.old) }
+        ensures returned { IfErr result (λ p. p ≡ proc) }
+    {
+        let number = proc.number();
+        if self.note_ready(number, number, Event::Pause).is_err() {
+            return Err(proc);
+        }
+        proc.enter();
+        self.place(number, Slot::Here(proc, State::Ready));
+        Ok(())
+    }
+
+    // A pause.
+    fn pause(&mut self, _worker: u32, proc: Proc) -> Result<(), Handed>
+        requires whole { IsKernel self.old }
+        requires quiet { self.old.faulted ≡ false }
+        requires fits { Fits self.old _worker (record { proc = proc; stop = stop.Pause }) }
+        ensures ok { OnOk result (Gave self.old proc.number (record { proc = proc; stop = stop.Pause }) self.new) }
+        ensures err { OnErr result (self.new ≡ self.old) }
+        ensures returned { IfErr result (λ h. h ≡ record { proc = proc; stop = stop.Pause }) }
+    {
+        match self.pause_now(proc) {
+            Ok(()) => Ok(()),
+            Err(proc) => Err(Handed {
+                proc,
+                stop: Stop::Pause,
+            }),
+        }
+    }
+
+    // Whether the root has ended.
+    pub(crate) fn has_ended(&self) -> bool
+        ensures { result ≡ has_ended (doing_in (slice_get self.now.slots 0)) }
+    {
+        match self.slots.get(0) {
+            Some(Slot::Ended) => true,
+            Some(Slot::Here(_, State::Over)) => true,
+            _ => false,
+        }
+    }
+
+    // Whether the run has come to an end.
+    pub(crate) fn is_over(&self) -> bool
+        ensures { result ≡ is_over (control_of self.now) }
+    {
+        self.abandons > 0 || self.faulted || self.has_ended()
+    }
+
+    // A ready process goes out with the worker.
+    fn hand_out(&mut self, worker: u32, number: u32) -> Proc
+        requires ready { IsReady (slice_get self.old.slots number) }
+        requires out { self.old.out + 1 < 18446744073709551616 }
+        ensures proc { slice_get self.old.slots number ≡ Some (slot.Here result st.Ready) }
+        ensures out { (p : _) × (p.value ≡ result) × (self.new ≡ goes_out number (slot.Out worker p) self.old) }
+    {
+        match swap(&mut self.slots, number, Slot::Ended) {
+            Slot::Here(proc, State::Ready) => {
+                put(
+                    &mut self.slots,
+                    number,
+                    Slot::Out(worker, Snapshot::of(&proc)),
+                );
+                self.out += 1;
+                proc
+            }
+            _ => unreachable!(),
+        }
+    }
+
+    // A process that a worker had is lost with it.
+    fn lose(&mut self, _worker: u32, number: u32)
+        requires out { doing_in (slice_get self.old.slots number) ≡ Out _worker }
+        requires abandons { self.old.abandons + 1 < 18446744073709551616 }
+        ensures { (p : _) × (condition_in (Some (slot.Gone p)) ≡ (system_of self.old).condition number) × (self.new ≡ lost number (slot.Gone p) self.old) }
+    {
+        match swap(&mut self.slots, number, Slot::Ended) {
+            Slot::Out(_, left) => put(&mut self.slots, number, Slot::Gone(left)),
+            _ => unreachable!(),
+        }
+        self.out = self.out.saturating_sub(1);
+        self.abandons += 1;
+    }
+
+    // Its processes.
+    pub(crate) fn slots(&self) -> &[Slot]
+        ensures { result.now ≡ self.now.slots }
+    {
+        self.slots.items()
+    }
+
+    // The entries of its journal.
+    pub(crate) fn entries(&self) -> &[Entry]
+        ensures { result.now ≡ self.now.journal.entries }
+    {
+        self.journal.entries.items()
+    }
+
+    // What is left of it is the journal.
+    pub(crate) fn into_journal(self) -> Journal
+        ensures { result ≡ self.journal }
+    {
+        let Kernel { journal, .. } = self;
+        journal
+    }
+}

@@ -1,0 +1,89 @@
+-- How a run of a program's code ends is how the program does: the same ones wait where nobody can go on, and the fault of the journal is
+-- the program's.
+use Rattle.std.proofs.Common.{◌≡◌, ℕ, List, Some, None, Bool, true, false, refl, sym, ◌∙◌, subst}
+use Rattle.sp_base.specs.declared.fault.Fault.{Fault}
+use Rattle.sp_tree.specs.Plain.{Stmt}
+use Rattle.sp_journal.specs.declared.entry.Entry.{Entry}
+use Rattle.sp_journal.specs.Births.{at_start, births_from, occurrences_from, NameableFrom}
+use Rattle.sp_journal.proofs.BirthLaws.{lawful_start}
+use Rattle.sp_cell.specs.Map.{Plain}
+use Rattle.sp_meaning.specs.Model.{Name}
+use Rattle.sp_meaning.specs.Own.{Setting}
+use Rattle.sp_meaning.specs.Runs.{StateOf, start}
+use Rattle.sp_meaning.specs.Along.{no_course, IsAlong}
+use Rattle.sp_meaning.specs.Ends.{Waiting, WaitsSo, IsDeadlock, HasFault}
+use Rattle.sp_code.specs.Emitted.{program_code}
+use Rattle.sp_code.specs.Memory as memory
+use Rattle.sp_code.specs.PlainStore.{plain}
+use Rattle.sp_code.specs.System.{System, Gone, IsSystem, opening}
+use Rattle.sp_codegen.specs.Meets.{code_run}
+use Rattle.sp_link.specs.Endings.{HasFaultEntry, WaitsAs, IsStuck}
+use Rattle.sp_link.specs.Premises.{IsReady}
+use Rattle.sp_link.proofs.FaultEntries.{fault_told, fault_entry}
+use Rattle.sp_link.proofs.Journal.{Goes_along}
+use Rattle.sp_link.proofs.OneState.{one_state}
+use Rattle.sp_link.proofs.Programs.{ground}
+use Rattle.sp_link.proofs.Relation.{Ground, Does_all, Linked, at_open}
+use Rattle.sp_link.proofs.Soundness.{names_on}
+use Rattle.sp_link.proofs.Theorem.{linked_along}
+use Rattle.sp_link.proofs.Waiters.{waits_means, waits_runs, stuck_means, stuck_runs}
+
+module _ (g : Setting) (moves shares : Stmt → List ℕ) (pause : ℕ) (ready : IsReady g moves shares) (es : List Entry) (t : System Plain) (h : IsSystem plain (code_run g (program_code g.program moves shares) pause) es t)
+    (n : ℕ) (s : StateOf g) (k : IsAlong g pause (occurrences_from at_start es) n s) where
+  abbrev run : memory.Setting
+  run = code_run g (program_code g.program moves shares) pause
+
+  named : NameableFrom at_start es
+  named = names_on g moves shares pause ready es t h
+
+  abbrev G : Ground
+  G = at_open (ground g moves shares pause ready es named) t.births.channels
+
+  along : Goes_along (ground g moves shares pause ready es named) no_course (start g) at_start es t
+  along = linked_along (ground g moves shares pause ready es named) ready.main ready.first es named refl t h
+
+  is_it : along.state ≡ s
+  is_it = (one_state g pause (occurrences_from at_start es) along.steps n along.state s along.along k).1
+
+  linked : Linked G along.lives along.course s t
+  linked = subst (λ y. Linked G along.lives along.course y t) is_it along.linked
+
+  pub program_waits_means : (w : Waiting) → WaitsAs t w → WaitsSo g s w
+  program_waits_means w i = waits_means G along.lives along.course s t linked w i
+
+  pub program_waits_runs : (w : Waiting) → WaitsSo g s w → WaitsAs t w
+  program_waits_runs w i = waits_runs G along.lives along.course s t linked w i
+
+  -- the first process stays
+  pub program_root : t.condition 0 ≡ Gone → ⊥
+  program_root e =
+      let x : Does_all G along.lives (G.births.name 0) along.course s (t.births.opens 0) Gone = subst (λ y. Does_all G along.lives (G.births.name 0) along.course s (t.births.opens 0) y) e (linked.does 0 linked.began.root.2) in
+      x.1 (sym (linked.began.names 0 linked.began.root.2) ∙ linked.began.root.1)
+
+  -- ---- the fault
+
+  pub program_quiet : t.faulted ≡ false → s.fault ≡ None
+  program_quiet e = linked.quiet e
+
+  pub program_fault : (p : ℕ) (f : Fault) → HasFaultEntry es p f → HasFault g s ((births_from at_start es).name p) f
+  program_fault p f i = fault_told g pause es at_start lawful_start named no_course (start g) s n k p f i
+
+  -- a fault that stands is that of an entry
+  pub program_faulted : t.faulted ≡ true → (p : ℕ) × (f : Fault) × HasFaultEntry es p f × HasFault g s ((births_from at_start es).name p) f
+  program_faulted e = let w = fault_entry run es (opening plain run) t refl h e in (w.0, w.1, w.2, program_fault w.0 w.1 w.2)
+
+  -- one stands in the machine where it stands in the program
+  fault_both : (b : Bool) → t.faulted ≡ b → s.fault ≡ None → b ≡ false
+  fault_both false e q = refl
+  fault_both true e q = let w = program_faulted e in absurd (no (sym q ∙ w.3))
+    where
+      no : {x : Name × Fault} → None ≡ Some x → ⊥
+      no e = cc e
+
+  -- ---- nobody can go on
+
+  pub program_stuck : (ws : List Waiting) → IsStuck t ws → IsDeadlock g s ws
+  program_stuck ws i = stuck_means G along.lives along.course s t linked ws i
+
+  pub program_deadlock : (ws : List Waiting) → IsDeadlock g s ws → IsStuck t ws
+  program_deadlock ws i = stuck_runs G along.lives along.course s t linked ws (fault_both t.faulted refl i.quiet) i

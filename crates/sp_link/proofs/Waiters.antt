@@ -1,0 +1,141 @@
+-- Who waits in the machine waits in the meaning, with the same way and channel, and the other way round (`waits_means`, `waits_runs`); so
+-- where nobody can go on in the one, nobody can in the other, and the same ones wait (`stuck_means`, `stuck_runs`).
+use Rattle.std.proofs.Common.{◌≡◌, ◌⊎◌, ⊎_elim, ℕ, zero, suc, ◌<◌, ◌≤◌, ◌∷◌, List, Option, Some, None, false, refl, sym, ap, ◌∙◌, subst, arith, inl, inr}
+use Rattle.std.specs.Prelude.{◌≢◌}
+use Rattle.sp_journal.specs.declared.entry.Way.TheVariants as way
+use Rattle.sp_journal.specs.Births.{channel}
+use Rattle.sp_cell.specs.Map.{Plain}
+use Rattle.sp_meaning.specs.Model.{Name, Channel, Cargo, Gives, Takes, Offer, Condition, Absent, Waits, Joins, Ended}
+use Rattle.sp_meaning.specs.Steps.{working_in, way_of}
+use Rattle.sp_meaning.specs.Own.{Tree, Position, Written, Held, Address, Process}
+use Rattle.sp_meaning.specs.Runs.{StateOf}
+use Rattle.sp_meaning.specs.Along.{Course}
+use Rattle.sp_meaning.specs.Ends.{Waiting, WaitsSo, IsDeadlock}
+use Rattle.sp_code.specs.Machine.{Config, Stop}
+use Rattle.sp_code.specs.Memory.{Memory}
+use Rattle.sp_code.specs.System.{System}
+use Rattle.sp_code.specs.System as sys
+use Rattle.sp_link.specs.Endings.{waiting_at, WaitsAs, IsStuck}
+use Rattle.sp_link.proofs.Outputs.{done_there}
+use Rattle.sp_link.proofs.Relation.{Ground, Lives, Named, Ca, Does_all, Linked}
+use Rattle.sp_link.proofs.WhoRuns.{nobody, somebody, root_over}
+
+module _ (G : Ground) (lv : Lives G) (c : Course) (s : StateOf G.g) (u : System Plain) (l : Linked G lv c s u) where
+  is_there : (z : ℕ) (X : sys.Condition Plain) → u.condition z ≡ X → X ≢ sys.Absent → z < u.births.processes
+  is_there z X e ne = ⊎_elim (λ (h : z < u.births.processes). h) (λ (h : u.births.processes ≤ z). absurd (ne (sym e ∙ l.unborn z h))) (either z u.births.processes)
+    where
+      either : (a b : ℕ) → (a < b) ⊎ (b ≤ a)
+      either zero zero = inr (omega arith)
+      either zero (suc b) = inl (omega arith)
+      either (suc a) zero = inr (omega arith)
+      either (suc a) (suc b) = ⊎_elim (λ (h : a < b). inl (omega (arith, h))) (λ (h : b ≤ a). inr (omega (arith, h))) (either a b)
+
+  -- the channel of a number
+  named_here : (ch : Channel) (j : ℕ) → Named G ch j → channel u.births j ≡ ch
+  named_here ch j n = l.began.openings j (subst (λ y. j < y) l.open_is n.0) ∙ n.2
+
+  -- what a process offers by its stop and by its cargo
+  module _ (i : ℕ) (lt : i < u.births.processes) (stop : Stop) (d : Config (Memory Plain)) (h : Does_all G lv (G.births.name i) c s (u.births.opens i) (sys.Waits stop d)) where
+    abbrev q : Name
+    q = G.births.name i
+
+    abbrev o : Offer Process Held Address
+    o = h.0
+
+    offers_so : (g : Cargo Held Address) → Ca G (lv q) (λ a b. lv ((a, b) ∷ q)) q (h.2).fresh o.next.who (h.2).named (c.since q) (h.2).js o.channel o.kind g stop → waiting_at u.births i stop ≡ Some (record { who = q; way = way_of g; channel = o.channel })
+    offers_so (Gives (Tree v)) x = ap (λ y. waiting_at u.births i y) x.2 ∙ ap (λ y. Some (waits y)) (l.began.names i lt) ∙ ap (λ y. Some (waits_on y)) (named_here o.channel x.0 x.3)
+      where
+        waits : Name → Waiting
+        waits y = record { who = y; way = way.Send; channel = channel u.births x.0 }
+
+        waits_on : Channel → Waiting
+        waits_on y = record { who = q; way = way.Send; channel = y }
+    offers_so (Gives (Position n)) x = absurd x
+    offers_so (Gives (Written bs)) x = absurd x
+    offers_so (Takes a) x = ap (λ y. waiting_at u.births i y) x.2 ∙ ap (λ y. Some (waits y)) (l.began.names i lt) ∙ ap (λ y. Some (waits_on y)) (named_here o.channel x.0 x.3)
+      where
+        waits : Name → Waiting
+        waits y = record { who = y; way = way.Receive; channel = channel u.births x.0 }
+
+        waits_on : Channel → Waiting
+        waits_on y = record { who = q; way = way.Receive; channel = y }
+
+    offers : waiting_at u.births i stop ≡ Some (record { who = q; way = way_of o.cargo; channel = o.channel })
+    offers = offers_so o.cargo h.3
+
+  pub waits_means : (w : Waiting) → WaitsAs u w → WaitsSo G.g s w
+  waits_means w h =
+      let lt = is_there h.0 (sys.Waits h.1 h.2) h.3 (λ e. cc e) in
+      let x : Does_all G lv (G.births.name h.0) c s (u.births.opens h.0) (sys.Waits h.1 h.2) = subst (λ y. Does_all G lv (G.births.name h.0) c s (u.births.opens h.0) y) h.3 (l.does h.0 lt) in
+      let is : Some w ≡ Some (record { who = G.births.name h.0; way = way_of (x.0).cargo; channel = (x.0).channel }) = sym h.4 ∙ offers h.0 lt h.1 h.2 x in
+      let same = one is in
+      (x.0, ap (λ (y : Waiting). s.condition y.who) same ∙ x.1, ap (λ (y : Waiting). y.way) same, ap (λ (y : Waiting). y.channel) same)
+    where
+      one : {x y : Waiting} → Some x ≡ Some y → x ≡ y
+      one e = cc e
+
+  pub waits_runs : (w : Waiting) → WaitsSo G.g s w → WaitsAs u w
+  waits_runs w h =
+      let n = l.numbered w.who (λ e. present (sym h.1 ∙ e)) in
+      by n.0 n.1 n.2 (u.condition n.0) refl (l.does n.0 n.1)
+    where
+      present : ◌≡◌ {A = Condition Process Held Address} (Waits h.0) Absent → ⊥
+      present e = cc e
+
+      works : {x : Condition Process Held Address} {pr : Process} (q : Name) → x ≡ Waits h.0 → working_in s.condition q x ≡ Some pr → ⊥
+      works q e r = no (sym (ap (working_in s.condition q) e) ∙ r)
+        where
+          no : {pr : Process} → ◌≡◌ {A = Option Process} None (Some pr) → ⊥
+          no e = cc e
+
+      ended : ◌≡◌ {A = Condition Process Held Address} Ended (Waits h.0) → ⊥
+      ended e = cc e
+
+      joins : {k n : ℕ} {pr : Process} → ◌≡◌ {A = Condition Process Held Address} (Joins k n pr) (Waits h.0) → ⊥
+      joins e = cc e
+
+      one : {x y : Offer Process Held Address} → ◌≡◌ {A = Condition Process Held Address} (Waits x) (Waits y) → x ≡ y
+      one e = cc e
+
+      by : (i : ℕ) → i < u.births.processes → G.births.name i ≡ w.who → (X : sys.Condition Plain) → u.condition i ≡ X → Does_all G lv (G.births.name i) c s (u.births.opens i) X → WaitsAs u w
+      by i lt e sys.Absent k x = absurd x
+      by i lt e (sys.Runs d) k x = absurd (works (G.births.name i) (ap (λ y. s.condition y) e ∙ h.1) x.1)
+      by i lt e (sys.Waits stop d) k x =
+          let o : x.0 ≡ h.0 = one (sym x.1 ∙ ap (λ y. s.condition y) e ∙ h.1) in
+          let is : record { who = G.births.name i; way = way_of (x.0).cargo; channel = (x.0).channel } ≡ w = ap (λ (y : Offer Process Held Address). same (G.births.name i) y) o ∙ ap (λ y. same y h.0) e ∙ rest in
+          (i, stop, d, k, offers i lt stop d x ∙ ap (λ y. Some y) is)
+        where
+          same : Name → Offer Process Held Address → Waiting
+          same y z = record { who = y; way = way_of z.cargo; channel = z.channel }
+
+          rest : same w.who h.0 ≡ w
+          rest = λ j. record { who = w.who; way = sym h.2 j; channel = sym h.3 j }
+      by i lt e (sys.Joins left d) k x = absurd (joins (sym x.3 ∙ ap (λ y. s.condition y) e ∙ h.1))
+      by i lt e (sys.Laid d) k x = absurd (works (G.births.name i) (ap (λ y. s.condition y) e ∙ h.1) x.2.1)
+      by i lt e sys.Gone k x = absurd (ended (sym x.0 ∙ ap (λ y. s.condition y) e ∙ h.1))
+      by i lt e (sys.Over d) k x = absurd (ended (sym x.0 ∙ ap (λ y. s.condition y) e ∙ h.1))
+
+  -- ---- nobody can go on
+
+  pub stuck_means : (ws : List Waiting) → IsStuck u ws → IsDeadlock G.g s ws
+  stuck_means ws k = record {
+    idle = nobody G lv c s u l k.quiet k.idle;
+    goes_on = λ e. (let z = done_there G lv c s u l e in k.goes_on z.0 z.1);
+    quiet = l.quiet k.quiet;
+    sorted = k.sorted;
+    only = λ w i. waits_means w (k.only w i);
+    whole = λ w h. k.whole w (waits_runs w h);
+  }
+
+  pub stuck_runs : (ws : List Waiting) → u.faulted ≡ false → IsDeadlock G.g s ws → IsStuck u ws
+  stuck_runs ws quiet k = record {
+    quiet = quiet;
+    idle = λ i d e. (let z = somebody G lv c s u l i d e in no (sym (k.idle (G.births.name i)) ∙ z.1));
+    goes_on = λ d e. k.goes_on (root_over G lv c s u l d e);
+    sorted = k.sorted;
+    only = λ w i. waits_runs w (k.only w i);
+    whole = λ w h. k.whole w (waits_means w h);
+  }
+    where
+      no : {pr : Process} → ◌≡◌ {A = Option Process} None (Some pr) → ⊥
+      no e = cc e

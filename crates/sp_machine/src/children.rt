@@ -1,0 +1,402 @@
+//! Forks: what a process hands to its children, and the children.
+
+ghost use Rattle.std.specs.Prelude.{◌≡◌, ℕ, ◌+◌, ◌<◌, ◌≤◌, IfOk, OnOk, OnErr, IsSome, pos, ◌+ℤ◌, ◌≤ℤ◌, length, get_or, take, slice_get, ◌≢◌};
+ghost use Rattle.std.specs.Option.{option_copied};
+ghost use Rattle.sp_cell.specs.declared.spot.Handing.{Handing};
+ghost use Rattle.sp_cell.specs.Map.{Plain};
+ghost use Rattle.sp_cell.specs.Fork.{index_frame};
+ghost use Rattle.sp_cell.specs.Frame.{above, frames};
+ghost use Rattle.sp_code.specs.PlainStore.{plain};
+ghost use Rattle.sp_code.specs.Sound.{HasDistinctBlocks, CanSplit};
+ghost use Rattle.sp_code.specs.System.{place_of, first_number, spot_by, spot_in, spot_from, spot_of, spots_of, plan_from, child_or, table_or};
+ghost use Rattle.sp_code.specs.Tables.{child_at};
+ghost use Rattle.sp_store.specs.Layout.{FramesBelow};
+ghost use Rattle.sp_machine.specs.Children.{handed_to, with_frame, IsBornSo, AreBornSo, AreNewborn, plan_by};
+ghost use Rattle.sp_machine.specs.declared.state.State.{State};
+ghost use Rattle.sp_machine.specs.Frames.{frame_of, home_of, plain_frames};
+
+use crate::frames::{Frame, Frames, Home, lesser, referred};
+use crate::layouts::layout_of;
+use crate::proc::Proc;
+use crate::stack::Stack;
+use crate::state::State;
+use sp_base::{List, Memory};
+use sp_cell::{Handing, Spot};
+use sp_code::{ChildTable, Code, ForkTable, Formal, Layout};
+use sp_store::Store;
+use std::alloc::Global;
+use std::sync::Arc;
+
+/// The place of a variable of the tree in a frame, counted from the first one. More places than a number can tell count as
+/// want of memory.
+#[tactic(auto, using(crate::proofs::Placing::place_here, crate::proofs::Placing::place_on, crate::proofs::Placing::place_end))]
+fn place_of(variable: u32, first: u32, variables: &[u32]) -> Result<Option<u32>, Memory>
+    ensures { IfOk result (λ r. r ≡ place_of variable first variables.now) }
+{
+    let mut place = first;
+    for other in variables {
+        if variable == *other {
+            return Ok(Some(place));
+        }
+        match place.checked_add(1) {
+            Some(next) => place = next,
+            None => return Err(Memory),
+        }
+    }
+    Ok(None)
+}
+
+/// The program's frame has its variables from number 2 on.
+fn first_number(layout: &Layout) -> u32
+    ensures value { result ≡ first_number layout.now }
+    ensures small { result ≤ 2 }
+{
+    if layout.block == 0 { 2 } else { 0 }
+}
+
+/// A variable of a frame at a place, or what the variable parameter there stands for.
+fn spot_by(frame: &Frame, place: u32, formal: Option<Formal>) -> Option<Spot>
+    ensures { result ≡ spot_by (frame_of frame.now) place formal }
+{
+    match formal {
+        None | Some(Formal::Value(_)) => Some(Spot {
+            frame: frame.number,
+            variable: place,
+        }),
+        Some(Formal::Reference(_)) => match referred(place, frame.references.items()) {
+            Some(at) => Some(at.spot),
+            None => None,
+        },
+    }
+}
+
+/// Where a variable of the tree stands in a frame, if it is one of its variables.
+fn spot_in(frame: &Frame, code: &Code, variable: u32) -> Result<Option<Spot>, Memory>
+    requires { HasDistinctBlocks code.now.layouts }
+    ensures { IfOk result (λ r. r ≡ spot_in code.now.layouts (frame_of frame.now) (home_of frame.now.home) variable) }
+{
+    match frame.home {
+        Home::Block(block) => match layout_of(code, block) {
+            Some(layout) => {
+                match place_of(variable, first_number(layout), layout.variables.items())? {
+                    Some(place) => {
+                        let formal = layout.formals.get(place as usize).copied();
+                        Ok(spot_by(frame, place, formal))
+                    }
+                    None => Ok(None),
+                }
+            }
+            None => Ok(None),
+        },
+        Home::Index(index) => {
+            if variable == index {
+                return Ok(Some(Spot {
+                    frame: frame.number,
+                    variable: 0,
+                }));
+            }
+            Ok(None)
+        }
+    }
+}
+
+/// Where a variable of the tree stands, outward from the newest frame.
+#[tactic(auto, using(crate::proofs::Placing::spot_none, crate::proofs::Placing::spot_start, crate::proofs::Placing::spot_here, crate::proofs::Placing::spot_on))]
+fn spot_from(frames: &Frames, code: &Code, variable: u32) -> Result<Option<Spot>, Memory>
+    requires { HasDistinctBlocks code.now.layouts }
+    ensures { IfOk result (λ r. r ≡ spot_from code.now.layouts (length frames.now) frames.now variable) }
+{
+    let mut count = frames.len();
+    while count > 0 {
+        let frame = frames.at(count - 1);
+        let found = spot_in(frame, code, variable)?;
+        if let Some(spot) = found {
+            return Ok(Some(spot));
+        }
+        let next = lesser(frame.link, count - 1);
+        count = next;
+    }
+    Ok(None)
+}
+
+/// The spot of a variable of the tree. The input and the output are variables 0 and 1 of frame 0.
+fn spot_of(frames: &Frames, code: &Code, variable: u32) -> Result<Option<Spot>, Memory>
+    requires { HasDistinctBlocks code.now.layouts }
+    ensures { IfOk result (λ r. r ≡ spot_of code.now.layouts frames.now variable) }
+{
+    if variable < 2 {
+        return Ok(Some(Spot { frame: 0, variable }));
+    }
+    spot_from(frames, code, variable)
+}
+
+/// The spots of variables.
+#[tactic(auto, using(crate::proofs::Placing::spots_found, crate::proofs::Placing::spots_not, crate::proofs::Placing::spots_end))]
+fn spots_of(
+    alloc: Global,
+    frames: &Frames,
+    code: &Code,
+    variables: &[u32],
+) -> Result<List<Spot>, Memory>
+    requires { HasDistinctBlocks code.now.layouts }
+    ensures { IfOk result (λ spots. spots ≡ spots_of code.now.layouts frames.now variables.now) }
+{
+    let mut spots = List::new(alloc);
+    for variable in variables {
+        let found = spot_of(frames, code, *variable)?;
+        if let Some(spot) = found {
+            spots.push(spot)?;
+        }
+    }
+    Ok(spots)
+}
+
+/// The first instruction and the index of a child.
+fn beginning(table: &ForkTable, number: u64) -> (u32, Option<u32>)
+    ensures entry { result.0 ≡ (child_or (child_at table.now number)).entry }
+    ensures index { result.1 ≡ (child_or (child_at table.now number)).index }
+{
+    match table.child(number) {
+        Some(child) => (child.entry, child.index),
+        None => (0, None),
+    }
+}
+
+/// The least number above every frame.
+#[tactic(auto, using(sp_cell::specs::Steps::above_step))]
+fn above_all(spots: &[Spot]) -> u64
+    requires { FramesBelow spots.now 18446744073709551615 }
+    ensures { result ≡ above (frames spots.now) }
+{
+    let mut least = 0;
+    for spot in spots {
+        if least <= spot.frame {
+            least = spot.frame + 1;
+        }
+    }
+    least
+}
+
+/// The number of the frame of a child's index: the least above the frames of all that the child is handed.
+fn index_frame(handing: &Handing) -> u64
+    requires { FramesBelow handing.now.moved 18446744073709551615 × FramesBelow handing.now.shared 18446744073709551615 }
+    ensures { result ≡ index_frame handing.now }
+{
+    let moved = above_all(handing.moved.items());
+    let shared = above_all(handing.shared.items());
+    if moved < shared { shared } else { moved }
+}
+
+/// What a child is handed that begins with this table, and with this value if it has an index.
+fn handing_of(
+    alloc: Global,
+    frames: &Frames,
+    code: &Code,
+    value: i64,
+    child: Option<&ChildTable>,
+) -> Result<Handing, Memory>
+    requires blocks { HasDistinctBlocks code.now.layouts }
+    ensures { IfOk result (λ h. h ≡ handed_to code.now.layouts frames.now value (child_or (option_copied child.entry))) }
+{
+    match child {
+        Some(child) => {
+            let index = match child.index {
+                Some(_) => Some((0, value)),
+                None => None,
+            };
+            Ok(Handing {
+                moved: spots_of(alloc, frames, code, child.moved.items())?,
+                shared: spots_of(alloc, frames, code, child.shared.items())?,
+                index,
+            })
+        }
+        None => Ok(Handing {
+            moved: List::new(alloc),
+            shared: List::new(alloc),
+            index: None,
+        }),
+    }
+}
+
+impl State {
+    /// What the children of the fork are handed at which the process stopped.
+    #[tactic(auto, using(crate::proofs::Planning::plan_more, crate::proofs::Planning::plan_end))]
+    fn plan(&self, code: &Code, table: &ForkTable, count: u32) -> Result<List<Handing>, Memory>
+        requires blocks { HasDistinctBlocks code.now.layouts }
+        requires values { (self.now.first +ℤ pos count) ≤ℤ pos 9223372036854775808 }
+        ensures { IfOk result (λ hs. hs ≡ plan_from code.now.layouts self.now.frames table.now self.now.first 0 count) }
+    {
+        let alloc = *self.text.allocator();
+        let mut plan = List::new(alloc);
+        for k in 0..count {
+            let value = self.first + i64::from(k);
+            let handing = handing_of(alloc, &self.frames, code, value, table.child(u64::from(k)))?;
+            plan.push(handing)?;
+        }
+        Ok(plan)
+    }
+
+    /// The frames of a child: those of its parent, and above them that of its index.
+    fn child_frames(
+        &self,
+        shared: &Arc<List<Frame>>,
+        visible: usize,
+        number: u32,
+        handing: &Handing,
+        index: Option<u32>,
+    ) -> Result<Frames, Memory>
+        requires visible { visible ≤ length shared.now.value }
+        requires frames { self.now.frames ≡ plain_frames (take visible shared.now.value) }
+        requires below { IsSome index → FramesBelow handing.now.moved 18446744073709551615 × FramesBelow handing.now.shared 18446744073709551615 }
+        ensures { IfOk result (λ fs. fs ≡ with_frame number handing.now index self.now.frames) }
+    {
+        let alloc = *self.text.allocator();
+        let mut frames = Frames::of(alloc, Arc::try_clone(shared)?, visible);
+        match index {
+            Some(variable) => {
+                let link = frames.len();
+                frames.push(Frame {
+                    owner: number,
+                    number: index_frame(handing),
+                    home: Home::Index(variable),
+                    link,
+                    references: List::new(alloc),
+                })?;
+                Ok(frames)
+            }
+            None => Ok(frames),
+        }
+    }
+
+    /// A child with this number, before it has its store.
+    fn child(&self, frames: Frames, entry: u32, number: u32) -> Result<Proc, Memory>
+        requires { self.now.depth + 1 ≤ 4294967295 }
+        ensures { IfOk result (λ p. IsBornSo p number entry frames self.now) }
+    {
+        let alloc = *self.text.allocator();
+        let input = Arc::try_clone(&self.input)?;
+        let child = State {
+            number,
+            pc: entry,
+            stack: Stack::new(alloc),
+            frames,
+            depth: self.depth + 1,
+            ticks: 0,
+            since: 0,
+            cells: 0,
+            store: Store::empty(alloc),
+            input,
+            target: self.target,
+            table: 0,
+            first: 0,
+            text: Vec::new(alloc),
+        };
+        Proc::boxed(alloc, child)
+    }
+
+    /// The children before they have their stores.
+    #[tactic(auto, using(crate::proofs::Planning::born_none, crate::proofs::Planning::born_more))]
+    fn children(
+        &self,
+        table: &ForkTable,
+        plan: &List<Handing>,
+        shared: &Arc<List<Frame>>,
+        visible: usize,
+        number: u32,
+    ) -> Result<Vec<Proc>, Memory>
+        requires visible { visible ≤ length shared.now.value }
+        requires frames { self.now.frames ≡ plain_frames (take visible shared.now.value) }
+        requires deeper { self.now.depth + 1 ≤ 4294967295 }
+        requires numbers { number + length plan.now ≤ 4294967295 }
+        requires below { (k : ℕ) (h : Handing) → k < length plan.now → h ≡ get_or plan.now k h → IsSome (child_or (child_at table.now k)).index → FramesBelow h.moved 18446744073709551615 × FramesBelow h.shared 18446744073709551615 }
+        ensures { IfOk result (λ cs. (length cs.items ≡ length plan.now) × AreBornSo cs.items plan.now table.now number self.now (length plan.now)) }
+    {
+        let mut children = Vec::new(*self.text.allocator());
+        let mut k = 0u32;
+        for handing in plan.items() {
+            let (entry, index) = beginning(table, u64::from(k));
+            let frames = self.child_frames(shared, visible, number + k, handing, index)?;
+            children.push(self.child(frames, entry, number + k)?)?;
+            k += 1;
+        }
+        Ok(children)
+    }
+
+    /// The children of the fork at which the process stopped, with the numbers from this one on.
+    fn split_by(
+        &mut self,
+        code: &Code,
+        table: &ForkTable,
+        count: u32,
+        number: u32,
+    ) -> Result<List<Proc>, Memory>
+        requires blocks { HasDistinctBlocks code.now.layouts }
+        requires values { (self.old.first +ℤ pos count) ≤ℤ pos 9223372036854775808 }
+        requires deeper { self.old.depth + 1 ≤ 4294967295 }
+        requires numbers { number + count ≤ 4294967295 }
+        requires can { CanSplit self.old.store (plan_from code.now.layouts self.old.frames table.now self.old.first 0 count) }
+        ensures children { IfOk result (λ cs. AreNewborn code.now self.old table.now number count cs) }
+        ensures parent { OnOk result (self.new ≡ record self.old { store = plain.handed self.old.store (plan_from code.now.layouts self.old.frames table.now self.old.first 0 count) }) }
+        ensures err { OnErr result (self.new ≡ self.old) }
+    {
+        let plan = self.plan(code, table, count)?;
+        let (shared, visible) = self.frames.share()?;
+        let mut children = self.children(table, &plan, &shared, visible, number)?;
+        let stores = self.store.split(&plan)?;
+        give_stores(&mut children, stores);
+        Ok(List::of(children))
+    }
+
+    /// The children of the fork at which the process stopped.
+    pub(crate) fn split(
+        &mut self,
+        code: &Code,
+        count: u32,
+        number: u32,
+    ) -> Result<List<Proc>, Memory>
+        requires blocks { HasDistinctBlocks code.now.layouts }
+        requires values { (self.old.first +ℤ pos count) ≤ℤ pos 9223372036854775808 }
+        requires deeper { self.old.depth + 1 ≤ 4294967295 }
+        requires numbers { number + count ≤ 4294967295 }
+        requires can { CanSplit self.old.store (plan_by code.now self.old count) }
+        ensures children { IfOk result (λ cs. AreNewborn code.now self.old (table_or (slice_get code.now.forks self.old.table)) number count cs) }
+        ensures parent { OnOk result (self.new ≡ record self.old { store = plain.handed self.old.store (plan_by code.now self.old count) }) }
+        ensures err { OnErr result (self.new ≡ self.old) }
+    {
+        match code.table(self.table) {
+            Some(table) => self.split_by(code, table, count, number),
+            None => {
+                let table = ForkTable {
+                    children: List::new(*self.text.allocator()),
+                };
+                self.split_by(code, &table, count, number)
+            }
+        }
+    }
+}
+
+/// Each child gets its store.
+fn give_stores(children: &mut Vec<Proc>, stores: List<Store>)
+    requires { length stores ≡ length children.old.items }
+    ensures len { length children.new.items ≡ length children.old.items }
+    ensures stores { (k : ℕ) (d : State) (s : Plain) → k < length children.old.items → get_or children.new.items k d ≡ record (get_or children.old.items k d) { store = get_or stores k s } }
+{
+    let mut stores = stores;
+    loop {
+        match stores.pop() {
+            Some(store) => give_store(children, stores.len(), store),
+            None => return,
+        }
+    }
+}
+
+/// One child gets its store.
+fn give_store(children: &mut Vec<Proc>, place: usize, store: Store)
+    requires { place < length children.old.items }
+    ensures len { length children.new.items ≡ length children.old.items }
+    ensures here { (d : State) → get_or children.new.items place d ≡ record (get_or children.old.items place d) { store = store } }
+    ensures others { (k : ℕ) (d : State) → k ≢ place → get_or children.new.items k d ≡ get_or children.old.items k d }
+{
+    let child = &mut children[place];
+    child.put_store(store);
+}

@@ -1,0 +1,8 @@
+use Rattle.std.proofs.Common.{map}
+use Rattle.sp_tree.specs.CheckedOf.{block_of}
+use Rattle.sp_sets.specs.SetsText.{IsOfBlock}
+use Rattle.sp_sets.proofs.Joins.{joined_more}
+use Rattle.sp_sets.proofs.print.put_blocks.Goals as goal
+
+pub each-preserved : goal.each-preserved
+each-preserved c = joined_more (IsOfBlock c.args.variables.now c.args.sets.now (map block_of c.args.blocks.now)) c.each.b c.args.out.now.items _ _ c.each.invariant c.in_ok-put_block.ensures

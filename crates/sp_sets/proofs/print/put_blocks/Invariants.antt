@@ -1,0 +1,7 @@
+use Rattle.std.proofs.Common.{◌≡◌, ◌++◌, ℕ, List, map}
+use Rattle.sp_tree.specs.CheckedOf.{block_of}
+use Rattle.sp_sets.specs.SetsText.{IsOfBlock, Joined}
+use Rattle.sp_sets.proofs.print.put_blocks.Given as goal
+
+abbrev pub invariant-each : goal.invariant-each
+invariant-each l = (t : List ℕ) × Joined (IsOfBlock l.variables l.sets (map block_of l.blocks)) l.b t × (l.out.items ≡ l.fn.out.items ++ t)

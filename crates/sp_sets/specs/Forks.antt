@@ -1,0 +1,58 @@
+-- The lines that a tree has in the text of the sets: one for each process statement of a parallel statement, and one for the
+-- element statement of each forall.
+use Rattle.std.specs.Prelude.{ℕ, suc, List, [], ◌∷◌, ◌++◌, Some, None}
+use Rattle.sp_base.specs.declared.place.Place.{Place}
+use Rattle.sp_sets.specs.declared.line.Line.{Line}
+use Rattle.sp_tree.specs.PlainChecked.{Statement, Does, Form, Empty, Assign, Call, Sequence, If, While, Repeat, For, Case, Parallel, Forall, Assume, ReadValue, ReadLine, WriteValue, WriteText, WriteLine, Open, Send, Receive, Other, NoElse, Else, Statements, NoStatement, AndThen, On, Arms, NoArm, Or, Block, Program}
+use Rattle.sp_varsets.specs.Parts.{number_of}
+
+-- the process statements of a parallel statement at this place, counted from a number on
+abbrev pub process_lines : Place → ℕ → Statements → List Line
+process_lines at k NoStatement = []
+process_lines at k (AndThen s rest) = record { at = at; part = Some k; statement = number_of s } ∷ process_lines at (suc k) rest
+
+abbrev mutual
+  pub statement_lines : Statement → List Line
+  statement_lines (Does n at form) = form_lines at form
+
+  -- what stands in a statement at this place
+  pub form_lines : Place → Form → List Line
+  form_lines at Empty = []
+  form_lines at (Assign v e) = []
+  form_lines at (Call f args) = []
+  form_lines at (Sequence ss) = statements_lines ss
+  form_lines at (If e s other) = statement_lines s ++ other_lines other
+  form_lines at (While e s) = statement_lines s
+  form_lines at (Repeat s e) = statement_lines s
+  form_lines at (For x name from down to s) = statement_lines s
+  form_lines at (Case e choices) = arms_lines choices
+  form_lines at (Parallel ss) = process_lines at 0 ss ++ statements_lines ss
+  form_lines at (Forall x from to s) = record { at = at; part = None; statement = number_of s } ∷ statement_lines s
+  form_lines at (Assume e) = []
+  form_lines at (ReadValue v) = []
+  form_lines at ReadLine = []
+  form_lines at (WriteValue e w) = []
+  form_lines at (WriteText t w) = []
+  form_lines at WriteLine = []
+  form_lines at (Open v) = []
+  form_lines at (Send c e) = []
+  form_lines at (Receive c v) = []
+
+  pub other_lines : Other → List Line
+  other_lines NoElse = []
+  other_lines (Else s) = statement_lines s
+
+  pub statements_lines : Statements → List Line
+  statements_lines NoStatement = []
+  statements_lines (AndThen s rest) = statement_lines s ++ statements_lines rest
+
+  pub arms_lines : Arms → List Line
+  arms_lines NoArm = []
+  arms_lines (Or (On cs s) rest) = statement_lines s ++ arms_lines rest
+
+abbrev pub blocks_lines : List Block → List Line
+blocks_lines [] = []
+blocks_lines (k ∷ ks) = statement_lines k.body ++ blocks_lines ks
+
+abbrev pub tree_lines : Program → List Line
+tree_lines p = blocks_lines p.blocks
