@@ -19,6 +19,10 @@ syntax keyword superpascalFunction abs sqr odd ord chr succ pred eof eoln
 syntax keyword superpascalProcedure read readln write writeln open send receive
 
 syntax match superpascalNumber "\<\d\+\>"
+" Numbers and bytes that the profile refuses.
+syntax match superpascalRefused "\<\d\+\(\.\d\+\|[eE][+-]\=\d\+\)\|[\^@/]"
+" The name that a heading declares.
+syntax match superpascalName "\(\<\(program\|procedure\|function\)\s\+\)\@<=\a\w*"
 syntax match superpascalSign ":=\|<>\|<=\|>=\|\.\.\||"
 syntax match superpascalText "'\([^'\n\r]\|''\)*'"
 " A comment is closed as it was opened, and does not nest.
@@ -37,6 +41,7 @@ highlight default link superpascalConstant Constant
 highlight default link superpascalFunction Function
 highlight default link superpascalProcedure Function
 highlight default link superpascalNumber Number
+highlight default link superpascalName Function
 highlight default link superpascalSign Operator
 highlight default link superpascalText String
 highlight default link superpascalComment Comment

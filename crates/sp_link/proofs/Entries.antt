@@ -1,11 +1,11 @@
--- Every entry on both sides: each process that runs makes one, by how its turn ends (`entry`). `Events` has the events whose lemmas are
--- still to come; with them the meaning goes along every journal of the system (`system_is_meaning`).
+-- Every entry on both sides: each process that runs makes one, by how its turn ends (`entry`). So the meaning goes along every journal
+-- of the system (`system_is_meaning`).
 use Rattle.std.proofs.Common.{◌≡◌, inl, inr, ⊎_elim, ℕ, List, Bool, true, false, refl, sym, ap, ◌∙◌, subst}
 use Rattle.sp_journal.specs.declared.entry.Entry.{Entry}
 use Rattle.sp_journal.specs.Births.{at_start, happening}
 use Rattle.sp_cell.specs.Map.{Plain}
-use Rattle.sp_meaning.specs.Own.{Own, Item, Came, Got, Bad, Lost, Long}
-use Rattle.sp_meaning.specs.Deeds.{Birth, Went, Beat, Opened, Forked, Offered, Over}
+use Rattle.sp_meaning.specs.Own.{Came, Got, Bad, Lost, Long}
+use Rattle.sp_meaning.specs.Deeds.{Went, Beat, Opened, Forked, Offered, Over}
 use Rattle.sp_meaning.specs.Run.{Store}
 use Rattle.sp_meaning.specs.Runs.{StateOf, start}
 use Rattle.sp_meaning.specs.Along.{Course, no_course}
@@ -25,18 +25,11 @@ use Rattle.sp_link.proofs.Pauses.{Entry_of, Meant, Machined, Kept_to, kids, paus
 use Rattle.sp_link.proofs.Offers.{offering}
 use Rattle.sp_link.proofs.Opens.{opening_entry}
 use Rattle.sp_link.proofs.Parallels.{parallel_entry}
-use Rattle.sp_codegen.specs.Following.{ForkIs, ForallIs}
+use Rattle.sp_link.proofs.Foralls.{forall_entry}
+use Rattle.sp_codegen.specs.Following.{ForkIs}
 use Rattle.sp_link.proofs.Relation.{Ground, Lives, Stands, TooLarge, Linked, Began, at_open, run_is, ops, execution}
 
--- what is left to prove: an entry of each kind, at a process that stands, where its turn ends so on both sides
-pub record Events (G : Ground) : Type 1 where
-  -- a forall that forks: `Forks.fork_entry` with the children of the one statement, each with its index
-  pub spread : (lv : Lives G) (c : Course) (s : StateOf G.g) (u : System Plain) (l : Linked G lv c s u) (i : ℕ) (d : Config (Memory Plain)) (at : u.condition i ≡ Runs d)
-      (z : Stands G (lv (q G lv c s u l i d at)) (kids G lv c s u l i d at) (q G lv c s u l i d at) (c.since (q G lv c s u l i d at)) (pr G lv c s u l i d at) s.store d)
-      (bs : List Birth) (todo : List Item) (o : Own) (m : Store) → Meant G lv c s u l i d at z (Got (source.Stops (Forked bs todo)) o, m) → (t : Machined G lv c s u l i d at z (Got (source.Stops (Forked bs todo)) o, m)) → Kept_to G lv c s u l i d at z (Got (source.Stops (Forked bs todo)) o, m) → u.faulted ≡ false
-      → ForallIs (execution G (lv (q G lv c s u l i d at)) (kids G lv c s u l i d at) (q G lv c s u l i d at) z.fresh (pr G lv c s u l i d at).who z.named (c.since (q G lv c s u l i d at))) true t.3 bs t.5 → Entry_of G c s u i d
-
-module _ (G : Ground) (events : Events G) where
+module _ (G : Ground) where
   module _ (lv : Lives G) (c : Course) (s : StateOf G.g) (u : System Plain) (l : Linked G lv c s u) (i : ℕ) (d : Config (Memory Plain)) (at : u.condition i ≡ Runs d) where
     module _ (z : Stands G (lv (q G lv c s u l i d at)) (kids G lv c s u l i d at) (q G lv c s u l i d at) (c.since (q G lv c s u l i d at)) (pr G lv c s u l i d at) s.store d) where
       by_quiet : (r : Came source.Stop × Store) → AtEnd r → Meant G lv c s u l i d at z r → Machined G lv c s u l i d at z r → Kept_to G lv c s u l i d at z r → u.faulted ≡ false → Entry_of G c s u i d
@@ -48,7 +41,7 @@ module _ (G : Ground) (events : Events G) where
         where
           by_form : ForkIs (execution G (lv (q G lv c s u l i d at)) (kids G lv c s u l i d at) (q G lv c s u l i d at) z.fresh (pr G lv c s u l i d at).who z.named (c.since (q G lv c s u l i d at))) true t.3 bs t.5 → Entry_of G c s u i d
           by_form (inl h) = parallel_entry G lv c s u l i d at z bs todo o m x t y f h
-          by_form (inr h) = events.spread lv c s u l i d at z bs todo o m x t y f h
+          by_form (inr h) = forall_entry G lv c s u l i d at z bs todo o m x t y f h
       by_quiet (Got (source.Stops (Offered ch k a todo)) o, m) e x t y f = offering G lv c s u l i d at z ch k a todo o m x t y f
       by_quiet (Got (source.Stops Over) o, m) e x t y f = finishing G lv c s u l i d at z o m x t f
       by_quiet (Bad f, m) e x t y q = failing G lv c s u l i d at z f m x t q
@@ -79,11 +72,11 @@ module _ (G : Ground) (events : Events G) where
         by z false f = too_large_fails G lv c s u l i d at z f
 
 -- however many channels are open
-module _ (G : Ground) (events : (n : ℕ) → Events (at_open G n)) where
+module _ (G : Ground) where
   -- one entry on both sides
   pub one_entry : OneEntry G
   one_entry lv c s u t i e l h began =
-      let en = entry (at_open G u.births.channels) (events u.births.channels) lv c s u l i h.0 h.1 in
+      let en = entry (at_open G u.births.channels) lv c s u l i h.0 h.1 in
       let same : en.turn ≡ h.2 = turn_same (ops G) G.code h.0 en.turn h.2 en.is h.3 in
       let at : after plain (run_is G) i en.turn u ≡ t = ap (λ x. after plain (run_is G) i x u) same ∙ sym h.5 in
       let said : event_of G.g.limits u en.turn ≡ e = ap (λ x. event_of G.g.limits u x) same ∙ h.4 in

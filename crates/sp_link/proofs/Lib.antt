@@ -14,6 +14,7 @@ pub mod Rejoins
 pub mod Forks
 pub mod Scoping
 pub mod Parallels
+pub mod Foralls
 pub mod Opens
 pub mod FirstRelation
 pub mod Entries
@@ -21,6 +22,7 @@ pub mod AtStop
 pub mod Ends
 pub mod Halts
 pub mod ChildrenStand
+pub mod EachStands
 pub mod TurnsSafe
 pub mod OneState
 pub mod Replay

@@ -260,10 +260,10 @@ module _ (G : Ground) (lv : Lives G) (c : Course) (s : StateOf G.g) (u : System 
       kept_of_it = subst (λ (lf : Life). Handed G (lv v) more v t.3 n1 lf ((k, j) ∷ v)) (sym life_is) (cs.handed_facts G (lv v) more v fresh stood may_fork ss h.3 h.8 h.2 j b ch ((k, j) ∷ v) (longer j) (pos 0))
 
       shares_known : (a : Spot) → In a (handing_at ch.entry j ch.statement).shared → IsSome (fin.get n1.store.map a)
-      shares_known a f = shared_known G.g G.code w1 (Named G) (Called G) Wr Rd (lv v).J (lv v).low (length (lv v).below) (lv v).born (t.2).ticks G.pause (lv v).moved G.formed G.laid G.free z.fresh.reads G.moves G.shares G.sets stood ch.statement (cs.sound G (lv v) more v fresh stood may_fork ss h.3 h.8 h.2 j b ch ((k, j) ∷ v) (longer j) (pos 0)) (cs.unread G (lv v) more v fresh stood may_fork ss h.3 h.8 h.2 j b ch ((k, j) ∷ v) (longer j) (pos 0)) ((k, j) ∷ v) (cs.new_name G (lv v) more v fresh stood may_fork ss h.3 h.8 h.2 j b ch ((k, j) ∷ v) (longer j) (pos 0)) (child_table p G.moves G.shares ch.entry None ch.statement) refl refl (pos 0) j (cs.consoles G (lv v) more v) h.3 h.8.chain (λ x1 up a1. h.8.indexes x1 up (inr (inl (ch.inside (Sees x1) a1)))) in_scope a f
+      shares_known a f = shared_known G.g G.code w1 (Named G) (Called G) Wr Rd (lv v).J (lv v).low (length (lv v).below) (lv v).born (t.2).ticks G.pause (lv v).moved G.formed G.laid G.free z.fresh.reads G.moves G.shares G.sets stood ch.statement (cs.sound G (lv v) more v fresh stood may_fork ss h.3 h.8 h.2 j b ch ((k, j) ∷ v) (longer j) (pos 0)) (cs.unread G (lv v) more v fresh stood may_fork ss h.3 h.8 h.2 j b ch ((k, j) ∷ v) (longer j) (pos 0)) ((k, j) ∷ v) (cs.new_name G (lv v) more v fresh stood may_fork ss h.3 h.8 h.2 j b ch ((k, j) ∷ v) (longer j) (pos 0)) (child_table p G.moves G.shares ch.entry None ch.statement) refl refl (pos 0) j (cs.consoles G (lv v) more v) h.3 h.8.chain (λ x1 up own1 a1. h.8.indexes x1 up (inr (inl (ch.inside (Sees x1) a1)))) (λ y1 used1 own1. in_scope y1 used1) a f
 
       output_stays : Rd Output → In output_spot (handing_at ch.entry j ch.statement).shared → ⊥
-      output_stays may f = output_unshared G.g G.code w1 (Named G) (Called G) Wr Rd (lv v).J (lv v).low (length (lv v).below) (lv v).born (t.2).ticks G.pause (lv v).moved G.formed G.laid G.free z.fresh.reads G.moves G.shares G.sets stood ch.statement (cs.sound G (lv v) more v fresh stood may_fork ss h.3 h.8 h.2 j b ch ((k, j) ∷ v) (longer j) (pos 0)) (cs.unread G (lv v) more v fresh stood may_fork ss h.3 h.8 h.2 j b ch ((k, j) ∷ v) (longer j) (pos 0)) ((k, j) ∷ v) (cs.new_name G (lv v) more v fresh stood may_fork ss h.3 h.8 h.2 j b ch ((k, j) ∷ v) (longer j) (pos 0)) (child_table p G.moves G.shares ch.entry None ch.statement) refl refl (pos 0) j (cs.consoles G (lv v) more v) h.3 h.8.chain (λ x1 up a1. h.8.indexes x1 up (inr (inl (ch.inside (Sees x1) a1)))) in_scope may f
+      output_stays may f = output_unshared G.g G.code w1 (Named G) (Called G) Wr Rd (lv v).J (lv v).low (length (lv v).below) (lv v).born (t.2).ticks G.pause (lv v).moved G.formed G.laid G.free z.fresh.reads G.moves G.shares G.sets stood ch.statement (cs.sound G (lv v) more v fresh stood may_fork ss h.3 h.8 h.2 j b ch ((k, j) ∷ v) (longer j) (pos 0)) (cs.unread G (lv v) more v fresh stood may_fork ss h.3 h.8 h.2 j b ch ((k, j) ∷ v) (longer j) (pos 0)) ((k, j) ∷ v) (cs.new_name G (lv v) more v fresh stood may_fork ss h.3 h.8 h.2 j b ch ((k, j) ∷ v) (longer j) (pos 0)) (child_table p G.moves G.shares ch.entry None ch.statement) refl refl (pos 0) j (cs.consoles G (lv v) more v) h.3 h.8.chain (λ x1 up own1 a1. h.8.indexes x1 up (inr (inl (ch.inside (Sees x1) a1)))) (λ y1 used1 own1. in_scope y1 used1) may f
 
       moves_known : (a : Spot) → In a (handing_at ch.entry j ch.statement).moved → IsSome (fin.get n1.store.map a)
       moves_known a f = cs.all_moved_known G (lv v) more v fresh stood may_fork ss h.3 h.8 h.2 j b ch ((k, j) ∷ v) (longer j) (pos 0) a f

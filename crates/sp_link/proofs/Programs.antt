@@ -1,6 +1,6 @@
 -- The theorem for programs: the code of a program that is ready, along each journal that can be named, is the program's meaning along
 -- that journal, both ways, and no turn of it lacks what it needs.
-use Rattle.std.proofs.Common.{◌≡◌, ℕ, ◌<◌, List, Option, Some, None, false, refl, ap}
+use Rattle.std.proofs.Common.{◌≡◌, ℕ, ◌<◌, List, false, refl, ap}
 use Rattle.sp_journal.specs.declared.entry.Entry.{Entry}
 use Rattle.sp_journal.specs.Births.{Births, channel, at_start, births_from, occurrences_from, NameableFrom}
 use Rattle.sp_journal.specs.Names.{Channel}
@@ -25,8 +25,7 @@ use Rattle.sp_code.proofs.Blocks.{blocks_stand, layout_found}
 use Rattle.sp_codegen.specs.Meets.{code_run}
 use Rattle.sp_codegen.proofs.FirstTurn.{laid_of}
 use Rattle.sp_link.specs.Premises.{IsReady}
-use Rattle.sp_link.proofs.Entries.{Events}
-use Rattle.sp_link.proofs.Relation.{Ground, at_open}
+use Rattle.sp_link.proofs.Relation.{Ground}
 use Rattle.sp_link.proofs.Theorem.{meaning_of_system, turns_safe, system_of_meaning, output_same, done_means, done_runs, idle_means}
 
 -- no two channels have one name
@@ -69,30 +68,23 @@ module _ (g : Setting) (moves shares : Stmt → List ℕ) (pause : ℕ) (ready :
     one_channel = λ c d lc ld e. one_channel (births_from at_start es) lawful c d lc ld e;
   }
 
-  none_some : (x : ℕ) → ◌≡◌ {A = Option ℕ} (Some x) None → ⊥
-  none_some x e = cc e
-
-  -- no forall forks
-  events : (n : ℕ) → Events (at_open ground n)
-  events n = record { spread = λ lv c s u l i d at z bs todo o m x t y quiet h. absurd (none_some h.0 (ready.no_index h.6 _ h.10 0 _ refl)) }
-
   pub program_means : (t : System Plain) → IsSystem plain (code_run g code pause) es t → (n : ℕ) × (s : StateOf g) × IsAlong g pause (occurrences_from at_start es) n s
-  program_means t h = meaning_of_system ground events ready.main ready.first es named refl t h
+  program_means t h = meaning_of_system ground ready.main ready.first es named refl t h
 
   pub program_runs : (n : ℕ) (s : StateOf g) → IsAlong g pause (occurrences_from at_start es) n s → (t : System Plain) × IsSystem plain (code_run g code pause) es t
-  program_runs n s h = system_of_meaning ground events ready.main ready.first es named refl n s h
+  program_runs n s h = system_of_meaning ground ready.main ready.first es named refl n s h
 
   pub program_safe : (t : System Plain) → IsSystem plain (code_run g code pause) es t → (i : ℕ) (d : Config (Memory Plain)) → t.condition i ≡ Runs d → IsSafe (memory plain (code_run g code pause)) code d
-  program_safe t h i d at = turns_safe ground events ready.main ready.first es named refl t h i d at
+  program_safe t h i d at = turns_safe ground ready.main ready.first es named refl t h i d at
 
   pub program_output : (t : System Plain) → IsSystem plain (code_run g code pause) es t → (n : ℕ) (s : StateOf g) → IsAlong g pause (occurrences_from at_start es) n s → OutputIs plain (code_run g code pause) t (output_of g s)
-  program_output t h n s k = output_same ground events ready.main ready.first es named refl t h n s k
+  program_output t h n s k = output_same ground ready.main ready.first es named refl t h n s k
 
   pub program_done : (t : System Plain) → IsSystem plain (code_run g code pause) es t → (n : ℕ) (s : StateOf g) → IsAlong g pause (occurrences_from at_start es) n s → (d : Config (Memory Plain)) → t.condition 0 ≡ Over d → IsDone g s
-  program_done t h n s k d e = done_means ground events ready.main ready.first es named refl t h n s k d e
+  program_done t h n s k d e = done_means ground ready.main ready.first es named refl t h n s k d e
 
   pub program_over : (t : System Plain) → IsSystem plain (code_run g code pause) es t → (n : ℕ) (s : StateOf g) → IsAlong g pause (occurrences_from at_start es) n s → IsDone g s → (d : Config (Memory Plain)) × (t.condition 0 ≡ Over d)
-  program_over t h n s k e = done_runs ground events ready.main ready.first es named refl t h n s k e
+  program_over t h n s k e = done_runs ground ready.main ready.first es named refl t h n s k e
 
   pub program_idle : (t : System Plain) → IsSystem plain (code_run g code pause) es t → (n : ℕ) (s : StateOf g) → IsAlong g pause (occurrences_from at_start es) n s → t.faulted ≡ false → ((i : ℕ) (d : Config (Memory Plain)) → t.condition i ≡ Runs d → ⊥) → IsIdle g s
-  program_idle t h n s k quiet none = idle_means ground events ready.main ready.first es named refl t h n s k quiet none
+  program_idle t h n s k quiet none = idle_means ground ready.main ready.first es named refl t h n s k quiet none

@@ -19,7 +19,7 @@ use Rattle.sp_code.specs.Memory.{Memory}
 use Rattle.sp_code.specs.PlainStore.{plain}
 use Rattle.sp_code.specs.System.{System, Leads}
 use Rattle.sp_code.specs.System as sys
-use Rattle.sp_link.proofs.Entries.{Events, entry}
+use Rattle.sp_link.proofs.Entries.{entry}
 use Rattle.sp_link.proofs.Journal.{Now, IsOpen, AllBegan}
 use Rattle.sp_link.proofs.OneState.{Same, turn_one, some_is, none_some}
 use Rattle.sp_link.proofs.Relation.{Ground, Life, Lives, Linked, Began, at_open, Does_all, run_is, left_of}
@@ -197,7 +197,7 @@ module _ (G : Ground) where
       go sys.Gone h z = absurd (none_some own (idle Ended z.0))
       go (sys.Over d) h z = absurd (none_some own (idle Ended z.0))
 
-module _ (G : Ground) (events : (n : ℕ) → Events (at_open G n)) where
+module _ (G : Ground) where
   turn_runs : (s m : StateOf G.g) (q : Name) (since n : ℕ) (p : Bool) → Turn G.g G.pause since q n s m p → (own : Process) × (running G.g s q ≡ Some own)
   turn_runs s m q since zero p h = (h.2, h.3)
   turn_runs s m q since (suc n) p h = (h.0, h.1)
@@ -234,7 +234,7 @@ module _ (G : Ground) (events : (n : ℕ) → Events (at_open G n)) where
       at = runs_there (at_open G u.births.channels) lv c s u l e.process lt own.0 own.1 unlaid
 
       en : Rattle.sp_link.proofs.Pauses.Entry_of (at_open G u.births.channels) c s u e.process at.0
-      en = entry (at_open G u.births.channels) (events u.births.channels) lv c s u l e.process at.0 at.1
+      en = entry (at_open G u.births.channels) lv c s u l e.process at.0 at.1
 
       f : Event
       f = sys.event_of G.g.limits u en.turn

@@ -1,4 +1,4 @@
--- The system along a journal is the meaning along that journal, both ways, where the events of `Events` hold; with the same output, and
+-- The system along a journal is the meaning along that journal, both ways; with the same output, and
 -- the first process ended in both or in neither.
 use Rattle.std.proofs.Common.{◌≡◌, ℕ, List, [], Some, None, false, sym, subst}
 use Rattle.std.specs.Prelude.{slice_get}
@@ -16,7 +16,7 @@ use Rattle.sp_code.specs.PlainStore.{plain}
 use Rattle.sp_code.specs.System.{System, Runs, Over, IsSystem, OutputIs, opening}
 use Rattle.sp_link.proofs.FirstRelation.{lives, opening_now}
 use Rattle.sp_link.proofs.Fronts.{Grows, began, grows_from, all_began}
-use Rattle.sp_link.proofs.Entries.{Events, system_is_meaning}
+use Rattle.sp_link.proofs.Entries.{system_is_meaning}
 use Rattle.sp_link.proofs.Journal.{Goes_along}
 use Rattle.sp_link.proofs.Relation.{Ground, Began, at_open, run_is, ops}
 use Rattle.sp_link.proofs.OneState.{one_state}
@@ -26,13 +26,13 @@ use Rattle.sp_meaning.specs.Model.{Name, Ended}
 use Rattle.sp_link.proofs.Replay.{replays}
 use Rattle.sp_link.proofs.TurnsSafe.{turn_safe}
 
-module _ (G : Ground) (events : (n : ℕ) → Events (at_open G n)) (b : Block) (eb : slice_get G.g.program.blocks 0 ≡ Some b) (es : List Entry) (named : NameableFrom at_start es) (all : births_from at_start es ≡ G.births) where
+module _ (G : Ground) (b : Block) (eb : slice_get G.g.program.blocks 0 ≡ Some b) (es : List Entry) (named : NameableFrom at_start es) (all : births_from at_start es ≡ G.births) where
   begun : Began G at_start
   begun = began G at_start lawful_start (subst (λ y. Grows at_start y) all (grows_from es at_start lawful_start named))
 
   -- with the relation at its end
   pub linked_along : (t : System Plain) → IsSystem plain (run_is G) es t → Goes_along G no_course (start G.g) at_start es t
-  linked_along t h = system_is_meaning G events (lives (at_open G 0) b eb begun) (opening_now G b eb begun) es t (all_began G es at_start lawful_start named all) h
+  linked_along t h = system_is_meaning G (lives (at_open G 0) b eb begun) (opening_now G b eb begun) es t (all_began G es at_start lawful_start named all) h
 
   pub meaning_of_system : (t : System Plain) → IsSystem plain (run_is G) es t → (n : ℕ) × (s : StateOf G.g) × IsAlong G.g G.pause (occurrences_from at_start es) n s
   meaning_of_system t h = let z = linked_along t h in (z.steps, z.state, z.along)
@@ -43,7 +43,7 @@ module _ (G : Ground) (events : (n : ℕ) → Events (at_open G n)) (b : Block) 
 
   -- and the other way round
   pub system_of_meaning : (n : ℕ) (s : StateOf G.g) → IsAlong G.g G.pause (occurrences_from at_start es) n s → (t : System Plain) × IsSystem plain (run_is G) es t
-  system_of_meaning n s h = replays G events es (lives (at_open G 0) b eb begun) no_course (start G.g) (opening plain (run_is G)) (opening_now G b eb begun) (all_began G es at_start lawful_start named all) named n s h
+  system_of_meaning n s h = replays G es (lives (at_open G 0) b eb begun) no_course (start G.g) (opening plain (run_is G)) (opening_now G b eb begun) (all_began G es at_start lawful_start named all) named n s h
 
   -- the state of the meaning that the relation has is the one along the journal
   module _ (t : System Plain) (h : IsSystem plain (run_is G) es t) (n : ℕ) (s : StateOf G.g) (k : IsAlong G.g G.pause (occurrences_from at_start es) n s) where

@@ -10,7 +10,7 @@ use Rattle.sp_code.specs.Memory.{Memory}
 use Rattle.sp_code.specs.PlainStore.{plain}
 use Rattle.sp_code.specs.System.{System, Runs, Enters}
 use Rattle.sp_link.proofs.TurnsMeet.{safe}
-use Rattle.sp_link.proofs.Entries.{Events, entry}
+use Rattle.sp_link.proofs.Entries.{entry}
 use Rattle.sp_link.proofs.OneChanges.{q, pr, its, runs, light, keeps_to}
 use Rattle.sp_link.proofs.Relation.{Ground, Lives, Linked, run_is, ops}
 
@@ -22,7 +22,7 @@ module _ (G : Ground) (lv : Lives G) (c : Course) (s : StateOf G.g) (u : System 
       (its G lv c s u l i d at).2
 
   -- and the system goes on with it
-  pub goes_on : Events G → (e : Event) × (t : System Plain) × Enters plain (run_is G) u i e t
-  goes_on events =
-      let en = entry G events lv c s u l i d at in
+  pub goes_on : (e : Event) × (t : System Plain) × Enters plain (run_is G) u i e t
+  goes_on =
+      let en = entry G lv c s u l i d at in
       (Rattle.sp_code.specs.System.event_of G.g.limits u en.turn, Rattle.sp_code.specs.System.after plain (run_is G) i en.turn u, (d, at, en.turn, en.is, refl, refl))

@@ -1,14 +1,11 @@
 -- What is asked of a program, of the sets of its forks and of the limits, so that its code runs as the program means.
-use Rattle.std.specs.Prelude.{◌≡◌, ℕ, List, Some, None, slice_get}
+use Rattle.std.specs.Prelude.{◌≡◌, ℕ, List, Some, slice_get}
 use Rattle.sp_tree.specs.declared.checked.Role.TheVariants as role
 use Rattle.sp_tree.specs.Formed.{IsFormed}
 use Rattle.sp_tree.specs.Interference.{IsFreeOfInterference, IsFunction, IsMember}
 use Rattle.sp_tree.specs.Plain.{Stmt, Block, Variable}
 use Rattle.sp_tree.specs.Sets.{ImplicitTarget}
 use Rattle.sp_meaning.specs.Own.{Setting}
-use Rattle.sp_code.specs.declared.code.ChildTable.{ChildTable}
-use Rattle.sp_code.specs.declared.code.ForkTable.{ForkTable}
-use Rattle.sp_code.specs.Emitted.{program_code}
 use Rattle.sp_code.specs.Quiet.{IsQuiet}
 use Rattle.sp_code.specs.Shares.{SetsAre}
 use Rattle.sp_code.specs.Sound.{AreLimits}
@@ -26,5 +23,3 @@ pub record IsReady (g : Setting) (moves shares : Stmt → List ℕ) : Type 0 whe
   pub fine : (f q : ℕ) (b : Block) → slice_get g.program.blocks f ≡ Some b → IsFine g.program moves shares (IsQuiet g.program) f q b
   pub sets : SetsAre g.program moves shares
   pub limits : AreLimits g.limits
-  -- no forall, as yet: no child of a fork has an index
-  pub no_index : (t : ℕ) (table : ForkTable) → slice_get (program_code g.program moves shares).forks t ≡ Some table → (j : ℕ) (c : ChildTable) → slice_get table.children j ≡ Some c → c.index ≡ None

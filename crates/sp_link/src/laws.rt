@@ -26,7 +26,7 @@ pub fn journals_have_one_state()
 {}
 
 /// Along a journal the machine has a system, with the code of a program, exactly where the program has a state; and then no turn
-/// lacks what it needs. As yet this is for programs without `forall`.
+/// lacks what it needs.
 pub fn code_runs_as_the_program_means()
     ensures means { (g : Setting) (moves shares : Stmt → List ℕ) (pause : ℕ) → IsReady g moves shares → (es : List Entry) → NameableFrom at_start es
         → (t : System Plain) → IsSystem plain (code_run g (program_code g.program moves shares) pause) es t → (n : ℕ) × (s : StateOf g) × IsAlong g pause (occurrences_from at_start es) n s }
@@ -38,7 +38,7 @@ pub fn code_runs_as_the_program_means()
 {}
 
 /// Along a journal both come to the same output; the first process has ended in the one where it has in the other; and nobody
-/// runs in the program where nobody runs in its code and no fault stands. As yet this is for programs without `forall`.
+/// runs in the program where nobody runs in its code and no fault stands.
 pub fn code_ends_as_the_program_does()
     ensures output { (g : Setting) (moves shares : Stmt → List ℕ) (pause : ℕ) → IsReady g moves shares → (es : List Entry) → NameableFrom at_start es
         → (t : System Plain) → IsSystem plain (code_run g (program_code g.program moves shares) pause) es t → (n : ℕ) (s : StateOf g) → IsAlong g pause (occurrences_from at_start es) n s

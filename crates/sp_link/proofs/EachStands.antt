@@ -1,0 +1,204 @@
+-- A child of a forall: nothing moves to it, and what it shares its parent holds; it stands as it is born, with its index in a frame of
+-- its own (`each_stands`), and its parent keeps of it what its join will need (`each_handed`).
+use Rattle.std.proofs.Common.{◌≡◌, ◌⊎◌, inl, inr, ⊎_elim, ℕ, suc, ◌+◌, ◌==◌, ◌≤◌, ℤ, List, [], ◌∷◌, length, Option, Some, None, Bool, true, false, if◌then◌else◌, refl, sym, ap, ◌∙◌, arith, eqb-true, eq-eqb}
+use Rattle.std.specs.Prelude.{◌≢◌, ◌+ℤ◌, pos, IsSome, slice_get}
+use Rattle.std.specs.FinMap as fin
+use Rattle.sp_tree.specs.declared.checked.Role.TheVariants as role
+use Rattle.sp_tree.specs.Formed.{IsFormedUse}
+use Rattle.sp_tree.specs.Interference.{IsIndexOf}
+use Rattle.sp_tree.specs.Plain.{Expr, Variable, Stmt, Forall}
+use Rattle.sp_tree.specs.Sets.{IsTarget, IsUsed}
+use Rattle.sp_tree.specs.Uses.{Use, Aims, Sees, Runs, Splits, Spreads, Stops, In_stmt}
+use Rattle.sp_cell.specs.declared.spot.Spot.{Spot}
+use Rattle.sp_cell.specs.declared.spot.Handing.{Handing}
+use Rattle.sp_cell.specs.Fork.{index_frame}
+use Rattle.sp_cell.specs.Map.{Plain, output_spot}
+use Rattle.sp_cell.specs.Plan.{in_or}
+use Rattle.sp_cell.specs.Spots.{In}
+use Rattle.sp_meaning.specs.Model.{Name}
+use Rattle.sp_meaning.specs.Own.{Loc, Output, OfIndex, Own, Who, Process}
+use Rattle.sp_meaning.specs.Deeds.{push}
+use Rattle.sp_meaning.specs.Owning.{Aimed, Used, Sound}
+use Rattle.sp_meaning.specs.Run.{Store}
+use Rattle.sp_meaning.proofs.Deeding.{element_sound}
+use Rattle.sp_meaning.proofs.Rights.{Mine}
+use Rattle.sp_code.specs.declared.code.ChildTable.{ChildTable}
+use Rattle.sp_code.specs.declared.instr.Instr.TheVariants as i
+use Rattle.sp_code.specs.Emitted.{child_table}
+use Rattle.sp_code.specs.Machine.{Entry, At}
+use Rattle.sp_code.specs.Memory.{Memory, position_at}
+use Rattle.sp_code.specs.Memory as mem
+use Rattle.sp_code.specs.Places.{after}
+use Rattle.sp_code.specs.PlainStore.{plain}
+use Rattle.sp_code.specs.Scopes.{Scope, level, one_more, is_index, slot}
+use Rattle.sp_code.specs.Scopes as places
+use Rattle.sp_code.specs.Stands.{Stands as StandsIn, HasFork, HasWords, StandsAt}
+use Rattle.sp_code.specs.System.{newborn, handing_of}
+use Rattle.sp_codegen.specs.Joints.{Joint, sources, from}
+use Rattle.sp_codegen.specs.Lives.{Seen}
+use Rattle.sp_codegen.specs.Relation.{Placed}
+use Rattle.sp_codegen.specs.Standing.{Stand, spot_at}
+use Rattle.sp_codegen.proofs.Begins.{index_child_begins}
+use Rattle.sp_codegen.proofs.Birth.{low_small}
+use Rattle.sp_codegen.proofs.Born.{child_follows}
+use Rattle.sp_codegen.proofs.Handed.{MovedStands, moved_stands, shared_known, output_unshared}
+use Rattle.sp_codegen.proofs.Owners.{within_at}
+use Rattle.sp_link.proofs.ChildrenStand.{memory_in, reached_formed, consoles}
+use Rattle.sp_link.proofs.Relation.{Ground, Life, Called, Named, Fresh, St, Stands, Handed, execution, run_is}
+use Rattle.sp_link.proofs.Scoping.{is_scoped}
+
+module _ (G : Ground) (lf : Life) (kids : ℕ → ℕ → Life) (q : Name) where
+  abbrev Wr : Loc → Type 0
+  Wr l = Mine q l ⊎ lf.W l
+
+  abbrev Rd : Loc → Type 0
+  Rd l = Mine q l ⊎ lf.R l
+
+  module _ (f : Fresh G lf kids q) {w : Who} {since : ℕ} {js : List Joint} {o : Own} {s : Store} {n : Memory Plain} (t : St G lf kids q w since js o s n) (may_fork : o.depth + 1 ≤ G.g.limits.depth)
+      (x : ℕ) (from1 to : Expr) (st : Stmt) (sc : List Scope) (pl : Placed G.g Wr Rd lf.J sc js (In_stmt (Forall x from1 to st))) (entry : ℕ)
+      (body : StandsAt G.g.program G.moves G.shares (StandsIn G.code) (HasFork G.code) (HasWords G.code) G.hush true (places.OfIndex x ∷ sc) entry st) (ends : slice_get G.code.instrs (after G.g.program entry st) ≡ Some i.End)
+      (child : Name) (longer : suc (length w.name) ≤ length child) (value : ℤ) (j : ℕ) where
+    -- the element statement has no target, and its index is that of a forall
+    pub no_target : (y : ℕ) → IsTarget G.g.program (In_stmt st) y → ⊥
+    no_target = (pl.sound.kept (Spreads x st) (inl refl)).1
+
+    is_index_of : IsIndexOf G.g.program x
+    is_index_of = (pl.sound.kept (Spreads x st) (inl refl)).0
+
+    not_output : x ≢ 1
+    not_output e = no_console is_index_of.0 G.free.output.0 (sym is_index_of.1 ∙ ap (λ y. slice_get G.g.program.variables y) e ∙ G.free.output.1) is_index_of.2 G.free.output.2
+      where
+        no_console : (a b : Variable) → Some a ≡ Some b → a.role ≡ role.Index → b.role ≡ role.Console → ⊥
+        no_console a b h k l = let same : a ≡ b = cc h in let bad : role.Index ≡ role.Console = sym k ∙ ap (λ (y : Variable). y.role) same ∙ l in cc bad
+
+    formed_here : (u : Use) → In_stmt st u → IsFormedUse G.g.program u
+    formed_here (Aims y) a = absurd (no_target y ([], a))
+    formed_here (Sees y) a = go (x == y) refl
+      where
+        go : (b : Bool) → x == y ≡ b → y ≢ 1
+        go true e = λ h. not_output (eqb-true x y e ∙ h)
+        go false e = pl.formed (Sees y) (inr (inr (inr (inl (a, λ h. (let bad : false ≡ true = sym e ∙ eq-eqb x y h in absurd (cc bad)))))))
+    formed_here (Runs b args) a = pl.formed (Runs b args) (inr (inr (inr (inl (a, tt)))))
+    formed_here (Splits ss) a = pl.formed (Splits ss) (inr (inr (inr (inl (a, tt)))))
+    formed_here (Spreads y s) a = pl.formed (Spreads y s) (inr (inr (inr (inl (a, tt)))))
+    formed_here Stops a = pl.formed Stops (inr (inr (inr (inl (a, tt)))))
+
+    unread : IsUsed G.g.program (In_stmt st) 1 → IsTarget G.g.program (In_stmt st) 1
+    unread (inl a) = a
+    unread (inr a) = absurd (reached_formed G a.0 formed_here (Sees 1) a.1 refl)
+
+    sound : Sound G.g.program Wr Rd (sources js) (In_stmt st)
+    sound = element_sound x from1 to st pl.sound
+
+    new_name : (h : ℕ) (j : Joint) (rest : List Joint) → from (suc h) js ≡ j ∷ rest → j.source.owner ≡ child → ⊥
+    new_name h j rest e k = let a = within_at (length w.name) (suc h) js j rest t.owners e in let b = ap (λ z. length z) k in omega (arith, a, b, longer)
+
+    abbrev pub table : ChildTable
+    table = child_table G.g.program G.moves G.shares entry (Some x) st
+
+    abbrev pub handing : Handing
+    handing = handing_of G.code.layouts n.frames value j table
+
+    -- nothing moves to it
+    pub nothing_moves : (a : Spot) → In a handing.moved → ⊥
+    nothing_moves a h = by (moved_stands G.g G.code w (Named G) (Called G) Wr Rd lf.J lf.low (length lf.below) lf.born since G.pause lf.moved G.formed G.laid G.free f.reads G.moves G.shares G.sets t st sound unread child new_name table refl refl value j
+        (consoles G lf kids q) (λ y k m. no_target y m) (λ y m. absurd (no_target y m)) a h)
+      where
+        by : MovedStands G.g G.code w (Named G) (Called G) Wr Rd lf.J lf.low (length lf.below) lf.born since G.pause lf.moved G.formed G.laid G.free f.reads G.moves G.shares G.sets t st sound unread child new_name table refl refl value j a → ⊥
+        by (inl b) = no_target b.1.0 b.1.1
+        by (inr (inl b)) = no_target b.1.0 b.1.1
+        by (inr (inr b)) = no_target b.4.0 b.4.1
+
+    -- an index that it uses, other than its own, is in scope around the forall
+    in_scope : (y : ℕ) → IsUsed G.g.program (In_stmt st) y → (Some x ≡ Some y → ⊥) → (v : Variable) × (slice_get G.g.program.variables y ≡ Some v) × (v.role ≡ role.Index → In_stmt st (Sees y) × ((up : ℕ) × (level (is_index y) sc ≡ Some up)))
+    in_scope y u other = let a = is_scoped G true (places.OfIndex x ∷ sc) entry st body formed_here y u in (a.0, a.1, λ iv. (let k = a.2 iv in (k.0, further k.1)))
+      where
+        further : (up : ℕ) × (level (is_index y) (places.OfIndex x ∷ sc) ≡ Some up) → (up : ℕ) × (level (is_index y) sc ≡ Some up)
+        further r = go (y == x) refl r.1
+          where
+            inner : (l : Option ℕ) → level (is_index y) sc ≡ l → one_more l ≡ Some r.0 → (up : ℕ) × (level (is_index y) sc ≡ Some up)
+            inner None e h = absurd (cc h)
+            inner (Some up) e h = (up, e)
+
+            go : (b : Bool) → y == x ≡ b → (if b then Some 0 else one_more (level (is_index y) sc)) ≡ Some r.0 → (up : ℕ) × (level (is_index y) sc ≡ Some up)
+            go true e h = absurd (other (ap Some (sym (eqb-true y x e))))
+            go false e h = inner (level (is_index y) sc) refl h
+
+    index_held : (y up : ℕ) → (Some x ≡ Some y → ⊥) → In_stmt st (Sees y) → level (is_index y) sc ≡ Some up → (k : Joint) (rest : List Joint) → Rattle.sp_codegen.specs.Joints.up_at up js ≡ k ∷ rest → lf.J (length rest)
+    index_held y up other a l k rest e = pl.indexes y up (inr (inr (inr (inl (a, λ h. other (ap Some h)))))) l k rest e
+
+    -- what it shares is there
+    pub shares_known : (a : Spot) → In a handing.shared → IsSome (fin.get n.store.map a)
+    shares_known a h = shared_known G.g G.code w (Named G) (Called G) Wr Rd lf.J lf.low (length lf.below) lf.born since G.pause lf.moved G.formed G.laid G.free f.reads G.moves G.shares G.sets t st sound unread child new_name table refl refl value j
+        (consoles G lf kids q) sc pl.chain index_held in_scope a h
+
+    pub output_stays : Rd Output → In output_spot handing.shared → ⊥
+    output_stays may h = output_unshared G.g G.code w (Named G) (Called G) Wr Rd lf.J lf.low (length lf.below) lf.born since G.pause lf.moved G.formed G.laid G.free f.reads G.moves G.shares G.sets t st sound unread child new_name table refl refl value j
+        (consoles G lf kids q) sc pl.chain index_held in_scope may h
+
+    module _ (number : ℕ) where
+      -- the frame of its index
+      abbrev pub with_index : Joint
+      with_index = record {
+        source = record { owner = child; number = length js; home = OfIndex x (value +ℤ pos j); link = length js; references = [] };
+        machine = record { owner = number; number = index_frame handing; home = mem.OfIndex x; link = length n.frames; references = [] };
+      }
+
+      -- what its birth gives it
+      abbrev pub life : Life
+      life = record {
+        W = λ l. Aimed G.g.program (sources js) st l;
+        R = λ l. Used G.g.program (sources js) st l;
+        J = λ h. Seen (places.OfIndex x ∷ sc) (with_index ∷ js) st h;
+        low = suc (index_frame handing);
+        born = o.depth + 1;
+        moved = handing.moved;
+        below = with_index ∷ js;
+        end = after G.g.program entry st;
+      }
+
+      abbrev pub own : Process
+      own = record { todo = push st []; who = record { name = child; forks = 0; opens = 0 }; own = record { frames = sources (with_index ∷ js); depth = o.depth + 1; ticks = 0; cells = 0 } }
+
+      -- its parent keeps of it that nothing moved
+      pub each_handed : Handed G lf kids q js n life child
+      each_handed = record {
+        live = λ r h y l m a. absurd (nothing_moves (spot_at l.joint.machine.number (slot G.g.program y)) a);
+        aims = λ r h y l a. absurd (no_target a.0 a.1);
+        no_index = λ h jh k rest y v e hi. ⊎_elim (λ a. absurd (nothing_moves (spot_at k.machine.number 0) a)) (λ d. d) (in_or (spot_at k.machine.number 0) handing.moved);
+        input = λ m a. absurd (nothing_moves position_at.spot a);
+        output = λ m a. absurd (nothing_moves output_spot a);
+        input_aims = λ a. absurd (no_target a.0 a.1);
+        output_aims = λ a. absurd (no_target a.0 a.1);
+        old = λ a h. absurd (nothing_moves a h);
+        kept = λ a h. absurd (nothing_moves a h);
+      }
+
+      module _ (called : Called G child number) (pc : ℕ) (stack : List Entry) (more : ℕ → ℕ → Life) where
+        begins : Stand G.g G.code own.who (Named G) (Called G) (λ l. Mine child l ⊎ life.W l) (λ l. Mine child l ⊎ life.R l) life.J life.low (length (with_index ∷ js)) life.born 0 G.pause life.moved (with_index ∷ js) own.own s
+            (memory_in (newborn plain (run_is G) (At pc stack n) value number j table))
+            × Placed G.g (λ l. Mine child l ⊎ life.W l) (λ l. Mine child l ⊎ life.R l) life.J (places.OfIndex x ∷ sc) (with_index ∷ js) (In_stmt st)
+        begins = index_child_begins G.g G.code w (Named G) (Called G) Wr Rd lf.J lf.low (length lf.below) lf.born since G.pause lf.moved f.based G.formed G.laid G.free f.reads G.moves G.shares G.sets (consoles G lf kids q) t may_fork
+            x from1 to st sc pl entry j unread own.who longer number called pc stack value (λ a h. absurd (nothing_moves a h))
+
+        pub fresh : Fresh G life more child
+        fresh = record {
+          based = omega arith;
+          reads = λ l h. ⊎_elim (λ a. inl a) (λ a. inr (a.0, inl a.1, a.2)) h;
+          low_small = low_small G.g G.code w (Named G) (Called G) Wr Rd lf.J lf.low (length lf.below) lf.born since G.pause lf.moved f.based t may_fork handing (λ a h. absurd (nothing_moves a h)) own.who (omega (arith, longer)) number called (λ a. ⊥) (λ a. ⊥) (λ a. ⊥)
+              (λ r h y l a. absurd a) (λ h a lt k rest e. absurd a) (λ a. absurd a) (λ a. absurd a) shares_known f.low_small;
+          ends = ends;
+        }
+
+        pub each_stands : Stands G life more child 0 own s (newborn plain (run_is G) (At pc stack n) value number j table)
+        each_stands = record {
+          fresh = fresh;
+          named = refl;
+          js = with_index ∷ js;
+          pc = entry;
+          stack = [];
+          memory = memory_in (newborn plain (run_is G) (At pc stack n) value number j table);
+          is = refl;
+          stand = begins.0;
+          follows = child_follows (execution G life more child fresh own.who refl 0) st (places.OfIndex x ∷ sc) entry (G.moves st) (G.shares st) None (with_index ∷ js) begins.1 body;
+        }
