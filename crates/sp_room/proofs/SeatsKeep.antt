@@ -221,6 +221,14 @@ module _ {O A G N : Type 0} (opens : O → Type 0) (steps : O → ℕ → A → 
             (at_end v.looked v.seen l j e)),
       )
 
+  -- and nobody else has a note
+  pub nobody_else : (words : List ℕ) (slots : List (Option (Filed O N))) (id : ℕ) (v : V) (x : Option (Filed O N)) (d : Filed O N) → Final (Seen Rule id v) words slots → v.spent ≡ false → v.holding ≡ false → v.from ≡ 0 → v.dealt ≢ 0
+      → get_elem? slots 0 ≡ some x → x ≡ Some d → (k : ℕ) → v.dealt ≤ k → notes_by author k d.value.notes.items ≡ []
+  nobody_else words slots id v x d final active idle from deals found is k out = let s : St O N = final.0 in let r = final.1.0 in let at = final.1.1 in let c = (r.each id v at active).counts deals in
+      let h = r.free (all_home s r id v at active idle from deals) in
+      let same : h.0 ≡ d = some_same h.0 d (sym (some-injective x (Some h.0) (sym found ∙ final.4 0 (Some h.0) h.1)) ∙ is) in
+      ap (λ (e : Filed O N). notes_by author k e.value.notes.items) (sym same) ∙ (ap (λ l. notes_by author k l) h.2 ∙ r.nobody k (omega (arith, c.0, out)))
+
 -- the first of several seats leaves the dealing to the next
 pub deals_on : {O A G N : Type 0} (opens : O → Type 0) (steps : O → ℕ → A → O → G → Option N → Type 0) (author : N → ℕ) (start : O) (id : ℕ) (me : Sat O N) (number : ℕ) (dealt : ℕ) (claims : ℕ)
     → me ≡ (newborn start number dealt claims, []) → 0 < dealt → 0 < claims → Splits (Roomed opens steps author start) id me.0 (dealt_out me.0) (newcomer me.0)

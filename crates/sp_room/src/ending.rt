@@ -1,5 +1,5 @@
 //! The end of a room: one seat takes in all others, and the desk comes back.
-ghost use Rattle.std.specs.Prelude.{◌≡◌, ℕ, ◌<◌, Some, length, slice_get};
+ghost use Rattle.std.specs.Prelude.{◌≡◌, ℕ, ◌<◌, ◌≤◌, Some, [], length, slice_get};
 ghost use Rattle.std.specs.Slots.{slots_len, slots_items, IsFull};
 ghost use mathlib.Core.Option.{some};
 ghost use lib.ListN.{get_elem?};
@@ -20,6 +20,7 @@ pub(crate) fn gather<K: Kept>(room: Room<K>, mut row: Vec<RoomSeat<K>>) -> Box<D
     ensures legal { Runs K.steps (opening_of room) result.value.notes.items result.value.object }
     ensures own { (k : ℕ) (t : _) → slice_get row.items k ≡ Some t → notes_by K.author k result.value.notes.items ≡ own_of t }
     ensures seen { (k : ℕ) (t : _) → slice_get row.items k ≡ Some t → StartsWith result.value.notes.items (seen_by t) }
+    ensures others { (k : ℕ) → length row.items ≤ k → notes_by K.author k result.value.notes.items ≡ [] }
 {
     let last = row.pop();
     let Some(last) = last else { unreachable!() };

@@ -63,13 +63,14 @@ impl<K: Kept> Room<K> {
         }
     }
 
-    /// Ends the room. The seats are all of its seats, in their order.
+    /// Ends the room. The seats are all of its seats, in their order. The history has the notes of the seats, and no others.
     pub fn close(self, seats: List<RoomSeat<K>>) -> Settled<K>
         requires some { 0 < length seats }
         requires seats { (k : ℕ) (t : _) → slice_get seats k ≡ Some t → IsSeatOf self t × IsSeatAt (length seats) k t }
         ensures legal { Runs K.steps (opening_of self) (notes_of result) (object_of result) }
         ensures own { (k : ℕ) (t : _) → slice_get seats k ≡ Some t → notes_by K.author k (notes_of result) ≡ own_of t }
         ensures seen { (k : ℕ) (t : _) → slice_get seats k ≡ Some t → StartsWith (notes_of result) (seen_by t) }
+        ensures others { (k : ℕ) → length seats ≤ k → notes_by K.author k (notes_of result) ≡ [] }
     {
         let Desk {
             object,

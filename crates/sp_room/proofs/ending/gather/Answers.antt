@@ -1,8 +1,8 @@
-use Rattle.std.proofs.Common.{rules, refl, ap, ◌∙◌, ◌++◌}
+use Rattle.std.proofs.Common.{rules, refl, sym, ap, subst, ◌∙◌, ◌++◌, ◌≤◌}
 use Rattle.std.specs.Option.{option_to_list}
 use Rattle.sp_room.specs.Seats.{seat_view, seat_table}
 use Rattle.sp_room.proofs.Rows.{at_start, popped, keeps_first, keeps_next, next_number, owns_of, seens_of}
-use Rattle.sp_room.proofs.SeatsKeep.{joins, settles, settled}
+use Rattle.sp_room.proofs.SeatsKeep.{joins, settles, settled, nobody_else}
 use Rattle.sp_room.proofs.ending.gather.Goals as goal
 
 pub loop-next-init : goal.loop-next-init
@@ -36,3 +36,7 @@ pub returns-clause-seen : goal.returns-clause-seen
 returns-clause-seen g c = let k = c.loop-next.invariant.1 in let none = at_start seat_view seat_table c.args.room.table.shared.table_id _ c.args.row.items c.loop-next.row.items c.loop-next.keeper.me.0 (search rules) c.requires.some refl k in
     let s = (settled g.K.Kept.opens g.K.Kept.steps g.K.Kept.author _ _ _ _ _ c.take_only-held.result c.in-Some-held.desk c.close_with.ensures.values.2 k.0 k.1 none.0 none.1 c.take_only-held.ensures c.in-Some-held.is).2 in
     λ i t e. s i (seat_view t).seen (seens_of seat_view seat_table c.args.room.table.shared.table_id _ c.args.row.items c.loop-next.keeper.me.0 none.2 i t e)
+
+pub returns-clause-others : goal.returns-clause-others
+returns-clause-others g c = let k = c.loop-next.invariant.1 in let none = at_start seat_view seat_table c.args.room.table.shared.table_id _ c.args.row.items c.loop-next.row.items c.loop-next.keeper.me.0 (search rules) c.requires.some refl k in
+    λ i l. nobody_else g.K.Kept.opens g.K.Kept.steps g.K.Kept.author _ _ _ _ _ c.take_only-held.result c.in-Some-held.desk c.close_with.ensures.values.2 k.0 k.1 none.0 none.1 c.take_only-held.ensures c.in-Some-held.is i (subst (λ n. n ≤ i) (sym k.3) l)

@@ -1,4 +1,4 @@
-use Rattle.std.proofs.Common.{ap, subst, sym, ◌∙◌, ◌≡◌, ℕ, Some, List, length, slice_get}
+use Rattle.std.proofs.Common.{ap, subst, sym, ◌∙◌, ◌≡◌, ◌≤◌, ℕ, Some, List, length, slice_get}
 use Rattle.sp_room.specs.Seats.{IsSeatAt, seat_table, seen_by, opening_of}
 use Rattle.sp_room.specs.History.{StartsWith, Runs, notes_by}
 use Rattle.sp_room.proofs.seat.Room.close.Goals as goal
@@ -19,3 +19,7 @@ returns-clause-own g c = let notes = c.of-notes.ensures ∙ ap (λ d. d.notes.it
 pub returns-clause-seen : goal.returns-clause-seen
 returns-clause-seen g c = let notes = c.of-notes.ensures ∙ ap (λ d. d.notes.items) c.into_inner-object.ensures in
     λ k t e. subst (λ (z : List _). StartsWith z (seen_by t)) (sym notes) (c.gather.ensures.seen k t (ap (λ l. slice_get l k) c.into_vec.ensures ∙ e))
+
+pub returns-clause-others : goal.returns-clause-others
+returns-clause-others g c = let notes = c.of-notes.ensures ∙ ap (λ d. d.notes.items) c.into_inner-object.ensures in
+    λ k l. ap (notes_by g.K.Kept.author k) notes ∙ c.gather.ensures.others k (subst (λ (z : List _). length z ≤ k) (sym c.into_vec.ensures) l)
