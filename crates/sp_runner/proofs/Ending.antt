@@ -1,5 +1,5 @@
 -- What stands once all workers have left.
-use Rattle.std.proofs.Common.{◌≡◌, ◌⊎◌, inl, inr, ◌+◌, ℕ, nat_lt, length, slice_get, ◌<◌, ◌≤◌, Bool, false, List, [], ◌∷◌, ◌++◌, Option, Some, None, ltb-false, refl, sym, ap, ◌∙◌, subst, arith}
+use Rattle.std.proofs.Common.{◌≡◌, ◌⊎◌, inl, inr, ◌+◌, ℕ, nat_lt, zero, suc, length, slice_get, ◌<◌, ◌≤◌, Bool, false, List, [], ◌∷◌, ◌++◌, Option, Some, None, ltb-false, refl, sym, ap, ◌∙◌, subst, arith}
 use Rattle.sp_journal.specs.declared.entry.Note.{Note}
 use Rattle.sp_journal.specs.declared.entry.Event.{Event}
 use Rattle.sp_code.specs.Memory.{Setting, Stores}
@@ -114,3 +114,8 @@ none_up n e = omega (arith, ltb-false 0 n e)
 pub first_of : {X : Type 0} (l : List X) → 0 < length l → (t : X) × (slice_get l 0 ≡ Some t)
 first_of [] h = absurd (omega (arith, h))
 first_of (x ∷ xs) h = (x, refl)
+
+pub at_of : {X : Type 0} (l : List X) (k : ℕ) → k < length l → (t : X) × (slice_get l k ≡ Some t)
+at_of [] k h = absurd (omega (arith, h))
+at_of (x ∷ xs) zero h = (x, refl)
+at_of (x ∷ xs) (suc k) h = at_of xs k (omega (arith, h))

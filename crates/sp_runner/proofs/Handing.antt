@@ -75,3 +75,7 @@ module _ (x : Kernel) (v w : View Kernel Note) (a : Ask) (r : Got) (next : IsNex
 pub gives_up_next : (own : List Note) (h : Option Handed) → IsAfter own (got.Refused h) → IsNext own (ask.Abandon (option_map (λ (i : Handed). i.proc) h))
 gives_up_next own None n = n
 gives_up_next own (Some h) n = n
+
+-- a worker that has done nothing holds nothing
+pub starts_next : (own : List Note) → own ≡ [] → IsNext own (ask.Turn None)
+starts_next own e = subst (λ ns. IsNext ns (ask.Turn None)) (sym e) (tt {0}, refl)

@@ -136,7 +136,7 @@ module _ (x : Kernel) (code : Parts) (lim : Limits) (run : IsRunOf x code lim) (
   pub may_turn : CanTurn p code lim
   may_turn = subst (λ (g : Setting). IsSafe (memory plain g) g.code (config_of p)) same_run ((run.opening.sound.safe x.root.value.input.value x.limits run.opening.limits (entries_of seen) h.system h.along).turns p.number (config_of p) h.runs)
 
-  holds : (q : Proc) → q.number ≡ p.number → HoldsOut (setting_of x) seen w q.number
+  abbrev holds : (q : Proc) → q.number ≡ p.number → HoldsOut (setting_of x) seen w q.number
   holds q same = record { system = h.system; reaches = h.reaches; out = ap (control seen).doing same ∙ h.out; at = config_of p; runs = ap h.system.condition same ∙ h.runs }
 
   -- a process that was turned may be handed in

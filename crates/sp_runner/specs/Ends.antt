@@ -73,8 +73,8 @@ EndsAt es s (end.Fault name f) = (p : ℕ) × (fault_in es ≡ Some (p, f)) × (
 EndsAt es s end.Memory = ⊥
 
 -- what the machine gives along a journal: an end and an output
-pub record Gives (g : Setting) (es : List Entry) (e : End) (output : List ℕ) : Type 0 where
+pub record Gives (g : Setting) (es : List Entry) (e : End) (text : List ℕ) : Type 0 where
   pub system : System Plain
   pub along : IsSystem plain g es system
   pub end : EndsAt es system e
-  pub output : (q : ℕ) × IsOutputOf system q output
+  pub output : (q : ℕ) × IsOutputOf system q text

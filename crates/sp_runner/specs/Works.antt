@@ -15,9 +15,9 @@ use Rattle.sp_kernel.specs.Closes.{RanTo}
 use Rattle.sp_runner.specs.Runs.{notes_of_worker}
 
 -- the room was opened for a run of this code with these limits
-pub record IsRunOf (x : Kernel) (code : Parts) (lim : Limits) : Type 0 where
+pub record IsRunOf (x : Kernel) (parts : Parts) (lim : Limits) : Type 0 where
   pub opening : IsOpening x
-  pub code : x.code.value ≡ code
+  pub code : x.code.value ≡ parts
   pub limits : x.limits ≡ lim
 
 -- the own notes are those of the seat in what it has seen
