@@ -40,7 +40,7 @@ pub map_vec-done-requires-after_bounds : goal.map_vec-done-requires-after_bounds
 map_vec-done-requires-after_bounds g c κs within i x below is =
     let at = slice_get_read c.into_vec.result.items _ i x refl below is in
     let new = c.in-Ok.ensures.seats i x (ap (λ l. slice_get l i) (sym c.into_vec.ensures) ∙ at) in
-    let n = new_seat _ _ x new.1 in (new.0, subst (λ (k : Kernel). IsRunOf k c.args.code.now c.args.limits.now) (sym c.in-Ok.ensures.opening) c.requires.run, n.0, n.1, n.2)
+    let n = new_seat _ _ x new.1 in ((new.0, subst (λ (k : Kernel). IsRunOf k c.args.code.now c.args.limits.now) (sym c.in-Ok.ensures.opening) c.requires.run, n.0, n.1, n.2), (record { shared = c.type_bounds.sync-R.shared }, record { shared = c.type_bounds.sync-G.shared }))
 
 pub close-settled-requires-clause-seats : goal.close-settled-requires-clause-seats
 close-settled-requires-clause-seats g c k t at =
