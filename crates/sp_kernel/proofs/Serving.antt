@@ -48,6 +48,7 @@ noted_take x w y p t = record {
   answer = (refl, ap (λ (s : System Plain). s.condition p.number) t.system ∙ (t.work p refl).0, (t.work p refl).1 ∙ ap (λ (g : Setting). g.input) (sym (same_setting x y t.setting)));
   journal = ap (λ (j : _). j.entries) t.journal ∙ sym (append-nil x.journal.entries);
   gives_up = tt {0};
+  given = refl;
 }
 
 offers_abandons : (w : Way) (d : Doing) (p c : ℕ) (o : Option (Way × ℕ)) (k : Control) → (offers w d p c o k).abandons ≡ k.abandons
@@ -115,6 +116,7 @@ noted_turn x w h m y r g e fits gave t is answer =
       answer = answer;
       journal = ap (λ (j : _). j.entries) t.journal ∙ gave.entry ∙ ap (λ f. x.journal.entries ++ record { process = h.proc.number; event = f } ∷ []) (sym is);
       gives_up = tt {0};
+      given = refl;
     }
 
 -- ---- an abandon
@@ -211,6 +213,7 @@ noted_abandon x w o y g fits a answer =
       answer = answer;
       journal = ap (λ (j : _). j.entries) a.journal ∙ sym (no_entry o);
       gives_up = (refl, refl);
+      given = refl;
     }
   where
     gives : (p : Option Proc) → FitsAsk x w (ask.Abandon p) → system_of y ≡ system_of x → Gives plain (setting_of x) (control_of x) (system_of x) w (option_map (λ (q : Proc). q.number) p) None None (system_of y)

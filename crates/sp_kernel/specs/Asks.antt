@@ -1,5 +1,6 @@
 -- What the kernel may be asked, and what comes of it.
 use Rattle.std.specs.Prelude.{◌≡◌, ◌≢◌, ◌⊎◌, ℕ, ◌+◌, ◌<◌, ◌≤◌, List, [], ◌++◌, Option, Some, None, Bool, true, false}
+use Rattle.std.specs.Option.{option_map}
 use Rattle.sp_cell.specs.Map.{Plain}
 use Rattle.sp_journal.specs.declared.entry.Note.{Note}
 use Rattle.sp_code.specs.Machine.{Config}
@@ -10,6 +11,7 @@ use Rattle.sp_code.specs.Sound.{IsSound, AreLimits}
 use Rattle.sp_code.specs.Control.{Out, control_at_start, control, noted, front, standing, Running, entry_of}
 use Rattle.sp_code.specs.System.{System, Runs, opening}
 use Rattle.sp_room.specs.History.{notes_by}
+use Rattle.sp_machine.specs.declared.state.State.{State as Proc}
 use Rattle.sp_kernel.specs.declared.handed.Handed.{Handed}
 use Rattle.sp_kernel.specs.declared.kernel.Kernel.{Kernel}
 use Rattle.sp_kernel.specs.declared.ask.Ask.{Ask}
@@ -61,6 +63,12 @@ abbrev pub GivesUp : Ask → Note → Type 0
 GivesUp (ask.Turn h) n = Unit {0}
 GivesUp (ask.Abandon p) n = (n.event ≡ None) × (n.got ≡ None)
 
+-- the process that an ask hands in or gives up
+abbrev pub given_by : Ask → Option ℕ
+given_by (ask.Turn None) = None
+given_by (ask.Turn (Some h)) = Some h.proc.number
+given_by (ask.Abandon p) = option_map (λ (q : Proc). q.number) p
+
 -- a call that leaves a note
 pub record Notes (x : Kernel) (w : ℕ) (a : Ask) (y : Kernel) (g : Got) (n : Note) : Type 0 where
   pub worker : n.worker ≡ w
@@ -74,6 +82,7 @@ pub record Notes (x : Kernel) (w : ℕ) (a : Ask) (y : Kernel) (g : Got) (n : No
   pub answer : Answers y g n.got
   pub journal : y.journal.entries ≡ x.journal.entries ++ entry_of n.given n.event
   pub gives_up : GivesUp a n
+  pub given : n.given ≡ given_by a
 
 -- a call that leaves none: nothing can be taken, or memory is refused
 abbrev pub IsIdle : Kernel → Ask → Got → Type 0

@@ -1,5 +1,5 @@
 -- What a fork does to the kernel.
-use Rattle.std.specs.Prelude.{◌≡◌, ℕ, ℤ, ◌+◌, ◌-◌, List, [], ◌∷◌, ◌++◌, length, Some, slice_get, slice_set}
+use Rattle.std.specs.Prelude.{◌≡◌, ℕ, ℤ, Bool, nat_lt, ◌+◌, ◌-◌, List, [], ◌∷◌, ◌++◌, length, Some, slice_get, slice_set}
 use Rattle.sp_journal.specs.declared.entry.Event.TheVariants as event
 use Rattle.sp_journal.specs.Queue.{numbers}
 use Rattle.sp_code.specs.PlainStore.{plain}
@@ -15,6 +15,10 @@ use Rattle.sp_kernel.specs.declared.kernel.Kernel.{Kernel}
 use Rattle.sp_kernel.specs.Lines.{repeat}
 use Rattle.sp_kernel.specs.Seats.{Seated}
 use Rattle.sp_kernel.specs.Procs.{config_of}
+
+-- n processes more would be too many
+abbrev pub exceeds : Kernel → ℕ → Bool
+exceeds x n = nat_lt x.limits.processes (length x.slots + n)
 
 -- there is room for n children of p
 abbrev pub admitted : ℕ → ℕ → Kernel → Kernel

@@ -5,6 +5,7 @@ use Rattle.sp_cell.specs.Map.{Plain}
 use Rattle.sp_journal.specs.declared.entry.Way.{Way}
 use Rattle.sp_journal.specs.declared.entry.Way.TheVariants as way
 use Rattle.sp_journal.specs.declared.entry.Event.{Event}
+use Rattle.sp_journal.specs.declared.entry.Event.TheVariants as event
 use Rattle.sp_journal.specs.declared.entry.Birth.{Birth}
 use Rattle.sp_journal.specs.Births.{Births, births}
 use Rattle.sp_channel.specs.declared.channels.Pending.{Pending}
@@ -148,6 +149,22 @@ entered q e x = record x { journal = record { entries = x.journal.entries ++ rec
 -- process q comes back, with an entry, and is in this slot
 abbrev pub back : ℕ → Event → Slot → Kernel → Kernel
 back q e s x = record x { slots = slice_set x.slots q s; journal = record { entries = x.journal.entries ++ record { process = q; event = e } ∷ [] }; out = x.out - 1 }
+
+-- process q is in this slot
+abbrev pub seated : ℕ → Slot → Kernel → Kernel
+seated q s x = record x { slots = slice_set x.slots q s }
+
+-- process q goes out
+abbrev pub goes_out : ℕ → Slot → Kernel → Kernel
+goes_out q s x = record x { slots = slice_set x.slots q s; out = x.out + 1 }
+
+-- process q is lost with its worker
+abbrev pub lost : ℕ → Slot → Kernel → Kernel
+lost q s x = record x { slots = slice_set x.slots q s; out = x.out - 1; abandons = x.abandons + 1 }
+
+-- process q is p now, at the back of the queue
+abbrev pub paused : ℕ → Proc → Kernel → Kernel
+paused q p x = record (back q event.Pause (slot.Here p st.Ready) x) { ready = x.ready ++ q ∷ [] }
 
 -- the oldest ready process goes out with a worker
 abbrev pub took : ℕ → ℕ → Slot → Kernel → Kernel

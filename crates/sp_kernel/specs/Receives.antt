@@ -1,5 +1,5 @@
 -- What an offer to receive does to the kernel.
-use Rattle.std.specs.Prelude.{◌≡◌, ℕ, ◌+◌, ◌-◌, List, [], ◌∷◌, ◌++◌, Option, Some, None, slice_set}
+use Rattle.std.specs.Prelude.{◌≡◌, ℕ, ◌+◌, ◌-◌, List, [], ◌∷◌, ◌++◌, Option, Some, None, slice_get, slice_set}
 use Rattle.sp_cell.specs.declared.cell.Cell.{Cell}
 use Rattle.sp_journal.specs.declared.entry.Way.TheVariants as way
 use Rattle.sp_journal.specs.declared.entry.Event.TheVariants as event
@@ -61,3 +61,7 @@ Gives (Some (slot.Gone q)) t cs = ⊥
 -- from here on its ticks count for the next pause, and it has the message
 abbrev pub EntersWith : Proc → List Cell → Proc → Type 0
 EntersWith p cs q = (config_of q ≡ on_store (put_cells plain p.target cs) (entered_now (config_of p))) × (q.number ≡ p.number) × (q.input.value ≡ p.input.value)
+
+-- process p received the message of z, and both are ready
+abbrev pub HasReceived : Kernel → Proc → ℕ → ℕ → Kernel → Type 0
+HasReceived x p c z y = (q t : Proc) × (cs : List Cell) × Gives (slice_get x.slots z) t cs × EntersWith p cs q × (y ≡ meets_receiving q t c z x)

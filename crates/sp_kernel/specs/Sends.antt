@@ -1,5 +1,5 @@
 -- What an offer to send does to the kernel.
-use Rattle.std.specs.Prelude.{◌≡◌, ℕ, ◌+◌, ◌-◌, List, [], ◌∷◌, ◌++◌, Option, Some, None, slice_set}
+use Rattle.std.specs.Prelude.{◌≡◌, ℕ, ◌+◌, ◌-◌, List, [], ◌∷◌, ◌++◌, Option, Some, None, slice_get, slice_set}
 use Rattle.sp_cell.specs.declared.cell.Cell.{Cell}
 use Rattle.sp_journal.specs.declared.entry.Way.TheVariants as way
 use Rattle.sp_journal.specs.declared.entry.Event.TheVariants as event
@@ -11,7 +11,7 @@ use Rattle.sp_kernel.specs.declared.kernel.Kernel.{Kernel}
 use Rattle.sp_code.specs.Memory.{put_cells}
 use Rattle.sp_code.specs.PlainStore.{plain}
 use Rattle.sp_code.specs.System.{on_store}
-use Rattle.sp_kernel.specs.Procs.{CanTake, config_of}
+use Rattle.sp_kernel.specs.Procs.{CanTake, Enters, config_of}
 use Rattle.sp_kernel.specs.Kernels.{back}
 
 -- it waits
@@ -57,3 +57,7 @@ Receives (Some (slot.Here p st.Laid)) cs r = ⊥
 Receives (Some slot.Ended) cs r = ⊥
 Receives (Some (slot.Here p st.Over)) cs r = ⊥
 Receives (Some (slot.Gone p)) cs r = ⊥
+
+-- process p sent these cells to z, and both are ready
+abbrev pub HasSent : Kernel → Proc → List Cell → ℕ → ℕ → Kernel → Type 0
+HasSent x p cs c z y = (q r : Proc) × Enters p q × Receives (slice_get x.slots z) cs r × (y ≡ meets_sending q r c z x)

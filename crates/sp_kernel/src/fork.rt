@@ -1,12 +1,12 @@
 //! A process forks.
 
-ghost use Rattle.std.specs.Prelude.{ℕ, ◌≡◌, ◌+◌, ◌<◌, nat_lt, true, false, length, MatchOption, OnOk, OnErr, IfErr};
+ghost use Rattle.std.specs.Prelude.{ℕ, ◌≡◌, ◌+◌, ◌<◌, true, false, length, MatchOption, IfSome, OnOk, OnErr, IfErr};
 ghost use Rattle.sp_code.specs.Sound.{HasDistinctBlocks, CanSplit};
 ghost use Rattle.sp_machine.specs.Procs.{IsAtFork};
 ghost use Rattle.sp_machine.specs.Children.{plan_by};
 ghost use Rattle.sp_kernel.specs.Kernels.{IsKernel, Gave};
 ghost use Rattle.sp_kernel.specs.Fits.{Fits};
-ghost use Rattle.sp_kernel.specs.Forks.{admitted, HasForked, IsForkOf};
+ghost use Rattle.sp_kernel.specs.Forks.{admitted, exceeds, HasForked, IsForkOf};
 ghost use Rattle.sp_kernel.specs.declared.kernel.Kernel.{Kernel};
 
 use crate::handed::Handed;
@@ -19,7 +19,8 @@ use sp_machine::{Proc, Stop};
 impl Kernel {
     // The number of children, where there is room for them.
     fn room(&self, count: u64) -> Option<u32>
-        ensures { MatchOption result (nat_lt self.now.limits.processes (length self.now.slots + count) ≡ true) (λ n. (n ≡ count) × (nat_lt self.now.limits.processes (length self.now.slots + count) ≡ false) × (length self.now.slots + n < 4294967296)) }
+        ensures room { MatchOption result (exceeds self.now count ≡ true) (λ _. exceeds self.now count ≡ false) }
+        ensures fits { IfSome result (λ n. (n ≡ count) × (length self.now.slots + n < 4294967296)) }
     {
         let limit = u64::from(self.limits.processes);
         let processes = self.slots.len() as u64;

@@ -8,7 +8,7 @@ ghost use Rattle.sp_kernel.specs.declared.slot.State.TheVariants as st;
 ghost use Rattle.sp_code.specs.Control.{has_ended, Out};
 ghost use Rattle.sp_code.specs.Sound.{IsSound, AreLimits, run_of};
 ghost use Rattle.sp_machine.specs.Procs.{config_of, start_of, HaveFormals};
-ghost use Rattle.sp_kernel.specs.Kernels.{entered, back, doing_in, condition_in, IsReady, IsKernel, Gave, Takes, is_over, control_of, setting_of, stands_as, Abandons};
+ghost use Rattle.sp_kernel.specs.Kernels.{entered, back, paused, goes_out, lost, doing_in, condition_in, IsReady, IsKernel, Gave, Takes, is_over, control_of, system_of, setting_of, stands_as, Abandons};
 ghost use Rattle.sp_kernel.specs.Fits.{Fits};
 ghost use Rattle.sp_kernel.specs.Asks.{IsOpening};
 ghost use Rattle.sp_machine.specs.declared.state.Stop.TheVariants as stop;
@@ -292,7 +292,7 @@ impl Kernel {
     // A process that is due goes to the back of the queue.
     fn pause_now(&mut self, mut proc: Proc) -> Result<(), Proc>
         requires there { proc.number < length self.old.slots }
-        ensures ok { OnOk result ((p : _) × Enters proc p × (self.new ≡ record (back proc.number event.Pause (slot.Here p st.Ready) self.old) { ready = self.old.ready ++ proc.number ∷ [] })) }
+        ensures ok { OnOk result ((p : _) × Enters proc p × (self.new ≡ paused proc.number p self.old)) }
         ensures err { OnErr result (self.new ≡ self.old) }
         ensures returned { IfErr result (λ p. p ≡ proc) }
     {
@@ -346,7 +346,7 @@ impl Kernel {
         requires ready { IsReady (slice_get self.old.slots number) }
         requires out { self.old.out + 1 < 18446744073709551616 }
         ensures proc { slice_get self.old.slots number ≡ Some (slot.Here result st.Ready) }
-        ensures out { (p : _) × (p.value ≡ result) × (self.new ≡ record self.old { slots = slice_set self.old.slots number (slot.Out worker p); out = self.old.out + 1 }) }
+        ensures out { (p : _) × (p.value ≡ result) × (self.new ≡ goes_out number (slot.Out worker p) self.old) }
     {
         match swap(&mut self.slots, number, Slot::Ended) {
             Slot::Here(proc, State::Ready) => {
@@ -366,7 +366,7 @@ impl Kernel {
     fn lose(&mut self, _worker: u32, number: u32)
         requires out { doing_in (slice_get self.old.slots number) ≡ Out _worker }
         requires abandons { self.old.abandons + 1 < 18446744073709551616 }
-        ensures { (p : _) × (condition_in (Some (slot.Gone p)) ≡ condition_in (slice_get self.old.slots number)) × (self.new ≡ record self.old { slots = slice_set self.old.slots number (slot.Gone p); out = self.old.out - 1; abandons = self.old.abandons + 1 }) }
+        ensures { (p : _) × (condition_in (Some (slot.Gone p)) ≡ (system_of self.old).condition number) × (self.new ≡ lost number (slot.Gone p) self.old) }
     {
         match swap(&mut self.slots, number, Slot::Ended) {
             Slot::Out(_, left) => put(&mut self.slots, number, Slot::Gone(left)),

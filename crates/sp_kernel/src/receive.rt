@@ -5,9 +5,9 @@ ghost use Rattle.sp_journal.specs.declared.entry.Way.TheVariants as way;
 ghost use Rattle.sp_kernel.specs.declared.slot.Slot.TheVariants as slot;
 ghost use Rattle.sp_kernel.specs.declared.slot.State.TheVariants as st;
 ghost use Rattle.sp_machine.specs.declared.state.Stop.TheVariants as stop;
-ghost use Rattle.sp_kernel.specs.Kernels.{IsKernel, Gave};
+ghost use Rattle.sp_kernel.specs.Kernels.{IsKernel, Gave, seated};
 ghost use Rattle.sp_kernel.specs.Fits.{Fits};
-ghost use Rattle.sp_kernel.specs.Receives.{waits_to_receive, meets_receiving, IsSender, Gives, EntersWith};
+ghost use Rattle.sp_kernel.specs.Receives.{waits_to_receive, IsSender, Gives, HasReceived};
 ghost use Rattle.sp_kernel.specs.Procs.{CanTake, Enters};
 
 use crate::handed::Handed;
@@ -45,7 +45,7 @@ impl Kernel {
     fn fetch(&mut self, other: u32, _receiver: &Proc) -> List<Cell>
         requires there { other < length self.old.slots }
         requires sender { IsSender (slice_get self.old.slots other) _receiver.now }
-        ensures given { (q : _) × Gives (slice_get self.old.slots other) q result × (self.new ≡ record self.old { slots = slice_set self.old.slots other (slot.Here q st.Ready) }) }
+        ensures given { (q : _) × Gives (slice_get self.old.slots other) q result × (self.new ≡ seated other (slot.Here q st.Ready) self.old) }
         ensures fits { CanTake _receiver.now result }
     {
         match swap(&mut self.slots, other, Slot::Ended) {
@@ -73,7 +73,7 @@ impl Kernel {
         requires channel { channel < length self.old.channels }
         requires pending { slice_index_or self.old.channels channel None ≡ Some (record { way = way.Send; process = other; message = message }) }
         requires sender { IsSender (slice_get self.old.slots other) proc }
-        ensures ok { OnOk result ((p t : _) × (cs : _) × Gives (slice_get self.old.slots other) t cs × EntersWith proc cs p × (self.new ≡ meets_receiving p t channel other self.old)) }
+        ensures ok { OnOk result (HasReceived self.old proc channel other self.new) }
         ensures err { OnErr result (self.new ≡ self.old) }
         ensures returned { IfErr result (λ p. p ≡ proc) }
     {

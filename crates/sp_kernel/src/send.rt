@@ -5,9 +5,9 @@ ghost use Rattle.sp_journal.specs.declared.entry.Way.TheVariants as way;
 ghost use Rattle.sp_kernel.specs.declared.slot.Slot.TheVariants as slot;
 ghost use Rattle.sp_kernel.specs.declared.slot.State.TheVariants as st;
 ghost use Rattle.sp_machine.specs.declared.state.Stop.TheVariants as stop;
-ghost use Rattle.sp_kernel.specs.Kernels.{IsKernel, Gave};
+ghost use Rattle.sp_kernel.specs.Kernels.{IsKernel, Gave, seated};
 ghost use Rattle.sp_kernel.specs.Fits.{Fits};
-ghost use Rattle.sp_kernel.specs.Sends.{waits_to_send, meets_sending, IsReceiver, Receives};
+ghost use Rattle.sp_kernel.specs.Sends.{waits_to_send, IsReceiver, Receives, HasSent};
 ghost use Rattle.sp_kernel.specs.Procs.{Enters};
 
 use crate::handed::Handed;
@@ -54,7 +54,7 @@ impl Kernel {
     fn deliver(&mut self, other: u32, cells: List<Cell>)
         requires there { other < length self.old.slots }
         requires receiver { IsReceiver (slice_get self.old.slots other) cells }
-        ensures { (r : _) × Receives (slice_get self.old.slots other) cells r × (self.new ≡ record self.old { slots = slice_set self.old.slots other (slot.Here r st.Ready) }) }
+        ensures { (r : _) × Receives (slice_get self.old.slots other) cells r × (self.new ≡ seated other (slot.Here r st.Ready) self.old) }
     {
         match swap(&mut self.slots, other, Slot::Ended) {
             Slot::Here(mut receiver, State::Receiving(_, _)) => {
@@ -79,7 +79,7 @@ impl Kernel {
         requires channel { channel < length self.old.channels }
         requires pending { slice_index_or self.old.channels channel None ≡ Some (record { way = way.Receive; process = other; message = message }) }
         requires receiver { IsReceiver (slice_get self.old.slots other) cells }
-        ensures ok { OnOk result ((p r : _) × Enters proc p × Receives (slice_get self.old.slots other) cells r × (self.new ≡ meets_sending p r channel other self.old)) }
+        ensures ok { OnOk result (HasSent self.old proc cells channel other self.new) }
         ensures err { OnErr result (self.new ≡ self.old) }
         ensures returned { IfErr result (λ r. (r.0 ≡ proc) × (r.1 ≡ cells)) }
     {

@@ -43,26 +43,26 @@ returns-in-None-clause-ok c =
     let f = c.requires.forks in
     failed c.fail-in-None.result x c.fail-in-None.new.self c.requires.whole c.args._worker (at_fork c.args.proc c.args.stop) (at_fork c.args.proc c.args.stop) fault.F13 c.requires.fits c.requires.quiet refl
     (fault_at x c.args.proc c.args.stop c.args.count f (Some fault.F13) (fork_many x.limits (system_of x) f.0 f.1 c.args.count (config_of c.args.proc) (not_full x.limits.entries x.entries c.from.result c.from.ensures c.if-self-from.false)
-    (by_count x c.requires.whole c.args.count true c.in-None.ensures))) c.fail-in-None.ensures.ok
+    (by_count x c.requires.whole c.args.count true c.in-None.ensures.room))) c.fail-in-None.ensures.ok
 
 fine : (x : Kernel) (k : IsKernel x) (p : Proc) (t : ℕ) (v : _) (n : ℕ) → nat_lt x.limits.entries (x.entries + 1) ≡ false → nat_lt x.limits.processes (length x.slots + n) ≡ false → fault_of x.limits (system_of x) (Stopped (m.Forks t v n) (config_of p)) ≡ None
 fine x k p t v n e f = fork_fine x.limits (system_of x) t v n (config_of p) e (by_count x k n false f)
 
 pub fork_now-requires-clause-numbers : goal.fork_now-requires-clause-numbers
-fork_now-requires-clause-numbers c = c.in-Some.ensures.2
+fork_now-requires-clause-numbers c = c.in-Some.ensures.fits.1
 
 pub fork_now-requires-clause-fork : goal.fork_now-requires-clause-fork
 fork_now-requires-clause-fork c =
     let at = at_that c.args.proc c.args.stop c.args.count c.requires.forks c.requires.fits.fork in
-    subst (λ n. IsAtFork c.args.proc c.args.proc.table c.args.proc.first n) (sym c.in-Some.ensures.0)
+    subst (λ n. IsAtFork c.args.proc c.args.proc.table c.args.proc.first n) (sym c.in-Some.ensures.fits.0)
     (subst (λ t. IsAtFork c.args.proc t c.args.proc.first c.args.count) (sym at.0) (subst (λ v. IsAtFork c.args.proc c.requires.forks.0 v c.args.count) (sym at.1.0) at))
 
 pub fork_now-requires-clause-can : goal.fork_now-requires-clause-can
 fork_now-requires-clause-can c =
     let x : Kernel = c.args.self.now in
     let f = c.requires.forks in
-    subst (λ n. CanSplit c.args.proc.store (plan_by x.code.value c.args.proc n)) (sym c.in-Some.ensures.0)
-    (can_fork x c.args._worker (at_fork c.args.proc c.args.stop) f.0 f.1 c.args.count f.2 c.requires.quiet (fine x c.requires.whole c.args.proc f.0 f.1 c.args.count (not_full x.limits.entries x.entries c.from.result c.from.ensures c.if-self-from.false) c.in-Some.ensures.1)
+    subst (λ n. CanSplit c.args.proc.store (plan_by x.code.value c.args.proc n)) (sym c.in-Some.ensures.fits.0)
+    (can_fork x c.args._worker (at_fork c.args.proc c.args.stop) f.0 f.1 c.args.count f.2 c.requires.quiet (fine x c.requires.whole c.args.proc f.0 f.1 c.args.count (not_full x.limits.entries x.entries c.from.result c.from.ensures c.if-self-from.false) c.in-Some.ensures.room)
     (at_that c.args.proc c.args.stop c.args.count f c.requires.fits.fork) c.requires.fits)
 
 pub returns-in-Ok-clause-ok : goal.returns-in-Ok-clause-ok
@@ -70,6 +70,6 @@ returns-in-Ok-clause-ok c =
     let x : Kernel = c.args.self.now in
     let f = c.requires.forks in
     gave_fork x c.requires.whole c.args.proc.number c.args._worker c.requires.fits.out (at_fork c.args.proc c.args.stop) f.0 f.1 c.args.count f.2 c.requires.quiet
-    (fine x c.requires.whole c.args.proc f.0 f.1 c.args.count (not_full x.limits.entries x.entries c.from.result c.from.ensures c.if-self-from.false) c.in-Some.ensures.1)
+    (fine x c.requires.whole c.args.proc f.0 f.1 c.args.count (not_full x.limits.entries x.entries c.from.result c.from.ensures c.if-self-from.false) c.in-Some.ensures.room)
     (refl, c.requires.fits.input) (at_that c.args.proc c.args.stop c.args.count f c.requires.fits.fork) c.fork_now.new.self
-    (subst (λ n. HasForked x c.args.proc n c.fork_now.new.self) c.in-Some.ensures.0 c.in-Ok.ensures.ok)
+    (subst (λ n. HasForked x c.args.proc n c.fork_now.new.self) c.in-Some.ensures.fits.0 c.in-Ok.ensures.ok)
