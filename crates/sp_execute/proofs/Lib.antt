@@ -1,0 +1,4 @@
+pub mod Formals
+pub mod Waiting
+pub mod Concluding
+pub mod Executing
