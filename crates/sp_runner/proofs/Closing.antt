@@ -1,6 +1,8 @@
 -- A run that was closed is one of the definitions.
-use Rattle.std.proofs.Common.{◌≡◌, ◌≢◌, ◌⊎◌, ℕ, zero, suc, ◌+◌, ◌<◌, ◌≤◌, ◌==◌, ◌||◌, nat_lt, Bool, true, false, if◌then◌else◌, List, [], ◌∷◌, length, Option, Some, None, refl, sym, ap, ◌∙◌, subst, arith}
+use Rattle.std.proofs.Common.{Result, Ok, Err, ◌≡◌, ◌≢◌, ◌⊎◌, ℕ, zero, suc, ◌+◌, ◌<◌, ◌≤◌, ◌==◌, ◌||◌, nat_lt, Bool, true, false, if◌then◌else◌, List, [], ◌∷◌, length, Option, Some, None, refl, sym, ap, ◌∙◌, subst, arith}
 use Rattle.std.specs.List.Sorted.{IsPermutation}
+use Rattle.std.specs.Result.{IfOk}
+use Rattle.sp_base.specs.declared.halt.Memory.{Memory as Error}
 use Rattle.sp_journal.specs.declared.entry.Entry.{Entry}
 use Rattle.sp_journal.specs.declared.entry.Note.{Note}
 use Rattle.sp_journal.specs.declared.outcome.End.{End}
@@ -91,7 +93,7 @@ module _ (y : Kernel) (whole : IsKernel y) (up : y.abandons ≡ 0) (idle : stand
         idle = idle e;
         goes_on = λ f. live_phase ((control_of y).doing 0) b.1 (whole.agrees.each 0 ∙ f);
         quiet = b.0;
-        all = subst (λ (l : List Waiter). IsPermutation l ws) (all_wait (births y.journal.entries) (system_of y).condition 0 y.slots (λ k. refl) ∙ ap (λ n. waiters_among (births y.journal.entries) (system_of y).condition (numbers 0 n)) whole.processes) are.all;
+        all = subst (λ (l : List Waiter). IsPermutation l ws) (all_wait (births y.journal.entries) (system_of y).condition 0 y.slots (λ k. let e : 0 + k ≡ k = omega arith in ap (system_of y).condition e) ∙ ap (λ n. waiters_among (births y.journal.entries) (system_of y).condition (numbers 0 n)) whole.processes) are.all;
         sorted = are.sorted;
       }
 
@@ -106,7 +108,7 @@ module _ (y : Kernel) (whole : IsKernel y) (up : y.abandons ≡ 0) (idle : stand
 -- where no other worker has a note, all are of the first
 all_first : (ns : List Note) → ((w : ℕ) → 1 ≤ w → notes_of_worker w ns ≡ []) → notes_of_worker 0 ns ≡ ns
 all_first [] none = refl
-all_first (n ∷ ns) none = go n.worker refl
+all_first (n ∷ ns) none = go (λ rest. all_first ns rest) n.worker refl
   where
     head : (w : ℕ) → n.worker ≡ w → (b : Bool) → w == w ≡ b → either_list (n.worker == w) (n ∷ notes_of_worker w ns) (notes_of_worker w ns) ≡ [] → w == w ≡ true → ⊥
     head w e b f i t = let g : n.worker == w ≡ true = ap (λ v. v == w) e ∙ t in absurd (cc (g, i))
@@ -119,11 +121,11 @@ all_first (n ∷ ns) none = go n.worker refl
         let apart : n.worker == v ≡ false = grind (arith, e, l) in
         sym (ap (λ b. either_list b (n ∷ notes_of_worker v ns) (notes_of_worker v ns)) apart) ∙ none v l
 
-    go : (w : ℕ) → n.worker ≡ w → notes_of_worker 0 (n ∷ ns) ≡ n ∷ ns
-    go zero e =
+    go : (((w : ℕ) → 1 ≤ w → notes_of_worker w ns ≡ []) → notes_of_worker 0 ns ≡ ns) → (w : ℕ) → n.worker ≡ w → notes_of_worker 0 (n ∷ ns) ≡ n ∷ ns
+    go on zero e =
         let here : n.worker == 0 ≡ true = grind (arith, e) in
-        ap (λ b. either_list b (n ∷ notes_of_worker 0 ns) (notes_of_worker 0 ns)) here ∙ ap (λ l. n ∷ l) (all_first ns (λ v l. others v e l))
-    go (suc w) e = absurd (head (suc w) e (suc w == suc w) refl (none (suc w) (omega arith)) (same (suc w)))
+        ap (λ b. either_list b (n ∷ notes_of_worker 0 ns) (notes_of_worker 0 ns)) here ∙ ap (λ l. n ∷ l) (on (λ v l. others v e l))
+    go on (suc w) e = absurd (head (suc w) e (suc w == suc w) refl (none (suc w) (omega arith)) (same (suc w)))
 
 -- ---- the run
 
@@ -146,3 +148,8 @@ closed_run workers x fine log y some by c ends journal output idle = record {
   where
     alone : workers ≡ 1 → OneByOne None log
     alone one = subst (OneByOne None) (all_first log (λ w l. by.others w (omega (arith, l, one)))) (by.calls 0 some)
+
+-- what holds of each run that was closed
+pub if_closed : (P Q R S : Closed → Type 0) → ((c : Closed) → P c → Q c → R c → S c) → (r : Result Closed Error) → IfOk r P → IfOk r Q → IfOk r R → IfOk r S
+if_closed P Q R S f (Ok c) p q r = f c p q r
+if_closed P Q R S f (Err e) p q r = tt {0}

@@ -65,13 +65,13 @@ returns g c =
     let up : y.abandons ≡ 0 = ap (λ (z : Kernel). z.abandons) (sym c.object.ensures) ∙ none_up c.object.result.now.abandons (sym c.gave_up.ensures ∙ c.if-gave_up.false) in
     record {
       ran = ran_to x c.requires.run.opening log y
-        (subst (λ (z : Kernel). Runs Steps z log y) c.in-Ok.ensures.opening c.close-settled.ensures.legal)
-        (seen_by f.0) (c.close-settled.ensures.seen 0 f.0 (ap (λ l. slice_get l 0) c.of.ensures ∙ f.1)) left up;
+          (subst (λ (z : Kernel). Runs Steps z log y) c.in-Ok.ensures.opening c.close-settled.ensures.legal)
+          (seen_by f.0) (c.close-settled.ensures.seen 0 f.0 (ap (λ l. slice_get l 0) c.of.ensures ∙ f.1)) left up;
       kept = up;
       calls = λ w l.
-        let s = at_of c.in-Ok-done.seats.items w (omega (arith, l, long, count)) in
-        let d = (c.in-Ok-done.ensures.each w s.0 (omega (arith, l, count))).1 in
-        let own : OneByOne None (own_of s.0) = subst (λ (t : RoomSeat _ _ _ _ _). OneByOne None (own_of t)) (get_or_from_slice_get c.in-Ok-done.seats.items w s.0 s.0 s.1) d.call.met.2 in
-        subst (OneByOne None) (sym (c.close-settled.ensures.own w s.0 (ap (λ l. slice_get l w) c.of.ensures ∙ s.1))) own;
+          let s = at_of c.in-Ok-done.seats.items w (omega (arith, l, long, count)) in
+          let d = (c.in-Ok-done.ensures.each w s.0 (omega (arith, l, count))).1 in
+          let own : OneByOne None (own_of s.0) = subst (λ (t : RoomSeat _ _ _ _ _). OneByOne None (own_of t)) (get_or_from_slice_get c.in-Ok-done.seats.items w s.0 s.0 s.1) d.call.met.2 in
+          subst (OneByOne None) (sym (c.close-settled.ensures.own w s.0 (ap (λ l. slice_get l w) c.of.ensures ∙ s.1))) own;
       others = λ w l. c.close-settled.ensures.others w (subst (λ n. n ≤ w) (sym (ap length c.of.ensures ∙ long ∙ count)) l);
     }
