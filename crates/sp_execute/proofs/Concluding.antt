@@ -1,5 +1,5 @@
 -- What the machine gives along a journal with the code of a program is what the program means along it (`concluded`).
-use Rattle.std.proofs.Common.{◌≡◌, ◌⊎◌, inl, inr, ℕ, List, [], ◌∷◌, Option, Some, None, refl, sym, ap, ◌∙◌, subst}
+use Rattle.std.proofs.Common.{◌≡◌, ◌⊎◌, inl, inr, ℕ, ◌≤◌, List, [], ◌∷◌, Option, Some, None, refl, sym, ap, ◌∙◌, subst}
 use Rattle.sp_base.specs.declared.fault.Fault.{Fault}
 use Rattle.sp_base.specs.declared.limits.TheConstants.{TURN_TICKS}
 use Rattle.sp_tree.specs.Plain.{Stmt}
@@ -39,23 +39,20 @@ use Rattle.sp_execute.proofs.Waiting.{stuck}
 -- the first fault of a journal is an entry of it
 has_fault : (es : List Entry) (p : ℕ) (f : Fault) → fault_in es ≡ Some (p, f) → HasFaultEntry es p f
 has_fault [] p f e = absurd (cc e)
-has_fault (x ∷ es) p f e = by x.event refl e
+has_fault (x ∷ es) p f e = by (has_fault es p f) x.event refl e
   where
-    process_is : {a b : ℕ} {h k : Fault} → Some (a, h) ≡ Some (b, k) → a ≡ b
-    process_is e = cc e
+    one : {x y : ℕ × Fault} → Some x ≡ Some y → x ≡ y
+    one e = cc e
 
-    fault_is : {a b : ℕ} {h k : Fault} → Some (a, h) ≡ Some (b, k) → h ≡ k
-    fault_is e = cc e
-
-    by : (y : Event) → x.event ≡ y → fault_by x.process y (fault_in es) ≡ Some (p, f) → (x ≡ record { process = p; event = event.Fault f }) ⊎ HasFaultEntry es p f
-    by (event.Fault h) i e = inl (λ j. record { process = process_is e j; event = (i ∙ ap event.Fault (fault_is e)) j })
-    by (event.Fork n) i e = inr (has_fault es p f e)
-    by event.Open i e = inr (has_fault es p f e)
-    by (event.Send c) i e = inr (has_fault es p f e)
-    by (event.Receive c) i e = inr (has_fault es p f e)
-    by event.End i e = inr (has_fault es p f e)
-    by event.Laid i e = inr (has_fault es p f e)
-    by event.Pause i e = inr (has_fault es p f e)
+    by : (fault_in es ≡ Some (p, f) → HasFaultEntry es p f) → (y : Event) → x.event ≡ y → fault_by x.process y (fault_in es) ≡ Some (p, f) → (x ≡ record { process = p; event = event.Fault f }) ⊎ HasFaultEntry es p f
+    by on (event.Fault h) i e = inl (λ j. record { process = (one e j).0; event = (i ∙ ap (λ (z : ℕ × Fault). event.Fault z.1) (one e)) j })
+    by on (event.Fork n) i e = inr (on e)
+    by on event.Open i e = inr (on e)
+    by on (event.Send c) i e = inr (on e)
+    by on (event.Receive c) i e = inr (on e)
+    by on event.End i e = inr (on e)
+    by on event.Laid i e = inr (on e)
+    by on event.Pause i e = inr (on e)
 
 -- what the entries have given to a system is what they give
 births_are : (g : memory.Setting) (es : List Entry) (s t : System Plain) → Leads plain g s es t → t.births ≡ births_from s.births es

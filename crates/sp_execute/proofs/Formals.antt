@@ -42,17 +42,17 @@ module _ (p : Program) where
 
   found : (b q : ℕ) (ks : List Block) (f : ℕ) (l : Layout) → m.layout_of (layouts_from p b q ks) f ≡ Some l → (i : ℕ) × IsOf b i ks f l
   found b q [] f l e = absurd (cc e)
-  found b q (k ∷ ks) f l e = go (b == f) refl e
+  found b q (k ∷ ks) f l e = go (found (suc b) (after_block p q k) ks f l) (b == f) refl e
     where
       some : {x y : Layout} → Some x ≡ Some y → x ≡ y
       some e = cc e
 
-      go : (t : Bool) → b == f ≡ t → (if t then Some (layout_of p b q k) else m.layout_of (layouts_from p (suc b) (after_block p q k) ks) f) ≡ Some l → (i : ℕ) × IsOf b i (k ∷ ks) f l
-      go true t e =
+      go : (m.layout_of (layouts_from p (suc b) (after_block p q k) ks) f ≡ Some l → (i : ℕ) × IsOf (suc b) i ks f l) → (t : Bool) → b == f ≡ t → (if t then Some (layout_of p b q k) else m.layout_of (layouts_from p (suc b) (after_block p q k) ks) f) ≡ Some l → (i : ℕ) × IsOf b i (k ∷ ks) f l
+      go on true t e =
           let same : b ≡ f = Prim.grind (arith, t) in
           (0, record { block = k; at = q; number = omega (arith, same); stands = refl; is = sym (some e) ∙ ap (λ x. layout_of p x q k) same })
-      go false t e =
-          let z = found (suc b) (after_block p q k) ks f l e in
+      go on false t e =
+          let z = on e in
           (suc z.0, record { block = z.1.block; at = z.1.at; number = (let n = z.1.number in omega (arith, n)); stands = z.1.stands; is = z.1.is })
 
   -- the cells of a parameter hold what is passed
@@ -89,6 +89,6 @@ module _ (p : Program) where
   pub have_formals : IsFormed p → (moves shares : Stmt → List ℕ) → HaveFormals (program_code p moves shares).layouts
   have_formals formed moves shares f l e =
       let z = found 0 0 p.blocks f l e in
-      let n : f ≡ z.0 = z.1.number in
+      let n : f ≡ z.0 = (let w = z.1.number in omega (arith, w)) in
       let at : slice_get p.blocks f ≡ Some z.1.block = ap (λ y. slice_get p.blocks y) n ∙ z.1.stands in
       subst BeginsWithFormals (sym z.1.is) (begins formed f z.1.block at)

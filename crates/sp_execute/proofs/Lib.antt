@@ -2,3 +2,4 @@ pub mod Formals
 pub mod Waiting
 pub mod Concluding
 pub mod Executing
+pub mod Judged

@@ -20,7 +20,7 @@ use Rattle.sp_runner.specs.Ends.{IsDeadlock, offer_in, waiting, waiters_among}
 
 -- ---- the control that knows of those that wait alone
 
-doing_at : Stop → Doing
+abbrev doing_at : Stop → Doing
 doing_at (Sends c k cs) = Sending c
 doing_at (Receives c k a) = Receiving c
 doing_at (Forks t v n) = Unborn
@@ -28,7 +28,7 @@ doing_at (Opens a) = Unborn
 doing_at Ends = Unborn
 doing_at Pauses = Unborn
 
-doing_in : Condition Plain → Doing
+abbrev doing_in : Condition Plain → Doing
 doing_in (Waits stop c) = doing_at stop
 doing_in Absent = Unborn
 doing_in (Runs c) = Unborn
@@ -90,7 +90,7 @@ one_more b q Gone ws = refl
 one_more b q (Over d) ws = refl
 
 module _ (t : System Plain) (lawful : Lawful t.births) (unborn : (q : ℕ) → t.births.processes ≤ q → t.condition q ≡ Absent) where
-  k : Control
+  abbrev k : Control
   k = record control_at_start { doing = λ q. doing_in (t.condition q); births = t.births }
 
   same_list : (q n : ℕ) → waiters_among t.births t.condition (numbers q n) ≡ map waiter_of (waiting_from k q n)

@@ -17,7 +17,7 @@ use Rattle.sp_judge.specs.Runs.{IsRunVerdict}
 use Rattle.sp_kernel.specs.declared.closed.Closed.{Closed}
 use Rattle.sp_link.specs.Premises.{IsReady, run_by}
 use Rattle.sp_runner.specs.Ends.{Gives}
-use Rattle.sp_execute.specs.declared.execute.Executed.{Executed}
+use Rattle.sp_execute.specs.declared.execution.Executed.{Executed}
 
 -- a program on an input with limits
 abbrev pub setting : Program → List ℕ → Limits → Setting
@@ -26,7 +26,7 @@ setting p input lim = record { program = p; input = input; limits = lim }
 -- the code is that of a program that is ready for it, where the forks take over and share these variables
 pub record IsCodeOf (g : Setting) (moves shares : Stmt → List ℕ) (code : Parts) : Type 0 where
   pub ready : IsReady g moves shares
-  pub code : code ≡ program_code g.program moves shares
+  pub emitted : code ≡ program_code g.program moves shares
 
 -- the machine with the code of a program gives that end and that output along that journal
 pub record IsRunOfCode (g : Setting) (moves shares : Stmt → List ℕ) (c : Closed) : Type 0 where

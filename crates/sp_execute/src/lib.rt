@@ -1,10 +1,10 @@
 //! A program from its code to its verdict: the run of its code is concluded to be one of the program, judged, and both are given.
 #![tactic(auto)]
 
-mod conclude;
-mod execute;
-mod judge;
+mod conclusion;
+mod execution;
+mod verdict;
 
-pub use conclude::{Concluded, conclude};
-pub use execute::{Executed, execute};
-pub use judge::judge;
+pub use conclusion::{Concluded, conclude};
+pub use execution::{Executed, execute};
+pub use verdict::judge;

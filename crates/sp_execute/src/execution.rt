@@ -6,8 +6,8 @@ ghost use Rattle.sp_code.specs.Sound.{run_of};
 ghost use Rattle.sp_runner.specs.Runs.{IsRun};
 ghost use Rattle.sp_execute.specs.Runs.{setting, IsCodeOf, Executes};
 
-use crate::conclude::{Concluded, conclude};
-use crate::judge::judge;
+use crate::conclusion::{Concluded, conclude};
+use crate::verdict::judge;
 use sp_base::{Limits, Memory, Text};
 use sp_code::Code;
 use sp_journal::Verdict;

@@ -7,7 +7,7 @@ ghost use Rattle.sp_meaning.specs.Own.{Setting};
 ghost use Rattle.sp_judge.specs.Races.{IsVerdict};
 ghost use Rattle.sp_execute.specs.Runs.{IsAbout, Promises};
 
-use crate::conclude::Concluded;
+use crate::conclusion::Concluded;
 use sp_base::Memory;
 use sp_journal::Verdict;
 use sp_judge::{runs_are_quiet, verdict_of, verdicts_hold_of_runs};
