@@ -1,6 +1,6 @@
 -- A legal history of the kernel over a program's code ends as the program does along its journal: what the control of its notes tells
 -- of the end is so of the program.
-use Rattle.std.proofs.Common.{◌≡◌, ◌⊎◌, inl, inr, ℕ, ◌-◌, ◌==◌, List, [], ◌∷◌, Option, Some, None, Bool, true, false, cond, if◌then◌else◌, ◌||◌, refl, sym, ap, ◌∙◌, arith}
+use Rattle.std.proofs.Common.{◌≡◌, ◌⊎◌, inl, inr, ℕ, ◌-◌, ◌==◌, List, [], ◌∷◌, Option, Some, None, Bool, true, false, cond, if◌then◌else◌, ◌||◌, refl, sym, ap, ◌∙◌, subst, arith}
 use Rattle.std.specs.Prelude.{◌≢◌, nat_lt}
 use Rattle.sp_tree.specs.Plain.{Stmt}
 use Rattle.sp_journal.specs.declared.entry.Way.{Way}
@@ -8,11 +8,14 @@ use Rattle.sp_journal.specs.declared.entry.Way.TheVariants as way
 use Rattle.sp_journal.specs.declared.entry.Event.{Event}
 use Rattle.sp_journal.specs.declared.entry.Event.TheVariants as event
 use Rattle.sp_journal.specs.declared.entry.Birth.{Birth}
+use Rattle.sp_journal.specs.declared.entry.Entry.{Entry}
 use Rattle.sp_journal.specs.declared.entry.Note.{Note}
 use Rattle.sp_journal.specs.declared.outcome.End.{End}
 use Rattle.sp_journal.specs.declared.outcome.End.TheVariants as end
 use Rattle.sp_journal.specs.Maps.{at_key}
-use Rattle.sp_journal.specs.Births.{Births, at_start, channel, births_from, occurrences_from, is_next}
+use Rattle.sp_journal.specs.Births.{Births, at_start, after_event, channel, births_from, occurrences_from, is_next}
+use Rattle.sp_journal.proofs.BirthLaws.{Lawful}
+use Rattle.sp_journal.proofs.BirthLaws.{lawful as lawful_births}
 use Rattle.sp_cell.specs.Map.{Plain}
 use Rattle.sp_meaning.specs.Own.{Setting}
 use Rattle.sp_meaning.specs.Runs.{StateOf, output_of}
@@ -25,17 +28,19 @@ use Rattle.sp_code.specs.Emitted.{program_code}
 use Rattle.sp_code.specs.Memory.{Memory}
 use Rattle.sp_code.specs.Memory as memory
 use Rattle.sp_code.specs.PlainStore.{plain}
-use Rattle.sp_code.specs.System.{System, Condition, Absent, Runs, Waits, Joins, Laid as IsLaid, Gone as HasGone, Over, IsSystem, OutputIs, opening}
+use Rattle.sp_code.specs.System.{System, Condition, Absent, Runs, Waits, Joins, Laid as IsLaid, Gone as HasGone, Over, IsSystem, Leads, OutputIs, store_in, opening}
 use Rattle.sp_codegen.specs.Meets.{code_run}
 use Rattle.sp_history.specs.Agreement.{ToSend, ToReceive, Finished, phase, phase_in, IsOrderly, Agrees, HasOuts, Reaches}
 use Rattle.sp_history.proofs.Agreeing.{orderly_start, agrees_start}
+use Rattle.sp_history.proofs.Holders.{one_holder}
 use Rattle.sp_history.proofs.Legal.{reaches_leads, reaches_keeps}
 use Rattle.sp_history.proofs.Outs.{outs_start, outs_all, nobody_runs}
 use Rattle.sp_link.specs.Endings.{waiting_at, WaitsAs, IsWaiting, AreAllWaiting, StandsAt}
 use Rattle.sp_link.specs.Premises.{IsReady}
 use Rattle.sp_link.proofs.Endings.{program_root, program_stuck, program_fault}
 use Rattle.sp_link.proofs.Programs.{program_means, program_output, program_done}
-use Rattle.sp_link.proofs.Soundness.{names_on}
+use Rattle.sp_link.proofs.Soundness.{names_on, program_well}
+use Rattle.sp_link.proofs.SortedWaiters.{all_waiting}
 
 -- ---- nobody was given up where nobody gave up
 
@@ -264,6 +269,12 @@ module _ (k : Control) (t : System Plain) (a : Agrees k t) where
 
 -- ---- histories
 
+-- what the entries have given to a system is what they give
+births_are : (g : memory.Setting) (es : List Entry) (s t : System Plain) → Leads plain g s es t → t.births ≡ births_from s.births es
+births_are g [] s t h = ap (λ (y : System Plain). y.births) h
+births_are g (e ∷ es) s t h =
+    births_are g es h.0 t h.2 ∙ ap (λ (y : System Plain). births_from y.births es) h.1.5 ∙ ap (λ y. births_from (after_event s.births e.process y) es) h.1.4
+
 module _ (g : Setting) (moves shares : Stmt → List ℕ) (pause : ℕ) (ready : IsReady g moves shares) (ns : List Note) where
   abbrev run : memory.Setting
   run = code_run g (program_code g.program moves shares) pause
@@ -278,12 +289,31 @@ module _ (g : Setting) (moves shares : Stmt → List ℕ) (pause : ℕ) (ready :
     outs : HasOuts (control ns)
     outs = outs_all plain run control_at_start (opening plain run) t ns orderly_start (agrees_start plain run) outs_start r
 
+    lawful : Lawful (control ns).births
+    lawful = subst (λ b. Lawful b) (sym (alike.1.births ∙ births_are run (entries_of ns) (opening plain run) t journal)) (lawful_births (entries_of ns) (names_on g moves shares pause ready (entries_of ns) t journal))
+
     pub history_means : (n : ℕ) × (s : StateOf g) × IsAlong g pause (occurrences_from at_start (entries_of ns)) n s
     history_means = program_means g moves shares pause ready (entries_of ns) (names_on g moves shares pause ready (entries_of ns) t journal) t journal
 
     module _ (n : ℕ) (s : StateOf g) (k : IsAlong g pause (occurrences_from at_start (entries_of ns)) n s) where
       pub history_output : OutputIs plain run t (output_of g s)
       history_output = program_output g moves shares pause ready (entries_of ns) (names_on g moves shares pause ready (entries_of ns) t journal) t journal n s k
+
+      -- and whoever holds an output holds this one
+      pub history_held : (q : ℕ) (m : Plain) (bs : List ℕ) → store_in (t.condition q) ≡ Some m → plain.output m ≡ Some bs → bs ≡ output_of g s
+      history_held q m bs at out =
+          let one = one_holder run t ns (λ es u l. program_well g moves shares pause ready es u l) r in
+          let mine = history_output in
+          let holder : q ≡ mine.0 = one.2.only q m bs at out ∙ sym (one.2.only mine.0 mine.1 (output_of g s) mine.2 mine.3) in
+          let store : Some m ≡ Some mine.1 = sym at ∙ ap (λ y. store_in (t.condition y)) holder ∙ mine.2 in
+          let outputs : Some bs ≡ Some (output_of g s) = sym out ∙ ap (λ y. plain.output y) (store_same m mine.1 store) ∙ mine.3 in
+          bytes_same bs (output_of g s) outputs
+        where
+          store_same : (x y : Plain) → Some x ≡ Some y → x ≡ y
+          store_same x y e = cc e
+
+          bytes_same : (x y : List ℕ) → Some x ≡ Some y → x ≡ y
+          bytes_same x y e = cc e
 
       -- the first process has ended
       over : phase_in (t.condition 0) ≡ Finished → IsDone g s
@@ -328,6 +358,6 @@ module _ (g : Setting) (moves shares : Stmt → List ℕ) (pause : ℕ) (ready :
       -- each end of the history is one of the program
       pub history_ends : (e : End) → StandsAt ns e → EndIs g s e
       history_ends end.Done h = history_done h
-      history_ends (end.Deadlock ws) h = (h.1.0, history_deadlock h.1.0 h.0 h.1.1, h.1.2)
+      history_ends (end.Deadlock ws) h = let z = all_waiting (control ns) lawful alike.0.unborn ws h.1.all h.1.sorted in (z.0, history_deadlock z.0 h.0 z.1, z.2)
       history_ends (end.Fault name f) h = ((births_from at_start (entries_of ns)).name h.1.0, program_fault g moves shares pause ready (entries_of ns) t journal n s k h.1.0 f h.1.1, h.1.2)
       history_ends end.Memory h = absurd h

@@ -1,6 +1,7 @@
 -- Along a journal: where each entry keeps the relation, the meaning goes along the journal as the system does. `OneEntry` is what one
 -- entry has to give, `goes_along` the induction; `Now` is the relation with the channels that are open after so many entries.
 use Rattle.std.proofs.Common.{◌≡◌, ◌⊎◌, inl, inr, ⊎_elim, ℕ, zero, suc, ◌+◌, ◌<◌, ◌≤◌, List, [], ◌∷◌, Bool, false, refl, sym, ap, ◌∙◌, subst, arith}
+use Rattle.std.specs.Prelude.{◌≢◌}
 use Rattle.sp_journal.specs.declared.entry.Event.{Event}
 use Rattle.sp_journal.specs.declared.entry.Event.TheVariants as event
 use Rattle.sp_journal.specs.declared.entry.Entry.{Entry}
@@ -51,6 +52,12 @@ IsOpen b (event.Fault f) = Unit {0}
 IsOpen b event.Laid = Unit {0}
 IsOpen b event.Pause = Unit {0}
 
+pub either : (a b : ℕ) → (a < b) ⊎ (b ≤ a)
+either zero zero = inr (omega arith)
+either zero (suc b) = inl (omega arith)
+either (suc a) zero = inr (omega arith)
+either (suc a) (suc b) = ⊎_elim (λ (h : a < b). inl (omega (arith, h))) (λ (h : b ≤ a). inr (omega (arith, h))) (either a b)
+
 module _ (G : Ground) where
   -- and the machine's system after it is u
   pub record Goes_on (c : Course) (s : StateOf G.g) (q : Name) (what : Happening) (u : System Plain) : Type 1 where
@@ -75,11 +82,9 @@ module _ (G : Ground) where
   absent_not : (c : Config (Memory Plain)) → ◌≡◌ {A = Condition Plain} Absent (Runs c) → ⊥
   absent_not c e = cc e
 
-  either : (a b : ℕ) → (a < b) ⊎ (b ≤ a)
-  either zero zero = inr (omega arith)
-  either zero (suc b) = inl (omega arith)
-  either (suc a) zero = inr (omega arith)
-  either (suc a) (suc b) = ⊎_elim (λ (h : a < b). inl (omega (arith, h))) (λ (h : b ≤ a). inr (omega (arith, h))) (either a b)
+  -- who does anything has a number
+  pub has_number : (lv : Lives G) (c : Course) (s : StateOf G.g) (u : System Plain) → Linked G lv c s u → (i : ℕ) (x : Condition Plain) → u.condition i ≡ x → x ≢ Absent → i < u.births.processes
+  has_number lv c s u l i x e there = ⊎_elim (λ (h : i < u.births.processes). h) (λ (h : u.births.processes ≤ i). absurd (there (sym e ∙ l.unborn i h))) (either i u.births.processes)
 
   pub is_born : (lv : Lives G) (c : Course) (s : StateOf G.g) (u : System Plain) → Linked G lv c s u → (i : ℕ) (d : Config (Memory Plain)) → u.condition i ≡ Runs d → i < u.births.processes
   is_born lv c s u l i d e = ⊎_elim (λ (h : i < u.births.processes). h) (λ (h : u.births.processes ≤ i). absurd (absent_not d (sym (l.unborn i h) ∙ e))) (either i u.births.processes)

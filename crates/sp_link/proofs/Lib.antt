@@ -49,3 +49,4 @@ pub mod Endings
 pub mod Histories
 pub mod NameOrder
 pub mod Contention
+pub mod SortedWaiters

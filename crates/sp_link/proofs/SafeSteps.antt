@@ -1,7 +1,7 @@
 -- All is well with the next event of each process of a system that is linked: a fork can be carried out (`can_split`), and a child that
 -- ends can be joined (`can_join`), and a message can be put where it goes (`put_by_send`, `put_by_receive`).
-use Rattle.std.proofs.Common.{◌≡◌, ◌⊎◌, inl, inr, ⊎_elim, ℕ, zero, suc, ◌<◌, ◌≤◌, ◌==◌, ℤ, List, [], ◌∷◌, ◌++◌, length, Option, Some, None, Bool, true, false, if◌then◌else◌, eqb-true, refl, sym, ap, ◌∙◌, subst, arith}
-use Rattle.std.specs.Prelude.{◌≢◌, nat_le}
+use Rattle.std.proofs.Common.{◌≡◌, ◌⊎◌, inl, inr, ⊎_elim, ℕ, zero, suc, ◌<◌, ◌==◌, ℤ, List, [], ◌∷◌, ◌++◌, length, Option, Some, None, Bool, true, false, if◌then◌else◌, eqb-true, refl, sym, ap, ◌∙◌, subst, arith}
+use Rattle.std.specs.Prelude.{nat_le}
 use Rattle.std.specs.FinMap as fin
 use Rattle.sp_base.specs.declared.fault.Fault.{Fault}
 use Rattle.sp_base.specs.declared.fault.Fault.TheVariants as fault
@@ -41,6 +41,7 @@ use Rattle.sp_codegen.specs.Standing.{PointsTo, made}
 use Rattle.sp_codegen.proofs.Safe.{AtEnd}
 use Rattle.sp_link.proofs.TurnsMeet.{outcome, kept, turned, ends, result}
 use Rattle.sp_link.proofs.Foralls as forall
+use Rattle.sp_link.proofs.Journal.{has_number}
 use Rattle.sp_link.proofs.Messages.{sent_flat, owned_ready, room, message_length}
 use Rattle.sp_link.proofs.OneChanges.{q, pr, its, here, runs, light, keeps_to}
 use Rattle.sp_link.proofs.Parallels as parallel
@@ -313,16 +314,6 @@ module _ (G : Ground) (lv : Lives G) (c : Course) (s : StateOf G.g) (u : System 
           target_of : {a b e f : ℕ} {x y : Ptr} → machine.Receives a b x ≡ machine.Receives e f y → x ≡ y
           target_of r = cc r
 
-  -- who does anything has a number
-  is_there : (z : ℕ) (X : sys.Condition Plain) → u.condition z ≡ X → X ≢ sys.Absent → z < u.births.processes
-  is_there z X e ne = ⊎_elim (λ (h : z < u.births.processes). h) (λ (h : u.births.processes ≤ z). absurd (ne (sym e ∙ l.unborn z h))) (either z u.births.processes)
-    where
-      either : (a b : ℕ) → (a < b) ⊎ (b ≤ a)
-      either zero zero = inr (omega arith)
-      either zero (suc b) = inl (omega arith)
-      either (suc a) zero = inr (omega arith)
-      either (suc a) (suc b) = ⊎_elim (λ (h : a < b). inl (omega (arith, h))) (λ (h : b ≤ a). inr (omega (arith, h))) (either a b)
-
   -- two offers that meet have one type
   one_type : (j k : ℕ) (f : Option Fault) → f ≡ (if j == k then None else Some fault.F7) → f ≡ None → j ≡ k
   one_type j k f e n = go (j == k) refl (sym e ∙ n)
@@ -340,7 +331,7 @@ module _ (G : Ground) (lv : Lives G) (c : Course) (s : StateOf G.g) (u : System 
 
   pub put_by_send : (i z ch k j : ℕ) (a : Ptr) (cs : List OneCell) (d e : Config (Memory Plain)) → StopsAt (run_is G) u i (machine.Sends ch k cs) d → u.pending ch ≡ Some z → u.condition z ≡ sys.Waits (machine.Receives ch j a) e → CanPut (store_of e) a cs
   put_by_send i z ch k j a cs d e st p w =
-      let there = is_there z (sys.Waits (machine.Receives ch j a) e) w (λ r. cc r) in
+      let there = has_number G lv c s u l z (sys.Waits (machine.Receives ch j a) e) w (λ r. cc r) in
       let pending : sys.pending_stop u (u.pending ch) ≡ Some (machine.Receives ch j a) = ap (λ y. sys.pending_stop u y) p ∙ ap (λ y. sys.stop_of y) w in
       let clash = no_first (sys.limit_of G.g.limits u (machine.Sends ch k cs)) (sys.clash_of u (machine.Sends ch k cs)) st.fine in
       let kinds : j ≡ k = one_type j k (sys.clash_of u (machine.Sends ch k cs)) (ap (λ y. sys.clash_by way.Send k y) pending) clash in
@@ -348,7 +339,7 @@ module _ (G : Ground) (lv : Lives G) (c : Course) (s : StateOf G.g) (u : System 
 
   pub put_by_receive : (i z ch k j : ℕ) (a : Ptr) (cs : List OneCell) (d e : Config (Memory Plain)) → StopsAt (run_is G) u i (machine.Receives ch k a) d → u.pending ch ≡ Some z → u.condition z ≡ sys.Waits (machine.Sends ch j cs) e → CanPut (store_of d) a cs
   put_by_receive i z ch k j a cs d e st p w =
-      let there = is_there z (sys.Waits (machine.Sends ch j cs) e) w (λ r. cc r) in
+      let there = has_number G lv c s u l z (sys.Waits (machine.Sends ch j cs) e) w (λ r. cc r) in
       let pending : sys.pending_stop u (u.pending ch) ≡ Some (machine.Sends ch j cs) = ap (λ y. sys.pending_stop u y) p ∙ ap (λ y. sys.stop_of y) w in
       let clash = no_first (sys.limit_of G.g.limits u (machine.Receives ch k a)) (sys.clash_of u (machine.Receives ch k a)) st.fine in
       let kinds : j ≡ k = one_type j k (sys.clash_of u (machine.Receives ch k a)) (ap (λ y. sys.clash_by way.Receive k y) pending) clash in

@@ -1,7 +1,6 @@
 -- Who waits in the machine waits in the meaning, with the same way and channel, and the other way round (`waits_means`, `waits_runs`); so
 -- where nobody can go on in the one, nobody can in the other, and the same ones wait (`stuck_means`, `stuck_runs`).
-use Rattle.std.proofs.Common.{◌≡◌, ◌⊎◌, ⊎_elim, ℕ, zero, suc, ◌<◌, ◌≤◌, ◌∷◌, List, Option, Some, None, false, refl, sym, ap, ◌∙◌, subst, arith, inl, inr}
-use Rattle.std.specs.Prelude.{◌≢◌}
+use Rattle.std.proofs.Common.{◌≡◌, ℕ, ◌<◌, ◌∷◌, List, Option, Some, None, false, refl, sym, ap, ◌∙◌, subst}
 use Rattle.sp_journal.specs.declared.entry.Way.TheVariants as way
 use Rattle.sp_journal.specs.Births.{channel}
 use Rattle.sp_cell.specs.Map.{Plain}
@@ -17,19 +16,11 @@ use Rattle.sp_code.specs.System.{System}
 use Rattle.sp_code.specs.System as sys
 use Rattle.sp_link.specs.Endings.{waiting_at, WaitsAs, IsStuck}
 use Rattle.sp_link.proofs.Outputs.{done_there}
+use Rattle.sp_link.proofs.Journal.{has_number}
 use Rattle.sp_link.proofs.Relation.{Ground, Lives, Named, Ca, Does_all, Linked}
 use Rattle.sp_link.proofs.WhoRuns.{nobody, somebody, root_over}
 
 module _ (G : Ground) (lv : Lives G) (c : Course) (s : StateOf G.g) (u : System Plain) (l : Linked G lv c s u) where
-  is_there : (z : ℕ) (X : sys.Condition Plain) → u.condition z ≡ X → X ≢ sys.Absent → z < u.births.processes
-  is_there z X e ne = ⊎_elim (λ (h : z < u.births.processes). h) (λ (h : u.births.processes ≤ z). absurd (ne (sym e ∙ l.unborn z h))) (either z u.births.processes)
-    where
-      either : (a b : ℕ) → (a < b) ⊎ (b ≤ a)
-      either zero zero = inr (omega arith)
-      either zero (suc b) = inl (omega arith)
-      either (suc a) zero = inr (omega arith)
-      either (suc a) (suc b) = ⊎_elim (λ (h : a < b). inl (omega (arith, h))) (λ (h : b ≤ a). inr (omega (arith, h))) (either a b)
-
   -- the channel of a number
   named_here : (ch : Channel) (j : ℕ) → Named G ch j → channel u.births j ≡ ch
   named_here ch j n = l.began.openings j (subst (λ y. j < y) l.open_is n.0) ∙ n.2
@@ -65,7 +56,7 @@ module _ (G : Ground) (lv : Lives G) (c : Course) (s : StateOf G.g) (u : System 
 
   pub waits_means : (w : Waiting) → WaitsAs u w → WaitsSo G.g s w
   waits_means w h =
-      let lt = is_there h.0 (sys.Waits h.1 h.2) h.3 (λ e. cc e) in
+      let lt = has_number G lv c s u l h.0 (sys.Waits h.1 h.2) h.3 (λ e. cc e) in
       let x : Does_all G lv (G.births.name h.0) c s (u.births.opens h.0) (sys.Waits h.1 h.2) = subst (λ y. Does_all G lv (G.births.name h.0) c s (u.births.opens h.0) y) h.3 (l.does h.0 lt) in
       let is : Some w ≡ Some (record { who = G.births.name h.0; way = way_of (x.0).cargo; channel = (x.0).channel }) = sym h.4 ∙ offers h.0 lt h.1 h.2 x in
       let same = one is in

@@ -1,5 +1,7 @@
 -- How the system of a program's code stands at an end: who waits, where nobody can go on, and which entry is a fault.
-use Rattle.std.specs.Prelude.{◌≡◌, ◌⊎◌, ℕ, List, [], ◌∷◌, map, Option, Some, None, false}
+use Rattle.std.specs.Prelude.{◌≡◌, ◌⊎◌, ℕ, zero, suc, List, [], ◌∷◌, map, Option, Some, None, false}
+use Rattle.std.specs.List.Sorted.{IsPermutation, IsSortedByKey}
+use Rattle.sp_base.specs.Order.{name_cmp}
 use Rattle.sp_base.specs.declared.fault.Fault.{Fault}
 use Rattle.sp_cell.specs.declared.cell.Cell.{Cell}
 use Rattle.sp_cell.specs.declared.spot.Address.{Address}
@@ -8,12 +10,13 @@ use Rattle.sp_journal.specs.declared.entry.Way.TheVariants as way
 use Rattle.sp_journal.specs.declared.entry.Event.TheVariants as event
 use Rattle.sp_journal.specs.declared.entry.Entry.{Entry}
 use Rattle.sp_journal.specs.declared.entry.Note.{Note}
+use Rattle.sp_journal.specs.declared.outcome.Waiter.{Waiter}
 use Rattle.sp_journal.specs.declared.outcome.End.{End}
 use Rattle.sp_journal.specs.declared.outcome.End.TheVariants as end
 use Rattle.sp_journal.specs.Births.{Births, births, channel}
 use Rattle.sp_journal.specs.Names.{proc_name}
 use Rattle.sp_meaning.specs.Ends.{Waiting, IsIn, IsSorted, waiter_of}
-use Rattle.sp_code.specs.Control.{Control, Sending, Receiving, control, standing, IsDone, IsDeadlock, IsFault, entries_of}
+use Rattle.sp_code.specs.Control.{Control, Doing, Unborn, Ready, Out, Sending, Receiving, Joining, Laid, Ended, Gone, control, standing, IsDone, IsDeadlock, IsFault, entries_of}
 use Rattle.sp_code.specs.Machine.{Stop, Forks, Opens, Sends, Receives, Ends, Pauses, Config}
 use Rattle.sp_code.specs.Memory.{Memory}
 use Rattle.sp_code.specs.System.{System, Runs, Waits, Over, pending_stop}
@@ -58,10 +61,32 @@ pub record AreAllWaiting (k : Control) (ws : List Waiting) : Type 0 where
   pub only : (w : Waiting) → IsIn w ws → IsWaiting k w
   pub whole : (w : Waiting) → IsWaiting k w → IsIn w ws
 
+-- process q waits, if it does so, before others
+abbrev pub with_waiting : Births → ℕ → Doing → List Waiting → List Waiting
+with_waiting b q (Sending c) ws = record { who = b.name q; way = way.Send; channel = channel b c } ∷ ws
+with_waiting b q (Receiving c) ws = record { who = b.name q; way = way.Receive; channel = channel b c } ∷ ws
+with_waiting b q Unborn ws = ws
+with_waiting b q Ready ws = ws
+with_waiting b q (Out w) ws = ws
+with_waiting b q (Joining n) ws = ws
+with_waiting b q Laid ws = ws
+with_waiting b q Ended ws = ws
+with_waiting b q Gone ws = ws
+
+-- who waits of process q and the n - 1 following ones
+abbrev pub waiting_from : Control → ℕ → ℕ → List Waiting
+waiting_from k q zero = []
+waiting_from k q (suc n) = with_waiting k.births q (k.doing q) (waiting_from k (suc q) n)
+
+-- all that wait, in order of names
+pub record AreWaiters (k : Control) (ws : List Waiter) : Type 0 where
+  pub all : IsPermutation (map waiter_of (waiting_from k 0 k.births.processes)) ws
+  pub sorted : IsSortedByKey (λ (w : Waiter). w.process) name_cmp ws
+
 -- the control of these notes stands at this end, as the program tells it
 abbrev pub StandsAt : List Note → End → Type 0
 StandsAt ns end.Done = standing (control ns) ≡ IsDone
-StandsAt ns (end.Deadlock ws) = (standing (control ns) ≡ IsDeadlock) × ((vs : List Waiting) × AreAllWaiting (control ns) vs × (ws ≡ map waiter_of vs))
+StandsAt ns (end.Deadlock ws) = (standing (control ns) ≡ IsDeadlock) × AreWaiters (control ns) ws
 StandsAt ns (end.Fault name f) = (standing (control ns) ≡ IsFault) × ((p : ℕ) × HasFaultEntry (entries_of ns) p f × (name ≡ proc_name ((births (entries_of ns)).name p)))
 StandsAt ns end.Memory = ⊥
 

@@ -1,9 +1,7 @@
 //! What follows for all processes of a run, of the source and of its code, along a journal. These functions do nothing: each one's
 //! contract is a law.
 
-ghost use Rattle.std.specs.Prelude.{◌≡◌, ◌<◌, ℕ, List, None, true, false};
-ghost use Rattle.std.specs.declared.cmp.Ordering.TheVariants.{Less};
-ghost use Rattle.sp_base.specs.Order.{name_cmp};
+ghost use Rattle.std.specs.Prelude.{◌≡◌, ◌<◌, ℕ, List, Some, None, true, false};
 ghost use Rattle.sp_base.specs.declared.fault.Fault.{Fault};
 ghost use Rattle.sp_base.specs.declared.fault.Fault.TheVariants as fault;
 ghost use Rattle.sp_base.specs.declared.limits.Limits.{Limits};
@@ -12,13 +10,12 @@ ghost use Rattle.sp_journal.specs.declared.entry.Entry.{Entry};
 ghost use Rattle.sp_journal.specs.declared.entry.Event.TheVariants as event;
 ghost use Rattle.sp_journal.specs.declared.entry.Note.{Note};
 ghost use Rattle.sp_journal.specs.declared.outcome.End.{End};
-ghost use Rattle.sp_journal.specs.Names.{Name, proc_name};
 ghost use Rattle.sp_journal.specs.Births.{at_start, births, occurrences_from, NameableFrom};
 ghost use Rattle.sp_cell.specs.Map.{Plain};
 ghost use Rattle.sp_meaning.specs.Entries.{Occurrence};
 ghost use Rattle.sp_meaning.specs.Own.{Setting};
 ghost use Rattle.sp_meaning.specs.Runs.{StateOf, output_of};
-ghost use Rattle.sp_meaning.specs.Ends.{Waiting, WaitsSo, IsDone, IsIdle, IsDeadlock, HasFault, EndIs, name_before};
+ghost use Rattle.sp_meaning.specs.Ends.{Waiting, WaitsSo, IsDone, IsIdle, IsDeadlock, HasFault, EndIs};
 ghost use Rattle.sp_meaning.specs.Along.{IsAlong};
 ghost use Rattle.sp_code.specs.Control.{control_at_start, entries_of};
 ghost use Rattle.sp_code.specs.Emitted.{program_code};
@@ -26,7 +23,7 @@ ghost use Rattle.sp_code.specs.Machine.{Config, Stop};
 ghost use Rattle.sp_code.specs.Memory.{Memory, memory};
 ghost use Rattle.sp_code.specs.PlainStore.{plain};
 ghost use Rattle.sp_code.specs.Sound.{IsSound};
-ghost use Rattle.sp_code.specs.System.{System, Runs, Over, IsSystem, IsLegal, OutputIs, event_of, opening};
+ghost use Rattle.sp_code.specs.System.{System, Runs, Over, IsSystem, IsLegal, OutputIs, event_of, store_in, opening};
 ghost use Rattle.sp_code.specs.Turns.{Stopped, IsSafe};
 ghost use Rattle.sp_history.specs.Agreement.{Reaches};
 ghost use Rattle.sp_link.specs.Endings.{HasFaultEntry, WaitsAs, IsStuck, StandsAt, MeetsItsWay};
@@ -43,7 +40,8 @@ pub fn code_runs_as_the_program_means()
     ensures means { (g : Setting) (moves shares : Stmt → List ℕ) (pause : ℕ) → IsReady g moves shares → (es : List Entry) (t : System Plain)
         → IsSystem plain (run_by g moves shares pause) es t → (n : ℕ) × (s : StateOf g) × IsAlong g pause (occurrences_from at_start es) n s }
     ensures runs { (g : Setting) (moves shares : Stmt → List ℕ) (pause : ℕ) → IsReady g moves shares → (es : List Entry) → NameableFrom at_start es
-        → (n : ℕ) (s : StateOf g) → IsAlong g pause (occurrences_from at_start es) n s → (t : System Plain) × IsSystem plain (run_by g moves shares pause) es t }
+        → (n : ℕ) (s : StateOf g) → IsAlong g pause (occurrences_from at_start es) n s
+        → (t : System Plain) × IsSystem plain (run_by g moves shares pause) es t }
     ensures safe { (g : Setting) (moves shares : Stmt → List ℕ) (pause : ℕ) → IsReady g moves shares → (es : List Entry) (t : System Plain)
         → IsSystem plain (run_by g moves shares pause) es t → (i : ℕ) (d : Config (Memory Plain)) → t.condition i ≡ Runs d
         → IsSafe (memory plain (run_by g moves shares pause)) (program_code g.program moves shares) d }
@@ -89,17 +87,21 @@ pub fn code_waits_and_faults_as_the_program_does()
 
 /// A legal history of the kernel over the code of a program is a run of the program along the journal of its notes. Where the
 /// control of the notes stands at an end, the program has come to the same one: done, a deadlock with all that wait, or the fault
-/// of the journal; and the output is the program's. Names that are kept in order are in the order of the meaning.
+/// of the journal; and the output that a process holds is the program's.
 pub fn histories_end_as_the_program_does()
     ensures means { (g : Setting) (moves shares : Stmt → List ℕ) (pause : ℕ) → IsReady g moves shares → (ns : List Note)
         → IsLegal plain (run_by g moves shares pause) ns → (n : ℕ) × (s : StateOf g) × IsAlong g pause (occurrences_from at_start (entries_of ns)) n s }
     ensures output { (g : Setting) (moves shares : Stmt → List ℕ) (pause : ℕ) → IsReady g moves shares → (ns : List Note) (t : System Plain)
         → Reaches plain (run_by g moves shares pause) control_at_start (opening plain (run_by g moves shares pause)) ns t
-        → (n : ℕ) (s : StateOf g) → IsAlong g pause (occurrences_from at_start (entries_of ns)) n s → OutputIs plain (run_by g moves shares pause) t (output_of g s) }
+        → (n : ℕ) (s : StateOf g) → IsAlong g pause (occurrences_from at_start (entries_of ns)) n s
+        → OutputIs plain (run_by g moves shares pause) t (output_of g s) }
+    ensures held { (g : Setting) (moves shares : Stmt → List ℕ) (pause : ℕ) → IsReady g moves shares → (ns : List Note) (t : System Plain)
+        → Reaches plain (run_by g moves shares pause) control_at_start (opening plain (run_by g moves shares pause)) ns t
+        → (n : ℕ) (s : StateOf g) → IsAlong g pause (occurrences_from at_start (entries_of ns)) n s
+        → (q : ℕ) (m : Plain) (bs : List ℕ) → store_in (t.condition q) ≡ Some m → plain.output m ≡ Some bs → bs ≡ output_of g s }
     ensures ends { (g : Setting) (moves shares : Stmt → List ℕ) (pause : ℕ) → IsReady g moves shares → (ns : List Note)
         → IsLegal plain (run_by g moves shares pause) ns → (n : ℕ) (s : StateOf g) → IsAlong g pause (occurrences_from at_start (entries_of ns)) n s
         → (e : End) → StandsAt ns e → EndIs g s e }
-    ensures order { (p q : Name) → name_cmp (proc_name p) (proc_name q) ≡ Less → name_before p q ≡ true }
 {}
 
 /// Contention is an entry exactly where an offer meets a pending one of its own way and the journal is not full.

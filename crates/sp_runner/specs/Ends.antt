@@ -1,0 +1,80 @@
+-- How the system of all processes ends, and what it leaves.
+use Rattle.std.specs.Prelude.{◌≡◌, ◌≢◌, ℕ, List, [], ◌∷◌, ◌++◌, Option, Some, None, false}
+use Rattle.std.specs.List.Sorted.{IsPermutation, IsSortedByKey}
+use Rattle.sp_base.specs.Order.{name_cmp}
+use Rattle.sp_cell.specs.Map.{Plain}
+use Rattle.sp_journal.specs.declared.entry.Entry.{Entry}
+use Rattle.sp_journal.specs.declared.entry.Way.{Way}
+use Rattle.sp_journal.specs.declared.entry.Way.TheVariants as way
+use Rattle.sp_journal.specs.declared.outcome.End.{End}
+use Rattle.sp_journal.specs.declared.outcome.End.TheVariants as end
+use Rattle.sp_journal.specs.declared.outcome.Waiter.{Waiter}
+use Rattle.sp_journal.specs.Births.{Births, channel}
+use Rattle.sp_journal.specs.Names.{proc_name, chan_name}
+use Rattle.sp_journal.specs.Queue.{numbers}
+use Rattle.sp_code.specs.Machine.{Stop, Forks, Opens, Sends, Receives, Ends, Pauses}
+use Rattle.sp_code.specs.Memory.{Setting}
+use Rattle.sp_code.specs.PlainStore.{plain}
+use Rattle.sp_code.specs.System.{System, Condition, Absent, Runs, Waits, Joins, Laid, Gone, Over, IsSystem}
+use Rattle.sp_history.specs.Agreement.{phase_in, Running, Finished}
+use Rattle.sp_history.specs.Holding.{IsOutputOf}
+use Rattle.sp_kernel.specs.Faults.{fault_in}
+
+-- ---- who waits
+
+-- the way and the channel of an offer
+abbrev pub offer_at : Stop → Option (Way × ℕ)
+offer_at (Forks t v n) = None
+offer_at (Opens a) = None
+offer_at (Sends c k cs) = Some (way.Send, c)
+offer_at (Receives c k a) = Some (way.Receive, c)
+offer_at Ends = None
+offer_at Pauses = None
+
+-- those of a process that waits with one
+abbrev pub offer_in : Condition Plain → Option (Way × ℕ)
+offer_in Absent = None
+offer_in (Runs c) = None
+offer_in (Waits stop c) = offer_at stop
+offer_in (Joins n c) = None
+offer_in (Laid c) = None
+offer_in Gone = None
+offer_in (Over c) = None
+
+-- process q, if it waits, by its name and that of the channel
+abbrev pub waiting : Births → ℕ → Option (Way × ℕ) → List Waiter
+waiting b q None = []
+waiting b q (Some o) = record { process = proc_name (b.name q); way = o.0; channel = chan_name (channel b o.1) } ∷ []
+
+-- those of these processes that wait
+abbrev pub waiters_among : Births → (ℕ → Condition Plain) → List ℕ → List Waiter
+waiters_among b condition [] = []
+waiters_among b condition (q ∷ qs) = waiting b q (offer_in (condition q)) ++ waiters_among b condition qs
+
+-- ---- the end
+
+-- the root has ended, and no fault stands
+abbrev pub IsDone : System Plain → Type 0
+IsDone s = (phase_in (s.condition 0) ≡ Finished) × (s.faulted ≡ false)
+
+-- no process runs, the root has not ended, and no fault stands; these are all that wait, in order of names
+pub record IsDeadlock (s : System Plain) (ws : List Waiter) : Type 0 where
+  pub idle : (q : ℕ) → phase_in (s.condition q) ≢ Running
+  pub goes_on : phase_in (s.condition 0) ≢ Finished
+  pub quiet : s.faulted ≡ false
+  pub all : IsPermutation (waiters_among s.births s.condition (numbers 0 s.births.processes)) ws
+  pub sorted : IsSortedByKey (λ (w : Waiter). w.process) name_cmp ws
+
+-- the system after a journal is at this end; want of memory is the end of none
+abbrev pub EndsAt : List Entry → System Plain → End → Type 0
+EndsAt es s end.Done = IsDone s
+EndsAt es s (end.Deadlock ws) = IsDeadlock s ws
+EndsAt es s (end.Fault name f) = (p : ℕ) × (fault_in es ≡ Some (p, f)) × (name ≡ proc_name (s.births.name p))
+EndsAt es s end.Memory = ⊥
+
+-- what the machine gives along a journal: an end and an output
+pub record Gives (g : Setting) (es : List Entry) (e : End) (text : List ℕ) : Type 0 where
+  pub system : System Plain
+  pub along : IsSystem plain g es system
+  pub end : EndsAt es system e
+  pub output : (q : ℕ) × IsOutputOf system q text
