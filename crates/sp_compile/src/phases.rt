@@ -1,7 +1,7 @@
 //! All phases over a text, and its code.
 
 ghost use Rattle.std.specs.Prelude.{◌≡◌};
-ghost use Rattle.sp_compile.specs.Codes.{Codes};
+ghost use Rattle.sp_compile.specs.Codes.{Codes, halt_of};
 
 use sp_base::{Halt, Place, Refusal, Rule};
 use sp_code::Code;
@@ -15,12 +15,12 @@ use std::thread::{Builder, Promise, Threads};
 
 /// A text that breaks no rule: its tree, the variables that its statements and blocks use, and its code.
 #[derive(Drop)]
-pub struct Compiled {
+pub struct CompiledText {
     accepted: Accepted,
     code: Code,
 }
 
-impl Compiled {
+impl CompiledText {
     /// The tree.
     pub fn checked(&self) -> &Checked
         ensures { result.now ≡ self.now.accepted.checked }
@@ -49,18 +49,27 @@ const LONG_CODE: Refusal = Refusal {
     at: Place { line: 1, column: 1 },
 };
 
+/// What a text is answered that has no code.
+fn halt_of(error: GenError) -> Halt
+    ensures { result ≡ halt_of error }
+{
+    match error {
+        GenError::TooLong(_) => Halt::Refused(LONG_CODE),
+        GenError::Memory => Halt::Memory,
+    }
+}
+
 /// The tree, the sets and the code of a text that breaks no rule, or the first rule that it breaks, with its place: of
 /// its characters and its grammar, then of its names, of its types, of interference, and of the length of its code.
 ///
 /// It recurses as deep as the longest chain of operators is long: `compiled_apart` gives it the stack for that.
-pub fn compiled(alloc: Global, text: &[u8]) -> Result<Compiled, Halt>
+pub fn compiled(alloc: Global, text: &[u8]) -> Result<CompiledText, Halt>
     ensures { Codes text.now result }
 {
     let accepted = compile(alloc, text)?;
     match generate(alloc, accepted.checked(), accepted.sets()) {
-        Ok(code) => Ok(Compiled { accepted, code }),
-        Err(GenError::TooLong(_)) => Err(Halt::Refused(LONG_CODE)),
-        Err(GenError::Memory) => Err(Halt::Memory),
+        Ok(code) => Ok(CompiledText { accepted, code }),
+        Err(error) => Err(halt_of(error)),
     }
 }
 
@@ -71,13 +80,13 @@ const STACK: usize = 0x4000_0000;
 #[derive(Drop)]
 struct CompiledOf(Snapshot<Vec<u8>>);
 
-impl Promise<Result<Compiled, Halt>> for CompiledOf {
+impl Promise<Result<CompiledText, Halt>> for CompiledOf {
     ghost kept_by = { λ p r. Codes p.0.value.items r };
 }
 
 /// `compiled`, on a thread of its own with a stack for the longest text. Where no thread can be made the answer is want
 /// of memory: the caller's own stack would not hold a long chain of operators.
-pub fn compiled_apart(rt: &impl Threads, alloc: Global, text: &[u8]) -> Result<Compiled, Halt>
+pub fn compiled_apart(rt: &impl Threads, alloc: Global, text: &[u8]) -> Result<CompiledText, Halt>
     ensures { Codes text.now result }
 {
     let mut copy = Vec::new(alloc);
