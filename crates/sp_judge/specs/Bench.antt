@@ -118,3 +118,20 @@ pub record IsBlank (b : Bench) (processes channels : ℕ) : Type 0 where
   pub clocks : (p q : ℕ) → clock_at b.clocks.items p q ≡ 0
   pub made_is : (p : ℕ) → p < processes → slice_get b.made.items p ≡ Some 0
   pub lines : (c : ℕ) → c < channels → slice_get b.lines.items c ≡ Some (record { waiting = None; sent = None; received = None })
+
+-- the entries before an index, by names
+abbrev pub before : List Entry → ℕ → List Occurrence
+before es at = named (births es) (take at es)
+
+-- before this index process p knows of all offers of this way on this channel
+abbrev pub KnowsAll : List Entry → ℕ → ℕ → Way → ℕ → Type 0
+KnowsAll es at p w c = KnowsOffers (judged (before es at)) (before es at) ((births es).name p) (Offered w (channel (births es) c))
+
+-- how many counted entries of q process p knows before this index
+abbrev pub count_before : List Entry → ℕ → ℕ → ℕ → ℕ
+count_before es at p q = counts (before es at) ((births es).name p) ((births es).name q)
+
+-- the first offer of this kind before an index of which the racer's process does not know, or there is none
+abbrev pub IsFound : List Entry → ℕ → Racer → Option ℕ → Type 0
+IsFound es at r None = (i : ℕ) → i < at → IsUnknown (births es) (before es at) es r.process r.way r.channel i → ⊥
+IsFound es at r (Some i) = IsFirstUnknown (births es) (before es at) es at r.process r.way r.channel i

@@ -1,5 +1,5 @@
 -- What a clock says.
-use Rattle.std.specs.Prelude.{ℕ, ◌<◌, cond, max, ◌==◌, List, Option, Some, None, unwrap_or, slice_get}
+use Rattle.std.specs.Prelude.{◌≡◌, ℕ, ◌<◌, cond, max, ◌==◌, List, Option, Some, None, unwrap_or, slice_get}
 use Rattle.std.specs.Ordering.{nat_cmp}
 use Rattle.std.specs.BTreeMap as tree
 use Rattle.sp_judge.specs.declared.clock.Clock.{Clock}
@@ -30,3 +30,15 @@ with_own clocks p n q = cond (p == q) (max (clocks p q) n) (clocks p q)
 -- two processes have met, each with its own count: both have the greater counts
 abbrev pub met_at : (ℕ → ℕ → ℕ) → ℕ → ℕ → ℕ → ℕ → ℕ → ℕ → ℕ
 met_at clocks p n z m r q = cond (p == r) (max (with_own clocks p n q) (with_own clocks z m q)) (cond (z == r) (max (with_own clocks p n q) (with_own clocks z m q)) (clocks r q))
+
+-- a clock with the count of p raised to n
+abbrev pub raised_in : (ℕ → ℕ) → ℕ → ℕ → ℕ → ℕ
+raised_in f p n q = cond (p == q) (max (f q) n) (f q)
+
+-- for each of these counts, the clocks are the old ones with p's own count raised to n
+abbrev pub AreRaised : (ℕ → Type 0) → ℕ → ℕ → (ℕ → ℕ → ℕ) → (ℕ → ℕ → ℕ) → Type 0
+AreRaised A p n old new = (r q : ℕ) → A q → new r q ≡ cond (p == r) (with_own old p n q) (old r q)
+
+-- for each of these counts, the clocks are the old ones after two processes have met
+abbrev pub AreMet : (ℕ → Type 0) → ℕ → ℕ → ℕ → ℕ → (ℕ → ℕ → ℕ) → (ℕ → ℕ → ℕ) → Type 0
+AreMet A p n z m old new = (r q : ℕ) → A q → new r q ≡ met_at old p n z m r q

@@ -2,14 +2,10 @@
 
 ghost use Rattle.std.specs.Prelude.{◌≡◌, ◌<◌, ◌≤◌, ◌↔◌, ℕ, Some, IsTrue, IfOk, MatchOption, length, slice_get, take};
 ghost use Rattle.sp_journal.specs.Births.{births};
-ghost use Rattle.sp_journal.specs.Births.{channel as channel_named};
 ghost use Rattle.sp_journal.specs.Ledger.{IsLedger};
-ghost use Rattle.sp_journal.specs.Names.{Offered};
-ghost use Rattle.sp_journal.specs.Past.{judged};
-ghost use Rattle.sp_race.specs.Known.{KnowsOffers, AreKnown};
+ghost use Rattle.sp_race.specs.Known.{AreKnown};
 ghost use Rattle.sp_judge.specs.Clocks.{number_at};
-ghost use Rattle.sp_judge.specs.Counts.{counts};
-ghost use Rattle.sp_judge.specs.Bench.{named, offer_event, IsTame, Holds, IsOfferAt, IsLastOffer, IsUnknown, IsFirstUnknown};
+ghost use Rattle.sp_judge.specs.Bench.{named, offer_event, IsTame, Holds, IsOfferAt, IsLastOffer, KnowsAll, count_before, IsFound};
 
 use crate::bench::{Bench, Offer, Racer, is_offer};
 use crate::clock::is_asked;
@@ -93,7 +89,7 @@ pub(crate) fn knows_offers(
     requires holds { Holds (births entries.now) until.now (take at entries.now) bench.now }
     requires here { slice_get entries.now at ≡ Some (record { process = offer.process; event = offer_event offer.way offer.channel }) }
     requires in_order { AreKnown (named (births entries.now) (take at entries.now)) }
-    ensures { IfOk result (λ knows. IsTrue knows ↔ KnowsOffers (judged (named (births entries.now) (take at entries.now))) (named (births entries.now) (take at entries.now)) ((births entries.now).name offer.process) (Offered offer.way (channel_named (births entries.now) offer.channel))) }
+    ensures { IfOk result (λ knows. IsTrue knows ↔ KnowsAll entries.now at offer.process offer.way offer.channel) }
 {
     match bench.lines[offer.channel as usize].last(offer.way) {
         None => Ok(true),
@@ -137,7 +133,7 @@ fn knows_entry(
     requires inside { at < length entries.now }
     requires process { process < (births entries.now).processes }
     requires other { offer.process < (births entries.now).processes }
-    ensures { IfOk result (λ known. IsTrue known ↔ (offer.place < counts (named (births entries.now) (take at entries.now)) ((births entries.now).name process) ((births entries.now).name offer.process))) }
+    ensures { IfOk result (λ known. IsTrue known ↔ (offer.place < count_before entries.now at process offer.process)) }
 {
     let until = one_question(alloc, ledger.processes(), offer.process, at as u64 + 1)?;
     let mut bench = Bench::new(alloc, ledger.processes(), ledger.channels())?;
@@ -178,7 +174,7 @@ pub(crate) fn first_unknown(
     requires holds { Holds (births entries.now) until.now (take at entries.now) bench.now }
     requires here { slice_get entries.now at ≡ Some (record { process = racer.process; event = offer_event racer.way racer.channel }) }
     requires in_order { AreKnown (named (births entries.now) (take at entries.now)) }
-    ensures { IfOk result (λ first. MatchOption first ((i : ℕ) → i < at → IsUnknown (births entries.now) (named (births entries.now) (take at entries.now)) entries.now racer.process racer.way racer.channel i → ⊥) (λ i. IsFirstUnknown (births entries.now) (named (births entries.now) (take at entries.now)) entries.now at racer.process racer.way racer.channel i)) }
+    ensures { IfOk result (λ first. IsFound entries.now at racer first) }
 {
     let mut known = 0;
     let mut first = at;

@@ -1,7 +1,7 @@
 //! The clocks of all processes, by their numbers.
 
 ghost use Rattle.std.specs.Prelude.{◌≡◌, ◌<◌, ◌≤◌, ◌+◌, ◌&&◌, ◌==◌, ◌≢◌, ◌^◌, nat_le, nat_lt, cond, max, ℕ, OnOk, length};
-ghost use Rattle.sp_judge.specs.Clocks.{clock_at, with_own, met_at, IsAsked};
+ghost use Rattle.sp_judge.specs.Clocks.{clock_at, IsAsked, AreRaised, AreMet};
 
 use crate::clock::Clock;
 use sp_base::Memory;
@@ -44,7 +44,8 @@ pub(crate) fn raise(
 ) -> Result<(), Memory>
     requires { process < length clocks.old.items }
     ensures len { OnOk result (length clocks.new.items ≡ length clocks.old.items) }
-    ensures clocks { OnOk result ((p q : ℕ) → IsAsked until.now now q → clock_at clocks.new.items p q ≡ cond (process == p) (with_own (clock_at clocks.old.items) process count q) (clock_at clocks.old.items p q)) }
+    ensures clocks { OnOk result (AreRaised (IsAsked until.now now) process count
+        (clock_at clocks.old.items) (clock_at clocks.new.items)) }
 {
     clocks[process as usize].renew(until, now, process, count)
 }
@@ -82,7 +83,8 @@ pub(crate) fn meet(
     requires waits { waits.process < length clocks.old.items }
     requires apart { comes.process ≢ waits.process }
     ensures len { OnOk result (length clocks.new.items ≡ length clocks.old.items) }
-    ensures clocks { OnOk result ((p q : ℕ) → IsAsked until.now now q → clock_at clocks.new.items p q ≡ met_at (clock_at clocks.old.items) comes.process comes.count waits.process waits.count p q) }
+    ensures clocks { OnOk result (AreMet (IsAsked until.now now) comes.process comes.count waits.process waits.count
+        (clock_at clocks.old.items) (clock_at clocks.new.items)) }
 {
     raise(clocks, until, now, comes.process, comes.count)?;
     raise(clocks, until, now, waits.process, waits.count)?;

@@ -40,7 +40,8 @@ pub fn code_runs_as_the_program_means()
     ensures means { (g : Setting) (moves shares : Stmt → List ℕ) (pause : ℕ) → IsReady g moves shares → (es : List Entry) (t : System Plain)
         → IsSystem plain (run_by g moves shares pause) es t → (n : ℕ) × (s : StateOf g) × IsAlong g pause (occurrences_from at_start es) n s }
     ensures runs { (g : Setting) (moves shares : Stmt → List ℕ) (pause : ℕ) → IsReady g moves shares → (es : List Entry) → NameableFrom at_start es
-        → (n : ℕ) (s : StateOf g) → IsAlong g pause (occurrences_from at_start es) n s → (t : System Plain) × IsSystem plain (run_by g moves shares pause) es t }
+        → (n : ℕ) (s : StateOf g) → IsAlong g pause (occurrences_from at_start es) n s
+        → (t : System Plain) × IsSystem plain (run_by g moves shares pause) es t }
     ensures safe { (g : Setting) (moves shares : Stmt → List ℕ) (pause : ℕ) → IsReady g moves shares → (es : List Entry) (t : System Plain)
         → IsSystem plain (run_by g moves shares pause) es t → (i : ℕ) (d : Config (Memory Plain)) → t.condition i ≡ Runs d
         → IsSafe (memory plain (run_by g moves shares pause)) (program_code g.program moves shares) d }
@@ -92,7 +93,8 @@ pub fn histories_end_as_the_program_does()
         → IsLegal plain (run_by g moves shares pause) ns → (n : ℕ) × (s : StateOf g) × IsAlong g pause (occurrences_from at_start (entries_of ns)) n s }
     ensures output { (g : Setting) (moves shares : Stmt → List ℕ) (pause : ℕ) → IsReady g moves shares → (ns : List Note) (t : System Plain)
         → Reaches plain (run_by g moves shares pause) control_at_start (opening plain (run_by g moves shares pause)) ns t
-        → (n : ℕ) (s : StateOf g) → IsAlong g pause (occurrences_from at_start (entries_of ns)) n s → OutputIs plain (run_by g moves shares pause) t (output_of g s) }
+        → (n : ℕ) (s : StateOf g) → IsAlong g pause (occurrences_from at_start (entries_of ns)) n s
+        → OutputIs plain (run_by g moves shares pause) t (output_of g s) }
     ensures held { (g : Setting) (moves shares : Stmt → List ℕ) (pause : ℕ) → IsReady g moves shares → (ns : List Note) (t : System Plain)
         → Reaches plain (run_by g moves shares pause) control_at_start (opening plain (run_by g moves shares pause)) ns t
         → (n : ℕ) (s : StateOf g) → IsAlong g pause (occurrences_from at_start (entries_of ns)) n s

@@ -1,0 +1,290 @@
+-- Tests that tell the targets and the expression variables of any statement, from the sets of a tree's blocks; and lists of those that pass.
+use Rattle.std.proofs.Common.{◌≡◌, inl, inr, ℕ, zero, suc, ◌+◌, ◌*◌, ◌<◌, ◌≤◌, Bool, true, false, cond, ◌&&◌, ◌||◌, ◌==◌, if◌then◌else◌, List, [], ◌∷◌, length, slice_get, Option, Some, None, refl, sym, ap, ◌∙◌, subst, arith, true≢false, eq-eqb, ne_eqb, eqb-true}
+use Rattle.std.specs.Prelude.{option_map}
+use Rattle.std.specs.List.{filter}
+use Rattle.std.proofs.lemmas.Option.{slice_get-map}
+use Rattle.sp_tree.specs.PlainChecked as c
+use Rattle.sp_tree.specs.Bare.{bare, bare_block}
+use Rattle.sp_tree.specs.Plain.{Block, Stmt}
+use Rattle.sp_tree.specs.Uses.{Use, Aims, Sees, Runs, Splits, Spreads, Stops, In_stmt}
+use Rattle.sp_tree.specs.Sets.{IsTarget, IsSeen}
+use Rattle.sp_tree.specs.Interference.{IsMember, AllDifferent}
+use Rattle.sp_tree.proofs.UsesOf.{Among, stmt_uses, stmt_among}
+use Rattle.sp_code.specs.Scopes.{is_given}
+use Rattle.sp_varsets.specs.declared.sets.Sets.{Sets}
+use Rattle.sp_varsets.specs.AreSets.{AreSets, implicit_targets_of, implicit_expressions_of}
+use Rattle.sp_varsets.specs.Members.{has}
+use Rattle.sp_varsets.proofs.Words.{below_words}
+use Rattle.sp_generate.specs.Handings.{IsInOrder, fitting}
+use Rattle.sp_generate.proofs.Inside.{stmt_inside}
+
+-- ---- tests of uses
+
+some_use : (Use → Bool) → List Use → Bool
+some_use f [] = false
+some_use f (u ∷ us) = f u || some_use f us
+
+or_right : (b : Bool) → b || true ≡ true
+or_right true = refl
+or_right false = refl
+
+use_found : (f : Use → Bool) (us : List Use) → some_use f us ≡ true → (u : Use) × Among u us × (f u ≡ true)
+unfolding some_use
+use_found f [] h = absurd (true≢false (sym h))
+use_found f (u ∷ us) h = go (f u) refl h (λ k. use_found f us k)
+  where
+    go : (b : Bool) → f u ≡ b → b || some_use f us ≡ true → (some_use f us ≡ true → (v : Use) × Among v us × (f v ≡ true)) → (v : Use) × Among v (u ∷ us) × (f v ≡ true)
+    go true e k later = (u, inl refl, e)
+    go false e k later = let r = later k in (r.0, inr r.1, r.2)
+
+use_finds : (f : Use → Bool) (us : List Use) (u : Use) → Among u us → f u ≡ true → some_use f us ≡ true
+unfolding some_use
+use_finds f [] u a h = absurd a
+use_finds f (v ∷ vs) u (inl e) h = ap (λ (b : Bool). b || some_use f vs) (ap f (sym e) ∙ h)
+use_finds f (v ∷ vs) u (inr a) h = ap (λ (b : Bool). f v || b) (use_finds f vs u a h) ∙ or_right (f v)
+
+no_use : (f : Use → Bool) (us : List Use) → ((u : Use) → Among u us → f u ≡ false) → some_use f us ≡ false
+unfolding some_use
+no_use f [] h = refl
+no_use f (u ∷ us) h = ap (λ (b : Bool). b || some_use f us) (h u (inl refl)) ∙ no_use f us (λ v a. h v (inr a))
+
+-- a sum that is above each
+total : (Use → ℕ) → List Use → ℕ
+total n [] = 0
+total n (u ∷ us) = n u + total n us
+
+above_each : (n : Use → ℕ) (us : List Use) (u : Use) → Among u us → n u ≤ total n us
+unfolding total
+above_each n [] u a = absurd a
+above_each n (v ∷ vs) u (inl e) = omega (arith, ap n e)
+above_each n (v ∷ vs) u (inr a) = omega (arith, above_each n vs u a)
+
+-- ---- the tests of a tree with its sets
+
+both_true : (a b : Bool) → a && b ≡ true → (a ≡ true) × (b ≡ true)
+both_true true b h = (refl, h)
+both_true false b h = absurd (true≢false (sym h))
+
+block_given : (tree : c.Program) (b : ℕ) → is_given (slice_get tree.blocks b) ≡ true → (k : c.Block) × (slice_get tree.blocks b ≡ Some k)
+block_given tree b h = go (slice_get tree.blocks b) refl
+  where
+    go : (o : Option c.Block) → slice_get tree.blocks b ≡ o → (k : c.Block) × (slice_get tree.blocks b ≡ Some k)
+    go None e = absurd (true≢false (sym h ∙ ap is_given e))
+    go (Some k) e = (k, e)
+
+given_block : (tree : c.Program) (b : ℕ) (k : Block) → slice_get (bare tree).blocks b ≡ Some k → (m : c.Block) × (slice_get tree.blocks b ≡ Some m)
+given_block tree b k h = go (slice_get tree.blocks b) refl
+  where
+    go : (o : Option c.Block) → slice_get tree.blocks b ≡ o → (m : c.Block) × (slice_get tree.blocks b ≡ Some m)
+    go None e = let n : None ≡ Some k = sym (slice_get-map bare_block tree.blocks b ∙ ap (option_map bare_block) e) ∙ h in absurd (cc n)
+    go (Some m) e = (m, e)
+
+module _ (tree : c.Program) (sets : Sets) where
+  -- a use makes the variable a target, itself or by the block that it calls
+  aims : ℕ → Use → Bool
+  aims x (Aims y) = x == y
+  aims x (Sees y) = false
+  aims x (Runs b args) = is_given (slice_get tree.blocks b) && has (implicit_targets_of sets b) x
+  aims x (Splits ss) = false
+  aims x (Spreads y s) = false
+  aims x Stops = false
+
+  sees : ℕ → Use → Bool
+  sees x (Aims y) = false
+  sees x (Sees y) = x == y
+  sees x (Runs b args) = is_given (slice_get tree.blocks b) && has (implicit_expressions_of sets b) x
+  sees x (Splits ss) = false
+  sees x (Spreads y s) = false
+  sees x Stops = false
+
+  pub is_target : Stmt → ℕ → Bool
+  is_target s x = some_use (aims x) (stmt_uses s)
+
+  pub is_seen : Stmt → ℕ → Bool
+  is_seen s x = some_use (sees x) (stmt_uses s)
+
+  -- where all variables of a use are below
+  limit : Use → ℕ
+  limit (Aims y) = y + 1
+  limit (Sees y) = y + 1
+  limit (Runs b args) = 64 * length (implicit_targets_of sets b).words + 64 * length (implicit_expressions_of sets b).words
+  limit (Splits ss) = 0
+  limit (Spreads y s) = 0
+  limit Stops = 0
+
+  pub limit_of : Stmt → ℕ
+  limit_of s = total limit (stmt_uses s)
+
+  not_true : (b : Bool) → (b ≡ true → ⊥) → b ≡ false
+  not_true true h = absurd (h refl)
+  not_true false h = refl
+
+  aims_below : (x : ℕ) (u : Use) → limit u ≤ x → aims x u ≡ false
+  unfolding aims limit
+  aims_below x (Aims y) h = ne_eqb x y (λ e. omega (arith, e, h))
+  aims_below x (Sees y) h = refl
+  aims_below x (Runs b args) h =
+      not_true _ (λ k. let low = below_words (implicit_targets_of sets b).words x (both_true (is_given (slice_get tree.blocks b)) (has (implicit_targets_of sets b) x) k).1 in omega (arith, low, h))
+  aims_below x (Splits ss) h = refl
+  aims_below x (Spreads y s) h = refl
+  aims_below x Stops h = refl
+
+  sees_below : (x : ℕ) (u : Use) → limit u ≤ x → sees x u ≡ false
+  unfolding sees limit
+  sees_below x (Aims y) h = refl
+  sees_below x (Sees y) h = ne_eqb x y (λ e. omega (arith, e, h))
+  sees_below x (Runs b args) h =
+      not_true _ (λ k. let low = below_words (implicit_expressions_of sets b).words x (both_true (is_given (slice_get tree.blocks b)) (has (implicit_expressions_of sets b) x) k).1 in omega (arith, low, h))
+  sees_below x (Splits ss) h = refl
+  sees_below x (Spreads y s) h = refl
+  sees_below x Stops h = refl
+
+  over : (s : Stmt) (x : ℕ) (u : Use) → limit_of s ≤ x → Among u (stmt_uses s) → limit u ≤ x
+  unfolding limit_of
+  over s x u h a = omega (arith, h, above_each limit (stmt_uses s) u a)
+
+  pub target_below : (s : Stmt) (x : ℕ) → limit_of s ≤ x → is_target s x ≡ false
+  unfolding is_target
+  target_below s x h = no_use (aims x) (stmt_uses s) (λ u a. aims_below x u (over s x u h a))
+
+  pub seen_below : (s : Stmt) (x : ℕ) → limit_of s ≤ x → is_seen s x ≡ false
+  unfolding is_seen
+  seen_below s x h = no_use (sees x) (stmt_uses s) (λ u a. sees_below x u (over s x u h a))
+
+  module _ (are : AreSets tree sets) where
+    aims_is : (s : Stmt) (x : ℕ) (u : Use) → In_stmt s u → aims x u ≡ true → IsTarget (bare tree) (In_stmt s) x
+    unfolding aims
+    aims_is s x (Aims y) h e = ([], subst (λ (z : ℕ). In_stmt s (Aims z)) (sym (eqb-true x y e)) h)
+    aims_is s x (Sees y) h e = absurd (true≢false (sym e))
+    aims_is s x (Runs b args) h e =
+        let two = both_true (is_given (slice_get tree.blocks b)) (has (implicit_targets_of sets b) x) e in
+        let k = block_given tree b two.0 in
+        let i = ((are.blocks b k.0 k.1).targets x).0 two.1 in
+        (b ∷ i.3.0, (args, h, i.0, i.1, i.2, i.3.1))
+    aims_is s x (Splits ss) h e = absurd (true≢false (sym e))
+    aims_is s x (Spreads y t) h e = absurd (true≢false (sym e))
+    aims_is s x Stops h e = absurd (true≢false (sym e))
+
+    pub target_told : (s : Stmt) (x : ℕ) → is_target s x ≡ true → IsTarget (bare tree) (In_stmt s) x
+    unfolding is_target
+    target_told s x h = let r = use_found (aims x) (stmt_uses s) h in aims_is s x r.0 (stmt_inside s r.0 r.1) r.2
+
+    pub target_tells : (s : Stmt) (x : ℕ) → IsTarget (bare tree) (In_stmt s) x → is_target s x ≡ true
+    unfolding is_target aims
+    target_tells s x ([], h) = use_finds (aims x) (stmt_uses s) (Aims x) (stmt_among s (Aims x) h) (eq-eqb x x refl)
+    target_tells s x (b ∷ bs, (args, h, k, e, free, reach)) =
+        let m = given_block tree b k e in
+        use_finds (aims x) (stmt_uses s) (Runs b args) (stmt_among s (Runs b args) h)
+        (ap (λ (g : Bool). g && has (implicit_targets_of sets b) x) (ap is_given m.1) ∙ ((are.blocks b m.0 m.1).targets x).1 (k, e, free, (bs, reach)))
+
+    sees_is : (s : Stmt) (x : ℕ) (u : Use) → In_stmt s u → sees x u ≡ true → IsSeen (bare tree) (In_stmt s) x
+    unfolding sees
+    sees_is s x (Aims y) h e = absurd (true≢false (sym e))
+    sees_is s x (Sees y) h e = ([], subst (λ (z : ℕ). In_stmt s (Sees z)) (sym (eqb-true x y e)) h)
+    sees_is s x (Runs b args) h e =
+        let two = both_true (is_given (slice_get tree.blocks b)) (has (implicit_expressions_of sets b) x) e in
+        let k = block_given tree b two.0 in
+        let i = ((are.blocks b k.0 k.1).expressions x).0 two.1 in
+        (b ∷ i.3.0, (args, h, i.0, i.1, i.2, i.3.1))
+    sees_is s x (Splits ss) h e = absurd (true≢false (sym e))
+    sees_is s x (Spreads y t) h e = absurd (true≢false (sym e))
+    sees_is s x Stops h e = absurd (true≢false (sym e))
+
+    pub seen_told : (s : Stmt) (x : ℕ) → is_seen s x ≡ true → IsSeen (bare tree) (In_stmt s) x
+    unfolding is_seen
+    seen_told s x h = let r = use_found (sees x) (stmt_uses s) h in sees_is s x r.0 (stmt_inside s r.0 r.1) r.2
+
+    pub seen_tells : (s : Stmt) (x : ℕ) → IsSeen (bare tree) (In_stmt s) x → is_seen s x ≡ true
+    unfolding is_seen sees
+    seen_tells s x ([], h) = use_finds (sees x) (stmt_uses s) (Sees x) (stmt_among s (Sees x) h) (eq-eqb x x refl)
+    seen_tells s x (b ∷ bs, (args, h, k, e, free, reach)) =
+        let m = given_block tree b k e in
+        use_finds (sees x) (stmt_uses s) (Runs b args) (stmt_among s (Runs b args) h)
+        (ap (λ (g : Bool). g && has (implicit_expressions_of sets b) x) (ap is_given m.1) ∙ ((are.blocks b m.0 m.1).expressions x).1 (k, e, free, (bs, reach)))
+
+-- ---- lists of the numbers that fit
+
+pub has_fitting : (f : ℕ → Bool) (x n y : ℕ) → x ≤ y → y < x + n → f y ≡ true → IsMember y (fitting f x n)
+has_fitting f x zero y low h e = absurd (omega (arith, low, h))
+has_fitting f x (suc n) y low h e = go (x == y) refl (λ up. has_fitting f (suc x) n y up (omega (arith, h)) e)
+  where
+    here : (b : Bool) → f x ≡ b → x ≡ y → IsMember y (if b then x ∷ fitting f (suc x) n else fitting f (suc x) n)
+    here true i same = inl (sym same)
+    here false i same = absurd (true≢false (sym e ∙ ap f (sym same) ∙ i))
+
+    later : (b : Bool) → IsMember y (fitting f (suc x) n) → IsMember y (if b then x ∷ fitting f (suc x) n else fitting f (suc x) n)
+    later true m = inr m
+    later false m = m
+
+    go : (b : Bool) → x == y ≡ b → (suc x ≤ y → IsMember y (fitting f (suc x) n)) → IsMember y (fitting f x (suc n))
+    go true s more = here (f x) refl (eqb-true x y s)
+    go false s more =
+        let other : x ≡ y → ⊥ = λ same. true≢false (sym (eq-eqb x y same) ∙ s) in
+        let up : suc x ≤ y = omega (arith, low, other) in
+        later (f x) (more up)
+
+pub of_fitting : (f : ℕ → Bool) (x n y : ℕ) → IsMember y (fitting f x n) → (x ≤ y) × (f y ≡ true)
+of_fitting f x zero y m = absurd m
+of_fitting f x (suc n) y m = go (f x) refl (λ k. of_fitting f (suc x) n y k) m
+  where
+    go : (b : Bool) → f x ≡ b → (IsMember y (fitting f (suc x) n) → (suc x ≤ y) × (f y ≡ true)) → IsMember y (if b then x ∷ fitting f (suc x) n else fitting f (suc x) n) → (x ≤ y) × (f y ≡ true)
+    go true e later (inl same) = (omega (arith, same), ap f same ∙ e)
+    go true e later (inr k) = let r = later k in (omega (arith, r.0), r.1)
+    go false e later k = let r = later k in (omega (arith, r.0), r.1)
+
+pub fitting_in_order : (f : ℕ → Bool) (x n : ℕ) → IsInOrder (fitting f x n)
+fitting_in_order f x zero = tt
+fitting_in_order f x (suc n) = go (f x) (fitting_in_order f (suc x) n)
+  where
+    go : (b : Bool) → IsInOrder (fitting f (suc x) n) → IsInOrder (if b then x ∷ fitting f (suc x) n else fitting f (suc x) n)
+    go true rest = ((λ y m. let r = of_fitting f (suc x) n y m in omega (arith, r.0)), rest)
+    go false rest = rest
+
+-- none fits beyond both
+pub same_fitting : (f : ℕ → Bool) (x n m : ℕ) → ((y : ℕ) → x + n ≤ y → f y ≡ false) → ((y : ℕ) → x + m ≤ y → f y ≡ false) → fitting f x n ≡ fitting f x m
+same_fitting f x zero zero a b = refl
+same_fitting f x zero (suc m) a b =
+    same_fitting f (suc x) zero m (λ y h. a y (omega (arith, h))) (λ y h. b y (omega (arith, h)))
+    ∙ ap (λ (t : Bool). if t then x ∷ fitting f (suc x) m else fitting f (suc x) m) (sym (a x (omega arith)))
+same_fitting f x (suc n) zero a b =
+    ap (λ (t : Bool). if t then x ∷ fitting f (suc x) n else fitting f (suc x) n) (b x (omega arith))
+    ∙ same_fitting f (suc x) n zero (λ y h. a y (omega (arith, h))) (λ y h. b y (omega (arith, h)))
+same_fitting f x (suc n) (suc m) a b =
+    ap (λ (ys : List ℕ). if f x then x ∷ ys else ys) (same_fitting f (suc x) n m (λ y h. a y (omega (arith, h))) (λ y h. b y (omega (arith, h))))
+
+-- ---- lists without some numbers
+
+pub has_filter : (f : ℕ → Bool) (xs : List ℕ) (y : ℕ) → IsMember y xs → f y ≡ true → IsMember y (filter f xs)
+has_filter f [] y m e = absurd m
+has_filter f (x ∷ xs) y (inl same) e = here (f x) refl
+  where
+    here : (b : Bool) → f x ≡ b → IsMember y (cond b (x ∷ filter f xs) (filter f xs))
+    here true i = inl same
+    here false i = absurd (true≢false (sym e ∙ ap f same ∙ i))
+has_filter f (x ∷ xs) y (inr m) e = later (f x) (has_filter f xs y m e)
+  where
+    later : (b : Bool) → IsMember y (filter f xs) → IsMember y (cond b (x ∷ filter f xs) (filter f xs))
+    later true k = inr k
+    later false k = k
+
+pub of_filter : (f : ℕ → Bool) (xs : List ℕ) (y : ℕ) → IsMember y (filter f xs) → IsMember y xs × (f y ≡ true)
+of_filter f [] y m = absurd m
+of_filter f (x ∷ xs) y m = go (f x) refl (λ k. of_filter f xs y k) m
+  where
+    go : (b : Bool) → f x ≡ b → (IsMember y (filter f xs) → IsMember y xs × (f y ≡ true)) → IsMember y (cond b (x ∷ filter f xs) (filter f xs)) → IsMember y (x ∷ xs) × (f y ≡ true)
+    go true e later (inl same) = (inl same, ap f same ∙ e)
+    go true e later (inr k) = let r = later k in (inr r.0, r.1)
+    go false e later k = let r = later k in (inr r.0, r.1)
+
+pub filter_in_order : (f : ℕ → Bool) (xs : List ℕ) → IsInOrder xs → IsInOrder (filter f xs)
+filter_in_order f [] h = tt
+filter_in_order f (x ∷ xs) h = go (f x) (filter_in_order f xs h.1)
+  where
+    go : (b : Bool) → IsInOrder (filter f xs) → IsInOrder (cond b (x ∷ filter f xs) (filter f xs))
+    go true rest = ((λ y m. h.0 y (of_filter f xs y m).0), rest)
+    go false rest = rest
+
+-- in order, each stands once
+pub each_once : (xs : List ℕ) → IsInOrder xs → AllDifferent xs
+each_once [] h = tt
+each_once (x ∷ xs) h = ((λ m. let low = h.0 x m in omega (arith, low)), each_once xs h.1)

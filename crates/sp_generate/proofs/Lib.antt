@@ -1,0 +1,13 @@
+pub mod Tables
+pub mod Emitting
+pub mod Seams
+pub mod Handing
+pub mod Filled
+pub mod Forms
+pub mod Locals
+pub mod Whole
+pub mod Limits
+pub mod Inside
+pub mod Deciding
+pub mod Telling
+pub mod OneCode

@@ -1,0 +1,30 @@
+-- The length of the plain tree, and the limit of it.
+use Rattle.std.proofs.Common.{◌≡◌, ℕ, ◌<◌, ◌≤◌, ◌↔◌, Bool, true, false, true≢false, sym, ap, arith}
+use Rattle.std.specs.Prelude.{min, IsTrue}
+use Rattle.sp_tree.specs.declared.checked.Checked.{Checked}
+use Rattle.sp_tree.specs.PlainOf as plain
+use Rattle.sp_tree.specs.CheckedOf as placed
+use Rattle.sp_tree.specs.Bare.{bare}
+use Rattle.sp_tree.specs.Plain.{Program}
+use Rattle.sp_tree.proofs.FusedStatements.{program_fused}
+use Rattle.sp_code.specs.Lengths.{tree_length}
+use Rattle.sp_length.specs.Told.{told}
+
+pub one_length : (tree : Checked) → told (tree_length (plain.program_of tree)) ≡ told (tree_length (bare (placed.program_of tree)))
+one_length tree = ap (λ (p : Program). told (tree_length p)) (sym (program_fused tree))
+
+within : (m n : ℕ) → min n m ≤ 1048576 → 1048576 < m → n ≤ 1048576
+within m n h k = omega (arith, h, k)
+
+pub told_within : (n : ℕ) → told n ≤ 1048576 → n ≤ 1048576
+told_within n h = within 4294967295 n h (omega arith)
+
+beyond : (m n : ℕ) → 1048576 < min n m → 1048576 < n
+beyond m n h = omega (arith, h)
+
+pub told_beyond : (n : ℕ) → 1048576 < told n → 1048576 < n
+told_beyond n h = beyond 4294967295 n h
+
+pub not_long : (b : Bool) (n : ℕ) → IsTrue b ↔ (1048576 < n) → b ≡ false → n ≤ 1048576
+not_long true n h e = absurd (true≢false e)
+not_long false n h e = let few : 1048576 < n → ⊥ = λ k. true≢false (sym (h.1 k)) in omega (arith, few)

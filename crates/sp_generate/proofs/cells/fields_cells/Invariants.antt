@@ -1,0 +1,8 @@
+use Rattle.std.proofs.Common.{◌≡◌, ◌+◌, ℕ, List, map, drop}
+use Rattle.std.specs.Prelude.{sum, slice_get}
+use Rattle.sp_tree.specs.Cells.{first_or}
+use Rattle.sp_generate.proofs.cells.fields_cells.Given as goal
+
+abbrev pub invariant-loop-f : goal.invariant-loop-f
+invariant-loop-f l =
+    l.cells + sum (map (λ (f : List ℕ × ℕ). first_or 0 (slice_get l.known f.1)) (drop l.f-index l.fields)) ≡ sum (map (λ (f : List ℕ × ℕ). first_or 0 (slice_get l.known f.1)) l.fields)

@@ -1,0 +1,6 @@
+use Rattle.std.proofs.Common.{◌≡◌, ◌++◌, drop}
+use Rattle.sp_generate.specs.Tabled.{offsets_from}
+use Rattle.sp_generate.proofs.cells.offsets_from.Given as goal
+
+abbrev pub invariant-loop-f : goal.invariant-loop-f
+invariant-loop-f l = l.out.items ++ offsets_from l.cells l.n (drop l.f-index l.fields) ≡ offsets_from l.cells 0 l.fields

@@ -1,0 +1,6 @@
+use Rattle.std.proofs.Common.{◌≡◌, ◌++◌, map, drop}
+use Rattle.sp_generate.specs.Tabled.{offsets_by}
+use Rattle.sp_generate.proofs.cells.table_offsets.Given as goal
+
+abbrev pub invariant-loop-k : goal.invariant-loop-k
+invariant-loop-k l = l.out.items ++ map (offsets_by l.cells) (drop l.k-index l.kinds) ≡ map (offsets_by l.cells) l.kinds

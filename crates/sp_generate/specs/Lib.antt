@@ -1,0 +1,10 @@
+pub mod Sorts
+pub mod Tabled
+pub mod Views
+pub mod Tables
+pub mod Handings
+pub mod Steps
+pub mod Written
+pub mod Puts
+pub mod Numbered
+pub mod Generated

@@ -1,0 +1,16 @@
+-- The code of a program as it is written: its fork tables have what the sets tell by the numbers of process statements.
+use Rattle.sp_tree.specs.PlainChecked as c
+use Rattle.sp_tree.specs.Bare.{bare}
+use Rattle.sp_code.specs.declared.code.Parts.{Parts}
+use Rattle.sp_code.specs.Emitted.{blocks_code, blocks_texts, layouts_from}
+use Rattle.sp_varsets.specs.declared.sets.Sets.{Sets}
+use Rattle.sp_generate.specs.Handings.{moved_of, shared_of}
+use Rattle.sp_generate.specs.Tables.{tables_blocks}
+
+abbrev pub numbered_code : c.Program → Sets → Parts
+numbered_code tree sets = record {
+  instrs = blocks_code (bare tree) 0 0 0 0 (bare tree).blocks;
+  layouts = layouts_from (bare tree) 0 0 (bare tree).blocks;
+  forks = tables_blocks (bare tree) (moved_of sets) (shared_of sets) 0 tree.blocks;
+  texts = blocks_texts (bare tree).blocks;
+}

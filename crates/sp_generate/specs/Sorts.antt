@@ -1,0 +1,9 @@
+-- Which values are many cells.
+use Rattle.std.specs.Prelude.{Bool, true, false}
+use Rattle.sp_code.specs.Scopes.{Sort, Ordinals, Channels, Many, NoSort}
+
+abbrev pub is_many : Sort → Bool
+is_many Ordinals = false
+is_many Channels = false
+is_many Many = true
+is_many NoSort = false

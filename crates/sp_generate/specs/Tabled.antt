@@ -1,0 +1,42 @@
+-- What the generator keeps in tables of a tree: where variables stand in their frames, and where fields begin.
+use Rattle.std.specs.Prelude.{ℕ, suc, ◌+◌, List, [], ◌∷◌, map, slice_get, Option, Some, None}
+use Rattle.sp_tree.specs.declared.checked.KindOf.{KindOf}
+use Rattle.sp_tree.specs.declared.checked.KindOf.TheVariants as kind
+use Rattle.sp_tree.specs.Cells.{first_or, sizes}
+use Rattle.sp_tree.specs.Plain.{Program, Variable, Block}
+use Rattle.sp_code.specs.Scopes.{slot_in, frame_of}
+
+-- the number of each variable in its frame, from variable x on
+abbrev pub slots_from : Program → ℕ → List Variable → List ℕ
+slots_from p x [] = []
+slots_from p x (v ∷ vs) = slot_in p v.block x ∷ slots_from p (suc x) vs
+
+abbrev pub slots_of : Program → List ℕ
+slots_of p = slots_from p 0 p.variables
+
+-- where each field begins, the first one at n
+abbrev pub offsets_from : List ℕ → ℕ → List (List ℕ × ℕ) → List ℕ
+offsets_from sizes n [] = []
+offsets_from sizes n (f ∷ fs) = n ∷ offsets_from sizes (n + first_or 0 (slice_get sizes f.1)) fs
+
+abbrev pub offsets_by : List ℕ → KindOf → List ℕ
+offsets_by sizes kind.Integer = []
+offsets_by sizes kind.Boolean = []
+offsets_by sizes kind.Char = []
+offsets_by sizes (kind.Enumeration n) = []
+offsets_by sizes (kind.Array low high index element) = []
+offsets_by sizes (kind.Fields fs) = offsets_from sizes 0 fs
+offsets_by sizes (kind.Channel ks) = []
+
+abbrev pub offsets_of : Program → List (List ℕ)
+offsets_of p = map (offsets_by (sizes p.kinds)) p.kinds
+
+-- the frame of each block, from block b on
+abbrev pub frames_from : Program → ℕ → List Block → List (List ℕ)
+frames_from p b [] = []
+frames_from p b (k ∷ ks) = frame_of p b ∷ frames_from p (suc b) ks
+
+-- a level, so many scopes further out
+abbrev pub more : ℕ → Option ℕ → Option ℕ
+more n None = None
+more n (Some m) = Some (n + m)

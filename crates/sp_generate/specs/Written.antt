@@ -1,0 +1,173 @@
+-- Code as far as it is written: what it is once the code of a part was put behind it.
+use Rattle.std.specs.Prelude.{ℕ, ◌+◌, ℤ, List, [], ◌∷◌, ◌++◌, Some, length, map, slice_set}
+use Rattle.sp_tree.specs.PlainChecked as c
+use Rattle.sp_tree.specs.Bare.{bare_expression, bare_statement, bare_statement_form, bare_statements, bare_arms, bare_variable, bare_block}
+use Rattle.sp_tree.specs.Around.{Scope, OfIndex, scopes_of}
+use Rattle.sp_tree.specs.Plain as b
+use Rattle.sp_code.specs.declared.instr.Instr.{Instr}
+use Rattle.sp_code.specs.declared.instr.Instr.TheVariants as i
+use Rattle.sp_code.specs.declared.code.ForkTable.{ForkTable}
+use Rattle.sp_code.specs.Scopes.{sort, size, kind_of, type_of}
+use Rattle.sp_code.specs.Places.{after, after_tests, after_arms}
+use Rattle.sp_code.specs.Emitted.{value_code, var_code, right_code, assign_instr, code, code_all, code_children, code_arms, test_code, tests_code, texts_of, texts_of_all, texts_of_arms, end_instr, blocks_code, blocks_texts}
+use Rattle.sp_generate.specs.declared.draft.Draft.{Draft}
+use Rattle.sp_generate.specs.Tables.{child, tables, form_tables, tables_all, tables_children, tables_arms, tables_blocks}
+
+-- an assignment
+abbrev pub assign_code : b.Program → List Scope → b.Var → b.Expr → List Instr
+assign_code p sc v (b.Typed k form) = var_code p sc v ++ (right_code p sc k (sort p k) form ++ assign_instr (sort p k) (size p k) ∷ [])
+
+abbrev pub right_side : b.Program → List Scope → b.Expr → List Instr
+right_side p sc (b.Typed k form) = right_code p sc k (sort p k) form
+
+-- these parts
+abbrev pub drafted : List Instr → List ForkTable → List (List ℕ) → Draft
+drafted xs fs ts = record { instrs = xs; forks = fs; texts = ts }
+
+-- instructions alone
+abbrev pub with_code : Draft → List Instr → Draft
+with_code d xs = record { instrs = d.instrs ++ xs; forks = d.forks; texts = d.texts }
+
+module _ (p : b.Program) (moved shared : ℕ → List ℕ) where
+  unfoldable pub written : Draft → List Scope → c.Statement → Draft
+  written d sc s = record {
+    instrs = d.instrs ++ code p sc (length d.forks) (length d.texts) (length d.instrs) (bare_statement s);
+    forks = d.forks ++ tables p moved shared (length d.instrs) s;
+    texts = d.texts ++ texts_of (bare_statement s);
+  }
+
+  unfoldable pub written_form : Draft → List Scope → c.Form → Draft
+  written_form d sc form = record {
+    instrs = d.instrs ++ code p sc (length d.forks) (length d.texts) (length d.instrs) (bare_statement_form form);
+    forks = d.forks ++ form_tables p moved shared (length d.instrs) form;
+    texts = d.texts ++ texts_of (bare_statement_form form);
+  }
+
+  unfoldable pub written_all : Draft → List Scope → c.Statements → Draft
+  written_all d sc ss = record {
+    instrs = d.instrs ++ code_all p sc (length d.forks) (length d.texts) (length d.instrs) (bare_statements ss);
+    forks = d.forks ++ tables_all p moved shared (length d.instrs) ss;
+    texts = d.texts ++ texts_of_all (bare_statements ss);
+  }
+
+  -- the processes of a `parallel`, with an `end` behind each
+  unfoldable pub written_children : Draft → List Scope → c.Statements → Draft
+  written_children d sc ss = record {
+    instrs = d.instrs ++ code_children p sc (length d.forks) (length d.texts) (length d.instrs) (bare_statements ss);
+    forks = d.forks ++ tables_children p moved shared (length d.instrs) ss;
+    texts = d.texts ++ texts_of_all (bare_statements ss);
+  }
+
+  -- the statements of a `case`, with a jump behind each
+  unfoldable pub written_arms : Draft → List Scope → c.Arms → (end : ℕ) → Draft
+  written_arms d sc arms end = record {
+    instrs = d.instrs ++ code_arms p sc (length d.forks) (length d.texts) (length d.instrs) (bare_arms arms) end;
+    forks = d.forks ++ tables_arms p moved shared (length d.instrs) arms;
+    texts = d.texts ++ texts_of_arms (bare_arms arms);
+  }
+
+  -- a statement that is left out where the condition is false: the jump goes so many instructions beyond it
+  unfoldable pub branched : Draft → List Scope → c.Statement → (beyond : ℕ) → Draft
+  branched d sc s beyond =
+      let q = length d.instrs in
+      record {
+        instrs = d.instrs ++ (i.Jumpf (after p (q + 1) (bare_statement s) + beyond) ∷ code p sc (length d.forks) (length d.texts) (q + 1) (bare_statement s));
+        forks = d.forks ++ tables p moved shared (q + 1) s;
+        texts = d.texts ++ texts_of (bare_statement s);
+      }
+
+  -- a statement that is passed over by a jump
+  unfoldable pub passed_over : Draft → List Scope → c.Statement → Draft
+  passed_over d sc s =
+      let q = length d.instrs in
+      record {
+        instrs = d.instrs ++ (i.Jump (after p (q + 1) (bare_statement s)) ∷ code p sc (length d.forks) (length d.texts) (q + 1) (bare_statement s));
+        forks = d.forks ++ tables p moved shared (q + 1) s;
+        texts = d.texts ++ texts_of (bare_statement s);
+      }
+
+  -- a loop's first instruction, which leaves to behind the last, then a tick and the statement, then the loop's last instruction
+  unfoldable pub looped : Draft → List Scope → c.Statement → (ℕ → Instr) → Instr → Draft
+  looped d sc s leave again =
+      let q = length d.instrs in
+      record {
+        instrs = d.instrs ++ (leave (after p (q + 1 + 1) (bare_statement s) + 1) ∷ i.Tick ∷ (code p sc (length d.forks) (length d.texts) (q + 1 + 1) (bare_statement s) ++ again ∷ []));
+        forks = d.forks ++ tables p moved shared (q + 1 + 1) s;
+        texts = d.texts ++ texts_of (bare_statement s);
+      }
+
+  -- a forall behind its limits
+  unfoldable pub spread : Draft → List Scope → (index : ℕ) → c.Statement → Draft
+  spread d sc x s =
+      let q = length d.instrs in
+      let t = length d.forks in
+      record {
+        instrs = d.instrs ++ (i.Forall t ∷ i.Jump (after p (q + 1 + 1) (bare_statement s) + 1) ∷ (code p (OfIndex x ∷ sc) (t + 1) (length d.texts) (q + 1 + 1) (bare_statement s) ++ i.End ∷ []));
+        forks = d.forks ++ (record { children = child p moved shared (q + 1 + 1) (Some x) s ∷ [] } ∷ tables p moved shared (q + 1 + 1) s);
+        texts = d.texts ++ texts_of (bare_statement s);
+      }
+
+  -- a `case` behind its selector
+  unfoldable pub chosen : Draft → List Scope → c.Arms → Draft
+  chosen d sc arms =
+      let b = after_tests (length d.instrs) (bare_arms arms) in
+      record {
+        instrs = d.instrs ++ (tests_code p (bare_arms arms) (b + 1) ++ (i.Nocase ∷ code_arms p sc (length d.forks) (length d.texts) (b + 1) (bare_arms arms) (after_arms p (b + 1) (bare_arms arms))));
+        forks = d.forks ++ tables_arms p moved shared (b + 1) arms;
+        texts = d.texts ++ texts_of_arms (bare_arms arms);
+      }
+
+  -- a block in its own scopes, with its end behind it
+  unfoldable pub written_block : Draft → ℕ → c.Block → Draft
+  written_block d b k = record {
+    instrs = d.instrs ++ (code p (scopes_of p b) (length d.forks) (length d.texts) (length d.instrs) (bare_statement k.body) ++ end_instr b ∷ []);
+    forks = d.forks ++ tables p moved shared (length d.instrs) k.body;
+    texts = d.texts ++ texts_of (bare_statement k.body);
+  }
+
+  -- the blocks in order, from block b on
+  unfoldable pub written_blocks : Draft → ℕ → List c.Block → Draft
+  written_blocks d b ks = record {
+    instrs = d.instrs ++ blocks_code p b (length d.forks) (length d.texts) (length d.instrs) (map bare_block ks);
+    forks = d.forks ++ tables_blocks p moved shared (length d.instrs) ks;
+    texts = d.texts ++ blocks_texts (map bare_block ks);
+  }
+
+module _ (p : b.Program) where
+  -- where each statement of a `case` begins, and where the jump behind it stands
+  abbrev pub starts_of : ℕ → b.Arms → List ℕ
+  starts_of q b.NoArm = []
+  starts_of q (b.Or (b.On ms s) rest) = q ∷ starts_of (after p q s + 1) rest
+
+  abbrev pub ends_of : ℕ → b.Arms → List ℕ
+  ends_of q b.NoArm = []
+  ends_of q (b.Or (b.On ms s) rest) = after p q s ∷ ends_of (after p q s + 1) rest
+
+-- the tests of a `case` before it is known where they lead
+abbrev pub blank_tests : b.Arms → List Instr
+blank_tests b.NoArm = []
+blank_tests (b.Or (b.On ms s) rest) = test_code ms 0 ++ blank_tests rest
+
+-- jumps to the end at each of these places
+abbrev pub filled_ends : List Instr → List ℕ → (end : ℕ) → List Instr
+filled_ends xs [] end = xs
+filled_ends xs (n ∷ ns) end = filled_ends (slice_set xs n (i.Jump end)) ns end
+
+-- tests from place k on, which lead to one statement; and to a statement for each choice
+abbrev pub filled_test : List Instr → (k : ℕ) → List ℤ → (to : ℕ) → List Instr
+filled_test xs k [] to = xs
+filled_test xs k (m ∷ ms) to = filled_test (slice_set xs k (i.Casej m to)) (k + 1) ms to
+
+abbrev pub filled_tests : List Instr → (k : ℕ) → b.Arms → List ℕ → List Instr
+filled_tests xs k b.NoArm starts = xs
+filled_tests xs k (b.Or a rest) [] = xs
+filled_tests xs k (b.Or (b.On ms s) rest) (to ∷ starts) = filled_tests (filled_test xs k ms to) (k + length ms) rest starts
+
+-- several values, or variables, on one channel
+abbrev pub sends_code : b.Program → List Scope → b.Expr → List c.Expression → List Instr
+sends_code p sc channel [] = []
+sends_code p sc channel (e ∷ es) = (value_code p sc channel ++ (value_code p sc (bare_expression e) ++ i.Send (kind_of (bare_expression e)) ∷ [])) ++ sends_code p sc channel es
+
+abbrev pub receives_code : b.Program → List Scope → b.Expr → List c.Variable → List Instr
+receives_code p sc channel [] = []
+receives_code p sc channel (v ∷ vs) = (value_code p sc channel ++ (var_code p sc (bare_variable v) ++ i.Receive (type_of p (bare_variable v)) ∷ [])) ++ receives_code p sc channel vs

@@ -1,0 +1,11 @@
+//! What is proved of the definitions.
+
+ghost use Rattle.std.specs.Prelude.{◌≡◌};
+ghost use Rattle.sp_tree.specs.Plain.{Program};
+ghost use Rattle.sp_code.specs.declared.code.Parts.{Parts};
+ghost use Rattle.sp_generate.specs.Generated.{IsCodeOf};
+
+/// A program has one code.
+pub fn one_code()
+    ensures { (p : Program) (a b : Parts) → IsCodeOf p a → IsCodeOf p b → a ≡ b }
+{}

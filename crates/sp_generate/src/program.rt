@@ -1,0 +1,125 @@
+//! The code of a whole program.
+
+ghost use Rattle.std.specs.Prelude.{◌≡◌, ◌<◌, ◌↔◌, IsTrue, IfOk, OnOk, length, map};
+ghost use Rattle.sp_tree.specs.CheckedOf.{program_of, block_of};
+ghost use Rattle.sp_generate.specs.Puts.{with_blocks, layouts_in};
+ghost use Rattle.sp_generate.specs.declared.program.GenError.TheVariants.{Memory as OutOfMemory};
+ghost use Rattle.sp_varsets.specs.AreSets.{AreSets};
+ghost use Rattle.sp_generate.specs.Numbered.{numbered_code};
+ghost use Rattle.sp_generate.specs.Generated.{Answered};
+
+use crate::blocks::{layout_of, put_block};
+use crate::draft::Draft;
+use crate::ground::Ground;
+use crate::numbers::narrow;
+use crate::tabling::survey;
+use sp_base::{List, Memory};
+use sp_code::{Code, Layout, MAX_CODE, Parts};
+use sp_length::length;
+use sp_tree::Checked;
+use sp_varsets::Sets;
+use std::alloc::Global;
+use thiserror::Error;
+
+/// Why there is no code.
+#[derive(Clone, Copy, Debug, PartialEq, Eq, Error)]
+pub enum GenError {
+    /// The code would have more than 1,048,576 instructions: so many, or 4,294,967,295 where they are more.
+    #[error("code too long")]
+    TooLong(u32),
+    /// Memory was refused.
+    #[error("out of memory")]
+    Memory,
+}
+
+impl From<Memory> for GenError {
+    ghost from_gives = { λ _ e. e ≡ OutOfMemory };
+
+    fn from(_error: Memory) -> GenError {
+        GenError::Memory
+    }
+}
+
+/// All blocks, in order, and their layouts.
+fn put_blocks(g: &Ground, sets: &Sets, d: &mut Draft) -> Result<List<Layout>, Memory>
+    ensures code { OnOk result (d.new ≡ with_blocks g.now sets.now d.old 0 (map block_of g.now.checked.now.blocks)) }
+    ensures layouts { IfOk result (λ xs. xs ≡ layouts_in g.now 0 (length d.old.instrs) (map block_of g.now.checked.now.blocks)) }
+{
+    let mut out = Vec::new(g.alloc);
+    for (b, k) in g.checked.blocks.items().iter().enumerate() {
+        let number = narrow(b)?;
+        let entry = narrow(d.instrs.len())?;
+        let layout = layout_of(g, number, k, entry)?;
+        out.push(layout)?;
+        put_block(g, sets, d, number, k)?;
+    }
+    Ok(List::of(out))
+}
+
+/// The parts of a program's code.
+fn parts(alloc: Global, checked: &Checked, sets: &Sets) -> Result<Parts, Memory>
+    ensures { IfOk result (λ x. x ≡ numbered_code (program_of checked.now) sets.now) }
+{
+    let g = survey(alloc, checked)?;
+    let mut d = Draft {
+        instrs: List::new(alloc),
+        forks: List::new(alloc),
+        texts: List::new(alloc),
+    };
+    let layouts = put_blocks(&g, sets, &mut d)?;
+    let Draft {
+        instrs,
+        forks,
+        texts,
+    } = d;
+    Ok(Parts {
+        instrs,
+        layouts,
+        forks,
+        texts,
+    })
+}
+
+/// Parts as code. Parts that are too large are answered as want of memory.
+fn assembled(parts: Parts) -> Result<Code, Memory>
+    ensures { IfOk result (λ code. code ≡ parts) }
+{
+    if parts.keeps_sizes() {
+        Ok(Code::of(parts))
+    } else {
+        Err(Memory)
+    }
+}
+
+fn code_of(alloc: Global, checked: &Checked, sets: &Sets) -> Result<Code, Memory>
+    ensures { IfOk result (λ code. code ≡ numbered_code (program_of checked.now) sets.now) }
+{
+    let parts = parts(alloc, checked, sets)?;
+    assembled(parts)
+}
+
+/// Whether code has more instructions than it may have.
+fn is_too_long(instructions: u32) -> bool
+    ensures { IsTrue result ↔ (1048576 < instructions) }
+{
+    instructions as usize > MAX_CODE
+}
+
+/// The code of a checked tree, of which these are the sets.
+///
+/// A block's code stands behind that of the block before it, and has the tree's forms in order. Each process of a fork
+/// is handed the variables that its statement may change, and shares those that it only reads, but for the index of its
+/// own forall. Where the code would have more than 1,048,576 instructions nothing is built. It recurses as deep as the
+/// tree is.
+#[tactic(auto, using(crate::proofs::Limits::one_length, crate::proofs::Limits::told_within, crate::proofs::Limits::told_beyond))]
+pub fn generate(alloc: Global, checked: &Checked, sets: &Sets) -> Result<Code, GenError>
+    requires { AreSets (program_of checked.now) sets.now }
+    ensures { Answered (program_of checked.now) result }
+{
+    let n = length(checked);
+    if is_too_long(n) {
+        return Err(GenError::TooLong(n));
+    }
+    let code = code_of(alloc, checked, sets)?;
+    Ok(code)
+}
