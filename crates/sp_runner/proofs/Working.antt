@@ -1,5 +1,5 @@
 -- What a worker holds may be handed in.
-use Rattle.std.proofs.Common.{◌≡◌, ◌⊎◌, ℕ, ◌++◌, Bool, false, inl, inr, List, Option, Some, None, refl, sym, ap, ◌∙◌, subst}
+use Rattle.std.proofs.Common.{◌≡◌, ◌⊎◌, ℕ, ◌++◌, false, inl, inr, List, Option, Some, None, refl, sym, ap, ◌∙◌, subst}
 use mathlib.Core.List.{append-nil}
 use Rattle.std.specs.Option.{option_map}
 use Rattle.sp_base.specs.declared.limits.Limits.{Limits}
@@ -25,7 +25,6 @@ use Rattle.sp_kernel.specs.declared.handed.Handed.{Handed}
 use Rattle.sp_kernel.specs.declared.kernel.Kernel.{Kernel}
 use Rattle.sp_kernel.specs.declared.ask.Ask.{Ask}
 use Rattle.sp_kernel.specs.declared.ask.Ask.TheVariants as ask
-use Rattle.sp_kernel.specs.declared.ask.Got.{Got}
 use Rattle.sp_kernel.specs.declared.ask.Got.TheVariants as got
 use Rattle.sp_kernel.specs.Kernels.{control_of, system_of, setting_of}
 use Rattle.sp_kernel.specs.Fits.{IsWhole}

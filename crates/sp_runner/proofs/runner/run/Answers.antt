@@ -5,7 +5,6 @@ use Rattle.sp_code.specs.Memory.{Setting}
 use Rattle.sp_code.specs.Sound.{run_of}
 use Rattle.sp_history.specs.Holding.{IsOutputOf}
 use Rattle.sp_room.specs.Ends.{object_of, notes_of}
-use Rattle.sp_kernel.specs.declared.closed.Closed.{Closed}
 use Rattle.sp_kernel.specs.declared.kernel.Kernel.{Kernel}
 use Rattle.sp_kernel.specs.Closes.{EndIs}
 use Rattle.sp_kernel.specs.Kernels.{setting_of, system_of}

@@ -3,13 +3,12 @@ use denote.Param.Send.{param_send, arg_send}
 use Rattle.sp_base.proofs.limits.Limits.TheSendSync as limits
 use Rattle.sp_code.proofs.code.Code.TheSendSync as code
 use Rattle.sp_kernel.proofs.Crossing.{seat_send, room_sync}
-use Rattle.std.proofs.Common.{◌≡◌, ◌∙◌, sym, ap, subst, Some, None, [], slice_get, refl, length, arith, ◌<◌, ◌≤◌, ◌⊎◌, inl, inr, ℕ, List}
+use Rattle.std.proofs.Common.{◌≡◌, ◌∙◌, sym, ap, subst, Some, None, slice_get, refl, length, arith, ◌<◌, ◌≤◌}
 use Rattle.std.proofs.lemmas.Option.{slice_get_read, slice_get_within, get_or_from_slice_get}
 use Rattle.sp_room.specs.Seats.{IsSeatAt, SamePlace, seen_by, own_of}
 use Rattle.sp_room.proofs.Places.{stays_of, stays_at}
 use Rattle.sp_history.specs.Lines.{OneByOne}
 use Rattle.sp_runner.proofs.Seating.{new_seat}
-use Rattle.sp_runner.specs.Runs.{notes_of_worker}
 use Rattle.sp_runner.specs.Works.{IsRunOf, Left}
 use Rattle.sp_kernel.specs.Asks.{Steps}
 use Rattle.sp_kernel.specs.declared.kernel.Kernel.{Kernel}
