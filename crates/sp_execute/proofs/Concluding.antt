@@ -1,5 +1,5 @@
 -- What the machine gives along a journal with the code of a program is what the program means along it (`concluded`).
-use Rattle.std.proofs.Common.{◌≡◌, ◌⊎◌, inl, inr, ℕ, ◌≤◌, List, [], ◌∷◌, Option, Some, None, refl, sym, ap, ◌∙◌, subst}
+use Rattle.std.proofs.Common.{◌≡◌, ◌⊎◌, inl, inr, ℕ, ◌≤◌, List, [], ◌∷◌, Some, refl, sym, ap, ◌∙◌, subst}
 use Rattle.sp_base.specs.declared.fault.Fault.{Fault}
 use Rattle.sp_base.specs.declared.limits.TheConstants.{TURN_TICKS}
 use Rattle.sp_tree.specs.Plain.{Stmt}
@@ -32,7 +32,7 @@ use Rattle.sp_link.proofs.Endings.{program_root, program_stuck, program_fault}
 use Rattle.sp_link.proofs.Programs.{ground, program_means, program_output, program_done}
 use Rattle.sp_link.proofs.Soundness.{names_on}
 use Rattle.sp_link.proofs.Theorem.{linked_along}
-use Rattle.sp_runner.specs.Ends.{IsDone, EndsAt, Gives}
+use Rattle.sp_runner.specs.Ends.{EndsAt}
 use Rattle.sp_execute.specs.Runs.{IsRunOfCode, IsAbout}
 use Rattle.sp_execute.proofs.Waiting.{stuck}
 

@@ -1,12 +1,12 @@
 -- In the code of a program the frame of each block has room for its parameters (`have_formals`).
-use Rattle.std.proofs.Common.{◌≡◌, ◌⊎◌, inl, inr, ℕ, zero, suc, ◌+◌, ◌==◌, List, [], ◌∷◌, ◌++◌, Option, Some, None, Bool, true, false, if◌then◌else◌, slice_get, refl, sym, ap, ◌∙◌, subst, arith}
+use Rattle.std.proofs.Common.{◌≡◌, inl, inr, ℕ, zero, suc, ◌+◌, ◌==◌, List, [], ◌∷◌, ◌++◌, Option, Some, None, Bool, true, false, if◌then◌else◌, slice_get, refl, sym, ap, ◌∙◌, subst, arith}
 use Rattle.std.specs.Prelude.{map}
 use Rattle.std.specs.Option.{option_map}
 use Rattle.std.proofs.lemmas.Option.{slice_get-map}
 use Rattle.sp_tree.specs.declared.checked.Role.{Role}
 use Rattle.sp_tree.specs.declared.checked.Role.TheVariants as role
 use Rattle.sp_tree.specs.Cells.{variables_of, sizes, cells_by}
-use Rattle.sp_tree.specs.Formed.{IsFormed, is_parameter, is_answer, among, as_list}
+use Rattle.sp_tree.specs.Formed.{IsFormed, is_parameter, among, as_list}
 use Rattle.sp_tree.specs.Interference.{IsMember}
 use Rattle.sp_tree.specs.Plain.{Program, Stmt, Block, Variable}
 use Rattle.sp_code.specs.declared.code.Formal.{Formal}
@@ -65,7 +65,6 @@ module _ (p : Program) where
   passes role.Answer k e = absurd (cc e)
 
   module _ (formed : IsFormed p) (f : ℕ) (b : Block) (eb : slice_get p.blocks f ≡ Some b) where
-
     room : (x : ℕ) → IsMember x b.formals → HasRoom (formal_by p (slice_get p.variables x)) (Some (cells_of p (slice_get p.variables x)))
     room x i =
         let r = among_role p formed is_parameter x (variables_of f 0 p.variables) (are_known p formed f) (subst (λ y. IsMember x y) (formed.formals f b eb) i) in
@@ -82,7 +81,7 @@ module _ (p : Program) where
         go (Some x) a e =
             let whole : slice_get (frame_of p f) k ≡ Some x = ap (λ z. slice_get z k) (frame_is p formed f b eb) ∙ get_more (b.formals ++ as_list b.answer) (among is_local (variables_of f 0 p.variables)) k x (get_more b.formals (as_list b.answer) k x a) in
             let here : slice_get (map (λ x. cells_of p (slice_get p.variables x)) (frame_of p f)) k ≡ Some (cells_of p (slice_get p.variables x)) =
-                slice_get-map (λ x. cells_of p (slice_get p.variables x)) (frame_of p f) k ∙ ap (λ z. option_map (λ x. cells_of p (slice_get p.variables x)) z) whole in
+            slice_get-map (λ x. cells_of p (slice_get p.variables x)) (frame_of p f) k ∙ ap (λ z. option_map (λ x. cells_of p (slice_get p.variables x)) z) whole in
             subst (λ (y : Formal). HasRoom y (slice_get (map (λ x. cells_of p (slice_get p.variables x)) (frame_of p f)) k)) (some e)
             (subst (λ y. HasRoom (formal_by p (slice_get p.variables x)) y) (sym here) (room x (member_at b.formals k x a)))
 

@@ -1,5 +1,5 @@
 -- Where the system of a program's code ends in a deadlock, its waiters in order of names are all that wait in it (`stuck`).
-use Rattle.std.proofs.Common.{◌≡◌, ◌⊎◌, inl, inr, ℕ, zero, suc, ◌≤◌, List, [], ◌∷◌, ◌++◌, Option, Some, None, false, refl, sym, ap, ◌∙◌, subst}
+use Rattle.std.proofs.Common.{◌≡◌, ◌⊎◌, inl, inr, ℕ, zero, suc, ◌≤◌, List, ◌++◌, Some, None, refl, sym, ap, ◌∙◌, subst}
 use Rattle.std.specs.Prelude.{map}
 use Rattle.std.specs.List.Sorted.{IsPermutation}
 use Rattle.sp_journal.specs.declared.entry.Way.TheVariants as way
@@ -9,7 +9,7 @@ use Rattle.sp_journal.specs.Queue.{numbers}
 use Rattle.sp_journal.proofs.BirthLaws.{Lawful}
 use Rattle.sp_cell.specs.Map.{Plain}
 use Rattle.sp_meaning.specs.Ends.{Waiting, waiter_of}
-use Rattle.sp_code.specs.Control.{Control, Doing, Unborn, Ready, Out, Sending, Receiving, control_at_start}
+use Rattle.sp_code.specs.Control.{Control, Doing, Unborn, Sending, Receiving, control_at_start}
 use Rattle.sp_code.specs.Machine.{Stop, Forks, Opens, Sends, Receives, Ends, Pauses, Config}
 use Rattle.sp_code.specs.Memory.{Memory}
 use Rattle.sp_code.specs.System.{System, Condition, Absent, Runs, Waits, Joins, Laid, Gone, Over}

@@ -1,4 +1,4 @@
-use Rattle.std.proofs.Common.{◌≡◌, sym, subst}
+use Rattle.std.proofs.Common.{sym, subst}
 use Rattle.sp_code.specs.declared.code.Parts.{Parts}
 use Rattle.sp_code.specs.Sound.{IsSound, run_of}
 use Rattle.sp_kernel.specs.declared.closed.Closed.{Closed}
@@ -27,7 +27,7 @@ judge-requires g c =
       about = (
         setting p.0 c.args.input.value c.args.limits.now,
         c.conclude-concluded.ensures.about (setting p.0 c.args.input.value c.args.limits.now) p.1 p.2
-        (run_of_code c.args.code.value c.args.input.value c.args.limits.now p.0 p.1 p.2 p.3 c.args.workers c.in_ok-closed.closed c.in_ok-closed.ensures),
+            (run_of_code c.args.code.value c.args.input.value c.args.limits.now p.0 p.1 p.2 p.3 c.args.workers c.in_ok-closed.closed c.in_ok-closed.ensures),
       );
     }
 

@@ -1,8 +1,7 @@
-use Rattle.std.proofs.Common.{◌≡◌, sym, subst, IfOk}
+use Rattle.std.proofs.Common.{sym, subst, IfOk}
 use Rattle.sp_base.specs.declared.limits.TheConstants.{TURN_TICKS}
 use Rattle.sp_journal.specs.declared.entry.Journal.{Journal}
 use Rattle.sp_journal.specs.declared.outcome.End.{End}
-use Rattle.sp_journal.specs.declared.outcome.Verdict.{Verdict}
 use Rattle.sp_journal.specs.Births.{occurrences}
 use Rattle.sp_meaning.specs.Own.{Setting}
 use Rattle.sp_past.specs.Prefixes.{IsQuiet}
