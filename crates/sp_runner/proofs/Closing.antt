@@ -1,5 +1,5 @@
 -- A run that was closed is one of the definitions.
-use Rattle.std.proofs.Common.{Result, Ok, Err, ◌≡◌, ◌≢◌, ◌⊎◌, ℕ, zero, suc, ◌+◌, ◌<◌, ◌≤◌, ◌==◌, ◌||◌, nat_lt, Bool, true, false, if◌then◌else◌, List, [], ◌∷◌, length, Option, Some, None, refl, sym, ap, ◌∙◌, subst, arith}
+use Rattle.std.proofs.Common.{Result, Ok, Err, ◌≡◌, ◌≢◌, ℕ, zero, suc, ◌+◌, ◌<◌, ◌≤◌, ◌==◌, nat_lt, Bool, true, false, if◌then◌else◌, List, [], ◌∷◌, None, refl, sym, ap, ◌∙◌, subst, arith}
 use Rattle.std.specs.List.Sorted.{IsPermutation}
 use Rattle.std.specs.Result.{IfOk}
 use Rattle.sp_base.specs.declared.halt.Memory.{Memory as Error}
@@ -8,18 +8,17 @@ use Rattle.sp_journal.specs.declared.entry.Note.{Note}
 use Rattle.sp_journal.specs.declared.outcome.End.{End}
 use Rattle.sp_journal.specs.declared.outcome.End.TheVariants as end
 use Rattle.sp_journal.specs.declared.outcome.Waiter.{Waiter}
-use Rattle.sp_journal.specs.Births.{Births, births, at_start}
+use Rattle.sp_journal.specs.Births.{births, at_start}
 use Rattle.sp_journal.specs.Queue.{numbers, InTurnFrom, line_at_start}
-use Rattle.sp_code.specs.Memory.{Setting}
 use Rattle.sp_code.specs.PlainStore.{plain}
-use Rattle.sp_code.specs.Control.{Control, Doing, Unborn, Ready, Out, Sending, Receiving, Joining, Laid, Ended, Gone, control_at_start, entries_of, standing, Standing, Running as Going, IsDone as Done, IsDeadlock as Deadlock, IsFault as Fault, IsMemory as Memory, has_ended, is_ready}
-use Rattle.sp_code.specs.System.{System, IsSystem, opening}
+use Rattle.sp_code.specs.Control.{Doing, Unborn, Ready, Out, Sending, Receiving, Joining, Laid, Ended, Gone, control_at_start, entries_of, standing, Running as Going, IsDone as Done, IsDeadlock as Deadlock, IsFault as Fault, IsMemory as Memory, has_ended}
+use Rattle.sp_code.specs.System.{IsSystem, opening}
 use Rattle.sp_history.specs.Agreement.{phase, phase_in, Running, Finished}
 use Rattle.sp_history.specs.Holding.{IsOutputOf}
 use Rattle.sp_history.specs.Lines.{OneByOne}
 use Rattle.sp_history.proofs.InTurn.{first_in_first_out}
 use Rattle.sp_history.proofs.Legal.{reaches_legal}
-use Rattle.sp_room.specs.History.{notes_by, either_list}
+use Rattle.sp_room.specs.History.{either_list}
 use Rattle.sp_kernel.specs.declared.closed.Closed.{Closed}
 use Rattle.sp_kernel.specs.declared.kernel.Kernel.{Kernel}
 use Rattle.sp_kernel.specs.Kernels.{control_of, system_of, setting_of, IsKernel}

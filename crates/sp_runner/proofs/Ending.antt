@@ -1,5 +1,5 @@
 -- What stands once all workers have left.
-use Rattle.std.proofs.Common.{◌≡◌, ◌⊎◌, inl, inr, ◌+◌, ℕ, nat_lt, zero, suc, length, slice_get, ◌<◌, ◌≤◌, Bool, false, List, [], ◌∷◌, ◌++◌, Option, Some, None, ltb-false, refl, sym, ap, ◌∙◌, subst, arith}
+use Rattle.std.proofs.Common.{◌≡◌, ◌⊎◌, inl, inr, ◌+◌, ℕ, nat_lt, zero, suc, length, slice_get, ◌<◌, ◌≤◌, false, List, [], ◌∷◌, ◌++◌, Option, Some, None, ltb-false, refl, sym, ap, ◌∙◌, subst, arith}
 use Rattle.sp_journal.specs.declared.entry.Note.{Note}
 use Rattle.sp_journal.specs.declared.entry.Event.{Event}
 use Rattle.sp_code.specs.Memory.{Setting, Stores}

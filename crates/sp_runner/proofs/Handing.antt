@@ -1,10 +1,9 @@
 -- Each call of a worker gives what the one before it got.
-use Rattle.std.proofs.Common.{◌≡◌, ◌⊎◌, inl, inr, ℕ, Bool, false, List, [], ◌∷◌, ◌++◌, Option, Some, None, refl, sym, ap, ◌∙◌, subst}
+use Rattle.std.proofs.Common.{◌≡◌, ◌⊎◌, inl, inr, ℕ, false, List, [], ◌∷◌, ◌++◌, Option, Some, None, refl, sym, ap, ◌∙◌, subst}
 use Rattle.std.specs.Option.{option_map}
 use mathlib.Core.List.{append-nil}
 use Rattle.sp_journal.specs.declared.entry.Note.{Note}
 use Rattle.sp_history.specs.Lines.{OneByOne}
-use Rattle.sp_machine.specs.declared.state.State.{State as Proc}
 use Rattle.sp_room.specs.History.{noted}
 use Rattle.sp_room.specs.Roomed.{Called, Declined}
 use Rattle.sp_room.specs.declared.view.View.{View}

@@ -1,5 +1,5 @@
 -- What a worker holds may be handed in.
-use Rattle.std.proofs.Common.{◌≡◌, ◌⊎◌, ℕ, ◌++◌, Bool, false, inl, inr, List, Option, Some, None, refl, sym, ap, ◌∙◌, subst}
+use Rattle.std.proofs.Common.{◌≡◌, ◌⊎◌, ℕ, ◌++◌, false, inl, inr, List, Option, Some, None, refl, sym, ap, ◌∙◌, subst}
 use mathlib.Core.List.{append-nil}
 use Rattle.std.specs.Option.{option_map}
 use Rattle.sp_base.specs.declared.limits.Limits.{Limits}
@@ -25,7 +25,6 @@ use Rattle.sp_kernel.specs.declared.handed.Handed.{Handed}
 use Rattle.sp_kernel.specs.declared.kernel.Kernel.{Kernel}
 use Rattle.sp_kernel.specs.declared.ask.Ask.{Ask}
 use Rattle.sp_kernel.specs.declared.ask.Ask.TheVariants as ask
-use Rattle.sp_kernel.specs.declared.ask.Got.{Got}
 use Rattle.sp_kernel.specs.declared.ask.Got.TheVariants as got
 use Rattle.sp_kernel.specs.Kernels.{control_of, system_of, setting_of}
 use Rattle.sp_kernel.specs.Fits.{IsWhole}
@@ -141,13 +140,16 @@ module _ (x : Kernel) (code : Parts) (lim : Limits) (run : IsRunOf x code lim) (
 
   -- a process that was turned may be handed in
   pub may_hand_in : (own : List Note) (q : Proc) (s : Stop) → notes_of_worker w seen ≡ own → IsTurnOf p code lim q s → Stays p q → (s ≡ stop.Memory → ⊥) → MayAsk x w seen own (ask.Turn (Some (record { proc = q; stop = s })))
-  may_hand_in own q s by turned stays not = (by, record {
-    holds = holds q stays.0;
-    turn = subst (λ (g : Setting). IsTurn (memory plain g) g.code (config_of p) (turn_by s q)) (sym same_run) (by_stop s not turned).0;
-    fork = (by_stop s not turned).1;
-    input = ap (λ (i : _). i.value) stays.1 ∙ h.input;
-    whole = whole s not;
-  })
+  may_hand_in own q s by turned stays not = (
+    by,
+    record {
+      holds = holds q stays.0;
+      turn = subst (λ (g : Setting). IsTurn (memory plain g) g.code (config_of p) (turn_by s q)) (sym same_run) (by_stop s not turned).0;
+      fork = (by_stop s not turned).1;
+      input = ap (λ (i : _). i.value) stays.1 ∙ h.input;
+      whole = whole s not;
+    },
+  )
     where
       by_stop : (r : Stop) → (r ≡ stop.Memory → ⊥) → IsTurnOf p code lim q r → IsTurn (memory plain (run_of code p.input.value lim)) code (config_of p) (turn_by r q) × KeepsFork r q
       by_stop stop.Memory n t = absurd (n refl)

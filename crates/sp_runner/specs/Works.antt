@@ -1,13 +1,11 @@
 -- What a worker's loop keeps, and what is left once all workers have left.
-use Rattle.std.specs.Prelude.{◌≡◌, ◌⊎◌, ◌<◌, ◌≤◌, ℕ, List, [], ◌∷◌, Option, Some, None, false}
-use Rattle.std.specs.Option.{option_map}
+use Rattle.std.specs.Prelude.{◌≡◌, ◌⊎◌, ◌<◌, ◌≤◌, ℕ, List, [], ◌∷◌, Option, None, false}
 use Rattle.sp_base.specs.declared.limits.Limits.{Limits}
 use Rattle.sp_journal.specs.declared.entry.Note.{Note}
 use Rattle.sp_code.specs.declared.code.Parts.{Parts}
 use Rattle.sp_code.specs.Control.{control}
 use Rattle.sp_history.specs.Agreement.{IsOver}
 use Rattle.sp_history.specs.Lines.{OneByOne}
-use Rattle.sp_machine.specs.declared.state.State.{State as Proc}
 use Rattle.sp_kernel.specs.declared.kernel.Kernel.{Kernel}
 use Rattle.sp_kernel.specs.declared.ask.Ask.{Ask}
 use Rattle.sp_kernel.specs.Asks.{IsOpening, MayAsk, is_abandon, given_by}

@@ -5,7 +5,6 @@ use Rattle.sp_code.specs.Memory.{Setting}
 use Rattle.sp_code.specs.Sound.{run_of}
 use Rattle.sp_history.specs.Holding.{IsOutputOf}
 use Rattle.sp_room.specs.Ends.{object_of, notes_of}
-use Rattle.sp_kernel.specs.declared.closed.Closed.{Closed}
 use Rattle.sp_kernel.specs.declared.kernel.Kernel.{Kernel}
 use Rattle.sp_kernel.specs.Closes.{EndIs}
 use Rattle.sp_kernel.specs.Kernels.{setting_of, system_of}
@@ -20,9 +19,9 @@ returns g c =
     let log = notes_of c.in_ok-settled.settled in
     let clone : c.in_ok-try_clone.field-0.value ≡ c.args.code.value = c.in_ok-try_clone.ensures in
     let same : setting_of x ≡ run_of c.args.code.value c.args.input.value c.args.limits.now =
-        c.in_ok-kernel.ensures.setting
-        ∙ ap (λ (p : Parts). run_of p c.in_ok-root.root.input.value c.args.limits.now) clone
-        ∙ ap (λ (i : _). run_of c.args.code.value i.value c.args.limits.now) c.in_ok-root.ensures.same.1 in
+    c.in_ok-kernel.ensures.setting
+    ∙ ap (λ (p : Parts). run_of p c.in_ok-root.root.input.value c.args.limits.now) clone
+    ∙ ap (λ (i : _). run_of c.args.code.value i.value c.args.limits.now) c.in_ok-root.ensures.same.1 in
     if_closed (λ z. EndIs y z.end) (λ z. z.journal.entries ≡ entries_of log) (λ z. y.abandons ≡ 0 → (q : ℕ) × IsOutputOf (system_of y) q z.output)
     (λ z. IsRun (run_of c.args.code.value c.args.input.value c.args.limits.now) c.args.workers z)
     (λ z e j o. subst (λ (s : Setting). IsRun s c.args.workers z) same (closed_run c.args.workers x c.in_ok-kernel.ensures.opening log y c.requires.workers.0 c.in_ok-settled.ensures z e j o c.close.ensures.idle))

@@ -3,13 +3,12 @@ use denote.Param.Send.{param_send, arg_send}
 use Rattle.sp_base.proofs.limits.Limits.TheSendSync as limits
 use Rattle.sp_code.proofs.code.Code.TheSendSync as code
 use Rattle.sp_kernel.proofs.Crossing.{seat_send, room_sync}
-use Rattle.std.proofs.Common.{◌≡◌, ◌∙◌, sym, ap, subst, Some, None, [], slice_get, refl, length, arith, ◌<◌, ◌≤◌, ◌⊎◌, inl, inr, ℕ, List}
+use Rattle.std.proofs.Common.{◌≡◌, ◌∙◌, sym, ap, subst, Some, None, slice_get, refl, length, arith, ◌<◌, ◌≤◌}
 use Rattle.std.proofs.lemmas.Option.{slice_get_read, slice_get_within, get_or_from_slice_get}
 use Rattle.sp_room.specs.Seats.{IsSeatAt, SamePlace, seen_by, own_of}
 use Rattle.sp_room.proofs.Places.{stays_of, stays_at}
 use Rattle.sp_history.specs.Lines.{OneByOne}
 use Rattle.sp_runner.proofs.Seating.{new_seat}
-use Rattle.sp_runner.specs.Runs.{notes_of_worker}
 use Rattle.sp_runner.specs.Works.{IsRunOf, Left}
 use Rattle.sp_kernel.specs.Asks.{Steps}
 use Rattle.sp_kernel.specs.declared.kernel.Kernel.{Kernel}
@@ -65,13 +64,13 @@ returns g c =
     let up : y.abandons ≡ 0 = ap (λ (z : Kernel). z.abandons) (sym c.object.ensures) ∙ none_up c.object.result.now.abandons (sym c.gave_up.ensures ∙ c.if-gave_up.false) in
     record {
       ran = ran_to x c.requires.run.opening log y
-        (subst (λ (z : Kernel). Runs Steps z log y) c.in-Ok.ensures.opening c.close-settled.ensures.legal)
-        (seen_by f.0) (c.close-settled.ensures.seen 0 f.0 (ap (λ l. slice_get l 0) c.of.ensures ∙ f.1)) left up;
+          (subst (λ (z : Kernel). Runs Steps z log y) c.in-Ok.ensures.opening c.close-settled.ensures.legal)
+          (seen_by f.0) (c.close-settled.ensures.seen 0 f.0 (ap (λ l. slice_get l 0) c.of.ensures ∙ f.1)) left up;
       kept = up;
       calls = λ w l.
-        let s = at_of c.in-Ok-done.seats.items w (omega (arith, l, long, count)) in
-        let d = (c.in-Ok-done.ensures.each w s.0 (omega (arith, l, count))).1 in
-        let own : OneByOne None (own_of s.0) = subst (λ (t : RoomSeat _ _ _ _ _). OneByOne None (own_of t)) (get_or_from_slice_get c.in-Ok-done.seats.items w s.0 s.0 s.1) d.call.met.2 in
-        subst (OneByOne None) (sym (c.close-settled.ensures.own w s.0 (ap (λ l. slice_get l w) c.of.ensures ∙ s.1))) own;
+          let s = at_of c.in-Ok-done.seats.items w (omega (arith, l, long, count)) in
+          let d = (c.in-Ok-done.ensures.each w s.0 (omega (arith, l, count))).1 in
+          let own : OneByOne None (own_of s.0) = subst (λ (t : RoomSeat _ _ _ _ _). OneByOne None (own_of t)) (get_or_from_slice_get c.in-Ok-done.seats.items w s.0 s.0 s.1) d.call.met.2 in
+          subst (OneByOne None) (sym (c.close-settled.ensures.own w s.0 (ap (λ l. slice_get l w) c.of.ensures ∙ s.1))) own;
       others = λ w l. c.close-settled.ensures.others w (subst (λ n. n ≤ w) (sym (ap length c.of.ensures ∙ long ∙ count)) l);
     }

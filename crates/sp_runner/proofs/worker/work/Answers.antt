@@ -1,12 +1,11 @@
-use Rattle.std.proofs.Common.{◌≡◌, ◌⊎◌, ◌<◌, ◌∙◌, sym, ap, subst, refl, false, Option, Some, None}
+use Rattle.std.proofs.Common.{◌≡◌, ◌⊎◌, ◌<◌, ◌∙◌, sym, ap, subst, refl, false, Some}
 use Rattle.sp_code.specs.declared.code.Parts.{Parts}
 use Rattle.sp_code.specs.Sound.{HasDistinctBlocks}
 use Rattle.sp_machine.specs.Procs.{HaveFormals}
-use Rattle.sp_room.specs.Seats.{IsSeatOf, SamePlace, seat_view, number_of, seen_by, own_of, opening_of, claims_of_seat}
+use Rattle.sp_room.specs.Seats.{seat_view, own_of, opening_of}
 use Rattle.sp_room.specs.Roomed.{Called, Declined}
 use Rattle.sp_room.proofs.Places.{same_again, stays_of}
 use Rattle.sp_kernel.specs.declared.kernel.Kernel.{Kernel}
-use Rattle.sp_kernel.specs.declared.ask.Ask.{Ask}
 use Rattle.sp_kernel.specs.declared.ask.Ask.TheVariants as ask
 use Rattle.sp_kernel.specs.declared.ask.Got.{Got}
 use Rattle.sp_kernel.specs.declared.ask.Got.TheVariants as got

@@ -1,0 +1,134 @@
+-- What the machine gives along a journal with the code of a program is what the program means along it (`concluded`).
+use Rattle.std.proofs.Common.{◌≡◌, ◌⊎◌, inl, inr, ℕ, ◌≤◌, List, [], ◌∷◌, Option, Some, None, refl, sym, ap, ◌∙◌, subst}
+use Rattle.sp_base.specs.declared.fault.Fault.{Fault}
+use Rattle.sp_base.specs.declared.limits.TheConstants.{TURN_TICKS}
+use Rattle.sp_tree.specs.Plain.{Stmt}
+use Rattle.sp_journal.specs.declared.entry.Event.{Event}
+use Rattle.sp_journal.specs.declared.entry.Event.TheVariants as event
+use Rattle.sp_journal.specs.declared.entry.Entry.{Entry}
+use Rattle.sp_journal.specs.declared.outcome.End.{End}
+use Rattle.sp_journal.specs.declared.outcome.End.TheVariants as end
+use Rattle.sp_journal.specs.Births.{Births, at_start, after_event, births_from, occurrences_from, NameableFrom}
+use Rattle.sp_journal.specs.Names.{proc_name}
+use Rattle.sp_journal.proofs.BirthLaws.{Lawful}
+use Rattle.sp_journal.proofs.BirthLaws.{lawful as lawful_births}
+use Rattle.sp_cell.specs.Map.{Plain}
+use Rattle.sp_meaning.specs.Own.{Setting}
+use Rattle.sp_meaning.specs.Runs.{StateOf, output_of}
+use Rattle.sp_meaning.specs.Along.{IsAlong}
+use Rattle.sp_meaning.specs.Ends.{EndIs}
+use Rattle.sp_meaning.specs.Ends as meant
+use Rattle.sp_code.specs.Machine.{Stop, Forks, Opens, Sends, Receives, Ends, Pauses}
+use Rattle.sp_code.specs.Memory as memory
+use Rattle.sp_code.specs.PlainStore.{plain}
+use Rattle.sp_code.specs.System.{System, Condition, Absent, Runs, Waits, Joins, Laid, Gone, Over, IsSystem, Leads, store_in, opening}
+use Rattle.sp_history.specs.Agreement.{Finished, phase_in}
+use Rattle.sp_history.specs.Holding.{IsOutputOf}
+use Rattle.sp_kernel.specs.Faults.{fault_in, fault_by}
+use Rattle.sp_kernel.specs.declared.closed.Closed.{Closed}
+use Rattle.sp_link.specs.Endings.{HasFaultEntry}
+use Rattle.sp_link.specs.Premises.{IsReady, run_by}
+use Rattle.sp_link.proofs.Endings.{program_root, program_stuck, program_fault}
+use Rattle.sp_link.proofs.Programs.{ground, program_means, program_output, program_done}
+use Rattle.sp_link.proofs.Soundness.{names_on}
+use Rattle.sp_link.proofs.Theorem.{linked_along}
+use Rattle.sp_runner.specs.Ends.{IsDone, EndsAt, Gives}
+use Rattle.sp_execute.specs.Runs.{IsRunOfCode, IsAbout}
+use Rattle.sp_execute.proofs.Waiting.{stuck}
+
+-- the first fault of a journal is an entry of it
+has_fault : (es : List Entry) (p : ℕ) (f : Fault) → fault_in es ≡ Some (p, f) → HasFaultEntry es p f
+has_fault [] p f e = absurd (cc e)
+has_fault (x ∷ es) p f e = by (has_fault es p f) x.event refl e
+  where
+    one : {x y : ℕ × Fault} → Some x ≡ Some y → x ≡ y
+    one e = cc e
+
+    by : (fault_in es ≡ Some (p, f) → HasFaultEntry es p f) → (y : Event) → x.event ≡ y → fault_by x.process y (fault_in es) ≡ Some (p, f) → (x ≡ record { process = p; event = event.Fault f }) ⊎ HasFaultEntry es p f
+    by on (event.Fault h) i e = inl (λ j. record { process = (one e j).0; event = (i ∙ ap (λ (z : ℕ × Fault). event.Fault z.1) (one e)) j })
+    by on (event.Fork n) i e = inr (on e)
+    by on event.Open i e = inr (on e)
+    by on (event.Send c) i e = inr (on e)
+    by on (event.Receive c) i e = inr (on e)
+    by on event.End i e = inr (on e)
+    by on event.Laid i e = inr (on e)
+    by on event.Pause i e = inr (on e)
+
+-- what the entries have given to a system is what they give
+births_are : (g : memory.Setting) (es : List Entry) (s t : System Plain) → Leads plain g s es t → t.births ≡ births_from s.births es
+births_are g [] s t h = ap (λ (y : System Plain). y.births) h
+births_are g (e ∷ es) s t h =
+    births_are g es h.0 t h.2 ∙ ap (λ (y : System Plain). births_from y.births es) h.1.5 ∙ ap (λ y. births_from (after_event s.births e.process y) es) h.1.4
+
+module _ (g : Setting) (moves shares : Stmt → List ℕ) (pause : ℕ) (ready : IsReady g moves shares) (es : List Entry) (t : System Plain) (h : IsSystem plain (run_by g moves shares pause) es t) where
+  pub names : NameableFrom at_start es
+  names = names_on g moves shares pause ready es t h
+
+  births_here : t.births ≡ births_from at_start es
+  births_here = births_are (run_by g moves shares pause) es (opening plain (run_by g moves shares pause)) t h
+
+  lawful : Lawful t.births
+  lawful = subst (λ (b : Births). Lawful b) (sym births_here) (lawful_births es names)
+
+  unborn : (q : ℕ) → t.births.processes ≤ q → t.condition q ≡ Absent
+  unborn q l = let z = linked_along (ground g moves shares pause ready es names) ready.main ready.first es names refl t h in z.linked.unborn q l
+
+  pub means : (n : ℕ) × (s : StateOf g) × IsAlong g pause (occurrences_from at_start es) n s
+  means = program_means g moves shares pause ready es names t h
+
+  module _ (n : ℕ) (s : StateOf g) (k : IsAlong g pause (occurrences_from at_start es) n s) where
+    pub same_output : (q : ℕ) (text : List ℕ) → IsOutputOf t q text → text ≡ output_of g s
+    same_output q text o =
+        let mine = program_output g moves shares pause ready es names t h n s k in
+        let holder : mine.0 ≡ q = o.only mine.0 mine.1 (output_of g s) mine.2 mine.3 in
+        let store : Some o.store ≡ Some mine.1 = sym o.at ∙ ap (λ y. store_in (t.condition y)) (sym holder) ∙ mine.2 in
+        bytes_same text (output_of g s) (sym o.output ∙ ap (λ y. plain.output y) (store_same o.store mine.1 store) ∙ mine.3)
+      where
+        store_same : (x y : Plain) → Some x ≡ Some y → x ≡ y
+        store_same x y e = cc e
+
+        bytes_same : (x y : List ℕ) → Some x ≡ Some y → x ≡ y
+        bytes_same x y e = cc e
+
+    -- the first process has ended
+    over : phase_in (t.condition 0) ≡ Finished → meant.IsDone g s
+    over e = by (t.condition 0) refl e
+      where
+        by : (X : Condition Plain) → t.condition 0 ≡ X → phase_in X ≡ Finished → meant.IsDone g s
+        by Absent x f = absurd (cc f)
+        by (Runs d) x f = absurd (cc f)
+        by (Waits stop d) x f = absurd (waiting stop f)
+          where
+            waiting : (stop : Stop) → phase_in {S = Plain} (Waits stop d) ≡ Finished → ⊥
+            waiting (Forks tb v m) f = cc f
+            waiting (Opens a) f = cc f
+            waiting (Sends c m cs) f = cc f
+            waiting (Receives c m a) f = cc f
+            waiting Ends f = cc f
+            waiting Pauses f = cc f
+        by (Joins left d) x f = absurd (cc f)
+        by (Laid d) x f = absurd (cc f)
+        by Gone x f = absurd (program_root g moves shares pause ready es t h n s k x)
+        by (Over d) x f = program_done g moves shares pause ready es names t h n s k d x
+
+    pub same_end : (e : End) → EndsAt es t e → EndIs g s e
+    same_end end.Done d = over d.0
+    same_end (end.Deadlock ws) d = let z = stuck t lawful unborn ws d in (z.0, program_stuck g moves shares pause ready es t h n s k z.0 z.1, z.2)
+    same_end (end.Fault name f) d =
+        ((births_from at_start es).name d.0, program_fault g moves shares pause ready es t h n s k d.0 f (has_fault es d.0 f d.1), d.2 ∙ ap (λ (b : Births). proc_name (b.name d.0)) births_here)
+    same_end end.Memory d = absurd d
+
+pub concluded : (g : Setting) (moves shares : Stmt → List ℕ) (c : Closed) → IsRunOfCode g moves shares c → IsAbout g c
+concluded g moves shares c r =
+    let es = c.journal.entries in
+    let t = r.gives.system in
+    let h = r.gives.along in
+    let z = means g moves shares TURN_TICKS r.ready es t h in
+    record {
+      names = names g moves shares TURN_TICKS r.ready es t h;
+      steps = z.0;
+      state = z.1;
+      along = z.2;
+      output = same_output g moves shares TURN_TICKS r.ready es t h z.0 z.1 z.2 r.gives.output.0 c.output r.gives.output.1;
+      end = same_end g moves shares TURN_TICKS r.ready es t h z.0 z.1 z.2 c.end r.gives.end;
+    }

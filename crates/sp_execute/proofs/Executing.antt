@@ -1,0 +1,26 @@
+-- What a run of code and the verdict on it say of the program that the code is of (`run_of_code`, `executed`).
+use Rattle.std.proofs.Common.{◌≡◌, ℕ, List, subst}
+use Rattle.sp_base.specs.declared.limits.Limits.{Limits}
+use Rattle.sp_tree.specs.Interference.{IsFreeOfInterference}
+use Rattle.sp_tree.specs.Plain.{Program, Stmt}
+use Rattle.sp_journal.specs.declared.outcome.Verdict.{Verdict}
+use Rattle.sp_journal.specs.Births.{occurrences}
+use Rattle.sp_meaning.specs.Own.{Setting}
+use Rattle.sp_code.specs.declared.code.Parts.{Parts}
+use Rattle.sp_code.specs.Sound.{run_of}
+use Rattle.sp_judge.specs.Races.{IsVerdict}
+use Rattle.sp_kernel.specs.declared.closed.Closed.{Closed}
+use Rattle.sp_runner.specs.Ends.{Gives}
+use Rattle.sp_runner.specs.Runs.{IsRun}
+use Rattle.sp_execute.specs.declared.execution.Executed.{Executed}
+use Rattle.sp_execute.specs.Runs.{setting, IsCodeOf, IsRunOfCode, IsAbout, Promises, Executes}
+
+module _ (code : Parts) (input : List ℕ) (lim : Limits) (p : Program) (moves shares : Stmt → List ℕ) (is : IsCodeOf (setting p input lim) moves shares code) where
+  pub run_of_code : (workers : ℕ) (c : Closed) → IsRun (run_of code input lim) workers c → IsRunOfCode (setting p input lim) moves shares c
+  run_of_code workers c r = record {
+    ready = is.ready;
+    gives = subst (λ (x : Parts). Gives (run_of x input lim) c.journal.entries c.end c.output) is.emitted r.gives;
+  }
+
+  pub executed : (workers : ℕ) (e : Executed) → IsRun (run_of code input lim) workers e.closed → IsVerdict (occurrences e.closed.journal) e.closed.end e.verdict → Promises (setting p input lim) e.closed e.verdict → Executes (setting p input lim) workers e
+  executed workers e r v h = record { about = h.0; verdict = v; promise = h.1; in_turn = r.in_turn }

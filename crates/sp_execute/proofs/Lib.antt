@@ -1,0 +1,5 @@
+pub mod Formals
+pub mod Waiting
+pub mod Concluding
+pub mod Executing
+pub mod Judged

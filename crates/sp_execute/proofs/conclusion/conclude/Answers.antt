@@ -1,0 +1,5 @@
+use Rattle.sp_execute.proofs.Concluding.{concluded}
+use Rattle.sp_execute.proofs.conclusion.conclude.Goals as goal
+
+pub returns-clause-about : goal.returns-clause-about
+returns-clause-about c = λ g moves shares r. concluded g moves shares c.args.closed r

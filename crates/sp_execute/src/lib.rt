@@ -1,0 +1,10 @@
+//! A program from its code to its verdict: the run of its code is concluded to be one of the program, judged, and both are given.
+#![tactic(auto)]
+
+mod conclusion;
+mod execution;
+mod verdict;
+
+pub use conclusion::{Concluded, conclude};
+pub use execution::{Executed, execute};
+pub use verdict::judge;
