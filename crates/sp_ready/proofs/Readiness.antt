@@ -5,7 +5,7 @@ use Rattle.sp_base.specs.declared.limits.Limits.{Limits}
 use Rattle.sp_base.specs.declared.rule.Rule.TheVariants as rule
 use Rattle.sp_tree.specs.declared.checked.Role.TheVariants as role
 use Rattle.sp_tree.specs.declared.checked.Variable.{Variable as Placed}
-use Rattle.sp_tree.specs.Bare.{bare, bare_block}
+use Rattle.sp_tree.specs.Bare.{bare}
 use Rattle.sp_tree.specs.Formed.{IsFormed}
 use Rattle.sp_tree.specs.Interference.{IsFreeOfInterference, IsFunction, IsMember}
 use Rattle.sp_tree.specs.Plain.{Stmt, Block, Variable}
