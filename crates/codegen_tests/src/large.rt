@@ -1,7 +1,7 @@
-//! Large texts: those at the limit of code, and a chain that is deeper than a test's own stack holds.
+//! Texts at the limit of code, and beyond it.
 
 use sp_base::{Halt, Place, Refusal, Rule};
-use sp_compile::{compiled, compiled_apart};
+use sp_compile::compiled;
 use std::alloc::{AllocError, Global};
 use std::test::Fail;
 
@@ -47,20 +47,8 @@ fn longer_than_code_may_be(rt: HostRuntime) -> Result<(), Fail> {
         rule: Rule::L5,
         at: Place { line: 1, column: 1 },
     };
-    assert!(rt; matches!(compiled(rt.alloc(), &text), Err(Halt::Refused(refusal)) if refusal == too_long));
-    Ok(())
-}
-
-#[test]
-fn a_deep_chain(rt: HostRuntime) -> Result<(), Fail> {
-    let text = repeated(
-        rt.alloc(),
-        b"program g; var x: integer; begin x := 1",
-        b"+1",
-        399_999,
-        b" end.",
-    )?;
-    let made = compiled_apart(&rt, rt.alloc(), &text)?;
-    assert_eq!(rt; made.code().parts().instrs.len(), 800_002);
+    assert!(rt;
+        matches!(compiled(rt.alloc(), &text), Err(Halt::Refused(refusal)) if refusal == too_long)
+    );
     Ok(())
 }

@@ -13,22 +13,32 @@ use Rattle.sp_code.specs.Lengths.{tree_length}
 use Rattle.sp_code.specs.Listing.{listing_text}
 use Rattle.sp_varsets.specs.AreSets.{AreSets}
 use Rattle.sp_front.specs.Compiles.{BreaksAnyFirst, IsAccepted}
+use Rattle.sp_generate.specs.declared.program.GenError.{GenError}
+use Rattle.sp_generate.specs.declared.program.GenError.TheVariants as gen
 use Rattle.sp_generate.specs.Generated.{IsCodeOf}
-use Rattle.sp_compile.specs.declared.compiled.Compiled.{Compiled}
+use Rattle.sp_compile.specs.declared.phases.CompiledText.{CompiledText}
+
+-- what a text breaks whose code would be too long
+abbrev pub long_code : Refusal
+long_code = record { rule = rule.L5; at = start }
+
+abbrev pub halt_of : GenError → Halt
+halt_of (gen.TooLong n) = halt.Refused long_code
+halt_of gen.Memory = halt.Memory
 
 -- the text breaks no rule of the phases, and its code would be too long
 abbrev pub BreaksLength : List ℕ → Refusal → Type 0
-BreaksLength text r = (p : c.Program) × IsAccepted text p × (1048576 < tree_length (bare p)) × (r ≡ record { rule = rule.L5; at = start })
+BreaksLength text r = (p : c.Program) × IsAccepted text p × (1048576 < tree_length (bare p)) × (r ≡ long_code)
 
 -- the accepted tree of the text with its sets, and the code of that tree, which is no longer than code may be
-pub record Compiles (text : List ℕ) (r : Compiled) : Type 0 where
+pub record IsCompiled (text : List ℕ) (r : CompiledText) : Type 0 where
   pub accepted : IsAccepted text (program_of r.accepted.checked)
   pub sets : AreSets (program_of r.accepted.checked) r.accepted.sets
   pub short : tree_length (bare (program_of r.accepted.checked)) ≤ 1048576
   pub code : IsCodeOf (bare (program_of r.accepted.checked)) r.code
 
-abbrev pub Codes : List ℕ → Result Compiled Halt → Type 0
-Codes text (Ok r) = Compiles text r
+abbrev pub Codes : List ℕ → Result CompiledText Halt → Type 0
+Codes text (Ok r) = IsCompiled text r
 Codes text (Err (halt.Refused r)) = BreaksAnyFirst text r ⊎ BreaksLength text r
 Codes text (Err halt.Memory) = Unit {0}
 

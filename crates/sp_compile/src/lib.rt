@@ -1,8 +1,8 @@
 //! A text from its bytes to its code, in one call.
 #![tactic(auto)]
 
-mod compiled;
 mod law;
+mod phases;
 
-pub use compiled::{Compiled, compiled, compiled_apart};
 pub use law::one_listing;
+pub use phases::{CompiledText, compiled};
