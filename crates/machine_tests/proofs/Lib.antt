@@ -1,0 +1,5 @@
+pub mod Following
+pub mod Taming
+pub mod Fitting
+pub mod Forking
+pub mod Aiming

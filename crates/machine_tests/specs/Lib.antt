@@ -1,0 +1,4 @@
+pub mod Following
+pub mod Tame
+pub mod Worked
+pub mod Ends
