@@ -18,20 +18,11 @@ use Rattle.sp_judge.specs.Clocks.{clock_at, with_own, number_at, IsAsked}
 use Rattle.sp_judge.specs.Counts.{made, counts, counted_by, becomes, gives_back, mine}
 use Rattle.sp_judge.specs.Bench.{named, Waits, OfferIn, IsLast, IsLine, Holds}
 use Rattle.sp_judge.proofs.Tallies.{index_or_not, made_last, take_low, take_all}
-use Rattle.sp_judge.proofs.TableLaws.{get_set}
+use Rattle.sp_judge.proofs.TableLaws.{get_set, push_low, push_last}
 use Rattle.sp_judge.proofs.Standing.{Standing}
 use Rattle.sp_judge.proofs.Numbers.{Stays, same_process, shares_is, children_named}
 use Rattle.sp_judge.proofs.Fronts.{judged_last, counts_last, get_within, take_next, named_get, named_length}
 use Rattle.sp_judge.proofs.Fronts as front
-
-pub push_low : {X : Type 0} (xs : List X) (y : X) (i : ℕ) → i < length xs → slice_get (xs ++ y ∷ []) i ≡ slice_get xs i
-push_low [] y i l = absurd (omega arith)
-push_low (x ∷ xs) y zero l = refl
-push_low (x ∷ xs) y (suc i) l = push_low xs y i (omega arith)
-
-pub push_last : {X : Type 0} (xs : List X) (y : X) → slice_get (xs ++ y ∷ []) (length xs) ≡ Some y
-push_last [] y = refl
-push_last (x ∷ xs) y = push_last xs y
 
 low_or_at : (i n : ℕ) → i < suc n → (i < n) ⊎ (i ≡ n)
 low_or_at i n l = grind (arith)

@@ -4,6 +4,7 @@ mod Standing
 mod Chains
 mod TableLaws
 mod Numbers
+mod SharedLaws
 mod Fronts
 mod BenchLaws
 mod OfferLaws

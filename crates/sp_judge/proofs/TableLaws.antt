@@ -1,5 +1,5 @@
 -- The clocks of all processes after one of them has changed.
-use Rattle.std.proofs.Common.{◌≡◌, ◌≢◌, ⊎_elim, ℕ, zero, suc, ◌+◌, ◌<◌, Bool, true, false, cond, max, ◌&&◌, ◌==◌, nat_le, nat_lt, List, [], ◌∷◌, length, get_or, Some, slice_get, slice_set, refl, sym, ap, ◌∙◌, subst, arith, eq-eqb}
+use Rattle.std.proofs.Common.{◌≡◌, ◌≢◌, ⊎_elim, ℕ, zero, suc, ◌+◌, ◌<◌, Bool, true, false, cond, max, ◌&&◌, ◌==◌, nat_le, nat_lt, List, [], ◌∷◌, ◌++◌, length, get_or, Some, slice_get, slice_set, refl, sym, ap, ◌∙◌, subst, arith, eq-eqb}
 use Rattle.std.proofs.lemmas.Option.{slice_get-get_or}
 use Rattle.std.proofs.lemmas.Bool.Decides.{nat_tests}
 use Rattle.std.proofs.Math.Nat.{max-zero, max-eq_left, max_comm, le-max_right}
@@ -18,6 +18,15 @@ set_other (y ∷ xs) zero x zero d = absurd (d refl)
 set_other (y ∷ xs) zero x (suc p) d = refl
 set_other (y ∷ xs) (suc l) x zero d = refl
 set_other (y ∷ xs) (suc l) x (suc p) d = set_other xs l x p (λ e. d (ap suc e))
+
+pub push_low : {X : Type 0} (xs : List X) (y : X) (i : ℕ) → i < length xs → slice_get (xs ++ y ∷ []) i ≡ slice_get xs i
+push_low [] y i l = absurd (omega arith)
+push_low (x ∷ xs) y zero l = refl
+push_low (x ∷ xs) y (suc i) l = push_low xs y i (omega arith)
+
+pub push_last : {X : Type 0} (xs : List X) (y : X) → slice_get (xs ++ y ∷ []) (length xs) ≡ Some y
+push_last [] y = refl
+push_last (x ∷ xs) y = push_last xs y
 
 pub differ : (a b : ℕ) → a == b ≡ false → a ≢ b
 differ a b d e = absurd (false_true (sym d ∙ eq-eqb a b e))

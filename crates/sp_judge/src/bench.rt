@@ -10,8 +10,7 @@ ghost use Rattle.sp_race.specs.Known.{KnowsOffers, AreKnown};
 ghost use Rattle.sp_judge.specs.Clocks.{number_at};
 ghost use Rattle.sp_judge.specs.Bench.{named, last_of, then_line, offer_event, IsTame, IsPlain, IsBlank, Holds};
 
-use crate::clock::Clock;
-use crate::table::{Met, learn, meet, raise, share};
+use crate::table::{Clocks, Met};
 use sp_base::Memory;
 use sp_journal::{Entry, Event, Ledger, Way};
 use std::alloc::Global;
@@ -64,7 +63,7 @@ impl Line {
 /// each entry had made before. So far there are `next` processes.
 #[derive(Drop)]
 pub(crate) struct Bench {
-    pub(crate) clocks: Vec<Clock>,
+    pub(crate) clocks: Clocks,
     pub(crate) made: Vec<u64>,
     pub(crate) lines: Vec<Line>,
     pub(crate) places: Vec<u64>,
@@ -85,10 +84,9 @@ impl Bench {
     pub(crate) fn new(alloc: Global, processes: u64, channels: u64) -> Result<Bench, Memory>
         ensures { IfOk result (λ bench. IsBlank bench processes channels) }
     {
-        let mut clocks = Vec::new(alloc);
+        let clocks = Clocks::new(alloc, processes)?;
         let mut made = Vec::new(alloc);
         for _ in 0..processes {
-            clocks.push(Clock::new(alloc))?;
             made.push(0)?;
         }
         let mut lines = Vec::new(alloc);
@@ -115,7 +113,7 @@ impl Bench {
         ensures count { IfOk result (λ after. after ≡ number_at self.old.made.items process + 1) }
         ensures made { OnOk result (self.new.made.items ≡ slice_set self.old.made.items process (number_at self.old.made.items process + 1)) }
         ensures places { OnOk result (self.new.places.items ≡ self.old.places.items ++ number_at self.old.made.items process ∷ []) }
-        ensures clocks { self.new.clocks.items ≡ self.old.clocks.items }
+        ensures clocks { self.new.clocks ≡ self.old.clocks }
         ensures lines { self.new.lines.items ≡ self.old.lines.items }
         ensures next { self.new.next ≡ self.old.next }
     {
@@ -131,7 +129,7 @@ impl Bench {
         requires { process < length self.old.made.items }
         ensures places { OnOk result (self.new.places.items ≡ self.old.places.items ++ number_at self.old.made.items process ∷ []) }
         ensures made { self.new.made.items ≡ self.old.made.items }
-        ensures clocks { self.new.clocks.items ≡ self.old.clocks.items }
+        ensures clocks { self.new.clocks ≡ self.old.clocks }
         ensures lines { self.new.lines.items ≡ self.old.lines.items }
         ensures next { self.new.next ≡ self.old.next }
     {
@@ -152,7 +150,7 @@ impl Bench {
         ensures { OnOk result (Holds (births entries.now) until.now (take (at + 1) entries.now) self.new) }
     {
         let after = self.note(process)?;
-        raise(&mut self.clocks, until, at as u64 + 1, process, after)?;
+        self.clocks.raise(until, at as u64 + 1, process, after)?;
         Ok(())
     }
 
@@ -170,8 +168,9 @@ impl Bench {
         ensures { OnOk result (Holds (births entries.now) until.now (take (at + 1) entries.now) self.new) }
     {
         let after = self.note(process)?;
-        raise(&mut self.clocks, until, at as u64 + 1, process, after)?;
-        share(self.alloc, &mut self.clocks, process, self.next, count)?;
+        self.clocks.raise(until, at as u64 + 1, process, after)?;
+        self.clocks
+            .share(self.alloc, until, at as u64 + 1, process, self.next, count)?;
         self.next += u64::from(count);
         Ok(())
     }
@@ -192,10 +191,10 @@ impl Bench {
         ensures { OnOk result (Holds (births entries.now) until.now (take (at + 1) entries.now) self.new) }
     {
         let after = self.note(process)?;
-        raise(&mut self.clocks, until, at as u64 + 1, process, after)?;
+        self.clocks.raise(until, at as u64 + 1, process, after)?;
         match ledger.birth(process) {
             None => Ok(()),
-            Some(birth) => learn(self.alloc, &mut self.clocks, birth.parent, process),
+            Some(birth) => self.clocks.learn(self.alloc, until, at as u64 + 1, birth.parent, process),
         }
     }
 
@@ -225,9 +224,8 @@ impl Bench {
             }
             Some(other) => {
                 let theirs = one_more(other.place)?;
-                meet(
+                self.clocks.meet(
                     self.alloc,
-                    &mut self.clocks,
                     until,
                     at as u64 + 1,
                     Met {

@@ -101,7 +101,7 @@ pub(crate) fn knows_offers(
             if last.process == offer.process {
                 Ok(true)
             } else if is_asked(until, last.process, at as u64) {
-                Ok(bench.clocks[offer.process as usize].knows(last.process, last.place))
+                Ok(bench.clocks.knows(offer.process, last.process, last.place))
             } else {
                 knows_entry(bench.alloc, ledger, entries, at, offer.process, last)
             }
@@ -144,7 +144,7 @@ fn knows_entry(
     for i in 0..at {
         bench.see(ledger, entries, &until, i)?;
     }
-    Ok(bench.clocks[process as usize].knows(offer.process, offer.place))
+    Ok(bench.clocks.knows(process, offer.process, offer.place))
 }
 
 /// The last offer of this way on this channel before an index.
