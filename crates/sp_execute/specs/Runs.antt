@@ -17,7 +17,7 @@ use Rattle.sp_judge.specs.Runs.{IsRunVerdict}
 use Rattle.sp_kernel.specs.declared.closed.Closed.{Closed}
 use Rattle.sp_link.specs.Premises.{IsReady, run_by}
 use Rattle.sp_runner.specs.Ends.{Gives}
-use Rattle.sp_execute.specs.declared.execution.Executed.{Executed}
+use Rattle.sp_execute.specs.declared.execution.Ran.{Ran}
 
 -- a program on an input with limits
 abbrev pub setting : Program → List ℕ → Limits → Setting
@@ -47,7 +47,7 @@ abbrev pub Promises : Setting → Closed → Verdict → Type 0
 Promises g c v = (a : IsAbout g c) × IsRunVerdict g (occurrences c.journal) a.steps a.state c.end v
 
 -- a run of the program, with its exact verdict and what that promises
-pub record Executes (g : Setting) (workers : ℕ) (e : Executed) : Type 0 where
+pub record Executes (g : Setting) (workers : ℕ) (e : Ran) : Type 0 where
   pub about : IsAbout g e.closed
   pub verdict : IsVerdict (occurrences e.closed.journal) e.closed.end e.verdict
   pub promise : IsRunVerdict g (occurrences e.closed.journal) about.steps about.state e.closed.end e.verdict

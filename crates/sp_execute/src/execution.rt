@@ -20,7 +20,7 @@ use std::thread::Threads;
 
 /// A run of a program with the verdict on it. `execute` alone makes one.
 #[derive(Drop)]
-pub struct Executed {
+pub struct Ran {
     /// The run: its end, its journal and its output.
     pub closed: Closed,
     /// Whether its result depends on the schedule.
@@ -43,7 +43,7 @@ pub fn execute<R: Threads + Wait + Sync, G: Gate>(
     workers: u32,
     limits: &Limits,
     gate: &G,
-) -> Result<Executed, Memory>
+) -> Result<Ran, Memory>
     requires workers { (0 < workers) × (workers ≤ 64) }
     requires program { (p : Program) × (moves : Stmt → List ℕ) × (shares : Stmt → List ℕ) × IsCodeOf (setting p input.value limits.now) moves shares code.value }
     ensures run { IfOk result (λ e. IsRun (run_of code.value input.value limits.now) workers e.closed) }
@@ -53,5 +53,5 @@ pub fn execute<R: Threads + Wait + Sync, G: Gate>(
     let concluded = conclude(closed);
     let verdict = judge(alloc, &concluded)?;
     let Concluded { closed } = concluded;
-    Ok(Executed { closed, verdict })
+    Ok(Ran { closed, verdict })
 }

@@ -6,5 +6,5 @@ mod execution;
 mod verdict;
 
 pub use conclusion::{Concluded, conclude};
-pub use execution::{Executed, execute};
+pub use execution::{Ran, execute};
 pub use verdict::judge;

@@ -1,5 +1,6 @@
 -- What a call has to write, and its status.
-use Rattle.std.specs.Prelude.{ℕ, List, [], Bool, true, false, codes}
+use Rattle.std.specs.Prelude.{ℕ, List, [], Option, Some, None, Bool, true, false, codes}
+use Rattle.sp_execute.specs.declared.execution.Ran.{Ran}
 use Rattle.sp_print.specs.Lines.{refusal_text}
 use Rattle.superpascal.specs.declared.ending.Ending.{Ending}
 use Rattle.superpascal.specs.declared.ending.Ending.TheVariants as e
@@ -9,9 +10,9 @@ abbrev pub status_of : Ending → ℕ
 status_of e.Done = 0
 status_of e.Accepted = 0
 status_of (e.Refused r) = 1
-status_of e.NotBuilt = 1
 status_of e.BadWords = 2
-status_of (e.Fault f) = 3
+status_of e.Fault = 3
+status_of e.Deadlock = 4
 status_of e.ReadFault = 5
 status_of e.TooLong = 7
 status_of e.OutOfMemory = 8
@@ -19,10 +20,10 @@ status_of e.OutOfMemory = 8
 -- the answer has an output: that of a run, or the text that the command asks for, if any
 abbrev pub has_output : Ending → Bool
 has_output e.Done = true
-has_output (e.Fault f) = true
+has_output e.Deadlock = true
+has_output e.Fault = true
 has_output e.Accepted = true
 has_output (e.Refused r) = false
-has_output e.NotBuilt = false
 has_output e.BadWords = false
 has_output e.ReadFault = false
 has_output e.TooLong = false
@@ -31,22 +32,22 @@ has_output e.OutOfMemory = false
 -- the line of a call that has no output
 abbrev pub line_of : Ending → List ℕ
 line_of (e.Refused r) = refusal_text r
-line_of e.NotBuilt = codes "not built\n"
 line_of e.BadWords = codes "bad words\n"
 line_of e.ReadFault = codes "read fault\n"
 line_of e.TooLong = codes "input too long\n"
 line_of e.OutOfMemory = codes "out of memory\n"
 line_of e.Done = []
+line_of e.Deadlock = []
+line_of e.Fault = []
 line_of e.Accepted = []
-line_of (e.Fault f) = []
 
 -- the notes: those of the run or of the refusal, or a line that is the same for every text
 abbrev pub notes_by : Ending → List ℕ → List ℕ
 notes_by e.Done notes = notes
-notes_by (e.Fault f) notes = notes
+notes_by e.Deadlock notes = notes
+notes_by e.Fault notes = notes
 notes_by e.Accepted notes = notes
 notes_by (e.Refused r) notes = notes
-notes_by e.NotBuilt notes = line_of e.NotBuilt
 notes_by e.BadWords notes = line_of e.BadWords
 notes_by e.ReadFault notes = line_of e.ReadFault
 notes_by e.TooLong notes = line_of e.TooLong
@@ -54,3 +55,12 @@ notes_by e.OutOfMemory notes = line_of e.OutOfMemory
 
 abbrev pub notes_of : Answer → List ℕ
 notes_of a = notes_by a.ending a.notes
+
+-- the text that stands for the output, or else what the run wrote
+abbrev pub output_by : Option (List ℕ) → Option Ran → List ℕ
+output_by (Some text) ran = text
+output_by None (Some r) = r.closed.output
+output_by None None = []
+
+abbrev pub output_of : Answer → List ℕ
+output_of a = output_by a.output a.ran

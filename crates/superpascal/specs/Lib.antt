@@ -1,4 +1,9 @@
+pub mod Answering
 pub mod Answers
 pub mod Calls
-pub mod Phases
+pub mod Causes
+pub mod Headline
 pub mod Runs
+pub mod Statuses
+pub mod Texts
+pub mod Writing

@@ -1,43 +1,57 @@
--- What is told of a run of one process.
-use Rattle.std.specs.Prelude.{ℕ, Bool, true, false, if◌then◌else◌, List, [], ◌∷◌, ◌++◌, Option, Some, None}
-use Rattle.sp_base.specs.declared.fault.Fault.{Fault}
+-- A run of the program of a text, and what is told of it.
+use Rattle.std.specs.Prelude.{◌≡◌, ℕ, ◌≤◌, Bool, true, false, if◌then◌else◌, List, [], ◌++◌, Some, None, codes, decimal, filter, length}
+use Rattle.std.specs.List.{flat_map}
+use Rattle.sp_base.specs.declared.limits.Limits.{Limits}
 use Rattle.sp_base.specs.declared.limits.Show.{Show}
 use Rattle.sp_base.specs.declared.limits.Show.TheVariants as show
-use Rattle.sp_journal.specs.declared.entry.Event.{Event}
-use Rattle.sp_journal.specs.declared.entry.Event.TheVariants as event
+use Rattle.sp_code.specs.declared.code.Parts.{Parts}
+use Rattle.sp_code.specs.Lengths.{tree_length}
+use Rattle.sp_code.specs.Sound.{run_of}
+use Rattle.sp_execute.specs.declared.execution.Ran.{Ran}
+use Rattle.sp_execute.specs.Runs.{Executes, setting}
+use Rattle.sp_front.specs.Compiles.{IsAccepted}
+use Rattle.sp_generate.specs.Generated.{IsCodeOf}
 use Rattle.sp_journal.specs.declared.entry.Entry.{Entry}
-use Rattle.sp_journal.specs.declared.entry.Journal.{Journal}
 use Rattle.sp_journal.specs.declared.outcome.End.{End}
 use Rattle.sp_journal.specs.declared.outcome.End.TheVariants as ends
-use Rattle.sp_journal.specs.declared.outcome.Verdict.{Verdict}
-use Rattle.sp_journal.specs.declared.outcome.Verdict.TheVariants as verdict
 use Rattle.sp_journal.specs.declared.version.Version.TheVariants as version
 use Rattle.sp_journal.specs.Texts.{journal_text}
 use Rattle.sp_print.specs.Lines.{end_text, verdict_text}
+use Rattle.sp_report.specs.Telling.{is_chosen}
+use Rattle.sp_runner.specs.Runs.{IsRun}
+use Rattle.sp_tree.specs.Bare.{bare}
+use Rattle.sp_tree.specs.PlainChecked as c
+use Rattle.superpascal.specs.declared.ending.Ending.{Ending}
+use Rattle.superpascal.specs.declared.ending.Ending.TheVariants as e
+use Rattle.superpascal.specs.declared.ending.Answer.{Answer}
 
--- the one event of a root that neither forks nor opens, and computes too little to pause
-abbrev pub event_of : Option Fault → Event
-event_of None = event.End
-event_of (Some f) = event.Fault f
+-- the text has this tree, which breaks no rule, and this is its code
+pub record HasCode (text : List ℕ) (tree : c.Program) (code : Parts) : Type 0 where
+  pub accepted : IsAccepted text tree
+  pub short : tree_length (bare tree) ≤ 1048576
+  pub code : IsCodeOf (bare tree) code
 
-abbrev pub journal_of : Option Fault → Journal
-journal_of fault = record { entries = record { process = 0; event = event_of fault } ∷ [] }
+-- A run of the text's program on the input with the limits, by so many workers: a run of its code, in which the meaning of the
+-- program along the journal is defined, with that output and that end, and with its exact verdict and what that promises.
+pub record IsRunOf (text input : List ℕ) (workers : ℕ) (limits : Limits) (r : Ran) : Type 0 where
+  pub tree : c.Program
+  pub code : Parts
+  pub has : HasCode text tree code
+  pub run : IsRun (run_of code input limits) workers r.closed
+  pub meant : Executes (setting (bare tree) input limits) workers r
 
-abbrev pub end_of : Option Fault → End
-end_of None = ends.Done
-end_of (Some f) = ends.Fault (record { pairs = [] }) f
+-- the end of a run is told by this ending of the call
+abbrev pub ending_of : End → Ending
+ending_of ends.Done = e.Done
+ending_of (ends.Deadlock ws) = e.Deadlock
+ending_of (ends.Fault p f) = e.Fault
+ending_of ends.Memory = e.OutOfMemory
 
--- a journal without offers is ordered, and a run that ends in a fault is not judged
-abbrev pub verdict_of : Option Fault → Verdict
-verdict_of None = verdict.Ordered
-verdict_of (Some f) = verdict.Unjudged
+-- ---- texts
 
 -- the text of the chosen reports over entries
 abbrev pub Reports : Type 0
 Reports = Show → List Entry → List ℕ
-
-abbrev pub told_notes : Reports → Show → Option Fault → List ℕ
-told_notes reports s fault = end_text (end_of fault) ++ verdict_text (verdict_of fault) ++ reports s (journal_of fault).entries
 
 abbrev pub is_journal : Show → Bool
 is_journal show.Journal = true
@@ -48,6 +62,26 @@ is_journal show.Tree = false
 is_journal show.Waiting = false
 is_journal show.All = false
 
+-- the lines of the end and of the verdict
+abbrev pub end_lines : Ran → List ℕ
+end_lines r = end_text r.closed.end ++ verdict_text r.verdict
+
 -- the journal alone, or the end, the verdict and the reports
-abbrev pub run_notes : Reports → Show → Option Fault → List ℕ
-run_notes reports s fault = if is_journal s then journal_text version.Two (journal_of fault) else told_notes reports s fault
+abbrev pub run_notes : Reports → Show → Ran → List ℕ
+run_notes reports s r = if is_journal s then journal_text version.Two r.closed.journal else end_lines r ++ reports s r.closed.journal.entries
+
+-- the output of `gen`
+abbrev pub generated_output : ℕ → Ran → List ℕ
+generated_output size r =
+    codes "size " ++ decimal size ++ codes "\noutput " ++ r.closed.output
+    ++ codes "\nentries " ++ decimal (length r.closed.journal.entries) ++ codes "\n" ++ end_lines r
+
+-- ---- answers
+
+-- the answer of `run` with this run
+abbrev pub run_answer : Reports → Show → Ran → Answer
+run_answer reports s r = record { ending = ending_of r.closed.end; ran = Some r; output = None; notes = run_notes reports s r }
+
+-- the answer of `gen` with this run
+abbrev pub generated_answer : ℕ → Ran → Answer
+generated_answer size r = record { ending = ending_of r.closed.end; ran = Some r; output = Some (generated_output size r); notes = [] }

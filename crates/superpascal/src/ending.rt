@@ -1,25 +1,26 @@
 //! How a call ends, and what it has to write.
 
 ghost use Rattle.std.specs.Prelude.{◌≡◌};
-ghost use Rattle.superpascal.specs.Answers.{has_output, notes_by, status_of};
+ghost use Rattle.superpascal.specs.Answers.{has_output, notes_by, output_of, status_of};
 
-use sp_base::{Fault, Refusal, Text};
+use sp_base::{Refusal, Text};
+use sp_execute::Ran;
 
 /// How a call ends.
 #[derive(Clone, Copy)]
 pub enum Ending {
-    /// The run ended.
+    /// The run ended done.
     Done,
+    /// The run ended in a deadlock.
+    Deadlock,
+    /// A fault ended the run.
+    Fault,
     /// The command has answered from the text alone.
     Accepted,
     /// The text breaks this rule first.
     Refused(Refusal),
-    /// The command or the form of the text is not built, or the run meets a limit.
-    NotBuilt,
     /// The words are refused.
     BadWords,
-    /// The fault ended the run.
-    Fault(Fault),
     /// The library or the source failed.
     ReadFault,
     /// The input is longer than the limit.
@@ -28,13 +29,14 @@ pub enum Ending {
     OutOfMemory,
 }
 
-/// All that a call has to write. Where a program has run the notes are those of the run, where a text is refused the
-/// line of the refusal, and where a command has answered from the text alone its own; else they are a line, and what
-/// stands here for them is empty.
+/// All that a call has to write, and what it gives back. Where a program has run, its output is that of the run unless
+/// another text stands here for it; the notes are those of the command, where a text is refused the line of the refusal;
+/// else they are a line, and what stands here for them is empty.
 #[derive(Drop)]
 pub struct Answer {
     pub ending: Ending,
-    pub output: Text,
+    pub ran: Option<Ran>,
+    pub output: Option<Text>,
     pub notes: Text,
 }
 
@@ -45,9 +47,10 @@ impl Ending {
     {
         match self {
             Ending::Done | Ending::Accepted => 0,
-            Ending::Refused(_) | Ending::NotBuilt => 1,
+            Ending::Refused(_) => 1,
             Ending::BadWords => 2,
-            Ending::Fault(_) => 3,
+            Ending::Fault => 3,
+            Ending::Deadlock => 4,
             Ending::ReadFault => 5,
             Ending::TooLong => 7,
             Ending::OutOfMemory => 8,
@@ -58,17 +61,36 @@ impl Ending {
     pub fn has_output(self) -> bool
         ensures { result ≡ has_output self }
     {
-        matches!(self, Ending::Done | Ending::Fault(_) | Ending::Accepted)
+        matches!(
+            self,
+            Ending::Done | Ending::Deadlock | Ending::Fault | Ending::Accepted
+        )
     }
 }
 
-/// The notes with this ending, where these are those of the run or of the refusal.
+impl Answer {
+    /// The bytes for the output.
+    pub fn output(&self) -> &[u8]
+        ensures { result.now ≡ output_of self.now }
+    {
+        match (&self.output, &self.ran) {
+            (Some(text), _) => text.bytes(),
+            (None, Some(ran)) => ran.closed.output().bytes(),
+            (None, None) => b"",
+        }
+    }
+}
+
+/// The notes with this ending, where these are those of the command or of the refusal.
 pub fn notes_by<'a>(ending: Ending, notes: &'a [u8]) -> &'a [u8]
     ensures { result.now ≡ notes_by ending notes.now }
 {
     match ending {
-        Ending::Done | Ending::Fault(_) | Ending::Accepted | Ending::Refused(_) => notes,
-        Ending::NotBuilt => b"not built\n",
+        Ending::Done
+        | Ending::Deadlock
+        | Ending::Fault
+        | Ending::Accepted
+        | Ending::Refused(_) => notes,
         Ending::BadWords => b"bad words\n",
         Ending::ReadFault => b"read fault\n",
         Ending::TooLong => b"input too long\n",

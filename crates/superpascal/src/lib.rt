@@ -1,9 +1,15 @@
-//! The top call: from words, a library and a source, two sinks and watchers to a status.
+//! The top call: from words, a library and a source, two sinks, a gate and watchers to a status and the run.
 #![tactic(auto)]
 
+mod answers;
 mod ending;
 mod notes;
-mod phases;
+mod outcome;
+mod runs;
+mod texts;
 mod top;
+mod writing;
 
-pub use top::{Outcome, superpascal};
+pub use outcome::Outcome;
+pub use sp_execute::Ran;
+pub use top::superpascal;

@@ -1,15 +1,31 @@
-//! What is told of a run of one process.
+//! What is told of a run.
 
-ghost use Rattle.std.specs.Prelude.{◌≡◌, [], All, IfOk, filter};
+ghost use Rattle.std.specs.Prelude.{◌≡◌, ◌++◌, [], All, IfOk, OnOk, filter};
 ghost use Rattle.std.specs.List.{flat_map};
+ghost use Rattle.sp_print.specs.Lines.{HasLines};
 ghost use Rattle.sp_report.specs.Telling.{is_chosen};
-ghost use Rattle.superpascal.specs.Runs.{end_of, event_of, is_journal, journal_of, run_notes, told_notes, verdict_of};
+ghost use Rattle.superpascal.specs.Answering.{IsTellable};
+ghost use Rattle.superpascal.specs.Runs.{end_lines, ending_of, generated_output, is_journal, run_notes};
 
-use sp_base::{Fault, List, Memory, ProcName, Show, Text};
-use sp_journal::{End, Entry, Event, Journal, Verdict, print_journal};
-use sp_print::{end_lines, verdict_line};
+use crate::ending::Ending;
+use sp_base::{Memory, Show, Text, put_decimal};
+use sp_execute::Ran;
+use sp_journal::{End, print_journal};
+use sp_print::verdict_line;
 use sp_report::{Watcher, tell};
 use std::alloc::Global;
+
+/// What the end of a run is for the call.
+pub(crate) fn ending_of(end: &End) -> Ending
+    ensures { result ≡ ending_of end.now }
+{
+    match end {
+        End::Done => Ending::Done,
+        End::Deadlock(_) => Ending::Deadlock,
+        End::Fault { .. } => Ending::Fault,
+        End::Memory => Ending::OutOfMemory,
+    }
+}
 
 fn is_journal(show: Show) -> bool
     ensures { result ≡ is_journal show }
@@ -17,85 +33,66 @@ fn is_journal(show: Show) -> bool
     matches!(show, Show::Journal)
 }
 
-fn event_of(fault: Option<Fault>) -> Event
-    ensures { result ≡ event_of fault }
+// The lines of the end and of the verdict.
+fn end_lines(alloc: Global, ran: &Ran) -> Result<Vec<u8>, Memory>
+    requires { HasLines ran.now.closed.end }
+    ensures { IfOk result (λ text. text.items ≡ end_lines ran.now) }
 {
-    match fault {
-        Some(fault) => Event::Fault(fault),
-        None => Event::End,
-    }
+    let mut text = sp_print::end_lines(alloc, ran.closed.end())?;
+    let verdict = verdict_line(alloc, &ran.verdict)?;
+    text.extend_from_slice(verdict.as_slice())?;
+    Ok(text)
 }
 
-fn journal_of(alloc: Global, fault: Option<Fault>) -> Result<Journal, Memory>
-    ensures { IfOk result (λ journal. journal ≡ journal_of fault) }
-{
-    let mut entries = List::new(alloc);
-    entries.push(Entry {
-        process: 0,
-        event: event_of(fault),
-    })?;
-    Ok(Journal { entries })
-}
-
-fn end_of(alloc: Global, fault: Option<Fault>) -> End
-    ensures { result ≡ end_of fault }
-{
-    match fault {
-        Some(fault) => End::Fault {
-            process: ProcName {
-                pairs: List::new(alloc),
-            },
-            fault,
-        },
-        None => End::Done,
-    }
-}
-
-fn verdict_of(fault: Option<Fault>) -> Verdict
-    ensures { result ≡ verdict_of fault }
-{
-    match fault {
-        Some(_) => Verdict::Unjudged,
-        None => Verdict::Ordered,
-    }
-}
-
-/// The end, the verdict and the chosen reports of a run that ended with this fault, or with none.
+// The end, the verdict and the chosen reports.
 fn told_notes(
     alloc: Global,
     watchers: Vec<Box<dyn Watcher>>,
     show: Show,
-    fault: Option<Fault>,
-) -> Result<Text, Memory>
-    requires { All (λ w. told w ≡ []) watchers.items }
-    ensures { IfOk result (λ notes. notes ≡ told_notes
-        (λ s es. flat_map (λ w. text w es) (filter (λ w. is_chosen s (title w)) watchers.items)) show fault) }
+    ran: &Ran,
+) -> Result<Vec<u8>, Memory>
+    requires fresh { All (λ w. told w ≡ []) watchers.items }
+    requires tellable { IsTellable ran.now }
+    ensures { IfOk result (λ notes. notes.items
+        ≡ end_lines ran.now ++ flat_map (λ w. text w ran.now.closed.journal.entries) (filter (λ w. is_chosen show (title w)) watchers.items)) }
 {
-    let journal = journal_of(alloc, fault)?;
-    let end = end_of(alloc, fault);
-    let verdict = verdict_line(alloc, &verdict_of(fault))?;
-    let reports = tell(alloc, watchers, &journal, show)?;
-    let mut notes = end_lines(alloc, &end)?;
-    notes.extend_from_slice(verdict.as_slice())?;
+    let mut notes = end_lines(alloc, ran)?;
+    let reports = tell(alloc, watchers, ran.closed.journal(), show)?;
     notes.extend_from_slice(reports.as_slice())?;
-    Ok(Text::of(notes))
+    Ok(notes)
 }
 
-/// The notes of a run that ended with this fault, or with none: the journal, or the end, the verdict and the chosen
-/// reports.
-pub fn run_notes(
+/// The notes of `run`: the journal, or the end, the verdict and the chosen reports.
+pub(crate) fn run_notes(
     alloc: Global,
     watchers: Vec<Box<dyn Watcher>>,
     show: Show,
-    fault: Option<Fault>,
-) -> Result<Text, Memory>
-    requires { All (λ w. told w ≡ []) watchers.items }
-    ensures { IfOk result (λ notes. notes ≡ run_notes
-        (λ s es. flat_map (λ w. text w es) (filter (λ w. is_chosen s (title w)) watchers.items)) show fault) }
+    ran: &Ran,
+) -> Result<Vec<u8>, Memory>
+    requires fresh { All (λ w. told w ≡ []) watchers.items }
+    requires tellable { IsTellable ran.now }
+    ensures { IfOk result (λ notes. notes.items
+        ≡ run_notes (λ s es. flat_map (λ w. text w es) (filter (λ w. is_chosen s (title w)) watchers.items)) show ran.now) }
 {
     if is_journal(show) {
-        let journal = journal_of(alloc, fault)?;
-        return Ok(Text::of(print_journal(alloc, &journal)?));
+        return print_journal(alloc, ran.closed.journal());
     }
-    told_notes(alloc, watchers, show, fault)
+    told_notes(alloc, watchers, show, ran)
+}
+
+/// The output of `gen`: the size, the output of the run, the number of its entries, its end and its verdict.
+pub(crate) fn generated_output(alloc: Global, size: u32, ran: &Ran) -> Result<Vec<u8>, Memory>
+    requires { IsTellable ran.now }
+    ensures { IfOk result (λ text. text.items ≡ generated_output size ran.now) }
+{
+    let mut text = Vec::from_slice(alloc, b"size ")?;
+    put_decimal(&mut text, size as u64)?;
+    text.extend_from_slice(b"\noutput ")?;
+    text.extend_from_slice(ran.closed.output().bytes())?;
+    text.extend_from_slice(b"\nentries ")?;
+    put_decimal(&mut text, ran.closed.journal().entries.len() as u64)?;
+    text.extend_from_slice(b"\n")?;
+    let lines = end_lines(alloc, ran)?;
+    text.extend_from_slice(lines.as_slice())?;
+    Ok(text)
 }

@@ -1,0 +1,93 @@
+-- What the parts of a call answer, before it is told apart by commands.
+use Rattle.std.specs.Prelude.{◌≡◌, ◌⊎◌, ℕ, ◌≤◌, List, IfSome, Result, Ok, Err, length}
+use Rattle.sp_base.specs.declared.halt.Halt.{Halt}
+use Rattle.sp_base.specs.declared.halt.Halt.TheVariants as halt
+use Rattle.sp_base.specs.declared.halt.Refusal.{Refusal}
+use Rattle.sp_base.specs.declared.limits.Limits.{Limits}
+use Rattle.sp_base.specs.declared.limits.Show.{Show}
+use Rattle.sp_base.specs.declared.rule.Rule.TheVariants as rule
+use Rattle.sp_execute.specs.declared.execution.Ran.{Ran}
+use Rattle.sp_gen.specs.Generated.{generated_text}
+use Rattle.sp_journal.specs.Births.{IsNameable}
+use Rattle.sp_outside.specs.Counts.{Rose}
+use Rattle.sp_outside.specs.Told.{IsAtEnd}
+use Rattle.sp_outside.specs.declared.failed.LoadError.{LoadError}
+use Rattle.sp_outside.specs.declared.failed.LoadError.TheVariants as load
+use Rattle.sp_print.specs.Lines.{HasLines}
+use Rattle.sp_tree.specs.Places.{start}
+use Rattle.sp_words.specs.declared.command.Command.{Command}
+use Rattle.superpascal.specs.declared.ending.Ending.TheVariants as e
+use Rattle.superpascal.specs.declared.ending.Answer.{Answer}
+use Rattle.superpascal.specs.Causes.{Due, Files, HasGenerated, HasMade, IsNotLoaded, IsRefusedFor, IsTold, IsTooLong, IsUntouched, ReadsAfterRules, Stream, accepted, refused, silent}
+use Rattle.superpascal.specs.Runs.{IsRunOf, Reports, generated_answer, run_answer}
+use Rattle.superpascal.specs.Texts.{Asked, Breaks, BreaksOne, KeepsAll, Makes, asks}
+
+-- the answer to a text that breaks this rule first, or want of memory
+abbrev pub Refuses : Refusal → Answer → Type 0
+Refuses r a = (a ≡ refused r) ⊎ (a ≡ silent e.OutOfMemory)
+
+-- what a text breaks that is longer than a text may be
+abbrev pub too_long : Refusal
+too_long = record { rule = rule.L1; at = start }
+
+-- the answer to a text that the library does not give
+abbrev pub unloaded : LoadError → Answer → Type 0
+unloaded load.TooLong a = Refuses too_long a
+unloaded load.Failed a = a ≡ silent e.ReadFault
+unloaded load.Memory a = a ≡ silent e.OutOfMemory
+
+-- what a command makes of a text, or why it makes nothing
+abbrev pub IsMade : Command → List ℕ → Result Answer Halt → Type 0
+IsMade c text (Ok a) = (out line : List ℕ) × Makes c text out line × (a ≡ accepted out line)
+IsMade c text (Err (halt.Refused r)) = Breaks c text r
+IsMade c text (Err halt.Memory) = Unit {0}
+
+-- the answer of a command that answers from the text alone
+abbrev pub TextCause : Files → Command → Answer → Type 0
+TextCause f c a = HasMade f c a ⊎ (IsRefusedFor f c a ⊎ (IsNotLoaded f c a ⊎ (a ≡ silent e.OutOfMemory)))
+
+-- the run can be told: its journal gives names, and it did not end by want of memory
+abbrev pub IsTellable : Ran → Type 0
+IsTellable r = IsNameable r.closed.journal × HasLines r.closed.end
+
+-- how a run is told by `run`, or want of memory
+abbrev pub RanAnswer : Reports → Show → Ran → Answer → Type 0
+RanAnswer reports show r a = (a ≡ run_answer reports show r) ⊎ (a ≡ silent e.OutOfMemory)
+
+-- how a run is told by `gen`, or want of memory
+abbrev pub GeneratedAnswer : ℕ → Ran → Answer → Type 0
+GeneratedAnswer size r a = (a ≡ generated_answer size r) ⊎ (a ≡ silent e.OutOfMemory)
+
+-- what comes of the code of a text on an input
+abbrev pub CodeAnswer : Reports → Show → ℕ → Limits → List ℕ → List ℕ → Answer → Type 0
+CodeAnswer reports show workers limits text input a = ((r : Ran) × IsRunOf text input workers limits r × RanAnswer reports show r a) ⊎ (a ≡ silent e.OutOfMemory)
+
+-- a run on the input that the source gives
+pub record RunsOnInput (s : Stream) (reports : Reports) (show : Show) (workers : ℕ) (limits : Limits) (text : List ℕ) (a : Answer) : Type 0 where
+  pub input : List ℕ
+  pub ran : Ran
+  pub read : IsTold s.left input
+  pub fits : length input ≤ 16777216
+  pub at_end : IsAtEnd s.left'
+  pub is_run : IsRunOf text input workers limits ran
+  pub answer : a ≡ run_answer reports show ran
+
+-- what comes of it on the input that the source gives
+abbrev pub InputAnswer : Stream → Reports → Show → ℕ → Limits → List ℕ → Answer → Type 0
+InputAnswer s reports show workers limits text a =
+    RunsOnInput s reports show workers limits text a
+    ⊎ ((Rose s.before s.after × (a ≡ silent e.ReadFault)) ⊎ ((IfSome s.left IsTooLong × (a ≡ silent e.TooLong)) ⊎ (a ≡ silent e.OutOfMemory)))
+
+-- what comes of a text
+abbrev pub RunAnswer : Stream → Reports → Show → ℕ → Limits → List ℕ → Answer → Type 0
+RunAnswer s reports show workers limits text a =
+    (KeepsAll text × InputAnswer s reports show workers limits text a)
+    ⊎ (IsUntouched s × (((r : Refusal) × BreaksOne text r × Refuses r a) ⊎ (a ≡ silent e.OutOfMemory)))
+
+-- what comes of words that ask for a command
+abbrev pub CommandCause : Files → Stream → Reports → Command → Answer → Type 0
+CommandCause f s reports c a = Due f s reports c a × ReadsAfterRules f s c
+
+-- what comes of a generated text
+abbrev pub GeneratedCause : ℕ → ℕ → Answer → Type 0
+GeneratedCause size workers a = HasGenerated size workers a ⊎ (((r : Refusal) × BreaksOne (generated_text size) r × Refuses r a) ⊎ (a ≡ silent e.OutOfMemory))

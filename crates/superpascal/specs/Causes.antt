@@ -1,0 +1,138 @@
+-- What a call finds outside, and why an answer is due.
+use Rattle.std.specs.Prelude.{◌≡◌, ◌⊎◌, ℕ, ◌<◌, ◌≤◌, List, [], Option, Some, None, IfSome, length}
+use Rattle.sp_base.specs.declared.halt.Refusal.{Refusal}
+use Rattle.sp_gen.specs.Generated.{generated_text}
+use Rattle.sp_execute.specs.declared.execution.Ran.{Ran}
+use Rattle.sp_outside.specs.Counts.{Rose}
+use Rattle.sp_outside.specs.Told.{IsAtEnd}
+use Rattle.sp_print.specs.Lines.{refusal_text}
+use Rattle.sp_words.specs.Ranges.{default_limits}
+use Rattle.sp_words.specs.declared.command.Command.{Command}
+use Rattle.sp_words.specs.declared.command.Command.TheVariants as command
+use Rattle.superpascal.specs.declared.ending.Ending.{Ending}
+use Rattle.superpascal.specs.declared.ending.Ending.TheVariants as e
+use Rattle.superpascal.specs.declared.ending.Answer.{Answer}
+use Rattle.superpascal.specs.Runs.{IsRunOf, Reports, generated_answer, run_answer}
+use Rattle.superpascal.specs.Texts.{Asked, Breaks, IsAbout, KeepsAll, Makes, asks, text_of}
+
+-- ---- the outside
+
+-- what a library holds under each name, where it tells it, and the counts of its faults before and after the call
+pub record Files : Type 0 where
+  pub held : List ℕ → Option (List ℕ)
+  pub before : List ℕ → ℕ
+  pub after : List ℕ → ℕ
+
+abbrev pub files : (List ℕ → Option (List ℕ)) → (List ℕ → ℕ) → (List ℕ → ℕ) → Files
+files held before after = record { held = held; before = before; after = after }
+
+-- what a source has left, where it tells it, before and after the call, and its counts of faults
+pub record Stream : Type 0 where
+  pub left : Option (List ℕ)
+  pub left' : Option (List ℕ)
+  pub before : ℕ
+  pub after : ℕ
+
+abbrev pub stream : Option (List ℕ) → Option (List ℕ) → ℕ → ℕ → Stream
+stream left left' before after = record { left = left; left' = left'; before = before; after = after }
+
+-- nothing was read
+abbrev pub IsUntouched : Stream → Type 0
+IsUntouched s = (s.left' ≡ s.left) × (s.after ≡ s.before)
+
+-- the text is what is told, where it is told
+abbrev pub IsTold : Option (List ℕ) → List ℕ → Type 0
+IsTold told text = IfSome told (λ all. text ≡ all)
+
+-- more input than is read
+abbrev pub IsTooLong : List ℕ → Type 0
+IsTooLong input = 16777216 < length input
+
+-- ---- answers
+
+-- an answer without an output
+abbrev pub silent : Ending → Answer
+silent ending = record { ending = ending; ran = None; output = None; notes = [] }
+
+-- the answer of a command that answers from the text alone
+abbrev pub accepted : List ℕ → List ℕ → Answer
+accepted out line = record { ending = e.Accepted; ran = None; output = Some out; notes = line }
+
+-- the answer to a text that breaks this rule first
+abbrev pub refused : Refusal → Answer
+refused r = record { ending = e.Refused r; ran = None; output = None; notes = refusal_text r }
+
+-- ---- causes
+
+-- the program of the text has run on the whole input, and this is the answer
+pub record HasRun (f : Files) (s : Stream) (reports : Reports) (asked : Asked) (a : Answer) : Type 0 where
+  pub text : List ℕ
+  pub input : List ℕ
+  pub ran : Ran
+  pub loaded : IsTold (f.held asked.file) text
+  pub read : IsTold s.left input
+  pub fits : length input ≤ 16777216
+  pub at_end : IsAtEnd s.left'
+  pub is_run : IsRunOf text input asked.workers asked.limits ran
+  pub answer : a ≡ run_answer reports asked.show ran
+
+-- the generated program of this size has run on no input, and this is the answer
+pub record HasGenerated (size workers : ℕ) (a : Answer) : Type 0 where
+  pub ran : Ran
+  pub is_run : IsRunOf (generated_text size) [] workers default_limits ran
+  pub answer : a ≡ generated_answer size ran
+
+-- the command makes this answer of its text
+pub record HasMade (f : Files) (c : Command) (a : Answer) : Type 0 where
+  pub text : List ℕ
+  pub loaded : IsTold (text_of f.held c) text
+  pub output : List ℕ
+  pub line : List ℕ
+  pub makes : Makes c text output line
+  pub answer : a ≡ accepted output line
+
+-- the text of the command breaks a rule first
+pub record IsRefusedFor (f : Files) (c : Command) (a : Answer) : Type 0 where
+  pub refusal : Refusal
+  pub breaks : IfSome (text_of f.held c) (λ text. Breaks c text refusal)
+  pub answer : a ≡ refused refusal
+
+-- the library failed under the name of the text
+pub record IsNotLoaded (f : Files) (c : Command) (a : Answer) : Type 0 where
+  pub name : List ℕ
+  pub about : IsAbout c name
+  pub rose : Rose (f.before name) (f.after name)
+  pub answer : a ≡ silent e.ReadFault
+
+-- the source failed, of a text that breaks no rule
+pub record IsNotRead (f : Files) (s : Stream) (asked : Asked) (a : Answer) : Type 0 where
+  pub kept : IfSome (f.held asked.file) KeepsAll
+  pub rose : Rose s.before s.after
+  pub answer : a ≡ silent e.ReadFault
+
+-- the source gave too much, for a text that breaks no rule
+pub record IsTooMuch (f : Files) (s : Stream) (asked : Asked) (a : Answer) : Type 0 where
+  pub kept : IfSome (f.held asked.file) KeepsAll
+  pub long : IfSome s.left IsTooLong
+  pub answer : a ≡ silent e.TooLong
+
+-- Why an answer to a command is due.
+pub data Due (f : Files) (s : Stream) (reports : Reports) (c : Command) (a : Answer) : Type 0 where
+  by_run : (asked : Asked) → c ≡ asks asked → HasRun f s reports asked a → Due f s reports c a
+  by_generated : (size workers : ℕ) → c ≡ command.Gen size workers → HasGenerated size workers a → Due f s reports c a
+  by_text : HasMade f c a → Due f s reports c a
+  by_rule : IsRefusedFor f c a → Due f s reports c a
+  by_library : IsNotLoaded f c a → Due f s reports c a
+  by_source : (asked : Asked) → c ≡ asks asked → IsNotRead f s asked a → Due f s reports c a
+  by_length : (asked : Asked) → c ≡ asks asked → IsTooMuch f s asked a → Due f s reports c a
+  by_memory : a ≡ silent e.OutOfMemory → Due f s reports c a
+
+-- the source is touched by `run` alone, and only where its text breaks no rule
+abbrev pub ReadsAfterRules : Files → Stream → Command → Type 0
+ReadsAfterRules f s c = IsUntouched s ⊎ ((asked : Asked) × (c ≡ asks asked) × IfSome (f.held asked.file) KeepsAll)
+
+-- Why an answer to words is due: they are refused, or memory was wanting for them, or they ask for a command.
+pub data Cause (f : Files) (s : Stream) (reports : Reports) (words : Option Command) (a : Answer) : Type 0 where
+  by_words : words ≡ None → a ≡ silent e.BadWords → IsUntouched s → Cause f s reports words a
+  before_words : a ≡ silent e.OutOfMemory → IsUntouched s → Cause f s reports words a
+  by_command : (c : Command) → words ≡ Some c → Due f s reports c a → ReadsAfterRules f s c → Cause f s reports words a

@@ -1,0 +1,43 @@
+-- The headline of the program, for its command `run`.
+--
+-- For all program bytes, input and worker counts: the text is refused exactly where a written rule is broken; in no schedule
+-- does a process write what a parallel one uses; what a run prints and how it ends is what the source meaning gives along its
+-- journal; and a run that is reported `ordered` ends, in every schedule, with that output and that end, after equally many steps.
+--
+-- The bytes of the program and the input are those that the library and the source tell when the call begins. Where they are not
+-- told, as by files and streams of the system, nothing is said of contents.
+use Rattle.std.specs.Prelude.{◌≡◌, ◌≢◌, ◌⊎◌, ℕ, List, Some}
+use Rattle.sp_base.specs.declared.halt.Refusal.{Refusal}
+use Rattle.sp_execute.specs.declared.execution.Ran.{Ran}
+use Rattle.sp_execute.specs.Runs.{Executes, setting}
+use Rattle.sp_front.specs.Checks.{IsProgramOf}
+use Rattle.sp_print.specs.Lines.{refusal_text}
+use Rattle.sp_tree.specs.Plain.{Program}
+use Rattle.superpascal.specs.Answers.{status_of}
+use Rattle.superpascal.specs.Calls.{All, Call, IsOutside, OfInput, OfRun, Part}
+use Rattle.superpascal.specs.Runs.{ending_of}
+use Rattle.superpascal.specs.Texts.{Asked, BreaksOne, IsDisjointText}
+
+-- status 1 and the line of the rule, unless the outside came in their place
+abbrev pub SaysRefusal : Call → Refusal → Type 0
+SaysRefusal c r = ((c.outcome.status ≡ 1) × All c.notes (refusal_text r)) ⊎ IsOutside c.outcome.status
+
+-- the status tells the end of the run, and its output was written; with status 6 a first part of it
+pub record Prints (c : Call) (r : Ran) : Type 0 where
+  pub status : (c.outcome.status ≡ status_of (ending_of r.closed.end)) ⊎ (c.outcome.status ≡ 6)
+  pub whole : c.outcome.status ≢ 6 → All c.output r.closed.output
+  pub part : Part c.output r.closed.output
+
+-- the run is one of the program of the text: along its journal the meaning of the program on the input with the limits is defined, with
+-- its output and its end; its verdict is the exact one; where that is `ordered`, every lawful schedule ends alike
+abbrev pub IsMeant : Asked → List ℕ → List ℕ → Ran → Type 0
+IsMeant a text input r = (p : Program) × IsProgramOf text p × Executes (setting p input a.limits) a.workers r
+
+pub record Headline (c : Call) : Type 0 where
+  -- the text is refused exactly where a written rule is broken
+  pub refused : OfRun c (λ a text. (r : Refusal) → BreaksOne text r → SaysRefusal c r)
+  pub no_other_refused : OfRun c (λ a text. c.outcome.status ≡ 1 → (r : Refusal) × BreaksOne text r)
+  -- in no schedule does a process write what a parallel one uses
+  pub disjoint : OfRun c (λ a text. (r : Ran) → c.outcome.ran ≡ Some r → IsDisjointText text)
+  -- what a run prints and how it ends is what the meaning gives along its journal; and what `ordered` promises
+  pub meant : OfInput c (λ a text input. (r : Ran) → c.outcome.ran ≡ Some r → IsMeant a text input r × Prints c r)

@@ -1,0 +1,119 @@
+-- What each command finds in a text: the first rule for which it refuses the text, or what it makes of it.
+use Rattle.std.specs.Prelude.{◌≡◌, ◌⊎◌, ℕ, ◌<◌, ◌≤◌, List, [], Option, Some, None, codes}
+use Rattle.sp_base.specs.declared.halt.Refusal.{Refusal}
+use Rattle.sp_base.specs.declared.limits.Limits.{Limits}
+use Rattle.sp_base.specs.declared.limits.Show.{Show}
+use Rattle.sp_code.specs.Lengths.{tree_length}
+use Rattle.sp_compile.specs.Codes.{BreaksLength, HasListing}
+use Rattle.sp_format.specs.Formats.{HasLayout, HasNoLayout}
+use Rattle.sp_front.specs.Checks.{BreaksFirst, IsChecked, IsProgramOf}
+use Rattle.sp_front.specs.Compiles.{BreaksAnyFirst, IsAccepted}
+use Rattle.sp_gen.specs.Generated.{generated_text}
+use Rattle.sp_meaning.specs.Own.{Setting}
+use Rattle.sp_meaning.specs.Runs.{IsDisjointRun}
+use Rattle.sp_sets.specs.SetsText.{IsSetsText}
+use Rattle.sp_tree.specs.Bare.{bare}
+use Rattle.sp_tree.specs.Plain as m
+use Rattle.sp_tree.specs.PlainChecked as c
+use Rattle.sp_varsets.specs.AreSets.{AreSets}
+use Rattle.sp_varsets.specs.declared.sets.Sets.{Sets}
+use Rattle.sp_words.specs.declared.command.Command.{Command}
+use Rattle.sp_words.specs.declared.command.Command.TheVariants as command
+
+-- the text has a tree that breaks no rule of the phases, and its code is no longer than code may be
+abbrev pub KeepsAll : List ℕ → Type 0
+KeepsAll text = (p : c.Program) × IsAccepted text p × (tree_length (bare p) ≤ 1048576)
+
+-- the first of all rules that the text breaks: of the phases, or that of the length of its code
+abbrev pub BreaksOne : List ℕ → Refusal → Type 0
+BreaksOne text r = BreaksAnyFirst text r ⊎ BreaksLength text r
+
+-- the text has a tree by the rules of characters, grammar, names and types
+abbrev pub IsAnalysed : List ℕ → Type 0
+IsAnalysed text = (p : c.Program) × IsChecked text p
+
+-- this is the text of the sets of the text's tree
+abbrev pub HasSets : List ℕ → List ℕ → Type 0
+HasSets text out = (p : c.Program) × IsChecked text p × (s : Sets) × AreSets p s × IsSetsText p s out
+
+-- on no input, with no limits and in no lawful schedule does a process of the text's program write what a parallel one
+-- reads or writes
+abbrev pub IsDisjointText : List ℕ → Type 0
+IsDisjointText text = (p : m.Program) → IsProgramOf text p → (g : Setting) → g.program ≡ p → IsDisjointRun g
+
+-- the run that words ask for
+pub record Asked : Type 0 where
+  pub file : List ℕ
+  pub workers : ℕ
+  pub limits : Limits
+  pub show : Show
+
+abbrev pub asked : List ℕ → ℕ → Limits → Show → Asked
+asked file workers limits show = record { file = file; workers = workers; limits = limits; show = show }
+
+abbrev pub asks : Asked → Command
+asks a = command.Run a.file a.workers a.limits a.show
+
+-- the text that a command is about, where the library tells it, or that it makes itself
+abbrev pub text_of : (List ℕ → Option (List ℕ)) → Command → Option (List ℕ)
+text_of held (command.Check file) = held file
+text_of held (command.Run file workers limits show) = held file
+text_of held (command.Code file) = held file
+text_of held (command.Sets file) = held file
+text_of held (command.Format file) = held file
+text_of held (command.Gen size workers) = Some (generated_text size)
+
+-- the command is about the text under this name
+abbrev pub IsAbout : Command → List ℕ → Type 0
+IsAbout (command.Check file) name = file ≡ name
+IsAbout (command.Run file workers limits show) name = file ≡ name
+IsAbout (command.Code file) name = file ≡ name
+IsAbout (command.Sets file) name = file ≡ name
+IsAbout (command.Format file) name = file ≡ name
+IsAbout (command.Gen size workers) name = ⊥
+
+-- the first rule for which the command refuses the text: of all rules, for `sets` of those of characters, grammar, names and
+-- types, for `format` of those that it goes through
+abbrev pub Breaks : Command → List ℕ → Refusal → Type 0
+Breaks (command.Check file) text r = BreaksOne text r
+Breaks (command.Run file workers limits show) text r = BreaksOne text r
+Breaks (command.Code file) text r = BreaksOne text r
+Breaks (command.Sets file) text r = BreaksFirst text r
+Breaks (command.Format file) text r = HasNoLayout text r
+Breaks (command.Gen size workers) text r = BreaksOne text r
+
+-- the command refuses the text for no rule
+abbrev pub Keeps : Command → List ℕ → Type 0
+Keeps (command.Check file) text = KeepsAll text
+Keeps (command.Run file workers limits show) text = KeepsAll text
+Keeps (command.Code file) text = KeepsAll text
+Keeps (command.Sets file) text = IsAnalysed text
+Keeps (command.Format file) text = (out : List ℕ) × HasLayout text out
+Keeps (command.Gen size workers) text = KeepsAll text
+
+-- the commands that answer from the text alone
+abbrev pub asks_text : Command → Type 0
+asks_text (command.Check file) = Unit {0}
+asks_text (command.Run file workers limits show) = ⊥
+asks_text (command.Code file) = Unit {0}
+asks_text (command.Sets file) = Unit {0}
+asks_text (command.Format file) = Unit {0}
+asks_text (command.Gen size workers) = ⊥
+
+-- what the command makes of the text alone, for the output and for the notes
+abbrev pub Makes : Command → List ℕ → List ℕ → List ℕ → Type 0
+Makes (command.Check file) text out line = KeepsAll text × (out ≡ []) × (line ≡ codes "accepted\n")
+Makes (command.Run file workers limits show) text out line = ⊥
+Makes (command.Code file) text out line = HasListing text out × (line ≡ [])
+Makes (command.Sets file) text out line = HasSets text out × (line ≡ [])
+Makes (command.Format file) text out line = HasLayout text out × (line ≡ [])
+Makes (command.Gen size workers) text out line = ⊥
+
+-- the commands that go through the rules of interference too, and name no broken one
+abbrev pub asks_all : Command → Type 0
+asks_all (command.Check file) = Unit {0}
+asks_all (command.Run file workers limits show) = Unit {0}
+asks_all (command.Code file) = Unit {0}
+asks_all (command.Sets file) = ⊥
+asks_all (command.Format file) = ⊥
+asks_all (command.Gen size workers) = Unit {0}

@@ -1,0 +1,67 @@
+//! Answers without a run.
+
+ghost use Rattle.std.specs.Prelude.{◌≡◌};
+ghost use Rattle.superpascal.specs.Answering.{Refuses, unloaded};
+ghost use Rattle.superpascal.specs.Causes.{accepted, silent};
+
+use crate::ending::{Answer, Ending};
+use sp_base::{Place, Refusal, Rule, Text};
+use sp_outside::LoadError;
+use sp_print::refusal_line;
+use std::alloc::Global;
+
+/// An answer without an output.
+pub(crate) fn silent(alloc: Global, ending: Ending) -> Answer
+    ensures { result ≡ silent ending }
+{
+    Answer {
+        ending,
+        ran: None,
+        output: None,
+        notes: Text::of(Vec::new(alloc)),
+    }
+}
+
+/// The answer of a command that answers from the text alone: with this output and these notes.
+pub(crate) fn accepted(output: Vec<u8>, notes: Vec<u8>) -> Answer
+    ensures { result ≡ accepted output.items notes.items }
+{
+    Answer {
+        ending: Ending::Accepted,
+        ran: None,
+        output: Some(Text::of(output)),
+        notes: Text::of(notes),
+    }
+}
+
+/// The answer to a text that breaks this rule first, or want of memory.
+pub(crate) fn refused(alloc: Global, refusal: Refusal) -> Answer
+    ensures { Refuses refusal result }
+{
+    match refusal_line(alloc, refusal) {
+        Ok(line) => Answer {
+            ending: Ending::Refused(refusal),
+            ran: None,
+            output: None,
+            notes: Text::of(line),
+        },
+        Err(_) => silent(alloc, Ending::OutOfMemory),
+    }
+}
+
+/// What a text breaks that is longer than a text may be.
+const TOO_LONG: Refusal = Refusal {
+    rule: Rule::L1,
+    at: Place { line: 1, column: 1 },
+};
+
+/// The answer to a text that the library does not give.
+pub(crate) fn unloaded(alloc: Global, error: LoadError) -> Answer
+    ensures { unloaded error result }
+{
+    match error {
+        LoadError::TooLong => refused(alloc, TOO_LONG),
+        LoadError::Failed => silent(alloc, Ending::ReadFault),
+        LoadError::Memory => silent(alloc, Ending::OutOfMemory),
+    }
+}

@@ -1,0 +1,256 @@
+//! The commands that run a program.
+
+ghost use Rattle.std.specs.Prelude.{◌≡◌, ℕ, ◌≤◌, List, [], All, IfOk, filter};
+ghost use Rattle.std.specs.List.{flat_map};
+ghost use Rattle.sp_base.specs.declared.limits.Limits.{Limits as ALimits};
+ghost use Rattle.sp_gen.specs.Generated.{generated_text};
+ghost use Rattle.sp_report.specs.Telling.{is_chosen};
+ghost use Rattle.sp_tree.specs.PlainChecked.{Program as Checked};
+ghost use Rattle.sp_words.specs.Ranges.{IsInRange};
+ghost use Rattle.superpascal.specs.Answering.{CodeAnswer, CommandCause, GeneratedAnswer, GeneratedCause, InputAnswer, RanAnswer, RunAnswer};
+ghost use Rattle.superpascal.specs.Causes.{files, stream};
+ghost use Rattle.superpascal.specs.Runs.{HasCode, IsRunOf};
+ghost use Rattle.superpascal.specs.Texts.{asked, asks};
+
+use crate::answers::{refused, silent, unloaded};
+use crate::ending::{Answer, Ending};
+use crate::notes::{ending_of, generated_output, run_notes};
+use crate::texts::LONGEST;
+use sp_base::{Halt, Limits, Memory, Show, Text};
+use sp_code::Code;
+use sp_compile::compiled_apart;
+use sp_execute::{Ran, execute};
+use sp_gen::generated;
+use sp_outside::{Gate, Library, ReadError, Source, read_all};
+use sp_ready::accepted_programs_are_ready;
+use sp_report::Watcher;
+use sp_words::{accepted_options_are_in_range, default_limits};
+use std::alloc::Global;
+use std::sync::{Arc, Wait};
+use std::thread::Threads;
+
+/// The longest input that is read, in bytes.
+const LONGEST_INPUT: u32 = 16_777_216;
+
+// Runs the code of a text that breaks no rule.
+fn run_code<R: Threads + Wait + Sync, G: Gate>(
+    rt: &R,
+    alloc: Global,
+    code: Code,
+    input: Text,
+    workers: u32,
+    limits: &Limits,
+    gate: &G,
+) -> Result<Ran, Memory>
+    requires range { IsInRange workers limits.now }
+    requires code { (text : List ℕ) × (tree : Checked) × HasCode text tree code }
+    ensures { IfOk result (λ r. (text : List ℕ) (tree : Checked) → HasCode text tree code → IsRunOf text input workers limits.now r) }
+{
+    accepted_programs_are_ready();
+    let code = Arc::new(alloc, code)?;
+    let input = Arc::new(alloc, input)?;
+    execute(rt, alloc, code, input, workers, limits, gate)
+}
+
+// Tells of a run.
+fn ran_answer(
+    alloc: Global,
+    watchers: Vec<Box<dyn Watcher>>,
+    show: Show,
+    ran: Ran,
+) -> Answer
+    requires fresh { All (λ w. told w ≡ []) watchers.items }
+    requires run { (text : List ℕ) × (input : List ℕ) × (workers : ℕ) × (limits : ALimits) × IsRunOf text input workers limits ran }
+    ensures { RanAnswer (λ s es. flat_map (λ w. text w es) (filter (λ w. is_chosen s (title w)) watchers.items)) show ran result }
+{
+    match run_notes(alloc, watchers, show, &ran) {
+        Ok(notes) => Answer {
+            ending: ending_of(ran.closed.end()),
+            ran: Some(ran),
+            output: None,
+            notes: Text::of(notes),
+        },
+        Err(_) => silent(alloc, Ending::OutOfMemory),
+    }
+}
+
+// Runs the code of a text on an input, and tells of the run.
+fn code_answer<R: Threads + Wait + Sync, G: Gate>(
+    rt: &R,
+    alloc: Global,
+    code: Code,
+    input: Text,
+    workers: u32,
+    limits: &Limits,
+    show: Show,
+    gate: &G,
+    watchers: Vec<Box<dyn Watcher>>,
+) -> Answer
+    requires fresh { All (λ w. told w ≡ []) watchers.items }
+    requires range { IsInRange workers limits.now }
+    requires code { (text : List ℕ) × (tree : Checked) × HasCode text tree code }
+    ensures { (text : List ℕ) (tree : Checked) → HasCode text tree code
+        → CodeAnswer (λ s es. flat_map (λ w. text w es) (filter (λ w. is_chosen s (title w)) watchers.items)) show workers limits.now text input result }
+{
+    match run_code(rt, alloc, code, input, workers, limits, gate) {
+        Ok(ran) => ran_answer(alloc, watchers, show, ran),
+        Err(_) => silent(alloc, Ending::OutOfMemory),
+    }
+}
+
+// Reads the input, runs the code of a text on it, and tells of the run.
+fn input_answer<R: Threads + Wait + Sync, I: Source, G: Gate>(
+    rt: &R,
+    alloc: Global,
+    code: Code,
+    input: &mut I,
+    workers: u32,
+    limits: &Limits,
+    show: Show,
+    gate: &G,
+    watchers: Vec<Box<dyn Watcher>>,
+) -> Answer
+    requires fresh { All (λ w. told w ≡ []) watchers.items }
+    requires range { IsInRange workers limits.now }
+    requires code { (text : List ℕ) × (tree : Checked) × HasCode text tree code }
+    ensures { (text : List ℕ) (tree : Checked) → HasCode text tree code
+        → InputAnswer (stream (I.left input.old) (I.left input.new) (I.faults input.old) (I.faults input.new))
+        (λ s es. flat_map (λ w. text w es) (filter (λ w. is_chosen s (title w)) watchers.items)) show workers limits.now text result }
+{
+    match read_all(alloc, input, LONGEST_INPUT) {
+        Ok(bytes) => code_answer(rt, alloc, code, bytes, workers, limits, show, gate, watchers),
+        Err(ReadError::TooLong) => silent(alloc, Ending::TooLong),
+        Err(ReadError::Failed) => silent(alloc, Ending::ReadFault),
+        Err(ReadError::Memory) => silent(alloc, Ending::OutOfMemory),
+    }
+}
+
+// Compiles a text and runs its code.
+fn program_answer<R: Threads + Wait + Sync, I: Source, G: Gate>(
+    rt: &R,
+    alloc: Global,
+    text: &[u8],
+    input: &mut I,
+    workers: u32,
+    limits: &Limits,
+    show: Show,
+    gate: &G,
+    watchers: Vec<Box<dyn Watcher>>,
+) -> Answer
+    requires fresh { All (λ w. told w ≡ []) watchers.items }
+    requires range { IsInRange workers limits.now }
+    ensures { RunAnswer (stream (I.left input.old) (I.left input.new) (I.faults input.old) (I.faults input.new))
+        (λ s es. flat_map (λ w. text w es) (filter (λ w. is_chosen s (title w)) watchers.items)) show workers limits.now text.now result }
+{
+    match compiled_apart(rt, alloc, text) {
+        Ok(compiled) => input_answer(
+            rt,
+            alloc,
+            compiled.into_code(),
+            input,
+            workers,
+            limits,
+            show,
+            gate,
+            watchers,
+        ),
+        Err(Halt::Refused(refusal)) => refused(alloc, refusal),
+        Err(Halt::Memory) => silent(alloc, Ending::OutOfMemory),
+    }
+}
+
+/// Runs the program in this file on the input, and tells of the run.
+pub(crate) fn run_answer<R: Threads + Wait + Sync, L: Library, I: Source, G: Gate>(
+    rt: &R,
+    alloc: Global,
+    file: &str,
+    workers: u32,
+    limits: &Limits,
+    show: Show,
+    library: &mut L,
+    input: &mut I,
+    gate: &G,
+    watchers: Vec<Box<dyn Watcher>>,
+) -> Answer
+    requires fresh { All (λ w. told w ≡ []) watchers.items }
+    requires range { IsInRange workers limits.now }
+    ensures { CommandCause (files (L.held library.old) (L.faults library.old) (L.faults library.new))
+        (stream (I.left input.old) (I.left input.new) (I.faults input.old) (I.faults input.new))
+        (λ s es. flat_map (λ w. text w es) (filter (λ w. is_chosen s (title w)) watchers.items))
+        (asks (asked file.now workers limits.now show)) result }
+{
+    match library.load(alloc, file, LONGEST) {
+        Ok(text) => program_answer(
+            rt,
+            alloc,
+            text.as_slice(),
+            input,
+            workers,
+            limits,
+            show,
+            gate,
+            watchers,
+        ),
+        Err(error) => unloaded(alloc, error),
+    }
+}
+
+// Tells of a run of the generated program of this size.
+fn generated_ran(alloc: Global, size: u32, ran: Ran) -> Answer
+    requires run { (text : List ℕ) × (input : List ℕ) × (workers : ℕ) × (limits : ALimits) × IsRunOf text input workers limits ran }
+    ensures { GeneratedAnswer size ran result }
+{
+    match generated_output(alloc, size, &ran) {
+        Ok(output) => Answer {
+            ending: ending_of(ran.closed.end()),
+            ran: Some(ran),
+            output: Some(Text::of(output)),
+            notes: Text::of(Vec::new(alloc)),
+        },
+        Err(_) => silent(alloc, Ending::OutOfMemory),
+    }
+}
+
+// Runs the code of the generated program of this size, and tells of the run.
+fn generated_code<R: Threads + Wait + Sync, G: Gate>(
+    rt: &R,
+    alloc: Global,
+    size: u32,
+    code: Code,
+    workers: u32,
+    gate: &G,
+) -> Answer
+    requires workers { (1 ≤ workers) × (workers ≤ 64) }
+    requires code { (tree : Checked) × HasCode (generated_text size) tree code }
+    ensures { GeneratedCause size workers result }
+{
+    accepted_options_are_in_range();
+    let limits = default_limits();
+    let input = Text::of(Vec::new(alloc));
+    match run_code(rt, alloc, code, input, workers, &limits, gate) {
+        Ok(ran) => generated_ran(alloc, size, ran),
+        Err(_) => silent(alloc, Ending::OutOfMemory),
+    }
+}
+
+/// Makes the program of this size, runs it on no input, and tells of the run.
+pub(crate) fn generated_answer<R: Threads + Wait + Sync, G: Gate>(
+    rt: &R,
+    alloc: Global,
+    size: u32,
+    workers: u32,
+    gate: &G,
+) -> Answer
+    requires size { (1 ≤ size) × (size ≤ 2000) }
+    requires workers { (1 ≤ workers) × (workers ≤ 64) }
+    ensures { GeneratedCause size workers result }
+{
+    let Ok(text) = generated(alloc, size) else {
+        return silent(alloc, Ending::OutOfMemory);
+    };
+    match compiled_apart(rt, alloc, text.as_slice()) {
+        Ok(compiled) => generated_code(rt, alloc, size, compiled.into_code(), workers, gate),
+        Err(Halt::Refused(refusal)) => refused(alloc, refusal),
+        Err(Halt::Memory) => silent(alloc, Ending::OutOfMemory),
+    }
+}
