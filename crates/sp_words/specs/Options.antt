@@ -26,6 +26,10 @@ abbrev pub is_number_in : ℕ → ℕ → Text → Bool
 is_number_in least greatest text =
     option_map_or (λ n. nat_le least n && nat_le n greatest) (number_below (2 ^ 64) text) false
 
+-- the size that the text writes: a number of `u64` from 1 to 2,000
+abbrev pub size_named : Text → Option ℕ
+size_named text = option_and_then (λ n. if nat_le 1 n && nat_le n 2000 then Some n else None) (number_below (2 ^ 64) text)
+
 -- the reports by their names
 abbrev pub shows : List (Text × Show)
 shows = (codes "end", show.End) ∷ (codes "timeline", show.Timeline) ∷ (codes "census", show.Census)
@@ -50,13 +54,17 @@ run_options = (codes "workers", is_number_in 1 64)
     ∷ (codes "output", is_number_in 1 268435456)
     ∷ (codes "show", λ text. is_some (show_named text)) ∷ []
 
--- only `run` has options
+abbrev pub gen_options : List Choice
+gen_options = (codes "workers", is_number_in 1 64) ∷ []
+
+-- only `run` and `gen` have options
 abbrev pub options_of : CommandName → List Choice
 options_of name.Check = []
 options_of name.Run = run_options
 options_of name.Code = []
 options_of name.Sets = []
 options_of name.Format = []
+options_of name.Gen = gen_options
 
 abbrev pub option_names : CommandName → List Text
 option_names command = map (λ o. o.0) (options_of command)

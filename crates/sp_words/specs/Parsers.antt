@@ -9,7 +9,7 @@ use Rattle.clap.specs.declared.builder.value_parser.ValueParser.TheVariants as v
 use Rattle.sp_words.specs.Dashes.{Text}
 use Rattle.sp_words.specs.Options.{show_named}
 
--- FILE, which has to be there
+-- FILE, or the N of `gen`, which has to be there
 abbrev pub file_rule : Rule
 file_rule = record (new_rule (codes "FILE")) { required = true; action = Some Set }
 
@@ -28,6 +28,10 @@ run_parsers q = (codes "workers", vp.Unsigned 1 64)
     ∷ (codes "entries", vp.Unsigned 1 10000000)
     ∷ (codes "output", vp.Unsigned 1 268435456)
     ∷ (codes "show", q) ∷ []
+
+-- the options of `gen`
+abbrev pub gen_parsers : List (Text × ValueParser)
+gen_parsers = (codes "workers", vp.Unsigned 1 64) ∷ []
 
 -- the parser takes the names of the reports
 abbrev pub IsShowParser : ValueParser → Type 0
@@ -52,5 +56,6 @@ app_with q = record {
     subcommand_required = true;
   };
   subs = shape_with (codes "check") [] ∷ shape_with (codes "run") (run_parsers q)
-      ∷ shape_with (codes "code") [] ∷ shape_with (codes "sets") [] ∷ shape_with (codes "format") [] ∷ [];
+      ∷ shape_with (codes "code") [] ∷ shape_with (codes "sets") [] ∷ shape_with (codes "format") []
+      ∷ shape_with (codes "gen") gen_parsers ∷ [];
 }

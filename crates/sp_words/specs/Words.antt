@@ -1,17 +1,17 @@
 -- What a list of words asks for.
-use Rattle.std.specs.Prelude.{◌&&◌, ◌++◌, ◌^◌, Bool, true, false, not, List, [], ◌∷◌, Option, None, codes, find, if◌then◌else◌, option_and_then, option_map}
+use Rattle.std.specs.Prelude.{◌&&◌, ◌++◌, ◌^◌, ℕ, Bool, true, false, not, List, [], ◌∷◌, Option, Some, None, codes, find, if◌then◌else◌, option_and_then, option_map}
 use Rattle.std.specs.List.{list_all}
 use Rattle.std.specs.Option.{option_map_or}
 use Rattle.std.specs.Str.{bytes_eq}
 use Rattle.sp_base.specs.declared.limits.Limits.{Limits}
 use Rattle.sp_words.specs.Dashes.{Item, Text, contains, file, given, items}
-use Rattle.sp_words.specs.Options.{Choice, number_or, option_names, options_of, show_or_end}
+use Rattle.sp_words.specs.Options.{Choice, number_or, option_names, options_of, show_or_end, size_named}
 use Rattle.sp_words.specs.declared.command.Command.{Command}
 use Rattle.sp_words.specs.declared.command.Command.TheVariants as command
 use Rattle.sp_words.specs.declared.command.CommandName.{CommandName}
 use Rattle.sp_words.specs.declared.command.CommandName.TheVariants as name
 
--- what an item is about: FILE, or an option
+-- what an item is about: FILE, which is the N of `gen`, or an option
 abbrev pub subject : Item → Text
 subject (file word) = codes "FILE"
 subject (given name value) = name
@@ -45,25 +45,29 @@ limits_from value = record {
   output = number_or (2 ^ 64) 16777216 (value (codes "output"));
 }
 
--- the command with its FILE, where there is one, and what its options were given
-abbrev pub command_from : CommandName → (Text → Option Text) → Text → Command
-command_from name.Check value word = command.Check word
-command_from name.Run value word = command.Run word (number_or (2 ^ 32) 4 (value (codes "workers"))) (limits_from value) (show_or_end (value (codes "show")))
-command_from name.Code value word = command.Code word
-command_from name.Sets value word = command.Sets word
-command_from name.Format value word = command.Format word
+abbrev pub workers_from : (Text → Option Text) → ℕ
+workers_from value = number_or (2 ^ 32) 4 (value (codes "workers"))
+
+-- the command with its FILE, or `gen` with a size that it may have, and what its options were given
+abbrev pub command_from : CommandName → (Text → Option Text) → Text → Option Command
+command_from name.Check value word = Some (command.Check word)
+command_from name.Run value word = Some (command.Run word (workers_from value) (limits_from value) (show_or_end (value (codes "show"))))
+command_from name.Code value word = Some (command.Code word)
+command_from name.Sets value word = Some (command.Sets word)
+command_from name.Format value word = Some (command.Format word)
+command_from name.Gen value word = option_map (λ size. command.Gen size (workers_from value)) (size_named word)
 
 abbrev pub command_with : CommandName → (Text → Option Text) → Option Command
-command_with command value = option_map (command_from command value) (value (codes "FILE"))
+command_with command value = option_and_then (command_from command value) (value (codes "FILE"))
 
--- the items are a FILE and options with values that they may have, each at most once
+-- the items are a FILE, or the N of `gen`, and options with values that they may have, each at most once
 abbrev pub command_of_items : CommandName → List Item → Option Command
 command_of_items command is =
     if each_once [] is && list_all (is_accepted (options_of command)) is then command_with command (lookup is)
     else None
 
 abbrev pub command_names : List (Text × CommandName)
-command_names = (codes "check", name.Check) ∷ (codes "run", name.Run) ∷ (codes "code", name.Code) ∷ (codes "sets", name.Sets) ∷ (codes "format", name.Format) ∷ []
+command_names = (codes "check", name.Check) ∷ (codes "run", name.Run) ∷ (codes "code", name.Code) ∷ (codes "sets", name.Sets) ∷ (codes "format", name.Format) ∷ (codes "gen", name.Gen) ∷ []
 
 abbrev pub command_named : Text → Option CommandName
 command_named word = option_map (λ p. p.1) (find (λ p. bytes_eq p.0 word) command_names)

@@ -27,6 +27,13 @@ pub enum Command {
     Sets(Word),
     /// Lay the text out in the canonical way.
     Format(Word),
+    /// Run the generated program, which no file holds.
+    Gen {
+        /// The size of the program, from 1 to 2,000.
+        size: u32,
+        /// How many workers run its processes, from 1 to 64.
+        workers: u32,
+    },
 }
 
 /// The names of the commands.
@@ -37,13 +44,14 @@ pub(crate) enum CommandName {
     Code,
     Sets,
     Format,
+    Gen,
 }
 
 /// Why the words give no command.
 #[derive(Clone, Copy, Debug, PartialEq, Eq, Error)]
 pub enum WordsError {
-    /// A command or a FILE is missing or unknown, there is a second FILE, an option is unknown, repeated, without
-    /// its value or out of its range, or a word breaks the dash rule.
+    /// The command is missing or unknown, its FILE or N is missing or there is a second one, an N is out of its
+    /// range, an option is unknown, repeated, without its value or out of its range, or a word breaks the dash rule.
     #[error("bad words")]
     Refused,
     /// Memory was refused.

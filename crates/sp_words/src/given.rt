@@ -2,13 +2,13 @@
 
 ghost use Rattle.std.specs.Prelude.{◌≡◌, ◌^◌, IfErr, IfOk, List, None, Some, codes, ℕ};
 ghost use Rattle.clap.specs.Words.{first_value, found_of};
-ghost use Rattle.sp_words.specs.Options.{number_or, show_named, show_or_end};
-ghost use Rattle.sp_words.specs.Words.{command_with, limits_from};
+ghost use Rattle.sp_words.specs.Options.{number_or, show_named, show_or_end, size_named};
+ghost use Rattle.sp_words.specs.Words.{command_from, command_with, limits_from};
 
 use crate::command::{Command, CommandName, WordsError};
 use clap::ArgMatches;
 use sp_base::{Limits, Show, Word};
-use std::alloc::Global;
+use std::alloc::{AllocError, Global};
 
 // The number that an option was given, or its default.
 fn number(given: &ArgMatches<'_>, name: &str, default: u64) -> u64
@@ -67,7 +67,33 @@ fn show(given: &ArgMatches<'_>) -> Show
     }
 }
 
-/// The command with what its level of the parse found. Without a FILE it is refused.
+// The size that a text writes, from 1 to 2,000.
+fn size_named(text: &str) -> Option<u32>
+    ensures { result ≡ size_named text.now }
+{
+    match text.parse::<u64>() {
+        Ok(size) if (1..=2_000).contains(&size) => Some(size as u32),
+        _ => None,
+    }
+}
+
+// The command `gen` with the text of its N.
+fn gen_given(text: &str, given: &ArgMatches<'_>) -> Option<Command>
+    ensures { result ≡ command_from CommandName.Gen
+        (λ id. first_value (found_of given.now) id) text.now }
+{
+    let workers = small_number(given, "workers", 4);
+    size_named(text).map(|size| Command::Gen { size, workers })
+}
+
+// The name of the program text.
+fn file(alloc: Global, text: &str) -> Result<Word, AllocError>
+    ensures { IfOk result (λ w. w ≡ text.now) }
+{
+    Ok(Word::of(String::from_str(alloc, text)?))
+}
+
+/// The command with what its level of the parse found. Without a FILE, or an N in its range, it is refused.
 pub(crate) fn command_given(
     alloc: Global,
     command: CommandName,
@@ -81,17 +107,17 @@ pub(crate) fn command_given(
     let Some(text) = given.get_str("FILE") else {
         return Err(WordsError::Refused);
     };
-    let file = Word::of(String::from_str(alloc, text)?);
     Ok(match command {
-        CommandName::Check => Command::Check(file),
+        CommandName::Check => Command::Check(file(alloc, text)?),
         CommandName::Run => Command::Run {
-            file,
+            file: file(alloc, text)?,
             workers: small_number(given, "workers", 4),
             limits: limits(given),
             show: show(given),
         },
-        CommandName::Code => Command::Code(file),
-        CommandName::Sets => Command::Sets(file),
-        CommandName::Format => Command::Format(file),
+        CommandName::Code => Command::Code(file(alloc, text)?),
+        CommandName::Sets => Command::Sets(file(alloc, text)?),
+        CommandName::Format => Command::Format(file(alloc, text)?),
+        CommandName::Gen => gen_given(text, given).ok_or(WordsError::Refused)?,
     })
 }

@@ -6,7 +6,7 @@ ghost use Rattle.clap.specs.declared.builder.command.Command.TheViews.{out-Comma
 ghost use Rattle.clap.specs.declared.builder.value_parser.ValueParser.{ValueParser as Parser};
 ghost use Rattle.clap.specs.declared.builder.value_parser.ValueParser.TheVariants.{Unsigned};
 ghost use Rattle.sp_words.specs.Parsers.{IsShowParser, app_with, app_with_file, file_rule, option_rule};
-ghost use Rattle.sp_words.specs.Parsers.{run_parsers, shape_with};
+ghost use Rattle.sp_words.specs.Parsers.{gen_parsers, run_parsers, shape_with};
 
 use clap::builder::ValueParser;
 use clap::{Arg, ArgAction, Command};
@@ -94,6 +94,14 @@ fn run_command<'a>(alloc: Global) -> Result<Command<'a>, AllocError>
     with_show(command, alloc)
 }
 
+fn gen_command<'a>(alloc: Global) -> Result<Command<'a>, AllocError>
+    ensures shape { IfOk result (λ c. shape_of c ≡ shape_with (codes "gen") gen_parsers) }
+    ensures local { IfOk result (λ c. (fields_of c).has_globals ≡ false) }
+{
+    let command = plain_command(alloc, "gen")?;
+    with_number(command, alloc, "workers", 1, 64)
+}
+
 /// The parser of the whole command line. Its words begin with the command.
 pub(crate) fn parser<'a>(alloc: Global) -> Result<Command<'a>, AllocError>
     ensures { IfOk result (λ c. (q : Parser) × (app_of c ≡ app_with q) × IsShowParser q) }
@@ -108,5 +116,6 @@ pub(crate) fn parser<'a>(alloc: Global) -> Result<Command<'a>, AllocError>
         .subcommand(run_command(alloc)?)?
         .subcommand(plain_command(alloc, "code")?)?
         .subcommand(plain_command(alloc, "sets")?)?
-        .subcommand(plain_command(alloc, "format")?)
+        .subcommand(plain_command(alloc, "format")?)?
+        .subcommand(gen_command(alloc)?)
 }

@@ -26,6 +26,9 @@ static RUN_OPTIONS: [&str; 9] = [
     "show",
 ];
 
+/// The options of `gen`.
+static GEN_OPTIONS: [&str; 1] = ["workers"];
+
 fn command_named(word: &str) -> Option<CommandName>
     ensures { result ≡ command_named word.now }
 {
@@ -35,6 +38,7 @@ fn command_named(word: &str) -> Option<CommandName>
         "code" => Some(CommandName::Code),
         "sets" => Some(CommandName::Sets),
         "format" => Some(CommandName::Format),
+        "gen" => Some(CommandName::Gen),
         _ => None,
     }
 }
@@ -44,6 +48,7 @@ fn option_names(command: CommandName) -> &'static [&'static str]
 {
     match command {
         CommandName::Run => RUN_OPTIONS.as_slice(),
+        CommandName::Gen => GEN_OPTIONS.as_slice(),
         CommandName::Check | CommandName::Code | CommandName::Sets | CommandName::Format => &[],
     }
 }
@@ -57,8 +62,8 @@ fn failure(error: &Error) -> WordsError
     }
 }
 
-/// Reads the words after the program's own name. The first is the command, and the others are its FILE and its
-/// options, each at most once, as `--name value` or `--name=value`. After `--` no word is an option.
+/// Reads the words after the program's own name. The first is the command, and the others are its FILE, or the N of
+/// `gen`, and its options, each at most once, as `--name value` or `--name=value`. After `--` no word is an option.
 ///
 /// `Refused` comes exactly where the words ask for no command.
 pub fn read_words(alloc: Global, words: &[String]) -> Result<Command, WordsError>

@@ -4,8 +4,8 @@ use crate::{Command, WordsError, read_words};
 use std::alloc::{AllocError, Global};
 use std::process::Abort;
 
-/// The words as a command line in one text: the command, its file and, of `run`, the workers, the limits in their
-/// order and the report.
+/// The words as a command line in one text: the command, its file or its size and, of `run` and `gen`, the workers;
+/// of `run` the limits in their order and the report too.
 fn reading(alloc: Global, line: &[&str]) -> Result<String, AllocError> {
     let mut words = Vec::new(alloc);
     for word in line {
@@ -34,6 +34,7 @@ fn shown(alloc: Global, command: &Command) -> Result<String, AllocError> {
             let counts = limited(alloc, limits)?;
             format!(in alloc; "run {name} {workers} {counts} {show:?}")
         }
+        Command::Gen { size, workers } => format!(in alloc; "gen {size} {workers}"),
     }
 }
 
@@ -70,6 +71,29 @@ fn commands(rt: HostRuntime) -> Result<(), AllocError> {
     check(&rt, alloc, &[], "bad words")?;
     check(&rt, alloc, &["gone", "a"], "bad words")?;
     check(&rt, alloc, &["check", "a", "--workers=2"], "bad words")
+}
+
+#[test]
+fn sizes(rt: HostRuntime) -> Result<(), AllocError> {
+    let alloc = rt.alloc();
+    check(&rt, alloc, &["gen", "3"], "gen 3 4")?;
+    check(&rt, alloc, &["gen", "--workers=64", "1"], "gen 1 64")?;
+    check(
+        &rt,
+        alloc,
+        &["gen", "--workers", "1", "--", "+02000"],
+        "gen 2000 1",
+    )?;
+    check(&rt, alloc, &["gen"], "bad words")?;
+    check(&rt, alloc, &["gen", "--workers=2"], "bad words")?;
+    check(&rt, alloc, &["gen", "1", "2"], "bad words")?;
+    check(&rt, alloc, &["gen", "1", "--ticks=2"], "bad words")?;
+    check(&rt, alloc, &["gen", "1", "--workers=65"], "bad words")?;
+    let beyond = ["0", "2001", "18446744073709551617", "-1", "", "1.", "n"];
+    for word in beyond {
+        check(&rt, alloc, &["gen", word], "bad words")?;
+    }
+    Ok(())
 }
 
 #[test]
