@@ -5,13 +5,16 @@ ghost use Rattle.std.specs.Prelude.{◌≡◌, ◌∷◌, [], IfOk, filter, map}
 ghost use Rattle.std.specs.List.{flat_map};
 ghost use Rattle.std.specs.String.{string_bytes};
 ghost use Rattle.sp_report.specs.Telling.{is_chosen};
-ghost use Rattle.superpascal.specs.Calls.{Call, found, got};
+ghost use Rattle.superpascal.specs.declared.outcome.Outcome.{Outcome};
+ghost use Rattle.superpascal.specs.Calls.{IsAnswered, call, sink};
+ghost use Rattle.superpascal.specs.Causes.{files, stream};
 
-use sp_outside::{FileLibrary, Library, Sink, Source, StreamSink, StreamSource, put_all};
+use sp_outside::{FileLibrary, Library, OpenGate, Sink, Source, StreamSink, StreamSource, put_all};
 use sp_report::{Census, ProcessTree, Timeline, Waiting, Watcher};
 use std::alloc::Global;
 use std::io::ErrorKind;
 use std::process::ExitCode;
+use std::sync::Wait;
 use std::thread::Threads;
 use std::{env, io};
 use superpascal::superpascal;
@@ -37,7 +40,11 @@ fn main(rt: HostRuntime) -> ExitCode {
 }
 
 // Makes the watchers, and makes the call over the files and streams of the system.
-fn run<N: Sink>(rt: &HostRuntime, threads: &impl Threads, notes: &mut N) -> io::Result<u8> {
+fn run<R: Threads + Wait + Sync, N: Sink>(
+    rt: &HostRuntime,
+    threads: &R,
+    notes: &mut N,
+) -> io::Result<u8> {
     let words = words(rt)?;
     let alloc = rt.alloc();
     let timeline = Box::new(alloc, Timeline::new(alloc))?;
@@ -60,8 +67,8 @@ fn run<N: Sink>(rt: &HostRuntime, threads: &impl Threads, notes: &mut N) -> io::
 }
 
 // The call with these watchers in their order, and its status.
-fn watched<L: Library, I: Source, O: Sink, N: Sink>(
-    threads: &impl Threads,
+fn watched<R: Threads + Wait + Sync, L: Library, I: Source, O: Sink, N: Sink>(
+    threads: &R,
     alloc: Global,
     words: &[String],
     library: &mut L,
@@ -79,12 +86,17 @@ fn watched<L: Library, I: Source, O: Sink, N: Sink>(
     requires second { told watchers.1 ≡ [] }
     requires third { told watchers.2 ≡ [] }
     requires fourth { told watchers.3 ≡ [] }
-    ensures { IfOk result (λ status. Call (found (map string_bytes words.now) (L.held library.old) (L.faults library.old) (L.faults library.new) (I.left input.old) (I.faults input.old) (I.faults input.new) (λ s es. flat_map (λ w. text w es) (filter (λ w. is_chosen s (title w)) (watchers.0 ∷ watchers.1 ∷ watchers.2 ∷ watchers.3 ∷ [])))) (got (O.written output.old) (O.faults output.old)) (got (O.written output.new) (O.faults output.new)) (got (N.written notes.old) (N.faults notes.old)) (got (N.written notes.new) (N.faults notes.new)) status) }
+    ensures { IfOk result (λ status. (outcome : Outcome) × (outcome.status ≡ status) × IsAnswered (call (map string_bytes words.now)
+        (files (L.held library.old) (L.faults library.old) (L.faults library.new))
+        (stream (I.left input.old) (I.left input.new) (I.faults input.old) (I.faults input.new))
+        (λ s es. flat_map (λ w. text w es) (filter (λ w. is_chosen s (title w)) (watchers.0 ∷ watchers.1 ∷ watchers.2 ∷ watchers.3 ∷ [])))
+        (sink (O.written output.old) (O.written output.new) (O.faults output.old) (O.faults output.new))
+        (sink (N.written notes.old) (N.written notes.new) (N.faults notes.old) (N.faults notes.new)) outcome)) }
 {
     let (timeline, census, tree, waiting) = watchers;
     let watchers = vec![in alloc; timeline, census, tree, waiting]?;
     let outcome = superpascal(
-        threads, alloc, words, library, input, output, notes, watchers,
+        threads, alloc, words, library, input, output, notes, &OpenGate, watchers,
     );
     Ok(outcome.status)
 }

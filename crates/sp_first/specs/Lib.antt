@@ -1,9 +1,0 @@
-pub mod Tokens
-pub mod Grammar
-pub mod Meaning
-pub mod Code
-pub mod States
-pub mod Scans
-pub mod Reader
-pub mod Reads
-pub mod Runs

@@ -1,1 +1,0 @@
-program a; var x: integer; begin x := 6; write(x * 7) end.
