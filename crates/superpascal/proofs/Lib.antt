@@ -1,2 +1,6 @@
-pub mod Causes
-pub mod Measured
+pub mod Calling
+pub mod Laws
+pub mod Parts
+pub mod Running
+pub mod Telling
+pub mod Why

@@ -1,0 +1,555 @@
+-- What follows from the answer of a call, its cause and its writing.
+use Rattle.std.proofs.Common.{◌≡◌, ◌≢◌, ◌⊎◌, inl, inr, ℕ, ◌<◌, ◌≤◌, List, [], length, Option, Some, None, true, false, refl, sym, ◌∙◌, ap, subst, arith}
+use Rattle.std.specs.Prelude.{IfSome}
+use Rattle.sp_base.specs.declared.halt.Refusal.{Refusal}
+use Rattle.sp_execute.specs.declared.execution.Ran.{Ran}
+use Rattle.sp_execute.specs.Runs.{Executes, setting}
+use Rattle.sp_gen.specs.Generated.{generated_text}
+use Rattle.sp_journal.specs.declared.outcome.End.{End}
+use Rattle.sp_journal.specs.declared.outcome.End.TheVariants as ends
+use Rattle.sp_outside.specs.Counts.{Rose}
+use Rattle.sp_print.specs.Lines.{HasLines, refusal_text}
+use Rattle.sp_tree.specs.Bare.{bare}
+use Rattle.sp_words.specs.Words.{command_of}
+use Rattle.sp_words.specs.declared.command.Command.{Command}
+use Rattle.sp_words.specs.declared.command.Command.TheVariants as command
+use Rattle.superpascal.specs.declared.ending.Ending.{Ending}
+use Rattle.superpascal.specs.declared.ending.Ending.TheVariants as e
+use Rattle.superpascal.specs.declared.ending.Answer.{Answer}
+use Rattle.superpascal.specs.Answers.{has_output, line_of, notes_by, notes_of, output_of, status_of}
+use Rattle.superpascal.specs.Calls.{All, Call, Exactly, Failed, IsAnswered, IsOutside, IsUnwritten, OfInput, OfRun, OfText, Part, Writes}
+use Rattle.superpascal.specs.Causes.{Cause, by_words, before_words, by_command, Files, HasGenerated, HasMade, HasRun, IsNotLoaded, IsNotRead, IsRefusedFor, IsTold, IsTooLong, IsTooMuch, IsUntouched, ReadsAfterRules, Stream, accepted, refused, silent}
+use Rattle.superpascal.specs.Headline.{Headline, IsMeant, Prints, SaysRefusal}
+use Rattle.superpascal.specs.Runs.{IsRunOf, Reports, ending_of, generated_answer, generated_output, run_answer, run_notes}
+use Rattle.superpascal.specs.Statuses.{InputIsTooLong, IsQuiet, IsRunOfWords, ReadsFail, Statuses}
+use Rattle.superpascal.specs.Texts.{Asked, Breaks, BreaksOne, IsAbout, IsDisjointText, Keeps, KeepsAll, Makes, asks, asks_all, asks_text, text_of}
+use Rattle.superpascal.specs.Writing.{AreWritten, Writing, WritesLine}
+use Rattle.superpascal.proofs.Laws.{Laws, disjoint_text, keeps_all, keeps_or, kept_or, made_asks, made_keeps, made_once, one_break}
+use Rattle.superpascal.proofs.Telling.{ends_of}
+use Rattle.superpascal.proofs.Why.{HasRanFor, IsRanBy, ran_of, same_ran, why, why_of}
+
+no_command : (o : Option Command) (c : Command) → o ≡ Some c → o ≡ None → ⊥
+no_command o c h k = cc
+
+one_command : (o : Option Command) (c d : Command) → o ≡ Some c → o ≡ Some d → d ≡ c
+one_command o c d h k = cc
+
+one_file : (a b : Asked) → asks b ≡ asks a → b.file ≡ a.file
+one_file a b h = cc
+
+one_workers : (a b : Asked) → asks b ≡ asks a → b.workers ≡ a.workers
+one_workers a b h = cc
+
+one_limits : (a b : Asked) → asks b ≡ asks a → b.limits ≡ a.limits
+one_limits a b h = cc
+
+one_show : (a b : Asked) → asks b ≡ asks a → b.show ≡ a.show
+one_show a b h = cc
+
+one_asked : (a b : Asked) → asks b ≡ asks a → b ≡ a
+one_asked a b c = λ i. record { file = one_file a b c i; workers = one_workers a b c i; limits = one_limits a b c i; show = one_show a b c i }
+
+not_gen : (a : Asked) (size workers : ℕ) → asks a ≡ command.Gen size workers → ⊥
+not_gen a size workers h = cc
+
+one_size : (m n x y : ℕ) → command.Gen m x ≡ command.Gen n y → m ≡ n
+one_size m n x y h = cc
+
+one_count : (m n x y : ℕ) → command.Gen m x ≡ command.Gen n y → x ≡ y
+one_count m n x y h = cc
+
+no_true : true ≡ false → ⊥
+no_true g = cc
+
+-- the ending of a run
+abbrev IsFinal : ℕ → Type 0
+IsFinal n = (n ≡ 0) ⊎ ((n ≡ 3) ⊎ (n ≡ 4))
+
+final : (x : End) → HasLines x → IsFinal (status_of (ending_of x)) × (has_output (ending_of x) ≡ true)
+final ends.Done h = (inl refl, refl)
+final (ends.Deadlock ws) h = (inr (inr refl), refl)
+final (ends.Fault n y) h = (inr (inl refl), refl)
+final ends.Memory h = absurd h
+
+-- the notes of a run stand as they are
+run_notes_stand : (x : End) (notes : List ℕ) → HasLines x → notes_by (ending_of x) notes ≡ notes
+run_notes_stand ends.Done notes h = refl
+run_notes_stand (ends.Deadlock ws) notes h = refl
+run_notes_stand (ends.Fault n y) notes h = refl
+run_notes_stand ends.Memory notes h = absurd h
+
+-- what is told is told of one text
+told_of : (o : Option (List ℕ)) (all text : List ℕ) → o ≡ Some text → IsTold o all → all ≡ text
+told_of o all text h t = subst (λ x. IsTold x all) h t
+
+if_told : (P : List ℕ → Type 0) (o : Option (List ℕ)) (text : List ℕ) → o ≡ Some text → IfSome o P → P text
+if_told P o text h k = subst (λ x. IfSome x P) h k
+
+-- ---- from the ending
+
+module _ (f : Files) (s : Stream) (reports : Reports) (w : Option Command) (a : Answer) where
+  abbrev Why : Ending → Type 0
+  Why = why f s reports w a
+
+  -- a status that is due, or one of the outside
+  abbrev Due_status : Ending → ℕ → Type 0
+  Due_status x n = (status_of x ≡ n) ⊎ IsOutside (status_of x)
+
+  abbrev Due_line : Ending → List ℕ → Type 0
+  Due_line x line = ((status_of x ≡ 1) × (notes_by x a.notes ≡ line)) ⊎ IsOutside (status_of x)
+
+  words_only : (x : Ending) → Why x → status_of x ≡ 2 → w ≡ None
+  words_only e.BadWords k h = k
+  words_only _ k h = absurd (omega arith)
+
+  words_due : w ≡ None → (x : Ending) → Why x → Due_status x 2
+  words_due h e.BadWords k = inl refl
+  words_due h e.Done k = absurd (no_command _ _ k.1 h)
+  words_due h e.Deadlock k = absurd (no_command _ _ k.1 h)
+  words_due h e.Fault k = absurd (no_command _ _ k.1 h)
+  words_due h e.Accepted k = absurd (no_command _ _ k.1 h)
+  words_due h (e.Refused r) k = absurd (no_command _ _ k.1 h)
+  words_due h e.ReadFault k = inr (omega arith, omega arith)
+  words_due h e.TooLong k = inr (omega arith, omega arith)
+  words_due h e.OutOfMemory k = inr (omega arith, omega arith)
+
+  read_fails : (x : Ending) → Why x → status_of x ≡ 5 → (d : Command) × (w ≡ Some d) × (IsNotLoaded f d a ⊎ ((asked : Asked) × (d ≡ asks asked) × IsNotRead f s asked a))
+  read_fails e.ReadFault k h = k
+  read_fails _ k h = absurd (omega arith)
+
+  input_long : (x : Ending) → Why x → status_of x ≡ 7 → (asked : Asked) × (w ≡ Some (asks asked)) × IsTooMuch f s asked a
+  input_long e.TooLong k h = k
+  input_long _ k h = absurd (omega arith)
+
+  no_memory : (x : Ending) → Why x → status_of x ≡ 8 → a ≡ silent e.OutOfMemory
+  no_memory e.OutOfMemory k h = k
+  no_memory _ k h = absurd (omega arith)
+
+  ran_there : (d : Command) → IsRanBy f s reports w a d → (r : Ran) × (a.ran ≡ Some r)
+  ran_there d (inl (asked, p, h)) = (h.ran, ap (λ (z : Answer). z.ran) h.answer)
+  ran_there d (inr (size, workers, p, h)) = (h.ran, ap (λ (z : Answer). z.ran) h.answer)
+
+  module _ (d : Command) (text : List ℕ) (v : w ≡ Some d) (t : text_of f.held d ≡ Some text) where
+    -- what is told of the text of the command holds of this one
+    of_text : (P : List ℕ → Type 0) (c : Command) → w ≡ Some c → IfSome (text_of f.held c) P → P text
+    of_text P c u h = if_told P (text_of f.held d) text t (subst (λ (x : Command). IfSome (text_of f.held x) P) (one_command w d c v u) h)
+
+    run_keeps : (all input : List ℕ) (workers : ℕ) (r : Ran) (limits : Rattle.sp_base.specs.declared.limits.Limits.Limits) → IsRunOf all input workers limits r → KeepsAll all
+    run_keeps all input workers r limits h = (h.tree, h.has.accepted, h.has.short)
+
+    ran_keeps : HasRanFor f s reports w a → Keeps d text
+    ran_keeps (c, u, inl (asked, p, h)) =
+        let same : asks asked ≡ d = sym p ∙ one_command w d c v u in
+        let all : KeepsAll text = of_text KeepsAll (asks asked) (u ∙ ap Some p) (subst (λ (P : List ℕ → Type 0). IfSome (f.held asked.file) P) refl (told_keeps (f.held asked.file) h.text h.loaded (run_keeps h.text h.input asked.workers h.ran asked.limits h.is_run))) in
+        subst (λ (x : Command). Keeps x text) same all
+      where
+        told_keeps : (o : Option (List ℕ)) (all : List ℕ) → IsTold o all → KeepsAll all → IfSome o KeepsAll
+        told_keeps None all h k = tt
+        told_keeps (Some x) all h k = subst KeepsAll h k
+    ran_keeps (c, u, inr (size, workers, p, h)) =
+        let same : command.Gen size workers ≡ d = sym p ∙ one_command w d c v u in
+        let all : KeepsAll text = of_text KeepsAll (command.Gen size workers) (u ∙ ap Some p) (run_keeps (generated_text size) [] workers h.ran _ h.is_run) in
+        subst (λ (x : Command). Keeps x text) same all
+
+    makes : (c : Command) → w ≡ Some c → (h : HasMade f c a) → Makes d text h.output h.line
+    makes c u h =
+        subst (λ (x : Command). Makes x text h.output h.line) (one_command w d c v u)
+        (subst (λ (x : List ℕ). Makes c x h.output h.line) (of_text (λ x. h.text ≡ x) c u h.loaded) h.makes)
+
+    breaks : (c : Command) → w ≡ Some c → (h : IsRefusedFor f c a) → Breaks d text h.refusal
+    breaks c u h = subst (λ (x : Command). Breaks x text h.refusal) (one_command w d c v u) (of_text (λ x. Breaks c x h.refusal) c u h.breaks)
+
+    refusal_due : Laws → (r : Refusal) → Breaks d text r → (x : Ending) → x ≡ a.ending → Why x → Due_line x (refusal_text r)
+    refusal_due l r b e.Done i k = absurd (keeps_or l text d r (ran_keeps k) b)
+    refusal_due l r b e.Deadlock i k = absurd (keeps_or l text d r (ran_keeps k) b)
+    refusal_due l r b e.Fault i k = absurd (keeps_or l text d r (ran_keeps k) b)
+    refusal_due l r b e.Accepted i (c, u, h) = absurd (keeps_or l text d r (made_keeps d text h.output h.line (makes c u h)) b)
+    refusal_due l r b (e.Refused q) i (c, u, h) = inl (refl, ap (λ (z : Answer). z.notes) h.answer ∙ ap refusal_text (one_break l text d h.refusal r (breaks c u h) b))
+    refusal_due l r b e.BadWords i k = absurd (no_command _ _ v k)
+    refusal_due l r b e.ReadFault i k = inr (omega arith, omega arith)
+    refusal_due l r b e.TooLong i k = inr (omega arith, omega arith)
+    refusal_due l r b e.OutOfMemory i k = inr (omega arith, omega arith)
+
+    refused_only : (x : Ending) → Why x → status_of x ≡ 1 → (r : Refusal) × Breaks d text r
+    refused_only (e.Refused q) (c, u, h) i = (h.refusal, breaks c u h)
+    refused_only _ k i = absurd (omega arith)
+
+    -- where a program has run, or the text is accepted, no rule is broken
+    kept_by : (x : Ending) → Why x → IsFinal (status_of x) → Keeps d text
+    kept_by e.Done k i = ran_keeps k
+    kept_by e.Deadlock k i = ran_keeps k
+    kept_by e.Fault k i = ran_keeps k
+    kept_by e.Accepted (c, u, h) i = made_keeps d text h.output h.line (makes c u h)
+    kept_by _ k (inl i) = absurd (omega arith)
+    kept_by _ k (inr (inl i)) = absurd (omega arith)
+    kept_by _ k (inr (inr i)) = absurd (omega arith)
+
+    not_text : (c : Command) → asks_text c → (asked : Asked) → c ≡ asks asked → ⊥
+    not_text c q asked p = subst asks_text p q
+
+    not_ran : asks_text d → HasRanFor f s reports w a → ⊥
+    not_ran q (c, u, inl (asked, p, h)) = subst asks_text (sym (one_command w d c v u) ∙ p) q
+    not_ran q (c, u, inr (size, workers, p, h)) = subst asks_text (sym (one_command w d c v u) ∙ p) q
+
+    made_only : asks_text d → (x : Ending) → Why x → status_of x ≡ 0 → (h : HasMade f d a) × Makes d text h.output h.line
+    made_only q e.Done k i = absurd (not_ran q k)
+    made_only q e.Accepted (c, u, h) i = subst (λ (y : Command). (z : HasMade f y a) × Makes d text z.output z.line) (one_command w d c v u) (h, makes c u h)
+    made_only q _ k i = absurd (omega arith)
+
+    made_due : asks_text d → Laws → ((out line : List ℕ) × Makes d text out line) → (x : Ending) → Why x → Due_status x 0
+    made_due q l m e.Done k = inl refl
+    made_due q l m e.Deadlock k = absurd (not_ran q k)
+    made_due q l m e.Fault k = absurd (not_ran q k)
+    made_due q l m e.Accepted k = inl refl
+    made_due q l m (e.Refused r) (c, u, h) = absurd (keeps_or l text d h.refusal (made_keeps d text m.0 m.1 m.2) (breaks c u h))
+    made_due q l m e.BadWords k = absurd (no_command _ _ v k)
+    made_due q l m e.ReadFault k = inr (omega arith, omega arith)
+    made_due q l m e.TooLong k = inr (omega arith, omega arith)
+    made_due q l m e.OutOfMemory k = inr (omega arith, omega arith)
+
+    -- what comes of a text that is kept where nothing fails outside
+    module _ (l : Laws) (kept : Keeps d text)
+        (library : (name : List ℕ) → IsAbout d name → Rose (f.before name) (f.after name) → ⊥) (source : Rose s.before s.after → ⊥)
+        (fits : (b : Asked) → d ≡ asks b → (input : List ℕ) × (s.left ≡ Some input) × (length input ≤ 16777216)) where
+      abbrev Ends_well : ℕ → Type 0
+      Ends_well n = (n ≡ 0) ⊎ ((n ≡ 3) ⊎ ((n ≡ 4) ⊎ (n ≡ 8)))
+
+      read_well : (c : Command) → w ≡ Some c → IsNotLoaded f c a ⊎ ((b : Asked) × (c ≡ asks b) × IsNotRead f s b a) → ⊥
+      read_well c u (inl h) = library h.name (subst (λ (x : Command). IsAbout x h.name) (one_command w d c v u) h.about) h.rose
+      read_well c u (inr (b, p, h)) = source h.rose
+
+      long_well : (b : Asked) → w ≡ Some (asks b) → IsTooMuch f s b a → ⊥
+      long_well b u h =
+          let i = fits b (one_command w (asks b) d u v) in
+          let k : IsTooLong i.0 = if_told IsTooLong s.left i.0 i.1 h.long in
+          short i.0 i.2 k
+        where
+          short : (input : List ℕ) → length input ≤ 16777216 → 16777216 < length input → ⊥
+          short input h k = omega arith
+
+      ends_well : (x : Ending) → Why x → Ends_well (status_of x)
+      ends_well e.Done k = inl refl
+      ends_well e.Deadlock k = inr (inr (inl refl))
+      ends_well e.Fault k = inr (inl refl)
+      ends_well e.Accepted k = inl refl
+      ends_well (e.Refused r) (c, u, h) = absurd (keeps_or l text d h.refusal kept (breaks c u h))
+      ends_well e.BadWords k = absurd (no_command _ _ v k)
+      ends_well e.ReadFault (c, u, h) = absurd (read_well c u h)
+      ends_well e.TooLong (b, u, h) = absurd (long_well b u h)
+      ends_well e.OutOfMemory k = inr (inr (inr refl))
+
+  -- a command with a run, where the status is that of one
+  run_there : (d : Command) → w ≡ Some d → (asks_text d → ⊥) → (x : Ending) → Why x → IsFinal (status_of x) → (r : Ran) × (a.ran ≡ Some r)
+  run_there d v n e.Done (c, u, h) i = ran_there c h
+  run_there d v n e.Deadlock (c, u, h) i = ran_there c h
+  run_there d v n e.Fault (c, u, h) i = ran_there c h
+  run_there d v n e.Accepted (c, u, h) i = absurd (n (subst asks_text (one_command w d c v u) (made_asks c h.text h.output h.line h.makes)))
+  run_there d v n _ k (inl i) = absurd (omega arith)
+  run_there d v n _ k (inr (inl i)) = absurd (omega arith)
+  run_there d v n _ k (inr (inr i)) = absurd (omega arith)
+
+  -- too long an input for a text that is kept
+  module _ (b : Asked) (text : List ℕ) (v : w ≡ Some (asks b)) (t : f.held b.file ≡ Some text) (l : Laws) (kept : KeepsAll text)
+      (input : List ℕ) (left : s.left ≡ Some input) (long : IsTooLong input) where
+    fits_not : (d : Command) → w ≡ Some d → IsRanBy f s reports w a d → ⊥
+    fits_not d u (inl (asked, p, h)) =
+        let same : h.input ≡ input = told_of s.left h.input input left h.read in
+        short h.input input same h.fits long
+      where
+        short : (x y : List ℕ) → x ≡ y → length x ≤ 16777216 → 16777216 < length y → ⊥
+        short x y e h k = let i : length x ≡ length y = ap length e in omega arith
+    fits_not d u (inr (size, workers, p, h)) = not_gen b size workers (one_command w d (asks b) u v ∙ p)
+
+    long_due : (x : Ending) → Why x → IsOutside (status_of x)
+    long_due e.Done (c, u, h) = absurd (fits_not c u h)
+    long_due e.Deadlock (c, u, h) = absurd (fits_not c u h)
+    long_due e.Fault (c, u, h) = absurd (fits_not c u h)
+    long_due e.Accepted (c, u, h) = absurd (makes (asks b) text v t c u h)
+    long_due (e.Refused r) (c, u, h) = absurd (kept_or l text h.refusal kept (breaks (asks b) text v t c u h))
+    long_due e.BadWords k = absurd (no_command _ _ v k)
+    long_due e.ReadFault k = (omega arith, omega arith)
+    long_due e.TooLong k = (omega arith, omega arith)
+    long_due e.OutOfMemory k = (omega arith, omega arith)
+
+-- ---- of a call
+
+module _ (c : Call) (k : IsAnswered c) (l : Laws) where
+  abbrev status : ℕ
+  status = c.outcome.status
+
+  abbrev ending : Ending
+  ending = k.answer.ending
+
+  due_why : why c.files c.source c.reports (command_of c.words) k.answer ending
+  due_why = why_of c.files c.source c.reports (command_of c.words) k.answer k.cause
+
+  -- a status other than 6 is that of the answer
+  same_status : status ≢ 6 → status ≡ status_of ending
+  same_status h = go k.written.status_is
+    where
+      go : (status ≡ status_of ending) ⊎ (status ≡ 6) → status ≡ status_of ending
+      go (inl i) = i
+      go (inr i) = absurd (h i)
+
+  not_six : (n : ℕ) → (n ≡ 6 → ⊥) → status ≡ n → status ≢ 6
+  not_six n other h i = other (sym h ∙ i)
+
+  undisplaced : (n : ℕ) → (n ≡ 6 → ⊥) → status ≡ n → status_of ending ≡ n
+  undisplaced n other h = sym (same_status (not_six n other h)) ∙ h
+
+  due : (n : ℕ) → (status_of ending ≡ n) ⊎ IsOutside (status_of ending) → (status ≡ n) ⊎ IsOutside status
+  due n d = go k.written.status_is d
+    where
+      go : (status ≡ status_of ending) ⊎ (status ≡ 6) → (status_of ending ≡ n) ⊎ IsOutside (status_of ending) → (status ≡ n) ⊎ IsOutside status
+      go (inr i) h = inr (omega arith, omega arith)
+      go (inl i) (inl h) = inl (i ∙ h)
+      go (inl i) (inr h) = inr (subst IsOutside (sym i) h)
+
+  outside : IsOutside (status_of ending) → IsOutside status
+  outside h = go k.written.status_is
+    where
+      go : (status ≡ status_of ending) ⊎ (status ≡ 6) → IsOutside status
+      go (inr i) = (omega arith, omega arith)
+      go (inl i) = subst IsOutside (sym i) h
+
+  says : (line : List ℕ) → ((status_of ending ≡ 1) × (notes_of k.answer ≡ line)) ⊎ IsOutside (status_of ending) → ((status ≡ 1) × All c.notes line) ⊎ IsOutside status
+  says line d = go k.written.status_is d
+    where
+      go : (status ≡ status_of ending) ⊎ (status ≡ 6) → ((status_of ending ≡ 1) × (notes_of k.answer ≡ line)) ⊎ IsOutside (status_of ending) → ((status ≡ 1) × All c.notes line) ⊎ IsOutside status
+      go (inr i) h = inr (omega arith, omega arith)
+      go (inl i) (inl h) = inl (i ∙ h.0, subst (All c.notes) h.1 (k.written.all_written (not_six 1 (λ p. absurd (omega arith)) (i ∙ h.0))).1)
+      go (inl i) (inr h) = inr (subst IsOutside (sym i) h)
+
+  final_status : IsFinal status → IsFinal (status_of ending)
+  final_status (inl h) = inl (undisplaced 0 (λ p. absurd (omega arith)) h)
+  final_status (inr (inl h)) = inr (inl (undisplaced 3 (λ p. absurd (omega arith)) h))
+  final_status (inr (inr h)) = inr (inr (undisplaced 4 (λ p. absurd (omega arith)) h))
+
+  -- ---- the run that is given back
+
+  given : (r : Ran) → c.outcome.ran ≡ Some r → k.answer.ran ≡ Some r
+  given r h = sym k.ran ∙ h
+
+  -- what it is, of a run of the words or of a generated program
+  module _ (r : Ran) (h : c.outcome.ran ≡ Some r) where
+    has_ran : HasRanFor c.files c.source c.reports (command_of c.words) k.answer
+    has_ran = ran_of c.files c.source c.reports (command_of c.words) k.answer r k.cause (given r h)
+
+    same_run : (reports : Reports) (b : Asked) (x : Ran) → k.answer ≡ run_answer reports b.show x → x ≡ r
+    same_run reports b x i = same_ran k.answer (run_answer reports b.show x) x r i refl (given r h)
+
+    same_generated : (size : ℕ) (x : Ran) → k.answer ≡ generated_answer size x → x ≡ r
+    same_generated size x i = same_ran k.answer (generated_answer size x) x r i refl (given r h)
+
+    run_ending : ending ≡ ending_of r.closed.end
+    run_ending = go has_ran
+      where
+        go : HasRanFor c.files c.source c.reports (command_of c.words) k.answer → ending ≡ ending_of r.closed.end
+        go (d, u, inl (b, p, m)) = ap (λ (z : Answer). z.ending) m.answer ∙ ap (λ (z : Ran). ending_of z.closed.end) (same_run c.reports b m.ran m.answer)
+        go (d, u, inr (size, workers, p, m)) = ap (λ (z : Answer). z.ending) m.answer ∙ ap (λ (z : Ran). ending_of z.closed.end) (same_generated size m.ran m.answer)
+
+    run_status : (status ≡ status_of (ending_of r.closed.end)) ⊎ (status ≡ 6)
+    run_status = go k.written.status_is
+      where
+        go : (status ≡ status_of ending) ⊎ (status ≡ 6) → (status ≡ status_of (ending_of r.closed.end)) ⊎ (status ≡ 6)
+        go (inl i) = inl (i ∙ ap status_of run_ending)
+        go (inr i) = inr i
+
+    runs_words : IsRunOfWords c r
+    runs_words = go has_ran
+      where
+        go : HasRanFor c.files c.source c.reports (command_of c.words) k.answer → IsRunOfWords c r
+        go (d, u, inl (b, p, m)) =
+            inl (b, u ∙ ap Some p, m.at_end, m.text, m.input, m.loaded, m.read, subst (IsRunOf m.text m.input b.workers b.limits) (same_run c.reports b m.ran m.answer) m.is_run)
+        go (d, u, inr (size, workers, p, m)) = inr (size, workers, u ∙ ap Some p, subst (IsRunOf (generated_text size) [] workers _) (same_generated size m.ran m.answer) m.is_run)
+
+    written : (output notes : List ℕ) → output_of k.answer ≡ output → notes_of k.answer ≡ notes → AreWritten c output notes
+    written output notes i j = record {
+      whole = λ n. (subst (All c.output) i (k.written.all_written n).0, subst (All c.notes) j (k.written.all_written n).1);
+      part_of_output = subst (Part c.output) i k.written.part_of_output;
+      part_of_notes = subst (Part c.notes) j k.written.part_of_notes;
+    }
+
+    -- of a run that the words ask for
+    module _ (b : Asked) (v : command_of c.words ≡ Some (asks b)) where
+      of_run : (P : Asked → Type 0) → ((x : Asked) → HasRun c.files c.source c.reports x k.answer → P x) → P b
+      of_run P q = go has_ran
+        where
+          go : HasRanFor c.files c.source c.reports (command_of c.words) k.answer → P b
+          go (d, u, inl (x, p, m)) = subst P (one_asked b x (sym p ∙ one_command _ (asks b) d v u)) (q x m)
+          go (d, u, inr (size, workers, p, m)) = absurd (not_gen b size workers (sym (one_command _ (asks b) d v u) ∙ p))
+
+      run_written : AreWritten c r.closed.output (run_notes c.reports b.show r)
+      run_written = of_run (λ x. AreWritten c r.closed.output (run_notes c.reports x.show r)) (λ x m. go x m)
+        where
+          go : (x : Asked) → HasRun c.files c.source c.reports x k.answer → AreWritten c r.closed.output (run_notes c.reports x.show r)
+          go x m =
+              let same : m.ran ≡ r = same_run c.reports x m.ran m.answer in
+              written r.closed.output (run_notes c.reports x.show r)
+              (ap output_of m.answer ∙ ap (λ (z : Ran). z.closed.output) same)
+              (ap notes_of m.answer ∙ (run_notes_stand m.ran.closed.end (run_notes c.reports x.show m.ran) (ends_of _ _ _ _ m.ran m.is_run) ∙ ap (run_notes c.reports x.show) same))
+
+      -- with the text and the input that are told
+      run_meant : (text input : List ℕ) → c.files.held b.file ≡ Some text → c.source.left ≡ Some input → IsMeant b text input r
+      run_meant text input t left = of_run (λ x. c.files.held x.file ≡ Some text → IsMeant x text input r) (λ x m i. go x m i) t
+        where
+          go : (x : Asked) → HasRun c.files c.source c.reports x k.answer → c.files.held x.file ≡ Some text → IsMeant x text input r
+          go x m i =
+              let same : m.ran ≡ r = same_run c.reports x m.ran m.answer in
+              let this : m.text ≡ text = told_of (c.files.held x.file) m.text text i m.loaded in
+              let that : m.input ≡ input = told_of c.source.left m.input input left m.read in
+              meant x text input r (subst (IsRunOf text input x.workers x.limits) same (subst (λ y. IsRunOf text y x.workers x.limits m.ran) that (subst (λ y. IsRunOf y m.input x.workers x.limits m.ran) this m.is_run)))
+            where
+              meant : (x : Asked) (text input : List ℕ) (r : Ran) → IsRunOf text input x.workers x.limits r → IsMeant x text input r
+              meant x text input r h = (bare h.tree, (h.tree, h.has.accepted.0, refl), h.meant)
+
+      run_disjoint : (text : List ℕ) → c.files.held b.file ≡ Some text → IsDisjointText text
+      run_disjoint text t = disjoint_text l text (ran_keeps c.files c.source c.reports (command_of c.words) k.answer (asks b) text v t has_ran)
+
+    generated_written : (size workers : ℕ) → command_of c.words ≡ Some (command.Gen size workers) → AreWritten c (generated_output size r) []
+    generated_written size workers v = go has_ran
+      where
+        of_size : (n x : ℕ) → n ≡ size → HasGenerated n x k.answer → AreWritten c (generated_output size r) []
+        of_size n x i m =
+            let same : m.ran ≡ r = same_generated n m.ran m.answer in
+            written (generated_output size r) []
+            (ap output_of m.answer ∙ (ap (generated_output n) same ∙ ap (λ y. generated_output y r) i))
+            (ap notes_of m.answer ∙ run_notes_stand m.ran.closed.end [] (ends_of _ _ _ _ m.ran m.is_run))
+
+        go : HasRanFor c.files c.source c.reports (command_of c.words) k.answer → AreWritten c (generated_output size r) []
+        go (d, u, inl (b, p, m)) = absurd (not_gen b size workers (sym p ∙ one_command _ (command.Gen size workers) d v u))
+        go (d, u, inr (n, x, p, m)) = of_size n x (one_size n size x workers (sym p ∙ one_command _ (command.Gen size workers) d v u)) m
+
+  -- ---- the clauses
+
+  refuses : OfText c (λ d text. (r : Refusal) → Breaks d text r → SaysRefusal c r)
+  refuses d text v t r b = says (refusal_text r) (refusal_due c.files c.source c.reports (command_of c.words) k.answer d text v t l r b ending refl due_why)
+
+  refuses_only : OfText c (λ d text. status ≡ 1 → (r : Refusal) × Breaks d text r)
+  refuses_only d text v t h = refused_only c.files c.source c.reports (command_of c.words) k.answer d text v t ending due_why (undisplaced 1 (λ p. absurd (omega arith)) h)
+
+  makes_it : OfText c (λ d text. asks_text d → Exactly status 0 ((out line : List ℕ) × Makes d text out line))
+  makes_it d text v t q = (
+    λ h. let m = made_only c.files c.source c.reports (command_of c.words) k.answer d text v t q ending due_why (undisplaced 0 (λ p. absurd (omega arith)) h) in (m.0.output, m.0.line, m.1),
+    λ m. due 0 (made_due c.files c.source c.reports (command_of c.words) k.answer d text v t q l m ending due_why),
+  )
+
+  made_written : OfText c (λ d text. (out line : List ℕ) → Makes d text out line → status ≡ 0 → All c.output out × All c.notes line)
+  made_written d text v t out line m h =
+      let n = made_only c.files c.source c.reports (command_of c.words) k.answer d text v t (made_asks d text out line m) ending due_why (undisplaced 0 (λ p. absurd (omega arith)) h) in
+      let once = made_once l text d n.0.output out n.0.line line n.1 m in
+      let all = k.written.all_written (not_six 0 (λ p. absurd (omega arith)) h) in
+      (subst (All c.output) (ap output_of n.0.answer ∙ once.0) all.0, subst (All c.notes) (ap notes_of n.0.answer ∙ once.1) all.1)
+
+  reads_fail : status ≡ 5 → ReadsFail c
+  reads_fail h = go (read_fails c.files c.source c.reports (command_of c.words) k.answer ending due_why (undisplaced 5 (λ p. absurd (omega arith)) h))
+    where
+      go : ((d : Command) × (command_of c.words ≡ Some d) × (IsNotLoaded c.files d k.answer ⊎ ((b : Asked) × (d ≡ asks b) × IsNotRead c.files c.source b k.answer))) → ReadsFail c
+      go (d, v, inl m) = (d, v, inl (m.name, m.about, m.rose))
+      go (d, v, inr (b, p, m)) = (d, v, inr (b, p, m.kept, m.rose))
+
+  too_long_is : status ≡ 7 → InputIsTooLong c
+  too_long_is h = let m = input_long c.files c.source c.reports (command_of c.words) k.answer ending due_why (undisplaced 7 (λ p. absurd (omega arith)) h) in (m.0, m.1, m.2.kept, m.2.long)
+
+  no_run_of_memory : status ≡ 8 → IsUnwritten c.output × (c.outcome.ran ≡ None)
+  no_run_of_memory h =
+      let m : k.answer ≡ silent e.OutOfMemory = no_memory c.files c.source c.reports (command_of c.words) k.answer ending due_why (undisplaced 8 (λ p. absurd (omega arith)) h) in
+      (k.written.untouched (ap (λ (z : Answer). has_output z.ending) m), k.ran ∙ ap (λ (z : Answer). z.ran) m)
+
+  complete_is : OfText c (λ d text. Keeps d text → IsQuiet c d → (status ≡ 0) ⊎ ((status ≡ 3) ⊎ ((status ≡ 4) ⊎ (status ≡ 8))))
+  complete_is d text v t kept q =
+      subst (λ n. (n ≡ 0) ⊎ ((n ≡ 3) ⊎ ((n ≡ 4) ⊎ (n ≡ 8)))) (sym (same_status not_displaced))
+      (ends_well c.files c.source c.reports (command_of c.words) k.answer d text v t l kept q.library q.source q.input ending due_why)
+    where
+      not_displaced : status ≢ 6
+      not_displaced h = go (k.written.displaced h)
+        where
+          go : Failed c.output ⊎ Failed c.notes → ⊥
+          go (inl m) = q.output m
+          go (inr m) = q.notes m
+
+  source_is : IsUntouched c.source ⊎ ((b : Asked) × (command_of c.words ≡ Some (asks b)) × IfSome (c.files.held b.file) KeepsAll)
+  source_is = go k.cause
+    where
+      reads : (d : Command) → command_of c.words ≡ Some d → ReadsAfterRules c.files c.source d → IsUntouched c.source ⊎ ((b : Asked) × (command_of c.words ≡ Some (asks b)) × IfSome (c.files.held b.file) KeepsAll)
+      reads d v (inl u) = inl u
+      reads d v (inr (b, p, m)) = inr (b, v ∙ ap Some p, m)
+
+      go : Cause c.files c.source c.reports (command_of c.words) k.answer → IsUntouched c.source ⊎ ((b : Asked) × (command_of c.words ≡ Some (asks b)) × IfSome (c.files.held b.file) KeepsAll)
+      go (by_words n h u) = inl u
+      go (before_words h u) = inl u
+      go (by_command d v h r) = reads d v r
+
+  pub statuses : Statuses c
+  statuses = record {
+    bad_words = (
+      λ h. words_only c.files c.source c.reports (command_of c.words) k.answer ending due_why (undisplaced 2 (λ p. absurd (omega arith)) h),
+      λ h. due 2 (words_due c.files c.source c.reports (command_of c.words) k.answer h ending due_why),
+    );
+    refused = refuses;
+    no_other_refused = refuses_only;
+    made = makes_it;
+    by_end = run_status;
+    ran = λ d v n h. let m = run_there c.files c.source c.reports (command_of c.words) k.answer d v n ending due_why (final_status h) in (m.0, k.ran ∙ m.1);
+    runs = runs_words;
+    read_fault = reads_fail;
+    write_fault = k.written.displaced;
+    too_long = too_long_is;
+    long_refused = λ b text v t kept input left long. outside (long_due c.files c.source c.reports (command_of c.words) k.answer b text v t l kept input left long ending due_why);
+    memory = no_run_of_memory;
+    complete = complete_is;
+    source = source_is;
+    disjoint = λ d text v t q h. disjoint_text l text (keeps_all d text q (kept_by c.files c.source c.reports (command_of c.words) k.answer d text v t ending due_why (final_status h)));
+  }
+
+  pub headline : Headline c
+  headline = record {
+    refused = λ b text v t. refuses (asks b) text v t;
+    no_other_refused = λ b text v t. refuses_only (asks b) text v t;
+    disjoint = λ b text v t r h. run_disjoint r h b v text t;
+    meant = λ b text v t input left r h. (run_meant r h b v text input t left, prints r h b v);
+  }
+    where
+      prints : (r : Ran) → c.outcome.ran ≡ Some r → (b : Asked) → command_of c.words ≡ Some (asks b) → Prints c r
+      prints r h b v = let m = run_written r h b v in record { status = run_status r h; whole = λ n. (m.whole n).0; part = m.part_of_output }
+
+  -- the notes where there is no output
+  line_is : (x : Ending) → why c.files c.source c.reports (command_of c.words) k.answer x → has_output x ≡ false → notes_by x k.answer.notes ≡ line_of x ⊎ ((r : Refusal) × (k.answer ≡ refused r))
+  line_is e.Done m h = absurd (no_true h)
+  line_is e.Deadlock m h = absurd (no_true h)
+  line_is e.Fault m h = absurd (no_true h)
+  line_is e.Accepted m h = absurd (no_true h)
+  line_is (e.Refused q) (d, v, m) h = inr (m.refusal, m.answer)
+  line_is e.BadWords m h = inl refl
+  line_is e.ReadFault m h = inl refl
+  line_is e.TooLong m h = inl refl
+  line_is e.OutOfMemory m h = inl refl
+
+  without_output : (x : Ending) → status_of x ≢ 0 → status_of x ≢ 3 → status_of x ≢ 4 → has_output x ≡ false
+  without_output e.Done a b d = absurd (a refl)
+  without_output e.Deadlock a b d = absurd (d refl)
+  without_output e.Fault a b d = absurd (b refl)
+  without_output e.Accepted a b d = absurd (a refl)
+  without_output (e.Refused r) a b d = refl
+  without_output e.BadWords a b d = refl
+  without_output e.ReadFault a b d = refl
+  without_output e.TooLong a b d = refl
+  without_output e.OutOfMemory a b d = refl
+
+  pub writing : Writing c
+  writing = record {
+    made = made_written;
+    ran = λ b v r h. run_written r h b v;
+    generated = λ size workers v r h. generated_written r h size workers v;
+    line = λ a b d g.
+        let i : status ≡ status_of ending = same_status g in
+        let n = without_output ending (λ m. a (i ∙ m)) (λ m. b (i ∙ m)) (λ m. d (i ∙ m)) in
+        (writes_line i n (k.written.all_written g).1, k.written.untouched n);
+  }
+    where
+      writes_line : status ≡ status_of ending → has_output ending ≡ false → All c.notes (notes_of k.answer) → WritesLine c
+      writes_line i n m = go (line_is ending due_why n)
+        where
+          go : notes_by ending k.answer.notes ≡ line_of ending ⊎ ((r : Refusal) × (k.answer ≡ refused r)) → WritesLine c
+          go (inl h) = (ending, i, n, subst (All c.notes) h m)
+          go (inr (r, h)) = (e.Refused r, i ∙ ap (λ (z : Answer). status_of z.ending) h, refl, subst (All c.notes) (ap notes_of h) m)

@@ -1,0 +1,126 @@
+-- What the phases and the commands make of a text is one thing.
+use Rattle.std.proofs.Common.{◌≡◌, ◌⊎◌, inl, inr, ℕ, ◌<◌, ◌≤◌, List, length, refl, sym, ◌∙◌, ap, subst, arith}
+use Rattle.sp_base.specs.declared.halt.Refusal.{Refusal}
+use Rattle.sp_base.specs.declared.rule.Rule.TheVariants as rule
+use Rattle.sp_code.specs.Lengths.{tree_length}
+use Rattle.sp_compile.specs.Codes.{BreaksLength, HasListing}
+use Rattle.sp_format.specs.Formats.{HasLayout, HasNoLayout}
+use Rattle.sp_front.specs.Checks.{BreaksFirst, IsChecked}
+use Rattle.sp_front.specs.Compiles.{BreaksAnyFirst, IsAccepted}
+use Rattle.sp_meaning.specs.Own.{Setting}
+use Rattle.sp_meaning.specs.Runs.{IsDisjointRun}
+use Rattle.sp_scan.proofs.Scanning.{too_long}
+use Rattle.sp_sets.specs.SetsText.{IsSetsText}
+use Rattle.sp_tree.specs.Bare.{bare}
+use Rattle.sp_tree.specs.Places.{start}
+use Rattle.sp_tree.specs.PlainChecked as c
+use Rattle.sp_varsets.specs.AreSets.{AreSets}
+use Rattle.sp_varsets.specs.declared.sets.Sets.{Sets}
+use Rattle.sp_words.specs.declared.command.Command.{Command}
+use Rattle.sp_words.specs.declared.command.Command.TheVariants as command
+use Rattle.superpascal.specs.Texts.{Breaks, BreaksOne, HasSets, IsDisjointText, Keeps, KeepsAll, Makes, asks_all, asks_text}
+
+pub record Laws : Type 0 where
+  -- by characters, grammar, names and types
+  pub tree : (text : List ℕ) (p q : c.Program) → IsChecked text p → IsChecked text q → p ≡ q
+  pub first : (text : List ℕ) (a b : Refusal) → BreaksFirst text a → BreaksFirst text b → a ≡ b
+  pub not_both : (text : List ℕ) (p : c.Program) (r : Refusal) → IsChecked text p → BreaksFirst text r → ⊥
+  -- by all phases
+  pub any_first : (text : List ℕ) (a b : Refusal) → BreaksAnyFirst text a → BreaksAnyFirst text b → a ≡ b
+  pub accepted_or : (text : List ℕ) (p : c.Program) (r : Refusal) → IsAccepted text p → BreaksAnyFirst text r → ⊥
+  pub disjoint : (text : List ℕ) (p : c.Program) → IsAccepted text p → (g : Setting) → g.program ≡ bare p → IsDisjointRun g
+  -- by `format`
+  pub layout : (text a b : List ℕ) → HasLayout text a → HasLayout text b → a ≡ b
+  pub no_layout : (text : List ℕ) (a b : Refusal) → HasNoLayout text a → HasNoLayout text b → a ≡ b
+  pub layout_or : (text out : List ℕ) (r : Refusal) → HasLayout text out → HasNoLayout text r → ⊥
+  -- by the text of the sets
+  pub sets_text : (p : c.Program) (s t : Sets) (a b : List ℕ) → AreSets p s → AreSets p t → IsSetsText p s a → IsSetsText p t b → a ≡ b
+  -- by the listing
+  pub listing : (text a b : List ℕ) → HasListing text a → HasListing text b → a ≡ b
+
+module _ (l : Laws) (text : List ℕ) where
+  one_length : (a b : Refusal) → BreaksLength text a → BreaksLength text b → a ≡ b
+  one_length a b x y = x.3 ∙ sym y.3
+
+  -- a text breaks one rule first
+  pub one_rule : (a b : Refusal) → BreaksOne text a → BreaksOne text b → a ≡ b
+  one_rule a b (inl x) (inl y) = l.any_first text a b x y
+  one_rule a b (inl x) (inr y) = absurd (l.accepted_or text y.0 a y.1 x)
+  one_rule a b (inr x) (inl y) = absurd (l.accepted_or text x.0 b x.1 y)
+  one_rule a b (inr x) (inr y) = one_length a b x y
+
+  -- and none where it is kept
+  pub kept_or : (r : Refusal) → KeepsAll text → BreaksOne text r → ⊥
+  kept_or r k (inl x) = l.accepted_or text k.0 r k.1 x
+  kept_or r k (inr x) = too_many (tree_length (bare k.0)) (tree_length (bare x.0)) (ap (λ (p : c.Program). tree_length (bare p)) (l.tree text k.0 x.0 k.1.0 x.1.0)) k.2 x.2
+    where
+      too_many : (m n : ℕ) → m ≡ n → m ≤ 1048576 → 1048576 < n → ⊥
+      too_many m n e h k = omega arith
+
+  pub one_break : (d : Command) (a b : Refusal) → Breaks d text a → Breaks d text b → a ≡ b
+  one_break (command.Check file) a b x y = one_rule a b x y
+  one_break (command.Run file workers limits show) a b x y = one_rule a b x y
+  one_break (command.Code file) a b x y = one_rule a b x y
+  one_break (command.Sets file) a b x y = l.first text a b x y
+  one_break (command.Format file) a b x y = l.no_layout text a b x y
+  one_break (command.Gen size workers) a b x y = one_rule a b x y
+
+  -- a command that refuses the text for no rule refuses it for none
+  pub keeps_or : (d : Command) (r : Refusal) → Keeps d text → Breaks d text r → ⊥
+  keeps_or (command.Check file) r k x = kept_or r k x
+  keeps_or (command.Run file workers limits show) r k x = kept_or r k x
+  keeps_or (command.Code file) r k x = kept_or r k x
+  keeps_or (command.Sets file) r k x = l.not_both text k.0 r k.1 x
+  keeps_or (command.Format file) r k x = l.layout_or text k.0 r k.1 x
+  keeps_or (command.Gen size workers) r k x = kept_or r k x
+
+  one_sets : (a b : List ℕ) → HasSets text a → HasSets text b → a ≡ b
+  one_sets a b (p, h, s, are, x) (q, k, t, also, y) =
+      let same : q ≡ p = l.tree text q p k h in
+      l.sets_text p s t a b are (subst (λ (z : c.Program). AreSets z t) same also) x (subst (λ (z : c.Program). IsSetsText z t b) same y)
+
+  pub made_once : (d : Command) (a b n m : List ℕ) → Makes d text a n → Makes d text b m → (a ≡ b) × (n ≡ m)
+  made_once (command.Check file) a b n m x y = (x.1 ∙ sym y.1, x.2 ∙ sym y.2)
+  made_once (command.Run file workers limits show) a b n m x y = absurd x
+  made_once (command.Code file) a b n m x y = (l.listing text a b x.0 y.0, x.1 ∙ sym y.1)
+  made_once (command.Sets file) a b n m x y = (one_sets a b x.0 y.0, x.1 ∙ sym y.1)
+  made_once (command.Format file) a b n m x y = (l.layout text a b x.0 y.0, x.1 ∙ sym y.1)
+  made_once (command.Gen size workers) a b n m x y = absurd x
+
+  -- a text that is kept is disjoint
+  pub disjoint_text : KeepsAll text → IsDisjointText text
+  disjoint_text k p (tree, is, same) g e = l.disjoint text k.0 k.1 g (e ∙ (sym same ∙ ap bare (l.tree text tree k.0 is k.1.0)))
+
+-- of a text of which the command makes something it refuses none
+pub made_keeps : (d : Command) (text out line : List ℕ) → Makes d text out line → Keeps d text
+made_keeps (command.Check file) text out line m = m.0
+made_keeps (command.Run file workers limits show) text out line m = absurd m
+made_keeps (command.Code file) text out line m = (m.0.0, m.0.1, m.0.2)
+made_keeps (command.Sets file) text out line m = (m.0.0, m.0.1)
+made_keeps (command.Format file) text out line m = (out, m.0)
+made_keeps (command.Gen size workers) text out line m = absurd m
+
+pub made_asks : (d : Command) (text out line : List ℕ) → Makes d text out line → asks_text d
+made_asks (command.Check file) text out line m = tt
+made_asks (command.Run file workers limits show) text out line m = m
+made_asks (command.Code file) text out line m = tt
+made_asks (command.Sets file) text out line m = tt
+made_asks (command.Format file) text out line m = tt
+made_asks (command.Gen size workers) text out line m = m
+
+pub keeps_all : (d : Command) (text : List ℕ) → asks_all d → Keeps d text → KeepsAll text
+keeps_all (command.Check file) text q k = k
+keeps_all (command.Run file workers limits show) text q k = k
+keeps_all (command.Code file) text q k = k
+keeps_all (command.Sets file) text q k = absurd q
+keeps_all (command.Format file) text q k = absurd q
+keeps_all (command.Gen size workers) text q k = k
+
+-- every command refuses a text that is longer than a text may be
+pub long_breaks : (d : Command) (all : List ℕ) → 1048576 < length all → Breaks d all (record { rule = rule.L1; at = start })
+long_breaks (command.Check file) all h = inl (inl (inl (inl (too_long all start refl h))))
+long_breaks (command.Run file workers limits show) all h = inl (inl (inl (inl (too_long all start refl h))))
+long_breaks (command.Code file) all h = inl (inl (inl (inl (too_long all start refl h))))
+long_breaks (command.Sets file) all h = inl (inl (too_long all start refl h))
+long_breaks (command.Format file) all h = inl (inl (too_long all start refl h))
+long_breaks (command.Gen size workers) all h = inl (inl (inl (inl (too_long all start refl h))))

@@ -1,0 +1,150 @@
+-- From what the parts of a call answer to the cause of its answer.
+use Rattle.std.proofs.Common.{◌≡◌, ◌⊎◌, inl, inr, ℕ, ◌<◌, ◌≤◌, List, [], length, Option, Some, None, Result, Ok, Err, refl, sym, ◌∙◌, ap, subst, arith}
+use Rattle.std.specs.Prelude.{IfSome, ◌↔◌}
+use Rattle.sp_base.specs.declared.halt.Halt.{Halt}
+use Rattle.sp_base.specs.declared.halt.Halt.TheVariants as halt
+use Rattle.sp_base.specs.declared.halt.Refusal.{Refusal}
+use Rattle.sp_base.specs.declared.limits.Limits.{Limits}
+use Rattle.sp_base.specs.declared.limits.Show.{Show}
+use Rattle.sp_compile.specs.Codes.{Codes, IsCompiled}
+use Rattle.sp_compile.specs.declared.phases.CompiledText.{CompiledText}
+use Rattle.sp_execute.specs.declared.execution.Ran.{Ran}
+use Rattle.sp_gen.specs.Generated.{generated_text}
+use Rattle.sp_outside.specs.Counts.{Rose}
+use Rattle.sp_outside.specs.Told.{IsAtEnd}
+use Rattle.sp_tree.specs.CheckedOf.{program_of}
+use Rattle.sp_words.specs.Ranges.{default_limits}
+use Rattle.sp_words.specs.Words.{command_of}
+use Rattle.sp_words.specs.declared.command.Command.{Command}
+use Rattle.sp_words.specs.declared.command.Command.TheVariants as command
+use Rattle.superpascal.specs.declared.ending.Ending.TheVariants as e
+use Rattle.superpascal.specs.declared.ending.Answer.{Answer}
+use Rattle.superpascal.specs.Answering.{CodeAnswer, CommandCause, GeneratedAnswer, GeneratedCause, InputAnswer, IsMade, RanAnswer, Refuses, RunAnswer, RunsOnInput, TextCause, too_long}
+use Rattle.superpascal.specs.Causes.{Cause, by_words, before_words, by_command, Due, by_run, by_generated, by_text, by_rule, by_library, by_source, by_length, by_memory, Files, HasGenerated, HasMade, HasRun, IsNotLoaded, IsNotRead, IsRefusedFor, IsTold, IsTooLong, IsTooMuch, IsUntouched, ReadsAfterRules, Stream, accepted, refused, silent}
+use Rattle.superpascal.specs.Runs.{HasCode, IsRunOf, Reports, generated_answer, run_answer}
+use Rattle.superpascal.specs.Texts.{Asked, Breaks, BreaksOne, IsAbout, KeepsAll, Makes, asked, asks, asks_text, text_of}
+use Rattle.superpascal.proofs.Laws.{long_breaks}
+
+-- ---- what is told
+
+-- what holds of a told text holds of what is told
+pub when_told : (P : List ℕ → Type 0) (o : Option (List ℕ)) (text : List ℕ) → IsTold o text → P text → IfSome o P
+when_told P None text h k = tt
+when_told P (Some all) text h k = subst P h k
+
+-- a text for which the library says so is longer than its limit
+is_long : (o : Option (List ℕ)) (P Q : Type 0) → IfSome o (λ all. P ↔ ((1048576 < length all) × Q)) → P → IfSome o (λ all. 1048576 < length all)
+is_long None P Q h p = tt
+is_long (Some all) P Q h p = (h.0 p).0
+
+long_broken : (d : Command) (o : Option (List ℕ)) → IfSome o (λ all. 1048576 < length all) → IfSome o (λ text. Breaks d text too_long)
+long_broken d None h = tt
+long_broken d (Some all) h = long_breaks d all h
+
+-- the text of a command is the one under the name that it is about
+held_of : (f : Files) (d : Command) (name : List ℕ) → IsAbout d name → text_of f.held d ≡ f.held name
+held_of f (command.Check file) name h = ap f.held h
+held_of f (command.Run file workers limits show) name h = ap f.held h
+held_of f (command.Code file) name h = ap f.held h
+held_of f (command.Sets file) name h = ap f.held h
+held_of f (command.Format file) name h = ap f.held h
+held_of f (command.Gen size workers) name h = absurd h
+
+-- ---- commands that answer from the text alone
+
+module _ (f : Files) (d : Command) (name : List ℕ) (about : IsAbout d name) (a : Answer) where
+  to_text : (P : Option (List ℕ) → Type 0) → P (f.held name) → P (text_of f.held d)
+  to_text P h = subst P (sym (held_of f d name about)) h
+
+  pub text_made : (text : List ℕ) → IsTold (f.held name) text → IsMade d text (Ok a) → TextCause f d a
+  text_made text t (out, line, m, h) = inl (record { text = text; loaded = to_text (λ o. IsTold o text) t; output = out; line = line; makes = m; answer = h })
+
+  refuses : (r : Refusal) → IfSome (text_of f.held d) (λ text. Breaks d text r) → Refuses r a → TextCause f d a
+  refuses r b (inl h) = inr (inl (record { refusal = r; breaks = b; answer = h }))
+  refuses r b (inr h) = inr (inr (inr h))
+
+  pub text_refused : (text : List ℕ) (r : Refusal) → IsTold (f.held name) text → IsMade d text (Err (halt.Refused r)) → Refuses r a → TextCause f d a
+  text_refused text r t b h = refuses r (to_text (λ o. IfSome o (λ x. Breaks d x r)) (when_told (λ x. Breaks d x r) (f.held name) text t b)) h
+
+  pub text_too_long : (P Q : Type 0) → IfSome (f.held name) (λ all. P ↔ ((1048576 < length all) × Q)) → P → Refuses too_long a → TextCause f d a
+  text_too_long P Q t p h = refuses too_long (to_text (λ o. IfSome o (λ x. Breaks d x too_long)) (long_broken d (f.held name) (is_long (f.held name) P Q t p))) h
+
+  pub text_not_loaded : Rose (f.before name) (f.after name) → a ≡ silent e.ReadFault → TextCause f d a
+  text_not_loaded r h = inr (inr (inl (record { name = name; about = about; rose = r; answer = h })))
+
+due_of_text : (f : Files) (s : Stream) (reports : Reports) (d : Command) (a : Answer) → TextCause f d a → Due f s reports d a
+due_of_text f s reports d a (inl h) = by_text h
+due_of_text f s reports d a (inr (inl h)) = by_rule h
+due_of_text f s reports d a (inr (inr (inl h))) = by_library h
+due_of_text f s reports d a (inr (inr (inr h))) = by_memory h
+
+pub command_of_text : (f : Files) (s : Stream) (reports : Reports) (d : Command) (a : Answer) → IsUntouched s → TextCause f d a → CommandCause f s reports d a
+command_of_text f s reports d a u h = (due_of_text f s reports d a h, inl u)
+
+-- ---- `run`
+
+-- the code of a text
+pub has_code : (text : List ℕ) (r : CompiledText) → IsCompiled text r → HasCode text (program_of r.accepted.checked) r.code
+has_code text r h = record { accepted = h.accepted; short = h.short; code = h.code }
+
+pub keeps_compiled : (text : List ℕ) (r : CompiledText) → IsCompiled text r → KeepsAll text
+keeps_compiled text r h = (program_of r.accepted.checked, h.accepted, h.short)
+
+pub code_ran : (reports : Reports) (show : Show) (workers : ℕ) (limits : Limits) (text input : List ℕ) (r : Ran) (a : Answer) → IsRunOf text input workers limits r → RanAnswer reports show r a → CodeAnswer reports show workers limits text input a
+code_ran reports show workers limits text input r a h k = inl (r, h, k)
+
+module _ (s : Stream) (reports : Reports) (show : Show) (workers : ℕ) (limits : Limits) (text : List ℕ) (a : Answer) where
+  pub input_ran : (input : List ℕ) → IsTold s.left input → length input ≤ 16777216 → IsAtEnd s.left' → CodeAnswer reports show workers limits text input a → InputAnswer s reports show workers limits text a
+  input_ran input t n e (inl (r, h, inl k)) = inl (record { input = input; ran = r; read = t; fits = n; at_end = e; is_run = h; answer = k })
+  input_ran input t n e (inl (r, h, inr k)) = inr (inr (inr k))
+  input_ran input t n e (inr k) = inr (inr (inr k))
+
+module _ (f : Files) (s : Stream) (reports : Reports) (b : Asked) (a : Answer) where
+  abbrev Due_run : Type 0
+  Due_run = CommandCause f s reports (asks b) a
+
+  run_refused : (r : Refusal) → IsUntouched s → IfSome (f.held b.file) (λ x. BreaksOne x r) → Refuses r a → Due_run
+  run_refused r u t (inl h) = (by_rule (record { refusal = r; breaks = t; answer = h }), inl u)
+  run_refused r u t (inr h) = (by_memory h, inl u)
+
+  module _ (text : List ℕ) (t : IsTold (f.held b.file) text) where
+    kept_is : KeepsAll text → IfSome (f.held b.file) KeepsAll
+    kept_is k = when_told KeepsAll (f.held b.file) text t k
+
+    reads : KeepsAll text → ReadsAfterRules f s (asks b)
+    reads k = inr (b, refl, kept_is k)
+
+    pub run_loaded : RunAnswer s reports b.show b.workers b.limits text a → Due_run
+    run_loaded (inl (k, inl h)) =
+        (by_run b refl (record { text = text; input = h.input; ran = h.ran; loaded = t; read = h.read; fits = h.fits; at_end = h.at_end; is_run = h.is_run; answer = h.answer }), reads k)
+    run_loaded (inl (k, inr (inl h))) = (by_source b refl (record { kept = kept_is k; rose = h.0; answer = h.1 }), reads k)
+    run_loaded (inl (k, inr (inr (inl h)))) = (by_length b refl (record { kept = kept_is k; long = h.0; answer = h.1 }), reads k)
+    run_loaded (inl (k, inr (inr (inr h)))) = (by_memory h, reads k)
+    run_loaded (inr (u, inl (r, br, h))) = run_refused r u (when_told (λ x. BreaksOne x r) (f.held b.file) text t br) h
+    run_loaded (inr (u, inr h)) = (by_memory h, inl u)
+
+  pub run_too_long : (P Q : Type 0) → IsUntouched s → IfSome (f.held b.file) (λ all. P ↔ ((1048576 < length all) × Q)) → P → Refuses too_long a → Due_run
+  run_too_long P Q u t p h = run_refused too_long u (long_broken (asks b) (f.held b.file) (is_long (f.held b.file) P Q t p)) h
+
+  pub run_not_loaded : IsUntouched s → Rose (f.before b.file) (f.after b.file) → a ≡ silent e.ReadFault → Due_run
+  run_not_loaded u r h = (by_library (record { name = b.file; about = refl; rose = r; answer = h }), inl u)
+
+  pub run_no_memory : IsUntouched s → a ≡ silent e.OutOfMemory → Due_run
+  run_no_memory u h = (by_memory h, inl u)
+
+-- ---- `gen`
+
+pub generated_ran : (size workers : ℕ) (r : Ran) (a : Answer) → IsRunOf (generated_text size) [] workers default_limits r → GeneratedAnswer size r a → GeneratedCause size workers a
+generated_ran size workers r a h (inl k) = inl (record { ran = r; is_run = h; answer = k })
+generated_ran size workers r a h (inr k) = inr (inr k)
+
+pub command_of_generated : (f : Files) (s : Stream) (reports : Reports) (size workers : ℕ) (a : Answer) → IsUntouched s → GeneratedCause size workers a → CommandCause f s reports (command.Gen size workers) a
+command_of_generated f s reports size workers a u (inl h) = (by_generated size workers refl h, inl u)
+command_of_generated f s reports size workers a u (inr (inl (r, b, inl h))) = (by_rule (record { refusal = r; breaks = b; answer = h }), inl u)
+command_of_generated f s reports size workers a u (inr (inl (r, b, inr h))) = (by_memory h, inl u)
+command_of_generated f s reports size workers a u (inr (inr h)) = (by_memory h, inl u)
+
+-- ---- words
+
+pub cause_of_command : (f : Files) (s : Stream) (reports : Reports) (w : Option Command) (d : Command) (a : Answer) → w ≡ Some d → CommandCause f s reports d a → Cause f s reports w a
+cause_of_command f s reports w d a h k = by_command d h k.0 k.1

@@ -1,0 +1,88 @@
+-- Why an answer is due, by its ending.
+use Rattle.std.proofs.Common.{◌≡◌, ◌⊎◌, inl, inr, ℕ, List, [], Option, Some, None, refl, sym, ◌∙◌, ap, subst}
+use Rattle.sp_base.specs.declared.halt.Refusal.{Refusal}
+use Rattle.sp_execute.specs.declared.execution.Ran.{Ran}
+use Rattle.sp_journal.specs.declared.outcome.End.{End}
+use Rattle.sp_journal.specs.declared.outcome.End.TheVariants as ends
+use Rattle.sp_words.specs.declared.command.Command.{Command}
+use Rattle.sp_words.specs.declared.command.Command.TheVariants as command
+use Rattle.superpascal.specs.declared.ending.Ending.{Ending}
+use Rattle.superpascal.specs.declared.ending.Ending.TheVariants as e
+use Rattle.superpascal.specs.declared.ending.Answer.{Answer}
+use Rattle.superpascal.specs.Causes.{Cause, by_words, before_words, by_command, Due, by_run, by_generated, by_text, by_rule, by_library, by_source, by_length, by_memory, Files, HasGenerated, HasMade, HasRun, IsNotLoaded, IsNotRead, IsRefusedFor, IsTooMuch, Stream, silent}
+use Rattle.superpascal.specs.Runs.{IsRunOf, Reports, ending_of, generated_answer, run_answer}
+use Rattle.superpascal.specs.Texts.{Asked, asks}
+use Rattle.superpascal.proofs.Telling.{Ends, ends_of}
+
+module _ (f : Files) (s : Stream) (reports : Reports) (w : Option Command) (a : Answer) where
+  -- a program has run for this command
+  abbrev pub IsRanBy : Command → Type 0
+  IsRanBy d = ((asked : Asked) × (d ≡ asks asked) × HasRun f s reports asked a) ⊎ ((size workers : ℕ) × (d ≡ command.Gen size workers) × HasGenerated size workers a)
+
+  abbrev pub HasRanFor : Type 0
+  HasRanFor = (d : Command) × (w ≡ Some d) × IsRanBy d
+
+  abbrev pub why : Ending → Type 0
+  why e.Done = HasRanFor
+  why e.Deadlock = HasRanFor
+  why e.Fault = HasRanFor
+  why e.Accepted = (d : Command) × (w ≡ Some d) × HasMade f d a
+  why (e.Refused r) = (d : Command) × (w ≡ Some d) × IsRefusedFor f d a
+  why e.BadWords = w ≡ None
+  why e.ReadFault = (d : Command) × (w ≡ Some d) × (IsNotLoaded f d a ⊎ ((asked : Asked) × (d ≡ asks asked) × IsNotRead f s asked a))
+  why e.TooLong = (asked : Asked) × (w ≡ Some (asks asked)) × IsTooMuch f s asked a
+  why e.OutOfMemory = a ≡ silent e.OutOfMemory
+
+  by_end : (x : End) → Ends x → HasRanFor → why (ending_of x)
+  by_end ends.Done p h = h
+  by_end (ends.Deadlock ws) p h = h
+  by_end (ends.Fault n y) p h = h
+  by_end ends.Memory p h = absurd p
+
+  -- the ending of an answer that is known
+  at : (b : Answer) → a ≡ b → why b.ending → why a.ending
+  at b h k = subst why (sym (ap (λ (z : Answer). z.ending) h)) k
+
+  why_due : (d : Command) → w ≡ Some d → Due f s reports d a → why a.ending
+  why_due d v (by_run asked p h) = at (run_answer reports asked.show h.ran) h.answer (by_end h.ran.closed.end (ends_of _ _ _ _ h.ran h.is_run) (d, v, inl (asked, p, h)))
+  why_due d v (by_generated size workers p h) = at (generated_answer size h.ran) h.answer (by_end h.ran.closed.end (ends_of _ _ _ _ h.ran h.is_run) (d, v, inr (size, workers, p, h)))
+  why_due d v (by_text h) = at _ h.answer (d, v, h)
+  why_due d v (by_rule h) = at _ h.answer (d, v, h)
+  why_due d v (by_library h) = at _ h.answer (d, v, inl h)
+  why_due d v (by_source asked p h) = at _ h.answer (d, v, inr (asked, p, h))
+  why_due d v (by_length asked p h) = at _ h.answer (asked, v ∙ ap Some p, h)
+  why_due d v (by_memory h) = at _ h h
+
+  pub why_of : Cause f s reports w a → why a.ending
+  why_of (by_words n h u) = at _ h n
+  why_of (before_words h u) = at _ h h
+  why_of (by_command d v due reads) = why_due d v due
+
+  -- a run that is given back has run for the command
+  no_run : (b : Answer) (r : Ran) → a ≡ b → b.ran ≡ None → a.ran ≡ Some r → ⊥
+  no_run b r h n k = none_some r (sym n ∙ sym (ap (λ (z : Answer). z.ran) h) ∙ k)
+    where
+      none_some : (r : Ran) → ◌≡◌ {A = Option Ran} None (Some r) → ⊥
+      none_some r h = cc
+
+  ran_due : (d : Command) (r : Ran) → Due f s reports d a → a.ran ≡ Some r → IsRanBy d
+  ran_due d r (by_run asked p h) k = inl (asked, p, h)
+  ran_due d r (by_generated size workers p h) k = inr (size, workers, p, h)
+  ran_due d r (by_text h) k = absurd (no_run _ r h.answer refl k)
+  ran_due d r (by_rule h) k = absurd (no_run _ r h.answer refl k)
+  ran_due d r (by_library h) k = absurd (no_run _ r h.answer refl k)
+  ran_due d r (by_source asked p h) k = absurd (no_run _ r h.answer refl k)
+  ran_due d r (by_length asked p h) k = absurd (no_run _ r h.answer refl k)
+  ran_due d r (by_memory h) k = absurd (no_run _ r h refl k)
+
+  pub ran_of : (r : Ran) → Cause f s reports w a → a.ran ≡ Some r → HasRanFor
+  ran_of r (by_words n h u) k = absurd (no_run _ r h refl k)
+  ran_of r (before_words h u) k = absurd (no_run _ r h refl k)
+  ran_of r (by_command d v due reads) k = (d, v, ran_due d r due k)
+
+-- the run of an answer that is known
+pub same_ran : (a b : Answer) (x r : Ran) → a ≡ b → b.ran ≡ Some x → a.ran ≡ Some r → x ≡ r
+same_ran a b x r h k m = some_same x r (sym k ∙ sym (ap (λ (z : Answer). z.ran) h) ∙ m)
+  where
+    some_same : (x r : Ran) → ◌≡◌ {A = Option Ran} (Some x) (Some r) → x ≡ r
+    some_same x r h = cc
