@@ -3,6 +3,7 @@ mod Commands
 mod LevelEnds
 mod Levels
 mod ParserLemmas
+mod RangeLemmas
 mod Readings
 mod Rules
 mod WordForms

@@ -2,12 +2,16 @@
 #![tactic(auto)]
 
 mod command;
+mod defaults;
 mod form;
 mod given;
+mod law;
 mod parser;
 mod read;
 #[cfg(test)]
 mod tests;
 
 pub use command::{Command, WordsError};
+pub use defaults::default_limits;
+pub use law::accepted_options_are_in_range;
 pub use read::read_words;

@@ -1,0 +1,126 @@
+-- The options of a `run` that words ask for are in their ranges.
+use Rattle.std.proofs.Common.{arith, ◌≡◌, ◌&&◌, ◌^◌, ℕ, Bool, cond, true, false, refl, sym, ap, ◌∙◌, List, [], ◌∷◌, Option, Some, None, option_map, true≢false}
+use Rattle.std.proofs.lemmas.Bool.{and_parts, leb-true}
+use Rattle.std.proofs.lemmas.Slice.Eq.{bytes_eq-Decides}
+use Rattle.std.specs.List.{find, list_all}
+use Rattle.std.specs.Option.{option_map_or}
+use Rattle.std.specs.Prelude.{codes, nat_le, nat_lt, option_and_then, unwrap_or}
+use Rattle.std.specs.Str.{bytes_eq}
+use Rattle.std.specs.Str.Parse.{digits_value, without_leading_plus}
+use Rattle.sp_base.specs.declared.limits.Limits.{Limits}
+use Rattle.sp_base.specs.declared.limits.Show.{Show}
+use Rattle.sp_words.specs.Dashes.{Item, Text, file, given, items}
+use Rattle.sp_words.specs.Options.{Choice, is_number_in, is_numeral, number_or, option_names, options_of, run_options, show_or_end}
+use Rattle.sp_words.specs.Ranges.{IsInRange, IsUpTo}
+use Rattle.sp_words.specs.Words.{command_named, command_of, command_of_items, command_read, command_with, each_once, is_accepted, limits_from, lookup, subject, text_of}
+use Rattle.sp_words.specs.declared.command.Command.TheVariants as command
+use Rattle.sp_words.specs.declared.command.CommandName.{CommandName}
+use Rattle.sp_words.specs.declared.command.CommandName.TheVariants as name
+
+-- ---- a number that was given is in its range, and else the default stands
+
+number_fits : (greatest default n : ℕ) (a b c : Bool) → IsUpTo greatest default
+    → option_map_or (λ n. nat_le 1 n && nat_le n greatest) (cond (a && b) (Some n) None) false ≡ true
+    → IsUpTo greatest (unwrap_or (cond (a && c) (Some n) None) default)
+number_fits greatest default n true true true d e =
+    let parts = and_parts (nat_le 1 n) (nat_le n greatest) e in
+    (leb-true 1 n parts.0, leb-true n greatest parts.1)
+number_fits greatest default n true true false d e = d
+number_fits greatest default n true false c d e = absurd (true≢false (sym e))
+number_fits greatest default n false b c d e = d
+
+-- what an option was given is among its values
+abbrev pub Fits : (Text → Bool) → Option Text → Type 0
+Fits test None = Unit {0}
+Fits test (Some text) = test text ≡ true
+
+pub number_in_range : (bound greatest default : ℕ) (value : Option Text) → IsUpTo greatest default → Fits (is_number_in 1 greatest) value
+    → IsUpTo greatest (number_or bound default value)
+number_in_range bound greatest default None d fits = d
+number_in_range bound greatest default (Some text) d fits =
+    let digits = without_leading_plus text in
+    number_fits greatest default (digits_value 10 digits) (is_numeral digits) (nat_lt (digits_value 10 digits) (2 ^ 64)) (nat_lt (digits_value 10 digits) bound) d fits
+
+-- ---- what is found among accepted items is a value of its option
+
+abbrev of_choice : Text → Option Choice → Bool
+of_choice value found = option_map_or (λ o. o.1 value) found false
+
+item_fits : (options : List Choice) (name : Text) (choice : Choice) (i : Item) → bytes_eq (codes "FILE") name ≡ false → find (λ o. bytes_eq o.0 name) options ≡ Some choice
+    → is_accepted options i ≡ true → bytes_eq (subject i) name ≡ true → choice.1 (text_of i) ≡ true
+item_fits options name choice (file word) apart found e same = absurd (true≢false (sym same ∙ apart))
+item_fits options name choice (given n value) apart found e same =
+    let here : n ≡ name = (bytes_eq-Decides n name).0 same in
+    sym (ap (of_choice value) found) ∙ ap (λ (m : Text). of_choice value (find (λ o. bytes_eq o.0 m) options)) (sym here) ∙ e
+
+found_fits : (options : List Choice) (name : Text) (choice : Choice) (is : List Item) → bytes_eq (codes "FILE") name ≡ false → find (λ o. bytes_eq o.0 name) options ≡ Some choice
+    → list_all (is_accepted options) is ≡ true → Fits choice.1 (lookup is name)
+found_fits options name choice [] apart found e = tt
+found_fits options name choice (i ∷ is) apart found e =
+    let parts = and_parts (is_accepted options i) (list_all (is_accepted options) is) e in
+    go (bytes_eq (subject i) name) refl parts.0 (found_fits options name choice is apart found parts.1)
+  where
+    go : (b : Bool) → bytes_eq (subject i) name ≡ b → is_accepted options i ≡ true → Fits choice.1 (lookup is name)
+        → Fits choice.1 (option_map text_of (cond b (Some i) (find (λ j. bytes_eq (subject j) name) is)))
+    go true same accepted rest = item_fits options name choice i apart found accepted same
+    go false same accepted rest = rest
+
+-- ---- the options of `run`
+
+options_in_range : (is : List Item) → list_all (is_accepted run_options) is ≡ true
+    → IsInRange (number_or (2 ^ 32) 4 (lookup is (codes "workers"))) (limits_from (lookup is))
+options_in_range is e = record {
+  workers = number_in_range (2 ^ 32) 64 4 (lookup is (codes "workers")) (omega arith, omega arith) (found_fits run_options (codes "workers") _ is refl refl e);
+  ticks = number_in_range (2 ^ 64) 1000000000 10000000 (lookup is (codes "ticks")) (omega arith, omega arith) (found_fits run_options (codes "ticks") _ is refl refl e);
+  depth = number_in_range (2 ^ 32) 10000 1000 (lookup is (codes "depth")) (omega arith, omega arith) (found_fits run_options (codes "depth") _ is refl refl e);
+  cells = number_in_range (2 ^ 32) 67108864 4194304 (lookup is (codes "cells")) (omega arith, omega arith) (found_fits run_options (codes "cells") _ is refl refl e);
+  processes = number_in_range (2 ^ 32) 1000000 100000 (lookup is (codes "processes")) (omega arith, omega arith) (found_fits run_options (codes "processes") _ is refl refl e);
+  channels = number_in_range (2 ^ 32) 1000000 100000 (lookup is (codes "channels")) (omega arith, omega arith) (found_fits run_options (codes "channels") _ is refl refl e);
+  entries = number_in_range (2 ^ 32) 10000000 1000000 (lookup is (codes "entries")) (omega arith, omega arith) (found_fits run_options (codes "entries") _ is refl refl e);
+  output = number_in_range (2 ^ 64) 268435456 16777216 (lookup is (codes "output")) (omega arith, omega arith) (found_fits run_options (codes "output") _ is refl refl e);
+}
+
+-- ---- the words
+
+none≢some : {X : Type 0} (x : X) → None ≡ Some x → ⊥
+none≢some x e = cc
+
+same_run : (f g : Text) (w v : ℕ) (l m : Limits) (s t : Show) → Some (command.Run f w l s) ≡ Some (command.Run g v m t) → (w ≡ v) × (l ≡ m)
+same_run f g w v l m s t e = (cc, cc)
+
+run_in_range : (called : CommandName) (is : List Item) (path : Text) (workers : ℕ) (limits : Limits) (show : Show) → list_all (is_accepted (options_of called)) is ≡ true
+    → command_with called (lookup is) ≡ Some (command.Run path workers limits show) → IsInRange workers limits
+run_in_range name.Run is path workers limits show accepted e = go (lookup is (codes "FILE")) refl
+  where
+    go : (o : Option Text) → lookup is (codes "FILE") ≡ o → IsInRange workers limits
+    go None d =
+        let told : None ≡ Some (command.Run path workers limits show) = rw d at e in
+        absurd (none≢some (command.Run path workers limits show) told)
+    go (Some word) d =
+        let told : Some (command.Run word (number_or (2 ^ 32) 4 (lookup is (codes "workers"))) (limits_from (lookup is)) (show_or_end (lookup is (codes "show"))))
+        ≡ Some (command.Run path workers limits show) = rw d at e in
+        let same = same_run _ _ _ _ _ _ _ _ told in
+        rw (sym same.0, sym same.1) (options_in_range is accepted)
+run_in_range _ is path workers limits show accepted e = grind arith
+
+items_in_range : (called : CommandName) (is : List Item) (g : Bool) (path : Text) (workers : ℕ) (limits : Limits) (show : Show)
+    → (each_once [] is && list_all (is_accepted (options_of called)) is) ≡ g
+    → cond g (command_with called (lookup is)) None ≡ Some (command.Run path workers limits show) → IsInRange workers limits
+items_in_range called is true path workers limits show d e = run_in_range called is path workers limits show (and_parts (each_once [] is) (list_all (is_accepted (options_of called)) is) d).1 e
+items_in_range called is false path workers limits show d e = absurd (none≢some (command.Run path workers limits show) e)
+
+read_in_range : (called : CommandName) (read : Option (List Item)) (path : Text) (workers : ℕ) (limits : Limits) (show : Show)
+    → option_and_then (command_of_items called) read ≡ Some (command.Run path workers limits show) → IsInRange workers limits
+read_in_range called None path workers limits show e = absurd (none≢some (command.Run path workers limits show) e)
+read_in_range called (Some is) path workers limits show e = items_in_range called is _ path workers limits show refl e
+
+named_in_range : (words : List Text) (found : Option CommandName) (path : Text) (workers : ℕ) (limits : Limits) (show : Show)
+    → option_and_then (command_read words) found ≡ Some (command.Run path workers limits show) → IsInRange workers limits
+named_in_range words None path workers limits show e = absurd (none≢some (command.Run path workers limits show) e)
+named_in_range words (Some called) path workers limits show e = read_in_range called (items (option_names called) None words) path workers limits show e
+
+-- the options of a `run` that words ask for are in their ranges
+pub accepted_in_range : (words : List Text) (path : Text) (workers : ℕ) (limits : Limits) (show : Show)
+    → command_of words ≡ Some (command.Run path workers limits show) → IsInRange workers limits
+accepted_in_range [] path workers limits show e = absurd (none≢some (command.Run path workers limits show) e)
+accepted_in_range (word ∷ words) path workers limits show e = named_in_range words (command_named word) path workers limits show e
