@@ -1,6 +1,6 @@
 -- The options of a `run` that words ask for are in their ranges.
-use Rattle.std.proofs.Common.{arith, ◌≡◌, ◌≤◌, ◌&&◌, ◌^◌, ℕ, Bool, cond, true, false, refl, sym, ap, ap₂, ◌∙◌, List, [], ◌∷◌, Option, Some, None, option_map, true≢false}
-use Rattle.std.proofs.lemmas.Bool.{leb-true}
+use Rattle.std.proofs.Common.{arith, ◌≡◌, ◌&&◌, ◌^◌, ℕ, Bool, cond, true, false, refl, sym, ap, ◌∙◌, List, [], ◌∷◌, Option, Some, None, option_map, true≢false}
+use Rattle.std.proofs.lemmas.Bool.{and_parts, leb-true}
 use Rattle.std.proofs.lemmas.Slice.Eq.{bytes_eq-Decides}
 use Rattle.std.specs.List.{find, list_all}
 use Rattle.std.specs.Option.{option_map_or}
@@ -11,16 +11,11 @@ use Rattle.sp_base.specs.declared.limits.Limits.{Limits}
 use Rattle.sp_base.specs.declared.limits.Show.{Show}
 use Rattle.sp_words.specs.Dashes.{Item, Text, file, given, items}
 use Rattle.sp_words.specs.Options.{Choice, is_number_in, is_numeral, number_or, option_names, options_of, run_options, show_or_end}
-use Rattle.sp_words.specs.Ranges.{IsInRange, IsUpTo, default_limits}
+use Rattle.sp_words.specs.Ranges.{IsInRange, IsUpTo}
 use Rattle.sp_words.specs.Words.{command_named, command_of, command_of_items, command_read, command_with, each_once, is_accepted, limits_from, lookup, subject, text_of}
-use Rattle.sp_words.specs.declared.command.Command.{Command}
 use Rattle.sp_words.specs.declared.command.Command.TheVariants as command
 use Rattle.sp_words.specs.declared.command.CommandName.{CommandName}
 use Rattle.sp_words.specs.declared.command.CommandName.TheVariants as name
-
-both : (a b : Bool) → (a && b) ≡ true → (a ≡ true) × (b ≡ true)
-both true b e = (refl, e)
-both false b e = absurd (true≢false (sym e))
 
 -- ---- a number that was given is in its range, and else the default stands
 
@@ -28,7 +23,7 @@ number_fits : (greatest default n : ℕ) (a b c : Bool) → IsUpTo greatest defa
     → option_map_or (λ n. nat_le 1 n && nat_le n greatest) (cond (a && b) (Some n) None) false ≡ true
     → IsUpTo greatest (unwrap_or (cond (a && c) (Some n) None) default)
 number_fits greatest default n true true true d e =
-    let parts = both (nat_le 1 n) (nat_le n greatest) e in
+    let parts = and_parts (nat_le 1 n) (nat_le n greatest) e in
     (leb-true 1 n parts.0, leb-true n greatest parts.1)
 number_fits greatest default n true true false d e = d
 number_fits greatest default n true false c d e = absurd (true≢false (sym e))
@@ -62,7 +57,7 @@ found_fits : (options : List Choice) (name : Text) (choice : Choice) (is : List 
     → list_all (is_accepted options) is ≡ true → Fits choice.1 (lookup is name)
 found_fits options name choice [] apart found e = tt
 found_fits options name choice (i ∷ is) apart found e =
-    let parts = both (is_accepted options i) (list_all (is_accepted options) is) e in
+    let parts = and_parts (is_accepted options i) (list_all (is_accepted options) is) e in
     go (bytes_eq (subject i) name) refl parts.0 (found_fits options name choice is apart found parts.1)
   where
     go : (b : Bool) → bytes_eq (subject i) name ≡ b → is_accepted options i ≡ true → Fits choice.1 (lookup is name)
@@ -98,7 +93,9 @@ run_in_range : (called : CommandName) (is : List Item) (path : Text) (workers : 
 run_in_range name.Run is path workers limits show accepted e = go (lookup is (codes "FILE")) refl
   where
     go : (o : Option Text) → lookup is (codes "FILE") ≡ o → IsInRange workers limits
-    go None d = let told : None ≡ Some (command.Run path workers limits show) = rw d at e in absurd (none≢some (command.Run path workers limits show) told)
+    go None d =
+        let told : None ≡ Some (command.Run path workers limits show) = rw d at e in
+        absurd (none≢some (command.Run path workers limits show) told)
     go (Some word) d =
         let told : Some (command.Run word (number_or (2 ^ 32) 4 (lookup is (codes "workers"))) (limits_from (lookup is)) (show_or_end (lookup is (codes "show"))))
         ≡ Some (command.Run path workers limits show) = rw d at e in
@@ -109,7 +106,7 @@ run_in_range _ is path workers limits show accepted e = grind arith
 items_in_range : (called : CommandName) (is : List Item) (g : Bool) (path : Text) (workers : ℕ) (limits : Limits) (show : Show)
     → (each_once [] is && list_all (is_accepted (options_of called)) is) ≡ g
     → cond g (command_with called (lookup is)) None ≡ Some (command.Run path workers limits show) → IsInRange workers limits
-items_in_range called is true path workers limits show d e = run_in_range called is path workers limits show (both (each_once [] is) (list_all (is_accepted (options_of called)) is) d).1 e
+items_in_range called is true path workers limits show d e = run_in_range called is path workers limits show (and_parts (each_once [] is) (list_all (is_accepted (options_of called)) is) d).1 e
 items_in_range called is false path workers limits show d e = absurd (none≢some (command.Run path workers limits show) e)
 
 read_in_range : (called : CommandName) (read : Option (List Item)) (path : Text) (workers : ℕ) (limits : Limits) (show : Show)
@@ -127,16 +124,3 @@ pub accepted_in_range : (words : List Text) (path : Text) (workers : ℕ) (limit
     → command_of words ≡ Some (command.Run path workers limits show) → IsInRange workers limits
 accepted_in_range [] path workers limits show e = absurd (none≢some (command.Run path workers limits show) e)
 accepted_in_range (word ∷ words) path workers limits show e = named_in_range words (command_named word) path workers limits show e
-
--- so are the limits where no option is given
-pub defaults_in_range : (workers : ℕ) → 1 ≤ workers → workers ≤ 64 → IsInRange workers default_limits
-defaults_in_range workers least most = record {
-  workers = (least, most);
-  ticks = (omega arith, omega arith);
-  depth = (omega arith, omega arith);
-  cells = (omega arith, omega arith);
-  processes = (omega arith, omega arith);
-  channels = (omega arith, omega arith);
-  entries = (omega arith, omega arith);
-  output = (omega arith, omega arith);
-}

@@ -1,4 +1,4 @@
-use Rattle.sp_words.proofs.RangeLemmas.{accepted_in_range, defaults_in_range}
+use Rattle.sp_words.proofs.RangeLemmas.{accepted_in_range}
 use Rattle.sp_words.proofs.law.accepted_options_are_in_range.Goals as goal
 
 pub returns-clause-accepted : goal.returns-clause-accepted
