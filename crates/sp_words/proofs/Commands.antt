@@ -26,10 +26,10 @@ use Rattle.clap.specs.declared.builder.value_parser.ValueParser.{ValueParser}
 use Rattle.clap.specs.declared.builder.value_parser.ValueParser.TheVariants as vp
 use Rattle.sp_words.specs.Dashes.{Item, Text, contains, items}
 use Rattle.sp_words.specs.Options.{is_number_in, is_numeral, option_names, options_of}
-use Rattle.sp_words.specs.Parsers.{IsShowParser, app_with, run_parsers}
-use Rattle.sp_words.specs.Words.{command_named, command_names, command_of, command_of_items, command_read, command_with, each_once, is_accepted, lookup}
+use Rattle.sp_words.specs.Parsers.{IsShowParser, app_with, gen_parsers, run_parsers}
+use Rattle.sp_words.specs.Words.{command_from, command_named, command_names, command_of, command_of_items, command_read, command_with, each_once, is_accepted, lookup}
 use Rattle.sp_words.specs.declared.command.CommandName.{CommandName}
-use Rattle.sp_words.specs.declared.command.CommandName.TheVariants.{Check, Run, Code, Sets, Format}
+use Rattle.sp_words.specs.declared.command.CommandName.TheVariants.{Check, Run, Code, Sets, Format, Gen}
 use Rattle.sp_words.proofs.Readings.{Each}
 use Rattle.sp_words.proofs.Rules.{Parsers, clear, file_id, level, rules}
 use Rattle.sp_words.proofs.Levels.{and-false, good, names}
@@ -43,6 +43,7 @@ word_for Run = codes "run"
 word_for Code = codes "code"
 word_for Sets = codes "sets"
 word_for Format = codes "format"
+word_for Gen = codes "gen"
 
 some_same : {X : Type 0} {x y : X} → Some x ≡ Some y → x ≡ y
 some_same {X} {x} {y} e = ap (λ o. Rattle.std.specs.Prelude.unwrap_or o x) e
@@ -63,7 +64,7 @@ word_found (x ∷ xs) word command each e = found_step x word command (find (λ 
 
 -- the word that names a command
 pub word_of_command : (word : Text) (command : CommandName) → command_named word ≡ Some command → word ≡ word_for command
-word_of_command word command e = word_found command_names word command (refl, (refl, (refl, (refl, (refl, tt))))) e
+word_of_command word command e = word_found command_names word command (refl, (refl, (refl, (refl, (refl, (refl, tt)))))) e
 
 -- ---- the walk past the command
 
@@ -144,9 +145,10 @@ parsers_for q Run = run_parsers q
 parsers_for q Code = []
 parsers_for q Sets = []
 parsers_for q Format = []
+parsers_for q Gen = gen_parsers
 
 abbrev pub shapes : ValueParser → List Shape
-shapes q = level (codes "check") [] ∷ level (codes "run") (run_parsers q) ∷ level (codes "code") [] ∷ level (codes "sets") [] ∷ level (codes "format") [] ∷ []
+shapes q = level (codes "check") [] ∷ level (codes "run") (run_parsers q) ∷ level (codes "code") [] ∷ level (codes "sets") [] ∷ level (codes "format") [] ∷ level (codes "gen") gen_parsers ∷ []
 
 built_is : (q : ValueParser) → built (app_with q) ≡ app (shapes q)
 built_is q = refl
@@ -163,6 +165,7 @@ enters_command q Run words = enters (shapes q) (codes "run") (level (codes "run"
 enters_command q Code words = enters (shapes q) (codes "code") (level (codes "code") []) words refl refl
 enters_command q Sets words = enters (shapes q) (codes "sets") (level (codes "sets") []) words refl refl
 enters_command q Format words = enters (shapes q) (codes "format") (level (codes "format") []) words refl refl
+enters_command q Gen words = enters (shapes q) (codes "gen") (level (codes "gen") gen_parsers) words refl refl
 
 number_test : (a b : Bool) (n : ℕ) (f : ℕ → Bool) → (a && (b && f n)) ≡ option_map_or f (cond (a && b) (Some n) None) false
 number_test true true n f = refl
@@ -197,6 +200,7 @@ agrees q Run show = (
 agrees q Code show = tt
 agrees q Sets show = tt
 agrees q Format show = tt
+agrees q Gen show = (refl, takes_number 1 64, tt)
 
 no_file : (q : ValueParser) (command : CommandName) → contains (names (parsers_for q command)) file_id ≡ false
 no_file q Check = refl
@@ -204,6 +208,7 @@ no_file q Run = refl
 no_file q Code = refl
 no_file q Sets = refl
 no_file q Format = refl
+no_file q Gen = refl
 
 -- ---- the words
 
@@ -212,7 +217,7 @@ line q word words = fault_of (app_with q) (word ∷ words)
 
 -- what the parse of the words says of the command that they ask for
 pub record ReadsLine (q : ValueParser) (word : Text) (words : List Text) (command : CommandName) : Type 0 where
-  pub fault : clear (line q word words) ≡ is_some (command_of (word ∷ words))
+  pub refused : clear (line q word words) ≡ false → command_of (word ∷ words) ≡ None
   pub rows : List Row
   pub entered_rows : option_map (λ p. p.1) (subcommand_of (app_with q) (word ∷ words)) ≡ Some rows
   pub found : clear (line q word words) ≡ true → command_with command (λ id. first_of id rows) ≡ command_of (word ∷ words)
@@ -221,13 +226,14 @@ reads_as : (word : Text) (words : List Text) (command : CommandName) (is : List 
     → command_of (word ∷ words) ≡ command_of_items command is
 reads_as word words command is e i = ap (option_and_then (command_read words)) e ∙ ap (option_and_then (command_of_items command)) i
 
-some_of : (g : Bool) (command : CommandName) (is : List Item) → (g && is_some (lookup is file_id)) ≡ is_some (cond g (command_with command (lookup is)) None)
-some_of false command is = refl
-some_of true command is = go (lookup is file_id)
-  where
-    go : (o : Option Text) → is_some o ≡ is_some (option_map (Rattle.sp_words.specs.Words.command_from command (lookup is)) o)
-    go None = refl
-    go (Some t) = refl
+none_there : {X : Type 0} (o : Option X) → is_some o ≡ false → o ≡ None
+none_there None e = refl
+none_there (Some x) e = absurd (true≢false e)
+
+-- items that the parse refuses are no command
+left_out : (g : Bool) (command : CommandName) (is : List Item) → (g && is_some (lookup is file_id)) ≡ false → cond g (command_with command (lookup is)) None ≡ None
+left_out false command is e = refl
+left_out true command is e = ap (option_and_then (command_from command (lookup is))) (none_there (lookup is file_id) e)
 
 taken : (g : Bool) (command : CommandName) (is : List Item) → (g && is_some (lookup is file_id)) ≡ true → command_with command (lookup is) ≡ cond g (command_with command (lookup is)) None
 taken false command is e = absurd (true≢false (sym e))
@@ -252,7 +258,7 @@ line_reads q word words command is show e i =
     ap (λ (x : Text). clear (line q x words)) w ∙ ap clear in_level.fault ∙ l.fault in
     let named = reads_as word words command is e i in
     record {
-      fault = fault ∙ ap (λ g. g && is_some (lookup is file_id)) test ∙ some_of all command is ∙ ap is_some (sym named);
+      refused = λ c. named ∙ left_out all command is (ap (λ g. g && is_some (lookup is file_id)) (sym test) ∙ sym fault ∙ c);
       rows = matched_rows (rules os) [] words;
       entered_rows = ap (λ (x : Text). option_map (λ (p : Text × List Row). p.1) (subcommand_of (app_with q) (x ∷ words))) w ∙ ap (option_map (λ p. p.1)) in_level.rows;
       found = λ c.
@@ -265,10 +271,6 @@ line_reads q word words command is show e i =
 some_there : {X : Type 0} (o : Option X) → is_some o ≡ true → (x : X) × (o ≡ Some x)
 some_there None e = absurd (true≢false (sym e))
 some_there (Some x) e = (x, refl)
-
-none_there : {X : Type 0} (o : Option X) → is_some o ≡ false → o ≡ None
-none_there None e = refl
-none_there (Some x) e = absurd (true≢false e)
 
 -- the words are a command, and others that keep its dash rule
 pub words_read : (q : ValueParser) (word : Text) (words : List Text) (command : CommandName) (ns : List Text) → IsShowParser q
@@ -312,4 +314,4 @@ pub refused_command : (a : App) (q : ValueParser) (word : Text) (words all : Lis
 refused_command a q word words all command e is_app is_all line_is faults other =
     let kinds : HasKind (fault_of a all) e = faults (ap is_simple_and_free is_app ∙ free q) in
     let some : clear (fault_of a all) ≡ false = elim kinds [ inl memory ↦ absurd (other memory) | inr one ↦ not_clear (fault_of a all) (kind_of e) one ] in
-    ap command_of is_all ∙ none_there (command_of (word ∷ words)) (sym line_is.fault ∙ ap clear (sym (ap₂ fault_of is_app is_all)) ∙ some)
+    ap command_of is_all ∙ line_is.refused (ap clear (sym (ap₂ fault_of is_app is_all)) ∙ some)

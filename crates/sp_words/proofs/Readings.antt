@@ -4,12 +4,12 @@ use Rattle.std.proofs.lemmas.Bool.{ltb-true, lt-ltb}
 use Rattle.std.proofs.lemmas.Slice.Eq.{bytes_eq-Decides}
 use Rattle.std.specs.Prelude.{nat_lt, unwrap_or}
 use Rattle.std.specs.List.{find, list_all}
-use Rattle.std.specs.Result.{result_unwrap_or}
+use Rattle.std.specs.Result.{result_ok, result_unwrap_or}
 use Rattle.std.specs.Char.{digit_value}
 use Rattle.std.specs.Str.{bytes_eq}
 use Rattle.std.specs.Str.Parse.{AllDigits, IsNumeral, ParsesUnsigned, digits_value, without_leading_plus}
 use Rattle.sp_words.specs.Dashes.{Text}
-use Rattle.sp_words.specs.Options.{is_numeral, number_or}
+use Rattle.sp_words.specs.Options.{is_numeral, number_below, number_or}
 
 both : (a b : Bool) → (a && b) ≡ true → (a ≡ true) × (b ≡ true)
 both true b e = (refl, e)
@@ -48,6 +48,23 @@ number_read k text (Ok n) default h =
 number_read k text (Err e) default h =
     let digits = without_leading_plus text in
     missing (is_numeral digits && nat_lt (digits_value 10 digits) (2 ^ k)) (digits_value 10 digits) default (λ tested.
+    let parts = both (is_numeral digits) (nat_lt (digits_value 10 digits) (2 ^ k)) tested in
+    h (numeral_from digits parts.0, ltb-true _ _ parts.1))
+
+unwritten : (test : Bool) (n : ℕ) → (test ≡ true → ⊥) → None ≡ cond test (Some n) None
+unwritten true n never = absurd (never refl)
+unwritten false n never = refl
+
+-- what `parse` reads is the number below the bound of the type, where there is one
+pub number_parsed : {E : Type 0} (k : ℕ) (text : Text) (r : Result ℕ E) → ParsesUnsigned k 10 text r → result_ok r ≡ number_below (2 ^ k) text
+number_parsed k text (Ok n) h =
+    let digits = without_leading_plus text in
+    let tested : (is_numeral digits && nat_lt (digits_value 10 digits) (2 ^ k)) ≡ true =
+    rw (numeral_back digits h.0.0, lt-ltb (digits_value 10 digits) (2 ^ k) h.0.1) refl in
+    ap Some h.1 ∙ ap (λ (t : Bool). cond t (Some (digits_value 10 digits)) None) (sym tested)
+number_parsed k text (Err e) h =
+    let digits = without_leading_plus text in
+    unwritten (is_numeral digits && nat_lt (digits_value 10 digits) (2 ^ k)) (digits_value 10 digits) (λ tested.
     let parts = both (is_numeral digits) (nat_lt (digits_value 10 digits) (2 ^ k)) tested in
     h (numeral_from digits parts.0, ltb-true _ _ parts.1))
 

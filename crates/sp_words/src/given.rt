@@ -2,7 +2,7 @@
 
 ghost use Rattle.std.specs.Prelude.{◌≡◌, ◌^◌, IfErr, IfOk, List, None, Some, codes, ℕ};
 ghost use Rattle.clap.specs.Words.{first_value, found_of};
-ghost use Rattle.sp_words.specs.Options.{number_or, show_named, show_or_end, size_named};
+ghost use Rattle.sp_words.specs.Options.{number_below, number_or, show_named, show_or_end, size_named};
 ghost use Rattle.sp_words.specs.Words.{command_from, command_with, limits_from};
 
 use crate::command::{Command, CommandName, WordsError};
@@ -67,13 +67,21 @@ fn show(given: &ArgMatches<'_>) -> Show
     }
 }
 
+fn number_written(text: &str) -> Option<u64>
+    ensures { result ≡ number_below (2 ^ 64) text.now }
+{
+    text.parse::<u64>().ok()
+}
+
 // The size that a text writes, from 1 to 2,000.
 fn size_named(text: &str) -> Option<u32>
     ensures { result ≡ size_named text.now }
 {
-    match text.parse::<u64>() {
-        Ok(size) if (1..=2_000).contains(&size) => Some(size as u32),
-        _ => None,
+    let size = number_written(text)?;
+    if 1 <= size && size <= 2_000 {
+        Some(size as u32)
+    } else {
+        None
     }
 }
 

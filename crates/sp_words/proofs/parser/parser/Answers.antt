@@ -33,9 +33,10 @@ returns c =
     ∙ ap₂ with_subcommand two (ap (λ (a : App). a.top) c.in_ok-plain_command-2.ensures.app) in
     let four = c.in_ok-subcommand-4.ensures.shape c.in_ok-plain_command-3.ensures.local
     ∙ ap₂ with_subcommand three (ap (λ (a : App). a.top) c.in_ok-plain_command-3.ensures.app) in
-    IfOk-weaker c.subcommand-5.result _ _ (λ m h. (
+    let five = c.in_ok-subcommand-5.ensures.shape c.in_ok-plain_command-4.ensures.local
+    ∙ ap₂ with_subcommand four (ap (λ (a : App). a.top) c.in_ok-plain_command-4.ensures.app) in
+    IfOk-weaker c.subcommand-6.result _ _ (λ m h. (
       run.0,
-      h.shape c.in_ok-plain_command-4.ensures.local
-          ∙ ap₂ with_subcommand four (ap (λ (a : App). a.top) c.in_ok-plain_command-4.ensures.app),
+      h.shape c.in_ok-gen_command.ensures.local ∙ ap₂ with_subcommand five c.in_ok-gen_command.ensures.shape,
       run.2,
-    )) c.subcommand-5.ensures
+    )) c.subcommand-6.ensures
