@@ -1,4 +1,4 @@
--- The options of a `run` that words ask for are in their ranges.
+-- The options of every command that words ask for are in their ranges.
 use Rattle.std.proofs.Common.{arith, ◌≡◌, ◌&&◌, ◌^◌, ℕ, Bool, cond, true, false, refl, sym, ap, ◌∙◌, List, [], ◌∷◌, Option, Some, None, option_map, true≢false}
 use Rattle.std.proofs.lemmas.Bool.{and_parts, leb-true}
 use Rattle.std.proofs.lemmas.Slice.Eq.{bytes_eq-Decides}
@@ -7,12 +7,11 @@ use Rattle.std.specs.Option.{option_map_or}
 use Rattle.std.specs.Prelude.{codes, nat_le, nat_lt, option_and_then, unwrap_or}
 use Rattle.std.specs.Str.{bytes_eq}
 use Rattle.std.specs.Str.Parse.{digits_value, without_leading_plus}
-use Rattle.sp_base.specs.declared.limits.Limits.{Limits}
-use Rattle.sp_base.specs.declared.limits.Show.{Show}
 use Rattle.sp_words.specs.Dashes.{Item, Text, file, given, items}
-use Rattle.sp_words.specs.Options.{Choice, is_number_in, is_numeral, number_or, option_names, options_of, run_options, show_or_end}
-use Rattle.sp_words.specs.Ranges.{IsInRange, IsUpTo}
-use Rattle.sp_words.specs.Words.{command_named, command_of, command_of_items, command_read, command_with, each_once, is_accepted, limits_from, lookup, subject, text_of}
+use Rattle.sp_words.specs.Options.{Choice, gen_options, is_number_in, is_numeral, number_below, number_or, option_names, options_of, run_options, show_or_end, size_named}
+use Rattle.sp_words.specs.Ranges.{AreInRange, IsInRange, IsUpTo}
+use Rattle.sp_words.specs.Words.{command_from, command_named, command_of, command_of_items, command_read, command_with, each_once, is_accepted, limits_from, lookup, subject, text_of, workers_from}
+use Rattle.sp_words.specs.declared.command.Command.{Command}
 use Rattle.sp_words.specs.declared.command.Command.TheVariants as command
 use Rattle.sp_words.specs.declared.command.CommandName.{CommandName}
 use Rattle.sp_words.specs.declared.command.CommandName.TheVariants as name
@@ -80,47 +79,67 @@ options_in_range is e = record {
   output = number_in_range (2 ^ 64) 268435456 16777216 (lookup is (codes "output")) (omega arith, omega arith) (found_fits run_options (codes "output") _ is refl refl e);
 }
 
--- ---- the words
+-- ---- the size of `gen`
 
 none≢some : {X : Type 0} (x : X) → None ≡ Some x → ⊥
 none≢some x e = cc
 
-same_run : (f g : Text) (w v : ℕ) (l m : Limits) (s t : Show) → Some (command.Run f w l s) ≡ Some (command.Run g v m t) → (w ≡ v) × (l ≡ m)
-same_run f g w v l m s t e = (cc, cc)
+some_same : {X : Type 0} (x y : X) → Some x ≡ Some y → x ≡ y
+some_same x y e = cc
 
-run_in_range : (called : CommandName) (is : List Item) (path : Text) (workers : ℕ) (limits : Limits) (show : Show) → list_all (is_accepted (options_of called)) is ≡ true
-    → command_with called (lookup is) ≡ Some (command.Run path workers limits show) → IsInRange workers limits
-run_in_range name.Run is path workers limits show accepted e = go (lookup is (codes "FILE")) refl
-  where
-    go : (o : Option Text) → lookup is (codes "FILE") ≡ o → IsInRange workers limits
-    go None d =
-        let told : None ≡ Some (command.Run path workers limits show) = rw d at e in
-        absurd (none≢some (command.Run path workers limits show) told)
-    go (Some word) d =
-        let told : Some (command.Run word (number_or (2 ^ 32) 4 (lookup is (codes "workers"))) (limits_from (lookup is)) (show_or_end (lookup is (codes "show"))))
-        ≡ Some (command.Run path workers limits show) = rw d at e in
-        let same = same_run _ _ _ _ _ _ _ _ told in
-        rw (sym same.0, sym same.1) (options_in_range is accepted)
-run_in_range _ is path workers limits show accepted e = grind arith
+size_tested : (m n : ℕ) (g : Bool) → (nat_le 1 m && nat_le m 2000) ≡ g → cond g (Some m) None ≡ Some n → IsUpTo 2000 n
+size_tested m n true d e =
+    let parts = and_parts (nat_le 1 m) (nat_le m 2000) d in
+    rw (sym (some_same m n e)) (leb-true 1 m parts.0, leb-true m 2000 parts.1)
+size_tested m n false d e = absurd (none≢some n e)
 
-items_in_range : (called : CommandName) (is : List Item) (g : Bool) (path : Text) (workers : ℕ) (limits : Limits) (show : Show)
-    → (each_once [] is && list_all (is_accepted (options_of called)) is) ≡ g
-    → cond g (command_with called (lookup is)) None ≡ Some (command.Run path workers limits show) → IsInRange workers limits
-items_in_range called is true path workers limits show d e = run_in_range called is path workers limits show (and_parts (each_once [] is) (list_all (is_accepted (options_of called)) is) d).1 e
-items_in_range called is false path workers limits show d e = absurd (none≢some (command.Run path workers limits show) e)
+size_read : (read : Option ℕ) (n : ℕ) → option_and_then (λ m. cond (nat_le 1 m && nat_le m 2000) (Some m) None) read ≡ Some n → IsUpTo 2000 n
+size_read None n e = absurd (none≢some n e)
+size_read (Some m) n e = size_tested m n _ refl e
 
-read_in_range : (called : CommandName) (read : Option (List Item)) (path : Text) (workers : ℕ) (limits : Limits) (show : Show)
-    → option_and_then (command_of_items called) read ≡ Some (command.Run path workers limits show) → IsInRange workers limits
-read_in_range called None path workers limits show e = absurd (none≢some (command.Run path workers limits show) e)
-read_in_range called (Some is) path workers limits show e = items_in_range called is _ path workers limits show refl e
+size_in_range : (word : Text) (n : ℕ) → size_named word ≡ Some n → IsUpTo 2000 n
+size_in_range word n e = size_read (number_below (2 ^ 64) word) n e
 
-named_in_range : (words : List Text) (found : Option CommandName) (path : Text) (workers : ℕ) (limits : Limits) (show : Show)
-    → option_and_then (command_read words) found ≡ Some (command.Run path workers limits show) → IsInRange workers limits
-named_in_range words None path workers limits show e = absurd (none≢some (command.Run path workers limits show) e)
-named_in_range words (Some called) path workers limits show e = read_in_range called (items (option_names called) None words) path workers limits show e
+-- ---- the options of `gen`
 
--- the options of a `run` that words ask for are in their ranges
-pub accepted_in_range : (words : List Text) (path : Text) (workers : ℕ) (limits : Limits) (show : Show)
-    → command_of words ≡ Some (command.Run path workers limits show) → IsInRange workers limits
-accepted_in_range [] path workers limits show e = absurd (none≢some (command.Run path workers limits show) e)
-accepted_in_range (word ∷ words) path workers limits show e = named_in_range words (command_named word) path workers limits show e
+gen_in_range : (is : List Item) (word : Text) (named : Option ℕ) (c : Command) → list_all (is_accepted gen_options) is ≡ true → size_named word ≡ named
+    → option_map (λ size. command.Gen size (workers_from (lookup is))) named ≡ Some c → AreInRange c
+gen_in_range is word None c accepted d e = absurd (none≢some c e)
+gen_in_range is word (Some size) c accepted d e =
+    rw (sym (some_same (command.Gen size (workers_from (lookup is))) c e))
+    (size_in_range word size d, number_in_range (2 ^ 32) 64 4 (lookup is (codes "workers")) (omega arith, omega arith) (found_fits gen_options (codes "workers") _ is refl refl accepted))
+
+-- ---- the words
+
+word_in_range : (called : CommandName) (is : List Item) (word : Text) (c : Command) → list_all (is_accepted (options_of called)) is ≡ true
+    → command_from called (lookup is) word ≡ Some c → AreInRange c
+word_in_range name.Check is word c accepted e = rw (sym (some_same (command.Check word) c e)) tt
+word_in_range name.Run is word c accepted e =
+    rw (sym (some_same (command.Run word (workers_from (lookup is)) (limits_from (lookup is)) (show_or_end (lookup is (codes "show")))) c e)) (options_in_range is accepted)
+word_in_range name.Code is word c accepted e = rw (sym (some_same (command.Code word) c e)) tt
+word_in_range name.Sets is word c accepted e = rw (sym (some_same (command.Sets word) c e)) tt
+word_in_range name.Format is word c accepted e = rw (sym (some_same (command.Format word) c e)) tt
+word_in_range name.Gen is word c accepted e = gen_in_range is word (size_named word) c accepted refl e
+
+found_in_range : (called : CommandName) (is : List Item) (found : Option Text) (c : Command) → list_all (is_accepted (options_of called)) is ≡ true
+    → option_and_then (command_from called (lookup is)) found ≡ Some c → AreInRange c
+found_in_range called is None c accepted e = absurd (none≢some c e)
+found_in_range called is (Some word) c accepted e = word_in_range called is word c accepted e
+
+items_in_range : (called : CommandName) (is : List Item) (g : Bool) (c : Command) → (each_once [] is && list_all (is_accepted (options_of called)) is) ≡ g
+    → cond g (command_with called (lookup is)) None ≡ Some c → AreInRange c
+items_in_range called is true c d e = found_in_range called is (lookup is (codes "FILE")) c (and_parts (each_once [] is) (list_all (is_accepted (options_of called)) is) d).1 e
+items_in_range called is false c d e = absurd (none≢some c e)
+
+read_in_range : (called : CommandName) (read : Option (List Item)) (c : Command) → option_and_then (command_of_items called) read ≡ Some c → AreInRange c
+read_in_range called None c e = absurd (none≢some c e)
+read_in_range called (Some is) c e = items_in_range called is _ c refl e
+
+named_in_range : (words : List Text) (found : Option CommandName) (c : Command) → option_and_then (command_read words) found ≡ Some c → AreInRange c
+named_in_range words None c e = absurd (none≢some c e)
+named_in_range words (Some called) c e = read_in_range called (items (option_names called) None words) c e
+
+-- the options of every command that words ask for are in their ranges
+pub accepted_in_range : (words : List Text) (c : Command) → command_of words ≡ Some c → AreInRange c
+accepted_in_range [] c e = absurd (none≢some c e)
+accepted_in_range (word ∷ words) c e = named_in_range words (command_named word) c e

@@ -1,6 +1,8 @@
--- The ranges of the options of `run`, and its limits where no option is given.
+-- The ranges of the options of the commands, and the limits of a `run` where no option is given.
 use Rattle.std.specs.Prelude.{◌≤◌, ℕ}
 use Rattle.sp_base.specs.declared.limits.Limits.{Limits}
+use Rattle.sp_words.specs.declared.command.Command.{Command}
+use Rattle.sp_words.specs.declared.command.Command.TheVariants as command
 
 -- at least 1, and at most the greatest value of the option
 abbrev pub IsUpTo : ℕ → ℕ → Type 0
@@ -16,6 +18,15 @@ pub record IsInRange (count : ℕ) (lim : Limits) : Type 0 where
   pub channels : IsUpTo 1000000 lim.channels
   pub entries : IsUpTo 10000000 lim.entries
   pub output : IsUpTo 268435456 lim.output
+
+-- the options of a command are in their ranges, and so is the size of `gen`
+abbrev pub AreInRange : Command → Type 0
+AreInRange (command.Check file) = Unit {0}
+AreInRange (command.Run file workers limits show) = IsInRange workers limits
+AreInRange (command.Code file) = Unit {0}
+AreInRange (command.Sets file) = Unit {0}
+AreInRange (command.Format file) = Unit {0}
+AreInRange (command.Gen size workers) = IsUpTo 2000 size × IsUpTo 64 workers
 
 -- the limits of a run where no option is given
 abbrev pub default_limits : Limits
