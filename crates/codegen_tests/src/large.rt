@@ -1,7 +1,7 @@
 //! Texts at the limit of code, and beyond it.
 
 use sp_base::{Halt, Place, Refusal, Rule};
-use sp_compile::compiled;
+use sp_compile::{compiled, compiled_apart};
 use std::alloc::{AllocError, Global};
 use std::test::Fail;
 
@@ -50,5 +50,19 @@ fn longer_than_code_may_be(rt: HostRuntime) -> Result<(), Fail> {
     assert!(rt;
         matches!(compiled(rt.alloc(), &text), Err(Halt::Refused(refusal)) if refusal == too_long)
     );
+    Ok(())
+}
+
+#[test]
+fn operands(rt: HostRuntime) -> Result<(), Fail> {
+    let text = repeated(
+        rt.alloc(),
+        b"program l; var a: integer; begin a := ",
+        b"1+",
+        400_000,
+        b"1 end.",
+    )?;
+    let made = compiled_apart(&rt, rt.alloc(), &text)?;
+    assert_eq!(rt; made.code().parts().instrs.len(), 800_004);
     Ok(())
 }

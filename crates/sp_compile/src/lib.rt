@@ -5,4 +5,4 @@ mod law;
 mod phases;
 
 pub use law::one_listing;
-pub use phases::{CompiledText, compiled};
+pub use phases::{CompiledText, compiled, compiled_apart};

@@ -10,6 +10,8 @@ use sp_generate::{GenError, generate};
 use sp_tree::Checked;
 use sp_varsets::Sets;
 use std::alloc::Global;
+use std::snapshot::Snapshot;
+use std::thread::{Builder, Promise, Threads};
 
 /// A text that breaks no rule: its tree, the variables that its statements and blocks use, and its code.
 #[derive(Drop)]
@@ -60,7 +62,7 @@ fn halt_of(error: GenError) -> Halt
 /// The tree, the sets and the code of a text that breaks no rule, or the first rule that it breaks, with its place: of
 /// its characters and its grammar, then of its names, of its types, of interference, and of the length of its code.
 ///
-/// It recurses as deep as the longest chain of operators is long, and wants the stack for that.
+/// It recurses as deep as the longest chain of operators is long: `compiled_apart` gives it the stack for that.
 pub fn compiled(alloc: Global, text: &[u8]) -> Result<CompiledText, Halt>
     ensures { Codes text.now result }
 {
@@ -68,5 +70,33 @@ pub fn compiled(alloc: Global, text: &[u8]) -> Result<CompiledText, Halt>
     match generate(alloc, accepted.checked(), accepted.sets()) {
         Ok(code) => Ok(CompiledText { accepted, code }),
         Err(error) => Err(halt_of(error)),
+    }
+}
+
+/// The stack of all phases, in bytes: addresses alone, since a page is used once it is touched.
+const STACK: usize = 0x4000_0000;
+
+/// What the thread of the phases promises of its answer about this text.
+#[derive(Drop)]
+struct CompiledOf(Snapshot<Vec<u8>>);
+
+impl Promise<Result<CompiledText, Halt>> for CompiledOf {
+    ghost kept_by = { λ p r. Codes p.0.value.items r };
+}
+
+/// `compiled`, on a thread of its own with a stack for the longest text. Where no thread can be made the answer is want
+/// of memory: the caller's own stack would not hold a long chain of operators.
+pub fn compiled_apart(rt: &impl Threads, alloc: Global, text: &[u8]) -> Result<CompiledText, Halt>
+    ensures { Codes text.now result }
+{
+    let mut copy = Vec::new(alloc);
+    copy.extend_from_slice(text)?;
+    let promise = CompiledOf(Snapshot::of(&copy));
+    let started = Builder::new()
+        .stack_size(STACK)
+        .spawn_with(rt, promise, move || compiled(alloc, copy.as_slice()));
+    match started {
+        Ok(thread) => thread.join(rt),
+        Err(_) => Err(Halt::Memory),
     }
 }
