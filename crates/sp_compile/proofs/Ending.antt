@@ -12,7 +12,6 @@ use Rattle.sp_front.specs.Compiles.{IsAccepted}
 use Rattle.sp_generate.specs.declared.program.GenError.{GenError}
 use Rattle.sp_generate.specs.declared.program.GenError.TheVariants as gen
 use Rattle.sp_generate.specs.Generated.{Answered}
-use Rattle.sp_compile.specs.declared.phases.CompiledText.{CompiledText}
 use Rattle.sp_compile.specs.Codes.{Codes, IsCompiled, halt_of}
 
 -- of a tree and sets that are the same

@@ -1,7 +1,6 @@
-use Rattle.std.proofs.Common.{◌≡◌, sym, ap, ◌∙◌, subst}
+use Rattle.std.proofs.Common.{sym, ap, ◌∙◌, subst}
 use Rattle.sp_tree.specs.PlainChecked as placed
 use Rattle.sp_tree.specs.Bare.{bare}
-use Rattle.sp_code.specs.declared.code.Parts.{Parts}
 use Rattle.sp_code.specs.Listing.{listing_text}
 use Rattle.sp_generate.specs.Generated.{IsCodeOf}
 use Rattle.sp_compile.proofs.law.one_listing.Goals as goal
