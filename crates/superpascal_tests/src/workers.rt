@@ -1,0 +1,99 @@
+//! Runs with several workers, and generated programs.
+
+use crate::calls::{ORDERED, call, expect};
+use sp_outside::Gate;
+use std::sync::atomic::{AtomicU64, Ordering};
+use std::test::Fail;
+
+/// A pipeline of three processes.
+pub const PIPE: &str =
+    "program pipe;\ntype chan = *(integer); net = array [0..3] of chan;\nvar c: net; r: integer;\nprocedure node(a, b: chan);\nvar x: integer;\nbegin receive(a, x); send(b, x + 1) end;\nbegin\n  open(c[0], c[1], c[2], c[3]);\n  parallel send(c[0], 10)\n  | forall i := 1 to 3 do node(c[i-1], c[i])\n  | receive(c[3], r)\n  end;\n  write(r)\nend.";
+
+/// A tree of processes.
+pub const TREE: &str =
+    "program tree;\ntype chan = *(integer);\nvar c: chan; r: integer;\nprocedure node(d: integer; up: chan);\nvar a, b: chan; x, y: integer;\nbegin\n  if d = 0 then send(up, 1)\n  else begin\n    open(a, b);\n    parallel node(d - 1, a) | node(d - 1, b)\n    | receive(a, x); receive(b, y); send(up, x + y)\n    end\n  end\nend;\nbegin\n  open(c);\n  parallel node(4, c) | receive(c, r) end;\n  write(r)\nend.";
+
+#[test]
+fn any_number_of_workers(rt: HostRuntime) -> Result<(), Fail> {
+    for (text, output) in [(PIPE, "13"), (TREE, "16")] {
+        for workers in ["1", "2", "8"] {
+            let words = ["run", "--workers", workers, "a.sp"];
+            expect(&rt, rt.alloc(), &words, text, 0, output, ORDERED)?;
+        }
+    }
+    Ok(())
+}
+
+const GENERATED: [(&str, &str); 2] = [
+    ("3", "size 3\noutput 115\nentries 93\ndone\nordered\n"),
+    (
+        "200",
+        "size 200\noutput 201055\nentries 4427\ndone\nordered\n",
+    ),
+];
+
+#[test]
+fn generated_programs(rt: HostRuntime) -> Result<(), Fail> {
+    for (size, output) in GENERATED {
+        expect(&rt, rt.alloc(), &["gen", size], "", 0, output, "")?;
+    }
+    Ok(())
+}
+
+/// Lets process 1 enter once process 2 has, and notes where it has not seen this in so many looks.
+#[derive(Drop)]
+struct Meeting {
+    looks: u64,
+    entered: AtomicU64,
+    missed: AtomicU64,
+}
+
+impl Gate for Meeting {
+    fn enter(&self, _worker: u32, process: u32) {
+        if process == 2 {
+            self.entered.store(1, Ordering::SeqCst);
+        }
+        if process == 1 {
+            for _ in 0..self.looks {
+                if self.entered.load(Ordering::SeqCst) == 1 {
+                    return;
+                }
+            }
+            self.missed.store(1, Ordering::SeqCst);
+        }
+    }
+}
+
+fn meeting(looks: u64) -> Meeting {
+    Meeting {
+        looks,
+        entered: AtomicU64::new(0),
+        missed: AtomicU64::new(0),
+    }
+}
+
+const TWO: &str =
+    "program g; var x, y: integer; begin parallel x := 1 | y := 2 end; write(x, y) end.";
+
+// The one worker takes process 1 first, and enters with it before it takes process 2.
+#[test]
+fn one_worker_is_in_one_turn_at_once(rt: HostRuntime) -> Result<(), Fail> {
+    let meeting = meeting(1000);
+    let words = ["run", "--workers", "1", "a.sp"];
+    let given = call(&rt, rt.alloc(), &words, TWO, Vec::new(rt.alloc()), &meeting)?;
+    assert_eq!(rt; given.output.as_slice(), b"12".as_slice());
+    assert_eq!(rt; meeting.missed.load(Ordering::SeqCst), 1);
+    Ok(())
+}
+
+#[test]
+fn two_workers_are_in_a_turn_at_once(rt: HostRuntime) -> Result<(), Fail> {
+    let meeting = meeting(1_000_000_000);
+    let words = ["run", "--workers", "2", "a.sp"];
+    let given = call(&rt, rt.alloc(), &words, TWO, Vec::new(rt.alloc()), &meeting)?;
+    assert_eq!(rt; given.output.as_slice(), b"12".as_slice());
+    assert_eq!(rt; given.notes.as_slice(), ORDERED.as_bytes());
+    assert_eq!(rt; given.status, 0);
+    assert_eq!(rt; meeting.missed.load(Ordering::SeqCst), 0);
+    Ok(())
+}
