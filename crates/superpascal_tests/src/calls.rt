@@ -26,8 +26,8 @@ pub fn filled(alloc: Global, byte: u8, count: usize) -> Result<Vec<u8>, AllocErr
     vec![in alloc; byte; count].map_err(AllocError::from)
 }
 
-/// A library with this text under two names, of which these calls fail.
-pub fn library(alloc: Global, text: &str, failing: &[u32]) -> Result<MemoryLibrary, AllocError> {
+// A library with this text under two names, of which these calls fail.
+fn library(alloc: Global, text: &str, failing: &[u32]) -> Result<MemoryLibrary, AllocError> {
     let mut files = List::new(alloc);
     for name in ["a.sp", "-a"] {
         let name = Text::of(Vec::from_slice(alloc, name.as_bytes())?);
@@ -42,8 +42,8 @@ pub fn source(alloc: Global, input: Vec<u8>) -> MemorySource {
     MemorySource::new(input, 4096, List::new(alloc))
 }
 
-/// A sink that takes a byte a call, of which these calls fail.
-pub fn sink(alloc: Global, failing: &[u32]) -> Result<MemorySink, AllocError> {
+// A sink that takes a byte a call, of which these calls fail.
+fn sink(alloc: Global, failing: &[u32]) -> Result<MemorySink, AllocError> {
     let room = filled(alloc, 0, 1024)?;
     Ok(MemorySink::new(room, 1, List::from_slice(alloc, failing)?))
 }
@@ -85,8 +85,8 @@ fn call_watched<R: Threads + Wait + Sync, G: Gate>(
     ))
 }
 
-/// The call with the four watchers.
-pub fn call_over<R: Threads + Wait + Sync, G: Gate>(
+// The call with the four watchers.
+fn call_over<R: Threads + Wait + Sync, G: Gate>(
     rt: &R,
     alloc: Global,
     words: &[&str],
@@ -114,6 +114,20 @@ pub fn call_over<R: Threads + Wait + Sync, G: Gate>(
     )
 }
 
+/// The calls of the library and of the sinks that fail.
+#[derive(Clone, Copy)]
+pub struct Failing<'a> {
+    pub library: &'a [u32],
+    pub output: &'a [u32],
+    pub notes: &'a [u32],
+}
+
+pub const NONE: Failing<'static> = Failing {
+    library: &[],
+    output: &[],
+    notes: &[],
+};
+
 /// What a call has given.
 #[derive(Drop)]
 pub struct Given {
@@ -124,25 +138,25 @@ pub struct Given {
     pub notes: Vec<u8>,
 }
 
-/// The call on this text and this input, where nothing fails, through this gate.
+/// The call on this text and this input through this gate.
 pub fn call<R: Threads + Wait + Sync, G: Gate>(
     rt: &R,
     alloc: Global,
     words: &[&str],
     text: &str,
-    input: Vec<u8>,
+    input: &mut MemorySource,
+    failing: Failing,
     gate: &G,
 ) -> Result<Given, AllocError> {
-    let mut library = library(alloc, text, &[])?;
-    let mut input = source(alloc, input);
-    let mut output = sink(alloc, &[])?;
-    let mut notes = sink(alloc, &[])?;
+    let mut library = library(alloc, text, failing.library)?;
+    let mut output = sink(alloc, failing.output)?;
+    let mut notes = sink(alloc, failing.notes)?;
     let outcome = call_over(
         rt,
         alloc,
         words,
         &mut library,
-        &mut input,
+        input,
         &mut output,
         &mut notes,
         gate,
@@ -153,6 +167,22 @@ pub fn call<R: Threads + Wait + Sync, G: Gate>(
         output: Vec::from_slice(alloc, output.bytes())?,
         notes: Vec::from_slice(alloc, notes.bytes())?,
     })
+}
+
+/// Asserts what a call has given. The message says for which text or which words.
+pub fn expect_given(
+    rt: &impl Abort,
+    given: &Given,
+    status: u8,
+    ran: bool,
+    output: &str,
+    notes: &str,
+    message: &str,
+) {
+    assert_eq!(rt; given.notes.as_slice(), notes.as_bytes(), "{message}");
+    assert_eq!(rt; given.output.as_slice(), output.as_bytes(), "{message}");
+    assert_eq!(rt; given.status, status, "{message}");
+    assert_eq!(rt; given.ran, ran, "{message}");
 }
 
 // Whether a call with these words and this status tells of a run.
@@ -172,11 +202,10 @@ pub fn expect_on<R: Threads + Wait + Sync + Abort>(
     output: &str,
     notes: &str,
 ) -> Result<(), Fail> {
-    let given = call(rt, alloc, words, text, input, &OpenGate)?;
-    assert_eq!(rt; given.notes.as_slice(), notes.as_bytes(), "{text}");
-    assert_eq!(rt; given.output.as_slice(), output.as_bytes(), "{text}");
-    assert_eq!(rt; given.status, status, "{text}");
-    assert_eq!(rt; given.ran, tells_of_a_run(words, status), "{text}");
+    let mut input = source(alloc, input);
+    let given = call(rt, alloc, words, text, &mut input, NONE, &OpenGate)?;
+    let ran = tells_of_a_run(words, status);
+    expect_given(rt, &given, status, ran, output, notes, text);
     Ok(())
 }
 
@@ -209,6 +238,7 @@ pub fn expect_texts<R: Threads + Wait + Sync + Abort>(
 }
 
 /// Words, a text, and the output and the notes of the call.
+#[derive(Clone, Copy)]
 pub struct Asked<'a> {
     pub words: &'a [&'a str],
     pub text: &'a str,

@@ -170,6 +170,7 @@ fn journals(rt: HostRuntime) -> Result<(), Fail> {
 }
 
 /// A limit, a text, and the status, the output and the notes of its run with one worker.
+#[derive(Clone, Copy)]
 struct Limit<'a> {
     name: &'a str,
     value: &'a str,

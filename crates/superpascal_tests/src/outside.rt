@@ -1,127 +1,118 @@
 //! Libraries, sources and sinks that fail, long inputs, and what is left of the input.
 
 use crate::calls::{
-    ANSWER, ORDERED, RUN, call_over, expect, expect_on, filled, library, sink, source,
+    ANSWER, Failing, NONE, ORDERED, RUN, call, expect, expect_given, expect_on, filled, source,
 };
 use sp_base::List;
 use sp_outside::{MemorySource, OpenGate, Source};
-use std::alloc::{AllocError, Global};
+use std::alloc::Global;
 use std::process::Abort;
 use std::sync::Wait;
 use std::test::Fail;
 use std::thread::Threads;
 
-#[test]
-fn a_library_that_fails(rt: HostRuntime) -> Result<(), Fail> {
-    let alloc = rt.alloc();
-    for command in ["run", "check", "code", "sets", "format"] {
-        let words = [command, "absent"];
-        expect(&rt, alloc, &words, ANSWER, 5, "", "read fault\n")?;
-    }
-    let mut library = library(alloc, ANSWER, &[0])?;
-    let mut input = source(alloc, Vec::new(alloc));
-    let mut output = sink(alloc, &[])?;
-    let mut notes = sink(alloc, &[])?;
-    let outcome = call_over(
-        &rt,
-        alloc,
-        &RUN,
-        &mut library,
-        &mut input,
-        &mut output,
-        &mut notes,
-        &OpenGate,
-    )?;
-    assert!(rt; outcome.status == 5 && outcome.ran.is_none());
-    assert!(rt; output.bytes().is_empty());
-    assert_eq!(rt; notes.bytes(), b"read fault\n".as_slice());
-    Ok(())
-}
-
-// Asserts that a run over this source ends with a read fault.
-fn expect_read_fault<R: Threads + Wait + Sync + Abort>(
+// Asserts that a run of the answer over this source ends with this status, before it writes an output.
+fn expect_end<R: Threads + Wait + Sync + Abort>(
     rt: &R,
     alloc: Global,
     mut input: MemorySource,
+    failing: Failing,
+    status: u8,
+    notes: &str,
 ) -> Result<(), Fail> {
-    let mut library = library(alloc, ANSWER, &[])?;
-    let mut output = sink(alloc, &[])?;
-    let mut notes = sink(alloc, &[])?;
-    let outcome = call_over(
-        rt,
-        alloc,
-        &RUN,
-        &mut library,
-        &mut input,
-        &mut output,
-        &mut notes,
-        &OpenGate,
-    )?;
-    assert!(rt; outcome.status == 5 && outcome.ran.is_none());
-    assert!(rt; output.bytes().is_empty());
-    assert_eq!(rt; notes.bytes(), b"read fault\n".as_slice());
+    let given = call(rt, alloc, &RUN, ANSWER, &mut input, failing, &OpenGate)?;
+    expect_given(rt, &given, status, false, "", notes, "");
+    Ok(())
+}
+
+#[test]
+fn a_library_that_fails(rt: HostRuntime) -> Result<(), Fail> {
+    let input = source(rt.alloc(), Vec::new(rt.alloc()));
+    let failing = Failing {
+        library: &[0],
+        ..NONE
+    };
+    expect_end(&rt, rt.alloc(), input, failing, 5, "read fault\n")
+}
+
+#[test]
+fn a_file_that_is_absent(rt: HostRuntime) -> Result<(), Fail> {
+    for command in ["run", "check", "code", "sets", "format"] {
+        let words = [command, "absent"];
+        expect(&rt, rt.alloc(), &words, ANSWER, 5, "", "read fault\n")?;
+    }
     Ok(())
 }
 
 #[test]
 fn a_source_that_fails(rt: HostRuntime) -> Result<(), Fail> {
-    let alloc = rt.alloc();
     for k in 0..4u32 {
-        let bytes = Vec::from_slice(alloc, b"abc")?;
-        let input = MemorySource::new(bytes, 1, List::from_slice(alloc, &[k])?);
-        expect_read_fault(&rt, alloc, input)?;
+        let bytes = Vec::from_slice(rt.alloc(), b"abc")?;
+        let input = MemorySource::new(bytes, 1, List::from_slice(rt.alloc(), &[k])?);
+        expect_end(&rt, rt.alloc(), input, NONE, 5, "read fault\n")?;
     }
-    let bytes = Vec::from_slice(alloc, b"12 34")?;
-    let input = MemorySource::new(bytes, 4096, List::from_slice(alloc, &[1])?);
-    expect_read_fault(&rt, alloc, input)
+    Ok(())
 }
 
-/// The calls of the sinks that fail, and how many bytes of the output and of the notes are written then.
-struct Failing<'a> {
-    output: &'a [u32],
-    notes: &'a [u32],
-    written: usize,
-    noted: usize,
+#[test]
+fn a_source_that_fails_at_its_end(rt: HostRuntime) -> Result<(), Fail> {
+    let bytes = Vec::from_slice(rt.alloc(), b"12 34")?;
+    let input = MemorySource::new(bytes, 4096, List::from_slice(rt.alloc(), &[1])?);
+    expect_end(&rt, rt.alloc(), input, NONE, 5, "read fault\n")
 }
 
-// Asserts that a run that would be done and ordered ends with a write fault, and that it tells of the run.
-fn expect_write_fault<R: Threads + Wait + Sync + Abort>(
-    rt: &R,
-    alloc: Global,
-    failing: Failing,
-) -> Result<(), Fail> {
-    let mut library = library(alloc, ANSWER, &[])?;
-    let mut input = source(alloc, Vec::new(alloc));
-    let mut output = sink(alloc, failing.output)?;
-    let mut notes = sink(alloc, failing.notes)?;
-    let outcome = call_over(
-        rt,
-        alloc,
-        &RUN,
-        &mut library,
-        &mut input,
-        &mut output,
-        &mut notes,
-        &OpenGate,
-    )?;
-    assert!(rt; outcome.status == 6 && outcome.ran.is_some());
-    assert_eq!(rt; output.bytes().len(), failing.written);
-    assert!(rt; b"42".starts_with(output.bytes()));
-    assert_eq!(rt; notes.bytes().len(), failing.noted);
-    assert!(rt; ORDERED.as_bytes().starts_with(notes.bytes()));
+#[test]
+fn a_source_and_notes_that_fail(rt: HostRuntime) -> Result<(), Fail> {
+    let bytes = Vec::new(rt.alloc());
+    let input = MemorySource::new(bytes, 4096, List::from_slice(rt.alloc(), &[0])?);
+    let failing = Failing {
+        notes: &[0],
+        ..NONE
+    };
+    expect_end(&rt, rt.alloc(), input, failing, 6, "")
+}
+
+#[test]
+fn notes_of_no_run_that_fail(rt: HostRuntime) -> Result<(), Fail> {
+    let failing = Failing {
+        notes: &[0],
+        ..NONE
+    };
+    let cases: [&[&str]; 3] = [&["check", "a.sp"], &["run", "absent"], &["run"]];
+    for words in cases {
+        let mut input = source(rt.alloc(), Vec::new(rt.alloc()));
+        let given = call(
+            &rt,
+            rt.alloc(),
+            words,
+            ANSWER,
+            &mut input,
+            failing,
+            &OpenGate,
+        )?;
+        expect_given(&rt, &given, 6, false, "", "", "");
+    }
     Ok(())
 }
 
 #[test]
 fn an_output_that_fails(rt: HostRuntime) -> Result<(), Fail> {
-    for k in 0..2u32 {
+    for (k, output) in [(0u32, ""), (1, "4")] {
         let failing = Failing {
             output: &[k],
-            notes: &[],
-            written: k as usize,
-            noted: 0,
+            ..NONE
         };
-        expect_write_fault(&rt, rt.alloc(), failing)?;
+        let mut input = source(rt.alloc(), Vec::new(rt.alloc()));
+        let given = call(
+            &rt,
+            rt.alloc(),
+            &RUN,
+            ANSWER,
+            &mut input,
+            failing,
+            &OpenGate,
+        )?;
+        expect_given(&rt, &given, 6, true, output, "", "");
     }
     Ok(())
 }
@@ -130,72 +121,39 @@ fn an_output_that_fails(rt: HostRuntime) -> Result<(), Fail> {
 fn notes_that_fail(rt: HostRuntime) -> Result<(), Fail> {
     for k in 0..13u32 {
         let failing = Failing {
-            output: &[],
             notes: &[k],
-            written: 2,
-            noted: k as usize,
+            ..NONE
         };
-        expect_write_fault(&rt, rt.alloc(), failing)?;
+        let mut input = source(rt.alloc(), Vec::new(rt.alloc()));
+        let given = call(
+            &rt,
+            rt.alloc(),
+            &RUN,
+            ANSWER,
+            &mut input,
+            failing,
+            &OpenGate,
+        )?;
+        assert!(rt; given.status == 6 && given.ran, "{k}");
+        assert_eq!(rt; given.output.as_slice(), b"42".as_slice(), "{k}");
+        assert_eq!(rt; given.notes.len(), k as usize);
+        assert!(rt;
+            ORDERED.as_bytes().starts_with(given.notes.as_slice()),
+            "{k}"
+        );
     }
     Ok(())
 }
 
-// Makes a call whose source and whose notes fail at once.
-fn call_all_failing<R: Threads + Wait + Sync + Abort>(
-    rt: &R,
-    alloc: Global,
-    words: &[&str],
-) -> Result<(), Fail> {
-    let mut library = library(alloc, ANSWER, &[])?;
-    let bytes = Vec::new(alloc);
-    let mut input = MemorySource::new(bytes, 4096, List::from_slice(alloc, &[0])?);
-    let mut output = sink(alloc, &[])?;
-    let mut notes = sink(alloc, &[0])?;
-    let outcome = call_over(
-        rt,
-        alloc,
-        words,
-        &mut library,
-        &mut input,
-        &mut output,
-        &mut notes,
-        &OpenGate,
-    )?;
-    assert!(rt; outcome.status == 6 && outcome.ran.is_none());
-    assert!(rt; output.bytes().is_empty() && notes.bytes().is_empty());
-    Ok(())
-}
-
-#[test]
-fn notes_of_no_run_that_fail(rt: HostRuntime) -> Result<(), Fail> {
-    let cases: [&[&str]; 3] = [&RUN, &["check", "a.sp"], &["run"]];
-    for words in cases {
-        call_all_failing(&rt, rt.alloc(), words)?;
-    }
-    Ok(())
-}
-
-// How many bytes of four are left after a call.
-fn left_after<R: Threads + Wait + Sync + Abort>(
+// How many bytes of four a call leaves in its source.
+fn left_after<R: Threads + Wait + Sync>(
     rt: &R,
     alloc: Global,
     words: &[&str],
     text: &str,
 ) -> Result<usize, Fail> {
-    let mut library = library(alloc, text, &[])?;
     let mut input = source(alloc, Vec::from_slice(alloc, b"12 x")?);
-    let mut output = sink(alloc, &[])?;
-    let mut notes = sink(alloc, &[])?;
-    let _outcome = call_over(
-        rt,
-        alloc,
-        words,
-        &mut library,
-        &mut input,
-        &mut output,
-        &mut notes,
-        &OpenGate,
-    )?;
+    let _given = call(rt, alloc, words, text, &mut input, NONE, &OpenGate)?;
     let mut rest = [0u8; 8];
     Ok(input.take(&mut rest)?)
 }
@@ -233,13 +191,14 @@ fn inputs_that_are_read_to_their_end(rt: HostRuntime) -> Result<(), Fail> {
     Ok(())
 }
 
+const LONG: [(usize, u8, &str, &str); 2] = [
+    (16_777_216, 0, "42", ORDERED),
+    (16_777_217, 7, "", "input too long\n"),
+];
+
 #[test]
 fn long_inputs(rt: HostRuntime) -> Result<(), Fail> {
-    let cases = [
-        (16_777_216, 0, "42", ORDERED),
-        (16_777_217, 7, "", "input too long\n"),
-    ];
-    for (count, status, output, notes) in cases {
+    for (count, status, output, notes) in LONG {
         let input = filled(rt.alloc(), b'a', count)?;
         expect_on(&rt, rt.alloc(), &RUN, ANSWER, input, status, output, notes)?;
     }

@@ -21,7 +21,7 @@ fn refuses<R: Threads + Wait + Sync + Abort>(
 }
 
 // Rules of characters and of the grammar.
-const SPELLED: [(&str, &str); 8] = [
+const SPELLED: [(&str, &str); 9] = [
     ("", "refused G2 1:1\n"),
     (
         "program a; var x: integer; begin x := 6; write(x * 7)",
@@ -39,6 +39,10 @@ const SPELLED: [(&str, &str); 8] = [
         "program h; begin write(9223372036854775808) end.",
         "refused S4 1:24\n",
     ),
+    (
+        "program h;\nbegin write(9223372036854775808) end.",
+        "refused S4 2:13\n",
+    ),
 ];
 
 #[test]
@@ -50,7 +54,7 @@ fn rules_of_the_spelling(rt: HostRuntime) -> Result<(), Fail> {
 }
 
 // Rules of names and types.
-const NAMED: [(&str, &str); 7] = [
+const NAMED: [(&str, &str); 9] = [
     ("program g; begin x := 1 end.", "refused N1 1:18\n"),
     (
         "program g; var b: boolean; begin b := 1 end.",
@@ -75,6 +79,14 @@ const NAMED: [(&str, &str); 7] = [
     (
         "program h; type t = array [0..maxint] of char; begin end.",
         "refused L3 1:17\n",
+    ),
+    (
+        "program g; var x: integer; begin x := true end.",
+        "refused Y5 1:39\n",
+    ),
+    (
+        "program g; var x: integer; begin y := 1; x := true end.",
+        "refused N1 1:34\n",
     ),
 ];
 
@@ -166,10 +178,14 @@ fn the_longest_code(rt: HostRuntime) -> Result<(), Fail> {
         0,
         "",
         "accepted\n",
-    )?;
-    let longer = arguments(rt.alloc(), 349_525)?;
+    )
+}
+
+#[test]
+fn code_that_is_too_long(rt: HostRuntime) -> Result<(), Fail> {
+    let text = arguments(rt.alloc(), 349_525)?;
     for command in ["run", "check", "code"] {
-        refuses(&rt, rt.alloc(), command, &[(&longer, "refused L5 1:1\n")])?;
+        refuses(&rt, rt.alloc(), command, &[(&text, "refused L5 1:1\n")])?;
     }
     Ok(())
 }

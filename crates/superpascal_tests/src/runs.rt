@@ -5,7 +5,7 @@ use std::alloc::{AllocError, Global};
 use std::test::Fail;
 
 // Without procedures and processes.
-const LOCAL: [(&str, &str, &str); 8] = [
+const LOCAL: [(&str, &str, &str); 10] = [
     (ANSWER, "42", ORDERED),
     (
         "program h; begin write((-7) div 2, ' ', (-7) mod 2) end.",
@@ -38,11 +38,63 @@ const LOCAL: [(&str, &str, &str); 8] = [
         "9223372030926249001",
         ORDERED,
     ),
+    (
+        "PROGRAM Integer;\nVAR Total: INTEGER; begin; total:=2; write(- total*3+1,TOTAL) end .",
+        "-52",
+        ORDERED,
+    ),
+    (
+        "program a; var x: integer; begin write((1)) end.",
+        "1",
+        ORDERED,
+    ),
 ];
 
 #[test]
 fn local_statements(rt: HostRuntime) -> Result<(), Fail> {
     expect_texts(&rt, rt.alloc(), &RUN, 0, &LOCAL)
+}
+
+// At the ends of the integers.
+const ENDS: [(&str, &str, &str); 2] = [
+    (
+        "program h; var x: integer; begin x := 9223372036854775807; write(x) end.",
+        "9223372036854775807",
+        ORDERED,
+    ),
+    (
+        "program h; var x: integer; begin x := -9223372036854775807; write(x - 0) end.",
+        "-9223372036854775807",
+        ORDERED,
+    ),
+];
+
+#[test]
+fn ends_of_the_integers(rt: HostRuntime) -> Result<(), Fail> {
+    expect_texts(&rt, rt.alloc(), &RUN, 0, &ENDS)
+}
+
+const BEYOND: [(&str, &str, &str); 3] = [
+    (
+        "program h; var x: integer; begin x := 9223372036854775807; x := x + 1 end.",
+        "",
+        "fault F2 0\nunjudged\n",
+    ),
+    (
+        "program h; var x: integer; begin x := -9223372036854775807; x := x - 1 end.",
+        "",
+        "fault F2 0\nunjudged\n",
+    ),
+    (
+        "program h; var x: integer; begin x := 4294967296 * 2147483648 end.",
+        "",
+        "fault F2 0\nunjudged\n",
+    ),
+];
+
+#[test]
+fn beyond_the_integers(rt: HostRuntime) -> Result<(), Fail> {
+    expect_texts(&rt, rt.alloc(), &RUN, 3, &BEYOND)
 }
 
 // Functions, and variable parameters in processes.
@@ -138,7 +190,7 @@ fn long_turns(rt: HostRuntime) -> Result<(), Fail> {
 }
 
 // In the order of the faults.
-const FAULTS: [(&str, &str, &str); 12] = [
+const FAULTS: [(&str, &str, &str); 13] = [
     (
         "program w; begin write(7:0) end.",
         "",
@@ -162,6 +214,11 @@ const FAULTS: [(&str, &str, &str); 12] = [
     (
         "program a; var x: integer; begin write(x) end.",
         "",
+        "fault F4 0\nunjudged\n",
+    ),
+    (
+        "program a; var x: integer; begin write(7 - 2 - 1, x) end.",
+        "4",
         "fault F4 0\nunjudged\n",
     ),
     (
@@ -246,8 +303,18 @@ fn ones(alloc: Global, count: usize) -> Result<String, AllocError> {
     Ok(text)
 }
 
+// The caller's own stack would not hold it.
 #[test]
 fn a_long_sum(rt: HostRuntime) -> Result<(), Fail> {
-    let text = ones(rt.alloc(), 400_000)?;
-    expect(&rt, rt.alloc(), &RUN, &text, 0, "400000", ORDERED)
+    let text = ones(rt.alloc(), 40_000)?;
+    expect(&rt, rt.alloc(), &RUN, &text, 0, "40000", ORDERED)
+}
+
+#[test]
+fn the_longest_text(rt: HostRuntime) -> Result<(), Fail> {
+    let mut text = String::from_str(rt.alloc(), ANSWER)?;
+    for _ in text.len()..1_048_576 {
+        text.push_str(" ")?;
+    }
+    expect(&rt, rt.alloc(), &RUN, &text, 0, "42", ORDERED)
 }

@@ -1,6 +1,6 @@
 //! Runs with several workers, and generated programs.
 
-use crate::calls::{ORDERED, call, expect};
+use crate::calls::{NONE, ORDERED, call, expect, expect_given, source};
 use sp_outside::Gate;
 use std::sync::atomic::{AtomicU64, Ordering};
 use std::test::Fail;
@@ -40,6 +40,13 @@ fn generated_programs(rt: HostRuntime) -> Result<(), Fail> {
     Ok(())
 }
 
+#[test]
+fn a_large_generated_program(rt: HostRuntime) -> Result<(), Fail> {
+    let words = ["gen", "2000", "--workers", "1"];
+    let output = "size 2000\noutput 20010055\nentries 44027\ndone\nordered\n";
+    expect(&rt, rt.alloc(), &words, "", 0, output, "")
+}
+
 /// Lets process 1 enter once process 2 has, and notes where it has not seen this in so many looks.
 #[derive(Drop)]
 struct Meeting {
@@ -64,11 +71,13 @@ impl Gate for Meeting {
     }
 }
 
-fn meeting(looks: u64) -> Meeting {
-    Meeting {
-        looks,
-        entered: AtomicU64::new(0),
-        missed: AtomicU64::new(0),
+impl Meeting {
+    fn new(looks: u64) -> Meeting {
+        Meeting {
+            looks,
+            entered: AtomicU64::new(0),
+            missed: AtomicU64::new(0),
+        }
     }
 }
 
@@ -78,22 +87,22 @@ const TWO: &str =
 // The one worker takes process 1 first, and enters with it before it takes process 2.
 #[test]
 fn one_worker_is_in_one_turn_at_once(rt: HostRuntime) -> Result<(), Fail> {
-    let meeting = meeting(1000);
+    let gate = Meeting::new(1000);
     let words = ["run", "--workers", "1", "a.sp"];
-    let given = call(&rt, rt.alloc(), &words, TWO, Vec::new(rt.alloc()), &meeting)?;
-    assert_eq!(rt; given.output.as_slice(), b"12".as_slice());
-    assert_eq!(rt; meeting.missed.load(Ordering::SeqCst), 1);
+    let mut input = source(rt.alloc(), Vec::new(rt.alloc()));
+    let given = call(&rt, rt.alloc(), &words, TWO, &mut input, NONE, &gate)?;
+    expect_given(&rt, &given, 0, true, "12", ORDERED, TWO);
+    assert_eq!(rt; gate.missed.load(Ordering::SeqCst), 1);
     Ok(())
 }
 
 #[test]
 fn two_workers_are_in_a_turn_at_once(rt: HostRuntime) -> Result<(), Fail> {
-    let meeting = meeting(1_000_000_000);
+    let gate = Meeting::new(1_000_000_000);
     let words = ["run", "--workers", "2", "a.sp"];
-    let given = call(&rt, rt.alloc(), &words, TWO, Vec::new(rt.alloc()), &meeting)?;
-    assert_eq!(rt; given.output.as_slice(), b"12".as_slice());
-    assert_eq!(rt; given.notes.as_slice(), ORDERED.as_bytes());
-    assert_eq!(rt; given.status, 0);
-    assert_eq!(rt; meeting.missed.load(Ordering::SeqCst), 0);
+    let mut input = source(rt.alloc(), Vec::new(rt.alloc()));
+    let given = call(&rt, rt.alloc(), &words, TWO, &mut input, NONE, &gate)?;
+    expect_given(&rt, &given, 0, true, "12", ORDERED, TWO);
+    assert_eq!(rt; gate.missed.load(Ordering::SeqCst), 0);
     Ok(())
 }
