@@ -1,8 +1,12 @@
 //! Words that are refused, and the options of a run.
 
-use crate::calls::{ANSWER, Asked, ORDERED, expect, expect_words};
+use crate::calls::{ANSWER, Asked, ORDERED, expect, expect_texts, expect_words};
 use crate::workers::{PIPE, TREE};
+use std::alloc::Global;
+use std::process::Abort;
+use std::sync::Wait;
 use std::test::Fail;
+use std::thread::Threads;
 
 const BAD: [&[&str]; 18] = [
     &[],
@@ -25,12 +29,21 @@ const BAD: [&[&str]; 18] = [
     &["gen", "3", "--ticks", "1"],
 ];
 
-#[test]
-fn words_that_are_refused(rt: HostRuntime) -> Result<(), Fail> {
-    for words in BAD {
-        expect(&rt, rt.alloc(), words, ANSWER, 2, "", "bad words\n")?;
+// Asserts that all these words are refused.
+fn expect_refused<R: Threads + Wait + Sync + Abort>(
+    rt: &R,
+    alloc: Global,
+    rows: &[&[&str]],
+) -> Result<(), Fail> {
+    for words in rows {
+        expect(rt, alloc, words, ANSWER, 2, "", "bad words\n")?;
     }
     Ok(())
+}
+
+#[test]
+fn words_that_are_refused(rt: HostRuntime) -> Result<(), Fail> {
+    expect_refused(&rt, rt.alloc(), &BAD)
 }
 
 const FILES: [Asked; 5] = [
@@ -113,60 +126,65 @@ fn what_waits_in_a_deadlock(rt: HostRuntime) -> Result<(), Fail> {
     expect(&rt, rt.alloc(), &words, text, 4, "", notes)
 }
 
-// Texts, and the status, the output and the journal.
-const JOURNALS: [(&str, u8, &str, &str); 8] = [
-    (ANSWER, 0, "42", "superpascal journal 2\n0 end\n"),
+// Texts, outputs and journals of runs that are done.
+const JOURNALS: [(&str, &str, &str); 5] = [
+    (ANSWER, "42", "superpascal journal 2\n0 end\n"),
     (
         "program r; type ch = *(integer); var c: ch; x, y: integer; begin open(c); parallel begin receive(c, x); receive(c, y) end | send(c, 1) | send(c, 2) end; write(x, y) end.",
-        0,
         "12",
         "superpascal journal 2\n0 open\n0 fork 3\n0/0.0 receive 0#0\n0/0.1 send 0#0\n0/0.2 send 0#0\n0/0.0 receive 0#0\n0/0.1 end\n0/0.2 end\n0/0.0 end\n0 end\n",
     ),
     (
         "program m; procedure node(i: integer); begin end; begin forall i := 1 to 0 do node(i) end.",
-        0,
         "",
         "superpascal journal 2\n0 end\n",
     ),
     (
         "program f; type t = array [1..2] of integer; var a: t; b: integer; procedure p(var u, v: integer); begin parallel u := 1 | parallel v := 2 | begin end end end end; begin a[2] := 5; p(a[1], b); write(a[1], a[2], b) end.",
-        0,
         "152",
         "superpascal journal 2\n0 fork 2\n0/0.0 end\n0/0.1 fork 2\n0/0.1/0.0 end\n0/0.1/0.1 end\n0/0.1 end\n0 end\n",
     ),
     (
         "program t; var i: integer; begin for i := 1 to 250000 do begin end; write(i) end.",
-        0,
         "250000",
         "superpascal journal 2\n0 pause\n0 pause\n0 end\n",
     ),
+];
+
+const WITH_JOURNAL: [&str; 6] = ["run", "--workers", "1", "--show", "journal", "a.sp"];
+
+#[test]
+fn journals(rt: HostRuntime) -> Result<(), Fail> {
+    expect_texts(&rt, rt.alloc(), &WITH_JOURNAL, 0, &JOURNALS)
+}
+
+const FAULTS: [(&str, &str, &str); 2] = [
     (
         "program r; type ch = *(integer); var c: ch; x: integer; begin open(c); parallel send(c, 1) | send(c, 2) | receive(c, x) end end.",
-        3,
         "",
         "superpascal journal 2\n0 open\n0 fork 3\n0/0.0 send 0#0\n0/0.1 fault F6\n",
     ),
     (
         "program t; var i: integer; begin parallel begin write(1); for i := 1 to 100000 do begin end; write(2) end | assume false end end.",
-        3,
         "1",
         "superpascal journal 2\n0 fork 2\n0/0.0 pause\n0/0.1 fault F8\n",
-    ),
-    (
-        STUCK,
-        4,
-        "",
-        "superpascal journal 2\n0 open\n0 receive 0#0\n",
     ),
 ];
 
 #[test]
-fn journals(rt: HostRuntime) -> Result<(), Fail> {
-    let words = ["run", "--workers", "1", "--show", "journal", "a.sp"];
-    for (text, status, output, notes) in JOURNALS {
-        expect(&rt, rt.alloc(), &words, text, status, output, notes)?;
-    }
-    Ok(())
+fn journals_of_faults(rt: HostRuntime) -> Result<(), Fail> {
+    expect_texts(&rt, rt.alloc(), &WITH_JOURNAL, 3, &FAULTS)
+}
+
+const DEADLOCKS: [(&str, &str, &str); 1] = [(
+    STUCK,
+    "",
+    "superpascal journal 2\n0 open\n0 receive 0#0\n",
+)];
+
+#[test]
+fn journals_of_deadlocks(rt: HostRuntime) -> Result<(), Fail> {
+    expect_texts(&rt, rt.alloc(), &WITH_JOURNAL, 4, &DEADLOCKS)
 }
 
 /// A limit, a text, and the status, the output and the notes of its run with one worker.
@@ -306,19 +324,21 @@ const LIMITS: [Limit; 15] = [
     },
 ];
 
-#[test]
-fn limits(rt: HostRuntime) -> Result<(), Fail> {
-    for row in LIMITS {
+fn expect_limits<R: Threads + Wait + Sync + Abort>(
+    rt: &R,
+    alloc: Global,
+    rows: &[Limit],
+) -> Result<(), Fail> {
+    for row in rows {
         let words = ["run", "--workers", "1", row.name, row.value, "a.sp"];
         expect(
-            &rt,
-            rt.alloc(),
-            &words,
-            row.text,
-            row.status,
-            row.output,
-            row.notes,
+            rt, alloc, &words, row.text, row.status, row.output, row.notes,
         )?;
     }
     Ok(())
+}
+
+#[test]
+fn limits(rt: HostRuntime) -> Result<(), Fail> {
+    expect_limits(&rt, rt.alloc(), &LIMITS)
 }

@@ -72,25 +72,32 @@ fn a_source_and_notes_that_fail(rt: HostRuntime) -> Result<(), Fail> {
     expect_end(&rt, rt.alloc(), input, failing, 6, "")
 }
 
+// Asserts that a call on the answer without input ends with a write fault.
+fn expect_write_fault<R: Threads + Wait + Sync + Abort>(
+    rt: &R,
+    alloc: Global,
+    words: &[&str],
+    failing: Failing,
+    ran: bool,
+    output: &str,
+    notes: &str,
+) -> Result<(), Fail> {
+    let mut input = source(alloc, Vec::new(alloc));
+    let given = call(rt, alloc, words, ANSWER, &mut input, failing, &OpenGate)?;
+    expect_given(rt, &given, 6, ran, output, notes, "");
+    Ok(())
+}
+
+const NO_RUNS: [&[&str]; 3] = [&["check", "a.sp"], &["run", "absent"], &["run"]];
+
 #[test]
 fn notes_of_no_run_that_fail(rt: HostRuntime) -> Result<(), Fail> {
     let failing = Failing {
         notes: &[0],
         ..NONE
     };
-    let cases: [&[&str]; 3] = [&["check", "a.sp"], &["run", "absent"], &["run"]];
-    for words in cases {
-        let mut input = source(rt.alloc(), Vec::new(rt.alloc()));
-        let given = call(
-            &rt,
-            rt.alloc(),
-            words,
-            ANSWER,
-            &mut input,
-            failing,
-            &OpenGate,
-        )?;
-        expect_given(&rt, &given, 6, false, "", "", "");
+    for words in &NO_RUNS {
+        expect_write_fault(&rt, rt.alloc(), words, failing, false, "", "")?;
     }
     Ok(())
 }
@@ -102,46 +109,25 @@ fn an_output_that_fails(rt: HostRuntime) -> Result<(), Fail> {
             output: &[k],
             ..NONE
         };
-        let mut input = source(rt.alloc(), Vec::new(rt.alloc()));
-        let given = call(
-            &rt,
-            rt.alloc(),
-            &RUN,
-            ANSWER,
-            &mut input,
-            failing,
-            &OpenGate,
-        )?;
-        expect_given(&rt, &given, 6, true, output, "", "");
+        expect_write_fault(&rt, rt.alloc(), &RUN, failing, true, output, "")?;
     }
     Ok(())
 }
 
 #[test]
 fn notes_that_fail(rt: HostRuntime) -> Result<(), Fail> {
-    for k in 0..13u32 {
+    let mut written = String::new(rt.alloc());
+    let mut at = 0u32;
+    for character in ORDERED.chars() {
         let failing = Failing {
-            notes: &[k],
+            notes: &[at],
             ..NONE
         };
-        let mut input = source(rt.alloc(), Vec::new(rt.alloc()));
-        let given = call(
-            &rt,
-            rt.alloc(),
-            &RUN,
-            ANSWER,
-            &mut input,
-            failing,
-            &OpenGate,
-        )?;
-        assert!(rt; given.status == 6 && given.ran, "{k}");
-        assert_eq!(rt; given.output.as_slice(), b"42".as_slice(), "{k}");
-        assert_eq!(rt; given.notes.len(), k as usize);
-        assert!(rt;
-            ORDERED.as_bytes().starts_with(given.notes.as_slice()),
-            "{k}"
-        );
+        expect_write_fault(&rt, rt.alloc(), &RUN, failing, true, "42", &written)?;
+        written.push(character)?;
+        at = at.saturating_add(1);
     }
+    assert_eq!(rt; at, 13);
     Ok(())
 }
 
@@ -158,37 +144,49 @@ fn left_after<R: Threads + Wait + Sync>(
     Ok(input.take(&mut rest)?)
 }
 
-#[test]
-fn inputs_that_are_not_touched(rt: HostRuntime) -> Result<(), Fail> {
-    let cases: [(&[&str], &str); 8] = [
-        (&["check", "a.sp"], ANSWER),
-        (&["code", "a.sp"], ANSWER),
-        (&["sets", "a.sp"], ANSWER),
-        (&["format", "a.sp"], ANSWER),
-        (&["gen", "3"], ANSWER),
-        (&["run", "-x", "a.sp"], ANSWER),
-        (&["run", "absent"], ANSWER),
-        (&["run", "a.sp"], "program g; begin x := 1 end."),
-    ];
-    for (words, text) in cases {
-        let left = left_after(&rt, rt.alloc(), words, text)?;
-        assert_eq!(rt; left, 4, "{words:?}");
+// Asserts what each of these calls leaves. A row has the words and the text.
+fn expect_left<R: Threads + Wait + Sync + Abort>(
+    rt: &R,
+    alloc: Global,
+    rows: &[(&[&str], &str)],
+    count: usize,
+) -> Result<(), Fail> {
+    for &(words, text) in rows {
+        let left = left_after(rt, alloc, words, text)?;
+        assert_eq!(rt; left, count, "{words:?}");
     }
     Ok(())
 }
 
+const UNTOUCHED: [(&[&str], &str); 8] = [
+    (&["check", "a.sp"], ANSWER),
+    (&["code", "a.sp"], ANSWER),
+    (&["sets", "a.sp"], ANSWER),
+    (&["format", "a.sp"], ANSWER),
+    (&["gen", "3"], ANSWER),
+    (&["run", "-x", "a.sp"], ANSWER),
+    (&["run", "absent"], ANSWER),
+    (&["run", "a.sp"], "program g; begin x := 1 end."),
+];
+
+#[test]
+fn inputs_that_are_not_touched(rt: HostRuntime) -> Result<(), Fail> {
+    expect_left(&rt, rt.alloc(), &UNTOUCHED, 4)
+}
+
+// Runs that are done, that end in a fault, and in a deadlock.
+const ENDED: [(&[&str], &str); 3] = [
+    (&RUN, ANSWER),
+    (&RUN, "program a; var x: integer; begin write(x) end."),
+    (
+        &RUN,
+        "program r; type ch = *(integer); var c: ch; x: integer; begin open(c); receive(c, x) end.",
+    ),
+];
+
 #[test]
 fn inputs_that_are_read_to_their_end(rt: HostRuntime) -> Result<(), Fail> {
-    let texts = [
-        ANSWER,
-        "program a; var x: integer; begin write(x) end.",
-        "program r; type ch = *(integer); var c: ch; x: integer; begin open(c); receive(c, x) end.",
-    ];
-    for text in texts {
-        let left = left_after(&rt, rt.alloc(), &RUN, text)?;
-        assert_eq!(rt; left, 0, "{text}");
-    }
-    Ok(())
+    expect_left(&rt, rt.alloc(), &ENDED, 0)
 }
 
 const LONG: [(usize, u8, &str, &str); 2] = [

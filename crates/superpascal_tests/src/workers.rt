@@ -2,8 +2,12 @@
 
 use crate::calls::{NONE, ORDERED, call, expect, expect_given, source};
 use sp_outside::Gate;
+use std::alloc::Global;
+use std::process::Abort;
+use std::sync::Wait;
 use std::sync::atomic::{AtomicU64, Ordering};
 use std::test::Fail;
+use std::thread::Threads;
 
 /// A pipeline of three processes.
 pub const PIPE: &str =
@@ -84,25 +88,30 @@ impl Meeting {
 const TWO: &str =
     "program g; var x, y: integer; begin parallel x := 1 | y := 2 end; write(x, y) end.";
 
+// Asserts what such a run gives, and whether process 1 has missed process 2.
+fn expect_meeting<R: Threads + Wait + Sync + Abort>(
+    rt: &R,
+    alloc: Global,
+    workers: &str,
+    looks: u64,
+    missed: u64,
+) -> Result<(), Fail> {
+    let gate = Meeting::new(looks);
+    let words = ["run", "--workers", workers, "a.sp"];
+    let mut input = source(alloc, Vec::new(alloc));
+    let given = call(rt, alloc, &words, TWO, &mut input, NONE, &gate)?;
+    expect_given(rt, &given, 0, true, "12", ORDERED, TWO);
+    assert_eq!(rt; gate.missed.load(Ordering::SeqCst), missed);
+    Ok(())
+}
+
 // The one worker takes process 1 first, and enters with it before it takes process 2.
 #[test]
 fn one_worker_is_in_one_turn_at_once(rt: HostRuntime) -> Result<(), Fail> {
-    let gate = Meeting::new(1000);
-    let words = ["run", "--workers", "1", "a.sp"];
-    let mut input = source(rt.alloc(), Vec::new(rt.alloc()));
-    let given = call(&rt, rt.alloc(), &words, TWO, &mut input, NONE, &gate)?;
-    expect_given(&rt, &given, 0, true, "12", ORDERED, TWO);
-    assert_eq!(rt; gate.missed.load(Ordering::SeqCst), 1);
-    Ok(())
+    expect_meeting(&rt, rt.alloc(), "1", 1000, 1)
 }
 
 #[test]
 fn two_workers_are_in_a_turn_at_once(rt: HostRuntime) -> Result<(), Fail> {
-    let gate = Meeting::new(1_000_000_000);
-    let words = ["run", "--workers", "2", "a.sp"];
-    let mut input = source(rt.alloc(), Vec::new(rt.alloc()));
-    let given = call(&rt, rt.alloc(), &words, TWO, &mut input, NONE, &gate)?;
-    expect_given(&rt, &given, 0, true, "12", ORDERED, TWO);
-    assert_eq!(rt; gate.missed.load(Ordering::SeqCst), 0);
-    Ok(())
+    expect_meeting(&rt, rt.alloc(), "2", 1_000_000_000, 0)
 }
