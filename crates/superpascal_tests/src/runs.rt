@@ -5,7 +5,7 @@ use std::alloc::{AllocError, Global};
 use std::test::Fail;
 
 // Without procedures and processes.
-const LOCAL: [(&str, &str, &str); 10] = [
+const LOCAL: [(&str, &str, &str); 12] = [
     (ANSWER, "42", ORDERED),
     (
         "program h; begin write((-7) div 2, ' ', (-7) mod 2) end.",
@@ -48,15 +48,6 @@ const LOCAL: [(&str, &str, &str); 10] = [
         "1",
         ORDERED,
     ),
-];
-
-#[test]
-fn local_statements(rt: HostRuntime) -> Result<(), Fail> {
-    expect_texts(&rt, rt.alloc(), &RUN, 0, &LOCAL)
-}
-
-// At the ends of the integers.
-const ENDS: [(&str, &str, &str); 2] = [
     (
         "program h; var x: integer; begin x := 9223372036854775807; write(x) end.",
         "9223372036854775807",
@@ -70,31 +61,8 @@ const ENDS: [(&str, &str, &str); 2] = [
 ];
 
 #[test]
-fn ends_of_the_integers(rt: HostRuntime) -> Result<(), Fail> {
-    expect_texts(&rt, rt.alloc(), &RUN, 0, &ENDS)
-}
-
-const BEYOND: [(&str, &str, &str); 3] = [
-    (
-        "program h; var x: integer; begin x := 9223372036854775807; x := x + 1 end.",
-        "",
-        "fault F2 0\nunjudged\n",
-    ),
-    (
-        "program h; var x: integer; begin x := -9223372036854775807; x := x - 1 end.",
-        "",
-        "fault F2 0\nunjudged\n",
-    ),
-    (
-        "program h; var x: integer; begin x := 4294967296 * 2147483648 end.",
-        "",
-        "fault F2 0\nunjudged\n",
-    ),
-];
-
-#[test]
-fn beyond_the_integers(rt: HostRuntime) -> Result<(), Fail> {
-    expect_texts(&rt, rt.alloc(), &RUN, 3, &BEYOND)
+fn local_statements(rt: HostRuntime) -> Result<(), Fail> {
+    expect_texts(&rt, rt.alloc(), &RUN, 0, &LOCAL)
 }
 
 // Functions, and variable parameters in processes.
@@ -190,7 +158,7 @@ fn long_turns(rt: HostRuntime) -> Result<(), Fail> {
 }
 
 // In the order of the faults.
-const FAULTS: [(&str, &str, &str); 13] = [
+const FAULTS: [(&str, &str, &str); 16] = [
     (
         "program w; begin write(7:0) end.",
         "",
@@ -203,6 +171,21 @@ const FAULTS: [(&str, &str, &str); 13] = [
     ),
     (
         "program h; begin write(sqr(3037000500)) end.",
+        "",
+        "fault F2 0\nunjudged\n",
+    ),
+    (
+        "program h; var x: integer; begin x := 9223372036854775807; x := x + 1 end.",
+        "",
+        "fault F2 0\nunjudged\n",
+    ),
+    (
+        "program h; var x: integer; begin x := -9223372036854775807; x := x - 1 end.",
+        "",
+        "fault F2 0\nunjudged\n",
+    ),
+    (
+        "program h; var x: integer; begin x := 4294967296 * 2147483648 end.",
         "",
         "fault F2 0\nunjudged\n",
     ),
