@@ -53,12 +53,7 @@ fn run_code<R: Threads + Wait + Sync, G: Gate>(
 }
 
 // Tells of a run.
-fn ran_answer(
-    alloc: Global,
-    watchers: Vec<Box<dyn Watcher>>,
-    show: Show,
-    ran: Ran,
-) -> Answer
+fn ran_answer(alloc: Global, watchers: Vec<Box<dyn Watcher>>, show: Show, ran: Ran) -> Answer
     requires fresh { All (λ w. told w ≡ []) watchers.items }
     requires run { (program : List ℕ) × (input : List ℕ) × (workers : ℕ) × (limits : ALimits) × IsRunOf program input workers limits ran }
     ensures { RanAnswer (λ s es. flat_map (λ w. text w es) (filter (λ w. is_chosen s (title w)) watchers.items)) show ran result }
@@ -118,7 +113,9 @@ fn input_answer<R: Threads + Wait + Sync, I: Source, G: Gate>(
         (λ s es. flat_map (λ w. text w es) (filter (λ w. is_chosen s (title w)) watchers.items)) show workers limits.now program result }
 {
     match read_all(alloc, input, LONGEST_INPUT) {
-        Ok(bytes) => code_answer(rt, alloc, code, bytes, workers, limits, show, gate, watchers),
+        Ok(bytes) => code_answer(
+            rt, alloc, code, bytes, workers, limits, show, gate, watchers,
+        ),
         Err(ReadError::TooLong) => silent(alloc, Ending::TooLong),
         Err(ReadError::Failed) => silent(alloc, Ending::ReadFault),
         Err(ReadError::Memory) => silent(alloc, Ending::OutOfMemory),
