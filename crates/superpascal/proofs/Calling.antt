@@ -2,6 +2,7 @@
 use Rattle.std.proofs.Common.{◌≡◌, ◌≢◌, ◌⊎◌, inl, inr, ℕ, ◌<◌, ◌≤◌, List, [], length, Option, Some, None, true, false, refl, sym, ◌∙◌, ap, subst, arith}
 use Rattle.std.specs.Prelude.{IfSome}
 use Rattle.sp_base.specs.declared.halt.Refusal.{Refusal}
+use Rattle.sp_base.specs.declared.limits.Limits.{Limits}
 use Rattle.sp_execute.specs.declared.execution.Ran.{Ran}
 use Rattle.sp_execute.specs.Runs.{Executes, setting}
 use Rattle.sp_gen.specs.Generated.{generated_text}
@@ -10,6 +11,7 @@ use Rattle.sp_journal.specs.declared.outcome.End.TheVariants as ends
 use Rattle.sp_outside.specs.Counts.{Rose}
 use Rattle.sp_print.specs.Lines.{HasLines, refusal_text}
 use Rattle.sp_tree.specs.Bare.{bare}
+use Rattle.sp_words.specs.Ranges.{default_limits}
 use Rattle.sp_words.specs.Words.{command_of}
 use Rattle.sp_words.specs.declared.command.Command.{Command}
 use Rattle.sp_words.specs.declared.command.Command.TheVariants as command
@@ -134,13 +136,13 @@ module _ (f : Files) (s : Stream) (reports : Reports) (w : Option Command) (a : 
     of_text : (P : List ℕ → Type 0) (c : Command) → w ≡ Some c → IfSome (text_of f.held c) P → P text
     of_text P c u h = if_told P (text_of f.held d) text t (subst (λ (x : Command). IfSome (text_of f.held x) P) (one_command w d c v u) h)
 
-    run_keeps : (all input : List ℕ) (workers : ℕ) (r : Ran) (limits : Rattle.sp_base.specs.declared.limits.Limits.Limits) → IsRunOf all input workers limits r → KeepsAll all
+    run_keeps : (all input : List ℕ) (workers : ℕ) (r : Ran) (limits : Limits) → IsRunOf all input workers limits r → KeepsAll all
     run_keeps all input workers r limits h = (h.tree, h.has.accepted, h.has.short)
 
     ran_keeps : HasRanFor f s reports w a → Keeps d text
     ran_keeps (c, u, inl (asked, p, h)) =
         let same : asks asked ≡ d = sym p ∙ one_command w d c v u in
-        let all : KeepsAll text = of_text KeepsAll (asks asked) (u ∙ ap Some p) (subst (λ (P : List ℕ → Type 0). IfSome (f.held asked.file) P) refl (told_keeps (f.held asked.file) h.text h.loaded (run_keeps h.text h.input asked.workers h.ran asked.limits h.is_run))) in
+        let all : KeepsAll text = of_text KeepsAll (asks asked) (u ∙ ap Some p) (told_keeps (f.held asked.file) h.text h.loaded (run_keeps h.text h.input asked.workers h.ran asked.limits h.is_run)) in
         subst (λ (x : Command). Keeps x text) same all
       where
         told_keeps : (o : Option (List ℕ)) (all : List ℕ) → IsTold o all → KeepsAll all → IfSome o KeepsAll
@@ -148,7 +150,7 @@ module _ (f : Files) (s : Stream) (reports : Reports) (w : Option Command) (a : 
         told_keeps (Some x) all h k = subst KeepsAll h k
     ran_keeps (c, u, inr (size, workers, p, h)) =
         let same : command.Gen size workers ≡ d = sym p ∙ one_command w d c v u in
-        let all : KeepsAll text = of_text KeepsAll (command.Gen size workers) (u ∙ ap Some p) (run_keeps (generated_text size) [] workers h.ran _ h.is_run) in
+        let all : KeepsAll text = of_text KeepsAll (command.Gen size workers) (u ∙ ap Some p) (run_keeps (generated_text size) [] workers h.ran default_limits h.is_run) in
         subst (λ (x : Command). Keeps x text) same all
 
     makes : (c : Command) → w ≡ Some c → (h : HasMade f c a) → Makes d text h.output h.line
@@ -361,7 +363,7 @@ module _ (c : Call) (k : IsAnswered c) (l : Laws) where
         go : HasRanFor c.files c.source c.reports (command_of c.words) k.answer → IsRunOfWords c r
         go (d, u, inl (b, p, m)) =
             inl (b, u ∙ ap Some p, m.at_end, m.text, m.input, m.loaded, m.read, subst (IsRunOf m.text m.input b.workers b.limits) (same_run c.reports b m.ran m.answer) m.is_run)
-        go (d, u, inr (size, workers, p, m)) = inr (size, workers, u ∙ ap Some p, subst (IsRunOf (generated_text size) [] workers _) (same_generated size m.ran m.answer) m.is_run)
+        go (d, u, inr (size, workers, p, m)) = inr (size, workers, u ∙ ap Some p, subst (IsRunOf (generated_text size) [] workers default_limits) (same_generated size m.ran m.answer) m.is_run)
 
     written : (output notes : List ℕ) → output_of k.answer ≡ output → notes_of k.answer ≡ notes → AreWritten c output notes
     written output notes i j = record {
@@ -514,7 +516,7 @@ module _ (c : Call) (k : IsAnswered c) (l : Laws) where
       prints r h b v = let m = run_written r h b v in record { status = run_status r h; whole = λ n. (m.whole n).0; part = m.part_of_output }
 
   -- the notes where there is no output
-  line_is : (x : Ending) → why c.files c.source c.reports (command_of c.words) k.answer x → has_output x ≡ false → notes_by x k.answer.notes ≡ line_of x ⊎ ((r : Refusal) × (k.answer ≡ refused r))
+  line_is : (x : Ending) → why c.files c.source c.reports (command_of c.words) k.answer x → has_output x ≡ false → (notes_by x k.answer.notes ≡ line_of x) ⊎ ((r : Refusal) × (k.answer ≡ refused r))
   line_is e.Done m h = absurd (no_true h)
   line_is e.Deadlock m h = absurd (no_true h)
   line_is e.Fault m h = absurd (no_true h)
@@ -550,6 +552,6 @@ module _ (c : Call) (k : IsAnswered c) (l : Laws) where
       writes_line : status ≡ status_of ending → has_output ending ≡ false → All c.notes (notes_of k.answer) → WritesLine c
       writes_line i n m = go (line_is ending due_why n)
         where
-          go : notes_by ending k.answer.notes ≡ line_of ending ⊎ ((r : Refusal) × (k.answer ≡ refused r)) → WritesLine c
+          go : (notes_by ending k.answer.notes ≡ line_of ending) ⊎ ((r : Refusal) × (k.answer ≡ refused r)) → WritesLine c
           go (inl h) = (ending, i, n, subst (All c.notes) h m)
           go (inr (r, h)) = (e.Refused r, i ∙ ap (λ (z : Answer). status_of z.ending) h, refl, subst (All c.notes) (ap notes_of h) m)

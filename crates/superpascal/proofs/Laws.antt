@@ -124,3 +124,16 @@ long_breaks (command.Code file) all h = inl (inl (inl (inl (too_long all start r
 long_breaks (command.Sets file) all h = inl (inl (too_long all start refl h))
 long_breaks (command.Format file) all h = inl (inl (too_long all start refl h))
 long_breaks (command.Gen size workers) all h = inl (inl (inl (inl (too_long all start refl h))))
+
+pub laws : ((text : List ℕ) (p q : c.Program) → IsChecked text p → IsChecked text q → p ≡ q)
+    → ((text : List ℕ) (a b : Refusal) → BreaksFirst text a → BreaksFirst text b → a ≡ b)
+    → ((text : List ℕ) (p : c.Program) (r : Refusal) → IsChecked text p → BreaksFirst text r → ⊥)
+    → ((text : List ℕ) (a b : Refusal) → BreaksAnyFirst text a → BreaksAnyFirst text b → a ≡ b)
+    → ((text : List ℕ) (p : c.Program) (r : Refusal) → IsAccepted text p → BreaksAnyFirst text r → ⊥)
+    → ((text : List ℕ) (p : c.Program) → IsAccepted text p → (g : Setting) → g.program ≡ bare p → IsDisjointRun g)
+    → ((text a b : List ℕ) → HasLayout text a → HasLayout text b → a ≡ b)
+    → ((text : List ℕ) (a b : Refusal) → HasNoLayout text a → HasNoLayout text b → a ≡ b)
+    → ((text out : List ℕ) (r : Refusal) → HasLayout text out → HasNoLayout text r → ⊥)
+    → ((p : c.Program) (s t : Sets) (a b : List ℕ) → AreSets p s → AreSets p t → IsSetsText p s a → IsSetsText p t b → a ≡ b)
+    → ((text a b : List ℕ) → HasListing text a → HasListing text b → a ≡ b) → Laws
+laws s t u v w d x y z o q = record { tree = s; first = t; not_both = u; any_first = v; accepted_or = w; disjoint = d; layout = x; no_layout = y; layout_or = z; sets_text = o; listing = q }

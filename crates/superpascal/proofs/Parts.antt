@@ -1,25 +1,30 @@
 -- From what the parts of a call answer to the cause of its answer.
-use Rattle.std.proofs.Common.{◌≡◌, ◌⊎◌, inl, inr, ℕ, ◌<◌, ◌≤◌, List, [], length, Option, Some, None, Result, Ok, Err, refl, sym, ◌∙◌, ap, subst, arith}
+use Rattle.std.proofs.Common.{◌≡◌, ◌≢◌, ◌⊎◌, inl, inr, ℕ, ◌<◌, ◌≤◌, List, [], length, Option, Some, None, Result, Ok, Err, refl, sym, ◌∙◌, ap, subst, arith}
 use Rattle.std.specs.Prelude.{IfSome, ◌↔◌}
 use Rattle.sp_base.specs.declared.halt.Halt.{Halt}
 use Rattle.sp_base.specs.declared.halt.Halt.TheVariants as halt
 use Rattle.sp_base.specs.declared.halt.Refusal.{Refusal}
 use Rattle.sp_base.specs.declared.limits.Limits.{Limits}
 use Rattle.sp_base.specs.declared.limits.Show.{Show}
+use Rattle.sp_code.specs.Listing.{listing_text}
+use Rattle.sp_code.specs.declared.code.Parts.{Parts}
 use Rattle.sp_compile.specs.Codes.{Codes, IsCompiled}
 use Rattle.sp_compile.specs.declared.phases.CompiledText.{CompiledText}
 use Rattle.sp_execute.specs.declared.execution.Ran.{Ran}
 use Rattle.sp_gen.specs.Generated.{generated_text}
 use Rattle.sp_outside.specs.Counts.{Rose}
 use Rattle.sp_outside.specs.Told.{IsAtEnd}
+use Rattle.sp_outside.specs.declared.failed.LoadError.{LoadError}
+use Rattle.sp_outside.specs.declared.failed.LoadError.TheVariants as load
 use Rattle.sp_tree.specs.CheckedOf.{program_of}
+use Rattle.sp_tree.specs.PlainChecked as c
 use Rattle.sp_words.specs.Ranges.{default_limits}
 use Rattle.sp_words.specs.Words.{command_of}
 use Rattle.sp_words.specs.declared.command.Command.{Command}
 use Rattle.sp_words.specs.declared.command.Command.TheVariants as command
 use Rattle.superpascal.specs.declared.ending.Ending.TheVariants as e
 use Rattle.superpascal.specs.declared.ending.Answer.{Answer}
-use Rattle.superpascal.specs.Answering.{CodeAnswer, CommandCause, GeneratedAnswer, GeneratedCause, InputAnswer, IsMade, RanAnswer, Refuses, RunAnswer, RunsOnInput, TextCause, too_long}
+use Rattle.superpascal.specs.Answering.{CodeAnswer, CommandCause, GeneratedAnswer, GeneratedCause, InputAnswer, IsKeptText, IsMade, IsRefusedText, RanAnswer, Refuses, RunAnswer, RunsOnInput, TextCause, halted, too_long, unloaded}
 use Rattle.superpascal.specs.Causes.{Cause, by_words, before_words, by_command, Due, by_run, by_generated, by_text, by_rule, by_library, by_source, by_length, by_memory, Files, HasGenerated, HasMade, HasRun, IsNotLoaded, IsNotRead, IsRefusedFor, IsTold, IsTooLong, IsTooMuch, IsUntouched, ReadsAfterRules, Stream, accepted, refused, silent}
 use Rattle.superpascal.specs.Runs.{HasCode, IsRunOf, Reports, generated_answer, run_answer}
 use Rattle.superpascal.specs.Texts.{Asked, Breaks, BreaksOne, IsAbout, KeepsAll, Makes, asked, asks, asks_text, text_of}
@@ -66,11 +71,13 @@ module _ (f : Files) (d : Command) (name : List ℕ) (about : IsAbout d name) (a
   pub text_refused : (text : List ℕ) (r : Refusal) → IsTold (f.held name) text → IsMade d text (Err (halt.Refused r)) → Refuses r a → TextCause f d a
   text_refused text r t b h = refuses r (to_text (λ o. IfSome o (λ x. Breaks d x r)) (when_told (λ x. Breaks d x r) (f.held name) text t b)) h
 
-  pub text_too_long : (P Q : Type 0) → IfSome (f.held name) (λ all. P ↔ ((1048576 < length all) × Q)) → P → Refuses too_long a → TextCause f d a
-  text_too_long P Q t p h = refuses too_long (to_text (λ o. IfSome o (λ x. Breaks d x too_long)) (long_broken d (f.held name) (is_long (f.held name) P Q t p))) h
-
-  pub text_not_loaded : Rose (f.before name) (f.after name) → a ≡ silent e.ReadFault → TextCause f d a
-  text_not_loaded r h = inr (inr (inl (record { name = name; about = about; rose = r; answer = h })))
+  -- a text that the library does not give
+  pub text_unloaded : (X : Type 0) (error : LoadError)
+      → IfSome (f.held name) (λ all. (◌≡◌ {A = Result X LoadError} (Err error) (Err load.TooLong)) ↔ ((1048576 < length all) × (◌≢◌ {A = Result X LoadError} (Err error) (Err load.Failed))))
+      → (◌≡◌ {A = Result X LoadError} (Err error) (Err load.Failed) → Rose (f.before name) (f.after name)) → unloaded error a → TextCause f d a
+  text_unloaded X load.TooLong t r h = refuses too_long (to_text (λ o. IfSome o (λ x. Breaks d x too_long)) (long_broken d (f.held name) (is_long (f.held name) _ _ t refl))) h
+  text_unloaded X load.Failed t r h = inr (inr (inl (record { name = name; about = about; rose = r refl; answer = h })))
+  text_unloaded X load.Memory t r h = inr (inr (inr h))
 
 due_of_text : (f : Files) (s : Stream) (reports : Reports) (d : Command) (a : Answer) → TextCause f d a → Due f s reports d a
 due_of_text f s reports d a (inl h) = by_text h
@@ -81,23 +88,51 @@ due_of_text f s reports d a (inr (inr (inr h))) = by_memory h
 pub command_of_text : (f : Files) (s : Stream) (reports : Reports) (d : Command) (a : Answer) → IsUntouched s → TextCause f d a → CommandCause f s reports d a
 command_of_text f s reports d a u h = (due_of_text f s reports d a h, inl u)
 
+-- of a command that is known
+pub made_by : (d x : Command) (text : List ℕ) (r : Result Answer Halt) → d ≡ x → IsMade x text r → IsMade d text r
+made_by d x text r h k = subst (λ (y : Command). IsMade y text r) (sym h) k
+
+pub command_by : (f : Files) (s : Stream) (reports : Reports) (d x : Command) (a : Answer) → d ≡ x → CommandCause f s reports x a → CommandCause f s reports d a
+command_by f s reports d x a h k = subst (λ (y : Command). CommandCause f s reports y a) (sym h) k
+
+pub run_by : (d : Command) (file name : List ℕ) (workers : ℕ) (limits : Limits) (show : Show) → d ≡ command.Run file workers limits show → name ≡ file → d ≡ asks (asked name workers limits show)
+run_by d file name workers limits show h i = h ∙ ap (λ (n : List ℕ). command.Run n workers limits show) (sym i)
+
 -- ---- `run`
 
 -- the code of a text
-pub has_code : (text : List ℕ) (r : CompiledText) → IsCompiled text r → HasCode text (program_of r.accepted.checked) r.code
+has_code : (text : List ℕ) (r : CompiledText) → IsCompiled text r → HasCode text (program_of r.accepted.checked) r.code
 has_code text r h = record { accepted = h.accepted; short = h.short; code = h.code }
 
-pub keeps_compiled : (text : List ℕ) (r : CompiledText) → IsCompiled text r → KeepsAll text
+keeps_compiled : (text : List ℕ) (r : CompiledText) → IsCompiled text r → KeepsAll text
 keeps_compiled text r h = (program_of r.accepted.checked, h.accepted, h.short)
 
-pub code_ran : (reports : Reports) (show : Show) (workers : ℕ) (limits : Limits) (text input : List ℕ) (r : Ran) (a : Answer) → IsRunOf text input workers limits r → RanAnswer reports show r a → CodeAnswer reports show workers limits text input a
-code_ran reports show workers limits text input r a h k = inl (r, h, k)
+of_code : (text program : List ℕ) (t : c.Program) (x code : Parts) → text ≡ program → code ≡ x → HasCode text t x → HasCode program t code
+of_code text program t x code h i k = subst (λ (z : List ℕ × Parts). HasCode z.0 t z.1) (λ j. (h j, sym i j)) k
+
+-- the code that was taken out of it
+pub compiled_code : (text program : List ℕ) (r : CompiledText) (code : Parts) → text ≡ program → code ≡ r.code → IsCompiled text r → (t : c.Program) × HasCode program t code
+compiled_code text program r code h i k = (program_of r.accepted.checked, of_code text program (program_of r.accepted.checked) r.code code h i (has_code text r k))
+
+pub compiled_some : (text : List ℕ) (r : CompiledText) (code : Parts) → code ≡ r.code → IsCompiled text r → (program : List ℕ) × (t : c.Program) × HasCode program t code
+compiled_some text r code i k = let h = compiled_code text text r code refl i k in (text, h.0, h.1)
+
+-- the listing of the code of a text
+pub list_made : (text : List ℕ) (r : CompiledText) (code : Parts) (out line : List ℕ) (a : Answer) → IsCompiled text r → code ≡ r.code → out ≡ listing_text code → line ≡ [] → a ≡ accepted out line → (file : List ℕ) → IsMade (command.Code file) text (Ok a)
+list_made text r code out line a k i o n h file = (out, line, ((program_of r.accepted.checked, k.accepted, k.short, r.code, k.code, o ∙ ap listing_text i), n), h)
 
 module _ (s : Stream) (reports : Reports) (show : Show) (workers : ℕ) (limits : Limits) (text : List ℕ) (a : Answer) where
   pub input_ran : (input : List ℕ) → IsTold s.left input → length input ≤ 16777216 → IsAtEnd s.left' → CodeAnswer reports show workers limits text input a → InputAnswer s reports show workers limits text a
   input_ran input t n e (inl (r, h, inl k)) = inl (record { input = input; ran = r; read = t; fits = n; at_end = e; is_run = h; answer = k })
   input_ran input t n e (inl (r, h, inr k)) = inr (inr (inr k))
   input_ran input t n e (inr k) = inr (inr (inr k))
+
+  pub run_compiled : (r : CompiledText) (code : Parts) → code ≡ r.code → IsCompiled text r → ((program : List ℕ) (t : c.Program) → HasCode program t code → InputAnswer s reports show workers limits program a) → RunAnswer s reports show workers limits text a
+  run_compiled r code i k h = inl (record { kept = keeps_compiled text r k }, h text (program_of r.accepted.checked) (of_code text text (program_of r.accepted.checked) r.code code refl i (has_code text r k)))
+
+  pub run_halted : (h : Halt) → IsUntouched s → Codes text (Err h) → halted h a → RunAnswer s reports show workers limits text a
+  run_halted (halt.Refused r) u b h = inr (u, inl (record { refusal = r; breaks = b; answer = h }))
+  run_halted halt.Memory u b h = inr (u, inr h)
 
 module _ (f : Files) (s : Stream) (reports : Reports) (b : Asked) (a : Answer) where
   abbrev Due_run : Type 0
@@ -116,32 +151,42 @@ module _ (f : Files) (s : Stream) (reports : Reports) (b : Asked) (a : Answer) w
 
     pub run_loaded : RunAnswer s reports b.show b.workers b.limits text a → Due_run
     run_loaded (inl (k, inl h)) =
-        (by_run b refl (record { text = text; input = h.input; ran = h.ran; loaded = t; read = h.read; fits = h.fits; at_end = h.at_end; is_run = h.is_run; answer = h.answer }), reads k)
-    run_loaded (inl (k, inr (inl h))) = (by_source b refl (record { kept = kept_is k; rose = h.0; answer = h.1 }), reads k)
-    run_loaded (inl (k, inr (inr (inl h)))) = (by_length b refl (record { kept = kept_is k; long = h.0; answer = h.1 }), reads k)
-    run_loaded (inl (k, inr (inr (inr h)))) = (by_memory h, reads k)
-    run_loaded (inr (u, inl (r, br, h))) = run_refused r u (when_told (λ x. BreaksOne x r) (f.held b.file) text t br) h
+        (by_run b refl (record { text = text; input = h.input; ran = h.ran; loaded = t; read = h.read; fits = h.fits; at_end = h.at_end; is_run = h.is_run; answer = h.answer }), reads k.kept)
+    run_loaded (inl (k, inr (inl h))) = (by_source b refl (record { kept = kept_is k.kept; rose = h.0; answer = h.1 }), reads k.kept)
+    run_loaded (inl (k, inr (inr (inl h)))) = (by_length b refl (record { kept = kept_is k.kept; long = h.0; answer = h.1 }), reads k.kept)
+    run_loaded (inl (k, inr (inr (inr h)))) = (by_memory h, reads k.kept)
+    run_loaded (inr (u, inl m)) = run_refused m.refusal u (when_told (λ x. BreaksOne x m.refusal) (f.held b.file) text t m.breaks) m.answer
     run_loaded (inr (u, inr h)) = (by_memory h, inl u)
 
-  pub run_too_long : (P Q : Type 0) → IsUntouched s → IfSome (f.held b.file) (λ all. P ↔ ((1048576 < length all) × Q)) → P → Refuses too_long a → Due_run
-  run_too_long P Q u t p h = run_refused too_long u (long_broken (asks b) (f.held b.file) (is_long (f.held b.file) P Q t p)) h
-
-  pub run_not_loaded : IsUntouched s → Rose (f.before b.file) (f.after b.file) → a ≡ silent e.ReadFault → Due_run
-  run_not_loaded u r h = (by_library (record { name = b.file; about = refl; rose = r; answer = h }), inl u)
-
-  pub run_no_memory : IsUntouched s → a ≡ silent e.OutOfMemory → Due_run
-  run_no_memory u h = (by_memory h, inl u)
+  -- a text that the library does not give
+  pub run_unloaded : (X : Type 0) (error : LoadError) → IsUntouched s
+      → IfSome (f.held b.file) (λ all. (◌≡◌ {A = Result X LoadError} (Err error) (Err load.TooLong)) ↔ ((1048576 < length all) × (◌≢◌ {A = Result X LoadError} (Err error) (Err load.Failed))))
+      → (◌≡◌ {A = Result X LoadError} (Err error) (Err load.Failed) → Rose (f.before b.file) (f.after b.file)) → unloaded error a → Due_run
+  run_unloaded X load.TooLong u t r h = run_refused too_long u (long_broken (asks b) (f.held b.file) (is_long (f.held b.file) _ _ t refl)) h
+  run_unloaded X load.Failed u t r h = (by_library (record { name = b.file; about = refl; rose = r refl; answer = h }), inl u)
+  run_unloaded X load.Memory u t r h = (by_memory h, inl u)
 
 -- ---- `gen`
 
-pub generated_ran : (size workers : ℕ) (r : Ran) (a : Answer) → IsRunOf (generated_text size) [] workers default_limits r → GeneratedAnswer size r a → GeneratedCause size workers a
+generated_ran : (size workers : ℕ) (r : Ran) (a : Answer) → IsRunOf (generated_text size) [] workers default_limits r → GeneratedAnswer size r a → GeneratedCause size workers a
 generated_ran size workers r a h (inl k) = inl (record { ran = r; is_run = h; answer = k })
 generated_ran size workers r a h (inr k) = inr (inr k)
 
+-- on an input that is empty, with the limits where no option is given
+pub generated_told : (size workers : ℕ) (input : List ℕ) (lim : Limits) (r : Ran) (a : Answer) → input ≡ [] → lim ≡ default_limits → IsRunOf (generated_text size) input workers lim r → GeneratedAnswer size r a → GeneratedCause size workers a
+generated_told size workers input lim r a h i k m =
+    generated_ran size workers r a (subst (λ (z : List ℕ × Limits). IsRunOf (generated_text size) z.0 workers z.1 r) (λ j. (h j, i j)) k) m
+
+pub generated_refused : (size workers : ℕ) (text : List ℕ) (r : Refusal) (a : Answer) → text ≡ generated_text size → BreaksOne text r → Refuses r a → GeneratedCause size workers a
+generated_refused size workers text r a h b k = inr (inl (record { refusal = r; breaks = subst (λ (x : List ℕ). BreaksOne x r) h b; answer = k }))
+
 pub command_of_generated : (f : Files) (s : Stream) (reports : Reports) (size workers : ℕ) (a : Answer) → IsUntouched s → GeneratedCause size workers a → CommandCause f s reports (command.Gen size workers) a
 command_of_generated f s reports size workers a u (inl h) = (by_generated size workers refl h, inl u)
-command_of_generated f s reports size workers a u (inr (inl (r, b, inl h))) = (by_rule (record { refusal = r; breaks = b; answer = h }), inl u)
-command_of_generated f s reports size workers a u (inr (inl (r, b, inr h))) = (by_memory h, inl u)
+command_of_generated f s reports size workers a u (inr (inl m)) = go m.answer
+  where
+    go : Refuses m.refusal a → CommandCause f s reports (command.Gen size workers) a
+    go (inl h) = (by_rule (record { refusal = m.refusal; breaks = m.breaks; answer = h }), inl u)
+    go (inr h) = (by_memory h, inl u)
 command_of_generated f s reports size workers a u (inr (inr h)) = (by_memory h, inl u)
 
 -- ---- words

@@ -1,5 +1,7 @@
 -- The run of the code of a text is one of its program.
-use Rattle.std.proofs.Common.{◌≡◌, ℕ, ◌≤◌, List, arith}
+use Rattle.std.proofs.Common.{◌≡◌, ℕ, ◌≤◌, List, Result, Ok, Err, sym, subst, arith}
+use Rattle.std.specs.Prelude.{IfOk}
+use Rattle.sp_base.specs.declared.halt.Memory.{Memory}
 use Rattle.sp_base.specs.declared.limits.Limits.{Limits}
 use Rattle.sp_code.specs.declared.code.Parts.{Parts}
 use Rattle.sp_code.specs.Shares.{SetsAre}
@@ -34,14 +36,38 @@ abbrev pub ReadyLaw : Type 0
 ReadyLaw = (text : List ℕ) (t : c.Program) → IsAccepted text t → (moves shares : Stmt → List ℕ) → SetsAre (bare t) moves shares
     → (input : List ℕ) (lim : Limits) → AreLimits lim → IsReady (record { program = bare t; input = input; limits = lim }) moves shares
 
-module _ (law : ReadyLaw) (text : List ℕ) (t : c.Program) (code : Parts) (input : List ℕ) (workers : ℕ) (lim : Limits) (range : IsInRange workers lim) (has : HasCode text t code) where
-  pub ready_code : IsReadyCode (setting (bare t) input lim) has.code.0.moves has.code.0.shares code
-  ready_code = record {
+module _ (law : ReadyLaw) (code : Parts) (input : List ℕ) (workers : ℕ) (lim : Limits) (range : IsInRange workers lim) where
+  ready_code : (text : List ℕ) (t : c.Program) (has : HasCode text t code) → IsReadyCode (setting (bare t) input lim) has.code.0.moves has.code.0.shares code
+  ready_code text t has = record {
     ready = law text t has.accepted has.code.0.moves has.code.0.shares has.code.0.are input lim (limits_are workers lim range);
     emitted = has.code.1;
   }
 
-  pub is_run : (r : Ran) → IsRun (run_of code input lim) workers r.closed
-      → ((p : Program) (moves shares : Stmt → List ℕ) → IsReadyCode (setting p input lim) moves shares code → Executes (setting p input lim) workers r)
-      → IsRunOf text input workers lim r
-  is_run r run meant = record { tree = t; code = code; has = has; run = run; meant = meant (bare t) has.code.0.moves has.code.0.shares ready_code }
+  -- of the code and the input as the run holds them
+  module _ (held : Parts) (read : List ℕ) (h : held ≡ code) (i : read ≡ input) where
+    pub ready_held : ((text : List ℕ) × (t : c.Program) × HasCode text t code) → (p : Program) × (moves : Stmt → List ℕ) × (shares : Stmt → List ℕ) × IsReadyCode (setting p read lim) moves shares held
+    ready_held (text, t, has) = (
+      bare t,
+      has.code.0.moves,
+      has.code.0.shares,
+      subst (λ (z : List ℕ × Parts). IsReadyCode (setting (bare t) z.0 lim) has.code.0.moves has.code.0.shares z.1) (λ k. (sym i k, sym h k)) (ready_code text t has),
+    )
+
+    abbrev Meant : List ℕ → Parts → Ran → Type 0
+    Meant y x r = (p : Program) (moves shares : Stmt → List ℕ) → IsReadyCode (setting p y lim) moves shares x → Executes (setting p y lim) workers r
+
+    pub is_run_if : (r : Result Ran Memory) → IfOk r (λ e. IsRun (run_of held read lim) workers e.closed) → IfOk r (λ e. Meant read held e)
+        → IfOk r (λ e. (text : List ℕ) (t : c.Program) → HasCode text t code → IsRunOf text input workers lim e)
+    is_run_if (Ok e) run meant = λ text t has. record {
+      tree = t;
+      code = code;
+      has = has;
+      run = subst (λ (z : List ℕ × Parts). IsRun (run_of z.1 z.0 lim) workers e.closed) (λ k. (i k, h k)) run;
+      meant = subst (λ (z : List ℕ × Parts). Meant z.0 z.1 e) (λ k. (i k, h k)) meant (bare t) has.code.0.moves has.code.0.shares (ready_code text t has);
+    }
+    is_run_if (Err x) run meant = tt
+
+-- a run that is known is one of some text
+pub some_run : (program input : List ℕ) (workers : ℕ) (limits : Limits) (r : Ran) → IsRunOf program input workers limits r
+    → (x : List ℕ) × (y : List ℕ) × (n : ℕ) × (l : Limits) × IsRunOf x y n l r
+some_run program input workers limits r h = (program, input, workers, limits, h)

@@ -30,6 +30,11 @@ Refuses r a = (a ≡ refused r) ⊎ (a ≡ silent e.OutOfMemory)
 abbrev pub too_long : Refusal
 too_long = record { rule = rule.L1; at = start }
 
+-- the answer to a text of which no code comes
+abbrev pub halted : Halt → Answer → Type 0
+halted (halt.Refused r) a = Refuses r a
+halted halt.Memory a = a ≡ silent e.OutOfMemory
+
 -- the answer to a text that the library does not give
 abbrev pub unloaded : LoadError → Answer → Type 0
 unloaded load.TooLong a = Refuses too_long a
@@ -78,11 +83,21 @@ InputAnswer s reports show workers limits text a =
     RunsOnInput s reports show workers limits text a
     ⊎ ((Rose s.before s.after × (a ≡ silent e.ReadFault)) ⊎ ((IfSome s.left IsTooLong × (a ≡ silent e.TooLong)) ⊎ (a ≡ silent e.OutOfMemory)))
 
+-- the text breaks no rule
+pub record IsKeptText (text : List ℕ) : Type 0 where
+  pub kept : KeepsAll text
+
+-- the text breaks a rule first, and this is the answer
+pub record IsRefusedText (text : List ℕ) (a : Answer) : Type 0 where
+  pub refusal : Refusal
+  pub breaks : BreaksOne text refusal
+  pub answer : Refuses refusal a
+
 -- what comes of a text
 abbrev pub RunAnswer : Stream → Reports → Show → ℕ → Limits → List ℕ → Answer → Type 0
 RunAnswer s reports show workers limits text a =
-    (KeepsAll text × InputAnswer s reports show workers limits text a)
-    ⊎ (IsUntouched s × (((r : Refusal) × BreaksOne text r × Refuses r a) ⊎ (a ≡ silent e.OutOfMemory)))
+    (IsKeptText text × InputAnswer s reports show workers limits text a)
+    ⊎ (IsUntouched s × (IsRefusedText text a ⊎ (a ≡ silent e.OutOfMemory)))
 
 -- what comes of words that ask for a command
 abbrev pub CommandCause : Files → Stream → Reports → Command → Answer → Type 0
@@ -90,4 +105,4 @@ CommandCause f s reports c a = Due f s reports c a × ReadsAfterRules f s c
 
 -- what comes of a generated text
 abbrev pub GeneratedCause : ℕ → ℕ → Answer → Type 0
-GeneratedCause size workers a = HasGenerated size workers a ⊎ (((r : Refusal) × BreaksOne (generated_text size) r × Refuses r a) ⊎ (a ≡ silent e.OutOfMemory))
+GeneratedCause size workers a = HasGenerated size workers a ⊎ (IsRefusedText (generated_text size) a ⊎ (a ≡ silent e.OutOfMemory))

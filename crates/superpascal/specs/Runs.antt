@@ -26,10 +26,10 @@ use Rattle.superpascal.specs.declared.ending.Ending.TheVariants as e
 use Rattle.superpascal.specs.declared.ending.Answer.{Answer}
 
 -- the text has this tree, which breaks no rule, and this is its code
-pub record HasCode (text : List ℕ) (tree : c.Program) (code : Parts) : Type 0 where
+pub record HasCode (text : List ℕ) (tree : c.Program) (parts : Parts) : Type 0 where
   pub accepted : IsAccepted text tree
   pub short : tree_length (bare tree) ≤ 1048576
-  pub code : IsCodeOf (bare tree) code
+  pub code : IsCodeOf (bare tree) parts
 
 -- A run of the text's program on the input with the limits, by so many workers: a run of its code, in which the meaning of the
 -- program along the journal is defined, with that output and that end, and with its exact verdict and what that promises.

@@ -1,5 +1,5 @@
 -- When each status comes, and what is given back.
-use Rattle.std.specs.Prelude.{◌≡◌, ◌≢◌, ◌⊎◌, ℕ, ◌≤◌, List, Option, Some, None, IfSome, length}
+use Rattle.std.specs.Prelude.{◌≡◌, ◌≢◌, ◌⊎◌, ℕ, ◌≤◌, List, [], Option, Some, None, IfSome, length}
 use Rattle.sp_base.specs.declared.halt.Refusal.{Refusal}
 use Rattle.sp_execute.specs.declared.execution.Ran.{Ran}
 use Rattle.sp_gen.specs.Generated.{generated_text}

@@ -1,11 +1,11 @@
 //! Answers without a run.
 
 ghost use Rattle.std.specs.Prelude.{◌≡◌};
-ghost use Rattle.superpascal.specs.Answering.{Refuses, unloaded};
+ghost use Rattle.superpascal.specs.Answering.{Refuses, halted, unloaded};
 ghost use Rattle.superpascal.specs.Causes.{accepted, silent};
 
 use crate::ending::{Answer, Ending};
-use sp_base::{Place, Refusal, Rule, Text};
+use sp_base::{Halt, Place, Refusal, Rule, Text};
 use sp_outside::LoadError;
 use sp_print::refusal_line;
 use std::alloc::Global;
@@ -46,6 +46,16 @@ pub(crate) fn refused(alloc: Global, refusal: Refusal) -> Answer
             notes: Text::of(line),
         },
         Err(_) => silent(alloc, Ending::OutOfMemory),
+    }
+}
+
+/// The answer to a text of which no code comes.
+pub(crate) fn halted(alloc: Global, halt: Halt) -> Answer
+    ensures { halted halt result }
+{
+    match halt {
+        Halt::Refused(refusal) => refused(alloc, refusal),
+        Halt::Memory => silent(alloc, Ending::OutOfMemory),
     }
 }
 

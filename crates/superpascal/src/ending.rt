@@ -86,11 +86,8 @@ pub fn notes_by<'a>(ending: Ending, notes: &'a [u8]) -> &'a [u8]
     ensures { result.now ≡ notes_by ending notes.now }
 {
     match ending {
-        Ending::Done
-        | Ending::Deadlock
-        | Ending::Fault
-        | Ending::Accepted
-        | Ending::Refused(_) => notes,
+        Ending::Done | Ending::Deadlock | Ending::Fault | Ending::Accepted | Ending::Refused(_) =>
+            notes,
         Ending::BadWords => b"bad words\n",
         Ending::ReadFault => b"read fault\n",
         Ending::TooLong => b"input too long\n",

@@ -12,7 +12,7 @@ ghost use Rattle.superpascal.specs.Causes.{files, stream};
 ghost use Rattle.superpascal.specs.Runs.{HasCode, IsRunOf};
 ghost use Rattle.superpascal.specs.Texts.{asked, asks};
 
-use crate::answers::{refused, silent, unloaded};
+use crate::answers::{halted, refused, silent, unloaded};
 use crate::ending::{Answer, Ending};
 use crate::notes::{ending_of, generated_output, run_notes};
 use crate::texts::LONGEST;
@@ -43,8 +43,8 @@ fn run_code<R: Threads + Wait + Sync, G: Gate>(
     gate: &G,
 ) -> Result<Ran, Memory>
     requires range { IsInRange workers limits.now }
-    requires code { (text : List ℕ) × (tree : Checked) × HasCode text tree code }
-    ensures { IfOk result (λ r. (text : List ℕ) (tree : Checked) → HasCode text tree code → IsRunOf text input workers limits.now r) }
+    requires code { (program : List ℕ) × (tree : Checked) × HasCode program tree code }
+    ensures { IfOk result (λ r. (program : List ℕ) (tree : Checked) → HasCode program tree code → IsRunOf program input workers limits.now r) }
 {
     accepted_programs_are_ready();
     let code = Arc::new(alloc, code)?;
@@ -53,14 +53,9 @@ fn run_code<R: Threads + Wait + Sync, G: Gate>(
 }
 
 // Tells of a run.
-fn ran_answer(
-    alloc: Global,
-    watchers: Vec<Box<dyn Watcher>>,
-    show: Show,
-    ran: Ran,
-) -> Answer
+fn ran_answer(alloc: Global, watchers: Vec<Box<dyn Watcher>>, show: Show, ran: Ran) -> Answer
     requires fresh { All (λ w. told w ≡ []) watchers.items }
-    requires run { (text : List ℕ) × (input : List ℕ) × (workers : ℕ) × (limits : ALimits) × IsRunOf text input workers limits ran }
+    requires run { (program : List ℕ) × (input : List ℕ) × (workers : ℕ) × (limits : ALimits) × IsRunOf program input workers limits ran }
     ensures { RanAnswer (λ s es. flat_map (λ w. text w es) (filter (λ w. is_chosen s (title w)) watchers.items)) show ran result }
 {
     match run_notes(alloc, watchers, show, &ran) {
@@ -88,9 +83,9 @@ fn code_answer<R: Threads + Wait + Sync, G: Gate>(
 ) -> Answer
     requires fresh { All (λ w. told w ≡ []) watchers.items }
     requires range { IsInRange workers limits.now }
-    requires code { (text : List ℕ) × (tree : Checked) × HasCode text tree code }
-    ensures { (text : List ℕ) (tree : Checked) → HasCode text tree code
-        → CodeAnswer (λ s es. flat_map (λ w. text w es) (filter (λ w. is_chosen s (title w)) watchers.items)) show workers limits.now text input result }
+    requires code { (program : List ℕ) × (tree : Checked) × HasCode program tree code }
+    ensures { (program : List ℕ) (tree : Checked) → HasCode program tree code
+        → CodeAnswer (λ s es. flat_map (λ w. text w es) (filter (λ w. is_chosen s (title w)) watchers.items)) show workers limits.now program input result }
 {
     match run_code(rt, alloc, code, input, workers, limits, gate) {
         Ok(ran) => ran_answer(alloc, watchers, show, ran),
@@ -112,13 +107,15 @@ fn input_answer<R: Threads + Wait + Sync, I: Source, G: Gate>(
 ) -> Answer
     requires fresh { All (λ w. told w ≡ []) watchers.items }
     requires range { IsInRange workers limits.now }
-    requires code { (text : List ℕ) × (tree : Checked) × HasCode text tree code }
-    ensures { (text : List ℕ) (tree : Checked) → HasCode text tree code
+    requires code { (program : List ℕ) × (tree : Checked) × HasCode program tree code }
+    ensures { (program : List ℕ) (tree : Checked) → HasCode program tree code
         → InputAnswer (stream (I.left input.old) (I.left input.new) (I.faults input.old) (I.faults input.new))
-        (λ s es. flat_map (λ w. text w es) (filter (λ w. is_chosen s (title w)) watchers.items)) show workers limits.now text result }
+        (λ s es. flat_map (λ w. text w es) (filter (λ w. is_chosen s (title w)) watchers.items)) show workers limits.now program result }
 {
     match read_all(alloc, input, LONGEST_INPUT) {
-        Ok(bytes) => code_answer(rt, alloc, code, bytes, workers, limits, show, gate, watchers),
+        Ok(bytes) => code_answer(
+            rt, alloc, code, bytes, workers, limits, show, gate, watchers,
+        ),
         Err(ReadError::TooLong) => silent(alloc, Ending::TooLong),
         Err(ReadError::Failed) => silent(alloc, Ending::ReadFault),
         Err(ReadError::Memory) => silent(alloc, Ending::OutOfMemory),
@@ -129,7 +126,7 @@ fn input_answer<R: Threads + Wait + Sync, I: Source, G: Gate>(
 fn program_answer<R: Threads + Wait + Sync, I: Source, G: Gate>(
     rt: &R,
     alloc: Global,
-    text: &[u8],
+    program: &[u8],
     input: &mut I,
     workers: u32,
     limits: &Limits,
@@ -140,9 +137,9 @@ fn program_answer<R: Threads + Wait + Sync, I: Source, G: Gate>(
     requires fresh { All (λ w. told w ≡ []) watchers.items }
     requires range { IsInRange workers limits.now }
     ensures { RunAnswer (stream (I.left input.old) (I.left input.new) (I.faults input.old) (I.faults input.new))
-        (λ s es. flat_map (λ w. text w es) (filter (λ w. is_chosen s (title w)) watchers.items)) show workers limits.now text.now result }
+        (λ s es. flat_map (λ w. text w es) (filter (λ w. is_chosen s (title w)) watchers.items)) show workers limits.now program.now result }
 {
-    match compiled_apart(rt, alloc, text) {
+    match compiled_apart(rt, alloc, program) {
         Ok(compiled) => input_answer(
             rt,
             alloc,
@@ -154,8 +151,7 @@ fn program_answer<R: Threads + Wait + Sync, I: Source, G: Gate>(
             gate,
             watchers,
         ),
-        Err(Halt::Refused(refusal)) => refused(alloc, refusal),
-        Err(Halt::Memory) => silent(alloc, Ending::OutOfMemory),
+        Err(halt) => halted(alloc, halt),
     }
 }
 
@@ -197,7 +193,7 @@ pub(crate) fn run_answer<R: Threads + Wait + Sync, L: Library, I: Source, G: Gat
 
 // Tells of a run of the generated program of this size.
 fn generated_ran(alloc: Global, size: u32, ran: Ran) -> Answer
-    requires run { (text : List ℕ) × (input : List ℕ) × (workers : ℕ) × (limits : ALimits) × IsRunOf text input workers limits ran }
+    requires run { (program : List ℕ) × (input : List ℕ) × (workers : ℕ) × (limits : ALimits) × IsRunOf program input workers limits ran }
     ensures { GeneratedAnswer size ran result }
 {
     match generated_output(alloc, size, &ran) {

@@ -60,12 +60,7 @@ fn lay_out(alloc: Global, text: &[u8]) -> Result<Answer, Halt>
 }
 
 // Makes what the command asks of the text.
-fn make(
-    rt: &impl Threads,
-    alloc: Global,
-    command: &Command,
-    text: &[u8],
-) -> Result<Answer, Halt>
+fn make(rt: &impl Threads, alloc: Global, command: &Command, text: &[u8]) -> Result<Answer, Halt>
     requires { asks_text command.now }
     ensures { IsMade command.now text.now result }
 {

@@ -47,10 +47,8 @@ fn command_answer<R: Threads + Wait + Sync, L: Library, I: Source, G: Gate>(
 {
     accepted_options_are_in_range();
     match command {
-        Command::Check(file)
-        | Command::Code(file)
-        | Command::Sets(file)
-        | Command::Format(file) => text_answer(rt, alloc, command, file.text(), library),
+        Command::Check(file) | Command::Code(file) | Command::Sets(file) | Command::Format(file) =>
+            text_answer(rt, alloc, command, file.text(), library),
         Command::Run {
             file,
             workers,
@@ -96,14 +94,7 @@ fn answer<R: Threads + Wait + Sync, L: Library, I: Source, G: Gate>(
 }
 
 // Does the whole call.
-fn answer_and_write<
-    R: Threads + Wait + Sync,
-    L: Library,
-    I: Source,
-    O: Sink,
-    N: Sink,
-    G: Gate,
->(
+fn answer_and_write<R: Threads + Wait + Sync, L: Library, I: Source, O: Sink, N: Sink, G: Gate>(
     rt: &R,
     alloc: Global,
     words: &[String],
@@ -157,14 +148,7 @@ fn answer_and_write<
 /// the load, the text, the input or memory end the call, nothing is written to `output`. After a failed write to `output` nothing
 /// is written to `notes`. A text is compiled by a thread of `rt` with a large stack, so a chain of operators may be as long as the
 /// text; the workers are threads of `rt` too.
-pub fn superpascal<
-    R: Threads + Wait + Sync,
-    L: Library,
-    I: Source,
-    O: Sink,
-    N: Sink,
-    G: Gate,
->(
+pub fn superpascal<R: Threads + Wait + Sync, L: Library, I: Source, O: Sink, N: Sink, G: Gate>(
     rt: &R,
     alloc: Global,
     words: &[String],

@@ -1,4 +1,5 @@
+use Rattle.std.proofs.Common.{refl}
 use Rattle.sp_main.proofs.watched.Goals as goal
 
 pub returns : goal.returns
-returns g c = rw c.in_ok-watchers.ensures.items at c.superpascal-outcome.ensures.displaced
+returns g c = (c.superpascal-outcome.result, refl, rw c.in_ok-watchers.ensures.items at c.superpascal-outcome.ensures.answered)

@@ -1,0 +1,22 @@
+use Rattle.std.proofs.Common.{refl, subst}
+use Rattle.sp_words.specs.Ranges.{AreInRange}
+use Rattle.superpascal.proofs.Parts.{command_by, command_of_generated, command_of_text, run_by}
+use Rattle.superpascal.proofs.top.command_answer.Goals as goal
+
+pub run_answer-requires-clause-range : goal.run_answer-requires-clause-range
+run_answer-requires-clause-range g c κs within = subst AreInRange c.in-Run.is (c.accepted_options_are_in_range.ensures.accepted c.requires.asked.0 c.args.command.now c.requires.asked.1)
+
+pub generated_answer-requires-clause-size : goal.generated_answer-requires-clause-size
+generated_answer-requires-clause-size g c κs within = (subst AreInRange c.in-Gen.is (c.accepted_options_are_in_range.ensures.accepted c.requires.asked.0 c.args.command.now c.requires.asked.1)).0
+
+pub generated_answer-requires-clause-workers : goal.generated_answer-requires-clause-workers
+generated_answer-requires-clause-workers g c κs within = (subst AreInRange c.in-Gen.is (c.accepted_options_are_in_range.ensures.accepted c.requires.asked.0 c.args.command.now c.requires.asked.1)).1
+
+pub returns-in-Run : goal.returns-in-Run
+returns-in-Run g c = command_by _ _ _ c.args.command.now _ c.run_answer.result (run_by _ _ c.text.result.now _ _ _ c.in-Run.is c.text.ensures) c.run_answer.ensures
+
+pub returns-in-Gen : goal.returns-in-Gen
+returns-in-Gen g c = command_by _ _ _ c.args.command.now _ c.generated_answer.result c.in-Gen.is (command_of_generated _ _ _ _ _ c.generated_answer.result (refl, refl) c.generated_answer.ensures)
+
+pub returns-in-Check : goal.returns-in-Check
+returns-in-Check g c = command_of_text _ _ _ c.args.command.now c.text_answer.result (refl, refl) c.text_answer.ensures
