@@ -1,7 +1,7 @@
 //! The program: the top call over the files of the system and the standard streams.
 #![tactic(auto)]
 
-ghost use Rattle.std.specs.Prelude.{◌≡◌, ◌∷◌, [], IfOk, filter, map};
+ghost use Rattle.std.specs.Prelude.{◌≡◌, ◌∷◌, [], All, IfOk, codes, filter, map};
 ghost use Rattle.std.specs.List.{flat_map};
 ghost use Rattle.std.specs.String.{string_bytes};
 ghost use Rattle.sp_report.specs.Telling.{is_chosen};
@@ -11,7 +11,7 @@ ghost use Rattle.superpascal.specs.Causes.{files, stream};
 
 use sp_outside::{FileLibrary, Library, OpenGate, Sink, Source, StreamSink, StreamSource, put_all};
 use sp_report::{Census, ProcessTree, Timeline, Waiting, Watcher};
-use std::alloc::Global;
+use std::alloc::{AllocError, Global};
 use std::io::ErrorKind;
 use std::process::ExitCode;
 use std::sync::Wait;
@@ -39,35 +39,63 @@ fn main(rt: HostRuntime) -> ExitCode {
     }
 }
 
-// Makes the watchers, and makes the call over the files and streams of the system.
+// Makes the call over the files and streams of the system, and gives its status.
 fn run<R: Threads + Wait + Sync, N: Sink>(
     rt: &HostRuntime,
     threads: &R,
     notes: &mut N,
 ) -> io::Result<u8> {
     let words = words(rt)?;
-    let alloc = rt.alloc();
-    let timeline = Box::new(alloc, Timeline::new(alloc))?;
-    let census = Box::new(alloc, Census::new(alloc))?;
-    let tree = Box::new(alloc, ProcessTree::new(alloc))?;
-    let waiting = Box::new(alloc, Waiting::new(alloc))?;
+    let watchers = watchers(rt.alloc())?;
     let mut library = FileLibrary::new(rt);
     let mut input = StreamSource::new(rt.stdin());
     let mut output = StreamSink::new(rt.stdout());
-    watched(
+    Ok(called(
         threads,
-        alloc,
+        rt.alloc(),
         words.as_slice(),
         &mut library,
         &mut input,
         &mut output,
         notes,
-        (timeline, census, tree, waiting),
-    )
+        watchers,
+    ))
 }
 
-// The call with these watchers in their order, and its status.
-fn watched<R: Threads + Wait + Sync, L: Library, I: Source, O: Sink, N: Sink>(
+// The watchers of the program in the order in which their reports stand. They have been told nothing.
+fn watchers(alloc: Global) -> Result<Vec<Box<dyn Watcher>>, AllocError>
+    ensures fresh { IfOk result (λ ws. All (λ w. told w ≡ []) ws.items) }
+    ensures order { IfOk result (λ ws. map (λ w. title w) ws.items
+        ≡ codes "timeline" ∷ codes "census" ∷ codes "tree" ∷ codes "waiting" ∷ []) }
+{
+    let timeline = Box::new(alloc, Timeline::new(alloc))?;
+    let census = Box::new(alloc, Census::new(alloc))?;
+    let tree = Box::new(alloc, ProcessTree::new(alloc))?;
+    let waiting = Box::new(alloc, Waiting::new(alloc))?;
+    in_order(alloc, timeline, census, tree, waiting)
+}
+
+// These four, each by its name.
+fn in_order(
+    alloc: Global,
+    timeline: Box<dyn Watcher>,
+    census: Box<dyn Watcher>,
+    tree: Box<dyn Watcher>,
+    waiting: Box<dyn Watcher>,
+) -> Result<Vec<Box<dyn Watcher>>, AllocError>
+    requires first { (told timeline ≡ []) × (title timeline ≡ codes "timeline") }
+    requires second { (told census ≡ []) × (title census ≡ codes "census") }
+    requires third { (told tree ≡ []) × (title tree ≡ codes "tree") }
+    requires fourth { (told waiting ≡ []) × (title waiting ≡ codes "waiting") }
+    ensures fresh { IfOk result (λ ws. All (λ w. told w ≡ []) ws.items) }
+    ensures order { IfOk result (λ ws. map (λ w. title w) ws.items
+        ≡ codes "timeline" ∷ codes "census" ∷ codes "tree" ∷ codes "waiting" ∷ []) }
+{
+    Ok(vec![in alloc; timeline, census, tree, waiting]?)
+}
+
+// The call with these watchers, and its status.
+fn called<R: Threads + Wait + Sync, L: Library, I: Source, O: Sink, N: Sink>(
     threads: &R,
     alloc: Global,
     words: &[String],
@@ -75,30 +103,20 @@ fn watched<R: Threads + Wait + Sync, L: Library, I: Source, O: Sink, N: Sink>(
     input: &mut I,
     output: &mut O,
     notes: &mut N,
-    watchers: (
-        Box<dyn Watcher>,
-        Box<dyn Watcher>,
-        Box<dyn Watcher>,
-        Box<dyn Watcher>,
-    ),
-) -> io::Result<u8>
-    requires first { told watchers.0 ≡ [] }
-    requires second { told watchers.1 ≡ [] }
-    requires third { told watchers.2 ≡ [] }
-    requires fourth { told watchers.3 ≡ [] }
-    ensures { IfOk result (λ status. (outcome : Outcome) × (outcome.status ≡ status) × IsAnswered (call (map string_bytes words.now)
+    watchers: Vec<Box<dyn Watcher>>,
+) -> u8
+    requires fresh { All (λ w. told w ≡ []) watchers.items }
+    ensures { (outcome : Outcome) × (outcome.status ≡ result) × IsAnswered (call (map string_bytes words.now)
         (files (L.held library.old) (L.faults library.old) (L.faults library.new))
         (stream (I.left input.old) (I.left input.new) (I.faults input.old) (I.faults input.new))
-        (λ s es. flat_map (λ w. text w es) (filter (λ w. is_chosen s (title w)) (watchers.0 ∷ watchers.1 ∷ watchers.2 ∷ watchers.3 ∷ [])))
+        (λ s es. flat_map (λ w. text w es) (filter (λ w. is_chosen s (title w)) watchers.items))
         (sink (O.written output.old) (O.written output.new) (O.faults output.old) (O.faults output.new))
-        (sink (N.written notes.old) (N.written notes.new) (N.faults notes.old) (N.faults notes.new)) outcome)) }
+        (sink (N.written notes.old) (N.written notes.new) (N.faults notes.old) (N.faults notes.new)) outcome) }
 {
-    let (timeline, census, tree, waiting) = watchers;
-    let watchers = vec![in alloc; timeline, census, tree, waiting]?;
     let outcome = superpascal(
         threads, alloc, words, library, input, output, notes, &OpenGate, watchers,
     );
-    Ok(outcome.status)
+    outcome.status
 }
 
 // The words behind the program's name.
