@@ -46,13 +46,18 @@ fn run<R: Threads + Wait + Sync, N: Sink>(
     notes: &mut N,
 ) -> io::Result<u8> {
     let words = words(rt)?;
-    let watchers = watchers(rt.alloc())?;
+    let alloc = rt.alloc();
+    let timeline = Box::new(alloc, Timeline::new(alloc))?;
+    let census = Box::new(alloc, Census::new(alloc))?;
+    let tree = Box::new(alloc, ProcessTree::new(alloc))?;
+    let waiting = Box::new(alloc, Waiting::new(alloc))?;
+    let watchers = in_order(alloc, timeline, census, tree, waiting)?;
     let mut library = FileLibrary::new(rt);
     let mut input = StreamSource::new(rt.stdin());
     let mut output = StreamSink::new(rt.stdout());
     Ok(called(
         threads,
-        rt.alloc(),
+        alloc,
         words.as_slice(),
         &mut library,
         &mut input,
@@ -62,20 +67,7 @@ fn run<R: Threads + Wait + Sync, N: Sink>(
     ))
 }
 
-// The watchers of the program in the order in which their reports stand. They have been told nothing.
-fn watchers(alloc: Global) -> Result<Vec<Box<dyn Watcher>>, AllocError>
-    ensures fresh { IfOk result (λ ws. All (λ w. told w ≡ []) ws.items) }
-    ensures order { IfOk result (λ ws. map (λ w. title w) ws.items
-        ≡ codes "timeline" ∷ codes "census" ∷ codes "tree" ∷ codes "waiting" ∷ []) }
-{
-    let timeline = Box::new(alloc, Timeline::new(alloc))?;
-    let census = Box::new(alloc, Census::new(alloc))?;
-    let tree = Box::new(alloc, ProcessTree::new(alloc))?;
-    let waiting = Box::new(alloc, Waiting::new(alloc))?;
-    in_order(alloc, timeline, census, tree, waiting)
-}
-
-// These four, each by its name.
+// The watchers of the program in the order in which their reports stand, each by its name.
 fn in_order(
     alloc: Global,
     timeline: Box<dyn Watcher>,
