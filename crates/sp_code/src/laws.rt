@@ -22,16 +22,21 @@ ghost use Rattle.sp_code.specs.Quiet.{IsQuiet};
 
 /// One instruction, and one turn, is a function of the process; and where a turn is computed to an end, that is its end.
 pub fn turns_are_functions()
-    ensures instruction { (g : Setting) (c d e : Config (Memory Plain)) → one (memory plain g) g.code c ≡ Goes d → one (memory plain g) g.code c ≡ Goes e → d ≡ e }
-    ensures turn { (g : Setting) (c : Config (Memory Plain)) (t u : Turn (Memory Plain)) → IsTurn (memory plain g) g.code c t → IsTurn (memory plain g) g.code c u → t ≡ u }
-    ensures computed { (g : Setting) (n : ℕ) (c : Config (Memory Plain)) (t : Turn (Memory Plain)) → turn_within (memory plain g) g.code n c ≡ Ended t → IsTurn (memory plain g) g.code c t }
+    ensures instruction { (g : Setting) (c d e : Config (Memory Plain)) → one (memory plain g) g.code c ≡ Goes d
+        → one (memory plain g) g.code c ≡ Goes e → d ≡ e }
+    ensures turn { (g : Setting) (c : Config (Memory Plain)) (t u : Turn (Memory Plain)) → IsTurn (memory plain g) g.code c t
+        → IsTurn (memory plain g) g.code c u → t ≡ u }
+    ensures computed { (g : Setting) (n : ℕ) (c : Config (Memory Plain)) (t : Turn (Memory Plain))
+        → turn_within (memory plain g) g.code n c ≡ Ended t → IsTurn (memory plain g) g.code c t }
 {}
 
 /// A turn of ranked code comes to its end, or to an instruction that lacks what it needs, within a number of instructions that
 /// is computed from the code and the process. So a turn in which none lacks anything has an end.
 pub fn turns_of_ranked_code_end()
-    ensures within { (g : Setting) (c : Config (Memory Plain)) → IsRanked g.code.instrs → IsOver (turn_within (memory plain g) g.code (suc (most_steps g c)) c) }
-    ensures safe { (g : Setting) (c : Config (Memory Plain)) → IsRanked g.code.instrs → IsSafe (memory plain g) g.code c → (t : Turn (Memory Plain)) × IsTurn (memory plain g) g.code c t }
+    ensures within { (g : Setting) (c : Config (Memory Plain)) → IsRanked g.code.instrs
+        → IsOver (turn_within (memory plain g) g.code (suc (most_steps g c)) c) }
+    ensures safe { (g : Setting) (c : Config (Memory Plain)) → IsRanked g.code.instrs → IsSafe (memory plain g) g.code c
+        → (t : Turn (Memory Plain)) × IsTurn (memory plain g) g.code c t }
 {}
 
 /// A turn makes one event, and there is at most one system along a journal.
@@ -51,5 +56,6 @@ pub fn code_has_its_length()
 pub fn code_stands()
     ensures blocks { (p : Program) (moves shares : Stmt → List ℕ) → ((f q : ℕ) (b : Block) → slice_get p.blocks f ≡ Some b → IsFine p moves shares (IsQuiet p) f q b)
         → BlocksAt p moves shares (program_code p moves shares) (IsQuiet p) }
-    ensures layouts { (p : Program) (moves shares : Stmt → List ℕ) (f : ℕ) (l : Layout) → slice_get (program_code p moves shares).layouts f ≡ Some l → layout_of (program_code p moves shares).layouts f ≡ Some l }
+    ensures layouts { (p : Program) (moves shares : Stmt → List ℕ) (f : ℕ) (l : Layout)
+        → slice_get (program_code p moves shares).layouts f ≡ Some l → layout_of (program_code p moves shares).layouts f ≡ Some l }
 {}

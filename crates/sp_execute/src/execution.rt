@@ -45,9 +45,11 @@ pub fn execute<R: Threads + Wait + Sync, G: Gate>(
     gate: &G,
 ) -> Result<Ran, Memory>
     requires workers { (0 < workers) × (workers ≤ 64) }
-    requires program { (p : Program) × (moves : Stmt → List ℕ) × (shares : Stmt → List ℕ) × IsCodeOf (setting p input.value limits.now) moves shares code.value }
+    requires program { (p : Program) × (moves : Stmt → List ℕ) × (shares : Stmt → List ℕ)
+        × IsCodeOf (setting p input.value limits.now) moves shares code.value }
     ensures run { IfOk result (λ e. IsRun (run_of code.value input.value limits.now) workers e.closed) }
-    ensures program { IfOk result (λ e. (p : Program) (moves shares : Stmt → List ℕ) → IsCodeOf (setting p input.value limits.now) moves shares code.value → Executes (setting p input.value limits.now) workers e) }
+    ensures program { IfOk result (λ e. (p : Program) (moves shares : Stmt → List ℕ)
+        → IsCodeOf (setting p input.value limits.now) moves shares code.value → Executes (setting p input.value limits.now) workers e) }
 {
     let closed = run(rt, alloc, code, input, workers, limits, gate)?;
     let concluded = conclude(closed);

@@ -129,7 +129,8 @@ fn put_applied(
     f: StandardFn,
     args: &List<Expr>,
 ) -> Result<(), Memory>
-    ensures { OnOk result (code.new ≡ code.old ++ form_code (whole g.now) (scopes sc.now) k (bare_form (c.Standard f (expressions (map expression_of args.now))))) }
+    ensures { OnOk result (code.new
+        ≡ code.old ++ form_code (whole g.now) (scopes sc.now) k (bare_form (c.Standard f (expressions (map expression_of args.now))))) }
 {
     match args.items() {
         [] => put(code, input_instr(f)),

@@ -55,7 +55,8 @@ pub fn put_assign(
     v: &Var,
     e: &Expr,
 ) -> Result<(), Memory>
-    ensures { OnOk result (code.new ≡ code.old ++ assign_code (whole g.now) (scopes sc.now) (bare_variable (variable_of v.now)) (bare_expression (expression_of e.now))) }
+    ensures { OnOk result (code.new
+        ≡ code.old ++ assign_code (whole g.now) (scopes sc.now) (bare_variable (variable_of v.now)) (bare_expression (expression_of e.now))) }
 {
     put_var(g, sc, code, v)?;
     put_right(g, sc, code, e)?;
@@ -70,7 +71,9 @@ pub fn put_assume(g: &Ground, sc: &[Scope], code: &mut List<Instr>, e: &Expr) ->
 }
 
 pub fn put_read(g: &Ground, sc: &[Scope], code: &mut List<Instr>, v: &Var) -> Result<(), Memory>
-    ensures { OnOk result (code.new ≡ code.old ++ (var_code (whole g.now) (scopes sc.now) (bare_variable (variable_of v.now)) ++ reading_instr (kind_at (whole g.now) (type_of (whole g.now) (bare_variable (variable_of v.now)))) ∷ [])) }
+    ensures { OnOk result (code.new
+        ≡ code.old ++ (var_code (whole g.now) (scopes sc.now) (bare_variable (variable_of v.now)) ++ reading_instr
+        (kind_at (whole g.now) (type_of (whole g.now) (bare_variable (variable_of v.now)))) ∷ [])) }
 {
     let k = put_var(g, sc, code, v)?;
     put(code, reading_instr(g, k))
@@ -83,7 +86,10 @@ pub fn put_write(
     e: &Expr,
     w: &Option<Expr>,
 ) -> Result<(), Memory>
-    ensures { OnOk result (code.new ≡ code.old ++ (value_code (whole g.now) (scopes sc.now) (bare_expression (expression_of e.now)) ++ (width_code (whole g.now) (scopes sc.now) (bare_width (width_of w.now)) ++ write_instr (kind_at (whole g.now) (kind_of (bare_expression (expression_of e.now)))) (is_given (bare_width (width_of w.now))) ∷ []))) }
+    ensures { OnOk result (code.new
+        ≡ code.old ++ (value_code (whole g.now) (scopes sc.now) (bare_expression (expression_of e.now))
+        ++ (width_code (whole g.now) (scopes sc.now) (bare_width (width_of w.now)) ++ write_instr
+        (kind_at (whole g.now) (kind_of (bare_expression (expression_of e.now)))) (is_given (bare_width (width_of w.now))) ∷ []))) }
 {
     put_value(g, sc, code, e)?;
     put_width(g, sc, code, w)?;
@@ -98,7 +104,9 @@ pub fn put_text(
     number: u32,
     w: &Option<Expr>,
 ) -> Result<(), Memory>
-    ensures { OnOk result (code.new ≡ code.old ++ (width_code (whole g.now) (scopes sc.now) (bare_width (width_of w.now)) ++ (if is_given (bare_width (width_of w.now)) then i.WritewText number else i.WriteText number) ∷ [])) }
+    ensures { OnOk result (code.new
+        ≡ code.old ++ (width_code (whole g.now) (scopes sc.now) (bare_width (width_of w.now))
+        ++ (if is_given (bare_width (width_of w.now)) then i.WritewText number else i.WriteText number) ∷ [])) }
 {
     put_width(g, sc, code, w)?;
     if w.is_some() {
@@ -122,7 +130,10 @@ pub fn put_send(
     channel: &Expr,
     e: &Expr,
 ) -> Result<(), Memory>
-    ensures { OnOk result (code.new ≡ code.old ++ (value_code (whole g.now) (scopes sc.now) (bare_expression (expression_of channel.now)) ++ (value_code (whole g.now) (scopes sc.now) (bare_expression (expression_of e.now)) ++ i.Send (kind_of (bare_expression (expression_of e.now))) ∷ []))) }
+    ensures { OnOk result (code.new
+        ≡ code.old ++ (value_code (whole g.now) (scopes sc.now) (bare_expression (expression_of channel.now))
+        ++ (value_code (whole g.now) (scopes sc.now) (bare_expression (expression_of e.now)) ++ i.Send
+        (kind_of (bare_expression (expression_of e.now))) ∷ []))) }
 {
     put_value(g, sc, code, channel)?;
     put_value(g, sc, code, e)?;
@@ -136,7 +147,10 @@ pub fn put_receive(
     channel: &Expr,
     v: &Var,
 ) -> Result<(), Memory>
-    ensures { OnOk result (code.new ≡ code.old ++ (value_code (whole g.now) (scopes sc.now) (bare_expression (expression_of channel.now)) ++ (var_code (whole g.now) (scopes sc.now) (bare_variable (variable_of v.now)) ++ i.Receive (type_of (whole g.now) (bare_variable (variable_of v.now))) ∷ []))) }
+    ensures { OnOk result (code.new
+        ≡ code.old ++ (value_code (whole g.now) (scopes sc.now) (bare_expression (expression_of channel.now))
+        ++ (var_code (whole g.now) (scopes sc.now) (bare_variable (variable_of v.now)) ++ i.Receive
+        (type_of (whole g.now) (bare_variable (variable_of v.now))) ∷ []))) }
 {
     put_value(g, sc, code, channel)?;
     let k = put_var(g, sc, code, v)?;
@@ -151,7 +165,8 @@ pub fn put_sends(
     channel: &Expr,
     values: &List<Expr>,
 ) -> Result<(), Memory>
-    ensures { OnOk result (code.new ≡ code.old ++ sends_code (whole g.now) (scopes sc.now) (bare_expression (expression_of channel.now)) (map expression_of values.now)) }
+    ensures { OnOk result (code.new
+        ≡ code.old ++ sends_code (whole g.now) (scopes sc.now) (bare_expression (expression_of channel.now)) (map expression_of values.now)) }
 {
     for e in values.items() {
         put_send(g, sc, code, channel, e)?;
@@ -167,7 +182,8 @@ pub fn put_receives(
     channel: &Expr,
     variables: &List<Var>,
 ) -> Result<(), Memory>
-    ensures { OnOk result (code.new ≡ code.old ++ receives_code (whole g.now) (scopes sc.now) (bare_expression (expression_of channel.now)) (map variable_of variables.now)) }
+    ensures { OnOk result (code.new
+        ≡ code.old ++ receives_code (whole g.now) (scopes sc.now) (bare_expression (expression_of channel.now)) (map variable_of variables.now)) }
 {
     for v in variables.items() {
         put_receive(g, sc, code, channel, v)?;

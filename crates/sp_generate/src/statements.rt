@@ -122,7 +122,8 @@ fn put_send_each(
     channel: &Expr,
     values: &List<Expr>,
 ) -> Result<(), Memory>
-    ensures { OnOk result (d.new ≡ with_form g.now sets.now sc.now d.old (c.Sequence (sends number at (expression_of channel.now) (map expression_of values.now)))) }
+    ensures { OnOk result (d.new ≡ with_form g.now sets.now sc.now d.old
+        (c.Sequence (sends number at (expression_of channel.now) (map expression_of values.now)))) }
 {
     put_sends(g, sc, &mut d.instrs, channel, values)?;
     Ok(())
@@ -140,7 +141,8 @@ fn put_receive_each(
     channel: &Expr,
     variables: &List<Var>,
 ) -> Result<(), Memory>
-    ensures { OnOk result (d.new ≡ with_form g.now sets.now sc.now d.old (c.Sequence (receives number at (expression_of channel.now) (map variable_of variables.now)))) }
+    ensures { OnOk result (d.new ≡ with_form g.now sets.now sc.now d.old
+        (c.Sequence (receives number at (expression_of channel.now) (map variable_of variables.now)))) }
 {
     put_receives(g, sc, &mut d.instrs, channel, variables)?;
     Ok(())
@@ -169,7 +171,8 @@ fn put_written(
 #[cycle(statement)]
 #[tactic(auto, using(crate::proofs::Forms::all_step))]
 fn put_next(g: &Ground, sets: &Sets, sc: &[Scope], d: &mut Draft, s: &Stmt) -> Result<(), Memory>
-    ensures { (rest : c.Statements) → OnOk result (with_all g.now sets.now sc.now d.new rest ≡ with_all g.now sets.now sc.now d.old (c.AndThen (statement_of s.now) rest)) }
+    ensures { (rest : c.Statements)
+        → OnOk result (with_all g.now sets.now sc.now d.new rest ≡ with_all g.now sets.now sc.now d.old (c.AndThen (statement_of s.now) rest)) }
 {
     put_statement(g, sets, sc, d, s)?;
     Ok(())
@@ -252,7 +255,11 @@ fn put_else(
     e: &Expr,
     a: &Stmt,
 ) -> Result<(), Memory>
-    ensures { (start : ADraft) → d.old ≡ with_branch g.now sets.now sc.now (with_code start (value_code (whole g.now) (scopes sc.now) (bare_expression (expression_of e.now)))) (statement_of a.now) 1 → OnOk result (d.new ≡ with_form g.now sets.now sc.now start (c.If (expression_of e.now) (statement_of a.now) (c.Else (statement_of b.now)))) }
+    ensures { (start : ADraft) → d.old
+        ≡ with_branch g.now sets.now sc.now
+        (with_code start (value_code (whole g.now) (scopes sc.now) (bare_expression (expression_of e.now)))) (statement_of a.now) 1
+        → OnOk result (d.new ≡ with_form g.now sets.now sc.now start
+        (c.If (expression_of e.now) (statement_of a.now) (c.Else (statement_of b.now)))) }
 {
     put_passed(g, sets, sc, d, b)?;
     Ok(())
@@ -363,7 +370,8 @@ fn put_for_body(
     down: bool,
     var: u32,
 ) -> Result<(), Memory>
-    ensures { OnOk result (d.new ≡ with_loop g.now sets.now sc.now d.old (statement_of s.now) (for_instr down var) (next_instr down var (length d.old.instrs + 1))) }
+    ensures { OnOk result (d.new ≡ with_loop g.now sets.now sc.now d.old (statement_of s.now) (for_instr down var)
+        (next_instr down var (length d.old.instrs + 1))) }
 {
     let at = d.instrs.len();
     put(&mut d.instrs, for_instr(down, var, 0))?;
@@ -390,7 +398,8 @@ fn put_for(
     down: bool,
     to: &Expr,
 ) -> Result<(), Memory>
-    ensures { OnOk result (d.new ≡ with_form g.now sets.now sc.now d.old (c.For x at (expression_of from.now) down (expression_of to.now) (statement_of s.now))) }
+    ensures { OnOk result (d.new ≡ with_form g.now sets.now sc.now d.old
+        (c.For x at (expression_of from.now) down (expression_of to.now) (statement_of s.now))) }
 {
     put_value(g, sc, &mut d.instrs, from)?;
     put_value(g, sc, &mut d.instrs, to)?;
@@ -406,7 +415,8 @@ fn put_children(
     d: &mut Draft,
     ss: &List<Stmt>,
 ) -> Result<List<ChildTable>, Memory>
-    ensures code { OnOk result (with_children g.now sets.now sc.now d.new c.NoStatement ≡ with_children g.now sets.now sc.now d.old (statements (map statement_of ss.now))) }
+    ensures code { OnOk result (with_children g.now sets.now sc.now d.new c.NoStatement
+        ≡ with_children g.now sets.now sc.now d.old (statements (map statement_of ss.now))) }
     ensures lines { IfOk result (λ xs. xs ≡ children_of g.now sets.now (length d.old.instrs) (statements (map statement_of ss.now))) }
 {
     let mut out = Vec::new(g.alloc);
@@ -437,7 +447,9 @@ fn child_line(g: &Ground, sets: &Sets, s: &Stmt, entry: u32) -> Result<ChildTabl
 #[cycle(statement)]
 #[tactic(auto, using(crate::proofs::Forms::child_next, crate::proofs::Forms::ended_by))]
 fn put_child(g: &Ground, sets: &Sets, sc: &[Scope], d: &mut Draft, s: &Stmt) -> Result<(), Memory>
-    ensures code { (rest : c.Statements) → OnOk result (with_children g.now sets.now sc.now d.new rest ≡ with_children g.now sets.now sc.now d.old (c.AndThen (statement_of s.now) rest)) }
+    ensures code { (rest : c.Statements)
+        → OnOk result (with_children g.now sets.now sc.now d.new rest
+        ≡ with_children g.now sets.now sc.now d.old (c.AndThen (statement_of s.now) rest)) }
     ensures place { OnOk result (length d.new.instrs ≡ after (whole g.now) (length d.old.instrs) (bare_statement (statement_of s.now)) + 1) }
 {
     put_statement(g, sets, sc, d, s)?;
@@ -548,7 +560,9 @@ fn put_forall(
 #[cycle(statement)]
 #[tactic(auto, using(crate::proofs::Forms::arm_next, crate::proofs::Forms::ended_by, crate::proofs::Forms::written_place))]
 fn put_arm(g: &Ground, sets: &Sets, sc: &[Scope], d: &mut Draft, a: &Arm) -> Result<u32, Memory>
-    ensures code { (rest : c.Arms) → OnOk result (with_arms g.now sets.now sc.now d.new rest 0 ≡ with_arms g.now sets.now sc.now d.old (c.Or (c.On a.now.constants (statement_of a.now.body)) rest) 0) }
+    ensures code { (rest : c.Arms) → OnOk result
+        (with_arms g.now sets.now sc.now d.new rest 0
+        ≡ with_arms g.now sets.now sc.now d.old (c.Or (c.On a.now.constants (statement_of a.now.body)) rest) 0) }
     ensures place { OnOk result (length d.new.instrs ≡ after (whole g.now) (length d.old.instrs) (bare_statement (statement_of a.now.body)) + 1) }
     ensures end { IfOk result (λ n. n ≡ after (whole g.now) (length d.old.instrs) (bare_statement (statement_of a.now.body))) }
 {

@@ -27,9 +27,12 @@ ghost use Rattle.sp_history.specs.Holding.{IsOutputOf};
 pub fn histories_lead_to_systems()
     ensures leads { (g : Setting) (ns : List Note) → IsLegal plain g ns → (s : System Plain) × Reaches plain g control_at_start (opening plain g) ns s }
     ensures legal { (g : Setting) (ns : List Note) (s : System Plain) → Reaches plain g control_at_start (opening plain g) ns s → IsLegal plain g ns }
-    ensures journal { (g : Setting) (ns : List Note) (s : System Plain) → Reaches plain g control_at_start (opening plain g) ns s → IsSystem plain g (entries_of ns) s }
-    ensures one { (g : Setting) (ns : List Note) (s t : System Plain) → Reaches plain g control_at_start (opening plain g) ns s → Reaches plain g control_at_start (opening plain g) ns t → s ≡ t }
-    ensures alike { (g : Setting) (ns : List Note) (s : System Plain) → Reaches plain g control_at_start (opening plain g) ns s → IsOrderly (control ns) × Agrees (control ns) s × HasOuts (control ns) }
+    ensures journal { (g : Setting) (ns : List Note) (s : System Plain) → Reaches plain g control_at_start (opening plain g) ns s
+        → IsSystem plain g (entries_of ns) s }
+    ensures one { (g : Setting) (ns : List Note) (s t : System Plain) → Reaches plain g control_at_start (opening plain g) ns s
+        → Reaches plain g control_at_start (opening plain g) ns t → s ≡ t }
+    ensures alike { (g : Setting) (ns : List Note) (s : System Plain) → Reaches plain g control_at_start (opening plain g) ns s
+        → IsOrderly (control ns) × Agrees (control ns) s × HasOuts (control ns) }
 {}
 
 /// While a worker leaves no note, a process that is out with it stays out, in the very same state. Where no process is ready
@@ -40,7 +43,9 @@ pub fn histories_keep_what_is_out()
         → NoneBy w more → (control ns).doing p ≡ Out w → s.condition p ≡ Runs c → ((control (ns ++ more)).doing p ≡ Out w) × (t.condition p ≡ Runs c) }
     ensures idle { (g : Setting) (ns : List Note) (s : System Plain) → Reaches plain g control_at_start (opening plain g) ns s → (control ns).ready ≡ [] → (control ns).out ≡ 0
         → ((q : ℕ) → (control ns).doing q ≢ Gone) → (q : ℕ) → phase_in (s.condition q) ≢ Running }
-    ensures over { (g : Setting) (ns more : List Note) (s t : System Plain) → Reaches plain g control_at_start (opening plain g) ns s → IsOver (control ns) → Reaches plain g (control ns) s more t → entries_of more ≡ [] }
+    ensures over { (g : Setting) (ns more : List Note) (s t : System Plain)
+        → Reaches plain g control_at_start (opening plain g) ns s → IsOver (control ns) → Reaches plain g (control ns) s more t
+        → entries_of more ≡ [] }
 {}
 
 /// Every process of a run has the number at which it stands, and all channels in its operands, its offer and its variables are
@@ -51,7 +56,8 @@ pub fn journals_name_what_is_there()
     ensures offered { (g : Setting) (es : List Entry) (s : System Plain) (q : ℕ) (c d : Config (Memory Plain)) (stop : Stop) → IsSystem plain g es s → s.condition q ≡ Runs c
         → IsTurn (memory plain g) g.code c (Stopped stop d) → StopHas (λ n. n < s.births.channels) stop }
     ensures nameable { (g : Setting) (es : List Entry) (s : System Plain) → AreLimits g.limits → IsSystem plain g es s → NameableFrom at_start es }
-    ensures fault { (g : Setting) (es : List Entry) (s : System Plain) (i j : ℕ) (d e : Entry) → IsSystem plain g es s → slice_get es i ≡ Some d → slice_get es j ≡ Some e → IsFaulty d.event → IsFaulty e.event → i ≡ j }
+    ensures fault { (g : Setting) (es : List Entry) (s : System Plain) (i j : ℕ) (d e : Entry) → IsSystem plain g es s
+        → slice_get es i ≡ Some d → slice_get es j ≡ Some e → IsFaulty d.event → IsFaulty e.event → i ≡ j }
 {}
 
 /// After a legal history the parent of a process that is out waits for its children. Where one worker hands in with each ask what
@@ -59,7 +65,8 @@ pub fn journals_name_what_is_there()
 pub fn histories_keep_turns()
     ensures joined { (g : Setting) (ns : List Note) (s : System Plain) (q w : ℕ) (b : Birth) → Reaches plain g control_at_start (opening plain g) ns s → (control ns).doing q ≡ Out w → (control ns).births.birth q ≡ Some b
         → (n : ℕ) × ((control ns).doing b.parent ≡ Joining n) }
-    ensures turns { (g : Setting) (ns : List Note) (s : System Plain) → Reaches plain g control_at_start (opening plain g) ns s → OneByOne None ns → InTurnFrom at_start line_at_start (entries_of ns) }
+    ensures turns { (g : Setting) (ns : List Note) (s : System Plain) → Reaches plain g control_at_start (opening plain g) ns s
+        → OneByOne None ns → InTurnFrom at_start line_at_start (entries_of ns) }
 {}
 
 /// After a legal history of safe code exactly one process holds the output.

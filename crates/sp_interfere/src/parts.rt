@@ -61,7 +61,8 @@ fn clashes_before(s: &Sets, earlier: &[Stmt], n: u32, targets: &VarUnion, used: 
 fn part_rule(s: &Sets, earlier: &[Stmt], t: &Stmt, targets: &VarUnion, used: &VarUnion) -> Found
     requires targets { Joins targets.now (is_target s.now) (numbers_of (statements (map statement_of earlier.now))) }
     requires used { Joins used.now (is_used s.now) (numbers_of (statements (map statement_of earlier.now))) }
-    ensures { result ≡ breaks_if I1 (place_of (statement_of t.now)) (list_any (λ m. clash s.now m (number_of (statement_of t.now))) (numbers_of (statements (map statement_of earlier.now)))) }
+    ensures { result ≡ breaks_if I1 (place_of (statement_of t.now))
+        (list_any (λ m. clash s.now m (number_of (statement_of t.now))) (numbers_of (statements (map statement_of earlier.now)))) }
 {
     breaks_if(
         Rule::I1,

@@ -122,7 +122,8 @@ fn called_first(
     d: u32,
     first: Found,
 ) -> Found
-    ensures { result ≡ called_first s.now (program_of c.now) in_function d f at (actuals (map actual_of args.now)) (option_map block_of (option_copied k.entry)) first }
+    ensures { result ≡ called_first s.now (program_of c.now) in_function d f at (actuals (map actual_of args.now))
+        (option_map block_of (option_copied k.entry)) first }
 {
     match k {
         None => first,

@@ -74,7 +74,8 @@ fn sends_first(
     d: u32,
     first: Found,
 ) -> Found
-    ensures { result ≡ statements_first (site_first s.now (program_of c.now) in_function d) (sends n at (expression_of channel.now) (map expression_of es.now)) first }
+    ensures { result ≡ statements_first (site_first s.now (program_of c.now) in_function d)
+        (sends n at (expression_of channel.now) (map expression_of es.now)) first }
 {
     let count = es.len();
     if count == 0 {
@@ -97,7 +98,8 @@ fn receives_first(
     d: u32,
     first: Found,
 ) -> Found
-    ensures { result ≡ statements_first (site_first s.now (program_of c.now) in_function d) (receives n at (expression_of channel.now) (map variable_of vs.now)) first }
+    ensures { result ≡ statements_first (site_first s.now (program_of c.now) in_function d)
+        (receives n at (expression_of channel.now) (map variable_of vs.now)) first }
 {
     let count = vs.len();
     if count == 0 {

@@ -157,7 +157,8 @@ impl Reader {
         requires reader { IsReader self.old }
         requires next { CanFollow (known self.old) (record { process = process; event = event.Fork count }) }
         ensures reader { OnOk result (IsReader self.new) }
-        ensures added { OnOk result (self.new.ledger.journal.entries ≡ self.old.ledger.journal.entries ++ record { process = process; event = event.Fork count } ∷ []) }
+        ensures added { OnOk result (self.new.ledger.journal.entries
+            ≡ self.old.ledger.journal.entries ++ record { process = process; event = event.Fork count } ∷ []) }
         ensures version { OnOk result (self.new.version ≡ self.old.version) }
     {
         let name = self.ledger.name(process)?;
@@ -175,7 +176,8 @@ impl Reader {
         requires reader { IsReader self.old }
         requires next { CanFollow (known self.old) (record { process = process; event = event.Open }) }
         ensures reader { OnOk result (IsReader self.new) }
-        ensures added { OnOk result (self.new.ledger.journal.entries ≡ self.old.ledger.journal.entries ++ record { process = process; event = event.Open } ∷ []) }
+        ensures added { OnOk result (self.new.ledger.journal.entries
+            ≡ self.old.ledger.journal.entries ++ record { process = process; event = event.Open } ∷ []) }
         ensures version { OnOk result (self.new.version ≡ self.old.version) }
     {
         let name = self.ledger.name(process)?;

@@ -25,7 +25,8 @@ pub(crate) fn learn(
     requires learner { learner < length clocks.old.items }
     requires teacher { teacher < length clocks.old.items }
     ensures len { OnOk result (length clocks.new.items ≡ length clocks.old.items) }
-    ensures clocks { OnOk result ((p q : ℕ) → clock_at clocks.new.items p q ≡ cond (learner == p) (max (clock_at clocks.old.items learner q) (clock_at clocks.old.items teacher q)) (clock_at clocks.old.items p q)) }
+    ensures clocks { OnOk result ((p q : ℕ) → clock_at clocks.new.items p q
+        ≡ cond (learner == p) (max (clock_at clocks.old.items learner q) (clock_at clocks.old.items teacher q)) (clock_at clocks.old.items p q)) }
 {
     let mut clock = mem::replace(&mut clocks[learner as usize], Clock::new(alloc));
     let merged = clock.merge(&clocks[teacher as usize]);
@@ -62,7 +63,9 @@ pub(crate) fn share(
     requires there { first + count ≤ length clocks.old.items }
     requires few { first + count ≤ 2 ^ 32 }
     ensures len { OnOk result (length clocks.new.items ≡ length clocks.old.items) }
-    ensures clocks { OnOk result ((p q : ℕ) → clock_at clocks.new.items p q ≡ cond (nat_le first p && nat_lt p (first + count)) (max (clock_at clocks.old.items p q) (clock_at clocks.old.items process q)) (clock_at clocks.old.items p q)) }
+    ensures clocks { OnOk result ((p q : ℕ) → clock_at clocks.new.items p q
+        ≡ cond (nat_le first p && nat_lt p (first + count))
+        (max (clock_at clocks.old.items p q) (clock_at clocks.old.items process q)) (clock_at clocks.old.items p q)) }
 {
     for child in 0..count {
         learn(alloc, clocks, (first + u64::from(child)) as u32, process)?;

@@ -67,8 +67,11 @@ impl State {
         limits: &Limits,
     ) -> Result<Option<Stop>, Memory>
         requires next { self.old.pc + 1 < 4294967296 }
-        requires safe { on_one (memory plain (setting_of self.old code.now limits.now)) code.now (converted conversion) self.old.pc (entries_of self.old.stack) (memory_of self.old) ≢ Stuck }
-        ensures came { IfOk result (λ s. Came (on_one (memory plain (setting_of self.old code.now limits.now)) code.now (converted conversion) self.old.pc (entries_of self.old.stack) (memory_of self.old)) self.old self.new s) }
+        requires safe { on_one (memory plain (setting_of self.old code.now limits.now)) code.now (converted conversion) self.old.pc
+            (entries_of self.old.stack) (memory_of self.old) ≢ Stuck }
+        ensures came { IfOk result (λ s. Came
+            (on_one (memory plain (setting_of self.old code.now limits.now)) code.now (converted conversion) self.old.pc
+            (entries_of self.old.stack) (memory_of self.old)) self.old self.new s) }
         ensures same { Stays self.old self.new }
     {
         match self.stack.pop() {
@@ -191,8 +194,11 @@ impl State {
         limits: &Limits,
     ) -> Result<Option<Stop>, Memory>
         requires next { self.old.pc + 1 < 4294967296 }
-        requires safe { on_two (memory plain (setting_of self.old code.now limits.now)) code.now op self.old.pc (entries_of self.old.stack) (memory_of self.old) ≢ Stuck }
-        ensures came { IfOk result (λ s. Came (on_two (memory plain (setting_of self.old code.now limits.now)) code.now op self.old.pc (entries_of self.old.stack) (memory_of self.old)) self.old self.new s) }
+        requires safe { on_two (memory plain (setting_of self.old code.now limits.now)) code.now op self.old.pc
+            (entries_of self.old.stack) (memory_of self.old) ≢ Stuck }
+        ensures came { IfOk result (λ s. Came
+            (on_two (memory plain (setting_of self.old code.now limits.now)) code.now op self.old.pc (entries_of self.old.stack)
+            (memory_of self.old)) self.old self.new s) }
         ensures same { Stays self.old self.new }
     {
         match self.stack.pop() {
@@ -223,8 +229,13 @@ impl State {
         limits: &Limits,
     ) -> Result<Option<Stop>, Memory>
         requires next { self.old.pc + 1 < 4294967296 }
-        requires safe { on_equals (entries_of self.old.stack) (λ b st. told (memory plain (setting_of self.old code.now limits.now)) code.now (if different then not b else b) (self.old.pc + 1) st (memory_of self.old)) ≢ Stuck }
-        ensures came { IfOk result (λ s. Came (on_equals (entries_of self.old.stack) (λ b st. told (memory plain (setting_of self.old code.now limits.now)) code.now (if different then not b else b) (self.old.pc + 1) st (memory_of self.old))) self.old self.new s) }
+        requires safe { on_equals (entries_of self.old.stack)
+            (λ b st. told (memory plain (setting_of self.old code.now limits.now)) code.now (if different then not b else b)
+            (self.old.pc + 1) st (memory_of self.old)) ≢ Stuck }
+        ensures came { IfOk result (λ s. Came
+            (on_equals (entries_of self.old.stack)
+            (λ b st. told (memory plain (setting_of self.old code.now limits.now)) code.now (if different then not b else b)
+            (self.old.pc + 1) st (memory_of self.old))) self.old self.new s) }
         ensures same { Stays self.old self.new }
     {
         let equal = match self.stack.pop() {

@@ -105,7 +105,9 @@ impl State {
         requires ticks { self.old.ticks + 1 < 18446744073709551616 }
         requires depth { self.old.depth + 1 < 4294967296 }
         requires total { self.old.cells + cells < 18446744073709551616 }
-        ensures opened { OnOk result (memory_of self.new ≡ opened plain (setting_of self.old code.now limits.now) layout.now up (entries_of (reverse (take (length layout.now.formals) self.old.stack))) (memory_of self.old)) }
+        ensures opened { OnOk result (memory_of self.new
+            ≡ opened plain (setting_of self.old code.now limits.now) layout.now up
+            (entries_of (reverse (take (length layout.now.formals) self.old.stack))) (memory_of self.old)) }
         ensures stack { OnOk result (self.new.stack ≡ drop (length layout.now.formals) self.old.stack) }
         ensures place { self.new.pc ≡ self.old.pc }
         ensures same { Stays self.old self.new }
@@ -138,7 +140,9 @@ impl State {
         code: &Code,
         limits: &Limits,
     ) -> Result<Option<Stop>, Memory>
-        ensures came { IfOk result (λ s. Came (entered (memory plain (setting_of self.old code.now limits.now)) code.now layout.now to (entries_of self.old.stack) (memory_of self.old)) self.old self.new s) }
+        ensures came { IfOk result (λ s. Came
+            (entered (memory plain (setting_of self.old code.now limits.now)) code.now layout.now to (entries_of self.old.stack)
+            (memory_of self.old)) self.old self.new s) }
         ensures same { Stays self.old self.new }
     {
         self.pc = layout.entry;
@@ -165,8 +169,11 @@ impl State {
         requires sizes { length layout.now.sizes ≤ 4294967294 }
         requires formals { BeginsWithFormals layout.now }
         requires few { length layout.now.formals ≤ length layout.now.sizes }
-        requires safe { called (memory plain (setting_of self.old code.now limits.now)) code.now layout.now up (self.old.pc + 1) (entries_of self.old.stack) (memory_of self.old) ≢ Stuck }
-        ensures came { IfOk result (λ s. Came (called (memory plain (setting_of self.old code.now limits.now)) code.now layout.now up (self.old.pc + 1) (entries_of self.old.stack) (memory_of self.old)) self.old self.new s) }
+        requires safe { called (memory plain (setting_of self.old code.now limits.now)) code.now layout.now up (self.old.pc + 1)
+            (entries_of self.old.stack) (memory_of self.old) ≢ Stuck }
+        ensures came { IfOk result (λ s. Came
+            (called (memory plain (setting_of self.old code.now limits.now)) code.now layout.now up (self.old.pc + 1)
+            (entries_of self.old.stack) (memory_of self.old)) self.old self.new s) }
         ensures same { Stays self.old self.new }
     {
         if self.ticks >= limits.ticks {

@@ -308,7 +308,8 @@ impl State {
         requires frames { self.now.frames ≡ plain_frames (take visible shared.now.value) }
         requires deeper { self.now.depth + 1 ≤ 4294967295 }
         requires numbers { number + length plan.now ≤ 4294967295 }
-        requires below { (k : ℕ) (h : Handing) → k < length plan.now → h ≡ get_or plan.now k h → IsSome (child_or (child_at table.now k)).index → FramesBelow h.moved 18446744073709551615 × FramesBelow h.shared 18446744073709551615 }
+        requires below { (k : ℕ) (h : Handing) → k < length plan.now → h ≡ get_or plan.now k h
+            → IsSome (child_or (child_at table.now k)).index → FramesBelow h.moved 18446744073709551615 × FramesBelow h.shared 18446744073709551615 }
         ensures { IfOk result (λ cs. (length cs.items ≡ length plan.now) × AreBornSo cs.items plan.now table.now number self.now (length plan.now)) }
     {
         let mut children = Vec::new(*self.text.allocator());
@@ -336,7 +337,8 @@ impl State {
         requires numbers { number + count ≤ 4294967295 }
         requires can { CanSplit self.old.store (plan_from code.now.layouts self.old.frames table.now self.old.first 0 count) }
         ensures children { IfOk result (λ cs. AreNewborn code.now self.old table.now number count cs) }
-        ensures parent { OnOk result (self.new ≡ record self.old { store = plain.handed self.old.store (plan_from code.now.layouts self.old.frames table.now self.old.first 0 count) }) }
+        ensures parent { OnOk result (self.new
+            ≡ record self.old { store = plain.handed self.old.store (plan_from code.now.layouts self.old.frames table.now self.old.first 0 count) }) }
         ensures err { OnErr result (self.new ≡ self.old) }
     {
         let plan = self.plan(code, table, count)?;
@@ -379,7 +381,8 @@ impl State {
 fn give_stores(children: &mut Vec<Proc>, stores: List<Store>)
     requires { length stores ≡ length children.old.items }
     ensures len { length children.new.items ≡ length children.old.items }
-    ensures stores { (k : ℕ) (d : State) (s : Plain) → k < length children.old.items → get_or children.new.items k d ≡ record (get_or children.old.items k d) { store = get_or stores k s } }
+    ensures stores { (k : ℕ) (d : State) (s : Plain) → k < length children.old.items → get_or children.new.items k d
+        ≡ record (get_or children.old.items k d) { store = get_or stores k s } }
 {
     let mut stores = stores;
     loop {

@@ -162,8 +162,11 @@ impl State {
         limits: &Limits,
     ) -> Result<Option<Stop>, Memory>
         requires next { self.old.pc + 1 < 4294967296 }
-        requires safe { begins_loop (memory plain (setting_of self.old code.now limits.now)) code.now down var to self.old.pc (entries_of self.old.stack) (memory_of self.old) ≢ Stuck }
-        ensures came { IfOk result (λ s. Came (begins_loop (memory plain (setting_of self.old code.now limits.now)) code.now down var to self.old.pc (entries_of self.old.stack) (memory_of self.old)) self.old self.new s) }
+        requires safe { begins_loop (memory plain (setting_of self.old code.now limits.now)) code.now down var to self.old.pc
+            (entries_of self.old.stack) (memory_of self.old) ≢ Stuck }
+        ensures came { IfOk result (λ s. Came
+            (begins_loop (memory plain (setting_of self.old code.now limits.now)) code.now down var to self.old.pc
+            (entries_of self.old.stack) (memory_of self.old)) self.old self.new s) }
         ensures same { Stays self.old self.new }
     {
         match self.stack.pop() {
@@ -197,8 +200,11 @@ impl State {
         limits: &Limits,
     ) -> Result<Option<Stop>, Memory>
         requires next { self.old.pc + 1 < 4294967296 }
-        requires safe { ends_loop (memory plain (setting_of self.old code.now limits.now)) code.now down var to self.old.pc (entries_of self.old.stack) (memory_of self.old) ≢ Stuck }
-        ensures came { IfOk result (λ s. Came (ends_loop (memory plain (setting_of self.old code.now limits.now)) code.now down var to self.old.pc (entries_of self.old.stack) (memory_of self.old)) self.old self.new s) }
+        requires safe { ends_loop (memory plain (setting_of self.old code.now limits.now)) code.now down var to self.old.pc
+            (entries_of self.old.stack) (memory_of self.old) ≢ Stuck }
+        ensures came { IfOk result (λ s. Came
+            (ends_loop (memory plain (setting_of self.old code.now limits.now)) code.now down var to self.old.pc
+            (entries_of self.old.stack) (memory_of self.old)) self.old self.new s) }
         ensures same { Stays self.old self.new }
     {
         match self.stack.pop() {

@@ -69,7 +69,8 @@ fn count_in(shared: &[Frame], visible: usize, own: &[Frame]) -> usize
 fn frame_in<'a>(shared: &'a [Frame], visible: usize, own: &'a [Frame], place: usize) -> &'a Frame
     requires within { visible ≤ length shared.now }
     requires there { place < visible + length own.now }
-    ensures { last_frames (place + 1) (plain_frames (take visible shared.now ++ own.now)) ≡ frame_of result.now ∷ last_frames place (plain_frames (take visible shared.now ++ own.now)) }
+    ensures { last_frames (place + 1) (plain_frames (take visible shared.now ++ own.now))
+        ≡ frame_of result.now ∷ last_frames place (plain_frames (take visible shared.now ++ own.now)) }
 {
     if place < visible {
         return &shared[place];

@@ -139,7 +139,11 @@ impl State {
     #[tactic(auto, using(crate::proofs::Positions::position_held, crate::proofs::Positions::position_is, crate::proofs::Positions::position_not_undefined, crate::proofs::Positions::position_not_channel, crate::proofs::Positions::left_held, sp_code::proofs::StoreLaws::cells_same))]
     fn advance(&mut self, bytes: usize) -> Result<(), Memory>
         requires { left_after self.old.input.value (position_in (plain.piece self.old.store position_at.spot)) ≢ None }
-        ensures taken { OnOk result (self.new ≡ record self.old { store = put_cell plain position_at (Ordinal (pos (or_zero (position_in (plain.piece self.old.store position_at.spot)) + bytes))) self.old.store }) }
+        ensures taken { OnOk result (self.new
+            ≡ record self.old {
+              store = put_cell plain position_at
+                  (Ordinal (pos (or_zero (position_in (plain.piece self.old.store position_at.spot)) + bytes))) self.old.store;
+            }) }
         ensures same { Stays self.old self.new }
     {
         match self.store.load(input_address()) {
@@ -158,7 +162,12 @@ impl State {
     fn take(&mut self, at: Address, value: i64, bytes: usize) -> Result<(), Memory>
         requires input { left_after self.old.input.value (position_in (plain.piece self.old.store position_at.spot)) ≢ None }
         requires has { HasCells self.old.store.map at 1 }
-        ensures taken { OnOk result (self.new ≡ record self.old { store = put_cell plain at (Ordinal value) (put_cell plain position_at (Ordinal (pos (or_zero (position_in (plain.piece self.old.store position_at.spot)) + bytes))) self.old.store) }) }
+        ensures taken { OnOk result (self.new
+            ≡ record self.old {
+              store = put_cell plain at (Ordinal value)
+                  (put_cell plain position_at (Ordinal
+                  (pos (or_zero (position_in (plain.piece self.old.store position_at.spot)) + bytes))) self.old.store);
+            }) }
         ensures same { Stays self.old self.new }
     {
         self.advance(bytes)?;
@@ -174,8 +183,11 @@ impl State {
         limits: &Limits,
     ) -> Result<Option<Stop>, Memory>
         requires next { self.old.pc + 1 < 4294967296 }
-        requires safe { reads (memory plain (setting_of self.old code.now limits.now)) code.now (item_in item) (self.old.pc + 1) (entries_of self.old.stack) (memory_of self.old) ≢ Stuck }
-        ensures came { IfOk result (λ s. Came (reads (memory plain (setting_of self.old code.now limits.now)) code.now (item_in item) (self.old.pc + 1) (entries_of self.old.stack) (memory_of self.old)) self.old self.new s) }
+        requires safe { reads (memory plain (setting_of self.old code.now limits.now)) code.now (item_in item) (self.old.pc + 1)
+            (entries_of self.old.stack) (memory_of self.old) ≢ Stuck }
+        ensures came { IfOk result (λ s. Came
+            (reads (memory plain (setting_of self.old code.now limits.now)) code.now (item_in item) (self.old.pc + 1)
+            (entries_of self.old.stack) (memory_of self.old)) self.old self.new s) }
         ensures same { Stays self.old self.new }
     {
         match self.stack.pop() {
@@ -249,8 +261,11 @@ impl State {
         limits: &Limits,
     ) -> Result<Option<Stop>, Memory>
         requires next { self.old.pc + 1 < 4294967296 }
-        requires safe { writes (memory plain (setting_of self.old code.now limits.now)) code.now (text_of shown) (self.old.pc + 1) (entries_of self.old.stack) (memory_of self.old) ≢ Stuck }
-        ensures came { IfOk result (λ s. Came (writes (memory plain (setting_of self.old code.now limits.now)) code.now (text_of shown) (self.old.pc + 1) (entries_of self.old.stack) (memory_of self.old)) self.old self.new s) }
+        requires safe { writes (memory plain (setting_of self.old code.now limits.now)) code.now (text_of shown) (self.old.pc + 1)
+            (entries_of self.old.stack) (memory_of self.old) ≢ Stuck }
+        ensures came { IfOk result (λ s. Came
+            (writes (memory plain (setting_of self.old code.now limits.now)) code.now (text_of shown) (self.old.pc + 1)
+            (entries_of self.old.stack) (memory_of self.old)) self.old self.new s) }
         ensures same { Stays self.old self.new }
     {
         match self.stack.pop() {
@@ -275,8 +290,11 @@ impl State {
         limits: &Limits,
     ) -> Result<Option<Stop>, Memory>
         requires next { self.old.pc + 1 < 4294967296 }
-        requires safe { writes_wide (memory plain (setting_of self.old code.now limits.now)) code.now (is_cut shown) (text_of shown) (self.old.pc + 1) (entries_of self.old.stack) (memory_of self.old) ≢ Stuck }
-        ensures came { IfOk result (λ s. Came (writes_wide (memory plain (setting_of self.old code.now limits.now)) code.now (is_cut shown) (text_of shown) (self.old.pc + 1) (entries_of self.old.stack) (memory_of self.old)) self.old self.new s) }
+        requires safe { writes_wide (memory plain (setting_of self.old code.now limits.now)) code.now (is_cut shown) (text_of shown)
+            (self.old.pc + 1) (entries_of self.old.stack) (memory_of self.old) ≢ Stuck }
+        ensures came { IfOk result (λ s. Came
+            (writes_wide (memory plain (setting_of self.old code.now limits.now)) code.now (is_cut shown) (text_of shown)
+            (self.old.pc + 1) (entries_of self.old.stack) (memory_of self.old)) self.old self.new s) }
         ensures same { Stays self.old self.new }
     {
         match self.stack.pop() {

@@ -174,7 +174,18 @@ impl State {
     /// Process 0 at an instruction, with the program's frame.
     fn begin(alloc: Global, entry: u32, sizes: &[u32], input: Arc<Text>) -> Result<State, Memory>
         requires { length sizes.now ≤ 4294967294 }
-        ensures config { IfOk result (λ p. config_of p ≡ At entry [] (record { process = 0; frames = record { owner = 0; number = 0; home = OfBlock 0; link = 0; references = [] } ∷ []; depth = 0; ticks = 0; since = 0; cells = sum sizes.now; store = plain.root sizes.now })) }
+        ensures config { IfOk result (λ p. config_of p
+            ≡ At entry [] (record {
+              process = 0;
+              frames = record
+                  { owner = 0; number = 0; home = OfBlock 0; link = 0; references = [] } ∷ [];
+              depth = 0;
+              ticks = 0;
+              since = 0;
+              cells
+                  = sum sizes.now;
+              store = plain.root sizes.now;
+            })) }
         ensures same { IfOk result (λ p. (p.number ≡ 0) × (p.input ≡ input)) }
     {
         let frames = Frames::first(

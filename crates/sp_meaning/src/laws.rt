@@ -22,7 +22,8 @@ pub fn steps_end()
 
 /// The front of a lawful schedule is lawful.
 pub fn fronts_are_lawful()
-    ensures { (g : Setting) (ps qs : List Name) (t : StateOf g) → Lawful g (start g) (ps ++ qs) t → (m : StateOf g) × Lawful g (start g) ps m × Lawful g m qs t }
+    ensures { (g : Setting) (ps qs : List Name) (t : StateOf g) → Lawful g (start g) (ps ++ qs) t → (m : StateOf g)
+        × Lawful g (start g) ps m × Lawful g m qs t }
 {}
 
 /// Each schedule has exactly one longest lawful front: `longest` gives its length and its state.
@@ -33,7 +34,8 @@ pub fn longest_fronts_are_exact()
 
 /// Along a journal without a fault the names of the steps are a lawful schedule, as long as the run has steps.
 pub fn journals_have_schedules()
-    ensures { (g : Setting) (turn : ℕ) (es : List Occurrence) (n : ℕ) (t : StateOf g) → IsAlong g turn es n t → IsClean es → (qs : List Name) × (length qs ≡ n) × Lawful g (start g) qs t }
+    ensures { (g : Setting) (turn : ℕ) (es : List Occurrence) (n : ℕ) (t : StateOf g) → IsAlong g turn es n t → IsClean es
+        → (qs : List Name) × (length qs ≡ n) × Lawful g (start g) qs t }
 {}
 
 /// A process that has not ended never has fewer ticks than before.

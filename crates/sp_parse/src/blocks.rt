@@ -130,7 +130,8 @@ fn procedure<'t>(
     depth: u32,
 ) -> Result<(SynPart, &'t [Token]), Halt>
     requires { Ready source.now tokens.now }
-    ensures { Reads source.now (AName ∷ Formals ∷ AToken ASemicolon ∷ ABlock depth ∷ AToken ASemicolon ∷ []) (λ vs. Proc vs.0 vs.1.0 None vs.1.1.1.0.parts vs.1.1.1.0.body) part_of tokens.now result }
+    ensures { Reads source.now (AName ∷ Formals ∷ AToken ASemicolon ∷ ABlock depth ∷ AToken ASemicolon ∷ [])
+        (λ vs. Proc vs.0 vs.1.0 None vs.1.1.1.0.parts vs.1.1.1.0.body) part_of tokens.now result }
 {
     let (called, rest) = name(source, tokens)?;
     let (given, rest) = formals(source, rest)?;
@@ -149,7 +150,8 @@ fn function<'t>(
     depth: u32,
 ) -> Result<(SynPart, &'t [Token]), Halt>
     requires { Ready source.now tokens.now }
-    ensures { Reads source.now (AName ∷ Formals ∷ AToken AColon ∷ AName ∷ AToken ASemicolon ∷ ABlock depth ∷ AToken ASemicolon ∷ []) (λ vs. Proc vs.0 vs.1.0 (Some vs.1.1.1.0) vs.1.1.1.1.1.0.parts vs.1.1.1.1.1.0.body) part_of tokens.now result }
+    ensures { Reads source.now (AName ∷ Formals ∷ AToken AColon ∷ AName ∷ AToken ASemicolon ∷ ABlock depth ∷ AToken ASemicolon ∷ [])
+        (λ vs. Proc vs.0 vs.1.0 (Some vs.1.1.1.0) vs.1.1.1.1.1.0.parts vs.1.1.1.1.1.0.body) part_of tokens.now result }
 {
     let (called, rest) = name(source, tokens)?;
     let (given, rest) = formals(source, rest)?;
@@ -165,7 +167,8 @@ fn function<'t>(
 /// A program, behind the word `program`.
 fn titled<'t>(source: &Source, tokens: &'t [Token]) -> Result<(Syntax, &'t [Token]), Halt>
     requires { Ready source.now tokens.now }
-    ensures { Reads source.now (AName ∷ AHeading ∷ AToken ASemicolon ∷ ABlock 0 ∷ AToken ADot ∷ []) (λ vs. record { name = vs.0; heading = vs.1.0; block = vs.1.1.1.0 }) program_of tokens.now result }
+    ensures { Reads source.now (AName ∷ AHeading ∷ AToken ASemicolon ∷ ABlock 0 ∷ AToken ADot ∷ [])
+        (λ vs. record { name = vs.0; heading = vs.1.0; block = vs.1.1.1.0 }) program_of tokens.now result }
 {
     let (called, rest) = name(source, tokens)?;
     let (listed, rest) = heading(source, rest)?;

@@ -44,7 +44,8 @@ fn one_type<'t>(source: &Source, tokens: &'t [Token]) -> Result<(SynPart, &'t [T
 /// Variables of one type.
 fn one_group<'t>(source: &Source, tokens: &'t [Token]) -> Result<(SynPart, &'t [Token]), Halt>
     requires { Ready source.now tokens.now }
-    ensures { Reads source.now (AName ∷ MoreNames ∷ AToken AColon ∷ AName ∷ AToken ASemicolon ∷ []) (λ vs. Var (vs.0 ∷ vs.1.0) vs.1.1.1.0) part_of tokens.now result }
+    ensures { Reads source.now (AName ∷ MoreNames ∷ AToken AColon ∷ AName ∷ AToken ASemicolon ∷ [])
+        (λ vs. Var (vs.0 ∷ vs.1.0) vs.1.1.1.0) part_of tokens.now result }
 {
     let (of, rest) = group(source, tokens)?;
     let rest = expect(source, rest, Kind::Sign(sign::SEMICOLON))?;
@@ -58,7 +59,8 @@ pub fn constants<'t>(
     mut all: List<SynPart>,
 ) -> Result<(List<SynPart>, &'t [Token]), Halt>
     requires { Ready source.now tokens.now }
-    ensures { (d : ℕ) → ReadsSoFar source.now (AName ∷ AToken AnEqual ∷ AConstant ∷ AToken ASemicolon ∷ MoreConstants d ∷ []) (λ vs. and_parts all (declared (Const vs.0 vs.1.1.0) vs.1.1.1.1.0)) (Parts d) (λ ps b. and_parts ps b) tokens.now result }
+    ensures { (d : ℕ) → ReadsSoFar source.now (AName ∷ AToken AnEqual ∷ AConstant ∷ AToken ASemicolon ∷ MoreConstants d ∷ [])
+        (λ vs. and_parts all (declared (Const vs.0 vs.1.1.0) vs.1.1.1.1.0)) (Parts d) (λ ps b. and_parts ps b) tokens.now result }
 {
     let (first, mut rest) = one_constant(source, tokens)?;
     all.push(first)?;
@@ -77,7 +79,8 @@ pub fn types<'t>(
     mut all: List<SynPart>,
 ) -> Result<(List<SynPart>, &'t [Token]), Halt>
     requires { Ready source.now tokens.now }
-    ensures { (d : ℕ) → ReadsSoFar source.now (AName ∷ AToken AnEqual ∷ AType ∷ AToken ASemicolon ∷ MoreTypes d ∷ []) (λ vs. and_parts all (declared (AKind vs.0 vs.1.1.0) vs.1.1.1.1.0)) (Parts d) (λ ps b. and_parts ps b) tokens.now result }
+    ensures { (d : ℕ) → ReadsSoFar source.now (AName ∷ AToken AnEqual ∷ AType ∷ AToken ASemicolon ∷ MoreTypes d ∷ [])
+        (λ vs. and_parts all (declared (AKind vs.0 vs.1.1.0) vs.1.1.1.1.0)) (Parts d) (λ ps b. and_parts ps b) tokens.now result }
 {
     let (first, mut rest) = one_type(source, tokens)?;
     all.push(first)?;
@@ -96,7 +99,8 @@ pub fn variables<'t>(
     mut all: List<SynPart>,
 ) -> Result<(List<SynPart>, &'t [Token]), Halt>
     requires { Ready source.now tokens.now }
-    ensures { (d : ℕ) → ReadsSoFar source.now (AName ∷ MoreNames ∷ AToken AColon ∷ AName ∷ AToken ASemicolon ∷ MoreVariables d ∷ []) (λ vs. and_parts all (declared (Var (vs.0 ∷ vs.1.0) vs.1.1.1.0) vs.1.1.1.1.1.0)) (Parts d) (λ ps b. and_parts ps b) tokens.now result }
+    ensures { (d : ℕ) → ReadsSoFar source.now (AName ∷ MoreNames ∷ AToken AColon ∷ AName ∷ AToken ASemicolon ∷ MoreVariables d ∷ [])
+        (λ vs. and_parts all (declared (Var (vs.0 ∷ vs.1.0) vs.1.1.1.0) vs.1.1.1.1.1.0)) (Parts d) (λ ps b. and_parts ps b) tokens.now result }
 {
     let (first, mut rest) = one_group(source, tokens)?;
     all.push(first)?;

@@ -205,7 +205,8 @@ fn indices<'t>(
     before: List<SynSelector>,
 ) -> Result<(List<SynSelector>, &'t [Token]), Halt>
     requires { Ready source.now tokens.now }
-    ensures { ReadsSoFar source.now (AnExpression depth ∷ MoreIndices depth ∷ []) (λ vs. and_selectors before (Select (AnIndex vs.0) vs.1.0)) (Selectors depth) and_selectors tokens.now result }
+    ensures { ReadsSoFar source.now (AnExpression depth ∷ MoreIndices depth ∷ [])
+        (λ vs. and_selectors before (Select (AnIndex vs.0) vs.1.0)) (Selectors depth) and_selectors tokens.now result }
 {
     let mut all = before;
     let (first, mut rest) = expression(source, tokens, depth)?;
@@ -227,7 +228,8 @@ pub fn arguments<'t>(
     depth: u32,
 ) -> Result<(List<SynArg>, &'t [Token]), Halt>
     requires { Ready source.now tokens.now }
-    ensures { Reads source.now (AnExpression depth ∷ AWidth depth ∷ MoreArguments depth ∷ []) (λ vs. AndArgument (Pass vs.0 vs.1.0) vs.1.1.0) arguments_of tokens.now result }
+    ensures { Reads source.now (AnExpression depth ∷ AWidth depth ∷ MoreArguments depth ∷ [])
+        (λ vs. AndArgument (Pass vs.0 vs.1.0) vs.1.1.0) arguments_of tokens.now result }
 {
     let mut all = List::new(source.alloc);
     let (first, mut rest) = argument(source, tokens, depth)?;

@@ -110,7 +110,8 @@ fn target<'t>(
     name: Name,
 ) -> Result<(SynStmt, &'t [Token]), Halt>
     requires { Ready source.now tokens.now }
-    ensures { Reads source.now (Selectors depth ∷ AToken ABecomes ∷ AnExpression depth ∷ []) (λ vs. Does at (Assign (Entire name vs.0) vs.1.1.0)) statement_of tokens.now result }
+    ensures { Reads source.now (Selectors depth ∷ AToken ABecomes ∷ AnExpression depth ∷ [])
+        (λ vs. Does at (Assign (Entire name vs.0) vs.1.1.0)) statement_of tokens.now result }
 {
     let (of, rest) = selectors(source, tokens, depth)?;
     let rest = expect(source, rest, Kind::Sign(sign::BECOMES))?;
@@ -163,7 +164,8 @@ fn sequence<'t>(
     at: Place,
 ) -> Result<(SynStmt, &'t [Token]), Halt>
     requires { Ready source.now tokens.now }
-    ensures { Reads source.now (AStatement depth ∷ MoreStatements depth ∷ AToken AnEnd ∷ []) (λ vs. Does at (Sequence (AndThen vs.0 vs.1.0))) statement_of tokens.now result }
+    ensures { Reads source.now (AStatement depth ∷ MoreStatements depth ∷ AToken AnEnd ∷ [])
+        (λ vs. Does at (Sequence (AndThen vs.0 vs.1.0))) statement_of tokens.now result }
 {
     let (all, rest) = compound(source, tokens, depth)?;
     Ok((sequence_statement(at, all), rest))
@@ -178,7 +180,8 @@ fn choice<'t>(
     at: Place,
 ) -> Result<(SynStmt, &'t [Token]), Halt>
     requires { Ready source.now tokens.now }
-    ensures { Reads source.now (AnExpression depth ∷ AToken AThen ∷ AStatement depth ∷ AnElse depth ∷ []) (λ vs. Does at (If vs.0 vs.1.1.0 vs.1.1.1.0)) statement_of tokens.now result }
+    ensures { Reads source.now (AnExpression depth ∷ AToken AThen ∷ AStatement depth ∷ AnElse depth ∷ [])
+        (λ vs. Does at (If vs.0 vs.1.1.0 vs.1.1.1.0)) statement_of tokens.now result }
 {
     let (test, rest) = expression(source, tokens, depth)?;
     let rest = expect(source, rest, Kind::Word(word::THEN))?;
@@ -230,7 +233,8 @@ fn repeat_loop<'t>(
     at: Place,
 ) -> Result<(SynStmt, &'t [Token]), Halt>
     requires { Ready source.now tokens.now }
-    ensures { Reads source.now (AStatement depth ∷ MoreStatements depth ∷ AToken AnUntil ∷ AnExpression depth ∷ []) (λ vs. Does at (Repeat (AndThen vs.0 vs.1.0) vs.1.1.1.0)) statement_of tokens.now result }
+    ensures { Reads source.now (AStatement depth ∷ MoreStatements depth ∷ AToken AnUntil ∷ AnExpression depth ∷ [])
+        (λ vs. Does at (Repeat (AndThen vs.0 vs.1.0) vs.1.1.1.0)) statement_of tokens.now result }
 {
     let (body, rest) = statements(source, tokens, depth)?;
     let rest = expect(source, rest, Kind::Word(word::UNTIL))?;
@@ -247,7 +251,8 @@ fn for_loop<'t>(
     at: Place,
 ) -> Result<(SynStmt, &'t [Token]), Halt>
     requires { Ready source.now tokens.now }
-    ensures { Reads source.now (AName ∷ AToken ABecomes ∷ AnExpression depth ∷ ADirection ∷ AnExpression depth ∷ AToken ADo ∷ AStatement depth ∷ []) (λ vs. Does at (For vs.0 vs.1.1.0 vs.1.1.1.0 vs.1.1.1.1.0 vs.1.1.1.1.1.1.0)) statement_of tokens.now result }
+    ensures { Reads source.now (AName ∷ AToken ABecomes ∷ AnExpression depth ∷ ADirection ∷ AnExpression depth ∷ AToken ADo
+        ∷ AStatement depth ∷ []) (λ vs. Does at (For vs.0 vs.1.1.0 vs.1.1.1.0 vs.1.1.1.1.0 vs.1.1.1.1.1.1.0)) statement_of tokens.now result }
 {
     let (name, rest) = name(source, tokens)?;
     let rest = expect(source, rest, Kind::Sign(sign::BECOMES))?;
@@ -284,7 +289,8 @@ fn forall<'t>(
     at: Place,
 ) -> Result<(SynStmt, &'t [Token]), Halt>
     requires { Ready source.now tokens.now }
-    ensures { Reads source.now (AName ∷ AToken ABecomes ∷ AnExpression depth ∷ AToken ATo ∷ AnExpression depth ∷ AToken ADo ∷ AStatement depth ∷ []) (λ vs. Does at (Forall vs.0 vs.1.1.0 vs.1.1.1.1.0 vs.1.1.1.1.1.1.0)) statement_of tokens.now result }
+    ensures { Reads source.now (AName ∷ AToken ABecomes ∷ AnExpression depth ∷ AToken ATo ∷ AnExpression depth ∷ AToken ADo
+        ∷ AStatement depth ∷ []) (λ vs. Does at (Forall vs.0 vs.1.1.0 vs.1.1.1.1.0 vs.1.1.1.1.1.1.0)) statement_of tokens.now result }
 {
     let (name, rest) = name(source, tokens)?;
     let rest = expect(source, rest, Kind::Sign(sign::BECOMES))?;
@@ -308,7 +314,8 @@ fn case_choice<'t>(
     at: Place,
 ) -> Result<(SynStmt, &'t [Token]), Halt>
     requires { Ready source.now tokens.now }
-    ensures { Reads source.now (AnExpression depth ∷ AToken AnOf ∷ AConstant ∷ MoreLabels ∷ AStatement depth ∷ MoreArms depth ∷ []) (λ vs. Does at (Case vs.0 (Or (On (vs.1.1.0 ∷ vs.1.1.1.0) vs.1.1.1.1.0) vs.1.1.1.1.1.0))) statement_of tokens.now result }
+    ensures { Reads source.now (AnExpression depth ∷ AToken AnOf ∷ AConstant ∷ MoreLabels ∷ AStatement depth ∷ MoreArms depth ∷ [])
+        (λ vs. Does at (Case vs.0 (Or (On (vs.1.1.0 ∷ vs.1.1.1.0) vs.1.1.1.1.0) vs.1.1.1.1.1.0))) statement_of tokens.now result }
 {
     let (test, rest) = expression(source, tokens, depth)?;
     let rest = expect(source, rest, Kind::Word(word::OF))?;
@@ -324,7 +331,8 @@ fn arms<'t>(
     depth: u32,
 ) -> Result<(List<SynArm>, &'t [Token]), Halt>
     requires { Ready source.now tokens.now }
-    ensures { Reads source.now (AConstant ∷ MoreLabels ∷ AStatement depth ∷ MoreArms depth ∷ []) (λ vs. Or (On (vs.0 ∷ vs.1.0) vs.1.1.0) vs.1.1.1.0) arms_of tokens.now result }
+    ensures { Reads source.now (AConstant ∷ MoreLabels ∷ AStatement depth ∷ MoreArms depth ∷ [])
+        (λ vs. Or (On (vs.0 ∷ vs.1.0) vs.1.1.0) vs.1.1.1.0) arms_of tokens.now result }
 {
     let mut all = List::new(source.alloc);
     let (first, mut rest) = arm(source, tokens, depth)?;
@@ -378,7 +386,8 @@ fn parallel<'t>(
     at: Place,
 ) -> Result<(SynStmt, &'t [Token]), Halt>
     requires { Ready source.now tokens.now }
-    ensures { Reads source.now (AStatement depth ∷ MoreStatements depth ∷ MoreBranches depth ∷ []) (λ vs. Does at (Parallel (Beside (AndThen vs.0 vs.1.0) vs.1.1.0))) statement_of tokens.now result }
+    ensures { Reads source.now (AStatement depth ∷ MoreStatements depth ∷ MoreBranches depth ∷ [])
+        (λ vs. Does at (Parallel (Beside (AndThen vs.0 vs.1.0) vs.1.1.0))) statement_of tokens.now result }
 {
     let (all, rest) = branches(source, tokens, depth)?;
     Ok((parallel_statement(at, all), rest))
@@ -392,7 +401,8 @@ fn branches<'t>(
     depth: u32,
 ) -> Result<(List<SynBranch>, &'t [Token]), Halt>
     requires { Ready source.now tokens.now }
-    ensures { Reads source.now (AStatement depth ∷ MoreStatements depth ∷ MoreBranches depth ∷ []) (λ vs. Beside (AndThen vs.0 vs.1.0) vs.1.1.0) branches_of tokens.now result }
+    ensures { Reads source.now (AStatement depth ∷ MoreStatements depth ∷ MoreBranches depth ∷ [])
+        (λ vs. Beside (AndThen vs.0 vs.1.0) vs.1.1.0) branches_of tokens.now result }
 {
     let mut all = List::new(source.alloc);
     let (first, mut rest) = statements(source, tokens, depth)?;

@@ -17,7 +17,8 @@ use sp_tree::{Kind, Name, SynGroup, SynKind, Token, sign, word};
 /// Names and their type.
 pub fn group<'t>(source: &Source, tokens: &'t [Token]) -> Result<(SynGroup, &'t [Token]), Halt>
     requires { Ready source.now tokens.now }
-    ensures { Reads source.now (AName ∷ MoreNames ∷ AToken AColon ∷ AName ∷ []) (λ vs. record { names = vs.0 ∷ vs.1.0; kind = vs.1.1.1.0 }) (λ g. g) tokens.now result }
+    ensures { Reads source.now (AName ∷ MoreNames ∷ AToken AColon ∷ AName ∷ [])
+        (λ vs. record { names = vs.0 ∷ vs.1.0; kind = vs.1.1.1.0 }) (λ g. g) tokens.now result }
 {
     let (all, rest) = names(source, tokens)?;
     let rest = expect(source, rest, Kind::Sign(sign::COLON))?;
@@ -28,7 +29,8 @@ pub fn group<'t>(source: &Source, tokens: &'t [Token]) -> Result<(SynGroup, &'t 
 /// The fields of a record, behind `record` and up to the `end`.
 fn fields<'t>(source: &Source, tokens: &'t [Token]) -> Result<(List<SynGroup>, &'t [Token]), Halt>
     requires { Ready source.now tokens.now }
-    ensures { Reads source.now (AName ∷ MoreNames ∷ AToken AColon ∷ AName ∷ MoreFields ∷ []) (λ vs. record { names = vs.0 ∷ vs.1.0; kind = vs.1.1.1.0 } ∷ vs.1.1.1.1.0) (λ gs. gs) tokens.now result }
+    ensures { Reads source.now (AName ∷ MoreNames ∷ AToken AColon ∷ AName ∷ MoreFields ∷ [])
+        (λ vs. record { names = vs.0 ∷ vs.1.0; kind = vs.1.1.1.0 } ∷ vs.1.1.1.1.0) (λ gs. gs) tokens.now result }
 {
     let (first, mut rest) = group(source, tokens)?;
     let mut all = List::new(source.alloc);
@@ -58,7 +60,8 @@ pub fn listed<'t>(source: &Source, tokens: &'t [Token]) -> Result<(List<Name>, &
 /// The index and the elements of an array, behind `array`.
 fn array<'t>(source: &Source, tokens: &'t [Token]) -> Result<(SynKind, &'t [Token]), Halt>
     requires { Ready source.now tokens.now }
-    ensures { Reads source.now (AToken AnOpenIndex ∷ AConstant ∷ AToken ARange ∷ AConstant ∷ AToken ACloseIndex ∷ AToken AnOf ∷ AName ∷ []) (λ vs. AnArray vs.1.0 vs.1.1.1.0 vs.1.1.1.1.1.1.0) (λ k. k) tokens.now result }
+    ensures { Reads source.now (AToken AnOpenIndex ∷ AConstant ∷ AToken ARange ∷ AConstant ∷ AToken ACloseIndex ∷ AToken AnOf
+        ∷ AName ∷ []) (λ vs. AnArray vs.1.0 vs.1.1.1.0 vs.1.1.1.1.1.1.0) (λ k. k) tokens.now result }
 {
     let rest = expect(source, tokens, Kind::Sign(sign::OPEN_INDEX))?;
     let (low, rest) = constant(source, rest)?;

@@ -43,7 +43,8 @@ pub(crate) fn put<K: Kept>(
     requires serves { K.can_serve desk.old.object worker ask }
     requires other { K.final_ask ask ≡ false }
     requires reserve { length desk.old.notes.items + desk.old.reserved ≤ vec_capacity desk.old.notes }
-    ensures ok { IfOk result (λ s. K.steps desk.old.object worker ask desk.new.object s.got s.note × (desk.new.notes.items ≡ desk.old.notes.items ++ noted s.note)) }
+    ensures ok { IfOk result (λ s. K.steps desk.old.object worker ask desk.new.object s.got s.note
+        × (desk.new.notes.items ≡ desk.old.notes.items ++ noted s.note)) }
     ensures err { IfErr result (λ g. K.refused ask g × (desk.new.object ≡ desk.old.object) × (desk.new.notes.items ≡ desk.old.notes.items)) }
     ensures reserve { (desk.new.reserved ≡ desk.old.reserved) × (length desk.new.notes.items + desk.new.reserved ≤ vec_capacity desk.new.notes) }
 {

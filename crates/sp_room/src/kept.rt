@@ -77,5 +77,7 @@ pub trait Kept {
     ghost named: { (x : Self) (w : ℕ) (a : Self.Ask) (y : Self) (g : Self.Got) (n : Self.Note) → steps x w a y g (Some n) → author n ≡ w };
 
     // What may be asked after the history seen may be asked, and served, after each longer legal one with the same notes of that worker.
-    ghost lasting: { (x : Self) (w : ℕ) (seen own : List Self.Note) (a : Self.Ask) (log : List Self.Note) (y : Self) → opens x → may_ask x w seen own a → StartsWith log seen → notes_by author w log ≡ own → Runs steps x log y → length log < 18446744073709551615 → may_ask x w log own a × can_serve y w a };
+    ghost lasting: { (x : Self) (w : ℕ) (seen own : List Self.Note) (a : Self.Ask) (log : List Self.Note) (y : Self) → opens x
+        → may_ask x w seen own a → StartsWith log seen → notes_by author w log ≡ own → Runs steps x log y
+        → length log < 18446744073709551615 → may_ask x w log own a × can_serve y w a };
 }

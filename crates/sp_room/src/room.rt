@@ -126,7 +126,8 @@ impl<K: Kept> RoomSeat<K> {
         ensures turns { turns_of self.new ≡ turns_of self.old + 1 }
         ensures seen { StartsWith (seen_by self.new) (seen_by self.old) }
         ensures own { notes_by K.author (number_of self.new) (seen_by self.new) ≡ own_of self.new }
-        ensures call { Called K.steps (opening_of room.now) (seat_view self.old) ask result (seat_view self.new) ⊎ ((K.final_ask ask ≡ false) × Declined K.steps K.refused (opening_of room.now) (seat_view self.old) ask result (seat_view self.new)) }
+        ensures call { Called K.steps (opening_of room.now) (seat_view self.old) ask result (seat_view self.new)
+            ⊎ ((K.final_ask ask ≡ false) × Declined K.steps K.refused (opening_of room.now) (seat_view self.old) ask result (seat_view self.new)) }
         ensures reserve { K.final_ask ask ≡ false → claims_of_seat self.new ≡ claims_of_seat self.old }
     {
         if K::last(&ask) {

@@ -21,7 +21,9 @@ pub(crate) fn deal<K: Kept>(
     requires first { (first.table_id ≡ room.now.table.shared.table_id) × (first.me ≡ (newborn room.now.table.shared.key.value 0 1 64, [])) }
     requires row { (row.items ≡ []) × (0 < seats) × (seats ≤ 64) × (seats ≤ vec_capacity row) }
     ensures count { length result.items ≡ seats }
-    ensures each { (k : ℕ) (t : _) → slice_get result.items k ≡ Some t → (seat_table t ≡ room.now.table.shared.table_id) × (seat_view t ≡ newborn room.now.table.shared.key.value k (seat_view t).dealt (seat_view t).claims) × (0 < (seat_view t).claims) × (k + 1 ≡ seats → (seat_view t).dealt ≡ seats) }
+    ensures each { (k : ℕ) (t : _) → slice_get result.items k ≡ Some t → (seat_table t ≡ room.now.table.shared.table_id)
+        × (seat_view t ≡ newborn room.now.table.shared.key.value k (seat_view t).dealt (seat_view t).claims)
+        × (0 < (seat_view t).claims) × (k + 1 ≡ seats → (seat_view t).dealt ≡ seats) }
 {
     let mut last = first;
     for number in 1..seats {

@@ -28,7 +28,8 @@ pub(crate) fn take_turn<K: Kept, R: Wait>(
     requires room { seat.old.table_id ≡ room.now.table.shared.table_id }
     requires idle { IsIdle seat.old.me × (number ≡ seat.old.me.0.number) }
     ensures same { (seat.new.table_id ≡ seat.old.table_id) × (seat.new.id ≡ seat.old.id) }
-    ensures won { (seat.new.me ≡ (holder seat.old.me.0 result.value.notes.items result.value.reserved, (0, None) ∷ [])) × Holds K.opens K.steps K.author seat.old.me.0 result }
+    ensures won { (seat.new.me ≡ (holder seat.old.me.0 result.value.notes.items result.value.reserved, (0, None) ∷ []))
+        × Holds K.opens K.steps K.author seat.old.me.0 result }
 {
     let shared = &room.table.shared;
     let mine = number as u64 + 1;
@@ -53,7 +54,9 @@ pub(crate) fn give_back<K: Kept>(
 ) -> u64
     requires room { seat.old.table_id ≡ room.now.table.shared.table_id }
     requires holds { (seat.old.me ≡ (seat.old.me.0, (0, None) ∷ [])) × (seat.old.me.0.holding ≡ true) × (seat.old.me.0.spent ≡ false) }
-    requires desk { (desk.value.notes.items ≡ seat.old.me.0.seen) × Runs K.steps room.now.table.shared.key.value seat.old.me.0.seen desk.value.object × (desk.value.reserved ≡ seat.old.me.0.reserve) × (length seat.old.me.0.seen + desk.value.reserved ≤ vec_capacity desk.value.notes) }
+    requires desk { (desk.value.notes.items ≡ seat.old.me.0.seen)
+        × Runs K.steps room.now.table.shared.key.value seat.old.me.0.seen desk.value.object
+        × (desk.value.reserved ≡ seat.old.me.0.reserve) × (length seat.old.me.0.seen + desk.value.reserved ≤ vec_capacity desk.value.notes) }
     ensures same { (seat.new.table_id ≡ seat.old.table_id) × (seat.new.id ≡ seat.old.id) }
     ensures free { seat.new.me ≡ (returned seat.old.me.0, []) }
     ensures count { result ≡ length seat.new.me.0.seen }
@@ -77,7 +80,9 @@ pub(crate) fn give_on<K: Kept>(
     requires room { seat.old.table_id ≡ room.now.table.shared.table_id }
     requires holds { (seat.old.me ≡ (seat.old.me.0, (0, None) ∷ [])) × (seat.old.me.0.holding ≡ true) × (seat.old.me.0.spent ≡ false) }
     requires note { K.author note ≡ seat.old.me.0.number }
-    requires desk { (desk.value.notes.items ≡ seat.old.me.0.seen ++ note ∷ []) × Runs K.steps room.now.table.shared.key.value (seat.old.me.0.seen ++ note ∷ []) desk.value.object × (desk.value.reserved ≡ seat.old.me.0.reserve) × (length desk.value.notes.items + desk.value.reserved ≤ vec_capacity desk.value.notes) }
+    requires desk { (desk.value.notes.items ≡ seat.old.me.0.seen ++ note ∷ [])
+        × Runs K.steps room.now.table.shared.key.value (seat.old.me.0.seen ++ note ∷ []) desk.value.object
+        × (desk.value.reserved ≡ seat.old.me.0.reserve) × (length desk.value.notes.items + desk.value.reserved ≤ vec_capacity desk.value.notes) }
     ensures same { (seat.new.table_id ≡ seat.old.table_id) × (seat.new.id ≡ seat.old.id) }
     ensures free { seat.new.me ≡ (returned (raised seat.old.me.0 (note ∷ [])), []) }
     ensures count { result ≡ length seat.new.me.0.seen }
@@ -104,7 +109,9 @@ pub(crate) fn give_last<K: Kept>(
     requires holds { (seat.old.me ≡ (seat.old.me.0, (0, None) ∷ [])) × (seat.old.me.0.holding ≡ true) × (seat.old.me.0.spent ≡ false) }
     requires claim { 0 < seat.old.me.0.claims }
     requires note { K.author note ≡ seat.old.me.0.number }
-    requires desk { (desk.value.notes.items ≡ seat.old.me.0.seen ++ note ∷ []) × Runs K.steps room.now.table.shared.key.value (seat.old.me.0.seen ++ note ∷ []) desk.value.object × (desk.value.reserved ≡ seat.old.me.0.reserve - 1) × (length desk.value.notes.items + desk.value.reserved ≤ vec_capacity desk.value.notes) }
+    requires desk { (desk.value.notes.items ≡ seat.old.me.0.seen ++ note ∷ [])
+        × Runs K.steps room.now.table.shared.key.value (seat.old.me.0.seen ++ note ∷ []) desk.value.object
+        × (desk.value.reserved ≡ seat.old.me.0.reserve - 1) × (length desk.value.notes.items + desk.value.reserved ≤ vec_capacity desk.value.notes) }
     ensures same { (seat.new.table_id ≡ seat.old.table_id) × (seat.new.id ≡ seat.old.id) }
     ensures free { seat.new.me ≡ (returned (raised_last seat.old.me.0 (note ∷ [])), []) }
     ensures count { result ≡ length seat.new.me.0.seen }

@@ -44,7 +44,8 @@ pub fn assigned_to<'a>(
     v: &Value,
     todo: &mut Vec<Item<'a>>,
 ) -> Done<Deed<'a>>
-    ensures { Does run.now who.now (plain_deed (items_of todo.new.items)) machine.old result machine.new (assigned_to (plain_address at.now) (plain_value v.now) (items_of todo.old.items)) }
+    ensures { Does run.now who.now (plain_deed (items_of todo.new.items)) machine.old result machine.new
+        (assigned_to (plain_address at.now) (plain_value v.now) (items_of todo.old.items)) }
 {
     take!(assign(run, who, machine, at, v));
     Ok(Ok(Deed::Went))
@@ -78,7 +79,8 @@ pub fn either<'a>(
     b: &'a Stmt,
     todo: &mut Vec<Item<'a>>,
 ) -> Done<Deed<'a>>
-    ensures { Does run.now who.now (plain_deed (items_of todo.new.items)) machine.now result machine.now (either n (stmt_of a.now) (stmt_of b.now) (items_of todo.old.items)) }
+    ensures { Does run.now who.now (plain_deed (items_of todo.new.items)) machine.now result machine.now
+        (either n (stmt_of a.now) (stmt_of b.now) (items_of todo.old.items)) }
 {
     if n <= 0 {
         push(b, todo)?;
@@ -107,7 +109,8 @@ pub fn ranged<'a>(
     body: &'a Stmt,
     todo: &mut Vec<Item<'a>>,
 ) -> Done<Deed<'a>>
-    ensures { Does run.now who.now (plain_deed (items_of todo.new.items)) machine.now result machine.now (ranged variable low high down (stmt_of body.now) (items_of todo.old.items)) }
+    ensures { Does run.now who.now (plain_deed (items_of todo.new.items)) machine.now result machine.now
+        (ranged variable low high down (stmt_of body.now) (items_of todo.old.items)) }
 {
     if !is_range(down, low, high) {
         return Ok(Ok(Deed::Went));
@@ -132,7 +135,8 @@ pub fn chosen<'a>(
     arms: &'a [Arm],
     todo: &mut Vec<Item<'a>>,
 ) -> Done<Deed<'a>>
-    ensures { Does run.now who.now (plain_deed (items_of todo.new.items)) machine.now result machine.now (chosen (setting_of run.now) (arm_for n (arms_of (map arm_of arms.now))) (items_of todo.old.items)) }
+    ensures { Does run.now who.now (plain_deed (items_of todo.new.items)) machine.now result machine.now
+        (chosen (setting_of run.now) (arm_for n (arms_of (map arm_of arms.now))) (items_of todo.old.items)) }
 {
     match arm_for(n, arms) {
         Some(s) => {
@@ -153,7 +157,8 @@ pub fn tested<'a>(
     e: &'a Expr,
     todo: &mut Vec<Item<'a>>,
 ) -> Done<Deed<'a>>
-    ensures { Does run.now who.now (plain_deed (items_of todo.new.items)) machine.now result machine.now (tested n (stmt_of s.now) (expr_of e.now) (items_of todo.old.items)) }
+    ensures { Does run.now who.now (plain_deed (items_of todo.new.items)) machine.now result machine.now
+        (tested n (stmt_of s.now) (expr_of e.now) (items_of todo.old.items)) }
 {
     if n <= 0 {
         push_item(Item::Repeat(s, e), todo)?;
@@ -186,7 +191,8 @@ pub fn opened<'a>(
     at: &Address,
     todo: &mut Vec<Item<'a>>,
 ) -> Done<Deed<'a>>
-    ensures { Does run.now who.now (plain_deed (items_of todo.new.items)) machine.old result machine.new (opened (plain_address at.now) (items_of todo.old.items)) }
+    ensures { Does run.now who.now (plain_deed (items_of todo.new.items)) machine.old result machine.new
+        (opened (plain_address at.now) (items_of todo.old.items)) }
 {
     let c = new_channel(run, who)?;
     take!(assign(run, who, machine, at, &c));
@@ -213,7 +219,8 @@ pub fn called<'a>(
     given: &[Given],
     todo: &mut Vec<Item<'a>>,
 ) -> Done<Deed<'a>>
-    ensures { Does run.now who.now (plain_deed (items_of todo.new.items)) machine.old result machine.new (called (setting_of run.now) f (given_of given.now) (items_of todo.old.items)) }
+    ensures { Does run.now who.now (plain_deed (items_of todo.new.items)) machine.old result machine.new
+        (called (setting_of run.now) f (given_of given.now) (items_of todo.old.items)) }
 {
     let block = take!(enter(run, who, machine, f, given));
     push_both(&block.body, Item::Leave, todo)?;
@@ -230,7 +237,8 @@ pub fn looped<'a>(
     s: &'a Stmt,
     todo: &mut Vec<Item<'a>>,
 ) -> Done<Deed<'a>>
-    ensures { Does run.now who.now (plain_deed (items_of todo.new.items)) machine.old result machine.new (looped (setting_of run.now) n (expr_of e.now) (stmt_of s.now) (items_of todo.old.items)) }
+    ensures { Does run.now who.now (plain_deed (items_of todo.new.items)) machine.old result machine.new
+        (looped (setting_of run.now) n (expr_of e.now) (stmt_of s.now) (items_of todo.old.items)) }
 {
     if n <= 0 {
         return Ok(Ok(Deed::Went));
@@ -249,7 +257,8 @@ pub fn repeated<'a>(
     e: &'a Expr,
     todo: &mut Vec<Item<'a>>,
 ) -> Done<Deed<'a>>
-    ensures { Does run.now who.now (plain_deed (items_of todo.new.items)) machine.old result machine.new (repeated (setting_of run.now) (stmt_of s.now) (expr_of e.now) (items_of todo.old.items)) }
+    ensures { Does run.now who.now (plain_deed (items_of todo.new.items)) machine.old result machine.new
+        (repeated (setting_of run.now) (stmt_of s.now) (expr_of e.now) (items_of todo.old.items)) }
 {
     take!(tick(run, who, machine));
     push_both(s, Item::Test(s, e), todo)?;
@@ -279,7 +288,8 @@ fn turn_after<'a>(
     body: &'a Stmt,
     todo: &mut Vec<Item<'a>>,
 ) -> Done<Deed<'a>>
-    ensures { Does run.now who.now (plain_deed (items_of todo.new.items)) machine.old result machine.new (turn_of (setting_of run.now) variable (next_value down n) limit down (stmt_of body.now) (items_of todo.old.items)) }
+    ensures { Does run.now who.now (plain_deed (items_of todo.new.items)) machine.old result machine.new
+        (turn_of (setting_of run.now) variable (next_value down n) limit down (stmt_of body.now) (items_of todo.old.items)) }
 {
     let n = next_value(down, n)?;
     let d = take!(turn_of(run, who, machine, variable, n, limit, down, body, todo));
@@ -297,7 +307,8 @@ pub fn next_turn<'a>(
     body: &'a Stmt,
     todo: &mut Vec<Item<'a>>,
 ) -> Done<Deed<'a>>
-    ensures { Does run.now who.now (plain_deed (items_of todo.new.items)) machine.old result machine.new (next_turn (setting_of run.now) variable limit down (stmt_of body.now) (items_of todo.old.items)) }
+    ensures { Does run.now who.now (plain_deed (items_of todo.new.items)) machine.old result machine.new
+        (next_turn (setting_of run.now) variable limit down (stmt_of body.now) (items_of todo.old.items)) }
 {
     let q = take!(place_of(run, who, machine, variable));
     let v = take!(read_at(run, who, machine, &q));
@@ -313,7 +324,8 @@ pub fn returned<'a>(
     machine: &mut Machine,
     todo: &mut Vec<Item<'a>>,
 ) -> Done<Deed<'a>>
-    ensures { Does run.now who.now (plain_deed (items_of todo.new.items)) machine.old result machine.new (returned (setting_of run.now) (items_of todo.old.items)) }
+    ensures { Does run.now who.now (plain_deed (items_of todo.new.items)) machine.old result machine.new
+        (returned (setting_of run.now) (items_of todo.old.items)) }
 {
     take!(leave(run, who, machine));
     Ok(Ok(Deed::Went))
@@ -327,7 +339,8 @@ pub fn read_value<'a>(
     at: &Address,
     todo: &mut Vec<Item<'a>>,
 ) -> Done<Deed<'a>>
-    ensures { Does run.now who.now (plain_deed (items_of todo.new.items)) machine.old result machine.new (read_value (setting_of run.now) (plain_address at.now) (items_of todo.old.items)) }
+    ensures { Does run.now who.now (plain_deed (items_of todo.new.items)) machine.old result machine.new
+        (read_value (setting_of run.now) (plain_address at.now) (items_of todo.old.items)) }
 {
     let kind = take!(kind_at(run, who, machine, at.kind));
     let left = take!(left_of(run, who, machine));
@@ -345,7 +358,8 @@ pub fn read_line<'a>(
     machine: &mut Machine,
     todo: &mut Vec<Item<'a>>,
 ) -> Done<Deed<'a>>
-    ensures { Does run.now who.now (plain_deed (items_of todo.new.items)) machine.old result machine.new (read_line (setting_of run.now) (items_of todo.old.items)) }
+    ensures { Does run.now who.now (plain_deed (items_of todo.new.items)) machine.old result machine.new
+        (read_line (setting_of run.now) (items_of todo.old.items)) }
 {
     let left = take!(left_of(run, who, machine));
     take!(advance(run, who, machine, line_length(left)));
@@ -361,7 +375,8 @@ fn write_behind<'a>(
     text: &[u8],
     todo: &mut Vec<Item<'a>>,
 ) -> Done<Deed<'a>>
-    ensures { Does run.now who.now (plain_deed (items_of todo.new.items)) machine.old result machine.new (write_bytes (setting_of run.now) (replicate blanks 32 ++ text.now) (items_of todo.old.items)) }
+    ensures { Does run.now who.now (plain_deed (items_of todo.new.items)) machine.old result machine.new
+        (write_bytes (setting_of run.now) (replicate blanks 32 ++ text.now) (items_of todo.old.items)) }
 {
     take!(write(run, who, machine, blanks, text));
     Ok(Ok(Deed::Went))
@@ -375,7 +390,8 @@ pub fn write_bytes<'a>(
     text: &[u8],
     todo: &mut Vec<Item<'a>>,
 ) -> Done<Deed<'a>>
-    ensures { Does run.now who.now (plain_deed (items_of todo.new.items)) machine.old result machine.new (write_bytes (setting_of run.now) text.now (items_of todo.old.items)) }
+    ensures { Does run.now who.now (plain_deed (items_of todo.new.items)) machine.old result machine.new
+        (write_bytes (setting_of run.now) text.now (items_of todo.old.items)) }
 {
     write_behind(run, who, machine, 0, text, todo)
 }
@@ -390,7 +406,8 @@ pub fn write_text<'a>(
     width: Option<i64>,
     todo: &mut Vec<Item<'a>>,
 ) -> Done<Deed<'a>>
-    ensures { Does run.now who.now (plain_deed (items_of todo.new.items)) machine.old result machine.new (write_text (setting_of run.now) cut text.now width (items_of todo.old.items)) }
+    ensures { Does run.now who.now (plain_deed (items_of todo.new.items)) machine.old result machine.new
+        (write_text (setting_of run.now) cut text.now width (items_of todo.old.items)) }
 {
     match width {
         None => write_bytes(run, who, machine, text, todo),
@@ -415,7 +432,8 @@ pub fn write_shown<'a>(
     width: Option<i64>,
     todo: &mut Vec<Item<'a>>,
 ) -> Done<Deed<'a>>
-    ensures { Does run.now who.now (plain_deed (items_of todo.new.items)) machine.old result machine.new (write_shown (setting_of run.now) kind n width (items_of todo.old.items)) }
+    ensures { Does run.now who.now (plain_deed (items_of todo.new.items)) machine.old result machine.new
+        (write_shown (setting_of run.now) kind n width (items_of todo.old.items)) }
 {
     let kind = take!(kind_at(run, who, machine, kind));
     let (cut, text) = shown(run.alloc, kind, n)?;

@@ -47,7 +47,8 @@ pub fn left_after<'a>(
     todo: &Vec<Item<'a>>,
     deed: &Deed<'a>,
 ) -> Done<bool>
-    ensures { Does run.now who.now (left_if (items_of todo.now.items)) machine.now result machine.now (left_after (setting_of run.now) (plain_deed (items_of todo.now.items) deed.now)) }
+    ensures { Does run.now who.now (left_if (items_of todo.now.items)) machine.now result machine.now
+        (left_after (setting_of run.now) (plain_deed (items_of todo.now.items) deed.now)) }
 {
     match deed {
         Deed::Went => Ok(Ok(true)),

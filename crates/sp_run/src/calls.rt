@@ -137,7 +137,8 @@ fn lay_one(
     v: &Variable,
     first: Option<&Value>,
 ) -> Done<()>
-    ensures { Does run.now who.now same machine.old result machine.new (lay_one (setting_of run.now) frame (x, variable_of v.now) (option_map plain_value (option_copied first.entry))) }
+    ensures { Does run.now who.now same machine.old result machine.new
+        (lay_one (setting_of run.now) frame (x, variable_of v.now) (option_map plain_value (option_copied first.entry))) }
 {
     match first {
         None => Ok(Ok(())),

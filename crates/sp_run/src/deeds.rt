@@ -158,7 +158,8 @@ pub fn turn_of<'a>(
     body: &'a Stmt,
     todo: &mut Vec<Item<'a>>,
 ) -> Done<Deed<'a>>
-    ensures { Does run.now who.now (plain_deed (items_of todo.new.items)) machine.old result machine.new (turn_of (setting_of run.now) variable n limit down (stmt_of body.now) (items_of todo.old.items)) }
+    ensures { Does run.now who.now (plain_deed (items_of todo.new.items)) machine.old result machine.new
+        (turn_of (setting_of run.now) variable n limit down (stmt_of body.now) (items_of todo.old.items)) }
 {
     let place = take!(place_of(run, who, machine, variable));
     let at = take!(address_of(run, who, machine, place));
@@ -185,7 +186,8 @@ pub fn fork<'a>(
     births: Births<'a>,
     todo: &Vec<Item<'a>>,
 ) -> Done<Deed<'a>>
-    ensures { Does run.now who.now (plain_deed (items_of todo.now.items)) machine.now result machine.now (fork (setting_of run.now) (births_of births.entry) (items_of todo.now.items)) }
+    ensures { Does run.now who.now (plain_deed (items_of todo.now.items)) machine.now result machine.now
+        (fork (setting_of run.now) (births_of births.entry) (items_of todo.now.items)) }
 {
     if machine.own.depth < run.limits.depth as u64 {
         Ok(Ok(Deed::Forked(births)))
@@ -205,7 +207,8 @@ pub fn forall<'a>(
     body: &'a Stmt,
     todo: &Vec<Item<'a>>,
 ) -> Done<Deed<'a>>
-    ensures { Does run.now who.now (plain_deed (items_of todo.now.items)) machine.now result machine.now (forall (setting_of run.now) variable low high (stmt_of body.now) (items_of todo.now.items)) }
+    ensures { Does run.now who.now (plain_deed (items_of todo.now.items)) machine.now result machine.now
+        (forall (setting_of run.now) variable low high (stmt_of body.now) (items_of todo.now.items)) }
 {
     if high < low {
         return Ok(Ok(Deed::Went));

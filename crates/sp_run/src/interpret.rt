@@ -65,7 +65,8 @@ fn form_value(
     kind: u32,
     form: &ExprForm,
 ) -> Done<Value>
-    ensures { Does run.now who.now plain_value machine.old result machine.new (form_value (setting_of run.now) (calls_of run.now fuel) kind (form_of form.now)) }
+    ensures { Does run.now who.now plain_value machine.old result machine.new
+        (form_value (setting_of run.now) (calls_of run.now fuel) kind (form_of form.now)) }
 {
     if levels == 0 {
         return Err(Memory);
@@ -139,7 +140,8 @@ fn selected(
     ss: &[Selector],
     q: Place,
 ) -> Done<Place>
-    ensures { Does run.now who.now plain_place machine.old result machine.new (selected (setting_of run.now) (calls_of run.now fuel) (selectors (map selector_of ss.now)) (plain_place q)) }
+    ensures { Does run.now who.now plain_place machine.old result machine.new
+        (selected (setting_of run.now) (calls_of run.now fuel) (selectors (map selector_of ss.now)) (plain_place q)) }
 {
     if levels == 0 {
         return Err(Memory);
@@ -172,7 +174,8 @@ fn actuals(
     machine: &mut Machine,
     args: &[Actual],
 ) -> Done<List<Given>>
-    ensures { Does run.now who.now given_of machine.old result machine.new (given_by (setting_of run.now) (calls_of run.now fuel) (actuals (map actual_of args.now))) }
+    ensures { Does run.now who.now given_of machine.old result machine.new
+        (given_by (setting_of run.now) (calls_of run.now fuel) (actuals (map actual_of args.now))) }
 {
     if levels == 0 {
         return Err(Memory);
@@ -263,7 +266,8 @@ fn one<'a>(
     machine: &mut Machine,
     todo: &mut Vec<Item<'a>>,
 ) -> Done<bool>
-    ensures { Does run.now who.now (left_if (items_of todo.new.items)) machine.old result machine.new (one (setting_of run.now) fuel (items_of todo.old.items)) }
+    ensures { Does run.now who.now (left_if (items_of todo.new.items)) machine.old result machine.new
+        (one (setting_of run.now) fuel (items_of todo.old.items)) }
 {
     if levels == 0 {
         return Err(Memory);
@@ -352,7 +356,8 @@ pub fn act<'a>(
     item: Item<'a>,
     todo: &mut Vec<Item<'a>>,
 ) -> Done<Deed<'a>>
-    ensures { Does run.now who.now (plain_deed (items_of todo.new.items)) machine.old result machine.new (act (setting_of run.now) (calls_of run.now fuel) (item_of item.entry) (items_of todo.old.items)) }
+    ensures { Does run.now who.now (plain_deed (items_of todo.new.items)) machine.old result machine.new
+        (act (setting_of run.now) (calls_of run.now fuel) (item_of item.entry) (items_of todo.old.items)) }
 {
     if levels == 0 {
         return Err(Memory);
@@ -415,7 +420,8 @@ fn start_assign<'a>(
     e: &'a Expr,
     todo: &mut Vec<Item<'a>>,
 ) -> Done<Deed<'a>>
-    ensures { Does run.now who.now (plain_deed (items_of todo.new.items)) machine.old result machine.new (start (setting_of run.now) (calls_of run.now fuel) (Assign (var_of x.now) (expr_of e.now)) (items_of todo.old.items)) }
+    ensures { Does run.now who.now (plain_deed (items_of todo.new.items)) machine.old result machine.new
+        (start (setting_of run.now) (calls_of run.now fuel) (Assign (var_of x.now) (expr_of e.now)) (items_of todo.old.items)) }
 {
     if levels == 0 {
         return Err(Memory);
@@ -437,7 +443,8 @@ fn start_call<'a>(
     args: &'a [Actual],
     todo: &mut Vec<Item<'a>>,
 ) -> Done<Deed<'a>>
-    ensures { Does run.now who.now (plain_deed (items_of todo.new.items)) machine.old result machine.new (start (setting_of run.now) (calls_of run.now fuel) (Call f (actuals (map actual_of args.now))) (items_of todo.old.items)) }
+    ensures { Does run.now who.now (plain_deed (items_of todo.new.items)) machine.old result machine.new
+        (start (setting_of run.now) (calls_of run.now fuel) (Call f (actuals (map actual_of args.now))) (items_of todo.old.items)) }
 {
     if levels == 0 {
         return Err(Memory);
@@ -458,7 +465,8 @@ fn start_if<'a>(
     a: &'a Stmt,
     todo: &mut Vec<Item<'a>>,
 ) -> Done<Deed<'a>>
-    ensures { Does run.now who.now (plain_deed (items_of todo.new.items)) machine.old result machine.new (start (setting_of run.now) (calls_of run.now fuel) (If (expr_of e.now) (stmt_of a.now)) (items_of todo.old.items)) }
+    ensures { Does run.now who.now (plain_deed (items_of todo.new.items)) machine.old result machine.new
+        (start (setting_of run.now) (calls_of run.now fuel) (If (expr_of e.now) (stmt_of a.now)) (items_of todo.old.items)) }
 {
     if levels == 0 {
         return Err(Memory);
@@ -480,7 +488,8 @@ fn start_either<'a>(
     b: &'a Stmt,
     todo: &mut Vec<Item<'a>>,
 ) -> Done<Deed<'a>>
-    ensures { Does run.now who.now (plain_deed (items_of todo.new.items)) machine.old result machine.new (start (setting_of run.now) (calls_of run.now fuel) (IfElse (expr_of e.now) (stmt_of a.now) (stmt_of b.now)) (items_of todo.old.items)) }
+    ensures { Does run.now who.now (plain_deed (items_of todo.new.items)) machine.old result machine.new
+        (start (setting_of run.now) (calls_of run.now fuel) (IfElse (expr_of e.now) (stmt_of a.now) (stmt_of b.now)) (items_of todo.old.items)) }
 {
     if levels == 0 {
         return Err(Memory);
@@ -501,7 +510,8 @@ fn start_while<'a>(
     s: &'a Stmt,
     todo: &mut Vec<Item<'a>>,
 ) -> Done<Deed<'a>>
-    ensures { Does run.now who.now (plain_deed (items_of todo.new.items)) machine.old result machine.new (start (setting_of run.now) (calls_of run.now fuel) (While (expr_of e.now) (stmt_of s.now)) (items_of todo.old.items)) }
+    ensures { Does run.now who.now (plain_deed (items_of todo.new.items)) machine.old result machine.new
+        (start (setting_of run.now) (calls_of run.now fuel) (While (expr_of e.now) (stmt_of s.now)) (items_of todo.old.items)) }
 {
     if levels == 0 {
         return Err(Memory);
@@ -525,7 +535,9 @@ fn start_for<'a>(
     body: &'a Stmt,
     todo: &mut Vec<Item<'a>>,
 ) -> Done<Deed<'a>>
-    ensures { Does run.now who.now (plain_deed (items_of todo.new.items)) machine.old result machine.new (start (setting_of run.now) (calls_of run.now fuel) (For variable (expr_of from.now) down (expr_of to.now) (stmt_of body.now)) (items_of todo.old.items)) }
+    ensures { Does run.now who.now (plain_deed (items_of todo.new.items)) machine.old result machine.new
+        (start (setting_of run.now) (calls_of run.now fuel)
+        (For variable (expr_of from.now) down (expr_of to.now) (stmt_of body.now)) (items_of todo.old.items)) }
 {
     if levels == 0 {
         return Err(Memory);
@@ -547,7 +559,8 @@ fn start_case<'a>(
     arms: &'a [Arm],
     todo: &mut Vec<Item<'a>>,
 ) -> Done<Deed<'a>>
-    ensures { Does run.now who.now (plain_deed (items_of todo.new.items)) machine.old result machine.new (start (setting_of run.now) (calls_of run.now fuel) (Case (expr_of e.now) (arms_of (map arm_of arms.now))) (items_of todo.old.items)) }
+    ensures { Does run.now who.now (plain_deed (items_of todo.new.items)) machine.old result machine.new
+        (start (setting_of run.now) (calls_of run.now fuel) (Case (expr_of e.now) (arms_of (map arm_of arms.now))) (items_of todo.old.items)) }
 {
     if levels == 0 {
         return Err(Memory);
@@ -570,7 +583,9 @@ fn start_forall<'a>(
     body: &'a Stmt,
     todo: &mut Vec<Item<'a>>,
 ) -> Done<Deed<'a>>
-    ensures { Does run.now who.now (plain_deed (items_of todo.new.items)) machine.old result machine.new (start (setting_of run.now) (calls_of run.now fuel) (Forall index (expr_of from.now) (expr_of to.now) (stmt_of body.now)) (items_of todo.old.items)) }
+    ensures { Does run.now who.now (plain_deed (items_of todo.new.items)) machine.old result machine.new
+        (start (setting_of run.now) (calls_of run.now fuel) (Forall index (expr_of from.now) (expr_of to.now) (stmt_of body.now))
+        (items_of todo.old.items)) }
 {
     if levels == 0 {
         return Err(Memory);
@@ -591,7 +606,8 @@ fn start_assume<'a>(
     e: &'a Expr,
     todo: &mut Vec<Item<'a>>,
 ) -> Done<Deed<'a>>
-    ensures { Does run.now who.now (plain_deed (items_of todo.new.items)) machine.old result machine.new (start (setting_of run.now) (calls_of run.now fuel) (Assume (expr_of e.now)) (items_of todo.old.items)) }
+    ensures { Does run.now who.now (plain_deed (items_of todo.new.items)) machine.old result machine.new
+        (start (setting_of run.now) (calls_of run.now fuel) (Assume (expr_of e.now)) (items_of todo.old.items)) }
 {
     if levels == 0 {
         return Err(Memory);
@@ -611,7 +627,8 @@ fn start_read<'a>(
     x: &'a Var,
     todo: &mut Vec<Item<'a>>,
 ) -> Done<Deed<'a>>
-    ensures { Does run.now who.now (plain_deed (items_of todo.new.items)) machine.old result machine.new (start (setting_of run.now) (calls_of run.now fuel) (ReadValue (var_of x.now)) (items_of todo.old.items)) }
+    ensures { Does run.now who.now (plain_deed (items_of todo.new.items)) machine.old result machine.new
+        (start (setting_of run.now) (calls_of run.now fuel) (ReadValue (var_of x.now)) (items_of todo.old.items)) }
 {
     if levels == 0 {
         return Err(Memory);
@@ -632,7 +649,8 @@ fn start_write<'a>(
     w: &'a Option<Expr>,
     todo: &mut Vec<Item<'a>>,
 ) -> Done<Deed<'a>>
-    ensures { Does run.now who.now (plain_deed (items_of todo.new.items)) machine.old result machine.new (start (setting_of run.now) (calls_of run.now fuel) (WriteValue (expr_of e.now) (width_of w.now)) (items_of todo.old.items)) }
+    ensures { Does run.now who.now (plain_deed (items_of todo.new.items)) machine.old result machine.new
+        (start (setting_of run.now) (calls_of run.now fuel) (WriteValue (expr_of e.now) (width_of w.now)) (items_of todo.old.items)) }
 {
     if levels == 0 {
         return Err(Memory);
@@ -654,7 +672,8 @@ fn start_text<'a>(
     w: &'a Option<Expr>,
     todo: &mut Vec<Item<'a>>,
 ) -> Done<Deed<'a>>
-    ensures { Does run.now who.now (plain_deed (items_of todo.new.items)) machine.old result machine.new (start (setting_of run.now) (calls_of run.now fuel) (WriteText t.now (width_of w.now)) (items_of todo.old.items)) }
+    ensures { Does run.now who.now (plain_deed (items_of todo.new.items)) machine.old result machine.new
+        (start (setting_of run.now) (calls_of run.now fuel) (WriteText t.now (width_of w.now)) (items_of todo.old.items)) }
 {
     if levels == 0 {
         return Err(Memory);
@@ -674,7 +693,8 @@ fn start_open<'a>(
     x: &'a Var,
     todo: &mut Vec<Item<'a>>,
 ) -> Done<Deed<'a>>
-    ensures { Does run.now who.now (plain_deed (items_of todo.new.items)) machine.old result machine.new (start (setting_of run.now) (calls_of run.now fuel) (Open (var_of x.now)) (items_of todo.old.items)) }
+    ensures { Does run.now who.now (plain_deed (items_of todo.new.items)) machine.old result machine.new
+        (start (setting_of run.now) (calls_of run.now fuel) (Open (var_of x.now)) (items_of todo.old.items)) }
 {
     if levels == 0 {
         return Err(Memory);
@@ -695,7 +715,8 @@ fn start_send<'a>(
     e: &'a Expr,
     todo: &mut Vec<Item<'a>>,
 ) -> Done<Deed<'a>>
-    ensures { Does run.now who.now (plain_deed (items_of todo.new.items)) machine.old result machine.new (start (setting_of run.now) (calls_of run.now fuel) (Send (expr_of c.now) (expr_of e.now)) (items_of todo.old.items)) }
+    ensures { Does run.now who.now (plain_deed (items_of todo.new.items)) machine.old result machine.new
+        (start (setting_of run.now) (calls_of run.now fuel) (Send (expr_of c.now) (expr_of e.now)) (items_of todo.old.items)) }
 {
     if levels == 0 {
         return Err(Memory);
@@ -722,7 +743,8 @@ fn start_receive<'a>(
     x: &'a Var,
     todo: &mut Vec<Item<'a>>,
 ) -> Done<Deed<'a>>
-    ensures { Does run.now who.now (plain_deed (items_of todo.new.items)) machine.old result machine.new (start (setting_of run.now) (calls_of run.now fuel) (Receive (expr_of c.now) (var_of x.now)) (items_of todo.old.items)) }
+    ensures { Does run.now who.now (plain_deed (items_of todo.new.items)) machine.old result machine.new
+        (start (setting_of run.now) (calls_of run.now fuel) (Receive (expr_of c.now) (var_of x.now)) (items_of todo.old.items)) }
 {
     if levels == 0 {
         return Err(Memory);
@@ -749,7 +771,8 @@ fn start<'a>(
     s: &'a Stmt,
     todo: &mut Vec<Item<'a>>,
 ) -> Done<Deed<'a>>
-    ensures { Does run.now who.now (plain_deed (items_of todo.new.items)) machine.old result machine.new (start (setting_of run.now) (calls_of run.now fuel) (stmt_of s.now) (items_of todo.old.items)) }
+    ensures { Does run.now who.now (plain_deed (items_of todo.new.items)) machine.old result machine.new
+        (start (setting_of run.now) (calls_of run.now fuel) (stmt_of s.now) (items_of todo.old.items)) }
 {
     if levels == 0 {
         return Err(Memory);

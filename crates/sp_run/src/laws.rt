@@ -25,5 +25,6 @@ pub fn steps_agree()
 
 /// The step of a process that is running is what its own work, with the store passed along, comes to.
 pub fn steps_come_of_work()
-    ensures { (g : Setting) (p : Name) (pr : Process) (s : StateOf g) → running g s p ≡ Some pr → next g s p ≡ Some (stepped g p pr.who s (direct_deed g (enough g pr.own) pr.todo pr.who pr.own s.store)) }
+    ensures { (g : Setting) (p : Name) (pr : Process) (s : StateOf g) → running g s p ≡ Some pr → next g s p
+        ≡ Some (stepped g p pr.who s (direct_deed g (enough g pr.own) pr.todo pr.who pr.own s.store)) }
 {}

@@ -397,7 +397,9 @@ pub fn set_pending(
 /// A message is put to an address.
 #[tactic(auto, using(crate::proofs::Stores::written_append), unfolding(crate::specs::States::state_of))]
 pub fn delivers(run: &Setting, s: &mut State, a: &Address, v: &Value) -> Result<(), Memory>
-    ensures { OnOk result (Changes run.now s.old (Writes (plain_loc a.now.spot) (assigned (plain_address a.now) (store_of run.now s.old.log (plain_loc a.now.spot)) (Tree (plain_value v.now))) ∷ []) s.new) }
+    ensures { OnOk result (Changes run.now s.old
+        (Writes (plain_loc a.now.spot) (assigned (plain_address a.now) (store_of run.now s.old.log (plain_loc a.now.spot))
+        (Tree (plain_value v.now))) ∷ []) s.new) }
 {
     let held = held_at(run, s.log.items(), &a.spot)?;
     let held = with_value(run, a, held, v)?;

@@ -78,7 +78,8 @@ fn newborn<'a>(
     body: &'a Stmt,
     index: Option<(usize, i64)>,
 ) -> Result<Process<'a>, Memory>
-    ensures { IfOk result (λ c. plain_process c ≡ newborn (plain_who who.now) (plain_own own.now) i (record { todo = push (stmt_of body.now) []; index = index })) }
+    ensures { IfOk result (λ c. plain_process c
+        ≡ newborn (plain_who who.now) (plain_own own.now) i (record { todo = push (stmt_of body.now) []; index = index })) }
 {
     let name = child_of(run.alloc, who.name.items(), who.forks, i)?;
     let frames = copy_frames(run.alloc, own.frames.items())?;
@@ -128,7 +129,9 @@ fn births_of_each<'a>(
     parent: &Process<'a>,
     bodies: &'a [Stmt],
 ) -> Result<(), Memory>
-    ensures { OnOk result (Changes run.now s.old (births_in p.now fork 0 (newborns (plain_who parent.now.who) (plain_own parent.now.own) 0 (children (stmts (map stmt_of bodies.now))))) s.new) }
+    ensures { OnOk result (Changes run.now s.old
+        (births_in p.now fork 0 (newborns (plain_who parent.now.who) (plain_own parent.now.own) 0
+        (children (stmts (map stmt_of bodies.now))))) s.new) }
 {
     let mut i = 0;
     for body in bodies {
@@ -162,7 +165,9 @@ fn births_of_index<'a>(
     count: u64,
     body: &'a Stmt,
 ) -> Result<(), Memory>
-    ensures { OnOk result (Changes run.now s.old (births_in p.now fork 0 (newborns (plain_who parent.now.who) (plain_own parent.now.own) 0 (indexed_children variable (stmt_of body.now) low count))) s.new) }
+    ensures { OnOk result (Changes run.now s.old
+        (births_in p.now fork 0 (newborns (plain_who parent.now.who) (plain_own parent.now.own) 0
+        (indexed_children variable (stmt_of body.now) low count))) s.new) }
 {
     for i in 0..count {
         let value = value_at(low, i)?;
@@ -188,7 +193,8 @@ fn births<'a>(
     parent: &Process<'a>,
     births: Births<'a>,
 ) -> Result<(), Memory>
-    ensures { OnOk result (Changes run.now s.old (births_in p.now fork 0 (newborns (plain_who parent.now.who) (plain_own parent.now.own) 0 (births_of births.entry))) s.new) }
+    ensures { OnOk result (Changes run.now s.old
+        (births_in p.now fork 0 (newborns (plain_who parent.now.who) (plain_own parent.now.own) 0 (births_of births.entry))) s.new) }
 {
     match births {
         Births::Children(bodies) => births_of_each(run, s, p, fork, parent, bodies),
@@ -212,7 +218,9 @@ fn count_of<'a>(births: &Births<'a>) -> u64
 
 /// The same process with one fork more.
 fn forked<'a>(run: &Setting, parent: &Process<'a>) -> Result<Process<'a>, Memory>
-    ensures { IfOk result (λ c. plain_process c ≡ with_todo (items_of parent.now.todo.items) (record { name = parent.now.who.name; forks = parent.now.who.forks + 1; opens = parent.now.who.opens }) (plain_own parent.now.own)) }
+    ensures { IfOk result (λ c. plain_process c
+        ≡ with_todo (items_of parent.now.todo.items)
+        (record { name = parent.now.who.name; forks = parent.now.who.forks + 1; opens = parent.now.who.opens }) (plain_own parent.now.own)) }
 {
     let Process { todo, who, own } = copy_process(run.alloc, parent)?;
     let forks = sum_of(who.forks, 1)?;
@@ -235,7 +243,12 @@ fn makes_children<'a>(
     parent: &Process<'a>,
     children: Births<'a>,
 ) -> Result<(), Memory>
-    ensures { OnOk result (state_of run.now s.new ≡ result_of (state_of run.now s.old) p.now (acts (state_of run.now s.old) p.now (Forks (with_todo (items_of parent.now.todo.items) (record { name = parent.now.who.name; forks = parent.now.who.forks + 1; opens = parent.now.who.opens }) (plain_own parent.now.own)) (newborns (plain_who parent.now.who) (plain_own parent.now.own) 0 (births_of children.entry))))) }
+    ensures { OnOk result (state_of run.now s.new
+        ≡ result_of (state_of run.now s.old) p.now
+        (acts (state_of run.now s.old) p.now
+        (Forks (with_todo (items_of parent.now.todo.items)
+        (record { name = parent.now.who.name; forks = parent.now.who.forks + 1; opens = parent.now.who.opens })
+        (plain_own parent.now.own)) (newborns (plain_who parent.now.who) (plain_own parent.now.own) 0 (births_of children.entry))))) }
 {
     let count = count_of(&children);
     let fork = forks_made(s.forks.items(), p);
@@ -254,7 +267,9 @@ fn splits<'a>(
     parent: Process<'a>,
     children: Births<'a>,
 ) -> Result<(), Memory>
-    ensures { OnOk result (state_of run.now s.new ≡ stepped (setting_of run.now) p.now (plain_who parent.entry.who) (state_of run.now s.old) (Got (plain_deed (items_of parent.entry.todo.items) (Forked children.entry)) (plain_own parent.entry.own) (store_of run.now s.old.log))) }
+    ensures { OnOk result (state_of run.now s.new
+        ≡ stepped (setting_of run.now) p.now (plain_who parent.entry.who) (state_of run.now s.old)
+        (Got (plain_deed (items_of parent.entry.todo.items) (Forked children.entry)) (plain_own parent.entry.own) (store_of run.now s.old.log))) }
 {
     let count = count_of(&children);
     if let Some(f) = passed(run, &s.totals, count, 0) {
@@ -305,7 +320,11 @@ fn meeting<'a>(
     a: &Address,
     v: &Value,
 ) -> Result<(), Memory>
-    ensures { OnOk result (Changes run.now s.old (Becomes p.now (Works (plain_process next.entry)) ∷ Becomes z.now (Works (plain_process other.entry)) ∷ PendsIn (plain_channel channel) None ∷ Writes (plain_address a.now).spot (assigned (plain_address a.now) (store_of run.now s.old.log (plain_address a.now).spot) (Tree (plain_value v.now))) ∷ Adds (record { processes = 0; channels = 0; entries = 1 }) ∷ []) s.new) }
+    ensures { OnOk result (Changes run.now s.old
+        (Becomes p.now (Works (plain_process next.entry)) ∷ Becomes z.now (Works (plain_process other.entry)) ∷ PendsIn
+        (plain_channel channel) None ∷ Writes (plain_address a.now).spot
+        (assigned (plain_address a.now) (store_of run.now s.old.log (plain_address a.now).spot) (Tree (plain_value v.now))) ∷ Adds
+        (record { processes = 0; channels = 0; entries = 1 }) ∷ []) s.new) }
 {
     becomes(run, s, p, Condition::Works(next))?;
     becomes(run, s, z.items(), Condition::Works(other))?;
@@ -323,7 +342,10 @@ fn hands<'a>(
     z: &Name,
     w: Offer<'a>,
 ) -> Result<(), Memory>
-    ensures { OnOk result (state_of run.now s.new ≡ result_of (state_of run.now s.old) p.now (hands (state_of run.now s.old) p.now (plain_offer o.entry) z.now (plain_offer w.entry) (message (plain_cargo o.entry.cargo) (plain_cargo w.entry.cargo)))) }
+    ensures { OnOk result (state_of run.now s.new
+        ≡ result_of (state_of run.now s.old) p.now
+        (hands (state_of run.now s.old) p.now (plain_offer o.entry) z.now (plain_offer w.entry)
+        (message (plain_cargo o.entry.cargo) (plain_cargo w.entry.cargo)))) }
 {
     let Offer {
         channel,
@@ -357,7 +379,9 @@ fn meets<'a>(
     o: Offer<'a>,
     z: &Name,
 ) -> Result<(), Memory>
-    ensures { OnOk result (state_of run.now s.new ≡ result_of (state_of run.now s.old) p.now (meets (state_of run.now s.old) p.now (plain_offer o.entry) z.now ((state_of run.now s.old).condition z.now))) }
+    ensures { OnOk result (state_of run.now s.new
+        ≡ result_of (state_of run.now s.old) p.now
+        (meets (state_of run.now s.old) p.now (plain_offer o.entry) z.now ((state_of run.now s.old).condition z.now))) }
 {
     match offer_of(run.alloc, s.conditions.items(), z.items())? {
         Some(w) => hands(run, s, p, o, z, w),
@@ -372,7 +396,9 @@ fn offers<'a>(
     p: &[(u64, u64)],
     o: Offer<'a>,
 ) -> Result<(), Memory>
-    ensures { OnOk result (state_of run.now s.new ≡ result_of (state_of run.now s.old) p.now (outcome (most (setting_of run.now)) (state_of run.now s.old) p.now (Offering (plain_offer o.entry)))) }
+    ensures { OnOk result (state_of run.now s.new
+        ≡ result_of (state_of run.now s.old) p.now
+        (outcome (most (setting_of run.now)) (state_of run.now s.old) p.now (Offering (plain_offer o.entry)))) }
 {
     if let Some(f) = passed(run, &s.totals, 0, 0) {
         return fails(run, s, p, f);
@@ -395,7 +421,9 @@ fn moves<'a>(
     next: Process<'a>,
     log: List<Write>,
 ) -> Result<(), Memory>
-    ensures { OnOk result (state_of run.now s.new ≡ with_store (setting_of run.now) (store_of run.now log) (changed (Becomes p.now (Works (plain_process next.entry))) (state_of run.now s.old))) }
+    ensures { OnOk result (state_of run.now s.new
+        ≡ with_store (setting_of run.now) (store_of run.now log)
+        (changed (Becomes p.now (Works (plain_process next.entry))) (state_of run.now s.old))) }
 {
     becomes(run, s, p, Condition::Works(next))?;
     s.log = log;
@@ -410,7 +438,9 @@ fn opens<'a>(
     next: Process<'a>,
     log: List<Write>,
 ) -> Result<(), Memory>
-    ensures { OnOk result (state_of run.now s.new ≡ stepped (setting_of run.now) p.now (plain_who next.entry.who) (state_of run.now s.old) (Got (Opened (items_of next.entry.todo.items)) (plain_own next.entry.own) (store_of run.now log))) }
+    ensures { OnOk result (state_of run.now s.new
+        ≡ stepped (setting_of run.now) p.now (plain_who next.entry.who) (state_of run.now s.old)
+        (Got (Opened (items_of next.entry.todo.items)) (plain_own next.entry.own) (store_of run.now log))) }
 {
     if let Some(f) = passed(run, &s.totals, 0, 1) {
         return fails(run, s, p, f);
@@ -436,7 +466,9 @@ fn completes<'a>(
     log: List<Write>,
     deed: Deed<'a>,
 ) -> Result<(), Memory>
-    ensures { OnOk result (state_of run.now s.new ≡ stepped (setting_of run.now) p.now (plain_who next.entry.who) (state_of run.now s.old) (Got (plain_deed (items_of next.entry.todo.items) deed.entry) (plain_own next.entry.own) (store_of run.now log))) }
+    ensures { OnOk result (state_of run.now s.new
+        ≡ stepped (setting_of run.now) p.now (plain_who next.entry.who) (state_of run.now s.old)
+        (Got (plain_deed (items_of next.entry.todo.items) deed.entry) (plain_own next.entry.own) (store_of run.now log))) }
 {
     match deed {
         Deed::Went => moves(run, s, p, next, log),
@@ -481,7 +513,8 @@ fn deed_of<'a>(
     machine: &mut Machine,
     todo: &mut Vec<Item<'a>>,
 ) -> Done<Deed<'a>>
-    ensures { Does run.now who.now (plain_deed (items_of todo.new.items)) machine.old result machine.new (deed (setting_of run.now) fuel (items_of todo.old.items)) }
+    ensures { Does run.now who.now (plain_deed (items_of todo.new.items)) machine.old result machine.new
+        (deed (setting_of run.now) fuel (items_of todo.old.items)) }
 {
     take!(settle(run, who, machine, todo));
     let Some(first) = todo.first() else {
@@ -518,7 +551,10 @@ fn works<'a>(
     process: Process<'a>,
 ) -> Result<(), Memory>
     requires { weight ≡ weight_of (program_of run.now.checked.now) }
-    ensures { OnOk result (state_of run.now s.new ≡ stepped (setting_of run.now) p.now (plain_who process.entry.who) (state_of run.now s.old) (deed (setting_of run.now) (enough (setting_of run.now) (plain_own process.entry.own)) (items_of process.entry.todo.items) (plain_who process.entry.who) (plain_own process.entry.own) (store_of run.now s.old.log))) }
+    ensures { OnOk result (state_of run.now s.new
+        ≡ stepped (setting_of run.now) p.now (plain_who process.entry.who) (state_of run.now s.old)
+        (deed (setting_of run.now) (enough (setting_of run.now) (plain_own process.entry.own)) (items_of process.entry.todo.items)
+        (plain_who process.entry.who) (plain_own process.entry.own) (store_of run.now s.old.log))) }
 {
     let Process { mut todo, who, own } = process;
     let fuel = enough(run, weight, &own)?;

@@ -41,7 +41,8 @@ fn run_all<R: Threads + Wait + Sync, G: Gate>(
         rt,
         seats.into_vec(),
         &|seat: RoomSeat<Kernel>| -> RoomSeat<Kernel>
-            requires { IsSeatOf room seat × IsRunOf (opening_of room) code.now limits.now × Knows (seen_by seat) (own_of seat) (number_of seat) × (own_of seat ≡ []) × (0 < claims_of_seat seat) }
+            requires { IsSeatOf room seat × IsRunOf (opening_of room) code.now limits.now
+                × Knows (seen_by seat) (own_of seat) (number_of seat) × (own_of seat ≡ []) × (0 < claims_of_seat seat) }
             ensures { SamePlace seat result × Left (seen_by result) × OneByOne None (own_of result) }
         { work(rt, &room, seat, code, limits, gate) },
     );

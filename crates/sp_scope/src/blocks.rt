@@ -57,7 +57,8 @@ pub fn name_block(
     scopes: &mut Scopes,
     first: Found,
 ) -> Result<Walked<BlockParts>, Halt>
-    ensures found { Walks seen_block result (inside_named scopes.old.around scopes.old.local (block_of b).parts (block_of b).body) (block_first scopes.old.around scopes.old.local (block_of b).parts (block_of b).body first) }
+    ensures found { Walks seen_block result (inside_named scopes.old.around scopes.old.local (block_of b).parts (block_of b).body)
+        (block_first scopes.old.around scopes.old.local (block_of b).parts (block_of b).body first) }
     ensures after { OnOk result (scopes.new ≡ inside scopes.old.around (block_local scopes.old.local (block_of b).parts (block_of b).body)) }
 {
     let SynBlock { parts, body } = b;
@@ -86,7 +87,8 @@ fn name_parts(
     scopes: &mut Scopes,
     first: Found,
 ) -> Result<Walked<Named>, Halt>
-    ensures found { Walks named.program_of result (parts_named scopes.old.around scopes.old.local (parts (map part_of ps))) (parts_first scopes.old.around scopes.old.local (parts (map part_of ps)) first) }
+    ensures found { Walks named.program_of result (parts_named scopes.old.around scopes.old.local (parts (map part_of ps)))
+        (parts_first scopes.old.around scopes.old.local (parts (map part_of ps)) first) }
     ensures after { OnOk result (scopes.new ≡ inside scopes.old.around (parts_local scopes.old.local (parts (map part_of ps)))) }
 {
     let mut out = nothing(alloc);
@@ -106,7 +108,8 @@ fn name_part(
     scopes: &mut Scopes,
     first: Found,
 ) -> Result<Walked<Named>, Halt>
-    ensures found { Walks named.program_of result (part_named scopes.old.around scopes.old.local (part_of p)) (part_first scopes.old.around scopes.old.local (part_of p) first) }
+    ensures found { Walks named.program_of result (part_named scopes.old.around scopes.old.local (part_of p))
+        (part_first scopes.old.around scopes.old.local (part_of p) first) }
     ensures after { OnOk result (scopes.new ≡ inside scopes.old.around (part_local scopes.old.local (part_of p))) }
 {
     match p {
@@ -132,8 +135,11 @@ fn name_procedure(
     answer: &Option<Name>,
     first: Found,
 ) -> Result<Walked<Named>, Halt>
-    ensures found { Walks named.program_of result (part_named scopes.old.around scopes.old.local (Proc x.now fs.now answer.now (block_of b).parts (block_of b).body)) (part_first scopes.old.around scopes.old.local (Proc x.now fs.now answer.now (block_of b).parts (block_of b).body) first) }
-    ensures after { OnOk result (scopes.new ≡ inside scopes.old.around (part_local scopes.old.local (Proc x.now fs.now answer.now (block_of b).parts (block_of b).body))) }
+    ensures found { Walks named.program_of result
+        (part_named scopes.old.around scopes.old.local (Proc x.now fs.now answer.now (block_of b).parts (block_of b).body))
+        (part_first scopes.old.around scopes.old.local (Proc x.now fs.now answer.now (block_of b).parts (block_of b).body) first) }
+    ensures after { OnOk result (scopes.new
+        ≡ inside scopes.old.around (part_local scopes.old.local (Proc x.now fs.now answer.now (block_of b).parts (block_of b).body))) }
 {
     let heading = name_heading(alloc, scopes, x, fs, answer, first)?;
     name_titled(b, alloc, scopes, heading.tree, x, fs, answer, heading.first)
@@ -151,8 +157,15 @@ fn name_titled(
     answer: &Option<Name>,
     first: Found,
 ) -> Result<Walked<Named>, Halt>
-    ensures found { Walks named.program_of result (declared_by h x.now answer.now (opened_named h.block scopes.old.around (title_local scopes.old.local x.now fs.now answer.now) fs.now answer.now (block_of b).parts (block_of b).body)) (opened_first h.block scopes.old.around (title_local scopes.old.local x.now fs.now answer.now) fs.now answer.now (block_of b).parts (block_of b).body first) }
-    ensures after { OnOk result (scopes.new ≡ inside scopes.old.around (opened_local h.block (title_local scopes.old.local x.now fs.now answer.now) fs.now answer.now (block_of b).parts (block_of b).body)) }
+    ensures found { Walks named.program_of result
+        (declared_by h x.now answer.now
+        (opened_named h.block scopes.old.around (title_local scopes.old.local x.now fs.now answer.now) fs.now answer.now
+        (block_of b).parts (block_of b).body))
+        (opened_first h.block scopes.old.around (title_local scopes.old.local x.now fs.now answer.now) fs.now answer.now
+        (block_of b).parts (block_of b).body first) }
+    ensures after { OnOk result (scopes.new
+        ≡ inside scopes.old.around (opened_local h.block (title_local scopes.old.local x.now fs.now answer.now) fs.now answer.now
+        (block_of b).parts (block_of b).body)) }
 {
     declare_title(alloc, scopes, x, fs, answer)?;
     let inner = name_opened(b, alloc, scopes, h.block, fs, answer, first)?;
@@ -174,8 +187,11 @@ fn name_opened(
     answer: &Option<Name>,
     first: Found,
 ) -> Result<Walked<BlockParts>, Halt>
-    ensures found { Walks seen_block result (opened_named block scopes.old.around scopes.old.local fs.now answer.now (block_of b).parts (block_of b).body) (opened_first block scopes.old.around scopes.old.local fs.now answer.now (block_of b).parts (block_of b).body first) }
-    ensures after { OnOk result (scopes.new ≡ inside scopes.old.around (opened_local block scopes.old.local fs.now answer.now (block_of b).parts (block_of b).body)) }
+    ensures found { Walks seen_block result
+        (opened_named block scopes.old.around scopes.old.local fs.now answer.now (block_of b).parts (block_of b).body)
+        (opened_first block scopes.old.around scopes.old.local fs.now answer.now (block_of b).parts (block_of b).body first) }
+    ensures after { OnOk result (scopes.new
+        ≡ inside scopes.old.around (opened_local block scopes.old.local fs.now answer.now (block_of b).parts (block_of b).body)) }
 {
     let outer = scopes.block();
     let outer_answer = scopes.answer();
@@ -195,7 +211,9 @@ fn name_inner(
     answer: &Option<Name>,
     first: Found,
 ) -> Result<Walked<BlockParts>, Halt>
-    ensures found { Walks seen_block result (inner_named scopes.old.around scopes.old.local fs.now answer.now (block_of b).parts (block_of b).body) (inner_first scopes.old.around scopes.old.local fs.now answer.now (block_of b).parts (block_of b).body first) }
+    ensures found { Walks seen_block result
+        (inner_named scopes.old.around scopes.old.local fs.now answer.now (block_of b).parts (block_of b).body)
+        (inner_first scopes.old.around scopes.old.local fs.now answer.now (block_of b).parts (block_of b).body first) }
     ensures after { OnOk result (scopes.new ≡ inside scopes.old.around (inner_local scopes.old.local fs.now answer.now (block_of b).parts (block_of b).body)) }
 {
     let first = declare_formals(alloc, scopes, fs, first)?;

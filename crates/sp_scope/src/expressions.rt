@@ -95,7 +95,8 @@ fn name_unary(
     op: UnaryOp,
     first: Found,
 ) -> Result<Walked<NamedExprForm>, Halt>
-    ensures { Walks named.expression_form_of result (named_form scopes.now (Unary op (expression_of a))) (form_first scopes.now (Unary op (expression_of a)) first) }
+    ensures { Walks named.expression_form_of result (named_form scopes.now (Unary op (expression_of a)))
+        (form_first scopes.now (Unary op (expression_of a)) first) }
 {
     let Walked { tree, first } = name_boxed(alloc, scopes, a, first)?;
     Ok(Walked {
@@ -114,7 +115,8 @@ fn name_right(
     op: BinaryOp,
     first: Found,
 ) -> Result<Walked<NamedExprForm>, Halt>
-    ensures { Walks named.expression_form_of result (n.Binary op (named.expression_of a) (named_expression scopes.now (expression_of b))) (expression_first scopes.now (expression_of b) first) }
+    ensures { Walks named.expression_form_of result
+        (n.Binary op (named.expression_of a) (named_expression scopes.now (expression_of b))) (expression_first scopes.now (expression_of b) first) }
 {
     let Walked { tree, first } = name_boxed(alloc, scopes, b, first)?;
     Ok(Walked {
@@ -162,7 +164,10 @@ fn name_read(
     first: Found,
 ) -> Result<Walked<NamedExprForm>, Halt>
     requires found { option_copied m ≡ find scopes.now x.now.text }
-    ensures { Walks named.expression_form_of result (operand_named (find scopes.now x.now.text) x.now (named.selectors (named_selectors scopes.now (selectors (map selector_of xs))))) (selectors_first scopes.now (selectors (map selector_of xs)) first) }
+    ensures { Walks named.expression_form_of result
+        (operand_named (find scopes.now x.now.text) x.now
+        (named.selectors (named_selectors scopes.now (selectors (map selector_of xs)))))
+        (selectors_first scopes.now (selectors (map selector_of xs)) first) }
 {
     let Walked { tree, first } = name_selectors(alloc, scopes, xs, first)?;
     Ok(Walked {
@@ -221,7 +226,8 @@ fn name_function(
     f: Name,
     first: Found,
 ) -> Result<Walked<NamedExprForm>, Halt>
-    ensures { Walks named.expression_form_of result (named_form scopes.now (Apply f (arguments (map argument_of args)))) (form_first scopes.now (Apply f (arguments (map argument_of args))) first) }
+    ensures { Walks named.expression_form_of result (named_form scopes.now (Apply f (arguments (map argument_of args))))
+        (form_first scopes.now (Apply f (arguments (map argument_of args))) first) }
 {
     let m = scopes.find(&f.text);
     let broken = function_rule(f.at, count(args.items()), m);
@@ -234,7 +240,8 @@ fn name_function(
 }
 
 fn function_form(m: Option<&Meaning>, at: Place, args: List<NamedArg>) -> NamedExprForm
-    ensures { (f : Name) → f.at ≡ at → named.expression_form_of result ≡ function_named (option_copied m.entry) f (named.arguments (map named.argument_of args)) }
+    ensures { (f : Name) → f.at ≡ at → named.expression_form_of result
+        ≡ function_named (option_copied m.entry) f (named.arguments (map named.argument_of args)) }
 {
     match m {
         Some(Meaning::Function { block, .. }) => NamedExprForm::Call(*block, at, args),
@@ -253,7 +260,8 @@ pub fn name_arguments(
     rest: Passing,
     first: Found,
 ) -> Result<Walked<List<NamedArg>>, Halt>
-    ensures { Walks (map named.argument_of) result (named_arguments scopes.now (arguments (map argument_of xs))) (arguments_first scopes.now flags.now rest (arguments (map argument_of xs)) first) }
+    ensures { Walks (map named.argument_of) result (named_arguments scopes.now (arguments (map argument_of xs)))
+        (arguments_first scopes.now flags.now rest (arguments (map argument_of xs)) first) }
 {
     let mut out = Vec::new(alloc);
     let mut first = first;
@@ -302,7 +310,8 @@ fn name_width(
     p: Passing,
     first: Found,
 ) -> Result<Walked<Option<NamedExpr>>, Halt>
-    ensures { Walks (λ t. named.width (option_map named.expression_of t)) result (named_width scopes.now (width (option_map expression_of w))) (width_first scopes.now p at (width (option_map expression_of w)) first) }
+    ensures { Walks (λ t. named.width (option_map named.expression_of t)) result
+        (named_width scopes.now (width (option_map expression_of w))) (width_first scopes.now p at (width (option_map expression_of w)) first) }
 {
     match w {
         None => Ok(Walked { tree: None, first }),
@@ -344,7 +353,8 @@ fn name_passed_form(
     p: Passing,
     first: Found,
 ) -> Result<Walked<NamedExprForm>, Halt>
-    ensures { Walks named.expression_form_of result (named_form scopes.now (expression_form_of form)) (passed_first scopes.now p (At at (expression_form_of form)) first) }
+    ensures { Walks named.expression_form_of result (named_form scopes.now (expression_form_of form))
+        (passed_first scopes.now p (At at (expression_form_of form)) first) }
 {
     let bare = lesser(first, bare_rule(at, p));
     match form {
@@ -375,7 +385,8 @@ fn name_passed_variable(
     p: Passing,
     first: Found,
 ) -> Result<Walked<NamedExprForm>, Halt>
-    ensures { Walks named.expression_form_of result (named_operand scopes.now (variable_of v)) (passed_first scopes.now p (At at (Read (variable_of v))) first) }
+    ensures { Walks named.expression_form_of result (named_operand scopes.now (variable_of v))
+        (passed_first scopes.now p (At at (Read (variable_of v))) first) }
 {
     let SynVar { name, selectors } = v;
     let whole = is_whole(selectors.items());
@@ -436,7 +447,8 @@ pub fn name_selectors(
     xs: List<SynSelector>,
     first: Found,
 ) -> Result<Walked<List<NamedSelector>>, Halt>
-    ensures { Walks (map named.selector_of) result (named_selectors scopes.now (selectors (map selector_of xs))) (selectors_first scopes.now (selectors (map selector_of xs)) first) }
+    ensures { Walks (map named.selector_of) result (named_selectors scopes.now (selectors (map selector_of xs)))
+        (selectors_first scopes.now (selectors (map selector_of xs)) first) }
 {
     let mut out = Vec::new(alloc);
     let mut first = first;

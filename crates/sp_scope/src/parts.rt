@@ -30,7 +30,8 @@ use std::alloc::Global;
 /// Declares a constant in the innermost block.
 fn declare_constant(alloc: Global, scopes: &mut Scopes, x: &Name) -> Result<(), Halt>
     ensures memory { Answers result (Ok tt) }
-    ensures after { OnOk result (scopes.new ≡ inside scopes.old.around (declared scopes.old.local x.now.text sort.Constant (meaning.Constant (next_constant scopes.old.local.counts)))) }
+    ensures after { OnOk result (scopes.new
+        ≡ inside scopes.old.around (declared scopes.old.local x.now.text sort.Constant (meaning.Constant (next_constant scopes.old.local.counts)))) }
 {
     let number = next_constant(scopes.counts())?;
     scopes.declare(alloc, &x.text, Sort::Constant, Meaning::Constant(number))
@@ -67,7 +68,8 @@ pub fn name_constant(
     c: &SynConst,
     first: Found,
 ) -> Result<Walked<Named>, Halt>
-    ensures found { Walks named.program_of result (constant_part (inside scopes.old.around scopes.old.local) c.now) (part_first scopes.old.around scopes.old.local (Const x.now c.now) first) }
+    ensures found { Walks named.program_of result (constant_part (inside scopes.old.around scopes.old.local) c.now)
+        (part_first scopes.old.around scopes.old.local (Const x.now c.now) first) }
     ensures after { OnOk result (scopes.new ≡ inside scopes.old.around (part_local scopes.old.local (Const x.now c.now))) }
 {
     let first = lesser(first, check_declares(scopes, x, Sort::Constant));
@@ -137,7 +139,8 @@ pub fn name_type(
     k: &SynKind,
     first: Found,
 ) -> Result<Walked<Named>, Halt>
-    ensures found { Walks named.program_of result (kind_part (inside scopes.old.around scopes.old.local) x.now k.now) (part_first scopes.old.around scopes.old.local (Kind x.now k.now) first) }
+    ensures found { Walks named.program_of result (kind_part (inside scopes.old.around scopes.old.local) x.now k.now)
+        (part_first scopes.old.around scopes.old.local (Kind x.now k.now) first) }
     ensures after { OnOk result (scopes.new ≡ inside scopes.old.around (part_local scopes.old.local (Kind x.now k.now))) }
 {
     let t = name_definition(alloc, scopes, x, k, first)?;
@@ -156,7 +159,8 @@ fn name_definition(
     k: &SynKind,
     first: Found,
 ) -> Result<Walked<Named>, Halt>
-    ensures { Walks named.program_of result (kind_part scopes.now x.now k.now) (kind_first scopes.now x.now k.now (at_site scopes.now (Declares x.now sort.Kind) first)) }
+    ensures { Walks named.program_of result (kind_part scopes.now x.now k.now)
+        (kind_first scopes.now x.now k.now (at_site scopes.now (Declares x.now sort.Kind) first)) }
 {
     let first = lesser(first, check_declares(scopes, x, Sort::Kind));
     let first = check_kind_form(alloc, scopes, x, k, first)?;
@@ -201,7 +205,8 @@ pub fn name_variables(
     t: &Name,
     first: Found,
 ) -> Result<Walked<Named>, Halt>
-    ensures found { Walks named.program_of result (variables_part (inside scopes.old.around scopes.old.local) xs.now t.now) (part_first scopes.old.around scopes.old.local (Var xs.now t.now) first) }
+    ensures found { Walks named.program_of result (variables_part (inside scopes.old.around scopes.old.local) xs.now t.now)
+        (part_first scopes.old.around scopes.old.local (Var xs.now t.now) first) }
     ensures after { OnOk result (scopes.new ≡ inside scopes.old.around (part_local scopes.old.local (Var xs.now t.now))) }
 {
     let first = lesser(first, check_kind(scopes, t));

@@ -32,7 +32,11 @@ impl Model for Scopes {
 
     ghost Value = { Env };
 
-    ghost view = { λ it. record { local = record { here = it.here.entries; block = it.block; answer = it.answer; counts = it.counts }; around = map (λ m. m.entries) it.around.items } };
+    ghost view = { λ it. record {
+      local = record
+          { here = it.here.entries; block = it.block; answer = it.answer; counts = it.counts };
+      around = map (λ m. m.entries) it.around.items;
+    } };
 }
 
 fn look_in<'a>(b: &'a IndexMap<Text, Meaning>, name: &Text) -> Option<&'a Meaning>

@@ -70,7 +70,9 @@ fn name_assignment(
     e: SynExpr,
     first: Found,
 ) -> Result<Walked<NamedForm>, Halt>
-    ensures { Walks named.statement_form_of result (n.Assign (named_target scopes.now (variable_of v)) (named_expression scopes.now (expression_of e))) (expression_first scopes.now (expression_of e) (assigned_first scopes.now (variable_of v) first)) }
+    ensures { Walks named.statement_form_of result
+        (n.Assign (named_target scopes.now (variable_of v)) (named_expression scopes.now (expression_of e)))
+        (expression_first scopes.now (expression_of e) (assigned_first scopes.now (variable_of v) first)) }
 {
     let v = name_assigned(alloc, scopes, v, first)?;
     let e = name_expression(alloc, scopes, e, v.first)?;
@@ -103,7 +105,9 @@ fn name_call(
     args: List<SynArg>,
     first: Found,
 ) -> Result<Walked<NamedForm>, Halt>
-    ensures { Walks named.statement_form_of result (procedure_named (find scopes.now f.text) (named.arguments (named_arguments scopes.now (arguments_of args)))) (call_first scopes.now f (arguments_of args) first) }
+    ensures { Walks named.statement_form_of result
+        (procedure_named (find scopes.now f.text) (named.arguments (named_arguments scopes.now (arguments_of args))))
+        (call_first scopes.now f (arguments_of args) first) }
 {
     let m = scopes.find(&f.text);
     let broken = procedure_rule(f.at, count(args.items()), m);
@@ -123,7 +127,8 @@ pub fn name_statement(
     s: SynStmt,
     first: Found,
 ) -> Result<Walked<NamedStmt>, Halt>
-    ensures found { Walks named.statement_of result (named_statement scopes.old.around scopes.old.local (statement_of s)) (statement_first scopes.old.around scopes.old.local (statement_of s) first) }
+    ensures found { Walks named.statement_of result (named_statement scopes.old.around scopes.old.local (statement_of s))
+        (statement_first scopes.old.around scopes.old.local (statement_of s) first) }
     ensures after { OnOk result (scopes.new ≡ inside scopes.old.around (statement_local scopes.old.local (statement_of s))) }
 {
     let SynStmt { at, form } = s;
@@ -141,7 +146,8 @@ fn name_boxed_statement(
     s: Boxed<SynStmt>,
     first: Found,
 ) -> Result<Walked<Boxed<NamedStmt>>, Halt>
-    ensures found { Walks named.statement_of result (named_statement scopes.old.around scopes.old.local (statement_of s)) (statement_first scopes.old.around scopes.old.local (statement_of s) first) }
+    ensures found { Walks named.statement_of result (named_statement scopes.old.around scopes.old.local (statement_of s))
+        (statement_first scopes.old.around scopes.old.local (statement_of s) first) }
     ensures after { OnOk result (scopes.new ≡ inside scopes.old.around (statement_local scopes.old.local (statement_of s))) }
 {
     let Walked { tree, first } = name_statement(alloc, scopes, s.into_inner(), first)?;
@@ -156,7 +162,9 @@ fn name_statement_form(
     form: SynForm,
     first: Found,
 ) -> Result<Walked<NamedForm>, Halt>
-    ensures found { Walks named.statement_form_of result (named_statement_form scopes.old.around scopes.old.local (statement_form_of form)) (statement_form_first scopes.old.around scopes.old.local (statement_form_of form) first) }
+    ensures found { Walks named.statement_form_of result
+        (named_statement_form scopes.old.around scopes.old.local (statement_form_of form))
+        (statement_form_first scopes.old.around scopes.old.local (statement_form_of form) first) }
     ensures after { OnOk result (scopes.new ≡ inside scopes.old.around (form_local scopes.old.local (statement_form_of form))) }
 {
     match form {
@@ -241,7 +249,10 @@ fn name_else(
     a: Boxed<NamedStmt>,
     first: Found,
 ) -> Result<Walked<NamedForm>, Halt>
-    ensures found { Walks named.statement_form_of result (n.If (named.expression_of e) (named.statement_of a) (n.Else (named_statement scopes.old.around scopes.old.local (statement_of b)))) (statement_first scopes.old.around scopes.old.local (statement_of b) first) }
+    ensures found { Walks named.statement_form_of result
+        (n.If (named.expression_of e) (named.statement_of a)
+        (n.Else (named_statement scopes.old.around scopes.old.local (statement_of b))))
+        (statement_first scopes.old.around scopes.old.local (statement_of b) first) }
     ensures after { OnOk result (scopes.new ≡ inside scopes.old.around (statement_local scopes.old.local (statement_of b))) }
 {
     let b = name_boxed_statement(alloc, scopes, b, first)?;
@@ -271,7 +282,9 @@ fn name_repeat(
     e: SynExpr,
     first: Found,
 ) -> Result<Walked<NamedForm>, Halt>
-    ensures found { Walks named.statement_form_of result (named_statement_form scopes.old.around scopes.old.local (Repeat (statements_of ss) (expression_of e))) (statement_form_first scopes.old.around scopes.old.local (Repeat (statements_of ss) (expression_of e)) first) }
+    ensures found { Walks named.statement_form_of result
+        (named_statement_form scopes.old.around scopes.old.local (Repeat (statements_of ss) (expression_of e)))
+        (statement_form_first scopes.old.around scopes.old.local (Repeat (statements_of ss) (expression_of e)) first) }
     ensures after { OnOk result (scopes.new ≡ inside scopes.old.around (statements_local scopes.old.local (statements_of ss))) }
 {
     let ss = name_statements(alloc, scopes, ss, first)?;
@@ -293,7 +306,10 @@ fn name_for(
     to: SynExpr,
     first: Found,
 ) -> Result<Walked<NamedForm>, Halt>
-    ensures found { Walks named.statement_form_of result (named_statement_form scopes.old.around scopes.old.local (For name (expression_of from) down (expression_of to) (statement_of body))) (statement_form_first scopes.old.around scopes.old.local (For name (expression_of from) down (expression_of to) (statement_of body)) first) }
+    ensures found { Walks named.statement_form_of result
+        (named_statement_form scopes.old.around scopes.old.local
+        (For name (expression_of from) down (expression_of to) (statement_of body)))
+        (statement_form_first scopes.old.around scopes.old.local (For name (expression_of from) down (expression_of to) (statement_of body)) first) }
     ensures after { OnOk result (scopes.new ≡ inside scopes.old.around (statement_local scopes.old.local (statement_of body))) }
 {
     let m = scopes.find(&name.text);
@@ -325,8 +341,12 @@ fn name_forall(
     to: SynExpr,
     first: Found,
 ) -> Result<Walked<NamedForm>, Halt>
-    ensures found { Walks named.statement_form_of result (named_statement_form scopes.old.around scopes.old.local (Forall name (expression_of from) (expression_of to) (statement_of body))) (statement_form_first scopes.old.around scopes.old.local (Forall name (expression_of from) (expression_of to) (statement_of body)) first) }
-    ensures after { OnOk result (scopes.new ≡ inside scopes.old.around (closed scopes.old.local (statement_local (indexed scopes.old.local name) (statement_of body)))) }
+    ensures found { Walks named.statement_form_of result
+        (named_statement_form scopes.old.around scopes.old.local
+        (Forall name (expression_of from) (expression_of to) (statement_of body)))
+        (statement_form_first scopes.old.around scopes.old.local (Forall name (expression_of from) (expression_of to) (statement_of body)) first) }
+    ensures after { OnOk result (scopes.new
+        ≡ inside scopes.old.around (closed scopes.old.local (statement_local (indexed scopes.old.local name) (statement_of body)))) }
 {
     let index = next_variable(scopes.counts())?;
     let from = name_expression(alloc, scopes, from, first)?;
@@ -352,8 +372,11 @@ fn name_element(
     x: &Name,
     first: Found,
 ) -> Result<Walked<Boxed<NamedStmt>>, Halt>
-    ensures found { Walks named.statement_of result (named_statement (deeper scopes.old.around scopes.old.local) (indexed scopes.old.local x.now) (statement_of body)) (element_first scopes.old.around scopes.old.local x.now (statement_of body) first) }
-    ensures after { OnOk result (scopes.new ≡ inside scopes.old.around (closed scopes.old.local (statement_local (indexed scopes.old.local x.now) (statement_of body)))) }
+    ensures found { Walks named.statement_of result
+        (named_statement (deeper scopes.old.around scopes.old.local) (indexed scopes.old.local x.now) (statement_of body))
+        (element_first scopes.old.around scopes.old.local x.now (statement_of body) first) }
+    ensures after { OnOk result (scopes.new
+        ≡ inside scopes.old.around (closed scopes.old.local (statement_local (indexed scopes.old.local x.now) (statement_of body)))) }
 {
     let block = scopes.block();
     let answer = scopes.answer();
@@ -371,7 +394,9 @@ fn name_indexed(
     x: &Name,
     first: Found,
 ) -> Result<Walked<Boxed<NamedStmt>>, Halt>
-    ensures found { Walks named.statement_of result (named_statement scopes.old.around (index_local scopes.old.local x.now) (statement_of body)) (indexed_first scopes.old.around scopes.old.local x.now (statement_of body) first) }
+    ensures found { Walks named.statement_of result
+        (named_statement scopes.old.around (index_local scopes.old.local x.now) (statement_of body))
+        (indexed_first scopes.old.around scopes.old.local x.now (statement_of body) first) }
     ensures after { OnOk result (scopes.new ≡ inside scopes.old.around (statement_local (index_local scopes.old.local x.now) (statement_of body))) }
 {
     let first = lesser(first, check_declares(scopes, x, Sort::Variable));
@@ -386,7 +411,9 @@ fn name_statements(
     ss: List<SynStmt>,
     first: Found,
 ) -> Result<Walked<List<NamedStmt>>, Halt>
-    ensures found { Walks (map named.statement_of) result (named_statements scopes.old.around scopes.old.local (statements (map statement_of ss))) (statements_first scopes.old.around scopes.old.local (statements (map statement_of ss)) first) }
+    ensures found { Walks (map named.statement_of) result
+        (named_statements scopes.old.around scopes.old.local (statements (map statement_of ss)))
+        (statements_first scopes.old.around scopes.old.local (statements (map statement_of ss)) first) }
     ensures after { OnOk result (scopes.new ≡ inside scopes.old.around (statements_local scopes.old.local (statements (map statement_of ss)))) }
 {
     let mut out = Vec::new(alloc);
@@ -409,7 +436,8 @@ fn name_arm(
     a: SynArm,
     first: Found,
 ) -> Result<Walked<NamedArm>, Halt>
-    ensures found { Walks named.arm_of result (named_arm scopes.old.around scopes.old.local (arm_of a)) (arm_first scopes.old.around scopes.old.local (arm_of a) first) }
+    ensures found { Walks named.arm_of result (named_arm scopes.old.around scopes.old.local (arm_of a))
+        (arm_first scopes.old.around scopes.old.local (arm_of a) first) }
     ensures after { OnOk result (scopes.new ≡ inside scopes.old.around (arm_local scopes.old.local (arm_of a))) }
 {
     let SynArm { constants, body } = a;
@@ -431,7 +459,8 @@ fn name_arms(
     choices: List<SynArm>,
     first: Found,
 ) -> Result<Walked<List<NamedArm>>, Halt>
-    ensures found { Walks (map named.arm_of) result (named_arms scopes.old.around scopes.old.local (arms (map arm_of choices))) (arms_first scopes.old.around scopes.old.local (arms (map arm_of choices)) first) }
+    ensures found { Walks (map named.arm_of) result (named_arms scopes.old.around scopes.old.local (arms (map arm_of choices)))
+        (arms_first scopes.old.around scopes.old.local (arms (map arm_of choices)) first) }
     ensures after { OnOk result (scopes.new ≡ inside scopes.old.around (arms_local scopes.old.local (arms (map arm_of choices)))) }
 {
     let mut out = Vec::new(alloc);
@@ -454,7 +483,9 @@ fn name_branch(
     b: SynBranch,
     first: Found,
 ) -> Result<Walked<NamedBranch>, Halt>
-    ensures found { Walks named.branch_of result (named.statements (named_statements scopes.old.around scopes.old.local (branch_of b))) (statements_first scopes.old.around scopes.old.local (branch_of b) first) }
+    ensures found { Walks named.branch_of result
+        (named.statements (named_statements scopes.old.around scopes.old.local (branch_of b)))
+        (statements_first scopes.old.around scopes.old.local (branch_of b) first) }
     ensures after { OnOk result (scopes.new ≡ inside scopes.old.around (statements_local scopes.old.local (branch_of b))) }
 {
     let SynBranch { statements } = b;
@@ -474,7 +505,9 @@ fn name_branches(
     bs: List<SynBranch>,
     first: Found,
 ) -> Result<Walked<List<NamedBranch>>, Halt>
-    ensures found { Walks (map named.branch_of) result (named_branches scopes.old.around scopes.old.local (branches (map branch_of bs))) (branches_first scopes.old.around scopes.old.local (branches (map branch_of bs)) first) }
+    ensures found { Walks (map named.branch_of) result
+        (named_branches scopes.old.around scopes.old.local (branches (map branch_of bs)))
+        (branches_first scopes.old.around scopes.old.local (branches (map branch_of bs)) first) }
     ensures after { OnOk result (scopes.new ≡ inside scopes.old.around (branches_local scopes.old.local (branches (map branch_of bs)))) }
 {
     let mut out = Vec::new(alloc);

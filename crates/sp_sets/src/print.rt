@@ -123,7 +123,8 @@ fn put_blocks(
 ) -> Result<(), Memory>
     requires few { length variables.now ≤ 2 ^ 32 - 1 }
     requires numbered { length blocks.now ≤ 2 ^ 32 }
-    ensures { OnOk result ((t : List ℕ) × Joined (IsOfBlock variables.now sets.now (map block_of blocks.now)) (length blocks.now) t × (out.new.items ≡ out.old.items ++ t)) }
+    ensures { OnOk result ((t : List ℕ) × Joined (IsOfBlock variables.now sets.now (map block_of blocks.now)) (length blocks.now) t
+        × (out.new.items ≡ out.old.items ++ t)) }
 {
     'each: for b in 0..blocks.len() {
         put_block(alloc, out, variables, sets, blocks, b)?;

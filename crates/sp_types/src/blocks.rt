@@ -40,7 +40,8 @@ fn type_block(
     start: u32,
     first: Found,
 ) -> Result<Walked<Block>, Halt>
-    ensures tree { Walks checked.block_of result (checked_block (started t.old start) (block_of b)) (statement_first (started t.old start) (block_of b).body (answer_first (started t.old start) b.answer first)) }
+    ensures tree { Walks checked.block_of result (checked_block (started t.old start) (block_of b))
+        (statement_first (started t.old start) (block_of b).body (answer_first (started t.old start) b.answer first)) }
     ensures after { OnOk result (t.new ≡ statement_after (started t.old start) (block_of b).body) }
 {
     t.next = start;
@@ -78,7 +79,9 @@ pub fn type_blocks(
     bodies: &[(Place, u32)],
     first: Found,
 ) -> Result<Walked<List<Block>>, Halt>
-    ensures tree { Walks (map checked.block_of) result (checked_blocks t.old (starts_in bodies.now (map block_of blocks)) (map block_of blocks)) (blocks_first numbers.now cells.now variables.now 0 t.old (starts_in bodies.now (map block_of blocks)) (map block_of blocks) first) }
+    ensures tree { Walks (map checked.block_of) result
+        (checked_blocks t.old (starts_in bodies.now (map block_of blocks)) (map block_of blocks))
+        (blocks_first numbers.now cells.now variables.now 0 t.old (starts_in bodies.now (map block_of blocks)) (map block_of blocks) first) }
     ensures after { OnOk result (t.new ≡ blocks_after t.old (starts_in bodies.now (map block_of blocks)) (map block_of blocks)) }
 {
     let mut out = Vec::new(alloc);

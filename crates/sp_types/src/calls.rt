@@ -65,7 +65,8 @@ pub fn type_reads(
     xs: List<NamedArg>,
     first: Found,
 ) -> Result<Walked<List<Form>>, Halt>
-    ensures { Walks (map checked.statement_form_of) result (reads t.now (arguments (map argument_of xs))) (each_first t.now (read_first t.now) (arguments (map argument_of xs)) first) }
+    ensures { Walks (map checked.statement_form_of) result (reads t.now (arguments (map argument_of xs)))
+        (each_first t.now (read_first t.now) (arguments (map argument_of xs)) first) }
 {
     let mut out = Vec::new(alloc);
     let mut first = first;
@@ -98,7 +99,8 @@ pub fn type_opens(
     xs: List<NamedArg>,
     first: Found,
 ) -> Result<Walked<List<Form>>, Halt>
-    ensures { Walks (map checked.statement_form_of) result (opens t.now (arguments (map argument_of xs))) (each_first t.now (channel_first t.now) (arguments (map argument_of xs)) first) }
+    ensures { Walks (map checked.statement_form_of) result (opens t.now (arguments (map argument_of xs)))
+        (each_first t.now (channel_first t.now) (arguments (map argument_of xs)) first) }
 {
     let mut out = Vec::new(alloc);
     let mut first = first;
@@ -120,7 +122,8 @@ fn type_width_of(
     at: Place,
     first: Found,
 ) -> Result<Walked<Option<Expr>>, Halt>
-    ensures { Walks checked.width_of result (checked_width t.now (width (option_map expression_of w))) (width_first t.now at (width (option_map expression_of w)) first) }
+    ensures { Walks checked.width_of result (checked_width t.now (width (option_map expression_of w)))
+        (width_first t.now at (width (option_map expression_of w)) first) }
 {
     match w {
         None => Ok(Walked { tree: None, first }),
@@ -157,7 +160,9 @@ fn written_value(
     w: Option<Expr>,
     first: Found,
 ) -> Result<Walked<Form>, Halt>
-    ensures { Walks checked.statement_form_of result (c.WriteValue (checked_expression t.now (expression_of e)) (checked.width_of w)) (at_node (write_rule (place (expression_of e)) (expression_kind t.now (expression_of e))) (expression_first t.now (expression_of e) first)) }
+    ensures { Walks checked.statement_form_of result
+        (c.WriteValue (checked_expression t.now (expression_of e)) (checked.width_of w))
+        (at_node (write_rule (place (expression_of e)) (expression_kind t.now (expression_of e))) (expression_first t.now (expression_of e) first)) }
 {
     let e = write_value(alloc, t, e, first)?;
     Ok(Walked {
@@ -252,7 +257,8 @@ pub fn type_writes(
     xs: List<NamedArg>,
     first: Found,
 ) -> Result<Walked<List<Form>>, Halt>
-    ensures { Walks (map checked.statement_form_of) result (writes t.now (arguments (map argument_of xs))) (each_first t.now (write_first t.now) (arguments (map argument_of xs)) first) }
+    ensures { Walks (map checked.statement_form_of) result (writes t.now (arguments (map argument_of xs)))
+        (each_first t.now (write_first t.now) (arguments (map argument_of xs)) first) }
 {
     let mut out = Vec::new(alloc);
     let mut first = first;

@@ -29,7 +29,8 @@ pub fn type_condition(
     e: NamedExpr,
     first: Found,
 ) -> Result<Typed<Expr>, Halt>
-    ensures { Types checked.expression_of result (checked_expression t.now (expression_of e)) (expression_kind t.now (expression_of e)) (condition_first t.now (expression_of e) first) }
+    ensures { Types checked.expression_of result (checked_expression t.now (expression_of e))
+        (expression_kind t.now (expression_of e)) (condition_first t.now (expression_of e) first) }
 {
     let at = place_of(&e);
     let e = type_expression(alloc, t, e, first)?;
@@ -48,7 +49,8 @@ pub fn type_limit(
     limit: Option<u32>,
     first: Found,
 ) -> Result<Typed<Expr>, Halt>
-    ensures { Types checked.expression_of result (checked_expression t.now (expression_of e)) (expression_kind t.now (expression_of e)) (limit_first t.now limit (expression_of e) first) }
+    ensures { Types checked.expression_of result (checked_expression t.now (expression_of e))
+        (expression_kind t.now (expression_of e)) (limit_first t.now limit (expression_of e) first) }
 {
     let at = place_of(&e);
     let e = type_expression(alloc, t, e, first)?;
@@ -66,7 +68,10 @@ pub fn type_range(
     e: NamedExpr,
     first: Found,
 ) -> Result<Typed<Expr>, Halt>
-    ensures { Types checked.expression_of result (checked_expression t.now (expression_of e)) (expression_kind t.now (expression_of e)) (at_node (range_rule t.now (place (expression_of e)) (expression_kind t.now (expression_of e))) (expression_first t.now (expression_of e) first)) }
+    ensures { Types checked.expression_of result (checked_expression t.now (expression_of e))
+        (expression_kind t.now (expression_of e))
+        (at_node (range_rule t.now (place (expression_of e)) (expression_kind t.now (expression_of e)))
+        (expression_first t.now (expression_of e) first)) }
 {
     let at = place_of(&e);
     let e = type_expression(alloc, t, e, first)?;
@@ -79,7 +84,10 @@ pub fn type_range(
 
 /// The selector of a `case` statement.
 pub fn type_case(alloc: Global, t: &Tables, e: NamedExpr, first: Found) -> Result<Typed<Expr>, Halt>
-    ensures { Types checked.expression_of result (checked_expression t.now (expression_of e)) (expression_kind t.now (expression_of e)) (at_node (selector_rule t.now (place (expression_of e)) (expression_kind t.now (expression_of e))) (expression_first t.now (expression_of e) first)) }
+    ensures { Types checked.expression_of result (checked_expression t.now (expression_of e))
+        (expression_kind t.now (expression_of e))
+        (at_node (selector_rule t.now (place (expression_of e)) (expression_kind t.now (expression_of e)))
+        (expression_first t.now (expression_of e) first)) }
 {
     let at = place_of(&e);
     let e = type_expression(alloc, t, e, first)?;
@@ -98,7 +106,10 @@ pub fn type_assigned(
     v: Option<u32>,
     first: Found,
 ) -> Result<Typed<Expr>, Halt>
-    ensures { Types checked.expression_of result (checked_expression t.now (expression_of e)) (expression_kind t.now (expression_of e)) (at_node (assign_rule (place (expression_of e)) v (expression_kind t.now (expression_of e))) (expression_first t.now (expression_of e) first)) }
+    ensures { Types checked.expression_of result (checked_expression t.now (expression_of e))
+        (expression_kind t.now (expression_of e))
+        (at_node (assign_rule (place (expression_of e)) v (expression_kind t.now (expression_of e)))
+        (expression_first t.now (expression_of e) first)) }
 {
     let at = place_of(&e);
     let e = type_expression(alloc, t, e, first)?;
@@ -116,7 +127,9 @@ pub fn read_value(
     e: NamedExpr,
     first: Found,
 ) -> Result<Typed<Expr>, Halt>
-    ensures { Types checked.expression_of result (checked_expression t.now (expression_of e)) (expression_kind t.now (expression_of e)) (at_node (read_rule (place (expression_of e)) (expression_kind t.now (expression_of e))) (expression_first t.now (expression_of e) first)) }
+    ensures { Types checked.expression_of result (checked_expression t.now (expression_of e))
+        (expression_kind t.now (expression_of e))
+        (at_node (read_rule (place (expression_of e)) (expression_kind t.now (expression_of e))) (expression_first t.now (expression_of e) first)) }
 {
     let at = place_of(&e);
     let e = type_expression(alloc, t, e, first)?;
@@ -134,7 +147,9 @@ pub fn write_value(
     e: NamedExpr,
     first: Found,
 ) -> Result<Typed<Expr>, Halt>
-    ensures { Types checked.expression_of result (checked_expression t.now (expression_of e)) (expression_kind t.now (expression_of e)) (at_node (write_rule (place (expression_of e)) (expression_kind t.now (expression_of e))) (expression_first t.now (expression_of e) first)) }
+    ensures { Types checked.expression_of result (checked_expression t.now (expression_of e))
+        (expression_kind t.now (expression_of e))
+        (at_node (write_rule (place (expression_of e)) (expression_kind t.now (expression_of e))) (expression_first t.now (expression_of e) first)) }
 {
     let at = place_of(&e);
     let e = type_expression(alloc, t, e, first)?;
@@ -152,7 +167,10 @@ pub fn channel_value(
     e: NamedExpr,
     first: Found,
 ) -> Result<Typed<Expr>, Halt>
-    ensures { Types checked.expression_of result (checked_expression t.now (expression_of e)) (expression_kind t.now (expression_of e)) (at_node (channel_rule t.now (place (expression_of e)) (expression_kind t.now (expression_of e))) (expression_first t.now (expression_of e) first)) }
+    ensures { Types checked.expression_of result (checked_expression t.now (expression_of e))
+        (expression_kind t.now (expression_of e))
+        (at_node (channel_rule t.now (place (expression_of e)) (expression_kind t.now (expression_of e)))
+        (expression_first t.now (expression_of e) first)) }
 {
     let at = place_of(&e);
     let e = type_expression(alloc, t, e, first)?;
@@ -171,7 +189,10 @@ pub fn message_value(
     channel: Option<u32>,
     first: Found,
 ) -> Result<Typed<Expr>, Halt>
-    ensures { Types checked.expression_of result (checked_expression t.now (expression_of e)) (expression_kind t.now (expression_of e)) (at_node (message_rule t.now (place (expression_of e)) channel (expression_kind t.now (expression_of e))) (expression_first t.now (expression_of e) first)) }
+    ensures { Types checked.expression_of result (checked_expression t.now (expression_of e))
+        (expression_kind t.now (expression_of e))
+        (at_node (message_rule t.now (place (expression_of e)) channel (expression_kind t.now (expression_of e)))
+        (expression_first t.now (expression_of e) first)) }
 {
     let at = place_of(&e);
     let e = type_expression(alloc, t, e, first)?;
@@ -190,7 +211,9 @@ pub fn type_width(
     at: Place,
     first: Found,
 ) -> Result<Typed<Expr>, Halt>
-    ensures { Types checked.expression_of result (checked_expression t.now (expression_of e)) (expression_kind t.now (expression_of e)) (at_node (width_rule at (expression_kind t.now (expression_of e))) (expression_first t.now (expression_of e) first)) }
+    ensures { Types checked.expression_of result (checked_expression t.now (expression_of e))
+        (expression_kind t.now (expression_of e))
+        (at_node (width_rule at (expression_kind t.now (expression_of e))) (expression_first t.now (expression_of e) first)) }
 {
     let e = type_expression(alloc, t, e, first)?;
     Ok(Typed {

@@ -35,7 +35,8 @@ pub fn type_expression(
     e: NamedExpr,
     first: Found,
 ) -> Result<Typed<Expr>, Halt>
-    ensures { Types checked.expression_of result (checked_expression t.now (expression_of e)) (expression_kind t.now (expression_of e)) (expression_first t.now (expression_of e) first) }
+    ensures { Types checked.expression_of result (checked_expression t.now (expression_of e))
+        (expression_kind t.now (expression_of e)) (expression_first t.now (expression_of e) first) }
 {
     let (at, form) = e.parts();
     let Typed { tree, kind, first } = type_form(alloc, t, form, at, first)?;
@@ -57,7 +58,8 @@ fn type_boxed(
     e: Boxed<NamedExpr>,
     first: Found,
 ) -> Result<Typed<Boxed<Expr>>, Halt>
-    ensures { Types checked.expression_of result (checked_expression t.now (expression_of e)) (expression_kind t.now (expression_of e)) (expression_first t.now (expression_of e) first) }
+    ensures { Types checked.expression_of result (checked_expression t.now (expression_of e))
+        (expression_kind t.now (expression_of e)) (expression_first t.now (expression_of e) first) }
 {
     let Typed { tree, kind, first } = type_expression(alloc, t, e.into_inner(), first)?;
     let tree = Boxed::new(alloc, tree)?;
@@ -72,7 +74,8 @@ fn type_form(
     at: Place,
     first: Found,
 ) -> Result<Typed<ExprForm>, Halt>
-    ensures { Types checked.expression_form_of result (checked_form t.now (expression_form_of form)) (form_kind t.now (expression_form_of form)) (form_first t.now at (expression_form_of form) first) }
+    ensures { Types checked.expression_form_of result (checked_form t.now (expression_form_of form))
+        (form_kind t.now (expression_form_of form)) (form_first t.now at (expression_form_of form) first) }
 {
     match form {
         NamedExprForm::Number(n) => Ok(Typed {
@@ -140,7 +143,8 @@ pub fn place_of(e: &NamedExpr) -> Place
 }
 
 fn type_text(t: &Tables, text: &Text, at: Place, first: Found) -> Result<Typed<ExprForm>, Halt>
-    ensures { Types checked.expression_form_of result (checked_form t.now (Quoted text.now)) (form_kind t.now (Quoted text.now)) (form_first t.now at (Quoted text.now) first) }
+    ensures { Types checked.expression_form_of result (checked_form t.now (Quoted text.now)) (form_kind t.now (Quoted text.now))
+        (form_first t.now at (Quoted text.now) first) }
 {
     let o = char_of(text);
     Ok(Typed {
@@ -158,7 +162,9 @@ fn type_unary(
     op: UnaryOp,
     first: Found,
 ) -> Result<Typed<ExprForm>, Halt>
-    ensures { Types checked.expression_form_of result (c.Unary op (checked_expression t.now (expression_of a))) (Some (unary_takes op)) (at_node (unary_rule op (place (expression_of a)) (expression_kind t.now (expression_of a))) (expression_first t.now (expression_of a) first)) }
+    ensures { Types checked.expression_form_of result (c.Unary op (checked_expression t.now (expression_of a)))
+        (Some (unary_takes op)) (at_node (unary_rule op (place (expression_of a)) (expression_kind t.now (expression_of a)))
+        (expression_first t.now (expression_of a) first)) }
 {
     let at = place_of(a.get());
     let e = type_boxed(alloc, t, a, first)?;
@@ -178,7 +184,10 @@ fn type_left(
     op: BinaryOp,
     first: Found,
 ) -> Result<Typed<Boxed<Expr>>, Halt>
-    ensures { Types checked.expression_of result (checked_expression t.now (expression_of a)) (expression_kind t.now (expression_of a)) (at_node (left_rule t.now op (place (expression_of a)) (expression_kind t.now (expression_of a))) (expression_first t.now (expression_of a) first)) }
+    ensures { Types checked.expression_of result (checked_expression t.now (expression_of a))
+        (expression_kind t.now (expression_of a))
+        (at_node (left_rule t.now op (place (expression_of a)) (expression_kind t.now (expression_of a)))
+        (expression_first t.now (expression_of a) first)) }
 {
     let at = place_of(a.get());
     let e = type_boxed(alloc, t, a, first)?;
@@ -200,7 +209,10 @@ fn type_right(
     op: BinaryOp,
     first: Found,
 ) -> Result<Typed<ExprForm>, Halt>
-    ensures { Types checked.expression_form_of result (c.Binary op (checked.expression_of a) (checked_expression t.now (expression_of b))) (Some (binary_gives op)) (at_node (right_rule t.now op (place (expression_of b)) left (expression_kind t.now (expression_of b))) (expression_first t.now (expression_of b) first)) }
+    ensures { Types checked.expression_form_of result
+        (c.Binary op (checked.expression_of a) (checked_expression t.now (expression_of b))) (Some (binary_gives op))
+        (at_node (right_rule t.now op (place (expression_of b)) left (expression_kind t.now (expression_of b)))
+        (expression_first t.now (expression_of b) first)) }
 {
     let at = place_of(b.get());
     let e = type_boxed(alloc, t, b, first)?;
@@ -219,7 +231,8 @@ pub fn type_variable(
     v: NamedVar,
     first: Found,
 ) -> Result<Typed<Var>, Halt>
-    ensures { Types checked.variable_of result (checked_variable t.now (variable_of v)) (selected t.now (variable_of v)) (variable_first t.now (variable_of v) first) }
+    ensures { Types checked.variable_of result (checked_variable t.now (variable_of v)) (selected t.now (variable_of v))
+        (variable_first t.now (variable_of v) first) }
 {
     let NamedVar {
         variable,
@@ -248,7 +261,8 @@ fn type_selectors(
     kind: Option<u32>,
     first: Found,
 ) -> Result<Typed<List<Selector>>, Halt>
-    ensures { Types (map checked.selector_of) result (checked_selectors t.now kind (selectors (map selector_of xs))) (selected_kind t.now kind (selectors (map selector_of xs))) (selectors_first t.now at kind (selectors (map selector_of xs)) first) }
+    ensures { Types (map checked.selector_of) result (checked_selectors t.now kind (selectors (map selector_of xs)))
+        (selected_kind t.now kind (selectors (map selector_of xs))) (selectors_first t.now at kind (selectors (map selector_of xs)) first) }
 {
     let mut out = Vec::new(alloc);
     let mut kind = kind;
@@ -276,7 +290,8 @@ fn type_selector(
     kind: Option<u32>,
     first: Found,
 ) -> Result<Typed<Selector>, Halt>
-    ensures { Types checked.selector_of result (checked_selector t.now kind (selector_of s)) (selection t.now kind (selector_of s)) (selector_first t.now at kind (selector_of s) first) }
+    ensures { Types checked.selector_of result (checked_selector t.now kind (selector_of s)) (selection t.now kind (selector_of s))
+        (selector_first t.now at kind (selector_of s) first) }
 {
     match s {
         NamedSelector::Index(e) => {
@@ -323,7 +338,8 @@ pub fn type_actuals(
     formals: &[u32],
     first: Found,
 ) -> Result<Walked<List<Actual>>, Halt>
-    ensures { Walks (map checked.actual_of) result (checked_actuals t.now formals.now (arguments (map argument_of xs))) (actuals_first t.now formals.now (arguments (map argument_of xs)) first) }
+    ensures { Walks (map checked.actual_of) result (checked_actuals t.now formals.now (arguments (map argument_of xs)))
+        (actuals_first t.now formals.now (arguments (map argument_of xs)) first) }
 {
     let mut out = Vec::new(alloc);
     let mut first = first;
@@ -422,7 +438,8 @@ fn type_standard(
     f: StandardFn,
     first: Found,
 ) -> Result<Typed<List<Expr>>, Halt>
-    ensures { Types (map checked.expression_of) result (checked_arguments t.now (arguments (map argument_of xs))) (parameter_kind t.now None (arguments (map argument_of xs))) (standard_first t.now f (arguments (map argument_of xs)) first) }
+    ensures { Types (map checked.expression_of) result (checked_arguments t.now (arguments (map argument_of xs)))
+        (parameter_kind t.now None (arguments (map argument_of xs))) (standard_first t.now f (arguments (map argument_of xs)) first) }
 {
     let mut out = Vec::new(alloc);
     let mut kind = None;
@@ -448,7 +465,8 @@ fn type_parameter(
     f: StandardFn,
     first: Found,
 ) -> Result<Typed<Expr>, Halt>
-    ensures { Types checked.expression_of result (checked_argument t.now (argument_of a)) (argument_kind t.now (argument_of a)) (parameter_first t.now f (argument_of a) first) }
+    ensures { Types checked.expression_of result (checked_argument t.now (argument_of a)) (argument_kind t.now (argument_of a))
+        (parameter_first t.now f (argument_of a) first) }
 {
     let NamedArg { value, width: _ } = a;
     type_operand(alloc, t, value, f, first)
@@ -462,7 +480,10 @@ fn type_operand(
     f: StandardFn,
     first: Found,
 ) -> Result<Typed<Expr>, Halt>
-    ensures { Types checked.expression_of result (checked_expression t.now (expression_of e)) (expression_kind t.now (expression_of e)) (at_node (standard_rule t.now f (place (expression_of e)) (expression_kind t.now (expression_of e))) (expression_first t.now (expression_of e) first)) }
+    ensures { Types checked.expression_of result (checked_expression t.now (expression_of e))
+        (expression_kind t.now (expression_of e))
+        (at_node (standard_rule t.now f (place (expression_of e)) (expression_kind t.now (expression_of e)))
+        (expression_first t.now (expression_of e) first)) }
 {
     let at = place_of(&e);
     let e = type_expression(alloc, t, e, first)?;

@@ -34,7 +34,8 @@ pub fn type_assign(
     at: Place,
     first: Found,
 ) -> Result<Walked<Form>, Halt>
-    ensures { Walks checked.statement_form_of result (checked_statement_form t.now at (Assign (variable_of v) (expression_of e))) (statement_form_first t.now (Assign (variable_of v) (expression_of e)) first) }
+    ensures { Walks checked.statement_form_of result (checked_statement_form t.now at (Assign (variable_of v) (expression_of e)))
+        (statement_form_first t.now (Assign (variable_of v) (expression_of e)) first) }
 {
     let v = type_variable(alloc, t, v, first)?;
     let e = type_assigned(alloc, t, e, v.kind, v.first)?;
@@ -53,7 +54,8 @@ pub fn type_call(
     at: Place,
     first: Found,
 ) -> Result<Walked<Form>, Halt>
-    ensures { Walks checked.statement_form_of result (checked_statement_form t.now at (Call f (arguments (map argument_of args)))) (statement_form_first t.now (Call f (arguments (map argument_of args))) first) }
+    ensures { Walks checked.statement_form_of result (checked_statement_form t.now at (Call f (arguments (map argument_of args))))
+        (statement_form_first t.now (Call f (arguments (map argument_of args))) first) }
 {
     let args = type_actuals(alloc, t, args, t.formals(f), first)?;
     Ok(Walked {
@@ -106,7 +108,8 @@ fn type_values(
     kind: Option<u32>,
     first: Found,
 ) -> Result<Walked<List<Expr>>, Halt>
-    ensures { Walks (map checked.expression_of) result (checked_arguments t.now (arguments (map argument_of (into_iter_items xs)))) (each_first t.now (message_first t.now kind) (arguments (map argument_of (into_iter_items xs))) first) }
+    ensures { Walks (map checked.expression_of) result (checked_arguments t.now (arguments (map argument_of (into_iter_items xs))))
+        (each_first t.now (message_first t.now kind) (arguments (map argument_of (into_iter_items xs))) first) }
 {
     let mut out = Vec::new(alloc);
     let mut first = first;
@@ -129,7 +132,8 @@ fn type_variables(
     kind: Option<u32>,
     first: Found,
 ) -> Result<Walked<List<Var>>, Halt>
-    ensures { Walks (map checked.variable_of) result (argument_variables t.now (arguments (map argument_of (into_iter_items xs)))) (each_first t.now (message_first t.now kind) (arguments (map argument_of (into_iter_items xs))) first) }
+    ensures { Walks (map checked.variable_of) result (argument_variables t.now (arguments (map argument_of (into_iter_items xs))))
+        (each_first t.now (message_first t.now kind) (arguments (map argument_of (into_iter_items xs))) first) }
 {
     let mut out = Vec::new(alloc);
     let mut first = first;
@@ -146,7 +150,8 @@ fn type_variables(
 
 /// The channel of `send` or `receive`.
 fn type_channel(alloc: Global, t: &Tables, a: NamedArg, first: Found) -> Result<Typed<Expr>, Halt>
-    ensures { Types checked.expression_of result (checked_argument t.now (argument_of a)) (argument_kind t.now (argument_of a)) (channel_first t.now (argument_of a) first) }
+    ensures { Types checked.expression_of result (checked_argument t.now (argument_of a)) (argument_kind t.now (argument_of a))
+        (channel_first t.now (argument_of a) first) }
 {
     let NamedArg { value, width: _ } = a;
     channel_value(alloc, t, value, first)
@@ -155,7 +160,8 @@ fn type_channel(alloc: Global, t: &Tables, a: NamedArg, first: Found) -> Result<
 /// Values sent on one channel: one alone is a single statement, of several the channel stands once in memory.
 #[tactic(auto, using(crate::proofs::Singles::sends_are))]
 fn sent(n: u32, at: Place, channel: Expr, values: List<Expr>) -> Result<Form, Halt>
-    ensures { AnswersAs checked.statement_form_of result (Ok (expanded n at (map (λ e. c.Send (checked.expression_of channel) e) (map checked.expression_of values)))) }
+    ensures { AnswersAs checked.statement_form_of result
+        (Ok (expanded n at (map (λ e. c.Send (checked.expression_of channel) e) (map checked.expression_of values)))) }
 {
     let mut values = values.into_vec();
     match values.pop() {
@@ -184,7 +190,8 @@ fn sent(n: u32, at: Place, channel: Expr, values: List<Expr>) -> Result<Form, Ha
 /// Variables received on one channel: one alone is a single statement, of several the channel stands once in memory.
 #[tactic(auto, using(crate::proofs::Singles::receives_are))]
 fn received(n: u32, at: Place, channel: Expr, variables: List<Var>) -> Result<Form, Halt>
-    ensures { AnswersAs checked.statement_form_of result (Ok (expanded n at (map (λ v. c.Receive (checked.expression_of channel) v) (map checked.variable_of variables)))) }
+    ensures { AnswersAs checked.statement_form_of result
+        (Ok (expanded n at (map (λ v. c.Receive (checked.expression_of channel) v) (map checked.variable_of variables)))) }
 {
     let mut variables = variables.into_vec();
     match variables.pop() {
@@ -218,7 +225,9 @@ fn type_send(
     at: Place,
     first: Found,
 ) -> Result<Walked<Form>, Halt>
-    ensures { Walks checked.statement_form_of result (expanded t.now.next at (singles t.now procedure.Send (arguments (map argument_of args)))) (messages_first t.now (arguments (map argument_of args)) first) }
+    ensures { Walks checked.statement_form_of result
+        (expanded t.now.next at (singles t.now procedure.Send (arguments (map argument_of args))))
+        (messages_first t.now (arguments (map argument_of args)) first) }
 {
     let mut xs = args.into_vec().into_iter();
     match xs.next() {
@@ -245,7 +254,9 @@ fn type_receive(
     at: Place,
     first: Found,
 ) -> Result<Walked<Form>, Halt>
-    ensures { Walks checked.statement_form_of result (expanded t.now.next at (singles t.now procedure.Receive (arguments (map argument_of args)))) (messages_first t.now (arguments (map argument_of args)) first) }
+    ensures { Walks checked.statement_form_of result
+        (expanded t.now.next at (singles t.now procedure.Receive (arguments (map argument_of args))))
+        (messages_first t.now (arguments (map argument_of args)) first) }
 {
     let mut xs = args.into_vec().into_iter();
     match xs.next() {
@@ -332,7 +343,9 @@ fn type_read(
     at: Place,
     first: Found,
 ) -> Result<Walked<Form>, Halt>
-    ensures { Walks checked.statement_form_of result (expanded t.now.next at (singles t.now procedure.Read (arguments (map argument_of args)))) (perform_first t.now procedure.Read (arguments (map argument_of args)) first) }
+    ensures { Walks checked.statement_form_of result
+        (expanded t.now.next at (singles t.now procedure.Read (arguments (map argument_of args))))
+        (perform_first t.now procedure.Read (arguments (map argument_of args)) first) }
 {
     let forms = type_reads(alloc, t, args, first)?;
     joined(alloc, t, forms, at)
@@ -346,7 +359,9 @@ fn type_readln(
     at: Place,
     first: Found,
 ) -> Result<Walked<Form>, Halt>
-    ensures { Walks checked.statement_form_of result (expanded t.now.next at (singles t.now procedure.Readln (arguments (map argument_of args)))) (perform_first t.now procedure.Readln (arguments (map argument_of args)) first) }
+    ensures { Walks checked.statement_form_of result
+        (expanded t.now.next at (singles t.now procedure.Readln (arguments (map argument_of args))))
+        (perform_first t.now procedure.Readln (arguments (map argument_of args)) first) }
 {
     let forms = type_reads(alloc, t, args, first)?;
     let forms = Walked {
@@ -364,7 +379,9 @@ fn type_write(
     at: Place,
     first: Found,
 ) -> Result<Walked<Form>, Halt>
-    ensures { Walks checked.statement_form_of result (expanded t.now.next at (singles t.now procedure.Write (arguments (map argument_of args)))) (perform_first t.now procedure.Write (arguments (map argument_of args)) first) }
+    ensures { Walks checked.statement_form_of result
+        (expanded t.now.next at (singles t.now procedure.Write (arguments (map argument_of args))))
+        (perform_first t.now procedure.Write (arguments (map argument_of args)) first) }
 {
     let forms = type_writes(alloc, t, args, first)?;
     joined(alloc, t, forms, at)
@@ -378,7 +395,9 @@ fn type_writeln(
     at: Place,
     first: Found,
 ) -> Result<Walked<Form>, Halt>
-    ensures { Walks checked.statement_form_of result (expanded t.now.next at (singles t.now procedure.Writeln (arguments (map argument_of args)))) (perform_first t.now procedure.Writeln (arguments (map argument_of args)) first) }
+    ensures { Walks checked.statement_form_of result
+        (expanded t.now.next at (singles t.now procedure.Writeln (arguments (map argument_of args))))
+        (perform_first t.now procedure.Writeln (arguments (map argument_of args)) first) }
 {
     let forms = type_writes(alloc, t, args, first)?;
     let forms = Walked {
@@ -396,7 +415,9 @@ fn type_open(
     at: Place,
     first: Found,
 ) -> Result<Walked<Form>, Halt>
-    ensures { Walks checked.statement_form_of result (expanded t.now.next at (singles t.now procedure.Open (arguments (map argument_of args)))) (perform_first t.now procedure.Open (arguments (map argument_of args)) first) }
+    ensures { Walks checked.statement_form_of result
+        (expanded t.now.next at (singles t.now procedure.Open (arguments (map argument_of args))))
+        (perform_first t.now procedure.Open (arguments (map argument_of args)) first) }
 {
     let forms = type_opens(alloc, t, args, first)?;
     joined(alloc, t, forms, at)
@@ -411,7 +432,8 @@ fn type_call_of_standard(
     at: Place,
     first: Found,
 ) -> Result<Walked<Form>, Halt>
-    ensures { Walks checked.statement_form_of result (expanded t.now.next at (singles t.now p (arguments (map argument_of args)))) (perform_first t.now p (arguments (map argument_of args)) first) }
+    ensures { Walks checked.statement_form_of result (expanded t.now.next at (singles t.now p (arguments (map argument_of args))))
+        (perform_first t.now p (arguments (map argument_of args)) first) }
 {
     match p {
         StandardProcedure::Read => type_read(alloc, t, args, at, first),
@@ -433,7 +455,9 @@ pub fn type_perform(
     at: Place,
     first: Found,
 ) -> Result<Walked<Form>, Halt>
-    ensures tree { Walks checked.statement_form_of result (checked_statement_form t.old at (Perform p (arguments (map argument_of args)))) (statement_form_first t.old (Perform p (arguments (map argument_of args))) first) }
+    ensures tree { Walks checked.statement_form_of result
+        (checked_statement_form t.old at (Perform p (arguments (map argument_of args))))
+        (statement_form_first t.old (Perform p (arguments (map argument_of args))) first) }
     ensures after { OnOk result (t.new ≡ form_after t.old (Perform p (arguments (map argument_of args)))) }
 {
     let count = parts_count(p, args.items())?;

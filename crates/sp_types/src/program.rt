@@ -136,7 +136,9 @@ fn type_kinds(
     blocks: List<NamedBlock>,
     first: Found,
 ) -> Result<Checked, Halt>
-    ensures { AnswersAs checked.program_of result (typed_kinds numbers.now (sizes kinds) places.now (tabled numbers.now known kinds variables (map plain.block_of blocks)) variables (map plain.block_of blocks) first) }
+    ensures { AnswersAs checked.program_of result
+        (typed_kinds numbers.now (sizes kinds) places.now (tabled numbers.now known kinds variables (map plain.block_of blocks))
+        variables (map plain.block_of blocks) first) }
 {
     let cells = sizes_of(alloc, kinds.items())?;
     let first = check_cells(places, cells.items(), first);

@@ -73,7 +73,8 @@ fn type_statement_form(
     at: Place,
     first: Found,
 ) -> Result<Walked<Form>, Halt>
-    ensures tree { Walks checked.statement_form_of result (checked_statement_form t.old at (statement_form_of form)) (statement_form_first t.old (statement_form_of form) first) }
+    ensures tree { Walks checked.statement_form_of result (checked_statement_form t.old at (statement_form_of form))
+        (statement_form_first t.old (statement_form_of form) first) }
     ensures after { OnOk result (t.new ≡ form_after t.old (statement_form_of form)) }
 {
     match form {
@@ -153,7 +154,9 @@ fn type_repeat(
     e: NamedExpr,
     first: Found,
 ) -> Result<Walked<Form>, Halt>
-    ensures tree { Walks checked.statement_form_of result (checked_statement_form t.old at (Repeat (statements (map statement_of ss)) (expression_of e))) (statement_form_first t.old (Repeat (statements (map statement_of ss)) (expression_of e)) first) }
+    ensures tree { Walks checked.statement_form_of result
+        (checked_statement_form t.old at (Repeat (statements (map statement_of ss)) (expression_of e)))
+        (statement_form_first t.old (Repeat (statements (map statement_of ss)) (expression_of e)) first) }
     ensures after { OnOk result (t.new ≡ statements_after (counted t.old) (statements (map statement_of ss))) }
 {
     let ss = type_sequence(ss, alloc, t, at, first)?;
@@ -174,7 +177,9 @@ fn type_choices(
     e: NamedExpr,
     first: Found,
 ) -> Result<Walked<Form>, Halt>
-    ensures tree { Walks checked.statement_form_of result (c.Case (checked_expression t.old (expression_of e)) (checked.arms (checked_arms t.old (arms (map arm_of choices))))) (statement_form_first t.old (Case (expression_of e) (arms (map arm_of choices))) first) }
+    ensures tree { Walks checked.statement_form_of result
+        (c.Case (checked_expression t.old (expression_of e)) (checked.arms (checked_arms t.old (arms (map arm_of choices)))))
+        (statement_form_first t.old (Case (expression_of e) (arms (map arm_of choices))) first) }
     ensures after { OnOk result (t.new ≡ arms_after t.old (arms (map arm_of choices))) }
 {
     let e = type_case(alloc, t, e, first)?;
@@ -197,7 +202,10 @@ fn type_forall(
     to: NamedExpr,
     first: Found,
 ) -> Result<Walked<Form>, Halt>
-    ensures tree { Walks checked.statement_form_of result (c.Forall index (checked_expression t.old (expression_of from)) (checked_expression t.old (expression_of to)) (checked_statement (indexed t.old index (expression_kind t.old (expression_of from))) (statement_of body))) (statement_form_first t.old (Forall index (expression_of from) (expression_of to) (statement_of body)) first) }
+    ensures tree { Walks checked.statement_form_of result
+        (c.Forall index (checked_expression t.old (expression_of from)) (checked_expression t.old (expression_of to))
+        (checked_statement (indexed t.old index (expression_kind t.old (expression_of from))) (statement_of body)))
+        (statement_form_first t.old (Forall index (expression_of from) (expression_of to) (statement_of body)) first) }
     ensures after { OnOk result (t.new ≡ form_after t.old (Forall index (expression_of from) (expression_of to) (statement_of body))) }
 {
     let from = type_range(alloc, t, from, first)?;
@@ -225,7 +233,9 @@ fn type_else(
     s: Boxed<Stmt>,
     first: Found,
 ) -> Result<Walked<Form>, Halt>
-    ensures tree { Walks checked.statement_form_of result (c.If (checked.expression_of e) (checked.statement_of s) (c.Else (checked_statement t.old (statement_of o)))) (statement_first t.old (statement_of o) first) }
+    ensures tree { Walks checked.statement_form_of result
+        (c.If (checked.expression_of e) (checked.statement_of s) (c.Else (checked_statement t.old (statement_of o))))
+        (statement_first t.old (statement_of o) first) }
     ensures after { OnOk result (t.new ≡ statement_after t.old (statement_of o)) }
 {
     let o = type_boxed(o, alloc, t, first)?;
@@ -254,7 +264,10 @@ fn type_for(
     to: NamedExpr,
     first: Found,
 ) -> Result<Walked<Form>, Halt>
-    ensures tree { Walks checked.statement_form_of result (c.For variable at (checked_expression t.old (expression_of from)) down (checked_expression t.old (expression_of to)) (checked_statement t.old (statement_of body))) (statement_form_first t.old (For variable at (expression_of from) down (expression_of to) (statement_of body)) first) }
+    ensures tree { Walks checked.statement_form_of result
+        (c.For variable at (checked_expression t.old (expression_of from)) down (checked_expression t.old (expression_of to))
+        (checked_statement t.old (statement_of body)))
+        (statement_form_first t.old (For variable at (expression_of from) down (expression_of to) (statement_of body)) first) }
     ensures after { OnOk result (t.new ≡ statement_after t.old (statement_of body)) }
 {
     let kind = t.variable_kind(variable);
@@ -282,7 +295,8 @@ fn type_statements(
     t: &mut Tables,
     first: Found,
 ) -> Result<Walked<List<Stmt>>, Halt>
-    ensures tree { Walks (map checked.statement_of) result (checked_statements t.old (statements (map statement_of ss))) (statements_first t.old (statements (map statement_of ss)) first) }
+    ensures tree { Walks (map checked.statement_of) result (checked_statements t.old (statements (map statement_of ss)))
+        (statements_first t.old (statements (map statement_of ss)) first) }
     ensures after { OnOk result (t.new ≡ statements_after t.old (statements (map statement_of ss))) }
 {
     let mut out = Vec::new(alloc);
@@ -317,7 +331,10 @@ fn type_sequence(
     at: Place,
     first: Found,
 ) -> Result<Walked<Stmt>, Halt>
-    ensures tree { Walks checked.statement_of result (in_sequence t.old.next (first_place at (statements (map statement_of ss))) (checked_statements (counted t.old) (statements (map statement_of ss)))) (statements_first (counted t.old) (statements (map statement_of ss)) first) }
+    ensures tree { Walks checked.statement_of result
+        (in_sequence t.old.next (first_place at (statements (map statement_of ss)))
+        (checked_statements (counted t.old) (statements (map statement_of ss))))
+        (statements_first (counted t.old) (statements (map statement_of ss)) first) }
     ensures after { OnOk result (t.new ≡ statements_after (counted t.old) (statements (map statement_of ss))) }
 {
     let number = t.next;
@@ -342,7 +359,8 @@ fn type_branches(
     at: Place,
     first: Found,
 ) -> Result<Walked<List<Stmt>>, Halt>
-    ensures tree { Walks (map checked.statement_of) result (checked_branches t.old at (branches (map branch_of bs))) (branches_first t.old (branches (map branch_of bs)) first) }
+    ensures tree { Walks (map checked.statement_of) result (checked_branches t.old at (branches (map branch_of bs)))
+        (branches_first t.old (branches (map branch_of bs)) first) }
     ensures after { OnOk result (t.new ≡ branches_after t.old (branches (map branch_of bs))) }
 {
     let mut out = Vec::new(alloc);

@@ -100,7 +100,14 @@ pub fn tables_of(
     variables: &[Variable],
     blocks: &[NamedBlock],
 ) -> Result<Tables, Halt>
-    ensures { Answers result (Ok (record { constants = constants; kinds = kinds; variables = types_of numbers.now variables.now; roles = roles_of variables.now; blocks = signatures (map block_of blocks.now); next = 0 })) }
+    ensures { Answers result (Ok (record {
+      constants = constants;
+      kinds = kinds;
+      variables = types_of numbers.now variables.now;
+      roles = roles_of variables.now;
+      blocks = signatures (map block_of blocks.now);
+      next = 0;
+    })) }
 {
     let kinds = entries_of(alloc, kinds)?;
     let types = types_of(alloc, numbers, variables)?;

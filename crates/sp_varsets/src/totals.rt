@@ -70,7 +70,8 @@ impl Walk {
     ) -> Result<(), Memory>
         requires nothing { (x : ℕ) → has nothing.now x ≡ false }
         requires small { length rows.now ≤ 2 ^ 32 }
-        ensures { OnOk result ((x : ℕ) → (has all.new x ≡ true) ↔ ((has all.old x ≡ true) ⊎ ((f : ℕ) × (pooled self.now.pool runs f ≡ true) × (member rows.now f x ≡ true)))) }
+        ensures { OnOk result ((x : ℕ) → (has all.new x ≡ true)
+            ↔ ((has all.old x ≡ true) ⊎ ((f : ℕ) × (pooled self.now.pool runs f ≡ true) × (member rows.now f x ≡ true)))) }
     {
         if runs == 0 {
             return Ok(());

@@ -276,7 +276,8 @@ impl Walk {
         channel: &Expr,
         values: &[Expr],
     ) -> Result<(), Memory>
-        ensures { OnOk result (WalksStatements self.old self.new into.old into.new (sends number at (expression_of channel.now) (map expression_of values.now))) }
+        ensures { OnOk result (WalksStatements self.old self.new into.old into.new
+            (sends number at (expression_of channel.now) (map expression_of values.now))) }
     {
         let nothing = VarSet::new(self.alloc);
         for (i, value) in values.iter().enumerate() {
@@ -297,7 +298,8 @@ impl Walk {
         channel: &Expr,
         variables: &[Var],
     ) -> Result<(), Memory>
-        ensures { OnOk result (WalksStatements self.old self.new into.old into.new (receives number at (expression_of channel.now) (map variable_of variables.now))) }
+        ensures { OnOk result (WalksStatements self.old self.new into.old into.new
+            (receives number at (expression_of channel.now) (map variable_of variables.now))) }
     {
         let nothing = VarSet::new(self.alloc);
         for (i, variable) in variables.iter().enumerate() {
