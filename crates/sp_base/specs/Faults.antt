@@ -1,4 +1,5 @@
--- The names of the faults.
+-- The names of the faults, as reports and journals write them. `Fault`'s printing promises them, and the texts of
+-- journals and of ends are made of them: one table, so that all print a fault alike.
 use Rattle.std.specs.Prelude.{ℕ, List, codes}
 use Rattle.sp_base.specs.declared.fault.Fault.{Fault}
 use Rattle.sp_base.specs.declared.fault.Fault.TheVariants as fault

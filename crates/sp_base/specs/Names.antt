@@ -1,4 +1,5 @@
--- The texts of the names of processes and channels.
+-- The texts of the names of processes and channels: `0`, then `/f.k` for each step, and `#n` for a channel. The
+-- printing of `ProcName` and `ChanName` promises them, and the texts of journals, reports and ends are made of them.
 use Rattle.std.specs.Prelude.{ℕ, List, ◌++◌, codes, decimal}
 use Rattle.std.specs.List.{flat_map}
 use Rattle.sp_base.specs.declared.name.Pair.{Pair}
@@ -9,6 +10,7 @@ use Rattle.sp_base.specs.declared.name.ChanName.{ChanName}
 abbrev pub pair_text : Pair → List ℕ
 pair_text p = codes "/" ++ decimal p.fork ++ codes "." ++ decimal p.child
 
+-- all steps of a name, one after another
 abbrev pub pairs_text : List Pair → List ℕ
 pairs_text = flat_map pair_text
 

@@ -1,4 +1,5 @@
--- How the values of a store are stored.
+-- How the values of a store are stored: a code for a spot, a cell, a content, the map and the whole plain store. The
+-- `Model` of `Store` rests on it, as a type whose value is no field of its own has to.
 use Rattle.std.specs.Prelude.{◌≡◌, ◌⊎◌, ℕ, List, refl}
 use Rattle.std.proofs.Common.{inl, inr}
 use Rattle.std.specs.Coded.{Coded, code_by, coded×, coded⊎, coded_ℕ, coded_list}
@@ -14,6 +15,7 @@ spot_code = code_by (ℕ × ℕ) (coded× coded_ℕ coded_ℕ) (λ s. (s.frame, 
 abbrev pub cell_code : Coded Cell
 cell_code = cells.the_row.coded
 
+-- a content as a sum of stored types
 abbrev pub Stored : Type 0
 Stored = (List Cell ⊎ List Cell) ⊎ (List ℕ ⊎ ℕ)
 
@@ -29,6 +31,7 @@ from_stored (inl (inr cs)) = Shared cs
 from_stored (inr (inl bs)) = Output bs
 from_stored (inr (inr n)) = Away
 
+-- nothing is lost
 abbrev pub back : (h : Content) → from_stored (to_stored h) ≡ h
 back (Own cs) = refl
 back (Shared cs) = refl

@@ -1,4 +1,5 @@
--- What `split` and `join` do to the plain map of a store.
+-- What `split` and `join` do to the plain map of a store. The contracts of `Store` and the steps of the system promise
+-- it. Each part goes by recursion on the spots of a plan, so that it computes for a plan that is known.
 use Rattle.std.specs.Prelude.{◌≡◌, ℕ, ℤ, ◌⊎◌, List, [], ◌∷◌, ◌++◌, max, Option, None, Some, IsSome}
 use Rattle.std.specs.FinMap as map
 use Rattle.sp_cell.specs.declared.cell.Cell.TheVariants.{Ordinal}

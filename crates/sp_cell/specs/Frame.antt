@@ -1,4 +1,5 @@
--- The frames of a store: their numbers, and what it means to push and to pop one.
+-- The frames of a store: their numbers, and what it means to push and to pop one. The contracts of `Store` and of the
+-- machine's calls promise it. A number is taken above all known ones, so that no spot is used twice.
 use Rattle.std.specs.Prelude.{◌≡◌, ◌≢◌, ℕ, ◌+◌, ◌-◌, ◌≤◌, ◌<◌, ◌==◌, not, List, [], ◌∷◌, ◌++◌, length, max, slice_index, take, replicate, pos, Some}
 use Rattle.std.specs.FinMap as map
 use Rattle.sp_cell.specs.declared.cell.Cell.TheVariants.{Ordinal, Undefined}

@@ -1,4 +1,5 @@
--- Laws of frame numbers, and of frames pushed and popped.
+-- Laws of frame numbers, and of frames pushed and popped. The proofs of the store, the machine and the code above use
+-- them; they stand here since they speak of no representation.
 use Rattle.std.specs.Prelude.{◌≡◌, ◌≢◌, ◌⊎◌, ℕ, zero, suc, ◌+◌, ◌-◌, ◌≤◌, ◌<◌, ◌==◌, ◌||◌, not, cond, Bool, true, false, List, [], ◌∷◌, ◌++◌, length, max, take, replicate, Option, None, Some, IsSome}
 use Rattle.std.proofs.Common.{T, sym, ap, refl, ◌∙◌, get_or, arith, inl, inr}
 use Rattle.std.proofs.Math.Facts.{yes_eqb}

@@ -1,4 +1,6 @@
--- What *held* says of all stores of a run side by side.
+-- What *held* says of all stores of a run side by side: each variable is own in one store at most, or shared alike.
+-- The contracts of the laws of `Store` keep it at forks and joins; the stores are seen with what their frames mean in
+-- the run, since each numbers its own.
 use Rattle.std.specs.Prelude.{◌≡◌, ◌≢◌, ◌⊎◌, ℕ, ◌+◌, ◌==◌, if◌then◌else◌, List, [], ◌∷◌, ◌++◌, Option, None, Some, IsSome}
 use Rattle.std.specs.List.{AllByRecursion}
 use Rattle.std.specs.FinMap as map
@@ -35,6 +37,7 @@ Agree a b = IsNotHeld a ⊎ (IsNotHeld b ⊎ ShareAlike a b)
 abbrev pub IsNamed : View → Type 0
 IsNamed w = (p q : Spot) → IsSome (map.get w.map p) → IsSome (map.get w.map q) → variable_of w p ≡ variable_of w q → p ≡ q
 
+-- two stores agree on each variable that both know
 abbrev pub AgreeOnAll : View → View → Type 0
 AgreeOnAll w u = (p q : Spot) → variable_of w p ≡ variable_of u q → Agree (map.get w.map p) (map.get u.map q)
 

@@ -1,4 +1,5 @@
--- Laws of the map of a store.
+-- Laws of the map of a store: what is found after an insert, and when two maps are one. The other laws here and the
+-- proofs of the crates above go by them.
 use Rattle.std.specs.Prelude.{◌≡◌, cond, Option, Some, None, ◌≢◌, ◌⊎◌, IsSome}
 use Rattle.std.proofs.Common.{sym, ap, refl, ◌∙◌, inl, inr}
 use Rattle.std.proofs.lemmas.Cmp.{tied_itself}

@@ -1,4 +1,5 @@
--- The plain map of a store: what its calls do, without its representation.
+-- The plain map of a store: what its calls do, without its representation. Each contract of `Store`, and the memory of
+-- the machine's definition, speaks of it; it is a map and no list, so that equal stores are equal.
 use Rattle.std.specs.Prelude.{ℕ, ◌+◌, ◌≤◌, List, [], ◌++◌, length, slice_set, Option, None, Some}
 use Rattle.std.specs.Ordering.{nat_cmp, then_cmp, on}
 use Rattle.std.specs.declared.cmp.Ordering.{Ordering}

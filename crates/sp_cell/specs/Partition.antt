@@ -1,4 +1,5 @@
--- What a fork leaves to whom, and that its joins give the map back.
+-- What a fork leaves to whom, and that its joins give the map back. The contract of `split` promises it as laws of the
+-- definition in Fork.antt, so that a wrong `handed` would be seen.
 use Rattle.std.specs.Prelude.{◌≡◌, ℕ, ℤ, ◌<◌, ◌≢◌, List, [], ◌∷◌, ◌++◌, Option, None, Some, IsSome}
 use Rattle.std.proofs.Common.{sym, ap, refl, ◌∙◌, arith, inl, inr}
 use Rattle.std.specs.FinMap as map
@@ -52,6 +53,7 @@ child_rest m h q n o d = get_taken_out m h.moved _ q n ∙ index_other (lent m h
 
 -- ---- the joins give the map back
 
+-- children joined one after another
 abbrev pub joined_all : Map → List Plain → Map
 joined_all m [] = m
 joined_all m (c ∷ cs) = joined_all (joined m c) cs

@@ -1,4 +1,5 @@
--- Whole plans: what the children get, one after another, and that no two of them get one spot.
+-- Whole plans: what the children get, one after another, and that no two of them get one spot. The proofs of the two
+-- loops of `split` go by it, child by child, and so do the laws of partitions.
 use Rattle.std.specs.Prelude.{◌≡◌, ℕ, ℤ, zero, suc, ◌+◌, ◌<◌, ◌≤◌, ◌≢◌, ◌⊎◌, List, [], ◌∷◌, ◌++◌, length, take, drop, Option, None, Some, IsSome}
 use Rattle.std.proofs.Common.{sym, subst, ap, refl, ◌∙◌, get_or, set, arith, inl, inr, append_assoc}
 use mathlib.Core.Bool.{false≢true}
@@ -13,6 +14,7 @@ use Rattle.sp_cell.specs.Laws.{get_other, get_here, known_insert, known_of_piece
 
 -- ---- membership by recursion
 
+-- a spot is among the spots, or it is none of them
 pub in_or : (q : Spot) (ss : List Spot) → In q ss ⊎ NotIn q ss
 in_or q [] = inr tt
 in_or q (s ∷ ss) = elim (same_or q s) [
@@ -64,10 +66,12 @@ not_both q (s ∷ ss) (inr i) o = not_both q ss i o.1
 
 -- ---- what is found
 
+-- another spot is as it was
 pub get_away_out : (m : Map) (ss : List Spot) (q : Spot) → NotIn q ss → map.get (away m ss) q ≡ map.get m q
 get_away_out m [] q n = refl
 get_away_out m (s ∷ ss) q n = get_away_out (map.insert m s Away) ss q n.1 ∙ get_other m s Away q (λ e. n.0 (sym e))
 
+-- a spot that goes is away
 pub get_away_in : (m : Map) (ss : List Spot) (q : Spot) → In q ss → map.get (away m ss) q ≡ Some Away
 get_away_in m [] q i = absurd i
 get_away_in m (s ∷ ss) q i = elim (in_or q ss) [
@@ -83,10 +87,12 @@ get_hold_here : (c : Map) (s : Spot) (o : Option Content) → IsSome o → map.g
 get_hold_here c s None k = absurd (false≢true k)
 get_hold_here c s (Some h) k = get_here c s h
 
+-- a spot that is not taken is as it was
 pub get_taken_out : (m : Map) (ss : List Spot) (c : Map) (q : Spot) → NotIn q ss → map.get (taken m ss c) q ≡ map.get c q
 get_taken_out m [] c q n = refl
 get_taken_out m (s ∷ ss) c q n = get_taken_out m ss (hold c s (map.get m s)) q n.1 ∙ get_hold_other c s (map.get m s) q (λ e. n.0 (sym e))
 
+-- a spot that is taken is as it was where it came from
 pub get_taken_in : (m : Map) (ss : List Spot) (c : Map) (q : Spot) → In q ss → IsSome (map.get m q) → map.get (taken m ss c) q ≡ map.get m q
 get_taken_in m [] c q i k = absurd i
 get_taken_in m (s ∷ ss) c q i k = elim (in_or q ss) [
@@ -94,10 +100,12 @@ get_taken_in m (s ∷ ss) c q i k = elim (in_or q ss) [
   | inr o ↦ get_taken_out m ss (hold c s (map.get m s)) q o ∙ elim i [ inl e ↦ rw e (get_hold_here c s (map.get m s) (rw (← e) k)) | inr j ↦ absurd (not_both q ss j o) ]
 ]
 
+-- a spot that is not lent is as it was
 pub get_lent_out : (m : Map) (ss : List Spot) (c : Map) (q : Spot) → NotIn q ss → map.get (lent m ss c) q ≡ map.get c q
 get_lent_out m [] c q n = refl
 get_lent_out m (s ∷ ss) c q n = get_lent_out m ss (map.insert c s (Shared (cells_at m s))) q n.1 ∙ get_other c s (Shared (cells_at m s)) q (λ e. n.0 (sym e))
 
+-- a spot that is lent is shared
 pub get_lent_in : (m : Map) (ss : List Spot) (c : Map) (q : Spot) → In q ss → map.get (lent m ss c) q ≡ Some (Shared (cells_at m q))
 get_lent_in m [] c q i = absurd i
 get_lent_in m (s ∷ ss) c q i = elim (in_or q ss) [
@@ -167,20 +175,24 @@ mixed m [] i = []
 mixed m (h ∷ hs) zero = prepared m h ∷ mixed m hs zero
 mixed m (h ∷ hs) (suc i) = child_of m h ∷ mixed m hs i
 
+-- all children complete
 pub mixed_all : (m : Map) (hs : List Handing) → mixed m hs (length hs) ≡ children_of m hs
 mixed_all m [] = refl
 mixed_all m (h ∷ hs) = ap (λ r. child_of m h ∷ r) (mixed_all m hs)
 
+-- one more child is prepared
 pub mixed_push : (m : Map) (hs : List Handing) (k : ℕ) (d : Handing) → k < length hs → mixed m (take (suc k) hs) 0 ≡ mixed m (take k hs) 0 ++ prepared m (get_or hs k d) ∷ []
 mixed_push m [] k d b = absurd (omega arith)
 mixed_push m (h ∷ hs) zero d b = refl
 mixed_push m (h ∷ hs) (suc k) d b = ap (λ r. prepared m h ∷ r) (mixed_push m hs k d (omega arith))
 
+-- the next child is prepared still
 pub mixed_at : (m : Map) (hs : List Handing) (i : ℕ) (d : Handing) (e : Plain) → i < length hs → get_or (mixed m hs i) i e ≡ prepared m (get_or hs i d)
 mixed_at m [] i d e b = absurd (omega arith)
 mixed_at m (h ∷ hs) zero d e b = refl
 mixed_at m (h ∷ hs) (suc i) d e b = mixed_at m hs i d e (omega arith)
 
+-- the next child completes
 pub mixed_set : (m : Map) (hs : List Handing) (i : ℕ) (d : Handing) → i < length hs → set (mixed m hs i) i (child_of m (get_or hs i d)) ≡ mixed m hs (suc i)
 mixed_set m [] i d b = absurd (omega arith)
 mixed_set m (h ∷ hs) zero d b = refl

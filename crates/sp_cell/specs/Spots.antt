@@ -1,4 +1,5 @@
--- Lists of spots.
+-- Lists of spots: membership, and that none comes twice, by recursion and by place. The requirements of `split` and
+-- the definition of sound code cite it; loops go by places, laws by recursion.
 use Rattle.std.specs.Prelude.{◌≡◌, ◌≢◌, ◌⊎◌, ℕ, ◌<◌, List, [], ◌∷◌, length, slice_index_or, Some}
 use Rattle.std.specs.List.{AllByRecursion}
 use Rattle.std.specs.FinMap as map

@@ -1,4 +1,5 @@
--- One more spot of a fork or a join, as a loop takes it.
+-- One more spot of a fork or a join, as a loop takes it. The proofs of the loops of the store and of the machine use
+-- it, for what the first k spots have done.
 use Rattle.std.specs.Prelude.{◌≡◌, ℕ, zero, suc, ◌+◌, ◌<◌, ◌≢◌, List, [], ◌∷◌, length, take, Option, None, Some, IsSome, max, replicate}
 use Rattle.std.proofs.Common.{sym, subst, ap, refl, ◌∙◌, get_or, arith, inl, inr}
 use Rattle.std.specs.FinMap as map

@@ -1,4 +1,5 @@
--- What an offer on a channel is answered, and what is pending after it.
+-- What an offer on a channel is answered, and what is pending after it: the contract of `offer`. A table by what is
+-- pending, as the language's rules of communication give it.
 use Rattle.std.specs.Prelude.{ℕ, Bool, true, false, ◌==◌, if◌then◌else◌, Option, None, Some}
 use Rattle.sp_channel.specs.declared.channels.Offer.{Offer}
 use Rattle.sp_channel.specs.declared.channels.Offer.TheVariants.{Waits, Meets, Contends, TypeDiffers}

@@ -1,4 +1,5 @@
--- How far a text has been read. No public contract cites these.
+-- How far a text has been read: the entries so far, and that every journal with this text begins with them. No public
+-- contract cites these; the proof of the reader keeps them from line to line.
 use Rattle.std.specs.Prelude.{◌≡◌, ℕ, List, ◌++◌}
 use Rattle.sp_journal.specs.declared.entry.Entry.{Entry}
 use Rattle.sp_journal.specs.declared.entry.Journal.{Journal}

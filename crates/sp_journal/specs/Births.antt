@@ -1,4 +1,6 @@
--- What a journal's entries give to processes and channels: numbers, births and names.
+-- What a journal's entries give to processes and channels: numbers, births and names. The contracts of `Journal` and
+-- `Ledger` cite it, and the kernel, the judge and the reports speak of processes by it. A fold over the entries, since
+-- numbers are given in the order of entries.
 use Rattle.std.specs.Prelude.{ℕ, ◌+◌, ◌-◌, ◌^◌, ◌<◌, ◌≤◌, Bool, cond, ◌&&◌, ◌==◌, nat_lt, nat_le, List, [], ◌∷◌, Option, Some, None}
 use Rattle.sp_journal.specs.declared.entry.Way.TheVariants as way
 use Rattle.sp_journal.specs.declared.entry.Event.{Event}
@@ -61,9 +63,11 @@ after_event s p (event.Fault f) = s
 after_event s p event.Laid = s
 after_event s p event.Pause = s
 
+-- the same of an entry
 abbrev pub after_entry : Births → Entry → Births
 after_entry s e = after_event s e.process e.event
 
+-- what further entries give
 abbrev pub births_from : Births → List Entry → Births
 births_from s [] = s
 births_from s (e ∷ es) = births_from (after_entry s e) es
@@ -91,6 +95,7 @@ GivesNumbers s p event.Pause = Unit {0}
 abbrev pub CanFollow : Births → Entry → Type 0
 CanFollow s e = (e.process < s.processes) × GivesNumbers s e.process e.event
 
+-- each further entry can come next
 abbrev pub NameableFrom : Births → List Entry → Type 0
 NameableFrom s [] = Unit {0}
 NameableFrom s (e ∷ es) = CanFollow s e × NameableFrom (after_entry s e) es
@@ -110,6 +115,7 @@ happening s (event.Fault f) = Failed f
 happening s event.Laid = LaidDown
 happening s event.Pause = Paused
 
+-- an entry by names, with what was given before it
 abbrev pub occurrence : Births → Entry → Occurrence
 occurrence s e = record { who = s.name e.process; what = happening s e.event }
 
@@ -117,5 +123,6 @@ abbrev pub occurrences_from : Births → List Entry → List Occurrence
 occurrences_from s [] = []
 occurrences_from s (e ∷ es) = occurrence s e ∷ occurrences_from (after_entry s e) es
 
+-- a whole journal by names
 abbrev pub occurrences : Journal → List Occurrence
 occurrences j = occurrences_from at_start j.entries

@@ -1,4 +1,5 @@
--- What the tables of a ledger hold.
+-- What the tables of a ledger hold: what `births` says of the journal so far. The contracts of `Ledger` keep it, and
+-- the judge, the kernel and the reports look names up under it.
 use Rattle.std.specs.Prelude.{◌≡◌, ℕ, ◌-◌, ◌<◌, ◌≤◌, cond, nat_le, nat_eq, List, [], ◌∷◌, length, Option, Some, None, slice_get, slice_index_or, unwrap_or}
 use Rattle.std.specs.Option.{option_map}
 use Rattle.std.specs.HashMap as hash

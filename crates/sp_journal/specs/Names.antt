@@ -1,4 +1,6 @@
--- Names of processes and channels in the form in which definitions use them, and what a journal says by names.
+-- Names of processes and channels in the form in which definitions use them, and what a journal says by names. The
+-- meaning, the judge and the reports speak of runs so. The newest step stands first, since definitions go from a
+-- process to its parent.
 use Rattle.std.specs.Prelude.{ℕ, Bool, true, false, ◌&&◌, ◌==◌, List, [], ◌∷◌, ◌++◌}
 use Rattle.sp_base.specs.declared.fault.Fault.{Fault}
 use Rattle.sp_base.specs.declared.name.Pair.{Pair}

@@ -1,4 +1,5 @@
--- Journals in which the process of every entry is the one that had been ready longest before it.
+-- Journals in which the process of every entry is the one that had been ready longest before it. The laws of
+-- sp_history and the contracts of the runner promise such a journal of a run by one worker.
 use Rattle.std.specs.Prelude.{◌≡◌, ℕ, suc, zero, ◌-◌, cond, ◌==◌, List, [], ◌∷◌, ◌++◌, Option, Some, None}
 use Rattle.sp_journal.specs.declared.entry.Event.{Event}
 use Rattle.sp_journal.specs.declared.entry.Event.TheVariants as event
@@ -49,6 +50,7 @@ queued s l p (event.Fault f) = l
 queued s l p event.Laid = l
 queued s l p event.Pause = joined_by l (p ∷ [])
 
+-- further entries, each by the process that has been ready longest
 abbrev pub InTurnFrom : Births → Line → List Entry → Type 0
 InTurnFrom s l [] = Unit {0}
 InTurnFrom s l (e ∷ es) = (rest : List ℕ) × (l.ready ≡ e.process ∷ rest) × InTurnFrom (after_entry s e) (queued s (record l { ready = rest }) e.process e.event) es

@@ -1,4 +1,5 @@
--- What a reader of a journal's text keeps, and what it makes of a line. No public contract cites these.
+-- What a reader of a journal's text keeps, and what it makes of a line. No public contract cites these; the parts of
+-- the reader promise them to each other, so that each line is looked at once.
 use Rattle.std.specs.Prelude.{◌≡◌, ℕ, ◌-◌, ◌<◌, List, ◌∷◌, ◌++◌, Option, Some, None}
 use Rattle.std.specs.HashMap.{get_by_text}
 use Rattle.std.specs.Fmt.{decimal}

@@ -1,4 +1,5 @@
--- What reading the text of a journal answers.
+-- What reading the text of a journal answers: the contract of `read_journal`. It says both that the answer is right
+-- and that there is no other, so that a text stands for one journal.
 use Rattle.std.specs.Prelude.{◌≡◌, ℕ, List, codes, Option, Some, None, Result, Ok, Err}
 use Rattle.sp_journal.specs.declared.entry.Journal.{Journal}
 use Rattle.sp_journal.specs.declared.version.Version.{Version}
@@ -28,6 +29,7 @@ abbrev pub first_line : Version → List ℕ
 first_line version.One = codes "superpascal journal 1"
 first_line version.Two = codes "superpascal journal 2"
 
+-- the version of which this is the first line, or of none
 abbrev pub IsVersionOf : List ℕ → Option Version → Type 0
 IsVersionOf line (Some v) = line ≡ first_line v
 IsVersionOf line None = (v : Version) → line ≡ first_line v → ⊥

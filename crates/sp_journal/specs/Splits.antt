@@ -1,4 +1,5 @@
--- Cutting a text at a byte. No public contract cites these.
+-- Cutting a text at a byte, for the parts of the reader. No public contract cites these; they are recursive, so that
+-- proofs go by the bytes of a line.
 use Rattle.std.specs.Prelude.{ℕ, cond, ◌==◌, List, [], ◌∷◌, Option, Some, None}
 use Rattle.sp_base.specs.declared.fault.Fault.{Fault}
 use Rattle.sp_base.specs.declared.fault.Fault.TheVariants as fault
@@ -22,5 +23,6 @@ last_split c (x ∷ xs) = or_here (last_split c xs)
     or_here None = cond (x == c) (Some ([], xs)) None
     or_here (Some p) = Some (x ∷ p.0, p.1)
 
+-- each fault once
 abbrev pub all_faults : List Fault
 all_faults = fault.F1 ∷ fault.F2 ∷ fault.F3 ∷ fault.F4 ∷ fault.F5 ∷ fault.F6 ∷ fault.F7 ∷ fault.F8 ∷ fault.F9 ∷ fault.F10 ∷ fault.F11 ∷ fault.F12 ∷ fault.F13 ∷ fault.F14 ∷ fault.F15 ∷ fault.F16 ∷ fault.F17 ∷ fault.F18 ∷ []

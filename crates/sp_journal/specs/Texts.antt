@@ -1,4 +1,5 @@
--- The texts of a journal.
+-- The texts of a journal: a heading, and then a line for each entry. Printing and reading promise the same definition,
+-- which makes the two inverse; the reports print entries by it too.
 use Rattle.std.specs.Prelude.{◌≡◌, ℕ, ◌+◌, List, [], ◌∷◌, ◌++◌, length, codes, decimal}
 use Rattle.sp_base.specs.Faults.{fault_name}
 use Rattle.sp_base.specs.Names.{name_text, channel_text}
@@ -13,13 +14,16 @@ use Rattle.sp_journal.specs.declared.version.Version.TheVariants as version
 use Rattle.sp_journal.specs.Names.{proc_name, chan_name}
 use Rattle.sp_journal.specs.Births.{Births, at_start, after_entry, births, channel, CanFollow, IsNameable}
 
+-- the word of a direction
 abbrev pub way_text : Way → List ℕ
 way_text way.Send = codes "send"
 way_text way.Receive = codes "receive"
 
+-- an offer with the name of its channel
 abbrev pub offer_text : Births → Way → ℕ → List ℕ
 offer_text s w c = way_text w ++ codes " " ++ channel_text (chan_name (channel s c))
 
+-- an event behind the name of its process
 abbrev pub event_text : Births → Event → List ℕ
 event_text s (event.Fork n) = codes "fork " ++ decimal n
 event_text s event.Open = codes "open"
@@ -34,6 +38,7 @@ event_text s event.Pause = codes "pause"
 abbrev pub entry_text : Births → Entry → List ℕ
 entry_text s e = name_text (proc_name (s.name e.process)) ++ codes " " ++ event_text s e.event
 
+-- each entry on a line of its own, with what was given before it
 abbrev pub entries_text : Births → List Entry → List ℕ
 entries_text s [] = []
 entries_text s (e ∷ es) = (entry_text s e ++ codes "\n") ++ entries_text (after_entry s e) es
@@ -50,6 +55,7 @@ CanHold version.One (event.Fault f) = Unit {0}
 CanHold version.One event.Laid = Unit {0}
 CanHold version.Two e = Unit {0}
 
+-- so for each entry
 abbrev pub AreHeld : Version → List Entry → Type 0
 AreHeld v [] = Unit {0}
 AreHeld v (e ∷ es) = CanHold v e.event × AreHeld v es

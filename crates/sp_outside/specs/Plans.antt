@@ -1,4 +1,5 @@
--- Which calls of an outside in memory fail.
+-- Which calls of an outside in memory fail. The contracts of the sources, sinks and libraries in memory cite it:
+-- failures go by the numbers of calls, so that a test can place each one.
 use Rattle.std.specs.Prelude.{ℕ, List, Bool, ◌==◌, cond}
 use Rattle.std.specs.List.{list_any}
 use Rattle.sp_outside.specs.Counts.{next_count}

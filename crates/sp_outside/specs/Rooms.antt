@@ -1,4 +1,5 @@
--- Bytes that are put into a room of a fixed length.
+-- Bytes that are put into a room of a fixed length, which the sinks in memory write to. What did not fit is lost, and
+-- from then on nothing is told of what was put.
 use Rattle.std.specs.Prelude.{◌≡◌, ℕ, List, [], ◌++◌, take, length, ◌+◌, nat_le, Option, Some, None, true, ◌&&◌, cond}
 use Rattle.sp_outside.specs.declared.room.Room.{Room}
 

@@ -1,4 +1,5 @@
--- How the fields of a store are seen as its plain map.
+-- How the fields of a store, its sorted spots and its entries, are seen as its plain map. All contracts of `Store`
+-- speak of that map; the parts inside cite this for where a spot stands.
 use Rattle.std.specs.Prelude.{ℕ, ◌<◌, List, [], ◌∷◌, length, slice_index_or, slice_set, IsSome, Some, None, ◌≡◌, ◌≤◌}
 use Rattle.std.specs.List.{insert}
 use Rattle.std.specs.List.Sorted.{IsStrictlySortedBy}
@@ -9,6 +10,7 @@ use Rattle.sp_cell.specs.Fork.{IsLentAt}
 use Rattle.sp_store.specs.declared.entry.Entry.{Entry}
 use Rattle.sp_store.specs.declared.entry.Entry.TheVariants as entry
 
+-- what an entry holds
 abbrev pub content : Entry → Content
 content (entry.Own p) = Own p
 content (entry.Shared a) = Shared a.value
@@ -21,6 +23,7 @@ pairs [] es = []
 pairs (s ∷ ss) [] = []
 pairs (s ∷ ss) (e ∷ es) = (s, content e) ∷ pairs ss es
 
+-- the map of the spots
 abbrev pub layout : List Spot → List Entry → Map
 layout ss es = map.from_sorted (pairs ss es)
 
@@ -41,8 +44,10 @@ pub record IsGap (ss : List Spot) (es : List Entry) (q : Spot) (i : ℕ) : Type 
   pub sorted : IsStrictlySortedBy spot_cmp (insert ss i q)
   pub inserts : (e : Entry) → layout (insert ss i q) (insert es i e) ≡ map.insert (layout ss es) q (content e)
 
+-- a piece of the first map is lent in the second at each spot
 abbrev pub IsLent : Map → Map → Type 0
 IsLent m r = (q : Spot) → IsLentAt m r q
 
+-- all spots are in frames below this number
 abbrev pub FramesBelow : List Spot → ℕ → Type 0
 FramesBelow ss n = (k : ℕ) (d : Spot) → k < length ss → let s = slice_index_or ss k d in s.frame < n

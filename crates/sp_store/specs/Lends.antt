@@ -1,4 +1,5 @@
--- What the slots end as, where a `&mut` to an entry is returned.
+-- What the slots end as, where a `&mut` to an entry is returned: a starred clause of `Slots` cites it, which speaks of
+-- the moment at which the borrow ends.
 use Rattle.std.specs.Borrow.{Lends, MutBor, Fml}
 use Rattle.std.specs.FinMap as map
 use Rattle.sp_cell.specs.declared.spot.Spot.{Spot}

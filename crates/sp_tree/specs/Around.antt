@@ -1,4 +1,5 @@
 -- What stands around a place in a program: the scopes, the innermost first, and what variable parameters stand for.
+-- The meaning, the definition of code and the generator count static levels by it, so that all three count alike.
 use Rattle.std.specs.Prelude.{ℕ, zero, suc, ◌==◌, List, [], ◌∷◌, Option, Some, None, Bool, false, if◌then◌else◌, slice_get, length}
 use Rattle.sp_tree.specs.Plain.{Program, Block}
 
@@ -7,10 +8,12 @@ pub data Scope : Type 0 where
   OfBlock : (b : ℕ) → Scope
   OfIndex : (x : ℕ) → Scope
 
+-- the scope is that of block b
 abbrev pub is_block : ℕ → Scope → Bool
 is_block b (OfBlock c) = b == c
 is_block b (OfIndex x) = false
 
+-- the scope is that of index x
 abbrev pub is_index : ℕ → Scope → Bool
 is_index x (OfBlock c) = false
 is_index x (OfIndex y) = x == y
@@ -24,6 +27,7 @@ abbrev pub level : (Scope → Bool) → List Scope → Option ℕ
 level fits [] = None
 level fits (s ∷ sc) = if fits s then Some 0 else one_more (level fits sc)
 
+-- the block around a block
 abbrev pub parent_of : Option Block → Option ℕ
 parent_of None = None
 parent_of (Some k) = k.parent
@@ -35,6 +39,7 @@ module _ (p : Program) where
   scopes_by (suc n) None = []
   scopes_by (suc n) (Some b) = OfBlock b ∷ scopes_by n (parent_of (slice_get p.blocks b))
 
+  -- the scopes of a block's body, the innermost first
   abbrev pub scopes_of : ℕ → List Scope
   scopes_of b = scopes_by (length p.blocks) (Some b)
 

@@ -1,4 +1,5 @@
--- The plain tree without places, which the meaning runs, of one with places.
+-- The plain tree without places, which the meaning runs, of one with places. Contracts on a checked tree in memory say
+-- by it what the tree means; places serve reports alone, so the meaning knows none.
 use Rattle.std.specs.Prelude.{map, Option, Some, None}
 use Rattle.sp_tree.specs.PlainOf.{variable_of}
 use Rattle.sp_tree.specs.PlainChecked as p

@@ -1,4 +1,5 @@
--- The bytes of a text.
+-- The bytes of a text: letters, digits, blanks. The definitions of tokens and of items that are read cite it, and the
+-- tests on bytes promise it.
 use Rattle.std.specs.Prelude.{ℕ, ◌+◌, Bool, ◌||◌, ◌&&◌, nat_le, ◌==◌, cond}
 
 -- space, tab, form feed, carriage return, line feed

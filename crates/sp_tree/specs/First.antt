@@ -1,4 +1,5 @@
--- The order of broken rules: by place, and at one place by the row of the rule table. The first of all that are broken.
+-- The order of broken rules: by place, and at one place by the row of the rule table. The first of all that are
+-- broken. The definition of the program's refusal cites it, and each phase's answer is a first one in this order.
 use Rattle.std.specs.Prelude.{◌≡◌, ℕ, Bool, false}
 use Rattle.std.specs.Ordering.{nat_cmp, on, then_cmp, is_lt}
 use Rattle.std.specs.declared.cmp.Ordering.{Ordering}
@@ -56,9 +57,11 @@ row rule.I8 = 43
 row rule.I9 = 44
 row rule.L5 = 45
 
+-- by place, and then by row
 abbrev pub refusal_cmp : Refusal → Refusal → Ordering
 refusal_cmp = then_cmp (on (λ r. r.at.line) nat_cmp) (then_cmp (on (λ r. r.at.column) nat_cmp) (on (λ r. row r.rule) nat_cmp))
 
+-- the first comes before the second
 abbrev pub before : Refusal → Refusal → Bool
 before a b = is_lt (refusal_cmp a b)
 

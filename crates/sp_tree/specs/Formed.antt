@@ -29,6 +29,7 @@ abbrev pub among : (Role → Bool) → List (ℕ × Variable) → List ℕ
 among fits [] = []
 among fits (x ∷ xs) = if fits x.1.role then x.0 ∷ among fits xs else among fits xs
 
+-- none or one, as a list
 abbrev pub as_list : Option ℕ → List ℕ
 as_list None = []
 as_list (Some x) = x ∷ []
@@ -47,6 +48,7 @@ IsFormedUse p (Splits ss) = ss ≢ No
 IsFormedUse p (Spreads x s) = Unit {0}
 IsFormedUse p Stops = Unit {0}
 
+-- all of it
 pub record IsFormed (p : Program) : Type 0 where
   -- an array or record is of earlier types, and has a component
   pub arrays : (k : ℕ) (low high : ℤ) (index element : ℕ) → slice_get p.kinds k ≡ Some (kind.Array low high index element) → (suc element ≤ k) × (int_le low high ≡ true)

@@ -1,4 +1,5 @@
--- The rules of interference.
+-- The rules of interference, said of the whole program by paths, variables and sets. The promises of disjoint runs and
+-- of verdicts require them; they stand apart from the walk that finds a breach, which is Interferes.antt.
 use Rattle.std.specs.Prelude.{◌≡◌, ◌⊎◌, ℕ, ◌<◌, List, [], ◌∷◌, Some, slice_get}
 use Rattle.sp_tree.specs.declared.checked.Role.TheVariants as role
 use Rattle.sp_tree.specs.Plain.{Entire, ByValue, ByReference, Actuals, Nothing, Pass, Program, Variable, Block, Stmt, Stmts, No, And}
@@ -11,10 +12,12 @@ refs Nothing = []
 refs (Pass (ByValue e) rest) = refs rest
 refs (Pass (ByReference (Entire x ss)) rest) = x ∷ refs rest
 
+-- one of a list
 abbrev pub IsMember : ℕ → List ℕ → Type 0
 IsMember x [] = ⊥
 IsMember x (y ∷ ys) = (x ≡ y) ⊎ IsMember x ys
 
+-- none comes twice
 abbrev pub AllDifferent : List ℕ → Type 0
 AllDifferent [] = Unit
 AllDifferent (x ∷ xs) = (IsMember x xs → ⊥) × AllDifferent xs
@@ -25,12 +28,15 @@ module _ (p : Program) where
   KeepsI1 No = Unit
   KeepsI1 (And s rest) = ((x : ℕ) → IsTarget p (In_stmt s) x → IsUsed p (In_stmts rest) x → ⊥) × ((x : ℕ) → IsUsed p (In_stmt s) x → IsTarget p (In_stmts rest) x → ⊥) × KeepsI1 rest
 
+  -- the element statement of a forall has no target
   abbrev pub KeepsI2 : Stmt → Type 0
   KeepsI2 s = (x : ℕ) → IsTarget p (In_stmt s) x → ⊥
 
+  -- no variable is passed twice as a variable parameter
   abbrev pub KeepsI4 : Actuals → Type 0
   KeepsI4 args = AllDifferent (refs args)
 
+  -- no implicit variable of the block is passed
   abbrev pub KeepsI5 : ℕ → Actuals → Type 0
   KeepsI5 b args = (x : ℕ) → IsMember x (refs args) → Implicit p b x → ⊥
 
@@ -38,9 +44,11 @@ module _ (p : Program) where
   abbrev pub IsCalledInside : ℕ → Type 0
   IsCalledInside b = (n c : ℕ) × IsBelow p n c b × (k : Block) × (slice_get p.blocks c ≡ Some k) × (args : Actuals) × In_stmt k.body (Runs b args)
 
+  -- the block has a result
   abbrev pub IsFunction : ℕ → Type 0
   IsFunction b = (k : Block) × (x : ℕ) × (slice_get p.blocks b ≡ Some k) × (k.answer ≡ Some x)
 
+  -- the variable is the index of a forall
   abbrev pub IsIndexOf : ℕ → Type 0
   IsIndexOf x = (i : Variable) × (slice_get p.variables x ≡ Some i) × (i.role ≡ role.Index)
 

@@ -1,4 +1,5 @@
--- The spellings of tokens, and comments. The bytes begin with a spelling, and what is left is the second list.
+-- The spellings of tokens, and comments. The bytes begin with a spelling, and what is left is the second list. The
+-- scanner's contracts and the definition of a scanned text cite it: relations on bytes, of which the longest is taken.
 use Rattle.std.specs.Prelude.{◌≡◌, ◌≢◌, ℕ, ◌-◌, ◌≤◌, Bool, true, false, ◌||◌, ◌&&◌, ◌==◌, List, [], ◌∷◌, ◌++◌, length, map, take, codes, Some, slice_get}
 use Rattle.sp_tree.specs.declared.token.Kind.{Kind}
 use Rattle.sp_tree.specs.declared.token.Kind.TheVariants as kind

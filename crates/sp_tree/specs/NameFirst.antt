@@ -1,4 +1,5 @@
--- The first broken rule of names of a program, and what resolving its names gives.
+-- The first broken rule of names of a program, and what resolving its names gives: the contract of the resolution.
+-- Each is one line over the walk of NameWalk.antt.
 use Rattle.std.specs.Prelude.{List, [], ◌++◌, None, Result}
 use Rattle.sp_base.specs.declared.halt.Refusal.{Refusal}
 use Rattle.sp_tree.specs.PlainNamed as n
@@ -13,18 +14,23 @@ use Rattle.sp_tree.specs.PlainSyntax.{Program}
 abbrev pub Onward : Type 0
 Onward = Found → Found
 
+-- nothing is found
 abbrev pub none_more : Onward
 none_more given = given
 
+-- what is found first, and then the rest
 abbrev pub both : Onward → Onward → Onward
 both f g given = g (f given)
 
+-- the rule that is broken at a site
 abbrev pub at_site : Env → Site → Onward
 at_site env s given = lesser given (broken env s)
 
+-- all of both
 abbrev pub together : List Refusal → List Refusal → List Refusal
 together rs ss = rs ++ ss
 
+-- none or one, as a list
 abbrev pub all_at : Env → Site → List Refusal
 all_at env s = listed (broken env s)
 

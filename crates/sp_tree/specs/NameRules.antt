@@ -1,4 +1,5 @@
 -- What stands in a tree for the rules of names, and which of them is broken there, by the declarations visible there.
+-- The walk asks it at each site, with one clause for each row of the rules.
 use Rattle.std.specs.Prelude.{ℕ, nat_eq, nat_le, not, List, [], ◌∷◌, length, Bool, true, false, ◌||◌, ◌&&◌, if◌then◌else◌, Option, Some, None, codes}
 use Rattle.std.specs.List.{list_any}
 use Rattle.std.specs.Option.{is_some}

@@ -1,5 +1,5 @@
--- All that stands in a program for the rules of names, with the declarations visible there. `join` puts together what is
--- found at the sites: lists give all broken rules, `lesser` the first.
+-- All that stands in a program for the rules of names, with the declarations visible there. `join` puts together what
+-- is found at the sites: lists give all broken rules, `lesser` the first. The contracts of sp_scope follow its parts.
 use Rattle.std.specs.Prelude.{ℕ, suc, ◌+◌, ◌&&◌, List, [], ◌∷◌, ◌++◌, map, Bool, true, false, if◌then◌else◌, Option, Some, None}
 use Rattle.sp_base.specs.declared.place.Place.{Place}
 use Rattle.sp_tree.specs.declared.checked.Role.{Role}
@@ -24,10 +24,12 @@ abbrev pub count : Arguments → ℕ
 count NoArgument = 0
 count (AndArgument a rest) = suc (count rest)
 
+-- a variable without selectors
 abbrev pub is_whole : Selectors → Bool
 is_whole Whole = true
 is_whole (Select s rest) = false
 
+-- where an expression stands
 abbrev pub place : Expression → Place
 place (At at form) = at
 

@@ -1,4 +1,5 @@
--- The plain tree of a named one in memory.
+-- The plain tree of a named one in memory. The contracts of the resolution, which makes such a tree, and of the checks
+-- of types, which take it, speak of plain trees by it.
 use Rattle.std.specs.Prelude.{List, [], ◌∷◌, map, Option, Some, None}
 use Rattle.sp_tree.specs.declared.named.NamedExprForm.TheOpen as e
 use Rattle.sp_tree.specs.declared.named.NamedForm.TheOpen as s

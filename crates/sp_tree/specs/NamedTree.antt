@@ -1,5 +1,5 @@
--- The tree with numbers for names, by the declarations visible at each name. It is there for every syntax tree; where no
--- rule of names is broken, each name has the number of its declaration.
+-- The tree with numbers for names, by the declarations visible at each name. It is there for every syntax tree; where
+-- no rule of names is broken, each name has the number of its declaration. The contract of the resolution promises it.
 use Rattle.std.specs.Prelude.{ℕ, suc, List, [], ◌∷◌, ◌++◌, length, Option, Some, None, codes}
 use Rattle.sp_base.specs.declared.place.Place.{Place}
 use Rattle.sp_tree.specs.declared.checked.Role.{Role}

@@ -1,4 +1,5 @@
--- Operators and standard functions of ordinals, as functions to a number or a fault. The meaning and the code share them.
+-- Operators and standard functions of ordinals, as functions to a number or a fault. The meaning and the code share
+-- them, and sp_arithmetic promises them, so that no operator is said twice.
 use Rattle.std.specs.Prelude.{ℤ, pos, ◌+ℤ◌, ◌-ℤ◌, ◌*ℤ◌, neg_ℤ, nat_abs, int_lt, int_le, int_div, int_rem, Bool, ◌&&◌, not, if◌then◌else◌}
 use Rattle.sp_base.specs.declared.fault.Fault.{Fault}
 use Rattle.sp_base.specs.declared.fault.Fault.TheVariants as fault
@@ -42,6 +43,7 @@ predecessor low n = if int_lt low n then Yields (n -ℤ pos 1) else Refuses faul
 abbrev pub modulo : ℤ → ℤ → ℤ
 modulo i j = if int_lt (int_rem i j) (pos 0) then int_rem i j +ℤ j else int_rem i j
 
+-- whether two ordinals are equal
 abbrev pub same_ordinal : ℤ → ℤ → Bool
 same_ordinal m n = int_le m n && int_le n m
 
@@ -95,6 +97,7 @@ least (kind.Array low high index element) = pos 0
 least (kind.Fields fs) = pos 0
 least (kind.Channel ks) = pos 0
 
+-- the greatest integer
 abbrev pub greatest : KindOf → ℤ
 greatest kind.Integer = MAXINT
 greatest kind.Boolean = pos 1

@@ -1,4 +1,5 @@
--- The places of a text's bytes.
+-- The places of a text's bytes, by line and column. The definitions of tokens and of refusals cite it, and the scanner
+-- and the parser promise it.
 use Rattle.std.specs.Prelude.{ℕ, ◌+◌, ◌==◌, cond, List, [], ◌∷◌, take}
 use Rattle.sp_base.specs.declared.place.Place.{Place}
 

@@ -1,4 +1,5 @@
--- The tree without places, in types of specifications: definitions by clauses compute on it, and proofs go by its cases.
+-- The tree without places, in types of specifications: definitions by clauses compute on it, and proofs go by its
+-- cases. The meaning, the sets, the code and all their contracts speak of it.
 use Rattle.std.specs.Prelude.{ℕ, ℤ, List, Option, Bool}
 use Rattle.sp_tree.specs.declared.operators.UnaryOp.{UnaryOp}
 use Rattle.sp_tree.specs.declared.operators.BinaryOp.{BinaryOp}

@@ -1,4 +1,5 @@
--- A text as blanks, comments and tokens, and the rules that it breaks so.
+-- A text as blanks, comments and tokens, and the rules that it breaks so. The scanner's contract promises it, and the
+-- front's definition of a refused text begins with it.
 use Rattle.std.specs.Prelude.{◌≡◌, ◌≢◌, ℕ, ◌-◌, ◌<◌, Bool, true, false, ◌||◌, ◌&&◌, ◌==◌, List, [], ◌∷◌, length, Some, slice_get, ◌⊎◌}
 use Rattle.sp_base.specs.declared.place.Place.{Place}
 use Rattle.sp_base.specs.declared.rule.Rule.{Rule}

@@ -1,4 +1,5 @@
--- The variables that a statement uses, by paths of calls.
+-- The variables that a statement uses, by paths of calls: the meaning of the sets that sp_varsets computes. It is said
+-- by paths, and not by a closure, so that it shares nothing with the computation.
 use Rattle.std.specs.Prelude.{◌≡◌, ◌⊎◌, ℕ, zero, suc, List, [], ◌∷◌, Some, slice_get}
 use Rattle.sp_tree.specs.Plain.{Actuals, Program, Variable, Block}
 use Rattle.sp_tree.specs.Uses.{Use, Aims, Sees, Runs, Splits, Spreads, Stops, In_stmt}
@@ -13,6 +14,7 @@ module _ (p : Program) where
   abbrev pub IsFree : ℕ → ℕ → Type 0
   IsFree b x = (i : Variable) → slice_get p.variables x ≡ Some i → (n : ℕ) → IsBelow n i.block b → ⊥
 
+  -- a use in block b that those who call it have as well: one of a variable from outside, or a stop
   abbrev pub Passes : ℕ → Use → Type 0
   Passes b (Aims x) = IsFree b x
   Passes b (Sees x) = IsFree b x
@@ -30,15 +32,19 @@ module _ (p : Program) where
   abbrev pub IsTarget : (Use → Type 0) → ℕ → Type 0
   IsTarget Here x = (bs : List ℕ) × Reach Here bs (Aims x)
 
+  -- the statement has it as an expression variable
   abbrev pub IsSeen : (Use → Type 0) → ℕ → Type 0
   IsSeen Here x = (bs : List ℕ) × Reach Here bs (Sees x)
 
+  -- either
   abbrev pub IsUsed : (Use → Type 0) → ℕ → Type 0
   IsUsed Here x = IsTarget Here x ⊎ IsSeen Here x
 
+  -- a target of the block that is declared outside it
   abbrev pub ImplicitTarget : ℕ → ℕ → Type 0
   ImplicitTarget b x = (k : Block) × (slice_get p.blocks b ≡ Some k) × IsFree b x × IsTarget (In_stmt k.body) x
 
+  -- a variable of the block that is declared outside it
   abbrev pub Implicit : ℕ → ℕ → Type 0
   Implicit b x = (k : Block) × (slice_get p.blocks b ≡ Some k) × IsFree b x × IsUsed (In_stmt k.body) x
 

@@ -1,4 +1,5 @@
--- What a token of a text says.
+-- What a token of a text says: the number of digits, the text between quotes, the letters of a name. The grammar gives
+-- trees these values, and the scanner and the parser promise them.
 use Rattle.std.specs.Prelude.{ℕ, ◌+◌, ◌-◌, ◌*◌, ◌==◌, cond, List, [], ◌∷◌, map, take, drop}
 use Rattle.sp_tree.specs.declared.token.Token.{Token}
 use Rattle.sp_tree.specs.declared.syntax.Name.{Name}
@@ -17,6 +18,7 @@ abbrev pub digits_value : ℕ → List ℕ → ℕ
 digits_value n [] = n
 digits_value n (b ∷ bs) = digits_value (10 * n + (b - 48)) bs
 
+-- the number of a token of digits
 abbrev pub number_of : List ℕ → Token → ℕ
 number_of text t = digits_value 0 (spelling text t)
 
@@ -26,5 +28,6 @@ within_quotes [] = []
 within_quotes (b ∷ []) = []
 within_quotes (b ∷ c ∷ bs) = cond (b == 39) (39 ∷ within_quotes bs) (b ∷ within_quotes (c ∷ bs))
 
+-- the text of a token between quotes
 abbrev pub quoted_of : List ℕ → Token → List ℕ
 quoted_of text t = within_quotes (drop 1 (spelling text t))

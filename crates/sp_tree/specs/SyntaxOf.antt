@@ -1,4 +1,5 @@
--- The plain tree of a syntax tree in memory.
+-- The plain tree of a syntax tree in memory. The contracts of the parser, which makes such a tree, and of the
+-- resolution, which takes it, speak of plain trees by it.
 use Rattle.std.specs.Prelude.{List, [], ◌∷◌, map, Option, Some, None}
 use Rattle.sp_tree.specs.declared.syntax.SynExprForm.TheOpen as e
 use Rattle.sp_tree.specs.declared.syntax.SynForm.TheOpen as s

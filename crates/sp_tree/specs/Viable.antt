@@ -1,4 +1,5 @@
--- Which tokens spell a program, and which are the beginning of some program.
+-- Which tokens spell a program, and which are the beginning of some program. The first bad token is defined by it, for
+-- the parser's refusal.
 use Rattle.std.specs.Prelude.{◌≡◌, ℕ, ◌<◌, List, [], ◌∷◌, ◌++◌, length}
 use Rattle.sp_tree.specs.declared.token.Token.{Token}
 use Rattle.sp_tree.specs.PlainSyntax.{Program}

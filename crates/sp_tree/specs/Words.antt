@@ -1,4 +1,5 @@
--- The reserved words and the signs, as kinds of tokens.
+-- The reserved words and the signs, as kinds of tokens: a short name for each, which the lines of the grammar and the
+-- parser's tables write.
 use Rattle.sp_tree.specs.declared.token.Kind.{Kind}
 use Rattle.sp_tree.specs.declared.token.Kind.TheVariants as kind
 
