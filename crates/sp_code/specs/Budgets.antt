@@ -1,4 +1,5 @@
--- How many instructions a turn of ranked code has, at most.
+-- How many instructions a turn of ranked code has, at most. The law that turns end promises it, from the ranks of the
+-- code and the ticks that are left.
 use Rattle.std.specs.Prelude.{◌≡◌, ℕ, suc, ◌+◌, ◌-◌, ◌*◌, ◌≤◌, List, [], ◌∷◌, length}
 use Rattle.sp_cell.specs.declared.cell.Cell.{Cell}
 use Rattle.sp_cell.specs.declared.spot.Address.{Address}

@@ -1,4 +1,5 @@
 -- The control of the kernel, as a function of the notes of a run: who is ready, out, waiting, joining, laid or ended.
+-- The kernel's contracts lead its tables to it, and the laws of histories speak of it alone.
 use Rattle.std.specs.Prelude.{ℕ, ◌+◌, ◌-◌, ◌==◌, List, [], ◌∷◌, ◌++◌, Option, Some, None, Bool, true, false, ◌||◌, if◌then◌else◌, cond, nat_lt}
 use Rattle.sp_journal.specs.declared.entry.Way.{Way}
 use Rattle.sp_journal.specs.declared.entry.Way.TheVariants as way

@@ -1,4 +1,5 @@
--- The code of each part of a tree, as a list of instructions; its fork tables and texts.
+-- The code of each part of a tree, as a list of instructions; its fork tables and texts. The generator promises it,
+-- and the proof of generated code reads it: it is said in lists, with no labels to be filled in later.
 use Rattle.std.specs.Prelude.{ℕ, suc, ◌+◌, ◌==◌, ℤ, pos, List, [], ◌∷◌, ◌++◌, Option, Some, None, Bool, if◌then◌else◌, slice_get, map}
 use Rattle.sp_tree.specs.Cells.{cells_by, sizes}
 use Rattle.sp_tree.specs.declared.checked.KindOf.{KindOf}

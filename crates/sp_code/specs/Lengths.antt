@@ -1,4 +1,5 @@
--- How many instructions the code of each part of a tree has: the table of lengths.
+-- How many instructions the code of each part of a tree has: the table of lengths, which the limit of code is said by.
+-- Laws promise that code as it is written has these lengths, so a tree too large is refused before code is made.
 use Rattle.std.specs.Prelude.{ℕ, ◌+◌, List, [], ◌∷◌, Option, Some, None, length}
 use Rattle.sp_tree.specs.declared.operators.UnaryOp.{UnaryOp}
 use Rattle.sp_tree.specs.declared.operators.UnaryOp.TheVariants as unary

@@ -1,4 +1,5 @@
--- How instructions and fork tables are listed.
+-- How instructions and fork tables are listed, a line for each. The contract of the listing promises it, and the
+-- command that prints code by it.
 use Rattle.std.specs.Prelude.{ℕ, suc, ℤ, pos, List, [], ◌∷◌, ◌++◌, codes, decimal}
 use Rattle.std.specs.List.{flat_map}
 use Rattle.std.specs.Fmt.{signed_decimal}

@@ -1,4 +1,5 @@
--- What each instruction does to a process, over any memory.
+-- What each instruction does to a process, over any memory. The machine's contracts promise it of one step, and
+-- generated code is compared with it; the memory is left open, so that laws of turns and channels need no store.
 use Rattle.std.specs.Prelude.{ℕ, zero, suc, ◌+◌, ◌*◌, ◌%◌, ◌==◌, ℤ, pos, ◌+ℤ◌, ◌-ℤ◌, nat_abs, int_lt, int_le, List, [], ◌∷◌, Option, Some, None, Bool, true, false, ◌&&◌, not, if◌then◌else◌, slice_get, length, take, min}
 use Rattle.std.specs.Fmt.{signed_decimal}
 use Rattle.sp_base.specs.declared.fault.Fault.{Fault}

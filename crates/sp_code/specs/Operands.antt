@@ -1,4 +1,5 @@
--- The numbers after an instruction's word, as a list.
+-- The numbers after an instruction's word, as a list: the part of the listing that all instructions share, for the
+-- contracts of its words.
 use Rattle.std.specs.Prelude.{ℤ, List, [], ◌∷◌}
 use Rattle.sp_code.specs.declared.words.Operands.{Operands}
 use Rattle.sp_code.specs.declared.words.Operands.TheVariants as o

@@ -1,4 +1,5 @@
--- Where the code of each part of a tree ends.
+-- Where the code of each part of a tree ends, from where it begins. Jumps and fork tables are said by it, here and in
+-- the generator's contracts.
 use Rattle.std.specs.Prelude.{ℕ, ◌+◌, ℤ, List, [], ◌∷◌, Option, Some, None}
 use Rattle.sp_tree.specs.declared.operators.UnaryOp.{UnaryOp}
 use Rattle.sp_tree.specs.declared.operators.UnaryOp.TheVariants as unary

@@ -1,4 +1,5 @@
--- The stores of a run, as plain maps.
+-- The stores of a run, as plain maps: the store with which the machine's memory is used in all contracts, by the
+-- definitions of sp_cell.
 use Rattle.std.specs.Prelude.{ℕ, ◌==◌, List, [], Option, Some, None, Bool, true, false, ◌&&◌, not}
 use Rattle.std.specs.List.{list_all}
 use Rattle.std.specs.FinMap as map
@@ -17,6 +18,7 @@ piece_of (Some (Shared cs)) = Some cs
 piece_of (Some (Output bs)) = None
 piece_of (Some Away) = None
 
+-- the spot is known and away
 abbrev pub is_away : Option Content → Bool
 is_away None = false
 is_away (Some (Own cs)) = false
@@ -31,6 +33,7 @@ none_away m n = list_all (λ (q : Spot). not ((q.frame == n) && is_away (map.get
 abbrev pub is_newest : List ℕ → ℕ → Bool
 is_newest ns n = is_there ns && (newest ns == n)
 
+-- plain maps as the machine's stores
 abbrev pub plain : Stores Plain
 plain = record {
   piece = λ p s. piece_of (map.get p.map s);

@@ -1,4 +1,5 @@
--- What the code of a block may rest on: a function calls nothing that stops.
+-- What the code of a block may rest on: a function calls nothing that stops. The facts of an accepted tree promise it,
+-- and generated code needs it, since an answer is awaited within one turn.
 use Rattle.std.specs.Prelude.{ℕ}
 use Rattle.sp_tree.specs.Plain.{Program}
 use Rattle.sp_tree.specs.Sets.{LeadsToStop}

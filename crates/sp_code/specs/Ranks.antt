@@ -1,4 +1,5 @@
--- Each way back to an instruction passes a tick or a call. This is why a turn ends.
+-- Each way back to an instruction passes a tick or a call. This is why a turn ends. Sound code is required to have
+-- such ranks, and generated code is proved to have them.
 use Rattle.std.specs.Prelude.{ℕ, zero, suc, ◌+◌, ◌<◌, List, [], ◌∷◌, length, Option, Some, None, nat_lt, if◌then◌else◌, slice_get}
 use Rattle.sp_code.specs.declared.instr.Instr.{Instr}
 use Rattle.sp_code.specs.declared.instr.Instr.TheVariants as i
@@ -70,6 +71,7 @@ ways p (Some (i.Fork t)) = []
 ways p (Some (i.Forall t)) = (p + 1) ∷ []
 ways p (Some i.End) = []
 
+-- the larger of two
 abbrev pub larger : ℕ → ℕ → ℕ
 larger a b = if nat_lt a b then b else a
 
@@ -82,6 +84,7 @@ unfoldable pub rank : ℕ → List Instr → ℕ → ℕ
 rank zero code p = 0
 rank (suc n) code p = suc (most (rank n code) (ways p (slice_get code p)))
 
+-- each is below a bound
 abbrev pub AllBelow : (ℕ → ℕ) → ℕ → List ℕ → Type 0
 AllBelow f n [] = Unit {0}
 AllBelow f n (p ∷ ps) = (f p < n) × AllBelow f n ps

@@ -1,4 +1,5 @@
--- Types, frames and scopes of a checked tree, as code needs them.
+-- Types, frames and scopes of a checked tree, as code needs them: sizes, offsets, slots and levels. The definition of
+-- code, its lengths and the generator's contracts share it.
 use Rattle.std.specs.Prelude.{ℕ, zero, suc, ◌==◌, List, [], ◌∷◌, ◌++◌, Option, Some, None, Bool, true, false, if◌then◌else◌, slice_get, map, sum, take, length}
 use Rattle.sp_tree.specs.declared.checked.KindOf.{KindOf}
 use Rattle.sp_tree.specs.declared.checked.KindOf.TheVariants as kind

@@ -1,4 +1,5 @@
--- What the children of a fork take over: for each process statement the variables that move to its process, and those that it shares.
+-- What the children of a fork take over: for each process statement the variables that move to its process, and those
+-- that it shares. The code of forks is given by it, and the facts of interference say which choices are right.
 use Rattle.std.specs.Prelude.{◌⊎◌, ℕ, List}
 use Rattle.sp_tree.specs.Plain.{Program, Stmt}
 use Rattle.sp_tree.specs.Uses.{In_stmt}

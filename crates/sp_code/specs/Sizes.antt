@@ -1,4 +1,5 @@
--- How large code may be.
+-- How large code may be: so many instructions, layouts, fork tables and texts, and frames whose variables have
+-- numbers. The invariant of `Code` keeps it, so that the machine's numbers fit.
 use Rattle.std.specs.Prelude.{◌≤◌, All, length}
 use Rattle.sp_code.specs.declared.code.Parts.{Parts}
 use Rattle.sp_code.specs.declared.code.Layout.{Layout}

@@ -1,4 +1,6 @@
 -- Code that runs safely: each turn ends, finds what its instructions need and touches what its process holds alone.
+-- The machine, the kernel and the runner require it, and generated code has it; so no part checks at run time what is
+-- proved once.
 use Rattle.std.specs.Prelude.{◌≡◌, ℕ, ◌+◌, ◌*◌, ◌≤◌, ◌==◌, ℤ, List, [], ◌∷◌, ◌++◌, length, Some, None, false, if◌then◌else◌, slice_get}
 use Rattle.std.specs.FinMap as map
 use Rattle.sp_base.specs.declared.limits.Limits.{Limits}

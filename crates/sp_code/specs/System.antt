@@ -1,4 +1,5 @@
--- The system of all processes of a run of code, along a journal.
+-- The system of all processes of a run of code, along a journal. The laws of histories and the kernel's contracts
+-- speak of it, and sp_link compares it with the meaning: a step for each entry, with no worker and no queue in it.
 use Rattle.std.specs.Prelude.{◌≡◌, ℕ, zero, suc, ◌+◌, ◌-◌, ◌==◌, ℤ, pos, ◌+ℤ◌, List, [], ◌∷◌, Option, Some, None, Bool, true, false, if◌then◌else◌, cond, nat_lt, length, slice_get}
 use Rattle.sp_base.specs.declared.fault.Fault.{Fault}
 use Rattle.sp_base.specs.declared.fault.Fault.TheVariants as fault

@@ -1,4 +1,5 @@
--- The children of a fork table.
+-- The children of a fork table: one for each process statement, or one for all elements of a forall. The contract of
+-- `Code` and the machine's forks cite it.
 use Rattle.std.specs.Prelude.{ℕ, List, [], ◌∷◌, Option, Some, None, slice_get}
 use Rattle.sp_code.specs.declared.code.ChildTable.{ChildTable}
 use Rattle.sp_code.specs.declared.code.ForkTable.{ForkTable}

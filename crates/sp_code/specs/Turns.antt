@@ -1,4 +1,5 @@
--- A turn of a process: its instructions up to the next stop, or to the first moment at which it is due.
+-- A turn of a process: its instructions up to the next stop, or to the first moment at which it is due. The machine's
+-- `turn` promises it, and the system steps by it; a relation, since an unsound process has no turn.
 use Rattle.std.specs.Prelude.{◌≡◌, ℕ, zero, suc, Bool, true, false}
 use Rattle.sp_base.specs.declared.fault.Fault.{Fault}
 use Rattle.sp_base.specs.declared.fault.Fault.TheVariants as fault

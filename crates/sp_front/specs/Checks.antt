@@ -1,4 +1,5 @@
--- What a text is by all phases: its checked tree, or the first rule that it breaks.
+-- What a text is by all phases: its checked tree, or the first rule that it breaks. The contract of the check promises
+-- it, and the top call's causes cite it; a phase's rules count only where the phases before it have none.
 use Rattle.std.specs.Prelude.{◌≡◌, ◌⊎◌, ℕ, List, Result, Ok, Err}
 use Rattle.sp_base.specs.declared.halt.Halt.{Halt}
 use Rattle.sp_base.specs.declared.halt.Halt.TheVariants as halt
@@ -34,6 +35,7 @@ BreaksTypes text r = (named : n.Program) × IsNamed text named × (typed named �
 abbrev pub BreaksFirst : List ℕ → Refusal → Type 0
 BreaksFirst text r = IsFirstBroken text r ⊎ (BreaksNames text r ⊎ BreaksTypes text r)
 
+-- the answer of the check; want of memory is free
 abbrev pub Checks : List ℕ → Result Checked Halt → Type 0
 Checks text (Ok tree) = IsChecked text (checked.program_of tree)
 Checks text (Err (halt.Refused r)) = BreaksFirst text r

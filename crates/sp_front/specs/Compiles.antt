@@ -1,4 +1,5 @@
--- What a text is by all phases, the rules of interference among them.
+-- What a text is by all phases, the rules of interference among them. The contract of `compile` promises it, with the
+-- sets that code needs; the top call's causes cite it.
 use Rattle.std.specs.Prelude.{◌⊎◌, ℕ, List, Result, Ok, Err}
 use Rattle.sp_base.specs.declared.halt.Halt.{Halt}
 use Rattle.sp_base.specs.declared.halt.Halt.TheVariants as halt
@@ -27,6 +28,7 @@ BreaksInterference text r = (p : c.Program) × IsChecked text p × IsFirst (Inte
 abbrev pub BreaksAnyFirst : List ℕ → Refusal → Type 0
 BreaksAnyFirst text r = BreaksFirst text r ⊎ BreaksInterference text r
 
+-- the answer with the sets; want of memory is free
 abbrev pub Compiles : List ℕ → Result Accepted Halt → Type 0
 Compiles text (Ok a) = IsAccepted text (checked.program_of a.checked) × AreSets (checked.program_of a.checked) a.sets
 Compiles text (Err (halt.Refused r)) = BreaksAnyFirst text r

@@ -1,4 +1,5 @@
--- What a text is: its tree, or the first rule of its characters or its grammar that it breaks.
+-- What a text is: its tree, or the first rule of its characters or its grammar that it breaks. The contract of the
+-- reader promises it, over the scanner and the parser together.
 use Rattle.std.specs.Prelude.{ℕ, List, Result, Ok, Err}
 use Rattle.sp_base.specs.declared.halt.Halt.{Halt}
 use Rattle.sp_base.specs.declared.halt.Halt.TheVariants as halt
@@ -6,6 +7,7 @@ use Rattle.sp_tree.specs.declared.syntax.Syntax.{Syntax}
 use Rattle.sp_tree.specs.SyntaxOf.{program_of}
 use Rattle.sp_tree.specs.Breaches.{IsTree, IsFirstBroken}
 
+-- the answer of the reader; want of memory is free
 abbrev pub Reads : List ℕ → Result Syntax Halt → Type 0
 Reads text (Ok tree) = IsTree text (program_of tree)
 Reads text (Err (halt.Refused r)) = IsFirstBroken text r

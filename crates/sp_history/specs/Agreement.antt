@@ -1,4 +1,5 @@
--- What the control of the kernel and the system of all processes have in common, after the same notes.
+-- What the control of the kernel and the system of all processes have in common, after the same notes. The kernel's
+-- invariant and the laws of histories rest on it: both tell of each process the same phase.
 use Rattle.std.specs.Prelude.{◌≡◌, ◌≢◌, ◌⊎◌, ℕ, ◌≤◌, ◌<◌, List, [], ◌∷◌, length, Option, Some, None}
 use Rattle.sp_journal.specs.declared.entry.Way.{Way}
 use Rattle.sp_journal.specs.declared.entry.Way.TheVariants as way
@@ -32,6 +33,7 @@ phase Laid = Down
 phase Ended = Finished
 phase Gone = Running
 
+-- what a stop is to wait for
 abbrev pub waiting_phase : Stop → Phase
 waiting_phase (Sends c k cs) = ToSend c
 waiting_phase (Receives c k a) = ToReceive c
@@ -40,6 +42,7 @@ waiting_phase (Opens a) = Odd
 waiting_phase Ends = Odd
 waiting_phase Pauses = Odd
 
+-- what the system tells
 abbrev pub phase_in : {S : Type 0} → Condition S → Phase
 phase_in Absent = Never
 phase_in (Runs c) = Running
@@ -51,20 +54,24 @@ phase_in (Over c) = Finished
 
 -- ---- lists of numbers
 
+-- so for each number
 abbrev pub Each : (ℕ → Type 0) → List ℕ → Type 0
 Each P [] = Unit {0}
 Each P (x ∷ xs) = P x × Each P xs
 
+-- no number comes twice
 abbrev pub Differ : List ℕ → Type 0
 Differ [] = Unit {0}
 Differ (x ∷ xs) = Each (λ y. y ≢ x) xs × Differ xs
 
+-- one of the numbers
 abbrev pub Among : ℕ → List ℕ → Type 0
 Among q [] = ⊥
 Among q (x ∷ xs) = (q ≡ x) ⊎ Among q xs
 
 -- ---- the control alone
 
+-- to wait for an offer
 abbrev pub waits_by : Way → ℕ → Doing
 waits_by way.Send c = Sending c
 waits_by way.Receive c = Receiving c

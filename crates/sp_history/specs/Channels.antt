@@ -1,4 +1,5 @@
--- The channels that a process can speak of: those in its operands, its stop and the cells of its store.
+-- The channels that a process can speak of: those in its operands, its stop and the cells of its store. The law that
+-- all of them were opened is said by it; the property is left open, so that one walk serves all.
 use Rattle.std.specs.Prelude.{ℕ, List, [], ◌∷◌}
 use Rattle.sp_cell.specs.declared.cell.Cell.{Cell}
 use Rattle.sp_cell.specs.declared.cell.Cell.TheVariants as cell
@@ -25,10 +26,12 @@ module _ (C : ℕ → Type 0) where
   CellHas (cell.Ordinal v) = Unit {0}
   CellHas (cell.Channel c) = C c
 
+  -- so for each cell
   abbrev pub CellsHave : List Cell → Type 0
   CellsHave [] = Unit {0}
   CellsHave (c ∷ cs) = CellHas c × CellsHave cs
 
+  -- so for an operand
   abbrev pub EntryHas : Entry → Type 0
   EntryHas (Number v) = Unit {0}
   EntryHas (Chan c) = C c
@@ -37,6 +40,7 @@ module _ (C : ℕ → Type 0) where
   EntryHas (Link r) = Unit {0}
   EntryHas (Reply r) = Unit {0}
 
+  -- so for each operand
   abbrev pub EntriesHave : List Entry → Type 0
   EntriesHave [] = Unit {0}
   EntriesHave (e ∷ es) = EntryHas e × EntriesHave es
@@ -59,6 +63,7 @@ module _ (C : ℕ → Type 0) where
     abbrev pub ConfigHas : Config M → Type 0
     ConfigHas (At pc st n) = EntriesHave st × I n
 
+    -- so for a turn
     abbrev pub TurnHas : Turn M → Type 0
     TurnHas (Stopped stop c) = StopHas stop × ConfigHas c
     TurnHas (Faulted f c) = ConfigHas c

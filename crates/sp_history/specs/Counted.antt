@@ -1,4 +1,5 @@
--- What the entries of a run have given to each process: no more than their number; and nobody is there without a number.
+-- What the entries of a run have given to each process: no more than their number; and nobody is there without a
+-- number. The proofs of the laws of histories keep it along a run.
 use Rattle.std.specs.Prelude.{◌≡◌, ℕ, ◌≤◌}
 use Rattle.sp_code.specs.System.{System, Absent}
 

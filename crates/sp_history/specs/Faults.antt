@@ -1,4 +1,4 @@
--- Entries of faults.
+-- Entries of faults: the law that a journal has one at most is said by it.
 use Rattle.std.specs.Prelude.{◌≡◌}
 use Rattle.sp_base.specs.declared.fault.Fault.{Fault}
 use Rattle.sp_journal.specs.declared.entry.Event.{Event}

@@ -1,4 +1,5 @@
--- Which process holds the output of a run.
+-- Which process holds the output of a run. The kernel's end reads the output by the law that there is one such
+-- process; what each process has of it is a share, followed along births and ends.
 use Rattle.std.specs.Prelude.{◌≡◌, ◌≢◌, ℕ, List, Option, Some}
 use Rattle.std.specs.FinMap as map
 use Rattle.sp_cell.specs.declared.spot.Address.{Address}
@@ -21,6 +22,7 @@ pub data Share : Type 0 where
 abbrev pub HasOtherFrames : List ℕ → Type 0
 HasOtherFrames ns = Each (λ n. n ≢ 0) ns
 
+-- what a process with this share has in its store
 abbrev pub StoreIs : Share → Plain → Type 0
 StoreIs Holds p = IsOutput (map.get p.map output_spot) × HasOtherFrames p.own
 StoreIs Lends p = (map.get p.map output_spot ≡ Some Away) × HasOtherFrames p.own

@@ -1,4 +1,5 @@
--- Histories of one worker that hands in what it holds, with each of its asks.
+-- Histories of one worker that hands in what it holds, with each of its asks. The runner's contract shows each
+-- worker's notes to be such, and the law of first in, first out needs it.
 use Rattle.std.specs.Prelude.{◌≡◌, ℕ, List, [], ◌∷◌, length, Option, Some}
 use Rattle.sp_journal.specs.declared.entry.Note.{Note}
 use Rattle.sp_journal.specs.declared.entry.Birth.{Birth}

@@ -1,4 +1,4 @@
--- What the phase of interference answers.
+-- What the phase of interference answers: the contract of the check, in the words of sp_tree's rules and of no set.
 use Rattle.std.specs.Prelude.{Result, Ok, Err}
 use Rattle.sp_base.specs.declared.place.Place.{Place}
 use Rattle.sp_base.specs.declared.halt.Refusal.{Refusal}

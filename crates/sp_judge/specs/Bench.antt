@@ -1,4 +1,5 @@
--- What the judge's tables hold. No public contract cites these.
+-- What the judge's tables hold. No public contract cites these; the parts of the judge promise them to each other,
+-- against the pasts of the journal so far.
 use Rattle.std.specs.Prelude.{◌≡◌, true, ℕ, ◌<◌, ◌≤◌, List, [], map, take, length, Option, Some, None, slice_get}
 use Rattle.sp_journal.specs.declared.entry.Entry.{Entry}
 use Rattle.sp_journal.specs.declared.entry.Event.{Event}
@@ -21,6 +22,7 @@ use Rattle.sp_judge.specs.Counts.{made, counts}
 abbrev pub named : Births → List Entry → List Occurrence
 named s es = map (occurrence s) es
 
+-- the last offer of this way on a channel
 abbrev pub last_of : Way → Line → Option Offer
 last_of way.Send l = l.sent
 last_of way.Receive l = l.received

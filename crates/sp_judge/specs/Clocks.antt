@@ -1,4 +1,5 @@
--- What a clock says.
+-- What a clock says: a count for each process, 0 where it has no pair. The contracts of clocks, tables and the bench
+-- cite it, as functions, since equal clocks may be stored differently.
 use Rattle.std.specs.Prelude.{◌≡◌, ℕ, ◌<◌, cond, max, ◌==◌, List, Option, Some, None, unwrap_or, slice_get}
 use Rattle.std.specs.Ordering.{nat_cmp}
 use Rattle.std.specs.BTreeMap as tree
@@ -8,6 +9,7 @@ use Rattle.sp_judge.specs.declared.clock.Clock.{Clock}
 abbrev pub count_of : Clock → ℕ → ℕ
 count_of c q = unwrap_or (tree.get nat_cmp c.counts q) 0
 
+-- the same where there may be no clock
 abbrev pub count_at : Option Clock → ℕ → ℕ
 count_at None q = 0
 count_at (Some c) q = count_of c q
@@ -16,6 +18,7 @@ count_at (Some c) q = count_of c q
 abbrev pub clock_at : List Clock → ℕ → ℕ → ℕ
 clock_at cs p q = count_at (slice_get cs p) q
 
+-- a number in a table, or 0
 abbrev pub number_at : List ℕ → ℕ → ℕ
 number_at xs p = unwrap_or (slice_get xs p) 0
 

@@ -1,4 +1,5 @@
--- The sparse clocks of a journal by names: a count for each process that a process knows of.
+-- The sparse clocks of a journal by names: a count for each process that a process knows of. A law of this crate says
+-- that they tell the pasts, and the judge's tables hold them by numbers.
 use Rattle.std.specs.Prelude.{◌≡◌, ℕ, zero, suc, true, cond, max, ◌&&◌, List, [], ◌∷◌, ◌++◌, take, length, Option, Some, None, slice_get}
 use Rattle.sp_journal.specs.Names.{Name, same_name, Happening, Opened, Split, Offered, Finished, Failed, LaidDown, Paused, Occurrence}
 use Rattle.sp_journal.specs.Past.{Judged, judged_by, nothing_judged}
@@ -13,6 +14,7 @@ made (e ∷ es) q = cond (same_name e.who q && is_counted e.what) (suc (made es 
 abbrev pub PlaceOf : List Occurrence → Name → ℕ → ℕ → Type 0
 PlaceOf es q i k = (h : Happening) × (slice_get es i ≡ Some (record { who = q; what = h })) × (is_counted h ≡ true) × (k ≡ made (take i es) q)
 
+-- the count of p raised to k
 abbrev pub raised : Name → ℕ → (Name → ℕ) → Name → ℕ
 raised p k f q = cond (same_name p q) (max (f q) k) (f q)
 

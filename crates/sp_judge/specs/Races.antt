@@ -1,4 +1,5 @@
--- Verdicts: what the judge says of a journal and its end.
+-- Verdicts: what the judge says of a journal and its end. The contract of `verdict_of` promises it, and the top call's
+-- causes cite it: ordered, or the least race.
 use Rattle.std.specs.Prelude.{◌≡◌, ◌⊎◌, ℕ, ◌<◌, ◌≤◌, true, List, take, Some, slice_get}
 use Rattle.sp_journal.specs.declared.entry.Way.{Way}
 use Rattle.sp_journal.specs.declared.outcome.End.{End}

@@ -1,4 +1,5 @@
--- What a verdict promises of a run along a journal.
+-- What a verdict promises of a run along a journal: the law of this crate, and a part of the contract of `execute`. An
+-- ordered run ends alike in every schedule; the other verdicts promise no more than they say.
 use Rattle.std.specs.Prelude.{ℕ, List}
 use Rattle.sp_journal.specs.declared.outcome.End.{End}
 use Rattle.sp_journal.specs.declared.outcome.Verdict.{Verdict}

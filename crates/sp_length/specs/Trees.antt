@@ -1,4 +1,5 @@
--- Parts of a tree in memory, and their lengths one at a time.
+-- Parts of a tree in memory, and their lengths one at a time, for the contracts of `statements`, which adds one part
+-- after another.
 use Rattle.std.specs.Prelude.{ℕ, ◌+◌, Bool, true, false, Option, Some, None}
 use Rattle.sp_tree.specs.declared.checked.Form as ast_f
 use Rattle.sp_tree.specs.declared.checked.Arm as ast_a
@@ -14,6 +15,7 @@ stmt_form_of = ast_f.fold-Form Stmt Arm Stmt stmt_form_step arm_step stmt_step
 abbrev pub arm_of : ast_a.Arm → Arm
 arm_of = ast_a.fold-Arm Stmt Arm Stmt stmt_form_step arm_step stmt_step
 
+-- a value of several cells
 abbrev pub is_many : Sort → Bool
 is_many Ordinals = false
 is_many Channels = false

@@ -1,4 +1,5 @@
--- What a process gets that waits at its stop.
+-- What a process gets that waits at its stop. The contract of `resume` promises it; that what it gets fits is
+-- required, and the kernel shows it.
 use Rattle.std.specs.Prelude.{[], ◌∷◌}
 use Rattle.sp_cell.specs.declared.cell.Cell.TheVariants as cell
 use Rattle.sp_code.specs.Memory.{put_cell, put_cells}

@@ -1,4 +1,4 @@
--- The arguments of a call, and the variables into which they go.
+-- The arguments of a call, and the variables into which they go. The contracts of calls cite it, argument by argument.
 use Rattle.std.specs.Prelude.{ℕ, suc, ◌≤◌, List, [], ◌∷◌, length, Option, Some, None}
 use Rattle.sp_cell.specs.declared.spot.Address.{Address}
 use Rattle.sp_machine.specs.declared.stack.Operand.{Operand}

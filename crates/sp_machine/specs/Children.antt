@@ -1,4 +1,5 @@
--- The children of a fork.
+-- The children of a fork: their frames, numbers and first instructions. The contracts of `children` and of a process's
+-- fork promise it, and the kernel's forks cite it; the stores come from sp_store's `split`.
 use Rattle.std.specs.Prelude.{◌≡◌, ℕ, ◌+◌, ◌<◌, ℤ, List, [], ◌∷◌, length, get_or, slice_get, Option, Some, None}
 use Rattle.sp_base.specs.declared.limits.Limits.{Limits}
 use Rattle.sp_cell.specs.declared.spot.Handing.{Handing}
@@ -36,6 +37,7 @@ abbrev pub IsBornSo : State → ℕ → ℕ → List Frame → State → Type 0
 IsBornSo p q entry fs parent =
     ((s : Plain) → config_of (record p { store = s }) ≡ At entry [] (record { process = q; frames = fs; depth = parent.depth + 1; ticks = 0; since = 0; cells = 0; store = s })) × ((p.number ≡ q) × (p.input.value ≡ parent.input.value))
 
+-- a child by its handing and its table
 abbrev pub BornOf : State → Handing → ChildTable → ℕ → State → Type 0
 BornOf p h c q parent = IsBornSo p q c.entry (with_frame q h c.index parent.frames) parent
 

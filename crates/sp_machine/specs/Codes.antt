@@ -1,4 +1,4 @@
--- How the state of a process is stored.
+-- How the state of a process is stored: the code that its `Model` rests on.
 use Rattle.std.specs.Coded.{Coded}
 use Rattle.sp_machine.specs.declared.state.State.{State}
 use Rattle.sp_machine.specs.contracts.state.State as states

@@ -1,4 +1,4 @@
--- The operations on one ordinal.
+-- The operations on one ordinal, by the names that the machine gives them. The contract of `convert` cites it.
 use Rattle.std.specs.Prelude.{ℤ}
 use Rattle.sp_tree.specs.declared.operators.UnaryOp.TheVariants as sign
 use Rattle.sp_tree.specs.Operators.{Worked, absolute, square, is_odd, unary_op}

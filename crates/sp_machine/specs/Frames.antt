@@ -1,4 +1,4 @@
--- The frames of a process as the machine's definition sees them.
+-- The frames of a process as the machine's definition sees them. The contracts of frames, layouts and forks cite it.
 use Rattle.std.specs.Prelude.{List, map, reverse}
 use Rattle.sp_code.specs.Memory.{Frame as PlainFrame, Home as PlainHome, OfBlock, OfIndex}
 use Rattle.sp_machine.specs.declared.frames.Home.{Home}

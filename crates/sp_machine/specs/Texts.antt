@@ -1,4 +1,4 @@
--- Items that are read and values that are written.
+-- Items that are read and values that are written, by the machine's own names. The contracts of `io` cite it.
 use Rattle.std.specs.Prelude.{◌≡◌, ℕ, ◌+◌, ℤ, List, [], ◌∷◌, length, Bool, true, false, nat_lt}
 use Rattle.std.specs.Fmt.{signed_decimal}
 use Rattle.sp_tree.specs.Items.{Taken, number_in, char_in, truth_text, byte}

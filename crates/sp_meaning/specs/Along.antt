@@ -1,4 +1,5 @@
--- The way of a run along a journal.
+-- The way of a run along a journal: the states between its entries, with the ticks that each entry fixes. The headline
+-- of a run, the judge's promises and sp_link go by it, since a journal alone says how far each process went.
 use Rattle.std.specs.Prelude.{◌≡◌, ℕ, zero, suc, ◌+◌, Bool, true, false, cond, ◌&&◌, ◌||◌, if◌then◌else◌, nat_le, List, [], ◌∷◌, Some, None}
 use Rattle.sp_meaning.specs.Model.{Name, Condition, Absent, Works, Waits, Joins, Ended, same_name}
 use Rattle.sp_meaning.specs.Own.{Setting, Held, Address, Process}
@@ -25,12 +26,15 @@ pub record Course : Type 0 where
   pub faulted : Bool
   pub laid : Name → Bool
 
+-- before the first entry
 abbrev pub no_course : Course
 no_course = record { since = λ q. 0; faulted = false; laid = λ q. false }
 
+-- the process's ticks at this entry
 abbrev pub noted : Name → ℕ → Course → Course
 noted q n c = record c { since = λ r. cond (same_name q r) n (c.since r) }
 
+-- a fault stands, and who met it is laid
 abbrev pub stopped : Name → Course → Course
 stopped q c = record c { faulted = true; laid = λ r. same_name q r || c.laid r }
 

@@ -1,4 +1,5 @@
--- Statements in steps: what a process does first, and what is left to do.
+-- Statements in steps: what a process does first, and what is left to do. The language of the model is made of it;
+-- generated code is compared with it, and the interpreter promises it.
 use Rattle.std.specs.Prelude.{ℕ, zero, suc, ◌+◌, ◌-◌, ℤ, pos, ◌+ℤ◌, ◌-ℤ◌, nat_abs, int_lt, int_le, List, [], ◌∷◌, ◌++◌, Option, Some, None, Bool, true, false, if◌then◌else◌, nat_lt, length, take, slice_get}
 use Rattle.std.specs.Fmt.{signed_decimal}
 use Rattle.sp_base.specs.declared.fault.Fault.TheVariants as fault

@@ -1,4 +1,5 @@
--- Disjoint programs: in no schedule does a process write what a parallel one uses.
+-- Disjoint programs: in no schedule does a process write what a parallel one uses. The promise of a program without
+-- interference is said by it, in the words of the model and of no rule.
 use Rattle.std.specs.Prelude.{◌≡◌, ◌≢◌, ◌⊎◌, ℕ, List, [], ◌∷◌, ◌++◌, Some}
 use Rattle.sp_meaning.specs.Model.{Name, Totals, Language, Act, Moves, Opens, Forks, Offering, Ends, Fails, Cargo, Gives, Takes, Waits, State}
 use Rattle.sp_meaning.specs.Steps.{ActOf, OfferOf, working, message, step, processes}
@@ -16,6 +17,7 @@ pub record AreParallel (a b : Name) : Type 0 where
   pub a_is : a ≡ after_one ++ (fork, one) ∷ common
   pub b_is : b ≡ after_other ++ (fork, other) ∷ common
 
+-- the location is written
 abbrev pub IsAmong : {M V : Type 0} → List (M × V) → M → Type 0
 IsAmong [] l = ⊥
 IsAmong (w ∷ ws) l = (w.0 ≡ l) ⊎ IsAmong ws l

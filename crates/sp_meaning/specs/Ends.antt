@@ -1,4 +1,5 @@
--- How a run ends: done, in a deadlock, or with a fault.
+-- How a run ends: done, in a deadlock, or with a fault. The contracts of runs, of the judge and of the interpreter
+-- cite it, with the waiting processes in the order of their names.
 use Rattle.std.specs.Prelude.{◌≡◌, ◌≢◌, ◌⊎◌, ℕ, Bool, true, false, if◌then◌else◌, nat_lt, List, [], ◌∷◌, map, reverse, Option, Some, None}
 use Rattle.sp_base.specs.declared.fault.Fault.{Fault}
 use Rattle.sp_journal.specs.declared.entry.Way.{Way}
@@ -30,10 +31,12 @@ pub record Waiting : Type 0 where
   pub way : Way
   pub channel : Channel
 
+-- one of those that wait
 abbrev pub IsIn : Waiting → List Waiting → Type 0
 IsIn w [] = ⊥
 IsIn w (v ∷ vs) = (w ≡ v) ⊎ IsIn w vs
 
+-- each before the next one, by names
 abbrev pub IsSorted : List Waiting → Type 0
 IsSorted [] = Unit
 IsSorted (w ∷ []) = Unit

@@ -1,7 +1,9 @@
--- Entries of a journal by names, as the journal has them.
+-- Entries of a journal by names, as the journal has them: those of sp_journal, under the names by which the meaning
+-- speaks of them.
 use Rattle.std.specs.Prelude.{Bool, true, false}
 pub use Rattle.sp_journal.specs.Names.{Happening, Opened, Split, Offered, Finished, Failed, LaidDown, Paused, Occurrence}
 
+-- the entry of a fault
 abbrev pub is_fault : Happening → Bool
 is_fault Opened = false
 is_fault (Split n) = false

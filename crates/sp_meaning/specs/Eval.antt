@@ -1,4 +1,5 @@
--- Expressions, variables and arguments, evaluated from left to right.
+-- Expressions, variables and arguments, evaluated from left to right. Deeds are made of it, and the interpreter
+-- promises it; each evaluation is a tree of reads and writes.
 use Rattle.std.specs.Prelude.{ℕ, ◌==◌, ℤ, pos, ◌-ℤ◌, nat_abs, int_le, List, [], ◌∷◌, ◌++◌, Option, Some, None, ◌&&◌, not, if◌then◌else◌, length, drop, slice_get}
 use Rattle.sp_base.specs.declared.fault.Fault.TheVariants as fault
 use Rattle.sp_tree.specs.declared.checked.KindOf.{KindOf}

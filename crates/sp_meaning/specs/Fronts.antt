@@ -1,4 +1,5 @@
--- The longest lawful front of a schedule.
+-- The longest lawful front of a schedule: how far a list of names leads. The interpreter's contract promises it, since
+-- any list may be given to it.
 use Rattle.std.specs.Prelude.{◌≡◌, ◌≢◌, ◌⊎◌, ℕ, suc, List, [], ◌∷◌, ◌++◌, length, Option, Some, None}
 use Rattle.sp_base.specs.declared.fault.Fault.{Fault}
 use Rattle.sp_meaning.specs.Model.{Name}
@@ -20,6 +21,7 @@ module _ (g : Setting) where
     pub leads : Lawful g s front t
     pub stops : Stops t rest
 
+  -- on to the next state, if there is one and no fault stands, or else what is here
   abbrev pub go_on_or : (StateOf g → ℕ × StateOf g) → ℕ × StateOf g → Option (Name × Fault) → Option (StateOf g) → ℕ × StateOf g
   go_on_or go here None None = here
   go_on_or go here None (Some m) = go m
@@ -30,5 +32,6 @@ module _ (g : Setting) where
   longest_from [] n s = (n, s)
   longest_from (q ∷ qs) n s = go_on_or (longest_from qs (suc n)) (n, s) s.fault (next g s q)
 
+  -- from the opening state
   abbrev pub longest : List Name → ℕ × StateOf g
   longest qs = longest_from qs 0 (start g)

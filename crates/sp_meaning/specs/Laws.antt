@@ -1,4 +1,5 @@
--- What holds of every state that a lawful schedule leads to.
+-- What holds of every state that a lawful schedule leads to: names, ticks, what nobody writes. The laws of the meaning
+-- promise it, so that what is above needs no look at steps.
 use Rattle.std.specs.Prelude.{◌≡◌, ◌≢◌, ◌⊎◌, ℕ, ◌≤◌, List, Some}
 use Rattle.sp_meaning.specs.Model.{Name, Channel, Condition, Absent, Works, Waits, Joins, Ended}
 use Rattle.sp_meaning.specs.Asking.{answer}

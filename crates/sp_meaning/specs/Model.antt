@@ -1,5 +1,6 @@
--- Processes with structural names, channels, a store and totals: the state of a run, and what a step changes.
--- What one process does next is left to a Language; the rest is concrete.
+-- Processes with structural names, channels, a store and totals: the state of a run, and what a step changes. What one
+-- process does next is left to a Language; the rest is concrete. Laws of schedules and of disjoint runs are proved
+-- over it once, for any language.
 use Rattle.std.specs.Prelude.{ℕ, ◌+◌, Bool, List, [], ◌∷◌, Option, Some}
 use Rattle.sp_base.specs.declared.fault.Fault.{Fault}
 use Rattle.sp_meaning.specs.Maps.{at_key}
@@ -26,6 +27,7 @@ pub data Act (Own Loc Value Target : Type 0) : Type 0 where
   Ends : Act Own Loc Value Target
   Fails : (fault : Fault) → Act Own Loc Value Target
 
+-- what a language gives: the parts of a process, its locations and values, and the next step
 pub record Language : Type 1 where
   pub Own : Type 0
   pub Loc : Type 0

@@ -1,4 +1,5 @@
--- What a process has of its own, and its local work as a tree of reads and writes.
+-- What a process has of its own, and its local work as a tree of reads and writes. Expressions and statements are
+-- written in these words, as `bind` and `give`, so that order of evaluation is seen.
 use Rattle.std.specs.Prelude.{ℕ, ◌+◌, ◌==◌, ℤ, List, [], ◌∷◌, Option, Some, None, Bool, true, false, ◌&&◌, if◌then◌else◌, nat_lt, length}
 use Rattle.sp_base.specs.declared.fault.Fault.{Fault}
 use Rattle.sp_base.specs.declared.fault.Fault.TheVariants as fault

@@ -1,4 +1,5 @@
 -- What a process may read and write, and that what it has left to do keeps to it (the invariant behind disjointness).
+-- The proof for programs without interference keeps it, and so does the comparison of generated code.
 use Rattle.std.specs.Prelude.{◌≡◌, ◌≢◌, ℕ, zero, suc, ◌<◌, ◌==◌, Bool, if◌then◌else◌, List, [], ◌∷◌, length, Option, Some, None, slice_get}
 use Rattle.sp_tree.specs.declared.checked.Role.{Role}
 use Rattle.sp_tree.specs.declared.checked.Role.TheVariants as role

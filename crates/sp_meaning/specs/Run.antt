@@ -1,11 +1,14 @@
--- A computation run on a store, and what it meets: the form in which code is compared with it.
+-- A computation run on a store, and what it meets: the form in which code is compared with it. sp_codegen's contracts
+-- speak so, since a machine has one store and a computation a tree.
 use Rattle.sp_base.specs.declared.fault.Fault.{Fault}
 use Rattle.sp_meaning.specs.Asking.{answer}
 use Rattle.sp_meaning.specs.Own.{Loc, Held, Own, Who, Came, Got, Bad, Lost, Long, Work, same_loc}
 
+-- what stands at each location
 abbrev pub Store : Type 0
 Store = Loc → Held
 
+-- the answer in this store, and the store afterwards
 abbrev pub run : {A : Type 0} → Work A → Who → Own → Store → Came A × Store
 run h w o m = answer same_loc (h w o) m
 

@@ -1,4 +1,5 @@
--- The runs of a program: its opening state, its steps, its lawful schedules, and the entry that a step makes.
+-- The runs of a program: its opening state, its steps, its lawful schedules, and the entry that a step makes. All
+-- contracts on meaning begin here: the model and the language put together, for a setting.
 use Rattle.std.specs.Prelude.{ℕ, List, length, Option, Some, None}
 use Rattle.sp_meaning.specs.Model.{Name, Totals, Language, Moves, Opens, Forks, Offering, Ends, Fails, State}
 use Rattle.sp_meaning.specs.Steps.{working, way_of, ActOf, outcome, Outcome, Does, Faulty, step, processes, opening}
@@ -12,6 +13,7 @@ use Rattle.sp_meaning.specs.Entries.{Happening, Opened, Split, Offered, Finished
 abbrev pub most : Setting → Totals
 most g = record { processes = g.limits.processes; channels = g.limits.channels; entries = g.limits.entries }
 
+-- the states of a run of this setting
 abbrev pub StateOf : Setting → Type 0
 StateOf g = State (superpascal g)
 

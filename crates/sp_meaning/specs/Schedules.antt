@@ -1,4 +1,5 @@
--- Schedules of a system of named processes, and what it means that each of them ends alike.
+-- Schedules of a system of named processes, and what it means that each of them ends alike. A verdict's promise is
+-- said by it, over any system, so that it is read without the language.
 use Rattle.std.specs.Prelude.{◌≡◌, ℕ, ◌≤◌, List, [], ◌∷◌, ◌++◌, length, Option, Some, None}
 
 -- A system: the next state when this process steps, or none where it can't; and whether no fault stands

@@ -1,4 +1,5 @@
 -- A turn of a process: its local steps up to the first moment at which it is due, or its next step is a kernel step.
+-- Generated code is compared with the meaning turn by turn.
 use Rattle.std.specs.Prelude.{ℕ, zero, suc, Bool, if◌then◌else◌, List}
 use Rattle.sp_meaning.specs.Own.{Setting, Own, Item, Work, bind, give, long, mine}
 use Rattle.sp_meaning.specs.Deeds.{Deed, Went, Beat, Opened, Forked, Offered, Over, deed}
@@ -10,6 +11,7 @@ pub data Stop : Type 0 where
   Stops : (d : Deed) → Stop
 
 module _ (g : Setting) (due : Own → Bool) where
+  -- on after a local step, or no further
   abbrev pub onward : (List Item → Work Stop) → Deed → Work Stop
   onward go (Went todo) = go todo
   onward go (Beat todo) = bind mine (λ o. if due o then give (Paused todo) else go todo)

@@ -1,4 +1,5 @@
--- Values: trees of ordinals and channel names; the types' first values.
+-- Values: trees of ordinals and channel names; the types' first values. The meaning and the interpreter share it; the
+-- machine's cells are compared with it.
 use Rattle.std.specs.Prelude.{ℕ, zero, suc, ℤ, List, [], ◌∷◌, slice_get, replicate, map}
 use Rattle.sp_tree.specs.declared.checked.KindOf.{KindOf}
 use Rattle.sp_tree.specs.declared.checked.KindOf.TheVariants as kind
@@ -17,6 +18,7 @@ mutual
     End : Values
     Then : (v : Value) (vs : Values) → Values
 
+-- the parts of a list
 abbrev pub values : List Value → Values
 values [] = End
 values (v ∷ vs) = Then v (values vs)

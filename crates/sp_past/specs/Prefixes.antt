@@ -1,4 +1,5 @@
--- What a process knows of another, as a prefix of that one's entries.
+-- What a process knows of another, as a prefix of that one's entries. The law of this crate promises it; so a past is
+-- a count for each process, and the judge keeps counts in place of sets.
 use Rattle.std.specs.Prelude.{◌≡◌, ℕ, suc, ◌≤◌, Bool, true, false, List, [], ◌∷◌, Some, slice_get}
 use Rattle.sp_journal.specs.Names.{Name, Channel, Happening, Opened, Split, Offered, Finished, Failed, LaidDown, Paused, Occurrence}
 use Rattle.sp_journal.specs.Past.{Judged, judged, judged_by, nothing_judged}

@@ -1,4 +1,5 @@
--- The order condition of a journal by the earlier offer's own index.
+-- The order condition of a journal by the earlier offer's own index, in place of its completion's. A law of this crate
+-- says that it is the same, and the judge, which meets the offer first, goes by it.
 use Rattle.std.specs.Prelude.{◌≡◌, ℕ, true, List, [], ◌∷◌, ◌++◌, length, Some, slice_get}
 use Rattle.sp_journal.specs.Names.{Name, Happening, Opened, Split, Offered, Finished, Failed, LaidDown, Paused, Occurrence}
 use Rattle.sp_journal.specs.Past.{Judged, judged_by, nothing_judged}

@@ -1,4 +1,5 @@
--- How the pasts of a journal and the notes beside a run belong together.
+-- How the pasts of a journal and the notes beside a run belong together: the induction along both keeps it. The proof
+-- that an ordered journal is that of an ordered run rests on it.
 use Rattle.std.specs.Prelude.{◌≡◌, ◌⊎◌, ℕ, ◌<◌, Bool, true, false, List, length, Option, Some, None, slice_get}
 use Rattle.sp_journal.specs.declared.entry.Way.{Way}
 use Rattle.sp_journal.specs.Names.{Offered, Occurrence}

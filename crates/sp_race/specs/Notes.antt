@@ -1,5 +1,6 @@
 -- What a judge notes beside a run: how many events each process has completed, which events it knows, and which offers
--- were completed. A step never reads these notes.
+-- were completed. A step never reads these notes. The proof that ordered runs end alike goes by them, over any
+-- language.
 use Rattle.std.specs.Prelude.{◌≡◌, ℕ, suc, zero, ◌+◌, ◌<◌, Bool, true, false, cond, ◌&&◌, ◌||◌, ◌==◌, List, [], ◌∷◌, length, Option, Some, None}
 use Rattle.sp_journal.specs.declared.entry.Way.{Way}
 use Rattle.sp_journal.specs.declared.entry.Way.TheVariants as way
@@ -12,9 +13,11 @@ pub record Event : Type 0 where
   pub who : Name
   pub nth : ℕ
 
+-- the same process's same event
 abbrev pub same_event : Event → Event → Bool
 same_event a b = same_name a.who b.who && (a.nth == b.nth)
 
+-- what either knows
 abbrev pub both : (Event → Bool) → (Event → Bool) → Event → Bool
 both a b e = a e || b e
 

@@ -1,4 +1,4 @@
--- Runs with a judge's notes beside the state.
+-- Runs with a judge's notes beside the state: a system again, so that the laws of schedules serve it.
 use Rattle.std.specs.Prelude.{Option, Some, None}
 use Rattle.sp_meaning.specs.Model.{Name, Totals, Language, State}
 use Rattle.sp_meaning.specs.Steps.{ActOf, outcome, result_of, working, Quiet}

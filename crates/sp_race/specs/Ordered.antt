@@ -1,4 +1,5 @@
--- Ordered runs.
+-- Ordered runs: each step keeps the order condition by the notes beside the run. The proof that ordered runs end alike
+-- starts from it.
 use Rattle.std.specs.Prelude.{◌≡◌, List, [], ◌∷◌, Some}
 use Rattle.sp_meaning.specs.Model.{Name, Totals, Language, State}
 use Rattle.sp_meaning.specs.Steps.{working, step}

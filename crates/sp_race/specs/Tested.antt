@@ -1,4 +1,5 @@
--- The order condition as a test that computes.
+-- The order condition as a test that computes. A law of this crate says that it tells what the definition in
+-- sp_journal says, so that rows can be computed.
 use Rattle.std.specs.Prelude.{ℕ, suc, Bool, true, false, ◌&&◌, if◌then◌else◌, List, [], ◌∷◌, ◌++◌, length, Option, Some, None}
 use Rattle.sp_journal.specs.declared.entry.Way.{Way}
 use Rattle.sp_journal.specs.Names.{Name, Channel, same_way, same_channel, Happening, Opened, Split, Offered, Finished, Failed, LaidDown, Paused, Occurrence}
@@ -24,6 +25,7 @@ abbrev pub knows_all : Judged → Name → Way → Channel → ℕ → List Occu
 knows_all j p w c i [] = true
 knows_all j p w c i (e ∷ es) = (if is_offer w c e.what then is_known j p (j.completed i) else true) && knows_all j p w c (suc i) es
 
+-- the condition at one entry
 abbrev pub is_in_order : Judged → List Occurrence → Name → Happening → Bool
 is_in_order j done p (Offered w c) = knows_all j p w c 0 done
 is_in_order j done p Opened = true

@@ -1,4 +1,5 @@
--- What the parts of the scanner answer.
+-- What the parts of the scanner answer: cuts, runs, comments and tokens, each as the longest one that begins here. The
+-- contracts of the scanner's files cite it, and the formatter's, which scans with comments.
 use Rattle.std.specs.Prelude.{◌≡◌, ◌≢◌, ℕ, ◌<◌, ◌≤◌, Bool, true, false, List, [], ◌∷◌, ◌++◌, length, Option, Some, None, Result, Ok, Err, slice_get}
 use Rattle.std.specs.Borrow.{Bor}
 use Rattle.sp_tree.specs.declared.token.Kind.{Kind}

@@ -1,4 +1,5 @@
--- The names in a program's heading, with what stood before.
+-- The names in a program's heading, with what stood before. The contract of the heading's loop cites it; two flags
+-- stand for the names, since only `input` and `output` may be there.
 use Rattle.std.specs.Prelude.{List, [], ◌∷◌, Bool, true, codes, if◌then◌else◌}
 use Rattle.std.specs.Str.{bytes_eq}
 use Rattle.sp_base.specs.declared.rule.Rule.TheVariants as rule

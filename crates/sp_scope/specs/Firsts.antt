@@ -1,4 +1,5 @@
--- The first broken rule in each part of a tree, from what was found before it.
+-- The first broken rule in each part of a tree, from what was found before it: the walk of sp_tree's NameWalk, with
+-- `lesser` at each site. The contracts of all walks of this crate cite these, one for each part.
 use Rattle.std.specs.Prelude.{◌≡◌, ℕ, List, [], ◌∷◌, ◌++◌, Option, Some, None, Bool}
 use Rattle.sp_base.specs.declared.place.Place.{Place}
 use Rattle.sp_tree.specs.declared.syntax.Name.{Name}

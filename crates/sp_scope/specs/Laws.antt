@@ -1,4 +1,5 @@
--- What the first broken rule of names is to all of them.
+-- What the first broken rule of names is to all of them. The law of this crate promises it, so that the walk is tied
+-- to the list of all breaches.
 use Rattle.std.specs.Prelude.{◌≡◌, List, [], ◌∷◌, ◌⊎◌, Some, None}
 use Rattle.sp_base.specs.declared.halt.Refusal.{Refusal}
 use Rattle.sp_tree.specs.Found.{Found}

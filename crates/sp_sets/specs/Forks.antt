@@ -1,5 +1,5 @@
--- The lines that a tree has in the text of the sets: one for each process statement of a parallel statement, and one for the
--- element statement of each forall.
+-- The lines that a tree has in the text of the sets: one for each process statement of a parallel statement, and one
+-- for the element statement of each forall. The contract of the walk promises them.
 use Rattle.std.specs.Prelude.{ℕ, suc, List, [], ◌∷◌, ◌++◌, Some, None}
 use Rattle.sp_base.specs.declared.place.Place.{Place}
 use Rattle.sp_sets.specs.declared.line.Line.{Line}

@@ -1,4 +1,5 @@
--- The orders of lines and of variables in the text of the sets.
+-- The orders of lines and of variables in the text of the sets: by places. The contracts of the sorts cite it, so that
+-- the text goes as the program does.
 use Rattle.std.specs.Prelude.{ℕ, zero, suc, ◌+◌, List, Option, Some, None, slice_get}
 use Rattle.std.specs.Ordering.{nat_cmp, on, then_cmp, is_lt}
 use Rattle.std.specs.declared.cmp.Ordering.{Ordering}
@@ -7,6 +8,7 @@ use Rattle.sp_base.specs.declared.place.Place.{Place}
 use Rattle.sp_sets.specs.declared.line.Line.{Line}
 use Rattle.sp_tree.specs.declared.checked.Variable.{Variable}
 
+-- by line, and then by column
 abbrev pub place_cmp : Place → Place → Ordering
 place_cmp = then_cmp (on (λ p. p.line) nat_cmp) (on (λ p. p.column) nat_cmp)
 
@@ -19,6 +21,7 @@ part_number (Some k) = k + 1
 abbrev pub line_cmp : Line → Line → Ordering
 line_cmp = then_cmp (on (λ l. l.at) place_cmp) (then_cmp (on (λ l. part_number l.part) nat_cmp) (on (λ l. l.statement) nat_cmp))
 
+-- where a variable is declared
 abbrev pub declared_at : Option Variable → Place
 declared_at None = record { line = 0; column = 0 }
 declared_at (Some v) = v.at

@@ -1,4 +1,5 @@
--- The text of the sets of a tree.
+-- The text of the sets of a tree, a line for each fork's part. The contract of the printing promises it, and the top
+-- call's `sets` cites it.
 use Rattle.std.specs.Prelude.{◌≡◌, ℕ, zero, suc, if◌then◌else◌, List, [], ◌∷◌, ◌++◌, length, codes, decimal, Option, Some, None, slice_get}
 use Rattle.std.specs.List.{flat_map}
 use Rattle.sp_base.specs.declared.place.Place.{Place}
@@ -19,6 +20,7 @@ abbrev pub members : VarSet → ℕ → List ℕ
 members v zero = []
 members v (suc n) = if has v n then members v n ++ n ∷ [] else members v n
 
+-- the name of a variable
 abbrev pub name_in : Option Variable → List ℕ
 name_in None = []
 name_in (Some v) = v.name

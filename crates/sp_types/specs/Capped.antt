@@ -1,9 +1,11 @@
--- Cells counted up to just above the limit: of a larger count no more is known than that it is larger.
+-- Cells counted up to just above the limit: of a larger count no more is known than that it is larger. The contracts
+-- of `sizes` cite it, since a sum of sizes may pass every machine number.
 use Rattle.std.specs.Prelude.{ℕ, ◌+◌, min, List, [], ◌∷◌}
 use Rattle.sp_tree.specs.declared.checked.KindOf.{KindOf}
 use Rattle.sp_tree.specs.Cells.{size_by, table}
 use Rattle.sp_types.specs.TypeRules.{most_cells}
 
+-- a count, or the first one above the limit
 abbrev pub capped : ℕ → ℕ
 capped n = min n (most_cells + 1)
 

@@ -1,4 +1,5 @@
--- The phase of types behind the tables of a program.
+-- The phase of types behind the tables of a program. The contracts of `program` and `blocks` promise its steps, so
+-- that each of them is proved for itself.
 use Rattle.std.specs.Prelude.{ℕ, List, Option, Result}
 use Rattle.sp_base.specs.declared.halt.Refusal.{Refusal}
 use Rattle.sp_base.specs.declared.place.Place.{Place}

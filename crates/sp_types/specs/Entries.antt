@@ -1,4 +1,5 @@
--- The fields of a record in an ordered table by their names, and the message types of a channel in an ordered set.
+-- The fields of a record in an ordered table by their names, and the message types of a channel in an ordered set. The
+-- contracts of `entries` cite it; the rules speak of the first field of a name, and the table of the only one.
 use Rattle.std.specs.Prelude.{◌≡◌, ℕ, ◌+◌, nat_eq, if◌then◌else◌, List, [], ◌∷◌, Option, Some, None}
 use Rattle.std.specs.List.{list_any}
 use Rattle.std.specs.Option.{option_or}
@@ -24,6 +25,7 @@ abbrev pub message_types : KindOf → List ℕ
 message_types (kind.Channel ks) = ks
 message_types k = []
 
+-- by a field's name, its number and its type
 abbrev pub Index : Type 0
 Index = BTreeMap (List ℕ) (ℕ × ℕ)
 

@@ -1,4 +1,5 @@
--- The first broken rule of types in each part of a tree, from what was found before it.
+-- The first broken rule of types in each part of a tree, from what was found before it: the walk of TypeWalk.antt with
+-- `lesser` at each node. The contracts of all walks of this crate cite these, one for each part.
 use Rattle.std.specs.Prelude.{ℕ, List, Option}
 use Rattle.sp_base.specs.declared.place.Place.{Place}
 use Rattle.sp_tree.specs.declared.operators.StandardFn.{StandardFn}

@@ -1,4 +1,5 @@
--- The types of expressions and variables, by their numbers. None: the part is broken, and has no type.
+-- The types of expressions and variables, by their numbers. None: the part is broken, and has no type. The rules of
+-- types and the checked tree go by it, and the walks promise it of each part.
 use Rattle.std.specs.Prelude.{ℕ, if◌then◌else◌, List, Option, Some, None}
 use Rattle.sp_tree.specs.declared.checked.KindOf.{KindOf}
 use Rattle.sp_tree.specs.declared.checked.KindOf.TheVariants as kind

@@ -1,4 +1,5 @@
--- Constants, and an ordered set of the same.
+-- Constants, and an ordered set of the same. The contracts of `seen` cite it, for the rule that no constant of a
+-- `case` comes twice.
 use Rattle.std.specs.Prelude.{◌≡◌, ℕ, ℤ, List}
 use Rattle.std.specs.List.{list_any}
 use Rattle.std.specs.declared.cmp.Ordering.{Ordering}

@@ -1,4 +1,5 @@
--- The numbers of the statements of a checked tree, in the order of its blocks, and what it is that no two are the same.
+-- The numbers of the statements of a checked tree, in the order of its blocks, and what it is that no two are the
+-- same. A law of this crate promises it, since sets and lengths are kept by these numbers.
 use Rattle.std.specs.Prelude.{ℕ, List, [], ◌∷◌, ◌++◌, ◌≢◌}
 use Rattle.sp_base.specs.declared.place.Place.{Place}
 use Rattle.sp_tree.specs.PlainChecked.{Statement, Does, Form, Sequence, If, While, Repeat, For, Case, Parallel, Forall, Other, NoElse, Else, Statements, NoStatement, AndThen, On, Arms, NoArm, Or, Block}

@@ -1,4 +1,5 @@
--- The first broken rule of types of a program, and what checking its types gives.
+-- The first broken rule of types of a program, and what checking its types gives: the contract of the phase. Each is
+-- one line over the walk of TypeWalk.antt.
 use Rattle.std.specs.Prelude.{List, [], None, Result}
 use Rattle.sp_base.specs.declared.halt.Refusal.{Refusal}
 use Rattle.sp_tree.specs.Found.{Found, lesser, listed, outcome}
@@ -8,6 +9,7 @@ use Rattle.sp_tree.specs.PlainChecked as c
 use Rattle.sp_types.specs.TypeWalk.{program_sites}
 use Rattle.sp_types.specs.CheckedTree.{program_checked}
 
+-- the rule that is broken at a node
 abbrev pub at_node : Found → Onward
 at_node r given = lesser given r
 

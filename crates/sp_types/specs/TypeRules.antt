@@ -1,5 +1,5 @@
--- The rules of types at one node, by the types of its parts. None is a part that is broken: it has no type, and a rule that
--- needs its type is not broken.
+-- The rules of types at one node, by the types of its parts. None is a part that is broken: it has no type, and a rule
+-- that needs its type is not broken. The walk asks them at each node, and the functions of `rules` promise them.
 use Rattle.std.specs.Prelude.{ℕ, ◌+◌, nat_eq, nat_lt, int_le, not, Bool, true, false, ◌&&◌, ◌||◌, if◌then◌else◌, List, [], ◌∷◌, length, slice_get, Option, Some, None}
 use Rattle.std.specs.List.{list_any}
 use Rattle.std.specs.Str.{bytes_eq}

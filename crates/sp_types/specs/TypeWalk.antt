@@ -1,5 +1,5 @@
--- All that stands in a program for the rules of types. `join` puts together what is found at the nodes: lists give all broken
--- rules, `lesser` the first.
+-- All that stands in a program for the rules of types. `join` puts together what is found at the nodes: lists give all
+-- broken rules, `lesser` the first. The contracts of this crate follow its parts.
 use Rattle.std.specs.Prelude.{ℕ, zero, suc, ◌+◌, nat_eq, nat_lt, ◌&&◌, ◌||◌, List, [], ◌∷◌, ◌++◌, Bool, false, if◌then◌else◌, Option, Some, None, slice_get}
 use Rattle.sp_base.specs.declared.place.Place.{Place}
 use Rattle.sp_tree.specs.declared.checked.Role.{Role}

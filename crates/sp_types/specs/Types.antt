@@ -1,4 +1,5 @@
--- What a part of the walk answers.
+-- What a part of the walk answers: its tree as the plain one, its type, and the first broken rule up to its end. The
+-- contracts of all walks of this crate cite it.
 use Rattle.std.specs.Prelude.{ℕ, Option, Result, Ok}
 use Rattle.sp_base.specs.declared.halt.Halt.{Halt}
 pub use Rattle.sp_tree.specs.Found.{walked_as, Walks}

@@ -1,4 +1,5 @@
--- The options of the commands: their values, ranges and defaults.
+-- The options of the commands: their names, and which texts are values of theirs. `command_of` reads words by it, and
+-- the contracts of `given` cite it. The ranges stand as tests on texts, since a value is judged before it is a number.
 use Rattle.std.specs.Prelude.{◌&&◌, ◌^◌, ℕ, Bool, false, List, [], ◌∷◌, Option, Some, None, codes, find, if◌then◌else◌, is_some, length, map, nat_le, nat_lt, option_and_then, option_map, unwrap_or}
 use Rattle.std.specs.List.{list_all}
 use Rattle.std.specs.Option.{option_map_or}
@@ -36,6 +37,7 @@ shows = (codes "end", show.End) ∷ (codes "timeline", show.Timeline) ∷ (codes
     ∷ (codes "tree", show.Tree) ∷ (codes "waiting", show.Waiting) ∷ (codes "all", show.All)
     ∷ (codes "journal", show.Journal) ∷ []
 
+-- the report of a name
 abbrev pub show_named : Text → Option Show
 show_named text = option_map (λ s. s.1) (find (λ s. bytes_eq s.0 text) shows)
 
@@ -43,6 +45,7 @@ show_named text = option_map (λ s. s.1) (find (λ s. bytes_eq s.0 text) shows)
 abbrev pub Choice : Type 0
 Choice = Text × (Text → Bool)
 
+-- the options of `run`
 abbrev pub run_options : List Choice
 run_options = (codes "workers", is_number_in 1 64)
     ∷ (codes "ticks", is_number_in 1 1000000000)
@@ -54,6 +57,7 @@ run_options = (codes "workers", is_number_in 1 64)
     ∷ (codes "output", is_number_in 1 268435456)
     ∷ (codes "show", λ text. is_some (show_named text)) ∷ []
 
+-- the options of `gen`
 abbrev pub gen_options : List Choice
 gen_options = (codes "workers", is_number_in 1 64) ∷ []
 
@@ -66,6 +70,7 @@ options_of name.Sets = []
 options_of name.Format = []
 options_of name.Gen = gen_options
 
+-- the names of the options of a command
 abbrev pub option_names : CommandName → List Text
 option_names command = map (λ o. o.0) (options_of command)
 
@@ -73,5 +78,6 @@ option_names command = map (λ o. o.0) (options_of command)
 abbrev pub number_or : ℕ → ℕ → Option Text → ℕ
 number_or bound default value = unwrap_or (option_and_then (number_below bound) value) default
 
+-- the report that an option was given, or the end alone
 abbrev pub show_or_end : Option Text → Show
 show_or_end value = unwrap_or (option_and_then show_named value) show.End

@@ -1,4 +1,5 @@
--- The parser of command lines, as the kit's crate sees it.
+-- The parser of command lines as the kit's `clap` sees it: its rules, ranges and subcommands. The builders in `parser`
+-- promise these shapes, and lemmas lead them to `command_of`, which is said without it.
 use Rattle.std.specs.Prelude.{◌≡◌, ◌∷◌, true, false, List, [], Some, codes, is_some, map}
 use Rattle.clap.specs.Simple.{App, Shape, new_rule, new_shape}
 use Rattle.clap.specs.Walk.{Rule}
@@ -37,6 +38,7 @@ gen_parsers = (codes "workers", vp.Unsigned 1 64) ∷ []
 abbrev pub IsShowParser : ValueParser → Type 0
 IsShowParser q = (text : Text) → accepts false q text ≡ is_some (show_named text)
 
+-- a command of this name with its FILE and these options
 abbrev pub shape_with : Text → List (Text × ValueParser) → Shape
 shape_with name options = record (new_shape name) { rules = file_rule ∷ map option_rule options }
 

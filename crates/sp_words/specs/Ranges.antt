@@ -1,4 +1,5 @@
--- The ranges of the options of the commands, and the limits of a `run` where no option is given.
+-- The ranges of the options of the commands, and the limits of a `run` where no option is given. The law that every
+-- accepted command is in range cites them, and so do the calls of `superpascal` that run a program, which require them.
 use Rattle.std.specs.Prelude.{◌≤◌, ℕ}
 use Rattle.sp_base.specs.declared.limits.Limits.{Limits}
 use Rattle.sp_words.specs.declared.command.Command.{Command}
