@@ -1,5 +1,0 @@
-program mistyped;
-var x: integer;
-begin
-  x := 'a'
-end.

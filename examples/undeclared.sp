@@ -1,5 +1,0 @@
-program undeclared;
-var x: integer;
-begin
-  y := 6
-end.

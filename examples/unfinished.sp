@@ -1,6 +1,0 @@
-program unfinished;
-var x: integer;
-begin
-  x := 6;
-  write(x *
-
