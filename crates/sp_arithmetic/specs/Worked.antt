@@ -1,4 +1,5 @@
--- What a call of an operator gives.
+-- What a call of an operator gives, as the definitions of sp_tree have it. The contracts of sp_arithmetic, the machine
+-- and the interpreter cite it.
 use Rattle.std.specs.Prelude.{ℤ, Result, Ok, Err}
 use Rattle.sp_base.specs.declared.fault.Fault.{Fault}
 use Rattle.sp_tree.specs.Operators.{Worked, Yields, Refuses}

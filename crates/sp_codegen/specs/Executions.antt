@@ -1,4 +1,5 @@
 -- One process that runs the code of a tree: all that the simulation of its turns speaks of, and what it asks of it.
+-- The simulation is proved over this record, and Lives.antt gives one for each process of a run.
 use Rattle.std.specs.Prelude.{◌≡◌, ℕ, List, Some, Bool, slice_get}
 use Rattle.sp_tree.specs.Formed.{IsFormedUse}
 use Rattle.sp_tree.specs.Plain.{Block, Stmt}
@@ -10,6 +11,7 @@ use Rattle.sp_code.specs.declared.code.Parts.{Parts}
 use Rattle.sp_code.specs.Machine.{Ops, layout_of}
 use Rattle.sp_codegen.specs.Relation.{Relation, Keeps}
 
+-- all of it
 pub record Execution (M : Type 0) : Type 1 where
   -- the program with its input and limits, its code, and which variables each child of a fork takes over
   pub setting : Setting

@@ -1,5 +1,5 @@
--- Where a process stands in its code: the code from its place on is that of what it has left to do; and how a turn of it ends as the
--- meaning's turn does.
+-- Where a process stands in its code: the code from its place on is that of what it has left to do; and how a turn of
+-- it ends as the meaning's turn does. The laws of turns promise it, for any execution.
 use Rattle.std.specs.Prelude.{◌≡◌, ◌⊎◌, ℕ, ◌+◌, ℤ, pos, ◌+ℤ◌, ◌-ℤ◌, nat_abs, int_lt, nat_lt, List, [], ◌∷◌, Some, Bool, true, false, slice_get, length}
 use Rattle.sp_base.specs.declared.fault.Fault.{Fault}
 use Rattle.sp_tree.specs.Plain.{Expr, Program, Stmt, Repeat, Parallel, Forall, Stmts}

@@ -1,5 +1,6 @@
--- A process of a run as data: its name, what its birth gave it, and the numbers of channels and processes. What it may write and read
--- follows from this; so the laws of its turns can be told of every process, memory and store.
+-- A process of a run as data: its name, what its birth gave it, and the numbers of channels and processes. What it may
+-- write and read follows from this; so the laws of its turns can be told of every process, memory and store. The
+-- contracts of this crate speak of lives.
 use Rattle.std.specs.Prelude.{◌≡◌, ◌⊎◌, ℕ, ℤ, suc, ◌+◌, ◌≤◌, ◌==◌, Bool, true, List, [], ◌∷◌, Some, IsSome, slice_get, length}
 use Rattle.std.specs.FinMap as map
 use Rattle.sp_cell.specs.declared.spot.Handing.{Handing}

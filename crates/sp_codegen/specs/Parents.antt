@@ -1,4 +1,5 @@
--- A fork: what a child of it begins with in the code, and how its parent stands while it joins: but for what moved away.
+-- A fork: what a child of it begins with in the code, and how its parent stands while it joins: but for what moved
+-- away. The laws of forks and joins promise it.
 use Rattle.std.specs.Prelude.{◌≡◌, ◌⊎◌, ℕ, suc, ℤ, pos, List, [], ◌∷◌, Some, None, IsSome, Bool, slice_get}
 use Rattle.std.specs.FinMap as fin
 use Rattle.sp_tree.specs.Plain.{Program, Stmt, Stmts}

@@ -1,4 +1,5 @@
--- What a text is by all rules: its tree with its sets and its code, or the first rule that it breaks.
+-- What a text is by all rules: its tree with its sets and its code, or the first rule that it breaks. The contract of
+-- the whole compilation promises it, and the top call's texts cite it.
 use Rattle.std.specs.Prelude.{◌≡◌, ◌⊎◌, ℕ, ◌<◌, ◌≤◌, List, Result, Ok, Err}
 use Rattle.sp_base.specs.declared.halt.Halt.{Halt}
 use Rattle.sp_base.specs.declared.halt.Halt.TheVariants as halt
@@ -22,6 +23,7 @@ use Rattle.sp_compile.specs.declared.phases.CompiledText.{CompiledText}
 abbrev pub long_code : Refusal
 long_code = record { rule = rule.L5; at = start }
 
+-- an error of the generator as a refusal
 abbrev pub halt_of : GenError → Halt
 halt_of (gen.TooLong n) = halt.Refused long_code
 halt_of gen.Memory = halt.Memory
@@ -37,6 +39,7 @@ pub record IsCompiled (text : List ℕ) (r : CompiledText) : Type 0 where
   pub short : tree_length (bare (program_of r.accepted.checked)) ≤ 1048576
   pub code : IsCodeOf (bare (program_of r.accepted.checked)) r.code
 
+-- the answer of the compilation; want of memory is free
 abbrev pub Codes : List ℕ → Result CompiledText Halt → Type 0
 Codes text (Ok r) = IsCompiled text r
 Codes text (Err (halt.Refused r)) = BreaksAnyFirst text r ⊎ BreaksLength text r

@@ -1,4 +1,5 @@
--- What a run of the code of a program says of the program.
+-- What a run of the code of a program says of the program. The contracts of `execute` promise it, and the headline is
+-- made of it: machine, kernel and meaning put together for one run.
 use Rattle.std.specs.Prelude.{◌≡◌, ℕ, List}
 use Rattle.sp_base.specs.declared.limits.Limits.{Limits}
 use Rattle.sp_base.specs.declared.limits.TheConstants.{TURN_TICKS}

@@ -1,4 +1,5 @@
--- What is said of each item of a list.
+-- What is said of each item of a list, for facts that are no computation. The other facts of this crate are said by
+-- it.
 use Rattle.std.specs.Prelude.{List, [], ◌∷◌}
 
 abbrev pub Each : {A : Type 0} → (A → Type 0) → List A → Type 0

@@ -1,4 +1,5 @@
--- A type's definition names earlier types alone.
+-- A type's definition names earlier types alone. The phase of names gives it, and the laws of this crate make of it
+-- that sizes and values of types are there.
 use Rattle.std.specs.Prelude.{◌≡◌, ℕ, suc, ◌≤◌, int_le, List, [], ◌∷◌, Option, Some, true}
 use Rattle.sp_tree.specs.declared.checked.KindOf.{KindOf}
 use Rattle.sp_tree.specs.declared.checked.KindOf.TheVariants as kind
@@ -12,6 +13,7 @@ use Rattle.sp_tree.specs.Formed.{AreBefore}
 use Rattle.sp_facts.specs.Each.{Each}
 use Rattle.sp_tree.specs.declared.checked.Variable as checked
 
+-- the definition of type j
 abbrev pub IsEarlier : ℕ → NamedKindForm → Type 0
 IsEarlier j form.Integer = Unit {0}
 IsEarlier j form.Boolean = Unit {0}
@@ -22,6 +24,7 @@ IsEarlier j (form.Array a b e) = suc e ≤ j
 IsEarlier j (form.Fields fs) = AreBefore j fs
 IsEarlier j (form.Channel ks) = Unit {0}
 
+-- so for each definition, from type j on
 abbrev pub AreEarlier : ℕ → List NamedKind → Type 0
 AreEarlier j [] = Unit {0}
 AreEarlier j (k ∷ ks) = IsEarlier j k.form × AreEarlier (suc j) ks

@@ -1,4 +1,5 @@
--- What the grammar gives: a record has a field.
+-- What the grammar gives: a record has a field. It is kept through the phase of names, since a type without cells
+-- would have no code.
 use Rattle.std.specs.Prelude.{List, [], ◌∷◌}
 use Rattle.sp_tree.specs.declared.named.NamedKind.{NamedKind}
 use Rattle.sp_tree.specs.declared.named.NamedKindForm.{NamedKindForm}

@@ -1,4 +1,5 @@
--- Constants are named behind their declarations, and those of an enumeration are of an ordinal type.
+-- Constants are named behind their declarations, and those of an enumeration are of an ordinal type. The proofs of the
+-- facts of types rest on it.
 use Rattle.std.specs.Prelude.{◌≡◌, ℕ, suc, ◌≤◌, List, [], ◌∷◌, true, slice_get}
 use Rattle.sp_tree.specs.declared.checked.KindOf.{KindOf}
 use Rattle.sp_tree.specs.declared.named.NamedConstant.{NamedConstant}
@@ -18,6 +19,7 @@ IsBehind j (given.Number k) = Unit {0}
 IsBehind j (given.Quoted t) = Unit {0}
 IsBehind j (given.Constant k) = suc k ≤ j
 
+-- so for each constant, from number j on
 abbrev pub AreValuesBehind : ℕ → List NamedConstant → Type 0
 AreValuesBehind j [] = Unit {0}
 AreValuesBehind j (constant.Value c ∷ cs) = IsBehind j c.value × AreValuesBehind (suc j) cs

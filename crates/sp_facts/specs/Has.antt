@@ -1,4 +1,5 @@
--- What is asked of the index of each forall and of the branches of each parallel statement in a statement.
+-- What is asked of the index of each forall and of the branches of each parallel statement in a statement. The walk is
+-- said once, and what is asked is left open.
 use Rattle.std.specs.Prelude.{ℕ, List, [], ◌∷◌}
 use Rattle.sp_tree.specs.PlainNamed as n
 use Rattle.sp_tree.specs.PlainChecked as c

@@ -1,4 +1,5 @@
--- What a part declares stands in the tables of the program from the next numbers on.
+-- What a part declares stands in the tables of the program from the next numbers on. The induction over the
+-- declarations keeps it, from the innermost block outward.
 use Rattle.std.specs.Prelude.{◌≡◌, ℕ, suc, ◌≤◌, List, [], ◌∷◌, Some, slice_get}
 use Rattle.sp_tree.specs.PlainNamed as n
 use Rattle.sp_tree.specs.Plain.{Program, Block}

@@ -1,4 +1,5 @@
--- Variables of blocks that there are, none of them a console.
+-- Variables of blocks that there are, none of them a console: what the phase of names gives of all variables behind
+-- the first two.
 use Rattle.std.specs.Prelude.{ℕ, suc, ◌≤◌, List}
 use Rattle.sp_tree.specs.declared.checked.Role.{Role}
 use Rattle.sp_tree.specs.declared.checked.Role.TheVariants as role

@@ -1,4 +1,5 @@
--- What the tables of the phase of types say of the plain tree without places.
+-- What the tables of the phase of types say of the plain tree without places. The proofs of the facts of types keep it
+-- along the walk.
 use Rattle.std.specs.Prelude.{◌≡◌, ◌⊎◌, ℕ, suc, ◌≤◌, ℤ, List, [], ◌∷◌, Some, true, length, slice_get}
 use Rattle.sp_tree.specs.declared.checked.KindOf.{KindOf}
 use Rattle.sp_tree.specs.declared.checked.KindOf.TheVariants as kind
@@ -21,6 +22,7 @@ IsKind p k = (t : KindOf) × (slice_get p.kinds k ≡ Some t)
 abbrev pub IsFormal : Program → ℕ → Type 0
 IsFormal p x = (v : Variable) × (slice_get p.variables x ≡ Some v) × ((v.role ≡ role.Value) ⊎ (v.role ≡ role.Reference))
 
+-- so for each parameter
 abbrev pub AreFormals : Program → List ℕ → Type 0
 AreFormals p [] = Unit {0}
 AreFormals p (x ∷ xs) = IsFormal p x × AreFormals p xs

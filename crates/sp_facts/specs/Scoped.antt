@@ -1,4 +1,5 @@
--- What the phase of names gives of a tree with numbers for names: each name in it is of a declaration that is visible there.
+-- What the phase of names gives of a tree with numbers for names: each name in it is of a declaration that is visible
+-- there. The facts of code are led from it, part by part.
 use Rattle.std.specs.Prelude.{◌≡◌, ◌⊎◌, ℕ, suc, ◌≤◌, List, [], ◌∷◌, Option, Some, None, Bool, true, false, slice_get, drop}
 use Rattle.sp_tree.specs.declared.checked.Role.{Role}
 use Rattle.sp_tree.specs.declared.checked.Role.TheVariants as role

@@ -1,4 +1,4 @@
--- The types in the tables of the phase of types are types that there are.
+-- The types in the tables of the phase of types are types that there are, so that each look-up by a number finds one.
 use Rattle.std.specs.Prelude.{◌≡◌, ℕ, suc, ◌≤◌, ℤ, List, [], ◌∷◌, Option, Some, None, slice_get}
 use Rattle.sp_tree.specs.declared.checked.KindOf.TheVariants as kind
 use Rattle.sp_tree.specs.Formed.{AreBefore}
@@ -9,6 +9,7 @@ abbrev pub IsThere : ℕ → Option ℕ → Type 0
 IsThere kinds None = Unit {0}
 IsThere kinds (Some k) = suc k ≤ kinds
 
+-- so for each
 abbrev pub AreThere : ℕ → List (Option ℕ) → Type 0
 AreThere kinds [] = Unit {0}
 AreThere kinds (k ∷ ks) = IsThere kinds k × AreThere kinds ks

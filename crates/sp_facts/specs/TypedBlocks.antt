@@ -1,4 +1,5 @@
--- The index of each forall has in the tree the type of its first limit.
+-- The index of each forall has in the tree the type of its first limit. The phase of types gives it, and the code of a
+-- forall needs it.
 use Rattle.std.specs.Prelude.{ℕ, List, [], ◌∷◌}
 use Rattle.sp_tree.specs.Plain.{Program}
 use Rattle.sp_tree.specs.PlainNamed as n

@@ -1,4 +1,5 @@
--- The canonical text of a text, or why it has none.
+-- The canonical text of a text, or why it has none. The contract of `format` promises it, and the top call's command
+-- `format` cites it.
 use Rattle.std.specs.Prelude.{◌≡◌, ◌⊎◌, ℕ, ◌≤◌, ◌<◌, List, length, Result, Ok, Err}
 use Rattle.std.specs.declared.vec.Vec.{Vec}
 use Rattle.std.specs.declared.alloc.Global.{Global}
@@ -26,6 +27,7 @@ pub record IsLong (text : List ℕ) (r : Refusal) : Type 0 where
   pub long : 1048576 < length (canonical items)
   pub is : r ≡ record { rule = rule.L1; at = start }
 
+-- the answer of the writing; want of memory is free
 abbrev pub Lays : List ℕ → Result (Vec ℕ Global) Halt → Type 0
 Lays text (Ok out) = IsCanonical text out.items
 Lays text (Err (halt.Refused r)) = IsLong text r

@@ -1,4 +1,5 @@
--- The items of a text: its tokens and its comments, in their order.
+-- The items of a text: its tokens and its comments, in their order. The canonical text is made of them, and the law
+-- that it spells the same tree goes by them.
 use Rattle.std.specs.Prelude.{◌≡◌, ℕ, ◌-◌, true, false, List, [], ◌∷◌, length, map, take, Option, Some, None}
 use Rattle.sp_tree.specs.declared.token.Kind.{Kind}
 use Rattle.sp_tree.specs.declared.token.Kind.TheVariants as kind
@@ -10,6 +11,7 @@ pub record Item : Type 0 where
   pub kind : Option Kind
   pub bytes : List ℕ
 
+-- an item of a kind and a spelling
 abbrev pub item : Option Kind → List ℕ → Item
 item k bs = record { kind = k; bytes = bs }
 

@@ -1,4 +1,5 @@
--- The canonical layout of items: what stands between an item and the one before it, by the items before it.
+-- The canonical layout of items: what stands between an item and the one before it, by the items before it. The
+-- contracts of the writing follow it, item by item; it knows no tree, so that comments keep their places.
 use Rattle.std.specs.Prelude.{ℕ, zero, suc, ◌+◌, ◌-◌, nat_le, Bool, true, false, ◌||◌, ◌&&◌, ◌==◌, cond, List, [], ◌∷◌, ◌++◌, Option, Some, None}
 use Rattle.sp_tree.specs.declared.token.Kind.{Kind}
 use Rattle.sp_tree.specs.declared.token.Kind.TheVariants as kind

@@ -1,4 +1,4 @@
--- When two texts spell one tree but for places.
+-- When two texts spell one tree but for places: the law that a canonical text means what its text means is said by it.
 use Rattle.std.specs.Prelude.{◌≡◌, ℕ, List, [], ◌∷◌, length}
 use Rattle.sp_tree.specs.declared.token.Token.{Token}
 use Rattle.sp_tree.specs.PlainSyntax.{Program}

@@ -1,4 +1,5 @@
--- The answer of the generator: exactly the code of the tree, or that it would be too long.
+-- The answer of the generator: exactly the code of the tree, or that it would be too long. The contract of the
+-- generator promises it, with the sets that the process statements are handed in order of their numbers.
 use Rattle.std.specs.Prelude.{◌≡◌, ◌<◌, ◌≤◌, ℕ, List, Result, Ok, Err}
 use Rattle.sp_tree.specs.PlainChecked as c
 use Rattle.sp_tree.specs.Bare.{bare}

@@ -1,4 +1,5 @@
--- What process statements are handed: the variables of their sets, in order of their numbers.
+-- What process statements are handed: the variables of their sets, in order of their numbers. The contracts of
+-- `handed` promise it; an order is fixed, so that the code of a text is one.
 use Rattle.std.specs.Prelude.{ℕ, zero, suc, ◌<◌, ◌*◌, List, [], ◌∷◌, Bool, not, if◌then◌else◌, length}
 use Rattle.std.specs.List.{filter}
 use Rattle.sp_tree.specs.Interference.{IsMember}

@@ -1,4 +1,4 @@
--- Which values are many cells.
+-- Which values are many cells: the test by which copies and single loads are told apart.
 use Rattle.std.specs.Prelude.{Bool, true, false}
 use Rattle.sp_code.specs.Scopes.{Sort, Ordinals, Channels, Many, NoSort}
 

@@ -1,4 +1,4 @@
--- The first and the last instruction of a `for` loop.
+-- The first and the last instruction of a `for` loop, up and down: for the contracts that write loops.
 use Rattle.std.specs.Prelude.{ℕ, Bool, if◌then◌else◌}
 use Rattle.sp_code.specs.declared.instr.Instr.{Instr}
 use Rattle.sp_code.specs.declared.instr.Instr.TheVariants as i

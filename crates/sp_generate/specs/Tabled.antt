@@ -1,4 +1,5 @@
--- What the generator keeps in tables of a tree: where variables stand in their frames, and where fields begin.
+-- What the generator keeps in tables of a tree: where variables stand in their frames, and where fields begin. The
+-- contracts of `cells`, `frames` and `ground` cite it, so that no place is worked out twice.
 use Rattle.std.specs.Prelude.{ℕ, suc, ◌+◌, List, [], ◌∷◌, map, slice_get, Option, Some, None}
 use Rattle.sp_tree.specs.declared.checked.KindOf.{KindOf}
 use Rattle.sp_tree.specs.declared.checked.KindOf.TheVariants as kind
@@ -11,6 +12,7 @@ abbrev pub slots_from : Program → ℕ → List Variable → List ℕ
 slots_from p x [] = []
 slots_from p x (v ∷ vs) = slot_in p v.block x ∷ slots_from p (suc x) vs
 
+-- those of all variables
 abbrev pub slots_of : Program → List ℕ
 slots_of p = slots_from p 0 p.variables
 
@@ -19,6 +21,7 @@ abbrev pub offsets_from : List ℕ → ℕ → List (List ℕ × ℕ) → List �
 offsets_from sizes n [] = []
 offsets_from sizes n (f ∷ fs) = n ∷ offsets_from sizes (n + first_or 0 (slice_get sizes f.1)) fs
 
+-- those of a type
 abbrev pub offsets_by : List ℕ → KindOf → List ℕ
 offsets_by sizes kind.Integer = []
 offsets_by sizes kind.Boolean = []
@@ -28,6 +31,7 @@ offsets_by sizes (kind.Array low high index element) = []
 offsets_by sizes (kind.Fields fs) = offsets_from sizes 0 fs
 offsets_by sizes (kind.Channel ks) = []
 
+-- those of all types
 abbrev pub offsets_of : Program → List (List ℕ)
 offsets_of p = map (offsets_by (sizes p.kinds)) p.kinds
 

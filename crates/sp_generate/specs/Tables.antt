@@ -1,4 +1,5 @@
--- The fork tables of a tree with numbers, where the variables of a process statement are told by its number.
+-- The fork tables of a tree with numbers, where the variables of a process statement are told by its number. Written
+-- code is said by it, since the tree in memory has numbers and no sets.
 use Rattle.std.specs.Prelude.{ℕ, ◌+◌, List, [], ◌∷◌, ◌++◌, Option, Some, None}
 use Rattle.sp_tree.specs.PlainChecked.{Statement, Does, Form, Empty, Assign, Call, Sequence, If, While, Repeat, For, Case, Parallel, Forall, Assume, ReadValue, ReadLine, WriteValue, WriteText, WriteLine, Open, Send, Receive, NoElse, Else, Statements, NoStatement, AndThen, On, Arms, NoArm, Or, Block}
 use Rattle.sp_tree.specs.Bare.{bare_expression, bare_statement, bare_arms, bare_block}

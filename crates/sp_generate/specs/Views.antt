@@ -1,4 +1,4 @@
--- How the generator's data is seen: the plain program, and the scopes.
+-- How the generator's data is seen: the plain program, and the scopes. All contracts of the generator's walks cite it.
 use Rattle.std.specs.Prelude.{ℕ, List, [], ◌∷◌, ◌++◌, map, slice_get}
 use Rattle.sp_tree.specs.Plain.{Program, Actuals}
 use Rattle.sp_code.specs.declared.instr.Instr.{Instr}

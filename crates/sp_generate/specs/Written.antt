@@ -1,4 +1,5 @@
--- Code as far as it is written: what it is once the code of a part was put behind it.
+-- Code as far as it is written: what it is once the code of a part was put behind it. The contracts of statements and
+-- choices say what they add, so that no code is moved after it was written.
 use Rattle.std.specs.Prelude.{ℕ, ◌+◌, ℤ, List, [], ◌∷◌, ◌++◌, Some, length, map, slice_set}
 use Rattle.sp_tree.specs.PlainChecked as c
 use Rattle.sp_tree.specs.Bare.{bare_expression, bare_statement, bare_statement_form, bare_statements, bare_arms, bare_variable, bare_block}

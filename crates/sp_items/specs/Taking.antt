@@ -1,4 +1,4 @@
--- What reading gives, as it is kept in memory.
+-- What reading gives, as it is kept in memory. The contracts of sp_items and of the machine's input cite it.
 use Rattle.sp_items.specs.declared.Taken.{Taken}
 use Rattle.sp_items.specs.declared.Taken.TheVariants as taken
 use Rattle.sp_tree.specs.Items as i

@@ -1,4 +1,5 @@
--- What the kernel may be asked, and what comes of it.
+-- What the kernel may be asked, and what comes of it: the contract of the kernel as an object that a room keeps. Each
+-- ask is one step, so that the room needs to know no more than these relations.
 use Rattle.std.specs.Prelude.{◌≡◌, ◌≢◌, ◌⊎◌, ℕ, ◌+◌, ◌<◌, ◌≤◌, List, [], ◌++◌, Option, Some, None, Bool, true, false}
 use Rattle.std.specs.Option.{option_map}
 use Rattle.sp_cell.specs.Map.{Plain}
@@ -36,12 +37,14 @@ pub record IsOpening (x : Kernel) : Type 0 where
   pub sound : IsSound x.code.value
   pub formals : HaveFormals x.code.value.layouts
 
+-- what is handed in fits
 abbrev pub FitsAsk : Kernel → ℕ → Ask → Type 0
 FitsAsk x w (ask.Turn None) = Unit {0}
 FitsAsk x w (ask.Turn (Some h)) = Fits x w h
 FitsAsk x w (ask.Abandon None) = Unit {0}
 FitsAsk x w (ask.Abandon (Some p)) = (control_of x).doing p.number ≡ Out w
 
+-- what the kernel requires of an ask
 pub record CanServe (x : Kernel) (w : ℕ) (a : Ask) : Type 0 where
   pub whole : IsKernel x
   pub out : x.out + 1 < 18446744073709551616

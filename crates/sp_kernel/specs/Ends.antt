@@ -1,4 +1,5 @@
--- What the end of a process does to the kernel.
+-- What the end of a process does to the kernel. The contracts of `end` cite it; that it is a legal step of the control
+-- and the system is proved from it.
 use Rattle.std.specs.Prelude.{◌≡◌, ℕ, ◌-◌, ◌==◌, [], ◌∷◌, ◌++◌, Option, Some, None, if◌then◌else◌, slice_get, slice_set}
 use Rattle.sp_journal.specs.declared.entry.Event.TheVariants as event
 use Rattle.sp_code.specs.PlainStore.{plain}

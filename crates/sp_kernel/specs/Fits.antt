@@ -1,4 +1,5 @@
--- What may be handed in.
+-- What may be handed in: a turn that a process out with this worker can have made. Each ask requires it, and the
+-- runner shows it of the turn that it ran.
 use Rattle.std.specs.Prelude.{◌≡◌, ℕ, ◌<◌, length, Some}
 use Rattle.sp_journal.specs.declared.entry.Birth.{Birth}
 use Rattle.sp_code.specs.declared.code.Parts.{Parts}

@@ -1,4 +1,5 @@
--- What a fork does to the kernel.
+-- What a fork does to the kernel. The contracts of `fork` cite it; that it is a legal step of the control and the
+-- system is proved from it.
 use Rattle.std.specs.Prelude.{◌≡◌, ℕ, ℤ, Bool, nat_lt, ◌+◌, ◌-◌, List, [], ◌∷◌, ◌++◌, length, Some, slice_get, slice_set}
 use Rattle.sp_journal.specs.declared.entry.Event.TheVariants as event
 use Rattle.sp_journal.specs.Queue.{numbers}

@@ -1,4 +1,5 @@
--- The laws of the kernel as an object that a room keeps.
+-- The laws of the kernel as an object that a room keeps: what a note tells of the kernel, and that a seat's knowledge
+-- lasts. The room asks its object for these proofs, so they stand in specs.
 use Rattle.std.proofs.Common.{◌≡◌, ◌≢◌, ℕ, ◌+◌, ◌<◌, ◌≤◌, ◌==◌, Bool, true, false, List, [], ◌∷◌, ◌++◌, append_assoc, length, Some, None, refl, sym, ap, ◌∙◌, subst, arith}
 use Rattle.sp_cell.specs.Map.{Plain}
 use Rattle.sp_journal.specs.declared.entry.Note.{Note}
@@ -33,19 +34,24 @@ use Rattle.sp_history.proofs.Queues.{itself}
 use Rattle.sp_history.proofs.Agreeing.{agrees_start, orderly_start}
 use Rattle.sp_history.proofs.Legal.{reaches_keeps, reaches_leads, reaches_same, reaches_front, stays}
 
+-- without a note nothing changed
 pub none_same : (x : Kernel) (w : ℕ) (a : Ask) (y : Kernel) (g : Got) → Steps x w a y g None → y ≡ x
 none_same x w a y g m = m.0
 
+-- a note has changed the kernel
 pub note_changes : (x : Kernel) (w : ℕ) (a : Ask) (y : Kernel) (g : Got) (n : Note) → Steps x w a y g (Some n) → y ≡ x → ⊥
 note_changes x w a y g n m same = m.changed same
 
+-- an abandon has a note
 pub abandon_notes : (x : Kernel) (w : ℕ) (a : Ask) (y : Kernel) (g : Got) → is_abandon a ≡ true → Steps x w a y g None → ⊥
 abandon_notes x w (ask.Turn h) y g is m = absurd (cc is)
 abandon_notes x w (ask.Abandon p) y g is m = m.1
 
+-- a note names its worker
 pub note_names : (x : Kernel) (w : ℕ) (a : Ask) (y : Kernel) (g : Got) (n : Note) → Steps x w a y g (Some n) → n.worker ≡ w
 note_names x w a y g n m = m.worker
 
+-- what a refusal gives back is what was asked
 pub refusal_returns : (a b : Ask) (g : Got) → is_abandon a ≡ false → is_abandon b ≡ false → refusal a g → refusal b g → a ≡ b
 refusal_returns (ask.Turn h) (ask.Turn i) g one two p q = let e : got.Refused h ≡ got.Refused i = sym p ∙ q in let f : h ≡ i = cc e in ap ask.Turn f
 refusal_returns (ask.Turn h) (ask.Abandon p) g one two a b = absurd (cc two)
@@ -53,6 +59,7 @@ refusal_returns (ask.Abandon p) b g one two a c = absurd (cc one)
 
 -- ---- what the notes tell of the kernel
 
+-- where the kernel has come after these notes
 pub record Came (x : Kernel) (log : List Note) (y : Kernel) : Type 0 where
   pub reaches : Reaches plain (setting_of x) (control_of x) (system_of x) log (system_of y)
   pub control : control_of y ≡ noted_all log (control_of x)

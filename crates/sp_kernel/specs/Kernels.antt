@@ -1,4 +1,5 @@
--- The kernel in memory as the definitions see it.
+-- The kernel in memory as the definitions see it: the control and the system that its slots, queue and journal stand
+-- for, and its invariant. All contracts of the kernel cite it.
 use Rattle.std.specs.Prelude.{◌≡◌, ℕ, ◌+◌, ◌-◌, List, [], ◌∷◌, ◌++◌, length, Option, Some, None, Bool, slice_get, slice_set, nat_lt, ◌||◌}
 use Rattle.std.specs.Option.{option_map}
 use Rattle.sp_cell.specs.Map.{Plain}
@@ -26,6 +27,7 @@ use Rattle.sp_kernel.specs.declared.kernel.Kernel.{Kernel}
 use Rattle.sp_kernel.specs.Procs.{config_of, target_of, turn_of}
 use Rattle.sp_history.specs.Agreement.{IsOrderly, Agrees}
 
+-- what the control tells of a slot
 abbrev pub doing_in : Option Slot → Doing
 doing_in None = Unborn
 doing_in (Some (slot.Here p st.Ready)) = Ready
@@ -38,6 +40,7 @@ doing_in (Some slot.Ended) = Ended
 doing_in (Some (slot.Here p st.Over)) = Ended
 doing_in (Some (slot.Gone p)) = Gone
 
+-- what the system tells of a slot
 abbrev pub condition_in : Option Slot → Condition Plain
 condition_in None = Absent
 condition_in (Some (slot.Here p st.Ready)) = Runs (config_of p)

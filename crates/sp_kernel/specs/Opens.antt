@@ -1,4 +1,5 @@
--- What an open does to the kernel.
+-- What an open does to the kernel. The contracts of `open` cite it; that it is a legal step of the control and the
+-- system is proved from it.
 use Rattle.std.specs.Prelude.{◌≡◌, ℕ, ◌+◌, [], ◌∷◌, ◌++◌, None}
 use Rattle.sp_cell.specs.declared.cell.Cell.TheVariants as cell
 use Rattle.sp_journal.specs.declared.entry.Event.TheVariants as event

@@ -1,4 +1,4 @@
--- Children that stand in their slots.
+-- Children that stand in their slots: the contract of the loop that puts them there.
 use Rattle.std.specs.Prelude.{◌≡◌, ℕ, ◌+◌, ◌<◌, ◌≤◌, List, length, Some, slice_get}
 use Rattle.sp_machine.specs.declared.state.State.{State as Proc}
 use Rattle.sp_kernel.specs.declared.slot.Slot.{Slot}

@@ -1,4 +1,5 @@
--- What an offer to send does to the kernel.
+-- What an offer to send does to the kernel. The contracts of `send` cite it; that it is a legal step of the control
+-- and the system is proved from it.
 use Rattle.std.specs.Prelude.{◌≡◌, ℕ, ◌+◌, ◌-◌, List, [], ◌∷◌, ◌++◌, Option, Some, None, slice_get, slice_set}
 use Rattle.sp_cell.specs.declared.cell.Cell.{Cell}
 use Rattle.sp_journal.specs.declared.entry.Way.TheVariants as way

@@ -1,4 +1,5 @@
 -- How the system of a program's code stands at an end: who waits, where nobody can go on, and which entry is a fault.
+-- The laws of this crate lead it to the meaning's ends, and the runner's end to it.
 use Rattle.std.specs.Prelude.{◌≡◌, ◌⊎◌, ℕ, zero, suc, List, [], ◌∷◌, map, Option, Some, None, false}
 use Rattle.std.specs.List.Sorted.{IsPermutation, IsSortedByKey}
 use Rattle.sp_base.specs.Order.{name_cmp}

@@ -1,4 +1,5 @@
--- The lines of a refusal, of an end and of a verdict.
+-- The lines of a refusal, of an end and of a verdict. The printing here promises them, and the contract of the top
+-- call says by them what it writes.
 use Rattle.std.specs.Prelude.{ℕ, List, [], ◌++◌, codes, decimal}
 use Rattle.std.specs.List.{flat_map}
 use Rattle.sp_base.specs.Faults.{fault_name}
@@ -23,12 +24,14 @@ HasLines (ends.Deadlock ws) = Unit {0}
 HasLines (ends.Fault p f) = Unit {0}
 HasLines ends.Memory = ⊥
 
+-- the lines of an end
 abbrev pub end_text : End → List ℕ
 end_text ends.Done = codes "done\n"
 end_text (ends.Deadlock ws) = codes "deadlock\n" ++ flat_map waiter_line ws
 end_text (ends.Fault p f) = codes "fault " ++ fault_name f ++ codes " " ++ name_text p ++ codes "\n"
 end_text ends.Memory = []
 
+-- the line of a verdict
 abbrev pub verdict_text : Verdict → List ℕ
 verdict_text verdict.Ordered = codes "ordered\n"
 verdict_text (verdict.Race w c e l) = codes "race " ++ way_text w ++ codes " " ++ channel_text c ++ codes " " ++ decimal e ++ codes " " ++ decimal l ++ codes "\n"

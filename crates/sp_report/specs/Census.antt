@@ -1,4 +1,5 @@
--- The text of a census.
+-- The text of a census: how many entries of each kind a journal has. The contract of the census promises it, by
+-- counting in the whole list.
 use Rattle.std.specs.Prelude.{ℕ, Bool, true, false, List, [], ◌∷◌, ◌++◌, codes, count_by, decimal}
 use Rattle.std.specs.List.{flat_map}
 use Rattle.sp_journal.specs.declared.entry.Event.{Event}
@@ -18,9 +19,11 @@ is_counted kind.Faults (event.Fault f) = true
 is_counted kind.Laid event.Laid = true
 is_counted _ _ = false
 
+-- how many entries are of a kind
 abbrev pub count_of : Kind → List Entry → ℕ
 count_of k es = count_by (λ e. is_counted k e.event) es
 
+-- the word of a kind
 abbrev pub kind_name : Kind → List ℕ
 kind_name kind.Forks = codes "forks"
 kind_name kind.Opens = codes "opens"
@@ -34,8 +37,10 @@ kind_name kind.Laid = codes "laid"
 abbrev pub count_line : List Entry → Kind → List ℕ
 count_line es k = kind_name k ++ codes " " ++ decimal (count_of k es) ++ codes "\n"
 
+-- the kinds in the order of the lines
 abbrev pub kinds : List Kind
 kinds = kind.Forks ∷ kind.Opens ∷ kind.Sends ∷ kind.Receives ∷ kind.Ends ∷ kind.Faults ∷ kind.Laid ∷ []
 
+-- the name of the report, and a line for each kind
 abbrev pub census_text : List Entry → List ℕ
 census_text es = codes "census\n" ++ flat_map (count_line es) kinds

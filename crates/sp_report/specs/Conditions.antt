@@ -1,4 +1,5 @@
--- What each process does after the entries of a journal, by the rules of the kernel.
+-- What each process does after the entries of a journal, by the rules of the kernel. The report of those that wait is
+-- said by it, as a fold over the entries.
 use Rattle.std.specs.Prelude.{ℕ, ◌-◌, ◌==◌, ◌&&◌, Bool, true, false, cond, not, List, [], ◌∷◌, Option, Some, None}
 use Rattle.sp_journal.specs.declared.entry.Way.{Way}
 use Rattle.sp_journal.specs.declared.entry.Way.TheVariants as way
@@ -23,6 +24,7 @@ pub record Conditions : Type 0 where
 abbrev pub first_conditions : Conditions
 first_conditions = record { of = at_key ◌==◌ 0 condition.Running (λ q. condition.Unstarted); pending = λ c. None; faulted = false }
 
+-- process p is in this condition
 abbrev pub becomes : Conditions → ℕ → Condition → Conditions
 becomes t p k = record t { of = at_key ◌==◌ p k t.of }
 

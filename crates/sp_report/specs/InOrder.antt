@@ -1,4 +1,5 @@
--- Processes in the order of their names.
+-- Processes in the order of their names. The reports of trees and of those that wait are said by it; a name is put in
+-- its place, so that no sort has to be spoken of.
 use Rattle.std.specs.Prelude.{ℕ, List, [], ◌∷◌}
 use Rattle.std.specs.BTreeMap.{insert_entry}
 use Rattle.sp_base.specs.declared.name.ProcName.{ProcName}

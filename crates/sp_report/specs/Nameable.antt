@@ -1,4 +1,5 @@
--- To be nameable is a fact without choices.
+-- To be nameable is a fact without choices, as a ghost field of a struct has to be: the watchers keep it beside their
+-- journals.
 use Rattle.std.specs.Prelude.{ℕ, List, [], ◌∷◌}
 use Rattle.std.specs.Coded.{×_prop, Unit-prop, le_prop}
 use Rattle.sp_journal.specs.declared.entry.Event.{Event}
@@ -16,6 +17,7 @@ numbers_prop s p (event.Fault f) = Unit-prop
 numbers_prop s p event.Laid = Unit-prop
 numbers_prop s p event.Pause = Unit-prop
 
+-- so for whole journals
 pub nameable_prop : (s : Births) (es : List Entry) → IsProp (NameableFrom s es)
 nameable_prop s [] = Unit-prop
 nameable_prop s (e ∷ es) = ×_prop (×_prop le_prop (numbers_prop s e.process e.event)) (nameable_prop (after_entry s e) es)

@@ -1,4 +1,5 @@
--- Which watchers are told.
+-- Which watchers are told, by the option `--show`. The contract of `tell` promises it, and the top call's output is
+-- said by it.
 use Rattle.std.specs.Prelude.{ℕ, Bool, true, false, List, codes}
 use Rattle.std.specs.Str.{bytes_eq}
 use Rattle.sp_base.specs.declared.limits.Show.{Show}

@@ -1,4 +1,4 @@
--- The text of a timeline.
+-- The text of a timeline: each entry on a line of its own. The contract of the timeline promises it.
 use Rattle.std.specs.Prelude.{◌==◌, ◌+◌, ℕ, Bool, true, false, List, [], ◌∷◌, ◌++◌, codes, decimal}
 use Rattle.sp_journal.specs.declared.entry.Entry.{Entry}
 use Rattle.sp_journal.specs.Births.{Births, after_entry, at_start}

@@ -1,4 +1,5 @@
--- The text of a tree of processes.
+-- The text of a tree of processes: each in the order of names, indented by its depth. The contract of the tree
+-- promises it.
 use Rattle.std.specs.Prelude.{ℕ, ◌-◌, List, [], ◌∷◌, ◌++◌, codes, decimal}
 use Rattle.std.specs.List.{flat_map}
 use Rattle.sp_base.specs.declared.name.Pair.{Pair}
@@ -22,6 +23,7 @@ last_pair (p ∷ (q ∷ ps)) = last_pair (q ∷ ps)
 abbrev pub tree_line : ProcName → List ℕ
 tree_line n = indent n.pairs ++ last_pair n.pairs ++ codes "\n"
 
+-- a line for each
 abbrev pub tree_lines : List Named → List ℕ
 tree_lines ns = flat_map (λ n. tree_line n.0) ns
 

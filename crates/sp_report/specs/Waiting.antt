@@ -1,4 +1,5 @@
--- The text on the processes that wait.
+-- The text on the processes that wait: who waits for what, in the order of names. The contract of that report promises
+-- it.
 use Rattle.std.specs.Prelude.{ℕ, Bool, true, false, not, List, [], ◌++◌, codes, filter}
 use Rattle.std.specs.List.{flat_map}
 use Rattle.sp_base.specs.Names.{name_text}
@@ -21,6 +22,7 @@ is_waiting condition.Running = false
 is_waiting condition.Ended = false
 is_waiting condition.Laid = false
 
+-- it has ended
 abbrev pub has_ended : Condition → Bool
 has_ended condition.Ended = true
 has_ended condition.Unstarted = false

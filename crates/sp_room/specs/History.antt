@@ -1,4 +1,5 @@
--- Histories, and what one thread makes of them.
+-- Histories, and what one thread makes of them. The contracts of the room say by it that what was asked is one
+-- sequence of steps, whatever the schedule was.
 use Rattle.std.specs.Prelude.{◌≡◌, ℕ, List, [], ◌∷◌, ◌++◌, Option, Some, None, Bool, true, false, ◌==◌}
 
 -- the first list begins with the second

@@ -1,4 +1,5 @@
--- What a clause reads of a seat and of its room.
+-- What a clause reads of a seat and of its room: its number, what it has seen, its own notes and its claims. The
+-- contracts of the room, the runner and the example of a sum cite it.
 use Rattle.std.specs.Prelude.{◌≡◌, ℕ, List, Some}
 use Rattle.atomic_table.specs.Seated.{TableId}
 use Rattle.sp_room.specs.declared.kept.Kept.{Ghosts}

@@ -1,4 +1,5 @@
--- A computation of the meaning, and the same one with the store passed along.
+-- A computation of the meaning, and the same one with the store passed along. The law of the interpreter says that
+-- both come to the same, so that its contracts speak of the meaning.
 use Rattle.std.specs.Prelude.{◌≡◌, ℕ, List}
 use Rattle.sp_run.specs.declared.stop.Halted.TheVariants as halted
 use Rattle.sp_meaning.specs.Own as m

@@ -1,4 +1,5 @@
--- The parts of a call.
+-- The parts of a call: variables laid, values copied, a frame pushed. The contracts of `calls` cite it, a part for
+-- each function.
 use Rattle.std.specs.Prelude.{ℕ, List, Option, Some, None, length, slice_get}
 use Rattle.sp_tree.specs.Plain.{Variable, Block}
 use Rattle.sp_tree.specs.Cells.{variables_of}

@@ -1,4 +1,5 @@
--- What a call of the interpreter gives, against the definition of what it computes.
+-- What a call of the interpreter gives, against the definition of what it computes. All contracts on its work are said
+-- in this word, with want of memory left free.
 use Rattle.std.specs.Prelude.{◌≡◌, Result, Ok, Err, IfOk}
 use denote.Bor.{Bor}
 use Rattle.sp_run.specs.declared.machine.Machine.{Machine}
@@ -18,6 +19,7 @@ Comes g view (Err h) m c = c ≡ Not h
 abbrev pub Does : {R A : Type 0} → Setting → Who → (R → A) → Machine → Result (Result R Halted) Memory → Machine → Work A → Type 0
 Does g w view before result after h = IfOk result (λ r. Comes g view r after (h (plain_who w) (plain_own before.own) (store_of g before.log)))
 
+-- a value that is plain already
 abbrev pub same : {A : Type 0} → A → A
 same a = a
 

@@ -1,4 +1,5 @@
--- Work with the store passed along: what a computation gives in this store, and the store after it.
+-- Work with the store passed along: what a computation gives in this store, and the store after it. The interpreter
+-- works so, and Agree.antt leads it to the meaning's trees of reads and writes.
 use Rattle.std.specs.Prelude.{ℕ, ◌+◌, ◌==◌, List, [], ◌∷◌, Option, Some, None, Bool, if◌then◌else◌, nat_lt, length}
 use Rattle.sp_base.specs.declared.fault.Fault.{Fault}
 use Rattle.sp_base.specs.declared.fault.Fault.TheVariants as fault
@@ -9,6 +10,7 @@ use Rattle.sp_meaning.specs.Maps.{at_key}
 use Rattle.sp_meaning.specs.Values.{Value, Undefined, get_at, set_at}
 use Rattle.sp_meaning.specs.Own.{Loc, Held, Tree, Address, Home, Frame, Own, Who, value_in, assigned, same_loc, seek, seen}
 
+-- what stands at each location
 abbrev pub Store : Type 0
 Store = Loc → Held
 
@@ -17,9 +19,11 @@ pub data Came (A : Type 0) : Type 0 where
   Got : (a : A) (own : Own) (store : Store) → Came A
   Not : (h : Halted) → Came A
 
+-- a computation
 abbrev pub Work : Type 0 → Type 0
 Work A = Who → Own → Store → Came A
 
+-- on with a value, or the same end
 abbrev pub go_on : {A B : Type 0} → (A → Work B) → Who → Came A → Came B
 go_on g w (Got a o m) = g a w o m
 go_on g w (Not h) = Not h

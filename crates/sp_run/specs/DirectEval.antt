@@ -1,4 +1,5 @@
--- Expressions, variables and arguments, evaluated from left to right, with the store passed along.
+-- Expressions, variables and arguments, evaluated from left to right, with the store passed along: the meaning's Eval,
+-- line by line. The interpreter promises it.
 use Rattle.std.specs.Prelude.{ℕ, ◌==◌, ℤ, pos, ◌-ℤ◌, nat_abs, int_le, List, [], ◌∷◌, ◌++◌, Option, Some, None, ◌&&◌, not, if◌then◌else◌, length, drop, slice_get}
 use Rattle.sp_base.specs.declared.fault.Fault.TheVariants as fault
 use Rattle.sp_tree.specs.declared.checked.KindOf.{KindOf}

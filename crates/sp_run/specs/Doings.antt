@@ -1,4 +1,5 @@
--- Arguments, deeds and calls, as they are kept in memory.
+-- Arguments, deeds and calls, as they are kept in memory. The contracts of the interpreter speak of the meaning's ones
+-- by it.
 use Rattle.std.specs.Prelude.{ℕ, List, [], map}
 use denote.Bor.{Bor}
 use Rattle.sp_tree.specs.Plain.{Block}

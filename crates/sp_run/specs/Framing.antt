@@ -1,4 +1,4 @@
--- The parts of where a variable stands.
+-- The parts of where a variable stands: the contracts of `frames`, a part for each function.
 use Rattle.std.specs.Prelude.{ℕ, [], ◌∷◌, ◌++◌}
 use Rattle.sp_meaning.specs.Own.{Setting, Cell, Address, is_block, is_index, referred}
 use Rattle.sp_meaning.specs.Eval.{Place, At}

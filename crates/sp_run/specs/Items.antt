@@ -1,4 +1,5 @@
--- What is left to do, as it is kept in memory.
+-- What is left to do, as it is kept in memory: the interpreter lends statements of the tree and copies none. Its
+-- contracts speak of the meaning's items by it.
 use Rattle.std.specs.Prelude.{List, map}
 use Rattle.sp_run.specs.declared.item.Item.{Item}
 use Rattle.sp_run.specs.declared.item.Item.TheVariants as it

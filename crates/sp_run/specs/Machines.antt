@@ -1,4 +1,5 @@
--- The own part and the store of a process, as they are kept in memory.
+-- The own part and the store of a process, as they are kept in memory. The store is a log, read from its end, so that
+-- a step writes in constant time.
 use Rattle.std.specs.Prelude.{ℕ, List, [], ◌∷◌, map}
 use Rattle.sp_run.specs.declared.machine.Held.{Held}
 use Rattle.sp_run.specs.declared.machine.Held.TheVariants as held

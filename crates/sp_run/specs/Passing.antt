@@ -1,4 +1,4 @@
--- What goes over a channel, as it is kept in memory.
+-- What goes over a channel, as it is kept in memory: where it is put, and the value.
 use Rattle.sp_run.specs.declared.value.Address.{Address}
 use Rattle.sp_run.specs.declared.value.Value.{Value}
 use Rattle.sp_meaning.specs.Own as o

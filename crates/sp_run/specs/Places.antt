@@ -1,4 +1,5 @@
--- Places of variables, as they are kept in memory.
+-- Places of variables, as they are kept in memory. The contracts of frames and operators speak of the meaning's places
+-- by it.
 use Rattle.std.specs.Prelude.{ℕ, Bool, ◌==◌}
 use Rattle.sp_run.specs.declared.frames.Place.{Place}
 use Rattle.sp_run.specs.declared.frames.Place.TheVariants as place

@@ -1,4 +1,5 @@
--- The state of a run, as it is kept in memory: of each of its parts all that it became, the oldest first.
+-- The state of a run, as it is kept in memory: of each of its parts all that it became, the oldest first. The
+-- contracts of the steps speak of the meaning's state by it.
 use Rattle.std.specs.Prelude.{◌≡◌, ℕ, ◌+◌, Bool, true, false, List, [], ◌∷◌, Option, Some, None, if◌then◌else◌}
 use Rattle.std.specs.Option.{option_map}
 use Rattle.sp_base.specs.declared.fault.Fault.{Fault}

@@ -1,4 +1,5 @@
--- Items read and written, as they are kept in memory; the children of a forall; the arms of a case.
+-- Items read and written, as they are kept in memory; the children of a forall; the arms of a case. The contracts of
+-- `texts` and of the deeds cite it.
 use Rattle.std.specs.Prelude.{ℕ, ℤ, pos, ◌+ℤ◌, ◌-ℤ◌, nat_abs, int_lt, List, Bool, true, false, not, Option, if◌then◌else◌}
 use Rattle.std.specs.Option.{option_map}
 use Rattle.sp_run.specs.declared.texts.Taken.{Taken}

@@ -1,4 +1,5 @@
--- What is kept in memory, as the definitions of the meaning have it.
+-- What is kept in memory, as the definitions of the meaning have it: channels, values, places. The other views of this
+-- crate are made of these.
 use Rattle.std.specs.Prelude.{List, [], ◌∷◌, map, Option, Some, None}
 use Rattle.sp_run.specs.declared.value.Value.{Value, fold-Value}
 use Rattle.sp_run.specs.declared.value.Value.TheOpen as layer

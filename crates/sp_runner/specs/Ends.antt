@@ -1,4 +1,5 @@
--- How the system of all processes ends, and what it leaves.
+-- How the system of all processes ends, and what it leaves: the end and the output of a run in the words of the
+-- machine's system. The runner's contract cites it, and sp_link leads it to the meaning.
 use Rattle.std.specs.Prelude.{◌≡◌, ◌≢◌, ℕ, List, [], ◌∷◌, ◌++◌, Option, Some, None, false}
 use Rattle.std.specs.List.Sorted.{IsPermutation, IsSortedByKey}
 use Rattle.sp_base.specs.Order.{name_cmp}

@@ -1,4 +1,5 @@
--- What a run by so many workers is.
+-- What a run by so many workers is: the contract of `run`. It names a history that exists and no schedule, since
+-- threads may come in any order.
 use Rattle.std.specs.Prelude.{◌≡◌, ◌<◌, ◌≤◌, ℕ, List, [], None}
 use Rattle.sp_journal.specs.declared.entry.Note.{Note}
 use Rattle.sp_journal.specs.Queue.{IsFirstInFirstOut}

@@ -1,4 +1,5 @@
--- What a pass over a part of a tree adds to the sets that it gathers.
+-- What a pass over a part of a tree adds to the sets that it gathers. The contracts of `uses` and `simple` promise it:
+-- exactly what stands in the part, beside what was there.
 use Rattle.std.specs.Prelude.{◌≡◌, ◌↔◌, ◌⊎◌, ℕ, true, false}
 use Rattle.sp_tree.specs.PlainChecked as p
 use Rattle.sp_tree.specs.Bare.{bare_expression, bare_variable}

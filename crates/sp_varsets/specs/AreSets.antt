@@ -1,4 +1,5 @@
--- What the sets of a tree are: exactly the variables that paths of calls reach.
+-- What the sets of a tree are: exactly the variables that paths of calls reach. The contract of the computation of
+-- sets promises it, and interference, code and the text of the sets rest on it alone.
 use Rattle.std.specs.Prelude.{◌≡◌, ◌↔◌, ℕ, zero, suc, ◌<◌, Bool, true, false, List, get_or, Option, Some, None, slice_get}
 use Rattle.sp_tree.specs.PlainChecked as p
 use Rattle.sp_tree.specs.Bare.{bare_statement, bare}
@@ -16,10 +17,12 @@ abbrev pub chosen : List VarSet → VarSet → ℕ → VarSet
 chosen pool nothing zero = nothing
 chosen pool nothing (suc i) = get_or pool i nothing
 
+-- where the targets of an entry stand in the pool
 abbrev pub target_index : Option Entry → ℕ
 target_index None = 0
 target_index (Some e) = e.targets
 
+-- where its expression variables stand
 abbrev pub expression_index : Option Entry → ℕ
 expression_index None = 0
 expression_index (Some e) = e.expressions

@@ -1,4 +1,5 @@
--- What stands in the statement parts of blocks, and what blocks declare.
+-- What stands in the statement parts of blocks, and what blocks declare: the rows from which the closure over calls
+-- starts. The contracts of `bodies` promise it.
 use Rattle.std.specs.Prelude.{◌≡◌, ◌↔◌, ◌⊎◌, ℕ, ◌<◌, true, List, [], ◌∷◌, length, Some, slice_get}
 use Rattle.sp_tree.specs.PlainChecked as p
 use Rattle.sp_tree.specs.Bare.{bare_statement}

@@ -1,4 +1,5 @@
--- Sets of variables as bits of words.
+-- Sets of variables as bits of words. All contracts on sets speak of members by it, here and in the crates that ask
+-- the sets.
 use Rattle.std.specs.Prelude.{◌≡◌, ℕ, ◌+◌, ◌-◌, ◌*◌, ◌/◌, ◌%◌, ◌<◌, ◌≤◌, Bool, true, false, ◌==◌, List, get_or}
 use Rattle.std.specs.Int.{bit_at}
 use Rattle.sp_varsets.specs.declared.union.VarUnion.{VarUnion}

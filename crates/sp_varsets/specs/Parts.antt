@@ -1,7 +1,9 @@
--- The statements that stand in a statement, itself among them.
+-- The statements that stand in a statement, itself among them. Each of them has sets of its own, by its number; the
+-- contracts on sets say by it which ones are meant.
 use Rattle.std.specs.Prelude.{◌≡◌, ◌⊎◌, ℕ}
 use Rattle.sp_tree.specs.PlainChecked.{Statement, Does, Form, Sequence, If, While, Repeat, For, Case, Parallel, Forall, Other, NoElse, Else, Statements, NoStatement, AndThen, On, Arms, NoArm, Or}
 
+-- the number of a statement
 abbrev pub number_of : Statement → ℕ
 number_of (Does n at form) = n
 

@@ -1,8 +1,10 @@
--- What paths of calls lead to, from a row of members for each block.
+-- What paths of calls lead to, from a row of members for each block. The contracts of `closure` promise it: by paths,
+-- so that the way in which the closure is computed does not show.
 use Rattle.std.specs.Prelude.{◌≡◌, ◌≢◌, ◌↔◌, ◌⊎◌, ℕ, ◌<◌, Bool, true, false, List, [], ◌∷◌, length, Option, Some, None, slice_get}
 use Rattle.sp_varsets.specs.declared.var_set.VarSet.{VarSet}
 use Rattle.sp_varsets.specs.Members.{has}
 
+-- the row is there and has the member
 abbrev pub row_has : Option VarSet → ℕ → Bool
 row_has None x = false
 row_has (Some s) x = has s x

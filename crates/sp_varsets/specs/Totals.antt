@@ -1,4 +1,5 @@
--- The sets of statements with what their calls carry.
+-- The sets of statements with what their calls carry: a statement's own members, and those that the rows of called
+-- blocks have. The contracts of `totals` promise it.
 use Rattle.std.specs.Prelude.{◌≡◌, ◌⊎◌, ℕ, ◌<◌, ◌≤◌, true, List, length, Option, Some, slice_get}
 use Rattle.sp_varsets.specs.declared.sets.Entry.{Entry}
 use Rattle.sp_varsets.specs.declared.var_set.VarSet.{VarSet}
@@ -13,6 +14,7 @@ pub record IsWithin (pool : List VarSet) (own : Own) : Type 0 where
   pub sees : own.sees ≤ length pool
   pub runs : own.runs ≤ length pool
 
+-- so for each statement
 abbrev pub AreWithin : Walk → Type 0
 AreWithin w = (n : ℕ) (own : Own) → slot_at w.slots n ≡ Some own → IsWithin w.pool own
 

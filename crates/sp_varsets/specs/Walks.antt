@@ -1,4 +1,5 @@
--- What a pass over statements does: it adds what stands in them, and records each one.
+-- What a pass over statements does: it adds what stands in them, and records each one. The contracts of `walk` are
+-- these, one for each part of a tree.
 use Rattle.std.specs.Prelude.{ℕ}
 use Rattle.sp_tree.specs.PlainChecked as p
 use Rattle.sp_tree.specs.Bare.{bare_statement, bare_statement_form, bare_statements, bare_arms}

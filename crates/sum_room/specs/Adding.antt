@@ -1,4 +1,5 @@
--- What a sum does when it is asked.
+-- What a sum does when it is asked: the smallest object that a room can keep, with all laws that a room asks for. The
+-- example of this crate is proved by it.
 use Rattle.std.specs.Prelude.{◌≡◌, ℕ, ◌+◌, ◌<◌, List, [], ◌∷◌, length, Option, Some, None, Bool, true, false}
 use Rattle.std.proofs.Common.{arith}
 use Rattle.sum_room.specs.declared.sum.Sum.{Sum as Total}

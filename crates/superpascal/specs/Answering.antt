@@ -1,4 +1,5 @@
--- What the parts of a call answer, before it is told apart by commands.
+-- What the parts of a call answer, before it is told apart by commands. The contracts of `answers`, `notes`, `runs`
+-- and `texts` promise it, a case for each way in which a text, a file or an input is found.
 use Rattle.std.specs.Prelude.{◌≡◌, ◌⊎◌, ℕ, ◌≤◌, List, IfSome, Result, Ok, Err, length}
 use Rattle.sp_base.specs.declared.halt.Halt.{Halt}
 use Rattle.sp_base.specs.declared.halt.Halt.TheVariants as halt

@@ -1,4 +1,5 @@
--- What a call has to write, and its status.
+-- What a call has to write, and its status: the table of endings. The contracts of `ending` and `writing` promise it,
+-- and the headline and the statuses are said by it.
 use Rattle.std.specs.Prelude.{ℕ, List, [], Option, Some, None, Bool, true, false, codes}
 use Rattle.sp_execute.specs.declared.execution.Ran.{Ran}
 use Rattle.sp_print.specs.Lines.{refusal_text}
@@ -6,6 +7,7 @@ use Rattle.superpascal.specs.declared.ending.Ending.{Ending}
 use Rattle.superpascal.specs.declared.ending.Ending.TheVariants as e
 use Rattle.superpascal.specs.declared.ending.Answer.{Answer}
 
+-- the number of each ending
 abbrev pub status_of : Ending → ℕ
 status_of e.Done = 0
 status_of e.Accepted = 0

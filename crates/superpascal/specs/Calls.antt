@@ -1,4 +1,5 @@
--- A call of the program: what it is given, what it leaves, and how its answer is written.
+-- A call of the program: what it is given, what it leaves, and how its answer is written. The contract of the top call
+-- speaks of this record, so that its clauses need no name of a stream or a library.
 use Rattle.std.specs.Prelude.{◌≡◌, ◌≢◌, ◌⊎◌, ℕ, ◌<◌, ◌≤◌, List, true, false, length, take, Option, Some}
 use Rattle.sp_outside.specs.Counts.{Rose}
 use Rattle.sp_outside.specs.Told.{Grows}
@@ -18,6 +19,7 @@ pub record Sink : Type 0 where
   pub before : ℕ
   pub after : ℕ
 
+-- a sink by its parts
 abbrev pub sink : Option (List ℕ) → Option (List ℕ) → ℕ → ℕ → Sink
 sink written written' before after = record { written = written; written' = written'; before = before; after = after }
 

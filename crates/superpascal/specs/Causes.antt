@@ -1,4 +1,5 @@
--- What a call finds outside, and why an answer is due.
+-- What a call finds outside, and why an answer is due: for each ending the cause that it names. The contracts of the
+-- parts of a call promise it, and the statuses of the top call are led from it.
 use Rattle.std.specs.Prelude.{◌≡◌, ◌⊎◌, ℕ, ◌<◌, ◌≤◌, List, [], Option, Some, None, IfSome, length}
 use Rattle.sp_base.specs.declared.halt.Refusal.{Refusal}
 use Rattle.sp_gen.specs.Generated.{generated_text}
@@ -23,6 +24,7 @@ pub record Files : Type 0 where
   pub before : List ℕ → ℕ
   pub after : List ℕ → ℕ
 
+-- a library by its parts
 abbrev pub files : (List ℕ → Option (List ℕ)) → (List ℕ → ℕ) → (List ℕ → ℕ) → Files
 files held before after = record { held = held; before = before; after = after }
 
@@ -33,6 +35,7 @@ pub record Stream : Type 0 where
   pub before : ℕ
   pub after : ℕ
 
+-- a source by its parts
 abbrev pub stream : Option (List ℕ) → Option (List ℕ) → ℕ → ℕ → Stream
 stream left left' before after = record { left = left; left' = left'; before = before; after = after }
 

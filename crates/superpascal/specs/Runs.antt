@@ -1,4 +1,5 @@
--- A run of the program of a text, and what is told of it.
+-- A run of the program of a text, and what is told of it. The contracts of `runs` and `notes` promise it; the headline
+-- and the written texts are said by it.
 use Rattle.std.specs.Prelude.{◌≡◌, ℕ, ◌≤◌, Bool, true, false, if◌then◌else◌, List, [], ◌++◌, Some, None, codes, decimal, filter, length}
 use Rattle.std.specs.List.{flat_map}
 use Rattle.sp_base.specs.declared.limits.Limits.{Limits}
