@@ -72,6 +72,7 @@ one_fewer p Laid k = k
 one_fewer p Ended k = k
 one_fewer p Gone k = k
 
+-- the parent of who ended waits for a child fewer
 abbrev pub reports : Option Birth → Control → Control
 reports None k = k
 reports (Some b) k = one_fewer b.parent (k.doing b.parent) k
@@ -94,6 +95,7 @@ happens p (event.Fault f) k = record (does p Laid k) { faulted = true }
 happens p event.Laid k = does p Laid k
 happens p event.Pause k = queues p k
 
+-- process p comes back with this event
 abbrev pub comes_back : ℕ → Event → Control → Control
 comes_back p e k = let after = happens p e k in record after { out = k.out - 1; births = after_event k.births p e }
 
@@ -107,6 +109,7 @@ abbrev pub behind : List ℕ → List ℕ
 behind [] = []
 behind (p ∷ ps) = ps
 
+-- a worker takes a process
 abbrev pub takes : ℕ → Option ℕ → Control → Control
 takes worker None k = k
 takes worker (Some p) k = record k { doing = at_key ◌==◌ p (Out worker) k.doing; ready = behind k.ready; out = k.out + 1 }
@@ -118,9 +121,11 @@ given None (Some e) got k = k
 given p None None k = abandons p k
 given p None (Some q) k = k
 
+-- after a note
 abbrev pub noted : Note → Control → Control
 noted n k = takes n.worker n.got (given n.given n.event n.got k)
 
+-- after all these notes
 abbrev pub noted_all : List Note → Control → Control
 noted_all [] k = k
 noted_all (n ∷ ns) k = noted_all ns (noted n k)
@@ -166,6 +171,7 @@ abbrev pub front_of : List ℕ → Option ℕ
 front_of [] = None
 front_of (p ∷ ps) = Some p
 
+-- the next process, while the run goes on
 abbrev pub front_while : Standing → List ℕ → Option ℕ
 front_while Running ps = front_of ps
 front_while IsDone ps = None

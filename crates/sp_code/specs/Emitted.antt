@@ -56,6 +56,7 @@ abbrev pub least_of : Option KindOf → ℤ
 least_of None = pos 0
 least_of (Some t) = least t
 
+-- the greatest number of an ordinal type
 abbrev pub greatest_of : Option KindOf → ℤ
 greatest_of None = pos 0
 greatest_of (Some t) = greatest t
@@ -137,6 +138,7 @@ addr_by sc x slot v role.Reference = i.Deref (or_none (level (is_block v.block) 
 addr_by sc x slot v role.Index = i.Addr (or_none (level (is_index x) sc)) 0
 addr_by sc x slot v role.Answer = i.Addr (or_none (level (is_block v.block) sc)) slot
 
+-- the instruction that gives a variable's address, by its role
 abbrev pub addr_of : List Scope → ℕ → ℕ → Option Variable → Instr
 addr_of sc x slot None = i.Nocase
 addr_of sc x slot (Some v) = addr_by sc x slot v v.role
@@ -146,6 +148,7 @@ abbrev pub call_up : List Scope → Option ℕ → ℕ
 call_up sc None = 0
 call_up sc (Some b) = or_none (level (is_block b) sc)
 
+-- the call of a block, so many static levels outward
 abbrev pub call_instr : List Scope → ℕ → Option Block → Instr
 call_instr sc f None = i.Call f 0
 call_instr sc f (Some b) = i.Call f (call_up sc b.parent)
@@ -394,6 +397,7 @@ module _ (p : Program) where
     code_arms sc t n q NoArm end = []
     code_arms sc t n q (Or (On ms s) rest) end = code sc t n q s ++ (i.Jump end ∷ code_arms sc (t + tables_in s) (n + texts_in s) (after p q s + 1) rest end)
 
+  -- a block's code: its body, and its end
   abbrev pub block_code : ℕ → (t n q : ℕ) → Block → List Instr
   block_code b t n q k = code (scopes_of p b) t n q k.body ++ end_instr b ∷ []
 
@@ -408,6 +412,7 @@ module _ (p : Program) where
   cells_of None = 0
   cells_of (Some v) = cells_by (sizes p.kinds) v.role v.kind
 
+  -- a parameter as a formal
   abbrev pub formal_by : Option Variable → Formal
   formal_by None = formal.Value 0
   formal_by (Some v) = formal_of v.role (size p v.kind)
@@ -424,6 +429,7 @@ module _ (p : Program) where
     formals = map (λ x. formal_by (slice_get p.variables x)) k.formals;
   }
 
+  -- the layouts of blocks, whose code begins at q
   abbrev pub layouts_from : (b q : ℕ) → List Block → List Layout
   layouts_from b q [] = []
   layouts_from b q (k ∷ ks) = layout_of b q k ∷ layouts_from (suc b) (after_block p q k) ks
@@ -431,6 +437,7 @@ module _ (p : Program) where
   -- ---- fork tables, by what a process statement may change and only reads
 
   module _ (moves shares : Stmt → List ℕ) where
+    -- a child, whose code begins at q
     abbrev pub child_table : ℕ → Option ℕ → Stmt → ChildTable
     child_table q index s = record { entry = q; moved = moves s; shared = but_index index (shares s); index = index }
 

@@ -125,6 +125,7 @@ fits_formal (formal.Reference n) (Cells cs) = false
 fits_formal (formal.Reference n) (Link r) = false
 fits_formal (formal.Reference n) (Reply r) = false
 
+-- the entries are of the kinds of the formals
 abbrev pub fit_formals : List Formal → List Entry → Bool
 fit_formals [] [] = true
 fit_formals [] (e ∷ es) = false
@@ -147,6 +148,7 @@ module _ {M : Type 0} where
   on_number (Link r ∷ st) go = Stuck
   on_number (Reply r ∷ st) go = Stuck
 
+  -- on with the channel on top
   abbrev pub on_channel : List Entry → (ℕ → List Entry → One M) → One M
   on_channel [] go = Stuck
   on_channel (Number v ∷ st) go = Stuck
@@ -156,6 +158,7 @@ module _ {M : Type 0} where
   on_channel (Link r ∷ st) go = Stuck
   on_channel (Reply r ∷ st) go = Stuck
 
+  -- on with the address on top
   abbrev pub on_address : List Entry → (Address → List Entry → One M) → One M
   on_address [] go = Stuck
   on_address (Number v ∷ st) go = Stuck
@@ -175,6 +178,7 @@ module _ {M : Type 0} where
   on_cell (Link r ∷ st) go = Stuck
   on_cell (Reply r ∷ st) go = Stuck
 
+  -- on with the cells on top
   abbrev pub on_cells : List Entry → (List Cell → List Entry → One M) → One M
   on_cells [] go = Stuck
   on_cells (Number v ∷ st) go = go (cell.Ordinal v ∷ []) st
@@ -204,14 +208,17 @@ module _ {M : Type 0} where
   abbrev pub when : Bool → One M → One M
   when b next = if b then next else Stuck
 
+  -- on with what is there
   abbrev pub there : {A : Type 0} → Option A → (A → One M) → One M
   there None go = Stuck
   there (Some x) go = go x
 
+  -- on, or the fault
   abbrev pub then_go : Did M → (M → One M) → One M
   then_go (Done n) go = go n
   then_go (Failed f) go = Fails f
 
+  -- on with a number, or the fault
   abbrev pub worked : Worked → (ℤ → One M) → One M
   worked (Yields n) go = go n
   worked (Refuses f) go = Fails f
@@ -222,6 +229,7 @@ module _ {M : Type 0} where
   ordinal_in (cell.Ordinal v) go = go v
   ordinal_in (cell.Channel c) go = Fails fault.F4
 
+  -- on with the channel in a cell, or F5
   abbrev pub channel_in : Cell → (ℕ → One M) → One M
   channel_in cell.Undefined go = Fails fault.F5
   channel_in (cell.Ordinal v) go = Fails fault.F5
@@ -250,6 +258,7 @@ module _ {M : Type 0} (ops : Ops M) (code : Parts) where
   abbrev pub entered : Layout → ℕ → List Entry → M → One M
   entered l r st n = if l.answer then Goes (At l.entry (Reply r ∷ st) n) else paced l.entry (Link r ∷ st) n
 
+  -- a block is called, with its arguments on the stack
   abbrev pub called : Layout → (up : ℕ) → ℕ → List Entry → M → One M
   called l up r stack n =
       pop (length l.formals) stack [] (λ es st. when (fit_formals l.formals es) (when (ops.may_open up n) (then_go (ops.open_frame l up es n) (λ m. entered l r st m))))
@@ -277,6 +286,7 @@ module _ {M : Type 0} (ops : Ops M) (code : Parts) where
   abbrev pub prints : List ℕ → ℕ → List Entry → M → One M
   prints t pc st n = when (ops.has_output n) (then_go (ops.print t n) (λ m. Goes (At pc st m)))
 
+  -- a text with a width: right in so many columns, or F1
   abbrev pub wide : (cut : Bool) → List ℕ → ℤ → ℕ → List Entry → M → One M
   wide cut t m pc st n = if int_le m (pos 0) then Fails fault.F1 else prints (padded (nat_abs m) (if cut then take (nat_abs m) t else t)) pc st n
 
@@ -292,6 +302,7 @@ module _ {M : Type 0} (ops : Ops M) (code : Parts) where
       on_number stack (λ last st. on_number st (λ first st1. there (ops.addr 0 var n) (λ a. when (ops.has a 1 n) (
       if is_range down first last then Goes (At (pc + 1) (Number last ∷ st1) (ops.put a (cell.Ordinal first) n)) else Goes (At to st1 n)))))
 
+  -- the end of a loop: on with the next value, or behind it
   abbrev pub ends_loop : (down : Bool) (var to pc : ℕ) → List Entry → M → One M
   ends_loop down var to pc stack n =
       on_number stack (λ last st. there (ops.addr 0 var n) (λ a. when (ops.has a 1 n) (ordinal_in (ops.look a n) (λ v.

@@ -91,6 +91,7 @@ abbrev pub addr_in : List Frame → ℕ → Option Address
 addr_in [] var = None
 addr_in (f ∷ fs) var = Some (cell_at f.number var)
 
+-- what a variable parameter of the newest frame stands for
 abbrev pub deref_in : List Frame → ℕ → Option Address
 deref_in [] var = None
 deref_in (f ∷ fs) var = referred var f.references
@@ -123,12 +124,14 @@ abbrev pub answer_of : List Layout → ℕ → Home → Option Address
 answer_of ls number (OfBlock b) = answer_by number (layout_of ls b)
 answer_of ls number (OfIndex x) = None
 
+-- where the result of the newest frame's block stands
 abbrev pub answer_in : List Layout → List Frame → Option Address
 answer_in ls [] = None
 answer_in ls (f ∷ fs) = answer_of ls f.number f.home
 
 -- ---- cells
 
+-- the cells, or none
 abbrev pub cells_in : Option (List Cell) → List Cell
 cells_in None = []
 cells_in (Some cs) = cs
@@ -150,6 +153,7 @@ position_in (Some (cell.Undefined ∷ cs)) = None
 position_in (Some (cell.Ordinal n ∷ cs)) = Some (nat_abs n)
 position_in (Some (cell.Channel c ∷ cs)) = None
 
+-- the input from a position on
 abbrev pub left_after : List ℕ → Option ℕ → Option (List ℕ)
 left_after input None = None
 left_after input (Some n) = Some (drop n input)
@@ -167,6 +171,7 @@ bytes_in None = []
 bytes_in (Some bs) = bs
 
 module _ {S : Type 0} (stores : Stores S) where
+  -- the memory with another store
   abbrev pub with_store : Memory S → S → Memory S
   with_store n s = record n { store = s }
 
@@ -177,9 +182,11 @@ module _ {S : Type 0} (stores : Stores S) where
   abbrev pub put_cell : Address → Cell → S → S
   put_cell a c s = stores.owned s a.spot (slice_set (cells_at s a.spot) a.offset c)
 
+  -- cells over those at an address
   abbrev pub put_cells : Address → List Cell → S → S
   put_cells a cs s = stores.owned s a.spot (overwritten (cells_at s a.spot) a.offset cs)
 
+  -- k cells copied
   abbrev pub copied : (to from : Address) → ℕ → S → S
   copied to from k s = put_cells to (part (cells_at s from.spot) from.offset k) s
 
@@ -216,6 +223,7 @@ module _ {S : Type 0} (stores : Stores S) where
     without_frame [] n = n
     without_frame (f ∷ fs) n = record n { frames = fs; depth = n.depth - 1; cells = n.cells - cells_of_home g.code.layouts f.home; store = stores.popped n.store }
 
+    -- the newest frame may go
     abbrev pub may_close : List Frame → S → Bool
     may_close [] s = false
     may_close (f ∷ fs) s = stores.may_pop s f.number
@@ -258,9 +266,11 @@ module _ {S : Type 0} (stores : Stores S) where
       store = stores.root (sizes_of l);
     }
 
+    -- where a block's code begins
     abbrev pub entry_of : Option Layout → ℕ
     entry_of None = 0
     entry_of (Some l) = l.entry
 
+    -- the first process of a run
     abbrev pub first : Config (Memory S)
     first = At (entry_of (layout_of g.code.layouts 0)) [] (first_memory (layout_of g.code.layouts 0))

@@ -76,6 +76,7 @@ abbrev pub after_test : ℕ → List ℤ → ℕ
 after_test q [] = q
 after_test q (m ∷ ms) = after_test (q + 1) ms
 
+-- behind the tests of a `case`
 abbrev pub after_tests : ℕ → Arms → ℕ
 after_tests q NoArm = q
 after_tests q (Or (On ms s) rest) = after_tests (after_test q ms) rest
@@ -123,6 +124,7 @@ module _ (p : Program) where
   abbrev pub after_block : ℕ → Block → ℕ
   after_block q b = after q b.body + 1
 
+  -- behind the code of all these blocks
   abbrev pub after_blocks : ℕ → List Block → ℕ
   after_blocks q [] = q
   after_blocks q (b ∷ bs) = after_blocks (after_block q b) bs

@@ -17,6 +17,7 @@ pub data Sort : Type 0 where
   Many : Sort
   NoSort : Sort
 
+-- how many cells a type has, and of what
 abbrev pub sort_by : Option KindOf → Sort
 sort_by None = NoSort
 sort_by (Some kind.Integer) = Ordinals
@@ -44,6 +45,7 @@ is_local role.Reference = false
 is_local role.Index = false
 is_local role.Answer = false
 
+-- those that are no parameters
 abbrev pub locals_among : List (ℕ × Variable) → List ℕ
 locals_among [] = []
 locals_among (x ∷ xs) = if is_local x.1.role then x.0 ∷ locals_among xs else locals_among xs
@@ -53,6 +55,7 @@ abbrev pub index_among : ℕ → ℕ → List ℕ → ℕ
 index_among x n [] = n
 index_among x n (y ∷ ys) = if x == y then n else index_among x (suc n) ys
 
+-- the type of a field
 abbrev pub second_or : ℕ → Option (List ℕ × ℕ) → ℕ
 second_or k None = k
 second_or k (Some x) = x.1
@@ -68,6 +71,7 @@ field_type k (Some (kind.Array low high index element)) f = k
 field_type k (Some (kind.Fields fs)) f = second_or k (slice_get fs f)
 field_type k (Some (kind.Channel ks)) f = k
 
+-- the type of an array's elements
 abbrev pub element_type : ℕ → Option KindOf → ℕ
 element_type k None = k
 element_type k (Some kind.Integer) = k
@@ -109,6 +113,7 @@ module _ (p : Program) where
   abbrev pub slot_in : ℕ → ℕ → ℕ
   slot_in b x = index_among x (if b == 0 then 2 else 0) (frame_of b)
 
+  -- a variable's number in its frame
   abbrev pub slot_by : ℕ → Option Variable → ℕ
   slot_by x None = 0
   slot_by x (Some v) = slot_in v.block x
@@ -122,5 +127,6 @@ module _ (p : Program) where
   selected_type k (Select (Index e) rest) = selected_type (element_type k (kind_at k)) rest
   selected_type k (Select (Field f) rest) = selected_type (field_type k (kind_at k) f) rest
 
+  -- the type of a variable with its selectors
   abbrev pub type_of : Var → ℕ
   type_of (Entire x ss) = selected_type (type_by (slice_get p.variables x)) ss

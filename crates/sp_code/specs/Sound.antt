@@ -41,6 +41,7 @@ abbrev pub means : List Frame → ℕ → ℕ
 means [] n = identity 0 n
 means (f ∷ fs) n = if f.number == n then identity f.owner f.number else means fs n
 
+-- the store of a process with what its frames mean
 abbrev pub view_at : Config (Memory Plain) → View
 view_at (At pc st n) = record { map = n.store.map; means = means n.frames }
 
@@ -54,6 +55,7 @@ views_at (Laid c) = view_at c ∷ []
 views_at Gone = []
 views_at (Over c) = view_at c ∷ []
 
+-- those of all these processes
 abbrev pub views_of : (ℕ → Condition Plain) → List ℕ → List View
 views_of condition [] = []
 views_of condition (q ∷ qs) = views_at (condition q) ++ views_of condition qs

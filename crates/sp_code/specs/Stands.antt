@@ -31,6 +31,7 @@ NoIndex role.Reference = Unit {0}
 NoIndex role.Index = ⊥
 NoIndex role.Answer = Unit {0}
 
+-- the operator may stand between channels
 abbrev pub TakesChannels : BinaryOp → Type 0
 TakesChannels binary.Eq = Unit {0}
 TakesChannels binary.Ne = Unit {0}
@@ -138,6 +139,7 @@ module _ (p : Program) (moves shares : Stmt → List ℕ) (Is : ℕ → Instr �
   Around sc f None up = ⊥
   Around sc f (Some b) up = (level (is_block b) sc ≡ Some up) × (scopes_of p f ≡ OfBlock f ∷ drop up sc)
 
+  -- a call of block f stands here
   abbrev pub CallAt : List Scope → ℕ → ℕ → Block → Type 0
   CallAt sc q f b = (up : ℕ) × (slice_get p.blocks f ≡ Some b) × Around sc f b.parent up × Is q (i.Call f up)
 
@@ -220,6 +222,7 @@ module _ (p : Program) (moves shares : Stmt → List ℕ) (Is : ℕ → Instr �
   TestAt q [] b = Unit {0}
   TestAt q (m ∷ ms) b = Is q (i.Casej m b) × TestAt (q + 1) ms b
 
+  -- the tests of a `case` stand here
   abbrev pub TestsAt : ℕ → Arms → ℕ → Type 0
   TestsAt q NoArm b = Unit {0}
   TestsAt q (Or (On ms s) rest) b = TestAt q ms b × TestsAt (after_test q ms) rest (after p b s + 1)
@@ -299,9 +302,11 @@ module _ (p : Program) (moves shares : Stmt → List ℕ) (Is : ℕ → Instr �
 abbrev pub Stands : Parts → ℕ → Instr → Type 0
 Stands code q instr = slice_get code.instrs q ≡ Some instr
 
+-- the fork table of a number
 abbrev pub HasFork : Parts → ℕ → ForkTable → Type 0
 HasFork code t table = slice_get code.forks t ≡ Some table
 
+-- the text of a number
 abbrev pub HasWords : Parts → ℕ → List ℕ → Type 0
 HasWords code n text = slice_get code.texts n ≡ Some text
 
@@ -320,9 +325,11 @@ BlocksAt p moves shares code hush = (f : ℕ) (b : Block) → slice_get p.blocks
 abbrev pub AnyInstr : ℕ → Instr → Type 0
 AnyInstr q instr = Unit {0}
 
+-- no table is asked for
 abbrev pub AnyTable : ℕ → ForkTable → Type 0
 AnyTable t table = Unit {0}
 
+-- no text is asked for
 abbrev pub AnyText : ℕ → List ℕ → Type 0
 AnyText n text = Unit {0}
 

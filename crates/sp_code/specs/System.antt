@@ -46,11 +46,13 @@ abbrev pub entire : Option Address → Option Spot
 entire None = None
 entire (Some a) = Some a.spot
 
+-- where variable k of a frame stands, by its formal if it is a parameter
 abbrev pub spot_by : Frame → ℕ → Option Formal → Option Spot
 spot_by f k None = Some (record { frame = f.number; variable = k })
 spot_by f k (Some (formal.Value n)) = Some (record { frame = f.number; variable = k })
 spot_by f k (Some (formal.Reference n)) = entire (referred k f.references)
 
+-- the same of a variable with this place among the layout's
 abbrev pub spot_at : Frame → Layout → Option ℕ → Option Spot
 spot_at f l None = None
 spot_at f l (Some k) = spot_by f k (slice_get l.formals k)
@@ -64,6 +66,7 @@ abbrev pub spot_in : List Layout → Frame → Home → ℕ → Option Spot
 spot_in ls f (OfBlock b) x = spot_of_layout f x (layout_of ls b)
 spot_in ls f (OfIndex y) x = if x == y then Some (record { frame = f.number; variable = 0 }) else None
 
+-- here, or in a frame further outward
 abbrev pub or_outward : Option Spot → Option Spot → Option Spot
 or_outward (Some s) o = Some s
 or_outward None o = o
@@ -78,6 +81,7 @@ spot_from ls (suc n) (f ∷ fs) x = or_outward (spot_in ls f f.home x) (spot_fro
 abbrev pub spot_of : List Layout → List Frame → ℕ → Option Spot
 spot_of ls fs x = if nat_lt x 2 then Some (record { frame = 0; variable = x }) else spot_from ls (length fs) fs x
 
+-- a spot before others, if there is one
 abbrev pub with_spot : Option Spot → List Spot → List Spot
 with_spot None ss = ss
 with_spot (Some s) ss = s ∷ ss
@@ -96,6 +100,7 @@ index_by value k (Some x) = Some (0, value +ℤ pos k)
 abbrev pub handing_of : List Layout → List Frame → ℤ → ℕ → ChildTable → Handing
 handing_of ls fs value k c = record { moved = spots_of ls fs c.moved; shared = spots_of ls fs c.shared; index = index_by value k c.index }
 
+-- for a number that no child has
 abbrev pub no_child : ChildTable
 no_child = record { entry = 0; moved = []; shared = []; index = None }
 
@@ -148,6 +153,7 @@ clash_by w k (Some (Opens a)) = None
 clash_by w k (Some Ends) = None
 clash_by w k (Some Pauses) = None
 
+-- the first of two
 abbrev pub first_fault : Option Fault → Option Fault → Option Fault
 first_fault None g = g
 first_fault (Some f) g = Some f
@@ -182,6 +188,7 @@ module _ {S : Type 0} where
   stop_of Gone = None
   stop_of (Over c) = None
 
+  -- what the process waits with whose offer is pending
   abbrev pub pending_stop : System S → Option ℕ → Option Stop
   pending_stop s None = None
   pending_stop s (Some z) = stop_of (s.condition z)
@@ -190,6 +197,7 @@ module _ {S : Type 0} where
   abbrev pub one_more_entry : Limits → System S → Option Fault → Option Fault
   one_more_entry lim s other = if nat_lt lim.entries (s.entries + 1) then Some fault.F15 else other
 
+  -- the fault of a stop that would pass a limit
   abbrev pub limit_of : Limits → System S → Stop → Option Fault
   limit_of lim s (Forks t value n) = one_more_entry lim s (if nat_lt lim.processes (s.births.processes + n) then Some fault.F13 else None)
   limit_of lim s (Opens a) = one_more_entry lim s (if nat_lt lim.channels (s.births.channels + 1) then Some fault.F14 else None)
@@ -198,6 +206,7 @@ module _ {S : Type 0} where
   limit_of lim s Ends = None
   limit_of lim s Pauses = None
 
+  -- the fault of an offer against what is pending
   abbrev pub clash_of : System S → Stop → Option Fault
   clash_of s (Forks t value n) = None
   clash_of s (Opens a) = None
@@ -221,6 +230,7 @@ module _ {S : Type 0} where
   abbrev pub event_of : Limits → System S → Turn (Memory S) → Event
   event_of lim s t = if s.faulted then event.Laid else event_or (fault_of lim s t) t
 
+  -- the process after its turn
   abbrev pub config_of : Turn (Memory S) → Config (Memory S)
   config_of (Stopped stop c) = c
   config_of (Faulted f c) = c
@@ -238,12 +248,14 @@ module _ {S : Type 0} where
   abbrev pub depth_of : Config (Memory S) → ℕ
   depth_of (At pc st n) = n.depth
 
+  -- the process with another store
   abbrev pub on_store : (S → S) → Config (Memory S) → Config (Memory S)
   on_store f (At pc st n) = At pc st (record n { store = f n.store })
 
 module _ {S : Type 0} (stores : Stores S) (g : Setting) where
   -- ---- events
 
+  -- process q is in this condition
   abbrev pub becomes : ℕ → Condition S → System S → System S
   becomes q c s = record s { condition = at_key ◌==◌ q c s.condition }
 
@@ -255,6 +267,7 @@ module _ {S : Type 0} (stores : Stores S) (g : Setting) where
   abbrev pub plan_of : Config (Memory S) → (table : ℕ) → ℤ → ℕ → List Handing
   plan_of c t value n = plan_from g.code.layouts (frames_of c) (table_or (slice_get g.code.forks t)) value 0 n
 
+  -- the frames of a child, above them that of its index
   abbrev pub with_index_frame : ℕ → Handing → Option ℕ → List Frame → List Frame
   with_index_frame q h None fs = fs
   with_index_frame q h (Some x) fs = record { owner = q; number = index_frame h; home = OfIndex x; link = length fs; references = [] } ∷ fs
@@ -300,6 +313,7 @@ module _ {S : Type 0} (stores : Stores S) (g : Setting) where
   received cs Gone = Gone
   received cs (Over c) = Over c
 
+  -- the cells that are sent
   abbrev pub message_of : Option Stop → List Cell
   message_of None = []
   message_of (Some (Forks t value n)) = []
@@ -314,6 +328,7 @@ module _ {S : Type 0} (stores : Stores S) (g : Setting) where
   sent q stop ch cs c None s = record (becomes q (Waits stop c) s) { pending = at_key ◌==◌ ch (Some q) s.pending }
   sent q stop ch cs c (Some z) s = record (becomes q (Runs c) (becomes z (received cs (s.condition z)) s)) { pending = at_key ◌==◌ ch None s.pending }
 
+  -- an offer to receive, by what is pending: it waits, or it takes the message
   abbrev pub taken : ℕ → Stop → (channel : ℕ) → Address → Config (Memory S) → Option ℕ → System S → System S
   taken q stop ch a c None s = record (becomes q (Waits stop c) s) { pending = at_key ◌==◌ ch (Some q) s.pending }
   taken q stop ch a c (Some z) s =
@@ -331,6 +346,7 @@ module _ {S : Type 0} (stores : Stores S) (g : Setting) where
   rejoined c Gone = Gone
   rejoined c (Over d) = Over d
 
+  -- a process without a parent is over, and the parent of another one waits for a child fewer
   abbrev pub reported : ℕ → Config (Memory S) → Option Birth → System S → System S
   reported q c None s = becomes q (Over c) s
   reported q c (Some b) s = becomes b.parent (rejoined c (s.condition b.parent)) (becomes q Gone s)
@@ -344,14 +360,17 @@ module _ {S : Type 0} (stores : Stores S) (g : Setting) where
   happens q Ends c s = reported q c (s.births.birth q) s
   happens q Pauses c s = becomes q (Runs c) s
 
+  -- process q is laid
   abbrev pub lays : ℕ → Config (Memory S) → System S → System S
   lays q c s = becomes q (Laid c) s
 
+  -- a fault lays its process, and faults the system
   abbrev pub unless_fault : Option Fault → ℕ → Turn (Memory S) → System S → System S
   unless_fault (Some f) q t s = record (lays q (config_of t) s) { faulted = true }
   unless_fault None q (Faulted f c) s = record (lays q c s) { faulted = true }
   unless_fault None q (Stopped stop c) s = happens q stop (entered_now c) s
 
+  -- after a fault every process is laid at the end of its turn
   abbrev pub done : ℕ → Turn (Memory S) → System S → System S
   done q t s = if s.faulted then lays q (config_of t) s else unless_fault (fault_of g.limits s t) q t s
 
@@ -404,6 +423,7 @@ module _ {S : Type 0} (stores : Stores S) (g : Setting) where
   Gets k None (Some q) = front k ≡ Some q
   Gets k (Some e) got = got ≡ front k
 
+  -- each further note is legal where the ones before it lead
   abbrev pub LegalFrom : Control → System S → List Note → Type 0
   LegalFrom k s [] = Unit {0}
   LegalFrom k s (n ∷ ns) =

@@ -18,5 +18,6 @@ abbrev pub child_by : List ChildTable → Option ℕ → ℕ → Option ChildTab
 child_by cs None k = slice_get cs k
 child_by cs (Some x) k = slice_get cs 0
 
+-- child k of a fork
 abbrev pub child_at : ForkTable → ℕ → Option ChildTable
 child_at t k = child_by t.children (index_of t) k

@@ -43,6 +43,7 @@ module _ {M : Type 0} (ops : Ops M) (code : Parts) where
   abbrev pub Runs : Config M → Turn M → Type 0
   Runs c t = (d : Config M) × Comes c d × EndsSo d t
 
+  -- its live frames fit
   abbrev pub begins : Config M → Bool
   begins (At pc stack n) = ops.fits n
 
@@ -66,6 +67,7 @@ module _ {M : Type 0} (ops : Ops M) (code : Parts) where
   ran zero c = GoesOn c
   ran (suc n) c = ran_by (ran n) c (one ops code c)
 
+  -- n instructions, where it may begin
   abbrev pub started : ℕ → Bool → Config M → Ran M
   started n true c = ran n c
   started n false c = Ended (Faulted fault.F12 c)

@@ -43,6 +43,7 @@ abbrev pub after_entry : Name → Happening → ℕ → Course → Course
 after_entry q what n c = if is_fault what then stopped q (noted q n c) else noted q n c
 
 module _ (g : Setting) where
+  -- the ticks of a process in a state
   abbrev pub ticks_of : StateOf g → Name → ℕ
   ticks_of s q = ticks_in (s.condition q)
 
@@ -96,6 +97,7 @@ IsCleanly (Failed f) = ⊥
 IsCleanly LaidDown = ⊥
 IsCleanly Paused = Unit
 
+-- no process faults or is laid
 abbrev pub IsClean : List Occurrence → Type 0
 IsClean [] = Unit
 IsClean (e ∷ es) = IsCleanly e.what × IsClean es

@@ -65,6 +65,7 @@ abbrev pub has : ℤ → List ℤ → Bool
 has n [] = false
 has n (m ∷ ms) = if same_ordinal n m then true else has n ms
 
+-- the arm with this constant
 abbrev pub arm_for : ℤ → Arms → Option Stmt
 arm_for n NoArm = None
 arm_for n (Or (On ms s) rest) = if has n ms then Some s else arm_for n rest
@@ -90,6 +91,7 @@ begins initials role.Reference k = None
 begins initials role.Index k = None
 begins initials role.Answer k = slice_get initials k
 
+-- what the variable parameters stand for
 abbrev pub references : List ℕ → List Given → List (ℕ × Address)
 references [] gs = []
 references (x ∷ xs) [] = []
@@ -144,6 +146,7 @@ newborn w o i b = record {
   own = record { frames = with_index ((w.forks, i) ∷ w.name) b.index o.frames; depth = o.depth + 1; ticks = 0; cells = 0 };
 }
 
+-- the processes of a fork, from child i on
 abbrev pub newborns : Who → Own → ℕ → List Birth → List Process
 newborns w o i [] = []
 newborns w o i (b ∷ bs) = newborn w o i b ∷ newborns w o (suc i) bs
@@ -152,6 +155,7 @@ module _ (g : Setting) where
   abbrev pub size_of_frame : ℕ → ℕ
   size_of_frame b = cells_of_frame g.program b
 
+  -- a variable gets its first value
   abbrev pub lay_one : ℕ → ℕ × Variable → Option Value → Work (Unit {0})
   lay_one n x None = give tt
   lay_one n x (Some v) = bind who (λ w. put (Cell w.name n x.0) (Tree v))
@@ -168,9 +172,11 @@ module _ (g : Setting) where
   copy_in n (x ∷ xs) (ValueOf v ∷ gs) = bind who (λ w. bind (put (Cell w.name n x) (Tree v)) (λ u. copy_in n xs gs))
   copy_in n (x ∷ xs) (PlaceOf a ∷ gs) = copy_in n xs gs
 
+  -- the own part with a new frame
   abbrev pub pushed_frame : ℕ → ℕ → List (ℕ × Address) → Who → Own → Own
   pushed_frame b link rs w o = record o { frames = record { owner = w.name; number = length o.frames; home = OfBlock b; link = link; references = rs } ∷ o.frames }
 
+  -- the frame of the block around
   abbrev pub enclosing : Option ℕ → Work ℕ
   enclosing None = lost
   enclosing (Some q) = reach (is_block q)
@@ -186,6 +192,7 @@ module _ (g : Setting) where
   cells_of_home (OfBlock b) = size_of_frame b
   cells_of_home (OfIndex x n) = 0
 
+  -- the own part without its newest frame
   abbrev pub without_frame : List Frame → Own → Own
   without_frame [] o = o
   without_frame (f ∷ fs) o = record o { frames = fs; depth = o.depth - 1; cells = o.cells - cells_of_home f.home }
@@ -202,10 +209,12 @@ module _ (g : Setting) where
   abbrev pub advance : ℕ → Work (Unit {0})
   advance n = bind (look Input) (λ h. put Input (Position (position_in h + n)))
 
+  -- an item read goes to an address
   abbrev pub take_in : Address → Taken → Work (Unit {0})
   take_in a (Took n bytes) = bind (advance bytes) (λ u. assign a (Ordinal n))
   take_in a (Stops f) = fail f
 
+  -- a width, if there is one
   abbrev pub width : Calls → Option Expr → Work (Option ℤ)
   width call None = give None
   width call (Some e) = bind (ordinal_of g call e) (λ m. give (Some m))
@@ -298,6 +307,7 @@ module _ (g : Setting) where
   abbrev pub call_by : (List Item → Work (List Item)) → Calls
   call_by go f gs = bind (enter f gs) (λ b. bind (go (push b.body [])) (λ rest. bind (answer_of b.answer) (λ v. bind leave (λ u. give v))))
 
+  -- what is left once the first item went
   abbrev pub rest_by : (List Item → Work (List Item)) → List Item → Work (List Item)
   rest_by go [] = give []
   rest_by go (i ∷ todo) = bind (act (call_by go) i todo) (λ d. bind (left_by d) go)
@@ -307,6 +317,7 @@ module _ (g : Setting) where
   all zero todo = long
   all (suc n) todo = bind (settle todo) (rest_by (all n))
 
+  -- the deed of the first item
   abbrev pub deed_by : (List Item → Work (List Item)) → List Item → Work Deed
   deed_by go [] = give Over
   deed_by go (i ∷ todo) = act (call_by go) i todo

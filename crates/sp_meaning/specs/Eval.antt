@@ -43,6 +43,7 @@ ordinal (Ordinal n) = give n
 ordinal (Chan c) = lost
 ordinal (Parts vs) = lost
 
+-- the channel that a value is
 abbrev pub channel : Value → Work Channel
 channel Undefined = lost
 channel (Ordinal n) = lost
@@ -55,6 +56,7 @@ as_ordinal h = bind h ordinal
 
 -- operators
 
+-- an operator between channels
 abbrev pub channels_op : BinaryOp → Channel → Channel → Work Value
 channels_op binary.Eq c d = work_of (truth (same_channel c d))
 channels_op binary.Ne c d = work_of (truth (not (same_channel c d)))
@@ -70,6 +72,7 @@ channels_op binary.Div c d = lost
 channels_op binary.Mod c d = lost
 channels_op binary.And c d = lost
 
+-- an operator between two values
 abbrev pub operate : BinaryOp → Value → Value → Work Value
 operate op Undefined w = lost
 operate op (Ordinal m) w = bind (ordinal w) (λ n. work_of (binary_op op m n))
@@ -107,12 +110,14 @@ ordinal_read (Ordinal n) = give (Ordinal n)
 ordinal_read (Chan c) = fail fault.F4
 ordinal_read (Parts vs) = fail fault.F4
 
+-- a channel that is read, or F5
 abbrev pub channel_read : Value → Work Value
 channel_read Undefined = fail fault.F5
 channel_read (Ordinal n) = fail fault.F5
 channel_read (Chan c) = give (Chan c)
 channel_read (Parts vs) = fail fault.F5
 
+-- a value that is read, by its type
 abbrev pub checked : KindOf → Value → Work Value
 checked kind.Integer v = ordinal_read v
 checked kind.Boolean v = ordinal_read v
@@ -150,10 +155,12 @@ module _ (g : Setting) where
   abbrev pub kind_at : ℕ → Work KindOf
   kind_at k = or_lost (slice_get g.program.kinds k)
 
+  -- an element of what stands at a place
   abbrev pub indexed : Place → ℤ → Work Place
   indexed (At a) n = bind (kind_at a.kind) (element_at a n)
   indexed (Fixed m) n = lost
 
+  -- a field of what stands at a place
   abbrev pub fielded : ℕ → Place → Work Place
   fielded f (At a) = bind (kind_at a.kind) (λ k. bind (or_lost (field_kind f k)) (λ t. give (At (record { spot = a.spot; path = a.path ++ f ∷ []; kind = t }))))
   fielded f (Fixed m) = lost
@@ -167,9 +174,11 @@ module _ (g : Setting) where
   address_of (At a) = give a
   address_of (Fixed n) = lost
 
+  -- a variable in a frame
   abbrev pub in_frame : ℕ → Variable → Frame → Address
   in_frame x i f = record { spot = Cell f.owner f.number x; path = []; kind = i.kind }
 
+  -- the index of a frame of a forall
   abbrev pub index_in : Home → Work Place
   index_in (OfBlock b) = lost
   index_in (OfIndex x n) = give (Fixed n)
@@ -183,6 +192,7 @@ module _ (g : Setting) where
   place_by x i role.Index = bind (visible (is_index x)) (λ f. index_in f.home)
   place_by x i role.Answer = bind (visible (is_block i.block)) (λ f. give (At (in_frame x i f)))
 
+  -- where a variable stands
   abbrev pub place_of : ℕ → Work Place
   place_of x = bind (or_lost (slice_get g.program.variables x)) (λ i. place_by x i i.role)
 

@@ -70,6 +70,7 @@ pub data Item : Type 0 where
   Leave : Item  -- a procedure's return
   Break : (fault : Fault) → Item  -- a fault at the start of the root
 
+-- a process: what is left to do, who it is, and its own part
 pub record Process : Type 0 where
   pub todo : List Item
   pub who : Who
@@ -83,9 +84,11 @@ pub data Came (A : Type 0) : Type 0 where
   Lost : Came A
   Long : Came A
 
+-- a computation of a process: a tree of reads and writes
 abbrev pub Work : Type 0 → Type 0
 Work A = Who → Own → Asking Loc Held (Came A)
 
+-- on with a value, or the same end
 abbrev pub go_on : {A B : Type 0} → (A → Work B) → Who → Came A → Asking Loc Held (Came B)
 go_on g w (Got a o) = g a w o
 go_on g w (Bad f) = Done (Bad f)
@@ -96,24 +99,30 @@ go_on g w Long = Done Long
 abbrev pub bind : {A B : Type 0} → Work A → (A → Work B) → Work B
 bind h g w o = and_then (h w o) (λ r. go_on g w r)
 
+-- a value
 abbrev pub give : {A : Type 0} → A → Work A
 give a w o = Done (Got a o)
 
+-- a fault
 abbrev pub fail : {A : Type 0} → Fault → Work A
 fail f w o = Done (Bad f)
 
+-- what no accepted program comes to
 abbrev pub lost : {A : Type 0} → Work A
 lost w o = Done Lost
 
+-- the bound is used up
 abbrev pub long : {A : Type 0} → Work A
 long w o = Done Long
 
+-- the own part
 abbrev pub mine : Work Own
 mine w o = Done (Got o o)
 
 abbrev pub who : Work Who
 who w o = Done (Got w o)
 
+-- another own part
 abbrev pub become : Own → Work (Unit {0})
 become o1 w o = Done (Got tt o1)
 
@@ -125,6 +134,7 @@ look l w o = Reads l (λ h. Done (Got h o))
 abbrev pub put : Loc → Held → Work (Unit {0})
 put l h w o = Puts l h (Done (Got tt o))
 
+-- a value that has to be there
 abbrev pub or_lost : {A : Type 0} → Option A → Work A
 or_lost None = lost
 or_lost (Some a) = give a
@@ -148,6 +158,7 @@ bytes_in (Written bytes) = bytes
 abbrev pub fetch : Address → Work Value
 fetch a = bind (look a.spot) (λ h. give (get_at a.path (value_in h)))
 
+-- what stands at a location once a part of it was assigned
 abbrev pub assigned : Address → Held → Held → Held
 assigned a old new = Tree (set_at a.path (value_in new) (value_in old))
 
@@ -180,6 +191,7 @@ abbrev pub seek : (Home → Bool) → ℕ → List Frame → List Frame
 seek fits n [] = []
 seek fits n (f ∷ fs) = if length (f ∷ fs) == n then (if fits f.home then f ∷ fs else seek fits f.link fs) else seek fits n fs
 
+-- the newest frame
 abbrev pub newest : List Frame → Option Frame
 newest [] = None
 newest (f ∷ fs) = Some f
@@ -188,9 +200,11 @@ newest (f ∷ fs) = Some f
 abbrev pub seen : (Home → Bool) → List Frame → Option Frame
 seen fits fs = newest (seek fits (length fs) fs)
 
+-- the frame that is seen from here
 abbrev pub visible : (Home → Bool) → Work Frame
 visible fits w o = or_lost (seen fits o.frames) w o
 
+-- how many frames there are
 abbrev pub reached : List Frame → Work ℕ
 reached [] = lost
 reached (f ∷ fs) = give (length (f ∷ fs))

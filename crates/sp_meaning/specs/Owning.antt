@@ -43,17 +43,20 @@ stands_by fs x i role.Reference = reference_of x (find (is_block i.block) (lengt
 stands_by fs x i role.Index = None
 stands_by fs x i role.Answer = cell_of x (find (is_block i.block) (length fs) fs)
 
+-- where variable x stands, by its declaration
 abbrev pub stands_at : List Frame → ℕ → Option Variable → Option Loc
 stands_at fs x None = None
 stands_at fs x (Some i) = stands_by fs x i i.role
 
 -- Frames: numbered from below; outward along the static links the numbers of the blocks fall; what a variable parameter stands for is older than its frame
 
+-- a location in an older frame
 abbrev pub IsOlder : ℕ → Loc → Type 0
 IsOlder n (Cell q m x) = m < n
 IsOlder n Input = Unit
 IsOlder n Output = Unit
 
+-- so for each reference
 abbrev pub AreOlder : ℕ → List (ℕ × Address) → Type 0
 AreOlder n [] = Unit
 AreOlder n (r ∷ rs) = IsOlder n r.1.spot × AreOlder n rs
@@ -62,10 +65,12 @@ abbrev pub IsInside : Home → ℕ → List Frame → Type 0
 IsInside (OfBlock b) link fs = (c : ℕ) (f : Frame) → find (is_block c) link fs ≡ Some f → c < b
 IsInside (OfIndex x n) link fs = link ≡ length fs
 
+-- each frame is linked to one around it
 abbrev pub Linked : List Frame → Type 0
 Linked [] = Unit
 Linked (f ∷ fs) = (f.number ≡ length fs) × IsInside f.home f.link fs × AreOlder (length fs) f.references × Linked fs
 
+-- the frames that one was pushed on
 abbrev pub below : List Frame → List Frame
 below [] = []
 below (f ∷ fs) = fs
@@ -107,6 +112,7 @@ module _ (p : Program) where
   abbrev pub Aimed : List Frame → Stmt → Loc → Type 0
   Aimed fs s l = (x : ℕ) × IsTarget p (In_stmt s) x × (stands fs x ≡ Some l)
 
+  -- the statement uses the variable that stands there
   abbrev pub Used : List Frame → Stmt → Loc → Type 0
   Used fs s l = (x : ℕ) × IsUsed p (In_stmt s) x × (stands fs x ≡ Some l)
 
@@ -119,6 +125,7 @@ module _ (p : Program) where
   IsClearOf fs s (t ∷ ts) = AreClear fs s t × IsClearOf fs s ts
 
   module _ (W R : Loc → Type 0) where
+    -- a use of what the process holds
     abbrev pub Right : Use → Loc → Type 0
     Right (Aims x) l = W l
     Right (Sees x) l = R l
@@ -156,6 +163,7 @@ module _ (p : Program) where
     Born fs (s ∷ ss) [] = ⊥
     Born fs (s ∷ ss) (b ∷ bs) = (b.todo ≡ push s []) × Sound fs (In_stmt s) × IsClearOf fs s ss × Born fs ss bs
 
+    -- a target that the process may write
     abbrev pub MayTake : Cargo Held Address → Type 0
     MayTake (Gives v) = Unit
     MayTake (Takes a) = W a.spot

@@ -40,6 +40,7 @@ working_in m p (Waits o) = None
 working_in m p (Joins k n o) = if all_ended m p k n then Some o else None
 working_in m p Ended = None
 
+-- the own part of a process that is running
 abbrev pub working : {L : Language} → State L → Name → Option L.Own
 working s p = working_in s.condition p (s.condition p)
 
@@ -48,6 +49,7 @@ pub data Outcome (L : Language) : Type 0 where
   Does : (changes : List (Change L)) → Outcome L
   Faulty : (fault : Fault) → Outcome L
 
+-- writes, as changes
 abbrev pub puts : {L : Language} → List (L.Loc × L.Value) → List (Change L)
 puts [] = []
 puts (w ∷ ws) = Writes w.0 w.1 ∷ puts ws
@@ -70,6 +72,7 @@ message (Takes t) (Gives v) = Some (t, v)
 message (Gives v) (Gives w) = None
 message (Takes t) (Takes u) = None
 
+-- the cost of an entry
 abbrev pub an_entry : Totals
 an_entry = record { processes = 0; channels = 0; entries = 1 }
 
@@ -78,6 +81,7 @@ abbrev pub meeting : {L : Language} → State L → Name → OfferOf L → Name 
 meeting {L} s p o z w m =
     Becomes p (Works o.next) ∷ Becomes z (Works w.next) ∷ Pends o.channel None ∷ Writes (L.place m.0) (L.put m.0 (s.store (L.place m.0)) m.1) ∷ Adds an_entry ∷ []
 
+-- the offer waits
 abbrev pub waiting : {L : Language} → State L → Name → OfferOf L → List (Change L)
 waiting s p o = Becomes p (Waits o) ∷ Pends o.channel (Some p) ∷ Adds an_entry ∷ []
 
@@ -94,6 +98,7 @@ meets s p o z (Waits w) = hands s p o z w (message o.cargo w.cargo)
 meets s p o z (Joins k n own) = Faulty fault.F6
 meets s p o z Ended = Faulty fault.F6
 
+-- the offer waits, or it meets the one that is pending
 abbrev pub offered : {L : Language} → State L → Name → OfferOf L → Option Name → Outcome L
 offered s p o None = Does (waiting s p o)
 offered s p o (Some z) = meets s p o z (s.condition z)
@@ -128,10 +133,12 @@ passed limits t (Some n) =
     else (if is_over limits.processes t.processes n.processes then Some fault.F13
     else (if is_over limits.channels t.channels n.channels then Some fault.F14 else None))
 
+-- a fault comes first
 abbrev pub unless : {L : Language} → Option Fault → Outcome L → Outcome L
 unless None x = x
 unless (Some f) x = Faulty f
 
+-- what a step does, or the limit that it would pass
 abbrev pub outcome : {L : Language} → Totals → State L → Name → ActOf L → Outcome L
 outcome limits s p a = unless (passed limits s.totals (cost a)) (acts s p a)
 
@@ -148,9 +155,11 @@ step_with {L} limits s p (Some own) = Some (result_of s p (outcome limits s p (L
 abbrev pub step : {L : Language} → Totals → State L → Name → Option (State L)
 step limits s p = step_with limits s p (working s p)
 
+-- no fault stands
 abbrev pub Quiet : {L : Language} → State L → Type 0
 Quiet s = s.fault ≡ None
 
+-- the states and steps as a system of named processes
 abbrev pub processes : Language → Totals → System
 processes L limits = record { State = State L; Name = Name; step = step limits; Quiet = Quiet }
 
@@ -162,6 +171,7 @@ pub record Laws (L : Language) : Type 0 where
 
 -- what holds in each state that a lawful schedule comes to
 
+-- it waits with an offer on this channel
 abbrev pub WaitsOn : {O V T : Type 0} → Channel → Condition O V T → Type 0
 WaitsOn c Absent = ⊥
 WaitsOn c (Works o) = ⊥
@@ -169,6 +179,7 @@ WaitsOn c (Waits w) = w.channel ≡ c
 WaitsOn c (Joins k n o) = ⊥
 WaitsOn c Ended = ⊥
 
+-- it is there and has not ended
 abbrev pub Lives : {O V T : Type 0} → Condition O V T → Type 0
 Lives Absent = ⊥
 Lives (Works o) = Unit
@@ -196,6 +207,7 @@ abbrev pub first_condition : {O V T : Type 0} → O → Name → Condition O V T
 first_condition own [] = Works own
 first_condition own (x ∷ p) = Absent
 
+-- the root alone
 abbrev pub opening : (L : Language) → L.Own → (L.Loc → L.Value) → State L
 opening L own store = record {
   condition = first_condition own;

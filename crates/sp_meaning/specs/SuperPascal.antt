@@ -49,6 +49,7 @@ abbrev pub weight_blocks : List Block → ℕ
 weight_blocks [] = 0
 weight_blocks (b ∷ bs) = weight b.body + weight_blocks bs
 
+-- the weight of all blocks
 abbrev pub weight_of : Program → ℕ
 weight_of p = weight_blocks p.blocks
 
@@ -73,6 +74,7 @@ act_of w (Bad f) ws = Fails f
 act_of w Lost ws = Fails fault.F8
 act_of w Long ws = Fails fault.F8
 
+-- the deed is a tick of its own
 abbrev pub is_beat : Came Deed → Bool
 is_beat (Got (Went todo) o) = false
 is_beat (Got (Beat todo) o) = true
@@ -89,6 +91,7 @@ module _ (g : Setting) where
   abbrev pub deed_of : Process → Asking Loc Held (Came Deed)
   deed_of pr = deed g (enough g pr.own) pr.todo pr.who pr.own
 
+  -- the act of a process, as a tree
   abbrev pub asks : Process → Asking Loc Held (List (Loc × Held) → Act Process Loc Held Address)
   asks pr = and_then (deed_of pr) (λ r. Done (act_of pr.who r))
 

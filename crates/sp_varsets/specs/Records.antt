@@ -1,5 +1,5 @@
--- What a pass over statements records of them: sets in a pool, named by an index for each statement. The contracts of
--- `walk` promise it; equal sets may share a place.
+-- What a pass over statements records of them: sets in a pool, named by an index for each statement, where 0 names the
+-- empty set. The contracts of `walk` promise it.
 use Rattle.std.specs.Prelude.{◌≡◌, ◌≢◌, ◌↔◌, ◌⊎◌, ℕ, zero, suc, ◌≤◌, Bool, true, false, List, length, Option, Some, None, slice_get}
 use Rattle.sp_tree.specs.PlainChecked as p
 use Rattle.sp_tree.specs.Bare.{bare_statement}
