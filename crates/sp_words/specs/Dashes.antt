@@ -1,13 +1,26 @@
--- How the words after the command are read from left to right.
+-- How the words after the command are read from left to right: which of them are options, which is their value, and
+-- where a word breaks the dash rule. `command_of` and the contracts of `form` cite it. The rule stands apart from the
+-- kit's parser, since `read_words` decides it before it calls the parser.
 use Rattle.std.specs.Prelude.{◌==◌, ℕ, Bool, List, [], ◌∷◌, Option, Some, None, drop, if◌then◌else◌, map, option_map}
+use Rattle.std.specs.Borrow.{Bor}
 use Rattle.std.specs.List.{after_first, before_first, list_any}
 use Rattle.std.specs.Str.{bytes_eq}
 use Rattle.sp_words.specs.declared.form.Form.{Form}
 use Rattle.sp_words.specs.declared.form.Form.TheVariants.{Plain, End, Whole, Open, Stray}
 
+-- a word or a part of one, as its bytes
 abbrev pub Text : Type 0
 Text = List ℕ
 
+-- the texts that references give to read
+abbrev pub texts_of : List (Bor Text) → List Text
+texts_of words = map (λ w. w.now) words
+
+-- the text that a reference gives to read, if there is one
+abbrev pub text_in : Option (Bor Text) → Option Text
+text_in word = option_map (λ w. w.now) word
+
+-- the text is one of these
 abbrev pub contains : List Text → Text → Bool
 contains texts text = list_any (λ t. bytes_eq t text) texts
 
@@ -37,10 +50,12 @@ abbrev pub form_of_text : List Text → Text → Form
 form_of_text options [] = End
 form_of_text options (x ∷ xs) = form_of_option options (name_and_value (x ∷ xs))
 
+-- the word behind a first dash: without a second one it names no option
 abbrev pub form_of_tail : List Text → Option Text → Form
 form_of_tail options None = Stray
 form_of_tail options (Some text) = form_of_text options text
 
+-- the word by what follows a first dash, if it has one
 abbrev pub form_of_rest : List Text → Option Text → Form
 form_of_rest options None = Plain
 form_of_rest options (Some tail) = form_of_tail options (after_dash tail)
@@ -49,10 +64,11 @@ form_of_rest options (Some tail) = form_of_tail options (after_dash tail)
 abbrev pub form_of : List Text → Text → Form
 form_of options word = form_of_rest options (after_dash word)
 
--- the name in `--name` and `--name=value`, and the value in the latter
+-- the name in `--name` and in `--name=value`
 abbrev pub name_of : Text → Text
 name_of word = (name_and_value (drop 2 word)).0
 
+-- the value in `--name=value`
 abbrev pub value_of : Text → Text
 value_of word = after_first (λ b. b == 61) (drop 2 word)
 

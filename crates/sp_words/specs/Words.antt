@@ -1,11 +1,16 @@
--- What a list of words asks for.
+-- What a list of words asks for: the command with its FILE, options and defaults, or none. The contract of
+-- `read_words` and the top call's causes cite `command_of`. It goes by the items of the words and not by the kit's
+-- parser, so that one page says which words are refused.
 use Rattle.std.specs.Prelude.{◌&&◌, ◌++◌, ◌^◌, ℕ, Bool, true, false, not, List, [], ◌∷◌, Option, Some, None, codes, find, if◌then◌else◌, option_and_then, option_map}
 use Rattle.std.specs.List.{list_all}
 use Rattle.std.specs.Option.{option_map_or}
 use Rattle.std.specs.Str.{bytes_eq}
+use Rattle.clap.specs.Words.{first_value, found_of}
+use Rattle.clap.specs.declared.parser.matches.ArgMatches.{ArgMatches}
 use Rattle.sp_base.specs.declared.limits.Limits.{Limits}
 use Rattle.sp_words.specs.Dashes.{Item, Text, contains, file, given, items}
 use Rattle.sp_words.specs.Options.{Choice, number_or, option_names, options_of, show_or_end, size_named}
+use Rattle.sp_words.specs.Ranges.{default_limits}
 use Rattle.sp_words.specs.declared.command.Command.{Command}
 use Rattle.sp_words.specs.declared.command.Command.TheVariants as command
 use Rattle.sp_words.specs.declared.command.CommandName.{CommandName}
@@ -16,6 +21,7 @@ abbrev pub subject : Item → Text
 subject (file word) = codes "FILE"
 subject (given name value) = name
 
+-- the word of a FILE, or the value of an option
 abbrev pub text_of : Item → Text
 text_of (file word) = word
 text_of (given name value) = value
@@ -34,17 +40,27 @@ is_accepted options (given name value) = option_map_or (λ o. o.1 value) (find (
 abbrev pub lookup : List Item → Text → Option Text
 lookup is name = option_map text_of (find (λ i. bytes_eq (subject i) name) is)
 
+-- the text of a subject among what the parser found
+abbrev pub values_given : ArgMatches → Text → Option Text
+values_given matches name = first_value (found_of matches) name
+
+-- no option is given
+abbrev pub no_value : Text → Option Text
+no_value name = None
+
+-- each limit by its option, or its default
 abbrev pub limits_from : (Text → Option Text) → Limits
 limits_from value = record {
-  ticks = number_or (2 ^ 64) 10000000 (value (codes "ticks"));
-  depth = number_or (2 ^ 32) 1000 (value (codes "depth"));
-  cells = number_or (2 ^ 32) 4194304 (value (codes "cells"));
-  processes = number_or (2 ^ 32) 100000 (value (codes "processes"));
-  channels = number_or (2 ^ 32) 100000 (value (codes "channels"));
-  entries = number_or (2 ^ 32) 1000000 (value (codes "entries"));
-  output = number_or (2 ^ 64) 16777216 (value (codes "output"));
+  ticks = number_or (2 ^ 64) default_limits.ticks (value (codes "ticks"));
+  depth = number_or (2 ^ 32) default_limits.depth (value (codes "depth"));
+  cells = number_or (2 ^ 32) default_limits.cells (value (codes "cells"));
+  processes = number_or (2 ^ 32) default_limits.processes (value (codes "processes"));
+  channels = number_or (2 ^ 32) default_limits.channels (value (codes "channels"));
+  entries = number_or (2 ^ 32) default_limits.entries (value (codes "entries"));
+  output = number_or (2 ^ 64) default_limits.output (value (codes "output"));
 }
 
+-- the number of workers by its option, or 4
 abbrev pub workers_from : (Text → Option Text) → ℕ
 workers_from value = number_or (2 ^ 32) 4 (value (codes "workers"))
 
@@ -57,6 +73,7 @@ command_from name.Sets value word = Some (command.Sets word)
 command_from name.Format value word = Some (command.Format word)
 command_from name.Gen value word = option_map (λ size. command.Gen size (workers_from value)) (size_named word)
 
+-- the command by the texts of its subjects, where FILE is one of them
 abbrev pub command_with : CommandName → (Text → Option Text) → Option Command
 command_with command value = option_and_then (command_from command value) (value (codes "FILE"))
 
@@ -66,12 +83,15 @@ command_of_items command is =
     if each_once [] is && list_all (is_accepted (options_of command)) is then command_with command (lookup is)
     else None
 
+-- the commands by their names
 abbrev pub command_names : List (Text × CommandName)
 command_names = (codes "check", name.Check) ∷ (codes "run", name.Run) ∷ (codes "code", name.Code) ∷ (codes "sets", name.Sets) ∷ (codes "format", name.Format) ∷ (codes "gen", name.Gen) ∷ []
 
+-- the command of a name
 abbrev pub command_named : Text → Option CommandName
 command_named word = option_map (λ p. p.1) (find (λ p. bytes_eq p.0 word) command_names)
 
+-- the command with the words after it
 abbrev pub command_read : List Text → CommandName → Option Command
 command_read words command = option_and_then (command_of_items command) (items (option_names command) None words)
 

@@ -1,7 +1,7 @@
 //! The dash rule: which words before `--` may begin with a dash.
 
-ghost use Rattle.std.specs.Prelude.{◌≡◌, IsTrue, ◌↔◌, None, is_some, map, option_map, string_bytes};
-ghost use Rattle.sp_words.specs.Dashes.{after_dash, form_of, form_of_option, form_of_text, items, name_and_value};
+ghost use Rattle.std.specs.Prelude.{◌≡◌, IsTrue, ◌↔◌, None, is_some, map, string_bytes};
+ghost use Rattle.sp_words.specs.Dashes.{after_dash, form_of, form_of_option, form_of_text, items, name_and_value, text_in, texts_of};
 
 /// How a word before `--` reads, where no option waits for its value.
 #[derive(Clone, Copy, Debug, PartialEq, Eq)]
@@ -20,14 +20,14 @@ pub(crate) enum Form {
 
 // What follows a first dash.
 fn strip_dash(word: &str) -> Option<&str>
-    ensures { option_map (λ s. s.now) result ≡ after_dash word.now }
+    ensures { text_in result ≡ after_dash word.now }
 {
     word.strip_prefix('-')
 }
 
 // What stands before the first `=`, and what stands after it if there is one.
 fn split_value(text: &str) -> (&str, Option<&str>)
-    ensures { (result.0.now, option_map (λ s. s.now) result.1) ≡ name_and_value text.now }
+    ensures { (result.0.now, text_in result.1) ≡ name_and_value text.now }
 {
     match text.split_once('=') {
         Some((name, value)) => (name, Some(value)),
@@ -37,8 +37,7 @@ fn split_value(text: &str) -> (&str, Option<&str>)
 
 // How an option by its name and the value that stands in its word reads.
 fn form_of_option(name: &str, value: Option<&str>, options: &[&str]) -> Form
-    ensures { result ≡ form_of_option (map (λ s. s.now) options.now)
-        (name.now, option_map (λ s. s.now) value.entry) }
+    ensures { result ≡ form_of_option (texts_of options.now) (name.now, text_in value.entry) }
 {
     if !options.contains(&name) {
         return Form::Stray;
@@ -51,7 +50,7 @@ fn form_of_option(name: &str, value: Option<&str>, options: &[&str]) -> Form
 
 // How the text after two dashes reads.
 fn form_of_text(text: &str, options: &[&str]) -> Form
-    ensures { result ≡ form_of_text (map (λ s. s.now) options.now) text.now }
+    ensures { result ≡ form_of_text (texts_of options.now) text.now }
 {
     if text.is_empty() {
         return Form::End;
@@ -61,7 +60,7 @@ fn form_of_text(text: &str, options: &[&str]) -> Form
 }
 
 fn form_of(word: &str, options: &[&str]) -> Form
-    ensures { result ≡ form_of (map (λ s. s.now) options.now) word.now }
+    ensures { result ≡ form_of (texts_of options.now) word.now }
 {
     let Some(tail) = strip_dash(word) else {
         return Form::Plain;
@@ -74,7 +73,7 @@ fn form_of(word: &str, options: &[&str]) -> Form
 
 /// Whether the words after the command keep the dash rule, for a command with these options.
 pub(crate) fn keeps_dash_rule(words: &[String], options: &[&str]) -> bool
-    ensures { result ≡ is_some (items (map (λ s. s.now) options.now) None (map string_bytes words.now)) }
+    ensures { result ≡ is_some (items (texts_of options.now) None (map string_bytes words.now)) }
 {
     let mut waits = false;
     for word in words {

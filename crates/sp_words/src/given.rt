@@ -3,9 +3,10 @@
 ghost use Rattle.std.specs.Prelude.{◌≡◌, ◌^◌, IfErr, IfOk, List, None, Some, codes, ℕ};
 ghost use Rattle.clap.specs.Words.{first_value, found_of};
 ghost use Rattle.sp_words.specs.Options.{number_below, number_or, show_named, show_or_end, size_named};
-ghost use Rattle.sp_words.specs.Words.{command_from, command_with, limits_from};
+ghost use Rattle.sp_words.specs.Words.{command_from, command_with, limits_from, values_given};
 
 use crate::command::{Command, CommandName, WordsError};
+use crate::defaults::default_limits;
 use clap::ArgMatches;
 use sp_base::{Limits, Show, Word};
 use std::alloc::{AllocError, Global};
@@ -30,16 +31,17 @@ fn small_number(given: &ArgMatches<'_>, name: &str, default: u32) -> u32
 }
 
 fn limits(given: &ArgMatches<'_>) -> Limits
-    ensures { result ≡ limits_from (λ id. first_value (found_of given.now) id) }
+    ensures { result ≡ limits_from (values_given given.now) }
 {
+    let default = default_limits();
     Limits {
-        ticks: number(given, "ticks", 10_000_000),
-        depth: small_number(given, "depth", 1_000),
-        cells: small_number(given, "cells", 4_194_304),
-        processes: small_number(given, "processes", 100_000),
-        channels: small_number(given, "channels", 100_000),
-        entries: small_number(given, "entries", 1_000_000),
-        output: number(given, "output", 16_777_216),
+        ticks: number(given, "ticks", default.ticks),
+        depth: small_number(given, "depth", default.depth),
+        cells: small_number(given, "cells", default.cells),
+        processes: small_number(given, "processes", default.processes),
+        channels: small_number(given, "channels", default.channels),
+        entries: small_number(given, "entries", default.entries),
+        output: number(given, "output", default.output),
     }
 }
 
@@ -87,8 +89,7 @@ fn size_named(text: &str) -> Option<u32>
 
 // The command `gen` with the text of its N.
 fn gen_given(text: &str, given: &ArgMatches<'_>) -> Option<Command>
-    ensures { result ≡ command_from CommandName.Gen
-        (λ id. first_value (found_of given.now) id) text.now }
+    ensures { result ≡ command_from CommandName.Gen (values_given given.now) text.now }
 {
     let workers = small_number(given, "workers", 4);
     size_named(text).map(|size| Command::Gen { size, workers })
@@ -107,10 +108,9 @@ pub(crate) fn command_given(
     command: CommandName,
     given: &ArgMatches<'_>,
 ) -> Result<Command, WordsError>
-    ensures ok { IfOk result (λ c.
-        command_with command (λ id. first_value (found_of given.now) id) ≡ Some c) }
+    ensures ok { IfOk result (λ c. command_with command (values_given given.now) ≡ Some c) }
     ensures refused { IfErr result (λ e. e ≡ WordsError.Refused
-        → command_with command (λ id. first_value (found_of given.now) id) ≡ None) }
+        → command_with command (values_given given.now) ≡ None) }
 {
     let Some(text) = given.get_str("FILE") else {
         return Err(WordsError::Refused);

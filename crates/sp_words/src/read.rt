@@ -2,6 +2,7 @@
 
 ghost use Rattle.std.specs.Prelude.{◌≡◌, IfErr, IfOk, None, Some, map, string_bytes};
 ghost use Rattle.clap.specs.Words.{kind_of};
+ghost use Rattle.sp_words.specs.Dashes.{texts_of};
 ghost use Rattle.sp_words.specs.Options.{option_names};
 ghost use Rattle.sp_words.specs.Words.{command_named, command_of};
 
@@ -44,7 +45,7 @@ fn command_named(word: &str) -> Option<CommandName>
 }
 
 fn option_names(command: CommandName) -> &'static [&'static str]
-    ensures { map (λ s. s.now) result.now ≡ option_names command }
+    ensures { texts_of result.now ≡ option_names command }
 {
     match command {
         CommandName::Run => RUN_OPTIONS.as_slice(),
