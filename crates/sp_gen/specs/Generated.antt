@@ -1,5 +1,7 @@
--- The text of the generated program.
+-- The text of the generated program, line by line. The contract of `generated` cites it, and so do the top call's causes
+-- for `gen`: the program is a fact of the text, so that `run` and `code` may be asked for it as for any other text.
 use Rattle.std.specs.Prelude.{ℕ, List, [], ◌∷◌, ◌++◌, codes, decimal}
+use Rattle.std.specs.Borrow.{Bor}
 use Rattle.std.specs.List.{flat_map}
 
 -- the line that gives the size
@@ -34,5 +36,10 @@ generated_lines size = codes "program gen;" ∷ size_line size ∷ lines_below
 abbrev pub line_text : List ℕ → List ℕ
 line_text line = line ++ codes "\n"
 
+-- the same of a line that is given by reference
+abbrev pub lent_line_text : Bor (List ℕ) → List ℕ
+lent_line_text line = line_text line.now
+
+-- the whole text
 abbrev pub generated_text : ℕ → List ℕ
 generated_text size = flat_map line_text (generated_lines size)

@@ -2,7 +2,7 @@
 
 ghost use Rattle.std.specs.Prelude.{◌≡◌, ◌≤◌, ◌++◌, IfOk, OnOk};
 ghost use Rattle.std.specs.List.{flat_map};
-ghost use Rattle.sp_gen.specs.Generated.{generated_text, line_text, size_line};
+ghost use Rattle.sp_gen.specs.Generated.{generated_text, lent_line_text, line_text, size_line};
 
 use sp_base::{Memory, put_decimal};
 use std::alloc::Global;
@@ -58,7 +58,7 @@ fn put_line(out: &mut Vec<u8>, line: &str) -> Result<(), Memory>
 
 fn put_lines(out: &mut Vec<u8>, lines: &[&str]) -> Result<(), Memory>
     ensures { OnOk result (out.new.items
-        ≡ out.old.items ++ flat_map (λ line. line_text line.now) lines.now) }
+        ≡ out.old.items ++ flat_map lent_line_text lines.now) }
 {
     for line in lines {
         put_line(out, line)?;
