@@ -96,6 +96,7 @@ context_of before = record { first = is_first before; previous = previous before
 abbrev pub depth : Context → Option Kind → ℕ
 depth c k = (c.begun - c.ended) - cond (stands_out k) 1 0
 
+-- outside of all brackets
 abbrev pub outside : Context → Bool
 outside c = nat_le c.opened c.closed
 
@@ -106,6 +107,7 @@ breaks_behind (Some (kind.Word n)) c = n == 3 || (n == 19 || (n == 22 || (n == 2
 breaks_behind (Some (kind.Sign n)) c = n == 16 && outside c
 breaks_behind k c = false
 
+-- a new line starts before this item
 abbrev pub breaks : Context → Option Kind → Bool
 breaks c k = starts k || breaks_behind c.previous c
 

@@ -93,6 +93,7 @@ IsIdle x (ask.Turn None) g = Answers x g None
 IsIdle x (ask.Turn (Some h)) g = g ≡ got.Refused (Some h)
 IsIdle x (ask.Abandon p) g = ⊥
 
+-- an ask without a note leaves all as it is; a note tells what changed
 abbrev pub Steps : Kernel → ℕ → Ask → Kernel → Got → Option Note → Type 0
 Steps x w a y g None = (y ≡ x) × IsIdle x a g
 Steps x w a y g (Some n) = Notes x w a y g n
@@ -101,6 +102,7 @@ abbrev pub is_abandon : Ask → Bool
 is_abandon (ask.Turn h) = false
 is_abandon (ask.Abandon p) = true
 
+-- what a refusal gives back
 abbrev pub refusal : Ask → Got → Type 0
 refusal (ask.Turn h) g = g ≡ got.Refused h
 refusal (ask.Abandon p) g = ⊥
@@ -123,11 +125,13 @@ pub record HasRun (g : Setting) (seen : List Note) (w : ℕ) (h : Handed) : Type
   pub input : h.proc.input.value ≡ g.input
   pub whole : IsWhole h.stop
 
+-- what is handed in is what the worker has
 abbrev pub StandsFor : Setting → List Note → ℕ → Ask → Type 0
 StandsFor g seen w (ask.Turn None) = Unit {0}
 StandsFor g seen w (ask.Turn (Some h)) = HasRun g seen w h
 StandsFor g seen w (ask.Abandon None) = Unit {0}
 StandsFor g seen w (ask.Abandon (Some p)) = HoldsOut g seen w p.number
 
+-- what a seat may ask, by what it has seen
 abbrev pub MayAsk : Kernel → ℕ → List Note → List Note → Ask → Type 0
 MayAsk x w seen own a = (notes_by (λ (n : Note). n.worker) w seen ≡ own) × StandsFor (setting_of x) seen w a

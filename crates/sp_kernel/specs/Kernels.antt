@@ -64,6 +64,7 @@ process_in None = None
 process_in (Some None) = None
 process_in (Some (Some o)) = Some o.process
 
+-- the control for which the kernel stands
 abbrev pub control_of : Kernel → Control
 control_of x = record {
   doing = λ q. doing_in (slice_get x.slots q);
@@ -75,6 +76,7 @@ control_of x = record {
   abandons = x.abandons;
 }
 
+-- the system for which it stands
 abbrev pub system_of : Kernel → System Plain
 system_of x = record {
   condition = λ q. condition_in (slice_get x.slots q);
@@ -84,6 +86,7 @@ system_of x = record {
   entries = x.entries;
 }
 
+-- the run that it is of
 abbrev pub setting_of : Kernel → Setting
 setting_of x = run_of x.code.value x.root.value.input.value x.limits
 
@@ -104,6 +107,7 @@ WaitsAs (Some (slot.Gone p)) d o = ⊥
 abbrev pub IsOwn : List ℕ → Proc → ℕ → Type 0
 IsOwn input p q = (p.number ≡ q) × (p.input.value ≡ input)
 
+-- a process has the number of its slot, and the run's input
 abbrev pub NumberIn : List ℕ → Option Slot → ℕ → Type 0
 NumberIn input None q = Unit {0}
 NumberIn input (Some (slot.Here p st.Ready)) q = IsOwn input p q
@@ -181,6 +185,7 @@ pub record Gave (x : Kernel) (p : ℕ) (h : Handed) (y : Kernel) : Type 0 where
   pub entry : y.journal.entries ≡ x.journal.entries ++ record { process = p; event = event_of x.limits (system_of x) (turn_of h) } ∷ []
   pub whole : IsKernel y
 
+-- the slot of a ready process
 abbrev pub IsReady : Option Slot → Type 0
 IsReady (Some (slot.Here p st.Ready)) = Unit {0}
 IsReady None = ⊥
@@ -216,6 +221,7 @@ told_standing IsDeadlock = told.Deadlock
 told_standing IsFault = told.Fault
 told_standing IsMemory = told.Memory
 
+-- how the run stands, as the kernel tells it
 abbrev pub stands_as : Control → Told
 stands_as k = told_standing (standing k)
 

@@ -42,6 +42,7 @@ offered t w p c (Some o) = cond (same_way w o.way) t (record (becomes t o.proces
 abbrev pub less_left : ℕ → ℕ → ℕ → Condition
 less_left first n left = cond (left == 1) condition.Running (condition.Joining first n (left - 1))
 
+-- process p waits for a child fewer
 abbrev pub waits_less : Conditions → ℕ → Condition → Conditions
 waits_less t p (condition.Joining first n left) = becomes t p (less_left first n left)
 waits_less t p condition.Unstarted = t
@@ -50,6 +51,7 @@ waits_less t p (condition.Offering w c) = t
 waits_less t p condition.Ended = t
 waits_less t p condition.Laid = t
 
+-- the parent of who ended waits for a child fewer
 abbrev pub reported : Conditions → Option Birth → Conditions
 reported t None = t
 reported t (Some b) = waits_less t b.parent (t.of b.parent)
@@ -102,6 +104,7 @@ noted e t = record t { faulted = cond (is_fault e) true t.faulted }
 abbrev pub after : Births → Conditions → Entry → Conditions
 after s t e = noted e.event (cond (is_running (t.of e.process) && is_timely t.faulted e.event) (changed s t e.process e.event) t)
 
+-- after all these entries
 abbrev pub after_all : Births → Conditions → List Entry → Conditions
 after_all s t [] = t
 after_all s t (e ∷ es) = after_all (after_entry s e) (after s t e) es

@@ -9,6 +9,7 @@ abbrev pub timeline_lines : ℕ → Births → List Entry → List ℕ
 timeline_lines i s [] = []
 timeline_lines i s (e ∷ es) = (decimal i ++ codes " " ++ entry_text s e ++ codes "\n") ++ timeline_lines (i + 1) (after_entry s e) es
 
+-- the name of the report, and the lines
 abbrev pub timeline_text : List Entry → List ℕ
 timeline_text es = codes "timeline\n" ++ timeline_lines 0 at_start es
 

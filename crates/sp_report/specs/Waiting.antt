@@ -48,6 +48,7 @@ wait_text s t condition.Running = []
 wait_text s t condition.Ended = []
 wait_text s t condition.Laid = []
 
+-- the line of a process that waits
 abbrev pub waiting_line : Births → Conditions → Named → List ℕ
 waiting_line s t n = name_text n.0 ++ codes " " ++ wait_text s t (t.of n.1) ++ codes "\n"
 

@@ -18,9 +18,11 @@ Filed O N = Box (Desk O N)
 abbrev pub St : Type 0 → Type 0 → Type 0
 St O N = State (Option (Filed O N)) (View O N)
 
+-- a seat's part of the table
 abbrev pub Sat : Type 0 → Type 0 → Type 0
 Sat O N = Me (Option (Filed O N)) (View O N)
 
+-- a step of the table
 abbrev pub At : Type 0 → Type 0 → Type 0
 At O N = Step (Option (Filed O N))
 

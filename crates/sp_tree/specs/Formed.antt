@@ -8,6 +8,7 @@ use Rattle.sp_tree.specs.Cells.{variables_of}
 use Rattle.sp_tree.specs.Plain.{Program, Variable, Block, No}
 use Rattle.sp_tree.specs.Uses.{Use, Aims, Sees, Runs, Splits, Spreads, Stops, In_stmt}
 
+-- value and variable parameters
 abbrev pub is_parameter : Role → Bool
 is_parameter role.Console = false
 is_parameter role.Local = false
@@ -16,6 +17,7 @@ is_parameter role.Reference = true
 is_parameter role.Index = false
 is_parameter role.Answer = false
 
+-- the result of a function
 abbrev pub is_answer : Role → Bool
 is_answer role.Console = false
 is_answer role.Local = false

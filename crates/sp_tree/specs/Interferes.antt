@@ -14,6 +14,7 @@ use Rattle.sp_tree.specs.Sets.{IsTarget, IsUsed, ImplicitTarget, Implicit, Leads
 use Rattle.sp_tree.specs.Interference.{IsMember, IsCalledInside, IsFunction}
 use Rattle.sp_tree.specs.Sites.{Site, SplitsAt, SpreadsAt, LoopsAt, CallsAt, StopsAt, statement_sites}
 
+-- one of the sites
 abbrev pub IsSite : Site → List Site → Type 0
 IsSite s [] = ⊥
 IsSite s (t ∷ ts) = (s ≡ t) ⊎ IsSite s ts
@@ -32,6 +33,7 @@ module _ (g : Program) where
   ClashesIn s p.NoStatement at = ⊥
   ClashesIn s (p.AndThen t rest) at = ((place_of t ≡ at) × Interfere s t) ⊎ ClashesIn s rest at
 
+  -- I1 at a process statement that clashes with an earlier one
   abbrev pub SplitBreaks : p.Statements → Place → Type 0
   SplitBreaks p.NoStatement at = ⊥
   SplitBreaks (p.AndThen s rest) at = ClashesIn s rest at ⊎ SplitBreaks rest at
@@ -42,6 +44,7 @@ module _ (g : Program) where
   Repeats x (p.Pass (p.ByValue e) rest) at = Repeats x rest at
   Repeats x (p.Pass (p.ByReference (p.Entire y here ss)) rest) at = ((x ≡ y) × (here ≡ at)) ⊎ Repeats x rest at
 
+  -- I4 at a variable that was passed before
   abbrev pub CallRepeats : p.Actuals → Place → Type 0
   CallRepeats p.Nothing at = ⊥
   CallRepeats (p.Pass (p.ByValue e) rest) at = CallRepeats rest at
@@ -53,6 +56,7 @@ module _ (g : Program) where
   PassesImplicit f (p.Pass (p.ByValue e) rest) at = PassesImplicit f rest at
   PassesImplicit f (p.Pass (p.ByReference (p.Entire y here ss)) rest) at = ((here ≡ at) × Implicit g f y) ⊎ PassesImplicit f rest at
 
+  -- what is broken at a site
   abbrev pub SiteBreaks : Site → Rule → Place → Type 0
   SiteBreaks (SplitsAt parts) rule.I1 at = SplitBreaks parts at
   SiteBreaks (SpreadsAt here x s) rule.I2 at = (here ≡ at) × (y : ℕ) × IsTarget g (In_stmt (bare_statement s)) y
@@ -61,12 +65,14 @@ module _ (g : Program) where
   SiteBreaks (CallsAt f here args) rule.I5 at = PassesImplicit f args at
   SiteBreaks site r at = ⊥
 
+  -- where a statement stands that a function may not have
   abbrev pub SiteStops : Site → Place → Type 0
   SiteStops (StopsAt here) at = here ≡ at
   SiteStops (CallsAt f here args) at = (here ≡ at) × LeadsToStop g f
   SiteStops site at = ⊥
 
 module _ (c : p.Program) where
+  -- what a program breaks
   abbrev pub Interferes : Rule → Place → Type 0
   Interferes rule.I6 at = (b : ℕ) × (k : p.Block) × (slice_get c.blocks b ≡ Some k) × (k.at ≡ at) × IsCalledInside (bare c) b × (x : ℕ) × Implicit (bare c) b x × (2 ≤ x)
   Interferes rule.I7 at = (b : ℕ) × (k : p.Block) × (slice_get c.blocks b ≡ Some k) × IsFunction (bare c) b × (x : ℕ) × IsMember x k.formals × (i : ast_x.Variable) × (slice_get c.variables x ≡ Some i) × (i.role ≡ role.Reference) × (i.at ≡ at)

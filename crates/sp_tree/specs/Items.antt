@@ -26,6 +26,7 @@ abbrev pub is_minus : List ℕ → Bool
 is_minus [] = false
 is_minus (b ∷ bs) = b == 45
 
+-- how many bytes a sign takes
 abbrev pub sign_length : List ℕ → ℕ
 sign_length [] = 0
 sign_length (b ∷ bs) = if (b == 45) || (b == 43) then 1 else 0

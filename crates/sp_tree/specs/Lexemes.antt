@@ -13,6 +13,7 @@ words = codes "and" ∷ codes "array" ∷ codes "assume" ∷ codes "begin" ∷ c
 abbrev pub refused_words : List (List ℕ)
 refused_words = codes "file" ∷ codes "forward" ∷ codes "goto" ∷ codes "in" ∷ codes "label" ∷ codes "nil" ∷ codes "packed" ∷ codes "set" ∷ codes "sic" ∷ codes "with" ∷ []
 
+-- the signs, by their numbers
 abbrev pub signs : List (List ℕ)
 signs = codes "+" ∷ codes "-" ∷ codes "*" ∷ codes "=" ∷ codes "<>" ∷ codes "<" ∷ codes "<=" ∷ codes ">" ∷ codes ">=" ∷ codes "(" ∷ codes ")" ∷ codes "[" ∷ codes "]" ∷ codes ":=" ∷ codes "." ∷ codes "," ∷ codes ";" ∷ codes ":" ∷ codes ".." ∷ codes "|" ∷ []
 
@@ -42,6 +43,7 @@ pub data StarBody : List ℕ → List ℕ → Type 0 where
   star_ends : {r : List ℕ} → (a b : ℕ) → a ≡ 42 → b ≡ 41 → StarBody (a ∷ b ∷ r) r
   star_byte : {bs r : List ℕ} → (b : ℕ) → (b ≡ 42 → Lacks 41 bs) → StarBody bs r → StarBody (b ∷ bs) r
 
+-- a comment, in braces or in parentheses with stars
 pub data Comment : List ℕ → List ℕ → Type 0 where
   brace_comment : {bs r : List ℕ} → (b : ℕ) → b ≡ 123 → BraceBody bs r → Comment (b ∷ bs) r
   star_comment : {bs r : List ℕ} → (a b : ℕ) → a ≡ 40 → b ≡ 42 → StarBody bs r → Comment (a ∷ b ∷ bs) r

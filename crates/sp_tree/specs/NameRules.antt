@@ -75,6 +75,7 @@ procedure_takes procedure.Open n = nat_le 1 n
 procedure_takes procedure.Send n = nat_le 2 n
 procedure_takes procedure.Receive n = nat_le 2 n
 
+-- so many arguments are right
 abbrev pub function_takes : StandardFn → ℕ → Bool
 function_takes fn.Eof n = nat_eq 0 n
 function_takes fn.Eoln n = nat_eq 0 n
@@ -106,6 +107,7 @@ alone_rule at (Some (meaning.Constant n)) = None
 alone_rule at (Some (meaning.Variable n b r)) = None
 alone_rule at m = function_rule at 0 m
 
+-- what is broken at a name in an expression
 abbrev pub operand_rule : Place → Bool → Option Meaning → Found
 operand_rule at true m = alone_rule at m
 operand_rule at false m = selects_rule at m
@@ -184,6 +186,7 @@ next_passing [] rest = rest
 next_passing (true ∷ fs) rest = passing.Reference
 next_passing (false ∷ fs) rest = passing.Value
 
+-- all but the first
 abbrev pub others : List Bool → List Bool
 others [] = []
 others (f ∷ fs) = fs

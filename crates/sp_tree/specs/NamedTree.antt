@@ -50,6 +50,7 @@ abbrev pub assigned_number : ℕ → Option Meaning → ℕ
 assigned_number answer (Some (meaning.Function b fs)) = answer
 assigned_number answer m = variable_number m
 
+-- a variable in an expression
 abbrev pub variable_read : ℕ → Name → n.Selectors → n.ExpressionForm
 variable_read k x ss = n.Read (n.Entire k x.at ss)
 
@@ -338,6 +339,7 @@ abbrev pub standard_constants : Place → List NamedConstant
 standard_constants at =
     constant.Enumerated 1 0 ∷ constant.Enumerated 1 1 ∷ constant.Value (record { at = at; negative = None; value = given.Number 9223372036854775807 }) ∷ []
 
+-- the three standard types
 abbrev pub standard_kinds : Place → List NamedKind
 standard_kinds at = record { at = at; form = kind.Integer } ∷ record { at = at; form = kind.Boolean } ∷ record { at = at; form = kind.Char } ∷ []
 

@@ -29,6 +29,7 @@ pub record Env : Type 0 where
   pub local : Local
   pub around : List Scope
 
+-- what is visible in a block
 abbrev pub inside : List Scope → Local → Env
 inside around l = record { local = l; around = around }
 
@@ -73,12 +74,15 @@ more sort.Block c = record { constants = c.constants; kinds = c.kinds; variables
 abbrev pub next_constant : Counts → ℕ
 next_constant c = c.constants + 3
 
+-- the number of the next type: three are standard
 abbrev pub next_kind : Counts → ℕ
 next_kind c = c.kinds + 3
 
+-- the number of the next variable: the input and the output come first
 abbrev pub next_variable : Counts → ℕ
 next_variable c = c.variables + c.results + 2
 
+-- the number of the next block: the program is 0
 abbrev pub next_block : Counts → ℕ
 next_block c = c.blocks + 1
 

@@ -14,18 +14,22 @@ abbrev pub element_of : Option ℕ → KindOf → Option ℕ
 element_of i (kind.Array low high index element) = if differ (Some index) i then None else Some element
 element_of i k = None
 
+-- the same where the type may be unknown
 abbrev pub element_in : Option ℕ → Option KindOf → Option ℕ
 element_in i None = None
 element_in i (Some k) = element_of i k
 
+-- the elements of an array by its type's number
 abbrev pub element : Env → Option ℕ → Option ℕ → Option ℕ
 element env None i = None
 element env (Some k) i = element_in i (kind_at env k)
 
+-- the type of a field that was found
 abbrev pub field_kind : Option (ℕ × ℕ) → Option ℕ
 field_kind None = None
 field_kind (Some f) = Some f.1
 
+-- the type of a field by the record's number
 abbrev pub field : Env → Option ℕ → List ℕ → Option ℕ
 field env None name = None
 field env (Some k) name = field_kind (field_in name (kind_at env k))

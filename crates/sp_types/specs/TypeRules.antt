@@ -69,6 +69,7 @@ unary_takes unary.Plus = integer
 unary_takes unary.Minus = integer
 unary_takes unary.Not = boolean
 
+-- the operator may stand between operands of this type
 abbrev pub binary_takes : Env → BinaryOp → ℕ → Bool
 binary_takes env binary.Eq k = ordinal env k || channel env k
 binary_takes env binary.Ne k = ordinal env k || channel env k
@@ -84,6 +85,7 @@ binary_takes env binary.Div k = nat_eq k integer
 binary_takes env binary.Mod k = nat_eq k integer
 binary_takes env binary.And k = nat_eq k boolean
 
+-- the type of what a comparison or another operator gives
 abbrev pub binary_gives : BinaryOp → ℕ
 binary_gives binary.Eq = boolean
 binary_gives binary.Ne = boolean
@@ -103,6 +105,7 @@ binary_gives binary.And = boolean
 abbrev pub unary_rule : UnaryOp → Place → Option ℕ → Found
 unary_rule op at k = unless rule.Y1 at (nat_eq (unary_takes op)) k
 
+-- Y1 at the left operand
 abbrev pub left_rule : Env → BinaryOp → Place → Option ℕ → Found
 left_rule env op at k = unless rule.Y1 at (binary_takes env op) k
 
@@ -119,10 +122,12 @@ abbrev pub index_kind_rule : Place → Place → Option ℕ → Option KindOf �
 index_kind_rule at index_at i None = None
 index_kind_rule at index_at i (Some k) = index_of_rule at index_at i k
 
+-- the rule at an index, by the array's type
 abbrev pub index_rule : Env → Place → Option ℕ → Place → Option ℕ → Found
 index_rule env at None index_at i = None
 index_rule env at (Some k) index_at i = index_kind_rule at index_at i (kind_at env k)
 
+-- a field's number and type, where the type is a record
 abbrev pub field_in : List ℕ → Option KindOf → Option (ℕ × ℕ)
 field_in name (Some (kind.Fields fs)) = field_from 0 name fs
 field_in name k = None
@@ -132,6 +137,7 @@ abbrev pub field_found : Place → Option (ℕ × ℕ) → Found
 field_found at None = breaks rule.Y3 at
 field_found at (Some f) = None
 
+-- the rule at a field
 abbrev pub field_rule : Env → Place → Option ℕ → List ℕ → Found
 field_rule env at None name = None
 field_rule env at (Some k) name = field_found at (field_in name (kind_at env k))
@@ -174,9 +180,11 @@ standard_takes env fn.Eoln k = false
 abbrev pub standard_rule : Env → StandardFn → Place → Option ℕ → Found
 standard_rule env f at k = unless rule.Y8 at (standard_takes env f) k
 
+-- a type whose values are read
 abbrev pub readable : ℕ → Bool
 readable k = nat_eq k integer || nat_eq k char
 
+-- a type whose values are written
 abbrev pub writable : ℕ → Bool
 writable k = nat_eq k integer || (nat_eq k char || nat_eq k boolean)
 
@@ -199,6 +207,7 @@ abbrev pub messages_in : Option KindOf → Option (List ℕ)
 messages_in (Some (kind.Channel ks)) = Some ks
 messages_in k = None
 
+-- the message types of a channel, where its type is known
 abbrev pub messages : Env → Option ℕ → Option (List ℕ)
 messages env None = None
 messages env (Some k) = messages_in (kind_at env k)
@@ -208,6 +217,7 @@ abbrev pub message_in_rule : Place → Option (List ℕ) → Option ℕ → Foun
 message_in_rule at None k = None
 message_in_rule at (Some ks) k = unless rule.Y9 at (λ j. list_any (nat_eq j) ks) k
 
+-- the rule at a message, by the channel's type
 abbrev pub message_rule : Env → Place → Option ℕ → Option ℕ → Found
 message_rule env at c k = message_in_rule at (messages env c) k
 
@@ -227,6 +237,7 @@ selector_rule env at k = unless rule.Y11 at (ordinal env) k
 abbrev pub choice_rule : Place → Option ℕ → Option ℕ → Found
 choice_rule at selector k = breaks_if rule.Y11 at (differ selector k)
 
+-- equal in type and number
 abbrev pub same : Ordinal → Ordinal → Bool
 same a b = nat_eq a.kind b.kind && (int_le a.number b.number && int_le b.number a.number)
 
