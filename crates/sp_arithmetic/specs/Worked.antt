@@ -2,9 +2,9 @@
 -- and the interpreter cite it.
 use Rattle.std.specs.Prelude.{ℤ, Result, Ok, Err}
 use Rattle.sp_base.specs.declared.fault.Fault.{Fault}
-use Rattle.sp_tree.specs.Operators.{Worked, Yields, Refuses}
+use Rattle.sp_tree.specs.Operators.{Worked, Yields, Faults}
 
 -- the number, or the fault
 abbrev pub worked : Result ℤ Fault → Worked
 worked (Ok n) = Yields n
-worked (Err f) = Refuses f
+worked (Err f) = Faults f

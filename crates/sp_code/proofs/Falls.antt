@@ -6,7 +6,7 @@ use Rattle.std.specs.Fmt.{signed_decimal}
 use Rattle.sp_tree.specs.declared.operators.BinaryOp.{BinaryOp}
 use Rattle.sp_tree.specs.declared.operators.BinaryOp.TheVariants as op
 use Rattle.sp_tree.specs.declared.operators.UnaryOp.TheVariants as sign
-use Rattle.sp_tree.specs.Operators.{Worked, Yields, Refuses, ranged, successor, predecessor, absolute, square, is_odd, unary_op, binary_op, same_ordinal}
+use Rattle.sp_tree.specs.Operators.{Worked, Yields, Faults, ranged, successor, predecessor, absolute, square, is_odd, unary_op, binary_op, same_ordinal}
 use Rattle.sp_tree.specs.Items.{Taken, Takes, Fails as Faulty, number_in, char_in, at_line_end, padded, truth_text}
 use Rattle.sp_cell.specs.declared.cell.Cell.{Cell}
 use Rattle.sp_cell.specs.declared.cell.Cell.TheVariants as cell
@@ -127,7 +127,7 @@ module _ {M : Type 0} (left : Config M → ℕ) (b : ℕ) (f : ℕ → ℕ) wher
 
   falls_worked : (w : Worked) (go : ℤ → One M) → ((n : ℤ) → Down (go n)) → Down (worked w go)
   falls_worked (Yields n) go h = h n
-  falls_worked (Refuses e) go h = tt
+  falls_worked (Faults e) go h = tt
 
   falls_ordinal : (c : Cell) (go : ℤ → One M) → ((n : ℤ) → Down (go n)) → Down (ordinal_in c go)
   falls_ordinal cell.Undefined go h = tt

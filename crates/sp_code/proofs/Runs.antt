@@ -11,7 +11,7 @@ use Rattle.sp_code.specs.declared.code.ForkTable.{ForkTable}
 use Rattle.sp_code.specs.Turns.{Turn, Ran, Ended, Lacks, GoesOn, turn_within}
 use Rattle.sp_code.specs.Memory.{Setting, Memory, memory}
 use Rattle.sp_code.specs.Control.{control, front, standing, Running, IsDone, IsDeadlock, IsFault, IsMemory}
-use Rattle.sp_code.specs.System.{System, Condition, Absent, Runs, Waits, Joins, Laid, Gone, Over, event_of, after, opening}
+use Rattle.sp_code.specs.System.{System, Condition, Absent, Working, Waits, Joins, Laid, Gone, Over, event_of, after, opening}
 use Rattle.sp_code.proofs.Small.{Small, small, wide, written}
 
 -- ---- a run, by the processes that make the entries
@@ -28,7 +28,7 @@ module _ (g : Setting) where
   -- a process that does not run makes no entry, and nothing more is told
   abbrev by_condition : (System Small → List Event × List ℕ) → ℕ → System Small → Condition Small → List Event × List ℕ
   by_condition go q m Absent = ([], [])
-  by_condition go q m (Runs c) = by_turn go q m (turn_within (memory small g) g.code 100 c)
+  by_condition go q m (Working c) = by_turn go q m (turn_within (memory small g) g.code 100 c)
   by_condition go q m (Waits stop c) = ([], [])
   by_condition go q m (Joins left c) = ([], [])
   by_condition go q m (Laid c) = ([], [])
@@ -38,7 +38,7 @@ module _ (g : Setting) where
   -- what the root's store has of the output in the end
   abbrev output_in : Condition Small → List ℕ
   output_in Absent = []
-  output_in (Runs c) = written c
+  output_in (Working c) = written c
   output_in (Waits stop c) = written c
   output_in (Joins left c) = written c
   output_in (Laid c) = written c

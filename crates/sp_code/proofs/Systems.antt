@@ -5,11 +5,11 @@ use Rattle.sp_journal.specs.declared.entry.Entry.{Entry}
 use Rattle.sp_code.specs.Machine.{Config}
 use Rattle.sp_code.specs.Turns.{Turn, IsTurn}
 use Rattle.sp_code.specs.Memory.{Setting, Stores, Memory, memory}
-use Rattle.sp_code.specs.System.{System, Condition, Runs, event_of, after, Enters, Leads}
+use Rattle.sp_code.specs.System.{System, Condition, Working, event_of, after, Enters, Leads}
 use Rattle.sp_code.proofs.Turning.{turn_same}
 
 module _ {S : Type 0} (stores : Stores S) (g : Setting) where
-  same_runs : (c d : Config (Memory S)) → ◌≡◌ {A = Condition S} (Runs c) (Runs d) → c ≡ d
+  same_runs : (c d : Config (Memory S)) → ◌≡◌ {A = Condition S} (Working c) (Working d) → c ≡ d
   same_runs c d e = cc
 
   pub enters_same : (s : System S) (q : ℕ) (e f : Event) (t u : System S) → Enters stores g s q e t → Enters stores g s q f u → t ≡ u

@@ -7,7 +7,7 @@ use Rattle.sp_base.specs.declared.fault.Fault.TheVariants as fault
 use Rattle.sp_tree.specs.declared.operators.BinaryOp.{BinaryOp}
 use Rattle.sp_tree.specs.declared.operators.BinaryOp.TheVariants as op
 use Rattle.sp_tree.specs.declared.operators.UnaryOp.TheVariants as sign
-use Rattle.sp_tree.specs.Operators.{Worked, Yields, Refuses, truth, ranged, successor, predecessor, absolute, square, is_odd, unary_op, binary_op, same_ordinal}
+use Rattle.sp_tree.specs.Operators.{Worked, Yields, Faults, truth, ranged, successor, predecessor, absolute, square, is_odd, unary_op, binary_op, same_ordinal}
 pub use Rattle.sp_tree.specs.Operators.{is_range, is_before, next_value}
 use Rattle.sp_tree.specs.Items.{Taken, Takes, Fails as Faulty, number_in, char_in, line_length, at_line_end, padded, truth_text, byte}
 use Rattle.sp_cell.specs.declared.cell.Cell.{Cell}
@@ -221,7 +221,7 @@ module _ {M : Type 0} where
   -- on with a number, or the fault
   abbrev pub worked : Worked → (ℤ → One M) → One M
   worked (Yields n) go = go n
-  worked (Refuses f) go = Fails f
+  worked (Faults f) go = Fails f
 
   -- the ordinal in a cell, or F4; the channel, or F5
   abbrev pub ordinal_in : Cell → (ℤ → One M) → One M

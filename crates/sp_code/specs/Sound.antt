@@ -24,7 +24,7 @@ use Rattle.sp_code.specs.Turns.{Stopped, IsTurn, IsSafe}
 use Rattle.sp_code.specs.Memory.{Setting, Frame, Memory, memory}
 use Rattle.sp_code.specs.PlainStore.{plain}
 use Rattle.sp_code.specs.Ranks.{IsRanked}
-use Rattle.sp_code.specs.System.{System, Condition, Absent, Runs, Waits, Joins, Laid, Gone, Over, store_of, plan_of, IsSystem, fault_of}
+use Rattle.sp_code.specs.System.{System, Condition, Absent, Working, Waits, Joins, Laid, Gone, Over, store_of, plan_of, IsSystem, fault_of}
 
 -- a run of code on an input, with these limits
 abbrev pub run_of : Parts → List ℕ → Limits → Setting
@@ -48,7 +48,7 @@ view_at (At pc st n) = record { map = n.store.map; means = means n.frames }
 -- the store of a process, if it has one
 abbrev pub views_at : Condition Plain → List View
 views_at Absent = []
-views_at (Runs c) = view_at c ∷ []
+views_at (Working c) = view_at c ∷ []
 views_at (Waits stop c) = view_at c ∷ []
 views_at (Joins left c) = view_at c ∷ []
 views_at (Laid c) = view_at c ∷ []
@@ -94,14 +94,14 @@ module _ (g : Setting) where
   -- the turn of process q stops so, with no fault of a total, an offer or another process
   pub record StopsAt (s : System Plain) (q : ℕ) (stop : Stop) (d : Config (Memory Plain)) : Type 0 where
     pub at : Config (Memory Plain)
-    pub runs : s.condition q ≡ Runs at
+    pub runs : s.condition q ≡ Working at
     pub turn : IsTurn (memory plain g) g.code at (Stopped stop d)
     pub quiet : s.faulted ≡ false
     pub fine : fault_of g.limits s (Stopped stop d) ≡ None
 
   -- all is well with the next turn of each process and with its event
   pub record IsSafeSystem (s : System Plain) : Type 0 where
-    pub turns : (q : ℕ) (c : Config (Memory Plain)) → s.condition q ≡ Runs c → IsSafe (memory plain g) g.code c
+    pub turns : (q : ℕ) (c : Config (Memory Plain)) → s.condition q ≡ Working c → IsSafe (memory plain g) g.code c
     pub forks : (q table count : ℕ) (value : ℤ) (d : Config (Memory Plain)) → StopsAt s q (Forks table value count) d → CanSplit (store_of d) (plan_of plain g d table value count)
     pub ends : (q left : ℕ) (b : Birth) (d e : Config (Memory Plain)) → StopsAt s q Ends d → s.births.birth q ≡ Some b → s.condition b.parent ≡ Joins left e → CanJoin (store_of e) (store_of d)
     pub sends : (q z c k j : ℕ) (a : Address) (cells : List Cell) (d e : Config (Memory Plain)) → StopsAt s q (Sends c k cells) d → s.pending c ≡ Some z → s.condition z ≡ Waits (Receives c j a) e → CanPut (store_of e) a cells

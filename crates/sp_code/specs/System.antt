@@ -123,7 +123,7 @@ plan_from ls fs t value i (suc n) = handing_of ls fs value i (child_or (child_at
 -- down; it has ended, and its pieces went back to its parent; it was the first process, and has ended
 pub data Condition (S : Type 0) : Type 0 where
   Absent : Condition S
-  Runs : (c : Config (Memory S)) → Condition S
+  Working : (c : Config (Memory S)) → Condition S
   Waits : (stop : Stop) (c : Config (Memory S)) → Condition S
   Joins : (left : ℕ) (c : Config (Memory S)) → Condition S
   Laid : (c : Config (Memory S)) → Condition S
@@ -171,7 +171,7 @@ module _ {S : Type 0} where
   -- the store of a process, whatever it does
   abbrev pub store_in : Condition S → Option S
   store_in Absent = None
-  store_in (Runs (At pc st n)) = Some n.store
+  store_in (Working (At pc st n)) = Some n.store
   store_in (Waits s (At pc st n)) = Some n.store
   store_in (Joins left (At pc st n)) = Some n.store
   store_in (Laid (At pc st n)) = Some n.store
@@ -181,7 +181,7 @@ module _ {S : Type 0} where
   -- what a process is stopped at, if it waits with an offer
   abbrev pub stop_of : Condition S → Option Stop
   stop_of Absent = None
-  stop_of (Runs c) = None
+  stop_of (Working c) = None
   stop_of (Waits s c) = Some s
   stop_of (Joins left c) = None
   stop_of (Laid c) = None
@@ -290,24 +290,24 @@ module _ {S : Type 0} (stores : Stores S) (g : Setting) where
   abbrev pub forked : ℕ → (table : ℕ) → ℤ → ℕ → Config (Memory S) → System S → System S
   forked q t value n c s = record s {
     condition = λ r.
-        cond (is_next s.births n r) (Runs (newborn c value r (r - s.births.processes) (child_or (child_at (table_or (slice_get g.code.forks t)) (r - s.births.processes)))))
+        cond (is_next s.births n r) (Working (newborn c value r (r - s.births.processes) (child_or (child_at (table_or (slice_get g.code.forks t)) (r - s.births.processes)))))
         (cond (q == r) (Joins n (on_store (λ m. stores.handed m (plan_of c t value n)) c)) (s.condition r));
   }
 
   -- the new channel's number goes to the target
   abbrev pub opened : ℕ → Address → Config (Memory S) → System S → System S
-  opened q a c s = becomes q (Runs (on_store (put_cell stores a (cell.Channel s.births.channels)) c)) s
+  opened q a c s = becomes q (Working (on_store (put_cell stores a (cell.Channel s.births.channels)) c)) s
 
   -- a message goes over to a process that waits to receive, or from one that waits to send
   abbrev pub received : List Cell → Condition S → Condition S
   received cs Absent = Absent
-  received cs (Runs c) = Runs c
-  received cs (Waits (Receives d k a) c) = Runs (on_store (put_cells stores a cs) c)
-  received cs (Waits (Sends d k bs) c) = Runs c
-  received cs (Waits (Forks t value n) c) = Runs c
-  received cs (Waits (Opens a) c) = Runs c
-  received cs (Waits Ends c) = Runs c
-  received cs (Waits Pauses c) = Runs c
+  received cs (Working c) = Working c
+  received cs (Waits (Receives d k a) c) = Working (on_store (put_cells stores a cs) c)
+  received cs (Waits (Sends d k bs) c) = Working c
+  received cs (Waits (Forks t value n) c) = Working c
+  received cs (Waits (Opens a) c) = Working c
+  received cs (Waits Ends c) = Working c
+  received cs (Waits Pauses c) = Working c
   received cs (Joins left c) = Joins left c
   received cs (Laid c) = Laid c
   received cs Gone = Gone
@@ -326,22 +326,22 @@ module _ {S : Type 0} (stores : Stores S) (g : Setting) where
   -- an offer waits, or it meets the pending one, and then both go on
   abbrev pub sent : ℕ → Stop → (channel : ℕ) → List Cell → Config (Memory S) → Option ℕ → System S → System S
   sent q stop ch cs c None s = record (becomes q (Waits stop c) s) { pending = at_key ◌==◌ ch (Some q) s.pending }
-  sent q stop ch cs c (Some z) s = record (becomes q (Runs c) (becomes z (received cs (s.condition z)) s)) { pending = at_key ◌==◌ ch None s.pending }
+  sent q stop ch cs c (Some z) s = record (becomes q (Working c) (becomes z (received cs (s.condition z)) s)) { pending = at_key ◌==◌ ch None s.pending }
 
   -- an offer to receive, by what is pending: it waits, or it takes the message
   abbrev pub taken : ℕ → Stop → (channel : ℕ) → Address → Config (Memory S) → Option ℕ → System S → System S
   taken q stop ch a c None s = record (becomes q (Waits stop c) s) { pending = at_key ◌==◌ ch (Some q) s.pending }
   taken q stop ch a c (Some z) s =
-      record (becomes q (Runs (on_store (put_cells stores a (message_of (stop_of (s.condition z)))) c)) (becomes z (received [] (s.condition z)) s)) { pending = at_key ◌==◌ ch None s.pending }
+      record (becomes q (Working (on_store (put_cells stores a (message_of (stop_of (s.condition z)))) c)) (becomes z (received [] (s.condition z)) s)) { pending = at_key ◌==◌ ch None s.pending }
 
   -- a child's pieces go back to its parent, which goes on after the last one. The first process has none
   abbrev pub rejoined : Config (Memory S) → Condition S → Condition S
   rejoined c Absent = Absent
-  rejoined c (Runs d) = Runs d
+  rejoined c (Working d) = Working d
   rejoined c (Waits stop d) = Waits stop d
   rejoined c (Joins left d) =
       let e = on_store (λ m. stores.joined m (store_of c)) d in
-      if left == 1 then Runs e else Joins (left - 1) e
+      if left == 1 then Working e else Joins (left - 1) e
   rejoined c (Laid d) = Laid d
   rejoined c Gone = Gone
   rejoined c (Over d) = Over d
@@ -358,7 +358,7 @@ module _ {S : Type 0} (stores : Stores S) (g : Setting) where
   happens q (Sends ch k cs) c s = counted (sent q (Sends ch k cs) ch cs c (s.pending ch) s)
   happens q (Receives ch k a) c s = counted (taken q (Receives ch k a) ch a c (s.pending ch) s)
   happens q Ends c s = reported q c (s.births.birth q) s
-  happens q Pauses c s = becomes q (Runs c) s
+  happens q Pauses c s = becomes q (Working c) s
 
   -- process q is laid
   abbrev pub lays : ℕ → Config (Memory S) → System S → System S
@@ -383,7 +383,7 @@ module _ {S : Type 0} (stores : Stores S) (g : Setting) where
   -- the first process alone
   abbrev pub opening : System S
   opening = record {
-    condition = λ q. if q == 0 then Runs (first stores g) else Absent;
+    condition = λ q. if q == 0 then Working (first stores g) else Absent;
     births = at_start;
     pending = λ c. None;
     faulted = false;
@@ -393,7 +393,7 @@ module _ {S : Type 0} (stores : Stores S) (g : Setting) where
   -- the turn of the entry's process, which runs, and then its event, which is the entry's, lead from s to t
   abbrev pub Enters : System S → ℕ → Event → System S → Type 0
   Enters s q e t =
-      (c : Config (Memory S)) × (s.condition q ≡ Runs c) × (turn : Turn (Memory S)) × IsTurn (memory stores g) g.code c turn × (event_of g.limits s turn ≡ e) × (t ≡ after q turn s)
+      (c : Config (Memory S)) × (s.condition q ≡ Working c) × (turn : Turn (Memory S)) × IsTurn (memory stores g) g.code c turn × (event_of g.limits s turn ≡ e) × (t ≡ after q turn s)
 
   -- the entries, in order
   abbrev pub Leads : System S → List Entry → System S → Type 0

@@ -6,7 +6,7 @@ use Rattle.sp_tree.specs.declared.checked.Role.TheVariants as role
 use Rattle.sp_tree.specs.Formed.{IsFormedUse}
 use Rattle.sp_tree.specs.Plain.{Variable, Block, Expr, Stmt, Stmts, Parallel, Forall}
 use Rattle.sp_tree.specs.Sets.{Reach, IsTarget, IsUsed}
-use Rattle.sp_tree.specs.Uses.{Use, Sees, In_stmt}
+use Rattle.sp_tree.specs.Uses.{Use, Seen, In_stmt}
 use Rattle.sp_cell.specs.declared.spot.Handing.{Handing}
 use Rattle.sp_cell.specs.declared.spot.Spot.{Spot}
 use Rattle.sp_cell.specs.Fork.{index_frame, handed, joined, moved_of, shared_of}
@@ -32,7 +32,7 @@ use Rattle.sp_code.specs.System.{newborn, handing_of}
 use Rattle.sp_code.proofs.Blocks.{blocks_stand, layout_found}
 use Rattle.sp_codegen.specs.Following.{Follows}
 use Rattle.sp_codegen.specs.Joints.{Joint, sources, from}
-use Rattle.sp_codegen.specs.Lives.{IsCompilable, Life, IsLife, Named, Called, Writes, Reads, Indexes, Stands, Laws, execution_of, IsPlaced, IsAt, Begins, first_life, child_life, own_at_birth, IsKnown, IsAway}
+use Rattle.sp_codegen.specs.Lives.{IsCompilable, Life, IsLife, Named, Called, Writes, IsReadable, Indexes, Stands, Laws, execution_of, IsPlaced, IsAt, Begins, first_life, child_life, own_at_birth, IsKnown, IsAway}
 use Rattle.sp_codegen.specs.Meets.{code_run}
 use Rattle.sp_codegen.specs.Parents.{ChildIs, Joins, GivesBack}
 use Rattle.sp_codegen.specs.Relation.{Placed}
@@ -105,7 +105,7 @@ module _ (g : Setting) (moves shares : Stmt → List ℕ) (pause : ℕ) (tree : 
   -- nothing reads the output
   unread : {Here : Use → Type 0} → ((u : Use) → Here u → IsFormedUse g.program u) → IsUsed g.program Here 1 → IsTarget g.program Here 1
   unread formed (inl a) = a
-  unread {Here} formed (inr a) = absurd (reached_formed a.0 Here (Sees 1) formed a.1 refl)
+  unread {Here} formed (inr a) = absurd (reached_formed a.0 Here (Seen 1) formed a.1 refl)
 
   module _ (life : Life) (live : IsLife life) (sets : SetsAre g.program moves shares) (js : List Joint) (o : Own) (s : Store) (n : Memory Plain) (stands : Stands g moves shares pause life js o s n) (may_fork : o.depth + 1 ≤ g.limits.depth)
       (v : Who) (longer : suc (length life.who.name) ≤ length v.name) (number : ℕ) (called : slice_get life.processes number ≡ Some v.name) (pc : ℕ) (stack : List Entry) (value : ℤ) (sc : List Scope) where
@@ -119,7 +119,7 @@ module _ (g : Setting) (moves shares : Stmt → List ℕ) (pause : ℕ) (tree : 
     is_life older frames scopes st h some known = record {
       channels = live.channels;
       based = some;
-      low = low_small g code life.who (λ c j. Named g moves shares pause life c j) (λ q k. Called g moves shares pause life q k) (λ l. Writes g moves shares pause life l) (λ l. Reads g moves shares pause life l) (λ k. Indexes g moves shares pause life k) life.low life.base life.born life.since pause life.moved live.based stands may_fork h
+      low = low_small g code life.who (λ c j. Named g moves shares pause life c j) (λ q k. Called g moves shares pause life q k) (λ l. Writes g moves shares pause life l) (λ l. IsReadable g moves shares pause life l) (λ k. Indexes g moves shares pause life k) life.low life.base life.born life.since pause life.moved live.based stands may_fork h
           (λ q m. known q (inl m)) v (omega (arith, longer)) number called (λ a. ⊥) (λ a. ⊥) (λ a. ⊥) (λ r k x l a. absurd a) (λ k a lt j rest e. absurd a) (λ a. absurd a) (λ a. absurd a) (λ q m. known q (inr m)) live.low;
     }
 
@@ -142,8 +142,8 @@ module _ (g : Setting) (moves shares : Stmt → List ℕ) (pause : ℕ) (tree : 
         lf = child_life life v js sc js z.statement o.depth h1
 
         begun : Stands g moves shares pause lf js (own_at_birth o.frames o.depth) s (memory_in (newborn plain (code_run g code pause) (At pc stack n) value number k table))
-            × Placed g (λ l. Writes g moves shares pause lf l) (λ l. Reads g moves shares pause lf l) (λ y. Indexes g moves shares pause lf y) sc js (In_stmt z.statement)
-        begun = child_begins g code life.who (λ c j. Named g moves shares pause life c j) (λ q k. Called g moves shares pause life q k) (λ l. Writes g moves shares pause life l) (λ l. Reads g moves shares pause life l) (λ h. Indexes g moves shares pause life h) life.low life.base life.born life.since pause life.moved live.based
+            × Placed g (λ l. Writes g moves shares pause lf l) (λ l. IsReadable g moves shares pause lf l) (λ y. Indexes g moves shares pause lf y) sc js (In_stmt z.statement)
+        begun = child_begins g code life.who (λ c j. Named g moves shares pause life c j) (λ q k. Called g moves shares pause life q k) (λ l. Writes g moves shares pause life l) (λ l. IsReadable g moves shares pause life l) (λ h. Indexes g moves shares pause life h) life.low life.base life.born life.since pause life.moved live.based
             tree.formed laid tree.free (λ l w. reads_all g moves shares pause life tree life.who.name life.given l w) moves shares sets consoles stands may_fork ss sc pl (IsQuiet g.program) q k b z
             (unread (λ u a. formed u (inr (inl (z.inside u a))))) v longer number called pc stack value (λ q m. known q (inl m))
 
@@ -191,8 +191,8 @@ module _ (g : Setting) (moves shares : Stmt → List ℕ) (pause : ℕ) (tree : 
         is = is_life js (jx ∷ js) (OfIndex x ∷ sc) st h (omega arith) known
 
         begun : Stands g moves shares pause lf (jx ∷ js) (own_at_birth (sources (jx ∷ js)) o.depth) s (memory_in (newborn plain (code_run g code pause) (At pc stack n) value number k table))
-            × Placed g (λ l. Writes g moves shares pause lf l) (λ l. Reads g moves shares pause lf l) (λ y. Indexes g moves shares pause lf y) (OfIndex x ∷ sc) (jx ∷ js) (In_stmt st)
-        begun = index_child_begins g code life.who (λ c j. Named g moves shares pause life c j) (λ q k. Called g moves shares pause life q k) (λ l. Writes g moves shares pause life l) (λ l. Reads g moves shares pause life l) (λ h. Indexes g moves shares pause life h) life.low life.base life.born life.since pause life.moved live.based
+            × Placed g (λ l. Writes g moves shares pause lf l) (λ l. IsReadable g moves shares pause lf l) (λ y. Indexes g moves shares pause lf y) (OfIndex x ∷ sc) (jx ∷ js) (In_stmt st)
+        begun = index_child_begins g code life.who (λ c j. Named g moves shares pause life c j) (λ q k. Called g moves shares pause life q k) (λ l. Writes g moves shares pause life l) (λ l. IsReadable g moves shares pause life l) (λ h. Indexes g moves shares pause life h) life.low life.base life.born life.since pause life.moved live.based
             tree.formed laid tree.free (λ l w. reads_all g moves shares pause life tree life.who.name life.given l w) moves shares sets consoles stands may_fork x from to st sc pl entry k
             (unread formed) v longer number called pc stack value (λ q m. known q (inl m))
 
@@ -202,18 +202,18 @@ module _ (g : Setting) (moves shares : Stmt → List ℕ) (pause : ℕ) (tree : 
   -- ---- a parent and its children; what others do
 
   module _ (life : Life) where
-    pub same_stands : (js : List Joint) (o : Own) (s t : Store) (n : Memory Plain) → Stands g moves shares pause life js o s n → ((l : Loc) → Reads g moves shares pause life l → t l ≡ s l) → Stands g moves shares pause life js o t n
-    same_stands js o s t n st same = stand_same g (program_code g.program moves shares) life.who (λ c j. Named g moves shares pause life c j) (λ q k. Called g moves shares pause life q k) (λ l. Writes g moves shares pause life l) (λ l. Reads g moves shares pause life l) (λ h. Indexes g moves shares pause life h) life.low life.base life.born life.since pause life.moved st t same
+    pub same_stands : (js : List Joint) (o : Own) (s t : Store) (n : Memory Plain) → Stands g moves shares pause life js o s n → ((l : Loc) → IsReadable g moves shares pause life l → t l ≡ s l) → Stands g moves shares pause life js o t n
+    same_stands js o s t n st same = stand_same g (program_code g.program moves shares) life.who (λ c j. Named g moves shares pause life c j) (λ q k. Called g moves shares pause life q k) (λ l. Writes g moves shares pause life l) (λ l. IsReadable g moves shares pause life l) (λ h. Indexes g moves shares pause life h) life.low life.base life.born life.since pause life.moved st t same
 
     -- with what the children have moved and not brought back
-    pub parent_joins : (js : List Joint) (o : Own) (s : Store) (n : Memory Plain) (hs : List Handing) → Stands g moves shares pause life js o s n → ((q : Spot) → In q (moved_of hs) ⊎ In q (shared_of hs) → IsSome (fin.get n.store.map q)) → (Reads g moves shares pause life Output → NotIn output_spot (shared_of hs))
+    pub parent_joins : (js : List Joint) (o : Own) (s : Store) (n : Memory Plain) (hs : List Handing) → Stands g moves shares pause life js o s n → ((q : Spot) → In q (moved_of hs) ⊎ In q (shared_of hs) → IsSome (fin.get n.store.map q)) → (IsReadable g moves shares pause life Output → NotIn output_spot (shared_of hs))
         → Joins g moves shares pause life (IsAway hs []) js o s n (handed n.store.map hs)
     parent_joins js o s n hs st known dry =
-        joining_more g (program_code g.program moves shares) life.who (λ c j. Named g moves shares pause life c j) (λ q k. Called g moves shares pause life q k) (λ l. Writes g moves shares pause life l) (λ l. Reads g moves shares pause life l) (λ h. Indexes g moves shares pause life h) life.low life.base life.born life.since pause life.moved
-        (λ q i. (i, tt)) (handed_joining g (program_code g.program moves shares) life.who (λ c j. Named g moves shares pause life c j) (λ q k. Called g moves shares pause life q k) (λ l. Writes g moves shares pause life l) (λ l. Reads g moves shares pause life l) (λ h. Indexes g moves shares pause life h) life.low life.base life.born life.since pause life.moved st hs known dry)
+        joining_more g (program_code g.program moves shares) life.who (λ c j. Named g moves shares pause life c j) (λ q k. Called g moves shares pause life q k) (λ l. Writes g moves shares pause life l) (λ l. IsReadable g moves shares pause life l) (λ h. Indexes g moves shares pause life h) life.low life.base life.born life.since pause life.moved
+        (λ q i. (i, tt)) (handed_joining g (program_code g.program moves shares) life.who (λ c j. Named g moves shares pause life c j) (λ q k. Called g moves shares pause life q k) (λ l. Writes g moves shares pause life l) (λ l. IsReadable g moves shares pause life l) (λ h. Indexes g moves shares pause life h) life.low life.base life.born life.since pause life.moved st hs known dry)
 
     pub parent_goes_on : (hs : List Handing) (back : List Spot) (js : List Joint) (o : Own) (s : Store) (n : Memory Plain) (mp : Map) → ((q : Spot) → IsAway hs back q → ⊥) → Joins g moves shares pause life (IsAway hs back) js o s n mp → Stands g moves shares pause life js o s (record n { store = with_map n.store mp })
-    parent_goes_on hs back js o s n mp none t = all_joined g (program_code g.program moves shares) life.who (λ c j. Named g moves shares pause life c j) (λ q k. Called g moves shares pause life q k) (λ l. Writes g moves shares pause life l) (λ l. Reads g moves shares pause life l) (λ h. Indexes g moves shares pause life h) life.low life.base life.born life.since pause life.moved none t
+    parent_goes_on hs back js o s n mp none t = all_joined g (program_code g.program moves shares) life.who (λ c j. Named g moves shares pause life c j) (λ q k. Called g moves shares pause life q k) (λ l. Writes g moves shares pause life l) (λ l. IsReadable g moves shares pause life l) (λ h. Indexes g moves shares pause life h) life.low life.base life.born life.since pause life.moved none t
 
     not_in_both : (q : Spot) (xs ys : List Spot) → NotIn q xs → NotIn q ys → NotIn q (xs ++ ys)
     not_in_both q [] ys a b = b
@@ -222,10 +222,10 @@ module _ (g : Setting) (moves shares : Stmt → List ℕ) (pause : ℕ) (tree : 
     pub child_gives_back : (hs : List Handing) (back : List Spot) (js : List Joint) (o : Own) (s : Store) (n : Memory Plain) (mp : Map) (child : Life) (ks : List Joint) (oc : Own) (nc : Memory Plain) → child.channels ≡ life.channels → child.processes ≡ life.processes
         → Joins g moves shares pause life (IsAway hs back) js o s n mp → Stands g moves shares pause child ks oc s nc → GivesBack g moves shares pause life child js ks n nc → Joins g moves shares pause life (IsAway hs (back ++ nc.store.moved)) js o s n (joined mp nc.store)
     child_gives_back hs back js o s n mp child ks oc nc ec ep t st gb =
-        joining_more g (program_code g.program moves shares) life.who (λ c j. Named g moves shares pause life c j) (λ q k. Called g moves shares pause life q k) (λ l. Writes g moves shares pause life l) (λ l. Reads g moves shares pause life l) (λ h. Indexes g moves shares pause life h) life.low life.base life.born life.since pause life.moved
-        (λ q i. (i.0.0, not_in_both q back nc.store.moved i.0.1 i.1)) (joined_joining g (program_code g.program moves shares) life.who (λ c j. Named g moves shares pause life c j) (λ q k. Called g moves shares pause life q k) (λ l. Writes g moves shares pause life l) (λ l. Reads g moves shares pause life l) (λ h. Indexes g moves shares pause life h) life.low life.base life.born life.since pause life.moved
-        t child.who (λ l. Writes g moves shares pause child l) (λ l. Reads g moves shares pause child l) (λ h. Indexes g moves shares pause child h) child.low child.base child.born child.since pause child.moved stands gb.live gb.no_index gb.input gb.output gb.kept gb.old)
+        joining_more g (program_code g.program moves shares) life.who (λ c j. Named g moves shares pause life c j) (λ q k. Called g moves shares pause life q k) (λ l. Writes g moves shares pause life l) (λ l. IsReadable g moves shares pause life l) (λ h. Indexes g moves shares pause life h) life.low life.base life.born life.since pause life.moved
+        (λ q i. (i.0.0, not_in_both q back nc.store.moved i.0.1 i.1)) (joined_joining g (program_code g.program moves shares) life.who (λ c j. Named g moves shares pause life c j) (λ q k. Called g moves shares pause life q k) (λ l. Writes g moves shares pause life l) (λ l. IsReadable g moves shares pause life l) (λ h. Indexes g moves shares pause life h) life.low life.base life.born life.since pause life.moved
+        t child.who (λ l. Writes g moves shares pause child l) (λ l. IsReadable g moves shares pause child l) (λ h. Indexes g moves shares pause child h) child.low child.base child.born child.since pause child.moved stands gb.live gb.no_index gb.input gb.output gb.kept gb.old)
       where
-        stands : Stand g (program_code g.program moves shares) child.who (λ c j. slice_get life.channels j ≡ Some c) (λ q k. slice_get life.processes k ≡ Some q) (λ l. Writes g moves shares pause child l) (λ l. Reads g moves shares pause child l) (λ h. Indexes g moves shares pause child h) child.low child.base child.born child.since pause child.moved ks oc s nc
-        stands = subst (λ cs. Stand g (program_code g.program moves shares) child.who (λ c j. slice_get cs j ≡ Some c) (λ q k. slice_get life.processes k ≡ Some q) (λ l. Writes g moves shares pause child l) (λ l. Reads g moves shares pause child l) (λ h. Indexes g moves shares pause child h) child.low child.base child.born child.since pause child.moved ks oc s nc) ec
-            (subst (λ ps. Stand g (program_code g.program moves shares) child.who (λ c j. slice_get child.channels j ≡ Some c) (λ q k. slice_get ps k ≡ Some q) (λ l. Writes g moves shares pause child l) (λ l. Reads g moves shares pause child l) (λ h. Indexes g moves shares pause child h) child.low child.base child.born child.since pause child.moved ks oc s nc) ep st)
+        stands : Stand g (program_code g.program moves shares) child.who (λ c j. slice_get life.channels j ≡ Some c) (λ q k. slice_get life.processes k ≡ Some q) (λ l. Writes g moves shares pause child l) (λ l. IsReadable g moves shares pause child l) (λ h. Indexes g moves shares pause child h) child.low child.base child.born child.since pause child.moved ks oc s nc
+        stands = subst (λ cs. Stand g (program_code g.program moves shares) child.who (λ c j. slice_get cs j ≡ Some c) (λ q k. slice_get life.processes k ≡ Some q) (λ l. Writes g moves shares pause child l) (λ l. IsReadable g moves shares pause child l) (λ h. Indexes g moves shares pause child h) child.low child.base child.born child.since pause child.moved ks oc s nc) ec
+            (subst (λ ps. Stand g (program_code g.program moves shares) child.who (λ c j. slice_get child.channels j ≡ Some c) (λ q k. slice_get ps k ≡ Some q) (λ l. Writes g moves shares pause child l) (λ l. IsReadable g moves shares pause child l) (λ h. Indexes g moves shares pause child h) child.low child.base child.born child.since pause child.moved ks oc s nc) ep st)

@@ -5,7 +5,8 @@ use Rattle.sp_tree.specs.declared.checked.Role.{Role}
 use Rattle.sp_tree.specs.declared.checked.Role.TheVariants as role
 use Rattle.sp_tree.specs.Cells.{variables_of}
 use Rattle.sp_tree.specs.Plain.{Expr, Program, Variable, Block, Stmt, Parallel, Forall, Stmts, No, And}
-use Rattle.sp_tree.specs.Uses.{Use, Aims, Sees, Runs, Splits, Spreads, Stops, In_stmt, In_stmts}
+use Rattle.sp_tree.specs.Uses.{Use, Target, CallOf, ParallelOf, ForallOf, Stop, In_stmt, In_stmts}
+use Rattle.sp_tree.specs.Uses as use_of
 use Rattle.sp_tree.specs.Interference.{IsMember}
 use Rattle.sp_cell.specs.declared.spot.Spot.{Spot}
 use Rattle.sp_cell.specs.FrameLaws.{is_other}
@@ -97,21 +98,21 @@ module _ (g : Setting) (W R : Loc → Type 0) (J : ℕ → Type 0) (sc : List Sc
 
       -- it has no target, and its index is not the output
       formed_by : (u : Use) → In_stmt st u → IsFormedUse g.program u
-      formed_by (Aims y) a = absurd ((pl.sound.kept (Spreads x st) (inl refl)).1 y ([], a))
-      formed_by (Sees y) a = go (x == y) refl
+      formed_by (Target y) a = absurd ((pl.sound.kept (ForallOf x st) (inl refl)).1 y ([], a))
+      formed_by (use_of.Seen y) a = go (x == y) refl
         where
           go : (b : Bool) → x == y ≡ b → y ≢ 1
           go true f = λ h. input (eqb-true x y f ∙ h)
-          go false f = pl.formed (Sees y) (inr (inr (inr (inl (a, λ h. (let bad : false ≡ true = sym f ∙ eq-eqb x y h in absurd (cc bad)))))))
-      formed_by (Runs b args) a = pl.formed (Runs b args) (inr (inr (inr (inl (a, tt)))))
-      formed_by (Splits ss) a = pl.formed (Splits ss) (inr (inr (inr (inl (a, tt)))))
-      formed_by (Spreads y s) a = pl.formed (Spreads y s) (inr (inr (inr (inl (a, tt)))))
-      formed_by Stops a = pl.formed Stops (inr (inr (inr (inl (a, tt)))))
+          go false f = pl.formed (use_of.Seen y) (inr (inr (inr (inl (a, λ h. (let bad : false ≡ true = sym f ∙ eq-eqb x y h in absurd (cc bad)))))))
+      formed_by (CallOf b args) a = pl.formed (CallOf b args) (inr (inr (inr (inl (a, tt)))))
+      formed_by (ParallelOf ss) a = pl.formed (ParallelOf ss) (inr (inr (inr (inl (a, tt)))))
+      formed_by (ForallOf y s) a = pl.formed (ForallOf y s) (inr (inr (inr (inl (a, tt)))))
+      formed_by Stop a = pl.formed Stop (inr (inr (inr (inl (a, tt)))))
 
 -- ---- its first step
 
 module _ {M : Type 0} (ex : Execution M) where
-  open ex use {setting as g, code, moves, shares, Quiet as hush, Writes as W, Reads as R, Indexes as J}
+  open ex use {setting as g, code, moves, shares, Quiet as hush, Writes as W, IsReadable as R, Indexes as J}
 
   -- a child's code is that of its statement, and then comes its end
   pub child_follows : (st : Stmt) (sc : List Scope) (entry : ℕ) (moved shared : List ℕ) (index : Option ℕ) (js : List Joint) → Placed g W R J sc js (In_stmt st)

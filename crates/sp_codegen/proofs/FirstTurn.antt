@@ -5,7 +5,8 @@ use Rattle.sp_tree.specs.Plain.{Program, Block, Stmt}
 use Rattle.sp_tree.specs.Interference.{IsFreeOfInterference}
 use Rattle.sp_cell.specs.Map.{Plain}
 use Rattle.sp_meaning.specs.Own.{Setting, Loc, Who, Came, Got, Bad, Lost, Long}
-use Rattle.sp_meaning.specs.Deeds.{Went, Beat, Opened, Forked, Offered, Over, push, size_of_frame}
+use Rattle.sp_meaning.specs.Deeds.{Stepped, Ticked, Opened, Forked, Offered, push, size_of_frame}
+use Rattle.sp_meaning.specs.Deeds as deeds
 use Rattle.sp_meaning.specs.Run.{Store, run}
 use Rattle.sp_meaning.specs.SuperPascal.{root, first_store}
 use Rattle.sp_meaning.specs.Turn as source
@@ -63,7 +64,7 @@ module _ (g : Setting) (code : Code) (formed : IsFormed g.program) (b : Block) (
     who = w;
     due = due_after 0 pause;
     Writes = V;
-    Reads = V;
+    IsReadable = V;
     Indexes = NoIndexes;
     operations = memory plain (code_run g code pause);
     relation = relation g code w NoChannel IsFirst V V NoIndexes 1 1 0 0 pause [];
@@ -107,12 +108,12 @@ module _ (g : Setting) (code : Code) (formed : IsFormed g.program) (b : Block) (
 
   by_outcome : (r : Came source.Stop × Store) → Turned execution (At layout.layout.entry [] n0) end [] js r → EndsAlike (code_run g code pause) (At layout.layout.entry [] n0) r
   by_outcome (Got (source.Paused todo) o, s) q = (At q.0 q.1 q.2, turn_by (At layout.layout.entry [] n0) (Stopped Pauses (At q.0 q.1 q.2)) fits_first (q.4, q.5, q.6))
-  by_outcome (Got (source.Stops (Went todo)) o, s) q = tt
-  by_outcome (Got (source.Stops (Beat todo)) o, s) q = tt
+  by_outcome (Got (source.Stops (Stepped todo)) o, s) q = tt
+  by_outcome (Got (source.Stops (Ticked todo)) o, s) q = tt
   by_outcome (Got (source.Stops (Opened todo)) o, s) q = (q.6, At q.0 q.1 q.2, turn_by (At layout.layout.entry [] n0) (Stopped (Opens q.6) (At q.0 q.1 q.2)) fits_first (q.4, q.8, q.9))
   by_outcome (Got (source.Stops (Forked bs todo)) o, s) q = (q.5, At q.0 q.1 q.2, turn_by (At layout.layout.entry [] n0) (Stopped q.5 (At q.0 q.1 q.2)) fits_first (q.4, q.6, q.7))
   by_outcome (Got (source.Stops (Offered c x cg todo)) o, s) q = (q.5, At q.0 q.1 q.2, turn_by (At layout.layout.entry [] n0) (Stopped q.5 (At q.0 q.1 q.2)) fits_first (q.4, q.6, q.7))
-  by_outcome (Got (source.Stops Over) o, s) q = (At q.0 q.1 q.2, turn_by (At layout.layout.entry [] n0) (Stopped Ended (At q.0 q.1 q.2)) fits_first (At q.0 q.1 q.2, q.4, q.5))
+  by_outcome (Got (source.Stops deeds.Ended) o, s) q = (At q.0 q.1 q.2, turn_by (At layout.layout.entry [] n0) (Stopped Ended (At q.0 q.1 q.2)) fits_first (At q.0 q.1 q.2, q.4, q.5))
   by_outcome (Bad f, s) q = (q.at, turn_by (At layout.layout.entry [] n0) (Faulted f q.at) fits_first (q.at, q.comes, (q.fails, refl)))
   by_outcome (Lost, s) q = q
   by_outcome (Long, s) q = tt

@@ -6,7 +6,7 @@ use Rattle.sp_tree.specs.Plain.{Program, Stmt, Empty, Assign, Call, Sequence, If
 use Rattle.sp_tree.specs.Uses.{Use, In_stmt, In_stmts}
 use Rattle.sp_meaning.specs.Model.{Channel, Cargo}
 use Rattle.sp_meaning.specs.Own.{Held, Address, Own, Item, Do, First, Again, Test, Leave, Break, Came, Got, Bad, Lost, Long, Work, bind, give, fail, tick}
-use Rattle.sp_meaning.specs.Deeds.{Deed, Went, Beat, Opened, Forked, Offered, Over, Birth, push, push_all}
+use Rattle.sp_meaning.specs.Deeds.{Deed, Stepped, Ticked, Opened, Forked, Offered, Ended, Birth, push, push_all}
 use Rattle.sp_meaning.specs.Run.{Store, run}
 use Rattle.sp_meaning.proofs.Run.{then_run, run_bind}
 use Rattle.sp_code.specs.declared.instr.Instr.TheVariants as i
@@ -21,11 +21,11 @@ use Rattle.sp_codegen.specs.Following as following
 pub use Rattle.sp_codegen.specs.Following.{cells_in}
 use Rattle.sp_codegen.specs.Following.{StandsFor}
 use Rattle.sp_codegen.specs.Relation.{Alike}
-use Rattle.sp_codegen.proofs.Runs.{Gives, Known, Ends, stays, goes, comes_on, breaks, breaks_after}
+use Rattle.sp_codegen.proofs.Runs.{Realizes, Known, Ends, stays, goes, comes_on, breaks, breaks_after}
 use Rattle.sp_codegen.proofs.Values.{P, within}
 
 module _ {M : Type 0} (ex : Execution M) where
-  open ex use {setting as g, code, moves, shares, Quiet as hush, who as w, Reads as R, operations as ops, relation as rel, free}
+  open ex use {setting as g, code, moves, shares, Quiet as hush, who as w, IsReadable as R, operations as ops, relation as rel, free}
 
   abbrev p : Program
   p = g.program
@@ -118,12 +118,12 @@ module _ {M : Type 0} (ex : Execution M) where
     pub by : Made c Q (run h w o s)
 
   pub made_after : (c d : Config M) (Q : List Item → List Joint → ℕ → List Entry → Type 0) (r : Came Deed × Store) → Comes ops code c d → Made d Q r → Made c Q r
-  made_after c d Q (Got (Went todo) o, s) h k = (k.0, k.1, k.2, k.3, comes_on ops rel w code h k.4, k.5, k.6)
-  made_after c d Q (Got (Beat todo) o, s) h k = (k.0, k.1, k.2, k.3, k.4, comes_on ops rel w code h k.5, k.6, k.7, k.8)
+  made_after c d Q (Got (Stepped todo) o, s) h k = (k.0, k.1, k.2, k.3, comes_on ops rel w code h k.4, k.5, k.6)
+  made_after c d Q (Got (Ticked todo) o, s) h k = (k.0, k.1, k.2, k.3, k.4, comes_on ops rel w code h k.5, k.6, k.7, k.8)
   made_after c d Q (Got (Opened todo) o, s) h k = (k.0, k.1, k.2, k.3, k.4, k.5, k.6, k.7, comes_on ops rel w code h k.8, k.9, k.10, k.11, k.12, k.13, k.14, k.15, k.16)
   made_after c d Q (Got (Forked bs todo) o, s) h k = (k.0, k.1, k.2, k.3, k.4, k.5, comes_on ops rel w code h k.6, k.7, k.8, k.9, k.10, k.11, k.12)
   made_after c d Q (Got (Offered ch x g todo) o, s) h k = (k.0, k.1, k.2, k.3, k.4, k.5, comes_on ops rel w code h k.6, k.7, k.8, k.9, k.10, k.11, k.12)
-  made_after c d Q (Got Over o, s) h k = (k.0, k.1, k.2, k.3, comes_on ops rel w code h k.4, k.5, k.6, k.7, k.8)
+  made_after c d Q (Got Ended o, s) h k = (k.0, k.1, k.2, k.3, comes_on ops rel w code h k.4, k.5, k.6, k.7, k.8)
   made_after c d Q (Bad f, s) h k = breaks_after ops rel w code h k
   made_after c d Q (Lost, s) h k = k
   made_after c d Q (Long, s) h k = k
@@ -132,7 +132,7 @@ module _ {M : Type 0} (ex : Execution M) where
   makes_after {c} {d} {o} {s} {Q} {h} e k = record { by = made_after c d Q (run h w o s) e k.by }
 
   pub makes_bind : {A E : Type 0} {fs : List Joint} {c : Config M} {o : Own} {s : Store} {pc : ℕ} {st : A → E → List Entry} {F : A → E → Type 0} {Q : List Item → List Joint → ℕ → List Entry → Type 0} {h : Work A} (gg : A → Work Deed)
-      → Gives ops rel w code fs c o s pc st F h → ((a : A) (e : E) (o1 : Own) (s1 : Store) (n1 : M) → rel.Stand fs o1 s1 n1 → F a e → Makes (At pc (st a e) n1) o1 s1 Q (gg a)) → Makes c o s Q (bind h gg)
+      → Realizes ops rel w code fs c o s pc st F h → ((a : A) (e : E) (o1 : Own) (s1 : Store) (n1 : M) → rel.Stand fs o1 s1 n1 → F a e → Makes (At pc (st a e) n1) o1 s1 Q (gg a)) → Makes c o s Q (bind h gg)
   makes_bind {A} {E} {fs} {c} {o} {s} {pc} {st} {F} {Q} {h} gg k next = record { by = subst (Made c Q) (sym (run_bind h gg w o s)) (go (run h w o s) k.by) }
     where
       go : (r : Came A × Store) → Ends ops rel w code fs c pc st F r → Made c Q (then_run gg w r)
@@ -147,17 +147,17 @@ module _ {M : Type 0} (ex : Execution M) where
   pub makes_by : {c : Config M} {o : Own} {s : Store} {Q : List Item → List Joint → ℕ → List Entry → Type 0} {h k : Work Deed} → h ≡ k → Makes c o s Q k → Makes c o s Q h
   makes_by {c} {o} {s} {Q} e q = subst (λ x. Makes c o s Q x) (sym e) q
 
-  pub makes_went : {c : Config M} {o : Own} {s : Store} {Q : List Item → List Joint → ℕ → List Entry → Type 0} (todo : List Item) (fs : List Joint) (pc : ℕ) (st : List Entry) (n : M) → Comes ops code c (At pc st n) → rel.Stand fs o s n → Q todo fs pc st → Makes c o s Q (give (Went todo))
+  pub makes_went : {c : Config M} {o : Own} {s : Store} {Q : List Item → List Joint → ℕ → List Entry → Type 0} (todo : List Item) (fs : List Joint) (pc : ℕ) (st : List Entry) (n : M) → Comes ops code c (At pc st n) → rel.Stand fs o s n → Q todo fs pc st → Makes c o s Q (give (Stepped todo))
   makes_went todo fs pc st n e t q = record { by = (pc, st, n, fs, e, t, q) }
 
   pub makes_fail : {c : Config M} {o : Own} {s : Store} {Q : List Item → List Joint → ℕ → List Entry → Type 0} (f : Fault) → StandsFor rel c s → one ops code c ≡ Fails f → Makes c o s Q (fail f)
   makes_fail {c} {s = s} f t e = record { by = breaks ops rel w code c f s t e }
 
   -- a tick of the process, where a Tick stands
-  pub makes_tick : {c : Config M} {o : Own} {s : Store} {Q : List Item → List Joint → ℕ → List Entry → Type 0} (todo : List Item) (fs : List Joint) (pc : ℕ) (st : List Entry) (d : Did M) → StandsFor rel c s → Alike rel fs s (run (tick g.limits) w o s) d → one ops code c ≡ then_go d (λ n1. paced ops code pc st n1) → Q todo fs pc st → Makes c o s Q (bind (tick g.limits) (λ u. give (Beat todo)))
-  makes_tick {c} {o} {s} {Q} todo fs pc st d t al e q = record { by = subst (Made c Q) (sym (run_bind (tick g.limits) (λ u. give (Beat todo)) w o s)) (go (run (tick g.limits) w o s) d al e) }
+  pub makes_tick : {c : Config M} {o : Own} {s : Store} {Q : List Item → List Joint → ℕ → List Entry → Type 0} (todo : List Item) (fs : List Joint) (pc : ℕ) (st : List Entry) (d : Did M) → StandsFor rel c s → Alike rel fs s (run (tick g.limits) w o s) d → one ops code c ≡ then_go d (λ n1. paced ops code pc st n1) → Q todo fs pc st → Makes c o s Q (bind (tick g.limits) (λ u. give (Ticked todo)))
+  makes_tick {c} {o} {s} {Q} todo fs pc st d t al e q = record { by = subst (Made c Q) (sym (run_bind (tick g.limits) (λ u. give (Ticked todo)) w o s)) (go (run (tick g.limits) w o s) d al e) }
     where
-      go : (r : Came (Unit {0}) × Store) (d : Did M) → Alike rel fs s r d → one ops code c ≡ then_go d (λ n1. paced ops code pc st n1) → Made c Q (then_run (λ u. give (Beat todo)) w r)
+      go : (r : Came (Unit {0}) × Store) (d : Did M) → Alike rel fs s r d → one ops code c ≡ then_go d (λ n1. paced ops code pc st n1) → Made c Q (then_run (λ u. give (Ticked todo)) w r)
       go (Got a o1, s1) (Done n1) al e = (pc, st, n1, fs, c, stays ops rel w code c, e, al, q)
       go (Got a o1, s1) (Failed f) al e = absurd al
       go (Bad f, s1) (Done n1) al e = absurd al

@@ -5,7 +5,8 @@ use Rattle.sp_cell.specs.Map.{Plain}
 use Rattle.sp_tree.specs.Plain.{Stmt}
 use Rattle.sp_meaning.specs.Model.{Name}
 use Rattle.sp_meaning.specs.Own.{Setting, Loc, Cell, Own, Item, Came, Got, Bad, Lost, Long}
-use Rattle.sp_meaning.specs.Deeds.{Went, Beat, Opened, Forked, Offered, Over}
+use Rattle.sp_meaning.specs.Deeds.{Stepped, Ticked, Opened, Forked, Offered}
+use Rattle.sp_meaning.specs.Deeds as deeds
 use Rattle.sp_meaning.specs.Run.{Store, run}
 use Rattle.sp_meaning.specs.SuperPascal.{weight_of}
 use Rattle.sp_meaning.specs.Turn as source
@@ -19,7 +20,7 @@ use Rattle.sp_code.specs.Stands.{BlocksAt}
 use Rattle.sp_code.proofs.Blocks.{blocks_stand, layout_found}
 use Rattle.sp_codegen.specs.Following.{Turned}
 use Rattle.sp_codegen.specs.Joints.{Joint}
-use Rattle.sp_codegen.specs.Lives.{IsCompilable, Given, Consoles, Handed, writes_by, reads_by, Life, IsLife, code_of, Writes, Reads, due_of, operations_of, Laws, execution_of, IsAt}
+use Rattle.sp_codegen.specs.Lives.{IsCompilable, Given, Consoles, Handed, writes_by, reads_by, Life, IsLife, code_of, Writes, IsReadable, due_of, operations_of, Laws, execution_of, IsAt}
 use Rattle.sp_codegen.specs.Meets.{AtEnd}
 use Rattle.sp_codegen.proofs.FirstTurn.{laid_of}
 use Rattle.sp_codegen.proofs.Instance.{instance}
@@ -45,7 +46,7 @@ module _ (g : Setting) (moves shares : Stmt → List ℕ) (pause : ℕ) (life : 
 
   pub operations_keep : IsLife life → g.limits.depth ≤ 4294967295 → Laws g moves shares pause life
   operations_keep h small = record {
-    keeps = instance g (code_of g moves shares pause life) life.who (λ c j. slice_get life.channels j ≡ Some c) (λ q i. slice_get life.processes i ≡ Some q) (λ l. Writes g moves shares pause life l) (λ l. Reads g moves shares pause life l)
+    keeps = instance g (code_of g moves shares pause life) life.who (λ c j. slice_get life.channels j ≡ Some c) (λ q i. slice_get life.processes i ≡ Some q) (λ l. Writes g moves shares pause life l) (λ l. IsReadable g moves shares pause life l)
         (λ k. Rattle.sp_codegen.specs.Lives.Indexes g moves shares pause life k) life.low life.base life.born life.since pause life.moved tree.formed (laid_of g.program (code_of g moves shares pause life) moves shares (IsQuiet g.program) blocks found) h.based
         (λ n x. reads_all life.who.name life.given (Cell life.who.name n x) (own_by life.who.name life.given n x)) (let a = h.low in omega (arith, a, small)) h.channels;
     free = tree.free;
@@ -66,12 +67,12 @@ module _ (g : Setting) (moves shares : Stmt → List ℕ) (pause : ℕ) (life : 
 
     at_end : (r : Came source.Stop × Store) → Ended g (due_of g moves shares pause life) r → Turned (execution_of g moves shares pause life h) (At pc stack n) end base below r → AtEnd r
     at_end (Got (source.Paused todo) o, m) e t = tt
-    at_end (Got (source.Stops (Went todo)) o, m) e t = e
-    at_end (Got (source.Stops (Beat todo)) o, m) e t = e
+    at_end (Got (source.Stops (Stepped todo)) o, m) e t = e
+    at_end (Got (source.Stops (Ticked todo)) o, m) e t = e
     at_end (Got (source.Stops (Opened todo)) o, m) e t = tt
     at_end (Got (source.Stops (Forked bs todo)) o, m) e t = tt
     at_end (Got (source.Stops (Offered c k x todo)) o, m) e t = tt
-    at_end (Got (source.Stops Over) o, m) e t = tt
+    at_end (Got (source.Stops deeds.Ended) o, m) e t = tt
     at_end (Bad f, m) e t = tt
     at_end (Lost, m) e t = absurd t
     at_end (Long, m) e t = e

@@ -1,7 +1,7 @@
 -- A turn that ends as the meaning's does never lacks what it needs.
 use Rattle.std.proofs.Common.{◌≡◌, ℕ, zero, suc, List, sym, ap, ◌∙◌, subst}
 use Rattle.sp_meaning.specs.Own.{Came, Got, Bad, Lost, Long}
-use Rattle.sp_meaning.specs.Deeds.{Went, Beat, Opened, Forked, Offered, Over}
+use Rattle.sp_meaning.specs.Deeds.{Stepped, Ticked, Opened, Forked, Offered, Ended}
 use Rattle.sp_meaning.specs.Run.{Store}
 use Rattle.sp_meaning.specs.Turn as source
 use Rattle.sp_code.specs.declared.code.Parts.{Parts as Code}
@@ -49,12 +49,12 @@ module _ {M : Type 0} (ex : Execution M) where
 
   pub turn_finishes : (c : Config M) (end : ℕ) (base : List Entry) (below : List Joint) (r : Came source.Stop × Store) → Turned ex c end base below r → AtEnd r → Finishes ops code c
   turn_finishes c end base below (Got (source.Paused todo) o, s) q h = (q.4, q.5, last_by _ _ q.6 tt)
-  turn_finishes c end base below (Got (source.Stops (Went todo)) o, s) q h = absurd h
-  turn_finishes c end base below (Got (source.Stops (Beat todo)) o, s) q h = absurd h
+  turn_finishes c end base below (Got (source.Stops (Stepped todo)) o, s) q h = absurd h
+  turn_finishes c end base below (Got (source.Stops (Ticked todo)) o, s) q h = absurd h
   turn_finishes c end base below (Got (source.Stops (Opened todo)) o, s) q h = (q.4, q.8, last_by _ _ q.9 tt)
   turn_finishes c end base below (Got (source.Stops (Forked bs todo)) o, s) q h = (q.4, q.6, last_by _ _ q.7 tt)
   turn_finishes c end base below (Got (source.Stops (Offered ch k cg todo)) o, s) q h = (q.4, q.6, last_by _ _ q.7 tt)
-  turn_finishes c end base below (Got (source.Stops Over) o, s) q h = (At q.0 q.1 q.2, q.4, last_by (At q.0 q.1 q.2) _ q.5 tt)
+  turn_finishes c end base below (Got (source.Stops Ended) o, s) q h = (At q.0 q.1 q.2, q.4, last_by (At q.0 q.1 q.2) _ q.5 tt)
   turn_finishes c end base below (Bad f, s) q h = (q.at, q.comes, last_by _ _ q.fails tt)
   turn_finishes c end base below (Lost, s) q h = absurd h
   turn_finishes c end base below (Long, s) q h = absurd h

@@ -7,17 +7,17 @@ use Rattle.sp_tree.specs.declared.checked.KindOf.{KindOf}
 use Rattle.sp_tree.specs.declared.checked.KindOf.TheVariants as kind
 use Rattle.sp_tree.specs.Plain.{Expr, Typed, ExprForm, Number, Read, Unary, Binary, Apply, Standard, AtInput, Var, Entire, Actuals, Program, Block, Stmt, Empty, Assign, Call, Sequence, If, IfElse, While, Repeat, For, Case, Parallel, Forall, Assume, ReadValue, ReadLine, WriteValue, WriteText, WriteLine, Open, Send, Receive, On, Arms, NoArm, Or}
 use Rattle.sp_tree.specs.Operators.{same_ordinal}
-use Rattle.sp_tree.specs.Uses.{Use, Aims, In_stmt, In_arms, In_loop, In_form, In_width, In_call}
+use Rattle.sp_tree.specs.Uses.{Use, Target, In_stmt, In_arms, In_loop, In_form, In_width, In_call}
 use Rattle.sp_cell.specs.declared.cell.Cell.TheVariants as cell
 use Rattle.sp_cell.specs.declared.spot.Address.{Address as Ptr}
 use Rattle.sp_meaning.specs.Maps.{at_key}
-use Rattle.sp_meaning.specs.Model.{Channel, Takes, Gives as Offers}
+use Rattle.sp_meaning.specs.Model.{Channel, Takes, Message as Offers}
 use Rattle.sp_meaning.specs.Values.{Value, Ordinal, Chan, get_at}
 use Rattle.sp_meaning.specs.Own.{Input, Output, Tree, Address, OfBlock, Frame, Own, Item, Do, First, Again, Test, Leave, Came, Got, Bad, Lost, Long, Work, bind, give, fail, mine, who, or_lost, fetch, assign, assigned, same_loc, tick, value_in, is_block, seek}
 use Rattle.sp_meaning.specs.Owning.{stands, stands_at, stands_by, cell_of as cell_in, find, Linked, Sound, Gave}
 use Rattle.sp_meaning.specs.Texts.{Taken, Takes as Took, Fails as Faulty, number_in, char_in, line_length, padded, truth_text}
 use Rattle.sp_meaning.specs.Eval.{Place, At, Fixed, Given, Calls, channel, checked, kind_at, read_at, address_of, place_of, value, form_value, place, address, ordinal_of, in_frame, place_by}
-use Rattle.sp_meaning.specs.Deeds.{Deed, Went, Beat, Opened, Forked, Offered, Birth, push, push_all, has, arm_for, if_true, is_range, in_width, shown, taken_by, children, indexed_children, enter, write, advance, take_in, width, turn_of, fork, chosen, start, references}
+use Rattle.sp_meaning.specs.Deeds.{Deed, Stepped, Ticked, Opened, Forked, Offered, Birth, push, push_all, has, arm_for, if_true, is_range, in_width, shown, taken_by, children, indexed_children, enter, write, advance, take_in, width, turn_of, fork, chosen, start, references}
 use Rattle.sp_meaning.specs.Run.{Store, run}
 use Rattle.sp_meaning.proofs.Run.{then_run, run_bind}
 use Rattle.sp_meaning.proofs.Static.{sought}
@@ -38,7 +38,7 @@ use Rattle.sp_codegen.specs.Joints.{Joint, sources, from, HomeIs, Chain}
 use Rattle.sp_codegen.specs.Executions.{Execution}
 use Rattle.sp_codegen.specs.Following.{StandsFor}
 use Rattle.sp_codegen.specs.Relation.{Stood, OneCell, cell_of, Entered, GivensAre, Owns, frame_for}
-use Rattle.sp_codegen.proofs.Runs.{Gives, Known, stays, goes, breaks, comes_on, known_bind, gives_fail, gives_alike}
+use Rattle.sp_codegen.proofs.Runs.{Realizes, Known, stays, goes, breaks, comes_on, known_bind, gives_fail, gives_alike}
 use Rattle.sp_codegen.proofs.Joints.{sources_length, up_from}
 use Rattle.sp_codegen.proofs.Chains.{block_agrees, found, seek_all, find_in}
 use Rattle.sp_codegen.proofs.Closing.{length_map}
@@ -71,7 +71,7 @@ no_index_scope p (suc n) (Some b) x up e = go (level (places.is_index x) (scopes
     go (Some k) ih e = ih k refl
 
 module _ {M : Type 0} (ex : Execution M) where
-  open ex use {setting as g, code, moves, shares, Quiet as hush, who as w, Writes as W, Reads as R, operations as ops, relation as rel, laws as law, reads_written as reads, free, own_written as mine_written, uses_formed, layouts_found as finds}
+  open ex use {setting as g, code, moves, shares, Quiet as hush, who as w, Writes as W, IsReadable as R, operations as ops, relation as rel, laws as law, reads_written as reads, free, own_written as mine_written, uses_formed, layouts_found as finds}
 
   abbrev p : Program
   p = g.program
@@ -80,7 +80,7 @@ module _ {M : Type 0} (ex : Execution M) where
   C c d = Comes ops code c d
 
   abbrev pub G : {A E : Type 0} → List Joint → Config M → Own → Store → ℕ → (A → E → List Entry) → (A → E → Type 0) → Work A → Type 0
-  G fs c o s pc st F h = Gives ops rel w code fs c o s pc st F h
+  G fs c o s pc st F h = Realizes ops rel w code fs c o s pc st F h
 
   abbrev pub K : Config M → Own → Store → (List Item → List Joint → ℕ → List Entry → Type 0) → Work Deed → Type 0
   K c o s Q h = Makes ex c o s Q h
@@ -103,7 +103,7 @@ module _ {M : Type 0} (ex : Execution M) where
   holds_when : (b : Bool) (c : One M) → b ≡ true → when b c ≡ c
   holds_when b c e = ap (λ z. when z c) e
 
-  pub went_if : (b : Bool) (x y : List Item) → give (Went (if b then x else y)) ≡ (if b then give (Went x) else give (Went y))
+  pub went_if : (b : Bool) (x y : List Item) → give (Stepped (if b then x else y)) ≡ (if b then give (Stepped x) else give (Stepped y))
   went_if true x y = refl
   went_if false x y = refl
 
@@ -161,7 +161,7 @@ module _ {M : Type 0} (ex : Execution M) where
   -- assignment
   assign_makes : (call : Calls) → Oks call → (end : ℕ) (base : List Entry) (below : List Joint) (z : Sort) (k : ℕ) (form : ExprForm) (sc : List Scope) (q : ℕ) (stack : List Entry) (todo : List Item) (a : Address) (u : Ptr) (fs : List Joint) (o : Own) (s : Store) (n : M) → rel.Stand fs o s n → Pl sc fs (In_form form) → sort p k ≡ z → a.kind ≡ k → rel.Points fs a u → R a.spot
       → RightAt p moves shares (Stands code) (HasFork code) (HasWords code) hush sc q k z form → After end base below todo fs (after_right q z form + 1) stack
-      → K (m.At q (m.Pointer u ∷ stack) n) o s (After end base below) (bind (form_value g call k form) (λ v. bind (assign a v) (λ x. give (Went todo))))
+      → K (m.At q (m.Pointer u ∷ stack) n) o s (After end base below) (bind (form_value g call k form) (λ v. bind (assign a v) (λ x. give (Stepped todo))))
   assign_makes call ok end base below Ordinals k form sc q stack todo a u fs o s n t pl ez ek pt ra h fo =
       makes_bind ex _ (form_gives ex call ok k form sc q (m.Pointer u ∷ stack) fs o s n t pl h.0) (λ v e o1 s1 n1 t1 x.
       makes_bind ex _ (assign_gives (after_form q form + 1) a u v e stack t1 pt ra (subst OneCell (sym (ap (sort p) ek ∙ ez)) tt) (subst (λ y. Stood rel p (sort p y) y v e) (sym ek) x) (store_one (after_form q form) Ordinals k v e u stack n1 (subst (λ y. Stood rel p y k v e) ez x) tt (law.has_one t1 a u pt ra) h.1)) (λ x1 x2 o2 s2 n2 t2 x3.
@@ -177,14 +177,14 @@ module _ {M : Type 0} (ex : Execution M) where
       v : Var
       v = Entire y ss
 
-      by_place : (pl : Place) (b : Ptr) (o1 : Own) (s1 : Store) (n1 : M) → rel.Stand fs o1 s1 n1 → PlaceIs ex fs y k pl b → K (m.At (after_var q v) (m.Pointer b ∷ m.Pointer u ∷ stack) n1) o1 s1 (After end base below) (bind (read_at g pl) (λ v. bind (assign a v) (λ x. give (Went todo))))
+      by_place : (pl : Place) (b : Ptr) (o1 : Own) (s1 : Store) (n1 : M) → rel.Stand fs o1 s1 n1 → PlaceIs ex fs y k pl b → K (m.At (after_var q v) (m.Pointer b ∷ m.Pointer u ∷ stack) n1) o1 s1 (After end base below) (bind (read_at g pl) (λ v. bind (assign a v) (λ x. give (Stepped todo))))
       by_place (Fixed z) b o1 s1 n1 t1 x = absurd (subst IsMany (sym ez ∙ x.0) tt)
       by_place (At c) b o1 s1 n1 t1 x =
           let ty = many_kind (slice_get p.kinds k) ez in
           let val = get_at c.path (value_in (s1 c.spot)) in
           let has_from : ops.has b (size p k) n1 ≡ true = subst (λ z. ops.has b (size p z) n1 ≡ true) x.0 (law.has t1 c b x.1 x.2) in
           let has_to : ops.has u (size p k) n1 ≡ true = subst (λ z. ops.has u (size p z) n1 ≡ true) ek (law.has t1 a u pt ra) in
-          makes_known ex (λ v. bind (assign a v) (λ x. give (Went todo))) val (known_bind ops rel w code (λ y. bind (fetch c) (checked y)) ty.0 val (kind_known ex c.kind k ty.0 x.0 ty.1) (known_bind ops rel w code (checked ty.0) val val (fetch_known ex c) (ty.2 val o1 s1)))
+          makes_known ex (λ v. bind (assign a v) (λ x. give (Stepped todo))) val (known_bind ops rel w code (λ y. bind (fetch c) (checked y)) ty.0 val (kind_known ex c.kind k ty.0 x.0 ty.1) (known_bind ops rel w code (checked ty.0) val val (fetch_known ex c) (ty.2 val o1 s1)))
           (record {
             by = (
               after_var q v + 1,
@@ -214,7 +214,7 @@ module _ {M : Type 0} (ex : Execution M) where
     pub may : R address.spot
     pub sorted : sort p address.kind ≡ Ordinals
 
-  pub for_place : {Here : Use → Type 0} {fs : List Joint} {o : Own} {s : Store} {n : M} (sc : List Scope) (x : ℕ) → rel.Stand fs o s n → Pl sc fs Here → Here (Aims x) → ForVar p moves shares (Stands code) (HasFork code) (HasWords code) hush sc x → ForPlace fs x n o s
+  pub for_place : {Here : Use → Type 0} {fs : List Joint} {o : Own} {s : Store} {n : M} (sc : List Scope) (x : ℕ) → rel.Stand fs o s n → Pl sc fs Here → Here (Target x) → ForVar p moves shares (Stands code) (HasFork code) (HasWords code) hush sc x → ForPlace fs x n o s
   for_place {fs = fs} {o = o} {s = s} {n = n} sc x t pl ai h =
       let v = h.0 in
       let r = found (is_block v.block) (places.is_block v.block) (block_agrees v.block) sc fs 0 pl.chain h.3 in
@@ -228,7 +228,7 @@ module _ {M : Type 0} (ex : Execution M) where
             (known_bind ops rel w code (λ f. give (At (in_frame g x v f))) r.frame.source (At (in_frame g x v r.frame.source)) (visible_known ex t (is_block v.block) r.frame r.rest (seek_all (is_block v.block) fs ∙ r.sought)) (record { by = refl })));
         at = a.1;
         points = a.2;
-        may = reads (in_frame g x v r.frame.source).spot (pl.sound.allowed [] (Aims x) ai x (in_frame g x v r.frame.source).spot (refl, at));
+        may = reads (in_frame g x v r.frame.source).spot (pl.sound.allowed [] (Target x) ai x (in_frame g x v r.frame.source).spot (refl, at));
         sorted = h.4;
       }
 
@@ -238,7 +238,7 @@ module _ {M : Type 0} (ex : Execution M) where
       → K c o s (After end base below) (turn_of g x v limit down d todo)
   turn_makes end base below x v limit down d sc q st todo fs c o s n t pl h fo z ge =
       makes_known ex _ (At z.address) z.known
-      (makes_known ex (λ a. bind (assign a (Ordinal v)) (λ u. bind (tick g.limits) (λ u. give (Beat (push d (Again x limit down d ∷ todo)))))) z.address (address_known z.address)
+      (makes_known ex (λ a. bind (assign a (Ordinal v)) (λ u. bind (tick g.limits) (λ u. give (Ticked (push d (Again x limit down d ∷ todo)))))) z.address (address_known z.address)
       (makes_bind ex _ (assign_gives (q + 1) z.address z.cell (Ordinal v) (m.Number v) (m.Number limit ∷ st) t z.points z.may (subst OneCell (sym z.sorted) tt) (subst (λ y. Stood rel p y z.address.kind (Ordinal v) (m.Number v)) (sym z.sorted) (v, refl, refl)) ge) (λ x1 x2 o2 s2 n2 t2 x3.
       makes_tick ex (push d (Again x limit down d ∷ todo)) fs (q + 1 + 1) (m.Number limit ∷ st) (ops.beat n2) (_, _, t2) (law.beat t2) (one_at (q + 1) (m.Number limit ∷ st) n2 h.2)
       (push_follows ex d end base below sc (q + 1 + 1) (m.Number limit ∷ st) fs (Again x limit down d ∷ todo) (within (λ u. inr) pl) h.3 (q, sc, st, slides ex _ _, refl, pl, h, fo)))))
@@ -248,18 +248,18 @@ module _ {M : Type 0} (ex : Execution M) where
   print_gives {n = n} q t stack st f ro ge = gives_alike ops rel w code q stack (ops.print t n) f (law.print st ro t) (ge ∙ holds_when (ops.has_output n) _ (law.has_output st ro))
 
   wide_makes : (Q : List Item → List Joint → ℕ → List Entry → Type 0) (fs : List Joint) (q : ℕ) (cut : Bool) (t : List ℕ) (mm : ℤ) (stack : List Entry) (todo : List Item) (c : Config M) (o : Own) (s : Store) (n : M) → rel.Stand fs o s n → StandsFor rel c s → R Output → one ops code c ≡ m.wide ops code cut t mm q stack n → Q todo fs q stack
-      → K c o s Q (bind (in_width cut t (Some mm)) (λ bs. bind (write g bs) (λ u. give (Went todo))))
+      → K c o s Q (bind (in_width cut t (Some mm)) (λ bs. bind (write g bs) (λ u. give (Stepped todo))))
   wide_makes Q fs q cut t mm stack todo c o s n st f ro ge k = go (int_le mm (pos 0)) ge
     where
       text : List ℕ
       text = padded (nat_abs mm) (if cut then take (nat_abs mm) t else t)
 
-      go : (b : Bool) → one ops code c ≡ (if b then Fails fault.F1 else m.prints ops code text q stack n) → K c o s Q (bind (if b then fail fault.F1 else give text) (λ bs. bind (write g bs) (λ u. give (Went todo))))
+      go : (b : Bool) → one ops code c ≡ (if b then Fails fault.F1 else m.prints ops code text q stack n) → K c o s Q (bind (if b then fail fault.F1 else give text) (λ bs. bind (write g bs) (λ u. give (Stepped todo))))
       go true ge = record { by = breaks ops rel w code c fault.F1 s f ge }
       go false ge = makes_bind ex _ (print_gives q text stack st f ro ge) (λ x1 x2 o2 s2 n2 t2 x3. makes_went ex todo fs q stack n2 (stays ops rel w code _) t2 k)
 
   plain_makes : (Q : List Item → List Joint → ℕ → List Entry → Type 0) (fs : List Joint) (q : ℕ) (t : List ℕ) (stack : List Entry) (todo : List Item) (c : Config M) (o : Own) (s : Store) (n : M) → rel.Stand fs o s n → StandsFor rel c s → R Output → one ops code c ≡ m.prints ops code t q stack n → Q todo fs q stack
-      → K c o s Q (bind (write g t) (λ u. give (Went todo)))
+      → K c o s Q (bind (write g t) (λ u. give (Stepped todo)))
   plain_makes Q fs q t stack todo c o s n st f ro ge k = makes_bind ex _ (print_gives q t stack st f ro ge) (λ x1 x2 o2 s2 n2 t2 x3. makes_went ex todo fs q stack n2 (stays ops rel w code _) t2 k)
 
   -- the tests of a case
@@ -303,7 +303,7 @@ module _ {M : Type 0} (ex : Execution M) where
   -- a width
   width_text : (call : Calls) → Oks call → (end : ℕ) (base : List Entry) (below : List Joint) (t : List ℕ) (j : ℕ) (x : Option Expr) (sc : List Scope) (q : ℕ) (stack : List Entry) (todo : List Item) (fs : List Joint) (o : Own) (s : Store) (n : M) → rel.Stand fs o s n → Pl sc fs (In_width x) → R Output → slice_get code.texts j ≡ Some t → WidthAt p moves shares (Stands code) (HasFork code) (HasWords code) hush sc q x
       → slice_get code.instrs (after_width q x) ≡ Some (if is_given x then i.WritewText j else i.WriteText j) → After end base below todo fs (after_width q x + 1) stack
-      → K (m.At q stack n) o s (After end base below) (bind (width g call x) (λ mm. bind (in_width true t mm) (λ bs. bind (write g bs) (λ u. give (Went todo)))))
+      → K (m.At q stack n) o s (After end base below) (bind (width g call x) (λ mm. bind (in_width true t mm) (λ bs. bind (write g bs) (λ u. give (Stepped todo)))))
   width_text call ok end base below t j None sc q stack todo fs o s n st pl ro et h ge fo =
       plain_makes (After end base below) fs (q + 1) t stack todo (m.At q stack n) o s n st (fs, o, st) ro (one_at q stack n ge ∙ ap (λ y. there y (λ z. m.prints ops code z (q + 1) stack n)) et) fo
   width_text call ok end base below t j (Some e) sc q stack todo fs o s n st pl ro et h ge fo =
@@ -313,7 +313,7 @@ module _ {M : Type 0} (ex : Execution M) where
 
   -- an item without and with a width
   item_plain : (Q : List Item → List Joint → ℕ → List Entry → Type 0) (ty : KindOf) (v : ℤ) (fs : List Joint) (q : ℕ) (stack : List Entry) (todo : List Item) (o : Own) (s : Store) (n : M) → rel.Stand fs o s n → R Output → slice_get code.instrs q ≡ Some (write_instr (Some ty) false) → IsWritten ty → Q todo fs (q + 1) stack
-      → K (m.At q (m.Number v ∷ stack) n) o s Q (bind (in_width (shown ty v).0 (shown ty v).1 None) (λ bs. bind (write g bs) (λ u. give (Went todo))))
+      → K (m.At q (m.Number v ∷ stack) n) o s Q (bind (in_width (shown ty v).0 (shown ty v).1 None) (λ bs. bind (write g bs) (λ u. give (Stepped todo))))
   item_plain Q kind.Integer v fs q stack todo o s n t ro e h k = plain_makes Q fs (q + 1) (signed_decimal v) stack todo (m.At q (m.Number v ∷ stack) n) o s n t (fs, o, t) ro (one_at q (m.Number v ∷ stack) n e) k
   item_plain Q kind.Boolean v fs q stack todo o s n t ro e h k = plain_makes Q fs (q + 1) (truth_text v) stack todo (m.At q (m.Number v ∷ stack) n) o s n t (fs, o, t) ro (one_at q (m.Number v ∷ stack) n e) k
   item_plain Q kind.Char v fs q stack todo o s n t ro e h k = plain_makes Q fs (q + 1) (nat_abs v % 256 ∷ []) stack todo (m.At q (m.Number v ∷ stack) n) o s n t (fs, o, t) ro (one_at q (m.Number v ∷ stack) n e) k
@@ -323,7 +323,7 @@ module _ {M : Type 0} (ex : Execution M) where
   item_plain Q (kind.Channel a) v fs q stack todo o s n t ro e h k = absurd h
 
   item_wide : (Q : List Item → List Joint → ℕ → List Entry → Type 0) (ty : KindOf) (v mm : ℤ) (fs : List Joint) (q : ℕ) (stack : List Entry) (todo : List Item) (o : Own) (s : Store) (n : M) → rel.Stand fs o s n → R Output → slice_get code.instrs q ≡ Some (write_instr (Some ty) true) → IsWritten ty → Q todo fs (q + 1) stack
-      → K (m.At q (m.Number mm ∷ m.Number v ∷ stack) n) o s Q (bind (in_width (shown ty v).0 (shown ty v).1 (Some mm)) (λ bs. bind (write g bs) (λ u. give (Went todo))))
+      → K (m.At q (m.Number mm ∷ m.Number v ∷ stack) n) o s Q (bind (in_width (shown ty v).0 (shown ty v).1 (Some mm)) (λ bs. bind (write g bs) (λ u. give (Stepped todo))))
   item_wide Q kind.Integer v mm fs q stack todo o s n t ro e h k = wide_makes Q fs (q + 1) false (signed_decimal v) mm stack todo (m.At q (m.Number mm ∷ m.Number v ∷ stack) n) o s n t (fs, o, t) ro (one_at q _ n e) k
   item_wide Q kind.Boolean v mm fs q stack todo o s n t ro e h k = wide_makes Q fs (q + 1) true (truth_text v) mm stack todo (m.At q (m.Number mm ∷ m.Number v ∷ stack) n) o s n t (fs, o, t) ro (one_at q _ n e) k
   item_wide Q kind.Char v mm fs q stack todo o s n t ro e h k = wide_makes Q fs (q + 1) false (nat_abs v % 256 ∷ []) mm stack todo (m.At q (m.Number mm ∷ m.Number v ∷ stack) n) o s n t (fs, o, t) ro (one_at q _ n e) k
@@ -334,7 +334,7 @@ module _ {M : Type 0} (ex : Execution M) where
 
   width_item : (call : Calls) → Oks call → (end : ℕ) (base : List Entry) (below : List Joint) (ty : KindOf) (k : ℕ) (v : ℤ) (x : Option Expr) (sc : List Scope) (q : ℕ) (stack : List Entry) (todo : List Item) (fs : List Joint) (o : Own) (s : Store) (n : M) → rel.Stand fs o s n → Pl sc fs (In_width x) → R Output → slice_get p.kinds k ≡ Some ty → WidthAt p moves shares (Stands code) (HasFork code) (HasWords code) hush sc q x
       → slice_get code.instrs (after_width q x) ≡ Some (write_instr (Some ty) (is_given x)) → IsWritten ty → After end base below todo fs (after_width q x + 1) stack
-      → K (m.At q (m.Number v ∷ stack) n) o s (After end base below) (bind (width g call x) (λ mm. bind (kind_at g k) (λ u. bind (in_width (shown u v).0 (shown u v).1 mm) (λ bs. bind (write g bs) (λ u. give (Went todo))))))
+      → K (m.At q (m.Number v ∷ stack) n) o s (After end base below) (bind (width g call x) (λ mm. bind (kind_at g k) (λ u. bind (in_width (shown u v).0 (shown u v).1 mm) (λ bs. bind (write g bs) (λ u. give (Stepped todo))))))
   width_item call ok end base below ty k v None sc q stack todo fs o s n st pl ro ek h e1 e2 fo =
       makes_known ex _ ty (kind_known ex k k ty refl ek) (item_plain (After end base below) ty v fs q stack todo o s n st ro e1 e2 fo)
   width_item call ok end base below ty k v (Some e) sc q stack todo fs o s n st pl ro ek h e1 e2 fo =
@@ -422,7 +422,7 @@ module _ {M : Type 0} (ex : Execution M) where
 
   -- a procedure's call
   call_makes : Blocks → (end : ℕ) (base : List Entry) (below : List Joint) (f : ℕ) (args : Actuals) (b : Block) (sc : List Scope) (q : ℕ) (stack : List Entry) (gs : List Given) (es : List Entry) (todo : List Item) (fs : List Joint) (o : Own) (s : Store) (n : M) → rel.Stand fs o s n → Pl sc fs (In_call f args) → CallAt p moves shares (Stands code) (HasFork code) (HasWords code) hush sc q f b → b.answer ≡ None → Hushed hush (outside stack) f → GivensAre rel p fs b.formals gs es → Gave p (sources fs) args gs
-      → After end base below todo fs (q + 1) stack → K (m.At q (pushed es stack) n) o s (After end base below) (bind (enter g f gs) (λ y. give (Beat (push y.body (Leave ∷ todo)))))
+      → After end base below todo fs (q + 1) stack → K (m.At q (pushed es stack) n) o s (After end base below) (bind (enter g f gs) (λ y. give (Ticked (push y.body (Leave ∷ todo)))))
   call_makes blocks end base below f args b sc q stack gs es todo fs o s n t pl h ha hu gv ga fo =
       record { by = subst (Made ex c (After end base below)) (sym (run_bind (enter g f gs) next w o s)) (go (run (enter g f gs) w o s) r.did r.entered r.goes) }
     where
@@ -439,7 +439,7 @@ module _ {M : Type 0} (ex : Execution M) where
       c = m.At q (pushed es stack) n
 
       next : Block → Work Deed
-      next y = give (Beat (push y.body (Leave ∷ todo)))
+      next y = give (Ticked (push y.body (Leave ∷ todo)))
 
       no_answer : l.answer ≡ false
       no_answer = ap (λ (y : Layout). y.answer) z.is ∙ ap is_given ha
@@ -472,7 +472,7 @@ module _ {M : Type 0} (ex : Execution M) where
 
   -- both limits of a for loop are there
   for_begins : (end : ℕ) (base : List Entry) (below : List Joint) (x : ℕ) (down : Bool) (d : Stmt) (sc : List Scope) (q : ℕ) (stack : List Entry) (todo : List Item) (fs : List Joint) (lo hi : ℤ) (o : Own) (s : Store) (n : M) → rel.Stand fs o s n → Pl sc fs (In_loop x d) → TurnsAt p moves shares (Stands code) (HasFork code) (HasWords code) hush sc q x down (after p (q + 1 + 1) d) (S (outside stack) sc (q + 1 + 1) d)
-      → After end base below todo fs (after p (q + 1 + 1) d + 1) stack → K (m.At q (m.Number hi ∷ m.Number lo ∷ stack) n) o s (After end base below) (give (Went (if is_range down lo hi then First x lo hi down d ∷ todo else todo)))
+      → After end base below todo fs (after p (q + 1 + 1) d + 1) stack → K (m.At q (m.Number hi ∷ m.Number lo ∷ stack) n) o s (After end base below) (give (Stepped (if is_range down lo hi then First x lo hi down d ∷ todo else todo)))
   for_begins end base below x down d sc q stack todo fs lo hi o s n t pl h k = go (is_range down lo hi) refl
     where
       z : ForPlace fs x n o s
@@ -481,36 +481,36 @@ module _ {M : Type 0} (ex : Execution M) where
       step : one ops code (m.At q (m.Number hi ∷ m.Number lo ∷ stack) n) ≡ (if is_range down lo hi then Goes (m.At (q + 1) (m.Number hi ∷ stack) (ops.put z.cell (cell.Ordinal lo) n)) else Goes (m.At (after p (q + 1 + 1) d + 1) stack n))
       step = first_one down q (after p (q + 1 + 1) d + 1) x stack n lo hi h.1 z.cell z.at (law.has_one t z.address z.cell z.points z.may)
 
-      go : (b : Bool) → is_range down lo hi ≡ b → K (m.At q (m.Number hi ∷ m.Number lo ∷ stack) n) o s (After end base below) (give (Went (if b then First x lo hi down d ∷ todo else todo)))
+      go : (b : Bool) → is_range down lo hi ≡ b → K (m.At q (m.Number hi ∷ m.Number lo ∷ stack) n) o s (After end base below) (give (Stepped (if b then First x lo hi down d ∷ todo else todo)))
       go true e = makes_went ex (First x lo hi down d ∷ todo) fs q (m.Number hi ∷ m.Number lo ∷ stack) n (stays ops rel w code _) t (q, sc, stack, slides ex _ _, refl, pl, h, k, e)
       go false e = makes_went ex todo fs (after p (q + 1 + 1) d + 1) stack n (goes ops rel w code (step ∙ ap (λ b. if b then Goes (m.At (q + 1) (m.Number hi ∷ stack) (ops.put z.cell (cell.Ordinal lo) n)) else Goes (m.At (after p (q + 1 + 1) d + 1) stack n)) e)) t k
 
   forall_makes : (Q : List Item → List Joint → ℕ → List Entry → Type 0) (fs : List Joint) (q tb x : ℕ) (d : Stmt) (lo hi : ℤ) (stack : List Entry) (todo : List Item) (o : Own) (s : Store) (n : M) → rel.Stand fs o s n → slice_get code.instrs q ≡ Some (i.Forall tb) → Q todo fs (q + 1) stack → outside stack ≡ true
       → (int_lt hi lo ≡ false → ForkIs ex (outside stack) fs (indexed_children x d lo (nat_abs ((hi -ℤ lo) +ℤ pos 1))) (Forks tb lo (values_in lo hi)))
-      → K (m.At q (m.Number hi ∷ m.Number lo ∷ stack) n) o s Q (if int_lt hi lo then give (Went todo) else fork g (indexed_children x d lo (nat_abs ((hi -ℤ lo) +ℤ pos 1))) todo)
+      → K (m.At q (m.Number hi ∷ m.Number lo ∷ stack) n) o s Q (if int_lt hi lo then give (Stepped todo) else fork g (indexed_children x d lo (nat_abs ((hi -ℤ lo) +ℤ pos 1))) todo)
   forall_makes Q fs q tb x d lo hi stack todo o s n t h k fr fi = go (int_lt hi lo) refl (one_at q (m.Number hi ∷ m.Number lo ∷ stack) n h)
     where
-      go : (b : Bool) → int_lt hi lo ≡ b → one ops code (m.At q (m.Number hi ∷ m.Number lo ∷ stack) n) ≡ (if b then Goes (m.At (q + 1) stack n) else m.forked ops code tb lo (values_in lo hi) (q + 1) stack n) → K (m.At q (m.Number hi ∷ m.Number lo ∷ stack) n) o s Q (if b then give (Went todo) else fork g (indexed_children x d lo (nat_abs ((hi -ℤ lo) +ℤ pos 1))) todo)
+      go : (b : Bool) → int_lt hi lo ≡ b → one ops code (m.At q (m.Number hi ∷ m.Number lo ∷ stack) n) ≡ (if b then Goes (m.At (q + 1) stack n) else m.forked ops code tb lo (values_in lo hi) (q + 1) stack n) → K (m.At q (m.Number hi ∷ m.Number lo ∷ stack) n) o s Q (if b then give (Stepped todo) else fork g (indexed_children x d lo (nat_abs ((hi -ℤ lo) +ℤ pos 1))) todo)
       go true b e = makes_went ex todo fs (q + 1) stack n (goes ops rel w code e) t k
       go false b e = fork_makes Q fs (q + 1) tb lo (values_in lo hi) stack (indexed_children x d lo (nat_abs ((hi -ℤ lo) +ℤ pos 1))) todo (m.At q (m.Number hi ∷ m.Number lo ∷ stack) n) o s n t (fs, o, t) e k fr (fi b)
 
   assume_makes : (Q : List Item → List Joint → ℕ → List Entry → Type 0) (fs : List Joint) (v : ℤ) (q : ℕ) (stack : List Entry) (todo : List Item) (o : Own) (s : Store) (n : M) → rel.Stand fs o s n → slice_get code.instrs q ≡ Some i.Assume → Q todo fs (q + 1) stack
-      → K (m.At q (m.Number v ∷ stack) n) o s Q (if_true v (give (Went todo)) (fail fault.F8))
+      → K (m.At q (m.Number v ∷ stack) n) o s Q (if_true v (give (Stepped todo)) (fail fault.F8))
   assume_makes Q fs v q stack todo o s n t h k = go (int_le v (pos 0)) (one_at q (m.Number v ∷ stack) n h)
     where
-      go : (b : Bool) → one ops code (m.At q (m.Number v ∷ stack) n) ≡ (if not b then Goes (m.At (q + 1) stack n) else Fails fault.F8) → K (m.At q (m.Number v ∷ stack) n) o s Q (if b then fail fault.F8 else give (Went todo))
+      go : (b : Bool) → one ops code (m.At q (m.Number v ∷ stack) n) ≡ (if not b then Goes (m.At (q + 1) stack n) else Fails fault.F8) → K (m.At q (m.Number v ∷ stack) n) o s Q (if b then fail fault.F8 else give (Stepped todo))
       go true e = makes_fail ex fault.F8 (fs, o, t) e
       go false e = makes_went ex todo fs (q + 1) stack n (goes ops rel w code e) t k
 
   reads_makes : (Q : List Item → List Joint → ℕ → List Entry → Type 0) (fs : List Joint) (ty : KindOf) (q : ℕ) (a : Address) (u : Ptr) (stack : List Entry) (todo : List Item) (o : Own) (s : Store) (n : M) → rel.Stand fs o s n → R Input → rel.Points fs a u → R a.spot → slice_get p.kinds a.kind ≡ Some ty → ReadsAt p moves shares (Stands code) (HasFork code) (HasWords code) hush q ty → Q todo fs (q + 1) stack
-      → K (m.At q (m.Pointer u ∷ stack) n) o s Q (bind (or_lost (taken_by ty (rest_of ex s))) (λ x. bind (take_in g a x) (λ y. give (Went todo))))
+      → K (m.At q (m.Pointer u ∷ stack) n) o s Q (bind (or_lost (taken_by ty (rest_of ex s))) (λ x. bind (take_in g a x) (λ y. give (Stepped todo))))
   reads_makes Q fs kind.Integer q a u stack todo o s n t ri pt ra ek h k =
       let bs = rest_of ex s in
-      makes_known ex (λ x. bind (take_in g a x) (λ y. give (Went todo))) (number_in bs) (or_known ex (Some (number_in bs)) (number_in bs) refl)
+      makes_known ex (λ x. bind (take_in g a x) (λ y. give (Stepped todo))) (number_in bs) (or_known ex (Some (number_in bs)) (number_in bs) refl)
       (makes_bind ex _ (took_gives (q + 1) (number_in bs) a u stack t (fs, o, t) ri pt ra (ap sort_by ek) (one_at q _ n h ∙ holds_when (ops.has u 1 n) _ (law.has_one t a u pt ra) ∙ ap (λ z. there z (λ bs. m.taken ops code (number_in bs) u (q + 1) stack n)) (law.left t ri))) (λ x1 x2 o2 s2 n2 t2 x3. makes_went ex todo fs (q + 1) stack n2 (stays ops rel w code _) t2 k))
   reads_makes Q fs kind.Char q a u stack todo o s n t ri pt ra ek h k =
       let bs = rest_of ex s in
-      makes_known ex (λ x. bind (take_in g a x) (λ y. give (Went todo))) (char_in bs) (or_known ex (Some (char_in bs)) (char_in bs) refl)
+      makes_known ex (λ x. bind (take_in g a x) (λ y. give (Stepped todo))) (char_in bs) (or_known ex (Some (char_in bs)) (char_in bs) refl)
       (makes_bind ex _ (took_gives (q + 1) (char_in bs) a u stack t (fs, o, t) ri pt ra (ap sort_by ek) (one_at q _ n h ∙ holds_when (ops.has u 1 n) _ (law.has_one t a u pt ra) ∙ ap (λ z. there z (λ bs. m.taken ops code (char_in bs) u (q + 1) stack n)) (law.left t ri))) (λ x1 x2 o2 s2 n2 t2 x3. makes_went ex todo fs (q + 1) stack n2 (stays ops rel w code _) t2 k))
   reads_makes Q fs kind.Boolean q a u stack todo o s n t ri pt ra ek h k = absurd h
   reads_makes Q fs (kind.Enumeration x) q a u stack todo o s n t ri pt ra ek h k = absurd h
@@ -534,11 +534,11 @@ module _ {M : Type 0} (ex : Execution M) where
   receive_is fs c k a u j ek nm pt ra = (j, u, ap (λ y. Receives j y u) (sym ek), nm, refl, pt, ra)
 
   -- the input and the output that a statement has to do with
-  aims_input : {Here : Use → Type 0} (sc : List Scope) (fs : List Joint) → Pl sc fs Here → Here (Aims 0) → R Input
-  aims_input sc fs pl h = reads Input (pl.sound.allowed [] (Aims 0) h 0 Input (refl, at_console ex fs 0 free.input))
+  aims_input : {Here : Use → Type 0} (sc : List Scope) (fs : List Joint) → Pl sc fs Here → Here (Target 0) → R Input
+  aims_input sc fs pl h = reads Input (pl.sound.allowed [] (Target 0) h 0 Input (refl, at_console ex fs 0 free.input))
 
-  aims_output : {Here : Use → Type 0} (sc : List Scope) (fs : List Joint) → Pl sc fs Here → Here (Aims 1) → R Output
-  aims_output sc fs pl h = reads Output (pl.sound.allowed [] (Aims 1) h 1 Output (refl, at_console ex fs 1 free.output))
+  aims_output : {Here : Use → Type 0} (sc : List Scope) (fs : List Joint) → Pl sc fs Here → Here (Target 1) → R Output
+  aims_output sc fs pl h = reads Output (pl.sound.allowed [] (Target 1) h 1 Output (refl, at_console ex fs 1 free.output))
 
   -- the step of a statement that is first
   pub start_makes : (call : Calls) → Oks call → Blocks → (end : ℕ) (base : List Entry) (below : List Joint) (d : Stmt) (sc : List Scope) (q : ℕ) (stack : List Entry) (todo : List Item) (fs : List Joint) (o : Own) (s : Store) (n : M) → rel.Stand fs o s n → Pl sc fs (In_stmt d) → S (outside stack) sc q d → After end base below todo fs (after p q d) stack
@@ -599,12 +599,12 @@ module _ {M : Type 0} (ex : Execution M) where
       let ri = aims_input sc fs pl (inl refl) in
       makes_bind ex _ (address_gives ex call ok v h.0 sc q stack fs o s n t (within (λ u i. inr (inl i)) pl) h.2 h.3) (λ a u o1 s1 n1 t1 x1.
       makes_known ex _ h.1 (kind_known ex a.kind h.0 h.1 x1.0 h.4)
-      (makes_known ex (λ bs. bind (or_lost (taken_by h.1 bs)) (λ z. bind (take_in g a z) (λ y. give (Went todo)))) (rest_of ex s1) (left_known ex)
+      (makes_known ex (λ bs. bind (or_lost (taken_by h.1 bs)) (λ z. bind (take_in g a z) (λ y. give (Stepped todo)))) (rest_of ex s1) (left_known ex)
       (reads_makes (After end base below) fs h.1 (after_var q v) a u stack todo o1 s1 n1 t1 ri x1.1 x1.2 (ap (λ y. slice_get p.kinds y) x1.0 ∙ h.4) h.5 k)))
   start_makes call ok bl end base below ReadLine sc q stack todo fs o s n t pl h k =
       let ri = aims_input sc fs pl (inl refl) in
       let bs = rest_of ex s in
-      makes_known ex (λ bs. bind (advance g (line_length bs)) (λ u. give (Went todo))) bs (left_known ex)
+      makes_known ex (λ bs. bind (advance g (line_length bs)) (λ u. give (Stepped todo))) bs (left_known ex)
       (record { by = (q + 1, stack, ops.advance (line_length bs) n, fs, goes ops rel w code (one_at q stack n h ∙ ap (λ z. there z (λ bs. Goes (m.At (q + 1) stack (ops.advance (line_length bs) n)))) (law.left t ri)), law.advance t ri (line_length bs), k) })
   start_makes call ok bl end base below (WriteValue (Typed x form) wd) sc q stack todo fs o s n t pl h k =
       let ro = aims_output sc fs pl (inl refl) in

@@ -15,7 +15,7 @@ use Rattle.sp_meaning.specs.Own.{Setting, Loc, Held, Address, Home, OfBlock, OfI
 use Rattle.sp_meaning.specs.Own as own
 use Rattle.sp_meaning.specs.Owning.{Gave}
 use Rattle.sp_meaning.specs.Eval.{At, Given, Calls, ordinal, checked, ordinal_read, kind_at, read_at, address_of, place_of, in_frame, place_by}
-use Rattle.sp_meaning.specs.Deeds.{Deed, Went, Beat, Opened, Forked, Offered, Over, push, is_before, next_value, goes_on, enter, leave, peek, turn_of, act, settle, without_frame, answer_of, left_by, call_by, rest_by, all, deed_by, deed}
+use Rattle.sp_meaning.specs.Deeds.{Deed, Stepped, Ticked, Opened, Forked, Offered, Ended, push, is_before, next_value, goes_on, enter, leave, peek, turn_of, act, settle, without_frame, answer_of, left_by, call_by, rest_by, all, deed_by, deed}
 use Rattle.sp_meaning.specs.Run.{Store, run}
 use Rattle.sp_meaning.specs.SuperPascal.{enough}
 use Rattle.sp_meaning.specs.Turn as source
@@ -55,7 +55,7 @@ kind_of_sort None e = absurd (subst IsOrdinals (sym e) tt)
 kind_of_sort (Some ty) e = (ty, refl)
 
 module _ {M : Type 0} (ex : Execution M) where
-  open ex use {setting as g, code, moves, shares, Quiet as hush, who as w, due, Writes as W, Reads as R, operations as ops, relation as rel, laws as law, reads_written as reads, own_written as mine_written}
+  open ex use {setting as g, code, moves, shares, Quiet as hush, who as w, due, Writes as W, IsReadable as R, operations as ops, relation as rel, laws as law, reads_written as reads, own_written as mine_written}
 
   abbrev p : Program
   p = g.program
@@ -250,15 +250,15 @@ module _ {M : Type 0} (ex : Execution M) where
       no st pc fs todo f e = subst IsTrue (sym (outside_follows ex end base below pc st fs todo f ∙ ob) ∙ e) tt
 
       by_deed : (r : Came Deed × Store) → Made ex c (After ex end base below) r → Ends ops rel w code below c end (BaseTop base) No_more (then_run (λ d. bind (left_by g d) go) w r)
-      by_deed (Got (Went todo) o1, s1) q = ends_after ops rel w code below c (m.At q.0 q.1 q.2) end (BaseTop base) No_more (run (go todo) w o1 s1) q.4 (ih.by end base below ob todo q.0 q.1 q.3 o1 s1 q.2 q.5 q.6).by
-      by_deed (Got (Beat todo) o1, s1) q =
+      by_deed (Got (Stepped todo) o1, s1) q = ends_after ops rel w code below c (m.At q.0 q.1 q.2) end (BaseTop base) No_more (run (go todo) w o1 s1) q.4 (ih.by end base below ob todo q.0 q.1 q.3 o1 s1 q.2 q.5 q.6).by
+      by_deed (Got (Ticked todo) o1, s1) q =
           ends_after ops rel w code below c (m.At q.0 q.1 q.2) end (BaseTop base) No_more (run (go todo) w o1 s1)
           (comes_on ops rel w code q.5 (goes ops rel w code (q.6 ∙ ap (λ b. if b then (if ops.due q.2 then Stops m.Pauses (m.At q.0 q.1 q.2) else Goes (m.At q.0 q.1 q.2)) else Goes (m.At q.0 q.1 q.2)) (outside_follows ex end base below q.0 q.1 q.3 todo q.8 ∙ ob))))
           (ih.by end base below ob todo q.0 q.1 q.3 o1 s1 q.2 q.7 q.8).by
       by_deed (Got (Opened todo) o1, s1) q = absurd (no q.1 q.0 q.3 todo q.14 q.15)
       by_deed (Got (Forked bs todo) o1, s1) q = absurd (no q.1 q.0 q.3 todo q.9 q.10)
       by_deed (Got (Offered ch x cg todo) o1, s1) q = absurd (no q.1 q.0 q.3 todo q.10 q.11)
-      by_deed (Got Over o1, s1) q = absurd (no q.1 q.0 q.3 [] q.7 q.8)
+      by_deed (Got Ended o1, s1) q = absurd (no q.1 q.0 q.3 [] q.7 q.8)
       by_deed (Bad f, s1) q = q
       by_deed (Lost, s1) q = q
       by_deed (Long, s1) q = q
@@ -433,13 +433,13 @@ module _ {M : Type 0} (ex : Execution M) where
           turned_after c (m.At pc1 st1 n1) end base below (run (source.turn g due k todo) w o1 s1) (comes_on ops rel w code cd (goes ops rel w code (ge ∙ ap (λ b. if b then Stops m.Pauses (m.At pc1 st1 n1) else Goes (m.At pc1 st1 n1)) (sym eb)))) ih
 
       go : (r : Came Deed × Store) → Made ex c (After ex end base below) r → ((todo : List Item) (pc : ℕ) (st : List Entry) (fs : List Joint) (o : Own) (s : Store) (n : M) → rel.Stand fs o s n → F end base below pc st fs todo → Turned (m.At pc st n) end base below (run (source.turn g due k todo) w o s)) → Turned c end base below (then_run (source.onward g due (source.turn g due k)) w r)
-      go (Got (Went todo) o1, s1) q ih = turned_after c (m.At q.0 q.1 q.2) end base below (run (source.turn g due k todo) w o1 s1) q.4 (ih todo q.0 q.1 q.3 o1 s1 q.2 q.5 q.6)
-      go (Got (Beat todo) o1, s1) q ih =
+      go (Got (Stepped todo) o1, s1) q ih = turned_after c (m.At q.0 q.1 q.2) end base below (run (source.turn g due k todo) w o1 s1) q.4 (ih todo q.0 q.1 q.3 o1 s1 q.2 q.5 q.6)
+      go (Got (Ticked todo) o1, s1) q ih =
           by_due todo o1 s1 q.0 q.1 q.2 q.3 q.4 q.5 (q.6 ∙ ap (λ b. if b then (if ops.due q.2 then Stops m.Pauses (m.At q.0 q.1 q.2) else Goes (m.At q.0 q.1 q.2)) else Goes (m.At q.0 q.1 q.2)) (outside_follows ex end base below q.0 q.1 q.3 todo q.8 ∙ ob)) q.7 q.8 (ih todo q.0 q.1 q.3 o1 s1 q.2 q.7 q.8) (due o1) (law.due_same q.7)
       go (Got (Opened todo) o1, s1) q ih = q
       go (Got (Forked bs todo) o1, s1) q ih = q
       go (Got (Offered ch x cg todo) o1, s1) q ih = q
-      go (Got Over o1, s1) q ih = q
+      go (Got Ended o1, s1) q ih = q
       go (Bad f, s1) q ih = q
       go (Lost, s1) q ih = q
       go (Long, s1) q ih = q

@@ -1,7 +1,8 @@
 -- A turn ends: within the budget of its ticks and the weights of what is left to do it is never out of steps (`this_turn_ends`).
 use Rattle.std.proofs.Common.{ℕ, zero, suc, ◌+◌, ◌<◌, List, Bool, true, false, if◌then◌else◌, sym, subst, arith}
 use Rattle.sp_meaning.specs.Own.{Setting, Own, Who, Item, Process, Came, Got, Bad, Lost, Long, give}
-use Rattle.sp_meaning.specs.Deeds.{Deed, Went, Beat, Opened, Forked, Offered, Over}
+use Rattle.sp_meaning.specs.Deeds.{Deed, Stepped, Ticked, Opened, Forked, Offered}
+use Rattle.sp_meaning.specs.Deeds as deeds
 use Rattle.sp_meaning.specs.SuperPascal.{weight_of}
 use Rattle.sp_meaning.specs.Run.{Store, run}
 use Rattle.sp_meaning.specs.Turn as source
@@ -16,12 +17,12 @@ module _ (g : Setting) (due : Own → Bool) where
   -- it has ended, unless the tree breaks a rule
   abbrev pub Ended : Came source.Stop × Store → Type 0
   Ended (Got (source.Paused todo) o, s) = Unit {0}
-  Ended (Got (source.Stops (Went todo)) o, s) = ⊥
-  Ended (Got (source.Stops (Beat todo)) o, s) = ⊥
+  Ended (Got (source.Stops (Stepped todo)) o, s) = ⊥
+  Ended (Got (source.Stops (Ticked todo)) o, s) = ⊥
   Ended (Got (source.Stops (Opened todo)) o, s) = Unit {0}
   Ended (Got (source.Stops (Forked bs todo)) o, s) = Unit {0}
   Ended (Got (source.Stops (Offered c k x todo)) o, s) = Unit {0}
-  Ended (Got (source.Stops Over) o, s) = Unit {0}
+  Ended (Got (source.Stops deeds.Ended) o, s) = Unit {0}
   Ended (Bad f, s) = Unit {0}
   Ended (Lost, s) = Unit {0}
   Ended (Long, s) = ⊥
@@ -33,8 +34,8 @@ module _ (g : Setting) (due : Own → Bool) where
       (go (λ todo1 o1 s1 f1 h1. turn_ends k todo1 w o1 s1 f1 h1) (run (source.one g due todo) w o s) (deed_is g (record { todo = todo; who = w; own = o }) s f))
     where
       go : ((todo1 : List Item) (o1 : Own) (s1 : Store) → AllFit K todo1 → budget g K o1.ticks + weights todo1 < k → Ended (run (source.turn g due k todo1) w o1 s1)) → (r : Came Deed × Store) → Result o.ticks (Deeds g K o.ticks (weights todo)) r.0 → Ended (then_run (source.onward g due (source.turn g due k)) w r)
-      go ih (Got (Went todo1) o1, s1) d = ih todo1 o1 s1 d.1.1 (omega (arith, d.1.0, h))
-      go ih (Got (Beat todo1) o1, s1) d = by_due (due o1)
+      go ih (Got (Stepped todo1) o1, s1) d = ih todo1 o1 s1 d.1.1 (omega (arith, d.1.0, h))
+      go ih (Got (Ticked todo1) o1, s1) d = by_due (due o1)
         where
           by_due : (b : Bool) → Ended (run (if b then give (source.Paused todo1) else source.turn g due k todo1) w o1 s1)
           by_due true = tt
@@ -42,7 +43,7 @@ module _ (g : Setting) (due : Own → Bool) where
       go ih (Got (Opened todo1) o1, s1) d = tt
       go ih (Got (Forked bs todo1) o1, s1) d = tt
       go ih (Got (Offered c x cargo todo1) o1, s1) d = tt
-      go ih (Got Over o1, s1) d = tt
+      go ih (Got deeds.Ended o1, s1) d = tt
       go ih (Bad x, s1) d = tt
       go ih (Lost, s1) d = tt
       go ih (Long, s1) d = d

@@ -13,9 +13,9 @@ use Rattle.sp_tree.specs.declared.operators.BinaryOp.{BinaryOp}
 use Rattle.sp_tree.specs.declared.operators.BinaryOp.TheVariants as binary
 use Rattle.sp_tree.specs.declared.operators.StandardFn.{StandardFn}
 use Rattle.sp_tree.specs.declared.operators.StandardFn.TheVariants as standard
-use Rattle.sp_tree.specs.Operators.{Worked, Yields, Refuses, truth, ranged, successor, predecessor, absolute, square, is_odd, unary_op, binary_op, least, greatest}
+use Rattle.sp_tree.specs.Operators.{Worked, Yields, Faults, truth, ranged, successor, predecessor, absolute, square, is_odd, unary_op, binary_op, least, greatest}
 use Rattle.sp_tree.specs.Plain.{Expr, Typed, ExprForm, Number, Read, Unary, Binary, Apply, Standard, AtInput, Var, Entire, Index, Field, Selectors, Whole, Select, ByValue, ByReference, Actuals, Nothing, Pass, Program, Variable, Block}
-use Rattle.sp_tree.specs.Uses.{Use, Aims, Sees, In_expr, In_form, In_target, In_selectors, In_actuals, In_call}
+use Rattle.sp_tree.specs.Uses.{Use, Target, Seen, In_expr, In_form, In_target, In_selectors, In_actuals, In_call}
 use Rattle.sp_cell.specs.declared.cell.Cell.{Cell}
 use Rattle.sp_cell.specs.declared.cell.Cell.TheVariants as cell
 use Rattle.sp_cell.specs.declared.spot.Address.{Address as Ptr}
@@ -42,7 +42,7 @@ use Rattle.sp_codegen.specs.Shapes.{CellIs, Flat}
 use Rattle.sp_codegen.specs.Executions.{Execution}
 use Rattle.sp_codegen.specs.Following.{StandsFor}
 use Rattle.sp_codegen.specs.Relation.{Placed, Stood, GivensAre, Owns, OneCell}
-use Rattle.sp_codegen.proofs.Runs.{Gives, Known, stays, goes, gives_bind, gives_known, gives_give, gives_fail, gives_by}
+use Rattle.sp_codegen.proofs.Runs.{Realizes, Known, stays, goes, gives_bind, gives_known, gives_give, gives_fail, gives_by}
 use Rattle.sp_codegen.proofs.Chains.{block_agrees, index_agrees, found, seek_all, find_in}
 
 -- entries on the stack, the last one on top
@@ -81,17 +81,17 @@ same_some a b h k = ap (or_zero a) (sym h ∙ k)
 
 -- a part of what stands here
 pub within : {g : Setting} {W R : Loc → Type 0} {J : ℕ → Type 0} {sc : List Scope} {js : List Joint} {Here Above : Use → Type 0} → ((u : Use) → Here u → Above u) → Placed g W R J sc js Above → Placed g W R J sc js Here
-within f pl = record { chain = pl.chain; linked = pl.linked; sound = part f pl.sound; formed = λ u h. pl.formed u (f u h); indexes = λ x up h. pl.indexes x up (f (Sees x) h) }
+within f pl = record { chain = pl.chain; linked = pl.linked; sound = part f pl.sound; formed = λ u h. pl.formed u (f u h); indexes = λ x up h. pl.indexes x up (f (Seen x) h) }
 
 module _ {M : Type 0} (ex : Execution M) where
-  open ex use {setting as g, code, moves, shares, Quiet as hush, who as w, Writes as W, Reads as R, Indexes as J, operations as ops, relation as rel, laws as law, reads_written as reads, free}
+  open ex use {setting as g, code, moves, shares, Quiet as hush, who as w, Writes as W, IsReadable as R, Indexes as J, operations as ops, relation as rel, laws as law, reads_written as reads, free}
 
   abbrev p : Program
   p = g.program
 
   -- the forms of the statements
   abbrev G : {A E : Type 0} → List Joint → Config M → Own → Store → ℕ → (A → E → List Entry) → (A → E → Type 0) → Work A → Type 0
-  G js c o s pc st F h = Gives ops rel w code js c o s pc st F h
+  G js c o s pc st F h = Realizes ops rel w code js c o s pc st F h
 
   abbrev pub P : List Scope → List Joint → (Use → Type 0) → Type 0
   P sc js Here = Placed g W R J sc js Here
@@ -110,7 +110,7 @@ module _ {M : Type 0} (ex : Execution M) where
   pub worked_gives : {js : List Joint} {o : Own} {s : Store} (c : Config M) (pc k : ℕ) (stack : List Entry) (n : M) → rel.Stand js o s n → StandsFor rel c s → sort p k ≡ Ordinals → (x : Worked) → one ops code c ≡ worked x (λ v. Goes (m.At pc (m.Number v ∷ stack) n))
       → G js c o s pc (Top stack) (St k) (work_of x)
   worked_gives c pc k stack n t f e (Yields v) h = gives_give ops rel w code (Ordinal v) (m.Number v) (goes ops rel w code h) t (subst (λ z. Stood rel p z k (Ordinal v) (m.Number v)) (sym e) (v, refl, refl))
-  worked_gives c pc k stack n t f e (Refuses x) h = gives_fail ops rel w code x f h
+  worked_gives c pc k stack n t f e (Faults x) h = gives_fail ops rel w code x f h
 
   -- an ordinal on top of the stack
   abbrev pub NumberTop : List Entry → ℤ → Unit {0} → List Entry
@@ -244,12 +244,12 @@ module _ {M : Type 0} (ex : Execution M) where
     pub location : (l : Loc) → stands p (sources js) x ≡ Some l → R l
     pub index : (v : Variable) → slice_get p.variables x ≡ Some v → v.role ≡ role.Index → (up : ℕ) → level (places.is_index x) sc ≡ Some up → (j : Joint) (rest : List Joint) → up_at up js ≡ j ∷ rest → J (length rest)
 
-  pub may_see : {Here : Use → Type 0} (sc : List Scope) (js : List Joint) (x : ℕ) → P sc js Here → Here (Sees x) → MayRead sc js x
-  may_see sc js x pl h = record { location = λ l e. pl.sound.allowed [] (Sees x) h x l (refl, e); index = λ v ev er up lv j rest e. pl.indexes x up h lv j rest e }
+  pub may_see : {Here : Use → Type 0} (sc : List Scope) (js : List Joint) (x : ℕ) → P sc js Here → Here (Seen x) → MayRead sc js x
+  may_see sc js x pl h = record { location = λ l e. pl.sound.allowed [] (Seen x) h x l (refl, e); index = λ v ev er up lv j rest e. pl.indexes x up h lv j rest e }
 
-  pub may_aim : {Here : Use → Type 0} (sc : List Scope) (js : List Joint) (x : ℕ) (ss : Selectors) → P sc js Here → Here (Aims x) → IsTarget p moves shares (Stands code) (HasFork code) (HasWords code) hush (Entire x ss) → MayRead sc js x
+  pub may_aim : {Here : Use → Type 0} (sc : List Scope) (js : List Joint) (x : ℕ) (ss : Selectors) → P sc js Here → Here (Target x) → IsTarget p moves shares (Stands code) (HasFork code) (HasWords code) hush (Entire x ss) → MayRead sc js x
   may_aim sc js x ss pl h ta = record {
-    location = λ l e. reads l (pl.sound.allowed [] (Aims x) h x l (refl, e));
+    location = λ l e. reads l (pl.sound.allowed [] (Target x) h x l (refl, e));
     index = λ v ev er up lv j rest e. let d = same_some ta.0 v ta.1 ev in absurd (subst NoIndex (ap (λ (y : Variable). y.role) d ∙ er) ta.2);
   }
 
@@ -464,8 +464,8 @@ module _ {M : Type 0} (ex : Execution M) where
   pub at_console : (js : List Joint) (x : ℕ) → (v : Variable) × (slice_get p.variables x ≡ Some v) × (v.role ≡ role.Console) → stands p (sources js) x ≡ Some (console x)
   at_console js x c = ap (stands_at (sources js) x) c.1 ∙ ap (stands_by (sources js) x c.0) c.2
 
-  input_read : {Here : Use → Type 0} (sc : List Scope) (js : List Joint) → P sc js Here → Here (Sees 0) → R Input
-  input_read sc js pl a = pl.sound.allowed [] (Sees 0) a 0 Input (refl, at_console js 0 free.input)
+  input_read : {Here : Use → Type 0} (sc : List Scope) (js : List Joint) → P sc js Here → Here (Seen 0) → R Input
+  input_read sc js pl a = pl.sound.allowed [] (Seen 0) a 0 Input (refl, at_console js 0 free.input)
 
   mutual
     pub value_gives : (call : Calls) → CallsMeet call → (e : Expr) (sc : List Scope) (q : ℕ) (stack : List Entry) (js : List Joint) (o : Own) (s : Store) (n : M) → rel.Stand js o s n → P sc js (In_expr e) → ValueAt p moves shares (Stands code) (HasFork code) (HasWords code) hush sc q e

@@ -25,13 +25,13 @@ pub record Execution (M : Type 0) : Type 1 where
   pub due : Own → Bool
   -- what it may write and read, and the heights of the frames of indexes that it holds
   pub Writes : Loc → Type 0
-  pub Reads : Loc → Type 0
+  pub IsReadable : Loc → Type 0
   pub Indexes : ℕ → Type 0
   -- the memory of the machine, how it stands for that of the meaning, and that all operations keep this
   pub operations : Ops M
   pub relation : Relation M
-  pub laws : Keeps setting who due Writes Reads Indexes operations relation
-  pub reads_written : (l : Loc) → Writes l → Reads l
+  pub laws : Keeps setting who due Writes IsReadable Indexes operations relation
+  pub reads_written : (l : Loc) → Writes l → IsReadable l
   pub free : IsFreeOfInterference setting.program
   pub own_written : (n x : ℕ) → Writes (Cell who.name n x)
   pub uses_formed : (f : ℕ) (b : Block) → slice_get setting.program.blocks f ≡ Some b → (u : Use) → In_stmt b.body u → IsFormedUse setting.program u

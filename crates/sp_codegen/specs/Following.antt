@@ -8,10 +8,11 @@ use Rattle.sp_cell.specs.declared.cell.Cell.{Cell}
 use Rattle.sp_cell.specs.declared.cell.Cell.TheVariants as cell
 use Rattle.sp_cell.specs.declared.spot.Address.{Address as Ptr}
 use Rattle.sp_meaning.specs.Maps.{at_key}
-use Rattle.sp_meaning.specs.Model.{Channel, Cargo, Gives as Given, Takes}
+use Rattle.sp_meaning.specs.Model.{Channel, Cargo, Message as Given, Takes}
 use Rattle.sp_meaning.specs.Values.{Chan}
 use Rattle.sp_meaning.specs.Own.{Held, Tree, Position, Written, Address, Own, Item, Do, First, Again, Test, Leave, Break, Came, Got, Bad, Lost, Long, assigned, same_loc}
-use Rattle.sp_meaning.specs.Deeds.{Deed, Went, Beat, Opened, Forked, Offered, Over, Birth, is_range, children, indexed_children}
+use Rattle.sp_meaning.specs.Deeds.{Deed, Stepped, Ticked, Opened, Forked, Offered, Birth, is_range, children, indexed_children}
+use Rattle.sp_meaning.specs.Deeds as deeds
 use Rattle.sp_meaning.specs.Run.{Store}
 use Rattle.sp_code.specs.declared.code.Parts.{Parts as Code}
 use Rattle.sp_code.specs.declared.instr.Instr.TheVariants as i
@@ -56,7 +57,7 @@ IsOwned ops Ended n = Unit {0}
 IsOwned ops Pauses n = Unit {0}
 
 module _ {M : Type 0} (ex : Execution M) where
-  open ex use {setting as g, code, moves, shares, Quiet as hush, who as w, Writes as W, Reads as R, Indexes as J, operations as ops, relation as rel}
+  open ex use {setting as g, code, moves, shares, Quiet as hush, who as w, Writes as W, IsReadable as R, Indexes as J, operations as ops, relation as rel}
 
   abbrev p : Program
   p = g.program
@@ -111,8 +112,8 @@ module _ {M : Type 0} (ex : Execution M) where
 
   -- one step of a process: where the machine stands after it, or at which stop
   abbrev pub Made : Config M → (List Item → List Joint → ℕ → List Entry → Type 0) → Came Deed × Store → Type 0
-  Made c Q (Got (Went todo) o, s) = (pc : ℕ) × (st : List Entry) × (n : M) × (fs : List Joint) × Comes ops code c (At pc st n) × rel.Stand fs o s n × Q todo fs pc st
-  Made c Q (Got (Beat todo) o, s) =
+  Made c Q (Got (Stepped todo) o, s) = (pc : ℕ) × (st : List Entry) × (n : M) × (fs : List Joint) × Comes ops code c (At pc st n) × rel.Stand fs o s n × Q todo fs pc st
+  Made c Q (Got (Ticked todo) o, s) =
       (pc : ℕ) × (st : List Entry) × (n : M) × (fs : List Joint) × (d : Config M) × Comes ops code c d × (one ops code d ≡ paced ops code pc st n) × rel.Stand fs o s n × Q todo fs pc st
   Made c Q (Got (Opened todo) o, s) =
       (pc : ℕ) × (st : List Entry) × (n : M) × (fs : List Joint) × (d : Config M) × (a : Address) × (t : Ptr) × (s0 : Store) × Comes ops code c d × (one ops code d ≡ Stops (Opens t) (At pc st n)) × rel.Stand fs o s0 n × rel.Points fs a t × R a.spot
@@ -121,7 +122,7 @@ module _ {M : Type 0} (ex : Execution M) where
       (pc : ℕ) × (st : List Entry) × (n : M) × (fs : List Joint) × (d : Config M) × (z : Stop) × Comes ops code c d × (one ops code d ≡ Stops z (At pc st n)) × rel.Stand fs o s n × Q todo fs pc st × (outside st ≡ true) × ForkIs (outside st) fs bs z × (nat_lt o.depth g.limits.depth ≡ true)
   Made c Q (Got (Offered ch k g todo) o, s) =
       (pc : ℕ) × (st : List Entry) × (n : M) × (fs : List Joint) × (d : Config M) × (z : Stop) × Comes ops code c d × (one ops code d ≡ Stops z (At pc st n)) × rel.Stand fs o s n × CargoIs fs ch k g z × Q todo fs pc st × (outside st ≡ true) × IsOwned ops z n
-  Made c Q (Got Over o, s) = (pc : ℕ) × (st : List Entry) × (n : M) × (fs : List Joint) × Comes ops code c (At pc st n) × (one ops code (At pc st n) ≡ Stops Ended (At pc st n)) × rel.Stand fs o s n × Q [] fs pc st × (outside st ≡ true)
+  Made c Q (Got deeds.Ended o, s) = (pc : ℕ) × (st : List Entry) × (n : M) × (fs : List Joint) × Comes ops code c (At pc st n) × (one ops code (At pc st n) ≡ Stops Ended (At pc st n)) × rel.Stand fs o s n × Q [] fs pc st × (outside st ≡ true)
   Made c Q (Bad f, s) = Breaks ops rel code c f s
   Made c Q (Lost, s) = ⊥
   Made c Q (Long, s) = Unit {0}

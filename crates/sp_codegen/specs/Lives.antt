@@ -11,7 +11,8 @@ use Rattle.sp_cell.specs.Spots.{In, NotIn}
 use Rattle.sp_tree.specs.Formed.{IsFormed, IsFormedUse}
 use Rattle.sp_tree.specs.Interference.{IsFreeOfInterference}
 use Rattle.sp_tree.specs.Plain.{Program, Block, Stmt}
-use Rattle.sp_tree.specs.Uses.{Use, Sees, In_stmt}
+use Rattle.sp_tree.specs.Uses.{Use, In_stmt}
+use Rattle.sp_tree.specs.Uses as use_of
 use Rattle.sp_meaning.specs.Model.{Name, Channel, same_channel}
 use Rattle.sp_meaning.specs.Own.{Setting, Loc, Cell, OfIndex as Home_of, Frame, Own, Who, Item}
 use Rattle.sp_meaning.specs.Owning.{Aimed, Used}
@@ -49,7 +50,7 @@ pub data Given : Type 0 where
 
 -- how many frames stand below that of an index that the statement uses
 abbrev pub Seen : List Scope → List Joint → Stmt → ℕ → Type 0
-Seen sc js st h = (x : ℕ) × (up : ℕ) × In_stmt st (Sees x) × (level (is_index x) sc ≡ Some up) × ((j : Joint) × (rest : List Joint) × (up_at up js ≡ j ∷ rest) × (length rest ≡ h))
+Seen sc js st h = (x : ℕ) × (up : ℕ) × In_stmt st (use_of.Seen x) × (level (is_index x) sc ≡ Some up) × ((j : Joint) × (rest : List Joint) × (up_at up js ≡ j ∷ rest) × (length rest ≡ h))
 
 abbrev pub writes_by : Program → Name → Given → Loc → Type 0
 writes_by p q Consoles l = All First q l
@@ -95,8 +96,8 @@ module _ (g : Setting) (moves shares : Stmt → List ℕ) (pause : ℕ) (life : 
   abbrev pub Writes : Loc → Type 0
   Writes l = writes_by g.program life.who.name life.given l
 
-  abbrev pub Reads : Loc → Type 0
-  Reads l = reads_by g.program life.who.name life.given l
+  abbrev pub IsReadable : Loc → Type 0
+  IsReadable l = reads_by g.program life.who.name life.given l
 
   abbrev pub Indexes : ℕ → Type 0
   Indexes h = indexes_by life.given h
@@ -109,17 +110,17 @@ module _ (g : Setting) (moves shares : Stmt → List ℕ) (pause : ℕ) (life : 
   operations_of = memory plain (code_run g code_of pause)
 
   abbrev pub relation_of : Relation (Memory Plain)
-  relation_of = relation g code_of life.who Named Called Writes Reads Indexes life.low life.base life.born life.since pause life.moved
+  relation_of = relation g code_of life.who Named Called Writes IsReadable Indexes life.low life.base life.born life.since pause life.moved
 
   -- its memory stands for its own part and what it holds of the store
   abbrev pub Stands : List Joint → Own → Store → Memory Plain → Type 0
-  Stands js o s n = Stand g code_of life.who Named Called Writes Reads Indexes life.low life.base life.born life.since pause life.moved js o s n
+  Stands js o s n = Stand g code_of life.who Named Called Writes IsReadable Indexes life.low life.base life.born life.since pause life.moved js o s n
 
   -- what all operations keep, and that a call finds its block
   pub record Laws : Type 0 where
-    pub keeps : Keeps g life.who due_of Writes Reads Indexes operations_of relation_of
+    pub keeps : Keeps g life.who due_of Writes IsReadable Indexes operations_of relation_of
     pub free : IsFreeOfInterference g.program
-    pub reads_written : (l : Loc) → Writes l → Reads l
+    pub reads_written : (l : Loc) → Writes l → IsReadable l
     pub own_written : (n x : ℕ) → Writes (Cell life.who.name n x)
     pub uses_formed : (f : ℕ) (b : Block) → slice_get g.program.blocks f ≡ Some b → (u : Use) → In_stmt b.body u → IsFormedUse g.program u
     pub layouts_found : (f : ℕ) (l : Layout) → slice_get code_of.layouts f ≡ Some l → layout_of code_of.layouts f ≡ Some l
@@ -134,7 +135,7 @@ module _ (g : Setting) (moves shares : Stmt → List ℕ) (pause : ℕ) (life : 
     who = life.who;
     due = due_of;
     Writes = Writes;
-    Reads = Reads;
+    IsReadable = IsReadable;
     Indexes = Indexes;
     operations = operations_of;
     relation = relation_of;
@@ -148,7 +149,7 @@ module _ (g : Setting) (moves shares : Stmt → List ℕ) (pause : ℕ) (life : 
 
   -- what stands here may be done in these frames
   abbrev pub IsPlaced : List Scope → List Joint → (Use → Type 0) → Type 0
-  IsPlaced sc js Here = Placed g Writes Reads Indexes sc js Here
+  IsPlaced sc js Here = Placed g Writes IsReadable Indexes sc js Here
 
   -- it stands, and its code follows what it has left to do and then comes to the end of a process. No function is being called
   pub record IsAt (h : Laws) (end : ℕ) (base : List Entry) (below js : List Joint) (todo : List Item) (pc : ℕ) (stack : List Entry) (o : Own) (s : Store) (n : Memory Plain) : Type 0 where

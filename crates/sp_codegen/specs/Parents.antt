@@ -23,7 +23,7 @@ use Rattle.sp_code.specs.PlainStore.{piece_of}
 use Rattle.sp_code.specs.Scopes.{Scope, slot}
 use Rattle.sp_code.specs.Stands.{Stands, HasFork, HasWords, StandsAt}
 use Rattle.sp_codegen.specs.Joints.{Joint, from}
-use Rattle.sp_codegen.specs.Lives.{Life, code_of, Named, Called, Writes, Reads, Indexes}
+use Rattle.sp_codegen.specs.Lives.{Life, code_of, Named, Called, Writes, IsReadable, Indexes}
 use Rattle.sp_codegen.specs.Standing.{spot_at, Live, HeldAt, Stand}
 
 module _ (p : Program) (moves shares : Stmt → List ℕ) (code : Code) (hush : ℕ → Type 0) (free : Bool) (sc : List Scope) where
@@ -70,15 +70,15 @@ AreKnown n hs = (q : Spot) → In q (moved_of hs) ⊎ In q (shared_of hs) → Is
 -- who waits for children stands but for the spots that are away
 abbrev pub Joins : (g : Setting) (moves shares : Stmt → List ℕ) (pause : ℕ) (life : Life) → (Spot → Type 0) → List Joint → Own → Store → Memory Plain → Map → Type 0
 Joins g moves shares pause life away js o s n mp =
-    Joining g (code_of g moves shares pause life) life.who (λ c j. Named g moves shares pause life c j) (λ q k. Called g moves shares pause life q k) (λ l. Writes g moves shares pause life l) (λ l. Reads g moves shares pause life l) (λ h. Indexes g moves shares pause life h) life.low life.base life.born life.since pause life.moved away js o s n mp
+    Joining g (code_of g moves shares pause life) life.who (λ c j. Named g moves shares pause life c j) (λ q k. Called g moves shares pause life q k) (λ l. Writes g moves shares pause life l) (λ l. IsReadable g moves shares pause life l) (λ h. Indexes g moves shares pause life h) life.low life.base life.born life.since pause life.moved away js o s n mp
 
 module _ (g : Setting) (moves shares : Stmt → List ℕ) (pause : ℕ) (life : Life) where
   -- what moved to the child may be read by it and is still known to it, and was its parent's at the fork
   pub record GivesBack (child : Life) (js ks : List Joint) (n nc : Memory Plain) : Type 0 where
-    pub live : (q : Name) (h x : ℕ) → (l : Live g.program js q h x) → Reads g moves shares pause life (Cell q h x) → In (spot_at l.joint.machine.number (slot g.program x)) nc.store.moved
-        → Reads g moves shares pause child (Cell q h x) × ((k : Live g.program ks q h x) × (k.joint ≡ l.joint) × (k.info ≡ l.info))
+    pub live : (q : Name) (h x : ℕ) → (l : Live g.program js q h x) → IsReadable g moves shares pause life (Cell q h x) → In (spot_at l.joint.machine.number (slot g.program x)) nc.store.moved
+        → IsReadable g moves shares pause child (Cell q h x) × ((k : Live g.program ks q h x) × (k.joint ≡ l.joint) × (k.info ≡ l.info))
     pub no_index : (h : ℕ) → Indexes g moves shares pause life h → (j : Joint) (rest : List Joint) → (x : ℕ) (v : ℤ) → from (suc h) js ≡ j ∷ rest → j.source.home ≡ OfIndex x v → NotIn (spot_at j.machine.number 0) nc.store.moved
-    pub input : Reads g moves shares pause life Input → In position_at.spot nc.store.moved → Reads g moves shares pause child Input
-    pub output : Reads g moves shares pause life Output → In output_spot nc.store.moved → Reads g moves shares pause child Output
+    pub input : IsReadable g moves shares pause life Input → In position_at.spot nc.store.moved → IsReadable g moves shares pause child Input
+    pub output : IsReadable g moves shares pause life Output → In output_spot nc.store.moved → IsReadable g moves shares pause child Output
     pub kept : (q : Spot) → In q nc.store.moved → IsSome (fin.get nc.store.map q)
     pub old : (q : Spot) → In q nc.store.moved → IsSome (fin.get n.store.map q)

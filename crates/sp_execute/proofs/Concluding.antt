@@ -21,7 +21,7 @@ use Rattle.sp_meaning.specs.Ends as meant
 use Rattle.sp_code.specs.Machine.{Stop, Forks, Opens, Sends, Receives, Ends, Pauses}
 use Rattle.sp_code.specs.Memory as memory
 use Rattle.sp_code.specs.PlainStore.{plain}
-use Rattle.sp_code.specs.System.{System, Condition, Absent, Runs, Waits, Joins, Laid, Gone, Over, IsSystem, Leads, store_in, opening}
+use Rattle.sp_code.specs.System.{System, Condition, Absent, Working, Waits, Joins, Laid, Gone, Over, IsSystem, Leads, store_in, opening}
 use Rattle.sp_history.specs.Agreement.{Finished, phase_in}
 use Rattle.sp_history.specs.Holding.{IsOutputOf}
 use Rattle.sp_kernel.specs.Faults.{fault_in, fault_by}
@@ -96,7 +96,7 @@ module _ (g : Setting) (moves shares : Stmt → List ℕ) (pause : ℕ) (ready :
       where
         by : (X : Condition Plain) → t.condition 0 ≡ X → phase_in X ≡ Finished → meant.IsDone g s
         by Absent x f = absurd (cc f)
-        by (Runs d) x f = absurd (cc f)
+        by (Working d) x f = absurd (cc f)
         by (Waits stop d) x f = absurd (waiting stop f)
           where
             waiting : (stop : Stop) → phase_in {S = Plain} (Waits stop d) ≡ Finished → ⊥

@@ -7,7 +7,7 @@ use Rattle.sp_code.specs.declared.code.Parts.{Parts}
 use Rattle.sp_code.specs.Sound.{run_of}
 use Rattle.sp_judge.specs.Races.{IsVerdict}
 use Rattle.sp_kernel.specs.declared.closed.Closed.{Closed}
-use Rattle.sp_runner.specs.Ends.{Gives}
+use Rattle.sp_runner.specs.Ends.{EndsWith}
 use Rattle.sp_runner.specs.Runs.{IsRun}
 use Rattle.sp_execute.specs.declared.execution.Ran.{Ran}
 use Rattle.sp_execute.specs.Runs.{setting, IsCodeOf, IsRunOfCode, Promises, Executes}
@@ -16,7 +16,7 @@ module _ (code : Parts) (input : List ℕ) (lim : Limits) (p : Program) (moves s
   pub run_of_code : (workers : ℕ) (c : Closed) → IsRun (run_of code input lim) workers c → IsRunOfCode (setting p input lim) moves shares c
   run_of_code workers c r = record {
     ready = is.ready;
-    gives = subst (λ (x : Parts). Gives (run_of x input lim) c.journal.entries c.end c.output) is.emitted r.gives;
+    gives = subst (λ (x : Parts). EndsWith (run_of x input lim) c.journal.entries c.end c.output) is.emitted r.gives;
   }
 
   pub executed : (workers : ℕ) (e : Ran) → IsRun (run_of code input lim) workers e.closed → IsVerdict (occurrences e.closed.journal) e.closed.end e.verdict → Promises (setting p input lim) e.closed e.verdict → Executes (setting p input lim) workers e

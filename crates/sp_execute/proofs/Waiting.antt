@@ -12,7 +12,7 @@ use Rattle.sp_meaning.specs.Ends.{Waiting, waiter_of}
 use Rattle.sp_code.specs.Control.{Control, Doing, Unborn, Sending, Receiving, control_at_start}
 use Rattle.sp_code.specs.Machine.{Stop, Forks, Opens, Sends, Receives, Ends, Pauses, Config}
 use Rattle.sp_code.specs.Memory.{Memory}
-use Rattle.sp_code.specs.System.{System, Condition, Absent, Runs, Waits, Joins, Laid, Gone, Over}
+use Rattle.sp_code.specs.System.{System, Condition, Absent, Working, Waits, Joins, Laid, Gone, Over}
 use Rattle.sp_history.specs.Agreement.{phase_in}
 use Rattle.sp_link.specs.Endings.{waiting_at, WaitsAs, IsStuck, IsWaiting, with_waiting, waiting_from}
 use Rattle.sp_link.proofs.SortedWaiters.{all_waiting}
@@ -31,7 +31,7 @@ doing_at Pauses = Unborn
 abbrev doing_in : Condition Plain → Doing
 doing_in (Waits stop c) = doing_at stop
 doing_in Absent = Unborn
-doing_in (Runs c) = Unborn
+doing_in (Working c) = Unborn
 doing_in (Joins n c) = Unborn
 doing_in (Laid c) = Unborn
 doing_in Gone = Unborn
@@ -54,7 +54,7 @@ to_send b i c (Waits (Opens a) d) e = absurd (cc e)
 to_send b i c (Waits Ends d) e = absurd (cc e)
 to_send b i c (Waits Pauses d) e = absurd (cc e)
 to_send b i c Absent e = absurd (cc e)
-to_send b i c (Runs d) e = absurd (cc e)
+to_send b i c (Working d) e = absurd (cc e)
 to_send b i c (Joins n d) e = absurd (cc e)
 to_send b i c (Laid d) e = absurd (cc e)
 to_send b i c Gone e = absurd (cc e)
@@ -68,7 +68,7 @@ to_receive b i c (Waits (Opens a) d) e = absurd (cc e)
 to_receive b i c (Waits Ends d) e = absurd (cc e)
 to_receive b i c (Waits Pauses d) e = absurd (cc e)
 to_receive b i c Absent e = absurd (cc e)
-to_receive b i c (Runs d) e = absurd (cc e)
+to_receive b i c (Working d) e = absurd (cc e)
 to_receive b i c (Joins n d) e = absurd (cc e)
 to_receive b i c (Laid d) e = absurd (cc e)
 to_receive b i c Gone e = absurd (cc e)
@@ -83,7 +83,7 @@ one_more b q (Waits (Opens a) d) ws = refl
 one_more b q (Waits Ends d) ws = refl
 one_more b q (Waits Pauses d) ws = refl
 one_more b q Absent ws = refl
-one_more b q (Runs d) ws = refl
+one_more b q (Working d) ws = refl
 one_more b q (Joins n d) ws = refl
 one_more b q (Laid d) ws = refl
 one_more b q Gone ws = refl

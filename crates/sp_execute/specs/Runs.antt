@@ -17,7 +17,7 @@ use Rattle.sp_judge.specs.Races.{IsVerdict}
 use Rattle.sp_judge.specs.Runs.{IsRunVerdict}
 use Rattle.sp_kernel.specs.declared.closed.Closed.{Closed}
 use Rattle.sp_link.specs.Premises.{IsReady, run_by}
-use Rattle.sp_runner.specs.Ends.{Gives}
+use Rattle.sp_runner.specs.Ends.{EndsWith}
 use Rattle.sp_execute.specs.declared.execution.Ran.{Ran}
 
 -- a program on an input with limits
@@ -32,7 +32,7 @@ pub record IsCodeOf (g : Setting) (moves shares : Stmt → List ℕ) (code : Par
 -- the machine with the code of a program gives that end and that output along that journal
 pub record IsRunOfCode (g : Setting) (moves shares : Stmt → List ℕ) (c : Closed) : Type 0 where
   pub ready : IsReady g moves shares
-  pub gives : Gives (run_by g moves shares TURN_TICKS) c.journal.entries c.end c.output
+  pub gives : EndsWith (run_by g moves shares TURN_TICKS) c.journal.entries c.end c.output
 
 -- along the journal, which gives names, the meaning of the program is defined; the end and the output are those of its state there
 pub record IsAbout (g : Setting) (c : Closed) : Type 0 where

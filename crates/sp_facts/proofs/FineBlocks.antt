@@ -9,7 +9,7 @@ use Rattle.sp_tree.specs.Plain as plain
 use Rattle.sp_tree.specs.Plain.{Stmt, Actuals}
 use Rattle.sp_tree.specs.PlainNamed as n
 use Rattle.sp_tree.specs.PlainSyntax as syntax
-use Rattle.sp_tree.specs.Uses.{Spreads, Stops, Runs, In_stmt}
+use Rattle.sp_tree.specs.Uses.{ForallOf, Stop, CallOf, In_stmt}
 use Rattle.sp_code.specs.Quiet.{IsQuiet}
 use Rattle.sp_tree.specs.Interference.{IsFreeOfInterference}
 use Rattle.sp_code.specs.Scopes.{is_index, level, one_more, scopes_by, scopes_of, parent_of}
@@ -117,9 +117,9 @@ module _ (s : syntax.Program) (calm : names_broken s ≡ []) (no_types : types_b
 
   -- what may stand in a block, by the rules of interference
   quiet_in : (free : Bool) (f : ℕ) (c : plain.Block) → slice_get p_.blocks f ≡ Some c → Hushed (IsQuiet p_) free f → Quiet p_ m_ moves shares (IsQuiet p_) free (scopes_of p_ f) (In_stmt c.body)
-  quiet_in free f c at hushed = (by free hushed, (λ i x h. no_forall p_ f i), λ x t h y k. (free_of.blocks f c at (Spreads x t) h).1 y ([], k))
+  quiet_in free f c at hushed = (by free hushed, (λ i x h. no_forall p_ f i), λ x t h y k. (free_of.blocks f c at (ForallOf x t) h).1 y ([], k))
     where
-      by : (b : Bool) → Hushed (IsQuiet p_) b f → b ≡ false → (In_stmt c.body Stops → ⊥) × ((g : ℕ) (args : Actuals) → In_stmt c.body (Runs g args) → IsQuiet p_ g)
+      by : (b : Bool) → Hushed (IsQuiet p_) b f → b ≡ false → (In_stmt c.body Stop → ⊥) × ((g : ℕ) (args : Actuals) → In_stmt c.body (CallOf g args) → IsQuiet p_ g)
       by true h e = absurd (cc e)
       by false h e = ((λ i. h (c, at, [], i)), λ g args i (k, kat, bs, r). h (c, at, g ∷ bs, (args, i, k, kat, tt, r)))
 

@@ -29,7 +29,7 @@ use Rattle.sp_tree.specs.declared.checked.Variable as checked
 use Rattle.sp_tree.specs.declared.meaning.StandardProcedure.{StandardProcedure}
 use Rattle.sp_tree.specs.declared.meaning.StandardProcedure.TheVariants as procedure
 use Rattle.sp_tree.specs.declared.meaning.Sort.TheVariants as sort
-use Rattle.sp_tree.specs.NameRules.{Declares, Assigns, Loops, Runs, procedure_rule, procedure_takes, assign_rule, loop_rule, is_local}
+use Rattle.sp_tree.specs.NameRules.{Declares, Assigns, Loops, Calls, procedure_rule, procedure_takes, assign_rule, loop_rule, is_local}
 use Rattle.sp_tree.specs.Scopes.{Local, inside, opened, declared, most, variable, next_variable}
 use Rattle.sp_tree.specs.NameWalk.{statement_local, statements_local, other_local, arms_local, arm_local, branches_local, form_local, indexed, deeper}
 use Rattle.sp_tree.specs.NamedTree.{assigned_number, procedure_named, named_statement, named_statement_form, named_other, named_statements, named_arms, named_branches, indices, form_indices, other_indices, statements_indices, arms_indices, branches_indices}
@@ -229,8 +229,8 @@ module _ (p : plain.Program) (m : ℕ) where
       pub call_in : (f : Name) (args : Arguments) → w.call_sites [] together all_at env f args ≡ [] → InStatementForm p m sc (procedure_named (find env f.text) (of_.arguments (named_arguments env args)))
       call_in f args calm = go (find env f.text) (find_valid p m sc env f.text visible) (calm_site (procedure_rule f.at (w.count args) (find env f.text)) two.0) two.1
         where
-          two : (all_at env (Runs f (w.count args)) ≡ []) × (w.arguments_sites [] together all_at env (references_of (find env f.text)) (rest_of (find env f.text)) args ≡ [])
-          two = calm_parts (all_at env (Runs f (w.count args))) (w.arguments_sites [] together all_at env (references_of (find env f.text)) (rest_of (find env f.text)) args) calm
+          two : (all_at env (Calls f (w.count args)) ≡ []) × (w.arguments_sites [] together all_at env (references_of (find env f.text)) (rest_of (find env f.text)) args ≡ [])
+          two = calm_parts (all_at env (Calls f (w.count args))) (w.arguments_sites [] together all_at env (references_of (find env f.text)) (rest_of (find env f.text)) args) calm
 
           aims_in : (g : StandardProcedure) → w.arguments_sites [] together all_at env (references_of (Some (meaning.StandardProcedure g))) (rest_of (Some (meaning.StandardProcedure g))) args ≡ [] → AimsOf p m g (of_.arguments (named_arguments env args))
           aims_in procedure.Read c = targets_in args c

@@ -26,7 +26,7 @@ use Rattle.sp_code.specs.Stands.{FormAt, PlaceAt, ActualsAt, NoIndex, AnyInstr, 
 use Rattle.sp_facts.specs.Scoped.{InExpression}
 use Rattle.sp_facts.proofs.Calm.{calm_parts, calm_site, calm_at, calm_if, calm_unless, calm_differ, nat_eq_is}
 use Rattle.sp_tree.specs.declared.meaning.StandardProcedure.{StandardProcedure}
-use Rattle.sp_tree.specs.Uses.{Use, Aims, Spreads, Stops, Runs, In_stmt, In_stmts, In_arms}
+use Rattle.sp_tree.specs.Uses.{Use, Target, ForallOf, Stop, CallOf, In_stmt, In_stmts, In_arms}
 use Rattle.sp_code.specs.Scopes.{OfIndex, one_more}
 use Rattle.sp_code.specs.Places.{after_test, after_tests, after, after_arms}
 use Rattle.sp_types.specs.Tables.{counted, indexed}
@@ -147,23 +147,23 @@ module _ (p : Program) (m : ℕ) where
 
     -- what may stand where a function is being called, and in a forall: the rules of interference say so
     abbrev pub Quiet : Bool → List Scope → (Use → Type 0) → Type 0
-    Quiet free sc Here = (free ≡ false → (Here Stops → ⊥) × ((g : ℕ) (args : Actuals) → Here (Runs g args) → hush g)) × (IsInForall sc → (x : ℕ) → Here (Aims x) → ⊥) × ((x : ℕ) (s : Stmt) → Here (Spreads x s) → (y : ℕ) → In_stmt s (Aims y) → ⊥)
+    Quiet free sc Here = (free ≡ false → (Here Stop → ⊥) × ((g : ℕ) (args : Actuals) → Here (CallOf g args) → hush g)) × (IsInForall sc → (x : ℕ) → Here (Target x) → ⊥) × ((x : ℕ) (s : Stmt) → Here (ForallOf x s) → (y : ℕ) → In_stmt s (Target y) → ⊥)
 
     forall_part : (free : Bool) (sc : List Scope) (x : ℕ) (f t : Expr) (a : Stmt) → Quiet free sc (In_stmt (plain.Forall x f t a)) → Quiet free (OfIndex x ∷ sc) (In_stmt a)
     forall_part free sc x f t a quiet = ((λ e. (λ h. (quiet.0 e).0 (inr (inr (inr (inl (h, tt))))), λ g args h. (quiet.0 e).1 g args (inr (inr (inr (inl (h, tt))))))), (λ i y h. quiet.2 x a (inl refl) y h), λ y s h z k. quiet.2 y s (inr (inr (inr (inl (h, tt))))) z k)
 
     pub within : (free : Bool) (sc : List Scope) (All_ Here : Use → Type 0) → ((u : Use) → Here u → All_ u) → Quiet free sc All_ → Quiet free sc Here
-    within free sc All_ Here into quiet = ((λ e. (λ h. (quiet.0 e).0 (into Stops h), λ g args h. (quiet.0 e).1 g args (into (Runs g args) h))), (λ i x h. quiet.1 i x (into (Aims x) h)), λ x s h y k. quiet.2 x s (into (Spreads x s) h) y k)
+    within free sc All_ Here into quiet = ((λ e. (λ h. (quiet.0 e).0 (into Stop h), λ g args h. (quiet.0 e).1 g args (into (CallOf g args) h))), (λ i x h. quiet.1 i x (into (Target x) h)), λ x s h y k. quiet.2 x s (into (ForallOf x s) h) y k)
 
-    pub free_is : (free : Bool) (sc : List Scope) (Here : Use → Type 0) → Quiet free sc Here → Here Stops → free ≡ true
+    pub free_is : (free : Bool) (sc : List Scope) (Here : Use → Type 0) → Quiet free sc Here → Here Stop → free ≡ true
     free_is true sc Here quiet h = refl
     free_is false sc Here quiet h = absurd ((quiet.0 refl).0 h)
 
-    hushed : (free : Bool) (sc : List Scope) (Here : Use → Type 0) (f : ℕ) (args : Actuals) → Quiet free sc Here → Here (Runs f args) → Hushed hush free f
+    hushed : (free : Bool) (sc : List Scope) (Here : Use → Type 0) (f : ℕ) (args : Actuals) → Quiet free sc Here → Here (CallOf f args) → Hushed hush free f
     hushed true sc Here f args quiet h = tt
     hushed false sc Here f args quiet h = (quiet.0 refl).1 f args h
 
-    for_level : (free : Bool) (sc : List Scope) (Here : Use → Type 0) (x b : ℕ) → Quiet free sc Here → Here (Aims x) → (level (is_block b) sc ≡ Some 0) ⊎ IsInForall sc → level (is_block b) sc ≡ Some 0
+    for_level : (free : Bool) (sc : List Scope) (Here : Use → Type 0) (x b : ℕ) → Quiet free sc Here → Here (Target x) → (level (is_block b) sc ≡ Some 0) ⊎ IsInForall sc → level (is_block b) sc ≡ Some 0
     for_level free sc Here x b quiet h (inl e) = e
     for_level free sc Here x b quiet h (inr i) = absurd (quiet.1 i x h)
 

@@ -14,7 +14,7 @@ use Rattle.sp_tree.specs.Plain.{Stmt, Stmts, No, And}
 use Rattle.sp_tree.specs.NameFirst.{names_broken}
 use Rattle.sp_tree.specs.NamedTree.{program_named}
 use Rattle.sp_tree.specs.Bare.{bare_statements}
-use Rattle.sp_tree.specs.Uses.{Use, Aims, Sees, Runs, Splits, Spreads, Stops, In_stmt}
+use Rattle.sp_tree.specs.Uses.{Use, Target, Seen, CallOf, ParallelOf, ForallOf, Stop, In_stmt}
 use Rattle.sp_tree.specs.CheckedOf as of_
 use Rattle.sp_tree.specs.Sites.{SplitsAt}
 use Rattle.sp_tree.specs.Formed.{AreBefore, IsFormedUse, IsFormed}
@@ -111,12 +111,12 @@ module _ (s : syntax.Program) (calm : names_broken s ≡ []) (no_types : types_b
   module _ (filled : AreFilled n_.kinds) (split : BlocksHave AnyIndex IsSplit n_.blocks) (fine : (f : ℕ) (b : plain.Block) → slice_get p_.blocks f ≡ Some b → IsFine p_ (λ s. []) (λ s. []) (IsQuiet p_) f 0 b) where
     -- a parallel statement has a process statement
     abbrev HasProcess : Use → Type 0
-    HasProcess (Aims x) = Unit {0}
-    HasProcess (Sees x) = Unit {0}
-    HasProcess (Runs f args) = Unit {0}
-    HasProcess (Splits ss) = ss ≡ No → ⊥
-    HasProcess (Spreads x s) = Unit {0}
-    HasProcess Stops = Unit {0}
+    HasProcess (Target x) = Unit {0}
+    HasProcess (Seen x) = Unit {0}
+    HasProcess (CallOf f args) = Unit {0}
+    HasProcess (ParallelOf ss) = ss ≡ No → ⊥
+    HasProcess (ForallOf x s) = Unit {0}
+    HasProcess Stop = Unit {0}
 
     process : (ss : c.Statements) → HasPart (SplitsAt ss) → bare_statements ss ≡ No → ⊥
     process c.NoStatement h e = h
@@ -134,12 +134,12 @@ module _ (s : syntax.Program) (calm : names_broken s ≡ []) (no_types : types_b
         (subst (λ (z : plain.Block). In_stmt z.body u) (sym m.2) i)
 
     both : (u : Use) → IsGoodUse p_ (input s calm) (output s calm) (λ s. []) (λ s. []) (IsQuiet p_) u → HasProcess u → IsFormedUse p_ u
-    both (Aims x) h k = h
-    both (Sees x) h k = h
-    both (Runs f args) h k = tt
-    both (Splits ss) h k = k
-    both (Spreads x s) h k = tt
-    both Stops h k = tt
+    both (Target x) h k = h
+    both (Seen x) h k = h
+    both (CallOf f args) h k = tt
+    both (ParallelOf ss) h k = k
+    both (ForallOf x s) h k = tt
+    both Stop h k = tt
 
     uses : (f : ℕ) (b : plain.Block) → slice_get p_.blocks f ≡ Some b → (u : Use) → In_stmt b.body u → IsFormedUse p_ u
     uses f b at u i = both u (stands_uses p_ (input s calm) (output s calm) (λ s. []) (λ s. []) (IsQuiet p_) (scopes_of p_ f) 0 b.body ((fine f b at).body true tt) u i) (has_process f b at u i)

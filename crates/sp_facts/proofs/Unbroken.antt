@@ -9,7 +9,7 @@ use Rattle.sp_tree.specs.Plain as plain
 use Rattle.sp_tree.specs.NamedTree.{program_named}
 use Rattle.sp_tree.specs.NameFirst.{names_broken}
 use Rattle.sp_tree.specs.Bare.{bare_statement, bare}
-use Rattle.sp_tree.specs.Uses.{Use, Aims, Sees, Runs, Splits, Spreads, Stops, In_stmt}
+use Rattle.sp_tree.specs.Uses.{Use, Target, Seen, CallOf, ParallelOf, ForallOf, Stop, In_stmt}
 use Rattle.sp_tree.specs.Sets.{LeadsToStop}
 use Rattle.sp_tree.specs.Interference.{IsIndexOf, IsFunction, IsFreeOfInterference}
 use Rattle.sp_tree.specs.Sites.{Site, statement_sites}
@@ -35,12 +35,12 @@ module _ (g : c.Program) (calm : KeepsInterference g) where
 
   -- nor is this use
   abbrev IsQuietUse : Use → Type 0
-  IsQuietUse (Aims x) = Unit {0}
-  IsQuietUse (Sees x) = Unit {0}
-  IsQuietUse (Runs f args) = LeadsToStop (bare g) f → ⊥
-  IsQuietUse (Splits ss) = Unit {0}
-  IsQuietUse (Spreads x s) = Unit {0}
-  IsQuietUse Stops = ⊥
+  IsQuietUse (Target x) = Unit {0}
+  IsQuietUse (Seen x) = Unit {0}
+  IsQuietUse (CallOf f args) = LeadsToStop (bare g) f → ⊥
+  IsQuietUse (ParallelOf ss) = Unit {0}
+  IsQuietUse (ForallOf x s) = Unit {0}
+  IsQuietUse Stop = ⊥
 
   quiet_use : (f : ℕ) (k : c.Block) → slice_get g.blocks f ≡ Some k → IsFunction (bare g) f → (u : Use) → In_stmt (bare_statement k.body) u → IsQuietUse u
   quiet_use f k at function u i =
@@ -51,10 +51,10 @@ module _ (g : c.Program) (calm : KeepsInterference g) where
   pub function_quiet : (f x : ℕ) (b : plain.Block) → slice_get (bare g).blocks f ≡ Some b → b.answer ≡ Some x → IsQuiet (bare g) f
   function_quiet f x b at ans (k, kat, [], r) =
       let m = block_at g.blocks f k kat in
-      quiet_use f m.0 m.1 (b, x, at, ans) Stops (subst (λ (z : plain.Block). In_stmt z.body Stops) (sym m.2) r)
+      quiet_use f m.0 m.1 (b, x, at, ans) Stop (subst (λ (z : plain.Block). In_stmt z.body Stop) (sym m.2) r)
   function_quiet f x b at ans (k, kat, d ∷ ds, (args, h, next, nat, passes, r)) =
       let m = block_at g.blocks f k kat in
-      quiet_use f m.0 m.1 (b, x, at, ans) (Runs d args) (subst (λ (z : plain.Block). In_stmt z.body (Runs d args)) (sym m.2) h) (next, nat, ds, r)
+      quiet_use f m.0 m.1 (b, x, at, ans) (CallOf d args) (subst (λ (z : plain.Block). In_stmt z.body (CallOf d args)) (sym m.2) h) (next, nat, ds, r)
 
 module _ (s : syntax.Program) (calm : names_broken s ≡ []) (kept : KeepsInterference (program_checked (program_named s))) where
   abbrev g_ : c.Program

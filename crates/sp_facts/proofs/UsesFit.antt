@@ -3,7 +3,7 @@ use Rattle.std.proofs.Common.{◌≡◌, inl, inr, ℕ, List, [], ◌∷◌, ◌
 use Rattle.sp_base.specs.declared.place.Place.{Place}
 use Rattle.sp_tree.specs.PlainChecked as p
 use Rattle.sp_tree.specs.Bare.{bare_expression, bare_form, bare_variable, bare_selectors, bare_actuals, bare_width, bare_statement, bare_statements, bare_arms}
-use Rattle.sp_tree.specs.Uses.{Use, Aims, Sees, Runs, Splits, Spreads, Stops, In_expr, In_form, In_read, In_target, In_selectors, In_actuals, In_width, In_stmt, In_stmts, In_arms}
+use Rattle.sp_tree.specs.Uses.{Use, Target, Seen, CallOf, ParallelOf, ForallOf, Stop, In_expr, In_form, In_read, In_target, In_selectors, In_actuals, In_width, In_stmt, In_stmts, In_arms}
 use Rattle.sp_tree.specs.Sites.{Site, SplitsAt, SpreadsAt, CallsAt, StopsAt, expression_sites, form_sites, variable_sites, selectors_sites, actuals_sites, width_sites, statement_sites, statements_sites, arms_sites}
 use Rattle.sp_facts.specs.Each.{Each}
 
@@ -15,8 +15,8 @@ fit_right : (Fits : Site → Type 0) (xs ys : List Site) → Each Fits (xs ++ ys
 fit_right Fits [] ys h = h
 fit_right Fits (x ∷ xs) ys h = fit_right Fits xs ys h.1
 
-module _ (Fits : Site → Type 0) (Fine : Use → Type 0) (aims : (x : ℕ) → Fine (Aims x)) (sees : (x : ℕ) → Fine (Sees x)) (runs : (f : ℕ) (at : Place) (args : p.Actuals) → Fits (CallsAt f at args) → Fine (Runs f (bare_actuals args)))
-    (splits : (ss : p.Statements) → Fits (SplitsAt ss) → Fine (Splits (bare_statements ss))) (spreads : (at : Place) (x : ℕ) (s : p.Statement) → Fits (SpreadsAt at x s) → Fine (Spreads x (bare_statement s))) (stops : (at : Place) → Fits (StopsAt at) → Fine Stops) where
+module _ (Fits : Site → Type 0) (Fine : Use → Type 0) (aims : (x : ℕ) → Fine (Target x)) (sees : (x : ℕ) → Fine (Seen x)) (runs : (f : ℕ) (at : Place) (args : p.Actuals) → Fits (CallsAt f at args) → Fine (CallOf f (bare_actuals args)))
+    (splits : (ss : p.Statements) → Fits (SplitsAt ss) → Fine (ParallelOf (bare_statements ss))) (spreads : (at : Place) (x : ℕ) (s : p.Statement) → Fits (SpreadsAt at x s) → Fine (ForallOf x (bare_statement s))) (stops : (at : Place) → Fits (StopsAt at) → Fine Stop) where
   mutual
     expression_kept : (e : p.Expression) (u : Use) → Each Fits (expression_sites e) → In_expr (bare_expression e) u → Fine u
     expression_kept (p.At at k form) u h i = form_kept form u h i
@@ -57,10 +57,10 @@ module _ (Fits : Site → Type 0) (Fine : Use → Type 0) (aims : (x : ℕ) → 
   width_kept None u h i = absurd i
   width_kept (Some e) u h i = expression_kept e u h i
 
-  aim : (x : ℕ) (u : Use) → u ≡ Aims x → Fine u
+  aim : (x : ℕ) (u : Use) → u ≡ Target x → Fine u
   aim x u e = subst Fine (sym e) (aims x)
 
-  stop : (at : Place) (u : Use) → Fits (StopsAt at) → u ≡ Stops → Fine u
+  stop : (at : Place) (u : Use) → Fits (StopsAt at) → u ≡ Stop → Fine u
   stop at u h e = subst Fine (sym e) (stops at h)
 
   mutual

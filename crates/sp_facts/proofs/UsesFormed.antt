@@ -3,19 +3,20 @@ use Rattle.std.proofs.Common.{◌≡◌, inl, inr, ap, sym, ◌∙◌, subst, �
 use Rattle.sp_tree.specs.declared.checked.Role.{Role}
 use Rattle.sp_tree.specs.declared.checked.Role.TheVariants as role
 use Rattle.sp_tree.specs.Plain.{Expr, Typed, ExprForm, Number, Read, Unary, Binary, Apply, Standard, AtInput, Var, Entire, Index, Field, Selectors, Whole, Select, ByValue, ByReference, Actuals, Nothing, Pass, Program, Variable, Stmt, Empty, Assign, Call, Sequence, If, IfElse, While, Repeat, For, Case, Parallel, Forall, Assume, ReadValue, ReadLine, WriteValue, WriteText, WriteLine, Open, Send, Receive, Stmts, No, And, On, Arms, NoArm, Or}
-use Rattle.sp_tree.specs.Uses.{Use, Aims, Sees, Runs, Splits, Spreads, Stops, In_expr, In_form, In_read, In_target, In_selectors, In_actuals, In_width, In_stmt, In_stmts, In_arms}
+use Rattle.sp_tree.specs.Uses.{Use, Seen, CallOf, ParallelOf, ForallOf, Stop, In_expr, In_form, In_read, In_target, In_selectors, In_actuals, In_width, In_stmt, In_stmts, In_arms}
+use Rattle.sp_tree.specs.Uses as use_of
 use Rattle.sp_code.specs.Scopes.{Sort, Ordinals, Channels, Many, NoSort, Scope, OfIndex, sort}
 use Rattle.sp_code.specs.Places.{after_value, after_var, after_tests, after}
 use Rattle.sp_code.specs.Stands.{NoIndex, VarRole, VarAt, IsTarget, ValueAt, FormAt, PlaceAt, SelectedAt, ActualsAt, WidthAt, RightAt, StandsAt, AllAt, ChildrenAt, ArmsAt, AnyInstr, AnyTable, AnyText}
 
 module _ (p : Program) (input : (v : Variable) × (slice_get p.variables 0 ≡ Some v) × (v.role ≡ role.Console)) (output : (v : Variable) × (slice_get p.variables 1 ≡ Some v) × (v.role ≡ role.Console)) (moves shares : Stmt → List ℕ) (hush : ℕ → Type 0) where
   abbrev pub IsGoodUse : Use → Type 0
-  IsGoodUse (Aims x) = (v : Variable) × (slice_get p.variables x ≡ Some v) × (v.role ≡ role.Index → ⊥)
-  IsGoodUse (Sees x) = x ≡ 1 → ⊥
-  IsGoodUse (Runs f args) = Unit {0}
-  IsGoodUse (Splits ss) = Unit {0}
-  IsGoodUse (Spreads x s) = Unit {0}
-  IsGoodUse Stops = Unit {0}
+  IsGoodUse (use_of.Target x) = (v : Variable) × (slice_get p.variables x ≡ Some v) × (v.role ≡ role.Index → ⊥)
+  IsGoodUse (Seen x) = x ≡ 1 → ⊥
+  IsGoodUse (CallOf f args) = Unit {0}
+  IsGoodUse (ParallelOf ss) = Unit {0}
+  IsGoodUse (ForallOf x s) = Unit {0}
+  IsGoodUse Stop = Unit {0}
 
   abbrev Value : List Scope → ℕ → Expr → Type 0
   Value = ValueAt p moves shares AnyInstr AnyTable AnyText hush
@@ -57,13 +58,13 @@ module _ (p : Program) (input : (v : Variable) × (slice_get p.variables 0 ≡ S
   console_not : (r : Role) → r ≡ role.Console → r ≡ role.Index → ⊥
   console_not r c e = cc (sym c ∙ e)
 
-  of_input : (u : Use) → u ≡ Aims 0 → IsGoodUse u
+  of_input : (u : Use) → u ≡ use_of.Target 0 → IsGoodUse u
   of_input u e = subst IsGoodUse (sym e) (input.0, input.1, console_not input.0.role input.2)
 
-  of_output : (u : Use) → u ≡ Aims 1 → IsGoodUse u
+  of_output : (u : Use) → u ≡ use_of.Target 1 → IsGoodUse u
   of_output u e = subst IsGoodUse (sym e) (output.0, output.1, console_not output.0.role output.2)
 
-  of_stop : (u : Use) → u ≡ Stops → IsGoodUse u
+  of_stop : (u : Use) → u ≡ Stop → IsGoodUse u
   of_stop u e = subst IsGoodUse (sym e) tt
 
   mutual

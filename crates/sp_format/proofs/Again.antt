@@ -112,8 +112,8 @@ Parts kind.Text c r = Lacks 39 r
 Parts (kind.Sign n) c r = Stops (goes_on c) r
 
 -- there it is read as the same token
-abbrev pub Reads : Kind → List ℕ → List ℕ → Type 0
-Reads k c r = (opens_comment (c ++ r) ≡ false) × Longest k (c ++ r) r
+abbrev pub ReadsToken : Kind → List ℕ → List ℕ → Type 0
+ReadsToken k c r = (opens_comment (c ++ r) ≡ false) × Longest k (c ++ r) r
 
 letter_opens : (b : ℕ) (bs : List ℕ) → is_letter b ≡ true → opens_comment (b ∷ bs) ≡ false
 letter_opens b [] h = grind (arith, nat_tests)
@@ -128,28 +128,28 @@ quote_opens b [] h = grind (arith, nat_tests)
 quote_opens b (c ∷ bs) h = grind (arith, nat_tests)
 
 -- names and words
-word_again : (k : Kind) (b : ℕ) (bs u : List ℕ) → is_letter b ≡ true → Run is_name_byte bs u → IsWordOf (lowered (b ∷ bs) u) k → (r : List ℕ) → Stops is_name_byte r → Reads k (map lower (front (b ∷ bs) u)) r
+word_again : (k : Kind) (b : ℕ) (bs u : List ℕ) → is_letter b ≡ true → Run is_name_byte bs u → IsWordOf (lowered (b ∷ bs) u) k → (r : List ℕ) → Stops is_name_byte r → ReadsToken k (map lower (front (b ∷ bs) u)) r
 word_again k b bs u h x w r s =
     let y = low_runs x in
     let e : front (b ∷ bs) u ≡ b ∷ y.bytes = front_is (b ∷ bs) (b ∷ y.bytes) u (ap (λ l. b ∷ l) y.whole) in
     let c : List ℕ = map lower y.bytes in
     let f : lowered (lower b ∷ (c ++ r)) r ≡ lowered (b ∷ bs) u = ap (map lower) (front_is (lower b ∷ (c ++ r)) (lower b ∷ c) r refl) ∙ map_twice (b ∷ y.bytes) ∙ ap (map lower) (back_of e) in
     let l : Longest k (lower b ∷ (c ++ r)) r = longest_name (lower b ∷ (c ++ r)) (c ++ r) r (lower b) k refl (lower_letter b h) (record { is = y.again r; longest = λ other z. stops_behind c r s z }) (subst (λ v. IsWordOf v k) (back_of f) w) in
-    subst (λ v. Reads k (map lower v) r) (back_of e) (letter_opens (lower b) (c ++ r) (lower_letter b h), l)
+    subst (λ v. ReadsToken k (map lower v) r) (back_of e) (letter_opens (lower b) (c ++ r) (lower_letter b h), l)
 
-number_again : (b : ℕ) (bs u : List ℕ) → is_digit b ≡ true → Run is_digit bs u → (r : List ℕ) → Stops is_digit r → Reads kind.Number (front (b ∷ bs) u) r
+number_again : (b : ℕ) (bs u : List ℕ) → is_digit b ≡ true → Run is_digit bs u → (r : List ℕ) → Stops is_digit r → ReadsToken kind.Number (front (b ∷ bs) u) r
 number_again b bs u h x r s =
     let y = runs x in
     let e : front (b ∷ bs) u ≡ b ∷ y.bytes = front_is (b ∷ bs) (b ∷ y.bytes) u (ap (λ l. b ∷ l) y.whole) in
     let l : Longest kind.Number (b ∷ (y.bytes ++ r)) r = longest_number (b ∷ (y.bytes ++ r)) (y.bytes ++ r) r b refl h (record { is = y.again r; longest = λ other z. stops_behind y.bytes r s z }) in
-    subst (λ v. Reads kind.Number v r) (back_of e) (digit_opens b (y.bytes ++ r) h, l)
+    subst (λ v. ReadsToken kind.Number v r) (back_of e) (digit_opens b (y.bytes ++ r) h, l)
 
-text_again : (q : ℕ) (bs u : List ℕ) → q ≡ 39 → TextBody bs u → (r : List ℕ) → Lacks 39 r → Reads kind.Text (front (q ∷ bs) u) r
+text_again : (q : ℕ) (bs u : List ℕ) → q ≡ 39 → TextBody bs u → (r : List ℕ) → Lacks 39 r → ReadsToken kind.Text (front (q ∷ bs) u) r
 text_again q bs u h x r s =
     let y = texts x in
     let e : front (q ∷ bs) u ≡ q ∷ y.bytes = front_is (q ∷ bs) (q ∷ y.bytes) u (ap (λ l. q ∷ l) y.whole) in
     let l : Longest kind.Text (q ∷ (y.bytes ++ r)) r = longest_text (q ∷ (y.bytes ++ r)) (y.bytes ++ r) r q refl h (y.again r s) in
-    subst (λ v. Reads kind.Text v r) (back_of e) (quote_opens q (y.bytes ++ r) h, l)
+    subst (λ v. ReadsToken kind.Text v r) (back_of e) (quote_opens q (y.bytes ++ r) h, l)
 
 -- ---- signs
 
@@ -196,7 +196,7 @@ not_true : (b : Bool) → (b ≡ true → ⊥) → b ≡ false
 not_true true h = absurd (h refl)
 not_true false h = refl
 
-sign_again_by : (n b : ℕ) (s u : List ℕ) → slice_get signs n ≡ Some (b ∷ s) → SignForm (b ∷ s) → opens_comment (b ∷ (s ++ u)) ≡ false → (r : List ℕ) → Stops (goes_on (b ∷ s)) r → Reads (kind.Sign n) (b ∷ s) r
+sign_again_by : (n b : ℕ) (s u : List ℕ) → slice_get signs n ≡ Some (b ∷ s) → SignForm (b ∷ s) → opens_comment (b ∷ (s ++ u)) ≡ false → (r : List ℕ) → Stops (goes_on (b ∷ s)) r → ReadsToken (kind.Sign n) (b ∷ s) r
 sign_again_by n b s u h f o r g =
     let p = sign_plain b (s ++ r) (b ∷ s) r n h refl in (
       sign_opens b s r u f o g,
@@ -205,20 +205,20 @@ sign_again_by n b s u h f o r g =
           (λ m r' l x. sign_bound (b ∷ s) x.text r r' f (each_at SignForm signs m x.text signs_form x.is) g x.all),
     )
 
-sign_again : (n : ℕ) (s bs u : List ℕ) → slice_get signs n ≡ Some s → SignForm s → bs ≡ s ++ u → opens_comment bs ≡ false → (r : List ℕ) → Stops (goes_on (front bs u)) r → Reads (kind.Sign n) (front bs u) r
+sign_again : (n : ℕ) (s bs u : List ℕ) → slice_get signs n ≡ Some s → SignForm s → bs ≡ s ++ u → opens_comment bs ≡ false → (r : List ℕ) → Stops (goes_on (front bs u)) r → ReadsToken (kind.Sign n) (front bs u) r
 sign_again n [] bs u h f e o r g = absurd f
 sign_again n (b ∷ s) bs u h f e o r g =
     let same : front bs u ≡ b ∷ s = front_is bs (b ∷ s) u e in
-    subst (λ v. Reads (kind.Sign n) v r) (back_of same) (sign_again_by n b s u h f (subst (λ l. opens_comment l ≡ false) e o) r (subst (λ v. Stops (goes_on v) r) same g))
+    subst (λ v. ReadsToken (kind.Sign n) v r) (back_of same) (sign_again_by n b s u h f (subst (λ l. opens_comment l ≡ false) e o) r (subst (λ v. Stops (goes_on v) r) same g))
 
-lexeme_again : {k : Kind} {bs u : List ℕ} → opens_comment bs ≡ false → Lexeme k bs u → (r : List ℕ) → Parts k (spelled (Some k) (front bs u)) r → Reads k (spelled (Some k) (front bs u)) r
+lexeme_again : {k : Kind} {bs u : List ℕ} → opens_comment bs ≡ false → Lexeme k bs u → (r : List ℕ) → Parts k (spelled (Some k) (front bs u)) r → ReadsToken k (spelled (Some k) (front bs u)) r
 lexeme_again {u = u} o (name {bs = bs} b h x n) r s = word_again kind.Name b bs u h x n r s
 lexeme_again {u = u} o (word {bs = bs} n b h x e) r s = word_again (kind.Word n) b bs u h x e r s
 lexeme_again {u = u} o (number {bs = bs} b h x) r s = number_again b bs u h x r s
 lexeme_again {u = u} o (text {bs = bs} q h x) r s = text_again q bs u h x r s
 lexeme_again {u = u} o (sign {bs = bs} n t h e) r s = sign_again n t bs u h (each_at SignForm signs n t signs_form h) e o r s
 
-pub token_again : {k : Kind} {bs u : List ℕ} → opens_comment bs ≡ false → Longest k bs u → (r : List ℕ) → Parts k (spelled (Some k) (front bs u)) r → Reads k (spelled (Some k) (front bs u)) r
+pub token_again : {k : Kind} {bs u : List ℕ} → opens_comment bs ≡ false → Longest k bs u → (r : List ℕ) → Parts k (spelled (Some k) (front bs u)) r → ReadsToken k (spelled (Some k) (front bs u)) r
 token_again o l r s = lexeme_again o l.spelled r s
 
 -- ---- how a token begins

@@ -25,7 +25,7 @@ use Rattle.sp_tree.specs.PlainSyntax.{Program}
 use Rattle.sp_tree.specs.Breaches.{IsTree}
 use Rattle.sp_format.proofs.Walking.{one_items, to_lexis}
 use Rattle.sp_format.proofs.Neat.{clash, apart_from, program_apart}
-use Rattle.sp_format.proofs.Again.{Stops, Parts, Reads, goes_on, front_is, map_twice, comment_again, token_again, lexeme_first, First}
+use Rattle.sp_format.proofs.Again.{Stops, Parts, ReadsToken, goes_on, front_is, map_twice, comment_again, token_again, lexeme_first, First}
 
 -- ---- an item as it is spelled
 
@@ -37,7 +37,7 @@ Keeps k c = Unit {0}
 
 abbrev Good : Option Kind → List ℕ → Type 0
 Good None c = (r : List ℕ) → Comment (c ++ r) r
-Good (Some k) c = First k c × ((r : List ℕ) → Parts k c r → Reads k c r) × (spelled (Some k) c ≡ c) × Keeps k c
+Good (Some k) c = First k c × ((r : List ℕ) → Parts k c r → ReadsToken k c r) × (spelled (Some k) c ≡ c) × Keeps k c
 
 abbrev GoodAll : List Item → Type 0
 GoodAll [] = Unit {0}
@@ -406,7 +406,7 @@ ends_next (kind.Word n) c before is g h = tt
 ends_next (kind.Sign n) c before is g h = tt
 
 -- there no rule is broken
-no_breach : (k : Kind) (c r : List ℕ) → Reads k c r → Keeps k c → Ends k r → (s : Rule) → BreaksHere s (c ++ r) → ⊥
+no_breach : (k : Kind) (c r : List ℕ) → ReadsToken k c r → Keeps k c → Ends k r → (s : Rule) → BreaksHere s (c ++ r) → ⊥
 no_breach kind.Number c r y h e = fine_number y.0 y.1 (subst (λ v. digits_value 0 (map lower v) ≤ 9223372036854775807) (back_of (front_is (c ++ r) c r refl)) h) e
 no_breach kind.Name c r y h e = fine_name y.0 y.1 (omega (arith, length-append c r, h.0)) (λ n. subst (λ v. slice_get refused_words n ≢ Some (map lower v)) (back_of (front_is (c ++ r) c r refl)) (h.1 n))
 no_breach kind.Text c r y h e = other_token y.0 kind.Text y.1 (λ e. cc) (λ e. cc)

@@ -17,7 +17,7 @@ use Rattle.sp_tree.specs.PlainOf as meant
 use Rattle.sp_tree.proofs.FusedStatements.{program_fused}
 use Rattle.sp_types.specs.TypeFirst.{typed}
 use Rattle.sp_front.specs.Checks.{BreaksFirst, Checks, IsChecked, IsProgramOf, KeepsRules}
-use Rattle.sp_front.specs.Texts.{Reads}
+use Rattle.sp_front.specs.Texts.{ParsesTo}
 
 abbrev pub Passed : Result Checked Halt → Halt → Type 0
 Passed result e = (y : Halt) × (result ≡ Err y) × (y ≡ e)
@@ -25,7 +25,7 @@ Passed result e = (y : Halt) × (result ≡ Err y) × (y ≡ e)
 handed_on : (text : List ℕ) (result : Result Checked Halt) (e : Halt) → Passed result e → Checks text (Err e) → Checks text result
 handed_on text result e p h = let q : result ≡ Err e = p.1 ∙ ap Err p.2 in subst (Checks text) (back_of q) h
 
-reading_failed : (text : List ℕ) (e : Halt) → Reads text (Err e) → Checks text (Err e)
+reading_failed : (text : List ℕ) (e : Halt) → ParsesTo text (Err e) → Checks text (Err e)
 reading_failed text halt.Memory h = tt
 reading_failed text (halt.Refused r) h = inl h
 
@@ -33,7 +33,7 @@ naming_failed : (text : List ℕ) (tree : s.Program) → IsTree text tree → (e
 naming_failed text tree t halt.Memory h = tt
 naming_failed text tree t (halt.Refused r) h = inr (inl (tree, t, h))
 
-pub no_tree : (text : List ℕ) (result : Result Checked Halt) (e : Halt) → Passed result e → Reads text (Err e) → Checks text result
+pub no_tree : (text : List ℕ) (result : Result Checked Halt) (e : Halt) → Passed result e → ParsesTo text (Err e) → Checks text result
 no_tree text result e p h = handed_on text result e p (reading_failed text e h)
 
 pub no_names : (text : List ℕ) (tree : s.Program) → IsTree text tree → (result : Result Checked Halt) (e : Halt) → Passed result e → AnswersAs named.program_of (Err e) (resolved tree) → Checks text result

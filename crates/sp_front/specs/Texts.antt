@@ -8,7 +8,7 @@ use Rattle.sp_tree.specs.SyntaxOf.{program_of}
 use Rattle.sp_tree.specs.Breaches.{IsTree, IsFirstBroken}
 
 -- the answer of the reader; want of memory is free
-abbrev pub Reads : List ℕ → Result Syntax Halt → Type 0
-Reads text (Ok tree) = IsTree text (program_of tree)
-Reads text (Err (halt.Refused r)) = IsFirstBroken text r
-Reads text (Err halt.Memory) = Unit {0}
+abbrev pub ParsesTo : List ℕ → Result Syntax Halt → Type 0
+ParsesTo text (Ok tree) = IsTree text (program_of tree)
+ParsesTo text (Err (halt.Refused r)) = IsFirstBroken text r
+ParsesTo text (Err halt.Memory) = Unit {0}

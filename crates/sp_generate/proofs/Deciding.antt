@@ -6,7 +6,7 @@ use Rattle.std.proofs.lemmas.Option.{slice_get-map}
 use Rattle.sp_tree.specs.PlainChecked as c
 use Rattle.sp_tree.specs.Bare.{bare, bare_block}
 use Rattle.sp_tree.specs.Plain.{Block, Stmt}
-use Rattle.sp_tree.specs.Uses.{Use, Aims, Sees, Runs, Splits, Spreads, Stops, In_stmt}
+use Rattle.sp_tree.specs.Uses.{Use, Target, Seen, CallOf, ParallelOf, ForallOf, Stop, In_stmt}
 use Rattle.sp_tree.specs.Sets.{IsTarget, IsSeen}
 use Rattle.sp_tree.specs.Interference.{IsMember, AllDifferent}
 use Rattle.sp_tree.proofs.UsesOf.{Among, stmt_uses, stmt_among}
@@ -82,20 +82,20 @@ given_block tree b k h = go (slice_get tree.blocks b) refl
 module _ (tree : c.Program) (sets : Sets) where
   -- a use makes the variable a target, itself or by the block that it calls
   aims : ℕ → Use → Bool
-  aims x (Aims y) = x == y
-  aims x (Sees y) = false
-  aims x (Runs b args) = is_given (slice_get tree.blocks b) && has (implicit_targets_of sets b) x
-  aims x (Splits ss) = false
-  aims x (Spreads y s) = false
-  aims x Stops = false
+  aims x (Target y) = x == y
+  aims x (Seen y) = false
+  aims x (CallOf b args) = is_given (slice_get tree.blocks b) && has (implicit_targets_of sets b) x
+  aims x (ParallelOf ss) = false
+  aims x (ForallOf y s) = false
+  aims x Stop = false
 
   sees : ℕ → Use → Bool
-  sees x (Aims y) = false
-  sees x (Sees y) = x == y
-  sees x (Runs b args) = is_given (slice_get tree.blocks b) && has (implicit_expressions_of sets b) x
-  sees x (Splits ss) = false
-  sees x (Spreads y s) = false
-  sees x Stops = false
+  sees x (Target y) = false
+  sees x (Seen y) = x == y
+  sees x (CallOf b args) = is_given (slice_get tree.blocks b) && has (implicit_expressions_of sets b) x
+  sees x (ParallelOf ss) = false
+  sees x (ForallOf y s) = false
+  sees x Stop = false
 
   pub is_target : Stmt → ℕ → Bool
   is_target s x = some_use (aims x) (stmt_uses s)
@@ -105,12 +105,12 @@ module _ (tree : c.Program) (sets : Sets) where
 
   -- where all variables of a use are below
   limit : Use → ℕ
-  limit (Aims y) = y + 1
-  limit (Sees y) = y + 1
-  limit (Runs b args) = 64 * length (implicit_targets_of sets b).words + 64 * length (implicit_expressions_of sets b).words
-  limit (Splits ss) = 0
-  limit (Spreads y s) = 0
-  limit Stops = 0
+  limit (Target y) = y + 1
+  limit (Seen y) = y + 1
+  limit (CallOf b args) = 64 * length (implicit_targets_of sets b).words + 64 * length (implicit_expressions_of sets b).words
+  limit (ParallelOf ss) = 0
+  limit (ForallOf y s) = 0
+  limit Stop = 0
 
   pub limit_of : Stmt → ℕ
   limit_of s = total limit (stmt_uses s)
@@ -121,23 +121,23 @@ module _ (tree : c.Program) (sets : Sets) where
 
   aims_below : (x : ℕ) (u : Use) → limit u ≤ x → aims x u ≡ false
   unfolding aims limit
-  aims_below x (Aims y) h = ne_eqb x y (λ e. omega (arith, e, h))
-  aims_below x (Sees y) h = refl
-  aims_below x (Runs b args) h =
+  aims_below x (Target y) h = ne_eqb x y (λ e. omega (arith, e, h))
+  aims_below x (Seen y) h = refl
+  aims_below x (CallOf b args) h =
       not_true _ (λ k. let low = below_words (implicit_targets_of sets b).words x (both_true (is_given (slice_get tree.blocks b)) (has (implicit_targets_of sets b) x) k).1 in omega (arith, low, h))
-  aims_below x (Splits ss) h = refl
-  aims_below x (Spreads y s) h = refl
-  aims_below x Stops h = refl
+  aims_below x (ParallelOf ss) h = refl
+  aims_below x (ForallOf y s) h = refl
+  aims_below x Stop h = refl
 
   sees_below : (x : ℕ) (u : Use) → limit u ≤ x → sees x u ≡ false
   unfolding sees limit
-  sees_below x (Aims y) h = refl
-  sees_below x (Sees y) h = ne_eqb x y (λ e. omega (arith, e, h))
-  sees_below x (Runs b args) h =
+  sees_below x (Target y) h = refl
+  sees_below x (Seen y) h = ne_eqb x y (λ e. omega (arith, e, h))
+  sees_below x (CallOf b args) h =
       not_true _ (λ k. let low = below_words (implicit_expressions_of sets b).words x (both_true (is_given (slice_get tree.blocks b)) (has (implicit_expressions_of sets b) x) k).1 in omega (arith, low, h))
-  sees_below x (Splits ss) h = refl
-  sees_below x (Spreads y s) h = refl
-  sees_below x Stops h = refl
+  sees_below x (ParallelOf ss) h = refl
+  sees_below x (ForallOf y s) h = refl
+  sees_below x Stop h = refl
 
   over : (s : Stmt) (x : ℕ) (u : Use) → limit_of s ≤ x → Among u (stmt_uses s) → limit u ≤ x
   unfolding limit_of
@@ -154,16 +154,16 @@ module _ (tree : c.Program) (sets : Sets) where
   module _ (are : AreSets tree sets) where
     aims_is : (s : Stmt) (x : ℕ) (u : Use) → In_stmt s u → aims x u ≡ true → IsTarget (bare tree) (In_stmt s) x
     unfolding aims
-    aims_is s x (Aims y) h e = ([], subst (λ (z : ℕ). In_stmt s (Aims z)) (sym (eqb-true x y e)) h)
-    aims_is s x (Sees y) h e = absurd (true≢false (sym e))
-    aims_is s x (Runs b args) h e =
+    aims_is s x (Target y) h e = ([], subst (λ (z : ℕ). In_stmt s (Target z)) (sym (eqb-true x y e)) h)
+    aims_is s x (Seen y) h e = absurd (true≢false (sym e))
+    aims_is s x (CallOf b args) h e =
         let two = both_true (is_given (slice_get tree.blocks b)) (has (implicit_targets_of sets b) x) e in
         let k = block_given tree b two.0 in
         let i = ((are.blocks b k.0 k.1).targets x).0 two.1 in
         (b ∷ i.3.0, (args, h, i.0, i.1, i.2, i.3.1))
-    aims_is s x (Splits ss) h e = absurd (true≢false (sym e))
-    aims_is s x (Spreads y t) h e = absurd (true≢false (sym e))
-    aims_is s x Stops h e = absurd (true≢false (sym e))
+    aims_is s x (ParallelOf ss) h e = absurd (true≢false (sym e))
+    aims_is s x (ForallOf y t) h e = absurd (true≢false (sym e))
+    aims_is s x Stop h e = absurd (true≢false (sym e))
 
     pub target_told : (s : Stmt) (x : ℕ) → is_target s x ≡ true → IsTarget (bare tree) (In_stmt s) x
     unfolding is_target
@@ -171,24 +171,24 @@ module _ (tree : c.Program) (sets : Sets) where
 
     pub target_tells : (s : Stmt) (x : ℕ) → IsTarget (bare tree) (In_stmt s) x → is_target s x ≡ true
     unfolding is_target aims
-    target_tells s x ([], h) = use_finds (aims x) (stmt_uses s) (Aims x) (stmt_among s (Aims x) h) (eq-eqb x x refl)
+    target_tells s x ([], h) = use_finds (aims x) (stmt_uses s) (Target x) (stmt_among s (Target x) h) (eq-eqb x x refl)
     target_tells s x (b ∷ bs, (args, h, k, e, free, reach)) =
         let m = given_block tree b k e in
-        use_finds (aims x) (stmt_uses s) (Runs b args) (stmt_among s (Runs b args) h)
+        use_finds (aims x) (stmt_uses s) (CallOf b args) (stmt_among s (CallOf b args) h)
         (ap (λ (g : Bool). g && has (implicit_targets_of sets b) x) (ap is_given m.1) ∙ ((are.blocks b m.0 m.1).targets x).1 (k, e, free, (bs, reach)))
 
     sees_is : (s : Stmt) (x : ℕ) (u : Use) → In_stmt s u → sees x u ≡ true → IsSeen (bare tree) (In_stmt s) x
     unfolding sees
-    sees_is s x (Aims y) h e = absurd (true≢false (sym e))
-    sees_is s x (Sees y) h e = ([], subst (λ (z : ℕ). In_stmt s (Sees z)) (sym (eqb-true x y e)) h)
-    sees_is s x (Runs b args) h e =
+    sees_is s x (Target y) h e = absurd (true≢false (sym e))
+    sees_is s x (Seen y) h e = ([], subst (λ (z : ℕ). In_stmt s (Seen z)) (sym (eqb-true x y e)) h)
+    sees_is s x (CallOf b args) h e =
         let two = both_true (is_given (slice_get tree.blocks b)) (has (implicit_expressions_of sets b) x) e in
         let k = block_given tree b two.0 in
         let i = ((are.blocks b k.0 k.1).expressions x).0 two.1 in
         (b ∷ i.3.0, (args, h, i.0, i.1, i.2, i.3.1))
-    sees_is s x (Splits ss) h e = absurd (true≢false (sym e))
-    sees_is s x (Spreads y t) h e = absurd (true≢false (sym e))
-    sees_is s x Stops h e = absurd (true≢false (sym e))
+    sees_is s x (ParallelOf ss) h e = absurd (true≢false (sym e))
+    sees_is s x (ForallOf y t) h e = absurd (true≢false (sym e))
+    sees_is s x Stop h e = absurd (true≢false (sym e))
 
     pub seen_told : (s : Stmt) (x : ℕ) → is_seen s x ≡ true → IsSeen (bare tree) (In_stmt s) x
     unfolding is_seen
@@ -196,10 +196,10 @@ module _ (tree : c.Program) (sets : Sets) where
 
     pub seen_tells : (s : Stmt) (x : ℕ) → IsSeen (bare tree) (In_stmt s) x → is_seen s x ≡ true
     unfolding is_seen sees
-    seen_tells s x ([], h) = use_finds (sees x) (stmt_uses s) (Sees x) (stmt_among s (Sees x) h) (eq-eqb x x refl)
+    seen_tells s x ([], h) = use_finds (sees x) (stmt_uses s) (Seen x) (stmt_among s (Seen x) h) (eq-eqb x x refl)
     seen_tells s x (b ∷ bs, (args, h, k, e, free, reach)) =
         let m = given_block tree b k e in
-        use_finds (sees x) (stmt_uses s) (Runs b args) (stmt_among s (Runs b args) h)
+        use_finds (sees x) (stmt_uses s) (CallOf b args) (stmt_among s (CallOf b args) h)
         (ap (λ (g : Bool). g && has (implicit_expressions_of sets b) x) (ap is_given m.1) ∙ ((are.blocks b m.0 m.1).expressions x).1 (k, e, free, (bs, reach)))
 
 -- ---- lists of the numbers that fit

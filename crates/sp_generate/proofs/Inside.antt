@@ -1,7 +1,7 @@
 -- A use in the list of a statement's uses stands in the statement.
 use Rattle.std.proofs.Common.{◌≡◌, ◌≢◌, ◌⊎◌, inl, inr, ℕ, Bool, true, false, cond, not, ◌==◌, List, [], ◌∷◌, ◌++◌, Option, Some, None, refl, sym, ap, ◌∙◌, true≢false, eq-eqb}
 use Rattle.sp_tree.specs.Plain.{Expr, Typed, ExprForm, Number, Read, Unary, Binary, Apply, Standard, AtInput, Var, Entire, Index, Field, Selectors, Whole, Select, ByValue, ByReference, Actuals, Nothing, Pass, Stmt, Empty, Assign, Call, Sequence, If, IfElse, While, Repeat, For, Case, Parallel, Forall, Assume, ReadValue, ReadLine, WriteValue, WriteText, WriteLine, Open, Send, Receive, Stmts, No, And, On, Arms, NoArm, Or}
-use Rattle.sp_tree.specs.Uses.{Use, Aims, Sees, Runs, Splits, Spreads, Stops, In_expr, In_form, In_read, In_target, In_selectors, In_actuals, In_width, IsOther, In_stmt, In_stmts, In_arms}
+use Rattle.sp_tree.specs.Uses.{Use, Target, Seen, CallOf, ParallelOf, ForallOf, Stop, In_expr, In_form, In_read, In_target, In_selectors, In_actuals, In_width, IsOther, In_stmt, In_stmts, In_arms}
 use Rattle.sp_tree.proofs.UsesOf.{Among, expr_uses, form_uses, read_uses, target_uses, selectors_uses, actuals_uses, width_uses, is_other, others, stmt_uses, stmts_uses, arms_uses}
 
 -- in one list or in the other
@@ -60,12 +60,12 @@ not_equal : (x y : ℕ) → not (x == y) ≡ true → x ≢ y
 not_equal x y h e = absurd (true≢false (sym h ∙ ap not (eq-eqb x y e)))
 
 other_of : (x : ℕ) (u : Use) → is_other x u ≡ true → IsOther x u
-other_of x (Aims y) h = not_equal x y h
-other_of x (Sees y) h = not_equal x y h
-other_of x (Runs f args) h = tt
-other_of x (Splits ss) h = tt
-other_of x (Spreads y s) h = tt
-other_of x Stops h = tt
+other_of x (Target y) h = not_equal x y h
+other_of x (Seen y) h = not_equal x y h
+other_of x (CallOf f args) h = tt
+other_of x (ParallelOf ss) h = tt
+other_of x (ForallOf y s) h = tt
+other_of x Stop h = tt
 
 others_inside : (x : ℕ) (us : List Use) (u : Use) → Among u (others x us) → Among u us × IsOther x u
 others_inside x [] u h = absurd h

@@ -14,7 +14,7 @@ use Rattle.sp_code.specs.Machine.{Stop, Forks, Opens, Sends, Receives, Ends, Pau
 use Rattle.sp_code.specs.Turns.{Turn, Stopped, Faulted}
 use Rattle.sp_code.specs.Memory.{Setting, Stores, Memory, first}
 use Rattle.sp_code.specs.Control.{Control, Doing, Unborn, Ready, Out, Sending, Receiving, Joining, Laid, Ended, Gone, does, queues, offers, one_fewer, reports, comes_back, takes, behind, control_at_start}
-use Rattle.sp_code.specs.System.{System, Condition, Absent, Runs, Waits, Joins, Laid as IsLaid, Gone as HasGone, Over, event_at, event_or, event_of, fault_of, entered_now, received, sent, taken, rejoined, reported, happens, unless_fault, lays, after, store_of, config_of, counted, opening}
+use Rattle.sp_code.specs.System.{System, Condition, Absent, Working, Waits, Joins, Laid as IsLaid, Gone as HasGone, Over, event_at, event_or, event_of, fault_of, entered_now, received, sent, taken, rejoined, reported, happens, unless_fault, lays, after, store_of, config_of, counted, opening}
 use Rattle.sp_history.specs.Agreement.{Phase, Never, Running, ToSend, ToReceive, ToJoin, Down, Finished, Odd, phase, phase_in, waiting_phase, IsQueue, IsOrderly, Agrees, SamePending, waits_by, IsGot}
 use Rattle.sp_history.proofs.Queues.{number_is, at_other, both_at}
 use Rattle.sp_history.proofs.Orders.{queue_take}
@@ -42,7 +42,7 @@ waits_runs way.Receive c x e = ((λ f. absurd (cc (e, f))), (λ f. absurd (cc (e
 module _ {S : Type 0} (stores : Stores S) (g : Setting) where
   received_runs : (w : Way) (c : ℕ) (cs : List Cell) (x : Condition S) → phase (waits_by w c) ≡ phase_in x → phase_in (received stores g cs x) ≡ Running
   received_runs w c cs Absent e = absurd ((waits_runs w c Never e).1 refl)
-  received_runs w c cs (Runs d) e = refl
+  received_runs w c cs (Working d) e = refl
   received_runs w c cs (Waits (Receives ch k a) d) e = refl
   received_runs w c cs (Waits (Sends ch k bs) d) e = refl
   received_runs w c cs (Waits (Forks t v n) d) e = refl
@@ -106,11 +106,11 @@ fewer_waiting Pauses = refl
 module _ {S : Type 0} (stores : Stores S) (g : Setting) where
   fewer_system : (c : Config (Memory S)) (x : Condition S) → phase_in (rejoined stores g c x) ≡ fewer (phase_in x)
   fewer_system c Absent = refl
-  fewer_system c (Runs d) = refl
+  fewer_system c (Working d) = refl
   fewer_system c (Waits stop d) = fewer_waiting stop
   fewer_system c (Joins n (At pc st m)) = go (n == 1)
     where
-      go : (b : Bool) → phase_in (if b then Runs (At pc st (record m { store = stores.joined m.store (store_of c) })) else Joins (n - 1) (At pc st (record m { store = stores.joined m.store (store_of c) }))) ≡ (if b then Running else ToJoin (n - 1))
+      go : (b : Bool) → phase_in (if b then Working (At pc st (record m { store = stores.joined m.store (store_of c) })) else Joins (n - 1) (At pc st (record m { store = stores.joined m.store (store_of c) }))) ≡ (if b then Running else ToJoin (n - 1))
       go true = refl
       go false = refl
   fewer_system c (IsLaid d) = refl
@@ -142,10 +142,10 @@ module _ {S : Type 0} (stores : Stores S) (g : Setting) (k : Control) (s : Syste
   }
 
   agrees_open : (t : Address) (c : Config (Memory S)) → Agrees (comes_back p event.Open k) (record (happens stores g p (Opens t) c s) { births = after_event s.births p event.Open })
-  agrees_open t c = record { each = one_place Ready (Runs _) refl; births = next_births event.Open; faulted = a.faulted; pending = a.pending }
+  agrees_open t c = record { each = one_place Ready (Working _) refl; births = next_births event.Open; faulted = a.faulted; pending = a.pending }
 
   agrees_pause : (c : Config (Memory S)) → Agrees (comes_back p event.Pause k) (record (happens stores g p Pauses c s) { births = after_event s.births p event.Pause })
-  agrees_pause c = record { each = one_place Ready (Runs c) refl; births = a.births; faulted = a.faulted; pending = a.pending }
+  agrees_pause c = record { each = one_place Ready (Working c) refl; births = a.births; faulted = a.faulted; pending = a.pending }
 
   agrees_end : (c : Config (Memory S)) → Agrees (comes_back p event.End k) (record (happens stores g p Ends c s) { births = after_event s.births p event.End })
   agrees_end c = subst (λ (o : Option Birth). Agrees (record (reports (k.births.birth p) (does p Ended k)) { out = k.out - 1; births = k.births }) (record (reported stores g p c o s) { births = s.births })) (ap (λ (b : Births). b.birth p) a.births) (go (k.births.birth p) refl)
@@ -210,7 +210,7 @@ module _ {S : Type 0} (stores : Stores S) (g : Setting) (k : Control) (s : Syste
       go (Some o) (Some z) f e =
           let wz : phase (waits_by o.0 ch) ≡ phase_in (s.condition z) = sym (ap phase (h.pending ch o.1 o.0 f)) ∙ a.each o.1 ∙ ap (λ y. phase_in (s.condition y)) e in
           record {
-            each = both_at phase phase_in p Ready (Runs c) _ _ refl (subst (λ y. (q : ℕ) → phase (at_key ◌==◌ y Ready k.doing q) ≡ phase_in (at_key ◌==◌ z (received stores g cs (s.condition z)) s.condition q)) (sym e)
+            each = both_at phase phase_in p Ready (Working c) _ _ refl (subst (λ y. (q : ℕ) → phase (at_key ◌==◌ y Ready k.doing q) ≡ phase_in (at_key ◌==◌ z (received stores g cs (s.condition z)) s.condition q)) (sym e)
                 (both_at phase phase_in z Ready (received stores g cs (s.condition z)) k.doing s.condition (sym (received_runs stores g o.0 ch cs (s.condition z) wz)) a.each));
             births = a.births;
             faulted = a.faulted;
@@ -229,7 +229,7 @@ module _ {S : Type 0} (stores : Stores S) (g : Setting) (k : Control) (s : Syste
       go (Some o) (Some z) f e =
           let wz : phase (waits_by o.0 ch) ≡ phase_in (s.condition z) = sym (ap phase (h.pending ch o.1 o.0 f)) ∙ a.each o.1 ∙ ap (λ y. phase_in (s.condition y)) e in
           record {
-            each = both_at phase phase_in p Ready (Runs _) _ _ refl (subst (λ y. (q : ℕ) → phase (at_key ◌==◌ y Ready k.doing q) ≡ phase_in (at_key ◌==◌ z (received stores g [] (s.condition z)) s.condition q)) (sym e)
+            each = both_at phase phase_in p Ready (Working _) _ _ refl (subst (λ y. (q : ℕ) → phase (at_key ◌==◌ y Ready k.doing q) ≡ phase_in (at_key ◌==◌ z (received stores g [] (s.condition z)) s.condition q)) (sym e)
                 (both_at phase phase_in z Ready (received stores g [] (s.condition z)) k.doing s.condition (sym (received_runs stores g o.0 ch [] (s.condition z) wz)) a.each));
             births = a.births;
             faulted = a.faulted;
@@ -273,7 +273,7 @@ module _ {S : Type 0} (stores : Stores S) (g : Setting) (k : Control) (s : Syste
 pub agrees_start : {S : Type 0} (stores : Stores S) (g : Setting) → Agrees control_at_start (opening stores g)
 agrees_start stores g = record { each = λ q. go (q == 0); births = refl; faulted = refl; pending = λ c. tt {0} }
   where
-    go : (b : Bool) → phase (if b then Ready else Unborn) ≡ phase_in (if b then Runs (first stores g) else Absent)
+    go : (b : Bool) → phase (if b then Ready else Unborn) ≡ phase_in (if b then Working (first stores g) else Absent)
     go true = refl
     go false = refl
 

@@ -29,7 +29,7 @@ use Rattle.sp_code.specs.Memory.{Setting, Memory, memory, put_cell, put_cells, f
 use Rattle.sp_code.specs.PlainStore.{plain}
 use Rattle.sp_code.specs.Sound.{CanSplit, CanJoin, StopsAt, IsSafeSystem}
 use Rattle.sp_code.specs.Control.{Control, Out, noted, control_at_start}
-use Rattle.sp_code.specs.System.{System, Condition, Absent, Runs, Waits, Joins, Laid, Gone, Over, event_at, event_or, event_of, fault_of, entered_now, frames_of, plan_of, newborn, handing_of, child_or, table_or, on_store, received, sent, taken, rejoined, reported, happens, unless_fault, lays, after, store_in, stop_of, message_of, store_of, config_of, opening, Enters, Leads, Gives}
+use Rattle.sp_code.specs.System.{System, Condition, Absent, Working, Waits, Joins, Laid, Gone, Over, event_at, event_or, event_of, fault_of, entered_now, frames_of, plan_of, newborn, handing_of, child_or, table_or, on_store, received, sent, taken, rejoined, reported, happens, unless_fault, lays, after, store_in, stop_of, message_of, store_of, config_of, opening, Enters, Leads, Gives}
 use Rattle.sp_history.specs.Agreement.{Phase, ToJoin, phase_in, IsOrderly, Agrees, Reaches}
 use Rattle.sp_history.specs.Lines.{HasChildren}
 use Rattle.sp_history.specs.Counted.{IsCounted}
@@ -80,7 +80,7 @@ any_entries (m.Cells cs ∷ es) = (any_cells cs, any_entries es)
 any_entries (m.Link r ∷ es) = (tt, any_entries es)
 any_entries (m.Reply r ∷ es) = (tt, any_entries es)
 
-module _ (g : Setting) (s : System Plain) (q : ℕ) (c0 : Config (Memory Plain)) (runs : s.condition q ≡ Runs c0) (h : HasHolder s) (counted : IsCounted s) (born : IsBorn s.births) (safe : IsSafeSystem g s)
+module _ (g : Setting) (s : System Plain) (q : ℕ) (c0 : Config (Memory Plain)) (runs : s.condition q ≡ Working c0) (h : HasHolder s) (counted : IsCounted s) (born : IsBorn s.births) (safe : IsSafeSystem g s)
     (joins : (b : Birth) → s.births.birth q ≡ Some b → (n : ℕ) × (d : Config (Memory Plain)) × (s.condition b.parent ≡ Joins n d)) where
   abbrev moved : List Spot
   moved = (store_of c0).moved
@@ -91,7 +91,7 @@ module _ (g : Setting) (s : System Plain) (q : ℕ) (c0 : Config (Memory Plain))
   start : Mine c0
   start = go c0 runs
     where
-      go : (c : Config (Memory Plain)) → s.condition q ≡ Runs c → ConfigHas AnyChannel (Shares (h.share q) (store_of c).moved) c
+      go : (c : Config (Memory Plain)) → s.condition q ≡ Working c → ConfigHas AnyChannel (Shares (h.share q) (store_of c).moved) c
       go (At pc st n) e = (any_entries st, (h.shared.stores q n.store (ap store_in e), refl))
 
   store_is : (c : Config (Memory Plain)) → Mine c → StoreIs (h.share q) (store_of c) × ((store_of c).moved ≡ moved)
@@ -115,14 +115,14 @@ module _ (g : Setting) (s : System Plain) (q : ℕ) (c0 : Config (Memory Plain))
   receives_owned ch k a (At pc st n) i = i
 
   -- what the process becomes
-  mine : (f : ℕ → Condition Plain) → IsShared h.share h.holder f s.births.birth → f q ≡ Runs c0 → (x : Condition Plain) (p : Plain) → store_in x ≡ Some p → StoreIs (h.share q) p → p.moved ≡ moved → AimsIn x
+  mine : (f : ℕ → Condition Plain) → IsShared h.share h.holder f s.births.birth → f q ≡ Working c0 → (x : Condition Plain) (p : Plain) → store_in x ≡ Some p → StoreIs (h.share q) p → p.moved ≡ moved → AimsIn x
       → IsShared h.share h.holder (at_key ◌==◌ q x f) s.births.birth
   mine f k e x p now is same aims = one_change h.share h.holder s.births.birth f q x (store_of c0) p k (ap store_in e ∙ store_runs c0) now is same aims
 
-  still : (z : ℕ) (cs : List Cell) → at_key ◌==◌ z (received plain g cs (s.condition z)) s.condition q ≡ Runs c0
+  still : (z : ℕ) (cs : List Cell) → at_key ◌==◌ z (received plain g cs (s.condition z)) s.condition q ≡ Working c0
   still z cs = go (number_or z q)
     where
-      go : (z ≡ q) ⊎ ((z ≢ q) × (z == q ≡ false)) → at_key ◌==◌ z (received plain g cs (s.condition z)) s.condition q ≡ Runs c0
+      go : (z ≡ q) ⊎ ((z ≢ q) × (z == q ≡ false)) → at_key ◌==◌ z (received plain g cs (s.condition z)) s.condition q ≡ Working c0
       go (inl e) =
           subst (λ y. at_key ◌==◌ z (received plain g cs (s.condition z)) s.condition y ≡ received plain g cs (s.condition z)) e (at_same s.condition z (received plain g cs (s.condition z)))
           ∙ ap (received plain g cs) (ap s.condition e ∙ runs)
@@ -135,14 +135,14 @@ module _ (g : Setting) (s : System Plain) (q : ℕ) (c0 : Config (Memory Plain))
   sent_held stop ch cs c None k a = let i = store_is c k in mine s.condition h.shared runs (Waits stop c) (store_of c) (store_waits stop c) i.0 i.1 a
   sent_held stop ch cs c (Some z) k a =
       let i = store_is c k in
-      mine (at_key ◌==◌ z (received plain g cs (s.condition z)) s.condition) (received_change h.share h.holder s.births.birth g s.condition z cs h.shared) (still z cs) (Runs c) (store_of c) (store_runs c) i.0 i.1 tt
+      mine (at_key ◌==◌ z (received plain g cs (s.condition z)) s.condition) (received_change h.share h.holder s.births.birth g s.condition z cs h.shared) (still z cs) (Working c) (store_of c) (store_runs c) i.0 i.1 tt
 
   taken_held : (stop : Stop) (ch : ℕ) (a : Address) (c : Config (Memory Plain)) (o : Option ℕ) → Mine c → AimsAt Owned stop c → IsOwn (map.get (store_of c).map a.spot) → IsShared h.share h.holder (taken plain g q stop ch a c o s).condition s.births.birth
   taken_held stop ch a c None k i w = let j = store_is c k in mine s.condition h.shared runs (Waits stop c) (store_of c) (store_waits stop c) j.0 j.1 i
   taken_held stop ch a c (Some z) k i w =
       let j = store_is c k in
       let cs : List Cell = message_of plain g (stop_of (s.condition z)) in
-      mine (at_key ◌==◌ z (received plain g [] (s.condition z)) s.condition) (received_change h.share h.holder s.births.birth g s.condition z [] h.shared) (still z []) (Runs (on_store (put_cells plain a cs) c)) (put_cells plain a cs (store_of c))
+      mine (at_key ◌==◌ z (received plain g [] (s.condition z)) s.condition) (received_change h.share h.holder s.births.birth g s.condition z [] h.shared) (still z []) (Working (on_store (put_cells plain a cs) c)) (put_cells plain a cs (store_of c))
       (store_runs (on_store (put_cells plain a cs) c) ∙ ap (λ y. Some y) (store_on (put_cells plain a cs) c)) (own_is (h.share q) (store_of c) a.spot _ (target_apart (h.share q) (store_of c) a.spot j.0 w) j.0) j.1 tt
 
   -- an end
@@ -163,8 +163,8 @@ module _ (g : Setting) (s : System Plain) (q : ℕ) (c0 : Config (Memory Plain))
       back : Config (Memory Plain)
       back = on_store (λ y. plain.joined y (store_of c)) j.1
 
-      x_is : (t : Bool) → (j.0 == 1) ≡ t → x ≡ (if t then Runs back else Joins (j.0 - 1) back)
-      x_is t w = ap (rejoined plain g c) j.2 ∙ ap (λ u. if u then Runs back else Joins (j.0 - 1) back) w
+      x_is : (t : Bool) → (j.0 == 1) ≡ t → x ≡ (if t then Working back else Joins (j.0 - 1) back)
+      x_is t w = ap (rejoined plain g c) j.2 ∙ ap (λ u. if u then Working back else Joins (j.0 - 1) back) w
 
       now : (t : Bool) → (j.0 == 1) ≡ t → store_in x ≡ Some (plain.joined (store_of j.1) (store_of c))
       now true w = ap store_in (x_is true w) ∙ store_runs back ∙ ap (λ y. Some y) (store_on (λ y. plain.joined y (store_of c)) j.1)
@@ -302,7 +302,7 @@ module _ (g : Setting) (s : System Plain) (q : ℕ) (c0 : Config (Memory Plain))
       record {
         share = h.share;
         holder = h.holder;
-        shared = mine s.condition h.shared runs (Runs (on_store (put_cell plain a (cell.Channel s.births.channels)) c)) (put_cell plain a (cell.Channel s.births.channels) (store_of c))
+        shared = mine s.condition h.shared runs (Working (on_store (put_cell plain a (cell.Channel s.births.channels)) c)) (put_cell plain a (cell.Channel s.births.channels) (store_of c))
             (store_runs (on_store (put_cell plain a (cell.Channel s.births.channels)) c) ∙ ap (λ y. Some y) (store_on (put_cell plain a (cell.Channel s.births.channels)) c)) (own_is (h.share q) (store_of c) a.spot _ (target_apart (h.share q) (store_of c) a.spot j.0 w) j.0) j.1 tt;
       }
   happens_held (Sends ch n cs) d k a stops = record { share = h.share; holder = h.holder; shared = sent_held (Sends ch n cs) ch cs (entered_now d) (s.pending ch) (entered_mine d k) (entered_aims (Sends ch n cs) d a) }
@@ -314,7 +314,7 @@ module _ (g : Setting) (s : System Plain) (q : ℕ) (c0 : Config (Memory Plain))
   happens_held Ends d k a stops = end_held (entered_now d) (s.births.birth q) refl (entered_mine d k) (λ n b e w j. join_now (store_of e) d (safe.ends q n b d e stops w j))
   happens_held Pauses d k a stops =
       let i = store_is (entered_now d) (entered_mine d k) in
-      record { share = h.share; holder = h.holder; shared = mine s.condition h.shared runs (Runs (entered_now d)) (store_of (entered_now d)) (store_runs (entered_now d)) i.0 i.1 tt }
+      record { share = h.share; holder = h.holder; shared = mine s.condition h.shared runs (Working (entered_now d)) (store_of (entered_now d)) (store_runs (entered_now d)) i.0 i.1 tt }
 
   config_mine : (t : Turn (Memory Plain)) → TurnDoes AnyChannel (Shares (h.share q) moved) Owned t → Mine (config_of t)
   config_mine (Stopped stop d) k = k.1
@@ -377,11 +377,11 @@ opening_held g = record {
     only q true w e = number_is q 0 w
     only q false w e = absurd (cc e)
 
-    stores : (p : Plain) (b : Bool) → store_in (if b then Runs (first plain g) else Absent) ≡ Some p → StoreIs (if b then Holds else Lacks) p
+    stores : (p : Plain) (b : Bool) → store_in (if b then Working (first plain g) else Absent) ≡ Some p → StoreIs (if b then Holds else Lacks) p
     stores p true e = subst (StoreIs Holds) (some_store e) (subst IsOutput (sym (root_output (sizes_of (m.layout_of g.code.layouts 0)))) tt, tt)
     stores p false e = absurd (no_store e)
 
-    aims : (b : Bool) → AimsIn (if b then Runs (first plain g) else Absent)
+    aims : (b : Bool) → AimsIn (if b then Working (first plain g) else Absent)
     aims true = tt
     aims false = tt
 
@@ -390,7 +390,7 @@ opening_held g = record {
 joins_of : (n : ℕ) (x : Condition Plain) → ToJoin n ≡ phase_in x → (d : Config (Memory Plain)) × (x ≡ Joins n d)
 joins_of n (Joins k d) e = let w : k ≡ n = cc in (d, ap (λ y. Joins y d) w)
 joins_of n Absent e = absurd (cc e)
-joins_of n (Runs c) e = absurd (cc e)
+joins_of n (Working c) e = absurd (cc e)
 joins_of n (Waits (Sends c k cs) d) e = absurd (cc e)
 joins_of n (Waits (Receives c k a) d) e = absurd (cc e)
 joins_of n (Waits (Forks t v k) d) e = absurd (cc e)
@@ -474,7 +474,7 @@ module _ (g : Setting) where
   opening_counted : IsCounted (opening plain g)
   opening_counted = record { forks = λ q. omega arith; opens = λ q. omega arith; absent = λ q l. go q (q == 0) refl l }
     where
-      go : (q : ℕ) (b : Bool) → q == 0 ≡ b → 1 ≤ q → (if b then Runs (first plain g) else Absent) ≡ Absent
+      go : (q : ℕ) (b : Bool) → q == 0 ≡ b → 1 ≤ q → (if b then Working (first plain g) else Absent) ≡ Absent
       go q true e l = absurd (omega (arith, number_is q 0 e, l))
       go q false e l = refl
 

@@ -16,7 +16,7 @@ use Rattle.sp_code.specs.Machine.{Stop, Forks, Opens, Sends, Receives, Ends, Pau
 use Rattle.sp_code.specs.Memory.{Setting, Memory, put_cells}
 use Rattle.sp_code.specs.PlainStore.{plain}
 use Rattle.sp_code.specs.Sound.{CanJoin}
-use Rattle.sp_code.specs.System.{Condition, Absent, Runs, Waits, Joins, Laid, Gone, Over, store_in, store_of, on_store, received}
+use Rattle.sp_code.specs.System.{Condition, Absent, Working, Waits, Joins, Laid, Gone, Over, store_in, store_of, on_store, received}
 use Rattle.sp_history.specs.Channels.{AimsAt}
 use Rattle.sp_history.specs.Holding.{Share, Holds, Lends, Lacks, StoreIs, IsPart, Owned, AimsIn, IsShared}
 use Rattle.sp_history.proofs.Queues.{number_or, at_same, at_other}
@@ -30,7 +30,7 @@ no_store e = cc
 
 -- ---- stores of conditions
 
-pub store_runs : (c : Config (Memory Plain)) → store_in (Runs c) ≡ Some (store_of c)
+pub store_runs : (c : Config (Memory Plain)) → store_in (Working c) ≡ Some (store_of c)
 store_runs (At pc st n) = refl
 
 pub store_waits : (stop : Stop) (c : Config (Memory Plain)) → store_in (Waits stop c) ≡ Some (store_of c)
@@ -106,18 +106,18 @@ module _ (share : ℕ → Share) (holder : ℕ) (birth : ℕ → Option Birth) w
   pub received_change : (g : Setting) (f : ℕ → Condition Plain) (z : ℕ) (cs : List Cell) → IsShared share holder f birth → IsShared share holder (at_key ◌==◌ z (received plain g cs (f z)) f) birth
   received_change g f z cs h = go (f z) refl
     where
-      on : (stop : Stop) (c : Config (Memory Plain)) → f z ≡ Waits stop c → IsShared share holder (at_key ◌==◌ z (Runs c) f) birth
-      on stop c e = let w = ap store_in e ∙ store_waits stop c in one_change f z (Runs c) (store_of c) (store_of c) h w (store_runs c) (h.stores z (store_of c) w) refl tt
+      on : (stop : Stop) (c : Config (Memory Plain)) → f z ≡ Waits stop c → IsShared share holder (at_key ◌==◌ z (Working c) f) birth
+      on stop c e = let w = ap store_in e ∙ store_waits stop c in one_change f z (Working c) (store_of c) (store_of c) h w (store_runs c) (h.stores z (store_of c) w) refl tt
 
-      put : (d k : ℕ) (a : Address) (c : Config (Memory Plain)) → f z ≡ Waits (Receives d k a) c → AimsAt Owned (Receives d k a) c → IsShared share holder (at_key ◌==◌ z (Runs (on_store (put_cells plain a cs) c)) f) birth
+      put : (d k : ℕ) (a : Address) (c : Config (Memory Plain)) → f z ≡ Waits (Receives d k a) c → AimsAt Owned (Receives d k a) c → IsShared share holder (at_key ◌==◌ z (Working (on_store (put_cells plain a cs) c)) f) birth
       put d k a (At pc st n) e aims =
           let w : store_in (f z) ≡ Some n.store = ap store_in e in
           let s : StoreIs (share z) n.store = h.stores z n.store w in
-          one_change f z (Runs (on_store (put_cells plain a cs) (At pc st n))) n.store (put_cells plain a cs n.store) h w refl (own_is (share z) n.store a.spot _ (target_apart (share z) n.store a.spot s aims) s) refl tt
+          one_change f z (Working (on_store (put_cells plain a cs) (At pc st n))) n.store (put_cells plain a cs n.store) h w refl (own_is (share z) n.store a.spot _ (target_apart (share z) n.store a.spot s aims) s) refl tt
 
       go : (x : Condition Plain) → f z ≡ x → IsShared share holder (at_key ◌==◌ z (received plain g cs x) f) birth
       go Absent e = no_change f z Absent e h
-      go (Runs c) e = no_change f z (Runs c) e h
+      go (Working c) e = no_change f z (Working c) e h
       go (Waits (Receives d k a) c) e = put d k a c e (subst AimsIn e (h.aims z))
       go (Waits (Sends d k bs) c) e = on (Sends d k bs) c e
       go (Waits (Forks t v n) c) e = on (Forks t v n) c e

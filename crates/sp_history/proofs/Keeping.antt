@@ -5,7 +5,7 @@ use Rattle.std.specs.Fmt.{signed_decimal}
 use Rattle.sp_tree.specs.declared.operators.BinaryOp.{BinaryOp}
 use Rattle.sp_tree.specs.declared.operators.BinaryOp.TheVariants as op
 use Rattle.sp_tree.specs.declared.operators.UnaryOp.TheVariants as sign
-use Rattle.sp_tree.specs.Operators.{Worked, Yields, Refuses, ranged, successor, predecessor, absolute, square, is_odd, unary_op, binary_op, same_ordinal}
+use Rattle.sp_tree.specs.Operators.{Worked, Yields, Faults, ranged, successor, predecessor, absolute, square, is_odd, unary_op, binary_op, same_ordinal}
 use Rattle.sp_tree.specs.Items.{Taken, Takes, Fails as Faulty, number_in, char_in, line_length, at_line_end, padded, truth_text, byte}
 use Rattle.sp_cell.specs.declared.cell.Cell.{Cell}
 use Rattle.sp_cell.specs.declared.cell.Cell.TheVariants as cell
@@ -114,7 +114,7 @@ module _ {M : Type 0} (C : ℕ → Type 0) (I : M → Type 0) (J : Address → M
 
   k_worked : (w : Worked) (go : ℤ → One M) → ((n : ℤ) → K (go n)) → K (worked w go)
   k_worked (Yields n) go h = h n
-  k_worked (Refuses e) go h = tt
+  k_worked (Faults e) go h = tt
 
   k_ordinal : (c : Cell) (go : ℤ → One M) → ((n : ℤ) → K (go n)) → K (ordinal_in c go)
   k_ordinal cell.Undefined go h = tt

@@ -7,7 +7,7 @@ use Rattle.sp_journal.specs.Births.{Births}
 use Rattle.sp_code.specs.Machine.{Config}
 use Rattle.sp_code.specs.Memory.{Setting, Stores, Memory}
 use Rattle.sp_code.specs.Control.{Control, Doing, Ready, Out, Gone, comes_back, abandons, takes, given, noted, noted_all, front, front_of, front_while, Standing, Running, IsDone, IsDeadlock, IsFault, IsMemory, standing, entry_of, entries_of}
-use Rattle.sp_code.specs.System.{System, Runs, after, Enters, Gives, Gets, Leads, LegalFrom}
+use Rattle.sp_code.specs.System.{System, Working, after, Enters, Gives, Gets, Leads, LegalFrom}
 use Rattle.sp_code.proofs.Systems.{enters_same}
 use Rattle.sp_history.specs.Agreement.{Each, IsOrderly, Agrees, IsGot, Follows, Reaches, NoneBy}
 use Rattle.sp_history.proofs.Queues.{at_other}
@@ -129,7 +129,7 @@ module _ {S : Type 0} (stores : Stores S) (g : Setting) where
   -- ---- what is out with a worker
 
   stays_by : (v : ℕ) (give : Option ℕ) (e : Option Event) (got : Option ℕ) (k : Control) (s t : System S) → IsOrderly k → Agrees k s → Gives stores g k s v give e got t → Gets stores g (given give e got k) e got
-      → (p w : ℕ) (c : Config (Memory S)) → v ≢ w → k.doing p ≡ Out w → s.condition p ≡ Runs c → ((takes v got (given give e got k)).doing p ≡ Out w) × (t.condition p ≡ Runs c)
+      → (p w : ℕ) (c : Config (Memory S)) → v ≢ w → k.doing p ≡ Out w → s.condition p ≡ Working c → ((takes v got (given give e got k)).doing p ≡ Out w) × (t.condition p ≡ Working c)
   stays_by v give e got k s t h a i j p w c apart out runs = go give e got i j
     where
       same_worker : (d : Doing) (x y : ℕ) → d ≡ Out x → d ≡ Out y → x ≡ y
@@ -146,7 +146,7 @@ module _ {S : Type 0} (stores : Stores S) (g : Setting) where
       some_is : {x y : ℕ} → Some x ≡ Some y → x ≡ y
       some_is e = cc
 
-      go : (give : Option ℕ) (e : Option Event) (got : Option ℕ) → Gives stores g k s v give e got t → Gets stores g (given give e got k) e got → ((takes v got (given give e got k)).doing p ≡ Out w) × (t.condition p ≡ Runs c)
+      go : (give : Option ℕ) (e : Option Event) (got : Option ℕ) → Gives stores g k s v give e got t → Gets stores g (given give e got k) e got → ((takes v got (given give e got k)).doing p ≡ Out w) × (t.condition p ≡ Working c)
       go None None None i j = (left None (λ q f. absurd (cc f)), ap (λ (x : System S). x.condition p) i ∙ runs)
       go None None (Some q) i j = (taken k out (Some q) (got_of k h (Some q) (sym j)), ap (λ (x : System S). x.condition p) i ∙ runs)
       go None (Some e) got i j = absurd i
@@ -161,8 +161,8 @@ module _ {S : Type 0} (stores : Stores S) (g : Setting) where
           )
 
   -- while its worker leaves no note, a process that is out is as it was
-  pub stays : (k : Control) (s t : System S) (ns : List Note) → IsOrderly k → Agrees k s → Reaches stores g k s ns t → (p w : ℕ) (c : Config (Memory S)) → NoneBy w ns → k.doing p ≡ Out w → s.condition p ≡ Runs c
-      → ((noted_all ns k).doing p ≡ Out w) × (t.condition p ≡ Runs c)
+  pub stays : (k : Control) (s t : System S) (ns : List Note) → IsOrderly k → Agrees k s → Reaches stores g k s ns t → (p w : ℕ) (c : Config (Memory S)) → NoneBy w ns → k.doing p ≡ Out w → s.condition p ≡ Working c
+      → ((noted_all ns k).doing p ≡ Out w) × (t.condition p ≡ Working c)
   stays k s t [] h a r p w c none out runs = (out, ap (λ (x : System S). x.condition p) (sym r) ∙ runs)
   stays k s t (n ∷ ns) h a r p w c none out runs =
       let o = keeps k s r.0 n h a r.1 in

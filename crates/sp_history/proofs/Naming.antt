@@ -16,7 +16,7 @@ use Rattle.sp_code.specs.Turns.{Turn, Stopped, Faulted, IsTurn}
 use Rattle.sp_code.specs.Memory.{Setting, Memory, memory, first}
 use Rattle.sp_code.specs.PlainStore.{plain}
 use Rattle.sp_code.specs.Sound.{AreLimits}
-use Rattle.sp_code.specs.System.{System, Condition, Absent, Runs, Waits, Joins, Laid, Gone, Over, event_at, event_or, event_of, fault_of, first_fault, limit_of, clash_of, entered_now, received, sent, taken, rejoined, reported, happens, unless_fault, lays, after, config_of, opening, Leads, IsSystem}
+use Rattle.sp_code.specs.System.{System, Condition, Absent, Working, Waits, Joins, Laid, Gone, Over, event_at, event_or, event_of, fault_of, first_fault, limit_of, clash_of, entered_now, received, sent, taken, rejoined, reported, happens, unless_fault, lays, after, config_of, opening, Leads, IsSystem}
 use Rattle.sp_history.specs.Channels.{StopHas}
 use Rattle.sp_history.specs.Spoken.{IsSpoken}
 use Rattle.sp_history.specs.Counted.{IsCounted}
@@ -30,7 +30,7 @@ first_none (Some f) b e = absurd cc
 
 -- ---- counts and absent processes
 
-module _ (g : Setting) (s : System Plain) (q : ℕ) (c0 : Config (Memory Plain)) (runs : s.condition q ≡ Runs c0) (h : IsCounted s) where
+module _ (g : Setting) (s : System Plain) (q : ℕ) (c0 : Config (Memory Plain)) (runs : s.condition q ≡ Working c0) (h : IsCounted s) where
   pub there : q < s.births.processes
   there = go (number_or_less q s.births.processes)
     where
@@ -65,11 +65,11 @@ module _ (g : Setting) (s : System Plain) (q : ℕ) (c0 : Config (Memory Plain))
 
     sent_absent : (stop : Stop) (ch : ℕ) (cs : List Cell) (c : Config (Memory Plain)) (o : Option ℕ) → (sent plain g q stop ch cs c o s).condition r ≡ Absent
     sent_absent stop ch cs c None = mine (Waits stop c) s.condition gone
-    sent_absent stop ch cs c (Some z) = mine (Runs c) (at_key ◌==◌ z (received plain g cs (s.condition z)) s.condition) (at_absent z (received plain g cs (s.condition z)) s.condition (λ is. ap (received plain g cs) (ap s.condition is ∙ gone)) gone)
+    sent_absent stop ch cs c (Some z) = mine (Working c) (at_key ◌==◌ z (received plain g cs (s.condition z)) s.condition) (at_absent z (received plain g cs (s.condition z)) s.condition (λ is. ap (received plain g cs) (ap s.condition is ∙ gone)) gone)
 
     taken_absent : (stop : Stop) (ch : ℕ) (a : Address) (c : Config (Memory Plain)) (o : Option ℕ) → (taken plain g q stop ch a c o s).condition r ≡ Absent
     taken_absent stop ch a c None = mine (Waits stop c) s.condition gone
-    taken_absent stop ch a c (Some z) = mine (Runs _) (at_key ◌==◌ z (received plain g [] (s.condition z)) s.condition) (at_absent z (received plain g [] (s.condition z)) s.condition (λ is. ap (received plain g []) (ap s.condition is ∙ gone)) gone)
+    taken_absent stop ch a c (Some z) = mine (Working _) (at_key ◌==◌ z (received plain g [] (s.condition z)) s.condition) (at_absent z (received plain g [] (s.condition z)) s.condition (λ is. ap (received plain g []) (ap s.condition is ∙ gone)) gone)
 
     reported_absent : (c : Config (Memory Plain)) (o : Option Birth) → (reported plain g q c o s).condition r ≡ Absent
     reported_absent c None = mine (Over c) s.condition gone
@@ -109,7 +109,7 @@ module _ (g : Setting) (s : System Plain) (q : ℕ) (c0 : Config (Memory Plain))
   happens_counted (Opens a) c = record {
     forks = more (s.entries + 1) (omega arith) s.births.forks h.forks;
     opens = one_more s.births.opens h.opens;
-    absent = λ r l. mine r l (Runs _) s.condition (gone r l);
+    absent = λ r l. mine r l (Working _) s.condition (gone r l);
   }
   happens_counted (Sends ch k cs) c =
       let e = sent_entries (Sends ch k cs) ch cs c (s.pending ch) in
@@ -132,7 +132,7 @@ module _ (g : Setting) (s : System Plain) (q : ℕ) (c0 : Config (Memory Plain))
         opens = more (reported plain g q c (s.births.birth q) s).entries (omega (arith, e)) s.births.opens h.opens;
         absent = λ r l. reported_absent r l c (s.births.birth q);
       }
-  happens_counted Pauses c = record { forks = h.forks; opens = h.opens; absent = λ r l. mine r l (Runs c) s.condition (gone r l) }
+  happens_counted Pauses c = record { forks = h.forks; opens = h.opens; absent = λ r l. mine r l (Working c) s.condition (gone r l) }
 
   pub after_counted : (t : Turn (Memory Plain)) → IsCounted (after plain g q t s)
   after_counted t = go s.faulted
@@ -177,7 +177,7 @@ module _ (g : Setting) (lim : AreLimits g.limits) where
   gives_numbers s q Ends h k e = tt {0}
   gives_numbers s q Pauses h k e = tt {0}
 
-  turn_numbers : (s : System Plain) (q : ℕ) (c : Config (Memory Plain)) (t : Turn (Memory Plain)) → IsCounted s → IsSpoken s → s.condition q ≡ Runs c → IsTurn (memory plain g) g.code c t → GivesNumbers s.births q (event_of g.limits s t)
+  turn_numbers : (s : System Plain) (q : ℕ) (c : Config (Memory Plain)) (t : Turn (Memory Plain)) → IsCounted s → IsSpoken s → s.condition q ≡ Working c → IsTurn (memory plain g) g.code c t → GivesNumbers s.births q (event_of g.limits s t)
   turn_numbers s q c t h k e turn = go s.faulted
     where
       by_fault : (o : Option Fault) → fault_of g.limits s t ≡ o → (x : Turn (Memory Plain)) → t ≡ x → GivesNumbers s.births q (event_or o x)
@@ -204,7 +204,7 @@ module _ (g : Setting) (lim : AreLimits g.limits) where
   opening_counted : IsCounted (opening plain g)
   opening_counted = record { forks = λ q. omega arith; opens = λ q. omega arith; absent = λ q l. go q (q == 0) refl l }
     where
-      go : (q : ℕ) (b : Bool) → q == 0 ≡ b → 1 ≤ q → (if b then Runs (first plain g) else Absent) ≡ Absent
+      go : (q : ℕ) (b : Bool) → q == 0 ≡ b → 1 ≤ q → (if b then Working (first plain g) else Absent) ≡ Absent
       go q true e l = absurd (omega (arith, number_is q 0 e, l))
       go q false e l = refl
 

@@ -19,7 +19,7 @@ use Rattle.sp_code.specs.Machine.{Stop, Forks, Opens, Sends, Receives, Ends, Pau
 use Rattle.sp_code.specs.Turns.{Turn, Stopped, Faulted, IsTurn}
 use Rattle.sp_code.specs.Memory.{Setting, Memory, memory, cells_at, sizes_of, first, put_cells}
 use Rattle.sp_code.specs.PlainStore.{plain}
-use Rattle.sp_code.specs.System.{System, Condition, Absent, Runs, Waits, Joins, Laid, Gone, Over, event_at, event_or, fault_of, entered_now, frames_of, plan_of, newborn, handing_of, child_or, table_or, on_store, received, sent, taken, rejoined, reported, happens, unless_fault, lays, after, stop_of, message_of, store_of, config_of, opening, Enters, Leads, IsSystem}
+use Rattle.sp_code.specs.System.{System, Condition, Absent, Working, Waits, Joins, Laid, Gone, Over, event_at, event_or, fault_of, entered_now, frames_of, plan_of, newborn, handing_of, child_or, table_or, on_store, received, sent, taken, rejoined, reported, happens, unless_fault, lays, after, stop_of, message_of, store_of, config_of, opening, Enters, Leads, IsSystem}
 use Rattle.sp_history.specs.Channels.{CellHas, CellsHave, EntriesHave, StopHas, StoreHas, ConfigHas, TurnHas}
 use Rattle.sp_history.specs.Spoken.{Keeps, ConditionHas, IsSpoken}
 use Rattle.sp_history.proofs.Queues.{number_is}
@@ -61,7 +61,7 @@ module _ (C D : ℕ → Type 0) (weaker : (c : ℕ) → C c → D c) where
 
   condition_weak : (q : ℕ) (x : Condition Plain) → ConditionHas C q x → ConditionHas D q x
   condition_weak q Absent h = tt
-  condition_weak q (Runs c) h = config_weak q c h
+  condition_weak q (Working c) h = config_weak q c h
   condition_weak q (Waits stop c) h = (stop_weak stop h.0, config_weak q c h.1)
   condition_weak q (Joins n c) h = config_weak q c h
   condition_weak q (Laid c) h = config_weak q c h
@@ -102,7 +102,7 @@ module _ (g : Setting) (C : ℕ → Type 0) where
 
   received_has : (q : ℕ) (cs : List Cell) (x : Condition Plain) → CellsHave C cs → Has q x → Has q (received plain g cs x)
   received_has q cs Absent k h = tt
-  received_has q cs (Runs c) k h = h
+  received_has q cs (Working c) k h = h
   received_has q cs (Waits (Receives d j a) c) k h = on_has q _ c (λ w. puts_has g C q a cs (store_of c) w k) h.1
   received_has q cs (Waits (Sends d j bs) c) k h = h.1
   received_has q cs (Waits (Forks t v n) c) k h = h.1
@@ -124,7 +124,7 @@ module _ (g : Setting) (C : ℕ → Type 0) where
 
   message_has : (q : ℕ) (x : Condition Plain) → Has q x → CellsHave C (message_of plain g (stop_of x))
   message_has q Absent h = tt
-  message_has q (Runs c) h = tt
+  message_has q (Working c) h = tt
   message_has q (Waits stop c) h = stop_message stop h.0
   message_has q (Joins n c) h = tt
   message_has q (Laid c) h = tt
@@ -133,7 +133,7 @@ module _ (g : Setting) (C : ℕ → Type 0) where
 
   rejoined_has : (p q : ℕ) (c : Config (Memory Plain)) (x : Condition Plain) → Mine p c → Has q x → Has q (rejoined plain g c x)
   rejoined_has p q c Absent k h = tt
-  rejoined_has p q c (Runs d) k h = h
+  rejoined_has p q c (Working d) k h = h
   rejoined_has p q c (Waits stop d) k h = h
   rejoined_has p q c (Joins n d) k h = go (n == 1)
     where
@@ -143,7 +143,7 @@ module _ (g : Setting) (C : ℕ → Type 0) where
       w : Mine q e
       w = on_has q _ d (λ x. taken_has C (store_of c).map (store_of c).moved (store_of d).map (store_has p c k) x) h
 
-      go : (b : Bool) → Has q (if b then Runs e else Joins (n - 1) e)
+      go : (b : Bool) → Has q (if b then Working e else Joins (n - 1) e)
       go true = w
       go false = w
   rejoined_has p q c (Laid d) k h = h
@@ -153,12 +153,12 @@ module _ (g : Setting) (C : ℕ → Type 0) where
   module _ (s : System Plain) (q : ℕ) (each : (r : ℕ) → Has r (s.condition r)) where
     sent_has : (stop : Stop) (ch : ℕ) (cs : List Cell) (c : Config (Memory Plain)) (o : Option ℕ) → StopHas C stop → CellsHave C cs → Mine q c → (r : ℕ) → Has r ((sent plain g q stop ch cs c o s).condition r)
     sent_has stop ch cs c None w k h = at_has q (Waits stop c) s.condition (w, h) each
-    sent_has stop ch cs c (Some z) w k h = at_has q (Runs c) _ h (at_has z (received plain g cs (s.condition z)) s.condition (received_has z cs (s.condition z) k (each z)) each)
+    sent_has stop ch cs c (Some z) w k h = at_has q (Working c) _ h (at_has z (received plain g cs (s.condition z)) s.condition (received_has z cs (s.condition z) k (each z)) each)
 
     taken_by : (stop : Stop) (ch : ℕ) (a : Address) (c : Config (Memory Plain)) (o : Option ℕ) → StopHas C stop → Mine q c → (r : ℕ) → Has r ((taken plain g q stop ch a c o s).condition r)
     taken_by stop ch a c None w h = at_has q (Waits stop c) s.condition (w, h) each
     taken_by stop ch a c (Some z) w h =
-        at_has q (Runs (on_store (put_cells plain a (message_of plain g (stop_of (s.condition z)))) c)) _
+        at_has q (Working (on_store (put_cells plain a (message_of plain g (stop_of (s.condition z)))) c)) _
         (on_has q _ c (λ x. puts_has g C q a (message_of plain g (stop_of (s.condition z))) (store_of c) x (message_has z (s.condition z) (each z))) h)
         (at_has z (received plain g [] (s.condition z)) s.condition (received_has z [] (s.condition z) tt (each z)) each)
 
@@ -172,7 +172,7 @@ module _ (g : Setting) (C : ℕ → Type 0) where
         child : ChildTable
         child = child_or (child_at (table_or (slice_get g.code.forks t)) (r - s.births.processes))
 
-        go : (b : Bool) → Has r (cond b (Runs (newborn plain g c v r (r - s.births.processes) child)) (at_key ◌==◌ q (Joins n (on_store (λ m. plain.handed m (plan_of plain g c t v n)) c)) s.condition r))
+        go : (b : Bool) → Has r (cond b (Working (newborn plain g c v r (r - s.births.processes) child)) (at_key ◌==◌ q (Joins n (on_store (λ m. plain.handed m (plan_of plain g c t v n)) c)) s.condition r))
         go true = newborn_has q c v r (r - s.births.processes) child h
         go false = at_has q (Joins n (on_store (λ m. plain.handed m (plan_of plain g c t v n)) c)) s.condition (on_has q _ c (λ x. handed_has C (store_of c).map (plan_of plain g c t v n) x) h) each r
 
@@ -187,11 +187,11 @@ module _ (g : Setting) (C : ℕ → Type 0) where
 
     happens_has : (stop : Stop) (c : Config (Memory Plain)) → StopHas C stop → Mine q c → Opening stop → (r : ℕ) → Has r ((happens plain g q stop c s).condition r)
     happens_has (Forks t v n) c w h o r = forked_has t v n c h r
-    happens_has (Opens a) c w h o r = at_has q (Runs _) s.condition (on_has q _ c (λ x. put_has g C q a (cell.Channel s.births.channels) (store_of c) x o) h) each r
+    happens_has (Opens a) c w h o r = at_has q (Working _) s.condition (on_has q _ c (λ x. put_has g C q a (cell.Channel s.births.channels) (store_of c) x o) h) each r
     happens_has (Sends ch k cs) c w h o r = sent_has (Sends ch k cs) ch cs c (s.pending ch) w w.1 h r
     happens_has (Receives ch k a) c w h o r = taken_by (Receives ch k a) ch a c (s.pending ch) w h r
     happens_has Ends c w h o r = reported_has c (s.births.birth q) h r
-    happens_has Pauses c w h o r = at_has q (Runs c) s.condition h each r
+    happens_has Pauses c w h o r = at_has q (Working c) s.condition h each r
 
     lays_has : (c : Config (Memory Plain)) → Mine q c → (r : ℕ) → Has r ((lays plain g q c s).condition r)
     lays_has c h = at_has q (Laid c) s.condition h each
@@ -248,7 +248,7 @@ module _ (g : Setting) where
       go true = laid event.Laid (config_of t) (config_has t k)
       go false = by_fault (fault_of g.limits s t) t k
 
-  pub turn_spoken : (s : System Plain) (q : ℕ) (c : Config (Memory Plain)) (t : Turn (Memory Plain)) → IsSpoken s → s.condition q ≡ Runs c → IsTurn (memory plain g) g.code c t → TurnHas (λ c. c < s.births.channels) (Keeps (λ c. c < s.births.channels) q) t
+  pub turn_spoken : (s : System Plain) (q : ℕ) (c : Config (Memory Plain)) (t : Turn (Memory Plain)) → IsSpoken s → s.condition q ≡ Working c → IsTurn (memory plain g) g.code c t → TurnHas (λ c. c < s.births.channels) (Keeps (λ c. c < s.births.channels) q) t
   turn_spoken s q c t h e turn =
       turn_has (memory plain g) g.code (λ c. c < s.births.channels) (Keeps (λ c. c < s.births.channels) q) (keeping g (λ c. c < s.births.channels) q) c t (subst (ConditionHas (λ c. c < s.births.channels) q) e (h q)) turn
 
@@ -262,7 +262,7 @@ module _ (g : Setting) where
   pub opening_spoken : IsSpoken (opening plain g)
   opening_spoken q = go (q == 0) refl
     where
-      go : (b : Bool) → q == 0 ≡ b → ConditionHas (λ c. c < 0) q (if b then Runs (first plain g) else Absent)
+      go : (b : Bool) → q == 0 ≡ b → ConditionHas (λ c. c < 0) q (if b then Working (first plain g) else Absent)
       go true e = (tt, (sym (number_is q 0 e), root_has (λ c. c < 0) (sizes_of (m.layout_of g.code.layouts 0))))
       go false e = tt
 
@@ -270,5 +270,5 @@ module _ (g : Setting) where
   system_spoken es s l = leads_spoken (opening plain g) es s opening_spoken l
 
   -- an offer speaks of a channel that is there
-  pub offer_there : (es : List Entry) (s : System Plain) (q : ℕ) (c d : Config (Memory Plain)) (stop : Stop) → IsSystem plain g es s → s.condition q ≡ Runs c → IsTurn (memory plain g) g.code c (Stopped stop d) → StopHas (λ c. c < s.births.channels) stop
+  pub offer_there : (es : List Entry) (s : System Plain) (q : ℕ) (c d : Config (Memory Plain)) (stop : Stop) → IsSystem plain g es s → s.condition q ≡ Working c → IsTurn (memory plain g) g.code c (Stopped stop d) → StopHas (λ c. c < s.births.channels) stop
   offer_there es s q c d stop l e turn = (turn_spoken s q c (Stopped stop d) (system_spoken es s l) e turn).0

@@ -18,7 +18,7 @@ use Rattle.sp_code.specs.Machine.{Config}
 use Rattle.sp_code.specs.Memory.{Memory, Frame}
 use Rattle.sp_code.specs.PlainStore.{plain}
 use Rattle.sp_code.specs.Sound.{CanSplit}
-use Rattle.sp_code.specs.System.{Condition, Runs, Joins, store_in, store_of, handing_of, child_or, plan_from}
+use Rattle.sp_code.specs.System.{Condition, Working, Joins, store_in, store_of, handing_of, child_or, plan_from}
 use Rattle.sp_history.specs.Holding.{Share, Holds, Lends, Lacks, StoreIs, IsPart, AimsIn, IsShared}
 use Rattle.sp_history.proofs.Queues.{itself, number_or, at_same, at_other}
 use Rattle.sp_history.proofs.Outputs.{not_output, output_known}
@@ -116,16 +116,16 @@ module _ (share : ℕ → Share) (holder : ℕ) (birth : ℕ → Option Birth) (
     (e : Config (Memory Plain)) (p p0 : Plain) (hs : List Handing) (not_q : nx q ≡ false) (there : (r : ℕ) (t : Plain) → store_in (f r) ≡ Some t → nx r ≡ false) (old : (r : ℕ) (d : Birth) → birth r ≡ Some d → nx d.parent ≡ false) (mine : (r : ℕ) → (made r).parent ≡ q)
     (was : store_in (f q) ≡ Some p0) (is : StoreIs (share q) p) (moved : p.moved ≡ p0.moved) (can : CanSplit p hs) (left : store_of e ≡ plain.handed p hs) (kids : (r : ℕ) → store_of (child r) ≡ plain.child p (H r)) where
   abbrev after_fork : ℕ → Condition Plain
-  after_fork r = cond (nx r) (Runs (child r)) (at_key ◌==◌ q (Joins n e) f r)
+  after_fork r = cond (nx r) (Working (child r)) (at_key ◌==◌ q (Joins n e) f r)
 
   abbrev births_then : ℕ → Option Birth
   births_then r = cond (nx r) (Some (made r)) (birth r)
 
-  new_is : (r : ℕ) → nx r ≡ true → after_fork r ≡ Runs (child r)
-  new_is r w = ap (λ b. cond b (Runs (child r)) (at_key ◌==◌ q (Joins n e) f r)) w
+  new_is : (r : ℕ) → nx r ≡ true → after_fork r ≡ Working (child r)
+  new_is r w = ap (λ b. cond b (Working (child r)) (at_key ◌==◌ q (Joins n e) f r)) w
 
   old_is : (r : ℕ) → nx r ≡ false → after_fork r ≡ at_key ◌==◌ q (Joins n e) f r
-  old_is r w = ap (λ b. cond b (Runs (child r)) (at_key ◌==◌ q (Joins n e) f r)) w
+  old_is r w = ap (λ b. cond b (Working (child r)) (at_key ◌==◌ q (Joins n e) f r)) w
 
   self_is : after_fork q ≡ Joins n e
   self_is = old_is q not_q ∙ at_same f q (Joins n e)

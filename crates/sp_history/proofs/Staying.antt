@@ -13,7 +13,7 @@ use Rattle.sp_code.specs.Machine.{Stop, Forks, Opens, Sends, Receives, Ends, Pau
 use Rattle.sp_code.specs.Turns.{Turn, Stopped, Faulted}
 use Rattle.sp_code.specs.Memory.{Setting, Stores, Memory}
 use Rattle.sp_code.specs.Control.{Control, Doing, Unborn, Ready, Out, Sending, Receiving, Joining, Laid, Ended, Gone, does, queues, offers, one_fewer, reports, comes_back}
-use Rattle.sp_code.specs.System.{System, Condition, Runs, Waits, Joins, Laid as IsLaid, Gone as HasGone, Over, fault_of, entered_now, received, sent, taken, rejoined, reported, happens, unless_fault, lays, after, config_of}
+use Rattle.sp_code.specs.System.{System, Condition, Working, Waits, Joins, Laid as IsLaid, Gone as HasGone, Over, fault_of, entered_now, received, sent, taken, rejoined, reported, happens, unless_fault, lays, after, config_of}
 use Rattle.sp_history.specs.Agreement.{IsOrderly, waits_by}
 use Rattle.sp_history.proofs.Queues.{number_or, at_same, at_other}
 use Rattle.sp_history.proofs.Orders.{there_of, next_not}
@@ -21,50 +21,50 @@ use Rattle.sp_history.proofs.Orders.{there_of, next_not}
 -- ---- the system
 
 module _ {S : Type 0} (stores : Stores S) (g : Setting) where
-  same_at : (z p : ℕ) (x : Condition S) (m : ℕ → Condition S) (c : Config (Memory S)) → (z ≡ p → x ≡ Runs c) → m p ≡ Runs c → at_key ◌==◌ z x m p ≡ Runs c
+  same_at : (z p : ℕ) (x : Condition S) (m : ℕ → Condition S) (c : Config (Memory S)) → (z ≡ p → x ≡ Working c) → m p ≡ Working c → at_key ◌==◌ z x m p ≡ Working c
   same_at z p x m c e h = go (number_or z p)
     where
-      go : (z ≡ p) ⊎ ((z ≢ p) × (z == p ≡ false)) → at_key ◌==◌ z x m p ≡ Runs c
+      go : (z ≡ p) ⊎ ((z ≢ p) × (z == p ≡ false)) → at_key ◌==◌ z x m p ≡ Working c
       go (inl is) = subst (λ y. at_key ◌==◌ z x m y ≡ x) is (at_same m z x) ∙ e is
       go (inr o) = at_other m z p x o.0 ∙ h
 
-  module _ (s : System S) (p q : ℕ) (c : Config (Memory S)) (runs : s.condition p ≡ Runs c) (there : p < s.births.processes) (apart : q ≢ p) where
-    received_same : (cs : List Cell) (z : ℕ) → z ≡ p → received stores g cs (s.condition z) ≡ Runs c
+  module _ (s : System S) (p q : ℕ) (c : Config (Memory S)) (runs : s.condition p ≡ Working c) (there : p < s.births.processes) (apart : q ≢ p) where
+    received_same : (cs : List Cell) (z : ℕ) → z ≡ p → received stores g cs (s.condition z) ≡ Working c
     received_same cs z e = ap (received stores g cs) (ap s.condition e ∙ runs)
 
-    sent_same : (stop : Stop) (ch : ℕ) (cs : List Cell) (d : Config (Memory S)) (o : Option ℕ) → (sent stores g q stop ch cs d o s).condition p ≡ Runs c
+    sent_same : (stop : Stop) (ch : ℕ) (cs : List Cell) (d : Config (Memory S)) (o : Option ℕ) → (sent stores g q stop ch cs d o s).condition p ≡ Working c
     sent_same stop ch cs d None = same_at q p (Waits stop d) s.condition c (λ e. absurd (apart e)) runs
-    sent_same stop ch cs d (Some z) = same_at q p (Runs d) (at_key ◌==◌ z (received stores g cs (s.condition z)) s.condition) c (λ e. absurd (apart e)) (same_at z p (received stores g cs (s.condition z)) s.condition c (received_same cs z) runs)
+    sent_same stop ch cs d (Some z) = same_at q p (Working d) (at_key ◌==◌ z (received stores g cs (s.condition z)) s.condition) c (λ e. absurd (apart e)) (same_at z p (received stores g cs (s.condition z)) s.condition c (received_same cs z) runs)
 
-    taken_same : (stop : Stop) (ch : ℕ) (a : Address) (d : Config (Memory S)) (o : Option ℕ) → (taken stores g q stop ch a d o s).condition p ≡ Runs c
+    taken_same : (stop : Stop) (ch : ℕ) (a : Address) (d : Config (Memory S)) (o : Option ℕ) → (taken stores g q stop ch a d o s).condition p ≡ Working c
     taken_same stop ch a d None = same_at q p (Waits stop d) s.condition c (λ e. absurd (apart e)) runs
-    taken_same stop ch a d (Some z) = same_at q p (Runs _) (at_key ◌==◌ z (received stores g [] (s.condition z)) s.condition) c (λ e. absurd (apart e)) (same_at z p (received stores g [] (s.condition z)) s.condition c (received_same [] z) runs)
+    taken_same stop ch a d (Some z) = same_at q p (Working _) (at_key ◌==◌ z (received stores g [] (s.condition z)) s.condition) c (λ e. absurd (apart e)) (same_at z p (received stores g [] (s.condition z)) s.condition c (received_same [] z) runs)
 
-    reported_same : (d : Config (Memory S)) (o : Option Birth) → (reported stores g q d o s).condition p ≡ Runs c
+    reported_same : (d : Config (Memory S)) (o : Option Birth) → (reported stores g q d o s).condition p ≡ Working c
     reported_same d None = same_at q p (Over d) s.condition c (λ e. absurd (apart e)) runs
     reported_same d (Some b) = same_at b.parent p _ (at_key ◌==◌ q HasGone s.condition) c (λ e. ap (rejoined stores g d) (ap s.condition e ∙ runs)) (same_at q p HasGone s.condition c (λ e. absurd (apart e)) runs)
 
-    happens_same : (stop : Stop) (d : Config (Memory S)) → (happens stores g q stop d s).condition p ≡ Runs c
+    happens_same : (stop : Stop) (d : Config (Memory S)) → (happens stores g q stop d s).condition p ≡ Working c
     happens_same (Forks t v n) d = rw (next_not s.births n p there) (same_at q p (Joins n _) s.condition c (λ e. absurd (apart e)) runs)
-    happens_same (Opens a) d = same_at q p (Runs _) s.condition c (λ e. absurd (apart e)) runs
+    happens_same (Opens a) d = same_at q p (Working _) s.condition c (λ e. absurd (apart e)) runs
     happens_same (Sends ch k cs) d = sent_same (Sends ch k cs) ch cs d (s.pending ch)
     happens_same (Receives ch k a) d = taken_same (Receives ch k a) ch a d (s.pending ch)
     happens_same Ends d = reported_same d (s.births.birth q)
-    happens_same Pauses d = same_at q p (Runs d) s.condition c (λ e. absurd (apart e)) runs
+    happens_same Pauses d = same_at q p (Working d) s.condition c (λ e. absurd (apart e)) runs
 
-    lays_same : (d : Config (Memory S)) → (lays stores g q d s).condition p ≡ Runs c
+    lays_same : (d : Config (Memory S)) → (lays stores g q d s).condition p ≡ Working c
     lays_same d = same_at q p (IsLaid d) s.condition c (λ e. absurd (apart e)) runs
 
     -- a process that runs is as it was after the turn of another
-    pub after_same : (turn : Turn (Memory S)) → (after stores g q turn s).condition p ≡ Runs c
+    pub after_same : (turn : Turn (Memory S)) → (after stores g q turn s).condition p ≡ Working c
     after_same turn = go s.faulted
       where
-        by_fault : (o : Option Fault) (t : Turn (Memory S)) → (unless_fault stores g o q t s).condition p ≡ Runs c
+        by_fault : (o : Option Fault) (t : Turn (Memory S)) → (unless_fault stores g o q t s).condition p ≡ Working c
         by_fault (Some f) t = lays_same (config_of t)
         by_fault None (Faulted f d) = lays_same d
         by_fault None (Stopped stop d) = happens_same stop (entered_now d)
 
-        go : (b : Bool) → (if b then lays stores g q (config_of turn) s else unless_fault stores g (fault_of g.limits s turn) q turn s).condition p ≡ Runs c
+        go : (b : Bool) → (if b then lays stores g q (config_of turn) s else unless_fault stores g (fault_of g.limits s turn) q turn s).condition p ≡ Working c
         go true = lays_same (config_of turn)
         go false = by_fault (fault_of g.limits s turn) turn
 

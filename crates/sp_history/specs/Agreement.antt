@@ -8,7 +8,7 @@ use Rattle.sp_journal.specs.declared.entry.Note.{Note}
 use Rattle.sp_code.specs.Memory.{Setting, Stores}
 use Rattle.sp_code.specs.Machine.{Stop, Forks, Opens, Sends, Receives, Ends, Pauses}
 use Rattle.sp_code.specs.Control.{Control, Doing, Unborn, Ready, Out, Sending, Receiving, Joining, Laid, Ended, Gone, given, noted, standing, Running as Going}
-use Rattle.sp_code.specs.System.{System, Condition, Absent, Runs, Waits, Joins, Laid as IsLaid, Gone as HasGone, Over, Gives, Gets}
+use Rattle.sp_code.specs.System.{System, Condition, Absent, Working, Waits, Joins, Laid as IsLaid, Gone as HasGone, Over, Gives, Gets}
 
 -- what both tell of a process
 pub data Phase : Type 0 where
@@ -45,7 +45,7 @@ waiting_phase Pauses = Odd
 -- what the system tells
 abbrev pub phase_in : {S : Type 0} → Condition S → Phase
 phase_in Absent = Never
-phase_in (Runs c) = Running
+phase_in (Working c) = Running
 phase_in (Waits stop c) = waiting_phase stop
 phase_in (Joins n c) = ToJoin n
 phase_in (IsLaid c) = Down

@@ -8,7 +8,7 @@ use Rattle.sp_cell.specs.Spots.{In}
 use Rattle.sp_journal.specs.declared.entry.Birth.{Birth}
 use Rattle.sp_code.specs.Memory.{Memory}
 use Rattle.sp_code.specs.PlainStore.{plain}
-use Rattle.sp_code.specs.System.{System, Condition, Absent, Runs, Waits, Joins, Laid, Gone, Over, store_in}
+use Rattle.sp_code.specs.System.{System, Condition, Absent, Working, Waits, Joins, Laid, Gone, Over, store_in}
 use Rattle.sp_history.specs.Agreement.{Each}
 use Rattle.sp_history.specs.Channels.{AimsAt}
 
@@ -41,7 +41,7 @@ Owned a n = IsOwn (map.get n.store.map a.spot)
 -- who waits for a message has a piece of its own for it
 abbrev pub AimsIn : Condition Plain → Type 0
 AimsIn Absent = Unit {0}
-AimsIn (Runs c) = Unit {0}
+AimsIn (Working c) = Unit {0}
 AimsIn (Waits stop c) = AimsAt Owned stop c
 AimsIn (Joins left c) = Unit {0}
 AimsIn (Laid c) = Unit {0}

@@ -3,7 +3,7 @@ use Rattle.std.specs.Prelude.{◌≡◌, ℕ, ◌<◌}
 use Rattle.sp_cell.specs.Map.{Plain}
 use Rattle.sp_code.specs.Memory.{Memory}
 use Rattle.sp_code.specs.PlainStore.{plain}
-use Rattle.sp_code.specs.System.{System, Condition, Absent, Runs, Waits, Joins, Laid, Gone, Over}
+use Rattle.sp_code.specs.System.{System, Condition, Absent, Working, Waits, Joins, Laid, Gone, Over}
 use Rattle.sp_history.specs.Channels.{StopHas, StoreHas, ConfigHas}
 
 -- a process of this number, and each channel in its store has the property
@@ -13,7 +13,7 @@ Keeps C q n = (n.process ≡ q) × StoreHas C plain n.store
 -- so for what a process does, and for the offer with which it waits
 abbrev pub ConditionHas : (ℕ → Type 0) → ℕ → Condition Plain → Type 0
 ConditionHas C q Absent = Unit {0}
-ConditionHas C q (Runs c) = ConfigHas C (Keeps C q) c
+ConditionHas C q (Working c) = ConfigHas C (Keeps C q) c
 ConditionHas C q (Waits stop c) = StopHas C stop × ConfigHas C (Keeps C q) c
 ConditionHas C q (Joins left c) = ConfigHas C (Keeps C q) c
 ConditionHas C q (Laid c) = ConfigHas C (Keeps C q) c

@@ -14,7 +14,7 @@ ghost use Rattle.sp_code.specs.Sound.{AreLimits, IsSafeSystem};
 ghost use Rattle.sp_code.specs.Memory.{Setting, Memory, memory};
 ghost use Rattle.sp_code.specs.PlainStore.{plain};
 ghost use Rattle.sp_code.specs.Control.{Out, Joining, Gone, control, control_at_start, noted_all, entries_of};
-ghost use Rattle.sp_code.specs.System.{System, Runs, IsSystem, IsLegal, opening};
+ghost use Rattle.sp_code.specs.System.{System, Working, IsSystem, IsLegal, opening};
 ghost use Rattle.sp_history.specs.Agreement.{IsOrderly, Agrees, Reaches, NoneBy, HasOuts, IsOver, Running, phase_in};
 ghost use Rattle.sp_history.specs.Channels.{StopHas};
 ghost use Rattle.sp_history.specs.Spoken.{IsSpoken};
@@ -40,7 +40,7 @@ pub fn histories_lead_to_systems()
 /// another event.
 pub fn histories_keep_what_is_out()
     ensures stays { (g : Setting) (ns more : List Note) (s t : System Plain) (p w : ℕ) (c : Config (Memory Plain)) → Reaches plain g control_at_start (opening plain g) ns s → Reaches plain g (control ns) s more t
-        → NoneBy w more → (control ns).doing p ≡ Out w → s.condition p ≡ Runs c → ((control (ns ++ more)).doing p ≡ Out w) × (t.condition p ≡ Runs c) }
+        → NoneBy w more → (control ns).doing p ≡ Out w → s.condition p ≡ Working c → ((control (ns ++ more)).doing p ≡ Out w) × (t.condition p ≡ Working c) }
     ensures idle { (g : Setting) (ns : List Note) (s : System Plain) → Reaches plain g control_at_start (opening plain g) ns s → (control ns).ready ≡ [] → (control ns).out ≡ 0
         → ((q : ℕ) → (control ns).doing q ≢ Gone) → (q : ℕ) → phase_in (s.condition q) ≢ Running }
     ensures over { (g : Setting) (ns more : List Note) (s t : System Plain)
@@ -53,7 +53,7 @@ pub fn histories_keep_what_is_out()
 /// nameable, and has one fault at most.
 pub fn journals_name_what_is_there()
     ensures spoken { (g : Setting) (es : List Entry) (s : System Plain) → IsSystem plain g es s → IsSpoken s }
-    ensures offered { (g : Setting) (es : List Entry) (s : System Plain) (q : ℕ) (c d : Config (Memory Plain)) (stop : Stop) → IsSystem plain g es s → s.condition q ≡ Runs c
+    ensures offered { (g : Setting) (es : List Entry) (s : System Plain) (q : ℕ) (c d : Config (Memory Plain)) (stop : Stop) → IsSystem plain g es s → s.condition q ≡ Working c
         → IsTurn (memory plain g) g.code c (Stopped stop d) → StopHas (λ n. n < s.births.channels) stop }
     ensures nameable { (g : Setting) (es : List Entry) (s : System Plain) → AreLimits g.limits → IsSystem plain g es s → NameableFrom at_start es }
     ensures fault { (g : Setting) (es : List Entry) (s : System Plain) (i j : ℕ) (d e : Entry) → IsSystem plain g es s

@@ -11,7 +11,7 @@ use Rattle.sp_tree.specs.Found.{Found, outcome}
 use Rattle.sp_tree.specs.PlainChecked as p
 use Rattle.sp_tree.specs.Plain.{Block, Actuals}
 use Rattle.sp_tree.specs.Bare.{bare, bare_block, bare_statement, bare_actuals}
-use Rattle.sp_tree.specs.Uses.{Runs, In_stmt}
+use Rattle.sp_tree.specs.Uses.{CallOf, In_stmt}
 use Rattle.sp_tree.specs.Sets.{IsBelow, LeadsToStop}
 use Rattle.sp_tree.specs.Interference.{IsMember, IsCalledInside, IsFunction}
 use Rattle.sp_tree.specs.Sites.{Site, SplitsAt, SpreadsAt, LoopsAt, CallsAt, StopsAt, statement_sites}
@@ -52,12 +52,12 @@ module _ (c : p.Program) (s : Sets) (are : AreSets c s) (rises : HaveEarlierPare
 
   module _ (b : ℕ) (k : p.Block) (e : slice_get c.blocks b ≡ Some k) where
     abbrev Fit : Site → Type 0
-    Fit = Fits (λ t. OfStatement (bare c) s t) (λ f bs. In_stmt (bare_statement k.body) (Runs f bs))
+    Fit = Fits (λ t. OfStatement (bare c) s t) (λ f bs. In_stmt (bare_statement k.body) (CallOf f bs))
 
     fit : (site : Site) → IsSite site (statement_sites k.body) → Fit site
-    fit site i = one_fits (λ t. OfStatement (bare c) s t) (λ f bs. In_stmt (bare_statement k.body) (Runs f bs)) (statement_sites k.body) site (statement_fits (λ t. OfStatement (bare c) s t) (λ f bs. In_stmt (bare_statement k.body) (Runs f bs)) k.body (λ t h. are.statements b k e t h) (λ f bs h. h)) i
+    fit site i = one_fits (λ t. OfStatement (bare c) s t) (λ f bs. In_stmt (bare_statement k.body) (CallOf f bs)) (statement_sites k.body) site (statement_fits (λ t. OfStatement (bare c) s t) (λ f bs. In_stmt (bare_statement k.body) (CallOf f bs)) k.body (λ t h. are.statements b k e t h) (λ f bs h. h)) i
 
-    only_parts : (parts : p.Statements) → AllParts (λ t. OfStatement (bare c) s t) (λ f bs. In_stmt (bare_statement k.body) (Runs f bs)) parts → AllParts (OfStatement (bare c) s) (λ f bs. Unit {0}) parts
+    only_parts : (parts : p.Statements) → AllParts (λ t. OfStatement (bare c) s t) (λ f bs. In_stmt (bare_statement k.body) (CallOf f bs)) parts → AllParts (OfStatement (bare c) s) (λ f bs. Unit {0}) parts
     only_parts p.NoStatement h = tt
     only_parts (p.AndThen t rest) h = (h.0, only_parts rest h.1)
 
@@ -87,7 +87,7 @@ module _ (c : p.Program) (s : Sets) (are : AreSets c s) (rises : HaveEarlierPare
         let t = some_from (implicit_targets_of s b) is_any h in
         said rule.I8 k.at x z (b, k, e, refl, function_to b k e (flag k.answer y q), t.0, ((are.blocks b k e).targets t.0).0 t.1)
 
-    inside_to : (f : ℕ) (m : p.Block) → slice_get c.blocks f ≡ Some m → (bs : Actuals) → In_stmt (bare_statement k.body) (Runs f bs) → is_inside s c b f ≡ true → Interferes c rule.I6 m.at
+    inside_to : (f : ℕ) (m : p.Block) → slice_get c.blocks f ≡ Some m → (bs : Actuals) → In_stmt (bare_statement k.body) (CallOf f bs) → is_inside s c b f ≡ true → Interferes c rule.I6 m.at
     inside_to f m em bs run h =
         let n = stands_from c (length c.blocks) b f (and_left (stands_in c.blocks (length c.blocks) (Some b) f) (has_declared s f) h) in
         let y = declared_to_implicit (bare c) s f (are.blocks f m em) (and_right (stands_in c.blocks (length c.blocks) (Some b) f) (has_declared s f) h) in
@@ -170,7 +170,7 @@ module _ (c : p.Program) (s : Sets) (are : AreSets c s) (rises : HaveEarlierPare
   inside_back : (at : Place) → Interferes c rule.I6 at → Found_in rule.I6 at
   inside_back at (f, m, em, here, (n, d, below, w, ew, bs, run), y, i, l) =
       let z = block_at c.blocks d w ew in
-      let called = statement_called f bs z.0.body (subst (λ (v : Block). In_stmt v.body (Runs f bs)) (sym z.2) run) in
+      let called = statement_called f bs z.0.body (subst (λ (v : Block). In_stmt v.body (CallOf f bs)) (sym z.2) run) in
       let up = stands_to c rises n (length c.blocks) d f (within c d z.0 z.1) below in
       let test = and_both (stands_in c.blocks (length c.blocks) (Some d) f) (has_declared s f) up (implicit_declared (bare c) s f y (are.blocks f m em) i l) in
       (d, z.0, z.1, subst (λ p. InBlock s c d z.0 (refusal rule.I6 p)) here (called_back d z.0 z.1 d f m em called.0 called.1 called.2 test))

@@ -4,7 +4,7 @@ use Rattle.sp_base.specs.declared.place.Place.{Place}
 use Rattle.sp_tree.specs.PlainChecked as p
 use Rattle.sp_tree.specs.Plain as b
 use Rattle.sp_tree.specs.Bare.{bare_expression, bare_form, bare_variable, bare_selectors, bare_actuals, bare_width, bare_statement, bare_statement_form, bare_statements, bare_arms}
-use Rattle.sp_tree.specs.Uses.{Use, Runs, Splits, Spreads, Aims, Sees, Stops, In_expr, In_form, In_read, In_target, In_selectors, In_actuals, In_width, In_stmt, In_stmts, In_arms}
+use Rattle.sp_tree.specs.Uses.{Use, CallOf, ParallelOf, ForallOf, Target, Seen, Stop, In_expr, In_form, In_read, In_target, In_selectors, In_actuals, In_width, In_stmt, In_stmts, In_arms}
 use Rattle.sp_tree.specs.Sites.{Site, SplitsAt, SpreadsAt, LoopsAt, CallsAt, StopsAt, expression_sites, form_sites, variable_sites, selectors_sites, actuals_sites, width_sites, statement_sites, statement_form_sites, statements_sites, arms_sites}
 use Rattle.sp_tree.specs.Interferes.{IsSite}
 use Rattle.sp_varsets.specs.Parts.{IsPart, IsInForm, IsAmong, IsInArms, IsInOther}
@@ -54,10 +54,10 @@ module _ (Part : p.Statement → Type 0) (Run : ℕ → b.Actuals → Type 0) wh
   one_fits (x ∷ xs) site h (inr i) = one_fits xs site h.1 i
 
   mutual
-    expression_fits : (e : p.Expression) → ((f : ℕ) (bs : b.Actuals) → In_expr (bare_expression e) (Runs f bs) → Run f bs) → AllFit (expression_sites e)
+    expression_fits : (e : p.Expression) → ((f : ℕ) (bs : b.Actuals) → In_expr (bare_expression e) (CallOf f bs) → Run f bs) → AllFit (expression_sites e)
     expression_fits (p.At at k form) run = form_fits form run
 
-    form_fits : (e : p.ExpressionForm) → ((f : ℕ) (bs : b.Actuals) → In_form (bare_form e) (Runs f bs) → Run f bs) → AllFit (form_sites e)
+    form_fits : (e : p.ExpressionForm) → ((f : ℕ) (bs : b.Actuals) → In_form (bare_form e) (CallOf f bs) → Run f bs) → AllFit (form_sites e)
     form_fits (p.Number n) run = tt
     form_fits (p.Read v) run = read_fits v run
     form_fits (p.Unary op a) run = expression_fits a run
@@ -66,23 +66,23 @@ module _ (Part : p.Statement → Type 0) (Run : ℕ → b.Actuals → Type 0) wh
     form_fits (p.Standard f p.NoExpression) run = tt
     form_fits (p.Standard f (p.AndExpression a rest)) run = expression_fits a run
 
-    read_fits : (v : p.Variable) → ((f : ℕ) (bs : b.Actuals) → In_read (bare_variable v) (Runs f bs) → Run f bs) → AllFit (variable_sites v)
+    read_fits : (v : p.Variable) → ((f : ℕ) (bs : b.Actuals) → In_read (bare_variable v) (CallOf f bs) → Run f bs) → AllFit (variable_sites v)
     read_fits (p.Entire x at ss) run = selectors_fit ss (λ f bs i. run f bs (inr i))
 
-    target_fits : (v : p.Variable) → ((f : ℕ) (bs : b.Actuals) → In_target (bare_variable v) (Runs f bs) → Run f bs) → AllFit (variable_sites v)
+    target_fits : (v : p.Variable) → ((f : ℕ) (bs : b.Actuals) → In_target (bare_variable v) (CallOf f bs) → Run f bs) → AllFit (variable_sites v)
     target_fits (p.Entire x at ss) run = selectors_fit ss (λ f bs i. run f bs (inr i))
 
-    selectors_fit : (ss : p.Selectors) → ((f : ℕ) (bs : b.Actuals) → In_selectors (bare_selectors ss) (Runs f bs) → Run f bs) → AllFit (selectors_sites ss)
+    selectors_fit : (ss : p.Selectors) → ((f : ℕ) (bs : b.Actuals) → In_selectors (bare_selectors ss) (CallOf f bs) → Run f bs) → AllFit (selectors_sites ss)
     selectors_fit p.Whole run = tt
     selectors_fit (p.Select (p.Index e) rest) run = two_fit (expression_sites e) (selectors_sites rest) (expression_fits e (λ f bs i. run f bs (inl i))) (selectors_fit rest (λ f bs i. run f bs (inr i)))
     selectors_fit (p.Select (p.Field f) rest) run = selectors_fit rest run
 
-    actuals_fit : (args : p.Actuals) → ((f : ℕ) (bs : b.Actuals) → In_actuals (bare_actuals args) (Runs f bs) → Run f bs) → AllFit (actuals_sites args)
+    actuals_fit : (args : p.Actuals) → ((f : ℕ) (bs : b.Actuals) → In_actuals (bare_actuals args) (CallOf f bs) → Run f bs) → AllFit (actuals_sites args)
     actuals_fit p.Nothing run = tt
     actuals_fit (p.Pass (p.ByValue e) rest) run = two_fit (expression_sites e) (actuals_sites rest) (expression_fits e (λ f bs i. run f bs (inl i))) (actuals_fit rest (λ f bs i. run f bs (inr i)))
     actuals_fit (p.Pass (p.ByReference v) rest) run = two_fit (variable_sites v) (actuals_sites rest) (target_fits v (λ f bs i. run f bs (inl i))) (actuals_fit rest (λ f bs i. run f bs (inr i)))
 
-  width_fits : (w : Option p.Expression) → ((f : ℕ) (bs : b.Actuals) → In_width (bare_width w) (Runs f bs) → Run f bs) → AllFit (width_sites w)
+  width_fits : (w : Option p.Expression) → ((f : ℕ) (bs : b.Actuals) → In_width (bare_width w) (CallOf f bs) → Run f bs) → AllFit (width_sites w)
   width_fits None run = tt
   width_fits (Some e) run = expression_fits e run
 
@@ -94,10 +94,10 @@ module _ (Part : p.Statement → Type 0) (Run : ℕ → b.Actuals → Type 0) wh
   itself (p.Does n at form) = inl refl
 
   mutual
-    pub statement_fits : (s : p.Statement) → ((t : p.Statement) → IsPart t s → Part t) → ((f : ℕ) (bs : b.Actuals) → In_stmt (bare_statement s) (Runs f bs) → Run f bs) → AllFit (statement_sites s)
+    pub statement_fits : (s : p.Statement) → ((t : p.Statement) → IsPart t s → Part t) → ((f : ℕ) (bs : b.Actuals) → In_stmt (bare_statement s) (CallOf f bs) → Run f bs) → AllFit (statement_sites s)
     statement_fits (p.Does n at form) part run = statement_form_fits at form (λ t i. part t (inr i)) run
 
-    statement_form_fits : (at : Place) (form : p.Form) → ((t : p.Statement) → IsInForm t form → Part t) → ((f : ℕ) (bs : b.Actuals) → In_stmt (bare_statement_form form) (Runs f bs) → Run f bs) → AllFit (statement_form_sites at form)
+    statement_form_fits : (at : Place) (form : p.Form) → ((t : p.Statement) → IsInForm t form → Part t) → ((f : ℕ) (bs : b.Actuals) → In_stmt (bare_statement_form form) (CallOf f bs) → Run f bs) → AllFit (statement_form_sites at form)
     statement_form_fits at p.Empty part run = tt
     statement_form_fits at (p.Assign v e) part run = two_fit (variable_sites v) (expression_sites e) (target_fits v (λ f bs i. run f bs (inl i))) (expression_fits e (λ f bs i. run f bs (inr i)))
     statement_form_fits at (p.Call f args) part run = (run f (bare_actuals args) (inl refl), actuals_fit args (λ f bs i. run f bs (inr i)))
@@ -133,10 +133,10 @@ module _ (Part : p.Statement → Type 0) (Run : ℕ → b.Actuals → Type 0) wh
     statement_form_fits at (p.Send c e) part run = (tt, two_fit (expression_sites c) (expression_sites e) (expression_fits c (λ f bs i. run f bs (inl i))) (expression_fits e (λ f bs i. run f bs (inr (inl i)))))
     statement_form_fits at (p.Receive c v) part run = (tt, two_fit (expression_sites c) (variable_sites v) (expression_fits c (λ f bs i. run f bs (inl i))) (target_fits v (λ f bs i. run f bs (inr (inl i)))))
 
-    statements_fit : (ss : p.Statements) → ((t : p.Statement) → IsAmong t ss → Part t) → ((f : ℕ) (bs : b.Actuals) → In_stmts (bare_statements ss) (Runs f bs) → Run f bs) → AllFit (statements_sites ss)
+    statements_fit : (ss : p.Statements) → ((t : p.Statement) → IsAmong t ss → Part t) → ((f : ℕ) (bs : b.Actuals) → In_stmts (bare_statements ss) (CallOf f bs) → Run f bs) → AllFit (statements_sites ss)
     statements_fit p.NoStatement part run = tt
     statements_fit (p.AndThen s rest) part run = two_fit (statement_sites s) (statements_sites rest) (statement_fits s (λ t i. part t (inl i)) (λ f bs i. run f bs (inl i))) (statements_fit rest (λ t i. part t (inr i)) (λ f bs i. run f bs (inr i)))
 
-    arms_fit : (xs : p.Arms) → ((t : p.Statement) → IsInArms t xs → Part t) → ((f : ℕ) (bs : b.Actuals) → In_arms (bare_arms xs) (Runs f bs) → Run f bs) → AllFit (arms_sites xs)
+    arms_fit : (xs : p.Arms) → ((t : p.Statement) → IsInArms t xs → Part t) → ((f : ℕ) (bs : b.Actuals) → In_arms (bare_arms xs) (CallOf f bs) → Run f bs) → AllFit (arms_sites xs)
     arms_fit p.NoArm part run = tt
     arms_fit (p.Or (p.On cs s) rest) part run = two_fit (statement_sites s) (arms_sites rest) (statement_fits s (λ t i. part t (inl i)) (λ f bs i. run f bs (inl i))) (arms_fit rest (λ t i. part t (inr i)) (λ f bs i. run f bs (inr i)))

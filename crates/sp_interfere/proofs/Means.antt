@@ -11,7 +11,7 @@ use Rattle.sp_tree.specs.declared.checked.Variable as declared
 use Rattle.sp_tree.specs.PlainChecked as p
 use Rattle.sp_tree.specs.Plain.{Program, Block, Actuals}
 use Rattle.sp_tree.specs.Bare.{bare, bare_block, bare_statement, bare_actuals}
-use Rattle.sp_tree.specs.Uses.{Use, Runs, In_stmt}
+use Rattle.sp_tree.specs.Uses.{Use, CallOf, In_stmt}
 use Rattle.sp_tree.specs.Sets.{IsBelow, IsTarget, IsSeen, IsUsed, ImplicitTarget, Implicit, LeadsToStop}
 use Rattle.sp_tree.specs.Interference.{IsMember, IsCalledInside, IsFunction}
 use Rattle.sp_tree.specs.Sites.{Site, SplitsAt, SpreadsAt, LoopsAt, CallsAt, StopsAt, statement_sites}

@@ -10,7 +10,7 @@ use Rattle.sp_journal.specs.declared.entry.Journal.{Journal}
 use Rattle.sp_journal.specs.declared.entry.Birth.{Birth}
 use Rattle.sp_journal.specs.declared.entry.Opening.{Opening}
 use Rattle.sp_journal.specs.Maps.{at_key}
-use Rattle.sp_journal.specs.Names.{Name, Channel, Happening, Opened, Split, Offered, Finished, Failed, LaidDown, Paused, Occurrence}
+use Rattle.sp_journal.specs.Names.{Name, Channel, Happening, Opened, Forked, Offered, Ended, Faulted, Laid, Paused, Occurrence}
 
 -- what the entries so far have given
 pub record Births : Type 0 where
@@ -106,13 +106,13 @@ IsNameable j = NameableFrom at_start j.entries
 
 -- the same entries by names
 abbrev pub happening : Births → Event → Happening
-happening s (event.Fork n) = Split n
+happening s (event.Fork n) = Forked n
 happening s event.Open = Opened
 happening s (event.Send c) = Offered way.Send (channel s c)
 happening s (event.Receive c) = Offered way.Receive (channel s c)
-happening s event.End = Finished
-happening s (event.Fault f) = Failed f
-happening s event.Laid = LaidDown
+happening s event.End = Ended
+happening s (event.Fault f) = Faulted f
+happening s event.Laid = Laid
 happening s event.Pause = Paused
 
 -- an entry by names, with what was given before it

@@ -47,11 +47,11 @@ chan_name c = record { owner = proc_name c.owner; nth = c.nth }
 -- what a process does at an entry
 pub data Happening : Type 0 where
   Opened : Happening
-  Split : (children : ℕ) → Happening
+  Forked : (children : ℕ) → Happening
   Offered : (way : Way) (channel : Channel) → Happening
-  Finished : Happening
-  Failed : (fault : Fault) → Happening
-  LaidDown : Happening
+  Ended : Happening
+  Faulted : (fault : Fault) → Happening
+  Laid : Happening
   Paused : Happening
 
 -- an entry by names

@@ -3,7 +3,7 @@
 use Rattle.std.specs.Prelude.{◌≡◌, ℕ, suc, zero, ◌+◌, Bool, true, false, cond, ◌||◌, ◌==◌, List, [], ◌∷◌, ◌++◌, length, Option, Some, None, slice_get}
 use Rattle.sp_journal.specs.declared.entry.Journal.{Journal}
 use Rattle.sp_journal.specs.Maps.{at_key}
-use Rattle.sp_journal.specs.Names.{Name, Channel, same_name, same_channel, Happening, Opened, Split, Offered, Finished, Failed, LaidDown, Paused, Occurrence}
+use Rattle.sp_journal.specs.Names.{Name, Channel, same_name, same_channel, Happening, Opened, Forked, Offered, Ended, Faulted, Laid, Paused, Occurrence}
 use Rattle.sp_journal.specs.Births.{occurrences}
 
 -- the set of indices that each process knows (its past), the pending offer of each channel with its index, how many
@@ -48,11 +48,11 @@ met_now j p n c (Some o) =
 -- laid process add nothing
 abbrev pub judged_by : Judged → ℕ → Name → Happening → Judged
 judged_by j n p Opened = record { past = learn p (λ i. n == i) j.past; pending = j.pending; forks = j.forks; completed = j.completed }
-judged_by j n p (Split k) = record { past = teach p (j.forks p) (now j p n) 0 k (learn p (λ i. n == i) j.past); pending = j.pending; forks = at_key same_name p (j.forks p + 1) j.forks; completed = j.completed }
+judged_by j n p (Forked k) = record { past = teach p (j.forks p) (now j p n) 0 k (learn p (λ i. n == i) j.past); pending = j.pending; forks = at_key same_name p (j.forks p + 1) j.forks; completed = j.completed }
 judged_by j n p (Offered w c) = met_now j p n c (j.pending c)
-judged_by j n p Finished = record { past = report p (now j p n) (learn p (λ i. n == i) j.past); pending = j.pending; forks = j.forks; completed = j.completed }
-judged_by j n p (Failed f) = j
-judged_by j n p LaidDown = j
+judged_by j n p Ended = record { past = report p (now j p n) (learn p (λ i. n == i) j.past); pending = j.pending; forks = j.forks; completed = j.completed }
+judged_by j n p (Faulted f) = j
+judged_by j n p Laid = j
 judged_by j n p Paused = j
 
 abbrev pub nothing_judged : Judged
@@ -71,10 +71,10 @@ judged es = judged_from nothing_judged 0 es
 abbrev pub KnowsCompletions : Judged → List Occurrence → Name → Happening → Type 0
 KnowsCompletions j done p (Offered w c) = (i : ℕ) (z : Name) → slice_get done i ≡ Some (record { who = z; what = Offered w c }) → (m : ℕ) × (j.completed i ≡ Some m) × (j.past p m ≡ true)
 KnowsCompletions j done p Opened = Unit {0}
-KnowsCompletions j done p (Split k) = Unit {0}
-KnowsCompletions j done p Finished = Unit {0}
-KnowsCompletions j done p (Failed f) = Unit {0}
-KnowsCompletions j done p LaidDown = Unit {0}
+KnowsCompletions j done p (Forked k) = Unit {0}
+KnowsCompletions j done p Ended = Unit {0}
+KnowsCompletions j done p (Faulted f) = Unit {0}
+KnowsCompletions j done p Laid = Unit {0}
 KnowsCompletions j done p Paused = Unit {0}
 
 abbrev pub CompletedFrom : Judged → List Occurrence → List Occurrence → Type 0

@@ -13,10 +13,10 @@ abbrev pub IsText : List ℕ → Type 0
 IsText bytes = (v : Version) × (j : Journal) × IsTextOf v j bytes
 
 -- a journal that is read is nameable and the bytes are its text in some version; a bad line is the first one
-abbrev pub Reads : List ℕ → Result Journal ReadError → Type 0
-Reads bytes (Ok j) = (v : Version) × IsTextOf v j bytes
-Reads bytes (Err (error.BadLine n)) = IsFirstBad n bytes
-Reads bytes (Err error.Memory) = Unit {0}
+abbrev pub ReadsJournal : List ℕ → Result Journal ReadError → Type 0
+ReadsJournal bytes (Ok j) = (v : Version) × IsTextOf v j bytes
+ReadsJournal bytes (Err (error.BadLine n)) = IsFirstBad n bytes
+ReadsJournal bytes (Err error.Memory) = Unit {0}
 
 -- no other journal has this text, in any version; and bytes with a bad line are the text of none
 abbrev pub ReadsAlone : List ℕ → Result Journal ReadError → Type 0

@@ -1,7 +1,7 @@
 //! Reading a journal's text.
 
 ghost use Rattle.std.specs.Prelude.{◌≡◌, ◌++◌};
-ghost use Rattle.sp_journal.specs.Reading.{Reads, ReadsAlone, IsVersionOf};
+ghost use Rattle.sp_journal.specs.Reading.{ReadsJournal, ReadsAlone, IsVersionOf};
 ghost use Rattle.sp_journal.specs.declared.read.ReadError.TheVariants.{Memory as OutOfMemory};
 
 use crate::entry::Journal;
@@ -35,7 +35,7 @@ impl From<Memory> for ReadError {
 /// The journal of which these bytes are the text, in version 1, which has no `pause`, or in version 2. There is one
 /// at most.
 pub fn read_journal(alloc: Global, bytes: &[u8]) -> Result<Journal, ReadError>
-    ensures reads { Reads bytes.now result }
+    ensures reads { ReadsJournal bytes.now result }
     ensures alone { ReadsAlone bytes.now result }
 {
     let Some((first, mut rest)) = split_first(bytes, b'\n') else {

@@ -5,7 +5,7 @@ use Rattle.sp_journal.specs.declared.entry.Event.TheVariants as event
 use Rattle.sp_journal.specs.declared.entry.Way.{Way}
 use Rattle.sp_journal.specs.declared.entry.Way.TheVariants as way
 use Rattle.sp_journal.specs.declared.entry.Birth.{Birth}
-use Rattle.sp_journal.specs.Names.{Name, Channel, same_name, Split, Offered, Finished, Occurrence}
+use Rattle.sp_journal.specs.Names.{Name, Channel, same_name, Forked, Offered, Ended, Occurrence}
 use Rattle.sp_journal.specs.Births.{Births, at_start, after_event, births, channel, NameableFrom, happening, occurrence}
 use Rattle.sp_journal.specs.Past.{Judged, judged, judged_by}
 use Rattle.sp_journal.proofs.BirthLaws.{Lawful, name_by_birth, name_of_root}
@@ -226,7 +226,7 @@ module _ (all : List Entry) (nameable : NameableFrom at_start all) (quiet : IsQu
   pub forked_is : (n : ℕ) → e.event ≡ event.Fork n → (c1 c2 : ℕ → ℕ → ℕ)
       → ((r q : ℕ) → IsAsked until (at + 1) q → c1 r q ≡ cond (p == r) (with_own (clock_at b.clocks.items) p m q) (clock_at b.clocks.items r q))
       → ((r q : ℕ) → c2 r q ≡ cond (nat_le b.next r && nat_lt r (b.next + n)) (max (c1 r q) (c1 p q)) (c1 r q))
-      → (r q : ℕ) → r < s.processes → Live q → c2 r q ≡ counted_by (counts os) (judged os) os (s.name p) (Split n) (s.name r) (s.name q)
+      → (r q : ℕ) → r < s.processes → Live q → c2 r q ≡ counted_by (counts os) (judged os) os (s.name p) (Forked n) (s.name r) (s.name q)
   forked_is n is c1 c2 one two r q l k =
       two r q ∙ (λ i. cond (nat_le (first_is i) r && nat_lt r (first_is i + n)) (max (c1 r q) (c1 p q)) (c1 r q))
       ∙ shares_is s lawful p ((judged os).forks (s.name p)) (births (take at all)).processes n fits children Live (mine (counts os) os (s.name p)) (c1 p) (own_itself c1 one) n 0 (omega arith) (becomes (s.name p) (mine (counts os) os (s.name p)) (counts os)) c1 (own_raised_is c1 one) r q l k
@@ -248,7 +248,7 @@ module _ (all : List Entry) (nameable : NameableFrom at_start all) (quiet : IsQu
 
   pub ended_root_is : None ≡ s.birth p → (c1 : ℕ → ℕ → ℕ)
       → ((r q : ℕ) → IsAsked until (at + 1) q → c1 r q ≡ cond (p == r) (with_own (clock_at b.clocks.items) p m q) (clock_at b.clocks.items r q))
-      → (r q : ℕ) → r < s.processes → Live q → c1 r q ≡ counted_by (counts os) (judged os) os (s.name p) Finished (s.name r) (s.name q)
+      → (r q : ℕ) → r < s.processes → Live q → c1 r q ≡ counted_by (counts os) (judged os) os (s.name p) Ended (s.name r) (s.name q)
   ended_root_is none c1 one r q l k =
       own_raised_is c1 one r q l k
       ∙ ap (λ (x : Name). gives_back x (mine (counts os) os (s.name p)) (becomes (s.name p) (mine (counts os) os (s.name p)) (counts os)) (s.name r) (s.name q)) (sym (name_of_root s lawful p here none))
@@ -256,7 +256,7 @@ module _ (all : List Entry) (nameable : NameableFrom at_start all) (quiet : IsQu
   pub ended_is : (t : Birth) → Some t ≡ s.birth p → t.parent < s.processes → (c1 c2 : ℕ → ℕ → ℕ)
       → ((r q : ℕ) → IsAsked until (at + 1) q → c1 r q ≡ cond (p == r) (with_own (clock_at b.clocks.items) p m q) (clock_at b.clocks.items r q))
       → ((r q : ℕ) → c2 r q ≡ cond (t.parent == r) (max (c1 t.parent q) (c1 p q)) (c1 r q))
-      → (r q : ℕ) → r < s.processes → Live q → c2 r q ≡ counted_by (counts os) (judged os) os (s.name p) Finished (s.name r) (s.name q)
+      → (r q : ℕ) → r < s.processes → Live q → c2 r q ≡ counted_by (counts os) (judged os) os (s.name p) Ended (s.name r) (s.name q)
   ended_is t born there c1 c2 one two r q l k =
       two r q ∙ swap
       ∙ (λ i. cond (test i) (max (own_raised_is c1 one r q l k i) (own_itself c1 one q k i)) (own_raised_is c1 one r q l k i))

@@ -2,7 +2,7 @@
 use Rattle.std.proofs.Common.{◌≡◌, ◌⊎◌, inl, inr, ⊎_elim, ℕ, ◌<◌, ◌≤◌, Bool, true, false, cond, ◌||◌, ◌==◌, List, [], ◌∷◌, ◌++◌, length, Option, Some, None, slice_get, refl, sym, ap, ◌∙◌, subst, arith, eqb-true, eq-eqb}
 use Rattle.sp_journal.specs.declared.entry.Way.{Way}
 use Rattle.sp_journal.specs.Maps.{at_key}
-use Rattle.sp_journal.specs.Names.{Name, Channel, same_name, same_channel, Happening, Opened, Split, Offered, Finished, Failed, LaidDown, Paused, Occurrence}
+use Rattle.sp_journal.specs.Names.{Name, Channel, same_name, same_channel, Happening, Opened, Forked, Offered, Ended, Faulted, Laid, Paused, Occurrence}
 use Rattle.sp_journal.specs.Past.{Judged, learn, now, met_now, judged_by, nothing_judged}
 use Rattle.sp_past.proofs.Keys.{name_is, channel_is}
 use Rattle.sp_past.proofs.Prefixing.{or_left, or_right, or_cases, get_low, get_last, get_inside, low_or_last, learn_all, teach_all, report_all, learn_more, teach_more, report_more}
@@ -34,19 +34,19 @@ what_is a b h = ap (λ (x : Occurrence). x.what) (occurrence_is a b h)
 abbrev pub way_of : Way → Happening → Way
 way_of d (Offered w c) = w
 way_of d Opened = d
-way_of d (Split k) = d
-way_of d Finished = d
-way_of d (Failed f) = d
-way_of d LaidDown = d
+way_of d (Forked k) = d
+way_of d Ended = d
+way_of d (Faulted f) = d
+way_of d Laid = d
 way_of d Paused = d
 
 abbrev pub channel_of : Channel → Happening → Channel
 channel_of d (Offered w c) = c
 channel_of d Opened = d
-channel_of d (Split k) = d
-channel_of d Finished = d
-channel_of d (Failed f) = d
-channel_of d LaidDown = d
+channel_of d (Forked k) = d
+channel_of d Ended = d
+channel_of d (Faulted f) = d
+channel_of d Laid = d
 channel_of d Paused = d
 
 pair_is : (x y : Name × ℕ) → ◌≡◌ {A = Option (Name × ℕ)} (Some x) (Some y) → x ≡ y
@@ -168,25 +168,25 @@ module _ (j : Judged) (es : List Occurrence) (chains : Chains j es) (paired : Pa
 
 pub chains_more : (j : Judged) (es : List Occurrence) → Chains j es → Paired j (length es) → (p : Name) (h : Happening) → KnowsOffers j es p h → Chains (judged_by j (length es) p h) (es ++ record { who = p; what = h } ∷ [])
 chains_more j es c d p Opened k = no_offer j es c d p Opened k (judged_by j (length es) p Opened) (own_chained j es c d p Opened k) (λ q i t. learn_more p (λ i. length es == i) j.past q i t) refl
-chains_more j es c d p (Split m) k =
-    let l : List Occurrence = es ++ record { who = p; what = Split m } ∷ [] in
+chains_more j es c d p (Forked m) k =
+    let l : List Occurrence = es ++ record { who = p; what = Forked m } ∷ [] in
     let mid : Name → ℕ → Bool = learn p (λ i. length es == i) j.past in
-    no_offer j es c d p (Split m) k (judged_by j (length es) p (Split m))
-    (teach_all (Chained l) (union_chained l) (now j p (length es)) (mine_chained j es c d p (Split m) k) p (j.forks p) 0 m mid (own_chained j es c d p (Split m) k))
+    no_offer j es c d p (Forked m) k (judged_by j (length es) p (Forked m))
+    (teach_all (Chained l) (union_chained l) (now j p (length es)) (mine_chained j es c d p (Forked m) k) p (j.forks p) 0 m mid (own_chained j es c d p (Forked m) k))
     (λ q i t. teach_more p (j.forks p) (now j p (length es)) 0 m mid q i (learn_more p (λ i. length es == i) j.past q i t)) refl
-chains_more j es c d p Finished k =
-    let l : List Occurrence = es ++ record { who = p; what = Finished } ∷ [] in
+chains_more j es c d p Ended k =
+    let l : List Occurrence = es ++ record { who = p; what = Ended } ∷ [] in
     let mid : Name → ℕ → Bool = learn p (λ i. length es == i) j.past in
-    no_offer j es c d p Finished k (judged_by j (length es) p Finished)
-    (report_all (Chained l) (union_chained l) (now j p (length es)) (mine_chained j es c d p Finished k) p mid (own_chained j es c d p Finished k))
+    no_offer j es c d p Ended k (judged_by j (length es) p Ended)
+    (report_all (Chained l) (union_chained l) (now j p (length es)) (mine_chained j es c d p Ended k) p mid (own_chained j es c d p Ended k))
     (λ q i t. report_more p (now j p (length es)) mid q i (learn_more p (λ i. length es == i) j.past q i t)) refl
 chains_more j es c d p (Offered w e) k = by (j.pending e) refl
   where
     by : (o : Option (Name × ℕ)) → j.pending e ≡ o → Chains (met_now j p (length es) e o) (es ++ record { who = p; what = Offered w e } ∷ [])
     by None f = offer_waits j es c d p (Offered w e) k w e refl
     by (Some o) f = offer_meets j es c d p (Offered w e) k e o f
-chains_more j es c d p (Failed f) k = no_offer j es c d p (Failed f) k j (past_still j es c d p (Failed f) k) (λ q i t. t) refl
-chains_more j es c d p LaidDown k = no_offer j es c d p LaidDown k j (past_still j es c d p LaidDown k) (λ q i t. t) refl
+chains_more j es c d p (Faulted f) k = no_offer j es c d p (Faulted f) k j (past_still j es c d p (Faulted f) k) (λ q i t. t) refl
+chains_more j es c d p Laid k = no_offer j es c d p Laid k j (past_still j es c d p Laid k) (λ q i t. t) refl
 chains_more j es c d p Paused k = no_offer j es c d p Paused k j (past_still j es c d p Paused k) (λ q i t. t) refl
 
 pub nothing_chained : Chains nothing_judged []

@@ -5,10 +5,11 @@ use Rattle.sp_base.specs.declared.fault.Fault.TheVariants as fault
 use Rattle.sp_journal.specs.Maps.{at_key}
 use Rattle.sp_journal.specs.Past.{Judged, met_now, judged_by, nothing_judged}
 use Rattle.sp_meaning.specs.Model.{Name, Channel, same_channel, Language, Moves, Opens, Forks, Offering, Ends, Fails, Absent, Works, Waits, Joins, Ended, Change, after}
-use Rattle.sp_meaning.specs.Steps.{ActOf, OfferOf, ConditionOf, Outcome, Does, Faulty, way_of, message, meeting, hands, meets, offered, acts, cost, passed, unless, outcome, result_of, step_with, Sound}
+use Rattle.sp_meaning.specs.Steps.{ActOf, OfferOf, ConditionOf, Outcome, Advances, Faulty, way_of, message, meeting, hands, meets, offered, acts, cost, passed, unless, outcome, result_of, step_with, Sound}
 use Rattle.sp_meaning.specs.Own.{Setting, Process}
 use Rattle.sp_meaning.specs.SuperPascal.{superpascal, root, first_store}
-use Rattle.sp_meaning.specs.Entries.{Happening, Opened, Split, Offered, Finished, Failed, LaidDown, Paused, Occurrence}
+use Rattle.sp_meaning.specs.Entries.{Happening, Opened, Forked, Offered, Faulted, Laid, Paused, Occurrence}
+use Rattle.sp_journal.specs.Names as happenings
 use Rattle.sp_meaning.specs.Runs.{StateOf, start, most, running, next, said_of, says}
 use Rattle.sp_meaning.specs.Along.{Either, due, Turn, Course, no_course, Kernel, Entered, Along, IsAlong}
 use Rattle.sp_meaning.proofs.Frames.{IsOn, all_in, pending_frame}
@@ -59,10 +60,10 @@ module _ (g : Setting) where
     faulty_fits (Fails x) f = match.pends
 
     -- changes that leave the pending offers alone
-    same_fits : (a : ActOf L) → ((c : Channel) → IsOn a c → ⊥) → (cs : List (Change L)) → acts s q a ≡ Does cs → (c : Channel) → offerer (j.pending c) ≡ (after cs s).pending c
+    same_fits : (a : ActOf L) → ((c : Channel) → IsOn a c → ⊥) → (cs : List (Change L)) → acts s q a ≡ Advances cs → (c : Channel) → offerer (j.pending c) ≡ (after cs s).pending c
     same_fits a off cs e c = match.pends c ∙ sym (pending_frame s q a c (off c) cs s (all_in s q a cs e))
 
-    meeting_fits : (o : OfferOf L) (z : Name) (k : ℕ) (w : OfferOf L) (m : L.Target × L.Value) → j.pending o.channel ≡ Some (z, k) → Fits (Some (Offered (way_of o.cargo) o.channel)) (Does (meeting s q o z w m))
+    meeting_fits : (o : OfferOf L) (z : Name) (k : ℕ) (w : OfferOf L) (m : L.Target × L.Value) → j.pending o.channel ≡ Some (z, k) → Fits (Some (Offered (way_of o.cargo) o.channel)) (Advances (meeting s q o z w m))
     meeting_fits o z k w m pend c = subst (λ x. offerer ((met_now j q n o.channel x).pending c) ≡ at_key same_channel o.channel None s.pending c) (sym pend)
         (at_both (same_channel o.channel c) None None (j.pending c) (s.pending c) refl (match.pends c))
 
@@ -70,7 +71,7 @@ module _ (g : Setting) where
     hands_fits o z k w pend None = match.pends
     hands_fits o z k w pend (Some m) = by (o.kind == w.kind)
       where
-        by : (b : Bool) → Fits (said_of (Offering o) (cond b (Does (meeting s q o z w m)) (Faulty fault.F7))) (cond b (Does (meeting s q o z w m)) (Faulty fault.F7))
+        by : (b : Bool) → Fits (said_of (Offering o) (cond b (Advances (meeting s q o z w m)) (Faulty fault.F7))) (cond b (Advances (meeting s q o z w m)) (Faulty fault.F7))
         by true = meeting_fits o z k w m pend
         by false = match.pends
 
@@ -135,11 +136,11 @@ module _ (g : Setting) where
 
   entered_on : (left : Course → StateOf g → ℕ → Type 0) (c : Course) (m : StateOf g) (paused : Bool) (q : Name) (w : Happening) (r : ℕ) (j : Judged) (n : ℕ) (A : Type 0) → Entered g left c m paused q w r → Matches m j → Goes_on left (judged_by j n q w) A → A
   entered_on left c m paused q Opened r j n A h match go = kernel_on left c m paused q Opened r j n A h match go
-  entered_on left c m paused q (Split i) r j n A h match go = kernel_on left c m paused q (Split i) r j n A h match go
+  entered_on left c m paused q (Forked i) r j n A h match go = kernel_on left c m paused q (Forked i) r j n A h match go
   entered_on left c m paused q (Offered w d) r j n A h match go = kernel_on left c m paused q (Offered w d) r j n A h match go
-  entered_on left c m paused q Finished r j n A h match go = kernel_on left c m paused q Finished r j n A h match go
-  entered_on left c m paused q (Failed f) r j n A h match go = kernel_on left c m paused q (Failed f) r j n A h match go
-  entered_on left c m paused q LaidDown r j n A h match go = go _ m r h.1 match
+  entered_on left c m paused q happenings.Ended r j n A h match go = kernel_on left c m paused q happenings.Ended r j n A h match go
+  entered_on left c m paused q (Faulted f) r j n A h match go = kernel_on left c m paused q (Faulted f) r j n A h match go
+  entered_on left c m paused q Laid r j n A h match go = go _ m r h.1 match
   entered_on left c m paused q Paused r j n A h match go = go _ m r h.2 match
 
   along_quiet : (turn : ℕ) (es : List Occurrence) (c : Course) (s : StateOf g) (r : ℕ) (t : StateOf g) (j : Judged) (n : ℕ) → Along g turn c s es r t → Matches s j → QuietFrom j n es

@@ -11,10 +11,11 @@ use Rattle.sp_journal.specs.Names.{chan_name}
 use Rattle.sp_journal.specs.Past.{AreOrdered}
 use Rattle.sp_tree.specs.Interference.{IsFreeOfInterference}
 use Rattle.sp_meaning.specs.Model.{Name, Channel, same_name, Language, Moves, Opens, Forks, Offering, Ends, Fails, Works, Ended, Change, Becomes, Writes, changed, after}
-use Rattle.sp_meaning.specs.Steps.{ActOf, ConditionOf, Outcome, Does, Faulty, Lives, acts, cost, passed, puts, unless, outcome, result_of, step_with, Sound}
+use Rattle.sp_meaning.specs.Steps.{ActOf, ConditionOf, Outcome, Advances, Faulty, Lives, acts, cost, passed, puts, unless, outcome, result_of, step_with, Sound}
 use Rattle.sp_meaning.specs.Own.{Setting, Process}
 use Rattle.sp_meaning.specs.SuperPascal.{superpascal, root, first_store}
-use Rattle.sp_meaning.specs.Entries.{Happening, Opened, Split, Offered, Finished, Failed, LaidDown, Paused, Occurrence}
+use Rattle.sp_meaning.specs.Entries.{Happening, Opened, Forked, Offered, Faulted, Laid, Paused, Occurrence}
+use Rattle.sp_journal.specs.Names as happenings
 use Rattle.sp_meaning.specs.Runs.{StateOf, start, most, running, next, said_of, says}
 use Rattle.sp_meaning.specs.Along.{Either, due, Turn, Course, no_course, stopped, Entered, Along, IsAlong, IsCleanly, IsClean}
 use Rattle.sp_meaning.specs.Ends.{IsDone, EndIs}
@@ -48,7 +49,7 @@ module _ (g : Setting) where
 
   -- a faulting step
   module _ (s : StateOf g) (q : Name) (own : Process) (sound : Sound s) (run : running g s q ≡ Some own) (f : Fault) where
-    does_not : (a : ActOf L) (cs : List (Change L)) → said_of a (Does cs) ≡ Some (Failed f) → ⊥
+    does_not : (a : ActOf L) (cs : List (Change L)) → said_of a (Advances cs) ≡ Some (Faulted f) → ⊥
     does_not (Moves o ws) cs e = none_is e
     does_not (Opens o ws) cs e = cc e
     does_not (Forks o os) cs e = cc e
@@ -56,11 +57,11 @@ module _ (g : Setting) where
     does_not Ends cs e = cc e
     does_not (Fails x) cs e = none_is e
 
-    by_outcome : (a : ActOf L) (out : Outcome L) → said_of a out ≡ Some (Failed f) → Broken (result_of s q out)
-    by_outcome a (Does cs) e = absurd (does_not a cs e)
+    by_outcome : (a : ActOf L) (out : Outcome L) → said_of a out ≡ Some (Faulted f) → Broken (result_of s q out)
+    by_outcome a (Advances cs) e = absurd (does_not a cs e)
     by_outcome a (Faulty x) e = record { faulty = λ h. none_is (sym h); goes_on = root_goes_on s sound q own run }
 
-    failed : (m : StateOf g) → says g s q own ≡ Some (Failed f) → next g s q ≡ Some m → Broken m
+    failed : (m : StateOf g) → says g s q own ≡ Some (Faulted f) → next g s q ≡ Some m → Broken m
     failed m e st = subst (λ (z : StateOf g). Broken z) (resulted s q own m run st) (by_outcome (L.next own s.store) (outcome (most g) s q (L.next own s.store)) e)
 
   -- a local step
@@ -86,7 +87,7 @@ module _ (g : Setting) where
     by_act (Offering o) x e = absurd (by (unless x (acts s q (Offering o))) e)
       where
         by : (out : Outcome L) → said_of (Offering o) out ≡ None → ⊥
-        by (Does cs) e = none_is (sym e)
+        by (Advances cs) e = none_is (sym e)
         by (Faulty f) e = none_is (sym e)
     by_act Ends None e = absurd (none_is (sym e))
     by_act Ends (Some f) e = absurd (none_is (sym e))
@@ -115,11 +116,11 @@ module _ (g : Setting) where
   laid_on : (left : Course → StateOf g → ℕ → Type 0) (c : Course) (m : StateOf g) (paused : Bool) (q : Name) (w : Happening) (r : ℕ) (A : Type 0) → c.faulted ≡ true → Entered g left c m paused q w r
       → (left (stopped q c) m r → A) → A
   laid_on left c m paused q Opened r A f h go = absurd (true_false c.faulted f h.0)
-  laid_on left c m paused q (Split i) r A f h go = absurd (true_false c.faulted f h.0)
+  laid_on left c m paused q (Forked i) r A f h go = absurd (true_false c.faulted f h.0)
   laid_on left c m paused q (Offered w d) r A f h go = absurd (true_false c.faulted f h.0)
-  laid_on left c m paused q Finished r A f h go = absurd (true_false c.faulted f h.0)
-  laid_on left c m paused q (Failed x) r A f h go = absurd (true_false c.faulted f h.0)
-  laid_on left c m paused q LaidDown r A f h go = go h.1
+  laid_on left c m paused q happenings.Ended r A f h go = absurd (true_false c.faulted f h.0)
+  laid_on left c m paused q (Faulted x) r A f h go = absurd (true_false c.faulted f h.0)
+  laid_on left c m paused q Laid r A f h go = go h.1
   laid_on left c m paused q Paused r A f h go = absurd (true_false c.faulted f h.0)
 
   along_broken : (turn : ℕ) (es : List Occurrence) (c : Course) (s : StateOf g) (r : ℕ) (t : StateOf g) → c.faulted ≡ true → Along g turn c s es r t → Broken s → Broken t
@@ -144,11 +145,11 @@ module _ (g : Setting) where
 
     entered_clean : (w : Happening) (r : ℕ) → c.faulted ≡ false → Entered g left c m paused q w r → Rest → Laid_rest → Clean_or w
     entered_clean Opened r f h go laid = with_first Opened tt (go _ h.2 h.3 f (step_sound (most g) m q h.2 sound h.5.3) h.6)
-    entered_clean (Split i) r f h go laid = with_first (Split i) tt (go _ h.2 h.3 f (step_sound (most g) m q h.2 sound h.5.3) h.6)
+    entered_clean (Forked i) r f h go laid = with_first (Forked i) tt (go _ h.2 h.3 f (step_sound (most g) m q h.2 sound h.5.3) h.6)
     entered_clean (Offered w d) r f h go laid = with_first (Offered w d) tt (go _ h.2 h.3 f (step_sound (most g) m q h.2 sound h.5.3) h.6)
-    entered_clean Finished r f h go laid = with_first Finished tt (go _ h.2 h.3 f (step_sound (most g) m q h.2 sound h.5.3) h.6)
-    entered_clean (Failed x) r f h go laid = inr (laid _ h.2 h.3 refl (failed m q h.5.0 sound h.5.1 x h.2 h.5.2 h.5.3) h.6)
-    entered_clean LaidDown r f h go laid = absurd (true_false c.faulted h.0 f)
+    entered_clean happenings.Ended r f h go laid = with_first happenings.Ended tt (go _ h.2 h.3 f (step_sound (most g) m q h.2 sound h.5.3) h.6)
+    entered_clean (Faulted x) r f h go laid = inr (laid _ h.2 h.3 refl (failed m q h.5.0 sound h.5.1 x h.2 h.5.2 h.5.3) h.6)
+    entered_clean Laid r f h go laid = absurd (true_false c.faulted h.0 f)
     entered_clean Paused r f h go laid = with_first Paused tt (go _ m r f sound h.2)
 
   along_clean : (turn : ℕ) (es : List Occurrence) (c : Course) (s : StateOf g) (r : ℕ) (t : StateOf g) → c.faulted ≡ false → Along g turn c s es r t → Sound s → IsClean es ⊎ Broken t

@@ -8,7 +8,7 @@ use Rattle.sp_journal.specs.declared.entry.Event.TheVariants as event
 use Rattle.sp_journal.specs.declared.entry.Way.{Way}
 use Rattle.sp_journal.specs.declared.entry.Way.TheVariants as way
 use Rattle.sp_journal.specs.declared.entry.Birth.{Birth}
-use Rattle.sp_journal.specs.Names.{Name, Channel, Offered, Finished}
+use Rattle.sp_journal.specs.Names.{Name, Channel, Offered, Ended}
 use Rattle.sp_journal.specs.Births.{Births, births, channel, after_event, after_entry, happening}
 use Rattle.sp_journal.specs.Past.{judged, judged_by}
 use Rattle.sp_journal.proofs.BirthLaws.{Lawful, lawful, parent_older}
@@ -145,7 +145,7 @@ module _ (all : List Entry) (t : IsTame all) (at : ℕ) (e : Entry) (inside : sl
             places (next ∙ ap (λ x. x + n) h.next ∙ sym (ap (λ v. (after_event (births (take at all)) p v).processes) is))
 
         ended_with : e.event ≡ event.End → b'.next ≡ b.next
-            → ((r q : ℕ) → r < s.processes → Asked q → clock_at b'.clocks.items r q ≡ counted_by (counts (named s (take at all))) (judged (named s (take at all))) (named s (take at all)) (s.name p) Finished (s.name r) (s.name q))
+            → ((r q : ℕ) → r < s.processes → Asked q → clock_at b'.clocks.items r q ≡ counted_by (counts (named s (take at all))) (judged (named s (take at all))) (named s (take at all)) (s.name p) Ended (s.name r) (s.name q))
             → Holds s until (take (at + 1) all) b'
         ended_with is next clocks = counted_then b' (ap (λ v. is_counted (happening s v)) is) len
             (λ r q l k. clocks r q l k ∙ sym (ap (λ v. counted_by (counts (named s (take at all))) (judged (named s (take at all))) (named s (take at all)) (s.name p) (happening s v) (s.name r) (s.name q)) is))

@@ -3,7 +3,7 @@ use Rattle.std.proofs.Common.{◌≡◌, ◌⊎◌, ⊎_elim, inl, inr, ℕ, zer
 use Rattle.std.proofs.lemmas.Bool.Decides.{nat_tests}
 use Rattle.std.proofs.Math.Nat.{le-max_left, le-max_right, max-le, max_comm, max-eq_left}
 use Rattle.sp_journal.proofs.Facts.{old_or_new}
-use Rattle.sp_journal.specs.Names.{Name, Channel, same_name, Happening, Opened, Split, Offered, Finished, Failed, LaidDown, Paused, Occurrence}
+use Rattle.sp_journal.specs.Names.{Name, Channel, same_name, Happening, Opened, Forked, Offered, Ended, Faulted, Laid, Paused, Occurrence}
 use Rattle.sp_journal.specs.Past.{Judged, learn, teach, report, now, met_now, judged_by}
 use Rattle.sp_past.specs.Prefixes.{is_counted, Counts, WaitsForNone}
 use Rattle.sp_judge.specs.Counts.{made, PlaceOf, becomes, gains, shares, gives_back, mine, theirs, both, met_counts, counted_by}
@@ -360,15 +360,15 @@ module _ (j : Judged) (es : List Occurrence) (count : Name → Name → ℕ) (ke
 pub one_more : (j : Judged) (es : List Occurrence) (count : Name → Name → ℕ) → Kept j es → ((q : Name) (i : ℕ) → j.past q i ≡ true → i < length es) → ((q : Name) → Says es (j.past q) (count q))
     → (p : Name) (h : Happening) → WaitsForNone j p → (q : Name) → Says (es ++ record { who = p; what = h } ∷ []) ((judged_by j (length es) p h).past q) (counted_by count j es p h q)
 one_more j es count kept below says p Opened w = own_says j es count kept below says p Opened refl w
-one_more j es count kept below says p (Split k) w =
-    let m : List Occurrence = es ++ record { who = p; what = Split k } ∷ [] in
-    shares_all (Says m) (says_both m) (now j p (length es)) (mine count es p) (mine_says j es count kept below says p (Split k) refl w) p (j.forks p) 0 k (learn p (λ i. length es == i) j.past) (becomes p (mine count es p) count) (own_says j es count kept below says p (Split k) refl w)
-one_more j es count kept below says p Finished w =
-    let m : List Occurrence = es ++ record { who = p; what = Finished } ∷ [] in
-    gives_back_all (Says m) (says_both m) (now j p (length es)) (mine count es p) (mine_says j es count kept below says p Finished refl w) p (learn p (λ i. length es == i) j.past) (becomes p (mine count es p) count) (own_says j es count kept below says p Finished refl w)
+one_more j es count kept below says p (Forked k) w =
+    let m : List Occurrence = es ++ record { who = p; what = Forked k } ∷ [] in
+    shares_all (Says m) (says_both m) (now j p (length es)) (mine count es p) (mine_says j es count kept below says p (Forked k) refl w) p (j.forks p) 0 k (learn p (λ i. length es == i) j.past) (becomes p (mine count es p) count) (own_says j es count kept below says p (Forked k) refl w)
+one_more j es count kept below says p Ended w =
+    let m : List Occurrence = es ++ record { who = p; what = Ended } ∷ [] in
+    gives_back_all (Says m) (says_both m) (now j p (length es)) (mine count es p) (mine_says j es count kept below says p Ended refl w) p (learn p (λ i. length es == i) j.past) (becomes p (mine count es p) count) (own_says j es count kept below says p Ended refl w)
 one_more j es count kept below says p (Offered v c) w = met_says j es count kept below says p (Offered v c) refl w c (j.pending c) refl
-one_more j es count kept below says p (Failed f) w = still j es count kept below says p (Failed f)
-one_more j es count kept below says p LaidDown w = still j es count kept below says p LaidDown
+one_more j es count kept below says p (Faulted f) w = still j es count kept below says p (Faulted f)
+one_more j es count kept below says p Laid w = still j es count kept below says p Laid
 one_more j es count kept below says p Paused w = still j es count kept below says p Paused
 
 pub nothing_said : (q : Name) → Says [] (λ i. false) (λ r. 0)

@@ -6,7 +6,7 @@ use Rattle.sp_journal.specs.declared.entry.Event.{Event}
 use Rattle.sp_journal.specs.declared.entry.Event.TheVariants as event
 use Rattle.sp_journal.specs.declared.entry.Way.{Way}
 use Rattle.sp_journal.specs.declared.entry.Way.TheVariants as way
-use Rattle.sp_journal.specs.Names.{Name, Channel, Happening, Opened, Split, Offered, Finished, Failed, LaidDown, Paused, Occurrence}
+use Rattle.sp_journal.specs.Names.{Name, Channel, Happening, Opened, Forked, Offered, Ended, Faulted, Laid, Paused, Occurrence}
 use Rattle.sp_journal.specs.Births.{Births, at_start, births, channel, GivesNumbers, NameableFrom, happening, occurrence}
 use Rattle.sp_journal.specs.Past.{Judged, judged, judged_by, judged_from, nothing_judged}
 use Rattle.sp_journal.proofs.BirthLaws.{Lawful}
@@ -91,10 +91,10 @@ named_take s (x ∷ es) (suc i) = ap (λ ys. occurrence s x ∷ ys) (named_take 
 abbrev pub IsOffer : Happening → Type 0
 IsOffer (Offered w c) = Unit {0}
 IsOffer Opened = ⊥
-IsOffer (Split k) = ⊥
-IsOffer Finished = ⊥
-IsOffer (Failed f) = ⊥
-IsOffer LaidDown = ⊥
+IsOffer (Forked k) = ⊥
+IsOffer Ended = ⊥
+IsOffer (Faulted f) = ⊥
+IsOffer Laid = ⊥
 IsOffer Paused = ⊥
 
 pub event_is : (s : Births) (v : Event) (w : Way) (d : Channel) → happening s v ≡ Offered w d → (c : ℕ) × (v ≡ offer_event w c) × (channel s c ≡ d)

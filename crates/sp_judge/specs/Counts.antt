@@ -1,7 +1,7 @@
 -- The sparse clocks of a journal by names: a count for each process that a process knows of. A law of this crate says
 -- that they tell the pasts, and the judge's tables hold them by numbers.
 use Rattle.std.specs.Prelude.{◌≡◌, ℕ, zero, suc, true, cond, max, ◌&&◌, List, [], ◌∷◌, ◌++◌, take, length, Option, Some, None, slice_get}
-use Rattle.sp_journal.specs.Names.{Name, same_name, Happening, Opened, Split, Offered, Finished, Failed, LaidDown, Paused, Occurrence}
+use Rattle.sp_journal.specs.Names.{Name, same_name, Happening, Opened, Forked, Offered, Ended, Faulted, Laid, Paused, Occurrence}
 use Rattle.sp_journal.specs.Past.{Judged, judged_by, nothing_judged}
 use Rattle.sp_past.specs.Prefixes.{is_counted}
 
@@ -52,11 +52,11 @@ met_counts count es p (Some o) = gains o.0 (both (mine count es p) (theirs count
 -- the clocks after one more entry
 abbrev pub counted_by : (Name → Name → ℕ) → Judged → List Occurrence → Name → Happening → Name → Name → ℕ
 counted_by count j es p Opened = becomes p (mine count es p) count
-counted_by count j es p (Split k) = shares p (j.forks p) (mine count es p) 0 k (becomes p (mine count es p) count)
+counted_by count j es p (Forked k) = shares p (j.forks p) (mine count es p) 0 k (becomes p (mine count es p) count)
 counted_by count j es p (Offered w c) = met_counts count es p (j.pending c)
-counted_by count j es p Finished = gives_back p (mine count es p) (becomes p (mine count es p) count)
-counted_by count j es p (Failed f) = count
-counted_by count j es p LaidDown = count
+counted_by count j es p Ended = gives_back p (mine count es p) (becomes p (mine count es p) count)
+counted_by count j es p (Faulted f) = count
+counted_by count j es p Laid = count
 counted_by count j es p Paused = count
 
 abbrev pub counts_from : (Name → Name → ℕ) → Judged → List Occurrence → List Occurrence → Name → Name → ℕ

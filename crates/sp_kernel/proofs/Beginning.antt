@@ -6,7 +6,7 @@ use Rattle.sp_journal.specs.Births.{births, at_start}
 use Rattle.sp_code.specs.PlainStore.{plain}
 use Rattle.sp_code.specs.Sound.{IsSound, AreLimits}
 use Rattle.sp_code.specs.Control.{Ready, Unborn, control_at_start}
-use Rattle.sp_code.specs.System.{Runs, opening}
+use Rattle.sp_code.specs.System.{Working, opening}
 use Rattle.sp_machine.specs.Procs.{start_of, HaveFormals}
 use Rattle.sp_machine.specs.declared.state.State.{State as Proc}
 use Rattle.sp_history.specs.Agreement.{IsOrderly, Agrees}
@@ -66,7 +66,7 @@ module _ (x : Kernel) (p : Proc) (f : IsFresh x p) (config : config_of p ≡ sta
       start = config ∙ ap (λ (r : Proc). start_of x.code.value r.input.value) (sym f.root)
 
       go : (q : ℕ) → condition_in (slice_get (slot.Here p st.Ready ∷ []) q) ≡ (opening plain (setting_of x)).condition q
-      go zero = ap (λ c. Runs c) start
+      go zero = ap (λ c. Working c) start
       go (suc q) = rw (later q) refl
 
   pub system : system_of x ≡ opening plain (setting_of x)

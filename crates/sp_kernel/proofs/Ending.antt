@@ -12,7 +12,7 @@ use Rattle.sp_history.specs.Holding.{IsOutputOf}
 use Rattle.sp_history.proofs.Speaking.{system_spoken}
 use Rattle.sp_history.proofs.Naming.{system_nameable}
 use Rattle.sp_history.proofs.Holders.{one_holder}
-use Rattle.sp_room.specs.History.{Runs as Told}
+use Rattle.sp_room.specs.History.{LeadsTo as Told}
 use Rattle.sp_kernel.specs.declared.kernel.Kernel.{Kernel}
 use Rattle.sp_kernel.specs.Kernels.{system_of, setting_of}
 use Rattle.sp_kernel.specs.Faults.{fault_in, fault_by}

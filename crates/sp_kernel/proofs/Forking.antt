@@ -17,7 +17,7 @@ use Rattle.sp_code.specs.Tables.{child_at}
 use Rattle.sp_code.specs.Turns.{Stopped, IsTurn}
 use Rattle.sp_code.specs.Sound.{StopsAt, CanSplit, run_of}
 use Rattle.sp_code.specs.Control.{Doing, Out, comes_back}
-use Rattle.sp_code.specs.System.{System, Condition, Runs, Joins, after, event_of, entered_now, on_store, fault_of, newborn, plan_from, table_or, child_or}
+use Rattle.sp_code.specs.System.{System, Condition, Working, Joins, after, event_of, entered_now, on_store, fault_of, newborn, plan_from, table_or, child_or}
 use Rattle.sp_kernel.specs.declared.slot.Slot.{Slot}
 use Rattle.sp_kernel.specs.declared.slot.Slot.TheVariants as slot
 use Rattle.sp_kernel.specs.declared.slot.State.TheVariants as st
@@ -200,10 +200,10 @@ module _ (x : Kernel) (k : IsKernel x) (p w : ℕ) (here : (control_of x).doing 
       ∙ ap (λ (first : ℤ). newborn plain (setting_of x) c first (l + j) j (child_or (child_at (table_or (slice_get x.code.value.forks h.proc.table)) j))) at.1.0
       ∙ ap (λ (i : ℕ). newborn plain (setting_of x) c v (l + j) j (child_or (child_at (table_or (slice_get x.code.value.forks i)) j))) at.0
 
-  child_runs : (q : ℕ) → l ≤ q → q < l + n → condition_in (Some (child q)) ≡ Runs (born q (q - b.processes))
+  child_runs : (q : ℕ) → l ≤ q → q < l + n → condition_in (Some (child q)) ≡ Working (born q (q - b.processes))
   child_runs q i j =
       let place : l + (q - l) ≡ q = omega (arith, i) in
-      ap (λ d. Runs d) (born_at (q - l) (omega (arith, i, j)) ∙ ap (λ z. born z (q - l)) place ∙ ap (λ z. born q (q - z)) k.processes)
+      ap (λ d. Working d) (born_at (q - l) (omega (arith, i, j)) ∙ ap (λ z. born z (q - l)) place ∙ ap (λ z. born q (q - z)) k.processes)
 
   parent_is : config_of f.parent ≡ on_store (λ m. plain.handed m (Rattle.sp_code.specs.System.plan_of plain (setting_of x) c t v n)) c
   parent_is = f.hands.0
@@ -211,11 +211,11 @@ module _ (x : Kernel) (k : IsKernel x) (p w : ℕ) (here : (control_of x).doing 
       ∙ ap (λ (z : ℤ). on_store (λ m. plain.handed m (plan_from x.code.value.layouts h.proc.frames (table_or (slice_get x.code.value.forks t)) z 0 n)) c) at.1.0
 
   conditions : (q : ℕ) → condition_in (slice_get (slice_set f.slots p s) q)
-      ≡ cond (is_next b n q) (Runs (born q (q - b.processes))) (cond (p == q) (Joins n (on_store (λ m. plain.handed m (Rattle.sp_code.specs.System.plan_of plain (setting_of x) c t v n)) c)) ((system_of x).condition q))
+      ≡ cond (is_next b n q) (Working (born q (q - b.processes))) (cond (p == q) (Joins n (on_store (λ m. plain.handed m (Rattle.sp_code.specs.System.plan_of plain (setting_of x) c t v n)) c)) ((system_of x).condition q))
   conditions q = table_are condition_in q ∙ ap (λ d. cond (is_next b n q) (condition_in (Some (child q))) (cond (p == q) (Joins n d) ((system_of x).condition q))) parent_is ∙ go (is_next b n q) refl
     where
       go : (a : Bool) → is_next b n q ≡ a → cond a (condition_in (Some (child q))) (cond (p == q) (Joins n (on_store (λ m. plain.handed m (Rattle.sp_code.specs.System.plan_of plain (setting_of x) c t v n)) c)) ((system_of x).condition q))
-          ≡ cond a (Runs (born q (q - b.processes))) (cond (p == q) (Joins n (on_store (λ m. plain.handed m (Rattle.sp_code.specs.System.plan_of plain (setting_of x) c t v n)) c)) ((system_of x).condition q))
+          ≡ cond a (Working (born q (q - b.processes))) (cond (p == q) (Joins n (on_store (λ m. plain.handed m (Rattle.sp_code.specs.System.plan_of plain (setting_of x) c t v n)) c)) ((system_of x).condition q))
       go true e = let w = Rattle.sp_history.proofs.Orders.next_is b n q e in let processes : l ≡ b.processes = k.processes in child_runs q (omega (arith, w.0, processes)) (omega (arith, w.1, processes))
       go false e = refl
 

@@ -14,7 +14,7 @@ use Rattle.sp_code.specs.Memory.{Setting, Memory}
 use Rattle.sp_code.specs.PlainStore.{plain}
 use Rattle.sp_code.specs.Turns.{Turn, Stopped}
 use Rattle.sp_code.specs.Control.{Doing, Out, comes_back}
-use Rattle.sp_code.specs.System.{System, Condition, Runs, Laid as IsLaid, config_of as config_at, event_at, event_or, after, event_of, entered_now, fault_of, lays, unless_fault, happens}
+use Rattle.sp_code.specs.System.{System, Condition, Working, Laid as IsLaid, config_of as config_at, event_at, event_or, after, event_of, entered_now, fault_of, lays, unless_fault, happens}
 use Rattle.sp_kernel.specs.declared.slot.Slot.{Slot}
 use Rattle.sp_kernel.specs.declared.slot.Slot.TheVariants as slot
 use Rattle.sp_kernel.specs.declared.slot.State.TheVariants as st
@@ -214,5 +214,5 @@ module _ (x : Kernel) (k : IsKernel x) (p w : ℕ) (here : (control_of x).doing 
           ∙ ap (λ e. comes_back p e (control_of x)) (event_quiet x.limits (system_of x) m.Pauses (config_of h.proc) f refl ∙ ap (event_of x.limits (system_of x)) (sym turn_is))
 
       system : system_of (record (back p event.Pause (slot.Here r st.Ready) x) { ready = x.ready ++ p ∷ [] }) ≡ after plain (setting_of x) p (turn_of h) (system_of x)
-      system = (λ i. record (system_of x) { condition = (next_condition event.Pause (slot.Here r st.Ready) ∙ ap (λ c. at_key ◌==◌ p (Runs c) (system_of x).condition) en.0) i; births = next_births event.Pause (slot.Here r st.Ready) i })
+      system = (λ i. record (system_of x) { condition = (next_condition event.Pause (slot.Here r st.Ready) ∙ ap (λ c. at_key ◌==◌ p (Working c) (system_of x).condition) en.0) i; births = next_births event.Pause (slot.Here r st.Ready) i })
           ∙ after_quiet (setting_of x) (system_of x) p m.Pauses (config_of h.proc) f refl ∙ ap (λ t. after plain (setting_of x) p t (system_of x)) (sym turn_is)

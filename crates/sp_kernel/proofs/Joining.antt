@@ -12,7 +12,7 @@ use Rattle.sp_code.specs.PlainStore.{plain}
 use Rattle.sp_code.specs.Turns.{Stopped, IsTurn}
 use Rattle.sp_code.specs.Sound.{StopsAt}
 use Rattle.sp_code.specs.Control.{Control, Out, Joining, Ended, comes_back, does, queues, one_fewer as control_fewer, reports}
-use Rattle.sp_code.specs.System.{Runs, Joins as IsJoining, Over, Gone as HasGone, after, event_of, entered_now, on_store, rejoined, reported}
+use Rattle.sp_code.specs.System.{Working, Joins as IsJoining, Over, Gone as HasGone, after, event_of, entered_now, on_store, rejoined, reported}
 use Rattle.sp_kernel.specs.declared.slot.Slot.{Slot}
 use Rattle.sp_kernel.specs.declared.slot.Slot.TheVariants as slot
 use Rattle.sp_kernel.specs.declared.slot.State.TheVariants as st
@@ -152,8 +152,8 @@ module _ (x : Kernel) (k : IsKernel x) (p w : ℕ) (here : (control_of x).doing 
       abbrev joined : m.Config (Memory Plain)
       joined = on_store (λ m. plain.joined m h.proc.store) (config_of parent)
 
-      condition_by : (c : Bool) → condition_in (Some (slot.Here told.0 (if c then st.Ready else st.Joining (n - 1)))) ≡ (if c then Runs joined else IsJoining (n - 1) joined)
-      condition_by true = ap (λ d. Runs d) told.2.0
+      condition_by : (c : Bool) → condition_in (Some (slot.Here told.0 (if c then st.Ready else st.Joining (n - 1)))) ≡ (if c then Working joined else IsJoining (n - 1) joined)
+      condition_by true = ap (λ d. Working d) told.2.0
       condition_by false = ap (λ d. IsJoining (n - 1) d) told.2.0
 
       ended_system : system_of ended ≡ after plain (setting_of x) p (turn_of h) (system_of x)

@@ -21,7 +21,7 @@ use Rattle.sp_code.specs.PlainStore.{plain}
 use Rattle.sp_code.specs.Turns.{Stopped, IsTurn}
 use Rattle.sp_code.specs.Sound.{CanPut}
 use Rattle.sp_code.specs.Control.{Out, comes_back}
-use Rattle.sp_code.specs.System.{System, Runs, after, event_of, entered_now, on_store, fault_of}
+use Rattle.sp_code.specs.System.{System, Working, after, event_of, entered_now, on_store, fault_of}
 use Rattle.sp_history.specs.Channels.{CellHas, CellsHave, EntriesHave, ConfigHas, TurnDoes}
 use Rattle.sp_history.proofs.Keeping.{HasKeeping, turn_does}
 use Rattle.sp_kernel.specs.declared.slot.Slot.TheVariants as slot
@@ -171,7 +171,7 @@ module _ (x : Kernel) (k : IsKernel x) (p w : ℕ) (here : (control_of x).doing 
 
   system : system_of opened ≡ after plain (setting_of x) p (turn_of h) (system_of x)
   system = (λ i. record (system_of x) {
-    condition = (next_condition x k p w here event.Open (slot.Here r st.Ready) ∙ ap (λ d. at_key ◌==◌ p (Runs d) (system_of x).condition) channel_is) i;
+    condition = (next_condition x k p w here event.Open (slot.Here r st.Ready) ∙ ap (λ d. at_key ◌==◌ p (Working d) (system_of x).condition) channel_is) i;
     pending = fun_ext {B = λ c. Option ℕ} (more_at process_in x.channels None refl) i;
     births = next_births x k p w here event.Open (slot.Here r st.Ready) i;
     entries = x.entries + 1;

@@ -17,7 +17,7 @@ use Rattle.sp_code.specs.PlainStore.{plain}
 use Rattle.sp_code.specs.Turns.{Stopped, IsTurn}
 use Rattle.sp_code.specs.Sound.{StopsAt}
 use Rattle.sp_code.specs.Control.{Out, Receiving, comes_back, offers}
-use Rattle.sp_code.specs.System.{System, Runs, Waits, after, event_of, entered_now, on_store, fault_of, taken, received, message_of, counted, clash_by, pending_stop, stop_of}
+use Rattle.sp_code.specs.System.{System, Working, Waits, after, event_of, entered_now, on_store, fault_of, taken, received, message_of, counted, clash_by, pending_stop, stop_of}
 use Rattle.sp_kernel.specs.declared.slot.Slot.{Slot}
 use Rattle.sp_kernel.specs.declared.slot.Slot.TheVariants as slot
 use Rattle.sp_kernel.specs.declared.slot.State.TheVariants as st
@@ -27,7 +27,7 @@ use Rattle.sp_machine.specs.declared.state.Stop.TheVariants as stop
 use Rattle.sp_kernel.specs.declared.kernel.Kernel.{Kernel}
 use Rattle.sp_kernel.specs.Procs.{config_of, turn_by, turn_of, Enters}
 use Rattle.sp_kernel.specs.Kernels.{doing_in, condition_in, offer_in, process_in, control_of, system_of, setting_of, WaitsAs, IsOwn, NumberIn, IsKernel, Gave}
-use Rattle.sp_kernel.specs.Receives.{waits_to_receive, meets_receiving, IsSender, Gives, EntersWith}
+use Rattle.sp_kernel.specs.Receives.{waits_to_receive, meets_receiving, IsSender, IsSenderWith, EntersWith}
 use Rattle.sp_kernel.specs.Fits.{Fits}
 use Rattle.sp_history.proofs.Queues.{number_or}
 use Rattle.sp_kernel.proofs.Tables.{table_set, set_length, get_set, get_apart, within}
@@ -129,7 +129,7 @@ module _ (x : Kernel) (k : IsKernel x) (p w : ℕ) (here : (control_of x).doing 
     })) (sym own_first) first_gave
 
   -- an offer to send is pending: it meets
-  module _ (z : ℕ) (pending : slice_get x.channels c ≡ Some (Some (record { way = way.Send; process = z; message = j }))) (t r : Proc) (cs : List Cell) (gives : Gives (slice_get x.slots z) t cs) (en : EntersWith h.proc cs r) where
+  module _ (z : ℕ) (pending : slice_get x.channels c ≡ Some (Some (record { way = way.Send; process = z; message = j }))) (t r : Proc) (cs : List Cell) (gives : IsSenderWith (slice_get x.slots z) t cs) (en : EntersWith h.proc cs r) where
     own : r.number ≡ p
     own = en.1 ∙ number
 
@@ -159,14 +159,14 @@ module _ (x : Kernel) (k : IsKernel x) (p w : ℕ) (here : (control_of x).doing 
         go None e f = absurd f
         go (Some s) e f = within x.slots z s e
 
-    received_is : received plain (setting_of x) [] (condition_in (slice_get x.slots z)) ≡ Runs (config_of t)
+    received_is : received plain (setting_of x) [] (condition_in (slice_get x.slots z)) ≡ Working (config_of t)
     received_is = go (slice_get x.slots z) gives
       where
-        go : (o : Option Slot) → Gives o t cs → received plain (setting_of x) [] (condition_in o) ≡ Runs (config_of t)
+        go : (o : Option Slot) → IsSenderWith o t cs → received plain (setting_of x) [] (condition_in o) ≡ Working (config_of t)
         go None e = absurd e
         go (Some (slot.Here q st.Ready)) e = absurd e
         go (Some (slot.Out v q)) e = absurd e
-        go (Some (slot.Here q (st.Sending d i bs))) e = ap (λ y. Runs (config_of y)) e.0
+        go (Some (slot.Here q (st.Sending d i bs))) e = ap (λ y. Working (config_of y)) e.0
         go (Some (slot.Here q (st.Receiving d i))) e = absurd e
         go (Some (slot.Here q (st.Joining n))) e = absurd e
         go (Some (slot.Here q st.Laid)) e = absurd e
@@ -177,7 +177,7 @@ module _ (x : Kernel) (k : IsKernel x) (p w : ℕ) (here : (control_of x).doing 
     message_is : message_of plain (setting_of x) (stop_of (condition_in (slice_get x.slots z))) ≡ cs
     message_is = go (slice_get x.slots z) gives
       where
-        go : (o : Option Slot) → Gives o t cs → message_of plain (setting_of x) (stop_of (condition_in o)) ≡ cs
+        go : (o : Option Slot) → IsSenderWith o t cs → message_of plain (setting_of x) (stop_of (condition_in o)) ≡ cs
         go None e = absurd e
         go (Some (slot.Here q st.Ready)) e = absurd e
         go (Some (slot.Out v q)) e = absurd e
@@ -195,7 +195,7 @@ module _ (x : Kernel) (k : IsKernel x) (p w : ℕ) (here : (control_of x).doing 
     both_set : {X : Type 0} (f : Option Slot → X) → ◌≡◌ {A = ℕ → X} (λ q. f (slice_get (slice_set (slice_set x.slots z (slot.Here t st.Ready)) p (slot.Here r st.Ready)) q)) (at_key ◌==◌ p (f (Some (slot.Here r st.Ready))) (at_key ◌==◌ z (f (Some (slot.Here t st.Ready))) (λ q. f (slice_get x.slots q))))
     both_set f = table_set f (slice_set x.slots z (slot.Here t st.Ready)) p (slot.Here r st.Ready) p_there ∙ ap (λ n. at_key ◌==◌ p (f (Some (slot.Here r st.Ready))) n) (table_set f x.slots z (slot.Here t st.Ready) z_there)
 
-  module _ (z : ℕ) (pending : slice_get x.channels c ≡ Some (Some (record { way = way.Send; process = z; message = j }))) (t r : Proc) (cs : List Cell) (gives : Gives (slice_get x.slots z) t cs) (en : EntersWith h.proc cs r) where
+  module _ (z : ℕ) (pending : slice_get x.channels c ≡ Some (Some (record { way = way.Send; process = z; message = j }))) (t r : Proc) (cs : List Cell) (gives : IsSenderWith (slice_get x.slots z) t cs) (en : EntersWith h.proc cs r) where
     met_control : control_of (met z pending t r cs gives en) ≡ comes_back p (event_of x.limits (system_of x) (turn_of h)) (control_of x)
     unfolding met
     met_control = (λ i. record (control_of x) {
@@ -212,9 +212,9 @@ module _ (x : Kernel) (k : IsKernel x) (p w : ℕ) (here : (control_of x).doing 
     unfolding met
     met_system = (λ i. record (system_of x) {
       condition = (both_set z pending t r cs gives en condition_in
-          ∙ ap (λ d. at_key ◌==◌ p (Runs d) (at_key ◌==◌ z (Runs (config_of t)) (system_of x).condition)) en.0
-          ∙ ap (λ bs. at_key ◌==◌ p (Runs (on_store (put_cells plain h.proc.target bs) (entered_now (config_of h.proc)))) (at_key ◌==◌ z (Runs (config_of t)) (system_of x).condition)) (sym (message_is z pending t r cs gives en))
-          ∙ ap (λ y. at_key ◌==◌ p (Runs (on_store (put_cells plain h.proc.target (message_of plain (setting_of x) (stop_of (condition_in (slice_get x.slots z))))) (entered_now (config_of h.proc)))) (at_key ◌==◌ z y (system_of x).condition)) (sym (received_is z pending t r cs gives en))) i;
+          ∙ ap (λ d. at_key ◌==◌ p (Working d) (at_key ◌==◌ z (Working (config_of t)) (system_of x).condition)) en.0
+          ∙ ap (λ bs. at_key ◌==◌ p (Working (on_store (put_cells plain h.proc.target bs) (entered_now (config_of h.proc)))) (at_key ◌==◌ z (Working (config_of t)) (system_of x).condition)) (sym (message_is z pending t r cs gives en))
+          ∙ ap (λ y. at_key ◌==◌ p (Working (on_store (put_cells plain h.proc.target (message_of plain (setting_of x) (stop_of (condition_in (slice_get x.slots z))))) (entered_now (config_of h.proc)))) (at_key ◌==◌ z y (system_of x).condition)) (sym (received_is z pending t r cs gives en))) i;
       pending = table_set process_in x.channels c None (within x.channels c _ pending) i;
       births = next_births x k p w here (event.Receive c) (slot.Here r st.Ready) i;
       entries = x.entries + 1;
@@ -250,7 +250,7 @@ module _ (x : Kernel) (k : IsKernel x) (p w : ℕ) (here : (control_of x).doing 
     got_number : IsOwn (setting_of x).input t z
     got_number = go (slice_get x.slots z) gives (k.numbers z)
       where
-        go : (o : Option Slot) → Gives o t cs → NumberIn (setting_of x).input o z → IsOwn (setting_of x).input t z
+        go : (o : Option Slot) → IsSenderWith o t cs → NumberIn (setting_of x).input o z → IsOwn (setting_of x).input t z
         go None e n = absurd e
         go (Some (slot.Here q st.Ready)) e n = absurd e
         go (Some (slot.Out v q)) e n = absurd e

@@ -18,7 +18,7 @@ use Rattle.sp_code.specs.PlainStore.{plain}
 use Rattle.sp_code.specs.Turns.{Stopped, IsTurn}
 use Rattle.sp_code.specs.Sound.{StopsAt}
 use Rattle.sp_code.specs.Control.{Out, Sending, comes_back, offers}
-use Rattle.sp_code.specs.System.{System, Runs, Waits, after, event_of, entered_now, fault_of, sent, received, counted, clash_by, pending_stop, stop_of}
+use Rattle.sp_code.specs.System.{System, Working, Waits, after, event_of, entered_now, fault_of, sent, received, counted, clash_by, pending_stop, stop_of}
 use Rattle.sp_kernel.specs.declared.slot.Slot.{Slot}
 use Rattle.sp_kernel.specs.declared.slot.Slot.TheVariants as slot
 use Rattle.sp_kernel.specs.declared.slot.State.TheVariants as st
@@ -155,15 +155,15 @@ module _ (x : Kernel) (k : IsKernel x) (p w : ℕ) (here : (control_of x).doing 
         go None e f = absurd f
         go (Some s) e f = within x.slots z s e
 
-    received_is : received plain (setting_of x) cs (condition_in (slice_get x.slots z)) ≡ Runs (config_of t)
+    received_is : received plain (setting_of x) cs (condition_in (slice_get x.slots z)) ≡ Working (config_of t)
     received_is = go (slice_get x.slots z) gets
       where
-        go : (o : Option Slot) → Gets o cs t → received plain (setting_of x) cs (condition_in o) ≡ Runs (config_of t)
+        go : (o : Option Slot) → Gets o cs t → received plain (setting_of x) cs (condition_in o) ≡ Working (config_of t)
         go None e = absurd e
         go (Some (slot.Here q st.Ready)) e = absurd e
         go (Some (slot.Out v q)) e = absurd e
         go (Some (slot.Here q (st.Sending d i bs))) e = absurd e
-        go (Some (slot.Here q (st.Receiving d i))) e = ap (λ y. Runs y) (sym e.0)
+        go (Some (slot.Here q (st.Receiving d i))) e = ap (λ y. Working y) (sym e.0)
         go (Some (slot.Here q (st.Joining n))) e = absurd e
         go (Some (slot.Here q st.Laid)) e = absurd e
         go (Some slot.Ended) e = absurd e
@@ -192,8 +192,8 @@ module _ (x : Kernel) (k : IsKernel x) (p w : ℕ) (here : (control_of x).doing 
     met_system : system_of (met z pending t gets) ≡ after plain (setting_of x) p (turn_of h) (system_of x)
     unfolding met
     met_system = (λ i. record (system_of x) {
-      condition = (both_set z pending t gets condition_in ∙ ap (λ d. at_key ◌==◌ p (Runs d) (at_key ◌==◌ z (Runs (config_of t)) (system_of x).condition)) en.0
-          ∙ ap (λ y. at_key ◌==◌ p (Runs (entered_now (config_of h.proc))) (at_key ◌==◌ z y (system_of x).condition)) (sym (received_is z pending t gets))) i;
+      condition = (both_set z pending t gets condition_in ∙ ap (λ d. at_key ◌==◌ p (Working d) (at_key ◌==◌ z (Working (config_of t)) (system_of x).condition)) en.0
+          ∙ ap (λ y. at_key ◌==◌ p (Working (entered_now (config_of h.proc))) (at_key ◌==◌ z y (system_of x).condition)) (sym (received_is z pending t gets))) i;
       pending = table_set process_in x.channels c None (within x.channels c _ pending) i;
       births = next_births x k p w here (event.Send c) (slot.Here r st.Ready) i;
       entries = x.entries + 1;

@@ -4,7 +4,7 @@ use Rattle.std.proofs.Math.Path.{fun_ext}
 use Rattle.sp_journal.specs.Maps.{at_key}
 use Rattle.sp_channel.specs.declared.channels.Pending.{Pending}
 use Rattle.sp_code.specs.Control.{Control, Ready, Out, takes, behind, front, front_of, front_while, Standing, Running, IsDone, IsDeadlock, IsFault, IsMemory, has_ended, is_ready}
-use Rattle.sp_code.specs.System.{Runs}
+use Rattle.sp_code.specs.System.{Working}
 use Rattle.sp_kernel.specs.declared.slot.Slot.{Slot}
 use Rattle.sp_kernel.specs.declared.slot.Slot.TheVariants as slot
 use Rattle.sp_kernel.specs.declared.slot.State.TheVariants as st
@@ -73,7 +73,7 @@ first_ready x k q e = go x.ready refl k.orderly.queue.queued e
     go (y ∷ ys) w each e = let is : y ≡ q = cc e in ((ys, w ∙ ap (λ z. z ∷ ys) is), subst (λ z. (control_of x).doing z ≡ Ready) is each.0)
 
 module _ (x : Kernel) (k : IsKernel x) (w q : ℕ) (goes : is_over (control_of x) ≡ false) (e : front_of x.ready ≡ Some q) (p : Proc) (here : slice_get x.slots q ≡ Some (slot.Here p st.Ready)) (s : Slot)
-    (doing : doing_in (Some s) ≡ Out w) (runs : condition_in (Some s) ≡ Runs (config_of p)) (free : NumberIn (setting_of x).input (Some s) q) where
+    (doing : doing_in (Some s) ≡ Out w) (runs : condition_in (Some s) ≡ Working (config_of p)) (free : NumberIn (setting_of x).input (Some s) q) where
   abbrev taken : Kernel
   taken = record x { slots = slice_set x.slots q s; ready = behind x.ready; out = x.out + 1 }
 
@@ -118,7 +118,7 @@ module _ (x : Kernel) (k : IsKernel x) (w q : ℕ) (goes : is_over (control_of x
     front = ap (λ n. Some n) number ∙ sym (not_over (control_of x) goes ∙ e);
     system = system;
     same = λ r. absurd (cc r);
-    work = λ r f. let g : p ≡ r = cc f in subst (λ (z : Proc). ((system_of x).condition z.number ≡ Runs (config_of z)) × (z.input.value ≡ (setting_of x).input)) g (ap (system_of x).condition number ∙ ap condition_in here, own.1);
+    work = λ r f. let g : p ≡ r = cc f in subst (λ (z : Proc). ((system_of x).condition z.number ≡ Working (config_of z)) × (z.input.value ≡ (setting_of x).input)) g (ap (system_of x).condition number ∙ ap condition_in here, own.1);
     setting = (refl, refl, refl);
     journal = refl;
     whole = record {

@@ -10,7 +10,7 @@ use Rattle.sp_code.specs.PlainStore.{plain}
 use Rattle.sp_code.specs.Turns.{IsTurn}
 use Rattle.sp_code.specs.Sound.{IsSound, AreLimits}
 use Rattle.sp_code.specs.Control.{Out, control_at_start, control, noted, front, standing, Running, entry_of}
-use Rattle.sp_code.specs.System.{System, Runs, opening}
+use Rattle.sp_code.specs.System.{System, Working, opening}
 use Rattle.sp_room.specs.History.{notes_by}
 use Rattle.sp_machine.specs.declared.state.State.{State as Proc}
 use Rattle.sp_kernel.specs.declared.handed.Handed.{Handed}
@@ -54,7 +54,7 @@ pub record CanServe (x : Kernel) (w : ℕ) (a : Ask) : Type 0 where
 -- what is got is the process that the note names, in the state that the system has for it
 abbrev pub Answers : Kernel → Got → Option ℕ → Type 0
 Answers y (got.Work p) None = ⊥
-Answers y (got.Work p) (Some q) = (p.number ≡ q) × ((system_of y).condition q ≡ Runs (config_of p)) × (p.input.value ≡ (setting_of y).input)
+Answers y (got.Work p) (Some q) = (p.number ≡ q) × ((system_of y).condition q ≡ Working (config_of p)) × (p.input.value ≡ (setting_of y).input)
 Answers y got.Nothing None = (front (control_of y) ≡ None) × ((standing (control_of y) ≡ Running) ⊎ (0 < y.out))
 Answers y got.Nothing (Some q) = ⊥
 Answers y got.Finished None = (standing (control_of y) ≢ Running) × (y.out ≡ 0)
@@ -115,7 +115,7 @@ pub record HoldsOut (g : Setting) (seen : List Note) (w q : ℕ) : Type 0 where
   pub reaches : Reaches plain g control_at_start (opening plain g) seen system
   pub out : (control seen).doing q ≡ Out w
   pub at : Config (Memory Plain)
-  pub runs : system.condition q ≡ Runs at
+  pub runs : system.condition q ≡ Working at
 
 -- it was run by one turn from that state, on the input of the run, to the stop that is handed in
 pub record HasRun (g : Setting) (seen : List Note) (w : ℕ) (h : Handed) : Type 0 where

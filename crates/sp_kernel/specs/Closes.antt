@@ -16,7 +16,7 @@ use Rattle.sp_code.specs.Control.{Out, Gone, standing, entries_of, Running, IsDo
 use Rattle.sp_code.specs.System.{store_in}
 use Rattle.sp_history.specs.Agreement.{IsOver}
 use Rattle.sp_history.specs.Spoken.{IsSpoken}
-use Rattle.sp_room.specs.History.{Runs as Told}
+use Rattle.sp_room.specs.History.{LeadsTo as Told}
 use Rattle.sp_kernel.specs.declared.slot.Slot.{Slot}
 use Rattle.sp_kernel.specs.declared.slot.Slot.TheVariants as slot
 use Rattle.sp_kernel.specs.declared.slot.State.TheVariants as st

@@ -10,7 +10,7 @@ use Rattle.sp_code.specs.PlainStore.{plain}
 use Rattle.sp_code.specs.Turns.{IsTurn}
 use Rattle.sp_code.specs.Sound.{IsSafeSystem, HasDistinctBlocks}
 use Rattle.sp_code.specs.Control.{Out, Joining}
-use Rattle.sp_code.specs.System.{Runs}
+use Rattle.sp_code.specs.System.{Working}
 use Rattle.sp_kernel.specs.declared.handed.Handed.{Handed}
 use Rattle.sp_machine.specs.declared.state.Stop.{Stop}
 use Rattle.sp_machine.specs.declared.state.Stop.TheVariants as stop
@@ -50,7 +50,7 @@ pub record FitsCode (code : Parts) : Type 0 where
 pub record Fits (x : Kernel) (w : ℕ) (h : Handed) : Type 0 where
   pub out : (control_of x).doing h.proc.number ≡ Out w
   pub at : Config (Memory Plain)
-  pub runs : (system_of x).condition h.proc.number ≡ Runs at
+  pub runs : (system_of x).condition h.proc.number ≡ Working at
   pub turn : IsTurn (memory plain (setting_of x)) (setting_of x).code at (turn_of h)
   pub safe : IsSafeSystem (setting_of x) (system_of x)
   pub offered : IsOffered (length x.channels) h.stop

@@ -8,8 +8,8 @@ use Rattle.sp_code.specs.Memory.{Setting, Memory, memory}
 use Rattle.sp_code.specs.PlainStore.{plain}
 use Rattle.sp_code.specs.Turns.{IsTurn, Stopped}
 use Rattle.sp_code.specs.Control.{Control, Out, Joining, control_at_start, control, noted, noted_all, entries_of, entry_of}
-use Rattle.sp_code.specs.System.{System, Runs, opening, IsSystem}
-use Rattle.sp_room.specs.History.{Runs as Told, notes_by, StartsWith, either_list}
+use Rattle.sp_code.specs.System.{System, Working, opening, IsSystem}
+use Rattle.sp_room.specs.History.{LeadsTo as Told, notes_by, StartsWith, either_list}
 use mathlib.Core.List.{append-nil}
 use Rattle.sp_kernel.specs.declared.handed.Handed.{Handed}
 use Rattle.sp_machine.specs.declared.state.Stop.{Stop}
@@ -146,8 +146,8 @@ module _ (x : Kernel) (fine : IsOpening x) (log : List Note) (y : Kernel) (told 
     quiet = none_by w starts.0 no_more
 
     -- what is out with the worker is as it was
-    as_before : (s : System Plain) (p : ℕ) (at : Config (Memory Plain)) → Reaches plain (setting_of x) control_at_start (opening plain (setting_of x)) seen s → (control seen).doing p ≡ Out w → s.condition p ≡ Runs at
-        → ((control log).doing p ≡ Out w) × ((system_of y).condition p ≡ Runs at)
+    as_before : (s : System Plain) (p : ℕ) (at : Config (Memory Plain)) → Reaches plain (setting_of x) control_at_start (opening plain (setting_of x)) seen s → (control seen).doing p ≡ Out w → s.condition p ≡ Working at
+        → ((control log).doing p ≡ Out w) × ((system_of y).condition p ≡ Working at)
     as_before s p at r out runs =
         let f = reaches_front plain (setting_of x) control_at_start (opening plain (setting_of x)) (system_of y) seen starts.0 (subst (λ (l : List Note). Reaches plain (setting_of x) control_at_start (opening plain (setting_of x)) l (system_of y)) starts.1 from_start) in
         let same : s ≡ f.0 = reaches_same plain (setting_of x) control_at_start (opening plain (setting_of x)) s f.0 seen r f.1 in
@@ -156,13 +156,13 @@ module _ (x : Kernel) (fine : IsOpening x) (log : List Note) (y : Kernel) (told 
         (ap (λ (c : Control). c.doing p) (ap control starts.1 ∙ noted_append seen starts.0 control_at_start) ∙ o.0, o.1)
 
     module _ (q : ℕ) (h : HoldsOut (setting_of x) seen w q) where
-      pub kept : ((control log).doing q ≡ Out w) × ((system_of y).condition q ≡ Runs h.at)
+      pub kept : ((control log).doing q ≡ Out w) × ((system_of y).condition q ≡ Working h.at)
       kept = as_before h.system q h.at h.reaches h.out h.runs
 
       pub out_now : (control_of y).doing q ≡ Out w
       out_now = ap (λ (c : Control). c.doing q) control_is ∙ kept.0
 
-      pub runs_now : (system_of y).condition q ≡ Runs h.at
+      pub runs_now : (system_of y).condition q ≡ Working h.at
       runs_now = kept.1
 
       abbrev pub held_now : HoldsOut (setting_of x) log w q
@@ -176,7 +176,7 @@ module _ (x : Kernel) (fine : IsOpening x) (log : List Note) (y : Kernel) (told 
           (j.0, ap (λ (c : Control). c.doing b.parent) control_is ∙ j.1)
 
     -- it offers on a channel that is there
-    offered_now : (h : Handed) (at : Config (Memory Plain)) → (system_of y).condition h.proc.number ≡ Runs at → IsTurn (memory plain (setting_of x)) (setting_of x).code at (turn_of h) → IsWhole h.stop → IsOffered (length y.channels) h.stop
+    offered_now : (h : Handed) (at : Config (Memory Plain)) → (system_of y).condition h.proc.number ≡ Working at → IsTurn (memory plain (setting_of x)) (setting_of x).code at (turn_of h) → IsWhole h.stop → IsOffered (length y.channels) h.stop
     offered_now h at runs turn whole = go h.stop whole turn
       where
         spoken : IsSpoken (system_of y)

@@ -17,7 +17,7 @@ use Rattle.sp_code.specs.Sound.{run_of}
 use Rattle.sp_code.specs.Control.{Control, Doing, Unborn, Ready, Out, Sending, Receiving, Joining, Laid, Ended, Gone, comes_back, behind, takes, abandons, front, has_ended, standing, Standing, Running, IsDone, IsDeadlock, IsFault, IsMemory}
 use Rattle.sp_kernel.specs.declared.kernel.Standing.{Standing as Told}
 use Rattle.sp_kernel.specs.declared.kernel.Standing.TheVariants as told
-use Rattle.sp_code.specs.System.{System, Condition, Absent, Runs, Waits, Joins, Laid as IsLaid, Gone as HasGone, Over, after, event_of}
+use Rattle.sp_code.specs.System.{System, Condition, Absent, Working, Waits, Joins, Laid as IsLaid, Gone as HasGone, Over, after, event_of}
 use Rattle.sp_kernel.specs.declared.slot.Slot.{Slot}
 use Rattle.sp_kernel.specs.declared.slot.Slot.TheVariants as slot
 use Rattle.sp_kernel.specs.declared.slot.State.TheVariants as st
@@ -43,15 +43,15 @@ doing_in (Some (slot.Gone p)) = Gone
 -- what the system tells of a slot
 abbrev pub condition_in : Option Slot → Condition Plain
 condition_in None = Absent
-condition_in (Some (slot.Here p st.Ready)) = Runs (config_of p)
-condition_in (Some (slot.Out w p)) = Runs (config_of p.value)
+condition_in (Some (slot.Here p st.Ready)) = Working (config_of p)
+condition_in (Some (slot.Out w p)) = Working (config_of p.value)
 condition_in (Some (slot.Here p (st.Sending c k cs))) = Waits (m.Sends c k cs) (config_of p)
 condition_in (Some (slot.Here p (st.Receiving c k))) = Waits (m.Receives c k (target_of p)) (config_of p)
 condition_in (Some (slot.Here p (st.Joining n))) = Joins n (config_of p)
 condition_in (Some (slot.Here p st.Laid)) = IsLaid (config_of p)
 condition_in (Some slot.Ended) = HasGone
 condition_in (Some (slot.Here p st.Over)) = Over (config_of p)
-condition_in (Some (slot.Gone p)) = Runs (config_of p.value)
+condition_in (Some (slot.Gone p)) = Working (config_of p.value)
 
 -- the offer that is pending on a channel
 abbrev pub offer_in : Option (Option Pending) → Option (Way × ℕ)
@@ -204,7 +204,7 @@ pub record Takes (x : Kernel) (w : ℕ) (y : Kernel) (r : Option Proc) : Type 0 
   pub front : option_map (λ (p : Proc). p.number) r ≡ front (control_of x)
   pub system : system_of y ≡ system_of x
   pub same : r ≡ None → y ≡ x
-  pub work : (p : Proc) → r ≡ Some p → ((system_of x).condition p.number ≡ Runs (config_of p)) × (p.input.value ≡ (setting_of x).input)
+  pub work : (p : Proc) → r ≡ Some p → ((system_of x).condition p.number ≡ Working (config_of p)) × (p.input.value ≡ (setting_of x).input)
   pub setting : (y.code ≡ x.code) × (y.limits ≡ x.limits) × (y.root ≡ x.root)
   pub journal : y.journal ≡ x.journal
   pub whole : IsKernel y

@@ -47,17 +47,17 @@ IsSender (Some (slot.Here q st.Over)) p = ⊥
 IsSender (Some (slot.Gone q)) p = ⊥
 
 -- the sender is t, with this message
-abbrev pub Gives : Option Slot → Proc → List Cell → Type 0
-Gives (Some (slot.Here q (st.Sending c k bs))) t cs = (q ≡ t) × (bs ≡ cs)
-Gives None t cs = ⊥
-Gives (Some (slot.Here q st.Ready)) t cs = ⊥
-Gives (Some (slot.Out w q)) t cs = ⊥
-Gives (Some (slot.Here q (st.Receiving c k))) t cs = ⊥
-Gives (Some (slot.Here q (st.Joining n))) t cs = ⊥
-Gives (Some (slot.Here q st.Laid)) t cs = ⊥
-Gives (Some slot.Ended) t cs = ⊥
-Gives (Some (slot.Here q st.Over)) t cs = ⊥
-Gives (Some (slot.Gone q)) t cs = ⊥
+abbrev pub IsSenderWith : Option Slot → Proc → List Cell → Type 0
+IsSenderWith (Some (slot.Here q (st.Sending c k bs))) t cs = (q ≡ t) × (bs ≡ cs)
+IsSenderWith None t cs = ⊥
+IsSenderWith (Some (slot.Here q st.Ready)) t cs = ⊥
+IsSenderWith (Some (slot.Out w q)) t cs = ⊥
+IsSenderWith (Some (slot.Here q (st.Receiving c k))) t cs = ⊥
+IsSenderWith (Some (slot.Here q (st.Joining n))) t cs = ⊥
+IsSenderWith (Some (slot.Here q st.Laid)) t cs = ⊥
+IsSenderWith (Some slot.Ended) t cs = ⊥
+IsSenderWith (Some (slot.Here q st.Over)) t cs = ⊥
+IsSenderWith (Some (slot.Gone q)) t cs = ⊥
 
 -- from here on its ticks count for the next pause, and it has the message
 abbrev pub EntersWith : Proc → List Cell → Proc → Type 0
@@ -65,4 +65,4 @@ EntersWith p cs q = (config_of q ≡ on_store (put_cells plain p.target cs) (ent
 
 -- process p received the message of z, and both are ready
 abbrev pub HasReceived : Kernel → Proc → ℕ → ℕ → Kernel → Type 0
-HasReceived x p c z y = (q t : Proc) × (cs : List Cell) × Gives (slice_get x.slots z) t cs × EntersWith p cs q × (y ≡ meets_receiving q t c z x)
+HasReceived x p c z y = (q t : Proc) × (cs : List Cell) × IsSenderWith (slice_get x.slots z) t cs × EntersWith p cs q × (y ≡ meets_receiving q t c z x)

@@ -7,7 +7,7 @@ ghost use Rattle.sp_kernel.specs.declared.slot.State.TheVariants as st;
 ghost use Rattle.sp_machine.specs.declared.state.Stop.TheVariants as stop;
 ghost use Rattle.sp_kernel.specs.Kernels.{IsKernel, Gave, seated};
 ghost use Rattle.sp_kernel.specs.Fits.{Fits};
-ghost use Rattle.sp_kernel.specs.Receives.{waits_to_receive, IsSender, Gives, HasReceived};
+ghost use Rattle.sp_kernel.specs.Receives.{waits_to_receive, IsSender, IsSenderWith, HasReceived};
 ghost use Rattle.sp_kernel.specs.Procs.{CanTake, Enters};
 
 use crate::handed::Handed;
@@ -45,7 +45,7 @@ impl Kernel {
     fn fetch(&mut self, other: u32, _receiver: &Proc) -> List<Cell>
         requires there { other < length self.old.slots }
         requires sender { IsSender (slice_get self.old.slots other) _receiver.now }
-        ensures given { (q : _) × Gives (slice_get self.old.slots other) q result × (self.new ≡ seated other (slot.Here q st.Ready) self.old) }
+        ensures given { (q : _) × IsSenderWith (slice_get self.old.slots other) q result × (self.new ≡ seated other (slot.Here q st.Ready) self.old) }
         ensures fits { CanTake _receiver.now result }
     {
         match swap(&mut self.slots, other, Slot::Ended) {

@@ -7,7 +7,7 @@ use Rattle.sp_tree.specs.Plain.{Block, Stmt, Repeat}
 use Rattle.sp_tree.specs.Uses.{Use, In_stmt}
 use Rattle.sp_tree.specs.Interference.{IsFreeOfInterference}
 use Rattle.sp_cell.specs.Map.{Plain}
-use Rattle.sp_meaning.specs.Model.{Name, Channel, Cargo, Gives, Takes}
+use Rattle.sp_meaning.specs.Model.{Name, Channel, Cargo, Message, Takes}
 use Rattle.sp_meaning.specs.Own.{Setting, Loc, Cell, Held, Tree, Position, Written, Address, Own, Who, Item, Do, First, Again, Test, Leave, Break}
 use Rattle.sp_meaning.specs.Run.{Store}
 use Rattle.sp_meaning.proofs.Rights.{Mine}
@@ -39,7 +39,7 @@ module _ {M : Type 0} (g : Setting) (code : Code) (moves shares : Stmt → List 
     who = w;
     due = due;
     Writes = W;
-    Reads = R;
+    IsReadable = R;
     Indexes = J;
     operations = ops;
     relation = rel;
@@ -61,7 +61,7 @@ module _ {M : Type 0} (g : Setting) (code : Code) (moves shares : Stmt → List 
     who = w1;
     due = due1;
     Writes = W;
-    Reads = R;
+    IsReadable = R;
     Indexes = J;
     operations = ops;
     relation = rel1;
@@ -124,7 +124,7 @@ module _ (G : Ground) (lf : Life) (kids : ℕ → ℕ → Life) (q : Name) where
 
     -- the offer of one that waits
     pub cargo_again : (js : List Joint) (c : Channel) (k : ℕ) (x : Cargo Held Address) (z : Stop) → Ca G lf kids q f w n a js c k x z → Ca G lf kids q f1 w1 n1 b js c k x z
-    cargo_again js c k (Gives (Tree v)) z h = h
-    cargo_again js c k (Gives (Position m)) z h = h
-    cargo_again js c k (Gives (Written bs)) z h = h
+    cargo_again js c k (Message (Tree v)) z h = h
+    cargo_again js c k (Message (Position m)) z h = h
+    cargo_again js c k (Message (Written bs)) z h = h
     cargo_again js c k (Takes t) z h = h

@@ -26,11 +26,11 @@ use Rattle.sp_code.specs.System as sys
 use Rattle.sp_link.proofs.TurnsMeet.{Keeps_it, keeps, turn_known, pure_blocks, Wr, Rd}
 use Rattle.sp_link.proofs.OneChanges.{q, pr, runs, alone, light, keeps_to, here, present, not_ended, holds_by, inv_local}
 use Rattle.sp_link.proofs.Pauses.{kids}
-use Rattle.sp_link.proofs.Relation.{Ground, Lives, W_of, R_of, Stands, Does_all, Linked}
+use Rattle.sp_link.proofs.Relation.{Ground, Lives, W_of, R_of, Stands, Performs_all, Linked}
 use Rattle.sp_link.proofs.OthersStay.{does_stay}
 use Rattle.sp_link.proofs.SourceTurns.{Comes_to}
 
-module _ (G : Ground) (lv : Lives G) (c : Course) (s : StateOf G.g) (u : System Plain) (l : Linked G lv c s u) (i : ℕ) (d : Config (Memory Plain)) (at_i : u.condition i ≡ sys.Runs d) where
+module _ (G : Ground) (lv : Lives G) (c : Course) (s : StateOf G.g) (u : System Plain) (l : Linked G lv c s u) (i : ℕ) (d : Config (Memory Plain)) (at_i : u.condition i ≡ sys.Working d) where
   abbrev pub w : Name
   w = q G lv c s u l i d at_i
 
@@ -87,7 +87,7 @@ module _ (G : Ground) (lv : Lives G) (c : Course) (s : StateOf G.g) (u : System 
           few j lt = let a = l.began.processes in omega (arith, lt, a)
 
       -- the others
-      pub does_at : (j : ℕ) → j < u.births.processes → i ≢ j → Does_all G lv (G.births.name j) c x.at (u.births.opens j) (u.condition j)
+      pub does_at : (j : ℕ) → j < u.births.processes → i ≢ j → Performs_all G lv (G.births.name j) c x.at (u.births.opens j) (u.condition j)
       does_at j lt e =
           let apart = other_name j lt e in
           does_stay G lv s x.at l.known.sound l.rights.fair w (alone G lv c s u l i d at_i) x.good.stays (G.births.name j) apart (x.elsewhere.condition (G.births.name j) apart) (λ k n. ended_same ((k, n) ∷ G.births.name j)) (λ k n. present_same ((k, n) ∷ G.births.name j)) c c refl refl (λ h. h) (u.births.opens j) (u.condition j) (l.does j lt)

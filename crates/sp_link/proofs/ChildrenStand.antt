@@ -5,7 +5,8 @@ use Rattle.std.specs.Prelude.{◌≢◌, IsSome, slice_get}
 use Rattle.std.specs.FinMap as fin
 use Rattle.sp_tree.specs.declared.checked.Role.TheVariants as role
 use Rattle.sp_tree.specs.Plain.{Variable, Stmts, Parallel}
-use Rattle.sp_tree.specs.Uses.{Use, Aims, Sees, In_stmt}
+use Rattle.sp_tree.specs.Uses.{Use, Target, In_stmt}
+use Rattle.sp_tree.specs.Uses as use_of
 use Rattle.sp_tree.specs.Sets.{IsTarget, IsUsed}
 use Rattle.sp_cell.specs.declared.spot.Spot.{Spot}
 use Rattle.sp_cell.specs.declared.spot.Handing.{Handing}
@@ -78,13 +79,13 @@ module _ (G : Ground) (lf : Life) (kids : ℕ → ℕ → Life) (q : Name) where
 
     pub unread : IsUsed G.g.program (In_stmt z.statement) 1 → IsTarget G.g.program (In_stmt z.statement) 1
     unread (inl a) = a
-    unread (inr a) = absurd (reached_formed G a.0 formed_here (Sees 1) a.1 refl)
+    unread (inr a) = absurd (reached_formed G a.0 formed_here (use_of.Seen 1) a.1 refl)
 
     declared : (y : ℕ) → IsTarget G.g.program (In_stmt z.statement) y → (v : Variable) × (slice_get G.g.program.variables y ≡ Some v)
-    declared y a = let h = reached_formed G a.0 formed_here (Aims y) a.1 in (h.0, h.1)
+    declared y a = let h = reached_formed G a.0 formed_here (Target y) a.1 in (h.0, h.1)
 
     no_index_aimed : (y : ℕ) → IsIndexOf G.g.program y → IsTarget G.g.program (In_stmt z.statement) y → ⊥
-    no_index_aimed y i a = let h = reached_formed G a.0 formed_here (Aims y) a.1 in h.2 (same_role i.0 h.0 (sym i.1 ∙ h.1) i.2)
+    no_index_aimed y i a = let h = reached_formed G a.0 formed_here (Target y) a.1 in h.2 (same_role i.0 h.0 (sym i.1 ∙ h.1) i.2)
 
     pub sound : Sound G.g.program Wr Rd (sources js) (In_stmt z.statement)
     sound = part (λ u a. inr (inl (z.inside u a))) pl.sound

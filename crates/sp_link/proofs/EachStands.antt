@@ -8,7 +8,8 @@ use Rattle.sp_tree.specs.Formed.{IsFormedUse}
 use Rattle.sp_tree.specs.Interference.{IsIndexOf}
 use Rattle.sp_tree.specs.Plain.{Expr, Variable, Stmt, Forall}
 use Rattle.sp_tree.specs.Sets.{IsTarget, IsUsed}
-use Rattle.sp_tree.specs.Uses.{Use, Aims, Sees, Runs, Splits, Spreads, Stops, In_stmt}
+use Rattle.sp_tree.specs.Uses.{Use, Target, CallOf, ParallelOf, ForallOf, Stop, In_stmt}
+use Rattle.sp_tree.specs.Uses as use_of
 use Rattle.sp_cell.specs.declared.spot.Spot.{Spot}
 use Rattle.sp_cell.specs.declared.spot.Handing.{Handing}
 use Rattle.sp_cell.specs.Fork.{index_frame}
@@ -61,10 +62,10 @@ module _ (G : Ground) (lf : Life) (kids : ℕ → ℕ → Life) (q : Name) where
       (child : Name) (longer : suc (length w.name) ≤ length child) (value : ℤ) (j : ℕ) where
     -- the element statement has no target, and its index is that of a forall
     pub no_target : (y : ℕ) → IsTarget G.g.program (In_stmt st) y → ⊥
-    no_target = (pl.sound.kept (Spreads x st) (inl refl)).1
+    no_target = (pl.sound.kept (ForallOf x st) (inl refl)).1
 
     is_index_of : IsIndexOf G.g.program x
-    is_index_of = (pl.sound.kept (Spreads x st) (inl refl)).0
+    is_index_of = (pl.sound.kept (ForallOf x st) (inl refl)).0
 
     not_output : x ≢ 1
     not_output e = no_console is_index_of.0 G.free.output.0 (sym is_index_of.1 ∙ ap (λ y. slice_get G.g.program.variables y) e ∙ G.free.output.1) is_index_of.2 G.free.output.2
@@ -73,20 +74,20 @@ module _ (G : Ground) (lf : Life) (kids : ℕ → ℕ → Life) (q : Name) where
         no_console a b h k l = let same : a ≡ b = cc h in let bad : role.Index ≡ role.Console = sym k ∙ ap (λ (y : Variable). y.role) same ∙ l in cc bad
 
     formed_here : (u : Use) → In_stmt st u → IsFormedUse G.g.program u
-    formed_here (Aims y) a = absurd (no_target y ([], a))
-    formed_here (Sees y) a = go (x == y) refl
+    formed_here (Target y) a = absurd (no_target y ([], a))
+    formed_here (use_of.Seen y) a = go (x == y) refl
       where
         go : (b : Bool) → x == y ≡ b → y ≢ 1
         go true e = λ h. not_output (eqb-true x y e ∙ h)
-        go false e = pl.formed (Sees y) (inr (inr (inr (inl (a, λ h. (let bad : false ≡ true = sym e ∙ eq-eqb x y h in absurd (cc bad)))))))
-    formed_here (Runs b args) a = pl.formed (Runs b args) (inr (inr (inr (inl (a, tt)))))
-    formed_here (Splits ss) a = pl.formed (Splits ss) (inr (inr (inr (inl (a, tt)))))
-    formed_here (Spreads y s) a = pl.formed (Spreads y s) (inr (inr (inr (inl (a, tt)))))
-    formed_here Stops a = pl.formed Stops (inr (inr (inr (inl (a, tt)))))
+        go false e = pl.formed (use_of.Seen y) (inr (inr (inr (inl (a, λ h. (let bad : false ≡ true = sym e ∙ eq-eqb x y h in absurd (cc bad)))))))
+    formed_here (CallOf b args) a = pl.formed (CallOf b args) (inr (inr (inr (inl (a, tt)))))
+    formed_here (ParallelOf ss) a = pl.formed (ParallelOf ss) (inr (inr (inr (inl (a, tt)))))
+    formed_here (ForallOf y s) a = pl.formed (ForallOf y s) (inr (inr (inr (inl (a, tt)))))
+    formed_here Stop a = pl.formed Stop (inr (inr (inr (inl (a, tt)))))
 
     unread : IsUsed G.g.program (In_stmt st) 1 → IsTarget G.g.program (In_stmt st) 1
     unread (inl a) = a
-    unread (inr a) = absurd (reached_formed G a.0 formed_here (Sees 1) a.1 refl)
+    unread (inr a) = absurd (reached_formed G a.0 formed_here (use_of.Seen 1) a.1 refl)
 
     sound : Sound G.g.program Wr Rd (sources js) (In_stmt st)
     sound = element_sound x from1 to st pl.sound
@@ -111,7 +112,7 @@ module _ (G : Ground) (lf : Life) (kids : ℕ → ℕ → Life) (q : Name) where
         by (inr (inr b)) = no_target b.4.0 b.4.1
 
     -- an index that it uses, other than its own, is in scope around the forall
-    in_scope : (y : ℕ) → IsUsed G.g.program (In_stmt st) y → (Some x ≡ Some y → ⊥) → (v : Variable) × (slice_get G.g.program.variables y ≡ Some v) × (v.role ≡ role.Index → In_stmt st (Sees y) × ((up : ℕ) × (level (is_index y) sc ≡ Some up)))
+    in_scope : (y : ℕ) → IsUsed G.g.program (In_stmt st) y → (Some x ≡ Some y → ⊥) → (v : Variable) × (slice_get G.g.program.variables y ≡ Some v) × (v.role ≡ role.Index → In_stmt st (use_of.Seen y) × ((up : ℕ) × (level (is_index y) sc ≡ Some up)))
     in_scope y u other = let a = is_scoped G true (places.OfIndex x ∷ sc) entry st body formed_here y u in (a.0, a.1, λ iv. (let k = a.2 iv in (k.0, further k.1)))
       where
         further : (up : ℕ) × (level (is_index y) (places.OfIndex x ∷ sc) ≡ Some up) → (up : ℕ) × (level (is_index y) sc ≡ Some up)
@@ -125,7 +126,7 @@ module _ (G : Ground) (lf : Life) (kids : ℕ → ℕ → Life) (q : Name) where
             go true e h = absurd (other (ap Some (sym (eqb-true y x e))))
             go false e h = inner (level (is_index y) sc) refl h
 
-    index_held : (y up : ℕ) → (Some x ≡ Some y → ⊥) → In_stmt st (Sees y) → level (is_index y) sc ≡ Some up → (k : Joint) (rest : List Joint) → Rattle.sp_codegen.specs.Joints.up_at up js ≡ k ∷ rest → lf.J (length rest)
+    index_held : (y up : ℕ) → (Some x ≡ Some y → ⊥) → In_stmt st (use_of.Seen y) → level (is_index y) sc ≡ Some up → (k : Joint) (rest : List Joint) → Rattle.sp_codegen.specs.Joints.up_at up js ≡ k ∷ rest → lf.J (length rest)
     index_held y up other a l k rest e = pl.indexes y up (inr (inr (inr (inl (a, λ h. other (ap Some h)))))) l k rest e
 
     -- of what it shares its parent has pieces

@@ -23,7 +23,7 @@ use Rattle.sp_link.proofs.FaultEntries.{fault_told, fault_entry}
 use Rattle.sp_link.proofs.Journal.{Goes_along}
 use Rattle.sp_link.proofs.OneState.{one_state}
 use Rattle.sp_link.proofs.Programs.{ground}
-use Rattle.sp_link.proofs.Relation.{Ground, Does_all, Linked, at_open}
+use Rattle.sp_link.proofs.Relation.{Ground, Performs_all, Linked, at_open}
 use Rattle.sp_link.proofs.Soundness.{names_on}
 use Rattle.sp_link.proofs.Theorem.{linked_along}
 use Rattle.sp_link.proofs.Waiters.{waits_means, waits_runs, stuck_means, stuck_runs}
@@ -57,7 +57,7 @@ module _ (g : Setting) (moves shares : Stmt → List ℕ) (pause : ℕ) (ready :
   -- the first process stays
   pub program_root : t.condition 0 ≡ Gone → ⊥
   program_root e =
-      let x : Does_all G along.lives (G.births.name 0) along.course s (t.births.opens 0) Gone = subst (λ y. Does_all G along.lives (G.births.name 0) along.course s (t.births.opens 0) y) e (linked.does 0 linked.began.root.2) in
+      let x : Performs_all G along.lives (G.births.name 0) along.course s (t.births.opens 0) Gone = subst (λ y. Performs_all G along.lives (G.births.name 0) along.course s (t.births.opens 0) y) e (linked.does 0 linked.began.root.2) in
       x.1 (sym (linked.began.names 0 linked.began.root.2) ∙ linked.began.root.1)
 
   -- ---- the fault

@@ -9,9 +9,11 @@ use Rattle.sp_journal.specs.Maps.{at_key}
 use Rattle.sp_cell.specs.Map.{Plain, output_of}
 use Rattle.sp_meaning.specs.Model.{Name, same_name, Condition, Absent, Works, Waits, Joins, Ended, Becomes, changed}
 use Rattle.sp_meaning.specs.Steps.{has_ended, working_in, JoinsAt, Lives as IsLive}
-use Rattle.sp_meaning.specs.Entries.{Happening, Finished}
+use Rattle.sp_meaning.specs.Entries.{Happening}
+use Rattle.sp_journal.specs.Names as happenings
 use Rattle.sp_meaning.specs.Own.{Held, Address, Own, Process, Came, Got}
-use Rattle.sp_meaning.specs.Deeds.{Deed, Over}
+use Rattle.sp_meaning.specs.Deeds.{Deed}
+use Rattle.sp_meaning.specs.Deeds as deeds
 use Rattle.sp_meaning.specs.SuperPascal.{superpascal}
 use Rattle.sp_meaning.specs.Run.{Store}
 use Rattle.sp_meaning.specs.Runs.{StateOf, most, next, says}
@@ -36,21 +38,21 @@ use Rattle.sp_link.proofs.KernelSteps.{kernel_next, kernel_says, stand_dead}
 use Rattle.sp_link.proofs.OneChanges.{its, here, number_or, inv_local}
 use Rattle.sp_link.proofs.Pauses.{Entry_of, Meant, Machined, kids, turn_is, after_quiet}
 use Rattle.sp_link.proofs.Rejoins.{memory_after, joins_on, runs_on, one_fewer, all_over}
-use Rattle.sp_link.proofs.Relation.{Ground, Life, Lives, W_of, R_of, St, Stands, Joined, Does_all, Told, Linked, Began, run_is, ops, left_of}
+use Rattle.sp_link.proofs.Relation.{Ground, Life, Lives, W_of, R_of, St, Stands, Joined, Performs_all, Told, Linked, Began, run_is, ops, left_of}
 use Rattle.sp_link.proofs.OthersStay.{does_stay}
 use Rattle.sp_meaning.proofs.QuietDeeds.{IsDead}
 use Rattle.sp_link.proofs.AtStop.{same_but_dead, w, p1, alone_at, known_at, rights_at, ended_at, other_name, does_at}
 
-module _ (G : Ground) (lv : Lives G) (c : Course) (s : StateOf G.g) (u : System Plain) (l : Linked G lv c s u) (i : ℕ) (d : Config (Memory Plain)) (at_i : u.condition i ≡ sys.Runs d)
+module _ (G : Ground) (lv : Lives G) (c : Course) (s : StateOf G.g) (u : System Plain) (l : Linked G lv c s u) (i : ℕ) (d : Config (Memory Plain)) (at_i : u.condition i ≡ sys.Working d)
     (z : Stands G (lv (w G lv c s u l i d at_i)) (kids G lv c s u l i d at_i) (w G lv c s u l i d at_i) (c.since (w G lv c s u l i d at_i)) (p1 G lv c s u l i d at_i) s.store d)
-    (o : Own) (m : Store) (x : Meant G lv c s u l i d at_i z (Got (source.Stops Over) o, m)) (t : Machined G lv c s u l i d at_i z (Got (source.Stops Over) o, m)) (quiet : u.faulted ≡ false) where
+    (o : Own) (m : Store) (x : Meant G lv c s u l i d at_i z (Got (source.Stops deeds.Ended) o, m)) (t : Machined G lv c s u l i d at_i z (Got (source.Stops deeds.Ended) o, m)) (quiet : u.faulted ≡ false) where
   abbrev v : Name
   v = w G lv c s u l i d at_i
 
   abbrev r : Came Deed × Store
-  r = (Got Over o, m)
+  r = (Got deeds.Ended o, m)
 
-  said : says G.g x.at v x.left ≡ Some Finished
+  said : says G.g x.at v x.left ≡ Some happenings.Ended
   said = kernel_says G.g v x.at x.left x.runs r x.does
 
   abbrev t1 : StateOf G.g
@@ -72,24 +74,24 @@ module _ (G : Ground) (lv : Lives G) (c : Course) (s : StateOf G.g) (u : System 
   same a e = at_other name_test x.at.condition v a Ended (λ h. e (sym h))
 
   known_then : Known G.g x.at
-  known_then = known_at G lv c s u l i d at_i z r x Finished said
+  known_then = known_at G lv c s u l i d at_i z r x happenings.Ended said
 
   known_now : Known G.g t1
   known_now = record { sound = step_sound (most G.g) x.at v t1 known_then.sound goes_next; well = lowered G.g (λ a. ticks_in (x.at.condition a)) t1 (step_well G.g x.at known_then.sound v (raised G.g x.at known_then.well) t1 goes_next) }
 
   rights_then : Inv G.g.program (W_of G lv) (R_of G lv) x.at.condition x.at.forks
-  rights_then = rights_at G lv c s u l i d at_i z r x Finished said
+  rights_then = rights_at G lv c s u l i d at_i z r x happenings.Ended said
 
   rights_now : Inv G.g.program (W_of G lv) (R_of G lv) t1.condition t1.forks
   rights_now = inv_local G (W_of G lv) (R_of G lv) x.at.condition t1.condition x.at.forks t1.forks v rights_then refl
       (λ e. subst (λ a. IsLive a) e (working_lives x.at.condition v (x.at.condition v) x.left x.runs)) same (subst (λ a. Rattle.sp_meaning.proofs.Owned.Holds G.g.program (W_of G lv) (R_of G lv) x.at.forks v a) (sym gone) tt)
 
   -- one that is not its parent
-  does_other : (j : ℕ) → j < u.births.processes → i ≢ j → ((k n : ℕ) → (k, n) ∷ G.births.name j ≢ v) → Does_all G lv (G.births.name j) c1 t1 (u.births.opens j) (u.condition j)
+  does_other : (j : ℕ) → j < u.births.processes → i ≢ j → ((k n : ℕ) → (k, n) ∷ G.births.name j ≢ v) → Performs_all G lv (G.births.name j) c1 t1 (u.births.opens j) (u.condition j)
   does_other j lt e far =
-      let apart = other_name G lv c s u l i d at_i z r x Finished said j lt e in
-      does_stay G lv x.at t1 known_then.sound rights_then.fair v (alone_at G lv c s u l i d at_i z r x Finished said) (λ a. inl refl) (G.births.name j) apart (same (G.births.name j) apart)
-      (λ k n. ap (λ a. has_ended a) (same ((k, n) ∷ G.births.name j) (far k n))) (λ k n h e. h (sym (same ((k, n) ∷ G.births.name j) (far k n)) ∙ e)) c c1 (since_other (G.births.name j) apart) refl (λ h. h) (u.births.opens j) (u.condition j) (does_at G lv c s u l i d at_i z r x Finished said j lt e)
+      let apart = other_name G lv c s u l i d at_i z r x happenings.Ended said j lt e in
+      does_stay G lv x.at t1 known_then.sound rights_then.fair v (alone_at G lv c s u l i d at_i z r x happenings.Ended said) (λ a. inl refl) (G.births.name j) apart (same (G.births.name j) apart)
+      (λ k n. ap (λ a. has_ended a) (same ((k, n) ∷ G.births.name j) (far k n))) (λ k n h e. h (sym (same ((k, n) ∷ G.births.name j) (far k n)) ∙ e)) c c1 (since_other (G.births.name j) apart) refl (λ h. h) (u.births.opens j) (u.condition j) (does_at G lv c s u l i d at_i z r x happenings.Ended said j lt e)
 
   -- what it leaves
   abbrev n1 : Memory Plain
@@ -106,7 +108,7 @@ module _ (G : Ground) (lv : Lives G) (c : Course) (s : StateOf G.g) (u : System 
 
   stood : St G (lv v) (λ a b. lv ((a, b) ∷ v)) v (p1 G lv c s u l i d at_i).who (c.since v) (lv v).below o x.at.store t.2
   stood = subst (λ y. St G (lv v) (λ a b. lv ((a, b) ∷ v)) v (p1 G lv c s u l i d at_i).who (c.since v) y o x.at.store t.2) (t.7).2
-      (stand_dead G (lv v) (λ a b. lv ((a, b) ∷ v)) v t.6 x.at.store (λ a. subst (λ y. (x.at.store a ≡ m a) ⊎ IsDead y a) lengths (same_but_dead G lv c s u l i d at_i z Over o m x tt a)))
+      (stand_dead G (lv v) (λ a b. lv ((a, b) ∷ v)) v t.6 x.at.store (λ a. subst (λ y. (x.at.store a ≡ m a) ⊎ IsDead y a) lengths (same_but_dead G lv c s u l i d at_i z deeds.Ended o m x tt a)))
     where
       count : (js : List Rattle.sp_codegen.specs.Joints.Joint) → length (Rattle.sp_codegen.specs.Joints.sources js) ≡ length js
       count js = Rattle.sp_codegen.proofs.Joints.sources_length js
@@ -122,7 +124,7 @@ module _ (G : Ground) (lv : Lives G) (c : Course) (s : StateOf G.g) (u : System 
 
   -- the relation, once each process does what it should
   linked_by : (u1 : System Plain) → u1.births ≡ u.births → u1.pending ≡ u.pending → u1.faulted ≡ u.faulted → u1.entries ≡ u.entries
-      → ((j : ℕ) → j < u.births.processes → Does_all G lv (G.births.name j) c1 t1 (u.births.opens j) (u1.condition j)) → ((j : ℕ) → u.births.processes ≤ j → u1.condition j ≡ sys.Absent) → Linked G lv c1 t1 u1
+      → ((j : ℕ) → j < u.births.processes → Performs_all G lv (G.births.name j) c1 t1 (u.births.opens j) (u1.condition j)) → ((j : ℕ) → u.births.processes ≤ j → u1.condition j ≡ sys.Absent) → Linked G lv c1 t1 u1
   linked_by u1 eb ep ef ee does unborn = record {
     rights = rights_now;
     known = known_now;
@@ -139,7 +141,7 @@ module _ (G : Ground) (lv : Lives G) (c : Course) (s : StateOf G.g) (u : System 
     fresh_since = λ a e. ⊎_elim (λ (y : a ≡ v). absurd (no_absent (sym gone ∙ subst (λ b. t1.condition b ≡ Absent) y e))) (λ (y : a ≢ v). since_other a y ∙ l.fresh_since a (sym (x.elsewhere.condition a y) ∙ sym (same a y) ∙ e)) (same_or_not name_test a v);
     quiet = λ e. x.elsewhere.fault ∙ l.quiet (sym ef ∙ e);
     unlaid = λ e. l.unlaid (sym ef ∙ e);
-    does = λ j lt. subst (λ (y : Rattle.sp_journal.specs.Births.Births). Does_all G lv (G.births.name j) c1 t1 (y.opens j) (u1.condition j)) (sym eb) (does j (subst (λ y. j < y) (ap (λ (y : Rattle.sp_journal.specs.Births.Births). y.processes) eb) lt));
+    does = λ j lt. subst (λ (y : Rattle.sp_journal.specs.Births.Births). Performs_all G lv (G.births.name j) c1 t1 (y.opens j) (u1.condition j)) (sym eb) (does j (subst (λ y. j < y) (ap (λ (y : Rattle.sp_journal.specs.Births.Births). y.processes) eb) lt));
     unborn = λ j le. unborn j (subst (λ y. y ≤ j) (ap (λ (y : Rattle.sp_journal.specs.Births.Births). y.processes) eb) le);
     unmade = λ j le. subst (λ (y : Rattle.sp_journal.specs.Births.Births). (y.forks j ≡ 0) × (y.opens j ≡ 0)) (sym eb) (l.unmade j (subst (λ y. y ≤ j) (ap (λ (y : Rattle.sp_journal.specs.Births.Births). y.processes) eb) le));
     numbered = λ a h. subst (λ (y : Rattle.sp_journal.specs.Births.Births). (k : ℕ) × (k < y.processes) × (G.births.name k ≡ a)) (sym eb) (⊎_elim (λ (e : a ≡ v). (i, here G lv c s u l i d at_i, sym e)) (λ (e : a ≢ v). l.numbered a (λ f. h (same a e ∙ x.elsewhere.condition a e ∙ f))) (same_or_not name_test a v));
@@ -149,10 +151,10 @@ module _ (G : Ground) (lv : Lives G) (c : Course) (s : StateOf G.g) (u : System 
   pub root_ends : u.births.birth i ≡ None → v ≡ [] → Linked G lv c1 t1 (becomes plain (run_is G) i (sys.Over left_it) u)
   root_ends none is = linked_by (becomes plain (run_is G) i (sys.Over left_it) u) refl refl refl refl
       (λ j lt. ⊎_elim
-      (λ (e : i ≡ j). subst (λ y. Does_all G lv (G.births.name y) c1 t1 (u.births.opens y) (at_key ◌==◌ i (sys.Over left_it) u.condition y)) e
-      (subst (λ y. Does_all G lv v c1 t1 (u.births.opens i) y) (sym (ap (λ b. cond b (sys.Over left_it) (u.condition i)) (eq-eqb i i refl)))
+      (λ (e : i ≡ j). subst (λ y. Performs_all G lv (G.births.name y) c1 t1 (u.births.opens y) (at_key ◌==◌ i (sys.Over left_it) u.condition y)) e
+      (subst (λ y. Performs_all G lv v c1 t1 (u.births.opens i) y) (sym (ap (λ b. cond b (sys.Over left_it) (u.condition i)) (eq-eqb i i refl)))
       (gone, is, λ may. (let y = stood.output may in (y.0, y.1, ap output_of y.2)))))
-      (λ (e : i ≢ j). subst (λ y. Does_all G lv (G.births.name j) c1 t1 (u.births.opens j) y) (sym (other_number j e)) (does_other j lt e (λ k n h. no_child k n (h ∙ is))))
+      (λ (e : i ≢ j). subst (λ y. Performs_all G lv (G.births.name j) c1 t1 (u.births.opens j) y) (sym (other_number j e)) (does_other j lt e (λ k n h. no_child k n (h ∙ is))))
       (number_or G lv c s u l i d at_i i j))
       (λ j le. other_number j (λ e. let a = here G lv c s u l i d at_i in omega (arith, a, le, e)) ∙ l.unborn j le)
     where
@@ -184,7 +186,7 @@ module _ (G : Ground) (lv : Lives G) (c : Course) (s : StateOf G.g) (u : System 
     joins_at = known_then.sound.joined P b.fork b.child live_there
 
     parent_apart : P ≢ v
-    parent_apart = other_name G lv c s u l i d at_i z r x Finished said b.parent known_parent (λ e. older (sym e))
+    parent_apart = other_name G lv c s u l i d at_i z r x happenings.Ended said b.parent known_parent (λ e. older (sym e))
 
     at_parent : t1.condition P ≡ x.at.condition P
     at_parent = same P parent_apart
@@ -193,7 +195,7 @@ module _ (G : Ground) (lv : Lives G) (c : Course) (s : StateOf G.g) (u : System 
     not_alone a = alone_childless x.at P b.fork b.child a live_there joins_at
 
     abbrev dx : ℕ → Config (Memory Plain) → sys.Condition Plain
-    dx left e = if left == 1 then sys.Runs e else sys.Joins (left - 1) e
+    dx left e = if left == 1 then sys.Working e else sys.Joins (left - 1) e
 
     -- the parent, at the fork whose child this is
     module _ (left : ℕ) (dd : Config (Memory Plain)) (k n : ℕ) (pr : Process) (at_join : x.at.condition P ≡ Joins k n pr) (zj : Joined G (lv P) (λ a e. lv ((a, e) ∷ P)) P (c.since P) k n left pr x.at dd) (opens_are : pr.who.opens ≡ op) (unlaid : c.laid P ≡ false) where
@@ -204,7 +206,7 @@ module _ (G : Ground) (lv : Lives G) (c : Course) (s : StateOf G.g) (u : System 
       vy = name_is ∙ ap (λ y. (y, b.child) ∷ P) (sym j.0)
 
       yet : has_ended (x.at.condition ((k, b.child) ∷ P)) ≡ false
-      yet = subst (λ y. has_ended (x.at.condition y) ≡ false) vy (ended_at G lv c s u l i d at_i z r x Finished said)
+      yet = subst (λ y. has_ended (x.at.condition y) ≡ false) vy (ended_at G lv c s u l i d at_i z r x happenings.Ended said)
 
       stood_there : St G (lv ((k, b.child) ∷ P)) (λ a e. lv ((a, e) ∷ (k, b.child) ∷ P)) ((k, b.child) ∷ P) (p1 G lv c s u l i d at_i).who (c.since v) (lv ((k, b.child) ∷ P)).below o x.at.store t.2
       stood_there = subst (λ y. St G (lv y) (λ a e. lv ((a, e) ∷ y)) y (p1 G lv c s u l i d at_i).who (c.since v) (lv y).below o x.at.store t.2) vy stood
@@ -233,7 +235,7 @@ module _ (G : Ground) (lv : Lives G) (c : Course) (s : StateOf G.g) (u : System 
       there : t2.condition P ≡ Joins k n pr
       there = ap (λ (y : StateOf G.g). y.condition P) state_same ∙ at_parent ∙ at_join
 
-      by_left : (a : Bool) → left == 1 ≡ a → Does_all G lv P c1 t2 op (if a then sys.Runs after_it else sys.Joins (left - 1) after_it)
+      by_left : (a : Bool) → left == 1 ≡ a → Performs_all G lv P c1 t2 op (if a then sys.Working after_it else sys.Joins (left - 1) after_it)
       by_left true e =
           let none : left1 ≡ 0 = omega (arith, fewer, eqb-true left 1 e) in (
             pr,
@@ -264,12 +266,12 @@ module _ (G : Ground) (lv : Lives G) (c : Course) (s : StateOf G.g) (u : System 
               go zero g = absurd (let a : true ≡ false = sym (eq-eqb left 1 g) ∙ f in cc a)
               go (suc y) g = omega arith
 
-      rejoins : Does_all G lv P c1 t1 op (dx left (sys.on_store (λ y. plain.joined y (sys.store_of left_it)) dd))
-      rejoins = subst (λ y. Does_all G lv P c1 t1 op (dx left y)) (sym config_is) (subst (λ y. Does_all G lv P c1 y op (dx left after_it)) state_same (by_left (left == 1) refl))
+      rejoins : Performs_all G lv P c1 t1 op (dx left (sys.on_store (λ y. plain.joined y (sys.store_of left_it)) dd))
+      rejoins = subst (λ y. Performs_all G lv P c1 t1 op (dx left y)) (sym config_is) (subst (λ y. Performs_all G lv P c1 y op (dx left after_it)) state_same (by_left (left == 1) refl))
 
-    rejoin : (X : sys.Condition Plain) → Does_all G lv P c x.at op X → Does_all G lv P c1 t1 op (rejoined plain (run_is G) left_it X)
+    rejoin : (X : sys.Condition Plain) → Performs_all G lv P c x.at op X → Performs_all G lv P c1 t1 op (rejoined plain (run_is G) left_it X)
     rejoin sys.Absent h = absurd h
-    rejoin (sys.Runs dd) h = absurd (not_alone (inl (h.0, h.1)))
+    rejoin (sys.Working dd) h = absurd (not_alone (inl (h.0, h.1)))
     rejoin (sys.Waits y dd) h = absurd (subst (λ a. JoinsAt b.fork b.child a) h.1 joins_at)
     rejoin (sys.Joins left dd) h = rejoins left dd h.0 h.1 h.2 h.3 h.4 h.5 h.6
     rejoin (sys.Laid dd) h = absurd (not_alone (inl h.2))
@@ -305,10 +307,10 @@ module _ (G : Ground) (lv : Lives G) (c : Course) (s : StateOf G.g) (u : System 
     pub child_ends : Linked G lv c1 t1 u1
     child_ends = linked_by u1 refl refl refl refl
         (λ a lt. ⊎_elim
-        (λ (e : b.parent ≡ a). subst (λ y. Does_all G lv (G.births.name y) c1 t1 (u.births.opens y) (u1.condition y)) e (subst (λ y. Does_all G lv P c1 t1 op y) (sym at_p) (rejoin (u.condition b.parent) (does_at G lv c s u l i d at_i z r x Finished said b.parent known_parent (λ h. older (sym h))))))
+        (λ (e : b.parent ≡ a). subst (λ y. Performs_all G lv (G.births.name y) c1 t1 (u.births.opens y) (u1.condition y)) e (subst (λ y. Performs_all G lv P c1 t1 op y) (sym at_p) (rejoin (u.condition b.parent) (does_at G lv c s u l i d at_i z r x happenings.Ended said b.parent known_parent (λ h. older (sym h))))))
         (λ (e : b.parent ≢ a). ⊎_elim
-        (λ (f : i ≡ a). subst (λ y. Does_all G lv (G.births.name y) c1 t1 (u.births.opens y) (u1.condition y)) f (subst (λ y. Does_all G lv v c1 t1 (u.births.opens i) y) (sym (at_else i (λ h. older h) ∙ ap (λ y. cond y sys.Gone (u.condition i)) (eq-eqb i i refl))) (gone, λ h. no_empty (sym name_is ∙ h))))
-        (λ (f : i ≢ a). subst (λ y. Does_all G lv (G.births.name a) c1 t1 (u.births.opens a) y) (sym (at_far a e f)) (does_other a lt f (λ k n h. e (sym (G.one_name a b.parent (few a lt) (few b.parent known_parent) (ends_alike k n a (h ∙ name_is)))))))
+        (λ (f : i ≡ a). subst (λ y. Performs_all G lv (G.births.name y) c1 t1 (u.births.opens y) (u1.condition y)) f (subst (λ y. Performs_all G lv v c1 t1 (u.births.opens i) y) (sym (at_else i (λ h. older h) ∙ ap (λ y. cond y sys.Gone (u.condition i)) (eq-eqb i i refl))) (gone, λ h. no_empty (sym name_is ∙ h))))
+        (λ (f : i ≢ a). subst (λ y. Performs_all G lv (G.births.name a) c1 t1 (u.births.opens a) y) (sym (at_far a e f)) (does_other a lt f (λ k n h. e (sym (G.one_name a b.parent (few a lt) (few b.parent known_parent) (ends_alike k n a (h ∙ name_is)))))))
         (number_or G lv c s u l i d at_i i a))
         (number_or G lv c s u l i d at_i b.parent a))
         (λ a le. at_far a (λ h. omega (arith, known_parent, le, h)) (λ h. let y = here G lv c s u l i d at_i in omega (arith, y, le, h)) ∙ l.unborn a le)
@@ -360,16 +362,16 @@ module _ (G : Ground) (lv : Lives G) (c : Course) (s : StateOf G.g) (u : System 
   pub finishing : Entry_of G c s u i d
   finishing = record { turn = tn; is = tn_is; way = way_by _ (sym told); speaks = subst (λ a. IsOpen u.births (if a then event.Laid else event.End)) (sym quiet) tt; lives = lv; linked = λ began. now_by G lv c1 t1 (after plain (run_is G) i tn u) (subst (λ y. Linked G lv c1 t1 y) (sym (after_quiet G i tn u quiet)) (by_birth (u.births.birth i) refl)) }
     where
-      told : happening u.births (event_of G.g.limits u tn) ≡ Finished
+      told : happening u.births (event_of G.g.limits u tn) ≡ happenings.Ended
       told = ap (λ a. happening u.births (if a then event.Laid else event.End)) quiet
 
-      way_by : (e : Happening) → Finished ≡ e → Way_on G c s v e
+      way_by : (e : Happening) → happenings.Ended ≡ e → Way_on G c s v e
       way_by e h = record {
         unlaid = (its G lv c s u l i d at_i).4;
         steps = x.steps;
         at = x.at;
         paused = false;
-        turn = x.turn Finished said;
+        turn = x.turn happenings.Ended said;
         cost = 1;
         course = c1;
         state = t1;

@@ -5,7 +5,7 @@ use Rattle.sp_journal.specs.declared.entry.Entry.{Entry}
 use Rattle.sp_journal.specs.Births.{at_start, happening}
 use Rattle.sp_cell.specs.Map.{Plain}
 use Rattle.sp_meaning.specs.Own.{Came, Got, Bad, Lost, Long}
-use Rattle.sp_meaning.specs.Deeds.{Went, Beat, Opened, Forked, Offered, Over}
+use Rattle.sp_meaning.specs.Deeds.{Stepped, Ticked, Opened, Forked, Offered, Ended}
 use Rattle.sp_meaning.specs.Run.{Store}
 use Rattle.sp_meaning.specs.Runs.{StateOf, start}
 use Rattle.sp_meaning.specs.Along.{Course, no_course}
@@ -13,7 +13,7 @@ use Rattle.sp_meaning.specs.Turn as source
 use Rattle.sp_code.specs.Machine.{Config}
 use Rattle.sp_code.specs.Memory.{Memory}
 use Rattle.sp_code.specs.PlainStore.{plain}
-use Rattle.sp_code.specs.System.{System, Runs, IsSystem, opening, after, event_of}
+use Rattle.sp_code.specs.System.{System, Working, IsSystem, opening, after, event_of}
 use Rattle.sp_code.proofs.Turning.{turn_same}
 use Rattle.sp_codegen.proofs.Safe.{AtEnd}
 use Rattle.sp_link.proofs.TurnsMeet.{outcome, kept, turned, ends, result}
@@ -30,12 +30,12 @@ use Rattle.sp_codegen.specs.Following.{ForkIs}
 use Rattle.sp_link.proofs.Relation.{Ground, Lives, Stands, TooLarge, Linked, Began, at_open, run_is, ops, execution}
 
 module _ (G : Ground) where
-  module _ (lv : Lives G) (c : Course) (s : StateOf G.g) (u : System Plain) (l : Linked G lv c s u) (i : ℕ) (d : Config (Memory Plain)) (at : u.condition i ≡ Runs d) where
+  module _ (lv : Lives G) (c : Course) (s : StateOf G.g) (u : System Plain) (l : Linked G lv c s u) (i : ℕ) (d : Config (Memory Plain)) (at : u.condition i ≡ Working d) where
     module _ (z : Stands G (lv (q G lv c s u l i d at)) (kids G lv c s u l i d at) (q G lv c s u l i d at) (c.since (q G lv c s u l i d at)) (pr G lv c s u l i d at) s.store d) where
       by_quiet : (r : Came source.Stop × Store) → AtEnd r → Meant G lv c s u l i d at z r → Machined G lv c s u l i d at z r → Kept_to G lv c s u l i d at z r → u.faulted ≡ false → Entry_of G c s u i d
       by_quiet (Got (source.Paused todo) o, m) e x t y f = pausing G lv c s u l i d at z todo o m x t f
-      by_quiet (Got (source.Stops (Went todo)) o, m) e x t y f = absurd e
-      by_quiet (Got (source.Stops (Beat todo)) o, m) e x t y f = absurd e
+      by_quiet (Got (source.Stops (Stepped todo)) o, m) e x t y f = absurd e
+      by_quiet (Got (source.Stops (Ticked todo)) o, m) e x t y f = absurd e
       by_quiet (Got (source.Stops (Opened todo)) o, m) e x t y f = opening_entry G lv c s u l i d at z todo o m x t y f
       by_quiet (Got (source.Stops (Forked bs todo)) o, m) e x t y f = by_form (subst (λ b. ForkIs (execution G (lv (q G lv c s u l i d at)) (kids G lv c s u l i d at) (q G lv c s u l i d at) z.fresh (pr G lv c s u l i d at).who z.named (c.since (q G lv c s u l i d at))) b t.3 bs t.5) t.10 t.11)
         where
@@ -43,7 +43,7 @@ module _ (G : Ground) where
           by_form (inl h) = parallel_entry G lv c s u l i d at z bs todo o m x t y f h
           by_form (inr h) = forall_entry G lv c s u l i d at z bs todo o m x t y f h
       by_quiet (Got (source.Stops (Offered ch k a todo)) o, m) e x t y f = offering G lv c s u l i d at z ch k a todo o m x t y f
-      by_quiet (Got (source.Stops Over) o, m) e x t y f = finishing G lv c s u l i d at z o m x t f
+      by_quiet (Got (source.Stops Ended) o, m) e x t y f = finishing G lv c s u l i d at z o m x t f
       by_quiet (Bad f, m) e x t y q = failing G lv c s u l i d at z f m x t q
       by_quiet (Lost, m) e x t y f = absurd e
       by_quiet (Long, m) e x t y f = absurd e

@@ -12,8 +12,8 @@ use Rattle.sp_cell.specs.declared.cell.Cell.{Cell}
 use Rattle.sp_cell.specs.declared.spot.Address.{Address}
 use Rattle.sp_cell.specs.Map.{Plain}
 use Rattle.sp_meaning.specs.Model.{Name, State, Moves, Opens, Forks, Offering, Ends, Fails, Faults, changed, after as After}
-use Rattle.sp_meaning.specs.Steps.{ActOf, Outcome, Does, Faulty, outcome, passed, unless, acts, cost, result_of, step_with}
-use Rattle.sp_meaning.specs.Entries.{Happening, Occurrence, Opened, Split, Offered, Finished, Failed, LaidDown, Paused}
+use Rattle.sp_meaning.specs.Steps.{ActOf, Outcome, Advances, Faulty, outcome, passed, unless, acts, cost, result_of, step_with}
+use Rattle.sp_meaning.specs.Entries.{Happening, Occurrence, Opened, Forked, Offered, Ended, Faulted, Laid, Paused}
 use Rattle.sp_meaning.specs.Own.{Setting, Process}
 use Rattle.sp_meaning.specs.SuperPascal.{superpascal}
 use Rattle.sp_meaning.specs.Runs.{StateOf, most, running, next, says, said_of}
@@ -36,16 +36,16 @@ use Rattle.sp_link.proofs.Fronts.{grows_from}
 abbrev fault_after : Name → Option Happening → Option (Name × Fault) → Option (Name × Fault)
 fault_after q None old = old
 fault_after q (Some Opened) old = old
-fault_after q (Some (Split n)) old = old
+fault_after q (Some (Forked n)) old = old
 fault_after q (Some (Offered w c)) old = old
-fault_after q (Some Finished) old = old
-fault_after q (Some (Failed f)) old = Some (q, f)
-fault_after q (Some LaidDown) old = old
+fault_after q (Some Ended) old = old
+fault_after q (Some (Faulted f)) old = Some (q, f)
+fault_after q (Some Laid) old = old
 fault_after q (Some Paused) old = old
 
 module _ (g : Setting) where
-  by_act : (s : StateOf g) (q : Name) (a : ActOf (superpascal g)) (cs : List (Rattle.sp_meaning.specs.Model.Change (superpascal g))) → acts {L = superpascal g} s q a ≡ Does cs
-      → (After {L = superpascal g} cs s).fault ≡ fault_after q (said_of {L = superpascal g} a (Does cs)) s.fault
+  by_act : (s : StateOf g) (q : Name) (a : ActOf (superpascal g)) (cs : List (Rattle.sp_meaning.specs.Model.Change (superpascal g))) → acts {L = superpascal g} s q a ≡ Advances cs
+      → (After {L = superpascal g} cs s).fault ≡ fault_after q (said_of {L = superpascal g} a (Advances cs)) s.fault
   by_act s q (Moves o ws) cs e = fault_frame s q (Moves o ws) cs s (all_in s q (Moves o ws) cs e)
   by_act s q (Opens o ws) cs e = fault_frame s q (Opens o ws) cs s (all_in s q (Opens o ws) cs e)
   by_act s q (Forks o os) cs e = fault_frame s q (Forks o os) cs s (all_in s q (Forks o os) cs e)
@@ -57,7 +57,7 @@ module _ (g : Setting) where
   step_fault s q a = by_limit (passed (most g) s.totals (cost a))
     where
       by_acts : (o : Outcome (superpascal g)) → acts {L = superpascal g} s q a ≡ o → (result_of {L = superpascal g} s q o).fault ≡ fault_after q (said_of {L = superpascal g} a o) s.fault
-      by_acts (Does cs) e = by_act s q a cs e
+      by_acts (Advances cs) e = by_act s q a cs e
       by_acts (Faulty f) e = refl
 
       by_limit : (p : Option Fault) → (result_of {L = superpascal g} s q (unless p (acts {L = superpascal g} s q a))).fault ≡ fault_after q (said_of {L = superpascal g} a (unless p (acts {L = superpascal g} s q a))) s.fault
@@ -92,13 +92,13 @@ module _ (g : Setting) where
       no e = let bad : true ≡ false = sym f ∙ e in absurd (cc bad)
 
       by : (what : Happening) → Entered g (λ c1 u r. Along g pause c1 u os r t) c h.3 h.4 o.who what h.2 → ((c1 : Course) (r : ℕ) → c1.faulted ≡ true → Along g pause c1 h.3 os r t → t.fault ≡ h.3.fault) → t.fault ≡ h.3.fault
-      by LaidDown k ih = ih (stopped o.who c) h.2 refl k.1
+      by Laid k ih = ih (stopped o.who c) h.2 refl k.1
       by Paused k ih = no k.0
-      by (Split m) k ih = no k.0
+      by (Forked m) k ih = no k.0
       by Opened k ih = no k.0
       by (Offered w d) k ih = no k.0
-      by Finished k ih = no k.0
-      by (Failed x) k ih = no k.0
+      by Ended k ih = no k.0
+      by (Faulted x) k ih = no k.0
 
   -- an entry that is a fault says which one stands in the end
   pub fault_told : (pause : ℕ) (es : List Entry) (b : Births) → Lawful b → NameableFrom b es → (c : Course) (s t : StateOf g) (n : ℕ) → Along g pause c s (occurrences_from b es) n t
@@ -115,8 +115,8 @@ module _ (g : Setting) where
       name_is : b.name e.process ≡ (births_from b (e ∷ es)).name p
       name_is = (grows_from (e ∷ es) b w m).names e.process m.0.0 ∙ ap (λ y. (births_from b (e ∷ es)).name y) process_is
 
-      by : Entered g (λ c1 u r. Along g pause c1 u (occurrences_from (after_event b e.process e.event) es) r t) c h.3 h.4 (b.name e.process) (Failed f) h.2 → t.fault ≡ Some ((births_from b (e ∷ es)).name p, f)
-      by k = faulted_stays pause (occurrences_from (after_event b e.process e.event) es) (after_entry (b.name e.process) (Failed f) (ticks_of g k.2 (b.name e.process)) c) k.2 t k.3 refl k.6
+      by : Entered g (λ c1 u r. Along g pause c1 u (occurrences_from (after_event b e.process e.event) es) r t) c h.3 h.4 (b.name e.process) (Faulted f) h.2 → t.fault ≡ Some ((births_from b (e ∷ es)).name p, f)
+      by k = faulted_stays pause (occurrences_from (after_event b e.process e.event) es) (after_entry (b.name e.process) (Faulted f) (ticks_of g k.2 (b.name e.process)) c) k.2 t k.3 refl k.6
           ∙ next_fault h.3 k.2 (b.name e.process) k.5.0 k.5.1 k.5.3 ∙ ap (λ y. fault_after (b.name e.process) y h.3.fault) k.5.2 ∙ ap (λ y. Some (pair y)) name_is
         where
           pair : Name → Name × Fault
@@ -125,13 +125,13 @@ module _ (g : Setting) where
     where
       by : (what : Happening) → Entered g (λ c1 u r. Along g pause c1 u (occurrences_from (after_event b e.process e.event) es) r t) c h.3 h.4 (b.name e.process) what h.2
           → ((c1 : Course) (u : StateOf g) (r : ℕ) → Along g pause c1 u (occurrences_from (after_event b e.process e.event) es) r t → t.fault ≡ Some ((births_from b (e ∷ es)).name p, f)) → t.fault ≡ Some ((births_from b (e ∷ es)).name p, f)
-      by LaidDown k ih = ih (stopped (b.name e.process) c) h.3 h.2 k.1
+      by Laid k ih = ih (stopped (b.name e.process) c) h.3 h.2 k.1
       by Paused k ih = ih (noted (b.name e.process) (ticks_of g h.3 (b.name e.process)) c) h.3 h.2 k.2
-      by (Split x) k ih = ih (after_entry (b.name e.process) (Split x) (ticks_of g k.2 (b.name e.process)) c) k.2 k.3 k.6
+      by (Forked x) k ih = ih (after_entry (b.name e.process) (Forked x) (ticks_of g k.2 (b.name e.process)) c) k.2 k.3 k.6
       by Opened k ih = ih (after_entry (b.name e.process) Opened (ticks_of g k.2 (b.name e.process)) c) k.2 k.3 k.6
       by (Offered x d) k ih = ih (after_entry (b.name e.process) (Offered x d) (ticks_of g k.2 (b.name e.process)) c) k.2 k.3 k.6
-      by Finished k ih = ih (after_entry (b.name e.process) Finished (ticks_of g k.2 (b.name e.process)) c) k.2 k.3 k.6
-      by (Failed x) k ih = ih (after_entry (b.name e.process) (Failed x) (ticks_of g k.2 (b.name e.process)) c) k.2 k.3 k.6
+      by Ended k ih = ih (after_entry (b.name e.process) Ended (ticks_of g k.2 (b.name e.process)) c) k.2 k.3 k.6
+      by (Faulted x) k ih = ih (after_entry (b.name e.process) (Faulted x) (ticks_of g k.2 (b.name e.process)) c) k.2 k.3 k.6
 
 -- ---- in the machine
 

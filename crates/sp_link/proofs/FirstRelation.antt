@@ -32,7 +32,7 @@ use Rattle.sp_codegen.specs.Joints.{Joint}
 use Rattle.sp_codegen.proofs.Follows.{slides, push_follows}
 use Rattle.sp_codegen.proofs.Root.{NoIndexes, j0, root_stands, root_placed}
 use Rattle.sp_link.proofs.Journal.{Now}
-use Rattle.sp_link.proofs.Relation.{Ground, Life, Lives, W_of, R_of, Called, Named, Fresh, Stands, TooLarge, Does_all, Linked, Began, at_open, run_is, ops, execution}
+use Rattle.sp_link.proofs.Relation.{Ground, Life, Lives, W_of, R_of, Called, Named, Fresh, Stands, TooLarge, Performs_all, Linked, Began, at_open, run_is, ops, execution}
 
 first_above : (q : Name) (l : Loc) → First q l → IsAbove q l
 first_above [] (Rattle.sp_meaning.specs.Own.Cell r n x) h = absurd h
@@ -123,7 +123,7 @@ module _ (G : Ground) (b : Block) (eb : slice_get G.g.program.blocks 0 ≡ Some 
       no_room : begins (ops G) G.code (first plain (run_is G)) ≡ false
       no_room = small
 
-  does_first : Does_all G lives [] no_course (start G.g) 0 (sys.Runs (first plain (run_is G)))
+  does_first : Performs_all G lives [] no_course (start G.g) 0 (sys.Working (first plain (run_is G)))
   does_first = (root G.g, refl, by (nat_lt G.g.limits.cells (size_of_frame G.g 0)) refl, refl, refl)
     where
       by : (x : Bool) → nat_lt G.g.limits.cells (size_of_frame G.g 0) ≡ x → Stands G (lives []) kids [] 0 (root G.g) (first_store G.g) (first plain (run_is G)) ⊎ TooLarge G (lives []) kids [] (first_store G.g) (root G.g) (first plain (run_is G))
@@ -171,15 +171,15 @@ module _ (G : Ground) (b : Block) (eb : slice_get G.g.program.blocks 0 ≡ Some 
     numbered = λ q h. (0, omega arith, sym (first_name q h));
   }
     where
-      does_by : (i : ℕ) → i < 1 → Does_all G lives (G.births.name i) no_course (start G.g) (u0.births.opens i) (u0.condition i)
-      does_by zero lt = subst (λ y. Does_all G lives y no_course (start G.g) 0 (sys.Runs (first plain (run_is G)))) (begun.names 0 (omega arith)) does_first
+      does_by : (i : ℕ) → i < 1 → Performs_all G lives (G.births.name i) no_course (start G.g) (u0.births.opens i) (u0.condition i)
+      does_by zero lt = subst (λ y. Performs_all G lives y no_course (start G.g) 0 (sys.Working (first plain (run_is G)))) (begun.names 0 (omega arith)) does_first
       does_by (suc i) lt = absurd (omega (arith, lt))
 
       absent : (i : ℕ) → 1 ≤ i → u0.condition i ≡ sys.Absent
       absent zero le = absurd (omega (arith, le))
       absent (suc i) le = go (suc i == 0) refl
         where
-          go : (x : Bool) → suc i == 0 ≡ x → (if x then sys.Runs (first plain (run_is G)) else sys.Absent) ≡ sys.Absent
+          go : (x : Bool) → suc i == 0 ≡ x → (if x then sys.Working (first plain (run_is G)) else sys.Absent) ≡ sys.Absent
           go true e = let same : suc i ≡ 0 = eqb-true (suc i) 0 e in absurd (omega (arith, same))
           go false e = refl
 

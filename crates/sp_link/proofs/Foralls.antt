@@ -5,7 +5,7 @@ use Rattle.std.proofs.Common.{◌≡◌, ◌⊎◌, inl, inr, ⊎_elim, ℕ, zer
 use Rattle.std.specs.Prelude.{◌+ℤ◌, ◌-ℤ◌, nat_abs, int_lt, nat_lt, pos, IsSome, slice_get}
 use Rattle.std.specs.FinMap as fin
 use Rattle.sp_tree.specs.Plain.{Program, Stmt}
-use Rattle.sp_tree.specs.Uses.{Spreads}
+use Rattle.sp_tree.specs.Uses.{ForallOf}
 use Rattle.sp_cell.specs.declared.spot.Spot.{Spot}
 use Rattle.sp_cell.specs.declared.spot.Handing.{Handing}
 use Rattle.sp_cell.specs.Fork.{index_frame, moved_of, shared_of}
@@ -82,7 +82,7 @@ cut m = omega arith
 whole : (m : ℕ) → min m 18446744073709551615 ≤ 4294967295 → min m 18446744073709551615 ≡ m
 whole m h = omega (arith, h)
 
-module _ (G : Ground) (lv : Lives G) (c : Course) (s : StateOf G.g) (u : System Plain) (l : Linked G lv c s u) (i : ℕ) (d : Config (Memory Plain)) (at_i : u.condition i ≡ sys.Runs d)
+module _ (G : Ground) (lv : Lives G) (c : Course) (s : StateOf G.g) (u : System Plain) (l : Linked G lv c s u) (i : ℕ) (d : Config (Memory Plain)) (at_i : u.condition i ≡ sys.Working d)
     (z : Stands G (lv (q G lv c s u l i d at_i)) (kids G lv c s u l i d at_i) (q G lv c s u l i d at_i) (c.since (q G lv c s u l i d at_i)) (pr G lv c s u l i d at_i) s.store d)
     (bs : List Birth) (todo : List Item) (o : Own) (m : Store) (x : Meant G lv c s u l i d at_i z (Got (source.Stops (Forked bs todo)) o, m)) (t : Machined G lv c s u l i d at_i z (Got (source.Stops (Forked bs todo)) o, m))
     (y : Kept_to G lv c s u l i d at_i z (Got (source.Stops (Forked bs todo)) o, m)) (quiet : u.faulted ≡ false)
@@ -207,7 +207,7 @@ module _ (G : Ground) (lv : Lives G) (c : Course) (s : StateOf G.g) (u : System 
   born : Born p (λ a. All (W_of G lv) v a) (λ a. All (R_of G lv) v a) o.frames (copies range st) bs
   born = subst (λ f. Born p (λ a. All (W_of G lv) v a) (λ a. All (R_of G lv) v a) f (copies range st) bs) (sym frames_are)
       (subst (λ b. Born p (λ a. All (W_of G lv) v a) (λ a. All (R_of G lv) v a) (sources t.3) (copies range st) b) (sym h.11)
-      (born_copies ix st (element_sound ix h.1 h.2 st h.15.sound) (h.15.sound.kept (Spreads ix st) (inl refl)).1 lo range))
+      (born_copies ix st (element_sound ix h.1 h.2 st h.15.sound) (h.15.sound.kept (ForallOf ix st) (inl refl)).1 lo range))
 
   -- each of the children does the one statement
   copy_at : (m j : ℕ) → j < m → slice_get (copies m st) j ≡ Some st

@@ -17,7 +17,8 @@ use Rattle.sp_cell.specs.Spots.{In, NotIn}
 use Rattle.sp_meaning.specs.Maps.{at_key as put_at}
 use Rattle.sp_meaning.specs.Model.{Name, same_name, Condition, Absent, Works, Joins, Ended, Becomes, Forked as Counts_fork, Adds, Forks, changed, after as After, add, Totals}
 use Rattle.sp_meaning.specs.Steps.{has_ended, working_in, Lives as IsLive, Faulty, outcome, passed, unless, acts, births, result_of}
-use Rattle.sp_meaning.specs.Entries.{Happening, Split}
+use Rattle.sp_meaning.specs.Entries.{Happening}
+use Rattle.sp_journal.specs.Names as happenings
 use Rattle.sp_meaning.specs.Own.{Setting, Loc, Output, Held, Address, Own, Who, Process, Came, Got, Item}
 use Rattle.sp_meaning.specs.Deeds.{Deed, Birth, Forked, newborn, newborns}
 use Rattle.sp_meaning.specs.Owning.{Born}
@@ -56,7 +57,7 @@ use Rattle.sp_link.proofs.NewLives.{does_lives, inv_same}
 use Rattle.sp_link.proofs.OneChanges.{q, pr, its, alone, here, present, not_ended, keeps_to, number_or}
 use Rattle.sp_link.proofs.OthersStay.{does_stay}
 use Rattle.sp_link.proofs.Pauses.{Entry_of, Meant, Machined, Kept_to, kids, turn_is, after_quiet}
-use Rattle.sp_link.proofs.Relation.{Ground, Life, Lives, W_of, R_of, Stands, Joined, Handed, St, Rel, law, Does, Does_all, Linked, Began, run_is, ops}
+use Rattle.sp_link.proofs.Relation.{Ground, Life, Lives, W_of, R_of, Stands, Joined, Handed, St, Rel, law, Performs, Performs_all, Linked, Began, run_is, ops}
 
 abbrev cons : ℕ × ℕ → Name → Name
 cons a w = a ∷ w
@@ -175,9 +176,9 @@ next_number b n j lt = ap (λ x. x && nat_lt (b.processes + j) (b.processes + n)
         go false e = let k : c ≤ a = Prim.grind (arith, e) in absurd (omega (arith, k, h))
 
 -- who does anything is there
-not_absent : (G : Ground) (lf : Life) (kids : ℕ → ℕ → Life) (q : Name) (c : Course) (s : StateOf G.g) (opens : ℕ) (X : sys.Condition Plain) → Does G lf kids q c s opens X → s.condition q ≢ Absent
+not_absent : (G : Ground) (lf : Life) (kids : ℕ → ℕ → Life) (q : Name) (c : Course) (s : StateOf G.g) (opens : ℕ) (X : sys.Condition Plain) → Performs G lf kids q c s opens X → s.condition q ≢ Absent
 not_absent G lf kids q c s opens sys.Absent h = absurd h
-not_absent G lf kids q c s opens (sys.Runs a) h = λ e. subst (λ b. IsLive b) e (working_lives s.condition q (s.condition q) h.0 h.1)
+not_absent G lf kids q c s opens (sys.Working a) h = λ e. subst (λ b. IsLive b) e (working_lives s.condition q (s.condition q) h.0 h.1)
 not_absent G lf kids q c s opens (sys.Waits a b) h = λ e. subst (λ b. IsLive b) (sym h.1 ∙ e) tt
 not_absent G lf kids q c s opens (sys.Joins a b) h = λ e. subst (λ b. IsLive b) (sym h.3 ∙ e) tt
 not_absent G lf kids q c s opens (sys.Laid a) h = λ e. subst (λ b. IsLive b) e (working_lives s.condition q (s.condition q) h.2.0 h.2.1)
@@ -190,7 +191,7 @@ not_absent G lf kids q c s opens (sys.Over a) h = λ e. ended_there (sym h.0 ∙
     ended_there : ◌≡◌ {A = Condition Process Held Address} Ended Absent → ⊥
     ended_there e = cc e
 
-module _ (G : Ground) (lv : Lives G) (c : Course) (s : StateOf G.g) (u : System Plain) (l : Linked G lv c s u) (i : ℕ) (d : Config (Memory Plain)) (at_i : u.condition i ≡ sys.Runs d)
+module _ (G : Ground) (lv : Lives G) (c : Course) (s : StateOf G.g) (u : System Plain) (l : Linked G lv c s u) (i : ℕ) (d : Config (Memory Plain)) (at_i : u.condition i ≡ sys.Working d)
     (z : Stands G (lv (q G lv c s u l i d at_i)) (kids G lv c s u l i d at_i) (q G lv c s u l i d at_i) (c.since (q G lv c s u l i d at_i)) (pr G lv c s u l i d at_i) s.store d)
     (bs : List Birth) (todo : List Item) (o : Own) (m : Store) (x : Meant G lv c s u l i d at_i z (Got (source.Stops (Forked bs todo)) o, m)) (t : Machined G lv c s u l i d at_i z (Got (source.Stops (Forked bs todo)) o, m))
     (y : Kept_to G lv c s u l i d at_i z (Got (source.Stops (Forked bs todo)) o, m)) (quiet : u.faulted ≡ false)
@@ -302,7 +303,7 @@ module _ (G : Ground) (lv : Lives G) (c : Course) (s : StateOf G.g) (u : System 
     t1 = record (x.at) { condition = after_births G.g.program v k 0 os before; forks = put_at same_name v (x.at.forks v + 1) x.at.forks; totals = add x.at.totals grows }
 
     abbrev says_now : Happening
-    says_now = Split (length os)
+    says_now = happenings.Forked (length os)
 
     said_now : says G.g x.at v x.left ≡ Some says_now
     said_now = kernel_says G.g v x.at x.left x.runs r x.does ∙ ap (λ b. said_of {L = superpascal G.g} (Forks goes_on os) b) does_it
@@ -460,7 +461,7 @@ module _ (G : Ground) (lv : Lives G) (c : Course) (s : StateOf G.g) (u : System 
     few : (a : ℕ) → a < u.births.processes → a < G.births.processes
     few a lt = let b = l.began.processes in omega (arith, lt, b)
 
-    does_other : (a : ℕ) → a < u.births.processes → i ≢ a → Does_all G lv1 (G.births.name a) c1 t1 (u.births.opens a) (u.condition a)
+    does_other : (a : ℕ) → a < u.births.processes → i ≢ a → Performs_all G lv1 (G.births.name a) c1 t1 (u.births.opens a) (u.condition a)
     does_other a lt e =
         let apart : G.births.name a ≢ v = λ h. e (G.one_name i a (few i (here G lv c s u l i d at_i)) (few a lt) (sym h)) in
         let living : s.condition (G.births.name a) ≢ Absent = not_absent G (lv (G.births.name a)) (λ a1 b1. lv ((a1, b1) ∷ G.births.name a)) (G.births.name a) c s (u.births.opens a) (u.condition a) (l.does a lt) in
@@ -491,8 +492,8 @@ module _ (G : Ground) (lv : Lives G) (c : Course) (s : StateOf G.g) (u : System 
         (λ j lt a h. gives j lt a (subst (λ (lf : Life). In a lf.moved) (lv1_child j) h)) unshared
         (λ a b la lb ne e h g. parted a b la lb ne e (subst (λ (lf : Life). In e lf.moved) (lv1_child a) h) (subst (λ (lf : Life). In e lf.moved) (lv1_child b) g))
 
-    parent_does : Does_all G lv1 v c1 t1 (u.births.opens i) (sys.Joins n left_it)
-    parent_does = subst (λ (lf : Life). Does G lf kids1 v c1 t1 (u.births.opens i) (sys.Joins n left_it)) (sym (lv1_other v (present G lv c s u l i d at_i)))
+    parent_does : Performs_all G lv1 v c1 t1 (u.births.opens i) (sys.Joins n left_it)
+    parent_does = subst (λ (lf : Life). Performs G lf kids1 v c1 t1 (u.births.opens i) (sys.Joins n left_it)) (sym (lv1_other v (present G lv c s u l i d at_i)))
         (k, n, goes_on, cond_v ∙ ap (λ a. Joins k a goes_on) os_length, joined, ap (λ (a : Who). a.opens) x.who_is ∙ (its G lv c s u l i d at_i).3, (its G lv c s u l i d at_i).4)
 
     -- ---- the machine
@@ -507,7 +508,7 @@ module _ (G : Ground) (lv : Lives G) (c : Course) (s : StateOf G.g) (u : System 
     tbl = table_or (slice_get G.code.forks tb)
 
     abbrev at_number : ℕ → ℕ → sys.Condition Plain
-    at_number a j = sys.Runs (sys.newborn plain (run_is G) there val a j (child_or (child_at tbl j)))
+    at_number a j = sys.Working (sys.newborn plain (run_is G) there val a j (child_or (child_at tbl j)))
 
     abbrev u1 : System Plain
     u1 = record u { condition = λ a. cond (is_next u.births n a) (at_number a (a - P)) (cond (i == a) (sys.Joins n left_it) (u.condition a)); entries = u.entries + 1; births = b1 }
@@ -547,7 +548,7 @@ module _ (G : Ground) (lv : Lives G) (c : Course) (s : StateOf G.g) (u : System 
       called : (j : ℕ) → j < n → Rattle.sp_link.proofs.Relation.Called G ((k, j) ∷ v) (P + j)
       called j lt = ((let a = began.processes in omega (arith, a, lt)), name_child j lt)
 
-      child_does : (j : ℕ) → j < n → Does_all G lv1 ((k, j) ∷ v) c1 t1 (u.births.opens (P + j)) (at_number (P + j) j)
+      child_does : (j : ℕ) → j < n → Performs_all G lv1 ((k, j) ∷ v) c1 t1 (u.births.opens (P + j)) (at_number (P + j) j)
       child_does j lt =
           let p = at_place j lt in (
             newborn x.left.who o j p.0,
@@ -560,17 +561,17 @@ module _ (G : Ground) (lv : Lives G) (c : Course) (s : StateOf G.g) (u : System 
           )
 
       -- by its number
-      does_old : (a : ℕ) → a < P → Does_all G lv1 (G.births.name a) c1 t1 (b1.opens a) (u1.condition a)
-      does_old a lt = subst (λ b. Does_all G lv1 (G.births.name a) c1 t1 (u.births.opens a) b) (sym (ap (λ f. cond f (at_number a (a - P)) (cond (i == a) (sys.Joins n left_it) (u.condition a))) (old u.births n a lt)))
+      does_old : (a : ℕ) → a < P → Performs_all G lv1 (G.births.name a) c1 t1 (b1.opens a) (u1.condition a)
+      does_old a lt = subst (λ b. Performs_all G lv1 (G.births.name a) c1 t1 (u.births.opens a) b) (sym (ap (λ f. cond f (at_number a (a - P)) (cond (i == a) (sys.Joins n left_it) (u.condition a))) (old u.births n a lt)))
           (⊎_elim
-          (λ (e : i ≡ a). subst (λ b. Does_all G lv1 (G.births.name b) c1 t1 (u.births.opens b) (cond (i == b) (sys.Joins n left_it) (u.condition b))) e
-          (subst (λ b. Does_all G lv1 v c1 t1 (u.births.opens i) b) (sym (ap (λ f. cond f (sys.Joins n left_it) (u.condition i)) (eq-eqb i i refl))) parent_does))
-          (λ (e : i ≢ a). subst (λ b. Does_all G lv1 (G.births.name a) c1 t1 (u.births.opens a) b) (sym (ap (λ f. cond f (sys.Joins n left_it) (u.condition a)) (number_is i a e))) (does_other a lt e))
+          (λ (e : i ≡ a). subst (λ b. Performs_all G lv1 (G.births.name b) c1 t1 (u.births.opens b) (cond (i == b) (sys.Joins n left_it) (u.condition b))) e
+          (subst (λ b. Performs_all G lv1 v c1 t1 (u.births.opens i) b) (sym (ap (λ f. cond f (sys.Joins n left_it) (u.condition i)) (eq-eqb i i refl))) parent_does))
+          (λ (e : i ≢ a). subst (λ b. Performs_all G lv1 (G.births.name a) c1 t1 (u.births.opens a) b) (sym (ap (λ f. cond f (sys.Joins n left_it) (u.condition a)) (number_is i a e))) (does_other a lt e))
           (number_or G lv c s u l i d at_i i a))
 
-      does_new : (j : ℕ) → j < n → Does_all G lv1 (G.births.name (P + j)) c1 t1 (b1.opens (P + j)) (u1.condition (P + j))
-      does_new j lt = subst (λ b. Does_all G lv1 b c1 t1 (u.births.opens (P + j)) (u1.condition (P + j))) (sym (name_child j lt))
-          (subst (λ b. Does_all G lv1 ((k, j) ∷ v) c1 t1 (u.births.opens (P + j)) b)
+      does_new : (j : ℕ) → j < n → Performs_all G lv1 (G.births.name (P + j)) c1 t1 (b1.opens (P + j)) (u1.condition (P + j))
+      does_new j lt = subst (λ b. Performs_all G lv1 b c1 t1 (u.births.opens (P + j)) (u1.condition (P + j))) (sym (name_child j lt))
+          (subst (λ b. Performs_all G lv1 ((k, j) ∷ v) c1 t1 (u.births.opens (P + j)) b)
           (sym (ap (λ f. cond f (at_number (P + j) ((P + j) - P)) (cond (i == P + j) (sys.Joins n left_it) (u.condition (P + j)))) (next_number u.births n j lt) ∙ ap (λ b. at_number (P + j) b) (minus j))) (child_does j lt))
 
       either : (a b : ℕ) → (a < b) ⊎ (b ≤ a)
@@ -582,8 +583,8 @@ module _ (G : Ground) (lv : Lives G) (c : Course) (s : StateOf G.g) (u : System 
       back : (a : ℕ) → P ≤ a → P + (a - P) ≡ a
       back a le = omega (arith, le)
 
-      does_all : (a : ℕ) → a < P + n → Does_all G lv1 (G.births.name a) c1 t1 (b1.opens a) (u1.condition a)
-      does_all a lt = ⊎_elim (λ (h : a < P). does_old a h) (λ (h : P ≤ a). subst (λ b. Does_all G lv1 (G.births.name b) c1 t1 (b1.opens b) (u1.condition b)) (back a h) (does_new (a - P) (omega (arith, h, lt)))) (either a P)
+      does_all : (a : ℕ) → a < P + n → Performs_all G lv1 (G.births.name a) c1 t1 (b1.opens a) (u1.condition a)
+      does_all a lt = ⊎_elim (λ (h : a < P). does_old a h) (λ (h : P ≤ a). subst (λ b. Performs_all G lv1 (G.births.name b) c1 t1 (b1.opens b) (u1.condition b)) (back a h) (does_new (a - P) (omega (arith, h, lt)))) (either a P)
 
       beyond : (a : ℕ) → P + n ≤ a → is_next u.births n a ≡ false
       beyond a le = ap (λ f. nat_le P a && f) (not_less a (P + n) le) ∙ no_more (nat_le P a)
@@ -652,7 +653,7 @@ module _ (G : Ground) (lv : Lives G) (c : Course) (s : StateOf G.g) (u : System 
     }
       where
         told : happening u.births (event_of G.g.limits u tn) ≡ says_now
-        told = ap (λ f. happening u.births f) event_is ∙ ap (λ a. Split a) (sym os_length)
+        told = ap (λ f. happening u.births f) event_is ∙ ap (λ a. happenings.Forked a) (sym os_length)
 
         way_by : (e : Happening) → says_now ≡ e → Way_on G c s v e
         way_by e h = record {

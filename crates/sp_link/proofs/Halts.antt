@@ -10,10 +10,12 @@ use Rattle.sp_journal.specs.declared.entry.Event.TheVariants as event
 use Rattle.sp_cell.specs.Map.{Plain, output_of}
 use Rattle.sp_meaning.specs.Model.{Name, same_name, Faults, changed, Moves, Opens, Forks, Offering, Ends, Fails}
 use Rattle.sp_meaning.specs.Asking.{answer}
-use Rattle.sp_meaning.specs.Steps.{ActOf, Outcome, Does, Faulty}
-use Rattle.sp_meaning.specs.Entries.{Happening, LaidDown, Failed, Opened as Is_opened, Split, Offered as Is_offered, Finished}
+use Rattle.sp_meaning.specs.Steps.{ActOf, Outcome, Advances, Faulty}
+use Rattle.sp_meaning.specs.Entries.{Happening, Laid, Opened as Is_opened, Offered as Is_offered}
+use Rattle.sp_journal.specs.Names as happenings
 use Rattle.sp_meaning.specs.Own.{Setting, Loc, Cell, Output, Held, Own, Item, Process, Came, Got, Bad, Lost, Long, same_loc}
-use Rattle.sp_meaning.specs.Deeds.{Deed, Birth, Went, Beat, Opened, Forked, Offered, Over}
+use Rattle.sp_meaning.specs.Deeds.{Deed, Birth, Stepped, Ticked, Opened, Forked, Offered}
+use Rattle.sp_meaning.specs.Deeds as deeds
 use Rattle.sp_meaning.specs.SuperPascal.{superpascal, deed_of, with_todo, enough, root}
 use Rattle.sp_meaning.specs.Run.{Store}
 use Rattle.sp_meaning.specs.Runs.{StateOf, most, running, next, says, said_of}
@@ -57,14 +59,14 @@ IsKernel g (Fails f) = ⊥
 
 pub something_said : (g : Setting) (a : ActOf (superpascal g)) → IsKernel g a → (o : Outcome (superpascal g)) → (what : Happening) × (said_of {L = superpascal g} a o ≡ Some what)
 something_said g (Moves p ws) h o = absurd h
-something_said g (Opens p ws) h (Does cs) = (Is_opened, refl)
-something_said g (Opens p ws) h (Faulty f) = (Failed f, refl)
-something_said g (Forks p os) h (Does cs) = (Split (length os), refl)
-something_said g (Forks p os) h (Faulty f) = (Failed f, refl)
-something_said g (Offering p) h (Does cs) = (Is_offered (Rattle.sp_meaning.specs.Steps.way_of p.cargo) p.channel, refl)
-something_said g (Offering p) h (Faulty f) = (Failed f, refl)
-something_said g Ends h (Does cs) = (Finished, refl)
-something_said g Ends h (Faulty f) = (Failed f, refl)
+something_said g (Opens p ws) h (Advances cs) = (Is_opened, refl)
+something_said g (Opens p ws) h (Faulty f) = (happenings.Faulted f, refl)
+something_said g (Forks p os) h (Advances cs) = (happenings.Forked (length os), refl)
+something_said g (Forks p os) h (Faulty f) = (happenings.Faulted f, refl)
+something_said g (Offering p) h (Advances cs) = (Is_offered (Rattle.sp_meaning.specs.Steps.way_of p.cargo) p.channel, refl)
+something_said g (Offering p) h (Faulty f) = (happenings.Faulted f, refl)
+something_said g Ends h (Advances cs) = (happenings.Ended, refl)
+something_said g Ends h (Faulty f) = (happenings.Faulted f, refl)
 something_said g (Fails e) h o = absurd h
 
 pub no_tree : (y : Rattle.sp_meaning.specs.Values.Value) (bs : List ℕ) → Rattle.sp_meaning.specs.Own.Tree y ≡ Rattle.sp_meaning.specs.Own.Written bs → ⊥
@@ -86,7 +88,7 @@ module _ (G : Ground) (lf : Life) (more : ℕ → ℕ → Life) (q : Name) where
   pub told_same : (e : Config (Memory Plain)) (s s1 : Store) → s1 Output ≡ s Output → Told G lf more q s e → Told G lf more q s1 e
   told_same (At pc st n) s s1 same h = λ may. let y = h may in (y.0, same ∙ y.1, y.2)
 
-module _ (G : Ground) (lv : Lives G) (c : Course) (s : StateOf G.g) (u : System Plain) (l : Linked G lv c s u) (i : ℕ) (d : Config (Memory Plain)) (at_i : u.condition i ≡ sys.Runs d) where
+module _ (G : Ground) (lv : Lives G) (c : Course) (s : StateOf G.g) (u : System Plain) (l : Linked G lv c s u) (i : ℕ) (d : Config (Memory Plain)) (at_i : u.condition i ≡ sys.Working d) where
   abbrev v : Name
   v = at.w G lv c s u l i d at_i
 
@@ -128,7 +130,7 @@ module _ (G : Ground) (lv : Lives G) (c : Course) (s : StateOf G.g) (u : System 
       event_is : event_of G.g.limits u h.turn ≡ event.Laid
       event_is = ap (λ b. if b then event.Laid else event_or (fault_of G.g.limits u h.turn) h.turn) bad
 
-      said : happening u.births (event_of G.g.limits u h.turn) ≡ LaidDown
+      said : happening u.births (event_of G.g.limits u h.turn) ≡ Laid
       said = ap (happening u.births) event_is
 
       linked : Linked G lv c1 h.at (record u { condition = at_key ◌==◌ i (sys.Laid (config_of h.turn)) u.condition })
@@ -136,7 +138,7 @@ module _ (G : Ground) (lv : Lives G) (c : Course) (s : StateOf G.g) (u : System 
           (λ r a. refl) (λ r a. laid_other c r a) (λ e. refl) (sym bad) (λ e. absurd (not_both u.faulted bad e)) (λ e. absurd (not_both u.faulted bad e))
           (laid_here c, refl, (h.left, h.runs), h.told) (λ e. absurd (cc e))
 
-      way_by : (e : Happening) → LaidDown ≡ e → Way_on G c s v e
+      way_by : (e : Happening) → Laid ≡ e → Way_on G c s v e
       way_by e k = record {
         unlaid = (its G lv c s u l i d at_i).4;
         steps = h.steps;
@@ -154,7 +156,7 @@ module _ (G : Ground) (lv : Lives G) (c : Course) (s : StateOf G.g) (u : System 
 
   -- ---- it faults
 
-  pub failed_entry : (h : Halted) → h.paused ≡ false → (f : Fault) → says G.g h.at v h.left ≡ Some (Failed f) → next G.g h.at v ≡ Some (changed {L = superpascal G.g} (Faults v f) h.at) → fault_of G.g.limits u h.turn ≡ Some f → u.faulted ≡ false → Entry_of G c s u i d
+  pub failed_entry : (h : Halted) → h.paused ≡ false → (f : Fault) → says G.g h.at v h.left ≡ Some (happenings.Faulted f) → next G.g h.at v ≡ Some (changed {L = superpascal G.g} (Faults v f) h.at) → fault_of G.g.limits u h.turn ≡ Some f → u.faulted ≡ false → Entry_of G c s u i d
   failed_entry h whole f says_it goes_next fault_is quiet = record { turn = h.turn; is = h.is; way = way_by _ (sym said); speaks = subst (IsOpen u.births) (sym event_is) tt; lives = lv; linked = λ began. now_by G lv c1 t1 (after plain (run_is G) i h.turn u) (subst (λ y. Linked G lv c1 t1 y) (sym after_is) linked) }
     where
       t1 : StateOf G.g
@@ -175,7 +177,7 @@ module _ (G : Ground) (lv : Lives G) (c : Course) (s : StateOf G.g) (u : System 
       event_is : event_of G.g.limits u h.turn ≡ event.Fault f
       event_is = ap (λ b. if b then event.Laid else event_or (fault_of G.g.limits u h.turn) h.turn) quiet ∙ ap (λ o. event_or o h.turn) fault_is
 
-      said : happening u.births (event_of G.g.limits u h.turn) ≡ Failed f
+      said : happening u.births (event_of G.g.limits u h.turn) ≡ happenings.Faulted f
       said = ap (happening u.births) event_is
 
       after_is : after plain (run_is G) i h.turn u ≡ record u { condition = at_key ◌==◌ i (sys.Laid (config_of h.turn)) u.condition; faulted = true }
@@ -186,7 +188,7 @@ module _ (G : Ground) (lv : Lives G) (c : Course) (s : StateOf G.g) (u : System 
           (λ r a. ap (λ b. cond b (ticks_of G.g t1 v) (c.since r)) (differs name_test v r (λ e. a (sym e)))) (λ r a. laid_other c0 r a) (λ e. refl) refl (λ e. absurd (not_both true refl e)) (λ e. absurd (not_both true refl e))
           (laid_here c0, refl, (h.left, h.runs), h.told) (λ e. absurd (cc e))
 
-      way_by : (e : Happening) → Failed f ≡ e → Way_on G c s v e
+      way_by : (e : Happening) → happenings.Faulted f ≡ e → Way_on G c s v e
       way_by e k = record {
         unlaid = (its G lv c s u l i d at_i).4;
         steps = h.steps;
@@ -208,7 +210,7 @@ module _ (G : Ground) (lv : Lives G) (c : Course) (s : StateOf G.g) (u : System 
     breaks : ◌≡◌ {A = Came Deed × Store} (answer same_loc (deed_of G.g (at.p1 G lv c s u l i d at_i)) s.store) (Bad fault.F12, s.store)
     breaks = ap (λ (y : Process). answer same_loc (deed_of G.g y) s.store) z.2 ∙ ap (λ y. answer same_loc (Rattle.sp_meaning.specs.Deeds.deed G.g (enough G.g (root G.g).own) y (root G.g).who (root G.g).own) s.store) z.1
 
-    says_it : says G.g s v (at.p1 G lv c s u l i d at_i) ≡ Some (Failed fault.F12)
+    says_it : says G.g s v (at.p1 G lv c s u l i d at_i) ≡ Some (happenings.Faulted fault.F12)
     says_it = kernel_says G.g v s (at.p1 G lv c s u l i d at_i) (runs G lv c s u l i d at_i) (Bad fault.F12, s.store) breaks
 
     abbrev too_large_halt : Halted
@@ -218,7 +220,7 @@ module _ (G : Ground) (lv : Lives G) (c : Course) (s : StateOf G.g) (u : System 
       steps = 0;
       at = s;
       paused = false;
-      way = (refl, refl, at.p1 G lv c s u l i d at_i, runs G lv c s u l i d at_i, Failed fault.F12, says_it);
+      way = (refl, refl, at.p1 G lv c s u l i d at_i, runs G lv c s u l i d at_i, happenings.Faulted fault.F12, says_it);
       left = at.p1 G lv c s u l i d at_i;
       runs = runs G lv c s u l i d at_i;
       other = λ r a. refl;
@@ -294,10 +296,10 @@ module _ (G : Ground) (lv : Lives G) (c : Course) (s : StateOf G.g) (u : System 
         halt_by (Got (Offered ch k cg todo) o, m) x y.0 y.1 (Stopped t.5 (At t.0 t.1 t.2)) (turn_is G lv c s u l i d at_i z (Stopped t.5 (At t.0 t.1 t.2)) (t.4, t.6, t.7))
         (told_same G (lv v) (λ k n. lv ((k, n) ∷ v)) v (At t.0 t.1 t.2) m x.at.store (⊎_elim (λ b. b) (λ b. absurd b) (same_but_dead G lv c s u l i d at_i z (Offered ch k cg todo) o m x tt Output)) (told_by G (lv v) (λ k n. lv ((k, n) ∷ v)) v t.0 t.1 t.8))
 
-    abbrev pub over_halt : (o : Own) (m : Store) → Meant G lv c s u l i d at_i z (Got (source.Stops Over) o, m) → Machined G lv c s u l i d at_i z (Got (source.Stops Over) o, m) → Halted
-    over_halt o m x t = let y = says_something (Got Over o, m) x tt in
-        halt_by (Got Over o, m) x y.0 y.1 (Stopped machine.Ends (At t.0 t.1 t.2)) (turn_is G lv c s u l i d at_i z (Stopped machine.Ends (At t.0 t.1 t.2)) (At t.0 t.1 t.2, t.4, t.5))
-        (told_same G (lv v) (λ k n. lv ((k, n) ∷ v)) v (At t.0 t.1 t.2) m x.at.store (⊎_elim (λ b. b) (λ b. absurd b) (same_but_dead G lv c s u l i d at_i z Over o m x tt Output)) (told_by G (lv v) (λ k n. lv ((k, n) ∷ v)) v t.0 t.1 t.6))
+    abbrev pub over_halt : (o : Own) (m : Store) → Meant G lv c s u l i d at_i z (Got (source.Stops deeds.Ended) o, m) → Machined G lv c s u l i d at_i z (Got (source.Stops deeds.Ended) o, m) → Halted
+    over_halt o m x t = let y = says_something (Got deeds.Ended o, m) x tt in
+        halt_by (Got deeds.Ended o, m) x y.0 y.1 (Stopped machine.Ends (At t.0 t.1 t.2)) (turn_is G lv c s u l i d at_i z (Stopped machine.Ends (At t.0 t.1 t.2)) (At t.0 t.1 t.2, t.4, t.5))
+        (told_same G (lv v) (λ k n. lv ((k, n) ∷ v)) v (At t.0 t.1 t.2) m x.at.store (⊎_elim (λ b. b) (λ b. absurd b) (same_but_dead G lv c s u l i d at_i z deeds.Ended o m x tt Output)) (told_by G (lv v) (λ k n. lv ((k, n) ∷ v)) v t.0 t.1 t.6))
 
     -- the target of an open is no console
     abbrev pub opened_halt : (todo : List Item) (o : Own) (m : Store) → Meant G lv c s u l i d at_i z (Got (source.Stops (Opened todo)) o, m) → Machined G lv c s u l i d at_i z (Got (source.Stops (Opened todo)) o, m) → Halted
@@ -308,12 +310,12 @@ module _ (G : Ground) (lv : Lives G) (c : Course) (s : StateOf G.g) (u : System 
         output_is : m Output ≡ t.7 Output
         output_is = ap (λ (y : Store). y Output) t.13 ∙ ap (λ b. cond b (Rattle.sp_meaning.specs.Own.assigned t.5 (t.7 t.5.spot) (Rattle.sp_meaning.specs.Own.Tree (Rattle.sp_meaning.specs.Values.Chan (record { owner = (at.p1 G lv c s u l i d at_i).who.name; nth = (at.p1 G lv c s u l i d at_i).who.opens })))) (t.7 Output)) (cell_no_output t.5 t.11.owner t.11.frame t.11.variable t.11.is)
 
-        wrote : Rattle.sp_link.proofs.Relation.Reads G (lv v) (λ k n. lv ((k, n) ∷ v)) v Output → IsSameButOne (length x.left.own.frames) x.at.store m → x.at.store Output ≡ t.7 Output
+        wrote : Rattle.sp_link.proofs.Relation.IsReadable G (lv v) (λ k n. lv ((k, n) ∷ v)) v Output → IsSameButOne (length x.left.own.frames) x.at.store m → x.at.store Output ≡ t.7 Output
         wrote may h = ⊎_elim (λ e. e ∙ output_is) (λ e. ⊎_elim (λ b. absurd b) (λ b. absurd (let y = (t.10).output may in no_tree h.value y.0 (sym h.now ∙ ap m b ∙ output_is ∙ y.1))) e) (h.others Output)
 
     abbrev pub bad_halt : (f : Fault) (m : Store) → Meant G lv c s u l i d at_i z (Bad f, m) → Machined G lv c s u l i d at_i z (Bad f, m) → Halted
     bad_halt f m x t =
-        halt_by (Bad f, m) x (Failed f) (kernel_says G.g v x.at x.left x.runs (Bad f, m) x.does) (Faulted f t.at) (turn_is G lv c s u l i d at_i z (Faulted f t.at) (t.at, t.comes, (t.fails, refl)))
+        halt_by (Bad f, m) x (happenings.Faulted f) (kernel_says G.g v x.at x.left x.runs (Bad f, m) x.does) (Faulted f t.at) (turn_is G lv c s u l i d at_i z (Faulted f t.at) (t.at, t.comes, (t.fails, refl)))
         (told_same G (lv v) (λ k n. lv ((k, n) ∷ v)) v t.at m x.at.store (same_output G lv c s u l i d at_i z f m x) (told_break G (lv v) (λ k n. lv ((k, n) ∷ v)) v (at.p1 G lv c s u l i d at_i).who (c.since v) t.at m t.stands))
 
     -- the entry of a fault of an instruction
@@ -323,12 +325,12 @@ module _ (G : Ground) (lv : Lives G) (c : Course) (s : StateOf G.g) (u : System 
     -- and of a process that is laid, wherever its turn ends
     pub laying : (r : Came source.Stop × Store) → Rattle.sp_codegen.proofs.Safe.AtEnd r → Meant G lv c s u l i d at_i z r → Machined G lv c s u l i d at_i z r → u.faulted ≡ true → Entry_of G c s u i d
     laying (Got (source.Paused todo) o, m) e x t bad = laid_entry (paused_halt todo o m x t) bad
-    laying (Got (source.Stops (Went todo)) o, m) e x t bad = absurd e
-    laying (Got (source.Stops (Beat todo)) o, m) e x t bad = absurd e
+    laying (Got (source.Stops (Stepped todo)) o, m) e x t bad = absurd e
+    laying (Got (source.Stops (Ticked todo)) o, m) e x t bad = absurd e
     laying (Got (source.Stops (Opened todo)) o, m) e x t bad = laid_entry (opened_halt todo o m x t) bad
     laying (Got (source.Stops (Forked bs todo)) o, m) e x t bad = laid_entry (forked_halt bs todo o m x t) bad
     laying (Got (source.Stops (Offered ch k cg todo)) o, m) e x t bad = laid_entry (offered_halt ch k cg todo o m x t) bad
-    laying (Got (source.Stops Over) o, m) e x t bad = laid_entry (over_halt o m x t) bad
+    laying (Got (source.Stops deeds.Ended) o, m) e x t bad = laid_entry (over_halt o m x t) bad
     laying (Bad f, m) e x t bad = laid_entry (bad_halt f m x t) bad
     laying (Lost, m) e x t bad = absurd e
     laying (Long, m) e x t bad = absurd e

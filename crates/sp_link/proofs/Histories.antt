@@ -28,7 +28,7 @@ use Rattle.sp_code.specs.Emitted.{program_code}
 use Rattle.sp_code.specs.Memory.{Memory}
 use Rattle.sp_code.specs.Memory as memory
 use Rattle.sp_code.specs.PlainStore.{plain}
-use Rattle.sp_code.specs.System.{System, Condition, Absent, Runs, Waits, Joins, Laid as IsLaid, Gone as HasGone, Over, IsSystem, Leads, OutputIs, store_in, opening}
+use Rattle.sp_code.specs.System.{System, Condition, Absent, Working, Waits, Joins, Laid as IsLaid, Gone as HasGone, Over, IsSystem, Leads, OutputIs, store_in, opening}
 use Rattle.sp_codegen.specs.Meets.{code_run}
 use Rattle.sp_history.specs.Agreement.{ToSend, ToReceive, Finished, phase, phase_in, IsOrderly, Agrees, HasOuts, Reaches}
 use Rattle.sp_history.proofs.Agreeing.{orderly_start, agrees_start}
@@ -194,7 +194,7 @@ Waits_with b i X w = (stop : Stop) × (d : Config (Memory Plain)) × (X ≡ Wait
 
 to_send : (b : Births) (i c : ℕ) (X : Condition Plain) → ToSend c ≡ phase_in X → Waits_with b i X (Sends_at b i c)
 to_send b i c Absent e = absurd (cc e)
-to_send b i c (Runs d) e = absurd (cc e)
+to_send b i c (Working d) e = absurd (cc e)
 to_send b i c (Waits (Sends c1 k cs) d) e = let same : c1 ≡ c = cc e in (Sends c1 k cs, d, refl, ap (λ y. Some (Sends_at b i y)) same)
 to_send b i c (Waits (Receives c1 k a) d) e = absurd (cc e)
 to_send b i c (Waits (Forks t v n) d) e = absurd (cc e)
@@ -208,7 +208,7 @@ to_send b i c (Over d) e = absurd (cc e)
 
 to_receive : (b : Births) (i c : ℕ) (X : Condition Plain) → ToReceive c ≡ phase_in X → Waits_with b i X (Receives_at b i c)
 to_receive b i c Absent e = absurd (cc e)
-to_receive b i c (Runs d) e = absurd (cc e)
+to_receive b i c (Working d) e = absurd (cc e)
 to_receive b i c (Waits (Sends c1 k cs) d) e = absurd (cc e)
 to_receive b i c (Waits (Receives c1 k a) d) e = let same : c1 ≡ c = cc e in (Receives c1 k a, d, refl, ap (λ y. Some (Receives_at b i y)) same)
 to_receive b i c (Waits (Forks t v n) d) e = absurd (cc e)
@@ -321,7 +321,7 @@ module _ (g : Setting) (moves shares : Stmt → List ℕ) (pause : ℕ) (ready :
         where
           by : (X : Condition Plain) → t.condition 0 ≡ X → phase_in X ≡ Finished → IsDone g s
           by Absent x f = absurd (cc f)
-          by (Runs d) x f = absurd (cc f)
+          by (Working d) x f = absurd (cc f)
           by (Waits stop d) x f = absurd (waiting stop f)
             where
               waiting : (stop : Stop) → phase_in {S = Plain} (Waits stop d) ≡ Finished → ⊥

@@ -15,7 +15,7 @@ use Rattle.sp_meaning.specs.Along.{Course, Turn, Entered, Along}
 use Rattle.sp_code.specs.Machine.{Config}
 use Rattle.sp_code.specs.Memory.{Memory}
 use Rattle.sp_code.specs.PlainStore.{plain}
-use Rattle.sp_code.specs.System.{System, Condition, Absent, Runs, Enters, Leads}
+use Rattle.sp_code.specs.System.{System, Condition, Absent, Working, Enters, Leads}
 use Rattle.sp_link.proofs.Relation.{Ground, Lives, Began, Linked, at_open, run_is}
 
 -- what q does in the meaning for an entry
@@ -79,17 +79,17 @@ module _ (G : Ground) where
     pub lives : Lives G
     pub linked : Now G lives course state t
 
-  absent_not : (c : Config (Memory Plain)) → ◌≡◌ {A = Condition Plain} Absent (Runs c) → ⊥
+  absent_not : (c : Config (Memory Plain)) → ◌≡◌ {A = Condition Plain} Absent (Working c) → ⊥
   absent_not c e = cc e
 
   -- who does anything has a number
   pub has_number : (lv : Lives G) (c : Course) (s : StateOf G.g) (u : System Plain) → Linked G lv c s u → (i : ℕ) (x : Condition Plain) → u.condition i ≡ x → x ≢ Absent → i < u.births.processes
   has_number lv c s u l i x e there = ⊎_elim (λ (h : i < u.births.processes). h) (λ (h : u.births.processes ≤ i). absurd (there (sym e ∙ l.unborn i h))) (either i u.births.processes)
 
-  pub is_born : (lv : Lives G) (c : Course) (s : StateOf G.g) (u : System Plain) → Linked G lv c s u → (i : ℕ) (d : Config (Memory Plain)) → u.condition i ≡ Runs d → i < u.births.processes
+  pub is_born : (lv : Lives G) (c : Course) (s : StateOf G.g) (u : System Plain) → Linked G lv c s u → (i : ℕ) (d : Config (Memory Plain)) → u.condition i ≡ Working d → i < u.births.processes
   is_born lv c s u l i d e = ⊎_elim (λ (h : i < u.births.processes). h) (λ (h : u.births.processes ≤ i). absurd (absent_not d (sym (l.unborn i h) ∙ e))) (either i u.births.processes)
 
-  is_born_now : (lv : Lives G) (c : Course) (s : StateOf G.g) (u : System Plain) → Now G lv c s u → (i : ℕ) (d : Config (Memory Plain)) → u.condition i ≡ Runs d → i < u.births.processes
+  is_born_now : (lv : Lives G) (c : Course) (s : StateOf G.g) (u : System Plain) → Now G lv c s u → (i : ℕ) (d : Config (Memory Plain)) → u.condition i ≡ Working d → i < u.births.processes
   is_born_now lv c s u l i d e = ⊎_elim (λ (h : i < u.births.processes). h) (λ (h : u.births.processes ≤ i). absurd (absent_not d (sym (l.unborn i h) ∙ e))) (either i u.births.processes)
 
   -- each front of the journal has begun

@@ -16,7 +16,7 @@ use Rattle.sp_codegen.specs.Shapes.{leaves, CellIs, CellsAre, Flat}
 use Rattle.sp_codegen.specs.Standing.{Stand}
 use Rattle.sp_codegen.proofs.Joining.{Joining}
 use Rattle.std.proofs.Common.{◌≡◌, ◌⊎◌, zero, suc, ◌+◌, length, if◌then◌else◌, refl, sym, ap, ◌∙◌, arith}
-use Rattle.sp_meaning.specs.Model.{Condition, Cargo, Gives, Takes}
+use Rattle.sp_meaning.specs.Model.{Condition, Cargo, Message, Takes}
 use Rattle.sp_meaning.specs.Own.{Held, Tree, Position, Written, Address, Item, Process}
 use Rattle.sp_meaning.specs.Runs.{StateOf}
 use Rattle.sp_meaning.specs.Along.{Course}
@@ -28,7 +28,7 @@ use Rattle.sp_code.specs.System as sys
 use Rattle.sp_codegen.specs.Meets.{due_after}
 use Rattle.sp_codegen.specs.Relation.{Stood}
 use Rattle.sp_link.proofs.AfterEntry.{again}
-use Rattle.sp_link.proofs.Relation.{Ground, Life, Called, Named, Fresh, Stands, Joined, Handed, Does, Fo, Ca, Rel, law, left_of, at_open, ops}
+use Rattle.sp_link.proofs.Relation.{Ground, Life, Called, Named, Fresh, Stands, Joined, Handed, Performs, Fo, Ca, Rel, law, left_of, at_open, ops}
 
 module _ (Named Named1 : Channel → ℕ → Type 0) (more : (c : Channel) (j : ℕ) → Named c j → Named1 c j) where
   cell_more : (v : Value) (c : OneCell) → CellIs Named v c → CellIs Named1 v c
@@ -130,9 +130,9 @@ module _ (G : Ground) where
     stood_more w since NoSort k v e h = h
 
     cargo_more : (f : Fresh G lf kids q) (w : Who) (n : w.name ≡ q) (since : ℕ) (js : List Joint) (c : Channel) (k : ℕ) (x : Cargo Held Address) (z : Stop) → Ca G lf kids q f w n since js c k x z → Ca (one_more G) lf kids q (fresh_more f) w n since js c k x z
-    cargo_more f w n since js c k (Gives (Tree v)) z h = (h.0, h.1, h.2, named_more c h.0 h.3, stood_more w since (sort G.g.program k) k v h.1 h.4)
-    cargo_more f w n since js c k (Gives (Position m)) z h = h
-    cargo_more f w n since js c k (Gives (Written bs)) z h = h
+    cargo_more f w n since js c k (Message (Tree v)) z h = (h.0, h.1, h.2, named_more c h.0 h.3, stood_more w since (sort G.g.program k) k v h.1 h.4)
+    cargo_more f w n since js c k (Message (Position m)) z h = h
+    cargo_more f w n since js c k (Message (Written bs)) z h = h
     cargo_more f w n since js c k (Takes a) z h = (h.0, h.1, h.2, named_more c h.0 h.3, h.4, h.5, h.6)
 
     handed_more : (js : List Joint) (n : Memory Plain) (v : Life) (z : Name) → Handed G lf kids q js n v z → Handed (one_more G) lf kids q js n v z
@@ -163,9 +163,9 @@ module _ (G : Ground) where
     }
 
     -- whatever it does
-    pub does_more : (c : Course) (s : StateOf G.g) (opens : ℕ) (x : sys.Condition Plain) → Does G lf kids q c s opens x → Does (one_more G) lf kids q c s opens x
+    pub does_more : (c : Course) (s : StateOf G.g) (opens : ℕ) (x : sys.Condition Plain) → Performs G lf kids q c s opens x → Performs (one_more G) lf kids q c s opens x
     does_more c s opens sys.Absent h = h
-    does_more c s opens (sys.Runs d) h = (h.0, h.1, ⊎_elim (λ z. inl (stands_more (c.since q) h.0 s.store d z)) (λ z. inr z) h.2, h.3, h.4)
+    does_more c s opens (sys.Working d) h = (h.0, h.1, ⊎_elim (λ z. inl (stands_more (c.since q) h.0 s.store d z)) (λ z. inr z) h.2, h.3, h.4)
     does_more c s opens (sys.Waits y d) h = (h.0, h.1, stands_more (c.since q) (h.0).next s.store d h.2, cargo_more (h.2).fresh (h.0).next.who (h.2).named (c.since q) (h.2).js (h.0).channel (h.0).kind (h.0).cargo y h.3, h.4, h.5, h.6)
     does_more c s opens (sys.Joins left d) h = (h.0, h.1, h.2, h.3, joined_more (c.since q) h.0 h.1 left h.2 s d h.4, h.5, h.6)
     does_more c s opens (sys.Laid d) h = h

@@ -2,7 +2,7 @@
 -- (`inv_same`).
 use Rattle.std.proofs.Common.{◌≡◌, inl, inr, ⊎_elim, ℕ, ◌∷◌, sym, subst}
 use Rattle.sp_cell.specs.Map.{Plain}
-use Rattle.sp_meaning.specs.Model.{Name, Cargo, Gives, Takes, Condition, Absent, Works, Waits, Joins, Ended}
+use Rattle.sp_meaning.specs.Model.{Name, Cargo, Message, Takes, Condition, Absent, Works, Waits, Joins, Ended}
 use Rattle.sp_meaning.specs.Own.{Loc, Held, Address, Process}
 use Rattle.sp_meaning.specs.Owning.{MayTake}
 use Rattle.sp_meaning.specs.Runs.{StateOf}
@@ -10,12 +10,12 @@ use Rattle.sp_meaning.specs.Along.{Course}
 use Rattle.sp_meaning.proofs.Owned.{Inv, Holds, Keeps_to, more_fit}
 use Rattle.sp_meaning.proofs.Rights.{All}
 use Rattle.sp_code.specs.System as sys
-use Rattle.sp_link.proofs.Relation.{Ground, Lives, Does, Does_all}
+use Rattle.sp_link.proofs.Relation.{Ground, Lives, Performs, Performs_all}
 
 -- what a process does is told by its life and those of its children
-pub does_lives : (G : Ground) (lv lv1 : Lives G) (r : Name) → lv1 r ≡ lv r → ((k i : ℕ) → lv1 ((k, i) ∷ r) ≡ lv ((k, i) ∷ r)) → (c : Course) (s : StateOf G.g) (opens : ℕ) (x : sys.Condition Plain) → Does_all G lv r c s opens x → Does_all G lv1 r c s opens x
+pub does_lives : (G : Ground) (lv lv1 : Lives G) (r : Name) → lv1 r ≡ lv r → ((k i : ℕ) → lv1 ((k, i) ∷ r) ≡ lv ((k, i) ∷ r)) → (c : Course) (s : StateOf G.g) (opens : ℕ) (x : sys.Condition Plain) → Performs_all G lv r c s opens x → Performs_all G lv1 r c s opens x
 does_lives G lv lv1 r e h c s opens x d =
-    subst (λ y. Does G (lv1 r) y r c s opens x) (λ j k i. sym (h k i) j) (subst (λ y. Does G y (λ k i. lv ((k, i) ∷ r)) r c s opens x) (sym e) d)
+    subst (λ y. Performs G (lv1 r) y r c s opens x) (λ j k i. sym (h k i) j) (subst (λ y. Performs G y (λ k i. lv ((k, i) ∷ r)) r c s opens x) (sym e) d)
 
 -- rights that are the same in other words
 module _ (G : Ground) (W R V T : Name → Loc → Type 0) (wv : (q : Name) (l : Loc) → W q l → V q l) (vw : (q : Name) (l : Loc) → V q l → W q l) (rt : (q : Name) (l : Loc) → R q l → T q l) (tr : (q : Name) (l : Loc) → T q l → R q l) where
@@ -29,7 +29,7 @@ module _ (G : Ground) (W R V T : Name → Loc → Type 0) (wv : (q : Name) (l : 
   keeps_same f q pr k = record { named = k.named; forked = k.forked; last = k.last; fit = more_fit G.g.program (All W q) (All R q) (All V q) (All T q) (all_w q) (all_r q) k.last pr.own.frames pr.todo k.fit }
 
   takes_same : (q : Name) (x : Cargo Held Address) → MayTake G.g.program (All W q) (All R q) x → MayTake G.g.program (All V q) (All T q) x
-  takes_same q (Gives v) h = tt
+  takes_same q (Message v) h = tt
   takes_same q (Takes a) h = all_w q a.spot h
 
   holds_same : (f : Name → ℕ) (q : Name) (c : Condition Process Held Address) → Holds G.g.program W R f q c → Holds G.g.program V T f q c

@@ -4,7 +4,7 @@ use Rattle.std.specs.Prelude.{◌≢◌, nat_lt}
 use Rattle.sp_base.specs.declared.fault.Fault.TheVariants as fault
 use Rattle.sp_journal.specs.Births.{channel}
 use Rattle.sp_cell.specs.Map.{Plain}
-use Rattle.sp_meaning.specs.Model.{Name, Channel, Cargo, Gives, Takes, Offering, Totals}
+use Rattle.sp_meaning.specs.Model.{Name, Channel, Cargo, Message, Takes, Offering, Totals}
 use Rattle.sp_meaning.specs.Steps.{WaitsOn, OfferOf, an_entry, Faulty, outcome, passed, unless, offered, result_of}
 use Rattle.sp_meaning.specs.Entries.{Happening}
 use Rattle.sp_meaning.specs.Own.{Held, Address, Own, Came, Got, Item, Tree, Position, Written}
@@ -28,9 +28,9 @@ use Rattle.sp_link.proofs.OffersMeet.{waiting_idle, meeting_entry}
 use Rattle.sp_link.proofs.OffersWait.{waiting_entry}
 use Rattle.sp_link.proofs.OneChanges.{runs}
 use Rattle.sp_link.proofs.Pauses.{Entry_of, Meant, Machined, Kept_to, kids}
-use Rattle.sp_link.proofs.Relation.{Ground, Lives, Named, Stands, Ca, Does_all, IsPending, Linked}
+use Rattle.sp_link.proofs.Relation.{Ground, Lives, Named, Stands, Ca, Performs_all, IsPending, Linked}
 
-module _ (G : Ground) (lv : Lives G) (c : Course) (s : StateOf G.g) (u : System Plain) (l : Linked G lv c s u) (i : ℕ) (d : Config (Memory Plain)) (at_i : u.condition i ≡ sys.Runs d)
+module _ (G : Ground) (lv : Lives G) (c : Course) (s : StateOf G.g) (u : System Plain) (l : Linked G lv c s u) (i : ℕ) (d : Config (Memory Plain)) (at_i : u.condition i ≡ sys.Working d)
     (z : Stands G (lv (w G lv c s u l i d at_i)) (kids G lv c s u l i d at_i) (w G lv c s u l i d at_i) (c.since (w G lv c s u l i d at_i)) (p1 G lv c s u l i d at_i) s.store d)
     (ch : Channel) (kd : ℕ) (cg : Cargo Held Address) (todo : List Item) (o : Own) (m : Store) (x : Meant G lv c s u l i d at_i z (Got (source.Stops (Offered ch kd cg todo)) o, m)) (t : Machined G lv c s u l i d at_i z (Got (source.Stops (Offered ch kd cg todo)) o, m))
     (y : Kept_to G lv c s u l i d at_i z (Got (source.Stops (Offered ch kd cg todo)) o, m)) (quiet : u.faulted ≡ false) where
@@ -64,10 +64,10 @@ module _ (G : Ground) (lv : Lives G) (c : Course) (s : StateOf G.g) (u : System 
       faults = ap (λ a. unless a (offered {L = superpascal G.g} x.at v off (x.at.pending ch))) passes
 
       found : (g1 : Cargo Held Address) → cg ≡ g1 → Ca G (lv v) (λ a b. lv ((a, b) ∷ v)) v z.fresh (p1 G lv c s u l i d at_i).who z.named (c.since v) t.3 ch kd g1 t.5 → fault_of G.g.limits u (Stopped t.5 (At t.0 t.1 t.2)) ≡ Some fault.F15
-      found (Gives (Tree a)) e h = ap (λ b. fault_of G.g.limits u (Stopped b (At t.0 t.1 t.2))) h.2
+      found (Message (Tree a)) e h = ap (λ b. fault_of G.g.limits u (Stopped b (At t.0 t.1 t.2))) h.2
           ∙ ap (λ b. sys.first_fault (if b then Some fault.F15 else None) (sys.clash_of u (machine.Sends h.0 kd (Rattle.sp_codegen.specs.Following.cells_in h.1)))) full
-      found (Gives (Position n)) e h = absurd h
-      found (Gives (Written bs)) e h = absurd h
+      found (Message (Position n)) e h = absurd h
+      found (Message (Written bs)) e h = absurd h
       found (Takes a) e h = ap (λ b. fault_of G.g.limits u (Stopped b (At t.0 t.1 t.2))) h.2
           ∙ ap (λ b. sys.first_fault (if b then Some fault.F15 else None) (sys.clash_of u (machine.Receives h.0 kd h.1))) full
 
@@ -87,9 +87,9 @@ module _ (G : Ground) (lv : Lives G) (c : Course) (s : StateOf G.g) (u : System 
     waits_then : WaitsOn ch (x.at.condition (G.births.name zi))
     waits_then = subst (λ b. WaitsOn ch b) (sym (x.elsewhere.condition (G.births.name zi) apart)) waits_on
 
-    by_condition : (X : sys.Condition Plain) → u.condition zi ≡ X → Does_all G lv (G.births.name zi) c x.at (u.births.opens zi) X → Entry_of G c s u i d
+    by_condition : (X : sys.Condition Plain) → u.condition zi ≡ X → Performs_all G lv (G.births.name zi) c x.at (u.births.opens zi) X → Entry_of G c s u i d
     by_condition sys.Absent e h = absurd h
-    by_condition (sys.Runs a) e h = absurd (waiting_idle x.at.condition (G.births.name zi) ch (x.at.condition (G.births.name zi)) h.0 waits_then h.1)
+    by_condition (sys.Working a) e h = absurd (waiting_idle x.at.condition (G.births.name zi) ch (x.at.condition (G.births.name zi)) h.0 waits_then h.1)
     by_condition (sys.Waits st2 d2) e h = meeting_entry G lv c s u l i d at_i z ch kd cg todo o m x t y said_any.0 said_any.1 quiet zi few pends j named pending_is enough apart st2 d2 e h.0 h.1 (subst (λ b. WaitsOn ch b) h.1 waits_then) h.2 h.3 h.4 h.5
     by_condition (sys.Joins left a) e h = absurd (subst (λ b. WaitsOn ch b) h.3 waits_then)
     by_condition (sys.Laid a) e h = absurd (waiting_idle x.at.condition (G.births.name zi) ch (x.at.condition (G.births.name zi)) h.2.0 waits_then h.2.1)
@@ -115,9 +115,9 @@ module _ (G : Ground) (lv : Lives G) (c : Course) (s : StateOf G.g) (u : System 
   offering = by_limit (nat_lt G.g.limits.entries (u.entries + 1)) refl
     where
       number : (g1 : Cargo Held Address) → Ca G (lv v) (λ a b. lv ((a, b) ∷ v)) v z.fresh (p1 G lv c s u l i d at_i).who z.named (c.since v) t.3 ch kd g1 t.5 → (j : ℕ) × Named G ch j
-      number (Gives (Tree a)) h = (h.0, h.3)
-      number (Gives (Position n)) h = absurd h
-      number (Gives (Written bs)) h = absurd h
+      number (Message (Tree a)) h = (h.0, h.3)
+      number (Message (Position n)) h = absurd h
+      number (Message (Written bs)) h = absurd h
       number (Takes a) h = (h.0, h.3)
 
       by_offer : (b : Option Name) → s.pending ch ≡ b → nat_lt G.g.limits.entries (u.entries + 1) ≡ false → Entry_of G c s u i d

@@ -13,8 +13,8 @@ use Rattle.sp_cell.specs.declared.cell.Cell.{Cell as OneCell}
 use Rattle.sp_cell.specs.declared.spot.Address.{Address as Ptr}
 use Rattle.sp_cell.specs.Map.{Plain}
 use Rattle.sp_meaning.specs.Maps.{at_key as put_at}
-use Rattle.sp_meaning.specs.Model.{Name, same_name, Condition, Absent, Works, Waits, Joins, Ended, after as After, same_channel, Channel, Cargo, Gives, Takes, Offering, Totals}
-use Rattle.sp_meaning.specs.Steps.{has_ended, working_in, Lives as IsLive, WaitsOn, OfferOf, meeting, message, an_entry, way_of, Does, Faulty, outcome, passed, unless, offered, meets, hands, result_of}
+use Rattle.sp_meaning.specs.Model.{Name, same_name, Condition, Absent, Works, Waits, Joins, Ended, after as After, same_channel, Channel, Cargo, Message, Takes, Offering, Totals}
+use Rattle.sp_meaning.specs.Steps.{has_ended, working_in, Lives as IsLive, WaitsOn, OfferOf, meeting, message, an_entry, way_of, Advances, Faulty, outcome, passed, unless, offered, meets, hands, result_of}
 use Rattle.sp_meaning.specs.Entries.{Happening, Offered as Is_offered}
 use Rattle.sp_meaning.specs.Own.{Loc, Held, Address, Own, Process, Came, Got, Item, Tree, Position, Written, assigned, same_loc}
 use Rattle.sp_meaning.specs.Values.{Value}
@@ -50,7 +50,7 @@ use Rattle.sp_link.proofs.Messages.{sent_flat, receiver_stands}
 use Rattle.sp_link.proofs.OneChanges.{its, here, number_or, inv_local}
 use Rattle.sp_link.proofs.OthersStay.{does_stay, stands_stay}
 use Rattle.sp_link.proofs.Pauses.{Entry_of, Meant, Machined, Kept_to, kids, after_quiet}
-use Rattle.sp_link.proofs.Relation.{Ground, Lives, W_of, R_of, Named, Stands, Ca, Does_all, IsPending, Linked, run_is}
+use Rattle.sp_link.proofs.Relation.{Ground, Lives, W_of, R_of, Named, Stands, Ca, Performs_all, IsPending, Linked, run_is}
 
 -- one that waits does not run
 pub waiting_idle : (m : Name → Condition Process Held Address) (q : Name) (ch : Channel) (c : Condition Process Held Address) (own : Process) → WaitsOn ch c → working_in m q c ≡ Some own → ⊥
@@ -60,7 +60,7 @@ waiting_idle m q ch (Waits w) own h e = absurd (cc e)
 waiting_idle m q ch (Joins k n pr) own h e = h
 waiting_idle m q ch Ended own h e = h
 
-module _ (G : Ground) (lv : Lives G) (c : Course) (s : StateOf G.g) (u : System Plain) (l : Linked G lv c s u) (i : ℕ) (d : Config (Memory Plain)) (at_i : u.condition i ≡ sys.Runs d)
+module _ (G : Ground) (lv : Lives G) (c : Course) (s : StateOf G.g) (u : System Plain) (l : Linked G lv c s u) (i : ℕ) (d : Config (Memory Plain)) (at_i : u.condition i ≡ sys.Working d)
     (z : Stands G (lv (w G lv c s u l i d at_i)) (kids G lv c s u l i d at_i) (w G lv c s u l i d at_i) (c.since (w G lv c s u l i d at_i)) (p1 G lv c s u l i d at_i) s.store d)
     (ch : Channel) (kd : ℕ) (cg : Cargo Held Address) (todo : List Item) (o : Own) (m : Store) (x : Meant G lv c s u l i d at_i z (Got (source.Stops (Offered ch kd cg todo)) o, m)) (t : Machined G lv c s u l i d at_i z (Got (source.Stops (Offered ch kd cg todo)) o, m))
     (y : Kept_to G lv c s u l i d at_i z (Got (source.Stops (Offered ch kd cg todo)) o, m))
@@ -121,8 +121,8 @@ module _ (G : Ground) (lv : Lives G) (c : Course) (s : StateOf G.g) (u : System 
     abbrev t1 : StateOf G.g
     t1 = After {L = superpascal G.g} (meeting {L = superpascal G.g} x.at v off zn off2 (a, hv)) x.at
 
-    meets_so : outcome {L = superpascal G.g} (most G.g) x.at v (Offering off) ≡ Does (meeting {L = superpascal G.g} x.at v off zn off2 (a, hv))
-    meets_so = outcome_is (Some (a, hv)) msg ∙ ap (λ b. if b then Does (meeting {L = superpascal G.g} x.at v off zn off2 (a, hv)) else Faulty fault.F7) same_kind
+    meets_so : outcome {L = superpascal G.g} (most G.g) x.at v (Offering off) ≡ Advances (meeting {L = superpascal G.g} x.at v off zn off2 (a, hv))
+    meets_so = outcome_is (Some (a, hv)) msg ∙ ap (λ b. if b then Advances (meeting {L = superpascal G.g} x.at v off zn off2 (a, hv)) else Faulty fault.F7) same_kind
 
     abbrev says_now : Happening
     says_now = Is_offered (way_of cg) ch
@@ -201,7 +201,7 @@ module _ (G : Ground) (lv : Lives G) (c : Course) (s : StateOf G.g) (u : System 
     not_writer : (b : Name) → b ≢ v → b ≢ zn → b ≢ wr
     not_writer b nv nz e = ⊎_elim (λ f. nv (e ∙ f)) (λ f. nz (e ∙ f)) wr_is
 
-    does_other : (k : ℕ) → k < u.births.processes → i ≢ k → zi ≢ k → Does_all G lv (G.births.name k) c1 t1 (u.births.opens k) (u.condition k)
+    does_other : (k : ℕ) → k < u.births.processes → i ≢ k → zi ≢ k → Performs_all G lv (G.births.name k) c1 t1 (u.births.opens k) (u.condition k)
     does_other k lt e f =
         let nv = other_name G lv c s u l i d at_i z r x what said k lt e in
         let nz = other_z k lt f in
@@ -214,21 +214,21 @@ module _ (G : Ground) (lv : Lives G) (c : Course) (s : StateOf G.g) (u : System 
 
     module _ (e1 e2 : Config (Memory Plain)) (do_v : Stands G (lv v) (λ a b. lv ((a, b) ∷ v)) v (c1.since v) off.next t1.store e1) (do_z : Stands G (lv zn) (λ a b. lv ((a, b) ∷ zn)) zn (c.since zn) off2.next t1.store e2) where
       abbrev u1 : System Plain
-      u1 = record u { condition = at_key ◌==◌ i (sys.Runs e1) (at_key ◌==◌ zi (sys.Runs e2) u.condition); pending = at_key ◌==◌ j None u.pending; entries = u.entries + 1 }
+      u1 = record u { condition = at_key ◌==◌ i (sys.Working e1) (at_key ◌==◌ zi (sys.Working e2) u.condition); pending = at_key ◌==◌ j None u.pending; entries = u.entries + 1 }
 
-      at_v : u1.condition i ≡ sys.Runs e1
-      at_v = ap (λ b. cond b (sys.Runs e1) (cond (zi == i) (sys.Runs e2) (u.condition i))) (eq-eqb i i refl)
+      at_v : u1.condition i ≡ sys.Working e1
+      at_v = ap (λ b. cond b (sys.Working e1) (cond (zi == i) (sys.Working e2) (u.condition i))) (eq-eqb i i refl)
 
-      at_zi : u1.condition zi ≡ sys.Runs e2
-      at_zi = ap (λ b. cond b (sys.Runs e1) (cond (zi == zi) (sys.Runs e2) (u.condition zi))) (number_is i zi numbers) ∙ ap (λ b. cond b (sys.Runs e2) (u.condition zi)) (eq-eqb zi zi refl)
+      at_zi : u1.condition zi ≡ sys.Working e2
+      at_zi = ap (λ b. cond b (sys.Working e1) (cond (zi == zi) (sys.Working e2) (u.condition zi))) (number_is i zi numbers) ∙ ap (λ b. cond b (sys.Working e2) (u.condition zi)) (eq-eqb zi zi refl)
 
       at_far : (k : ℕ) → i ≢ k → zi ≢ k → u1.condition k ≡ u.condition k
-      at_far k e f = ap (λ b. cond b (sys.Runs e1) (cond (zi == k) (sys.Runs e2) (u.condition k))) (number_is i k e) ∙ ap (λ b. cond b (sys.Runs e2) (u.condition k)) (number_is zi k f)
+      at_far k e f = ap (λ b. cond b (sys.Working e1) (cond (zi == k) (sys.Working e2) (u.condition k))) (number_is i k e) ∙ ap (λ b. cond b (sys.Working e2) (u.condition k)) (number_is zi k f)
 
-      its_does : Does_all G lv v c1 t1 (u.births.opens i) (sys.Runs e1)
+      its_does : Performs_all G lv v c1 t1 (u.births.opens i) (sys.Working e1)
       its_does = (off.next, ap (working_in t1.condition v) cond_v, inl do_v, ao.opens_same G lv c s u l i d at_i z ch kd cg todo o m x t y, (its G lv c s u l i d at_i).4)
 
-      other_does : Does_all G lv zn c1 t1 (u.births.opens zi) (sys.Runs e2)
+      other_does : Performs_all G lv zn c1 t1 (u.births.opens zi) (sys.Working e2)
       other_does = (off2.next, ap (working_in t1.condition zn) cond_z, inl (subst (λ k. Stands G (lv zn) (λ a b. lv ((a, b) ∷ zn)) zn k off2.next t1.store e2) (sym (since_other zn apart)) do_z), opens2, laid2)
 
       pends_now : (k : ℕ) → k < u.births.channels → IsPending G (t1.pending (channel G.births k)) (u1.pending k)
@@ -263,10 +263,10 @@ module _ (G : Ground) (lv : Lives G) (c : Course) (s : StateOf G.g) (u : System 
         quiet = λ e. x.elsewhere.fault ∙ l.quiet e;
         unlaid = l.unlaid;
         does = λ k lt. ⊎_elim
-            (λ (e : i ≡ k). subst (λ b. Does_all G lv (G.births.name b) c1 t1 (u.births.opens b) (u1.condition b)) e (subst (λ b. Does_all G lv v c1 t1 (u.births.opens i) b) (sym at_v) its_does))
+            (λ (e : i ≡ k). subst (λ b. Performs_all G lv (G.births.name b) c1 t1 (u.births.opens b) (u1.condition b)) e (subst (λ b. Performs_all G lv v c1 t1 (u.births.opens i) b) (sym at_v) its_does))
             (λ (e : i ≢ k). ⊎_elim
-            (λ (f : zi ≡ k). subst (λ b. Does_all G lv (G.births.name b) c1 t1 (u.births.opens b) (u1.condition b)) f (subst (λ b. Does_all G lv zn c1 t1 (u.births.opens zi) b) (sym at_zi) other_does))
-            (λ (f : zi ≢ k). subst (λ b. Does_all G lv (G.births.name k) c1 t1 (u.births.opens k) b) (sym (at_far k e f)) (does_other k lt e f))
+            (λ (f : zi ≡ k). subst (λ b. Performs_all G lv (G.births.name b) c1 t1 (u.births.opens b) (u1.condition b)) f (subst (λ b. Performs_all G lv zn c1 t1 (u.births.opens zi) b) (sym at_zi) other_does))
+            (λ (f : zi ≢ k). subst (λ b. Performs_all G lv (G.births.name k) c1 t1 (u.births.opens k) b) (sym (at_far k e f)) (does_other k lt e f))
             (number_or G lv c s u l i d at_i zi k))
             (number_or G lv c s u l i d at_i i k);
         unborn = λ k le. at_far k (λ e. let b = here G lv c s u l i d at_i in omega (arith, b, le, e)) (λ e. omega (arith, few, le, e)) ∙ l.unborn k le;
@@ -300,9 +300,9 @@ module _ (G : Ground) (lv : Lives G) (c : Course) (s : StateOf G.g) (u : System 
 
   -- ---- this one sends
 
-  module _ (value : Value) (cg_is : cg ≡ Gives (Tree value)) (a : Address) (cargo2 : off2.cargo ≡ Takes a) (same_kind : kd == off2.kind ≡ true) where
+  module _ (value : Value) (cg_is : cg ≡ Message (Tree value)) (a : Address) (cargo2 : off2.cargo ≡ Takes a) (same_kind : kd == off2.kind ≡ true) where
     msg : message cg off2.cargo ≡ Some (a, Tree value)
-    msg = ap (λ b. message b off2.cargo) cg_is ∙ ap (λ b. message (Gives (Tree value)) b) cargo2
+    msg = ap (λ b. message b off2.cargo) cg_is ∙ ap (λ b. message (Message (Tree value)) b) cargo2
 
     alone_z : IsAlone x.at zn
     alone_z = inr (ch, subst (λ b. WaitsOn ch b) (sym waits) on)
@@ -321,7 +321,7 @@ module _ (G : Ground) (lv : Lives G) (c : Course) (s : StateOf G.g) (u : System 
     since_s = since_here a (Tree value) same_kind msg zn alone_z (inr refl) may_z
 
     -- what it gives, at the stop, and where the other takes it
-    gives : Ca G (lv v) (λ a b. lv ((a, b) ∷ v)) v z.fresh x.left.who x.good.named (c1s.since v) t.3 ch kd (Gives (Tree value)) t.5
+    gives : Ca G (lv v) (λ a b. lv ((a, b) ∷ v)) v z.fresh x.left.who x.good.named (c1s.since v) t.3 ch kd (Message (Tree value)) t.5
     gives = subst (λ b. Ca G (lv v) (λ a b. lv ((a, b) ∷ v)) v z.fresh x.left.who x.good.named (c1s.since v) t.3 ch kd b t.5) cg_is (ao.cargo G lv c s u l i d at_i z ch kd cg todo o m x t y (c1s.since v) since_s)
 
     takes : Ca G (lv zn) (λ a b. lv ((a, b) ∷ zn)) zn t2.fresh off2.next.who t2.named (c.since zn) t2.js off2.channel off2.kind (Takes a) st2
@@ -366,8 +366,8 @@ module _ (G : Ground) (lv : Lives G) (c : Course) (s : StateOf G.g) (u : System 
     after_is : after plain (run_is G) i tn u ≡ u1s
     after_is = after_quiet G i tn u quiet ∙ ap (λ f. record (unless_fault plain (run_is G) f i tn u) { births = after_event u.births i (event_or f tn) }) no_fault
         ∙ ap (λ b. record (sys.counted plain (run_is G) (sys.sent plain (run_is G) i (Sends j kd (cells_in gives.1)) j (cells_in gives.1) (ao.there G lv c s u l i d at_i z ch kd cg todo o m x t y) b u)) { births = u.births }) pending_is
-        ∙ ap (λ b. record u { condition = at_key ◌==◌ i (sys.Runs (ao.there G lv c s u l i d at_i z ch kd cg todo o m x t y)) (at_key ◌==◌ zi (sys.received plain (run_is G) (cells_in gives.1) b) u.condition); pending = at_key ◌==◌ j None u.pending; entries = u.entries + 1 }) at_z
-        ∙ ap (λ b. record u { condition = at_key ◌==◌ i (sys.Runs (ao.there G lv c s u l i d at_i z ch kd cg todo o m x t y)) (at_key ◌==◌ zi (sys.received plain (run_is G) (cells_in gives.1) (sys.Waits b d2)) u.condition); pending = at_key ◌==◌ j None u.pending; entries = u.entries + 1 }) takes.2
+        ∙ ap (λ b. record u { condition = at_key ◌==◌ i (sys.Working (ao.there G lv c s u l i d at_i z ch kd cg todo o m x t y)) (at_key ◌==◌ zi (sys.received plain (run_is G) (cells_in gives.1) b) u.condition); pending = at_key ◌==◌ j None u.pending; entries = u.entries + 1 }) at_z
+        ∙ ap (λ b. record u { condition = at_key ◌==◌ i (sys.Working (ao.there G lv c s u l i d at_i z ch kd cg todo o m x t y)) (at_key ◌==◌ zi (sys.received plain (run_is G) (cells_in gives.1) (sys.Waits b d2)) u.condition); pending = at_key ◌==◌ j None u.pending; entries = u.entries + 1 }) takes.2
 
     event_is : event_of G.g.limits u tn ≡ event.Send j
     event_is = ap (λ b. if b then event.Laid else event_or (fault_of G.g.limits u tn) tn) quiet ∙ ap (λ f. event_or f tn) no_fault
@@ -380,7 +380,7 @@ module _ (G : Ground) (lv : Lives G) (c : Course) (s : StateOf G.g) (u : System 
 
   -- ---- this one receives
 
-  module _ (value : Value) (a : Address) (cg_is : cg ≡ Takes a) (cargo2 : off2.cargo ≡ Gives (Tree value)) (same_kind : kd == off2.kind ≡ true) where
+  module _ (value : Value) (a : Address) (cg_is : cg ≡ Takes a) (cargo2 : off2.cargo ≡ Message (Tree value)) (same_kind : kd == off2.kind ≡ true) where
     msg_r : message cg off2.cargo ≡ Some (a, Tree value)
     msg_r = ap (λ b. message b off2.cargo) cg_is ∙ ap (λ b. message (Takes a) b) cargo2
 
@@ -402,7 +402,7 @@ module _ (G : Ground) (lv : Lives G) (c : Course) (s : StateOf G.g) (u : System 
     takes_v : Ca G (lv v) (λ a b. lv ((a, b) ∷ v)) v z.fresh x.left.who x.good.named (c1r.since v) t.3 ch kd (Takes a) t.5
     takes_v = subst (λ b. Ca G (lv v) (λ a b. lv ((a, b) ∷ v)) v z.fresh x.left.who x.good.named (c1r.since v) t.3 ch kd b t.5) cg_is (ao.cargo G lv c s u l i d at_i z ch kd cg todo o m x t y (c1r.since v) since_r)
 
-    gives_z : Ca G (lv zn) (λ a b. lv ((a, b) ∷ zn)) zn t2.fresh off2.next.who t2.named (c.since zn) t2.js off2.channel off2.kind (Gives (Tree value)) st2
+    gives_z : Ca G (lv zn) (λ a b. lv ((a, b) ∷ zn)) zn t2.fresh off2.next.who t2.named (c.since zn) t2.js off2.channel off2.kind (Message (Tree value)) st2
     gives_z = subst (λ b. Ca G (lv zn) (λ a b. lv ((a, b) ∷ zn)) zn t2.fresh off2.next.who t2.named (c.since zn) t2.js off2.channel off2.kind b st2) cargo2 ca2
 
     flat_r : Rattle.sp_codegen.specs.Shapes.Flat G.g.program (Named G) kd value (cells_in gives_z.1)
@@ -439,8 +439,8 @@ module _ (G : Ground) (lv : Lives G) (c : Course) (s : StateOf G.g) (u : System 
     after_is_r : after plain (run_is G) i tr u ≡ u1r
     after_is_r = after_quiet G i tr u quiet ∙ ap (λ f. record (unless_fault plain (run_is G) f i tr u) { births = after_event u.births i (event_or f tr) }) no_fault_r
         ∙ ap (λ b. record (sys.counted plain (run_is G) (sys.taken plain (run_is G) i (Receives j kd takes_v.1) j takes_v.1 (ao.there G lv c s u l i d at_i z ch kd cg todo o m x t y) b u)) { births = u.births }) pending_is
-        ∙ ap (λ b. record u { condition = at_key ◌==◌ i (sys.Runs (on_store (put_cells plain takes_v.1 (sys.message_of plain (run_is G) (sys.stop_of {S = Plain} b))) (ao.there G lv c s u l i d at_i z ch kd cg todo o m x t y))) (at_key ◌==◌ zi (sys.received plain (run_is G) [] b) u.condition); pending = at_key ◌==◌ j None u.pending; entries = u.entries + 1 }) at_z
-        ∙ ap (λ b. record u { condition = at_key ◌==◌ i (sys.Runs (on_store (put_cells plain takes_v.1 (sys.message_of plain (run_is G) (Some b))) (ao.there G lv c s u l i d at_i z ch kd cg todo o m x t y))) (at_key ◌==◌ zi (sys.received plain (run_is G) [] (sys.Waits b d2)) u.condition); pending = at_key ◌==◌ j None u.pending; entries = u.entries + 1 }) gives_z.2
+        ∙ ap (λ b. record u { condition = at_key ◌==◌ i (sys.Working (on_store (put_cells plain takes_v.1 (sys.message_of plain (run_is G) (sys.stop_of {S = Plain} b))) (ao.there G lv c s u l i d at_i z ch kd cg todo o m x t y))) (at_key ◌==◌ zi (sys.received plain (run_is G) [] b) u.condition); pending = at_key ◌==◌ j None u.pending; entries = u.entries + 1 }) at_z
+        ∙ ap (λ b. record u { condition = at_key ◌==◌ i (sys.Working (on_store (put_cells plain takes_v.1 (sys.message_of plain (run_is G) (Some b))) (ao.there G lv c s u l i d at_i z ch kd cg todo o m x t y))) (at_key ◌==◌ zi (sys.received plain (run_is G) [] (sys.Waits b d2)) u.condition); pending = at_key ◌==◌ j None u.pending; entries = u.entries + 1 }) gives_z.2
 
     event_is_r : event_of G.g.limits u tr ≡ event.Receive j
     event_is_r = ap (λ b. if b then event.Laid else event_or (fault_of G.g.limits u tr) tr) quiet ∙ ap (λ f. event_or f tr) no_fault_r
@@ -483,31 +483,31 @@ module _ (G : Ground) (lv : Lives G) (c : Course) (s : StateOf G.g) (u : System 
   other_kind true e = eq-eqb off2.kind kd (sym (eqb-true kd off2.kind e))
   other_kind false e = number_is off2.kind kd (λ f. let g : true ≡ false = sym (eq-eqb kd off2.kind (sym f)) ∙ e in absurd (cc g))
 
-  send_take : (value : Value) (a : Address) → cg ≡ Gives (Tree value) → off2.cargo ≡ Takes a → Mine (Gives (Tree value)) → Other (Takes a) → (b : Bool) → kd == off2.kind ≡ b → Entry_of G c s u i d
+  send_take : (value : Value) (a : Address) → cg ≡ Message (Tree value) → off2.cargo ≡ Takes a → Mine (Message (Tree value)) → Other (Takes a) → (b : Bool) → kd == off2.kind ≡ b → Entry_of G c s u i d
   send_take value a e f h k true q = sending_meets value e a f q
   send_take value a e f h k false q = clash_entry fault.F7
-      (outcome_is (Some (a, Tree value)) (ap (λ b. message b off2.cargo) e ∙ ap (λ b. message (Gives (Tree value)) b) f) ∙ ap (λ b. if b then Does (meeting {L = superpascal G.g} x.at v off zn off2 (a, Tree value)) else Faulty fault.F7) q)
+      (outcome_is (Some (a, Tree value)) (ap (λ b. message b off2.cargo) e ∙ ap (λ b. message (Message (Tree value)) b) f) ∙ ap (λ b. if b then Advances (meeting {L = superpascal G.g} x.at v off zn off2 (a, Tree value)) else Faulty fault.F7) q)
       (sends_found (cells_in h.1) h.0 h.3 h.2 ∙ ap (λ b. sys.clash_by way.Send kd (Some b)) k.2 ∙ ap (λ b. if b then None else Some fault.F7) (other_kind false q))
 
-  take_send : (value : Value) (a : Address) → cg ≡ Takes a → off2.cargo ≡ Gives (Tree value) → Mine (Takes a) → Other (Gives (Tree value)) → (b : Bool) → kd == off2.kind ≡ b → Entry_of G c s u i d
+  take_send : (value : Value) (a : Address) → cg ≡ Takes a → off2.cargo ≡ Message (Tree value) → Mine (Takes a) → Other (Message (Tree value)) → (b : Bool) → kd == off2.kind ≡ b → Entry_of G c s u i d
   take_send value a e f h k true q = receiving_meets value a e f q
   take_send value a e f h k false q = clash_entry fault.F7
-      (outcome_is (Some (a, Tree value)) (ap (λ b. message b off2.cargo) e ∙ ap (λ b. message (Takes a) b) f) ∙ ap (λ b. if b then Does (meeting {L = superpascal G.g} x.at v off zn off2 (a, Tree value)) else Faulty fault.F7) q)
+      (outcome_is (Some (a, Tree value)) (ap (λ b. message b off2.cargo) e ∙ ap (λ b. message (Takes a) b) f) ∙ ap (λ b. if b then Advances (meeting {L = superpascal G.g} x.at v off zn off2 (a, Tree value)) else Faulty fault.F7) q)
       (takes_found h.1 h.0 h.3 h.2 ∙ ap (λ b. sys.clash_by way.Receive kd (Some b)) k.2 ∙ ap (λ b. if b then None else Some fault.F7) (other_kind false q))
 
   both : (g1 g2 : Cargo Held Address) → cg ≡ g1 → off2.cargo ≡ g2 → Mine g1 → Other g2 → Entry_of G c s u i d
-  both (Gives (Tree value)) (Takes a) e f h k = send_take value a e f h k (kd == off2.kind) refl
-  both (Takes a) (Gives (Tree value)) e f h k = take_send value a e f h k (kd == off2.kind) refl
-  both (Gives (Tree value)) (Gives (Tree other)) e f h k = clash_entry fault.F6
-      (outcome_is None (ap (λ b. message b off2.cargo) e ∙ ap (λ b. message (Gives (Tree value)) b) f)) (sends_found (cells_in h.1) h.0 h.3 h.2 ∙ ap (λ b. sys.clash_by way.Send kd (Some b)) k.2)
+  both (Message (Tree value)) (Takes a) e f h k = send_take value a e f h k (kd == off2.kind) refl
+  both (Takes a) (Message (Tree value)) e f h k = take_send value a e f h k (kd == off2.kind) refl
+  both (Message (Tree value)) (Message (Tree other)) e f h k = clash_entry fault.F6
+      (outcome_is None (ap (λ b. message b off2.cargo) e ∙ ap (λ b. message (Message (Tree value)) b) f)) (sends_found (cells_in h.1) h.0 h.3 h.2 ∙ ap (λ b. sys.clash_by way.Send kd (Some b)) k.2)
   both (Takes a) (Takes b) e f h k = clash_entry fault.F6
       (outcome_is None (ap (λ b. message b off2.cargo) e ∙ ap (λ b. message (Takes a) b) f)) (takes_found h.1 h.0 h.3 h.2 ∙ ap (λ b. sys.clash_by way.Receive kd (Some b)) k.2)
-  both (Gives (Position n)) g2 e f h k = absurd h
-  both (Gives (Written bs)) g2 e f h k = absurd h
-  both (Gives (Tree value)) (Gives (Position n)) e f h k = absurd k
-  both (Gives (Tree value)) (Gives (Written bs)) e f h k = absurd k
-  both (Takes a) (Gives (Position n)) e f h k = absurd k
-  both (Takes a) (Gives (Written bs)) e f h k = absurd k
+  both (Message (Position n)) g2 e f h k = absurd h
+  both (Message (Written bs)) g2 e f h k = absurd h
+  both (Message (Tree value)) (Message (Position n)) e f h k = absurd k
+  both (Message (Tree value)) (Message (Written bs)) e f h k = absurd k
+  both (Takes a) (Message (Position n)) e f h k = absurd k
+  both (Takes a) (Message (Written bs)) e f h k = absurd k
 
   pub meeting_entry : Entry_of G c s u i d
   meeting_entry = both cg off2.cargo refl refl t.9 ca2

@@ -12,8 +12,8 @@ use Rattle.sp_journal.specs.declared.entry.Event.TheVariants as event
 use Rattle.sp_journal.specs.Births.{happening}
 use Rattle.sp_journal.specs.Maps.{at_key}
 use Rattle.sp_cell.specs.Map.{Plain}
-use Rattle.sp_meaning.specs.Model.{Name, same_name, Condition, Absent, Works, Waits, Joins, Ended, Becomes, changed, after as After, same_channel, Channel, Cargo, Gives, Takes, Offer, Totals, add}
-use Rattle.sp_meaning.specs.Steps.{has_ended, working_in, JoinsAt, Lives as IsLive, OfferOf, waiting, an_entry, way_of, Outcome, Does, outcome, passed, unless, offered, acts}
+use Rattle.sp_meaning.specs.Model.{Name, same_name, Condition, Absent, Works, Waits, Joins, Ended, Becomes, changed, after as After, same_channel, Channel, Cargo, Message, Takes, Offer, Totals, add}
+use Rattle.sp_meaning.specs.Steps.{has_ended, working_in, JoinsAt, Lives as IsLive, OfferOf, waiting, an_entry, way_of, Outcome, Advances, outcome, passed, unless, offered, acts}
 use Rattle.sp_meaning.specs.Entries.{Happening, Offered as Is_offered}
 use Rattle.sp_meaning.specs.Own.{Setting, Loc, Output, Held, Address, Own, Process, Came, Got, Written, Item, Tree, Position}
 use Rattle.sp_meaning.specs.Deeds.{Deed, Offered}
@@ -41,12 +41,12 @@ use Rattle.sp_link.proofs.Journal.{Way_on, IsOpen, now_by}
 use Rattle.sp_link.proofs.KernelSteps.{kernel_next, kernel_says, stand_dead}
 use Rattle.sp_link.proofs.OneChanges.{its, here, number_or, inv_local}
 use Rattle.sp_link.proofs.Pauses.{Entry_of, Meant, Machined, Kept_to, kids, turn_is, after_quiet}
-use Rattle.sp_link.proofs.Relation.{Ground, Life, Lives, W_of, R_of, St, Stands, Joined, Does_all, Told, Ca, IsPending, Linked, Began, run_is, ops, left_of}
+use Rattle.sp_link.proofs.Relation.{Ground, Life, Lives, W_of, R_of, St, Stands, Joined, Performs_all, Told, Ca, IsPending, Linked, Began, run_is, ops, left_of}
 use Rattle.sp_link.proofs.OthersStay.{does_stay}
 use Rattle.sp_meaning.proofs.QuietDeeds.{IsDead}
 use Rattle.sp_link.proofs.AtStop.{same_but_dead, w, p1, kt, alone_at, known_at, rights_at, ended_at, other_name, does_at}
 
-module _ (G : Ground) (lv : Lives G) (c : Course) (s : StateOf G.g) (u : System Plain) (l : Linked G lv c s u) (i : ℕ) (d : Config (Memory Plain)) (at_i : u.condition i ≡ sys.Runs d)
+module _ (G : Ground) (lv : Lives G) (c : Course) (s : StateOf G.g) (u : System Plain) (l : Linked G lv c s u) (i : ℕ) (d : Config (Memory Plain)) (at_i : u.condition i ≡ sys.Working d)
     (z : Stands G (lv (w G lv c s u l i d at_i)) (kids G lv c s u l i d at_i) (w G lv c s u l i d at_i) (c.since (w G lv c s u l i d at_i)) (p1 G lv c s u l i d at_i) s.store d)
     (ch : Channel) (kd : ℕ) (cg : Cargo Held Address) (todo : List Item) (o : Own) (m : Store) (x : Meant G lv c s u l i d at_i z (Got (source.Stops (Offered ch kd cg todo)) o, m)) (t : Machined G lv c s u l i d at_i z (Got (source.Stops (Offered ch kd cg todo)) o, m))
     (y : Kept_to G lv c s u l i d at_i z (Got (source.Stops (Offered ch kd cg todo)) o, m)) (quiet : u.faulted ≡ false) (alone_there : s.pending ch ≡ None) (enough : nat_lt G.g.limits.entries (u.entries + 1) ≡ false) where
@@ -71,7 +71,7 @@ module _ (G : Ground) (lv : Lives G) (c : Course) (s : StateOf G.g) (u : System 
   none_there : x.at.pending ch ≡ None
   none_there = ap (λ a. a ch) x.elsewhere.pending ∙ alone_there
 
-  outcome_is : outcome {L = superpascal G.g} (most G.g) x.at v (Rattle.sp_meaning.specs.Model.Offering off) ≡ Does (waiting {L = superpascal G.g} x.at v off)
+  outcome_is : outcome {L = superpascal G.g} (most G.g) x.at v (Rattle.sp_meaning.specs.Model.Offering off) ≡ Advances (waiting {L = superpascal G.g} x.at v off)
   outcome_is = ap (λ a. unless a (offered {L = superpascal G.g} x.at v off (x.at.pending ch))) passes ∙ ap (λ a. offered {L = superpascal G.g} x.at v off a) none_there
 
   abbrev t1 : StateOf G.g
@@ -120,7 +120,7 @@ module _ (G : Ground) (lv : Lives G) (c : Course) (s : StateOf G.g) (u : System 
   present_same : (a : Name) → x.at.condition a ≢ Absent → t1.condition a ≢ Absent
   present_same a h e = ⊎_elim (λ (f : a ≡ v). subst (λ b. IsLive b) (sym waits ∙ subst (λ b. t1.condition b ≡ Absent) f e) tt) (λ (f : a ≢ v). h (sym (same a f) ∙ e)) (same_or_not name_test a v)
 
-  does_other : (j : ℕ) → j < u.births.processes → i ≢ j → Does_all G lv (G.births.name j) c1 t1 (u.births.opens j) (u.condition j)
+  does_other : (j : ℕ) → j < u.births.processes → i ≢ j → Performs_all G lv (G.births.name j) c1 t1 (u.births.opens j) (u.condition j)
   does_other j lt e =
       let apart = other_name G lv c s u l i d at_i z r x what said j lt e in
       does_stay G lv x.at t1 known_then.sound rights_then.fair v (alone_at G lv c s u l i d at_i z r x what said) (λ a. inl refl) (G.births.name j) apart (same (G.births.name j) apart)
@@ -159,7 +159,7 @@ module _ (G : Ground) (lv : Lives G) (c : Course) (s : StateOf G.g) (u : System 
   cargo : Ca G (lv v) (λ a b. lv ((a, b) ∷ v)) v z.fresh x.left.who name_is (c1.since v) t.3 ch kd cg t.5
   cargo = cargo_again G (lv v) (λ a b. lv ((a, b) ∷ v)) v z.fresh z.fresh (p1 G lv c s u l i d at_i).who x.left.who z.named name_is (c.since v) (c1.since v) t.3 ch kd cg t.5 t.9
 
-  its_does : Does_all G lv v c1 t1 (u.births.opens i) (sys.Waits t.5 there)
+  its_does : Performs_all G lv v c1 t1 (u.births.opens i) (sys.Waits t.5 there)
   its_does = (off, waits, stands, cargo, ap (λ (a : Rattle.sp_meaning.specs.Own.Who). a.opens) x.who_is ∙ (its G lv c s u l i d at_i).3, (its G lv c s u l i d at_i).4, owned_ready G t.5 t.0 t.1 t.2 t.12)
 
   -- ---- the machine
@@ -223,8 +223,8 @@ module _ (G : Ground) (lv : Lives G) (c : Course) (s : StateOf G.g) (u : System 
       quiet = λ e. x.elsewhere.fault ∙ l.quiet e;
       unlaid = l.unlaid;
       does = λ a lt. ⊎_elim
-          (λ (e : i ≡ a). subst (λ b. Does_all G lv (G.births.name b) c1 t1 (u.births.opens b) (u1.condition b)) e (subst (λ b. Does_all G lv v c1 t1 (u.births.opens i) b) (sym (ap (λ b. cond b (sys.Waits t.5 there) (u.condition i)) (eq-eqb i i refl))) its_does))
-          (λ (e : i ≢ a). subst (λ b. Does_all G lv (G.births.name a) c1 t1 (u.births.opens a) b) (sym (at_other_number a e)) (does_other a lt e))
+          (λ (e : i ≡ a). subst (λ b. Performs_all G lv (G.births.name b) c1 t1 (u.births.opens b) (u1.condition b)) e (subst (λ b. Performs_all G lv v c1 t1 (u.births.opens i) b) (sym (ap (λ b. cond b (sys.Waits t.5 there) (u.condition i)) (eq-eqb i i refl))) its_does))
+          (λ (e : i ≢ a). subst (λ b. Performs_all G lv (G.births.name a) c1 t1 (u.births.opens a) b) (sym (at_other_number a e)) (does_other a lt e))
           (number_or G lv c s u l i d at_i i a);
       unborn = λ a le. at_other_number a (λ e. let b = here G lv c s u l i d at_i in omega (arith, b, le, e)) ∙ l.unborn a le;
       unmade = l.unmade;
@@ -293,12 +293,12 @@ module _ (G : Ground) (lv : Lives G) (c : Course) (s : StateOf G.g) (u : System 
 
   -- of both ways
   waiting_by : (g1 : Cargo Held Address) → cg ≡ g1 → Ca G (lv v) (λ a b. lv ((a, b) ∷ v)) v z.fresh x.left.who name_is (c1.since v) t.3 ch kd g1 t.5 → Entry_of G c s u i d
-  waiting_by (Gives (Tree a)) e h = entry_by h.0 h.3
+  waiting_by (Message (Tree a)) e h = entry_by h.0 h.3
       (ap (λ st. after plain (run_is G) i (Stopped st (At t.0 t.1 t.2)) u) h.2 ∙ sends h.0 h.3 _ ∙ ap (λ st. u1_of h.0 h.3 st) (sym h.2))
       (ap (λ st. happening u.births (event_of G.g.limits u (Stopped st (At t.0 t.1 t.2)))) h.2 ∙ ap (λ f. happening u.births f) (event_sends h.0 h.3 _) ∙ ap (λ a. Is_offered way.Send a) (name_of h.0 h.3) ∙ ap (λ a. Is_offered (way_of a) ch) (sym e))
       (subst (λ st. IsOpen u.births (event_of G.g.limits u (Stopped st (At t.0 t.1 t.2)))) (sym h.2) (subst (λ f. IsOpen u.births f) (sym (event_sends h.0 h.3 _)) (is_open h.0 h.3)))
-  waiting_by (Gives (Position n)) e h = absurd h
-  waiting_by (Gives (Written bs)) e h = absurd h
+  waiting_by (Message (Position n)) e h = absurd h
+  waiting_by (Message (Written bs)) e h = absurd h
   waiting_by (Takes a) e h = entry_by h.0 h.3
       (ap (λ st. after plain (run_is G) i (Stopped st (At t.0 t.1 t.2)) u) h.2 ∙ takes h.0 h.3 h.1 ∙ ap (λ st. u1_of h.0 h.3 st) (sym h.2))
       (ap (λ st. happening u.births (event_of G.g.limits u (Stopped st (At t.0 t.1 t.2)))) h.2 ∙ ap (λ f. happening u.births f) (event_takes h.0 h.3 h.1) ∙ ap (λ a. Is_offered way.Receive a) (name_of h.0 h.3) ∙ ap (λ a. Is_offered (way_of a) ch) (sym e))

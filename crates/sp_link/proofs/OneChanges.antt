@@ -23,7 +23,7 @@ use Rattle.sp_code.specs.Memory.{Memory}
 use Rattle.sp_code.specs.System.{System}
 use Rattle.sp_code.specs.System as sys
 use Rattle.sp_link.proofs.Journal.{is_born}
-use Rattle.sp_link.proofs.Relation.{Ground, Lives, W_of, R_of, Does_all, Linked, IsPending}
+use Rattle.sp_link.proofs.Relation.{Ground, Lives, W_of, R_of, Performs_all, Linked, IsPending}
 use Rattle.sp_link.proofs.OthersStay.{does_stay}
 
 -- a working process, whatever condition it has, keeps to its rights
@@ -47,7 +47,7 @@ inv_local G W R m m1 f f1 q i e here other h = subst (λ z. Inv G.g.program W R 
   unknown = i.unknown;
 })
 
-module _ (G : Ground) (lv : Lives G) (c : Course) (s : StateOf G.g) (u : System Plain) (l : Linked G lv c s u) (i : ℕ) (d : Config (Memory Plain)) (at_i : u.condition i ≡ sys.Runs d) where
+module _ (G : Ground) (lv : Lives G) (c : Course) (s : StateOf G.g) (u : System Plain) (l : Linked G lv c s u) (i : ℕ) (d : Config (Memory Plain)) (at_i : u.condition i ≡ sys.Working d) where
   abbrev pub q : Name
   q = G.births.name i
 
@@ -55,8 +55,8 @@ module _ (G : Ground) (lv : Lives G) (c : Course) (s : StateOf G.g) (u : System 
   here = is_born G lv c s u l i d at_i
 
   -- what the relation says of it
-  pub its : Does_all G lv q c s (u.births.opens i) (sys.Runs d)
-  its = subst (λ x. Does_all G lv q c s (u.births.opens i) x) at_i (l.does i here)
+  pub its : Performs_all G lv q c s (u.births.opens i) (sys.Working d)
+  its = subst (λ x. Performs_all G lv q c s (u.births.opens i) x) at_i (l.does i here)
 
   abbrev pub pr : Process
   pr = its.0
@@ -94,7 +94,7 @@ module _ (G : Ground) (lv : Lives G) (c : Course) (s : StateOf G.g) (u : System 
       (other : (r : Name) → r ≢ q → t.condition r ≡ s.condition r) (forks : t.forks ≡ s.forks) (pending : t.pending ≡ s.pending) (totals : t.totals ≡ s.totals)
       (stays : (a : Loc) → (t.store a ≡ s.store a) ⊎ All (W_of G lv) q a) (known : Known G.g t) (left : Process) (works : working_in t.condition q (t.condition q) ≡ Some left) (rights : Keeps_to G.g.program (W_of G lv) (R_of G lv) s.forks q left)
       (since : (r : Name) → r ≢ q → c1.since r ≡ c.since r) (laid : (r : Name) → r ≢ q → c1.laid r ≡ c.laid r) (more : c.faulted ≡ true → c1.faulted ≡ true) (faulted : c1.faulted ≡ f) (quiet : f ≡ false → t.fault ≡ None) (unlaid : f ≡ false → (r : Name) → c1.laid r ≡ false)
-      (does : Does_all G lv q c1 t (u.births.opens i) x) (known_x : x ≢ sys.Absent) where
+      (does : Performs_all G lv q c1 t (u.births.opens i) x) (known_x : x ≢ sys.Absent) where
     ended_now : has_ended (t.condition q) ≡ false
     ended_now = go (has_ended (t.condition q)) refl
       where
@@ -124,11 +124,11 @@ module _ (G : Ground) (lv : Lives G) (c : Course) (s : StateOf G.g) (u : System 
         go true h = absurd (e (eqb-true i j h))
         go false h = refl
 
-    all_do : (j : ℕ) → j < u.births.processes → Does_all G lv (G.births.name j) c1 t (u.births.opens j) (u1.condition j)
+    all_do : (j : ℕ) → j < u.births.processes → Performs_all G lv (G.births.name j) c1 t (u.births.opens j) (u1.condition j)
     all_do j lt = ⊎_elim
-        (λ (e : i ≡ j). subst (λ y. Does_all G lv (G.births.name y) c1 t (u.births.opens y) (u1.condition y)) e (subst (λ y. Does_all G lv q c1 t (u.births.opens i) y) (sym at_this) does))
+        (λ (e : i ≡ j). subst (λ y. Performs_all G lv (G.births.name y) c1 t (u.births.opens y) (u1.condition y)) e (subst (λ y. Performs_all G lv q c1 t (u.births.opens i) y) (sym at_this) does))
         (λ (e : i ≢ j). (let apart : G.births.name j ≢ q = λ h. e (G.one_name i j (few i here) (few j lt) (sym h)) in
-        subst (λ y. Does_all G lv (G.births.name j) c1 t (u.births.opens j) y) (sym (at_other j e))
+        subst (λ y. Performs_all G lv (G.births.name j) c1 t (u.births.opens j) y) (sym (at_other j e))
         (does_stay G lv s t l.known.sound l.rights.fair q alone stays (G.births.name j) apart (other (G.births.name j) apart) (λ k n. ended_same ((k, n) ∷ G.births.name j)) (λ k n. present_same ((k, n) ∷ G.births.name j)) c c1 (since (G.births.name j) apart) (laid (G.births.name j) apart) more (u.births.opens j) (u.condition j) (l.does j lt))))
         (number_or i j)
       where

@@ -1,7 +1,7 @@
 -- Along a journal the meaning has one state at most, after one number of steps: a turn is a function of the state, and so is the
 -- step of an entry. The way from the meaning back to the machine rests on it (`Replay`).
 use Rattle.std.proofs.Common.{◌≡◌, ℕ, zero, suc, ◌+◌, List, [], ◌∷◌, Option, Some, None, Bool, true, false, refl, sym, ap, ◌∙◌, subst}
-use Rattle.sp_meaning.specs.Entries.{Happening, Occurrence, Opened, Split, Offered, Finished, Failed, LaidDown, Paused}
+use Rattle.sp_meaning.specs.Entries.{Happening, Occurrence, Opened, Forked, Offered, Ended, Faulted, Laid, Paused}
 use Rattle.sp_meaning.specs.Own.{Setting}
 use Rattle.sp_meaning.specs.Runs.{StateOf, says, start}
 use Rattle.sp_meaning.specs.Along.{Either, due, Turn, Course, Kernel, Entered, Along, IsAlong, after_entry, ticks_of, no_course}
@@ -61,13 +61,13 @@ module _ (g : Setting) (turn : ℕ) where
 
     -- after one entry from one state
     entry_one : (what : Happening) (n k : ℕ) → Entered g (Left es t) c m p q what n → Entered g (Left es v) c m p q what k → Ends n k t v
-    entry_one LaidDown n k h i = ih _ m n k h.1 i.1
+    entry_one Laid n k h i = ih _ m n k h.1 i.1
     entry_one Paused n k h i = ih _ m n k h.2 i.2
-    entry_one (Split j) n k h i = kernel_one (Split j) n k h i
+    entry_one (Forked j) n k h i = kernel_one (Forked j) n k h i
     entry_one Opened n k h i = kernel_one Opened n k h i
     entry_one (Offered w ch) n k h i = kernel_one (Offered w ch) n k h i
-    entry_one Finished n k h i = kernel_one Finished n k h i
-    entry_one (Failed f) n k h i = kernel_one (Failed f) n k h i
+    entry_one Ended n k h i = kernel_one Ended n k h i
+    entry_one (Faulted f) n k h i = kernel_one (Faulted f) n k h i
 
   pub along_one : (es : List Occurrence) (t v : StateOf g) (c : Course) (s : StateOf g) (n k : ℕ) → Along g turn c s es n t → Along g turn c s es k v → Ends n k t v
   along_one [] t v c s n k h i = (h.0 ∙ sym i.0, h.1 ∙ sym i.1)

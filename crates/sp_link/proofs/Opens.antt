@@ -11,9 +11,9 @@ use Rattle.sp_journal.specs.Maps.{at_key}
 use Rattle.sp_cell.specs.declared.cell.Cell.TheVariants as cell
 use Rattle.sp_cell.specs.Map.{Plain}
 use Rattle.sp_meaning.specs.Maps.{at_key as put_at}
-use Rattle.sp_meaning.specs.Model.{Name, same_name, Channel, Cargo, Gives, Takes, Condition, Absent, Works, Waits, Joins, Ended, Becomes, Adds, Opens, changed, add, Totals}
+use Rattle.sp_meaning.specs.Model.{Name, same_name, Channel, Cargo, Message, Takes, Condition, Absent, Works, Waits, Joins, Ended, Becomes, Adds, Opens, changed, add, Totals}
 use Rattle.sp_meaning.specs.Asking.{put_by}
-use Rattle.sp_meaning.specs.Steps.{ActOf, has_ended, working_in, Lives as IsLive, WaitsOn, Does, Faulty, outcome, passed, unless, acts, puts, result_of}
+use Rattle.sp_meaning.specs.Steps.{ActOf, has_ended, working_in, Lives as IsLive, WaitsOn, Advances, Faulty, outcome, passed, unless, acts, puts, result_of}
 use Rattle.sp_meaning.specs.Entries.{Happening, Opened as Is_opened}
 use Rattle.sp_meaning.specs.Own.{Loc, Held, Address, Own, Who, Process, Came, Got, Item, Tree, Position, Written, same_loc}
 use Rattle.sp_meaning.specs.Values.{Chan}
@@ -49,12 +49,12 @@ use Rattle.sp_link.proofs.MoreChannels.{one_more, stands_more, does_more}
 use Rattle.sp_link.proofs.OneChanges.{q, pr, its, alone, here, present, not_ended, keeps_to, number_or, inv_local}
 use Rattle.sp_link.proofs.OthersStay.{does_stay}
 use Rattle.sp_link.proofs.Pauses.{Entry_of, Meant, Machined, Kept_to, kids, turn_is, after_quiet}
-use Rattle.sp_link.proofs.Relation.{Ground, Life, Lives, W_of, R_of, Called, Named, Stands, Ca, Rel, St, Does_all, IsPending, Linked, Began, at_open, run_is, ops}
+use Rattle.sp_link.proofs.Relation.{Ground, Life, Lives, W_of, R_of, Called, Named, Stands, Ca, Rel, St, Performs_all, IsPending, Linked, Began, at_open, run_is, ops}
 
 module _ (G : Ground) (lv : Lives G) (c : Course) (s : StateOf G.g) (u : System Plain) (l : Linked G lv c s u) where
   -- a pending offer is on a channel that is open
   pending_open : (ch : Channel) (zn : Name) → s.pending ch ≡ Some zn → (j : ℕ) × Named G ch j
-  pending_open ch zn e = by (u.condition k) (subst (λ y. Does_all G lv y c s (u.births.opens k) (u.condition k)) name_is (l.does k lt))
+  pending_open ch zn e = by (u.condition k) (subst (λ y. Performs_all G lv y c s (u.births.opens k) (u.condition k)) name_is (l.does k lt))
     where
       waits : WaitsOn ch (s.condition zn)
       waits = l.known.sound.waits ch zn e
@@ -79,14 +79,14 @@ module _ (G : Ground) (lv : Lives G) (c : Course) (s : StateOf G.g) (u : System 
       idle Ended own h f = h
 
       cargo : (lf : Life) (more : ℕ → ℕ → Life) (f : Rattle.sp_link.proofs.Relation.Fresh G lf more zn) (w : Who) (nm : w.name ≡ zn) (since : ℕ) (js : List Rattle.sp_codegen.specs.Joints.Joint) (c1 : Channel) (kd : ℕ) (g : Cargo Held Address) (z : machine.Stop) → Ca G lf more zn f w nm since js c1 kd g z → (j : ℕ) × Named G c1 j
-      cargo lf more f w nm since js c1 kd (Gives (Tree a)) z h = (h.0, h.3)
-      cargo lf more f w nm since js c1 kd (Gives (Position m)) z h = absurd h
-      cargo lf more f w nm since js c1 kd (Gives (Written bs)) z h = absurd h
+      cargo lf more f w nm since js c1 kd (Message (Tree a)) z h = (h.0, h.3)
+      cargo lf more f w nm since js c1 kd (Message (Position m)) z h = absurd h
+      cargo lf more f w nm since js c1 kd (Message (Written bs)) z h = absurd h
       cargo lf more f w nm since js c1 kd (Takes a) z h = (h.0, h.3)
 
-      by : (x : sys.Condition Plain) → Does_all G lv zn c s (u.births.opens k) x → (j : ℕ) × Named G ch j
+      by : (x : sys.Condition Plain) → Performs_all G lv zn c s (u.births.opens k) x → (j : ℕ) × Named G ch j
       by sys.Absent h = absurd h
-      by (sys.Runs a) h = absurd (idle (s.condition zn) h.0 waits h.1)
+      by (sys.Working a) h = absurd (idle (s.condition zn) h.0 waits h.1)
       by (sys.Waits z a) h =
           let on : (h.0).channel ≡ ch = subst (λ b. WaitsOn ch b) h.1 waits in
           let y = cargo (lv zn) (λ a b. lv ((a, b) ∷ zn)) (h.2).fresh (h.0).next.who (h.2).named (c.since zn) (h.2).js (h.0).channel (h.0).kind (h.0).cargo z h.3 in
@@ -96,7 +96,7 @@ module _ (G : Ground) (lv : Lives G) (c : Course) (s : StateOf G.g) (u : System 
       by sys.Gone h = absurd (subst (λ b. WaitsOn ch b) h.0 waits)
       by (sys.Over a) h = absurd (subst (λ b. WaitsOn ch b) h.0 waits)
 
-module _ (G : Ground) (lv : Lives G) (c : Course) (s : StateOf G.g) (u : System Plain) (l : Linked G lv c s u) (i : ℕ) (d : Config (Memory Plain)) (at_i : u.condition i ≡ sys.Runs d)
+module _ (G : Ground) (lv : Lives G) (c : Course) (s : StateOf G.g) (u : System Plain) (l : Linked G lv c s u) (i : ℕ) (d : Config (Memory Plain)) (at_i : u.condition i ≡ sys.Working d)
     (z : Stands G (lv (q G lv c s u l i d at_i)) (kids G lv c s u l i d at_i) (q G lv c s u l i d at_i) (c.since (q G lv c s u l i d at_i)) (pr G lv c s u l i d at_i) s.store d)
     (todo : List Item) (o : Own) (m : Store) (x : Meant G lv c s u l i d at_i z (Got (source.Stops (Opened todo)) o, m)) (t : Machined G lv c s u l i d at_i z (Got (source.Stops (Opened todo)) o, m))
     (y : Kept_to G lv c s u l i d at_i z (Got (source.Stops (Opened todo)) o, m)) (quiet : u.faulted ≡ false) where
@@ -152,7 +152,7 @@ module _ (G : Ground) (lv : Lives G) (c : Course) (s : StateOf G.g) (u : System 
   -- ---- it opens
 
   module _ (room1 : nat_lt G.g.limits.entries (u.entries + 1) ≡ false) (room2 : nat_lt G.g.limits.channels (u.births.channels + 1) ≡ false) where
-    does_it : outcome {L = superpascal G.g} (most G.g) x.at v (Opens goes_on ws) ≡ Does (Becomes v (Works goes_on) ∷ Adds a_channel ∷ puts {L = superpascal G.g} ws)
+    does_it : outcome {L = superpascal G.g} (most G.g) x.at v (Opens goes_on ws) ≡ Advances (Becomes v (Works goes_on) ∷ Adds a_channel ∷ puts {L = superpascal G.g} ws)
     does_it = comes_to None (passes false false room1 room2)
 
     abbrev t1 : StateOf G.g
@@ -203,7 +203,7 @@ module _ (G : Ground) (lv : Lives G) (c : Course) (s : StateOf G.g) (u : System 
     few : (k : ℕ) → k < u.births.processes → k < G.births.processes
     few k lt = let b = l.began.processes in omega (arith, lt, b)
 
-    does_other : (k : ℕ) → k < u.births.processes → i ≢ k → Does_all (one_more G) lv (G.births.name k) c1 t1 (u.births.opens k) (u.condition k)
+    does_other : (k : ℕ) → k < u.births.processes → i ≢ k → Performs_all (one_more G) lv (G.births.name k) c1 t1 (u.births.opens k) (u.condition k)
     does_other k lt e =
         let apart : G.births.name k ≢ v = λ h. e (G.one_name i k (few i (here G lv c s u l i d at_i)) (few k lt) (sym h)) in
         does_more G (lv (G.births.name k)) (λ a b. lv ((a, b) ∷ G.births.name k)) (G.births.name k) c1 t1 (u.births.opens k) (u.condition k)
@@ -221,7 +221,7 @@ module _ (G : Ground) (lv : Lives G) (c : Course) (s : StateOf G.g) (u : System 
     b1 = after_event u.births i event.Open
 
     abbrev u1 : System Plain
-    u1 = record u { condition = at_key ◌==◌ i (sys.Runs there) u.condition; entries = u.entries + 1; births = b1 }
+    u1 = record u { condition = at_key ◌==◌ i (sys.Working there) u.condition; entries = u.entries + 1; births = b1 }
 
     after_is : after plain (run_is G) i tn u ≡ u1
     after_is = after_quiet G i tn u quiet ∙ ap (λ f. record (unless_fault plain (run_is G) f i tn u) { births = after_event u.births i (event_or f tn) }) (found false false room1 room2)
@@ -303,7 +303,7 @@ module _ (G : Ground) (lv : Lives G) (c : Course) (s : StateOf G.g) (u : System 
       opens_here : b1.opens i ≡ u.births.opens i + 1
       opens_here = ap (λ b. cond b (u.births.opens i + 1) (u.births.opens i)) (eq-eqb i i refl)
 
-      its_does : Does_all (one_more G) lv v c1 t1 (b1.opens i) (sys.Runs there)
+      its_does : Performs_all (one_more G) lv v c1 t1 (b1.opens i) (sys.Working there)
       its_does = (goes_on, ap (working_in t1.condition v) cond_v, inl stands_now, ap (λ a. a + 1) (ap (λ (a : Who). a.opens) x.who_is ∙ (its G lv c s u l i d at_i).3) ∙ sym opens_here, (its G lv c s u l i d at_i).4)
 
       linked : Linked (one_more G) lv c1 t1 u1
@@ -328,11 +328,11 @@ module _ (G : Ground) (lv : Lives G) (c : Course) (s : StateOf G.g) (u : System 
         quiet = λ e. x.elsewhere.fault ∙ l.quiet e;
         unlaid = l.unlaid;
         does = λ a lt. ⊎_elim
-            (λ (e : i ≡ a). subst (λ b. Does_all (one_more G) lv (G.births.name b) c1 t1 (b1.opens b) (u1.condition b)) e (subst (λ b. Does_all (one_more G) lv v c1 t1 (b1.opens i) b) (sym (ap (λ b. cond b (sys.Runs there) (u.condition i)) (eq-eqb i i refl))) its_does))
-            (λ (e : i ≢ a). subst (λ b. Does_all (one_more G) lv (G.births.name a) c1 t1 b (u1.condition a)) (sym (ap (λ b. cond b (u.births.opens i + 1) (u.births.opens a)) (number_is i a e)))
-            (subst (λ b. Does_all (one_more G) lv (G.births.name a) c1 t1 (u.births.opens a) b) (sym (ap (λ b. cond b (sys.Runs there) (u.condition a)) (number_is i a e))) (does_other a lt e)))
+            (λ (e : i ≡ a). subst (λ b. Performs_all (one_more G) lv (G.births.name b) c1 t1 (b1.opens b) (u1.condition b)) e (subst (λ b. Performs_all (one_more G) lv v c1 t1 (b1.opens i) b) (sym (ap (λ b. cond b (sys.Working there) (u.condition i)) (eq-eqb i i refl))) its_does))
+            (λ (e : i ≢ a). subst (λ b. Performs_all (one_more G) lv (G.births.name a) c1 t1 b (u1.condition a)) (sym (ap (λ b. cond b (u.births.opens i + 1) (u.births.opens a)) (number_is i a e)))
+            (subst (λ b. Performs_all (one_more G) lv (G.births.name a) c1 t1 (u.births.opens a) b) (sym (ap (λ b. cond b (sys.Working there) (u.condition a)) (number_is i a e))) (does_other a lt e)))
             (number_or G lv c s u l i d at_i i a);
-        unborn = λ a le. ap (λ b. cond b (sys.Runs there) (u.condition a)) (number_is i a (λ e. let b = here G lv c s u l i d at_i in omega (arith, b, le, e))) ∙ l.unborn a le;
+        unborn = λ a le. ap (λ b. cond b (sys.Working there) (u.condition a)) (number_is i a (λ e. let b = here G lv c s u l i d at_i in omega (arith, b, le, e))) ∙ l.unborn a le;
         unmade = λ a le. ((l.unmade a le).0, ap (λ b. cond b (u.births.opens i + 1) (u.births.opens a)) (number_is i a (λ e. let b = here G lv c s u l i d at_i in omega (arith, b, le, e))) ∙ (l.unmade a le).1);
         numbered = λ a h. ⊎_elim (λ (e : a ≡ v). (i, here G lv c s u l i d at_i, sym e)) (λ (e : a ≢ v). l.numbered a (λ f. h (cond_r a e ∙ f))) (same_or_not name_test a v);
       }

@@ -19,7 +19,7 @@ use Rattle.sp_code.specs.System as sys
 use Rattle.sp_codegen.specs.Joints.{Joint}
 use Rattle.sp_codegen.proofs.Joining.{Joining, stand_same, joining_same}
 use Rattle.sp_link.proofs.Stances.{Under, stance, child_writes}
-use Rattle.sp_link.proofs.Relation.{Ground, Life, Lives, W_of, R_of, Called, Named, Stands, Joined, Handed, Lives_yet, Away_yet, left_of, Told, Does_all}
+use Rattle.sp_link.proofs.Relation.{Ground, Life, Lives, W_of, R_of, Called, Named, Stands, Joined, Handed, Lives_yet, Away_yet, left_of, Told, Performs_all}
 
 -- ---- what is away may be told otherwise
 
@@ -144,9 +144,9 @@ module _ (G : Ground) (lv : Lives G) (s t : StateOf G.g) (sound : Sound s) (fair
       }
 
     -- whatever it does
-    pub does_stay : (c c1 : Course) → c1.since r ≡ c.since r → c1.laid r ≡ c.laid r → (c.faulted ≡ true → c1.faulted ≡ true) → (opens : ℕ) (x : sys.Condition Plain) → Does_all G lv r c s opens x → Does_all G lv r c1 t opens x
+    pub does_stay : (c c1 : Course) → c1.since r ≡ c.since r → c1.laid r ≡ c.laid r → (c.faulted ≡ true → c1.faulted ≡ true) → (opens : ℕ) (x : sys.Condition Plain) → Performs_all G lv r c s opens x → Performs_all G lv r c1 t opens x
     does_stay c c1 si la fa opens sys.Absent h = h
-    does_stay c c1 si la fa opens (sys.Runs d) h =
+    does_stay c c1 si la fa opens (sys.Working d) h =
         (h.0, working_same h.0 h.1, ⊎_elim (λ z. inl (subst (λ y. Stands G (lv r) kids r y h.0 t.store d) (sym si) (stands_stay (c.since r) h.0 d (inl (h.0, h.1)) z))) (λ z. inr (z.0, z.1, z.2, z.3, z.4, told_stay d (unread (inl (h.0, h.1)) Output) z.5)) h.2, h.3, la ∙ h.4)
     does_stay c c1 si la fa opens (sys.Waits y d) h =
         (h.0, same ∙ h.1, z.0, z.1, h.4, la ∙ h.5, h.6)

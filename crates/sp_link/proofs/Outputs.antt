@@ -16,7 +16,7 @@ use Rattle.sp_code.specs.Memory.{Memory}
 use Rattle.sp_code.specs.PlainStore.{plain}
 use Rattle.sp_code.specs.System.{System, OutputIs, store_in, store_of}
 use Rattle.sp_code.specs.System as sys
-use Rattle.sp_link.proofs.Relation.{Ground, Lives, R_of, Told, Does_all, Linked, run_is}
+use Rattle.sp_link.proofs.Relation.{Ground, Lives, R_of, Told, Performs_all, Linked, run_is}
 
 module _ (G : Ground) (lv : Lives G) (c : Course) (s : StateOf G.g) (u : System Plain) (l : Linked G lv c s u) where
   abbrev Found : Type 0
@@ -26,7 +26,7 @@ module _ (G : Ground) (lv : Lives G) (c : Course) (s : StateOf G.g) (u : System 
   holds_it : (i : ℕ) (x : sys.Condition Plain) (d : Config (Memory Plain)) → u.condition i ≡ x → store_in {S = Plain} x ≡ Some (store_of d) → (bs : List ℕ) → s.store Output ≡ Written bs → output_of (fin.get (store_of {S = Plain} d).map output_spot) ≡ Some bs → Found
   holds_it i x d e has bs is out = (i, store_of d, ap store_in e ∙ has, out ∙ ap (λ a. Some (bytes_in a)) (sym is))
 
-  at_config : (d : Config (Memory Plain)) → store_in {S = Plain} (sys.Runs d) ≡ Some (store_of d)
+  at_config : (d : Config (Memory Plain)) → store_in {S = Plain} (sys.Working d) ≡ Some (store_of d)
   at_config (At pc st n) = refl
 
   at_waits : (z : Rattle.sp_code.specs.Machine.Stop) (d : Config (Memory Plain)) → store_in {S = Plain} (sys.Waits z d) ≡ Some (store_of d)
@@ -80,11 +80,11 @@ module _ (G : Ground) (lv : Lives G) (c : Course) (s : StateOf G.g) (u : System 
               let same : (b.0).parent ≡ i = G.one_name (b.0).parent i (few (b.0).parent (let x = b.2 in omega (arith, x, ls))) (few i lt) parent in
               let x = b.2 in omega (arith, x, same)
 
-      by : (x : sys.Condition Plain) → u.condition i ≡ x → Does_all G lv (G.births.name i) c s (u.births.opens i) x → ((j : ℕ) → j < u.births.processes → u.births.processes ≤ j + f → All (R_of G lv) (G.births.name j) Output → (G.births.name j ≡ []) ⊎ (has_ended (s.condition (G.births.name j)) ≡ false) → Found) → Found
+      by : (x : sys.Condition Plain) → u.condition i ≡ x → Performs_all G lv (G.births.name i) c s (u.births.opens i) x → ((j : ℕ) → j < u.births.processes → u.births.processes ≤ j + f → All (R_of G lv) (G.births.name j) Output → (G.births.name j ≡ []) ⊎ (has_ended (s.condition (G.births.name j)) ≡ false) → Found) → Found
       by sys.Absent e h next = absurd h
-      by (sys.Runs d) e h next = ⊎_elim
-          (λ z. (let y = z.stand.output may in holds_it i (sys.Runs d) (At z.pc z.stack z.memory) e (ap (λ y. store_in (sys.Runs y)) z.is) y.0 y.1 (ap output_of y.2)))
-          (λ z. told_it (G.births.name i) i (sys.Runs d) d e (at_config d) z.5 may) h.2
+      by (sys.Working d) e h next = ⊎_elim
+          (λ z. (let y = z.stand.output may in holds_it i (sys.Working d) (At z.pc z.stack z.memory) e (ap (λ y. store_in (sys.Working y)) z.is) y.0 y.1 (ap output_of y.2)))
+          (λ z. told_it (G.births.name i) i (sys.Working d) d e (at_config d) z.5 may) h.2
       by (sys.Waits a d) e h next = let z = h.2 in let y = z.stand.output may in holds_it i (sys.Waits a d) (At z.pc z.stack z.memory) e (ap (λ y. store_in (sys.Waits a y)) z.is) y.0 y.1 (ap output_of y.2)
       by (sys.Joins left d) e h next = let z = h.4 in ⊎_elim
           (λ a. to_child h.0 a.0 a.1.1 (z.there a.0 a.1.0) ((z.children a.0 a.1).output may a.2) next)
@@ -103,7 +103,7 @@ module _ (G : Ground) (lv : Lives G) (c : Course) (s : StateOf G.g) (u : System 
 
   -- the first process has ended on one side where it has on the other
   pub done_there : s.condition [] ≡ Ended → (d : Config (Memory Plain)) × (u.condition 0 ≡ sys.Over d)
-  done_there e = by (u.condition 0) refl (subst (λ y. Does_all G lv y c s (u.births.opens 0) (u.condition 0)) first_name (l.does 0 l.began.root.2))
+  done_there e = by (u.condition 0) refl (subst (λ y. Performs_all G lv y c s (u.births.opens 0) (u.condition 0)) first_name (l.does 0 l.began.root.2))
     where
       none : (pr : Process) → working_in s.condition [] (s.condition []) ≡ Some pr → ⊥
       none pr h = let bad : ◌≡◌ {A = Option Process} None (Some pr) = sym (ap (working_in s.condition []) e) ∙ h in absurd (cc bad)
@@ -111,9 +111,9 @@ module _ (G : Ground) (lv : Lives G) (c : Course) (s : StateOf G.g) (u : System 
       live : (x : Condition Process Rattle.sp_meaning.specs.Own.Held Rattle.sp_meaning.specs.Own.Address) → s.condition [] ≡ x → IsLive x → ⊥
       live x h k = subst (λ y. IsLive y) (sym h ∙ e) k
 
-      by : (x : sys.Condition Plain) → u.condition 0 ≡ x → Does_all G lv [] c s (u.births.opens 0) x → (d : Config (Memory Plain)) × (u.condition 0 ≡ sys.Over d)
+      by : (x : sys.Condition Plain) → u.condition 0 ≡ x → Performs_all G lv [] c s (u.births.opens 0) x → (d : Config (Memory Plain)) × (u.condition 0 ≡ sys.Over d)
       by sys.Absent f h = absurd h
-      by (sys.Runs d) f h = absurd (none h.0 h.1)
+      by (sys.Working d) f h = absurd (none h.0 h.1)
       by (sys.Waits a d) f h = absurd (live (Waits h.0) h.1 tt)
       by (sys.Joins left d) f h = absurd (live (Joins h.0 h.1 h.2) h.3 tt)
       by (sys.Laid d) f h = absurd (none h.2.0 h.2.1)

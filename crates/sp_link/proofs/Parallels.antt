@@ -4,7 +4,8 @@ use Rattle.std.proofs.Common.{◌≡◌, ◌⊎◌, inl, inr, ⊎_elim, ℕ, zer
 use Rattle.std.specs.Prelude.{◌≢◌, nat_lt, pos, IsSome, slice_get}
 use Rattle.std.specs.FinMap as fin
 use Rattle.sp_tree.specs.Plain.{Program, Stmt, Stmts, No, And}
-use Rattle.sp_tree.specs.Uses.{Sees, Splits}
+use Rattle.sp_tree.specs.Uses.{ParallelOf}
+use Rattle.sp_tree.specs.Uses as use_of
 use Rattle.sp_cell.specs.declared.spot.Spot.{Spot}
 use Rattle.sp_cell.specs.declared.spot.Handing.{Handing}
 use Rattle.sp_cell.specs.Fork.{index_frame, moved_of, shared_of}
@@ -85,7 +86,7 @@ some_part (And st rest) h = omega arith
 lt_true : (a b : ℕ) → nat_lt a b ≡ true → a + 1 ≤ b
 lt_true a b e = Prim.grind (arith, e)
 
-module _ (G : Ground) (lv : Lives G) (c : Course) (s : StateOf G.g) (u : System Plain) (l : Linked G lv c s u) (i : ℕ) (d : Config (Memory Plain)) (at_i : u.condition i ≡ sys.Runs d)
+module _ (G : Ground) (lv : Lives G) (c : Course) (s : StateOf G.g) (u : System Plain) (l : Linked G lv c s u) (i : ℕ) (d : Config (Memory Plain)) (at_i : u.condition i ≡ sys.Working d)
     (z : Stands G (lv (q G lv c s u l i d at_i)) (kids G lv c s u l i d at_i) (q G lv c s u l i d at_i) (c.since (q G lv c s u l i d at_i)) (pr G lv c s u l i d at_i) s.store d)
     (bs : List Birth) (todo : List Item) (o : Own) (m : Store) (x : Meant G lv c s u l i d at_i z (Got (source.Stops (Forked bs todo)) o, m)) (t : Machined G lv c s u l i d at_i z (Got (source.Stops (Forked bs todo)) o, m))
     (y : Kept_to G lv c s u l i d at_i z (Got (source.Stops (Forked bs todo)) o, m)) (quiet : u.faulted ≡ false)
@@ -103,7 +104,7 @@ module _ (G : Ground) (lv : Lives G) (c : Course) (s : StateOf G.g) (u : System 
   n = length (children_tables p G.moves G.shares h.2 ss)
 
   pub some : 1 ≤ length bs
-  some = subst (λ b. 1 ≤ length b) (sym h.6) (some_part ss (h.8.formed (Splits ss) (inl refl)))
+  some = subst (λ b. 1 ≤ length b) (sym h.6) (some_part ss (h.8.formed (ParallelOf ss) (inl refl)))
 
   abbrev k : ℕ
   k = x.at.forks v
@@ -183,7 +184,7 @@ module _ (G : Ground) (lv : Lives G) (c : Course) (s : StateOf G.g) (u : System 
   born : Born p (λ a. All (W_of G lv) v a) (λ a. All (R_of G lv) v a) o.frames (list_of ss) bs
   born = subst (λ f. Born p (λ a. All (W_of G lv) v a) (λ a. All (R_of G lv) v a) f (list_of ss) bs) (sym frames_are)
       (subst (λ b. Born p (λ a. All (W_of G lv) v a) (λ a. All (R_of G lv) v a) (sources t.3) (list_of ss) b) (sym h.6)
-      (born_of ss (part (λ u a. inr (inl a)) h.8.sound) (h.8.sound.kept (Splits ss) (inl refl))))
+      (born_of ss (part (λ u a. inr (inl a)) h.8.sound) (h.8.sound.kept (ParallelOf ss) (inl refl))))
 
   -- its parent's memory
   stood : St G (lv v) (λ a b. lv ((a, b) ∷ v)) v w1 (t.2).ticks t.3 o x.at.store n1
@@ -217,13 +218,13 @@ module _ (G : Ground) (lv : Lives G) (c : Course) (s : StateOf G.g) (u : System 
       kept_of_it = subst (λ (lf : Life). Handed G (lv v) more v t.3 n1 lf ((k, j) ∷ v)) (sym life_is) (cs.handed_facts G (lv v) more v fresh stood may_fork ss h.3 h.8 h.2 j b ch ((k, j) ∷ v) (longer j) (pos 0))
 
       shares_piece : (a : Spot) → In a (handing_at ch.entry j ch.statement).shared → IsPiece (fin.get n1.store.map a)
-      shares_piece a f = shared_piece G.g G.code w1 (Named G) (Called G) Wr Rd (lv v).J (lv v).low (length (lv v).below) (lv v).born (t.2).ticks G.pause (lv v).moved G.formed G.laid G.free z.fresh.reads G.moves G.shares G.sets stood ch.statement (cs.sound G (lv v) more v fresh stood may_fork ss h.3 h.8 h.2 j b ch ((k, j) ∷ v) (longer j) (pos 0)) (cs.unread G (lv v) more v fresh stood may_fork ss h.3 h.8 h.2 j b ch ((k, j) ∷ v) (longer j) (pos 0)) ((k, j) ∷ v) (cs.new_name G (lv v) more v fresh stood may_fork ss h.3 h.8 h.2 j b ch ((k, j) ∷ v) (longer j) (pos 0)) (child_table p G.moves G.shares ch.entry None ch.statement) refl refl (pos 0) j (cs.consoles G (lv v) more v) h.3 h.8.chain (λ x1 up own1 a1. h.8.indexes x1 up (inr (inl (ch.inside (Sees x1) a1)))) (λ y1 used1 own1. in_scope y1 used1) a f
+      shares_piece a f = shared_piece G.g G.code w1 (Named G) (Called G) Wr Rd (lv v).J (lv v).low (length (lv v).below) (lv v).born (t.2).ticks G.pause (lv v).moved G.formed G.laid G.free z.fresh.reads G.moves G.shares G.sets stood ch.statement (cs.sound G (lv v) more v fresh stood may_fork ss h.3 h.8 h.2 j b ch ((k, j) ∷ v) (longer j) (pos 0)) (cs.unread G (lv v) more v fresh stood may_fork ss h.3 h.8 h.2 j b ch ((k, j) ∷ v) (longer j) (pos 0)) ((k, j) ∷ v) (cs.new_name G (lv v) more v fresh stood may_fork ss h.3 h.8 h.2 j b ch ((k, j) ∷ v) (longer j) (pos 0)) (child_table p G.moves G.shares ch.entry None ch.statement) refl refl (pos 0) j (cs.consoles G (lv v) more v) h.3 h.8.chain (λ x1 up own1 a1. h.8.indexes x1 up (inr (inl (ch.inside (use_of.Seen x1) a1)))) (λ y1 used1 own1. in_scope y1 used1) a f
 
       shares_known : (a : Spot) → In a (handing_at ch.entry j ch.statement).shared → IsSome (fin.get n1.store.map a)
       shares_known a f = piece_known (fin.get n1.store.map a) (shares_piece a f)
 
       output_stays : Rd Output → In output_spot (handing_at ch.entry j ch.statement).shared → ⊥
-      output_stays may f = output_unshared G.g G.code w1 (Named G) (Called G) Wr Rd (lv v).J (lv v).low (length (lv v).below) (lv v).born (t.2).ticks G.pause (lv v).moved G.formed G.laid G.free z.fresh.reads G.moves G.shares G.sets stood ch.statement (cs.sound G (lv v) more v fresh stood may_fork ss h.3 h.8 h.2 j b ch ((k, j) ∷ v) (longer j) (pos 0)) (cs.unread G (lv v) more v fresh stood may_fork ss h.3 h.8 h.2 j b ch ((k, j) ∷ v) (longer j) (pos 0)) ((k, j) ∷ v) (cs.new_name G (lv v) more v fresh stood may_fork ss h.3 h.8 h.2 j b ch ((k, j) ∷ v) (longer j) (pos 0)) (child_table p G.moves G.shares ch.entry None ch.statement) refl refl (pos 0) j (cs.consoles G (lv v) more v) h.3 h.8.chain (λ x1 up own1 a1. h.8.indexes x1 up (inr (inl (ch.inside (Sees x1) a1)))) (λ y1 used1 own1. in_scope y1 used1) may f
+      output_stays may f = output_unshared G.g G.code w1 (Named G) (Called G) Wr Rd (lv v).J (lv v).low (length (lv v).below) (lv v).born (t.2).ticks G.pause (lv v).moved G.formed G.laid G.free z.fresh.reads G.moves G.shares G.sets stood ch.statement (cs.sound G (lv v) more v fresh stood may_fork ss h.3 h.8 h.2 j b ch ((k, j) ∷ v) (longer j) (pos 0)) (cs.unread G (lv v) more v fresh stood may_fork ss h.3 h.8 h.2 j b ch ((k, j) ∷ v) (longer j) (pos 0)) ((k, j) ∷ v) (cs.new_name G (lv v) more v fresh stood may_fork ss h.3 h.8 h.2 j b ch ((k, j) ∷ v) (longer j) (pos 0)) (child_table p G.moves G.shares ch.entry None ch.statement) refl refl (pos 0) j (cs.consoles G (lv v) more v) h.3 h.8.chain (λ x1 up own1 a1. h.8.indexes x1 up (inr (inl (ch.inside (use_of.Seen x1) a1)))) (λ y1 used1 own1. in_scope y1 used1) may f
 
       moves_known : (a : Spot) → In a (handing_at ch.entry j ch.statement).moved → IsSome (fin.get n1.store.map a)
       moves_known a f = cs.all_moved_known G (lv v) more v fresh stood may_fork ss h.3 h.8 h.2 j b ch ((k, j) ∷ v) (longer j) (pos 0) a f

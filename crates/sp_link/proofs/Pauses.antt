@@ -23,7 +23,7 @@ use Rattle.sp_code.specs.Turns as Turns
 use Rattle.sp_code.specs.Turns.{Turn, Stopped, Faulted, IsTurn}
 use Rattle.sp_code.specs.Memory.{Memory}
 use Rattle.sp_code.specs.PlainStore.{plain}
-use Rattle.sp_code.specs.System.{System, Runs, after, unless_fault, fault_of, event_or, event_of, lays, config_of}
+use Rattle.sp_code.specs.System.{System, Working, after, unless_fault, fault_of, event_or, event_of, lays, config_of}
 use Rattle.sp_link.proofs.AfterEntry.{stand_again, follows_again}
 use Rattle.sp_link.proofs.TurnsMeet.{Outcome_of, Kept_of, Turned_as, is_turn, turn_known}
 use Rattle.sp_link.proofs.Journal.{Way_on, IsOpen, Now, now_by}
@@ -48,7 +48,7 @@ pub record Entry_of (G : Ground) (c : Course) (s : StateOf G.g) (u : System Plai
   pub lives : Lives G
   pub linked : Began G (after plain (run_is G) i turn u).births → Now G lives way.course way.state (after plain (run_is G) i turn u)
 
-module _ (G : Ground) (lv : Lives G) (c : Course) (s : StateOf G.g) (u : System Plain) (l : Linked G lv c s u) (i : ℕ) (d : Config (Memory Plain)) (at_i : u.condition i ≡ Runs d) where
+module _ (G : Ground) (lv : Lives G) (c : Course) (s : StateOf G.g) (u : System Plain) (l : Linked G lv c s u) (i : ℕ) (d : Config (Memory Plain)) (at_i : u.condition i ≡ Working d) where
   abbrev pub w : Name
   w = q G lv c s u l i d at_i
 
@@ -116,8 +116,8 @@ module _ (G : Ground) (lv : Lives G) (c : Course) (s : StateOf G.g) (u : System 
           follows = follows_again G (lv w) kids w z.fresh z.fresh p1.who p1.who z.named z.named (c.since w) (c1.since w) t.0 t.1 t.3 todo t.8;
         })
 
-        linked : Linked G lv c1 x.at (record u { condition = at_key ◌==◌ i (Runs (At t.0 t.1 n1)) u.condition })
-        linked = linked_local G lv c s u l i d at_i x.at c1 (Runs (At t.0 t.1 n1)) u.faulted
+        linked : Linked G lv c1 x.at (record u { condition = at_key ◌==◌ i (Working (At t.0 t.1 n1)) u.condition })
+        linked = linked_local G lv c s u l i d at_i x.at c1 (Working (At t.0 t.1 n1)) u.faulted
             x.elsewhere.condition x.elsewhere.forks x.elsewhere.pending x.elsewhere.totals
             (subst (λ y. (a : Loc) → (y a ≡ s.store a) ⊎ All (W_of G lv) w a) (sym x.store) x.good.stays)
             (turn_known G.g G.pause (c.since w) w x.steps s x.at true l.known x.turn) p2 x.runs

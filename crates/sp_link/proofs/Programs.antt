@@ -20,7 +20,7 @@ use Rattle.sp_code.specs.Machine.{Config}
 use Rattle.sp_code.specs.Turns.{IsSafe}
 use Rattle.sp_code.specs.Memory.{Memory, memory}
 use Rattle.sp_code.specs.PlainStore.{plain}
-use Rattle.sp_code.specs.System.{System, Runs, Over, IsSystem, OutputIs}
+use Rattle.sp_code.specs.System.{System, Working, Over, IsSystem, OutputIs}
 use Rattle.sp_code.proofs.Blocks.{blocks_stand, layout_found}
 use Rattle.sp_codegen.specs.Meets.{code_run}
 use Rattle.sp_codegen.proofs.FirstTurn.{laid_of}
@@ -74,7 +74,7 @@ module _ (g : Setting) (moves shares : Stmt → List ℕ) (pause : ℕ) (ready :
   pub program_runs : (n : ℕ) (s : StateOf g) → IsAlong g pause (occurrences_from at_start es) n s → (t : System Plain) × IsSystem plain (code_run g code pause) es t
   program_runs n s h = system_of_meaning ground ready.main ready.first es named refl n s h
 
-  pub program_safe : (t : System Plain) → IsSystem plain (code_run g code pause) es t → (i : ℕ) (d : Config (Memory Plain)) → t.condition i ≡ Runs d → IsSafe (memory plain (code_run g code pause)) code d
+  pub program_safe : (t : System Plain) → IsSystem plain (code_run g code pause) es t → (i : ℕ) (d : Config (Memory Plain)) → t.condition i ≡ Working d → IsSafe (memory plain (code_run g code pause)) code d
   program_safe t h i d at = turns_safe ground ready.main ready.first es named refl t h i d at
 
   pub program_output : (t : System Plain) → IsSystem plain (code_run g code pause) es t → (n : ℕ) (s : StateOf g) → IsAlong g pause (occurrences_from at_start es) n s → OutputIs plain (code_run g code pause) t (output_of g s)
@@ -86,5 +86,5 @@ module _ (g : Setting) (moves shares : Stmt → List ℕ) (pause : ℕ) (ready :
   pub program_over : (t : System Plain) → IsSystem plain (code_run g code pause) es t → (n : ℕ) (s : StateOf g) → IsAlong g pause (occurrences_from at_start es) n s → IsDone g s → (d : Config (Memory Plain)) × (t.condition 0 ≡ Over d)
   program_over t h n s k e = done_runs ground ready.main ready.first es named refl t h n s k e
 
-  pub program_idle : (t : System Plain) → IsSystem plain (code_run g code pause) es t → (n : ℕ) (s : StateOf g) → IsAlong g pause (occurrences_from at_start es) n s → t.faulted ≡ false → ((i : ℕ) (d : Config (Memory Plain)) → t.condition i ≡ Runs d → ⊥) → IsIdle g s
+  pub program_idle : (t : System Plain) → IsSystem plain (code_run g code pause) es t → (n : ℕ) (s : StateOf g) → IsAlong g pause (occurrences_from at_start es) n s → t.faulted ≡ false → ((i : ℕ) (d : Config (Memory Plain)) → t.condition i ≡ Working d → ⊥) → IsIdle g s
   program_idle t h n s k quiet none = idle_means ground ready.main ready.first es named refl t h n s k quiet none

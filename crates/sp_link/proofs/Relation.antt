@@ -1,5 +1,5 @@
 -- How the system of the machine stands for the state of the meaning after the same entries. `Ground` is what a run is of, `Life` what
--- its birth gives to a process for good, `Does` what one process does on both sides, condition by condition, and `Linked` the whole:
+-- its birth gives to a process for good, `Performs` what one process does on both sides, condition by condition, and `Linked` the whole:
 -- names, totals, pending offers, faults, and every process. Names and numbers are those of the whole journal, so that nothing in the
 -- relation has to grow when a process is born; of channels only those are named that are open so far.
 use Rattle.std.proofs.Common.{◌≡◌, ◌⊎◌, ℕ, zero, suc, ◌+◌, ◌<◌, ◌≤◌, ◌==◌, List, [], ◌∷◌, length, Option, Some, None, Bool, true, false, if◌then◌else◌, eqb-true, eq-eqb, sym, arith, refl, ap, ◌∙◌, inl}
@@ -146,28 +146,28 @@ module _ (G : Ground) where
     abbrev pub Writes : Loc → Type 0
     Writes l = Mine q l ⊎ lf.W l
 
-    abbrev pub Reads : Loc → Type 0
-    Reads l = Mine q l ⊎ lf.R l
+    abbrev pub IsReadable : Loc → Type 0
+    IsReadable l = Mine q l ⊎ lf.R l
 
     abbrev pub base : ℕ
     base = length lf.below
 
     abbrev pub St : Who → ℕ → List Joint → Own → Store → Memory Plain → Type 0
-    St w since js o s n = Stand G.g G.code w Named Called Writes Reads lf.J lf.low base lf.born since G.pause lf.moved js o s n
+    St w since js o s n = Stand G.g G.code w Named Called Writes IsReadable lf.J lf.low base lf.born since G.pause lf.moved js o s n
 
     abbrev pub Rel : Who → ℕ → Relation (Memory Plain)
-    Rel w since = relation G.g G.code w Named Called Writes Reads lf.J lf.low base lf.born since G.pause lf.moved
+    Rel w since = relation G.g G.code w Named Called Writes IsReadable lf.J lf.low base lf.born since G.pause lf.moved
 
     -- of a birth
     pub record Fresh : Type 0 where
       pub based : 1 ≤ base
-      pub reads : (l : Loc) → Writes l → Reads l
+      pub reads : (l : Loc) → Writes l → IsReadable l
       pub low_small : lf.low ≤ lf.born + 1
       pub ends : slice_get G.code.instrs lf.end ≡ Some i.End
 
     module _ (f : Fresh) (w : Who) (named : w.name ≡ q) (since : ℕ) where
-      pub law : Keeps G.g w (due_after since G.pause) Writes Reads lf.J ops (Rel w since)
-      law = instance G.g G.code w Named Called Writes Reads lf.J lf.low base lf.born since G.pause lf.moved G.formed G.laid f.based (λ n x. inl named) (let a = f.low_small in let b = G.limits.depth in omega (arith, a, b)) told
+      pub law : Keeps G.g w (due_after since G.pause) Writes IsReadable lf.J ops (Rel w since)
+      law = instance G.g G.code w Named Called Writes IsReadable lf.J lf.low base lf.born since G.pause lf.moved G.formed G.laid f.based (λ n x. inl named) (let a = f.low_small in let b = G.limits.depth in omega (arith, a, b)) told
 
       -- all that the simulation of its turns speaks of
       abbrev pub execution : Execution (Memory Plain)
@@ -180,7 +180,7 @@ module _ (G : Ground) where
         who = w;
         due = due_after since G.pause;
         Writes = Writes;
-        Reads = Reads;
+        IsReadable = IsReadable;
         Indexes = lf.J;
         operations = ops;
         relation = Rel w since;
@@ -215,12 +215,12 @@ module _ (G : Ground) where
     -- a child of which the process that forked it at js with the memory n keeps these facts, as long as it lives
     pub record Handed (js : List Joint) (n : Memory Plain) (v : Life) (z : Name) : Type 0 where
       -- what moved to it is what it may read there, in frames that it knows; and what it may write there moved to it
-      pub live : (r : Name) (h x : ℕ) → (l : Live p js r h x) → Reads (Cell r h x) → In (spot_at l.joint.machine.number (slot p x)) v.moved
+      pub live : (r : Name) (h x : ℕ) → (l : Live p js r h x) → IsReadable (Cell r h x) → In (spot_at l.joint.machine.number (slot p x)) v.moved
           → (Mine z (Cell r h x) ⊎ v.R (Cell r h x)) × ((k : Live p v.below r h x) × (k.joint ≡ l.joint) × (k.info ≡ l.info))
       pub aims : (r : Name) (h x : ℕ) → (l : Live p js r h x) → v.W (Cell r h x) → In (spot_at l.joint.machine.number (slot p x)) v.moved
       pub no_index : (h : ℕ) → lf.J h → (j : Joint) (rest : List Joint) (x : ℕ) (i : ℤ) → from (suc h) js ≡ j ∷ rest → j.source.home ≡ OfIndex x i → NotIn (spot_at j.machine.number 0) v.moved
-      pub input : Reads Input → In position_at.spot v.moved → v.R Input
-      pub output : Reads Output → In output_spot v.moved → v.R Output
+      pub input : IsReadable Input → In position_at.spot v.moved → v.R Input
+      pub output : IsReadable Output → In output_spot v.moved → v.R Output
       pub input_aims : v.W Input → In position_at.spot v.moved
       pub output_aims : v.W Output → In output_spot v.moved
       pub old : (a : Spot) → In a v.moved → IsSome (fin.get n.store.map a)
@@ -251,7 +251,7 @@ module _ (G : Ground) where
       pub memory : Memory Plain
       pub held : Map
       pub is : c ≡ At pc stack (record memory { store = with_map memory.store held })
-      pub joining : Joining G.g G.code pr.who Named Called Writes Reads lf.J lf.low base lf.born since G.pause lf.moved (Away_yet s k n) js pr.own s.store memory held
+      pub joining : Joining G.g G.code pr.who Named Called Writes IsReadable lf.J lf.low base lf.born since G.pause lf.moved (Away_yet s k n) js pr.own s.store memory held
       pub follows : Fo fresh pr.who named since pc stack js pr.todo
       pub count : left ≡ left_of s.condition k n
       pub some : 1 ≤ left
@@ -263,21 +263,21 @@ module _ (G : Ground) where
 
     -- the output, of a process that does nothing more
     abbrev pub Told : Store → Config (Memory Plain) → Type 0
-    Told s (At pc st n) = Reads Output → (bs : List ℕ) × (s Output ≡ Written bs) × (output_of (fin.get n.store.map output_spot) ≡ Some bs)
+    Told s (At pc st n) = IsReadable Output → (bs : List ℕ) × (s Output ≡ Written bs) × (output_of (fin.get n.store.map output_spot) ≡ Some bs)
 
     -- the first process where the frame of the program is too large: F12 comes before its first instruction
     abbrev pub TooLarge : Store → Process → Config (Memory Plain) → Type 0
     TooLarge s pr c = (q ≡ []) × ((root G.g).todo ≡ Break fault.F12 ∷ []) × (pr ≡ root G.g) × (c ≡ first plain run_is) × (begins ops G.code c ≡ false) × Told s c
 
     -- condition by condition
-    abbrev pub Does : Course → StateOf G.g → ℕ → sys.Condition Plain → Type 0
-    Does c s opens sys.Absent = ⊥
-    Does c s opens (sys.Runs d) = (pr : Process) × (working_in s.condition q (s.condition q) ≡ Some pr) × (Stands (c.since q) pr s.store d ⊎ TooLarge s.store pr d) × (pr.who.opens ≡ opens) × (c.laid q ≡ false)
-    Does c s opens (sys.Waits z d) = (o : Offer Process Held Address) × (s.condition q ≡ Waits o) × (t : Stands (c.since q) o.next s.store d) × Ca t.fresh o.next.who t.named (c.since q) t.js o.channel o.kind o.cargo z × (o.next.who.opens ≡ opens) × (c.laid q ≡ false) × Ready z d
-    Does c s opens (sys.Joins left d) = (k n : ℕ) × (pr : Process) × (s.condition q ≡ Joins k n pr) × Joined (c.since q) k n left pr s d × (pr.who.opens ≡ opens) × (c.laid q ≡ false)
-    Does c s opens (sys.Laid d) = (c.laid q ≡ true) × (c.faulted ≡ true) × ((pr : Process) × (working_in s.condition q (s.condition q) ≡ Some pr)) × Told s.store d
-    Does c s opens sys.Gone = (s.condition q ≡ Ended) × (q ≢ [])
-    Does c s opens (sys.Over d) = (s.condition q ≡ Ended) × (q ≡ []) × Told s.store d
+    abbrev pub Performs : Course → StateOf G.g → ℕ → sys.Condition Plain → Type 0
+    Performs c s opens sys.Absent = ⊥
+    Performs c s opens (sys.Working d) = (pr : Process) × (working_in s.condition q (s.condition q) ≡ Some pr) × (Stands (c.since q) pr s.store d ⊎ TooLarge s.store pr d) × (pr.who.opens ≡ opens) × (c.laid q ≡ false)
+    Performs c s opens (sys.Waits z d) = (o : Offer Process Held Address) × (s.condition q ≡ Waits o) × (t : Stands (c.since q) o.next s.store d) × Ca t.fresh o.next.who t.named (c.since q) t.js o.channel o.kind o.cargo z × (o.next.who.opens ≡ opens) × (c.laid q ≡ false) × Ready z d
+    Performs c s opens (sys.Joins left d) = (k n : ℕ) × (pr : Process) × (s.condition q ≡ Joins k n pr) × Joined (c.since q) k n left pr s d × (pr.who.opens ≡ opens) × (c.laid q ≡ false)
+    Performs c s opens (sys.Laid d) = (c.laid q ≡ true) × (c.faulted ≡ true) × ((pr : Process) × (working_in s.condition q (s.condition q) ≡ Some pr)) × Told s.store d
+    Performs c s opens sys.Gone = (s.condition q ≡ Ended) × (q ≢ [])
+    Performs c s opens (sys.Over d) = (s.condition q ≡ Ended) × (q ≡ []) × Told s.store d
 
   -- the lives of all
   abbrev pub Lives : Type 1
@@ -289,8 +289,8 @@ module _ (G : Ground) where
   abbrev pub R_of : Lives → Name → Loc → Type 0
   R_of lv q l = (lv q).R l
 
-  abbrev pub Does_all : Lives → Name → Course → StateOf G.g → ℕ → sys.Condition Plain → Type 0
-  Does_all lv q c s opens x = Does (lv q) (λ k i. lv ((k, i) ∷ q)) q c s opens x
+  abbrev pub Performs_all : Lives → Name → Course → StateOf G.g → ℕ → sys.Condition Plain → Type 0
+  Performs_all lv q c s opens x = Performs (lv q) (λ k i. lv ((k, i) ∷ q)) q c s opens x
 
   -- whose offer is pending, by name and by number
   abbrev pub IsPending : Option Name → Option ℕ → Type 0
@@ -318,7 +318,7 @@ module _ (G : Ground) where
     pub faulted : c.faulted ≡ u.faulted
     pub quiet : u.faulted ≡ false → s.fault ≡ None
     pub unlaid : u.faulted ≡ false → (q : Name) → c.laid q ≡ false
-    pub does : (i : ℕ) → i < u.births.processes → Does_all lv (G.births.name i) c s (u.births.opens i) (u.condition i)
+    pub does : (i : ℕ) → i < u.births.processes → Performs_all lv (G.births.name i) c s (u.births.opens i) (u.condition i)
     pub unborn : (i : ℕ) → u.births.processes ≤ i → u.condition i ≡ sys.Absent
     -- who is not there yet has made no fork and no open
     pub unmade : (i : ℕ) → u.births.processes ≤ i → (u.births.forks i ≡ 0) × (u.births.opens i ≡ 0)

@@ -10,7 +10,8 @@ use Rattle.sp_journal.specs.Births.{Births, channel, after_event, happening, occ
 use Rattle.sp_cell.specs.Map.{Plain}
 use Rattle.sp_meaning.specs.Model.{Name, Works, Waits, Joins, Absent, Ended}
 use Rattle.sp_meaning.specs.Steps.{working_in, all_ended, has_ended}
-use Rattle.sp_meaning.specs.Entries.{Happening, Opened, Split, Offered, Finished, Failed, LaidDown, Paused}
+use Rattle.sp_meaning.specs.Entries.{Happening, Opened, Forked, Offered, Faulted, Laid, Paused}
+use Rattle.sp_journal.specs.Names as happenings
 use Rattle.sp_meaning.specs.Own.{Setting, Process}
 use Rattle.sp_meaning.specs.Runs.{StateOf, running, says}
 use Rattle.sp_meaning.specs.Along.{Turn, Course, Kernel, Entered, Along, stopped, noted, ticks_of, after_entry}
@@ -22,23 +23,23 @@ use Rattle.sp_code.specs.System as sys
 use Rattle.sp_link.proofs.Entries.{entry}
 use Rattle.sp_link.proofs.Journal.{Now, IsOpen, AllBegan}
 use Rattle.sp_link.proofs.OneState.{Same, turn_one, some_is, none_some}
-use Rattle.sp_link.proofs.Relation.{Ground, Life, Lives, Linked, Began, at_open, Does_all, run_is, left_of}
+use Rattle.sp_link.proofs.Relation.{Ground, Life, Lives, Linked, Began, at_open, Performs_all, run_is, left_of}
 
 -- ---- and so is its entry
 
 module _ (g : Setting) where
   -- an entry's three forms
   abbrev pub Forms : (Course → StateOf g → ℕ → Type 0) → Course → StateOf g → Bool → Name → Happening → ℕ → Type 0
-  Forms left c m p q what n = ((what ≡ LaidDown) × (c.faulted ≡ true) × left (stopped q c) m n) ⊎ (((what ≡ Paused) × (c.faulted ≡ false) × (p ≡ true) × left (noted q (ticks_of g m q) c) m n) ⊎ Kernel g left c m p q what n)
+  Forms left c m p q what n = ((what ≡ Laid) × (c.faulted ≡ true) × left (stopped q c) m n) ⊎ (((what ≡ Paused) × (c.faulted ≡ false) × (p ≡ true) × left (noted q (ticks_of g m q) c) m n) ⊎ Kernel g left c m p q what n)
 
   forms : (left : Course → StateOf g → ℕ → Type 0) (c : Course) (m : StateOf g) (p : Bool) (q : Name) (what : Happening) (n : ℕ) → Entered g left c m p q what n → Forms left c m p q what n
-  forms left c m p q LaidDown n h = inl (refl, h.0, h.1)
+  forms left c m p q Laid n h = inl (refl, h.0, h.1)
   forms left c m p q Paused n h = inr (inl (refl, h.0, h.1, h.2))
-  forms left c m p q (Split k) n h = inr (inr h)
+  forms left c m p q (Forked k) n h = inr (inr h)
   forms left c m p q Opened n h = inr (inr h)
   forms left c m p q (Offered w ch) n h = inr (inr h)
-  forms left c m p q Finished n h = inr (inr h)
-  forms left c m p q (Failed f) n h = inr (inr h)
+  forms left c m p q happenings.Ended n h = inr (inr h)
+  forms left c m p q (Faulted f) n h = inr (inr h)
 
   abbrev pub Here : Course → StateOf g → Course → StateOf g → ℕ → Type 0
   Here c1 s1 c2 s2 n = (c2 ≡ c1) × (s2 ≡ s1)
@@ -172,7 +173,7 @@ follows_open b p event.Pause h = tt
 
 module _ (G : Ground) where
   -- who is running in the meaning runs in the machine
-  pub runs_there : (lv : Lives G) (c : Course) (s : StateOf G.g) (u : System Plain) → Linked G lv c s u → (i : ℕ) → i < u.births.processes → (own : Process) → running G.g s (G.births.name i) ≡ Some own → c.laid (G.births.name i) ≡ false → (d : Config (Memory Plain)) × (u.condition i ≡ sys.Runs d)
+  pub runs_there : (lv : Lives G) (c : Course) (s : StateOf G.g) (u : System Plain) → Linked G lv c s u → (i : ℕ) → i < u.births.processes → (own : Process) → running G.g s (G.births.name i) ≡ Some own → c.laid (G.births.name i) ≡ false → (d : Config (Memory Plain)) × (u.condition i ≡ sys.Working d)
   runs_there lv c s u l i lt own e la = go (u.condition i) refl (l.does i lt)
     where
       w : Name
@@ -188,9 +189,9 @@ module _ (G : Ground) where
           by true f g1 = let y = over_none G (lv (G.births.name i)) (λ a b. lv ((a, b) ∷ G.births.name i)) (G.births.name i) s.condition k n f in let a = z.count in let b = z.some in omega (arith, y, a, b)
           by false f g1 = none_some own g1
 
-      go : (x : sys.Condition Plain) → u.condition i ≡ x → Does_all G lv (G.births.name i) c s (u.births.opens i) x → (d : Config (Memory Plain)) × (u.condition i ≡ sys.Runs d)
+      go : (x : sys.Condition Plain) → u.condition i ≡ x → Performs_all G lv (G.births.name i) c s (u.births.opens i) x → (d : Config (Memory Plain)) × (u.condition i ≡ sys.Working d)
       go sys.Absent h z = absurd z
-      go (sys.Runs d) h z = (d, h)
+      go (sys.Working d) h z = (d, h)
       go (sys.Waits y d) h z = absurd (none_some own (idle (Waits z.0) z.1))
       go (sys.Joins left d) h z = absurd (joined left z.0 z.1 z.2 d z.3 z.4)
       go (sys.Laid d) h z = absurd (let a : true ≡ false = sym z.0 ∙ la in cc a)
@@ -230,7 +231,7 @@ module _ (G : Ground) where
       own : (a : Process) × (running G.g s (G.births.name e.process) ≡ Some a)
       own = turn_runs s h.3 (G.births.name e.process) (c.since (G.births.name e.process)) h.1 h.4 way
 
-      at : (d : Config (Memory Plain)) × (u.condition e.process ≡ sys.Runs d)
+      at : (d : Config (Memory Plain)) × (u.condition e.process ≡ sys.Working d)
       at = runs_there (at_open G u.births.channels) lv c s u l e.process lt own.0 own.1 unlaid
 
       en : Rattle.sp_link.proofs.Pauses.Entry_of (at_open G u.births.channels) c s u e.process at.0

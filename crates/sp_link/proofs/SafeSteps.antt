@@ -12,11 +12,11 @@ use Rattle.sp_cell.specs.declared.spot.Spot.{Spot}
 use Rattle.sp_cell.specs.declared.spot.Address.{Address as Ptr}
 use Rattle.sp_cell.specs.Map.{Plain, IsHeld, IsOwn, HasCells}
 use Rattle.sp_cell.specs.Spots.{In}
-use Rattle.sp_meaning.specs.Model.{Name, Channel, Cargo, Gives, Takes, Joins}
+use Rattle.sp_meaning.specs.Model.{Name, Channel, Cargo, Message, Takes, Joins}
 use Rattle.sp_meaning.specs.Steps.{has_ended, JoinsAt, Lives as IsLive}
 use Rattle.sp_meaning.specs.Values.{Value}
 use Rattle.sp_meaning.specs.Own.{Held, Tree, Position, Written, Address, Own, Who, Process, Came, Got, Bad, Lost, Long}
-use Rattle.sp_meaning.specs.Deeds.{Went, Beat, Opened, Forked, Offered, Over}
+use Rattle.sp_meaning.specs.Deeds.{Stepped, Ticked, Opened, Forked, Offered, Ended}
 use Rattle.sp_meaning.specs.Run.{Store}
 use Rattle.sp_meaning.specs.Runs.{StateOf}
 use Rattle.sp_meaning.specs.Along.{Course}
@@ -47,7 +47,7 @@ use Rattle.sp_link.proofs.OneChanges.{q, pr, its, here, runs, light, keeps_to}
 use Rattle.sp_link.proofs.Parallels as parallel
 use Rattle.sp_link.proofs.Pauses.{Meant, Machined, Kept_to, kids, turn_is}
 use Rattle.sp_link.proofs.Splits.{cells_held, bytes_held}
-use Rattle.sp_link.proofs.Relation.{Ground, Life, Lives, Named, St, Ca, Stands, TooLarge, Ready, Joined, Does_all, Linked, run_is, ops, execution}
+use Rattle.sp_link.proofs.Relation.{Ground, Life, Lives, Named, St, Ca, Stands, TooLarge, Ready, Joined, Performs_all, Linked, run_is, ops, execution}
 
 -- what a process made beside its first frames
 none_made : (js : List Joint) → made (length js) js ≡ []
@@ -81,7 +81,7 @@ can_put G k a e cs t m = record { own = t.own; in_range = subst (λ y. HasCells 
 
 module _ (G : Ground) (lv : Lives G) (c : Course) (s : StateOf G.g) (u : System Plain) (l : Linked G lv c s u) (quiet : u.faulted ≡ false) where
   -- a process that runs
-  module _ (i : ℕ) (d : Config (Memory Plain)) (at : u.condition i ≡ sys.Runs d) where
+  module _ (i : ℕ) (d : Config (Memory Plain)) (at : u.condition i ≡ sys.Working d) where
     abbrev v : Name
     v = q G lv c s u l i d at
 
@@ -138,8 +138,8 @@ module _ (G : Ground) (lv : Lives G) (c : Course) (s : StateOf G.g) (u : System 
 
       by_well : (r : Came source.Stop × Store) → Of Well z r
       by_well (Got (source.Paused todo) o, m) e x t y = (Stopped machine.Pauses (At t.0 t.1 t.2), turn_is G lv c s u l i d at z (Stopped machine.Pauses (At t.0 t.1 t.2)) (t.4, t.5, t.6), tt)
-      by_well (Got (source.Stops (Went todo)) o, m) e x t y = absurd e
-      by_well (Got (source.Stops (Beat todo)) o, m) e x t y = absurd e
+      by_well (Got (source.Stops (Stepped todo)) o, m) e x t y = absurd e
+      by_well (Got (source.Stops (Ticked todo)) o, m) e x t y = absurd e
       by_well (Got (source.Stops (Opened todo)) o, m) e x t y = (Stopped (machine.Opens t.6) (At t.0 t.1 t.2), turn_is G lv c s u l i d at z (Stopped (machine.Opens t.6) (At t.0 t.1 t.2)) (t.4, t.8, t.9), tt)
       by_well (Got (source.Stops (Forked bs todo)) o, m) e x t y = (
         Stopped t.5 (At t.0 t.1 t.2),
@@ -153,12 +153,12 @@ module _ (G : Ground) (lv : Lives G) (c : Course) (s : StateOf G.g) (u : System 
       by_well (Got (source.Stops (Offered ch k a todo)) o, m) e x t y = (Stopped t.5 (At t.0 t.1 t.2), turn_is G lv c s u l i d at z (Stopped t.5 (At t.0 t.1 t.2)) (t.4, t.6, t.7), by_cargo a t.9)
         where
           by_cargo : (g : Cargo Held Address) → Cargo_is t.3 ch k g t.5 → Well (Stopped t.5 (At t.0 t.1 t.2))
-          by_cargo (Gives (Tree w)) h = subst (λ b. Well (Stopped b (At t.0 t.1 t.2))) (sym h.2) (w, sent_flat G (lv v) (kids G lv c s u l i d at) v (pr G lv c s u l i d at).who (c.since v) k (sort G.g.program k) refl w h.1 h.4)
-          by_cargo (Gives (Position n)) h = absurd h
-          by_cargo (Gives (Written bs)) h = absurd h
+          by_cargo (Message (Tree w)) h = subst (λ b. Well (Stopped b (At t.0 t.1 t.2))) (sym h.2) (w, sent_flat G (lv v) (kids G lv c s u l i d at) v (pr G lv c s u l i d at).who (c.since v) k (sort G.g.program k) refl w h.1 h.4)
+          by_cargo (Message (Position n)) h = absurd h
+          by_cargo (Message (Written bs)) h = absurd h
           by_cargo (Takes w) h = subst (λ b. Well (Stopped b (At t.0 t.1 t.2))) (sym h.2)
               (taken_well G (lv v) (kids G lv c s u l i d at) v k w h.1 t.0 t.1 t.2 t.8 h.4 h.5 h.6 (subst (λ b. Ready b (At t.0 t.1 (record (t.2) { since = (t.2).ticks }))) h.2 (owned_ready G t.5 t.0 t.1 t.2 t.12)))
-      by_well (Got (source.Stops Over) o, m) e x t y = (
+      by_well (Got (source.Stops Ended) o, m) e x t y = (
         Stopped machine.Ends (At t.0 t.1 t.2),
         turn_is G lv c s u l i d at z (Stopped machine.Ends (At t.0 t.1 t.2)) (At t.0 t.1 t.2, t.4, t.5),
         record { own = o; store = m; memory = t.2; is = refl; stands = subst (λ b. St G (lv v) (kids G lv c s u l i d at) v (pr G lv c s u l i d at).who (c.since v) b o m t.2) (t.7).2 t.6 },
@@ -213,8 +213,8 @@ module _ (G : Ground) (lv : Lives G) (c : Course) (s : StateOf G.g) (u : System 
       name_is : v ≡ (b.fork, b.child) ∷ parent
       name_is = sym (l.began.names i lt) ∙ of.3 ∙ ap (λ (y : Birth). (y.fork, y.child) ∷ u.births.name y.parent) of_is ∙ ap (λ (y : Name). (b.fork, b.child) ∷ y) (l.began.names b.parent (omega (arith, older, lt)))
 
-      does : Does_all G lv parent c s (u.births.opens b.parent) (sys.Joins left dd)
-      does = subst (λ y. Does_all G lv parent c s (u.births.opens b.parent) y) joins (l.does b.parent (omega (arith, older, lt)))
+      does : Performs_all G lv parent c s (u.births.opens b.parent) (sys.Joins left dd)
+      does = subst (λ y. Performs_all G lv parent c s (u.births.opens b.parent) y) joins (l.does b.parent (omega (arith, older, lt)))
 
       live : IsLive (s.condition ((b.fork, b.child) ∷ parent))
       live = subst (λ y. IsLive (s.condition y)) name_is (working_lives s.condition v (s.condition v) (pr G lv c s u l i d at) (runs G lv c s u l i d at))
@@ -267,11 +267,11 @@ module _ (G : Ground) (lv : Lives G) (c : Course) (s : StateOf G.g) (u : System 
   waits_message : (ch k : ℕ) (cs : List OneCell) (z : ℕ) (e : Config (Memory Plain)) → z < u.births.processes → u.condition z ≡ sys.Waits (machine.Sends ch k cs) e → IsMessage G k cs
   waits_message ch k cs z e lt at = by h.0.cargo h.3
     where
-      h : Does_all G lv (G.births.name z) c s (u.births.opens z) (sys.Waits (machine.Sends ch k cs) e)
-      h = subst (λ y. Does_all G lv (G.births.name z) c s (u.births.opens z) y) at (l.does z lt)
+      h : Performs_all G lv (G.births.name z) c s (u.births.opens z) (sys.Waits (machine.Sends ch k cs) e)
+      h = subst (λ y. Performs_all G lv (G.births.name z) c s (u.births.opens z) y) at (l.does z lt)
 
       by : (g : Cargo Held Address) → Ca G (lv (G.births.name z)) (λ a b. lv ((a, b) ∷ G.births.name z)) (G.births.name z) (h.2).fresh (h.0).next.who (h.2).named (c.since (G.births.name z)) (h.2).js (h.0).channel (h.0).kind g (machine.Sends ch k cs) → IsMessage G k cs
-      by (Gives (Tree w)) x =
+      by (Message (Tree w)) x =
           let e1 : (h.0).kind ≡ k = sym (kind_of x.2) in
           let e2 : cells_in x.1 ≡ cs = sym (message_of x.2) in
           subst (λ y. IsMessage G k y) e2 (subst (λ y. IsMessage G y (cells_in x.1)) e1 (w, sent_flat G (lv (G.births.name z)) (λ a b. lv ((a, b) ∷ G.births.name z)) (G.births.name z) (h.0).next.who (c.since (G.births.name z)) (h.0).kind (sort G.g.program (h.0).kind) refl w x.1 x.4))
@@ -281,8 +281,8 @@ module _ (G : Ground) (lv : Lives G) (c : Course) (s : StateOf G.g) (u : System 
 
           message_of : {a b e f : ℕ} {x y : List OneCell} → machine.Sends a b x ≡ machine.Sends e f y → x ≡ y
           message_of r = cc r
-      by (Gives (Position n)) x = absurd x
-      by (Gives (Written bs)) x = absurd x
+      by (Message (Position n)) x = absurd x
+      by (Message (Written bs)) x = absurd x
       by (Takes w) x = absurd (no x.2)
         where
           no : {a b e f : ℕ} {x : List OneCell} {y : Ptr} → machine.Sends a b x ≡ machine.Receives e f y → ⊥
@@ -291,16 +291,16 @@ module _ (G : Ground) (lv : Lives G) (c : Course) (s : StateOf G.g) (u : System 
   waits_room : (ch k : ℕ) (a : Ptr) (z : ℕ) (e : Config (Memory Plain)) → z < u.births.processes → u.condition z ≡ sys.Waits (machine.Receives ch k a) e → Takes_well G k a e
   waits_room ch k a z e lt at = by h.0.cargo h.3
     where
-      h : Does_all G lv (G.births.name z) c s (u.births.opens z) (sys.Waits (machine.Receives ch k a) e)
-      h = subst (λ y. Does_all G lv (G.births.name z) c s (u.births.opens z) y) at (l.does z lt)
+      h : Performs_all G lv (G.births.name z) c s (u.births.opens z) (sys.Waits (machine.Receives ch k a) e)
+      h = subst (λ y. Performs_all G lv (G.births.name z) c s (u.births.opens z) y) at (l.does z lt)
 
       by : (g : Cargo Held Address) → Ca G (lv (G.births.name z)) (λ a b. lv ((a, b) ∷ G.births.name z)) (G.births.name z) (h.2).fresh (h.0).next.who (h.2).named (c.since (G.births.name z)) (h.2).js (h.0).channel (h.0).kind g (machine.Receives ch k a) → Takes_well G k a e
-      by (Gives (Tree w)) x = absurd (no x.2)
+      by (Message (Tree w)) x = absurd (no x.2)
         where
           no : {a b e f : ℕ} {x : Ptr} {y : List OneCell} → machine.Receives a b x ≡ machine.Sends e f y → ⊥
           no r = cc r
-      by (Gives (Position n)) x = absurd x
-      by (Gives (Written bs)) x = absurd x
+      by (Message (Position n)) x = absurd x
+      by (Message (Written bs)) x = absurd x
       by (Takes w) x =
           let e1 : (h.0).kind ≡ k = sym (kind_of x.2) in
           let e2 : x.1 ≡ a = sym (target_of x.2) in

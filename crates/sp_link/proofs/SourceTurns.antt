@@ -7,7 +7,7 @@ use Rattle.sp_meaning.specs.Asking.{answer, put_by}
 use Rattle.sp_meaning.specs.Steps.{ActOf, outcome, working_in}
 use Rattle.sp_meaning.specs.Entries.{Happening}
 use Rattle.sp_meaning.specs.Own.{Setting, Own, Item, Process, Came, Got, Bad, Lost, Long, same_loc, give}
-use Rattle.sp_meaning.specs.Deeds.{Deed, Went, Beat, Opened, Forked, Offered, Over}
+use Rattle.sp_meaning.specs.Deeds.{Deed, Stepped, Ticked, Opened, Forked, Offered, Ended}
 use Rattle.sp_meaning.specs.SuperPascal.{superpascal, asks, deed_of, act_of, with_todo, is_beat}
 use Rattle.sp_meaning.specs.Run.{Store, run}
 use Rattle.sp_meaning.specs.Runs.{StateOf, most, running, next, says, said_of}
@@ -22,7 +22,7 @@ use Rattle.sp_codegen.specs.Meets.{due_after}
 
 -- P: what local steps keep
 module _ (g : Setting) (q : Name) (pause since : ℕ) (P : Process → Store → Type 0)
-    (keeps : (pr : Process) (s : Store) → P pr s → (todo : List Item) (o : Own) (m : Store) (d : Deed) → ◌≡◌ {A = Came Deed × Store} (answer same_loc (deed_of g pr) s) (Got d o, m) → (d ≡ Went todo) ⊎ (d ≡ Beat todo) → P (with_todo todo pr.who o) m) where
+    (keeps : (pr : Process) (s : Store) → P pr s → (todo : List Item) (o : Own) (m : Store) (d : Deed) → ◌≡◌ {A = Came Deed × Store} (answer same_loc (deed_of g pr) s) (Got d o, m) → (d ≡ Stepped todo) ⊎ (d ≡ Ticked todo) → P (with_todo todo pr.who o) m) where
   abbrev is_due : Own → Bool
   is_due o = due_after since pause o
 
@@ -80,19 +80,19 @@ module _ (g : Setting) (q : Name) (pause since : ℕ) (P : Process → Store →
   Outcome s pr (Long, m) = Unit {0}
 
   -- a local step says nothing
-  says_none : (s : StateOf g) (pr : Process) (todo : List Item) (o : Own) (m : Store) (d : Deed) → ◌≡◌ {A = Came Deed × Store} (answer same_loc (deed_of g pr) s.store) (Got d o, m) → (d ≡ Went todo) ⊎ (d ≡ Beat todo) → says g s q pr ≡ None
+  says_none : (s : StateOf g) (pr : Process) (todo : List Item) (o : Own) (m : Store) (d : Deed) → ◌≡◌ {A = Came Deed × Store} (answer same_loc (deed_of g pr) s.store) (Got d o, m) → (d ≡ Stepped todo) ⊎ (d ≡ Ticked todo) → says g s q pr ≡ None
   says_none s pr todo o m d e k =
       ap (λ (a : ActOf (superpascal g)). said_of a (outcome (most g) s q a)) (next_is g pr s.store ∙ ap (λ (x : Came Deed × Store). act_of pr.who x.0 (put_by same_loc (asks g pr) s.store)) e) ∙ by k
     where
       act : Deed → ActOf (superpascal g)
       act x = act_of pr.who (Got x o) (put_by same_loc (asks g pr) s.store)
 
-      by : (d ≡ Went todo) ⊎ (d ≡ Beat todo) → said_of (act d) (outcome (most g) s q (act d)) ≡ None
+      by : (d ≡ Stepped todo) ⊎ (d ≡ Ticked todo) → said_of (act d) (outcome (most g) s q (act d)) ≡ None
       by (inl h) = ap (λ x. said_of (act x) (outcome (most g) s q (act x))) h
       by (inr h) = ap (λ x. said_of (act x) (outcome (most g) s q (act x))) h
 
   -- one step in front
-  front : (s : StateOf g) (pr : Process) → running g s q ≡ Some pr → (todo : List Item) (o : Own) (m : Store) (d : Deed) → ◌≡◌ {A = Came Deed × Store} (answer same_loc (deed_of g pr) s.store) (Got d o, m) → (d ≡ Went todo) ⊎ (d ≡ Beat todo)
+  front : (s : StateOf g) (pr : Process) → running g s q ≡ Some pr → (todo : List Item) (o : Own) (m : Store) (d : Deed) → ◌≡◌ {A = Came Deed × Store} (answer same_loc (deed_of g pr) s.store) (Got d o, m) → (d ≡ Stepped todo) ⊎ (d ≡ Ticked todo)
       → next g s q ≡ Some (moved g s q (with_todo todo pr.who o) m) → (b : Bool) → is_beat (Got d o) && is_due o ≡ b
       → (n : ℕ) (at : StateOf g) (paused : Bool) → Either b ((n ≡ 0) × (at ≡ moved g s q (with_todo todo pr.who o) m) × (paused ≡ true)) (Turn g pause since q n (moved g s q (with_todo todo pr.who o) m) at paused)
       → Turn g pause since q (suc n) s at paused
@@ -110,7 +110,7 @@ module _ (g : Setting) (q : Name) (pause since : ℕ) (P : Process → Store →
           ∙ ap (λ z. is_beat (Got d o) && nat_le (since + pause) z) (moved_ticks s (with_todo todo pr.who o) m) ∙ eb
 
   -- a step that does not end the turn
-  after : (s : StateOf g) (pr : Process) → running g s q ≡ Some pr → (todo : List Item) (o : Own) (m : Store) (d : Deed) → ◌≡◌ {A = Came Deed × Store} (answer same_loc (deed_of g pr) s.store) (Got d o, m) → (d ≡ Went todo) ⊎ (d ≡ Beat todo)
+  after : (s : StateOf g) (pr : Process) → running g s q ≡ Some pr → (todo : List Item) (o : Own) (m : Store) (d : Deed) → ◌≡◌ {A = Came Deed × Store} (answer same_loc (deed_of g pr) s.store) (Got d o, m) → (d ≡ Stepped todo) ⊎ (d ≡ Ticked todo)
       → next g s q ≡ Some (moved g s q (with_todo todo pr.who o) m) → is_beat (Got d o) && is_due o ≡ false
       → (r : Came source.Stop × Store) → Outcome (moved g s q (with_todo todo pr.who o) m) (with_todo todo pr.who o) r → Outcome s pr r
   after s pr e todo o m d er k st eb (Got (source.Paused left) o1, m1) h =
@@ -133,10 +133,10 @@ module _ (g : Setting) (q : Name) (pause since : ℕ) (P : Process → Store →
       (go (λ s1 pr1 y h. turns k s1 pr1 y h) (run (source.one g is_due pr.todo) pr.who pr.own s.store) refl)
     where
       go : ((s1 : StateOf g) (pr1 : Process) → P pr1 s1.store → running g s1 q ≡ Some pr1 → Outcome s1 pr1 (run (source.turn g is_due k pr1.todo) pr1.who pr1.own s1.store)) → (r : Came Deed × Store) → ◌≡◌ {A = Came Deed × Store} (answer same_loc (deed_of g pr) s.store) r → Outcome s pr (then_run (source.onward g is_due (source.turn g is_due k)) pr.who r)
-      go ih (Got (Went todo) o, m) er =
+      go ih (Got (Stepped todo) o, m) er =
           let pr1 = with_todo todo pr.who o in
-          after s pr e todo o m (Went todo) er (inl refl) (local_step g s q pr todo o m e er) refl (run (source.turn g is_due k todo) pr.who o m) (ih (moved g s q pr1 m) pr1 (keeps pr s.store x todo o m (Went todo) er (inl refl)) (moved_runs s pr1 m))
-      go ih (Got (Beat todo) o, m) er = by_due (is_due o) refl
+          after s pr e todo o m (Stepped todo) er (inl refl) (local_step g s q pr todo o m e er) refl (run (source.turn g is_due k todo) pr.who o m) (ih (moved g s q pr1 m) pr1 (keeps pr s.store x todo o m (Stepped todo) er (inl refl)) (moved_runs s pr1 m))
+      go ih (Got (Ticked todo) o, m) er = by_due (is_due o) refl
         where
           pr1 : Process
           pr1 = with_todo todo pr.who o
@@ -152,14 +152,14 @@ module _ (g : Setting) (q : Name) (pause since : ℕ) (P : Process → Store →
             runs = moved_runs s pr1 m;
             condition = at_same name_test s.condition q (Works pr1);
             store = refl;
-            good = keeps pr s.store x todo o m (Beat todo) er (inr refl);
-            turn = front s pr e todo o m (Beat todo) er (inr refl) st true eb 0 (moved g s q pr1 m) true (refl, refl, refl);
+            good = keeps pr s.store x todo o m (Ticked todo) er (inr refl);
+            turn = front s pr e todo o m (Ticked todo) er (inr refl) st true eb 0 (moved g s q pr1 m) true (refl, refl, refl);
           }
-          by_due false eb = after s pr e todo o m (Beat todo) er (inr refl) st eb (run (source.turn g is_due k todo) pr.who o m) (ih (moved g s q pr1 m) pr1 (keeps pr s.store x todo o m (Beat todo) er (inr refl)) (moved_runs s pr1 m))
+          by_due false eb = after s pr e todo o m (Ticked todo) er (inr refl) st eb (run (source.turn g is_due k todo) pr.who o m) (ih (moved g s q pr1 m) pr1 (keeps pr s.store x todo o m (Ticked todo) er (inr refl)) (moved_runs s pr1 m))
       go ih (Got (Opened todo) o, m) er = comes_now s pr x e (Got (Opened todo) o, m) er
       go ih (Got (Forked bs todo) o, m) er = comes_now s pr x e (Got (Forked bs todo) o, m) er
       go ih (Got (Offered c y cargo todo) o, m) er = comes_now s pr x e (Got (Offered c y cargo todo) o, m) er
-      go ih (Got Over o, m) er = comes_now s pr x e (Got Over o, m) er
+      go ih (Got Ended o, m) er = comes_now s pr x e (Got Ended o, m) er
       go ih (Bad f, m) er = comes_now s pr x e (Bad f, m) er
       go ih (Lost, m) er = tt
       go ih (Long, m) er = tt

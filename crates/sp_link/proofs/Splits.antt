@@ -6,7 +6,7 @@ use Rattle.std.specs.FinMap as fin
 use Rattle.sp_tree.specs.Interference.{IsIndexOf, IsMember, KeepsI1}
 use Rattle.sp_tree.specs.Plain.{Program, Variable, Stmt, Stmts, No, And, Parallel}
 use Rattle.sp_tree.specs.Sets.{IsTarget, IsUsed}
-use Rattle.sp_tree.specs.Uses.{Use, Aims, Sees, Splits, In_stmt, In_stmts}
+use Rattle.sp_tree.specs.Uses.{Use, Target, Seen, ParallelOf, In_stmt, In_stmts}
 use Rattle.sp_cell.specs.declared.cell.Cell.{Cell as OneCell}
 use Rattle.sp_cell.specs.declared.spot.Spot.{Spot}
 use Rattle.sp_cell.specs.declared.spot.Handing.{Handing}
@@ -66,11 +66,11 @@ bytes_held c bs e = subst (λ x. IsHeld x) (sym e) tt
 -- ---- uses of a part
 
 pub used_in : (p : Program) {Here Above : Use → Type 0} → ((u : Use) → Here u → Above u) → (x : ℕ) → IsUsed p Here x → IsUsed p Above x
-used_in p i x (inl h) = inl (h.0, reach_part p i h.0 (Aims x) h.1)
-used_in p i x (inr h) = inr (h.0, reach_part p i h.0 (Sees x) h.1)
+used_in p i x (inl h) = inl (h.0, reach_part p i h.0 (Target x) h.1)
+used_in p i x (inr h) = inr (h.0, reach_part p i h.0 (Seen x) h.1)
 
 pub target_in : (p : Program) {Here Above : Use → Type 0} → ((u : Use) → Here u → Above u) → (x : ℕ) → IsTarget p Here x → IsTarget p Above x
-target_in p i x h = (h.0, reach_part p i h.0 (Aims x) h.1)
+target_in p i x h = (h.0, reach_part p i h.0 (Target x) h.1)
 
 pub inside : (ss : Stmts) (j : ℕ) (st : Stmt) → slice_get (list_of ss) j ≡ Some st → (u : Use) → In_stmt st u → In_stmts ss u
 inside No j st e u a = absurd (cc e)
@@ -136,13 +136,13 @@ module _ (G : Ground) (lf : Life) (kids : ℕ → ℕ → Life) (q : Name) where
 
     unread : IsUsed p (In_stmt whole) 1 → IsTarget p (In_stmt whole) 1
     unread (inl a) = a
-    unread (inr a) = absurd (reached_formed G a.0 pl.formed (Sees 1) a.1 refl)
+    unread (inr a) = absurd (reached_formed G a.0 pl.formed (Seen 1) a.1 refl)
 
     declared : (y : ℕ) → IsTarget p (In_stmt whole) y → (v : Variable) × (slice_get p.variables y ≡ Some v)
-    declared y a = let h = reached_formed G a.0 pl.formed (Aims y) a.1 in (h.0, h.1)
+    declared y a = let h = reached_formed G a.0 pl.formed (Target y) a.1 in (h.0, h.1)
 
     no_index_aimed : (y : ℕ) → IsIndexOf p y → IsTarget p (In_stmt whole) y → ⊥
-    no_index_aimed y i a = let h = reached_formed G a.0 pl.formed (Aims y) a.1 in h.2 (same_role i.0 h.0 (sym i.1 ∙ h.1) i.2)
+    no_index_aimed y i a = let h = reached_formed G a.0 pl.formed (Target y) a.1 in h.2 (same_role i.0 h.0 (sym i.1 ∙ h.1) i.2)
 
     no_own : (y : ℕ) → None ≡ Some y → ⊥
     no_own y e = cc e
@@ -215,7 +215,7 @@ module _ (G : Ground) (lf : Life) (kids : ℕ → ℕ → Life) (q : Name) where
         (c.0, c.1, y.0, G.sets.shared_only c.0 y.0 y.1, y.1, y.2)
 
     rules : KeepsI1 p ss
-    rules = pl.sound.kept (Splits ss) (inl refl)
+    rules = pl.sound.kept (ParallelOf ss) (inl refl)
 
     one_part : (j : ℕ) (a b : Stmt) → IsPart j a → IsPart j b → a ≡ b
     one_part j a b e g = let z : Some a ≡ Some b = sym e ∙ g in cc z

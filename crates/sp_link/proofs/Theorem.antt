@@ -13,7 +13,7 @@ use Rattle.sp_code.specs.Machine.{Config}
 use Rattle.sp_code.specs.Turns.{IsSafe}
 use Rattle.sp_code.specs.Memory.{Memory}
 use Rattle.sp_code.specs.PlainStore.{plain}
-use Rattle.sp_code.specs.System.{System, Runs, Over, IsSystem, OutputIs, opening}
+use Rattle.sp_code.specs.System.{System, Working, Over, IsSystem, OutputIs, opening}
 use Rattle.sp_link.proofs.FirstRelation.{lives, opening_now}
 use Rattle.sp_link.proofs.Fronts.{Grows, began, grows_from, all_began}
 use Rattle.sp_link.proofs.Entries.{system_is_meaning}
@@ -38,7 +38,7 @@ module _ (G : Ground) (b : Block) (eb : slice_get G.g.program.blocks 0 ≡ Some 
   meaning_of_system t h = let z = linked_along t h in (z.steps, z.state, z.along)
 
   -- each turn of the system after these entries is safe
-  pub turns_safe : (t : System Plain) → IsSystem plain (run_is G) es t → (i : ℕ) (d : Config (Memory Plain)) → t.condition i ≡ Runs d → IsSafe (ops G) G.code d
+  pub turns_safe : (t : System Plain) → IsSystem plain (run_is G) es t → (i : ℕ) (d : Config (Memory Plain)) → t.condition i ≡ Working d → IsSafe (ops G) G.code d
   turns_safe t h i d at = let z = linked_along t h in turn_safe (at_open G t.births.channels) z.lives z.course z.state t z.linked i d at
 
   -- and the other way round
@@ -65,5 +65,5 @@ module _ (G : Ground) (b : Block) (eb : slice_get G.g.program.blocks 0 ≡ Some 
     done_runs e = done_there (at_open G t.births.channels) at_end.lives at_end.course at_end.state t at_end.linked (subst (λ (y : StateOf G.g). y.condition [] ≡ Ended) (sym is_it) e)
 
     -- nobody runs on both sides
-    pub idle_means : t.faulted ≡ false → ((i : ℕ) (d : Config (Memory Plain)) → t.condition i ≡ Runs d → ⊥) → (q : Name) → running G.g s q ≡ None
+    pub idle_means : t.faulted ≡ false → ((i : ℕ) (d : Config (Memory Plain)) → t.condition i ≡ Working d → ⊥) → (q : Name) → running G.g s q ≡ None
     idle_means quiet none q = subst (λ y. running G.g y q ≡ None) is_it (nobody (at_open G t.births.channels) at_end.lives at_end.course at_end.state t at_end.linked quiet none q)

@@ -3,9 +3,9 @@ use Rattle.std.proofs.Common.{◌≡◌, ◌⊎◌, inl, inr, ⊎_elim, ℕ, zer
 use Rattle.sp_tree.specs.Interference.{IsFreeOfInterference}
 use Rattle.sp_meaning.specs.Maps.{at_key}
 use Rattle.sp_meaning.specs.Model.{Name}
-use Rattle.sp_meaning.specs.Asking.{Asking, Done, Reads, Puts, answer}
+use Rattle.sp_meaning.specs.Asking.{Asking, Done, Loads, Puts, answer}
 use Rattle.sp_meaning.specs.Own.{Setting, Loc, Cell, Held, Frame, Own, Who, Item, Came, Got, Bad, Lost, Long, same_loc, give}
-use Rattle.sp_meaning.specs.Deeds.{Deed, Went, Beat, Opened, Forked, Offered, Over}
+use Rattle.sp_meaning.specs.Deeds.{Deed, Stepped, Ticked, Opened, Forked, Offered, Ended}
 use Rattle.sp_meaning.specs.Owning.{Fit, Fair}
 use Rattle.sp_meaning.specs.SuperPascal.{enough}
 use Rattle.sp_meaning.specs.Run.{Store, run}
@@ -26,7 +26,7 @@ module _ (g : Setting) (free : IsFreeOfInterference g.program) (q : Name) (W R :
 
   pub stored_within : {A : Type 0} (F : A → Own → Type 0) (t : Asking Loc Held (Came A)) (m : Store) → Within W R F t → Stays m (answer same_loc t m).1
   stored_within F (Done a) m h l = inl refl
-  stored_within F (Reads k more) m h l = stored_within F (more (m k)) m (h.1 (m k)) l
+  stored_within F (Loads k more) m h l = stored_within F (more (m k)) m (h.1 (m k)) l
   stored_within F (Puts k v more) m h l = ⊎_elim (λ (e : (answer same_loc more (at_key same_loc k v m)).1 l ≡ at_key same_loc k v m l). go e (same_loc k l) refl) (λ w. inr w) (stored_within F more (at_key same_loc k v m) h.1 l)
     where
       go : (answer same_loc more (at_key same_loc k v m)).1 l ≡ at_key same_loc k v m l → (b : Bool) → same_loc k l ≡ b → ((answer same_loc more (at_key same_loc k v m)).1 l ≡ m l) ⊎ W l
@@ -61,8 +61,8 @@ module _ (g : Setting) (free : IsFreeOfInterference g.program) (q : Name) (W R :
         within = (deed_from g q W R own reads free (enough g o) z o.frames todo f).by w o n refl
 
         go : ((todo1 : List Item) (o1 : Own) (s1 : Store) → Fit g.program W R z o1.frames todo1 → Kept s1 (run (source.turn g due k todo1) w o1 s1)) → (r : Came Deed × Store) → Stays s r.1 → Result F r.0 → Kept s (then_run (source.onward g due (source.turn g due k)) w r)
-        go ih (Got (Went todo1) o1, s1) a d = let x = ih todo1 o1 s1 d in record { stays = stays_on s s1 _ a x.stays; final = x.final }
-        go ih (Got (Beat todo1) o1, s1) a d = by_due (due o1)
+        go ih (Got (Stepped todo1) o1, s1) a d = let x = ih todo1 o1 s1 d in record { stays = stays_on s s1 _ a x.stays; final = x.final }
+        go ih (Got (Ticked todo1) o1, s1) a d = by_due (due o1)
           where
             by_due : (b : Bool) → Kept s (run (if b then give (source.Paused todo1) else source.turn g due k todo1) w o1 s1)
             by_due true = record { stays = a; final = d }
@@ -70,7 +70,7 @@ module _ (g : Setting) (free : IsFreeOfInterference g.program) (q : Name) (W R :
         go ih (Got (Opened todo1) o1, s1) a d = record { stays = a; final = d }
         go ih (Got (Forked bs todo1) o1, s1) a d = record { stays = a; final = d }
         go ih (Got (Offered c x cargo todo1) o1, s1) a d = record { stays = a; final = d }
-        go ih (Got Over o1, s1) a d = record { stays = a; final = d }
+        go ih (Got Ended o1, s1) a d = record { stays = a; final = d }
         go ih (Bad x, s1) a d = record { stays = a; final = tt }
         go ih (Lost, s1) a d = record { stays = a; final = tt }
         go ih (Long, s1) a d = record { stays = a; final = tt }

@@ -5,7 +5,7 @@ use Rattle.sp_cell.specs.Map.{Plain}
 use Rattle.sp_meaning.specs.Model.{Name}
 use Rattle.sp_meaning.specs.Asking.{answer}
 use Rattle.sp_meaning.specs.Own.{Setting, Loc, Cell, Own, Item, Frame, Process, Came, Got, Bad, Lost, Long, same_loc}
-use Rattle.sp_meaning.specs.Deeds.{Deed, Went, Beat, Opened, Forked, Offered, Over}
+use Rattle.sp_meaning.specs.Deeds.{Deed, Stepped, Ticked, Opened, Forked, Offered, Ended}
 use Rattle.sp_meaning.specs.Owning.{Fit, Fair}
 use Rattle.sp_meaning.specs.SuperPascal.{deed_of, with_todo, enough, weight_of}
 use Rattle.sp_meaning.specs.Run.{Store, run}
@@ -75,7 +75,7 @@ module _ (G : Ground) (lf : Life) (kids : ℕ → ℕ → Life) (q : Name) (sinc
     abbrev pub Keeps_it : Process → Store → Type 0
     Keeps_it p1 s1 = Keeps_right s.store last p1 s1
 
-    pub keeps : (p1 : Process) (s1 : Store) → Keeps_it p1 s1 → (todo : List Item) (o : Own) (m : Store) (e : Deed) → ◌≡◌ {A = Came Deed × Store} (answer same_loc (deed_of G.g p1) s1) (Got e o, m) → (e ≡ Went todo) ⊎ (e ≡ Beat todo) → Keeps_it (with_todo todo p1.who o) m
+    pub keeps : (p1 : Process) (s1 : Store) → Keeps_it p1 s1 → (todo : List Item) (o : Own) (m : Store) (e : Deed) → ◌≡◌ {A = Came Deed × Store} (answer same_loc (deed_of G.g p1) s1) (Got e o, m) → (e ≡ Stepped todo) ⊎ (e ≡ Ticked todo) → Keeps_it (with_todo todo p1.who o) m
     keeps p1 s1 k todo o m e er w = record {
       named = k.named;
       fit = by w;
@@ -92,7 +92,7 @@ module _ (G : Ground) (lf : Life) (kids : ℕ → ℕ → Life) (q : Name) (sinc
         fair : Fair G.g.program Wr Rd last e o.frames
         fair = subst (λ (x : Came Deed × Store). Result F x.0) er (result_within Wr Rd F (λ x. x) (deed_of G.g p1) s1 within)
 
-        by : (e ≡ Went todo) ⊎ (e ≡ Beat todo) → Fit G.g.program Wr Rd last o.frames todo
+        by : (e ≡ Stepped todo) ⊎ (e ≡ Ticked todo) → Fit G.g.program Wr Rd last o.frames todo
         by (inl x) = subst (λ y. Fair G.g.program Wr Rd last y o.frames) x fair
         by (inr x) = subst (λ y. Fair G.g.program Wr Rd last y o.frames) x fair
 
@@ -129,12 +129,12 @@ module _ (G : Ground) (lf : Life) (kids : ℕ → ℕ → Life) (q : Name) (sinc
 
     at_end : (r : Came source.Stop × Store) → Over_now G.g dues r → Turned_as r → AtEnd r
     at_end (Got (source.Paused todo) o, m) e t = tt
-    at_end (Got (source.Stops (Went todo)) o, m) e t = e
-    at_end (Got (source.Stops (Beat todo)) o, m) e t = e
+    at_end (Got (source.Stops (Stepped todo)) o, m) e t = e
+    at_end (Got (source.Stops (Ticked todo)) o, m) e t = e
     at_end (Got (source.Stops (Opened todo)) o, m) e t = tt
     at_end (Got (source.Stops (Forked bs todo)) o, m) e t = tt
     at_end (Got (source.Stops (Offered c k x todo)) o, m) e t = tt
-    at_end (Got (source.Stops Over) o, m) e t = tt
+    at_end (Got (source.Stops Ended) o, m) e t = tt
     at_end (Bad f, m) e t = tt
     at_end (Lost, m) e t = absurd t
     at_end (Long, m) e t = e

@@ -8,13 +8,13 @@ use Rattle.sp_code.specs.Machine.{Config}
 use Rattle.sp_code.specs.Turns.{IsSafe}
 use Rattle.sp_code.specs.Memory.{Memory}
 use Rattle.sp_code.specs.PlainStore.{plain}
-use Rattle.sp_code.specs.System.{System, Runs, Enters}
+use Rattle.sp_code.specs.System.{System, Working, Enters}
 use Rattle.sp_link.proofs.TurnsMeet.{safe}
 use Rattle.sp_link.proofs.Entries.{entry}
 use Rattle.sp_link.proofs.OneChanges.{q, pr, its, runs, light, keeps_to}
 use Rattle.sp_link.proofs.Relation.{Ground, Lives, Linked, run_is, ops}
 
-module _ (G : Ground) (lv : Lives G) (c : Course) (s : StateOf G.g) (u : System Plain) (l : Linked G lv c s u) (i : ℕ) (d : Config (Memory Plain)) (at : u.condition i ≡ Runs d) where
+module _ (G : Ground) (lv : Lives G) (c : Course) (s : StateOf G.g) (u : System Plain) (l : Linked G lv c s u) (i : ℕ) (d : Config (Memory Plain)) (at : u.condition i ≡ Working d) where
   pub turn_safe : IsSafe (ops G) G.code d
   turn_safe = ⊎_elim
       (λ z. safe G (lv (q G lv c s u l i d at)) (λ k n. lv ((k, n) ∷ q G lv c s u l i d at)) (q G lv c s u l i d at) (c.since (q G lv c s u l i d at)) s (pr G lv c s u l i d at) d z (runs G lv c s u l i d at) (light G lv c s u l i d at) (keeps_to G lv c s u l i d at).last (keeps_to G lv c s u l i d at).fit)

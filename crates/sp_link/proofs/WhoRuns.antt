@@ -10,14 +10,14 @@ use Rattle.sp_meaning.specs.Along.{Course}
 use Rattle.sp_meaning.proofs.Status.{working_lives}
 use Rattle.sp_code.specs.Machine.{Config}
 use Rattle.sp_code.specs.Memory.{Memory}
-use Rattle.sp_code.specs.System.{System, Runs, Over}
+use Rattle.sp_code.specs.System.{System, Working, Over}
 use Rattle.sp_link.proofs.OneChanges.{runs}
-use Rattle.sp_link.proofs.Relation.{Ground, Lives, Linked, Does_all}
+use Rattle.sp_link.proofs.Relation.{Ground, Lives, Linked, Performs_all}
 use Rattle.sp_link.proofs.Replay.{runs_there}
 
 module _ (G : Ground) (lv : Lives G) (c : Course) (s : StateOf G.g) (u : System Plain) (l : Linked G lv c s u) where
   -- nobody runs in the meaning, where nobody runs in the machine and no fault stands
-  pub nobody : u.faulted ≡ false → ((i : ℕ) (d : Config (Memory Plain)) → u.condition i ≡ Runs d → ⊥) → (q : Name) → running G.g s q ≡ None
+  pub nobody : u.faulted ≡ false → ((i : ℕ) (d : Config (Memory Plain)) → u.condition i ≡ Working d → ⊥) → (q : Name) → running G.g s q ≡ None
   nobody quiet none q = by (running G.g s q) refl
     where
       by : (o : Option Process) → running G.g s q ≡ o → o ≡ None
@@ -28,10 +28,10 @@ module _ (G : Ground) (lv : Lives G) (c : Course) (s : StateOf G.g) (u : System 
           absurd (none n.0 z.0 z.1)
 
   -- and the other way round
-  pub somebody : (i : ℕ) (d : Config (Memory Plain)) → u.condition i ≡ Runs d → (own : Process) × (running G.g s (G.births.name i) ≡ Some own)
+  pub somebody : (i : ℕ) (d : Config (Memory Plain)) → u.condition i ≡ Working d → (own : Process) × (running G.g s (G.births.name i) ≡ Some own)
   somebody i d e = (_, runs G lv c s u l i d e)
 
   pub root_over : (d : Config (Memory Plain)) → u.condition 0 ≡ Over d → s.condition [] ≡ Ended
   root_over d e =
-      let x : Does_all G lv (G.births.name 0) c s (u.births.opens 0) (Over d) = subst (λ y. Does_all G lv (G.births.name 0) c s (u.births.opens 0) y) e (l.does 0 l.began.root.2) in
+      let x : Performs_all G lv (G.births.name 0) c s (u.births.opens 0) (Over d) = subst (λ y. Performs_all G lv (G.births.name 0) c s (u.births.opens 0) y) e (l.does 0 l.began.root.2) in
       subst (λ y. s.condition y ≡ Ended) x.1 x.0

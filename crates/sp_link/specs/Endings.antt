@@ -20,7 +20,7 @@ use Rattle.sp_meaning.specs.Ends.{Waiting, IsIn, IsSorted, waiter_of}
 use Rattle.sp_code.specs.Control.{Control, Doing, Unborn, Ready, Out, Sending, Receiving, Joining, Laid, Ended, Gone, control, standing, IsDone, IsDeadlock, IsFault, entries_of}
 use Rattle.sp_code.specs.Machine.{Stop, Forks, Opens, Sends, Receives, Ends, Pauses, Config}
 use Rattle.sp_code.specs.Memory.{Memory}
-use Rattle.sp_code.specs.System.{System, Runs, Waits, Over, pending_stop}
+use Rattle.sp_code.specs.System.{System, Working, Waits, Over, pending_stop}
 
 -- among these entries process p has the fault f
 abbrev pub HasFaultEntry : List Entry → ℕ → Fault → Type 0
@@ -43,7 +43,7 @@ WaitsAs t w = (i : ℕ) × (stop : Stop) × (d : Config (Memory Plain)) × (t.co
 -- nobody runs, the first process has not ended and no fault stands; the list is every process that waits, in order of names
 pub record IsStuck (t : System Plain) (ws : List Waiting) : Type 0 where
   pub quiet : t.faulted ≡ false
-  pub idle : (i : ℕ) (d : Config (Memory Plain)) → t.condition i ≡ Runs d → ⊥
+  pub idle : (i : ℕ) (d : Config (Memory Plain)) → t.condition i ≡ Working d → ⊥
   pub goes_on : (d : Config (Memory Plain)) → t.condition 0 ≡ Over d → ⊥
   pub sorted : IsSorted ws
   pub only : (w : Waiting) → IsIn w ws → WaitsAs t w

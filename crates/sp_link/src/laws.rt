@@ -23,7 +23,7 @@ ghost use Rattle.sp_code.specs.Machine.{Config, Stop};
 ghost use Rattle.sp_code.specs.Memory.{Memory, memory};
 ghost use Rattle.sp_code.specs.PlainStore.{plain};
 ghost use Rattle.sp_code.specs.Sound.{IsSound};
-ghost use Rattle.sp_code.specs.System.{System, Runs, Over, IsSystem, IsLegal, OutputIs, event_of, store_in, opening};
+ghost use Rattle.sp_code.specs.System.{System, Working, Over, IsSystem, IsLegal, OutputIs, event_of, store_in, opening};
 ghost use Rattle.sp_code.specs.Turns.{Stopped, IsSafe};
 ghost use Rattle.sp_history.specs.Agreement.{Reaches};
 ghost use Rattle.sp_link.specs.Endings.{HasFaultEntry, WaitsAs, IsStuck, StandsAt, MeetsItsWay};
@@ -43,7 +43,7 @@ pub fn code_runs_as_the_program_means()
         → (n : ℕ) (s : StateOf g) → IsAlong g pause (occurrences_from at_start es) n s
         → (t : System Plain) × IsSystem plain (run_by g moves shares pause) es t }
     ensures safe { (g : Setting) (moves shares : Stmt → List ℕ) (pause : ℕ) → IsReady g moves shares → (es : List Entry) (t : System Plain)
-        → IsSystem plain (run_by g moves shares pause) es t → (i : ℕ) (d : Config (Memory Plain)) → t.condition i ≡ Runs d
+        → IsSystem plain (run_by g moves shares pause) es t → (i : ℕ) (d : Config (Memory Plain)) → t.condition i ≡ Working d
         → IsSafe (memory plain (run_by g moves shares pause)) (program_code g.program moves shares) d }
 {}
 
@@ -63,7 +63,7 @@ pub fn code_ends_as_the_program_does()
     ensures over { (g : Setting) (moves shares : Stmt → List ℕ) (pause : ℕ) (es : List Entry) (t : System Plain) (n : ℕ) (s : StateOf g)
         → AreAlong g moves shares pause es t n s → IsDone g s → (d : Config (Memory Plain)) × (t.condition 0 ≡ Over d) }
     ensures idle { (g : Setting) (moves shares : Stmt → List ℕ) (pause : ℕ) (es : List Entry) (t : System Plain) (n : ℕ) (s : StateOf g)
-        → AreAlong g moves shares pause es t n s → t.faulted ≡ false → ((i : ℕ) (d : Config (Memory Plain)) → t.condition i ≡ Runs d → ⊥) → IsIdle g s }
+        → AreAlong g moves shares pause es t n s → t.faulted ≡ false → ((i : ℕ) (d : Config (Memory Plain)) → t.condition i ≡ Working d → ⊥) → IsIdle g s }
 {}
 
 /// Along a journal the same processes wait in both, with the same way and channel; so a deadlock of the one is a deadlock of the

@@ -7,7 +7,7 @@ use Rattle.sp_tree.specs.Plain.{Program, Variable, Stmt}
 use Rattle.sp_meaning.specs.Model.{Name, same_name}
 use Rattle.sp_meaning.specs.Own.{Loc, Cell, Input, Output, OfIndex, Frame, Item, is_block}
 use Rattle.sp_meaning.specs.Deeds.{Birth, push, with_index}
-use Rattle.sp_tree.specs.Uses.{Use, Aims, Sees, Runs, Splits, Spreads, Stops, In_stmt}
+use Rattle.sp_tree.specs.Uses.{Use, Target, Seen, CallOf, ParallelOf, ForallOf, Stop, In_stmt}
 use Rattle.sp_tree.specs.Sets.{IsUsed, Reach}
 use Rattle.sp_meaning.specs.Owning.{find, Linked, cell_of, reference_of, stands_by, stands_at, stands, Touches, Right, Sound, Fit, Aimed, Used, IsClearOf, Born}
 use Rattle.sp_meaning.proofs.Keys.{name_test, and_left, and_right}
@@ -48,14 +48,14 @@ module _ (p : Program) (W R : Loc → Type 0) where
   used_right fs s l reads so h = go h.1
     where
       go : IsUsed p (In_stmt s) h.0 → R l
-      go (inl t) = reads l (so.allowed t.0 (Aims h.0) t.1 h.0 l (refl, h.2))
-      go (inr t) = so.allowed t.0 (Sees h.0) t.1 h.0 l (refl, h.2)
+      go (inl t) = reads l (so.allowed t.0 (Target h.0) t.1 h.0 l (refl, h.2))
+      go (inr t) = so.allowed t.0 (Seen h.0) t.1 h.0 l (refl, h.2)
 
   -- the children's rights are the parent's
   born_right : (fs : List Frame) (ss : List Stmt) (bs : List Birth) → ((l : Loc) → W l → R l) → Born p W R fs ss bs → (i : ℕ) (l : Loc) → (AimedAt fs (slice_get ss i) l → W l) × (UsedAt fs (slice_get ss i) l → R l)
   born_right fs [] bs reads b i l = (λ h. absurd h, λ h. absurd h)
   born_right fs (s ∷ ss) [] reads b i l = absurd b
-  born_right fs (s ∷ ss) (c ∷ bs) reads b zero l = (λ h. b.1.allowed h.1.0 (Aims h.0) h.1.1 h.0 l (refl, h.2), λ h. used_right fs s l reads b.1 h)
+  born_right fs (s ∷ ss) (c ∷ bs) reads b zero l = (λ h. b.1.allowed h.1.0 (Target h.0) h.1.1 h.0 l (refl, h.2), λ h. used_right fs s l reads b.1 h)
   born_right fs (s ∷ ss) (c ∷ bs) reads b (suc i) l = born_right fs ss bs reads b.3 i l
 
 -- the index of a forall hides nothing
@@ -86,12 +86,12 @@ module _ (p : Program) (fs : List Frame) (q : Name) (ix : Option (ℕ × ℤ)) w
       go (Some y) = by_variable (slice_get p.variables x) y
 
   index_touches : (u : Use) (x : ℕ) (l : Loc) → Touches p (with_index q ix fs) u x l → Touches p fs u x l
-  index_touches (Aims y) x l t = (t.0, sym (index_stands x) ∙ t.1)
-  index_touches (Sees y) x l t = (t.0, sym (index_stands x) ∙ t.1)
-  index_touches (Runs f args) x l t = t
-  index_touches (Splits ss) x l t = t
-  index_touches (Spreads y s) x l t = t
-  index_touches Stops x l t = t
+  index_touches (Target y) x l t = (t.0, sym (index_stands x) ∙ t.1)
+  index_touches (Seen y) x l t = (t.0, sym (index_stands x) ∙ t.1)
+  index_touches (CallOf f args) x l t = t
+  index_touches (ParallelOf ss) x l t = t
+  index_touches (ForallOf y s) x l t = t
+  index_touches Stop x l t = t
 
   pub index_linked : Linked fs → Linked (with_index q ix fs)
   index_linked l = go ix
@@ -106,12 +106,12 @@ module _ (p : Program) (W R V T : Loc → Type 0) (fs : List Frame) (q : Name) (
   inner = with_index q ix fs
 
   may : (bs : List ℕ) (u : Use) → Reach p (In_stmt s) bs u → (x : ℕ) (l : Loc) → Touches p fs u x l → Right p V T u l
-  may bs (Aims y) r x l t = aims l (y, (bs, r), ap (stands p fs) t.0 ∙ t.1)
-  may bs (Sees y) r x l t = uses l (y, inr (bs, r), ap (stands p fs) t.0 ∙ t.1)
-  may bs (Runs f args) r x l t = tt
-  may bs (Splits ss) r x l t = tt
-  may bs (Spreads y e) r x l t = tt
-  may bs Stops r x l t = tt
+  may bs (Target y) r x l t = aims l (y, (bs, r), ap (stands p fs) t.0 ∙ t.1)
+  may bs (Seen y) r x l t = uses l (y, inr (bs, r), ap (stands p fs) t.0 ∙ t.1)
+  may bs (CallOf f args) r x l t = tt
+  may bs (ParallelOf ss) r x l t = tt
+  may bs (ForallOf y e) r x l t = tt
+  may bs Stop r x l t = tt
 
   pub child_sound : Sound p V T inner (In_stmt s)
   child_sound = record {

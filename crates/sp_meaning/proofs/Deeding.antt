@@ -4,16 +4,17 @@ use Rattle.std.specs.Prelude.{◌+ℤ◌, ◌-ℤ◌, ℤ, pos, nat_abs, slice_g
 use Rattle.sp_tree.specs.Plain.{Expr, Typed, Actuals, Var, Program, Variable, Block, Stmt, Empty, Assign, Call, Sequence, If, IfElse, While, Repeat, For, Case, Parallel, Forall, Assume, ReadValue, ReadLine, WriteValue, WriteText, WriteLine, Open, Send, Receive, Stmts, No, And, On, Arms, NoArm, Or}
 use Rattle.sp_base.specs.declared.fault.Fault.{Fault}
 use Rattle.sp_base.specs.declared.fault.Fault.TheVariants as fault
-use Rattle.sp_meaning.specs.Asking.{Asking, Done, Reads, Puts}
+use Rattle.sp_meaning.specs.Asking.{Asking, Done, Loads, Puts}
 use Rattle.sp_meaning.specs.Values.{Value, Ordinal, Chan, initials}
 use Rattle.sp_meaning.specs.Own.{Setting, Cell, Input, OfBlock, seek, reach, reached, Loc, Output, Held, Tree, Written, Address, Frame, Own, Who, Item, Do, First, Again, Test, Leave, Break, Came, Got, Bad, Lost, Long, Work, bind, give, fail, lost, become, put, assign, tick, deepen, widen, is_block, bytes_in, fetch}
 use Rattle.sp_meaning.specs.Texts.{Taken, Takes as Took, Fails as Refuses_it, padded, line_length}
 use Rattle.sp_meaning.specs.Eval.{value, ordinal_of, address, Place, At, Fixed, Given, ValueOf, PlaceOf, Calls}
 use Rattle.sp_tree.specs.Cells.{variables_of}
-use Rattle.sp_meaning.specs.Deeds.{Birth, Deed, Went, Beat, Opened, Forked, Offered, Over, push, push_all, children, indexed_children, has, arm_for, is_range, goes_on, next_value, in_width, begins, lay_one, lay, copy_in, pushed_frame, enclosing, enter, without_frame, leave, write, advance, take_in, width, peek, turn_of, fork, chosen, start, act, settle, left_by, answer_of, call_by, rest_by, all, deed_by, deed, size_of_frame, references, taken_by, shown}
+use Rattle.sp_meaning.specs.Deeds.{Birth, Deed, Stepped, Ticked, Opened, Forked, Offered, push, push_all, children, indexed_children, has, arm_for, is_range, goes_on, next_value, in_width, begins, lay_one, lay, copy_in, pushed_frame, enclosing, enter, without_frame, leave, write, advance, take_in, width, peek, turn_of, fork, chosen, start, act, settle, left_by, answer_of, call_by, rest_by, all, deed_by, deed, size_of_frame, references, taken_by, shown}
+use Rattle.sp_meaning.specs.Deeds as deeds
 use Rattle.sp_tree.specs.declared.checked.Role.TheVariants as role
-use Rattle.sp_meaning.specs.Model.{Name, Gives, Takes}
-use Rattle.sp_tree.specs.Uses.{Use, Aims, Sees, Runs, Splits, Spreads, Stops, In_expr, In_target, In_call, In_width, In_stmt, In_stmts, In_arms, In_loop, IsOther}
+use Rattle.sp_meaning.specs.Model.{Name, Message, Takes}
+use Rattle.sp_tree.specs.Uses.{Use, Target, Seen, CallOf, ParallelOf, ForallOf, Stop, In_expr, In_target, In_call, In_width, In_stmt, In_stmts, In_arms, In_loop, IsOther}
 use Rattle.sp_tree.specs.Sets.{Reach, IsTarget, IsUsed}
 use Rattle.sp_tree.specs.Interference.{IsFreeOfInterference, KeepsI1, KeepsRules}
 use Rattle.sp_meaning.specs.Owning.{find, Linked, below, last_of, stands_by, stands_at, stands, cell_of, Touches, Gave, Sound, Ready, Fit, AreClear, IsClearOf, Born, Fair}
@@ -30,7 +31,7 @@ within_more W R F G (Done (Got a o)) i h = i a o h
 within_more W R F G (Done (Bad f)) i h = tt
 within_more W R F G (Done Lost) i h = tt
 within_more W R F G (Done Long) i h = tt
-within_more W R F G (Reads l more) i h = (h.0, λ v. within_more W R F G (more v) i (h.1 v))
+within_more W R F G (Loads l more) i h = (h.0, λ v. within_more W R F G (more v) i (h.1 v))
 within_more W R F G (Puts l v more) i h = (h.0, within_more W R F G more i h.1)
 
 module _ (q : Name) (W R : Loc → Type 0) where
@@ -57,18 +58,18 @@ number a b = go (a == b) refl
     go false e = inr (λ f. let x : false ≡ true = sym e ∙ eq-eqb a b f in absurd (cc x))
 
 used_part : (p : Program) {Here Above : Use → Type 0} → ((u : Use) → Here u → Above u) → (x : ℕ) → IsUsed p Here x → IsUsed p Above x
-used_part p i x (inl h) = inl (h.0, reach_part p i h.0 (Aims x) h.1)
-used_part p i x (inr h) = inr (h.0, reach_part p i h.0 (Sees x) h.1)
+used_part p i x (inl h) = inl (h.0, reach_part p i h.0 (Target x) h.1)
+used_part p i x (inr h) = inr (h.0, reach_part p i h.0 (Seen x) h.1)
 
 target_part : (p : Program) {Here Above : Use → Type 0} → ((u : Use) → Here u → Above u) → (x : ℕ) → IsTarget p Here x → IsTarget p Above x
-target_part p i x h = (h.0, reach_part p i h.0 (Aims x) h.1)
+target_part p i x h = (h.0, reach_part p i h.0 (Target x) h.1)
 
 -- two variables in use are two locations
 uses_apart : {p : Program} {W R : Loc → Type 0} {fs : List Frame} {Here : Use → Type 0} → Sound p W R fs Here → (x y : ℕ) (l : Loc) → x ≢ y → stands p fs x ≡ Some l → stands p fs y ≡ Some l → IsUsed p Here x → IsUsed p Here y → ⊥
-uses_apart s x y l n e d (inl a) (inl b) = s.apart a.0 b.0 (Aims x) (Aims y) a.1 b.1 x y l n (refl, e) (refl, d)
-uses_apart s x y l n e d (inl a) (inr b) = s.apart a.0 b.0 (Aims x) (Sees y) a.1 b.1 x y l n (refl, e) (refl, d)
-uses_apart s x y l n e d (inr a) (inl b) = s.apart a.0 b.0 (Sees x) (Aims y) a.1 b.1 x y l n (refl, e) (refl, d)
-uses_apart s x y l n e d (inr a) (inr b) = s.apart a.0 b.0 (Sees x) (Sees y) a.1 b.1 x y l n (refl, e) (refl, d)
+uses_apart s x y l n e d (inl a) (inl b) = s.apart a.0 b.0 (Target x) (Target y) a.1 b.1 x y l n (refl, e) (refl, d)
+uses_apart s x y l n e d (inl a) (inr b) = s.apart a.0 b.0 (Target x) (Seen y) a.1 b.1 x y l n (refl, e) (refl, d)
+uses_apart s x y l n e d (inr a) (inl b) = s.apart a.0 b.0 (Seen x) (Target y) a.1 b.1 x y l n (refl, e) (refl, d)
+uses_apart s x y l n e d (inr a) (inr b) = s.apart a.0 b.0 (Seen x) (Seen y) a.1 b.1 x y l n (refl, e) (refl, d)
 
 -- two statements of one whole whose variables are different use different locations
 clear : {p : Program} {W R : Loc → Type 0} {fs : List Frame} {Here : Use → Type 0} → Sound p W R fs Here → (s t : Stmt) → ((u : Use) → In_stmt s u → Here u) → ((u : Use) → In_stmt t u → Here u)
@@ -110,29 +111,29 @@ born_copies {p} {W} {R} {fs} x s so i m (suc n) = (refl, so, clear_copies p fs s
 module _ {p : Program} {W R : Loc → Type 0} {fs : List Frame} (x : ℕ) (from to : Expr) (s : Stmt) (so : Sound p W R fs (In_stmt (Forall x from to s))) where
   no_spot : (l : Loc) → stands p fs x ≡ Some l → ⊥
   no_spot l e =
-      let i = (so.kept (Spreads x s) (inl refl)).0 in
+      let i = (so.kept (ForallOf x s) (inl refl)).0 in
       let none : stands p fs x ≡ None = ap (stands_at fs x) i.1 ∙ ap (stands_by fs x i.0) i.2 in
       let h : None ≡ Some l = sym none ∙ e in absurd (cc h)
 
   other_or : (u : Use) → ((y : ℕ) (l : Loc) → Touches p fs u y l → ⊥) ⊎ IsOther x u
-  other_or (Aims y) = ⊎_elim (λ (e : x ≡ y). inl (λ z l t. no_spot l (ap (stands p fs) (e ∙ t.0) ∙ t.1))) (λ (n : x ≢ y). inr n) (number x y)
-  other_or (Sees y) = ⊎_elim (λ (e : x ≡ y). inl (λ z l t. no_spot l (ap (stands p fs) (e ∙ t.0) ∙ t.1))) (λ (n : x ≢ y). inr n) (number x y)
-  other_or (Runs f args) = inr tt
-  other_or (Splits ss) = inr tt
-  other_or (Spreads y t) = inr tt
-  other_or Stops = inr tt
+  other_or (Target y) = ⊎_elim (λ (e : x ≡ y). inl (λ z l t. no_spot l (ap (stands p fs) (e ∙ t.0) ∙ t.1))) (λ (n : x ≢ y). inr n) (number x y)
+  other_or (Seen y) = ⊎_elim (λ (e : x ≡ y). inl (λ z l t. no_spot l (ap (stands p fs) (e ∙ t.0) ∙ t.1))) (λ (n : x ≢ y). inr n) (number x y)
+  other_or (CallOf f args) = inr tt
+  other_or (ParallelOf ss) = inr tt
+  other_or (ForallOf y t) = inr tt
+  other_or Stop = inr tt
 
   lifted : (bs : List ℕ) (u : Use) → Reach p (In_stmt s) bs u → (y : ℕ) (l : Loc) → Touches p fs u y l → Reach p (In_stmt (Forall x from to s)) bs u
   lifted [] u r y l t = ⊎_elim (λ (h : (y : ℕ) (l : Loc) → Touches p fs u y l → ⊥). absurd (h y l t)) (λ (o : IsOther x u). inr (inr (inr (inl (r, o))))) (other_or u)
   lifted (b ∷ bs) u r y l t = (r.0, inr (inr (inr (inl (r.1, tt)))), r.2, r.3, r.4, r.5)
 
   rules : (u : Use) → In_stmt s u → KeepsRules p u
-  rules (Aims y) h = tt
-  rules (Sees y) h = tt
-  rules (Runs f args) h = so.kept (Runs f args) (inr (inr (inr (inl (h, tt)))))
-  rules (Splits ss) h = so.kept (Splits ss) (inr (inr (inr (inl (h, tt)))))
-  rules (Spreads y t) h = so.kept (Spreads y t) (inr (inr (inr (inl (h, tt)))))
-  rules Stops h = tt
+  rules (Target y) h = tt
+  rules (Seen y) h = tt
+  rules (CallOf f args) h = so.kept (CallOf f args) (inr (inr (inr (inl (h, tt)))))
+  rules (ParallelOf ss) h = so.kept (ParallelOf ss) (inr (inr (inr (inl (h, tt)))))
+  rules (ForallOf y t) h = so.kept (ForallOf y t) (inr (inr (inr (inl (h, tt)))))
+  rules Stop h = tt
 
   pub element_sound : Sound p W R fs (In_stmt s)
   element_sound = record {
@@ -312,8 +313,8 @@ module _ (set : Setting) (q : Name) (W R : Loc → Type 0) (low : ℕ) (own : (n
           gives q W R b (is, fresh_linked set.program q W R low own reads free fs f b args gs en.0 en.1 l is g (free.parents f b en.0 is en.2) en.3, fresh_sound set.program q W R low own reads free fs f b args gs en.0 en.1 l is g (free.parents f b en.0 is en.2) en.3 high s, fresh_of b link en, refl, refl, refl)))
 
   module _ (fs z : List Frame) (high : low ≤ length fs) where
-    abbrev Does : (Use → Type 0) → Type 0
-    Does Here = Sound set.program W R fs Here
+    abbrev IsSound : (Use → Type 0) → Type 0
+    IsSound Here = Sound set.program W R fs Here
 
     abbrev Good : List Item → Type 0
     Good todo = Fit set.program W R z fs todo
@@ -321,20 +322,20 @@ module _ (set : Setting) (q : Name) (W R : Loc → Type 0) (low : ℕ) (own : (n
     abbrev Step : Work Deed → Type 0
     Step h = From q W R fs (Fair set.program W R z) h
 
-    went : (todo : List Item) → Good todo → Step (give (Went todo))
-    went todo f = gives q W R (Went todo) f
+    went : (todo : List Item) → Good todo → Step (give (Stepped todo))
+    went todo f = gives q W R (Stepped todo) f
 
     -- after a tick
-    beat : (todo : List Item) → Good todo → Step (bind (tick set.limits) (λ u. give (Beat todo)))
-    beat todo f = after q W R (tick set.limits) _ (tick_stays fs) (λ u _. gives q W R (Beat todo) f)
+    beat : (todo : List Item) → Good todo → Step (bind (tick set.limits) (λ u. give (Ticked todo)))
+    beat todo f = after q W R (tick set.limits) _ (tick_stays fs) (λ u _. gives q W R (Ticked todo) f)
 
     add : (i : Item) (todo : List Item) → (Ready set.program W R fs todo → Ready set.program W R fs (i ∷ todo)) → last_of fs (i ∷ todo) ≡ last_of fs todo → Good todo → Good (i ∷ todo)
     add i todo r e f = record { linked = f.linked; ready = r f.ready; ends = e ∙ f.ends }
 
-    turn_from : (x : ℕ) (n limit : ℤ) (down : Bool) (s : Stmt) (todo : List Item) → Does (In_loop x s) → Good todo → Step (turn_of set x n limit down s todo)
+    turn_from : (x : ℕ) (n limit : ℤ) (down : Bool) (s : Stmt) (todo : List Item) → IsSound (In_loop x s) → Good todo → Step (turn_of set x n limit down s todo)
     turn_from x n limit down s todo so f =
         after q W R _ _ (place_of_keeps q W R fs set x) (λ y e. after q W R _ _ (address_of_keeps q W R fs set (stands set.program fs x) y e) (λ a d.
-        let w : W a.spot = so.allowed [] (Aims x) (inl refl) x a.spot (refl, d) in
+        let w : W a.spot = so.allowed [] (Target x) (inl refl) x a.spot (refl, d) in
         after q W R _ _ (assign_stays q W R fs a (Ordinal n) (reads a.spot w) w) (λ u _.
         beat (push s (Again x limit down s ∷ todo)) (push_good set.program W R z fs s (Again x limit down s ∷ todo) (part (λ u. inr) so) (add (Again x limit down s) todo (λ r. (so, r)) refl f)))))
 
@@ -346,45 +347,45 @@ module _ (set : Setting) (q : Name) (W R : Loc → Type 0) (low : ℕ) (own : (n
         go w o n e false = tt
 
     module _ (call : Calls) (ok : CallsKeep q W R fs set free reads call) where
-      expr : (e : Expr) → Does (In_expr e) → Keeps q W R fs Any (value set call e)
+      expr : (e : Expr) → IsSound (In_expr e) → Keeps q W R fs Any (value set call e)
       expr e so = value_stays q W R fs set free reads call ok e so
 
-      test : (e : Expr) → Does (In_expr e) → Keeps q W R fs Any (ordinal_of set call e)
+      test : (e : Expr) → IsSound (In_expr e) → Keeps q W R fs Any (ordinal_of set call e)
       test e so = ordinal_of_stays q W R fs set free reads call ok e so
 
-      target : (v : Var) → Does (In_target v) → Keeps q W R fs (Writable q W R fs set free reads) (address set call v)
+      target : (v : Var) → IsSound (In_target v) → Keeps q W R fs (Writable q W R fs set free reads) (address set call v)
       target v so = address_keeps q W R fs set free reads call ok v so
 
-      width_stays : (w : Option Expr) → Does (In_width w) → Keeps q W R fs Any (width set call w)
+      width_stays : (w : Option Expr) → IsSound (In_width w) → Keeps q W R fs Any (width set call w)
       width_stays None so = give_stays q W R fs None
       width_stays (Some e) so = then_stays q W R fs _ _ (test e so) (λ m. give_stays q W R fs (Some m))
 
-      printed : (bs : List ℕ) (todo : List Item) → W Output → Good todo → Step (bind (write set bs) (λ u. give (Went todo)))
+      printed : (bs : List ℕ) (todo : List Item) → W Output → Good todo → Step (bind (write set bs) (λ u. give (Stepped todo)))
       printed bs todo out f = after q W R _ _ (write_stays fs out bs) (λ u _. went todo f)
 
-      pub start_from : (s : Stmt) (todo : List Item) → Does (In_stmt s) → Good todo → Step (start set call s todo)
+      pub start_from : (s : Stmt) (todo : List Item) → IsSound (In_stmt s) → Good todo → Step (start set call s todo)
       start_from Empty todo so f = went todo f
       start_from (Assign v e) todo so f = after q W R _ _ (target v (part (λ u. inl) so)) (λ a w. after q W R _ _ (expr e (part (λ u. inr) so)) (λ x _. after q W R _ _ (assign_stays q W R fs a x (reads a.spot w) w) (λ u _. went todo f)))
       start_from (Call g args) todo so f =
           after q W R _ _ (actuals_keeps q W R fs set free reads call ok args (part (λ u. inr) so)) (λ gs gave. after_from q W R _ _ (enter_from fs high g args gs f.linked so gave) (λ b hs h.
-          gives q W R (Beat (push b.body (Leave ∷ todo))) (push_good set.program W R z hs b.body (Leave ∷ todo) h.2 (back hs b h))))
+          gives q W R (Ticked (push b.body (Leave ∷ todo))) (push_good set.program W R z hs b.body (Leave ∷ todo) h.2 (back hs b h))))
         where
           back : (hs : List Frame) (b : Block) → Enters g fs b hs → Fit set.program W R z hs (Leave ∷ todo)
           back hs b h = record { linked = h.1; ready = subst (λ y. Ready set.program W R (below y) todo) (sym h.4) f.ready; ends = subst (λ y. last_of (below y) todo ≡ z) (sym h.4) f.ends }
       start_from (Sequence ss) todo so f = went (push_all ss todo) (push_all_good set.program W R z fs ss todo so f)
       start_from (If e a) todo so f = after q W R _ _ (test e (part (λ u. inl) so)) (λ n _. go (int_le n (pos 0)))
         where
-          go : (b : Bool) → Step (give (Went (if b then todo else push a todo)))
+          go : (b : Bool) → Step (give (Stepped (if b then todo else push a todo)))
           go true = went todo f
           go false = went (push a todo) (push_good set.program W R z fs a todo (part (λ u. inr) so) f)
       start_from (IfElse e a c) todo so f = after q W R _ _ (test e (part (λ u. inl) so)) (λ n _. go (int_le n (pos 0)))
         where
-          go : (b : Bool) → Step (give (Went (if b then push c todo else push a todo)))
+          go : (b : Bool) → Step (give (Stepped (if b then push c todo else push a todo)))
           go true = went (push c todo) (push_good set.program W R z fs c todo (part (λ u i. inr (inr i)) so) f)
           go false = went (push a todo) (push_good set.program W R z fs a todo (part (λ u i. inr (inl i)) so) f)
       start_from (While e s) todo so f = after q W R _ _ (test e (part (λ u. inl) so)) (λ n _. go (int_le n (pos 0)))
         where
-          go : (b : Bool) → Step (if b then give (Went todo) else bind (tick set.limits) (λ u. give (Beat (push s (Do (While e s) ∷ todo)))))
+          go : (b : Bool) → Step (if b then give (Stepped todo) else bind (tick set.limits) (λ u. give (Ticked (push s (Do (While e s) ∷ todo)))))
           go true = went todo f
           go false = beat (push s (Do (While e s) ∷ todo)) (push_good set.program W R z fs s (Do (While e s) ∷ todo) (part (λ u. inr) so) (add_do set.program W R z fs (While e s) todo so f))
       start_from (Repeat s e) todo so f = beat (push s (Test s e ∷ todo)) (push_good set.program W R z fs s (Test s e ∷ todo) (part (λ u. inr) so) (add (Test s e) todo (λ r. (so, r)) refl f))
@@ -395,7 +396,7 @@ module _ (set : Setting) (q : Name) (W R : Loc → Type 0) (low : ℕ) (own : (n
           loop u (inl e) = inl e
           loop u (inr h) = inr (inr (inr h))
 
-          go : (m n : ℤ) → (b : Bool) → Step (give (Went (if b then First x m n down s ∷ todo else todo)))
+          go : (m n : ℤ) → (b : Bool) → Step (give (Stepped (if b then First x m n down s ∷ todo else todo)))
           go m n true = went (First x m n down s ∷ todo) (add (First x m n down s) todo (λ r. (part loop so, r)) refl f)
           go m n false = went todo f
       start_from (Case e arms) todo so f = after q W R _ _ (test e (part (λ u. inl) so)) (λ n _. go (arm_for n arms) (in_arm n arms))
@@ -403,16 +404,16 @@ module _ (set : Setting) (q : Name) (W R : Loc → Type 0) (low : ℕ) (own : (n
           go : (x : Option Stmt) → InArm arms x → Step (chosen set x todo)
           go None h = fails q W R fault.F9
           go (Some s) h = went (push s todo) (push_good set.program W R z fs s todo (part (λ u i. inr (h u i)) so) f)
-      start_from (Parallel ss) todo so f = fork_from (list_of ss) (children ss) todo (born_of ss (part (λ u h. inr (inl h)) so) (so.kept (Splits ss) (inl refl))) f
+      start_from (Parallel ss) todo so f = fork_from (list_of ss) (children ss) todo (born_of ss (part (λ u h. inr (inl h)) so) (so.kept (ParallelOf ss) (inl refl))) f
       start_from (Forall x from to s) todo so f =
           after q W R _ _ (test from (part (λ u i. inr (inl i)) so)) (λ m _. after q W R _ _ (test to (part (λ u i. inr (inr (inl i))) so)) (λ n _. go m (nat_abs ((n -ℤ m) +ℤ pos 1)) (int_lt n m)))
         where
-          go : (m : ℤ) (k : ℕ) → (b : Bool) → Step (if b then give (Went todo) else fork set (indexed_children x s m k) todo)
+          go : (m : ℤ) (k : ℕ) → (b : Bool) → Step (if b then give (Stepped todo) else fork set (indexed_children x s m k) todo)
           go m k true = went todo f
-          go m k false = fork_from (copies k s) (indexed_children x s m k) todo (born_copies x s (element_sound x from to s so) (so.kept (Spreads x s) (inl refl)).1 m k) f
+          go m k false = fork_from (copies k s) (indexed_children x s m k) todo (born_copies x s (element_sound x from to s so) (so.kept (ForallOf x s) (inl refl)).1 m k) f
       start_from (Assume e) todo so f = after q W R _ _ (test e so) (λ n _. go (int_le n (pos 0)))
         where
-          go : (b : Bool) → Step (if b then fail fault.F8 else give (Went todo))
+          go : (b : Bool) → Step (if b then fail fault.F8 else give (Stepped todo))
           go true = fails q W R fault.F8
           go false = went todo f
       start_from (ReadValue v) todo so f =
@@ -432,7 +433,7 @@ module _ (set : Setting) (q : Name) (W R : Loc → Type 0) (low : ℕ) (own : (n
           opened : (a : Address) → W a.spot → (y : Who) → Step (bind (assign a (Chan (record { owner = y.name; nth = y.opens }))) (λ u. give (Opened todo)))
           opened a w y = after q W R _ _ (assign_stays q W R fs a (Chan (record { owner = y.name; nth = y.opens })) (reads a.spot w) w) (λ u _. gives q W R (Opened todo) f)
       start_from (Send c (Typed k form)) todo so f =
-          after q W R _ _ (expr c (part (λ u. inl) so)) (λ v _. after q W R _ _ (channel_stays q W R fs v) (λ to _. after q W R _ _ (expr (Typed k form) (part (λ u h. inr (inl h)) so)) (λ x _. gives q W R (Offered to k (Gives (Tree x)) todo) (tt, f))))
+          after q W R _ _ (expr c (part (λ u. inl) so)) (λ v _. after q W R _ _ (channel_stays q W R fs v) (λ to _. after q W R _ _ (expr (Typed k form) (part (λ u h. inr (inl h)) so)) (λ x _. gives q W R (Offered to k (Message (Tree x)) todo) (tt, f))))
       start_from (Receive c x) todo so f =
           after q W R _ _ (expr c (part (λ u. inl) so)) (λ v _. after q W R _ _ (channel_stays q W R fs v) (λ to _. after q W R _ _ (target x (part (λ u h. inr (inl h)) so)) (λ a w. gives q W R (Offered to a.kind (Takes a) todo) (w, f))))
 
@@ -444,17 +445,17 @@ module _ (set : Setting) (q : Name) (W R : Loc → Type 0) (low : ℕ) (own : (n
           turn_from x (next_value down m) n down s todo f.ready.0 (record { linked = f.linked; ready = f.ready.1; ends = f.ends }))))
         where
           may : (y : Place) → Of q W R fs (stands set.program fs x) y → MayRead q W R fs set y
-          may (At a) e = reads a.spot (f.ready.0.allowed [] (Aims x) (inl refl) x a.spot (refl, e))
+          may (At a) e = reads a.spot (f.ready.0.allowed [] (Target x) (inl refl) x a.spot (refl, e))
           may (Fixed n) e = tt
       act_from (Test s e) todo f = after q W R _ _ (test e (part (λ u. inl) f.ready.0)) (λ n _. go (int_le n (pos 0)))
         where
           rest : Good todo
           rest = record { linked = f.linked; ready = f.ready.1; ends = f.ends }
 
-          go : (b : Bool) → Step (give (Went (if b then Do (Repeat s e) ∷ todo else todo)))
+          go : (b : Bool) → Step (give (Stepped (if b then Do (Repeat s e) ∷ todo else todo)))
           go true = went (Do (Repeat s e) ∷ todo) (add_do set.program W R z fs (Repeat s e) todo f.ready.0 rest)
           go false = went todo rest
-      act_from Leave todo f = after_from q W R _ _ (leave_from fs) (λ u gs e. gives q W R (Went todo) (subst (λ y. Fit set.program W R z y todo) (sym e) (record { linked = linked_below fs f.linked; ready = f.ready; ends = f.ends })))
+      act_from Leave todo f = after_from q W R _ _ (leave_from fs) (λ u gs e. gives q W R (Stepped todo) (subst (λ y. Fit set.program W R z y todo) (sym e) (record { linked = linked_below fs f.linked; ready = f.ready; ends = f.ends })))
       act_from (Break x) todo f = fails q W R x
 
   -- leaving loops
@@ -465,7 +466,7 @@ module _ (set : Setting) (q : Name) (W R : Loc → Type 0) (low : ℕ) (own : (n
   settle_from z fs (Again x n down s ∷ todo) f = after q W R _ _ peeks (λ v _. go (settle_from z fs todo (record { linked = f.linked; ready = f.ready.1; ends = f.ends })) (goes_on down n v))
     where
       looks : (a : Address) → stands set.program fs x ≡ Some a.spot → Keeps q W R fs Any (fetch a)
-      looks a e = fetch_stays q W R fs a (reads a.spot (f.ready.0.allowed [] (Aims x) (inl refl) x a.spot (refl, e)))
+      looks a e = fetch_stays q W R fs a (reads a.spot (f.ready.0.allowed [] (Target x) (inl refl) x a.spot (refl, e)))
 
       peeks : Keeps q W R fs Any (peek set x)
       peeks = then_keeps q W R fs _ _ (place_of_keeps q W R fs set x) (λ y e. then_keeps q W R fs _ _ (address_of_keeps q W R fs set (stands set.program fs x) y e) (λ a d. looks a d))
@@ -539,12 +540,12 @@ module _ (set : Setting) (q : Name) (W R : Loc → Type 0) (low : ℕ) (own : (n
   rest_by_from n ih z fs (i ∷ todo) high f = let h = high_at z fs (i ∷ todo) high f in after_from q W R _ _ (act_from fs z h (call_by set (all set n)) (call_keeps n ih fs h f.linked) i todo f) go
     where
       go : (d : Deed) (gs : List Frame) → Fair set.program W R z d gs → From q W R gs (λ (xs : List Item) hs. hs ≡ z) (bind (left_by set d) (all set n))
-      go (Went todo1) gs h = record { by = λ w o m e. (ih.by z gs todo1 high h).by w o m e }
-      go (Beat todo1) gs h = record { by = λ w o m e. (ih.by z gs todo1 high h).by w o m e }
+      go (Stepped todo1) gs h = record { by = λ w o m e. (ih.by z gs todo1 high h).by w o m e }
+      go (Ticked todo1) gs h = record { by = λ w o m e. (ih.by z gs todo1 high h).by w o m e }
       go (Opened todo1) gs h = record { by = λ w o m e. tt }
       go (Forked bs todo1) gs h = record { by = λ w o m e. tt }
       go (Offered c k g todo1) gs h = record { by = λ w o m e. tt }
-      go Over gs h = record { by = λ w o m e. tt }
+      go deeds.Ended gs h = record { by = λ w o m e. tt }
 
   pub all_keep : (n : ℕ) → AllKeep n
   all_keep zero = record { by = λ z fs todo high f. record { by = λ w o m e. tt } }
@@ -555,7 +556,7 @@ module _ (set : Setting) (q : Name) (W R : Loc → Type 0) (low : ℕ) (own : (n
   deed_above n z fs todo high f = after_from q W R _ _ (settle_from z fs todo f) go
     where
       go : (todo1 : List Item) (gs : List Frame) → Fit set.program W R z gs todo1 → From q W R gs (Fair set.program W R z) (deed_by set (all set n) todo1)
-      go [] gs g = gives q W R Over tt
+      go [] gs g = gives q W R deeds.Ended tt
       go (i ∷ rest) gs g = let h = high_at z gs (i ∷ rest) high g in act_from gs z h (call_by set (all set n)) (call_keeps n (all_keep n) gs h g.linked) i rest g
 
 -- where all that stands in the process's frames is its own to write

@@ -13,11 +13,11 @@ use Rattle.sp_tree.specs.declared.operators.StandardFn.{StandardFn}
 use Rattle.sp_tree.specs.declared.operators.StandardFn.TheVariants as standard
 use Rattle.sp_tree.specs.Plain.{Expr, Typed, ExprForm, Number, Read, Unary, Binary, Apply, Standard, AtInput, Var, Entire, Index, Field, Selectors, Whole, Select, ByValue, ByReference, Actuals, Nothing, Pass, Variable}
 use Rattle.sp_meaning.specs.Model.{Channel}
-use Rattle.sp_meaning.specs.Asking.{Asking, Done, Reads, Puts, and_then}
+use Rattle.sp_meaning.specs.Asking.{Asking, Done, Loads, Puts, and_then}
 use Rattle.sp_meaning.specs.Values.{Value, Undefined, Ordinal, Chan, Parts}
 use Rattle.sp_meaning.specs.Own.{Loc, Held, Address, Home, OfBlock, OfIndex, Frame, Setting, Own, Who, Came, Got, Bad, Lost, Long, Work, bind, go_on, give, fail, lost, mine, look, put, fetch, assign, or_lost, visible, seen, seek, reach, reached, is_block, is_index, referred}
 use Rattle.sp_meaning.specs.Eval.{Place, At, Fixed, Given, Calls, work_of, as_ordinal, ordinal, channel, channels_op, operate, standard_op, input_op, ordinal_read, channel_read, checked, element_at, field_kind, kind_at, indexed, fielded, read_at, address_of, index_in, place_by, place_of, left_of, value, form_value, place, selected, actuals, address, ordinal_of}
-use Rattle.sp_meaning.specs.Operators.{Worked, Yields, Refuses, ranged, successor, predecessor, absolute, square, is_odd, unary_op, binary_op, least, greatest}
+use Rattle.sp_meaning.specs.Operators.{Worked, Yields, Faults, ranged, successor, predecessor, absolute, square, is_odd, unary_op, binary_op, least, greatest}
 
 -- it ends, with t ticks or more, and with this fact
 abbrev pub Ends : {A : Type 0} → ℕ → (A → Own → Type 0) → Asking Loc Held (Came A) → Type 0
@@ -25,7 +25,7 @@ Ends t F (Done (Got a o)) = (t ≤ o.ticks) × F a o
 Ends t F (Done (Bad f)) = Unit {0}
 Ends t F (Done Lost) = Unit {0}
 Ends t F (Done Long) = ⊥
-Ends t F (Reads l more) = (h : Held) → Ends t F (more h)
+Ends t F (Loads l more) = (h : Held) → Ends t F (more h)
 Ends t F (Puts l h more) = Ends t F more
 
 pub ends_then : {A B : Type 0} (t : ℕ) (F : A → Own → Type 0) (G : B → Own → Type 0) (x : Asking Loc Held (Came A)) (g : A → Work B) (w : Who) → Ends t F x → ((a : A) (o : Own) → t ≤ o.ticks → F a o → Ends t G (g a w o)) → Ends t G (and_then x (λ r. go_on g w r))
@@ -33,7 +33,7 @@ ends_then t F G (Done (Got a o)) g w h k = k a o h.0 h.1
 ends_then t F G (Done (Bad f)) g w h k = tt
 ends_then t F G (Done Lost) g w h k = tt
 ends_then t F G (Done Long) g w h k = h
-ends_then t F G (Reads l more) g w h k = λ v. ends_then t F G (more v) g w (h v) k
+ends_then t F G (Loads l more) g w h k = λ v. ends_then t F G (more v) g w (h v) k
 ends_then t F G (Puts l v more) g w h k = ends_then t F G more g w h k
 
 abbrev pub Any : {A : Type 0} → A → Own → Type 0
@@ -44,7 +44,7 @@ ends_weaker u t (Done (Got a o)) le h = (omega (arith, h.0), tt)
 ends_weaker u t (Done (Bad f)) le h = tt
 ends_weaker u t (Done Lost) le h = tt
 ends_weaker u t (Done Long) le h = h
-ends_weaker u t (Reads l more) le h = λ v. ends_weaker u t (more v) le (h v)
+ends_weaker u t (Loads l more) le h = λ v. ends_weaker u t (more v) le (h v)
 ends_weaker u t (Puts l v more) le h = ends_weaker u t more le h
 
 -- begun with t ticks or more it ends so
@@ -99,7 +99,7 @@ module _ (t : ℕ) where
 
   work_steady : (x : Worked) → Steady t (work_of x)
   work_steady (Yields n) = give_steady (Ordinal n)
-  work_steady (Refuses f) = fail_steady _ f
+  work_steady (Faults f) = fail_steady _ f
 
   pub ordinal_steady : (v : Value) → Steady t (ordinal v)
   ordinal_steady Undefined = lost_steady _

@@ -6,13 +6,14 @@ use Rattle.std.proofs.lemmas.Bool.{ltb-true}
 use Rattle.sp_base.specs.declared.fault.Fault.{Fault}
 use Rattle.sp_base.specs.declared.fault.Fault.TheVariants as fault
 use Rattle.sp_tree.specs.Plain.{Expr, Typed, Variable, Block, Stmt, Empty, Assign, Call, Sequence, If, IfElse, While, Repeat, For, Case, Parallel, Forall, Assume, ReadValue, ReadLine, WriteValue, WriteText, WriteLine, Open, Send, Receive, Stmts, No, And, On, Arms, NoArm, Or}
-use Rattle.sp_meaning.specs.Asking.{Asking, Done, Reads, Puts}
+use Rattle.sp_meaning.specs.Asking.{Asking, Done, Loads, Puts}
 use Rattle.sp_meaning.specs.Values.{Value, Ordinal, Chan, initials}
 use Rattle.sp_meaning.specs.Own.{Setting, Loc, Output, Held, Written, Address, Frame, Own, Who, Item, Do, First, Again, Test, Leave, Break, Came, Got, Bad, Lost, Long, Work, bind, give, fail, mine, who, become, put, assign, or_lost, tick, deepen, widen, is_block, bytes_in}
 use Rattle.sp_meaning.specs.Texts.{Taken, Takes as Took, Fails as Stops, padded, line_length}
 use Rattle.sp_meaning.specs.Eval.{Given, ValueOf, PlaceOf, Calls}
 use Rattle.sp_tree.specs.Cells.{variables_of}
-use Rattle.sp_meaning.specs.Deeds.{Birth, Deed, Went, Beat, Opened, Forked, Offered, Over, push, push_all, has, arm_for, is_range, goes_on, next_value, in_width, begins, lay_one, lay, copy_in, pushed_frame, enclosing, enter, without_frame, leave, write, advance, take_in, width, peek, turn_of, fork, chosen, start, act, settle, left_by, answer_of, call_by, rest_by, all, deed_by, deed, children, indexed_children, size_of_frame, references, taken_by, shown}
+use Rattle.sp_meaning.specs.Deeds.{Birth, Deed, Stepped, Opened, Forked, Offered, Ended, push, push_all, has, arm_for, is_range, goes_on, next_value, in_width, begins, lay_one, lay, copy_in, pushed_frame, enclosing, enter, without_frame, leave, write, advance, take_in, width, peek, turn_of, fork, chosen, start, act, settle, left_by, answer_of, call_by, rest_by, all, deed_by, deed, children, indexed_children, size_of_frame, references, taken_by, shown}
+use Rattle.sp_meaning.specs.Deeds as deeds
 use Rattle.sp_meaning.specs.SuperPascal.{weight, weight_all, weight_arms, weight_blocks, weight_of, enough}
 use Rattle.sp_meaning.proofs.Enough.{Ends, ends_then, ends_weaker, Any, Steady, then_steady, give_steady, fail_steady, lost_steady, or_lost_steady, fetch_steady, assign_steady, reach_steady, ordinal_steady, channel_steady, kind_steady, read_steady, address_of_steady, place_of_steady, left_steady, CallsEnd, value_steady, actuals_steady, address_steady, ordinal_of_steady}
 
@@ -132,7 +133,7 @@ ends_strong u t F G (Done (Got a o)) le f h = (omega (arith, h.0), f a o h.0 h.1
 ends_strong u t F G (Done (Bad g)) le f h = tt
 ends_strong u t F G (Done Lost) le f h = tt
 ends_strong u t F G (Done Long) le f h = h
-ends_strong u t F G (Reads l more) le f h = λ v. ends_strong u t F G (more v) le f (h v)
+ends_strong u t F G (Loads l more) le f h = λ v. ends_strong u t F G (more v) le f (h v)
 ends_strong u t F G (Puts l v more) le f h = ends_strong u t F G more le f h
 
 -- begun with t ticks or more it ends so, with this fact
@@ -273,19 +274,19 @@ module _ (g : Setting) (k : ℕ) where
   Falls t w todo o = (budget o.ticks + weights todo < budget t + w) × AllFit k todo
 
   abbrev pub Deeds : ℕ → ℕ → Deed → Own → Type 0
-  Deeds t w (Went todo) o = Falls t w todo o
-  Deeds t w (Beat todo) o = Falls t w todo o
+  Deeds t w (Stepped todo) o = Falls t w todo o
+  Deeds t w (deeds.Ticked todo) o = Falls t w todo o
   Deeds t w (Opened todo) o = AllFit k todo
   Deeds t w (Forked bs todo) o = AllBorn k bs × AllFit k todo
   Deeds t w (Offered c i cargo todo) o = AllFit k todo
-  Deeds t w Over o = Unit {0}
+  Deeds t w Ended o = Unit {0}
 
-  went : (t w : ℕ) (todo : List Item) → weights todo < w → AllFit k todo → From t (Deeds t w) (give (Went todo))
+  went : (t w : ℕ) (todo : List Item) → weights todo < w → AllFit k todo → From t (Deeds t w) (give (Stepped todo))
   went t w todo h f = record { by = λ w o le. (le, (omega (arith, budget_mono t o.ticks le), f)) }
 
   -- after a tick
-  beat : (t w : ℕ) (todo : List Item) → weights todo < w + (k + 3) → AllFit k todo → From t (Deeds t w) (bind (tick g.limits) (λ u. give (Beat todo)))
-  beat t w todo h f = after_fact t (Ticked t) (Deeds t w) (tick g.limits) (λ u. give (Beat todo)) (tick_ends t) (λ w u o1 l1 i. (l1, (omega (arith, budget_tick t o1.ticks i.0 i.1), f)))
+  beat : (t w : ℕ) (todo : List Item) → weights todo < w + (k + 3) → AllFit k todo → From t (Deeds t w) (bind (tick g.limits) (λ u. give (deeds.Ticked todo)))
+  beat t w todo h f = after_fact t (Ticked t) (Deeds t w) (tick g.limits) (λ u. give (deeds.Ticked todo)) (tick_ends t) (λ w u o1 l1 i. (l1, (omega (arith, budget_tick t o1.ticks i.0 i.1), f)))
 
   turn_ends : (t w x : ℕ) (n limit : ℤ) (down : Bool) (s : Stmt) (todo : List Item) → weight s + 3 ≤ k → AllFit k todo → 1 + weights todo ≤ w → From t (Deeds t w) (turn_of g x n limit down s todo)
   turn_ends t w x n limit down s todo h f b =
@@ -312,24 +313,24 @@ module _ (g : Setting) (k : ℕ) where
   start_ends l call t ok (Sequence ss) todo w f = went t (weight (Sequence ss) + weights todo) (push_all ss todo) (omega (arith, push_all_weight ss todo)) (push_all_fit k ss todo (omega arith) f)
   start_ends l call t ok (If e a) todo w f = after t (Deeds t (weight (If e a) + weights todo)) _ _ (ordinal_of_steady t g call ok e) (λ n. go (int_le n (pos 0)))
     where
-      go : (b : Bool) → From t (Deeds t (weight a + 1 + weights todo)) (give (Went (if b then todo else push a todo)))
+      go : (b : Bool) → From t (Deeds t (weight a + 1 + weights todo)) (give (Stepped (if b then todo else push a todo)))
       go true = went t (weight (If e a) + weights todo) todo (omega arith) f
       go false = went t (weight (If e a) + weights todo) (push a todo) (omega (arith, push_weight a todo)) (push_fit k a todo (omega arith) f)
   start_ends l call t ok (IfElse e a c) todo w f = after t (Deeds t (weight (IfElse e a c) + weights todo)) _ _ (ordinal_of_steady t g call ok e) (λ n. go (int_le n (pos 0)))
     where
-      go : (b : Bool) → From t (Deeds t (weight a + weight c + 1 + weights todo)) (give (Went (if b then push c todo else push a todo)))
+      go : (b : Bool) → From t (Deeds t (weight a + weight c + 1 + weights todo)) (give (Stepped (if b then push c todo else push a todo)))
       go true = went t (weight (IfElse e a c) + weights todo) (push c todo) (omega (arith, push_weight c todo)) (push_fit k c todo (omega arith) f)
       go false = went t (weight (IfElse e a c) + weights todo) (push a todo) (omega (arith, push_weight a todo)) (push_fit k a todo (omega arith) f)
   start_ends l call t ok (While e s) todo w f = after t (Deeds t (weight (While e s) + weights todo)) _ _ (ordinal_of_steady t g call ok e) (λ n. go (int_le n (pos 0)))
     where
-      go : (b : Bool) → From t (Deeds t (weight s + 2 + weights todo)) ((if b then give (Went todo) else bind (tick g.limits) (λ u. give (Beat (push s (Do (While e s) ∷ todo))))))
+      go : (b : Bool) → From t (Deeds t (weight s + 2 + weights todo)) ((if b then give (Stepped todo) else bind (tick g.limits) (λ u. give (deeds.Ticked (push s (Do (While e s) ∷ todo))))))
       go true = went t (weight (While e s) + weights todo) todo (omega arith) f
       go false = beat t (weight (While e s) + weights todo) (push s (Do (While e s) ∷ todo)) (omega (arith, push_weight s (Do (While e s) ∷ todo))) (push_fit k s (Do (While e s) ∷ todo) (omega arith) (w, f))
   start_ends l call t ok (Repeat s e) todo w f = beat t (weight (Repeat s e) + weights todo) (push s (Test s e ∷ todo)) (omega (arith, push_weight s (Test s e ∷ todo))) (push_fit k s (Test s e ∷ todo) (omega arith) (w, f))
   start_ends l call t ok (For x from down to s) todo w f =
       after t (Deeds t (weight (For x from down to s) + weights todo)) _ _ (ordinal_of_steady t g call ok from) (λ m. after t (Deeds t (weight (For x from down to s) + weights todo)) _ _ (ordinal_of_steady t g call ok to) (λ n. go m n (is_range down m n)))
     where
-      go : (m n : ℤ) → (b : Bool) → From t (Deeds t (weight s + 3 + weights todo)) (give (Went (if b then First x m n down s ∷ todo else todo)))
+      go : (m n : ℤ) → (b : Bool) → From t (Deeds t (weight s + 3 + weights todo)) (give (Stepped (if b then First x m n down s ∷ todo else todo)))
       go m n true = went t (weight (For x from down to s) + weights todo) (First x m n down s ∷ todo) (omega arith) (w, f)
       go m n false = went t (weight (For x from down to s) + weights todo) todo (omega arith) f
   start_ends l call t ok (Case e arms) todo w f = after t (Deeds t (weight (Case e arms) + weights todo)) _ _ (ordinal_of_steady t g call ok e) (λ n. go (arm_for n arms) (arm_light n arms))
@@ -341,12 +342,12 @@ module _ (g : Setting) (k : ℕ) where
   start_ends l call t ok (Forall x from to s) todo w f =
       after t (Deeds t (weight (Forall x from to s) + weights todo)) _ _ (ordinal_of_steady t g call ok from) (λ m. after t (Deeds t (weight (Forall x from to s) + weights todo)) _ _ (ordinal_of_steady t g call ok to) (λ n. go (indexed_children x s m (nat_abs ((n -ℤ m) +ℤ pos 1))) (indexed_born k x s m (nat_abs ((n -ℤ m) +ℤ pos 1)) (omega arith)) (int_lt n m)))
     where
-      go : (bs : List Birth) → AllBorn k bs → (b : Bool) → From t (Deeds t (weight s + 1 + weights todo)) ((if b then give (Went todo) else fork g bs todo))
+      go : (bs : List Birth) → AllBorn k bs → (b : Bool) → From t (Deeds t (weight s + 1 + weights todo)) ((if b then give (Stepped todo) else fork g bs todo))
       go bs born true = went t (weight (Forall x from to s) + weights todo) todo (omega arith) f
       go bs born false = fork_ends t (weight (Forall x from to s) + weights todo) bs todo born f
   start_ends l call t ok (Assume e) todo w f = after t (Deeds t (weight (Assume e) + weights todo)) _ _ (ordinal_of_steady t g call ok e) (λ n. go (int_le n (pos 0)))
     where
-      go : (b : Bool) → From t (Deeds t (1 + weights todo)) ((if b then fail fault.F8 else give (Went todo)))
+      go : (b : Bool) → From t (Deeds t (1 + weights todo)) ((if b then fail fault.F8 else give (Stepped todo)))
       go true = fails t (weight (Assume e) + weights todo) fault.F8
       go false = went t (weight (Assume e) + weights todo) todo (omega arith) f
   start_ends l call t ok (ReadValue v) todo w f =
@@ -377,7 +378,7 @@ module _ (g : Setting) (k : ℕ) where
       after t (Deeds t (1 + weights todo)) _ _ (place_of_steady t g x) (λ q. after t (Deeds t (1 + weights todo)) _ _ (read_steady t g q) (λ v. after t (Deeds t (1 + weights todo)) _ _ (ordinal_steady t v) (λ m. turn_ends t (1 + weights todo) x (next_value down m) n down s todo f.0 f.1 (omega arith))))
   act_ends l call t ok (Test s e) todo f = after t (Deeds t (weight s + 4 + weights todo)) _ _ (ordinal_of_steady t g call ok e) (λ n. go (int_le n (pos 0)))
     where
-      go : (b : Bool) → From t (Deeds t (weight s + 4 + weights todo)) (give (Went (if b then Do (Repeat s e) ∷ todo else todo)))
+      go : (b : Bool) → From t (Deeds t (weight s + 4 + weights todo)) (give (Stepped (if b then Do (Repeat s e) ∷ todo else todo)))
       go true = went t (weight s + 4 + weights todo) (Do (Repeat s e) ∷ todo) (omega arith) f
       go false = went t (weight s + 4 + weights todo) todo (omega arith) f.1
   act_ends l call t ok Leave todo f = after t (Deeds t (1 + weights todo)) _ _ (leave_steady g t) (λ u. went t (1 + weights todo) todo (omega arith) f.1)
@@ -432,12 +433,12 @@ module _ (g : Setting) (k : ℕ) where
       onward d = bind (left_by g d) (all g n)
 
       go : (d : Deed) (o1 : Own) → o.ticks ≤ o1.ticks → Deeds o.ticks (weights (i ∷ todo)) d o1 → Ends o.ticks Any (bind (left_by g d) (all g n) w o1)
-      go (Went todo1) o1 le d = ends_weaker o1.ticks o.ticks (all g n todo1 w o1) le (ih.by todo1 w o1 d.1 (omega (arith, d.0, h)))
-      go (Beat todo1) o1 le d = ends_weaker o1.ticks o.ticks (all g n todo1 w o1) le (ih.by todo1 w o1 d.1 (omega (arith, d.0, h)))
+      go (Stepped todo1) o1 le d = ends_weaker o1.ticks o.ticks (all g n todo1 w o1) le (ih.by todo1 w o1 d.1 (omega (arith, d.0, h)))
+      go (deeds.Ticked todo1) o1 le d = ends_weaker o1.ticks o.ticks (all g n todo1 w o1) le (ih.by todo1 w o1 d.1 (omega (arith, d.0, h)))
       go (Opened todo1) o1 le d = tt
       go (Forked os todo1) o1 le d = tt
       go (Offered c x g todo1) o1 le d = tt
-      go Over o1 le d = tt
+      go Ended o1 le d = tt
 
   -- with this bound all that is left comes to an end, to a fault, or breaks a rule
   pub all_ends : Light → (n : ℕ) → AllEnd n
@@ -456,12 +457,12 @@ module _ (g : Setting) (k : ℕ) where
       go (i ∷ rest) o1 le v fact = ends_strong o.ticks o.ticks (Deeds o.ticks (weights (i ∷ rest))) (Deeds o.ticks (weights todo)) (act g (call_by g (all g n)) i rest w o1) (omega arith) more ((act_ends l _ o.ticks (call_ends l n (all_ends l n) o.ticks h) i rest fact).by w o1 le)
         where
           more : (d : Deed) (o2 : Own) → o.ticks ≤ o2.ticks → Deeds o.ticks (weights (i ∷ rest)) d o2 → Deeds o.ticks (weights todo) d o2
-          more (Went x) o2 l2 d = (omega (arith, d.0, v), d.1)
-          more (Beat x) o2 l2 d = (omega (arith, d.0, v), d.1)
+          more (Stepped x) o2 l2 d = (omega (arith, d.0, v), d.1)
+          more (deeds.Ticked x) o2 l2 d = (omega (arith, d.0, v), d.1)
           more (Opened x) o2 l2 d = d
           more (Forked os x) o2 l2 d = d
           more (Offered c y q x) o2 l2 d = d
-          more Over o2 l2 d = tt
+          more Ended o2 l2 d = tt
 
 -- every block is as light as all together
 all_light : (bs : List Block) (f : ℕ) → LightBlock (weight_blocks bs) (slice_get bs f)

@@ -8,7 +8,7 @@ use Rattle.sp_meaning.specs.Model.{Name}
 use Rattle.sp_meaning.specs.Own.{Loc, Cell, Input, Output, Address, Home, OfBlock, Frame, is_block, referred}
 use Rattle.sp_meaning.specs.Eval.{Given, ValueOf, PlaceOf}
 use Rattle.sp_meaning.specs.Deeds.{references}
-use Rattle.sp_tree.specs.Uses.{Use, Aims, Sees, Runs, Splits, Spreads, Stops, In_actuals, In_call, In_stmt}
+use Rattle.sp_tree.specs.Uses.{Use, Target, Seen, CallOf, ParallelOf, ForallOf, Stop, In_actuals, In_call, In_stmt}
 use Rattle.sp_tree.specs.Sets.{IsBelow, IsFree, Passes, Reach, IsUsed, Implicit}
 use Rattle.sp_tree.specs.Interference.{refs, IsMember, AllDifferent, IsFreeOfInterference}
 use Rattle.sp_meaning.specs.Owning.{find, IsOlder, AreOlder, Linked, cell_of, spot_of, reference_of, console, stands_by, stands_at, stands, Touches, Gave, Right, Sound}
@@ -136,45 +136,45 @@ module _ (p : Program) (fs : List Frame) where
   given_older l (Pass (ByReference (Entire v ss)) rest) (z ∷ zs) (PlaceOf c ∷ gs) g = (stands_older p fs v c.spot l g.0, given_older l rest zs gs g.1)
 
 -- the entire variable of a variable parameter is a target of the call
-member_in : (args : Actuals) (v : ℕ) → IsMember v (refs args) → In_actuals args (Aims v)
+member_in : (args : Actuals) (v : ℕ) → IsMember v (refs args) → In_actuals args (Target v)
 member_in Nothing v m = absurd m
 member_in (Pass (ByValue e) rest) v m = inr (member_in rest v m)
-member_in (Pass (ByReference (Entire x ss)) rest) v (inl e) = inl (inl (ap Aims e))
+member_in (Pass (ByReference (Entire x ss)) rest) v (inl e) = inl (inl (ap Target e))
 member_in (Pass (ByReference (Entire x ss)) rest) v (inr m) = inr (member_in rest v m)
 
 -- what touches a variable
 
 touched : (p : Program) (fs : List Frame) (u : Use) (x : ℕ) (l : Loc) → Touches p fs u x l → stands p fs x ≡ Some l
-touched p fs (Aims y) x l t = t.1
-touched p fs (Sees y) x l t = t.1
-touched p fs (Runs f args) x l t = absurd t
-touched p fs (Splits ss) x l t = absurd t
-touched p fs (Spreads y s) x l t = absurd t
-touched p fs Stops x l t = absurd t
+touched p fs (Target y) x l t = t.1
+touched p fs (Seen y) x l t = t.1
+touched p fs (CallOf f args) x l t = absurd t
+touched p fs (ParallelOf ss) x l t = absurd t
+touched p fs (ForallOf y s) x l t = absurd t
+touched p fs Stop x l t = absurd t
 
 touches_in : (p : Program) (fs gs : List Frame) (u : Use) (x : ℕ) (l : Loc) → Touches p fs u x l → stands p gs x ≡ Some l → Touches p gs u x l
-touches_in p fs gs (Aims y) x l t e = (t.0, e)
-touches_in p fs gs (Sees y) x l t e = (t.0, e)
-touches_in p fs gs (Runs f args) x l t e = absurd t
-touches_in p fs gs (Splits ss) x l t e = absurd t
-touches_in p fs gs (Spreads y s) x l t e = absurd t
-touches_in p fs gs Stops x l t e = absurd t
+touches_in p fs gs (Target y) x l t e = (t.0, e)
+touches_in p fs gs (Seen y) x l t e = (t.0, e)
+touches_in p fs gs (CallOf f args) x l t e = absurd t
+touches_in p fs gs (ParallelOf ss) x l t e = absurd t
+touches_in p fs gs (ForallOf y s) x l t e = absurd t
+touches_in p fs gs Stop x l t e = absurd t
 
 passes_of : (p : Program) (fs : List Frame) (u : Use) (x : ℕ) (l : Loc) (b : ℕ) → Touches p fs u x l → IsFree p b x → Passes p b u
-passes_of p fs (Aims y) x l b t f = subst (λ z. IsFree p b z) (sym t.0) f
-passes_of p fs (Sees y) x l b t f = subst (λ z. IsFree p b z) (sym t.0) f
-passes_of p fs (Runs g args) x l b t f = absurd t
-passes_of p fs (Splits ss) x l b t f = absurd t
-passes_of p fs (Spreads y s) x l b t f = absurd t
-passes_of p fs Stops x l b t f = absurd t
+passes_of p fs (Target y) x l b t f = subst (λ z. IsFree p b z) (sym t.0) f
+passes_of p fs (Seen y) x l b t f = subst (λ z. IsFree p b z) (sym t.0) f
+passes_of p fs (CallOf g args) x l b t f = absurd t
+passes_of p fs (ParallelOf ss) x l b t f = absurd t
+passes_of p fs (ForallOf y s) x l b t f = absurd t
+passes_of p fs Stop x l b t f = absurd t
 
 used_of : (p : Program) (fs : List Frame) (u : Use) (x : ℕ) (l : Loc) (Here : Use → Type 0) (bs : List ℕ) → Touches p fs u x l → Reach p Here bs u → IsUsed p Here x
-used_of p fs (Aims y) x l Here bs t r = inl (bs, subst (λ z. Reach p Here bs (Aims z)) t.0 r)
-used_of p fs (Sees y) x l Here bs t r = inr (bs, subst (λ z. Reach p Here bs (Sees z)) t.0 r)
-used_of p fs (Runs g args) x l Here bs t r = absurd t
-used_of p fs (Splits ss) x l Here bs t r = absurd t
-used_of p fs (Spreads y s) x l Here bs t r = absurd t
-used_of p fs Stops x l Here bs t r = absurd t
+used_of p fs (Target y) x l Here bs t r = inl (bs, subst (λ z. Reach p Here bs (Target z)) t.0 r)
+used_of p fs (Seen y) x l Here bs t r = inr (bs, subst (λ z. Reach p Here bs (Seen z)) t.0 r)
+used_of p fs (CallOf g args) x l Here bs t r = absurd t
+used_of p fs (ParallelOf ss) x l Here bs t r = absurd t
+used_of p fs (ForallOf y s) x l Here bs t r = absurd t
+used_of p fs Stop x l Here bs t r = absurd t
 
 -- low: what stands in the process's frames from this number on is its own to write
 module _ (p : Program) (q : Name) (W R : Loc → Type 0) (low : ℕ) (own : (n x : ℕ) → low ≤ n → W (Cell q n x)) (reads : (l : Loc) → W l → R l) (free : IsFreeOfInterference p) where
@@ -244,15 +244,15 @@ module _ (p : Program) (q : Name) (W R : Loc → Type 0) (low : ℕ) (own : (n x
       own_is_new x l e o = let h : IsOlder (length fs) (Cell q (length fs) x) = subst (λ z. IsOlder (length fs) z) (sym e) o in absurd (omega (arith, h))
 
       right_of_own : (u : Use) (l : Loc) → W l → Right p W R u l
-      right_of_own (Aims x) l w = w
-      right_of_own (Sees x) l w = reads l w
-      right_of_own (Runs g args) l w = tt
-      right_of_own (Splits ss) l w = tt
-      right_of_own (Spreads x s) l w = tt
-      right_of_own Stops l w = tt
+      right_of_own (Target x) l w = w
+      right_of_own (Seen x) l w = reads l w
+      right_of_own (CallOf g args) l w = tt
+      right_of_own (ParallelOf ss) l w = tt
+      right_of_own (ForallOf x s) l w = tt
+      right_of_own Stop l w = tt
 
       module _ (high : low ≤ length fs) (s : Sound p W R fs (In_call b args)) where
-        target : (v : ℕ) → IsMember v (refs args) → In_call b args (Aims v)
+        target : (v : ℕ) → IsMember v (refs args) → In_call b args (Target v)
         target v m = inr (member_in args v m)
 
         outer_use : (bs : List ℕ) (u : Use) (x : ℕ) (l : Loc) → Reach p (In_stmt k.body) bs u → Touches p (fresh ∷ fs) u x l → IsFree p b x → Reach p (In_call b args) (b ∷ bs) u
@@ -260,7 +260,7 @@ module _ (p : Program) (q : Name) (W R : Loc → Type 0) (low : ℕ) (own : (n x
 
         may : (bs : List ℕ) (u : Use) (x : ℕ) (l : Loc) → Reach p (In_stmt k.body) bs u → Touches p (fresh ∷ fs) u x l → Stands x l → Right p W R u l
         may bs u x l r t (Own e) = right_of_own u l (subst W e (own (length fs) x high))
-        may bs u x l r t (Refers a d e) = let h = comes p fs args k.formals gs gave x a d in right_of_own u l (subst W e (s.allowed [] (Aims h.0) (target h.0 h.1) h.0 a.spot (refl, h.2)))
+        may bs u x l r t (Refers a d e) = let h = comes p fs args k.formals gs gave x a d in right_of_own u l (subst W e (s.allowed [] (Target h.0) (target h.0 h.1) h.0 a.spot (refl, h.2)))
         may bs u x l r t (Outer f e) = s.allowed (b ∷ bs) u (outer_use bs u x l r t f) x l (touches_in p (fresh ∷ fs) fs u x l t e)
 
         older : (x : ℕ) (l : Loc) → stands p fs x ≡ Some l → IsOlder (length fs) l
@@ -276,8 +276,8 @@ module _ (p : Program) (q : Name) (W R : Loc → Type 0) (low : ℕ) (own : (n x
         crossed : (bs : List ℕ) (u : Use) (x y : ℕ) (l : Loc) → Reach p (In_stmt k.body) bs u → Touches p (fresh ∷ fs) u x l → IsFree p b x → stands p fs x ≡ Some l → (a : Address) → referred y (references k.formals gs) ≡ Some a → a.spot ≡ l → ⊥
         crossed bs u x y l r t f e a d g =
             let h = comes p fs args k.formals gs gave y a d in
-            let other : h.0 ≢ x = λ i. (s.kept (Runs b args) (inl refl)).1 h.0 h.1 (subst (λ z. Implicit p b z) (sym i) (implicit bs u x l r t f)) in
-            s.apart [] (b ∷ bs) (Aims h.0) u (target h.0 h.1) (outer_use bs u x l r t f) h.0 x l other (refl, h.2 ∙ ap Some g) (touches_in p (fresh ∷ fs) fs u x l t e)
+            let other : h.0 ≢ x = λ i. (s.kept (CallOf b args) (inl refl)).1 h.0 h.1 (subst (λ z. Implicit p b z) (sym i) (implicit bs u x l r t f)) in
+            s.apart [] (b ∷ bs) (Target h.0) u (target h.0 h.1) (outer_use bs u x l r t f) h.0 x l other (refl, h.2 ∙ ap Some g) (touches_in p (fresh ∷ fs) fs u x l t e)
 
         differ : (bs cs : List ℕ) (u v : Use) → Reach p (In_stmt k.body) bs u → Reach p (In_stmt k.body) cs v → (x y : ℕ) (l : Loc) → x ≢ y → Touches p (fresh ∷ fs) u x l → Touches p (fresh ∷ fs) v y l → Stands x l → Stands y l → ⊥
         differ bs cs u v r t x y l n a b (Own e) (Own d) = let h : Cell q (length fs) x ≡ Cell q (length fs) y = e ∙ sym d in n (cc h)
@@ -285,8 +285,8 @@ module _ (p : Program) (q : Name) (W R : Loc → Type 0) (low : ℕ) (own : (n x
         differ bs cs u v r t x y l n a b (Own e) (Outer f d) = own_is_new x l e (older y l d)
         differ bs cs u v r t x y l n a b (Refers f d g) (Own e) = own_is_new y l e (referred_is_older x f l d g)
         differ bs cs u v r t x y l n a b1 (Refers f d g) (Refers h e i) =
-            let z = two p fs args k.formals gs gave (s.kept (Runs b args) (inl refl)).0 x y f h n d e in
-            s.apart [] [] (Aims z.0) (Aims z.1) (target z.0 z.2) (target z.1 z.3) z.0 z.1 l z.4 (refl, z.5 ∙ ap Some g) (refl, z.6 ∙ ap Some i)
+            let z = two p fs args k.formals gs gave (s.kept (CallOf b args) (inl refl)).0 x y f h n d e in
+            s.apart [] [] (Target z.0) (Target z.1) (target z.0 z.2) (target z.1 z.3) z.0 z.1 l z.4 (refl, z.5 ∙ ap Some g) (refl, z.6 ∙ ap Some i)
         differ bs cs u v r t x y l n a b (Refers f d g) (Outer h e) = crossed cs v y x l t b h e f d g
         differ bs cs u v r t x y l n a b (Outer h e) (Own d) = own_is_new y l d (older x l e)
         differ bs cs u v r t x y l n a b (Outer h e) (Refers f d g) = crossed bs u x y l r a h e f d g

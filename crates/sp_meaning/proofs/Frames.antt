@@ -2,7 +2,7 @@
 use Rattle.std.proofs.Common.{◌≡◌, ◌≢◌, ◌⊎◌, inl, inr, ℕ, suc, ◌+◌, ◌<◌, true, false, cond, ◌==◌, List, [], ◌∷◌, length, Option, Some, None, refl, sym, ◌∙◌, subst, arith}
 use Rattle.sp_meaning.specs.Maps.{IsTest}
 use Rattle.sp_meaning.specs.Model.{Name, Channel, Language, Act, Moves, Opens, Forks, Offering, Ends, Fails, Absent, Works, Waits, Joins, Ended, State, Change, Becomes, Forked, Writes, Pends, Adds, Faults, changed, after}
-use Rattle.sp_meaning.specs.Steps.{ActOf, OfferOf, ConditionOf, Outcome, Does, Faulty, puts, births, message, meeting, hands, meets, offered, acts}
+use Rattle.sp_meaning.specs.Steps.{ActOf, OfferOf, ConditionOf, Outcome, Advances, Faulty, puts, births, message, meeting, hands, meets, offered, acts}
 use Rattle.sp_base.specs.declared.fault.Fault.TheVariants as fault
 use Rattle.sp_meaning.specs.Disjoint.{IsAmong, Delivers}
 use Rattle.sp_meaning.proofs.Maps.{at_other}
@@ -60,7 +60,7 @@ AllIn s p a [] = Unit
 AllIn s p a (c ∷ cs) = IsIn s p a c × AllIn s p a cs
 
 abbrev pub OutcomeIn : {L : Language} → State L → Name → ActOf L → Outcome L → Type 0
-OutcomeIn s p a (Does cs) = AllIn s p a cs
+OutcomeIn s p a (Advances cs) = AllIn s p a cs
 OutcomeIn s p a (Faulty f) = Unit
 
 puts_in : {L : Language} (s : State L) (p : Name) (a : ActOf L) (ws : List (L.Loc × L.Value)) → ((l : L.Loc) → IsAmong ws l → WritesTo s a l) → AllIn s p a (puts {L = L} ws)
@@ -75,7 +75,7 @@ births_in s p x all i (o ∷ os) e =
 
 hands_in : {L : Language} (s : State L) (p : Name) (o : OfferOf L) (z : Name) (w : OfferOf L) (m : Option (L.Target × L.Value)) → s.pending o.channel ≡ Some z → s.condition z ≡ Waits w → message o.cargo w.cargo ≡ m → OutcomeIn s p (Offering o) (hands s p o z w m)
 hands_in s p o z w None e c h = tt
-hands_in {L} s p o z w (Some m) e c h = elim (o.kind == w.kind) as (λ b. OutcomeIn s p (Offering o) (cond b (Does (meeting s p o z w m)) (Faulty fault.F7))) [
+hands_in {L} s p o z w (Some m) e c h = elim (o.kind == w.kind) as (λ b. OutcomeIn s p (Offering o) (cond b (Advances (meeting s p o z w m)) (Faulty fault.F7))) [
   | true ↦ (inl refl, (inr (inl e), (refl, (record { other = z; pends = e; its = w; waits = c; passes = m; is = h; there = refl }, (tt, tt)))))
   | false ↦ tt
 ]
@@ -100,7 +100,7 @@ acts_in s p Ends = (inl refl, tt)
 acts_in s p (Fails f) = tt
 
 -- a step's changes are of its own parts
-pub all_in : {L : Language} (s : State L) (p : Name) (a : ActOf L) (cs : List (Change L)) → acts s p a ≡ Does cs → AllIn s p a cs
+pub all_in : {L : Language} (s : State L) (p : Name) (a : ActOf L) (cs : List (Change L)) → acts s p a ≡ Advances cs → AllIn s p a cs
 all_in s p a cs e = subst (OutcomeIn s p a) e (acts_in s p a)
 
 -- The frames: s is the state in which p steps, t one in which some of its changes are made

@@ -2,10 +2,10 @@
 use Rattle.std.proofs.Common.{◌≡◌, ℕ, zero, suc, ◌+◌, Bool, true, false, List, [], ◌∷◌, length, Option, Some, None, refl, sym, ap, ◌∙◌, subst, arith}
 use Rattle.sp_base.specs.declared.fault.Fault.{Fault}
 use Rattle.sp_meaning.specs.Model.{Name}
-use Rattle.sp_meaning.specs.Steps.{ActOf, Outcome, Does, Faulty, acts, passed, cost, unless, outcome, result_of, step_with}
+use Rattle.sp_meaning.specs.Steps.{ActOf, Outcome, Advances, Faulty, acts, passed, cost, unless, outcome, result_of, step_with}
 use Rattle.sp_meaning.specs.Own.{Setting, Process}
 use Rattle.sp_meaning.specs.SuperPascal.{superpascal}
-use Rattle.sp_meaning.specs.Entries.{Happening, Opened, Split, Offered, Finished, Failed, LaidDown, Paused, Occurrence}
+use Rattle.sp_meaning.specs.Entries.{Happening, Opened, Forked, Offered, Ended, Faulted, Laid, Paused, Occurrence}
 use Rattle.sp_meaning.specs.Runs.{StateOf, most, running, next, Lawful, said_of, says}
 use Rattle.sp_meaning.specs.Along.{Either, due, Turn, Course, Kernel, Entered, Along, IsCleanly, IsClean}
 use Rattle.sp_meaning.proofs.Frames.{all_in, fault_frame}
@@ -16,7 +16,7 @@ IsFine (Some w) = IsCleanly w
 
 module _ (g : Setting) where
   fine : (s : StateOf g) (q : Name) (a : ActOf (superpascal g)) (x : Option Fault) (out : Outcome (superpascal g)) → acts s q a ≡ out → IsFine (said_of a (unless x out)) → s.fault ≡ None → (result_of s q (unless x out)).fault ≡ None
-  fine s q a None (Does cs) e f h = fault_frame s q a cs s (all_in s q a cs e) ∙ h
+  fine s q a None (Advances cs) e f h = fault_frame s q a cs s (all_in s q a cs e) ∙ h
   fine s q a None (Faulty i) e f h = absurd f
   fine s q a (Some i) out e f h = absurd f
 
@@ -71,11 +71,11 @@ module _ (g : Setting) where
   entered_goes : (left : Course → StateOf g → ℕ → Type 0) (c : Course) (m : StateOf g) (paused : Bool) (q : Name) (w : Happening) (n : ℕ) (t : StateOf g) → IsCleanly w → Entered g left c m paused q w n
       → ((c1 : Course) (u : StateOf g) (r : ℕ) → left c1 u r → u.fault ≡ None → Goes u r t) → m.fault ≡ None → Goes m n t
   entered_goes left c m paused q Opened n t ok h k f = kernel_goes left c m paused q Opened n t ok h k f
-  entered_goes left c m paused q (Split i) n t ok h k f = kernel_goes left c m paused q (Split i) n t ok h k f
+  entered_goes left c m paused q (Forked i) n t ok h k f = kernel_goes left c m paused q (Forked i) n t ok h k f
   entered_goes left c m paused q (Offered w ch) n t ok h k f = kernel_goes left c m paused q (Offered w ch) n t ok h k f
-  entered_goes left c m paused q Finished n t ok h k f = kernel_goes left c m paused q Finished n t ok h k f
-  entered_goes left c m paused q (Failed i) n t ok h k f = absurd ok
-  entered_goes left c m paused q LaidDown n t ok h k f = absurd ok
+  entered_goes left c m paused q Ended n t ok h k f = kernel_goes left c m paused q Ended n t ok h k f
+  entered_goes left c m paused q (Faulted i) n t ok h k f = absurd ok
+  entered_goes left c m paused q Laid n t ok h k f = absurd ok
   entered_goes left c m paused q Paused n t ok h k f = k _ m n h.2 f
 
   pub along_goes : (turn : ℕ) (es : List Occurrence) (c : Course) (s : StateOf g) (n : ℕ) (t : StateOf g) → Along g turn c s es n t → IsClean es → s.fault ≡ None → Goes s n t

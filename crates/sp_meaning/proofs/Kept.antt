@@ -1,7 +1,7 @@
 -- Each step keeps what is known of the state: a pending offer's process waits, unborn children are absent, and the parent of a child that lives joins it.
 use Rattle.std.proofs.Common.{◌≡◌, ◌≢◌, ◌⊎◌, ⊎_elim, inl, inr, ℕ, suc, ◌+◌, ◌<◌, ◌≤◌, le_refl, le_trans, Bool, true, false, cond, List, [], ◌∷◌, length, Option, Some, None, refl, sym, ap, ◌∙◌, subst, arith}
 use Rattle.sp_meaning.specs.Model.{Name, Channel, same_name, Totals, Language, Moves, Opens, Forks, Offering, Ends, Fails, Condition, Absent, Works, Waits, Joins, Ended, State, Change, Becomes, Forked, Adds, changed, after}
-use Rattle.sp_meaning.specs.Steps.{ActOf, OfferOf, ConditionOf, has_ended, Outcome, Does, births, meeting, waiting, acts, WaitsOn, Lives, JoinsAt, Sound}
+use Rattle.sp_meaning.specs.Steps.{ActOf, OfferOf, ConditionOf, has_ended, Outcome, Advances, births, meeting, waiting, acts, WaitsOn, Lives, JoinsAt, Sound}
 use Rattle.sp_meaning.proofs.Maps.{same_or_not, itself, at_other}
 use Rattle.sp_meaning.proofs.Keys.{name_test, channel_test}
 use Rattle.sp_meaning.proofs.Frames.{IsOn, IsPartner, IsChild, IsNear, AllIn, all_in, condition_frame, pending_frame}
@@ -55,7 +55,7 @@ module _ {L : Language} {limits : Totals} (s : State L) (p : Name) (cs : List (C
   pending_kept c z h = ⊎_elim
       (λ (on : (o : OfferOf L) × (act ≡ Offering o) × (o.channel ≡ c)).
       let o = on.0 in
-      let made = subst (λ x. acts s p x ≡ Does cs) on.1 one.does in
+      let made = subst (λ x. acts s p x ≡ Advances cs) on.1 one.does in
       elim (s.pending o.channel) as (λ m. s.pending o.channel ≡ m → WaitsOn c ((after cs s).condition z)) [
         | None ↦ λ e.
             let w = waited s p o cs e made in
@@ -85,7 +85,7 @@ module _ {L : Language} {limits : Totals} (s : State L) (p : Name) (cs : List (C
       none_some : {A : Type 0} {x : A} → ◌≡◌ {A = Option A} None (Some x) → ⊥
       none_some a = cc
 
-  forked_later : (a : ActOf L) → acts s p a ≡ Does cs → (z : Name) (k i : ℕ) → IsChild s p a ((k, i) ∷ z) → k < (after cs s).forks z
+  forked_later : (a : ActOf L) → acts s p a ≡ Advances cs → (z : Name) (k i : ℕ) → IsChild s p a ((k, i) ∷ z) → k < (after cs s).forks z
   forked_later (Forks o os) does z k i h =
       let list : cs ≡ (Becomes p (Joins (s.forks p) (length os) o) ∷ Forked p ∷ Adds (record { processes = length os; channels = 0; entries = 1 }) ∷ births p (s.forks p) 0 os) = does_is _ _ does in
       let k_is : k ≡ s.forks p = ap (λ (x : Name). head_fork x) h.1 in
@@ -97,7 +97,7 @@ module _ {L : Language} {limits : Totals} (s : State L) (p : Name) (cs : List (C
       let less : k < (after rest t).forks p = omega (arith, here, more, k_is) in
       subst (λ x. k < (after x s).forks z) (sym list) (subst (λ x. k < (after rest t).forks x) z_is less)
     where
-      does_is : (x y : List (Change L)) → ◌≡◌ {A = Outcome L} (Does x) (Does y) → y ≡ x
+      does_is : (x y : List (Change L)) → ◌≡◌ {A = Outcome L} (Advances x) (Advances y) → y ≡ x
       does_is x y h = cc
 
       head_fork : Name → ℕ
@@ -137,7 +137,7 @@ module _ {L : Language} {limits : Totals} (s : State L) (p : Name) (cs : List (C
       (same_or_not name_test q x)) r l
   lives_from (c ∷ es) t h k r l = lives_from es (changed c t) h.1 k r l
 
-  child_joined : (a : ActOf L) → acts s p a ≡ Does cs → (z : Name) (k i : ℕ) → IsChild s p a ((k, i) ∷ z) → JoinsAt k i ((after cs s).condition z)
+  child_joined : (a : ActOf L) → acts s p a ≡ Advances cs → (z : Name) (k i : ℕ) → IsChild s p a ((k, i) ∷ z) → JoinsAt k i ((after cs s).condition z)
   child_joined (Forks o os) does z k i h =
       let list : cs ≡ (Becomes p (Joins (s.forks p) (length os) o) ∷ Forked p ∷ Adds (record { processes = length os; channels = 0; entries = 1 }) ∷ births p (s.forks p) 0 os) = does_is _ _ does in
       let k_is : s.forks p ≡ k = sym (ap (λ (x : Name). head_fork x) h.1) in
@@ -150,7 +150,7 @@ module _ {L : Language} {limits : Totals} (s : State L) (p : Name) (cs : List (C
       let good : JoinsAt k i ((after (births p (s.forks p) 0 os) t).condition p) = subst (λ (x : ConditionOf L). JoinsAt k i x) (sym at) (k_is, less) in
       subst (λ x. JoinsAt k i ((after x s).condition z)) (sym list) (subst (λ x. JoinsAt k i ((after (births p (s.forks p) 0 os) t).condition x)) z_is good)
     where
-      does_is : (x y : List (Change L)) → ◌≡◌ {A = Outcome L} (Does x) (Does y) → y ≡ x
+      does_is : (x y : List (Change L)) → ◌≡◌ {A = Outcome L} (Advances x) (Advances y) → y ≡ x
       does_is x y h = cc
 
       head_fork : Name → ℕ

@@ -2,7 +2,7 @@
 use Rattle.std.proofs.Common.{◌≡◌, ◌≢◌, inl, inr, [], ◌++◌, Option, Some, None, refl, sym, ap, ◌∙◌, subst, append-nil}
 use Rattle.sp_base.specs.declared.fault.Fault.{Fault}
 use Rattle.sp_meaning.specs.Model.{Name, Moves, Opens, Forks, Offering, Ends, Fails}
-use Rattle.sp_meaning.specs.Steps.{ActOf, ConditionOf, working, Outcome, Does, Faulty, acts, passed, cost, unless, outcome, result_of, step_with, Lives, Sound}
+use Rattle.sp_meaning.specs.Steps.{ActOf, ConditionOf, working, Outcome, Advances, Faulty, acts, passed, cost, unless, outcome, result_of, step_with, Lives, Sound}
 use Rattle.sp_meaning.specs.Disjoint.{AreParallel, Assigns, WritesIn, receiver}
 use Rattle.sp_meaning.specs.Own.{Setting, Loc, Process}
 use Rattle.sp_meaning.specs.SuperPascal.{superpascal}
@@ -65,7 +65,7 @@ module _ (g : Setting) where
       some_is a b e = cc e
 
       by : (own : Process) → working s p ≡ Some own → (x : Option Fault) (out : Outcome (superpascal g)) → acts s p ((superpascal g).next own s.store) ≡ out → (result_of s p (unless x out)).store l ≡ s.store l
-      by own w None (Does cs) e = store_frame s p ((superpascal g).next own s.store) loc_test l (λ h. let x = writes_there s p own l h in free own w x.0 x.1) cs s (all_in s p ((superpascal g).next own s.store) cs e)
+      by own w None (Advances cs) e = store_frame s p ((superpascal g).next own s.store) loc_test l (λ h. let x = writes_there s p own l h in free own w x.0 x.1) cs s (all_in s p ((superpascal g).next own s.store) cs e)
       by own w None (Faulty f) e = refl
       by own w (Some f) out e = refl
 

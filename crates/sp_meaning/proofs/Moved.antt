@@ -2,10 +2,10 @@
 use Rattle.std.proofs.Common.{◌≡◌, List, Some, refl, ap, ◌∙◌}
 use Rattle.sp_meaning.specs.Maps.{at_key}
 use Rattle.sp_meaning.specs.Model.{Name, Language, Moves, Works, same_name, State, Writes, Becomes, changed, after}
-use Rattle.sp_meaning.specs.Asking.{Asking, Done, Reads, Puts, answer, put_by}
+use Rattle.sp_meaning.specs.Asking.{Asking, Done, Loads, Puts, answer, put_by}
 use Rattle.sp_meaning.specs.Steps.{ActOf, puts, outcome, result_of, step_with}
 use Rattle.sp_meaning.specs.Own.{Setting, Loc, Held, Own, Item, Process, Came, Got, same_loc}
-use Rattle.sp_meaning.specs.Deeds.{Deed, Went, Beat}
+use Rattle.sp_meaning.specs.Deeds.{Deed, Stepped, Ticked}
 use Rattle.sp_meaning.specs.SuperPascal.{superpascal, asks, deed_of, act_of, with_todo}
 use Rattle.sp_meaning.specs.Run.{Store}
 use Rattle.sp_meaning.proofs.Asking.{answer_then}
@@ -15,7 +15,7 @@ use Rattle.sp_meaning.specs.Runs.{StateOf, most, running, next}
 -- the writes of a tree, made one after another, give the store that its run leaves
 pub stored : (L : Language) {A : Type 0} (t : Asking L.Loc L.Value A) (s : State L) → after (puts {L = L} (put_by L.same_loc t s.store)) s ≡ record s { store = (answer L.same_loc t s.store).1 }
 stored L (Done a) s = refl
-stored L (Reads l more) s = stored L (more (s.store l)) s
+stored L (Loads l more) s = stored L (more (s.store l)) s
 stored L (Puts l v more) s = stored L more (changed (Writes l v) s)
 
 module _ (g : Setting) where
@@ -38,16 +38,16 @@ module _ (g : Setting) where
       ap (step_with (most g) s q) run ∙ ap (λ (a : ActOf L). Some (result_of s q (outcome (most g) s q a))) e
 
   -- a local step, by the run of the process's own step
-  pub local_step : (s : StateOf g) (q : Name) (pr : Process) (todo : List Item) (o : Own) (m : Store) → running g s q ≡ Some pr → ◌≡◌ {A = Came Deed × Store} (answer same_loc (deed_of g pr) s.store) (Got (Went todo) o, m)
+  pub local_step : (s : StateOf g) (q : Name) (pr : Process) (todo : List Item) (o : Own) (m : Store) → running g s q ≡ Some pr → ◌≡◌ {A = Came Deed × Store} (answer same_loc (deed_of g pr) s.store) (Got (Stepped todo) o, m)
       → next g s q ≡ Some (moved s q (with_todo todo pr.who o) m)
   local_step s q pr todo o m run e =
-      let a = answered s pr (Got (Went todo) o) m e in
+      let a = answered s pr (Got (Stepped todo) o) m e in
       move s q pr (with_todo todo pr.who o) (writes_of s pr) (ap (λ (x : (List (Loc × Held) → ActOf L) × Store). x.0 (writes_of s pr)) a) run
       ∙ ap (λ z. Some z) (stored L (asks g pr) (changed (Becomes q (Works (with_todo todo pr.who o))) s) ∙ ap (λ (x : (List (Loc × Held) → ActOf L) × Store). moved s q (with_todo todo pr.who o) x.1) a)
 
-  pub pausing_step : (s : StateOf g) (q : Name) (pr : Process) (todo : List Item) (o : Own) (m : Store) → running g s q ≡ Some pr → ◌≡◌ {A = Came Deed × Store} (answer same_loc (deed_of g pr) s.store) (Got (Beat todo) o, m)
+  pub pausing_step : (s : StateOf g) (q : Name) (pr : Process) (todo : List Item) (o : Own) (m : Store) → running g s q ≡ Some pr → ◌≡◌ {A = Came Deed × Store} (answer same_loc (deed_of g pr) s.store) (Got (Ticked todo) o, m)
       → next g s q ≡ Some (moved s q (with_todo todo pr.who o) m)
   pausing_step s q pr todo o m run e =
-      let a = answered s pr (Got (Beat todo) o) m e in
+      let a = answered s pr (Got (Ticked todo) o) m e in
       move s q pr (with_todo todo pr.who o) (writes_of s pr) (ap (λ (x : (List (Loc × Held) → ActOf L) × Store). x.0 (writes_of s pr)) a) run
       ∙ ap (λ z. Some z) (stored L (asks g pr) (changed (Becomes q (Works (with_todo todo pr.who o))) s) ∙ ap (λ (x : (List (Loc × Held) → ActOf L) × Store). moved s q (with_todo todo pr.who o) x.1) a)

@@ -1,13 +1,13 @@
 -- The sets one call at a time: what a closure over the calls computes.
 use Rattle.std.proofs.Common.{◌⊎◌, inl, inr, ℕ, [], ◌∷◌}
 use Rattle.sp_tree.specs.Plain.{Program, Actuals}
-use Rattle.sp_tree.specs.Uses.{Use, Aims, Runs}
+use Rattle.sp_tree.specs.Uses.{Use, Target, CallOf}
 use Rattle.sp_tree.specs.Sets.{IsTarget, ImplicitTarget}
 
 module _ (p : Program) (Here : Use → Type 0) (x : ℕ) where
   -- a target position stands here, or a block that is called here has it implicitly
   abbrev pub InOneStep : Type 0
-  InOneStep = Here (Aims x) ⊎ ((b : ℕ) × (args : Actuals) × Here (Runs b args) × ImplicitTarget p b x)
+  InOneStep = Here (Target x) ⊎ ((b : ℕ) × (args : Actuals) × Here (CallOf b args) × ImplicitTarget p b x)
 
   pub one_step : IsTarget p Here x → InOneStep
   one_step ([], r) = inl r

@@ -5,18 +5,19 @@ use Rattle.sp_base.specs.declared.fault.Fault.{Fault}
 use Rattle.sp_base.specs.declared.fault.Fault.TheVariants as fault
 use Rattle.sp_tree.specs.Plain.{Program, Stmt}
 use Rattle.sp_meaning.specs.Maps.{at_key}
-use Rattle.sp_meaning.specs.Model.{Name, same_name, Totals, Language, Moves, Opens, Forks, Offering, Ends, Fails, Cargo, Gives, Takes, Condition, Absent, Works, Waits, Joins, Ended, State, Becomes, Forked, Writes, Pends, Adds, Faults, changed, after}
-use Rattle.sp_meaning.specs.Steps.{ActOf, OfferOf, ConditionOf, working_in, Outcome, Does, Faulty, puts, births, message, hands, meets, offered, acts, cost, passed, unless, result_of, step_with, step, processes, all_ended}
+use Rattle.sp_meaning.specs.Model.{Name, same_name, Totals, Language, Moves, Opens, Forks, Offering, Ends, Fails, Cargo, Message, Takes, Condition, Absent, Works, Waits, Joins, Ended, State, Becomes, Forked, Writes, Pends, Adds, Faults, changed, after}
+use Rattle.sp_meaning.specs.Steps.{ActOf, OfferOf, ConditionOf, working_in, Outcome, Advances, Faulty, puts, births, message, hands, meets, offered, acts, cost, passed, unless, result_of, step_with, step, processes, all_ended}
 use Rattle.sp_meaning.specs.Schedules.{Leads}
 use Rattle.sp_meaning.specs.Disjoint.{IsAmong, Assigns, receiver, Receiving, WritesIn, AccessesIn, Happens, IsDisjoint}
-use Rattle.sp_meaning.specs.Asking.{Asking, Done, Reads, Puts, and_then, answer, Asks, put_by}
+use Rattle.sp_meaning.specs.Asking.{Asking, Done, Loads, Puts, and_then, answer, Asks, put_by}
 use Rattle.sp_meaning.specs.Own.{Setting, Loc, Cell, Held, Address, Frame, Own, Who, Item, Do, First, Again, Test, Leave, Break, Process, Came, Got, Bad, Lost, Long, same_loc}
-use Rattle.sp_meaning.specs.Deeds.{Birth, Deed, Went, Beat, Opened, Forked as Forks_it, Offered, Over, newborn, newborns}
+use Rattle.sp_meaning.specs.Deeds.{Birth, Deed, Stepped, Ticked, Opened, Forked as Forks_it, Offered, newborn, newborns}
+use Rattle.sp_meaning.specs.Deeds as deeds
 use Rattle.sp_meaning.specs.SuperPascal.{enough, deed_of, asks, act_of, superpascal}
 use Rattle.sp_meaning.proofs.Keys.{name_test, and_both}
 use Rattle.sp_meaning.proofs.Asking.{answer_then}
 use Rattle.sp_meaning.proofs.Instance.{loc_test}
-use Rattle.sp_tree.specs.Uses.{Use, Aims, Sees, Runs, Splits, Spreads, Stops}
+use Rattle.sp_tree.specs.Uses.{Use, Target, Seen, CallOf, ParallelOf, ForallOf, Stop}
 use Rattle.sp_tree.specs.Interference.{IsFreeOfInterference}
 use Rattle.sp_meaning.specs.Owning.{Right, Ready, below, Linked, Fit, Sound, Born, Fair, MayTake}
 use Rattle.sp_meaning.proofs.Static.{some_is}
@@ -39,19 +40,19 @@ module _ {A B : Type 0} (W R : Loc → Type 0) (F : A → Own → Type 0) (g : C
   result_within (Done (Bad f)) m h = tt
   result_within (Done Lost) m h = tt
   result_within (Done Long) m h = tt
-  result_within (Reads l more) m h = result_within (more (m l)) m (h.1 (m l))
+  result_within (Loads l more) m h = result_within (more (m l)) m (h.1 (m l))
   result_within (Puts l v more) m h = result_within more (at_key same_loc l v m) h.1
 
   pub asked : ((l : Loc) → W l → R l) → (t : Asking Loc Held (Came A)) (m : Loc → Held) → Within W R F t → (l : Loc) → Asks same_loc (and_then t (λ r. Done (g r))) m l → R l
   asked i (Done a) m h l k = absurd k
-  asked i (Reads j more) m h l (inl e) = subst R e h.0
-  asked i (Reads j more) m h l (inr k) = asked i (more (m j)) m (h.1 (m j)) l k
+  asked i (Loads j more) m h l (inl e) = subst R e h.0
+  asked i (Loads j more) m h l (inr k) = asked i (more (m j)) m (h.1 (m j)) l k
   asked i (Puts j v more) m h l (inl e) = subst R e (i j h.0)
   asked i (Puts j v more) m h l (inr k) = asked i more (at_key same_loc j v m) h.1 l k
 
   pub written : (t : Asking Loc Held (Came A)) (m : Loc → Held) → Within W R F t → (l : Loc) → IsAmong (put_by same_loc (and_then t (λ r. Done (g r))) m) l → W l
   written (Done a) m h l k = absurd k
-  written (Reads j more) m h l k = written (more (m j)) m (h.1 (m j)) l k
+  written (Loads j more) m h l k = written (more (m j)) m (h.1 (m j)) l k
   written (Puts j v more) m h l (inl e) = subst W e h.0
   written (Puts j v more) m h l (inr k) = written more (at_key same_loc j v m) h.1 l k
 
@@ -106,12 +107,12 @@ module _ (p : Program) where
 
   module _ (W R V T : Loc → Type 0) (w : (l : Loc) → W l → V l) (r : (l : Loc) → R l → T l) where
     more_right : (u : Use) (l : Loc) → Right p W R u l → Right p V T u l
-    more_right (Aims x) l h = w l h
-    more_right (Sees x) l h = r l h
-    more_right (Runs f args) l h = tt
-    more_right (Splits ss) l h = tt
-    more_right (Spreads x s) l h = tt
-    more_right Stops l h = tt
+    more_right (Target x) l h = w l h
+    more_right (Seen x) l h = r l h
+    more_right (CallOf f args) l h = tt
+    more_right (ParallelOf ss) l h = tt
+    more_right (ForallOf x s) l h = tt
+    more_right Stop l h = tt
 
     pub more_sound : (fs : List Frame) {Here : Use → Type 0} → Sound p W R fs Here → Sound p V T fs Here
     more_sound fs so = record { allowed = λ bs u d x l t. more_right u l (so.allowed bs u d x l t); apart = so.apart; kept = so.kept }
@@ -129,7 +130,7 @@ module _ (p : Program) where
     more_fit z fs todo f = record { linked = f.linked; ready = more_ready fs todo f.ready; ends = f.ends }
 
     more_take : (g : Cargo Held Address) → MayTake p W R g → MayTake p V T g
-    more_take (Gives v) h = tt
+    more_take (Message v) h = tt
     more_take (Takes a) h = w a.spot h
 
   -- the conditions after the births
@@ -327,7 +328,7 @@ module _ (set : Setting) (totals : Totals) (free : IsFreeOfInterference set.prog
             there : IsKnown set.program s.forks z
             there = known_if set.program W R s.condition s.forks inv z (λ a. let x : Waits w ≡ Absent = sym e ∙ a in absurd (cc x))
 
-            kinds : (b : Bool) → Next W R (result_of s q (if b then Does (Becomes q (Works o.next) ∷ Becomes z (Works w.next) ∷ Pends o.channel None ∷ Writes (L.place m.0) (L.put m.0 (s.store (L.place m.0)) m.1) ∷ Adds (record { processes = 0; channels = 0; entries = 1 }) ∷ []) else Faulty fault.F7))
+            kinds : (b : Bool) → Next W R (result_of s q (if b then Advances (Becomes q (Works o.next) ∷ Becomes z (Works w.next) ∷ Pends o.channel None ∷ Writes (L.place m.0) (L.put m.0 (s.store (L.place m.0)) m.1) ∷ Adds (record { processes = 0; channels = 0; entries = 1 }) ∷ []) else Faulty fault.F7))
             kinds true = as_it_is _ (becomes set.program W R (at_key same_name q (Works o.next) s.condition) s.forks z (Works w.next) (after_it (Works o.next) h) there waits)
             kinds false = as_it_is _ inv
 
@@ -339,8 +340,8 @@ module _ (set : Setting) (totals : Totals) (free : IsFreeOfInterference set.prog
         meets_keep Ended e = as_it_is _ inv
 
     acts_keep : (r : Came Deed) → Result (λ d o. Comes d o.frames) r → (ws : List (Loc × Held)) → Next W R (result_of s q (acts {L = L} s q (act_of pr.who r ws)))
-    acts_keep (Got (Went todo) o) h ws = moved (record { todo = todo; who = pr.who; own = o }) ws _ refl refl (next_is pr.who o todo k.named k.forked h)
-    acts_keep (Got (Beat todo) o) h ws = moved (record { todo = todo; who = pr.who; own = o }) ws _ refl refl (next_is pr.who o todo k.named k.forked h)
+    acts_keep (Got (Stepped todo) o) h ws = moved (record { todo = todo; who = pr.who; own = o }) ws _ refl refl (next_is pr.who o todo k.named k.forked h)
+    acts_keep (Got (Ticked todo) o) h ws = moved (record { todo = todo; who = pr.who; own = o }) ws _ refl refl (next_is pr.who o todo k.named k.forked h)
     acts_keep (Got (Opened todo) o) h ws = moved (record { todo = todo; who = record pr.who { opens = pr.who.opens + 1 }; own = o }) ws _ refl refl (next_is (record pr.who { opens = pr.who.opens + 1 }) o todo k.named k.forked h)
     acts_keep (Got (Forks_it bs todo) o) h ws = record {
       W' = writes_after set.program W R q (s.forks q) o.frames h.0;
@@ -361,7 +362,7 @@ module _ (set : Setting) (totals : Totals) (free : IsFreeOfInterference set.prog
         joined : State L
         joined = changed {L = L} (Adds (record { processes = length (newborns pr.who o 0 bs); channels = 0; entries = 1 })) (changed {L = L} (Forked q) (changed {L = L} (Becomes q (Joins (s.forks q) (length (newborns pr.who o 0 bs)) next)) s))
     acts_keep (Got (Offered c i g todo) o) h ws = offering (record { channel = c; kind = i; cargo = g; next = record { todo = todo; who = pr.who; own = o } }) (next_is pr.who o todo k.named k.forked h.1) h.0 (s.pending c)
-    acts_keep (Got Over o) h ws = as_it_is _ (after_it Ended tt)
+    acts_keep (Got deeds.Ended o) h ws = as_it_is _ (after_it Ended tt)
     acts_keep (Bad f) h ws = as_it_is _ inv
     acts_keep Lost h ws = as_it_is _ inv
     acts_keep Long h ws = as_it_is _ inv
@@ -395,12 +396,12 @@ module _ (set : Setting) (totals : Totals) (free : IsFreeOfInterference set.prog
         (or_fault W R s inv q pr k known (passed totals s.totals (cost (act_of pr.who came writes))) (acts {L = L} s q (act_of pr.who came writes)) (acts_keep W R s inv q pr k known came good writes))
 
     assigned : (r : Came Deed) (ws : List (Loc × Held)) (l : Loc) → Assigns (act_of pr.who r ws) l → IsAmong ws l
-    assigned (Got (Went todo) o) ws l h = h
-    assigned (Got (Beat todo) o) ws l h = h
+    assigned (Got (Stepped todo) o) ws l h = h
+    assigned (Got (Ticked todo) o) ws l h = h
     assigned (Got (Opened todo) o) ws l h = h
     assigned (Got (Forks_it bs todo) o) ws l h = absurd h
     assigned (Got (Offered c i g todo) o) ws l h = absurd h
-    assigned (Got Over o) ws l h = absurd h
+    assigned (Got deeds.Ended o) ws l h = absurd h
     assigned (Bad f) ws l h = absurd h
     assigned Lost ws l h = absurd h
     assigned Long ws l h = absurd h
@@ -414,20 +415,20 @@ module _ (set : Setting) (totals : Totals) (free : IsFreeOfInterference set.prog
     TakesWell r (Fails f) = Unit {0}
 
     takes_well : (r : Came Deed) (ws : List (Loc × Held)) → Result (λ d o. Fair set.program (All W q) (All R q) k.last d o.frames) r → TakesWell q (act_of pr.who r ws)
-    takes_well (Got (Went todo) o) ws h = tt
-    takes_well (Got (Beat todo) o) ws h = tt
+    takes_well (Got (Stepped todo) o) ws h = tt
+    takes_well (Got (Ticked todo) o) ws h = tt
     takes_well (Got (Opened todo) o) ws h = tt
     takes_well (Got (Forks_it bs todo) o) ws h = tt
     takes_well (Got (Offered c i g todo) o) ws h = h.0
-    takes_well (Got Over o) ws h = tt
+    takes_well (Got deeds.Ended o) ws h = tt
     takes_well (Bad f) ws h = tt
     takes_well Lost ws h = tt
     takes_well Long ws h = tt
 
     received : (who other : Name) (g h : Cargo Held Address) (x : Address × Held) → message g h ≡ Some x → MayTake set.program (All W q) (All R q) g → MayTake set.program (All W other) (All R other) h → who ≡ receiver g q other → All W who x.0.spot
-    received who other (Gives v) (Takes t) x e a b n = subst (λ z. All W z x.0.spot) (sym n) (subst (λ (y : Address × Held). All W other y.0.spot) (some_is (t, v) x e) b)
-    received who other (Takes t) (Gives v) x e a b n = subst (λ z. All W z x.0.spot) (sym n) (subst (λ (y : Address × Held). All W q y.0.spot) (some_is (t, v) x e) a)
-    received who other (Gives v) (Gives w) x e a b n = absurd (cc e)
+    received who other (Message v) (Takes t) x e a b n = subst (λ z. All W z x.0.spot) (sym n) (subst (λ (y : Address × Held). All W other y.0.spot) (some_is (t, v) x e) b)
+    received who other (Takes t) (Message v) x e a b n = subst (λ z. All W z x.0.spot) (sym n) (subst (λ (y : Address × Held). All W q y.0.spot) (some_is (t, v) x e) a)
+    received who other (Message v) (Message w) x e a b n = absurd (cc e)
     received who other (Takes t) (Takes u) x e a b n = absurd (cc e)
 
     pub gets_right : (who : Name) (l : Loc) → Receiving s q (L.next pr s.store) who l → All W who l

@@ -4,7 +4,7 @@ use Rattle.sp_tree.specs.Plain.{Empty, For}
 use Rattle.sp_meaning.specs.Own.{Process}
 use Rattle.sp_meaning.specs.SuperPascal.{root}
 use Rattle.sp_meaning.specs.Own.{Setting}
-use Rattle.sp_meaning.specs.Entries.{Paused, Finished}
+use Rattle.sp_meaning.specs.Entries.{Paused, Ended}
 use Rattle.sp_meaning.specs.Runs.{StateOf, running}
 use Rattle.sp_meaning.specs.Along.{IsAlong}
 use Rattle.sp_meaning.specs.Ends.{IsDone}
@@ -27,7 +27,7 @@ own_by (Some o) = o
 abbrev own_at : ℕ → Process
 own_at n = own_by (running loop (at n) [])
 
-pauses : IsAlong loop 2 (record { who = []; what = Paused } ∷ record { who = []; what = Finished } ∷ []) 5 (at 5)
+pauses : IsAlong loop 2 (record { who = []; what = Paused } ∷ record { who = []; what = Ended } ∷ []) 5 (at 5)
 pauses = (
   refl,
   3,
@@ -46,7 +46,7 @@ pauses = (
       at 4,
       false,
       refl,
-      (own_at 3, refl, refl, at 4, refl, (refl, refl, own_at 4, refl, Finished, refl)),
+      (own_at 3, refl, refl, at 4, refl, (refl, refl, own_at 4, refl, Ended, refl)),
       (refl, refl, at 5, 0, refl, (own_at 4, refl, refl, refl), (refl, refl)),
     ),
   ),

@@ -12,7 +12,7 @@ use Rattle.sp_tree.specs.Bare.{bare}
 use Rattle.sp_tree.specs.Interferes.{Interferes}
 use Rattle.sp_tree.proofs.NoBreach.{block_at}
 use Rattle.sp_tree.specs.Plain.{Expr, Typed, ExprForm, Number, Read, Unary, Binary, Apply, Standard, AtInput, Var, Entire, Index, Field, Selectors, Whole, Select, ByValue, ByReference, Actuals, Nothing, Pass, Program, Variable, Block, Stmt, Empty, Assign, Call, Sequence, If, IfElse, While, Repeat, For, Case, Parallel, Forall, Assume, ReadValue, ReadLine, WriteValue, WriteText, WriteLine, Open, Send, Receive, Stmts, No, And, On, Arms, NoArm, Or}
-use Rattle.sp_tree.specs.Uses.{Use, Aims, Sees, Runs, Splits, Spreads, Stops, In_expr, In_form, In_selectors, In_actuals, In_width}
+use Rattle.sp_tree.specs.Uses.{Use, Target, Seen, CallOf, ParallelOf, ForallOf, Stop, In_expr, In_form, In_selectors, In_actuals, In_width}
 use Rattle.sp_tree.specs.Sets.{Reach, ImplicitTarget}
 use Rattle.sp_tree.specs.Interference.{IsMember, IsFunction}
 use Rattle.sp_meaning.specs.Own.{Item, Do, First, Again, Test, Leave, Break}
@@ -115,12 +115,12 @@ module _ (p : Program) where
 
   -- what stands in such an expression: no target, and calls of functions
   abbrev pub PureUse : Use → Type 0
-  PureUse (Aims x) = ⊥
-  PureUse (Sees x) = Unit {0}
-  PureUse (Runs f args) = IsFunction p f
-  PureUse (Splits ss) = Unit {0}
-  PureUse (Spreads x s) = Unit {0}
-  PureUse Stops = Unit {0}
+  PureUse (Target x) = ⊥
+  PureUse (Seen x) = Unit {0}
+  PureUse (CallOf f args) = IsFunction p f
+  PureUse (ParallelOf ss) = Unit {0}
+  PureUse (ForallOf x s) = Unit {0}
+  PureUse Stop = Unit {0}
 
   mutual
     pub expr_uses : (e : Expr) → PureExpr e → (u : Use) → In_expr e u → PureUse u
@@ -155,9 +155,9 @@ module _ (p : Program) where
   width_uses (Some e) h u i = expr_uses e h u i
 
   -- no target is reached from it
-  pub no_target : AreFunctionsPure → {Here : Use → Type 0} → ((u : Use) → Here u → PureUse u) → (bs : List ℕ) (x : ℕ) → Reach p Here bs (Aims x) → ⊥
-  no_target pure uses [] x r = uses (Aims x) r
-  no_target pure uses (b ∷ bs) x r = pure b (uses (Runs b r.0) r.1) x (r.2, r.3, r.4, (bs, r.5))
+  pub no_target : AreFunctionsPure → {Here : Use → Type 0} → ((u : Use) → Here u → PureUse u) → (bs : List ℕ) (x : ℕ) → Reach p Here bs (Target x) → ⊥
+  no_target pure uses [] x r = uses (Target x) r
+  no_target pure uses (b ∷ bs) x r = pure b (uses (CallOf b r.0) r.1) x (r.2, r.3, r.4, (bs, r.5))
 
 -- a program that breaks no rule of interference has pure functions
 pub functions_pure : (c : checked.Program) → ((r : Rule) (at : Place) → Interferes c r at → ⊥) → AreFunctionsPure (bare c)

@@ -7,17 +7,17 @@ use Rattle.sp_base.specs.declared.fault.Fault.{Fault}
 use Rattle.sp_base.specs.declared.fault.Fault.TheVariants as fault
 use Rattle.sp_tree.specs.Plain.{Expr, Typed, Var, Entire, ByValue, ByReference, Actuals, Nothing, Pass, Program, Block, Stmt, Empty, Assign, Call, Sequence, If, IfElse, While, Repeat, For, Case, Parallel, Forall, Assume, ReadValue, ReadLine, WriteValue, WriteText, WriteLine, Open, Send, Receive, Stmts, No, And, On, Arms, NoArm, Or}
 use Rattle.sp_tree.specs.Cells.{variables_of}
-use Rattle.sp_tree.specs.Uses.{Use, Aims, Sees, Runs, Splits, Spreads, Stops, In_expr, In_selectors, In_stmt, In_actuals, In_target, In_width}
+use Rattle.sp_tree.specs.Uses.{Use, Target, Seen, CallOf, ParallelOf, ForallOf, Stop, In_expr, In_selectors, In_stmt, In_actuals, In_target, In_width}
 use Rattle.sp_tree.specs.Sets.{Reach}
 use Rattle.sp_tree.specs.Interference.{IsFreeOfInterference}
 use Rattle.sp_meaning.specs.Maps.{at_key}
-use Rattle.sp_meaning.specs.Model.{Name, Channel, Cargo, Gives, Takes}
-use Rattle.sp_meaning.specs.Asking.{Asking, Done, Reads, Puts, answer}
+use Rattle.sp_meaning.specs.Model.{Name, Channel, Cargo, Message, Takes}
+use Rattle.sp_meaning.specs.Asking.{Asking, Done, Loads, Puts, answer}
 use Rattle.sp_meaning.specs.Values.{Value, Ordinal, Chan}
 use Rattle.sp_meaning.specs.Own.{Setting, Loc, Cell, Input, Output, Held, Tree, Written, Address, Frame, Own, Who, Process, Item, Do, First, Again, Test, Leave, Break, Came, Got, Bad, Lost, Long, Work, bind, give, fail, who, become, put, tick, assign, assigned, same_loc, bytes_in, is_block}
 use Rattle.sp_meaning.specs.Texts.{Taken, Takes as Took, Fails as Refuses_it, line_length}
 use Rattle.sp_meaning.specs.Eval.{Place, At, Fixed, Given, Calls, value, place, actuals, ordinal_of, place_of, address_of, address}
-use Rattle.sp_meaning.specs.Deeds.{Birth, Deed, Went, Beat, Opened, Forked, Offered, Over, push, push_all, children, indexed_children, has, arm_for, is_range, goes_on, next_value, enter, pushed_frame, references, lay, copy_in, write, advance, take_in, width, peek, turn_of, fork, chosen, start, act, settle, call_by, all, deed_by, deed, size_of_frame, taken_by, shown}
+use Rattle.sp_meaning.specs.Deeds.{Birth, Deed, Stepped, Ticked, Opened, Forked, Offered, Ended, push, push_all, children, indexed_children, has, arm_for, is_range, goes_on, next_value, enter, pushed_frame, references, lay, copy_in, write, advance, take_in, width, peek, turn_of, fork, chosen, start, act, settle, call_by, all, deed_by, deed, size_of_frame, taken_by, shown}
 use Rattle.sp_meaning.specs.Owning.{Linked, cell_of, stands_at, stands_by, stands, find, Right, Sound, Fit}
 use Rattle.sp_meaning.specs.Run.{Store, run}
 use Rattle.sp_meaning.specs.SuperPascal.{deed_of, enough}
@@ -40,21 +40,21 @@ IsSame n s m = (l : Loc) → (s l ≡ m l) ⊎ IsDead n l
 
 -- a step that forks, offers or ends
 abbrev pub IsStop : Deed → Type 0
-IsStop (Went todo) = ⊥
-IsStop (Beat todo) = ⊥
+IsStop (Stepped todo) = ⊥
+IsStop (Ticked todo) = ⊥
 IsStop (Opened todo) = ⊥
 IsStop (Forked bs todo) = Unit {0}
 IsStop (Offered c k x todo) = Unit {0}
-IsStop Over = Unit {0}
+IsStop Ended = Unit {0}
 
 -- a step that opens a channel
 abbrev pub IsOpening : Deed → Type 0
-IsOpening (Went todo) = ⊥
-IsOpening (Beat todo) = ⊥
+IsOpening (Stepped todo) = ⊥
+IsOpening (Ticked todo) = ⊥
 IsOpening (Opened todo) = Unit {0}
 IsOpening (Forked bs todo) = ⊥
 IsOpening (Offered c k x todo) = ⊥
-IsOpening Over = ⊥
+IsOpening Ended = ⊥
 
 -- of all that is there one variable at most has another value
 pub record IsSameButOne (n : ℕ) (s m : Store) : Type 0 where
@@ -72,7 +72,7 @@ output_same n s m h = ⊎_elim (λ (e : s Output ≡ m Output). e) (λ d. absurd
 -- what writes within W leaves all else as it was
 stored : {A : Type 0} (W R : Loc → Type 0) (F : A → Own → Type 0) (t : Asking Loc Held (Came A)) (m : Store) → Within W R F t → (l : Loc) → (m l ≡ (answer same_loc t m).1 l) ⊎ W l
 stored W R F (Done a) m h l = inl refl
-stored W R F (Reads k more) m h l = stored W R F (more (m k)) m (h.1 (m k)) l
+stored W R F (Loads k more) m h l = stored W R F (more (m k)) m (h.1 (m k)) l
 stored W R F (Puts k v more) m h l = ⊎_elim (λ (e : at_key same_loc k v m l ≡ (answer same_loc more (at_key same_loc k v m)).1 l). go e (same_loc k l) refl) (λ w. inr w) (stored W R F more (at_key same_loc k v m) h.1 l)
   where
     go : at_key same_loc k v m l ≡ (answer same_loc more (at_key same_loc k v m)).1 l → (b : Bool) → same_loc k l ≡ b → (m l ≡ (answer same_loc more (at_key same_loc k v m)).1 l) ⊎ W l
@@ -133,12 +133,12 @@ module _ (p : Program) where
       go false ih = ih
 
   abbrev PureDeed : Deed → Type 0
-  PureDeed (Went todo) = PureItems p todo
-  PureDeed (Beat todo) = PureItems p todo
+  PureDeed (Stepped todo) = PureItems p todo
+  PureDeed (Ticked todo) = PureItems p todo
   PureDeed (Opened todo) = PureItems p todo
   PureDeed (Forked bs todo) = PureItems p todo
   PureDeed (Offered c k x todo) = PureItems p todo
-  PureDeed Over = Unit {0}
+  PureDeed Ended = Unit {0}
 
 module _ (set : Setting) (free : IsFreeOfInterference set.program) (pure : AreFunctionsPure set.program) (blocks : AreBlocksPure set.program) (q : Name) (W R : Loc → Type 0) (fs : List Frame) (linked : Linked fs) where
   abbrev p : Program
@@ -216,24 +216,24 @@ module _ (set : Setting) (free : IsFreeOfInterference set.program) (pure : AreFu
       go w s (Lost, m) i f = tt
       go w s (Long, m) i f = tt
 
-  went : (todo : List Item) → PureItems p todo → Tells (give (Went todo))
+  went : (todo : List Item) → PureItems p todo → Tells (give (Stepped todo))
   went todo k = record { by = λ w o s n e. (k, λ h. absurd h, λ h. absurd h) }
 
   fails : (f : Fault) → Tells (fail f)
   fails f = record { by = λ w o s n e. refl }
 
-  beat : (todo : List Item) → PureItems p todo → Tells (bind (tick set.limits) (λ u. give (Beat todo)))
+  beat : (todo : List Item) → PureItems p todo → Tells (bind (tick set.limits) (λ u. give (Ticked todo)))
   beat todo k = then_tells (tick set.limits) _ (tick_stays set q New All (length fs) (λ n x h. h) (λ l w. tt) free fs) (λ u _. record { by = λ w o s n e. (k, λ h. absurd h, λ h. absurd h) })
 
   -- a value is assigned, and nothing fails after it
-  stores : (a : Address) (v : Value) (todo : List Item) → PureItems p todo → Tells (bind (assign a v) (λ u. give (Went todo)))
+  stores : (a : Address) (v : Value) (todo : List Item) → PureItems p todo → Tells (bind (assign a v) (λ u. give (Stepped todo)))
   stores a v todo k = record { by = λ w o s n e. (k, λ h. absurd h, λ h. absurd h) }
 
-  takes : (a : Address) (t : Taken) (todo : List Item) → PureItems p todo → Tells (bind (take_in set a t) (λ u. give (Went todo)))
+  takes : (a : Address) (t : Taken) (todo : List Item) → PureItems p todo → Tells (bind (take_in set a t) (λ u. give (Stepped todo)))
   takes a (Took n bytes) todo k = record { by = λ w o s m e. (k, λ h. absurd h, λ h. absurd h) }
   takes a (Refuses_it f) todo k = record { by = λ w o s m e. refl }
 
-  skips : (n : ℕ) (todo : List Item) → PureItems p todo → Tells (bind (advance set n) (λ u. give (Went todo)))
+  skips : (n : ℕ) (todo : List Item) → PureItems p todo → Tells (bind (advance set n) (λ u. give (Stepped todo)))
   skips n todo k = record { by = λ w o s m e. (k, λ h. absurd h, λ h. absurd h) }
 
   opens : (a : Address) (todo : List Item) → PureItems p todo → Tells (bind who (λ w. bind (assign a (Chan (record { owner = w.name; nth = w.opens }))) (λ u. give (Opened todo))))
@@ -257,10 +257,10 @@ module _ (set : Setting) (free : IsFreeOfInterference set.program) (pure : AreFu
   offers : (c : Channel) (t : ℕ) (x : Cargo Held Address) (todo : List Item) → PureItems p todo → Tells (give (Offered c t x todo))
   offers c t x todo k = record { by = λ w o s n e. (k, λ h. (e, λ l. inl refl), λ h. absurd h) }
 
-  prints : (bs : List ℕ) (todo : List Item) → PureItems p todo → Tells (bind (write set bs) (λ u. give (Went todo)))
+  prints : (bs : List ℕ) (todo : List Item) → PureItems p todo → Tells (bind (write set bs) (λ u. give (Stepped todo)))
   prints bs todo k = record { by = λ w o s n e. go w o s (nat_lt set.limits.output (length (bytes_in (s Output)) + length bs)) }
     where
-      go : (w : Who) (o : Own) (s : Store) (b : Bool) → Told s (run (bind (if b then fail fault.F16 else put Output (Written (bytes_in (s Output) ++ bs))) (λ u. give (Went todo))) w o s)
+      go : (w : Who) (o : Own) (s : Store) (b : Bool) → Told s (run (bind (if b then fail fault.F16 else put Output (Written (bytes_in (s Output) ++ bs))) (λ u. give (Stepped todo))) w o s)
       go w o s true = refl
       go w o s false = (k, λ h. absurd h, λ h. absurd h)
 
@@ -285,13 +285,13 @@ module _ (set : Setting) (free : IsFreeOfInterference set.program) (pure : AreFu
       counting : Bool → Work (Unit {0})
       counting b w o = if b then become (record o { ticks = o.ticks + 1 }) w o else fail fault.F10 w o
 
-      ticks_on : (l : Loc) (v : Held) → IsCell l → (w : Who) (o : Own) (m : Store) (b : Bool) → Told m (run (bind (counting b) (λ u. give (Beat next))) w o (at_key same_loc l v m))
+      ticks_on : (l : Loc) (v : Held) → IsCell l → (w : Who) (o : Own) (m : Store) (b : Bool) → Told m (run (bind (counting b) (λ u. give (Ticked next))) w o (at_key same_loc l v m))
       ticks_on (Cell r h y) v c w o m true = (push_pure p s (Again x limit down s ∷ todo) ps ((lx, ps), k), λ h. absurd h, λ h. absurd h)
       ticks_on (Cell r h y) v c w o m false = refl
       ticks_on Input v c w o m b = absurd c
       ticks_on Output v c w o m b = absurd c
 
-      at_cell : (a : Address) → IsCell a.spot → Tells (bind (assign a (Ordinal n)) (λ u. bind (tick set.limits) (λ u. give (Beat next))))
+      at_cell : (a : Address) → IsCell a.spot → Tells (bind (assign a (Ordinal n)) (λ u. bind (tick set.limits) (λ u. give (Ticked next))))
       at_cell a c = record { by = λ w o m _ e. ticks_on a.spot _ c w o m (nat_lt o.ticks set.limits.ticks) }
 
   -- what stands here is sound with these rights where it has no target
@@ -299,12 +299,12 @@ module _ (set : Setting) (free : IsFreeOfInterference set.program) (pure : AreFu
   sound_here {Here} so uses = record { allowed = λ bs u r x l t. right bs u l r; apart = so.apart; kept = so.kept }
     where
       right : (bs : List ℕ) (u : Use) (l : Loc) → Reach p Here bs u → Right p New All u l
-      right bs (Aims y) l r = absurd (no_target p pure uses bs y r)
-      right bs (Sees y) l r = tt
-      right bs (Runs f args) l r = tt
-      right bs (Splits ss) l r = tt
-      right bs (Spreads y s) l r = tt
-      right bs Stops l r = tt
+      right bs (Target y) l r = absurd (no_target p pure uses bs y r)
+      right bs (Seen y) l r = tt
+      right bs (CallOf f args) l r = tt
+      right bs (ParallelOf ss) l r = tt
+      right bs (ForallOf y s) l r = tt
+      right bs Stop l r = tt
 
   module _ (n : ℕ) where
     abbrev calls : Calls
@@ -361,28 +361,28 @@ module _ (set : Setting) (free : IsFreeOfInterference set.program) (pure : AreFu
     start_tells Empty todo h k so = went todo k
     start_tells (Assign v e) todo h k so = then_tells _ _ (target v h.0 (inside v (λ u i. inl i) so)) (λ a _. then_tells _ _ (expr e h.1 (part (λ u. inr) so)) (λ x _. stores a x todo k))
     start_tells (Call f args) todo h k so =
-        then_tells _ _ (arguments args h (part (λ u. inr) so)) (λ gs _. cells_tell (enter set f gs) (λ b. Beat (push b.body (Leave ∷ todo))) (entered f gs) (λ b e. (push_pure p b.body (Leave ∷ todo) (blocks f b e) k, (λ z. z, λ z. z))))
+        then_tells _ _ (arguments args h (part (λ u. inr) so)) (λ gs _. cells_tell (enter set f gs) (λ b. Ticked (push b.body (Leave ∷ todo))) (entered f gs) (λ b e. (push_pure p b.body (Leave ∷ todo) (blocks f b e) k, (λ z. z, λ z. z))))
     start_tells (Sequence ss) todo h k so = went (push_all ss todo) (push_all_pure p ss todo h k)
     start_tells (If e a) todo h k so = then_tells _ _ (test e h.0 (part (λ u. inl) so)) (λ m _. go (int_le m (pos 0)))
       where
-        go : (b : Bool) → Tells (give (Went (if b then todo else push a todo)))
+        go : (b : Bool) → Tells (give (Stepped (if b then todo else push a todo)))
         go true = went todo k
         go false = went (push a todo) (push_pure p a todo h.1 k)
     start_tells (IfElse e a c) todo h k so = then_tells _ _ (test e h.0 (part (λ u. inl) so)) (λ m _. go (int_le m (pos 0)))
       where
-        go : (b : Bool) → Tells (give (Went (if b then push c todo else push a todo)))
+        go : (b : Bool) → Tells (give (Stepped (if b then push c todo else push a todo)))
         go true = went (push c todo) (push_pure p c todo h.2 k)
         go false = went (push a todo) (push_pure p a todo h.1 k)
     start_tells (While e s) todo h k so = then_tells _ _ (test e h.0 (part (λ u. inl) so)) (λ m _. go (int_le m (pos 0)))
       where
-        go : (b : Bool) → Tells (if b then give (Went todo) else bind (tick set.limits) (λ u. give (Beat (push s (Do (While e s) ∷ todo)))))
+        go : (b : Bool) → Tells (if b then give (Stepped todo) else bind (tick set.limits) (λ u. give (Ticked (push s (Do (While e s) ∷ todo)))))
         go true = went todo k
         go false = beat (push s (Do (While e s) ∷ todo)) (push_pure p s (Do (While e s) ∷ todo) h.1 (h, k))
     start_tells (Repeat s e) todo h k so = beat (push s (Test s e ∷ todo)) (push_pure p s (Test s e ∷ todo) h.1 (h, k))
     start_tells (For x from down to s) todo h k so =
         then_tells _ _ (test from h.0 (part (λ u i. inr (inl i)) so)) (λ m _. then_tells _ _ (test to h.1 (part (λ u i. inr (inr (inl i))) so)) (λ z _. go m z (is_range down m z)))
       where
-        go : (m z : ℤ) (b : Bool) → Tells (give (Went (if b then First x m z down s ∷ todo else todo)))
+        go : (m z : ℤ) (b : Bool) → Tells (give (Stepped (if b then First x m z down s ∷ todo else todo)))
         go m z true = went (First x m z down s ∷ todo) ((h.2, h.3), k)
         go m z false = went todo k
     start_tells (Case e arms) todo h k so = then_tells _ _ (test e h.0 (part (λ u. inl) so)) (λ m _. go (arm_for m arms) (arm_pure p m arms h.1))
@@ -394,12 +394,12 @@ module _ (set : Setting) (free : IsFreeOfInterference set.program) (pure : AreFu
     start_tells (Forall x from to s) todo h k so =
         then_tells _ _ (test from h.0 (part (λ u i. inr (inl i)) so)) (λ m _. then_tells _ _ (test to h.1 (part (λ u i. inr (inr (inl i))) so)) (λ z _. go m (nat_abs ((z -ℤ m) +ℤ pos 1)) (int_lt z m)))
       where
-        go : (m : ℤ) (z : ℕ) (b : Bool) → Tells (if b then give (Went todo) else fork set (indexed_children x s m z) todo)
+        go : (m : ℤ) (z : ℕ) (b : Bool) → Tells (if b then give (Stepped todo) else fork set (indexed_children x s m z) todo)
         go m z true = went todo k
         go m z false = forks (indexed_children x s m z) todo k
     start_tells (Assume e) todo h k so = then_tells _ _ (test e h so) (λ m _. go (int_le m (pos 0)))
       where
-        go : (b : Bool) → Tells (if b then fail fault.F8 else give (Went todo))
+        go : (b : Bool) → Tells (if b then fail fault.F8 else give (Stepped todo))
         go true = fails fault.F8
         go false = went todo k
     start_tells (ReadValue v) todo h k so =
@@ -414,7 +414,7 @@ module _ (set : Setting) (free : IsFreeOfInterference set.program) (pure : AreFu
     start_tells WriteLine todo h k so = prints (10 ∷ []) todo k
     start_tells (Open v) todo h k so = then_tells _ _ (target v h (inside v (λ u i. inl i) so)) (λ a _. opens a todo k)
     start_tells (Send c (Typed t form)) todo h k so =
-        then_tells _ _ (expr c h.0 (part (λ u. inl) so)) (λ v _. then_tells _ _ (channel_stays q New All fs v) (λ to _. then_tells _ _ (expr (Typed t form) h.1 (part (λ u i. inr (inl i)) so)) (λ x _. offers to t (Gives (Tree x)) todo k)))
+        then_tells _ _ (expr c h.0 (part (λ u. inl) so)) (λ v _. then_tells _ _ (channel_stays q New All fs v) (λ to _. then_tells _ _ (expr (Typed t form) h.1 (part (λ u i. inr (inl i)) so)) (λ x _. offers to t (Message (Tree x)) todo k)))
     start_tells (Receive c v) todo h k so =
         then_tells _ _ (expr c h.0 (part (λ u. inl) so)) (λ y _. then_tells _ _ (channel_stays q New All fs y) (λ to _. then_tells _ _ (target v h.1 (inside v (λ u i. inr (inl i)) so)) (λ a _. offers to a.kind (Takes a) todo k)))
 
@@ -431,7 +431,7 @@ module _ (set : Setting) (free : IsFreeOfInterference set.program) (pure : AreFu
           then_tells _ _ (place_of_keeps q New All fs set x) (λ y e. then_tells _ _ (read_stays q New All fs set y (any_read y)) (λ v _. then_tells _ _ (ordinal_stays q New All fs v) (λ m _. turns x (next_value down m) limit down s todo h.0.0 h.0.1 h.1)))
       act_tells (Test s e) todo h f = then_tells _ _ (test e h.0.0 (part (λ u. inl) f.ready.0)) (λ m _. go (int_le m (pos 0)))
         where
-          go : (b : Bool) → Tells (give (Went (if b then Do (Repeat s e) ∷ todo else todo)))
+          go : (b : Bool) → Tells (give (Stepped (if b then Do (Repeat s e) ∷ todo else todo)))
           go true = went (Do (Repeat s e) ∷ todo) (h.0, h.1)
           go false = went todo h.1
       act_tells Leave todo h f = record { by = λ w o m n e. (h, λ y. absurd y, λ y. absurd y) }
@@ -487,9 +487,9 @@ module _ (set : Setting) (free : IsFreeOfInterference set.program) (pure : AreFu
   quiet_faults f m e = subst Told_of e told
 
   -- what is left to do after a local step has pure expressions again
-  pub pure_kept : (d : Deed) (o : Own) (m : Store) → ◌≡◌ {A = Came Deed × Store} (answer same_loc (deed_of set pr) s) (Got d o, m) → (todo : List Item) → (d ≡ Went todo) ⊎ (d ≡ Beat todo) → PureItems set.program todo
+  pub pure_kept : (d : Deed) (o : Own) (m : Store) → ◌≡◌ {A = Came Deed × Store} (answer same_loc (deed_of set pr) s) (Got d o, m) → (todo : List Item) → (d ≡ Stepped todo) ⊎ (d ≡ Ticked todo) → PureItems set.program todo
   pure_kept d o m e todo h = by (subst Told_of e told).0 h
     where
-      by : PureDeed set.program d → (d ≡ Went todo) ⊎ (d ≡ Beat todo) → PureItems set.program todo
+      by : PureDeed set.program d → (d ≡ Stepped todo) ⊎ (d ≡ Ticked todo) → PureItems set.program todo
       by k (inl e) = subst (PureDeed set.program) e k
       by k (inr e) = subst (PureDeed set.program) e k

@@ -5,10 +5,11 @@ use Rattle.sp_base.specs.declared.fault.Fault.TheVariants as fault
 use Rattle.sp_tree.specs.Plain.{Block}
 use Rattle.sp_meaning.specs.Maps.{at_key}
 use Rattle.sp_meaning.specs.Model.{Name, same_name, Language, Act, Moves, Opens, Forks, Offering, Ends, Fails, Condition, Absent, Works, Waits, Joins, Ended, Becomes, Forked, Writes, Adds, changed, after}
-use Rattle.sp_meaning.specs.Asking.{Asking, Done, Reads, Puts, answer, put_by}
-use Rattle.sp_meaning.specs.Steps.{ActOf, OfferOf, ConditionOf, working, working_in, all_ended, Outcome, Does, Faulty, puts, births, message, meeting, hands, meets, offered, acts, passed, cost, unless, outcome, result_of, step_with, Sound}
+use Rattle.sp_meaning.specs.Asking.{Asking, Done, Loads, Puts, answer, put_by}
+use Rattle.sp_meaning.specs.Steps.{ActOf, OfferOf, ConditionOf, working, working_in, all_ended, Outcome, Advances, Faulty, puts, births, message, meeting, hands, meets, offered, acts, passed, cost, unless, outcome, result_of, step_with, Sound}
 use Rattle.sp_meaning.specs.Own.{Setting, Loc, Held, Address, Own, Who, Break, Process, Came, Got, Bad, Lost, Long, same_loc}
-use Rattle.sp_meaning.specs.Deeds.{Birth, Deed, Went, Beat, Opened, Forked as Forked_it, Offered, Over, push, newborns, size_of_frame}
+use Rattle.sp_meaning.specs.Deeds.{Birth, Deed, Stepped, Ticked, Opened, Forked as Forked_it, Offered, push, newborns, size_of_frame}
+use Rattle.sp_meaning.specs.Deeds as deeds
 use Rattle.std.specs.Prelude.{nat_lt}
 use Rattle.sp_meaning.specs.SuperPascal.{superpascal, asks, deed_of, act_of, weight_of, weight_blocks, main}
 use Rattle.sp_meaning.specs.Runs.{StateOf, start, most, next, Lawful}
@@ -34,7 +35,7 @@ result_is t F (Done (Got a o)) m h = h
 result_is t F (Done (Bad f)) m h = tt
 result_is t F (Done Lost) m h = tt
 result_is t F (Done Long) m h = h
-result_is t F (Reads l more) m h = result_is t F (more (m l)) m (h (m l))
+result_is t F (Loads l more) m h = result_is t F (more (m l)) m (h (m l))
 result_is t F (Puts l v more) m h = result_is t F more (at_key same_loc l v m) h
 
 abbrev pub Conditions : Type 0
@@ -136,13 +137,13 @@ module _ (g : Setting) where
   Light t f p pr = Keeps K t f p pr
 
   well_by : (t f : ℕ) (p : Name) (pr : Process) (ws : List (Loc × Held)) → Light t f p pr → (r : Came Deed) → Result pr.own.ticks (Deeds g K pr.own.ticks (weights pr.todo)) r → ActsWell K t f p (act_of pr.who r ws)
-  well_by t f p pr ws h (Got (Went todo) o) x = record { named = record { name = h.named.name; forks_are = h.named.forks_are }; light = x.1.1; later = omega (arith, h.later, x.0) }
-  well_by t f p pr ws h (Got (Beat todo) o) x = record { named = record { name = h.named.name; forks_are = h.named.forks_are }; light = x.1.1; later = omega (arith, h.later, x.0) }
+  well_by t f p pr ws h (Got (Stepped todo) o) x = record { named = record { name = h.named.name; forks_are = h.named.forks_are }; light = x.1.1; later = omega (arith, h.later, x.0) }
+  well_by t f p pr ws h (Got (Ticked todo) o) x = record { named = record { name = h.named.name; forks_are = h.named.forks_are }; light = x.1.1; later = omega (arith, h.later, x.0) }
   well_by t f p pr ws h (Got (Opened todo) o) x = record { named = record { name = h.named.name; forks_are = h.named.forks_are }; light = x.1; later = omega (arith, h.later, x.0) }
   well_by t f p pr ws h (Got (Forked_it bs todo) o) x =
       (record { named = record { name = h.named.name; forks_are = ap (λ n. n + 1) h.named.forks_are }; light = x.1.1; later = omega (arith, h.later, x.0) }, born_well K f p pr.who o h.named.name h.named.forks_are 0 bs x.1.0)
   well_by t f p pr ws h (Got (Offered c n cargo todo) o) x = record { named = record { name = h.named.name; forks_are = h.named.forks_are }; light = x.1; later = omega (arith, h.later, x.0) }
-  well_by t f p pr ws h (Got Over o) x = tt
+  well_by t f p pr ws h (Got deeds.Ended o) x = tt
   well_by t f p pr ws h (Bad e) x = tt
   well_by t f p pr ws h Lost x = tt
   well_by t f p pr ws h Long x = tt
@@ -211,7 +212,7 @@ module _ (g : Setting) where
         waits : Keeps K (T z) (s.forks z) z v.next
         waits = subst (λ x. Holds K (T z) (s.forks z) z x) e (w z)
 
-        go : (b : Bool) → Well T (result_of s p (if b then Does (meeting {L = L} s p o z v m) else Faulty fault.F7))
+        go : (b : Bool) → Well T (result_of s p (if b then Advances (meeting {L = L} s p o z v m) else Faulty fault.F7))
         go true = becomes K T (at_key same_name p (Works o.next) s.condition) s.forks z (Works v.next) (becomes K T s.condition s.forks p (Works o.next) w own) waits
         go false = w
 

@@ -2,7 +2,7 @@
 use Rattle.std.proofs.Common.{◌≡◌, Option, Some, None, refl, sym, ap, ◌∙◌, subst}
 use Rattle.sp_base.specs.declared.fault.Fault.{Fault}
 use Rattle.sp_meaning.specs.Model.{Name, Totals, Language, State, Faults, changed}
-use Rattle.sp_meaning.specs.Steps.{working, Outcome, Does, Faulty, acts, passed, cost, unless, outcome, result_of, step, step_with, Sound}
+use Rattle.sp_meaning.specs.Steps.{working, Outcome, Advances, Faulty, acts, passed, cost, unless, outcome, result_of, step, step_with, Sound}
 use Rattle.sp_meaning.proofs.Kept.{sound_kept}
 
 module _ {L : Language} (limits : Totals) (s : State L) (p : Name) where
@@ -10,7 +10,7 @@ module _ {L : Language} (limits : Totals) (s : State L) (p : Name) where
   faulted_sound f sound = record { waits = sound.waits; unborn = sound.unborn; joined = sound.joined }
 
   acted_sound : Sound s → (own : L.Own) → working s p ≡ Some own → passed limits s.totals (cost (L.next own s.store)) ≡ None → (out : Outcome L) → acts s p (L.next own s.store) ≡ out → Sound (result_of s p out)
-  acted_sound sound own w within (Does cs) e = sound_kept s p cs sound (record { own = own; works = w; within = within; does = e })
+  acted_sound sound own w within (Advances cs) e = sound_kept s p cs sound (record { own = own; works = w; within = within; does = e })
   acted_sound sound own w within (Faulty f) e = faulted_sound f sound
 
   outcome_sound : Sound s → (own : L.Own) → working s p ≡ Some own → (x : Option Fault) → passed limits s.totals (cost (L.next own s.store)) ≡ x → Sound (result_of s p (unless x (acts s p (L.next own s.store))))

@@ -11,7 +11,7 @@ use Rattle.sp_base.specs.declared.fault.Fault.TheVariants as fault
 use Rattle.sp_meaning.specs.Steps.{first_condition}
 use Rattle.sp_meaning.specs.SuperPascal.{main, root}
 use Rattle.sp_meaning.specs.Runs.{most, start, IsDisjointRun}
-use Rattle.sp_tree.specs.Uses.{Use, Aims, Sees, Runs, Splits, Spreads, Stops, In_stmt}
+use Rattle.sp_tree.specs.Uses.{Use, Target, Seen, CallOf, ParallelOf, ForallOf, Stop, In_stmt}
 use Rattle.sp_tree.specs.Interference.{IsFreeOfInterference}
 use Rattle.sp_meaning.specs.Owning.{cell_of, reference_of, console, stands_by, stands_at, stands, Touches, Right, Sound, Fit}
 use Rattle.sp_meaning.proofs.Static.{some_is}
@@ -96,12 +96,12 @@ module _ (set : Setting) (free : IsFreeOfInterference set.program) where
       two (suc a) (suc b) la lb h k = let s : suc a ≡ suc b = omega (arith, la, lb) in k s
 
   touched : (u : Use) (x : ℕ) (l : Loc) → Touches set.program (bottom ∷ []) u x l → Right set.program (All First []) (All First []) u l × Stands x l
-  touched (Aims y) x l t = (right x l (where_is x l t.1), where_is x l t.1)
-  touched (Sees y) x l t = (right x l (where_is x l t.1), where_is x l t.1)
-  touched (Runs f args) x l t = absurd t
-  touched (Splits ss) x l t = absurd t
-  touched (Spreads y s) x l t = absurd t
-  touched Stops x l t = absurd t
+  touched (Target y) x l t = (right x l (where_is x l t.1), where_is x l t.1)
+  touched (Seen y) x l t = (right x l (where_is x l t.1), where_is x l t.1)
+  touched (CallOf f args) x l t = absurd t
+  touched (ParallelOf ss) x l t = absurd t
+  touched (ForallOf y s) x l t = absurd t
+  touched Stop x l t = absurd t
 
   pub body_sound : (b : Block) → slice_get set.program.blocks 0 ≡ Some b → Sound set.program (All First []) (All First []) (bottom ∷ []) (In_stmt b.body)
   body_sound b e = record {

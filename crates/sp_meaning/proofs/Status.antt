@@ -1,7 +1,7 @@
 -- What each condition of a process says of the others: who is running, who waits, whom a step meets.
 use Rattle.std.proofs.Common.{◌≡◌, ◌≢◌, ◌⊎◌, ⊎_elim, inl, inr, ℕ, zero, suc, ◌<◌, le_refl, true, false, cond, List, ◌∷◌, Some, None, nat_lt, refl, sym, ap, ◌∙◌, subst, arith}
 use Rattle.sp_meaning.specs.Model.{Name, Channel, Totals, Language, Moves, Opens, Forks, Offering, Ends, Fails, Condition, Absent, Works, Waits, Joins, Ended, State, Change, after}
-use Rattle.sp_meaning.specs.Steps.{ActOf, ConditionOf, has_ended, all_ended, working_in, working, Does, acts, passed, cost, WaitsOn, Lives, JoinsAt, Sound}
+use Rattle.sp_meaning.specs.Steps.{ActOf, ConditionOf, has_ended, all_ended, working_in, working, Advances, acts, passed, cost, WaitsOn, Lives, JoinsAt, Sound}
 use Rattle.sp_meaning.proofs.Keys.{and_left, and_right, and_both}
 use Rattle.sp_meaning.proofs.Frames.{IsOn, IsPartner, IsChild, IsNear, AllIn, all_in, condition_frame}
 
@@ -10,7 +10,7 @@ pub record Makes {L : Language} (limits : Totals) (s : State L) (p : Name) (cs :
   pub own : L.Own
   pub works : working s p ≡ Some own
   pub within : passed limits s.totals (cost (L.next own s.store)) ≡ None
-  pub does : acts s p (L.next own s.store) ≡ Does cs
+  pub does : acts s p (L.next own s.store) ≡ Advances cs
 
 -- r is the parent of p
 abbrev pub IsParent : Name → Name → Type 0

@@ -13,12 +13,12 @@ use Rattle.sp_tree.specs.declared.operators.StandardFn.{StandardFn}
 use Rattle.sp_tree.specs.declared.operators.StandardFn.TheVariants as standard
 use Rattle.sp_tree.specs.Plain.{Expr, Typed, ExprForm, Number, Read, Unary, Binary, Apply, Standard, AtInput, Var, Entire, Index, Field, Selectors, Whole, Select, ByValue, ByReference, Actuals, Nothing, Pass, Program, Variable}
 use Rattle.sp_meaning.specs.Model.{Channel, Name}
-use Rattle.sp_meaning.specs.Asking.{Asking, Done, Reads, Puts, and_then}
+use Rattle.sp_meaning.specs.Asking.{Asking, Done, Loads, Puts, and_then}
 use Rattle.sp_meaning.specs.Values.{Value, Undefined, Ordinal, Chan, Parts}
 use Rattle.sp_meaning.specs.Own.{Setting, Loc, Input, Output, Held, Address, Home, OfBlock, OfIndex, Frame, Own, Who, Came, Got, Bad, Lost, Long, Work, bind, go_on, give, fail, lost, look, put, fetch, assign, or_lost, visible, seen, is_block, is_index, referred}
-use Rattle.sp_meaning.specs.Operators.{Worked, Yields, Refuses}
+use Rattle.sp_meaning.specs.Operators.{Worked, Yields, Faults}
 use Rattle.sp_meaning.specs.Eval.{Place, At, Fixed, Given, Calls, work_of, as_ordinal, ordinal, channel, channels_op, operate, standard_op, input_op, ordinal_read, channel_read, checked, element_at, field_kind, kind_at, indexed, fielded, read_at, address_of, index_in, place_by, place_of, left_of, value, form_value, place, selected, actuals, address, ordinal_of}
-use Rattle.sp_tree.specs.Uses.{Use, Aims, Sees, In_expr, In_form, In_target, In_selectors, In_actuals, In_call}
+use Rattle.sp_tree.specs.Uses.{Use, Target, Seen, In_expr, In_form, In_target, In_selectors, In_actuals, In_call}
 use Rattle.sp_tree.specs.Sets.{Reach}
 use Rattle.sp_tree.specs.Interference.{IsFreeOfInterference}
 use Rattle.sp_meaning.specs.Owning.{find, cell_of, spot_of, reference_of, console, stands_by, stands_at, stands, Sound, Gave}
@@ -30,7 +30,7 @@ Within W R F (Done (Got a o)) = F a o
 Within W R F (Done (Bad f)) = Unit {0}
 Within W R F (Done Lost) = Unit {0}
 Within W R F (Done Long) = Unit {0}
-Within W R F (Reads l more) = R l × ((h : Held) → Within W R F (more h))
+Within W R F (Loads l more) = R l × ((h : Held) → Within W R F (more h))
 Within W R F (Puts l h more) = W l × Within W R F more
 
 pub within_then : {A B : Type 0} (W R : Loc → Type 0) (F : A → Own → Type 0) (G : B → Own → Type 0) (x : Asking Loc Held (Came A)) (g : A → Work B) (w : Who) → Within W R F x → ((a : A) (o : Own) → F a o → Within W R G (g a w o)) → Within W R G (and_then x (λ r. go_on g w r))
@@ -38,7 +38,7 @@ within_then W R F G (Done (Got a o)) g w h k = k a o h
 within_then W R F G (Done (Bad f)) g w h k = tt
 within_then W R F G (Done Lost) g w h k = tt
 within_then W R F G (Done Long) g w h k = tt
-within_then W R F G (Reads l more) g w h k = (h.0, λ v. within_then W R F G (more v) g w (h.1 v) k)
+within_then W R F G (Loads l more) g w h k = (h.0, λ v. within_then W R F G (more v) g w (h.1 v) k)
 within_then W R F G (Puts l v more) g w h k = (h.0, within_then W R F G more g w h.1 k)
 
 -- what stands in a part is sound where the whole is
@@ -129,7 +129,7 @@ module _ (q : Name) (W R : Loc → Type 0) (fs : List Frame) where
 
   work_stays : (x : Worked) → Stays (work_of x)
   work_stays (Yields n) = give_stays _
-  work_stays (Refuses f) = fail_stays _ f
+  work_stays (Faults f) = fail_stays _ f
 
   pub ordinal_stays : (v : Value) → Stays (ordinal v)
   ordinal_stays Undefined = lost_stays _
@@ -277,37 +277,37 @@ module _ (q : Name) (W R : Loc → Type 0) (fs : List Frame) where
         go (Some i) = record { by = λ w o n e. (place_by_keeps x i i.role).by w o n e }
 
     module _ (free : IsFreeOfInterference set.program) (writes_read : (l : Loc) → W l → R l) where
-      abbrev Does : (Use → Type 0) → Type 0
-      Does Here = Sound set.program W R fs Here
+      abbrev IsSound : (Use → Type 0) → Type 0
+      IsSound Here = Sound set.program W R fs Here
 
       -- calls keep within what their call may do
       pub record CallsKeep (call : Calls) : Type 0 where
-        pub by : (f : ℕ) (args : Actuals) (gs : List Given) → Does (In_call f args) → Gave set.program fs args gs → Stays (call f gs)
+        pub by : (f : ℕ) (args : Actuals) (gs : List Given) → IsSound (In_call f args) → Gave set.program fs args gs → Stays (call f gs)
 
       at_console : (x : ℕ) → (i : Variable) × (slice_get set.program.variables x ≡ Some i) × (i.role ≡ role.Console) → stands set.program fs x ≡ Some (console x)
       at_console x c = ap (stands_at fs x) c.1 ∙ ap (stands_by fs x c.0) c.2
 
-      pub input_read : {Here : Use → Type 0} → Does Here → Here (Sees 0) → R Input
-      input_read s a = s.allowed [] (Sees 0) a 0 Input (refl, at_console 0 free.input)
+      pub input_read : {Here : Use → Type 0} → IsSound Here → Here (Seen 0) → R Input
+      input_read s a = s.allowed [] (Seen 0) a 0 Input (refl, at_console 0 free.input)
 
-      pub input_written : {Here : Use → Type 0} → Does Here → Here (Aims 0) → W Input
-      input_written s a = s.allowed [] (Aims 0) a 0 Input (refl, at_console 0 free.input)
+      pub input_written : {Here : Use → Type 0} → IsSound Here → Here (Target 0) → W Input
+      input_written s a = s.allowed [] (Target 0) a 0 Input (refl, at_console 0 free.input)
 
-      pub output_written : {Here : Use → Type 0} → Does Here → Here (Aims 1) → W Output
-      output_written s a = s.allowed [] (Aims 1) a 1 Output (refl, at_console 1 free.output)
+      pub output_written : {Here : Use → Type 0} → IsSound Here → Here (Target 1) → W Output
+      output_written s a = s.allowed [] (Target 1) a 1 Output (refl, at_console 1 free.output)
 
       pub left_stays : R Input → Stays (left_of set)
       left_stays r = then_stays (look Input) _ (look_stays Input r) (λ h. give_stays _)
 
-      may_read : {Here : Use → Type 0} → Does Here → (x : ℕ) → Here (Sees x) → (z : Place) → Of (stands set.program fs x) z → MayRead z
-      may_read s x a (At z) e = s.allowed [] (Sees x) a x z.spot (refl, e)
+      may_read : {Here : Use → Type 0} → IsSound Here → (x : ℕ) → Here (Seen x) → (z : Place) → Of (stands set.program fs x) z → MayRead z
+      may_read s x a (At z) e = s.allowed [] (Seen x) a x z.spot (refl, e)
       may_read s x a (Fixed n) e = tt
 
       mutual
-        pub value_stays : (call : Calls) → CallsKeep call → (e : Expr) → Does (In_expr e) → Stays (value set call e)
+        pub value_stays : (call : Calls) → CallsKeep call → (e : Expr) → IsSound (In_expr e) → Stays (value set call e)
         value_stays call ok (Typed k form) s = form_stays call ok k form s
 
-        form_stays : (call : Calls) → CallsKeep call → (k : ℕ) (e : ExprForm) → Does (In_form e) → Stays (form_value set call k e)
+        form_stays : (call : Calls) → CallsKeep call → (k : ℕ) (e : ExprForm) → IsSound (In_form e) → Stays (form_value set call k e)
         form_stays call ok k (Number n) s = give_stays _
         form_stays call ok k (Read (Entire x ss)) s = then_keeps (place set call (Entire x ss)) _ (place_keeps call ok (Entire x ss) (part (λ u. inr) s)) (λ z e. read_stays z (may_read s x (inl refl) z e))
         form_stays call ok k (Unary op a) s = then_stays (as_ordinal (value set call a)) _ (as_ordinal_stays _ (value_stays call ok a s)) (λ n. work_stays _)
@@ -317,16 +317,16 @@ module _ (q : Name) (W R : Loc → Type 0) (fs : List Frame) where
             then_stays (as_ordinal (value set call a)) _ (as_ordinal_stays _ (value_stays call ok a s)) (λ n. then_stays (kind_at set k) _ (kind_stays k) (λ u. standard_stays f u n))
         form_stays call ok k (AtInput f) s = then_stays (left_of set) _ (left_stays (input_read s refl)) (λ bs. input_stays f bs)
 
-        pub place_keeps : (call : Calls) → CallsKeep call → (v : Var) → Does (In_selectors (selectors_of v)) → Keeps q W R fs (Of (stands set.program fs (variable_of v))) (place set call v)
+        pub place_keeps : (call : Calls) → CallsKeep call → (v : Var) → IsSound (In_selectors (selectors_of v)) → Keeps q W R fs (Of (stands set.program fs (variable_of v))) (place set call v)
         place_keeps call ok (Entire x ss) s = then_keeps (place_of set x) _ (place_of_keeps x) (λ z e. selected_keeps call ok (stands set.program fs x) ss z e s)
 
-        selected_keeps : (call : Calls) → CallsKeep call → (x : Option Loc) (ss : Selectors) (z : Place) → Of x z → Does (In_selectors ss) → Keeps q W R fs (Of x) (selected set call ss z)
+        selected_keeps : (call : Calls) → CallsKeep call → (x : Option Loc) (ss : Selectors) (z : Place) → Of x z → IsSound (In_selectors ss) → Keeps q W R fs (Of x) (selected set call ss z)
         selected_keeps call ok x Whole z e s = give_keeps z e
         selected_keeps call ok x (Select (Index i) rest) z e s =
             then_stays (as_ordinal (value set call i)) _ (as_ordinal_stays _ (value_stays call ok i (part (λ u. inl) s))) (λ n. then_keeps (indexed set z n) _ (indexed_keeps x z n e) (λ r d. selected_keeps call ok x rest r d (part (λ u. inr) s)))
         selected_keeps call ok x (Select (Field f) rest) z e s = then_keeps (fielded set f z) _ (fielded_keeps x f z e) (λ r d. selected_keeps call ok x rest r d s)
 
-        pub actuals_keeps : (call : Calls) → CallsKeep call → (args : Actuals) → Does (In_actuals args) → Keeps q W R fs (Gave set.program fs args) (actuals set call args)
+        pub actuals_keeps : (call : Calls) → CallsKeep call → (args : Actuals) → IsSound (In_actuals args) → Keeps q W R fs (Gave set.program fs args) (actuals set call args)
         actuals_keeps call ok Nothing s = give_keeps _ tt
         actuals_keeps call ok (Pass (ByValue e) rest) s = then_stays (value set call e) _ (value_stays call ok e (part (λ u. inl) s)) (λ v. then_keeps (actuals set call rest) _ (actuals_keeps call ok rest (part (λ u. inr) s)) (λ gs g. give_keeps _ g))
         actuals_keeps call ok (Pass (ByReference (Entire x ss)) rest) s =
@@ -336,12 +336,12 @@ module _ (q : Name) (W R : Loc → Type 0) (fs : List Frame) where
       abbrev pub Writable : Address → Type 0
       Writable a = W a.spot
 
-      pub address_keeps : (call : Calls) → CallsKeep call → (v : Var) → Does (In_target v) → Keeps q W R fs Writable (address set call v)
+      pub address_keeps : (call : Calls) → CallsKeep call → (v : Var) → IsSound (In_target v) → Keeps q W R fs Writable (address set call v)
       address_keeps call ok (Entire x ss) s = then_keeps (place set call (Entire x ss)) _ (place_keeps call ok (Entire x ss) (part (λ u. inr) s)) go
         where
           go : (z : Place) → Of (stands set.program fs x) z → Keeps q W R fs Writable (address_of set z)
-          go (At a) e = give_keeps a (s.allowed [] (Aims x) (inl refl) x a.spot (refl, e))
+          go (At a) e = give_keeps a (s.allowed [] (Target x) (inl refl) x a.spot (refl, e))
           go (Fixed n) e = lost_keeps
 
-      pub ordinal_of_stays : (call : Calls) → CallsKeep call → (e : Expr) → Does (In_expr e) → Stays (ordinal_of set call e)
+      pub ordinal_of_stays : (call : Calls) → CallsKeep call → (e : Expr) → IsSound (In_expr e) → Stays (ordinal_of set call e)
       ordinal_of_stays call ok e s = as_ordinal_stays _ (value_stays call ok e s)

@@ -4,7 +4,8 @@ use Rattle.std.specs.Prelude.{◌≡◌, ℕ, zero, suc, ◌+◌, Bool, true, fa
 use Rattle.sp_meaning.specs.Model.{Name, Condition, Absent, Works, Waits, Joins, Ended, same_name}
 use Rattle.sp_meaning.specs.Own.{Setting, Held, Address, Process}
 use Rattle.sp_meaning.specs.SuperPascal.{beats}
-use Rattle.sp_meaning.specs.Entries.{Happening, Opened, Split, Offered, Finished, Failed, LaidDown, Paused, Occurrence, is_fault}
+use Rattle.sp_meaning.specs.Entries.{Happening, Opened, Forked, Offered, Faulted, Laid, Paused, Occurrence, is_fault}
+use Rattle.sp_journal.specs.Names as happenings
 use Rattle.sp_meaning.specs.Runs.{StateOf, start, running, next, says}
 
 -- the first where the test holds, and else the second
@@ -68,13 +69,13 @@ module _ (g : Setting) where
 
   -- what the entry's process does after its local steps, which led to m, and what is then left. Laid comes only after a fault
   abbrev pub Entered : (Course → StateOf g → ℕ → Type 0) → Course → StateOf g → Bool → Name → Happening → ℕ → Type 0
-  Entered left c m paused q LaidDown n = (c.faulted ≡ true) × left (stopped q c) m n
+  Entered left c m paused q Laid n = (c.faulted ≡ true) × left (stopped q c) m n
   Entered left c m paused q Paused n = (c.faulted ≡ false) × (paused ≡ true) × left (noted q (ticks_of m q) c) m n
-  Entered left c m paused q (Split count) n = Kernel left c m paused q (Split count) n
+  Entered left c m paused q (Forked count) n = Kernel left c m paused q (Forked count) n
   Entered left c m paused q Opened n = Kernel left c m paused q Opened n
   Entered left c m paused q (Offered w ch) n = Kernel left c m paused q (Offered w ch) n
-  Entered left c m paused q Finished n = Kernel left c m paused q Finished n
-  Entered left c m paused q (Failed f) n = Kernel left c m paused q (Failed f) n
+  Entered left c m paused q happenings.Ended n = Kernel left c m paused q happenings.Ended n
+  Entered left c m paused q (Faulted f) n = Kernel left c m paused q (Faulted f) n
 
   -- the entries in order lead from s to t by n steps in all, where a process pauses after so many ticks
   abbrev pub Along : ℕ → Course → StateOf g → List Occurrence → ℕ → StateOf g → Type 0
@@ -89,12 +90,12 @@ module _ (g : Setting) where
 
 -- no entry is Fault or Laid
 abbrev pub IsCleanly : Happening → Type 0
-IsCleanly (Split n) = Unit
+IsCleanly (Forked n) = Unit
 IsCleanly Opened = Unit
 IsCleanly (Offered w c) = Unit
-IsCleanly Finished = Unit
-IsCleanly (Failed f) = ⊥
-IsCleanly LaidDown = ⊥
+IsCleanly happenings.Ended = Unit
+IsCleanly (Faulted f) = ⊥
+IsCleanly Laid = ⊥
 IsCleanly Paused = Unit
 
 -- no process faults or is laid

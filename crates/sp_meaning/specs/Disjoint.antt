@@ -1,7 +1,7 @@
 -- Disjoint programs: in no schedule does a process write what a parallel one uses. The promise of a program without
 -- interference is said by it, in the words of the model and of no rule.
 use Rattle.std.specs.Prelude.{◌≡◌, ◌≢◌, ◌⊎◌, ℕ, List, [], ◌∷◌, ◌++◌, Some}
-use Rattle.sp_meaning.specs.Model.{Name, Totals, Language, Act, Moves, Opens, Forks, Offering, Ends, Fails, Cargo, Gives, Takes, Waits, State}
+use Rattle.sp_meaning.specs.Model.{Name, Totals, Language, Act, Moves, Opens, Forks, Offering, Ends, Fails, Cargo, Message, Takes, Waits, State}
 use Rattle.sp_meaning.specs.Steps.{ActOf, OfferOf, working, message, step, processes}
 use Rattle.sp_meaning.specs.Schedules.{Leads}
 
@@ -33,7 +33,7 @@ Assigns (Fails f) l = ⊥
 
 -- who receives, of p that offers this and of z that waits
 abbrev pub receiver : {V T : Type 0} → Cargo V T → Name → Name → Name
-receiver (Gives v) p z = z
+receiver (Message v) p z = z
 receiver (Takes t) p z = p
 
 -- the step of this offer puts a message there

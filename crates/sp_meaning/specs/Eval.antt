@@ -14,7 +14,7 @@ use Rattle.sp_tree.specs.Plain.{Expr, Typed, ExprForm, Number, Read, Unary, Bina
 use Rattle.sp_meaning.specs.Model.{Channel, same_channel}
 use Rattle.sp_meaning.specs.Values.{Value, Undefined, Ordinal, Chan, Parts}
 use Rattle.sp_meaning.specs.Own.{Cell, Input, Address, Home, OfBlock, OfIndex, Frame, Setting, Work, bind, give, fail, lost, look, fetch, or_lost, position_in, visible, is_block, is_index, referred}
-use Rattle.sp_meaning.specs.Operators.{Worked, Yields, Refuses, truth, ranged, successor, predecessor, absolute, square, is_odd, unary_op, binary_op, least, greatest}
+use Rattle.sp_meaning.specs.Operators.{Worked, Yields, Faults, truth, ranged, successor, predecessor, absolute, square, is_odd, unary_op, binary_op, least, greatest}
 use Rattle.sp_meaning.specs.Texts.{at_line_end}
 
 -- where a variable stands: an address, or a forall's index with its value
@@ -34,7 +34,7 @@ Calls = ℕ → List Given → Work Value
 -- what an operator gives
 abbrev pub work_of : Worked → Work Value
 work_of (Yields n) = give (Ordinal n)
-work_of (Refuses f) = fail f
+work_of (Faults f) = fail f
 
 -- the ordinal that an evaluated expression is
 abbrev pub ordinal : Value → Work ℤ

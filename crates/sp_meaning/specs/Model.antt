@@ -8,7 +8,7 @@ pub use Rattle.sp_journal.specs.Names.{Name, Channel, same_name, same_channel}
 
 -- what a waiting process offers: a value, or a place for one
 pub data Cargo (Value Target : Type 0) : Type 0 where
-  Gives : (value : Value) → Cargo Value Target
+  Message : (value : Value) → Cargo Value Target
   Takes : (target : Target) → Cargo Value Target
 
 -- an offer on a channel, of a message type; next is how its process goes on once the message went over

@@ -7,7 +7,7 @@ use Rattle.sp_base.specs.declared.limits.Limits.{Limits}
 use Rattle.sp_tree.specs.Plain.{Expr, Stmt, Program}
 pub use Rattle.sp_tree.specs.Around.{referred}
 use Rattle.sp_meaning.specs.Model.{Name, same_name}
-use Rattle.sp_meaning.specs.Asking.{Asking, Done, Reads, Puts, and_then}
+use Rattle.sp_meaning.specs.Asking.{Asking, Done, Loads, Puts, and_then}
 use Rattle.sp_meaning.specs.Values.{Value, Undefined, get_at, set_at}
 
 -- what a run is of: a program, its input and its limits
@@ -128,7 +128,7 @@ become o1 w o = Done (Got tt o1)
 
 -- a location is read
 abbrev pub look : Loc → Work Held
-look l w o = Reads l (λ h. Done (Got h o))
+look l w o = Loads l (λ h. Done (Got h o))
 
 -- a location is written
 abbrev pub put : Loc → Held → Work (Unit {0})

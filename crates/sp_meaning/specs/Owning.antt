@@ -4,11 +4,11 @@ use Rattle.std.specs.Prelude.{◌≡◌, ◌≢◌, ℕ, zero, suc, ◌<◌, ◌
 use Rattle.sp_tree.specs.declared.checked.Role.{Role}
 use Rattle.sp_tree.specs.declared.checked.Role.TheVariants as role
 use Rattle.sp_tree.specs.Plain.{Program, Variable, Entire, ByValue, ByReference, Actuals, Nothing, Pass, Stmt, Repeat}
-use Rattle.sp_meaning.specs.Model.{Cargo, Gives, Takes}
+use Rattle.sp_meaning.specs.Model.{Cargo, Message, Takes}
 use Rattle.sp_meaning.specs.Own.{Held, Loc, Cell, Input, Output, Address, Home, OfBlock, OfIndex, Frame, Item, Do, First, Again, Test, Leave, Break, is_block, referred}
-use Rattle.sp_meaning.specs.Deeds.{Birth, Deed, Went, Beat, Opened, Forked, Offered, Over, push}
+use Rattle.sp_meaning.specs.Deeds.{Birth, Deed, Stepped, Ticked, Opened, Forked, Offered, Ended, push}
 use Rattle.sp_meaning.specs.Eval.{Given, ValueOf, PlaceOf}
-use Rattle.sp_tree.specs.Uses.{Use, Aims, Sees, Runs, Splits, Spreads, Stops, In_stmt, In_loop}
+use Rattle.sp_tree.specs.Uses.{Use, Target, Seen, CallOf, ParallelOf, ForallOf, Stop, In_stmt, In_loop}
 use Rattle.sp_tree.specs.Sets.{IsTarget, IsUsed, Reach}
 use Rattle.sp_tree.specs.Interference.{KeepsRules}
 
@@ -91,12 +91,12 @@ module _ (p : Program) where
 
   -- this use is of variable x, which stands for l
   abbrev pub Touches : List Frame → Use → ℕ → Loc → Type 0
-  Touches fs (Aims y) x l = (y ≡ x) × (stands fs x ≡ Some l)
-  Touches fs (Sees y) x l = (y ≡ x) × (stands fs x ≡ Some l)
-  Touches fs (Runs f args) x l = ⊥
-  Touches fs (Splits ss) x l = ⊥
-  Touches fs (Spreads y s) x l = ⊥
-  Touches fs Stops x l = ⊥
+  Touches fs (Target y) x l = (y ≡ x) × (stands fs x ≡ Some l)
+  Touches fs (Seen y) x l = (y ≡ x) × (stands fs x ≡ Some l)
+  Touches fs (CallOf f args) x l = ⊥
+  Touches fs (ParallelOf ss) x l = ⊥
+  Touches fs (ForallOf y s) x l = ⊥
+  Touches fs Stop x l = ⊥
 
   -- the evaluated arguments are those of a call in these frames
   abbrev pub Gave : List Frame → Actuals → List Given → Type 0
@@ -127,12 +127,12 @@ module _ (p : Program) where
   module _ (W R : Loc → Type 0) where
     -- a use of what the process holds
     abbrev pub Right : Use → Loc → Type 0
-    Right (Aims x) l = W l
-    Right (Sees x) l = R l
-    Right (Runs f args) l = Unit
-    Right (Splits ss) l = Unit
-    Right (Spreads x s) l = Unit
-    Right Stops l = Unit
+    Right (Target x) l = W l
+    Right (Seen x) l = R l
+    Right (CallOf f args) l = Unit
+    Right (ParallelOf ss) l = Unit
+    Right (ForallOf x s) l = Unit
+    Right Stop l = Unit
 
     -- what stands there may be done in these frames: the locations are the process's to write or read, no two variables are one location, and the rules are kept
     pub record Sound (fs : List Frame) (Here : Use → Type 0) : Type 0 where
@@ -165,14 +165,14 @@ module _ (p : Program) where
 
     -- a target that the process may write
     abbrev pub MayTake : Cargo Held Address → Type 0
-    MayTake (Gives v) = Unit
+    MayTake (Message v) = Unit
     MayTake (Takes a) = W a.spot
 
     -- what a step of such a process comes to
     abbrev pub Fair : List Frame → Deed → List Frame → Type 0
-    Fair z (Went todo) fs = Fit z fs todo
-    Fair z (Beat todo) fs = Fit z fs todo
+    Fair z (Stepped todo) fs = Fit z fs todo
+    Fair z (Ticked todo) fs = Fit z fs todo
     Fair z (Opened todo) fs = Fit z fs todo
     Fair z (Forked bs todo) fs = (ss : List Stmt) × Born fs ss bs × Fit z fs todo
     Fair z (Offered c k g todo) fs = MayTake g × Fit z fs todo
-    Fair z Over fs = Unit
+    Fair z Ended fs = Unit

@@ -2,12 +2,12 @@
 -- contracts on meaning begin here: the model and the language put together, for a setting.
 use Rattle.std.specs.Prelude.{ℕ, List, length, Option, Some, None}
 use Rattle.sp_meaning.specs.Model.{Name, Totals, Language, Moves, Opens, Forks, Offering, Ends, Fails, State}
-use Rattle.sp_meaning.specs.Steps.{working, way_of, ActOf, outcome, Outcome, Does, Faulty, step, processes, opening}
+use Rattle.sp_meaning.specs.Steps.{working, way_of, ActOf, outcome, Outcome, Advances, Faulty, step, processes, opening}
 use Rattle.sp_meaning.specs.Schedules.{System, Leads}
 use Rattle.sp_meaning.specs.Disjoint.{IsDisjoint}
 use Rattle.sp_meaning.specs.Own.{Setting, Output, Process, bytes_in}
 use Rattle.sp_meaning.specs.SuperPascal.{superpascal, root, first_store}
-use Rattle.sp_meaning.specs.Entries.{Happening, Opened, Split, Offered, Finished, Failed}
+use Rattle.sp_meaning.specs.Entries.{Happening, Opened, Forked, Offered, Ended, Faulted}
 
 -- the limits of the totals
 abbrev pub most : Setting → Totals
@@ -39,13 +39,13 @@ Lawful g s qs t = Leads (system_of g) s qs t
 
 -- what the entry of a step says, or none where the step is local
 abbrev pub said_of : {L : Language} → ActOf L → Outcome L → Option Happening
-said_of a (Faulty f) = Some (Failed f)
-said_of (Moves next ws) (Does cs) = None
-said_of (Opens next ws) (Does cs) = Some Opened
-said_of (Forks next os) (Does cs) = Some (Split (length os))
-said_of (Offering o) (Does cs) = Some (Offered (way_of o.cargo) o.channel)
-said_of Ends (Does cs) = Some Finished
-said_of (Fails f) (Does cs) = None
+said_of a (Faulty f) = Some (Faulted f)
+said_of (Moves next ws) (Advances cs) = None
+said_of (Opens next ws) (Advances cs) = Some Opened
+said_of (Forks next os) (Advances cs) = Some (Forked (length os))
+said_of (Offering o) (Advances cs) = Some (Offered (way_of o.cargo) o.channel)
+said_of Ends (Advances cs) = Some Ended
+said_of (Fails f) (Advances cs) = None
 
 abbrev pub says : (g : Setting) → StateOf g → Name → Process → Option Happening
 says g s q own = said_of ((superpascal g).next own s.store) (outcome (most g) s q ((superpascal g).next own s.store))

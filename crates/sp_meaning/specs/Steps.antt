@@ -6,7 +6,7 @@ use Rattle.sp_base.specs.declared.fault.Fault.TheVariants as fault
 use Rattle.sp_journal.specs.declared.entry.Way.{Way}
 use Rattle.sp_journal.specs.declared.entry.Way.TheVariants as way
 use Rattle.sp_meaning.specs.Maps.{IsTest}
-use Rattle.sp_meaning.specs.Model.{Name, Channel, Totals, Language, Act, Moves, Opens, Forks, Offering, Ends, Fails, Cargo, Gives, Takes, Offer, Condition, Absent, Works, Waits, Joins, Ended, State, Change, Becomes, Forked, Writes, Pends, Adds, Faults, changed, after}
+use Rattle.sp_meaning.specs.Model.{Name, Channel, Totals, Language, Act, Moves, Opens, Forks, Offering, Ends, Fails, Cargo, Message, Takes, Offer, Condition, Absent, Works, Waits, Joins, Ended, State, Change, Becomes, Forked, Writes, Pends, Adds, Faults, changed, after}
 use Rattle.sp_meaning.specs.Schedules.{System}
 
 abbrev pub ActOf : Language → Type 0
@@ -46,7 +46,7 @@ working s p = working_in s.condition p (s.condition p)
 
 -- what a step comes to: changes, or a fault
 pub data Outcome (L : Language) : Type 0 where
-  Does : (changes : List (Change L)) → Outcome L
+  Advances : (changes : List (Change L)) → Outcome L
   Faulty : (fault : Fault) → Outcome L
 
 -- writes, as changes
@@ -62,14 +62,14 @@ births p k i (o ∷ os) = Becomes ((k, i) ∷ p) (Works o) ∷ births p k (suc i
 -- offers
 
 abbrev pub way_of : {V T : Type 0} → Cargo V T → Way
-way_of (Gives v) = way.Send
+way_of (Message v) = way.Send
 way_of (Takes t) = way.Receive
 
 -- what goes over, and to where; nothing where both offers have one way
 abbrev pub message : {V T : Type 0} → Cargo V T → Cargo V T → Option (T × V)
-message (Gives v) (Takes t) = Some (t, v)
-message (Takes t) (Gives v) = Some (t, v)
-message (Gives v) (Gives w) = None
+message (Message v) (Takes t) = Some (t, v)
+message (Takes t) (Message v) = Some (t, v)
+message (Message v) (Message w) = None
 message (Takes t) (Takes u) = None
 
 -- the cost of an entry
@@ -88,7 +88,7 @@ waiting s p o = Becomes p (Waits o) ∷ Pends o.channel (Some p) ∷ Adds an_ent
 -- F6 where both have one way, F7 where the message types differ
 abbrev pub hands : {L : Language} → State L → Name → OfferOf L → Name → OfferOf L → Option (L.Target × L.Value) → Outcome L
 hands s p o z w None = Faulty fault.F6
-hands s p o z w (Some m) = if o.kind == w.kind then Does (meeting s p o z w m) else Faulty fault.F7
+hands s p o z w (Some m) = if o.kind == w.kind then Advances (meeting s p o z w m) else Faulty fault.F7
 
 -- z's offer is pending. No case but the third comes up
 abbrev pub meets : {L : Language} → State L → Name → OfferOf L → Name → ConditionOf L → Outcome L
@@ -100,16 +100,16 @@ meets s p o z Ended = Faulty fault.F6
 
 -- the offer waits, or it meets the one that is pending
 abbrev pub offered : {L : Language} → State L → Name → OfferOf L → Option Name → Outcome L
-offered s p o None = Does (waiting s p o)
+offered s p o None = Advances (waiting s p o)
 offered s p o (Some z) = meets s p o z (s.condition z)
 
 -- what p's act does to the state
 abbrev pub acts : {L : Language} → State L → Name → ActOf L → Outcome L
-acts s p (Moves o ws) = Does (Becomes p (Works o) ∷ puts ws)
-acts s p (Opens o ws) = Does (Becomes p (Works o) ∷ Adds (record { processes = 0; channels = 1; entries = 1 }) ∷ puts ws)
-acts s p (Forks o os) = Does (Becomes p (Joins (s.forks p) (length os) o) ∷ Forked p ∷ Adds (record { processes = length os; channels = 0; entries = 1 }) ∷ births p (s.forks p) 0 os)
+acts s p (Moves o ws) = Advances (Becomes p (Works o) ∷ puts ws)
+acts s p (Opens o ws) = Advances (Becomes p (Works o) ∷ Adds (record { processes = 0; channels = 1; entries = 1 }) ∷ puts ws)
+acts s p (Forks o os) = Advances (Becomes p (Joins (s.forks p) (length os) o) ∷ Forked p ∷ Adds (record { processes = length os; channels = 0; entries = 1 }) ∷ births p (s.forks p) 0 os)
 acts s p (Offering o) = offered s p o (s.pending o.channel)
-acts s p Ends = Does (Becomes p Ended ∷ [])
+acts s p Ends = Advances (Becomes p Ended ∷ [])
 acts s p (Fails f) = Faulty f
 
 -- what counts against the totals
@@ -144,7 +144,7 @@ outcome limits s p a = unless (passed limits s.totals (cost a)) (acts s p a)
 
 -- a fault is set, and nothing else changes
 abbrev pub result_of : {L : Language} → State L → Name → Outcome L → State L
-result_of s p (Does cs) = after cs s
+result_of s p (Advances cs) = after cs s
 result_of s p (Faulty f) = changed (Faults p f) s
 
 abbrev pub step_with : {L : Language} → Totals → State L → Name → Option L.Own → Option (State L)

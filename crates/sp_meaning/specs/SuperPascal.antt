@@ -9,7 +9,7 @@ use Rattle.sp_meaning.specs.Trees.{of_trees}
 use Rattle.sp_tree.specs.Cells.{first_or, variables_of}
 use Rattle.sp_meaning.specs.Values.{Value, Undefined, initials}
 use Rattle.sp_meaning.specs.Own.{Setting, Loc, Cell, Input, Output, Held, Tree, Position, Written, Address, assigned, same_loc, OfBlock, Own, Who, Item, Break, Process, Came, Got, Bad, Lost, Long}
-use Rattle.sp_meaning.specs.Deeds.{Deed, Went, Beat, Opened, Forked, Offered, Over, push, newborns, deed, size_of_frame, begins}
+use Rattle.sp_meaning.specs.Deeds.{Deed, Stepped, Ticked, Opened, Forked, Offered, Ended, push, newborns, deed, size_of_frame, begins}
 
 -- How many steps stand between two ticks, at most: a bound for what a step evaluates
 
@@ -64,24 +64,24 @@ with_todo todo w o = record { todo = todo; who = w; own = o }
 -- so that a step is a function both stand under F8, a false assumption
 -- The writes of a step that forks, offers or ends are left out: they are of frames that calls made and that are gone (proofs/QuietDeeds)
 abbrev pub act_of : Who → Came Deed → List (Loc × Held) → Act Process Loc Held Address
-act_of w (Got (Went todo) o) ws = Moves (with_todo todo w o) ws
-act_of w (Got (Beat todo) o) ws = Moves (with_todo todo w o) ws
+act_of w (Got (Stepped todo) o) ws = Moves (with_todo todo w o) ws
+act_of w (Got (Ticked todo) o) ws = Moves (with_todo todo w o) ws
 act_of w (Got (Opened todo) o) ws = Opens (with_todo todo (record w { opens = w.opens + 1 }) o) ws
 act_of w (Got (Forked os todo) o) ws = Forks (with_todo todo (record w { forks = w.forks + 1 }) o) (newborns w o 0 os)
 act_of w (Got (Offered c k cargo todo) o) ws = Offering (record { channel = c; kind = k; cargo = cargo; next = with_todo todo w o })
-act_of w (Got Over o) ws = Ends
+act_of w (Got Ended o) ws = Ends
 act_of w (Bad f) ws = Fails f
 act_of w Lost ws = Fails fault.F8
 act_of w Long ws = Fails fault.F8
 
 -- the deed is a tick of its own
 abbrev pub is_beat : Came Deed → Bool
-is_beat (Got (Went todo) o) = false
-is_beat (Got (Beat todo) o) = true
+is_beat (Got (Stepped todo) o) = false
+is_beat (Got (Ticked todo) o) = true
 is_beat (Got (Opened todo) o) = false
 is_beat (Got (Forked os todo) o) = false
 is_beat (Got (Offered c k cargo todo) o) = false
-is_beat (Got Over o) = false
+is_beat (Got Ended o) = false
 is_beat (Bad f) = false
 is_beat Lost = false
 is_beat Long = false

@@ -1,7 +1,7 @@
 -- What a process knows is closed under earlier entries, entry by entry.
 use Rattle.std.proofs.Common.{◌≡◌, ◌≢◌, ◌⊎◌, ⊎_elim, inl, inr, ℕ, zero, suc, ◌<◌, ◌≤◌, Bool, true, false, cond, ◌||◌, ◌==◌, List, [], ◌∷◌, ◌++◌, length, length-append, append_assoc, append-nil, Option, Some, None, slice_get, refl, sym, ap, ◌∙◌, subst, arith, eqb-true, eq-eqb}
 use Rattle.sp_journal.specs.Maps.{at_key}
-use Rattle.sp_journal.specs.Names.{Name, Channel, same_name, same_channel, Happening, Opened, Split, Offered, Finished, Failed, LaidDown, Paused, Occurrence}
+use Rattle.sp_journal.specs.Names.{Name, Channel, same_name, same_channel, Happening, Opened, Forked, Offered, Ended, Faulted, Laid, Paused, Occurrence}
 use Rattle.sp_journal.specs.Past.{Judged, learn, teach, report, now, met_now, judged_by, judged_from, nothing_judged}
 use Rattle.sp_past.specs.Prefixes.{is_counted, Counts, WaitsForNone, QuietFrom, IsQuiet, KnowsPrefixes, KnowsCounted}
 use Rattle.sp_past.proofs.Keys.{name_itself, name_is, channel_is, channel_itself}
@@ -338,19 +338,19 @@ own_index j es e kept quiet counted q = by (same_name e.who q) (name_is e.who q)
 
 pub one_entry : (j : Judged) (es : List Occurrence) (p : Name) (h : Happening) → Kept j es → WaitsForNone j p → Kept (judged_by j (length es) p h) (es ++ record { who = p; what = h } ∷ [])
 one_entry j es p Opened k w = grown j es (record { who = p; what = Opened }) k w refl (judged_by j (length es) p Opened) refl (own_index j es (record { who = p; what = Opened }) k w refl) (λ q i h. learn_more p (λ i. length es == i) j.past q i h) (learn_here p (λ i. length es == i) j.past (length es) (eq-eqb (length es) (length es) refl))
-one_entry j es p (Split c) k w =
-    let e : Occurrence = record { who = p; what = Split c } in
+one_entry j es p (Forked c) k w =
+    let e : Occurrence = record { who = p; what = Forked c } in
     let m : List Occurrence = es ++ e ∷ [] in
     let mid : Name → ℕ → Bool = learn p (λ i. length es == i) j.past in
-    grown j es e k w refl (judged_by j (length es) p (Split c)) refl
+    grown j es e k w refl (judged_by j (length es) p (Forked c)) refl
     (teach_all (IsFine m) (union_fine m) (now j p (length es)) (mine j es e k w refl) p (j.forks p) 0 c mid (own_index j es e k w refl))
     (λ q i h. teach_more p (j.forks p) (now j p (length es)) 0 c mid q i (learn_more p (λ i. length es == i) j.past q i h))
     (teach_more p (j.forks p) (now j p (length es)) 0 c mid p (length es) (learn_here p (λ i. length es == i) j.past (length es) (eq-eqb (length es) (length es) refl)))
-one_entry j es p Finished k w =
-    let e : Occurrence = record { who = p; what = Finished } in
+one_entry j es p Ended k w =
+    let e : Occurrence = record { who = p; what = Ended } in
     let m : List Occurrence = es ++ e ∷ [] in
     let mid : Name → ℕ → Bool = learn p (λ i. length es == i) j.past in
-    grown j es e k w refl (judged_by j (length es) p Finished) refl
+    grown j es e k w refl (judged_by j (length es) p Ended) refl
     (report_all (IsFine m) (union_fine m) (now j p (length es)) (mine j es e k w refl) p mid (own_index j es e k w refl))
     (λ q i h. report_more p (now j p (length es)) mid q i (learn_more p (λ i. length es == i) j.past q i h))
     (report_more p (now j p (length es)) mid p (length es) (learn_here p (λ i. length es == i) j.past (length es) (eq-eqb (length es) (length es) refl)))
@@ -359,8 +359,8 @@ one_entry j es p (Offered v c) k w = by (j.pending c) refl
     by : (o : Option (Name × ℕ)) → j.pending c ≡ o → Kept (met_now j p (length es) c o) (es ++ record { who = p; what = Offered v c } ∷ [])
     by None f = offer_waits j es (record { who = p; what = Offered v c }) k w refl c f
     by (Some o) f = offer_meets j es (record { who = p; what = Offered v c }) k w refl c o f
-one_entry j es p (Failed f) k w = uncounted j es (record { who = p; what = Failed f }) k w refl
-one_entry j es p LaidDown k w = uncounted j es (record { who = p; what = LaidDown }) k w refl
+one_entry j es p (Faulted f) k w = uncounted j es (record { who = p; what = Faulted f }) k w refl
+one_entry j es p Laid k w = uncounted j es (record { who = p; what = Laid }) k w refl
 one_entry j es p Paused k w = uncounted j es (record { who = p; what = Paused }) k w refl
 
 along : (j : Judged) (done es : List Occurrence) → Kept j done → QuietFrom j (length done) es → Kept (judged_from j (length done) es) (done ++ es)

@@ -1,17 +1,17 @@
 -- What a process knows of another, as a prefix of that one's entries. The law of this crate promises it; so a past is
 -- a count for each process, and the judge keeps counts in place of sets.
 use Rattle.std.specs.Prelude.{◌≡◌, ℕ, suc, ◌≤◌, Bool, true, false, List, [], ◌∷◌, Some, slice_get}
-use Rattle.sp_journal.specs.Names.{Name, Channel, Happening, Opened, Split, Offered, Finished, Failed, LaidDown, Paused, Occurrence}
+use Rattle.sp_journal.specs.Names.{Name, Channel, Happening, Opened, Forked, Offered, Ended, Faulted, Laid, Paused, Occurrence}
 use Rattle.sp_journal.specs.Past.{Judged, judged, judged_by, nothing_judged}
 
 -- fork, open, send, receive and end are counted
 abbrev pub is_counted : Happening → Bool
 is_counted Opened = true
-is_counted (Split k) = true
+is_counted (Forked k) = true
 is_counted (Offered w c) = true
-is_counted Finished = true
-is_counted (Failed f) = false
-is_counted LaidDown = false
+is_counted Ended = true
+is_counted (Faulted f) = false
+is_counted Laid = false
 is_counted Paused = false
 
 -- the entry of index i is a counted one of process q

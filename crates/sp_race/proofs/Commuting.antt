@@ -5,7 +5,7 @@ use Rattle.sp_base.specs.declared.fault.Fault.{Fault}
 use Rattle.sp_base.specs.declared.fault.Fault.TheVariants as fault
 use Rattle.sp_meaning.specs.Maps.{IsTest}
 use Rattle.sp_meaning.specs.Model.{Name, Channel, Totals, add, Language, Moves, Opens, Forks, Offering, Ends, Fails, Absent, Works, Waits, Joins, Ended, State, Change, Becomes, Forked, Writes, Pends, Adds, Faults, changed, after}
-use Rattle.sp_meaning.specs.Steps.{ActOf, OfferOf, ConditionOf, working, Outcome, Does, Faulty, puts, births, message, an_entry, meeting, hands, meets, offered, acts, cost, is_over, passed, Laws, Sound}
+use Rattle.sp_meaning.specs.Steps.{ActOf, OfferOf, ConditionOf, working, Outcome, Advances, Faulty, puts, births, message, an_entry, meeting, hands, meets, offered, acts, cost, is_over, passed, Laws, Sound}
 use Rattle.sp_meaning.specs.Disjoint.{Delivers}
 use Rattle.sp_meaning.proofs.Frames.{IsOn, WritesTo, IsPartner, IsChild, IsNear, IsIn, AllIn, all_in, condition_frame, forks_frame, pending_frame, store_frame}
 use Rattle.sp_meaning.proofs.Status.{Makes, Stands, working_stands, child_absent, child_below, waits_absent, far, keeps_working, on_partner, waiting_far}
@@ -48,7 +48,7 @@ totals_after (Adds n ∷ cs) t = totals_after cs (changed (Adds n) t) ∙ add_as
 totals_after (c ∷ cs) t = totals_after cs (changed c t)
 
 abbrev Costs : {L : Language} → ActOf L → Outcome L → Type 0
-Costs a (Does cs) = all_adds cs ≡ spent (cost a)
+Costs a (Advances cs) = all_adds cs ≡ spent (cost a)
 Costs a (Faulty f) = Unit
 
 puts_cost : (L : Language) (ws : List (L.Loc × L.Value)) → all_adds (puts {L = L} ws) ≡ spent None
@@ -61,7 +61,7 @@ births_cost L p k i (o ∷ os) = births_cost L p k (suc i) os
 
 hands_cost : {L : Language} (s : State L) (p : Name) (o : OfferOf L) (z : Name) (w : OfferOf L) (m : Option (L.Target × L.Value)) → Costs (Offering o) (hands s p o z w m)
 hands_cost s p o z w None = tt
-hands_cost s p o z w (Some m) = elim (o.kind == w.kind) as (λ b. Costs (Offering o) (cond b (Does (meeting s p o z w m)) (Faulty fault.F7))) [ true ↦ sym (add_none an_entry) | false ↦ tt ]
+hands_cost s p o z w (Some m) = elim (o.kind == w.kind) as (λ b. Costs (Offering o) (cond b (Advances (meeting s p o z w m)) (Faulty fault.F7))) [ true ↦ sym (add_none an_entry) | false ↦ tt ]
 
 meets_cost : {L : Language} (s : State L) (p : Name) (o : OfferOf L) (z : Name) (c : ConditionOf L) → Costs (Offering o) (meets s p o z c)
 meets_cost s p o z Absent = tt
@@ -82,7 +82,7 @@ acts_cost s p (Offering o) = offered_cost s p o (s.pending o.channel)
 acts_cost s p Ends = refl
 acts_cost s p (Fails f) = tt
 
-pub totals_made : {L : Language} (s : State L) (p : Name) (a : ActOf L) (cs : List (Change L)) → acts s p a ≡ Does cs → (after cs s).totals ≡ add s.totals (spent (cost a))
+pub totals_made : {L : Language} (s : State L) (p : Name) (a : ActOf L) (cs : List (Change L)) → acts s p a ≡ Advances cs → (after cs s).totals ≡ add s.totals (spent (cost a))
 totals_made s p a cs e = totals_after cs s ∙ ap (add s.totals) (subst (Costs a) e (acts_cost s p a))
 
 record Fits (l t n : Totals) : Type 0 where
@@ -160,7 +160,7 @@ module _ {L : Language} (t s : State L) (q : Name) where
   hands_same : (o : OfferOf L) (z : Name) (w : OfferOf L) (m : Option (L.Target × L.Value)) → ((x : L.Target × L.Value) → m ≡ Some x → t.store (L.place x.0) ≡ s.store (L.place x.0)) → hands t q o z w m ≡ hands s q o z w m
   unfolding meeting_at
   hands_same o z w None st = refl
-  hands_same o z w (Some m) st = λ i. cond (o.kind == w.kind) (Does (meeting_at q o z w m (st m refl i))) (Faulty fault.F7)
+  hands_same o z w (Some m) st = λ i. cond (o.kind == w.kind) (Advances (meeting_at q o z w m (st m refl i))) (Faulty fault.F7)
 
   meets_same : (o : OfferOf L) (z : Name) (c : ConditionOf L) → s.pending o.channel ≡ Some z → s.condition z ≡ c → ((l : L.Loc) → Delivers s o l → t.store l ≡ s.store l) → meets t q o z c ≡ meets s q o z c
   meets_same o z Absent pe ce st = refl
@@ -176,7 +176,7 @@ module _ {L : Language} (t s : State L) (q : Name) where
   pub acts_same : (b : ActOf L) → t.forks q ≡ s.forks q → ((c : Channel) → IsOn b c → t.pending c ≡ s.pending c) → ((z : Name) → IsPartner s b z → t.condition z ≡ s.condition z) → ((l : L.Loc) → WritesTo s b l → t.store l ≡ s.store l) → acts t q b ≡ acts s q b
   acts_same (Moves o ws) f pe other st = refl
   acts_same (Opens o ws) f pe other st = refl
-  acts_same (Forks o os) f pe other st = λ i. Does (Becomes q (Joins (f i) (length os) o) ∷ Forked q ∷ Adds (record { processes = length os; channels = 0; entries = 1 }) ∷ births q (f i) 0 os)
+  acts_same (Forks o os) f pe other st = λ i. Advances (Becomes q (Joins (f i) (length os) o) ∷ Forked q ∷ Adds (record { processes = length os; channels = 0; entries = 1 }) ∷ births q (f i) 0 os)
   acts_same (Offering o) f pe other st = ap (offered t q o) (pe o.channel refl) ∙ offered_same o (s.pending o.channel) refl other st
   acts_same Ends f pe other st = refl
   acts_same (Fails x) f pe other st = refl
@@ -274,7 +274,7 @@ exchange {L} {limits} laws s p q cs ds own sound one two apart w off free1 free2
       own = own;
       works = w;
       within = passed_earlier limits s.totals (spent (cost a)) (cost (L.next own s.store)) (subst (λ z. passed limits z (cost (L.next own s.store)) ≡ None) (totals_made s p a cs one.does) (subst (λ z. passed limits t.totals (cost z) ≡ None) next_is two.within));
-      does = subst (λ z. acts s q z ≡ Does ds) b_is (sym kept ∙ subst (λ o. acts t q (L.next o t.store) ≡ Does ds) mine two.does);
+      does = subst (λ z. acts s q z ≡ Advances ds) b_is (sym kept ∙ subst (λ o. acts t q (L.next o t.store) ≡ Advances ds) mine two.does);
     } in
     let c = L.next own s.store in
     let off' : (d : Channel) → IsOn a d → IsOn c d → ⊥ = λ d h k. off d h (subst (λ z. IsOn z d) (sym b_is) k) in
@@ -290,7 +290,7 @@ exchange {L} {limits} laws s p q cs ds own sound one two apart w off free1 free2
         works = keeps_working s q ds sound first p one.own (λ e. apart (sym e)) one.works;
         within = subst (λ z. passed limits (after ds s).totals (cost z) ≡ None) a_is (subst (λ z. passed limits z (cost a) ≡ None) (sym (totals_made s q c ds first.does))
             (passed_later limits s.totals (cost a) (cost c) one.within (subst (λ z. passed limits z (cost c) ≡ None) (totals_made s p a cs one.does) (subst (λ z. passed limits t.totals (cost z) ≡ None) next_is two.within))));
-        does = subst (λ z. acts (after ds s) p z ≡ Does cs) a_is (kept' ∙ one.does);
+        does = subst (λ z. acts (after ds s) p z ≡ Advances cs) a_is (kept' ∙ one.does);
       };
       second_act = sym a_is;
       same = both_orders s sound p q cs ds one first apart off' (λ l h k. free2 l (writes' l k) (inr h)) laws.told;

@@ -1,7 +1,7 @@
 -- The order condition by completions and that by the earlier offer's own index are the same.
 use Rattle.std.proofs.Common.{◌≡◌, ◌≢◌, ◌⊎◌, ⊎_elim, inl, inr, ℕ, zero, suc, ◌<◌, ◌≤◌, le_refl, lt_irrefl, eqb-true, eq-eqb, Bool, true, false, cond, ◌||◌, ◌==◌, List, [], ◌∷◌, ◌++◌, length, slice_get, Option, Some, None, refl, sym, ap, ◌∙◌, subst, arith}
 use Rattle.sp_journal.specs.declared.entry.Way.{Way}
-use Rattle.sp_journal.specs.Names.{Name, Channel, same_name, same_channel, Happening, Opened, Split, Offered, Finished, Failed, LaidDown, Paused, Occurrence}
+use Rattle.sp_journal.specs.Names.{Name, Channel, same_name, same_channel, Happening, Opened, Forked, Offered, Ended, Faulted, Laid, Paused, Occurrence}
 use Rattle.sp_journal.specs.Past.{Judged, learn, teach, report, now, met_now, judged_by, nothing_judged, KnowsCompletions, CompletedFrom, AreOrdered}
 use Rattle.sp_meaning.specs.Maps.{at_key}
 use Rattle.sp_meaning.proofs.Maps.{same_or_not, at_other}
@@ -192,14 +192,14 @@ module _ (j : Judged) (n : ℕ) (paired : Paired j n) (p : Name) where
 
   pub judged_paired : (h : Happening) → Paired (judged_by j n p h) (suc n)
   judged_paired Opened = same_offers (judged_by j n p Opened) (learn_closed j.completed p (λ i. n == i) j.past this_closed paired.closed) (learn_below p (λ i. n == i) (suc n) this_below j.past past_below) refl refl
-  judged_paired (Split k) = same_offers (judged_by j n p (Split k))
+  judged_paired (Forked k) = same_offers (judged_by j n p (Forked k))
       (teach_closed j.completed p (j.forks p) (now j p n) now_closed 0 k (learn p (λ i. n == i) j.past) (learn_closed j.completed p (λ i. n == i) j.past this_closed paired.closed))
       (teach_below p (j.forks p) (now j p n) (suc n) now_below 0 k (learn p (λ i. n == i) j.past) (learn_below p (λ i. n == i) (suc n) this_below j.past past_below)) refl refl
   judged_paired (Offered w c) = elim (j.pending c) as (λ m. j.pending c ≡ m → Paired (met_now j p n c m) (suc n)) [ None ↦ λ e. waits_paired c | Some o ↦ λ e. meets_paired c o.0 o.1 e ] refl
-  judged_paired (Failed f) = stays_paired
-  judged_paired LaidDown = stays_paired
+  judged_paired (Faulted f) = stays_paired
+  judged_paired Laid = stays_paired
   judged_paired Paused = stays_paired
-  judged_paired Finished = same_offers (judged_by j n p Finished)
+  judged_paired Ended = same_offers (judged_by j n p Ended)
       (report_closed j.completed p (now j p n) (learn p (λ i. n == i) j.past) now_closed (learn_closed j.completed p (λ i. n == i) j.past this_closed paired.closed))
       (told p (learn p (λ i. n == i) j.past) (learn_below p (λ i. n == i) (suc n) this_below j.past past_below)) refl refl
     where
@@ -210,10 +210,10 @@ module _ (j : Judged) (n : ℕ) (paired : Paired j n) (p : Name) where
   known_by : (done : List Occurrence) (h : Happening) → KnowsCompletions j done p h → KnowsOffers j done p h
   known_by done (Offered w c) k = λ i z e. let x = k i z e in paired.closed p i x.0 x.1 x.2
   known_by done Opened k = tt
-  known_by done (Split m) k = tt
-  known_by done Finished k = tt
-  known_by done (Failed f) k = tt
-  known_by done LaidDown k = tt
+  known_by done (Forked m) k = tt
+  known_by done Ended k = tt
+  known_by done (Faulted f) k = tt
+  known_by done Laid k = tt
   known_by done Paused k = tt
 
 pub nothing_paired : Paired nothing_judged 0
@@ -274,10 +274,10 @@ grown_entry (d ∷ done) e x (suc i) n size h = ⊎_elim
 abbrev IsNoOffer : Happening → Type 0
 IsNoOffer (Offered w c) = ⊥
 IsNoOffer Opened = Unit {0}
-IsNoOffer (Split k) = Unit {0}
-IsNoOffer Finished = Unit {0}
-IsNoOffer (Failed f) = Unit {0}
-IsNoOffer LaidDown = Unit {0}
+IsNoOffer (Forked k) = Unit {0}
+IsNoOffer Ended = Unit {0}
+IsNoOffer (Faulted f) = Unit {0}
+IsNoOffer Laid = Unit {0}
 IsNoOffer Paused = Unit {0}
 
 module _ (j : Judged) (done : List Occurrence) (n : ℕ) (paired : Paired j n) (r : Rounded j done n) (p : Name) where
@@ -384,22 +384,22 @@ module _ (j : Judged) (done : List Occurrence) (n : ℕ) (paired : Paired j n) (
 
   pub judged_rounded : (h : Happening) → Rounded (judged_by j n p h) (longer h) (suc n)
   judged_rounded Opened = same_rounded Opened (judged_by j n p Opened) (learn_complete (longer Opened) j.completed p (λ i. n == i) j.past (this_complete Opened tt) (old_complete Opened)) refl refl
-  judged_rounded (Split k) = same_rounded (Split k) (judged_by j n p (Split k))
-      (teach_complete (longer (Split k)) j.completed p (j.forks p) (now j p n) (now_complete (Split k) tt) 0 k (learn p (λ i. n == i) j.past) (learn_complete (longer (Split k)) j.completed p (λ i. n == i) j.past (this_complete (Split k) tt) (old_complete (Split k)))) refl refl
+  judged_rounded (Forked k) = same_rounded (Forked k) (judged_by j n p (Forked k))
+      (teach_complete (longer (Forked k)) j.completed p (j.forks p) (now j p n) (now_complete (Forked k) tt) 0 k (learn p (λ i. n == i) j.past) (learn_complete (longer (Forked k)) j.completed p (λ i. n == i) j.past (this_complete (Forked k) tt) (old_complete (Forked k)))) refl refl
   judged_rounded (Offered w c) = elim (j.pending c) as (λ m. j.pending c ≡ m → Rounded (met_now j p n c m) (longer (Offered w c)) (suc n)) [ None ↦ λ e. waits_rounded w c | Some o ↦ λ e. meets_rounded w c o.0 o.1 e ] refl
-  judged_rounded Finished = same_rounded Finished (judged_by j n p Finished)
-      (report_complete (longer Finished) j.completed p (now j p n) (learn p (λ i. n == i) j.past) (now_complete Finished tt) (learn_complete (longer Finished) j.completed p (λ i. n == i) j.past (this_complete Finished tt) (old_complete Finished))) refl refl
-  judged_rounded (Failed f) = same_rounded (Failed f) j (old_complete (Failed f)) refl refl
-  judged_rounded LaidDown = same_rounded LaidDown j (old_complete LaidDown) refl refl
+  judged_rounded Ended = same_rounded Ended (judged_by j n p Ended)
+      (report_complete (longer Ended) j.completed p (now j p n) (learn p (λ i. n == i) j.past) (now_complete Ended tt) (learn_complete (longer Ended) j.completed p (λ i. n == i) j.past (this_complete Ended tt) (old_complete Ended))) refl refl
+  judged_rounded (Faulted f) = same_rounded (Faulted f) j (old_complete (Faulted f)) refl refl
+  judged_rounded Laid = same_rounded Laid j (old_complete Laid) refl refl
   judged_rounded Paused = same_rounded Paused j (old_complete Paused) refl refl
 
   completed_by : (h : Happening) → KnowsOffers j done p h → KnowsCompletions j done p h
   completed_by (Offered w c) k = λ i z e. r.complete p i z w c e (k i z e)
   completed_by Opened k = tt
-  completed_by (Split m) k = tt
-  completed_by Finished k = tt
-  completed_by (Failed f) k = tt
-  completed_by LaidDown k = tt
+  completed_by (Forked m) k = tt
+  completed_by Ended k = tt
+  completed_by (Faulted f) k = tt
+  completed_by Laid k = tt
   completed_by Paused k = tt
 
 pub nothing_rounded : Rounded nothing_judged [] 0

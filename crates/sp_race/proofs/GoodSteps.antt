@@ -2,8 +2,8 @@
 use Rattle.std.proofs.Common.{◌≡◌, ◌≢◌, ◌⊎◌, ⊎_elim, inl, inr, Bool, true, false, List, [], ◌∷◌, ◌++◌, length, Option, Some, None, refl, sym, ap, ◌∙◌, subst}
 use Rattle.sp_base.specs.declared.fault.Fault.{Fault}
 use Rattle.sp_journal.specs.declared.entry.Way.{Way}
-use Rattle.sp_meaning.specs.Model.{Name, Channel, Totals, Language, Moves, Opens, Forks, Offering, Ends, Fails, Cargo, Gives, Takes, State, Change, after}
-use Rattle.sp_meaning.specs.Steps.{ActOf, OfferOf, working, Outcome, Does, Faulty, way_of, waiting, acts, cost, passed, unless, outcome, result_of, step_with, step, Quiet, processes, Laws, WaitsOn, Sound, opening}
+use Rattle.sp_meaning.specs.Model.{Name, Channel, Totals, Language, Moves, Opens, Forks, Offering, Ends, Fails, Cargo, Message, Takes, State, Change, after}
+use Rattle.sp_meaning.specs.Steps.{ActOf, OfferOf, working, Outcome, Advances, Faulty, way_of, waiting, acts, cost, passed, unless, outcome, result_of, step_with, step, Quiet, processes, Laws, WaitsOn, Sound, opening}
 use Rattle.sp_meaning.specs.Disjoint.{AreParallel, Assigns, receiver, WritesIn, AccessesIn, Happens, IsDisjoint}
 use Rattle.sp_meaning.specs.Schedules.{Leads, IsStuck, EndsAlike}
 use Rattle.sp_meaning.proofs.Maps.{same_or_not}
@@ -44,9 +44,9 @@ made_of {L} {limits} s p t e quiet = by_own (working s p) refl e
     by_acts : (own : L.Own) → working s p ≡ Some own → (a : ActOf L) → L.next own s.store ≡ a → (x : Outcome L) → acts s p a ≡ x → (f : Option Fault) → passed limits s.totals (cost a) ≡ f → Some (result_of s p (unless f x)) ≡ Some t → Made limits s p t
     by_acts own w a is x e (Some f) g h = let k : (Some (p, f)) ≡ t.fault = ap (λ (z : State L). z.fault) (some_is h) in absurd (none_is (sym (k ∙ quiet)))
     by_acts own w a is (Faulty f) e None g h = let k : (Some (p, f)) ≡ t.fault = ap (λ (z : State L). z.fault) (some_is h) in absurd (none_is (sym (k ∙ quiet)))
-    by_acts own w a is (Does cs) e None g h = record {
+    by_acts own w a is (Advances cs) e None g h = record {
       cs = cs;
-      makes = record { own = own; works = w; within = subst (λ z. passed limits s.totals (cost z) ≡ None) (sym is) g; does = subst (λ z. acts s p z ≡ Does cs) (sym is) e };
+      makes = record { own = own; works = w; within = subst (λ z. passed limits s.totals (cost z) ≡ None) (sym is) g; does = subst (λ z. acts s p z ≡ Advances cs) (sym is) e };
       to = sym (some_is h);
     }
 
@@ -94,7 +94,7 @@ writer {L} s p own l h = by_act (L.next own s.store) refl h
     }
       where
         of_cargo : (c : Cargo L.Value L.Target) → TakesPart s p (Offering o) (receiver c p h.other)
-        of_cargo (Gives v) = inr (o.channel, refl, h.pends)
+        of_cargo (Message v) = inr (o.channel, refl, h.pends)
         of_cargo (Takes t) = inl refl
 
 record Accessor {L : Language} (s : State L) (p : Name) (own : L.Own) (l : L.Loc) : Type 0 where
@@ -237,7 +237,7 @@ module _ {L : Language} (limits : Totals) (laws : Laws L) (origin : State L) (di
       (λ (h : (o : OfferOf L) × (r : OfferOf L) × (L.next one.own s.store ≡ Offering o) × (L.next two.own (after cs s).store ≡ Offering r) × (o.channel ≡ r.channel)).
       let o = h.0 in
       let r = h.1 in
-      let does : acts s p (Offering o) ≡ Does cs = subst (λ x. acts s p x ≡ Does cs) h.2 one.does in
+      let does : acts s p (Offering o) ≡ Advances cs = subst (λ x. acts s p x ≡ Advances cs) h.2 one.does in
       elim (s.pending o.channel) as (λ m. s.pending o.channel ≡ m → ExchangedTo limits s n p q (L.next one.own s.store) (L.next two.own (after cs s).store) (after ds (after cs s)) (notes_after (after cs s) (notes_after s n p (L.next one.own s.store)) q (L.next two.own (after cs s).store))) [
         | Some z ↦ λ pe. absurd (met_first s n p q cs sound known one two.own o r z h.2 h.4 (λ e. apart (sym e)) w pe (subst (λ x. KnowsBefore L (notes_after s n p (L.next one.own s.store)) q x) h.3 kq))
         | None ↦ λ pe. waited_first s n p q cs ds sound one two o r h.2 h.3 h.4 (λ e. apart (sym e)) w pe kp kq (waited s p o cs pe does)
@@ -288,7 +288,7 @@ module _ {L : Language} (limits : Totals) (laws : Laws L) (origin : State L) (di
   made_step : (j : WithNotes L) (p : Name) (k : WithNotes L) → GoodStep limits origin j p k → noted_step limits j p ≡ Some k
   made_step j p k g =
       let a = L.next g.makes.own j.state.store in
-      let out : outcome limits j.state p a ≡ Does g.cs = ap (λ x. unless x (acts j.state p a)) g.makes.within ∙ g.makes.does in
+      let out : outcome limits j.state p a ≡ Advances g.cs = ap (λ x. unless x (acts j.state p a)) g.makes.within ∙ g.makes.does in
       ap (noted_with limits j p) g.makes.works ∙ (λ i. Some (to_notes (result_of j.state p (out i)) (notes_after j.state j.notes p a))) ∙ (λ i. Some (to_notes (sym g.to i) (sym g.noted i)))
 
   -- who can step

@@ -1,10 +1,11 @@
 -- Each kind of step keeps the link between a journal and the notes beside its run.
 use Rattle.std.proofs.Common.{◌≡◌, ⊎_elim, inl, inr, ℕ, zero, suc, ◌+◌, ◌<◌, lt_irrefl, eqb-true, eq-eqb, Bool, true, false, cond, ◌||◌, ◌==◌, List, [], ◌∷◌, ◌++◌, length, Option, Some, None, refl, sym, ap, ◌∙◌, subst, arith}
-use Rattle.sp_journal.specs.Names.{Happening, Opened, Split, Offered, Finished, Paused, Occurrence}
+use Rattle.sp_journal.specs.Names.{Happening, Opened, Offered, Paused, Occurrence}
+use Rattle.sp_journal.specs.Names as happenings
 use Rattle.sp_journal.specs.Past.{Judged, learn, teach, report, now, met_now, judged_by}
 use Rattle.sp_meaning.specs.Maps.{at_key}
 use Rattle.sp_meaning.specs.Model.{Name, Channel, same_name, Totals, Language, Moves, Opens, Forks, Offering, Ends, Works, Joins, Ended, State, Change, Becomes, Forked, Writes, Adds, changed, after}
-use Rattle.sp_meaning.specs.Steps.{OfferOf, Outcome, Does, puts, births, way_of, acts, Sound}
+use Rattle.sp_meaning.specs.Steps.{OfferOf, Outcome, Advances, puts, births, way_of, acts, Sound}
 use Rattle.sp_meaning.proofs.Frames.{IsOn, all_in, condition_frame, pending_frame}
 use Rattle.sp_meaning.proofs.Status.{Makes, waiting_far}
 use Rattle.sp_meaning.proofs.Meeting.{met, waited}
@@ -41,7 +42,7 @@ teach_below p k f n g x zero past h q i e = h q i e
 teach_below p k f n g x (suc m) past h q i e = teach_below p k f n g (suc x) m (learn ((k, x) ∷ p) f past) (learn_below ((k, x) ∷ p) f n g past h) q i e
 
 module _ {L : Language} {limits : Totals} (s : State L) (v : Notes) (p : Name) (cs : List (Change L)) (sound : Sound s) (known : IsKnowledge v) (one : Makes limits s p cs) (j : Judged) (done : List Occurrence) (n : ℕ) (label : ℕ → Option Event) (link : Linked s v j done n label) where
-  does_is : (x y : List (Change L)) → ◌≡◌ {A = Outcome L} (Does x) (Does y) → y ≡ x
+  does_is : (x y : List (Change L)) → ◌≡◌ {A = Outcome L} (Advances x) (Advances y) → y ≡ x
   does_is x y h = cc
 
   abbrev pub grows_label : ℕ → Option Event
@@ -79,7 +80,7 @@ module _ {L : Language} {limits : Totals} (s : State L) (v : Notes) (p : Name) (
   pub opens_linked : (o : L.Own) (ws : List (L.Loc × L.Value)) → L.next one.own s.store ≡ Opens o ws → Linked (after cs s) (notes_after s v p (L.next one.own s.store)) (judged_by j n p Opened) (done ++ record { who = p; what = Opened } ∷ []) (suc n) grows_label
   opens_linked o ws is =
       let es : List (Change L) = Becomes p (Works o) ∷ Adds (record { processes = 0; channels = 1; entries = 1 }) ∷ puts ws in
-      let list : cs ≡ es = does_is _ _ (subst (λ a. acts s p a ≡ Does cs) is one.does) in
+      let list : cs ≡ es = does_is _ _ (subst (λ a. acts s p a ≡ Advances cs) is one.does) in
       let forks_at : (after cs s).forks ≡ s.forks = ap (λ x. (after x s).forks) list ∙ puts_forks ws (changed (Adds (record { processes = 0; channels = 1; entries = 1 })) (changed (Becomes p (Works o)) s)) in
       let ns : List Note = Counts p ∷ Learns p (same_event (mine v p)) ∷ [] in
       let notes_are : notes_of s v p (L.next one.own s.store) ≡ ns = ap (notes_of s v p) is in
@@ -87,12 +88,12 @@ module _ {L : Language} {limits : Totals} (s : State L) (v : Notes) (p : Name) (
       (λ q i lt. first_past Opened q i lt ∙ ap (λ x. known_label ((all_noted x v).past q) (grows_label i)) (sym notes_are))
       first_below (λ c. refl) (λ q. link.forks q ∙ ap (λ f. f q) (sym forks_at))
 
-  pub forks_linked : (o : L.Own) (os : List L.Own) → L.next one.own s.store ≡ Forks o os → Linked (after cs s) (notes_after s v p (L.next one.own s.store)) (judged_by j n p (Split (length os))) (done ++ record { who = p; what = Split (length os) } ∷ []) (suc n) grows_label
+  pub forks_linked : (o : L.Own) (os : List L.Own) → L.next one.own s.store ≡ Forks o os → Linked (after cs s) (notes_after s v p (L.next one.own s.store)) (judged_by j n p (happenings.Forked (length os))) (done ++ record { who = p; what = happenings.Forked (length os) } ∷ []) (suc n) grows_label
   forks_linked o os is =
-      let h = Split (length os) in
+      let h = happenings.Forked (length os) in
       let new : Totals = record { processes = length os; channels = 0; entries = 1 } in
       let es : List (Change L) = Becomes p (Joins (s.forks p) (length os) o) ∷ Forked p ∷ Adds new ∷ births p (s.forks p) 0 os in
-      let list : cs ≡ es = does_is _ _ (subst (λ a. acts s p a ≡ Does cs) is one.does) in
+      let list : cs ≡ es = does_is _ _ (subst (λ a. acts s p a ≡ Advances cs) is one.does) in
       let forks_at : (after es s).forks ≡ at_key same_name p (s.forks p + 1) s.forks = births_forks p (s.forks p) 0 os (changed (Adds new) (changed (Forked p) (changed (Becomes p (Joins (s.forks p) (length os) o)) s))) in
       let ns : List Note = Counts p ∷ Learns p (same_event (mine v p)) ∷ teaches p (s.forks p) (knows v p) 0 (length os) in
       let notes_are : notes_of s v p (L.next one.own s.store) ≡ ns = ap (notes_of s v p) is in
@@ -113,15 +114,15 @@ module _ {L : Language} {limits : Totals} (s : State L) (v : Notes) (p : Name) (
   report_below [] past h = h
   report_below (a ∷ r) past h = learn_below r (now j p n) (suc n) now_below past h
 
-  pub ends_linked : L.next one.own s.store ≡ Ends → Linked (after cs s) (notes_after s v p (L.next one.own s.store)) (judged_by j n p Finished) (done ++ record { who = p; what = Finished } ∷ []) (suc n) grows_label
+  pub ends_linked : L.next one.own s.store ≡ Ends → Linked (after cs s) (notes_after s v p (L.next one.own s.store)) (judged_by j n p happenings.Ended) (done ++ record { who = p; what = happenings.Ended } ∷ []) (suc n) grows_label
   ends_linked is =
       let es : List (Change L) = Becomes p Ended ∷ [] in
-      let list : cs ≡ es = does_is _ _ (subst (λ a. acts s p a ≡ Does cs) is one.does) in
+      let list : cs ≡ es = does_is _ _ (subst (λ a. acts s p a ≡ Advances cs) is one.does) in
       let ns : List Note = Counts p ∷ Learns p (same_event (mine v p)) ∷ tells p (knows v p) in
       let notes_are : notes_of s v p (L.next one.own s.store) ≡ ns = ap (notes_of s v p) is in
-      linked_on s v p cs sound known one j done n label link Finished (λ c on. subst (λ a. IsOn a c) is on) (subst (HasCount p) (sym notes_are) (inl refl)) (judged_by j n p Finished)
+      linked_on s v p cs sound known one j done n label link happenings.Ended (λ c on. subst (λ a. IsOn a c) is on) (subst (HasCount p) (sym notes_are) (inl refl)) (judged_by j n p happenings.Ended)
       (λ q i lt.
-      tells_past p (noted (Learns p (same_event (mine v p))) counted_notes) (learn p (λ x. n == x) j.past) i (grows_label i) (knows_label Finished i lt) (λ r. first_past Finished r i lt) q
+      tells_past p (noted (Learns p (same_event (mine v p))) counted_notes) (learn p (λ x. n == x) j.past) i (grows_label i) (knows_label happenings.Ended i lt) (λ r. first_past happenings.Ended r i lt) q
       ∙ ap (λ x. known_label ((all_noted x v).past q) (grows_label i)) (sym notes_are))
       (report_below p (learn p (λ x. n == x) j.past) first_below)
       (λ c. refl)
@@ -132,7 +133,7 @@ module _ {L : Language} {limits : Totals} (s : State L) (v : Notes) (p : Name) (
   moves_linked o ws is =
       let a = L.next one.own s.store in
       let es : List (Change L) = Becomes p (Works o) ∷ puts ws in
-      let list : cs ≡ es = does_is _ _ (subst (λ a. acts s p a ≡ Does cs) is one.does) in
+      let list : cs ≡ es = does_is _ _ (subst (λ a. acts s p a ≡ Advances cs) is one.does) in
       let forks_at : (after cs s).forks ≡ s.forks = ap (λ x. (after x s).forks) list ∙ puts_forks ws (changed (Becomes p (Works o)) s) in
       let i = all_in s p a cs one.does in
       let off : (c : Channel) → IsOn a c → ⊥ = λ c on. subst (λ a. IsOn a c) is on in
@@ -160,7 +161,7 @@ module _ {L : Language} {limits : Totals} (s : State L) (v : Notes) (p : Name) (
   pub offers_linked : (o : OfferOf L) → L.next one.own s.store ≡ Offering o → Linked (after cs s) (notes_after s v p (L.next one.own s.store)) (judged_by j n p (Offered (way_of o.cargo) o.channel)) (done ++ record { who = p; what = Offered (way_of o.cargo) o.channel } ∷ []) (suc n) grows_label
   offers_linked o is =
       let h = Offered (way_of o.cargo) o.channel in
-      let does = subst (λ a. acts s p a ≡ Does cs) is one.does in
+      let does = subst (λ a. acts s p a ≡ Advances cs) is one.does in
       let notes_are : notes_after s v p (L.next one.own s.store) ≡ all_noted (offer_notes v p o.channel (way_of o.cargo) (s.pending o.channel)) v = ap (notes_after s v p) is in
       elim (s.pending o.channel) as (λ m. s.pending o.channel ≡ m → Linked (after cs s) (notes_after s v p (L.next one.own s.store)) (judged_by j n p h) (done ++ record { who = p; what = h } ∷ []) (suc n) grows_label) [
         | None ↦ λ e.

@@ -6,8 +6,8 @@ use Rattle.sp_journal.specs.declared.entry.Way.{Way}
 use Rattle.sp_journal.specs.declared.entry.Way.TheVariants as way
 use Rattle.sp_journal.specs.Names.{same_way}
 use Rattle.sp_meaning.specs.Maps.{at_key}
-use Rattle.sp_meaning.specs.Model.{Name, Channel, same_name, same_channel, Totals, add, Language, Offering, Cargo, Gives, Takes, Works, Waits, State, Change, after}
-use Rattle.sp_meaning.specs.Steps.{ActOf, OfferOf, ConditionOf, working, Does, Faulty, way_of, message, an_entry, meeting, waiting, hands, meets, offered, acts, cost, passed, Sound}
+use Rattle.sp_meaning.specs.Model.{Name, Channel, same_name, same_channel, Totals, add, Language, Offering, Cargo, Message, Takes, Works, Waits, State, Change, after}
+use Rattle.sp_meaning.specs.Steps.{ActOf, OfferOf, ConditionOf, working, Advances, Faulty, way_of, message, an_entry, meeting, waiting, hands, meets, offered, acts, cost, passed, Sound}
 use Rattle.sp_meaning.proofs.Maps.{itself}
 use Rattle.sp_meaning.proofs.Keys.{name_test, channel_test, and_both}
 use Rattle.sp_meaning.proofs.Status.{Makes, working_stands, far, keeps_working, working_no_parent}
@@ -20,9 +20,9 @@ use Rattle.sp_race.proofs.Commuting.{passed_earlier}
 -- The state
 
 message_swap : {V T : Type 0} (a b : Cargo V T) → message a b ≡ message b a
-message_swap (Gives v) (Gives w) = refl
-message_swap (Gives v) (Takes t) = refl
-message_swap (Takes t) (Gives v) = refl
+message_swap (Message v) (Message w) = refl
+message_swap (Message v) (Takes t) = refl
+message_swap (Takes t) (Message v) = refl
 message_swap (Takes t) (Takes u) = refl
 
 conditions_swap : {X : Type 0} (b c : Bool) (x y w v u : X) → (b ≡ true → c ≡ true → ⊥) → cond b x (cond c y (cond b w u)) ≡ cond c y (cond b x (cond c v u))
@@ -48,10 +48,10 @@ swapped {L} s p q o r m apart e =
       fault = s.fault;
     }
 
-pub met_does : {L : Language} (s : State L) (p : Name) (o : OfferOf L) (z : Name) (w : OfferOf L) (m : L.Target × L.Value) → s.pending o.channel ≡ Some z → s.condition z ≡ Waits w → message o.cargo w.cargo ≡ Some m → o.kind == w.kind ≡ true → acts s p (Offering o) ≡ Does (meeting s p o z w m)
-met_does {L} s p o z w m pe ce me ke = ap (offered s p o) pe ∙ (ap (meets s p o z) ce ∙ (ap (hands s p o z w) me ∙ ap (λ b. cond b (Does (meeting s p o z w m)) (Faulty fault.F7)) ke))
+pub met_does : {L : Language} (s : State L) (p : Name) (o : OfferOf L) (z : Name) (w : OfferOf L) (m : L.Target × L.Value) → s.pending o.channel ≡ Some z → s.condition z ≡ Waits w → message o.cargo w.cargo ≡ Some m → o.kind == w.kind ≡ true → acts s p (Offering o) ≡ Advances (meeting s p o z w m)
+met_does {L} s p o z w m pe ce me ke = ap (offered s p o) pe ∙ (ap (meets s p o z) ce ∙ (ap (hands s p o z w) me ∙ ap (λ b. cond b (Advances (meeting s p o z w m)) (Faulty fault.F7)) ke))
 
-pub waited_does : {L : Language} (s : State L) (p : Name) (o : OfferOf L) → s.pending o.channel ≡ None → acts s p (Offering o) ≡ Does (waiting s p o)
+pub waited_does : {L : Language} (s : State L) (p : Name) (o : OfferOf L) → s.pending o.channel ≡ None → acts s p (Offering o) ≡ Advances (waiting s p o)
 waited_does s p o pe = ap (offered s p o) pe
 
 -- The notes
@@ -62,9 +62,9 @@ other_other way.Receive = refl
 
 -- two offers that meet have different ways
 pub ways_meet : {V T : Type 0} (a b : Cargo V T) (m : T × V) → message a b ≡ Some m → way_of b ≡ other_way (way_of a)
-ways_meet (Gives v) (Gives w) m h = absurd (cc h)
-ways_meet (Gives v) (Takes t) m h = refl
-ways_meet (Takes t) (Gives v) m h = refl
+ways_meet (Message v) (Message w) m h = absurd (cc h)
+ways_meet (Message v) (Takes t) m h = refl
+ways_meet (Takes t) (Message v) m h = refl
 ways_meet (Takes t) (Takes u) m h = absurd (cc h)
 
 three_swaps : (a1 a2 b1 b2 c1 c2 : Note) (n : Notes) → all_noted (a1 ∷ a2 ∷ b1 ∷ b2 ∷ c1 ∷ c2 ∷ []) n ≡ all_noted (a2 ∷ a1 ∷ b2 ∷ b1 ∷ c2 ∷ c1 ∷ []) n
@@ -151,7 +151,7 @@ pub waits_first : {L : Language} {limits : Totals} (s : State L) (n : Notes) (p 
 waits_first {L} {limits} s n p q ds sound pown o r pw is two is2 e apart w none kp kq =
     let s1 = after (waiting s p o) s in
     let pe : s1.pending r.channel ≡ Some p = rw ((channel_test o.channel r.channel).1 e) refl in
-    let h = met s1 q r p ds pe (subst (λ x. acts s1 q x ≡ Does ds) is2 two.does) in
+    let h = met s1 q r p ds pe (subst (λ x. acts s1 q x ≡ Advances ds) is2 two.does) in
     let ce : s1.condition p ≡ Waits o = rw (itself name_test p) refl in
     let its_is : h.its ≡ o = (let k = h.waits in waits_is h.its o (sym k ∙ ce)) in
     let none' : s.pending r.channel ≡ None = subst (λ c. s.pending c ≡ None) e none in
@@ -159,7 +159,7 @@ waits_first {L} {limits} s n p q ds sound pown o r pw is two is2 e apart w none 
       own = two.own;
       works = w;
       within = subst (λ x. passed limits s.totals (cost x) ≡ None) (sym is2) (passed_earlier limits s.totals an_entry (Some an_entry) (subst (λ x. passed limits (add s.totals an_entry) (cost x) ≡ None) is2 two.within));
-      does = subst (λ x. acts s q x ≡ Does (waiting s q r)) (sym is2) (waited_does s q r none');
+      does = subst (λ x. acts s q x ≡ Advances (waiting s q r)) (sym is2) (waited_does s q r none');
     } in
     let s2 = after (waiting s q r) s in
     let meets_o : message r.cargo o.cargo ≡ Some h.passes = subst (λ (x : OfferOf L). message r.cargo x.cargo ≡ Some h.passes) its_is h.is in
@@ -176,7 +176,7 @@ waits_first {L} {limits} s n p q ds sound pown o r pw is two is2 e apart w none 
         own = pown;
         works = keeps_working s q (waiting s q r) sound first p pown (λ x. apart (sym x)) pw;
         within = subst (λ x. passed limits (add s.totals an_entry) (cost x) ≡ None) (sym is) (subst (λ x. passed limits (add s.totals an_entry) (cost x) ≡ None) is2 two.within);
-        does = subst (λ x. acts s2 p x ≡ Does (meeting s2 p o q r h.passes)) (sym is) (met_does s2 p o q r h.passes
+        does = subst (λ x. acts s2 p x ≡ Advances (meeting s2 p o q r h.passes)) (sym is) (met_does s2 p o q r h.passes
             qe
             (rw (itself name_test q) refl)
             (message_swap o.cargo r.cargo ∙ meets_o)

@@ -2,7 +2,7 @@
 use Rattle.std.proofs.Common.{◌≡◌, ℕ, suc, zero, ◌+◌, Bool, true, false, if◌then◌else◌, List, [], ◌∷◌, ◌++◌, length, slice_get, Option, Some, None, refl, sym, ap, ◌∙◌, subst, arith}
 use Rattle.sp_journal.specs.declared.entry.Way.{Way}
 use Rattle.sp_journal.specs.declared.entry.Way.TheVariants as way
-use Rattle.sp_journal.specs.Names.{Name, Channel, same_way, Happening, Opened, Split, Offered, Finished, Failed, LaidDown, Paused, Occurrence}
+use Rattle.sp_journal.specs.Names.{Name, Channel, same_way, Happening, Opened, Forked, Offered, Ended, Faulted, Laid, Paused, Occurrence}
 use Rattle.sp_journal.specs.Past.{Judged, judged_by, nothing_judged, KnowsCompletions, CompletedFrom, AreOrdered}
 use Rattle.sp_meaning.proofs.Maps.{itself}
 use Rattle.sp_meaning.proofs.Keys.{channel_test, and_left, and_right, and_both}
@@ -50,10 +50,10 @@ in_order j done p (Offered w c) t = λ i z e. let m = all_known j p w c 0 done t
     none_add : (i : ℕ) → i ≡ 0 + i
     none_add i = omega arith
 in_order j done p Opened t = tt
-in_order j done p (Split k) t = tt
-in_order j done p Finished t = tt
-in_order j done p (Failed f) t = tt
-in_order j done p LaidDown t = tt
+in_order j done p (Forked k) t = tt
+in_order j done p Ended t = tt
+in_order j done p (Faulted f) t = tt
+in_order j done p Laid t = tt
 in_order j done p Paused t = tt
 
 completed_from : (j : Judged) (done es : List Occurrence) → order_from j done es ≡ true → CompletedFrom j done es
@@ -75,10 +75,10 @@ if_true false x h = refl
 offer_is : (w : Way) (c : Channel) (h : Happening) → is_offer w c h ≡ true → h ≡ Offered w c
 offer_is w c (Offered v d) h = λ i. Offered (sym (way_is w v (and_left _ _ h)) i) (sym ((channel_test c d).0 (and_right _ _ h)) i)
 offer_is w c Opened h = absurd (cc h)
-offer_is w c (Split k) h = absurd (cc h)
-offer_is w c Finished h = absurd (cc h)
-offer_is w c (Failed f) h = absurd (cc h)
-offer_is w c LaidDown h = absurd (cc h)
+offer_is w c (Forked k) h = absurd (cc h)
+offer_is w c Ended h = absurd (cc h)
+offer_is w c (Faulted f) h = absurd (cc h)
+offer_is w c Laid h = absurd (cc h)
 offer_is w c Paused h = absurd (cc h)
 
 known_all : (j : Judged) (p : Name) (w : Way) (c : Channel) (k : ℕ) (es : List Occurrence) → ((i : ℕ) (z : Name) → slice_get es i ≡ Some (record { who = z; what = Offered w c }) → (m : ℕ) × (j.completed (k + i) ≡ Some m) × (j.past p m ≡ true)) → knows_all j p w c k es ≡ true
@@ -100,10 +100,10 @@ order_in j done p (Offered w c) t = known_all j p w c 0 done (λ i z e. let m = 
     none_add : (i : ℕ) → 0 + i ≡ i
     none_add i = omega arith
 order_in j done p Opened t = refl
-order_in j done p (Split k) t = refl
-order_in j done p Finished t = refl
-order_in j done p (Failed f) t = refl
-order_in j done p LaidDown t = refl
+order_in j done p (Forked k) t = refl
+order_in j done p Ended t = refl
+order_in j done p (Faulted f) t = refl
+order_in j done p Laid t = refl
 order_in j done p Paused t = refl
 
 from_completed : (j : Judged) (done es : List Occurrence) → CompletedFrom j done es → order_from j done es ≡ true

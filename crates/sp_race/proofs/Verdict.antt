@@ -3,11 +3,11 @@ use Rattle.std.proofs.Common.{◌≡◌, ◌⊎◌, ⊎_elim, ℕ, zero, suc, �
 use Rattle.sp_base.specs.declared.fault.Fault.{Fault}
 use Rattle.sp_journal.specs.Past.{Judged, judged_by, nothing_judged, AreOrdered}
 use Rattle.sp_meaning.specs.Model.{Name, Language, Moves, Opens, Forks, Offering, Ends, Fails, Change, after}
-use Rattle.sp_meaning.specs.Steps.{ActOf, Outcome, Does, Faulty, way_of, acts, unless, step_with, Sound}
+use Rattle.sp_meaning.specs.Steps.{ActOf, Outcome, Advances, Faulty, way_of, acts, unless, step_with, Sound}
 use Rattle.sp_meaning.specs.Schedules.{EndsAlike}
 use Rattle.sp_meaning.specs.Own.{Setting, Process}
 use Rattle.sp_meaning.specs.SuperPascal.{superpascal, root, first_store}
-use Rattle.sp_meaning.specs.Entries.{Happening, Opened, Split, Offered, Finished, Failed, LaidDown, Paused, Occurrence}
+use Rattle.sp_meaning.specs.Entries.{Happening, Opened, Forked, Offered, Ended, Faulted, Laid, Paused, Occurrence}
 use Rattle.sp_meaning.specs.Runs.{StateOf, start, most, running, next, system_of, Lawful, said_of, says, IsDisjointRun}
 use Rattle.sp_meaning.specs.Along.{Either, due, Turn, Course, no_course, Kernel, Entered, Along, IsAlong, IsCleanly, IsClean}
 use Rattle.sp_meaning.specs.Ends.{IsDone, IsIdle}
@@ -57,7 +57,7 @@ module _ (g : Setting) where
       record { cs = x.cs; one = x.makes; same = some_is (sym x.makes.works ∙ run); to = x.to; quiet = quiet }
 
   -- what the step says
-  said : (s : StateOf g) (q : Name) (own : Process) (m : StateOf g) (x : Stepped s q own m) → says g s q own ≡ said_of ((superpascal g).next x.one.own s.store) (Does x.cs)
+  said : (s : StateOf g) (q : Name) (own : Process) (m : StateOf g) (x : Stepped s q own m) → says g s q own ≡ said_of ((superpascal g).next x.one.own s.store) (Advances x.cs)
   said s q own m x =
       let a = (superpascal g).next x.one.own s.store in
       ap (says g s q) (sym x.same) ∙ ap (said_of a) (ap (λ f. unless f (acts s q a)) x.one.within ∙ x.one.does)
@@ -96,10 +96,10 @@ module _ (g : Setting) where
   local_moves : (s : StateOf g) (q : Name) (own : Process) (m : StateOf g) (x : Stepped s q own m) → says g s q own ≡ None → IsMove s x.one.own
   local_moves s q own m x none = by ((superpascal g).next x.one.own s.store) refl (sym (said s q own m x) ∙ none)
     where
-      faulty_does : {L : Language} {f : Fault} {cs : List (Change L)} → ◌≡◌ {A = Outcome L} (Faulty f) (Does cs) → ⊥
+      faulty_does : {L : Language} {f : Fault} {cs : List (Change L)} → ◌≡◌ {A = Outcome L} (Faulty f) (Advances cs) → ⊥
       faulty_does e = cc
 
-      by : (a : ActOf (superpascal g)) → (superpascal g).next x.one.own s.store ≡ a → said_of a (Does x.cs) ≡ None → IsMove s x.one.own
+      by : (a : ActOf (superpascal g)) → (superpascal g).next x.one.own s.store ≡ a → said_of a (Advances x.cs) ≡ None → IsMove s x.one.own
       by (Moves o ws) e h = record { next_own = o; writes = ws; is = e }
       by (Opens o ws) e h = absurd (none_is (sym h))
       by (Forks o os) e h = absurd (none_is (sym h))
@@ -161,20 +161,20 @@ module _ (g : Setting) where
         knows = subst (λ z. KnowsBefore (superpascal g) v q ((superpascal g).next z s.store)) x.same k;
       }
 
-      by : (a : ActOf (superpascal g)) → (superpascal g).next x.one.own s.store ≡ a → (w : Happening) → said_of a (Does x.cs) ≡ Some w → KnowsOffers j done q w → Enters_at s v q own m (judged_by j n q w) (With done q w) (suc n)
+      by : (a : ActOf (superpascal g)) → (superpascal g).next x.one.own s.store ≡ a → (w : Happening) → said_of a (Advances x.cs) ≡ Some w → KnowsOffers j done q w → Enters_at s v q own m (judged_by j n q w) (With done q w) (suc n)
       by (Moves o ws) e w h k = absurd (none_is h)
       by (Fails f) e w h k = absurd (none_is h)
       by (Opens o ws) e w h k = subst (λ z. Enters_at s v q own m (judged_by j n q z) (With done q z) (suc n)) (some_is h)
           (put Opened _ (opens_linked s v q x.cs at.sound at.known x.one j done n label at.linked o ws e) (subst (λ a. KnowsBefore (superpascal g) v q a) (sym e) tt))
       by (Forks o os) e w h k = subst (λ z. Enters_at s v q own m (judged_by j n q z) (With done q z) (suc n)) (some_is h)
-          (put (Split (length os)) _ (forks_linked s v q x.cs at.sound at.known x.one j done n label at.linked o os e) (subst (λ a. KnowsBefore (superpascal g) v q a) (sym e) tt))
+          (put (Forked (length os)) _ (forks_linked s v q x.cs at.sound at.known x.one j done n label at.linked o os e) (subst (λ a. KnowsBefore (superpascal g) v q a) (sym e) tt))
       by (Offering o) e w h k =
           let k' : KnowsOffers j done q (Offered (way_of o.cargo) o.channel) = subst (KnowsOffers j done q) (sym (some_is h)) k in
           subst (λ z. Enters_at s v q own m (judged_by j n q z) (With done q z) (suc n)) (some_is h)
           (put (Offered (way_of o.cargo) o.channel) _ (offers_linked s v q x.cs at.sound at.known x.one j done n label at.linked o e)
           (subst (λ a. KnowsBefore (superpascal g) v q a) (sym e) (known_linked s v j done n label q o at.linked k')))
       by Ends e w h k = subst (λ z. Enters_at s v q own m (judged_by j n q z) (With done q z) (suc n)) (some_is h)
-          (put Finished _ (ends_linked s v q x.cs at.sound at.known x.one j done n label at.linked e) (subst (λ a. KnowsBefore (superpascal g) v q a) (sym e) tt))
+          (put Ended _ (ends_linked s v q x.cs at.sound at.known x.one j done n label at.linked e) (subst (λ a. KnowsBefore (superpascal g) v q a) (sym e) tt))
 
   abbrev Goes_on : (Course → StateOf g → ℕ → Type 0) → StateOf g → Judged → List Occurrence → ℕ → Type 0
   Goes_on left t j done n = (c1 : Course) (u : StateOf g) (r : ℕ) → left c1 u r → (w : Notes) (label : ℕ → Option Event) → At u w j done n label → Goes u w r t
@@ -191,11 +191,11 @@ module _ (g : Setting) where
   entered_goes : (left : Course → StateOf g → ℕ → Type 0) (c : Course) (m : StateOf g) (paused : Bool) (q : Name) (w : Happening) (r : ℕ) (t : StateOf g) (v : Notes) (j : Judged) (done : List Occurrence) (n : ℕ) (label : ℕ → Option Event) → IsCleanly w → Entered g left c m paused q w r
       → At m v j done n label → KnowsOffers j done q w → Goes_on left t (judged_by j n q w) (With done q w) (suc n) → Goes m v r t
   entered_goes left c m paused q Opened r t v j done n label ok h at k go = kernel_goes left c m paused q Opened r t v j done n label ok h at k go
-  entered_goes left c m paused q (Split i) r t v j done n label ok h at k go = kernel_goes left c m paused q (Split i) r t v j done n label ok h at k go
+  entered_goes left c m paused q (Forked i) r t v j done n label ok h at k go = kernel_goes left c m paused q (Forked i) r t v j done n label ok h at k go
   entered_goes left c m paused q (Offered w ch) r t v j done n label ok h at k go = kernel_goes left c m paused q (Offered w ch) r t v j done n label ok h at k go
-  entered_goes left c m paused q Finished r t v j done n label ok h at k go = kernel_goes left c m paused q Finished r t v j done n label ok h at k go
-  entered_goes left c m paused q (Failed i) r t v j done n label ok h at k go = absurd ok
-  entered_goes left c m paused q LaidDown r t v j done n label ok h at k go = absurd ok
+  entered_goes left c m paused q Ended r t v j done n label ok h at k go = kernel_goes left c m paused q Ended r t v j done n label ok h at k go
+  entered_goes left c m paused q (Faulted i) r t v j done n label ok h at k go = absurd ok
+  entered_goes left c m paused q Laid r t v j done n label ok h at k go = absurd ok
   entered_goes left c m paused q Paused r t v j done n label ok h at k go =
       go _ m r h.2 v _ (record { linked = pause_linked m v j done n label q at.linked; sound = at.sound; known = at.known; quiet = at.quiet })
 

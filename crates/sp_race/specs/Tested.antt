@@ -2,17 +2,17 @@
 -- sp_journal says, so that rows can be computed.
 use Rattle.std.specs.Prelude.{ℕ, suc, Bool, true, false, ◌&&◌, if◌then◌else◌, List, [], ◌∷◌, ◌++◌, length, Option, Some, None}
 use Rattle.sp_journal.specs.declared.entry.Way.{Way}
-use Rattle.sp_journal.specs.Names.{Name, Channel, same_way, same_channel, Happening, Opened, Split, Offered, Finished, Failed, LaidDown, Paused, Occurrence}
+use Rattle.sp_journal.specs.Names.{Name, Channel, same_way, same_channel, Happening, Opened, Forked, Offered, Ended, Faulted, Laid, Paused, Occurrence}
 use Rattle.sp_journal.specs.Past.{Judged, judged_by, nothing_judged}
 
 -- an offer of this way on this channel
 abbrev pub is_offer : Way → Channel → Happening → Bool
 is_offer w c (Offered v d) = same_way w v && same_channel c d
 is_offer w c Opened = false
-is_offer w c (Split k) = false
-is_offer w c Finished = false
-is_offer w c (Failed f) = false
-is_offer w c LaidDown = false
+is_offer w c (Forked k) = false
+is_offer w c Ended = false
+is_offer w c (Faulted f) = false
+is_offer w c Laid = false
 is_offer w c Paused = false
 
 -- the completion is there, and p knows it
@@ -29,10 +29,10 @@ knows_all j p w c i (e ∷ es) = (if is_offer w c e.what then is_known j p (j.co
 abbrev pub is_in_order : Judged → List Occurrence → Name → Happening → Bool
 is_in_order j done p (Offered w c) = knows_all j p w c 0 done
 is_in_order j done p Opened = true
-is_in_order j done p (Split k) = true
-is_in_order j done p Finished = true
-is_in_order j done p (Failed f) = true
-is_in_order j done p LaidDown = true
+is_in_order j done p (Forked k) = true
+is_in_order j done p Ended = true
+is_in_order j done p (Faulted f) = true
+is_in_order j done p Laid = true
 is_in_order j done p Paused = true
 
 abbrev pub order_from : Judged → List Occurrence → List Occurrence → Bool

@@ -7,7 +7,7 @@ use prog.Atomic.{either}
 use Rattle.atomic_table.specs.Table.{State, Me, step, keeps, takes, gives, stepped, Allows, Splits, Joins}
 use Rattle.atomic_table.proofs.Lists.{at_set, set_here, set_else, set_again, exchanged}
 use Rattle.sp_room.specs.declared.view.View.{View}
-use Rattle.sp_room.specs.History.{StartsWith, notes_by, Runs}
+use Rattle.sp_room.specs.History.{StartsWith, notes_by, LeadsTo}
 use Rattle.sp_room.specs.Roomed.{Filed, St, Sat, Knows, Roomed, holder, raised, returned, Won, claims_of, in_hand, Raised, RaisedLast, raised_last, Returned}
 use Rattle.sp_room.proofs.Histories.{at_inside, starts_self, starts_trans, drop_seen, by_mine, by_other, claims_set, claims_has}
 
@@ -41,11 +41,11 @@ module _ {O A G N : Type 0} (opens : O → Type 0) (steps : O → ℕ → A → 
     own : notes_by author id log ≡ w.own
     holds : w.holding ≡ true → (get_or words 0 0 ≡ id + 1) × (w.seen ≡ log) × (claims_of (set s.views id w) ≤ w.reserve)
     alone : (turn s ≡ 0) ⊎ (turn s ≡ id + 1)
-    legal : Runs steps opening log last
+    legal : LeadsTo steps opening log last
     wide : length words ≡ 2
     deep : length homes ≡ 1
     count : get_or words 1 0 ≡ length log
-    free : get_or words 0 0 ≡ 0 → (d : Filed O N) × (get_elem? homes 0 ≡ some (some (Some d))) × (d.value.notes.items ≡ log) × Runs steps opening log d.value.object
+    free : get_or words 0 0 ≡ 0 → (d : Filed O N) × (get_elem? homes 0 ≡ some (some (Some d))) × (d.value.notes.items ≡ log) × LeadsTo steps opening log d.value.object
         × (claims_of (set s.views id w) ≤ d.value.reserved) × (length log + d.value.reserved ≤ d.value.notes.cap)
     taken : get_or words 0 0 ≢ 0 → (get_or words 0 0 ≡ id + 1) × (w.holding ≡ true)
 
@@ -156,7 +156,7 @@ module _ {O A G N : Type 0} (opens : O → Type 0) (steps : O → ℕ → A → 
             (
               subst (λ l. StartsWith l me.0.seen) (sym t.2) k.seen,
               ap (notes_by author me.0.number) t.2 ∙ (ap (λ n. notes_by author n r.log) k.numbered ∙ k.own),
-              (λ x is. let same : opening ≡ x = some_same opening x (sym k.opened ∙ is) in (subst opens same r.fine, subst (λ (z : O × List N). Runs steps z.0 z.1 d.value.object) (λ i. (same i, sym t.2 i)) t.3)),
+              (λ x is. let same : opening ≡ x = some_same opening x (sym k.opened ∙ is) in (subst opens same r.fine, subst (λ (z : O × List N). LeadsTo steps z.0 z.1 d.value.object) (λ i. (same i, sym t.2 i)) t.3)),
               omega (arith, claims_has s.views id me.0 at, t.4),
               omega (arith, ap (λ (l : List N). length l) t.2, t.5),
             ),
@@ -166,7 +166,7 @@ module _ {O A G N : Type 0} (opens : O → Type 0) (steps : O → ℕ → A → 
       (λ held. (me.0, keeps, tt, unmoved s r 0 id me.0 me.1 at, ((λ _. refl), λ free. absurd (held free))))
 
   pub raises : (slots id : ℕ) (me : Sat O N) (note : N) (y : O) → me.0.spent ≡ false → me.0.holding ≡ true → in_hand me.1 ≡ me.0.seen ++ note ∷ [] → author note ≡ me.0.number
-      → Runs steps opening (me.0.seen ++ note ∷ []) y → length me.0.seen + 1 < 18446744073709551616
+      → LeadsTo steps opening (me.0.seen ++ note ∷ []) y → length me.0.seen + 1 < 18446744073709551616
       → Allows Rule slots id me 1 (λ n. (n + 1) % 2 ^ 64) (Raised (step slots 1 1 0 none) me)
   raises slots id me note y active holding hand named runs room s r deep at small = let k = r.each id me.0 at active in let h = k.holds holding in
       let e : drop (length me.0.seen) (in_hand me.1) ≡ note ∷ [] = ap (drop (length me.0.seen)) hand ∙ drop_seen me.0.seen (note ∷ []) in
@@ -196,7 +196,7 @@ module _ {O A G N : Type 0} (opens : O → Type 0) (steps : O → ℕ → A → 
               own = by_mine author id r.log note by ∙ ap (λ l. l ++ note ∷ []) k.own;
               holds = λ _. (there ∙ h.0, ap (λ l. l ++ note ∷ []) h.1, omega (arith, claims_set s.views id me.0 w at, h.2));
               alone = inr h.0;
-              legal = subst (λ (z : List N). Runs steps opening (z ++ note ∷ []) y) h.1 runs;
+              legal = subst (λ (z : List N). LeadsTo steps opening (z ++ note ∷ []) y) h.1 runs;
               wide = length-set s.words 1 ((n + 1) % 2 ^ 64) ∙ r.wide;
               deep = r.deep;
               count = here ∙ (next ∙ (ap (λ (z : ℕ). z + 1) r.count ∙ sym (length-append r.log (note ∷ []))));
@@ -207,7 +207,7 @@ module _ {O A G N : Type 0} (opens : O → Type 0) (steps : O → ℕ → A → 
       )
 
   pub raises_last : (slots id : ℕ) (me : Sat O N) (note : N) (y : O) → me.0.spent ≡ false → me.0.holding ≡ true → in_hand me.1 ≡ me.0.seen ++ note ∷ [] → author note ≡ me.0.number
-      → Runs steps opening (me.0.seen ++ note ∷ []) y → 0 < me.0.claims → length me.0.seen + 1 < 18446744073709551616
+      → LeadsTo steps opening (me.0.seen ++ note ∷ []) y → 0 < me.0.claims → length me.0.seen + 1 < 18446744073709551616
       → Allows Rule slots id me 1 (λ n. (n + 1) % 2 ^ 64) (RaisedLast (step slots 1 1 0 none) me)
   raises_last slots id me note y active holding hand named runs claim room s r deep at small = let k = r.each id me.0 at active in let h = k.holds holding in
       let e : drop (length me.0.seen) (in_hand me.1) ≡ note ∷ [] = ap (drop (length me.0.seen)) hand ∙ drop_seen me.0.seen (note ∷ []) in
@@ -237,7 +237,7 @@ module _ {O A G N : Type 0} (opens : O → Type 0) (steps : O → ℕ → A → 
               own = by_mine author id r.log note by ∙ ap (λ l. l ++ note ∷ []) k.own;
               holds = λ _. (there ∙ h.0, ap (λ l. l ++ note ∷ []) h.1, omega (arith, claims_set s.views id me.0 w at, h.2, claim, claims_has s.views id me.0 at));
               alone = inr h.0;
-              legal = subst (λ (z : List N). Runs steps opening (z ++ note ∷ []) y) h.1 runs;
+              legal = subst (λ (z : List N). LeadsTo steps opening (z ++ note ∷ []) y) h.1 runs;
               wide = length-set s.words 1 ((n + 1) % 2 ^ 64) ∙ r.wide;
               deep = r.deep;
               count = here ∙ (next ∙ (ap (λ (z : ℕ). z + 1) r.count ∙ sym (length-append r.log (note ∷ []))));
@@ -247,7 +247,7 @@ module _ {O A G N : Type 0} (opens : O → Type 0) (steps : O → ℕ → A → 
         refl,
       )
 
-  pub returns_turn : (slots id : ℕ) (me : Sat O N) (d : Filed O N) → me.0.spent ≡ false → me.0.holding ≡ true → me.1 ≡ (0, Some d) ∷ [] → d.value.notes.items ≡ me.0.seen → Runs steps opening me.0.seen d.value.object → d.value.reserved ≡ me.0.reserve → length me.0.seen + d.value.reserved ≤ d.value.notes.cap
+  pub returns_turn : (slots id : ℕ) (me : Sat O N) (d : Filed O N) → me.0.spent ≡ false → me.0.holding ≡ true → me.1 ≡ (0, Some d) ∷ [] → d.value.notes.items ≡ me.0.seen → LeadsTo steps opening me.0.seen d.value.object → d.value.reserved ≡ me.0.reserve → length me.0.seen + d.value.reserved ≤ d.value.notes.cap
       → Allows Rule slots id me 0 (λ _. 0) (λ _. Returned (step slots 0 0 0 none) me 0)
   returns_turn slots id me d active holding hand items runs reserve space s r deep at small = let k = r.each id me.0 at active in let h = k.holds holding in let w : V = returned me.0 in let wide = r.wide in let one = r.deep in
       let now : get_or (set s.words 0 0) 0 0 ≡ 0 = get_or-set_same s.words 0 0 0 (omega arith) in (
@@ -275,7 +275,7 @@ module _ {O A G N : Type 0} (opens : O → Type 0) (steps : O → ℕ → A → 
               wide = length-set s.words 0 0 ∙ r.wide;
               deep = length-set s.homes 0 (some (Some d)) ∙ r.deep;
               count = get_or-set_other s.words 0 1 0 0 (λ e. omega arith) ∙ r.count;
-              free = λ _. (d, set_here s.homes 0 (some (Some d)) (omega arith), items ∙ h.1, subst (λ (z : List N). Runs steps opening z d.value.object) h.1 runs, omega (arith, claims_set s.views id me.0 w at, h.2, reserve), omega (arith, ap (λ (l : List N). length l) h.1, space));
+              free = λ _. (d, set_here s.homes 0 (some (Some d)) (omega arith), items ∙ h.1, subst (λ (z : List N). LeadsTo steps opening z d.value.object) h.1 runs, omega (arith, claims_set s.views id me.0 w at, h.2, reserve), omega (arith, ap (λ (l : List N). length l) h.1, space));
               taken = λ ne. absurd (ne now);
             }),
         ap (λ (c : List (ℕ × Option (Filed O N))). (w, Rattle.atomic_table.specs.Table.rest c)) hand,
@@ -286,14 +286,14 @@ module _ {O A G N : Type 0} (opens : O → Type 0) (steps : O → ℕ → A → 
 
   -- the desk was laid back as it was found
   pub gives_back : (slots id : ℕ) (me me' : Sat O N) (d : Filed O N) → me ≡ (me.0, (0, None) ∷ []) → me' ≡ (me.0, (0, Some d) ∷ Rattle.atomic_table.specs.Table.rest me.1)
-      → me.0.spent ≡ false → me.0.holding ≡ true → d.value.notes.items ≡ me.0.seen → Runs steps opening me.0.seen d.value.object → d.value.reserved ≡ me.0.reserve → length me.0.seen + d.value.reserved ≤ d.value.notes.cap
+      → me.0.spent ≡ false → me.0.holding ≡ true → d.value.notes.items ≡ me.0.seen → LeadsTo steps opening me.0.seen d.value.object → d.value.reserved ≡ me.0.reserve → length me.0.seen + d.value.reserved ≤ d.value.notes.cap
       → Allows Rule slots id me' 0 (λ _. 0) (λ _. Returned (step slots 0 0 0 none) me' 0)
   gives_back slots id me me' d bare is active holding items runs reserve space = subst (λ (m : Sat O N). Allows Rule slots id m 0 (λ _. 0) (λ _. Returned (step slots 0 0 0 none) m 0)) (sym (laid me me' d bare is))
       (returns_turn slots id (me.0, (0, Some d) ∷ []) d active holding refl items runs reserve space)
 
   -- the desk was laid back with one note more
   pub counts_on : (slots id : ℕ) (me me' : Sat O N) (d : Filed O N) (note : N) → me ≡ (me.0, (0, None) ∷ []) → me' ≡ (me.0, (0, Some d) ∷ Rattle.atomic_table.specs.Table.rest me.1)
-      → me.0.spent ≡ false → me.0.holding ≡ true → author note ≡ me.0.number → d.value.notes.items ≡ me.0.seen ++ note ∷ [] → Runs steps opening (me.0.seen ++ note ∷ []) d.value.object → length d.value.notes.items < 18446744073709551616
+      → me.0.spent ≡ false → me.0.holding ≡ true → author note ≡ me.0.number → d.value.notes.items ≡ me.0.seen ++ note ∷ [] → LeadsTo steps opening (me.0.seen ++ note ∷ []) d.value.object → length d.value.notes.items < 18446744073709551616
       → Allows Rule slots id me' 1 (λ n. (n + 1) % 2 ^ 64) (Raised (step slots 1 1 0 none) me')
   counts_on slots id me me' d note bare is active holding named items runs small = subst (λ (m : Sat O N). Allows Rule slots id m 1 (λ n. (n + 1) % 2 ^ 64) (Raised (step slots 1 1 0 none) m)) (sym (laid me me' d bare is))
       (raises slots id (me.0, (0, Some d) ∷ []) note d.value.object active holding items named runs (omega (arith, small, ap (λ (l : List N). length l) items, length-append me.0.seen (note ∷ []))))
@@ -306,14 +306,14 @@ module _ {O A G N : Type 0} (opens : O → Type 0) (steps : O → ℕ → A → 
   -- and then the turn is given back
   pub gives_on : (slots id : ℕ) (me me' me'' : Sat O N) (d : Filed O N) (note : N) → me ≡ (me.0, (0, None) ∷ []) → me' ≡ (me.0, (0, Some d) ∷ Rattle.atomic_table.specs.Table.rest me.1)
       → me'' ≡ (raised me'.0 (drop (length me'.0.seen) (in_hand me'.1)), me'.1)
-      → me.0.spent ≡ false → me.0.holding ≡ true → d.value.notes.items ≡ me.0.seen ++ note ∷ [] → Runs steps opening (me.0.seen ++ note ∷ []) d.value.object → d.value.reserved ≡ me.0.reserve → length d.value.notes.items + d.value.reserved ≤ d.value.notes.cap
+      → me.0.spent ≡ false → me.0.holding ≡ true → d.value.notes.items ≡ me.0.seen ++ note ∷ [] → LeadsTo steps opening (me.0.seen ++ note ∷ []) d.value.object → d.value.reserved ≡ me.0.reserve → length d.value.notes.items + d.value.reserved ≤ d.value.notes.cap
       → Allows Rule slots id me'' 0 (λ _. 0) (λ _. Returned (step slots 0 0 0 none) me'' 0)
   gives_on slots id me me' me'' d note bare is up active holding items runs reserve space = subst (λ (m : Sat O N). Allows Rule slots id m 0 (λ _. 0) (λ _. Returned (step slots 0 0 0 none) m 0)) (sym (counted me me' me'' d note bare is items up))
       (returns_turn slots id (raised me.0 (note ∷ []), (0, Some d) ∷ []) d active holding refl items runs reserve (omega (arith, ap (λ (l : List N). length l) items, space)))
 
   -- the desk was laid back with one note more
   pub counts_last : (slots id : ℕ) (me me' : Sat O N) (d : Filed O N) (note : N) → me ≡ (me.0, (0, None) ∷ []) → me' ≡ (me.0, (0, Some d) ∷ Rattle.atomic_table.specs.Table.rest me.1)
-      → me.0.spent ≡ false → me.0.holding ≡ true → author note ≡ me.0.number → d.value.notes.items ≡ me.0.seen ++ note ∷ [] → Runs steps opening (me.0.seen ++ note ∷ []) d.value.object → 0 < me.0.claims → length d.value.notes.items < 18446744073709551616
+      → me.0.spent ≡ false → me.0.holding ≡ true → author note ≡ me.0.number → d.value.notes.items ≡ me.0.seen ++ note ∷ [] → LeadsTo steps opening (me.0.seen ++ note ∷ []) d.value.object → 0 < me.0.claims → length d.value.notes.items < 18446744073709551616
       → Allows Rule slots id me' 1 (λ n. (n + 1) % 2 ^ 64) (RaisedLast (step slots 1 1 0 none) me')
   counts_last slots id me me' d note bare is active holding named items runs claim small = subst (λ (m : Sat O N). Allows Rule slots id m 1 (λ n. (n + 1) % 2 ^ 64) (RaisedLast (step slots 1 1 0 none) m)) (sym (laid me me' d bare is))
       (raises_last slots id (me.0, (0, Some d) ∷ []) note d.value.object active holding items named runs claim (omega (arith, small, ap (λ (l : List N). length l) items, length-append me.0.seen (note ∷ []))))
@@ -326,7 +326,7 @@ module _ {O A G N : Type 0} (opens : O → Type 0) (steps : O → ℕ → A → 
   -- and then the turn is given back
   pub gives_last : (slots id : ℕ) (me me' me'' : Sat O N) (d : Filed O N) (note : N) → me ≡ (me.0, (0, None) ∷ []) → me' ≡ (me.0, (0, Some d) ∷ Rattle.atomic_table.specs.Table.rest me.1)
       → me'' ≡ (raised_last me'.0 (drop (length me'.0.seen) (in_hand me'.1)), me'.1)
-      → me.0.spent ≡ false → me.0.holding ≡ true → d.value.notes.items ≡ me.0.seen ++ note ∷ [] → Runs steps opening (me.0.seen ++ note ∷ []) d.value.object → d.value.reserved ≡ me.0.reserve - 1 → length d.value.notes.items + d.value.reserved ≤ d.value.notes.cap
+      → me.0.spent ≡ false → me.0.holding ≡ true → d.value.notes.items ≡ me.0.seen ++ note ∷ [] → LeadsTo steps opening (me.0.seen ++ note ∷ []) d.value.object → d.value.reserved ≡ me.0.reserve - 1 → length d.value.notes.items + d.value.reserved ≤ d.value.notes.cap
       → Allows Rule slots id me'' 0 (λ _. 0) (λ _. Returned (step slots 0 0 0 none) me'' 0)
   gives_last slots id me me' me'' d note bare is up active holding items runs reserve space = subst (λ (m : Sat O N). Allows Rule slots id m 0 (λ _. 0) (λ _. Returned (step slots 0 0 0 none) m 0)) (sym (counted_last me me' me'' d note bare is items up))
       (returns_turn slots id (raised_last me.0 (note ∷ []), (0, Some d) ∷ []) d active holding refl items runs reserve (omega (arith, ap (λ (l : List N). length l) items, space)))

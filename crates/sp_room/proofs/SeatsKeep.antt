@@ -8,7 +8,7 @@ use Rattle.atomic_table.specs.Table.{Splits, Joins, Seen, Final, opening}
 use Rattle.atomic_table.proofs.Lists.{at_set, set_here, set_else, at_longer}
 use Rattle.sp_room.specs.declared.desk.Desk.{Desk}
 use Rattle.sp_room.specs.declared.view.View.{View}
-use Rattle.sp_room.specs.History.{StartsWith, notes_by, Runs}
+use Rattle.sp_room.specs.History.{StartsWith, notes_by, LeadsTo}
 use Rattle.sp_room.specs.Roomed.{Filed, St, Sat, Knows, Roomed, first_view, dealt_out, newcomer, taking, spent_view, newborn, claims_of, IsNewAt}
 use Rattle.sp_room.proofs.Histories.{at_inside, claims_set, claims_end}
 
@@ -203,14 +203,14 @@ module _ {O A G N : Type 0} (opens : O → Type 0) (steps : O → ℕ → A → 
 
   -- what was laid back, and whose notes are whose
   pub settles : (words : List ℕ) (slots : List (Option (Filed O N))) (id : ℕ) (v : V) (x : Option (Filed O N)) → Final (Seen Rule id v) words slots → v.spent ≡ false → v.holding ≡ false → v.from ≡ 0 → v.dealt ≢ 0
-      → get_elem? slots 0 ≡ some x → (d : Filed O N) × (x ≡ Some d) × Runs steps start d.value.notes.items d.value.object
+      → get_elem? slots 0 ≡ some x → (d : Filed O N) × (x ≡ Some d) × LeadsTo steps start d.value.notes.items d.value.object
       × ((k : ℕ) (own : List N) → get_elem? (v.joined ++ v.own ∷ []) k ≡ some own → notes_by author k d.value.notes.items ≡ own)
       × ((k : ℕ) (l : List N) → get_elem? (v.looked ++ v.seen ∷ []) k ≡ some l → StartsWith d.value.notes.items l)
   settles words slots id v x final active idle from deals found = let s : St O N = final.0 in let r = final.1.0 in let at = final.1.1 in let k = r.each id v at active in
       let h = r.free (all_home s r id v at active idle from deals) in let d : Filed O N = h.0 in (
         d,
         some-injective x (Some d) (sym found ∙ final.4 0 (Some d) h.1),
-        subst (λ l. Runs steps start l d.value.object) (sym h.2) h.3,
+        subst (λ l. LeadsTo steps start l d.value.object) (sym h.2) h.3,
         λ j own e. ap (λ l. notes_by author j l) h.2 ∙ ⊎_elim
             (λ (p : get_elem? v.joined j ≡ some own). let t = k.taken_in j own p in let at_j : j ≡ v.from + j = omega (arith, from) in ap (λ n. notes_by author n r.log) at_j ∙ t.0)
             (λ (p : (j ≡ length v.joined) × (v.own ≡ own)). let at_j : j ≡ id = omega (arith, p.0, k.joins, from) in ap (λ n. notes_by author n r.log) at_j ∙ (k.own ∙ p.1))
@@ -259,9 +259,9 @@ opens_filed {O} {A} {G} {N} opens steps author x first d slots filed is same fin
 -- the desk that was taken out of the slot
 pub settled : {O A G N : Type 0} (opens : O → Type 0) (steps : O → ℕ → A → O → G → Option N → Type 0) (author : N → ℕ) (start : O) (words : List ℕ) (slots : List (Option (Filed O N))) (id : ℕ) (v : View O N) (x : Option (Filed O N)) (d : Filed O N)
     → Final (Seen (Roomed opens steps author start) id v) words slots → v.spent ≡ false → v.holding ≡ false → v.from ≡ 0 → v.dealt ≢ 0 → get_elem? slots 0 ≡ some x → x ≡ Some d
-    → Runs steps start d.value.notes.items d.value.object × ((k : ℕ) (own : List N) → get_elem? (v.joined ++ v.own ∷ []) k ≡ some own → notes_by author k d.value.notes.items ≡ own)
+    → LeadsTo steps start d.value.notes.items d.value.object × ((k : ℕ) (own : List N) → get_elem? (v.joined ++ v.own ∷ []) k ≡ some own → notes_by author k d.value.notes.items ≡ own)
     × ((k : ℕ) (l : List N) → get_elem? (v.looked ++ v.seen ∷ []) k ≡ some l → StartsWith d.value.notes.items l)
 settled {O} {A} {G} {N} opens steps author start words slots id v x d final active idle from dealing found is = let t = settles opens steps author start words slots id v x final active idle from dealing found in
     let same : t.0 ≡ d = some_same t.0 d (sym t.1 ∙ is) in
-    subst (λ (e : Filed O N). Runs steps start e.value.notes.items e.value.object × ((k : ℕ) (own : List N) → get_elem? (v.joined ++ v.own ∷ []) k ≡ some own → notes_by author k e.value.notes.items ≡ own)
+    subst (λ (e : Filed O N). LeadsTo steps start e.value.notes.items e.value.object × ((k : ℕ) (own : List N) → get_elem? (v.joined ++ v.own ∷ []) k ≡ some own → notes_by author k e.value.notes.items ≡ own)
     × ((k : ℕ) (l : List N) → get_elem? (v.looked ++ v.seen ∷ []) k ≡ some l → StartsWith e.value.notes.items l)) same (t.2, t.3, t.4)

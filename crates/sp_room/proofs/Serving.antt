@@ -1,7 +1,7 @@
 -- What a call tells.
 use Rattle.std.proofs.Common.{arith, length, length-append, ◌-◌, ◌≤◌, ◌<◌, ◌≡◌, ℕ, ◌+◌, List, [], ◌∷◌, ◌++◌, refl, sym, ap, ◌∙◌, subst, Option, Some, None}
 use mathlib.Core.List.{append-nil}
-use Rattle.sp_room.specs.History.{StartsWith, notes_by, Runs}
+use Rattle.sp_room.specs.History.{StartsWith, notes_by, LeadsTo}
 use Rattle.sp_room.specs.Roomed.{Filed, Sat, holder, raised, raised_last, returned, Holds, Called, Declined}
 use Rattle.sp_room.proofs.Histories.{starts_longer, by_mine, runs_on}
 
@@ -9,8 +9,8 @@ module _ {O A G N : Type 0} (opens : O → Type 0) (steps : O → ℕ → A → 
   -- the desk with the note of the call
   pub noted_desk : (m m' : Sat O N) (cs : List (ℕ × Option (Filed O N))) (d : Filed O N) (y : O) (number : ℕ) (a : A) (g : G) (o : Option N) (n : N) (items : List N)
       → m' ≡ (holder m.0 d.value.notes.items d.value.reserved, cs) → Holds opens steps author m.0 d → m.0.opening ≡ Some x → steps d.value.object number a y g o → o ≡ Some n → items ≡ d.value.notes.items ++ n ∷ []
-      → (items ≡ m'.0.seen ++ n ∷ []) × Runs steps x (m'.0.seen ++ n ∷ []) y
-  noted_desk m m' cs d y number a g o n items won holds from call is more = subst (λ (z : Sat O N). (items ≡ z.0.seen ++ n ∷ []) × Runs steps x (z.0.seen ++ n ∷ []) y) (sym won)
+      → (items ≡ m'.0.seen ++ n ∷ []) × LeadsTo steps x (m'.0.seen ++ n ∷ []) y
+  noted_desk m m' cs d y number a g o n items won holds from call is more = subst (λ (z : Sat O N). (items ≡ z.0.seen ++ n ∷ []) × LeadsTo steps x (z.0.seen ++ n ∷ []) y) (sym won)
       (more, runs_on steps x d.value.notes.items d.value.object y number a g n ((holds.2 x from).1) (subst (λ z. steps d.value.object number a y g z) is call))
 
   -- what the seat has seen after a call with a note, and that its own notes in it are all
@@ -86,7 +86,7 @@ module _ {O A G N : Type 0} (opens : O → Type 0) (steps : O → ℕ → A → 
         answer = here;
         appended = sym (append-nil d.value.notes.items);
         own = sym (append-nil m.0.own);
-        legal_after = subst (λ z. Runs steps x d.value.notes.items z) (sym same) (holds.2 x from).1;
+        legal_after = subst (λ z. LeadsTo steps x d.value.notes.items z) (sym same) (holds.2 x from).1;
       }
 
   -- no call, for want of memory

@@ -22,6 +22,6 @@ noted (Some n) = n ∷ []
 noted None = []
 
 -- asked in this order from the first state, the object gives these notes, and is in the last state then
-abbrev pub Runs : {O A G N : Type 0} → (O → ℕ → A → O → G → Option N → Type 0) → O → List N → O → Type 0
-Runs steps x [] y = x ≡ y
-Runs {O} {A} {G} steps x (n ∷ ns) y = (mid : O) × (w : ℕ) × (a : A) × (g : G) × steps x w a mid g (Some n) × Runs steps mid ns y
+abbrev pub LeadsTo : {O A G N : Type 0} → (O → ℕ → A → O → G → Option N → Type 0) → O → List N → O → Type 0
+LeadsTo steps x [] y = x ≡ y
+LeadsTo {O} {A} {G} steps x (n ∷ ns) y = (mid : O) × (w : ℕ) × (a : A) × (g : G) × steps x w a mid g (Some n) × LeadsTo steps mid ns y

@@ -8,7 +8,7 @@ use Rattle.atomic_table.specs.Table.{State, Me, Step}
 use Rattle.std.specs.Global.{Box}
 use Rattle.sp_room.specs.declared.desk.Desk.{Desk}
 use Rattle.sp_room.specs.declared.view.View.{View}
-use Rattle.sp_room.specs.History.{StartsWith, notes_by, noted, Runs}
+use Rattle.sp_room.specs.History.{StartsWith, notes_by, noted, LeadsTo}
 
 -- the object and its notes, on the heap
 abbrev pub Filed : Type 0 → Type 0 → Type 0
@@ -49,11 +49,11 @@ pub record Roomed {O A G N : Type 0} (opens : O → Type 0) (steps : O → ℕ �
   pub fine : opens opening
   pub log : List N
   pub last : O
-  pub legal : Runs steps opening log last
+  pub legal : LeadsTo steps opening log last
   pub wide : length s.words ≡ 2
   pub deep : length s.homes ≡ 1
   pub count : slice_index s.words 1 ≡ length log
-  pub free : slice_index s.words 0 ≡ 0 → (d : Filed O N) × (get_elem? s.homes 0 ≡ some (some (Some d))) × (d.value.notes.items ≡ log) × Runs steps opening log d.value.object
+  pub free : slice_index s.words 0 ≡ 0 → (d : Filed O N) × (get_elem? s.homes 0 ≡ some (some (Some d))) × (d.value.notes.items ≡ log) × LeadsTo steps opening log d.value.object
       × (claims_of s.views ≤ d.value.reserved) × (length log + d.value.reserved ≤ d.value.notes.cap)
   pub taken : (j : ℕ) → slice_index s.words 0 ≡ j + 1 → (v : View O N) × (get_elem? s.views j ≡ some v) × (v.holding ≡ true) × (v.spent ≡ false)
   pub each : (j : ℕ) (v : View O N) → get_elem? s.views j ≡ some v → v.spent ≡ false → Knows author opening log (slice_index s.words 0) s.views j v
@@ -98,7 +98,7 @@ module _ {O N : Type 0} where
 
   -- the history so far is seen, in which the seat's own notes are these, and the desk is in hand
   abbrev pub Holds : {A G : Type 0} → (O → Type 0) → (O → ℕ → A → O → G → Option N → Type 0) → (N → ℕ) → View O N → Filed O N → Type 0
-  Holds opens steps author v d = StartsWith d.value.notes.items v.seen × (notes_by author v.number d.value.notes.items ≡ v.own) × ((x : O) → v.opening ≡ Some x → opens x × Runs steps x d.value.notes.items d.value.object)
+  Holds opens steps author v d = StartsWith d.value.notes.items v.seen × (notes_by author v.number d.value.notes.items ≡ v.own) × ((x : O) → v.opening ≡ Some x → opens x × LeadsTo steps x d.value.notes.items d.value.object)
       × (v.claims ≤ d.value.reserved) × (length d.value.notes.items + d.value.reserved ≤ d.value.notes.cap)
 
   -- the turn was taken where it was free
@@ -159,15 +159,15 @@ pub record Called {O A G N : Type 0} (steps : O → ℕ → A → O → G → Op
   pub left : O
   pub note : Option N
   pub begins : StartsWith before v.seen
-  pub legal : Runs steps x before met
+  pub legal : LeadsTo steps x before met
   pub answer : steps met v.number ask left got note
   pub appended : w.seen ≡ before ++ noted note
   pub own : w.own ≡ v.own ++ noted note
-  pub legal_after : Runs steps x w.seen left
+  pub legal_after : LeadsTo steps x w.seen left
 
 -- no call of the object was made, for want of memory for the history: the ask comes back, and no note is added to a legal history
 pub record Declined {O A G N : Type 0} (steps : O → ℕ → A → O → G → Option N → Type 0) (refused : A → G → Type 0) (x : O) (v : View O N) (ask : A) (got : G) (w : View O N) : Type 0 where
   pub answer : refused ask got
   pub own : w.own ≡ v.own
   pub met : O
-  pub legal : Runs steps x w.seen met
+  pub legal : LeadsTo steps x w.seen met

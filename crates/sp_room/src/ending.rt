@@ -4,7 +4,7 @@ ghost use Rattle.std.specs.Slots.{slots_len, slots_items, IsFull};
 ghost use mathlib.Core.Option.{some};
 ghost use lib.ListN.{get_elem?};
 ghost use Rattle.sp_room.specs.Seats.{opening_of, own_of, seen_by, seat_table, IsSeatAt};
-ghost use Rattle.sp_room.specs.History.{StartsWith, notes_by, Runs};
+ghost use Rattle.sp_room.specs.History.{StartsWith, notes_by, LeadsTo};
 
 use crate::desk::Desk;
 use crate::kept::Kept;
@@ -17,7 +17,7 @@ use std::alloc::Global;
 pub(crate) fn gather<K: Kept>(room: Room<K>, mut row: Vec<RoomSeat<K>>) -> Box<Desk<K, K::Note>>
     requires some { 0 < length row.items }
     requires all { (k : ℕ) (t : _) → slice_get row.items k ≡ Some t → (seat_table t ≡ room.table.shared.table_id) × IsSeatAt (length row.items) k t }
-    ensures legal { Runs K.steps (opening_of room) result.value.notes.items result.value.object }
+    ensures legal { LeadsTo K.steps (opening_of room) result.value.notes.items result.value.object }
     ensures own { (k : ℕ) (t : _) → slice_get row.items k ≡ Some t → notes_by K.author k result.value.notes.items ≡ own_of t }
     ensures seen { (k : ℕ) (t : _) → slice_get row.items k ≡ Some t → StartsWith result.value.notes.items (seen_by t) }
     ensures others { (k : ℕ) → length row.items ≤ k → notes_by K.author k result.value.notes.items ≡ [] }

@@ -14,7 +14,7 @@ pub struct Served<G, N> {
 /// What the object does is the relation `steps`, and its laws are proved with each implementation.
 pub trait Kept {
     ghost use Rattle.std.specs.Prelude.{Option, List, Some, None, ◌<◌, length, Bool, true, false};
-    ghost use Rattle.sp_room.specs.History.{Runs, notes_by, StartsWith};
+    ghost use Rattle.sp_room.specs.History.{LeadsTo, notes_by, StartsWith};
 
     type Ask;
 
@@ -78,6 +78,6 @@ pub trait Kept {
 
     // What may be asked after the history seen may be asked, and served, after each longer legal one with the same notes of that worker.
     ghost lasting: { (x : Self) (w : ℕ) (seen own : List Self.Note) (a : Self.Ask) (log : List Self.Note) (y : Self) → opens x
-        → may_ask x w seen own a → StartsWith log seen → notes_by author w log ≡ own → Runs steps x log y
+        → may_ask x w seen own a → StartsWith log seen → notes_by author w log ≡ own → LeadsTo steps x log y
         → length log < 18446744073709551615 → may_ask x w log own a × can_serve y w a };
 }

@@ -3,7 +3,7 @@ ghost use Rattle.std.specs.Prelude.{◌≡◌, ℕ, ◌⊎◌, ◌+◌, ◌<◌,
 ghost use Rattle.sp_room.specs.Seats.{opening_of, number_of, seen_by, own_of, turns_of, claims_of_seat, seat_view, IsSeatOf, IsNewSeat, IsSeatAt, SamePlace};
 ghost use Rattle.sp_room.specs.Ends.{object_of, notes_of};
 ghost use Rattle.sp_room.specs.Roomed.{Called, Declined};
-ghost use Rattle.sp_room.specs.History.{StartsWith, notes_by, Runs};
+ghost use Rattle.sp_room.specs.History.{StartsWith, notes_by, LeadsTo};
 
 use crate::desk::{Desk, put, put_last};
 use crate::ending::gather;
@@ -67,7 +67,7 @@ impl<K: Kept> Room<K> {
     pub fn close(self, seats: List<RoomSeat<K>>) -> Settled<K>
         requires some { 0 < length seats }
         requires seats { (k : ℕ) (t : _) → slice_get seats k ≡ Some t → IsSeatOf self t × IsSeatAt (length seats) k t }
-        ensures legal { Runs K.steps (opening_of self) (notes_of result) (object_of result) }
+        ensures legal { LeadsTo K.steps (opening_of self) (notes_of result) (object_of result) }
         ensures own { (k : ℕ) (t : _) → slice_get seats k ≡ Some t → notes_by K.author k (notes_of result) ≡ own_of t }
         ensures seen { (k : ℕ) (t : _) → slice_get seats k ≡ Some t → StartsWith (notes_of result) (seen_by t) }
         ensures others { (k : ℕ) → length seats ≤ k → notes_by K.author k (notes_of result) ≡ [] }

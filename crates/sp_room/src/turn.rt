@@ -2,7 +2,7 @@
 ghost use Rattle.std.specs.Prelude.{◌≡◌, ◌-◌, ◌+◌, ◌%◌, ◌^◌, ◌<◌, ◌≤◌, true, false, Some, None, [], ◌∷◌, ◌++◌, length};
 ghost use Rattle.std.specs.Vec.{vec_capacity};
 ghost use Rattle.sp_room.specs.Roomed.{holder, raised, raised_last, returned, Holds, IsIdle};
-ghost use Rattle.sp_room.specs.History.{Runs};
+ghost use Rattle.sp_room.specs.History.{LeadsTo};
 
 use crate::desk::Desk;
 use crate::kept::Kept;
@@ -55,7 +55,7 @@ pub(crate) fn give_back<K: Kept>(
     requires room { seat.old.table_id ≡ room.now.table.shared.table_id }
     requires holds { (seat.old.me ≡ (seat.old.me.0, (0, None) ∷ [])) × (seat.old.me.0.holding ≡ true) × (seat.old.me.0.spent ≡ false) }
     requires desk { (desk.value.notes.items ≡ seat.old.me.0.seen)
-        × Runs K.steps room.now.table.shared.key.value seat.old.me.0.seen desk.value.object
+        × LeadsTo K.steps room.now.table.shared.key.value seat.old.me.0.seen desk.value.object
         × (desk.value.reserved ≡ seat.old.me.0.reserve) × (length seat.old.me.0.seen + desk.value.reserved ≤ vec_capacity desk.value.notes) }
     ensures same { (seat.new.table_id ≡ seat.old.table_id) × (seat.new.id ≡ seat.old.id) }
     ensures free { seat.new.me ≡ (returned seat.old.me.0, []) }
@@ -81,7 +81,7 @@ pub(crate) fn give_on<K: Kept>(
     requires holds { (seat.old.me ≡ (seat.old.me.0, (0, None) ∷ [])) × (seat.old.me.0.holding ≡ true) × (seat.old.me.0.spent ≡ false) }
     requires note { K.author note ≡ seat.old.me.0.number }
     requires desk { (desk.value.notes.items ≡ seat.old.me.0.seen ++ note ∷ [])
-        × Runs K.steps room.now.table.shared.key.value (seat.old.me.0.seen ++ note ∷ []) desk.value.object
+        × LeadsTo K.steps room.now.table.shared.key.value (seat.old.me.0.seen ++ note ∷ []) desk.value.object
         × (desk.value.reserved ≡ seat.old.me.0.reserve) × (length desk.value.notes.items + desk.value.reserved ≤ vec_capacity desk.value.notes) }
     ensures same { (seat.new.table_id ≡ seat.old.table_id) × (seat.new.id ≡ seat.old.id) }
     ensures free { seat.new.me ≡ (returned (raised seat.old.me.0 (note ∷ [])), []) }
@@ -110,7 +110,7 @@ pub(crate) fn give_last<K: Kept>(
     requires claim { 0 < seat.old.me.0.claims }
     requires note { K.author note ≡ seat.old.me.0.number }
     requires desk { (desk.value.notes.items ≡ seat.old.me.0.seen ++ note ∷ [])
-        × Runs K.steps room.now.table.shared.key.value (seat.old.me.0.seen ++ note ∷ []) desk.value.object
+        × LeadsTo K.steps room.now.table.shared.key.value (seat.old.me.0.seen ++ note ∷ []) desk.value.object
         × (desk.value.reserved ≡ seat.old.me.0.reserve - 1) × (length desk.value.notes.items + desk.value.reserved ≤ vec_capacity desk.value.notes) }
     ensures same { (seat.new.table_id ≡ seat.old.table_id) × (seat.new.id ≡ seat.old.id) }
     ensures free { seat.new.me ≡ (returned (raised_last seat.old.me.0 (note ∷ [])), []) }

@@ -10,7 +10,7 @@ use Rattle.sp_meaning.specs.Maps.{at_key}
 use Rattle.sp_meaning.specs.Values.{Value, initials}
 use Rattle.sp_meaning.specs.Own.{Setting, Cell, Input, Tree, Position, Address, Item, Own, Who, same_loc, position_in}
 use Rattle.sp_meaning.specs.Eval.{Given, ValueOf}
-use Rattle.sp_meaning.specs.Deeds.{Deed, Went, begins, taken_by}
+use Rattle.sp_meaning.specs.Deeds.{Deed, Stepped, begins, taken_by}
 use Rattle.sp_meaning.specs.Texts.{Taken, line_length}
 use Rattle.sp_run.specs.Direct.{Store, Came, Got, Not, put}
 use Rattle.sp_run.specs.DirectEval.{Calls, kind_at, left_of, input_op, form_value}
@@ -30,7 +30,7 @@ lay_not g n b x y v vs us w o o1 s s1 u h e1 e2 e3 e4 e5 =
     let f = rw k at e5 in
     rw (e1, eq-eqb v.block b e2, e4) f
 
-pub line_read : (g : Setting) (todo : List Item) (w : Who) (o o1 o2 : Own) (s s1 s2 : Store) (left : List ℕ) (n : ℕ) (u : Unit {0}) → left_of g w o s ≡ Got left o1 s1 → n ≡ line_length left → advance g n w o1 s1 ≡ Got u o2 s2 → read_line g todo w o s ≡ Got (Went todo) o2 s2
+pub line_read : (g : Setting) (todo : List Item) (w : Who) (o o1 o2 : Own) (s s1 s2 : Store) (left : List ℕ) (n : ℕ) (u : Unit {0}) → left_of g w o s ≡ Got left o1 s1 → n ≡ line_length left → advance g n w o1 s1 ≡ Got u o2 s2 → read_line g todo w o s ≡ Got (Stepped todo) o2 s2
 line_read g todo w o o1 o2 s s1 s2 left n u e1 e2 e3 =
     let l : drop (position_in (s Input)) g.input ≡ left = cc in
     let p : o1 ≡ o = cc in
@@ -41,7 +41,7 @@ line_read g todo w o o1 o2 s s1 s2 left n u e1 e2 e3 =
     let b : s2 ≡ at_key same_loc Input (Position (position_in (s Input) + line_length (drop (position_in (s Input)) g.input))) s = cc in
     rw (a, b) refl
 
-pub value_read : (g : Setting) (a : Address) (todo : List Item) (w : Who) (o o1 o2 : Own) (s s1 s2 : Store) (k : KindOf) (left : List ℕ) (t : Taken) (u : Unit {0}) → kind_at g a.kind w o s ≡ Got k o s → left_of g w o s ≡ Got left o1 s1 → Some t ≡ taken_by k left → take_in g a t w o1 s1 ≡ Got u o2 s2 → read_value g a todo w o s ≡ Got (Went todo) o2 s2
+pub value_read : (g : Setting) (a : Address) (todo : List Item) (w : Who) (o o1 o2 : Own) (s s1 s2 : Store) (k : KindOf) (left : List ℕ) (t : Taken) (u : Unit {0}) → kind_at g a.kind w o s ≡ Got k o s → left_of g w o s ≡ Got left o1 s1 → Some t ≡ taken_by k left → take_in g a t w o1 s1 ≡ Got u o2 s2 → read_value g a todo w o s ≡ Got (Stepped todo) o2 s2
 value_read g a todo w o o1 o2 s s1 s2 k left t u e1 e2 e3 e4 =
     let l : drop (position_in (s Input)) g.input ≡ left = cc in
     let p : o1 ≡ o = cc in

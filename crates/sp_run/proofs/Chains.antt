@@ -13,7 +13,7 @@ use Rattle.sp_meaning.specs.Own as m
 use Rattle.sp_meaning.specs.Values.{Value}
 use Rattle.sp_meaning.specs.Deeds.{goes_on}
 use Rattle.sp_run.specs.Machines.{setting_of, plain_own, plain_who, store_of}
-use Rattle.sp_run.specs.Comings.{Does}
+use Rattle.sp_run.specs.Comings.{Implements}
 use Rattle.sp_run.specs.Items.{item_of, items_of}
 use Rattle.sp_run.specs.Texts.{leaves}
 use Rattle.sp_run.specs.Direct.{Store, Came, Got, Not, Work, bind, give, go_on}
@@ -22,7 +22,7 @@ use Rattle.sp_run.specs.DirectDeeds.{peek, settle}
 -- a call after another computes what the two compute one after the other
 pub does_then : {R A B : Type 0} (g : Setting) (w : Who) (view : R → B) (before mid after : Machine) (result : Result (Result R Halted) Memory) (h : Work A) (k : A → Work B) (a : A)
     → h (plain_who w) (plain_own before.own) (store_of g before.log) ≡ Got a (plain_own mid.own) (store_of g mid.log)
-    → Does g w view mid result after (k a) → Does g w view before result after (bind h k)
+    → Implements g w view mid result after (k a) → Implements g w view before result after (bind h k)
 does_then g w view before mid after result h k a e d = rw e d
 
 pub first_is : {A : Type 0} (xs : List A) (x : A) → slice_get xs 0 ≡ Some x → xs ≡ x ∷ drop 1 xs
@@ -49,7 +49,7 @@ settle_step g (m.Break f) todo w o s = refl
 pub settle_on : {R : Type 0} (g : Setting) (w : Who) (before mid after : Machine) (view : R → List m.Item) (result : Result (Result R Halted) Memory) (todo rest : List Item) (i : Item)
     → todo ≡ i ∷ rest
     → leaves (setting_of g) (item_of i) (plain_who w) (plain_own before.own) (store_of g before.log) ≡ Got true (plain_own mid.own) (store_of g mid.log)
-    → Does g w view mid result after (settle (setting_of g) (items_of rest)) → Does g w view before result after (settle (setting_of g) (items_of todo))
+    → Implements g w view mid result after (settle (setting_of g) (items_of rest)) → Implements g w view before result after (settle (setting_of g) (items_of todo))
 settle_on g w before mid after view result todo rest i e l d =
     rw e (rw (settle_step (setting_of g) (item_of i) (items_of rest) (plain_who w) (plain_own before.own) (store_of g before.log)) (rw l d))
 

@@ -2,7 +2,7 @@
 use Rattle.std.proofs.Common.{◌≡◌, ℕ, zero, suc, List, [], ◌∷◌, length, ◌-◌, ◌<◌, Option, Some, None, refl, ap, ◌∙◌, sym, arith, sub-one}
 use Rattle.sp_run.specs.declared.stop.Halted.{Halted}
 use Rattle.sp_meaning.specs.Own.{Setting, Item, Own, Who}
-use Rattle.sp_meaning.specs.Deeds.{Deed, Went, Beat, Opened, Forked, Offered, Over}
+use Rattle.sp_meaning.specs.Deeds.{Deed, Stepped, Ticked, Opened, Forked, Offered, Ended}
 use Rattle.sp_run.specs.Direct.{Store, Came, Got, Not, Work, go_on, bind, give}
 use Rattle.sp_run.specs.DirectDeeds.{act, settle, left_by, call_by, rest_by, all}
 use Rattle.sp_run.specs.Acts.{left_after, one_by, one}
@@ -14,12 +14,12 @@ after_by go (Some todo) = go todo
 
 left_one : (g : Setting) (go : List Item → Work (List Item)) (w : Who) (c : Came Deed) → go_on (λ d. bind (left_by g d) go) w c ≡ go_on (after_by go) w (go_on (left_after g) w c)
 left_one g go w (Not h) = refl
-left_one g go w (Got (Went todo) o s) = refl
-left_one g go w (Got (Beat todo) o s) = refl
+left_one g go w (Got (Stepped todo) o s) = refl
+left_one g go w (Got (Ticked todo) o s) = refl
 left_one g go w (Got (Opened todo) o s) = refl
 left_one g go w (Got (Forked bs todo) o s) = refl
 left_one g go w (Got (Offered c k cargo todo) o s) = refl
-left_one g go w (Got Over o s) = refl
+left_one g go w (Got Ended o s) = refl
 
 item_one : (g : Setting) (go : List Item → Work (List Item)) (w : Who) (c : Came (List Item)) → go_on (rest_by g go) w c ≡ go_on (after_by go) w (go_on (one_by g go) w c)
 item_one g go w (Not h) = refl

@@ -4,7 +4,7 @@ use Rattle.sp_run.specs.declared.machine.Setting as set
 use Rattle.sp_run.specs.declared.state.State.{State}
 use Rattle.sp_meaning.specs.Model as m
 use Rattle.sp_meaning.specs.Model.{Name, Offering}
-use Rattle.sp_meaning.specs.Steps.{Does, meeting, waiting, hands, meets, offered, acts, result_of}
+use Rattle.sp_meaning.specs.Steps.{Advances, meeting, waiting, hands, meets, offered, acts, result_of}
 use Rattle.sp_meaning.specs.Own as o
 use Rattle.sp_meaning.specs.SuperPascal.{superpascal}
 use Rattle.sp_meaning.specs.Runs.{StateOf}
@@ -13,7 +13,7 @@ use Rattle.sp_run.specs.States.{pending_of, state_of, Changes}
 
 -- the message goes over where the types are one
 pub hands_is : (g : o.Setting) (s : StateOf g) (p z : Name) (f w : m.Offer o.Process o.Held o.Address) (v : o.Address × o.Held) (x : Option (o.Address × o.Held))
-    → Some v ≡ x → f.kind ≡ w.kind → hands {L = superpascal g} s p f z w x ≡ Does (meeting {L = superpascal g} s p f z w v)
+    → Some v ≡ x → f.kind ≡ w.kind → hands {L = superpascal g} s p f z w x ≡ Advances (meeting {L = superpascal g} s p f z w v)
 hands_is g s p z f w v x e k = rw (← e) (rw (eq-eqb f.kind w.kind k) refl)
 
 module _ (run : set.Setting) where

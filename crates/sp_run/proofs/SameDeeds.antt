@@ -10,7 +10,7 @@ use Rattle.sp_meaning.specs.Own as n
 use Rattle.sp_meaning.specs.Texts.{Taken, Takes as Took, Fails as Stops, padded, line_length}
 use Rattle.sp_meaning.specs.Eval.{Given, ValueOf, PlaceOf}
 use Rattle.sp_meaning.specs.Eval as v
-use Rattle.sp_meaning.specs.Deeds.{Birth, Deed, Went, Beat, Opened, Forked, Offered, Over, push, push_all, arm_for, is_range, goes_on, next_value, begins, pushed_frame, without_frame, children, indexed_children, size_of_frame, references, taken_by, shown}
+use Rattle.sp_meaning.specs.Deeds.{Birth, Deed, Stepped, Ticked, Opened, Forked, Offered, Ended, push, push_all, arm_for, is_range, goes_on, next_value, begins, pushed_frame, without_frame, children, indexed_children, size_of_frame, references, taken_by, shown}
 use Rattle.sp_meaning.specs.Deeds as m
 use Rattle.sp_meaning.specs.Run.{run}
 use Rattle.sp_run.specs.Direct as e
@@ -95,7 +95,7 @@ module _ (g : Setting) where
 
   turn_same : (y : ℕ) (k limit : ℤ) (down : Bool) (s : Stmt) (todo : List Item) → Same (m.turn_of g y k limit down s todo) (d.turn_of g y k limit down s todo)
   turn_same y k limit down s todo =
-      chain _ _ _ _ (place_of_same g y) (λ q. chain _ _ _ _ (address_of_same g q) (λ a. chain _ _ _ _ (assign_same a (Ordinal k)) (λ u. chain _ _ _ _ tick_same (λ u. give_same (Beat (push s (Again y limit down s ∷ todo)))))))
+      chain _ _ _ _ (place_of_same g y) (λ q. chain _ _ _ _ (address_of_same g q) (λ a. chain _ _ _ _ (assign_same a (Ordinal k)) (λ u. chain _ _ _ _ tick_same (λ u. give_same (Ticked (push s (Again y limit down s ∷ todo)))))))
 
   fork_same : (bs : List Birth) (todo : List Item) → Same (m.fork g bs todo) (d.fork g bs todo)
   fork_same bs todo = chain _ _ _ _ mine_same (λ o. if_same (nat_lt o.depth g.limits.depth) _ _ _ _ (give_same _) (fail_same fault.F11))
@@ -106,8 +106,8 @@ module _ (g : Setting) where
 
   start_same : (call : v.Calls) (direct : x.Calls) → SameCalls call direct → (s : Stmt) (todo : List Item) → Same (m.start g call s todo) (d.start g direct s todo)
   start_same call direct ok Empty todo = give_same _
-  start_same call direct ok (Assign y e) todo = chain _ _ _ _ (address_same g call direct ok y) (λ a. chain _ _ _ _ (value_same g call direct ok e) (λ w. chain _ _ _ _ (assign_same a w) (λ u. give_same (Went todo))))
-  start_same call direct ok (Call f args) todo = chain _ _ _ _ (actuals_same g call direct ok args) (λ gs. chain _ _ _ _ (enter_same f gs) (λ b. give_same (Beat (push b.body (Leave ∷ todo)))))
+  start_same call direct ok (Assign y e) todo = chain _ _ _ _ (address_same g call direct ok y) (λ a. chain _ _ _ _ (value_same g call direct ok e) (λ w. chain _ _ _ _ (assign_same a w) (λ u. give_same (Stepped todo))))
+  start_same call direct ok (Call f args) todo = chain _ _ _ _ (actuals_same g call direct ok args) (λ gs. chain _ _ _ _ (enter_same f gs) (λ b. give_same (Ticked (push b.body (Leave ∷ todo)))))
   start_same call direct ok (Sequence ss) todo = give_same _
   start_same call direct ok (If e a) todo = chain _ _ _ _ (ordinal_of_same g call direct ok e) (λ k. give_same _)
   start_same call direct ok (IfElse e a b) todo = chain _ _ _ _ (ordinal_of_same g call direct ok e) (λ k. give_same _)
@@ -120,8 +120,8 @@ module _ (g : Setting) where
       chain _ _ _ _ (ordinal_of_same g call direct ok from) (λ j. chain _ _ _ _ (ordinal_of_same g call direct ok to) (λ k. if_same (int_lt k j) _ _ _ _ (give_same _) (fork_same (indexed_children y s j (nat_abs ((k -ℤ j) +ℤ pos 1))) todo)))
   start_same call direct ok (Assume e) todo = chain _ _ _ _ (ordinal_of_same g call direct ok e) (λ k. if_same (int_le k (pos 0)) _ _ _ _ (fail_same fault.F8) (give_same _))
   start_same call direct ok (ReadValue y) todo =
-      chain _ _ _ _ (address_same g call direct ok y) (λ a. chain _ _ _ _ (kind_same g a.kind) (λ k. chain _ _ _ _ (left_same g) (λ bs. chain _ _ _ _ (or_lost_same (taken_by k bs)) (λ t. chain _ _ _ _ (take_same a t) (λ u. give_same (Went todo))))))
-  start_same call direct ok ReadLine todo = chain _ _ _ _ (left_same g) (λ bs. chain _ _ _ _ (advance_same (line_length bs)) (λ u. give_same (Went todo)))
+      chain _ _ _ _ (address_same g call direct ok y) (λ a. chain _ _ _ _ (kind_same g a.kind) (λ k. chain _ _ _ _ (left_same g) (λ bs. chain _ _ _ _ (or_lost_same (taken_by k bs)) (λ t. chain _ _ _ _ (take_same a t) (λ u. give_same (Stepped todo))))))
+  start_same call direct ok ReadLine todo = chain _ _ _ _ (left_same g) (λ bs. chain _ _ _ _ (advance_same (line_length bs)) (λ u. give_same (Stepped todo)))
   start_same call direct ok (WriteValue (Typed k form) w) todo =
       chain _ _ _ _ (ordinal_of_same g call direct ok (Typed k form)) (λ j. chain _ _ _ _ (width_same call direct ok w) (λ i. chain _ _ _ _ (kind_same g k) (λ t.
       chain _ _ _ _ (in_width_same (shown t j).0 (shown t j).1 i) (λ bs. chain _ _ _ _ (write_same bs) (λ u. give_same _)))))
@@ -138,7 +138,7 @@ module _ (g : Setting) where
   act_same call direct ok (First y j k down s) todo = turn_same y j k down s todo
   act_same call direct ok (Again y k down s) todo = chain _ _ _ _ (place_of_same g y) (λ q. chain _ _ _ _ (read_same g q) (λ z. chain _ _ _ _ (ordinal_same z) (λ j. turn_same y (next_value down j) k down s todo)))
   act_same call direct ok (Test s e) todo = chain _ _ _ _ (ordinal_of_same g call direct ok e) (λ k. give_same _)
-  act_same call direct ok Leave todo = chain _ _ _ _ leave_same (λ u. give_same (Went todo))
+  act_same call direct ok Leave todo = chain _ _ _ _ leave_same (λ u. give_same (Stepped todo))
   act_same call direct ok (Break f) todo = fail_same f
 
   settle_same : (todo : List Item) → Same (m.settle g todo) (d.settle g todo)
@@ -151,12 +151,12 @@ module _ (g : Setting) where
   settle_same (Break f ∷ todo) = give_same _
 
   left_by_same : (a : Deed) → Same (m.left_by g a) (d.left_by g a)
-  left_by_same (Went todo) = give_same todo
-  left_by_same (Beat todo) = give_same todo
+  left_by_same (Stepped todo) = give_same todo
+  left_by_same (Ticked todo) = give_same todo
   left_by_same (Opened todo) = lost_same
   left_by_same (Forked os todo) = lost_same
   left_by_same (Offered c k cargo todo) = lost_same
-  left_by_same Over = lost_same
+  left_by_same Ended = lost_same
 
   answer_same : (y : Option ℕ) → Same (m.answer_of g y) (d.answer_of g y)
   answer_same None = lost_same
@@ -174,7 +174,7 @@ module _ (g : Setting) where
   all_same (suc k) todo = chain _ _ _ _ (settle_same todo) (λ rest. rest_same (m.all g k) (d.all g k) (all_same k) rest)
 
   deed_by_same : (k : ℕ) (todo : List Item) → Same (m.deed_by g (m.all g k) todo) (d.deed_by g (d.all g k) todo)
-  deed_by_same k [] = give_same Over
+  deed_by_same k [] = give_same Ended
   deed_by_same k (i ∷ todo) = act_same (m.call_by g (m.all g k)) (d.call_by g (d.all g k)) (calls_same (m.all g k) (d.all g k) (all_same k)) i todo
 
   pub deed_same : (k : ℕ) (todo : List Item) → Same (m.deed g k todo) (d.deed g k todo)

@@ -14,9 +14,9 @@ use Rattle.sp_tree.specs.declared.operators.StandardFn.TheVariants as standard
 use Rattle.sp_tree.specs.Plain.{Expr, Typed, ExprForm, Number, Read, Unary, Binary, Apply, Standard, AtInput, Var, Entire, Index, Field, Selectors, Whole, Select, ByValue, ByReference, Actuals, Nothing, Pass, Variable}
 use Rattle.sp_meaning.specs.Model.{Channel}
 use Rattle.sp_meaning.specs.Values.{Value, Undefined, Ordinal, Chan, Parts}
-use Rattle.sp_meaning.specs.Operators.{Worked, Yields, Refuses, ranged, successor, predecessor, absolute, square, is_odd, unary_op, binary_op, least, greatest}
+use Rattle.sp_meaning.specs.Operators.{Worked, Yields, Faults, ranged, successor, predecessor, absolute, square, is_odd, unary_op, binary_op, least, greatest}
 use Rattle.sp_meaning.specs.Maps.{at_key}
-use Rattle.sp_meaning.specs.Asking.{Asking, Done, Reads, Puts, and_then, answer}
+use Rattle.sp_meaning.specs.Asking.{Asking, Done, Loads, Puts, and_then, answer}
 use Rattle.sp_meaning.specs.Own.{Loc, Held, Address, Home, OfBlock, OfIndex, Frame, Setting, Own, Who, same_loc, seen, seek, is_block, is_index, referred}
 use Rattle.sp_meaning.specs.Own as n
 use Rattle.sp_meaning.specs.Run.{run}
@@ -28,7 +28,7 @@ use Rattle.sp_run.specs.Agree.{Same, SameCalls, closed}
 
 answer_then : {A B : Type 0} (t : Asking Loc Held A) (f : A → Asking Loc Held B) (s : e.Store) → answer same_loc (and_then t f) s ≡ answer same_loc (f (answer same_loc t s).0) (answer same_loc t s).1
 answer_then (Done a) f s = refl
-answer_then (Reads l more) f s = answer_then (more (s l)) f s
+answer_then (Loads l more) f s = answer_then (more (s l)) f s
 answer_then (Puts l v more) f s = answer_then more f (at_key same_loc l v s)
 
 pub chain : {A B : Type 0} (h : n.Work A) (k : A → n.Work B) (c : e.Work A) (l : A → e.Work B) → Same h c → ((a : A) → Same (k a) (l a)) → Same (n.bind h k) (e.bind c l)
@@ -90,7 +90,7 @@ reach_same fits = record { by = λ w o s. go w o s (seek fits (length o.frames) 
 
 work_same : (x : Worked) → Same (m.work_of x) (d.work_of x)
 work_same (Yields n) = give_same (Ordinal n)
-work_same (Refuses f) = fail_same f
+work_same (Faults f) = fail_same f
 
 pub ordinal_same : (v : Value) → Same (m.ordinal v) (d.ordinal v)
 ordinal_same Undefined = lost_same

@@ -2,14 +2,14 @@
 use Rattle.std.proofs.Common.{◌≡◌, ◌+◌, List, [], ◌∷◌, Option, Some, None, refl, ap, ◌∙◌}
 use Rattle.sp_base.specs.declared.fault.Fault.{Fault}
 use Rattle.sp_meaning.specs.Maps.{at_key}
-use Rattle.sp_meaning.specs.Asking.{Asking, Done, Reads, Puts, answer, put_by}
+use Rattle.sp_meaning.specs.Asking.{Asking, Done, Loads, Puts, answer, put_by}
 use Rattle.sp_meaning.specs.Model as m
 use Rattle.sp_meaning.specs.Model.{Name, Becomes, changed, after}
-use Rattle.sp_meaning.specs.Steps.{puts, result_of, outcome, passed, unless, working, Does}
+use Rattle.sp_meaning.specs.Steps.{puts, result_of, outcome, passed, unless, working, Advances}
 use Rattle.sp_meaning.specs.Own as o
 use Rattle.sp_meaning.specs.Own.{Loc, Held, same_loc}
 use Rattle.sp_meaning.specs.SuperPascal.{superpascal, with_todo, act_of, asks, deed_of, enough}
-use Rattle.sp_meaning.specs.Deeds.{Deed, Went, Beat, Opened, Forked, Offered, Over}
+use Rattle.sp_meaning.specs.Deeds.{Deed, Stepped, Ticked, Opened, Forked, Offered, Ended}
 use Rattle.sp_meaning.specs.Runs.{StateOf, most, next}
 use Rattle.sp_meaning.proofs.Asking.{answer_then}
 use Rattle.sp_meaning.proofs.Instance.{loc_test}
@@ -23,24 +23,24 @@ module _ (g : o.Setting) where
   -- the writes of some work, made one after another, lead to the store after it
   puts_after : {A : Type 0} (t : Asking Loc Held A) (here : d.Store) (s : StateOf g) → after {L = superpascal g} (puts {L = superpascal g} (put_by same_loc t here)) (with_store g here s) ≡ with_store g (answer same_loc t here).1 s
   puts_after (Done a) here s = refl
-  puts_after (Reads l more) here s = puts_after (more (here l)) here s
+  puts_after (Loads l more) here s = puts_after (more (here l)) here s
   puts_after (Puts l v more) here s = puts_after more (at_key same_loc l v here) s
 
   -- what comes of a step, by what came of its own work and what it wrote
   result_is : (p : Name) (w : o.Who) (s : StateOf g) (r : o.Came Deed × d.Store) (ws : List (Loc × Held))
       → ((u : StateOf g) → after {L = superpascal g} (puts {L = superpascal g} ws) (with_store g s.store u) ≡ with_store g r.1 u)
       → result_of s p (outcome (most g) s p (act_of w r.0 ws)) ≡ stepped g p w s (closed r)
-  result_is p w s (o.Got (Went todo) own, here) ws f = f (changed (Becomes p (m.Works (with_todo todo w own))) s)
-  result_is p w s (o.Got (Beat todo) own, here) ws f = f (changed (Becomes p (m.Works (with_todo todo w own))) s)
+  result_is p w s (o.Got (Stepped todo) own, here) ws f = f (changed (Becomes p (m.Works (with_todo todo w own))) s)
+  result_is p w s (o.Got (Ticked todo) own, here) ws f = f (changed (Becomes p (m.Works (with_todo todo w own))) s)
   result_is p w s (o.Got (Opened todo) own, here) ws f = go (passed (most g) s.totals (Some (record { processes = 0; channels = 1; entries = 1 })))
     where
-      go : (x : Option Fault) → result_of s p (unless {L = superpascal g} x (Does (Becomes p (m.Works (with_todo todo (record w { opens = w.opens + 1 }) own)) ∷ m.Adds (record { processes = 0; channels = 1; entries = 1 }) ∷ puts {L = superpascal g} ws)))
+      go : (x : Option Fault) → result_of s p (unless {L = superpascal g} x (Advances (Becomes p (m.Works (with_todo todo (record w { opens = w.opens + 1 }) own)) ∷ m.Adds (record { processes = 0; channels = 1; entries = 1 }) ∷ puts {L = superpascal g} ws)))
           ≡ opened g p (with_todo todo (record w { opens = w.opens + 1 }) own) here s x
       go None = f (after (Becomes p (m.Works (with_todo todo (record w { opens = w.opens + 1 }) own)) ∷ m.Adds (record { processes = 0; channels = 1; entries = 1 }) ∷ []) s)
       go (Some x) = refl
   result_is p w s (o.Got (Forked os todo) own, here) ws f = refl
   result_is p w s (o.Got (Offered c k cargo todo) own, here) ws f = refl
-  result_is p w s (o.Got Over own, here) ws f = refl
+  result_is p w s (o.Got Ended own, here) ws f = refl
   result_is p w s (o.Bad x, here) ws f = refl
   result_is p w s (o.Lost, here) ws f = refl
   result_is p w s (o.Long, here) ws f = refl

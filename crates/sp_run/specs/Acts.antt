@@ -6,7 +6,7 @@ use Rattle.sp_tree.specs.Plain.{Expr, Stmt, While, Repeat}
 use Rattle.sp_meaning.specs.Values.{Value, Chan}
 use Rattle.sp_meaning.specs.Own.{Setting, Who, Address, Item, Do, First, Test, Leave}
 use Rattle.sp_meaning.specs.Eval.{Given}
-use Rattle.sp_meaning.specs.Deeds.{Deed, Went, Beat, Opened, push, if_true, is_range, next_value, shown, taken_by}
+use Rattle.sp_meaning.specs.Deeds.{Deed, Stepped, Ticked, Opened, push, if_true, is_range, next_value, shown, taken_by}
 use Rattle.sp_meaning.specs.Texts.{line_length}
 use Rattle.sp_run.specs.declared.item.Item as kept
 use Rattle.sp_run.specs.Items.{item_of}
@@ -16,27 +16,27 @@ use Rattle.sp_run.specs.DirectDeeds.{in_width, enter, leave, write, advance, tak
 
 -- a value goes to an address
 abbrev pub assigned_to : Address → Value → List Item → Work Deed
-assigned_to a v todo = bind (assign a v) (λ u. give (Went todo))
+assigned_to a v todo = bind (assign a v) (λ u. give (Stepped todo))
 
 -- a statement if an ordinal is true
 abbrev pub picked : ℤ → Stmt → List Item → Work Deed
-picked n a todo = give (Went (if_true n (push a todo) todo))
+picked n a todo = give (Stepped (if_true n (push a todo) todo))
 
 -- one of two statements
 abbrev pub either : ℤ → Stmt → Stmt → List Item → Work Deed
-either n a b todo = give (Went (if_true n (push a todo) (push b todo)))
+either n a b todo = give (Stepped (if_true n (push a todo) (push b todo)))
 
 -- a for loop begins, if it has a value
 abbrev pub ranged : ℕ → ℤ → ℤ → Bool → Stmt → List Item → Work Deed
-ranged x m n down s todo = give (Went (if is_range down m n then First x m n down s ∷ todo else todo))
+ranged x m n down s todo = give (Stepped (if is_range down m n then First x m n down s ∷ todo else todo))
 
 -- the test behind a repeat loop's statements
 abbrev pub tested : ℤ → Stmt → Expr → List Item → Work Deed
-tested n s e todo = give (Went (if_true n todo (Do (Repeat s e) ∷ todo)))
+tested n s e todo = give (Stepped (if_true n todo (Do (Repeat s e) ∷ todo)))
 
 -- an ordinal is true, or F8
 abbrev pub assumed : ℤ → List Item → Work Deed
-assumed n todo = if_true n (give (Went todo)) (fail fault.F8)
+assumed n todo = if_true n (give (Stepped todo)) (fail fault.F8)
 
 -- the channel that a process opens next
 abbrev pub next_channel : Who → Value
@@ -49,15 +49,15 @@ opened a todo = bind who (λ w. bind (assign a (next_channel w)) (λ u. give (Op
 module _ (g : Setting) where
   -- a procedure's block is entered and its body comes first
   abbrev pub called : ℕ → List Given → List Item → Work Deed
-  called f gs todo = bind (enter g f gs) (λ b. give (Beat (push b.body (Leave ∷ todo))))
+  called f gs todo = bind (enter g f gs) (λ b. give (Ticked (push b.body (Leave ∷ todo))))
 
   -- one more turn of a while loop, if its ordinal is true
   abbrev pub looped : ℤ → Expr → Stmt → List Item → Work Deed
-  looped n e s todo = if_true n (bind (tick g.limits) (λ u. give (Beat (push s (Do (While e s) ∷ todo))))) (give (Went todo))
+  looped n e s todo = if_true n (bind (tick g.limits) (λ u. give (Ticked (push s (Do (While e s) ∷ todo))))) (give (Stepped todo))
 
   -- one more turn of a repeat loop
   abbrev pub repeated : Stmt → Expr → List Item → Work Deed
-  repeated s e todo = bind (tick g.limits) (λ u. give (Beat (push s (Test s e ∷ todo))))
+  repeated s e todo = bind (tick g.limits) (λ u. give (Ticked (push s (Test s e ∷ todo))))
 
   -- the next turn of a for loop
   abbrev pub next_turn : ℕ → ℤ → Bool → Stmt → List Item → Work Deed
@@ -65,27 +65,27 @@ module _ (g : Setting) where
 
   -- the end of a procedure
   abbrev pub returned : List Item → Work Deed
-  returned todo = bind (leave g) (λ u. give (Went todo))
+  returned todo = bind (leave g) (λ u. give (Stepped todo))
 
   -- the input's next item goes to an address
   abbrev pub read_value : Address → List Item → Work Deed
-  read_value a todo = bind (kind_at g a.kind) (λ k. bind (left_of g) (λ bs. bind (or_lost (taken_by k bs)) (λ t. bind (take_in g a t) (λ u. give (Went todo)))))
+  read_value a todo = bind (kind_at g a.kind) (λ k. bind (left_of g) (λ bs. bind (or_lost (taken_by k bs)) (λ t. bind (take_in g a t) (λ u. give (Stepped todo)))))
 
   -- the rest of the input's line is skipped
   abbrev pub read_line : List Item → Work Deed
-  read_line todo = bind (left_of g) (λ bs. bind (advance g (line_length bs)) (λ u. give (Went todo)))
+  read_line todo = bind (left_of g) (λ bs. bind (advance g (line_length bs)) (λ u. give (Stepped todo)))
 
   -- bytes are written
   abbrev pub write_bytes : List ℕ → List Item → Work Deed
-  write_bytes bs todo = bind (write g bs) (λ u. give (Went todo))
+  write_bytes bs todo = bind (write g bs) (λ u. give (Stepped todo))
 
   -- a text is written in its width
   abbrev pub write_text : Bool → List ℕ → Option ℤ → List Item → Work Deed
-  write_text cut t m todo = bind (in_width cut t m) (λ bs. bind (write g bs) (λ u. give (Went todo)))
+  write_text cut t m todo = bind (in_width cut t m) (λ bs. bind (write g bs) (λ u. give (Stepped todo)))
 
   -- an ordinal of a type is written in its width
   abbrev pub write_shown : ℕ → ℤ → Option ℤ → List Item → Work Deed
-  write_shown k n m todo = bind (kind_at g k) (λ t. bind (in_width (shown t n).0 (shown t n).1 m) (λ bs. bind (write g bs) (λ u. give (Went todo))))
+  write_shown k n m todo = bind (kind_at g k) (λ t. bind (in_width (shown t n).0 (shown t n).1 m) (λ bs. bind (write g bs) (λ u. give (Stepped todo))))
 
   -- the end of a function: its result, and its frame goes
   abbrev pub ended : Option ℕ → Work Value

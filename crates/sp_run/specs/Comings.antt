@@ -16,8 +16,8 @@ Comes g view (Ok x) m c = c ≡ Got (view x) (plain_own m.own) (store_of g m.log
 Comes g view (Err h) m c = c ≡ Not h
 
 -- a call that began with this machine computes this work; want of memory is free
-abbrev pub Does : {R A : Type 0} → Setting → Who → (R → A) → Machine → Result (Result R Halted) Memory → Machine → Work A → Type 0
-Does g w view before result after h = IfOk result (λ r. Comes g view r after (h (plain_who w) (plain_own before.own) (store_of g before.log)))
+abbrev pub Implements : {R A : Type 0} → Setting → Who → (R → A) → Machine → Result (Result R Halted) Memory → Machine → Work A → Type 0
+Implements g w view before result after h = IfOk result (λ r. Comes g view r after (h (plain_who w) (plain_own before.own) (store_of g before.log)))
 
 -- a value that is plain already
 abbrev pub same : {A : Type 0} → A → A

@@ -8,12 +8,12 @@ use Rattle.sp_tree.specs.declared.checked.KindOf.TheVariants as kind
 use Rattle.sp_tree.specs.declared.checked.Role.{Role}
 use Rattle.sp_tree.specs.declared.checked.Role.TheVariants as role
 use Rattle.sp_tree.specs.Plain.{Expr, Typed, Variable, Block, Stmt, Empty, Assign, Call, Sequence, If, IfElse, While, Repeat, For, Case, Parallel, Forall, Assume, ReadValue, ReadLine, WriteValue, WriteText, WriteLine, Open, Send, Receive, Stmts, No, And, On, Arms, NoArm, Or}
-use Rattle.sp_meaning.specs.Model.{Name, Channel, Cargo, Gives, Takes}
+use Rattle.sp_meaning.specs.Model.{Name, Channel, Cargo, Message, Takes}
 use Rattle.sp_tree.specs.Cells.{variables_of, cells_of_frame}
 use Rattle.sp_meaning.specs.Values.{Value, Undefined, Ordinal, Chan, Parts, initials}
 use Rattle.sp_meaning.specs.Own.{Setting, Cell, Input, Output, Held, Tree, Position, Written, Address, Home, OfBlock, OfIndex, Frame, Own, Who, Item, Do, First, Again, Test, Leave, Break, Process, position_in, bytes_in, is_block}
 use Rattle.sp_run.specs.Direct.{Work, bind, give, fail, lost, long, mine, who, become, look, put, fetch, assign, or_lost, reach, tick, deepen, widen}
-use Rattle.sp_meaning.specs.Deeds.{Birth, Deed, Went, Beat, Opened, Forked, Offered, Over, push, push_all, arm_for, if_true, is_range, next_value, goes_on, begins, references, shown, taken_by, children, indexed_children, pushed_frame, without_frame, size_of_frame}
+use Rattle.sp_meaning.specs.Deeds.{Birth, Deed, Stepped, Ticked, Opened, Forked, Offered, Ended, push, push_all, arm_for, if_true, is_range, next_value, goes_on, begins, references, shown, taken_by, children, indexed_children, pushed_frame, without_frame, size_of_frame}
 use Rattle.sp_meaning.specs.Operators.{same_ordinal}
 use Rattle.sp_meaning.specs.Texts.{Taken, Takes as Took, Fails as Stops, number_in, char_in, line_length, padded, truth_text}
 use Rattle.sp_meaning.specs.Eval.{Given, ValueOf, PlaceOf}
@@ -79,7 +79,7 @@ module _ (g : Setting) where
   -- the for variable gets a value, and then there is a tick
   abbrev pub turn_of : ℕ → ℤ → ℤ → Bool → Stmt → List Item → Work Deed
   turn_of x n limit down s todo =
-      bind (place_of g x) (λ q. bind (address_of g q) (λ a. bind (assign a (Ordinal n)) (λ u. bind (tick g.limits) (λ u. give (Beat (push s (Again x limit down s ∷ todo)))))))
+      bind (place_of g x) (λ q. bind (address_of g q) (λ a. bind (assign a (Ordinal n)) (λ u. bind (tick g.limits) (λ u. give (Ticked (push s (Again x limit down s ∷ todo)))))))
 
   -- the children are made, if one level more is allowed
   abbrev pub fork : List Birth → List Item → Work Deed
@@ -88,38 +88,38 @@ module _ (g : Setting) where
   -- the chosen arm's statement, or F9
   abbrev pub chosen : Option Stmt → List Item → Work Deed
   chosen None todo = fail fault.F9
-  chosen (Some s) todo = give (Went (push s todo))
+  chosen (Some s) todo = give (Stepped (push s todo))
 
   -- the step of a statement that is first
   abbrev pub start : Calls → Stmt → List Item → Work Deed
-  start call Empty todo = give (Went todo)
-  start call (Assign v e) todo = bind (address g call v) (λ a. bind (value g call e) (λ w. bind (assign a w) (λ u. give (Went todo))))
-  start call (Call f args) todo = bind (actuals g call args) (λ gs. bind (enter f gs) (λ b. give (Beat (push b.body (Leave ∷ todo)))))
-  start call (Sequence ss) todo = give (Went (push_all ss todo))
-  start call (If e a) todo = bind (ordinal_of g call e) (λ n. give (Went (if_true n (push a todo) todo)))
-  start call (IfElse e a b) todo = bind (ordinal_of g call e) (λ n. give (Went (if_true n (push a todo) (push b todo))))
-  start call (While e s) todo = bind (ordinal_of g call e) (λ n. if_true n (bind (tick g.limits) (λ u. give (Beat (push s (Do (While e s) ∷ todo))))) (give (Went todo)))
-  start call (Repeat s e) todo = bind (tick g.limits) (λ u. give (Beat (push s (Test s e ∷ todo))))
+  start call Empty todo = give (Stepped todo)
+  start call (Assign v e) todo = bind (address g call v) (λ a. bind (value g call e) (λ w. bind (assign a w) (λ u. give (Stepped todo))))
+  start call (Call f args) todo = bind (actuals g call args) (λ gs. bind (enter f gs) (λ b. give (Ticked (push b.body (Leave ∷ todo)))))
+  start call (Sequence ss) todo = give (Stepped (push_all ss todo))
+  start call (If e a) todo = bind (ordinal_of g call e) (λ n. give (Stepped (if_true n (push a todo) todo)))
+  start call (IfElse e a b) todo = bind (ordinal_of g call e) (λ n. give (Stepped (if_true n (push a todo) (push b todo))))
+  start call (While e s) todo = bind (ordinal_of g call e) (λ n. if_true n (bind (tick g.limits) (λ u. give (Ticked (push s (Do (While e s) ∷ todo))))) (give (Stepped todo)))
+  start call (Repeat s e) todo = bind (tick g.limits) (λ u. give (Ticked (push s (Test s e ∷ todo))))
   start call (For x from down to s) todo =
-      bind (ordinal_of g call from) (λ m. bind (ordinal_of g call to) (λ n. give (Went (if is_range down m n then First x m n down s ∷ todo else todo))))
+      bind (ordinal_of g call from) (λ m. bind (ordinal_of g call to) (λ n. give (Stepped (if is_range down m n then First x m n down s ∷ todo else todo))))
   start call (Case e arms) todo = bind (ordinal_of g call e) (λ n. chosen (arm_for n arms) todo)
   start call (Parallel ss) todo = fork (children ss) todo
   start call (Forall x from to s) todo =
       bind (ordinal_of g call from) (λ m. bind (ordinal_of g call to) (λ n.
-      if int_lt n m then give (Went todo) else fork (indexed_children x s m (nat_abs ((n -ℤ m) +ℤ pos 1))) todo))
-  start call (Assume e) todo = bind (ordinal_of g call e) (λ n. if_true n (give (Went todo)) (fail fault.F8))
+      if int_lt n m then give (Stepped todo) else fork (indexed_children x s m (nat_abs ((n -ℤ m) +ℤ pos 1))) todo))
+  start call (Assume e) todo = bind (ordinal_of g call e) (λ n. if_true n (give (Stepped todo)) (fail fault.F8))
   start call (ReadValue v) todo =
-      bind (address g call v) (λ a. bind (kind_at g a.kind) (λ k. bind (left_of g) (λ bs. bind (or_lost (taken_by k bs)) (λ t. bind (take_in a t) (λ u. give (Went todo))))))
-  start call ReadLine todo = bind (left_of g) (λ bs. bind (advance (line_length bs)) (λ u. give (Went todo)))
+      bind (address g call v) (λ a. bind (kind_at g a.kind) (λ k. bind (left_of g) (λ bs. bind (or_lost (taken_by k bs)) (λ t. bind (take_in a t) (λ u. give (Stepped todo))))))
+  start call ReadLine todo = bind (left_of g) (λ bs. bind (advance (line_length bs)) (λ u. give (Stepped todo)))
   start call (WriteValue (Typed k form) w) todo =
       bind (ordinal_of g call (Typed k form)) (λ n. bind (width call w) (λ m. bind (kind_at g k) (λ t.
-      bind (in_width (shown t n).0 (shown t n).1 m) (λ bs. bind (write bs) (λ u. give (Went todo))))))
-  start call (WriteText t w) todo = bind (width call w) (λ m. bind (in_width true t m) (λ bs. bind (write bs) (λ u. give (Went todo))))
-  start call WriteLine todo = bind (write (10 ∷ [])) (λ u. give (Went todo))
+      bind (in_width (shown t n).0 (shown t n).1 m) (λ bs. bind (write bs) (λ u. give (Stepped todo))))))
+  start call (WriteText t w) todo = bind (width call w) (λ m. bind (in_width true t m) (λ bs. bind (write bs) (λ u. give (Stepped todo))))
+  start call WriteLine todo = bind (write (10 ∷ [])) (λ u. give (Stepped todo))
   start call (Open v) todo =
       bind (address g call v) (λ a. bind who (λ w. bind (assign a (Chan (record { owner = w.name; nth = w.opens }))) (λ u. give (Opened todo))))
   start call (Send c (Typed k form)) todo =
-      bind (value g call c) (λ v. bind (channel v) (λ to. bind (value g call (Typed k form)) (λ w. give (Offered to k (Gives (Tree w)) todo))))
+      bind (value g call c) (λ v. bind (channel v) (λ to. bind (value g call (Typed k form)) (λ w. give (Offered to k (Message (Tree w)) todo))))
   start call (Receive c x) todo =
       bind (value g call c) (λ v. bind (channel v) (λ from. bind (address g call x) (λ a. give (Offered from a.kind (Takes a) todo))))
 
@@ -128,8 +128,8 @@ module _ (g : Setting) where
   act call (Do s) todo = start call s todo
   act call (First x m n down s) todo = turn_of x m n down s todo
   act call (Again x n down s) todo = bind (place_of g x) (λ q. bind (read_at g q) (λ v. bind (ordinal v) (λ m. turn_of x (next_value down m) n down s todo)))
-  act call (Test s e) todo = bind (ordinal_of g call e) (λ n. give (Went (if_true n todo (Do (Repeat s e) ∷ todo))))
-  act call Leave todo = bind leave (λ u. give (Went todo))
+  act call (Test s e) todo = bind (ordinal_of g call e) (λ n. give (Stepped (if_true n todo (Do (Repeat s e) ∷ todo))))
+  act call Leave todo = bind leave (λ u. give (Stepped todo))
   act call (Break f) todo = fail f
 
   -- leaving a loop is no step, but its variable is read
@@ -144,12 +144,12 @@ module _ (g : Setting) where
 
   -- what is left to do after a local step. A function's body has no other (rule I9)
   abbrev pub left_by : Deed → Work (List Item)
-  left_by (Went todo) = give todo
-  left_by (Beat todo) = give todo
+  left_by (Stepped todo) = give todo
+  left_by (Ticked todo) = give todo
   left_by (Opened todo) = lost
   left_by (Forked os todo) = lost
   left_by (Offered c k cargo todo) = lost
-  left_by Over = lost
+  left_by Ended = lost
 
   -- a function's result, or F4
   abbrev pub answer_of : Option ℕ → Work Value
@@ -170,7 +170,7 @@ module _ (g : Setting) where
   all (suc n) todo = bind (settle todo) (rest_by (all n))
 
   abbrev pub deed_by : (List Item → Work (List Item)) → List Item → Work Deed
-  deed_by go [] = give Over
+  deed_by go [] = give Ended
   deed_by go (i ∷ todo) = act (call_by go) i todo
 
   -- one step of a process

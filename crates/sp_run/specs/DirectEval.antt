@@ -16,7 +16,7 @@ use Rattle.sp_meaning.specs.Values.{Value, Undefined, Ordinal, Chan, Parts}
 use Rattle.sp_meaning.specs.Own.{Cell, Input, Address, Home, OfBlock, OfIndex, Frame, Setting, position_in, is_block, is_index, referred}
 use Rattle.sp_meaning.specs.Eval.{Place, At, Fixed, Given, ValueOf, PlaceOf, field_kind, in_frame}
 use Rattle.sp_run.specs.Direct.{Work, bind, give, fail, lost, look, fetch, or_lost, visible}
-use Rattle.sp_meaning.specs.Operators.{Worked, Yields, Refuses, truth, ranged, successor, predecessor, absolute, square, is_odd, unary_op, binary_op, least, greatest}
+use Rattle.sp_meaning.specs.Operators.{Worked, Yields, Faults, truth, ranged, successor, predecessor, absolute, square, is_odd, unary_op, binary_op, least, greatest}
 use Rattle.sp_meaning.specs.Texts.{at_line_end}
 
 -- what a call of a function gives
@@ -26,7 +26,7 @@ Calls = ℕ → List Given → Work Value
 -- what an operator gives
 abbrev pub work_of : Worked → Work Value
 work_of (Yields n) = give (Ordinal n)
-work_of (Refuses f) = fail f
+work_of (Faults f) = fail f
 
 -- the ordinal that an evaluated expression is
 abbrev pub ordinal : Value → Work ℤ

@@ -44,17 +44,17 @@ births_of (births.Children ss) = s.children (stmts (map stmt_of ss.now))
 births_of (births.Indexed x low n b) = s.indexed_children x (stmt_of b.now) low n
 
 abbrev pub plain_cargo : Cargo → model.Cargo o.Held o.Address
-plain_cargo (cargo.Gives v) = model.Gives (o.Tree (plain_value v))
+plain_cargo (cargo.Message v) = model.Message (o.Tree (plain_value v))
 plain_cargo (cargo.Takes a) = model.Takes (plain_address a)
 
 -- a deed, and what is then left to do
 abbrev pub plain_deed : List o.Item → Deed → s.Deed
-plain_deed todo deed.Went = s.Went todo
-plain_deed todo deed.Beat = s.Beat todo
+plain_deed todo deed.Stepped = s.Stepped todo
+plain_deed todo deed.Ticked = s.Ticked todo
 plain_deed todo deed.Opened = s.Opened todo
 plain_deed todo (deed.Forked b) = s.Forked (births_of b) todo
 plain_deed todo (deed.Offered c k g) = s.Offered (plain_channel c) k (plain_cargo g) todo
-plain_deed todo deed.Over = s.Over
+plain_deed todo deed.Ended = s.Ended
 
 -- all that was left is done
 abbrev pub nothing_left : Unit {0} → List o.Item

@@ -21,7 +21,7 @@ use Rattle.sp_meaning.specs.Model.{Name, Channel, Change, Becomes, Faults, chang
 use Rattle.sp_meaning.specs.Steps.{result_of, outcome, passed}
 use Rattle.sp_meaning.specs.Own as o
 use Rattle.sp_meaning.specs.SuperPascal.{superpascal, with_todo}
-use Rattle.sp_meaning.specs.Deeds.{Deed, Went, Beat, Opened, Forked, Offered, Over, newborns}
+use Rattle.sp_meaning.specs.Deeds.{Deed, Stepped, Ticked, Opened, Forked, Offered, Ended, newborns}
 use Rattle.sp_meaning.specs.Runs.{StateOf, most, next}
 use Rattle.sp_run.specs.Views.{plain_channel}
 use Rattle.sp_run.specs.Items.{items_of}
@@ -102,12 +102,12 @@ module _ (g : o.Setting) where
 
   -- the state after a step of p whose own work came to this
   abbrev pub stepped : Name → o.Who → StateOf g → Came Deed → StateOf g
-  stepped p w s (Got (Went todo) own here) = with_store here (changed (Becomes p (m.Works (with_todo todo w own))) s)
-  stepped p w s (Got (Beat todo) own here) = with_store here (changed (Becomes p (m.Works (with_todo todo w own))) s)
+  stepped p w s (Got (Stepped todo) own here) = with_store here (changed (Becomes p (m.Works (with_todo todo w own))) s)
+  stepped p w s (Got (Ticked todo) own here) = with_store here (changed (Becomes p (m.Works (with_todo todo w own))) s)
   stepped p w s (Got (Opened todo) own here) = opened p (with_todo todo (record w { opens = w.opens + 1 }) own) here s (passed (most g) s.totals (Some (record { processes = 0; channels = 1; entries = 1 })))
   stepped p w s (Got (Forked os todo) own here) = result_of s p (outcome (most g) s p (m.Forks (with_todo todo (record w { forks = w.forks + 1 }) own) (newborns w own 0 os)))
   stepped p w s (Got (Offered c k cargo todo) own here) = result_of s p (outcome (most g) s p (m.Offering (record { channel = c; kind = k; cargo = cargo; next = with_todo todo w own })))
-  stepped p w s (Got Over own here) = changed (Becomes p m.Ended) s
+  stepped p w s (Got Ended own here) = changed (Becomes p m.Ended) s
   stepped p w s (Not (halted.Fault f)) = changed (Faults p f) s
   stepped p w s (Not halted.Lost) = changed (Faults p fault.F8) s
   stepped p w s (Not halted.Long) = changed (Faults p fault.F8) s

@@ -9,7 +9,7 @@ use Rattle.sp_tree.specs.declared.checked.Arm as ast_a
 use Rattle.sp_tree.specs.Plain.{Stmt, Arm}
 use Rattle.sp_tree.specs.PlainOf.{stmt_form_step, arm_step, stmt_step}
 use Rattle.sp_meaning.specs.Own.{Setting, Item, Do, First, Again, Test, Leave, Break}
-use Rattle.sp_meaning.specs.Deeds.{Deed, Went, indexed_children, goes_on}
+use Rattle.sp_meaning.specs.Deeds.{Deed, Stepped, indexed_children, goes_on}
 use Rattle.sp_run.specs.Direct.{Work, bind, give}
 use Rattle.sp_run.specs.DirectDeeds.{fork, peek}
 
@@ -25,7 +25,7 @@ arm_of = ast_a.fold-Arm Stmt Arm Stmt stmt_form_step arm_step stmt_step
 
 -- the children of a forall, if its range has values
 abbrev pub forall : Setting → ℕ → ℤ → ℤ → Stmt → List Item → Work Deed
-forall g x m n s todo = if int_lt n m then give (Went todo) else fork g (indexed_children x s m (nat_abs ((n -ℤ m) +ℤ pos 1))) todo
+forall g x m n s todo = if int_lt n m then give (Stepped todo) else fork g (indexed_children x s m (nat_abs ((n -ℤ m) +ℤ pos 1))) todo
 
 -- whether it is a loop that is at its end
 abbrev pub leaves : Setting → Item → Work Bool

@@ -5,7 +5,7 @@ ghost use Rattle.sp_tree.specs.PlainOf.{expr_of, stmt_of, arms_of};
 ghost use Rattle.sp_meaning.specs.Deeds.{push, arm_for, is_range, next_value};
 ghost use Rattle.sp_run.specs.Items.{items_of, item_of};
 ghost use Rattle.sp_run.specs.Machines.{setting_of, plain_who};
-ghost use Rattle.sp_run.specs.Comings.{Does};
+ghost use Rattle.sp_run.specs.Comings.{Implements};
 ghost use Rattle.sp_run.specs.Views.{plain_value, plain_address};
 ghost use Rattle.sp_run.specs.Doings.{given_of, plain_deed};
 ghost use Rattle.sp_run.specs.Texts.{arm_of};
@@ -44,11 +44,11 @@ pub fn assigned_to<'a>(
     v: &Value,
     todo: &mut Vec<Item<'a>>,
 ) -> Done<Deed<'a>>
-    ensures { Does run.now who.now (plain_deed (items_of todo.new.items)) machine.old result machine.new
+    ensures { Implements run.now who.now (plain_deed (items_of todo.new.items)) machine.old result machine.new
         (assigned_to (plain_address at.now) (plain_value v.now) (items_of todo.old.items)) }
 {
     take!(assign(run, who, machine, at, v));
-    Ok(Ok(Deed::Went))
+    Ok(Ok(Deed::Stepped))
 }
 
 /// A statement, if an ordinal is true.
@@ -60,13 +60,13 @@ pub fn picked<'a>(
     a: &'a Stmt,
     todo: &mut Vec<Item<'a>>,
 ) -> Done<Deed<'a>>
-    ensures { Does run.now who.now (plain_deed (items_of todo.new.items)) machine.now result machine.now (picked n (stmt_of a.now) (items_of todo.old.items)) }
+    ensures { Implements run.now who.now (plain_deed (items_of todo.new.items)) machine.now result machine.now (picked n (stmt_of a.now) (items_of todo.old.items)) }
 {
     if n <= 0 {
-        return Ok(Ok(Deed::Went));
+        return Ok(Ok(Deed::Stepped));
     }
     push(a, todo)?;
-    Ok(Ok(Deed::Went))
+    Ok(Ok(Deed::Stepped))
 }
 
 /// One of two statements.
@@ -79,15 +79,15 @@ pub fn either<'a>(
     b: &'a Stmt,
     todo: &mut Vec<Item<'a>>,
 ) -> Done<Deed<'a>>
-    ensures { Does run.now who.now (plain_deed (items_of todo.new.items)) machine.now result machine.now
+    ensures { Implements run.now who.now (plain_deed (items_of todo.new.items)) machine.now result machine.now
         (either n (stmt_of a.now) (stmt_of b.now) (items_of todo.old.items)) }
 {
     if n <= 0 {
         push(b, todo)?;
-        return Ok(Ok(Deed::Went));
+        return Ok(Ok(Deed::Stepped));
     }
     push(a, todo)?;
-    Ok(Ok(Deed::Went))
+    Ok(Ok(Deed::Stepped))
 }
 
 /// Whether a `for` loop has a value.
@@ -109,11 +109,11 @@ pub fn ranged<'a>(
     body: &'a Stmt,
     todo: &mut Vec<Item<'a>>,
 ) -> Done<Deed<'a>>
-    ensures { Does run.now who.now (plain_deed (items_of todo.new.items)) machine.now result machine.now
+    ensures { Implements run.now who.now (plain_deed (items_of todo.new.items)) machine.now result machine.now
         (ranged variable low high down (stmt_of body.now) (items_of todo.old.items)) }
 {
     if !is_range(down, low, high) {
-        return Ok(Ok(Deed::Went));
+        return Ok(Ok(Deed::Stepped));
     }
     let first = Item::First {
         variable,
@@ -123,7 +123,7 @@ pub fn ranged<'a>(
         body,
     };
     push_item(first, todo)?;
-    Ok(Ok(Deed::Went))
+    Ok(Ok(Deed::Stepped))
 }
 
 /// The statement of the arm with this constant, or F9.
@@ -135,13 +135,13 @@ pub fn chosen<'a>(
     arms: &'a [Arm],
     todo: &mut Vec<Item<'a>>,
 ) -> Done<Deed<'a>>
-    ensures { Does run.now who.now (plain_deed (items_of todo.new.items)) machine.now result machine.now
+    ensures { Implements run.now who.now (plain_deed (items_of todo.new.items)) machine.now result machine.now
         (chosen (setting_of run.now) (arm_for n (arms_of (map arm_of arms.now))) (items_of todo.old.items)) }
 {
     match arm_for(n, arms) {
         Some(s) => {
             push(s, todo)?;
-            Ok(Ok(Deed::Went))
+            Ok(Ok(Deed::Stepped))
         }
         None => Ok(Err(Halted::Fault(Fault::F9))),
     }
@@ -157,14 +157,14 @@ pub fn tested<'a>(
     e: &'a Expr,
     todo: &mut Vec<Item<'a>>,
 ) -> Done<Deed<'a>>
-    ensures { Does run.now who.now (plain_deed (items_of todo.new.items)) machine.now result machine.now
+    ensures { Implements run.now who.now (plain_deed (items_of todo.new.items)) machine.now result machine.now
         (tested n (stmt_of s.now) (expr_of e.now) (items_of todo.old.items)) }
 {
     if n <= 0 {
         push_item(Item::Repeat(s, e), todo)?;
-        return Ok(Ok(Deed::Went));
+        return Ok(Ok(Deed::Stepped));
     }
-    Ok(Ok(Deed::Went))
+    Ok(Ok(Deed::Stepped))
 }
 
 /// An ordinal is true, or F8.
@@ -175,12 +175,12 @@ pub fn assumed<'a>(
     n: i64,
     todo: &mut Vec<Item<'a>>,
 ) -> Done<Deed<'a>>
-    ensures { Does run.now who.now (plain_deed (items_of todo.new.items)) machine.now result machine.now (assumed n (items_of todo.old.items)) }
+    ensures { Implements run.now who.now (plain_deed (items_of todo.new.items)) machine.now result machine.now (assumed n (items_of todo.old.items)) }
 {
     if n <= 0 {
         return Ok(Err(Halted::Fault(Fault::F8)));
     }
-    Ok(Ok(Deed::Went))
+    Ok(Ok(Deed::Stepped))
 }
 
 /// A new channel goes to an address.
@@ -191,7 +191,7 @@ pub fn opened<'a>(
     at: &Address,
     todo: &mut Vec<Item<'a>>,
 ) -> Done<Deed<'a>>
-    ensures { Does run.now who.now (plain_deed (items_of todo.new.items)) machine.old result machine.new
+    ensures { Implements run.now who.now (plain_deed (items_of todo.new.items)) machine.old result machine.new
         (opened (plain_address at.now) (items_of todo.old.items)) }
 {
     let c = new_channel(run, who)?;
@@ -219,12 +219,12 @@ pub fn called<'a>(
     given: &[Given],
     todo: &mut Vec<Item<'a>>,
 ) -> Done<Deed<'a>>
-    ensures { Does run.now who.now (plain_deed (items_of todo.new.items)) machine.old result machine.new
+    ensures { Implements run.now who.now (plain_deed (items_of todo.new.items)) machine.old result machine.new
         (called (setting_of run.now) f (given_of given.now) (items_of todo.old.items)) }
 {
     let block = take!(enter(run, who, machine, f, given));
     push_both(&block.body, Item::Leave, todo)?;
-    Ok(Ok(Deed::Beat))
+    Ok(Ok(Deed::Ticked))
 }
 
 /// One more turn of a `while` loop, if its ordinal is true.
@@ -237,15 +237,15 @@ pub fn looped<'a>(
     s: &'a Stmt,
     todo: &mut Vec<Item<'a>>,
 ) -> Done<Deed<'a>>
-    ensures { Does run.now who.now (plain_deed (items_of todo.new.items)) machine.old result machine.new
+    ensures { Implements run.now who.now (plain_deed (items_of todo.new.items)) machine.old result machine.new
         (looped (setting_of run.now) n (expr_of e.now) (stmt_of s.now) (items_of todo.old.items)) }
 {
     if n <= 0 {
-        return Ok(Ok(Deed::Went));
+        return Ok(Ok(Deed::Stepped));
     }
     take!(tick(run, who, machine));
     push_both(s, Item::While(e, s), todo)?;
-    Ok(Ok(Deed::Beat))
+    Ok(Ok(Deed::Ticked))
 }
 
 /// One more turn of a `repeat` loop.
@@ -257,12 +257,12 @@ pub fn repeated<'a>(
     e: &'a Expr,
     todo: &mut Vec<Item<'a>>,
 ) -> Done<Deed<'a>>
-    ensures { Does run.now who.now (plain_deed (items_of todo.new.items)) machine.old result machine.new
+    ensures { Implements run.now who.now (plain_deed (items_of todo.new.items)) machine.old result machine.new
         (repeated (setting_of run.now) (stmt_of s.now) (expr_of e.now) (items_of todo.old.items)) }
 {
     take!(tick(run, who, machine));
     push_both(s, Item::Test(s, e), todo)?;
-    Ok(Ok(Deed::Beat))
+    Ok(Ok(Deed::Ticked))
 }
 
 /// The value after this one, or want of memory where 64 bits do not hold it.
@@ -288,7 +288,7 @@ fn turn_after<'a>(
     body: &'a Stmt,
     todo: &mut Vec<Item<'a>>,
 ) -> Done<Deed<'a>>
-    ensures { Does run.now who.now (plain_deed (items_of todo.new.items)) machine.old result machine.new
+    ensures { Implements run.now who.now (plain_deed (items_of todo.new.items)) machine.old result machine.new
         (turn_of (setting_of run.now) variable (next_value down n) limit down (stmt_of body.now) (items_of todo.old.items)) }
 {
     let n = next_value(down, n)?;
@@ -307,7 +307,7 @@ pub fn next_turn<'a>(
     body: &'a Stmt,
     todo: &mut Vec<Item<'a>>,
 ) -> Done<Deed<'a>>
-    ensures { Does run.now who.now (plain_deed (items_of todo.new.items)) machine.old result machine.new
+    ensures { Implements run.now who.now (plain_deed (items_of todo.new.items)) machine.old result machine.new
         (next_turn (setting_of run.now) variable limit down (stmt_of body.now) (items_of todo.old.items)) }
 {
     let q = take!(place_of(run, who, machine, variable));
@@ -324,11 +324,11 @@ pub fn returned<'a>(
     machine: &mut Machine,
     todo: &mut Vec<Item<'a>>,
 ) -> Done<Deed<'a>>
-    ensures { Does run.now who.now (plain_deed (items_of todo.new.items)) machine.old result machine.new
+    ensures { Implements run.now who.now (plain_deed (items_of todo.new.items)) machine.old result machine.new
         (returned (setting_of run.now) (items_of todo.old.items)) }
 {
     take!(leave(run, who, machine));
-    Ok(Ok(Deed::Went))
+    Ok(Ok(Deed::Stepped))
 }
 
 /// The next item of the input goes to an address.
@@ -339,7 +339,7 @@ pub fn read_value<'a>(
     at: &Address,
     todo: &mut Vec<Item<'a>>,
 ) -> Done<Deed<'a>>
-    ensures { Does run.now who.now (plain_deed (items_of todo.new.items)) machine.old result machine.new
+    ensures { Implements run.now who.now (plain_deed (items_of todo.new.items)) machine.old result machine.new
         (read_value (setting_of run.now) (plain_address at.now) (items_of todo.old.items)) }
 {
     let kind = take!(kind_at(run, who, machine, at.kind));
@@ -348,7 +348,7 @@ pub fn read_value<'a>(
         return Ok(Err(Halted::Lost));
     };
     take!(take_in(run, who, machine, at, taken));
-    Ok(Ok(Deed::Went))
+    Ok(Ok(Deed::Stepped))
 }
 
 /// The rest of the input's line is skipped.
@@ -358,12 +358,12 @@ pub fn read_line<'a>(
     machine: &mut Machine,
     todo: &mut Vec<Item<'a>>,
 ) -> Done<Deed<'a>>
-    ensures { Does run.now who.now (plain_deed (items_of todo.new.items)) machine.old result machine.new
+    ensures { Implements run.now who.now (plain_deed (items_of todo.new.items)) machine.old result machine.new
         (read_line (setting_of run.now) (items_of todo.old.items)) }
 {
     let left = take!(left_of(run, who, machine));
     take!(advance(run, who, machine, line_length(left)));
-    Ok(Ok(Deed::Went))
+    Ok(Ok(Deed::Stepped))
 }
 
 /// A text is written behind so many blanks.
@@ -375,11 +375,11 @@ fn write_behind<'a>(
     text: &[u8],
     todo: &mut Vec<Item<'a>>,
 ) -> Done<Deed<'a>>
-    ensures { Does run.now who.now (plain_deed (items_of todo.new.items)) machine.old result machine.new
+    ensures { Implements run.now who.now (plain_deed (items_of todo.new.items)) machine.old result machine.new
         (write_bytes (setting_of run.now) (replicate blanks 32 ++ text.now) (items_of todo.old.items)) }
 {
     take!(write(run, who, machine, blanks, text));
-    Ok(Ok(Deed::Went))
+    Ok(Ok(Deed::Stepped))
 }
 
 /// Bytes are written.
@@ -390,7 +390,7 @@ pub fn write_bytes<'a>(
     text: &[u8],
     todo: &mut Vec<Item<'a>>,
 ) -> Done<Deed<'a>>
-    ensures { Does run.now who.now (plain_deed (items_of todo.new.items)) machine.old result machine.new
+    ensures { Implements run.now who.now (plain_deed (items_of todo.new.items)) machine.old result machine.new
         (write_bytes (setting_of run.now) text.now (items_of todo.old.items)) }
 {
     write_behind(run, who, machine, 0, text, todo)
@@ -406,7 +406,7 @@ pub fn write_text<'a>(
     width: Option<i64>,
     todo: &mut Vec<Item<'a>>,
 ) -> Done<Deed<'a>>
-    ensures { Does run.now who.now (plain_deed (items_of todo.new.items)) machine.old result machine.new
+    ensures { Implements run.now who.now (plain_deed (items_of todo.new.items)) machine.old result machine.new
         (write_text (setting_of run.now) cut text.now width (items_of todo.old.items)) }
 {
     match width {
@@ -432,7 +432,7 @@ pub fn write_shown<'a>(
     width: Option<i64>,
     todo: &mut Vec<Item<'a>>,
 ) -> Done<Deed<'a>>
-    ensures { Does run.now who.now (plain_deed (items_of todo.new.items)) machine.old result machine.new
+    ensures { Implements run.now who.now (plain_deed (items_of todo.new.items)) machine.old result machine.new
         (write_shown (setting_of run.now) kind n width (items_of todo.old.items)) }
 {
     let kind = take!(kind_at(run, who, machine, kind));

@@ -5,7 +5,7 @@ ghost use Rattle.sp_tree.specs.PlainOf.{stmt_of};
 ghost use Rattle.sp_meaning.specs.Deeds.{push};
 ghost use Rattle.sp_run.specs.Items.{items_of};
 ghost use Rattle.sp_run.specs.Machines.{setting_of};
-ghost use Rattle.sp_run.specs.Comings.{Does};
+ghost use Rattle.sp_run.specs.Comings.{Implements};
 ghost use Rattle.sp_run.specs.Views.{plain_value};
 ghost use Rattle.sp_run.specs.Doings.{plain_deed};
 ghost use Rattle.sp_run.specs.Acts.{ended, left_after, left_if, before};
@@ -47,22 +47,22 @@ pub fn left_after<'a>(
     todo: &Vec<Item<'a>>,
     deed: &Deed<'a>,
 ) -> Done<bool>
-    ensures { Does run.now who.now (left_if (items_of todo.now.items)) machine.now result machine.now
+    ensures { Implements run.now who.now (left_if (items_of todo.now.items)) machine.now result machine.now
         (left_after (setting_of run.now) (plain_deed (items_of todo.now.items) deed.now)) }
 {
     match deed {
-        Deed::Went => Ok(Ok(true)),
-        Deed::Beat => Ok(Ok(true)),
+        Deed::Stepped => Ok(Ok(true)),
+        Deed::Ticked => Ok(Ok(true)),
         Deed::Opened => Ok(Err(Halted::Lost)),
         Deed::Forked(_) => Ok(Err(Halted::Lost)),
         Deed::Offered { .. } => Ok(Err(Halted::Lost)),
-        Deed::Over => Ok(Err(Halted::Lost)),
+        Deed::Ended => Ok(Err(Halted::Lost)),
     }
 }
 
 /// The end of a function: its result, and its frame goes.
 pub fn ended(run: &Setting, who: &Who, machine: &mut Machine, answer: Option<u32>) -> Done<Value>
-    ensures { Does run.now who.now plain_value machine.old result machine.new (ended (setting_of run.now) answer) }
+    ensures { Implements run.now who.now plain_value machine.old result machine.new (ended (setting_of run.now) answer) }
 {
     let v = take!(give_back(run, who, machine, answer));
     take!(leave(run, who, machine));

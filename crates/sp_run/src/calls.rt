@@ -7,7 +7,7 @@ ghost use Rattle.sp_meaning.specs.Own.{is_block};
 ghost use Rattle.sp_meaning.specs.Deeds.{begins, references, pushed_frame, without_frame, cells_of_home};
 ghost use Rattle.sp_meaning.specs.Values.{initials};
 ghost use Rattle.sp_run.specs.Machines.{setting_of, plain_references, plain_own, plain_home, plain_who};
-ghost use Rattle.sp_run.specs.Comings.{Does, same, pointed};
+ghost use Rattle.sp_run.specs.Comings.{Implements, same, pointed};
 ghost use Rattle.sp_run.specs.Doings.{given_of, block_in};
 ghost use Rattle.sp_run.specs.Views.{plain_value};
 ghost use Rattle.sp_run.specs.Direct.{tick, deepen, widen, reach, or_lost};
@@ -37,7 +37,7 @@ pub enum Given {
 
 /// A tick, or F10.
 pub fn tick(run: &Setting, who: &Who, machine: &mut Machine) -> Done<()>
-    ensures { Does run.now who.now same machine.old result machine.new (tick run.now.limits.now) }
+    ensures { Implements run.now who.now same machine.old result machine.new (tick run.now.limits.now) }
 {
     if machine.own.ticks < run.limits.ticks {
         machine.own.ticks += 1;
@@ -49,7 +49,7 @@ pub fn tick(run: &Setting, who: &Who, machine: &mut Machine) -> Done<()>
 
 /// One level deeper, or F11.
 pub fn deepen(run: &Setting, who: &Who, machine: &mut Machine) -> Done<()>
-    ensures { Does run.now who.now same machine.old result machine.new (deepen run.now.limits.now) }
+    ensures { Implements run.now who.now same machine.old result machine.new (deepen run.now.limits.now) }
 {
     if machine.own.depth < run.limits.depth as u64 {
         machine.own.depth += 1;
@@ -61,7 +61,7 @@ pub fn deepen(run: &Setting, who: &Who, machine: &mut Machine) -> Done<()>
 
 /// So many cells more, or F12.
 pub fn widen(run: &Setting, who: &Who, machine: &mut Machine, n: u64) -> Done<()>
-    ensures { Does run.now who.now same machine.old result machine.new (widen run.now.limits.now n) }
+    ensures { Implements run.now who.now same machine.old result machine.new (widen run.now.limits.now n) }
 {
     let cells = sum_of(machine.own.cells, n)?;
     if (run.limits.cells as u64) < cells {
@@ -74,7 +74,7 @@ pub fn widen(run: &Setting, who: &Who, machine: &mut Machine, n: u64) -> Done<()
 
 /// How long the list of frames is that begins with the enclosing block's.
 pub fn enclosing(run: &Setting, who: &Who, machine: &Machine, parent: Option<u32>) -> Done<usize>
-    ensures { Does run.now who.now same machine.now result machine.now (enclosing (setting_of run.now) parent) }
+    ensures { Implements run.now who.now same machine.now result machine.now (enclosing (setting_of run.now) parent) }
 {
     match parent {
         Some(b) => reach(run, who, machine, Wanted::Block(b as usize)),
@@ -137,7 +137,7 @@ fn lay_one(
     v: &Variable,
     first: Option<&Value>,
 ) -> Done<()>
-    ensures { Does run.now who.now same machine.old result machine.new
+    ensures { Implements run.now who.now same machine.old result machine.new
         (lay_one (setting_of run.now) frame (x, variable_of v.now) (option_map plain_value (option_copied first.entry))) }
 {
     match first {
@@ -165,7 +165,7 @@ fn copy_in(
     formals: &[u32],
     given: &[Given],
 ) -> Done<()>
-    ensures { Does run.now who.now same machine.old result machine.new (copy_in (setting_of run.now) frame formals.now (given_of given.now)) }
+    ensures { Implements run.now who.now same machine.old result machine.new (copy_in (setting_of run.now) frame formals.now (given_of given.now)) }
 {
     let Some((x, xs)) = formals.split_first() else {
         return Ok(Ok(()));
@@ -202,7 +202,7 @@ fn lay(
     variables: &[Variable],
 ) -> Done<()>
     requires { map plain_value known.now ≡ initials run.now.checked.now.kinds }
-    ensures { Does run.now who.now same machine.old result machine.new (lay (setting_of run.now) frame (variables_of block x (map variable_of variables.now))) }
+    ensures { Implements run.now who.now same machine.old result machine.new (lay (setting_of run.now) frame (variables_of block x (map variable_of variables.now))) }
 {
     let Some((v, rest)) = variables.split_first() else {
         return Ok(Ok(()));
@@ -229,7 +229,7 @@ fn laid<'a>(
     b: &'a Block,
     given: &[Given],
 ) -> Done<&'a Block>
-    ensures { Does run.now who.now block_in machine.old result machine.new (laid (setting_of run.now) frame f (block_of b.now) (given_of given.now)) }
+    ensures { Implements run.now who.now block_in machine.old result machine.new (laid (setting_of run.now) frame f (block_of b.now) (given_of given.now)) }
 {
     let known = initials_of(run.alloc, run.checked.kinds.items())?;
     take!(lay(
@@ -264,7 +264,7 @@ fn entered<'a>(
     b: &'a Block,
     given: &[Given],
 ) -> Done<&'a Block>
-    ensures { Does run.now who.now block_in machine.old result machine.new (entered (setting_of run.now) f (block_of b.now) (given_of given.now)) }
+    ensures { Implements run.now who.now block_in machine.old result machine.new (entered (setting_of run.now) f (block_of b.now) (given_of given.now)) }
 {
     let link = take!(enclosing(run, who, machine, b.parent));
     let references = references_of(run, b.formals.items(), given)?;
@@ -290,7 +290,7 @@ pub fn enter<'a>(
     f: u32,
     given: &[Given],
 ) -> Done<&'a Block>
-    ensures { Does run.now who.now block_in machine.old result machine.new (enter (setting_of run.now) f (given_of given.now)) }
+    ensures { Implements run.now who.now block_in machine.old result machine.new (enter (setting_of run.now) f (given_of given.now)) }
 {
     match run.checked.blocks.get(f as usize) {
         Some(b) => {
@@ -317,7 +317,7 @@ fn cells_of_home(run: &Setting, home: Home) -> Result<u64, Memory>
 
 /// The newest frame goes.
 pub fn leave(run: &Setting, who: &Who, machine: &mut Machine) -> Done<()>
-    ensures { Does run.now who.now same machine.old result machine.new (leave (setting_of run.now)) }
+    ensures { Implements run.now who.now same machine.old result machine.new (leave (setting_of run.now)) }
 {
     match machine.own.frames.items().first() {
         Some(f) => {
@@ -350,7 +350,7 @@ pub fn give_back(
     machine: &mut Machine,
     answer: Option<u32>,
 ) -> Done<Value>
-    ensures { Does run.now who.now plain_value machine.old result machine.new (answer_of (setting_of run.now) answer) }
+    ensures { Implements run.now who.now plain_value machine.old result machine.new (answer_of (setting_of run.now) answer) }
 {
     match answer {
         Some(x) => {

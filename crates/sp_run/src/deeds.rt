@@ -6,7 +6,7 @@ ghost use Rattle.sp_tree.specs.PlainOf.{stmt_of, arms_of};
 ghost use Rattle.sp_meaning.specs.Deeds.{is_before, goes_on, has, arm_for};
 ghost use Rattle.sp_meaning.specs.Own.{bytes_in};
 ghost use Rattle.sp_run.specs.Machines.{setting_of, plain_held};
-ghost use Rattle.sp_run.specs.Comings.{Does, same};
+ghost use Rattle.sp_run.specs.Comings.{Implements, same};
 ghost use Rattle.sp_run.specs.Items.{item_of, items_of};
 ghost use Rattle.sp_run.specs.Views.{plain_value, plain_address};
 ghost use Rattle.sp_run.specs.Doings.{plain_deed, births_of};
@@ -42,7 +42,7 @@ pub enum Births<'a> {
 /// What goes over a channel, or where it is put.
 #[derive(Drop)]
 pub enum Cargo {
-    Gives(Value),
+    Message(Value),
     Takes(Address),
 }
 
@@ -50,9 +50,9 @@ pub enum Cargo {
 #[derive(Drop)]
 pub enum Deed<'a> {
     /// A local step.
-    Went,
+    Stepped,
     /// A local step that ends with a tick of its own.
-    Beat,
+    Ticked,
     Opened,
     Forked(Births<'a>),
     Offered {
@@ -60,7 +60,7 @@ pub enum Deed<'a> {
         kind: u32,
         cargo: Cargo,
     },
-    Over,
+    Ended,
 }
 
 pub fn is_before(down: bool, n: i64, limit: i64) -> bool
@@ -83,7 +83,7 @@ fn goes_on(down: bool, limit: i64, v: &Value) -> bool
 
 /// The value of the `for` variable, whatever it is.
 fn peek(run: &Setting, who: &Who, machine: &mut Machine, variable: u32) -> Done<Value>
-    ensures { Does run.now who.now plain_value machine.old result machine.new (peek (setting_of run.now) variable) }
+    ensures { Implements run.now who.now plain_value machine.old result machine.new (peek (setting_of run.now) variable) }
 {
     let place = take!(place_of(run, who, machine, variable));
     let at = take!(address_of(run, who, machine, place));
@@ -92,7 +92,7 @@ fn peek(run: &Setting, who: &Who, machine: &mut Machine, variable: u32) -> Done<
 
 /// Whether it is a loop that is at its end.
 fn leaves(run: &Setting, who: &Who, machine: &mut Machine, item: &Item) -> Done<bool>
-    ensures { Does run.now who.now same machine.old result machine.new (leaves (setting_of run.now) (item_of item.now)) }
+    ensures { Implements run.now who.now same machine.old result machine.new (leaves (setting_of run.now) (item_of item.now)) }
 {
     match item {
         Item::Again {
@@ -132,7 +132,7 @@ pub fn settle<'a>(
     machine: &mut Machine,
     todo: &mut Vec<Item<'a>>,
 ) -> Done<()>
-    ensures { Does run.now who.now (λ u. items_of todo.new.items) machine.old result machine.new (settle (setting_of run.now) (items_of todo.old.items)) }
+    ensures { Implements run.now who.now (λ u. items_of todo.new.items) machine.old result machine.new (settle (setting_of run.now) (items_of todo.old.items)) }
 {
     let Some(first) = todo.first() else {
         return Ok(Ok(()));
@@ -158,7 +158,7 @@ pub fn turn_of<'a>(
     body: &'a Stmt,
     todo: &mut Vec<Item<'a>>,
 ) -> Done<Deed<'a>>
-    ensures { Does run.now who.now (plain_deed (items_of todo.new.items)) machine.old result machine.new
+    ensures { Implements run.now who.now (plain_deed (items_of todo.new.items)) machine.old result machine.new
         (turn_of (setting_of run.now) variable n limit down (stmt_of body.now) (items_of todo.old.items)) }
 {
     let place = take!(place_of(run, who, machine, variable));
@@ -175,7 +175,7 @@ pub fn turn_of<'a>(
         },
     )?;
     push(body, todo)?;
-    Ok(Ok(Deed::Beat))
+    Ok(Ok(Deed::Ticked))
 }
 
 /// The children are made, if one level more is allowed.
@@ -186,7 +186,7 @@ pub fn fork<'a>(
     births: Births<'a>,
     todo: &Vec<Item<'a>>,
 ) -> Done<Deed<'a>>
-    ensures { Does run.now who.now (plain_deed (items_of todo.now.items)) machine.now result machine.now
+    ensures { Implements run.now who.now (plain_deed (items_of todo.now.items)) machine.now result machine.now
         (fork (setting_of run.now) (births_of births.entry) (items_of todo.now.items)) }
 {
     if machine.own.depth < run.limits.depth as u64 {
@@ -207,11 +207,11 @@ pub fn forall<'a>(
     body: &'a Stmt,
     todo: &Vec<Item<'a>>,
 ) -> Done<Deed<'a>>
-    ensures { Does run.now who.now (plain_deed (items_of todo.now.items)) machine.now result machine.now
+    ensures { Implements run.now who.now (plain_deed (items_of todo.now.items)) machine.now result machine.now
         (forall (setting_of run.now) variable low high (stmt_of body.now) (items_of todo.now.items)) }
 {
     if high < low {
-        return Ok(Ok(Deed::Went));
+        return Ok(Ok(Deed::Stepped));
     }
     let count = count_of(&low, &high)?;
     let births = Births::Indexed {
@@ -285,7 +285,7 @@ pub fn write(
     blanks: usize,
     text: &[u8],
 ) -> Done<()>
-    ensures { Does run.now who.now same machine.old result machine.new (write (setting_of run.now) (replicate blanks 32 ++ text.now)) }
+    ensures { Implements run.now who.now same machine.old result machine.new (write (setting_of run.now) (replicate blanks 32 ++ text.now)) }
 {
     let held = take!(look(run, who, machine, &Loc::Output));
     let bytes = bytes_of(run, held);
@@ -299,7 +299,7 @@ pub fn write(
 
 /// So many bytes of the input are taken.
 pub fn advance(run: &Setting, who: &Who, machine: &mut Machine, n: usize) -> Done<()>
-    ensures { Does run.now who.now same machine.old result machine.new (advance (setting_of run.now) n) }
+    ensures { Implements run.now who.now same machine.old result machine.new (advance (setting_of run.now) n) }
 {
     let held = take!(look(run, who, machine, &Loc::Input));
     let Some(next) = position_of(&held).checked_add(n) else {
@@ -316,7 +316,7 @@ pub fn take_in(
     at: &Address,
     taken: Taken,
 ) -> Done<()>
-    ensures { Does run.now who.now same machine.old result machine.new (take_in (setting_of run.now) (plain_address at.now) (plain_taken taken)) }
+    ensures { Implements run.now who.now same machine.old result machine.new (take_in (setting_of run.now) (plain_address at.now) (plain_taken taken)) }
 {
     match taken {
         Taken::Takes(n, bytes) => {

@@ -188,7 +188,7 @@ fn way_of(cargo: &Cargo) -> Way
     ensures { result ≡ way_of (plain_cargo cargo.now) }
 {
     match cargo {
-        Cargo::Gives(_) => Way::Send,
+        Cargo::Message(_) => Way::Send,
         Cargo::Takes(_) => Way::Receive,
     }
 }

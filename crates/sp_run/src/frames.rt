@@ -4,7 +4,7 @@ ghost use Rattle.std.specs.Prelude.{◌≡◌, IfOk, map, length};
 ghost use Rattle.std.specs.Option.{option_copied, option_map};
 ghost use Rattle.sp_meaning.specs.Own.{seek, referred, is_block, is_index};
 ghost use Rattle.sp_run.specs.Machines.{setting_of, plain_frames, plain_references, plain_home};
-ghost use Rattle.sp_run.specs.Comings.{Does, same};
+ghost use Rattle.sp_run.specs.Comings.{Implements, same};
 ghost use Rattle.sp_run.specs.Places.{plain_place, fits};
 ghost use Rattle.sp_run.specs.Views.{plain_address};
 ghost use Rattle.sp_run.specs.Direct.{visible, reach};
@@ -82,7 +82,7 @@ fn referred<'a>(x: usize, references: &'a [Reference]) -> Option<&'a Reference>
 
 /// How long the list of frames is that begins with the visible one.
 pub fn reach(run: &Setting, who: &Who, machine: &Machine, wanted: Wanted) -> Done<usize>
-    ensures { Does run.now who.now same machine.now result machine.now (reach (fits wanted)) }
+    ensures { Implements run.now who.now same machine.now result machine.now (reach (fits wanted)) }
 {
     let frames = machine.own.frames.items();
     let found = seek(wanted, frames.len(), frames);
@@ -95,7 +95,7 @@ pub fn reach(run: &Setting, who: &Who, machine: &Machine, wanted: Wanted) -> Don
 
 /// The variable in the frame of its block.
 fn in_visible(run: &Setting, who: &Who, machine: &Machine, x: usize, v: &Variable) -> Done<Place>
-    ensures { Does run.now who.now plain_place machine.now result machine.now (in_visible (setting_of run.now) x v.now.kind v.now.block) }
+    ensures { Implements run.now who.now plain_place machine.now result machine.now (in_visible (setting_of run.now) x v.now.kind v.now.block) }
 {
     let frames = machine.own.frames.items();
     let found = seek(Wanted::Block(v.block as usize), frames.len(), frames);
@@ -116,7 +116,7 @@ fn in_visible(run: &Setting, who: &Who, machine: &Machine, x: usize, v: &Variabl
 
 /// What the variable parameter stands for in the frame of its block.
 fn referred_in(run: &Setting, who: &Who, machine: &Machine, x: usize, v: &Variable) -> Done<Place>
-    ensures { Does run.now who.now plain_place machine.now result machine.now (referred_in x v.now.block) }
+    ensures { Implements run.now who.now plain_place machine.now result machine.now (referred_in x v.now.block) }
 {
     let frames = machine.own.frames.items();
     let found = seek(Wanted::Block(v.block as usize), frames.len(), frames);
@@ -134,7 +134,7 @@ fn referred_in(run: &Setting, who: &Who, machine: &Machine, x: usize, v: &Variab
 
 /// The value of a forall's index.
 fn index_of(run: &Setting, who: &Who, machine: &Machine, x: usize) -> Done<Place>
-    ensures { Does run.now who.now plain_place machine.now result machine.now (index_of (setting_of run.now) x) }
+    ensures { Implements run.now who.now plain_place machine.now result machine.now (index_of (setting_of run.now) x) }
 {
     let frames = machine.own.frames.items();
     let found = seek(Wanted::Index(x), frames.len(), frames);
@@ -149,7 +149,7 @@ fn index_of(run: &Setting, who: &Who, machine: &Machine, x: usize) -> Done<Place
 
 /// Where a variable stands, by its role.
 fn place_by(run: &Setting, who: &Who, machine: &Machine, x: usize, v: &Variable) -> Done<Place>
-    ensures { Does run.now who.now plain_place machine.now result machine.now (place_by (setting_of run.now) x (variable_of v.now) v.now.role) }
+    ensures { Implements run.now who.now plain_place machine.now result machine.now (place_by (setting_of run.now) x (variable_of v.now) v.now.role) }
 {
     match v.role {
         Role::Console => Ok(Err(Halted::Lost)),
@@ -164,7 +164,7 @@ fn place_by(run: &Setting, who: &Who, machine: &Machine, x: usize, v: &Variable)
 /// Where an entire variable stands.
 #[tactic(auto, using(crate::proofs::Values::some_mapped, crate::proofs::Values::none_mapped))]
 pub fn place_of(run: &Setting, who: &Who, machine: &Machine, x: u32) -> Done<Place>
-    ensures { Does run.now who.now plain_place machine.now result machine.now (place_of (setting_of run.now) x) }
+    ensures { Implements run.now who.now plain_place machine.now result machine.now (place_of (setting_of run.now) x) }
 {
     match run.checked.variables.get(x as usize) {
         Some(v) => place_by(run, who, machine, x as usize, v),
@@ -174,7 +174,7 @@ pub fn place_of(run: &Setting, who: &Who, machine: &Machine, x: u32) -> Done<Pla
 
 /// The address of a place that has one.
 pub fn address_of(run: &Setting, who: &Who, machine: &Machine, place: Place) -> Done<Address>
-    ensures { Does run.now who.now plain_address machine.now result machine.now (address_of (setting_of run.now) (plain_place place)) }
+    ensures { Implements run.now who.now plain_address machine.now result machine.now (address_of (setting_of run.now) (plain_place place)) }
 {
     match place {
         Place::At(a) => Ok(Ok(a)),

@@ -5,7 +5,7 @@ ghost use Rattle.sp_tree.specs.PlainOf.{expr_of, form_of, var_of, actuals, actua
 ghost use Rattle.sp_tree.specs.Plain.{Assign, Call, If, IfElse, While, For, Case, Forall, Assume, ReadValue, WriteValue, WriteText, Open, Send, Receive};
 ghost use Rattle.sp_run.specs.Items.{items_of, item_of};
 ghost use Rattle.sp_run.specs.Machines.{setting_of};
-ghost use Rattle.sp_run.specs.Comings.{Does, same};
+ghost use Rattle.sp_run.specs.Comings.{Implements, same};
 ghost use Rattle.sp_run.specs.Places.{plain_place};
 ghost use Rattle.sp_run.specs.Views.{plain_value, plain_address};
 ghost use Rattle.sp_run.specs.Doings.{calls_of, given_of, plain_deed, nothing_left};
@@ -46,7 +46,7 @@ pub fn value(
     machine: &mut Machine,
     e: &Expr,
 ) -> Done<Value>
-    ensures { Does run.now who.now plain_value machine.old result machine.new (value (setting_of run.now) (calls_of run.now fuel) (expr_of e.now)) }
+    ensures { Implements run.now who.now plain_value machine.old result machine.new (value (setting_of run.now) (calls_of run.now fuel) (expr_of e.now)) }
 {
     if levels == 0 {
         return Err(Memory);
@@ -65,7 +65,7 @@ fn form_value(
     kind: u32,
     form: &ExprForm,
 ) -> Done<Value>
-    ensures { Does run.now who.now plain_value machine.old result machine.new
+    ensures { Implements run.now who.now plain_value machine.old result machine.new
         (form_value (setting_of run.now) (calls_of run.now fuel) kind (form_of form.now)) }
 {
     if levels == 0 {
@@ -120,7 +120,7 @@ fn place(
     machine: &mut Machine,
     x: &Var,
 ) -> Done<Place>
-    ensures { Does run.now who.now plain_place machine.old result machine.new (place (setting_of run.now) (calls_of run.now fuel) (var_of x.now)) }
+    ensures { Implements run.now who.now plain_place machine.old result machine.new (place (setting_of run.now) (calls_of run.now fuel) (var_of x.now)) }
 {
     if levels == 0 {
         return Err(Memory);
@@ -140,7 +140,7 @@ fn selected(
     ss: &[Selector],
     q: Place,
 ) -> Done<Place>
-    ensures { Does run.now who.now plain_place machine.old result machine.new
+    ensures { Implements run.now who.now plain_place machine.old result machine.new
         (selected (setting_of run.now) (calls_of run.now fuel) (selectors (map selector_of ss.now)) (plain_place q)) }
 {
     if levels == 0 {
@@ -174,7 +174,7 @@ fn actuals(
     machine: &mut Machine,
     args: &[Actual],
 ) -> Done<List<Given>>
-    ensures { Does run.now who.now given_of machine.old result machine.new
+    ensures { Implements run.now who.now given_of machine.old result machine.new
         (given_by (setting_of run.now) (calls_of run.now fuel) (actuals (map actual_of args.now))) }
 {
     if levels == 0 {
@@ -217,7 +217,7 @@ fn call(
     f: u32,
     given: List<Given>,
 ) -> Done<Value>
-    ensures { Does run.now who.now plain_value machine.old result machine.new (calls_of run.now fuel f (given_of given)) }
+    ensures { Implements run.now who.now plain_value machine.old result machine.new (calls_of run.now fuel f (given_of given)) }
 {
     if levels == 0 {
         return Err(Memory);
@@ -239,7 +239,7 @@ fn all<'a>(
     machine: &mut Machine,
     todo: Vec<Item<'a>>,
 ) -> Done<()>
-    ensures { Does run.now who.now nothing_left machine.old result machine.new (all (setting_of run.now) fuel (items_of todo.entry.items)) }
+    ensures { Implements run.now who.now nothing_left machine.old result machine.new (all (setting_of run.now) fuel (items_of todo.entry.items)) }
 {
     if levels == 0 {
         return Err(Memory);
@@ -266,7 +266,7 @@ fn one<'a>(
     machine: &mut Machine,
     todo: &mut Vec<Item<'a>>,
 ) -> Done<bool>
-    ensures { Does run.now who.now (left_if (items_of todo.new.items)) machine.old result machine.new
+    ensures { Implements run.now who.now (left_if (items_of todo.new.items)) machine.old result machine.new
         (one (setting_of run.now) fuel (items_of todo.old.items)) }
 {
     if levels == 0 {
@@ -291,7 +291,7 @@ fn ordinal_of(
     machine: &mut Machine,
     e: &Expr,
 ) -> Done<i64>
-    ensures { Does run.now who.now same machine.old result machine.new (ordinal_of (setting_of run.now) (calls_of run.now fuel) (expr_of e.now)) }
+    ensures { Implements run.now who.now same machine.old result machine.new (ordinal_of (setting_of run.now) (calls_of run.now fuel) (expr_of e.now)) }
 {
     if levels == 0 {
         return Err(Memory);
@@ -311,7 +311,7 @@ fn address(
     machine: &mut Machine,
     x: &Var,
 ) -> Done<Address>
-    ensures { Does run.now who.now plain_address machine.old result machine.new (address (setting_of run.now) (calls_of run.now fuel) (var_of x.now)) }
+    ensures { Implements run.now who.now plain_address machine.old result machine.new (address (setting_of run.now) (calls_of run.now fuel) (var_of x.now)) }
 {
     if levels == 0 {
         return Err(Memory);
@@ -331,7 +331,7 @@ fn width(
     machine: &mut Machine,
     e: &Option<Expr>,
 ) -> Done<Option<i64>>
-    ensures { Does run.now who.now same machine.old result machine.new (width (setting_of run.now) (calls_of run.now fuel) (width_of e.now)) }
+    ensures { Implements run.now who.now same machine.old result machine.new (width (setting_of run.now) (calls_of run.now fuel) (width_of e.now)) }
 {
     if levels == 0 {
         return Err(Memory);
@@ -356,7 +356,7 @@ pub fn act<'a>(
     item: Item<'a>,
     todo: &mut Vec<Item<'a>>,
 ) -> Done<Deed<'a>>
-    ensures { Does run.now who.now (plain_deed (items_of todo.new.items)) machine.old result machine.new
+    ensures { Implements run.now who.now (plain_deed (items_of todo.new.items)) machine.old result machine.new
         (act (setting_of run.now) (calls_of run.now fuel) (item_of item.entry) (items_of todo.old.items)) }
 {
     if levels == 0 {
@@ -420,7 +420,7 @@ fn start_assign<'a>(
     e: &'a Expr,
     todo: &mut Vec<Item<'a>>,
 ) -> Done<Deed<'a>>
-    ensures { Does run.now who.now (plain_deed (items_of todo.new.items)) machine.old result machine.new
+    ensures { Implements run.now who.now (plain_deed (items_of todo.new.items)) machine.old result machine.new
         (start (setting_of run.now) (calls_of run.now fuel) (Assign (var_of x.now) (expr_of e.now)) (items_of todo.old.items)) }
 {
     if levels == 0 {
@@ -443,7 +443,7 @@ fn start_call<'a>(
     args: &'a [Actual],
     todo: &mut Vec<Item<'a>>,
 ) -> Done<Deed<'a>>
-    ensures { Does run.now who.now (plain_deed (items_of todo.new.items)) machine.old result machine.new
+    ensures { Implements run.now who.now (plain_deed (items_of todo.new.items)) machine.old result machine.new
         (start (setting_of run.now) (calls_of run.now fuel) (Call f (actuals (map actual_of args.now))) (items_of todo.old.items)) }
 {
     if levels == 0 {
@@ -465,7 +465,7 @@ fn start_if<'a>(
     a: &'a Stmt,
     todo: &mut Vec<Item<'a>>,
 ) -> Done<Deed<'a>>
-    ensures { Does run.now who.now (plain_deed (items_of todo.new.items)) machine.old result machine.new
+    ensures { Implements run.now who.now (plain_deed (items_of todo.new.items)) machine.old result machine.new
         (start (setting_of run.now) (calls_of run.now fuel) (If (expr_of e.now) (stmt_of a.now)) (items_of todo.old.items)) }
 {
     if levels == 0 {
@@ -488,7 +488,7 @@ fn start_either<'a>(
     b: &'a Stmt,
     todo: &mut Vec<Item<'a>>,
 ) -> Done<Deed<'a>>
-    ensures { Does run.now who.now (plain_deed (items_of todo.new.items)) machine.old result machine.new
+    ensures { Implements run.now who.now (plain_deed (items_of todo.new.items)) machine.old result machine.new
         (start (setting_of run.now) (calls_of run.now fuel) (IfElse (expr_of e.now) (stmt_of a.now) (stmt_of b.now)) (items_of todo.old.items)) }
 {
     if levels == 0 {
@@ -510,7 +510,7 @@ fn start_while<'a>(
     s: &'a Stmt,
     todo: &mut Vec<Item<'a>>,
 ) -> Done<Deed<'a>>
-    ensures { Does run.now who.now (plain_deed (items_of todo.new.items)) machine.old result machine.new
+    ensures { Implements run.now who.now (plain_deed (items_of todo.new.items)) machine.old result machine.new
         (start (setting_of run.now) (calls_of run.now fuel) (While (expr_of e.now) (stmt_of s.now)) (items_of todo.old.items)) }
 {
     if levels == 0 {
@@ -535,7 +535,7 @@ fn start_for<'a>(
     body: &'a Stmt,
     todo: &mut Vec<Item<'a>>,
 ) -> Done<Deed<'a>>
-    ensures { Does run.now who.now (plain_deed (items_of todo.new.items)) machine.old result machine.new
+    ensures { Implements run.now who.now (plain_deed (items_of todo.new.items)) machine.old result machine.new
         (start (setting_of run.now) (calls_of run.now fuel)
         (For variable (expr_of from.now) down (expr_of to.now) (stmt_of body.now)) (items_of todo.old.items)) }
 {
@@ -559,7 +559,7 @@ fn start_case<'a>(
     arms: &'a [Arm],
     todo: &mut Vec<Item<'a>>,
 ) -> Done<Deed<'a>>
-    ensures { Does run.now who.now (plain_deed (items_of todo.new.items)) machine.old result machine.new
+    ensures { Implements run.now who.now (plain_deed (items_of todo.new.items)) machine.old result machine.new
         (start (setting_of run.now) (calls_of run.now fuel) (Case (expr_of e.now) (arms_of (map arm_of arms.now))) (items_of todo.old.items)) }
 {
     if levels == 0 {
@@ -583,7 +583,7 @@ fn start_forall<'a>(
     body: &'a Stmt,
     todo: &mut Vec<Item<'a>>,
 ) -> Done<Deed<'a>>
-    ensures { Does run.now who.now (plain_deed (items_of todo.new.items)) machine.old result machine.new
+    ensures { Implements run.now who.now (plain_deed (items_of todo.new.items)) machine.old result machine.new
         (start (setting_of run.now) (calls_of run.now fuel) (Forall index (expr_of from.now) (expr_of to.now) (stmt_of body.now))
         (items_of todo.old.items)) }
 {
@@ -606,7 +606,7 @@ fn start_assume<'a>(
     e: &'a Expr,
     todo: &mut Vec<Item<'a>>,
 ) -> Done<Deed<'a>>
-    ensures { Does run.now who.now (plain_deed (items_of todo.new.items)) machine.old result machine.new
+    ensures { Implements run.now who.now (plain_deed (items_of todo.new.items)) machine.old result machine.new
         (start (setting_of run.now) (calls_of run.now fuel) (Assume (expr_of e.now)) (items_of todo.old.items)) }
 {
     if levels == 0 {
@@ -627,7 +627,7 @@ fn start_read<'a>(
     x: &'a Var,
     todo: &mut Vec<Item<'a>>,
 ) -> Done<Deed<'a>>
-    ensures { Does run.now who.now (plain_deed (items_of todo.new.items)) machine.old result machine.new
+    ensures { Implements run.now who.now (plain_deed (items_of todo.new.items)) machine.old result machine.new
         (start (setting_of run.now) (calls_of run.now fuel) (ReadValue (var_of x.now)) (items_of todo.old.items)) }
 {
     if levels == 0 {
@@ -649,7 +649,7 @@ fn start_write<'a>(
     w: &'a Option<Expr>,
     todo: &mut Vec<Item<'a>>,
 ) -> Done<Deed<'a>>
-    ensures { Does run.now who.now (plain_deed (items_of todo.new.items)) machine.old result machine.new
+    ensures { Implements run.now who.now (plain_deed (items_of todo.new.items)) machine.old result machine.new
         (start (setting_of run.now) (calls_of run.now fuel) (WriteValue (expr_of e.now) (width_of w.now)) (items_of todo.old.items)) }
 {
     if levels == 0 {
@@ -672,7 +672,7 @@ fn start_text<'a>(
     w: &'a Option<Expr>,
     todo: &mut Vec<Item<'a>>,
 ) -> Done<Deed<'a>>
-    ensures { Does run.now who.now (plain_deed (items_of todo.new.items)) machine.old result machine.new
+    ensures { Implements run.now who.now (plain_deed (items_of todo.new.items)) machine.old result machine.new
         (start (setting_of run.now) (calls_of run.now fuel) (WriteText t.now (width_of w.now)) (items_of todo.old.items)) }
 {
     if levels == 0 {
@@ -693,7 +693,7 @@ fn start_open<'a>(
     x: &'a Var,
     todo: &mut Vec<Item<'a>>,
 ) -> Done<Deed<'a>>
-    ensures { Does run.now who.now (plain_deed (items_of todo.new.items)) machine.old result machine.new
+    ensures { Implements run.now who.now (plain_deed (items_of todo.new.items)) machine.old result machine.new
         (start (setting_of run.now) (calls_of run.now fuel) (Open (var_of x.now)) (items_of todo.old.items)) }
 {
     if levels == 0 {
@@ -715,7 +715,7 @@ fn start_send<'a>(
     e: &'a Expr,
     todo: &mut Vec<Item<'a>>,
 ) -> Done<Deed<'a>>
-    ensures { Does run.now who.now (plain_deed (items_of todo.new.items)) machine.old result machine.new
+    ensures { Implements run.now who.now (plain_deed (items_of todo.new.items)) machine.old result machine.new
         (start (setting_of run.now) (calls_of run.now fuel) (Send (expr_of c.now) (expr_of e.now)) (items_of todo.old.items)) }
 {
     if levels == 0 {
@@ -727,7 +727,7 @@ fn start_send<'a>(
     let d = Deed::Offered {
         channel: to,
         kind: e.kind,
-        cargo: Cargo::Gives(w),
+        cargo: Cargo::Message(w),
     };
     Ok(Ok(d))
 }
@@ -743,7 +743,7 @@ fn start_receive<'a>(
     x: &'a Var,
     todo: &mut Vec<Item<'a>>,
 ) -> Done<Deed<'a>>
-    ensures { Does run.now who.now (plain_deed (items_of todo.new.items)) machine.old result machine.new
+    ensures { Implements run.now who.now (plain_deed (items_of todo.new.items)) machine.old result machine.new
         (start (setting_of run.now) (calls_of run.now fuel) (Receive (expr_of c.now) (var_of x.now)) (items_of todo.old.items)) }
 {
     if levels == 0 {
@@ -771,14 +771,14 @@ fn start<'a>(
     s: &'a Stmt,
     todo: &mut Vec<Item<'a>>,
 ) -> Done<Deed<'a>>
-    ensures { Does run.now who.now (plain_deed (items_of todo.new.items)) machine.old result machine.new
+    ensures { Implements run.now who.now (plain_deed (items_of todo.new.items)) machine.old result machine.new
         (start (setting_of run.now) (calls_of run.now fuel) (stmt_of s.now) (items_of todo.old.items)) }
 {
     if levels == 0 {
         return Err(Memory);
     }
     match &s.form {
-        Form::Empty => Ok(Ok(Deed::Went)),
+        Form::Empty => Ok(Ok(Deed::Stepped)),
         Form::Assign(x, e) => {
             let d = take!(start_assign(run, who, fuel, levels - 1, machine, x, e, todo));
             Ok(Ok(d))
@@ -789,7 +789,7 @@ fn start<'a>(
         }
         Form::Sequence(ss) => {
             push_all(ss.items(), todo)?;
-            Ok(Ok(Deed::Went))
+            Ok(Ok(Deed::Stepped))
         }
         Form::If(e, a, None) => {
             let d = take!(start_if(run, who, fuel, levels - 1, machine, e, a.get(), todo));
@@ -911,7 +911,7 @@ fn start<'a>(
             values,
         } => {
             push_sends(channel, values.items(), todo)?;
-            Ok(Ok(Deed::Went))
+            Ok(Ok(Deed::Stepped))
         }
         Form::ReceiveEach {
             at: _,
@@ -920,7 +920,7 @@ fn start<'a>(
             variables,
         } => {
             push_receives(channel, variables.items(), todo)?;
-            Ok(Ok(Deed::Went))
+            Ok(Ok(Deed::Stepped))
         }
     }
 }

@@ -4,7 +4,7 @@ ghost use Rattle.std.specs.Prelude.{◌≡◌, ◌≤ℤ◌, ◌-ℤ◌, nat_abs
 ghost use Rattle.sp_arithmetic.specs.Worked.{worked};
 ghost use Rattle.sp_meaning.specs.Own.{position_in};
 ghost use Rattle.sp_run.specs.Machines.{setting_of, plain_held};
-ghost use Rattle.sp_run.specs.Comings.{Does, same, pointed};
+ghost use Rattle.sp_run.specs.Comings.{Implements, same, pointed};
 ghost use Rattle.sp_run.specs.Places.{plain_place};
 ghost use Rattle.sp_run.specs.Views.{plain_value, plain_address, plain_channel};
 ghost use Rattle.sp_run.specs.Framing.{component};
@@ -25,7 +25,7 @@ use sp_tree::{BinaryOp, KindOf, StandardFn};
 
 /// What an operator gives, as a value.
 pub fn worked_of(run: &Setting, who: &Who, machine: &Machine, r: Result<i64, Fault>) -> Done<Value>
-    ensures { Does run.now who.now plain_value machine.now result machine.now (work_of (worked r)) }
+    ensures { Implements run.now who.now plain_value machine.now result machine.now (work_of (worked r)) }
 {
     match r {
         Ok(n) => Ok(Ok(Value::Ordinal(n))),
@@ -35,7 +35,7 @@ pub fn worked_of(run: &Setting, who: &Who, machine: &Machine, r: Result<i64, Fau
 
 /// The ordinal that an evaluated expression is.
 pub fn ordinal(run: &Setting, who: &Who, machine: &Machine, v: &Value) -> Done<i64>
-    ensures { Does run.now who.now same machine.now result machine.now (ordinal (plain_value v.now)) }
+    ensures { Implements run.now who.now same machine.now result machine.now (ordinal (plain_value v.now)) }
 {
     match v {
         Value::Undefined => Ok(Err(Halted::Lost)),
@@ -47,7 +47,7 @@ pub fn ordinal(run: &Setting, who: &Who, machine: &Machine, v: &Value) -> Done<i
 
 /// The channel that an evaluated expression is.
 pub fn channel(run: &Setting, who: &Who, machine: &Machine, v: &Value) -> Done<Chan>
-    ensures { Does run.now who.now plain_channel machine.now result machine.now (channel (plain_value v.now)) }
+    ensures { Implements run.now who.now plain_channel machine.now result machine.now (channel (plain_value v.now)) }
 {
     match v {
         Value::Undefined => Ok(Err(Halted::Lost)),
@@ -68,7 +68,7 @@ fn on_channels(
     c: &Chan,
     d: &Chan,
 ) -> Done<Value>
-    ensures { Does run.now who.now plain_value machine.now result machine.now (channels_op op (plain_channel c.now) (plain_channel d.now)) }
+    ensures { Implements run.now who.now plain_value machine.now result machine.now (channels_op op (plain_channel c.now) (plain_channel d.now)) }
 {
     match op {
         BinaryOp::Eq => Ok(Ok(Value::Ordinal(truth_of(is_same_channel(c, d))))),
@@ -96,7 +96,7 @@ pub fn operate(
     v: &Value,
     w: &Value,
 ) -> Done<Value>
-    ensures { Does run.now who.now plain_value machine.now result machine.now (operate op (plain_value v.now) (plain_value w.now)) }
+    ensures { Implements run.now who.now plain_value machine.now result machine.now (operate op (plain_value v.now) (plain_value w.now)) }
 {
     match v {
         Value::Undefined => Ok(Err(Halted::Lost)),
@@ -153,7 +153,7 @@ pub fn standard(
     kind: &KindOf,
     n: i64,
 ) -> Done<Value>
-    ensures { Does run.now who.now plain_value machine.now result machine.now (standard_op f kind.now n) }
+    ensures { Implements run.now who.now plain_value machine.now result machine.now (standard_op f kind.now n) }
 {
     match f {
         StandardFn::Abs => worked_of(run, who, machine, absolute_of(n)),
@@ -176,7 +176,7 @@ pub fn at_input(
     f: StandardFn,
     left: &[u8],
 ) -> Done<Value>
-    ensures { Does run.now who.now plain_value machine.now result machine.now (input_op f left.now) }
+    ensures { Implements run.now who.now plain_value machine.now result machine.now (input_op f left.now) }
 {
     match f {
         StandardFn::Abs => Ok(Err(Halted::Lost)),
@@ -201,7 +201,7 @@ fn is_at_line_end(left: &[u8]) -> bool
 }
 
 fn ordinal_read(run: &Setting, who: &Who, machine: &Machine, v: Value) -> Done<Value>
-    ensures { Does run.now who.now plain_value machine.now result machine.now (ordinal_read (plain_value v)) }
+    ensures { Implements run.now who.now plain_value machine.now result machine.now (ordinal_read (plain_value v)) }
 {
     match v {
         Value::Undefined => Ok(Err(Halted::Fault(Fault::F4))),
@@ -212,7 +212,7 @@ fn ordinal_read(run: &Setting, who: &Who, machine: &Machine, v: Value) -> Done<V
 }
 
 fn channel_read(run: &Setting, who: &Who, machine: &Machine, v: Value) -> Done<Value>
-    ensures { Does run.now who.now plain_value machine.now result machine.now (channel_read (plain_value v)) }
+    ensures { Implements run.now who.now plain_value machine.now result machine.now (channel_read (plain_value v)) }
 {
     match v {
         Value::Undefined => Ok(Err(Halted::Fault(Fault::F5))),
@@ -224,7 +224,7 @@ fn channel_read(run: &Setting, who: &Who, machine: &Machine, v: Value) -> Done<V
 
 /// What is read of a type.
 fn checked(run: &Setting, who: &Who, machine: &Machine, kind: &KindOf, v: Value) -> Done<Value>
-    ensures { Does run.now who.now plain_value machine.now result machine.now (checked kind.now (plain_value v)) }
+    ensures { Implements run.now who.now plain_value machine.now result machine.now (checked kind.now (plain_value v)) }
 {
     match kind {
         KindOf::Integer => ordinal_read(run, who, machine, v),
@@ -239,7 +239,7 @@ fn checked(run: &Setting, who: &Who, machine: &Machine, kind: &KindOf, v: Value)
 
 /// The type with a number.
 pub fn kind_at<'a>(run: &Setting<'a>, who: &Who, machine: &Machine, k: u32) -> Done<&'a KindOf>
-    ensures { Does run.now who.now pointed machine.now result machine.now (kind_at (setting_of run.now) k) }
+    ensures { Implements run.now who.now pointed machine.now result machine.now (kind_at (setting_of run.now) k) }
 {
     match run.checked.kinds.get(k as usize) {
         Some(kind) => Ok(Ok(kind)),
@@ -263,7 +263,7 @@ fn component(
     at: usize,
     kind: u32,
 ) -> Done<Place>
-    ensures { Does run.now who.now plain_place machine.now result machine.now (component (plain_address a) at kind) }
+    ensures { Implements run.now who.now plain_place machine.now result machine.now (component (plain_address a) at kind) }
 {
     let Address {
         spot,
@@ -283,7 +283,7 @@ fn element_at(
     n: &i64,
     kind: &KindOf,
 ) -> Done<Place>
-    ensures { Does run.now who.now plain_place machine.now result machine.now (element_at (plain_address a) n.now kind.now) }
+    ensures { Implements run.now who.now plain_place machine.now result machine.now (element_at (plain_address a) n.now kind.now) }
 {
     match kind {
         KindOf::Array {
@@ -309,7 +309,7 @@ fn element_at(
 
 /// The element of a place at an index.
 pub fn indexed(run: &Setting, who: &Who, machine: &Machine, place: Place, n: &i64) -> Done<Place>
-    ensures { Does run.now who.now plain_place machine.now result machine.now (indexed (setting_of run.now) (plain_place place) n.now) }
+    ensures { Implements run.now who.now plain_place machine.now result machine.now (indexed (setting_of run.now) (plain_place place) n.now) }
 {
     match place {
         Place::At(a) => {
@@ -339,7 +339,7 @@ fn field_kind(f: u32, kind: &KindOf) -> Option<u32>
 
 /// The field of a place.
 pub fn fielded(run: &Setting, who: &Who, machine: &Machine, f: u32, place: Place) -> Done<Place>
-    ensures { Does run.now who.now plain_place machine.now result machine.now (fielded (setting_of run.now) f (plain_place place)) }
+    ensures { Implements run.now who.now plain_place machine.now result machine.now (fielded (setting_of run.now) f (plain_place place)) }
 {
     match place {
         Place::At(a) => {
@@ -355,7 +355,7 @@ pub fn fielded(run: &Setting, who: &Who, machine: &Machine, f: u32, place: Place
 
 /// What stands at a place.
 pub fn read_at(run: &Setting, who: &Who, machine: &mut Machine, place: &Place) -> Done<Value>
-    ensures { Does run.now who.now plain_value machine.old result machine.new (read_at (setting_of run.now) (plain_place place.now)) }
+    ensures { Implements run.now who.now plain_value machine.old result machine.new (read_at (setting_of run.now) (plain_place place.now)) }
 {
     match place {
         Place::At(a) => {
@@ -391,7 +391,7 @@ fn after<'a>(bytes: &'a [u8], n: usize) -> &'a [u8]
 
 /// What is left of the input.
 pub fn left_of<'a>(run: &Setting<'a>, who: &Who, machine: &mut Machine) -> Done<&'a [u8]>
-    ensures { Does run.now who.now pointed machine.old result machine.new (left_of (setting_of run.now)) }
+    ensures { Implements run.now who.now pointed machine.old result machine.new (left_of (setting_of run.now)) }
 {
     let held = take!(look(run, who, machine, &Loc::Input));
     Ok(Ok(after(run.input, position_of(&held))))

@@ -166,9 +166,9 @@ fn copy_cargo(alloc: Global, cargo: &Cargo) -> Result<Cargo, Memory>
     ensures { IfOk result (λ c. c ≡ cargo.now) }
 {
     match cargo {
-        Cargo::Gives(v) => {
+        Cargo::Message(v) => {
             let v = copy_value(alloc, v)?;
-            Ok(Cargo::Gives(v))
+            Ok(Cargo::Message(v))
         }
         Cargo::Takes(a) => {
             let a = copy_address(alloc, a)?;

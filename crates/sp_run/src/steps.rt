@@ -12,7 +12,7 @@ ghost use Rattle.sp_meaning.specs.Runs.{most};
 ghost use Rattle.sp_run.specs.Machines.{setting_of, plain_own, plain_who, plain_frames, store_of};
 ghost use Rattle.sp_run.specs.Views.{plain_channel, plain_address, plain_value};
 ghost use Rattle.sp_run.specs.Items.{items_of};
-ghost use Rattle.sp_run.specs.Comings.{Does};
+ghost use Rattle.sp_run.specs.Comings.{Implements};
 ghost use Rattle.sp_run.specs.Direct.{Got, Not};
 ghost use Rattle.sp_run.specs.DirectDeeds.{deed};
 ghost use Rattle.sp_run.specs.declared.deeds.Deed.TheVariants.{Forked};
@@ -283,9 +283,9 @@ fn message(c: Cargo, d: Cargo) -> Option<(Address, Value)>
     ensures { option_map passing result ≡ message (plain_cargo c) (plain_cargo d) }
 {
     match (c, d) {
-        (Cargo::Gives(v), Cargo::Takes(a)) => Some((a, v)),
-        (Cargo::Takes(a), Cargo::Gives(v)) => Some((a, v)),
-        (Cargo::Gives(_), Cargo::Gives(_)) => None,
+        (Cargo::Message(v), Cargo::Takes(a)) => Some((a, v)),
+        (Cargo::Takes(a), Cargo::Message(v)) => Some((a, v)),
+        (Cargo::Message(_), Cargo::Message(_)) => None,
         (Cargo::Takes(_), Cargo::Takes(_)) => None,
     }
 }
@@ -471,8 +471,8 @@ fn completes<'a>(
         (Got (plain_deed (items_of next.entry.todo.items) deed.entry) (plain_own next.entry.own) (store_of run.now log))) }
 {
     match deed {
-        Deed::Went => moves(run, s, p, next, log),
-        Deed::Beat => moves(run, s, p, next, log),
+        Deed::Stepped => moves(run, s, p, next, log),
+        Deed::Ticked => moves(run, s, p, next, log),
         Deed::Opened => opens(run, s, p, next, log),
         Deed::Forked(children) => splits(run, s, p, next, children),
         Deed::Offered {
@@ -490,7 +490,7 @@ fn completes<'a>(
                 next,
             },
         ),
-        Deed::Over => becomes(run, s, p, Condition::Ended),
+        Deed::Ended => becomes(run, s, p, Condition::Ended),
     }
 }
 
@@ -513,12 +513,12 @@ fn deed_of<'a>(
     machine: &mut Machine,
     todo: &mut Vec<Item<'a>>,
 ) -> Done<Deed<'a>>
-    ensures { Does run.now who.now (plain_deed (items_of todo.new.items)) machine.old result machine.new
+    ensures { Implements run.now who.now (plain_deed (items_of todo.new.items)) machine.old result machine.new
         (deed (setting_of run.now) fuel (items_of todo.old.items)) }
 {
     take!(settle(run, who, machine, todo));
     let Some(first) = todo.first() else {
-        return Ok(Ok(Deed::Over));
+        return Ok(Ok(Deed::Ended));
     };
     let item = *first;
     drop_first(todo);

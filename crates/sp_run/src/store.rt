@@ -5,7 +5,7 @@ ghost use Rattle.sp_meaning.specs.Values.{initials};
 ghost use Rattle.sp_meaning.specs.SuperPascal.{first_store};
 ghost use Rattle.sp_meaning.specs.Own.{value_in, assigned, Tree};
 ghost use Rattle.sp_run.specs.Machines.{setting_of, plain_held, store_of, plain_own};
-ghost use Rattle.sp_run.specs.Comings.{Does, same};
+ghost use Rattle.sp_run.specs.Comings.{Implements, same};
 ghost use Rattle.sp_run.specs.Views.{plain_value, plain_loc, plain_address};
 ghost use Rattle.sp_run.specs.Direct.{look, put, fetch, assign};
 
@@ -75,7 +75,7 @@ fn first_held(run: &Setting, at: &Loc) -> Result<Held, Memory>
 /// Writes to a location.
 #[tactic(auto, using(crate::proofs::Stores::written_append))]
 pub fn put(run: &Setting, who: &Who, machine: &mut Machine, at: Loc, held: Held) -> Done<()>
-    ensures { Does run.now who.now same machine.old result machine.new (put (plain_loc at) (plain_held held)) }
+    ensures { Implements run.now who.now same machine.old result machine.new (put (plain_loc at) (plain_held held)) }
 {
     machine.log.push(Write { at, held })?;
     Ok(Ok(()))
@@ -83,14 +83,14 @@ pub fn put(run: &Setting, who: &Who, machine: &mut Machine, at: Loc, held: Held)
 
 /// Reads a location.
 pub fn look(run: &Setting, who: &Who, machine: &mut Machine, at: &Loc) -> Done<Held>
-    ensures { Does run.now who.now plain_held machine.old result machine.new (look (plain_loc at.now)) }
+    ensures { Implements run.now who.now plain_held machine.old result machine.new (look (plain_loc at.now)) }
 {
     Ok(Ok(held_at(run, machine.log.items(), at)?))
 }
 
 /// The value that stands at an address.
 pub fn fetch(run: &Setting, who: &Who, machine: &mut Machine, a: &Address) -> Done<Value>
-    ensures { Does run.now who.now plain_value machine.old result machine.new (fetch (plain_address a.now)) }
+    ensures { Implements run.now who.now plain_value machine.old result machine.new (fetch (plain_address a.now)) }
 {
     let held = take!(look(run, who, machine, &a.spot));
     let v = value_of(held);
@@ -119,7 +119,7 @@ pub fn with_value(run: &Setting, a: &Address, held: Held, v: &Value) -> Result<H
 
 /// Puts a value to an address.
 pub fn assign(run: &Setting, who: &Who, machine: &mut Machine, a: &Address, v: &Value) -> Done<()>
-    ensures { Does run.now who.now same machine.old result machine.new (assign (plain_address a.now) (plain_value v.now)) }
+    ensures { Implements run.now who.now same machine.old result machine.new (assign (plain_address a.now) (plain_value v.now)) }
 {
     let held = held_at(run, machine.log.items(), &a.spot)?;
     let new = with_value(run, a, held, v)?;

@@ -11,7 +11,7 @@ use Rattle.sp_history.proofs.Agreeing.{agrees_start, orderly_start}
 use Rattle.sp_history.proofs.Legal.{keeps, reaches_keeps, reaches_front, noted_more}
 use Rattle.sp_history.proofs.Outs.{outs_start, outs_by, outs_all, over_by}
 use Rattle.sp_machine.specs.declared.state.State.{State as Proc}
-use Rattle.sp_room.specs.History.{Runs as Told, StartsWith}
+use Rattle.sp_room.specs.History.{LeadsTo as Told, StartsWith}
 use Rattle.sp_room.specs.Roomed.{Called, Declined}
 use Rattle.sp_room.specs.declared.view.View.{View}
 use Rattle.sp_kernel.specs.declared.kernel.Kernel.{Kernel}

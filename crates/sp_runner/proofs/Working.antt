@@ -11,14 +11,14 @@ use Rattle.sp_code.specs.PlainStore.{plain}
 use Rattle.sp_code.specs.Turns.{IsTurn, IsSafe}
 use Rattle.sp_code.specs.Sound.{run_of}
 use Rattle.sp_code.specs.Control.{Control, Out, control_at_start, control, noted, given, takes, entries_of}
-use Rattle.sp_code.specs.System.{System, Runs, opening, IsSystem}
+use Rattle.sp_code.specs.System.{System, Working, opening, IsSystem}
 use Rattle.sp_history.specs.Agreement.{Reaches}
 use Rattle.sp_history.proofs.Queues.{at_same}
 use Rattle.sp_machine.specs.declared.state.State.{State as Proc}
 use Rattle.sp_machine.specs.declared.state.Stop.{Stop}
 use Rattle.sp_machine.specs.declared.state.Stop.TheVariants as stop
 use Rattle.sp_machine.specs.Procs.{config_of, turn_by, CanTurn, IsTurnOf, KeepsFork, Stays}
-use Rattle.sp_room.specs.History.{Runs as Told, StartsWith, noted as with_note}
+use Rattle.sp_room.specs.History.{LeadsTo as Told, StartsWith, noted as with_note}
 use Rattle.sp_room.specs.Roomed.{Called, Declined}
 use Rattle.sp_room.specs.declared.view.View.{View}
 use Rattle.sp_kernel.specs.declared.handed.Handed.{Handed}
@@ -39,7 +39,7 @@ pub record Has (x : Kernel) (seen : List Note) (w : ℕ) (p : Proc) : Type 0 whe
   pub reaches : Reaches plain (setting_of x) control_at_start (opening plain (setting_of x)) seen system
   pub along : IsSystem plain (setting_of x) (entries_of seen) system
   pub out : (control seen).doing p.number ≡ Out w
-  pub runs : system.condition p.number ≡ Runs (config_of p)
+  pub runs : system.condition p.number ≡ Working (config_of p)
   pub input : p.input.value ≡ (setting_of x).input
 
 -- the ask came back, no note was left, and what is seen is legal

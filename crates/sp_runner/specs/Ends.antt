@@ -16,7 +16,7 @@ use Rattle.sp_journal.specs.Queue.{numbers}
 use Rattle.sp_code.specs.Machine.{Stop, Forks, Opens, Sends, Receives, Ends, Pauses}
 use Rattle.sp_code.specs.Memory.{Setting}
 use Rattle.sp_code.specs.PlainStore.{plain}
-use Rattle.sp_code.specs.System.{System, Condition, Absent, Runs, Waits, Joins, Laid, Gone, Over, IsSystem}
+use Rattle.sp_code.specs.System.{System, Condition, Absent, Working, Waits, Joins, Laid, Gone, Over, IsSystem}
 use Rattle.sp_history.specs.Agreement.{phase_in, Running, Finished}
 use Rattle.sp_history.specs.Holding.{IsOutputOf}
 use Rattle.sp_kernel.specs.Faults.{fault_in}
@@ -35,7 +35,7 @@ offer_at Pauses = None
 -- those of a process that waits with one
 abbrev pub offer_in : Condition Plain → Option (Way × ℕ)
 offer_in Absent = None
-offer_in (Runs c) = None
+offer_in (Working c) = None
 offer_in (Waits stop c) = offer_at stop
 offer_in (Joins n c) = None
 offer_in (Laid c) = None
@@ -74,7 +74,7 @@ EndsAt es s (end.Fault name f) = (p : ℕ) × (fault_in es ≡ Some (p, f)) × (
 EndsAt es s end.Memory = ⊥
 
 -- what the machine gives along a journal: an end and an output
-pub record Gives (g : Setting) (es : List Entry) (e : End) (text : List ℕ) : Type 0 where
+pub record EndsWith (g : Setting) (es : List Entry) (e : End) (text : List ℕ) : Type 0 where
   pub system : System Plain
   pub along : IsSystem plain g es system
   pub end : EndsAt es system e

@@ -10,7 +10,7 @@ use Rattle.sp_code.specs.System.{IsLegal}
 use Rattle.sp_history.specs.Lines.{OneByOne}
 use Rattle.sp_room.specs.History.{notes_by}
 use Rattle.sp_kernel.specs.declared.closed.Closed.{Closed}
-use Rattle.sp_runner.specs.Ends.{Gives}
+use Rattle.sp_runner.specs.Ends.{EndsWith}
 
 -- the notes of worker w
 abbrev pub notes_of_worker : ℕ → List Note → List Note
@@ -24,5 +24,5 @@ pub record IsRun (g : Setting) (workers : ℕ) (c : Closed) : Type 0 where
   pub journal : c.journal.entries ≡ entries_of notes
   pub calls : (w : ℕ) → w < workers → OneByOne None (notes_of_worker w notes)
   pub others : (w : ℕ) → workers ≤ w → notes_of_worker w notes ≡ []
-  pub gives : Gives g c.journal.entries c.end c.output
+  pub gives : EndsWith g c.journal.entries c.end c.output
   pub in_turn : workers ≡ 1 → IsFirstInFirstOut c.journal

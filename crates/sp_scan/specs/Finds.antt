@@ -62,9 +62,9 @@ Finds bs None = NoToken bs
 Finds bs (Some x) = Longest x.0 bs x.1.now
 
 -- whether a word is refused
-abbrev pub Refuses : List ℕ → Bool → Type 0
-Refuses w true = (n : ℕ) × (slice_get refused_words n ≡ Some w)
-Refuses w false = (n : ℕ) → slice_get refused_words n ≢ Some w
+abbrev pub IsRefusedWord : List ℕ → Bool → Type 0
+IsRefusedWord w true = (n : ℕ) × (slice_get refused_words n ≡ Some w)
+IsRefusedWord w false = (n : ℕ) → slice_get refused_words n ≢ Some w
 
 -- the rule is broken here, and none of an earlier row
 pub record FirstHere (r : Rule) (bs : List ℕ) : Type 0 where

@@ -6,7 +6,7 @@ ghost use Rattle.sp_tree.specs.Characters.{lower, is_blank as is_a_blank};
 ghost use Rattle.sp_tree.specs.Spelling.{digits_value};
 ghost use Rattle.sp_tree.specs.Lexemes.{Longest, opens_comment as opens};
 ghost use Rattle.sp_tree.specs.Scans.{NoToken, begins_digit as is_digit_first, begins_signed as is_signed_first, goes_on_real as is_real};
-ghost use Rattle.sp_scan.specs.Finds.{Refuses, IsBreach, FirstHere, ItemAt};
+ghost use Rattle.sp_scan.specs.Finds.{IsRefusedWord, IsBreach, FirstHere, ItemAt};
 
 use crate::bytes::{cut, is_blank, is_digit, is_spelled};
 use crate::runs::{after_comment, opens_comment};
@@ -69,7 +69,7 @@ fn goes_on_real(bytes: &[u8]) -> bool
 
 /// Whether the bytes are a refused word.
 fn is_refused(spelled: &[u8]) -> bool
-    ensures { Refuses (map lower spelled.now) result }
+    ensures { IsRefusedWord (map lower spelled.now) result }
 {
     for n in 0..REFUSED {
         if is_spelled(spelled, refused_text(n)) {

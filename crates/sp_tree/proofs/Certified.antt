@@ -3,7 +3,7 @@ use Rattle.std.proofs.Common.{◌≡◌, ◌⊎◌, inl, inr, ℕ, zero, suc, �
 use Rattle.sp_tree.specs.declared.checked.Role.{Role}
 use Rattle.sp_tree.specs.declared.checked.Role.TheVariants as role
 use Rattle.sp_tree.specs.Plain.{Actuals, Program, Variable, Block, Stmts, No, And}
-use Rattle.sp_tree.specs.Uses.{Use, Aims, Sees, Runs, Splits, Spreads, Stops, In_stmt, In_stmts}
+use Rattle.sp_tree.specs.Uses.{Use, Target, Seen, CallOf, ParallelOf, ForallOf, Stop, In_stmt, In_stmts}
 use Rattle.sp_tree.specs.Sets.{IsBelow, IsFree, Reach, IsTarget, IsSeen, IsUsed, Implicit}
 use Rattle.sp_tree.specs.Formed.{is_answer}
 use Rattle.sp_tree.specs.Interference.{refs, IsMember, AllDifferent, KeepsI1, KeepsRules, IsFreeOfInterference}
@@ -204,12 +204,12 @@ module _ (p : Program) (claims : List Claim) where
 
   -- what the body uses is the block's own, or claimed
   abbrev pub is_closed : ℕ → Use → Bool
-  is_closed b (Aims x) = covers b (T b) x
-  is_closed b (Sees x) = covers b (S b) x
-  is_closed b (Runs c args) = each (covers b (T b)) (T c) && each (covers b (S b)) (S c)
-  is_closed b (Splits ss) = true
-  is_closed b (Spreads x s) = true
-  is_closed b Stops = true
+  is_closed b (Target x) = covers b (T b) x
+  is_closed b (Seen x) = covers b (S b) x
+  is_closed b (CallOf c args) = each (covers b (T b)) (T c) && each (covers b (S b)) (S c)
+  is_closed b (ParallelOf ss) = true
+  is_closed b (ForallOf x s) = true
+  is_closed b Stop = true
 
   covered : (b x : ℕ) (xs : List ℕ) → covers b xs x ≡ true → IsFree p b x → has xs x ≡ true
   covered b x xs h f = go (or_cases (declares b x) (has xs x) h)
@@ -222,21 +222,21 @@ module _ (p : Program) (claims : List Claim) where
 
   abbrev pub aims_of : List Use → List ℕ
   aims_of [] = []
-  aims_of (Aims x ∷ us) = x ∷ aims_of us
-  aims_of (Sees x ∷ us) = aims_of us
-  aims_of (Runs c args ∷ us) = T c ++ aims_of us
-  aims_of (Splits ss ∷ us) = aims_of us
-  aims_of (Spreads x s ∷ us) = aims_of us
-  aims_of (Stops ∷ us) = aims_of us
+  aims_of (Target x ∷ us) = x ∷ aims_of us
+  aims_of (Seen x ∷ us) = aims_of us
+  aims_of (CallOf c args ∷ us) = T c ++ aims_of us
+  aims_of (ParallelOf ss ∷ us) = aims_of us
+  aims_of (ForallOf x s ∷ us) = aims_of us
+  aims_of (Stop ∷ us) = aims_of us
 
   abbrev pub sees_of : List Use → List ℕ
   sees_of [] = []
-  sees_of (Aims x ∷ us) = sees_of us
-  sees_of (Sees x ∷ us) = x ∷ sees_of us
-  sees_of (Runs c args ∷ us) = S c ++ sees_of us
-  sees_of (Splits ss ∷ us) = sees_of us
-  sees_of (Spreads x s ∷ us) = sees_of us
-  sees_of (Stops ∷ us) = sees_of us
+  sees_of (Target x ∷ us) = sees_of us
+  sees_of (Seen x ∷ us) = x ∷ sees_of us
+  sees_of (CallOf c args ∷ us) = S c ++ sees_of us
+  sees_of (ParallelOf ss ∷ us) = sees_of us
+  sees_of (ForallOf x s ∷ us) = sees_of us
+  sees_of (Stop ∷ us) = sees_of us
 
   abbrev pub keeps_I1 : Stmts → Bool
   keeps_I1 No = true
@@ -245,12 +245,12 @@ module _ (p : Program) (claims : List Claim) where
       && keeps_I1 rest
 
   abbrev pub keeps : Use → Bool
-  keeps (Aims x) = true
-  keeps (Sees x) = true
-  keeps (Runs c args) = all_different (refs args) && (no_common (refs args) (T c) && no_common (refs args) (S c))
-  keeps (Splits ss) = keeps_I1 ss
-  keeps (Spreads x s) = by_variable (λ i. is_index i.role) (slice_get p.variables x) && each (λ y. false) (aims_of (stmt_uses s))
-  keeps Stops = true
+  keeps (Target x) = true
+  keeps (Seen x) = true
+  keeps (CallOf c args) = all_different (refs args) && (no_common (refs args) (T c) && no_common (refs args) (S c))
+  keeps (ParallelOf ss) = keeps_I1 ss
+  keeps (ForallOf x s) = by_variable (λ i. is_index i.role) (slice_get p.variables x) && each (λ y. false) (aims_of (stmt_uses s))
+  keeps Stop = true
 
   abbrev pub bodies : ℕ → List Block → Bool
   bodies b [] = true
@@ -281,85 +281,85 @@ module _ (p : Program) (claims : List Claim) where
     closed_use b k e u h = use_passes (is_closed b) (stmt_uses k.body) u (and_left _ (all_uses keeps (stmt_uses k.body)) (body_of b k e)) (stmt_among k.body u h)
 
     -- what paths reach was claimed
-    pub reached_target : (bs : List ℕ) (x b : ℕ) (k : Block) → slice_get p.blocks b ≡ Some k → Reach p (In_stmt k.body) bs (Aims x) → IsFree p b x → has (T b) x ≡ true
-    reached_target [] x b k e r f = covered b x (T b) (closed_use b k e (Aims x) r) f
+    pub reached_target : (bs : List ℕ) (x b : ℕ) (k : Block) → slice_get p.blocks b ≡ Some k → Reach p (In_stmt k.body) bs (Target x) → IsFree p b x → has (T b) x ≡ true
+    reached_target [] x b k e r f = covered b x (T b) (closed_use b k e (Target x) r) f
     reached_target (c ∷ bs) x b k e r f =
         let inner : has (T c) x ≡ true = reached_target bs x c r.2 r.3 r.5 r.4 in
-        covered b x (T b) (each_has (covers b (T b)) (T c) x (and_left _ (each (covers b (S b)) (S c)) (closed_use b k e (Runs c r.0) r.1)) inner) f
+        covered b x (T b) (each_has (covers b (T b)) (T c) x (and_left _ (each (covers b (S b)) (S c)) (closed_use b k e (CallOf c r.0) r.1)) inner) f
 
-    pub reached_seen : (bs : List ℕ) (x b : ℕ) (k : Block) → slice_get p.blocks b ≡ Some k → Reach p (In_stmt k.body) bs (Sees x) → IsFree p b x → has (S b) x ≡ true
-    reached_seen [] x b k e r f = covered b x (S b) (closed_use b k e (Sees x) r) f
+    pub reached_seen : (bs : List ℕ) (x b : ℕ) (k : Block) → slice_get p.blocks b ≡ Some k → Reach p (In_stmt k.body) bs (Seen x) → IsFree p b x → has (S b) x ≡ true
+    reached_seen [] x b k e r f = covered b x (S b) (closed_use b k e (Seen x) r) f
     reached_seen (c ∷ bs) x b k e r f =
         let inner : has (S c) x ≡ true = reached_seen bs x c r.2 r.3 r.5 r.4 in
-        covered b x (S b) (each_has (covers b (S b)) (S c) x (and_right (each (covers b (T b)) (T c)) _ (closed_use b k e (Runs c r.0) r.1)) inner) f
+        covered b x (S b) (each_has (covers b (S b)) (S c) x (and_right (each (covers b (T b)) (T c)) _ (closed_use b k e (CallOf c r.0) r.1)) inner) f
 
-    aimed_here : (us : List Use) (x : ℕ) → Among (Aims x) us → has (aims_of us) x ≡ true
+    aimed_here : (us : List Use) (x : ℕ) → Among (Target x) us → has (aims_of us) x ≡ true
     aimed_here [] x a = absurd a
-    aimed_here (Aims y ∷ us) x (inl e) = let i : x ≡ y = cc e in subst (λ z. has (y ∷ aims_of us) z ≡ true) (sym i) (has_self y (aims_of us))
-    aimed_here (Aims y ∷ us) x (inr a) = or_right (x == y) (has (aims_of us) x) (aimed_here us x a)
-    aimed_here (Sees y ∷ us) x (inl e) = absurd (cc e)
-    aimed_here (Sees y ∷ us) x (inr a) = aimed_here us x a
-    aimed_here (Runs c args ∷ us) x (inl e) = absurd (cc e)
-    aimed_here (Runs c args ∷ us) x (inr a) = has_right (T c) (aims_of us) x (aimed_here us x a)
-    aimed_here (Splits ss ∷ us) x (inl e) = absurd (cc e)
-    aimed_here (Splits ss ∷ us) x (inr a) = aimed_here us x a
-    aimed_here (Spreads y s ∷ us) x (inl e) = absurd (cc e)
-    aimed_here (Spreads y s ∷ us) x (inr a) = aimed_here us x a
-    aimed_here (Stops ∷ us) x (inl e) = absurd (cc e)
-    aimed_here (Stops ∷ us) x (inr a) = aimed_here us x a
+    aimed_here (Target y ∷ us) x (inl e) = let i : x ≡ y = cc e in subst (λ z. has (y ∷ aims_of us) z ≡ true) (sym i) (has_self y (aims_of us))
+    aimed_here (Target y ∷ us) x (inr a) = or_right (x == y) (has (aims_of us) x) (aimed_here us x a)
+    aimed_here (Seen y ∷ us) x (inl e) = absurd (cc e)
+    aimed_here (Seen y ∷ us) x (inr a) = aimed_here us x a
+    aimed_here (CallOf c args ∷ us) x (inl e) = absurd (cc e)
+    aimed_here (CallOf c args ∷ us) x (inr a) = has_right (T c) (aims_of us) x (aimed_here us x a)
+    aimed_here (ParallelOf ss ∷ us) x (inl e) = absurd (cc e)
+    aimed_here (ParallelOf ss ∷ us) x (inr a) = aimed_here us x a
+    aimed_here (ForallOf y s ∷ us) x (inl e) = absurd (cc e)
+    aimed_here (ForallOf y s ∷ us) x (inr a) = aimed_here us x a
+    aimed_here (Stop ∷ us) x (inl e) = absurd (cc e)
+    aimed_here (Stop ∷ us) x (inr a) = aimed_here us x a
 
-    seen_here : (us : List Use) (x : ℕ) → Among (Sees x) us → has (sees_of us) x ≡ true
+    seen_here : (us : List Use) (x : ℕ) → Among (Seen x) us → has (sees_of us) x ≡ true
     seen_here [] x a = absurd a
-    seen_here (Aims y ∷ us) x (inl e) = absurd (cc e)
-    seen_here (Aims y ∷ us) x (inr a) = seen_here us x a
-    seen_here (Sees y ∷ us) x (inl e) = let i : x ≡ y = cc e in subst (λ z. has (y ∷ sees_of us) z ≡ true) (sym i) (has_self y (sees_of us))
-    seen_here (Sees y ∷ us) x (inr a) = or_right (x == y) (has (sees_of us) x) (seen_here us x a)
-    seen_here (Runs c args ∷ us) x (inl e) = absurd (cc e)
-    seen_here (Runs c args ∷ us) x (inr a) = has_right (S c) (sees_of us) x (seen_here us x a)
-    seen_here (Splits ss ∷ us) x (inl e) = absurd (cc e)
-    seen_here (Splits ss ∷ us) x (inr a) = seen_here us x a
-    seen_here (Spreads y s ∷ us) x (inl e) = absurd (cc e)
-    seen_here (Spreads y s ∷ us) x (inr a) = seen_here us x a
-    seen_here (Stops ∷ us) x (inl e) = absurd (cc e)
-    seen_here (Stops ∷ us) x (inr a) = seen_here us x a
+    seen_here (Target y ∷ us) x (inl e) = absurd (cc e)
+    seen_here (Target y ∷ us) x (inr a) = seen_here us x a
+    seen_here (Seen y ∷ us) x (inl e) = let i : x ≡ y = cc e in subst (λ z. has (y ∷ sees_of us) z ≡ true) (sym i) (has_self y (sees_of us))
+    seen_here (Seen y ∷ us) x (inr a) = or_right (x == y) (has (sees_of us) x) (seen_here us x a)
+    seen_here (CallOf c args ∷ us) x (inl e) = absurd (cc e)
+    seen_here (CallOf c args ∷ us) x (inr a) = has_right (S c) (sees_of us) x (seen_here us x a)
+    seen_here (ParallelOf ss ∷ us) x (inl e) = absurd (cc e)
+    seen_here (ParallelOf ss ∷ us) x (inr a) = seen_here us x a
+    seen_here (ForallOf y s ∷ us) x (inl e) = absurd (cc e)
+    seen_here (ForallOf y s ∷ us) x (inr a) = seen_here us x a
+    seen_here (Stop ∷ us) x (inl e) = absurd (cc e)
+    seen_here (Stop ∷ us) x (inr a) = seen_here us x a
 
-    aimed_called : (us : List Use) (x c : ℕ) (args : Actuals) → Among (Runs c args) us → has (T c) x ≡ true → has (aims_of us) x ≡ true
+    aimed_called : (us : List Use) (x c : ℕ) (args : Actuals) → Among (CallOf c args) us → has (T c) x ≡ true → has (aims_of us) x ≡ true
     aimed_called [] x c args a h = absurd a
-    aimed_called (Runs d as_are ∷ us) x c args (inl e) h = let i : c ≡ d = cc e in has_left (T d) (aims_of us) x (subst (λ z. has (T z) x ≡ true) i h)
-    aimed_called (Runs d as_are ∷ us) x c args (inr a) h = has_right (T d) (aims_of us) x (aimed_called us x c args a h)
-    aimed_called (Aims y ∷ us) x c args (inl e) h = absurd (cc e)
-    aimed_called (Aims y ∷ us) x c args (inr a) h = or_right (x == y) (has (aims_of us) x) (aimed_called us x c args a h)
-    aimed_called (Sees y ∷ us) x c args (inl e) h = absurd (cc e)
-    aimed_called (Sees y ∷ us) x c args (inr a) h = aimed_called us x c args a h
-    aimed_called (Splits ss ∷ us) x c args (inl e) h = absurd (cc e)
-    aimed_called (Splits ss ∷ us) x c args (inr a) h = aimed_called us x c args a h
-    aimed_called (Spreads y s ∷ us) x c args (inl e) h = absurd (cc e)
-    aimed_called (Spreads y s ∷ us) x c args (inr a) h = aimed_called us x c args a h
-    aimed_called (Stops ∷ us) x c args (inl e) h = absurd (cc e)
-    aimed_called (Stops ∷ us) x c args (inr a) h = aimed_called us x c args a h
+    aimed_called (CallOf d as_are ∷ us) x c args (inl e) h = let i : c ≡ d = cc e in has_left (T d) (aims_of us) x (subst (λ z. has (T z) x ≡ true) i h)
+    aimed_called (CallOf d as_are ∷ us) x c args (inr a) h = has_right (T d) (aims_of us) x (aimed_called us x c args a h)
+    aimed_called (Target y ∷ us) x c args (inl e) h = absurd (cc e)
+    aimed_called (Target y ∷ us) x c args (inr a) h = or_right (x == y) (has (aims_of us) x) (aimed_called us x c args a h)
+    aimed_called (Seen y ∷ us) x c args (inl e) h = absurd (cc e)
+    aimed_called (Seen y ∷ us) x c args (inr a) h = aimed_called us x c args a h
+    aimed_called (ParallelOf ss ∷ us) x c args (inl e) h = absurd (cc e)
+    aimed_called (ParallelOf ss ∷ us) x c args (inr a) h = aimed_called us x c args a h
+    aimed_called (ForallOf y s ∷ us) x c args (inl e) h = absurd (cc e)
+    aimed_called (ForallOf y s ∷ us) x c args (inr a) h = aimed_called us x c args a h
+    aimed_called (Stop ∷ us) x c args (inl e) h = absurd (cc e)
+    aimed_called (Stop ∷ us) x c args (inr a) h = aimed_called us x c args a h
 
-    seen_called : (us : List Use) (x c : ℕ) (args : Actuals) → Among (Runs c args) us → has (S c) x ≡ true → has (sees_of us) x ≡ true
+    seen_called : (us : List Use) (x c : ℕ) (args : Actuals) → Among (CallOf c args) us → has (S c) x ≡ true → has (sees_of us) x ≡ true
     seen_called [] x c args a h = absurd a
-    seen_called (Runs d as_are ∷ us) x c args (inl e) h = let i : c ≡ d = cc e in has_left (S d) (sees_of us) x (subst (λ z. has (S z) x ≡ true) i h)
-    seen_called (Runs d as_are ∷ us) x c args (inr a) h = has_right (S d) (sees_of us) x (seen_called us x c args a h)
-    seen_called (Aims y ∷ us) x c args (inl e) h = absurd (cc e)
-    seen_called (Aims y ∷ us) x c args (inr a) h = seen_called us x c args a h
-    seen_called (Sees y ∷ us) x c args (inl e) h = absurd (cc e)
-    seen_called (Sees y ∷ us) x c args (inr a) h = or_right (x == y) (has (sees_of us) x) (seen_called us x c args a h)
-    seen_called (Splits ss ∷ us) x c args (inl e) h = absurd (cc e)
-    seen_called (Splits ss ∷ us) x c args (inr a) h = seen_called us x c args a h
-    seen_called (Spreads y s ∷ us) x c args (inl e) h = absurd (cc e)
-    seen_called (Spreads y s ∷ us) x c args (inr a) h = seen_called us x c args a h
-    seen_called (Stops ∷ us) x c args (inl e) h = absurd (cc e)
-    seen_called (Stops ∷ us) x c args (inr a) h = seen_called us x c args a h
+    seen_called (CallOf d as_are ∷ us) x c args (inl e) h = let i : c ≡ d = cc e in has_left (S d) (sees_of us) x (subst (λ z. has (S z) x ≡ true) i h)
+    seen_called (CallOf d as_are ∷ us) x c args (inr a) h = has_right (S d) (sees_of us) x (seen_called us x c args a h)
+    seen_called (Target y ∷ us) x c args (inl e) h = absurd (cc e)
+    seen_called (Target y ∷ us) x c args (inr a) h = seen_called us x c args a h
+    seen_called (Seen y ∷ us) x c args (inl e) h = absurd (cc e)
+    seen_called (Seen y ∷ us) x c args (inr a) h = or_right (x == y) (has (sees_of us) x) (seen_called us x c args a h)
+    seen_called (ParallelOf ss ∷ us) x c args (inl e) h = absurd (cc e)
+    seen_called (ParallelOf ss ∷ us) x c args (inr a) h = seen_called us x c args a h
+    seen_called (ForallOf y s ∷ us) x c args (inl e) h = absurd (cc e)
+    seen_called (ForallOf y s ∷ us) x c args (inr a) h = seen_called us x c args a h
+    seen_called (Stop ∷ us) x c args (inl e) h = absurd (cc e)
+    seen_called (Stop ∷ us) x c args (inr a) h = seen_called us x c args a h
 
     pub target_has : (Here : Use → Type 0) (us : List Use) → ((u : Use) → Here u → Among u us) → (x : ℕ) → IsTarget p Here x → has (aims_of us) x ≡ true
-    target_has Here us m x ([], r) = aimed_here us x (m (Aims x) r)
-    target_has Here us m x (c ∷ bs, r) = aimed_called us x c r.0 (m (Runs c r.0) r.1) (reached_target bs x c r.2 r.3 r.5 r.4)
+    target_has Here us m x ([], r) = aimed_here us x (m (Target x) r)
+    target_has Here us m x (c ∷ bs, r) = aimed_called us x c r.0 (m (CallOf c r.0) r.1) (reached_target bs x c r.2 r.3 r.5 r.4)
 
     seen_has : (Here : Use → Type 0) (us : List Use) → ((u : Use) → Here u → Among u us) → (x : ℕ) → IsSeen p Here x → has (sees_of us) x ≡ true
-    seen_has Here us m x ([], r) = seen_here us x (m (Sees x) r)
-    seen_has Here us m x (c ∷ bs, r) = seen_called us x c r.0 (m (Runs c r.0) r.1) (reached_seen bs x c r.2 r.3 r.5 r.4)
+    seen_has Here us m x ([], r) = seen_here us x (m (Seen x) r)
+    seen_has Here us m x (c ∷ bs, r) = seen_called us x c r.0 (m (CallOf c r.0) r.1) (reached_seen bs x c r.2 r.3 r.5 r.4)
 
     I1_kept : (ss : Stmts) → keeps_I1 ss ≡ true → KeepsI1 p ss
     I1_kept No h = tt
@@ -383,9 +383,9 @@ module _ (p : Program) (claims : List Claim) where
     none_here xs x h a = let e = each_has (λ y. false) xs x h a in absurd (cc e)
 
     pub use_kept : (u : Use) → keeps u ≡ true → KeepsRules p u
-    use_kept (Aims x) h = tt
-    use_kept (Sees x) h = tt
-    use_kept (Runs c args) h =
+    use_kept (Target x) h = tt
+    use_kept (Seen x) h = tt
+    use_kept (CallOf c args) h =
         let clear : no_common (refs args) (T c) && no_common (refs args) (S c) ≡ true = and_right (all_different (refs args)) _ h in (
           are_different (refs args) (and_left _ (no_common (refs args) (T c) && no_common (refs args) (S c)) h),
           λ x m i. apart x m i clear,
@@ -394,11 +394,11 @@ module _ (p : Program) (claims : List Claim) where
         apart : (x : ℕ) → IsMember x (refs args) → Implicit p c x → no_common (refs args) (T c) && no_common (refs args) (S c) ≡ true → ⊥
         apart x m (k, e, f, inl t) clear = common_not (refs args) (T c) x (and_left _ (no_common (refs args) (S c)) clear) (member_has x (refs args) m) (reached_target t.0 x c k e t.1 f)
         apart x m (k, e, f, inr t) clear = common_not (refs args) (S c) x (and_right (no_common (refs args) (T c)) _ clear) (member_has x (refs args) m) (reached_seen t.0 x c k e t.1 f)
-    use_kept (Splits ss) h = I1_kept ss h
-    use_kept (Spreads x s) h =
+    use_kept (ParallelOf ss) h = I1_kept ss h
+    use_kept (ForallOf x s) h =
         let i = variable_is (λ i. is_index i.role) (slice_get p.variables x) (and_left _ (each (λ y. false) (aims_of (stmt_uses s))) h) in
         ((i.0, i.1, index_is i.0.role i.2), λ y t. none_here (aims_of (stmt_uses s)) y (and_right (by_variable (λ i. is_index i.role) (slice_get p.variables x)) _ h) (target_has (In_stmt s) (stmt_uses s) (stmt_among s) y t))
-    use_kept Stops h = tt
+    use_kept Stop h = tt
 
     pub blocks_kept : (b : ℕ) (k : Block) → slice_get p.blocks b ≡ Some k → (u : Use) → In_stmt k.body u → KeepsRules p u
     blocks_kept b k e u h = use_kept u (use_passes keeps (stmt_uses k.body) u (and_right (all_uses (is_closed b) (stmt_uses k.body)) _ (body_of b k e)) (stmt_among k.body u h))

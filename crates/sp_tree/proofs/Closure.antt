@@ -2,7 +2,7 @@
 -- over the calls computes the sets.
 use Rattle.std.proofs.Common.{◌≡◌, ◌⊎◌, inl, inr, ℕ, List, [], ◌∷◌, Some, slice_get}
 use Rattle.sp_tree.specs.Plain.{Actuals, Program, Block}
-use Rattle.sp_tree.specs.Uses.{Use, Runs, In_stmt}
+use Rattle.sp_tree.specs.Uses.{Use, CallOf, In_stmt}
 use Rattle.sp_tree.specs.Sets.{Passes, Reach}
 
 module _ (p : Program) where
@@ -11,7 +11,7 @@ module _ (p : Program) where
 
   -- a block is called here, and from it the use is reached and passes
   abbrev pub IsReachedByCall : (Use → Type 0) → Use → Type 0
-  IsReachedByCall Here u = (b : ℕ) × (args : Actuals) × Here (Runs b args) × (k : Block) × (slice_get p.blocks b ≡ Some k) × Passes p b u × IsReached (In_stmt k.body) u
+  IsReachedByCall Here u = (b : ℕ) × (args : Actuals) × Here (CallOf b args) × (k : Block) × (slice_get p.blocks b ≡ Some k) × Passes p b u × IsReached (In_stmt k.body) u
 
   pub here_or_by_call : (Here : Use → Type 0) (u : Use) → IsReached Here u → Here u ⊎ IsReachedByCall Here u
   here_or_by_call Here u ([], h) = inl h

@@ -6,7 +6,7 @@ use Rattle.sp_tree.specs.declared.checked.Role.{Role}
 use Rattle.sp_tree.specs.declared.checked.Role.TheVariants as role
 use Rattle.sp_tree.specs.Cells.{variables_of}
 use Rattle.sp_tree.specs.Plain.{Typed, Number, Read, Entire, Whole, Program, Variable, Block, Stmt, Assign, Parallel, WriteValue, No, And}
-use Rattle.sp_tree.specs.Uses.{Use, Splits, In_stmt}
+use Rattle.sp_tree.specs.Uses.{Use, ParallelOf, In_stmt}
 use Rattle.sp_tree.specs.Formed.{is_parameter, is_answer, among, as_list, IsFormedUse, IsFormed}
 
 abbrev declared : ℕ → Role → Variable
@@ -97,7 +97,7 @@ good_formed = record {
 
 -- a parallel statement without a part
 pub no_part_refused : IsFormed (tables (the_program (Parallel No) ∷ writes (3 ∷ []) ∷ [])) → ⊥
-no_part_refused h = h.uses 0 (the_program (Parallel No)) refl (Splits No) (inl refl) refl
+no_part_refused h = h.uses 0 (the_program (Parallel No)) refl (ParallelOf No) (inl refl) refl
 
 -- the index of a forall as a target
 pub index_refused : IsFormed (tables (the_program (sets 4) ∷ writes (3 ∷ []) ∷ [])) → ⊥

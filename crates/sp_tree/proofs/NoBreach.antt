@@ -6,7 +6,7 @@ use Rattle.sp_base.specs.declared.rule.Rule.TheVariants as rule
 use Rattle.sp_tree.specs.PlainChecked as p
 use Rattle.sp_tree.specs.Plain.{Program, Block}
 use Rattle.sp_tree.specs.Bare.{bare_statement, bare_statements, bare_actuals, bare_block, bare}
-use Rattle.sp_tree.specs.Uses.{Use, Aims, Sees, In_stmt, In_stmts}
+use Rattle.sp_tree.specs.Uses.{Use, Target, Seen, In_stmt, In_stmts}
 use Rattle.sp_tree.specs.Sets.{Reach, IsTarget, IsUsed, Implicit}
 use Rattle.sp_tree.specs.Interference.{refs, IsMember, AllDifferent, KeepsI1, KeepsI5, IsIndexOf, KeepsRules}
 use Rattle.sp_tree.specs.Sites.{Site, SplitsAt, SpreadsAt, LoopsAt, CallsAt, StopsAt, statement_sites}
@@ -33,9 +33,9 @@ module _ (g : Program) where
       one_of u (b ∷ bs) (args, inr h, k, at, passes, r) = inr (args, h, k, at, passes, r)
 
       aimed : (r : IsTarget g (In_stmts (bare_statements (p.AndThen t rest))) x) → IsTarget g (In_stmt (bare_statement t)) x ⊎ IsTarget g (In_stmts (bare_statements rest)) x
-      aimed (bs, r) = go (one_of (Aims x) bs r)
+      aimed (bs, r) = go (one_of (Target x) bs r)
         where
-          go : Reach g (In_stmt (bare_statement t)) bs (Aims x) ⊎ Reach g (In_stmts (bare_statements rest)) bs (Aims x) → IsTarget g (In_stmt (bare_statement t)) x ⊎ IsTarget g (In_stmts (bare_statements rest)) x
+          go : Reach g (In_stmt (bare_statement t)) bs (Target x) ⊎ Reach g (In_stmts (bare_statements rest)) bs (Target x) → IsTarget g (In_stmt (bare_statement t)) x ⊎ IsTarget g (In_stmts (bare_statements rest)) x
           go (inl h) = inl (bs, h)
           go (inr h) = inr (bs, h)
 
@@ -45,9 +45,9 @@ module _ (g : Program) where
           go : IsTarget g (In_stmt (bare_statement t)) x ⊎ IsTarget g (In_stmts (bare_statements rest)) x → IsUsed g (In_stmt (bare_statement t)) x ⊎ IsUsed g (In_stmts (bare_statements rest)) x
           go (inl h) = inl (inl h)
           go (inr h) = inr (inl h)
-      used (inr (bs, r)) = go (one_of (Sees x) bs r)
+      used (inr (bs, r)) = go (one_of (Seen x) bs r)
         where
-          go : Reach g (In_stmt (bare_statement t)) bs (Sees x) ⊎ Reach g (In_stmts (bare_statements rest)) bs (Sees x) → IsUsed g (In_stmt (bare_statement t)) x ⊎ IsUsed g (In_stmts (bare_statements rest)) x
+          go : Reach g (In_stmt (bare_statement t)) bs (Seen x) ⊎ Reach g (In_stmts (bare_statements rest)) bs (Seen x) → IsUsed g (In_stmt (bare_statement t)) x ⊎ IsUsed g (In_stmts (bare_statements rest)) x
           go (inl h) = inl (inr (bs, h))
           go (inr h) = inr (inr (bs, h))
 

@@ -3,7 +3,7 @@ use Rattle.std.proofs.Common.{◌≡◌, inl, inr, ℕ, List, [], ◌∷◌, ◌
 use Rattle.sp_tree.specs.PlainChecked as p
 use Rattle.sp_tree.specs.Plain.{Program}
 use Rattle.sp_tree.specs.Bare.{bare_expression, bare_form, bare_variable, bare_selectors, bare_actuals, bare_width, bare_statement, bare_statements, bare_arms}
-use Rattle.sp_tree.specs.Uses.{Use, Aims, Stops, In_expr, In_form, In_read, In_target, In_selectors, In_actuals, In_width, In_stmt, In_stmts, In_arms}
+use Rattle.sp_tree.specs.Uses.{Use, Target, Stop, In_expr, In_form, In_read, In_target, In_selectors, In_actuals, In_width, In_stmt, In_stmts, In_arms}
 use Rattle.sp_tree.specs.Interference.{KeepsI1, KeepsI2, KeepsI4, KeepsI5, IsIndexOf, KeepsRules}
 use Rattle.sp_tree.specs.Sites.{Site, SplitsAt, SpreadsAt, LoopsAt, CallsAt, StopsAt, expression_sites, form_sites, variable_sites, selectors_sites, actuals_sites, width_sites, statement_sites, statements_sites, arms_sites}
 
@@ -67,10 +67,10 @@ module _ (g : Program) where
   width_kept None u h i = absurd i
   width_kept (Some e) u h i = expression_kept e u h i
 
-  aim : (x : ℕ) (u : Use) → (e : u ≡ Aims x) → KeepsRules g u
+  aim : (x : ℕ) (u : Use) → (e : u ≡ Target x) → KeepsRules g u
   aim x u e = subst (KeepsRules g) (sym e) tt
 
-  stop : (u : Use) → (e : u ≡ Stops) → KeepsRules g u
+  stop : (u : Use) → (e : u ≡ Stop) → KeepsRules g u
   stop u e = subst (KeepsRules g) (sym e) tt
 
   mutual

@@ -8,7 +8,7 @@ use Rattle.sp_tree.specs.declared.checked.Variable as ast_x
 use Rattle.sp_tree.specs.PlainChecked as p
 use Rattle.sp_tree.specs.Plain.{Program, Block, Actuals}
 use Rattle.sp_tree.specs.Bare.{bare_statement, bare_statements, bare_actuals, bare_block, bare}
-use Rattle.sp_tree.specs.Uses.{Use, Aims, Sees, Runs, Splits, Spreads, Stops, In_stmt, In_stmts}
+use Rattle.sp_tree.specs.Uses.{Use, Target, Seen, CallOf, ParallelOf, ForallOf, Stop, In_stmt, In_stmts}
 use Rattle.sp_tree.specs.Sets.{IsBelow, Reach, IsTarget, IsUsed, ImplicitTarget, Implicit}
 use Rattle.sp_tree.specs.Interference.{refs, IsMember, AllDifferent, KeepsI1, KeepsI5, IsCalledInside, IsFunction}
 use Rattle.sp_tree.specs.Sites.{Site, SplitsAt, SpreadsAt, LoopsAt, CallsAt, StopsAt, statement_sites}
@@ -58,27 +58,27 @@ site_passes f (t ∷ ts) s h (inr i) = site_passes f ts s (and_right (f t) (all_
 -- the blocks that are called
 abbrev pub runs_of : List Use → List ℕ
 runs_of [] = []
-runs_of (Aims x ∷ us) = runs_of us
-runs_of (Sees x ∷ us) = runs_of us
-runs_of (Runs f args ∷ us) = f ∷ runs_of us
-runs_of (Splits ss ∷ us) = runs_of us
-runs_of (Spreads x s ∷ us) = runs_of us
-runs_of (Stops ∷ us) = runs_of us
+runs_of (Target x ∷ us) = runs_of us
+runs_of (Seen x ∷ us) = runs_of us
+runs_of (CallOf f args ∷ us) = f ∷ runs_of us
+runs_of (ParallelOf ss ∷ us) = runs_of us
+runs_of (ForallOf x s ∷ us) = runs_of us
+runs_of (Stop ∷ us) = runs_of us
 
-run_has : (us : List Use) (f : ℕ) (args : Actuals) → Among (Runs f args) us → has (runs_of us) f ≡ true
+run_has : (us : List Use) (f : ℕ) (args : Actuals) → Among (CallOf f args) us → has (runs_of us) f ≡ true
 run_has [] f args a = absurd a
-run_has (Aims x ∷ us) f args (inl e) = absurd (cc e)
-run_has (Aims x ∷ us) f args (inr a) = run_has us f args a
-run_has (Sees x ∷ us) f args (inl e) = absurd (cc e)
-run_has (Sees x ∷ us) f args (inr a) = run_has us f args a
-run_has (Runs d passed ∷ us) f args (inl e) = let i : f ≡ d = cc e in or_left (f == d) (has (runs_of us) f) (eq-eqb f d i)
-run_has (Runs d passed ∷ us) f args (inr a) = or_right (f == d) (has (runs_of us) f) (run_has us f args a)
-run_has (Splits ss ∷ us) f args (inl e) = absurd (cc e)
-run_has (Splits ss ∷ us) f args (inr a) = run_has us f args a
-run_has (Spreads x s ∷ us) f args (inl e) = absurd (cc e)
-run_has (Spreads x s ∷ us) f args (inr a) = run_has us f args a
-run_has (Stops ∷ us) f args (inl e) = absurd (cc e)
-run_has (Stops ∷ us) f args (inr a) = run_has us f args a
+run_has (Target x ∷ us) f args (inl e) = absurd (cc e)
+run_has (Target x ∷ us) f args (inr a) = run_has us f args a
+run_has (Seen x ∷ us) f args (inl e) = absurd (cc e)
+run_has (Seen x ∷ us) f args (inr a) = run_has us f args a
+run_has (CallOf d passed ∷ us) f args (inl e) = let i : f ≡ d = cc e in or_left (f == d) (has (runs_of us) f) (eq-eqb f d i)
+run_has (CallOf d passed ∷ us) f args (inr a) = or_right (f == d) (has (runs_of us) f) (run_has us f args a)
+run_has (ParallelOf ss ∷ us) f args (inl e) = absurd (cc e)
+run_has (ParallelOf ss ∷ us) f args (inr a) = run_has us f args a
+run_has (ForallOf x s ∷ us) f args (inl e) = absurd (cc e)
+run_has (ForallOf x s ∷ us) f args (inr a) = run_has us f args a
+run_has (Stop ∷ us) f args (inl e) = absurd (cc e)
+run_has (Stop ∷ us) f args (inr a) = run_has us f args a
 
 -- where a site keeps the rules, no place breaks them
 module _ (g : Program) where
@@ -92,12 +92,12 @@ module _ (g : Program) where
   first s rest u (b ∷ bs) (args, h, k, at, passes, r) = (args, inl h, k, at, passes, r)
 
   used_first : (s : p.Statement) (rest : p.Statements) (x : ℕ) → IsUsed g (In_stmt (bare_statement s)) x → IsUsed g (In_stmts (bare_statements (p.AndThen s rest))) x
-  used_first s rest x (inl (bs, r)) = inl (bs, first s rest (Aims x) bs r)
-  used_first s rest x (inr (bs, r)) = inr (bs, first s rest (Sees x) bs r)
+  used_first s rest x (inl (bs, r)) = inl (bs, first s rest (Target x) bs r)
+  used_first s rest x (inr (bs, r)) = inr (bs, first s rest (Seen x) bs r)
 
   used_behind : (s : p.Statement) (rest : p.Statements) (x : ℕ) → IsUsed g (In_stmts (bare_statements rest)) x → IsUsed g (In_stmts (bare_statements (p.AndThen s rest))) x
-  used_behind s rest x (inl (bs, r)) = inl (bs, behind s rest (Aims x) bs r)
-  used_behind s rest x (inr (bs, r)) = inr (bs, behind s rest (Sees x) bs r)
+  used_behind s rest x (inl (bs, r)) = inl (bs, behind s rest (Target x) bs r)
+  used_behind s rest x (inr (bs, r)) = inr (bs, behind s rest (Seen x) bs r)
 
   no_clash : (s : p.Statement) (rest : p.Statements) (at : Place)
       → ((x : ℕ) → IsTarget g (In_stmt (bare_statement s)) x → IsUsed g (In_stmts (bare_statements rest)) x → ⊥)
@@ -105,9 +105,9 @@ module _ (g : Program) where
       → ClashesIn g s rest at → ⊥
   no_clash s p.NoStatement at one other h = h
   no_clash s (p.AndThen t rest) at one other (inl (e, (x, inl (a, u)))) = one x a (used_first t rest x u)
-  no_clash s (p.AndThen t rest) at one other (inl (e, (x, inr (u, (bs, r))))) = other x u (bs, first t rest (Aims x) bs r)
+  no_clash s (p.AndThen t rest) at one other (inl (e, (x, inr (u, (bs, r))))) = other x u (bs, first t rest (Target x) bs r)
   no_clash s (p.AndThen t rest) at one other (inr h) =
-      no_clash s rest at (λ x a u. one x a (used_behind t rest x u)) (λ x u a. other x u (a.0, behind t rest (Aims x) a.0 a.1)) h
+      no_clash s rest at (λ x a u. one x a (used_behind t rest x u)) (λ x u a. other x u (a.0, behind t rest (Target x) a.0 a.1)) h
 
   no_split : (ss : p.Statements) (at : Place) → KeepsI1 g (bare_statements ss) → SplitBreaks g ss at → ⊥
   no_split p.NoStatement at k h = h
@@ -150,10 +150,10 @@ pub record BreaksNone (c : p.Program) : Type 0 where
 -- may not have
 module _ (c : p.Program) (claims : List Claim) (stopping : List ℕ) where
   abbrev pub site_test : Site → Bool
-  site_test (SplitsAt parts) = keeps (bare c) claims (Splits (bare_statements parts))
-  site_test (SpreadsAt at x s) = keeps (bare c) claims (Spreads x (bare_statement s))
+  site_test (SplitsAt parts) = keeps (bare c) claims (ParallelOf (bare_statements parts))
+  site_test (SpreadsAt at x s) = keeps (bare c) claims (ForallOf x (bare_statement s))
   site_test (LoopsAt x at s) = not (has (aims_of (bare c) claims (stmt_uses (bare_statement s))) x)
-  site_test (CallsAt f at args) = keeps (bare c) claims (Runs f (bare_actuals args))
+  site_test (CallsAt f at args) = keeps (bare c) claims (CallOf f (bare_actuals args))
   site_test (StopsAt at) = true
 
   abbrev pub quiet_test : Site → Bool
@@ -176,12 +176,12 @@ module _ (c : p.Program) (claims : List Claim) (stopping : List ℕ) where
   recursion_test b = (each (λ x. nat_lt x 2) (T (bare c) claims b) && each (λ x. nat_lt x 2) (S (bare c) claims b)) || outer_calls b 0 c.blocks
 
   abbrev pub stop_test : ℕ → Use → Bool
-  stop_test b (Aims x) = true
-  stop_test b (Sees x) = true
-  stop_test b (Runs f args) = not (has stopping f) || has stopping b
-  stop_test b (Splits ss) = true
-  stop_test b (Spreads x s) = true
-  stop_test b Stops = has stopping b
+  stop_test b (Target x) = true
+  stop_test b (Seen x) = true
+  stop_test b (CallOf f args) = not (has stopping f) || has stopping b
+  stop_test b (ParallelOf ss) = true
+  stop_test b (ForallOf x s) = true
+  stop_test b Stop = has stopping b
 
   abbrev pub block_test : ℕ → p.Block → Bool
   block_test b k = (all_sites site_test (statement_sites k.body) && function_test b k k.answer) && (recursion_test b && all_uses (stop_test b) (stmt_uses (bare_statement k.body)))
@@ -244,11 +244,11 @@ module _ (c : p.Program) (claims : List Claim) (stopping : List ℕ) where
         (x, ap (λ (z : p.Block). z.answer) (sym same) ∙ ap (λ (z : Block). z.answer) r.2 ∙ a)
 
     site_calm : (site : Site) → site_test site ≡ true → (at : Place) → (SiteBreaks (bare c) site rule.I1 at → ⊥) × (SiteBreaks (bare c) site rule.I2 at → ⊥) × (SiteBreaks (bare c) site rule.I3 at → ⊥) × (SiteBreaks (bare c) site rule.I4 at → ⊥) × (SiteBreaks (bare c) site rule.I5 at → ⊥)
-    site_calm (SplitsAt parts) h at = (no_split (bare c) parts at (use_kept (bare c) claims all (Splits (bare_statements parts)) h), λ k. k, λ k. k, λ k. k, λ k. k)
-    site_calm (SpreadsAt here x s) h at = (λ k. k, λ k. (use_kept (bare c) claims all (Spreads x (bare_statement s)) h).1 k.1 k.2, λ k. k, λ k. k, λ k. k)
+    site_calm (SplitsAt parts) h at = (no_split (bare c) parts at (use_kept (bare c) claims all (ParallelOf (bare_statements parts)) h), λ k. k, λ k. k, λ k. k, λ k. k)
+    site_calm (SpreadsAt here x s) h at = (λ k. k, λ k. (use_kept (bare c) claims all (ForallOf x (bare_statement s)) h).1 k.1 k.2, λ k. k, λ k. k, λ k. k)
     site_calm (LoopsAt x here s) h at = (λ k. k, λ k. k, λ k. not_true _ h (target_has (bare c) claims all (In_stmt (bare_statement s)) (stmt_uses (bare_statement s)) (stmt_among (bare_statement s)) x k.1), λ k. k, λ k. k)
     site_calm (CallsAt f here args) h at =
-        let kept = use_kept (bare c) claims all (Runs f (bare_actuals args)) h in
+        let kept = use_kept (bare c) claims all (CallOf f (bare_actuals args)) h in
         (λ k. k, λ k. k, λ k. k, no_repeat (bare c) args at kept.0, no_implicit (bare c) f args at kept.1)
     site_calm (StopsAt here) h at = (λ k. k, λ k. k, λ k. k, λ k. k, λ k. k)
 
@@ -276,7 +276,7 @@ module _ (c : p.Program) (claims : List Claim) (stopping : List ℕ) where
             r = block_at c.blocks d m at
 
             called : has (runs_of (stmt_uses (bare_statement r.0.body))) b ≡ true
-            called = run_has (stmt_uses (bare_statement r.0.body)) b args (stmt_among (bare_statement r.0.body) (Runs b args) (subst (λ (z : Block). In_stmt z.body (Runs b args)) (sym r.2) runs))
+            called = run_has (stmt_uses (bare_statement r.0.body)) b args (stmt_among (bare_statement r.0.body) (CallOf b args) (subst (λ (z : Block). In_stmt z.body (CallOf b args)) (sym r.2) runs))
 
             z : (is_none r.0.parent ≡ true) × (0 + d ≡ b → ⊥)
             z = caller b 0 c.blocks d r.0 h r.1 called
@@ -293,10 +293,10 @@ module _ (c : p.Program) (claims : List Claim) (stopping : List ℕ) where
 
     -- a block from which such a statement is reached is listed
     abbrev Listed : ℕ → Use → Type 0
-    Listed b u = u ≡ Stops → has stopping b ≡ true
+    Listed b u = u ≡ Stop → has stopping b ≡ true
 
     closed : IsClosed (bare c) Listed
-    closed b m at u passed = (λ h s. use_passes (stop_test b) (stmt_uses m.body) Stops test (subst (λ v. Among v (stmt_uses m.body)) s (stmt_among m.body u h)), λ d args h listed s. called d args (use_passes (stop_test b) (stmt_uses m.body) (Runs d args) test (stmt_among m.body (Runs d args) h)) (listed s))
+    closed b m at u passed = (λ h s. use_passes (stop_test b) (stmt_uses m.body) Stop test (subst (λ v. Among v (stmt_uses m.body)) s (stmt_among m.body u h)), λ d args h listed s. called d args (use_passes (stop_test b) (stmt_uses m.body) (CallOf d args) test (stmt_among m.body (CallOf d args) h)) (listed s))
       where
         test : all_uses (stop_test b) (stmt_uses m.body) ≡ true
         test =
@@ -314,7 +314,7 @@ module _ (c : p.Program) (claims : List Claim) (stopping : List ℕ) where
     no_stop (SplitsAt parts) at h s = s
     no_stop (SpreadsAt here x t) at h s = s
     no_stop (LoopsAt x here t) at h s = s
-    no_stop (CallsAt f here args) at h (e, (k, found, bs, r)) = not_true (has stopping f) h (complete (bare c) Listed closed bs f k Stops found tt r refl)
+    no_stop (CallsAt f here args) at h (e, (k, found, bs, r)) = not_true (has stopping f) h (complete (bare c) Listed closed bs f k Stop found tt r refl)
     no_stop (StopsAt here) at h s = cc h
 
     no_reference : (b : ℕ) (k : p.Block) (y : ℕ) (i : ast_x.Variable) → slice_get c.blocks b ≡ Some k → IsFunction (bare c) b → IsMember y k.formals → slice_get c.variables y ≡ Some i → i.role ≡ role.Reference → ⊥

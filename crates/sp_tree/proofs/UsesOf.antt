@@ -1,7 +1,7 @@
 -- The uses in a statement as a list.
 use Rattle.std.proofs.Common.{◌≡◌, ◌≢◌, ◌⊎◌, inl, inr, ℕ, Bool, true, false, cond, not, ◌==◌, List, [], ◌∷◌, ◌++◌, Option, Some, None, refl, eqb-true}
 use Rattle.sp_tree.specs.Plain.{Expr, Typed, ExprForm, Number, Read, Unary, Binary, Apply, Standard, AtInput, Var, Entire, Index, Field, Selectors, Whole, Select, ByValue, ByReference, Actuals, Nothing, Pass, Stmt, Empty, Assign, Call, Sequence, If, IfElse, While, Repeat, For, Case, Parallel, Forall, Assume, ReadValue, ReadLine, WriteValue, WriteText, WriteLine, Open, Send, Receive, Stmts, No, And, On, Arms, NoArm, Or}
-use Rattle.sp_tree.specs.Uses.{Use, Aims, Sees, Runs, Splits, Spreads, Stops, In_expr, In_form, In_read, In_target, In_selectors, In_actuals, In_width, IsOther, In_stmt, In_stmts, In_arms}
+use Rattle.sp_tree.specs.Uses.{Use, Target, Seen, CallOf, ParallelOf, ForallOf, Stop, In_expr, In_form, In_read, In_target, In_selectors, In_actuals, In_width, IsOther, In_stmt, In_stmts, In_arms}
 
 abbrev pub Among : Use → List Use → Type 0
 Among u [] = ⊥
@@ -25,15 +25,15 @@ abbrev mutual
   form_uses (Read v) = read_uses v
   form_uses (Unary op a) = expr_uses a
   form_uses (Binary op a b) = expr_uses a ++ expr_uses b
-  form_uses (Apply f args) = Runs f args ∷ actuals_uses args
+  form_uses (Apply f args) = CallOf f args ∷ actuals_uses args
   form_uses (Standard f a) = expr_uses a
-  form_uses (AtInput f) = Sees 0 ∷ []
+  form_uses (AtInput f) = Seen 0 ∷ []
 
   pub read_uses : Var → List Use
-  read_uses (Entire x ss) = Sees x ∷ selectors_uses ss
+  read_uses (Entire x ss) = Seen x ∷ selectors_uses ss
 
   pub target_uses : Var → List Use
-  target_uses (Entire x ss) = Aims x ∷ selectors_uses ss
+  target_uses (Entire x ss) = Target x ∷ selectors_uses ss
 
   pub selectors_uses : Selectors → List Use
   selectors_uses Whole = []
@@ -51,12 +51,12 @@ width_uses (Some e) = expr_uses e
 
 -- it is no position of this forall's index
 abbrev pub is_other : ℕ → Use → Bool
-is_other x (Aims y) = not (x == y)
-is_other x (Sees y) = not (x == y)
-is_other x (Runs f args) = true
-is_other x (Splits ss) = true
-is_other x (Spreads y s) = true
-is_other x Stops = true
+is_other x (Target y) = not (x == y)
+is_other x (Seen y) = not (x == y)
+is_other x (CallOf f args) = true
+is_other x (ParallelOf ss) = true
+is_other x (ForallOf y s) = true
+is_other x Stop = true
 
 abbrev pub others : ℕ → List Use → List Use
 others x [] = []
@@ -66,25 +66,25 @@ abbrev mutual
   pub stmt_uses : Stmt → List Use
   stmt_uses Empty = []
   stmt_uses (Assign v e) = target_uses v ++ expr_uses e
-  stmt_uses (Call f args) = Runs f args ∷ actuals_uses args
+  stmt_uses (Call f args) = CallOf f args ∷ actuals_uses args
   stmt_uses (Sequence ss) = stmts_uses ss
   stmt_uses (If e a) = expr_uses e ++ stmt_uses a
   stmt_uses (IfElse e a b) = expr_uses e ++ (stmt_uses a ++ stmt_uses b)
   stmt_uses (While e s) = expr_uses e ++ stmt_uses s
   stmt_uses (Repeat s e) = expr_uses e ++ stmt_uses s
-  stmt_uses (For x from down to s) = Aims x ∷ (expr_uses from ++ (expr_uses to ++ stmt_uses s))
+  stmt_uses (For x from down to s) = Target x ∷ (expr_uses from ++ (expr_uses to ++ stmt_uses s))
   stmt_uses (Case e arms) = expr_uses e ++ arms_uses arms
-  stmt_uses (Parallel ss) = Splits ss ∷ Stops ∷ stmts_uses ss
-  stmt_uses (Forall x from to s) = Spreads x s ∷ Stops ∷ (expr_uses from ++ (expr_uses to ++ others x (stmt_uses s)))
+  stmt_uses (Parallel ss) = ParallelOf ss ∷ Stop ∷ stmts_uses ss
+  stmt_uses (Forall x from to s) = ForallOf x s ∷ Stop ∷ (expr_uses from ++ (expr_uses to ++ others x (stmt_uses s)))
   stmt_uses (Assume e) = expr_uses e
-  stmt_uses (ReadValue v) = Aims 0 ∷ Stops ∷ target_uses v
-  stmt_uses ReadLine = Aims 0 ∷ Stops ∷ []
-  stmt_uses (WriteValue e w) = Aims 1 ∷ Stops ∷ (expr_uses e ++ width_uses w)
-  stmt_uses (WriteText t w) = Aims 1 ∷ Stops ∷ width_uses w
-  stmt_uses WriteLine = Aims 1 ∷ Stops ∷ []
-  stmt_uses (Open v) = Stops ∷ target_uses v
-  stmt_uses (Send c e) = Stops ∷ (expr_uses c ++ expr_uses e)
-  stmt_uses (Receive c v) = Stops ∷ (expr_uses c ++ target_uses v)
+  stmt_uses (ReadValue v) = Target 0 ∷ Stop ∷ target_uses v
+  stmt_uses ReadLine = Target 0 ∷ Stop ∷ []
+  stmt_uses (WriteValue e w) = Target 1 ∷ Stop ∷ (expr_uses e ++ width_uses w)
+  stmt_uses (WriteText t w) = Target 1 ∷ Stop ∷ width_uses w
+  stmt_uses WriteLine = Target 1 ∷ Stop ∷ []
+  stmt_uses (Open v) = Stop ∷ target_uses v
+  stmt_uses (Send c e) = Stop ∷ (expr_uses c ++ expr_uses e)
+  stmt_uses (Receive c v) = Stop ∷ (expr_uses c ++ target_uses v)
 
   pub stmts_uses : Stmts → List Use
   stmts_uses No = []
@@ -144,12 +144,12 @@ not_equal x y n = go (x == y) refl
     go false e = refl
 
 other_is : (x : ℕ) (u : Use) → IsOther x u → is_other x u ≡ true
-other_is x (Aims y) n = not_equal x y n
-other_is x (Sees y) n = not_equal x y n
-other_is x (Runs f args) n = refl
-other_is x (Splits ss) n = refl
-other_is x (Spreads y s) n = refl
-other_is x Stops n = refl
+other_is x (Target y) n = not_equal x y n
+other_is x (Seen y) n = not_equal x y n
+other_is x (CallOf f args) n = refl
+other_is x (ParallelOf ss) n = refl
+other_is x (ForallOf y s) n = refl
+other_is x Stop n = refl
 
 other_among : (x : ℕ) (us : List Use) (u : Use) → Among u us → IsOther x u → Among u (others x us)
 other_among x [] u h o = h

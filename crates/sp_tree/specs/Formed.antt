@@ -6,7 +6,7 @@ use Rattle.sp_tree.specs.declared.checked.Role.{Role}
 use Rattle.sp_tree.specs.declared.checked.Role.TheVariants as role
 use Rattle.sp_tree.specs.Cells.{variables_of}
 use Rattle.sp_tree.specs.Plain.{Program, Variable, Block, No}
-use Rattle.sp_tree.specs.Uses.{Use, Aims, Sees, Runs, Splits, Spreads, Stops, In_stmt}
+use Rattle.sp_tree.specs.Uses.{Use, Target, Seen, CallOf, ParallelOf, ForallOf, Stop, In_stmt}
 
 -- value and variable parameters
 abbrev pub is_parameter : Role → Bool
@@ -43,12 +43,12 @@ AreBefore k (f ∷ fs) = (suc f.1 ≤ k) × AreBefore k fs
 
 -- a target is a variable that there is, and no index of a forall; the output is not read; a parallel statement has a part
 abbrev pub IsFormedUse : Program → Use → Type 0
-IsFormedUse p (Aims x) = (v : Variable) × (slice_get p.variables x ≡ Some v) × (v.role ≢ role.Index)
-IsFormedUse p (Sees x) = x ≢ 1
-IsFormedUse p (Runs f args) = Unit {0}
-IsFormedUse p (Splits ss) = ss ≢ No
-IsFormedUse p (Spreads x s) = Unit {0}
-IsFormedUse p Stops = Unit {0}
+IsFormedUse p (Target x) = (v : Variable) × (slice_get p.variables x ≡ Some v) × (v.role ≢ role.Index)
+IsFormedUse p (Seen x) = x ≢ 1
+IsFormedUse p (CallOf f args) = Unit {0}
+IsFormedUse p (ParallelOf ss) = ss ≢ No
+IsFormedUse p (ForallOf x s) = Unit {0}
+IsFormedUse p Stop = Unit {0}
 
 -- all of it
 pub record IsFormed (p : Program) : Type 0 where

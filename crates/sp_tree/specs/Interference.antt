@@ -3,7 +3,7 @@
 use Rattle.std.specs.Prelude.{◌≡◌, ◌⊎◌, ℕ, ◌<◌, List, [], ◌∷◌, Some, slice_get}
 use Rattle.sp_tree.specs.declared.checked.Role.TheVariants as role
 use Rattle.sp_tree.specs.Plain.{Entire, ByValue, ByReference, Actuals, Nothing, Pass, Program, Variable, Block, Stmt, Stmts, No, And}
-use Rattle.sp_tree.specs.Uses.{Use, Aims, Sees, Runs, Splits, Spreads, Stops, In_stmt, In_stmts}
+use Rattle.sp_tree.specs.Uses.{Use, Target, Seen, CallOf, ParallelOf, ForallOf, Stop, In_stmt, In_stmts}
 use Rattle.sp_tree.specs.Sets.{IsBelow, IsTarget, IsUsed, Implicit}
 
 -- the entire variables of the actual variable parameters
@@ -42,7 +42,7 @@ module _ (p : Program) where
 
   -- a block called in itself or in a block inside it
   abbrev pub IsCalledInside : ℕ → Type 0
-  IsCalledInside b = (n c : ℕ) × IsBelow p n c b × (k : Block) × (slice_get p.blocks c ≡ Some k) × (args : Actuals) × In_stmt k.body (Runs b args)
+  IsCalledInside b = (n c : ℕ) × IsBelow p n c b × (k : Block) × (slice_get p.blocks c ≡ Some k) × (args : Actuals) × In_stmt k.body (CallOf b args)
 
   -- the block has a result
   abbrev pub IsFunction : ℕ → Type 0
@@ -54,12 +54,12 @@ module _ (p : Program) where
 
   -- what the rules say of what stands in a statement
   abbrev pub KeepsRules : Use → Type 0
-  KeepsRules (Aims x) = Unit
-  KeepsRules (Sees x) = Unit
-  KeepsRules (Runs b args) = KeepsI4 args × KeepsI5 b args
-  KeepsRules (Splits ss) = KeepsI1 ss
-  KeepsRules (Spreads x s) = IsIndexOf x × KeepsI2 s
-  KeepsRules Stops = Unit
+  KeepsRules (Target x) = Unit
+  KeepsRules (Seen x) = Unit
+  KeepsRules (CallOf b args) = KeepsI4 args × KeepsI5 b args
+  KeepsRules (ParallelOf ss) = KeepsI1 ss
+  KeepsRules (ForallOf x s) = IsIndexOf x × KeepsI2 s
+  KeepsRules Stop = Unit
 
   -- the rules of interference on which disjointness rests, and what names and types give of the tree
   pub record IsFreeOfInterference : Type 0 where

@@ -48,7 +48,7 @@ pub data Site : Type 0 where
   -- a call in an expression, with so many arguments
   Computes : (f : Name) (args : ℕ) → Site
   -- a call as a statement, with so many arguments
-  Runs : (f : Name) (args : ℕ) → Site
+  Calls : (f : Name) (args : ℕ) → Site
   -- a width on an argument that begins at a place
   Widens : (at : Place) (p : Passing) → Site
   -- an argument that is not written as a variable
@@ -176,7 +176,7 @@ broken env (Targets x) = target_rule x.at (find env x.text)
 broken env (Assigns x whole) = assign_rule env.local.block x.at whole (find env x.text)
 broken env (Loops x) = loop_rule env.local.block x.at (find env x.text)
 broken env (Computes f n) = function_rule f.at n (find env f.text)
-broken env (Runs f n) = procedure_rule f.at n (find env f.text)
+broken env (Calls f n) = procedure_rule f.at n (find env f.text)
 broken env (Widens at p) = width_rule at p
 broken env (Bare at p) = bare_rule at p
 

@@ -17,7 +17,7 @@ use Rattle.sp_tree.specs.declared.syntax.SynKind.TheVariants as kinds
 use Rattle.sp_tree.specs.declared.syntax.SynFormal.{SynFormal}
 use Rattle.sp_tree.specs.declared.syntax.SynGroup.{SynGroup}
 use Rattle.sp_tree.specs.Scopes.{Scope, Env, Local, inside, find, declared, opened, closed, empty, standard, variable, next_constant, next_kind, next_variable, next_block}
-use Rattle.sp_tree.specs.NameRules.{Site, Declares, Fields, Heads, Uses, UsesIn, Operand, Targets, Assigns, Loops, Computes, Runs, Widens, Bare, AsConstant, AsKind, next_passing, others, references_of, rest_of, aims, same_place}
+use Rattle.sp_tree.specs.NameRules.{Site, Declares, Fields, Heads, Uses, UsesIn, Operand, Targets, Assigns, Loops, Computes, Calls, Widens, Bare, AsConstant, AsKind, next_passing, others, references_of, rest_of, aims, same_place}
 use Rattle.sp_tree.specs.PlainSyntax.{Expression, At, ExpressionForm, Number, Quoted, Read, Apply, Unary, Binary, Variable, Entire, Selector, Index, Field, Selectors, Whole, Select, Argument, Pass, Width, NoWidth, Within, Arguments, NoArgument, AndArgument, Statement, Does, Form, Empty, Assign, Call, Sequence, If, While, Repeat, Case, For, Parallel, Forall, Assume, Other, NoElse, Else, Statements, NoStatement, AndThen, Arm, On, Arms, NoArm, Or, Branches, NoBranch, Beside, Part, Const, Kind, Var, Proc, Parts, NoPart, Declare, Block, Program}
 
 abbrev pub count : Arguments → ℕ
@@ -218,7 +218,7 @@ module _ {M : Type 0} (none : M) (join : M → M → M) (site : Env → Site →
 
   -- a call as a statement
   abbrev pub call_sites : Env → Name → Arguments → M
-  call_sites env f args = join (site env (Runs f (count args))) (arguments_sites none join site env (references_of (find env f.text)) (rest_of (find env f.text)) args)
+  call_sites env f args = join (site env (Calls f (count args))) (arguments_sites none join site env (references_of (find env f.text)) (rest_of (find env f.text)) args)
 
   abbrev mutual
     pub statement_sites : List Scope → Local → Statement → M

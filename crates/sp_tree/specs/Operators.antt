@@ -14,7 +14,7 @@ use Rattle.sp_tree.specs.declared.operators.BinaryOp.TheVariants as binary
 -- what an operator gives: an ordinal, or a fault
 pub data Worked : Type 0 where
   Yields : (n : ℤ) → Worked
-  Refuses : (fault : Fault) → Worked
+  Faults : (fault : Fault) → Worked
 
 -- integers are -maxint to maxint
 abbrev pub is_integer : ℤ → Bool
@@ -22,7 +22,7 @@ is_integer n = int_le (neg_ℤ MAXINT) n && int_le n MAXINT
 
 -- an integer that stays in their range, or F2
 abbrev pub integer : ℤ → Worked
-integer n = if is_integer n then Yields n else Refuses fault.F2
+integer n = if is_integer n then Yields n else Faults fault.F2
 
 -- false is 0, and true is 1
 abbrev pub truth : Bool → Worked
@@ -30,14 +30,14 @@ truth b = Yields (if b then pos 1 else pos 0)
 
 -- a number in a range, or F1
 abbrev pub ranged : ℤ → ℤ → ℤ → Worked
-ranged low high n = if int_le low n && int_le n high then Yields n else Refuses fault.F1
+ranged low high n = if int_le low n && int_le n high then Yields n else Faults fault.F1
 
 -- the number after one below the greatest, and the number before one above the least, or F1
 abbrev pub successor : ℤ → ℤ → Worked
-successor high n = if int_lt n high then Yields (n +ℤ pos 1) else Refuses fault.F1
+successor high n = if int_lt n high then Yields (n +ℤ pos 1) else Faults fault.F1
 
 abbrev pub predecessor : ℤ → ℤ → Worked
-predecessor low n = if int_lt low n then Yields (n -ℤ pos 1) else Refuses fault.F1
+predecessor low n = if int_lt low n then Yields (n -ℤ pos 1) else Faults fault.F1
 
 -- i mod j is from 0 to j - 1 (ISO 7185)
 abbrev pub modulo : ℤ → ℤ → ℤ
@@ -83,8 +83,8 @@ binary_op binary.Add m n = integer (m +ℤ n)
 binary_op binary.Sub m n = integer (m -ℤ n)
 binary_op binary.Or m n = truth (not (int_le (m +ℤ n) (pos 0)))
 binary_op binary.Mul m n = integer (m *ℤ n)
-binary_op binary.Div m n = if same_ordinal n (pos 0) then Refuses fault.F3 else integer (int_div m n)
-binary_op binary.Mod m n = if int_le n (pos 0) then Refuses fault.F3 else integer (modulo m n)
+binary_op binary.Div m n = if same_ordinal n (pos 0) then Faults fault.F3 else integer (int_div m n)
+binary_op binary.Mod m n = if int_le n (pos 0) then Faults fault.F3 else integer (modulo m n)
 binary_op binary.And m n = truth (int_le (pos 2) (m +ℤ n))
 
 -- an ordinal type's least and greatest number

@@ -2,7 +2,7 @@
 -- by paths, and not by a closure, so that it shares nothing with the computation.
 use Rattle.std.specs.Prelude.{◌≡◌, ◌⊎◌, ℕ, zero, suc, List, [], ◌∷◌, Some, slice_get}
 use Rattle.sp_tree.specs.Plain.{Actuals, Program, Variable, Block}
-use Rattle.sp_tree.specs.Uses.{Use, Aims, Sees, Runs, Splits, Spreads, Stops, In_stmt}
+use Rattle.sp_tree.specs.Uses.{Use, Target, Seen, CallOf, ParallelOf, ForallOf, Stop, In_stmt}
 
 module _ (p : Program) where
   -- block c is block b, or stands in it n levels deep
@@ -16,25 +16,25 @@ module _ (p : Program) where
 
   -- a use in block b that those who call it have as well: one of a variable from outside, or a stop
   abbrev pub Passes : ℕ → Use → Type 0
-  Passes b (Aims x) = IsFree b x
-  Passes b (Sees x) = IsFree b x
-  Passes b (Runs f args) = ⊥
-  Passes b (Splits ss) = ⊥
-  Passes b (Spreads x s) = ⊥
-  Passes b Stops = Unit
+  Passes b (Target x) = IsFree b x
+  Passes b (Seen x) = IsFree b x
+  Passes b (CallOf f args) = ⊥
+  Passes b (ParallelOf ss) = ⊥
+  Passes b (ForallOf x s) = ⊥
+  Passes b Stop = Unit
 
   -- by a path of calls from where the uses Here stand, this use
   abbrev pub Reach : (Use → Type 0) → List ℕ → Use → Type 0
   Reach Here [] u = Here u
-  Reach Here (b ∷ bs) u = (args : Actuals) × Here (Runs b args) × (k : Block) × (slice_get p.blocks b ≡ Some k) × Passes b u × Reach (In_stmt k.body) bs u
+  Reach Here (b ∷ bs) u = (args : Actuals) × Here (CallOf b args) × (k : Block) × (slice_get p.blocks b ≡ Some k) × Passes b u × Reach (In_stmt k.body) bs u
 
   -- target and expression variables
   abbrev pub IsTarget : (Use → Type 0) → ℕ → Type 0
-  IsTarget Here x = (bs : List ℕ) × Reach Here bs (Aims x)
+  IsTarget Here x = (bs : List ℕ) × Reach Here bs (Target x)
 
   -- the statement has it as an expression variable
   abbrev pub IsSeen : (Use → Type 0) → ℕ → Type 0
-  IsSeen Here x = (bs : List ℕ) × Reach Here bs (Sees x)
+  IsSeen Here x = (bs : List ℕ) × Reach Here bs (Seen x)
 
   -- either
   abbrev pub IsUsed : (Use → Type 0) → ℕ → Type 0
@@ -50,4 +50,4 @@ module _ (p : Program) where
 
   -- a call of it leads to a statement that a function may not have
   abbrev pub LeadsToStop : ℕ → Type 0
-  LeadsToStop b = (k : Block) × (slice_get p.blocks b ≡ Some k) × (bs : List ℕ) × Reach (In_stmt k.body) bs Stops
+  LeadsToStop b = (k : Block) × (slice_get p.blocks b ≡ Some k) × (bs : List ℕ) × Reach (In_stmt k.body) bs Stop

@@ -4,14 +4,14 @@ use Rattle.std.specs.Prelude.{◌≡◌, ◌≢◌, ◌⊎◌, ℕ, Option, Some
 use Rattle.sp_tree.specs.Plain.{Expr, Typed, ExprForm, Number, Read, Unary, Binary, Apply, Standard, AtInput, Var, Entire, Index, Field, Selectors, Whole, Select, ByValue, ByReference, Actuals, Nothing, Pass, Stmt, Empty, Assign, Call, Sequence, If, IfElse, While, Repeat, For, Case, Parallel, Forall, Assume, ReadValue, ReadLine, WriteValue, WriteText, WriteLine, Open, Send, Receive, Stmts, No, And, On, Arms, NoArm, Or}
 
 -- what stands in a statement: a target position of a variable, an expression position of one, a call, a parallel or forall
--- statement, and (Stops) a statement that a function may not have: one that communicates, forks, reads or writes
+-- statement, and (Stop) a statement that a function may not have: one that communicates, forks, reads or writes
 pub data Use : Type 0 where
-  Aims : (x : ℕ) → Use
-  Sees : (x : ℕ) → Use
-  Runs : (f : ℕ) (args : Actuals) → Use
-  Splits : (ss : Stmts) → Use
-  Spreads : (x : ℕ) (s : Stmt) → Use
-  Stops : Use
+  Target : (x : ℕ) → Use
+  Seen : (x : ℕ) → Use
+  CallOf : (f : ℕ) (args : Actuals) → Use
+  ParallelOf : (ss : Stmts) → Use
+  ForallOf : (x : ℕ) (s : Stmt) → Use
+  Stop : Use
 
 abbrev mutual
   pub In_expr : Expr → Use → Type 0
@@ -22,15 +22,15 @@ abbrev mutual
   In_form (Read v) u = In_read v u
   In_form (Unary op a) u = In_expr a u
   In_form (Binary op a b) u = In_expr a u ⊎ In_expr b u
-  In_form (Apply f args) u = (u ≡ Runs f args) ⊎ In_actuals args u
+  In_form (Apply f args) u = (u ≡ CallOf f args) ⊎ In_actuals args u
   In_form (Standard f a) u = In_expr a u
-  In_form (AtInput f) u = u ≡ Sees 0
+  In_form (AtInput f) u = u ≡ Seen 0
 
   pub In_read : Var → Use → Type 0
-  In_read (Entire x ss) u = (u ≡ Sees x) ⊎ In_selectors ss u
+  In_read (Entire x ss) u = (u ≡ Seen x) ⊎ In_selectors ss u
 
   pub In_target : Var → Use → Type 0
-  In_target (Entire x ss) u = (u ≡ Aims x) ⊎ In_selectors ss u
+  In_target (Entire x ss) u = (u ≡ Target x) ⊎ In_selectors ss u
 
   pub In_selectors : Selectors → Use → Type 0
   In_selectors Whole u = ⊥
@@ -44,7 +44,7 @@ abbrev mutual
 
 -- of a call
 abbrev pub In_call : ℕ → Actuals → Use → Type 0
-In_call f args u = (u ≡ Runs f args) ⊎ In_actuals args u
+In_call f args u = (u ≡ CallOf f args) ⊎ In_actuals args u
 
 abbrev pub In_width : Option Expr → Use → Type 0
 In_width None u = ⊥
@@ -52,12 +52,12 @@ In_width (Some e) u = In_expr e u
 
 -- it is not a position of this forall's index
 abbrev pub IsOther : ℕ → Use → Type 0
-IsOther x (Aims y) = x ≢ y
-IsOther x (Sees y) = x ≢ y
-IsOther x (Runs f args) = Unit
-IsOther x (Splits ss) = Unit
-IsOther x (Spreads y s) = Unit
-IsOther x Stops = Unit
+IsOther x (Target y) = x ≢ y
+IsOther x (Seen y) = x ≢ y
+IsOther x (CallOf f args) = Unit
+IsOther x (ParallelOf ss) = Unit
+IsOther x (ForallOf y s) = Unit
+IsOther x Stop = Unit
 
 abbrev mutual
   pub In_stmt : Stmt → Use → Type 0
@@ -69,19 +69,19 @@ abbrev mutual
   In_stmt (IfElse e a b) u = In_expr e u ⊎ (In_stmt a u ⊎ In_stmt b u)
   In_stmt (While e s) u = In_expr e u ⊎ In_stmt s u
   In_stmt (Repeat s e) u = In_expr e u ⊎ In_stmt s u
-  In_stmt (For x from down to s) u = (u ≡ Aims x) ⊎ (In_expr from u ⊎ (In_expr to u ⊎ In_stmt s u))
+  In_stmt (For x from down to s) u = (u ≡ Target x) ⊎ (In_expr from u ⊎ (In_expr to u ⊎ In_stmt s u))
   In_stmt (Case e arms) u = In_expr e u ⊎ In_arms arms u
-  In_stmt (Parallel ss) u = (u ≡ Splits ss) ⊎ (In_stmts ss u ⊎ (u ≡ Stops))
-  In_stmt (Forall x from to s) u = (u ≡ Spreads x s) ⊎ (In_expr from u ⊎ (In_expr to u ⊎ ((In_stmt s u × IsOther x u) ⊎ (u ≡ Stops))))
+  In_stmt (Parallel ss) u = (u ≡ ParallelOf ss) ⊎ (In_stmts ss u ⊎ (u ≡ Stop))
+  In_stmt (Forall x from to s) u = (u ≡ ForallOf x s) ⊎ (In_expr from u ⊎ (In_expr to u ⊎ ((In_stmt s u × IsOther x u) ⊎ (u ≡ Stop))))
   In_stmt (Assume e) u = In_expr e u
-  In_stmt (ReadValue v) u = (u ≡ Aims 0) ⊎ (In_target v u ⊎ (u ≡ Stops))
-  In_stmt ReadLine u = (u ≡ Aims 0) ⊎ (u ≡ Stops)
-  In_stmt (WriteValue e w) u = (u ≡ Aims 1) ⊎ (In_expr e u ⊎ (In_width w u ⊎ (u ≡ Stops)))
-  In_stmt (WriteText t w) u = (u ≡ Aims 1) ⊎ (In_width w u ⊎ (u ≡ Stops))
-  In_stmt WriteLine u = (u ≡ Aims 1) ⊎ (u ≡ Stops)
-  In_stmt (Open v) u = In_target v u ⊎ (u ≡ Stops)
-  In_stmt (Send c e) u = In_expr c u ⊎ (In_expr e u ⊎ (u ≡ Stops))
-  In_stmt (Receive c v) u = In_expr c u ⊎ (In_target v u ⊎ (u ≡ Stops))
+  In_stmt (ReadValue v) u = (u ≡ Target 0) ⊎ (In_target v u ⊎ (u ≡ Stop))
+  In_stmt ReadLine u = (u ≡ Target 0) ⊎ (u ≡ Stop)
+  In_stmt (WriteValue e w) u = (u ≡ Target 1) ⊎ (In_expr e u ⊎ (In_width w u ⊎ (u ≡ Stop)))
+  In_stmt (WriteText t w) u = (u ≡ Target 1) ⊎ (In_width w u ⊎ (u ≡ Stop))
+  In_stmt WriteLine u = (u ≡ Target 1) ⊎ (u ≡ Stop)
+  In_stmt (Open v) u = In_target v u ⊎ (u ≡ Stop)
+  In_stmt (Send c e) u = In_expr c u ⊎ (In_expr e u ⊎ (u ≡ Stop))
+  In_stmt (Receive c v) u = In_expr c u ⊎ (In_target v u ⊎ (u ≡ Stop))
 
   pub In_stmts : Stmts → Use → Type 0
   In_stmts No u = ⊥
@@ -93,4 +93,4 @@ abbrev mutual
 
 -- of a for loop, once its limits are known
 abbrev pub In_loop : ℕ → Stmt → Use → Type 0
-In_loop x s u = (u ≡ Aims x) ⊎ In_stmt s u
+In_loop x s u = (u ≡ Target x) ⊎ In_stmt s u

@@ -6,7 +6,7 @@ use Rattle.sp_tree.specs.PlainChecked as p
 use Rattle.sp_tree.specs.CheckedOf.{selector_of, selectors, actual_of, actuals}
 use Rattle.sp_tree.specs.Bare.{bare_selectors, bare_actuals}
 use Rattle.sp_tree.specs.Plain.{Actuals, Stmt, Stmts}
-use Rattle.sp_tree.specs.Uses.{Use, Aims, Sees, Runs, Splits, Spreads, Stops, IsOther, In_selectors, In_actuals}
+use Rattle.sp_tree.specs.Uses.{Use, Target, Seen, CallOf, ParallelOf, ForallOf, Stop, IsOther, In_selectors, In_actuals}
 use Rattle.sp_varsets.specs.declared.uses.Uses.{Uses}
 use Rattle.sp_varsets.specs.declared.var_set.VarSet.{VarSet}
 use Rattle.sp_varsets.specs.Members.{has}
@@ -45,18 +45,18 @@ adds_then f g = record {
 
 pub adds_nothing : (a : Uses) (H : Use → Type 0) → ((u : Use) → H u → ⊥) → Adds a a H
 adds_nothing a H n = record {
-  aims = λ x. none_more (n (Aims x));
-  sees = λ x. none_more (n (Sees x));
-  runs = λ x. none_more (λ h. n (Runs x h.0) h.1);
-  stops = none_more (n Stops);
+  aims = λ x. none_more (n (Target x));
+  sees = λ x. none_more (n (Seen x));
+  runs = λ x. none_more (λ h. n (CallOf x h.0) h.1);
+  stops = none_more (n Stop);
 }
 
 pub adds_as : (a b : Uses) (H K : Use → Type 0) → Adds a b H → ((u : Use) → H u → K u) → ((u : Use) → K u → H u) → Adds a b K
 adds_as a b H K f to from = record {
-  aims = λ x. turned (f.aims x) (to (Aims x)) (from (Aims x));
-  sees = λ x. turned (f.sees x) (to (Sees x)) (from (Sees x));
-  runs = λ x. turned (f.runs x) (λ h. (h.0, to (Runs x h.0) h.1)) (λ k. (k.0, from (Runs x k.0) k.1));
-  stops = turned f.stops (to Stops) (from Stops);
+  aims = λ x. turned (f.aims x) (to (Target x)) (from (Target x));
+  sees = λ x. turned (f.sees x) (to (Seen x)) (from (Seen x));
+  runs = λ x. turned (f.runs x) (λ h. (h.0, to (CallOf x h.0) h.1)) (λ k. (k.0, from (CallOf x k.0) k.1));
+  stops = turned f.stops (to Stop) (from Stop);
 }
 
 -- where the second step may fail
@@ -71,35 +71,35 @@ put_in old new v e x = (
   λ s. elim s [ inl o ↦ e x ∙ or_in (v == x) (has old x) (inr o) | inr i ↦ e x ∙ or_in (v == x) (has old x) (inl (eq-eqb v x (sym i))) ],
 )
 
-pub aimed : (old new : Uses) (v : ℕ) → ((x : ℕ) → has new.aims x ≡ (v == x) || has old.aims x) → new.sees ≡ old.sees → new.runs ≡ old.runs → new.stops ≡ old.stops → Adds old new (λ u. u ≡ Aims v)
+pub aimed : (old new : Uses) (v : ℕ) → ((x : ℕ) → has new.aims x ≡ (v == x) || has old.aims x) → new.sees ≡ old.sees → new.runs ≡ old.runs → new.stops ≡ old.stops → Adds old new (λ u. u ≡ Target v)
 aimed old new v e s r t = record {
-  aims = λ x. turned (put_in old.aims new.aims v e x) (λ i. ap (λ y. Aims y) i) (λ i. cc);
-  sees = λ x. subst (λ z. (has z x ≡ true) ↔ ((has old.sees x ≡ true) ⊎ (Sees x ≡ Aims v))) (sym s) (none_more (λ i. cc));
-  runs = λ x. subst (λ z. (has z x ≡ true) ↔ ((has old.runs x ≡ true) ⊎ ((args : Actuals) × (Runs x args ≡ Aims v)))) (sym r) (none_more (λ i. let e = i.1 in cc));
-  stops = subst (λ z. (has z 0 ≡ true) ↔ ((has old.stops 0 ≡ true) ⊎ (Stops ≡ Aims v))) (sym t) (none_more (λ i. cc));
+  aims = λ x. turned (put_in old.aims new.aims v e x) (λ i. ap (λ y. Target y) i) (λ i. cc);
+  sees = λ x. subst (λ z. (has z x ≡ true) ↔ ((has old.sees x ≡ true) ⊎ (Seen x ≡ Target v))) (sym s) (none_more (λ i. cc));
+  runs = λ x. subst (λ z. (has z x ≡ true) ↔ ((has old.runs x ≡ true) ⊎ ((args : Actuals) × (CallOf x args ≡ Target v)))) (sym r) (none_more (λ i. let e = i.1 in cc));
+  stops = subst (λ z. (has z 0 ≡ true) ↔ ((has old.stops 0 ≡ true) ⊎ (Stop ≡ Target v))) (sym t) (none_more (λ i. cc));
 }
 
-pub seen : (old new : Uses) (v : ℕ) → ((x : ℕ) → has new.sees x ≡ (v == x) || has old.sees x) → new.aims ≡ old.aims → new.runs ≡ old.runs → new.stops ≡ old.stops → Adds old new (λ u. u ≡ Sees v)
+pub seen : (old new : Uses) (v : ℕ) → ((x : ℕ) → has new.sees x ≡ (v == x) || has old.sees x) → new.aims ≡ old.aims → new.runs ≡ old.runs → new.stops ≡ old.stops → Adds old new (λ u. u ≡ Seen v)
 seen old new v e s r t = record {
-  aims = λ x. subst (λ z. (has z x ≡ true) ↔ ((has old.aims x ≡ true) ⊎ (Aims x ≡ Sees v))) (sym s) (none_more (λ i. cc));
-  sees = λ x. turned (put_in old.sees new.sees v e x) (λ i. ap (λ y. Sees y) i) (λ i. cc);
-  runs = λ x. subst (λ z. (has z x ≡ true) ↔ ((has old.runs x ≡ true) ⊎ ((args : Actuals) × (Runs x args ≡ Sees v)))) (sym r) (none_more (λ i. let e = i.1 in cc));
-  stops = subst (λ z. (has z 0 ≡ true) ↔ ((has old.stops 0 ≡ true) ⊎ (Stops ≡ Sees v))) (sym t) (none_more (λ i. cc));
+  aims = λ x. subst (λ z. (has z x ≡ true) ↔ ((has old.aims x ≡ true) ⊎ (Target x ≡ Seen v))) (sym s) (none_more (λ i. cc));
+  sees = λ x. turned (put_in old.sees new.sees v e x) (λ i. ap (λ y. Seen y) i) (λ i. cc);
+  runs = λ x. subst (λ z. (has z x ≡ true) ↔ ((has old.runs x ≡ true) ⊎ ((args : Actuals) × (CallOf x args ≡ Seen v)))) (sym r) (none_more (λ i. let e = i.1 in cc));
+  stops = subst (λ z. (has z 0 ≡ true) ↔ ((has old.stops 0 ≡ true) ⊎ (Stop ≡ Seen v))) (sym t) (none_more (λ i. cc));
 }
 
-pub ran : (old new : Uses) (v : ℕ) (args : Actuals) → ((x : ℕ) → has new.runs x ≡ (v == x) || has old.runs x) → new.aims ≡ old.aims → new.sees ≡ old.sees → new.stops ≡ old.stops → Adds old new (λ u. u ≡ Runs v args)
+pub ran : (old new : Uses) (v : ℕ) (args : Actuals) → ((x : ℕ) → has new.runs x ≡ (v == x) || has old.runs x) → new.aims ≡ old.aims → new.sees ≡ old.sees → new.stops ≡ old.stops → Adds old new (λ u. u ≡ CallOf v args)
 ran old new v args e s r t = record {
-  aims = λ x. subst (λ z. (has z x ≡ true) ↔ ((has old.aims x ≡ true) ⊎ (Aims x ≡ Runs v args))) (sym s) (none_more (λ i. cc));
-  sees = λ x. subst (λ z. (has z x ≡ true) ↔ ((has old.sees x ≡ true) ⊎ (Sees x ≡ Runs v args))) (sym r) (none_more (λ i. cc));
-  runs = λ x. turned (put_in old.runs new.runs v e x) (λ i. (args, ap (λ y. Runs y args) i)) (λ i. let e = i.1 in cc);
-  stops = subst (λ z. (has z 0 ≡ true) ↔ ((has old.stops 0 ≡ true) ⊎ (Stops ≡ Runs v args))) (sym t) (none_more (λ i. cc));
+  aims = λ x. subst (λ z. (has z x ≡ true) ↔ ((has old.aims x ≡ true) ⊎ (Target x ≡ CallOf v args))) (sym s) (none_more (λ i. cc));
+  sees = λ x. subst (λ z. (has z x ≡ true) ↔ ((has old.sees x ≡ true) ⊎ (Seen x ≡ CallOf v args))) (sym r) (none_more (λ i. cc));
+  runs = λ x. turned (put_in old.runs new.runs v e x) (λ i. (args, ap (λ y. CallOf y args) i)) (λ i. let e = i.1 in cc);
+  stops = subst (λ z. (has z 0 ≡ true) ↔ ((has old.stops 0 ≡ true) ⊎ (Stop ≡ CallOf v args))) (sym t) (none_more (λ i. cc));
 }
 
-pub stopped : (old new : Uses) → ((x : ℕ) → has new.stops x ≡ (0 == x) || has old.stops x) → new.aims ≡ old.aims → new.sees ≡ old.sees → new.runs ≡ old.runs → Adds old new (λ u. u ≡ Stops)
+pub stopped : (old new : Uses) → ((x : ℕ) → has new.stops x ≡ (0 == x) || has old.stops x) → new.aims ≡ old.aims → new.sees ≡ old.sees → new.runs ≡ old.runs → Adds old new (λ u. u ≡ Stop)
 stopped old new e s r t = record {
-  aims = λ x. subst (λ z. (has z x ≡ true) ↔ ((has old.aims x ≡ true) ⊎ (Aims x ≡ Stops))) (sym s) (none_more (λ i. cc));
-  sees = λ x. subst (λ z. (has z x ≡ true) ↔ ((has old.sees x ≡ true) ⊎ (Sees x ≡ Stops))) (sym r) (none_more (λ i. cc));
-  runs = λ x. subst (λ z. (has z x ≡ true) ↔ ((has old.runs x ≡ true) ⊎ ((args : Actuals) × (Runs x args ≡ Stops)))) (sym t) (none_more (λ i. let e = i.1 in cc));
+  aims = λ x. subst (λ z. (has z x ≡ true) ↔ ((has old.aims x ≡ true) ⊎ (Target x ≡ Stop))) (sym s) (none_more (λ i. cc));
+  sees = λ x. subst (λ z. (has z x ≡ true) ↔ ((has old.sees x ≡ true) ⊎ (Seen x ≡ Stop))) (sym r) (none_more (λ i. cc));
+  runs = λ x. subst (λ z. (has z x ≡ true) ↔ ((has old.runs x ≡ true) ⊎ ((args : Actuals) × (CallOf x args ≡ Stop)))) (sym t) (none_more (λ i. let e = i.1 in cc));
   stops = turned (put_in old.stops new.stops 0 e 0) (λ i. refl) (λ i. refl);
 }
 
@@ -182,10 +182,10 @@ gathered e m x H n f = (
 )
 
 pub record Has (m : Uses) (Here : Use → Type 0) : Type 0 where
-  pub aims : (x : ℕ) → (has m.aims x ≡ true) ↔ Here (Aims x)
-  pub sees : (x : ℕ) → (has m.sees x ≡ true) ↔ Here (Sees x)
-  pub runs : (f : ℕ) → (has m.runs f ≡ true) ↔ ((args : Actuals) × Here (Runs f args))
-  pub stops : (has m.stops 0 ≡ true) ↔ Here Stops
+  pub aims : (x : ℕ) → (has m.aims x ≡ true) ↔ Here (Target x)
+  pub sees : (x : ℕ) → (has m.sees x ≡ true) ↔ Here (Seen x)
+  pub runs : (f : ℕ) → (has m.runs f ≡ true) ↔ ((args : Actuals) × Here (CallOf f args))
+  pub stops : (has m.stops 0 ≡ true) ↔ Here Stop
 
 pub from_empty : {e m : Uses} {H : Use → Type 0} → AreEmpty e → Adds e m H → Has m H
 from_empty n f = record {
@@ -221,8 +221,8 @@ without {m} {k} {H} y f a s r t = record {
 }
 
 -- a fork is no use of a variable
-pub splits_add : (a : Uses) (ss : Stmts) → Adds a a (λ u. u ≡ Splits ss)
+pub splits_add : (a : Uses) (ss : Stmts) → Adds a a (λ u. u ≡ ParallelOf ss)
 splits_add a ss = record { aims = λ x. none_more (λ i. cc); sees = λ x. none_more (λ i. cc); runs = λ x. none_more (λ i. let e = i.1 in cc); stops = none_more (λ i. cc) }
 
-pub spreads_add : (a : Uses) (y : ℕ) (s : Stmt) → Adds a a (λ u. u ≡ Spreads y s)
+pub spreads_add : (a : Uses) (y : ℕ) (s : Stmt) → Adds a a (λ u. u ≡ ForallOf y s)
 spreads_add a y s = record { aims = λ x. none_more (λ i. cc); sees = λ x. none_more (λ i. cc); runs = λ x. none_more (λ i. let e = i.1 in cc); stops = none_more (λ i. cc) }

@@ -3,7 +3,7 @@ use Rattle.std.proofs.Common.{◌≡◌, ◌↔◌, ℕ, zero, suc, ◌<◌, Boo
 use Rattle.std.proofs.lemmas.Option.{slice_get_within}
 use Rattle.sp_tree.specs.PlainChecked as p
 use Rattle.sp_tree.specs.Bare.{bare_statement, bare_block, bare}
-use Rattle.sp_tree.specs.Uses.{Aims, Sees, Stops, In_stmt}
+use Rattle.sp_tree.specs.Uses.{Target, Seen, Stop, In_stmt}
 use Rattle.sp_tree.proofs.Reached as r
 use Rattle.sp_varsets.specs.declared.bodies.Bodies.{Bodies}
 use Rattle.sp_varsets.specs.declared.sets.Entry.{Entry}
@@ -72,27 +72,27 @@ module _ (c : p.Program) (start walk mid end : Walk) (bodies : Bodies) (hidden f
   bare_low : (b : ℕ) → b < length c.blocks → b < length (bare c).blocks
   bare_low b h = let l = length_map bare_block c.blocks in omega arith
 
-  reach_targets : (b x : ℕ) → (member targets b x ≡ true) ↔ r.OfBlock (bare c) b (Aims x)
-  reach_targets b x = closed_is (bare c) (Aims x) x targets_own bodies.runs hidden
-      (fits c bodies hidden targets_own bodies.aims (Aims x) x f.bodies_are f.bodies_are.aims
+  reach_targets : (b x : ℕ) → (member targets b x ≡ true) ↔ r.OfBlock (bare c) b (Target x)
+  reach_targets b x = closed_is (bare c) (Target x) x targets_own bodies.runs hidden
+      (fits c bodies hidden targets_own bodies.aims (Target x) x f.bodies_are f.bodies_are.aims
       (λ d k e. let at = f.bodies_are.each d k (slice_get_within c.blocks d k e) e in at.aims x)
       (λ d. f.targets_shown d x)
       (λ d low h. free_of (bare c) hidden d x f.declared (bare_low d low) h)
       (λ d low h. free_in (bare c) hidden d x f.declared (bare_low d low) h))
       targets f.targets_closed b
 
-  reach_seen : (b x : ℕ) → (member seen b x ≡ true) ↔ r.OfBlock (bare c) b (Sees x)
-  reach_seen b x = closed_is (bare c) (Sees x) x seen_own bodies.runs hidden
-      (fits c bodies hidden seen_own bodies.sees (Sees x) x f.bodies_are f.bodies_are.sees
+  reach_seen : (b x : ℕ) → (member seen b x ≡ true) ↔ r.OfBlock (bare c) b (Seen x)
+  reach_seen b x = closed_is (bare c) (Seen x) x seen_own bodies.runs hidden
+      (fits c bodies hidden seen_own bodies.sees (Seen x) x f.bodies_are f.bodies_are.sees
       (λ d k e. let at = f.bodies_are.each d k (slice_get_within c.blocks d k e) e in at.sees x)
       (λ d. f.seen_shown d x)
       (λ d low h. free_of (bare c) hidden d x f.declared (bare_low d low) h)
       (λ d low h. free_in (bare c) hidden d x f.declared (bare_low d low) h))
       seen f.seen_closed b
 
-  reach_stops : (b : ℕ) → (member stops b 0 ≡ true) ↔ r.OfBlock (bare c) b Stops
-  reach_stops b = closed_is (bare c) Stops 0 stops_own bodies.runs free
-      (fits c bodies free stops_own bodies.stops Stops 0 f.bodies_are f.bodies_are.stops
+  reach_stops : (b : ℕ) → (member stops b 0 ≡ true) ↔ r.OfBlock (bare c) b Stop
+  reach_stops b = closed_is (bare c) Stop 0 stops_own bodies.runs free
+      (fits c bodies free stops_own bodies.stops Stop 0 f.bodies_are f.bodies_are.stops
       (λ d k e. let at = f.bodies_are.each d k (slice_get_within c.blocks d k e) e in at.stops)
       (λ d. f.stops_shown d 0)
       (λ d low h. tt)
@@ -122,10 +122,10 @@ module _ (c : p.Program) (start walk mid end : Walk) (bodies : Bodies) (hidden f
       let sees = stands_more f.row_entries.extends entry.sees in record {
         targets = λ x. along
             (ap (λ z. has (chosen end.pool nothing (target_index z)) x) en.1 ∙ chosen_is end.pool nothing f.none en.0.targets x)
-            (through (aims.members x) (total_is (bare c) (In_stmt (bare_statement t)) (Aims x) walk.pool targets o.0.aims o.0.runs x (rec.aims.members x) rec.runs.members (λ g. reach_targets g x)));
+            (through (aims.members x) (total_is (bare c) (In_stmt (bare_statement t)) (Target x) walk.pool targets o.0.aims o.0.runs x (rec.aims.members x) rec.runs.members (λ g. reach_targets g x)));
         expressions = λ x. along
             (ap (λ z. has (chosen end.pool nothing (expression_index z)) x) en.1 ∙ chosen_is end.pool nothing f.none en.0.expressions x)
-            (through (sees.members x) (total_is (bare c) (In_stmt (bare_statement t)) (Sees x) walk.pool seen o.0.sees o.0.runs x (rec.sees.members x) rec.runs.members (λ g. reach_seen g x)));
+            (through (sees.members x) (total_is (bare c) (In_stmt (bare_statement t)) (Seen x) walk.pool seen o.0.sees o.0.runs x (rec.sees.members x) rec.runs.members (λ g. reach_seen g x)));
       }
 
   block_is : (b : ℕ) (k : p.Block) → slice_get c.blocks b ≡ Some k → OfBlock (bare c) all b

@@ -8,7 +8,7 @@ use Rattle.sp_tree.specs.PlainChecked as p
 use Rattle.sp_tree.specs.CheckedOf.{block_of}
 use Rattle.sp_tree.specs.Bare.{bare_statement}
 use Rattle.sp_tree.specs.Plain.{Actuals, Program, Block, Variable}
-use Rattle.sp_tree.specs.Uses.{Aims, Sees, Runs, Stops, In_stmt}
+use Rattle.sp_tree.specs.Uses.{Target, Seen, CallOf, Stop, In_stmt}
 use Rattle.sp_tree.specs.Sets.{IsBelow}
 use Rattle.sp_varsets.specs.declared.bodies.Bodies.{Bodies}
 use Rattle.sp_varsets.specs.declared.uses.Uses.{Uses}
@@ -73,18 +73,18 @@ bodies_more blocks old new uses k n a at ea es er et h = record {
   where
     before : (b : ℕ) (j : p.Block) → b < n → slice_get blocks b ≡ Some j → BodyAt new b (In_stmt (bare_statement j.body))
     before b j low is = let o = a.each b j low is in record {
-      aims = λ x. subst (λ z. (member z b x ≡ true) ↔ (In_stmt (bare_statement j.body) (Aims x))) (sym ea) (rows_more old.aims uses.aims n b x (In_stmt (bare_statement j.body) (Aims x)) a.aims low (o.aims x));
-      sees = λ x. subst (λ z. (member z b x ≡ true) ↔ (In_stmt (bare_statement j.body) (Sees x))) (sym es) (rows_more old.sees uses.sees n b x (In_stmt (bare_statement j.body) (Sees x)) a.sees low (o.sees x));
-      runs = λ x. subst (λ z. (member z b x ≡ true) ↔ ((args : Actuals) × In_stmt (bare_statement j.body) (Runs x args))) (sym er) (rows_more old.runs uses.runs n b x ((args : Actuals) × In_stmt (bare_statement j.body) (Runs x args)) a.runs low (o.runs x));
-      stops = subst (λ z. (member z b 0 ≡ true) ↔ (In_stmt (bare_statement j.body) Stops)) (sym et) (rows_more old.stops uses.stops n b 0 (In_stmt (bare_statement j.body) Stops) a.stops low o.stops);
+      aims = λ x. subst (λ z. (member z b x ≡ true) ↔ (In_stmt (bare_statement j.body) (Target x))) (sym ea) (rows_more old.aims uses.aims n b x (In_stmt (bare_statement j.body) (Target x)) a.aims low (o.aims x));
+      sees = λ x. subst (λ z. (member z b x ≡ true) ↔ (In_stmt (bare_statement j.body) (Seen x))) (sym es) (rows_more old.sees uses.sees n b x (In_stmt (bare_statement j.body) (Seen x)) a.sees low (o.sees x));
+      runs = λ x. subst (λ z. (member z b x ≡ true) ↔ ((args : Actuals) × In_stmt (bare_statement j.body) (CallOf x args))) (sym er) (rows_more old.runs uses.runs n b x ((args : Actuals) × In_stmt (bare_statement j.body) (CallOf x args)) a.runs low (o.runs x));
+      stops = subst (λ z. (member z b 0 ≡ true) ↔ (In_stmt (bare_statement j.body) Stop)) (sym et) (rows_more old.stops uses.stops n b 0 (In_stmt (bare_statement j.body) Stop) a.stops low o.stops);
     }
 
     last : (b : ℕ) → b ≡ n → BodyAt new b (In_stmt (bare_statement k.body))
     last b here = record {
-      aims = λ x. subst (λ z. (member z b x ≡ true) ↔ (In_stmt (bare_statement k.body) (Aims x))) (sym ea) (rows_last old.aims uses.aims n b x (In_stmt (bare_statement k.body) (Aims x)) a.aims here (h.aims x));
-      sees = λ x. subst (λ z. (member z b x ≡ true) ↔ (In_stmt (bare_statement k.body) (Sees x))) (sym es) (rows_last old.sees uses.sees n b x (In_stmt (bare_statement k.body) (Sees x)) a.sees here (h.sees x));
-      runs = λ x. subst (λ z. (member z b x ≡ true) ↔ ((args : Actuals) × In_stmt (bare_statement k.body) (Runs x args))) (sym er) (rows_last old.runs uses.runs n b x ((args : Actuals) × In_stmt (bare_statement k.body) (Runs x args)) a.runs here (h.runs x));
-      stops = subst (λ z. (member z b 0 ≡ true) ↔ (In_stmt (bare_statement k.body) Stops)) (sym et) (rows_last old.stops uses.stops n b 0 (In_stmt (bare_statement k.body) Stops) a.stops here h.stops);
+      aims = λ x. subst (λ z. (member z b x ≡ true) ↔ (In_stmt (bare_statement k.body) (Target x))) (sym ea) (rows_last old.aims uses.aims n b x (In_stmt (bare_statement k.body) (Target x)) a.aims here (h.aims x));
+      sees = λ x. subst (λ z. (member z b x ≡ true) ↔ (In_stmt (bare_statement k.body) (Seen x))) (sym es) (rows_last old.sees uses.sees n b x (In_stmt (bare_statement k.body) (Seen x)) a.sees here (h.sees x));
+      runs = λ x. subst (λ z. (member z b x ≡ true) ↔ ((args : Actuals) × In_stmt (bare_statement k.body) (CallOf x args))) (sym er) (rows_last old.runs uses.runs n b x ((args : Actuals) × In_stmt (bare_statement k.body) (CallOf x args)) a.runs here (h.runs x));
+      stops = subst (λ z. (member z b 0 ≡ true) ↔ (In_stmt (bare_statement k.body) Stop)) (sym et) (rows_last old.stops uses.stops n b 0 (In_stmt (bare_statement k.body) Stop) a.stops here h.stops);
     }
 
 -- blocks, item by item

@@ -4,7 +4,7 @@ use Rattle.std.proofs.lemmas.Option.{slice_get_within}
 use Rattle.sp_tree.specs.PlainChecked as p
 use Rattle.sp_tree.specs.Bare.{bare_statement, bare_block, bare}
 use Rattle.sp_tree.specs.Plain.{Actuals, Program, Block}
-use Rattle.sp_tree.specs.Uses.{Use, Runs, In_stmt}
+use Rattle.sp_tree.specs.Uses.{Use, CallOf, In_stmt}
 use Rattle.sp_tree.specs.Sets.{IsFree, Passes}
 use Rattle.sp_tree.proofs.Closure.{IsReached}
 use Rattle.sp_tree.proofs.Reached.{OfBlock, IsClosed, all_of_block, step_here, step_call, of_part, from_part}
@@ -47,8 +47,8 @@ module _ (g : Program) (u : Use) (x : ℕ) (rows runs hidden : List VarSet) wher
   pub record Fits : Type 0 where
     pub rows_of : (b : ℕ) → member rows b x ≡ true → (k : Block) × (slice_get g.blocks b ≡ Some k) × Passes g b u × In_stmt k.body u
     pub rows_in : (b : ℕ) (k : Block) → slice_get g.blocks b ≡ Some k → Passes g b u → In_stmt k.body u → member rows b x ≡ true
-    pub runs_of : (b c : ℕ) → member runs b c ≡ true → (k : Block) × (slice_get g.blocks b ≡ Some k) × (args : Actuals) × In_stmt k.body (Runs c args)
-    pub runs_in : (b c : ℕ) (k : Block) (args : Actuals) → slice_get g.blocks b ≡ Some k → In_stmt k.body (Runs c args) → member runs b c ≡ true
+    pub runs_of : (b c : ℕ) → member runs b c ≡ true → (k : Block) × (slice_get g.blocks b ≡ Some k) × (args : Actuals) × In_stmt k.body (CallOf c args)
+    pub runs_in : (b c : ℕ) (k : Block) (args : Actuals) → slice_get g.blocks b ≡ Some k → In_stmt k.body (CallOf c args) → member runs b c ≡ true
     pub hidden_of : (b : ℕ) (k : Block) → slice_get g.blocks b ≡ Some k → member hidden b x ≡ false → Passes g b u
     pub hidden_in : (b : ℕ) (k : Block) → slice_get g.blocks b ≡ Some k → Passes g b u → member hidden b x ≡ false
 
@@ -122,14 +122,14 @@ module _ (c : p.Program) (bodies : Bodies) (hidden rows own : List VarSet) (u : 
         let m = map_at bare_block c.blocks b k e in
         let inside : b < length c.blocks = slice_get_within c.blocks b m.0 m.1 in
         let at = bs.each b m.0 inside m.1 in
-        (at.runs f).1 (args, subst (λ (z : Block). In_stmt z.body (Runs f args)) (sym m.2) h);
+        (at.runs f).1 (args, subst (λ (z : Block). In_stmt z.body (CallOf f args)) (sym m.2) h);
     hidden_of = λ b k e h. let m = map_at bare_block c.blocks b k e in passes b (slice_get_within c.blocks b m.0 m.1) h;
     hidden_in = λ b k e f. let m = map_at bare_block c.blocks b k e in hides b (slice_get_within c.blocks b m.0 m.1) f;
   }
 
 -- the set of a part, from what stands in it and the rows of the blocks that it calls
 pub total_is : (g : Program) (Here : Use → Type 0) (u : Use) (pool rows : List VarSet) (own runs x : ℕ)
-    → ((pooled pool own x ≡ true) ↔ Here u) → ((f : ℕ) → (pooled pool runs f ≡ true) ↔ ((args : Actuals) × Here (Runs f args)))
+    → ((pooled pool own x ≡ true) ↔ Here u) → ((f : ℕ) → (pooled pool runs f ≡ true) ↔ ((args : Actuals) × Here (CallOf f args)))
     → ((f : ℕ) → (member rows f x ≡ true) ↔ OfBlock g f u)
     → IsInTotal pool rows own runs x ↔ IsReached g Here u
 total_is g Here u pool rows own runs x here calls reach = (

@@ -4,17 +4,17 @@ use Rattle.std.specs.Prelude.{◌≡◌, ◌↔◌, ◌⊎◌, ℕ, true, false}
 use Rattle.sp_tree.specs.PlainChecked as p
 use Rattle.sp_tree.specs.Bare.{bare_expression, bare_variable}
 use Rattle.sp_tree.specs.Plain.{Actuals}
-use Rattle.sp_tree.specs.Uses.{Use, Aims, Sees, Runs, Stops, In_expr, In_target}
+use Rattle.sp_tree.specs.Uses.{Use, Target, Seen, CallOf, Stop, In_expr, In_target}
 use Rattle.sp_varsets.specs.declared.uses.Uses.{Uses}
 use Rattle.sp_varsets.specs.declared.var_set.VarSet.{VarSet}
 use Rattle.sp_varsets.specs.Members.{has}
 
 -- the new sets have what the old ones had, and what stands here: target positions, expression positions, calls, statements that stop
 pub record Adds (old new : Uses) (Here : Use → Type 0) : Type 0 where
-  pub aims : (x : ℕ) → (has new.aims x ≡ true) ↔ ((has old.aims x ≡ true) ⊎ Here (Aims x))
-  pub sees : (x : ℕ) → (has new.sees x ≡ true) ↔ ((has old.sees x ≡ true) ⊎ Here (Sees x))
-  pub runs : (f : ℕ) → (has new.runs f ≡ true) ↔ ((has old.runs f ≡ true) ⊎ ((args : Actuals) × Here (Runs f args)))
-  pub stops : (has new.stops 0 ≡ true) ↔ ((has old.stops 0 ≡ true) ⊎ Here Stops)
+  pub aims : (x : ℕ) → (has new.aims x ≡ true) ↔ ((has old.aims x ≡ true) ⊎ Here (Target x))
+  pub sees : (x : ℕ) → (has new.sees x ≡ true) ↔ ((has old.sees x ≡ true) ⊎ Here (Seen x))
+  pub runs : (f : ℕ) → (has new.runs f ≡ true) ↔ ((has old.runs f ≡ true) ⊎ ((args : Actuals) × Here (CallOf f args)))
+  pub stops : (has new.stops 0 ≡ true) ↔ ((has old.stops 0 ≡ true) ⊎ Here Stop)
 
 -- the sets are empty
 pub record AreEmpty (uses : Uses) : Type 0 where

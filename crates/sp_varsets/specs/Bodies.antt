@@ -4,7 +4,7 @@ use Rattle.std.specs.Prelude.{◌≡◌, ◌↔◌, ◌⊎◌, ℕ, ◌<◌, tru
 use Rattle.sp_tree.specs.PlainChecked as p
 use Rattle.sp_tree.specs.Bare.{bare_statement}
 use Rattle.sp_tree.specs.Plain.{Actuals, Program, Variable}
-use Rattle.sp_tree.specs.Uses.{Use, Aims, Sees, Runs, Stops, In_stmt}
+use Rattle.sp_tree.specs.Uses.{Use, Target, Seen, CallOf, Stop, In_stmt}
 use Rattle.sp_tree.specs.Sets.{IsBelow}
 use Rattle.sp_varsets.specs.declared.bodies.Bodies.{Bodies}
 use Rattle.sp_varsets.specs.declared.var_set.VarSet.{VarSet}
@@ -18,10 +18,10 @@ IsInBlocks (k ∷ ks) t = IsPart t k.body ⊎ IsInBlocks ks t
 
 -- the rows of this block have what stands here
 pub record BodyAt (bodies : Bodies) (b : ℕ) (Here : Use → Type 0) : Type 0 where
-  pub aims : (x : ℕ) → (member bodies.aims b x ≡ true) ↔ Here (Aims x)
-  pub sees : (x : ℕ) → (member bodies.sees b x ≡ true) ↔ Here (Sees x)
-  pub runs : (f : ℕ) → (member bodies.runs b f ≡ true) ↔ ((args : Actuals) × Here (Runs f args))
-  pub stops : (member bodies.stops b 0 ≡ true) ↔ Here Stops
+  pub aims : (x : ℕ) → (member bodies.aims b x ≡ true) ↔ Here (Target x)
+  pub sees : (x : ℕ) → (member bodies.sees b x ≡ true) ↔ Here (Seen x)
+  pub runs : (f : ℕ) → (member bodies.runs b f ≡ true) ↔ ((args : Actuals) × Here (CallOf f args))
+  pub stops : (member bodies.stops b 0 ≡ true) ↔ Here Stop
 
 -- there is a row for each of the first n blocks
 pub record AreBodies (blocks : List p.Block) (bodies : Bodies) (n : ℕ) : Type 0 where

@@ -4,7 +4,7 @@ use Rattle.std.specs.Prelude.{◌≡◌, ◌≢◌, ◌↔◌, ◌⊎◌, ℕ, z
 use Rattle.sp_tree.specs.PlainChecked as p
 use Rattle.sp_tree.specs.Bare.{bare_statement}
 use Rattle.sp_tree.specs.Plain.{Actuals}
-use Rattle.sp_tree.specs.Uses.{Use, Aims, Sees, Runs, In_stmt}
+use Rattle.sp_tree.specs.Uses.{Use, Target, Seen, CallOf, In_stmt}
 use Rattle.sp_varsets.specs.declared.uses.Uses.{Uses}
 use Rattle.sp_varsets.specs.declared.var_set.VarSet.{VarSet}
 use Rattle.sp_varsets.specs.declared.walk.Own.{Own}
@@ -30,9 +30,9 @@ pub record Stands (pool : List VarSet) (i : ℕ) (F : ℕ → Type 0) : Type 0 w
 
 -- what is recorded of a statement is what stands in it
 pub record Records (pool : List VarSet) (own : Own) (Here : Use → Type 0) : Type 0 where
-  pub aims : Stands pool own.aims (λ x. Here (Aims x))
-  pub sees : Stands pool own.sees (λ x. Here (Sees x))
-  pub runs : Stands pool own.runs (λ f. (args : Actuals) × Here (Runs f args))
+  pub aims : Stands pool own.aims (λ x. Here (Target x))
+  pub sees : Stands pool own.sees (λ x. Here (Seen x))
+  pub runs : Stands pool own.runs (λ f. (args : Actuals) × Here (CallOf f args))
 
 abbrev pub known : Option (Option Own) → Option Own
 known None = None

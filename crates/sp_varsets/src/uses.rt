@@ -4,7 +4,7 @@ ghost use Rattle.std.specs.Prelude.{◌≡◌, ℕ, false, OnOk, map};
 ghost use Rattle.sp_tree.specs.Bare.{bare_expression, bare_form, bare_variable, bare_selectors, bare_actuals, bare_width};
 ghost use Rattle.sp_tree.specs.CheckedOf.{expression_of, expression_form_of, variable_of, selector_of, selectors, actual_of, actuals, width_of};
 ghost use Rattle.sp_tree.specs.Plain.{Actuals};
-ghost use Rattle.sp_tree.specs.Uses.{Aims, Sees, Runs, Stops, In_expr, In_form, In_read, In_target, In_selectors, In_actuals, In_width};
+ghost use Rattle.sp_tree.specs.Uses.{Target, Seen, CallOf, Stop, In_expr, In_form, In_read, In_target, In_selectors, In_actuals, In_width};
 ghost use Rattle.sp_varsets.specs.Adds.{Adds, AreEmpty, AreUnions, IsWithout, In_selector, In_actual};
 ghost use Rattle.sp_varsets.specs.Members.{has};
 
@@ -37,27 +37,27 @@ impl Uses {
 
     #[tactic(auto, using(crate::proofs::Adding::aimed))]
     pub(crate) fn aim(&mut self, variable: u32) -> Result<(), Memory>
-        ensures { OnOk result (Adds self.old self.new (λ u. u ≡ Aims variable)) }
+        ensures { OnOk result (Adds self.old self.new (λ u. u ≡ Target variable)) }
     {
         self.aims.insert(variable)
     }
 
     #[tactic(auto, using(crate::proofs::Adding::seen))]
     pub(crate) fn see(&mut self, variable: u32) -> Result<(), Memory>
-        ensures { OnOk result (Adds self.old self.new (λ u. u ≡ Sees variable)) }
+        ensures { OnOk result (Adds self.old self.new (λ u. u ≡ Seen variable)) }
     {
         self.sees.insert(variable)
     }
 
     pub(crate) fn run(&mut self, block: u32) -> Result<(), Memory>
-        ensures { OnOk result ((args : Actuals) → Adds self.old self.new (λ u. u ≡ Runs block args)) }
+        ensures { OnOk result ((args : Actuals) → Adds self.old self.new (λ u. u ≡ CallOf block args)) }
     {
         self.runs.insert(block)
     }
 
     #[tactic(auto, using(crate::proofs::Adding::stopped))]
     pub(crate) fn stop(&mut self) -> Result<(), Memory>
-        ensures { OnOk result (Adds self.old self.new (λ u. u ≡ Stops)) }
+        ensures { OnOk result (Adds self.old self.new (λ u. u ≡ Stop)) }
     {
         self.stops.insert(0)
     }

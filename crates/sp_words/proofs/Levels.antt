@@ -16,7 +16,7 @@ use Rattle.sp_words.specs.Dashes.{Item, Text, after_dash, by_form, contains, fil
 use Rattle.sp_words.specs.Words.{subject, text_of}
 use Rattle.sp_words.specs.declared.form.Form.{Form}
 use Rattle.sp_words.specs.declared.form.Form.TheVariants.{Plain, End, Whole, Open, Stray}
-use Rattle.sp_words.proofs.WordForms.{IsLongWord, IsPlainWord, Reads, dashes, plain_word_of, reads_by_form}
+use Rattle.sp_words.proofs.WordForms.{IsLongWord, IsPlainWord, ReadsWord, dashes, plain_word_of, reads_by_form}
 use Rattle.sp_words.proofs.Rules.{IsOption, Parsers, built_file, built_option, clear, clear-or_else, fault_of_use, file_id, level, named, new_row, no_second, option_of, rows_of_use, rules}
 
 -- ---- items as uses
@@ -424,7 +424,7 @@ end_step name os rows p met word words known m e =
 
 -- one word where no option waits
 rest_step : (name : Text) (os : Parsers) (none : contains (names os) file_id ≡ false) (rows : List Row) (p : Option Item) (met : Bool) (word : Text) (words : List Text) (is : List Item) (f : Form)
-    → IsKnownPending os p → met ≡ has_row file_id (plus os rows p) → Reads (names os) word f
+    → IsKnownPending os p → met ≡ has_row file_id (plus os rows p) → ReadsWord (names os) word f
     → by_form f word words (λ waiting. items (names os) waiting words) ≡ Some is → Ahead name os words
     → Goal name os rows (at rows p met false) (ok_pending os rows p) (plus os rows p) (word ∷ words) is
 rest_step name os none rows p met word words is Plain known m plain e ahead =

@@ -22,12 +22,12 @@ pub record IsLongWord (options : List Text) (word : Text) (value : Option Text) 
   pub long : long_of word ≡ Some (name_of word, value)
   pub known : contains options (name_of word) ≡ true
 
-abbrev pub Reads : List Text → Text → Form → Type 0
-Reads options word Plain = IsPlainWord word
-Reads options word End = word ≡ dashes
-Reads options word Whole = IsLongWord options word (Some (value_of word))
-Reads options word Open = IsLongWord options word None
-Reads options word Stray = Unit {0}
+abbrev pub ReadsWord : List Text → Text → Form → Type 0
+ReadsWord options word Plain = IsPlainWord word
+ReadsWord options word End = word ≡ dashes
+ReadsWord options word Whole = IsLongWord options word (Some (value_of word))
+ReadsWord options word Open = IsLongWord options word None
+ReadsWord options word Stray = Unit {0}
 
 some≢none : {X : Type 0} (x : X) → Some x ≡ None → ⊥
 some≢none x e = cc
@@ -55,7 +55,7 @@ long_word_of : (x y z : ℕ) (zs : Text) → (x == 45) ≡ true → (y == 45) �
 long_word_of x y z zs d e = rw (d, e) refl
 
 by_value : (options : List Text) (word : Text) (value : Option Text) → bytes_eq word dashes ≡ false → long_of word ≡ Some (name_of word, value)
-    → (value ≡ None) ⊎ (value ≡ Some (value_of word)) → contains options (name_of word) ≡ true → Reads options word (form_by_value value)
+    → (value ≡ None) ⊎ (value ≡ Some (value_of word)) → contains options (name_of word) ≡ true → ReadsWord options word (form_by_value value)
 by_value options word None not_end long cases known = record { not_end = not_end; long = long; known = known }
 by_value options word (Some v) not_end long cases known = elim cases [
   | inl none ↦ absurd (some≢none v none)
@@ -67,32 +67,32 @@ value_cases true v = inr refl
 value_cases false v = inl refl
 
 by_name : (options : List Text) (x y z : ℕ) (zs : Text) → (x == 45) ≡ true → (y == 45) ≡ true
-    → Reads options (x ∷ y ∷ z ∷ zs) (form_of_option options (name_and_value (z ∷ zs)))
+    → ReadsWord options (x ∷ y ∷ z ∷ zs) (form_of_option options (name_and_value (z ∷ zs)))
 by_name options x y z zs d e = go (contains options (name_and_value (z ∷ zs)).0) refl
   where
     go : (b : Bool) → contains options (name_and_value (z ∷ zs)).0 ≡ b
-        → Reads options (x ∷ y ∷ z ∷ zs) (cond b (form_by_value (name_and_value (z ∷ zs)).1) Stray)
+        → ReadsWord options (x ∷ y ∷ z ∷ zs) (cond b (form_by_value (name_and_value (z ∷ zs)).1) Stray)
     go false k = tt
     go true k = by_value options (x ∷ y ∷ z ∷ zs) (name_and_value (z ∷ zs)).1 (not_end_of x y z zs) (long_word_of x y z zs d e)
         (value_cases (list_any (λ b. b == 61) (z ∷ zs)) (after_first (λ b. b == 61) (z ∷ zs))) k
 
-two_dashes : (options : List Text) (x y : ℕ) (ys : Text) → (x == 45) ≡ true → (y == 45) ≡ true → Reads options (x ∷ y ∷ ys) (form_of_text options ys)
+two_dashes : (options : List Text) (x y : ℕ) (ys : Text) → (x == 45) ≡ true → (y == 45) ≡ true → ReadsWord options (x ∷ y ∷ ys) (form_of_text options ys)
 two_dashes options x y [] d e = ap₂ (λ a b. a ∷ b ∷ []) (eqb-true _ _ d) (eqb-true _ _ e)
 two_dashes options x y (z ∷ zs) d e = by_name options x y z zs d e
 
-one_dash : (options : List Text) (x : ℕ) (xs : Text) → (x == 45) ≡ true → Reads options (x ∷ xs) (form_of_tail options (after_dash xs))
+one_dash : (options : List Text) (x : ℕ) (xs : Text) → (x == 45) ≡ true → ReadsWord options (x ∷ xs) (form_of_tail options (after_dash xs))
 one_dash options x [] d = tt
 one_dash options x (y ∷ ys) d = go (y == 45) refl
   where
-    go : (b : Bool) → (y == 45) ≡ b → Reads options (x ∷ y ∷ ys) (form_of_tail options (cond b (Some ys) None))
+    go : (b : Bool) → (y == 45) ≡ b → ReadsWord options (x ∷ y ∷ ys) (form_of_tail options (cond b (Some ys) None))
     go false e = tt
     go true e = two_dashes options x y ys d e
 
 -- what the form of a word says of it
-pub reads_by_form : (options : List Text) (word : Text) → Reads options word (form_of options word)
+pub reads_by_form : (options : List Text) (word : Text) → ReadsWord options word (form_of options word)
 reads_by_form options [] = plain_word_of [] refl
 reads_by_form options (x ∷ xs) = go (x == 45) refl
   where
-    go : (b : Bool) → (x == 45) ≡ b → Reads options (x ∷ xs) (form_of_rest options (cond b (Some xs) None))
+    go : (b : Bool) → (x == 45) ≡ b → ReadsWord options (x ∷ xs) (form_of_rest options (cond b (Some xs) None))
     go false d = no_dash x xs d
     go true d = one_dash options x xs d

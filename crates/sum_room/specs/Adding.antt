@@ -8,7 +8,7 @@ use Rattle.sum_room.specs.declared.sum.Ask.TheVariants.{Add, Look, Leave}
 use Rattle.sum_room.specs.declared.sum.Got.{Got}
 use Rattle.sum_room.specs.declared.sum.Got.TheVariants.{Sum, Refused}
 use Rattle.sum_room.specs.declared.sum.Note.{Note}
-use Rattle.sp_room.specs.History.{Runs}
+use Rattle.sp_room.specs.History.{LeadsTo}
 
 -- one is added, and the worker's note has the sum
 abbrev pub Adds : Total → ℕ → Total → Got → Option Note → Type 0
@@ -58,9 +58,9 @@ note_names x w Look y g n m = absurd (cc (m.2))
 pub ask_returns : (a b : Ask) (g : Got) → is_leave a ≡ false → is_leave b ≡ false → Returns a g → Returns b g → a ≡ b
 ask_returns a b g one two p q = cc (p, q)
 
-pub sum_is : (x : Total) (log : List Note) (y : Total) → Runs Steps x log y → y.value ≡ x.value + length log
+pub sum_is : (x : Total) (log : List Note) (y : Total) → LeadsTo Steps x log y → y.value ≡ x.value + length log
 sum_is x [] y r = let e : x.value ≡ y.value = λ i. (r i).value in omega (arith, e)
 sum_is x (n ∷ ns) y r = let e = sum_is r.0 ns y r.5 in let f = one_more x r.1 r.2 r.0 r.3 n r.4 in omega (arith, e, f)
 
-pub never_full : (x : Total) (log : List Note) (y : Total) → x.value ≡ 0 → Runs Steps x log y → length log < 18446744073709551615 → y.value + 1 < 18446744073709551616
+pub never_full : (x : Total) (log : List Note) (y : Total) → x.value ≡ 0 → LeadsTo Steps x log y → length log < 18446744073709551615 → y.value + 1 < 18446744073709551616
 never_full x log y zero r short = omega (arith, sum_is x log y r, zero, short)

@@ -24,7 +24,7 @@ use Rattle.sp_words.specs.declared.command.Command.{Command}
 use Rattle.sp_words.specs.declared.command.Command.TheVariants as command
 use Rattle.superpascal.specs.declared.ending.Ending.TheVariants as e
 use Rattle.superpascal.specs.declared.ending.Answer.{Answer}
-use Rattle.superpascal.specs.Answering.{CodeAnswer, CommandCause, GeneratedAnswer, GeneratedCause, InputAnswer, IsKeptText, IsMade, IsRefusedText, RanAnswer, Refuses, RunAnswer, RunsOnInput, TextCause, halted, too_long, unloaded}
+use Rattle.superpascal.specs.Answering.{CodeAnswer, CommandCause, GeneratedAnswer, GeneratedCause, InputAnswer, IsKeptText, IsMade, IsRefusedText, RanAnswer, AnswersRefusal, RunAnswer, RunsOnInput, TextCause, halted, too_long, unloaded}
 use Rattle.superpascal.specs.Causes.{Cause, by_words, before_words, by_command, Due, by_run, by_generated, by_text, by_rule, by_library, by_source, by_length, by_memory, Files, HasGenerated, HasMade, HasRun, IsNotLoaded, IsNotRead, IsRefusedFor, IsTold, IsTooLong, IsTooMuch, IsUntouched, ReadsAfterRules, Stream, accepted, refused, silent}
 use Rattle.superpascal.specs.Runs.{HasCode, IsRunOf, Reports, generated_answer, run_answer}
 use Rattle.superpascal.specs.Texts.{Asked, Breaks, BreaksOne, IsAbout, KeepsAll, Makes, asked, asks, asks_text, text_of}
@@ -64,11 +64,11 @@ module _ (f : Files) (d : Command) (name : List ℕ) (about : IsAbout d name) (a
   pub text_made : (text : List ℕ) → IsTold (f.held name) text → IsMade d text (Ok a) → TextCause f d a
   text_made text t (out, line, m, h) = inl (record { text = text; loaded = to_text (λ o. IsTold o text) t; output = out; line = line; makes = m; answer = h })
 
-  refuses : (r : Refusal) → IfSome (text_of f.held d) (λ text. Breaks d text r) → Refuses r a → TextCause f d a
+  refuses : (r : Refusal) → IfSome (text_of f.held d) (λ text. Breaks d text r) → AnswersRefusal r a → TextCause f d a
   refuses r b (inl h) = inr (inl (record { refusal = r; breaks = b; answer = h }))
   refuses r b (inr h) = inr (inr (inr h))
 
-  pub text_refused : (text : List ℕ) (r : Refusal) → IsTold (f.held name) text → IsMade d text (Err (halt.Refused r)) → Refuses r a → TextCause f d a
+  pub text_refused : (text : List ℕ) (r : Refusal) → IsTold (f.held name) text → IsMade d text (Err (halt.Refused r)) → AnswersRefusal r a → TextCause f d a
   text_refused text r t b h = refuses r (to_text (λ o. IfSome o (λ x. Breaks d x r)) (when_told (λ x. Breaks d x r) (f.held name) text t b)) h
 
   -- a text that the library does not give
@@ -138,7 +138,7 @@ module _ (f : Files) (s : Stream) (reports : Reports) (b : Asked) (a : Answer) w
   abbrev Due_run : Type 0
   Due_run = CommandCause f s reports (asks b) a
 
-  run_refused : (r : Refusal) → IsUntouched s → IfSome (f.held b.file) (λ x. BreaksOne x r) → Refuses r a → Due_run
+  run_refused : (r : Refusal) → IsUntouched s → IfSome (f.held b.file) (λ x. BreaksOne x r) → AnswersRefusal r a → Due_run
   run_refused r u t (inl h) = (by_rule (record { refusal = r; breaks = t; answer = h }), inl u)
   run_refused r u t (inr h) = (by_memory h, inl u)
 
@@ -177,14 +177,14 @@ pub generated_told : (size workers : ℕ) (input : List ℕ) (lim : Limits) (r :
 generated_told size workers input lim r a h i k m =
     generated_ran size workers r a (subst (λ (z : List ℕ × Limits). IsRunOf (generated_text size) z.0 workers z.1 r) (λ j. (h j, i j)) k) m
 
-pub generated_refused : (size workers : ℕ) (text : List ℕ) (r : Refusal) (a : Answer) → text ≡ generated_text size → BreaksOne text r → Refuses r a → GeneratedCause size workers a
+pub generated_refused : (size workers : ℕ) (text : List ℕ) (r : Refusal) (a : Answer) → text ≡ generated_text size → BreaksOne text r → AnswersRefusal r a → GeneratedCause size workers a
 generated_refused size workers text r a h b k = inr (inl (record { refusal = r; breaks = subst (λ (x : List ℕ). BreaksOne x r) h b; answer = k }))
 
 pub command_of_generated : (f : Files) (s : Stream) (reports : Reports) (size workers : ℕ) (a : Answer) → IsUntouched s → GeneratedCause size workers a → CommandCause f s reports (command.Gen size workers) a
 command_of_generated f s reports size workers a u (inl h) = (by_generated size workers refl h, inl u)
 command_of_generated f s reports size workers a u (inr (inl m)) = go m.answer
   where
-    go : Refuses m.refusal a → CommandCause f s reports (command.Gen size workers) a
+    go : AnswersRefusal m.refusal a → CommandCause f s reports (command.Gen size workers) a
     go (inl h) = (by_rule (record { refusal = m.refusal; breaks = m.breaks; answer = h }), inl u)
     go (inr h) = (by_memory h, inl u)
 command_of_generated f s reports size workers a u (inr (inr h)) = (by_memory h, inl u)

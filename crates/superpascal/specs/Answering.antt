@@ -24,8 +24,8 @@ use Rattle.superpascal.specs.Runs.{IsRunOf, Reports, generated_answer, run_answe
 use Rattle.superpascal.specs.Texts.{Asked, Breaks, BreaksOne, KeepsAll, Makes, asks}
 
 -- the answer to a text that breaks this rule first, or want of memory
-abbrev pub Refuses : Refusal → Answer → Type 0
-Refuses r a = (a ≡ refused r) ⊎ (a ≡ silent e.OutOfMemory)
+abbrev pub AnswersRefusal : Refusal → Answer → Type 0
+AnswersRefusal r a = (a ≡ refused r) ⊎ (a ≡ silent e.OutOfMemory)
 
 -- what a text breaks that is longer than a text may be
 abbrev pub too_long : Refusal
@@ -33,12 +33,12 @@ too_long = record { rule = rule.L1; at = start }
 
 -- the answer to a text of which no code comes
 abbrev pub halted : Halt → Answer → Type 0
-halted (halt.Refused r) a = Refuses r a
+halted (halt.Refused r) a = AnswersRefusal r a
 halted halt.Memory a = a ≡ silent e.OutOfMemory
 
 -- the answer to a text that the library does not give
 abbrev pub unloaded : LoadError → Answer → Type 0
-unloaded load.TooLong a = Refuses too_long a
+unloaded load.TooLong a = AnswersRefusal too_long a
 unloaded load.Failed a = a ≡ silent e.ReadFault
 unloaded load.Memory a = a ≡ silent e.OutOfMemory
 
@@ -92,7 +92,7 @@ pub record IsKeptText (text : List ℕ) : Type 0 where
 pub record IsRefusedText (text : List ℕ) (a : Answer) : Type 0 where
   pub refusal : Refusal
   pub breaks : BreaksOne text refusal
-  pub answer : Refuses refusal a
+  pub answer : AnswersRefusal refusal a
 
 -- what comes of a text
 abbrev pub RunAnswer : Stream → Reports → Show → ℕ → Limits → List ℕ → Answer → Type 0

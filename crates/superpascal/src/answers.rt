@@ -1,7 +1,7 @@
 //! Answers without a run.
 
 ghost use Rattle.std.specs.Prelude.{◌≡◌};
-ghost use Rattle.superpascal.specs.Answering.{Refuses, halted, unloaded};
+ghost use Rattle.superpascal.specs.Answering.{AnswersRefusal, halted, unloaded};
 ghost use Rattle.superpascal.specs.Causes.{accepted, silent};
 
 use crate::ending::{Answer, Ending};
@@ -36,7 +36,7 @@ pub(crate) fn accepted(output: Vec<u8>, notes: Vec<u8>) -> Answer
 
 /// The answer to a text that breaks this rule first, or want of memory.
 pub(crate) fn refused(alloc: Global, refusal: Refusal) -> Answer
-    ensures { Refuses refusal result }
+    ensures { AnswersRefusal refusal result }
 {
     match refusal_line(alloc, refusal) {
         Ok(line) => Answer {

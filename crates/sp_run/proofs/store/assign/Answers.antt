@@ -1,6 +1,6 @@
 use Rattle.std.proofs.Common.{rules, ◌≡◌, refl, sym, ap, ◌∙◌, subst}
 use Rattle.sp_meaning.specs.Own.{Held, Tree, assigned}
-use Rattle.sp_run.specs.Comings.{Does, same}
+use Rattle.sp_run.specs.Comings.{Implements, same}
 use Rattle.sp_run.specs.Machines.{plain_held, store_of}
 use Rattle.sp_run.specs.Views.{plain_value, plain_loc, plain_address}
 use Rattle.sp_run.specs.Direct.{put}
@@ -12,4 +12,4 @@ returns c =
     let v = plain_value c.args.v.now in
     let s = store_of c.args.run.now c.args.machine.now.log in
     let e : plain_held c.in_ok-new.new ≡ assigned a (s (plain_loc c.args.a.now.spot)) (Tree v) = c.in_ok-new.ensures ∙ ap (λ h. assigned a h (Tree v)) (rw c.items.ensures at c.in_ok-held.ensures) in
-    subst (λ (h : Held). Does c.args.run.now c.args.who.now same c.args.machine.now c.put.result c.put.new.machine (put (plain_loc c.args.a.now.spot) h)) e (rw c.in_ok-at.ensures at c.put.ensures)
+    subst (λ (h : Held). Implements c.args.run.now c.args.who.now same c.args.machine.now c.put.result c.put.new.machine (put (plain_loc c.args.a.now.spot) h)) e (rw c.in_ok-at.ensures at c.put.ensures)

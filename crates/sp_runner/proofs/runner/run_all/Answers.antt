@@ -13,7 +13,7 @@ use Rattle.sp_runner.specs.Works.{IsRunOf, Left}
 use Rattle.sp_kernel.specs.Asks.{Steps}
 use Rattle.sp_kernel.specs.declared.kernel.Kernel.{Kernel}
 use Rattle.sp_room.specs.declared.seat.RoomSeat.{RoomSeat}
-use Rattle.sp_room.specs.History.{Runs}
+use Rattle.sp_room.specs.History.{LeadsTo}
 use Rattle.sp_room.specs.Ends.{object_of, notes_of}
 use Rattle.sp_runner.proofs.Ending.{ran_to, none_up, first_of, at_of}
 use Rattle.sp_runner.proofs.runner.run_all.Goals as goal
@@ -64,7 +64,7 @@ returns g c =
     let up : y.abandons ≡ 0 = ap (λ (z : Kernel). z.abandons) (sym c.object.ensures) ∙ none_up c.object.result.now.abandons (sym c.gave_up.ensures ∙ c.if-gave_up.false) in
     record {
       ran = ran_to x c.requires.run.opening log y
-          (subst (λ (z : Kernel). Runs Steps z log y) c.in-Ok.ensures.opening c.close-settled.ensures.legal)
+          (subst (λ (z : Kernel). LeadsTo Steps z log y) c.in-Ok.ensures.opening c.close-settled.ensures.legal)
           (seen_by f.0) (c.close-settled.ensures.seen 0 f.0 (ap (λ l. slice_get l 0) c.of.ensures ∙ f.1)) left up;
       kept = up;
       calls = λ w l.

@@ -4,7 +4,7 @@ use Rattle.sp_machine.specs.Answers.{resumed}
 use Rattle.sp_machine.specs.declared.proc.Answer.TheVariants as answer
 use Rattle.std.proofs.Common.{List, slice_get}
 use Rattle.sp_kernel.specs.declared.slot.Slot.{Slot}
-use Rattle.sp_kernel.specs.Receives.{Gives}
+use Rattle.sp_kernel.specs.Receives.{IsSenderWith}
 use Rattle.sp_kernel.specs.Procs.{config_of}
 use Rattle.sp_kernel.proofs.kernel.Kernel.receive_second.Goals as goal
 
@@ -14,7 +14,7 @@ returns-clause-ok c =
       c.resume.new.self,
       c.fetch-cells.ensures.given.0,
       c.fetch-cells.result,
-      subst (λ (l : List Slot). Gives (slice_get l c.args.other) c.fetch-cells.ensures.given.0 c.fetch-cells.result) e c.fetch-cells.ensures.given.1,
+      subst (λ (l : List Slot). IsSenderWith (slice_get l c.args.other) c.fetch-cells.ensures.given.0 c.fetch-cells.result) e c.fetch-cells.ensures.given.1,
       (
         ap config_of c.resume.ensures ∙ (λ i. config_of (resumed (answer.Received c.fetch-cells.result) (c.enter.ensures.state i))),
         ap (λ (p : Proc). p.number) c.resume.ensures ∙ ap (λ (p : Proc). p.number) c.enter.ensures.state,

@@ -1,6 +1,6 @@
 use Rattle.std.proofs.Common.{ap, subst, sym, ◌∙◌, ◌≡◌, ◌≤◌, ℕ, Some, List, length, slice_get}
 use Rattle.sp_room.specs.Seats.{IsSeatAt, seat_table, seen_by, opening_of}
-use Rattle.sp_room.specs.History.{StartsWith, Runs, notes_by}
+use Rattle.sp_room.specs.History.{StartsWith, LeadsTo, notes_by}
 use Rattle.sp_room.proofs.seat.Room.close.Goals as goal
 
 pub gather-requires-clause-all : goal.gather-requires-clause-all
@@ -9,8 +9,8 @@ gather-requires-clause-all g c = subst (λ (l : List _). (k : ℕ) (t : _) → s
 
 pub returns-clause-legal : goal.returns-clause-legal
 returns-clause-legal g c = let notes = c.of-notes.ensures ∙ ap (λ d. d.notes.items) c.into_inner-object.ensures in
-    subst (λ (z : List _). Runs g.K.Kept.steps (opening_of c.args.self) z c.into_inner-object.result.object) (sym notes)
-    (subst (λ z. Runs g.K.Kept.steps (opening_of c.args.self) c.gather.result.value.notes.items z) (sym (ap (λ d. d.object) c.into_inner-object.ensures)) c.gather.ensures.legal)
+    subst (λ (z : List _). LeadsTo g.K.Kept.steps (opening_of c.args.self) z c.into_inner-object.result.object) (sym notes)
+    (subst (λ z. LeadsTo g.K.Kept.steps (opening_of c.args.self) c.gather.result.value.notes.items z) (sym (ap (λ d. d.object) c.into_inner-object.ensures)) c.gather.ensures.legal)
 
 pub returns-clause-own : goal.returns-clause-own
 returns-clause-own g c = let notes = c.of-notes.ensures ∙ ap (λ d. d.notes.items) c.into_inner-object.ensures in

@@ -4,7 +4,7 @@ use Rattle.sp_tree.specs.PlainChecked.{Binary, Apply, Standard}
 use Rattle.sp_tree.specs.Bare.{bare_expression, bare_actuals}
 use Rattle.sp_tree.specs.CheckedOf.{expression_of, expression_form_of, selector_of, selectors, actual_of, actuals, expressions}
 use Rattle.sp_tree.specs.Plain.{Actuals}
-use Rattle.sp_tree.specs.Uses.{Runs, In_expr, In_actuals}
+use Rattle.sp_tree.specs.Uses.{CallOf, In_expr, In_actuals}
 use Rattle.sp_varsets.proofs.Adding.{adds_nothing, ok_then, selectors_on, selectors_end, actuals_on, actuals_end, select_adds, pass_adds, none_in}
 use Rattle.sp_varsets.proofs.uses.Uses.+uses.Goals as goal
 
@@ -21,7 +21,7 @@ form-returns-in_ok-run-in-Call t c =
     let args : Actuals = bare_actuals (actuals (map actual_of c.in-Call.args)) in
     let e1 = c.in_ok-run-in-Call.ensures args in
     let e2 = rw c.items.ensures at c.actuals.ensures in
-    rw i (ok_then c.actuals.result c.args.self.now c.run.new.self c.actuals.new.self (λ u. u ≡ Runs c.in-Call.f args) (In_actuals args) e1 e2)
+    rw i (ok_then c.actuals.result c.args.self.now c.run.new.self c.actuals.new.self (λ u. u ≡ CallOf c.in-Call.f args) (In_actuals args) e1 e2)
 
 pub form-returns-in-None : goal.form-returns-in-None
 form-returns-in-None t c =
