@@ -1,16 +1,14 @@
 //! Cutting bytes, and the numbers and faults that they write.
 
-ghost use Rattle.std.specs.Prelude.{◌≡◌, ◌<◌, ◌^◌, ℕ, Some, find, decimal};
-ghost use Rattle.std.specs.Option.{option_map};
-ghost use Rattle.std.specs.Str.{IsAscii, bytes_eq};
-ghost use Rattle.sp_base.specs.Faults.{fault_name};
-ghost use Rattle.sp_journal.specs.Splits.{first_split, last_split, all_faults};
+ghost use Rattle.std.specs.Prelude.{◌≡◌, ◌<◌, ◌^◌, ℕ, Some, decimal};
+ghost use Rattle.std.specs.Str.{IsAscii};
+ghost use Rattle.sp_journal.specs.Splits.{fault_named, first_split, last_split, parts_in};
 
 use sp_base::Fault;
 
 /// What stands before and after the first of these bytes.
 pub(crate) fn split_first(text: &[u8], mark: u8) -> Option<(&[u8], &[u8])>
-    ensures { option_map (λ p. (p.0.now, p.1.now)) result ≡ first_split mark text.now }
+    ensures { parts_in result ≡ first_split mark text.now }
 {
     for (at, byte) in text.iter().enumerate() {
         if *byte == mark {
@@ -22,7 +20,7 @@ pub(crate) fn split_first(text: &[u8], mark: u8) -> Option<(&[u8], &[u8])>
 
 /// What stands before and after the last of these bytes.
 pub(crate) fn split_last(text: &[u8], mark: u8) -> Option<(&[u8], &[u8])>
-    ensures { option_map (λ p. (p.0.now, p.1.now)) result ≡ last_split mark text.now }
+    ensures { parts_in result ≡ last_split mark text.now }
 {
     for at in (0..text.len()).rev() {
         if text[at] == mark {
@@ -73,7 +71,7 @@ const FAULTS: [Fault; 18] = [
 
 /// The fault of which these bytes are the name.
 pub(crate) fn fault(text: &[u8]) -> Option<Fault>
-    ensures { result ≡ find (λ f. bytes_eq (fault_name f) text.now) all_faults }
+    ensures { result ≡ fault_named text.now }
 {
     FAULTS
         .iter()
