@@ -12,6 +12,8 @@ mod interference;
 #[cfg(test)]
 mod large;
 #[cfg(test)]
+mod layouts;
+#[cfg(test)]
 mod names;
 #[cfg(test)]
 mod phases;
@@ -19,5 +21,7 @@ mod phases;
 mod statements;
 #[cfg(test)]
 mod tokens;
+#[cfg(test)]
+mod trees;
 #[cfg(test)]
 mod types;

@@ -5,8 +5,6 @@ mod code;
 mod instr;
 pub mod laws;
 mod lines;
-#[cfg(test)]
-mod tests;
 mod words;
 
 pub use code::{ChildTable, Code, ForkTable, Formal, Layout, MAX_CODE, MAX_FRAME, Parts};

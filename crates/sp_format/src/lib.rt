@@ -6,8 +6,6 @@ mod context;
 mod kinds;
 mod law;
 mod put;
-#[cfg(test)]
-mod tests;
 
 pub use canonical::format;
 pub use law::{items_kept, one_canonical_text, one_layout, one_tree_but_for_places};

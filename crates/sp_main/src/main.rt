@@ -2,9 +2,8 @@
 #![tactic(auto)]
 
 ghost use Rattle.std.specs.Prelude.{◌≡◌, ◌∷◌, [], All, IfOk, codes, filter, map};
-ghost use Rattle.std.specs.List.{flat_map};
 ghost use Rattle.std.specs.String.{string_bytes};
-ghost use Rattle.sp_report.specs.Telling.{is_chosen};
+ghost use Rattle.sp_report.specs.Telling.{AreFresh, reports};
 ghost use Rattle.superpascal.specs.declared.outcome.Outcome.{Outcome};
 ghost use Rattle.superpascal.specs.Calls.{IsAnswered, call, sink};
 ghost use Rattle.superpascal.specs.Causes.{files, stream};
@@ -79,8 +78,8 @@ fn in_order(
     requires second { (told census ≡ []) × (title census ≡ codes "census") }
     requires third { (told tree ≡ []) × (title tree ≡ codes "tree") }
     requires fourth { (told waiting ≡ []) × (title waiting ≡ codes "waiting") }
-    ensures fresh { IfOk result (λ ws. All (λ w. told w ≡ []) ws.items) }
-    ensures order { IfOk result (λ ws. map (λ w. title w) ws.items
+    ensures fresh { IfOk result (λ ws. AreFresh told ws.items) }
+    ensures order { IfOk result (λ ws. map title ws.items
         ≡ codes "timeline" ∷ codes "census" ∷ codes "tree" ∷ codes "waiting" ∷ []) }
 {
     Ok(vec![in alloc; timeline, census, tree, waiting]?)
@@ -97,11 +96,11 @@ fn called<R: Threads + Wait + Sync, L: Library, I: Source, O: Sink, N: Sink>(
     notes: &mut N,
     watchers: Vec<Box<dyn Watcher>>,
 ) -> u8
-    requires fresh { All (λ w. told w ≡ []) watchers.items }
+    requires fresh { AreFresh told watchers.items }
     ensures { (outcome : Outcome) × (outcome.status ≡ result) × IsAnswered (call (map string_bytes words.now)
         (files (L.held library.old) (L.faults library.old) (L.faults library.new))
         (stream (I.left input.old) (I.left input.new) (I.faults input.old) (I.faults input.new))
-        (λ s es. flat_map (λ w. text w es) (filter (λ w. is_chosen s (title w)) watchers.items))
+        (reports text title watchers.items)
         (sink (O.written output.old) (O.written output.new) (O.faults output.old) (O.faults output.new))
         (sink (N.written notes.old) (N.written notes.new) (N.faults notes.old) (N.faults notes.new)) outcome) }
 {

@@ -3,7 +3,7 @@
 ghost use Rattle.std.specs.Prelude.{◌≡◌, ◌++◌, [], All, IfOk, OnOk, filter};
 ghost use Rattle.std.specs.List.{flat_map};
 ghost use Rattle.sp_journal.specs.Births.{IsNameable};
-ghost use Rattle.sp_report.specs.Telling.{is_chosen};
+ghost use Rattle.sp_report.specs.Telling.{AreFresh, is_chosen, reports};
 
 use crate::watcher::Watcher;
 use sp_base::{Memory, Show};
@@ -43,10 +43,9 @@ pub fn tell(
     journal: &Journal,
     show: Show,
 ) -> Result<Vec<u8>, Memory>
-    requires fresh { All (λ w. told w ≡ []) watchers.items }
+    requires fresh { AreFresh told watchers.items }
     requires nameable { IsNameable journal.now }
-    ensures { IfOk result (λ out. out.items
-        ≡ flat_map (λ w. text w journal.now.entries) (filter (λ w. is_chosen show (title w)) watchers.items)) }
+    ensures { IfOk result (λ out. out.items ≡ reports text title watchers.items show journal.now.entries) }
 {
     let mut out = Vec::new(alloc);
     for watcher in watchers {

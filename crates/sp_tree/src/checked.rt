@@ -231,33 +231,3 @@ pub struct Arm {
     pub constants: List<i64>,
     pub body: Stmt,
 }
-
-#[cfg(test)]
-mod tests {
-    use super::*;
-    use std::test::Fail;
-
-    fn number(n: i64, column: u32) -> Expr {
-        Expr {
-            at: Place { line: 1, column },
-            kind: 0,
-            form: ExprForm::Number(n),
-        }
-    }
-
-    #[test]
-    fn takes_an_expression_apart(rt: HostRuntime) -> Result<(), Fail> {
-        let a = Boxed::new(rt.alloc(), number(1, 3))?;
-        let b = Boxed::new(rt.alloc(), number(2, 5))?;
-        let sum = Expr {
-            at: Place { line: 1, column: 3 },
-            kind: 0,
-            form: ExprForm::Binary(BinaryOp::Add, a, b),
-        };
-        let (place, number, form) = sum.parts();
-        assert_eq!(rt; place, Place { line: 1, column: 3 });
-        assert_eq!(rt; number, 0);
-        assert!(rt; matches!(&form, ExprForm::Binary(BinaryOp::Add, _, _)));
-        Ok(())
-    }
-}

@@ -114,24 +114,3 @@ pub fn breaks_if(rule: Rule, at: Place, broken: bool) -> Found
         None
     }
 }
-
-#[cfg(test)]
-mod tests {
-    use super::*;
-
-    #[test]
-    fn takes_the_earlier_place_and_then_the_earlier_row(rt: HostRuntime) {
-        let at = Place { line: 1, column: 5 };
-        let later = Place { line: 1, column: 6 };
-        let n3 = Refusal { rule: Rule::N3, at };
-        let n5 = Refusal { rule: Rule::N5, at };
-        let n1 = Refusal {
-            rule: Rule::N1,
-            at: later,
-        };
-        assert_eq!(rt; lesser(Some(n5), Some(n3)), Some(n3));
-        assert_eq!(rt; lesser(Some(n5), Some(n1)), Some(n5));
-        assert_eq!(rt; lesser(None, Some(n1)), Some(n1));
-        assert_eq!(rt; lesser(Some(n1), None), Some(n1));
-    }
-}

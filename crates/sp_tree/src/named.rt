@@ -233,26 +233,3 @@ pub struct NamedArm {
 pub struct NamedBranch {
     pub statements: List<NamedStmt>,
 }
-
-#[cfg(test)]
-mod tests {
-    use super::*;
-    use std::test::Fail;
-
-    #[test]
-    fn takes_a_named_expression_apart(rt: HostRuntime) -> Result<(), Fail> {
-        let place = Place { line: 1, column: 3 };
-        let zero = NamedExpr {
-            at: place,
-            form: NamedExprForm::Constant(0),
-        };
-        let not = NamedExpr {
-            at: place,
-            form: NamedExprForm::Unary(UnaryOp::Not, Boxed::new(rt.alloc(), zero)?),
-        };
-        let (at, form) = not.parts();
-        assert_eq!(rt; at, place);
-        assert!(rt; matches!(&form, NamedExprForm::Unary(UnaryOp::Not, _)));
-        Ok(())
-    }
-}

@@ -22,6 +22,7 @@ use Rattle.superpascal.specs.Answers.{has_output, line_of, notes_by, notes_of, o
 use Rattle.superpascal.specs.Calls.{All, Call, Exactly, Failed, IsAnswered, IsOutside, IsUnwritten, OfInput, OfRun, OfText, Part, Writes}
 use Rattle.superpascal.specs.Causes.{Cause, by_words, before_words, by_command, Files, HasGenerated, HasMade, HasRun, IsNotLoaded, IsNotRead, IsRefusedFor, IsTold, IsTooLong, IsTooMuch, IsUntouched, ReadsAfterRules, Stream, accepted, refused, silent}
 use Rattle.superpascal.specs.Headline.{Headline, IsMeant, Prints, SaysRefusal}
+use Rattle.superpascal.specs.Promise.{Promise}
 use Rattle.superpascal.specs.Runs.{IsRunOf, Reports, ending_of, generated_answer, generated_output, run_answer, run_notes}
 use Rattle.superpascal.specs.Statuses.{InputIsTooLong, IsQuiet, IsRunOfWords, ReadsFail, Statuses}
 use Rattle.superpascal.specs.Texts.{Asked, Breaks, BreaksOne, IsAbout, IsDisjointText, Keeps, KeepsAll, Makes, asks, asks_all, asks_text, text_of}
@@ -555,3 +556,7 @@ module _ (c : Call) (k : IsAnswered c) (l : Laws) where
           go : (notes_by ending k.answer.notes ≡ line_of ending) ⊎ ((r : Refusal) × (k.answer ≡ refused r)) → WritesLine c
           go (inl h) = (ending, i, n, subst (All c.notes) h m)
           go (inr (r, h)) = (e.Refused r, i ∙ ap (λ (z : Answer). status_of z.ending) h, refl, subst (All c.notes) (ap notes_of h) m)
+
+-- all that the top call promises
+pub promise : (c : Call) → IsAnswered c → Laws → Promise c
+promise c k l = record { headline = headline c k l; statuses = statuses c k l; writing = writing c k l; answered = k }

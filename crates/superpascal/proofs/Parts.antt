@@ -68,8 +68,9 @@ module _ (f : Files) (d : Command) (name : List ℕ) (about : IsAbout d name) (a
   refuses r b (inl h) = inr (inl (record { refusal = r; breaks = b; answer = h }))
   refuses r b (inr h) = inr (inr (inr h))
 
-  pub text_refused : (text : List ℕ) (r : Refusal) → IsTold (f.held name) text → IsMade d text (Err (halt.Refused r)) → AnswersRefusal r a → TextCause f d a
-  text_refused text r t b h = refuses r (to_text (λ o. IfSome o (λ x. Breaks d x r)) (when_told (λ x. Breaks d x r) (f.held name) text t b)) h
+  pub text_halted : (text : List ℕ) (h : Halt) → IsTold (f.held name) text → IsMade d text (Err h) → halted h a → TextCause f d a
+  text_halted text (halt.Refused r) t b h = refuses r (to_text (λ o. IfSome o (λ x. Breaks d x r)) (when_told (λ x. Breaks d x r) (f.held name) text t b)) h
+  text_halted text halt.Memory t b h = inr (inr (inr h))
 
   -- a text that the library does not give
   pub text_unloaded : (X : Type 0) (error : LoadError)
@@ -177,8 +178,9 @@ pub generated_told : (size workers : ℕ) (input : List ℕ) (lim : Limits) (r :
 generated_told size workers input lim r a h i k m =
     generated_ran size workers r a (subst (λ (z : List ℕ × Limits). IsRunOf (generated_text size) z.0 workers z.1 r) (λ j. (h j, i j)) k) m
 
-pub generated_refused : (size workers : ℕ) (text : List ℕ) (r : Refusal) (a : Answer) → text ≡ generated_text size → BreaksOne text r → AnswersRefusal r a → GeneratedCause size workers a
-generated_refused size workers text r a h b k = inr (inl (record { refusal = r; breaks = subst (λ (x : List ℕ). BreaksOne x r) h b; answer = k }))
+pub generated_halted : (size workers : ℕ) (text : List ℕ) (h : Halt) (a : Answer) → text ≡ generated_text size → Codes text (Err h) → halted h a → GeneratedCause size workers a
+generated_halted size workers text (halt.Refused r) a i b k = inr (inl (record { refusal = r; breaks = subst (λ (x : List ℕ). BreaksOne x r) i b; answer = k }))
+generated_halted size workers text halt.Memory a i b k = inr (inr k)
 
 pub command_of_generated : (f : Files) (s : Stream) (reports : Reports) (size workers : ℕ) (a : Answer) → IsUntouched s → GeneratedCause size workers a → CommandCause f s reports (command.Gen size workers) a
 command_of_generated f s reports size workers a u (inl h) = (by_generated size workers refl h, inl u)

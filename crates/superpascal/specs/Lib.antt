@@ -3,6 +3,7 @@ pub mod Answers
 pub mod Calls
 pub mod Causes
 pub mod Headline
+pub mod Promise
 pub mod Runs
 pub mod Statuses
 pub mod Texts

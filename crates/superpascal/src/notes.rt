@@ -1,9 +1,8 @@
 //! What is told of a run.
 
 ghost use Rattle.std.specs.Prelude.{◌≡◌, ◌++◌, [], All, IfOk, OnOk, filter};
-ghost use Rattle.std.specs.List.{flat_map};
 ghost use Rattle.sp_print.specs.Lines.{HasLines};
-ghost use Rattle.sp_report.specs.Telling.{is_chosen};
+ghost use Rattle.sp_report.specs.Telling.{AreFresh, reports};
 ghost use Rattle.superpascal.specs.Answering.{IsTellable};
 ghost use Rattle.superpascal.specs.Runs.{end_lines, ending_of, generated_output, is_journal, run_notes};
 
@@ -51,10 +50,10 @@ fn told_notes(
     show: Show,
     ran: &Ran,
 ) -> Result<Vec<u8>, Memory>
-    requires fresh { All (λ w. told w ≡ []) watchers.items }
+    requires fresh { AreFresh told watchers.items }
     requires tellable { IsTellable ran.now }
     ensures { IfOk result (λ notes. notes.items
-        ≡ end_lines ran.now ++ flat_map (λ w. text w ran.now.closed.journal.entries) (filter (λ w. is_chosen show (title w)) watchers.items)) }
+        ≡ end_lines ran.now ++ reports text title watchers.items show ran.now.closed.journal.entries) }
 {
     let mut notes = end_lines(alloc, ran)?;
     let reports = tell(alloc, watchers, ran.closed.journal(), show)?;
@@ -69,10 +68,10 @@ pub(crate) fn run_notes(
     show: Show,
     ran: &Ran,
 ) -> Result<Vec<u8>, Memory>
-    requires fresh { All (λ w. told w ≡ []) watchers.items }
+    requires fresh { AreFresh told watchers.items }
     requires tellable { IsTellable ran.now }
     ensures { IfOk result (λ notes. notes.items
-        ≡ run_notes (λ s es. flat_map (λ w. text w es) (filter (λ w. is_chosen s (title w)) watchers.items)) show ran.now) }
+        ≡ run_notes (reports text title watchers.items) show ran.now) }
 {
     if is_journal(show) {
         return print_journal(alloc, ran.closed.journal());

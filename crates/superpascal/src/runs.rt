@@ -1,10 +1,9 @@
 //! The commands that run a program.
 
 ghost use Rattle.std.specs.Prelude.{◌≡◌, ℕ, ◌≤◌, List, [], All, IfOk, filter};
-ghost use Rattle.std.specs.List.{flat_map};
 ghost use Rattle.sp_base.specs.declared.limits.Limits.{Limits as ALimits};
 ghost use Rattle.sp_gen.specs.Generated.{generated_text};
-ghost use Rattle.sp_report.specs.Telling.{is_chosen};
+ghost use Rattle.sp_report.specs.Telling.{AreFresh, reports};
 ghost use Rattle.sp_tree.specs.PlainChecked.{Program as Checked};
 ghost use Rattle.sp_words.specs.Ranges.{IsInRange};
 ghost use Rattle.superpascal.specs.Answering.{CodeAnswer, CommandCause, GeneratedAnswer, GeneratedCause, InputAnswer, RanAnswer, RunAnswer};
@@ -12,11 +11,11 @@ ghost use Rattle.superpascal.specs.Causes.{files, stream};
 ghost use Rattle.superpascal.specs.Runs.{HasCode, IsRunOf};
 ghost use Rattle.superpascal.specs.Texts.{asked, asks};
 
-use crate::answers::{halted, refused, silent, unloaded};
+use crate::answers::{halted, silent, unloaded};
 use crate::ending::{Answer, Ending};
 use crate::notes::{ending_of, generated_output, run_notes};
 use crate::texts::LONGEST;
-use sp_base::{Halt, Limits, Memory, Show, Text};
+use sp_base::{Limits, Memory, Show, Text};
 use sp_code::Code;
 use sp_compile::compiled_apart;
 use sp_execute::{Ran, execute};
@@ -54,9 +53,9 @@ fn run_code<R: Threads + Wait + Sync, G: Gate>(
 
 // Tells of a run.
 fn ran_answer(alloc: Global, watchers: Vec<Box<dyn Watcher>>, show: Show, ran: Ran) -> Answer
-    requires fresh { All (λ w. told w ≡ []) watchers.items }
+    requires fresh { AreFresh told watchers.items }
     requires run { (program : List ℕ) × (input : List ℕ) × (workers : ℕ) × (limits : ALimits) × IsRunOf program input workers limits ran }
-    ensures { RanAnswer (λ s es. flat_map (λ w. text w es) (filter (λ w. is_chosen s (title w)) watchers.items)) show ran result }
+    ensures { RanAnswer (reports text title watchers.items) show ran result }
 {
     match run_notes(alloc, watchers, show, &ran) {
         Ok(notes) => Answer {
@@ -81,11 +80,11 @@ fn code_answer<R: Threads + Wait + Sync, G: Gate>(
     gate: &G,
     watchers: Vec<Box<dyn Watcher>>,
 ) -> Answer
-    requires fresh { All (λ w. told w ≡ []) watchers.items }
+    requires fresh { AreFresh told watchers.items }
     requires range { IsInRange workers limits.now }
     requires code { (program : List ℕ) × (tree : Checked) × HasCode program tree code }
     ensures { (program : List ℕ) (tree : Checked) → HasCode program tree code
-        → CodeAnswer (λ s es. flat_map (λ w. text w es) (filter (λ w. is_chosen s (title w)) watchers.items)) show workers limits.now program input result }
+        → CodeAnswer (reports text title watchers.items) show workers limits.now program input result }
 {
     match run_code(rt, alloc, code, input, workers, limits, gate) {
         Ok(ran) => ran_answer(alloc, watchers, show, ran),
@@ -105,12 +104,12 @@ fn input_answer<R: Threads + Wait + Sync, I: Source, G: Gate>(
     gate: &G,
     watchers: Vec<Box<dyn Watcher>>,
 ) -> Answer
-    requires fresh { All (λ w. told w ≡ []) watchers.items }
+    requires fresh { AreFresh told watchers.items }
     requires range { IsInRange workers limits.now }
     requires code { (program : List ℕ) × (tree : Checked) × HasCode program tree code }
     ensures { (program : List ℕ) (tree : Checked) → HasCode program tree code
         → InputAnswer (stream (I.left input.old) (I.left input.new) (I.faults input.old) (I.faults input.new))
-        (λ s es. flat_map (λ w. text w es) (filter (λ w. is_chosen s (title w)) watchers.items)) show workers limits.now program result }
+        (reports text title watchers.items) show workers limits.now program result }
 {
     match read_all(alloc, input, LONGEST_INPUT) {
         Ok(bytes) => code_answer(
@@ -134,10 +133,10 @@ fn program_answer<R: Threads + Wait + Sync, I: Source, G: Gate>(
     gate: &G,
     watchers: Vec<Box<dyn Watcher>>,
 ) -> Answer
-    requires fresh { All (λ w. told w ≡ []) watchers.items }
+    requires fresh { AreFresh told watchers.items }
     requires range { IsInRange workers limits.now }
     ensures { RunAnswer (stream (I.left input.old) (I.left input.new) (I.faults input.old) (I.faults input.new))
-        (λ s es. flat_map (λ w. text w es) (filter (λ w. is_chosen s (title w)) watchers.items)) show workers limits.now program.now result }
+        (reports text title watchers.items) show workers limits.now program.now result }
 {
     match compiled_apart(rt, alloc, program) {
         Ok(compiled) => input_answer(
@@ -168,11 +167,11 @@ pub(crate) fn run_answer<R: Threads + Wait + Sync, L: Library, I: Source, G: Gat
     gate: &G,
     watchers: Vec<Box<dyn Watcher>>,
 ) -> Answer
-    requires fresh { All (λ w. told w ≡ []) watchers.items }
+    requires fresh { AreFresh told watchers.items }
     requires range { IsInRange workers limits.now }
     ensures { CommandCause (files (L.held library.old) (L.faults library.old) (L.faults library.new))
         (stream (I.left input.old) (I.left input.new) (I.faults input.old) (I.faults input.new))
-        (λ s es. flat_map (λ w. text w es) (filter (λ w. is_chosen s (title w)) watchers.items))
+        (reports text title watchers.items)
         (asks (asked file.now workers limits.now show)) result }
 {
     match library.load(alloc, file, LONGEST) {
@@ -246,7 +245,6 @@ pub(crate) fn generated_answer<R: Threads + Wait + Sync, G: Gate>(
     };
     match compiled_apart(rt, alloc, text.as_slice()) {
         Ok(compiled) => generated_code(rt, alloc, size, compiled.into_code(), workers, gate),
-        Err(Halt::Refused(refusal)) => refused(alloc, refusal),
-        Err(Halt::Memory) => silent(alloc, Ending::OutOfMemory),
+        Err(halt) => halted(alloc, halt),
     }
 }

@@ -6,8 +6,8 @@ ghost use Rattle.superpascal.specs.Answering.{IsMade, TextCause};
 ghost use Rattle.superpascal.specs.Causes.{files};
 ghost use Rattle.superpascal.specs.Texts.{IsAbout, asks_text};
 
-use crate::answers::{accepted, refused, silent, unloaded};
-use crate::ending::{Answer, Ending};
+use crate::answers::{accepted, halted, unloaded};
+use crate::ending::Answer;
 use sp_base::Halt;
 use sp_code::listing;
 use sp_compile::compiled_apart;
@@ -88,8 +88,7 @@ pub(crate) fn text_answer<L: Library>(
     match library.load(alloc, file, LONGEST) {
         Ok(text) => match make(rt, alloc, command, text.as_slice()) {
             Ok(answer) => answer,
-            Err(Halt::Refused(refusal)) => refused(alloc, refusal),
-            Err(Halt::Memory) => silent(alloc, Ending::OutOfMemory),
+            Err(halt) => halted(alloc, halt),
         },
         Err(error) => unloaded(alloc, error),
     }

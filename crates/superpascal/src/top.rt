@@ -1,16 +1,13 @@
 //! The top call.
 
 ghost use Rattle.std.specs.Prelude.{◌≡◌, List, ℕ, [], All, Some, filter, map};
-ghost use Rattle.std.specs.List.{flat_map};
 ghost use Rattle.std.specs.String.{string_bytes};
-ghost use Rattle.sp_report.specs.Telling.{is_chosen};
+ghost use Rattle.sp_report.specs.Telling.{AreFresh, reports};
 ghost use Rattle.sp_words.specs.Words.{command_of};
 ghost use Rattle.superpascal.specs.Answering.{CommandCause};
 ghost use Rattle.superpascal.specs.Calls.{IsAnswered, call, sink};
 ghost use Rattle.superpascal.specs.Causes.{Cause, files, stream};
-ghost use Rattle.superpascal.specs.Headline.{Headline};
-ghost use Rattle.superpascal.specs.Statuses.{Statuses};
-ghost use Rattle.superpascal.specs.Writing.{Writing};
+ghost use Rattle.superpascal.specs.Promise.{Promise};
 
 use crate::answers::silent;
 use crate::ending::{Answer, Ending};
@@ -39,11 +36,11 @@ fn command_answer<R: Threads + Wait + Sync, L: Library, I: Source, G: Gate>(
     gate: &G,
     watchers: Vec<Box<dyn Watcher>>,
 ) -> Answer
-    requires fresh { All (λ w. told w ≡ []) watchers.items }
+    requires fresh { AreFresh told watchers.items }
     requires asked { (words : List (List ℕ)) × (command_of words ≡ Some command.now) }
     ensures { CommandCause (files (L.held library.old) (L.faults library.old) (L.faults library.new))
         (stream (I.left input.old) (I.left input.new) (I.faults input.old) (I.faults input.new))
-        (λ s es. flat_map (λ w. text w es) (filter (λ w. is_chosen s (title w)) watchers.items)) command.now result }
+        (reports text title watchers.items) command.now result }
 {
     accepted_options_are_in_range();
     match command {
@@ -80,10 +77,10 @@ fn answer<R: Threads + Wait + Sync, L: Library, I: Source, G: Gate>(
     gate: &G,
     watchers: Vec<Box<dyn Watcher>>,
 ) -> Answer
-    requires fresh { All (λ w. told w ≡ []) watchers.items }
+    requires fresh { AreFresh told watchers.items }
     ensures { Cause (files (L.held library.old) (L.faults library.old) (L.faults library.new))
         (stream (I.left input.old) (I.left input.new) (I.faults input.old) (I.faults input.new))
-        (λ s es. flat_map (λ w. text w es) (filter (λ w. is_chosen s (title w)) watchers.items))
+        (reports text title watchers.items)
         (command_of (map string_bytes words.now)) result }
 {
     match read_words(alloc, words) {
@@ -105,11 +102,11 @@ fn answer_and_write<R: Threads + Wait + Sync, L: Library, I: Source, O: Sink, N:
     gate: &G,
     watchers: Vec<Box<dyn Watcher>>,
 ) -> Outcome
-    requires fresh { All (λ w. told w ≡ []) watchers.items }
+    requires fresh { AreFresh told watchers.items }
     ensures { IsAnswered (call (map string_bytes words.now)
         (files (L.held library.old) (L.faults library.old) (L.faults library.new))
         (stream (I.left input.old) (I.left input.new) (I.faults input.old) (I.faults input.new))
-        (λ s es. flat_map (λ w. text w es) (filter (λ w. is_chosen s (title w)) watchers.items))
+        (reports text title watchers.items)
         (sink (O.written output.old) (O.written output.new) (O.faults output.old) (O.faults output.new))
         (sink (N.written notes.old) (N.written notes.new) (N.faults notes.old) (N.faults notes.new)) result) }
 {
@@ -159,29 +156,11 @@ pub fn superpascal<R: Threads + Wait + Sync, L: Library, I: Source, O: Sink, N: 
     gate: &G,
     watchers: Vec<Box<dyn Watcher>>,
 ) -> Outcome
-    requires fresh { All (λ w. told w ≡ []) watchers.items }
-    ensures headline { Headline (call (map string_bytes words.now)
+    requires fresh { AreFresh told watchers.items }
+    ensures { Promise (call (map string_bytes words.now)
         (files (L.held library.old) (L.faults library.old) (L.faults library.new))
         (stream (I.left input.old) (I.left input.new) (I.faults input.old) (I.faults input.new))
-        (λ s es. flat_map (λ w. text w es) (filter (λ w. is_chosen s (title w)) watchers.items))
-        (sink (O.written output.old) (O.written output.new) (O.faults output.old) (O.faults output.new))
-        (sink (N.written notes.old) (N.written notes.new) (N.faults notes.old) (N.faults notes.new)) result) }
-    ensures statuses { Statuses (call (map string_bytes words.now)
-        (files (L.held library.old) (L.faults library.old) (L.faults library.new))
-        (stream (I.left input.old) (I.left input.new) (I.faults input.old) (I.faults input.new))
-        (λ s es. flat_map (λ w. text w es) (filter (λ w. is_chosen s (title w)) watchers.items))
-        (sink (O.written output.old) (O.written output.new) (O.faults output.old) (O.faults output.new))
-        (sink (N.written notes.old) (N.written notes.new) (N.faults notes.old) (N.faults notes.new)) result) }
-    ensures writing { Writing (call (map string_bytes words.now)
-        (files (L.held library.old) (L.faults library.old) (L.faults library.new))
-        (stream (I.left input.old) (I.left input.new) (I.faults input.old) (I.faults input.new))
-        (λ s es. flat_map (λ w. text w es) (filter (λ w. is_chosen s (title w)) watchers.items))
-        (sink (O.written output.old) (O.written output.new) (O.faults output.old) (O.faults output.new))
-        (sink (N.written notes.old) (N.written notes.new) (N.faults notes.old) (N.faults notes.new)) result) }
-    ensures answered { IsAnswered (call (map string_bytes words.now)
-        (files (L.held library.old) (L.faults library.old) (L.faults library.new))
-        (stream (I.left input.old) (I.left input.new) (I.faults input.old) (I.faults input.new))
-        (λ s es. flat_map (λ w. text w es) (filter (λ w. is_chosen s (title w)) watchers.items))
+        (reports text title watchers.items)
         (sink (O.written output.old) (O.written output.new) (O.faults output.old) (O.faults output.new))
         (sink (N.written notes.old) (N.written notes.new) (N.faults notes.old) (N.faults notes.new)) result) }
 {

@@ -1,7 +1,7 @@
 //! The listing of worked code, and the readers of code, each once.
 
-use super::*;
 use sp_base::{List, Memory, Text};
+use sp_code::{ChildTable, Code, ForkTable, Instr, Parts, listing};
 use std::alloc::Global;
 use std::test::Fail;
 

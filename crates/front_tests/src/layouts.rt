@@ -1,5 +1,7 @@
-use crate::format;
+//! Canonical texts.
+
 use sp_base::{Halt, Place, Refusal, Rule};
+use sp_format::format;
 use sp_tree::MAX_TEXT;
 use std::alloc::{AllocError, Global};
 use std::test::Fail;

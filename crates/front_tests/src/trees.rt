@@ -1,0 +1,119 @@
+//! Nodes of the trees taken apart, a deep one dropped, and the lesser of two broken rules.
+
+use sp_base::{Boxed, List, Place, Refusal, Rule};
+use sp_tree::{
+    BinaryOp, Expr, ExprForm, NamedExpr, NamedExprForm, SynExpr, SynExprForm, SynForm, SynStmt,
+    UnaryOp, lesser,
+};
+use std::alloc::{AllocError, Global};
+use std::test::Fail;
+
+const PLACE: Place = Place { line: 1, column: 3 };
+
+fn number(n: u64) -> SynExpr {
+    SynExpr {
+        at: PLACE,
+        form: SynExprForm::Number(n),
+    }
+}
+
+fn sum(alloc: Global, left: SynExpr, right: SynExpr) -> Result<SynExpr, AllocError> {
+    let left = Boxed::new(alloc, left)?;
+    let right = Boxed::new(alloc, right)?;
+    Ok(SynExpr {
+        at: PLACE,
+        form: SynExprForm::Binary(BinaryOp::Add, left, right),
+    })
+}
+
+#[test]
+fn takes_a_sum_apart(rt: HostRuntime) -> Result<(), Fail> {
+    let (at, form) = sum(rt.alloc(), number(1), number(2))?.parts();
+    assert_eq!(rt; at, PLACE);
+    assert!(rt; matches!(&form, SynExprForm::Binary(BinaryOp::Add, _, _)));
+    Ok(())
+}
+
+#[test]
+fn drops_400000_operands(rt: HostRuntime) -> Result<(), Fail> {
+    let mut chain = number(0);
+    for _ in 0..400_000u32 {
+        chain = sum(rt.alloc(), chain, number(1))?;
+    }
+    drop(chain);
+    Ok(())
+}
+
+#[test]
+fn drops_1000000_statements(rt: HostRuntime) -> Result<(), Fail> {
+    let mut statements = List::new(rt.alloc());
+    for _ in 0..1_000_000u32 {
+        statements.push(SynStmt {
+            at: PLACE,
+            form: SynForm::Empty,
+        })?;
+    }
+    assert_eq!(rt; statements.len(), 1_000_000);
+    drop(SynStmt {
+        at: PLACE,
+        form: SynForm::Sequence(statements),
+    });
+    Ok(())
+}
+
+fn typed_number(n: i64, column: u32) -> Expr {
+    Expr {
+        at: Place { line: 1, column },
+        kind: 0,
+        form: ExprForm::Number(n),
+    }
+}
+
+#[test]
+fn takes_an_expression_apart(rt: HostRuntime) -> Result<(), Fail> {
+    let a = Boxed::new(rt.alloc(), typed_number(1, 3))?;
+    let b = Boxed::new(rt.alloc(), typed_number(2, 5))?;
+    let sum = Expr {
+        at: Place { line: 1, column: 3 },
+        kind: 0,
+        form: ExprForm::Binary(BinaryOp::Add, a, b),
+    };
+    let (place, number, form) = sum.parts();
+    assert_eq!(rt; place, Place { line: 1, column: 3 });
+    assert_eq!(rt; number, 0);
+    assert!(rt; matches!(&form, ExprForm::Binary(BinaryOp::Add, _, _)));
+    Ok(())
+}
+
+#[test]
+fn takes_a_named_expression_apart(rt: HostRuntime) -> Result<(), Fail> {
+    let place = Place { line: 1, column: 3 };
+    let zero = NamedExpr {
+        at: place,
+        form: NamedExprForm::Constant(0),
+    };
+    let not = NamedExpr {
+        at: place,
+        form: NamedExprForm::Unary(UnaryOp::Not, Boxed::new(rt.alloc(), zero)?),
+    };
+    let (at, form) = not.parts();
+    assert_eq!(rt; at, place);
+    assert!(rt; matches!(&form, NamedExprForm::Unary(UnaryOp::Not, _)));
+    Ok(())
+}
+
+#[test]
+fn takes_the_earlier_place_and_then_the_earlier_row(rt: HostRuntime) {
+    let at = Place { line: 1, column: 5 };
+    let later = Place { line: 1, column: 6 };
+    let n3 = Refusal { rule: Rule::N3, at };
+    let n5 = Refusal { rule: Rule::N5, at };
+    let n1 = Refusal {
+        rule: Rule::N1,
+        at: later,
+    };
+    assert_eq!(rt; lesser(Some(n5), Some(n3)), Some(n3));
+    assert_eq!(rt; lesser(Some(n5), Some(n1)), Some(n5));
+    assert_eq!(rt; lesser(None, Some(n1)), Some(n1));
+    assert_eq!(rt; lesser(Some(n1), None), Some(n1));
+}
