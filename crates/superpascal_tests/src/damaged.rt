@@ -1,0 +1,126 @@
+//! Texts that are cut or have a byte that no text has, and outputs that fail at each byte.
+
+use crate::calls::{ANSWER, Failing, NONE, ORDERED, RUN, call, expect, expect_given, source};
+use crate::workers::PIPE;
+use sp_base::List;
+use sp_outside::{MemorySource, OpenGate};
+use std::alloc::{AllocError, Global};
+use std::process::Abort;
+use std::sync::Wait;
+use std::test::Fail;
+use std::thread::Threads;
+
+// The line and the column behind this text.
+fn place_behind(text: &str) -> (u32, u32) {
+    let mut line = 1u32;
+    let mut column = 1u32;
+    for character in text.chars() {
+        if character == '\n' {
+            line = line.saturating_add(1);
+            column = 1;
+        } else {
+            column = column.saturating_add(1);
+        }
+    }
+    (line, column)
+}
+
+// The notes of a refusal at the place behind this text.
+fn refusal_behind(alloc: Global, rule: &str, text: &str) -> Result<String, AllocError> {
+    let (line, column) = place_behind(text);
+    format!(in alloc; "refused {rule} {line}:{column}\n")
+}
+
+// The pipeline with a mark behind each token but the last.
+const MARKED: &str =
+    "program~ pipe~;~\ntype~ chan~ =~ *~(~integer~)~;~ net~ =~ array~ [~0~..~3~]~ of~ chan~;~\nvar~ c~:~ net~;~ r~:~ integer~;~\nprocedure~ node~(~a~,~ b~:~ chan~)~;~\nvar~ x~:~ integer~;~\nbegin~ receive~(~a~,~ x~)~;~ send~(~b~,~ x~ +~ 1~)~ end~;~\nbegin~\n  open~(~c~[~0~]~,~ c~[~1~]~,~ c~[~2~]~,~ c~[~3~]~)~;~\n  parallel~ send~(~c~[~0~]~,~ 10~)~\n  |~ forall~ i~ :=~ 1~ to~ 3~ do~ node~(~c~[~i~-~1~]~,~ c~[~i~]~)~\n  |~ receive~(~c~[~3~]~,~ r~)~\n  end~;~\n  write~(~r~)~\nend~.";
+
+#[test]
+fn texts_that_are_cut(rt: HostRuntime) -> Result<(), Fail> {
+    let mut text = String::new(rt.alloc());
+    let mut cuts = 0u32;
+    for character in MARKED.chars() {
+        if character == '~' {
+            let notes = refusal_behind(rt.alloc(), "G2", &text)?;
+            expect(&rt, rt.alloc(), &RUN, &text, 1, "", &notes)?;
+            cuts = cuts.saturating_add(1);
+        } else {
+            text.push(character)?;
+        }
+    }
+    assert_eq!(rt; text.as_str(), PIPE);
+    assert_eq!(rt; cuts, 137);
+    Ok(())
+}
+
+// The text with the byte 0 in place of the character of this number.
+fn with_a_zero(alloc: Global, text: &str, at: u32) -> Result<String, AllocError> {
+    let mut zeroed = String::new(alloc);
+    let mut count = 0u32;
+    for character in text.chars() {
+        zeroed.push(if count == at { '\0' } else { character })?;
+        count = count.saturating_add(1);
+    }
+    Ok(zeroed)
+}
+
+// Which rule comes first depends on where the byte stands: of a name it may leave a reserved word.
+#[test]
+fn texts_with_a_zero(rt: HostRuntime) -> Result<(), Fail> {
+    for at in 0..327u32 {
+        let text = with_a_zero(rt.alloc(), PIPE, at)?;
+        let mut input = source(rt.alloc(), Vec::new(rt.alloc()));
+        let given = call(&rt, rt.alloc(), &RUN, &text, &mut input, NONE, &OpenGate)?;
+        assert_eq!(rt; given.status, 1, "{text}");
+        assert_eq!(rt; given.output.len(), 0, "{text}");
+    }
+    assert_eq!(rt; PIPE.len(), 327);
+    Ok(())
+}
+
+#[test]
+fn an_input_that_comes_byte_by_byte(rt: HostRuntime) -> Result<(), Fail> {
+    let text = "program n(input, output); var x, y: integer; begin read(x, y); write(x + y) end.";
+    let bytes = Vec::from_slice(rt.alloc(), b"12 34")?;
+    let mut input = MemorySource::new(bytes, 1, List::new(rt.alloc()));
+    let given = call(&rt, rt.alloc(), &RUN, text, &mut input, NONE, &OpenGate)?;
+    expect_given(&rt, &given, 0, true, "46", ORDERED, "");
+    Ok(())
+}
+
+// Asserts that a call whose output fails at any of its bytes leaves the bytes before it, and no notes.
+fn expect_output_faults<R: Threads + Wait + Sync + Abort>(
+    rt: &R,
+    alloc: Global,
+    words: &[&str],
+    text: &str,
+    ran: bool,
+    output: &str,
+) -> Result<(), Fail> {
+    let mut written = String::new(alloc);
+    let mut at = 0u32;
+    for character in output.chars() {
+        let failing = Failing {
+            output: &[at],
+            ..NONE
+        };
+        let mut input = source(alloc, Vec::new(alloc));
+        let given = call(rt, alloc, words, text, &mut input, failing, &OpenGate)?;
+        expect_given(rt, &given, 6, ran, &written, "", "");
+        written.push(character)?;
+        at = at.saturating_add(1);
+    }
+    Ok(())
+}
+
+#[test]
+fn outputs_that_fail(rt: HostRuntime) -> Result<(), Fail> {
+    for workers in ["1", "2"] {
+        let words = ["run", "--workers", workers, "a.sp"];
+        expect_output_faults(&rt, rt.alloc(), &words, PIPE, true, "13")?;
+    }
+    let told = "size 3\noutput 115\nentries 93\ndone\nordered\n";
+    expect_output_faults(&rt, rt.alloc(), &["gen", "3"], "", true, told)?;
+    let layout = "program a;\nvar x: integer;\nbegin\n  x := 6;\n  write(x * 7)\nend.\n";
+    expect_output_faults(&rt, rt.alloc(), &["format", "a.sp"], ANSWER, false, layout)
+}
