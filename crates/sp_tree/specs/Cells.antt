@@ -1,4 +1,5 @@
--- The cells of types and of blocks' frames.
+-- The cells of types and of blocks' frames, by tables in order of numbers, since a type rests on types before it. The
+-- rules of sizes, the meaning, the code and the generator share it.
 use Rattle.std.specs.Prelude.{ℕ, suc, ◌*◌, ◌==◌, ℤ, pos, ◌+ℤ◌, ◌-ℤ◌, nat_abs, if◌then◌else◌, List, [], ◌∷◌, ◌++◌, Option, Some, None, slice_get, map, sum}
 use Rattle.sp_tree.specs.declared.checked.KindOf.{KindOf}
 use Rattle.sp_tree.specs.declared.checked.KindOf.TheVariants as kind
@@ -10,6 +11,7 @@ use Rattle.sp_tree.specs.Plain.{Variable, Program}
 abbrev pub count : ℤ → ℤ → ℕ
 count low high = nat_abs ((high -ℤ low) +ℤ pos 1)
 
+-- what is there, or else d
 abbrev pub first_or : {A : Type 0} → A → Option A → A
 first_or d None = d
 first_or d (Some x) = x
@@ -19,6 +21,10 @@ abbrev pub table : {A : Type 0} → (List A → KindOf → A) → List A → Lis
 table by known [] = known
 table by known (k ∷ ks) = table by (known ++ by known k ∷ []) ks
 
+-- the cells of a record's fields, where those of the types before it are known
+abbrev pub fields_size : List ℕ → List (List ℕ × ℕ) → ℕ
+fields_size known fields = sum (map (λ f. first_or 0 (slice_get known f.1)) fields)
+
 -- a type's cells, where those of the types before it are known
 abbrev pub size_by : List ℕ → KindOf → ℕ
 size_by known kind.Integer = 1
@@ -26,7 +32,7 @@ size_by known kind.Boolean = 1
 size_by known kind.Char = 1
 size_by known (kind.Enumeration n) = 1
 size_by known (kind.Array low high index element) = count low high * first_or 0 (slice_get known element)
-size_by known (kind.Fields fs) = sum (map (λ f. first_or 0 (slice_get known f.1)) fs)
+size_by known (kind.Fields fs) = fields_size known fs
 size_by known (kind.Channel ks) = 1
 
 -- the cells of each type

@@ -1,5 +1,5 @@
--- The checked tree of a program. It is there for every tree with numbers for names; where no rule of types is broken, each
--- part has its type.
+-- The checked tree of a program. It is there for every tree with numbers for names; where no rule of types is broken,
+-- each part has its type. The contract of the phase of types promises it, and its walks follow it part by part.
 use Rattle.std.specs.Prelude.{ℕ, ◌+◌, ℤ, pos, List, [], ◌∷◌, ◌++◌, Option, Some, None, slice_get, map}
 use Rattle.sp_base.specs.declared.place.Place.{Place}
 use Rattle.sp_tree.specs.declared.checked.Role.{Role}
@@ -50,6 +50,14 @@ target (c.At at k form) = c.Entire 0 at c.Whole
 abbrev pub written_text : Place → List ℕ → Option Ordinal → Option c.Expression → c.Form
 written_text at t None w = c.WriteText t w
 written_text at t (Some o) w = c.WriteValue (c.At at o.kind (c.Number o.number)) w
+
+-- a single statement for each value, all on one channel
+abbrev pub each_sent : c.Expression → List c.Expression → List c.Form
+each_sent channel values = map (λ (e : c.Expression). c.Send channel e) values
+
+-- a single statement for each variable, all on one channel
+abbrev pub each_received : c.Expression → List c.Variable → List c.Form
+each_received channel variables = map (λ (v : c.Variable). c.Receive channel v) variables
 
 module _ (env : Env) where
   abbrev mutual
@@ -126,10 +134,10 @@ module _ (env : Env) where
 
   -- the channel is evaluated in each
   abbrev pub sends : c.Expression → Arguments → List c.Form
-  sends channel args = map (λ (e : c.Expression). c.Send channel e) (checked_arguments args)
+  sends channel args = each_sent channel (checked_arguments args)
 
   abbrev pub receives : c.Expression → Arguments → List c.Form
-  receives channel args = map (λ (v : c.Variable). c.Receive channel v) (argument_variables args)
+  receives channel args = each_received channel (argument_variables args)
 
   abbrev pub singles : StandardProcedure → Arguments → List c.Form
   singles procedure.Read args = reads args

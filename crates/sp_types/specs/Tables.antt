@@ -1,4 +1,5 @@
--- What a program declares, by numbers: its types, its constants, its variables and the headings of its blocks.
+-- What a program declares, by numbers: its types, its constants, its variables and the headings of its blocks. The
+-- rules of types and the checked tree ask it, and the contracts of the tables promise it.
 use Rattle.std.specs.Prelude.{ℕ, ◌+◌, nat_eq, ℤ, pos, neg_ℤ, int_le, not, Bool, true, false, ◌&&◌, if◌then◌else◌, List, [], ◌∷◌, ◌++◌, length, map, slice_get, slice_set, Option, Some, None}
 use Rattle.sp_tree.specs.declared.checked.KindOf.{KindOf}
 use Rattle.sp_tree.specs.declared.checked.KindOf.TheVariants as kind
@@ -37,6 +38,10 @@ numbers_from known next (k ∷ ks) = numbers_from (known ++ number_by known next
 -- the number of a declared name's type
 abbrev pub type_number : List ℕ → ℕ → ℕ
 type_number numbers k = first_or 0 (slice_get numbers k)
+
+-- the fields of a record, with the numbers of their types
+abbrev pub fields_by : List ℕ → List (List ℕ × ℕ) → List (List ℕ × ℕ)
+fields_by numbers fields = map (λ f. (f.0, type_number numbers f.1)) fields
 
 -- a text of length 1 is a char
 abbrev pub char_of : List ℕ → Option Ordinal
@@ -114,7 +119,7 @@ kinds_by numbers known form.Char = kind.Char ∷ []
 kinds_by numbers known (form.Alias k) = []
 kinds_by numbers known (form.Enumeration m) = kind.Enumeration m ∷ []
 kinds_by numbers known (form.Array a b e) = array_of known a b (type_number numbers e) ∷ []
-kinds_by numbers known (form.Fields fs) = kind.Fields (map (λ f. (f.0, type_number numbers f.1)) fs) ∷ []
+kinds_by numbers known (form.Fields fs) = kind.Fields (fields_by numbers fs) ∷ []
 kinds_by numbers known (form.Channel ks) = kind.Channel (map (type_number numbers) ks) ∷ []
 
 -- the types, in order of declaration

@@ -1,7 +1,7 @@
 //! The constants of a `case` statement.
 
 ghost use Rattle.std.specs.Prelude.{◌≡◌, map, Ok, []};
-ghost use Rattle.sp_tree.specs.Found.{Answers, AnswersAs};
+ghost use Rattle.sp_tree.specs.Found.{Answers};
 ghost use Rattle.sp_tree.specs.NamedOf.{arms, arm_of};
 ghost use Rattle.sp_types.specs.TypeRules.{repeat_rule};
 ghost use Rattle.sp_types.specs.TypeWalk.{with_constant, with_constants, constant_lists};
@@ -97,7 +97,7 @@ pub fn check_choices(
 
 /// The numbers of constants.
 pub fn constant_numbers(alloc: Global, t: &Tables, cs: &[NamedConst]) -> Result<List<i64>, Halt>
-    ensures { AnswersAs (λ x. x) result (Ok (constant_numbers t.now cs.now)) }
+    ensures { Answers result (Ok (constant_numbers t.now cs.now)) }
 {
     let mut out = Vec::new(alloc);
     for c in cs {

@@ -2,7 +2,7 @@
 
 ghost use Rattle.std.specs.Prelude.{◌≡◌, ◌++◌, ◌∷◌, [], map, ℕ, List, Ok, OnOk};
 ghost use Rattle.sp_tree.specs.Found.{Answers};
-ghost use Rattle.sp_types.specs.Tables.{are_wrong, are_bounds, type_or, array_of, type_number, kinds_by, kinds_from};
+ghost use Rattle.sp_types.specs.Tables.{are_wrong, are_bounds, fields_by, type_or, array_of, type_number, kinds_by, kinds_from};
 
 use crate::numbers::type_number;
 use crate::tables::Ordinal;
@@ -84,7 +84,7 @@ fn fields_of(
     numbers: &[u32],
     fields: List<(Text, u32)>,
 ) -> Result<List<(Text, u32)>, Halt>
-    ensures { Answers result (Ok (map (λ (f : List ℕ × ℕ). (f.0, type_number numbers.now f.1)) fields)) }
+    ensures { Answers result (Ok (fields_by numbers.now fields)) }
 {
     let mut out = Vec::new(alloc);
     for f in fields.into_vec() {

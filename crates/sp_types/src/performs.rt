@@ -10,7 +10,7 @@ ghost use Rattle.sp_tree.specs.PlainChecked as c;
 ghost use Rattle.sp_types.specs.Firsts.{channel_first, statement_form_first, perform_first, each_first, message_first, messages_first};
 ghost use Rattle.sp_types.specs.Kinds.{argument_kind};
 ghost use Rattle.sp_types.specs.TypeWalk.{form_after};
-ghost use Rattle.sp_types.specs.CheckedTree.{argument_variable, argument_variables, checked_argument, checked_arguments, checked_statement_form, singles, numbered, expanded};
+ghost use Rattle.sp_types.specs.CheckedTree.{argument_variable, argument_variables, checked_argument, checked_arguments, checked_statement_form, each_received, each_sent, singles, numbered, expanded};
 ghost use Rattle.sp_tree.specs.declared.meaning.StandardProcedure.TheVariants as procedure;
 ghost use Rattle.sp_tree.specs.Found.{AnswersAs};
 
@@ -161,7 +161,7 @@ fn type_channel(alloc: Global, t: &Tables, a: NamedArg, first: Found) -> Result<
 #[tactic(auto, using(crate::proofs::Singles::sends_are))]
 fn sent(n: u32, at: Place, channel: Expr, values: List<Expr>) -> Result<Form, Halt>
     ensures { AnswersAs checked.statement_form_of result
-        (Ok (expanded n at (map (λ e. c.Send (checked.expression_of channel) e) (map checked.expression_of values)))) }
+        (Ok (expanded n at (each_sent (checked.expression_of channel) (map checked.expression_of values)))) }
 {
     let mut values = values.into_vec();
     match values.pop() {
@@ -191,7 +191,7 @@ fn sent(n: u32, at: Place, channel: Expr, values: List<Expr>) -> Result<Form, Ha
 #[tactic(auto, using(crate::proofs::Singles::receives_are))]
 fn received(n: u32, at: Place, channel: Expr, variables: List<Var>) -> Result<Form, Halt>
     ensures { AnswersAs checked.statement_form_of result
-        (Ok (expanded n at (map (λ v. c.Receive (checked.expression_of channel) v) (map checked.variable_of variables)))) }
+        (Ok (expanded n at (each_received (checked.expression_of channel) (map checked.variable_of variables)))) }
 {
     let mut variables = variables.into_vec();
     match variables.pop() {

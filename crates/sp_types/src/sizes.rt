@@ -2,7 +2,7 @@
 
 ghost use Rattle.std.specs.Prelude.{◌≡◌, ◌+◌, ◌*◌, ◌∷◌, ℕ, List, [], map, sum, slice_get, Ok};
 ghost use Rattle.sp_tree.specs.Found.{Answers};
-ghost use Rattle.sp_tree.specs.Cells.{count, first_or, cells_by};
+ghost use Rattle.sp_tree.specs.Cells.{count, fields_size, first_or, cells_by};
 ghost use Rattle.sp_types.specs.Tables.{type_number};
 ghost use Rattle.sp_types.specs.TypeRules.{frame_cells};
 ghost use Rattle.sp_types.specs.Capped.{capped, capped_by, capped_sizes};
@@ -68,7 +68,7 @@ fn array_cells(low: i64, high: i64, element: u32) -> u32
 
 #[tactic(auto, using(crate::proofs::Capping::summed))]
 fn fields_cells(known: &[u32], fields: &[(Text, u32)]) -> u32
-    ensures { result ≡ capped (sum (map (λ (f : List ℕ × ℕ). first_or 0 (slice_get known.now f.1)) fields.now)) }
+    ensures { result ≡ capped (fields_size known.now fields.now) }
 {
     let mut cells = 0;
     for f in fields {
