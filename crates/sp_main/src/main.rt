@@ -9,8 +9,8 @@ ghost use Rattle.superpascal.specs.Calls.{IsAnswered, call, sink};
 ghost use Rattle.superpascal.specs.Causes.{files, stream};
 
 use sp_outside::{FileLibrary, Library, OpenGate, Sink, Source, StreamSink, StreamSource, put_all};
-use sp_report::{Census, ProcessTree, Timeline, Waiting, Watcher};
-use std::alloc::{AllocError, Global};
+use sp_report::{Census, ProcessTree, Timeline, Waiting, Watcher, in_order};
+use std::alloc::Global;
 use std::io::ErrorKind;
 use std::process::ExitCode;
 use std::sync::Wait;
@@ -64,25 +64,6 @@ fn run<R: Threads + Wait + Sync, N: Sink>(
         notes,
         watchers,
     ))
-}
-
-// The watchers of the program in the order in which their reports stand, each by its name.
-fn in_order(
-    alloc: Global,
-    timeline: Box<dyn Watcher>,
-    census: Box<dyn Watcher>,
-    tree: Box<dyn Watcher>,
-    waiting: Box<dyn Watcher>,
-) -> Result<Vec<Box<dyn Watcher>>, AllocError>
-    requires first { (told timeline ≡ []) × (title timeline ≡ codes "timeline") }
-    requires second { (told census ≡ []) × (title census ≡ codes "census") }
-    requires third { (told tree ≡ []) × (title tree ≡ codes "tree") }
-    requires fourth { (told waiting ≡ []) × (title waiting ≡ codes "waiting") }
-    ensures fresh { IfOk result (λ ws. AreFresh told ws.items) }
-    ensures order { IfOk result (λ ws. map title ws.items
-        ≡ codes "timeline" ∷ codes "census" ∷ codes "tree" ∷ codes "waiting" ∷ []) }
-{
-    Ok(vec![in alloc; timeline, census, tree, waiting]?)
 }
 
 // The call with these watchers, and its status.

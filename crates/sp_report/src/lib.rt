@@ -3,6 +3,7 @@
 
 mod census;
 mod condition;
+mod order;
 mod table;
 mod telling;
 #[cfg(test)]
@@ -13,6 +14,7 @@ mod waiting;
 mod watcher;
 
 pub use census::Census;
+pub use order::in_order;
 pub use telling::tell;
 pub use timeline::Timeline;
 pub use tree::ProcessTree;
