@@ -1,10 +1,10 @@
 //! The top call over the files of the system, with an input and sinks in memory.
 
-ghost use Rattle.std.specs.Prelude.{◌≡◌, [], All, IfOk};
+ghost use Rattle.sp_report.specs.Telling.{AreFresh};
 
 use sp_base::List;
 use sp_outside::{FileLibrary, Library, MemorySink, MemorySource, OpenGate, Sink, Source};
-use sp_report::{Census, ProcessTree, Timeline, Waiting, Watcher};
+use sp_report::{Census, ProcessTree, Timeline, Waiting, Watcher, in_order};
 use std::alloc::{AllocError, Global};
 use std::io;
 use std::sync::Wait;
@@ -59,22 +59,6 @@ fn sink(alloc: Global, room: usize) -> Result<MemorySink, AllocError> {
     Ok(MemorySink::new(bytes, 4096, List::new(alloc)))
 }
 
-fn in_order(
-    alloc: Global,
-    timeline: Box<dyn Watcher>,
-    census: Box<dyn Watcher>,
-    tree: Box<dyn Watcher>,
-    waiting: Box<dyn Watcher>,
-) -> Result<Vec<Box<dyn Watcher>>, AllocError>
-    requires first { told timeline ≡ [] }
-    requires second { told census ≡ [] }
-    requires third { told tree ≡ [] }
-    requires fourth { told waiting ≡ [] }
-    ensures { IfOk result (λ ws. All (λ w. told w ≡ []) ws.items) }
-{
-    Ok(vec![in alloc; timeline, census, tree, waiting]?)
-}
-
 // The call with these watchers, and its status.
 fn called<R: Threads + Wait + Sync, L: Library, I: Source, O: Sink, N: Sink>(
     threads: &R,
@@ -86,7 +70,7 @@ fn called<R: Threads + Wait + Sync, L: Library, I: Source, O: Sink, N: Sink>(
     notes: &mut N,
     watchers: Vec<Box<dyn Watcher>>,
 ) -> u8
-    requires fresh { All (λ w. told w ≡ []) watchers.items }
+    requires fresh { AreFresh told watchers.items }
 {
     let outcome = superpascal(
         threads, alloc, words, library, input, output, notes, &OpenGate, watchers,

@@ -1,10 +1,10 @@
 //! Calls over a library, a source and sinks in memory.
 
-ghost use Rattle.std.specs.Prelude.{◌≡◌, []};
+ghost use Rattle.sp_report.specs.Telling.{AreFresh};
 
 use sp_base::{List, Text};
 use sp_outside::{Gate, MemoryLibrary, MemorySink, MemorySource, OpenGate};
-use sp_report::{Census, ProcessTree, Timeline, Waiting, Watcher};
+use sp_report::{Census, ProcessTree, Timeline, Waiting, Watcher, in_order};
 use std::alloc::{AllocError, Global};
 use std::process::Abort;
 use std::sync::Wait;
@@ -66,23 +66,13 @@ fn call_watched<R: Threads + Wait + Sync, G: Gate>(
     output: &mut MemorySink,
     notes: &mut MemorySink,
     gate: &G,
-    watchers: (
-        Box<dyn Watcher>,
-        Box<dyn Watcher>,
-        Box<dyn Watcher>,
-        Box<dyn Watcher>,
-    ),
-) -> Result<Outcome, AllocError>
-    requires first { told watchers.0 ≡ [] }
-    requires second { told watchers.1 ≡ [] }
-    requires third { told watchers.2 ≡ [] }
-    requires fourth { told watchers.3 ≡ [] }
+    watchers: Vec<Box<dyn Watcher>>,
+) -> Outcome
+    requires fresh { AreFresh told watchers.items }
 {
-    let (first, second, third, fourth) = watchers;
-    let watchers = vec![in alloc; first, second, third, fourth]?;
-    Ok(superpascal(
+    superpascal(
         rt, alloc, words, library, input, output, notes, gate, watchers,
-    ))
+    )
 }
 
 // The call with the four watchers.
@@ -101,7 +91,8 @@ fn call_over<R: Threads + Wait + Sync, G: Gate>(
     let census = Box::new(alloc, Census::new(alloc))?;
     let tree = Box::new(alloc, ProcessTree::new(alloc))?;
     let waiting = Box::new(alloc, Waiting::new(alloc))?;
-    call_watched(
+    let watchers = in_order(alloc, timeline, census, tree, waiting)?;
+    Ok(call_watched(
         rt,
         alloc,
         words.as_slice(),
@@ -110,8 +101,8 @@ fn call_over<R: Threads + Wait + Sync, G: Gate>(
         output,
         notes,
         gate,
-        (timeline, census, tree, waiting),
-    )
+        watchers,
+    ))
 }
 
 /// The calls of the library and of the sinks that fail.
