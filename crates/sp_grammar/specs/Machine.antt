@@ -1,4 +1,8 @@
--- A machine on a stack of symbols that takes one token at a time.
+-- A machine on a stack of symbols that takes one token at a time, and gets stuck at the first token with which no program
+-- goes on. It is how proofs find that place: the grammar says which tokens are a program, and the machine where others
+-- cease to be the beginning of one. The parser's contracts say that it stops where the machine does, and a law of this crate
+-- runs it to show that each text has a tree or a first broken rule. It is made of functions that compute on the tokens, so
+-- that a run over known tokens reduces. A limit is how many parts a part may lie inside; with none, the tokens alone count.
 use Rattle.std.specs.Prelude.{◌≡◌, ℕ, ◌<◌, Bool, true, false, nat_lt, List, [], ◌∷◌, ◌++◌, Option, Some, None, length, ◌⊎◌}
 use Rattle.sp_tree.specs.declared.token.Token.{Token}
 use Rattle.sp_grammar.specs.Symbols.{Symbol, Value, part}
@@ -21,19 +25,22 @@ allows None d = true
 allows (Some limit) None = true
 allows (Some limit) (Some d) = nat_lt d limit
 
--- the act by the row of the token, if there is one
+-- the token is taken, if the part that begins with it may lie so deep
 abbrev pub takes_if : Bool → List Symbol → Act
 takes_if true l = Take l
 takes_if false l = Fail Deep
 
+-- the symbol is left out, if it may stand for nothing
 abbrev pub skips_if : {V : Type 0} → Option V → Act
 skips_if None = Fail Bad
 skips_if (Some v) = Skip
 
+-- the act by the row of the token, if there is one
 abbrev pub acts : {s : Symbol} → Bool → Option (Entry (Row s)) → Option (Value s) → Act
 acts b None g = skips_if g
 acts b (Some e) g = takes_if b e.left
 
+-- the act of a symbol at a token, under a limit
 abbrev pub act : Option ℕ → Symbol → Token → Act
 act reach s t = acts (allows reach (part s)) (look (rows s) t.kind) (gap s t)
 
@@ -42,11 +49,13 @@ pub data Next : Type 0 where
   On : List Symbol → Next
   No : Why → Next
 
+-- the stack behind an act of its first symbol; the others act in turn where that one is left out
 abbrev pub acted : Act → List Symbol → Next → Next
 acted (Take l) stack o = On (l ++ stack)
 acted Skip stack o = o
 acted (Fail w) stack o = No w
 
+-- the stack behind a token
 abbrev pub after : Option ℕ → List Symbol → Token → Next
 after reach [] t = No Bad
 after reach (s ∷ stack) t = acted (act reach s t) stack (after reach stack t)
@@ -56,10 +65,12 @@ pub data End : Type 0 where
   Done : End
   Stuck : Why → List Token → End
 
+-- the run goes on with the stack behind the first of these tokens, or ends there
 abbrev pub going : Next → List Token → (List Symbol → End) → End
 going (No w) ts go = Stuck w ts
 going (On stack) ts go = go stack
 
+-- the end of a run over these tokens, with these symbols pending
 abbrev pub run : Option ℕ → List Token → List Symbol → End
 run reach [] [] = Done
 run reach [] (s ∷ stack) = Stuck Bad []

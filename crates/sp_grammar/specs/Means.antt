@@ -1,4 +1,7 @@
--- What each symbol stands for in the grammar.
+-- What each symbol is in the grammar of sp_tree, for the proofs that the table derives what the grammar says and nothing
+-- else. One clause for each symbol, with the family of the grammar that it names. Where a symbol begins in the middle of a
+-- line, the clause adds what is before it: the name before AfterName, the `;` before ArmOrEnd and FieldOrEnd, the left
+-- operand before a relation, more terms or more factors. So every promise about symbols is one about lines of the grammar.
 use Rattle.std.specs.Prelude.{ℕ, suc, List, [], ◌∷◌}
 use Rattle.sp_tree.specs.declared.token.Token.{Token}
 use Rattle.sp_tree.specs.declared.syntax.Name.{Name}
@@ -8,6 +11,7 @@ use Rattle.sp_tree.specs.Grammar as g
 use Rattle.sp_grammar.specs.Symbols.{Symbol, AToken, AName, AProgram, AHeading, MoreNames, AConstant, AValue, AType, MoreFields, FieldOrEnd, AFormal, MoreFormals, Formals, ABlock, Parts, MoreConstants, MoreTypes, MoreVariables, AStatement, AfterName, AnElse, MoreStatements, MoreBranches, MoreLabels, MoreArms, ArmOrEnd, ADirection, AnExpression, ARelation, ASimple, MoreTerms, ATerm, MoreFactors, AFactor, ANegated, AReference, Selectors, MoreIndices, MoreArguments, AWidth, Value, Values}
 
 module _ (text : List ℕ) (Ok : ℕ → List Token → Type 0) where
+  -- a symbol is this value from the first tokens to the second
   abbrev pub Means : (s : Symbol) → List Token → List Token → Value s → Type 0
   Means (AToken k) ts r v = g.Is k ts r
   Means AName ts r v = g.IsName text ts r v

@@ -1,4 +1,6 @@
--- The rule that is broken where the machine gets stuck.
+-- The rule that is broken where the machine gets stuck, for the parser, which names it as its refusal, and for the proof
+-- that it is the first broken rule of the grammar. A rule follows from the machine's end alone: G2 where the tokens ended,
+-- G1 or L2 at the token that it could not take. So whoever runs the machine knows the rule and its place.
 use Rattle.std.specs.Prelude.{◌≡◌, ℕ, List, [], ◌∷◌, length, Some}
 use Rattle.sp_base.specs.declared.halt.Refusal.{Refusal}
 use Rattle.sp_base.specs.declared.rule.Rule.TheVariants as rule
@@ -8,7 +10,7 @@ use Rattle.sp_tree.specs.Breaches.{nesting}
 use Rattle.sp_grammar.specs.Symbols.{Symbol}
 use Rattle.sp_grammar.specs.Machine.{Why, Bad, Deep, Stuck, run}
 
--- by the tokens that are left
+-- the rule and its place, by why the machine got stuck and the tokens that were left
 abbrev pub refusal_of : List ℕ → Why → List Token → Refusal
 refusal_of text w [] = record { rule = rule.G2; at = place_at text (length text) }
 refusal_of text Bad (t ∷ ts) = record { rule = rule.G1; at = t.at }

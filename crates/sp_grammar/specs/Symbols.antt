@@ -1,4 +1,9 @@
--- The symbols of the grammar: what may be pending while the tokens are taken one by one, and what each stands for.
+-- The symbols of the grammar: what may be pending while the tokens are taken one by one, and what each stands for. The
+-- table, the machine and the parser's contracts speak of them. A symbol is a line of the grammar, or a place inside a line
+-- where the next token decides how it goes on: the rest of a list (More..), what may be missing (AnElse, AWidth, Formals,
+-- AHeading), what follows a name (AfterName, AReference). They are cut so that one token is always enough to decide, which
+-- makes the table a function of symbol and token. The rest of a sum or product is a function of what is before it, since
+-- operators group to the left.
 use Rattle.std.specs.Prelude.{ℕ, Bool, List, [], ◌∷◌, ◌++◌, Option, Some, None}
 use Rattle.sp_tree.specs.declared.token.Kind.{Kind}
 use Rattle.sp_tree.specs.declared.syntax.Name.{Name}
@@ -9,7 +14,7 @@ use Rattle.sp_tree.specs.declared.syntax.SynFormal.{SynFormal}
 use Rattle.sp_tree.specs.declared.syntax.SynGroup.{SynGroup}
 use Rattle.sp_tree.specs.PlainSyntax as tree
 
--- a number says inside how many parts a symbol lies
+-- a number says inside how many parts a symbol lies; a program lies in none, and in the others without one stands no part
 pub data Symbol : Type 0 where
   AToken : Kind → Symbol
   AName : Symbol
@@ -52,7 +57,7 @@ pub data Symbol : Type 0 where
   MoreArguments : ℕ → Symbol
   AWidth : ℕ → Symbol
 
--- what a symbol stands for; what goes on with something is a function of it
+-- what a symbol stands for; one that goes on with something is a function of it: with a name, or with a left operand
 abbrev pub Value : Symbol → Type 0
 Value (AToken k) = Unit {0}
 Value AName = Name
@@ -95,16 +100,17 @@ Value (MoreIndices d) = tree.Selectors
 Value (MoreArguments d) = tree.Arguments
 Value (AWidth d) = tree.Width
 
+-- what symbols one after another stand for: a pair of the first one's value and the others, and an empty value at the end
 abbrev pub Values : List Symbol → Type 0
 Values [] = Unit {0}
 Values (s ∷ l) = Value s × Values l
 
--- what stands for the first symbols, and for the others
+-- the values of two lists of symbols in a row, taken apart
 abbrev pub split : (l m : List Symbol) → Values (l ++ m) → Values l × Values m
 split [] m vs = (tt, vs)
 split (s ∷ l) m vs = ((vs.0, (split l m vs.1).0), (split l m vs.1).1)
 
--- a part begins with these, and lies inside so many others
+-- the symbols at which a part begins, with how many others it lies inside; none for every other symbol
 abbrev pub part : Symbol → Option ℕ
 part (ABlock d) = Some d
 part (AStatement d) = Some d

@@ -1,5 +1,9 @@
 -- The table of the grammar: what each symbol leaves behind a token that it takes, and what it then stands for. A symbol
--- that takes none of its tokens may stand for nothing.
+-- that takes none of its tokens may stand for nothing. Derives and the machine are both read off it, which makes them agree.
+-- A row is first a member of a family (`Row s k l`: at a token of kind k the symbol s leaves the symbols l), so that a proof
+-- goes by its cases and the type of what it builds is known; `rows` then lists the rows of each symbol, so that a row can be
+-- looked up by a token. What several symbols begin with (the parts of a block, the forms of a statement, selectors, factors)
+-- is a family of its own, and stands once.
 use Rattle.std.specs.Prelude.{ℕ, suc, Bool, true, false, ◌==◌, cond, List, [], ◌∷◌, ◌++◌, map, Option, Some, None}
 use Rattle.sp_tree.specs.declared.token.Token.{Token}
 use Rattle.sp_tree.specs.declared.token.Kind.{Kind}
@@ -135,10 +139,11 @@ pub record Entry (R : Kind → List Symbol → Type 0) : Type 0 where
   pub left : List Symbol
   pub row : R key left
 
+-- such an entry from its row
 abbrev pub entry : {R : Kind → List Symbol → Type 0} (k : Kind) (l : List Symbol) → R k l → Entry R
 entry k l row = record { key = k; left = l; row = row }
 
--- the rows of each kind
+-- the rows that several symbols share
 abbrev pub constant_rows : List (Entry ConstantRow)
 constant_rows = entry _ _ constant_number ∷ entry _ _ constant_name ∷ entry _ _ constant_text ∷ entry _ _ constant_plus ∷ entry _ _ constant_minus ∷ []
 
@@ -157,6 +162,7 @@ factor_rows d = entry _ _ factor_number ∷ entry _ _ factor_text ∷ entry _ _ 
 abbrev pub simple_rows : (d : ℕ) → List (Entry (SimpleRow d))
 simple_rows d = entry _ _ simple_plus ∷ entry _ _ simple_minus ∷ map (λ e. entry _ _ (simple_factor e.row)) (factor_rows d)
 
+-- the rows of each symbol, in the order in which they are looked up
 abbrev pub rows : (s : Symbol) → List (Entry (Row s))
 rows (AToken k) = entry _ _ token ∷ []
 rows AName = entry _ _ name ∷ []
@@ -208,7 +214,7 @@ kind_is (kind.Word a) (kind.Word b) = a == b
 kind_is (kind.Sign a) (kind.Sign b) = a == b
 kind_is a b = false
 
--- the row of a kind
+-- the first of these rows whose token is of this kind
 abbrev pub look : {R : Kind → List Symbol → Type 0} → List (Entry R) → Kind → Option (Entry R)
 look [] k = None
 look (e ∷ es) k = cond (kind_is e.key k) (Some e) (look es k)
@@ -230,7 +236,8 @@ gap (Selectors d) t = Some tree.Whole
 gap (AWidth d) t = Some tree.NoWidth
 gap s t = None
 
--- what a symbol stands for that takes a token, by what the symbols stand for that it leaves
+-- What a symbol stands for that takes a token, by what the symbols stand for that it leaves: a clause for each row. The
+-- text is where names, numbers and quoted texts are read.
 module _ (text : List ℕ) where
   abbrev pub constant_value : {k : Kind} {l : List Symbol} → ConstantRow k l → Token → Values l → SynConst
   constant_value constant_number t vs = record { at = t.at; negative = None; value = value.Number (number_of text t) }

@@ -20,6 +20,7 @@ use Rattle.sp_grammar.specs.Table as row
 use Rattle.sp_grammar.specs.Table.{Entry, Row, entry, rows, look, gap, build, kind_is, PartsRow, parts_rows}
 use Rattle.sp_grammar.specs.Derives.{Derives, none, and}
 use Rattle.sp_parse.specs.declared.source.Source.{Source}
+use Rattle.sp_parse.specs.Productions.{production, single}
 use Rattle.sp_parse.specs.Reads.{Within, Ready, breaks, HasRead, Halts, Reads, Begins, BeginsOther, BeginsWith, SoFar, ReadsSoFar}
 use Rattle.sp_parse.specs.Operators.{is_some}
 use Rattle.sp_parse.specs.Trees.{lay}
@@ -48,12 +49,12 @@ module _ (source : Source) where
       refl h x
   block_derives d {ts = []} h x = elim x [ ]
 
-  inner_result : (d : ℕ) (ts : List Token) → d < nesting → (result : Result (SynBlock × Bor (List Token)) Halt) → Reads source (Parts (suc d) ∷ []) (λ vs. vs.0) block_of ts result → Reads source (ABlock d ∷ []) (λ vs. vs.0) block_of ts result
+  inner_result : (d : ℕ) (ts : List Token) → d < nesting → (result : Result (SynBlock × Bor (List Token)) Halt) → Reads source (single (Parts (suc d))) block_of ts result → Reads source (single (ABlock d)) block_of ts result
   inner_result d ts b (Ok x) h = has_read h.ready (and (block_derives d b (one h)) none) h.same
   inner_result d ts b (Err e) h = halts_same source (ABlock d ∷ []) (Parts (suc d) ∷ []) ts ts (block_leads d ts b) e h
 
-  pub block_result : (d inner : ℕ) (ts : List Token) → inner ≡ suc d → d < nesting → (result : Result (SynBlock × Bor (List Token)) Halt) → Reads source (Parts inner ∷ []) (λ vs. vs.0) block_of ts result → Reads source (ABlock d ∷ []) (λ vs. vs.0) block_of ts result
-  block_result d inner ts p b result h = inner_result d ts b result (subst (λ n. Reads source (Parts n ∷ []) (λ vs. vs.0) block_of ts result) p h)
+  pub block_result : (d inner : ℕ) (ts : List Token) → inner ≡ suc d → d < nesting → (result : Result (SynBlock × Bor (List Token)) Halt) → Reads source (single (Parts inner)) block_of ts result → Reads source (single (ABlock d)) block_of ts result
+  block_result d inner ts p b result h = inner_result d ts b result (subst (λ n. Reads source (single (Parts n)) block_of ts result) p h)
 
 some_same : {R S : Kind → List Symbol → Type 0} (f : Entry R → Entry S) (o : Option (Entry R)) → is_some (lifted f o) ≡ is_some o
 some_same f None = refl
@@ -105,7 +106,7 @@ parts_end {source} {r = r} d all so first h e =
 untouched : {source : Source} {ts : List Token} (d : ℕ) (before : List SynPart) → Ready source ts → SoFar source (Parts d ∷ []) (λ vs. and_parts before vs.0) (Parts d) (λ b. and_parts before b) ts ts
 untouched d before a = nothing_yet (Parts d) (λ vs. and_parts before vs.0) (λ b. and_parts before b) (λ b. refl) a
 
-pub section_result : {source : Source} {ts rest : List Token} {k : Kind} {a : List Symbol} (d : ℕ) (before : List SynPart) (from : Values a → tree.Block) (row : Row (Parts d) k a) → look (rows (Parts d)) k ≡ Some (entry k a row) → Ready source ts → (b : BeginsWith source ts k rest) → ((vs : Values a) → from vs ≡ and_parts before (build source.text.now row b.token vs)) → (result : Result (List SynPart × Bor (List Token)) Halt) → ReadsSoFar source a from (Parts d) (λ ps b. and_parts ps b) rest result → Declares source d before ts result
+pub section_result : {source : Source} {ts rest : List Token} {k : Kind} {a : List Symbol} (d : ℕ) (before : List SynPart) (from : Values a → tree.Block) (row : Row (Parts d) k a) → look (rows (Parts d)) k ≡ Some (entry k a row) → Ready source ts → (b : BeginsWith source ts k rest) → ((vs : Values a) → from vs ≡ and_parts before (build source.text.now row b.token vs)) → (result : Result (List SynPart × Bor (List Token)) Halt) → ReadsSoFar source (production a from) (Parts d) (λ ps b. and_parts ps b) rest result → Declares source d before ts result
 section_result d before from row found y b e (Ok x) h = record { so_far = chain row found refl (untouched d before y) b h e; less = omega (arith, h.shorter, ap length b.all) }
 section_result d before from row found y b e (Err f) h = row_halts row found b refl f h
 

@@ -21,6 +21,7 @@ use Rattle.sp_grammar.specs.Table as row
 use Rattle.sp_grammar.specs.Table.{FactorRow, SimpleRow, Row, Entry, entry, rows, look, kind_is, gap, build, factor_rows, simple_rows, factor_value, simple_value}
 use Rattle.sp_grammar.specs.Derives.{Derives, DerivesAll, none, and}
 use Rattle.sp_parse.specs.declared.source.Source.{Source}
+use Rattle.sp_parse.specs.Productions.{production, single}
 use Rattle.sp_parse.specs.Reads.{Within, Ready, breaks, HasRead, Halts, Reads, Begins, BeginsWith, SoFar, ReadsSoFar}
 use Rattle.sp_parse.specs.Operators.{IsSign, Operator, NoOperator, Operates}
 use Rattle.sp_parse.proofs.Steps.{has_read, one, take, step_ends, below}
@@ -185,14 +186,14 @@ module _ (source : Source) where
     unsigned_halts halt.Memory h = tt
     unsigned_halts (halt.Refused f) h = λ q. unsigned_leads q ∙ h (sym.MoreTerms d ∷ q)
 
-  unsigned_at : (d : ℕ) (t : Token) (ts : List Token) → kind_is w.Plus t.kind ≡ false → kind_is w.Minus t.kind ≡ false → (result : Result (SynExpr × Bor (List Token)) Halt) → Reads source (sym.AFactor d ∷ sym.MoreFactors d ∷ []) (λ vs. vs.1.0 vs.0) expression_of (t ∷ ts) result → ReadsSoFar source (sym.ASimple d ∷ []) (λ vs. vs.0) (sym.MoreTerms d) (λ e f. f (expression_of e)) (t ∷ ts) result
+  unsigned_at : (d : ℕ) (t : Token) (ts : List Token) → kind_is w.Plus t.kind ≡ false → kind_is w.Minus t.kind ≡ false → (result : Result (SynExpr × Bor (List Token)) Halt) → Reads source (production (sym.AFactor d ∷ sym.MoreFactors d ∷ []) (λ vs. vs.1.0 vs.0)) expression_of (t ∷ ts) result → ReadsSoFar source (single (sym.ASimple d)) (sym.MoreTerms d) (λ e f. f (expression_of e)) (t ∷ ts) result
   unsigned_at d t ts p m (Ok x) h = unsigned_begun d t ts p m x.0 h
   unsigned_at d t ts p m (Err e) h = unsigned_halts d t ts p m e h
 
-  pub unsigned : (d : ℕ) (ts r : List Token) (t : Token) (o : Option UnaryOp) → Begins source ts t r → IsSign t o → o ≡ None → (result : Result (SynExpr × Bor (List Token)) Halt) → Reads source (sym.AFactor d ∷ sym.MoreFactors d ∷ []) (λ vs. vs.1.0 vs.0) expression_of ts result → ReadsSoFar source (sym.ASimple d ∷ []) (λ vs. vs.0) (sym.MoreTerms d) (λ e f. f (expression_of e)) ts result
+  pub unsigned : (d : ℕ) (ts r : List Token) (t : Token) (o : Option UnaryOp) → Begins source ts t r → IsSign t o → o ≡ None → (result : Result (SynExpr × Bor (List Token)) Halt) → Reads source (production (sym.AFactor d ∷ sym.MoreFactors d ∷ []) (λ vs. vs.1.0 vs.0)) expression_of ts result → ReadsSoFar source (single (sym.ASimple d)) (sym.MoreTerms d) (λ e f. f (expression_of e)) ts result
   unsigned d ts r t o b s e result h =
       let n : IsSign t None = subst (IsSign t) e s in
-      subst (λ l. ReadsSoFar source (sym.ASimple d ∷ []) (λ vs. vs.0) (sym.MoreTerms d) (λ e f. f (expression_of e)) l result) (back_of b.all) (unsigned_at d t r n.0 n.1 result (subst (λ l. Reads source (sym.AFactor d ∷ sym.MoreFactors d ∷ []) (λ vs. vs.1.0 vs.0) expression_of l result) b.all h))
+      subst (λ l. ReadsSoFar source (single (sym.ASimple d)) (sym.MoreTerms d) (λ e f. f (expression_of e)) l result) (back_of b.all) (unsigned_at d t r n.0 n.1 result (subst (λ l. Reads source (production (sym.AFactor d ∷ sym.MoreFactors d ∷ []) (λ vs. vs.1.0 vs.0)) expression_of l result) b.all h))
 
   -- a sign and a term
   abbrev pub SimpleSoFar : ℕ → SynExpr → List Token → List Token → Type 0

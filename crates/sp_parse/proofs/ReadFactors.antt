@@ -25,6 +25,7 @@ use Rattle.sp_grammar.specs.Table as row
 use Rattle.sp_grammar.specs.Table.{FactorRow, SelectorRow, Row, Entry, entry, rows, look, kind_is, gap, build, factor_rows, selector_rows}
 use Rattle.sp_grammar.specs.Derives.{Derives, DerivesAll, none, and}
 use Rattle.sp_parse.specs.declared.source.Source.{Source}
+use Rattle.sp_parse.specs.Productions.{production, single}
 use Rattle.sp_parse.specs.Reads.{Within, Ready, breaks, HasRead, Halts, Reads, BeginsOther, BeginsWith, Expected, SoFar}
 use Rattle.sp_parse.specs.Trees.{lay, selectors_of, and_selectors, and_arguments, width_of}
 use Rattle.sp_parse.proofs.Steps.{has_read, one, take, expected, step_ends, below}
@@ -62,7 +63,7 @@ module _ (source : Source) where
   quoted_is d {ts} {r} b q x p e = has_read b.ready (subst (λ l. DerivesAll text Within (sym.AFactor d ∷ []) l r (tree.At b.token.at (tree.Quoted (quoted_of text b.token)), tt)) (back_of b.all) (and (take (entry _ _ (row.factor row.factor_text)) refl b.token b.is tt none) none)) (e ∙ ap (λ q. tree.At b.token.at (tree.Quoted q)) p)
 
   -- a variable or a call
-  pub reference_result : (d : ℕ) (ts rest : List Token) (b : BeginsWith source ts kind.Name rest) (n : Name) → n ≡ name_of text b.token → (result : Result (SynExpr × Bor (List Token)) Halt) → Reads source (sym.AReference d ∷ []) (λ vs. tree.At b.token.at (vs.0 n)) expression_of rest result → Reads source (sym.AFactor d ∷ []) (λ vs. vs.0) expression_of ts result
+  pub reference_result : (d : ℕ) (ts rest : List Token) (b : BeginsWith source ts kind.Name rest) (n : Name) → n ≡ name_of text b.token → (result : Result (SynExpr × Bor (List Token)) Halt) → Reads source (production (sym.AReference d ∷ []) (λ vs. tree.At b.token.at (vs.0 n))) expression_of rest result → Reads source (single (sym.AFactor d)) expression_of ts result
   reference_result d ts rest b n p result h = row_result (λ vs. tree.At b.token.at (vs.0 n)) expression_of (λ vs. vs.0) (row.factor row.factor_name) refl b refl tt (λ vs. ap (λ n. tree.At b.token.at (vs.0 n)) p) result h
 
   -- in parentheses
@@ -78,7 +79,7 @@ module _ (source : Source) where
   in_parentheses d x y b i c e = row_derives (row.factor row.factor_open) refl b tt c.first.ready (and (one i) (and (expected c) none)) (e ∙ ap (g.moved b.token.at) i.same)
 
   -- behind `not`
-  pub negation_result : (d : ℕ) (ts rest : List Token) (b : BeginsWith source ts w.Not rest) → (result : Result (SynExpr × Bor (List Token)) Halt) → Reads source (sym.ANegated d ∷ []) (λ vs. tree.At b.token.at (tree.Unary unary.Not vs.0)) expression_of rest result → Reads source (sym.AFactor d ∷ []) (λ vs. vs.0) expression_of ts result
+  pub negation_result : (d : ℕ) (ts rest : List Token) (b : BeginsWith source ts w.Not rest) → (result : Result (SynExpr × Bor (List Token)) Halt) → Reads source (production (sym.ANegated d ∷ []) (λ vs. tree.At b.token.at (tree.Unary unary.Not vs.0))) expression_of rest result → Reads source (single (sym.AFactor d)) expression_of ts result
   negation_result d ts rest b result h = row_result (λ vs. tree.At b.token.at (tree.Unary unary.Not vs.0)) expression_of (λ vs. vs.0) (row.factor row.factor_not) refl b refl tt (λ vs. refl) result h
 
   negated_leads : (d : ℕ) (ts : List Token) → d < nesting → (q : List Symbol) → breaks source ts (sym.ANegated d ∷ q) ≡ breaks source ts (sym.AFactor (suc d) ∷ q)

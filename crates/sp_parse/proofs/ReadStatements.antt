@@ -26,6 +26,7 @@ use Rattle.sp_grammar.specs.Table as row
 use Rattle.sp_grammar.specs.Table.{FormRow, SelectorRow, ConstantRow, Row, Entry, entry, rows, look, kind_is, gap, build, form_rows, selector_rows, constant_rows, form_value, selector_value, constant_value}
 use Rattle.sp_grammar.specs.Derives.{Derives, DerivesAll, none, and}
 use Rattle.sp_parse.specs.declared.source.Source.{Source}
+use Rattle.sp_parse.specs.Productions.{production, single}
 use Rattle.sp_parse.specs.Reads.{Within, Ready, breaks, HasRead, Halts, Reads, Begins, BeginsOther, BeginsWith, Expected, SoFar}
 use Rattle.sp_parse.specs.Operators.{is_some, BeginsForm}
 use Rattle.sp_parse.specs.Trees.{lay, other_of, arms_of, branches_of, and_statements, and_arms, and_branches}
@@ -63,11 +64,11 @@ module _ (source : Source) where
   empty_is d {r = r} {t = t} s a b h e = has_read a (and (skipped (sym.AStatement d) t r b.all h refl) none) e
 
   -- a form behind its first token
-  form_at : (d : ℕ) {k : Kind} {ts rest : List Token} {l : List Symbol} (c : FormRow (suc d) k l) → look (rows (sym.AStatement d)) k ≡ Some (entry k l (row.statement {d = d} c)) → (b : BeginsWith source ts k rest) → d < nesting → (of : Values l → tree.Form) → ((vs : Values l) → of vs ≡ form_value text c b.token vs) → (result : Result (SynStmt × Bor (List Token)) Halt) → Reads source l (λ vs. tree.Does b.token.at (of vs)) statement_of rest result → Reads source (sym.AStatement d ∷ []) (λ vs. vs.0) statement_of ts result
+  form_at : (d : ℕ) {k : Kind} {ts rest : List Token} {l : List Symbol} (c : FormRow (suc d) k l) → look (rows (sym.AStatement d)) k ≡ Some (entry k l (row.statement {d = d} c)) → (b : BeginsWith source ts k rest) → d < nesting → (of : Values l → tree.Form) → ((vs : Values l) → of vs ≡ form_value text c b.token vs) → (result : Result (SynStmt × Bor (List Token)) Halt) → Reads source (production l (λ vs. tree.Does b.token.at (of vs))) statement_of rest result → Reads source (single (sym.AStatement d)) statement_of ts result
   form_at d c found b h of e result x = row_result (λ vs. tree.Does b.token.at (of vs)) statement_of (λ vs. vs.0) (row.statement c) found b (below d nesting h) h (λ vs. ap (tree.Does b.token.at) (e vs)) result x
 
-  pub form_result : (d inner : ℕ) {k : Kind} {ts rest : List Token} (l : ℕ → List Symbol) (c : (n : ℕ) → FormRow n k (l n)) → look (rows (sym.AStatement d)) k ≡ Some (entry k (l (suc d)) (row.statement {d = d} (c (suc d)))) → (b : BeginsWith source ts k rest) → inner ≡ suc d → d < nesting → (of : (n : ℕ) → Values (l n) → tree.Form) → ((n : ℕ) (vs : Values (l n)) → of n vs ≡ form_value text (c n) b.token vs) → (result : Result (SynStmt × Bor (List Token)) Halt) → Reads source (l inner) (λ vs. tree.Does b.token.at (of inner vs)) statement_of rest result → Reads source (sym.AStatement d ∷ []) (λ vs. vs.0) statement_of ts result
-  form_result d inner {rest = rest} l c found b p h of e result x = form_at d (c (suc d)) found b h (of (suc d)) (e (suc d)) result (subst (λ n. Reads source (l n) (λ vs. tree.Does b.token.at (of n vs)) statement_of rest result) p x)
+  pub form_result : (d inner : ℕ) {k : Kind} {ts rest : List Token} (l : ℕ → List Symbol) (c : (n : ℕ) → FormRow n k (l n)) → look (rows (sym.AStatement d)) k ≡ Some (entry k (l (suc d)) (row.statement {d = d} (c (suc d)))) → (b : BeginsWith source ts k rest) → inner ≡ suc d → d < nesting → (of : (n : ℕ) → Values (l n) → tree.Form) → ((n : ℕ) (vs : Values (l n)) → of n vs ≡ form_value text (c n) b.token vs) → (result : Result (SynStmt × Bor (List Token)) Halt) → Reads source (production (l inner) (λ vs. tree.Does b.token.at (of inner vs))) statement_of rest result → Reads source (single (sym.AStatement d)) statement_of ts result
+  form_result d inner {rest = rest} l c found b p h of e result x = form_at d (c (suc d)) found b h (of (suc d)) (e (suc d)) result (subst (λ n. Reads source (production (l n) (λ vs. tree.Does b.token.at (of n vs))) statement_of rest result) p x)
 
   -- behind a name
   pub call_halts : (d : ℕ) {ts rest : List Token} → BeginsWith source ts w.Open rest → (e : Halt) → Halts source (sym.AnExpression d ∷ sym.AWidth d ∷ sym.MoreArguments d ∷ []) rest e → Halts source (sym.AfterName d ∷ []) ts e
@@ -120,15 +121,15 @@ module _ (source : Source) where
     target_all : {r : List Token} {vs : Values (sym.Selectors d ∷ sym.AToken w.Becomes ∷ sym.AnExpression d ∷ [])} → DerivesAll text Within (sym.Selectors d ∷ sym.AToken w.Becomes ∷ sym.AnExpression d ∷ []) (t ∷ ts) r vs → Derives text Within (sym.AfterName d) (t ∷ ts) r (λ n. tree.Assign (tree.Entire n vs.0) vs.1.1.0)
     target_all (and a (and b (and y none))) = target_derives a b y
 
-    target_at : (at : Place) (n : Name) (result : Result (SynStmt × Bor (List Token)) Halt) → Reads source (sym.Selectors d ∷ sym.AToken w.Becomes ∷ sym.AnExpression d ∷ []) (λ vs. tree.Does at (tree.Assign (tree.Entire n vs.0) vs.1.1.0)) statement_of (t ∷ ts) result → Reads source (sym.AfterName d ∷ []) (λ vs. tree.Does at (vs.0 n)) statement_of (t ∷ ts) result
+    target_at : (at : Place) (n : Name) (result : Result (SynStmt × Bor (List Token)) Halt) → Reads source (production (sym.Selectors d ∷ sym.AToken w.Becomes ∷ sym.AnExpression d ∷ []) (λ vs. tree.Does at (tree.Assign (tree.Entire n vs.0) vs.1.1.0))) statement_of (t ∷ ts) result → Reads source (production (sym.AfterName d ∷ []) (λ vs. tree.Does at (vs.0 n))) statement_of (t ∷ ts) result
     target_at at n (Ok x) h = has_read h.ready (and (target_all h.derives) none) h.same
     target_at at n (Err x) h = halts_same source (sym.AfterName d ∷ []) (sym.Selectors d ∷ sym.AToken w.Becomes ∷ sym.AnExpression d ∷ []) (t ∷ ts) (t ∷ ts) target_leads x h
 
-  pub target_result : (d : ℕ) (ts r : List Token) (t : Token) (at : Place) (n : Name) → Begins source ts t r → kind_is w.Open t.kind ≡ false → kind_is w.Becomes t.kind ≡ false → is_some (look (selector_rows d) t.kind) ≡ true → (result : Result (SynStmt × Bor (List Token)) Halt) → Reads source (sym.Selectors d ∷ sym.AToken w.Becomes ∷ sym.AnExpression d ∷ []) (λ vs. tree.Does at (tree.Assign (tree.Entire n vs.0) vs.1.1.0)) statement_of ts result → Reads source (sym.AfterName d ∷ []) (λ vs. tree.Does at (vs.0 n)) statement_of ts result
+  pub target_result : (d : ℕ) (ts r : List Token) (t : Token) (at : Place) (n : Name) → Begins source ts t r → kind_is w.Open t.kind ≡ false → kind_is w.Becomes t.kind ≡ false → is_some (look (selector_rows d) t.kind) ≡ true → (result : Result (SynStmt × Bor (List Token)) Halt) → Reads source (production (sym.Selectors d ∷ sym.AToken w.Becomes ∷ sym.AnExpression d ∷ []) (λ vs. tree.Does at (tree.Assign (tree.Entire n vs.0) vs.1.1.0))) statement_of ts result → Reads source (production (sym.AfterName d ∷ []) (λ vs. tree.Does at (vs.0 n))) statement_of ts result
   target_result d ts r t at n b o c s result h =
       let f = some_of (look (selector_rows d) t.kind) s in
-      subst (λ l. Reads source (sym.AfterName d ∷ []) (λ vs. tree.Does at (vs.0 n)) statement_of l result) (back_of b.all)
-      (target_at d t r o c f.0 f.1 at n result (subst (λ l. Reads source (sym.Selectors d ∷ sym.AToken w.Becomes ∷ sym.AnExpression d ∷ []) (λ vs. tree.Does at (tree.Assign (tree.Entire n vs.0) vs.1.1.0)) statement_of l result) b.all h))
+      subst (λ l. Reads source (production (sym.AfterName d ∷ []) (λ vs. tree.Does at (vs.0 n))) statement_of l result) (back_of b.all)
+      (target_at d t r o c f.0 f.1 at n result (subst (λ l. Reads source (production (sym.Selectors d ∷ sym.AToken w.Becomes ∷ sym.AnExpression d ∷ []) (λ vs. tree.Does at (tree.Assign (tree.Entire n vs.0) vs.1.1.0))) statement_of l result) b.all h))
 
   pub no_target : (d : ℕ) (t : Token) → kind_is w.Open t.kind ≡ false → kind_is w.Becomes t.kind ≡ false → is_some (look (selector_rows d) t.kind) ≡ false → look (rows (sym.AfterName d)) t.kind ≡ None
   no_target d t o c s =

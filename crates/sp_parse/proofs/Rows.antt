@@ -14,6 +14,7 @@ use Rattle.sp_grammar.specs.Table.{Entry, Row, entry, rows, look, gap, build, ki
 use Rattle.sp_grammar.specs.Machine.{allows}
 use Rattle.sp_grammar.specs.Derives.{Begins as MayBegin, Derives, takes, skips, DerivesAll, none, and}
 use Rattle.sp_parse.specs.declared.source.Source.{Source}
+use Rattle.sp_parse.specs.Productions.{production}
 use Rattle.sp_parse.specs.Reads.{Within, Ready, breaks, HasRead, Halts, Reads, Begins, BeginsOther, BeginsWith}
 use Rattle.sp_parse.specs.Operators.{Operator, is_some, BeginsFactor, BeginsSimple}
 use Rattle.sp_parse.proofs.Steps.{has_read, take, kind_is-true, step_takes, step_fails, step_deep, step_skips}
@@ -150,7 +151,7 @@ negated_rows t b h d =
     ap is_some (look_map f (λ e. refl) (factor_rows (suc d)) t.kind) ∙ some_lifted f (look (factor_rows (suc d)) t.kind) ∙ h (suc d)
 
 -- a symbol takes a token, and the answer about what it leaves is that about itself
-pub row_result : {X V : Type 0} {source : Source} {s : Symbol} {k : Kind} {l : List Symbol} {ts rest : List Token} (of : Values l → V) (plain : X → V) (to : Values (s ∷ []) → V) (row : Row s k l) → look (rows s) k ≡ Some (entry k l row) → (b : BeginsWith source ts k rest) → allows (Some nesting) (part s) ≡ true → MayBegin Within (part s) (b.token ∷ rest) → ((vs : Values l) → of vs ≡ to (build source.text.now row b.token vs, tt)) → (result : Result (X × Bor (List Token)) Halt) → Reads source l of plain rest result → Reads source (s ∷ []) to plain ts result
+pub row_result : {X V : Type 0} {source : Source} {s : Symbol} {k : Kind} {l : List Symbol} {ts rest : List Token} (of : Values l → V) (plain : X → V) (to : Values (s ∷ []) → V) (row : Row s k l) → look (rows s) k ≡ Some (entry k l row) → (b : BeginsWith source ts k rest) → allows (Some nesting) (part s) ≡ true → MayBegin Within (part s) (b.token ∷ rest) → ((vs : Values l) → of vs ≡ to (build source.text.now row b.token vs, tt)) → (result : Result (X × Bor (List Token)) Halt) → Reads source (production l of) plain rest result → Reads source (production (s ∷ []) to) plain ts result
 row_result of plain to row found b a o e (Ok x) h = row_reads row found b o h (h.same ∙ e h.values)
 row_result of plain to row found b a o e (Err x) h = row_halts row found b a x h
 

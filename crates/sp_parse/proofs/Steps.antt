@@ -17,6 +17,7 @@ use Rattle.sp_grammar.specs.Machine.{Why, Bad, Deep, Take, Skip, Fail, allows, s
 use Rattle.sp_grammar.specs.Derives.{Begins as MayBegin, Derives, takes, skips, DerivesAll, none, and}
 use Rattle.sp_grammar.proofs.Run.{at_act, act_takes, act_skips, leads_all}
 use Rattle.sp_parse.specs.declared.source.Source.{Source}
+use Rattle.sp_parse.specs.Productions.{Production}
 use Rattle.sp_parse.specs.Reads.{Within, Ready, breaks, refused_by, HasRead, Halts, Reads, Begins, BeginsOther, BeginsWith, Passes, Expected, ReadsSoFar}
 
 -- a part inside fewer than 200 others is allowed
@@ -134,10 +135,10 @@ pub expect_fails : {source : Source} {ts r : List Token} {t : Token} (k : Kind) 
 expect_fails {t = t} k b n = fails (AToken k) b (look_token k t.kind false (kind_is-other k t.kind (kind_is k t.kind) refl n)) refl
 
 -- the exit of a `?`
-pub read_err : {X V : Type 0} (source : Source) (l : List Symbol) (of : Values l → V) (plain : X → V) (ts : List Token) (result : Result (X × Bor (List Token)) Halt) (e : Halt) → (y : Halt) × (result ≡ Err y) × (y ≡ e) → Halts source l ts e → Reads source l of plain ts result
-read_err source l of plain ts result e p h =
-    let q : result ≡ Err e = p.1 ∙ ap Err p.2 in
-    subst (λ r. Reads source l of plain ts r) (back_of q) h
+pub read_err : {X V : Type 0} (source : Source) (p : Production V) (plain : X → V) (ts : List Token) (result : Result (X × Bor (List Token)) Halt) (e : Halt) → (y : Halt) × (result ≡ Err y) × (y ≡ e) → Halts source p.symbols ts e → Reads source p plain ts result
+read_err source p plain ts result e f h =
+    let q : result ≡ Err e = f.1 ∙ ap Err f.2 in
+    subst (λ r. Reads source p plain ts r) (back_of q) h
 
 pub passes_other : {source : Source} {ts r : List Token} {t : Token} (k : Kind) → Begins source ts t r → (t.kind ≡ k → ⊥) → BeginsOther ts k
 passes_other {r = r} {t = t} k b n = record { token = t; rest = r; other = kind_is-other k t.kind (kind_is k t.kind) refl n; all = b.all }
@@ -150,10 +151,10 @@ pub not_passed : (source : Source) (k : Kind) (ts : List Token) (o : Option (Bor
 not_passed source k ts o h e = subst (λ o. Passes source k ts (Ok o)) e h
 
 -- the exit of a `?` where symbols are read so far
-pub so_far_err : {X V : Type 0} (source : Source) (l : List Symbol) (of : Values l → V) (s : Symbol) (gives : X → Value s → V) (ts : List Token) (result : Result (X × Bor (List Token)) Halt) (e : Halt) → (y : Halt) × (result ≡ Err y) × (y ≡ e) → Halts source l ts e → ReadsSoFar source l of s gives ts result
-so_far_err source l of s gives ts result e p h =
-    let q : result ≡ Err e = p.1 ∙ ap Err p.2 in
-    subst (λ r. ReadsSoFar source l of s gives ts r) (back_of q) h
+pub so_far_err : {X V : Type 0} (source : Source) (p : Production V) (s : Symbol) (gives : X → Value s → V) (ts : List Token) (result : Result (X × Bor (List Token)) Halt) (e : Halt) → (y : Halt) × (result ≡ Err y) × (y ≡ e) → Halts source p.symbols ts e → ReadsSoFar source p s gives ts result
+so_far_err source p s gives ts result e f h =
+    let q : result ≡ Err e = f.1 ∙ ap Err f.2 in
+    subst (λ r. ReadsSoFar source p s gives ts r) (back_of q) h
 
 -- no token is left for a test
 pub pass_halts : (source : Source) (k : Kind) (ts : List Token) (s : Symbol) (e : Halt) → Passes source k ts (Err e) → Halts source (s ∷ []) ts e

@@ -1,4 +1,6 @@
--- What the parser of declarations answers.
+-- What the parser of declarations answers, for the function that reads one section of a block and adds it to those before.
+-- A section is no symbol of its own, as what is behind it belongs to the same list of parts. So what is read is said by what
+-- is still pending: the rest of the block, which makes the whole block of the sections so far.
 use Rattle.std.specs.Prelude.{◌≡◌, ℕ, ◌<◌, Bool, List, [], ◌∷◌, length, map, Result, Ok, Err}
 use Rattle.std.specs.Borrow.{Bor}
 use Rattle.sp_base.specs.declared.halt.Halt.{Halt}
@@ -17,7 +19,7 @@ use Rattle.sp_parse.specs.Trees.{lay}
 abbrev pub and_parts : List SynPart → tree.Block → tree.Block
 and_parts ps b = record { parts = lay tree.Declare (map part_of ps) b.parts; body = b.body }
 
--- a block begins with the token
+-- whether a block begins with the token
 abbrev pub BeginsBlock : Token → Bool → Type 0
 BeginsBlock t b = (d : ℕ) → is_some (look (parts_rows d) t.kind) ≡ b
 
@@ -26,6 +28,7 @@ pub record HasDeclared (source : Source) (d : ℕ) (before : List SynPart) (ts r
   pub so_far : SoFar source (Parts d ∷ []) (λ vs. and_parts before vs.0) (Parts d) (λ b. and_parts all b) ts r
   pub less : length r < length ts
 
+-- the answer: a section is read behind the others, or why there is none
 abbrev pub Declares : Source → ℕ → List SynPart → List Token → Result (List SynPart × Bor (List Token)) Halt → Type 0
 Declares source d before ts (Ok x) = HasDeclared source d before ts x.1.now x.0
 Declares source d before ts (Err e) = Halts source (Parts d ∷ []) ts e

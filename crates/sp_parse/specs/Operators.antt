@@ -1,4 +1,7 @@
--- Which tokens stand between operands, and which begin a part.
+-- Which tokens stand between operands, and which begin a part, for the functions that look at one token and decide how to
+-- go on. Operators are said by the families of the grammar (IsRelational, IsAdding, IsMultiplying), so that the operator of
+-- the tree is the one of the token. What begins a part is said by the table of the grammar, at any depth: whether it has a
+-- row for the token. A list that ends says in its contract that the table has no row for what follows.
 use Rattle.std.specs.Prelude.{◌≡◌, ℕ, Bool, true, false, List, [], ◌∷◌, Option, Some, None, Result, Ok, Err}
 use Rattle.std.specs.Borrow.{Bor}
 use Rattle.sp_base.specs.declared.halt.Halt.{Halt}
@@ -45,6 +48,7 @@ Operates Is tail source ts (Ok (Some x)) = Operator Is source ts x.0 x.1.now
 Operates Is tail source ts (Err halt.Memory) = ⊥
 Operates Is tail source ts (Err (halt.Refused r)) = (ts ≡ []) × ((s : Symbol) (q : List Symbol) → breaks source ts (s ∷ q) ≡ Some r)
 
+-- the same for relations, for operators between terms, and for those between factors
 abbrev pub Relates : Source → List Token → Result (Option (BinaryOp × Bor (List Token))) Halt → Type 0
 Relates = Operates IsRelational ARelation
 
@@ -59,18 +63,18 @@ abbrev pub is_some : {A : Type 0} → Option A → Bool
 is_some None = false
 is_some (Some x) = true
 
--- a factor begins with the token
+-- whether a factor begins with the token
 abbrev pub BeginsFactor : Token → Bool → Type 0
 BeginsFactor t b = (d : ℕ) → is_some (look (factor_rows d) t.kind) ≡ b
 
--- an expression begins with the token
+-- whether an expression begins with the token
 abbrev pub BeginsSimple : Token → Bool → Type 0
 BeginsSimple t b = (d : ℕ) → is_some (look (simple_rows d) t.kind) ≡ b
 
--- a selector begins with the token
+-- whether a selector begins with the token
 abbrev pub BeginsSelector : Token → Bool → Type 0
 BeginsSelector t b = (d : ℕ) → is_some (look (selector_rows d) t.kind) ≡ b
 
--- a statement that is not empty begins with the token
+-- whether a statement that is not empty begins with the token
 abbrev pub BeginsForm : Token → Bool → Type 0
 BeginsForm t b = (d : ℕ) → is_some (look (form_rows d) t.kind) ≡ b

@@ -1,4 +1,9 @@
--- What a part of the parser answers.
+-- What a part of the parser answers, for the contracts of all functions that read tokens off the front.
+-- An answer has two sides. What was read is said by the table of the grammar: the symbols of a production are derived by the
+-- tokens that are gone, and the tree is what the production makes of them. Where it stops is said by the grammar's machine:
+-- a reader stands in the middle of a text, and which token is wrong depends on what may follow, so each relation holds for
+-- any symbols `q` that are pending behind. So the contracts compose, and at the top, with nothing pending, they give the
+-- first broken rule. Every one that reads promises that the tokens do not grow, by which loops and recursion end.
 use Rattle.std.specs.Prelude.{◌≡◌, ℕ, ◌<◌, ◌≤◌, false, List, [], ◌∷◌, ◌++◌, length, Option, Some, None, Result, Ok, Err}
 use Rattle.std.specs.Borrow.{Bor}
 use Rattle.sp_base.specs.declared.halt.Halt.{Halt}
@@ -16,13 +21,15 @@ use Rattle.sp_grammar.specs.Machine.{End, Done, Stuck, run}
 use Rattle.sp_grammar.specs.Derives.{Derives, DerivesAll}
 use Rattle.sp_grammar.specs.Stops.{refusal_of}
 use Rattle.sp_parse.specs.declared.source.Source.{Source}
+use Rattle.sp_parse.specs.Productions.{Production}
 
--- a token lies in the text, and a number is an integer of the language
+-- a token lies in the text, and a number is no greater than the greatest integer of the language
 pub record Fits (text : List ℕ) (t : Token) : Type 0 where
   pub order : t.from ≤ t.to
   pub within : t.to ≤ length text
   pub number : t.kind ≡ kind.Number → number_of text t ≤ 9223372036854775807
 
+-- so do all of them
 abbrev pub AllFit : List ℕ → List Token → Type 0
 AllFit text [] = Unit {0}
 AllFit text (t ∷ ts) = Fits text t × AllFit text ts
@@ -32,7 +39,7 @@ pub record Ready (source : Source) (ts : List Token) : Type 0 where
   pub end : source.end ≡ place_at source.text.now (length source.text.now)
   pub fit : AllFit source.text.now ts
 
--- a part lies inside fewer parts than the limit
+-- a part lies inside fewer parts than the limit, whatever its tokens
 abbrev pub Within : ℕ → List Token → Type 0
 Within d ts = d < nesting
 
@@ -41,6 +48,8 @@ abbrev pub refused_by : List ℕ → End → Option Refusal
 refused_by text Done = None
 refused_by text (Stuck w ts) = Some (refusal_of text w ts)
 
+-- the rule that is broken where the machine gets stuck on these tokens with this stack; it opens by name alone, since
+-- proofs go by what the symbols do and seldom by a run
 unfoldable pub breaks : Source → List Token → List Symbol → Option Refusal
 breaks source ts stack = refused_by source.text.now (run (Some nesting) ts stack)
 
@@ -54,14 +63,15 @@ pub record HasRead {X V : Type 0} (source : Source) (l : List Symbol) (of : Valu
   pub shorter : length r ≤ length ts
   pub ready : Ready source r
 
--- The rule that is broken, whatever is pending behind these symbols.
+-- The rule that is broken where these symbols are not there, whatever is pending behind them; want of memory says nothing.
 abbrev pub Halts : Source → List Symbol → List Token → Halt → Type 0
 Halts source l ts halt.Memory = Unit {0}
 Halts source l ts (halt.Refused r) = (q : List Symbol) → breaks source ts (l ++ q) ≡ Some r
 
-abbrev pub Reads : {X V : Type 0} (source : Source) (l : List Symbol) → (Values l → V) → (X → V) → List Token → Result (X × Bor (List Token)) Halt → Type 0
-Reads source l of plain ts (Ok x) = HasRead source l of plain ts x.1.now x.0
-Reads source l of plain ts (Err e) = Halts source l ts e
+-- A production is read off the front, and the answer stands for what it makes; or why it is not there.
+abbrev pub Reads : {X V : Type 0} → Source → Production V → (X → V) → List Token → Result (X × Bor (List Token)) Halt → Type 0
+Reads source p plain ts (Ok x) = HasRead source p.symbols p.makes plain ts x.1.now x.0
+Reads source p plain ts (Err e) = Halts source p.symbols ts e
 
 -- The first token and the others.
 pub record Begins (source : Source) (ts : List Token) (t : Token) (r : List Token) : Type 0 where
@@ -88,6 +98,7 @@ pub record Expected (source : Source) (k : Kind) (ts r : List Token) : Type 0 wh
   pub leads : (q : List Symbol) → breaks source ts (AToken k ∷ q) ≡ breaks source r q
   pub shorter : length r < length ts
 
+-- A token of this kind is read off the front, or why it is not there.
 abbrev pub Expects : Source → Kind → List Token → Result (Bor (List Token)) Halt → Type 0
 Expects source k ts (Ok r) = Expected source k ts r.now
 Expects source k ts (Err e) = Halts source (AToken k ∷ []) ts e
@@ -113,7 +124,7 @@ pub record SoFar {V : Type 0} (source : Source) (l : List Symbol) (of : Values l
   pub shorter : length rest ≤ length ts
   pub ready : Ready source rest
 
--- The first of some symbols are read, and this one is pending.
-abbrev pub ReadsSoFar : {X V : Type 0} (source : Source) (l : List Symbol) → (Values l → V) → (s : Symbol) → (X → Value s → V) → List Token → Result (X × Bor (List Token)) Halt → Type 0
-ReadsSoFar source l of s gives ts (Ok x) = SoFar source l of s (gives x.0) ts x.1.now
-ReadsSoFar source l of s gives ts (Err e) = Halts source l ts e
+-- The first symbols of a production are read, and this one is pending; or why they are not there.
+abbrev pub ReadsSoFar : {X V : Type 0} → Source → Production V → (s : Symbol) → (X → Value s → V) → List Token → Result (X × Bor (List Token)) Halt → Type 0
+ReadsSoFar source p s gives ts (Ok x) = SoFar source p.symbols p.makes s (gives x.0) ts x.1.now
+ReadsSoFar source p s gives ts (Err e) = Halts source p.symbols ts e

@@ -1,5 +1,7 @@
--- The plain trees of parts that stand in no tree yet.
-use Rattle.std.specs.Prelude.{List, [], ◌∷◌, Option, Some, None, map}
+-- The plain trees of parts that stand in no tree yet: lists and options, which sp_tree leads to plain trees only inside the
+-- part that holds them. The readers' contracts take them to say what an answer stands for. A list that is still growing
+-- stands for a function: these items, and then whatever is read behind them.
+use Rattle.std.specs.Prelude.{◌≡◌, List, [], ◌∷◌, Option, Some, None, Result, IfOk, map}
 use Rattle.sp_tree.specs.declared.syntax.SynExpr.{SynExpr}
 use Rattle.sp_tree.specs.declared.syntax.SynSelector.{SynSelector}
 use Rattle.sp_tree.specs.declared.syntax.SynArg.{SynArg}
@@ -9,10 +11,16 @@ use Rattle.sp_tree.specs.declared.syntax.SynBranch.{SynBranch}
 use Rattle.sp_tree.specs.PlainSyntax.{Width, Selectors, Select, Arguments, AndArgument, Other, Statements, AndThen, Arms, Or, Branches, Beside}
 use Rattle.sp_tree.specs.SyntaxOf.{expression_of, selector_of, argument_of, selectors, width, statement_of, arm_of, branch_of, other, arms, branches}
 
+-- what is made stands for this, unless there is no memory for it
+abbrev pub Gives : {X V E : Type 0} → (X → V) → V → Result X E → Type 0
+Gives plain v result = IfOk result (λ x. plain x ≡ v)
+
+-- the width of an argument, if it has one
 abbrev pub width_of : Option SynExpr → Width
 width_of None = width None
 width_of (Some e) = width (Some (expression_of e))
 
+-- the selectors of a variable
 abbrev pub selectors_of : List SynSelector → Selectors
 selectors_of ss = selectors (map selector_of ss)
 
@@ -29,7 +37,7 @@ and_selectors ss more = lay Select (map selector_of ss) more
 abbrev pub and_arguments : List SynArg → Arguments → Arguments
 and_arguments args more = lay AndArgument (map argument_of args) more
 
--- parts of statements
+-- what stands behind `else`, and the arms and processes of a statement
 abbrev pub other_of : Option SynStmt → Other
 other_of None = other None
 other_of (Some s) = other (Some (statement_of s))

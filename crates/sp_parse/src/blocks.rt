@@ -1,11 +1,12 @@
 //! Blocks and programs. `depth` says inside how many parts a block lies.
 
-ghost use Rattle.std.specs.Prelude.{◌≡◌, [], ◌∷◌, ℕ, ◌≤◌, None, Some};
-ghost use Rattle.sp_tree.specs.Words.{Begin as ABegin, Colon as AColon, Semicolon as ASemicolon, Dot as ADot};
-ghost use Rattle.sp_tree.specs.PlainSyntax.{Proc};
+ghost use Rattle.std.specs.Prelude.{[], ◌∷◌, ℕ, ◌≤◌};
+ghost use Rattle.sp_tree.specs.Words.{Begin as ABegin};
 ghost use Rattle.sp_tree.specs.SyntaxOf.{block_of, part_of, program_of};
-ghost use Rattle.sp_grammar.specs.Symbols.{AToken, AName, AProgram, AHeading, Formals, ABlock, Parts};
+ghost use Rattle.sp_grammar.specs.Symbols.{AProgram, ABlock, Parts};
+ghost use Rattle.sp_parse.specs.Productions.{single};
 ghost use Rattle.sp_parse.specs.Reads.{Ready, Reads, Halts, BeginsOther};
+ghost use Rattle.sp_parse.specs.BlockProductions as grammar;
 ghost use Rattle.sp_parse.specs.Declares.{BeginsBlock, Declares};
 
 use crate::declarations::{constants, types, variables};
@@ -47,6 +48,7 @@ fn deep_block(source: &Source, tokens: &[Token]) -> Halt
     }
 }
 
+// block = { constants | types | variables | procedure | function } compound
 /// A block.
 #[cycle(block)]
 fn block<'t>(
@@ -55,7 +57,7 @@ fn block<'t>(
     depth: u32,
 ) -> Result<(SynBlock, &'t [Token]), Halt>
     requires { Ready source.now tokens.now }
-    ensures { Reads source.now (ABlock depth ∷ []) (λ vs. vs.0) block_of tokens.now result }
+    ensures { Reads source.now (single (ABlock depth)) block_of tokens.now result }
 {
     if depth >= MAX_NESTING {
         return Err(deep_block(source, tokens));
@@ -63,6 +65,7 @@ fn block<'t>(
     parts(source, tokens, depth + 1)
 }
 
+// parts = { declarations } compound
 /// The declarations and the statement part of a block.
 #[cycle(block)]
 fn parts<'t>(
@@ -71,7 +74,7 @@ fn parts<'t>(
     depth: u32,
 ) -> Result<(SynBlock, &'t [Token]), Halt>
     requires { Ready source.now tokens.now }
-    ensures { Reads source.now (Parts depth ∷ []) (λ vs. vs.0) block_of tokens.now result }
+    ensures { Reads source.now (single (Parts depth)) block_of tokens.now result }
 {
     let mut all = List::new(source.alloc);
     let mut rest = tokens;
@@ -87,6 +90,7 @@ fn parts<'t>(
     }
 }
 
+// declarations = constants | types | variables | procedure | function
 /// Constants, types, variables, a procedure or a function, added to other declarations.
 #[cycle(block)]
 fn declarations<'t>(
@@ -122,6 +126,7 @@ fn declarations<'t>(
     Err(misplaced(first))
 }
 
+// procedure = "procedure" name [ formals ] ";" block ";"
 /// A procedure, behind its word.
 #[cycle(block)]
 fn procedure<'t>(
@@ -130,8 +135,7 @@ fn procedure<'t>(
     depth: u32,
 ) -> Result<(SynPart, &'t [Token]), Halt>
     requires { Ready source.now tokens.now }
-    ensures { Reads source.now (AName ∷ Formals ∷ AToken ASemicolon ∷ ABlock depth ∷ AToken ASemicolon ∷ [])
-        (λ vs. Proc vs.0 vs.1.0 None vs.1.1.1.0.parts vs.1.1.1.0.body) part_of tokens.now result }
+    ensures { Reads source.now (grammar.procedure depth) part_of tokens.now result }
 {
     let (called, rest) = name(source, tokens)?;
     let (given, rest) = formals(source, rest)?;
@@ -142,6 +146,7 @@ fn procedure<'t>(
     Ok((made, rest))
 }
 
+// function = "function" name [ formals ] ":" name ";" block ";"
 /// A function, behind its word.
 #[cycle(block)]
 fn function<'t>(
@@ -150,8 +155,7 @@ fn function<'t>(
     depth: u32,
 ) -> Result<(SynPart, &'t [Token]), Halt>
     requires { Ready source.now tokens.now }
-    ensures { Reads source.now (AName ∷ Formals ∷ AToken AColon ∷ AName ∷ AToken ASemicolon ∷ ABlock depth ∷ AToken ASemicolon ∷ [])
-        (λ vs. Proc vs.0 vs.1.0 (Some vs.1.1.1.0) vs.1.1.1.1.1.0.parts vs.1.1.1.1.1.0.body) part_of tokens.now result }
+    ensures { Reads source.now (grammar.function depth) part_of tokens.now result }
 {
     let (called, rest) = name(source, tokens)?;
     let (given, rest) = formals(source, rest)?;
@@ -164,11 +168,11 @@ fn function<'t>(
     Ok((made, rest))
 }
 
+// titled = name [ "(" names ")" ] ";" block "."
 /// A program, behind the word `program`.
 fn titled<'t>(source: &Source, tokens: &'t [Token]) -> Result<(Syntax, &'t [Token]), Halt>
     requires { Ready source.now tokens.now }
-    ensures { Reads source.now (AName ∷ AHeading ∷ AToken ASemicolon ∷ ABlock 0 ∷ AToken ADot ∷ [])
-        (λ vs. record { name = vs.0; heading = vs.1.0; block = vs.1.1.1.0 }) program_of tokens.now result }
+    ensures { Reads source.now grammar.program program_of tokens.now result }
 {
     let (called, rest) = name(source, tokens)?;
     let (listed, rest) = heading(source, rest)?;
@@ -185,10 +189,11 @@ fn titled<'t>(source: &Source, tokens: &'t [Token]) -> Result<(Syntax, &'t [Toke
     ))
 }
 
+// program = "program" name [ "(" names ")" ] ";" block "."
 /// A program.
 pub fn program<'t>(source: &Source, tokens: &'t [Token]) -> Result<(Syntax, &'t [Token]), Halt>
     requires { Ready source.now tokens.now }
-    ensures { Reads source.now (AProgram ∷ []) (λ vs. vs.0) program_of tokens.now result }
+    ensures { Reads source.now (single AProgram) program_of tokens.now result }
 {
     let (first, rest) = cut(source, tokens)?;
     if is(first, Kind::Word(word::PROGRAM)) {

@@ -1,7 +1,8 @@
 //! Constants.
 
-ghost use Rattle.std.specs.Prelude.{◌≡◌, [], ◌∷◌, None};
+ghost use Rattle.std.specs.Prelude.{◌≡◌, None};
 ghost use Rattle.sp_grammar.specs.Symbols.{AConstant, AValue};
+ghost use Rattle.sp_parse.specs.Productions.{itself, single};
 ghost use Rattle.sp_parse.specs.Reads.{Ready, Reads};
 
 use crate::operators::is;
@@ -10,10 +11,11 @@ use crate::spelled::{name_at, number_at, quoted_at};
 use sp_base::{Halt, Place};
 use sp_tree::{Kind, SynConst, SynValue, Token, sign};
 
+// value = number | name
 /// A number or a name.
 fn value<'t>(source: &Source, tokens: &'t [Token]) -> Result<(SynValue, &'t [Token]), Halt>
     requires { Ready source.now tokens.now }
-    ensures { Reads source.now (AValue ∷ []) (λ vs. vs.0) (λ v. v) tokens.now result }
+    ensures { Reads source.now (single AValue) itself tokens.now result }
 {
     let (first, rest) = cut(source, tokens)?;
     match first.kind {
@@ -34,10 +36,11 @@ fn unsigned(at: Place, value: SynValue) -> SynConst
     }
 }
 
+// constant = [ "+" | "-" ] ( number | name ) | text
 /// A constant: a number or a name, with a sign or without, or a text.
 pub fn constant<'t>(source: &Source, tokens: &'t [Token]) -> Result<(SynConst, &'t [Token]), Halt>
     requires { Ready source.now tokens.now }
-    ensures { Reads source.now (AConstant ∷ []) (λ vs. vs.0) (λ c. c) tokens.now result }
+    ensures { Reads source.now (single AConstant) itself tokens.now result }
 {
     let (first, rest) = cut(source, tokens)?;
     let at = first.at;

@@ -1,12 +1,10 @@
 //! Declarations of constants, types and variables.
 
-ghost use Rattle.std.specs.Prelude.{ℕ, [], ◌∷◌};
-ghost use Rattle.sp_tree.specs.Words.{Colon as AColon, Equal as AnEqual, Semicolon as ASemicolon};
-ghost use Rattle.sp_tree.specs.PlainSyntax.{Const, Kind as AKind, Var};
+ghost use Rattle.std.specs.Prelude.{ℕ};
 ghost use Rattle.sp_tree.specs.SyntaxOf.{part_of};
-ghost use Rattle.sp_tree.specs.Grammar.{declared};
-ghost use Rattle.sp_grammar.specs.Symbols.{AToken, AName, MoreNames, AConstant, AType, Parts, MoreConstants, MoreTypes, MoreVariables};
+ghost use Rattle.sp_grammar.specs.Symbols.{Parts};
 ghost use Rattle.sp_parse.specs.Reads.{Ready, Reads, ReadsSoFar};
+ghost use Rattle.sp_parse.specs.BlockProductions as grammar;
 ghost use Rattle.sp_parse.specs.Declares.{and_parts};
 
 use crate::constants::constant;
@@ -17,10 +15,11 @@ use crate::types::{group, type_of};
 use sp_base::{Halt, List};
 use sp_tree::{Kind, SynPart, Token, sign};
 
+// one_constant = name "=" constant ";"
 /// A constant and its value.
 fn one_constant<'t>(source: &Source, tokens: &'t [Token]) -> Result<(SynPart, &'t [Token]), Halt>
     requires { Ready source.now tokens.now }
-    ensures { Reads source.now (AName ∷ AToken AnEqual ∷ AConstant ∷ AToken ASemicolon ∷ []) (λ vs. Const vs.0 vs.1.1.0) part_of tokens.now result }
+    ensures { Reads source.now grammar.one_constant part_of tokens.now result }
 {
     let (called, rest) = name(source, tokens)?;
     let rest = expect(source, rest, Kind::Sign(sign::EQUAL))?;
@@ -29,10 +28,11 @@ fn one_constant<'t>(source: &Source, tokens: &'t [Token]) -> Result<(SynPart, &'
     Ok((constant_declaration(called, value), rest))
 }
 
+// one_type = name "=" type ";"
 /// A type and its definition.
 fn one_type<'t>(source: &Source, tokens: &'t [Token]) -> Result<(SynPart, &'t [Token]), Halt>
     requires { Ready source.now tokens.now }
-    ensures { Reads source.now (AName ∷ AToken AnEqual ∷ AType ∷ AToken ASemicolon ∷ []) (λ vs. AKind vs.0 vs.1.1.0) part_of tokens.now result }
+    ensures { Reads source.now grammar.one_type part_of tokens.now result }
 {
     let (called, rest) = name(source, tokens)?;
     let rest = expect(source, rest, Kind::Sign(sign::EQUAL))?;
@@ -41,17 +41,18 @@ fn one_type<'t>(source: &Source, tokens: &'t [Token]) -> Result<(SynPart, &'t [T
     Ok((type_declaration(called, kind), rest))
 }
 
+// one_group = names ":" name ";"
 /// Variables of one type.
 fn one_group<'t>(source: &Source, tokens: &'t [Token]) -> Result<(SynPart, &'t [Token]), Halt>
     requires { Ready source.now tokens.now }
-    ensures { Reads source.now (AName ∷ MoreNames ∷ AToken AColon ∷ AName ∷ AToken ASemicolon ∷ [])
-        (λ vs. Var (vs.0 ∷ vs.1.0) vs.1.1.1.0) part_of tokens.now result }
+    ensures { Reads source.now grammar.one_group part_of tokens.now result }
 {
     let (of, rest) = group(source, tokens)?;
     let rest = expect(source, rest, Kind::Sign(sign::SEMICOLON))?;
     Ok((variable_declaration(of), rest))
 }
 
+// constants = "const" name "=" constant ";" { name "=" constant ";" }
 /// The constants behind `const`, added to other declarations.
 pub fn constants<'t>(
     source: &Source,
@@ -59,8 +60,7 @@ pub fn constants<'t>(
     mut all: List<SynPart>,
 ) -> Result<(List<SynPart>, &'t [Token]), Halt>
     requires { Ready source.now tokens.now }
-    ensures { (d : ℕ) → ReadsSoFar source.now (AName ∷ AToken AnEqual ∷ AConstant ∷ AToken ASemicolon ∷ MoreConstants d ∷ [])
-        (λ vs. and_parts all (declared (Const vs.0 vs.1.1.0) vs.1.1.1.1.0)) (Parts d) (λ ps b. and_parts ps b) tokens.now result }
+    ensures { (d : ℕ) → ReadsSoFar source.now (grammar.constants all d) (Parts d) and_parts tokens.now result }
 {
     let (first, mut rest) = one_constant(source, tokens)?;
     all.push(first)?;
@@ -72,6 +72,7 @@ pub fn constants<'t>(
     Ok((all, rest))
 }
 
+// types = "type" name "=" type ";" { name "=" type ";" }
 /// The types behind `type`, added to other declarations.
 pub fn types<'t>(
     source: &Source,
@@ -79,8 +80,7 @@ pub fn types<'t>(
     mut all: List<SynPart>,
 ) -> Result<(List<SynPart>, &'t [Token]), Halt>
     requires { Ready source.now tokens.now }
-    ensures { (d : ℕ) → ReadsSoFar source.now (AName ∷ AToken AnEqual ∷ AType ∷ AToken ASemicolon ∷ MoreTypes d ∷ [])
-        (λ vs. and_parts all (declared (AKind vs.0 vs.1.1.0) vs.1.1.1.1.0)) (Parts d) (λ ps b. and_parts ps b) tokens.now result }
+    ensures { (d : ℕ) → ReadsSoFar source.now (grammar.types all d) (Parts d) and_parts tokens.now result }
 {
     let (first, mut rest) = one_type(source, tokens)?;
     all.push(first)?;
@@ -92,6 +92,7 @@ pub fn types<'t>(
     Ok((all, rest))
 }
 
+// variables = "var" names ":" name ";" { names ":" name ";" }
 /// The variables behind `var`, added to other declarations.
 pub fn variables<'t>(
     source: &Source,
@@ -99,8 +100,7 @@ pub fn variables<'t>(
     mut all: List<SynPart>,
 ) -> Result<(List<SynPart>, &'t [Token]), Halt>
     requires { Ready source.now tokens.now }
-    ensures { (d : ℕ) → ReadsSoFar source.now (AName ∷ MoreNames ∷ AToken AColon ∷ AName ∷ AToken ASemicolon ∷ MoreVariables d ∷ [])
-        (λ vs. and_parts all (declared (Var (vs.0 ∷ vs.1.0) vs.1.1.1.0) vs.1.1.1.1.1.0)) (Parts d) (λ ps b. and_parts ps b) tokens.now result }
+    ensures { (d : ℕ) → ReadsSoFar source.now (grammar.variables all d) (Parts d) and_parts tokens.now result }
 {
     let (first, mut rest) = one_group(source, tokens)?;
     all.push(first)?;

@@ -5,6 +5,7 @@ ghost use Rattle.sp_base.specs.declared.halt.Halt.TheVariants.{Refused};
 ghost use Rattle.sp_base.specs.declared.rule.Rule.TheVariants.{L2};
 ghost use Rattle.sp_tree.specs.SyntaxOf.{statement_of};
 ghost use Rattle.sp_grammar.specs.Symbols.{AnExpression, ANegated, AStatement};
+ghost use Rattle.sp_parse.specs.Productions.{single};
 ghost use Rattle.sp_parse.specs.Reads.{Ready, Halts, Reads};
 
 use crate::made_statements::empty_statement;
@@ -55,13 +56,14 @@ pub fn deep_factor(source: &Source, tokens: &[Token]) -> Halt
     }
 }
 
+// statement = [ ]
 /// The empty statement, or why no other one may stand here.
 pub fn deep_statement<'t>(
     source: &Source,
     tokens: &'t [Token],
 ) -> Result<(SynStmt, &'t [Token]), Halt>
     requires { Ready source.now tokens.now }
-    ensures { (d : ℕ) → 200 ≤ d → Reads source.now (AStatement d ∷ []) (λ vs. vs.0) statement_of tokens.now result }
+    ensures { (d : ℕ) → 200 ≤ d → Reads source.now (single (AStatement d)) statement_of tokens.now result }
 {
     let (first, _) = cut(source, tokens)?;
     if begins_form(first) {

@@ -1,11 +1,10 @@
 //! Expressions. `depth` says inside how many parts one lies.
 
-ghost use Rattle.std.specs.Prelude.{[], ◌∷◌};
-ghost use Rattle.sp_tree.specs.declared.operators.UnaryOp.TheVariants.{Not as NotOp};
-ghost use Rattle.sp_tree.specs.PlainSyntax.{At, Unary as AUnary, Pass, Select, Index as AnIndex, AndArgument};
 ghost use Rattle.sp_tree.specs.SyntaxOf.{expression_of, argument_of, arguments_of};
-ghost use Rattle.sp_grammar.specs.Symbols.{AnExpression, ASimple, MoreTerms, MoreFactors, AFactor, ANegated, AReference, Selectors, MoreIndices, MoreArguments, AWidth};
+ghost use Rattle.sp_grammar.specs.Symbols.{AnExpression, ASimple, MoreTerms, AFactor, Selectors};
+ghost use Rattle.sp_parse.specs.Productions.{single};
 ghost use Rattle.sp_parse.specs.Reads.{Ready, Reads, ReadsSoFar};
+ghost use Rattle.sp_parse.specs.ExpressionProductions as grammar;
 ghost use Rattle.sp_parse.specs.Trees.{selectors_of, and_selectors};
 
 use crate::deep::{deep_expression, deep_factor};
@@ -20,6 +19,7 @@ use crate::spelled::{name_at, number_at, quoted_at};
 use sp_base::{Halt, List, Place};
 use sp_tree::{Kind, MAX_NESTING, Name, SynArg, SynExpr, SynSelector, Token, UnaryOp, sign, word};
 
+// expression = simple [ ( "=" | "<>" | "<" | "<=" | ">" | ">=" ) simple ]
 /// An expression: two simple ones with a relation between them, or one.
 #[cycle(expression)]
 pub fn expression<'t>(
@@ -28,7 +28,7 @@ pub fn expression<'t>(
     depth: u32,
 ) -> Result<(SynExpr, &'t [Token]), Halt>
     requires { Ready source.now tokens.now }
-    ensures { Reads source.now (AnExpression depth ∷ []) (λ vs. vs.0) expression_of tokens.now result }
+    ensures { Reads source.now (single (AnExpression depth)) expression_of tokens.now result }
 {
     if depth >= MAX_NESTING {
         return Err(deep_expression(source, tokens));
@@ -41,6 +41,7 @@ pub fn expression<'t>(
     Ok((binary(source.alloc, op, left, right)?, rest))
 }
 
+// simple = [ "+" | "-" ] term { ( "+" | "-" | "or" ) term }
 /// A simple expression: terms with operators between them.
 #[cycle(expression)]
 fn simple<'t>(
@@ -49,7 +50,7 @@ fn simple<'t>(
     depth: u32,
 ) -> Result<(SynExpr, &'t [Token]), Halt>
     requires { Ready source.now tokens.now }
-    ensures { Reads source.now (ASimple depth ∷ []) (λ vs. vs.0) expression_of tokens.now result }
+    ensures { Reads source.now (single (ASimple depth)) expression_of tokens.now result }
 {
     let (mut sum, mut rest) = first_term(source, tokens, depth)?;
     'more: while let Some((op, after)) = adding(source, rest)? {
@@ -60,6 +61,7 @@ fn simple<'t>(
     Ok((sum, rest))
 }
 
+// first_term = [ "+" | "-" ] term
 /// The first term of a simple expression, with its sign.
 #[cycle(expression)]
 fn first_term<'t>(
@@ -68,7 +70,7 @@ fn first_term<'t>(
     depth: u32,
 ) -> Result<(SynExpr, &'t [Token]), Halt>
     requires { Ready source.now tokens.now }
-    ensures { ReadsSoFar source.now (ASimple depth ∷ []) (λ vs. vs.0) (MoreTerms depth) (λ e f. f (expression_of e)) tokens.now result }
+    ensures { ReadsSoFar source.now (single (ASimple depth)) (MoreTerms depth) grammar.continued tokens.now result }
 {
     let (first, behind) = cut(source, tokens)?;
     let Some(op) = sign_of(first) else {
@@ -78,6 +80,7 @@ fn first_term<'t>(
     Ok((unary(source.alloc, first.at, op, a)?, rest))
 }
 
+// term = factor { ( "*" | "div" | "mod" | "and" ) factor }
 /// A term: factors with operators between them.
 #[cycle(expression)]
 fn term<'t>(
@@ -86,7 +89,7 @@ fn term<'t>(
     depth: u32,
 ) -> Result<(SynExpr, &'t [Token]), Halt>
     requires { Ready source.now tokens.now }
-    ensures { Reads source.now (AFactor depth ∷ MoreFactors depth ∷ []) (λ vs. vs.1.0 vs.0) expression_of tokens.now result }
+    ensures { Reads source.now (grammar.term depth) expression_of tokens.now result }
 {
     let (mut product, mut rest) = factor(source, tokens, depth)?;
     'more: while let Some((op, after)) = multiplying(source, rest)? {
@@ -97,6 +100,7 @@ fn term<'t>(
     Ok((product, rest))
 }
 
+// factor = number | text | variable | call | "(" expression ")" | "not" factor
 /// A factor: a number, a text, a variable, a call, an expression in parentheses, or a factor after `not`.
 #[cycle(expression)]
 fn factor<'t>(
@@ -105,7 +109,7 @@ fn factor<'t>(
     depth: u32,
 ) -> Result<(SynExpr, &'t [Token]), Halt>
     requires { Ready source.now tokens.now }
-    ensures { Reads source.now (AFactor depth ∷ []) (λ vs. vs.0) expression_of tokens.now result }
+    ensures { Reads source.now (single (AFactor depth)) expression_of tokens.now result }
 {
     let (first, rest) = cut(source, tokens)?;
     let at = first.at;
@@ -130,6 +134,7 @@ fn factor<'t>(
     Err(misplaced(first))
 }
 
+// negation = "not" factor
 /// What stands behind `not`.
 #[cycle(expression)]
 fn negation<'t>(
@@ -139,7 +144,7 @@ fn negation<'t>(
     at: Place,
 ) -> Result<(SynExpr, &'t [Token]), Halt>
     requires { Ready source.now tokens.now }
-    ensures { Reads source.now (ANegated depth ∷ []) (λ vs. At at (AUnary NotOp vs.0)) expression_of tokens.now result }
+    ensures { Reads source.now (grammar.negation depth at) expression_of tokens.now result }
 {
     if depth >= MAX_NESTING {
         return Err(deep_factor(source, tokens));
@@ -148,6 +153,7 @@ fn negation<'t>(
     Ok((unary(source.alloc, at, UnaryOp::Not, a)?, rest))
 }
 
+// reference = variable | call
 /// A variable or a call, after its name.
 #[cycle(expression)]
 fn reference<'t>(
@@ -158,7 +164,7 @@ fn reference<'t>(
     name: Name,
 ) -> Result<(SynExpr, &'t [Token]), Halt>
     requires { Ready source.now tokens.now }
-    ensures { Reads source.now (AReference depth ∷ []) (λ vs. At at (vs.0 name)) expression_of tokens.now result }
+    ensures { Reads source.now (grammar.reference depth at name) expression_of tokens.now result }
 {
     let Some(inner) = pass(source, tokens, Kind::Sign(sign::OPEN))? else {
         let (of, rest) = selectors(source, tokens, depth)?;
@@ -168,6 +174,7 @@ fn reference<'t>(
     Ok((call_expression(at, name, args), rest))
 }
 
+// selectors = { "[" expression { "," expression } "]" | "." name }
 /// The selectors of a variable.
 #[cycle(expression)]
 pub fn selectors<'t>(
@@ -176,7 +183,7 @@ pub fn selectors<'t>(
     depth: u32,
 ) -> Result<(List<SynSelector>, &'t [Token]), Halt>
     requires { Ready source.now tokens.now }
-    ensures { Reads source.now (Selectors depth ∷ []) (λ vs. vs.0) selectors_of tokens.now result }
+    ensures { Reads source.now (single (Selectors depth)) selectors_of tokens.now result }
 {
     let mut all = List::new(source.alloc);
     let mut rest = tokens;
@@ -196,6 +203,7 @@ pub fn selectors<'t>(
     }
 }
 
+// indices = "[" expression { "," expression } "]"
 /// Indices behind `[`, up to the `]`, after the selectors so far.
 #[cycle(expression)]
 fn indices<'t>(
@@ -205,8 +213,7 @@ fn indices<'t>(
     before: List<SynSelector>,
 ) -> Result<(List<SynSelector>, &'t [Token]), Halt>
     requires { Ready source.now tokens.now }
-    ensures { ReadsSoFar source.now (AnExpression depth ∷ MoreIndices depth ∷ [])
-        (λ vs. and_selectors before (Select (AnIndex vs.0) vs.1.0)) (Selectors depth) and_selectors tokens.now result }
+    ensures { ReadsSoFar source.now (grammar.indices depth before) (Selectors depth) and_selectors tokens.now result }
 {
     let mut all = before;
     let (first, mut rest) = expression(source, tokens, depth)?;
@@ -220,6 +227,7 @@ fn indices<'t>(
     Ok((all, rest))
 }
 
+// arguments = "(" argument { "," argument } ")"
 /// Arguments behind `(`, up to the `)`.
 #[cycle(expression)]
 pub fn arguments<'t>(
@@ -228,8 +236,7 @@ pub fn arguments<'t>(
     depth: u32,
 ) -> Result<(List<SynArg>, &'t [Token]), Halt>
     requires { Ready source.now tokens.now }
-    ensures { Reads source.now (AnExpression depth ∷ AWidth depth ∷ MoreArguments depth ∷ [])
-        (λ vs. AndArgument (Pass vs.0 vs.1.0) vs.1.1.0) arguments_of tokens.now result }
+    ensures { Reads source.now (grammar.arguments depth) arguments_of tokens.now result }
 {
     let mut all = List::new(source.alloc);
     let (first, mut rest) = argument(source, tokens, depth)?;
@@ -243,6 +250,7 @@ pub fn arguments<'t>(
     Ok((all, rest))
 }
 
+// argument = expression [ ":" expression ]
 /// An argument and its width.
 #[cycle(expression)]
 fn argument<'t>(
@@ -251,7 +259,7 @@ fn argument<'t>(
     depth: u32,
 ) -> Result<(SynArg, &'t [Token]), Halt>
     requires { Ready source.now tokens.now }
-    ensures { Reads source.now (AnExpression depth ∷ AWidth depth ∷ []) (λ vs. Pass vs.0 vs.1.0) argument_of tokens.now result }
+    ensures { Reads source.now (grammar.argument depth) argument_of tokens.now result }
 {
     let (value, rest) = expression(source, tokens, depth)?;
     let Some(after) = pass(source, rest, Kind::Sign(sign::COLON))? else {

@@ -1,8 +1,10 @@
 //! Formal parameters, and the names in a program's heading.
 
-ghost use Rattle.std.specs.Prelude.{◌≡◌, [], ◌∷◌};
-ghost use Rattle.sp_grammar.specs.Symbols.{AFormal, MoreFormals, Formals, AHeading};
+ghost use Rattle.std.specs.Prelude.{◌≡◌};
+ghost use Rattle.sp_grammar.specs.Symbols.{AFormal, Formals, AHeading};
+ghost use Rattle.sp_parse.specs.Productions.{itself, single};
 ghost use Rattle.sp_parse.specs.Reads.{Ready, Reads};
+ghost use Rattle.sp_parse.specs.BlockProductions as grammar;
 
 use crate::source::{Source, expect, pass};
 use crate::types::{group, listed};
@@ -20,10 +22,11 @@ fn parameters(by_reference: bool, of: SynGroup) -> SynFormal
     }
 }
 
+// formal = [ "var" ] names ":" name
 /// Formal parameters of one type.
 fn formal<'t>(source: &Source, tokens: &'t [Token]) -> Result<(SynFormal, &'t [Token]), Halt>
     requires { Ready source.now tokens.now }
-    ensures { Reads source.now (AFormal ∷ []) (λ vs. vs.0) (λ f. f) tokens.now result }
+    ensures { Reads source.now (single AFormal) itself tokens.now result }
 {
     if let Some(after) = pass(source, tokens, Kind::Word(word::VAR))? {
         let (of, rest) = group(source, after)?;
@@ -33,13 +36,14 @@ fn formal<'t>(source: &Source, tokens: &'t [Token]) -> Result<(SynFormal, &'t [T
     Ok((parameters(false, of), rest))
 }
 
+// formals = "(" formal { ";" formal } ")"
 /// Formal parameters up to the closing parenthesis, behind the opening one.
 fn some_formals<'t>(
     source: &Source,
     tokens: &'t [Token],
 ) -> Result<(List<SynFormal>, &'t [Token]), Halt>
     requires { Ready source.now tokens.now }
-    ensures { Reads source.now (AFormal ∷ MoreFormals ∷ []) (λ vs. vs.0 ∷ vs.1.0) (λ fs. fs) tokens.now result }
+    ensures { Reads source.now grammar.formals itself tokens.now result }
 {
     let (first, mut rest) = formal(source, tokens)?;
     let mut all = List::new(source.alloc);
@@ -53,13 +57,14 @@ fn some_formals<'t>(
     Ok((all, rest))
 }
 
+// optional_formals = [ formals ]
 /// The formal parameters of a procedure, if it has some.
 pub fn formals<'t>(
     source: &Source,
     tokens: &'t [Token],
 ) -> Result<(List<SynFormal>, &'t [Token]), Halt>
     requires { Ready source.now tokens.now }
-    ensures { Reads source.now (Formals ∷ []) (λ vs. vs.0) (λ fs. fs) tokens.now result }
+    ensures { Reads source.now (single Formals) itself tokens.now result }
 {
     match pass(source, tokens, Kind::Sign(sign::OPEN))? {
         Some(after) => some_formals(source, after),
@@ -67,10 +72,11 @@ pub fn formals<'t>(
     }
 }
 
+// heading = [ "(" names ")" ]
 /// The names in the heading of a program, if it has some.
 pub fn heading<'t>(source: &Source, tokens: &'t [Token]) -> Result<(List<Name>, &'t [Token]), Halt>
     requires { Ready source.now tokens.now }
-    ensures { Reads source.now (AHeading ∷ []) (λ vs. vs.0) (λ ns. ns) tokens.now result }
+    ensures { Reads source.now (single AHeading) itself tokens.now result }
 {
     match pass(source, tokens, Kind::Sign(sign::OPEN))? {
         Some(after) => listed(source, after),

@@ -1,18 +1,17 @@
 //! Expressions from their parts.
 
-ghost use Rattle.std.specs.Prelude.{◌≡◌, IfOk, map};
+ghost use Rattle.std.specs.Prelude.{◌≡◌};
 ghost use Rattle.sp_tree.specs.Grammar.{joined as joined_of, moved as moved_of};
-ghost use Rattle.sp_tree.specs.declared.operators.UnaryOp.TheVariants.{Not as NotOp};
-ghost use Rattle.sp_tree.specs.PlainSyntax.{At, Number as ANumber, Quoted as AQuoted, Read as ARead, Apply, Unary as AUnary, Entire, Index as AnIndex, Field as AField, Pass};
+ghost use Rattle.sp_tree.specs.PlainSyntax as tree;
 ghost use Rattle.sp_tree.specs.SyntaxOf.{expression_of, arguments_of, variable_of, selector_of, argument_of};
-ghost use Rattle.sp_parse.specs.Trees.{selectors_of, width_of};
+ghost use Rattle.sp_parse.specs.Trees.{Gives, selectors_of, width_of};
 
 use sp_base::{Boxed, List, Place, Text};
 use sp_tree::{BinaryOp, Name, SynArg, SynExpr, SynExprForm, SynSelector, SynVar, UnaryOp};
 use std::alloc::{AllocError, Global};
 
 pub fn number_expression(at: Place, n: u64) -> SynExpr
-    ensures { expression_of result ≡ At at (ANumber n) }
+    ensures { expression_of result ≡ tree.At at (tree.Number n) }
 {
     SynExpr {
         at,
@@ -21,7 +20,7 @@ pub fn number_expression(at: Place, n: u64) -> SynExpr
 }
 
 pub fn quoted_expression(at: Place, text: Text) -> SynExpr
-    ensures { expression_of result ≡ At at (AQuoted text) }
+    ensures { expression_of result ≡ tree.At at (tree.Quoted text) }
 {
     SynExpr {
         at,
@@ -30,7 +29,7 @@ pub fn quoted_expression(at: Place, text: Text) -> SynExpr
 }
 
 pub fn call_expression(at: Place, name: Name, args: List<SynArg>) -> SynExpr
-    ensures { expression_of result ≡ At at (Apply name (arguments_of args)) }
+    ensures { expression_of result ≡ tree.At at (tree.Apply name (arguments_of args)) }
 {
     SynExpr {
         at,
@@ -39,7 +38,7 @@ pub fn call_expression(at: Place, name: Name, args: List<SynArg>) -> SynExpr
 }
 
 pub fn variable(name: Name, of: List<SynSelector>) -> SynVar
-    ensures { variable_of result ≡ Entire name (selectors_of of) }
+    ensures { variable_of result ≡ tree.Entire name (selectors_of of) }
 {
     SynVar {
         name,
@@ -48,7 +47,7 @@ pub fn variable(name: Name, of: List<SynSelector>) -> SynVar
 }
 
 pub fn read_expression(at: Place, v: SynVar) -> SynExpr
-    ensures { expression_of result ≡ At at (ARead (variable_of v)) }
+    ensures { expression_of result ≡ tree.At at (tree.Read (variable_of v)) }
 {
     SynExpr {
         at,
@@ -57,7 +56,7 @@ pub fn read_expression(at: Place, v: SynVar) -> SynExpr
 }
 
 pub fn unary(alloc: Global, at: Place, op: UnaryOp, a: SynExpr) -> Result<SynExpr, AllocError>
-    ensures { IfOk result (λ e. expression_of e ≡ At at (AUnary op (expression_of a))) }
+    ensures { Gives expression_of (tree.At at (tree.Unary op (expression_of a))) result }
 {
     let a = Boxed::new(alloc, a)?;
     Ok(SynExpr {
@@ -68,7 +67,7 @@ pub fn unary(alloc: Global, at: Place, op: UnaryOp, a: SynExpr) -> Result<SynExp
 
 /// An operator between two operands, at the place of the left one.
 pub fn binary(alloc: Global, op: BinaryOp, a: SynExpr, b: SynExpr) -> Result<SynExpr, AllocError>
-    ensures { IfOk result (λ e. expression_of e ≡ joined_of op (expression_of a) (expression_of b)) }
+    ensures { Gives expression_of (joined_of op (expression_of a) (expression_of b)) result }
 {
     let at = a.at;
     let a = Boxed::new(alloc, a)?;
@@ -88,19 +87,19 @@ pub fn moved(at: Place, e: SynExpr) -> SynExpr
 }
 
 pub fn index(e: SynExpr) -> SynSelector
-    ensures { selector_of result ≡ AnIndex (expression_of e) }
+    ensures { selector_of result ≡ tree.Index (expression_of e) }
 {
     SynSelector::Index(e)
 }
 
 pub fn field(name: Name) -> SynSelector
-    ensures { selector_of result ≡ AField name }
+    ensures { selector_of result ≡ tree.Field name }
 {
     SynSelector::Field(name)
 }
 
 pub fn argument(value: SynExpr, width: Option<SynExpr>) -> SynArg
-    ensures { argument_of result ≡ Pass (expression_of value) (width_of width) }
+    ensures { argument_of result ≡ tree.Pass (expression_of value) (width_of width) }
 {
     SynArg { value, width }
 }

@@ -1,27 +1,28 @@
 //! Declarations and blocks from their parts.
 
-ghost use Rattle.std.specs.Prelude.{◌≡◌, IfOk};
-ghost use Rattle.sp_tree.specs.PlainSyntax.{Const, Kind as AKind, Var, Proc, Does, Sequence};
+ghost use Rattle.std.specs.Prelude.{◌≡◌};
+ghost use Rattle.sp_tree.specs.PlainSyntax as tree;
 ghost use Rattle.sp_tree.specs.SyntaxOf.{part_of, parts_of, block_of, statements_of};
+ghost use Rattle.sp_parse.specs.Trees.{Gives};
 
 use sp_base::{Boxed, List, Place};
 use sp_tree::{Name, SynBlock, SynConst, SynForm, SynFormal, SynGroup, SynKind, SynPart, SynStmt};
 use std::alloc::{AllocError, Global};
 
 pub fn constant_declaration(name: Name, value: SynConst) -> SynPart
-    ensures { part_of result ≡ Const name value }
+    ensures { part_of result ≡ tree.Const name value }
 {
     SynPart::Const(name, value)
 }
 
 pub fn type_declaration(name: Name, kind: SynKind) -> SynPart
-    ensures { part_of result ≡ AKind name kind }
+    ensures { part_of result ≡ tree.Kind name kind }
 {
     SynPart::Kind(name, kind)
 }
 
 pub fn variable_declaration(of: SynGroup) -> SynPart
-    ensures { part_of result ≡ Var of.names of.kind }
+    ensures { part_of result ≡ tree.Var of.names of.kind }
 {
     SynPart::Var(of.names, of.kind)
 }
@@ -34,7 +35,7 @@ pub fn procedure_declaration(
     answer: Option<Name>,
     inner: SynBlock,
 ) -> Result<SynPart, AllocError>
-    ensures { IfOk result (λ p. part_of p ≡ (let b = block_of inner in Proc name formals answer b.parts b.body)) }
+    ensures { Gives part_of (let b = block_of inner in tree.Proc name formals answer b.parts b.body) result }
 {
     let block = Boxed::new(alloc, inner)?;
     Ok(SynPart::Proc {
@@ -47,7 +48,7 @@ pub fn procedure_declaration(
 
 /// A block with these declarations and the statements behind the `begin` at this place.
 pub fn whole_block(all: List<SynPart>, at: Place, statements: List<SynStmt>) -> SynBlock
-    ensures { block_of result ≡ record { parts = parts_of all; body = Does at (Sequence (statements_of statements)) } }
+    ensures { block_of result ≡ record { parts = parts_of all; body = tree.Does at (tree.Sequence (statements_of statements)) } }
 {
     SynBlock {
         parts: all,

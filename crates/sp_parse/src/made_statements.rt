@@ -1,16 +1,16 @@
 //! Statements from their parts, each with the place of its first token.
 
-ghost use Rattle.std.specs.Prelude.{◌≡◌, IfOk};
-ghost use Rattle.sp_tree.specs.PlainSyntax.{Does, Empty as EmptyForm, Assign as AssignForm, Call as CallForm, Sequence as SequenceForm, If as IfForm, While as WhileForm, Repeat as RepeatForm, Case as CaseForm, For as ForForm, Parallel as ParallelForm, Forall as ForallForm, Assume as AssumeForm, On};
+ghost use Rattle.std.specs.Prelude.{◌≡◌};
+ghost use Rattle.sp_tree.specs.PlainSyntax as tree;
 ghost use Rattle.sp_tree.specs.SyntaxOf.{expression_of, arguments_of, variable_of, statement_of, statements_of, arm_of, branch_of};
-ghost use Rattle.sp_parse.specs.Trees.{other_of, arms_of, branches_of};
+ghost use Rattle.sp_parse.specs.Trees.{Gives, other_of, arms_of, branches_of};
 
 use sp_base::{Boxed, List, Place};
 use sp_tree::{Name, SynArg, SynArm, SynBranch, SynConst, SynExpr, SynForm, SynStmt, SynVar};
 use std::alloc::{AllocError, Global};
 
 pub fn empty_statement(at: Place) -> SynStmt
-    ensures { statement_of result ≡ Does at EmptyForm }
+    ensures { statement_of result ≡ tree.Does at tree.Empty }
 {
     SynStmt {
         at,
@@ -19,7 +19,7 @@ pub fn empty_statement(at: Place) -> SynStmt
 }
 
 pub fn assign_statement(at: Place, to: SynVar, value: SynExpr) -> SynStmt
-    ensures { statement_of result ≡ Does at (AssignForm (variable_of to) (expression_of value)) }
+    ensures { statement_of result ≡ tree.Does at (tree.Assign (variable_of to) (expression_of value)) }
 {
     SynStmt {
         at,
@@ -28,7 +28,7 @@ pub fn assign_statement(at: Place, to: SynVar, value: SynExpr) -> SynStmt
 }
 
 pub fn call_statement(at: Place, name: Name, args: List<SynArg>) -> SynStmt
-    ensures { statement_of result ≡ Does at (CallForm name (arguments_of args)) }
+    ensures { statement_of result ≡ tree.Does at (tree.Call name (arguments_of args)) }
 {
     SynStmt {
         at,
@@ -37,7 +37,7 @@ pub fn call_statement(at: Place, name: Name, args: List<SynArg>) -> SynStmt
 }
 
 pub fn sequence_statement(at: Place, all: List<SynStmt>) -> SynStmt
-    ensures { statement_of result ≡ Does at (SequenceForm (statements_of all)) }
+    ensures { statement_of result ≡ tree.Does at (tree.Sequence (statements_of all)) }
 {
     SynStmt {
         at,
@@ -52,7 +52,7 @@ pub fn if_statement(
     body: SynStmt,
     other: Option<Boxed<SynStmt>>,
 ) -> Result<SynStmt, AllocError>
-    ensures { IfOk result (λ s. statement_of s ≡ Does at (IfForm (expression_of test) (statement_of body) (other_of other))) }
+    ensures { Gives statement_of (tree.Does at (tree.If (expression_of test) (statement_of body) (other_of other))) result }
 {
     let body = Boxed::new(alloc, body)?;
     Ok(SynStmt {
@@ -67,7 +67,7 @@ pub fn while_statement(
     test: SynExpr,
     body: SynStmt,
 ) -> Result<SynStmt, AllocError>
-    ensures { IfOk result (λ s. statement_of s ≡ Does at (WhileForm (expression_of test) (statement_of body))) }
+    ensures { Gives statement_of (tree.Does at (tree.While (expression_of test) (statement_of body))) result }
 {
     let body = Boxed::new(alloc, body)?;
     Ok(SynStmt {
@@ -77,7 +77,7 @@ pub fn while_statement(
 }
 
 pub fn repeat_statement(at: Place, body: List<SynStmt>, test: SynExpr) -> SynStmt
-    ensures { statement_of result ≡ Does at (RepeatForm (statements_of body) (expression_of test)) }
+    ensures { statement_of result ≡ tree.Does at (tree.Repeat (statements_of body) (expression_of test)) }
 {
     SynStmt {
         at,
@@ -86,7 +86,7 @@ pub fn repeat_statement(at: Place, body: List<SynStmt>, test: SynExpr) -> SynStm
 }
 
 pub fn case_statement(at: Place, test: SynExpr, arms: List<SynArm>) -> SynStmt
-    ensures { statement_of result ≡ Does at (CaseForm (expression_of test) (arms_of arms)) }
+    ensures { statement_of result ≡ tree.Does at (tree.Case (expression_of test) (arms_of arms)) }
 {
     SynStmt {
         at,
@@ -108,7 +108,7 @@ pub fn for_statement(
     bounds: Bounds,
     body: SynStmt,
 ) -> Result<SynStmt, AllocError>
-    ensures { IfOk result (λ s. statement_of s ≡ Does at (ForForm name (expression_of bounds.from) bounds.down (expression_of bounds.to) (statement_of body))) }
+    ensures { Gives statement_of (tree.Does at (tree.For name (expression_of bounds.from) bounds.down (expression_of bounds.to) (statement_of body))) result }
 {
     let Bounds { from, down, to } = bounds;
     let body = Boxed::new(alloc, body)?;
@@ -132,7 +132,7 @@ pub fn forall_statement(
     to: SynExpr,
     body: SynStmt,
 ) -> Result<SynStmt, AllocError>
-    ensures { IfOk result (λ s. statement_of s ≡ Does at (ForallForm name (expression_of from) (expression_of to) (statement_of body))) }
+    ensures { Gives statement_of (tree.Does at (tree.Forall name (expression_of from) (expression_of to) (statement_of body))) result }
 {
     let body = Boxed::new(alloc, body)?;
     Ok(SynStmt {
@@ -147,7 +147,7 @@ pub fn forall_statement(
 }
 
 pub fn parallel_statement(at: Place, branches: List<SynBranch>) -> SynStmt
-    ensures { statement_of result ≡ Does at (ParallelForm (branches_of branches)) }
+    ensures { statement_of result ≡ tree.Does at (tree.Parallel (branches_of branches)) }
 {
     SynStmt {
         at,
@@ -156,7 +156,7 @@ pub fn parallel_statement(at: Place, branches: List<SynBranch>) -> SynStmt
 }
 
 pub fn assume_statement(at: Place, test: SynExpr) -> SynStmt
-    ensures { statement_of result ≡ Does at (AssumeForm (expression_of test)) }
+    ensures { statement_of result ≡ tree.Does at (tree.Assume (expression_of test)) }
 {
     SynStmt {
         at,
@@ -165,7 +165,7 @@ pub fn assume_statement(at: Place, test: SynExpr) -> SynStmt
 }
 
 pub fn arm(constants: List<SynConst>, body: SynStmt) -> SynArm
-    ensures { arm_of result ≡ On constants (statement_of body) }
+    ensures { arm_of result ≡ tree.On constants (statement_of body) }
 {
     SynArm { constants, body }
 }

@@ -1,18 +1,20 @@
 //! Names and lists of names.
 
-ghost use Rattle.std.specs.Prelude.{[], ◌∷◌};
-ghost use Rattle.sp_grammar.specs.Symbols.{AName, MoreNames};
+ghost use Rattle.sp_grammar.specs.Symbols.{AName};
+ghost use Rattle.sp_parse.specs.Productions.{itself, single};
 ghost use Rattle.sp_parse.specs.Reads.{Ready, Reads};
+ghost use Rattle.sp_parse.specs.BlockProductions as grammar;
 
 use crate::source::{Source, cut, misplaced, pass};
 use crate::spelled::name_at;
 use sp_base::{Halt, List};
 use sp_tree::{Kind, Name, Token, sign};
 
+// name, a token
 /// A name.
 pub fn name<'t>(source: &Source, tokens: &'t [Token]) -> Result<(Name, &'t [Token]), Halt>
     requires { Ready source.now tokens.now }
-    ensures { Reads source.now (AName ∷ []) (λ vs. vs.0) (λ n. n) tokens.now result }
+    ensures { Reads source.now (single AName) itself tokens.now result }
 {
     let (first, rest) = cut(source, tokens)?;
     match first.kind {
@@ -21,10 +23,11 @@ pub fn name<'t>(source: &Source, tokens: &'t [Token]) -> Result<(Name, &'t [Toke
     }
 }
 
+// names = name { "," name }
 /// Names with commas between them.
 pub fn names<'t>(source: &Source, tokens: &'t [Token]) -> Result<(List<Name>, &'t [Token]), Halt>
     requires { Ready source.now tokens.now }
-    ensures { Reads source.now (AName ∷ MoreNames ∷ []) (λ vs. vs.0 ∷ vs.1.0) (λ ns. ns) tokens.now result }
+    ensures { Reads source.now grammar.names itself tokens.now result }
 {
     let (first, mut rest) = name(source, tokens)?;
     let mut all = List::new(source.alloc);

@@ -16,6 +16,7 @@ pub fn is(token: Token, kind: Kind) -> bool
     token.kind == kind
 }
 
+// sign = "+" | "-"
 /// The sign before a term, if it is one.
 pub fn sign_of(token: Token) -> Option<UnaryOp>
     ensures { IsSign token result }
@@ -29,6 +30,7 @@ pub fn sign_of(token: Token) -> Option<UnaryOp>
     None
 }
 
+// relational = "=" | "<>" | "<" | "<=" | ">" | ">="
 /// The relation that comes first, and what is behind it.
 pub fn relational<'t>(
     source: &Source,
@@ -59,6 +61,7 @@ pub fn relational<'t>(
     Ok(None)
 }
 
+// adding = "+" | "-" | "or"
 /// The operator between two terms that comes first, and what is behind it.
 pub fn adding<'t>(
     source: &Source,
@@ -80,6 +83,7 @@ pub fn adding<'t>(
     Ok(None)
 }
 
+// multiplying = "*" | "div" | "mod" | "and"
 /// The operator between two factors that comes first, and what is behind it.
 pub fn multiplying<'t>(
     source: &Source,

@@ -31,6 +31,7 @@ fn end_of(text: &[u8]) -> Place
     Place { line, column }
 }
 
+// text = program
 /// The tree that the tokens of a text spell. Where they spell none, or a part lies inside 200 others, the answer is
 /// the first rule that they break: G1 at the first token with which no program begins, L2 at the first token of the
 /// first part that lies too deep, or G2 at the end of the text.

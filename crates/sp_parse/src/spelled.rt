@@ -1,10 +1,12 @@
 //! What single tokens say.
 
-ghost use Rattle.std.specs.Prelude.{◌≡◌, map, IfOk};
+ghost use Rattle.std.specs.Prelude.{◌≡◌, map};
 ghost use Rattle.sp_tree.specs.Characters.{lower as lower_of};
 ghost use Rattle.sp_tree.specs.declared.token.Kind.TheVariants.{Number as ANumber};
 ghost use Rattle.sp_tree.specs.Spelling.{spelling, name_of, number_of, quoted_of, within_quotes};
+ghost use Rattle.sp_parse.specs.Productions.{itself};
 ghost use Rattle.sp_parse.specs.Reads.{Fits};
+ghost use Rattle.sp_parse.specs.Trees.{Gives};
 
 use crate::source::Source;
 use sp_base::Text;
@@ -20,7 +22,7 @@ fn spelled<'a>(source: &Source<'a>, token: Token) -> &'a [u8]
 }
 
 fn lowered(alloc: Global, bytes: &[u8]) -> Result<Text, AllocError>
-    ensures { IfOk result (λ t. t ≡ map lower_of bytes.now) }
+    ensures { Gives itself (map lower_of bytes.now) result }
 {
     let mut all = Vec::with_capacity(alloc, bytes.len())?;
     let mut rest = bytes;
@@ -34,7 +36,7 @@ fn lowered(alloc: Global, bytes: &[u8]) -> Result<Text, AllocError>
 /// A name in lower case.
 pub fn name_at(source: &Source, token: Token) -> Result<Name, AllocError>
     requires { Fits source.now.text.now token }
-    ensures { IfOk result (λ n. n ≡ name_of source.now.text.now token) }
+    ensures { Gives itself (name_of source.now.text.now token) result }
 {
     let text = lowered(source.alloc, spelled(source, token))?;
     Ok(Name { text, at: token.at })
@@ -57,7 +59,7 @@ pub fn number_at(source: &Source, token: Token) -> u64
 
 /// A text without its quotes, where two quotes stand for one.
 fn unquoted(alloc: Global, bytes: &[u8]) -> Result<Text, AllocError>
-    ensures { IfOk result (λ t. t ≡ within_quotes bytes.now) }
+    ensures { Gives itself (within_quotes bytes.now) result }
 {
     let mut all = Vec::new(alloc);
     let mut rest = bytes;
@@ -75,7 +77,7 @@ fn unquoted(alloc: Global, bytes: &[u8]) -> Result<Text, AllocError>
 /// A text between quotes.
 pub fn quoted_at(source: &Source, token: Token) -> Result<Text, AllocError>
     requires { Fits source.now.text.now token }
-    ensures { IfOk result (λ t. t ≡ quoted_of source.now.text.now token) }
+    ensures { Gives itself (quoted_of source.now.text.now token) result }
 {
     match spelled(source, token) {
         [_, rest @ ..] => unquoted(source.alloc, rest),

@@ -1,12 +1,10 @@
 //! Statements. `depth` says inside how many parts one lies; what stands in a statement lies inside one more.
 
-ghost use Rattle.std.specs.Prelude.{◌≡◌, [], ◌∷◌};
-ghost use Rattle.sp_tree.specs.Words.{Then as AThen, Do as ADo, Until as AnUntil, Of as AnOf, To as ATo, End as AnEnd, Becomes as ABecomes};
-ghost use Rattle.sp_tree.specs.PlainSyntax.{Does, Assign, Call, Sequence, If, While, Repeat, Case, For, Parallel, Forall, Assume, AndThen, Entire, Or, On, Beside};
 ghost use Rattle.sp_tree.specs.SyntaxOf.{statement_of, statements_of, arm_of};
-ghost use Rattle.sp_grammar.specs.Symbols.{AToken, AName, AConstant, AStatement, AfterName, AnElse, MoreStatements, MoreBranches, MoreLabels, MoreArms, ADirection, AnExpression, Selectors};
+ghost use Rattle.sp_grammar.specs.Symbols.{AStatement, AnElse, ADirection};
+ghost use Rattle.sp_parse.specs.Productions.{itself, single};
 ghost use Rattle.sp_parse.specs.Reads.{Ready, Reads};
-ghost use Rattle.sp_parse.specs.Operators.{BeginsSelector};
+ghost use Rattle.sp_parse.specs.StatementProductions as grammar;
 ghost use Rattle.sp_parse.specs.Trees.{other_of, arms_of, branches_of};
 
 use crate::constants::constant;
@@ -25,6 +23,8 @@ use crate::spelled::name_at;
 use sp_base::{Boxed, Halt, List, Place};
 use sp_tree::{Kind, MAX_NESTING, Name, SynArm, SynBranch, SynConst, SynStmt, Token, sign, word};
 
+// statement = [ assignment | call | compound | if | while | repeat | for | case
+//           | parallel | forall | assume ]
 /// A statement, which may be empty.
 #[cycle(statement)]
 fn statement<'t>(
@@ -33,7 +33,7 @@ fn statement<'t>(
     depth: u32,
 ) -> Result<(SynStmt, &'t [Token]), Halt>
     requires { Ready source.now tokens.now }
-    ensures { Reads source.now (AStatement depth ∷ []) (λ vs. vs.0) statement_of tokens.now result }
+    ensures { Reads source.now (single (AStatement depth)) statement_of tokens.now result }
 {
     if depth >= MAX_NESTING {
         return deep_statement(source, tokens);
@@ -74,6 +74,7 @@ fn statement<'t>(
     Ok((empty_statement(at), tokens))
 }
 
+// after_name = selectors ":=" expression | [ "(" argument { "," argument } ")" ]
 /// An assignment or a call, behind its name.
 fn after_name<'t>(
     source: &Source,
@@ -83,7 +84,7 @@ fn after_name<'t>(
     name: Name,
 ) -> Result<(SynStmt, &'t [Token]), Halt>
     requires { Ready source.now tokens.now }
-    ensures { Reads source.now (AfterName depth ∷ []) (λ vs. Does at (vs.0 name)) statement_of tokens.now result }
+    ensures { Reads source.now (grammar.after_name depth at name) statement_of tokens.now result }
 {
     let (first, rest) = cut(source, tokens)?;
     if is(first, Kind::Sign(sign::OPEN)) {
@@ -101,6 +102,7 @@ fn after_name<'t>(
     Ok((call_statement(at, name, List::new(source.alloc)), tokens))
 }
 
+// assignment = variable ":=" expression
 /// An assignment to a part of a variable, behind its name.
 fn target<'t>(
     source: &Source,
@@ -110,8 +112,7 @@ fn target<'t>(
     name: Name,
 ) -> Result<(SynStmt, &'t [Token]), Halt>
     requires { Ready source.now tokens.now }
-    ensures { Reads source.now (Selectors depth ∷ AToken ABecomes ∷ AnExpression depth ∷ [])
-        (λ vs. Does at (Assign (Entire name vs.0) vs.1.1.0)) statement_of tokens.now result }
+    ensures { Reads source.now (grammar.assignment depth at name) statement_of tokens.now result }
 {
     let (of, rest) = selectors(source, tokens, depth)?;
     let rest = expect(source, rest, Kind::Sign(sign::BECOMES))?;
@@ -119,6 +120,7 @@ fn target<'t>(
     Ok((assign_statement(at, variable(name, of), value), rest))
 }
 
+// compound = "begin" sequence "end"
 /// Statements behind `begin`, up to the `end`.
 #[cycle(statement)]
 pub fn compound<'t>(
@@ -127,13 +129,14 @@ pub fn compound<'t>(
     depth: u32,
 ) -> Result<(List<SynStmt>, &'t [Token]), Halt>
     requires { Ready source.now tokens.now }
-    ensures { Reads source.now (AStatement depth ∷ MoreStatements depth ∷ AToken AnEnd ∷ []) (λ vs. AndThen vs.0 vs.1.0) statements_of tokens.now result }
+    ensures { Reads source.now (grammar.compound depth) statements_of tokens.now result }
 {
     let (all, rest) = statements(source, tokens, depth)?;
     let rest = expect(source, rest, Kind::Word(word::END))?;
     Ok((all, rest))
 }
 
+// sequence = statement { ";" statement }
 /// Statements with semicolons between them.
 #[cycle(statement)]
 fn statements<'t>(
@@ -142,7 +145,7 @@ fn statements<'t>(
     depth: u32,
 ) -> Result<(List<SynStmt>, &'t [Token]), Halt>
     requires { Ready source.now tokens.now }
-    ensures { Reads source.now (AStatement depth ∷ MoreStatements depth ∷ []) (λ vs. AndThen vs.0 vs.1.0) statements_of tokens.now result }
+    ensures { Reads source.now (grammar.sequence depth) statements_of tokens.now result }
 {
     let mut all = List::new(source.alloc);
     let (first, mut rest) = statement(source, tokens, depth)?;
@@ -155,6 +158,7 @@ fn statements<'t>(
     Ok((all, rest))
 }
 
+// compound = "begin" sequence "end"
 /// A compound statement, behind `begin`.
 #[cycle(statement)]
 fn sequence<'t>(
@@ -164,13 +168,13 @@ fn sequence<'t>(
     at: Place,
 ) -> Result<(SynStmt, &'t [Token]), Halt>
     requires { Ready source.now tokens.now }
-    ensures { Reads source.now (AStatement depth ∷ MoreStatements depth ∷ AToken AnEnd ∷ [])
-        (λ vs. Does at (Sequence (AndThen vs.0 vs.1.0))) statement_of tokens.now result }
+    ensures { Reads source.now (grammar.compound_statement depth at) statement_of tokens.now result }
 {
     let (all, rest) = compound(source, tokens, depth)?;
     Ok((sequence_statement(at, all), rest))
 }
 
+// if = "if" expression "then" statement [ "else" statement ]
 /// A statement with a condition, behind `if`.
 #[cycle(statement)]
 fn choice<'t>(
@@ -180,8 +184,7 @@ fn choice<'t>(
     at: Place,
 ) -> Result<(SynStmt, &'t [Token]), Halt>
     requires { Ready source.now tokens.now }
-    ensures { Reads source.now (AnExpression depth ∷ AToken AThen ∷ AStatement depth ∷ AnElse depth ∷ [])
-        (λ vs. Does at (If vs.0 vs.1.1.0 vs.1.1.1.0)) statement_of tokens.now result }
+    ensures { Reads source.now (grammar.if_statement depth at) statement_of tokens.now result }
 {
     let (test, rest) = expression(source, tokens, depth)?;
     let rest = expect(source, rest, Kind::Word(word::THEN))?;
@@ -190,6 +193,7 @@ fn choice<'t>(
     Ok((if_statement(source.alloc, at, test, body, other)?, rest))
 }
 
+// otherwise = [ "else" statement ]
 /// The statement behind `else`, if it is there.
 #[cycle(statement)]
 fn otherwise<'t>(
@@ -198,7 +202,7 @@ fn otherwise<'t>(
     depth: u32,
 ) -> Result<(Option<Boxed<SynStmt>>, &'t [Token]), Halt>
     requires { Ready source.now tokens.now }
-    ensures { Reads source.now (AnElse depth ∷ []) (λ vs. vs.0) other_of tokens.now result }
+    ensures { Reads source.now (single (AnElse depth)) other_of tokens.now result }
 {
     let Some(after) = pass(source, tokens, Kind::Word(word::ELSE))? else {
         return Ok((None, tokens));
@@ -207,6 +211,7 @@ fn otherwise<'t>(
     Ok((Some(Boxed::new(source.alloc, body)?), rest))
 }
 
+// while = "while" expression "do" statement
 /// A loop with its condition first, behind `while`.
 #[cycle(statement)]
 fn while_loop<'t>(
@@ -216,7 +221,7 @@ fn while_loop<'t>(
     at: Place,
 ) -> Result<(SynStmt, &'t [Token]), Halt>
     requires { Ready source.now tokens.now }
-    ensures { Reads source.now (AnExpression depth ∷ AToken ADo ∷ AStatement depth ∷ []) (λ vs. Does at (While vs.0 vs.1.1.0)) statement_of tokens.now result }
+    ensures { Reads source.now (grammar.while_statement depth at) statement_of tokens.now result }
 {
     let (test, rest) = expression(source, tokens, depth)?;
     let rest = expect(source, rest, Kind::Word(word::DO))?;
@@ -224,6 +229,7 @@ fn while_loop<'t>(
     Ok((while_statement(source.alloc, at, test, body)?, rest))
 }
 
+// repeat = "repeat" sequence "until" expression
 /// A loop with its condition last, behind `repeat`.
 #[cycle(statement)]
 fn repeat_loop<'t>(
@@ -233,8 +239,7 @@ fn repeat_loop<'t>(
     at: Place,
 ) -> Result<(SynStmt, &'t [Token]), Halt>
     requires { Ready source.now tokens.now }
-    ensures { Reads source.now (AStatement depth ∷ MoreStatements depth ∷ AToken AnUntil ∷ AnExpression depth ∷ [])
-        (λ vs. Does at (Repeat (AndThen vs.0 vs.1.0) vs.1.1.1.0)) statement_of tokens.now result }
+    ensures { Reads source.now (grammar.repeat_statement depth at) statement_of tokens.now result }
 {
     let (body, rest) = statements(source, tokens, depth)?;
     let rest = expect(source, rest, Kind::Word(word::UNTIL))?;
@@ -242,6 +247,7 @@ fn repeat_loop<'t>(
     Ok((repeat_statement(at, body, test), rest))
 }
 
+// for = "for" name ":=" expression ( "to" | "downto" ) expression "do" statement
 /// A loop over a variable, behind `for`.
 #[cycle(statement)]
 fn for_loop<'t>(
@@ -251,8 +257,7 @@ fn for_loop<'t>(
     at: Place,
 ) -> Result<(SynStmt, &'t [Token]), Halt>
     requires { Ready source.now tokens.now }
-    ensures { Reads source.now (AName ∷ AToken ABecomes ∷ AnExpression depth ∷ ADirection ∷ AnExpression depth ∷ AToken ADo
-        ∷ AStatement depth ∷ []) (λ vs. Does at (For vs.0 vs.1.1.0 vs.1.1.1.0 vs.1.1.1.1.0 vs.1.1.1.1.1.1.0)) statement_of tokens.now result }
+    ensures { Reads source.now (grammar.for_statement depth at) statement_of tokens.now result }
 {
     let (name, rest) = name(source, tokens)?;
     let rest = expect(source, rest, Kind::Sign(sign::BECOMES))?;
@@ -265,10 +270,11 @@ fn for_loop<'t>(
     Ok((for_statement(source.alloc, at, name, bounds, body)?, rest))
 }
 
+// direction = "to" | "downto"
 /// Whether a loop goes down.
 fn direction<'t>(source: &Source, tokens: &'t [Token]) -> Result<(bool, &'t [Token]), Halt>
     requires { Ready source.now tokens.now }
-    ensures { Reads source.now (ADirection ∷ []) (λ vs. vs.0) (λ b. b) tokens.now result }
+    ensures { Reads source.now (single ADirection) itself tokens.now result }
 {
     let (first, rest) = cut(source, tokens)?;
     if is(first, Kind::Word(word::TO)) {
@@ -280,6 +286,7 @@ fn direction<'t>(source: &Source, tokens: &'t [Token]) -> Result<(bool, &'t [Tok
     Err(misplaced(first))
 }
 
+// forall = "forall" name ":=" expression "to" expression "do" statement
 /// Processes over the values of an index, behind `forall`.
 #[cycle(statement)]
 fn forall<'t>(
@@ -289,8 +296,7 @@ fn forall<'t>(
     at: Place,
 ) -> Result<(SynStmt, &'t [Token]), Halt>
     requires { Ready source.now tokens.now }
-    ensures { Reads source.now (AName ∷ AToken ABecomes ∷ AnExpression depth ∷ AToken ATo ∷ AnExpression depth ∷ AToken ADo
-        ∷ AStatement depth ∷ []) (λ vs. Does at (Forall vs.0 vs.1.1.0 vs.1.1.1.1.0 vs.1.1.1.1.1.1.0)) statement_of tokens.now result }
+    ensures { Reads source.now (grammar.forall_statement depth at) statement_of tokens.now result }
 {
     let (name, rest) = name(source, tokens)?;
     let rest = expect(source, rest, Kind::Sign(sign::BECOMES))?;
@@ -305,6 +311,7 @@ fn forall<'t>(
     ))
 }
 
+// case = "case" expression "of" arm { ";" arm } [ ";" ] "end"
 /// A choice among constants, behind `case`.
 #[cycle(statement)]
 fn case_choice<'t>(
@@ -314,8 +321,7 @@ fn case_choice<'t>(
     at: Place,
 ) -> Result<(SynStmt, &'t [Token]), Halt>
     requires { Ready source.now tokens.now }
-    ensures { Reads source.now (AnExpression depth ∷ AToken AnOf ∷ AConstant ∷ MoreLabels ∷ AStatement depth ∷ MoreArms depth ∷ [])
-        (λ vs. Does at (Case vs.0 (Or (On (vs.1.1.0 ∷ vs.1.1.1.0) vs.1.1.1.1.0) vs.1.1.1.1.1.0))) statement_of tokens.now result }
+    ensures { Reads source.now (grammar.case_statement depth at) statement_of tokens.now result }
 {
     let (test, rest) = expression(source, tokens, depth)?;
     let rest = expect(source, rest, Kind::Word(word::OF))?;
@@ -323,6 +329,7 @@ fn case_choice<'t>(
     Ok((case_statement(at, test, all), rest))
 }
 
+// arms = arm { ";" arm } [ ";" ] "end"
 /// The arms of a choice, up to the `end`.
 #[cycle(statement)]
 fn arms<'t>(
@@ -331,8 +338,7 @@ fn arms<'t>(
     depth: u32,
 ) -> Result<(List<SynArm>, &'t [Token]), Halt>
     requires { Ready source.now tokens.now }
-    ensures { Reads source.now (AConstant ∷ MoreLabels ∷ AStatement depth ∷ MoreArms depth ∷ [])
-        (λ vs. Or (On (vs.0 ∷ vs.1.0) vs.1.1.0) vs.1.1.1.0) arms_of tokens.now result }
+    ensures { Reads source.now (grammar.arms depth) arms_of tokens.now result }
 {
     let mut all = List::new(source.alloc);
     let (first, mut rest) = arm(source, tokens, depth)?;
@@ -349,21 +355,23 @@ fn arms<'t>(
     Ok((all, rest))
 }
 
+// arm = constant { "," constant } ":" statement
 /// One arm: its constants and its statement.
 #[cycle(statement)]
 fn arm<'t>(source: &Source, tokens: &'t [Token], depth: u32) -> Result<(SynArm, &'t [Token]), Halt>
     requires { Ready source.now tokens.now }
-    ensures { Reads source.now (AConstant ∷ MoreLabels ∷ AStatement depth ∷ []) (λ vs. On (vs.0 ∷ vs.1.0) vs.1.1.0) arm_of tokens.now result }
+    ensures { Reads source.now (grammar.arm depth) arm_of tokens.now result }
 {
     let (constants, rest) = labels(source, tokens)?;
     let (body, rest) = statement(source, rest, depth)?;
     Ok((make_arm(constants, body), rest))
 }
 
+// labels = constant { "," constant } ":"
 /// The constants of an arm, up to the colon.
 fn labels<'t>(source: &Source, tokens: &'t [Token]) -> Result<(List<SynConst>, &'t [Token]), Halt>
     requires { Ready source.now tokens.now }
-    ensures { Reads source.now (AConstant ∷ MoreLabels ∷ []) (λ vs. vs.0 ∷ vs.1.0) (λ cs. cs) tokens.now result }
+    ensures { Reads source.now grammar.labels itself tokens.now result }
 {
     let mut all = List::new(source.alloc);
     let (first, mut rest) = constant(source, tokens)?;
@@ -377,6 +385,7 @@ fn labels<'t>(source: &Source, tokens: &'t [Token]) -> Result<(List<SynConst>, &
     Ok((all, rest))
 }
 
+// parallel = "parallel" sequence { "|" sequence } "end"
 /// Processes, behind `parallel` and up to the `end`.
 #[cycle(statement)]
 fn parallel<'t>(
@@ -386,13 +395,13 @@ fn parallel<'t>(
     at: Place,
 ) -> Result<(SynStmt, &'t [Token]), Halt>
     requires { Ready source.now tokens.now }
-    ensures { Reads source.now (AStatement depth ∷ MoreStatements depth ∷ MoreBranches depth ∷ [])
-        (λ vs. Does at (Parallel (Beside (AndThen vs.0 vs.1.0) vs.1.1.0))) statement_of tokens.now result }
+    ensures { Reads source.now (grammar.parallel_statement depth at) statement_of tokens.now result }
 {
     let (all, rest) = branches(source, tokens, depth)?;
     Ok((parallel_statement(at, all), rest))
 }
 
+// branches = sequence { "|" sequence } "end"
 /// The statements of processes, up to the `end`.
 #[cycle(statement)]
 fn branches<'t>(
@@ -401,8 +410,7 @@ fn branches<'t>(
     depth: u32,
 ) -> Result<(List<SynBranch>, &'t [Token]), Halt>
     requires { Ready source.now tokens.now }
-    ensures { Reads source.now (AStatement depth ∷ MoreStatements depth ∷ MoreBranches depth ∷ [])
-        (λ vs. Beside (AndThen vs.0 vs.1.0) vs.1.1.0) branches_of tokens.now result }
+    ensures { Reads source.now (grammar.branches depth) branches_of tokens.now result }
 {
     let mut all = List::new(source.alloc);
     let (first, mut rest) = statements(source, tokens, depth)?;
@@ -416,6 +424,7 @@ fn branches<'t>(
     Ok((all, rest))
 }
 
+// assume = "assume" expression
 /// An assumption, behind `assume`.
 fn assume<'t>(
     source: &Source,
@@ -424,7 +433,7 @@ fn assume<'t>(
     at: Place,
 ) -> Result<(SynStmt, &'t [Token]), Halt>
     requires { Ready source.now tokens.now }
-    ensures { Reads source.now (AnExpression depth ∷ []) (λ vs. Does at (Assume vs.0)) statement_of tokens.now result }
+    ensures { Reads source.now (grammar.assume_statement depth at) statement_of tokens.now result }
 {
     let (test, rest) = expression(source, tokens, depth)?;
     Ok((assume_statement(at, test), rest))

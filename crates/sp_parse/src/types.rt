@@ -1,10 +1,9 @@
 //! Types, and names of one type.
 
-ghost use Rattle.std.specs.Prelude.{[], ◌∷◌};
-ghost use Rattle.sp_tree.specs.Words.{Colon as AColon, Open as AnOpen, Close as AClose, OpenIndex as AnOpenIndex, CloseIndex as ACloseIndex, Range as ARange, Of as AnOf};
-ghost use Rattle.sp_tree.specs.declared.syntax.SynKind.TheVariants.{Array as AnArray, Channel as AChannel};
-ghost use Rattle.sp_grammar.specs.Symbols.{AToken, AName, MoreNames, AConstant, AType, MoreFields};
+ghost use Rattle.sp_grammar.specs.Symbols.{AType};
+ghost use Rattle.sp_parse.specs.Productions.{itself, single};
 ghost use Rattle.sp_parse.specs.Reads.{Ready, Reads};
+ghost use Rattle.sp_parse.specs.BlockProductions as grammar;
 
 use crate::constants::constant;
 use crate::names::{name, names};
@@ -14,11 +13,11 @@ use crate::spelled::name_at;
 use sp_base::{Halt, List};
 use sp_tree::{Kind, Name, SynGroup, SynKind, Token, sign, word};
 
+// group = names ":" name
 /// Names and their type.
 pub fn group<'t>(source: &Source, tokens: &'t [Token]) -> Result<(SynGroup, &'t [Token]), Halt>
     requires { Ready source.now tokens.now }
-    ensures { Reads source.now (AName ∷ MoreNames ∷ AToken AColon ∷ AName ∷ [])
-        (λ vs. record { names = vs.0 ∷ vs.1.0; kind = vs.1.1.1.0 }) (λ g. g) tokens.now result }
+    ensures { Reads source.now grammar.group itself tokens.now result }
 {
     let (all, rest) = names(source, tokens)?;
     let rest = expect(source, rest, Kind::Sign(sign::COLON))?;
@@ -26,11 +25,11 @@ pub fn group<'t>(source: &Source, tokens: &'t [Token]) -> Result<(SynGroup, &'t 
     Ok((SynGroup { names: all, kind }, rest))
 }
 
+// fields = names ":" name { ";" names ":" name } [ ";" ]
 /// The fields of a record, behind `record` and up to the `end`.
 fn fields<'t>(source: &Source, tokens: &'t [Token]) -> Result<(List<SynGroup>, &'t [Token]), Halt>
     requires { Ready source.now tokens.now }
-    ensures { Reads source.now (AName ∷ MoreNames ∷ AToken AColon ∷ AName ∷ MoreFields ∷ [])
-        (λ vs. record { names = vs.0 ∷ vs.1.0; kind = vs.1.1.1.0 } ∷ vs.1.1.1.1.0) (λ gs. gs) tokens.now result }
+    ensures { Reads source.now grammar.fields itself tokens.now result }
 {
     let (first, mut rest) = group(source, tokens)?;
     let mut all = List::new(source.alloc);
@@ -47,21 +46,22 @@ fn fields<'t>(source: &Source, tokens: &'t [Token]) -> Result<(List<SynGroup>, &
     Ok((all, rest))
 }
 
+// listed = names ")"
 /// Names up to the closing parenthesis, behind the opening one.
 pub fn listed<'t>(source: &Source, tokens: &'t [Token]) -> Result<(List<Name>, &'t [Token]), Halt>
     requires { Ready source.now tokens.now }
-    ensures { Reads source.now (AName ∷ MoreNames ∷ AToken AClose ∷ []) (λ vs. vs.0 ∷ vs.1.0) (λ ns. ns) tokens.now result }
+    ensures { Reads source.now grammar.listed_names itself tokens.now result }
 {
     let (all, rest) = names(source, tokens)?;
     let rest = expect(source, rest, Kind::Sign(sign::CLOSE))?;
     Ok((all, rest))
 }
 
+// array = "array" "[" constant ".." constant "]" "of" name
 /// The index and the elements of an array, behind `array`.
 fn array<'t>(source: &Source, tokens: &'t [Token]) -> Result<(SynKind, &'t [Token]), Halt>
     requires { Ready source.now tokens.now }
-    ensures { Reads source.now (AToken AnOpenIndex ∷ AConstant ∷ AToken ARange ∷ AConstant ∷ AToken ACloseIndex ∷ AToken AnOf
-        ∷ AName ∷ []) (λ vs. AnArray vs.1.0 vs.1.1.1.0 vs.1.1.1.1.1.1.0) (λ k. k) tokens.now result }
+    ensures { Reads source.now grammar.array_type itself tokens.now result }
 {
     let rest = expect(source, tokens, Kind::Sign(sign::OPEN_INDEX))?;
     let (low, rest) = constant(source, rest)?;
@@ -73,20 +73,23 @@ fn array<'t>(source: &Source, tokens: &'t [Token]) -> Result<(SynKind, &'t [Toke
     Ok((SynKind::Array(low, high, of), rest))
 }
 
+// channel = "*" "(" names ")"
 /// The message types of a channel, behind the `*`.
 fn channel<'t>(source: &Source, tokens: &'t [Token]) -> Result<(SynKind, &'t [Token]), Halt>
     requires { Ready source.now tokens.now }
-    ensures { Reads source.now (AToken AnOpen ∷ AName ∷ MoreNames ∷ AToken AClose ∷ []) (λ vs. AChannel (vs.1.0 ∷ vs.1.1.0)) (λ k. k) tokens.now result }
+    ensures { Reads source.now grammar.channel_type itself tokens.now result }
 {
     let rest = expect(source, tokens, Kind::Sign(sign::OPEN))?;
     let (all, rest) = listed(source, rest)?;
     Ok((SynKind::Channel(all), rest))
 }
 
+// type = name | "(" names ")" | "array" "[" constant ".." constant "]" "of" name
+//      | "record" fields "end" | "*" "(" names ")"
 /// The definition of a type.
 pub fn type_of<'t>(source: &Source, tokens: &'t [Token]) -> Result<(SynKind, &'t [Token]), Halt>
     requires { Ready source.now tokens.now }
-    ensures { Reads source.now (AType ∷ []) (λ vs. vs.0) (λ k. k) tokens.now result }
+    ensures { Reads source.now (single AType) itself tokens.now result }
 {
     let (first, rest) = cut(source, tokens)?;
     if is(first, Kind::Name) {

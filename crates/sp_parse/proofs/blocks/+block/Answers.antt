@@ -20,7 +20,7 @@ pub parts-more-init : goal.parts-more-init
 parts-more-init t c = parts_start c.args.depth c.requires c.new-all.ensures
 
 pub parts-returns-in_err-statements : goal.parts-returns-in_err-statements
-parts-returns-in_err-statements t c = read_err _ _ _ _ _ c.from_residual-in_err-statements.result _ (err_from_is_err_and c.from_residual-in_err-statements.result c.from_residual-in_err-statements.ensures.1) (halts_pending c.more.invariant _ (row_halts (row.parts row.parts_begin) refl (with_at w.Begin c.in_ok-first.ensures c.is.ensures c.if-is.true) refl _ c.in_err-statements.ensures))
+parts-returns-in_err-statements t c = read_err _ _ _ _ c.from_residual-in_err-statements.result _ (err_from_is_err_and c.from_residual-in_err-statements.result c.from_residual-in_err-statements.ensures.1) (halts_pending c.more.invariant _ (row_halts (row.parts row.parts_begin) refl (with_at w.Begin c.in_ok-first.ensures c.is.ensures c.if-is.true) refl _ c.in_err-statements.ensures))
 
 pub parts-returns-then-is : goal.parts-returns-then-is
 parts-returns-then-is t c = parts_end c.args.depth c.more.all c.more.invariant (with_at w.Begin c.in_ok-first.ensures c.is.ensures c.if-is.true) c.in_ok-statements.ensures c.whole_block.ensures
@@ -29,7 +29,7 @@ pub parts-declarations-requires : goal.parts-declarations-requires
 parts-declarations-requires t c = (omega (arith, c.more.invariant.shorter), (c.more.invariant.ready, record { token = c.in_ok-first.first; rest = c.in_ok-first.after.now; other = (other_at c.in_ok-first.first w.Begin c.is.ensures c.if-is.false); all = c.in_ok-first.ensures.all }))
 
 pub parts-returns-in_err-more : goal.parts-returns-in_err-more
-parts-returns-in_err-more t c = read_err _ _ _ _ _ c.from_residual-in_err-more.result _ (err_from_is_err_and c.from_residual-in_err-more.result c.from_residual-in_err-more.ensures.1) (halts_pending c.more.invariant _ c.in_err-more.ensures)
+parts-returns-in_err-more t c = read_err _ _ _ _ c.from_residual-in_err-more.result _ (err_from_is_err_and c.from_residual-in_err-more.result c.from_residual-in_err-more.ensures.1) (halts_pending c.more.invariant _ c.in_err-more.ensures)
 
 pub parts-more-preserved : goal.parts-more-preserved
 parts-more-preserved t c = parts_more c.args.depth c.more.all c.in_ok-more.more c.more.invariant c.in_ok-more.ensures

@@ -10,13 +10,13 @@ use Rattle.sp_parse.proofs.Declares.{with_is, takes_alone, no_constant}
 use Rattle.sp_parse.proofs.constants.constant.Goals as goal
 
 pub returns-in_err-value : goal.returns-in_err-value
-returns-in_err-value c = read_err _ _ _ _ _ c.from_residual-in_err-value.result _ (err_from_is_err_and c.from_residual-in_err-value.result c.from_residual-in_err-value.ensures.1) (row_halts (row.constant row.constant_plus) refl (with_at w.Plus c.in_ok-first.ensures c.is.ensures c.if-is.true) refl _ c.in_err-value.ensures)
+returns-in_err-value c = read_err _ _ _ _ c.from_residual-in_err-value.result _ (err_from_is_err_and c.from_residual-in_err-value.result c.from_residual-in_err-value.ensures.1) (row_halts (row.constant row.constant_plus) refl (with_at w.Plus c.in_ok-first.ensures c.is.ensures c.if-is.true) refl _ c.in_err-value.ensures)
 
 pub returns-then-is : goal.returns-then-is
 returns-then-is c = row_reads (row.constant row.constant_plus) refl (with_at w.Plus c.in_ok-first.ensures c.is.ensures c.if-is.true) tt c.in_ok-value.ensures (ap (λ (v : value.the_data). record { at = c.in_ok-first.first.at; negative = Some false; value = v }) c.in_ok-value.ensures.same)
 
 pub returns-in_err-value-2 : goal.returns-in_err-value-2
-returns-in_err-value-2 c = read_err _ _ _ _ _ c.from_residual-in_err-value-2.result _ (err_from_is_err_and c.from_residual-in_err-value-2.result c.from_residual-in_err-value-2.ensures.1) (row_halts (row.constant row.constant_minus) refl (with_at w.Minus c.in_ok-first.ensures c.is-2.ensures c.if-is-2.true) refl _ c.in_err-value-2.ensures)
+returns-in_err-value-2 c = read_err _ _ _ _ c.from_residual-in_err-value-2.result _ (err_from_is_err_and c.from_residual-in_err-value-2.result c.from_residual-in_err-value-2.ensures.1) (row_halts (row.constant row.constant_minus) refl (with_at w.Minus c.in_ok-first.ensures c.is-2.ensures c.if-is-2.true) refl _ c.in_err-value-2.ensures)
 
 pub returns-then-is-2 : goal.returns-then-is-2
 returns-then-is-2 c = row_reads (row.constant row.constant_minus) refl (with_at w.Minus c.in_ok-first.ensures c.is-2.ensures c.if-is-2.true) tt c.in_ok-value-2.ensures (ap (λ (v : value.the_data). record { at = c.in_ok-first.first.at; negative = Some true; value = v }) c.in_ok-value-2.ensures.same)

@@ -14,7 +14,7 @@ pub pass-requires : goal.pass-requires
 pass-requires c = (c.more.invariant 0).ready
 
 pub returns-in_err-pass : goal.returns-in_err-pass
-returns-in_err-pass c = λ d. so_far_err _ _ _ _ _ _ c.from_residual-in_err-pass.result _ (err_from_is_err_and c.from_residual-in_err-pass.result c.from_residual-in_err-pass.ensures.1) (halts_pending (c.more.invariant d) _ (halts_short c.args.source.now kind.Name c.more.rest.now _ c.in_err-pass.ensures (MoreConstants d)))
+returns-in_err-pass c = λ d. so_far_err _ _ _ _ _ c.from_residual-in_err-pass.result _ (err_from_is_err_and c.from_residual-in_err-pass.result c.from_residual-in_err-pass.ensures.1) (halts_pending (c.more.invariant d) _ (halts_short c.args.source.now kind.Name c.more.rest.now _ c.in_err-pass.ensures (MoreConstants d)))
 
 pub one_constant-requires-in-Some : goal.one_constant-requires-in-Some
 one_constant-requires-in-Some c = (c.more.invariant 0).ready
@@ -23,7 +23,7 @@ pub more-smaller : goal.more-smaller
 more-smaller c = name_less (c.more.invariant 0).ready c.in_ok-next.ensures
 
 pub returns-in_err-next : goal.returns-in_err-next
-returns-in_err-next c = λ d. so_far_err _ _ _ _ _ _ c.from_residual-in_err-next.result _ (err_from_is_err_and c.from_residual-in_err-next.result c.from_residual-in_err-next.ensures.1) (no_constants c.args.all c.more.all c.more.invariant (passed c.args.source.now kind.Name c.more.rest.now _ c.in-Some.field-0 c.in_ok-pass.ensures c.in-Some.is) _ c.in_err-next.ensures d)
+returns-in_err-next c = λ d. so_far_err _ _ _ _ _ c.from_residual-in_err-next.result _ (err_from_is_err_and c.from_residual-in_err-next.result c.from_residual-in_err-next.ensures.1) (no_constants c.args.all c.more.all c.more.invariant (passed c.args.source.now kind.Name c.more.rest.now _ c.in-Some.field-0 c.in_ok-pass.ensures c.in-Some.is) _ c.in_err-next.ensures d)
 
 pub more-preserved : goal.more-preserved
 more-preserved c = constants_more c.args.all c.more.all c.more.invariant c.in_ok-next.ensures c.in_ok-push-2.ensures.ok

@@ -12,7 +12,7 @@ pub more-init : goal.more-init
 more-init c = names_start c.in_ok-first.ensures (c.in_ok-push.ensures.ok ∙ ap (λ l. l ++ c.in_ok-first.first ∷ []) c.new-all.ensures)
 
 pub returns-in_err-next : goal.returns-in_err-next
-returns-in_err-next c = read_err _ _ _ _ _ c.from_residual-in_err-next.result _ (err_from_is_err_and c.from_residual-in_err-next.result c.from_residual-in_err-next.ensures.1) (halts_on (AName ∷ []) row.next_name refl refl c.more.invariant (passed c.args.source.now w.Comma c.more.rest.now _ c.in-Some.after c.in_ok-after.ensures c.in-Some.is) _ c.in_err-next.ensures)
+returns-in_err-next c = read_err _ _ _ _ c.from_residual-in_err-next.result _ (err_from_is_err_and c.from_residual-in_err-next.result c.from_residual-in_err-next.ensures.1) (halts_on (AName ∷ []) row.next_name refl refl c.more.invariant (passed c.args.source.now w.Comma c.more.rest.now _ c.in-Some.after c.in_ok-after.ensures c.in-Some.is) _ c.in_err-next.ensures)
 
 pub more-preserved : goal.more-preserved
 more-preserved c = names_more c.more.all c.more.invariant (passed c.args.source.now w.Comma c.more.rest.now _ c.in-Some.after c.in_ok-after.ensures c.in-Some.is) c.in_ok-next.ensures c.in_ok-push-2.ensures.ok

@@ -55,7 +55,7 @@ pub statements-more-init : goal.statements-more-init
 statements-more-init t c = statements_start c.args.source.now c.args.depth c.in_ok-first.first c.push.new.self c.in_ok-first.ensures (c.in_ok-push.ensures.ok ∙ ap (λ l. l ++ c.in_ok-first.first ∷ []) c.new-all.ensures)
 
 pub statements-returns-in_err-next : goal.statements-returns-in_err-next
-statements-returns-in_err-next t c = read_err _ _ _ _ _ c.from_residual-in_err-next.result _ (err_from_is_err_and c.from_residual-in_err-next.result c.from_residual-in_err-next.ensures.1) (statements_halt c.args.source.now c.args.depth c.more.all c.more.invariant (passed c.args.source.now w.Semicolon c.more.rest.now _ c.in-Some.after c.in_ok-after.ensures c.in-Some.is) _ c.in_err-next.ensures)
+statements-returns-in_err-next t c = read_err _ _ _ _ c.from_residual-in_err-next.result _ (err_from_is_err_and c.from_residual-in_err-next.result c.from_residual-in_err-next.ensures.1) (statements_halt c.args.source.now c.args.depth c.more.all c.more.invariant (passed c.args.source.now w.Semicolon c.more.rest.now _ c.in-Some.after c.in_ok-after.ensures c.in-Some.is) _ c.in_err-next.ensures)
 
 pub statements-more-preserved : goal.statements-more-preserved
 statements-more-preserved t c = statements_more c.args.source.now c.args.depth c.in_ok-next.next c.more.all c.push-in-Some.new.self c.more.invariant (passed c.args.source.now w.Semicolon c.more.rest.now _ c.in-Some.after c.in_ok-after.ensures c.in-Some.is) c.in_ok-next.ensures c.in_ok-push-2.ensures.ok
@@ -70,7 +70,7 @@ pub otherwise-returns-in_default : goal.otherwise-returns-in_default
 otherwise-returns-in_default t c = no_other c.args.source.now c.args.depth c.requires (not_passed c.args.source.now w.Else c.args.tokens.now _ c.in_ok-after.ensures c.in_default.is)
 
 pub otherwise-returns-in_err-body : goal.otherwise-returns-in_err-body
-otherwise-returns-in_err-body t c = read_err _ _ _ _ _ c.from_residual-in_err-body.result _ (err_from_is_err_and c.from_residual-in_err-body.result c.from_residual-in_err-body.ensures.1) (other_halts c.args.source.now c.args.depth (passed c.args.source.now w.Else c.args.tokens.now _ c.in-Some.after c.in_ok-after.ensures c.in-Some.is) _ c.in_err-body.ensures)
+otherwise-returns-in_err-body t c = read_err _ _ _ _ c.from_residual-in_err-body.result _ (err_from_is_err_and c.from_residual-in_err-body.result c.from_residual-in_err-body.ensures.1) (other_halts c.args.source.now c.args.depth (passed c.args.source.now w.Else c.args.tokens.now _ c.in-Some.after c.in_ok-after.ensures c.in-Some.is) _ c.in_err-body.ensures)
 
 pub otherwise-returns : goal.otherwise-returns
 otherwise-returns t c = other_is c.args.source.now c.args.depth c.in_ok-body.body c.in_ok-new.field-0 (passed c.args.source.now w.Else c.args.tokens.now _ c.in-Some.after c.in_ok-after.ensures c.in-Some.is) c.in_ok-body.ensures c.in_ok-new.ensures
@@ -97,19 +97,19 @@ pub arms-more-init : goal.arms-more-init
 arms-more-init t c = arms_start c.args.source.now c.args.depth c.in_ok-first.first c.push.new.self c.in_ok-first.ensures (c.in_ok-push.ensures.ok ∙ ap (λ l. l ++ c.in_ok-first.first ∷ []) c.new-all.ensures)
 
 pub arms-returns-in_err-behind : goal.arms-returns-in_err-behind
-arms-returns-in_err-behind t c = read_err _ _ _ _ _ c.from_residual-in_err-behind.result _ (err_from_is_err_and c.from_residual-in_err-behind.result c.from_residual-in_err-behind.ensures.1) (arms_end_halt c.args.source.now c.args.depth c.more.all c.more.invariant (passed c.args.source.now w.Semicolon c.more.rest.now _ c.in-Some.after c.in_ok-after.ensures c.in-Some.is) _ (pass_halts c.args.source.now w.End c.in-Some.after.now (sym.ArmOrEnd c.args.depth) _ c.in_err-behind.ensures))
+arms-returns-in_err-behind t c = read_err _ _ _ _ c.from_residual-in_err-behind.result _ (err_from_is_err_and c.from_residual-in_err-behind.result c.from_residual-in_err-behind.ensures.1) (arms_end_halt c.args.source.now c.args.depth c.more.all c.more.invariant (passed c.args.source.now w.Semicolon c.more.rest.now _ c.in-Some.after c.in_ok-after.ensures c.in-Some.is) _ (pass_halts c.args.source.now w.End c.in-Some.after.now (sym.ArmOrEnd c.args.depth) _ c.in_err-behind.ensures))
 
 pub arms-returns-in-Some-2 : goal.arms-returns-in-Some-2
 arms-returns-in-Some-2 t c = arms_last c.args.source.now c.args.depth c.more.all c.more.invariant (passed c.args.source.now w.Semicolon c.more.rest.now _ c.in-Some.after c.in_ok-after.ensures c.in-Some.is) (passed c.args.source.now w.End c.in-Some.after.now _ c.in-Some-2.behind c.in_ok-behind.ensures c.in-Some-2.is)
 
 pub arms-returns-in_err-next : goal.arms-returns-in_err-next
-arms-returns-in_err-next t c = read_err _ _ _ _ _ c.from_residual-in_err-next.result _ (err_from_is_err_and c.from_residual-in_err-next.result c.from_residual-in_err-next.ensures.1) (arms_halt c.args.source.now c.args.depth c.more.all c.more.invariant (passed c.args.source.now w.Semicolon c.more.rest.now _ c.in-Some.after c.in_ok-after.ensures c.in-Some.is) (not_passed c.args.source.now w.End c.in-Some.after.now _ c.in_ok-behind.ensures c.in_default-2.is) _ c.in_err-next.ensures)
+arms-returns-in_err-next t c = read_err _ _ _ _ c.from_residual-in_err-next.result _ (err_from_is_err_and c.from_residual-in_err-next.result c.from_residual-in_err-next.ensures.1) (arms_halt c.args.source.now c.args.depth c.more.all c.more.invariant (passed c.args.source.now w.Semicolon c.more.rest.now _ c.in-Some.after c.in_ok-after.ensures c.in-Some.is) (not_passed c.args.source.now w.End c.in-Some.after.now _ c.in_ok-behind.ensures c.in_default-2.is) _ c.in_err-next.ensures)
 
 pub arms-more-preserved : goal.arms-more-preserved
 arms-more-preserved t c = arms_more c.args.source.now c.args.depth c.in_ok-next.next c.more.all c.push-in-Some.new.self c.more.invariant (passed c.args.source.now w.Semicolon c.more.rest.now _ c.in-Some.after c.in_ok-after.ensures c.in-Some.is) (not_passed c.args.source.now w.End c.in-Some.after.now _ c.in_ok-behind.ensures c.in_default-2.is) c.in_ok-next.ensures c.in_ok-push-2.ensures.ok
 
 pub arms-returns-in_err-rest : goal.arms-returns-in_err-rest
-arms-returns-in_err-rest t c = read_err _ _ _ _ _ c.from_residual-in_err-rest.result _ (err_from_is_err_and c.from_residual-in_err-rest.result c.from_residual-in_err-rest.ensures.1) (arms_close_halt c.args.source.now c.args.depth c.more.all c.more.invariant (not_passed c.args.source.now w.Semicolon c.more.rest.now _ c.in_ok-after.ensures c.in_default.is) _ c.in_err-rest.ensures)
+arms-returns-in_err-rest t c = read_err _ _ _ _ c.from_residual-in_err-rest.result _ (err_from_is_err_and c.from_residual-in_err-rest.result c.from_residual-in_err-rest.ensures.1) (arms_close_halt c.args.source.now c.args.depth c.more.all c.more.invariant (not_passed c.args.source.now w.Semicolon c.more.rest.now _ c.in_ok-after.ensures c.in_default.is) _ c.in_err-rest.ensures)
 
 pub arms-returns : goal.arms-returns
 arms-returns t c = arms_done c.args.source.now c.args.depth c.more.all c.more.invariant c.in_ok-rest.ensures
@@ -118,13 +118,13 @@ pub branches-more-init : goal.branches-more-init
 branches-more-init t c = branches_start c.args.source.now c.args.depth c.in_ok-first.first c.process.result c.push.new.self c.in_ok-first.ensures c.process.ensures (c.in_ok-push.ensures.ok ∙ ap (λ l. l ++ c.process.result ∷ []) c.new-all.ensures)
 
 pub branches-returns-in_err-next : goal.branches-returns-in_err-next
-branches-returns-in_err-next t c = read_err _ _ _ _ _ c.from_residual-in_err-next.result _ (err_from_is_err_and c.from_residual-in_err-next.result c.from_residual-in_err-next.ensures.1) (branches_halt c.args.source.now c.args.depth c.more.all c.more.invariant (passed c.args.source.now w.Bar c.more.rest.now _ c.in-Some.after c.in_ok-after.ensures c.in-Some.is) _ c.in_err-next.ensures)
+branches-returns-in_err-next t c = read_err _ _ _ _ c.from_residual-in_err-next.result _ (err_from_is_err_and c.from_residual-in_err-next.result c.from_residual-in_err-next.ensures.1) (branches_halt c.args.source.now c.args.depth c.more.all c.more.invariant (passed c.args.source.now w.Bar c.more.rest.now _ c.in-Some.after c.in_ok-after.ensures c.in-Some.is) _ c.in_err-next.ensures)
 
 pub branches-more-preserved : goal.branches-more-preserved
 branches-more-preserved t c = branches_more c.args.source.now c.args.depth c.in_ok-next.next c.process-in-Some.result c.more.all c.push-in-Some.new.self c.more.invariant (passed c.args.source.now w.Bar c.more.rest.now _ c.in-Some.after c.in_ok-after.ensures c.in-Some.is) c.in_ok-next.ensures c.process-in-Some.ensures c.in_ok-push-2.ensures.ok
 
 pub branches-returns-in_err-rest : goal.branches-returns-in_err-rest
-branches-returns-in_err-rest t c = read_err _ _ _ _ _ c.from_residual-in_err-rest.result _ (err_from_is_err_and c.from_residual-in_err-rest.result c.from_residual-in_err-rest.ensures.1) (branches_close_halt c.args.source.now c.args.depth c.more.all c.more.invariant (not_passed c.args.source.now w.Bar c.more.rest.now _ c.in_ok-after.ensures c.in_default.is) _ c.in_err-rest.ensures)
+branches-returns-in_err-rest t c = read_err _ _ _ _ c.from_residual-in_err-rest.result _ (err_from_is_err_and c.from_residual-in_err-rest.result c.from_residual-in_err-rest.ensures.1) (branches_close_halt c.args.source.now c.args.depth c.more.all c.more.invariant (not_passed c.args.source.now w.Bar c.more.rest.now _ c.in_ok-after.ensures c.in_default.is) _ c.in_err-rest.ensures)
 
 pub branches-returns : goal.branches-returns
 branches-returns t c = branches_done c.args.source.now c.args.depth c.more.all c.more.invariant c.in_ok-rest.ensures

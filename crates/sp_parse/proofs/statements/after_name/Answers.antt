@@ -10,13 +10,13 @@ use Rattle.sp_parse.proofs.ReadStatements.{call_halts, call_is, becomes_halts, b
 use Rattle.sp_parse.proofs.statements.after_name.Goals as goal
 
 pub returns-in_err-args : goal.returns-in_err-args
-returns-in_err-args c = read_err _ _ _ _ _ c.from_residual-in_err-args.result _ (err_from_is_err_and c.from_residual-in_err-args.result c.from_residual-in_err-args.ensures.1) (call_halts c.args.source.now c.args.depth (with_at w.Open c.in_ok-first.ensures c.is.ensures c.if-is.true) _ c.in_err-args.ensures)
+returns-in_err-args c = read_err _ _ _ _ c.from_residual-in_err-args.result _ (err_from_is_err_and c.from_residual-in_err-args.result c.from_residual-in_err-args.ensures.1) (call_halts c.args.source.now c.args.depth (with_at w.Open c.in_ok-first.ensures c.is.ensures c.if-is.true) _ c.in_err-args.ensures)
 
 pub returns-then-is : goal.returns-then-is
 returns-then-is c = call_is c.args.source.now c.args.depth c.args.at c.args.name c.in_ok-args.args c.call_statement.result (with_at w.Open c.in_ok-first.ensures c.is.ensures c.if-is.true) c.in_ok-args.ensures c.call_statement.ensures
 
 pub returns-in_err-value : goal.returns-in_err-value
-returns-in_err-value c = read_err _ _ _ _ _ c.from_residual-in_err-value.result _ (err_from_is_err_and c.from_residual-in_err-value.result c.from_residual-in_err-value.ensures.1) (becomes_halts c.args.source.now c.args.depth (with_at w.Becomes c.in_ok-first.ensures c.is-2.ensures c.if-is-2.true) _ c.in_err-value.ensures)
+returns-in_err-value c = read_err _ _ _ _ c.from_residual-in_err-value.result _ (err_from_is_err_and c.from_residual-in_err-value.result c.from_residual-in_err-value.ensures.1) (becomes_halts c.args.source.now c.args.depth (with_at w.Becomes c.in_ok-first.ensures c.is-2.ensures c.if-is-2.true) _ c.in_err-value.ensures)
 
 pub returns-then-is-2 : goal.returns-then-is-2
 returns-then-is-2 c = becomes_is c.args.source.now c.args.depth c.args.at c.args.name c.variable-to.result c.in_ok-value.value c.assign_statement.result (with_at w.Becomes c.in_ok-first.ensures c.is-2.ensures c.if-is-2.true) c.in_ok-value.ensures (c.variable-to.ensures ∙ ap (λ l. tree.Entire c.args.name (selectors_of l)) c.new.ensures) c.assign_statement.ensures
