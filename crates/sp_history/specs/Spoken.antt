@@ -1,4 +1,5 @@
--- What holds of each process of a system: its number is the one at which it stands, and it speaks of channels that are there.
+-- What holds of each process of a system: its number is the one at which it stands, and it speaks of channels that are
+-- there. The laws of histories promise it, and the kernel's contract of a run's end rests on it.
 use Rattle.std.specs.Prelude.{◌≡◌, ℕ, ◌<◌}
 use Rattle.sp_cell.specs.Map.{Plain}
 use Rattle.sp_code.specs.Memory.{Memory}

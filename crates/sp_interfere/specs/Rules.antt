@@ -1,5 +1,6 @@
--- The rules of interference at each place where one could be broken, and the first that is broken: of what was found before and
--- what is broken here.
+-- The rules of interference at each place where one could be broken, and the first that is broken: of what was found
+-- before and what is broken here. The contracts of this crate follow it; it asks the sets that were computed, where
+-- sp_tree's Interferes asks paths.
 use Rattle.std.specs.Prelude.{ℕ, zero, suc, ◌==◌, ◌||◌, ◌&&◌, List, [], ◌∷◌, ◌++◌, length, Bool, true, false, Option, Some, None, slice_get}
 use Rattle.std.specs.List.{list_any}
 use Rattle.sp_base.specs.declared.place.Place.{Place}
@@ -30,6 +31,7 @@ abbrev pub is_function : Option ℕ → Bool
 is_function None = false
 is_function (Some x) = true
 
+-- the block around a block
 abbrev pub parent_of : Option Block → Option ℕ
 parent_of None = None
 parent_of (Some k) = k.parent
@@ -40,6 +42,7 @@ stands_in blocks zero d f = false
 stands_in blocks (suc n) None f = false
 stands_in blocks (suc n) (Some d) f = (d == f) || stands_in blocks n (parent_of (slice_get blocks d)) f
 
+-- the numbers of some statements
 abbrev pub numbers_of : Statements → List ℕ
 numbers_of NoStatement = []
 numbers_of (AndThen t rest) = number_of t ∷ numbers_of rest
@@ -92,6 +95,7 @@ module _ (s : Sets) (c : Program) where
   formal_rule None = None
   formal_rule (Some i) = breaks_if rule.I7 i.at (is_reference i.role)
 
+  -- I7 at each parameter
   abbrev pub formals_first : List ℕ → Found → Found
   formals_first [] given = given
   formals_first (x ∷ xs) given = formals_first xs (lesser given (formal_rule (slice_get c.variables x)))

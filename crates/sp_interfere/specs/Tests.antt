@@ -1,4 +1,5 @@
--- Tests on the sets of statements and blocks.
+-- Tests on the sets of statements and blocks: what the rules ask of them. The contracts of `asked` and of the process
+-- statements cite it.
 use Rattle.std.specs.Prelude.{◌≡◌, ◌<◌, ℕ, zero, suc, ◌*◌, ◌||◌, ◌&&◌, List, length, Bool, true, false}
 use Rattle.std.specs.List.{list_any}
 use Rattle.sp_varsets.specs.declared.sets.Sets.{Sets}
@@ -7,6 +8,7 @@ use Rattle.sp_varsets.specs.declared.union.VarUnion.{VarUnion}
 use Rattle.sp_varsets.specs.Members.{has, joined}
 use Rattle.sp_varsets.specs.AreSets.{targets_of, expressions_of, implicit_targets_of, implicit_expressions_of}
 
+-- a number below n passes the test
 unfoldable pub some_below : ℕ → (ℕ → Bool) → Bool
 some_below zero test = false
 some_below (suc n) test = test n || some_below n test
@@ -15,6 +17,7 @@ some_below (suc n) test = test n || some_below n test
 abbrev pub some_in : VarSet → (ℕ → Bool) → Bool
 some_in a test = some_below (64 * length a.words) (λ x. has a x && test x)
 
+-- every variable
 abbrev pub is_any : ℕ → Bool
 is_any x = true
 
@@ -33,9 +36,11 @@ module _ (s : Sets) where
   abbrev pub clash : ℕ → ℕ → Bool
   clash m n = meets (targets_of s n) (targets_of s m) || (meets (targets_of s n) (expressions_of s m) || meets (expressions_of s n) (targets_of s m))
 
+  -- the statement has the variable as a target
   abbrev pub is_target : ℕ → ℕ → Bool
   is_target m x = has (targets_of s m) x
 
+  -- the statement uses the variable
   abbrev pub is_used : ℕ → ℕ → Bool
   is_used m x = has (targets_of s m) x || has (expressions_of s m) x
 

@@ -1,4 +1,5 @@
--- How a run ends, and what is left of it.
+-- How a run ends, and what is left of it. The contract of `close` promises it, from the notes of the room and the
+-- kernel that was left.
 use Rattle.std.specs.Prelude.{◌≡◌, ◌<◌, ℕ, suc, List, [], ◌∷◌, Option, Some, None}
 use Rattle.std.specs.List.Sorted.{IsPermutation, IsSortedByKey}
 use Rattle.sp_base.specs.Order.{name_cmp}

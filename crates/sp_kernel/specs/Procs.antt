@@ -1,4 +1,5 @@
--- A process in memory as the definitions see it, and the turn that was handed in.
+-- A process in memory as the definitions see it, and the turn that was handed in: sp_machine's words, passed on, with
+-- those that the kernel's contracts need besides.
 use Rattle.std.specs.Prelude.{◌≡◌, List}
 use Rattle.sp_cell.specs.declared.cell.Cell.{Cell}
 use Rattle.sp_cell.specs.Map.{Plain}

@@ -1,4 +1,5 @@
--- A process in memory as the definitions see it, and what one instruction and one turn of it do.
+-- A process in memory as the definitions see it, and what one instruction and one turn of it do. Each instruction's
+-- contract here is `Came` of the definition's instruction, and the kernel and the runner cite the turn.
 use Rattle.std.specs.Prelude.{◌≡◌, ℕ, ◌+◌, ◌≤◌, ℤ, pos, ◌+ℤ◌, ◌≤ℤ◌, List, Option, Some, None, slice_get}
 use Rattle.sp_base.specs.declared.fault.Fault.{Fault}
 use Rattle.sp_base.specs.declared.limits.Limits.{Limits}
@@ -19,12 +20,15 @@ use Rattle.sp_machine.specs.declared.state.Stop.{Stop}
 use Rattle.sp_machine.specs.declared.state.Stop.TheVariants as stop
 use Rattle.sp_machine.specs.Entries.{entries_of}
 
+-- the memory of the machine's definition
 abbrev pub memory_of : State → Memory Plain
 memory_of p = record { process = p.number; frames = p.frames; depth = p.depth; ticks = p.ticks; since = p.since; cells = p.cells; store = p.store }
 
+-- the process at its next instruction
 abbrev pub config_of : State → m.Config (Memory Plain)
 config_of p = m.At p.pc (entries_of p.stack) (memory_of p)
 
+-- the run that it belongs to
 abbrev pub setting_of : State → Parts → Limits → Setting
 setting_of p code lim = run_of code p.input.value lim
 
@@ -66,6 +70,7 @@ StopIs stop.Pause q s = s ≡ m.Pauses
 StopIs (stop.Fault f) q s = ⊥
 StopIs stop.Memory q s = ⊥
 
+-- a process that stopped so met this fault
 abbrev pub FaultIs : Stop → Fault → Type 0
 FaultIs (stop.Fork t v n) f = ⊥
 FaultIs stop.Open f = ⊥
@@ -98,6 +103,7 @@ HasRoom (formal.Reference n) (Some m) = Unit {0}
 abbrev pub BeginsWithFormals : Layout → Type 0
 BeginsWithFormals l = (k : ℕ) (f : Formal) → slice_get l.formals k ≡ Some f → HasRoom f (slice_get l.sizes k)
 
+-- so for each block
 abbrev pub HaveFormals : List Layout → Type 0
 HaveFormals ls = (b : ℕ) (l : Layout) → m.layout_of ls b ≡ Some l → BeginsWithFormals l
 
@@ -127,6 +133,7 @@ KeepsFork stop.Memory q = Unit {0}
 abbrev pub CanTurn : State → Parts → Limits → Type 0
 CanTurn p code lim = IsSafe (memory plain (setting_of p code lim)) code (config_of p)
 
+-- the turn that the definition gives, with what a fork needs
 abbrev pub IsTurnBy : State → Parts → Limits → State → Stop → Type 0
 IsTurnBy p code lim q s = IsTurn (memory plain (setting_of p code lim)) code (config_of p) (turn_by s q) × KeepsFork s q
 

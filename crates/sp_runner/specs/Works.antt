@@ -1,4 +1,5 @@
--- What a worker's loop keeps, and what is left once all workers have left.
+-- What a worker's loop keeps, and what is left once all workers have left. The contracts of `worker` and `runner` cite
+-- it; a worker knows its own notes and what it has seen, and nothing of the others.
 use Rattle.std.specs.Prelude.{◌≡◌, ◌⊎◌, ◌<◌, ◌≤◌, ℕ, List, [], ◌∷◌, Option, None, false}
 use Rattle.sp_base.specs.declared.limits.Limits.{Limits}
 use Rattle.sp_journal.specs.declared.entry.Note.{Note}

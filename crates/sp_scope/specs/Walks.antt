@@ -1,4 +1,5 @@
--- What a part of the walk answers.
+-- What a part of the walk answers: its tree as the plain one, with the first broken rule up to its end. The contracts
+-- of all walks of this crate cite it.
 use Rattle.std.specs.Prelude.{List, ◌∷◌, ◌++◌, Option, Some}
 pub use Rattle.sp_tree.specs.Found.{Walks}
 use Rattle.sp_tree.specs.declared.syntax.Name.{Name}
