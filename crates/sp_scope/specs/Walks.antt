@@ -1,6 +1,7 @@
 -- What a part of the walk answers: its tree as the plain one, with the first broken rule up to its end. The contracts
 -- of all walks of this crate cite it.
 use Rattle.std.specs.Prelude.{List, ◌∷◌, ◌++◌, Option, Some}
+use Rattle.std.specs.HashMap.{HashMap}
 pub use Rattle.sp_tree.specs.Found.{Walks}
 use Rattle.sp_tree.specs.declared.syntax.Name.{Name}
 use Rattle.sp_tree.specs.declared.syntax.SynFormal.{SynFormal}
@@ -13,6 +14,10 @@ use Rattle.sp_tree.specs.NamedTree.{Inside, program_block, formals_named, answer
 use Rattle.sp_tree.specs.Scopes.{Env, next_block, next_variable}
 use Rattle.sp_scope.specs.declared.walked.BlockParts.{BlockParts}
 use Rattle.sp_scope.specs.declared.walked.Heading.{Heading}
+
+-- the declarations that a table in memory holds
+abbrev pub entries_of : {K V S : Type 0} → HashMap K V S → List (K × V)
+entries_of table = table.entries
 
 -- a part that is plain already
 abbrev pub itself : {A : Type 0} → A → A

@@ -6,6 +6,7 @@ ghost use Rattle.sp_tree.specs.Found.{Answers};
 ghost use Rattle.sp_tree.specs.Scopes.{find_in, look, find, or_else, put, count, more, most, empty, standard, declared, opened, inside};
 ghost use Rattle.sp_tree.specs.NameWalk.{deeper, answer_local};
 ghost use Rattle.sp_scope.specs.Firsts.{Leaves};
+ghost use Rattle.sp_scope.specs.Walks.{entries_of};
 
 use crate::numbers::{more, next_variable};
 use crate::standard::standard;
@@ -47,7 +48,7 @@ fn look_in<'a>(b: &'a IndexMap<Text, Meaning>, name: &Text) -> Option<&'a Meanin
 
 /// The innermost of these blocks that declares the name, the last first.
 fn find_in<'a>(bs: &'a [IndexMap<Text, Meaning>], name: &Text) -> Option<&'a Meaning>
-    ensures { option_copied result ≡ find_in (map (λ m. m.entries) bs.now) name.now None }
+    ensures { option_copied result ≡ find_in (map entries_of bs.now) name.now None }
 {
     match bs.split_last() {
         None => None,

@@ -5,6 +5,7 @@ ghost use Rattle.sp_tree.specs.Found.{Answers, AnswersAs};
 ghost use Rattle.sp_tree.specs.Scopes.{put, standard};
 ghost use Rattle.sp_tree.specs.declared.meaning.Meaning.TheVariants as meaning;
 ghost use Rattle.sp_scope.specs.Standard.{with_types, with_functions, with_procedures};
+ghost use Rattle.sp_scope.specs.Walks.{entries_of};
 
 use crate::scopes::put;
 use indexmap::IndexMap;
@@ -76,7 +77,7 @@ fn enter_procedures(alloc: Global, b: &mut IndexMap<Text, Meaning>) -> Result<()
 /// The block of the standard names.
 #[tactic(auto, using(crate::proofs::Standards::standard_is))]
 pub fn standard(alloc: Global) -> Result<IndexMap<Text, Meaning>, Halt>
-    ensures { AnswersAs (λ b. b.entries) result (Ok standard) }
+    ensures { AnswersAs entries_of result (Ok standard) }
 {
     let mut b = IndexMap::new(alloc);
     enter_types(alloc, &mut b)?;
