@@ -54,7 +54,8 @@ pub fn code_has_its_length()
 /// Where each block keeps the rules of names, types and variables, its code stands in the code of the program as it should; and a
 /// call finds the layout that the block has in the tree.
 pub fn code_stands()
-    ensures blocks { (p : Program) (moves shares : Stmt → List ℕ) → ((f q : ℕ) (b : Block) → slice_get p.blocks f ≡ Some b → IsFine p moves shares (IsQuiet p) f q b)
+    ensures blocks { (p : Program) (moves shares : Stmt → List ℕ)
+        → ((f q : ℕ) (b : Block) → slice_get p.blocks f ≡ Some b → IsFine p moves shares (IsQuiet p) f q b)
         → BlocksAt p moves shares (program_code p moves shares) (IsQuiet p) }
     ensures layouts { (p : Program) (moves shares : Stmt → List ℕ) (f : ℕ) (l : Layout)
         → slice_get (program_code p moves shares).layouts f ≡ Some l → layout_of (program_code p moves shares).layouts f ≡ Some l }

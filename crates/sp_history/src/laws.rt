@@ -39,9 +39,11 @@ pub fn histories_lead_to_systems()
 /// and none is out or was given up, none runs in the system; and once the run has ended and nothing is out, no history makes
 /// another event.
 pub fn histories_keep_what_is_out()
-    ensures stays { (g : Setting) (ns more : List Note) (s t : System Plain) (p w : ℕ) (c : Config (Memory Plain)) → Reaches plain g control_at_start (opening plain g) ns s → Reaches plain g (control ns) s more t
+    ensures stays { (g : Setting) (ns more : List Note) (s t : System Plain) (p w : ℕ) (c : Config (Memory Plain))
+        → Reaches plain g control_at_start (opening plain g) ns s → Reaches plain g (control ns) s more t
         → NoneBy w more → (control ns).doing p ≡ Out w → s.condition p ≡ Working c → ((control (ns ++ more)).doing p ≡ Out w) × (t.condition p ≡ Working c) }
-    ensures idle { (g : Setting) (ns : List Note) (s : System Plain) → Reaches plain g control_at_start (opening plain g) ns s → (control ns).ready ≡ [] → (control ns).out ≡ 0
+    ensures idle { (g : Setting) (ns : List Note) (s : System Plain) → Reaches plain g control_at_start (opening plain g) ns s
+        → (control ns).ready ≡ [] → (control ns).out ≡ 0
         → ((q : ℕ) → (control ns).doing q ≢ Gone) → (q : ℕ) → phase_in (s.condition q) ≢ Running }
     ensures over { (g : Setting) (ns more : List Note) (s t : System Plain)
         → Reaches plain g control_at_start (opening plain g) ns s → IsOver (control ns) → Reaches plain g (control ns) s more t
@@ -53,7 +55,8 @@ pub fn histories_keep_what_is_out()
 /// nameable, and has one fault at most.
 pub fn journals_name_what_is_there()
     ensures spoken { (g : Setting) (es : List Entry) (s : System Plain) → IsSystem plain g es s → IsSpoken s }
-    ensures offered { (g : Setting) (es : List Entry) (s : System Plain) (q : ℕ) (c d : Config (Memory Plain)) (stop : Stop) → IsSystem plain g es s → s.condition q ≡ Working c
+    ensures offered { (g : Setting) (es : List Entry) (s : System Plain) (q : ℕ) (c d : Config (Memory Plain)) (stop : Stop)
+        → IsSystem plain g es s → s.condition q ≡ Working c
         → IsTurn (memory plain g) g.code c (Stopped stop d) → StopHas (λ n. n < s.births.channels) stop }
     ensures nameable { (g : Setting) (es : List Entry) (s : System Plain) → AreLimits g.limits → IsSystem plain g es s → NameableFrom at_start es }
     ensures fault { (g : Setting) (es : List Entry) (s : System Plain) (i j : ℕ) (d e : Entry) → IsSystem plain g es s
@@ -63,7 +66,8 @@ pub fn journals_name_what_is_there()
 /// After a legal history the parent of a process that is out waits for its children. Where one worker hands in with each ask what
 /// it holds, the journal is first in, first out.
 pub fn histories_keep_turns()
-    ensures joined { (g : Setting) (ns : List Note) (s : System Plain) (q w : ℕ) (b : Birth) → Reaches plain g control_at_start (opening plain g) ns s → (control ns).doing q ≡ Out w → (control ns).births.birth q ≡ Some b
+    ensures joined { (g : Setting) (ns : List Note) (s : System Plain) (q w : ℕ) (b : Birth)
+        → Reaches plain g control_at_start (opening plain g) ns s → (control ns).doing q ≡ Out w → (control ns).births.birth q ≡ Some b
         → (n : ℕ) × ((control ns).doing b.parent ≡ Joining n) }
     ensures turns { (g : Setting) (ns : List Note) (s : System Plain) → Reaches plain g control_at_start (opening plain g) ns s
         → OneByOne None ns → InTurnFrom at_start line_at_start (entries_of ns) }
@@ -71,6 +75,8 @@ pub fn histories_keep_turns()
 
 /// After a legal history of safe code exactly one process holds the output.
 pub fn one_process_holds_the_output()
-    ensures { (g : Setting) (ns : List Note) (s : System Plain) → ((es : List Entry) (t : System Plain) → IsSystem plain g es t → IsSafeSystem g t) → Reaches plain g control_at_start (opening plain g) ns s
+    ensures { (g : Setting) (ns : List Note) (s : System Plain)
+        → ((es : List Entry) (t : System Plain) → IsSystem plain g es t → IsSafeSystem g t)
+        → Reaches plain g control_at_start (opening plain g) ns s
         → (q : ℕ) × (bs : List ℕ) × IsOutputOf s q bs }
 {}
