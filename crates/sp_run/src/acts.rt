@@ -60,7 +60,8 @@ pub fn picked<'a>(
     a: &'a Stmt,
     todo: &mut Vec<Item<'a>>,
 ) -> Done<Deed<'a>>
-    ensures { Implements run.now who.now (plain_deed (items_of todo.new.items)) machine.now result machine.now (picked n (stmt_of a.now) (items_of todo.old.items)) }
+    ensures { Implements run.now who.now (plain_deed (items_of todo.new.items)) machine.now result machine.now
+        (picked n (stmt_of a.now) (items_of todo.old.items)) }
 {
     if n <= 0 {
         return Ok(Ok(Deed::Stepped));

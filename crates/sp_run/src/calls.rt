@@ -202,7 +202,8 @@ fn lay(
     variables: &[Variable],
 ) -> Done<()>
     requires { map plain_value known.now ≡ initials run.now.checked.now.kinds }
-    ensures { Implements run.now who.now same machine.old result machine.new (lay (setting_of run.now) frame (variables_of block x (map variable_of variables.now))) }
+    ensures { Implements run.now who.now same machine.old result machine.new
+        (lay (setting_of run.now) frame (variables_of block x (map variable_of variables.now))) }
 {
     let Some((v, rest)) = variables.split_first() else {
         return Ok(Ok(()));
