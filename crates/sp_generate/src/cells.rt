@@ -1,7 +1,7 @@
 //! The cells of types, and where the fields of a record begin. A count that is no `u32` is answered as want of memory.
 
 ghost use Rattle.std.specs.Prelude.{◌≡◌, ◌+◌, ◌*◌, ◌∷◌, ℕ, List, [], map, sum, slice_get, IfOk};
-ghost use Rattle.sp_tree.specs.Cells.{count, first_or, size_by, sizes};
+ghost use Rattle.sp_tree.specs.Cells.{count, fields_size, first_or, size_by, sizes};
 ghost use Rattle.sp_generate.specs.Tabled.{offsets_from, offsets_by};
 
 use crate::numbers::sum;
@@ -32,7 +32,7 @@ fn product(count: u32, cells: u32) -> Result<u32, Memory>
 }
 
 fn fields_cells(known: &List<u32>, fields: &[(Text, u32)]) -> Result<u32, Memory>
-    ensures { IfOk result (λ n. n ≡ sum (map (λ (f : List ℕ × ℕ). first_or 0 (slice_get known.now f.1)) fields.now)) }
+    ensures { IfOk result (λ n. n ≡ fields_size known.now fields.now) }
 {
     let mut cells = 0;
     for f in fields {

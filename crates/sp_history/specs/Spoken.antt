@@ -21,6 +21,10 @@ ConditionHas C q (Laid c) = ConfigHas C (Keeps C q) c
 ConditionHas C q Gone = Unit {0}
 ConditionHas C q (Over c) = ConfigHas C (Keeps C q) c
 
+-- the channel of this number was opened
+abbrev pub IsThere : System Plain → ℕ → Type 0
+IsThere s c = c < s.births.channels
+
 -- every channel of which a process of the system speaks is there
 abbrev pub IsSpoken : System Plain → Type 0
-IsSpoken s = (q : ℕ) → ConditionHas (λ c. c < s.births.channels) q (s.condition q)
+IsSpoken s = (q : ℕ) → ConditionHas (IsThere s) q (s.condition q)

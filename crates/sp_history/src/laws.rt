@@ -17,7 +17,7 @@ ghost use Rattle.sp_code.specs.Control.{Out, Joining, Gone, control, control_at_
 ghost use Rattle.sp_code.specs.System.{System, Working, IsSystem, IsLegal, opening};
 ghost use Rattle.sp_history.specs.Agreement.{IsOrderly, Agrees, Reaches, NoneBy, HasOuts, IsOver, Running, phase_in};
 ghost use Rattle.sp_history.specs.Channels.{StopHas};
-ghost use Rattle.sp_history.specs.Spoken.{IsSpoken};
+ghost use Rattle.sp_history.specs.Spoken.{IsSpoken, IsThere};
 ghost use Rattle.sp_history.specs.Lines.{OneByOne};
 ghost use Rattle.sp_history.specs.Faults.{IsFaulty};
 ghost use Rattle.sp_history.specs.Holding.{IsOutputOf};
@@ -57,7 +57,7 @@ pub fn journals_name_what_is_there()
     ensures spoken { (g : Setting) (es : List Entry) (s : System Plain) → IsSystem plain g es s → IsSpoken s }
     ensures offered { (g : Setting) (es : List Entry) (s : System Plain) (q : ℕ) (c d : Config (Memory Plain)) (stop : Stop)
         → IsSystem plain g es s → s.condition q ≡ Working c
-        → IsTurn (memory plain g) g.code c (Stopped stop d) → StopHas (λ n. n < s.births.channels) stop }
+        → IsTurn (memory plain g) g.code c (Stopped stop d) → StopHas (IsThere s) stop }
     ensures nameable { (g : Setting) (es : List Entry) (s : System Plain) → AreLimits g.limits → IsSystem plain g es s → NameableFrom at_start es }
     ensures fault { (g : Setting) (es : List Entry) (s : System Plain) (i j : ℕ) (d e : Entry) → IsSystem plain g es s
         → slice_get es i ≡ Some d → slice_get es j ≡ Some e → IsFaulty d.event → IsFaulty e.event → i ≡ j }

@@ -17,7 +17,7 @@ use Rattle.sp_varsets.specs.Members.{has}
 use Rattle.sp_varsets.specs.Parts.{number_of}
 use Rattle.sp_varsets.specs.AreSets.{targets_of, implicit_targets_of, stops_of}
 use Rattle.sp_interfere.specs.Walk.{statement_first}
-use Rattle.sp_interfere.specs.Tests.{some_in, is_any, clash, has_implicit, has_declared}
+use Rattle.sp_interfere.specs.Tests.{some_in, is_any, clashes, has_implicit, has_declared}
 
 abbrev pub is_reference : Role → Bool
 is_reference role.Console = false
@@ -53,18 +53,22 @@ references Nothing = []
 references (Pass (ByValue e) rest) = references rest
 references (Pass (ByReference (Entire y at ss)) rest) = y ∷ references rest
 
+-- the variable is one of these
+abbrev pub is_among : ℕ → List ℕ → Bool
+is_among y xs = list_any (λ x. y == x) xs
+
 module _ (s : Sets) where
   -- I1 at each process statement behind earlier ones
   abbrev pub parts_first : List ℕ → Statements → Found → Found
   parts_first earlier NoStatement given = given
   parts_first earlier (AndThen t rest) given =
-      parts_first (earlier ++ number_of t ∷ []) rest (lesser given (breaks_if rule.I1 (place_of t) (list_any (λ m. clash s m (number_of t)) earlier)))
+      parts_first (earlier ++ number_of t ∷ []) rest (lesser given (breaks_if rule.I1 (place_of t) (clashes s earlier (number_of t))))
 
   -- I4 at each variable parameter of a call, behind earlier ones
   abbrev pub repeats_first : List ℕ → Actuals → Found → Found
   repeats_first earlier Nothing given = given
   repeats_first earlier (Pass (ByValue e) rest) given = repeats_first earlier rest given
-  repeats_first earlier (Pass (ByReference (Entire y at ss)) rest) given = repeats_first (earlier ++ y ∷ []) rest (lesser given (breaks_if rule.I4 at (list_any (λ x. y == x) earlier)))
+  repeats_first earlier (Pass (ByReference (Entire y at ss)) rest) given = repeats_first (earlier ++ y ∷ []) rest (lesser given (breaks_if rule.I4 at (is_among y earlier)))
 
   -- I5 at each variable parameter of a call of block f
   abbrev pub passed_first : ℕ → Actuals → Found → Found

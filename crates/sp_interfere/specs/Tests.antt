@@ -36,6 +36,10 @@ module _ (s : Sets) where
   abbrev pub clash : ℕ → ℕ → Bool
   clash m n = meets (targets_of s n) (targets_of s m) || (meets (targets_of s n) (expressions_of s m) || meets (expressions_of s n) (targets_of s m))
 
+  -- the statement clashes with one of these
+  abbrev pub clashes : List ℕ → ℕ → Bool
+  clashes earlier n = list_any (λ m. clash m n) earlier
+
   -- the statement has the variable as a target
   abbrev pub is_target : ℕ → ℕ → Bool
   is_target m x = has (targets_of s m) x

@@ -1,7 +1,6 @@
 //! The process statements of one parallel statement.
 
 ghost use Rattle.std.specs.Prelude.{◌≡◌, ◌<◌, ◌⊎◌, ℕ, List, [], ◌∷◌, ◌++◌, map, true, false};
-ghost use Rattle.std.specs.List.{list_any};
 ghost use Rattle.sp_tree.specs.CheckedOf.{statement_of, statements};
 ghost use Rattle.sp_base.specs.declared.rule.Rule.TheVariants.{I1};
 ghost use Rattle.sp_tree.specs.Found.{breaks_if};
@@ -9,7 +8,7 @@ ghost use Rattle.sp_tree.specs.Interferes.{place_of};
 ghost use Rattle.sp_varsets.specs.Parts.{number_of};
 ghost use Rattle.sp_varsets.specs.Members.{has};
 ghost use Rattle.sp_varsets.specs.AreSets.{targets_of, expressions_of};
-ghost use Rattle.sp_interfere.specs.Tests.{clash, Joins, is_target, is_used};
+ghost use Rattle.sp_interfere.specs.Tests.{clashes, Joins, is_target, is_used};
 ghost use Rattle.sp_interfere.specs.Rules.{numbers_of, parts_first};
 
 use crate::asked::clash;
@@ -19,7 +18,7 @@ use sp_varsets::{Sets, VarUnion};
 
 /// Whether statement `n` clashes with one of the earlier ones, each looked at.
 fn clashes(s: &Sets, earlier: &[Stmt], n: u32) -> bool
-    ensures { result ≡ list_any (λ m. clash s.now m n) (numbers_of (statements (map statement_of earlier.now))) }
+    ensures { result ≡ clashes s.now (numbers_of (statements (map statement_of earlier.now))) n }
 {
     for t in earlier {
         if clash(s, t.number, n) {
@@ -43,7 +42,7 @@ fn is_wide(s: &Sets, n: u32) -> bool
 fn clashes_before(s: &Sets, earlier: &[Stmt], n: u32, targets: &VarUnion, used: &VarUnion) -> bool
     requires targets { Joins targets.now (is_target s.now) (numbers_of (statements (map statement_of earlier.now))) }
     requires used { Joins used.now (is_used s.now) (numbers_of (statements (map statement_of earlier.now))) }
-    ensures { result ≡ list_any (λ m. clash s.now m n) (numbers_of (statements (map statement_of earlier.now))) }
+    ensures { result ≡ clashes s.now (numbers_of (statements (map statement_of earlier.now))) n }
 {
     if used.meets(s.targets(n)) {
         return true;
@@ -62,7 +61,7 @@ fn part_rule(s: &Sets, earlier: &[Stmt], t: &Stmt, targets: &VarUnion, used: &Va
     requires targets { Joins targets.now (is_target s.now) (numbers_of (statements (map statement_of earlier.now))) }
     requires used { Joins used.now (is_used s.now) (numbers_of (statements (map statement_of earlier.now))) }
     ensures { result ≡ breaks_if I1 (place_of (statement_of t.now))
-        (list_any (λ m. clash s.now m (number_of (statement_of t.now))) (numbers_of (statements (map statement_of earlier.now)))) }
+        (clashes s.now (numbers_of (statements (map statement_of earlier.now))) (number_of (statement_of t.now))) }
 {
     breaks_if(
         Rule::I1,

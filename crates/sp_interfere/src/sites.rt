@@ -1,11 +1,10 @@
 //! The rules at each place where one could be broken.
 
-ghost use Rattle.std.specs.Prelude.{◌≡◌, ◌∷◌, [], ◌==◌, Some, map, length, slice_get};
-ghost use Rattle.std.specs.List.{list_any};
+ghost use Rattle.std.specs.Prelude.{◌≡◌, ◌∷◌, [], Some, map, length, slice_get};
 ghost use Rattle.std.specs.Option.{option_copied, option_map};
 ghost use Rattle.sp_tree.specs.CheckedOf.{actuals, actual_of, block_of, statement_of, statements, program_of};
 ghost use Rattle.sp_tree.specs.Sites.{CallsAt, LoopsAt, SpreadsAt, SplitsAt, StopsAt};
-ghost use Rattle.sp_interfere.specs.Rules.{parent_of, stands_in, inside_rule, called_first, passed_first, repeats_first, references, site_first};
+ghost use Rattle.sp_interfere.specs.Rules.{is_among, parent_of, stands_in, inside_rule, called_first, passed_first, repeats_first, references, site_first};
 
 use crate::asked::{has_declared, has_implicit, is_any};
 use crate::parts::parts_first;
@@ -52,7 +51,7 @@ fn inside_rule(d: u32, f: u32, at: Place, c: &Checked, s: &Sets) -> Found
 
 /// Whether the variable is a variable parameter among these.
 fn is_passed(y: u32, earlier: &[Actual]) -> bool
-    ensures { result ≡ list_any (λ x. y == x) (references (actuals (map actual_of earlier.now))) }
+    ensures { result ≡ is_among y (references (actuals (map actual_of earlier.now))) }
 {
     for a in earlier {
         match a {

@@ -61,10 +61,14 @@ SpeaksBelow n (slot.Out w p) = Unit {0}
 SpeaksBelow n slot.Ended = Unit {0}
 SpeaksBelow n (slot.Gone p) = Unit {0}
 
+-- those that wait, in the order of their names
+abbrev pub AreByName : List Waiter → Type 0
+AreByName ws = IsSortedByKey (λ (w : Waiter). w.process) name_cmp ws
+
 -- all that wait, in order of names
 pub record AreWaiters (y : Kernel) (ws : List Waiter) : Type 0 where
   pub all : IsPermutation (waiters_from (births y.journal.entries) 0 y.slots) ws
-  pub sorted : IsSortedByKey (λ (w : Waiter). w.process) name_cmp ws
+  pub sorted : AreByName ws
 
 -- the run stands at this end
 abbrev pub EndIs : Kernel → End → Type 0

@@ -1,6 +1,7 @@
 -- A process in memory as the definitions see it, and the turn that was handed in: sp_machine's words, passed on, with
 -- those that the kernel's contracts need besides.
-use Rattle.std.specs.Prelude.{◌≡◌, List}
+use Rattle.std.specs.Prelude.{◌≡◌, ℕ, List, Option}
+use Rattle.std.specs.Option.{option_map}
 use Rattle.sp_cell.specs.declared.cell.Cell.{Cell}
 use Rattle.sp_cell.specs.Map.{Plain}
 use Rattle.sp_code.specs.Turns.{Turn}
@@ -14,6 +15,10 @@ use Rattle.sp_kernel.specs.declared.handed.Handed.{Handed}
 -- the cells fit at the target
 abbrev pub CanTake : Proc → List Cell → Type 0
 CanTake p cs = CanPut p.store p.target cs
+
+-- the number of a process, if there is one
+abbrev pub number_in : Option Proc → Option ℕ
+number_in proc = option_map (λ p. p.number) proc
 
 -- the turn of what is handed in
 abbrev pub turn_of : Handed → Turn (Memory Plain)

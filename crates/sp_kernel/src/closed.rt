@@ -1,8 +1,7 @@
 //! A run that is over: its end, its journal and its output.
 
 ghost use Rattle.std.specs.Prelude.{◌≡◌, ◌≢◌, ◌<◌, ◌++◌, ℕ, List, [], Some, None, MatchOption, IfOk, OnOk, length, slice_get};
-ghost use Rattle.std.specs.List.Sorted.{IsPermutation, IsSortedByKey};
-ghost use Rattle.sp_base.specs.Order.{name_cmp};
+ghost use Rattle.std.specs.List.Sorted.{IsPermutation};
 ghost use Rattle.sp_journal.specs.Births.{births};
 ghost use Rattle.sp_journal.specs.Ledger.{IsLedger};
 ghost use Rattle.sp_kernel.specs.declared.slot.Slot.{Slot};
@@ -13,7 +12,7 @@ ghost use Rattle.sp_room.specs.Ends.{object_of, notes_of};
 ghost use Rattle.sp_kernel.specs.Faults.{fault_in};
 ghost use Rattle.sp_kernel.specs.Outputs.{written};
 ghost use Rattle.sp_kernel.specs.Kernels.{control_of, system_of};
-ghost use Rattle.sp_kernel.specs.Closes.{waiter_of, waiters_from, with_waiter, SpeaksBelow, EndIs, EndsSo, IsNamed, HeldHere, RanFrom, or_empty};
+ghost use Rattle.sp_kernel.specs.Closes.{AreByName, waiter_of, waiters_from, with_waiter, SpeaksBelow, EndIs, EndsSo, IsNamed, HeldHere, RanFrom, or_empty};
 
 use crate::kernel::{Kernel, Standing};
 use crate::slot::{Slot, State};
@@ -139,7 +138,7 @@ fn waiters_in(alloc: Global, ledger: &Ledger, slots: &[Slot]) -> Result<Vec<Wait
 // In order of names.
 fn sorted(waiters: Vec<Waiter>) -> Result<List<Waiter>, Memory>
     ensures all { IfOk result (λ ws. IsPermutation waiters.items ws) }
-    ensures sorted { IfOk result (λ ws. IsSortedByKey (λ w. w.process) name_cmp ws) }
+    ensures sorted { IfOk result (λ ws. AreByName ws) }
 {
     let mut waiters = waiters;
     waiters.sort_by(|a, b| a.process.order(&b.process))?;

@@ -1,6 +1,5 @@
 //! The processes of a run, its channels and its journal.
 
-ghost use Rattle.std.specs.Option.{option_map};
 ghost use Rattle.std.specs.Prelude.{◌≡◌, ◌+◌, ◌-◌, ◌<◌, nat_lt, true, false, IfSome, Some, None, [], ◌∷◌, ◌++◌, length, slice_get, slice_set, OnOk, OnErr, IfErr, IfOk};
 ghost use Rattle.sp_journal.specs.declared.entry.Event.TheVariants as event;
 ghost use Rattle.sp_kernel.specs.declared.slot.Slot.TheVariants as slot;
@@ -12,7 +11,7 @@ ghost use Rattle.sp_kernel.specs.Kernels.{entered, back, paused, goes_out, lost,
 ghost use Rattle.sp_kernel.specs.Fits.{Fits};
 ghost use Rattle.sp_kernel.specs.Asks.{IsOpening};
 ghost use Rattle.sp_machine.specs.declared.state.Stop.TheVariants as stop;
-ghost use Rattle.sp_kernel.specs.Procs.{Enters};
+ghost use Rattle.sp_kernel.specs.Procs.{Enters, number_in};
 
 use crate::handed::Handed;
 use crate::line::Line;
@@ -194,7 +193,7 @@ impl Kernel {
         requires whole { IsKernel self.old }
         requires few { self.old.abandons + 1 < 18446744073709551616 }
         requires out { IfSome proc (λ p. (control_of self.old).doing p.number ≡ Out worker) }
-        ensures { Abandons self.old (option_map (λ p. p.number) proc) self.new }
+        ensures { Abandons self.old (number_in proc) self.new }
     {
         match proc {
             None => self.abandons += 1,

@@ -1,6 +1,6 @@
 -- A process in memory as the definitions see it, and what one instruction and one turn of it do. Each instruction's
 -- contract here is `Came` of the definition's instruction, and the kernel and the runner cite the turn.
-use Rattle.std.specs.Prelude.{◌≡◌, ℕ, ◌+◌, ◌≤◌, ℤ, pos, ◌+ℤ◌, ◌≤ℤ◌, List, Option, Some, None, slice_get}
+use Rattle.std.specs.Prelude.{◌≡◌, ℕ, ◌+◌, ◌≤◌, ℤ, pos, ◌+ℤ◌, ◌≤ℤ◌, List, Option, Some, None, Bool, not, if◌then◌else◌, slice_get}
 use Rattle.sp_base.specs.declared.fault.Fault.{Fault}
 use Rattle.sp_base.specs.declared.limits.Limits.{Limits}
 use Rattle.sp_cell.specs.declared.spot.Address.{Address}
@@ -49,6 +49,11 @@ does o p code lim = m.instruction (memory plain (setting_of p code lim)) code o 
 -- the next instruction of a process
 abbrev pub next_of : State → Parts → Limits → m.One (Memory Plain)
 next_of p code lim = does (slice_get code.instrs p.pc) p code lim
+
+-- whether the two last operands are equal, or whether they differ, is told, and the process goes on behind it
+abbrev pub compared : Bool → State → Parts → Limits → m.One (Memory Plain)
+compared different p code lim = m.on_equals (entries_of p.stack)
+    (λ b st. m.told (memory plain (setting_of p code lim)) code (if different then not b else b) (p.pc + 1) st (memory_of p))
 
 -- the process keeps its number and its input
 abbrev pub Stays : State → State → Type 0

@@ -1,13 +1,13 @@
 //! Instructions on ordinals.
 
-ghost use Rattle.std.specs.Prelude.{◌≡◌, ◌≢◌, ◌+◌, ◌<◌, IfOk, Some, not, if◌then◌else◌};
-ghost use Rattle.sp_code.specs.Machine.{Stuck, on_two, on_one, on_equals, told};
+ghost use Rattle.std.specs.Prelude.{◌≡◌, ◌≢◌, ◌+◌, ◌<◌, IfOk, Some};
+ghost use Rattle.sp_code.specs.Machine.{Stuck, on_two, on_one};
 ghost use Rattle.sp_code.specs.Memory.{memory};
 ghost use Rattle.sp_code.specs.PlainStore.{plain};
 ghost use Rattle.sp_code.specs.declared.instr.Instr.TheVariants as instr;
 ghost use Rattle.sp_arithmetic.specs.Worked.{worked};
 ghost use Rattle.sp_machine.specs.Entries.{entries_of};
-ghost use Rattle.sp_machine.specs.Procs.{does, Came, Stays, setting_of, memory_of};
+ghost use Rattle.sp_machine.specs.Procs.{compared, does, Came, Stays, setting_of, memory_of};
 ghost use Rattle.sp_machine.specs.Conversions.{converted};
 
 use crate::stack::Operand;
@@ -229,13 +229,8 @@ impl State {
         limits: &Limits,
     ) -> Result<Option<Stop>, Memory>
         requires next { self.old.pc + 1 < 4294967296 }
-        requires safe { on_equals (entries_of self.old.stack)
-            (λ b st. told (memory plain (setting_of self.old code.now limits.now)) code.now (if different then not b else b)
-            (self.old.pc + 1) st (memory_of self.old)) ≢ Stuck }
-        ensures came { IfOk result (λ s. Came
-            (on_equals (entries_of self.old.stack)
-            (λ b st. told (memory plain (setting_of self.old code.now limits.now)) code.now (if different then not b else b)
-            (self.old.pc + 1) st (memory_of self.old))) self.old self.new s) }
+        requires safe { compared different self.old code.now limits.now ≢ Stuck }
+        ensures came { IfOk result (λ s. Came (compared different self.old code.now limits.now) self.old self.new s) }
         ensures same { Stays self.old self.new }
     {
         let equal = match self.stack.pop() {

@@ -58,6 +58,10 @@ abbrev pub set_at : List ℕ → Value → Value → Value
 set_at [] w v = w
 set_at (i ∷ path) w v = with_part (set_at path w) v i
 
+-- the first values of a record's fields, where those of the types before it are known
+abbrev pub field_values : List Value → List (List ℕ × ℕ) → List Value
+field_values known fields = map (λ f. first_or Undefined (slice_get known f.1)) fields
+
 -- a type's first value, where those of the types before it are known
 abbrev pub initial_by : List Value → KindOf → Value
 initial_by known kind.Integer = Undefined
@@ -65,7 +69,7 @@ initial_by known kind.Boolean = Undefined
 initial_by known kind.Char = Undefined
 initial_by known (kind.Enumeration n) = Undefined
 initial_by known (kind.Array low high index element) = Parts (values (replicate (count low high) (first_or Undefined (slice_get known element))))
-initial_by known (kind.Fields fs) = Parts (values (map (λ f. first_or Undefined (slice_get known f.1)) fs))
+initial_by known (kind.Fields fs) = Parts (values (field_values known fs))
 initial_by known (kind.Channel ks) = Undefined
 
 -- the first value of each type

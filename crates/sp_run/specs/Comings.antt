@@ -23,6 +23,10 @@ Implements g w view before result after h = IfOk result (λ r. Comes g view r af
 abbrev pub same : {A : Type 0} → A → A
 same a = a
 
+-- an answer that tells nothing, with what stands beside it
+abbrev pub beside : {A B : Type 0} → A → B → A
+beside a b = a
+
 -- what a reference points to
 abbrev pub pointed : {A : Type 0} → Bor A → A
 pointed r = r.now

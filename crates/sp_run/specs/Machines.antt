@@ -1,6 +1,7 @@
 -- The own part and the store of a process, as they are kept in memory. The store is a log, read from its end, so that
 -- a step writes in constant time.
-use Rattle.std.specs.Prelude.{ℕ, List, [], ◌∷◌, map}
+use Rattle.std.specs.Prelude.{ℕ, List, [], ◌∷◌, Option, map}
+use Rattle.std.specs.Option.{option_map}
 use Rattle.sp_run.specs.declared.machine.Held.{Held}
 use Rattle.sp_run.specs.declared.machine.Held.TheVariants as held
 use Rattle.sp_run.specs.declared.machine.Write.{Write}
@@ -33,6 +34,10 @@ plain_home (home.Index x n) = m.OfIndex x n
 
 abbrev pub plain_references : List Reference → List (ℕ × m.Address)
 plain_references rs = map (λ r. (r.variable, plain_address r.stands)) rs
+
+-- what a variable parameter stands for, if there is one
+abbrev pub address_in : Option Reference → Option m.Address
+address_in r = option_map (λ x. plain_address x.stands) r
 
 abbrev pub plain_frame : Frame → m.Frame
 plain_frame f = record { owner = f.owner; number = f.number; home = plain_home f.home; link = f.link; references = plain_references f.references }

@@ -6,7 +6,7 @@ ghost use Rattle.sp_tree.specs.PlainOf.{stmt_of, arms_of};
 ghost use Rattle.sp_meaning.specs.Deeds.{is_before, goes_on, has, arm_for};
 ghost use Rattle.sp_meaning.specs.Own.{bytes_in};
 ghost use Rattle.sp_run.specs.Machines.{setting_of, plain_held};
-ghost use Rattle.sp_run.specs.Comings.{Implements, same};
+ghost use Rattle.sp_run.specs.Comings.{Implements, beside, same};
 ghost use Rattle.sp_run.specs.Items.{item_of, items_of};
 ghost use Rattle.sp_run.specs.Views.{plain_value, plain_address};
 ghost use Rattle.sp_run.specs.Doings.{plain_deed, births_of};
@@ -132,7 +132,7 @@ pub fn settle<'a>(
     machine: &mut Machine,
     todo: &mut Vec<Item<'a>>,
 ) -> Done<()>
-    ensures { Implements run.now who.now (λ u. items_of todo.new.items) machine.old result machine.new (settle (setting_of run.now) (items_of todo.old.items)) }
+    ensures { Implements run.now who.now (beside (items_of todo.new.items)) machine.old result machine.new (settle (setting_of run.now) (items_of todo.old.items)) }
 {
     let Some(first) = todo.first() else {
         return Ok(Ok(()));

@@ -1,9 +1,9 @@
 //! Frames: which one is visible, and where a variable stands.
 
 ghost use Rattle.std.specs.Prelude.{◌≡◌, IfOk, map, length};
-ghost use Rattle.std.specs.Option.{option_copied, option_map};
+ghost use Rattle.std.specs.Option.{option_copied};
 ghost use Rattle.sp_meaning.specs.Own.{seek, referred, is_block, is_index};
-ghost use Rattle.sp_run.specs.Machines.{setting_of, plain_frames, plain_references, plain_home};
+ghost use Rattle.sp_run.specs.Machines.{address_in, setting_of, plain_frames, plain_references, plain_home};
 ghost use Rattle.sp_run.specs.Comings.{Implements, same};
 ghost use Rattle.sp_run.specs.Places.{plain_place, fits};
 ghost use Rattle.sp_run.specs.Views.{plain_address};
@@ -68,7 +68,7 @@ pub fn seek<'a>(wanted: Wanted, n: usize, frames: &'a [Frame]) -> &'a [Frame]
 
 /// What a variable parameter stands for.
 fn referred<'a>(x: usize, references: &'a [Reference]) -> Option<&'a Reference>
-    ensures { option_map (λ r. plain_address r.stands) (option_copied result) ≡ referred x (plain_references references.now) }
+    ensures { address_in (option_copied result) ≡ referred x (plain_references references.now) }
 {
     let Some((r, rest)) = references.split_first() else {
         return None;

@@ -4,7 +4,7 @@ ghost use Rattle.std.specs.Prelude.{◌≡◌, ℕ, ◌+◌, ◌*◌, ◌+ℤ◌
 ghost use Rattle.sp_tree.specs.Cells.{count, first_or, table, sizes, size_by, variables_of, cells_by, cells_of_frame};
 ghost use Rattle.sp_run.specs.Cells.{cells_in};
 ghost use Rattle.sp_tree.specs.PlainOf.{variable_of, program_of};
-ghost use Rattle.sp_meaning.specs.Values.{Undefined, initials, initial_by};
+ghost use Rattle.sp_meaning.specs.Values.{Undefined, field_values, initials, initial_by};
 ghost use Rattle.sp_meaning.specs.SuperPascal.{first_value, value_among};
 ghost use Rattle.sp_meaning.specs.Deeds.{begins};
 ghost use Rattle.sp_run.specs.Machines.{setting_of};
@@ -164,7 +164,7 @@ fn fields_of(
     known: &[Value],
     fields: &[(sp_base::Text, u32)],
 ) -> Result<List<Value>, Memory>
-    ensures { IfOk result (λ vs. map plain_value vs ≡ map (λ f. first_or Undefined (slice_get (map plain_value known.now) f.1)) fields.now) }
+    ensures { IfOk result (λ vs. map plain_value vs ≡ field_values (map plain_value known.now) fields.now) }
 {
     let mut out = List::new(alloc);
     for f in fields {

@@ -1,12 +1,15 @@
 -- What a worker's loop keeps, and what is left once all workers have left. The contracts of `worker` and `runner` cite
 -- it; a worker knows its own notes and what it has seen, and nothing of the others.
 use Rattle.std.specs.Prelude.{◌≡◌, ◌⊎◌, ◌<◌, ◌≤◌, ℕ, List, [], ◌∷◌, Option, None, false}
+use Rattle.std.specs.Option.{option_map}
 use Rattle.sp_base.specs.declared.limits.Limits.{Limits}
 use Rattle.sp_journal.specs.declared.entry.Note.{Note}
 use Rattle.sp_code.specs.declared.code.Parts.{Parts}
 use Rattle.sp_code.specs.Control.{control}
 use Rattle.sp_history.specs.Agreement.{IsOver}
 use Rattle.sp_history.specs.Lines.{OneByOne}
+use Rattle.sp_machine.specs.declared.state.State.{State as Proc}
+use Rattle.sp_kernel.specs.declared.handed.Handed.{Handed}
 use Rattle.sp_kernel.specs.declared.kernel.Kernel.{Kernel}
 use Rattle.sp_kernel.specs.declared.ask.Ask.{Ask}
 use Rattle.sp_kernel.specs.Asks.{IsOpening, MayAsk, is_abandon, given_by}
@@ -22,6 +25,10 @@ pub record IsRunOf (x : Kernel) (parts : Parts) (lim : Limits) : Type 0 where
 -- the own notes are those of the seat in what it has seen
 abbrev pub Knows : List Note → List Note → ℕ → Type 0
 Knows seen own w = notes_of_worker w seen ≡ own
+
+-- the process that a refused ask held
+abbrev pub held : Option Handed → Option Proc
+held refused = option_map (λ h. h.proc) refused
 
 -- what the last of these notes got; o, where there is none
 abbrev pub last_got : Option ℕ → List Note → Option ℕ

@@ -1,10 +1,9 @@
 //! What one worker does: it serves the room with what it holds, and runs one turn of what it gets.
 
 ghost use Rattle.std.specs.Prelude.{◌≡◌, ◌<◌, []};
-ghost use Rattle.std.specs.Option.{option_map};
 ghost use Rattle.sp_history.specs.Lines.{OneByOne};
 ghost use Rattle.sp_room.specs.Seats.{IsSeatOf, SamePlace, claims_of_seat, opening_of, number_of, seen_by, own_of};
-ghost use Rattle.sp_runner.specs.Works.{IsRunOf, Knows, Left};
+ghost use Rattle.sp_runner.specs.Works.{IsRunOf, Knows, Left, held};
 
 use sp_base::Limits;
 use sp_code::Code;
@@ -16,7 +15,7 @@ use std::sync::Wait;
 
 // The process that a refused ask held.
 fn held(refused: Option<Handed>) -> Option<Proc>
-    ensures { result ≡ option_map (λ h. h.proc) refused }
+    ensures { result ≡ held refused }
 {
     match refused {
         None => None,

@@ -2,6 +2,7 @@
 -- of all walks of this crate cite it.
 use Rattle.std.specs.Prelude.{List, ◌∷◌, ◌++◌, Option, Some}
 use Rattle.std.specs.HashMap.{HashMap}
+use Rattle.std.specs.Option.{option_map}
 pub use Rattle.sp_tree.specs.Found.{Walks}
 use Rattle.sp_tree.specs.declared.syntax.Name.{Name}
 use Rattle.sp_tree.specs.declared.syntax.SynFormal.{SynFormal}
@@ -9,7 +10,8 @@ use Rattle.sp_tree.specs.PlainNamed as n
 use Rattle.sp_tree.specs.declared.named.NamedConstant.{NamedConstant}
 use Rattle.sp_tree.specs.declared.named.NamedKind.{NamedKind}
 use Rattle.sp_tree.specs.declared.checked.Variable.{Variable}
-use Rattle.sp_tree.specs.NamedOf.{statement_of, program_of}
+use Rattle.sp_tree.specs.declared.named.NamedExpr.{NamedExpr}
+use Rattle.sp_tree.specs.NamedOf.{expression_of, statement_of, program_of, width}
 use Rattle.sp_tree.specs.NamedTree.{Inside, program_block, formals_named, answer_named, numbers, answer_of}
 use Rattle.sp_tree.specs.Scopes.{Env, next_block, next_variable}
 use Rattle.sp_scope.specs.declared.walked.BlockParts.{BlockParts}
@@ -18,6 +20,10 @@ use Rattle.sp_scope.specs.declared.walked.Heading.{Heading}
 -- the declarations that a table in memory holds
 abbrev pub entries_of : {K V S : Type 0} → HashMap K V S → List (K × V)
 entries_of table = table.entries
+
+-- the width of an argument, if it has one
+abbrev pub width_of : Option NamedExpr → n.Width
+width_of e = width (option_map expression_of e)
 
 -- a part that is plain already
 abbrev pub itself : {A : Type 0} → A → A

@@ -2,7 +2,7 @@
 
 ghost use Rattle.std.specs.Prelude.{◌≡◌, map, None, Ok};
 ghost use Rattle.std.specs.Option.{option_copied};
-ghost use Rattle.sp_scope.specs.Walks.{Walks};
+ghost use Rattle.sp_scope.specs.Walks.{Walks, width_of};
 ghost use Rattle.sp_tree.specs.Found.{lesser};
 ghost use Rattle.sp_tree.specs.NameRules.{broken, Operand};
 ghost use Rattle.sp_tree.specs.Scopes.{find};
@@ -310,7 +310,7 @@ fn name_width(
     p: Passing,
     first: Found,
 ) -> Result<Walked<Option<NamedExpr>>, Halt>
-    ensures { Walks (λ t. named.width (option_map named.expression_of t)) result
+    ensures { Walks width_of result
         (named_width scopes.now (width (option_map expression_of w))) (width_first scopes.now p at (width (option_map expression_of w)) first) }
 {
     match w {
