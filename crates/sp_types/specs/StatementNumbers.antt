@@ -1,7 +1,7 @@
 -- The numbers of the statements of a checked tree, in the order of its blocks, and what it is that no two are the same.
-use Rattle.std.specs.Prelude.{ℕ, List, [], ◌∷◌, ◌++◌, ◌≢◌}
+use Rattle.std.specs.Prelude.{ℕ, ℤ, pos, false, codes, List, [], ◌∷◌, ◌++◌, ◌≢◌, Some, None}
 use Rattle.sp_base.specs.declared.place.Place.{Place}
-use Rattle.sp_tree.specs.PlainChecked.{Statement, Does, Form, Sequence, If, While, Repeat, For, Case, Parallel, Forall, Other, NoElse, Else, Statements, NoStatement, AndThen, On, Arms, NoArm, Or, Block}
+use Rattle.sp_tree.specs.PlainChecked.{Expression, At, Number, Read, Entire, Whole, Nothing, Statement, Does, Form, Empty, Call, Send, Sequence, If, While, Repeat, For, Case, Parallel, Forall, Other, NoElse, Else, Statements, NoStatement, AndThen, On, Arms, NoArm, Or, Block}
 use Rattle.sp_tree.specs.PlainNamed as n
 use Rattle.sp_types.specs.TypeWalk.{statement_place}
 
@@ -52,3 +52,29 @@ DiffersFrom x (y ∷ ys) = (x ≢ y) × DiffersFrom x ys
 abbrev pub AllDiffer : {A : Type 0} → List A → Type 0
 AllDiffer [] = Unit {0}
 AllDiffer (x ∷ xs) = DiffersFrom x xs × AllDiffer xs
+
+-- a small tree: a program of `if 1 then for x := 1 to 2 do p else ;` and its procedure p of `send(c, 1, 2)`
+abbrev somewhere : Place
+somewhere = record { line = 1; column = 1 }
+
+abbrev number : ℤ → Expression
+number k = At somewhere 0 (Number k)
+
+abbrev channel : Expression
+channel = At somewhere 3 (Read (Entire 3 somewhere Whole))
+
+abbrev own_body : Statement
+own_body = Does 3 somewhere (Sequence (AndThen
+    (Does 4 somewhere (If (number (pos 1)) (Does 5 somewhere (For 2 somewhere (number (pos 1)) false (number (pos 2)) (Does 6 somewhere (Call 1 Nothing)))) (Else (Does 7 somewhere Empty))))
+    NoStatement))
+
+abbrev procedure_body : Statement
+procedure_body = Does 0 somewhere (Sequence (AndThen
+    (Does 1 somewhere (Send channel (number (pos 1)))) (AndThen
+    (Does 2 somewhere (Send channel (number (pos 2))))
+    NoStatement)))
+
+abbrev pub two_blocks : List Block
+two_blocks =
+    record { name = codes "g"; parent = None; formals = []; answer = None; body = own_body; at = somewhere } ∷
+    record { name = codes "p"; parent = Some 0; formals = []; answer = None; body = procedure_body; at = somewhere } ∷ []
