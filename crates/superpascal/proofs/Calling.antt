@@ -4,7 +4,6 @@ use Rattle.std.specs.Prelude.{IfSome}
 use Rattle.sp_base.specs.declared.halt.Refusal.{Refusal}
 use Rattle.sp_base.specs.declared.limits.Limits.{Limits}
 use Rattle.sp_execute.specs.declared.execution.Ran.{Ran}
-use Rattle.sp_execute.specs.Runs.{Executes, setting}
 use Rattle.sp_gen.specs.Generated.{generated_text}
 use Rattle.sp_journal.specs.declared.outcome.End.{End}
 use Rattle.sp_journal.specs.declared.outcome.End.TheVariants as ends
@@ -19,13 +18,13 @@ use Rattle.superpascal.specs.declared.ending.Ending.{Ending}
 use Rattle.superpascal.specs.declared.ending.Ending.TheVariants as e
 use Rattle.superpascal.specs.declared.ending.Answer.{Answer}
 use Rattle.superpascal.specs.Answers.{has_output, line_of, notes_by, notes_of, output_of, status_of}
-use Rattle.superpascal.specs.Calls.{All, Call, Exactly, Failed, IsAnswered, IsOutside, IsUnwritten, OfInput, OfRun, OfText, Part, Writes}
+use Rattle.superpascal.specs.Calls.{All, Call, Exactly, Failed, IsAnswered, IsOutside, IsUnwritten, OfText, Part}
 use Rattle.superpascal.specs.Causes.{Cause, by_words, before_words, by_command, Files, HasGenerated, HasMade, HasRun, IsNotLoaded, IsNotRead, IsRefusedFor, IsTold, IsTooLong, IsTooMuch, IsUntouched, ReadsAfterRules, Stream, accepted, refused, silent}
 use Rattle.superpascal.specs.Headline.{Headline, IsMeant, Prints, SaysRefusal}
 use Rattle.superpascal.specs.Promise.{Promise}
 use Rattle.superpascal.specs.Runs.{IsRunOf, Reports, ending_of, generated_answer, generated_output, run_answer, run_notes}
 use Rattle.superpascal.specs.Statuses.{InputIsTooLong, IsQuiet, IsRunOfWords, ReadsFail, Statuses}
-use Rattle.superpascal.specs.Texts.{Asked, Breaks, BreaksOne, IsAbout, IsDisjointText, Keeps, KeepsAll, Makes, asks, asks_all, asks_text, text_of}
+use Rattle.superpascal.specs.Texts.{Asked, Breaks, IsAbout, IsDisjointText, Keeps, KeepsAll, Makes, asks, asks_text, text_of}
 use Rattle.superpascal.specs.Writing.{AreWritten, Writing, WritesLine}
 use Rattle.superpascal.proofs.Laws.{Laws, disjoint_text, keeps_all, keeps_or, kept_or, made_asks, made_keeps, made_once, one_break}
 use Rattle.superpascal.proofs.Telling.{ends_of}

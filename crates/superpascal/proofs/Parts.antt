@@ -1,5 +1,5 @@
 -- From what the parts of a call answer to the cause of its answer.
-use Rattle.std.proofs.Common.{◌≡◌, ◌≢◌, ◌⊎◌, inl, inr, ℕ, ◌<◌, ◌≤◌, List, [], length, Option, Some, None, Result, Ok, Err, refl, sym, ◌∙◌, ap, subst, arith}
+use Rattle.std.proofs.Common.{◌≡◌, ◌≢◌, inl, inr, ℕ, ◌<◌, ◌≤◌, List, [], length, Option, Some, None, Result, Ok, Err, refl, sym, ◌∙◌, ap, subst}
 use Rattle.std.specs.Prelude.{IfSome, ◌↔◌}
 use Rattle.sp_base.specs.declared.halt.Halt.{Halt}
 use Rattle.sp_base.specs.declared.halt.Halt.TheVariants as halt
@@ -19,15 +19,14 @@ use Rattle.sp_outside.specs.declared.failed.LoadError.TheVariants as load
 use Rattle.sp_tree.specs.CheckedOf.{program_of}
 use Rattle.sp_tree.specs.PlainChecked as c
 use Rattle.sp_words.specs.Ranges.{default_limits}
-use Rattle.sp_words.specs.Words.{command_of}
 use Rattle.sp_words.specs.declared.command.Command.{Command}
 use Rattle.sp_words.specs.declared.command.Command.TheVariants as command
 use Rattle.superpascal.specs.declared.ending.Ending.TheVariants as e
 use Rattle.superpascal.specs.declared.ending.Answer.{Answer}
-use Rattle.superpascal.specs.Answering.{CodeAnswer, CommandCause, GeneratedAnswer, GeneratedCause, InputAnswer, IsKeptText, IsMade, IsRefusedText, RanAnswer, AnswersRefusal, RunAnswer, RunsOnInput, TextCause, halted, too_long, unloaded}
-use Rattle.superpascal.specs.Causes.{Cause, by_words, before_words, by_command, Due, by_run, by_generated, by_text, by_rule, by_library, by_source, by_length, by_memory, Files, HasGenerated, HasMade, HasRun, IsNotLoaded, IsNotRead, IsRefusedFor, IsTold, IsTooLong, IsTooMuch, IsUntouched, ReadsAfterRules, Stream, accepted, refused, silent}
-use Rattle.superpascal.specs.Runs.{HasCode, IsRunOf, Reports, generated_answer, run_answer}
-use Rattle.superpascal.specs.Texts.{Asked, Breaks, BreaksOne, IsAbout, KeepsAll, Makes, asked, asks, asks_text, text_of}
+use Rattle.superpascal.specs.Answering.{CodeAnswer, CommandCause, GeneratedAnswer, GeneratedCause, InputAnswer, IsMade, AnswersRefusal, RunAnswer, TextCause, halted, too_long, unloaded}
+use Rattle.superpascal.specs.Causes.{Cause, by_command, Due, by_run, by_generated, by_text, by_rule, by_library, by_source, by_length, by_memory, Files, IsTold, IsUntouched, ReadsAfterRules, Stream, accepted}
+use Rattle.superpascal.specs.Runs.{HasCode, IsRunOf, Reports}
+use Rattle.superpascal.specs.Texts.{Asked, Breaks, BreaksOne, IsAbout, KeepsAll, asked, asks, text_of}
 use Rattle.superpascal.proofs.Laws.{long_breaks}
 
 -- ---- what is told
@@ -61,16 +60,9 @@ module _ (f : Files) (d : Command) (name : List ℕ) (about : IsAbout d name) (a
   to_text : (P : Option (List ℕ) → Type 0) → P (f.held name) → P (text_of f.held d)
   to_text P h = subst P (sym (held_of f d name about)) h
 
-  pub text_made : (text : List ℕ) → IsTold (f.held name) text → IsMade d text (Ok a) → TextCause f d a
-  text_made text t (out, line, m, h) = inl (record { text = text; loaded = to_text (λ o. IsTold o text) t; output = out; line = line; makes = m; answer = h })
-
   refuses : (r : Refusal) → IfSome (text_of f.held d) (λ text. Breaks d text r) → AnswersRefusal r a → TextCause f d a
   refuses r b (inl h) = inr (inl (record { refusal = r; breaks = b; answer = h }))
   refuses r b (inr h) = inr (inr (inr h))
-
-  pub text_halted : (text : List ℕ) (h : Halt) → IsTold (f.held name) text → IsMade d text (Err h) → halted h a → TextCause f d a
-  text_halted text (halt.Refused r) t b h = refuses r (to_text (λ o. IfSome o (λ x. Breaks d x r)) (when_told (λ x. Breaks d x r) (f.held name) text t b)) h
-  text_halted text halt.Memory t b h = inr (inr (inr h))
 
   -- a text that the library does not give
   pub text_unloaded : (X : Type 0) (error : LoadError)

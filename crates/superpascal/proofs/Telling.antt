@@ -1,5 +1,5 @@
 -- What of a run lets it be told.
-use Rattle.std.proofs.Common.{◌≡◌, ℕ, List}
+use Rattle.std.proofs.Common.{ℕ, List}
 use Rattle.sp_base.specs.declared.limits.Limits.{Limits}
 use Rattle.sp_code.specs.System.{System}
 use Rattle.sp_cell.specs.Map.{Plain}

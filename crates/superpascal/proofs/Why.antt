@@ -1,6 +1,5 @@
 -- Why an answer is due, by its ending.
-use Rattle.std.proofs.Common.{◌≡◌, ◌⊎◌, inl, inr, ℕ, List, [], Option, Some, None, refl, sym, ◌∙◌, ap, subst}
-use Rattle.sp_base.specs.declared.halt.Refusal.{Refusal}
+use Rattle.std.proofs.Common.{◌≡◌, ◌⊎◌, inl, inr, ℕ, Option, Some, None, refl, sym, ◌∙◌, ap, subst}
 use Rattle.sp_execute.specs.declared.execution.Ran.{Ran}
 use Rattle.sp_journal.specs.declared.outcome.End.{End}
 use Rattle.sp_journal.specs.declared.outcome.End.TheVariants as ends
@@ -10,7 +9,7 @@ use Rattle.superpascal.specs.declared.ending.Ending.{Ending}
 use Rattle.superpascal.specs.declared.ending.Ending.TheVariants as e
 use Rattle.superpascal.specs.declared.ending.Answer.{Answer}
 use Rattle.superpascal.specs.Causes.{Cause, by_words, before_words, by_command, Due, by_run, by_generated, by_text, by_rule, by_library, by_source, by_length, by_memory, Files, HasGenerated, HasMade, HasRun, IsNotLoaded, IsNotRead, IsRefusedFor, IsTooMuch, Stream, silent}
-use Rattle.superpascal.specs.Runs.{IsRunOf, Reports, ending_of, generated_answer, run_answer}
+use Rattle.superpascal.specs.Runs.{Reports, ending_of, generated_answer, run_answer}
 use Rattle.superpascal.specs.Texts.{Asked, asks}
 use Rattle.superpascal.proofs.Telling.{Ends, ends_of}
 

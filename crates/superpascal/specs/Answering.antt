@@ -21,7 +21,7 @@ use Rattle.superpascal.specs.declared.ending.Ending.TheVariants as e
 use Rattle.superpascal.specs.declared.ending.Answer.{Answer}
 use Rattle.superpascal.specs.Causes.{Due, Files, HasGenerated, HasMade, IsNotLoaded, IsRefusedFor, IsTold, IsTooLong, IsUntouched, ReadsAfterRules, Stream, accepted, refused, silent}
 use Rattle.superpascal.specs.Runs.{IsRunOf, Reports, generated_answer, run_answer}
-use Rattle.superpascal.specs.Texts.{Asked, Breaks, BreaksOne, KeepsAll, Makes, asks}
+use Rattle.superpascal.specs.Texts.{Breaks, BreaksOne, KeepsAll, Makes}
 
 -- the answer to a text that breaks this rule first, or want of memory
 abbrev pub AnswersRefusal : Refusal → Answer → Type 0

@@ -1,7 +1,6 @@
 -- A run of the program of a text, and what is told of it. The contracts of `runs` and `notes` promise it; the headline
 -- and the written texts are said by it.
-use Rattle.std.specs.Prelude.{◌≡◌, ℕ, ◌≤◌, Bool, true, false, if◌then◌else◌, List, [], ◌++◌, Some, None, codes, decimal, filter, length}
-use Rattle.std.specs.List.{flat_map}
+use Rattle.std.specs.Prelude.{ℕ, ◌≤◌, Bool, true, false, if◌then◌else◌, List, [], ◌++◌, Some, None, codes, decimal, length}
 use Rattle.sp_base.specs.declared.limits.Limits.{Limits}
 use Rattle.sp_base.specs.declared.limits.Show.{Show}
 use Rattle.sp_base.specs.declared.limits.Show.TheVariants as show
@@ -18,7 +17,6 @@ use Rattle.sp_journal.specs.declared.outcome.End.TheVariants as ends
 use Rattle.sp_journal.specs.declared.version.Version.TheVariants as version
 use Rattle.sp_journal.specs.Texts.{journal_text}
 use Rattle.sp_print.specs.Lines.{end_text, verdict_text}
-use Rattle.sp_report.specs.Telling.{is_chosen}
 use Rattle.sp_runner.specs.Runs.{IsRun}
 use Rattle.sp_tree.specs.Bare.{bare}
 use Rattle.sp_tree.specs.PlainChecked as c

@@ -1,6 +1,6 @@
 -- What a call has written, by its status. The contract of the top call promises it: all of it, a first part where a
 -- sink failed, or the line of the status.
-use Rattle.std.specs.Prelude.{◌≡◌, ◌≢◌, ◌⊎◌, ℕ, List, [], Some, false}
+use Rattle.std.specs.Prelude.{◌≡◌, ◌≢◌, ℕ, List, [], Some, false}
 use Rattle.sp_execute.specs.declared.execution.Ran.{Ran}
 use Rattle.sp_words.specs.Words.{command_of}
 use Rattle.sp_words.specs.declared.command.Command.TheVariants as command

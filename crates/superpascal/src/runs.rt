@@ -1,6 +1,6 @@
 //! The commands that run a program.
 
-ghost use Rattle.std.specs.Prelude.{◌≡◌, ℕ, ◌≤◌, List, [], All, IfOk, filter};
+ghost use Rattle.std.specs.Prelude.{ℕ, ◌≤◌, List, IfOk};
 ghost use Rattle.sp_base.specs.declared.limits.Limits.{Limits as ALimits};
 ghost use Rattle.sp_gen.specs.Generated.{generated_text};
 ghost use Rattle.sp_report.specs.Telling.{AreFresh, reports};

@@ -1,6 +1,6 @@
 //! The commands that answer from the text alone.
 
-ghost use Rattle.std.specs.Prelude.{ℕ, List, OnOk};
+ghost use Rattle.std.specs.Prelude.{ℕ, List};
 ghost use Rattle.sp_words.specs.declared.command.Command.TheVariants.{Check, Code, Format, Sets};
 ghost use Rattle.superpascal.specs.Answering.{IsMade, TextCause};
 ghost use Rattle.superpascal.specs.Causes.{files};
