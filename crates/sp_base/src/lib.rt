@@ -10,8 +10,6 @@ mod list;
 mod name;
 mod place;
 mod rule;
-#[cfg(test)]
-mod tests;
 mod text;
 
 pub use boxed::Boxed;

@@ -23,7 +23,7 @@ use Rattle.sp_tree.specs.NamedTree.{formals_named, answer_named, parts_named, pa
 use Rattle.sp_tree.specs.PlainSyntax.{Part, Const, Kind, Var, Proc, Parts, NoPart, Declare}
 use Rattle.sp_facts.proofs.Numbering.{answer_adds, parts_move, part_moves}
 use Rattle.sp_facts.proofs.NameStatements.{Holds, holds_parts}
-use Rattle.sp_tree.specs.PlainOf.{variable_of}
+use Rattle.sp_tree.specs.Bare.{variable_of}
 use Rattle.sp_facts.proofs.Blocks.{calm_pieces, title_moves, formals_move, head_blocks, head_number}
 use Rattle.sp_tree.specs.PlainSyntax as syntax
 use Rattle.sp_tree.specs.NameFirst.{names_broken}

@@ -24,7 +24,7 @@ use Rattle.sp_tree.specs.NamedTree.{kind_number, variables_named, formals_named,
 use Rattle.sp_tree.specs.PlainSyntax.{Part, Const, Kind, Var, Proc, Parts, NoPart, Declare}
 use Rattle.sp_facts.proofs.Numbering.{answer_adds, part_moves}
 use Rattle.sp_tree.specs.NamedTree.{Inside, inside_with, procedure_block}
-use Rattle.sp_tree.specs.PlainOf.{variable_of}
+use Rattle.sp_tree.specs.Bare.{variable_of}
 use Rattle.sp_tree.specs.Cells.{variables_of}
 use Rattle.sp_tree.specs.Formed.{among}
 use Rattle.sp_facts.specs.Each.{Each}

@@ -10,14 +10,13 @@ use Rattle.sp_tree.specs.Cells.{variables_of}
 use Rattle.sp_tree.specs.NameFirst.{names_broken, together}
 use Rattle.sp_tree.specs.Plain as plain
 use Rattle.sp_tree.specs.PlainNamed as n
-use Rattle.sp_tree.specs.PlainOf.{variable_of}
+use Rattle.sp_tree.specs.Bare.{bare_block, variable_of}
 use Rattle.sp_tree.specs.PlainSyntax as syntax
 use Rattle.sp_types.specs.Tables.{Env, entry, env_of, types_of, type_of, type_number, roles_of, signatures, numbers_of, constants_of, variable_kind}
 use Rattle.sp_types.specs.TypeRules.{is_ordinal}
 use Rattle.sp_types.specs.TypeFirst.{types_broken}
 use Rattle.sp_types.specs.TypeWalk.{started, starts_of, statement_after, blocks_after}
 use Rattle.sp_types.specs.CheckedTree.{checked_variables, checked_blocks, checked_block, or_zero}
-use Rattle.sp_tree.specs.Bare.{bare_block}
 use Rattle.sp_tree.specs.Formed.{AreBefore, is_parameter, among}
 use Rattle.sp_facts.specs.Earlier.{HaveTypes, IsFormedKind, AreFormedKinds}
 use Rattle.sp_facts.specs.Knows.{IsKind, AreFormals, Knows}

@@ -4,7 +4,7 @@ use Rattle.std.specs.Prelude.{map}
 use Rattle.sp_base.specs.declared.place.Place.{Place}
 use Rattle.sp_tree.specs.declared.checked.Role.{Role}
 use Rattle.sp_tree.specs.declared.checked.Variable as checked
-use Rattle.sp_tree.specs.PlainOf.{variable_of}
+use Rattle.sp_tree.specs.Bare.{bare_block, variable_of}
 use Rattle.sp_tree.specs.Plain as plain
 use Rattle.sp_tree.specs.PlainNamed as n
 use Rattle.sp_tree.specs.PlainNamed.{Statement, Does, Form, Empty, Assign, Call, Perform, Sequence, If, While, Repeat, Case, For, Parallel, Forall, Assume, NoElse, Else, Statements, NoStatement, AndThen, On, Arms, NoArm, Or, Branches, NoBranch, Beside}
@@ -13,7 +13,6 @@ use Rattle.sp_types.specs.Tables.{Env, answer_variable, counted, indexed, env_of
 use Rattle.sp_types.specs.TypeWalk.{statement_after, statements_after, arms_after, branches_after, form_after, started, starts_of, starts_from, bodies, blocks_after}
 use Rattle.sp_types.specs.Kinds.{expression_kind}
 use Rattle.sp_types.specs.CheckedTree.{checked_block, checked_blocks, checked_variables, or_zero}
-use Rattle.sp_tree.specs.Bare.{bare_block}
 use Rattle.sp_facts.specs.Held.{HoldsBlocks, AreBelow}
 use Rattle.sp_facts.proofs.NameStatements.{Holds}
 use Rattle.sp_facts.proofs.Headings.{own}

@@ -1,5 +1,5 @@
 -- What the phases answer, the phase of interference among them, as one answer about the text.
-use Rattle.std.proofs.Common.{◌≡◌, ℕ, List, [], Result, Ok, Err, inl, inr, sym as back_of, ap, ◌∙◌, subst, arith}
+use Rattle.std.proofs.Common.{◌≡◌, ℕ, List, [], Result, Ok, Err, inl, inr, refl, sym as back_of, ap, ◌∙◌, subst, arith}
 use Rattle.std.specs.Result.{IfOk}
 use Rattle.sp_base.specs.declared.halt.Halt.{Halt}
 use Rattle.sp_base.specs.declared.halt.Refusal.{Refusal}
@@ -13,7 +13,6 @@ use Rattle.sp_tree.specs.Interferes.{Interferes}
 use Rattle.sp_tree.specs.Interference.{IsFreeOfInterference}
 use Rattle.sp_tree.specs.NameFirst.{names_broken}
 use Rattle.sp_tree.specs.NamedTree.{program_named}
-use Rattle.sp_tree.proofs.FusedStatements.{program_fused}
 use Rattle.sp_grammar.proofs.Order.{one_first}
 use Rattle.sp_types.specs.CheckedTree.{program_checked}
 use Rattle.sp_facts.specs.Gives.{IsNumberedTree, tree}
@@ -59,7 +58,7 @@ keeps_all one apart text (Ok a) ((h, calm), are) = none
 
 pub programs_of : (text : List ℕ) (result : Result Accepted Halt) → Compiles text result → IfOk result (λ a. IsProgramOf text (meant.program_of a.checked))
 programs_of text (Err e) h = tt
-programs_of text (Ok a) ((h, calm), are) = (checked.program_of a.checked, h, program_fused a.checked)
+programs_of text (Ok a) ((h, calm), are) = (checked.program_of a.checked, h, refl)
 
 -- the first rule of all phases is one, and none where the tree is accepted
 module _ (one : OneTree) (apart : Apart) (text : List ℕ) where
@@ -78,9 +77,9 @@ Free = (text : List ℕ) (p : c.Program) → IsAccepted text p → IsFreeOfInter
 
 pub free_of : Free → (text : List ℕ) (result : Result Accepted Halt) → Compiles text result → IfOk result (λ a. IsFreeOfInterference (meant.program_of a.checked))
 free_of free text (Err e) h = tt
-free_of free text (Ok a) (h, are) = subst IsFreeOfInterference (program_fused a.checked) (free text (checked.program_of a.checked) h)
+free_of free text (Ok a) (h, are) = free text (checked.program_of a.checked) h
 
 pub disjoint_of : Free → ((g : Setting) → IsFreeOfInterference g.program → IsDisjointRun g) → (text : List ℕ) (result : Result Accepted Halt) → Compiles text result
     → IfOk result (λ a. (g : Setting) → g.program ≡ meant.program_of a.checked → IsDisjointRun g)
 disjoint_of free keepers text (Err e) h = tt
-disjoint_of free keepers text (Ok a) (h, are) = λ g e. keepers g (subst IsFreeOfInterference (back_of e) (subst IsFreeOfInterference (program_fused a.checked) (free text (checked.program_of a.checked) h)))
+disjoint_of free keepers text (Ok a) (h, are) = λ g e. keepers g (subst IsFreeOfInterference (back_of e) (free text (checked.program_of a.checked) h))

@@ -1,5 +1,5 @@
 -- What the phases answer one after the other, as one answer about the text.
-use Rattle.std.proofs.Common.{◌≡◌, ℕ, List, Result, Ok, Err, inl, inr, sym as back_of, ap, ◌∙◌, subst}
+use Rattle.std.proofs.Common.{◌≡◌, ℕ, List, Result, Ok, Err, inl, inr, refl, sym as back_of, ap, ◌∙◌, subst}
 use Rattle.std.specs.Result.{IfOk}
 use Rattle.sp_base.specs.declared.halt.Halt.{Halt}
 use Rattle.sp_base.specs.declared.halt.Halt.TheVariants as halt
@@ -14,7 +14,6 @@ use Rattle.sp_tree.specs.NameFirst.{resolved}
 use Rattle.sp_tree.specs.PlainChecked.{Program}
 use Rattle.sp_tree.specs.CheckedOf as checked
 use Rattle.sp_tree.specs.PlainOf as meant
-use Rattle.sp_tree.proofs.FusedStatements.{program_fused}
 use Rattle.sp_types.specs.TypeFirst.{typed}
 use Rattle.sp_front.specs.Checks.{BreaksFirst, Checks, IsChecked, IsProgramOf, KeepsRules}
 use Rattle.sp_front.specs.Texts.{ParsesTo}
@@ -54,5 +53,5 @@ keeps apart text (Err e) h = tt
 
 -- the tree in memory stands for the program of the text
 pub programs : (text : List ℕ) (result : Result Checked Halt) → Checks text result → IfOk result (λ tree. IsProgramOf text (meant.program_of tree))
-programs text (Ok tree) h = (checked.program_of tree, h, program_fused tree)
+programs text (Ok tree) h = (checked.program_of tree, h, refl)
 programs text (Err e) h = tt

@@ -1,17 +1,7 @@
--- The length of the plain tree, and the limit of it.
-use Rattle.std.proofs.Common.{◌≡◌, ℕ, ◌<◌, ◌≤◌, ◌↔◌, Bool, true, false, true≢false, sym, ap, arith}
+-- The limit of the length of a tree.
+use Rattle.std.proofs.Common.{◌≡◌, ℕ, ◌<◌, ◌≤◌, ◌↔◌, Bool, true, false, true≢false, sym, arith}
 use Rattle.std.specs.Prelude.{min, IsTrue}
-use Rattle.sp_tree.specs.declared.checked.Checked.{Checked}
-use Rattle.sp_tree.specs.PlainOf as plain
-use Rattle.sp_tree.specs.CheckedOf as placed
-use Rattle.sp_tree.specs.Bare.{bare}
-use Rattle.sp_tree.specs.Plain.{Program}
-use Rattle.sp_tree.proofs.FusedStatements.{program_fused}
-use Rattle.sp_code.specs.Lengths.{tree_length}
 use Rattle.sp_length.specs.Told.{told}
-
-pub one_length : (tree : Checked) → told (tree_length (plain.program_of tree)) ≡ told (tree_length (bare (placed.program_of tree)))
-one_length tree = ap (λ (p : Program). told (tree_length p)) (sym (program_fused tree))
 
 within : (m n : ℕ) → min n m ≤ 1048576 → 1048576 < m → n ≤ 1048576
 within m n h k = omega (arith, h, k)

@@ -1,9 +1,8 @@
 //! The frames of blocks, and where variables stand in them.
 
 ghost use Rattle.std.specs.Prelude.{◌≡◌, ◌==◌, ◌&&◌, ◌++◌, map, slice_get, Some, IfOk, OnOk};
-ghost use Rattle.sp_tree.specs.PlainOf.{variable_of};
+ghost use Rattle.sp_tree.specs.Bare.{bare, bare_block, variable_of};
 ghost use Rattle.sp_tree.specs.CheckedOf.{program_of, block_of};
-ghost use Rattle.sp_tree.specs.Bare.{bare, bare_block};
 ghost use Rattle.sp_tree.specs.Cells.{variables_of};
 ghost use Rattle.sp_code.specs.Scopes.{is_local, locals_among, parameters_of, frame_of, index_among, slot_in};
 ghost use Rattle.sp_generate.specs.Tabled.{slots_of};

@@ -111,7 +111,7 @@ fn is_too_long(instructions: u32) -> bool
 /// is handed the variables that its statement may change, and shares those that it only reads, but for the index of its
 /// own forall. Where the code would have more than 1,048,576 instructions nothing is built. It recurses as deep as the
 /// tree is.
-#[tactic(auto, using(crate::proofs::Limits::one_length, crate::proofs::Limits::told_within, crate::proofs::Limits::told_beyond))]
+#[tactic(auto, using(crate::proofs::Limits::told_within, crate::proofs::Limits::told_beyond))]
 pub fn generate(alloc: Global, checked: &Checked, sets: &Sets) -> Result<Code, GenError>
     requires { AreSets (program_of checked.now) sets.now }
     ensures { Answered (program_of checked.now) result }

@@ -2,7 +2,7 @@
 
 ghost use Rattle.std.specs.Prelude.{◌≡◌, ℕ, List, slice_get, IfOk, Some};
 ghost use Rattle.sp_tree.specs.Cells.{first_or};
-ghost use Rattle.sp_tree.specs.PlainOf.{variable_of};
+ghost use Rattle.sp_tree.specs.Bare.{variable_of};
 ghost use Rattle.sp_tree.specs.declared.checked.KindOf.TheVariants.{Fields};
 ghost use Rattle.sp_code.specs.declared.instr.Instr.TheVariants.{Call};
 ghost use Rattle.sp_code.specs.Scopes.{size, sort, slot, kind_at, type_by, element_type, field_type, field_offset};

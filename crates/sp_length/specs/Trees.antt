@@ -1,19 +1,9 @@
 -- Parts of a tree in memory, and their lengths one at a time, for the contracts of `statements`, which adds one part
 -- after another.
 use Rattle.std.specs.Prelude.{ℕ, ◌+◌, Bool, true, false, Option, Some, None}
-use Rattle.sp_tree.specs.declared.checked.Form as ast_f
-use Rattle.sp_tree.specs.declared.checked.Arm as ast_a
-use Rattle.sp_tree.specs.PlainOf.{stmt_form_step, arm_step, stmt_step}
-use Rattle.sp_tree.specs.Plain.{Expr, Typed, Stmt, Arm, Program}
+use Rattle.sp_tree.specs.Plain.{Expr, Typed, Stmt, Program}
 use Rattle.sp_code.specs.Scopes.{Sort, Ordinals, Channels, Many, NoSort, sort}
 use Rattle.sp_code.specs.Lengths.{right_length, stmt_length}
-
--- the plain statement of a form, and the plain choice of a `case`
-abbrev pub stmt_form_of : ast_f.Form → Stmt
-stmt_form_of = ast_f.fold-Form Stmt Arm Stmt stmt_form_step arm_step stmt_step
-
-abbrev pub arm_of : ast_a.Arm → Arm
-arm_of = ast_a.fold-Arm Stmt Arm Stmt stmt_form_step arm_step stmt_step
 
 -- a value of several cells
 abbrev pub is_many : Sort → Bool

@@ -1,7 +1,7 @@
 //! The lengths of expressions. Each function adds a part's length to what is given.
 
 ghost use Rattle.std.specs.Prelude.{◌≡◌, ◌+◌, map, option_map};
-ghost use Rattle.sp_tree.specs.PlainOf.{expr_of, form_of, var_of, selectors, selector_of, actuals_of, actual_of, standard, width_of};
+ghost use Rattle.sp_tree.specs.PlainOf.{expr_of, form_of, var_of, selector_of, actuals_of, actual_of, width_of, standard_of, selectors_of};
 ghost use Rattle.sp_tree.specs.Plain.{Pass, Nothing, Select, Whole};
 ghost use Rattle.sp_code.specs.Lengths.{unary_length, standard_length, value_length, form_length, var_length, selectors_length, actuals_length, width_length};
 ghost use Rattle.sp_length.specs.Told.{told};
@@ -81,7 +81,7 @@ pub fn form_length(form: &ExprForm, q: u32) -> u32
 #[cycle(length)]
 #[tactic(auto, using(crate::proofs::Sums::summed))]
 fn applied_length(f: StandardFn, args: &List<Expr>, q: u32) -> u32
-    ensures { result ≡ told (q + form_length (standard f (map expr_of args.now))) }
+    ensures { result ≡ told (q + form_length (standard_of f args.now)) }
 {
     match args.items() {
         [] => sum(q, 1),
@@ -105,7 +105,7 @@ pub fn var_length(v: &Var, q: u32) -> u32
 #[cycle(length)]
 #[tactic(auto, using(crate::proofs::Sums::selected))]
 fn selectors_length(ss: &List<Selector>, q: u32) -> u32
-    ensures { result ≡ told (q + selectors_length (selectors (map selector_of ss.now))) }
+    ensures { result ≡ told (q + selectors_length (selectors_of ss.now)) }
 {
     let mut q = q;
     for s in ss.items() {

@@ -1,12 +1,12 @@
 //! The lengths of statements. Each function adds a part's length to what is given.
 
 ghost use Rattle.std.specs.Prelude.{◌≡◌, ◌+◌, ◌∷◌, [], length, map, option_map, slice_get};
-ghost use Rattle.sp_tree.specs.PlainOf.{expr_of, form_of, var_of, stmt_of, stmts, sends, receives, arms_of, chosen, program_of};
+ghost use Rattle.sp_tree.specs.PlainOf.{expr_of, form_of, var_of, stmt_of, sends, receives, arms_of, program_of, stmt_form_of, stmts_of};
 ghost use Rattle.sp_tree.specs.Plain.{Send, Receive, And, No, Or, NoArm, Case, Parallel, Sequence};
 ghost use Rattle.sp_code.specs.Scopes.{sort_by, Many};
 ghost use Rattle.sp_code.specs.Lengths.{right_length, stmt_length, all_length, children_length, arms_length, tests_length};
 ghost use Rattle.sp_length.specs.Told.{told};
-ghost use Rattle.sp_length.specs.Trees.{stmt_form_of, arm_of, is_many, right_side, else_length};
+ghost use Rattle.sp_length.specs.Trees.{is_many, right_side, else_length};
 
 use crate::expressions::{actuals_length, form_length, value_length, var_length, width_length};
 use crate::sum::{sum, sum_count};
@@ -180,7 +180,7 @@ fn else_length(program: &Checked, b: &Option<Boxed<Stmt>>, q: u32) -> u32
 #[cycle(stmt)]
 #[tactic(auto, using(crate::proofs::Sums::summed))]
 fn all_length(program: &Checked, ss: &List<Stmt>, q: u32) -> u32
-    ensures { result ≡ told (q + all_length (program_of program.now) (stmts (map stmt_of ss.now))) }
+    ensures { result ≡ told (q + all_length (program_of program.now) (stmts_of ss.now)) }
 {
     let mut q = q;
     for s in ss.items() {
@@ -193,7 +193,7 @@ fn all_length(program: &Checked, ss: &List<Stmt>, q: u32) -> u32
 #[cycle(stmt)]
 #[tactic(auto, using(crate::proofs::Sums::summed))]
 fn children_length(program: &Checked, ss: &List<Stmt>, q: u32) -> u32
-    ensures { result ≡ told (q + children_length (program_of program.now) (stmts (map stmt_of ss.now))) }
+    ensures { result ≡ told (q + children_length (program_of program.now) (stmts_of ss.now)) }
 {
     let mut q = q;
     for s in ss.items() {
@@ -207,7 +207,7 @@ fn children_length(program: &Checked, ss: &List<Stmt>, q: u32) -> u32
 #[cycle(stmt)]
 #[tactic(auto, using(crate::proofs::Sums::summed))]
 fn arms_length(program: &Checked, arms: &List<Arm>, q: u32) -> u32
-    ensures { result ≡ told (q + arms_length (program_of program.now) (arms_of (map arm_of arms.now))) }
+    ensures { result ≡ told (q + arms_length (program_of program.now) (arms_of arms.now)) }
 {
     let mut q = q;
     for a in arms.items() {
@@ -220,7 +220,7 @@ fn arms_length(program: &Checked, arms: &List<Arm>, q: u32) -> u32
 /// The tests of a `case`, one for each constant.
 #[tactic(auto, using(crate::proofs::Sums::summed))]
 fn tests_length(arms: &List<Arm>, q: u32) -> u32
-    ensures { result ≡ told (q + tests_length (arms_of (map arm_of arms.now))) }
+    ensures { result ≡ told (q + tests_length (arms_of arms.now)) }
 {
     let mut q = q;
     for a in arms.items() {

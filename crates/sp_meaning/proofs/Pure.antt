@@ -7,8 +7,7 @@ use Rattle.sp_base.specs.declared.rule.Rule.TheVariants as rule
 use Rattle.sp_tree.specs.declared.checked.Role.TheVariants as role
 use Rattle.sp_tree.specs.declared.checked.Variable as checked_variable
 use Rattle.sp_tree.specs.PlainChecked as checked
-use Rattle.sp_tree.specs.PlainOf.{variable_of}
-use Rattle.sp_tree.specs.Bare.{bare}
+use Rattle.sp_tree.specs.Bare.{bare, variable_of}
 use Rattle.sp_tree.specs.Interferes.{Interferes}
 use Rattle.sp_tree.proofs.NoBreach.{block_at}
 use Rattle.sp_tree.specs.Plain.{Expr, Typed, ExprForm, Number, Read, Unary, Binary, Apply, Standard, AtInput, Var, Entire, Index, Field, Selectors, Whole, Select, ByValue, ByReference, Actuals, Nothing, Pass, Program, Variable, Block, Stmt, Empty, Assign, Call, Sequence, If, IfElse, While, Repeat, For, Case, Parallel, Forall, Assume, ReadValue, ReadLine, WriteValue, WriteText, WriteLine, Open, Send, Receive, Stmts, No, And, On, Arms, NoArm, Or}

@@ -5,12 +5,11 @@ use Rattle.sp_base.specs.declared.limits.Limits.{Limits}
 use Rattle.sp_base.specs.declared.rule.Rule.TheVariants as rule
 use Rattle.sp_tree.specs.declared.checked.Role.TheVariants as role
 use Rattle.sp_tree.specs.declared.checked.Variable.{Variable as Placed}
-use Rattle.sp_tree.specs.Bare.{bare}
+use Rattle.sp_tree.specs.Bare.{bare, variable_of}
 use Rattle.sp_tree.specs.Formed.{IsFormed}
 use Rattle.sp_tree.specs.Interference.{IsFreeOfInterference, IsFunction, IsMember}
 use Rattle.sp_tree.specs.Plain.{Stmt, Block, Variable}
 use Rattle.sp_tree.specs.PlainChecked as c
-use Rattle.sp_tree.specs.PlainOf.{variable_of}
 use Rattle.sp_tree.specs.Sets.{ImplicitTarget}
 use Rattle.sp_tree.proofs.NoBreach.{block_at}
 use Rattle.sp_code.specs.Shares.{SetsAre}

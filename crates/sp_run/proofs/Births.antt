@@ -4,7 +4,7 @@ use Rattle.std.proofs.lemmas.Int.{ints}
 use Rattle.std.specs.Prelude.{ℤ, pos, ◌+ℤ◌}
 use Rattle.sp_tree.specs.declared.checked.Stmt as ast
 use Rattle.sp_tree.specs.Plain.{Stmt}
-use Rattle.sp_tree.specs.PlainOf.{stmt_of, stmts}
+use Rattle.sp_tree.specs.PlainOf.{stmt_of, stmts_of}
 use Rattle.sp_run.specs.declared.machine.Setting as set
 use Rattle.sp_run.specs.declared.state.State.{State}
 use Rattle.sp_meaning.specs.Model.{Name, Becomes, Works, after}
@@ -18,17 +18,17 @@ use Rattle.sp_run.specs.States.{state_of, ChangeIn, Changes}
 
 module _ (g : o.Setting) (p : Name) (k : ℕ) (w : o.Who) (own : o.Own) where
   pub born_on : (ss : List ast.Stmt) (i : ℕ) (s : ast.Stmt) → i < length ss → s ≡ get_or ss i s
-      → births {L = superpascal g} p k i (newborns w own i (children (stmts (map stmt_of (drop i ss)))))
-      ≡ Becomes ((k, i) ∷ p) (Works (newborn w own i (record { todo = push (stmt_of s) []; index = None }))) ∷ births {L = superpascal g} p k (suc i) (newborns w own (suc i) (children (stmts (map stmt_of (drop (suc i) ss)))))
-  born_on ss i s h e = ap (λ z. births {L = superpascal g} p k i (newborns w own i (children (stmts (map stmt_of z))))) (split ss i s h e)
+      → births {L = superpascal g} p k i (newborns w own i (children (stmts_of (drop i ss))))
+      ≡ Becomes ((k, i) ∷ p) (Works (newborn w own i (record { todo = push (stmt_of s) []; index = None }))) ∷ births {L = superpascal g} p k (suc i) (newborns w own (suc i) (children (stmts_of (drop (suc i) ss))))
+  born_on ss i s h e = ap (λ z. births {L = superpascal g} p k i (newborns w own i (children (stmts_of z)))) (split ss i s h e)
     where
       split : (ss : List ast.Stmt) (i : ℕ) (s : ast.Stmt) → i < length ss → s ≡ get_or ss i s → drop i ss ≡ s ∷ drop (suc i) ss
       split [] i s h e = absurd (omega arith)
       split (t ∷ ss) zero s h e = ap (λ z. z ∷ ss) (sym e)
       split (t ∷ ss) (suc i) s h e = split ss i s (omega arith) e
 
-  pub born_end : (ss : List ast.Stmt) (i : ℕ) → length ss ≤ i → births {L = superpascal g} p k i (newborns w own i (children (stmts (map stmt_of (drop i ss))))) ≡ []
-  born_end ss i h = ap (λ z. births {L = superpascal g} p k i (newborns w own i (children (stmts (map stmt_of z))))) (nothing ss i h)
+  pub born_end : (ss : List ast.Stmt) (i : ℕ) → length ss ≤ i → births {L = superpascal g} p k i (newborns w own i (children (stmts_of (drop i ss)))) ≡ []
+  born_end ss i h = ap (λ z. births {L = superpascal g} p k i (newborns w own i (children (stmts_of z)))) (nothing ss i h)
     where
       nothing : (ss : List ast.Stmt) (i : ℕ) → length ss ≤ i → drop i ss ≡ []
       nothing [] zero h = refl
@@ -49,7 +49,7 @@ module _ (g : o.Setting) (p : Name) (k : ℕ) (w : o.Who) (own : o.Own) where
 
 module _ (run : set.Setting) (p : Name) (k : ℕ) (w : o.Who) (own : o.Own) where
   abbrev each_from : List ast.Stmt → ℕ → List (ChangeIn run)
-  each_from ss i = births {L = superpascal (setting_of run)} p k i (newborns w own i (children (stmts (map stmt_of (drop i ss)))))
+  each_from ss i = births {L = superpascal (setting_of run)} p k i (newborns w own i (children (stmts_of (drop i ss))))
 
   -- one child more is born
   pub born_next : (a b : State) (ss : List ast.Stmt) (i j n : ℕ) (s : ast.Stmt) (child : o.Process) (r : StateOf (setting_of run))
@@ -82,7 +82,7 @@ module _ (run : set.Setting) (p : Name) (k : ℕ) (w : o.Who) (own : o.Own) wher
   indexed_all a x s low n i r h t = sym (ap (λ (z : List (ChangeIn run)). after z (state_of run a)) (indexed_end (setting_of run) p k w own x s low n i h)) ∙ t
 
 -- how many they are
-pub each_count : (w : o.Who) (own : o.Own) (ss : List ast.Stmt) (i : ℕ) → length ss ≡ length (newborns w own i (children (stmts (map stmt_of ss))))
+pub each_count : (w : o.Who) (own : o.Own) (ss : List ast.Stmt) (i : ℕ) → length ss ≡ length (newborns w own i (children (stmts_of ss)))
 each_count w own [] i = refl
 each_count w own (s ∷ ss) i = ap suc (each_count w own ss (suc i))
 

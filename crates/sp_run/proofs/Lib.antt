@@ -1,6 +1,7 @@
 mod Acting
 mod Arms
 mod Births
+mod Blocks
 mod Chains
 mod Changing
 mod Collecting

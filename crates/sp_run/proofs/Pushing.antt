@@ -4,7 +4,8 @@ use Rattle.std.proofs.lemmas.List.{take_all}
 use Rattle.sp_tree.specs.declared.checked.Expr as ast_e
 use Rattle.sp_tree.specs.declared.checked.Var as ast_v
 use Rattle.sp_tree.specs.Plain.{Expr, Stmt, Send, Receive, And}
-use Rattle.sp_tree.specs.PlainOf.{stmts, sends, receives, expr_of, var_of}
+use Rattle.sp_tree.specs.declared.checked.Stmt as ast_s
+use Rattle.sp_tree.specs.PlainOf.{stmts, sends, receives, expr_of, var_of, stmt_of, stmts_of}
 use Rattle.sp_meaning.specs.Own.{Item}
 use Rattle.sp_meaning.specs.Deeds.{push, push_all}
 
@@ -34,3 +35,11 @@ sends_start c es n todo h = rw (take_all n es h) (ap (λ z. push_all z todo) (se
 
 pub receives_start : (c : Expr) (vs : List ast_v.Var) (n : ℕ) (todo : List Item) → length vs ≤ n → push_all (stmts (map (λ (v : ast_v.Var). Receive c (var_of v)) (take n vs))) todo ≡ push_all (receives c (map var_of vs)) todo
 receives_start c vs n todo h = rw (take_all n vs h) (ap (λ z. push_all z todo) (receives_are c vs))
+
+-- statements in memory, one by one
+stmts_are : (ss : List ast_s.Stmt) → stmts_of ss ≡ stmts (map stmt_of ss)
+stmts_are [] = refl
+stmts_are (s ∷ ss) = ap (And (stmt_of s)) (stmts_are ss)
+
+pub stmts_back : (ss : List ast_s.Stmt) (i : ℕ) (s : ast_s.Stmt) (todo : List Item) → 0 < i → i ≤ length ss → s ≡ get_or ss (i - 1) s → push_all (stmts_of (take (i - 1) ss)) (push (stmt_of s) todo) ≡ push_all (stmts_of (take i ss)) todo
+stmts_back ss i s todo h m e = ap (λ z. push_all z (push (stmt_of s) todo)) (stmts_are (take (i - 1) ss)) ∙ (push_all_back stmt_of ss i s todo h m e ∙ ap (λ z. push_all z todo) (sym (stmts_are (take i ss))))

@@ -3,7 +3,7 @@
 use Rattle.std.specs.Prelude.{ℕ, List, [], map}
 use denote.Bor.{Bor}
 use Rattle.sp_tree.specs.Plain.{Block}
-use Rattle.sp_tree.specs.PlainOf.{block_of}
+use Rattle.sp_tree.specs.PlainOf.{block_of, stmt_of, stmts_of}
 use Rattle.sp_tree.specs.declared.checked.Block as b
 use Rattle.sp_run.specs.declared.calls.Given.{Given}
 use Rattle.sp_run.specs.declared.calls.Given.TheVariants as given
@@ -18,7 +18,6 @@ use Rattle.sp_meaning.specs.Model as model
 use Rattle.sp_meaning.specs.Own as o
 use Rattle.sp_meaning.specs.Eval as m
 use Rattle.sp_meaning.specs.Deeds as s
-use Rattle.sp_tree.specs.PlainOf.{stmt_of, stmts}
 use Rattle.sp_run.specs.Views.{plain_value, plain_address, plain_channel}
 use Rattle.sp_run.specs.Machines.{setting_of}
 use Rattle.sp_run.specs.DirectEval.{Calls}
@@ -40,7 +39,7 @@ calls_of g n = call_by (setting_of g) (all (setting_of g) n)
 
 -- the children that are to be born
 abbrev pub births_of : Births → List s.Birth
-births_of (births.Children ss) = s.children (stmts (map stmt_of ss.now))
+births_of (births.Children ss) = s.children (stmts_of ss.now)
 births_of (births.Indexed x low n b) = s.indexed_children x (stmt_of b.now) low n
 
 abbrev pub plain_cargo : Cargo → model.Cargo o.Held o.Address

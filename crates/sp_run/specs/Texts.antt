@@ -5,9 +5,7 @@ use Rattle.std.specs.Option.{option_map}
 use Rattle.sp_run.specs.declared.texts.Taken.{Taken}
 use Rattle.sp_run.specs.declared.texts.Taken.TheVariants as taken
 use Rattle.sp_tree.specs.Items as i
-use Rattle.sp_tree.specs.declared.checked.Arm as ast_a
-use Rattle.sp_tree.specs.Plain.{Stmt, Arm}
-use Rattle.sp_tree.specs.PlainOf.{stmt_form_step, arm_step, stmt_step}
+use Rattle.sp_tree.specs.Plain.{Stmt}
 use Rattle.sp_meaning.specs.Own.{Setting, Item, Do, First, Again, Test, Leave, Break}
 use Rattle.sp_meaning.specs.Deeds.{Deed, Stepped, indexed_children, goes_on}
 use Rattle.sp_run.specs.Direct.{Work, bind, give}
@@ -19,9 +17,6 @@ plain_taken (taken.Fails f) = i.Fails f
 
 abbrev pub taken_of : Option Taken → Option i.Taken
 taken_of o = option_map plain_taken o
-
-abbrev pub arm_of : ast_a.Arm → Arm
-arm_of = ast_a.fold-Arm Stmt Arm Stmt stmt_form_step arm_step stmt_step
 
 -- the children of a forall, if its range has values
 abbrev pub forall : Setting → ℕ → ℤ → ℤ → Stmt → List Item → Work Deed

@@ -8,7 +8,6 @@ ghost use Rattle.sp_run.specs.Machines.{setting_of, plain_who};
 ghost use Rattle.sp_run.specs.Comings.{Implements};
 ghost use Rattle.sp_run.specs.Views.{plain_value, plain_address};
 ghost use Rattle.sp_run.specs.Doings.{given_of, plain_deed};
-ghost use Rattle.sp_run.specs.Texts.{arm_of};
 ghost use Rattle.sp_run.specs.DirectDeeds.{chosen, turn_of};
 ghost use Rattle.sp_run.specs.Acts.{assigned_to, picked, either, ranged, tested, assumed, opened, next_channel, called, looped, repeated, next_turn, returned, read_value, read_line, write_bytes, write_text, write_shown};
 
@@ -137,7 +136,7 @@ pub fn chosen<'a>(
     todo: &mut Vec<Item<'a>>,
 ) -> Done<Deed<'a>>
     ensures { Implements run.now who.now (plain_deed (items_of todo.new.items)) machine.now result machine.now
-        (chosen (setting_of run.now) (arm_for n (arms_of (map arm_of arms.now))) (items_of todo.old.items)) }
+        (chosen (setting_of run.now) (arm_for n (arms_of arms.now)) (items_of todo.old.items)) }
 {
     match arm_for(n, arms) {
         Some(s) => {

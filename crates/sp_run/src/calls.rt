@@ -1,7 +1,8 @@
 //! Calls of procedures and functions: their frames.
 
 ghost use Rattle.std.specs.Prelude.{◌≡◌, ◌∷◌, drop, IfOk, OnOk, map, length, Option, Some, None};
-ghost use Rattle.sp_tree.specs.PlainOf.{variable_of, block_of};
+ghost use Rattle.sp_tree.specs.PlainOf.{block_of};
+ghost use Rattle.sp_tree.specs.Bare.{variable_of};
 ghost use Rattle.sp_tree.specs.Cells.{variables_of};
 ghost use Rattle.sp_meaning.specs.Own.{is_block};
 ghost use Rattle.sp_meaning.specs.Deeds.{begins, references, pushed_frame, without_frame, cells_of_home};

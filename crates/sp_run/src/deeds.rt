@@ -10,7 +10,7 @@ ghost use Rattle.sp_run.specs.Comings.{Implements, beside, same};
 ghost use Rattle.sp_run.specs.Items.{item_of, items_of};
 ghost use Rattle.sp_run.specs.Views.{plain_value, plain_address};
 ghost use Rattle.sp_run.specs.Doings.{plain_deed, births_of};
-ghost use Rattle.sp_run.specs.Texts.{arm_of, forall, leaves, plain_taken};
+ghost use Rattle.sp_run.specs.Texts.{forall, leaves, plain_taken};
 ghost use Rattle.sp_run.specs.DirectDeeds.{peek, settle, turn_of, fork, write, advance, take_in};
 
 use crate::calls::tick;
@@ -239,7 +239,7 @@ fn has(n: i64, constants: &[i64]) -> bool
 /// The statement of the first arm with this constant.
 #[tactic(auto, using(crate::proofs::Arms::arm_on, crate::proofs::Arms::arm_stop, crate::proofs::Arms::arm_end))]
 pub fn arm_for(n: i64, arms: &[Arm]) -> Option<&Stmt>
-    ensures { option_map stmt_of (option_copied result) ≡ arm_for n (arms_of (map arm_of arms.now)) }
+    ensures { option_map stmt_of (option_copied result) ≡ arm_for n (arms_of arms.now) }
 {
     for arm in arms {
         if has(n, arm.constants.items()) {

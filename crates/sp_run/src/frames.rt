@@ -9,7 +9,7 @@ ghost use Rattle.sp_run.specs.Places.{plain_place, fits};
 ghost use Rattle.sp_run.specs.Views.{plain_address};
 ghost use Rattle.sp_run.specs.Direct.{visible, reach};
 ghost use Rattle.sp_run.specs.DirectEval.{place_by, place_of, address_of};
-ghost use Rattle.sp_tree.specs.PlainOf.{variable_of};
+ghost use Rattle.sp_tree.specs.Bare.{variable_of};
 ghost use Rattle.sp_run.specs.Framing.{in_visible, referred_in, index_of};
 
 use crate::machine::{Frame, Home, Machine, Reference, Setting, Who};

@@ -1,7 +1,7 @@
 //! Expressions and statements, by their definitions, with every function that they call.
 
 ghost use Rattle.std.specs.Prelude.{◌≡◌, ◌∷◌, IfOk, map};
-ghost use Rattle.sp_tree.specs.PlainOf.{expr_of, form_of, var_of, actuals, actual_of, selectors, selector_of, stmt_of, arms_of, width_of};
+ghost use Rattle.sp_tree.specs.PlainOf.{expr_of, form_of, var_of, stmt_of, arms_of, width_of, selectors_of, actuals_of};
 ghost use Rattle.sp_tree.specs.Plain.{Assign, Call, If, IfElse, While, For, Case, Forall, Assume, ReadValue, WriteValue, WriteText, Open, Send, Receive};
 ghost use Rattle.sp_run.specs.Items.{items_of, item_of};
 ghost use Rattle.sp_run.specs.Machines.{setting_of};
@@ -9,7 +9,6 @@ ghost use Rattle.sp_run.specs.Comings.{Implements, same};
 ghost use Rattle.sp_run.specs.Places.{plain_place};
 ghost use Rattle.sp_run.specs.Views.{plain_value, plain_address};
 ghost use Rattle.sp_run.specs.Doings.{calls_of, given_of, plain_deed, nothing_left};
-ghost use Rattle.sp_run.specs.Texts.{arm_of};
 ghost use Rattle.sp_run.specs.DirectEval.{value, form_value, place, selected, actuals as given_by, address, ordinal_of};
 ghost use Rattle.sp_run.specs.DirectDeeds.{all, act, start, width};
 ghost use Rattle.sp_run.specs.Acts.{one, left_if};
@@ -141,7 +140,7 @@ fn selected(
     q: Place,
 ) -> Done<Place>
     ensures { Implements run.now who.now plain_place machine.old result machine.new
-        (selected (setting_of run.now) (calls_of run.now fuel) (selectors (map selector_of ss.now)) (plain_place q)) }
+        (selected (setting_of run.now) (calls_of run.now fuel) (selectors_of ss.now) (plain_place q)) }
 {
     if levels == 0 {
         return Err(Memory);
@@ -175,7 +174,7 @@ fn actuals(
     args: &[Actual],
 ) -> Done<List<Given>>
     ensures { Implements run.now who.now given_of machine.old result machine.new
-        (given_by (setting_of run.now) (calls_of run.now fuel) (actuals (map actual_of args.now))) }
+        (given_by (setting_of run.now) (calls_of run.now fuel) (actuals_of args.now)) }
 {
     if levels == 0 {
         return Err(Memory);
@@ -444,7 +443,7 @@ fn start_call<'a>(
     todo: &mut Vec<Item<'a>>,
 ) -> Done<Deed<'a>>
     ensures { Implements run.now who.now (plain_deed (items_of todo.new.items)) machine.old result machine.new
-        (start (setting_of run.now) (calls_of run.now fuel) (Call f (actuals (map actual_of args.now))) (items_of todo.old.items)) }
+        (start (setting_of run.now) (calls_of run.now fuel) (Call f (actuals_of args.now)) (items_of todo.old.items)) }
 {
     if levels == 0 {
         return Err(Memory);
@@ -560,7 +559,7 @@ fn start_case<'a>(
     todo: &mut Vec<Item<'a>>,
 ) -> Done<Deed<'a>>
     ensures { Implements run.now who.now (plain_deed (items_of todo.new.items)) machine.old result machine.new
-        (start (setting_of run.now) (calls_of run.now fuel) (Case (expr_of e.now) (arms_of (map arm_of arms.now))) (items_of todo.old.items)) }
+        (start (setting_of run.now) (calls_of run.now fuel) (Case (expr_of e.now) (arms_of arms.now)) (items_of todo.old.items)) }
 {
     if levels == 0 {
         return Err(Memory);

@@ -1,7 +1,7 @@
 //! What a process has left to do.
 
 ghost use Rattle.std.specs.Prelude.{◌≡◌, ◌∷◌, OnOk, map};
-ghost use Rattle.sp_tree.specs.PlainOf.{stmt_of, stmts, expr_of, var_of, sends, receives};
+ghost use Rattle.sp_tree.specs.PlainOf.{stmt_of, expr_of, var_of, sends, receives, stmts_of};
 ghost use Rattle.sp_meaning.specs.Deeds.{push, push_all};
 ghost use Rattle.sp_run.specs.Items.{item_of, items_of};
 
@@ -86,6 +86,7 @@ pub fn push_receives<'a>(
 
 /// Puts a statement before what is left. The empty statement and sequences are no steps.
 #[cycle(push)]
+#[tactic(auto, using(sp_tree::proofs::Singles::sends_bare, sp_tree::proofs::Singles::receives_bare))]
 pub fn push<'a>(s: &'a Stmt, todo: &mut Vec<Item<'a>>) -> Result<(), Memory>
     ensures { OnOk result (items_of todo.new.items ≡ push (stmt_of s.now) (items_of todo.old.items)) }
 {
@@ -113,9 +114,9 @@ pub fn push<'a>(s: &'a Stmt, todo: &mut Vec<Item<'a>>) -> Result<(), Memory>
 
 /// Puts statements before what is left, in their order.
 #[cycle(push)]
-#[tactic(auto, using(crate::proofs::Pushing::push_all_back))]
+#[tactic(auto, using(crate::proofs::Pushing::stmts_back))]
 pub fn push_all<'a>(ss: &'a [Stmt], todo: &mut Vec<Item<'a>>) -> Result<(), Memory>
-    ensures { OnOk result (items_of todo.new.items ≡ push_all (stmts (map stmt_of ss.now)) (items_of todo.old.items)) }
+    ensures { OnOk result (items_of todo.new.items ≡ push_all (stmts_of ss.now) (items_of todo.old.items)) }
 {
     let mut i = ss.len();
     while i > 0 {

@@ -3,7 +3,8 @@
 ghost use Rattle.std.specs.Prelude.{◌≡◌, ℕ, ◌+◌, ◌*◌, ◌+ℤ◌, ◌-ℤ◌, pos, IfOk, map, replicate, slice_get};
 ghost use Rattle.sp_tree.specs.Cells.{count, first_or, table, sizes, size_by, variables_of, cells_by, cells_of_frame};
 ghost use Rattle.sp_run.specs.Cells.{cells_in};
-ghost use Rattle.sp_tree.specs.PlainOf.{variable_of, program_of};
+ghost use Rattle.sp_tree.specs.PlainOf.{program_of};
+ghost use Rattle.sp_tree.specs.Bare.{variable_of};
 ghost use Rattle.sp_meaning.specs.Values.{Undefined, field_values, initials, initial_by};
 ghost use Rattle.sp_meaning.specs.SuperPascal.{first_value, value_among};
 ghost use Rattle.sp_meaning.specs.Deeds.{begins};

@@ -2,7 +2,6 @@
 
 ghost use Rattle.std.specs.Prelude.{◌≡◌, ◌∷◌, [], List, IfOk, OnOk, Option, Some, None, length};
 ghost use Rattle.std.specs.Option.{option_copied, option_map};
-ghost use Rattle.sp_tree.specs.PlainOf.{stmt_of};
 ghost use Rattle.sp_meaning.specs.Model.{Becomes, Forked, Writes, Pends as PendsIn, Adds, Faults, changed};
 ghost use Rattle.sp_meaning.specs.Steps.{has_ended, all_ended, is_over, passed};
 ghost use Rattle.sp_meaning.specs.SuperPascal.{main, root};

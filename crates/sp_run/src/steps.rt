@@ -2,7 +2,7 @@
 
 ghost use Rattle.std.specs.Prelude.{◌≡◌, ◌+◌, ◌+ℤ◌, ◌∷◌, [], IfOk, OnOk, Option, Some, None, length, map, pos, replicate};
 ghost use Rattle.std.specs.Option.{option_map};
-ghost use Rattle.sp_tree.specs.PlainOf.{stmt_of, stmts, program_of};
+ghost use Rattle.sp_tree.specs.PlainOf.{stmt_of, program_of, stmts_of};
 ghost use Rattle.sp_meaning.specs.Model.{Writes, Pends as PendsIn, Adds, Faults, Becomes, Works, Forks, Offering, changed};
 ghost use Rattle.sp_meaning.specs.Steps.{message, meeting, waiting, hands, meets, births as births_in, acts, result_of, outcome};
 ghost use Rattle.sp_meaning.specs.Own.{Who as WhoIn, Own as OwnIn, Tree, assigned};
@@ -131,7 +131,7 @@ fn births_of_each<'a>(
 ) -> Result<(), Memory>
     ensures { OnOk result (Changes run.now s.old
         (births_in p.now fork 0 (newborns (plain_who parent.now.who) (plain_own parent.now.own) 0
-        (children (stmts (map stmt_of bodies.now))))) s.new) }
+        (children (stmts_of bodies.now)))) s.new) }
 {
     let mut i = 0;
     for body in bodies {

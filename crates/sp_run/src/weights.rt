@@ -1,10 +1,9 @@
 //! How much one step may evaluate.
 
 ghost use Rattle.std.specs.Prelude.{◌≡◌, IfOk, map};
-ghost use Rattle.sp_tree.specs.PlainOf.{expr_of, var_of, sends, receives, stmt_of, stmts, arms_of, block_of, program_of};
+ghost use Rattle.sp_tree.specs.PlainOf.{expr_of, var_of, sends, receives, stmt_of, arms_of, blocks_of, program_of, stmts_of};
 ghost use Rattle.sp_meaning.specs.SuperPascal.{weight, weight_all, weight_arms, weight_of as weight_in, weight_blocks, enough};
 ghost use Rattle.sp_run.specs.Machines.{setting_of, plain_own};
-ghost use Rattle.sp_run.specs.Texts.{arm_of};
 
 use crate::kinds::sum_of;
 use crate::machine::{Own, Setting};
@@ -29,6 +28,7 @@ fn weight_of_receives(channel: &Expr, variables: &[Var]) -> u64
 
 /// How many steps stand between two ticks, at most. A number beyond all memory is answered as want of memory.
 #[cycle(weight)]
+#[tactic(auto, using(sp_tree::proofs::Singles::sends_bare, sp_tree::proofs::Singles::receives_bare))]
 pub fn weight_of(s: &Stmt) -> Result<u64, Memory>
     ensures { IfOk result (λ n. n ≡ weight (stmt_of s.now)) }
 {
@@ -70,7 +70,7 @@ pub fn weight_of(s: &Stmt) -> Result<u64, Memory>
 #[cycle(weight)]
 #[tactic(auto, using(crate::proofs::Weighing::all_on, crate::proofs::Weighing::all_end))]
 fn weight_of_all(ss: &[Stmt]) -> Result<u64, Memory>
-    ensures { IfOk result (λ n. n ≡ weight_all (stmts (map stmt_of ss.now))) }
+    ensures { IfOk result (λ n. n ≡ weight_all (stmts_of ss.now)) }
 {
     let mut n = 0;
     for s in ss {
@@ -82,7 +82,7 @@ fn weight_of_all(ss: &[Stmt]) -> Result<u64, Memory>
 #[cycle(weight)]
 #[tactic(auto, using(crate::proofs::Weighing::arms_on, crate::proofs::Weighing::arms_end))]
 fn weight_of_arms(arms: &[Arm]) -> Result<u64, Memory>
-    ensures { IfOk result (λ n. n ≡ weight_arms (arms_of (map arm_of arms.now))) }
+    ensures { IfOk result (λ n. n ≡ weight_arms (arms_of arms.now)) }
 {
     let mut n = 0;
     for arm in arms {
@@ -93,7 +93,7 @@ fn weight_of_arms(arms: &[Arm]) -> Result<u64, Memory>
 
 #[tactic(auto, using(crate::proofs::Weighing::blocks_on, crate::proofs::Weighing::blocks_end))]
 fn weight_of_blocks(blocks: &[Block]) -> Result<u64, Memory>
-    ensures { IfOk result (λ n. n ≡ weight_blocks (map block_of blocks.now)) }
+    ensures { IfOk result (λ n. n ≡ weight_blocks (blocks_of blocks.now)) }
 {
     let mut n = 0;
     for b in blocks {

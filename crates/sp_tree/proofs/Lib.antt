@@ -2,8 +2,7 @@ pub mod UsesOf
 pub mod Certified
 pub mod Closure
 pub mod InterferenceRows
-pub mod Fused
-pub mod FusedStatements
+pub mod Singles
 pub mod Sited
 pub mod NoBreach
 pub mod Reached

@@ -1,9 +1,9 @@
 -- The plain tree without places, which the meaning runs, of one with places. Contracts on a checked tree in memory say
 -- by it what the tree means; places serve reports alone, so the meaning knows none.
 use Rattle.std.specs.Prelude.{map, Option, Some, None}
-use Rattle.sp_tree.specs.PlainOf.{variable_of}
+use Rattle.sp_tree.specs.declared.checked.Variable as memory
 use Rattle.sp_tree.specs.PlainChecked as p
-use Rattle.sp_tree.specs.Plain.{Expr, Typed, ExprForm, Number, Read, Unary, Binary, Apply, Standard, AtInput, Var, Entire, Selectors, Whole, Select, Index, Field, Actuals, Nothing, Pass, ByValue, ByReference, Stmt, Empty, Assign, Call, Sequence, If, IfElse, While, Repeat, For, Case, Parallel, Forall, Assume, ReadValue, ReadLine, WriteValue, WriteText, WriteLine, Open, Send, Receive, Stmts, No, And, On, Arms, NoArm, Or, Block, Program}
+use Rattle.sp_tree.specs.Plain.{Expr, Typed, ExprForm, Number, Read, Unary, Binary, Apply, Standard, AtInput, Var, Entire, Selector, Selectors, Whole, Select, Index, Field, Actual, Actuals, Nothing, Pass, ByValue, ByReference, Stmt, Empty, Assign, Call, Sequence, If, IfElse, While, Repeat, For, Case, Parallel, Forall, Assume, ReadValue, ReadLine, WriteValue, WriteText, WriteLine, Open, Send, Receive, Stmts, No, And, Arm, On, Arms, NoArm, Or, Variable, Block, Program}
 
 abbrev mutual
   pub bare_expression : p.Expression → Expr
@@ -23,13 +23,19 @@ abbrev mutual
 
   pub bare_selectors : p.Selectors → Selectors
   bare_selectors p.Whole = Whole
-  bare_selectors (p.Select (p.Index e) rest) = Select (Index (bare_expression e)) (bare_selectors rest)
-  bare_selectors (p.Select (p.Field f) rest) = Select (Field f) (bare_selectors rest)
+  bare_selectors (p.Select s rest) = Select (bare_selector s) (bare_selectors rest)
+
+  pub bare_selector : p.Selector → Selector
+  bare_selector (p.Index e) = Index (bare_expression e)
+  bare_selector (p.Field f) = Field f
 
   pub bare_actuals : p.Actuals → Actuals
   bare_actuals p.Nothing = Nothing
-  bare_actuals (p.Pass (p.ByValue e) rest) = Pass (ByValue (bare_expression e)) (bare_actuals rest)
-  bare_actuals (p.Pass (p.ByReference v) rest) = Pass (ByReference (bare_variable v)) (bare_actuals rest)
+  bare_actuals (p.Pass a rest) = Pass (bare_actual a) (bare_actuals rest)
+
+  pub bare_actual : p.Actual → Actual
+  bare_actual (p.ByValue e) = ByValue (bare_expression e)
+  bare_actual (p.ByReference v) = ByReference (bare_variable v)
 
 abbrev pub bare_width : Option p.Expression → Option Expr
 bare_width None = None
@@ -68,10 +74,17 @@ abbrev mutual
 
   pub bare_arms : p.Arms → Arms
   bare_arms p.NoArm = NoArm
-  bare_arms (p.Or (p.On cs s) rest) = Or (On cs (bare_statement s)) (bare_arms rest)
+  bare_arms (p.Or a rest) = Or (bare_arm a) (bare_arms rest)
+
+  pub bare_arm : p.Arm → Arm
+  bare_arm (p.On cs s) = On cs (bare_statement s)
 
 abbrev pub bare_block : p.Block → Block
 bare_block b = record { parent = b.parent; formals = b.formals; answer = b.answer; body = bare_statement b.body }
+
+-- a variable without its name and its place
+abbrev pub variable_of : memory.Variable → Variable
+variable_of x = record { kind = x.kind; block = x.block; role = x.role }
 
 abbrev pub bare : p.Program → Program
 bare c = record { kinds = c.kinds; variables = map variable_of c.variables; blocks = map bare_block c.blocks }

@@ -1,8 +1,8 @@
 pub mod Plain
-pub mod PlainOf
 pub mod PlainChecked
 pub mod CheckedOf
 pub mod Bare
+pub mod PlainOf
 pub mod Formed
 pub mod Around
 pub mod PlainSyntax

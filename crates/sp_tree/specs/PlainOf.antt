@@ -1,7 +1,5 @@
--- The plain tree of a checked one.
-use Rattle.std.specs.Prelude.{List, [], ◌∷◌, map, Option, Some, None}
-use Rattle.sp_tree.specs.declared.checked.Actual.TheOpen as e
-use Rattle.sp_tree.specs.declared.checked.Form.TheOpen as s
+-- The plain tree of a checked one in memory: its tree with places, without them.
+use Rattle.std.specs.Prelude.{List, [], ◌∷◌, map, Option}
 use Rattle.sp_tree.specs.declared.operators.StandardFn.{StandardFn}
 use Rattle.sp_tree.specs.declared.checked.Expr as ast_e
 use Rattle.sp_tree.specs.declared.checked.Var as ast_v
@@ -9,80 +7,60 @@ use Rattle.sp_tree.specs.declared.checked.ExprForm as ast_f
 use Rattle.sp_tree.specs.declared.checked.Selector as ast_t
 use Rattle.sp_tree.specs.declared.checked.Actual as ast_a
 use Rattle.sp_tree.specs.declared.checked.Stmt as ast_s
-use Rattle.sp_tree.specs.declared.checked.Variable as ast_x
+use Rattle.sp_tree.specs.declared.checked.Form as ast_form
+use Rattle.sp_tree.specs.declared.checked.Arm as ast_arm
 use Rattle.sp_tree.specs.declared.checked.Block as ast_b
 use Rattle.sp_tree.specs.declared.checked.Checked as ast_c
-use Rattle.sp_tree.specs.Plain.{Expr, Typed, ExprForm, Number, Read, Unary, Binary, Apply, Standard, AtInput, Var, Entire, Selector, Index, Field, Selectors, Whole, Select, Actual, ByValue, ByReference, Actuals, Nothing, Pass, Stmt, Empty, Assign, Call, Sequence, If, IfElse, While, Repeat, For, Case, Parallel, Forall, Assume, ReadValue, ReadLine, WriteValue, WriteText, WriteLine, Open, Send, Receive, Stmts, No, And, Arm, On, Arms, NoArm, Or, Variable, Block, Program}
-
--- one level of an expression
-abbrev pub actual_step : e.Actual-F Actual ExprForm Selector Expr Var → Actual
-actual_step (e.Value a) = ByValue a
-actual_step (e.Reference v) = ByReference v
-
-abbrev pub selector_step : e.Selector-F Actual ExprForm Selector Expr Var → Selector
-selector_step (e.Index a) = Index a
-selector_step (e.Field f) = Field f
-
-abbrev pub selectors : List Selector → Selectors
-selectors [] = Whole
-selectors (a ∷ rest) = Select a (selectors rest)
-
-abbrev pub actuals : List Actual → Actuals
-actuals [] = Nothing
-actuals (a ∷ rest) = Pass a (actuals rest)
-
-abbrev pub standard : StandardFn → List Expr → ExprForm
-standard f [] = AtInput f
-standard f (a ∷ rest) = Standard f a
-
-abbrev pub form_step : e.ExprForm-F Actual ExprForm Selector Expr Var → ExprForm
-form_step (e.Number n) = Number n
-form_step (e.Read v) = Read v
-form_step (e.Unary op a) = Unary op a
-form_step (e.Binary op a b) = Binary op a b
-form_step (e.Call f at args) = Apply f (actuals args)
-form_step (e.Standard f args) = standard f args
-
-abbrev pub expr_step : e.Expr-F Actual ExprForm Selector Expr Var → Expr
-expr_step x = Typed x.kind x.form
-
-abbrev pub var_step : e.Var-F Actual ExprForm Selector Expr Var → Var
-var_step v = Entire v.variable (selectors v.selectors)
+use Rattle.sp_tree.specs.PlainChecked as p
+use Rattle.sp_tree.specs.CheckedOf as placed
+use Rattle.sp_tree.specs.Bare.{bare_expression, bare_form, bare_variable, bare_selector, bare_selectors, bare_actual, bare_actuals, bare_width, bare_statement, bare_statement_form, bare_statements, bare_arm, bare_arms, bare_block, bare}
+use Rattle.sp_tree.specs.Plain.{Expr, ExprForm, Var, Selector, Selectors, Actual, Actuals, Stmt, Send, Receive, Stmts, No, And, Arm, Arms, Block, Program}
 
 abbrev pub expr_of : ast_e.Expr → Expr
-expr_of = ast_e.fold-Expr Actual ExprForm Selector Expr Var actual_step form_step selector_step expr_step var_step
-
-abbrev pub var_of : ast_v.Var → Var
-var_of = ast_v.fold-Var Actual ExprForm Selector Expr Var actual_step form_step selector_step expr_step var_step
-
-abbrev pub actual_of : ast_a.Actual → Actual
-actual_of = ast_a.fold-Actual Actual ExprForm Selector Expr Var actual_step form_step selector_step expr_step var_step
-
-abbrev pub actuals_of : List ast_a.Actual → Actuals
-actuals_of args = actuals (map actual_of args)
+expr_of e = bare_expression (placed.expression_of e)
 
 abbrev pub form_of : ast_f.ExprForm → ExprForm
-form_of = ast_f.fold-ExprForm Actual ExprForm Selector Expr Var actual_step form_step selector_step expr_step var_step
+form_of form = bare_form (placed.expression_form_of form)
+
+abbrev pub standard_of : StandardFn → List ast_e.Expr → ExprForm
+standard_of f args = bare_form (p.Standard f (placed.expressions (map placed.expression_of args)))
+
+abbrev pub var_of : ast_v.Var → Var
+var_of v = bare_variable (placed.variable_of v)
 
 abbrev pub selector_of : ast_t.Selector → Selector
-selector_of = ast_t.fold-Selector Actual ExprForm Selector Expr Var actual_step form_step selector_step expr_step var_step
+selector_of s = bare_selector (placed.selector_of s)
+
+abbrev pub selectors_of : List ast_t.Selector → Selectors
+selectors_of ss = bare_selectors (placed.selectors (map placed.selector_of ss))
+
+abbrev pub actual_of : ast_a.Actual → Actual
+actual_of a = bare_actual (placed.actual_of a)
+
+abbrev pub actuals_of : List ast_a.Actual → Actuals
+actuals_of args = bare_actuals (placed.actuals (map placed.actual_of args))
 
 abbrev pub width_of : Option ast_e.Expr → Option Expr
-width_of None = None
-width_of (Some a) = Some (expr_of a)
+width_of w = bare_width (placed.width_of w)
 
--- one level of a statement
+abbrev pub stmt_of : ast_s.Stmt → Stmt
+stmt_of s = bare_statement (placed.statement_of s)
+
+abbrev pub stmt_form_of : ast_form.Form → Stmt
+stmt_form_of form = bare_statement_form (placed.statement_form_of form)
+
+abbrev pub stmts_of : List ast_s.Stmt → Stmts
+stmts_of ss = bare_statements (placed.statements (map placed.statement_of ss))
+
+abbrev pub arm_of : ast_arm.Arm → Arm
+arm_of a = bare_arm (placed.arm_of a)
+
+abbrev pub arms_of : List ast_arm.Arm → Arms
+arms_of choices = bare_arms (placed.arms (map placed.arm_of choices))
+
 abbrev pub stmts : List Stmt → Stmts
 stmts [] = No
 stmts (a ∷ rest) = And a (stmts rest)
-
-abbrev pub arms_of : List Arm → Arms
-arms_of [] = NoArm
-arms_of (a ∷ rest) = Or a (arms_of rest)
-
-abbrev pub chosen : Expr → Stmt → Option Stmt → Stmt
-chosen c a None = If c a
-chosen c a (Some b) = IfElse c a b
 
 -- the single statements for several values, or variables, on one channel
 abbrev pub sends : Expr → List Expr → Stmts
@@ -93,44 +71,11 @@ abbrev pub receives : Expr → List Var → Stmts
 receives c [] = No
 receives c (v ∷ rest) = And (Receive c v) (receives c rest)
 
-abbrev pub stmt_form_step : s.Form-F Stmt Arm Stmt → Stmt
-stmt_form_step s.Empty = Empty
-stmt_form_step (s.Assign v a) = Assign (var_of v) (expr_of a)
-stmt_form_step (s.Call f args) = Call f (actuals_of args)
-stmt_form_step (s.Sequence ss) = Sequence (stmts ss)
-stmt_form_step (s.If c a b) = chosen (expr_of c) a b
-stmt_form_step (s.While c a) = While (expr_of c) a
-stmt_form_step (s.Repeat a c) = Repeat a (expr_of c)
-stmt_form_step (s.For x at from down to a) = For x (expr_of from) down (expr_of to) a
-stmt_form_step (s.Case c arms) = Case (expr_of c) (arms_of arms)
-stmt_form_step (s.Parallel ss) = Parallel (stmts ss)
-stmt_form_step (s.Forall x from to a) = Forall x (expr_of from) (expr_of to) a
-stmt_form_step (s.Assume c) = Assume (expr_of c)
-stmt_form_step (s.ReadValue v) = ReadValue (var_of v)
-stmt_form_step s.ReadLine = ReadLine
-stmt_form_step (s.WriteValue a w) = WriteValue (expr_of a) (width_of w)
-stmt_form_step (s.WriteText t w) = WriteText t (width_of w)
-stmt_form_step s.WriteLine = WriteLine
-stmt_form_step (s.Open v) = Open (var_of v)
-stmt_form_step (s.Send c a) = Send (expr_of c) (expr_of a)
-stmt_form_step (s.Receive c v) = Receive (expr_of c) (var_of v)
-stmt_form_step (s.SendEach at n c es) = Sequence (sends (expr_of c) (map expr_of es))
-stmt_form_step (s.ReceiveEach at n c vs) = Sequence (receives (expr_of c) (map var_of vs))
-
-abbrev pub arm_step : s.Arm-F Stmt Arm Stmt → Arm
-arm_step a = On a.constants a.body
-
-abbrev pub stmt_step : s.Stmt-F Stmt Arm Stmt → Stmt
-stmt_step a = a.form
-
-abbrev pub stmt_of : ast_s.Stmt → Stmt
-stmt_of = ast_s.fold-Stmt Stmt Arm Stmt stmt_form_step arm_step stmt_step
-
 abbrev pub block_of : ast_b.Block → Block
-block_of b = record { parent = b.parent; formals = b.formals; answer = b.answer; body = stmt_of b.body }
+block_of b = bare_block (placed.block_of b)
 
-abbrev pub variable_of : ast_x.Variable → Variable
-variable_of x = record { kind = x.kind; block = x.block; role = x.role }
+abbrev pub blocks_of : List ast_b.Block → List Block
+blocks_of bs = map bare_block (map placed.block_of bs)
 
 abbrev pub program_of : ast_c.Checked → Program
-program_of c = record { kinds = c.kinds; variables = map variable_of c.variables; blocks = map block_of c.blocks }
+program_of c = bare (placed.program_of c)

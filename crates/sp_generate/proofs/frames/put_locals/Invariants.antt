@@ -1,5 +1,5 @@
 use Rattle.std.proofs.Common.{◌≡◌, ◌++◌, map, drop}
-use Rattle.sp_tree.specs.PlainOf.{variable_of}
+use Rattle.sp_tree.specs.Bare.{variable_of}
 use Rattle.sp_tree.specs.Cells.{variables_of}
 use Rattle.sp_code.specs.Scopes.{locals_among}
 use Rattle.sp_generate.proofs.frames.put_locals.Given as goal

@@ -1,7 +1,6 @@
 use Rattle.std.proofs.Common.{◌≡◌, ◌++◌, map, drop}
-use Rattle.sp_tree.specs.PlainOf.{variable_of}
+use Rattle.sp_tree.specs.Bare.{bare, variable_of}
 use Rattle.sp_tree.specs.CheckedOf.{program_of}
-use Rattle.sp_tree.specs.Bare.{bare}
 use Rattle.sp_generate.specs.Tabled.{slots_from, slots_of}
 use Rattle.sp_generate.proofs.frames.slots_of.Given as goal
 

@@ -2,8 +2,7 @@ use Rattle.std.proofs.Common.{◌≡◌, ◌+◌, ◌≤◌, map, drop}
 use Rattle.sp_tree.specs.PlainOf.{arms_of}
 use Rattle.sp_code.specs.Lengths.{tests_length}
 use Rattle.sp_length.specs.Told.{told}
-use Rattle.sp_length.specs.Trees.{arm_of}
 use Rattle.sp_length.proofs.statements.tests_length.Given as goal
 
 abbrev pub invariant-loop-a : goal.invariant-loop-a
-invariant-loop-a l = (l.q ≤ 4294967295) × (told (l.q + tests_length (arms_of (map arm_of (drop l.a-index l.arms)))) ≡ told (l.fn.q + tests_length (arms_of (map arm_of l.arms))))
+invariant-loop-a l = (l.q ≤ 4294967295) × (told (l.q + tests_length (arms_of (drop l.a-index l.arms))) ≡ told (l.fn.q + tests_length (arms_of l.arms)))

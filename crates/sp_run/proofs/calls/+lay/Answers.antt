@@ -1,5 +1,5 @@
 use Rattle.std.proofs.Common.{rules, ◌≡◌, ◌+◌, ◌∷◌, refl, sym, ap, ◌∙◌, arith, map, slice_get, Some, None}
-use Rattle.sp_tree.specs.PlainOf.{variable_of}
+use Rattle.sp_tree.specs.Bare.{variable_of}
 use Rattle.sp_run.specs.Machines.{setting_of, plain_who, plain_own, store_of}
 use Rattle.sp_run.proofs.Acting.{lay_not}
 use Rattle.sp_run.proofs.calls.+lay.Goals as goal

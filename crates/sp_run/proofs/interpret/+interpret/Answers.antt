@@ -7,11 +7,10 @@ use Rattle.sp_tree.specs.declared.checked.Expr as ast_e
 use Rattle.sp_tree.specs.declared.checked.ExprForm as ast_f
 use Rattle.sp_tree.specs.declared.checked.Form.TheFolds as folds
 use Rattle.sp_tree.specs.Plain.{Typed, Unary, Apply, Standard, AtInput, Assign, For, Case, Parallel, Forall, WriteValue}
-use Rattle.sp_tree.specs.PlainOf.{expr_of, form_of, var_of, actuals, actual_of, standard, stmt_of, stmts, arms_of, width_of}
+use Rattle.sp_tree.specs.PlainOf.{expr_of, form_of, var_of, stmt_of, arms_of, width_of, standard_of, actuals_of, stmts_of}
 use Rattle.sp_meaning.specs.Own.{First, Again}
 use Rattle.sp_run.specs.Items.{items_of, item_of}
 use Rattle.sp_run.specs.Machines.{setting_of, plain_who, plain_own, store_of}
-use Rattle.sp_run.specs.Texts.{arm_of}
 use Rattle.sp_run.specs.Views.{plain_value}
 use Rattle.sp_meaning.specs.Operators.{unary_op}
 use Rattle.sp_run.specs.Direct.{Got}
@@ -81,7 +80,7 @@ call-returns t c =
 
 pub form_value-returns-in-Err-9 : goal.form_value-returns-in-Err-9
 form_value-returns-in-Err-9 t c =
-    let i : form_of c.args.form.now ≡ Apply c.in-Call.f (actuals (map actual_of c.in-Call.args)) = search (rules, ast_f.the_lemmas) in
+    let i : form_of c.args.form.now ≡ Apply c.in-Call.f (actuals_of c.in-Call.args) = search (rules, ast_f.the_lemmas) in
     let e1 = rw (c.in-Ok-8.is, c.items.ensures) at c.in_ok-value-in-Call.ensures in
     let e2 = rw c.in-Err-9.is at c.in_ok-value-in-Call-2.ensures in
     rw (i, e1) e2
@@ -89,8 +88,8 @@ form_value-returns-in-Err-9 t c =
 pub form_value-returns-in-Err-12 : goal.form_value-returns-in-Err-12
 form_value-returns-in-Err-12 t c =
     let xs : c.in-Standard.args ≡ c.in-Some.a.now ∷ c.in-Some._rest.now = search rules in
-    let i : form_of c.args.form.now ≡ standard c.in-Standard.f (map expr_of c.in-Standard.args) = search (rules, ast_f.the_lemmas) in
-    let j : standard c.in-Standard.f (map expr_of c.in-Standard.args) ≡ Standard c.in-Standard.f (expr_of c.in-Some.a.now) = ap (λ z. standard c.in-Standard.f (map expr_of z)) xs in
+    let i : form_of c.args.form.now ≡ standard_of c.in-Standard.f c.in-Standard.args = search (rules, ast_f.the_lemmas) in
+    let j : standard_of c.in-Standard.f c.in-Standard.args ≡ Standard c.in-Standard.f (expr_of c.in-Some.a.now) = ap (λ z. standard_of c.in-Standard.f z) xs in
     let f : SFits w64 c.in-Ok-10.value = search rules in
     let z : to_z w64 (of_z w64 c.in-Ok-10.value) ≡ c.in-Ok-10.value = to_z-of_z w64 c.in-Ok-10.value f in
     let e1 = rw c.in-Ok-10.is at c.in_ok-value-in-Some.ensures in
@@ -102,8 +101,8 @@ pub form_value-returns-in-Err-14 : goal.form_value-returns-in-Err-14
 form_value-returns-in-Err-14 t c =
     let l : length c.in-Standard.args ≡ 0 = first_of (search rules, grind (arith, rules)) in
     let xs : c.in-Standard.args ≡ [] = none_in c.in-Standard.args l in
-    let i : form_of c.args.form.now ≡ standard c.in-Standard.f (map expr_of c.in-Standard.args) = search (rules, ast_f.the_lemmas) in
-    let j : standard c.in-Standard.f (map expr_of c.in-Standard.args) ≡ AtInput c.in-Standard.f = ap (λ z. standard c.in-Standard.f (map expr_of z)) xs in
+    let i : form_of c.args.form.now ≡ standard_of c.in-Standard.f c.in-Standard.args = search (rules, ast_f.the_lemmas) in
+    let j : standard_of c.in-Standard.f c.in-Standard.args ≡ AtInput c.in-Standard.f = ap (λ z. standard_of c.in-Standard.f z) xs in
     let e1 = rw c.in-Ok-13.is at c.in_ok-value-in-None.ensures in
     let e2 = rw c.in-Err-14.is at c.in_ok-value-in-None-2.ensures in
     rw (i ∙ j) (input_is (setting_of c.args.run.now) (calls_of c.args.run.now c.args.fuel) c.args.kind c.in-Standard.f (plain_who c.args.who.now) (plain_own c.args.machine.now.own) _ (store_of c.args.run.now c.args.machine.now.log) _ c.in-Ok-13.value.now _ e1 e2)
@@ -112,8 +111,8 @@ pub form_value-returns-in-Ok-14 : goal.form_value-returns-in-Ok-14
 form_value-returns-in-Ok-14 t c =
     let l : length c.in-Standard.args ≡ 0 = first_of (search rules, grind (arith, rules)) in
     let xs : c.in-Standard.args ≡ [] = none_in c.in-Standard.args l in
-    let i : form_of c.args.form.now ≡ standard c.in-Standard.f (map expr_of c.in-Standard.args) = search (rules, ast_f.the_lemmas) in
-    let j : standard c.in-Standard.f (map expr_of c.in-Standard.args) ≡ AtInput c.in-Standard.f = ap (λ z. standard c.in-Standard.f (map expr_of z)) xs in
+    let i : form_of c.args.form.now ≡ standard_of c.in-Standard.f c.in-Standard.args = search (rules, ast_f.the_lemmas) in
+    let j : standard_of c.in-Standard.f c.in-Standard.args ≡ AtInput c.in-Standard.f = ap (λ z. standard_of c.in-Standard.f z) xs in
     let e1 = rw c.in-Ok-13.is at c.in_ok-value-in-None.ensures in
     let e2 = rw c.in-Ok-14.is at c.in_ok-value-in-None-2.ensures in
     rw (i ∙ j) (input_is (setting_of c.args.run.now) (calls_of c.args.run.now c.args.fuel) c.args.kind c.in-Standard.f (plain_who c.args.who.now) (plain_own c.args.machine.now.own) _ (store_of c.args.run.now c.args.machine.now.log) _ c.in-Ok-13.value.now _ e1 e2)
@@ -153,19 +152,19 @@ start-returns-in-Ok-7 t c =
 
 pub start-returns-in-Err-8 : goal.start-returns-in-Err-8
 start-returns-in-Err-8 t c =
-    let i : stmt_of c.args.s.now ≡ Case (expr_of c.in-Case.e) (arms_of (map arm_of c.in-Case.arms)) = search (rules, folds.the_lemmas) in
+    let i : stmt_of c.args.s.now ≡ Case (expr_of c.in-Case.e) (arms_of c.in-Case.arms) = search (rules, folds.the_lemmas) in
     let e = rw (c.in-Err-8.is, c.items-in-Case.ensures) at c.in_ok-value-in-Case.ensures in
     rw i e
 
 pub start-returns-in-Ok-8 : goal.start-returns-in-Ok-8
 start-returns-in-Ok-8 t c =
-    let i : stmt_of c.args.s.now ≡ Case (expr_of c.in-Case.e) (arms_of (map arm_of c.in-Case.arms)) = search (rules, folds.the_lemmas) in
+    let i : stmt_of c.args.s.now ≡ Case (expr_of c.in-Case.e) (arms_of c.in-Case.arms) = search (rules, folds.the_lemmas) in
     let e = rw (c.in-Ok-8.is, c.items-in-Case.ensures) at c.in_ok-value-in-Case.ensures in
     rw i e
 
 pub start-returns-in-Ok-9 : goal.start-returns-in-Ok-9
 start-returns-in-Ok-9 t c =
-    let i : stmt_of c.args.s.now ≡ Parallel (stmts (map stmt_of c.in-Parallel.ss)) = search (rules, folds.the_lemmas) in
+    let i : stmt_of c.args.s.now ≡ Parallel (stmts_of c.in-Parallel.ss) = search (rules, folds.the_lemmas) in
     let e = rw (c.in-Ok-9.is, c.items-in-Parallel.ensures) at c.in_ok-value-in-Parallel.ensures in
     rw i e
 

@@ -1,9 +1,8 @@
 use Rattle.std.proofs.Common.{length, arith, refl, sym, subst}
 use Rattle.std.proofs.lemmas.Option.{slice_get_read}
 use Rattle.sp_tree.specs.declared.checked.Variable.{Variable}
-use Rattle.sp_tree.specs.Bare.{bare}
+use Rattle.sp_tree.specs.Bare.{bare, variable_of}
 use Rattle.sp_tree.specs.CheckedOf.{program_of}
-use Rattle.sp_tree.specs.PlainOf.{variable_of}
 use Rattle.sp_varsets.specs.Bodies.{Declares}
 use Rattle.sp_varsets.proofs.Gathering.{declared_more}
 use Rattle.sp_varsets.proofs.Reaching.{at_map}

@@ -1,7 +1,6 @@
 use Rattle.std.proofs.Common.{◌≡◌, ◌∙◌, ◌&&◌, not, length, map, sym, ap, subst}
-use Rattle.sp_tree.specs.Bare.{bare}
+use Rattle.sp_tree.specs.Bare.{bare, variable_of}
 use Rattle.sp_tree.specs.CheckedOf.{block_of, program_of}
-use Rattle.sp_tree.specs.PlainOf.{variable_of}
 use Rattle.sp_varsets.specs.Bodies.{AreBodies, AreDeclared, IsInBlocks}
 use Rattle.sp_varsets.specs.Paths.{member, Closes}
 use Rattle.sp_varsets.specs.Records.{Writes}

@@ -1,6 +1,9 @@
-//! The calls of this crate, each once.
+//! The calls of `sp_base`, each once.
 
-use super::*;
+use sp_base::{
+    Boxed, ChanName, Fault, List, MAXINT, Memory, Pair, ProcName, Rule, Text, Word, put_decimal,
+    put_signed,
+};
 use std::alloc::Global;
 use std::cmp::Ordering;
 use std::test::Fail;
