@@ -1,7 +1,9 @@
-//! The tests of `sp_base` and `sp_journal`. They stand above both, so that each is proved once.
+//! The tests of `sp_base`, `sp_journal` and `sp_channel`. They stand above these, so that each is proved once.
 #![tactic(auto)]
 
 #[cfg(test)]
 mod base;
+#[cfg(test)]
+mod channels;
 #[cfg(test)]
 mod tests;

@@ -4,8 +4,6 @@
 mod cell;
 mod piece;
 mod spot;
-#[cfg(test)]
-mod tests;
 
 pub use cell::Cell;
 pub use piece::Piece;

@@ -2,8 +2,6 @@
 #![tactic(auto)]
 
 mod channels;
-#[cfg(test)]
-mod tests;
 
 pub use channels::{Channels, Offer, Pending};
 pub use sp_journal::Way;

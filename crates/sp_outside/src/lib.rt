@@ -19,8 +19,6 @@ mod sink;
 mod source;
 mod streams;
 mod tape;
-#[cfg(test)]
-mod tests;
 
 pub use failed::{Failed, LoadError, ReadError};
 pub use files::FileLibrary;

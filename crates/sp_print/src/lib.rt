@@ -3,8 +3,6 @@
 
 mod end;
 mod refusal;
-#[cfg(test)]
-mod tests;
 mod verdict;
 
 pub use end::end_lines;

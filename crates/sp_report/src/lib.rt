@@ -6,8 +6,6 @@ mod condition;
 mod order;
 mod table;
 mod telling;
-#[cfg(test)]
-mod tests;
 mod timeline;
 mod tree;
 mod waiting;

@@ -8,8 +8,6 @@ mod given;
 mod law;
 mod parser;
 mod read;
-#[cfg(test)]
-mod tests;
 
 pub use command::{Command, WordsError};
 pub use defaults::default_limits;

@@ -1,5 +1,7 @@
-//! The tests of `sp_store`. They stand above it, so that it is proved once.
+//! The tests of `sp_cell` and `sp_store`. They stand above both, so that each is proved once.
 #![tactic(auto)]
 
+#[cfg(test)]
+mod cells;
 #[cfg(test)]
 mod tests;

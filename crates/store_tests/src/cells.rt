@@ -1,6 +1,6 @@
-//! The calls of this crate, each once.
+//! The calls of `sp_cell`, each once.
 
-use crate::{Cell, Piece};
+use sp_cell::{Cell, Piece};
 use std::test::Fail;
 
 #[test]

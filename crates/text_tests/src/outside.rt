@@ -1,7 +1,7 @@
-//! The calls of this crate, with failing ones among them, and one run of each real adapter.
+//! The calls of `sp_outside`, with failing ones among them, and one run of each real adapter.
 
-use super::*;
 use sp_base::{List, Text};
+use sp_outside::*;
 use std::alloc::{AllocError, Global};
 use std::io::{ErrorKind, Write};
 use std::test::Fail;

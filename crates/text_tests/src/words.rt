@@ -1,6 +1,6 @@
 //! What words ask for, row by row.
 
-use crate::{Command, WordsError, read_words};
+use sp_words::{Command, WordsError, read_words};
 use std::alloc::{AllocError, Global};
 use std::process::Abort;
 

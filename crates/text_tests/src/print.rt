@@ -1,8 +1,8 @@
 //! The lines of refusals, ends and verdicts.
 
-use super::*;
 use sp_base::{ChanName, Fault, List, Place, ProcName, Refusal, Rule};
 use sp_journal::{End, Verdict, Waiter, Way};
+use sp_print::{end_lines, refusal_line, verdict_line};
 use std::alloc::Global;
 use std::test::Fail;
 

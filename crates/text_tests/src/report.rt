@@ -3,9 +3,9 @@
 ghost use Rattle.std.specs.Prelude.{◌≡◌, []};
 ghost use Rattle.sp_journal.specs.Births.{IsNameable};
 
-use crate::{Census, ProcessTree, Timeline, Waiting, Watcher, tell};
 use sp_base::{List, Memory, Show};
 use sp_journal::{Entry, Event, Journal, read_journal};
+use sp_report::{Census, ProcessTree, Timeline, Waiting, Watcher, tell};
 use std::alloc::Global;
 use std::test::Fail;
 

@@ -1,6 +1,6 @@
 //! A generated text, byte for byte.
 
-use super::*;
+use sp_gen::generated;
 use std::test::Fail;
 
 #[test]

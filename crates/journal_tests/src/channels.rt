@@ -1,6 +1,6 @@
-//! The calls of this crate, each once, and the table of offers.
+//! The calls of `sp_channel`, each once, and the table of offers.
 
-use crate::{Channels, Offer, Pending, Way};
+use sp_channel::{Channels, Offer, Pending, Way};
 use std::test::Fail;
 
 #[test]
