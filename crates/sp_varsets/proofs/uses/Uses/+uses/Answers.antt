@@ -1,10 +1,11 @@
 use Rattle.std.proofs.Common.{rules, ◌≡◌, ◌+◌, [], length, map, drop, arith}
 use Rattle.sp_tree.specs.declared.checked.ExprForm as ast_f
-use Rattle.sp_tree.specs.PlainChecked.{Binary, Apply, Standard}
-use Rattle.sp_tree.specs.Bare.{bare_expression, bare_actuals}
-use Rattle.sp_tree.specs.CheckedOf.{expression_of, expression_form_of, selector_of, selectors, actual_of, actuals, expressions}
+use Rattle.sp_tree.specs.declared.checked.Var.{out-Var, fold_out-Var}
+use Rattle.sp_tree.specs.PlainChecked.{Binary, Apply, Standard, Entire}
+use Rattle.sp_tree.specs.Bare.{bare_expression, bare_selectors, bare_actuals}
+use Rattle.sp_tree.specs.CheckedOf.{expression_of, expression_form_of, variable_of, selector_of, selectors, actual_of, actuals, expressions}
 use Rattle.sp_tree.specs.Plain.{Actuals}
-use Rattle.sp_tree.specs.Uses.{CallOf, In_expr, In_actuals}
+use Rattle.sp_tree.specs.Uses.{Target, Seen, CallOf, In_expr, In_selectors, In_actuals}
 use Rattle.sp_varsets.proofs.Adding.{adds_nothing, ok_then, selectors_on, selectors_end, actuals_on, actuals_end, select_adds, pass_adds, none_in}
 use Rattle.sp_varsets.proofs.uses.Uses.+uses.Goals as goal
 
@@ -29,6 +30,20 @@ form-returns-in-None t c =
     let l : length c.in-Standard.args ≡ 0 = first_of (search rules, grind (arith, rules)) in
     let xs : c.in-Standard.args ≡ [] = none_in c.in-Standard.args l in
     rw (i, xs) c.see.ensures
+
+pub read-returns : goal.read-returns
+read-returns t c =
+    let v = out-Var c.args.v.now in
+    let i : variable_of c.args.v.now ≡ Entire v.variable v.at (selectors (map selector_of v.selectors)) = search (rules, fold_out-Var) in
+    let e = rw c.items.ensures at c.selectors.ensures in
+    rw i (ok_then c.selectors.result c.args.self.now c.see.new.self c.selectors.new.self (λ u. u ≡ Seen v.variable) (In_selectors (bare_selectors (selectors (map selector_of v.selectors)))) c.in_ok-see.ensures e)
+
+pub target-returns : goal.target-returns
+target-returns t c =
+    let v = out-Var c.args.v.now in
+    let i : variable_of c.args.v.now ≡ Entire v.variable v.at (selectors (map selector_of v.selectors)) = search (rules, fold_out-Var) in
+    let e = rw c.items.ensures at c.selectors.ensures in
+    rw i (ok_then c.selectors.result c.args.self.now c.aim.new.self c.selectors.new.self (λ u. u ≡ Target v.variable) (In_selectors (bare_selectors (selectors (map selector_of v.selectors)))) c.in_ok-aim.ensures e)
 
 pub actuals-loop-a-preserved : goal.actuals-loop-a-preserved
 actuals-loop-a-preserved t c z f =
