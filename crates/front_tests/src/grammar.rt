@@ -1,6 +1,7 @@
 //! Texts that break rules of the grammar.
 
-use sp_base::{Halt, Place, Refusal, Rule};
+use crate::rows::is_refused;
+use sp_base::{Halt, Rule};
 use sp_front::read_text;
 use sp_scan::scan;
 use std::alloc::Global;
@@ -28,16 +29,7 @@ pub(crate) fn accepts(alloc: Global, text: &[u8]) -> bool {
 
 /// Whether the text is refused for this rule at this place.
 pub(crate) fn refuses(alloc: Global, text: &[u8], rule: Rule, line: u32, column: u32) -> bool {
-    match read_text(alloc, text) {
-        Err(Halt::Refused(found)) => {
-            found
-                == Refusal {
-                    rule,
-                    at: Place { line, column },
-                }
-        }
-        _ => false,
-    }
+    is_refused(read_text(alloc, text), rule, line, column)
 }
 
 #[test]

@@ -1,6 +1,7 @@
 //! Canonical texts.
 
-use sp_base::{Halt, Place, Refusal, Rule};
+use crate::rows::is_refused;
+use sp_base::Rule;
 use sp_format::format;
 use sp_tree::MAX_TEXT;
 use std::alloc::{AllocError, Global};
@@ -18,16 +19,7 @@ fn gives(alloc: Global, text: &[u8], canonical: &[u8]) -> bool {
 }
 
 fn refuses(alloc: Global, text: &[u8], rule: Rule, line: u32, column: u32) -> bool {
-    match format(alloc, text) {
-        Err(Halt::Refused(found)) => {
-            found
-                == Refusal {
-                    rule,
-                    at: Place { line, column },
-                }
-        }
-        _ => false,
-    }
+    is_refused(format(alloc, text), rule, line, column)
 }
 
 #[test]

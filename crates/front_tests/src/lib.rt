@@ -18,6 +18,8 @@ mod names;
 #[cfg(test)]
 mod phases;
 #[cfg(test)]
+mod rows;
+#[cfg(test)]
 mod statements;
 #[cfg(test)]
 mod tokens;

@@ -1,6 +1,7 @@
 //! Each rule of names with a text that breaks it, beside a near one that breaks none.
 
-use sp_base::{Halt, Place, Refusal, Rule};
+use crate::rows::{Row, is_refused};
+use sp_base::{Halt, Rule};
 use sp_front::read_text;
 use sp_scope::resolve;
 use sp_tree::Named;
@@ -10,13 +11,6 @@ use std::test::Fail;
 fn named(alloc: Global, text: &[u8]) -> Result<Named, Halt> {
     let syntax = read_text(alloc, text)?;
     resolve(alloc, syntax)
-}
-
-struct Row<'a> {
-    rule: Rule,
-    column: u32,
-    refused: &'a [u8],
-    accepted: &'a [u8],
 }
 
 const ROWS: [Row; 15] = [
@@ -113,16 +107,7 @@ const ROWS: [Row; 15] = [
 ];
 
 fn refuses(alloc: Global, text: &[u8], rule: Rule, column: u32) -> bool {
-    match named(alloc, text) {
-        Err(Halt::Refused(found)) => {
-            found
-                == Refusal {
-                    rule,
-                    at: Place { line: 1, column },
-                }
-        }
-        _ => false,
-    }
+    is_refused(named(alloc, text), rule, 1, column)
 }
 
 #[test]

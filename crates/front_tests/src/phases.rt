@@ -1,7 +1,8 @@
-//! Large texts through all phases, on the thread that has the stack for them.
+//! Large texts through the phases up to types, and to their sets, on the thread that has the stack for them.
 
-use sp_base::{Halt, Place, Refusal, Rule};
-use sp_front::typed_apart;
+use crate::rows::is_refused;
+use sp_base::Rule;
+use sp_front::analyse_apart;
 use std::alloc::{AllocError, Global};
 use std::test::Fail;
 use std::thread::Threads;
@@ -40,20 +41,11 @@ fn put_names(text: &mut Vec<u8>, count: u32) -> Result<(), AllocError> {
 }
 
 fn is_accepted(threads: &impl Threads, alloc: Global, text: &[u8]) -> bool {
-    typed_apart(threads, alloc, text).is_ok()
+    analyse_apart(threads, alloc, text).is_ok()
 }
 
-fn is_refused(threads: &impl Threads, alloc: Global, text: &[u8], rule: Rule, column: u32) -> bool {
-    match typed_apart(threads, alloc, text) {
-        Err(Halt::Refused(found)) => {
-            found
-                == Refusal {
-                    rule,
-                    at: Place { line: 1, column },
-                }
-        }
-        _ => false,
-    }
+fn breaks(threads: &impl Threads, alloc: Global, text: &[u8], rule: Rule, column: u32) -> bool {
+    is_refused(analyse_apart(threads, alloc, text), rule, 1, column)
 }
 
 // So many variables, used 300,000 times.
@@ -74,7 +66,7 @@ fn the_most_variables(rt: HostRuntime) -> Result<(), Fail> {
     let text = variables(rt.alloc(), 4096)?;
     assert!(rt; is_accepted(&rt, rt.alloc(), &text));
     let text = variables(rt.alloc(), 4097)?;
-    assert!(rt; is_refused(&rt, rt.alloc(), &text, Rule::L4, 16400));
+    assert!(rt; breaks(&rt, rt.alloc(), &text, Rule::L4, 16400));
     Ok(())
 }
 
@@ -102,9 +94,9 @@ fn a_chain_of_the_most_types(rt: HostRuntime) -> Result<(), Fail> {
     let text = chain(rt.alloc(), 4096, b"1..1")?;
     assert!(rt; is_accepted(&rt, rt.alloc(), &text));
     let text = chain(rt.alloc(), 4097, b"1..1")?;
-    assert!(rt; is_refused(&rt, rt.alloc(), &text, Rule::L4, 90130));
+    assert!(rt; breaks(&rt, rt.alloc(), &text, Rule::L4, 90130));
     let text = chain(rt.alloc(), 4096, b"1..2")?;
-    assert!(rt; is_refused(&rt, rt.alloc(), &text, Rule::L3, 458));
+    assert!(rt; breaks(&rt, rt.alloc(), &text, Rule::L3, 458));
     Ok(())
 }
 

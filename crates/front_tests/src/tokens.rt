@@ -1,22 +1,14 @@
 //! Tokens, and the rules of characters.
 
-use sp_base::{Halt, Place, Refusal, Rule};
+use crate::rows::is_refused;
+use sp_base::{Place, Refusal, Rule};
 use sp_scan::{first_breach, scan, spelling};
 use sp_tree::{Kind, MAX_TEXT, Token, sign, word};
 use std::alloc::{AllocError, Global};
 use std::test::Fail;
 
 fn refuses(alloc: Global, text: &[u8], rule: Rule, line: u32, column: u32) -> bool {
-    match scan(alloc, text) {
-        Err(Halt::Refused(found)) => {
-            found
-                == Refusal {
-                    rule,
-                    at: Place { line, column },
-                }
-        }
-        _ => false,
-    }
+    is_refused(scan(alloc, text), rule, line, column)
 }
 
 fn accepts(alloc: Global, text: &[u8], count: usize) -> bool {

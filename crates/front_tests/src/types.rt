@@ -1,16 +1,10 @@
 //! Each rule of types with a text that breaks it, beside a near one that breaks none.
 
-use sp_base::{Halt, Place, Refusal, Rule};
+use crate::rows::{Row, is_refused};
+use sp_base::Rule;
 use sp_front::typed;
 use std::alloc::Global;
 use std::test::Fail;
-
-struct Row<'a> {
-    rule: Rule,
-    column: u32,
-    refused: &'a [u8],
-    accepted: &'a [u8],
-}
 
 const ROWS: [Row; 21] = [
     Row {
@@ -142,16 +136,7 @@ const ROWS: [Row; 21] = [
 ];
 
 fn refuses(alloc: Global, text: &[u8], rule: Rule, column: u32) -> bool {
-    match typed(alloc, text) {
-        Err(Halt::Refused(found)) => {
-            found
-                == Refusal {
-                    rule,
-                    at: Place { line: 1, column },
-                }
-        }
-        _ => false,
-    }
+    is_refused(typed(alloc, text), rule, 1, column)
 }
 
 #[test]

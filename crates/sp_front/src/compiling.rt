@@ -64,7 +64,7 @@ pub fn analyse(alloc: Global, text: &[u8]) -> Result<(Checked, Sets), Halt>
 /// characters and its grammar, then of its names, of its types, and of interference. On no input, with no limits and in
 /// no lawful schedule does a process of an accepted text write what a parallel one reads or writes.
 ///
-/// It recurses as deep as the longest chain of operators is long: `compile_apart` gives it the stack for that.
+/// It recurses as deep as the longest chain of operators is long, and wants a stack for that, as `analyse_apart` has one.
 pub fn compile(alloc: Global, text: &[u8]) -> Result<Accepted, Halt>
     ensures compiles { Compiles text.now result }
     ensures keeps { IfOk result (λ a. KeepsAllRules text.now) }
@@ -90,38 +90,6 @@ pub fn compile(alloc: Global, text: &[u8]) -> Result<Accepted, Halt>
 /// The stack of the phases, in bytes: addresses alone, since a page is used once it is touched.
 const STACK: usize = 0x4000_0000;
 
-/// What the thread of the phases promises of its answer about this text.
-#[derive(Drop)]
-struct CompiledOf(Snapshot<Vec<u8>>);
-
-impl Promise<Result<Accepted, Halt>> for CompiledOf {
-    ghost kept_by = { λ p r. Compiles p.0.value.items r };
-}
-
-/// `compile`, on a thread of its own with a stack for the longest text. Where no thread can be made the answer is want
-/// of memory: the caller's own stack would not hold a long chain of operators.
-pub fn compile_apart(rt: &impl Threads, alloc: Global, text: &[u8]) -> Result<Accepted, Halt>
-    ensures compiles { Compiles text.now result }
-    ensures keeps { IfOk result (λ a. KeepsAllRules text.now) }
-    ensures program { IfOk result (λ a. IsProgramOf text.now (program_of a.checked)) }
-    ensures free { IfOk result (λ a. IsFreeOfInterference (program_of a.checked)) }
-    ensures disjoint { IfOk result (λ a. (g : Setting) → g.program ≡ program_of a.checked → IsDisjointRun g) }
-{
-    one_answer();
-    accepted_trees_are_fine();
-    rule_keepers_are_disjoint();
-    let mut copy = Vec::new(alloc);
-    copy.extend_from_slice(text)?;
-    let promise = CompiledOf(Snapshot::of(&copy));
-    let started = Builder::new()
-        .stack_size(STACK)
-        .spawn_with(rt, promise, move || compile(alloc, copy.as_slice()));
-    match started {
-        Ok(thread) => thread.join(rt),
-        Err(_) => Err(Halt::Memory),
-    }
-}
-
 /// What the thread of the phases up to types promises of its answer about this text.
 #[derive(Drop)]
 struct AnalysedOf(Snapshot<Vec<u8>>);
@@ -130,7 +98,8 @@ impl Promise<Result<(Checked, Sets), Halt>> for AnalysedOf {
     ghost kept_by = { λ p r. Analyses p.0.value.items r };
 }
 
-/// `analyse`, on a thread of its own, as `compile_apart`.
+/// `analyse`, on a thread of its own with a stack for the longest text. Where no thread can be made the answer is want
+/// of memory: the caller's own stack would not hold a long chain of operators.
 pub fn analyse_apart(rt: &impl Threads, alloc: Global, text: &[u8]) -> Result<(Checked, Sets), Halt>
     ensures { Analyses text.now result }
 {

@@ -6,10 +6,10 @@ mod law;
 mod phases;
 mod reader;
 
-pub use compiling::{Accepted, analyse, analyse_apart, compile, compile_apart};
+pub use compiling::{Accepted, analyse, analyse_apart, compile};
 pub use law::{
     accepted_texts_are_disjoint, numbered_trees, numbers_differ, one_answer, one_compilation,
     some_answer,
 };
-pub use phases::{typed, typed_apart};
+pub use phases::typed;
 pub use reader::read_text;
