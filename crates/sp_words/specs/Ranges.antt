@@ -1,4 +1,4 @@
--- The ranges of the options of the commands, and the limits of a `run` where no option is given. The law that every
+-- The ranges of the options of the commands, and the workers and limits where no option is given. The law that every
 -- accepted command is in range cites them, and so do the calls of `superpascal` that run a program, which require them.
 use Rattle.std.specs.Prelude.{◌≤◌, ℕ}
 use Rattle.sp_base.specs.declared.limits.Limits.{Limits}
@@ -29,7 +29,12 @@ AreInRange (command.Sets file) = Unit {0}
 AreInRange (command.Format file) = Unit {0}
 AreInRange (command.Gen size workers) = IsUpTo 2000 size × IsUpTo 64 workers
 
+-- the workers where no option is given
+abbrev pub default_workers : ℕ
+default_workers = 4
+
 -- the limits of a run where no option is given
+
 abbrev pub default_limits : Limits
 default_limits = record {
   ticks = 10000000;

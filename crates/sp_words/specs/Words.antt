@@ -10,7 +10,7 @@ use Rattle.clap.specs.declared.parser.matches.ArgMatches.{ArgMatches}
 use Rattle.sp_base.specs.declared.limits.Limits.{Limits}
 use Rattle.sp_words.specs.Dashes.{Item, Text, contains, file, given, items}
 use Rattle.sp_words.specs.Options.{Choice, number_or, option_names, options_of, show_or_end, size_named}
-use Rattle.sp_words.specs.Ranges.{default_limits}
+use Rattle.sp_words.specs.Ranges.{default_limits, default_workers}
 use Rattle.sp_words.specs.declared.command.Command.{Command}
 use Rattle.sp_words.specs.declared.command.Command.TheVariants as command
 use Rattle.sp_words.specs.declared.command.CommandName.{CommandName}
@@ -62,7 +62,7 @@ limits_from value = record {
 
 -- the number of workers by its option, or 4
 abbrev pub workers_from : (Text → Option Text) → ℕ
-workers_from value = number_or (2 ^ 32) 4 (value (codes "workers"))
+workers_from value = number_or (2 ^ 32) default_workers (value (codes "workers"))
 
 -- the command with its FILE, or `gen` with a size that it may have, and what its options were given
 abbrev pub command_from : CommandName → (Text → Option Text) → Text → Option Command

@@ -1,9 +1,12 @@
-//! The limits of a run where no option is given.
+//! The workers and the limits of a run where no option is given.
 
 ghost use Rattle.std.specs.Prelude.{◌≡◌};
 ghost use Rattle.sp_words.specs.Ranges.{default_limits};
 
 use sp_base::Limits;
+
+/// The workers of a `run` or `gen` whose words give no number.
+pub(crate) const DEFAULT_WORKERS: u32 = 4;
 
 /// The limits of a `run` whose words give none.
 pub fn default_limits() -> Limits

@@ -6,7 +6,7 @@ ghost use Rattle.sp_words.specs.Options.{number_below, number_or, show_named, sh
 ghost use Rattle.sp_words.specs.Words.{command_from, command_with, limits_from, values_given};
 
 use crate::command::{Command, CommandName, WordsError};
-use crate::defaults::default_limits;
+use crate::defaults::{DEFAULT_WORKERS, default_limits};
 use clap::ArgMatches;
 use sp_base::{Limits, Show, Word};
 use std::alloc::{AllocError, Global};
@@ -91,7 +91,7 @@ fn size_named(text: &str) -> Option<u32>
 fn gen_given(text: &str, given: &ArgMatches<'_>) -> Option<Command>
     ensures { result ≡ command_from CommandName.Gen (values_given given.now) text.now }
 {
-    let workers = small_number(given, "workers", 4);
+    let workers = small_number(given, "workers", DEFAULT_WORKERS);
     size_named(text).map(|size| Command::Gen { size, workers })
 }
 
@@ -119,7 +119,7 @@ pub(crate) fn command_given(
         CommandName::Check => Command::Check(file(alloc, text)?),
         CommandName::Run => Command::Run {
             file: file(alloc, text)?,
-            workers: small_number(given, "workers", 4),
+            workers: small_number(given, "workers", DEFAULT_WORKERS),
             limits: limits(given),
             show: show(given),
         },
