@@ -7,18 +7,16 @@ use Rattle.sp_tree.specs.declared.syntax.SynFormal.{SynFormal}
 use Rattle.sp_tree.specs.declared.named.Named.{Named}
 use Rattle.sp_tree.specs.Found.{Found, AnswersAs, outcome}
 use Rattle.sp_tree.specs.NameFirst.{resolved}
-use Rattle.sp_tree.specs.declared.named.NamedConstant.{NamedConstant}
-use Rattle.sp_tree.specs.declared.named.NamedKind.{NamedKind}
-use Rattle.sp_tree.specs.declared.checked.Variable.{Variable}
 use Rattle.sp_tree.specs.Scopes.{Scope, Env, Local, inside, empty, standard}
 use Rattle.sp_tree.specs.NameWalk.{title_local}
-use Rattle.sp_tree.specs.NamedTree.{Inside, named_expression, part_named, inside_named, program_tables}
+use Rattle.sp_tree.specs.NamedTree.{Inside, beside, named_expression, part_named, inside_named, program_tables}
 use Rattle.sp_tree.specs.NamedOf as named
 use Rattle.sp_tree.specs.PlainNamed as n
 use Rattle.sp_tree.specs.PlainSyntax as p
 use Rattle.sp_tree.specs.declared.found.Walked.{Walked}
+use Rattle.sp_scope.specs.declared.walked.BlockParts.{BlockParts}
 use Rattle.sp_scope.specs.declared.walked.Heading.{Heading}
-use Rattle.sp_scope.specs.Walks.{Walks, heading_named, declared_by, tables_behind}
+use Rattle.sp_scope.specs.Walks.{Walks, seen_block, heading_named, declared_by, standard_tables, own_tables}
 use Rattle.sp_scope.specs.Firsts.{files_first, block_first, expression_first, title_first, part_first, opened_first, opened_named}
 
 abbrev unwrap : {A : Type 0} → A → Result A Refusal → A
@@ -69,31 +67,37 @@ block_found h x fs answer parts body first s s' i f t a b c =
     ∙ ap (λ q. Ok (q, f)) (inner (declared_by h x answer i) t c)
 
 -- a program, from the standard declarations in front of its own
-pub tables_found : (r : Result Named Halt) (x : Name) (constants constants' : List NamedConstant) (kinds kinds' : List NamedKind) (consoles consoles' : List Variable) (i : Inside)
-    → ◌≡◌ {A = Result (List NamedConstant) Refusal} (Ok constants') (Ok constants)
-    → ◌≡◌ {A = Result (List NamedKind) Refusal} (Ok kinds') (Ok kinds)
-    → ◌≡◌ {A = Result (List Variable) Refusal} (Ok consoles') (Ok consoles)
-    → AnswersAs named.program_of r (Ok (tables_behind x constants kinds consoles i))
-    → AnswersAs named.program_of r (Ok (tables_behind x constants' kinds' consoles' i))
-tables_found r x constants constants' kinds kinds' consoles consoles' i a b c w =
-    subst (λ v. AnswersAs named.program_of r (Ok (tables_behind x v kinds' consoles' i))) (sym (inner constants' constants a))
-    (subst (λ v. AnswersAs named.program_of r (Ok (tables_behind x constants v consoles' i))) (sym (inner kinds' kinds b))
-    (subst (λ v. AnswersAs named.program_of r (Ok (tables_behind x constants kinds v i))) (sym (inner consoles' consoles c)) w))
+pub tables_found : (r : Result Named Halt) (x : Name) (i : Inside) (s o : n.Program)
+    → ◌≡◌ {A = Result n.Program Refusal} (Ok (standard_tables x.at)) (Ok s)
+    → ◌≡◌ {A = Result n.Program Refusal} (Ok (own_tables x i)) (Ok o)
+    → AnswersAs named.program_of r (Ok (beside s o))
+    → AnswersAs named.program_of r (Ok (program_tables x i))
+tables_found r x i s o a b w =
+    subst (λ v. AnswersAs named.program_of r (Ok (beside v (own_tables x i)))) (sym (inner (standard_tables x.at) s a))
+    (subst (λ v. AnswersAs named.program_of r (Ok (beside s v))) (sym (inner (own_tables x i) o b)) w)
+
+-- a program's block, from the standard names around it
+pub program_found : (r : Result (Walked BlockParts) Halt) (b b' : p.Block) (first : Found) (s : Env)
+    → b' ≡ b
+    → ◌≡◌ {A = Result Env Refusal} (Ok (inside (standard ∷ []) empty)) (Ok s)
+    → Walks seen_block r (inside_named s.around s.local b'.parts b'.body) (block_first s.around s.local b'.parts b'.body first)
+    → Walks seen_block r (inside_named (standard ∷ []) empty b.parts b.body) (block_first (standard ∷ []) empty b.parts b.body first)
+program_found r b b' first s e a w =
+    subst (λ (v : Env). Walks seen_block r (inside_named v.around v.local b.parts b.body) (block_first v.around v.local b.parts b.body first)) (sym (inner (inside (standard ∷ []) empty) s a))
+    (subst (λ (v : p.Block). Walks seen_block r (inside_named s.around s.local v.parts v.body) (block_first s.around s.local v.parts v.body first)) e w)
 
 -- a program that breaks no rule of names, from its heading and its block
-pub resolved_found : (r : Result Named Halt) (q : p.Program) (s : Env) (f0 : Found) (i : Inside) (f : Found)
-    → ◌≡◌ {A = Result Env Refusal} (Ok (inside (standard ∷ []) empty)) (Ok s)
+pub resolved_found : (r : Result Named Halt) (q : p.Program) (f0 : Found) (i : Inside) (f : Found)
     → f0 ≡ files_first [] q.heading None
-    → ◌≡◌ {A = Result (Inside × Found) Refusal} (Ok (inside_named s.around s.local q.block.parts q.block.body, block_first s.around s.local q.block.parts q.block.body f0)) (Ok (i, f))
+    → ◌≡◌ {A = Result (Inside × Found) Refusal} (Ok (inside_named (standard ∷ []) empty q.block.parts q.block.body, block_first (standard ∷ []) empty q.block.parts q.block.body f0)) (Ok (i, f))
     → f ≡ None
     → AnswersAs named.program_of r (Ok (program_tables q.name i))
     → AnswersAs named.program_of r (resolved q)
-resolved_found r q s f0 i f a b c d w =
+resolved_found r q f0 i f b c d w =
     subst (λ (z : Inside × Found). AnswersAs named.program_of r (outcome z.1 (program_tables q.name z.0))) (sym both_are)
     (subst (λ g. AnswersAs named.program_of r (outcome g (program_tables q.name i))) (sym d) w)
   where
     both_are : ◌≡◌ {A = Inside × Found} (inside_named (standard ∷ []) empty q.block.parts q.block.body, block_first (standard ∷ []) empty q.block.parts q.block.body (files_first [] q.heading None)) (i, f)
     both_are =
         ap {B = Inside × Found} (λ g. (inside_named (standard ∷ []) empty q.block.parts q.block.body, block_first (standard ∷ []) empty q.block.parts q.block.body g)) (sym b)
-        ∙ ap {B = Inside × Found} (λ (v : Env). (inside_named v.around v.local q.block.parts q.block.body, block_first v.around v.local q.block.parts q.block.body f0)) (inner (inside (standard ∷ []) empty) s a)
-        ∙ inner (inside_named s.around s.local q.block.parts q.block.body, block_first s.around s.local q.block.parts q.block.body f0) (i, f) c
+        ∙ inner (inside_named (standard ∷ []) empty q.block.parts q.block.body, block_first (standard ∷ []) empty q.block.parts q.block.body f0) (i, f) c

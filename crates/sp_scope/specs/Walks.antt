@@ -1,18 +1,16 @@
 -- What a part of the walk answers: its tree as the plain one, with the first broken rule up to its end. The contracts
 -- of all walks of this crate cite it.
-use Rattle.std.specs.Prelude.{List, ◌∷◌, ◌++◌, Option, Some}
+use Rattle.std.specs.Prelude.{List, [], ◌∷◌, ◌++◌, Option, Some}
 use Rattle.std.specs.HashMap.{HashMap}
 use Rattle.std.specs.Option.{option_map}
 pub use Rattle.sp_tree.specs.Found.{Walks}
 use Rattle.sp_tree.specs.declared.syntax.Name.{Name}
 use Rattle.sp_tree.specs.declared.syntax.SynFormal.{SynFormal}
 use Rattle.sp_tree.specs.PlainNamed as n
-use Rattle.sp_tree.specs.declared.named.NamedConstant.{NamedConstant}
-use Rattle.sp_tree.specs.declared.named.NamedKind.{NamedKind}
-use Rattle.sp_tree.specs.declared.checked.Variable.{Variable}
+use Rattle.sp_base.specs.declared.place.Place.{Place}
 use Rattle.sp_tree.specs.declared.named.NamedExpr.{NamedExpr}
 use Rattle.sp_tree.specs.NamedOf.{expression_of, statement_of, program_of, width}
-use Rattle.sp_tree.specs.NamedTree.{Inside, program_block, formals_named, answer_named, numbers, answer_of}
+use Rattle.sp_tree.specs.NamedTree.{Inside, program_block, formals_named, answer_named, numbers, answer_of, standard_constants, standard_kinds, consoles}
 use Rattle.sp_tree.specs.Scopes.{Env, next_block, next_variable}
 use Rattle.sp_scope.specs.declared.walked.BlockParts.{BlockParts}
 use Rattle.sp_scope.specs.declared.walked.Heading.{Heading}
@@ -52,11 +50,15 @@ declared_by h x answer i = record {
   blocks = record { name = x.text; parent = Some h.parent; formals = h.numbers; answer = answer_of i.answer answer; body = i.body; at = x.at } ∷ i.parts.blocks;
 }
 
--- a program's tables, with standard declarations in front
-abbrev pub tables_behind : Name → List NamedConstant → List NamedKind → List Variable → Inside → n.Program
-tables_behind x constants kinds consoles i = record {
-  constants = constants ++ i.parts.constants;
-  kinds = kinds ++ i.parts.kinds;
-  variables = consoles ++ (i.parts.variables ++ i.indices);
+-- the standard declarations, as tables of their own
+abbrev pub standard_tables : Place → n.Program
+standard_tables at = record { constants = standard_constants at; kinds = standard_kinds at; variables = consoles at; blocks = [] }
+
+-- what a program declares itself, and its own block
+abbrev pub own_tables : Name → Inside → n.Program
+own_tables x i = record {
+  constants = i.parts.constants;
+  kinds = i.parts.kinds;
+  variables = i.parts.variables ++ i.indices;
   blocks = program_block x i.body ∷ i.parts.blocks;
 }

@@ -12,14 +12,17 @@ ghost use Rattle.sp_scope.specs.Walks.{Walks, seen_block, declared_by};
 ghost use Rattle.sp_scope.specs.Firsts.{parts_first, part_first, block_first, block_local, inner_first, inner_local, opened_first, opened_local, opened_named, inner_named};
 
 use crate::headings::{declare_title, name_heading, procedure_part};
-use crate::indices::push_indices;
+use crate::indices::indices;
 use crate::parts::{name_constant, name_type, name_variables};
 use crate::scopes::Scopes;
-use crate::statements::name_statement;
+use crate::statements::name_boxed_statement;
 use crate::variables::declare_formals;
 use crate::walked::{BlockParts, Heading, Walked};
 use sp_base::{Boxed, Halt, List};
-use sp_tree::{Found, Name, Named, SynBlock, SynFormal, SynPart};
+use sp_tree::{
+    Found, Name, Named, NamedAnswer, NamedBlock, NamedConstant, NamedKind, NamedStmt, SynBlock,
+    SynFormal, SynPart, Variable,
+};
 use std::alloc::Global;
 
 fn nothing(alloc: Global) -> Named
@@ -33,20 +36,83 @@ fn nothing(alloc: Global) -> Named
     }
 }
 
+/// The constants and the types of one part behind those of another.
+fn beside_types(
+    constants: List<NamedConstant>,
+    kinds: List<NamedKind>,
+    more_constants: List<NamedConstant>,
+    more_kinds: List<NamedKind>,
+) -> Result<(List<NamedConstant>, List<NamedKind>), Halt>
+    ensures { Answers result (Ok (constants ++ more_constants, kinds ++ more_kinds)) }
+{
+    let constants = constants.join(more_constants)?;
+    let kinds = kinds.join(more_kinds)?;
+    Ok((constants, kinds))
+}
+
+/// The variables and the blocks of one part behind those of another.
+fn beside_blocks(
+    variables: List<Variable>,
+    blocks: List<NamedBlock>,
+    more_variables: List<Variable>,
+    more_blocks: List<NamedBlock>,
+) -> Result<(List<Variable>, List<NamedBlock>), Halt>
+    ensures { Answers result (Ok (variables ++ more_variables, blocks ++ more_blocks)) }
+{
+    let variables = variables.join(more_variables)?;
+    let blocks = blocks.join(more_blocks)?;
+    Ok((variables, blocks))
+}
+
 /// What is declared in one part behind what is declared in another.
-fn beside(a: Named, b: Named) -> Result<Named, Halt>
+pub fn beside(a: Named, b: Named) -> Result<Named, Halt>
     ensures { AnswersAs named.program_of result (Ok (beside (named.program_of a) (named.program_of b))) }
 {
-    let constants = a.constants.join(b.constants)?;
-    let kinds = a.kinds.join(b.kinds)?;
-    let variables = a.variables.join(b.variables)?;
-    let blocks = a.blocks.join(b.blocks)?;
+    let (constants, kinds) = beside_types(a.constants, a.kinds, b.constants, b.kinds)?;
+    let (variables, blocks) = beside_blocks(a.variables, a.blocks, b.variables, b.blocks)?;
     Ok(Named {
         constants,
         kinds,
         variables,
         blocks,
     })
+}
+
+fn in_front(
+    alloc: Global,
+    b: NamedBlock,
+    blocks: List<NamedBlock>,
+) -> Result<List<NamedBlock>, Halt>
+    ensures { Answers result (Ok (b ∷ blocks)) }
+{
+    let mut out = Vec::new(alloc);
+    out.push(b)?;
+    Ok(List::of(out).join(blocks)?)
+}
+
+/// A block of this name in front of others.
+pub fn block_in_front(
+    alloc: Global,
+    x: &Name,
+    parent: Option<u32>,
+    formals: List<u32>,
+    answer: Option<NamedAnswer>,
+    body: Boxed<NamedStmt>,
+    blocks: List<NamedBlock>,
+) -> Result<List<NamedBlock>, Halt>
+    ensures { Answers result
+        (Ok (record { name = x.now.text; parent = parent; formals = formals; answer = answer; body = body; at = x.now.at } ∷ blocks)) }
+{
+    let name = x.text.duplicate(alloc)?;
+    let own = NamedBlock {
+        name,
+        parent,
+        formals,
+        answer,
+        body: body.into_inner(),
+        at: x.at,
+    };
+    in_front(alloc, own, blocks)
 }
 
 /// A block's parts and statement part.
@@ -62,17 +128,16 @@ pub fn name_block(
     ensures after { OnOk result (scopes.new ≡ inside scopes.old.around (block_local scopes.old.local (block_of b).parts (block_of b).body)) }
 {
     let SynBlock { parts, body } = b;
+    let body = Boxed::new(alloc, body)?;
     let answer = scopes.answer();
-    let block = scopes.block();
+    let indices = indices(alloc, body.get(), scopes.block())?;
     let parts = name_parts(parts, alloc, scopes, first)?;
-    let mut indices = Vec::new(alloc);
-    push_indices(alloc, &body, block, &mut indices)?;
-    let body = name_statement(alloc, scopes, body, parts.first)?;
+    let body = name_boxed_statement(alloc, scopes, body, parts.first)?;
     Ok(Walked {
         tree: BlockParts {
             answer,
             body: body.tree,
-            indices: List::of(indices),
+            indices,
             parts: parts.tree,
         },
         first: body.first,
@@ -113,8 +178,16 @@ fn name_part(
     ensures after { OnOk result (scopes.new ≡ inside scopes.old.around (part_local scopes.old.local (part_of p))) }
 {
     match p {
-        SynPart::Const(x, c) => name_constant(alloc, scopes, &x, &c, first),
-        SynPart::Kind(x, k) => name_type(alloc, scopes, &x, &k, first),
+        SynPart::Const(x, c) => {
+            let t = name_constant(alloc, scopes, &x, &c, first);
+            drop(c);
+            t
+        }
+        SynPart::Kind(x, k) => {
+            let t = name_type(alloc, scopes, &x, &k, first);
+            drop(k);
+            t
+        }
         SynPart::Var(xs, t) => name_variables(alloc, scopes, xs.items(), &t, first),
         SynPart::Proc {
             name,

@@ -10,15 +10,14 @@ ghost use Rattle.sp_scope.specs.Walks.{Walks, itself, seen_block, heading_named,
 ghost use Rattle.sp_scope.specs.Flags.{flags, all_flags};
 ghost use Rattle.sp_scope.specs.Firsts.{answer_first, title_first};
 
+use crate::blocks::block_in_front;
 use crate::declarations::{check_declares, check_kind, kind_number};
 use crate::numbers::{next_block, next_variable};
 use crate::scopes::Scopes;
 use crate::variables::{name_formals, numbers};
 use crate::walked::{BlockParts, Heading, Walked};
 use sp_base::{Halt, List};
-use sp_tree::{
-    Found, Meaning, Name, Named, NamedAnswer, NamedBlock, Role, Sort, SynFormal, Variable, lesser,
-};
+use sp_tree::{Found, Meaning, Name, Named, NamedAnswer, Role, Sort, SynFormal, Variable, lesser};
 use std::alloc::Global;
 
 fn check_answer(scopes: &Scopes, answer: &Option<Name>, first: Found) -> Found
@@ -155,6 +154,20 @@ fn answer_of(variable: u32, answer: &Option<Name>) -> Option<NamedAnswer>
     }
 }
 
+/// The parameters, the result, the declared variables and the indices of a block.
+fn all_variables(
+    formals: List<Variable>,
+    results: List<Variable>,
+    declared: List<Variable>,
+    indices: List<Variable>,
+) -> Result<List<Variable>, Halt>
+    ensures { Answers result (Ok (formals ++ (results ++ (declared ++ indices)))) }
+{
+    let declared = declared.join(indices)?;
+    let results = results.join(declared)?;
+    Ok(formals.join(results)?)
+}
+
 /// What a procedure or function declares, by its heading and its block.
 pub fn procedure_part(
     alloc: Global,
@@ -171,20 +184,16 @@ pub fn procedure_part(
         indices,
         parts,
     } = b;
-    let name = x.text.duplicate(alloc)?;
-    let locals = parts.variables.join(indices)?;
-    let locals = h.results.join(locals)?;
-    let variables = h.formals.join(locals)?;
-    let mut blocks = Vec::new(alloc);
-    blocks.push(NamedBlock {
-        name,
-        parent: Some(h.parent),
-        formals: h.numbers,
-        answer: answer_of(variable, answer),
+    let variables = all_variables(h.formals, h.results, parts.variables, indices)?;
+    let blocks = block_in_front(
+        alloc,
+        x,
+        Some(h.parent),
+        h.numbers,
+        answer_of(variable, answer),
         body,
-        at: x.at,
-    })?;
-    let blocks = List::of(blocks).join(parts.blocks)?;
+        parts.blocks,
+    )?;
     Ok(Named {
         constants: parts.constants,
         kinds: parts.kinds,

@@ -5,18 +5,22 @@ ghost use Rattle.sp_tree.specs.Found.{Answers};
 ghost use Rattle.sp_tree.specs.NamedTree.{indices, form_indices, statements_indices, arms_indices, arm_indices, branches_indices};
 ghost use Rattle.sp_tree.specs.SyntaxOf.{statement_of, statement_form_of, statements, arms, arm_of, branches, branch_of};
 
-use sp_base::Halt;
+use sp_base::{Halt, List};
 use sp_tree::{Role, SynArm, SynBranch, SynForm, SynStmt, Variable};
 use std::alloc::Global;
 
+/// The indices of the foralls in a statement of a block.
+pub fn indices(alloc: Global, s: &SynStmt, block: u32) -> Result<List<Variable>, Halt>
+    ensures { Answers result (Ok (indices block (statement_of s.now))) }
+{
+    let mut out = Vec::new(alloc);
+    push_indices(alloc, s, block, &mut out)?;
+    Ok(List::of(out))
+}
+
 /// Puts the indices of the foralls in a statement of a block behind the variables.
 #[cycle(indices)]
-pub fn push_indices(
-    alloc: Global,
-    s: &SynStmt,
-    block: u32,
-    out: &mut Vec<Variable>,
-) -> Result<(), Halt>
+fn push_indices(alloc: Global, s: &SynStmt, block: u32, out: &mut Vec<Variable>) -> Result<(), Halt>
     ensures memory { Answers result (Ok tt) }
     ensures after { OnOk result (out.new.items ≡ out.old.items ++ indices block (statement_of s.now)) }
 {

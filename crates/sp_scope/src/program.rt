@@ -2,22 +2,24 @@
 
 ghost use Rattle.std.specs.Prelude.{◌≡◌, ◌++◌, ◌∷◌, [], true, false, None, Some, Ok, codes};
 ghost use Rattle.sp_tree.specs.Found.{Answers, AnswersAs};
-ghost use Rattle.sp_tree.specs.NamedTree.{standard_constants, standard_kinds, consoles, program_tables};
+ghost use Rattle.sp_tree.specs.NamedTree.{standard_constants, standard_kinds, consoles, program_tables, inside_named};
+ghost use Rattle.sp_tree.specs.Scopes.{standard, empty};
+ghost use Rattle.sp_tree.specs.SyntaxOf.{block_of};
 ghost use Rattle.sp_tree.specs.NameFirst.{resolved};
 ghost use Rattle.sp_tree.specs.NamedOf as named;
 ghost use Rattle.sp_tree.specs.SyntaxOf as plain;
 ghost use Rattle.sp_tree.specs.declared.checked.Role.TheVariants as role;
 ghost use Rattle.sp_scope.specs.Files.{files_flagged};
-ghost use Rattle.sp_scope.specs.Firsts.{files_first};
-ghost use Rattle.sp_scope.specs.Walks.{seen_block, tables_behind};
+ghost use Rattle.sp_scope.specs.Firsts.{files_first, block_first};
+ghost use Rattle.sp_scope.specs.Walks.{Walks, seen_block, standard_tables, own_tables};
 
-use crate::blocks::name_block;
+use crate::blocks::{beside, block_in_front, name_block};
 use crate::scopes::Scopes;
-use crate::walked::BlockParts;
-use sp_base::{Halt, List, MAXINT, Place, Rule, Text};
+use crate::walked::{BlockParts, Walked};
+use sp_base::{Boxed, Halt, List, MAXINT, Place, Rule, Text};
 use sp_tree::{
-    Found, Name, Named, NamedBlock, NamedConst, NamedConstant, NamedKind, NamedKindForm,
-    NamedValue, Role, Syntax, Variable, breaks, breaks_if, lesser,
+    Found, Name, Named, NamedConst, NamedConstant, NamedKind, NamedKindForm, NamedValue, Role,
+    SynBlock, Syntax, Variable, breaks, breaks_if, lesser,
 };
 use std::alloc::Global;
 
@@ -111,16 +113,24 @@ fn consoles(alloc: Global, at: Place) -> Result<List<Variable>, Halt>
     Ok(List::of(out))
 }
 
-/// The tables of a program, with these standard declarations in front.
-fn tables_behind(
-    alloc: Global,
-    x: &Name,
-    constants: List<NamedConstant>,
-    kinds: List<NamedKind>,
-    consoles: List<Variable>,
-    b: BlockParts,
-) -> Result<Named, Halt>
-    ensures { AnswersAs named.program_of result (Ok (tables_behind x.now constants kinds consoles (seen_block b))) }
+/// The standard declarations, as tables of their own.
+fn standard_tables(alloc: Global, at: Place) -> Result<Named, Halt>
+    ensures { AnswersAs named.program_of result (Ok (standard_tables at)) }
+{
+    let constants = standard_constants(alloc, at)?;
+    let kinds = standard_kinds(alloc, at)?;
+    let variables = consoles(alloc, at)?;
+    Ok(Named {
+        constants,
+        kinds,
+        variables,
+        blocks: List::new(alloc),
+    })
+}
+
+/// What a program declares itself, and its own block.
+fn own_tables(alloc: Global, x: &Name, b: BlockParts) -> Result<Named, Halt>
+    ensures { AnswersAs named.program_of result (Ok (own_tables x.now (seen_block b))) }
 {
     let BlockParts {
         answer: _,
@@ -128,24 +138,11 @@ fn tables_behind(
         indices,
         parts,
     } = b;
-    let name = x.text.duplicate(alloc)?;
-    let constants = constants.join(parts.constants)?;
-    let kinds = kinds.join(parts.kinds)?;
-    let own = parts.variables.join(indices)?;
-    let variables = consoles.join(own)?;
-    let mut blocks = Vec::new(alloc);
-    blocks.push(NamedBlock {
-        name,
-        parent: None,
-        formals: List::new(alloc),
-        answer: None,
-        body,
-        at: x.at,
-    })?;
-    let blocks = List::of(blocks).join(parts.blocks)?;
+    let variables = parts.variables.join(indices)?;
+    let blocks = block_in_front(alloc, x, None, List::new(alloc), None, body, parts.blocks)?;
     Ok(Named {
-        constants,
-        kinds,
+        constants: parts.constants,
+        kinds: parts.kinds,
         variables,
         blocks,
     })
@@ -155,10 +152,19 @@ fn tables_behind(
 fn program_tables(alloc: Global, x: &Name, b: BlockParts) -> Result<Named, Halt>
     ensures { AnswersAs named.program_of result (Ok (program_tables x.now (seen_block b))) }
 {
-    let constants = standard_constants(alloc, x.at)?;
-    let kinds = standard_kinds(alloc, x.at)?;
-    let consoles = consoles(alloc, x.at)?;
-    tables_behind(alloc, x, constants, kinds, consoles, b)
+    let own = own_tables(alloc, x, b)?;
+    let standard = standard_tables(alloc, x.at)?;
+    beside(standard, own)
+}
+
+/// The block of a program, with the standard names around it.
+fn name_program(alloc: Global, block: SynBlock, first: Found) -> Result<Walked<BlockParts>, Halt>
+    ensures { Walks seen_block result (inside_named (standard ∷ []) empty (block_of block).parts (block_of block).body)
+        (block_first (standard ∷ []) empty (block_of block).parts (block_of block).body first) }
+{
+    let block = Boxed::new(alloc, block)?;
+    let mut scopes = Scopes::new(alloc)?;
+    name_block(block.into_inner(), alloc, &mut scopes, first)
 }
 
 /// The tree with numbers for names, or the first rule among N1 to N8 and L4 that is broken: of the earliest place, and of
@@ -172,8 +178,7 @@ pub fn resolve(alloc: Global, syntax: Syntax) -> Result<Named, Halt>
         block,
     } = syntax;
     let first = check_files(heading.items(), None);
-    let mut scopes = Scopes::new(alloc)?;
-    let inner = name_block(block, alloc, &mut scopes, first)?;
+    let inner = name_program(alloc, block, first)?;
     match inner.first {
         Some(r) => Err(Halt::Refused(r)),
         None => program_tables(alloc, &name, inner.tree),

@@ -121,7 +121,7 @@ fn name_call(
 
 /// A statement. The blocks of its foralls are left again, but their indices are counted.
 #[cycle(statement)]
-pub fn name_statement(
+fn name_statement(
     alloc: Global,
     scopes: &mut Scopes,
     s: SynStmt,
@@ -140,7 +140,7 @@ pub fn name_statement(
 }
 
 #[cycle(statement)]
-fn name_boxed_statement(
+pub fn name_boxed_statement(
     alloc: Global,
     scopes: &mut Scopes,
     s: Boxed<SynStmt>,
@@ -441,7 +441,10 @@ fn name_arm(
     ensures after { OnOk result (scopes.new ≡ inside scopes.old.around (arm_local scopes.old.local (arm_of a))) }
 {
     let SynArm { constants, body } = a;
-    let constants = name_constants(alloc, scopes, constants, first)?;
+    let Ok(constants) = name_constants(alloc, scopes, constants, first) else {
+        drop(body);
+        return Err(Halt::Memory);
+    };
     let body = name_statement(alloc, scopes, body, constants.first)?;
     Ok(Walked {
         tree: NamedArm {

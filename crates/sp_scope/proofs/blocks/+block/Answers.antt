@@ -1,4 +1,4 @@
-use Rattle.std.proofs.Common.{rules, ◌≡◌, ap, sym, subst}
+use Rattle.std.proofs.Common.{rules}
 use Rattle.sp_tree.specs.NamedOf as named
 use Rattle.sp_tree.specs.SyntaxOf.{block_of}
 use Rattle.sp_tree.specs.declared.syntax.SynPart.TheFolds.{the_lemmas}

@@ -1,4 +1,4 @@
-use Rattle.std.proofs.Common.{rules, ◌≡◌, map}
+use Rattle.std.proofs.Common.{rules}
 use Rattle.sp_scope.proofs.Scoped.{find_last}
 use Rattle.sp_scope.proofs.scopes.+find_in.Goals as goal
 

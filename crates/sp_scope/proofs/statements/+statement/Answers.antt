@@ -1,4 +1,4 @@
-use Rattle.std.proofs.Common.{rules, ◌≡◌, map}
+use Rattle.std.proofs.Common.{map}
 use Rattle.sp_tree.specs.NamedOf as named
 use Rattle.sp_tree.specs.SyntaxOf.{expression_of}
 use Rattle.sp_scope.proofs.Found.{repeat_found}
