@@ -59,7 +59,11 @@ adds_as a b H K f to from = record {
   stops = turned f.stops (to Stop) (from Stop);
 }
 
--- where the second step may fail
+-- where a step may fail, what follows from it
+pub ok_as : {T E A B : Type 0} (r : Result T E) → OnOk r A → (A → B) → OnOk r B
+ok_as (Ok v) h f = f h
+ok_as (Err e) h f = h
+
 pub ok_then : {T E : Type 0} (r : Result T E) (a b c : Uses) (H K : Use → Type 0) → Adds a b H → OnOk r (Adds b c K) → OnOk r (Adds a c (λ u. H u ⊎ K u))
 ok_then (Ok v) a b c H K f g = adds_then f g
 ok_then (Err e) a b c H K f g = g
@@ -103,19 +107,12 @@ stopped old new e s r t = record {
   stops = turned (put_in old.stops new.stops 0 e 0) (λ i. refl) (λ i. refl);
 }
 
--- a set and all of another, none of which is hidden
-pub union_is : (old other nothing new : VarSet) → ((x : ℕ) → has nothing x ≡ false) → ((x : ℕ) → has new x ≡ has old x || (has other x && not (has nothing x))) → IsUnion old other new
-union_is old other nothing new none e x = (
-  λ h. or_out (has old x) (has other x) (sym (plain x) ∙ h),
-  λ s. plain x ∙ or_in (has old x) (has other x) s,
+-- a set and all of another
+pub union_is : (old other new : VarSet) → ((x : ℕ) → has new x ≡ has old x || has other x) → IsUnion old other new
+union_is old other new e x = (
+  λ h. or_out (has old x) (has other x) (sym (e x) ∙ h),
+  λ s. e x ∙ or_in (has old x) (has other x) s,
 )
-  where
-    shown : (b c : Bool) → c ≡ false → b && not c ≡ b
-    shown true c h = ap not h
-    shown false c h = refl
-
-    plain : (x : ℕ) → has new x ≡ has old x || has other x
-    plain x = e x ∙ ap (λ b. has old x || b) (shown (has other x) (has nothing x) (none x))
 
 pub without_is : (old new : VarSet) (y : ℕ) → ((x : ℕ) → has new x ≡ has old x && not (y == x)) → IsWithout old new y
 without_is old new y e x = (

@@ -1,11 +1,12 @@
 -- The entries of statements and blocks are their sets by paths.
-use Rattle.std.proofs.Common.{◌≡◌, ◌↔◌, ℕ, zero, suc, ◌<◌, Bool, true, false, not, ◌&&◌, List, [], ◌∷◌, length, get_or, slice_get, refl, sym, ap, subst, ◌∙◌, arith, inl, inr, Option, Some, None}
+use Rattle.std.proofs.Common.{◌≡◌, ◌↔◌, ℕ, zero, suc, ◌<◌, Bool, true, false, not, ◌&&◌, List, [], ◌∷◌, length, get_or, slice_get, refl, sym, ap, subst, ◌∙◌, arith, inl, inr, Option, Some, None, Result, Ok, Err, IfOk}
 use Rattle.std.proofs.lemmas.Option.{slice_get_within}
 use Rattle.sp_tree.specs.PlainChecked as p
 use Rattle.sp_tree.specs.Bare.{bare_statement, bare_block, bare}
 use Rattle.sp_tree.specs.Uses.{Target, Seen, Stop, In_stmt}
 use Rattle.sp_tree.proofs.Reached as r
 use Rattle.sp_varsets.specs.declared.bodies.Bodies.{Bodies}
+use Rattle.sp_varsets.specs.declared.find.Reach.{Reach}
 use Rattle.sp_varsets.specs.declared.sets.Entry.{Entry}
 use Rattle.sp_varsets.specs.declared.sets.Sets.{Sets}
 use Rattle.sp_varsets.specs.declared.var_set.VarSet.{VarSet}
@@ -16,6 +17,7 @@ use Rattle.sp_varsets.specs.Bodies.{AreBodies, AreDeclared, IsInBlocks}
 use Rattle.sp_varsets.specs.Members.{has}
 use Rattle.sp_varsets.specs.Parts.{number_of, IsPart}
 use Rattle.sp_varsets.specs.Paths.{member, Closes}
+use Rattle.sp_varsets.specs.Reaches.{Reaches, ArePooled}
 use Rattle.sp_varsets.specs.Records.{pooled, Records, slot_at, Writes}
 use Rattle.sp_varsets.specs.Totals.{AreWithin, AreEntries, AreRowEntries}
 use Rattle.sp_varsets.proofs.Gathering.{in_blocks, of_blocks}
@@ -145,6 +147,34 @@ module _ (c : p.Program) (start walk mid end : Walk) (bodies : Bodies) (hidden f
 
   pub are_sets : AreSets c all
   are_sets = record { statements = statement_is; blocks = block_is }
+
+-- the sets, where there was memory for them
+pub if_found : (c : p.Program) (start walk : Walk) (bodies : Bodies) (reach : Reach) → HaveOwnNumbers c → length start.slots ≡ 0 → Writes start walk (λ t. IsInBlocks c.blocks t) → AreBodies c.blocks bodies (length c.blocks) → Reaches c bodies reach
+    → {E : Type 0} (r : Result Sets E) → IfOk r (λ s. ArePooled walk reach s) → IfOk r (λ s. AreSets c s)
+if_found c start walk bodies reach numbers slots writes are reaches (Err e) h = h
+if_found c start walk bodies reach numbers slots writes are reaches (Ok s) h =
+    let t = reaches.declared.2 in
+    are_sets c start walk (record { alloc = walk.alloc; pool = h.entries.0; slots = walk.slots }) (record { alloc = walk.alloc; pool = s.pool; slots = walk.slots }) bodies reaches.declared.0 reaches.free.0
+    t.closes.0 reach.targets reaches.declared.3.closes.0 reach.seen reaches.free.2.closes.0 reach.stops s.statements s.blocks s.stops s.nothing
+    (record {
+      no_slots = slots;
+      writes = writes;
+      bodies_are = are;
+      declared = reaches.declared.1;
+      free_is = reaches.free.1;
+      targets_shown = t.closes.1;
+      seen_shown = reaches.declared.3.closes.1;
+      stops_shown = reaches.free.2.closes.1;
+      targets_closed = t.closes.2;
+      seen_closed = reaches.declared.3.closes.2;
+      stops_closed = reaches.free.2.closes.2;
+      entries = h.entries.1;
+      row_entries = h.entries.2;
+      count = t.rows ∙ are.aims;
+      flags_are = h.flags;
+      none = h.none;
+    })
+    numbers
 
 pub within_written : (start walk : Walk) (S : p.Statement → Type 0) → length start.slots ≡ 0 → Writes start walk S → AreWithin walk
 within_written start walk S l w n own e = elim (w.only n own e) [

@@ -18,7 +18,7 @@ use Rattle.sp_varsets.specs.Paths.{row_has, member}
 use Rattle.sp_varsets.specs.Bodies.{IsInBlocks, BodyAt, AreBodies, Declares, AreDeclared}
 use Rattle.sp_varsets.proofs.Adding.{Has}
 use Rattle.sp_varsets.proofs.Paths.{row_is, set_same, set_other}
-use Rattle.sp_varsets.proofs.Words.{or_in, or_out, same_truth}
+use Rattle.sp_varsets.proofs.Words.{or_in, or_out}
 
 -- a row put last
 pub member_before : (rows : List VarSet) (s : VarSet) (b x : ℕ) → b < length rows → member (rows ++ s ∷ []) b x ≡ member rows b x

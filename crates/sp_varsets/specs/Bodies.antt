@@ -1,15 +1,19 @@
 -- What stands in the statement parts of blocks, and what blocks declare: the rows from which the closure over calls
 -- starts. The contracts of `bodies` promise it.
-use Rattle.std.specs.Prelude.{◌≡◌, ◌↔◌, ◌⊎◌, ℕ, ◌<◌, true, List, [], ◌∷◌, length, Some, slice_get}
+use Rattle.std.specs.Prelude.{◌≡◌, ◌↔◌, ◌⊎◌, ℕ, ◌<◌, true, List, [], ◌∷◌, ◌++◌, length, Some, slice_get}
 use Rattle.sp_tree.specs.PlainChecked as p
 use Rattle.sp_tree.specs.Bare.{bare_statement}
 use Rattle.sp_tree.specs.Plain.{Actuals, Program, Variable}
 use Rattle.sp_tree.specs.Uses.{Use, Target, Seen, CallOf, Stop, In_stmt}
 use Rattle.sp_tree.specs.Sets.{IsBelow}
 use Rattle.sp_varsets.specs.declared.bodies.Bodies.{Bodies}
+use Rattle.sp_varsets.specs.declared.uses.Uses.{Uses}
 use Rattle.sp_varsets.specs.declared.var_set.VarSet.{VarSet}
+use Rattle.sp_varsets.specs.declared.walk.Walk.{Walk}
+use Rattle.sp_varsets.specs.Adds.{AreEmpty}
 use Rattle.sp_varsets.specs.Parts.{IsPart}
 use Rattle.sp_varsets.specs.Paths.{member}
+use Rattle.sp_varsets.specs.Walks.{WalksStatement}
 
 -- the statement stands in the statement part of one of the blocks
 abbrev pub IsInBlocks : List p.Block → p.Statement → Type 0
@@ -30,6 +34,17 @@ pub record AreBodies (blocks : List p.Block) (bodies : Bodies) (n : ℕ) : Type 
   pub runs : length bodies.runs ≡ n
   pub stops : length bodies.stops ≡ n
   pub each : (b : ℕ) (k : p.Block) → b < n → slice_get blocks b ≡ Some k → BodyAt bodies b (In_stmt (bare_statement k.body))
+
+-- these sets are the last rows
+pub record Puts (old new : Bodies) (uses : Uses) : Type 0 where
+  pub aims : new.aims ≡ old.aims ++ uses.aims ∷ []
+  pub sees : new.sees ≡ old.sees ++ uses.sees ∷ []
+  pub runs : new.runs ≡ old.runs ++ uses.runs ∷ []
+  pub stops : new.stops ≡ old.stops ++ uses.stops ∷ []
+
+-- what stands in this block's statement part is in the last rows, and was recorded
+abbrev pub Enters : (old new : Bodies) → (before after : Walk) → p.Block → Type 0
+Enters old new before after k = (uses : Uses) × Puts old new uses × ((start : Uses) × AreEmpty start × WalksStatement before after start uses k.body)
 
 -- the variable is declared in the block or in one inside it
 abbrev pub IsDeclaredIn : Program → ℕ → ℕ → Type 0

@@ -7,3 +7,4 @@ pub mod Walks
 pub mod Paths
 pub mod Bodies
 pub mod Totals
+pub mod Reaches

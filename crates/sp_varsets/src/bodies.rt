@@ -3,8 +3,9 @@
 ghost use Rattle.std.specs.Prelude.{◌≡◌, ℕ, ◌<◌, ◌≤◌, ◌^◌, false, ◌||◌, ◌&&◌, ◌==◌, not, [], ◌∷◌, ◌++◌, OnOk, IfOk, map, length};
 ghost use Rattle.sp_tree.specs.Bare.{bare};
 ghost use Rattle.sp_tree.specs.CheckedOf.{block_of, program_of};
+ghost use Rattle.sp_varsets.specs.Adds.{AreEmpty};
 ghost use Rattle.sp_varsets.specs.AreSets.{HaveEarlierParents};
-ghost use Rattle.sp_varsets.specs.Bodies.{IsInBlocks, AreBodies, Declares, AreDeclared};
+ghost use Rattle.sp_varsets.specs.Bodies.{IsInBlocks, AreBodies, Puts, Enters, Declares, AreDeclared};
 ghost use Rattle.sp_varsets.specs.Paths.{member};
 ghost use Rattle.sp_varsets.specs.Records.{Writes};
 
@@ -37,31 +38,36 @@ pub(crate) fn gather(walk: &mut Walk, blocks: &[Block]) -> Result<Bodies, Memory
         stops: List::new(alloc),
     };
     for block in blocks {
-        let mut uses = Uses::new(alloc);
-        walk.statement(&mut uses, &block.body)?;
-        bodies.put(uses)?;
+        bodies.walk_in(walk, block)?;
     }
     Ok(bodies)
 }
 
 impl Bodies {
-    // Puts the sets of the next block last.
-    fn put(&mut self, uses: Uses) -> Result<(), Memory>
-        ensures aims { OnOk result (self.new.aims ≡ self.old.aims ++ uses.aims ∷ []) }
-        ensures sees { OnOk result (self.new.sees ≡ self.old.sees ++ uses.sees ∷ []) }
-        ensures runs { OnOk result (self.new.runs ≡ self.old.runs ++ uses.runs ∷ []) }
-        ensures stops { OnOk result (self.new.stops ≡ self.old.stops ++ uses.stops ∷ []) }
+    // Walks through the statement part of the next block.
+    fn walk_in(&mut self, walk: &mut Walk, block: &Block) -> Result<(), Memory>
+        ensures { OnOk result (Enters self.old self.new walk.old walk.new (block_of block.now)) }
     {
-        let Uses {
-            aims,
-            sees,
-            runs,
-            stops,
-        } = uses;
-        self.aims.push(aims)?;
-        self.sees.push(sees)?;
-        self.runs.push(runs)?;
-        self.stops.push(stops)?;
+        let mut uses = Uses::new(walk.alloc);
+        self.fill(walk, &mut uses, block)
+    }
+
+    // The same, with sets of the block's own, which are empty.
+    fn fill(&mut self, walk: &mut Walk, uses: &mut Uses, block: &Block) -> Result<(), Memory>
+        ensures { AreEmpty uses.old → OnOk result (Enters self.old self.new walk.old walk.new (block_of block.now)) }
+    {
+        walk.statement(uses, &block.body)?;
+        self.put(uses)
+    }
+
+    // Puts the sets of the next block last, out of those given.
+    fn put(&mut self, uses: &mut Uses) -> Result<(), Memory>
+        ensures { OnOk result (Puts self.old self.new uses.old) }
+    {
+        self.aims.push(uses.aims.take())?;
+        self.sees.push(uses.sees.take())?;
+        self.runs.push(uses.runs.take())?;
+        self.stops.push(uses.stops.take())?;
         Ok(())
     }
 }

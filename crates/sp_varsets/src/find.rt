@@ -1,19 +1,96 @@
 //! The sets of all statements and blocks of a tree.
 
-ghost use Rattle.std.specs.Prelude.{◌≡◌, IfOk};
-ghost use Rattle.sp_tree.specs.CheckedOf.{program_of};
+ghost use Rattle.std.specs.Prelude.{◌≡◌, ◌^◌, ◌≤◌, IfOk, length, map};
+ghost use Rattle.sp_tree.specs.CheckedOf.{program_of, block_of};
 ghost use Rattle.sp_varsets.specs.AreSets.{AreSets, HaveOwnNumbers, HaveEarlierParents};
+ghost use Rattle.sp_varsets.specs.Bodies.{AreBodies};
+ghost use Rattle.sp_varsets.specs.Reaches.{Reaches, IsClosed, ArePooled};
+ghost use Rattle.sp_varsets.specs.Totals.{AreWithin};
 
-use crate::bodies::{declared, empty_rows, gather, shown};
+use crate::bodies::{Bodies, declared, empty_rows, gather, shown};
 use crate::closure::close;
 use crate::order::inner_first;
 use crate::sets::Sets;
 use crate::totals::{flags, row_entries, statement_entries};
 use crate::var_set::VarSet;
 use crate::walk::Walk;
-use sp_base::Memory;
+use sp_base::{List, Memory};
 use sp_tree::Checked;
 use std::alloc::Global;
+
+/// What paths of calls lead to from each block: target variables, expression variables, and statements that a function
+/// may not have.
+#[derive(Drop)]
+pub(crate) struct Reach {
+    pub targets: List<VarSet>,
+    pub seen: List<VarSet>,
+    pub stops: List<VarSet>,
+}
+
+// The rows but for what is hidden in them, with what paths of calls lead to.
+fn closed(
+    alloc: Global,
+    own: &[VarSet],
+    order: &[u32],
+    runs: &[VarSet],
+    hidden: &[VarSet],
+) -> Result<List<VarSet>, Memory>
+    requires runs { length runs.now ≡ length own.now }
+    requires hidden { length hidden.now ≡ length own.now }
+    requires small { length own.now ≤ 2 ^ 32 }
+    ensures { IfOk result (λ rows. IsClosed runs.now hidden.now own.now rows) }
+{
+    let mut rows = shown(alloc, own, hidden)?;
+    close(&mut rows, order, runs, hidden)?;
+    Ok(rows)
+}
+
+// The rows of all kinds.
+fn reached(alloc: Global, checked: &Checked, bodies: &Bodies) -> Result<Reach, Memory>
+    requires parents { HaveEarlierParents (program_of checked.now) }
+    requires blocks { length checked.now.blocks ≤ 2 ^ 32 }
+    requires variables { length checked.now.variables ≤ 2 ^ 32 }
+    requires bodies { AreBodies (map block_of checked.now.blocks) bodies.now (length checked.now.blocks) }
+    ensures { IfOk result (λ reach. Reaches (program_of checked.now) bodies.now reach) }
+{
+    let order = inner_first(alloc, checked.blocks.items())?;
+    let hidden = declared(checked, alloc)?;
+    let free = empty_rows(alloc, checked.blocks.len())?;
+    let order_items = order.items();
+    let hidden_rows = hidden.items();
+    let free_rows = free.items();
+    let runs = bodies.runs.items();
+    let targets = closed(alloc, bodies.aims.items(), order_items, runs, hidden_rows)?;
+    let seen = closed(alloc, bodies.sees.items(), order_items, runs, hidden_rows)?;
+    let stops = closed(alloc, bodies.stops.items(), order_items, runs, free_rows)?;
+    Ok(Reach {
+        targets,
+        seen,
+        stops,
+    })
+}
+
+// The sets, from what is recorded of statements and from the rows.
+fn pooled(walk: Walk, reach: &Reach) -> Result<Sets, Memory>
+    requires within { AreWithin walk }
+    requires targets { length reach.now.targets ≤ 2 ^ 32 }
+    requires seen { length reach.now.seen ≡ length reach.now.targets }
+    ensures { IfOk result (λ s. ArePooled walk reach.now s) }
+{
+    let mut walk = walk;
+    let targets = reach.targets.items();
+    let seen = reach.seen.items();
+    let statements = statement_entries(&mut walk, targets, seen)?;
+    let blocks = row_entries(&mut walk, targets, seen)?;
+    let stops = flags(walk.alloc, reach.stops.items())?;
+    Ok(Sets {
+        nothing: VarSet::new(walk.alloc),
+        pool: walk.pool,
+        statements,
+        blocks,
+        stops,
+    })
+}
 
 /// The sets of each statement and each block of a tree whose statements have numbers of their own and whose blocks
 /// stand after those around them. The only other answer is want of memory.
@@ -22,45 +99,14 @@ pub fn sets_of(alloc: Global, checked: &Checked) -> Result<Sets, Memory>
     requires parents { HaveEarlierParents (program_of checked.now) }
     ensures { IfOk result (λ s. AreSets (program_of checked.now) s) }
 {
-    let count = checked.blocks.len();
-    let variables = checked.variables.len();
-    if count > 4_294_967_296 {
+    if checked.blocks.len() > 4_294_967_296 {
         return Err(Memory);
     }
-    if variables > 4_294_967_296 {
+    if checked.variables.len() > 4_294_967_296 {
         return Err(Memory);
     }
-    let blocks = checked.blocks.items();
-    let order = inner_first(alloc, blocks)?;
-    let order_items = order.items();
     let mut walk = Walk::new(alloc);
-    let bodies = gather(&mut walk, blocks)?;
-    let hidden = declared(checked, alloc)?;
-    let hidden_rows = hidden.items();
-    let free = empty_rows(alloc, count)?;
-    let free_rows = free.items();
-    let aims = bodies.aims.items();
-    let sees = bodies.sees.items();
-    let runs = bodies.runs.items();
-    let ends = bodies.stops.items();
-    let mut targets = shown(alloc, aims, hidden_rows)?;
-    close(&mut targets, order_items, runs, hidden_rows)?;
-    let mut seen = shown(alloc, sees, hidden_rows)?;
-    close(&mut seen, order_items, runs, hidden_rows)?;
-    let mut stopping = shown(alloc, ends, free_rows)?;
-    close(&mut stopping, order_items, runs, free_rows)?;
-    let target_rows = targets.items();
-    let seen_rows = seen.items();
-    let stop_rows = stopping.items();
-    let statements = statement_entries(&mut walk, target_rows, seen_rows)?;
-    let entries = row_entries(&mut walk, target_rows, seen_rows)?;
-    let stops = flags(alloc, stop_rows)?;
-    let nothing = VarSet::new(alloc);
-    Ok(Sets {
-        nothing,
-        pool: walk.pool,
-        statements,
-        blocks: entries,
-        stops,
-    })
+    let bodies = gather(&mut walk, checked.blocks.items())?;
+    let reach = reached(alloc, checked, &bodies)?;
+    pooled(walk, &reach)
 }

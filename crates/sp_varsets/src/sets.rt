@@ -7,7 +7,7 @@ use crate::var_set::VarSet;
 use sp_base::List;
 
 /// Where the two sets of a statement, or the two implicit ones of a block, stand in the pool.
-#[derive(Clone, Copy, Debug, PartialEq, Eq)]
+#[derive(Clone, Copy)]
 pub(crate) struct Entry {
     pub targets: u32,
     pub expressions: u32,

@@ -16,16 +16,14 @@ impl Uses {
         ensures { OnOk result (Adds self.old self.new (In_stmt (Assign (bare_variable (variable_of v.now)) (bare_expression (expression_of e.now))))) }
     {
         self.target(v)?;
-        self.expression(e)?;
-        Ok(())
+        self.expression(e)
     }
 
     pub(crate) fn call(&mut self, block: u32, args: &[Actual]) -> Result<(), Memory>
         ensures { OnOk result (Adds self.old self.new (In_stmt (Call block (bare_actuals (actuals (map actual_of args.now)))))) }
     {
         self.run(block)?;
-        self.actuals(args)?;
-        Ok(())
+        self.actuals(args)
     }
 
     pub(crate) fn read_value(&mut self, v: &Var) -> Result<(), Memory>
@@ -33,16 +31,14 @@ impl Uses {
     {
         self.aim(0)?;
         self.target(v)?;
-        self.stop()?;
-        Ok(())
+        self.stop()
     }
 
     pub(crate) fn read_line(&mut self) -> Result<(), Memory>
         ensures { OnOk result (Adds self.old self.new (In_stmt ReadLine)) }
     {
         self.aim(0)?;
-        self.stop()?;
-        Ok(())
+        self.stop()
     }
 
     pub(crate) fn write_value(&mut self, e: &Expr, w: &Option<Expr>) -> Result<(), Memory>
@@ -51,8 +47,7 @@ impl Uses {
         self.aim(1)?;
         self.expression(e)?;
         self.width(w)?;
-        self.stop()?;
-        Ok(())
+        self.stop()
     }
 
     pub(crate) fn write_text(&mut self, w: &Option<Expr>) -> Result<(), Memory>
@@ -60,24 +55,21 @@ impl Uses {
     {
         self.aim(1)?;
         self.width(w)?;
-        self.stop()?;
-        Ok(())
+        self.stop()
     }
 
     pub(crate) fn write_line(&mut self) -> Result<(), Memory>
         ensures { OnOk result (Adds self.old self.new (In_stmt WriteLine)) }
     {
         self.aim(1)?;
-        self.stop()?;
-        Ok(())
+        self.stop()
     }
 
     pub(crate) fn open(&mut self, v: &Var) -> Result<(), Memory>
         ensures { OnOk result (Adds self.old self.new (In_stmt (Open (bare_variable (variable_of v.now))))) }
     {
         self.target(v)?;
-        self.stop()?;
-        Ok(())
+        self.stop()
     }
 
     pub(crate) fn send(&mut self, c: &Expr, e: &Expr) -> Result<(), Memory>
@@ -85,8 +77,7 @@ impl Uses {
     {
         self.expression(c)?;
         self.expression(e)?;
-        self.stop()?;
-        Ok(())
+        self.stop()
     }
 
     pub(crate) fn receive(&mut self, c: &Expr, variable: &Var) -> Result<(), Memory>
@@ -94,7 +85,6 @@ impl Uses {
     {
         self.expression(c)?;
         self.target(variable)?;
-        self.stop()?;
-        Ok(())
+        self.stop()
     }
 }

@@ -63,15 +63,13 @@ impl Uses {
     }
 
     /// Adds what stands elsewhere.
-    pub(crate) fn merge(&mut self, other: &Uses, nothing: &VarSet) -> Result<(), Memory>
-        requires nothing { (x : ℕ) → has nothing.now x ≡ false }
+    pub(crate) fn merge(&mut self, other: &Uses) -> Result<(), Memory>
         ensures { OnOk result (AreUnions self.old other.now self.new) }
     {
-        self.aims.add(&other.aims, nothing)?;
-        self.sees.add(&other.sees, nothing)?;
-        self.runs.add(&other.runs, nothing)?;
-        self.stops.add(&other.stops, nothing)?;
-        Ok(())
+        self.aims.join(&other.aims)?;
+        self.sees.join(&other.sees)?;
+        self.runs.join(&other.runs)?;
+        self.stops.join(&other.stops)
     }
 
     /// Leaves out the positions of the variable.

@@ -5,6 +5,7 @@ ghost use Rattle.sp_varsets.specs.Members.{has, IsNext};
 
 use sp_base::{List, Memory};
 use std::alloc::Global;
+use std::mem;
 
 /// A set of variables, by their numbers. Its bits stand in words of 64, none where it is empty.
 #[derive(Drop)]
@@ -162,6 +163,23 @@ impl VarSet {
             let _old = self.words.replace(k, word | more);
         }
         Ok(changed)
+    }
+
+    // Puts in the variables of the other set.
+    pub(crate) fn join(&mut self, other: &VarSet) -> Result<(), Memory>
+        ensures { OnOk result ((x : ℕ) → has self.new x ≡ has self.old x || has other.now x) }
+    {
+        let nothing = VarSet::new(self.words.alloc());
+        let _grew = self.add(other, &nothing)?;
+        Ok(())
+    }
+
+    // Takes all variables out, and gives them.
+    pub(crate) fn take(&mut self) -> VarSet
+        ensures { result ≡ self.old }
+    {
+        let empty = VarSet::new(self.words.alloc());
+        mem::replace(self, empty)
     }
 
     // The word of this number, 0 where there is none.

@@ -1,8 +1,10 @@
 //! The pass over statements: what stands in each of them.
 
 ghost use Rattle.std.specs.Prelude.{◌≡◌, ℕ, ◌+◌, ◌<◌, ◌≤◌, true, false, Some, OnOk, IfOk, map, length};
-ghost use Rattle.sp_tree.specs.Bare.{bare_expression};
+ghost use Rattle.sp_base.specs.declared.place.Place.{Place as APlace};
+ghost use Rattle.sp_tree.specs.PlainChecked as c;
 ghost use Rattle.sp_tree.specs.CheckedOf.{expression_of, variable_of, statement_of, statement_form_of, statements, arm_of, arms, sends, receives};
+ghost use Rattle.sp_varsets.specs.Adds.{AreEmpty};
 ghost use Rattle.sp_varsets.specs.Members.{has};
 ghost use Rattle.sp_varsets.specs.Records.{Extends, Stands, Keeps, slot_at};
 ghost use Rattle.sp_varsets.specs.Walks.{WalksStatement, WalksForm, WalksStatements, WalksArms, WalksElement};
@@ -15,7 +17,7 @@ use std::alloc::Global;
 
 /// What stands in one statement: the sets of its target positions, of its expression positions and of the blocks
 /// called in it. 0 names the empty set, n + 1 the set of place n in the pool.
-#[derive(Clone, Copy, Debug, PartialEq, Eq)]
+#[derive(Clone, Copy)]
 pub(crate) struct Own {
     pub aims: u32,
     pub sees: u32,
@@ -74,18 +76,13 @@ impl Walk {
         Ok(())
     }
 
-    fn keep(&mut self, number: usize, uses: Uses) -> Result<(), Memory>
-        ensures { OnOk result (Keeps self.old self.new number uses) }
+    // Puts the sets into the pool, and records them under this number.
+    fn keep(&mut self, number: usize, uses: &mut Uses) -> Result<(), Memory>
+        ensures { OnOk result (Keeps self.old self.new number uses.old) }
     {
-        let Uses {
-            aims,
-            sees,
-            runs,
-            stops: _,
-        } = uses;
-        let aims = self.put(aims)?;
-        let sees = self.put(sees)?;
-        let runs = self.put(runs)?;
+        let aims = self.put(uses.aims.take())?;
+        let sees = self.put(uses.sees.take())?;
+        let runs = self.put(uses.runs.take())?;
         self.grow(number)?;
         let _old = self.slots.replace(number, Some(Own { aims, sees, runs }));
         Ok(())
@@ -97,10 +94,17 @@ impl Walk {
         ensures { OnOk result (WalksStatement self.old self.new into.old into.new (statement_of s.now)) }
     {
         let mut mine = Uses::new(self.alloc);
-        self.form(&mut mine, &s.form)?;
-        into.merge(&mine, &VarSet::new(self.alloc))?;
-        self.keep(s.number as usize, mine)?;
-        Ok(())
+        self.record(into, &mut mine, s)
+    }
+
+    // The same, with sets of the statement's own, which are empty.
+    #[cycle(walk)]
+    fn record(&mut self, into: &mut Uses, mine: &mut Uses, s: &Stmt) -> Result<(), Memory>
+        ensures { AreEmpty mine.old → OnOk result (WalksStatement self.old self.new into.old into.new (statement_of s.now)) }
+    {
+        self.form(mine, &s.form)?;
+        into.merge(mine)?;
+        self.keep(s.number as usize, mine)
     }
 
     #[cycle(walk)]
@@ -109,38 +113,25 @@ impl Walk {
     {
         match form {
             Form::Empty => Ok(()),
-            Form::Assign(v, e) => {
-                into.assign(v, e)?;
-                Ok(())
-            }
-            Form::Call(f, args) => {
-                into.call(*f, args.items())?;
-                Ok(())
-            }
-            Form::Sequence(ss) => {
-                self.statements(into, ss.items())?;
-                Ok(())
-            }
+            Form::Assign(v, e) => into.assign(v, e),
+            Form::Call(f, args) => into.call(*f, args.items()),
+            Form::Sequence(ss) => self.statements(into, ss.items()),
             Form::If(e, a, None) => {
                 into.expression(e)?;
-                self.statement(into, a.get())?;
-                Ok(())
+                self.statement(into, a.get())
             }
             Form::If(e, a, Some(b)) => {
                 into.expression(e)?;
                 self.statement(into, a.get())?;
-                self.statement(into, b.get())?;
-                Ok(())
+                self.statement(into, b.get())
             }
             Form::While(e, s) => {
                 into.expression(e)?;
-                self.statement(into, s.get())?;
-                Ok(())
+                self.statement(into, s.get())
             }
             Form::Repeat(s, e) => {
                 into.expression(e)?;
-                self.statement(into, s.get())?;
-                Ok(())
+                self.statement(into, s.get())
             }
             Form::For {
                 variable,
@@ -153,18 +144,15 @@ impl Walk {
                 into.aim(*variable)?;
                 into.expression(from)?;
                 into.expression(to)?;
-                self.statement(into, body.get())?;
-                Ok(())
+                self.statement(into, body.get())
             }
             Form::Case(e, choices) => {
                 into.expression(e)?;
-                self.choices(into, choices.items())?;
-                Ok(())
+                self.choices(into, choices.items())
             }
             Form::Parallel(ss) => {
                 self.statements(into, ss.items())?;
-                into.stop()?;
-                Ok(())
+                into.stop()
             }
             Form::Forall {
                 index,
@@ -175,63 +163,29 @@ impl Walk {
                 into.expression(from)?;
                 into.expression(to)?;
                 self.element(into, *index, body.get())?;
-                into.stop()?;
-                Ok(())
+                into.stop()
             }
-            Form::Assume(e) => {
-                into.expression(e)?;
-                Ok(())
-            }
-            Form::ReadValue(v) => {
-                into.read_value(v)?;
-                Ok(())
-            }
-            Form::ReadLine => {
-                into.read_line()?;
-                Ok(())
-            }
-            Form::WriteValue(e, w) => {
-                into.write_value(e, w)?;
-                Ok(())
-            }
-            Form::WriteText(_text, w) => {
-                into.write_text(w)?;
-                Ok(())
-            }
-            Form::WriteLine => {
-                into.write_line()?;
-                Ok(())
-            }
-            Form::Open(v) => {
-                into.open(v)?;
-                Ok(())
-            }
-            Form::Send(c, e) => {
-                into.send(c, e)?;
-                Ok(())
-            }
-            Form::Receive(c, v) => {
-                into.receive(c, v)?;
-                Ok(())
-            }
+            Form::Assume(e) => into.expression(e),
+            Form::ReadValue(v) => into.read_value(v),
+            Form::ReadLine => into.read_line(),
+            Form::WriteValue(e, w) => into.write_value(e, w),
+            Form::WriteText(_text, w) => into.write_text(w),
+            Form::WriteLine => into.write_line(),
+            Form::Open(v) => into.open(v),
+            Form::Send(c, e) => into.send(c, e),
+            Form::Receive(c, v) => into.receive(c, v),
             Form::SendEach {
                 at,
                 number,
                 channel,
                 values,
-            } => {
-                self.sends(into, *number, *at, channel, values.items())?;
-                Ok(())
-            }
+            } => self.sends(into, *number, *at, channel, values.items()),
             Form::ReceiveEach {
                 at,
                 number,
                 channel,
                 variables,
-            } => {
-                self.receives(into, *number, *at, channel, variables.items())?;
-                Ok(())
-            }
+            } => self.receives(into, *number, *at, channel, variables.items()),
         }
     }
 
@@ -241,10 +195,23 @@ impl Walk {
         ensures { OnOk result (WalksElement self.old self.new into.old into.new index (statement_of s.now)) }
     {
         let mut inner = Uses::new(self.alloc);
-        self.statement(&mut inner, s)?;
+        self.inside(into, &mut inner, index, s)
+    }
+
+    // The same, with sets of the element statement's own, which are empty.
+    #[cycle(walk)]
+    fn inside(
+        &mut self,
+        into: &mut Uses,
+        inner: &mut Uses,
+        index: u32,
+        s: &Stmt,
+    ) -> Result<(), Memory>
+        ensures { AreEmpty inner.old → OnOk result (WalksElement self.old self.new into.old into.new index (statement_of s.now)) }
+    {
+        self.statement(inner, s)?;
         inner.forget(index);
-        into.merge(&inner, &VarSet::new(self.alloc))?;
-        Ok(())
+        into.merge(inner)
     }
 
     #[cycle(walk)]
@@ -279,14 +246,42 @@ impl Walk {
         ensures { OnOk result (WalksStatements self.old self.new into.old into.new
             (sends number at (expression_of channel.now) (map expression_of values.now))) }
     {
-        let nothing = VarSet::new(self.alloc);
         for (i, value) in values.iter().enumerate() {
-            let mut mine = Uses::new(self.alloc);
-            mine.send(channel, value)?;
-            into.merge(&mine, &nothing)?;
-            self.keep(number_from(number, i)?, mine)?;
+            self.send(into, number_from(number, i)?, channel, value)?;
         }
         Ok(())
+    }
+
+    // A single send, which has this number.
+    fn send(
+        &mut self,
+        into: &mut Uses,
+        number: usize,
+        channel: &Expr,
+        value: &Expr,
+    ) -> Result<(), Memory>
+        ensures { OnOk result ((at : APlace) → WalksStatement self.old self.new into.old into.new
+            (c.Does number at (c.Send (expression_of channel.now) (expression_of value.now)))) }
+    {
+        let mut mine = Uses::new(self.alloc);
+        self.sent(into, &mut mine, number, channel, value)
+    }
+
+    // The same, with sets of the statement's own, which are empty.
+    fn sent(
+        &mut self,
+        into: &mut Uses,
+        mine: &mut Uses,
+        number: usize,
+        channel: &Expr,
+        value: &Expr,
+    ) -> Result<(), Memory>
+        ensures { AreEmpty mine.old → OnOk result ((at : APlace) → WalksStatement self.old self.new into.old into.new
+            (c.Does number at (c.Send (expression_of channel.now) (expression_of value.now)))) }
+    {
+        mine.send(channel, value)?;
+        into.merge(mine)?;
+        self.keep(number, mine)
     }
 
     // The single statements of several receives.
@@ -301,13 +296,41 @@ impl Walk {
         ensures { OnOk result (WalksStatements self.old self.new into.old into.new
             (receives number at (expression_of channel.now) (map variable_of variables.now))) }
     {
-        let nothing = VarSet::new(self.alloc);
         for (i, variable) in variables.iter().enumerate() {
-            let mut mine = Uses::new(self.alloc);
-            mine.receive(channel, variable)?;
-            into.merge(&mine, &nothing)?;
-            self.keep(number_from(number, i)?, mine)?;
+            self.receive(into, number_from(number, i)?, channel, variable)?;
         }
         Ok(())
+    }
+
+    // A single receive, which has this number.
+    fn receive(
+        &mut self,
+        into: &mut Uses,
+        number: usize,
+        channel: &Expr,
+        variable: &Var,
+    ) -> Result<(), Memory>
+        ensures { OnOk result ((at : APlace) → WalksStatement self.old self.new into.old into.new
+            (c.Does number at (c.Receive (expression_of channel.now) (variable_of variable.now)))) }
+    {
+        let mut mine = Uses::new(self.alloc);
+        self.received(into, &mut mine, number, channel, variable)
+    }
+
+    // The same, with sets of the statement's own, which are empty.
+    fn received(
+        &mut self,
+        into: &mut Uses,
+        mine: &mut Uses,
+        number: usize,
+        channel: &Expr,
+        variable: &Var,
+    ) -> Result<(), Memory>
+        ensures { AreEmpty mine.old → OnOk result ((at : APlace) → WalksStatement self.old self.new into.old into.new
+            (c.Does number at (c.Receive (expression_of channel.now) (variable_of variable.now)))) }
+    {
+        mine.receive(channel, variable)?;
+        into.merge(mine)?;
+        self.keep(number, mine)
     }
 }

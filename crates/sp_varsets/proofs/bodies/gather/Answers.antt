@@ -7,10 +7,12 @@ use Rattle.sp_varsets.proofs.bodies.gather.Goals as goal
 
 pub loop-block-preserved : goal.loop-block-preserved
 loop-block-preserved c =
-    let w = c.in_ok-statement.ensures in (
-      bodies_more (map block_of c.args.blocks.now) c.loop-block.bodies c.put.new.self c.statement.new.into (block_of c.block-item.result) c.loop-block.block-index c.loop-block.invariant.0
+    let e = c.in_ok-walk_in.ensures in
+    let put = e.1 in
+    let w = e.2.2 in (
+      bodies_more (map block_of c.args.blocks.now) c.loop-block.bodies c.walk_in.new.self e.0 (block_of c.block-item.result) c.loop-block.block-index c.loop-block.invariant.0
           (block_at c.args.blocks.now c.loop-block.block-index c.block-item.result c.loop-block-test.true c.block-item.is)
-          c.in_ok-put.ensures.aims c.in_ok-put.ensures.sees c.in_ok-put.ensures.runs c.in_ok-put.ensures.stops (from_empty c.new-uses.ensures w.adds),
+          put.aims put.sees put.runs put.stops (from_empty e.2.1 w.adds),
       λ v f. c.loop-block.invariant.1 v (rw (blocks_on c.args.blocks.now c.loop-block.block-index c.block-item.result c.loop-block-test.true c.block-item.is) (writes_then w.writes f)),
     )
 

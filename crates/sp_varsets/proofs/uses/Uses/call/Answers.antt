@@ -1,8 +1,8 @@
 use Rattle.std.proofs.Common.{map}
 use Rattle.sp_tree.specs.Bare.{bare_actuals}
 use Rattle.sp_tree.specs.CheckedOf.{actual_of, actuals}
-use Rattle.sp_varsets.proofs.Adding.{adds_then}
+use Rattle.sp_varsets.proofs.Adding.{ok_as, adds_then}
 use Rattle.sp_varsets.proofs.uses.Uses.call.Goals as goal
 
 pub returns : goal.returns
-returns c = adds_then (c.in_ok-run.ensures (bare_actuals (actuals (map actual_of c.args.args.now)))) c.in_ok-actuals.ensures
+returns c = ok_as c.actuals.result c.actuals.ensures (adds_then (c.in_ok-run.ensures (bare_actuals (actuals (map actual_of c.args.args.now)))))

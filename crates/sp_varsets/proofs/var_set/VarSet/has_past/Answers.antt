@@ -1,4 +1,4 @@
-use Rattle.std.proofs.Common.{◌≡◌, ◌+◌, ◌*◌, ◌/◌, ◌<◌, ◌≤◌, ◌^◌, true, false, ℕ, length, get_or, arith, rules, refl, subst, ap}
+use Rattle.std.proofs.Common.{◌≡◌, ◌+◌, ◌*◌, ◌/◌, ◌<◌, ◌^◌, true, length, get_or, arith, rules, refl, subst, ap}
 use Rattle.sp_varsets.specs.Members.{in_words}
 use Rattle.sp_varsets.proofs.Words.{some_bit, in_word, below_words, in_word_zero}
 use Rattle.sp_varsets.proofs.var_set.VarSet.has_past.Goals as goal

@@ -1,4 +1,4 @@
-use Rattle.std.proofs.Common.{◌≡◌, false, true, ℕ, ◌+◌, ◌*◌, ◌/◌, ◌<◌, ◌≤◌, ◌-◌, length, get_or, arith, rules, bit_and, ap, ◌∙◌, subst, refl, ◌^◌, ◌≢◌, sym}
+use Rattle.std.proofs.Common.{◌≡◌, false, true, ◌+◌, ◌*◌, ◌<◌, ◌-◌, length, get_or, arith, rules, bit_and, ap, subst, refl, ◌^◌, ◌≢◌, sym}
 use Rattle.sp_varsets.specs.Members.{in_words}
 use Rattle.sp_varsets.proofs.Words.{met_at, not_met, below_words}
 use Rattle.sp_varsets.proofs.var_set.VarSet.meets.Goals as goal

@@ -1,17 +1,15 @@
 use Rattle.std.proofs.Common.{◌+◌, subst}
-use Rattle.sp_tree.specs.PlainChecked.{Receive}
+use Rattle.sp_tree.specs.PlainChecked.{Does, Receive}
 use Rattle.sp_tree.specs.CheckedOf.{expression_of, variable_of}
-use Rattle.sp_varsets.specs.Records.{Keeps}
-use Rattle.sp_varsets.proofs.Walking.{statement_walked, walked_none, walked_both, walked_no_statements, receives_on, receives_end}
+use Rattle.sp_varsets.specs.Walks.{WalksStatement}
+use Rattle.sp_varsets.proofs.Walking.{walked_both, walked_no_statements, receives_on, receives_end}
 use Rattle.sp_varsets.proofs.walk.Walk.receives.Goals as goal
 
 pub loop-i-preserved : goal.loop-i-preserved
 loop-i-preserved c v z f =
     let on = receives_on c.args.variables.now c.loop-i.i c.args.number c.args.at (expression_of c.args.channel.now) c.index-variables-i.result c.loop-i-test.true c.index-variables-i.is in
-    let kept : Keeps c.loop-i.self c.keep.new.self (c.args.number + c.loop-i.i) c.receive.new.self = subst (λ n. Keeps c.loop-i.self c.keep.new.self n c.receive.new.self) c.in_ok-number_from.ensures c.in_ok-keep.ensures in
-    c.loop-i.invariant v z (rw on (walked_both
-    (statement_walked (c.args.number + c.loop-i.i) c.args.at (Receive (expression_of c.args.channel.now) (variable_of c.index-variables-i.result)) c.new-mine.ensures (walked_none c.in_ok-receive.ensures) c.in_ok-merge.ensures kept)
-    f))
+    let one = subst (λ n. WalksStatement c.loop-i.self c.receive.new.self c.loop-i.into c.receive.new.into (Does n c.args.at (Receive (expression_of c.args.channel.now) (variable_of c.index-variables-i.result)))) c.in_ok-number_from.ensures (c.in_ok-receive.ensures c.args.at) in
+    c.loop-i.invariant v z (rw on (walked_both one f))
 
 pub returns : goal.returns
 returns c = c.loop-i.invariant c.loop-i.self c.loop-i.into

@@ -1,17 +1,15 @@
 use Rattle.std.proofs.Common.{◌+◌, subst}
-use Rattle.sp_tree.specs.PlainChecked.{Send}
+use Rattle.sp_tree.specs.PlainChecked.{Does, Send}
 use Rattle.sp_tree.specs.CheckedOf.{expression_of}
-use Rattle.sp_varsets.specs.Records.{Keeps}
-use Rattle.sp_varsets.proofs.Walking.{statement_walked, walked_none, walked_both, walked_no_statements, sends_on, sends_end}
+use Rattle.sp_varsets.specs.Walks.{WalksStatement}
+use Rattle.sp_varsets.proofs.Walking.{walked_both, walked_no_statements, sends_on, sends_end}
 use Rattle.sp_varsets.proofs.walk.Walk.sends.Goals as goal
 
 pub loop-i-preserved : goal.loop-i-preserved
 loop-i-preserved c v z f =
     let on = sends_on c.args.values.now c.loop-i.i c.args.number c.args.at (expression_of c.args.channel.now) c.index-values-i.result c.loop-i-test.true c.index-values-i.is in
-    let kept : Keeps c.loop-i.self c.keep.new.self (c.args.number + c.loop-i.i) c.send.new.self = subst (λ n. Keeps c.loop-i.self c.keep.new.self n c.send.new.self) c.in_ok-number_from.ensures c.in_ok-keep.ensures in
-    c.loop-i.invariant v z (rw on (walked_both
-    (statement_walked (c.args.number + c.loop-i.i) c.args.at (Send (expression_of c.args.channel.now) (expression_of c.index-values-i.result)) c.new-mine.ensures (walked_none c.in_ok-send.ensures) c.in_ok-merge.ensures kept)
-    f))
+    let one = subst (λ n. WalksStatement c.loop-i.self c.send.new.self c.loop-i.into c.send.new.into (Does n c.args.at (Send (expression_of c.args.channel.now) (expression_of c.index-values-i.result)))) c.in_ok-number_from.ensures (c.in_ok-send.ensures c.args.at) in
+    c.loop-i.invariant v z (rw on (walked_both one f))
 
 pub returns : goal.returns
 returns c = c.loop-i.invariant c.loop-i.self c.loop-i.into

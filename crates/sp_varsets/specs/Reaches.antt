@@ -1,0 +1,33 @@
+-- What paths of calls lead to from all blocks, and the sets that are made of it. The contracts of `find` promise it.
+use Rattle.std.specs.Prelude.{◌≡◌, ℕ, false, not, ◌&&◌, List, length, get_or}
+use Rattle.sp_tree.specs.PlainChecked as p
+use Rattle.sp_tree.specs.Bare.{bare}
+use Rattle.sp_varsets.specs.declared.bodies.Bodies.{Bodies}
+use Rattle.sp_varsets.specs.declared.find.Reach.{Reach}
+use Rattle.sp_varsets.specs.declared.sets.Sets.{Sets}
+use Rattle.sp_varsets.specs.declared.var_set.VarSet.{VarSet}
+use Rattle.sp_varsets.specs.declared.walk.Walk.{Walk}
+use Rattle.sp_varsets.specs.Bodies.{AreDeclared}
+use Rattle.sp_varsets.specs.Members.{has}
+use Rattle.sp_varsets.specs.Paths.{member, Closes}
+use Rattle.sp_varsets.specs.Totals.{AreEntries, AreRowEntries}
+
+-- the rows but for what is hidden
+abbrev pub AreShown : (own hidden rows : List VarSet) → Type 0
+AreShown own hidden rows = (b x : ℕ) → member rows b x ≡ member own b x && not (member hidden b x)
+
+-- the new rows are the closure of what is shown of a block's own
+pub record IsClosed (runs hidden own new : List VarSet) : Type 0 where
+  pub rows : length new ≡ length own
+  pub closes : (first : List VarSet) × AreShown own hidden first × Closes runs hidden first new
+
+-- so for all three kinds; statements that stop are hidden nowhere
+pub record Reaches (c : p.Program) (bodies : Bodies) (reach : Reach) : Type 0 where
+  pub declared : (hidden : List VarSet) × AreDeclared (bare c) hidden (length (bare c).variables) × IsClosed bodies.runs hidden bodies.aims reach.targets × IsClosed bodies.runs hidden bodies.sees reach.seen
+  pub free : (free : List VarSet) × ((b x : ℕ) → member free b x ≡ false) × IsClosed bodies.runs free bodies.stops reach.stops
+
+-- the entries name sets of the pool that have what was recorded and what the rows have; the middle pool is the one before the blocks' sets
+pub record ArePooled (walk : Walk) (reach : Reach) (s : Sets) : Type 0 where
+  pub entries : (middle : List VarSet) × AreEntries walk.pool middle walk.slots reach.targets reach.seen s.statements (length walk.slots) × AreRowEntries middle s.pool reach.targets reach.seen s.blocks (length reach.targets)
+  pub flags : (b : ℕ) → get_or s.stops b false ≡ member reach.stops b 0
+  pub none : (x : ℕ) → has s.nothing x ≡ false
