@@ -1,5 +1,5 @@
 -- What is written for the parts of a statement is what is to be written for the statement.
-use Rattle.std.proofs.Common.{◌≡◌, ℕ, suc, ◌+◌, ℤ, List, [], ◌∷◌, ◌++◌, Bool, if◌then◌else◌, Option, Some, None, length, refl, sym, ap, ◌∙◌, arith, append_assoc, length-append, append-nil}
+use Rattle.std.proofs.Common.{◌≡◌, ℕ, suc, ◌+◌, ℤ, List, [], ◌∷◌, ◌++◌, Bool, if◌then◌else◌, Option, Some, None, Result, Ok, Err, OnOk, length, refl, sym, ap, ◌∙◌, arith, append_assoc, length-append, append-nil}
 use Rattle.sp_base.specs.declared.place.Place.{Place}
 use Rattle.sp_tree.specs.PlainChecked as c
 use Rattle.sp_tree.specs.CheckedOf.{sends, receives}
@@ -27,6 +27,16 @@ alone d xs = record { instrs = d.instrs ++ xs; forks = d.forks ++ []; texts = d.
 
 plain_is : (d : Draft) (xs : List Instr) → with_code d xs ≡ alone d xs
 plain_is d xs = λ k. record { instrs = d.instrs ++ xs; forks = sym (append-nil d.forks) k; texts = sym (append-nil d.texts) k }
+
+-- instructions that were written, where all went well
+pub wrote : {T E : Type 0} (r : Result T E) (d e : Draft) (ys xs : List Instr) → OnOk r (ys ≡ d.instrs ++ xs) → with_code d xs ≡ e → OnOk r (drafted ys (d.forks) (d.texts) ≡ e)
+wrote (Ok v) d e ys xs h k = ap (λ (zs : List Instr). drafted zs (d.forks) (d.texts)) h ∙ k
+wrote (Err x) d e ys xs h k = h
+
+-- a draft that was made, where all went well
+pub went : {T E : Type 0} (r : Result T E) (x y z : Draft) → OnOk r (x ≡ y) → y ≡ z → OnOk r (x ≡ z)
+went (Ok v) x y z h k = h ∙ k
+went (Err e) x y z h k = h
 
 two_of : {A : Type 0} (xs ys : List A) (m : ℕ) → length ys ≡ m → length (xs ++ ys) ≡ length xs + m
 two_of xs ys m e = omega (arith, length-append xs ys, e)

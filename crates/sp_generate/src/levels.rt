@@ -9,7 +9,7 @@ use crate::numbers::narrow;
 use sp_base::Memory;
 
 /// A scope: a block, or the element statement of a forall, by the number of its index.
-#[derive(Clone, Copy, Debug, PartialEq, Eq)]
+#[derive(Clone, Copy)]
 pub enum Scope {
     Block(u32),
     Index(u32),

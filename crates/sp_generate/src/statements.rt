@@ -47,7 +47,7 @@ pub fn put_statement(
 }
 
 #[cycle(statement)]
-#[tactic(auto, using(crate::proofs::Forms::sequence_is, crate::proofs::Forms::if_else_is, crate::proofs::Forms::empty_is, crate::proofs::Forms::call_is, crate::proofs::Forms::assume_is, crate::proofs::Forms::read_is, crate::proofs::Forms::readln_is, crate::proofs::Forms::write_is, crate::proofs::Forms::writeln_is, crate::proofs::Forms::open_is, crate::proofs::Forms::send_is, crate::proofs::Forms::receive_is, crate::proofs::Forms::assign_is, crate::proofs::Forms::sends_are, crate::proofs::Forms::receives_are), unfolding(crate::specs::Written::written_form))]
+#[tactic(auto, using(crate::proofs::Forms::empty_is), unfolding(crate::specs::Written::written_form))]
 fn put_statement_form(
     g: &Ground,
     sets: &Sets,

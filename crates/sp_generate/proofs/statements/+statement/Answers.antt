@@ -1,14 +1,18 @@
-use Rattle.std.proofs.Common.{ℕ, List, ◌∷◌, [], ◌++◌, ◌+◌, length, map, sym, ap, ◌∙◌}
-use Rattle.sp_tree.specs.CheckedOf.{statement_of, statements, arms, arm_of}
+use Rattle.std.proofs.Common.{rules, ◌≡◌, ℕ, List, ◌∷◌, [], ◌++◌, ◌+◌, length, map, sym, ap, ◌∙◌}
+use Rattle.sp_tree.specs.declared.checked.Form.TheFolds as folds
+use Rattle.sp_tree.specs.PlainChecked as tree
+use Rattle.sp_tree.specs.CheckedOf.{expression_of, variable_of, actual_of, actuals, width_of, statement_of, statement_form_of, statements, sends, receives, arms, arm_of}
 use Rattle.sp_code.specs.declared.instr.Instr.{Instr}
 use Rattle.sp_code.specs.declared.instr.Instr.TheVariants as i
+use Rattle.sp_code.specs.Scopes.{slot}
+use Rattle.sp_code.specs.Emitted.{value_code}
 use Rattle.sp_generate.specs.Handings.{moved_of, shared_of}
 use Rattle.sp_generate.specs.Steps.{for_instr, next_instr}
-use Rattle.sp_tree.specs.Bare.{bare_arms}
+use Rattle.sp_tree.specs.Bare.{bare_expression, bare_arms}
 use Rattle.sp_generate.specs.declared.levels.Scope.{Scope}
-use Rattle.sp_generate.specs.Written.{written, filled_ends, filled_tests}
+use Rattle.sp_generate.specs.Written.{drafted, with_code, written, written_form, branched, looped, spread, chosen, filled_ends, filled_tests}
 use Rattle.sp_generate.specs.Views.{whole, scopes}
-use Rattle.sp_generate.proofs.Forms.{branch_is, passed_is, loop_is, spread_is, parallel_is, choices_are, one_more, arms_none, children_none}
+use Rattle.sp_generate.proofs.Forms.{wrote, went, if_is, while_is, repeat_is, for_is, forall_is, case_is, assign_is, call_is, assume_is, read_is, readln_is, write_is, writeln_is, open_is, send_is, receive_is, branch_is, passed_is, loop_is, spread_is, parallel_is, choices_are, one_more, arms_none, children_none}
 use Rattle.sp_generate.proofs.statements.+statement.Goals as goal
 
 pub put_branch-returns : goal.put_branch-returns
@@ -61,3 +65,225 @@ put_choices-returns t c =
     choices_are p (moved_of c.args.sets.now) (shared_of c.args.sets.now) (scopes c.args.sc.now) c.args.d.now c.put_arms.new.d (arms (map arm_of c.args.xs.now)) c.put_blanks.new.code c.put.new.code c.fill_ends.new.code c.fill_tests.new.code
     _ _ c.len-first.result c.in_ok-end.end c.len-first.ensures c.in_ok-put_blanks.ensures c.in_ok-put.ensures (sym (arms_none p (moved_of c.args.sets.now) (shared_of c.args.sets.now) (scopes c.args.sc.now) c.put_arms.new.d 0) ∙ c.in_ok-starts.ensures.code) c.in_ok-starts.ensures.starts c.in_ok-starts.ensures.ends (c.in_ok-end.ensures ∙ c.len.ensures) (c.fill_ends.ensures ∙ ap (λ (ys : List ℕ). filled_ends c.put_arms.new.d.instrs ys c.in_ok-end.end) c.as_slice.ensures.value)
     (c.in_ok-fill_tests.ensures ∙ ap (λ (ys : List ℕ). filled_tests c.fill_ends.new.code c.len-first.result (bare_arms (arms (map arm_of c.args.xs.now))) ys) c.as_slice-2.ensures.value)
+
+pub put_statement_form-returns-in-Assign : goal.put_statement_form-returns-in-Assign
+put_statement_form-returns-in-Assign t c =
+    let i : statement_form_of c.args.form.now ≡ tree.Assign (variable_of c.in-Assign.v) (expression_of c.in-Assign.e) = search (rules, folds.the_lemmas) in
+    rw i (wrote c.put_assign.result c.args.d.now _ c.put_assign.new.code _ c.put_assign.ensures
+    (assign_is (whole c.args.g.now) (moved_of c.args.sets.now) (shared_of c.args.sets.now) (scopes c.args.sc.now) c.args.d.now (variable_of c.in-Assign.v) (expression_of c.in-Assign.e)))
+
+pub put_statement_form-returns-in-Call : goal.put_statement_form-returns-in-Call
+put_statement_form-returns-in-Call t c =
+    let i : statement_form_of c.args.form.now ≡ tree.Call c.in-Call.f (actuals (map actual_of c.in-Call.args)) = search (rules, folds.the_lemmas) in
+    rw i (wrote c.put_call.result c.args.d.now _ c.put_call.new.code _ c.put_call.ensures
+    (call_is (whole c.args.g.now) (moved_of c.args.sets.now) (shared_of c.args.sets.now) (scopes c.args.sc.now) c.args.d.now c.in-Call.f (actuals (map actual_of c.in-Call.args))))
+
+pub put_statement_form-returns-in-Sequence : goal.put_statement_form-returns-in-Sequence
+put_statement_form-returns-in-Sequence t c =
+    let i : statement_form_of c.args.form.now ≡ tree.Sequence (statements (map statement_of c.in-Sequence.ss)) = search (rules, folds.the_lemmas) in
+    rw i (c.put_sequence.ensures)
+
+pub put_statement_form-returns-in-If-default-default-None : goal.put_statement_form-returns-in-If-default-default-None
+put_statement_form-returns-in-If-default-default-None t c =
+    let i : statement_form_of c.args.form.now ≡ tree.If (expression_of c.in-If-default-default-None.e) (statement_of c.in-If-default-default-None.a) tree.NoElse = search (rules, folds.the_lemmas) in
+    rw i (rw c.get.ensures at c.put_if.ensures)
+
+pub put_statement_form-returns-in-While : goal.put_statement_form-returns-in-While
+put_statement_form-returns-in-While t c =
+    let i : statement_form_of c.args.form.now ≡ tree.While (expression_of c.in-While.e) (statement_of c.in-While.s) = search (rules, folds.the_lemmas) in
+    rw i (rw c.get-in-While.ensures at c.put_while.ensures)
+
+pub put_statement_form-returns-in-Repeat : goal.put_statement_form-returns-in-Repeat
+put_statement_form-returns-in-Repeat t c =
+    let i : statement_form_of c.args.form.now ≡ tree.Repeat (statement_of c.in-Repeat.s) (expression_of c.in-Repeat.e) = search (rules, folds.the_lemmas) in
+    rw i (rw c.get-in-Repeat.ensures at c.put_repeat.ensures)
+
+pub put_statement_form-returns-in-For : goal.put_statement_form-returns-in-For
+put_statement_form-returns-in-For t c =
+    let i : statement_form_of c.args.form.now ≡ tree.For c.in-For.variable c.in-For.at (expression_of c.in-For.from) c.in-For.down (expression_of c.in-For.to) (statement_of c.in-For.body) = search (rules, folds.the_lemmas) in
+    rw i (rw c.get-in-For.ensures at c.put_for.ensures)
+
+pub put_statement_form-returns-in-Case : goal.put_statement_form-returns-in-Case
+put_statement_form-returns-in-Case t c =
+    let i : statement_form_of c.args.form.now ≡ tree.Case (expression_of c.in-Case.e) (arms (map arm_of c.in-Case.arms)) = search (rules, folds.the_lemmas) in
+    rw i (c.put_case.ensures)
+
+pub put_statement_form-returns-in-Parallel : goal.put_statement_form-returns-in-Parallel
+put_statement_form-returns-in-Parallel t c =
+    let i : statement_form_of c.args.form.now ≡ tree.Parallel (statements (map statement_of c.in-Parallel.ss)) = search (rules, folds.the_lemmas) in
+    rw i (c.put_parallel.ensures)
+
+pub put_statement_form-returns-in-Forall : goal.put_statement_form-returns-in-Forall
+put_statement_form-returns-in-Forall t c =
+    let i : statement_form_of c.args.form.now ≡ tree.Forall c.in-Forall.index (expression_of c.in-Forall.from) (expression_of c.in-Forall.to) (statement_of c.in-Forall.body) = search (rules, folds.the_lemmas) in
+    rw i (rw c.get-in-Forall.ensures at c.put_forall.ensures)
+
+pub put_statement_form-returns-in-Assume : goal.put_statement_form-returns-in-Assume
+put_statement_form-returns-in-Assume t c =
+    let i : statement_form_of c.args.form.now ≡ tree.Assume (expression_of c.in-Assume.e) = search (rules, folds.the_lemmas) in
+    rw i (wrote c.put_assume.result c.args.d.now _ c.put_assume.new.code _ c.put_assume.ensures
+    (assume_is (whole c.args.g.now) (moved_of c.args.sets.now) (shared_of c.args.sets.now) (scopes c.args.sc.now) c.args.d.now (expression_of c.in-Assume.e)))
+
+pub put_statement_form-returns-in-ReadValue : goal.put_statement_form-returns-in-ReadValue
+put_statement_form-returns-in-ReadValue t c =
+    let i : statement_form_of c.args.form.now ≡ tree.ReadValue (variable_of c.in-ReadValue.v) = search (rules, folds.the_lemmas) in
+    rw i (wrote c.put_read.result c.args.d.now _ c.put_read.new.code _ c.put_read.ensures
+    (read_is (whole c.args.g.now) (moved_of c.args.sets.now) (shared_of c.args.sets.now) (scopes c.args.sc.now) c.args.d.now (variable_of c.in-ReadValue.v)))
+
+pub put_statement_form-returns-in-ReadLine : goal.put_statement_form-returns-in-ReadLine
+put_statement_form-returns-in-ReadLine t c =
+    let i : statement_form_of c.args.form.now ≡ tree.ReadLine = search (rules, folds.the_lemmas) in
+    rw i (wrote c.put.result c.args.d.now _ c.put.new.code _ c.put.ensures
+    (readln_is (whole c.args.g.now) (moved_of c.args.sets.now) (shared_of c.args.sets.now) (scopes c.args.sc.now) c.args.d.now))
+
+pub put_statement_form-returns-in-WriteValue : goal.put_statement_form-returns-in-WriteValue
+put_statement_form-returns-in-WriteValue t c =
+    let i : statement_form_of c.args.form.now ≡ tree.WriteValue (expression_of c.in-WriteValue.e) (width_of c.in-WriteValue.w) = search (rules, folds.the_lemmas) in
+    rw i (wrote c.put_write.result c.args.d.now _ c.put_write.new.code _ c.put_write.ensures
+    (write_is (whole c.args.g.now) (moved_of c.args.sets.now) (shared_of c.args.sets.now) (scopes c.args.sc.now) c.args.d.now (expression_of c.in-WriteValue.e) (width_of c.in-WriteValue.w)))
+
+pub put_statement_form-returns-in-WriteText : goal.put_statement_form-returns-in-WriteText
+put_statement_form-returns-in-WriteText t c =
+    let i : statement_form_of c.args.form.now ≡ tree.WriteText c.in-WriteText.text (width_of c.in-WriteText.w) = search (rules, folds.the_lemmas) in
+    rw i (c.put_written.ensures)
+
+pub put_statement_form-returns-in-WriteLine : goal.put_statement_form-returns-in-WriteLine
+put_statement_form-returns-in-WriteLine t c =
+    let i : statement_form_of c.args.form.now ≡ tree.WriteLine = search (rules, folds.the_lemmas) in
+    rw i (wrote c.put-in-WriteLine.result c.args.d.now _ c.put-in-WriteLine.new.code _ c.put-in-WriteLine.ensures
+    (writeln_is (whole c.args.g.now) (moved_of c.args.sets.now) (shared_of c.args.sets.now) (scopes c.args.sc.now) c.args.d.now))
+
+pub put_statement_form-returns-in-Open : goal.put_statement_form-returns-in-Open
+put_statement_form-returns-in-Open t c =
+    let i : statement_form_of c.args.form.now ≡ tree.Open (variable_of c.in-Open.v) = search (rules, folds.the_lemmas) in
+    rw i (wrote c.put_open.result c.args.d.now _ c.put_open.new.code _ c.put_open.ensures
+    (open_is (whole c.args.g.now) (moved_of c.args.sets.now) (shared_of c.args.sets.now) (scopes c.args.sc.now) c.args.d.now (variable_of c.in-Open.v)))
+
+pub put_statement_form-returns-in-Send : goal.put_statement_form-returns-in-Send
+put_statement_form-returns-in-Send t c =
+    let i : statement_form_of c.args.form.now ≡ tree.Send (expression_of c.in-Send.channel) (expression_of c.in-Send.e) = search (rules, folds.the_lemmas) in
+    rw i (wrote c.put_send.result c.args.d.now _ c.put_send.new.code _ c.put_send.ensures
+    (send_is (whole c.args.g.now) (moved_of c.args.sets.now) (shared_of c.args.sets.now) (scopes c.args.sc.now) c.args.d.now (expression_of c.in-Send.channel) (expression_of c.in-Send.e)))
+
+pub put_statement_form-returns-in-Receive : goal.put_statement_form-returns-in-Receive
+put_statement_form-returns-in-Receive t c =
+    let i : statement_form_of c.args.form.now ≡ tree.Receive (expression_of c.in-Receive.channel) (variable_of c.in-Receive.v) = search (rules, folds.the_lemmas) in
+    rw i (wrote c.put_receive.result c.args.d.now _ c.put_receive.new.code _ c.put_receive.ensures
+    (receive_is (whole c.args.g.now) (moved_of c.args.sets.now) (shared_of c.args.sets.now) (scopes c.args.sc.now) c.args.d.now (expression_of c.in-Receive.channel) (variable_of c.in-Receive.v)))
+
+pub put_statement_form-returns-in-SendEach : goal.put_statement_form-returns-in-SendEach
+put_statement_form-returns-in-SendEach t c =
+    let i : statement_form_of c.args.form.now ≡ tree.Sequence (sends c.in-SendEach.number c.in-SendEach.at (expression_of c.in-SendEach.channel) (map expression_of c.in-SendEach.values)) = search (rules, folds.the_lemmas) in
+    rw i (c.put_send_each.ensures)
+
+pub put_statement_form-returns-in-ReceiveEach : goal.put_statement_form-returns-in-ReceiveEach
+put_statement_form-returns-in-ReceiveEach t c =
+    let i : statement_form_of c.args.form.now ≡ tree.Sequence (receives c.in-ReceiveEach.number c.in-ReceiveEach.at (expression_of c.in-ReceiveEach.channel) (map variable_of c.in-ReceiveEach.variables)) = search (rules, folds.the_lemmas) in
+    rw i (c.put_receive_each.ensures)
+
+pub put_statement_form-returns-in_ok-put_branch-in-If-default-default-Some : goal.put_statement_form-returns-in_ok-put_branch-in-If-default-default-Some
+put_statement_form-returns-in_ok-put_branch-in-If-default-default-Some t c =
+    let p = whole c.args.g.now in
+    let mv = moved_of c.args.sets.now in
+    let sh = shared_of c.args.sets.now in
+    let sc = scopes c.args.sc.now in
+    let d = c.args.d.now in
+    let e = expression_of c.in-If-default-default-Some.e in
+    let a = statement_of c.in-If-default-default-Some.a in
+    let i : statement_form_of c.args.form.now ≡ tree.If e a (tree.Else (statement_of c.in-If-default-default-Some.b)) = search (rules, folds.the_lemmas) in
+    let va = value_code p sc (bare_expression e) in
+    let g1 : c.get-in-If-default-default-Some.result.now ≡ c.in-If-default-default-Some.a = search rules in
+    let g2 : c.get-in-If-default-default-Some-2.result.now ≡ c.in-If-default-default-Some.b = search rules in
+    let g3 : c.get-in-If-default-default-Some-3.result.now ≡ c.in-If-default-default-Some.a = search rules in
+    let same : c.get-in-If-default-default-Some.result.now ≡ c.get-in-If-default-default-Some-3.result.now = g1 ∙ sym g3 in
+    let before = c.in_ok-put_branch-in-If-default-default-Some.ensures
+    ∙ (λ j. branched p mv sh (drafted (c.in_ok-put_value-in-If-default-default-Some.ensures j) (d.forks) (d.texts)) sc (statement_of c.get-in-If-default-default-Some.result.now) 1)
+    ∙ (λ j. branched p mv sh (with_code d va) sc (statement_of (same j)) 1) in
+    rw i (went c.put_else.result c.put_else.new.d (written_form p mv sh d sc (tree.If e (statement_of c.get-in-If-default-default-Some-3.result.now) (tree.Else (statement_of c.get-in-If-default-default-Some-2.result.now)))) _ (c.put_else.ensures d before)
+    (λ j. written_form p mv sh d sc (tree.If e (statement_of (g3 j)) (tree.Else (statement_of (g2 j))))))
+
+pub put_if-returns : goal.put_if-returns
+put_if-returns t c =
+    let p = whole c.args.g.now in
+    let mv = moved_of c.args.sets.now in
+    let sh = shared_of c.args.sets.now in
+    let sc = scopes c.args.sc.now in
+    let d = c.args.d.now in
+    let e = expression_of c.args.e.now in
+    let a = statement_of c.args.a.now in
+    went c.put_branch.result c.put_branch.new.d _ _ c.put_branch.ensures
+    (ap (λ (ys : List Instr). branched p mv sh (drafted ys (d.forks) (d.texts)) sc a 0) c.in_ok-put_value.ensures ∙ if_is p mv sh sc d e a)
+
+pub put_while-returns : goal.put_while-returns
+put_while-returns t c =
+    let p = whole c.args.g.now in
+    let mv = moved_of c.args.sets.now in
+    let sh = shared_of c.args.sets.now in
+    let sc = scopes c.args.sc.now in
+    let d = c.args.d.now in
+    let e = expression_of c.args.e.now in
+    let s = statement_of c.args.s.now in
+    let start = c.in_ok-start.ensures ∙ c.len.ensures in
+    went c.put_while_body.result c.put_while_body.new.d _ _ c.put_while_body.ensures
+    ((λ k. looped p mv sh (drafted (c.in_ok-put_value.ensures k) (d.forks) (d.texts)) sc s i.Jumpf (i.Jump (start k))) ∙ while_is p mv sh sc d e s)
+
+pub put_repeat-returns : goal.put_repeat-returns
+put_repeat-returns t c =
+    let p = whole c.args.g.now in
+    let mv = moved_of c.args.sets.now in
+    let sh = shared_of c.args.sets.now in
+    let sc = scopes c.args.sc.now in
+    let d = c.args.d.now in
+    let e = expression_of c.args.e.now in
+    let s = statement_of c.args.s.now in
+    let va = value_code p sc (bare_expression e) in
+    let d2 = c.put_statement.new.d in
+    let start = c.in_ok-start.ensures ∙ c.len.ensures in
+    wrote c.put-2.result (drafted c.put_value.new.code (d2.forks) (d2.texts)) _ c.put-2.new.code _ c.put-2.ensures
+    ((λ k. with_code (drafted (c.in_ok-put_value.ensures k) (d2.forks) (d2.texts)) (i.Jumpf (start k) ∷ []))
+    ∙ (λ k. with_code (with_code (c.in_ok-put_statement.ensures k) va) (i.Jumpf (length d.instrs) ∷ []))
+    ∙ (λ k. with_code (with_code (written p mv sh (drafted (c.in_ok-put.ensures k) (d.forks) (d.texts)) sc s) va) (i.Jumpf (length d.instrs) ∷ []))
+    ∙ repeat_is p mv sh sc d s e)
+
+pub put_for-returns : goal.put_for-returns
+put_for-returns t c =
+    let p = whole c.args.g.now in
+    let mv = moved_of c.args.sets.now in
+    let sh = shared_of c.args.sets.now in
+    let sc = scopes c.args.sc.now in
+    let d = c.args.d.now in
+    let from = expression_of c.args.from.now in
+    let to = expression_of c.args.to.now in
+    let s = statement_of c.args.s.now in
+    let vb = value_code p sc (bare_expression to) in
+    let both = c.in_ok-put_value-2.ensures ∙ ap (λ (ys : List Instr). ys ++ vb) c.in_ok-put_value.ensures in
+    went c.put_for_body.result c.put_for_body.new.d _ _ c.put_for_body.ensures
+    ((λ k. looped p mv sh (drafted (both k) (d.forks) (d.texts)) sc s (for_instr c.args.down (c.slot.ensures k)) (next_instr c.args.down (c.slot.ensures k) (length (both k) + 1)))
+    ∙ for_is p mv sh sc d c.args.x c.args.at from c.args.down to s)
+
+pub put_forall-returns : goal.put_forall-returns
+put_forall-returns t c =
+    let p = whole c.args.g.now in
+    let mv = moved_of c.args.sets.now in
+    let sh = shared_of c.args.sets.now in
+    let sc = scopes c.args.sc.now in
+    let d = c.args.d.now in
+    let from = expression_of c.args.from.now in
+    let to = expression_of c.args.to.now in
+    let s = statement_of c.args.s.now in
+    let vb = value_code p sc (bare_expression to) in
+    let both = c.in_ok-put_value-2.ensures ∙ ap (λ (ys : List Instr). ys ++ vb) c.in_ok-put_value.ensures in
+    went c.put_spread.result c.put_spread.new.d _ _ c.put_spread.ensures
+    (ap (λ (ys : List Instr). spread p mv sh (drafted ys (d.forks) (d.texts)) sc c.args.x s) both ∙ forall_is p mv sh sc d c.args.x from to s)
+
+pub put_case-returns : goal.put_case-returns
+put_case-returns t c =
+    let p = whole c.args.g.now in
+    let mv = moved_of c.args.sets.now in
+    let sh = shared_of c.args.sets.now in
+    let sc = scopes c.args.sc.now in
+    let d = c.args.d.now in
+    let e = expression_of c.args.e.now in
+    let xs = arms (map arm_of c.args.xs.now) in
+    went c.put_choices.result c.put_choices.new.d _ _ c.put_choices.ensures
+    (ap (λ (ys : List Instr). chosen p mv sh (drafted ys (d.forks) (d.texts)) sc xs) c.in_ok-put_value.ensures ∙ case_is p mv sh sc d e xs)
