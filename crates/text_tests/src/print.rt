@@ -13,7 +13,7 @@ fn root(alloc: Global) -> ProcName {
 }
 
 #[test]
-fn a_deadlock_and_a_fault(rt: HostRuntime) -> Result<(), Fail> {
+fn a_deadlock(rt: HostRuntime) -> Result<(), Fail> {
     let channel = ChanName {
         owner: root(rt.alloc()),
         nth: 0,
@@ -29,6 +29,11 @@ fn a_deadlock_and_a_fault(rt: HostRuntime) -> Result<(), Fail> {
         lines.as_slice(),
         b"deadlock\nwaits 0 receive 0#0\n".as_slice()
     );
+    Ok(())
+}
+
+#[test]
+fn a_fault(rt: HostRuntime) -> Result<(), Fail> {
     let fault = End::Fault {
         process: root(rt.alloc()),
         fault: Fault::F5,

@@ -55,72 +55,79 @@ fn check(rt: &impl Abort, alloc: Global, line: &[&str], expected: &str) -> Resul
     Ok(())
 }
 
-#[test]
-fn commands(rt: HostRuntime) -> Result<(), AllocError> {
-    let alloc = rt.alloc();
-    check(&rt, alloc, &["check", "a"], "check a")?;
-    check(&rt, alloc, &["code", "a"], "code a")?;
-    check(&rt, alloc, &["sets", "--", "-a"], "sets -a")?;
-    check(&rt, alloc, &["format", "a.sp"], "format a.sp")?;
-    check(
-        &rt,
-        alloc,
+/// A command line, and what it asks for.
+type Row = (&'static [&'static str], &'static str);
+
+const COMMANDS: [Row; 8] = [
+    (&["check", "a"], "check a"),
+    (&["code", "a"], "code a"),
+    (&["sets", "--", "-a"], "sets -a"),
+    (&["format", "a.sp"], "format a.sp"),
+    (
         &["run", ""],
         "run  4 10000000 1000 4194304 100000 100000 1000000 16777216 End",
-    )?;
-    check(&rt, alloc, &[], "bad words")?;
-    check(&rt, alloc, &["gone", "a"], "bad words")?;
-    check(&rt, alloc, &["check", "a", "--workers=2"], "bad words")
-}
+    ),
+    (&[], "bad words"),
+    (&["gone", "a"], "bad words"),
+    (&["check", "a", "--workers=2"], "bad words"),
+];
 
 #[test]
-fn sizes(rt: HostRuntime) -> Result<(), AllocError> {
-    let alloc = rt.alloc();
-    check(&rt, alloc, &["gen", "3"], "gen 3 4")?;
-    check(&rt, alloc, &["gen", "--workers=64", "1"], "gen 1 64")?;
-    check(
-        &rt,
-        alloc,
-        &["gen", "--workers", "1", "--", "+02000"],
-        "gen 2000 1",
-    )?;
-    check(&rt, alloc, &["gen"], "bad words")?;
-    check(&rt, alloc, &["gen", "--workers=2"], "bad words")?;
-    check(&rt, alloc, &["gen", "1", "2"], "bad words")?;
-    check(&rt, alloc, &["gen", "1", "--ticks=2"], "bad words")?;
-    check(&rt, alloc, &["gen", "1", "--workers=65"], "bad words")?;
-    let beyond = ["0", "2001", "18446744073709551617", "-1", "", "1.", "n"];
-    for word in beyond {
-        check(&rt, alloc, &["gen", word], "bad words")?;
+fn commands(rt: HostRuntime) -> Result<(), AllocError> {
+    for (line, expected) in COMMANDS {
+        check(&rt, rt.alloc(), line, expected)?;
     }
     Ok(())
 }
 
-#[test]
-fn words_refused(rt: HostRuntime) -> Result<(), AllocError> {
-    let alloc = rt.alloc();
-    check(&rt, alloc, &["run"], "bad words")?;
-    check(&rt, alloc, &["run", "--workers", "0", "a"], "bad words")?;
-    check(&rt, alloc, &["run", "--workers", "-1", "a"], "bad words")?;
-    check(&rt, alloc, &["run", "--workers", "--", "a"], "bad words")?;
-    check(&rt, alloc, &["run", "-x", "a"], "bad words")?;
-    check(&rt, alloc, &["run", "-"], "bad words")?;
-    check(&rt, alloc, &["run", "a", "b"], "bad words")?;
-    check(
-        &rt,
-        alloc,
-        &["run", "a", "--ticks", "1", "--ticks=1"],
-        "bad words",
-    )?;
-    check(&rt, alloc, &["run", "--", "a", "--ticks=1"], "bad words")
-}
+const SIZES: [Row; 15] = [
+    (&["gen", "3"], "gen 3 4"),
+    (&["gen", "--workers=64", "1"], "gen 1 64"),
+    (&["gen", "--workers", "1", "--", "+02000"], "gen 2000 1"),
+    (&["gen"], "bad words"),
+    (&["gen", "--workers=2"], "bad words"),
+    (&["gen", "1", "2"], "bad words"),
+    (&["gen", "1", "--ticks=2"], "bad words"),
+    (&["gen", "1", "--workers=65"], "bad words"),
+    (&["gen", "0"], "bad words"),
+    (&["gen", "2001"], "bad words"),
+    (&["gen", "18446744073709551617"], "bad words"),
+    (&["gen", "-1"], "bad words"),
+    (&["gen", ""], "bad words"),
+    (&["gen", "1."], "bad words"),
+    (&["gen", "n"], "bad words"),
+];
 
 #[test]
-fn least_and_greatest(rt: HostRuntime) -> Result<(), AllocError> {
-    let alloc = rt.alloc();
-    check(
-        &rt,
-        alloc,
+fn sizes(rt: HostRuntime) -> Result<(), AllocError> {
+    for (line, expected) in SIZES {
+        check(&rt, rt.alloc(), line, expected)?;
+    }
+    Ok(())
+}
+
+const REFUSED: [&[&str]; 9] = [
+    &["run"],
+    &["run", "--workers", "0", "a"],
+    &["run", "--workers", "-1", "a"],
+    &["run", "--workers", "--", "a"],
+    &["run", "-x", "a"],
+    &["run", "-"],
+    &["run", "a", "b"],
+    &["run", "a", "--ticks", "1", "--ticks=1"],
+    &["run", "--", "a", "--ticks=1"],
+];
+
+#[test]
+fn words_refused(rt: HostRuntime) -> Result<(), AllocError> {
+    for line in REFUSED {
+        check(&rt, rt.alloc(), line, "bad words")?;
+    }
+    Ok(())
+}
+
+const RANGES: [Row; 2] = [
+    (
         &[
             "run",
             "--workers=64",
@@ -137,10 +144,8 @@ fn least_and_greatest(rt: HostRuntime) -> Result<(), AllocError> {
             "--show=waiting",
         ],
         "run a 64 1000000000 10000 67108864 1000000 1000000 10000000 268435456 Waiting",
-    )?;
-    check(
-        &rt,
-        alloc,
+    ),
+    (
         &[
             "run",
             "--workers=1",
@@ -157,33 +162,41 @@ fn least_and_greatest(rt: HostRuntime) -> Result<(), AllocError> {
             "-a",
         ],
         "run -a 1 1 1 1 1 1 1 7 Journal",
-    )
+    ),
+];
+
+#[test]
+fn least_and_greatest(rt: HostRuntime) -> Result<(), AllocError> {
+    for (line, expected) in RANGES {
+        check(&rt, rt.alloc(), line, expected)?;
+    }
+    Ok(())
 }
+
+const BEYOND: [&str; 17] = [
+    "--workers=65",
+    "--ticks=1000000001",
+    "--depth=10001",
+    "--cells=67108865",
+    "--processes=1000001",
+    "--channels=1000001",
+    "--entries=10000001",
+    "--output=268435457",
+    "--show=none",
+    "--workers=",
+    "--ticks=0",
+    "--depth=0",
+    "--cells=0",
+    "--processes=0",
+    "--channels=0",
+    "--entries=0",
+    "--output=0",
+];
 
 #[test]
 fn beyond_each_range(rt: HostRuntime) -> Result<(), AllocError> {
-    let alloc = rt.alloc();
-    let beyond = [
-        "--workers=65",
-        "--ticks=1000000001",
-        "--depth=10001",
-        "--cells=67108865",
-        "--processes=1000001",
-        "--channels=1000001",
-        "--entries=10000001",
-        "--output=268435457",
-        "--show=none",
-        "--workers=",
-        "--ticks=0",
-        "--depth=0",
-        "--cells=0",
-        "--processes=0",
-        "--channels=0",
-        "--entries=0",
-        "--output=0",
-    ];
-    for word in beyond {
-        check(&rt, alloc, &["run", word, "a"], "bad words")?;
+    for word in BEYOND {
+        check(&rt, rt.alloc(), &["run", word, "a"], "bad words")?;
     }
     Ok(())
 }
