@@ -154,7 +154,6 @@ pub fn put_var(g: &Ground, sc: &[Scope], code: &mut List<Instr>, v: &Var) -> Res
 
 /// The selectors behind an address of this type. The answer is the type that they select.
 #[cycle(value)]
-#[tactic(auto, using(crate::proofs::Emitting::select_code, crate::proofs::Emitting::select_type))]
 fn put_selectors(
     g: &Ground,
     sc: &[Scope],
@@ -199,7 +198,6 @@ fn put_selector(
 
 /// The parameters of a call, in order.
 #[cycle(value)]
-#[tactic(auto, using(crate::proofs::Emitting::pass_code))]
 fn put_actuals(
     g: &Ground,
     sc: &[Scope],

@@ -33,7 +33,6 @@ use sp_varsets::Sets;
 
 /// A statement.
 #[cycle(statement)]
-#[tactic(auto, unfolding(crate::specs::Written::written, crate::specs::Written::written_form))]
 pub fn put_statement(
     g: &Ground,
     sets: &Sets,
@@ -169,7 +168,6 @@ fn put_written(
 
 /// The first of several statements.
 #[cycle(statement)]
-#[tactic(auto, using(crate::proofs::Forms::all_step))]
 fn put_next(g: &Ground, sets: &Sets, sc: &[Scope], d: &mut Draft, s: &Stmt) -> Result<(), Memory>
     ensures { (rest : c.Statements)
         → OnOk result (with_all g.now sets.now sc.now d.new rest ≡ with_all g.now sets.now sc.now d.old (c.AndThen (statement_of s.now) rest)) }
@@ -179,7 +177,6 @@ fn put_next(g: &Ground, sets: &Sets, sc: &[Scope], d: &mut Draft, s: &Stmt) -> R
 }
 
 #[cycle(statement)]
-#[tactic(auto, using(crate::proofs::Forms::sequence_done))]
 fn put_sequence(
     g: &Ground,
     sets: &Sets,
@@ -245,7 +242,6 @@ fn put_passed(g: &Ground, sets: &Sets, sc: &[Scope], d: &mut Draft, s: &Stmt) ->
 
 /// The statement behind `else`, where the condition and the first statement stand.
 #[cycle(statement)]
-#[tactic(auto, using(crate::proofs::Forms::else_is))]
 fn put_else(
     g: &Ground,
     sets: &Sets,
@@ -266,7 +262,6 @@ fn put_else(
 }
 
 #[cycle(statement)]
-#[tactic(auto, using(crate::proofs::Forms::if_is))]
 fn put_if(
     g: &Ground,
     sets: &Sets,
@@ -304,7 +299,6 @@ fn put_while_body(
 }
 
 #[cycle(statement)]
-#[tactic(auto, using(crate::proofs::Forms::while_is))]
 fn put_while(
     g: &Ground,
     sets: &Sets,
@@ -321,7 +315,6 @@ fn put_while(
 }
 
 #[cycle(statement)]
-#[tactic(auto, using(crate::proofs::Forms::repeat_is))]
 fn put_repeat(
     g: &Ground,
     sets: &Sets,
@@ -385,7 +378,6 @@ fn put_for_body(
 }
 
 #[cycle(statement)]
-#[tactic(auto, using(crate::proofs::Forms::for_is))]
 fn put_for(
     g: &Ground,
     sets: &Sets,
@@ -445,7 +437,6 @@ fn child_line(g: &Ground, sets: &Sets, s: &Stmt, entry: u32) -> Result<ChildTabl
 
 /// A process statement with an `end` behind.
 #[cycle(statement)]
-#[tactic(auto, using(crate::proofs::Forms::child_next, crate::proofs::Forms::ended_by))]
 fn put_child(g: &Ground, sets: &Sets, sc: &[Scope], d: &mut Draft, s: &Stmt) -> Result<(), Memory>
     ensures code { (rest : c.Statements)
         → OnOk result (with_children g.now sets.now sc.now d.new rest
@@ -538,7 +529,6 @@ fn put_spread(
 }
 
 #[cycle(statement)]
-#[tactic(auto, using(crate::proofs::Forms::forall_is))]
 fn put_forall(
     g: &Ground,
     sets: &Sets,
@@ -618,7 +608,6 @@ fn put_choices(
 }
 
 #[cycle(statement)]
-#[tactic(auto, using(crate::proofs::Forms::case_is))]
 fn put_case(
     g: &Ground,
     sets: &Sets,

@@ -1,13 +1,15 @@
-use Rattle.std.proofs.Common.{rules, ◌≡◌, [], ◌∷◌, ◌++◌, ◌∙◌, ap, map, refl, append_assoc}
+use Rattle.std.proofs.Common.{rules, ◌≡◌, ◌+◌, [], ◌∷◌, ◌++◌, ◌∙◌, ap, map, drop, refl, sym, append_assoc, append-nil}
 use Rattle.sp_tree.specs.declared.checked.Expr.{out-Expr, fold_out-Expr}
 use Rattle.sp_tree.specs.declared.checked.ExprForm as ast_f
 use Rattle.sp_tree.specs.PlainChecked.{At, Read, Unary, Binary}
-use Rattle.sp_tree.specs.CheckedOf.{expression_of, expression_form_of, variable_of, actuals, actual_of}
-use Rattle.sp_tree.specs.Bare.{bare_expression, bare_variable, bare_actuals}
+use Rattle.sp_tree.specs.CheckedOf.{expression_of, expression_form_of, variable_of, selectors, selector_of, actuals, actual_of}
+use Rattle.sp_tree.specs.Bare.{bare_expression, bare_variable, bare_selectors, bare_actuals}
 use Rattle.sp_code.specs.declared.instr.Instr.{Instr}
-use Rattle.sp_code.specs.Emitted.{value_code, var_code, actuals_code}
+use Rattle.sp_code.specs.Scopes.{selected_type}
+use Rattle.sp_code.specs.Emitted.{value_code, var_code, selectors_code, actuals_code}
 use Rattle.sp_generate.specs.Views.{whole, scopes}
-use Rattle.sp_generate.proofs.Emitting.{added, both}
+use Rattle.sp_varsets.proofs.Adding.{selectors_on, selectors_end, actuals_on, actuals_end}
+use Rattle.sp_generate.proofs.Emitting.{added, both, select_code, select_type, pass_code}
 use Rattle.sp_generate.proofs.expressions.+value.Goals as goal
 
 pub put_value-returns : goal.put_value-returns
@@ -49,3 +51,52 @@ put_call-returns t c =
     let sc = scopes c.args.sc.now in
     let passed = actuals_code p sc (bare_actuals (actuals (map actual_of c.args.args.now))) in
     added c.put.result c.args.code.now c.put_actuals.new.code c.put.new.code _ _ _ c.in_ok-put_actuals.ensures c.put.ensures (ap (λ (x : Instr). passed ++ x ∷ []) c.in_ok-call.ensures)
+
+pub put_actuals-loop-a-preserved : goal.put_actuals-loop-a-preserved
+put_actuals-loop-a-preserved t c =
+    let p = whole c.args.g.now in
+    let sc = scopes c.args.sc.now in
+    let rest = actuals (map actual_of (drop (c.loop-a.a-index + 1) c.args.args.now)) in
+    let on = rw c.items-a-items.ensures at (actuals_on c.items-a-items.result.now c.loop-a.a-index c.a-item.result c.loop-a-test.true c.a-item.is) in
+    (λ j. (c.in_ok-put_actual.ensures j) ++ actuals_code p sc (bare_actuals rest))
+    ∙ pass_code p sc c.loop-a.code (actual_of c.a-item.result) rest
+    ∙ (λ j. c.loop-a.code ++ actuals_code p sc (bare_actuals (sym on j)))
+    ∙ c.loop-a.invariant
+
+pub put_actuals-returns : goal.put_actuals-returns
+put_actuals-returns t c =
+    let p = whole c.args.g.now in
+    let sc = scopes c.args.sc.now in
+    let end = rw c.items-a-items.ensures at (actuals_end c.items-a-items.result.now c.loop-a.a-index c.loop-a-test.false) in
+    sym (append-nil c.loop-a.code) ∙ (λ j. c.loop-a.code ++ actuals_code p sc (bare_actuals (sym end j))) ∙ c.loop-a.invariant
+
+pub put_selectors-loop-s-preserved : goal.put_selectors-loop-s-preserved
+put_selectors-loop-s-preserved t c =
+    let p = whole c.args.g.now in
+    let sc = scopes c.args.sc.now in
+    let one = selector_of c.s-item.result in
+    let rest = selectors (map selector_of (drop (c.loop-s.s-index + 1) c.args.ss.now)) in
+    let on = rw c.items-s-items.ensures at (selectors_on c.items-s-items.result.now c.loop-s.s-index c.s-item.result c.loop-s-test.true c.s-item.is) in (
+      (λ j. (c.in_ok-k.ensures.code j) ++ selectors_code p sc (c.in_ok-k.ensures.kind j) (bare_selectors rest))
+          ∙ select_code p sc c.loop-s.code c.loop-s.k one rest
+          ∙ (λ j. c.loop-s.code ++ selectors_code p sc c.loop-s.k (bare_selectors (sym on j)))
+          ∙ c.loop-s.invariant.0,
+      (λ j. selected_type p (c.in_ok-k.ensures.kind j) (bare_selectors rest))
+          ∙ select_type p c.loop-s.k one rest
+          ∙ (λ j. selected_type p c.loop-s.k (bare_selectors (sym on j)))
+          ∙ c.loop-s.invariant.1,
+    )
+
+pub put_selectors-returns-clause-code : goal.put_selectors-returns-clause-code
+put_selectors-returns-clause-code t c =
+    let p = whole c.args.g.now in
+    let sc = scopes c.args.sc.now in
+    let end = rw c.items-s-items.ensures at (selectors_end c.items-s-items.result.now c.loop-s.s-index c.loop-s-test.false) in
+    sym (append-nil c.loop-s.code) ∙ (λ j. c.loop-s.code ++ selectors_code p sc c.loop-s.k (bare_selectors (sym end j))) ∙ c.loop-s.invariant.0
+
+pub put_selectors-returns-clause-kind : goal.put_selectors-returns-clause-kind
+put_selectors-returns-clause-kind t c =
+    let p = whole c.args.g.now in
+    let sc = scopes c.args.sc.now in
+    let end = rw c.items-s-items.ensures at (selectors_end c.items-s-items.result.now c.loop-s.s-index c.loop-s-test.false) in
+    (λ j. selected_type p c.loop-s.k (bare_selectors (sym end j))) ∙ c.loop-s.invariant.1

@@ -1,5 +1,6 @@
-use Rattle.std.proofs.Common.{rules, ◌≡◌, ℕ, List, ◌∷◌, [], ◌++◌, ◌+◌, length, map, sym, ap, ◌∙◌}
+use Rattle.std.proofs.Common.{rules, ◌≡◌, ℕ, List, ◌∷◌, [], ◌++◌, ◌+◌, length, map, drop, sym, ap, ◌∙◌}
 use Rattle.sp_tree.specs.declared.checked.Form.TheFolds as folds
+use Rattle.sp_tree.specs.declared.checked.Stmt.{out-Stmt, fold_out-Stmt}
 use Rattle.sp_tree.specs.PlainChecked as tree
 use Rattle.sp_tree.specs.CheckedOf.{expression_of, variable_of, actual_of, actuals, width_of, statement_of, statement_form_of, statements, sends, receives, arms, arm_of}
 use Rattle.sp_code.specs.declared.instr.Instr.{Instr}
@@ -10,9 +11,10 @@ use Rattle.sp_generate.specs.Handings.{moved_of, shared_of}
 use Rattle.sp_generate.specs.Steps.{for_instr, next_instr}
 use Rattle.sp_tree.specs.Bare.{bare_expression, bare_arms}
 use Rattle.sp_generate.specs.declared.levels.Scope.{Scope}
-use Rattle.sp_generate.specs.Written.{drafted, with_code, written, written_form, branched, looped, spread, chosen, filled_ends, filled_tests}
+use Rattle.sp_generate.specs.Written.{drafted, with_code, written, written_form, written_all, written_children, branched, looped, spread, chosen, filled_ends, filled_tests}
 use Rattle.sp_generate.specs.Views.{whole, scopes}
-use Rattle.sp_generate.proofs.Forms.{wrote, went, if_is, while_is, repeat_is, for_is, forall_is, case_is, assign_is, call_is, assume_is, read_is, readln_is, write_is, writeln_is, open_is, send_is, receive_is, branch_is, passed_is, loop_is, spread_is, parallel_is, choices_are, one_more, arms_none, children_none}
+use Rattle.sp_varsets.proofs.Walking.{statements_on, statements_end}
+use Rattle.sp_generate.proofs.Forms.{wrote, went, statement_is, all_step, sequence_done, else_is, child_next, ended_by, if_is, while_is, repeat_is, for_is, forall_is, case_is, assign_is, call_is, assume_is, read_is, readln_is, write_is, writeln_is, open_is, send_is, receive_is, branch_is, passed_is, loop_is, spread_is, parallel_is, choices_are, one_more, arms_none, children_none}
 use Rattle.sp_generate.proofs.statements.+statement.Goals as goal
 
 pub put_branch-returns : goal.put_branch-returns
@@ -287,3 +289,82 @@ put_case-returns t c =
     let xs = arms (map arm_of c.args.xs.now) in
     went c.put_choices.result c.put_choices.new.d _ _ c.put_choices.ensures
     (ap (λ (ys : List Instr). chosen p mv sh (drafted ys (d.forks) (d.texts)) sc xs) c.in_ok-put_value.ensures ∙ case_is p mv sh sc d e xs)
+
+pub put_statement-returns : goal.put_statement-returns
+put_statement-returns t c =
+    let p = whole c.args.g.now in
+    let mv = moved_of c.args.sets.now in
+    let sh = shared_of c.args.sets.now in
+    let sc = scopes c.args.sc.now in
+    let d = c.args.d.now in
+    let s = out-Stmt c.args.s.now in
+    let i : statement_of c.args.s.now ≡ tree.Does s.number s.at (statement_form_of s.form) = search (rules, fold_out-Stmt) in
+    rw i (went c.put_statement_form.result c.put_statement_form.new.d (written_form p mv sh d sc (statement_form_of s.form)) _ c.put_statement_form.ensures (statement_is p mv sh sc d s.number s.at (statement_form_of s.form)))
+
+pub put_next-returns : goal.put_next-returns
+put_next-returns t c rest =
+    let p = whole c.args.g.now in
+    let mv = moved_of c.args.sets.now in
+    let sh = shared_of c.args.sets.now in
+    let sc = scopes c.args.sc.now in
+    let d = c.args.d.now in
+    (λ j. written_all p mv sh (c.in_ok-put_statement.ensures j) sc rest) ∙ all_step p mv sh sc d (statement_of c.args.s.now) rest
+
+pub put_sequence-returns : goal.put_sequence-returns
+put_sequence-returns t c =
+    let p = whole c.args.g.now in
+    let mv = moved_of c.args.sets.now in
+    let sh = shared_of c.args.sets.now in
+    let sc = scopes c.args.sc.now in
+    let d = c.args.d.now in
+    sequence_done p mv sh sc d c.put_all.new.d (statements (map statement_of c.args.ss.now)) c.in_ok-put_all.ensures
+
+pub put_all-loop-s-preserved : goal.put_all-loop-s-preserved
+put_all-loop-s-preserved t c =
+    let p = whole c.args.g.now in
+    let mv = moved_of c.args.sets.now in
+    let sh = shared_of c.args.sets.now in
+    let sc = scopes c.args.sc.now in
+    let d = c.args.d.now in
+    let on = rw c.items-s-items.ensures at (statements_on c.items-s-items.result.now c.loop-s.s-index c.s-item.result c.loop-s-test.true c.s-item.is) in
+    c.in_ok-put_next.ensures (statements (map statement_of (drop (c.loop-s.s-index + 1) c.args.ss.now))) ∙ (λ j. written_all p mv sh c.loop-s.d sc (sym on j)) ∙ c.loop-s.invariant
+
+pub put_all-returns : goal.put_all-returns
+put_all-returns t c =
+    let p = whole c.args.g.now in
+    let mv = moved_of c.args.sets.now in
+    let sh = shared_of c.args.sets.now in
+    let sc = scopes c.args.sc.now in
+    let d = c.args.d.now in
+    let end = rw c.items-s-items.ensures at (statements_end c.items-s-items.result.now c.loop-s.s-index c.loop-s-test.false) in
+    (λ j. written_all p mv sh c.loop-s.d sc (sym end j)) ∙ c.loop-s.invariant
+
+pub put_else-returns : goal.put_else-returns
+put_else-returns t c start e =
+    let p = whole c.args.g.now in
+    let mv = moved_of c.args.sets.now in
+    let sh = shared_of c.args.sets.now in
+    let sc = scopes c.args.sc.now in
+    let d = c.args.d.now in
+    c.in_ok-put_passed.ensures ∙ else_is p mv sh sc start d (expression_of c.args.e.now) (statement_of c.args.a.now) (statement_of c.args.b.now) e
+
+pub put_child-returns-clause-code : goal.put_child-returns-clause-code
+put_child-returns-clause-code t c rest =
+    let p = whole c.args.g.now in
+    let mv = moved_of c.args.sets.now in
+    let sh = shared_of c.args.sets.now in
+    let sc = scopes c.args.sc.now in
+    let d = c.args.d.now in
+    let d2 = c.put_statement.new.d in
+    (λ j. written_children p mv sh (drafted (c.in_ok-put.ensures j) (d2.forks) (d2.texts)) sc rest)
+    ∙ (λ j. written_children p mv sh (with_code (c.in_ok-put_statement.ensures j) (i.End ∷ [])) sc rest)
+    ∙ child_next p mv sh sc d (statement_of c.args.s.now) rest
+
+pub put_child-returns-clause-place : goal.put_child-returns-clause-place
+put_child-returns-clause-place t c =
+    let p = whole c.args.g.now in
+    let mv = moved_of c.args.sets.now in
+    let sh = shared_of c.args.sets.now in
+    let sc = scopes c.args.sc.now in
+    let d = c.args.d.now in
+    (λ j. length (c.in_ok-put.ensures j)) ∙ (λ j. length ((c.in_ok-put_statement.ensures j).instrs ++ i.End ∷ [])) ∙ ended_by p mv sh sc d (statement_of c.args.s.now) i.End
