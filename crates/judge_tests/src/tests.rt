@@ -1,33 +1,139 @@
 //! Clocks, and the verdicts on journals written by hand.
 
-use sp_base::{ChanName, Fault, List, Pair, ProcName};
+ghost use Rattle.sp_journal.specs.Births.{occurrences, IsNameable};
+ghost use Rattle.sp_past.specs.Prefixes.{IsQuiet};
+
+use sp_base::{ChanName, Fault, List, Memory, Pair, ProcName};
 use sp_journal::{End, Entry, Event, Journal, Verdict, Way};
 use sp_judge::{
     Clock, clocks_say_what_is_known, runs_are_quiet, verdict_of, verdicts_are_exact,
     verdicts_hold_of_runs,
 };
+use std::alloc::Global;
 use std::test::Fail;
 
 #[test]
-fn clocks(rt: HostRuntime) -> Result<(), Fail> {
+fn laws(_rt: HostRuntime) {
     clocks_say_what_is_known();
     runs_are_quiet();
     verdicts_are_exact();
     verdicts_hold_of_runs();
-    let mut clock = Clock::new(rt.alloc());
+}
+
+#[test]
+fn a_new_clock_knows_nothing(rt: HostRuntime) -> Result<(), Fail> {
+    let clock = Clock::new(rt.alloc());
     assert!(rt; !clock.knows(3, 0));
+    Ok(())
+}
+
+// A clock with two entries of process 3.
+fn raised(alloc: Global) -> Result<Clock, Memory> {
+    let mut clock = Clock::new(alloc);
     clock.raise(3, 2)?;
     clock.raise(3, 1)?;
+    Ok(clock)
+}
+
+// A clock with four entries of process 3 and one of process 1.
+fn other(alloc: Global) -> Result<Clock, Memory> {
+    let mut clock = Clock::new(alloc);
+    clock.raise(3, 4)?;
+    clock.raise(1, 1)?;
+    Ok(clock)
+}
+
+fn merged(alloc: Global) -> Result<Clock, Memory> {
+    let other = other(alloc)?;
+    let mut clock = raised(alloc)?;
+    clock.merge(&other)?;
+    Ok(clock)
+}
+
+#[test]
+fn a_clock_keeps_the_greatest_count(rt: HostRuntime) -> Result<(), Fail> {
+    let clock = raised(rt.alloc())?;
     assert!(rt; clock.knows(3, 1));
     assert!(rt; !clock.knows(3, 2));
-    let mut other = Clock::new(rt.alloc());
-    other.raise(3, 4)?;
-    other.raise(1, 1)?;
-    clock.merge(&other)?;
+    Ok(())
+}
+
+#[test]
+fn a_clock_merged_has_the_greater_counts(rt: HostRuntime) -> Result<(), Fail> {
+    let clock = merged(rt.alloc())?;
     assert!(rt; clock.knows(3, 3));
     assert!(rt; clock.knows(1, 0));
     assert!(rt; !clock.knows(1, 1));
     Ok(())
+}
+
+// Whether this is the verdict on a journal and an end.
+fn is_judged(alloc: Global, journal: &Journal, end: &End, wanted: &Verdict) -> Result<bool, Memory>
+    requires nameable { IsNameable journal.now }
+    requires quiet { IsQuiet (occurrences journal.now) }
+{
+    let verdict = verdict_of(alloc, journal, end)?;
+    Ok(verdict == *wanted)
+}
+
+// Whether the journal of a run that was done is ordered.
+fn is_ordered(alloc: Global, journal: Journal) -> Result<bool, Memory>
+    requires nameable { IsNameable journal }
+    requires quiet { IsQuiet (occurrences journal) }
+{
+    is_judged(alloc, &journal, &End::Done, &Verdict::Ordered)
+}
+
+// A race on the root's first channel.
+fn race(alloc: Global, way: Way, earlier: u64, later: u64) -> Verdict {
+    let owner = ProcName {
+        pairs: List::new(alloc),
+    };
+    Verdict::Race {
+        way,
+        channel: ChanName { owner, nth: 0 },
+        earlier,
+        later,
+    }
+}
+
+// Whether the journal of a run that was done has this race.
+fn is_race(
+    alloc: Global,
+    journal: Journal,
+    way: Way,
+    earlier: u64,
+    later: u64,
+) -> Result<bool, Memory>
+    requires nameable { IsNameable journal }
+    requires quiet { IsQuiet (occurrences journal) }
+{
+    let wanted = race(alloc, way, earlier, later);
+    is_judged(alloc, &journal, &End::Done, &wanted)
+}
+
+// Whether the journal of a run that ended in a deadlock is ordered.
+fn is_ordered_in_deadlock(alloc: Global, journal: Journal) -> Result<bool, Memory>
+    requires nameable { IsNameable journal }
+    requires quiet { IsQuiet (occurrences journal) }
+{
+    let waits = End::Deadlock(List::new(alloc));
+    is_judged(alloc, &journal, &waits, &Verdict::Ordered)
+}
+
+// Whether the journal of a run that ended by a fault of this process is not judged.
+fn is_unjudged(alloc: Global, journal: Journal, process: &[Pair]) -> Result<bool, Memory>
+    requires nameable { IsNameable journal }
+    requires quiet { IsQuiet (occurrences journal) }
+{
+    let process = ProcName {
+        pairs: List::from_slice(alloc, process)?,
+    };
+    let fault = End::Fault {
+        process,
+        fault: Fault::F6,
+    };
+    is_judged(alloc, &journal, &fault, &Verdict::Unjudged)
 }
 
 // A program that forks no process: `0 end`.
@@ -42,12 +148,11 @@ fn nothing_to_order(rt: HostRuntime) -> Result<(), Fail> {
     let journal = Journal {
         entries: List::of(entries),
     };
-    let verdict = verdict_of(rt.alloc(), &journal, &End::Done)?;
-    assert!(rt; verdict == Verdict::Ordered);
+    assert!(rt; is_ordered(rt.alloc(), journal)?);
     Ok(())
 }
 
-// A process that receives and waits forever: `0 open`, `0 receive 0#0`. A run that ended by a fault is not judged.
+// A process that receives and waits forever: `0 open`, `0 receive 0#0`.
 #[test]
 fn one_offer(rt: HostRuntime) -> Result<(), Fail> {
     let entries = vec![in rt.alloc();
@@ -63,17 +168,27 @@ fn one_offer(rt: HostRuntime) -> Result<(), Fail> {
     let journal = Journal {
         entries: List::of(entries),
     };
-    let waits = End::Deadlock(List::new(rt.alloc()));
-    let verdict = verdict_of(rt.alloc(), &journal, &waits)?;
-    assert!(rt; verdict == Verdict::Ordered);
-    let fault = End::Fault {
-        process: ProcName {
-            pairs: List::new(rt.alloc()),
+    assert!(rt; is_ordered_in_deadlock(rt.alloc(), journal)?);
+    Ok(())
+}
+
+// The same journal of a run that ended by a fault, which is not judged.
+#[test]
+fn one_offer_and_a_fault(rt: HostRuntime) -> Result<(), Fail> {
+    let entries = vec![in rt.alloc();
+        Entry {
+            process: 0,
+            event: Event::Open,
         },
-        fault: Fault::F6,
+        Entry {
+            process: 0,
+            event: Event::Receive(0),
+        },
+    ]?;
+    let journal = Journal {
+        entries: List::of(entries),
     };
-    let verdict = verdict_of(rt.alloc(), &journal, &fault)?;
-    assert!(rt; verdict == Verdict::Unjudged);
+    assert!(rt; is_unjudged(rt.alloc(), journal, &[])?);
     Ok(())
 }
 
@@ -125,21 +240,7 @@ fn two_senders(rt: HostRuntime) -> Result<(), Fail> {
     let journal = Journal {
         entries: List::of(entries),
     };
-    let verdict = verdict_of(rt.alloc(), &journal, &End::Done)?;
-    assert!(rt;
-        verdict
-            == Verdict::Race {
-                way: Way::Send,
-                channel: ChanName {
-                    owner: ProcName {
-                        pairs: List::new(rt.alloc())
-                    },
-                    nth: 0
-                },
-                earlier: 3,
-                later: 4
-            }
-    );
+    assert!(rt; is_race(rt.alloc(), journal, Way::Send, 3, 4)?);
     Ok(())
 }
 
@@ -191,21 +292,7 @@ fn two_receivers(rt: HostRuntime) -> Result<(), Fail> {
     let journal = Journal {
         entries: List::of(entries),
     };
-    let verdict = verdict_of(rt.alloc(), &journal, &End::Done)?;
-    assert!(rt;
-        verdict
-            == Verdict::Race {
-                way: Way::Receive,
-                channel: ChanName {
-                    owner: ProcName {
-                        pairs: List::new(rt.alloc())
-                    },
-                    nth: 0
-                },
-                earlier: 3,
-                later: 4
-            }
-    );
+    assert!(rt; is_race(rt.alloc(), journal, Way::Receive, 3, 4)?);
     Ok(())
 }
 
@@ -273,8 +360,7 @@ fn used_twice(rt: HostRuntime) -> Result<(), Fail> {
     let journal = Journal {
         entries: List::of(entries),
     };
-    let verdict = verdict_of(rt.alloc(), &journal, &End::Done)?;
-    assert!(rt; verdict == Verdict::Ordered);
+    assert!(rt; is_ordered(rt.alloc(), journal)?);
     Ok(())
 }
 
@@ -334,8 +420,7 @@ fn used_inside(rt: HostRuntime) -> Result<(), Fail> {
     let journal = Journal {
         entries: List::of(entries),
     };
-    let verdict = verdict_of(rt.alloc(), &journal, &End::Done)?;
-    assert!(rt; verdict == Verdict::Ordered);
+    assert!(rt; is_ordered(rt.alloc(), journal)?);
     Ok(())
 }
 
@@ -363,14 +448,7 @@ fn a_second_sender_faults(rt: HostRuntime) -> Result<(), Fail> {
     let journal = Journal {
         entries: List::of(entries),
     };
-    let fault = End::Fault {
-        process: ProcName {
-            pairs: vec![in rt.alloc(); Pair { fork: 0, child: 1 }].map(List::of)?,
-        },
-        fault: Fault::F6,
-    };
-    let verdict = verdict_of(rt.alloc(), &journal, &fault)?;
-    assert!(rt; verdict == Verdict::Unjudged);
+    assert!(rt; is_unjudged(rt.alloc(), journal, &[Pair { fork: 0, child: 1 }])?);
     Ok(())
 }
 
@@ -426,8 +504,7 @@ fn handed_on(rt: HostRuntime) -> Result<(), Fail> {
     let journal = Journal {
         entries: List::of(entries),
     };
-    let verdict = verdict_of(rt.alloc(), &journal, &End::Done)?;
-    assert!(rt; verdict == Verdict::Ordered);
+    assert!(rt; is_ordered(rt.alloc(), journal)?);
     Ok(())
 }
 
@@ -523,8 +600,7 @@ fn pipeline(rt: HostRuntime) -> Result<(), Fail> {
     let journal = Journal {
         entries: List::of(entries),
     };
-    let verdict = verdict_of(rt.alloc(), &journal, &End::Done)?;
-    assert!(rt; verdict == Verdict::Ordered);
+    assert!(rt; is_ordered(rt.alloc(), journal)?);
     Ok(())
 }
 
@@ -608,8 +684,7 @@ fn pipeline_with_pauses(rt: HostRuntime) -> Result<(), Fail> {
     let journal = Journal {
         entries: List::of(entries),
     };
-    let verdict = verdict_of(rt.alloc(), &journal, &End::Done)?;
-    assert!(rt; verdict == Verdict::Ordered);
+    assert!(rt; is_ordered(rt.alloc(), journal)?);
     Ok(())
 }
 
@@ -689,8 +764,7 @@ fn tree(rt: HostRuntime) -> Result<(), Fail> {
     let journal = Journal {
         entries: List::of(entries),
     };
-    let verdict = verdict_of(rt.alloc(), &journal, &End::Done)?;
-    assert!(rt; verdict == Verdict::Ordered);
+    assert!(rt; is_ordered(rt.alloc(), journal)?);
     Ok(())
 }
 
@@ -754,21 +828,7 @@ fn two_senders_with_pauses(rt: HostRuntime) -> Result<(), Fail> {
     let journal = Journal {
         entries: List::of(entries),
     };
-    let verdict = verdict_of(rt.alloc(), &journal, &End::Done)?;
-    assert!(rt;
-        verdict
-            == Verdict::Race {
-                way: Way::Send,
-                channel: ChanName {
-                    owner: ProcName {
-                        pairs: List::new(rt.alloc())
-                    },
-                    nth: 0
-                },
-                earlier: 4,
-                later: 7
-            }
-    );
+    assert!(rt; is_race(rt.alloc(), journal, Way::Send, 4, 7)?);
     Ok(())
 }
 
@@ -849,20 +909,6 @@ fn the_first_that_is_not_known(rt: HostRuntime) -> Result<(), Fail> {
     let journal = Journal {
         entries: List::of(entries),
     };
-    let verdict = verdict_of(rt.alloc(), &journal, &End::Done)?;
-    assert!(rt;
-        verdict
-            == Verdict::Race {
-                way: Way::Send,
-                channel: ChanName {
-                    owner: ProcName {
-                        pairs: List::new(rt.alloc())
-                    },
-                    nth: 0
-                },
-                earlier: 7,
-                later: 11
-            }
-    );
+    assert!(rt; is_race(rt.alloc(), journal, Way::Send, 7, 11)?);
     Ok(())
 }
