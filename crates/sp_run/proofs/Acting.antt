@@ -7,28 +7,34 @@ use Rattle.sp_tree.specs.declared.operators.StandardFn.{StandardFn}
 use Rattle.sp_tree.specs.Plain.{Variable, AtInput}
 use Rattle.sp_tree.specs.Cells.{variables_of}
 use Rattle.sp_meaning.specs.Maps.{at_key}
-use Rattle.sp_meaning.specs.Values.{Value, initials}
-use Rattle.sp_meaning.specs.Own.{Setting, Cell, Input, Tree, Position, Address, Item, Own, Who, same_loc, position_in}
-use Rattle.sp_meaning.specs.Eval.{Given, ValueOf}
+use Rattle.sp_meaning.specs.Values.{Value, initials, get_at}
+use Rattle.sp_meaning.specs.Own.{Setting, Cell, Input, Tree, Position, Address, Item, Own, Who, same_loc, position_in, value_in}
+use Rattle.sp_meaning.specs.Eval.{Given, ValueOf, At}
 use Rattle.sp_meaning.specs.Deeds.{Deed, Stepped, begins, taken_by}
 use Rattle.sp_meaning.specs.Texts.{Taken, line_length}
-use Rattle.sp_run.specs.Direct.{Store, Came, Got, Not, put}
-use Rattle.sp_run.specs.DirectEval.{Calls, kind_at, left_of, input_op, form_value}
+use Rattle.sp_run.specs.Direct.{Store, Came, Got, Not, fetch, put}
+use Rattle.sp_run.specs.DirectEval.{Calls, kind_at, left_of, input_op, checked, read_at, form_value}
 use Rattle.sp_run.specs.DirectDeeds.{lay_one, lay, copy_in, take_in, advance}
 use Rattle.sp_run.specs.Acts.{read_value, read_line}
 
-pub copy_not : (g : Setting) (n x : ℕ) (xs ys : List ℕ) (v : Value) (gs hs : List Given) (w : Who) (o o1 : Own) (s s1 : Store) (u : Unit {0}) (h : Halted) → ys ≡ x ∷ xs → hs ≡ ValueOf v ∷ gs → put (Cell w.name n x) (Tree v) w o s ≡ Got u o1 s1 → copy_in g n xs gs w o1 s1 ≡ Not h → copy_in g n ys hs w o s ≡ Not h
-copy_not g n x xs ys v gs hs w o o1 s s1 u h e1 e2 e3 e4 =
+pub copy_on : (g : Setting) (n x : ℕ) (xs ys : List ℕ) (v : Value) (gs hs : List Given) (w : Who) (o o1 : Own) (s s1 : Store) (u : Unit {0}) → ys ≡ x ∷ xs → hs ≡ ValueOf v ∷ gs → put (Cell w.name n x) (Tree v) w o s ≡ Got u o1 s1 → copy_in g n ys hs w o s ≡ copy_in g n xs gs w o1 s1
+copy_on g n x xs ys v gs hs w o o1 s s1 u e1 e2 e3 =
     let p : o1 ≡ o = cc in
     let q : s1 ≡ at_key same_loc (Cell w.name n x) (Tree v) s = cc in
-    let f = rw (p, q) at e4 in
-    rw (e1, e2) f
+    rw (e1, e2, p, q) refl
 
 pub lay_not : (g : Setting) (n b x y : ℕ) (v : Variable) (vs us : List Variable) (w : Who) (o o1 : Own) (s s1 : Store) (u : Unit {0}) (h : Halted) → us ≡ v ∷ vs → v.block ≡ b → y ≡ x + 1 → lay_one g n (x, v) (begins (initials g.program.kinds) v.role v.kind) w o s ≡ Got u o1 s1 → lay g n (variables_of b y vs) w o1 s1 ≡ Not h → lay g n (variables_of b x us) w o s ≡ Not h
 lay_not g n b x y v vs us w o o1 s s1 u h e1 e2 e3 e4 e5 =
     let k : y ≡ suc x = omega arith in
     let f = rw k at e5 in
     rw (e1, eq-eqb v.block b e2, e4) f
+
+pub read_is : (g : Setting) (a : Address) (w : Who) (o o1 : Own) (s s1 : Store) (k : KindOf) (v : Value) → kind_at g a.kind w o s ≡ Got k o s → fetch a w o s ≡ Got v o1 s1 → read_at g (At a) w o s ≡ checked k v w o1 s1
+read_is g a w o o1 s s1 k v e1 e2 =
+    let l : get_at a.path (value_in (s a.spot)) ≡ v = cc in
+    let p : o1 ≡ o = cc in
+    let q : s1 ≡ s = cc in
+    rw (e1, p, q) (ap (λ x. checked k x w o s) l)
 
 pub line_read : (g : Setting) (todo : List Item) (w : Who) (o o1 o2 : Own) (s s1 s2 : Store) (left : List ℕ) (n : ℕ) (u : Unit {0}) → left_of g w o s ≡ Got left o1 s1 → n ≡ line_length left → advance g n w o1 s1 ≡ Got u o2 s2 → read_line g todo w o s ≡ Got (Stepped todo) o2 s2
 line_read g todo w o o1 o2 s s1 s2 left n u e1 e2 e3 =

@@ -4,19 +4,15 @@ use Rattle.std.specs.Prelude.{◌≢◌}
 use Rattle.sp_run.specs.declared.machine.Setting as set
 use Rattle.sp_run.specs.declared.state.Became.{Became}
 use Rattle.sp_run.specs.declared.state.State.{State}
-use Rattle.sp_run.specs.declared.state.Offer.{Offer}
-use Rattle.sp_journal.specs.declared.entry.Way.{Way}
 use Rattle.sp_meaning.specs.Model as m
-use Rattle.sp_meaning.specs.Model.{Name, Channel}
+use Rattle.sp_meaning.specs.Model.{Name}
 use Rattle.sp_meaning.specs.Own as o
 use Rattle.sp_meaning.specs.Runs.{StateOf, running}
 use Rattle.sp_meaning.specs.Steps.{way_of, working_in}
 use Rattle.sp_meaning.specs.Ends.{Waiting, IsIn, IsSorted, IsIdle, WaitsSo}
 use Rattle.sp_run.specs.Machines.{setting_of}
-use Rattle.sp_run.specs.Views.{plain_channel}
-use Rattle.sp_run.specs.Doings.{plain_cargo}
-use Rattle.sp_run.specs.States.{Standing, plain_condition, plain_offer, offer_in, conditions_of, state_of}
-use Rattle.sp_run.specs.Meanings.{inserted, AreWaiting}
+use Rattle.sp_run.specs.States.{Standing, plain_condition, offer_in, conditions_of, state_of}
+use Rattle.sp_run.specs.Meanings.{inserted, with_offer, AreWaiting}
 use Rattle.sp_run.proofs.Sorting.{sorted_inserted, in_inserted, inserted_keeps, inserted_has, waits_once, entered}
 
 -- the name of an entry
@@ -59,7 +55,7 @@ below_nothing run s = record { sorted = tt; only = λ w i. absurd i; whole = λ 
 at_or_below : (k i : ℕ) → k < suc i → (k < i) ⊎ (k ≡ i)
 at_or_below k i h = grind arith
 
-pub below_waits : (run : set.Setting) (s : State) (i : ℕ) (vs : List Waiting) (f : m.Offer o.Process o.Held o.Address) → AreBelow run s i vs
+below_waits : (run : set.Setting) (s : State) (i : ℕ) (vs : List Waiting) (f : m.Offer o.Process o.Held o.Address) → AreBelow run s i vs
     → offer_in (conditions_of s.conditions (name_at s.conditions i)) ≡ Some f
     → AreBelow run s (suc i) (inserted (record { who = name_at s.conditions i; way = way_of f.cargo; channel = f.channel }) vs)
 unfolding state_of
@@ -78,7 +74,7 @@ below_waits run s i vs f h e =
           (at_or_below k i l);
     }
 
-pub below_past : (run : set.Setting) (s : State) (i : ℕ) (vs : List Waiting) → AreBelow run s i vs → offer_in (conditions_of s.conditions (name_at s.conditions i)) ≡ None → AreBelow run s (suc i) vs
+below_past : (run : set.Setting) (s : State) (i : ℕ) (vs : List Waiting) → AreBelow run s i vs → offer_in (conditions_of s.conditions (name_at s.conditions i)) ≡ None → AreBelow run s (suc i) vs
 unfolding state_of
 below_past run s i vs h e = record {
   sorted = h.sorted;
@@ -90,22 +86,16 @@ below_past run s i vs h e = record {
       (at_or_below k i l);
 }
 
-pub below_on : (run : set.Setting) (s : State) (i : ℕ) (b : Became) (vs us : List Waiting) (f : Offer) (who : Name) (way : Way) (on : Channel) → AreBelow run s i vs
-    → i < length s.conditions → b ≡ get_or s.conditions i b → Some (plain_offer f) ≡ offer_in (conditions_of s.conditions b.name)
-    → who ≡ b.name → way ≡ way_of (plain_cargo f.cargo) → on ≡ plain_channel f.channel → us ≡ inserted (record { who = who; way = way; channel = on }) vs → AreBelow run s (i + 1) us
-below_on run s i b vs us f who way on h l e o p q r u =
-    let at : name_at s.conditions i ≡ b.name = name_at_is s.conditions i b l e in
-    let x : name_at s.conditions i ≡ who = at ∙ sym p in
-    let y : way_of (plain_cargo f.cargo) ≡ way = sym q in
-    let z : plain_channel f.channel ≡ on = sym r in
-    let is : offer_in (conditions_of s.conditions (name_at s.conditions i)) ≡ Some (plain_offer f) = ap (λ (n : Name). offer_in (conditions_of s.conditions n)) at ∙ sym o in
-    rw (u, add-one) (subst (λ (v : Waiting). AreBelow run s (suc i) (inserted v vs)) (λ n. record { who = x n; way = y n; channel = z n }) (below_waits run s i vs (plain_offer f) h is))
+below_one : (run : set.Setting) (s : State) (i : ℕ) (vs : List Waiting) (x : Option (m.Offer o.Process o.Held o.Address)) → AreBelow run s i vs
+    → offer_in (conditions_of s.conditions (name_at s.conditions i)) ≡ x → AreBelow run s (suc i) (with_offer (name_at s.conditions i) x vs)
+below_one run s i vs None h e = below_past run s i vs h e
+below_one run s i vs (Some f) h e = below_waits run s i vs f h e
 
-pub below_off : (run : set.Setting) (s : State) (i : ℕ) (b : Became) (vs : List Waiting) → AreBelow run s i vs
-    → i < length s.conditions → b ≡ get_or s.conditions i b → None ≡ offer_in (conditions_of s.conditions b.name) → AreBelow run s (i + 1) vs
-below_off run s i b vs h l e o =
+pub below_next : (run : set.Setting) (s : State) (i : ℕ) (b : Became) (vs us : List Waiting) → AreBelow run s i vs
+    → i < length s.conditions → b ≡ get_or s.conditions i b → us ≡ with_offer b.name (offer_in (conditions_of s.conditions b.name)) vs → AreBelow run s (i + 1) us
+below_next run s i b vs us h l e u =
     let at : name_at s.conditions i ≡ b.name = name_at_is s.conditions i b l e in
-    rw add-one (below_past run s i vs h (ap (λ (n : Name). offer_in (conditions_of s.conditions n)) at ∙ sym o))
+    rw (u, add-one) (subst (λ (n : Name). AreBelow run s (suc i) (with_offer n (offer_in (conditions_of s.conditions n)) vs)) at (below_one run s i vs (offer_in (conditions_of s.conditions (name_at s.conditions i))) h refl))
 
 pub below_all : (run : set.Setting) (s : State) (i : ℕ) (vs : List Waiting) → AreBelow run s i vs → length s.conditions ≤ i → AreWaiting (setting_of run) (state_of run s) vs
 unfolding state_of

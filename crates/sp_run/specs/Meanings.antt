@@ -5,8 +5,9 @@ use Rattle.sp_base.specs.declared.name.Pair.{Pair}
 use Rattle.sp_base.specs.declared.name.ProcName.{ProcName}
 use Rattle.sp_run.specs.declared.run.Meant.{Meant}
 use Rattle.sp_run.specs.declared.ends.Pending.{Pending}
-use Rattle.sp_meaning.specs.Model.{Name}
-use Rattle.sp_meaning.specs.Own.{Setting, Process}
+use Rattle.sp_meaning.specs.Model.{Name, Offer}
+use Rattle.sp_meaning.specs.Steps.{way_of}
+use Rattle.sp_meaning.specs.Own.{Setting, Process, Held, Address}
 use Rattle.sp_meaning.specs.Runs.{StateOf, running, output_of}
 use Rattle.sp_meaning.specs.Fronts.{longest}
 use Rattle.sp_meaning.specs.Ends.{Waiting, IsIn, IsSorted, IsIdle, WaitsSo, EndsSo, name_before}
@@ -40,6 +41,11 @@ Idles g s false = (q : Name) × (own : Process) × (running g s q ≡ Some own)
 abbrev pub inserted : Waiting → List Waiting → List Waiting
 inserted w [] = w ∷ []
 inserted w (v ∷ vs) = if name_before w.who v.who then w ∷ v ∷ vs else (if name_before v.who w.who then v ∷ inserted w vs else v ∷ vs)
+
+-- those that wait with one process more, if it has an offer
+abbrev pub with_offer : Name → Option (Offer Process Held Address) → List Waiting → List Waiting
+with_offer p None ws = ws
+with_offer p (Some f) ws = inserted (record { who = p; way = way_of f.cargo; channel = f.channel }) ws
 
 -- where that place is, or none where its name is there
 abbrev pub Places : Waiting → List Waiting → Option ℕ → Type 0

@@ -292,8 +292,7 @@ fn turn_after<'a>(
         (turn_of (setting_of run.now) variable (next_value down n) limit down (stmt_of body.now) (items_of todo.old.items)) }
 {
     let n = next_value(down, n)?;
-    let d = take!(turn_of(run, who, machine, variable, n, limit, down, body, todo));
-    Ok(Ok(d))
+    turn_of(run, who, machine, variable, n, limit, down, body, todo)
 }
 
 /// The next turn of a `for` loop.
@@ -313,8 +312,7 @@ pub fn next_turn<'a>(
     let q = take!(place_of(run, who, machine, variable));
     let v = take!(read_at(run, who, machine, &q));
     let n = take!(ordinal(run, who, machine, &v));
-    let d = take!(turn_after(run, who, machine, variable, n, limit, down, body, todo));
-    Ok(Ok(d))
+    turn_after(run, who, machine, variable, n, limit, down, body, todo)
 }
 
 /// The end of a procedure.

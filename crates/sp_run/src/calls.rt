@@ -184,8 +184,7 @@ fn copy_in(
                 variable: *x as usize,
             };
             take!(put(run, who, machine, at, Held::Tree(v)));
-            take!(copy_in(run, who, machine, frame, xs, gs));
-            Ok(Ok(()))
+            copy_in(run, who, machine, frame, xs, gs)
         }
         Given::Place(_) => copy_in(run, who, machine, frame, xs, gs),
     }
@@ -280,8 +279,7 @@ fn entered<'a>(
         references,
     };
     push_frame(run, machine, frame)?;
-    let b = take!(laid(run, who, machine, number, f, b, given));
-    Ok(Ok(b))
+    laid(run, who, machine, number, f, b, given)
 }
 
 /// A call, after its arguments: tick, depth, cells, the new frame.
@@ -300,8 +298,7 @@ pub fn enter<'a>(
             take!(deepen(run, who, machine));
             let size = size_of_frame(run, f as usize)?;
             take!(widen(run, who, machine, size));
-            let b = take!(entered(run, who, machine, f, b, given));
-            Ok(Ok(b))
+            entered(run, who, machine, f, b, given)
         }
         None => Ok(Err(Halted::Lost)),
     }
@@ -357,8 +354,7 @@ pub fn give_back(
     match answer {
         Some(x) => {
             let place = take!(place_of(run, who, machine, x));
-            let v = take!(read_at(run, who, machine, &place));
-            Ok(Ok(v))
+            read_at(run, who, machine, &place)
         }
         None => Ok(Err(Halted::Lost)),
     }

@@ -7,12 +7,12 @@ ghost use Rattle.sp_meaning.specs.Steps.{has_ended, way_of};
 ghost use Rattle.sp_run.specs.Machines.{setting_of};
 ghost use Rattle.sp_run.specs.Views.{plain_channel};
 ghost use Rattle.sp_run.specs.Doings.{plain_cargo};
-ghost use Rattle.sp_run.specs.States.{conditions_of, state_of};
-ghost use Rattle.sp_run.specs.Meanings.{plain_pending, waiting_of, Idles, inserted, Places, AreWaiting};
+ghost use Rattle.sp_run.specs.States.{conditions_of, offer_in, state_of};
+ghost use Rattle.sp_run.specs.Meanings.{plain_pending, waiting_of, Idles, inserted, with_offer, Places, AreWaiting};
 
 use crate::deeds::Cargo;
 use crate::machine::Setting;
-use crate::state::{Condition, State, condition_of, offer_of, running};
+use crate::state::{Became, Condition, Offer, State, condition_of, offer_of, running};
 use crate::value::{Chan, Name, copy_channel, copy_name};
 use sp_base::{ChanName, Fault, List, Memory, Pair, ProcName};
 use sp_journal::{End, Waiter, Way};
@@ -193,6 +193,37 @@ fn way_of(cargo: &Cargo) -> Way
     }
 }
 
+/// A process that waits, by its offer.
+fn pending_with(alloc: Global, p: &Name, o: &Offer) -> Result<Pending, Memory>
+    ensures { IfOk result (λ w. plain_pending w
+        ≡ record { who = p.now; way = way_of (plain_cargo o.now.cargo); channel = plain_channel o.now.channel }) }
+{
+    let who = copy_name(alloc, p)?;
+    let channel = copy_channel(alloc, &o.channel)?;
+    Ok(Pending {
+        who,
+        way: way_of(&o.cargo),
+        channel,
+    })
+}
+
+/// Puts a process among those that wait, if it waits.
+fn add_waiting<'a>(
+    alloc: Global,
+    conditions: &[Became<'a>],
+    p: &Name,
+    ws: &mut Vec<Pending>,
+) -> Result<(), Memory>
+    ensures { OnOk result (waiting_of ws.new.items
+        ≡ with_offer p.now (offer_in (conditions_of conditions.now p.now)) (waiting_of ws.old.items)) }
+{
+    let Some(o) = offer_of(alloc, conditions, p.items())? else {
+        return Ok(());
+    };
+    let w = pending_with(alloc, p, &o)?;
+    insert(alloc, ws, w)
+}
+
 /// The processes that wait, each once, in order of names.
 fn waiting<'a>(run: &Setting<'a>, s: &State<'a>) -> Result<Vec<Pending>, Memory>
     ensures { IfOk result (λ ws. AreWaiting (setting_of run.now) (state_of run.now s.now) (waiting_of ws.items)) }
@@ -200,19 +231,7 @@ fn waiting<'a>(run: &Setting<'a>, s: &State<'a>) -> Result<Vec<Pending>, Memory>
     let mut ws = Vec::new(run.alloc);
     let conditions = s.conditions.items();
     for became in conditions {
-        match offer_of(run.alloc, conditions, became.name.items())? {
-            Some(o) => {
-                let who = copy_name(run.alloc, &became.name)?;
-                let channel = copy_channel(run.alloc, &o.channel)?;
-                let w = Pending {
-                    who,
-                    way: way_of(&o.cargo),
-                    channel,
-                };
-                insert(run.alloc, &mut ws, w)?;
-            }
-            None => {}
-        }
+        add_waiting(run.alloc, conditions, &became.name, &mut ws)?;
     }
     Ok(ws)
 }

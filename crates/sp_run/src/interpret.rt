@@ -50,8 +50,7 @@ pub fn value(
     if levels == 0 {
         return Err(Memory);
     }
-    let v = take!(form_value(run, who, fuel, levels - 1, machine, e.kind, &e.form));
-    Ok(Ok(v))
+    form_value(run, who, fuel, levels - 1, machine, e.kind, &e.form)
 }
 
 #[cycle(interpret)]
@@ -70,40 +69,35 @@ fn form_value(
     if levels == 0 {
         return Err(Memory);
     }
+    let levels = levels - 1;
     match form {
         ExprForm::Number(n) => Ok(Ok(Value::Ordinal(*n))),
         ExprForm::Read(x) => {
-            let q = take!(place(run, who, fuel, levels - 1, machine, x));
-            let v = take!(read_at(run, who, machine, &q));
-            Ok(Ok(v))
+            let q = take!(place(run, who, fuel, levels, machine, x));
+            read_at(run, who, machine, &q)
         }
         ExprForm::Unary(op, a) => {
-            let n = take!(ordinal_of(run, who, fuel, levels - 1, machine, a.get()));
-            let v = take!(worked_of(run, who, machine, unary(*op, n)));
-            Ok(Ok(v))
+            let n = take!(ordinal_of(run, who, fuel, levels, machine, a.get()));
+            worked_of(run, who, machine, unary(*op, n))
         }
         ExprForm::Binary(op, a, b) => {
-            let v = take!(value(run, who, fuel, levels - 1, machine, a.get()));
-            let w = take!(value(run, who, fuel, levels - 1, machine, b.get()));
-            let v = take!(operate(run, who, machine, *op, &v, &w));
-            Ok(Ok(v))
+            let v = take!(value(run, who, fuel, levels, machine, a.get()));
+            let w = take!(value(run, who, fuel, levels, machine, b.get()));
+            operate(run, who, machine, *op, &v, &w)
         }
         ExprForm::Call(f, _, args) => {
-            let given = take!(actuals(run, who, fuel, levels - 1, machine, args.items()));
-            let v = take!(call(run, who, fuel, levels - 1, machine, *f, given));
-            Ok(Ok(v))
+            let given = take!(actuals(run, who, fuel, levels, machine, args.items()));
+            call(run, who, fuel, levels, machine, *f, given)
         }
         ExprForm::Standard(f, args) => match args.items().split_first() {
             Some((a, _rest)) => {
-                let n = take!(ordinal_of(run, who, fuel, levels - 1, machine, a));
+                let n = take!(ordinal_of(run, who, fuel, levels, machine, a));
                 let t = take!(kind_at(run, who, machine, kind));
-                let v = take!(standard(run, who, machine, *f, t, n));
-                Ok(Ok(v))
+                standard(run, who, machine, *f, t, n)
             }
             None => {
                 let left = take!(left_of(run, who, machine));
-                let v = take!(at_input(run, who, machine, *f, left));
-                Ok(Ok(v))
+                at_input(run, who, machine, *f, left)
             }
         },
     }
@@ -125,8 +119,7 @@ fn place(
         return Err(Memory);
     }
     let q = take!(place_of(run, who, machine, x.variable));
-    let q = take!(selected(run, who, fuel, levels - 1, machine, x.selectors.items(), q));
-    Ok(Ok(q))
+    selected(run, who, fuel, levels - 1, machine, x.selectors.items(), q)
 }
 
 #[cycle(interpret)]
@@ -145,20 +138,19 @@ fn selected(
     if levels == 0 {
         return Err(Memory);
     }
+    let levels = levels - 1;
     let Some((s, rest)) = ss.split_first() else {
         return Ok(Ok(q));
     };
     match s {
         Selector::Index(e) => {
-            let n = take!(ordinal_of(run, who, fuel, levels - 1, machine, e));
+            let n = take!(ordinal_of(run, who, fuel, levels, machine, e));
             let r = take!(indexed(run, who, machine, q, &n));
-            let r = take!(selected(run, who, fuel, levels - 1, machine, rest, r));
-            Ok(Ok(r))
+            selected(run, who, fuel, levels, machine, rest, r)
         }
         Selector::Field(f) => {
             let r = take!(fielded(run, who, machine, *f, q));
-            let r = take!(selected(run, who, fuel, levels - 1, machine, rest, r));
-            Ok(Ok(r))
+            selected(run, who, fuel, levels, machine, rest, r)
         }
     }
 }
@@ -179,19 +171,20 @@ fn actuals(
     if levels == 0 {
         return Err(Memory);
     }
+    let levels = levels - 1;
     let Some((a, rest)) = args.split_first() else {
         return Ok(Ok(List::new(run.alloc)));
     };
     match a {
         Actual::Value(e) => {
-            let v = take!(value(run, who, fuel, levels - 1, machine, e));
-            let given = take!(actuals(run, who, fuel, levels - 1, machine, rest));
+            let v = take!(value(run, who, fuel, levels, machine, e));
+            let given = take!(actuals(run, who, fuel, levels, machine, rest));
             Ok(Ok(first_given(Given::Value(v), given)?))
         }
         Actual::Reference(x) => {
-            let q = take!(place(run, who, fuel, levels - 1, machine, x));
+            let q = take!(place(run, who, fuel, levels, machine, x));
             let a = take!(address_of(run, who, machine, q));
-            let given = take!(actuals(run, who, fuel, levels - 1, machine, rest));
+            let given = take!(actuals(run, who, fuel, levels, machine, rest));
             Ok(Ok(first_given(Given::Place(a), given)?))
         }
     }
@@ -224,8 +217,7 @@ fn call(
     let block = take!(enter(run, who, machine, f, given.items()));
     let todo = body_of(run, &block.body)?;
     take!(all(run, who, fuel, levels - 1, machine, todo));
-    let v = take!(ended(run, who, machine, block.answer));
-    Ok(Ok(v))
+    ended(run, who, machine, block.answer)
 }
 
 /// All that is left, where no more than `fuel` steps and calls stand inside one another.
@@ -276,8 +268,7 @@ fn one<'a>(
         return Ok(Ok(false));
     };
     let deed = take!(act(run, who, fuel, levels - 1, machine, item, todo));
-    let more = take!(left_after(run, who, machine, todo, &deed));
-    Ok(Ok(more))
+    left_after(run, who, machine, todo, &deed)
 }
 
 /// The ordinal of an expression.
@@ -296,8 +287,7 @@ fn ordinal_of(
         return Err(Memory);
     }
     let v = take!(value(run, who, fuel, levels - 1, machine, e));
-    let n = take!(ordinal(run, who, machine, &v));
-    Ok(Ok(n))
+    ordinal(run, who, machine, &v)
 }
 
 /// The address of a variable with its selectors.
@@ -316,8 +306,7 @@ fn address(
         return Err(Memory);
     }
     let q = take!(place(run, who, fuel, levels - 1, machine, x));
-    let a = take!(address_of(run, who, machine, q));
-    Ok(Ok(a))
+    address_of(run, who, machine, q)
 }
 
 /// The width of an item that is written, if it has one.
@@ -361,49 +350,31 @@ pub fn act<'a>(
     if levels == 0 {
         return Err(Memory);
     }
+    let levels = levels - 1;
     match item {
-        Item::Do(s) => {
-            let d = take!(start(run, who, fuel, levels - 1, machine, s, todo));
-            Ok(Ok(d))
-        }
+        Item::Do(s) => { start(run, who, fuel, levels, machine, s, todo) }
         Item::First {
             variable,
             low,
             high,
             down,
             body,
-        } => {
-            let d = take!(turn_of(run, who, machine, variable, low, high, down, body, todo));
-            Ok(Ok(d))
-        }
+        } => { turn_of(run, who, machine, variable, low, high, down, body, todo) }
         Item::Again {
             variable,
             limit,
             down,
             body,
-        } => {
-            let d = take!(next_turn(run, who, machine, variable, limit, down, body, todo));
-            Ok(Ok(d))
-        }
-        Item::While(e, s) => {
-            let d = take!(start_while(run, who, fuel, levels - 1, machine, e, s, todo));
-            Ok(Ok(d))
-        }
-        Item::Repeat(s, e) => {
-            let d = take!(repeated(run, who, machine, s, e, todo));
-            Ok(Ok(d))
-        }
+        } => { next_turn(run, who, machine, variable, limit, down, body, todo) }
+        Item::While(e, s) => { start_while(run, who, fuel, levels, machine, e, s, todo) }
+        Item::Repeat(s, e) => { repeated(run, who, machine, s, e, todo) }
         Item::Test(s, e) => {
-            let n = take!(ordinal_of(run, who, fuel, levels - 1, machine, e));
-            let d = take!(tested(run, who, machine, n, s, e, todo));
-            Ok(Ok(d))
+            let n = take!(ordinal_of(run, who, fuel, levels, machine, e));
+            tested(run, who, machine, n, s, e, todo)
         }
-        Item::Send(c, e) => start_send(run, who, fuel, levels - 1, machine, c, e, todo),
-        Item::Receive(c, x) => start_receive(run, who, fuel, levels - 1, machine, c, x, todo),
-        Item::Leave => {
-            let d = take!(returned(run, who, machine, todo));
-            Ok(Ok(d))
-        }
+        Item::Send(c, e) => start_send(run, who, fuel, levels, machine, c, e, todo),
+        Item::Receive(c, x) => start_receive(run, who, fuel, levels, machine, c, x, todo),
+        Item::Leave => { returned(run, who, machine, todo) }
         Item::Break(f) => Ok(Err(Halted::Fault(f))),
     }
 }
@@ -425,10 +396,10 @@ fn start_assign<'a>(
     if levels == 0 {
         return Err(Memory);
     }
-    let at = take!(address(run, who, fuel, levels - 1, machine, x));
-    let v = take!(value(run, who, fuel, levels - 1, machine, e));
-    let d = take!(assigned_to(run, who, machine, &at, &v, todo));
-    Ok(Ok(d))
+    let levels = levels - 1;
+    let at = take!(address(run, who, fuel, levels, machine, x));
+    let v = take!(value(run, who, fuel, levels, machine, e));
+    assigned_to(run, who, machine, &at, &v, todo)
 }
 
 #[cycle(interpret)]
@@ -449,8 +420,7 @@ fn start_call<'a>(
         return Err(Memory);
     }
     let given = take!(actuals(run, who, fuel, levels - 1, machine, args));
-    let d = take!(called(run, who, machine, f, given.items(), todo));
-    Ok(Ok(d))
+    called(run, who, machine, f, given.items(), todo)
 }
 
 #[cycle(interpret)]
@@ -471,8 +441,7 @@ fn start_if<'a>(
         return Err(Memory);
     }
     let n = take!(ordinal_of(run, who, fuel, levels - 1, machine, e));
-    let d = take!(picked(run, who, machine, n, a, todo));
-    Ok(Ok(d))
+    picked(run, who, machine, n, a, todo)
 }
 
 #[cycle(interpret)]
@@ -494,8 +463,7 @@ fn start_either<'a>(
         return Err(Memory);
     }
     let n = take!(ordinal_of(run, who, fuel, levels - 1, machine, e));
-    let d = take!(either(run, who, machine, n, a, b, todo));
-    Ok(Ok(d))
+    either(run, who, machine, n, a, b, todo)
 }
 
 #[cycle(interpret)]
@@ -516,8 +484,7 @@ fn start_while<'a>(
         return Err(Memory);
     }
     let n = take!(ordinal_of(run, who, fuel, levels - 1, machine, e));
-    let d = take!(looped(run, who, machine, n, e, s, todo));
-    Ok(Ok(d))
+    looped(run, who, machine, n, e, s, todo)
 }
 
 #[cycle(interpret)]
@@ -541,10 +508,10 @@ fn start_for<'a>(
     if levels == 0 {
         return Err(Memory);
     }
-    let low = take!(ordinal_of(run, who, fuel, levels - 1, machine, from));
-    let high = take!(ordinal_of(run, who, fuel, levels - 1, machine, to));
-    let d = take!(ranged(run, who, machine, variable, low, high, down, body, todo));
-    Ok(Ok(d))
+    let levels = levels - 1;
+    let low = take!(ordinal_of(run, who, fuel, levels, machine, from));
+    let high = take!(ordinal_of(run, who, fuel, levels, machine, to));
+    ranged(run, who, machine, variable, low, high, down, body, todo)
 }
 
 #[cycle(interpret)]
@@ -565,8 +532,7 @@ fn start_case<'a>(
         return Err(Memory);
     }
     let n = take!(ordinal_of(run, who, fuel, levels - 1, machine, e));
-    let d = take!(chosen(run, who, machine, n, arms, todo));
-    Ok(Ok(d))
+    chosen(run, who, machine, n, arms, todo)
 }
 
 #[cycle(interpret)]
@@ -589,10 +555,10 @@ fn start_forall<'a>(
     if levels == 0 {
         return Err(Memory);
     }
-    let low = take!(ordinal_of(run, who, fuel, levels - 1, machine, from));
-    let high = take!(ordinal_of(run, who, fuel, levels - 1, machine, to));
-    let d = take!(forall(run, who, machine, index, low, high, body, todo));
-    Ok(Ok(d))
+    let levels = levels - 1;
+    let low = take!(ordinal_of(run, who, fuel, levels, machine, from));
+    let high = take!(ordinal_of(run, who, fuel, levels, machine, to));
+    forall(run, who, machine, index, low, high, body, todo)
 }
 
 #[cycle(interpret)]
@@ -612,8 +578,7 @@ fn start_assume<'a>(
         return Err(Memory);
     }
     let n = take!(ordinal_of(run, who, fuel, levels - 1, machine, e));
-    let d = take!(assumed(run, who, machine, n, todo));
-    Ok(Ok(d))
+    assumed(run, who, machine, n, todo)
 }
 
 #[cycle(interpret)]
@@ -633,8 +598,7 @@ fn start_read<'a>(
         return Err(Memory);
     }
     let at = take!(address(run, who, fuel, levels - 1, machine, x));
-    let d = take!(read_value(run, who, machine, &at, todo));
-    Ok(Ok(d))
+    read_value(run, who, machine, &at, todo)
 }
 
 #[cycle(interpret)]
@@ -654,10 +618,10 @@ fn start_write<'a>(
     if levels == 0 {
         return Err(Memory);
     }
-    let n = take!(ordinal_of(run, who, fuel, levels - 1, machine, e));
-    let m = take!(width(run, who, fuel, levels - 1, machine, w));
-    let d = take!(write_shown(run, who, machine, e.kind, n, m, todo));
-    Ok(Ok(d))
+    let levels = levels - 1;
+    let n = take!(ordinal_of(run, who, fuel, levels, machine, e));
+    let m = take!(width(run, who, fuel, levels, machine, w));
+    write_shown(run, who, machine, e.kind, n, m, todo)
 }
 
 #[cycle(interpret)]
@@ -678,8 +642,7 @@ fn start_text<'a>(
         return Err(Memory);
     }
     let m = take!(width(run, who, fuel, levels - 1, machine, w));
-    let d = take!(write_text(run, who, machine, true, t, m, todo));
-    Ok(Ok(d))
+    write_text(run, who, machine, true, t, m, todo)
 }
 
 #[cycle(interpret)]
@@ -699,8 +662,7 @@ fn start_open<'a>(
         return Err(Memory);
     }
     let at = take!(address(run, who, fuel, levels - 1, machine, x));
-    let d = take!(opened(run, who, machine, &at, todo));
-    Ok(Ok(d))
+    opened(run, who, machine, &at, todo)
 }
 
 #[cycle(interpret)]
@@ -720,9 +682,10 @@ fn start_send<'a>(
     if levels == 0 {
         return Err(Memory);
     }
-    let v = take!(value(run, who, fuel, levels - 1, machine, c));
+    let levels = levels - 1;
+    let v = take!(value(run, who, fuel, levels, machine, c));
     let to = take!(channel(run, who, machine, &v));
-    let w = take!(value(run, who, fuel, levels - 1, machine, e));
+    let w = take!(value(run, who, fuel, levels, machine, e));
     let d = Deed::Offered {
         channel: to,
         kind: e.kind,
@@ -748,9 +711,10 @@ fn start_receive<'a>(
     if levels == 0 {
         return Err(Memory);
     }
-    let v = take!(value(run, who, fuel, levels - 1, machine, c));
+    let levels = levels - 1;
+    let v = take!(value(run, who, fuel, levels, machine, c));
     let from = take!(channel(run, who, machine, &v));
-    let at = take!(address(run, who, fuel, levels - 1, machine, x));
+    let at = take!(address(run, who, fuel, levels, machine, x));
     let d = Deed::Offered {
         channel: from,
         kind: at.kind,
@@ -776,46 +740,23 @@ fn start<'a>(
     if levels == 0 {
         return Err(Memory);
     }
+    let levels = levels - 1;
     match &s.form {
         Form::Empty => Ok(Ok(Deed::Stepped)),
-        Form::Assign(x, e) => {
-            let d = take!(start_assign(run, who, fuel, levels - 1, machine, x, e, todo));
-            Ok(Ok(d))
-        }
+        Form::Assign(x, e) => { start_assign(run, who, fuel, levels, machine, x, e, todo) }
         Form::Call(f, args) => {
-            let d = take!(start_call(run, who, fuel, levels - 1, machine, *f, args.items(), todo));
-            Ok(Ok(d))
+            start_call(run, who, fuel, levels, machine, *f, args.items(), todo)
         }
         Form::Sequence(ss) => {
             push_all(ss.items(), todo)?;
             Ok(Ok(Deed::Stepped))
         }
-        Form::If(e, a, None) => {
-            let d = take!(start_if(run, who, fuel, levels - 1, machine, e, a.get(), todo));
-            Ok(Ok(d))
-        }
+        Form::If(e, a, None) => { start_if(run, who, fuel, levels, machine, e, a.get(), todo) }
         Form::If(e, a, Some(b)) => {
-            let d = take!(start_either(
-                run,
-                who,
-                fuel,
-                levels - 1,
-                machine,
-                e,
-                a.get(),
-                b.get(),
-                todo
-            ));
-            Ok(Ok(d))
+            start_either(run, who, fuel, levels, machine, e, a.get(), b.get(), todo)
         }
-        Form::While(e, s) => {
-            let d = take!(start_while(run, who, fuel, levels - 1, machine, e, s.get(), todo));
-            Ok(Ok(d))
-        }
-        Form::Repeat(s, e) => {
-            let d = take!(repeated(run, who, machine, s.get(), e, todo));
-            Ok(Ok(d))
-        }
+        Form::While(e, s) => { start_while(run, who, fuel, levels, machine, e, s.get(), todo) }
+        Form::Repeat(s, e) => { repeated(run, who, machine, s.get(), e, todo) }
         Form::For {
             variable,
             at: _,
@@ -824,85 +765,52 @@ fn start<'a>(
             to,
             body,
         } => {
-            let d = take!(start_for(
+            start_for(
                 run,
                 who,
                 fuel,
-                levels - 1,
+                levels,
                 machine,
                 *variable,
                 from,
                 *down,
                 to,
                 body.get(),
-                todo
-            ));
-            Ok(Ok(d))
+                todo,
+            )
         }
         Form::Case(e, arms) => {
-            let d = take!(start_case(run, who, fuel, levels - 1, machine, e, arms.items(), todo));
-            Ok(Ok(d))
+            start_case(run, who, fuel, levels, machine, e, arms.items(), todo)
         }
-        Form::Parallel(ss) => {
-            let d = take!(fork(run, who, machine, Births::Children(ss.items()), todo));
-            Ok(Ok(d))
-        }
+        Form::Parallel(ss) => { fork(run, who, machine, Births::Children(ss.items()), todo) }
         Form::Forall {
             index,
             from,
             to,
             body,
         } => {
-            let d = take!(start_forall(
+            start_forall(
                 run,
                 who,
                 fuel,
-                levels - 1,
+                levels,
                 machine,
                 *index,
                 from,
                 to,
                 body.get(),
-                todo
-            ));
-            Ok(Ok(d))
+                todo,
+            )
         }
-        Form::Assume(e) => {
-            let d = take!(start_assume(run, who, fuel, levels - 1, machine, e, todo));
-            Ok(Ok(d))
-        }
-        Form::ReadValue(x) => {
-            let d = take!(start_read(run, who, fuel, levels - 1, machine, x, todo));
-            Ok(Ok(d))
-        }
-        Form::ReadLine => {
-            let d = take!(read_line(run, who, machine, todo));
-            Ok(Ok(d))
-        }
-        Form::WriteValue(e, w) => {
-            let d = take!(start_write(run, who, fuel, levels - 1, machine, e, w, todo));
-            Ok(Ok(d))
-        }
-        Form::WriteText(t, w) => {
-            let d = take!(start_text(run, who, fuel, levels - 1, machine, t.bytes(), w, todo));
-            Ok(Ok(d))
-        }
-        Form::WriteLine => {
-            let d = take!(write_bytes(run, who, machine, b"\n", todo));
-            Ok(Ok(d))
-        }
-        Form::Open(x) => {
-            let d = take!(start_open(run, who, fuel, levels - 1, machine, x, todo));
-            Ok(Ok(d))
-        }
-        Form::Send(c, e) => {
-            let d = take!(start_send(run, who, fuel, levels - 1, machine, c, e, todo));
-            Ok(Ok(d))
-        }
-        Form::Receive(c, x) => {
-            let d = take!(start_receive(run, who, fuel, levels - 1, machine, c, x, todo));
-            Ok(Ok(d))
-        }
+        Form::Assume(e) => { start_assume(run, who, fuel, levels, machine, e, todo) }
+        Form::ReadValue(x) => { start_read(run, who, fuel, levels, machine, x, todo) }
+        Form::ReadLine => { read_line(run, who, machine, todo) }
+        Form::WriteValue(e, w) => { start_write(run, who, fuel, levels, machine, e, w, todo) }
+        Form::WriteText(t, w) => { start_text(run, who, fuel, levels, machine, t.bytes(), w, todo) }
+        Form::WriteLine => { write_bytes(run, who, machine, b"\n", todo) }
+        Form::Open(x) => { start_open(run, who, fuel, levels, machine, x, todo) }
+        Form::Send(c, e) => { start_send(run, who, fuel, levels, machine, c, e, todo) }
+        Form::Receive(c, x) => { start_receive(run, who, fuel, levels, machine, c, x, todo) }
         Form::SendEach {
             at: _,
             number: _,

@@ -86,7 +86,6 @@ pub fn push_receives<'a>(
 
 /// Puts a statement before what is left. The empty statement and sequences are no steps.
 #[cycle(push)]
-#[tactic(auto, using(sp_tree::proofs::Singles::sends_bare, sp_tree::proofs::Singles::receives_bare))]
 pub fn push<'a>(s: &'a Stmt, todo: &mut Vec<Item<'a>>) -> Result<(), Memory>
     ensures { OnOk result (items_of todo.new.items ≡ push (stmt_of s.now) (items_of todo.old.items)) }
 {

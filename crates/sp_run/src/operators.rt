@@ -102,13 +102,11 @@ pub fn operate(
         Value::Undefined => Ok(Err(Halted::Lost)),
         Value::Ordinal(m) => {
             let n = take!(ordinal(run, who, machine, w));
-            let v = take!(worked_of(run, who, machine, binary(op, *m, n)));
-            Ok(Ok(v))
+            worked_of(run, who, machine, binary(op, *m, n))
         }
         Value::Chan(c) => {
             let d = take!(channel(run, who, machine, w));
-            let v = take!(on_channels(run, who, machine, op, c, &d));
-            Ok(Ok(v))
+            on_channels(run, who, machine, op, c, &d)
         }
         Value::Parts(_) => Ok(Err(Halted::Lost)),
     }
@@ -361,8 +359,7 @@ pub fn read_at(run: &Setting, who: &Who, machine: &mut Machine, place: &Place) -
         Place::At(a) => {
             let kind = take!(kind_at(run, who, machine, a.kind));
             let v = take!(fetch(run, who, machine, a));
-            let v = take!(checked(run, who, machine, kind, v));
-            Ok(Ok(v))
+            checked(run, who, machine, kind, v)
         }
         Place::Fixed(n) => Ok(Ok(Value::Ordinal(*n))),
     }

@@ -28,7 +28,6 @@ fn weight_of_receives(channel: &Expr, variables: &[Var]) -> u64
 
 /// How many steps stand between two ticks, at most. A number beyond all memory is answered as want of memory.
 #[cycle(weight)]
-#[tactic(auto, using(sp_tree::proofs::Singles::sends_bare, sp_tree::proofs::Singles::receives_bare))]
 pub fn weight_of(s: &Stmt) -> Result<u64, Memory>
     ensures { IfOk result (λ n. n ≡ weight (stmt_of s.now)) }
 {

@@ -1,4 +1,5 @@
-use Rattle.std.proofs.Common.{rules, ◌≡◌, ◌-◌, ◌∷◌, [], List, Some, None, true, false, refl, length, sym, ap, ◌∙◌, arith, map}
+use Rattle.std.proofs.Common.{rules, ◌≡◌, ◌-◌, ◌∷◌, [], List, Some, None, true, false, refl, length, sym, ap, ◌∙◌, arith, map, subst}
+use Rattle.std.specs.Prelude.{IfOk}
 use Rattle.std.proofs.lemmas.Int.{to_z-of_z}
 use mir.Val.{to_z, of_z, SFits}
 use mir.Syntax.{w64}
@@ -6,46 +7,40 @@ use Rattle.sp_tree.specs.declared.checked.Expr.{out-Expr}
 use Rattle.sp_tree.specs.declared.checked.Expr as ast_e
 use Rattle.sp_tree.specs.declared.checked.ExprForm as ast_f
 use Rattle.sp_tree.specs.declared.checked.Form.TheFolds as folds
-use Rattle.sp_tree.specs.Plain.{Typed, Unary, Apply, Standard, AtInput, Assign, For, Case, Parallel, Forall, WriteValue}
-use Rattle.sp_tree.specs.PlainOf.{expr_of, form_of, var_of, stmt_of, arms_of, width_of, standard_of, actuals_of, stmts_of}
+use Rattle.sp_tree.specs.Plain.{Typed, Unary, Standard, AtInput, Assign, Sequence, For, Case, Parallel, Forall, ReadLine}
+use Rattle.sp_tree.specs.PlainOf.{expr_of, form_of, var_of, stmt_of, arms_of, standard_of, stmts_of}
+use Rattle.sp_tree.specs.CheckedOf as placed
+use Rattle.sp_tree.specs.Bare.{bare_statements}
+use Rattle.sp_tree.proofs.Singles.{sends_bare, receives_bare}
 use Rattle.sp_meaning.specs.Own.{First, Again}
 use Rattle.sp_run.specs.Items.{items_of, item_of}
 use Rattle.sp_run.specs.Machines.{setting_of, plain_who, plain_own, store_of}
+use Rattle.sp_meaning.specs.Values.{Value}
+use Rattle.sp_run.specs.Comings.{Comes}
 use Rattle.sp_run.specs.Views.{plain_value}
-use Rattle.sp_meaning.specs.Operators.{unary_op}
-use Rattle.sp_run.specs.Direct.{Got}
-use Rattle.sp_run.specs.DirectEval.{work_of}
-use Rattle.sp_run.specs.Acts.{one}
 use Rattle.sp_run.specs.Doings.{calls_of}
+use Rattle.sp_run.specs.Direct.{Came, Got}
+use Rattle.sp_run.specs.DirectEval.{input_op, form_value}
 use Rattle.sp_run.proofs.Acting.{input_is}
+use Rattle.sp_run.specs.Acts.{one}
 use Rattle.sp_run.proofs.Goings.{more_left, not_left, none_in}
 use Rattle.sp_run.proofs.interpret.+interpret.Goals as goal
 
-pub act-returns-in-Err-3 : goal.act-returns-in-Err-3
-act-returns-in-Err-3 t c =
-    let i : item_of c.args.item ≡ Again c.in-Again.variable c.in-Again.limit c.in-Again.down (stmt_of c.in-Again.body.now) = search rules in
-    let f : SFits w64 c.in-Again.limit = search rules in
-    let z : to_z w64 (of_z w64 c.in-Again.limit) ≡ c.in-Again.limit = to_z-of_z w64 c.in-Again.limit f in
-    let e = rw (c.in-Err-3.is, z) at c.in_ok-value-in-Again.ensures in
-    rw i e
-
-pub act-returns-in-Ok-2 : goal.act-returns-in-Ok-2
-act-returns-in-Ok-2 t c =
+pub act-returns-in-First : goal.act-returns-in-First
+act-returns-in-First t c =
     let i : item_of c.args.item ≡ First c.in-First.variable c.in-First.low c.in-First.high c.in-First.down (stmt_of c.in-First.body.now) = search rules in
     let f : SFits w64 c.in-First.low = search rules in
     let z : to_z w64 (of_z w64 c.in-First.low) ≡ c.in-First.low = to_z-of_z w64 c.in-First.low f in
     let h : SFits w64 c.in-First.high = search rules in
     let y : to_z w64 (of_z w64 c.in-First.high) ≡ c.in-First.high = to_z-of_z w64 c.in-First.high h in
-    let e = rw (c.in-Ok-2.is, z, y) at c.in_ok-value-in-First.ensures in
-    rw i e
+    rw i (rw (z, y) at c.turn_of.ensures)
 
-pub act-returns-in-Ok-3 : goal.act-returns-in-Ok-3
-act-returns-in-Ok-3 t c =
+pub act-returns-in-Again : goal.act-returns-in-Again
+act-returns-in-Again t c =
     let i : item_of c.args.item ≡ Again c.in-Again.variable c.in-Again.limit c.in-Again.down (stmt_of c.in-Again.body.now) = search rules in
     let f : SFits w64 c.in-Again.limit = search rules in
     let z : to_z w64 (of_z w64 c.in-Again.limit) ≡ c.in-Again.limit = to_z-of_z w64 c.in-Again.limit f in
-    let e = rw (c.in-Ok-3.is, z) at c.in_ok-value-in-Again.ensures in
-    rw i e
+    rw i (rw z at c.next_turn.ensures)
 
 pub all-returns-in-Err : goal.all-returns-in-Err
 all-returns-in-Err t c =
@@ -64,143 +59,96 @@ call-returns-in-Err-2 t c =
     let e2 = rw (c.in-Err-2.is, c.in_ok-todo.ensures) at c.in_ok-value-2.ensures in
     rw (e1, e2) refl
 
-pub call-returns-in-Err-3 : goal.call-returns-in-Err-3
-call-returns-in-Err-3 t c =
-    let e1 = rw (c.in-Ok.is, c.items.ensures) at c.in_ok-value.ensures in
-    let e2 = rw (c.in-Ok-2.is, c.in_ok-todo.ensures) at c.in_ok-value-2.ensures in
-    let e3 = rw c.in-Err-3.is at c.in_ok-value-3.ensures in
-    rw (e1, e2) e3
-
 pub call-returns : goal.call-returns
 call-returns t c =
     let e1 = rw (c.in-Ok.is, c.items.ensures) at c.in_ok-value.ensures in
     let e2 = rw (c.in-Ok-2.is, c.in_ok-todo.ensures) at c.in_ok-value-2.ensures in
-    let e3 = rw c.in-Ok-3.is at c.in_ok-value-3.ensures in
-    rw (e1, e2) e3
+    rw (e1, e2) c.ended.ensures
 
-pub form_value-returns-in-Err-9 : goal.form_value-returns-in-Err-9
-form_value-returns-in-Err-9 t c =
-    let i : form_of c.args.form.now ≡ Apply c.in-Call.f (actuals_of c.in-Call.args) = search (rules, ast_f.the_lemmas) in
-    let e1 = rw (c.in-Ok-8.is, c.items.ensures) at c.in_ok-value-in-Call.ensures in
-    let e2 = rw c.in-Err-9.is at c.in_ok-value-in-Call-2.ensures in
-    rw (i, e1) e2
+pub form_value-returns-in-Ok-2 : goal.form_value-returns-in-Ok-2
+form_value-returns-in-Ok-2 t c =
+    let i : form_of c.args.form.now ≡ Unary c.in-Unary.op (expr_of c.in-Unary.a) = search (rules, ast_f.the_lemmas) in
+    let f : SFits w64 c.in-Ok-2.value = search rules in
+    let z : to_z w64 (of_z w64 c.in-Ok-2.value) ≡ c.in-Ok-2.value = to_z-of_z w64 c.in-Ok-2.value f in
+    let e1 = rw (c.in-Ok-2.is, c.get.ensures) at c.in_ok-value-in-Unary.ensures in
+    let e2 = rw z at c.unary.ensures in
+    rw (i, e1) (rw e2 at c.worked_of.ensures)
 
-pub form_value-returns-in-Err-12 : goal.form_value-returns-in-Err-12
-form_value-returns-in-Err-12 t c =
+pub form_value-returns-in-Ok-7 : goal.form_value-returns-in-Ok-7
+form_value-returns-in-Ok-7 t c =
     let xs : c.in-Standard.args ≡ c.in-Some.a.now ∷ c.in-Some._rest.now = search rules in
     let i : form_of c.args.form.now ≡ standard_of c.in-Standard.f c.in-Standard.args = search (rules, ast_f.the_lemmas) in
     let j : standard_of c.in-Standard.f c.in-Standard.args ≡ Standard c.in-Standard.f (expr_of c.in-Some.a.now) = ap (λ z. standard_of c.in-Standard.f z) xs in
-    let f : SFits w64 c.in-Ok-10.value = search rules in
-    let z : to_z w64 (of_z w64 c.in-Ok-10.value) ≡ c.in-Ok-10.value = to_z-of_z w64 c.in-Ok-10.value f in
-    let e1 = rw c.in-Ok-10.is at c.in_ok-value-in-Some.ensures in
-    let e2 = rw c.in-Ok-11.is at c.in_ok-value-in-Some-2.ensures in
-    let e3 = rw (c.in-Err-12.is, z) at c.in_ok-value-in-Some-3.ensures in
-    rw (i ∙ j, e1, e2) e3
+    let f : SFits w64 c.in-Ok-6.value = search rules in
+    let z : to_z w64 (of_z w64 c.in-Ok-6.value) ≡ c.in-Ok-6.value = to_z-of_z w64 c.in-Ok-6.value f in
+    let e1 = rw c.in-Ok-6.is at c.in_ok-value-in-Some.ensures in
+    let e2 = rw c.in-Ok-7.is at c.in_ok-value-in-Some-2.ensures in
+    rw (i ∙ j, e1, e2) (rw z at c.standard.ensures)
 
-pub form_value-returns-in-Err-14 : goal.form_value-returns-in-Err-14
-form_value-returns-in-Err-14 t c =
+pub form_value-returns-in-Ok-8 : goal.form_value-returns-in-Ok-8
+form_value-returns-in-Ok-8 t c =
     let l : length c.in-Standard.args ≡ 0 = first_of (search rules, grind (arith, rules)) in
     let xs : c.in-Standard.args ≡ [] = none_in c.in-Standard.args l in
     let i : form_of c.args.form.now ≡ standard_of c.in-Standard.f c.in-Standard.args = search (rules, ast_f.the_lemmas) in
     let j : standard_of c.in-Standard.f c.in-Standard.args ≡ AtInput c.in-Standard.f = ap (λ z. standard_of c.in-Standard.f z) xs in
-    let e1 = rw c.in-Ok-13.is at c.in_ok-value-in-None.ensures in
-    let e2 = rw c.in-Err-14.is at c.in_ok-value-in-None-2.ensures in
-    rw (i ∙ j) (input_is (setting_of c.args.run.now) (calls_of c.args.run.now c.args.fuel) c.args.kind c.in-Standard.f (plain_who c.args.who.now) (plain_own c.args.machine.now.own) _ (store_of c.args.run.now c.args.machine.now.log) _ c.in-Ok-13.value.now _ e1 e2)
+    let e1 = rw c.in-Ok-8.is at c.in_ok-value-in-None.ensures in
+    let k : form_value (setting_of c.args.run.now) (calls_of c.args.run.now c.args.fuel) c.args.kind (form_of c.args.form.now) (plain_who c.args.who.now) (plain_own c.args.machine.now.own) (store_of c.args.run.now c.args.machine.now.log) ≡ input_op c.in-Standard.f c.in-Ok-8.value.now (plain_who c.args.who.now) (plain_own c.left_of.new.machine.own) (store_of c.args.run.now c.left_of.new.machine.log) =
+    rw (i ∙ j) (input_is (setting_of c.args.run.now) (calls_of c.args.run.now c.args.fuel) c.args.kind c.in-Standard.f (plain_who c.args.who.now) (plain_own c.args.machine.now.own) (plain_own c.left_of.new.machine.own) (store_of c.args.run.now c.args.machine.now.log) (store_of c.args.run.now c.left_of.new.machine.log) c.in-Ok-8.value.now (input_op c.in-Standard.f c.in-Ok-8.value.now (plain_who c.args.who.now) (plain_own c.left_of.new.machine.own) (store_of c.args.run.now c.left_of.new.machine.log)) e1 refl) in
+    subst (λ (x : Came Value). IfOk c.at_input.result (λ r. Comes c.args.run.now plain_value r c.left_of.new.machine x)) (sym k) c.at_input.ensures
 
-pub form_value-returns-in-Ok-14 : goal.form_value-returns-in-Ok-14
-form_value-returns-in-Ok-14 t c =
-    let l : length c.in-Standard.args ≡ 0 = first_of (search rules, grind (arith, rules)) in
-    let xs : c.in-Standard.args ≡ [] = none_in c.in-Standard.args l in
-    let i : form_of c.args.form.now ≡ standard_of c.in-Standard.f c.in-Standard.args = search (rules, ast_f.the_lemmas) in
-    let j : standard_of c.in-Standard.f c.in-Standard.args ≡ AtInput c.in-Standard.f = ap (λ z. standard_of c.in-Standard.f z) xs in
-    let e1 = rw c.in-Ok-13.is at c.in_ok-value-in-None.ensures in
-    let e2 = rw c.in-Ok-14.is at c.in_ok-value-in-None-2.ensures in
-    rw (i ∙ j) (input_is (setting_of c.args.run.now) (calls_of c.args.run.now c.args.fuel) c.args.kind c.in-Standard.f (plain_who c.args.who.now) (plain_own c.args.machine.now.own) _ (store_of c.args.run.now c.args.machine.now.log) _ c.in-Ok-13.value.now _ e1 e2)
-
-pub form_value-returns-in-Ok-4 : goal.form_value-returns-in-Ok-4
-form_value-returns-in-Ok-4 t c =
-    let i : form_of c.args.form.now ≡ Unary c.in-Unary.op (expr_of c.in-Unary.a) = search (rules, ast_f.the_lemmas) in
-    let f : SFits w64 c.in-Ok-3.value = search rules in
-    let z : to_z w64 (of_z w64 c.in-Ok-3.value) ≡ c.in-Ok-3.value = to_z-of_z w64 c.in-Ok-3.value f in
-    let e1 = rw (c.in-Ok-3.is, c.get.ensures) at c.in_ok-value-in-Unary.ensures in
-    let e2 : work_of (unary_op c.in-Unary.op c.in-Ok-3.value) (plain_who c.args.who.now) (plain_own c.ordinal_of.new.machine.own) (store_of c.args.run.now c.ordinal_of.new.machine.log) ≡ Got (plain_value c.in-Ok-4.value) (plain_own c.ordinal_of.new.machine.own) (store_of c.args.run.now c.ordinal_of.new.machine.log) = search rules in
-    rw (i, e1) e2
-
-pub start-returns-in-Err : goal.start-returns-in-Err
-start-returns-in-Err t c =
+pub start-returns-in-Assign : goal.start-returns-in-Assign
+start-returns-in-Assign t c =
     let i : stmt_of c.args.s.now ≡ Assign (var_of c.in-Assign.x) (expr_of c.in-Assign.e) = search (rules, folds.the_lemmas) in
-    let e = rw c.in-Err.is at c.in_ok-value-in-Assign.ensures in
-    rw i e
+    rw i c.start_assign.ensures
 
-pub start-returns-in-Ok : goal.start-returns-in-Ok
-start-returns-in-Ok t c =
-    let i : stmt_of c.args.s.now ≡ Assign (var_of c.in-Assign.x) (expr_of c.in-Assign.e) = search (rules, folds.the_lemmas) in
-    let e = rw c.in-Ok.is at c.in_ok-value-in-Assign.ensures in
-    rw i e
-
-pub start-returns-in-Err-7 : goal.start-returns-in-Err-7
-start-returns-in-Err-7 t c =
+pub start-returns-in-For : goal.start-returns-in-For
+start-returns-in-For t c =
     let i : stmt_of c.args.s.now ≡ For c.in-For.variable (expr_of c.in-For.from) c.in-For.down (expr_of c.in-For.to) (stmt_of c.in-For.body) = search (rules, folds.the_lemmas) in
-    let e = rw (c.in-Err-7.is, c.get-in-For.ensures) at c.in_ok-value-in-For.ensures in
-    rw i e
+    rw i (rw c.get-in-For.ensures at c.start_for.ensures)
 
-pub start-returns-in-Ok-7 : goal.start-returns-in-Ok-7
-start-returns-in-Ok-7 t c =
-    let i : stmt_of c.args.s.now ≡ For c.in-For.variable (expr_of c.in-For.from) c.in-For.down (expr_of c.in-For.to) (stmt_of c.in-For.body) = search (rules, folds.the_lemmas) in
-    let e = rw (c.in-Ok-7.is, c.get-in-For.ensures) at c.in_ok-value-in-For.ensures in
-    rw i e
-
-pub start-returns-in-Err-8 : goal.start-returns-in-Err-8
-start-returns-in-Err-8 t c =
+pub start-returns-in-Case : goal.start-returns-in-Case
+start-returns-in-Case t c =
     let i : stmt_of c.args.s.now ≡ Case (expr_of c.in-Case.e) (arms_of c.in-Case.arms) = search (rules, folds.the_lemmas) in
-    let e = rw (c.in-Err-8.is, c.items-in-Case.ensures) at c.in_ok-value-in-Case.ensures in
-    rw i e
+    rw i (rw c.items-in-Case.ensures at c.start_case.ensures)
 
-pub start-returns-in-Ok-8 : goal.start-returns-in-Ok-8
-start-returns-in-Ok-8 t c =
-    let i : stmt_of c.args.s.now ≡ Case (expr_of c.in-Case.e) (arms_of c.in-Case.arms) = search (rules, folds.the_lemmas) in
-    let e = rw (c.in-Ok-8.is, c.items-in-Case.ensures) at c.in_ok-value-in-Case.ensures in
-    rw i e
-
-pub start-returns-in-Ok-9 : goal.start-returns-in-Ok-9
-start-returns-in-Ok-9 t c =
+pub start-returns-in-Parallel : goal.start-returns-in-Parallel
+start-returns-in-Parallel t c =
     let i : stmt_of c.args.s.now ≡ Parallel (stmts_of c.in-Parallel.ss) = search (rules, folds.the_lemmas) in
-    let e = rw (c.in-Ok-9.is, c.items-in-Parallel.ensures) at c.in_ok-value-in-Parallel.ensures in
-    rw i e
+    rw i (rw c.items-in-Parallel.ensures at c.fork.ensures)
 
-pub start-returns-in-Err-10 : goal.start-returns-in-Err-10
-start-returns-in-Err-10 t c =
+pub start-returns-in-Forall : goal.start-returns-in-Forall
+start-returns-in-Forall t c =
     let i : stmt_of c.args.s.now ≡ Forall c.in-Forall.index (expr_of c.in-Forall.from) (expr_of c.in-Forall.to) (stmt_of c.in-Forall.body) = search (rules, folds.the_lemmas) in
-    let e = rw (c.in-Err-10.is, c.get-in-Forall.ensures) at c.in_ok-value-in-Forall.ensures in
-    rw i e
+    rw i (rw c.get-in-Forall.ensures at c.start_forall.ensures)
 
-pub start-returns-in-Ok-10 : goal.start-returns-in-Ok-10
-start-returns-in-Ok-10 t c =
-    let i : stmt_of c.args.s.now ≡ Forall c.in-Forall.index (expr_of c.in-Forall.from) (expr_of c.in-Forall.to) (stmt_of c.in-Forall.body) = search (rules, folds.the_lemmas) in
-    let e = rw (c.in-Ok-10.is, c.get-in-Forall.ensures) at c.in_ok-value-in-Forall.ensures in
-    rw i e
+pub start-returns-in_ok-push_sends-in-SendEach : goal.start-returns-in_ok-push_sends-in-SendEach
+start-returns-in_ok-push_sends-in-SendEach t c =
+    let i : stmt_of c.args.s.now ≡ Sequence (bare_statements (placed.sends c.in-SendEach.number c.in-SendEach.at (placed.expression_of c.in-SendEach.channel) (map placed.expression_of c.in-SendEach.values))) = search (rules, folds.the_lemmas) in
+    let j = sends_bare c.in-SendEach.number c.in-SendEach.at c.in-SendEach.channel c.in-SendEach.values in
+    let e = rw c.items-in-SendEach.ensures at c.in_ok-push_sends-in-SendEach.ensures in
+    rw (i, j, e) refl
 
-pub start-returns-in-Err-14 : goal.start-returns-in-Err-14
-start-returns-in-Err-14 t c =
-    let i : stmt_of c.args.s.now ≡ WriteValue (expr_of c.in-WriteValue.e) (width_of c.in-WriteValue.w) = search (rules, folds.the_lemmas) in
-    let e = rw c.in-Err-14.is at c.in_ok-value-in-WriteValue.ensures in
-    rw i e
+pub start-returns-in_ok-push_receives-in-ReceiveEach : goal.start-returns-in_ok-push_receives-in-ReceiveEach
+start-returns-in_ok-push_receives-in-ReceiveEach t c =
+    let i : stmt_of c.args.s.now ≡ Sequence (bare_statements (placed.receives c.in-ReceiveEach.number c.in-ReceiveEach.at (placed.expression_of c.in-ReceiveEach.channel) (map placed.variable_of c.in-ReceiveEach.variables))) = search (rules, folds.the_lemmas) in
+    let j = receives_bare c.in-ReceiveEach.number c.in-ReceiveEach.at c.in-ReceiveEach.channel c.in-ReceiveEach.variables in
+    let e = rw c.items-in-ReceiveEach.ensures at c.in_ok-push_receives-in-ReceiveEach.ensures in
+    rw (i, j, e) refl
 
-pub start-returns-in-Ok-14 : goal.start-returns-in-Ok-14
-start-returns-in-Ok-14 t c =
-    let i : stmt_of c.args.s.now ≡ WriteValue (expr_of c.in-WriteValue.e) (width_of c.in-WriteValue.w) = search (rules, folds.the_lemmas) in
-    let e = rw c.in-Ok-14.is at c.in_ok-value-in-WriteValue.ensures in
-    rw i e
+pub start-returns-in-ReadLine : goal.start-returns-in-ReadLine
+start-returns-in-ReadLine t c =
+    let i : stmt_of c.args.s.now ≡ ReadLine = search (rules, folds.the_lemmas) in
+    rw i c.read_line.ensures
 
-pub start_write-returns-in-Err-3 : goal.start_write-returns-in-Err-3
-start_write-returns-in-Err-3 t c =
-    let i : expr_of c.args.e.now ≡ Typed (out-Expr c.args.e.now).kind (form_of (out-Expr c.args.e.now).form) = search (rules, ast_e.the_lemmas) in
+pub start_forall-returns : goal.start_forall-returns
+start_forall-returns t c =
     let f : SFits w64 c.in-Ok.value = search rules in
     let z : to_z w64 (of_z w64 c.in-Ok.value) ≡ c.in-Ok.value = to_z-of_z w64 c.in-Ok.value f in
-    let e1 = rw (c.in-Ok.is, i) at c.in_ok-value.ensures in
+    let h : SFits w64 c.in-Ok-2.value = search rules in
+    let y : to_z w64 (of_z w64 c.in-Ok-2.value) ≡ c.in-Ok-2.value = to_z-of_z w64 c.in-Ok-2.value h in
+    let e1 = rw c.in-Ok.is at c.in_ok-value.ensures in
     let e2 = rw c.in-Ok-2.is at c.in_ok-value-2.ensures in
-    let e3 = rw (c.in-Err-3.is, z) at c.in_ok-value-3.ensures in
-    rw (i, e1, e2) e3
+    rw (e1, e2) (rw (z, y) at c.forall.ensures)
 
 pub start_write-returns : goal.start_write-returns
 start_write-returns t c =
@@ -209,5 +157,4 @@ start_write-returns t c =
     let z : to_z w64 (of_z w64 c.in-Ok.value) ≡ c.in-Ok.value = to_z-of_z w64 c.in-Ok.value f in
     let e1 = rw (c.in-Ok.is, i) at c.in_ok-value.ensures in
     let e2 = rw c.in-Ok-2.is at c.in_ok-value-2.ensures in
-    let e3 = rw (c.in-Ok-3.is, z) at c.in_ok-value-3.ensures in
-    rw (i, e1, e2) e3
+    rw (i, e1, e2) (rw z at c.write_shown.ensures)
