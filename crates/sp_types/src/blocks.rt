@@ -88,7 +88,10 @@ pub fn type_blocks(
     let mut first = first;
     let mut n = 0;
     for b in blocks.into_vec() {
-        let start = count_before(b.body.at, bodies)?;
+        let Ok(start) = count_before(b.body.at, bodies) else {
+            drop(b);
+            return Err(Halt::Memory);
+        };
         let framed = lesser(first, check_frame(b.at, numbers, cells, n, variables));
         let w = type_block(b, alloc, t, start, framed)?;
         out.push(w.tree)?;

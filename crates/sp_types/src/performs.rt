@@ -462,6 +462,9 @@ pub fn type_perform(
 {
     let count = parts_count(p, args.items())?;
     let form = type_call_of_standard(alloc, t, p, args, at, first)?;
-    t.count(count)?;
+    let Ok(()) = t.count(count) else {
+        drop(form.tree);
+        return Err(Halt::Memory);
+    };
     Ok(form)
 }

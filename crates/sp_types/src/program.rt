@@ -5,8 +5,10 @@ ghost use Rattle.sp_tree.specs.Cells.{sizes};
 ghost use Rattle.sp_tree.specs.Found.{Answers, AnswersAs};
 ghost use Rattle.sp_tree.specs.NamedOf as plain;
 ghost use Rattle.sp_tree.specs.CheckedOf as checked;
-ghost use Rattle.sp_types.specs.CheckedTree.{checked_variables};
-ghost use Rattle.sp_types.specs.DeclarationFirsts.{constants_first, kinds_first};
+ghost use Rattle.sp_types.specs.Types.{Walks};
+ghost use Rattle.sp_types.specs.TypeWalk.{starts_of, blocks_after};
+ghost use Rattle.sp_types.specs.CheckedTree.{checked_blocks, checked_variables};
+ghost use Rattle.sp_types.specs.DeclarationFirsts.{constants_first, kinds_first, blocks_first};
 ghost use Rattle.sp_types.specs.Entered.{tabled, typed_blocks, typed_kinds};
 ghost use Rattle.sp_types.specs.TypeFirst.{typed};
 
@@ -20,9 +22,12 @@ use crate::numbers::numbers_of;
 use crate::sizes::sizes_of;
 use crate::tables::{Ordinal, Tables};
 use crate::tabling::{kinds_in, tables_of};
+use crate::typed::Walked;
 use crate::values::or_zero;
 use sp_base::{Halt, List, Place};
-use sp_tree::{Checked, Found, KindOf, Named, NamedBlock, NamedConstant, NamedKind, Variable};
+use sp_tree::{
+    Block, Checked, Found, KindOf, Named, NamedBlock, NamedConstant, NamedKind, Variable,
+};
 use std::alloc::Global;
 
 /// One variable more behind others, with its type.
@@ -86,6 +91,53 @@ fn check_declared(
     check_kinds(known, kinds, first)
 }
 
+/// The blocks, each with the rules at it.
+fn type_bodies(
+    alloc: Global,
+    t: &mut Tables,
+    numbers: &[u32],
+    cells: &[u32],
+    variables: &[Variable],
+    blocks: List<NamedBlock>,
+    first: Found,
+) -> Result<Walked<List<Block>>, Halt>
+    ensures tree { Walks (map checked.block_of) result
+        (checked_blocks t.old (starts_of (map plain.block_of blocks)) (map plain.block_of blocks))
+        (blocks_first numbers.now cells.now variables.now 0 t.old (starts_of (map plain.block_of blocks)) (map plain.block_of blocks) first) }
+    ensures after { OnOk result (t.new ≡ blocks_after t.old (starts_of (map plain.block_of blocks)) (map plain.block_of blocks)) }
+{
+    let bodies = bodies(alloc, blocks.items())?;
+    type_blocks(
+        blocks,
+        alloc,
+        t,
+        numbers,
+        cells,
+        variables,
+        bodies.items(),
+        first,
+    )
+}
+
+/// The checked tree, from the tables behind the blocks.
+fn checked_tables(
+    alloc: Global,
+    t: Tables,
+    variables: List<Variable>,
+    blocks: List<Block>,
+) -> Result<Checked, Halt>
+    ensures { AnswersAs checked.program_of result
+        (Ok (record { kinds = t.kinds; variables = checked_variables t.variables variables; blocks = map checked.block_of blocks })) }
+{
+    let variables = typed_variables(alloc, t.variables.items(), variables)?;
+    let kinds = kinds_in(alloc, t.kinds)?;
+    Ok(Checked {
+        kinds,
+        variables,
+        blocks,
+    })
+}
+
 /// The blocks, where the tables are known.
 #[tactic(auto, using(crate::proofs::KeptKinds::blocks_kinds))]
 fn type_tabled(
@@ -100,28 +152,18 @@ fn type_tabled(
     ensures { AnswersAs checked.program_of result (typed_blocks numbers.now cells.now t variables (map plain.block_of blocks) first) }
 {
     let mut t = t;
-    let bodies = bodies(alloc, blocks.items())?;
-    let w = type_blocks(
-        blocks,
+    let w = type_bodies(
         alloc,
         &mut t,
         numbers,
         cells,
         variables.items(),
-        bodies.items(),
+        blocks,
         first,
     )?;
     match w.first {
         Some(r) => Err(Halt::Refused(r)),
-        None => {
-            let variables = typed_variables(alloc, t.variables.items(), variables)?;
-            let kinds = kinds_in(alloc, t.kinds)?;
-            Ok(Checked {
-                kinds,
-                variables,
-                blocks: w.tree,
-            })
-        }
+        None => Ok(checked_tables(alloc, t, variables, w.tree)?),
     }
 }
 

@@ -38,7 +38,10 @@ pub fn type_statement(
 {
     let NamedStmt { at, form } = s;
     let number = t.next;
-    t.count(1)?;
+    let Ok(()) = t.count(1) else {
+        drop(form);
+        return Err(Halt::Memory);
+    };
     let Walked { tree, first } = type_statement_form(form, alloc, t, at, first)?;
     Ok(Walked {
         tree: Stmt {
@@ -406,7 +409,10 @@ fn type_arm(a: NamedArm, alloc: Global, t: &mut Tables, first: Found) -> Result<
     ensures after { OnOk result (t.new ≡ arm_after t.old (arm_of a)) }
 {
     let NamedArm { constants, body } = a;
-    let constants = constant_numbers(alloc, t, constants.items())?;
+    let Ok(constants) = constant_numbers(alloc, t, constants.items()) else {
+        drop(body);
+        return Err(Halt::Memory);
+    };
     let Walked { tree, first } = type_statement(body, alloc, t, first)?;
     Ok(Walked {
         tree: Arm {
