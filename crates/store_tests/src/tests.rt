@@ -85,24 +85,64 @@ fn share_with(
     store.split(&plan)
 }
 
+// What one cell holds, where it is there.
+fn loaded(store: &Store, at: Address) -> Option<Cell> {
+    if store.has_cells(at, 1) {
+        Some(store.load(at))
+    } else {
+        None
+    }
+}
+
+// Whether two cells are put into an array of a store's own.
+fn puts_two(store: &mut Store, alloc: Global) -> Result<bool, Memory> {
+    let cells = List::from_slice(alloc, &[Cell::Ordinal(1), Cell::Channel(2)])?;
+    let to = at(3, 0);
+    if store.has_cells(to, 2) && store.is_own(to.spot) {
+        store.put(to, &cells);
+        return Ok(true);
+    }
+    Ok(false)
+}
+
+// Whether two cells of an array are copied one place up.
+fn copies_two(store: &mut Store) -> Result<bool, Memory> {
+    let from = at(3, 0);
+    let to = at(3, 1);
+    if store.has_cells(from, 2) && store.has_cells(to, 2) {
+        store.copy(to, from, 2)?;
+        return Ok(true);
+    }
+    Ok(false)
+}
+
 #[test]
-fn cells_are_stored_loaded_and_put(rt: HostRuntime) -> Result<(), Fail> {
+fn a_cell_is_stored_and_loaded(rt: HostRuntime) -> Result<(), Fail> {
+    let mut store = Store::root(rt.alloc(), &[1, 3])?;
+    let a = at(2, 0);
+    assert_eq!(rt; loaded(&store, a), Some(Cell::Undefined));
+    assert!(rt; store.has_cells(a, 1));
+    store.store(a, Cell::Ordinal(5))?;
+    assert_eq!(rt; loaded(&store, a), Some(Cell::Ordinal(5)));
+    Ok(())
+}
+
+#[test]
+fn a_piece_is_made_own(rt: HostRuntime) -> Result<(), Fail> {
     let mut store = Store::root(rt.alloc(), &[1, 3])?;
     let a = at(2, 0);
     assert!(rt; store.has_cells(a, 1));
-    assert_eq!(rt; store.load(a), Cell::Undefined);
-    store.store(a, Cell::Ordinal(5))?;
-    assert!(rt; store.has_cells(a, 1));
-    assert_eq!(rt; store.load(a), Cell::Ordinal(5));
     store.make_own(a.spot)?;
-    let cells = List::from_slice(rt.alloc(), &[Cell::Ordinal(1), Cell::Channel(2)])?;
-    let b = at(3, 0);
-    assert!(rt; store.has_cells(b, 2) && store.is_own(b.spot));
-    store.put(b, &cells);
+    assert_eq!(rt; loaded(&store, a), Some(Cell::Undefined));
+    Ok(())
+}
+
+#[test]
+fn cells_are_put_and_copied(rt: HostRuntime) -> Result<(), Fail> {
+    let mut store = Store::root(rt.alloc(), &[1, 3])?;
+    assert!(rt; puts_two(&mut store, rt.alloc())?);
+    assert!(rt; copies_two(&mut store)?);
     let from = at(3, 0);
-    let to = at(3, 1);
-    assert!(rt; store.has_cells(from, 2) && store.has_cells(to, 2));
-    store.copy(to, from, 2)?;
     assert!(rt; store.has_cells(from, 3));
     let all = [Cell::Ordinal(1), Cell::Ordinal(1), Cell::Channel(2)];
     assert_eq!(rt; store.cells(from, 3)?.items(), all.as_slice());
@@ -142,9 +182,17 @@ fn a_frame_has_4096_variables(rt: HostRuntime) -> Result<(), Fail> {
     };
     assert!(rt; store.has_cells(last, 1));
     store.store(last, Cell::Ordinal(3))?;
-    assert!(rt; store.has_cells(last, 1));
-    assert_eq!(rt; store.load(last), Cell::Ordinal(3));
+    assert_eq!(rt; loaded(&store, last), Some(Cell::Ordinal(3)));
     Ok(())
+}
+
+// The index of a child, which is the first variable of its frame.
+fn index() -> Address {
+    let spot = Spot {
+        frame: 1,
+        variable: 7,
+    };
+    Address { spot, offset: 0 }
 }
 
 #[test]
@@ -158,19 +206,8 @@ fn what_moves_comes_back_and_what_is_shared_is_read(rt: HostRuntime) -> Result<(
         frame: 0,
         variable: 2,
     };
-    let read = Address {
-        spot: input,
-        offset: 0,
-    };
     let written = Address {
         spot: target,
-        offset: 0,
-    };
-    let index = Address {
-        spot: Spot {
-            frame: 1,
-            variable: 7,
-        },
         offset: 0,
     };
     let mut plan = List::new(rt.alloc());
@@ -184,16 +221,13 @@ fn what_moves_comes_back_and_what_is_shared_is_read(rt: HostRuntime) -> Result<(
     let Some(mut child) = children.pop() else {
         return Ok(());
     };
-    assert!(rt; child.has_cells(index, 1));
-    assert_eq!(rt; child.load(index), Cell::Ordinal(-3));
-    assert!(rt; child.has_cells(read, 1));
-    assert_eq!(rt; child.load(read), Cell::Ordinal(0));
+    assert_eq!(rt; loaded(&child, index()), Some(Cell::Ordinal(-3)));
+    assert_eq!(rt; loaded(&child, at(0, 0)), Some(Cell::Ordinal(0)));
     assert!(rt; child.has_cells(written, 1));
     child.store(written, Cell::Ordinal(9))?;
     assert!(rt; child.is_own(target) && store.is_away(target));
     store.join(child);
-    assert!(rt; store.has_cells(written, 1));
-    assert_eq!(rt; store.load(written), Cell::Ordinal(9));
+    assert_eq!(rt; loaded(&store, written), Some(Cell::Ordinal(9)));
     Ok(())
 }
 

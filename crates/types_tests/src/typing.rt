@@ -1,7 +1,8 @@
 use sp_base::{Boxed, Halt, List, Place, Refusal, Rule, Text};
 use sp_tree::{
     BinaryOp, Checked, Form, Named, NamedArg, NamedBlock, NamedConstant, NamedExpr, NamedExprForm,
-    NamedForm, NamedKind, NamedKindForm, NamedStmt, NamedVar, Role, StandardProcedure, Variable,
+    NamedForm, NamedKind, NamedKindForm, NamedStmt, NamedVar, Role, StandardProcedure, Stmt,
+    Variable,
 };
 use sp_types::type_check;
 use std::alloc::Global;
@@ -68,10 +69,16 @@ fn block(alloc: Global, body: NamedStmt) -> Result<NamedBlock, Fail> {
     })
 }
 
+fn blocks(alloc: Global, body: NamedStmt) -> Result<List<NamedBlock>, Fail> {
+    let block = block(alloc, body)?;
+    let mut blocks = List::new(alloc);
+    blocks.push(block)?;
+    Ok(blocks)
+}
+
 /// A program with one variable, an integer with the number 2.
 fn program(alloc: Global, body: NamedStmt) -> Result<Named, Fail> {
-    let mut blocks = List::new(alloc);
-    blocks.push(block(alloc, body)?)?;
+    let blocks = blocks(alloc, body)?;
     Ok(Named {
         constants: constants(alloc)?,
         kinds: kinds(alloc)?,
@@ -95,16 +102,22 @@ fn quoted(alloc: Global, column: u32) -> Result<NamedExpr, Fail> {
     })
 }
 
+fn x_read(alloc: Global) -> NamedExpr {
+    NamedExpr {
+        at: at(10),
+        form: NamedExprForm::Read(x(alloc, 10)),
+    }
+}
+
+fn argument(value: NamedExpr) -> NamedArg {
+    NamedArg { value, width: None }
+}
+
 // x and 'a'.
 fn arguments(alloc: Global) -> Result<List<NamedArg>, Fail> {
     let mut args = List::new(alloc);
-    let value = NamedExpr {
-        at: at(10),
-        form: NamedExprForm::Read(x(alloc, 10)),
-    };
-    args.push(NamedArg { value, width: None })?;
-    let value = quoted(alloc, 12)?;
-    args.push(NamedArg { value, width: None })?;
+    args.push(argument(x_read(alloc)))?;
+    args.push(argument(quoted(alloc, 12)?))?;
     Ok(args)
 }
 
@@ -113,28 +126,49 @@ fn answer(alloc: Global, named: Named) -> Result<Checked, Halt> {
     type_check(alloc, named)
 }
 
+// `write(x, 'a')`, typed.
+fn written(alloc: Global) -> Result<Checked, Fail> {
+    let form = NamedForm::Standard(StandardProcedure::Write, arguments(alloc)?);
+    let program = program(alloc, NamedStmt { at: at(3), form })?;
+    Ok(answer(alloc, program)?)
+}
+
+#[test]
+fn types_and_variables_stay(rt: HostRuntime) -> Result<(), Fail> {
+    let checked = written(rt.alloc())?;
+    assert_eq!(rt; checked.kinds.len(), 3);
+    assert_eq!(rt; checked.variables.len(), 3);
+    Ok(())
+}
+
+// Whether each of these writes a value, and has one of the first two numbers behind 0.
+fn are_numbered_writes(statements: &[Stmt]) -> bool {
+    for s in statements {
+        if s.number != 1 && s.number != 2 {
+            return false;
+        }
+        if !matches!(&s.form, Form::WriteValue(_, None)) {
+            return false;
+        }
+    }
+    true
+}
+
+fn is_two_writes(body: &Stmt) -> bool {
+    match &body.form {
+        Form::Sequence(all) => all.len() == 2 && are_numbered_writes(all.items()),
+        _ => false,
+    }
+}
+
 #[test]
 fn statements_are_numbered_and_a_call_with_two_arguments_is_two(
     rt: HostRuntime,
 ) -> Result<(), Fail> {
-    let alloc = rt.alloc();
-    let args = arguments(alloc)?;
-    let form = NamedForm::Standard(StandardProcedure::Write, args);
-    let program = program(alloc, NamedStmt { at: at(3), form })?;
-    let checked = answer(alloc, program)?;
-    assert_eq!(rt; checked.kinds.len(), 3);
-    assert_eq!(rt; checked.variables.len(), 3);
+    let checked = written(rt.alloc())?;
     for block in checked.blocks.items() {
         assert_eq!(rt; block.body.number, 0);
-        if let Form::Sequence(ss) = &block.body.form {
-            assert_eq!(rt; ss.len(), 2);
-            for s in ss.items() {
-                assert!(rt; s.number == 1 || s.number == 2);
-                assert!(rt; matches!(&s.form, Form::WriteValue(_, None)));
-            }
-        } else {
-            assert!(rt; false);
-        }
+        assert!(rt; is_two_writes(&block.body));
     }
     Ok(())
 }
@@ -150,24 +184,28 @@ fn refusal_of(alloc: Global, e: NamedExpr) -> Result<Option<Refusal>, Fail> {
     }
 }
 
-#[test]
-fn a_char_is_no_operand_of_a_sum(rt: HostRuntime) -> Result<(), Fail> {
-    let alloc = rt.alloc();
+// `1 + 'a'`
+fn sum_with_char(alloc: Global) -> Result<NamedExpr, Fail> {
     let one = NamedExpr {
         at: at(9),
         form: NamedExprForm::Number(1),
     };
     let one = Boxed::new(alloc, one)?;
     let char = Boxed::new(alloc, quoted(alloc, 13)?)?;
-    let sum = NamedExpr {
+    Ok(NamedExpr {
         at: at(9),
         form: NamedExprForm::Binary(BinaryOp::Add, one, char),
-    };
+    })
+}
+
+#[test]
+fn a_char_is_no_operand_of_a_sum(rt: HostRuntime) -> Result<(), Fail> {
+    let alloc = rt.alloc();
     let y1 = Refusal {
         rule: Rule::Y1,
         at: at(13),
     };
-    assert_eq!(rt; refusal_of(alloc, sum)?, Some(y1));
+    assert_eq!(rt; refusal_of(alloc, sum_with_char(alloc)?)?, Some(y1));
     Ok(())
 }
 
