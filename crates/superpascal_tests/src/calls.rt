@@ -26,15 +26,27 @@ pub fn filled(alloc: Global, byte: u8, count: usize) -> Result<Vec<u8>, AllocErr
     vec![in alloc; byte; count].map_err(AllocError::from)
 }
 
-// A library with this text under two names, of which these calls fail.
-fn library(alloc: Global, text: &str, failing: &[u32]) -> Result<MemoryLibrary, AllocError> {
+// A file of this name.
+fn file(alloc: Global, name: &str, text: &str) -> Result<(Text, Text), AllocError> {
+    let name = Vec::from_slice(alloc, name.as_bytes())?;
+    let text = Vec::from_slice(alloc, text.as_bytes())?;
+    Ok((Text::of(name), Text::of(text)))
+}
+
+// This text under two names.
+fn files(alloc: Global, text: &str) -> Result<List<(Text, Text)>, AllocError> {
     let mut files = List::new(alloc);
     for name in ["a.sp", "-a"] {
-        let name = Text::of(Vec::from_slice(alloc, name.as_bytes())?);
-        let text = Text::of(Vec::from_slice(alloc, text.as_bytes())?);
-        files.push((name, text))?;
+        files.push(file(alloc, name, text)?)?;
     }
-    Ok(MemoryLibrary::new(files, List::from_slice(alloc, failing)?))
+    Ok(files)
+}
+
+// A library with this text under two names, of which these calls fail.
+fn library(alloc: Global, text: &str, failing: &[u32]) -> Result<MemoryLibrary, AllocError> {
+    let failing = List::from_slice(alloc, failing)?;
+    let files = files(alloc, text)?;
+    Ok(MemoryLibrary::new(files, failing))
 }
 
 /// A source that gives all that is asked for.
@@ -44,8 +56,9 @@ pub fn source(alloc: Global, input: Vec<u8>) -> MemorySource {
 
 // A sink that takes a byte a call, of which these calls fail.
 fn sink(alloc: Global, failing: &[u32]) -> Result<MemorySink, AllocError> {
+    let failing = List::from_slice(alloc, failing)?;
     let room = filled(alloc, 0, 1024)?;
-    Ok(MemorySink::new(room, 1, List::from_slice(alloc, failing)?))
+    Ok(MemorySink::new(room, 1, failing))
 }
 
 fn words_of(alloc: Global, words: &[&str]) -> Result<Vec<String>, AllocError> {
@@ -79,29 +92,20 @@ fn call_watched<R: Threads + Wait + Sync, G: Gate>(
 fn call_over<R: Threads + Wait + Sync, G: Gate>(
     rt: &R,
     alloc: Global,
-    words: &[&str],
+    words: &[String],
     library: &mut MemoryLibrary,
     input: &mut MemorySource,
     output: &mut MemorySink,
     notes: &mut MemorySink,
     gate: &G,
 ) -> Result<Outcome, AllocError> {
-    let words = words_of(alloc, words)?;
     let timeline = Box::new(alloc, Timeline::new(alloc))?;
     let census = Box::new(alloc, Census::new(alloc))?;
     let tree = Box::new(alloc, ProcessTree::new(alloc))?;
     let waiting = Box::new(alloc, Waiting::new(alloc))?;
     let watchers = in_order(alloc, timeline, census, tree, waiting)?;
     Ok(call_watched(
-        rt,
-        alloc,
-        words.as_slice(),
-        library,
-        input,
-        output,
-        notes,
-        gate,
-        watchers,
+        rt, alloc, words, library, input, output, notes, gate, watchers,
     ))
 }
 
@@ -129,6 +133,48 @@ pub struct Given {
     pub notes: Vec<u8>,
 }
 
+// What such a call has given.
+fn given_by(
+    alloc: Global,
+    outcome: &Outcome,
+    output: &MemorySink,
+    notes: &MemorySink,
+) -> Result<Given, AllocError> {
+    let output = Vec::from_slice(alloc, output.bytes())?;
+    let notes = Vec::from_slice(alloc, notes.bytes())?;
+    Ok(Given {
+        status: outcome.status,
+        ran: outcome.ran.is_some(),
+        output,
+        notes,
+    })
+}
+
+// The call over this library.
+fn call_on<R: Threads + Wait + Sync, G: Gate>(
+    rt: &R,
+    alloc: Global,
+    words: &[String],
+    library: &mut MemoryLibrary,
+    input: &mut MemorySource,
+    failing: Failing,
+    gate: &G,
+) -> Result<Given, AllocError> {
+    let mut output = sink(alloc, failing.output)?;
+    let mut notes = sink(alloc, failing.notes)?;
+    let outcome = call_over(
+        rt,
+        alloc,
+        words,
+        library,
+        input,
+        &mut output,
+        &mut notes,
+        gate,
+    )?;
+    given_by(alloc, &outcome, &output, &notes)
+}
+
 /// The call on this text and this input through this gate.
 pub fn call<R: Threads + Wait + Sync, G: Gate>(
     rt: &R,
@@ -139,25 +185,15 @@ pub fn call<R: Threads + Wait + Sync, G: Gate>(
     failing: Failing,
     gate: &G,
 ) -> Result<Given, AllocError> {
+    let words = words_of(alloc, words)?;
     let mut library = library(alloc, text, failing.library)?;
-    let mut output = sink(alloc, failing.output)?;
-    let mut notes = sink(alloc, failing.notes)?;
-    let outcome = call_over(
-        rt,
-        alloc,
-        words,
-        &mut library,
-        input,
-        &mut output,
-        &mut notes,
-        gate,
-    )?;
-    Ok(Given {
-        status: outcome.status,
-        ran: outcome.ran.is_some(),
-        output: Vec::from_slice(alloc, output.bytes())?,
-        notes: Vec::from_slice(alloc, notes.bytes())?,
-    })
+    call_on(rt, alloc, &words, &mut library, input, failing, gate)
+}
+
+// Asserts what a call has written.
+fn expect_written(rt: &impl Abort, given: &Given, output: &str, notes: &str, message: &str) {
+    assert_eq!(rt; given.notes.as_slice(), notes.as_bytes(), "{message}");
+    assert_eq!(rt; given.output.as_slice(), output.as_bytes(), "{message}");
 }
 
 /// Asserts what a call has given. The message says for which text or which words.
@@ -170,8 +206,7 @@ pub fn expect_given(
     notes: &str,
     message: &str,
 ) {
-    assert_eq!(rt; given.notes.as_slice(), notes.as_bytes(), "{message}");
-    assert_eq!(rt; given.output.as_slice(), output.as_bytes(), "{message}");
+    expect_written(rt, given, output, notes, message);
     assert_eq!(rt; given.status, status, "{message}");
     assert_eq!(rt; given.ran, ran, "{message}");
 }

@@ -35,14 +35,23 @@ fn refusal_behind(alloc: Global, rule: &str, text: &str) -> Result<String, Alloc
 const MARKED: &str =
     "program~ pipe~;~\ntype~ chan~ =~ *~(~integer~)~;~ net~ =~ array~ [~0~..~3~]~ of~ chan~;~\nvar~ c~:~ net~;~ r~:~ integer~;~\nprocedure~ node~(~a~,~ b~:~ chan~)~;~\nvar~ x~:~ integer~;~\nbegin~ receive~(~a~,~ x~)~;~ send~(~b~,~ x~ +~ 1~)~ end~;~\nbegin~\n  open~(~c~[~0~]~,~ c~[~1~]~,~ c~[~2~]~,~ c~[~3~]~)~;~\n  parallel~ send~(~c~[~0~]~,~ 10~)~\n  |~ forall~ i~ :=~ 1~ to~ 3~ do~ node~(~c~[~i~-~1~]~,~ c~[~i~]~)~\n  |~ receive~(~c~[~3~]~,~ r~)~\n  end~;~\n  write~(~r~)~\nend~.";
 
+// Asserts that this first part of a text is refused at its end.
+fn expect_cut<R: Threads + Wait + Sync + Abort>(
+    rt: &R,
+    alloc: Global,
+    text: &str,
+) -> Result<(), Fail> {
+    let notes = refusal_behind(alloc, "G2", text)?;
+    expect(rt, alloc, &RUN, text, 1, "", &notes)
+}
+
 #[test]
 fn texts_that_are_cut(rt: HostRuntime) -> Result<(), Fail> {
     let mut text = String::new(rt.alloc());
     let mut cuts = 0u32;
     for character in MARKED.chars() {
         if character == '~' {
-            let notes = refusal_behind(rt.alloc(), "G2", &text)?;
-            expect(&rt, rt.alloc(), &RUN, &text, 1, "", &notes)?;
+            expect_cut(&rt, rt.alloc(), &text)?;
             cuts = cuts.saturating_add(1);
         } else {
             text.push(character)?;
@@ -64,15 +73,25 @@ fn with_a_zero(alloc: Global, text: &str, at: u32) -> Result<String, AllocError>
     Ok(zeroed)
 }
 
+// Asserts that this text is refused, by any rule.
+fn expect_refusal<R: Threads + Wait + Sync + Abort>(
+    rt: &R,
+    alloc: Global,
+    text: &str,
+) -> Result<(), Fail> {
+    let mut input = source(alloc, Vec::new(alloc));
+    let given = call(rt, alloc, &RUN, text, &mut input, NONE, &OpenGate)?;
+    assert_eq!(rt; given.status, 1, "{text}");
+    assert_eq!(rt; given.output.len(), 0, "{text}");
+    Ok(())
+}
+
 // Which rule comes first depends on where the byte stands: of a name it may leave a reserved word.
 #[test]
 fn texts_with_a_zero(rt: HostRuntime) -> Result<(), Fail> {
     for at in 0..327u32 {
         let text = with_a_zero(rt.alloc(), PIPE, at)?;
-        let mut input = source(rt.alloc(), Vec::new(rt.alloc()));
-        let given = call(&rt, rt.alloc(), &RUN, &text, &mut input, NONE, &OpenGate)?;
-        assert_eq!(rt; given.status, 1, "{text}");
-        assert_eq!(rt; given.output.len(), 0, "{text}");
+        expect_refusal(&rt, rt.alloc(), &text)?;
     }
     assert_eq!(rt; PIPE.len(), 327);
     Ok(())
@@ -88,7 +107,27 @@ fn an_input_that_comes_byte_by_byte(rt: HostRuntime) -> Result<(), Fail> {
     Ok(())
 }
 
-// Asserts that a call whose output fails at any of its bytes leaves the bytes before it, and no notes.
+// Asserts that a call whose output fails at this byte leaves the bytes before it, and no notes.
+fn expect_output_fault<R: Threads + Wait + Sync + Abort>(
+    rt: &R,
+    alloc: Global,
+    words: &[&str],
+    text: &str,
+    ran: bool,
+    at: u32,
+    written: &str,
+) -> Result<(), Fail> {
+    let failing = Failing {
+        output: &[at],
+        ..NONE
+    };
+    let mut input = source(alloc, Vec::new(alloc));
+    let given = call(rt, alloc, words, text, &mut input, failing, &OpenGate)?;
+    expect_given(rt, &given, 6, ran, written, "", "");
+    Ok(())
+}
+
+// Asserts this of each byte of the output.
 fn expect_output_faults<R: Threads + Wait + Sync + Abort>(
     rt: &R,
     alloc: Global,
@@ -100,13 +139,7 @@ fn expect_output_faults<R: Threads + Wait + Sync + Abort>(
     let mut written = String::new(alloc);
     let mut at = 0u32;
     for character in output.chars() {
-        let failing = Failing {
-            output: &[at],
-            ..NONE
-        };
-        let mut input = source(alloc, Vec::new(alloc));
-        let given = call(rt, alloc, words, text, &mut input, failing, &OpenGate)?;
-        expect_given(rt, &given, 6, ran, &written, "", "");
+        expect_output_fault(rt, alloc, words, text, ran, at, &written)?;
         written.push(character)?;
         at = at.saturating_add(1);
     }
@@ -114,13 +147,22 @@ fn expect_output_faults<R: Threads + Wait + Sync + Abort>(
 }
 
 #[test]
-fn outputs_that_fail(rt: HostRuntime) -> Result<(), Fail> {
+fn outputs_of_runs_that_fail(rt: HostRuntime) -> Result<(), Fail> {
     for workers in ["1", "2"] {
         let words = ["run", "--workers", workers, "a.sp"];
         expect_output_faults(&rt, rt.alloc(), &words, PIPE, true, "13")?;
     }
+    Ok(())
+}
+
+#[test]
+fn outputs_of_generated_programs_that_fail(rt: HostRuntime) -> Result<(), Fail> {
     let told = "size 3\noutput 115\nentries 93\ndone\nordered\n";
-    expect_output_faults(&rt, rt.alloc(), &["gen", "3"], "", true, told)?;
+    expect_output_faults(&rt, rt.alloc(), &["gen", "3"], "", true, told)
+}
+
+#[test]
+fn layouts_that_fail(rt: HostRuntime) -> Result<(), Fail> {
     let layout = "program a;\nvar x: integer;\nbegin\n  x := 6;\n  write(x * 7)\nend.\n";
     expect_output_faults(&rt, rt.alloc(), &["format", "a.sp"], ANSWER, false, layout)
 }

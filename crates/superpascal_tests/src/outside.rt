@@ -5,7 +5,7 @@ use crate::calls::{
 };
 use sp_base::List;
 use sp_outside::{MemorySource, OpenGate, Source};
-use std::alloc::Global;
+use std::alloc::{AllocError, Global};
 use std::process::Abort;
 use std::sync::Wait;
 use std::test::Fail;
@@ -23,6 +23,18 @@ fn expect_end<R: Threads + Wait + Sync + Abort>(
     let given = call(rt, alloc, &RUN, ANSWER, &mut input, failing, &OpenGate)?;
     expect_given(rt, &given, status, false, "", notes, "");
     Ok(())
+}
+
+// A source that gives at most so many of these bytes a call, of which this call fails.
+fn failing_source(
+    alloc: Global,
+    bytes: &[u8],
+    most: usize,
+    failing: u32,
+) -> Result<MemorySource, AllocError> {
+    let failing = List::from_slice(alloc, &[failing])?;
+    let bytes = Vec::from_slice(alloc, bytes)?;
+    Ok(MemorySource::new(bytes, most, failing))
 }
 
 #[test]
@@ -47,8 +59,7 @@ fn a_file_that_is_absent(rt: HostRuntime) -> Result<(), Fail> {
 #[test]
 fn a_source_that_fails(rt: HostRuntime) -> Result<(), Fail> {
     for k in 0..4u32 {
-        let bytes = Vec::from_slice(rt.alloc(), b"abc")?;
-        let input = MemorySource::new(bytes, 1, List::from_slice(rt.alloc(), &[k])?);
+        let input = failing_source(rt.alloc(), b"abc", 1, k)?;
         expect_end(&rt, rt.alloc(), input, NONE, 5, "read fault\n")?;
     }
     Ok(())
@@ -56,15 +67,13 @@ fn a_source_that_fails(rt: HostRuntime) -> Result<(), Fail> {
 
 #[test]
 fn a_source_that_fails_at_its_end(rt: HostRuntime) -> Result<(), Fail> {
-    let bytes = Vec::from_slice(rt.alloc(), b"12 34")?;
-    let input = MemorySource::new(bytes, 4096, List::from_slice(rt.alloc(), &[1])?);
+    let input = failing_source(rt.alloc(), b"12 34", 4096, 1)?;
     expect_end(&rt, rt.alloc(), input, NONE, 5, "read fault\n")
 }
 
 #[test]
 fn a_source_and_notes_that_fail(rt: HostRuntime) -> Result<(), Fail> {
-    let bytes = Vec::new(rt.alloc());
-    let input = MemorySource::new(bytes, 4096, List::from_slice(rt.alloc(), &[0])?);
+    let input = failing_source(rt.alloc(), b"", 4096, 0)?;
     let failing = Failing {
         notes: &[0],
         ..NONE

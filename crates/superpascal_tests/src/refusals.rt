@@ -143,18 +143,28 @@ fn spaces(alloc: Global, count: usize) -> Result<String, AllocError> {
     Ok(text)
 }
 
-#[test]
-fn long_texts(rt: HostRuntime) -> Result<(), Fail> {
-    let cases = [
-        (1_048_576, "refused G2 1:1048577\n"),
-        (1_048_577, "refused L1 1:1\n"),
-    ];
-    for (count, notes) in cases {
-        let text = spaces(rt.alloc(), count)?;
-        expect(&rt, rt.alloc(), &["run", "a.sp"], &text, 1, "", notes)?;
-        expect(&rt, rt.alloc(), &["format", "a.sp"], &text, 1, "", notes)?;
+// Asserts that a text of so many spaces is refused.
+fn expect_long<R: Threads + Wait + Sync + Abort>(
+    rt: &R,
+    alloc: Global,
+    count: usize,
+    notes: &str,
+) -> Result<(), Fail> {
+    let text = spaces(alloc, count)?;
+    for command in ["run", "format"] {
+        refuses(rt, alloc, command, &[(&text, notes)])?;
     }
     Ok(())
+}
+
+#[test]
+fn the_longest_text_of_spaces(rt: HostRuntime) -> Result<(), Fail> {
+    expect_long(&rt, rt.alloc(), 1_048_576, "refused G2 1:1048577\n")
+}
+
+#[test]
+fn a_text_of_spaces_that_is_too_long(rt: HostRuntime) -> Result<(), Fail> {
+    expect_long(&rt, rt.alloc(), 1_048_577, "refused L1 1:1\n")
 }
 
 // A `write` of so many arguments.

@@ -88,6 +88,20 @@ impl Meeting {
 const TWO: &str =
     "program g; var x, y: integer; begin parallel x := 1 | y := 2 end; write(x, y) end.";
 
+// Asserts what a run through this gate gives.
+fn expect_through<R: Threads + Wait + Sync + Abort>(
+    rt: &R,
+    alloc: Global,
+    workers: &str,
+    gate: &Meeting,
+) -> Result<(), Fail> {
+    let words = ["run", "--workers", workers, "a.sp"];
+    let mut input = source(alloc, Vec::new(alloc));
+    let given = call(rt, alloc, &words, TWO, &mut input, NONE, gate)?;
+    expect_given(rt, &given, 0, true, "12", ORDERED, TWO);
+    Ok(())
+}
+
 // Asserts what such a run gives, and whether process 1 has missed process 2.
 fn expect_meeting<R: Threads + Wait + Sync + Abort>(
     rt: &R,
@@ -97,10 +111,7 @@ fn expect_meeting<R: Threads + Wait + Sync + Abort>(
     missed: u64,
 ) -> Result<(), Fail> {
     let gate = Meeting::new(looks);
-    let words = ["run", "--workers", workers, "a.sp"];
-    let mut input = source(alloc, Vec::new(alloc));
-    let given = call(rt, alloc, &words, TWO, &mut input, NONE, &gate)?;
-    expect_given(rt, &given, 0, true, "12", ORDERED, TWO);
+    expect_through(rt, alloc, workers, &gate)?;
     assert_eq!(rt; gate.missed.load(Ordering::SeqCst), missed);
     Ok(())
 }
