@@ -131,8 +131,7 @@ impl Maker {
     }
 
     fn kinds(&self) -> Result<List<KindOf>, Memory> {
-        let mut messages = List::new(self.alloc);
-        messages.push(0)?;
+        let messages = List::from_slice(self.alloc, &[0])?;
         let mut kinds = List::new(self.alloc);
         kinds.push(KindOf::Integer)?;
         kinds.push(KindOf::Channel(messages))?;
@@ -167,11 +166,16 @@ impl Maker {
         }
     }
 
-    /// A program with a function that has no parameters.
-    pub fn program(&self, body: Stmt, function: Stmt) -> Result<Checked, Memory> {
+    fn blocks(&self, body: Stmt, function: Stmt) -> Result<List<Block>, Memory> {
         let mut blocks = List::new(self.alloc);
         blocks.push(self.block(None, None, body))?;
         blocks.push(self.block(Some(0), Some(6), function))?;
+        Ok(blocks)
+    }
+
+    /// A program with a function that has no parameters.
+    pub fn program(&self, body: Stmt, function: Stmt) -> Result<Checked, Memory> {
+        let blocks = self.blocks(body, function)?;
         Ok(Checked {
             kinds: self.kinds()?,
             variables: self.variables()?,
@@ -196,18 +200,23 @@ impl Maker {
     }
 }
 
+// The process of this number: 0 is the root, and 1 + 10 f + i is child i of its fork f.
+fn process(alloc: Global, number: u32) -> Result<ProcName, Memory> {
+    let mut pairs = List::new(alloc);
+    if number > 0 {
+        let n = number - 1;
+        pairs.push(Pair {
+            fork: n / 10,
+            child: n % 10,
+        })?;
+    }
+    Ok(ProcName { pairs })
+}
+
 pub fn schedule(alloc: Global, names: &[u32]) -> Result<List<ProcName>, Memory> {
     let mut out = List::new(alloc);
     for n in names {
-        let mut pairs = List::new(alloc);
-        if *n > 0 {
-            let n = *n - 1;
-            pairs.push(Pair {
-                fork: n / 10,
-                child: n % 10,
-            })?;
-        }
-        out.push(ProcName { pairs })?;
+        out.push(process(alloc, *n)?)?;
     }
     Ok(out)
 }

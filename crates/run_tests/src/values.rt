@@ -2,7 +2,9 @@
 
 use crate::maker::{LIMITS, Maker, X, Y, is_done};
 use sp_base::{Boxed, Fault, Limits, MAXINT, Memory, Text};
+use sp_run::Meant;
 use sp_tree::{BinaryOp, ExprForm, Form, Stmt};
+use std::alloc::Global;
 use std::test::Fail;
 
 const NO_TICKS: Limits = Limits { ticks: 0, ..LIMITS };
@@ -13,26 +15,40 @@ fn quotient(m: &Maker, a: i64, b: i64) -> Result<ExprForm, Memory> {
     Ok(ExprForm::Binary(BinaryOp::Div, a, b))
 }
 
+// X becomes 85 div 2, and is written.
+fn quotient_written(alloc: Global, names: &[u32]) -> Result<Meant, Memory> {
+    let m = Maker { alloc };
+    let body = m.both(m.assign(X, quotient(&m, 85, 2)?), m.write(X))?;
+    m.run_all(body, names)
+}
+
+#[test]
+fn a_quotient_is_not_yet_written(rt: HostRuntime) -> Result<(), Fail> {
+    let one = quotient_written(rt.alloc(), &[0])?;
+    assert!(rt; one.steps == 1 && one.output.bytes() == b"".as_slice() && one.end.is_none());
+    Ok(())
+}
+
 #[test]
 fn a_quotient_is_written(rt: HostRuntime) -> Result<(), Fail> {
-    let m = Maker { alloc: rt.alloc() };
-    let body = m.both(m.assign(X, quotient(&m, 85, 2)?), m.write(X))?;
-    let one = m.run_all(body, &[0])?;
-    assert!(rt; one.steps == 1 && one.output.bytes() == b"".as_slice() && one.end.is_none());
-    let body = m.both(m.assign(X, quotient(&m, 85, 2)?), m.write(X))?;
-    let all = m.run_all(body, &[0, 0, 0, 0])?;
+    let all = quotient_written(rt.alloc(), &[0, 0, 0, 0])?;
     assert!(rt; is_done(&all, 3, b"42"));
     Ok(())
+}
+
+// The fault of `X := e`.
+fn fault_of_value(m: &Maker, e: ExprForm) -> Result<Option<Fault>, Memory> {
+    m.fault(&LIMITS, m.assign(X, e))
 }
 
 #[test]
 fn faults_of_expressions(rt: HostRuntime) -> Result<(), Fail> {
     let m = Maker { alloc: rt.alloc() };
-    let undefined = m.fault(&LIMITS, m.assign(X, ExprForm::Read(m.var(Y))))?;
+    let undefined = fault_of_value(&m, ExprForm::Read(m.var(Y)))?;
     assert!(rt; undefined == Some(Fault::F4));
-    let outside = m.fault(&LIMITS, m.assign(X, ExprForm::Read(m.element(4)?)))?;
+    let outside = fault_of_value(&m, ExprForm::Read(m.element(4)?))?;
     assert!(rt; outside == Some(Fault::F1));
-    let by_zero = m.fault(&LIMITS, m.assign(X, quotient(&m, 1, 0)?))?;
+    let by_zero = fault_of_value(&m, quotient(&m, 1, 0)?)?;
     assert!(rt; by_zero == Some(Fault::F3));
     Ok(())
 }
@@ -49,14 +65,20 @@ fn wide(m: &Maker, width: i64) -> Stmt {
 }
 
 #[test]
-fn faults_of_limits(rt: HostRuntime) -> Result<(), Fail> {
+fn faults_of_widths(rt: HostRuntime) -> Result<(), Fail> {
     let m = Maker { alloc: rt.alloc() };
-    let ticked = m.fault(&NO_TICKS, endless(&m)?)?;
-    assert!(rt; ticked == Some(Fault::F10));
     let narrow = m.fault(&LIMITS, wide(&m, 0))?;
     assert!(rt; narrow == Some(Fault::F1));
     let far_too_wide = m.fault(&LIMITS, wide(&m, MAXINT))?;
     assert!(rt; far_too_wide == Some(Fault::F16));
+    Ok(())
+}
+
+#[test]
+fn faults_of_limits(rt: HostRuntime) -> Result<(), Fail> {
+    let m = Maker { alloc: rt.alloc() };
+    let ticked = m.fault(&NO_TICKS, endless(&m)?)?;
+    assert!(rt; ticked == Some(Fault::F10));
     let far_too_many = m.fault(&LIMITS, m.forall(-MAXINT, MAXINT)?)?;
     assert!(rt; far_too_many == Some(Fault::F13));
     Ok(())
