@@ -3,6 +3,7 @@
 use sp_base::{List, Memory, Text};
 use sp_code::{ChildTable, Code, ForkTable, Instr, Parts, listing};
 use std::alloc::Global;
+use std::process::Abort;
 use std::test::Fail;
 
 /// Code of these parts, or nothing where they are too large.
@@ -91,32 +92,44 @@ fn child(alloc: Global, entry: u32, moved: u32, index: Option<u32>) -> Result<Ch
     })
 }
 
-/// One parallel with two children, and one forall.
-fn forks(alloc: Global) -> Result<List<ForkTable>, Fail> {
+fn parallel(alloc: Global) -> Result<ForkTable, Fail> {
     let first = child(alloc, 2, 3, None)?;
     let second = child(alloc, 7, 6, None)?;
+    Ok(ForkTable {
+        children: List::of(vec![in alloc; first, second]?),
+    })
+}
+
+fn forall(alloc: Global) -> Result<ForkTable, Fail> {
     let each = ChildTable {
         entry: 11,
         moved: List::new(alloc),
         shared: List::of(vec![in alloc; 2]?),
         index: Some(8),
     };
-    let parallel = ForkTable {
-        children: List::of(vec![in alloc; first, second]?),
-    };
-    let forall = ForkTable {
+    Ok(ForkTable {
         children: List::of(vec![in alloc; each]?),
-    };
+    })
+}
+
+/// One parallel with two children, and one forall.
+fn forks(alloc: Global) -> Result<List<ForkTable>, Fail> {
+    let parallel = parallel(alloc)?;
+    let forall = forall(alloc)?;
     Ok(List::of(vec![in alloc; parallel, forall]?))
+}
+
+/// Two instructions and their fork tables.
+fn forking(alloc: Global) -> Result<Parts, Fail> {
+    let instrs = vec![in alloc; Instr::Fork(0), Instr::Forall(1)]?;
+    let mut parts = plain(alloc, instrs);
+    parts.forks = forks(alloc)?;
+    Ok(parts)
 }
 
 #[test]
 fn lists_fork_tables_behind_the_instructions(rt: HostRuntime) -> Result<(), Fail> {
-    let mut parts = plain(
-        rt.alloc(),
-        vec![in rt.alloc(); Instr::Fork(0), Instr::Forall(1)]?,
-    );
-    parts.forks = forks(rt.alloc())?;
+    let parts = forking(rt.alloc())?;
     let text = listed(rt.alloc(), parts)?;
     let wanted =
         b"0 fork 0\n1 forall 1\ntable 0 child 0 entry 2 moves 3 shares 4 5\ntable 0 child 1 entry 7 moves 6 shares 4 5\ntable 1 child 0 entry 11 moves shares 2\n";
@@ -141,26 +154,56 @@ fn entry_in(code: &Code, table: u32, number: u64) -> Option<u32> {
     }
 }
 
+fn texts(alloc: Global) -> Result<List<Text>, Fail> {
+    let text = Text::of(Vec::from_slice(alloc, b"ab")?);
+    Ok(List::of(vec![in alloc; text]?))
+}
+
+/// The parts of the answer, with fork tables and a text.
+fn all_parts(alloc: Global) -> Result<Parts, Fail> {
+    let mut parts = answer(alloc)?;
+    parts.forks = forks(alloc)?;
+    parts.texts = texts(alloc)?;
+    Ok(parts)
+}
+
+/// Their code.
+fn whole_code(rt: &impl Abort, alloc: Global) -> Result<Code, Fail> {
+    let code = code_of(all_parts(alloc)?);
+    Ok(code.expect(rt, "the parts keep the sizes"))
+}
+
 #[test]
-fn reads_code(rt: HostRuntime) -> Result<(), Fail> {
-    let mut parts = answer(rt.alloc())?;
-    parts.forks = forks(rt.alloc())?;
-    let text = Text::of(Vec::from_slice(rt.alloc(), b"ab")?);
-    parts.texts = List::of(vec![in rt.alloc(); text]?);
-    let code = code_of(parts);
-    assert!(rt; code.is_some());
-    if let Some(code) = code {
-        assert_eq!(rt; code.instr(6), Some(Instr::Mul));
-        assert_eq!(rt; code.instr(9), None);
-        assert_eq!(rt; code.parts().instrs.len(), 9);
-        assert!(rt; matches!(code.text(0), Some(text) if text.bytes() == b"ab".as_slice()));
-        assert!(rt; code.text(1).is_none());
-        assert_eq!(rt; index_in(&code, 0), None);
-        assert_eq!(rt; index_in(&code, 1), Some(8));
-        assert_eq!(rt; entry_in(&code, 0, 1), Some(7));
-        assert_eq!(rt; entry_in(&code, 0, 2), None);
-        assert_eq!(rt; entry_in(&code, 1, 5), Some(11));
-    }
+fn reads_instructions(rt: HostRuntime) -> Result<(), Fail> {
+    let code = whole_code(&rt, rt.alloc())?;
+    assert_eq!(rt; code.instr(6), Some(Instr::Mul));
+    assert_eq!(rt; code.instr(9), None);
+    assert_eq!(rt; code.parts().instrs.len(), 9);
+    Ok(())
+}
+
+#[test]
+fn reads_texts(rt: HostRuntime) -> Result<(), Fail> {
+    let code = whole_code(&rt, rt.alloc())?;
+    assert!(rt; matches!(code.text(0), Some(text) if text.bytes() == b"ab".as_slice()));
+    assert!(rt; code.text(1).is_none());
+    Ok(())
+}
+
+#[test]
+fn reads_the_index_of_a_fork_table(rt: HostRuntime) -> Result<(), Fail> {
+    let code = whole_code(&rt, rt.alloc())?;
+    assert_eq!(rt; index_in(&code, 0), None);
+    assert_eq!(rt; index_in(&code, 1), Some(8));
+    Ok(())
+}
+
+#[test]
+fn reads_the_entries_of_children(rt: HostRuntime) -> Result<(), Fail> {
+    let code = whole_code(&rt, rt.alloc())?;
+    assert_eq!(rt; entry_in(&code, 0, 1), Some(7));
+    assert_eq!(rt; entry_in(&code, 0, 2), None);
+    assert_eq!(rt; entry_in(&code, 1, 5), Some(11));
     Ok(())
 }
 

@@ -1,6 +1,8 @@
 //! The code of each form of statement and expression, instruction by instruction, beside the tables of docs/CODE.md.
 
 use crate::made::listed;
+use std::alloc::Global;
+use std::process::Abort;
 use std::test::Fail;
 
 struct Row<'a> {
@@ -136,38 +138,31 @@ const BLOCKS: [Row; 5] = [
     },
 ];
 
-#[test]
-fn statements_without_statements(rt: HostRuntime) -> Result<(), Fail> {
-    for row in SIMPLE.iter() {
-        let text = listed(rt.alloc(), row.text)?;
+// Asserts the listing of each text.
+fn expect_listings(rt: &impl Abort, alloc: Global, rows: &[Row]) -> Result<(), Fail> {
+    for row in rows {
+        let text = listed(alloc, row.text)?;
         assert_eq!(rt; text.as_slice(), row.listing);
     }
     Ok(())
+}
+
+#[test]
+fn statements_without_statements(rt: HostRuntime) -> Result<(), Fail> {
+    expect_listings(&rt, rt.alloc(), &SIMPLE)
 }
 
 #[test]
 fn branches_and_loops(rt: HostRuntime) -> Result<(), Fail> {
-    for row in BRANCHES.iter() {
-        let text = listed(rt.alloc(), row.text)?;
-        assert_eq!(rt; text.as_slice(), row.listing);
-    }
-    Ok(())
+    expect_listings(&rt, rt.alloc(), &BRANCHES)
 }
 
 #[test]
 fn processes(rt: HostRuntime) -> Result<(), Fail> {
-    for row in FORKS.iter() {
-        let text = listed(rt.alloc(), row.text)?;
-        assert_eq!(rt; text.as_slice(), row.listing);
-    }
-    Ok(())
+    expect_listings(&rt, rt.alloc(), &FORKS)
 }
 
 #[test]
 fn procedures_and_functions(rt: HostRuntime) -> Result<(), Fail> {
-    for row in BLOCKS.iter() {
-        let text = listed(rt.alloc(), row.text)?;
-        assert_eq!(rt; text.as_slice(), row.listing);
-    }
-    Ok(())
+    expect_listings(&rt, rt.alloc(), &BLOCKS)
 }
