@@ -1,7 +1,6 @@
 -- The parts of calls and of steps, one after another.
 use Rattle.std.proofs.Common.{◌≡◌, ℕ, suc, ◌+◌, List, [], ◌∷◌, Option, Some, None, refl, ap, ◌∙◌, sym, subst, arith, drop, slice_get}
 use Rattle.std.proofs.lemmas.Bool.{eq-eqb}
-use Rattle.sp_run.specs.declared.stop.Halted.{Halted}
 use Rattle.sp_tree.specs.declared.checked.KindOf.{KindOf}
 use Rattle.sp_tree.specs.declared.operators.StandardFn.{StandardFn}
 use Rattle.sp_tree.specs.Plain.{Variable, AtInput}
@@ -12,7 +11,7 @@ use Rattle.sp_meaning.specs.Own.{Setting, Cell, Input, Tree, Position, Address, 
 use Rattle.sp_meaning.specs.Eval.{Given, ValueOf, At}
 use Rattle.sp_meaning.specs.Deeds.{Deed, Stepped, begins, taken_by}
 use Rattle.sp_meaning.specs.Texts.{Taken, line_length}
-use Rattle.sp_run.specs.Direct.{Store, Came, Got, Not, fetch, put}
+use Rattle.sp_run.specs.Direct.{Store, Came, Got, fetch, put}
 use Rattle.sp_run.specs.DirectEval.{Calls, kind_at, left_of, input_op, checked, read_at, form_value}
 use Rattle.sp_run.specs.DirectDeeds.{lay_one, lay, copy_in, take_in, advance}
 use Rattle.sp_run.specs.Acts.{read_value, read_line}
@@ -23,11 +22,10 @@ copy_on g n x xs ys v gs hs w o o1 s s1 u e1 e2 e3 =
     let q : s1 ≡ at_key same_loc (Cell w.name n x) (Tree v) s = cc in
     rw (e1, e2, p, q) refl
 
-pub lay_not : (g : Setting) (n b x y : ℕ) (v : Variable) (vs us : List Variable) (w : Who) (o o1 : Own) (s s1 : Store) (u : Unit {0}) (h : Halted) → us ≡ v ∷ vs → v.block ≡ b → y ≡ x + 1 → lay_one g n (x, v) (begins (initials g.program.kinds) v.role v.kind) w o s ≡ Got u o1 s1 → lay g n (variables_of b y vs) w o1 s1 ≡ Not h → lay g n (variables_of b x us) w o s ≡ Not h
-lay_not g n b x y v vs us w o o1 s s1 u h e1 e2 e3 e4 e5 =
+pub lay_on : (g : Setting) (n b x y : ℕ) (v : Variable) (vs us : List Variable) (w : Who) (o o1 : Own) (s s1 : Store) (u : Unit {0}) → us ≡ v ∷ vs → v.block ≡ b → y ≡ x + 1 → lay_one g n (x, v) (begins (initials g.program.kinds) v.role v.kind) w o s ≡ Got u o1 s1 → lay g n (variables_of b x us) w o s ≡ lay g n (variables_of b y vs) w o1 s1
+lay_on g n b x y v vs us w o o1 s s1 u e1 e2 e3 e4 =
     let k : y ≡ suc x = omega arith in
-    let f = rw k at e5 in
-    rw (e1, eq-eqb v.block b e2, e4) f
+    rw (e1, eq-eqb v.block b e2, e4) (rw k refl)
 
 pub read_is : (g : Setting) (a : Address) (w : Who) (o o1 : Own) (s s1 : Store) (k : KindOf) (v : Value) → kind_at g a.kind w o s ≡ Got k o s → fetch a w o s ≡ Got v o1 s1 → read_at g (At a) w o s ≡ checked k v w o1 s1
 read_is g a w o o1 s s1 k v e1 e2 =

@@ -1,6 +1,6 @@
 -- One computation after another, as calls tell of them.
 use Rattle.std.proofs.Common.{◌≡◌, ℕ, zero, suc, ◌+◌, ◌≤◌, Bool, true, false, List, [], ◌∷◌, ◌++◌, drop, length, Some, None, refl, ap, ◌∙◌, sym, arith, if◌then◌else◌, length-append}
-use Rattle.std.specs.Prelude.{Result, slice_get, not, replicate}
+use Rattle.std.specs.Prelude.{ℤ, Result, slice_get, not, replicate}
 use Rattle.std.proofs.lemmas.List.{length-replicate}
 use Rattle.std.proofs.lemmas.Grind.{common_steps}
 use Rattle.sp_base.specs.declared.halt.Memory.{Memory}
@@ -10,14 +10,17 @@ use Rattle.sp_run.specs.declared.machine.Setting.{Setting}
 use Rattle.sp_run.specs.declared.machine.Who.{Who}
 use Rattle.sp_run.specs.declared.item.Item.{Item}
 use Rattle.sp_meaning.specs.Own as m
-use Rattle.sp_meaning.specs.Values.{Value}
-use Rattle.sp_meaning.specs.Deeds.{goes_on}
+use Rattle.sp_tree.specs.Plain.{Stmt}
+use Rattle.sp_meaning.specs.Values.{Value, Ordinal}
+use Rattle.sp_meaning.specs.Eval.{Place}
+use Rattle.sp_meaning.specs.Deeds.{Deed, Ticked, push, goes_on}
 use Rattle.sp_run.specs.Machines.{setting_of, plain_own, plain_who, store_of}
 use Rattle.sp_run.specs.Comings.{Implements}
 use Rattle.sp_run.specs.Items.{item_of, items_of}
-use Rattle.sp_run.specs.Texts.{leaves}
-use Rattle.sp_run.specs.Direct.{Store, Came, Got, Not, Work, bind, give, go_on}
-use Rattle.sp_run.specs.DirectDeeds.{peek, settle}
+use Rattle.sp_run.specs.Texts.{leaves, index_set}
+use Rattle.sp_run.specs.Direct.{Store, Came, Got, Not, Work, bind, give, go_on, assign, tick}
+use Rattle.sp_run.specs.DirectEval.{place_of, address_of}
+use Rattle.sp_run.specs.DirectDeeds.{peek, settle, turn_of}
 
 -- a call after another computes what the two compute one after the other
 pub does_then : {R A B : Type 0} (g : Setting) (w : Who) (view : R → B) (before mid after : Machine) (result : Result (Result R Halted) Memory) (h : Work A) (k : A → Work B) (a : A)
@@ -63,3 +66,31 @@ settle_here g w before mid todo rest i e l =
 -- blanks and a text
 pub behind_blanks : (n : ℕ) (t : List ℕ) → length (replicate n 32 ++ t) ≡ n + length t
 behind_blanks n t = grind (arith, length-replicate, length-append)
+
+-- the turn of a for loop: its variable gets a value, and then there is a tick
+turn_is : (g : m.Setting) (x : ℕ) (n limit : ℤ) (down : Bool) (b : Stmt) (todo : List m.Item) (w : m.Who) (o : m.Own) (s : Store)
+    → turn_of g x n limit down b todo w o s ≡ bind (index_set g x n) (λ u. bind (tick g.limits) (λ u. give (Ticked (push b (m.Again x limit down b ∷ todo))))) w o s
+turn_is g x n limit down b todo w o s = found (place_of g x w o s)
+  where
+    on : Unit {0} → Work Deed
+    on u = bind (tick g.limits) (λ u. give (Ticked (push b (m.Again x limit down b ∷ todo))))
+
+    put : (c : Came m.Address) → go_on (λ a. bind (assign a (Ordinal n)) on) w c ≡ go_on on w (go_on (λ a. assign a (Ordinal n)) w c)
+    put (Got a o1 s1) = refl
+    put (Not h) = refl
+
+    found : (c : Came Place) → go_on (λ q. bind (address_of g q) (λ a. bind (assign a (Ordinal n)) on)) w c ≡ go_on on w (go_on (λ q. bind (address_of g q) (λ a. assign a (Ordinal n))) w c)
+    found (Got q o1 s1) = put (address_of g q w o1 s1)
+    found (Not h) = refl
+
+pub turned : (g : m.Setting) (x : ℕ) (n limit : ℤ) (down : Bool) (b : Stmt) (todo : List m.Item) (w : m.Who) (o o1 o2 : m.Own) (s s1 s2 : Store) (u v : Unit {0})
+    → index_set g x n w o s ≡ Got u o1 s1 → tick g.limits w o1 s1 ≡ Got v o2 s2 → turn_of g x n limit down b todo w o s ≡ Got (Ticked (push b (m.Again x limit down b ∷ todo))) o2 s2
+turned g x n limit down b todo w o o1 o2 s s1 s2 u v e1 e2 = turn_is g x n limit down b todo w o s ∙ rw (e1, e2) refl
+
+pub turned_not : (g : m.Setting) (x : ℕ) (n limit : ℤ) (down : Bool) (b : Stmt) (todo : List m.Item) (w : m.Who) (o : m.Own) (s : Store) (h : Halted)
+    → index_set g x n w o s ≡ Not h → turn_of g x n limit down b todo w o s ≡ Not h
+turned_not g x n limit down b todo w o s h e = turn_is g x n limit down b todo w o s ∙ rw e refl
+
+pub turned_late : (g : m.Setting) (x : ℕ) (n limit : ℤ) (down : Bool) (b : Stmt) (todo : List m.Item) (w : m.Who) (o o1 : m.Own) (s s1 : Store) (u : Unit {0}) (h : Halted)
+    → index_set g x n w o s ≡ Got u o1 s1 → tick g.limits w o1 s1 ≡ Not h → turn_of g x n limit down b todo w o s ≡ Not h
+turned_late g x n limit down b todo w o o1 s s1 u h e1 e2 = turn_is g x n limit down b todo w o s ∙ rw (e1, e2) refl

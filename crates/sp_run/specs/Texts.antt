@@ -1,5 +1,5 @@
--- Items read and written, as they are kept in memory; the children of a forall; the arms of a case. The contracts of
--- `texts` and of the deeds cite it.
+-- Items read and written, as they are kept in memory; the children of a forall; the values of a for loop. The contracts
+-- of `texts` and of the deeds cite it.
 use Rattle.std.specs.Prelude.{ℕ, ℤ, pos, ◌+ℤ◌, ◌-ℤ◌, nat_abs, int_lt, List, Bool, true, false, not, Option, if◌then◌else◌}
 use Rattle.std.specs.Option.{option_map}
 use Rattle.sp_run.specs.declared.texts.Taken.{Taken}
@@ -8,7 +8,9 @@ use Rattle.sp_tree.specs.Items as i
 use Rattle.sp_tree.specs.Plain.{Stmt}
 use Rattle.sp_meaning.specs.Own.{Setting, Item, Do, First, Again, Test, Leave, Break}
 use Rattle.sp_meaning.specs.Deeds.{Deed, Stepped, indexed_children, goes_on}
-use Rattle.sp_run.specs.Direct.{Work, bind, give}
+use Rattle.sp_meaning.specs.Values.{Ordinal}
+use Rattle.sp_run.specs.Direct.{Work, bind, give, assign}
+use Rattle.sp_run.specs.DirectEval.{place_of, address_of}
 use Rattle.sp_run.specs.DirectDeeds.{fork, peek}
 
 abbrev pub plain_taken : Taken → i.Taken
@@ -21,6 +23,10 @@ taken_of o = option_map plain_taken o
 -- the children of a forall, if its range has values
 abbrev pub forall : Setting → ℕ → ℤ → ℤ → Stmt → List Item → Work Deed
 forall g x m n s todo = if int_lt n m then give (Stepped todo) else fork g (indexed_children x s m (nat_abs ((n -ℤ m) +ℤ pos 1))) todo
+
+-- the for variable gets a value
+abbrev pub index_set : Setting → ℕ → ℤ → Work (Unit {0})
+index_set g x n = bind (place_of g x) (λ q. bind (address_of g q) (λ a. assign a (Ordinal n)))
 
 -- whether it is a loop that is at its end
 abbrev pub leaves : Setting → Item → Work Bool

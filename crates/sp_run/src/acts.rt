@@ -1,9 +1,9 @@
 //! What a step does once its expressions have values.
 
-ghost use Rattle.std.specs.Prelude.{◌≡◌, ◌++◌, ◌∷◌, IfOk, OnOk, map, replicate};
+ghost use Rattle.std.specs.Prelude.{◌≡◌, ◌++◌, IfOk, replicate};
 ghost use Rattle.sp_tree.specs.PlainOf.{expr_of, stmt_of, arms_of};
-ghost use Rattle.sp_meaning.specs.Deeds.{push, arm_for, is_range, next_value};
-ghost use Rattle.sp_run.specs.Items.{items_of, item_of};
+ghost use Rattle.sp_meaning.specs.Deeds.{arm_for, is_range, next_value};
+ghost use Rattle.sp_run.specs.Items.{items_of};
 ghost use Rattle.sp_run.specs.Machines.{setting_of, plain_who};
 ghost use Rattle.sp_run.specs.Comings.{Implements};
 ghost use Rattle.sp_run.specs.Views.{plain_value, plain_address};
@@ -14,7 +14,7 @@ ghost use Rattle.sp_run.specs.Acts.{assigned_to, picked, either, ranged, tested,
 use crate::calls::{Given, enter, leave, tick};
 use crate::deeds::{Deed, advance, arm_for, take_in, turn_of, write};
 use crate::frames::place_of;
-use crate::item::{Item, push, push_item};
+use crate::item::{Item, push, push_both, push_item};
 use crate::machine::{Machine, Setting, Who};
 use crate::operators::{kind_at, left_of, ordinal, read_at};
 use crate::stop::{Done, Halted};
@@ -24,15 +24,6 @@ use crate::texts::{cut_to, line_length, shown, taken_by};
 use crate::value::{Address, Chan, Value, copy_name};
 use sp_base::{Fault, Memory};
 use sp_tree::{Arm, Expr, Stmt};
-
-/// Puts a statement and then one thing before what is left.
-fn push_both<'a>(s: &'a Stmt, item: Item<'a>, todo: &mut Vec<Item<'a>>) -> Result<(), Memory>
-    ensures { OnOk result (items_of todo.new.items ≡ push (stmt_of s.now) (item_of item.entry ∷ items_of todo.old.items)) }
-{
-    push_item(item, todo)?;
-    push(s, todo)?;
-    Ok(())
-}
 
 /// A value goes to an address.
 pub fn assigned_to<'a>(

@@ -106,8 +106,7 @@ pub fn references_of(
                 variable: *x as usize,
                 stands,
             };
-            let rest = first_reference(reference, rest)?;
-            Ok(rest)
+            first_reference(reference, rest)
         }
     }
 }
@@ -151,8 +150,7 @@ fn lay_one(
                 frame,
                 variable: x,
             };
-            take!(put(run, who, machine, at, Held::Tree(first)));
-            Ok(Ok(()))
+            put(run, who, machine, at, Held::Tree(first))
         }
     }
 }
@@ -213,8 +211,7 @@ fn lay(
     };
     if v.block as usize == block {
         take!(lay_one(run, who, machine, frame, x, v, beginning(known, v)));
-        take!(lay(run, who, machine, frame, block, known, next, rest));
-        Ok(Ok(()))
+        lay(run, who, machine, frame, block, known, next, rest)
     } else {
         lay(run, who, machine, frame, block, known, next, rest)
     }

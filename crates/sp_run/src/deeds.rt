@@ -10,12 +10,12 @@ ghost use Rattle.sp_run.specs.Comings.{Implements, beside, same};
 ghost use Rattle.sp_run.specs.Items.{item_of, items_of};
 ghost use Rattle.sp_run.specs.Views.{plain_value, plain_address};
 ghost use Rattle.sp_run.specs.Doings.{plain_deed, births_of};
-ghost use Rattle.sp_run.specs.Texts.{forall, leaves, plain_taken};
+ghost use Rattle.sp_run.specs.Texts.{forall, index_set, leaves, plain_taken};
 ghost use Rattle.sp_run.specs.DirectDeeds.{peek, settle, turn_of, fork, write, advance, take_in};
 
 use crate::calls::tick;
 use crate::frames::{address_of, place_of};
-use crate::item::{Item, push};
+use crate::item::{Item, push_both};
 use crate::kinds::count_of;
 use crate::machine::{Held, Machine, Setting, Who};
 use crate::operators::position_of;
@@ -146,6 +146,15 @@ pub fn settle<'a>(
     }
 }
 
+/// The `for` variable gets a value.
+fn set_index(run: &Setting, who: &Who, machine: &mut Machine, variable: u32, n: i64) -> Done<()>
+    ensures { Implements run.now who.now same machine.old result machine.new (index_set (setting_of run.now) variable n) }
+{
+    let place = take!(place_of(run, who, machine, variable));
+    let at = take!(address_of(run, who, machine, place));
+    assign(run, who, machine, &at, &Value::Ordinal(n))
+}
+
 /// The `for` variable gets a value, and then there is a tick.
 pub fn turn_of<'a>(
     run: &Setting,
@@ -161,20 +170,15 @@ pub fn turn_of<'a>(
     ensures { Implements run.now who.now (plain_deed (items_of todo.new.items)) machine.old result machine.new
         (turn_of (setting_of run.now) variable n limit down (stmt_of body.now) (items_of todo.old.items)) }
 {
-    let place = take!(place_of(run, who, machine, variable));
-    let at = take!(address_of(run, who, machine, place));
-    take!(assign(run, who, machine, &at, &Value::Ordinal(n)));
+    take!(set_index(run, who, machine, variable, n));
     take!(tick(run, who, machine));
-    todo.insert(
-        0,
-        Item::Again {
-            variable,
-            limit,
-            down,
-            body,
-        },
-    )?;
-    push(body, todo)?;
+    let next = Item::Again {
+        variable,
+        limit,
+        down,
+        body,
+    };
+    push_both(body, next, todo)?;
     Ok(Ok(Deed::Ticked))
 }
 

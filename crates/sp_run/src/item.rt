@@ -124,3 +124,11 @@ pub fn push_all<'a>(ss: &'a [Stmt], todo: &mut Vec<Item<'a>>) -> Result<(), Memo
     }
     Ok(())
 }
+
+/// Puts a statement and then one thing before what is left.
+pub fn push_both<'a>(s: &'a Stmt, item: Item<'a>, todo: &mut Vec<Item<'a>>) -> Result<(), Memory>
+    ensures { OnOk result (items_of todo.new.items ≡ push (stmt_of s.now) (item_of item.entry ∷ items_of todo.old.items)) }
+{
+    push_item(item, todo)?;
+    push(s, todo)
+}
