@@ -5,7 +5,6 @@ use Rattle.sp_tree.specs.PlainChecked as tree
 use Rattle.sp_tree.specs.CheckedOf.{expression_of, variable_of, actual_of, actuals, width_of, statement_of, statement_form_of, statements, sends, receives, arms, arm_of}
 use Rattle.sp_code.specs.declared.instr.Instr.{Instr}
 use Rattle.sp_code.specs.declared.instr.Instr.TheVariants as i
-use Rattle.sp_code.specs.Scopes.{slot}
 use Rattle.sp_code.specs.Emitted.{value_code}
 use Rattle.sp_generate.specs.Handings.{moved_of, shared_of}
 use Rattle.sp_generate.specs.Steps.{for_instr, next_instr}

@@ -1,4 +1,4 @@
-use Rattle.std.proofs.Common.{◌≡◌, ◌+◌, ◌≤◌, map, drop}
+use Rattle.std.proofs.Common.{◌≡◌, ◌+◌, ◌≤◌, drop}
 use Rattle.sp_tree.specs.PlainOf.{actuals_of, selectors_of}
 use Rattle.sp_code.specs.Lengths.{selectors_length, actuals_length}
 use Rattle.sp_length.specs.Told.{told}

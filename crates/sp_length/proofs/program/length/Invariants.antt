@@ -1,4 +1,4 @@
-use Rattle.std.proofs.Common.{◌≡◌, ◌+◌, ◌≤◌, map, drop}
+use Rattle.std.proofs.Common.{◌≡◌, ◌+◌, ◌≤◌, drop}
 use Rattle.sp_tree.specs.PlainOf.{blocks_of, program_of}
 use Rattle.sp_code.specs.Lengths.{blocks_length}
 use Rattle.sp_length.specs.Told.{told}

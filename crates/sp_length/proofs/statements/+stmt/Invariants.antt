@@ -1,4 +1,4 @@
-use Rattle.std.proofs.Common.{◌≡◌, ◌+◌, ◌≤◌, map, drop}
+use Rattle.std.proofs.Common.{◌≡◌, ◌+◌, ◌≤◌, drop}
 use Rattle.sp_tree.specs.PlainOf.{arms_of, program_of, stmts_of}
 use Rattle.sp_code.specs.Lengths.{all_length, children_length, arms_length}
 use Rattle.sp_length.specs.Told.{told}
