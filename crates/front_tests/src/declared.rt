@@ -1,8 +1,11 @@
 //! Trees without a text, by the numbers of their names.
 
-use sp_base::{Halt, List, Place, Refusal, Rule, Text};
+use crate::rows::is_refused;
+use sp_base::{Halt, List, Place, Rule, Text};
 use sp_scope::resolve;
-use sp_tree::{Name, SynBlock, SynConst, SynForm, SynKind, SynPart, SynStmt, SynValue, Syntax};
+use sp_tree::{
+    Name, Named, SynBlock, SynConst, SynForm, SynKind, SynPart, SynStmt, SynValue, Syntax,
+};
 use std::alloc::{AllocError, Global};
 use std::test::Fail;
 
@@ -42,29 +45,47 @@ fn letters(n: u32) -> [u8; 3] {
     ]
 }
 
+/// Another name of integer.
+fn integers(alloc: Global, n: u32) -> Result<SynPart, AllocError> {
+    let own = name(alloc, &letters(n), n)?;
+    let integer = name(alloc, b"integer", 0)?;
+    Ok(SynPart::Kind(own, SynKind::Alias(integer)))
+}
+
 /// So many types, each another name of integer.
 fn types(alloc: Global, count: u32) -> Result<List<SynPart>, Halt> {
     let mut parts = List::new(alloc);
     for n in 0..count {
-        let own = name(alloc, &letters(n), n)?;
-        let integer = name(alloc, b"integer", 0)?;
-        parts.push(SynPart::Kind(own, SynKind::Alias(integer)))?;
+        parts.push(integers(alloc, n)?)?;
     }
     Ok(parts)
 }
 
-#[test]
-fn numbers_a_constant(rt: HostRuntime) -> Result<(), Fail> {
-    let mut parts = List::new(rt.alloc());
-    let own = name(rt.alloc(), b"a", 18)?;
-    let maxint = name(rt.alloc(), b"maxint", 22)?;
-    let value = SynConst {
+// A constant that is another name of `maxint`.
+fn constant(alloc: Global) -> Result<SynConst, AllocError> {
+    let maxint = name(alloc, b"maxint", 22)?;
+    Ok(SynConst {
         at: at(22),
         negative: None,
         value: SynValue::Named(maxint),
-    };
-    parts.push(SynPart::Const(own, value))?;
-    let named = resolve(rt.alloc(), program(rt.alloc(), parts)?)?;
+    })
+}
+
+fn one_constant(alloc: Global) -> Result<List<SynPart>, Halt> {
+    let own = name(alloc, b"a", 18)?;
+    let part = SynPart::Const(own, constant(alloc)?);
+    let mut parts = List::new(alloc);
+    parts.push(part)?;
+    Ok(parts)
+}
+
+fn resolved(alloc: Global, parts: List<SynPart>) -> Result<Named, Halt> {
+    resolve(alloc, program(alloc, parts)?)
+}
+
+#[test]
+fn numbers_a_constant(rt: HostRuntime) -> Result<(), Fail> {
+    let named = resolved(rt.alloc(), one_constant(rt.alloc())?)?;
     assert_eq!(rt; named.constants.len(), 4);
     assert_eq!(rt; named.kinds.len(), 3);
     assert_eq!(rt; named.variables.len(), 2);
@@ -73,24 +94,15 @@ fn numbers_a_constant(rt: HostRuntime) -> Result<(), Fail> {
 }
 
 #[test]
-fn takes_4096_types_and_not_4097(rt: HostRuntime) -> Result<(), Fail> {
-    let most = program(rt.alloc(), types(rt.alloc(), 4096)?)?;
-    let named = resolve(rt.alloc(), most)?;
+fn takes_4096_types(rt: HostRuntime) -> Result<(), Fail> {
+    let named = resolved(rt.alloc(), types(rt.alloc(), 4096)?)?;
     assert_eq!(rt; named.kinds.len(), 4099);
-    let many = program(rt.alloc(), types(rt.alloc(), 4097)?)?;
-    match resolve(rt.alloc(), many) {
-        Err(Halt::Refused(r)) => {
-            assert_eq!(rt;
-                r,
-                Refusal {
-                    rule: Rule::L4,
-                    at: at(4096)
-                }
-            );
-        }
-        _ => {
-            assert!(rt; false);
-        }
-    }
+    Ok(())
+}
+
+#[test]
+fn refuses_4097_types(rt: HostRuntime) -> Result<(), Fail> {
+    let answer = resolved(rt.alloc(), types(rt.alloc(), 4097)?);
+    assert!(rt; is_refused(answer, Rule::L4, 1, 4096));
     Ok(())
 }

@@ -97,46 +97,51 @@ fn a_program_cut_behind_each_token(rt: HostRuntime) -> Result<(), Fail> {
     Ok(())
 }
 
+// Each with the column of the token that may not follow.
+const REFUSED: [(&[u8], u32); 29] = [
+    (b"program g; begin x = 1 end.", 20),
+    (b"program g begin end.", 11),
+    (b"begin end.", 1),
+    (b"program begin; begin end.", 9),
+    (b"program g(a,); begin end.", 13),
+    (b"program g; const a 1; begin end.", 20),
+    (b"program g; const a = -'x'; begin end.", 23),
+    (b"program g; const a = 1 begin end.", 24),
+    (b"program g; const begin end.", 18),
+    (b"program g; type t = array 1..2] of u; begin end.", 27),
+    (b"program g; type t = record end; begin end.", 28),
+    (b"program g; type t = *integer; begin end.", 22),
+    (b"program g; var x, : y; begin end.", 19),
+    (b"program g; procedure p(); begin end; begin end.", 24),
+    (b"program g; function f; begin end; begin end.", 22),
+    (b"program g; procedure p begin end; begin end.", 24),
+    (b"program g; begin x := 1 * -2 end.", 27),
+    (b"program g; begin x := - - 1 end.", 25),
+    (b"program g; begin x := 1 = 2 = 3 end.", 29),
+    (b"program g; begin x := (1 end.", 26),
+    (b"program g; begin x := a[1 end.", 27),
+    (b"program g; begin p(1; 2) end.", 21),
+    (b"program g; begin if x y end.", 23),
+    (b"program g; begin repeat x end.", 27),
+    (b"program g; begin for i := 1 do x end.", 29),
+    (b"program g; begin forall i := 3 downto 1 do x end.", 32),
+    (b"program g; begin case x of end end.", 28),
+    (b"program g; begin parallel x; y | ) end end.", 34),
+    (b"program g; begin end..", 21),
+];
+
 #[test]
 fn tokens_that_may_not_follow(rt: HostRuntime) -> Result<(), Fail> {
-    let cases: [(&[u8], u32); 30] = [
-        (b"program g; begin x = 1 end.", 20),
-        (b"program g begin end.", 11),
-        (b"begin end.", 1),
-        (b"program begin; begin end.", 9),
-        (b"program g(a,); begin end.", 13),
-        (b"program g; const a 1; begin end.", 20),
-        (b"program g; const a = -'x'; begin end.", 23),
-        (b"program g; const a = 1 begin end.", 24),
-        (b"program g; const begin end.", 18),
-        (b"program g; type t = array 1..2] of u; begin end.", 27),
-        (b"program g; type t = record end; begin end.", 28),
-        (b"program g; type t = *integer; begin end.", 22),
-        (b"program g; var x, : y; begin end.", 19),
-        (b"program g; procedure p(); begin end; begin end.", 24),
-        (b"program g; function f; begin end; begin end.", 22),
-        (b"program g; procedure p begin end; begin end.", 24),
-        (b"program g; begin x := 1 * -2 end.", 27),
-        (b"program g; begin x := - - 1 end.", 25),
-        (b"program g; begin x := 1 = 2 = 3 end.", 29),
-        (b"program g; begin x := (1 end.", 26),
-        (b"program g; begin x := a[1 end.", 27),
-        (b"program g; begin p(1; 2) end.", 21),
-        (b"program g; begin if x y end.", 23),
-        (b"program g; begin repeat x end.", 27),
-        (b"program g; begin for i := 1 do x end.", 29),
-        (b"program g; begin forall i := 3 downto 1 do x end.", 32),
-        (b"program g; begin case x of end end.", 28),
-        (b"program g; begin parallel x; y | ) end end.", 34),
-        (b"program g; begin end", 0),
-        (b"program g; begin end..", 21),
-    ];
-    for (text, column) in cases {
-        if column > 0 {
-            assert!(rt; refuses(rt.alloc(), text, Rule::G1, 1, column), "{column}");
-        }
+    for (text, column) in &REFUSED {
+        assert!(rt; refuses(rt.alloc(), text, Rule::G1, 1, *column), "{column}");
     }
+    Ok(())
+}
+
+#[test]
+fn what_stands_behind_a_program(rt: HostRuntime) -> Result<(), Fail> {
     assert!(rt; refuses(rt.alloc(), b"program g; begin end. a", Rule::G1, 1, 23));
+    assert!(rt; refuses(rt.alloc(), b"program g; begin end", Rule::G2, 1, 21));
     assert!(rt; accepts(rt.alloc(), b"program g; begin write(1); end."));
     Ok(())
 }

@@ -6,7 +6,6 @@ use std::alloc::{AllocError, Global};
 use std::test::Fail;
 
 /// A text in which a part is repeated: what stands before, the part, what stands between, its end, what stands behind.
-#[derive(Clone, Copy)]
 struct Nest<'a> {
     front: &'a [u8],
     part: &'a [u8],
@@ -15,93 +14,138 @@ struct Nest<'a> {
     end: &'a [u8],
 }
 
-fn nested(alloc: Global, nest: Nest, count: u32) -> Result<Vec<u8>, AllocError> {
+fn put_times(text: &mut Vec<u8>, part: &[u8], count: u32) -> Result<(), AllocError> {
+    for _ in 0..count {
+        text.extend_from_slice(part)?;
+    }
+    Ok(())
+}
+
+fn nested(alloc: Global, nest: &Nest, count: u32) -> Result<Vec<u8>, AllocError> {
     let mut text = Vec::from_slice(alloc, nest.front)?;
-    for _ in 0..count {
-        text.extend_from_slice(nest.part)?;
-    }
+    put_times(&mut text, nest.part, count)?;
     text.extend_from_slice(nest.middle)?;
-    for _ in 0..count {
-        text.extend_from_slice(nest.last)?;
-    }
+    put_times(&mut text, nest.last, count)?;
     text.extend_from_slice(nest.end)?;
     Ok(text)
 }
 
-// An expression in an assignment.
-fn in_assignment<'a>(part: &'a [u8], middle: &'a [u8], last: &'a [u8]) -> Nest<'a> {
-    Nest {
-        front: b"program g; begin x := ",
-        part,
-        middle,
-        last,
-        end: b" end.",
-    }
+// Whether the text with so many parts has a tree.
+fn takes(alloc: Global, nest: &Nest, count: u32) -> Result<bool, AllocError> {
+    let text = nested(alloc, nest, count)?;
+    Ok(accepts(alloc, &text))
 }
+
+// Whether the text with one part more is too deep in this column.
+fn is_too_deep(alloc: Global, nest: &Nest, most: u32, column: u32) -> Result<bool, AllocError> {
+    let text = nested(alloc, nest, most.saturating_add(1))?;
+    Ok(refuses(alloc, &text, Rule::L2, 1, column))
+}
+
+// An expression in an assignment.
+const PARENTHESES: Nest = Nest {
+    front: b"program g; begin x := ",
+    part: b"(",
+    middle: b"1",
+    last: b")",
+    end: b" end.",
+};
+
+const NEGATIONS: Nest = Nest {
+    front: b"program g; begin x := ",
+    part: b"not ",
+    middle: b"y",
+    last: b"",
+    end: b" end.",
+};
+
+const INDICES: Nest = Nest {
+    front: b"program g; begin x := ",
+    part: b"a[",
+    middle: b"1",
+    last: b"]",
+    end: b" end.",
+};
+
+const SUMMANDS: Nest = Nest {
+    front: b"program g; begin x := ",
+    part: b"1+",
+    middle: b"1",
+    last: b"",
+    end: b" end.",
+};
+
+const COMPOUNDS: Nest = Nest {
+    front: b"program g; begin ",
+    part: b"begin ",
+    middle: b"",
+    last: b"end ",
+    end: b"end.",
+};
+
+const BLOCKS: Nest = Nest {
+    front: b"program g; ",
+    part: b"procedure p;",
+    middle: b"",
+    last: b"begin end;",
+    end: b"begin end.",
+};
+
+const ARGUMENTS: Nest = Nest {
+    front: b"program g; begin write(",
+    part: b"1,",
+    middle: b"1",
+    last: b"",
+    end: b") end.",
+};
+
+const STATEMENTS: Nest = Nest {
+    front: b"program g; begin ",
+    part: b";",
+    middle: b"",
+    last: b"",
+    end: b"end.",
+};
+
+// How many parts there may be at most, and the column in which one more is refused.
+const DEEP: [(Nest, u32, u32); 5] = [
+    (PARENTHESES, 197, 221),
+    (NEGATIONS, 197, 815),
+    (INDICES, 197, 419),
+    (COMPOUNDS, 199, 1212),
+    (BLOCKS, 199, 2412),
+];
 
 #[test]
 fn nesting(rt: HostRuntime) -> Result<(), Fail> {
-    let compound = Nest {
-        front: b"program g; begin ",
-        part: b"begin ",
-        middle: b"",
-        last: b"end ",
-        end: b"end.",
-    };
-    let block = Nest {
-        front: b"program g; ",
-        part: b"procedure p;",
-        middle: b"",
-        last: b"begin end;",
-        end: b"begin end.",
-    };
-    let cases = [
-        (in_assignment(b"(", b"1", b")"), 197, 221),
-        (in_assignment(b"not ", b"y", b""), 197, 815),
-        (in_assignment(b"a[", b"1", b"]"), 197, 419),
-        (compound, 199, 1212),
-        (block, 199, 2412),
-    ];
-    for (nest, most, column) in cases {
-        let text = nested(rt.alloc(), nest, most)?;
-        assert!(rt; accepts(rt.alloc(), &text), "{column}");
-        let text = nested(rt.alloc(), nest, most.saturating_add(1))?;
-        assert!(rt; refuses(rt.alloc(), &text, Rule::L2, 1, column), "{column}");
+    for (nest, most, column) in &DEEP {
+        assert!(rt; takes(rt.alloc(), nest, *most)?, "{column}");
+    }
+    Ok(())
+}
+
+#[test]
+fn nesting_too_deep(rt: HostRuntime) -> Result<(), Fail> {
+    for (nest, most, column) in &DEEP {
+        assert!(rt; is_too_deep(rt.alloc(), nest, *most, *column)?, "{column}");
     }
     Ok(())
 }
 
 #[test]
 fn operands(rt: HostRuntime) -> Result<(), Fail> {
-    let text = nested(rt.alloc(), in_assignment(b"1+", b"1", b""), 400_000)?;
-    assert!(rt; accepts(rt.alloc(), &text));
+    assert!(rt; takes(rt.alloc(), &SUMMANDS, 400_000)?);
     Ok(())
 }
 
 #[test]
 fn arguments(rt: HostRuntime) -> Result<(), Fail> {
-    let nest = Nest {
-        front: b"program g; begin write(",
-        part: b"1,",
-        middle: b"1",
-        last: b"",
-        end: b") end.",
-    };
-    let text = nested(rt.alloc(), nest, 300_000)?;
-    assert!(rt; accepts(rt.alloc(), &text));
+    assert!(rt; takes(rt.alloc(), &ARGUMENTS, 300_000)?);
     Ok(())
 }
 
 #[test]
 fn statements(rt: HostRuntime) -> Result<(), Fail> {
-    let nest = Nest {
-        front: b"program g; begin ",
-        part: b";",
-        middle: b"",
-        last: b"",
-        end: b"end.",
-    };
-    let text = nested(rt.alloc(), nest, 500_000)?;
-    assert!(rt; accepts(rt.alloc(), &text));
+    assert!(rt; takes(rt.alloc(), &STATEMENTS, 500_000)?);
     Ok(())
 }

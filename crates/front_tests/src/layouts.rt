@@ -101,8 +101,7 @@ fn filled(
     count: usize,
     last: &[u8],
 ) -> Result<Vec<u8>, AllocError> {
-    let mut text = Vec::new(alloc);
-    text.extend_from_slice(first)?;
+    let mut text = Vec::from_slice(alloc, first)?;
     for _ in 0..count {
         text.extend_from_slice(middle)?;
     }
@@ -119,33 +118,56 @@ fn length(alloc: Global, text: &[u8]) -> usize {
 }
 
 #[test]
-fn long_texts(rt: HostRuntime) -> Result<(), Fail> {
-    let alloc = rt.alloc();
+fn many_blanks(rt: HostRuntime) -> Result<(), Fail> {
     // "program g;", "begin", "end.", and their line feeds
-    let blanks = filled(alloc, b"program g;begin", b" ", 1_048_557, b"end.")?;
+    let blanks = filled(rt.alloc(), b"program g;begin", b" ", 1_048_557, b"end.")?;
     assert_eq!(rt; blanks.len(), MAX_TEXT);
-    assert_eq!(rt; length(alloc, blanks.as_slice()), 22);
-    // a comment takes its own bytes and a line feed
-    let comments = filled(alloc, b"", b"{}", 349_518, b"program g;begin end.")?;
-    assert_eq!(rt; length(alloc, comments.as_slice()), 1_048_576);
-    let longer = filled(alloc, b"", b"{}", 349_518, b"program gg;begin end.")?;
-    assert!(rt; refuses(alloc, longer.as_slice(), Rule::L1, 1, 1));
-    let names = filled(alloc, b"program g(a", b",a", 300_000, b");begin end.")?;
-    assert_eq!(rt; length(alloc, names.as_slice()), 900_025);
+    assert_eq!(rt; length(rt.alloc(), blanks.as_slice()), 22);
+    Ok(())
+}
+
+// A comment takes its own bytes and a line feed.
+fn commented(alloc: Global, last: &[u8]) -> Result<Vec<u8>, AllocError> {
+    filled(alloc, b"", b"{}", 349_518, last)
+}
+
+#[test]
+fn many_comments(rt: HostRuntime) -> Result<(), Fail> {
+    let comments = commented(rt.alloc(), b"program g;begin end.")?;
+    assert_eq!(rt; length(rt.alloc(), comments.as_slice()), 1_048_576);
     Ok(())
 }
 
 #[test]
-fn deep_parts(rt: HostRuntime) -> Result<(), Fail> {
-    let alloc = rt.alloc();
+fn a_canonical_text_too_long(rt: HostRuntime) -> Result<(), Fail> {
+    let longer = commented(rt.alloc(), b"program gg;begin end.")?;
+    assert!(rt; refuses(rt.alloc(), longer.as_slice(), Rule::L1, 1, 1));
+    Ok(())
+}
+
+#[test]
+fn many_names(rt: HostRuntime) -> Result<(), Fail> {
+    let names = filled(rt.alloc(), b"program g(a", b",a", 300_000, b");begin end.")?;
+    assert_eq!(rt; length(rt.alloc(), names.as_slice()), 900_025);
+    Ok(())
+}
+
+// Statements inside one another, up to the limit.
+fn deepest(alloc: Global) -> Result<Vec<u8>, AllocError> {
     let mut text = filled(alloc, b"program g;begin ", b"begin ", 199, b"")?;
     for _ in 0..199 {
         text.extend_from_slice(b"end ")?;
     }
     text.extend_from_slice(b"end.")?;
+    Ok(text)
+}
+
+#[test]
+fn deep_parts(rt: HostRuntime) -> Result<(), Fail> {
+    let text = deepest(rt.alloc())?;
     // "program g;", and for each depth up to 199 a line with "begin" and one with "end", and a dot
     assert_eq!(rt;
-        length(alloc, text.as_slice()),
+        length(rt.alloc(), text.as_slice()),
         11 + 200 * (6 + 4) + 1 + 4 * 19_900
     );
     Ok(())

@@ -1,20 +1,21 @@
 //! Statements and expressions, spelled again from their trees with their parts marked.
 
-use crate::declarations::{add, add_constant, add_name};
+use crate::declarations::{add, add_constant, add_digit, add_name, add_quoted};
 use sp_base::Place;
 use sp_front::read_text;
 use sp_tree::{
-    BinaryOp, SynArg, SynArm, SynBranch, SynExpr, SynExprForm, SynForm, SynSelector, SynStmt,
-    SynVar, UnaryOp,
+    BinaryOp, Name, SynArg, SynArm, SynBranch, SynConst, SynExpr, SynExprForm, SynForm,
+    SynSelector, SynStmt, SynVar, UnaryOp,
 };
 use std::alloc::{AllocError, Global};
 use std::test::Fail;
 
+// An operator of one operand, behind the parenthesis of both.
 fn unary_text(op: UnaryOp) -> &'static [u8] {
     match op {
-        UnaryOp::Plus => b"+",
-        UnaryOp::Minus => b"-",
-        UnaryOp::Not => b"not ",
+        UnaryOp::Plus => b"(+",
+        UnaryOp::Minus => b"(-",
+        UnaryOp::Not => b"(not ",
     }
 }
 
@@ -40,32 +41,26 @@ fn binary_text(op: BinaryOp) -> &'static [u8] {
 #[cycle(spell_expression)]
 fn add_expression(all: &mut Vec<u8>, e: &SynExpr) -> Result<(), AllocError> {
     match &e.form {
-        SynExprForm::Number(n) => all.push(b'0' + (*n % 10) as u8)?,
-        SynExprForm::Quoted(text) => {
-            add(all, b"'")?;
-            add(all, text.bytes())?;
-            add(all, b"'")?;
-        }
-        SynExprForm::Read(v) => add_variable(all, v)?,
+        SynExprForm::Number(n) => add_digit(all, *n),
+        SynExprForm::Quoted(text) => add_quoted(all, text),
+        SynExprForm::Read(v) => add_variable(all, v),
         SynExprForm::Call(name, args) => {
             add_name(all, name)?;
-            add_arguments(all, args.items())?;
+            add_arguments(all, args.items())
         }
         SynExprForm::Unary(op, a) => {
-            add(all, b"(")?;
             add(all, unary_text(*op))?;
             add_expression(all, a.get())?;
-            add(all, b")")?;
+            add(all, b")")
         }
         SynExprForm::Binary(op, a, b) => {
             add(all, b"(")?;
             add_expression(all, a.get())?;
             add(all, binary_text(*op))?;
             add_expression(all, b.get())?;
-            add(all, b")")?;
+            add(all, b")")
         }
     }
-    Ok(())
 }
 
 #[cycle(spell_expression)]
@@ -113,58 +108,76 @@ fn add_argument(all: &mut Vec<u8>, arg: &SynArg) -> Result<(), AllocError> {
     Ok(())
 }
 
+fn add_assignment(all: &mut Vec<u8>, to: &SynVar, value: &SynExpr) -> Result<(), AllocError> {
+    add_variable(all, to)?;
+    add(all, b":=")?;
+    add_expression(all, value)
+}
+
+fn add_call(all: &mut Vec<u8>, name: &Name, args: &[SynArg]) -> Result<(), AllocError> {
+    add_name(all, name)?;
+    if args.is_empty() {
+        return Ok(());
+    }
+    add_arguments(all, args)
+}
+
+// A word and what is asked behind it.
+fn add_asked(all: &mut Vec<u8>, word: &[u8], test: &SynExpr) -> Result<(), AllocError> {
+    add(all, word)?;
+    add_expression(all, test)
+}
+
+// A variable and what it begins at.
+fn add_start(
+    all: &mut Vec<u8>,
+    word: &[u8],
+    name: &Name,
+    from: &SynExpr,
+) -> Result<(), AllocError> {
+    add(all, word)?;
+    add_name(all, name)?;
+    add(all, b":=")?;
+    add_expression(all, from)
+}
+
+fn way_text(down: bool) -> &'static [u8] {
+    if down { b" downto " } else { b" to " }
+}
+
 // A statement, with an end of its own where the language has none.
 #[cycle(spell_statement)]
 fn add_statement(all: &mut Vec<u8>, s: &SynStmt) -> Result<(), AllocError> {
     match &s.form {
         SynForm::Empty => Ok(()),
-        SynForm::Assign(to, value) => {
-            add_variable(all, to)?;
-            add(all, b":=")?;
-            add_expression(all, value)
-        }
-        SynForm::Call(name, args) => {
-            add_name(all, name)?;
-            if args.is_empty() {
-                return Ok(());
-            }
-            add_arguments(all, args.items())
-        }
+        SynForm::Assign(to, value) => add_assignment(all, to, value),
+        SynForm::Call(name, args) => add_call(all, name, args.items()),
         SynForm::Sequence(body) => {
             add(all, b"begin ")?;
             add_statements(all, body.items())?;
             add(all, b" end")
         }
         SynForm::If(test, body, other) => {
-            add(all, b"if ")?;
-            add_expression(all, test)?;
+            add_asked(all, b"if ", test)?;
             add(all, b" then ")?;
             add_statement(all, body.get())?;
             if let Some(other) = other {
-                add(all, b" else ")?;
-                add_statement(all, other.get())?;
+                add_otherwise(all, other.get())?;
             }
             add(all, b" fi")
         }
         SynForm::While(test, body) => {
-            add(all, b"while ")?;
-            add_expression(all, test)?;
+            add_asked(all, b"while ", test)?;
             add_body(all, body.get())
         }
         SynForm::Repeat(body, test) => {
             add(all, b"repeat ")?;
             add_statements(all, body.items())?;
-            add(all, b" until ")?;
-            add_expression(all, test)
+            add_asked(all, b" until ", test)
         }
         SynForm::Case(test, arms) => {
-            add(all, b"case ")?;
-            add_expression(all, test)?;
-            add(all, b" of ")?;
-            for arm in arms.items() {
-                add_arm(all, arm)?;
-            }
-            add(all, b"end")
+            add_asked(all, b"case ", test)?;
+            add_arms(all, arms.items())
         }
         SynForm::For {
             name,
@@ -173,42 +186,29 @@ fn add_statement(all: &mut Vec<u8>, s: &SynStmt) -> Result<(), AllocError> {
             to,
             body,
         } => {
-            add(all, b"for ")?;
-            add_name(all, name)?;
-            add(all, b":=")?;
-            add_expression(all, from)?;
-            let way: &[u8] = if *down { b" downto " } else { b" to " };
-            add(all, way)?;
-            add_expression(all, to)?;
+            add_start(all, b"for ", name, from)?;
+            add_asked(all, way_text(*down), to)?;
             add_body(all, body.get())
         }
-        SynForm::Parallel(branches) => {
-            add(all, b"parallel")?;
-            for branch in branches.items() {
-                add(all, b"|")?;
-                add_branch(all, branch)?;
-            }
-            add(all, b" end")
-        }
+        SynForm::Parallel(branches) => add_branches(all, branches.items()),
         SynForm::Forall {
             name,
             from,
             to,
             body,
         } => {
-            add(all, b"forall ")?;
-            add_name(all, name)?;
-            add(all, b":=")?;
-            add_expression(all, from)?;
-            add(all, b" to ")?;
-            add_expression(all, to)?;
+            add_start(all, b"forall ", name, from)?;
+            add_asked(all, b" to ", to)?;
             add_body(all, body.get())
         }
-        SynForm::Assume(test) => {
-            add(all, b"assume ")?;
-            add_expression(all, test)
-        }
+        SynForm::Assume(test) => add_asked(all, b"assume ", test),
     }
+}
+
+#[cycle(spell_statement)]
+fn add_otherwise(all: &mut Vec<u8>, other: &SynStmt) -> Result<(), AllocError> {
+    add(all, b" else ")?;
+    add_statement(all, other)
 }
 
 // What is done again and again, or in each process.
@@ -231,16 +231,39 @@ fn add_statements(all: &mut Vec<u8>, body: &[SynStmt]) -> Result<(), AllocError>
 }
 
 #[cycle(spell_statement)]
+fn add_arms(all: &mut Vec<u8>, arms: &[SynArm]) -> Result<(), AllocError> {
+    add(all, b" of ")?;
+    for arm in arms {
+        add_arm(all, arm)?;
+    }
+    add(all, b"end")
+}
+
+#[cycle(spell_statement)]
 fn add_arm(all: &mut Vec<u8>, arm: &SynArm) -> Result<(), AllocError> {
+    add_constants(all, arm.constants.items())?;
+    add_statement(all, &arm.body)?;
+    add(all, b"; ")
+}
+
+fn add_constants(all: &mut Vec<u8>, constants: &[SynConst]) -> Result<(), AllocError> {
     let mut before: &[u8] = b"";
-    for constant in arm.constants.items() {
+    for constant in constants {
         add(all, before)?;
         add_constant(all, constant)?;
         before = b",";
     }
-    add(all, b":")?;
-    add_statement(all, &arm.body)?;
-    add(all, b"; ")
+    add(all, b":")
+}
+
+#[cycle(spell_statement)]
+fn add_branches(all: &mut Vec<u8>, branches: &[SynBranch]) -> Result<(), AllocError> {
+    add(all, b"parallel")?;
+    for branch in branches {
+        add(all, b"|")?;
+        add_branch(all, branch)?;
+    }
+    add(all, b" end")
 }
 
 #[cycle(spell_statement)]
@@ -294,62 +317,64 @@ fn an_expression_begins_at_its_outermost_parenthesis(rt: HostRuntime) -> Result<
     Ok(())
 }
 
+const STATEMENTS: [(&str, &str); 10] = [
+    ("", "begin  end"),
+    ("; begin end; P; x := 1", "begin ;begin  end;p;x:=1 end"),
+    ("p(1, x: 2, y)", "begin p(1,x:2,y) end"),
+    (
+        "if a then b else c; if a then else",
+        "begin if a then b else c fi;if a then  else  fi end",
+    ),
+    (
+        "if a then while b do if c then d else e",
+        "begin if a then while b do if c then d else e fi od fi end",
+    ),
+    ("repeat a; b until c; d", "begin repeat a;b until c;d end"),
+    (
+        "for i := 1 to 2 do a; for i := 2 downto 1 do",
+        "begin for i:=1 to 2 do a od;for i:=2 downto 1 do  od end",
+    ),
+    (
+        "case x of 1, -a: b; 'c': ; end; case y of +2: end",
+        "begin case x of 1,-a:b; 'c':; end;case y of +2:; end end",
+    ),
+    (
+        "parallel a; b | c | end; forall i := 1 to 2 do a",
+        "begin parallel|a;b|c| end;forall i:=1 to 2 do a od end",
+    ),
+    ("assume a < b", "begin assume (a<b) end"),
+];
+
 #[test]
 fn each_form_of_statement(rt: HostRuntime) -> Result<(), Fail> {
-    let cases = [
-        ("", "begin  end"),
-        ("; begin end; P; x := 1", "begin ;begin  end;p;x:=1 end"),
-        ("p(1, x: 2, y)", "begin p(1,x:2,y) end"),
-        (
-            "if a then b else c; if a then else",
-            "begin if a then b else c fi;if a then  else  fi end",
-        ),
-        (
-            "if a then while b do if c then d else e",
-            "begin if a then while b do if c then d else e fi od fi end",
-        ),
-        ("repeat a; b until c; d", "begin repeat a;b until c;d end"),
-        (
-            "for i := 1 to 2 do a; for i := 2 downto 1 do",
-            "begin for i:=1 to 2 do a od;for i:=2 downto 1 do  od end",
-        ),
-        (
-            "case x of 1, -a: b; 'c': ; end; case y of +2: end",
-            "begin case x of 1,-a:b; 'c':; end;case y of +2:; end end",
-        ),
-        (
-            "parallel a; b | c | end; forall i := 1 to 2 do a",
-            "begin parallel|a;b|c| end;forall i:=1 to 2 do a od end",
-        ),
-        ("assume a < b", "begin assume (a<b) end"),
-    ];
-    assert_eq!(rt; first_wrong(rt.alloc(), cases.as_slice())?, None);
+    assert_eq!(rt; first_wrong(rt.alloc(), &STATEMENTS)?, None);
     Ok(())
 }
 
+const EXPRESSIONS: [(&str, &str); 10] = [
+    ("x := a = b", "begin x:=(a=b) end"),
+    ("x := a <> b", "begin x:=(a<>b) end"),
+    ("x := a <= b + c", "begin x:=(a<=(b+c)) end"),
+    ("x := a > b; x := c >= d", "begin x:=(a>b);x:=(c>=d) end"),
+    ("x := +a + b - c or d", "begin x:=((((+a)+b)-c) or d) end"),
+    (
+        "x := a * b div c mod d and e",
+        "begin x:=((((a*b) div c) mod d) and e) end",
+    ),
+    ("x := -a * b + c", "begin x:=((-(a*b))+c) end"),
+    ("x := a - (b - c)", "begin x:=(a-(b-c)) end"),
+    (
+        "x := not (f(1, 2: 3) + 'a''b') and not g",
+        "begin x:=((not (f(1,2:3)+'a'b')) and (not g)) end",
+    ),
+    (
+        "a[1, 2].b[c] := d.e[f, g][h].i",
+        "begin a[1][2].b[c]:=d.e[f][g][h].i end",
+    ),
+];
+
 #[test]
 fn each_form_of_expression(rt: HostRuntime) -> Result<(), Fail> {
-    let cases = [
-        ("x := a = b", "begin x:=(a=b) end"),
-        ("x := a <> b", "begin x:=(a<>b) end"),
-        ("x := a <= b + c", "begin x:=(a<=(b+c)) end"),
-        ("x := a > b; x := c >= d", "begin x:=(a>b);x:=(c>=d) end"),
-        ("x := +a + b - c or d", "begin x:=((((+a)+b)-c) or d) end"),
-        (
-            "x := a * b div c mod d and e",
-            "begin x:=((((a*b) div c) mod d) and e) end",
-        ),
-        ("x := -a * b + c", "begin x:=((-(a*b))+c) end"),
-        ("x := a - (b - c)", "begin x:=(a-(b-c)) end"),
-        (
-            "x := not (f(1, 2: 3) + 'a''b') and not g",
-            "begin x:=((not (f(1,2:3)+'a'b')) and (not g)) end",
-        ),
-        (
-            "a[1, 2].b[c] := d.e[f, g][h].i",
-            "begin a[1][2].b[c]:=d.e[f][g][h].i end",
-        ),
-    ];
-    assert_eq!(rt; first_wrong(rt.alloc(), cases.as_slice())?, None);
+    assert_eq!(rt; first_wrong(rt.alloc(), &EXPRESSIONS)?, None);
     Ok(())
 }

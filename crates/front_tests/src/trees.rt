@@ -69,35 +69,40 @@ fn typed_number(n: i64, column: u32) -> Expr {
     }
 }
 
-#[test]
-fn takes_an_expression_apart(rt: HostRuntime) -> Result<(), Fail> {
-    let a = Boxed::new(rt.alloc(), typed_number(1, 3))?;
-    let b = Boxed::new(rt.alloc(), typed_number(2, 5))?;
-    let sum = Expr {
-        at: Place { line: 1, column: 3 },
+fn typed_sum(alloc: Global) -> Result<Expr, AllocError> {
+    let a = Boxed::new(alloc, typed_number(1, 3))?;
+    let b = Boxed::new(alloc, typed_number(2, 5))?;
+    Ok(Expr {
+        at: PLACE,
         kind: 0,
         form: ExprForm::Binary(BinaryOp::Add, a, b),
-    };
-    let (place, number, form) = sum.parts();
-    assert_eq!(rt; place, Place { line: 1, column: 3 });
+    })
+}
+
+#[test]
+fn takes_an_expression_apart(rt: HostRuntime) -> Result<(), Fail> {
+    let (place, number, form) = typed_sum(rt.alloc())?.parts();
+    assert_eq!(rt; place, PLACE);
     assert_eq!(rt; number, 0);
     assert!(rt; matches!(&form, ExprForm::Binary(BinaryOp::Add, _, _)));
     Ok(())
 }
 
-#[test]
-fn takes_a_named_expression_apart(rt: HostRuntime) -> Result<(), Fail> {
-    let place = Place { line: 1, column: 3 };
+fn negated(alloc: Global) -> Result<NamedExpr, AllocError> {
     let zero = NamedExpr {
-        at: place,
+        at: PLACE,
         form: NamedExprForm::Constant(0),
     };
-    let not = NamedExpr {
-        at: place,
-        form: NamedExprForm::Unary(UnaryOp::Not, Boxed::new(rt.alloc(), zero)?),
-    };
-    let (at, form) = not.parts();
-    assert_eq!(rt; at, place);
+    Ok(NamedExpr {
+        at: PLACE,
+        form: NamedExprForm::Unary(UnaryOp::Not, Boxed::new(alloc, zero)?),
+    })
+}
+
+#[test]
+fn takes_a_named_expression_apart(rt: HostRuntime) -> Result<(), Fail> {
+    let (at, form) = negated(rt.alloc())?.parts();
+    assert_eq!(rt; at, PLACE);
     assert!(rt; matches!(&form, NamedExprForm::Unary(UnaryOp::Not, _)));
     Ok(())
 }
