@@ -13,14 +13,15 @@ use Rattle.sp_meaning.specs.Own as m
 use Rattle.sp_tree.specs.Plain.{Stmt}
 use Rattle.sp_meaning.specs.Values.{Value, Ordinal}
 use Rattle.sp_meaning.specs.Eval.{Place}
-use Rattle.sp_meaning.specs.Deeds.{Deed, Ticked, push, goes_on}
+use Rattle.sp_meaning.specs.Deeds.{Deed, Ticked, push, next_value, goes_on}
 use Rattle.sp_run.specs.Machines.{setting_of, plain_own, plain_who, store_of}
 use Rattle.sp_run.specs.Comings.{Implements}
 use Rattle.sp_run.specs.Items.{item_of, items_of}
 use Rattle.sp_run.specs.Texts.{leaves, index_set}
 use Rattle.sp_run.specs.Direct.{Store, Came, Got, Not, Work, bind, give, go_on, assign, tick}
-use Rattle.sp_run.specs.DirectEval.{place_of, address_of}
+use Rattle.sp_run.specs.DirectEval.{ordinal, place_of, read_at, address_of}
 use Rattle.sp_run.specs.DirectDeeds.{peek, settle, turn_of}
+use Rattle.sp_run.specs.Acts.{index_value, next_turn}
 
 -- a call after another computes what the two compute one after the other
 pub does_then : {R A B : Type 0} (g : Setting) (w : Who) (view : R → B) (before mid after : Machine) (result : Result (Result R Halted) Memory) (h : Work A) (k : A → Work B) (a : A)
@@ -94,3 +95,27 @@ turned_not g x n limit down b todo w o s h e = turn_is g x n limit down b todo w
 pub turned_late : (g : m.Setting) (x : ℕ) (n limit : ℤ) (down : Bool) (b : Stmt) (todo : List m.Item) (w : m.Who) (o o1 : m.Own) (s s1 : Store) (u : Unit {0}) (h : Halted)
     → index_set g x n w o s ≡ Got u o1 s1 → tick g.limits w o1 s1 ≡ Not h → turn_of g x n limit down b todo w o s ≡ Not h
 turned_late g x n limit down b todo w o o1 s s1 u h e1 e2 = turn_is g x n limit down b todo w o s ∙ rw (e1, e2) refl
+
+-- the next turn of a for loop: the value of its variable, and the turn after it
+next_is : (g : m.Setting) (x : ℕ) (limit : ℤ) (down : Bool) (b : Stmt) (todo : List m.Item) (w : m.Who) (o : m.Own) (s : Store)
+    → next_turn g x limit down b todo w o s ≡ bind (index_value g x) (λ n. turn_of g x (next_value down n) limit down b todo) w o s
+next_is g x limit down b todo w o s = found (place_of g x w o s)
+  where
+    on : ℤ → Work Deed
+    on n = turn_of g x (next_value down n) limit down b todo
+
+    read : (c : Came Value) → go_on (λ v. bind (ordinal v) on) w c ≡ go_on on w (go_on ordinal w c)
+    read (Got v o1 s1) = refl
+    read (Not h) = refl
+
+    found : (c : Came Place) → go_on (λ q. bind (read_at g q) (λ v. bind (ordinal v) on)) w c ≡ go_on on w (go_on (λ q. bind (read_at g q) ordinal) w c)
+    found (Got q o1 s1) = read (read_at g q w o1 s1)
+    found (Not h) = refl
+
+pub next_on : (g : m.Setting) (x : ℕ) (limit : ℤ) (down : Bool) (b : Stmt) (todo : List m.Item) (w : m.Who) (o o1 : m.Own) (s s1 : Store) (n : ℤ)
+    → index_value g x w o s ≡ Got n o1 s1 → next_turn g x limit down b todo w o s ≡ turn_of g x (next_value down n) limit down b todo w o1 s1
+next_on g x limit down b todo w o o1 s s1 n e = next_is g x limit down b todo w o s ∙ rw e refl
+
+pub next_not : (g : m.Setting) (x : ℕ) (limit : ℤ) (down : Bool) (b : Stmt) (todo : List m.Item) (w : m.Who) (o : m.Own) (s : Store) (h : Halted)
+    → index_value g x w o s ≡ Not h → next_turn g x limit down b todo w o s ≡ Not h
+next_not g x limit down b todo w o s h e = next_is g x limit down b todo w o s ∙ rw e refl

@@ -59,6 +59,10 @@ module _ (g : Setting) where
   abbrev pub repeated : Stmt → Expr → List Item → Work Deed
   repeated s e todo = bind (tick g.limits) (λ u. give (Ticked (push s (Test s e ∷ todo))))
 
+  -- the value of a for variable
+  abbrev pub index_value : ℕ → Work ℤ
+  index_value x = bind (place_of g x) (λ q. bind (read_at g q) ordinal)
+
   -- the next turn of a for loop
   abbrev pub next_turn : ℕ → ℤ → Bool → Stmt → List Item → Work Deed
   next_turn x n down s todo = bind (place_of g x) (λ q. bind (read_at g q) (λ v. bind (ordinal v) (λ m. turn_of g x (next_value down m) n down s todo)))

@@ -5,11 +5,11 @@ ghost use Rattle.sp_tree.specs.PlainOf.{expr_of, stmt_of, arms_of};
 ghost use Rattle.sp_meaning.specs.Deeds.{arm_for, is_range, next_value};
 ghost use Rattle.sp_run.specs.Items.{items_of};
 ghost use Rattle.sp_run.specs.Machines.{setting_of, plain_who};
-ghost use Rattle.sp_run.specs.Comings.{Implements};
+ghost use Rattle.sp_run.specs.Comings.{Implements, same};
 ghost use Rattle.sp_run.specs.Views.{plain_value, plain_address};
 ghost use Rattle.sp_run.specs.Doings.{given_of, plain_deed};
 ghost use Rattle.sp_run.specs.DirectDeeds.{chosen, turn_of};
-ghost use Rattle.sp_run.specs.Acts.{assigned_to, picked, either, ranged, tested, assumed, opened, next_channel, called, looped, repeated, next_turn, returned, read_value, read_line, write_bytes, write_text, write_shown};
+ghost use Rattle.sp_run.specs.Acts.{assigned_to, picked, either, ranged, tested, assumed, opened, next_channel, called, looped, repeated, index_value, next_turn, returned, read_value, read_line, write_bytes, write_text, write_shown};
 
 use crate::calls::{Given, enter, leave, tick};
 use crate::deeds::{Deed, advance, arm_for, take_in, turn_of, write};
@@ -286,6 +286,15 @@ fn turn_after<'a>(
     turn_of(run, who, machine, variable, n, limit, down, body, todo)
 }
 
+/// The value of a `for` variable.
+fn index_value(run: &Setting, who: &Who, machine: &mut Machine, variable: u32) -> Done<i64>
+    ensures { Implements run.now who.now same machine.old result machine.new (index_value (setting_of run.now) variable) }
+{
+    let q = take!(place_of(run, who, machine, variable));
+    let v = take!(read_at(run, who, machine, &q));
+    ordinal(run, who, machine, &v)
+}
+
 /// The next turn of a `for` loop.
 pub fn next_turn<'a>(
     run: &Setting,
@@ -300,9 +309,7 @@ pub fn next_turn<'a>(
     ensures { Implements run.now who.now (plain_deed (items_of todo.new.items)) machine.old result machine.new
         (next_turn (setting_of run.now) variable limit down (stmt_of body.now) (items_of todo.old.items)) }
 {
-    let q = take!(place_of(run, who, machine, variable));
-    let v = take!(read_at(run, who, machine, &q));
-    let n = take!(ordinal(run, who, machine, &v));
+    let n = take!(index_value(run, who, machine, variable));
     turn_after(run, who, machine, variable, n, limit, down, body, todo)
 }
 
