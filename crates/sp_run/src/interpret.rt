@@ -352,29 +352,29 @@ pub fn act<'a>(
     }
     let levels = levels - 1;
     match item {
-        Item::Do(s) => { start(run, who, fuel, levels, machine, s, todo) }
+        Item::Do(s) => start(run, who, fuel, levels, machine, s, todo),
         Item::First {
             variable,
             low,
             high,
             down,
             body,
-        } => { turn_of(run, who, machine, variable, low, high, down, body, todo) }
+        } => turn_of(run, who, machine, variable, low, high, down, body, todo),
         Item::Again {
             variable,
             limit,
             down,
             body,
-        } => { next_turn(run, who, machine, variable, limit, down, body, todo) }
-        Item::While(e, s) => { start_while(run, who, fuel, levels, machine, e, s, todo) }
-        Item::Repeat(s, e) => { repeated(run, who, machine, s, e, todo) }
+        } => next_turn(run, who, machine, variable, limit, down, body, todo),
+        Item::While(e, s) => start_while(run, who, fuel, levels, machine, e, s, todo),
+        Item::Repeat(s, e) => repeated(run, who, machine, s, e, todo),
         Item::Test(s, e) => {
             let n = take!(ordinal_of(run, who, fuel, levels, machine, e));
             tested(run, who, machine, n, s, e, todo)
         }
         Item::Send(c, e) => start_send(run, who, fuel, levels, machine, c, e, todo),
         Item::Receive(c, x) => start_receive(run, who, fuel, levels, machine, c, x, todo),
-        Item::Leave => { returned(run, who, machine, todo) }
+        Item::Leave => returned(run, who, machine, todo),
         Item::Break(f) => Ok(Err(Halted::Fault(f))),
     }
 }
@@ -743,7 +743,7 @@ fn start<'a>(
     let levels = levels - 1;
     match &s.form {
         Form::Empty => Ok(Ok(Deed::Stepped)),
-        Form::Assign(x, e) => { start_assign(run, who, fuel, levels, machine, x, e, todo) }
+        Form::Assign(x, e) => start_assign(run, who, fuel, levels, machine, x, e, todo),
         Form::Call(f, args) => {
             start_call(run, who, fuel, levels, machine, *f, args.items(), todo)
         }
@@ -751,12 +751,12 @@ fn start<'a>(
             push_all(ss.items(), todo)?;
             Ok(Ok(Deed::Stepped))
         }
-        Form::If(e, a, None) => { start_if(run, who, fuel, levels, machine, e, a.get(), todo) }
+        Form::If(e, a, None) => start_if(run, who, fuel, levels, machine, e, a.get(), todo),
         Form::If(e, a, Some(b)) => {
             start_either(run, who, fuel, levels, machine, e, a.get(), b.get(), todo)
         }
-        Form::While(e, s) => { start_while(run, who, fuel, levels, machine, e, s.get(), todo) }
-        Form::Repeat(s, e) => { repeated(run, who, machine, s.get(), e, todo) }
+        Form::While(e, s) => start_while(run, who, fuel, levels, machine, e, s.get(), todo),
+        Form::Repeat(s, e) => repeated(run, who, machine, s.get(), e, todo),
         Form::For {
             variable,
             at: _,
@@ -782,7 +782,7 @@ fn start<'a>(
         Form::Case(e, arms) => {
             start_case(run, who, fuel, levels, machine, e, arms.items(), todo)
         }
-        Form::Parallel(ss) => { fork(run, who, machine, Births::Children(ss.items()), todo) }
+        Form::Parallel(ss) => fork(run, who, machine, Births::Children(ss.items()), todo),
         Form::Forall {
             index,
             from,
@@ -802,15 +802,15 @@ fn start<'a>(
                 todo,
             )
         }
-        Form::Assume(e) => { start_assume(run, who, fuel, levels, machine, e, todo) }
-        Form::ReadValue(x) => { start_read(run, who, fuel, levels, machine, x, todo) }
-        Form::ReadLine => { read_line(run, who, machine, todo) }
-        Form::WriteValue(e, w) => { start_write(run, who, fuel, levels, machine, e, w, todo) }
-        Form::WriteText(t, w) => { start_text(run, who, fuel, levels, machine, t.bytes(), w, todo) }
-        Form::WriteLine => { write_bytes(run, who, machine, b"\n", todo) }
-        Form::Open(x) => { start_open(run, who, fuel, levels, machine, x, todo) }
-        Form::Send(c, e) => { start_send(run, who, fuel, levels, machine, c, e, todo) }
-        Form::Receive(c, x) => { start_receive(run, who, fuel, levels, machine, c, x, todo) }
+        Form::Assume(e) => start_assume(run, who, fuel, levels, machine, e, todo),
+        Form::ReadValue(x) => start_read(run, who, fuel, levels, machine, x, todo),
+        Form::ReadLine => read_line(run, who, machine, todo),
+        Form::WriteValue(e, w) => start_write(run, who, fuel, levels, machine, e, w, todo),
+        Form::WriteText(t, w) => start_text(run, who, fuel, levels, machine, t.bytes(), w, todo),
+        Form::WriteLine => write_bytes(run, who, machine, b"\n", todo),
+        Form::Open(x) => start_open(run, who, fuel, levels, machine, x, todo),
+        Form::Send(c, e) => start_send(run, who, fuel, levels, machine, c, e, todo),
+        Form::Receive(c, x) => start_receive(run, who, fuel, levels, machine, c, x, todo),
         Form::SendEach {
             at: _,
             number: _,
