@@ -1,5 +1,7 @@
 //! Libraries, sources and sinks that fail, long inputs, and what is left of the input.
 
+ghost use Rattle.std.specs.Prelude.{◌≤◌};
+
 use crate::calls::{
     ANSWER, Failing, NONE, ORDERED, RUN, call, expect, expect_given, expect_on, filled, source,
 };
@@ -31,7 +33,9 @@ fn failing_source(
     bytes: &[u8],
     most: usize,
     failing: u32,
-) -> Result<MemorySource, AllocError> {
+) -> Result<MemorySource, AllocError>
+    requires { 1 ≤ most }
+{
     let failing = List::from_slice(alloc, &[failing])?;
     let bytes = Vec::from_slice(alloc, bytes)?;
     Ok(MemorySource::new(bytes, most, failing))
