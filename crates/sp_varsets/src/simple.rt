@@ -4,8 +4,10 @@ ghost use Rattle.std.specs.Prelude.{◌≡◌, ℕ, List, OnOk, map};
 ghost use Rattle.sp_tree.specs.Bare.{bare_expression, bare_variable, bare_actuals, bare_width};
 ghost use Rattle.sp_tree.specs.CheckedOf.{expression_of, variable_of, actual_of, actuals, width_of};
 ghost use Rattle.sp_tree.specs.Plain.{Assign, Call, ReadValue, ReadLine, WriteValue, WriteText, WriteLine, Open, Send, Receive};
-ghost use Rattle.sp_tree.specs.Uses.{In_stmt};
-ghost use Rattle.sp_varsets.specs.Adds.{Adds};
+ghost use Rattle.sp_tree.specs.Plain.{Expr as AnExpr};
+ghost use Rattle.sp_tree.specs.Uses.{In_expr, In_stmt};
+ghost use Rattle.sp_varsets.specs.declared.uses.Uses.{Uses as AUses};
+ghost use Rattle.sp_varsets.specs.Adds.{Adds, AreEmpty};
 
 use crate::uses::Uses;
 use sp_base::Memory;
@@ -85,6 +87,26 @@ impl Uses {
     {
         self.expression(c)?;
         self.target(variable)?;
+        self.stop()
+    }
+
+    // A send on a channel whose uses are known.
+    pub(crate) fn send_through(&mut self, through: &Uses, e: &Expr) -> Result<(), Memory>
+        ensures { OnOk result ((c : AnExpr) (start : AUses) → AreEmpty start → Adds start through.now (In_expr c)
+            → Adds self.old self.new (In_stmt (Send c (bare_expression (expression_of e.now))))) }
+    {
+        self.merge(through)?;
+        self.expression(e)?;
+        self.stop()
+    }
+
+    // A receive from a channel whose uses are known.
+    pub(crate) fn receive_through(&mut self, through: &Uses, v: &Var) -> Result<(), Memory>
+        ensures { OnOk result ((c : AnExpr) (start : AUses) → AreEmpty start → Adds start through.now (In_expr c)
+            → Adds self.old self.new (In_stmt (Receive c (bare_variable (variable_of v.now))))) }
+    {
+        self.merge(through)?;
+        self.target(v)?;
         self.stop()
     }
 }

@@ -4,7 +4,10 @@ ghost use Rattle.std.specs.Prelude.{◌≡◌, ℕ, ◌+◌, ◌<◌, ◌≤◌,
 ghost use Rattle.sp_base.specs.declared.place.Place.{Place as APlace};
 ghost use Rattle.sp_tree.specs.PlainChecked as c;
 ghost use Rattle.sp_tree.specs.CheckedOf.{expression_of, variable_of, statement_of, statement_form_of, statements, arm_of, arms, sends, receives};
-ghost use Rattle.sp_varsets.specs.Adds.{AreEmpty};
+ghost use Rattle.sp_tree.specs.Bare.{bare_expression};
+ghost use Rattle.sp_tree.specs.Uses.{In_expr};
+ghost use Rattle.sp_varsets.specs.declared.uses.Uses.{Uses as AUses};
+ghost use Rattle.sp_varsets.specs.Adds.{Adds, AreEmpty};
 ghost use Rattle.sp_varsets.specs.Members.{has};
 ghost use Rattle.sp_varsets.specs.Records.{Extends, Stands, Keeps, slot_at};
 ghost use Rattle.sp_varsets.specs.Walks.{WalksStatement, WalksForm, WalksStatements, WalksArms, WalksElement};
@@ -246,8 +249,25 @@ impl Walk {
         ensures { OnOk result (WalksStatements self.old self.new into.old into.new
             (sends number at (expression_of channel.now) (map expression_of values.now))) }
     {
+        let mut through = Uses::new(self.alloc);
+        through.expression(channel)?;
+        self.sends_through(into, number, at, &through, values)
+    }
+
+    // The same, where the uses of the channel are known: a long channel is walked through once.
+    fn sends_through(
+        &mut self,
+        into: &mut Uses,
+        number: u32,
+        at: Place,
+        through: &Uses,
+        values: &[Expr],
+    ) -> Result<(), Memory>
+        ensures { OnOk result ((channel : c.Expression) (start : AUses) → AreEmpty start → Adds start through.now (In_expr (bare_expression channel))
+            → WalksStatements self.old self.new into.old into.new (sends number at channel (map expression_of values.now))) }
+    {
         for (i, value) in values.iter().enumerate() {
-            self.send(into, number_from(number, i)?, channel, value)?;
+            self.send(into, number_from(number, i)?, through, value)?;
         }
         Ok(())
     }
@@ -257,14 +277,14 @@ impl Walk {
         &mut self,
         into: &mut Uses,
         number: usize,
-        channel: &Expr,
+        through: &Uses,
         value: &Expr,
     ) -> Result<(), Memory>
-        ensures { OnOk result ((at : APlace) → WalksStatement self.old self.new into.old into.new
-            (c.Does number at (c.Send (expression_of channel.now) (expression_of value.now)))) }
+        ensures { OnOk result ((at : APlace) (channel : c.Expression) (start : AUses) → AreEmpty start → Adds start through.now (In_expr (bare_expression channel))
+            → WalksStatement self.old self.new into.old into.new (c.Does number at (c.Send channel (expression_of value.now)))) }
     {
         let mut mine = Uses::new(self.alloc);
-        self.sent(into, &mut mine, number, channel, value)
+        self.sent(into, &mut mine, number, through, value)
     }
 
     // The same, with sets of the statement's own, which are empty.
@@ -273,13 +293,13 @@ impl Walk {
         into: &mut Uses,
         mine: &mut Uses,
         number: usize,
-        channel: &Expr,
+        through: &Uses,
         value: &Expr,
     ) -> Result<(), Memory>
-        ensures { AreEmpty mine.old → OnOk result ((at : APlace) → WalksStatement self.old self.new into.old into.new
-            (c.Does number at (c.Send (expression_of channel.now) (expression_of value.now)))) }
+        ensures { AreEmpty mine.old → OnOk result ((at : APlace) (channel : c.Expression) (start : AUses) → AreEmpty start → Adds start through.now (In_expr (bare_expression channel))
+            → WalksStatement self.old self.new into.old into.new (c.Does number at (c.Send channel (expression_of value.now)))) }
     {
-        mine.send(channel, value)?;
+        mine.send_through(through, value)?;
         into.merge(mine)?;
         self.keep(number, mine)
     }
@@ -296,8 +316,25 @@ impl Walk {
         ensures { OnOk result (WalksStatements self.old self.new into.old into.new
             (receives number at (expression_of channel.now) (map variable_of variables.now))) }
     {
+        let mut through = Uses::new(self.alloc);
+        through.expression(channel)?;
+        self.receives_through(into, number, at, &through, variables)
+    }
+
+    // The same, where the uses of the channel are known.
+    fn receives_through(
+        &mut self,
+        into: &mut Uses,
+        number: u32,
+        at: Place,
+        through: &Uses,
+        variables: &[Var],
+    ) -> Result<(), Memory>
+        ensures { OnOk result ((channel : c.Expression) (start : AUses) → AreEmpty start → Adds start through.now (In_expr (bare_expression channel))
+            → WalksStatements self.old self.new into.old into.new (receives number at channel (map variable_of variables.now))) }
+    {
         for (i, variable) in variables.iter().enumerate() {
-            self.receive(into, number_from(number, i)?, channel, variable)?;
+            self.receive(into, number_from(number, i)?, through, variable)?;
         }
         Ok(())
     }
@@ -307,14 +344,14 @@ impl Walk {
         &mut self,
         into: &mut Uses,
         number: usize,
-        channel: &Expr,
+        through: &Uses,
         variable: &Var,
     ) -> Result<(), Memory>
-        ensures { OnOk result ((at : APlace) → WalksStatement self.old self.new into.old into.new
-            (c.Does number at (c.Receive (expression_of channel.now) (variable_of variable.now)))) }
+        ensures { OnOk result ((at : APlace) (channel : c.Expression) (start : AUses) → AreEmpty start → Adds start through.now (In_expr (bare_expression channel))
+            → WalksStatement self.old self.new into.old into.new (c.Does number at (c.Receive channel (variable_of variable.now)))) }
     {
         let mut mine = Uses::new(self.alloc);
-        self.received(into, &mut mine, number, channel, variable)
+        self.received(into, &mut mine, number, through, variable)
     }
 
     // The same, with sets of the statement's own, which are empty.
@@ -323,13 +360,13 @@ impl Walk {
         into: &mut Uses,
         mine: &mut Uses,
         number: usize,
-        channel: &Expr,
+        through: &Uses,
         variable: &Var,
     ) -> Result<(), Memory>
-        ensures { AreEmpty mine.old → OnOk result ((at : APlace) → WalksStatement self.old self.new into.old into.new
-            (c.Does number at (c.Receive (expression_of channel.now) (variable_of variable.now)))) }
+        ensures { AreEmpty mine.old → OnOk result ((at : APlace) (channel : c.Expression) (start : AUses) → AreEmpty start → Adds start through.now (In_expr (bare_expression channel))
+            → WalksStatement self.old self.new into.old into.new (c.Does number at (c.Receive channel (variable_of variable.now)))) }
     {
-        mine.receive(channel, variable)?;
+        mine.receive_through(through, variable)?;
         into.merge(mine)?;
         self.keep(number, mine)
     }

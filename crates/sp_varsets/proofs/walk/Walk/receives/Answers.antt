@@ -1,16 +1,7 @@
-use Rattle.std.proofs.Common.{◌+◌, subst}
-use Rattle.sp_tree.specs.PlainChecked.{Does, Receive}
-use Rattle.sp_tree.specs.CheckedOf.{expression_of, variable_of}
-use Rattle.sp_varsets.specs.Walks.{WalksStatement}
-use Rattle.sp_varsets.proofs.Walking.{walked_both, walked_no_statements, receives_on, receives_end}
+use Rattle.sp_tree.specs.CheckedOf.{expression_of}
+use Rattle.sp_varsets.proofs.Adding.{ok_as}
 use Rattle.sp_varsets.proofs.walk.Walk.receives.Goals as goal
 
-pub loop-i-preserved : goal.loop-i-preserved
-loop-i-preserved c v z f =
-    let on = receives_on c.args.variables.now c.loop-i.i c.args.number c.args.at (expression_of c.args.channel.now) c.index-variables-i.result c.loop-i-test.true c.index-variables-i.is in
-    let one = subst (λ n. WalksStatement c.loop-i.self c.receive.new.self c.loop-i.into c.receive.new.into (Does n c.args.at (Receive (expression_of c.args.channel.now) (variable_of c.index-variables-i.result)))) c.in_ok-number_from.ensures (c.in_ok-receive.ensures c.args.at) in
-    c.loop-i.invariant v z (rw on (walked_both one f))
-
 pub returns : goal.returns
-returns c = c.loop-i.invariant c.loop-i.self c.loop-i.into
-    (rw (receives_end c.args.variables.now c.loop-i.i (c.args.number + c.loop-i.i) c.args.at (expression_of c.args.channel.now) c.loop-i-test.false) (walked_no_statements c.loop-i.self c.loop-i.into))
+returns c = ok_as c.receives_through.result c.receives_through.ensures
+    (λ k. k (expression_of c.args.channel.now) c.new-through.result c.new-through.ensures c.in_ok-expression.ensures)

@@ -1,16 +1,7 @@
-use Rattle.std.proofs.Common.{◌+◌, subst}
-use Rattle.sp_tree.specs.PlainChecked.{Does, Send}
 use Rattle.sp_tree.specs.CheckedOf.{expression_of}
-use Rattle.sp_varsets.specs.Walks.{WalksStatement}
-use Rattle.sp_varsets.proofs.Walking.{walked_both, walked_no_statements, sends_on, sends_end}
+use Rattle.sp_varsets.proofs.Adding.{ok_as}
 use Rattle.sp_varsets.proofs.walk.Walk.sends.Goals as goal
 
-pub loop-i-preserved : goal.loop-i-preserved
-loop-i-preserved c v z f =
-    let on = sends_on c.args.values.now c.loop-i.i c.args.number c.args.at (expression_of c.args.channel.now) c.index-values-i.result c.loop-i-test.true c.index-values-i.is in
-    let one = subst (λ n. WalksStatement c.loop-i.self c.send.new.self c.loop-i.into c.send.new.into (Does n c.args.at (Send (expression_of c.args.channel.now) (expression_of c.index-values-i.result)))) c.in_ok-number_from.ensures (c.in_ok-send.ensures c.args.at) in
-    c.loop-i.invariant v z (rw on (walked_both one f))
-
 pub returns : goal.returns
-returns c = c.loop-i.invariant c.loop-i.self c.loop-i.into
-    (rw (sends_end c.args.values.now c.loop-i.i (c.args.number + c.loop-i.i) c.args.at (expression_of c.args.channel.now) c.loop-i-test.false) (walked_no_statements c.loop-i.self c.loop-i.into))
+returns c = ok_as c.sends_through.result c.sends_through.ensures
+    (λ k. k (expression_of c.args.channel.now) c.new-through.result c.new-through.ensures c.in_ok-expression.ensures)

@@ -1,9 +1,0 @@
-use Rattle.std.proofs.Common.{◌+◌, map, drop}
-use Rattle.sp_tree.specs.CheckedOf.{expression_of, sends}
-use Rattle.sp_varsets.specs.declared.uses.Uses.{Uses}
-use Rattle.sp_varsets.specs.declared.walk.Walk.{Walk}
-use Rattle.sp_varsets.specs.Walks.{WalksStatements}
-use Rattle.sp_varsets.proofs.walk.Walk.sends.Given as goal
-
-abbrev pub invariant-loop-i : goal.invariant-loop-i
-invariant-loop-i l = (v : Walk) (z : Uses) → WalksStatements l.self v l.into z (sends (l.number + l.i) l.fn.at (expression_of l.channel) (map expression_of (drop l.i l.values))) → WalksStatements l.fn.self v l.fn.into z (sends l.number l.fn.at (expression_of l.channel) (map expression_of l.values))
