@@ -172,3 +172,32 @@ fn many_fields(rt: HostRuntime) -> Result<(), Fail> {
     assert!(rt; is_accepted(&rt, rt.alloc(), &text));
     Ok(())
 }
+
+fn put_repeated(text: &mut Vec<u8>, item: &[u8], count: u32) -> Result<(), AllocError> {
+    for _ in 0..count {
+        text.extend_from_slice(item)?;
+    }
+    Ok(())
+}
+
+// So many values on a channel that is found by as many operands.
+fn values(alloc: Global, operands: u32, count: u32) -> Result<Vec<u8>, AllocError> {
+    let mut text = Vec::from_slice(
+        alloc,
+        b"program p; type c = *(integer); t = array [0..1] of c; ",
+    )?;
+    text.extend_from_slice(b"var a: t; begin open(a[0]); send(a[0")?;
+    put_repeated(&mut text, b"+0", operands)?;
+    text.push(b']')?;
+    put_repeated(&mut text, b",1", count)?;
+    text.extend_from_slice(b") end.")?;
+    Ok(text)
+}
+
+// The channel is walked through once, however many values are sent on it.
+#[test]
+fn many_values_on_one_channel(rt: HostRuntime) -> Result<(), Fail> {
+    let text = values(rt.alloc(), 150_000, 250_000)?;
+    assert!(rt; is_accepted(&rt, rt.alloc(), &text));
+    Ok(())
+}
