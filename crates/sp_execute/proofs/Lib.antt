@@ -2,4 +2,6 @@ pub mod Formals
 pub mod Waiting
 pub mod Concluding
 pub mod Executing
+pub mod Followed
 pub mod Judged
+pub mod Prefixes

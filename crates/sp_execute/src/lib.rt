@@ -3,8 +3,13 @@
 
 mod conclusion;
 mod execution;
+mod following;
+mod law;
 mod verdict;
 
 pub use conclusion::{Concluded, conclude};
 pub use execution::{Ran, execute};
+pub use following::follow;
+pub use law::one_unfit_entry;
+pub use sp_replay::{ReplayError, Replayed};
 pub use verdict::judge;

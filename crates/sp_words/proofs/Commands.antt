@@ -24,16 +24,17 @@ use Rattle.clap.specs.declared.error.kind.ErrorKind.{ErrorKind}
 use Rattle.clap.specs.declared.error.kind.ErrorKind.TheVariants.{OutOfMemory}
 use Rattle.clap.specs.declared.builder.value_parser.ValueParser.{ValueParser}
 use Rattle.clap.specs.declared.builder.value_parser.ValueParser.TheVariants as vp
-use Rattle.sp_words.specs.Dashes.{Item, Text, contains, items}
-use Rattle.sp_words.specs.Options.{is_number_in, is_numeral, option_names, options_of}
-use Rattle.sp_words.specs.Parsers.{IsShowParser, app_with, gen_parsers, run_parsers}
-use Rattle.sp_words.specs.Words.{command_from, command_named, command_names, command_of, command_of_items, command_read, command_with, each_once, is_accepted, lookup}
+use Rattle.sp_words.specs.Dashes.{Item, Text, items}
+use Rattle.sp_words.specs.Options.{Choice, is_number_in, is_numeral, limit_options, option_names, options_of, show_named}
+use Rattle.sp_words.specs.Parsers.{IsShowParser, app_with, gen_parsers, limit_parsers, run_parsers}
+use Rattle.sp_words.specs.Words.{command_from, command_named, command_names, command_of, command_of_items, command_read, command_with, each_once, has_journal, is_accepted, lookup, with_journal}
+use Rattle.sp_words.specs.declared.command.Command.{Command}
 use Rattle.sp_words.specs.declared.command.CommandName.{CommandName}
-use Rattle.sp_words.specs.declared.command.CommandName.TheVariants.{Check, Run, Code, Sets, Format, Gen}
+use Rattle.sp_words.specs.declared.command.CommandName.TheVariants.{Check, Run, Code, Sets, Format, Gen, Replay}
 use Rattle.sp_words.proofs.Readings.{Each}
-use Rattle.sp_words.proofs.Rules.{Parsers, clear, file_id, level, rules}
-use Rattle.sp_words.proofs.Levels.{and-false, good, names}
-use Rattle.sp_words.proofs.LevelEnds.{Agree, good_agrees, level_reads, names_agree}
+use Rattle.sp_words.proofs.Rules.{Options, Parsers, clear, file_id, journal_id, level, rules}
+use Rattle.sp_words.proofs.Levels.{IsFree, and-false, good, names}
+use Rattle.sp_words.proofs.LevelEnds.{Agree, good_agrees, is_complete, level_reads, names_agree}
 
 -- ---- the first word
 
@@ -44,6 +45,7 @@ word_for Code = codes "code"
 word_for Sets = codes "sets"
 word_for Format = codes "format"
 word_for Gen = codes "gen"
+word_for Replay = codes "replay"
 
 some_same : {X : Type 0} {x y : X} → Some x ≡ Some y → x ≡ y
 some_same {X} {x} {y} e = ap (λ o. Rattle.std.specs.Prelude.unwrap_or o x) e
@@ -64,7 +66,7 @@ word_found (x ∷ xs) word command each e = found_step x word command (find (λ 
 
 -- the word that names a command
 pub word_of_command : (word : Text) (command : CommandName) → command_named word ≡ Some command → word ≡ word_for command
-word_of_command word command e = word_found command_names word command (refl, (refl, (refl, (refl, (refl, (refl, tt)))))) e
+word_of_command word command e = word_found command_names word command (refl, (refl, (refl, (refl, (refl, (refl, (refl, tt))))))) e
 
 -- ---- the walk past the command
 
@@ -139,16 +141,24 @@ enters subs word s words met sub = record {
 
 -- ---- the command line of superpascal
 
+abbrev pub option_parsers : ValueParser → CommandName → Options
+option_parsers q Check = []
+option_parsers q Run = run_parsers q
+option_parsers q Code = []
+option_parsers q Sets = []
+option_parsers q Format = []
+option_parsers q Gen = gen_parsers
+option_parsers q Replay = limit_parsers
+
 abbrev pub parsers_for : ValueParser → CommandName → Parsers
-parsers_for q Check = []
-parsers_for q Run = run_parsers q
-parsers_for q Code = []
-parsers_for q Sets = []
-parsers_for q Format = []
-parsers_for q Gen = gen_parsers
+parsers_for q command = (has_journal command, option_parsers q command)
+
+-- the level of a command
+abbrev pub level_for : ValueParser → CommandName → Shape
+level_for q command = level (word_for command) (parsers_for q command)
 
 abbrev pub shapes : ValueParser → List Shape
-shapes q = level (codes "check") [] ∷ level (codes "run") (run_parsers q) ∷ level (codes "code") [] ∷ level (codes "sets") [] ∷ level (codes "format") [] ∷ level (codes "gen") gen_parsers ∷ []
+shapes q = map (level_for q) (Check ∷ Run ∷ Code ∷ Sets ∷ Format ∷ Gen ∷ Replay ∷ [])
 
 built_is : (q : ValueParser) → built (app_with q) ≡ app (shapes q)
 built_is q = refl
@@ -159,13 +169,14 @@ free q = refl
 simple : (q : ValueParser) → is_simple (app_with q) ≡ true
 simple q = refl
 
-enters_command : (q : ValueParser) (command : CommandName) (words : List Text) → Enters (shapes q) (word_for command) (level (word_for command) (parsers_for q command)) words
-enters_command q Check words = enters (shapes q) (codes "check") (level (codes "check") []) words refl refl
-enters_command q Run words = enters (shapes q) (codes "run") (level (codes "run") (run_parsers q)) words refl refl
-enters_command q Code words = enters (shapes q) (codes "code") (level (codes "code") []) words refl refl
-enters_command q Sets words = enters (shapes q) (codes "sets") (level (codes "sets") []) words refl refl
-enters_command q Format words = enters (shapes q) (codes "format") (level (codes "format") []) words refl refl
-enters_command q Gen words = enters (shapes q) (codes "gen") (level (codes "gen") gen_parsers) words refl refl
+enters_command : (q : ValueParser) (command : CommandName) (words : List Text) → Enters (shapes q) (word_for command) (level_for q command) words
+enters_command q Check words = enters (shapes q) (word_for Check) (level_for q Check) words refl refl
+enters_command q Run words = enters (shapes q) (word_for Run) (level_for q Run) words refl refl
+enters_command q Code words = enters (shapes q) (word_for Code) (level_for q Code) words refl refl
+enters_command q Sets words = enters (shapes q) (word_for Sets) (level_for q Sets) words refl refl
+enters_command q Format words = enters (shapes q) (word_for Format) (level_for q Format) words refl refl
+enters_command q Gen words = enters (shapes q) (word_for Gen) (level_for q Gen) words refl refl
+enters_command q Replay words = enters (shapes q) (word_for Replay) (level_for q Replay) words refl refl
 
 number_test : (a b : Bool) (n : ℕ) (f : ℕ → Bool) → (a && (b && f n)) ≡ option_map_or f (cond (a && b) (Some n) None) false
 number_test true true n f = refl
@@ -178,37 +189,39 @@ takes_number least most text =
     let digits = without_leading_plus text in
     number_test (is_numeral digits) (nat_lt (digits_value 10 digits) (2 ^ 64)) (digits_value 10 digits) (λ n. nat_le least n && nat_le n most)
 
-agrees : (q : ValueParser) (command : CommandName) → IsShowParser q → Agree (parsers_for q command) (options_of command)
-agrees q Check show = tt
-agrees q Run show = (
+-- the options of the limits, and more
+limits_agree : (os : Options) (cs : List Choice) → Agree os cs → Agree (limit_parsers ++ os) (limit_options ++ cs)
+limits_agree os cs more = (
   refl,
-  takes_number 1 64,
+  takes_number 1 1000000000,
   (
     refl,
-    takes_number 1 1000000000,
+    takes_number 1 10000,
     (
       refl,
-      takes_number 1 10000,
-      (
-        refl,
-        takes_number 1 67108864,
-        (refl, takes_number 1 1000000, (refl, takes_number 1 1000000, (refl, takes_number 1 10000000, (refl, takes_number 1 268435456, (refl, show, tt))))),
-      ),
+      takes_number 1 67108864,
+      (refl, takes_number 1 1000000, (refl, takes_number 1 1000000, (refl, takes_number 1 10000000, (refl, takes_number 1 268435456, more)))),
     ),
   ),
 )
+
+agrees : (q : ValueParser) (command : CommandName) → IsShowParser q → Agree (option_parsers q command) (options_of command)
+agrees q Check show = tt
+agrees q Run show = (refl, takes_number 1 64, limits_agree ((codes "show", q) ∷ []) ((codes "show", λ text. is_some (show_named text)) ∷ []) (refl, show, tt))
 agrees q Code show = tt
 agrees q Sets show = tt
 agrees q Format show = tt
 agrees q Gen show = (refl, takes_number 1 64, tt)
+agrees q Replay show = limits_agree [] [] tt
 
-no_file : (q : ValueParser) (command : CommandName) → contains (names (parsers_for q command)) file_id ≡ false
-no_file q Check = refl
-no_file q Run = refl
-no_file q Code = refl
-no_file q Sets = refl
-no_file q Format = refl
-no_file q Gen = refl
+is_free : (q : ValueParser) (command : CommandName) → IsFree (parsers_for q command)
+is_free q Check = (refl, refl)
+is_free q Run = (refl, refl)
+is_free q Code = (refl, refl)
+is_free q Sets = (refl, refl)
+is_free q Format = (refl, refl)
+is_free q Gen = (refl, refl)
+is_free q Replay = (refl, refl)
 
 -- ---- the words
 
@@ -226,18 +239,37 @@ reads_as : (word : Text) (words : List Text) (command : CommandName) (is : List 
     → command_of (word ∷ words) ≡ command_of_items command is
 reads_as word words command is e i = ap (option_and_then (command_read words)) e ∙ ap (option_and_then (command_of_items command)) i
 
-none_there : {X : Type 0} (o : Option X) → is_some o ≡ false → o ≡ None
-none_there None e = refl
-none_there (Some x) e = absurd (true≢false e)
+-- without a FILE there is no command
+without_file : (command : CommandName) (value : Text → Option Text) (found : Option Text) (b : Bool) → (is_some found && b) ≡ false
+    → ((word : Text) → b ≡ false → command_from command value word ≡ None) → option_and_then (command_from command value) found ≡ None
+without_file command value None b e without = refl
+without_file command value (Some word) b e without = without word e
+
+-- nor without a JOURNAL where it has one
+without_journal : (found : Option Text) (f : Text → Command) → is_some found ≡ false → option_map f found ≡ None
+without_journal None f e = refl
+without_journal (Some text) f e = absurd (true≢false e)
+
+incomplete : (command : CommandName) (is : List Item) → is_complete (has_journal command) is ≡ false → command_with command (lookup is) ≡ None
+incomplete command is e = without_file command (lookup is) (lookup is file_id) _ e (without command)
+  where
+    without : (c : CommandName) (word : Text) → cond (has_journal c) (is_some (lookup is journal_id)) true ≡ false → command_from c (lookup is) word ≡ None
+    without Check word d = absurd (true≢false d)
+    without Run word d = absurd (true≢false d)
+    without Code word d = absurd (true≢false d)
+    without Sets word d = absurd (true≢false d)
+    without Format word d = absurd (true≢false d)
+    without Gen word d = absurd (true≢false d)
+    without Replay word d = without_journal (lookup is journal_id) _ d
 
 -- items that the parse refuses are no command
-left_out : (g : Bool) (command : CommandName) (is : List Item) → (g && is_some (lookup is file_id)) ≡ false → cond g (command_with command (lookup is)) None ≡ None
+left_out : (g : Bool) (command : CommandName) (is : List Item) → (g && is_complete (has_journal command) is) ≡ false → cond g (command_with command (lookup is)) None ≡ None
 left_out false command is e = refl
-left_out true command is e = ap (option_and_then (command_from command (lookup is))) (none_there (lookup is file_id) e)
+left_out true command is e = incomplete command is e
 
-taken : (g : Bool) (command : CommandName) (is : List Item) → (g && is_some (lookup is file_id)) ≡ true → command_with command (lookup is) ≡ cond g (command_with command (lookup is)) None
-taken false command is e = absurd (true≢false (sym e))
-taken true command is e = refl
+taken : (g b : Bool) (found : Option Command) → (g && b) ≡ true → found ≡ cond g found None
+taken false b found e = absurd (true≢false (sym e))
+taken true b found e = refl
 
 left_of : (a b : Bool) → (a && b) ≡ true → a ≡ true
 left_of true b e = refl
@@ -249,22 +281,24 @@ line_reads q word words command is show e i =
     let w : word ≡ word_for command = word_of_command word command e in
     let os = parsers_for q command in
     let agree = agrees q command show in
-    let read : items (names os) None words ≡ Some is = ap (λ (ns : List Text). items ns None words) (names_agree os (options_of command) agree) ∙ i in
-    let l = level_reads (word_for command) os words is (no_file q command) read in
+    let js = with_journal (has_journal command) is in
+    let read : items (names os) None words ≡ Some is = ap (λ (ns : List Text). items ns None words) (names_agree os.1 (options_of command) agree) ∙ i in
+    let l = level_reads (word_for command) os words is (is_free q command) read in
     let in_level = enters_command q command words in
-    let test = good_agrees os (options_of command) is [] [] agree (λ n. refl) in
-    let all = each_once [] is && list_all (is_accepted (options_of command)) is in
-    let fault : clear (line q word words) ≡ (good os [] is && is_some (lookup is file_id)) =
+    let test = good_agrees os (options_of command) js [] [] agree (λ n. refl) in
+    let all = each_once [] js && list_all (is_accepted (options_of command)) js in
+    let whole = is_complete (has_journal command) js in
+    let fault : clear (line q word words) ≡ (good os [] js && whole) =
     ap (λ (x : Text). clear (line q x words)) w ∙ ap clear in_level.fault ∙ l.fault in
     let named = reads_as word words command is e i in
     record {
-      refused = λ c. named ∙ left_out all command is (ap (λ g. g && is_some (lookup is file_id)) (sym test) ∙ sym fault ∙ c);
+      refused = λ c. named ∙ left_out all command js (ap (λ g. g && whole) (sym test) ∙ sym fault ∙ c);
       rows = matched_rows (rules os) [] words;
       entered_rows = ap (λ (x : Text). option_map (λ (p : Text × List Row). p.1) (subcommand_of (app_with q) (x ∷ words))) w ∙ ap (option_map (λ p. p.1)) in_level.rows;
       found = λ c.
-          let both : (good os [] is && is_some (lookup is file_id)) ≡ true = sym fault ∙ c in
-          ap (command_with command) (λ j id. l.found (left_of (good os [] is) (is_some (lookup is file_id)) both) id j)
-          ∙ taken all command is (ap (λ g. g && is_some (lookup is file_id)) (sym test) ∙ both)
+          let both : (good os [] js && whole) ≡ true = sym fault ∙ c in
+          ap (command_with command) (λ j id. l.found (left_of (good os [] js) whole both) id j)
+          ∙ taken all whole (command_with command (lookup js)) (ap (λ g. g && whole) (sym test) ∙ both)
           ∙ sym named;
     }
 

@@ -1,10 +1,10 @@
 -- What a parse makes of the words of one command: the same as the items of the words.
-use Rattle.std.proofs.Common.{◌≡◌, ◌&&◌, ◌||◌, ℕ, Bool, true, false, not, refl, sym, ap, ap₂, subst, ◌∙◌, List, [], ◌∷◌, ◌++◌, map, Option, Some, None, option_map, true≢false}
+use Rattle.std.proofs.Common.{◌≡◌, ◌&&◌, ◌||◌, ℕ, Bool, true, false, not, refl, sym, ap, ap₂, subst, ◌∙◌, cond, List, [], ◌∷◌, ◌++◌, map, Option, Some, None, option_map, true≢false}
 use Rattle.std.specs.List.{find, fold}
 use Rattle.std.specs.Option.{option_map_or}
 use Rattle.std.specs.Prelude.{unwrap_or}
 use Rattle.std.specs.Str.{bytes_eq}
-use Rattle.clap.specs.Walk.{Held, Row, Walk, has_row, idle, is_pending, option, settled, settled_rows, used, value, walked, word_met}
+use Rattle.clap.specs.Walk.{Held, Row, Walk, arg_by_index, has_row, idle, is_pending, option, settled, settled_rows, used, value, walked, word_met}
 use Rattle.clap.specs.ValueTests.{accepts}
 use Rattle.clap.specs.Values.{reading_of}
 use Rattle.clap.specs.Kinds.{Kinds, or_else}
@@ -12,30 +12,32 @@ use Rattle.clap.specs.Faults.{settle_fault, turn_fault, use_fault, walk_fault, w
 use Rattle.clap.specs.declared.builder.value_parser.Reading.{Reading}
 use Rattle.clap.specs.declared.builder.value_parser.Reading.TheVariants as reading
 use Rattle.clap.specs.declared.builder.value_parser.ValueParser.TheVariants as vp
-use Rattle.sp_words.specs.Dashes.{Item, Text, after_dash, by_form, contains, file, first_item, form_of, given, items, name_of, value_of, with_value}
-use Rattle.sp_words.specs.Words.{subject, text_of}
+use Rattle.sp_words.specs.Dashes.{Item, Text, after_dash, by_form, contains, file, first_item, form_of, given, items, journal, name_of, value_of, with_value}
+use Rattle.sp_words.specs.Words.{journal_first, subject, text_of, with_journal}
 use Rattle.sp_words.specs.declared.form.Form.{Form}
 use Rattle.sp_words.specs.declared.form.Form.TheVariants.{Plain, End, Whole, Open, Stray}
 use Rattle.sp_words.proofs.WordForms.{IsLongWord, IsPlainWord, ReadsWord, dashes, plain_word_of, reads_by_form}
-use Rattle.sp_words.proofs.Rules.{IsOption, Parsers, built_file, built_option, clear, clear-or_else, fault_of_use, file_id, level, named, new_row, no_second, option_of, rows_of_use, rules}
+use Rattle.sp_words.proofs.Rules.{IsOption, Options, Parsers, built_file, built_journal, built_option, clear, clear-or_else, fault_of_use, file_id, journal_id, level, named, new_row, no_option_at, option_of, rows_of_use, rules}
 
 -- ---- items as uses
 
 -- the parser of an option takes its value
-abbrev pub takes : Parsers → Item → Bool
+abbrev pub takes : Options → Item → Bool
 takes os (file word) = true
+takes os (journal word) = true
 takes os (given name v) = option_map_or (λ p. accepts false p v) (option_map (λ o. o.1) (find (named name) os)) false
 
-abbrev pub reading_for : Parsers → Item → Reading
+abbrev pub reading_for : Options → Item → Reading
 reading_for os (file word) = reading.AsWritten
+reading_for os (journal word) = reading.AsWritten
 reading_for os (given name v) = option_map_or reading_of (option_map (λ o. o.1) (find (named name) os)) reading.AsWritten
 
 abbrev pub row_for : Parsers → Item → Row
-row_for os i = new_row (subject i) (reading_for os i) (text_of i)
+row_for os i = new_row (subject i) (reading_for os.1 i) (text_of i)
 
 -- the item is new, and has a value that it may have
 abbrev pub ok : Parsers → List Row → Item → Bool
-ok os rows i = not (has_row (subject i) rows) && takes os i
+ok os rows i = not (has_row (subject i) rows) && takes os.1 i
 
 abbrev pub good : Parsers → List Row → List Item → Bool
 good os rows [] = true
@@ -59,6 +61,7 @@ plus os rows (Some i) = rows ++ row_for os i ∷ []
 
 abbrev pub IsKnown : Parsers → Item → Type 0
 IsKnown os (file word) = Unit {0}
+IsKnown os (journal word) = os.0 ≡ true
 IsKnown os (given name v) = IsOption os name
 
 abbrev pub IsKnownPending : Parsers → Option Item → Type 0
@@ -70,15 +73,32 @@ IsKnownPending os (Some i) = IsKnown os i
 abbrev pub held_with : List Row → Option (Text × List Text) → Held
 held_with rows p = record { rows = rows; pending = p; skip = 0 }
 
--- FILE was met, or not yet
-abbrev pub place : Bool → ℕ
-place false = 1
-place true = 2
+-- the words that are no options and were met: none, a FILE, or a JOURNAL too
+pub data Met : Type 0 where
+  nothing : Met
+  one : Met
+  both : Met
 
-abbrev pub at : List Row → Option Item → Bool → Bool → Walk
+abbrev pub place : Met → ℕ
+place nothing = 1
+place one = 2
+place both = 3
+
+abbrev pub has_file : Met → Bool
+has_file nothing = false
+has_file one = true
+has_file both = true
+
+-- the items from there on, where a JOURNAL is told from a FILE
+abbrev pub arranged : Bool → Met → List Item → List Item
+arranged there nothing is = with_journal there is
+arranged there one is = cond there (journal_first is) is
+arranged there both is = is
+
+abbrev pub at : List Row → Option Item → Met → Bool → Walk
 at rows p met trailing = record { held = held_with rows (pend p); waiting = idle; position = place met; is_trailing = trailing; stopped = None }
 
-abbrev pub wants : List Row → Text → Bool → Walk
+abbrev pub wants : List Row → Text → Met → Walk
 wants rows name met = record { held = held_with rows (Some (name, [])); waiting = option name; position = place met; is_trailing = false; stopped = None }
 
 abbrev pub run_from : Parsers → Walk → List Text → Walk
@@ -135,6 +155,7 @@ pub settle_is : (os : Parsers) (rows : List Row) (p : Option Item) → IsKnownPe
     → clear (settle_fault (rules os) false (held_with rows (pend p))) ≡ ok_pending os rows p
 settle_is os rows None known = refl
 settle_is os rows (Some (file word)) known = fault_of_use file_id None (Some 1) vp.String true word rows
+settle_is os rows (Some (journal word)) known = rw known (fault_of_use journal_id None (Some 2) vp.String true word rows)
 settle_is os rows (Some (given name v)) known =
     rw (known.by_id, known.found) (fault_of_use name (Some name) None known.parser false v rows)
 
@@ -142,6 +163,7 @@ pub settled_is : (os : Parsers) (rows : List Row) (p : Option Item) → IsKnownP
     → settled_rows (rules os) (pend p) rows ≡ plus os rows p
 settled_is os rows None known e = refl
 settled_is os rows (Some (file word)) known e = rows_of_use file_id None (Some 1) vp.String true word rows (fresh _ _ e)
+settled_is os rows (Some (journal word)) known e = rw known (rows_of_use journal_id None (Some 2) vp.String true word rows (fresh _ _ e))
 settled_is os rows (Some (given name v)) known e =
     rw (known.by_id, known.found) (rows_of_use name (Some name) None known.parser false v rows (fresh _ _ e))
 
@@ -187,24 +209,38 @@ abbrev held_at : List Row → Option Item → Held
 held_at rows p = held_with rows (pend p)
 
 -- a word that goes to FILE
-value_turn : (name : Text) (os : Parsers) (rows : List Row) (p : Option Item) (trailing : Bool) (word : Text)
+file_turn : (name : Text) (os : Parsers) (rows : List Row) (p : Option Item) (trailing : Bool) (word : Text)
     → word_fault (level name os) [] trailing idle word (held_at rows p) ≡ []
     → word_met (rules os) [] trailing idle 1 word (held_at rows p) ≡ (held_at rows p, value)
-    → turn_fault (level name os) [] (at rows p false trailing) word ≡ settle_fault (rules os) false (held_at rows p)
-value_turn name os rows p trailing word e m = rw (e, m) (rw (and-false (is_pending built_file (pend p))) refl)
+    → turn_fault (level name os) [] (at rows p nothing trailing) word ≡ settle_fault (rules os) false (held_at rows p)
+file_turn name os rows p trailing word e m = rw (e, m) (rw (and-false (is_pending built_file (pend p))) refl)
 
-value_walk : (os : Parsers) (rows : List Row) (p : Option Item) (trailing : Bool) (word : Text)
+file_walk : (os : Parsers) (rows : List Row) (p : Option Item) (trailing : Bool) (word : Text)
     → word_met (rules os) [] trailing idle 1 word (held_at rows p) ≡ (held_at rows p, value)
-    → walked (rules os) [] (at rows p false trailing) word ≡ at (settled_rows (rules os) (pend p) rows) (Some (file word)) true trailing
+    → walked (rules os) [] (at rows p nothing trailing) word ≡ at (settled_rows (rules os) (pend p) rows) (Some (file word)) one trailing
 unfolding walked
-value_walk os rows p trailing word m = rw m (rw (and-false (is_pending built_file (pend p)), or-false trailing) refl)
+file_walk os rows p trailing word m = rw m (rw (and-false (is_pending built_file (pend p)), or-false trailing) refl)
 
--- a word where FILE was met before
-second_turn : (name : Text) (os : Parsers) (rows : List Row) (p : Option Item) (trailing : Bool) (word : Text)
+-- a word that goes to JOURNAL
+journal_turn : (name : Text) (os : Options) (rows : List Row) (p : Option Item) (trailing : Bool) (word : Text)
+    → word_fault (level name (true, os)) [] trailing idle word (held_at rows p) ≡ []
+    → word_met (rules (true, os)) [] trailing idle 2 word (held_at rows p) ≡ (held_at rows p, value)
+    → turn_fault (level name (true, os)) [] (at rows p one trailing) word ≡ settle_fault (rules (true, os)) false (held_at rows p)
+journal_turn name os rows p trailing word e m = rw (e, m) (rw (and-false (is_pending built_journal (pend p))) refl)
+
+journal_walk : (os : Options) (rows : List Row) (p : Option Item) (trailing : Bool) (word : Text)
+    → word_met (rules (true, os)) [] trailing idle 2 word (held_at rows p) ≡ (held_at rows p, value)
+    → walked (rules (true, os)) [] (at rows p one trailing) word ≡ at (settled_rows (rules (true, os)) (pend p) rows) (Some (journal word)) both trailing
+unfolding walked
+journal_walk os rows p trailing word m = rw m (rw (and-false (is_pending built_journal (pend p)), or-false trailing) refl)
+
+-- a word where no place is left
+stray_turn : (name : Text) (os : Parsers) (rows : List Row) (p : Option Item) (met : Met) (trailing : Bool) (word : Text)
     → word_fault (level name os) [] trailing idle word (held_at rows p) ≡ []
-    → word_met (rules os) [] trailing idle 2 word (held_at rows p) ≡ (held_at rows p, value)
-    → clear (turn_fault (level name os) [] (at rows p true trailing) word) ≡ false
-second_turn name os rows p trailing word e m = rw (e, m, no_second os) refl
+    → word_met (rules os) [] trailing idle (place met) word (held_at rows p) ≡ (held_at rows p, value)
+    → arg_by_index (rules os) (place met) ≡ None
+    → clear (turn_fault (level name os) [] (at rows p met trailing) word) ≡ false
+stray_turn name os rows p met trailing word e m none = rw (e, m, none) refl
 
 plain_fault : (name : Text) (os : Parsers) (h : Held) (word : Text) → IsPlainWord word → word_fault (level name os) [] false idle word h ≡ []
 plain_fault name os h word plain = rw (plain.not_end, plain.no_long, plain.no_short) refl
@@ -212,42 +248,42 @@ plain_fault name os h word plain = rw (plain.not_end, plain.no_long, plain.no_sh
 plain_met : (os : Parsers) (k : ℕ) (h : Held) (word : Text) → IsPlainWord word → word_met (rules os) [] false idle k word h ≡ (h, value)
 plain_met os k h word plain = rw (plain.not_end, plain.no_long, plain.no_short) refl
 
-end_turn : (name : Text) (os : Parsers) (rows : List Row) (p : Option Item) (met : Bool) (word : Text) → word ≡ dashes
+end_turn : (name : Text) (os : Parsers) (rows : List Row) (p : Option Item) (met : Met) (word : Text) → word ≡ dashes
     → turn_fault (level name os) [] (at rows p met false) word ≡ []
 end_turn name os rows p met word e = rw e refl
 
-end_walk : (os : Parsers) (rows : List Row) (p : Option Item) (met : Bool) (word : Text) → word ≡ dashes
+end_walk : (os : Parsers) (rows : List Row) (p : Option Item) (met : Met) (word : Text) → word ≡ dashes
     → walked (rules os) [] (at rows p met false) word ≡ at rows p met true
 unfolding walked
 end_walk os rows p met word e = rw e refl
 
 -- `--name=value`
-whole_turn : (name : Text) (os : Parsers) (ns : List Text) (rows : List Row) (p : Option Item) (met : Bool) (word v : Text) (long : IsLongWord ns word (Some v)) (o : IsOption os (name_of word))
+whole_turn : (name : Text) (os : Parsers) (ns : List Text) (rows : List Row) (p : Option Item) (met : Met) (word v : Text) (long : IsLongWord ns word (Some v)) (o : IsOption os (name_of word))
     → turn_fault (level name os) [] (at rows p met false) word
     ≡ or_else (settle_fault (rules os) false (held_at rows p)) (use_fault false (built_option (name_of word) o.parser) (v ∷ []) (settled_rows (rules os) (pend p) rows))
 whole_turn name os ns rows p met word v long o = rw (long.not_end, long.long, o.by_long) (or_else-nil _)
 
-whole_walk : (os : Parsers) (ns : List Text) (rows : List Row) (p : Option Item) (met : Bool) (word v : Text) (long : IsLongWord ns word (Some v)) (o : IsOption os (name_of word))
+whole_walk : (os : Parsers) (ns : List Text) (rows : List Row) (p : Option Item) (met : Met) (word v : Text) (long : IsLongWord ns word (Some v)) (o : IsOption os (name_of word))
     → walked (rules os) [] (at rows p met false) word ≡ at (used (built_option (name_of word) o.parser) (v ∷ []) (settled_rows (rules os) (pend p) rows)) None met false
 unfolding walked
 whole_walk os ns rows p met word v long o = rw (long.not_end, long.long, o.by_long) refl
 
 -- `--name`
-open_turn : (name : Text) (os : Parsers) (ns : List Text) (rows : List Row) (p : Option Item) (met : Bool) (word : Text) (long : IsLongWord ns word None) (o : IsOption os (name_of word))
+open_turn : (name : Text) (os : Parsers) (ns : List Text) (rows : List Row) (p : Option Item) (met : Met) (word : Text) (long : IsLongWord ns word None) (o : IsOption os (name_of word))
     → turn_fault (level name os) [] (at rows p met false) word ≡ settle_fault (rules os) false (held_at rows p)
 open_turn name os ns rows p met word long o = rw (long.not_end, long.long, o.by_long) (or_else-nil _)
 
-open_walk : (os : Parsers) (ns : List Text) (rows : List Row) (p : Option Item) (met : Bool) (word : Text) (long : IsLongWord ns word None) (o : IsOption os (name_of word))
+open_walk : (os : Parsers) (ns : List Text) (rows : List Row) (p : Option Item) (met : Met) (word : Text) (long : IsLongWord ns word None) (o : IsOption os (name_of word))
     → walked (rules os) [] (at rows p met false) word ≡ wants (settled_rows (rules os) (pend p) rows) (name_of word) met
 unfolding walked
 open_walk os ns rows p met word long o = rw (long.not_end, long.long, o.by_long) refl
 
 -- the value after it
-wanted_turn : (name : Text) (os : Parsers) (rows : List Row) (n : Text) (met : Bool) (word : Text) → IsPlainWord word
+wanted_turn : (name : Text) (os : Parsers) (rows : List Row) (n : Text) (met : Met) (word : Text) → IsPlainWord word
     → turn_fault (level name os) [] (wants rows n met) word ≡ []
 wanted_turn name os rows n met word plain = rw (plain.not_end, plain.no_long, plain.no_short) refl
 
-wanted_walk : (os : Parsers) (rows : List Row) (n : Text) (met : Bool) (word : Text) → IsPlainWord word → IsOption os n
+wanted_walk : (os : Parsers) (rows : List Row) (n : Text) (met : Met) (word : Text) → IsPlainWord word → IsOption os n
     → walked (rules os) [] (wants rows n met) word ≡ at rows (Some (given n word)) met false
 unfolding walked
 wanted_walk os rows n met word plain o = rw (plain.not_end, plain.no_long, plain.no_short, o.by_id) (rw o.itself refl)
@@ -259,7 +295,7 @@ pub data Stand : Type 0 where
   rests : Option Item → Stand
   waits : Text → Stand
 
-abbrev pub walk_at : List Row → Stand → Bool → Walk
+abbrev pub walk_at : List Row → Stand → Met → Walk
 walk_at rows (rests p) met = at rows p met false
 walk_at rows (waits n) met = wants rows n met
 
@@ -280,7 +316,7 @@ IsKnownStand os (rests p) = IsKnownPending os p
 IsKnownStand os (waits n) = IsOption os n
 
 abbrev pub names : Parsers → List Text
-names os = map (λ o. o.0) os
+names os = map (λ o. o.0) os.1
 
 -- the words from a state on are as the items that they hold
 abbrev pub Goal : Text → Parsers → List Row → Walk → Bool → List Row → List Text → List Item → Type 0
@@ -305,49 +341,97 @@ first_inv : (i : Item) (r : Option (List Item)) (is : List Item) → first_item 
 first_inv i None is e = absurd (none≢some is e)
 first_inv i (Some rest) is e = (rest, refl, some_same e)
 
--- the first FILE, with the words after it
-file_first : (name : Text) (os : Parsers) (rows : List Row) (p : Option Item) (trailing : Bool) (word : Text) (words : List Text) (is : List Item)
+-- a word that gives the item i, with the words after it
+word_first : (name : Text) (os : Parsers) (rows : List Row) (p : Option Item) (met next : Met) (trailing : Bool) (word : Text) (words : List Text) (i : Item) (is : List Item)
     → IsKnownPending os p
-    → word_fault (level name os) [] trailing idle word (held_at rows p) ≡ []
-    → word_met (rules os) [] trailing idle 1 word (held_at rows p) ≡ (held_at rows p, value)
-    → Goal name os rows (at (plus os rows p) (Some (file word)) true trailing) (ok os (plus os rows p) (file word)) (plus os rows p ++ row_for os (file word) ∷ []) words is
-    → Goal name os rows (at rows p false trailing) (ok_pending os rows p) (plus os rows p) (word ∷ words) (file word ∷ is)
-file_first name os rows p trailing word words is known e m rest =
-    advance name os (at rows p false trailing) (at (plus os rows p) (Some (file word)) true trailing) word words (ok_pending os rows p) _ _
-    (ap clear (value_turn name os rows p trailing word e m) ∙ settle_is os rows p known)
-    (λ t. value_walk os rows p trailing word m ∙ ap (λ (r : List Row). at r (Some (file word)) true trailing) (settled_is os rows p known t))
+    → turn_fault (level name os) [] (at rows p met trailing) word ≡ settle_fault (rules os) false (held_at rows p)
+    → walked (rules os) [] (at rows p met trailing) word ≡ at (settled_rows (rules os) (pend p) rows) (Some i) next trailing
+    → Goal name os rows (at (plus os rows p) (Some i) next trailing) (ok os (plus os rows p) i) (plus os rows p ++ row_for os i ∷ []) words is
+    → Goal name os rows (at rows p met trailing) (ok_pending os rows p) (plus os rows p) (word ∷ words) (i ∷ is)
+word_first name os rows p met next trailing word words i is known turn walk rest =
+    advance name os (at rows p met trailing) (at (plus os rows p) (Some i) next trailing) word words (ok_pending os rows p) _ _
+    (ap clear turn ∙ settle_is os rows p known)
+    (λ t. walk ∙ ap (λ (r : List Row). at r (Some i) next trailing) (settled_is os rows p known t))
     rest
 
--- a second FILE
-file_again : (name : Text) (os : Parsers) (rows : List Row) (p : Option Item) (trailing : Bool) (word : Text) (words : List Text) (is : List Item)
+-- a word too many, which is a second FILE
+word_again : (name : Text) (os : Parsers) (rows : List Row) (p : Option Item) (met : Met) (trailing : Bool) (word : Text) (words : List Text) (is : List Item)
     → true ≡ has_row file_id (plus os rows p)
+    → clear (turn_fault (level name os) [] (at rows p met trailing) word) ≡ false
+    → Goal name os rows (at rows p met trailing) (ok_pending os rows p) (plus os rows p) (word ∷ words) (file word ∷ is)
+word_again name os rows p met trailing word words is there turn =
+    subst (λ (b : Bool). Level name os (at rows p met trailing) (word ∷ words) b (rows_after os (plus os rows p) (file word ∷ is)))
+    (sym (ap (λ (h : Bool). ok_pending os rows p && ((not h && true) && good os (plus os rows p ++ row_for os (file word) ∷ []) is)) (sym there) ∙ and-false (ok_pending os rows p)))
+    (refused_here name os (at rows p met trailing) word words _ turn)
+
+-- the walk goes on from each item that a word may give
+abbrev Next : Text → Parsers → List Row → Option Item → Bool → List Text → List Item → Type 0
+Next name os rows p trailing words is = (i : Item) (next : Met) → IsKnown os i → has_file next ≡ has_row file_id (plus os rows p ++ row_for os i ∷ [])
+    → Goal name os rows (at (plus os rows p) (Some i) next trailing) (ok os (plus os rows p) i) (plus os rows p ++ row_for os i ∷ []) words (arranged os.0 next is)
+
+-- a word that is no option
+word_step : (name : Text) (os : Parsers) (rows : List Row) (p : Option Item) (met : Met) (trailing : Bool) (word : Text) (words : List Text) (is : List Item)
+    → IsKnownPending os p → has_file met ≡ has_row file_id (plus os rows p)
     → word_fault (level name os) [] trailing idle word (held_at rows p) ≡ []
-    → word_met (rules os) [] trailing idle 2 word (held_at rows p) ≡ (held_at rows p, value)
-    → Goal name os rows (at rows p true trailing) (ok_pending os rows p) (plus os rows p) (word ∷ words) (file word ∷ is)
-file_again name os rows p trailing word words is met e m =
-    subst (λ (b : Bool). Level name os (at rows p true trailing) (word ∷ words) b (rows_after os (plus os rows p) (file word ∷ is)))
-    (sym (ap (λ (h : Bool). ok_pending os rows p && ((not h && true) && good os (plus os rows p ++ row_for os (file word) ∷ []) is)) (sym met) ∙ and-false (ok_pending os rows p)))
-    (refused_here name os (at rows p true trailing) word words _ (second_turn name os rows p trailing word e m))
+    → ((k : ℕ) → word_met (rules os) [] trailing idle k word (held_at rows p) ≡ (held_at rows p, value))
+    → Next name os rows p trailing words is
+    → Goal name os rows (at rows p met trailing) (ok_pending os rows p) (plus os rows p) (word ∷ words) (arranged os.0 met (file word ∷ is))
+word_step name (true, os) rows p nothing trailing word words is known m e w next =
+    word_first name (true, os) rows p nothing one trailing word words (file word) (journal_first is) known
+    (file_turn name (true, os) rows p trailing word e (w 1)) (file_walk (true, os) rows p trailing word (w 1))
+    (next (file word) one tt (file_met (plus (true, os) rows p) _ refl))
+word_step name (true, os) rows p one trailing word words is known m e w next =
+    word_first name (true, os) rows p one both trailing word words (journal word) is known
+    (journal_turn name os rows p trailing word e (w 2)) (journal_walk os rows p trailing word (w 2))
+    (next (journal word) both refl (file_kept (plus (true, os) rows p) (row_for (true, os) (journal word)) true refl m))
+word_step name (true, os) rows p both trailing word words is known m e w next =
+    word_again name (true, os) rows p both trailing word words is m (stray_turn name (true, os) rows p both trailing word e (w 3) (no_option_at os 3))
+word_step name (false, os) rows p nothing trailing word words is known m e w next =
+    word_first name (false, os) rows p nothing one trailing word words (file word) is known
+    (file_turn name (false, os) rows p trailing word e (w 1)) (file_walk (false, os) rows p trailing word (w 1))
+    (next (file word) one tt (file_met (plus (false, os) rows p) _ refl))
+word_step name (false, os) rows p one trailing word words is known m e w next =
+    word_again name (false, os) rows p one trailing word words is m (stray_turn name (false, os) rows p one trailing word e (w 2) (no_option_at os 2))
+word_step name (false, os) rows p both trailing word words is known m e w next =
+    word_again name (false, os) rows p both trailing word words is m (stray_turn name (false, os) rows p both trailing word e (w 3) (no_option_at os 3))
 
-no_words : (name : Text) (os : Parsers) (rows : List Row) (p : Option Item) (met trailing : Bool) → IsKnownPending os p
-    → Goal name os rows (at rows p met trailing) (ok_pending os rows p) (plus os rows p) [] []
+none_arranged : (there : Bool) (met : Met) → arranged there met [] ≡ []
+none_arranged true nothing = refl
+none_arranged true one = refl
+none_arranged true both = refl
+none_arranged false nothing = refl
+none_arranged false one = refl
+none_arranged false both = refl
+
+given_arranged : (there : Bool) (met : Met) (n v : Text) (is : List Item) → given n v ∷ arranged there met is ≡ arranged there met (given n v ∷ is)
+given_arranged true nothing n v is = refl
+given_arranged true one n v is = refl
+given_arranged true both n v is = refl
+given_arranged false nothing n v is = refl
+given_arranged false one n v is = refl
+given_arranged false both n v is = refl
+
+no_words : (name : Text) (os : Parsers) (rows : List Row) (p : Option Item) (met : Met) (trailing : Bool) → IsKnownPending os p
+    → Goal name os rows (at rows p met trailing) (ok_pending os rows p) (plus os rows p) [] (arranged os.0 met [])
 unfolding walk_fault
-no_words name os rows p met trailing known = record {
-  fault = settle_is os rows p known ∙ sym (and-true (ok_pending os rows p));
-  rows_are = λ e. settled_is os rows p known (and_left _ _ e);
-}
+no_words name os rows p met trailing known = subst (Goal name os rows (at rows p met trailing) (ok_pending os rows p) (plus os rows p) []) (sym (none_arranged os.0 met)) ends
+  where
+    ends : Goal name os rows (at rows p met trailing) (ok_pending os rows p) (plus os rows p) [] []
+    ends = record {
+      fault = settle_is os rows p known ∙ sym (and-true (ok_pending os rows p));
+      rows_are = λ e. settled_is os rows p known (and_left _ _ e);
+    }
 
--- after `--` each word is a FILE
-trailing_words : (name : Text) (os : Parsers) (words : List Text) (rows : List Row) (p : Option Item) (met : Bool) → IsKnownPending os p → met ≡ has_row file_id (plus os rows p)
-    → Goal name os rows (at rows p met true) (ok_pending os rows p) (plus os rows p) words (map file words)
+-- after `--` no word is an option
+trailing_words : (name : Text) (os : Parsers) (words : List Text) (rows : List Row) (p : Option Item) (met : Met) → IsKnownPending os p → has_file met ≡ has_row file_id (plus os rows p)
+    → Goal name os rows (at rows p met true) (ok_pending os rows p) (plus os rows p) words (arranged os.0 met (map file words))
 trailing_words name os [] rows p met known m = no_words name os rows p met true known
-trailing_words name os (word ∷ words) rows p true known m = file_again name os rows p true word words (map file words) m refl refl
-trailing_words name os (word ∷ words) rows p false known m =
-    file_first name os rows p true word words (map file words) known refl refl
-    (trailing_words name os words (plus os rows p) (Some (file word)) true tt (file_met (plus os rows p) _ refl))
+trailing_words name os (word ∷ words) rows p met known m =
+    word_step name os rows p met true word words (map file words) known m refl (λ k. refl)
+    (λ i next known_next there. trailing_words name os words (plus os rows p) (Some i) next known_next there)
 
 -- the state after `--name=value`
-whole_word : (name : Text) (os : Parsers) (ns : List Text) (rows : List Row) (p : Option Item) (met : Bool) (word v : Text) (words : List Text) (is : List Item)
+whole_word : (name : Text) (os : Parsers) (ns : List Text) (rows : List Row) (p : Option Item) (met : Met) (word v : Text) (words : List Text) (is : List Item)
     → IsKnownPending os p → IsLongWord ns word (Some v) → (o : IsOption os (name_of word))
     → Goal name os (plus os rows p ++ row_for os (given (name_of word) v) ∷ []) (at (plus os rows p ++ row_for os (given (name_of word) v) ∷ []) None met false)
     true (plus os rows p ++ row_for os (given (name_of word) v) ∷ []) words is
@@ -379,89 +463,92 @@ whole_word name os ns rows p met word v words is known long o rest =
     steps t =
         whole_walk os ns rows p met word v long o
         ∙ ap (λ (r : List Row). at (used (built_option (name_of word) o.parser) (v ∷ []) r) None met false) (settled_is os rows p known (and_left (ok_pending os rows p) (ok os (plus os rows p) (given (name_of word) v)) t))
-        ∙ ap (λ (r : List Row). at r None met false) (use_rows (plus os rows p) (fresh (has_row (name_of word) (plus os rows p)) (takes os (given (name_of word) v)) (and_right (ok_pending os rows p) (ok os (plus os rows p) (given (name_of word) v)) t)))
+        ∙ ap (λ (r : List Row). at r None met false) (use_rows (plus os rows p) (fresh (has_row (name_of word) (plus os rows p)) (takes os.1 (given (name_of word) v)) (and_right (ok_pending os rows p) (ok os (plus os rows p) (given (name_of word) v)) t)))
 
 -- what the words after a state come to, at each state
 abbrev pub Ahead : Text → Parsers → List Text → Type 0
-Ahead name os words = (st : Stand) (rows : List Row) (met : Bool) (is : List Item) → IsKnownStand os st → met ≡ has_row file_id (rows_at os rows st)
-    → items (names os) (waiting_at st) words ≡ Some is → Goal name os rows (walk_at rows st met) (ok_at os rows st) (rows_at os rows st) words is
+Ahead name os words = (st : Stand) (rows : List Row) (met : Met) (is : List Item) → IsKnownStand os st → has_file met ≡ has_row file_id (rows_at os rows st)
+    → items (names os) (waiting_at st) words ≡ Some is → Goal name os rows (walk_at rows st met) (ok_at os rows st) (rows_at os rows st) words (arranged os.0 met is)
 
--- a FILE before `--`
-plain_step : (name : Text) (os : Parsers) (rows : List Row) (p : Option Item) (met : Bool) (word : Text) (words : List Text) (is : List Item)
-    → IsKnownPending os p → met ≡ has_row file_id (plus os rows p) → IsPlainWord word → items (names os) None words ≡ Some is → Ahead name os words
-    → Goal name os rows (at rows p met false) (ok_pending os rows p) (plus os rows p) (word ∷ words) (file word ∷ is)
-plain_step name os rows p true word words is known m plain e ahead =
-    file_again name os rows p false word words is m (plain_fault name os (held_at rows p) word plain) (plain_met os 2 (held_at rows p) word plain)
-plain_step name os rows p false word words is known m plain e ahead =
-    file_first name os rows p false word words is known (plain_fault name os (held_at rows p) word plain) (plain_met os 1 (held_at rows p) word plain)
-    (ahead (rests (Some (file word))) (plus os rows p) true is tt (file_met (plus os rows p) _ refl) e)
+-- a FILE or a JOURNAL before `--`
+plain_step : (name : Text) (os : Parsers) (rows : List Row) (p : Option Item) (met : Met) (word : Text) (words : List Text) (is : List Item)
+    → IsKnownPending os p → has_file met ≡ has_row file_id (plus os rows p) → IsPlainWord word → items (names os) None words ≡ Some is → Ahead name os words
+    → Goal name os rows (at rows p met false) (ok_pending os rows p) (plus os rows p) (word ∷ words) (arranged os.0 met (file word ∷ is))
+plain_step name os rows p met word words is known m plain e ahead =
+    word_step name os rows p met false word words is known m (plain_fault name os (held_at rows p) word plain) (λ k. plain_met os k (held_at rows p) word plain)
+    (λ i next known_next there. ahead (rests (Some i)) (plus os rows p) next is known_next there e)
 
-whole_step : (name : Text) (os : Parsers) (rows : List Row) (p : Option Item) (met : Bool) (word : Text) (words : List Text) (is : List Item)
-    → IsKnownPending os p → met ≡ has_row file_id (plus os rows p) → IsLongWord (names os) word (Some (value_of word)) → IsOption os (name_of word)
+whole_step : (name : Text) (os : Parsers) (rows : List Row) (p : Option Item) (met : Met) (word : Text) (words : List Text) (is : List Item)
+    → IsKnownPending os p → has_file met ≡ has_row file_id (plus os rows p) → IsLongWord (names os) word (Some (value_of word)) → IsOption os (name_of word)
     → items (names os) None words ≡ Some is → Ahead name os words
-    → Goal name os rows (at rows p met false) (ok_pending os rows p) (plus os rows p) (word ∷ words) (given (name_of word) (value_of word) ∷ is)
+    → Goal name os rows (at rows p met false) (ok_pending os rows p) (plus os rows p) (word ∷ words) (arranged os.0 met (given (name_of word) (value_of word) ∷ is))
 whole_step name os rows p met word words is known m long o e ahead =
-    whole_word name os (names os) rows p met word (value_of word) words is known long o
+    subst (Goal name os rows (at rows p met false) (ok_pending os rows p) (plus os rows p) (word ∷ words)) (given_arranged os.0 met (name_of word) (value_of word) is)
+    (whole_word name os (names os) rows p met word (value_of word) words (arranged os.0 met is) known long o
     (ahead (rests None) (plus os rows p ++ row_for os (given (name_of word) (value_of word)) ∷ []) met is tt
-    (file_kept (plus os rows p) (row_for os (given (name_of word) (value_of word))) met o.no_file m) e)
+    (file_kept (plus os rows p) (row_for os (given (name_of word) (value_of word))) (has_file met) o.no_file m) e))
 
-open_step : (name : Text) (os : Parsers) (rows : List Row) (p : Option Item) (met : Bool) (word : Text) (words : List Text) (is : List Item)
-    → IsKnownPending os p → met ≡ has_row file_id (plus os rows p) → IsLongWord (names os) word None → IsOption os (name_of word)
+open_step : (name : Text) (os : Parsers) (rows : List Row) (p : Option Item) (met : Met) (word : Text) (words : List Text) (is : List Item)
+    → IsKnownPending os p → has_file met ≡ has_row file_id (plus os rows p) → IsLongWord (names os) word None → IsOption os (name_of word)
     → items (names os) (Some (name_of word)) words ≡ Some is → Ahead name os words
-    → Goal name os rows (at rows p met false) (ok_pending os rows p) (plus os rows p) (word ∷ words) is
+    → Goal name os rows (at rows p met false) (ok_pending os rows p) (plus os rows p) (word ∷ words) (arranged os.0 met is)
 open_step name os rows p met word words is known m long o e ahead =
     advance name os (at rows p met false) (wants (plus os rows p) (name_of word) met) word words (ok_pending os rows p) _ _
     (ap clear (open_turn name os (names os) rows p met word long o) ∙ settle_is os rows p known)
     (λ t. open_walk os (names os) rows p met word long o ∙ ap (λ (r : List Row). wants r (name_of word) met) (settled_is os rows p known t))
     (ahead (waits (name_of word)) (plus os rows p) met is o m e)
 
-end_step : (name : Text) (os : Parsers) (rows : List Row) (p : Option Item) (met : Bool) (word : Text) (words : List Text)
-    → IsKnownPending os p → met ≡ has_row file_id (plus os rows p) → word ≡ dashes
-    → Goal name os rows (at rows p met false) (ok_pending os rows p) (plus os rows p) (word ∷ words) (map file words)
+end_step : (name : Text) (os : Parsers) (rows : List Row) (p : Option Item) (met : Met) (word : Text) (words : List Text)
+    → IsKnownPending os p → has_file met ≡ has_row file_id (plus os rows p) → word ≡ dashes
+    → Goal name os rows (at rows p met false) (ok_pending os rows p) (plus os rows p) (word ∷ words) (arranged os.0 met (map file words))
 end_step name os rows p met word words known m e =
     advance name os (at rows p met false) (at rows p met true) word words true _ _
     (ap clear (end_turn name os rows p met word e)) (λ t. end_walk os rows p met word e) (trailing_words name os words rows p met known m)
 
+-- no option has the name of FILE or of JOURNAL
+abbrev pub IsFree : Parsers → Type 0
+IsFree os = (contains (names os) file_id ≡ false) × (contains (names os) journal_id ≡ false)
+
 -- one word where no option waits
-rest_step : (name : Text) (os : Parsers) (none : contains (names os) file_id ≡ false) (rows : List Row) (p : Option Item) (met : Bool) (word : Text) (words : List Text) (is : List Item) (f : Form)
-    → IsKnownPending os p → met ≡ has_row file_id (plus os rows p) → ReadsWord (names os) word f
+rest_step : (name : Text) (os : Parsers) (free : IsFree os) (rows : List Row) (p : Option Item) (met : Met) (word : Text) (words : List Text) (is : List Item) (f : Form)
+    → IsKnownPending os p → has_file met ≡ has_row file_id (plus os rows p) → ReadsWord (names os) word f
     → by_form f word words (λ waiting. items (names os) waiting words) ≡ Some is → Ahead name os words
-    → Goal name os rows (at rows p met false) (ok_pending os rows p) (plus os rows p) (word ∷ words) is
-rest_step name os none rows p met word words is Plain known m plain e ahead =
+    → Goal name os rows (at rows p met false) (ok_pending os rows p) (plus os rows p) (word ∷ words) (arranged os.0 met is)
+rest_step name os free rows p met word words is Plain known m plain e ahead =
     let inv = first_inv (file word) (items (names os) None words) is e in
-    subst (λ (js : List Item). Goal name os rows (at rows p met false) (ok_pending os rows p) (plus os rows p) (word ∷ words) js) inv.2
+    subst (λ (js : List Item). Goal name os rows (at rows p met false) (ok_pending os rows p) (plus os rows p) (word ∷ words) (arranged os.0 met js)) inv.2
     (plain_step name os rows p met word words inv.0 known m plain inv.1 ahead)
-rest_step name os none rows p met word words is End known m same e ahead =
-    subst (λ (js : List Item). Goal name os rows (at rows p met false) (ok_pending os rows p) (plus os rows p) (word ∷ words) js) (some_same e)
+rest_step name os free rows p met word words is End known m same e ahead =
+    subst (λ (js : List Item). Goal name os rows (at rows p met false) (ok_pending os rows p) (plus os rows p) (word ∷ words) (arranged os.0 met js)) (some_same e)
     (end_step name os rows p met word words known m same)
-rest_step name os none rows p met word words is Whole known m long e ahead =
+rest_step name os free rows p met word words is Whole known m long e ahead =
     let inv = first_inv (given (name_of word) (value_of word)) (items (names os) None words) is e in
-    subst (λ (js : List Item). Goal name os rows (at rows p met false) (ok_pending os rows p) (plus os rows p) (word ∷ words) js) inv.2
-    (whole_step name os rows p met word words inv.0 known m long (option_of os (name_of word) none long.known) inv.1 ahead)
-rest_step name os none rows p met word words is Open known m long e ahead =
-    open_step name os rows p met word words is known m long (option_of os (name_of word) none long.known) e ahead
-rest_step name os none rows p met word words is Stray known m u e ahead = absurd (none≢some is e)
+    subst (λ (js : List Item). Goal name os rows (at rows p met false) (ok_pending os rows p) (plus os rows p) (word ∷ words) (arranged os.0 met js)) inv.2
+    (whole_step name os rows p met word words inv.0 known m long (option_of os (name_of word) free.0 free.1 long.known) inv.1 ahead)
+rest_step name os free rows p met word words is Open known m long e ahead =
+    open_step name os rows p met word words is known m long (option_of os (name_of word) free.0 free.1 long.known) e ahead
+rest_step name os free rows p met word words is Stray known m u e ahead = absurd (none≢some is e)
 
 -- the word after `--name`
-wait_step : (name : Text) (os : Parsers) (rows : List Row) (n : Text) (met : Bool) (word : Text) (words : List Text) (is : List Item) (dash : Option Text)
-    → IsOption os n → met ≡ has_row file_id rows → after_dash word ≡ dash
+wait_step : (name : Text) (os : Parsers) (rows : List Row) (n : Text) (met : Met) (word : Text) (words : List Text) (is : List Item) (dash : Option Text)
+    → IsOption os n → has_file met ≡ has_row file_id rows → after_dash word ≡ dash
     → with_value n word dash (items (names os) None words) ≡ Some is → Ahead name os words
-    → Goal name os rows (wants rows n met) true rows (word ∷ words) is
+    → Goal name os rows (wants rows n met) true rows (word ∷ words) (arranged os.0 met is)
 wait_step name os rows n met word words is (Some tail) o m d e ahead = absurd (none≢some is e)
 wait_step name os rows n met word words is None o m d e ahead =
     let inv = first_inv (given n word) (items (names os) None words) is e in
     let plain = plain_word_of word d in
-    subst (λ (js : List Item). Goal name os rows (wants rows n met) true rows (word ∷ words) js) inv.2
+    subst (λ (js : List Item). Goal name os rows (wants rows n met) true rows (word ∷ words) js) (given_arranged os.0 met n word inv.0 ∙ ap (arranged os.0 met) inv.2)
     (advance name os (wants rows n met) (at rows (Some (given n word)) met false) word words true _ _
     (ap clear (wanted_turn name os rows n met word plain)) (λ t. wanted_walk os rows n met word plain o)
-    (ahead (rests (Some (given n word))) rows met inv.0 o (file_kept rows (row_for os (given n word)) met o.no_file m) inv.1))
+    (ahead (rests (Some (given n word))) rows met inv.0 o (file_kept rows (row_for os (given n word)) (has_file met) o.no_file m) inv.1))
 
-pub words_ahead : (name : Text) (os : Parsers) (none : contains (names os) file_id ≡ false) (words : List Text) → Ahead name os words
-words_ahead name os none [] (rests p) rows met is known m e =
-    subst (λ (js : List Item). Goal name os rows (at rows p met false) (ok_pending os rows p) (plus os rows p) [] js) (some_same e)
+pub words_ahead : (name : Text) (os : Parsers) (free : IsFree os) (words : List Text) → Ahead name os words
+words_ahead name os free [] (rests p) rows met is known m e =
+    subst (λ (js : List Item). Goal name os rows (at rows p met false) (ok_pending os rows p) (plus os rows p) [] (arranged os.0 met js)) (some_same e)
     (no_words name os rows p met false known)
-words_ahead name os none [] (waits n) rows met is known m e = absurd (none≢some is e)
-words_ahead name os none (word ∷ words) (rests p) rows met is known m e =
-    rest_step name os none rows p met word words is (form_of (names os) word) known m (reads_by_form (names os) word) e (words_ahead name os none words)
-words_ahead name os none (word ∷ words) (waits n) rows met is known m e =
-    wait_step name os rows n met word words is (after_dash word) known m refl e (words_ahead name os none words)
+words_ahead name os free [] (waits n) rows met is known m e = absurd (none≢some is e)
+words_ahead name os free (word ∷ words) (rests p) rows met is known m e =
+    rest_step name os free rows p met word words is (form_of (names os) word) known m (reads_by_form (names os) word) e (words_ahead name os free words)
+words_ahead name os free (word ∷ words) (waits n) rows met is known m e =
+    wait_step name os rows n met word words is (after_dash word) known m refl e (words_ahead name os free words)

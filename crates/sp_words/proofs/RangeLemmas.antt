@@ -7,14 +7,15 @@ use Rattle.std.specs.Option.{option_map_or}
 use Rattle.std.specs.Prelude.{codes, nat_le, nat_lt, option_and_then, unwrap_or}
 use Rattle.std.specs.Str.{bytes_eq}
 use Rattle.std.specs.Str.Parse.{digits_value, without_leading_plus}
-use Rattle.sp_words.specs.Dashes.{Item, Text, file, given, items}
-use Rattle.sp_words.specs.Options.{Choice, gen_options, is_number_in, is_numeral, number_below, number_or, option_names, options_of, run_options, show_or_end, size_named}
+use Rattle.sp_words.specs.Dashes.{Item, Text, file, given, items, journal}
+use Rattle.sp_words.specs.Options.{Choice, gen_options, is_number_in, is_numeral, limit_options, number_below, number_or, option_names, options_of, run_options, show_or_end, size_named}
 use Rattle.sp_words.specs.Ranges.{AreInRange, IsInRange, IsUpTo}
-use Rattle.sp_words.specs.Words.{command_from, command_named, command_of, command_of_items, command_read, command_with, each_once, is_accepted, limits_from, lookup, subject, text_of, workers_from}
+use Rattle.sp_words.specs.Words.{command_from, command_named, command_of, command_of_items, command_read, command_with, each_once, has_journal, is_accepted, limits_from, lookup, subject, text_of, with_journal, workers_from}
 use Rattle.sp_words.specs.declared.command.Command.{Command}
 use Rattle.sp_words.specs.declared.command.Command.TheVariants as command
 use Rattle.sp_words.specs.declared.command.CommandName.{CommandName}
 use Rattle.sp_words.specs.declared.command.CommandName.TheVariants as name
+use Rattle.sp_words.proofs.Readings.{Each}
 
 -- ---- a number that was given is in its range, and else the default stands
 
@@ -45,14 +46,19 @@ number_in_range bound greatest default (Some text) d fits =
 abbrev of_choice : Text → Option Choice → Bool
 of_choice value found = option_map_or (λ o. o.1 value) found false
 
-item_fits : (options : List Choice) (name : Text) (choice : Choice) (i : Item) → bytes_eq (codes "FILE") name ≡ false → find (λ o. bytes_eq o.0 name) options ≡ Some choice
+-- no word that is no option has this name
+abbrev IsApart : Text → Type 0
+IsApart name = (bytes_eq (codes "FILE") name ≡ false) × (bytes_eq (codes "JOURNAL") name ≡ false)
+
+item_fits : (options : List Choice) (name : Text) (choice : Choice) (i : Item) → IsApart name → find (λ o. bytes_eq o.0 name) options ≡ Some choice
     → is_accepted options i ≡ true → bytes_eq (subject i) name ≡ true → choice.1 (text_of i) ≡ true
-item_fits options name choice (file word) apart found e same = absurd (true≢false (sym same ∙ apart))
+item_fits options name choice (file word) apart found e same = absurd (true≢false (sym same ∙ apart.0))
+item_fits options name choice (journal word) apart found e same = absurd (true≢false (sym same ∙ apart.1))
 item_fits options name choice (given n value) apart found e same =
     let here : n ≡ name = (bytes_eq-Decides n name).0 same in
     sym (ap (of_choice value) found) ∙ ap (λ (m : Text). of_choice value (find (λ o. bytes_eq o.0 m) options)) (sym here) ∙ e
 
-found_fits : (options : List Choice) (name : Text) (choice : Choice) (is : List Item) → bytes_eq (codes "FILE") name ≡ false → find (λ o. bytes_eq o.0 name) options ≡ Some choice
+found_fits : (options : List Choice) (name : Text) (choice : Choice) (is : List Item) → IsApart name → find (λ o. bytes_eq o.0 name) options ≡ Some choice
     → list_all (is_accepted options) is ≡ true → Fits choice.1 (lookup is name)
 found_fits options name choice [] apart found e = tt
 found_fits options name choice (i ∷ is) apart found e =
@@ -64,20 +70,38 @@ found_fits options name choice (i ∷ is) apart found e =
     go true same accepted rest = item_fits options name choice i apart found accepted same
     go false same accepted rest = rest
 
--- ---- the options of `run`
+-- ---- the options of the limits, with one worker or more
 
-options_in_range : (is : List Item) → list_all (is_accepted run_options) is ≡ true
-    → IsInRange (number_or (2 ^ 32) 4 (lookup is (codes "workers"))) (limits_from (lookup is))
-options_in_range is e = record {
-  workers = number_in_range (2 ^ 32) 64 4 (lookup is (codes "workers")) (omega arith, omega arith) (found_fits run_options (codes "workers") _ is refl refl e);
-  ticks = number_in_range (2 ^ 64) 1000000000 10000000 (lookup is (codes "ticks")) (omega arith, omega arith) (found_fits run_options (codes "ticks") _ is refl refl e);
-  depth = number_in_range (2 ^ 32) 10000 1000 (lookup is (codes "depth")) (omega arith, omega arith) (found_fits run_options (codes "depth") _ is refl refl e);
-  cells = number_in_range (2 ^ 32) 67108864 4194304 (lookup is (codes "cells")) (omega arith, omega arith) (found_fits run_options (codes "cells") _ is refl refl e);
-  processes = number_in_range (2 ^ 32) 1000000 100000 (lookup is (codes "processes")) (omega arith, omega arith) (found_fits run_options (codes "processes") _ is refl refl e);
-  channels = number_in_range (2 ^ 32) 1000000 100000 (lookup is (codes "channels")) (omega arith, omega arith) (found_fits run_options (codes "channels") _ is refl refl e);
-  entries = number_in_range (2 ^ 32) 10000000 1000000 (lookup is (codes "entries")) (omega arith, omega arith) (found_fits run_options (codes "entries") _ is refl refl e);
-  output = number_in_range (2 ^ 64) 268435456 16777216 (lookup is (codes "output")) (omega arith, omega arith) (found_fits run_options (codes "output") _ is refl refl e);
+-- the option is found by its name
+abbrev IsFoundIn : List Choice → Choice → Type 0
+IsFoundIn options choice = IsApart choice.0 × (find (λ o. bytes_eq o.0 choice.0) options ≡ Some choice)
+
+limit_in_range : (options : List Choice) (is : List Item) (name : Text) (bound greatest default : ℕ) → list_all (is_accepted options) is ≡ true
+    → IsFoundIn options (name, is_number_in 1 greatest) → IsUpTo greatest default → IsUpTo greatest (number_or bound default (lookup is name))
+limit_in_range options is name bound greatest default e f d = number_in_range bound greatest default (lookup is name) d (found_fits options name (name, is_number_in 1 greatest) is f.0 f.1 e)
+
+limits_in_range : (options : List Choice) (is : List Item) (workers : ℕ) → list_all (is_accepted options) is ≡ true → Each (IsFoundIn options) limit_options → IsUpTo 64 workers
+    → IsInRange workers (limits_from (lookup is))
+limits_in_range options is workers e f w = record {
+  workers = w;
+  ticks = limit_in_range options is (codes "ticks") (2 ^ 64) 1000000000 10000000 e f.0 (omega arith, omega arith);
+  depth = limit_in_range options is (codes "depth") (2 ^ 32) 10000 1000 e f.1.0 (omega arith, omega arith);
+  cells = limit_in_range options is (codes "cells") (2 ^ 32) 67108864 4194304 e f.1.1.0 (omega arith, omega arith);
+  processes = limit_in_range options is (codes "processes") (2 ^ 32) 1000000 100000 e f.1.1.1.0 (omega arith, omega arith);
+  channels = limit_in_range options is (codes "channels") (2 ^ 32) 1000000 100000 e f.1.1.1.1.0 (omega arith, omega arith);
+  entries = limit_in_range options is (codes "entries") (2 ^ 32) 10000000 1000000 e f.1.1.1.1.1.0 (omega arith, omega arith);
+  output = limit_in_range options is (codes "output") (2 ^ 64) 268435456 16777216 e f.1.1.1.1.1.1.0 (omega arith, omega arith);
 }
+
+limits_of_run : Each (IsFoundIn run_options) limit_options
+limits_of_run = (((refl, refl), refl), (((refl, refl), refl), (((refl, refl), refl), (((refl, refl), refl), (((refl, refl), refl), (((refl, refl), refl), (((refl, refl), refl), tt)))))))
+
+limits_of_replay : Each (IsFoundIn limit_options) limit_options
+limits_of_replay = (((refl, refl), refl), (((refl, refl), refl), (((refl, refl), refl), (((refl, refl), refl), (((refl, refl), refl), (((refl, refl), refl), (((refl, refl), refl), tt)))))))
+
+workers_in_range : (options : List Choice) (is : List Item) → list_all (is_accepted options) is ≡ true → IsFoundIn options (codes "workers", is_number_in 1 64)
+    → IsUpTo 64 (workers_from (lookup is))
+workers_in_range options is e f = limit_in_range options is (codes "workers") (2 ^ 32) 64 4 e f (omega arith, omega arith)
 
 -- ---- the size of `gen`
 
@@ -107,7 +131,15 @@ gen_in_range : (is : List Item) (word : Text) (named : Option ℕ) (c : Command)
 gen_in_range is word None c accepted d e = absurd (none≢some c e)
 gen_in_range is word (Some size) c accepted d e =
     rw (sym (some_same (command.Gen size (workers_from (lookup is))) c e))
-    (size_in_range word size d, number_in_range (2 ^ 32) 64 4 (lookup is (codes "workers")) (omega arith, omega arith) (found_fits gen_options (codes "workers") _ is refl refl accepted))
+    (size_in_range word size d, workers_in_range gen_options is accepted ((refl, refl), refl))
+
+-- ---- the JOURNAL of `replay`
+
+journal_in_range : (is : List Item) (word : Text) (found : Option Text) (c : Command) → list_all (is_accepted limit_options) is ≡ true
+    → option_map (λ text. command.Replay word text (limits_from (lookup is))) found ≡ Some c → AreInRange c
+journal_in_range is word None c accepted e = absurd (none≢some c e)
+journal_in_range is word (Some text) c accepted e =
+    rw (sym (some_same (command.Replay word text (limits_from (lookup is))) c e)) (limits_in_range limit_options is 1 accepted limits_of_replay (omega arith, omega arith))
 
 -- ---- the words
 
@@ -115,11 +147,12 @@ word_in_range : (called : CommandName) (is : List Item) (word : Text) (c : Comma
     → command_from called (lookup is) word ≡ Some c → AreInRange c
 word_in_range name.Check is word c accepted e = rw (sym (some_same (command.Check word) c e)) tt
 word_in_range name.Run is word c accepted e =
-    rw (sym (some_same (command.Run word (workers_from (lookup is)) (limits_from (lookup is)) (show_or_end (lookup is (codes "show")))) c e)) (options_in_range is accepted)
+    rw (sym (some_same (command.Run word (workers_from (lookup is)) (limits_from (lookup is)) (show_or_end (lookup is (codes "show")))) c e)) (limits_in_range run_options is (workers_from (lookup is)) accepted limits_of_run (workers_in_range run_options is accepted ((refl, refl), refl)))
 word_in_range name.Code is word c accepted e = rw (sym (some_same (command.Code word) c e)) tt
 word_in_range name.Sets is word c accepted e = rw (sym (some_same (command.Sets word) c e)) tt
 word_in_range name.Format is word c accepted e = rw (sym (some_same (command.Format word) c e)) tt
 word_in_range name.Gen is word c accepted e = gen_in_range is word (size_named word) c accepted refl e
+word_in_range name.Replay is word c accepted e = journal_in_range is word (lookup is (codes "JOURNAL")) c accepted e
 
 found_in_range : (called : CommandName) (is : List Item) (found : Option Text) (c : Command) → list_all (is_accepted (options_of called)) is ≡ true
     → option_and_then (command_from called (lookup is)) found ≡ Some c → AreInRange c
@@ -133,7 +166,7 @@ items_in_range called is false c d e = absurd (none≢some c e)
 
 read_in_range : (called : CommandName) (read : Option (List Item)) (c : Command) → option_and_then (command_of_items called) read ≡ Some c → AreInRange c
 read_in_range called None c e = absurd (none≢some c e)
-read_in_range called (Some is) c e = items_in_range called is _ c refl e
+read_in_range called (Some is) c e = items_in_range called (with_journal (has_journal called) is) _ c refl e
 
 named_in_range : (words : List Text) (found : Option CommandName) (c : Command) → option_and_then (command_read words) found ≡ Some c → AreInRange c
 named_in_range words None c e = absurd (none≢some c e)

@@ -19,8 +19,13 @@ use Rattle.clap.specs.declared.error.kind.ErrorKind.{ErrorKind}
 use Rattle.clap.specs.declared.error.kind.ErrorKind.TheVariants as kind
 use Rattle.sp_words.specs.Dashes.{Text, contains}
 
+-- options with the parsers of their values
+abbrev pub Options : Type 0
+Options = List (Text × ValueParser)
+
+-- whether there is a JOURNAL, and the options
 abbrev pub Parsers : Type 0
-Parsers = List (Text × ValueParser)
+Parsers = Bool × Options
 
 -- an argument that is set once, by one value
 abbrev pub single : Text → Option Text → Option ℕ → ValueParser → Bool → Rule
@@ -50,14 +55,25 @@ file_id = codes "FILE"
 abbrev pub built_file : Rule
 built_file = single file_id None (Some 1) vp.String true
 
+abbrev pub journal_id : Text
+journal_id = codes "JOURNAL"
+
+abbrev pub built_journal : Rule
+built_journal = single journal_id None (Some 2) vp.String true
+
 abbrev pub built_option : Text → ValueParser → Rule
 built_option name parser = single name (Some name) None parser false
 
-abbrev pub options : Parsers → List Rule
+abbrev pub options : Options → List Rule
 options os = map (λ o. built_option o.0 o.1) os
 
+-- JOURNAL, where there is one, and what is behind it
+abbrev pub behind_file : Bool → List Rule → List Rule
+behind_file true rest = built_journal ∷ rest
+behind_file false rest = rest
+
 abbrev pub rules : Parsers → List Rule
-rules os = built_file ∷ options os
+rules os = built_file ∷ behind_file os.0 (options os.1)
 
 abbrev pub level : Text → Parsers → Shape
 level name os = record (new_shape name) {
@@ -118,13 +134,13 @@ named n o = bytes_eq o.0 n
 
 pub record IsOption (os : Parsers) (n : Text) : Type 0 where
   pub parser : ValueParser
-  pub found : option_map (λ o. o.1) (find (named n) os) ≡ Some parser
+  pub found : option_map (λ o. o.1) (find (named n) os.1) ≡ Some parser
   pub by_id : arg_by_id (rules os) n ≡ Some (built_option n parser)
   pub by_long : arg_by_long (rules os) n ≡ Some (built_option n parser)
   pub no_file : bytes_eq n file_id ≡ false
   pub itself : bytes_eq n n ≡ true
 
-record IsAmong (os : Parsers) (n : Text) : Type 0 where
+record IsAmong (os : Options) (n : Text) : Type 0 where
   parser : ValueParser
   found : option_map (λ o. o.1) (find (named n) os) ≡ Some parser
   by_id : arg_by_id (options os) n ≡ Some (built_option n parser)
@@ -139,7 +155,7 @@ itself_of a = (bytes_eq-Decides a a).1 refl
 or_left : (a b : Bool) → a ≡ true → (a || b) ≡ true
 or_left a b e = rw e refl
 
-among : (os : Parsers) (n : Text) → contains (map (λ o. o.0) os) n ≡ true → IsAmong os n
+among : (os : Options) (n : Text) → contains (map (λ o. o.0) os) n ≡ true → IsAmong os n
 among [] n e = absurd (true≢false (sym e))
 among (o ∷ os) n e = go (bytes_eq o.0 n) refl e (among os n)
   where
@@ -168,23 +184,39 @@ not_same a b e = go (bytes_eq a b) refl
     go false d = refl
     go true d = absurd (true≢false (sym (itself_of a) ∙ ap (λ (c : Text). bytes_eq c a) (same_name a b d) ∙ e))
 
--- the name of an option is not that of FILE
-pub option_of : (os : Parsers) (n : Text) → contains (map (λ o. o.0) os) file_id ≡ false → contains (map (λ o. o.0) os) n ≡ true → IsOption os n
-option_of os n none e = go (bytes_eq n file_id) refl
+-- the name of an option is not one that no option has
+apart : (ns : List Text) (n id : Text) → contains ns id ≡ false → contains ns n ≡ true → bytes_eq n id ≡ false
+apart ns n id none e = go (bytes_eq n id) refl
   where
-    make : bytes_eq n file_id ≡ false → IsOption os n
-    make d =
-        let a = among os n e in
-        let f : bytes_eq file_id n ≡ false = not_same file_id n d in
-        record { parser = a.parser; found = a.found; by_id = rw f a.by_id; by_long = a.by_long; no_file = d; itself = itself_of n }
+    go : (b : Bool) → bytes_eq n id ≡ b → bytes_eq n id ≡ false
+    go false d = d
+    go true d = absurd (true≢false (sym e ∙ ap (contains ns) (same_name n id d) ∙ none))
 
-    go : (b : Bool) → bytes_eq n file_id ≡ b → IsOption os n
-    go false d = make d
-    go true d = absurd (true≢false (sym e ∙ ap (λ (m : Text). contains (map (λ o. o.0) os) m) (same_name n file_id d) ∙ none))
+id_behind : (there : Bool) (rest : List Rule) (n : Text) → bytes_eq journal_id n ≡ false → arg_by_id (behind_file there rest) n ≡ arg_by_id rest n
+id_behind true rest n e = rw e refl
+id_behind false rest n e = refl
 
-no_second_option : (os : Parsers) → arg_by_index (options os) 2 ≡ None
-no_second_option [] = refl
-no_second_option (o ∷ os) = no_second_option os
+long_behind : (there : Bool) (rest : List Rule) (n : Text) → arg_by_long (behind_file there rest) n ≡ arg_by_long rest n
+long_behind true rest n = refl
+long_behind false rest n = refl
 
-pub no_second : (os : Parsers) → arg_by_index (rules os) 2 ≡ None
-no_second os = no_second_option os
+-- the name of an option is neither that of FILE nor that of JOURNAL
+pub option_of : (os : Parsers) (n : Text) → contains (map (λ o. o.0) os.1) file_id ≡ false → contains (map (λ o. o.0) os.1) journal_id ≡ false
+    → contains (map (λ o. o.0) os.1) n ≡ true → IsOption os n
+option_of os n no_file no_journal e =
+    let a = among os.1 n e in
+    let file_apart : bytes_eq n file_id ≡ false = apart (map (λ o. o.0) os.1) n file_id no_file e in
+    let journal_apart : bytes_eq n journal_id ≡ false = apart (map (λ o. o.0) os.1) n journal_id no_journal e in
+    let f : bytes_eq file_id n ≡ false = not_same file_id n file_apart in
+    record {
+      parser = a.parser;
+      found = a.found;
+      by_id = rw f (id_behind os.0 (options os.1) n (not_same journal_id n journal_apart) ∙ a.by_id);
+      by_long = long_behind os.0 (options os.1) n ∙ a.by_long;
+      no_file = file_apart;
+      itself = itself_of n;
+    }
+
+pub no_option_at : (os : Options) (k : ℕ) → arg_by_index (options os) k ≡ None
+no_option_at [] k = refl
+no_option_at (o ∷ os) k = no_option_at os k

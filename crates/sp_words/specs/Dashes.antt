@@ -72,9 +72,10 @@ name_of word = (name_and_value (drop 2 word)).0
 abbrev pub value_of : Text → Text
 value_of word = after_first (λ b. b == 61) (drop 2 word)
 
--- what the words give: a FILE, or an option by its name with its value
+-- what the words give: a FILE, a JOURNAL, or an option by its name with its value
 pub data Item : Type 0 where
   file : Text → Item
+  journal : Text → Item
   given : Text → Text → Item
 
 -- the item first, where the words after it can be read

@@ -1,6 +1,6 @@
 -- The options of the commands: their names, and which texts are values of theirs. `command_of` reads words by it, and
 -- the contracts of `given` cite it. The ranges stand as tests on texts, since a value is judged before it is a number.
-use Rattle.std.specs.Prelude.{◌&&◌, ◌^◌, ℕ, Bool, false, List, [], ◌∷◌, Option, Some, None, codes, find, if◌then◌else◌, is_some, length, map, nat_le, nat_lt, option_and_then, option_map, unwrap_or}
+use Rattle.std.specs.Prelude.{◌&&◌, ◌++◌, ◌^◌, ℕ, Bool, false, List, [], ◌∷◌, Option, Some, None, codes, find, if◌then◌else◌, is_some, length, map, nat_le, nat_lt, option_and_then, option_map, unwrap_or}
 use Rattle.std.specs.List.{list_all}
 use Rattle.std.specs.Option.{option_map_or}
 use Rattle.std.specs.Char.{digit_value}
@@ -45,23 +45,25 @@ show_named text = option_map (λ s. s.1) (find (λ s. bytes_eq s.0 text) shows)
 abbrev pub Choice : Type 0
 Choice = Text × (Text → Bool)
 
--- the options of `run`
-abbrev pub run_options : List Choice
-run_options = (codes "workers", is_number_in 1 64)
-    ∷ (codes "ticks", is_number_in 1 1000000000)
+-- the options of the limits
+abbrev pub limit_options : List Choice
+limit_options = (codes "ticks", is_number_in 1 1000000000)
     ∷ (codes "depth", is_number_in 1 10000)
     ∷ (codes "cells", is_number_in 1 67108864)
     ∷ (codes "processes", is_number_in 1 1000000)
     ∷ (codes "channels", is_number_in 1 1000000)
     ∷ (codes "entries", is_number_in 1 10000000)
-    ∷ (codes "output", is_number_in 1 268435456)
-    ∷ (codes "show", λ text. is_some (show_named text)) ∷ []
+    ∷ (codes "output", is_number_in 1 268435456) ∷ []
+
+-- the options of `run`
+abbrev pub run_options : List Choice
+run_options = (codes "workers", is_number_in 1 64) ∷ limit_options ++ (codes "show", λ text. is_some (show_named text)) ∷ []
 
 -- the options of `gen`
 abbrev pub gen_options : List Choice
 gen_options = (codes "workers", is_number_in 1 64) ∷ []
 
--- only `run` and `gen` have options
+-- only `run`, `gen` and `replay` have options
 abbrev pub options_of : CommandName → List Choice
 options_of name.Check = []
 options_of name.Run = run_options
@@ -69,6 +71,7 @@ options_of name.Code = []
 options_of name.Sets = []
 options_of name.Format = []
 options_of name.Gen = gen_options
+options_of name.Replay = limit_options
 
 -- the names of the options of a command
 abbrev pub option_names : CommandName → List Text

@@ -1,6 +1,6 @@
 -- The parser of command lines as the kit's `clap` sees it: its rules, ranges and subcommands. The builders in `parser`
 -- promise these shapes, and lemmas lead them to `command_of`, which is said without it.
-use Rattle.std.specs.Prelude.{◌≡◌, ◌∷◌, true, false, List, [], Some, codes, is_some, map}
+use Rattle.std.specs.Prelude.{◌≡◌, ◌∷◌, ◌++◌, true, false, List, [], Some, codes, is_some, map}
 use Rattle.clap.specs.Simple.{App, Shape, new_rule, new_shape}
 use Rattle.clap.specs.Walk.{Rule}
 use Rattle.clap.specs.ValueTests.{accepts}
@@ -10,25 +10,35 @@ use Rattle.clap.specs.declared.builder.value_parser.ValueParser.TheVariants as v
 use Rattle.sp_words.specs.Dashes.{Text}
 use Rattle.sp_words.specs.Options.{show_named}
 
--- FILE, or the N of `gen`, which has to be there
+-- a word that is no option, which has to be there
+abbrev pub word_rule : Text → Rule
+word_rule name = record (new_rule name) { required = true; action = Some Set }
+
+-- FILE, or the N of `gen`
 abbrev pub file_rule : Rule
-file_rule = record (new_rule (codes "FILE")) { required = true; action = Some Set }
+file_rule = word_rule (codes "FILE")
+
+-- JOURNAL, behind FILE
+abbrev pub journal_rule : Rule
+journal_rule = word_rule (codes "JOURNAL")
 
 -- an option with the parser of its value
 abbrev pub option_rule : Text × ValueParser → Rule
 option_rule o = record (new_rule o.0) { long = Some o.0; action = Some Set; parser = Some o.1 }
 
--- the options of `run` with the parsers of their values, where q is that of `--show`
-abbrev pub run_parsers : ValueParser → List (Text × ValueParser)
-run_parsers q = (codes "workers", vp.Unsigned 1 64)
-    ∷ (codes "ticks", vp.Unsigned 1 1000000000)
+-- the options of the limits with the parsers of their values
+abbrev pub limit_parsers : List (Text × ValueParser)
+limit_parsers = (codes "ticks", vp.Unsigned 1 1000000000)
     ∷ (codes "depth", vp.Unsigned 1 10000)
     ∷ (codes "cells", vp.Unsigned 1 67108864)
     ∷ (codes "processes", vp.Unsigned 1 1000000)
     ∷ (codes "channels", vp.Unsigned 1 1000000)
     ∷ (codes "entries", vp.Unsigned 1 10000000)
-    ∷ (codes "output", vp.Unsigned 1 268435456)
-    ∷ (codes "show", q) ∷ []
+    ∷ (codes "output", vp.Unsigned 1 268435456) ∷ []
+
+-- the options of `run`, where q is the parser of `--show`
+abbrev pub run_parsers : ValueParser → List (Text × ValueParser)
+run_parsers q = (codes "workers", vp.Unsigned 1 64) ∷ limit_parsers ++ (codes "show", q) ∷ []
 
 -- the options of `gen`
 abbrev pub gen_parsers : List (Text × ValueParser)
@@ -42,22 +52,32 @@ IsShowParser q = (text : Text) → accepts false q text ≡ is_some (show_named 
 abbrev pub shape_with : Text → List (Text × ValueParser) → Shape
 shape_with name options = record (new_shape name) { rules = file_rule ∷ map option_rule options }
 
+-- `replay` with its FILE, its JOURNAL and these options
+abbrev pub replay_shape : List (Text × ValueParser) → Shape
+replay_shape options = record (new_shape (codes "replay")) { rules = file_rule ∷ journal_rule ∷ map option_rule options }
+
 -- a command with its FILE alone
 abbrev pub app_with_file : Text → App
 app_with_file name = record { top = shape_with name []; subs = [] }
 
--- the whole command line
-abbrev pub app_with : ValueParser → App
-app_with q = record {
+-- the whole command line without its commands
+abbrev pub bare_line : App
+bare_line = record {
   top = record (new_shape (codes "superpascal")) {
-    is_leaf = false;
     no_binary_name = true;
     disable_help_flag = true;
     disable_help_subcommand = true;
     disable_version_flag = true;
     subcommand_required = true;
   };
+  subs = [];
+}
+
+-- the whole command line
+abbrev pub app_with : ValueParser → App
+app_with q = record {
+  top = record bare_line.top { is_leaf = false };
   subs = shape_with (codes "check") [] ∷ shape_with (codes "run") (run_parsers q)
       ∷ shape_with (codes "code") [] ∷ shape_with (codes "sets") [] ∷ shape_with (codes "format") []
-      ∷ shape_with (codes "gen") gen_parsers ∷ [];
+      ∷ shape_with (codes "gen") gen_parsers ∷ replay_shape limit_parsers ∷ [];
 }

@@ -20,7 +20,7 @@ pub record IsInRange (count : ℕ) (lim : Limits) : Type 0 where
   pub entries : IsUpTo 10000000 lim.entries
   pub output : IsUpTo 268435456 lim.output
 
--- the options of a command are in their ranges, and so is the size of `gen`
+-- the options of a command are in their ranges, and so is the size of `gen`; `replay` has one worker
 abbrev pub AreInRange : Command → Type 0
 AreInRange (command.Check file) = Unit {0}
 AreInRange (command.Run file workers limits show) = IsInRange workers limits
@@ -28,13 +28,13 @@ AreInRange (command.Code file) = Unit {0}
 AreInRange (command.Sets file) = Unit {0}
 AreInRange (command.Format file) = Unit {0}
 AreInRange (command.Gen size workers) = IsUpTo 2000 size × IsUpTo 64 workers
+AreInRange (command.Replay file journal limits) = IsInRange 1 limits
 
 -- the workers where no option is given
 abbrev pub default_workers : ℕ
 default_workers = 4
 
 -- the limits of a run where no option is given
-
 abbrev pub default_limits : Limits
 default_limits = record {
   ticks = 10000000;

@@ -8,7 +8,7 @@ use Rattle.std.specs.Str.{bytes_eq}
 use Rattle.clap.specs.Words.{first_value, found_of}
 use Rattle.clap.specs.declared.parser.matches.ArgMatches.{ArgMatches}
 use Rattle.sp_base.specs.declared.limits.Limits.{Limits}
-use Rattle.sp_words.specs.Dashes.{Item, Text, contains, file, given, items}
+use Rattle.sp_words.specs.Dashes.{Item, Text, contains, file, given, items, journal}
 use Rattle.sp_words.specs.Options.{Choice, number_or, option_names, options_of, show_or_end, size_named}
 use Rattle.sp_words.specs.Ranges.{default_limits, default_workers}
 use Rattle.sp_words.specs.declared.command.Command.{Command}
@@ -16,14 +16,16 @@ use Rattle.sp_words.specs.declared.command.Command.TheVariants as command
 use Rattle.sp_words.specs.declared.command.CommandName.{CommandName}
 use Rattle.sp_words.specs.declared.command.CommandName.TheVariants as name
 
--- what an item is about: FILE, which is the N of `gen`, or an option
+-- what an item is about: FILE, which is the N of `gen`, JOURNAL, or an option
 abbrev pub subject : Item → Text
 subject (file word) = codes "FILE"
+subject (journal word) = codes "JOURNAL"
 subject (given name value) = name
 
--- the word of a FILE, or the value of an option
+-- the word of a FILE or a JOURNAL, or the value of an option
 abbrev pub text_of : Item → Text
 text_of (file word) = word
+text_of (journal word) = word
 text_of (given name value) = value
 
 -- no subject comes twice, nor one that was seen before
@@ -31,9 +33,10 @@ abbrev pub each_once : List Text → List Item → Bool
 each_once seen [] = true
 each_once seen (i ∷ is) = not (contains seen (subject i)) && each_once (seen ++ subject i ∷ []) is
 
--- the option may have this value, and any word is a FILE
+-- the option may have this value, and any word is a FILE or a JOURNAL
 abbrev pub is_accepted : List Choice → Item → Bool
 is_accepted options (file word) = true
+is_accepted options (journal word) = true
 is_accepted options (given name value) = option_map_or (λ o. o.1 value) (find (λ o. bytes_eq o.0 name) options) false
 
 -- the text of a subject
@@ -64,7 +67,7 @@ limits_from value = record {
 abbrev pub workers_from : (Text → Option Text) → ℕ
 workers_from value = number_or (2 ^ 32) default_workers (value (codes "workers"))
 
--- the command with its FILE, or `gen` with a size that it may have, and what its options were given
+-- the command with its FILE, or `gen` with a size that it may have, and what its JOURNAL and options were given
 abbrev pub command_from : CommandName → (Text → Option Text) → Text → Option Command
 command_from name.Check value word = Some (command.Check word)
 command_from name.Run value word = Some (command.Run word (workers_from value) (limits_from value) (show_or_end (value (codes "show"))))
@@ -72,20 +75,53 @@ command_from name.Code value word = Some (command.Code word)
 command_from name.Sets value word = Some (command.Sets word)
 command_from name.Format value word = Some (command.Format word)
 command_from name.Gen value word = option_map (λ size. command.Gen size (workers_from value)) (size_named word)
+command_from name.Replay value word = option_map (λ text. command.Replay word text (limits_from value)) (value (codes "JOURNAL"))
 
 -- the command by the texts of its subjects, where FILE is one of them
 abbrev pub command_with : CommandName → (Text → Option Text) → Option Command
 command_with command value = option_and_then (command_from command value) (value (codes "FILE"))
 
--- the items are a FILE, or the N of `gen`, and options with values that they may have, each at most once
-abbrev pub command_of_items : CommandName → List Item → Option Command
-command_of_items command is =
+-- the first FILE of these is a JOURNAL
+abbrev pub journal_first : List Item → List Item
+journal_first [] = []
+journal_first (file word ∷ is) = journal word ∷ is
+journal_first (journal word ∷ is) = journal word ∷ journal_first is
+journal_first (given name value ∷ is) = given name value ∷ journal_first is
+
+-- the second FILE of these is a JOURNAL
+abbrev pub journal_second : List Item → List Item
+journal_second [] = []
+journal_second (file word ∷ is) = file word ∷ journal_first is
+journal_second (journal word ∷ is) = journal word ∷ journal_second is
+journal_second (given name value ∷ is) = given name value ∷ journal_second is
+
+-- only `replay` has a JOURNAL
+abbrev pub has_journal : CommandName → Bool
+has_journal name.Check = false
+has_journal name.Run = false
+has_journal name.Code = false
+has_journal name.Sets = false
+has_journal name.Format = false
+has_journal name.Gen = false
+has_journal name.Replay = true
+
+-- where there is a JOURNAL, it is the second of the words that are no options
+abbrev pub with_journal : Bool → List Item → List Item
+with_journal there is = if there then journal_second is else is
+
+-- the items are a FILE, or the N of `gen`, perhaps a JOURNAL, and options with values that they may have, each at most once
+abbrev pub command_of_parts : CommandName → List Item → Option Command
+command_of_parts command is =
     if each_once [] is && list_all (is_accepted (options_of command)) is then command_with command (lookup is)
     else None
 
+-- the same of items where a JOURNAL is not yet told from a FILE
+abbrev pub command_of_items : CommandName → List Item → Option Command
+command_of_items command is = command_of_parts command (with_journal (has_journal command) is)
+
 -- the commands by their names
 abbrev pub command_names : List (Text × CommandName)
-command_names = (codes "check", name.Check) ∷ (codes "run", name.Run) ∷ (codes "code", name.Code) ∷ (codes "sets", name.Sets) ∷ (codes "format", name.Format) ∷ (codes "gen", name.Gen) ∷ []
+command_names = (codes "check", name.Check) ∷ (codes "run", name.Run) ∷ (codes "code", name.Code) ∷ (codes "sets", name.Sets) ∷ (codes "format", name.Format) ∷ (codes "gen", name.Gen) ∷ (codes "replay", name.Replay) ∷ []
 
 -- the command of a name
 abbrev pub command_named : Text → Option CommandName

@@ -7,7 +7,7 @@ use sp_base::{Limits, Show, Word};
 use std::alloc::{AllocError, AllocFailed};
 use thiserror::Error;
 
-/// What the words ask for. `file` and the other words name the program text.
+/// What the words ask for. `file`, or the one word of a command, names the program text.
 #[derive(Debug, Drop)]
 pub enum Command {
     /// Say whether the text keeps all rules, or name the first that it breaks.
@@ -34,6 +34,13 @@ pub enum Command {
         /// How many workers run its processes, from 1 to 64.
         workers: u32,
     },
+    /// Follow a journal of the program.
+    Replay {
+        file: Word,
+        /// The name of the journal's text.
+        journal: Word,
+        limits: Limits,
+    },
 }
 
 /// The names of the commands.
@@ -45,13 +52,14 @@ pub(crate) enum CommandName {
     Sets,
     Format,
     Gen,
+    Replay,
 }
 
 /// Why the words give no command.
 #[derive(Clone, Copy, Debug, PartialEq, Eq, Error)]
 pub enum WordsError {
-    /// The command is missing or unknown, its FILE or N is missing or there is a second one, an N is out of its
-    /// range, an option is unknown, repeated, without its value or out of its range, or a word breaks the dash rule.
+    /// The command is missing or unknown, its FILE, N or JOURNAL is missing or there is one too many, an N is out of
+    /// its range, an option is unknown, repeated, without its value or out of its range, or a word breaks the dash rule.
     #[error("bad words")]
     Refused,
     /// Memory was refused.

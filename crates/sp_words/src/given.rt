@@ -95,14 +95,31 @@ fn gen_given(text: &str, given: &ArgMatches<'_>) -> Option<Command>
     size_named(text).map(|size| Command::Gen { size, workers })
 }
 
-// The name of the program text.
+// The name of a file.
 fn file(alloc: Global, text: &str) -> Result<Word, AllocError>
     ensures { IfOk result (λ w. w ≡ text.now) }
 {
     Ok(Word::of(String::from_str(alloc, text)?))
 }
 
-/// The command with what its level of the parse found. Without a FILE, or an N in its range, it is refused.
+// The command `replay` with the text of its FILE. Without a JOURNAL it is refused.
+fn replay_given(alloc: Global, text: &str, given: &ArgMatches<'_>) -> Result<Command, WordsError>
+    ensures ok { IfOk result (λ c. command_from CommandName.Replay (values_given given.now) text.now ≡ Some c) }
+    ensures refused { IfErr result (λ e. e ≡ WordsError.Refused
+        → command_from CommandName.Replay (values_given given.now) text.now ≡ None) }
+{
+    let Some(journal) = given.get_str("JOURNAL") else {
+        return Err(WordsError::Refused);
+    };
+    Ok(Command::Replay {
+        file: file(alloc, text)?,
+        journal: file(alloc, journal)?,
+        limits: limits(given),
+    })
+}
+
+/// The command with what its level of the parse found. Without a FILE, an N in its range, or a JOURNAL where it has one,
+/// it is refused.
 pub(crate) fn command_given(
     alloc: Global,
     command: CommandName,
@@ -127,5 +144,6 @@ pub(crate) fn command_given(
         CommandName::Sets => Command::Sets(file(alloc, text)?),
         CommandName::Format => Command::Format(file(alloc, text)?),
         CommandName::Gen => gen_given(text, given).ok_or(WordsError::Refused)?,
+        CommandName::Replay => replay_given(alloc, text, given)?,
     })
 }

@@ -1,12 +1,13 @@
 //! The parser of command lines: one command with one level of subcommands, and neither help nor a version.
 
-ghost use Rattle.std.specs.Prelude.{◌≡◌, ◌∷◌, [], IfOk, codes, false, map};
-ghost use Rattle.clap.specs.Words.{app_of, rule_of, shape_of, with_rule};
+ghost use Rattle.std.specs.List.{fold};
+ghost use Rattle.std.specs.Prelude.{◌≡◌, ◌∷◌, ◌++◌, [], IfOk, codes, false, map};
+ghost use Rattle.clap.specs.Words.{app_of, rule_of, shape_of, with_rule, with_subcommand};
 ghost use Rattle.clap.specs.declared.builder.command.Command.TheViews.{out-Command as fields_of};
 ghost use Rattle.clap.specs.declared.builder.value_parser.ValueParser.{ValueParser as Parser};
 ghost use Rattle.clap.specs.declared.builder.value_parser.ValueParser.TheVariants.{Unsigned};
-ghost use Rattle.sp_words.specs.Parsers.{IsShowParser, app_with, app_with_file, file_rule, option_rule};
-ghost use Rattle.sp_words.specs.Parsers.{gen_parsers, run_parsers, shape_with};
+ghost use Rattle.sp_words.specs.Parsers.{IsShowParser, app_with, app_with_file, bare_line, gen_parsers};
+ghost use Rattle.sp_words.specs.Parsers.{limit_parsers, option_rule, replay_shape, run_parsers, shape_with, word_rule};
 
 use clap::builder::ValueParser;
 use clap::{Arg, ArgAction, Command};
@@ -17,13 +18,12 @@ pub(crate) static SHOWS: [&str; 7] = [
     "end", "timeline", "census", "tree", "waiting", "all", "journal",
 ];
 
-fn file_arg<'a>(alloc: Global) -> Arg<'a>
-    ensures rule { rule_of result ≡ file_rule }
+// A word that is no option, which has to be there.
+fn word_arg<'a>(alloc: Global, name: &'a str) -> Arg<'a>
+    ensures rule { rule_of result ≡ word_rule name.entry.now }
     ensures local { result.global ≡ false }
 {
-    Arg::new(alloc, "FILE")
-        .required(true)
-        .action(ArgAction::Set)
+    Arg::new(alloc, name).required(true).action(ArgAction::Set)
 }
 
 fn number_arg<'a>(alloc: Global, name: &'a str, least: u64, most: u64) -> Arg<'a>
@@ -50,7 +50,7 @@ fn plain_command<'a>(alloc: Global, name: &'a str) -> Result<Command<'a>, AllocE
     ensures app { IfOk result (λ c. app_of c ≡ app_with_file name.entry.now) }
     ensures local { IfOk result (λ c. (fields_of c).has_globals ≡ false) }
 {
-    Command::new(alloc, name).arg(file_arg(alloc))
+    Command::new(alloc, name).arg(word_arg(alloc, "FILE"))
 }
 
 fn with_number<'a>(
@@ -77,6 +77,22 @@ fn with_show<'a>(command: Command<'a>, alloc: Global) -> Result<Command<'a>, All
     command.arg(show_arg(alloc))
 }
 
+// The command with the options of the limits as well.
+fn with_limits<'a>(command: Command<'a>, alloc: Global) -> Result<Command<'a>, AllocError>
+    ensures rules { IfOk result (λ c. app_of c
+        ≡ fold with_rule (app_of command.entry) (map option_rule limit_parsers)) }
+    ensures local { IfOk result (λ c. (fields_of command.entry).has_globals ≡ false
+        → (fields_of c).has_globals ≡ false) }
+{
+    let command = with_number(command, alloc, "ticks", 1, 1_000_000_000)?;
+    let command = with_number(command, alloc, "depth", 1, 10_000)?;
+    let command = with_number(command, alloc, "cells", 1, 67_108_864)?;
+    let command = with_number(command, alloc, "processes", 1, 1_000_000)?;
+    let command = with_number(command, alloc, "channels", 1, 1_000_000)?;
+    let command = with_number(command, alloc, "entries", 1, 10_000_000)?;
+    with_number(command, alloc, "output", 1, 268_435_456)
+}
+
 fn run_command<'a>(alloc: Global) -> Result<Command<'a>, AllocError>
     ensures shape { IfOk result (λ c. (q : Parser)
         × (shape_of c ≡ shape_with (codes "run") (run_parsers q)) × IsShowParser q) }
@@ -84,13 +100,7 @@ fn run_command<'a>(alloc: Global) -> Result<Command<'a>, AllocError>
 {
     let command = plain_command(alloc, "run")?;
     let command = with_number(command, alloc, "workers", 1, 64)?;
-    let command = with_number(command, alloc, "ticks", 1, 1_000_000_000)?;
-    let command = with_number(command, alloc, "depth", 1, 10_000)?;
-    let command = with_number(command, alloc, "cells", 1, 67_108_864)?;
-    let command = with_number(command, alloc, "processes", 1, 1_000_000)?;
-    let command = with_number(command, alloc, "channels", 1, 1_000_000)?;
-    let command = with_number(command, alloc, "entries", 1, 10_000_000)?;
-    let command = with_number(command, alloc, "output", 1, 268_435_456)?;
+    let command = with_limits(command, alloc)?;
     with_show(command, alloc)
 }
 
@@ -102,9 +112,18 @@ fn gen_command<'a>(alloc: Global) -> Result<Command<'a>, AllocError>
     with_number(command, alloc, "workers", 1, 64)
 }
 
-/// The parser of the whole command line. Its words begin with the command.
-pub(crate) fn parser<'a>(alloc: Global) -> Result<Command<'a>, AllocError>
-    ensures { IfOk result (λ c. (q : Parser) × (app_of c ≡ app_with q) × IsShowParser q) }
+fn replay_command<'a>(alloc: Global) -> Result<Command<'a>, AllocError>
+    ensures shape { IfOk result (λ c. shape_of c ≡ replay_shape limit_parsers) }
+    ensures local { IfOk result (λ c. (fields_of c).has_globals ≡ false) }
+{
+    let command = plain_command(alloc, "replay")?;
+    let command = command.arg(word_arg(alloc, "JOURNAL"))?;
+    with_limits(command, alloc)
+}
+
+// The whole command line without its commands.
+fn bare_line<'a>(alloc: Global) -> Command<'a>
+    ensures { app_of result ≡ bare_line }
 {
     Command::new(alloc, "superpascal")
         .no_binary_name(true)
@@ -112,10 +131,51 @@ pub(crate) fn parser<'a>(alloc: Global) -> Result<Command<'a>, AllocError>
         .disable_help_subcommand(true)
         .disable_version_flag(true)
         .subcommand_required(true)
-        .subcommand(plain_command(alloc, "check")?)?
-        .subcommand(run_command(alloc)?)?
-        .subcommand(plain_command(alloc, "code")?)?
-        .subcommand(plain_command(alloc, "sets")?)?
-        .subcommand(plain_command(alloc, "format")?)?
-        .subcommand(gen_command(alloc)?)
+}
+
+// One more command that has its FILE alone.
+fn with_plain<'a>(
+    line: Command<'a>,
+    alloc: Global,
+    name: &'a str,
+) -> Result<Command<'a>, AllocError>
+    ensures { IfOk result (λ c. app_of c ≡ with_subcommand (app_of line.entry) (shape_with name.entry.now [])) }
+{
+    let command = plain_command(alloc, name)?;
+    line.subcommand(command)
+}
+
+fn with_run<'a>(line: Command<'a>, alloc: Global) -> Result<Command<'a>, AllocError>
+    ensures { IfOk result (λ c. (q : Parser)
+        × (app_of c ≡ with_subcommand (app_of line.entry) (shape_with (codes "run") (run_parsers q))) × IsShowParser q) }
+{
+    let command = run_command(alloc)?;
+    line.subcommand(command)
+}
+
+fn with_gen<'a>(line: Command<'a>, alloc: Global) -> Result<Command<'a>, AllocError>
+    ensures { IfOk result (λ c. app_of c ≡ with_subcommand (app_of line.entry) (shape_with (codes "gen") gen_parsers)) }
+{
+    let command = gen_command(alloc)?;
+    line.subcommand(command)
+}
+
+fn with_replay<'a>(line: Command<'a>, alloc: Global) -> Result<Command<'a>, AllocError>
+    ensures { IfOk result (λ c. app_of c ≡ with_subcommand (app_of line.entry) (replay_shape limit_parsers)) }
+{
+    let command = replay_command(alloc)?;
+    line.subcommand(command)
+}
+
+/// The parser of the whole command line. Its words begin with the command.
+pub(crate) fn parser<'a>(alloc: Global) -> Result<Command<'a>, AllocError>
+    ensures { IfOk result (λ c. (q : Parser) × (app_of c ≡ app_with q) × IsShowParser q) }
+{
+    let line = with_plain(bare_line(alloc), alloc, "check")?;
+    let line = with_run(line, alloc)?;
+    let line = with_plain(line, alloc, "code")?;
+    let line = with_plain(line, alloc, "sets")?;
+    let line = with_plain(line, alloc, "format")?;
+    let line = with_gen(line, alloc)?;
+    with_replay(line, alloc)
 }

@@ -27,6 +27,17 @@ static RUN_OPTIONS: [&str; 9] = [
     "show",
 ];
 
+/// The options of `replay`.
+static LIMIT_OPTIONS: [&str; 7] = [
+    "ticks",
+    "depth",
+    "cells",
+    "processes",
+    "channels",
+    "entries",
+    "output",
+];
+
 /// The options of `gen`.
 static GEN_OPTIONS: [&str; 1] = ["workers"];
 
@@ -40,6 +51,7 @@ fn command_named(word: &str) -> Option<CommandName>
         "sets" => Some(CommandName::Sets),
         "format" => Some(CommandName::Format),
         "gen" => Some(CommandName::Gen),
+        "replay" => Some(CommandName::Replay),
         _ => None,
     }
 }
@@ -50,6 +62,7 @@ fn option_names(command: CommandName) -> &'static [&'static str]
     match command {
         CommandName::Run => RUN_OPTIONS.as_slice(),
         CommandName::Gen => GEN_OPTIONS.as_slice(),
+        CommandName::Replay => LIMIT_OPTIONS.as_slice(),
         CommandName::Check | CommandName::Code | CommandName::Sets | CommandName::Format => &[],
     }
 }
@@ -64,7 +77,8 @@ fn failure(error: &Error) -> WordsError
 }
 
 /// Reads the words after the program's own name. The first is the command, and the others are its FILE, or the N of
-/// `gen`, and its options, each at most once, as `--name value` or `--name=value`. After `--` no word is an option.
+/// `gen`, of `replay` a JOURNAL behind FILE, and its options, each at most once, as `--name value` or `--name=value`.
+/// After `--` no word is an option.
 ///
 /// `Refused` comes exactly where the words ask for no command.
 pub fn read_words(alloc: Global, words: &[String]) -> Result<Command, WordsError>

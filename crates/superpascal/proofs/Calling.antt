@@ -4,12 +4,20 @@ use Rattle.std.specs.Prelude.{IfSome}
 use Rattle.sp_base.specs.declared.halt.Refusal.{Refusal}
 use Rattle.sp_base.specs.declared.limits.Limits.{Limits}
 use Rattle.sp_execute.specs.declared.execution.Ran.{Ran}
+use Rattle.sp_execute.specs.Follows.{IsMeant as IsDefined, IsUnfitAt}
+use Rattle.sp_execute.specs.Runs.{setting}
+use Rattle.sp_front.specs.Checks.{IsProgramOf}
 use Rattle.sp_gen.specs.Generated.{generated_text}
+use Rattle.sp_journal.specs.declared.entry.Journal.{Journal}
 use Rattle.sp_journal.specs.declared.outcome.End.{End}
 use Rattle.sp_journal.specs.declared.outcome.End.TheVariants as ends
+use Rattle.sp_journal.specs.Reading.{IsText}
+use Rattle.sp_journal.specs.Texts.{IsFirstBad}
 use Rattle.sp_outside.specs.Counts.{Rose}
 use Rattle.sp_print.specs.Lines.{HasLines, refusal_text}
+use Rattle.sp_replay.specs.declared.replayer.Replayed.{Replayed}
 use Rattle.sp_tree.specs.Bare.{bare}
+use Rattle.sp_tree.specs.Plain.{Program}
 use Rattle.sp_words.specs.Ranges.{default_limits}
 use Rattle.sp_words.specs.Words.{command_of}
 use Rattle.sp_words.specs.declared.command.Command.{Command}
@@ -17,18 +25,23 @@ use Rattle.sp_words.specs.declared.command.Command.TheVariants as command
 use Rattle.superpascal.specs.declared.ending.Ending.{Ending}
 use Rattle.superpascal.specs.declared.ending.Ending.TheVariants as e
 use Rattle.superpascal.specs.declared.ending.Answer.{Answer}
+use Rattle.superpascal.specs.Answering.{HasEndLines}
 use Rattle.superpascal.specs.Answers.{has_output, line_of, notes_by, notes_of, output_of, status_of}
-use Rattle.superpascal.specs.Calls.{All, Call, Exactly, Failed, IsAnswered, IsOutside, IsUnwritten, OfText, Part}
-use Rattle.superpascal.specs.Causes.{Cause, by_words, before_words, by_command, Files, HasGenerated, HasMade, HasRun, IsNotLoaded, IsNotRead, IsRefusedFor, IsTold, IsTooLong, IsTooMuch, IsUntouched, ReadsAfterRules, Stream, accepted, refused, silent}
+use Rattle.superpascal.specs.Calls.{All, Call, Exactly, Failed, IsAnswered, IsFinal, IsOutside, IsUnwritten, OfText, Part}
+use Rattle.superpascal.specs.Causes.{Cause, by_words, before_words, by_command, Files, HasGenerated, HasMade, HasRead, HasReplayed, HasRun, IsBadJournal, IsLongJournal, IsNotLoaded, IsNotRead, IsRefusedFor, IsTold, IsTooLong, IsTooMuch, IsUnfit, IsUntouched, ReadsAfterRules, Stream, accepted, refused, silent}
+use Rattle.superpascal.specs.Following.{Following, IsMeantAlong, IsNoJournal, PrintsReplay, SaysJournal}
 use Rattle.superpascal.specs.Headline.{Headline, IsMeant, Prints, SaysRefusal}
 use Rattle.superpascal.specs.Promise.{Promise}
+use Rattle.superpascal.specs.Replays.{IsJournalOf, IsUnfitFor, ending_of_replay, replay_notes}
 use Rattle.superpascal.specs.Runs.{IsRunOf, Reports, ending_of, generated_answer, generated_output, run_answer, run_notes}
 use Rattle.superpascal.specs.Statuses.{InputIsTooLong, IsQuiet, IsRunOfWords, ReadsFail, Statuses}
-use Rattle.superpascal.specs.Texts.{Asked, Breaks, IsAbout, IsDisjointText, Keeps, KeepsAll, Makes, asks, asks_text, text_of}
+use Rattle.superpascal.specs.Texts.{Asked, Breaks, CanRead, Followed, IsDisjointText, IsJournalText, Keeps, KeepsAll, Loads, Makes, asks, asks_replay, asks_run, asks_text, follows, text_of}
 use Rattle.superpascal.specs.Writing.{AreWritten, Writing, WritesLine}
 use Rattle.superpascal.proofs.Laws.{Laws, disjoint_text, keeps_all, keeps_or, kept_or, made_asks, made_keeps, made_once, one_break}
-use Rattle.superpascal.proofs.Telling.{ends_of}
-use Rattle.superpascal.proofs.Why.{HasRanFor, IsRanBy, ran_of, same_ran, why, why_of}
+use Rattle.superpascal.proofs.Parts.{when_told}
+use Rattle.superpascal.proofs.Replaying.{code_keeps, if_mapped, if_told, meant_along, not_followed, not_generated, not_run, not_unfit, one_followed, replay_notes_stand, same_entry, told_of}
+use Rattle.superpascal.proofs.Telling.{ends_of, replay_ends}
+use Rattle.superpascal.proofs.Why.{HasEnded, HasRanFor, HasReplayedFor, IsRanBy, ran_of, same_ran, why, why_of}
 
 no_command : (o : Option Command) (c : Command) → o ≡ Some c → o ≡ None → ⊥
 no_command o c h k = cc
@@ -64,9 +77,6 @@ no_true : true ≡ false → ⊥
 no_true g = cc
 
 -- the ending of a run
-abbrev IsFinal : ℕ → Type 0
-IsFinal n = (n ≡ 0) ⊎ ((n ≡ 3) ⊎ (n ≡ 4))
-
 final : (x : End) → HasLines x → IsFinal (status_of (ending_of x)) × (has_output (ending_of x) ≡ true)
 final ends.Done h = (inl refl, refl)
 final (ends.Deadlock ws) h = (inr (inr refl), refl)
@@ -80,12 +90,15 @@ run_notes_stand (ends.Deadlock ws) notes h = refl
 run_notes_stand (ends.Fault n y) notes h = refl
 run_notes_stand ends.Memory notes h = absurd h
 
--- what is told is told of one text
-told_of : (o : Option (List ℕ)) (all text : List ℕ) → o ≡ Some text → IsTold o all → all ≡ text
-told_of o all text h t = subst (λ x. IsTold x all) h t
-
-if_told : (P : List ℕ → Type 0) (o : Option (List ℕ)) (text : List ℕ) → o ≡ Some text → IfSome o P → P text
-if_told P o text h k = subst (λ x. IfSome x P) h k
+-- a command that answers from a text alone runs nothing
+text_or_run : (d : Command) → asks_text d → asks_run d → ⊥
+text_or_run (command.Check file) q r = r
+text_or_run (command.Run file workers limits show) q r = q
+text_or_run (command.Code file) q r = r
+text_or_run (command.Sets file) q r = r
+text_or_run (command.Format file) q r = r
+text_or_run (command.Gen size workers) q r = q
+text_or_run (command.Replay file journal limits) q r = r
 
 -- ---- from the ending
 
@@ -104,22 +117,30 @@ module _ (f : Files) (s : Stream) (reports : Reports) (w : Option Command) (a : 
   words_only e.BadWords k h = k
   words_only _ k h = absurd (omega arith)
 
+  ended_asked : w ≡ None → HasEnded f s reports w a → ⊥
+  ended_asked h (inl k) = no_command _ _ k.1 h
+  ended_asked h (inr k) = no_command _ _ k.1 h
+
   words_due : w ≡ None → (x : Ending) → Why x → Due_status x 2
   words_due h e.BadWords k = inl refl
-  words_due h e.Done k = absurd (no_command _ _ k.1 h)
-  words_due h e.Deadlock k = absurd (no_command _ _ k.1 h)
-  words_due h e.Fault k = absurd (no_command _ _ k.1 h)
+  words_due h e.Done k = absurd (ended_asked h k)
+  words_due h e.Deadlock k = absurd (ended_asked h k)
+  words_due h e.Fault k = absurd (ended_asked h k)
+  words_due h e.NoEnd k = absurd (no_command _ _ k.1 h)
+  words_due h e.LongJournal k = absurd (no_command _ _ k.1 h)
+  words_due h (e.BadJournal n) k = absurd (no_command _ _ k.1 h)
+  words_due h (e.Unfit n) k = absurd (no_command _ _ k.1 h)
   words_due h e.Accepted k = absurd (no_command _ _ k.1 h)
   words_due h (e.Refused r) k = absurd (no_command _ _ k.1 h)
   words_due h e.ReadFault k = inr (omega arith, omega arith)
   words_due h e.TooLong k = inr (omega arith, omega arith)
   words_due h e.OutOfMemory k = inr (omega arith, omega arith)
 
-  read_fails : (x : Ending) → Why x → status_of x ≡ 5 → (d : Command) × (w ≡ Some d) × (IsNotLoaded f d a ⊎ ((asked : Asked) × (d ≡ asks asked) × IsNotRead f s asked a))
+  read_fails : (x : Ending) → Why x → status_of x ≡ 5 → (d : Command) × (w ≡ Some d) × (IsNotLoaded f d a ⊎ IsNotRead f s d a)
   read_fails e.ReadFault k h = k
   read_fails _ k h = absurd (omega arith)
 
-  input_long : (x : Ending) → Why x → status_of x ≡ 7 → (asked : Asked) × (w ≡ Some (asks asked)) × IsTooMuch f s asked a
+  input_long : (x : Ending) → Why x → status_of x ≡ 7 → (d : Command) × (w ≡ Some d) × IsTooMuch f s d a
   input_long e.TooLong k h = k
   input_long _ k h = absurd (omega arith)
 
@@ -139,19 +160,34 @@ module _ (f : Files) (s : Stream) (reports : Reports) (w : Option Command) (a : 
     run_keeps : (all input : List ℕ) (workers : ℕ) (r : Ran) (limits : Limits) → IsRunOf all input workers limits r → KeepsAll all
     run_keeps all input workers r limits h = (h.tree, h.has.accepted, h.has.short)
 
+    told_keeps : (o : Option (List ℕ)) (all : List ℕ) → IsTold o all → KeepsAll all → IfSome o KeepsAll
+    told_keeps o all h k = when_told KeepsAll o all h k
+
     ran_keeps : HasRanFor f s reports w a → Keeps d text
     ran_keeps (c, u, inl (asked, p, h)) =
         let same : asks asked ≡ d = sym p ∙ one_command w d c v u in
         let all : KeepsAll text = of_text KeepsAll (asks asked) (u ∙ ap Some p) (told_keeps (f.held asked.file) h.text h.loaded (run_keeps h.text h.input asked.workers h.ran asked.limits h.is_run)) in
         subst (λ (x : Command). Keeps x text) same all
-      where
-        told_keeps : (o : Option (List ℕ)) (all : List ℕ) → IsTold o all → KeepsAll all → IfSome o KeepsAll
-        told_keeps None all h k = tt
-        told_keeps (Some x) all h k = subst KeepsAll h k
     ran_keeps (c, u, inr (size, workers, p, h)) =
         let same : command.Gen size workers ≡ d = sym p ∙ one_command w d c v u in
         let all : KeepsAll text = of_text KeepsAll (command.Gen size workers) (u ∙ ap Some p) (run_keeps (generated_text size) [] workers h.ran default_limits h.is_run) in
         subst (λ (x : Command). Keeps x text) same all
+
+    -- a text of which a journal was loaded is kept
+    followed_keeps : (b : Followed) → w ≡ Some (follows b) → IfSome (f.held b.file) KeepsAll → Keeps d text
+    followed_keeps b u h = subst (λ (x : Command). Keeps x text) (one_command w d (follows b) v u) (of_text KeepsAll (follows b) u h)
+
+    replay_keeps : HasReplayedFor f s reports w a → Keeps d text
+    replay_keeps (b, u, h) =
+        followed_keeps b u (told_keeps (f.held b.file) h.has_read.text h.has_read.loaded (code_keeps h.has_read.text h.is_replay.tree h.is_replay.code h.is_replay.has))
+
+    unfit_keeps : (b : Followed) (n : ℕ) → w ≡ Some (follows b) → IsUnfit f s b n a → Keeps d text
+    unfit_keeps b n u h =
+        followed_keeps b u (told_keeps (f.held b.file) h.has_read.text h.has_read.loaded (code_keeps h.has_read.text h.is_unfit.tree h.is_unfit.code h.is_unfit.has))
+
+    ended_keeps : HasEnded f s reports w a → Keeps d text
+    ended_keeps (inl k) = ran_keeps k
+    ended_keeps (inr k) = replay_keeps k
 
     makes : (c : Command) → w ≡ Some c → (h : HasMade f c a) → Makes d text h.output h.line
     makes c u h =
@@ -162,9 +198,13 @@ module _ (f : Files) (s : Stream) (reports : Reports) (w : Option Command) (a : 
     breaks c u h = subst (λ (x : Command). Breaks x text h.refusal) (one_command w d c v u) (of_text (λ x. Breaks c x h.refusal) c u h.breaks)
 
     refusal_due : Laws → (r : Refusal) → Breaks d text r → (x : Ending) → x ≡ a.ending → Why x → Due_line x (refusal_text r)
-    refusal_due l r b e.Done i k = absurd (keeps_or l text d r (ran_keeps k) b)
-    refusal_due l r b e.Deadlock i k = absurd (keeps_or l text d r (ran_keeps k) b)
-    refusal_due l r b e.Fault i k = absurd (keeps_or l text d r (ran_keeps k) b)
+    refusal_due l r b e.Done i k = absurd (keeps_or l text d r (ended_keeps k) b)
+    refusal_due l r b e.Deadlock i k = absurd (keeps_or l text d r (ended_keeps k) b)
+    refusal_due l r b e.Fault i k = absurd (keeps_or l text d r (ended_keeps k) b)
+    refusal_due l r b e.NoEnd i k = absurd (keeps_or l text d r (replay_keeps k) b)
+    refusal_due l r b e.LongJournal i (c, u, h) = absurd (keeps_or l text d r (followed_keeps c u h.kept) b)
+    refusal_due l r b (e.BadJournal n) i (c, u, h) = absurd (keeps_or l text d r (followed_keeps c u h.kept) b)
+    refusal_due l r b (e.Unfit n) i (c, u, h) = absurd (keeps_or l text d r (unfit_keeps c n u h) b)
     refusal_due l r b e.Accepted i (c, u, h) = absurd (keeps_or l text d r (made_keeps d text h.output h.line (makes c u h)) b)
     refusal_due l r b (e.Refused q) i (c, u, h) = inl (refl, ap (λ (z : Answer). z.notes) h.answer ∙ ap refusal_text (one_break l text d h.refusal r (breaks c u h) b))
     refusal_due l r b e.BadWords i k = absurd (no_command _ _ v k)
@@ -178,9 +218,10 @@ module _ (f : Files) (s : Stream) (reports : Reports) (w : Option Command) (a : 
 
     -- where a program has run, or the text is accepted, no rule is broken
     kept_by : (x : Ending) → Why x → IsFinal (status_of x) → Keeps d text
-    kept_by e.Done k i = ran_keeps k
-    kept_by e.Deadlock k i = ran_keeps k
-    kept_by e.Fault k i = ran_keeps k
+    kept_by e.Done k i = ended_keeps k
+    kept_by e.Deadlock k i = ended_keeps k
+    kept_by e.Fault k i = ended_keeps k
+    kept_by e.NoEnd k i = replay_keeps k
     kept_by e.Accepted (c, u, h) i = made_keeps d text h.output h.line (makes c u h)
     kept_by _ k (inl i) = absurd (omega arith)
     kept_by _ k (inr (inl i)) = absurd (omega arith)
@@ -193,15 +234,27 @@ module _ (f : Files) (s : Stream) (reports : Reports) (w : Option Command) (a : 
     not_ran q (c, u, inl (asked, p, h)) = subst asks_text (sym (one_command w d c v u) ∙ p) q
     not_ran q (c, u, inr (size, workers, p, h)) = subst asks_text (sym (one_command w d c v u) ∙ p) q
 
+    not_followed_by : asks_text d → (b : Followed) → w ≡ Some (follows b) → ⊥
+    not_followed_by q b u = subst asks_text (sym (one_command w d (follows b) v u)) q
+
+    not_ended : asks_text d → HasEnded f s reports w a → ⊥
+    not_ended q (inl k) = not_ran q k
+    not_ended q (inr k) = not_followed_by q k.0 k.1
+
     made_only : asks_text d → (x : Ending) → Why x → status_of x ≡ 0 → (h : HasMade f d a) × Makes d text h.output h.line
-    made_only q e.Done k i = absurd (not_ran q k)
+    made_only q e.Done k i = absurd (not_ended q k)
+    made_only q e.NoEnd k i = absurd (not_followed_by q k.0 k.1)
     made_only q e.Accepted (c, u, h) i = subst (λ (y : Command). (z : HasMade f y a) × Makes d text z.output z.line) (one_command w d c v u) (h, makes c u h)
     made_only q _ k i = absurd (omega arith)
 
     made_due : asks_text d → Laws → ((out line : List ℕ) × Makes d text out line) → (x : Ending) → Why x → Due_status x 0
     made_due q l m e.Done k = inl refl
-    made_due q l m e.Deadlock k = absurd (not_ran q k)
-    made_due q l m e.Fault k = absurd (not_ran q k)
+    made_due q l m e.NoEnd k = inl refl
+    made_due q l m e.Deadlock k = absurd (not_ended q k)
+    made_due q l m e.Fault k = absurd (not_ended q k)
+    made_due q l m e.LongJournal k = absurd (not_followed_by q k.0 k.1)
+    made_due q l m (e.BadJournal n) k = absurd (not_followed_by q k.0 k.1)
+    made_due q l m (e.Unfit n) k = absurd (not_followed_by q k.0 k.1)
     made_due q l m e.Accepted k = inl refl
     made_due q l m (e.Refused r) (c, u, h) = absurd (keeps_or l text d h.refusal (made_keeps d text m.0 m.1 m.2) (breaks c u h))
     made_due q l m e.BadWords k = absurd (no_command _ _ v k)
@@ -211,18 +264,21 @@ module _ (f : Files) (s : Stream) (reports : Reports) (w : Option Command) (a : 
 
     -- what comes of a text that is kept where nothing fails outside
     module _ (l : Laws) (kept : Keeps d text)
-        (library : (name : List ℕ) → IsAbout d name → Rose (f.before name) (f.after name) → ⊥) (source : Rose s.before s.after → ⊥)
-        (fits : (b : Asked) → d ≡ asks b → (input : List ℕ) × (s.left ≡ Some input) × (length input ≤ 16777216)) where
+        (library : (name : List ℕ) → Loads f.held d name → Rose (f.before name) (f.after name) → ⊥) (source : Rose s.before s.after → ⊥)
+        (fits : CanRead f.held d → (input : List ℕ) × (s.left ≡ Some input) × (length input ≤ 16777216)) where
       abbrev Ends_well : ℕ → Type 0
-      Ends_well n = (n ≡ 0) ⊎ ((n ≡ 3) ⊎ ((n ≡ 4) ⊎ (n ≡ 8)))
+      Ends_well n = IsFinal n ⊎ ((n ≡ 8) ⊎ (asks_replay d × (n ≡ 9)))
 
-      read_well : (c : Command) → w ≡ Some c → IsNotLoaded f c a ⊎ ((b : Asked) × (c ≡ asks b) × IsNotRead f s b a) → ⊥
-      read_well c u (inl h) = library h.name (subst (λ (x : Command). IsAbout x h.name) (one_command w d c v u) h.about) h.rose
-      read_well c u (inr (b, p, h)) = source h.rose
+      replay_asked : (b : Followed) → w ≡ Some (follows b) → asks_replay d
+      replay_asked b u = subst asks_replay (one_command w d (follows b) v u) tt
 
-      long_well : (b : Asked) → w ≡ Some (asks b) → IsTooMuch f s b a → ⊥
-      long_well b u h =
-          let i = fits b (one_command w (asks b) d u v) in
+      read_well : (c : Command) → w ≡ Some c → IsNotLoaded f c a ⊎ IsNotRead f s c a → ⊥
+      read_well c u (inl h) = library h.name (subst (λ (x : Command). Loads f.held x h.name) (one_command w d c v u) h.loads) h.rose
+      read_well c u (inr h) = source h.rose
+
+      long_well : (c : Command) → w ≡ Some c → IsTooMuch f s c a → ⊥
+      long_well c u h =
+          let i = fits (subst (λ (x : Command). CanRead f.held x) (one_command w d c v u) h.reads) in
           let k : IsTooLong i.0 = if_told IsTooLong s.left i.0 i.1 h.long in
           short i.0 i.2 k
         where
@@ -230,22 +286,34 @@ module _ (f : Files) (s : Stream) (reports : Reports) (w : Option Command) (a : 
           short input h k = omega arith
 
       ends_well : (x : Ending) → Why x → Ends_well (status_of x)
-      ends_well e.Done k = inl refl
-      ends_well e.Deadlock k = inr (inr (inl refl))
-      ends_well e.Fault k = inr (inl refl)
-      ends_well e.Accepted k = inl refl
+      ends_well e.Done k = inl (inl refl)
+      ends_well e.Deadlock k = inl (inr (inr refl))
+      ends_well e.Fault k = inl (inr (inl refl))
+      ends_well e.NoEnd k = inl (inl refl)
+      ends_well e.Accepted k = inl (inl refl)
       ends_well (e.Refused r) (c, u, h) = absurd (keeps_or l text d h.refusal kept (breaks c u h))
       ends_well e.BadWords k = absurd (no_command _ _ v k)
       ends_well e.ReadFault (c, u, h) = absurd (read_well c u h)
       ends_well e.TooLong (b, u, h) = absurd (long_well b u h)
-      ends_well e.OutOfMemory k = inr (inr (inr refl))
+      ends_well e.OutOfMemory k = inr (inl refl)
+      ends_well e.LongJournal k = inr (inr (replay_asked k.0 k.1, refl))
+      ends_well (e.BadJournal n) k = inr (inr (replay_asked k.0 k.1, refl))
+      ends_well (e.Unfit n) k = inr (inr (replay_asked k.0 k.1, refl))
 
   -- a command with a run, where the status is that of one
-  run_there : (d : Command) → w ≡ Some d → (asks_text d → ⊥) → (x : Ending) → Why x → IsFinal (status_of x) → (r : Ran) × (a.ran ≡ Some r)
-  run_there d v n e.Done (c, u, h) i = ran_there c h
-  run_there d v n e.Deadlock (c, u, h) i = ran_there c h
-  run_there d v n e.Fault (c, u, h) i = ran_there c h
-  run_there d v n e.Accepted (c, u, h) i = absurd (n (subst asks_text (one_command w d c v u) (made_asks c h.text h.output h.line h.makes)))
+  followed_or_run : (d : Command) → w ≡ Some d → asks_run d → HasReplayedFor f s reports w a → ⊥
+  followed_or_run d v n (b, u, h) = subst asks_run (sym (one_command w d (follows b) v u)) n
+
+  ended_there : (d : Command) → w ≡ Some d → asks_run d → HasEnded f s reports w a → (r : Ran) × (a.ran ≡ Some r)
+  ended_there d v n (inl (c, u, h)) = ran_there c h
+  ended_there d v n (inr k) = absurd (followed_or_run d v n k)
+
+  run_there : (d : Command) → w ≡ Some d → asks_run d → (x : Ending) → Why x → IsFinal (status_of x) → (r : Ran) × (a.ran ≡ Some r)
+  run_there d v n e.Done k i = ended_there d v n k
+  run_there d v n e.Deadlock k i = ended_there d v n k
+  run_there d v n e.Fault k i = ended_there d v n k
+  run_there d v n e.NoEnd k i = absurd (followed_or_run d v n k)
+  run_there d v n e.Accepted (c, u, h) i = absurd (text_or_run d (subst asks_text (one_command w d c v u) (made_asks c h.text h.output h.line h.makes)) n)
   run_there d v n _ k (inl i) = absurd (omega arith)
   run_there d v n _ k (inr (inl i)) = absurd (omega arith)
   run_there d v n _ k (inr (inr i)) = absurd (omega arith)
@@ -262,16 +330,88 @@ module _ (f : Files) (s : Stream) (reports : Reports) (w : Option Command) (a : 
         short x y e h k = let i : length x ≡ length y = ap length e in omega arith
     fits_not d u (inr (size, workers, p, h)) = not_gen b size workers (one_command w d (asks b) u v ∙ p)
 
+    followed_not : (x : Followed) → w ≡ Some (follows x) → ⊥
+    followed_not x u = not_run x b (one_command w (asks b) (follows x) v u)
+
+    ended_not : HasEnded f s reports w a → ⊥
+    ended_not (inl (c, u, h)) = fits_not c u h
+    ended_not (inr k) = followed_not k.0 k.1
+
     long_due : (x : Ending) → Why x → IsOutside (status_of x)
-    long_due e.Done (c, u, h) = absurd (fits_not c u h)
-    long_due e.Deadlock (c, u, h) = absurd (fits_not c u h)
-    long_due e.Fault (c, u, h) = absurd (fits_not c u h)
+    long_due e.Done k = absurd (ended_not k)
+    long_due e.Deadlock k = absurd (ended_not k)
+    long_due e.Fault k = absurd (ended_not k)
+    long_due e.NoEnd k = absurd (followed_not k.0 k.1)
+    long_due e.LongJournal k = absurd (followed_not k.0 k.1)
+    long_due (e.BadJournal n) k = absurd (followed_not k.0 k.1)
+    long_due (e.Unfit n) k = absurd (followed_not k.0 k.1)
     long_due e.Accepted (c, u, h) = absurd (makes (asks b) text v t c u h)
     long_due (e.Refused r) (c, u, h) = absurd (kept_or l text h.refusal kept (breaks (asks b) text v t c u h))
     long_due e.BadWords k = absurd (no_command _ _ v k)
     long_due e.ReadFault k = (omega arith, omega arith)
     long_due e.TooLong k = (omega arith, omega arith)
     long_due e.OutOfMemory k = (omega arith, omega arith)
+
+  -- what comes of a journal and a text that is kept
+  data Came (b : Followed) (x : Ending) : Type 0 where
+    came_followed : HasReplayed f s b a → Came b x
+    came_unfit : (n : ℕ) → IsUnfit f s b n a → Came b x
+    came_bad : (n : ℕ) → IsBadJournal f b n a → Came b x
+    came_long : IsLongJournal f b a → Came b x
+    came_outside : IsOutside (status_of x) → Came b x
+
+  module _ (b : Followed) (text : List ℕ) (v : w ≡ Some (follows b)) (t : f.held b.file ≡ Some text) where
+    this : (P : Followed → Type 0) (x : Followed) → w ≡ Some (follows x) → P x → P b
+    this P x u h = subst P (one_followed b x (one_command w (follows b) (follows x) v u)) h
+
+    replayed_by : HasReplayedFor f s reports w a → HasReplayed f s b a
+    replayed_by (x, u, h) = this (λ y. HasReplayed f s y a) x u h
+
+    not_ran_here : HasRanFor f s reports w a → ⊥
+    not_ran_here (c, u, inl (asked, p, h)) = not_run b asked (sym (one_command w (follows b) c v u) ∙ p)
+    not_ran_here (c, u, inr (size, workers, p, h)) = not_generated b size workers (sym (one_command w (follows b) c v u) ∙ p)
+
+    ended_here : HasEnded f s reports w a → HasReplayed f s b a
+    ended_here (inl k) = absurd (not_ran_here k)
+    ended_here (inr k) = replayed_by k
+
+    came : Laws → KeepsAll text → (x : Ending) → Why x → Came b x
+    came l kept e.Done k = came_followed (ended_here k)
+    came l kept e.Deadlock k = came_followed (ended_here k)
+    came l kept e.Fault k = came_followed (ended_here k)
+    came l kept e.NoEnd k = came_followed (replayed_by k)
+    came l kept e.Accepted (c, u, h) = absurd (makes (follows b) text v t c u h)
+    came l kept (e.Refused r) (c, u, h) = absurd (kept_or l text h.refusal kept (breaks (follows b) text v t c u h))
+    came l kept e.BadWords k = absurd (no_command _ _ v k)
+    came l kept e.ReadFault k = came_outside (omega arith, omega arith)
+    came l kept e.TooLong k = came_outside (omega arith, omega arith)
+    came l kept e.OutOfMemory k = came_outside (omega arith, omega arith)
+    came l kept e.LongJournal (x, u, h) = came_long (this (λ y. IsLongJournal f y a) x u h)
+    came l kept (e.BadJournal n) (x, u, h) = came_bad n (this (λ y. IsBadJournal f y n a) x u h)
+    came l kept (e.Unfit n) (x, u, h) = came_unfit n (this (λ y. IsUnfit f s y n a) x u h)
+
+    -- a final status comes where it was followed
+    followed_only : (x : Ending) → Why x → IsFinal (status_of x) → HasReplayed f s b a
+    followed_only e.Done k i = ended_here k
+    followed_only e.Deadlock k i = ended_here k
+    followed_only e.Fault k i = ended_here k
+    followed_only e.NoEnd k i = replayed_by k
+    followed_only e.Accepted (c, u, h) i = absurd (makes (follows b) text v t c u h)
+    followed_only _ k (inl i) = absurd (omega arith)
+    followed_only _ k (inr (inl i)) = absurd (omega arith)
+    followed_only _ k (inr (inr i)) = absurd (omega arith)
+
+  -- why a journal is refused
+  abbrev Refused_journal : Type 0
+  Refused_journal = (b : Followed) × (w ≡ Some (follows b)) × IfSome (f.held b.file) KeepsAll
+      × (IfSome (f.held b.journal) IsNoJournal ⊎ ((h : HasRead f s b) × (n : ℕ) × IsUnfitFor h.text h.input b.limits h.journal n))
+
+  journal_refused : (x : Ending) → Why x → status_of x ≡ 9 → Refused_journal
+  journal_refused e.LongJournal (b, u, h) i = (b, u, h.kept, inl (if_mapped _ IsNoJournal (f.held b.journal) (λ x m. inl m) h.long))
+  journal_refused (e.BadJournal n) (b, u, h) i = (b, u, h.kept, inl (if_mapped _ IsNoJournal (f.held b.journal) (λ x m. inr m) h.no_text))
+  journal_refused (e.Unfit n) (b, u, h) i =
+      (b, u, when_told KeepsAll (f.held b.file) h.has_read.text h.has_read.loaded (code_keeps h.has_read.text h.is_unfit.tree h.is_unfit.code h.is_unfit.has), inr (h.has_read, n, h.is_unfit))
+  journal_refused _ k i = absurd (omega arith)
 
 -- ---- of a call
 
@@ -446,21 +586,21 @@ module _ (c : Call) (k : IsAnswered c) (l : Laws) where
   reads_fail : status ≡ 5 → ReadsFail c
   reads_fail h = go (read_fails c.files c.source c.reports (command_of c.words) k.answer ending due_why (undisplaced 5 (λ p. absurd (omega arith)) h))
     where
-      go : ((d : Command) × (command_of c.words ≡ Some d) × (IsNotLoaded c.files d k.answer ⊎ ((b : Asked) × (d ≡ asks b) × IsNotRead c.files c.source b k.answer))) → ReadsFail c
-      go (d, v, inl m) = (d, v, inl (m.name, m.about, m.rose))
-      go (d, v, inr (b, p, m)) = (d, v, inr (b, p, m.kept, m.rose))
+      go : ((d : Command) × (command_of c.words ≡ Some d) × (IsNotLoaded c.files d k.answer ⊎ IsNotRead c.files c.source d k.answer)) → ReadsFail c
+      go (d, v, inl m) = (d, v, inl (m.name, m.loads, m.rose))
+      go (d, v, inr m) = (d, v, inr (m.reads, m.rose))
 
   too_long_is : status ≡ 7 → InputIsTooLong c
-  too_long_is h = let m = input_long c.files c.source c.reports (command_of c.words) k.answer ending due_why (undisplaced 7 (λ p. absurd (omega arith)) h) in (m.0, m.1, m.2.kept, m.2.long)
+  too_long_is h = let m = input_long c.files c.source c.reports (command_of c.words) k.answer ending due_why (undisplaced 7 (λ p. absurd (omega arith)) h) in (m.0, m.1, m.2.reads, m.2.long)
 
   no_run_of_memory : status ≡ 8 → IsUnwritten c.output × (c.outcome.ran ≡ None)
   no_run_of_memory h =
       let m : k.answer ≡ silent e.OutOfMemory = no_memory c.files c.source c.reports (command_of c.words) k.answer ending due_why (undisplaced 8 (λ p. absurd (omega arith)) h) in
       (k.written.untouched (ap (λ (z : Answer). has_output z.ending) m), k.ran ∙ ap (λ (z : Answer). z.ran) m)
 
-  complete_is : OfText c (λ d text. Keeps d text → IsQuiet c d → (status ≡ 0) ⊎ ((status ≡ 3) ⊎ ((status ≡ 4) ⊎ (status ≡ 8))))
+  complete_is : OfText c (λ d text. Keeps d text → IsQuiet c d → IsFinal status ⊎ ((status ≡ 8) ⊎ (asks_replay d × (status ≡ 9))))
   complete_is d text v t kept q =
-      subst (λ n. (n ≡ 0) ⊎ ((n ≡ 3) ⊎ ((n ≡ 4) ⊎ (n ≡ 8)))) (sym (same_status not_displaced))
+      subst (λ n. IsFinal n ⊎ ((n ≡ 8) ⊎ (asks_replay d × (n ≡ 9)))) (sym (same_status not_displaced))
       (ends_well c.files c.source c.reports (command_of c.words) k.answer d text v t l kept q.library q.source q.input ending due_why)
     where
       not_displaced : status ≢ 6
@@ -470,17 +610,150 @@ module _ (c : Call) (k : IsAnswered c) (l : Laws) where
           go (inl m) = q.output m
           go (inr m) = q.notes m
 
-  source_is : IsUntouched c.source ⊎ ((b : Asked) × (command_of c.words ≡ Some (asks b)) × IfSome (c.files.held b.file) KeepsAll)
+  source_is : IsUntouched c.source ⊎ ((d : Command) × (command_of c.words ≡ Some d) × CanRead c.files.held d)
   source_is = go k.cause
     where
-      reads : (d : Command) → command_of c.words ≡ Some d → ReadsAfterRules c.files c.source d → IsUntouched c.source ⊎ ((b : Asked) × (command_of c.words ≡ Some (asks b)) × IfSome (c.files.held b.file) KeepsAll)
+      reads : (d : Command) → command_of c.words ≡ Some d → ReadsAfterRules c.files c.source d → IsUntouched c.source ⊎ ((b : Command) × (command_of c.words ≡ Some b) × CanRead c.files.held b)
       reads d v (inl u) = inl u
-      reads d v (inr (b, p, m)) = inr (b, v ∙ ap Some p, m)
+      reads d v (inr m) = inr (d, v, m)
 
-      go : Cause c.files c.source c.reports (command_of c.words) k.answer → IsUntouched c.source ⊎ ((b : Asked) × (command_of c.words ≡ Some (asks b)) × IfSome (c.files.held b.file) KeepsAll)
+      go : Cause c.files c.source c.reports (command_of c.words) k.answer → IsUntouched c.source ⊎ ((d : Command) × (command_of c.words ≡ Some d) × CanRead c.files.held d)
       go (by_words n h u) = inl u
       go (before_words h u) = inl u
       go (by_command d v h r) = reads d v r
+
+  -- ---- of a replay
+
+  module _ (b : Followed) (text bytes : List ℕ) (v : command_of c.words ≡ Some (follows b)) (t : c.files.held b.file ≡ Some text) (u : c.files.held b.journal ≡ Some bytes) where
+    abbrev Came_here : Type 0
+    Came_here = Came c.files c.source c.reports (command_of c.words) k.answer b ending
+
+    came_here : KeepsAll text → Came_here
+    came_here kept = came c.files c.source c.reports (command_of c.words) k.answer b text v t l kept ending due_why
+
+    -- a journal that is read is the text of one
+    read_is : (h : HasRead c.files c.source b) → IsJournalOf bytes h.journal
+    read_is h = subst (λ x. IsJournalOf x h.journal) (told_of (c.files.held b.journal) h.bytes bytes u h.told) h.is_journal
+
+    is_short : (h : HasRead c.files c.source b) → length bytes ≤ 67108864
+    is_short h = (read_is h).short
+
+    too_short : length bytes ≤ 67108864 → 67108864 < length bytes → ⊥
+    too_short x y = omega arith
+
+    input_fits : (input : List ℕ) → c.source.left ≡ Some input → (h : HasRead c.files c.source b) → IsTooLong input → ⊥
+    input_fits input left h long = short h.input input (told_of c.source.left h.input input left h.read) h.fits long
+      where
+        short : (x y : List ℕ) → x ≡ y → length x ≤ 16777216 → 16777216 < length y → ⊥
+        short x y e h k = let i : length x ≡ length y = ap length e in omega arith
+
+    followed_long : KeepsAll text → IsJournalText bytes → (input : List ℕ) → c.source.left ≡ Some input → IsTooLong input → IsOutside (status_of ending)
+    followed_long kept is input left long = go (came_here kept)
+      where
+        go : Came_here → IsOutside (status_of ending)
+        go (came_followed h) = absurd (input_fits input left h.has_read long)
+        go (came_unfit n h) = absurd (input_fits input left h.has_read long)
+        go (came_bad n h) = absurd (if_told _ (c.files.held b.journal) bytes u h.no_text is.0)
+        go (came_long h) = absurd (too_short is.1 (if_told _ (c.files.held b.journal) bytes u h.long))
+        go (came_outside o) = o
+
+    -- the line of what is wrong with the journal
+    says_journal : (x : Ending) → status_of x ≡ 9 → (notes_of k.answer ≡ line_of x) → ending ≡ x → SaysJournal c x
+    says_journal x nine line e = go k.written.status_is
+      where
+        go : (status ≡ status_of ending) ⊎ (status ≡ 6) → SaysJournal c x
+        go (inr i) = inr (omega arith, omega arith)
+        go (inl i) =
+            let n : status ≡ 9 = i ∙ ap status_of e ∙ nine in
+            inl (n, subst (All c.notes) line (k.written.all_written (not_six 9 (λ p. absurd (omega arith)) n)).1)
+
+    outside_journal : (x : Ending) → IsOutside (status_of ending) → SaysJournal c x
+    outside_journal x o = inr (outside o)
+
+    final_or : IsFinal (status_of ending) → IsFinal status ⊎ IsOutside status
+    final_or f = go k.written.status_is
+      where
+        go : (status ≡ status_of ending) ⊎ (status ≡ 6) → IsFinal status ⊎ IsOutside status
+        go (inr i) = inr (omega arith, omega arith)
+        go (inl i) = inl (subst IsFinal (sym i) f)
+
+    says_long : KeepsAll text → 67108864 < length bytes → SaysJournal c e.LongJournal
+    says_long kept long = go (came_here kept)
+      where
+        go : Came_here → SaysJournal c e.LongJournal
+        go (came_followed h) = absurd (too_short (is_short h.has_read) long)
+        go (came_unfit n h) = absurd (too_short (is_short h.has_read) long)
+        go (came_bad n h) = absurd (too_short (if_told _ (c.files.held b.journal) bytes u h.short) long)
+        go (came_long h) = says_journal e.LongJournal refl (ap notes_of h.answer) (ap (λ (z : Answer). z.ending) h.answer)
+        go (came_outside o) = outside_journal e.LongJournal o
+
+    says_bad : KeepsAll text → length bytes ≤ 67108864 → (IsText bytes → ⊥) → ((n : ℕ) × IsFirstBad n bytes × SaysJournal c (e.BadJournal n)) ⊎ IsOutside status
+    says_bad kept short none = go (came_here kept)
+      where
+        go : Came_here → ((n : ℕ) × IsFirstBad n bytes × SaysJournal c (e.BadJournal n)) ⊎ IsOutside status
+        go (came_followed h) = let j = read_is h.has_read in absurd (none (j.version, h.has_read.journal, j.text))
+        go (came_unfit n h) = let j = read_is h.has_read in absurd (none (j.version, h.has_read.journal, j.text))
+        go (came_bad n h) = inl (n, if_told _ (c.files.held b.journal) bytes u h.bad, says_journal (e.BadJournal n) refl (ap notes_of h.answer) (ap (λ (z : Answer). z.ending) h.answer))
+        go (came_long h) = absurd (too_short short (if_told _ (c.files.held b.journal) bytes u h.long))
+        go (came_outside o) = inr (outside o)
+
+    module _ (input : List ℕ) (left : c.source.left ≡ Some input) where
+      is_followed : IsFinal status → (r : Replayed) × IsMeantAlong b text bytes input r × PrintsReplay c r
+      is_followed f =
+          let h = followed_only c.files c.source c.reports (command_of c.words) k.answer b text v t ending due_why (final_status f) in
+          (h.replayed, meant_along c.files c.source b l h.has_read text bytes input t u left h.replayed h.is_replay, prints h)
+        where
+          apart : IsFinal status → status ≢ 6
+          apart (inl i) = not_six 0 (λ p. absurd (omega arith)) i
+          apart (inr (inl i)) = not_six 3 (λ p. absurd (omega arith)) i
+          apart (inr (inr i)) = not_six 4 (λ p. absurd (omega arith)) i
+
+          prints : (h : HasReplayed c.files c.source b k.answer) → PrintsReplay c h.replayed
+          prints h =
+              let all = k.written.all_written (apart f) in
+              record {
+                status = same_status (apart f) ∙ ap (λ (z : Answer). status_of z.ending) h.answer;
+                output = subst (All c.output) (ap output_of h.answer) all.0;
+                notes = subst (All c.notes) (ap notes_of h.answer ∙ replay_notes_stand h.replayed.end (replay_notes h.replayed) (replay_ends _ _ _ _ h.replayed h.is_replay)) all.1;
+                at_end = h.has_read.at_end;
+              }
+
+      module _ (kept : KeepsAll text) (fits : length input ≤ 16777216) (p : Program) (is : IsProgramOf text p) (j : Journal) (of : IsJournalOf bytes j) where
+        is_accepted : IsDefined (setting p input b.limits) j.entries → IsFinal status ⊎ IsOutside status
+        is_accepted d = go (came_here kept)
+          where
+            final_replay : (o : Option End) → HasEndLines o → IsFinal (status_of (ending_of_replay o))
+            final_replay None h = inl refl
+            final_replay (Some x) h = (final x h).0
+
+            go : Came_here → IsFinal status ⊎ IsOutside status
+            go (came_followed h) = final_or (subst IsFinal (sym (ap (λ (z : Answer). status_of z.ending) h.answer)) (final_replay h.replayed.end (replay_ends _ _ _ _ h.replayed h.is_replay)))
+            go (came_unfit n h) = absurd (not_unfit c.files c.source b l h.has_read text bytes input t u left p is j of n h.is_unfit d)
+            go (came_bad n h) = absurd (if_told _ (c.files.held b.journal) bytes u h.no_text (of.version, j, of.text))
+            go (came_long h) = absurd (too_short of.short (if_told _ (c.files.held b.journal) bytes u h.long))
+            go (came_outside o) = inr (outside o)
+
+        is_unfit : (n : ℕ) → IsUnfitAt (setting p input b.limits) j.entries n → SaysJournal c (e.Unfit n)
+        is_unfit n d = go (came_here kept)
+          where
+            go : Came_here → SaysJournal c (e.Unfit n)
+            go (came_followed h) = absurd (not_followed c.files c.source b l h.has_read text bytes input t u left p is j of n h.replayed h.is_replay d)
+            go (came_unfit m h) =
+                subst (λ x. SaysJournal c (e.Unfit x)) (same_entry c.files c.source b l h.has_read text bytes input t u left p is j of m n h.is_unfit d)
+                (says_journal (e.Unfit m) refl (ap notes_of h.answer) (ap (λ (z : Answer). z.ending) h.answer))
+            go (came_bad m h) = absurd (if_told _ (c.files.held b.journal) bytes u h.no_text (of.version, j, of.text))
+            go (came_long h) = absurd (too_short of.short (if_told _ (c.files.held b.journal) bytes u h.long))
+            go (came_outside o) = outside_journal (e.Unfit n) o
+
+  pub following : Following c
+  following = record {
+    followed = λ b text bytes v t u input left f. is_followed b text bytes v t u input left f;
+    accepted = λ b text bytes v t u input left kept fits p is j of d. is_accepted b text bytes v t u input left kept fits p is j of d;
+    unfit = λ b text bytes v t u input left kept fits p is j of n d. is_unfit b text bytes v t u input left kept fits p is j of n d;
+    bad = λ b text bytes v t u kept short none. says_bad b text bytes v t u kept short none;
+    long = λ b text bytes v t u kept long. says_long b text bytes v t u kept long;
+    only = λ h. journal_refused c.files c.source c.reports (command_of c.words) k.answer ending due_why (undisplaced 9 (λ p. absurd (omega arith)) h);
+  }
 
   pub statuses : Statuses c
   statuses = record {
@@ -498,6 +771,7 @@ module _ (c : Call) (k : IsAnswered c) (l : Laws) where
     write_fault = k.written.displaced;
     too_long = too_long_is;
     long_refused = λ b text v t kept input left long. outside (long_due c.files c.source c.reports (command_of c.words) k.answer b text v t l kept input left long ending due_why);
+    long_unfollowed = λ b text bytes v t u kept is input left long. outside (followed_long b text bytes v t u kept is input left long);
     memory = no_run_of_memory;
     complete = complete_is;
     source = source_is;
@@ -517,9 +791,13 @@ module _ (c : Call) (k : IsAnswered c) (l : Laws) where
 
   -- the notes where there is no output
   line_is : (x : Ending) → why c.files c.source c.reports (command_of c.words) k.answer x → has_output x ≡ false → (notes_by x k.answer.notes ≡ line_of x) ⊎ ((r : Refusal) × (k.answer ≡ refused r))
+  line_is e.LongJournal m h = inl refl
+  line_is (e.BadJournal n) (b, v, m) h = inl (ap (λ (z : Answer). z.notes) m.answer)
+  line_is (e.Unfit n) (b, v, m) h = inl (ap (λ (z : Answer). z.notes) m.answer)
   line_is e.Done m h = absurd (no_true h)
   line_is e.Deadlock m h = absurd (no_true h)
   line_is e.Fault m h = absurd (no_true h)
+  line_is e.NoEnd m h = absurd (no_true h)
   line_is e.Accepted m h = absurd (no_true h)
   line_is (e.Refused q) (d, v, m) h = inr (m.refusal, m.answer)
   line_is e.BadWords m h = inl refl
@@ -537,6 +815,10 @@ module _ (c : Call) (k : IsAnswered c) (l : Laws) where
   without_output e.ReadFault a b d = refl
   without_output e.TooLong a b d = refl
   without_output e.OutOfMemory a b d = refl
+  without_output e.NoEnd a b d = absurd (a refl)
+  without_output e.LongJournal a b d = refl
+  without_output (e.BadJournal n) a b d = refl
+  without_output (e.Unfit n) a b d = refl
 
   pub writing : Writing c
   writing = record {
@@ -558,4 +840,4 @@ module _ (c : Call) (k : IsAnswered c) (l : Laws) where
 
 -- all that the top call promises
 pub promise : (c : Call) → IsAnswered c → Laws → Promise c
-promise c k l = record { headline = headline c k l; statuses = statuses c k l; writing = writing c k l; answered = k }
+promise c k l = record { headline = headline c k l; following = following c k l; statuses = statuses c k l; writing = writing c k l; answered = k }

@@ -4,9 +4,14 @@ use Rattle.sp_base.specs.declared.halt.Refusal.{Refusal}
 use Rattle.sp_base.specs.declared.rule.Rule.TheVariants as rule
 use Rattle.sp_code.specs.Lengths.{tree_length}
 use Rattle.sp_compile.specs.Codes.{BreaksLength, HasListing}
+use Rattle.sp_execute.specs.Follows.{IsMeant, IsUnfitAt}
 use Rattle.sp_format.specs.Formats.{HasLayout, HasNoLayout}
 use Rattle.sp_front.specs.Checks.{BreaksFirst, IsChecked}
 use Rattle.sp_front.specs.Compiles.{BreaksAnyFirst, IsAccepted}
+use Rattle.sp_journal.specs.declared.entry.Entry.{Entry}
+use Rattle.sp_journal.specs.declared.entry.Journal.{Journal}
+use Rattle.sp_journal.specs.declared.version.Version.{Version}
+use Rattle.sp_journal.specs.Texts.{IsTextOf}
 use Rattle.sp_meaning.specs.Own.{Setting}
 use Rattle.sp_meaning.specs.Runs.{IsDisjointRun}
 use Rattle.sp_scan.proofs.Scanning.{too_long}
@@ -37,6 +42,10 @@ pub record Laws : Type 0 where
   pub sets_text : (p : c.Program) (s t : Sets) (a b : List ℕ) → AreSets p s → AreSets p t → IsSetsText p s a → IsSetsText p t b → a ≡ b
   -- by the listing
   pub listing : (text a b : List ℕ) → HasListing text a → HasListing text b → a ≡ b
+  -- by `replay`
+  pub journal : (v w : Version) (j k : Journal) (bytes : List ℕ) → IsTextOf v j bytes → IsTextOf w k bytes → j ≡ k
+  pub unfit : (g : Setting) (es : List Entry) (m n : ℕ) → IsUnfitAt g es m → IsUnfitAt g es n → m ≡ n
+  pub unfit_or : (g : Setting) (es : List Entry) (n : ℕ) → IsMeant g es → IsUnfitAt g es n → ⊥
 
 module _ (l : Laws) (text : List ℕ) where
   one_length : (a b : Refusal) → BreaksLength text a → BreaksLength text b → a ≡ b
@@ -64,6 +73,7 @@ module _ (l : Laws) (text : List ℕ) where
   one_break (command.Sets file) a b x y = l.first text a b x y
   one_break (command.Format file) a b x y = l.no_layout text a b x y
   one_break (command.Gen size workers) a b x y = one_rule a b x y
+  one_break (command.Replay file journal limits) a b x y = one_rule a b x y
 
   -- a command that refuses the text for no rule refuses it for none
   pub keeps_or : (d : Command) (r : Refusal) → Keeps d text → Breaks d text r → ⊥
@@ -73,6 +83,7 @@ module _ (l : Laws) (text : List ℕ) where
   keeps_or (command.Sets file) r k x = l.not_both text k.0 r k.1 x
   keeps_or (command.Format file) r k x = l.layout_or text k.0 r k.1 x
   keeps_or (command.Gen size workers) r k x = kept_or r k x
+  keeps_or (command.Replay file journal limits) r k x = kept_or r k x
 
   one_sets : (a b : List ℕ) → HasSets text a → HasSets text b → a ≡ b
   one_sets a b (p, h, s, are, x) (q, k, t, also, y) =
@@ -86,6 +97,7 @@ module _ (l : Laws) (text : List ℕ) where
   made_once (command.Sets file) a b n m x y = (one_sets a b x.0 y.0, x.1 ∙ sym y.1)
   made_once (command.Format file) a b n m x y = (l.layout text a b x.0 y.0, x.1 ∙ sym y.1)
   made_once (command.Gen size workers) a b n m x y = absurd x
+  made_once (command.Replay file journal limits) a b n m x y = absurd x
 
   -- a text that is kept is disjoint
   pub disjoint_text : KeepsAll text → IsDisjointText text
@@ -99,6 +111,7 @@ made_keeps (command.Code file) text out line m = (m.0.0, m.0.1, m.0.2)
 made_keeps (command.Sets file) text out line m = (m.0.0, m.0.1)
 made_keeps (command.Format file) text out line m = (out, m.0)
 made_keeps (command.Gen size workers) text out line m = absurd m
+made_keeps (command.Replay file journal limits) text out line m = absurd m
 
 pub made_asks : (d : Command) (text out line : List ℕ) → Makes d text out line → asks_text d
 made_asks (command.Check file) text out line m = tt
@@ -107,6 +120,7 @@ made_asks (command.Code file) text out line m = tt
 made_asks (command.Sets file) text out line m = tt
 made_asks (command.Format file) text out line m = tt
 made_asks (command.Gen size workers) text out line m = m
+made_asks (command.Replay file journal limits) text out line m = m
 
 pub keeps_all : (d : Command) (text : List ℕ) → asks_all d → Keeps d text → KeepsAll text
 keeps_all (command.Check file) text q k = k
@@ -115,6 +129,7 @@ keeps_all (command.Code file) text q k = k
 keeps_all (command.Sets file) text q k = absurd q
 keeps_all (command.Format file) text q k = absurd q
 keeps_all (command.Gen size workers) text q k = k
+keeps_all (command.Replay file journal limits) text q k = k
 
 -- every command refuses a text that is longer than a text may be
 pub long_breaks : (d : Command) (all : List ℕ) → 1048576 < length all → Breaks d all (record { rule = rule.L1; at = start })
@@ -124,6 +139,7 @@ long_breaks (command.Code file) all h = inl (inl (inl (inl (too_long all start r
 long_breaks (command.Sets file) all h = inl (inl (too_long all start refl h))
 long_breaks (command.Format file) all h = inl (inl (too_long all start refl h))
 long_breaks (command.Gen size workers) all h = inl (inl (inl (inl (too_long all start refl h))))
+long_breaks (command.Replay file journal limits) all h = inl (inl (inl (inl (too_long all start refl h))))
 
 pub laws : ((text : List ℕ) (p q : c.Program) → IsChecked text p → IsChecked text q → p ≡ q)
     → ((text : List ℕ) (a b : Refusal) → BreaksFirst text a → BreaksFirst text b → a ≡ b)
@@ -135,5 +151,8 @@ pub laws : ((text : List ℕ) (p q : c.Program) → IsChecked text p → IsCheck
     → ((text : List ℕ) (a b : Refusal) → HasNoLayout text a → HasNoLayout text b → a ≡ b)
     → ((text out : List ℕ) (r : Refusal) → HasLayout text out → HasNoLayout text r → ⊥)
     → ((p : c.Program) (s t : Sets) (a b : List ℕ) → AreSets p s → AreSets p t → IsSetsText p s a → IsSetsText p t b → a ≡ b)
-    → ((text a b : List ℕ) → HasListing text a → HasListing text b → a ≡ b) → Laws
-laws s t u v w d x y z o q = record { tree = s; first = t; not_both = u; any_first = v; accepted_or = w; disjoint = d; layout = x; no_layout = y; layout_or = z; sets_text = o; listing = q }
+    → ((text a b : List ℕ) → HasListing text a → HasListing text b → a ≡ b)
+    → ((v w : Version) (j k : Journal) (bytes : List ℕ) → IsTextOf v j bytes → IsTextOf w k bytes → j ≡ k)
+    → ((g : Setting) (es : List Entry) (m n : ℕ) → IsUnfitAt g es m → IsUnfitAt g es n → m ≡ n)
+    → ((g : Setting) (es : List Entry) (n : ℕ) → IsMeant g es → IsUnfitAt g es n → ⊥) → Laws
+laws s t u v w d x y z o q j m n = record { tree = s; first = t; not_both = u; any_first = v; accepted_or = w; disjoint = d; layout = x; no_layout = y; layout_or = z; sets_text = o; listing = q; journal = j; unfit = m; unfit_or = n }

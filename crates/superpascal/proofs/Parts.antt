@@ -21,9 +21,8 @@ use Rattle.sp_tree.specs.PlainChecked as c
 use Rattle.sp_words.specs.Ranges.{default_limits}
 use Rattle.sp_words.specs.declared.command.Command.{Command}
 use Rattle.sp_words.specs.declared.command.Command.TheVariants as command
-use Rattle.superpascal.specs.declared.ending.Ending.TheVariants as e
 use Rattle.superpascal.specs.declared.ending.Answer.{Answer}
-use Rattle.superpascal.specs.Answering.{CodeAnswer, CommandCause, GeneratedAnswer, GeneratedCause, InputAnswer, IsMade, AnswersRefusal, RunAnswer, TextCause, halted, too_long, unloaded}
+use Rattle.superpascal.specs.Answering.{CodeAnswer, CommandCause, GeneratedAnswer, GeneratedCause, InputAnswer, IsMade, JournalAnswer, AnswersRefusal, ReplayAnswer, RunAnswer, TextCause, halted, too_long, unloaded}
 use Rattle.superpascal.specs.Causes.{Cause, by_command, Due, by_run, by_generated, by_text, by_rule, by_library, by_source, by_length, by_memory, Files, IsTold, IsUntouched, ReadsAfterRules, Stream, accepted}
 use Rattle.superpascal.specs.Runs.{HasCode, IsRunOf, Reports}
 use Rattle.superpascal.specs.Texts.{Asked, Breaks, BreaksOne, IsAbout, KeepsAll, asked, asks, text_of}
@@ -53,6 +52,7 @@ held_of f (command.Code file) name h = ap f.held h
 held_of f (command.Sets file) name h = ap f.held h
 held_of f (command.Format file) name h = ap f.held h
 held_of f (command.Gen size workers) name h = absurd h
+held_of f (command.Replay file journal limits) name h = ap f.held h
 
 -- ---- commands that answer from the text alone
 
@@ -69,7 +69,7 @@ module _ (f : Files) (d : Command) (name : List ℕ) (about : IsAbout d name) (a
       → IfSome (f.held name) (λ all. (◌≡◌ {A = Result X LoadError} (Err error) (Err load.TooLong)) ↔ ((1048576 < length all) × (◌≢◌ {A = Result X LoadError} (Err error) (Err load.Failed))))
       → (◌≡◌ {A = Result X LoadError} (Err error) (Err load.Failed) → Rose (f.before name) (f.after name)) → unloaded error a → TextCause f d a
   text_unloaded X load.TooLong t r h = refuses too_long (to_text (λ o. IfSome o (λ x. Breaks d x too_long)) (long_broken d (f.held name) (is_long (f.held name) _ _ t refl))) h
-  text_unloaded X load.Failed t r h = inr (inr (inl (record { name = name; about = about; rose = r refl; answer = h })))
+  text_unloaded X load.Failed t r h = inr (inr (inl (record { name = name; loads = inl about; rose = r refl; answer = h })))
   text_unloaded X load.Memory t r h = inr (inr (inr h))
 
 due_of_text : (f : Files) (s : Stream) (reports : Reports) (d : Command) (a : Answer) → TextCause f d a → Due f s reports d a
@@ -114,6 +114,11 @@ compiled_some text r code i k = let h = compiled_code text text r code refl i k 
 pub list_made : (text : List ℕ) (r : CompiledText) (code : Parts) (out line : List ℕ) (a : Answer) → IsCompiled text r → code ≡ r.code → out ≡ listing_text code → line ≡ [] → a ≡ accepted out line → (file : List ℕ) → IsMade (command.Code file) text (Ok a)
 list_made text r code out line a k i o n h file = (out, line, ((program_of r.accepted.checked, k.accepted, k.short, r.code, k.code, o ∙ ap listing_text i), n), h)
 
+pub replay_compiled : (held : Option (List ℕ)) (before after : ℕ) (s : Stream) (limits : Limits) (text : List ℕ) (a : Answer) (r : CompiledText) (code : Parts) → code ≡ r.code → IsCompiled text r
+    → ((program : List ℕ) (t : c.Program) → HasCode program t code → JournalAnswer held before after s program limits a) → ReplayAnswer held before after s limits text a
+replay_compiled held before after s limits text a r code i k h =
+    inl (record { kept = keeps_compiled text r k }, h text (program_of r.accepted.checked) (of_code text text (program_of r.accepted.checked) r.code code refl i (has_code text r k)))
+
 module _ (s : Stream) (reports : Reports) (show : Show) (workers : ℕ) (limits : Limits) (text : List ℕ) (a : Answer) where
   pub input_ran : (input : List ℕ) → IsTold s.left input → length input ≤ 16777216 → IsAtEnd s.left' → CodeAnswer reports show workers limits text input a → InputAnswer s reports show workers limits text a
   input_ran input t n e (inl (r, h, inl k)) = inl (record { input = input; ran = r; read = t; fits = n; at_end = e; is_run = h; answer = k })
@@ -127,37 +132,36 @@ module _ (s : Stream) (reports : Reports) (show : Show) (workers : ℕ) (limits 
   run_halted (halt.Refused r) u b h = inr (u, inl (record { refusal = r; breaks = b; answer = h }))
   run_halted halt.Memory u b h = inr (u, inr h)
 
+-- of a command whose text breaks a rule first
+pub command_refused : (f : Files) (s : Stream) (reports : Reports) (d : Command) (a : Answer) (r : Refusal) → IsUntouched s → IfSome (text_of f.held d) (λ x. Breaks d x r) → AnswersRefusal r a → CommandCause f s reports d a
+command_refused f s reports d a r u t (inl h) = (by_rule (record { refusal = r; breaks = t; answer = h }), inl u)
+command_refused f s reports d a r u t (inr h) = (by_memory h, inl u)
+
+-- of one whose text the library does not give
+pub command_unloaded : (f : Files) (s : Stream) (reports : Reports) (d : Command) (name : List ℕ) (about : IsAbout d name) (a : Answer) (X : Type 0) (error : LoadError) → IsUntouched s
+    → IfSome (f.held name) (λ all. (◌≡◌ {A = Result X LoadError} (Err error) (Err load.TooLong)) ↔ ((1048576 < length all) × (◌≢◌ {A = Result X LoadError} (Err error) (Err load.Failed))))
+    → (◌≡◌ {A = Result X LoadError} (Err error) (Err load.Failed) → Rose (f.before name) (f.after name)) → unloaded error a → CommandCause f s reports d a
+command_unloaded f s reports d name about a X error u t r h = command_of_text f s reports d a u (text_unloaded f d name about a X error t r h)
+
 module _ (f : Files) (s : Stream) (reports : Reports) (b : Asked) (a : Answer) where
   abbrev Due_run : Type 0
   Due_run = CommandCause f s reports (asks b) a
-
-  run_refused : (r : Refusal) → IsUntouched s → IfSome (f.held b.file) (λ x. BreaksOne x r) → AnswersRefusal r a → Due_run
-  run_refused r u t (inl h) = (by_rule (record { refusal = r; breaks = t; answer = h }), inl u)
-  run_refused r u t (inr h) = (by_memory h, inl u)
 
   module _ (text : List ℕ) (t : IsTold (f.held b.file) text) where
     kept_is : KeepsAll text → IfSome (f.held b.file) KeepsAll
     kept_is k = when_told KeepsAll (f.held b.file) text t k
 
     reads : KeepsAll text → ReadsAfterRules f s (asks b)
-    reads k = inr (b, refl, kept_is k)
+    reads k = inr (kept_is k)
 
     pub run_loaded : RunAnswer s reports b.show b.workers b.limits text a → Due_run
     run_loaded (inl (k, inl h)) =
         (by_run b refl (record { text = text; input = h.input; ran = h.ran; loaded = t; read = h.read; fits = h.fits; at_end = h.at_end; is_run = h.is_run; answer = h.answer }), reads k.kept)
-    run_loaded (inl (k, inr (inl h))) = (by_source b refl (record { kept = kept_is k.kept; rose = h.0; answer = h.1 }), reads k.kept)
-    run_loaded (inl (k, inr (inr (inl h)))) = (by_length b refl (record { kept = kept_is k.kept; long = h.0; answer = h.1 }), reads k.kept)
+    run_loaded (inl (k, inr (inl h))) = (by_source (record { reads = kept_is k.kept; rose = h.0; answer = h.1 }), reads k.kept)
+    run_loaded (inl (k, inr (inr (inl h)))) = (by_length (record { reads = kept_is k.kept; long = h.0; answer = h.1 }), reads k.kept)
     run_loaded (inl (k, inr (inr (inr h)))) = (by_memory h, reads k.kept)
-    run_loaded (inr (u, inl m)) = run_refused m.refusal u (when_told (λ x. BreaksOne x m.refusal) (f.held b.file) text t m.breaks) m.answer
+    run_loaded (inr (u, inl m)) = command_refused f s reports (asks b) a m.refusal u (when_told (λ x. BreaksOne x m.refusal) (f.held b.file) text t m.breaks) m.answer
     run_loaded (inr (u, inr h)) = (by_memory h, inl u)
-
-  -- a text that the library does not give
-  pub run_unloaded : (X : Type 0) (error : LoadError) → IsUntouched s
-      → IfSome (f.held b.file) (λ all. (◌≡◌ {A = Result X LoadError} (Err error) (Err load.TooLong)) ↔ ((1048576 < length all) × (◌≢◌ {A = Result X LoadError} (Err error) (Err load.Failed))))
-      → (◌≡◌ {A = Result X LoadError} (Err error) (Err load.Failed) → Rose (f.before b.file) (f.after b.file)) → unloaded error a → Due_run
-  run_unloaded X load.TooLong u t r h = run_refused too_long u (long_broken (asks b) (f.held b.file) (is_long (f.held b.file) _ _ t refl)) h
-  run_unloaded X load.Failed u t r h = (by_library (record { name = b.file; about = refl; rose = r refl; answer = h }), inl u)
-  run_unloaded X load.Memory u t r h = (by_memory h, inl u)
 
 -- ---- `gen`
 

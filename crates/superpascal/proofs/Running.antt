@@ -1,4 +1,4 @@
--- The run of the code of a text is one of its program.
+-- The run of the code of a text is one of its program, and so is what follows a journal.
 use Rattle.std.proofs.Common.{◌≡◌, ℕ, ◌≤◌, List, Result, Ok, Err, sym, subst, arith}
 use Rattle.std.specs.Prelude.{IfOk}
 use Rattle.sp_base.specs.declared.halt.Memory.{Memory}
@@ -7,14 +7,20 @@ use Rattle.sp_code.specs.declared.code.Parts.{Parts}
 use Rattle.sp_code.specs.Shares.{SetsAre}
 use Rattle.sp_code.specs.Sound.{AreLimits, run_of}
 use Rattle.sp_execute.specs.declared.execution.Ran.{Ran}
+use Rattle.sp_execute.specs.Follows.{Follows as FollowsProgram}
 use Rattle.sp_execute.specs.Runs.{Executes, IsCodeOf as IsReadyCode, setting}
 use Rattle.sp_facts.specs.Gives.{IsAccepted}
+use Rattle.sp_journal.specs.declared.entry.Journal.{Journal}
 use Rattle.sp_link.specs.Premises.{IsReady}
+use Rattle.sp_replay.specs.declared.replayer.Replayed.{Replayed}
+use Rattle.sp_replay.specs.declared.replayer.ReplayError.{ReplayError}
+use Rattle.sp_replay.specs.declared.replayer.ReplayError.TheVariants as error
 use Rattle.sp_runner.specs.Runs.{IsRun}
 use Rattle.sp_tree.specs.Bare.{bare}
 use Rattle.sp_tree.specs.Plain.{Program, Stmt}
 use Rattle.sp_tree.specs.PlainChecked as c
 use Rattle.sp_words.specs.Ranges.{IsInRange}
+use Rattle.superpascal.specs.Answering.{Follows}
 use Rattle.superpascal.specs.Runs.{HasCode, IsRunOf}
 
 -- options in their ranges are within their types
@@ -66,6 +72,20 @@ module _ (law : ReadyLaw) (code : Parts) (input : List ℕ) (workers : ℕ) (lim
       meant = subst (λ (z : List ℕ × Parts). Meant z.0 z.1 e) (λ k. (i k, h k)) meant (bare t) has.code.0.moves has.code.0.shares (ready_code text t has);
     }
     is_run_if (Err x) run meant = tt
+
+    module _ (j : Journal) (r : Result Replayed ReplayError) (says : (p : Program) (moves shares : Stmt → List ℕ) → IsReadyCode (setting p read lim) moves shares held → FollowsProgram (setting p read lim) j r) where
+      said : (text : List ℕ) (t : c.Program) → HasCode text t code → FollowsProgram (setting (bare t) input lim) j r
+      said text t has =
+          subst (λ (z : List ℕ × Parts). (p : Program) (moves shares : Stmt → List ℕ) → IsReadyCode (setting p z.0 lim) moves shares z.1 → FollowsProgram (setting p z.0 lim) j r) (λ k. (i k, h k)) says
+          (bare t) has.code.0.moves has.code.0.shares (ready_code text t has)
+
+      pub follows_text : (text : List ℕ) (t : c.Program) → HasCode text t code → Follows text input lim j r
+      follows_text text t has = go r (said text t has)
+        where
+          go : (x : Result Replayed ReplayError) → FollowsProgram (setting (bare t) input lim) j x → Follows text input lim j x
+          go (Ok y) m = record { tree = t; code = code; has = has; meant = m }
+          go (Err (error.Unfit n)) m = record { tree = t; code = code; has = has; unfit = m }
+          go (Err error.Memory) m = tt
 
 -- a run that is known is one of some text
 pub some_run : (program input : List ℕ) (workers : ℕ) (limits : Limits) (r : Ran) → IsRunOf program input workers limits r

@@ -1,15 +1,21 @@
 -- What of a run lets it be told.
-use Rattle.std.proofs.Common.{ℕ, List}
+use Rattle.std.proofs.Common.{ℕ, List, Option, Some, None}
 use Rattle.sp_base.specs.declared.limits.Limits.{Limits}
 use Rattle.sp_code.specs.System.{System}
 use Rattle.sp_cell.specs.Map.{Plain}
 use Rattle.sp_execute.specs.declared.execution.Ran.{Ran}
 use Rattle.sp_journal.specs.declared.entry.Entry.{Entry}
+use Rattle.sp_journal.specs.declared.entry.Journal.{Journal}
 use Rattle.sp_journal.specs.declared.outcome.End.{End}
 use Rattle.sp_journal.specs.declared.outcome.End.TheVariants as ends
+use Rattle.sp_meaning.specs.Ends.{EndsSo}
+use Rattle.sp_meaning.specs.Own.{Setting}
+use Rattle.sp_meaning.specs.Runs.{StateOf}
 use Rattle.sp_print.specs.Lines.{HasLines}
+use Rattle.sp_replay.specs.declared.replayer.Replayed.{Replayed}
 use Rattle.sp_runner.specs.Ends.{EndsAt}
-use Rattle.superpascal.specs.Answering.{IsTellable}
+use Rattle.superpascal.specs.Answering.{HasEndLines, IsTellable}
+use Rattle.superpascal.specs.Replays.{IsReplayOf}
 use Rattle.superpascal.specs.Runs.{IsRunOf}
 
 abbrev pub Ends : End → Type 0
@@ -27,3 +33,14 @@ ends_of text input workers limits r h = ends_at r.closed.journal.entries h.run.g
 
 pub tellable : (text input : List ℕ) (workers : ℕ) (limits : Limits) (r : Ran) → IsRunOf text input workers limits r → IsTellable r
 tellable text input workers limits r h = (h.meant.about.names, ends_of text input workers limits r h)
+
+-- no replay does
+meant_ends : (g : Setting) (s : StateOf g) (o : Option End) → EndsSo g s o → HasEndLines o
+meant_ends g s None h = tt
+meant_ends g s (Some ends.Done) h = tt
+meant_ends g s (Some (ends.Deadlock ws)) h = tt
+meant_ends g s (Some (ends.Fault n y)) h = tt
+meant_ends g s (Some ends.Memory) h = absurd h
+
+pub replay_ends : (text input : List ℕ) (limits : Limits) (j : Journal) (r : Replayed) → IsReplayOf text input limits j r → HasEndLines r.end
+replay_ends text input limits j r h = meant_ends _ h.meant.state r.end h.meant.end

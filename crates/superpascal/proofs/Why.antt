@@ -8,10 +8,12 @@ use Rattle.sp_words.specs.declared.command.Command.TheVariants as command
 use Rattle.superpascal.specs.declared.ending.Ending.{Ending}
 use Rattle.superpascal.specs.declared.ending.Ending.TheVariants as e
 use Rattle.superpascal.specs.declared.ending.Answer.{Answer}
-use Rattle.superpascal.specs.Causes.{Cause, by_words, before_words, by_command, Due, by_run, by_generated, by_text, by_rule, by_library, by_source, by_length, by_memory, Files, HasGenerated, HasMade, HasRun, IsNotLoaded, IsNotRead, IsRefusedFor, IsTooMuch, Stream, silent}
+use Rattle.superpascal.specs.Answering.{HasEndLines}
+use Rattle.superpascal.specs.Causes.{Cause, by_words, before_words, by_command, Due, by_run, by_generated, by_text, by_rule, by_library, by_source, by_length, by_memory, by_replay, by_entry, by_line, by_size, Files, HasGenerated, HasMade, HasReplayed, HasRun, IsBadJournal, IsLongJournal, IsNotLoaded, IsNotRead, IsRefusedFor, IsTooMuch, IsUnfit, Stream, silent}
+use Rattle.superpascal.specs.Replays.{ending_of_replay, replay_answer}
 use Rattle.superpascal.specs.Runs.{Reports, ending_of, generated_answer, run_answer}
-use Rattle.superpascal.specs.Texts.{Asked, asks}
-use Rattle.superpascal.proofs.Telling.{Ends, ends_of}
+use Rattle.superpascal.specs.Texts.{Asked, Followed, asks, follows}
+use Rattle.superpascal.proofs.Telling.{Ends, ends_of, replay_ends}
 
 module _ (f : Files) (s : Stream) (reports : Reports) (w : Option Command) (a : Answer) where
   -- a program has run for this command
@@ -21,35 +23,55 @@ module _ (f : Files) (s : Stream) (reports : Reports) (w : Option Command) (a : 
   abbrev pub HasRanFor : Type 0
   HasRanFor = (d : Command) × (w ≡ Some d) × IsRanBy d
 
+  -- a journal was followed for this command
+  abbrev pub HasReplayedFor : Type 0
+  HasReplayedFor = (asked : Followed) × (w ≡ Some (follows asked)) × HasReplayed f s asked a
+
+  -- a program came to its end, in a run or along a journal
+  abbrev pub HasEnded : Type 0
+  HasEnded = HasRanFor ⊎ HasReplayedFor
+
   abbrev pub why : Ending → Type 0
-  why e.Done = HasRanFor
-  why e.Deadlock = HasRanFor
-  why e.Fault = HasRanFor
+  why e.Done = HasEnded
+  why e.Deadlock = HasEnded
+  why e.Fault = HasEnded
+  why e.NoEnd = HasReplayedFor
   why e.Accepted = (d : Command) × (w ≡ Some d) × HasMade f d a
   why (e.Refused r) = (d : Command) × (w ≡ Some d) × IsRefusedFor f d a
   why e.BadWords = w ≡ None
-  why e.ReadFault = (d : Command) × (w ≡ Some d) × (IsNotLoaded f d a ⊎ ((asked : Asked) × (d ≡ asks asked) × IsNotRead f s asked a))
-  why e.TooLong = (asked : Asked) × (w ≡ Some (asks asked)) × IsTooMuch f s asked a
+  why e.ReadFault = (d : Command) × (w ≡ Some d) × (IsNotLoaded f d a ⊎ IsNotRead f s d a)
+  why e.TooLong = (d : Command) × (w ≡ Some d) × IsTooMuch f s d a
   why e.OutOfMemory = a ≡ silent e.OutOfMemory
+  why e.LongJournal = (asked : Followed) × (w ≡ Some (follows asked)) × IsLongJournal f asked a
+  why (e.BadJournal n) = (asked : Followed) × (w ≡ Some (follows asked)) × IsBadJournal f asked n a
+  why (e.Unfit n) = (asked : Followed) × (w ≡ Some (follows asked)) × IsUnfit f s asked n a
 
-  by_end : (x : End) → Ends x → HasRanFor → why (ending_of x)
+  by_end : (x : End) → Ends x → HasEnded → why (ending_of x)
   by_end ends.Done p h = h
   by_end (ends.Deadlock ws) p h = h
   by_end (ends.Fault n y) p h = h
   by_end ends.Memory p h = absurd p
+
+  by_replay_end : (o : Option End) → HasEndLines o → HasReplayedFor → why (ending_of_replay o)
+  by_replay_end None p h = h
+  by_replay_end (Some x) p h = by_end x p (inr h)
 
   -- the ending of an answer that is known
   at : (b : Answer) → a ≡ b → why b.ending → why a.ending
   at b h k = subst why (sym (ap (λ (z : Answer). z.ending) h)) k
 
   why_due : (d : Command) → w ≡ Some d → Due f s reports d a → why a.ending
-  why_due d v (by_run asked p h) = at (run_answer reports asked.show h.ran) h.answer (by_end h.ran.closed.end (ends_of _ _ _ _ h.ran h.is_run) (d, v, inl (asked, p, h)))
-  why_due d v (by_generated size workers p h) = at (generated_answer size h.ran) h.answer (by_end h.ran.closed.end (ends_of _ _ _ _ h.ran h.is_run) (d, v, inr (size, workers, p, h)))
+  why_due d v (by_run asked p h) = at (run_answer reports asked.show h.ran) h.answer (by_end h.ran.closed.end (ends_of _ _ _ _ h.ran h.is_run) (inl (d, v, inl (asked, p, h))))
+  why_due d v (by_generated size workers p h) = at (generated_answer size h.ran) h.answer (by_end h.ran.closed.end (ends_of _ _ _ _ h.ran h.is_run) (inl (d, v, inr (size, workers, p, h))))
   why_due d v (by_text h) = at _ h.answer (d, v, h)
   why_due d v (by_rule h) = at _ h.answer (d, v, h)
   why_due d v (by_library h) = at _ h.answer (d, v, inl h)
-  why_due d v (by_source asked p h) = at _ h.answer (d, v, inr (asked, p, h))
-  why_due d v (by_length asked p h) = at _ h.answer (asked, v ∙ ap Some p, h)
+  why_due d v (by_source h) = at _ h.answer (d, v, inr h)
+  why_due d v (by_length h) = at _ h.answer (d, v, h)
+  why_due d v (by_replay asked p h) = at (replay_answer h.replayed) h.answer (by_replay_end h.replayed.end (replay_ends _ _ _ _ h.replayed h.is_replay) (asked, v ∙ ap Some p, h))
+  why_due d v (by_entry asked n p h) = at _ h.answer (asked, v ∙ ap Some p, h)
+  why_due d v (by_line asked n p h) = at _ h.answer (asked, v ∙ ap Some p, h)
+  why_due d v (by_size asked p h) = at _ h.answer (asked, v ∙ ap Some p, h)
   why_due d v (by_memory h) = at _ h h
 
   pub why_of : Cause f s reports w a → why a.ending
@@ -70,8 +92,12 @@ module _ (f : Files) (s : Stream) (reports : Reports) (w : Option Command) (a : 
   ran_due d r (by_text h) k = absurd (no_run _ r h.answer refl k)
   ran_due d r (by_rule h) k = absurd (no_run _ r h.answer refl k)
   ran_due d r (by_library h) k = absurd (no_run _ r h.answer refl k)
-  ran_due d r (by_source asked p h) k = absurd (no_run _ r h.answer refl k)
-  ran_due d r (by_length asked p h) k = absurd (no_run _ r h.answer refl k)
+  ran_due d r (by_source h) k = absurd (no_run _ r h.answer refl k)
+  ran_due d r (by_length h) k = absurd (no_run _ r h.answer refl k)
+  ran_due d r (by_replay asked p h) k = absurd (no_run _ r h.answer refl k)
+  ran_due d r (by_entry asked n p h) k = absurd (no_run _ r h.answer refl k)
+  ran_due d r (by_line asked n p h) k = absurd (no_run _ r h.answer refl k)
+  ran_due d r (by_size asked p h) k = absurd (no_run _ r h.answer refl k)
   ran_due d r (by_memory h) k = absurd (no_run _ r h refl k)
 
   pub ran_of : (r : Ran) → Cause f s reports w a → a.ran ≡ Some r → HasRanFor

@@ -1,6 +1,6 @@
--- What the parts of a call answer, before it is told apart by commands. The contracts of `answers`, `notes`, `runs`
--- and `texts` promise it, a case for each way in which a text, a file or an input is found.
-use Rattle.std.specs.Prelude.{◌≡◌, ◌⊎◌, ℕ, ◌≤◌, List, IfSome, Result, Ok, Err, length}
+-- What the parts of a call answer, before it is told apart by commands. The contracts of `answers`, `notes`, `runs`,
+-- `replays` and `texts` promise it, a case for each way in which a text, a file or an input is found.
+use Rattle.std.specs.Prelude.{◌≡◌, ◌⊎◌, ℕ, ◌<◌, ◌≤◌, List, Option, Some, None, IfSome, Result, Ok, Err, length}
 use Rattle.sp_base.specs.declared.halt.Halt.{Halt}
 use Rattle.sp_base.specs.declared.halt.Halt.TheVariants as halt
 use Rattle.sp_base.specs.declared.halt.Refusal.{Refusal}
@@ -9,17 +9,26 @@ use Rattle.sp_base.specs.declared.limits.Show.{Show}
 use Rattle.sp_base.specs.declared.rule.Rule.TheVariants as rule
 use Rattle.sp_execute.specs.declared.execution.Ran.{Ran}
 use Rattle.sp_gen.specs.Generated.{generated_text}
+use Rattle.sp_journal.specs.declared.entry.Journal.{Journal}
+use Rattle.sp_journal.specs.declared.outcome.End.{End}
 use Rattle.sp_journal.specs.Births.{IsNameable}
+use Rattle.sp_journal.specs.Reading.{IsText}
+use Rattle.sp_journal.specs.Texts.{IsFirstBad}
 use Rattle.sp_outside.specs.Counts.{Rose}
 use Rattle.sp_outside.specs.Told.{IsAtEnd}
 use Rattle.sp_outside.specs.declared.failed.LoadError.{LoadError}
 use Rattle.sp_outside.specs.declared.failed.LoadError.TheVariants as load
 use Rattle.sp_print.specs.Lines.{HasLines}
+use Rattle.sp_replay.specs.declared.replayer.Replayed.{Replayed}
+use Rattle.sp_replay.specs.declared.replayer.ReplayError.{ReplayError}
+use Rattle.sp_replay.specs.declared.replayer.ReplayError.TheVariants as error
 use Rattle.sp_tree.specs.Places.{start}
 use Rattle.sp_words.specs.declared.command.Command.{Command}
+use Rattle.superpascal.specs.declared.ending.Ending.{Ending}
 use Rattle.superpascal.specs.declared.ending.Ending.TheVariants as e
 use Rattle.superpascal.specs.declared.ending.Answer.{Answer}
 use Rattle.superpascal.specs.Causes.{Due, Files, HasGenerated, HasMade, IsNotLoaded, IsRefusedFor, IsTold, IsTooLong, IsUntouched, ReadsAfterRules, Stream, accepted, refused, silent}
+use Rattle.superpascal.specs.Replays.{IsJournalOf, IsReplayOf, IsUnfitFor, numbered, replay_answer}
 use Rattle.superpascal.specs.Runs.{IsRunOf, Reports, generated_answer, run_answer}
 use Rattle.superpascal.specs.Texts.{Breaks, BreaksOne, KeepsAll, Makes}
 
@@ -107,3 +116,67 @@ CommandCause f s reports c a = Due f s reports c a × ReadsAfterRules f s c
 -- what comes of a generated text
 abbrev pub GeneratedCause : ℕ → ℕ → Answer → Type 0
 GeneratedCause size workers a = HasGenerated size workers a ⊎ (IsRefusedText (generated_text size) a ⊎ (a ≡ silent e.OutOfMemory))
+
+-- ---- a journal that is followed
+
+-- following the journal with the program of the text
+abbrev pub Follows : List ℕ → List ℕ → Limits → Journal → Result Replayed ReplayError → Type 0
+Follows text input limits j (Ok r) = IsReplayOf text input limits j r
+Follows text input limits j (Err (error.Unfit n)) = IsUnfitFor text input limits j n
+Follows text input limits j (Err error.Memory) = Unit {0}
+
+-- the end, if there is one, has lines
+abbrev pub HasEndLines : Option End → Type 0
+HasEndLines None = Unit {0}
+HasEndLines (Some x) = HasLines x
+
+-- the answer with a line that names a number of the journal, or want of memory
+abbrev pub AnswersNumber : Ending → Answer → Type 0
+AnswersNumber x a = (a ≡ numbered x) ⊎ (a ≡ silent e.OutOfMemory)
+
+-- the answer to what following a journal gave
+abbrev pub AnswersReplay : Result Replayed ReplayError → Answer → Type 0
+AnswersReplay (Ok r) a = (a ≡ replay_answer r) ⊎ (a ≡ silent e.OutOfMemory)
+AnswersReplay (Err (error.Unfit n)) a = AnswersNumber (e.Unfit n) a
+AnswersReplay (Err error.Memory) a = a ≡ silent e.OutOfMemory
+
+-- what comes of the code of a text along a journal on an input
+abbrev pub AlongAnswer : List ℕ → List ℕ → Limits → Journal → Answer → Type 0
+AlongAnswer text input limits j a = (r : Result Replayed ReplayError) × Follows text input limits j r × AnswersReplay r a
+
+-- the input that the source gives was read whole
+pub record HasInput (s : Stream) (input : List ℕ) : Type 0 where
+  pub read : IsTold s.left input
+  pub fits : length input ≤ 16777216
+  pub at_end : IsAtEnd s.left'
+
+-- what comes of it on the input that the source gives
+abbrev pub SourceAnswer : Stream → List ℕ → Limits → Journal → Answer → Type 0
+SourceAnswer s text limits j a =
+    ((input : List ℕ) × HasInput s input × AlongAnswer text input limits j a)
+    ⊎ ((Rose s.before s.after × (a ≡ silent e.ReadFault)) ⊎ ((IfSome s.left IsTooLong × (a ≡ silent e.TooLong)) ⊎ (a ≡ silent e.OutOfMemory)))
+
+-- these bytes are the text of no journal, and this is the answer
+pub record IsNoText (bytes : List ℕ) (a : Answer) : Type 0 where
+  pub line : ℕ
+  pub bad : IsFirstBad line bytes
+  pub no_text : IsText bytes → ⊥
+  pub answer : AnswersNumber (e.BadJournal line) a
+
+-- what comes of the bytes of a journal
+abbrev pub BytesAnswer : Stream → List ℕ → Limits → List ℕ → Answer → Type 0
+BytesAnswer s text limits bytes a =
+    ((j : Journal) × IsJournalOf bytes j × SourceAnswer s text limits j a)
+    ⊎ (IsUntouched s × (IsNoText bytes a ⊎ (a ≡ silent e.OutOfMemory)))
+
+-- what comes of a journal that is loaded, by what is held under its name and the counts of faults
+abbrev pub JournalAnswer : Option (List ℕ) → ℕ → ℕ → Stream → List ℕ → Limits → Answer → Type 0
+JournalAnswer held before after s text limits a =
+    ((bytes : List ℕ) × IsTold held bytes × (length bytes ≤ 67108864) × BytesAnswer s text limits bytes a)
+    ⊎ (IsUntouched s × ((IfSome held (λ bytes. 67108864 < length bytes) × (a ≡ silent e.LongJournal)) ⊎ ((Rose before after × (a ≡ silent e.ReadFault)) ⊎ (a ≡ silent e.OutOfMemory))))
+
+-- what comes of a text whose program follows a journal
+abbrev pub ReplayAnswer : Option (List ℕ) → ℕ → ℕ → Stream → Limits → List ℕ → Answer → Type 0
+ReplayAnswer held before after s limits text a =
+    (IsKeptText text × JournalAnswer held before after s text limits a)
+    ⊎ (IsUntouched s × (IsRefusedText text a ⊎ (a ≡ silent e.OutOfMemory)))

@@ -1,6 +1,6 @@
 -- What a call has to write, and its status: the table of endings. The contracts of `ending` and `writing` promise it,
 -- and the headline and the statuses are said by it.
-use Rattle.std.specs.Prelude.{ℕ, List, [], Option, Some, None, Bool, true, false, codes}
+use Rattle.std.specs.Prelude.{ℕ, List, [], ◌++◌, Option, Some, None, Bool, true, false, codes, decimal}
 use Rattle.sp_execute.specs.declared.execution.Ran.{Ran}
 use Rattle.sp_print.specs.Lines.{refusal_text}
 use Rattle.superpascal.specs.declared.ending.Ending.{Ending}
@@ -10,6 +10,7 @@ use Rattle.superpascal.specs.declared.ending.Answer.{Answer}
 -- the number of each ending
 abbrev pub status_of : Ending → ℕ
 status_of e.Done = 0
+status_of e.NoEnd = 0
 status_of e.Accepted = 0
 status_of (e.Refused r) = 1
 status_of e.BadWords = 2
@@ -18,18 +19,25 @@ status_of e.Deadlock = 4
 status_of e.ReadFault = 5
 status_of e.TooLong = 7
 status_of e.OutOfMemory = 8
+status_of e.LongJournal = 9
+status_of (e.BadJournal n) = 9
+status_of (e.Unfit n) = 9
 
--- the answer has an output: that of a run, or the text that the command asks for, if any
+-- the answer has an output: that of a run or a replay, or the text that the command asks for, if any
 abbrev pub has_output : Ending → Bool
 has_output e.Done = true
 has_output e.Deadlock = true
 has_output e.Fault = true
+has_output e.NoEnd = true
 has_output e.Accepted = true
 has_output (e.Refused r) = false
 has_output e.BadWords = false
 has_output e.ReadFault = false
 has_output e.TooLong = false
 has_output e.OutOfMemory = false
+has_output e.LongJournal = false
+has_output (e.BadJournal n) = false
+has_output (e.Unfit n) = false
 
 -- the line of a call that has no output
 abbrev pub line_of : Ending → List ℕ
@@ -38,22 +46,30 @@ line_of e.BadWords = codes "bad words\n"
 line_of e.ReadFault = codes "read fault\n"
 line_of e.TooLong = codes "input too long\n"
 line_of e.OutOfMemory = codes "out of memory\n"
+line_of e.LongJournal = codes "journal too long\n"
+line_of (e.BadJournal n) = codes "bad journal " ++ decimal n ++ codes "\n"
+line_of (e.Unfit n) = codes "journal unfit " ++ decimal n ++ codes "\n"
 line_of e.Done = []
 line_of e.Deadlock = []
 line_of e.Fault = []
+line_of e.NoEnd = []
 line_of e.Accepted = []
 
--- the notes: those of the run or of the refusal, or a line that is the same for every text
+-- the notes: those of the run, of the refusal or of the journal, or a line that is the same for every text
 abbrev pub notes_by : Ending → List ℕ → List ℕ
 notes_by e.Done notes = notes
 notes_by e.Deadlock notes = notes
 notes_by e.Fault notes = notes
+notes_by e.NoEnd notes = notes
 notes_by e.Accepted notes = notes
 notes_by (e.Refused r) notes = notes
 notes_by e.BadWords notes = line_of e.BadWords
 notes_by e.ReadFault notes = line_of e.ReadFault
 notes_by e.TooLong notes = line_of e.TooLong
 notes_by e.OutOfMemory notes = line_of e.OutOfMemory
+notes_by e.LongJournal notes = line_of e.LongJournal
+notes_by (e.BadJournal n) notes = notes
+notes_by (e.Unfit n) notes = notes
 
 abbrev pub notes_of : Answer → List ℕ
 notes_of a = notes_by a.ending a.notes

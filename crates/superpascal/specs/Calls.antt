@@ -10,7 +10,7 @@ use Rattle.superpascal.specs.declared.outcome.Outcome.{Outcome}
 use Rattle.superpascal.specs.Answers.{status_of, notes_of, output_of, has_output}
 use Rattle.superpascal.specs.Causes.{Cause, Files, Stream}
 use Rattle.superpascal.specs.Runs.{Reports}
-use Rattle.superpascal.specs.Texts.{Asked, asks, text_of}
+use Rattle.superpascal.specs.Texts.{Asked, Followed, asks, follows, text_of}
 
 -- what a sink has got, where it tells it, before and after the call, and its counts of faults
 pub record Sink : Type 0 where
@@ -61,6 +61,14 @@ OfRun c P = (a : Asked) (text : List ℕ) → command_of c.words ≡ Some (asks 
 abbrev pub OfInput : Call → (Asked → List ℕ → List ℕ → Type 0) → Type 0
 OfInput c P = OfRun c (λ a text. (input : List ℕ) → c.source.left ≡ Some input → P a text input)
 
+-- of the replay that the words ask for, its text and the bytes of its journal, where the library tells both
+abbrev pub OfReplay : Call → (Followed → List ℕ → List ℕ → Type 0) → Type 0
+OfReplay c P = (b : Followed) (text bytes : List ℕ) → command_of c.words ≡ Some (follows b) → c.files.held b.file ≡ Some text → c.files.held b.journal ≡ Some bytes → P b text bytes
+
+-- the same with the input, where the source tells it
+abbrev pub OfReplayInput : Call → (Followed → List ℕ → List ℕ → List ℕ → Type 0) → Type 0
+OfReplayInput c P = OfReplay c (λ b text bytes. (input : List ℕ) → c.source.left ≡ Some input → P b text bytes input)
+
 -- of the command that the words ask for, and its text, where that is told
 abbrev pub OfText : Call → (Command → List ℕ → Type 0) → Type 0
 OfText c P = (d : Command) (text : List ℕ) → command_of c.words ≡ Some d → text_of c.files.held d ≡ Some text → P d text
@@ -68,6 +76,10 @@ OfText c P = (d : Command) (text : List ℕ) → command_of c.words ≡ Some d �
 -- a fault outside, too long an input or want of memory came in place of the status that was due
 abbrev pub IsOutside : ℕ → Type 0
 IsOutside status = (5 ≤ status) × (status ≤ 8)
+
+-- the status of an end, or that of a text from which something is made
+abbrev pub IsFinal : ℕ → Type 0
+IsFinal status = (status ≡ 0) ⊎ ((status ≡ 3) ⊎ (status ≡ 4))
 
 -- The status comes only where the fact holds; and where it holds the status comes, unless the outside came in its place.
 abbrev pub Exactly : ℕ → ℕ → Type 0 → Type 0

@@ -4,17 +4,22 @@ use Rattle.std.specs.Prelude.{◌≡◌, ◌⊎◌, ℕ, ◌<◌, ◌≤◌, Lis
 use Rattle.sp_base.specs.declared.halt.Refusal.{Refusal}
 use Rattle.sp_gen.specs.Generated.{generated_text}
 use Rattle.sp_execute.specs.declared.execution.Ran.{Ran}
+use Rattle.sp_journal.specs.declared.entry.Journal.{Journal}
+use Rattle.sp_journal.specs.Reading.{IsText}
+use Rattle.sp_journal.specs.Texts.{IsFirstBad}
 use Rattle.sp_outside.specs.Counts.{Rose}
 use Rattle.sp_outside.specs.Told.{IsAtEnd}
 use Rattle.sp_print.specs.Lines.{refusal_text}
+use Rattle.sp_replay.specs.declared.replayer.Replayed.{Replayed}
 use Rattle.sp_words.specs.Ranges.{default_limits}
 use Rattle.sp_words.specs.declared.command.Command.{Command}
 use Rattle.sp_words.specs.declared.command.Command.TheVariants as command
 use Rattle.superpascal.specs.declared.ending.Ending.{Ending}
 use Rattle.superpascal.specs.declared.ending.Ending.TheVariants as e
 use Rattle.superpascal.specs.declared.ending.Answer.{Answer}
+use Rattle.superpascal.specs.Replays.{IsJournalOf, IsReplayOf, IsUnfitFor, numbered, replay_answer}
 use Rattle.superpascal.specs.Runs.{IsRunOf, Reports, generated_answer, run_answer}
-use Rattle.superpascal.specs.Texts.{Asked, Breaks, IsAbout, KeepsAll, Makes, asks, text_of}
+use Rattle.superpascal.specs.Texts.{Asked, Breaks, CanRead, Followed, KeepsAll, Loads, Makes, asks, follows, text_of}
 
 -- ---- the outside
 
@@ -100,24 +105,64 @@ pub record IsRefusedFor (f : Files) (c : Command) (a : Answer) : Type 0 where
   pub breaks : IfSome (text_of f.held c) (λ text. Breaks c text refusal)
   pub answer : a ≡ refused refusal
 
--- the library failed under the name of the text
+-- the library failed under a name that the command loads
 pub record IsNotLoaded (f : Files) (c : Command) (a : Answer) : Type 0 where
   pub name : List ℕ
-  pub about : IsAbout c name
+  pub loads : Loads f.held c name
   pub rose : Rose (f.before name) (f.after name)
   pub answer : a ≡ silent e.ReadFault
 
--- the source failed, of a text that breaks no rule
-pub record IsNotRead (f : Files) (s : Stream) (asked : Asked) (a : Answer) : Type 0 where
-  pub kept : IfSome (f.held asked.file) KeepsAll
+-- the source failed, where the command reads it
+pub record IsNotRead (f : Files) (s : Stream) (c : Command) (a : Answer) : Type 0 where
+  pub reads : CanRead f.held c
   pub rose : Rose s.before s.after
   pub answer : a ≡ silent e.ReadFault
 
--- the source gave too much, for a text that breaks no rule
-pub record IsTooMuch (f : Files) (s : Stream) (asked : Asked) (a : Answer) : Type 0 where
-  pub kept : IfSome (f.held asked.file) KeepsAll
+-- the source gave too much, where the command reads it
+pub record IsTooMuch (f : Files) (s : Stream) (c : Command) (a : Answer) : Type 0 where
+  pub reads : CanRead f.held c
   pub long : IfSome s.left IsTooLong
   pub answer : a ≡ silent e.TooLong
+
+-- what a replay reads: its text, its journal and the whole input, as far as they are told
+pub record HasRead (f : Files) (s : Stream) (asked : Followed) : Type 0 where
+  pub text : List ℕ
+  pub bytes : List ℕ
+  pub journal : Journal
+  pub input : List ℕ
+  pub loaded : IsTold (f.held asked.file) text
+  pub told : IsTold (f.held asked.journal) bytes
+  pub is_journal : IsJournalOf bytes journal
+  pub read : IsTold s.left input
+  pub fits : length input ≤ 16777216
+  pub at_end : IsAtEnd s.left'
+
+-- the program of the text was followed along the journal on the whole input, and this is the answer
+pub record HasReplayed (f : Files) (s : Stream) (asked : Followed) (a : Answer) : Type 0 where
+  pub has_read : HasRead f s asked
+  pub replayed : Replayed
+  pub is_replay : IsReplayOf has_read.text has_read.input asked.limits has_read.journal replayed
+  pub answer : a ≡ replay_answer replayed
+
+-- entry n is the first that the program cannot make there
+pub record IsUnfit (f : Files) (s : Stream) (asked : Followed) (n : ℕ) (a : Answer) : Type 0 where
+  pub has_read : HasRead f s asked
+  pub is_unfit : IsUnfitFor has_read.text has_read.input asked.limits has_read.journal n
+  pub answer : a ≡ numbered (e.Unfit n)
+
+-- for a text that breaks no rule, line n of the journal is the first that is no text of a next entry
+pub record IsBadJournal (f : Files) (asked : Followed) (n : ℕ) (a : Answer) : Type 0 where
+  pub kept : IfSome (f.held asked.file) KeepsAll
+  pub short : IfSome (f.held asked.journal) (λ bytes. length bytes ≤ 67108864)
+  pub bad : IfSome (f.held asked.journal) (IsFirstBad n)
+  pub no_text : IfSome (f.held asked.journal) (λ bytes. IsText bytes → ⊥)
+  pub answer : a ≡ numbered (e.BadJournal n)
+
+-- for a text that breaks no rule, the journal is longer than the limit
+pub record IsLongJournal (f : Files) (asked : Followed) (a : Answer) : Type 0 where
+  pub kept : IfSome (f.held asked.file) KeepsAll
+  pub long : IfSome (f.held asked.journal) (λ bytes. 67108864 < length bytes)
+  pub answer : a ≡ silent e.LongJournal
 
 -- Why an answer to a command is due.
 pub data Due (f : Files) (s : Stream) (reports : Reports) (c : Command) (a : Answer) : Type 0 where
@@ -126,13 +171,17 @@ pub data Due (f : Files) (s : Stream) (reports : Reports) (c : Command) (a : Ans
   by_text : HasMade f c a → Due f s reports c a
   by_rule : IsRefusedFor f c a → Due f s reports c a
   by_library : IsNotLoaded f c a → Due f s reports c a
-  by_source : (asked : Asked) → c ≡ asks asked → IsNotRead f s asked a → Due f s reports c a
-  by_length : (asked : Asked) → c ≡ asks asked → IsTooMuch f s asked a → Due f s reports c a
+  by_source : IsNotRead f s c a → Due f s reports c a
+  by_length : IsTooMuch f s c a → Due f s reports c a
+  by_replay : (asked : Followed) → c ≡ follows asked → HasReplayed f s asked a → Due f s reports c a
+  by_entry : (asked : Followed) (n : ℕ) → c ≡ follows asked → IsUnfit f s asked n a → Due f s reports c a
+  by_line : (asked : Followed) (n : ℕ) → c ≡ follows asked → IsBadJournal f asked n a → Due f s reports c a
+  by_size : (asked : Followed) → c ≡ follows asked → IsLongJournal f asked a → Due f s reports c a
   by_memory : a ≡ silent e.OutOfMemory → Due f s reports c a
 
--- the source is touched by `run` alone, and only where its text breaks no rule
+-- the source is touched only where the command reads it, and what it loads before is right
 abbrev pub ReadsAfterRules : Files → Stream → Command → Type 0
-ReadsAfterRules f s c = IsUntouched s ⊎ ((asked : Asked) × (c ≡ asks asked) × IfSome (f.held asked.file) KeepsAll)
+ReadsAfterRules f s c = IsUntouched s ⊎ CanRead f.held c
 
 -- Why an answer to words is due: they are refused, or memory was wanting for them, or they ask for a command.
 pub data Cause (f : Files) (s : Stream) (reports : Reports) (words : Option Command) (a : Answer) : Type 0 where

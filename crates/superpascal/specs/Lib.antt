@@ -3,7 +3,9 @@ pub mod Answers
 pub mod Calls
 pub mod Causes
 pub mod Headline
+pub mod Following
 pub mod Promise
+pub mod Replays
 pub mod Runs
 pub mod Statuses
 pub mod Texts

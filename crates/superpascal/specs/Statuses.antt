@@ -11,21 +11,21 @@ use Rattle.sp_words.specs.Words.{command_of}
 use Rattle.sp_words.specs.declared.command.Command.{Command}
 use Rattle.sp_words.specs.declared.command.Command.TheVariants as command
 use Rattle.superpascal.specs.Answers.{status_of}
-use Rattle.superpascal.specs.Calls.{Call, Exactly, Failed, IsOutside, IsUnwritten, OfRun, OfText}
+use Rattle.superpascal.specs.Calls.{Call, Exactly, Failed, IsFinal, IsOutside, IsUnwritten, OfReplay, OfRun, OfText}
 use Rattle.superpascal.specs.Causes.{IsTold, IsTooLong, IsUntouched}
 use Rattle.superpascal.specs.Headline.{SaysRefusal}
 use Rattle.superpascal.specs.Runs.{IsRunOf, ending_of}
-use Rattle.superpascal.specs.Texts.{Asked, Breaks, IsAbout, IsDisjointText, Keeps, KeepsAll, Makes, asks, asks_all, asks_text}
+use Rattle.superpascal.specs.Texts.{Asked, Breaks, CanRead, IsDisjointText, IsJournalText, Keeps, KeepsAll, Loads, Makes, asks, asks_all, asks_replay, asks_run, asks_text}
 
--- the library failed under the name of the text, or the source failed and the text breaks no rule
+-- the library failed under a name that the command loads, or the source failed where the command reads it
 abbrev pub ReadsFail : Call → Type 0
 ReadsFail c = (d : Command) × (command_of c.words ≡ Some d)
-    × (((name : List ℕ) × IsAbout d name × Rose (c.files.before name) (c.files.after name))
-    ⊎ ((a : Asked) × (d ≡ asks a) × IfSome (c.files.held a.file) KeepsAll × Rose c.source.before c.source.after))
+    × (((name : List ℕ) × Loads c.files.held d name × Rose (c.files.before name) (c.files.after name))
+    ⊎ (CanRead c.files.held d × Rose c.source.before c.source.after))
 
--- the words ask for a run whose text breaks no rule, and the input is too long
+-- the words ask for a command that reads the input, and it is too long
 abbrev pub InputIsTooLong : Call → Type 0
-InputIsTooLong c = (a : Asked) × (command_of c.words ≡ Some (asks a)) × IfSome (c.files.held a.file) KeepsAll × IfSome c.source.left IsTooLong
+InputIsTooLong c = (d : Command) × (command_of c.words ≡ Some d) × CanRead c.files.held d × IfSome c.source.left IsTooLong
 
 -- the run that is given back is one of the text and the input that the words ask for, of which nothing is left, or of a generated text
 abbrev pub IsRunOfWords : Call → Ran → Type 0
@@ -34,11 +34,11 @@ IsRunOfWords c r =
     × (text input : List ℕ) × IsTold (c.files.held a.file) text × IsTold c.source.left input × IsRunOf text input a.workers a.limits r)
     ⊎ ((size workers : ℕ) × (command_of c.words ≡ Some (command.Gen size workers)) × IsRunOf (generated_text size) [] workers default_limits r)
 
--- nothing outside fails in the call, and the input of a run, where it is told, is read whole
+-- nothing outside fails in the call, and the input, where the command reads it, is told and no longer than is read
 pub record IsQuiet (c : Call) (d : Command) : Type 0 where
-  pub library : (name : List ℕ) → IsAbout d name → Rose (c.files.before name) (c.files.after name) → ⊥
+  pub library : (name : List ℕ) → Loads c.files.held d name → Rose (c.files.before name) (c.files.after name) → ⊥
   pub source : Rose c.source.before c.source.after → ⊥
-  pub input : (a : Asked) → d ≡ asks a → (input : List ℕ) × (c.source.left ≡ Some input) × (length input ≤ 16777216)
+  pub input : CanRead c.files.held d → (input : List ℕ) × (c.source.left ≡ Some input) × (length input ≤ 16777216)
   pub output : Failed c.output → ⊥
   pub notes : Failed c.notes → ⊥
 
@@ -52,19 +52,20 @@ pub record Statuses (c : Call) : Type 0 where
   pub made : OfText c (λ d text. asks_text d → Exactly c.outcome.status 0 ((out line : List ℕ) × Makes d text out line))
   -- 0, 3, 4 of a run: by its end
   pub by_end : (r : Ran) → c.outcome.ran ≡ Some r → (c.outcome.status ≡ status_of (ending_of r.closed.end)) ⊎ (c.outcome.status ≡ 6)
-  pub ran : (d : Command) → command_of c.words ≡ Some d → (asks_text d → ⊥) → (c.outcome.status ≡ 0) ⊎ ((c.outcome.status ≡ 3) ⊎ (c.outcome.status ≡ 4)) → (r : Ran) × (c.outcome.ran ≡ Some r)
+  pub ran : (d : Command) → command_of c.words ≡ Some d → asks_run d → IsFinal c.outcome.status → (r : Ran) × (c.outcome.ran ≡ Some r)
   pub runs : (r : Ran) → c.outcome.ran ≡ Some r → IsRunOfWords c r
   -- 5, 6: the outside failed
   pub read_fault : c.outcome.status ≡ 5 → ReadsFail c
   pub write_fault : c.outcome.status ≡ 6 → Failed c.output ⊎ Failed c.notes
-  -- 7: the input is too long for a text that breaks no rule
+  -- 7: the input is too long, where what is loaded before it is right
   pub too_long : c.outcome.status ≡ 7 → InputIsTooLong c
   pub long_refused : OfRun c (λ a text. KeepsAll text → (input : List ℕ) → c.source.left ≡ Some input → IsTooLong input → IsOutside c.outcome.status)
+  pub long_unfollowed : OfReplay c (λ b text bytes. KeepsAll text → IsJournalText bytes → (input : List ℕ) → c.source.left ≡ Some input → IsTooLong input → IsOutside c.outcome.status)
   -- 8: nothing is put to the output, and no run is given back
   pub memory : c.outcome.status ≡ 8 → IsUnwritten c.output × (c.outcome.ran ≡ None)
   -- nothing else: where the words ask for a command that refuses the text for no rule, and nothing outside fails
-  pub complete : OfText c (λ d text. Keeps d text → IsQuiet c d → (c.outcome.status ≡ 0) ⊎ ((c.outcome.status ≡ 3) ⊎ ((c.outcome.status ≡ 4) ⊎ (c.outcome.status ≡ 8))))
-  -- the source is read by `run` alone, and only where the text breaks no rule
-  pub source : IsUntouched c.source ⊎ ((a : Asked) × (command_of c.words ≡ Some (asks a)) × IfSome (c.files.held a.file) KeepsAll)
-  -- the program of a text that `check`, `code`, `run` or `gen` goes through is disjoint
-  pub disjoint : OfText c (λ d text. asks_all d → (c.outcome.status ≡ 0) ⊎ ((c.outcome.status ≡ 3) ⊎ (c.outcome.status ≡ 4)) → IsDisjointText text)
+  pub complete : OfText c (λ d text. Keeps d text → IsQuiet c d → IsFinal c.outcome.status ⊎ ((c.outcome.status ≡ 8) ⊎ (asks_replay d × (c.outcome.status ≡ 9))))
+  -- the source is read by `run` and `replay` alone, and only where what they load before is right
+  pub source : IsUntouched c.source ⊎ ((d : Command) × (command_of c.words ≡ Some d) × CanRead c.files.held d)
+  -- the program of a text that `check`, `code`, `run`, `replay` or `gen` goes through is disjoint
+  pub disjoint : OfText c (λ d text. asks_all d → IsFinal c.outcome.status → IsDisjointText text)

@@ -1,6 +1,6 @@
 -- What each command finds in a text: the first rule for which it refuses the text, or what it makes of it. The
 -- contracts of `texts` promise it, and the causes, the headline and the writing cite it.
-use Rattle.std.specs.Prelude.{◌≡◌, ◌⊎◌, ℕ, ◌≤◌, List, [], Option, Some, codes}
+use Rattle.std.specs.Prelude.{◌≡◌, ◌⊎◌, ℕ, ◌≤◌, List, [], Option, Some, IfSome, codes, length}
 use Rattle.sp_base.specs.declared.halt.Refusal.{Refusal}
 use Rattle.sp_base.specs.declared.limits.Limits.{Limits}
 use Rattle.sp_base.specs.declared.limits.Show.{Show}
@@ -10,6 +10,7 @@ use Rattle.sp_format.specs.Formats.{HasLayout, HasNoLayout}
 use Rattle.sp_front.specs.Checks.{BreaksFirst, IsChecked, IsProgramOf}
 use Rattle.sp_front.specs.Compiles.{BreaksAnyFirst, IsAccepted}
 use Rattle.sp_gen.specs.Generated.{generated_text}
+use Rattle.sp_journal.specs.Reading.{IsText}
 use Rattle.sp_meaning.specs.Own.{Setting}
 use Rattle.sp_meaning.specs.Runs.{IsDisjointRun}
 use Rattle.sp_sets.specs.SetsText.{IsSetsText}
@@ -55,6 +56,18 @@ asked file workers limits show = record { file = file; workers = workers; limits
 abbrev pub asks : Asked → Command
 asks a = command.Run a.file a.workers a.limits a.show
 
+-- the replay that words ask for
+pub record Followed : Type 0 where
+  pub file : List ℕ
+  pub journal : List ℕ
+  pub limits : Limits
+
+abbrev pub followed : List ℕ → List ℕ → Limits → Followed
+followed file journal limits = record { file = file; journal = journal; limits = limits }
+
+abbrev pub follows : Followed → Command
+follows b = command.Replay b.file b.journal b.limits
+
 -- the text that a command is about, where the library tells it, or that it makes itself
 abbrev pub text_of : (List ℕ → Option (List ℕ)) → Command → Option (List ℕ)
 text_of held (command.Check file) = held file
@@ -63,6 +76,7 @@ text_of held (command.Code file) = held file
 text_of held (command.Sets file) = held file
 text_of held (command.Format file) = held file
 text_of held (command.Gen size workers) = Some (generated_text size)
+text_of held (command.Replay file journal limits) = held file
 
 -- the command is about the text under this name
 abbrev pub IsAbout : Command → List ℕ → Type 0
@@ -72,6 +86,21 @@ IsAbout (command.Code file) name = file ≡ name
 IsAbout (command.Sets file) name = file ≡ name
 IsAbout (command.Format file) name = file ≡ name
 IsAbout (command.Gen size workers) name = ⊥
+IsAbout (command.Replay file journal limits) name = file ≡ name
+
+-- the command follows the journal under this name
+abbrev pub FollowsUnder : Command → List ℕ → Type 0
+FollowsUnder (command.Check file) name = ⊥
+FollowsUnder (command.Run file workers limits show) name = ⊥
+FollowsUnder (command.Code file) name = ⊥
+FollowsUnder (command.Sets file) name = ⊥
+FollowsUnder (command.Format file) name = ⊥
+FollowsUnder (command.Gen size workers) name = ⊥
+FollowsUnder (command.Replay file journal limits) name = journal ≡ name
+
+-- the command loads what is held under this name: its text, or the journal, where its text breaks no rule
+abbrev pub Loads : (List ℕ → Option (List ℕ)) → Command → List ℕ → Type 0
+Loads held c name = IsAbout c name ⊎ (FollowsUnder c name × IfSome (text_of held c) KeepsAll)
 
 -- the first rule for which the command refuses the text: of all rules, for `sets` of those of characters, grammar, names and
 -- types, for `format` of those that it goes through
@@ -82,6 +111,7 @@ Breaks (command.Code file) text r = BreaksOne text r
 Breaks (command.Sets file) text r = BreaksFirst text r
 Breaks (command.Format file) text r = HasNoLayout text r
 Breaks (command.Gen size workers) text r = BreaksOne text r
+Breaks (command.Replay file journal limits) text r = BreaksOne text r
 
 -- the command refuses the text for no rule
 abbrev pub Keeps : Command → List ℕ → Type 0
@@ -91,6 +121,7 @@ Keeps (command.Code file) text = KeepsAll text
 Keeps (command.Sets file) text = IsAnalysed text
 Keeps (command.Format file) text = (out : List ℕ) × HasLayout text out
 Keeps (command.Gen size workers) text = KeepsAll text
+Keeps (command.Replay file journal limits) text = KeepsAll text
 
 -- the commands that answer from the text alone
 abbrev pub asks_text : Command → Type 0
@@ -100,6 +131,41 @@ asks_text (command.Code file) = Unit {0}
 asks_text (command.Sets file) = Unit {0}
 asks_text (command.Format file) = Unit {0}
 asks_text (command.Gen size workers) = ⊥
+asks_text (command.Replay file journal limits) = ⊥
+
+-- the commands that run a program with workers
+abbrev pub asks_run : Command → Type 0
+asks_run (command.Check file) = ⊥
+asks_run (command.Run file workers limits show) = Unit {0}
+asks_run (command.Code file) = ⊥
+asks_run (command.Sets file) = ⊥
+asks_run (command.Format file) = ⊥
+asks_run (command.Gen size workers) = Unit {0}
+asks_run (command.Replay file journal limits) = ⊥
+
+-- the command that follows a journal
+abbrev pub asks_replay : Command → Type 0
+asks_replay (command.Check file) = ⊥
+asks_replay (command.Run file workers limits show) = ⊥
+asks_replay (command.Code file) = ⊥
+asks_replay (command.Sets file) = ⊥
+asks_replay (command.Format file) = ⊥
+asks_replay (command.Gen size workers) = ⊥
+asks_replay (command.Replay file journal limits) = Unit {0}
+
+-- these bytes are the text of a journal, and no more than are loaded
+abbrev pub IsJournalText : List ℕ → Type 0
+IsJournalText bytes = IsText bytes × (length bytes ≤ 67108864)
+
+-- the command reads the input, where what it loads before is right
+abbrev pub CanRead : (List ℕ → Option (List ℕ)) → Command → Type 0
+CanRead held (command.Check file) = ⊥
+CanRead held (command.Run file workers limits show) = IfSome (held file) KeepsAll
+CanRead held (command.Code file) = ⊥
+CanRead held (command.Sets file) = ⊥
+CanRead held (command.Format file) = ⊥
+CanRead held (command.Gen size workers) = ⊥
+CanRead held (command.Replay file journal limits) = IfSome (held file) KeepsAll × IfSome (held journal) IsJournalText
 
 -- what the command makes of the text alone, for the output and for the notes
 abbrev pub Makes : Command → List ℕ → List ℕ → List ℕ → Type 0
@@ -109,6 +175,7 @@ Makes (command.Code file) text out line = HasListing text out × (line ≡ [])
 Makes (command.Sets file) text out line = HasSets text out × (line ≡ [])
 Makes (command.Format file) text out line = HasLayout text out × (line ≡ [])
 Makes (command.Gen size workers) text out line = ⊥
+Makes (command.Replay file journal limits) text out line = ⊥
 
 -- the commands that go through the rules of interference too, and name no broken one
 abbrev pub asks_all : Command → Type 0
@@ -118,3 +185,4 @@ asks_all (command.Code file) = Unit {0}
 asks_all (command.Sets file) = ⊥
 asks_all (command.Format file) = ⊥
 asks_all (command.Gen size workers) = Unit {0}
+asks_all (command.Replay file journal limits) = Unit {0}

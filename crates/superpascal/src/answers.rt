@@ -1,11 +1,12 @@
 //! Answers without a run.
 
-ghost use Rattle.std.specs.Prelude.{◌≡◌};
-ghost use Rattle.superpascal.specs.Answering.{AnswersRefusal, halted, unloaded};
+ghost use Rattle.std.specs.Prelude.{◌≡◌, ◌⊎◌, ◌++◌, None, IfOk, codes, decimal};
+ghost use Rattle.superpascal.specs.Answering.{AnswersNumber, AnswersRefusal, halted, unloaded};
 ghost use Rattle.superpascal.specs.Causes.{accepted, silent};
+ghost use Rattle.superpascal.specs.declared.ending.Ending.TheVariants as variants;
 
 use crate::ending::{Answer, Ending};
-use sp_base::{Halt, Place, Refusal, Rule, Text};
+use sp_base::{Halt, Memory, Place, Refusal, Rule, Text, put_decimal};
 use sp_outside::LoadError;
 use sp_print::refusal_line;
 use std::alloc::Global;
@@ -74,4 +75,43 @@ pub(crate) fn unloaded(alloc: Global, error: LoadError) -> Answer
         LoadError::Failed => silent(alloc, Ending::ReadFault),
         LoadError::Memory => silent(alloc, Ending::OutOfMemory),
     }
+}
+
+// Words and a number on a line.
+fn number_line(alloc: Global, words: &[u8], number: u64) -> Result<Vec<u8>, Memory>
+    ensures { IfOk result (λ line. line.items ≡ words.now ++ decimal number ++ codes "\n") }
+{
+    let mut line = Vec::from_slice(alloc, words)?;
+    put_decimal(&mut line, number)?;
+    line.extend_from_slice(b"\n")?;
+    Ok(line)
+}
+
+// The answer whose notes are such a line, or want of memory.
+fn numbered(alloc: Global, ending: Ending, words: &[u8], number: u64) -> Answer
+    ensures { (result ≡ record { ending = ending; ran = None; output = None; notes = words.now ++ decimal number ++ codes "\n" }) ⊎ (result ≡ silent variants.OutOfMemory) }
+{
+    match number_line(alloc, words, number) {
+        Ok(line) => Answer {
+            ending,
+            ran: None,
+            output: None,
+            notes: Text::of(line),
+        },
+        Err(_) => silent(alloc, Ending::OutOfMemory),
+    }
+}
+
+/// The answer to a journal of which this line is the first that is no text of a next entry.
+pub(crate) fn bad_journal(alloc: Global, line: u64) -> Answer
+    ensures { AnswersNumber (variants.BadJournal line) result }
+{
+    numbered(alloc, Ending::BadJournal(line), b"bad journal ", line)
+}
+
+/// The answer to a journal of which the entry with this index is the first that does not fit.
+pub(crate) fn unfit(alloc: Global, entry: u64) -> Answer
+    ensures { AnswersNumber (variants.Unfit entry) result }
+{
+    numbered(alloc, Ending::Unfit(entry), b"journal unfit ", entry)
 }

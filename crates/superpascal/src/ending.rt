@@ -15,6 +15,8 @@ pub enum Ending {
     Deadlock,
     /// A fault ended the run.
     Fault,
+    /// The journal was followed, and has led to no end.
+    NoEnd,
     /// The command has answered from the text alone.
     Accepted,
     /// The text breaks this rule first.
@@ -27,11 +29,18 @@ pub enum Ending {
     TooLong,
     /// Memory was refused.
     OutOfMemory,
+    /// The journal is longer than the limit.
+    LongJournal,
+    /// This line of the journal is the first that is no text of a next entry.
+    BadJournal(u64),
+    /// The entry with this index is the first that the program cannot make there.
+    Unfit(u64),
 }
 
 /// All that a call has to write, and what it gives back. Where a program has run, its output is that of the run unless
 /// another text stands here for it; the notes are those of the command, where a text is refused the line of the refusal;
-/// else they are a line, and what stands here for them is empty.
+/// else they are a line, and what
+/// stands here for them is empty, but for a line that names a number of the journal.
 #[derive(Drop)]
 pub struct Answer {
     pub ending: Ending,
@@ -46,7 +55,7 @@ impl Ending {
         ensures { result ≡ status_of self }
     {
         match self {
-            Ending::Done | Ending::Accepted => 0,
+            Ending::Done | Ending::NoEnd | Ending::Accepted => 0,
             Ending::Refused(_) => 1,
             Ending::BadWords => 2,
             Ending::Fault => 3,
@@ -54,6 +63,7 @@ impl Ending {
             Ending::ReadFault => 5,
             Ending::TooLong => 7,
             Ending::OutOfMemory => 8,
+            Ending::LongJournal | Ending::BadJournal(_) | Ending::Unfit(_) => 9,
         }
     }
 
@@ -63,7 +73,7 @@ impl Ending {
     {
         matches!(
             self,
-            Ending::Done | Ending::Deadlock | Ending::Fault | Ending::Accepted
+            Ending::Done | Ending::Deadlock | Ending::Fault | Ending::NoEnd | Ending::Accepted
         )
     }
 }
@@ -81,16 +91,23 @@ impl Answer {
     }
 }
 
-/// The notes with this ending, where these are those of the command or of the refusal.
+/// The notes with this ending, where these are those of the command, of the refusal or of the journal.
 pub fn notes_by<'a>(ending: Ending, notes: &'a [u8]) -> &'a [u8]
     ensures { result.now ≡ notes_by ending notes.now }
 {
     match ending {
-        Ending::Done | Ending::Deadlock | Ending::Fault | Ending::Accepted | Ending::Refused(_) =>
-            notes,
+        Ending::Done
+        | Ending::Deadlock
+        | Ending::Fault
+        | Ending::NoEnd
+        | Ending::Accepted
+        | Ending::Refused(_)
+        | Ending::BadJournal(_)
+        | Ending::Unfit(_) => notes,
         Ending::BadWords => b"bad words\n",
         Ending::ReadFault => b"read fault\n",
         Ending::TooLong => b"input too long\n",
         Ending::OutOfMemory => b"out of memory\n",
+        Ending::LongJournal => b"journal too long\n",
     }
 }

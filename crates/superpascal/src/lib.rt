@@ -5,6 +5,7 @@ mod answers;
 mod ending;
 mod notes;
 mod outcome;
+mod replays;
 mod runs;
 mod texts;
 mod top;

@@ -1,13 +1,14 @@
 //! What is told of a run.
 
-ghost use Rattle.std.specs.Prelude.{◌≡◌, ◌++◌, IfOk};
+ghost use Rattle.std.specs.Prelude.{◌≡◌, ◌++◌, IfOk, codes};
 ghost use Rattle.sp_print.specs.Lines.{HasLines};
 ghost use Rattle.sp_report.specs.Telling.{AreFresh, reports};
-ghost use Rattle.superpascal.specs.Answering.{IsTellable};
+ghost use Rattle.superpascal.specs.Answering.{HasEndLines, IsTellable};
+ghost use Rattle.superpascal.specs.Replays.{ending_of_replay, lines_of_replay};
 ghost use Rattle.superpascal.specs.Runs.{end_lines, ending_of, generated_output, is_journal, run_notes};
 
 use crate::ending::Ending;
-use sp_base::{Memory, Show, Text, put_decimal};
+use sp_base::{Memory, Show, put_decimal};
 use sp_execute::Ran;
 use sp_journal::{End, print_journal};
 use sp_print::verdict_line;
@@ -92,6 +93,38 @@ pub(crate) fn generated_output(alloc: Global, size: u32, ran: &Ran) -> Result<Ve
     put_decimal(&mut text, ran.closed.journal().entries.len() as u64)?;
     text.extend_from_slice(b"\n")?;
     let lines = end_lines(alloc, ran)?;
+    text.extend_from_slice(lines.as_slice())?;
+    Ok(text)
+}
+
+/// What the end of a replay is for the call; where there is none the run goes on.
+pub(crate) fn ending_of_replay(end: &Option<End>) -> Ending
+    ensures { result ≡ ending_of_replay end.now }
+{
+    match end {
+        None => Ending::NoEnd,
+        Some(end) => ending_of(end),
+    }
+}
+
+// The lines of the end, or that there is none.
+fn lines_of_replay(alloc: Global, end: &Option<End>) -> Result<Vec<u8>, Memory>
+    requires { HasEndLines end.now }
+    ensures { IfOk result (λ text. text.items ≡ lines_of_replay end.now) }
+{
+    match end {
+        None => Ok(Vec::from_slice(alloc, b"no end\n")?),
+        Some(end) => sp_print::end_lines(alloc, end),
+    }
+}
+
+/// The notes of `replay`.
+pub(crate) fn replay_notes(alloc: Global, end: &Option<End>) -> Result<Vec<u8>, Memory>
+    requires { HasEndLines end.now }
+    ensures { IfOk result (λ text. text.items ≡ codes "replayed\n" ++ lines_of_replay end.now) }
+{
+    let mut text = Vec::from_slice(alloc, b"replayed\n")?;
+    let lines = lines_of_replay(alloc, end)?;
     text.extend_from_slice(lines.as_slice())?;
     Ok(text)
 }

@@ -29,7 +29,7 @@ use std::sync::{Arc, Wait};
 use std::thread::Threads;
 
 /// The longest input that is read, in bytes.
-const LONGEST_INPUT: u32 = 16_777_216;
+pub(crate) const LONGEST_INPUT: u32 = 16_777_216;
 
 // Runs the code of a text that breaks no rule.
 fn run_code<R: Threads + Wait + Sync, G: Gate>(

@@ -12,12 +12,15 @@ ghost use Rattle.superpascal.specs.Promise.{Promise};
 use crate::answers::silent;
 use crate::ending::{Answer, Ending};
 use crate::outcome::Outcome;
+use crate::replays::replay_answer;
 use crate::runs::{generated_answer, run_answer};
 use crate::texts::text_answer;
 use crate::writing::write;
 use sp_compile::one_listing;
+use sp_execute::one_unfit_entry;
 use sp_format::one_layout;
 use sp_front::{accepted_texts_are_disjoint, one_answer, one_compilation};
+use sp_journal::one_journal_of_a_text;
 use sp_outside::{Gate, Library, Sink, Source};
 use sp_report::Watcher;
 use sp_sets::one_sets_text;
@@ -64,6 +67,19 @@ fn command_answer<R: Threads + Wait + Sync, L: Library, I: Source, G: Gate>(
             watchers,
         ),
         Command::Gen { size, workers } => generated_answer(rt, alloc, *size, *workers, gate),
+        Command::Replay {
+            file,
+            journal,
+            limits,
+        } => replay_answer(
+            rt,
+            alloc,
+            file.text(),
+            journal.text(),
+            limits,
+            library,
+            input,
+        ),
     }
 }
 
@@ -126,23 +142,30 @@ fn answer_and_write<R: Threads + Wait + Sync, L: Library, I: Source, O: Sink, N:
 /// | status | comes | notes |
 /// |---|---|---|
 /// | 0 | where the run ends done | `done`, the verdict and the reports; or the journal |
+/// | 0 | where `replay` has followed the journal to the end done, or to none | `replayed`, and `done` or `no end` |
 /// | 0 | where `check` finds no broken rule | `accepted` |
 /// | 0 | where `code`, `sets` or `format` has given its text | none |
 /// | 1 | where the text breaks a rule: for `sets` one of its characters, grammar, names and types, for `format` one of its characters and grammar, else any rule | `refused RULE LINE:COLUMN`, the first such rule |
 /// | 2 | where the words are refused | `bad words` |
 /// | 3 | where a fault ends the run | `fault F NAME`, the verdict and the reports; or the journal |
 /// | 4 | where the run ends in a deadlock | `deadlock`, a line for each process that waits, the verdict and the reports; or the journal |
-/// | 5 | where the library's count of faults under the name rose, or the source's | `read fault` |
+/// | 3, 4 | where `replay` has followed the journal to a fault, or to a deadlock | `replayed`, and the lines of that end |
+/// | 5 | where the library's count of faults under a name that was loaded rose, or the source's | `read fault` |
 /// | 6 | where the count of faults of a sink rose; it displaces the status that was due | a first part of the notes |
 /// | 7 | where the source gave more than 16,777,216 bytes | `input too long` |
 /// | 8 | where memory was refused | `out of memory` |
+/// | 9 | where the journal is longer than 67,108,864 bytes | `journal too long` |
+/// | 9 | where a line of the journal is no text of a next entry | `bad journal N`, the first such line, counted from 1 |
+/// | 9 | where the program cannot make an entry of the journal there | `journal unfit N`, the first such entry, counted from 0 |
 ///
 /// `gen` runs the program that it generates on no input, reads no file and no input, and writes the size, the output, the number of
 /// entries, the end and the verdict to `output`; its status is that of the run.
 ///
-/// The order of work is: the words; the load; the rules of the text and its code; the input, for `run` alone; the run; the
-/// verdict; the texts; writing `output`; writing `notes`. The first step that ends the call decides the status. Where the words,
-/// the load, the text, the input or memory end the call, nothing is written to `output`. After a failed write to `output` nothing
+/// `replay` runs the program of the text along a journal, on the calling thread, and gives no run back.
+///
+/// The order of work is: the words; the load; the rules of the text and its code; for `replay` the load of the journal and its text;
+/// the input, for `run` and `replay` alone; the run; the verdict; the texts; writing `output`; writing `notes`. The first step that
+/// ends the call decides the status. Where the words, a load, the text, the journal, the input or memory end the call, nothing is written to `output`. After a failed write to `output` nothing
 /// is written to `notes`. A text is compiled by a thread of `rt` with a large stack, so a chain of operators may be as long as the
 /// text; the workers are threads of `rt` too.
 pub fn superpascal<R: Threads + Wait + Sync, L: Library, I: Source, O: Sink, N: Sink, G: Gate>(
@@ -169,6 +192,8 @@ pub fn superpascal<R: Threads + Wait + Sync, L: Library, I: Source, O: Sink, N: 
     one_layout();
     one_listing();
     one_sets_text();
+    one_journal_of_a_text();
+    one_unfit_entry();
     accepted_texts_are_disjoint();
     answer_and_write(
         rt, alloc, words, library, input, output, notes, gate, watchers,

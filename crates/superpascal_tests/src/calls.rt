@@ -27,25 +27,31 @@ pub fn filled(alloc: Global, byte: u8, count: usize) -> Result<Vec<u8>, AllocErr
 }
 
 // A file of this name.
-fn file(alloc: Global, name: &str, text: &str) -> Result<(Text, Text), AllocError> {
+fn file(alloc: Global, name: &str, bytes: &[u8]) -> Result<(Text, Text), AllocError> {
     let name = Vec::from_slice(alloc, name.as_bytes())?;
-    let text = Vec::from_slice(alloc, text.as_bytes())?;
-    Ok((Text::of(name), Text::of(text)))
+    let bytes = Vec::from_slice(alloc, bytes)?;
+    Ok((Text::of(name), Text::of(bytes)))
 }
 
-// This text under two names.
-fn files(alloc: Global, text: &str) -> Result<List<(Text, Text)>, AllocError> {
+// This text under two names, and this journal.
+fn files(alloc: Global, text: &str, journal: &[u8]) -> Result<List<(Text, Text)>, AllocError> {
     let mut files = List::new(alloc);
     for name in ["a.sp", "-a"] {
-        files.push(file(alloc, name, text)?)?;
+        files.push(file(alloc, name, text.as_bytes())?)?;
     }
+    files.push(file(alloc, "j", journal)?)?;
     Ok(files)
 }
 
-// A library with this text under two names, of which these calls fail.
-fn library(alloc: Global, text: &str, failing: &[u32]) -> Result<MemoryLibrary, AllocError> {
+// A library with this text under two names and this journal, of which these calls fail.
+fn library(
+    alloc: Global,
+    text: &str,
+    journal: &[u8],
+    failing: &[u32],
+) -> Result<MemoryLibrary, AllocError> {
     let failing = List::from_slice(alloc, failing)?;
-    let files = files(alloc, text)?;
+    let files = files(alloc, text, journal)?;
     Ok(MemoryLibrary::new(files, failing))
 }
 
@@ -186,8 +192,23 @@ pub fn call<R: Threads + Wait + Sync, G: Gate>(
     gate: &G,
 ) -> Result<Given, AllocError> {
     let words = words_of(alloc, words)?;
-    let mut library = library(alloc, text, failing.library)?;
+    let mut library = library(alloc, text, b"", failing.library)?;
     call_on(rt, alloc, &words, &mut library, input, failing, gate)
+}
+
+/// The call on this text and this input that follows this journal, which is `j` in the library.
+pub fn call_along<R: Threads + Wait + Sync>(
+    rt: &R,
+    alloc: Global,
+    words: &[&str],
+    text: &str,
+    journal: &[u8],
+    input: &mut MemorySource,
+    failing: Failing,
+) -> Result<Given, AllocError> {
+    let words = words_of(alloc, words)?;
+    let mut library = library(alloc, text, journal, failing.library)?;
+    call_on(rt, alloc, &words, &mut library, input, failing, &OpenGate)
 }
 
 // Asserts what a call has written.

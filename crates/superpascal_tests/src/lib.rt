@@ -12,6 +12,8 @@ mod outside;
 #[cfg(test)]
 mod refusals;
 #[cfg(test)]
+mod replays;
+#[cfg(test)]
 mod runs;
 #[cfg(test)]
 mod texts;

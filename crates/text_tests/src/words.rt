@@ -5,7 +5,7 @@ use std::alloc::{AllocError, Global};
 use std::process::Abort;
 
 /// The words as a command line in one text: the command, its file or its size and, of `run` and `gen`, the workers;
-/// of `run` the limits in their order and the report too.
+/// of `run` the limits in their order and the report too, and of `replay` the journal and the limits.
 fn reading(alloc: Global, line: &[&str]) -> Result<String, AllocError> {
     let mut words = Vec::new(alloc);
     for word in line {
@@ -35,6 +35,14 @@ fn shown(alloc: Global, command: &Command) -> Result<String, AllocError> {
             format!(in alloc; "run {name} {workers} {counts} {show:?}")
         }
         Command::Gen { size, workers } => format!(in alloc; "gen {size} {workers}"),
+        Command::Replay {
+            file,
+            journal,
+            limits,
+        } => {
+            let counts = limited(alloc, limits)?;
+            format!(in alloc; "replay {} {} {counts}", file.text(), journal.text())
+        }
     }
 }
 
@@ -102,6 +110,66 @@ const SIZES: [Row; 15] = [
 fn sizes(rt: HostRuntime) -> Result<(), AllocError> {
     for (line, expected) in SIZES {
         check(&rt, rt.alloc(), line, expected)?;
+    }
+    Ok(())
+}
+
+const REPLAYS: [Row; 4] = [
+    (
+        &["replay", "a.sp", "a.journal"],
+        "replay a.sp a.journal 10000000 1000 4194304 100000 100000 1000000 16777216",
+    ),
+    (
+        &[
+            "replay",
+            "--ticks=7",
+            "a",
+            "--depth",
+            "10000",
+            "b",
+            "--output=1",
+        ],
+        "replay a b 7 10000 4194304 100000 100000 1000000 1",
+    ),
+    (
+        &[
+            "replay",
+            "--cells=2",
+            "--processes=3",
+            "--channels=4",
+            "--entries=5",
+            "--",
+            "-a",
+            "--b",
+        ],
+        "replay -a --b 10000000 1000 2 3 4 5 16777216",
+    ),
+    (
+        &["replay", "a", "--", "a"],
+        "replay a a 10000000 1000 4194304 100000 100000 1000000 16777216",
+    ),
+];
+
+#[test]
+fn replays(rt: HostRuntime) -> Result<(), AllocError> {
+    for (line, expected) in REPLAYS {
+        check(&rt, rt.alloc(), line, expected)?;
+    }
+    Ok(())
+}
+
+const REPLAYS_REFUSED: [&[&str]; 5] = [
+    &["replay", "a"],
+    &["replay", "a", "b", "c"],
+    &["replay", "a", "b", "--workers", "2"],
+    &["replay", "a", "b", "--show=end"],
+    &["replay", "a", "b", "--ticks", "0"],
+];
+
+#[test]
+fn replays_refused(rt: HostRuntime) -> Result<(), AllocError> {
+    for line in REPLAYS_REFUSED {
+        check(&rt, rt.alloc(), line, "bad words")?;
     }
     Ok(())
 }

@@ -1,6 +1,7 @@
 use Rattle.std.proofs.Common.{refl, subst}
 use Rattle.sp_words.specs.Ranges.{AreInRange}
 use Rattle.superpascal.proofs.Parts.{command_by, command_of_generated, command_of_text, run_by}
+use Rattle.superpascal.proofs.Replaying.{follow_by}
 use Rattle.superpascal.proofs.top.command_answer.Goals as goal
 
 pub run_answer-requires-clause-range : goal.run_answer-requires-clause-range
@@ -20,3 +21,9 @@ returns-in-Gen g c = command_by _ _ _ c.args.command.now _ c.generated_answer.re
 
 pub returns-in-Check : goal.returns-in-Check
 returns-in-Check g c = command_of_text _ _ _ c.args.command.now c.text_answer.result (refl, refl) c.text_answer.ensures
+
+pub replay_answer-requires : goal.replay_answer-requires
+replay_answer-requires g c = record { range = subst AreInRange c.in-Replay.is (c.accepted_options_are_in_range.ensures.accepted c.requires.asked.0 c.args.command.now c.requires.asked.1) }
+
+pub returns-in-Replay : goal.returns-in-Replay
+returns-in-Replay g c = command_by _ _ _ c.args.command.now _ c.replay_answer.result (follow_by _ _ _ c.text-in-Replay.result.now c.text-in-Replay-2.result.now _ c.in-Replay.is c.text-in-Replay.ensures c.text-in-Replay-2.ensures) (c.replay_answer.ensures _)

@@ -1,0 +1,7 @@
+pub mod Away
+pub mod Living
+pub mod Giving
+pub mod Coming
+pub mod Entries
+pub mod Ending
+pub mod Holding

@@ -1,0 +1,10 @@
+use Rattle.sp_replay.proofs.followed.turned.Goals as goal
+
+pub turn-requires-clause-ranked : goal.turn-requires-clause-ranked
+turn-requires-clause-ranked c = c.requires.sound.ranked
+
+pub turn-requires-clause-blocks : goal.turn-requires-clause-blocks
+turn-requires-clause-blocks c = c.requires.sound.blocks
+
+pub returns-in_default : goal.returns-in_default
+returns-in_default c = record { turn = c.turn.ensures.turn; same = c.turn.ensures.same; whole = c.in_default.not-Memory }

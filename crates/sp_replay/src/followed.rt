@@ -1,0 +1,192 @@
+//! A run that follows a journal, entry by entry.
+
+ghost use Rattle.std.specs.Prelude.{◌≡◌, ◌≢◌, ◌++◌, ◌∷◌, ℕ, [], Err, MatchBool, IfOk, IfErr, OnOk};
+ghost use Rattle.sp_code.specs.Sound.{IsSound};
+ghost use Rattle.sp_history.specs.Holding.{IsOutputOf};
+ghost use Rattle.sp_kernel.specs.Asks.{IsOpening};
+ghost use Rattle.sp_kernel.specs.Kernels.{setting_of, system_of};
+ghost use Rattle.sp_machine.specs.Procs.{HaveFormals, CanTurn};
+ghost use Rattle.sp_replay.specs.Held.{held_at};
+ghost use Rattle.sp_replay.specs.Following.{Follows, Stands, SameRun, RunsOn, WasTurned, IsInHand, Exchanged, Made, CannotCome, with_taken};
+ghost use Rattle.sp_replay.specs.Replays.{Replays, LeadsTo};
+
+use crate::held::{hold, output, pick};
+use crate::replayer::{ReplayError, Replayed};
+use sp_base::{Limits, List, Memory, Text};
+use sp_code::Code;
+use sp_journal::{Entry, Event};
+use sp_kernel::{Handed, Kernel};
+use sp_machine::{Proc, Stop};
+use std::alloc::Global;
+
+/// The kernel of the run, and by its number each process that can run.
+#[derive(Drop)]
+pub(crate) struct Followed {
+    pub(crate) kernel: Kernel,
+    pub(crate) held: List<Option<Proc>>,
+}
+
+// One turn of a process.
+fn turned(proc: Proc, code: &Code, limits: &Limits) -> Result<Handed, Memory>
+    requires sound { IsSound code.now }
+    requires formals { HaveFormals code.now.layouts }
+    requires safe { CanTurn proc code.now limits.now }
+    ensures { IfOk result (λ h. WasTurned proc code.now limits.now h) }
+{
+    let mut proc = proc;
+    match proc.turn(code, limits) {
+        Stop::Memory => Err(Memory),
+        stop => Ok(Handed { proc, stop }),
+    }
+}
+
+// Whether two events are one.
+fn is_same(event: Event, other: Event) -> bool
+    ensures { MatchBool result (event ≡ other) (event ≢ other) }
+{
+    event == other
+}
+
+impl Followed {
+    /// The run at its start, where the first process is held.
+    pub(crate) fn start(alloc: Global, kernel: Kernel) -> Result<Followed, Memory>
+        requires { IsOpening kernel }
+        ensures { IfOk result (λ f. Stands f × SameRun kernel f.kernel) }
+    {
+        let mut followed = Followed {
+            kernel,
+            held: List::new(alloc),
+        };
+        followed.take_ready()?;
+        Ok(followed)
+    }
+
+    // Takes and holds all that are ready.
+    fn take_ready(&mut self) -> Result<(), Memory>
+        requires { Follows self.old.kernel (held_at self.old.held) }
+        ensures { OnOk result (Stands self.new × SameRun self.old.kernel self.new.kernel) }
+    {
+        while let Some(proc) = self.kernel.take(0) {
+            hold(&mut self.held, proc.number(), proc)?;
+        }
+        Ok(())
+    }
+
+    // Hands a process in after its turn, for its event, and takes the one that is ready for longest then.
+    fn exchange(
+        &mut self,
+        code: &Code,
+        limits: &Limits,
+        handed: Handed,
+    ) -> Result<Option<Proc>, Memory>
+        requires run { RunsOn self.old.kernel code.now limits.now }
+        requires hand { IsInHand self.old code.now limits.now handed }
+        ensures held { self.new.held ≡ self.old.held }
+        ensures exchanged { IfOk result (λ r. Exchanged self.old.kernel handed.proc.number self.old.held r self.new.kernel) }
+    {
+        let Ok(()) = self.kernel.give(0, handed) else {
+            return Err(Memory);
+        };
+        Ok(self.kernel.take(0))
+    }
+
+    // Holds the process that was taken, if any.
+    fn keep(&mut self, taken: Option<Proc>) -> Result<(), Memory>
+        ensures kernel { self.new.kernel ≡ self.old.kernel }
+        ensures held { OnOk result ((q : ℕ) → held_at self.new.held q ≡ with_taken taken (held_at self.old.held) q) }
+    {
+        match taken {
+            Some(proc) => hold(&mut self.held, proc.number(), proc),
+            None => Ok(()),
+        }
+    }
+
+    // Hands a process in after its turn, for its event, and holds all that are ready then.
+    fn hand_in(&mut self, code: &Code, limits: &Limits, handed: Handed) -> Result<(), Memory>
+        requires run { RunsOn self.old.kernel code.now limits.now }
+        requires hand { IsInHand self.old code.now limits.now handed }
+        ensures { OnOk result (Stands self.new × ((e : _) × Made self.old.kernel handed.proc.number e self.new.kernel)) }
+    {
+        let taken = self.exchange(code, limits, handed)?;
+        self.keep(taken)?;
+        self.take_ready()
+    }
+
+    // The event of the last entry.
+    fn newest(&self) -> Event
+        requires { (es : _) × (e : _) × (self.now.kernel.journal.entries ≡ es ++ e ∷ []) }
+        ensures { (es : _) (e : _) → self.now.kernel.journal.entries ≡ es ++ e ∷ [] → result ≡ e.event }
+    {
+        let entries = self.kernel.journal().entries.items();
+        entries[entries.len() - 1].event
+    }
+
+    // The next turn of the entry's process. The answer says whether its event is the entry's.
+    fn follow(&mut self, code: &Code, limits: &Limits, entry: Entry) -> Result<bool, Memory>
+        requires sound { IsSound code.now }
+        requires formals { HaveFormals code.now.layouts }
+        requires run { RunsOn self.old.kernel code.now limits.now }
+        requires stands { Stands self.old }
+        ensures { IfOk result (λ fits. MatchBool fits (Stands self.new × Made self.old.kernel entry.process entry.event self.new.kernel)
+            (CannotCome self.old.kernel entry)) }
+    {
+        let Some(proc) = pick(&mut self.held, entry.process) else {
+            return Ok(false);
+        };
+        let handed = turned(proc, code, limits)?;
+        self.hand_in(code, limits, handed)?;
+        Ok(is_same(self.newest(), entry.event))
+    }
+
+    /// Follows all entries from the start on, up to the first that can't come next.
+    pub(crate) fn follow_all(
+        &mut self,
+        code: &Code,
+        limits: &Limits,
+        entries: &[Entry],
+    ) -> Result<(), ReplayError>
+        requires sound { IsSound code.now }
+        requires formals { HaveFormals code.now.layouts }
+        requires run { RunsOn self.old.kernel code.now limits.now }
+        requires stands { Stands self.old }
+        requires start { self.old.kernel.journal.entries ≡ [] }
+        ensures stands { OnOk result (Stands self.new) }
+        ensures setting { OnOk result (setting_of self.new.kernel ≡ setting_of self.old.kernel) }
+        ensures entries { OnOk result (self.new.kernel.journal.entries ≡ entries.now) }
+        ensures err { IfErr result (λ e. Replays (setting_of self.old.kernel) entries.now (Err e)) }
+    {
+        for (index, entry) in entries.iter().enumerate() {
+            if !self.follow(code, limits, *entry)? {
+                return Err(ReplayError::Unfit(index as u64));
+            }
+        }
+        Ok(())
+    }
+
+    // What was written so far.
+    fn output(&self) -> &[u8]
+        requires { Stands self.now }
+        ensures { (q : ℕ) × IsOutputOf (system_of self.now.kernel) q result.now }
+    {
+        match self.kernel.output() {
+            Some(bytes) => bytes,
+            None => match output(self.held.items()) {
+                Some(bytes) => bytes,
+                None => unreachable!(),
+            },
+        }
+    }
+
+    /// The end and the output after the entries that were followed.
+    pub(crate) fn finish(&self, alloc: Global) -> Result<Replayed, Memory>
+        requires { Stands self.now }
+        ensures { IfOk result (λ r. LeadsTo (setting_of self.now.kernel) self.now.kernel.journal.entries r) }
+    {
+        let end = self.kernel.end()?;
+        let output = Vec::from_slice(alloc, self.output())?;
+        Ok(Replayed {
+            end,
+            output: Text::of(output),
+        })
+    }
+}

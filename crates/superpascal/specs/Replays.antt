@@ -1,0 +1,65 @@
+-- The program of a text along a journal, and what is told of it. The contracts of `replays` and `notes` promise it; the
+-- clauses on `replay` and the written texts are said by it.
+use Rattle.std.specs.Prelude.{ℕ, ◌≤◌, List, ◌++◌, Option, Some, None, codes, length}
+use Rattle.sp_base.specs.declared.limits.Limits.{Limits}
+use Rattle.sp_code.specs.declared.code.Parts.{Parts}
+use Rattle.sp_execute.specs.Follows.{IsFollowed, IsUnfitAt}
+use Rattle.sp_execute.specs.Runs.{setting}
+use Rattle.sp_journal.specs.declared.entry.Journal.{Journal}
+use Rattle.sp_journal.specs.declared.outcome.End.{End}
+use Rattle.sp_journal.specs.declared.version.Version.{Version}
+use Rattle.sp_journal.specs.Texts.{IsTextOf}
+use Rattle.sp_print.specs.Lines.{end_text}
+use Rattle.sp_replay.specs.declared.replayer.Replayed.{Replayed}
+use Rattle.sp_tree.specs.Bare.{bare}
+use Rattle.sp_tree.specs.PlainChecked as c
+use Rattle.superpascal.specs.declared.ending.Ending.{Ending}
+use Rattle.superpascal.specs.declared.ending.Ending.TheVariants as e
+use Rattle.superpascal.specs.declared.ending.Answer.{Answer}
+use Rattle.superpascal.specs.Answers.{line_of}
+use Rattle.superpascal.specs.Runs.{HasCode, ending_of}
+
+-- this is the journal of these bytes, which are no more than are loaded
+pub record IsJournalOf (bytes : List ℕ) (j : Journal) : Type 0 where
+  pub version : Version
+  pub text : IsTextOf version j bytes
+  pub short : length bytes ≤ 67108864
+
+-- the program of the text on the input with the limits was followed along the journal, with this end and this output
+pub record IsReplayOf (text input : List ℕ) (limits : Limits) (j : Journal) (r : Replayed) : Type 0 where
+  pub tree : c.Program
+  pub code : Parts
+  pub has : HasCode text tree code
+  pub meant : IsFollowed (setting (bare tree) input limits) j r
+
+-- it can be followed along the first n entries, and not with the next one
+pub record IsUnfitFor (text input : List ℕ) (limits : Limits) (j : Journal) (n : ℕ) : Type 0 where
+  pub tree : c.Program
+  pub code : Parts
+  pub has : HasCode text tree code
+  pub unfit : IsUnfitAt (setting (bare tree) input limits) j.entries n
+
+-- what a replay comes to is told by this ending of the call
+abbrev pub ending_of_replay : Option End → Ending
+ending_of_replay None = e.NoEnd
+ending_of_replay (Some x) = ending_of x
+
+-- ---- texts
+
+-- the lines of the end, or that there is none
+abbrev pub lines_of_replay : Option End → List ℕ
+lines_of_replay None = codes "no end\n"
+lines_of_replay (Some x) = end_text x
+
+abbrev pub replay_notes : Replayed → List ℕ
+replay_notes r = codes "replayed\n" ++ lines_of_replay r.end
+
+-- ---- answers
+
+-- the answer of `replay` where the journal was followed
+abbrev pub replay_answer : Replayed → Answer
+replay_answer r = record { ending = ending_of_replay r.end; ran = None; output = Some r.output; notes = replay_notes r }
+
+-- the answer that names a number of the journal
+abbrev pub numbered : Ending → Answer
+numbered ending = record { ending = ending; ran = None; output = None; notes = line_of ending }
