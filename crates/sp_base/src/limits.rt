@@ -1,10 +1,19 @@
 //! The range of integers, and how far a run may go.
 
+ghost use Rattle.std.specs.Prelude.{◌≡◌, pos};
+ghost use Rattle.sp_base.specs.declared.limits.TheConstants.{MAXINT, TURN_TICKS};
+
 /// The greatest integer of the language. The least one is `-MAXINT`.
 pub const MAXINT: i64 = 9223372036854775807;
 
 /// How many ticks a process may make since its last entry in the journal before it has to pause.
 pub const TURN_TICKS: u64 = 100_000;
+
+/// The two numbers that the definitions name and do not write.
+pub fn the_numbers_are_these()
+    ensures maxint { MAXINT ≡ pos 9223372036854775807 }
+    ensures ticks { TURN_TICKS ≡ 100000 }
+{}
 
 /// The seven limits of a run. Ticks, depth and cells count for each process by itself. Processes, channels and
 /// entries are totals of the run that never fall, since what is alive at once would depend on the schedule.
