@@ -37,7 +37,9 @@ fn list(rt: &impl Threads, alloc: Global, text: &[u8]) -> Result<Answer, Halt>
     ensures { (file : List ℕ) → IsMade (Code file) text.now result }
 {
     let compiled = compiled_apart(rt, alloc, text)?;
-    let lines = listing(alloc, compiled.code())?;
+    let lines = listing(alloc, compiled.code());
+    drop(compiled);
+    let lines = lines?;
     Ok(accepted(lines, Vec::new(alloc)))
 }
 
@@ -47,7 +49,10 @@ fn tell_sets(rt: &impl Threads, alloc: Global, text: &[u8]) -> Result<Answer, Ha
 {
     let found = analyse_apart(rt, alloc, text)?;
     let (checked, sets) = found;
-    let lines = print_sets(alloc, &checked, &sets)?;
+    let lines = print_sets(alloc, &checked, &sets);
+    drop(checked);
+    drop(sets);
+    let lines = lines?;
     Ok(accepted(lines, Vec::new(alloc)))
 }
 
