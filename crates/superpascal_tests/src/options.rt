@@ -127,7 +127,7 @@ fn what_waits_in_a_deadlock(rt: HostRuntime) -> Result<(), Fail> {
 }
 
 // Texts, outputs and journals of runs that are done.
-const JOURNALS: [(&str, &str, &str); 5] = [
+const JOURNALS: [(&str, &str, &str); 7] = [
     (ANSWER, "42", "superpascal journal 2\n0 end\n"),
     (
         "program r; type ch = *(integer); var c: ch; x, y: integer; begin open(c); parallel begin receive(c, x); receive(c, y) end | send(c, 1) | send(c, 2) end; write(x, y) end.",
@@ -148,6 +148,16 @@ const JOURNALS: [(&str, &str, &str); 5] = [
         "program t; var i: integer; begin for i := 1 to 250000 do begin end; write(i) end.",
         "250000",
         "superpascal journal 2\n0 pause\n0 pause\n0 end\n",
+    ),
+    (
+        "program t; var i: integer; begin for i := 1 to 100000 do begin end; write(i) end.",
+        "100000",
+        "superpascal journal 2\n0 pause\n0 end\n",
+    ),
+    (
+        "program t; var i: integer; begin for i := 1 to 99999 do begin end; write(i) end.",
+        "99999",
+        "superpascal journal 2\n0 end\n",
     ),
 ];
 

@@ -2,7 +2,7 @@
 
 use crate::calls::{Failing, Given, NONE, call, call_along, expect_given, filled, source};
 use sp_outside::{MemorySource, OpenGate};
-use std::alloc::Global;
+use std::alloc::{AllocError, Global};
 use std::process::Abort;
 use std::sync::Wait;
 use std::test::Fail;
@@ -24,7 +24,7 @@ const STUCK: &str =
 
 const ECHO: &str = "program e; var x: integer; begin read(x); write(x) end.";
 
-// A journal, and the status, the output and the notes of the call that follows it.
+// A journal or its lines, and the status, the output and the notes of the call that follows it.
 #[derive(Clone, Copy)]
 struct Row<'a> {
     journal: &'a str,
@@ -45,15 +45,23 @@ fn follow<R: Threads + Wait + Sync>(
     Ok(call_along(rt, alloc, &REPLAY, text, journal, &mut input, failing)?)
 }
 
-// Asserts what following each of these journals gives.
-fn expect_rows<R: Threads + Wait + Sync + Abort>(
+fn journal_of(alloc: Global, head: &str, lines: &str) -> Result<Vec<u8>, AllocError> {
+    let mut journal = Vec::from_slice(alloc, head.as_bytes())?;
+    journal.extend_from_slice(lines.as_bytes())?;
+    Ok(journal)
+}
+
+// Asserts what following each of these journals gives, with this first line.
+fn expect_under<R: Threads + Wait + Sync + Abort>(
     rt: &R,
     alloc: Global,
     text: &str,
+    head: &str,
     rows: &[Row],
 ) -> Result<(), Fail> {
     for row in rows {
-        let given = follow(rt, alloc, text, row.journal.as_bytes(), NONE)?;
+        let journal = journal_of(alloc, head, row.journal)?;
+        let given = follow(rt, alloc, text, &journal, NONE)?;
         expect_given(
             rt,
             &given,
@@ -67,33 +75,54 @@ fn expect_rows<R: Threads + Wait + Sync + Abort>(
     Ok(())
 }
 
+// Asserts what following each of these texts gives.
+fn expect_rows<R: Threads + Wait + Sync + Abort>(
+    rt: &R,
+    alloc: Global,
+    text: &str,
+    rows: &[Row],
+) -> Result<(), Fail> {
+    expect_under(rt, alloc, text, "", rows)
+}
+
+// Asserts what following journals with these lines gives, in both versions.
+fn expect_lines<R: Threads + Wait + Sync + Abort>(
+    rt: &R,
+    alloc: Global,
+    text: &str,
+    rows: &[Row],
+) -> Result<(), Fail> {
+    expect_under(rt, alloc, text, "superpascal journal 1\n", rows)?;
+    expect_under(rt, alloc, text, "superpascal journal 2\n", rows)
+}
+
 const RACES: [Row; 5] = [
     Row {
-        journal: "superpascal journal 2\n0 open\n0 fork 3\n0/0.0 receive 0#0\n0/0.1 send 0#0\n0/0.2 send 0#0\n0/0.0 receive 0#0\n0/0.1 end\n0/0.2 end\n0/0.0 end\n0 end\n",
+        journal: "0 open\n0 fork 3\n0/0.0 receive 0#0\n0/0.1 send 0#0\n0/0.2 send 0#0\n0/0.0 receive 0#0\n0/0.1 end\n0/0.2 end\n0/0.0 end\n0 end\n",
         status: 0,
         output: "12",
         notes: "replayed\ndone\n",
     },
     Row {
-        journal: "superpascal journal 1\n0 open\n0 fork 3\n0/0.0 receive 0#0\n0/0.2 send 0#0\n0/0.1 send 0#0\n0/0.0 receive 0#0\n0/0.1 end\n0/0.2 end\n0/0.0 end\n0 end\n",
+        journal: "0 open\n0 fork 3\n0/0.0 receive 0#0\n0/0.2 send 0#0\n0/0.1 send 0#0\n0/0.0 receive 0#0\n0/0.1 end\n0/0.2 end\n0/0.0 end\n0 end\n",
         status: 0,
         output: "21",
         notes: "replayed\ndone\n",
     },
     Row {
-        journal: "superpascal journal 2\n0 open\n0 fork 3\n0/0.0 receive 0#0\n0/0.1 send 0#0\n",
+        journal: "0 open\n0 fork 3\n0/0.0 receive 0#0\n0/0.1 send 0#0\n",
         status: 0,
         output: "",
         notes: "replayed\nno end\n",
     },
     Row {
-        journal: "superpascal journal 1\n0 open\n0 fork 3\n0/0.1 send 0#0\n0/0.2 send 0#0\n0/0.0 receive 0#0\n0/0.1 end\n0/0.2 end\n0/0.0 end\n0 end\n",
+        journal: "0 open\n0 fork 3\n0/0.1 send 0#0\n0/0.2 send 0#0\n0/0.0 receive 0#0\n0/0.1 end\n0/0.2 end\n0/0.0 end\n0 end\n",
         status: 9,
         output: "",
         notes: "journal unfit 3\n",
     },
     Row {
-        journal: "superpascal journal 2\n0 open\n0 fork 3\n0/0.1 send 0#0\n0/0.2 fault F6\n",
+        journal: "0 open\n0 fork 3\n0/0.1 send 0#0\n0/0.2 fault F6\n",
         status: 3,
         output: "",
         notes: "replayed\nfault F6 0/0.2\n",
@@ -102,25 +131,25 @@ const RACES: [Row; 5] = [
 
 #[test]
 fn journals_of_a_race(rt: HostRuntime) -> Result<(), Fail> {
-    expect_rows(&rt, rt.alloc(), RACE, &RACES)
+    expect_lines(&rt, rt.alloc(), RACE, &RACES)
 }
 
 // After a fault only `laid` comes, of a process that runs.
 const CLASHES: [Row; 3] = [
     Row {
-        journal: "superpascal journal 1\n0 open\n0 fork 3\n0/0.0 send 0#0\n0/0.1 fault F6\n0/0.2 laid\n",
+        journal: "0 open\n0 fork 3\n0/0.0 send 0#0\n0/0.1 fault F6\n0/0.2 laid\n",
         status: 3,
         output: "",
         notes: "replayed\nfault F6 0/0.1\n",
     },
     Row {
-        journal: "superpascal journal 2\n0 open\n0 fork 3\n0/0.0 send 0#0\n0/0.1 fault F6\n0/0.0 laid\n",
+        journal: "0 open\n0 fork 3\n0/0.0 send 0#0\n0/0.1 fault F6\n0/0.0 laid\n",
         status: 9,
         output: "",
         notes: "journal unfit 4\n",
     },
     Row {
-        journal: "superpascal journal 2\n0 open\n0 fork 3\n0/0.0 laid\n",
+        journal: "0 open\n0 fork 3\n0/0.0 laid\n",
         status: 9,
         output: "",
         notes: "journal unfit 2\n",
@@ -129,39 +158,41 @@ const CLASHES: [Row; 3] = [
 
 #[test]
 fn journals_of_a_clash(rt: HostRuntime) -> Result<(), Fail> {
-    expect_rows(&rt, rt.alloc(), CLASH, &CLASHES)
+    expect_lines(&rt, rt.alloc(), CLASH, &CLASHES)
 }
 
-const ENDLESS: [Row; 4] = [
+const ENDLESS: [Row; 3] = [
     Row {
-        journal: "superpascal journal 2\n",
+        journal: "",
         status: 0,
         output: "",
         notes: "replayed\nno end\n",
     },
     Row {
-        journal: "superpascal journal 2\n0 open\n0 receive 0#0\n",
+        journal: "0 open\n0 receive 0#0\n",
         status: 4,
         output: "",
         notes: "replayed\ndeadlock\nwaits 0 receive 0#0\n",
     },
     Row {
-        journal: "superpascal journal 2\n0 open\n0 receive 0#0\n0 end\n",
+        journal: "0 open\n0 receive 0#0\n0 end\n",
         status: 9,
         output: "",
         notes: "journal unfit 2\n",
     },
-    Row {
-        journal: "superpascal journal 2\n0 pause\n",
-        status: 9,
-        output: "",
-        notes: "journal unfit 0\n",
-    },
 ];
+
+const PAUSED: [Row; 1] = [Row {
+    journal: "superpascal journal 2\n0 pause\n",
+    status: 9,
+    output: "",
+    notes: "journal unfit 0\n",
+}];
 
 #[test]
 fn journals_of_a_deadlock(rt: HostRuntime) -> Result<(), Fail> {
-    expect_rows(&rt, rt.alloc(), STUCK, &ENDLESS)
+    expect_lines(&rt, rt.alloc(), STUCK, &ENDLESS)?;
+    expect_rows(&rt, rt.alloc(), STUCK, &PAUSED)
 }
 
 const BAD: [Row; 5] = [

@@ -157,6 +157,28 @@ fn a_file_of_the_system(rt: HostRuntime) -> Result<(), Fail> {
     Ok(())
 }
 
+// A file that a sink over a stream has written.
+fn written(rt: &HostRuntime, name: &str) -> io::Result<()> {
+    let mut sink = StreamSink::new(fs::create(rt, name)?);
+    put_all(&mut sink, b"42").map_err(|_| io::Error::from(ErrorKind::Other))
+}
+
+// All bytes of a file, by a source over a stream.
+fn read_back(rt: &HostRuntime, name: &str) -> io::Result<Text> {
+    let mut source = StreamSource::new(fs::open(rt, name)?);
+    read_all(rt.alloc(), &mut source, 3).map_err(|_| io::Error::from(ErrorKind::Other))
+}
+
+#[test]
+fn streams_of_a_file_of_the_system(rt: HostRuntime) -> Result<(), Fail> {
+    let name = "sp_outside_stream.txt";
+    written(&rt, name)?;
+    let all = read_back(&rt, name)?;
+    assert_eq!(rt; all.bytes(), b"42".as_slice());
+    fs::remove_file(&rt, name)?;
+    Ok(())
+}
+
 #[test]
 fn a_stream_of_bytes(rt: HostRuntime) -> Result<(), Fail> {
     let mut source = StreamSource::new(b"abc".as_slice());
