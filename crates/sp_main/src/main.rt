@@ -5,8 +5,9 @@ ghost use Rattle.std.specs.Prelude.{◌≡◌, map};
 ghost use Rattle.std.specs.String.{string_bytes};
 ghost use Rattle.sp_report.specs.Telling.{AreFresh, reports};
 ghost use Rattle.superpascal.specs.declared.outcome.Outcome.{Outcome};
-ghost use Rattle.superpascal.specs.Calls.{IsAnswered, call, sink};
+ghost use Rattle.superpascal.specs.Calls.{call, sink};
 ghost use Rattle.superpascal.specs.Causes.{files, stream};
+ghost use Rattle.superpascal.specs.Promise.{Promise};
 
 use sp_outside::{FileLibrary, Library, OpenGate, Sink, Source, StreamSink, StreamSource, put_all};
 use sp_report::{Census, ProcessTree, Timeline, Waiting, Watcher, in_order};
@@ -78,7 +79,7 @@ fn called<R: Threads + Wait + Sync, L: Library, I: Source, O: Sink, N: Sink>(
     watchers: Vec<Box<dyn Watcher>>,
 ) -> u8
     requires fresh { AreFresh told watchers.items }
-    ensures { (outcome : Outcome) × (outcome.status ≡ result) × IsAnswered (call (map string_bytes words.now)
+    ensures { (outcome : Outcome) × (outcome.status ≡ result) × Promise (call (map string_bytes words.now)
         (files (L.held library.old) (L.faults library.old) (L.faults library.new))
         (stream (I.left input.old) (I.left input.new) (I.faults input.old) (I.faults input.new))
         (reports text title watchers.items)
