@@ -1,6 +1,6 @@
--- A number falls with each instruction of ranked code.
+-- A number falls with each instruction whose ways make the rank fall.
 use Rattle.std.proofs.Common.{◌≡◌, ℕ, zero, suc, ◌+◌, ◌*◌, ◌<◌, ◌≤◌, ◌==◌, ℤ, List, [], ◌∷◌, length, Option, Some, None, Bool, true, false, if◌then◌else◌, ◌&&◌, refl, subst, arith}
-use Rattle.std.specs.Prelude.{slice_get, nat_lt, nat_abs, int_le, int_lt, pos, ◌-ℤ◌, take, not}
+use Rattle.std.specs.Prelude.{slice_get, nat_lt, nat_le, nat_abs, int_le, int_lt, pos, ◌-ℤ◌, take, not}
 use Rattle.std.proofs.Math.Nat.{mul-le-mul_left}
 use Rattle.std.specs.Fmt.{signed_decimal}
 use Rattle.sp_tree.specs.declared.operators.BinaryOp.{BinaryOp}
@@ -18,7 +18,7 @@ use Rattle.sp_code.specs.declared.code.Parts.{Parts}
 use Rattle.sp_tree.specs.Items.{byte}
 use Rattle.sp_code.specs.Machine.{Entry, Number, Chan, Pointer, Cells, Link, Reply, further, Did, Done, Failed, Ops, Config, At, One, Goes, Stops, Fails, Stuck, outside, is_range, is_before, next_value, values_in, fit_formals, layout_of, on_number, on_channel, on_address, on_cell, on_cells, on_equals, pop, when, there, then_go, worked, ordinal_in, channel_in, on_one, on_two, told, selected, paced, entered, called, returned, taken, reads, prints, wide, writes, writes_wide, begins_loop, ends_loop, forked, instruction, one}
 use Rattle.sp_code.specs.Turns.{ran_by, ran, started, turn_within, begins}
-use Rattle.sp_code.specs.Ranks.{ways, larger, most, rank, AllBelow, IsRanked}
+use Rattle.sp_code.specs.Ranks.{ways, larger, most, rank, AllBelow, IsRanked, RanksFall, IsRankedAlong}
 use Rattle.sp_code.specs.Budgets.{HasBudget, back, left_by, IsOver}
 
 larger_max : (a b n : ℕ) → a ≤ n → b ≤ n → larger a b ≤ n
@@ -182,7 +182,7 @@ module _ {M : Type 0} (ops : Ops M) (code : Parts) (budget : M → ℕ) (law : H
     told_down t st1 lt e = on_to (pc + 1) (Number (if t then pos 1 else pos 0) ∷ st1) n lt e same_budget
 
     selected_down : (a : Address) (st1 : List Entry) → r (pc + 1) < r pc → back r st1 ≤ back r st → D (selected ops code a (pc + 1) st1 n)
-    selected_down a st1 lt e = falls_when left _ r (ops.has a 1 n) _ (on_to (pc + 1) (Pointer a ∷ st1) n lt e same_budget)
+    selected_down a st1 lt e = falls_when left _ r (nat_le a.offset 4294967295) _ (on_to (pc + 1) (Pointer a ∷ st1) n lt e same_budget)
 
     -- a pause or a step on
     paced_down : (next : ℕ) (st1 : List Entry) (m : M) → left (At next st1 m) < left (At pc st n) → D (paced ops code next st1 m)
@@ -299,7 +299,7 @@ module _ {M : Type 0} (ops : Ops M) (code : Parts) (budget : M → ℕ) (law : H
   instruction_down (Some (i.Pack k)) pc st n p h = falls_address left _ r st _ (λ a st1 e. falls_when left _ r (ops.has a k n) _ (on_to pc st n (pc + 1) (Cells (ops.cells a k n) ∷ st1) n h.0 e (same_budget pc st n)))
   instruction_down (Some i.Open) pc st n p h = falls_address left _ r st _ (λ a st1 e. falls_when left _ r (ops.has a 1 n) _ tt)
   instruction_down (Some (i.Send k)) pc st n p h = falls_cells left _ r st _ (λ cs st1 e. falls_channel left _ r st1 _ (λ c st2 j. tt))
-  instruction_down (Some (i.Receive k)) pc st n p h = falls_address left _ r st _ (λ a st1 e. falls_channel left _ r st1 _ (λ c st2 j. falls_when left _ r (ops.has a 1 n) _ tt))
+  instruction_down (Some (i.Receive k)) pc st n p h = falls_address left _ r st _ (λ a st1 e. falls_channel left _ r st1 _ (λ c st2 j. falls_when left _ r (ops.has a 0 n) _ tt))
   instruction_down (Some (i.Fork t)) pc st n p h = falls_there left _ r (slice_get code.forks t) _ (λ table. forked_down pc st n t (pos 0) (length table.children) (pc + 1) st)
   instruction_down (Some (i.Forall t)) pc st n p h = falls_number left _ r st _ (λ last st1 e. falls_number left _ r st1 _ (λ first st2 k. falls_if left _ r (int_lt last first) _ _ (on_to pc st n (pc + 1) st2 n h.0 (omega arith) (same_budget pc st n)) (forked_down pc st n t first (values_in first last) (pc + 1) st2)))
   instruction_down (Some i.End) pc st n p h = tt
@@ -308,28 +308,31 @@ module _ {M : Type 0} (ops : Ops M) (code : Parts) (budget : M → ℕ) (law : H
   unfolding rank
   rank_above p = omega arith
 
-  module _ (ranked : IsRanked code.instrs) where
-    one_down_of : (c : Config M) → Falls left (left c) (one ops code c)
-    unfolding IsRanked
-    one_down_of (At pc st n) = instruction_down (slice_get code.instrs pc) pc st n (rank_above pc) (ranked pc)
+  one_down_of : (c : Config M) → RanksFall code c → Falls left (left c) (one ops code c)
+  one_down_of (At pc st n) ranked = instruction_down (slice_get code.instrs pc) pc st n (rank_above pc) ranked
 
-    pub falls : (c d : Config M) → one ops code c ≡ Goes d → left d < left c
-    falls c d e = subst (Falls left (left c)) e (one_down_of c)
+  pub falls : (c d : Config M) → RanksFall code c → one ops code c ≡ Goes d → left d < left c
+  falls c d ranked e = subst (Falls left (left c)) e (one_down_of c ranked)
 
-    -- so a run of more instructions than the number comes to an end
-    pub ran_over : (n : ℕ) (c : Config M) → left c < n → IsOver (ran ops code n c)
-    ran_over zero c h = absurd (omega arith)
-    ran_over (suc n) c h = go (λ d lt. ran_over n d lt) (one ops code c) refl
-      where
-        go : ((d : Config M) → left d < n → IsOver (ran ops code n d)) → (o : One M) → one ops code c ≡ o → IsOver (ran_by ops code (ran ops code n) c o)
-        go on (Goes d) e = on d (omega (arith, falls c d e))
-        go on (Stops s d) e = tt
-        go on (Fails f) e = tt
-        go on Stuck e = tt
+  -- so a run of more instructions than the number comes to an end
+  pub ran_over : (n : ℕ) (c : Config M) → IsRankedAlong ops code c → left c < n → IsOver (ran ops code n c)
+  ran_over zero c ranked h = absurd (omega arith)
+  ran_over (suc n) c ranked h = go (λ d k lt. ran_over n d k lt) (one ops code c) refl
+    where
+      go : ((d : Config M) → IsRankedAlong ops code d → left d < n → IsOver (ran ops code n d)) → (o : One M) → one ops code c ≡ o → IsOver (ran_by ops code (ran ops code n) c o)
+      go on (Goes d) e = on d (λ b w. ranked b (record { steps = suc w.steps; by = (d, e, w.by) })) (omega (arith, falls c d (ranked c (record { steps = 0; by = refl })) e))
+      go on (Stops s d) e = tt
+      go on (Fails f) e = tt
+      go on Stuck e = tt
 
-    pub turn_over : (c : Config M) → IsOver (turn_within ops code (suc (left c)) c)
-    turn_over c = go (begins ops code c)
-      where
-        go : (t : Bool) → IsOver (started ops code (suc (left c)) t c)
-        go true = ran_over (suc (left c)) c (omega arith)
-        go false = tt
+  pub turn_over : (c : Config M) → IsRankedAlong ops code c → IsOver (turn_within ops code (suc (left c)) c)
+  turn_over c ranked = go (begins ops code c)
+    where
+      go : (t : Bool) → IsOver (started ops code (suc (left c)) t c)
+      go true = ran_over (suc (left c)) c ranked (omega arith)
+      go false = tt
+
+-- where each instruction of the code makes the rank fall, so do those that a turn comes to
+pub ranked_along : {M : Type 0} (ops : Ops M) (code : Parts) → IsRanked code.instrs → (c : Config M) → IsRankedAlong ops code c
+unfolding IsRanked
+ranked_along ops code ranked c (At pc st n) w = ranked pc

@@ -11,3 +11,5 @@ pub mod Spending
 pub mod Ends
 pub mod Blocks
 pub mod StoreLaws
+pub mod Plans
+pub mod Pieces

@@ -3,6 +3,7 @@ pub mod Tables
 pub mod Listing
 pub mod Operands
 pub mod Machine
+pub mod Formals
 pub mod Turns
 pub mod Memory
 pub mod PlainStore

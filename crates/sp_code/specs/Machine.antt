@@ -1,6 +1,6 @@
 -- What each instruction does to a process, over any memory. The machine's contracts promise it of one step, and
 -- generated code is compared with it; the memory is left open, so that laws of turns and channels need no store.
-use Rattle.std.specs.Prelude.{ℕ, zero, suc, ◌+◌, ◌*◌, ◌%◌, ◌==◌, ℤ, pos, ◌+ℤ◌, ◌-ℤ◌, nat_abs, int_lt, int_le, List, [], ◌∷◌, Option, Some, None, Bool, true, false, ◌&&◌, not, if◌then◌else◌, slice_get, length, take, min}
+use Rattle.std.specs.Prelude.{ℕ, zero, suc, ◌+◌, ◌*◌, ◌==◌, ℤ, pos, ◌+ℤ◌, ◌-ℤ◌, nat_abs, int_lt, int_le, List, [], ◌∷◌, Option, Some, None, Bool, true, false, ◌&&◌, not, if◌then◌else◌, slice_get, length, take, min, nat_le}
 use Rattle.std.specs.Fmt.{signed_decimal}
 use Rattle.sp_base.specs.declared.fault.Fault.{Fault}
 use Rattle.sp_base.specs.declared.fault.Fault.TheVariants as fault
@@ -246,9 +246,9 @@ module _ {M : Type 0} (ops : Ops M) (code : Parts) where
   abbrev pub told : Bool → ℕ → List Entry → M → One M
   told b pc st n = worked (truth b) (λ w. Goes (At pc (Number w ∷ st) n))
 
-  -- an address that must have a cell behind it
+  -- an address within another, whose offset must be a number of 32 bits; what uses it asks for the cells behind it
   abbrev pub selected : Address → ℕ → List Entry → M → One M
-  selected a pc st n = when (ops.has a 1 n) (Goes (At pc (Pointer a ∷ st) n))
+  selected a pc st n = when (nat_le a.offset 4294967295) (Goes (At pc (Pointer a ∷ st) n))
 
   -- after a tick or a call the process pauses where it is due and no function is being called
   abbrev pub paced : ℕ → List Entry → M → One M
@@ -375,7 +375,7 @@ module _ {M : Type 0} (ops : Ops M) (code : Parts) where
   instruction (Some (i.Pack k)) pc stack n = on_address stack (λ a st. when (ops.has a k n) (Goes (At (pc + 1) (Cells (ops.cells a k n) ∷ st) n)))
   instruction (Some i.Open) pc stack n = on_address stack (λ a st. when (ops.has a 1 n) (Stops (Opens a) (At (pc + 1) st (ops.own a n))))
   instruction (Some (i.Send k)) pc stack n = on_cells stack (λ cs st. on_channel st (λ c st1. Stops (Sends c k cs) (At (pc + 1) st1 n)))
-  instruction (Some (i.Receive k)) pc stack n = on_address stack (λ a st. on_channel st (λ c st1. when (ops.has a 1 n) (Stops (Receives c k a) (At (pc + 1) st1 (ops.own a n)))))
+  instruction (Some (i.Receive k)) pc stack n = on_address stack (λ a st. on_channel st (λ c st1. when (ops.has a 0 n) (Stops (Receives c k a) (At (pc + 1) st1 (ops.own a n)))))
   instruction (Some (i.Fork t)) pc stack n = there (slice_get code.forks t) (λ table. forked t (pos 0) (length table.children) (pc + 1) stack n)
   instruction (Some (i.Forall t)) pc stack n =
       on_number stack (λ last st. on_number st (λ first st1. if int_lt last first then Goes (At (pc + 1) st1 n) else forked t first (values_in first last) (pc + 1) st1 n))

@@ -23,7 +23,8 @@ use Rattle.sp_code.specs.Machine.{Stop, Forks, Sends, Receives, Ends, Config, At
 use Rattle.sp_code.specs.Turns.{Stopped, IsTurn, IsSafe}
 use Rattle.sp_code.specs.Memory.{Setting, Frame, Memory, memory}
 use Rattle.sp_code.specs.PlainStore.{plain}
-use Rattle.sp_code.specs.Ranks.{IsRanked}
+use Rattle.sp_code.specs.Ranks.{IsRankedAlong}
+use Rattle.sp_code.specs.Formals.{HaveFormals}
 use Rattle.sp_code.specs.System.{System, Condition, Absent, Working, Waits, Joins, Laid, Gone, Over, store_of, plan_of, IsSystem, fault_of}
 
 -- a run of code on an input, with these limits
@@ -102,6 +103,7 @@ module _ (g : Setting) where
   -- all is well with the next turn of each process and with its event
   pub record IsSafeSystem (s : System Plain) : Type 0 where
     pub turns : (q : ℕ) (c : Config (Memory Plain)) → s.condition q ≡ Working c → IsSafe (memory plain g) g.code c
+    pub ranks : (q : ℕ) (c : Config (Memory Plain)) → s.condition q ≡ Working c → IsRankedAlong (memory plain g) g.code c
     pub forks : (q table count : ℕ) (value : ℤ) (d : Config (Memory Plain)) → StopsAt s q (Forks table value count) d → CanSplit (store_of d) (plan_of plain g d table value count)
     pub ends : (q left : ℕ) (b : Birth) (d e : Config (Memory Plain)) → StopsAt s q Ends d → s.births.birth q ≡ Some b → s.condition b.parent ≡ Joins left e → CanJoin (store_of e) (store_of d)
     pub sends : (q z c k j : ℕ) (a : Address) (cells : List Cell) (d e : Config (Memory Plain)) → StopsAt s q (Sends c k cells) d → s.pending c ≡ Some z → s.condition z ≡ Waits (Receives c j a) e → CanPut (store_of e) a cells
@@ -118,6 +120,6 @@ pub record AreLimits (lim : Limits) : Type 0 where
 
 -- for every input, every journal and all limits within their types
 pub record IsSound (code : Parts) : Type 0 where
-  pub ranked : IsRanked code.instrs
   pub blocks : HasDistinctBlocks code.layouts
+  pub formals : HaveFormals code.layouts
   pub safe : (input : List ℕ) (lim : Limits) → AreLimits lim → (es : List Entry) (s : System Plain) → IsSystem plain (run_of code input lim) es s → IsSafeSystem (run_of code input lim) s

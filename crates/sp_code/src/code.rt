@@ -1,8 +1,8 @@
 //! Code as data: instructions, the frames of blocks, what forks hand to their children, and texts.
 
-ghost use Rattle.std.specs.Prelude.{◌≡◌, ◌↔◌, IsTrue, MatchOption, None, Some, length, slice_get};
+ghost use Rattle.std.specs.Prelude.{◌≡◌, ◌↔◌, All, IsTrue, MatchOption, None, Some, length, slice_get};
 ghost use Rattle.std.specs.Option.{option_copied};
-ghost use Rattle.sp_code.specs.Sizes.{KeepsSizes};
+ghost use Rattle.sp_code.specs.Sizes.{KeepsSizes, HasNumbers, HasSmallSizes, IsSize};
 ghost use Rattle.sp_code.specs.Tables.{child_at, index_of};
 
 use crate::instr::Instr;
@@ -41,6 +41,21 @@ pub struct Layout {
     /// The number of each variable of the frame in the tree.
     pub variables: List<u32>,
     pub formals: List<Formal>,
+}
+
+/// The type of the numbers says that each is small.
+fn are_small(sizes: &[u32])
+    ensures { All IsSize sizes.now }
+{}
+
+impl Layout {
+    /// Whether the variables are few enough that each has a number. That each has few enough cells, its type says.
+    fn keeps_sizes(&self) -> bool
+        ensures { IsTrue result ↔ (HasNumbers self.now × HasSmallSizes self.now) }
+    {
+        are_small(self.sizes.items());
+        self.sizes.len() <= MAX_FRAME
+    }
 }
 
 /// What one child of a fork begins with. Variables have their numbers in the tree.
@@ -95,7 +110,8 @@ pub struct Parts {
 
 impl Parts {
     /// Whether the parts are no larger than code may be: at most `MAX_CODE` instructions, layouts, fork tables and texts, of
-    /// each, at most `MAX_FRAME` variables in a frame, and a child in each fork table.
+    /// each, at most `MAX_FRAME` variables in a frame, and a child in each fork table. The cells of a variable are a number of
+    /// 32 bits, by their type.
     pub fn keeps_sizes(&self) -> bool
         ensures { IsTrue result ↔ KeepsSizes self.now }
     {
@@ -103,11 +119,7 @@ impl Parts {
             && self.layouts.len() <= MAX_CODE
             && self.forks.len() <= MAX_CODE
             && self.texts.len() <= MAX_CODE
-            && self
-                .layouts
-                .items()
-                .iter()
-                .all(|l| l.sizes.len() <= MAX_FRAME)
+            && self.layouts.items().iter().all(|l| l.keeps_sizes())
             && self.forks.items().iter().all(|t| t.children.len() >= 1)
     }
 }

@@ -12,7 +12,7 @@ ghost use Rattle.sp_code.specs.Turns.{Turn, Ended, IsTurn, IsSafe, turn_within};
 ghost use Rattle.sp_code.specs.Memory.{Setting, Memory, memory};
 ghost use Rattle.sp_code.specs.PlainStore.{plain};
 ghost use Rattle.sp_code.specs.System.{System, Enters, IsSystem};
-ghost use Rattle.sp_code.specs.Ranks.{IsRanked};
+ghost use Rattle.sp_code.specs.Ranks.{IsRanked, IsRankedAlong};
 ghost use Rattle.sp_code.specs.Budgets.{IsOver, most_steps};
 ghost use Rattle.sp_code.specs.Scopes.{Scope};
 ghost use Rattle.sp_code.specs.Lengths.{stmt_length, tree_length};
@@ -30,13 +30,16 @@ pub fn turns_are_functions()
         → turn_within (memory plain g) g.code n c ≡ Ended t → IsTurn (memory plain g) g.code c t }
 {}
 
-/// A turn of ranked code comes to its end, or to an instruction that lacks what it needs, within a number of instructions that
-/// is computed from the code and the process. So a turn in which none lacks anything has an end.
+/// A turn along which the ranks fall comes to its end, or to an instruction that lacks what it needs, within a number of
+/// instructions that is computed from the code and the process. So a turn in which none lacks anything has an end. Where each
+/// instruction of the code makes the rank fall, the ranks fall along every turn.
 pub fn turns_of_ranked_code_end()
-    ensures within { (g : Setting) (c : Config (Memory Plain)) → IsRanked g.code.instrs
+    ensures within { (g : Setting) (c : Config (Memory Plain)) → IsRankedAlong (memory plain g) g.code c
         → IsOver (turn_within (memory plain g) g.code (suc (most_steps g c)) c) }
-    ensures safe { (g : Setting) (c : Config (Memory Plain)) → IsRanked g.code.instrs → IsSafe (memory plain g) g.code c
-        → (t : Turn (Memory Plain)) × IsTurn (memory plain g) g.code c t }
+    ensures safe { (g : Setting) (c : Config (Memory Plain)) → IsRankedAlong (memory plain g) g.code c
+        → IsSafe (memory plain g) g.code c → (t : Turn (Memory Plain)) × IsTurn (memory plain g) g.code c t }
+    ensures everywhere { (g : Setting) → IsRanked g.code.instrs → (c : Config (Memory Plain))
+        → IsRankedAlong (memory plain g) g.code c }
 {}
 
 /// A turn makes one event, and there is at most one system along a journal.

@@ -5,12 +5,10 @@ use Rattle.sp_base.specs.declared.fault.Fault.{Fault}
 use Rattle.sp_base.specs.declared.limits.Limits.{Limits}
 use Rattle.sp_cell.specs.declared.spot.Address.{Address}
 use Rattle.sp_cell.specs.Map.{Plain}
-use Rattle.sp_code.specs.declared.code.Formal.{Formal}
-use Rattle.sp_code.specs.declared.code.Formal.TheVariants as formal
-use Rattle.sp_code.specs.declared.code.Layout.{Layout}
 use Rattle.sp_code.specs.declared.code.Parts.{Parts}
 use Rattle.sp_code.specs.declared.instr.Instr.{Instr}
 use Rattle.sp_code.specs.Machine as m
+pub use Rattle.sp_code.specs.Formals.{HasRoom, BeginsWithFormals, HaveFormals}
 use Rattle.sp_code.specs.Turns.{Turn, Stopped, Faulted, IsTurn, IsSafe}
 use Rattle.sp_code.specs.Memory.{Memory, memory, first, Setting}
 use Rattle.sp_code.specs.PlainStore.{plain}
@@ -97,20 +95,6 @@ Came (m.Fails f) p q (Some s) = FaultIs s f × (config_of q ≡ config_of p)
 Came m.Stuck p q s = Unit {0}
 
 -- ---- a turn
-
--- a frame has room for a parameter
-abbrev pub HasRoom : Formal → Option ℕ → Type 0
-HasRoom f None = ⊥
-HasRoom (formal.Value n) (Some m) = n ≤ m
-HasRoom (formal.Reference n) (Some m) = Unit {0}
-
--- the frame of a block begins with its parameters
-abbrev pub BeginsWithFormals : Layout → Type 0
-BeginsWithFormals l = (k : ℕ) (f : Formal) → slice_get l.formals k ≡ Some f → HasRoom f (slice_get l.sizes k)
-
--- so for each block
-abbrev pub HaveFormals : List Layout → Type 0
-HaveFormals ls = (b : ℕ) (l : Layout) → m.layout_of ls b ≡ Some l → BeginsWithFormals l
 
 -- the turn that a process made which stopped so
 abbrev pub turn_by : Stop → State → Turn (Memory Plain)

@@ -1,6 +1,6 @@
 -- What the handings of a fork are: which spots move and which are shared, and that none comes twice where the children's variables
 -- differ.
-use Rattle.std.proofs.Common.{◌≡◌, ◌⊎◌, inl, inr, ⊎_elim, ℕ, zero, suc, ◌+◌, ◌<◌, ℤ, List, [], ◌∷◌, ◌++◌, Option, Some, None, refl, sym, subst, arith}
+use Rattle.std.proofs.Common.{◌≡◌, ◌⊎◌, inl, inr, ⊎_elim, ℕ, zero, suc, ◌+◌, ◌<◌, ℤ, List, [], ◌∷◌, ◌++◌, Option, Some, None, refl, sym, ap, ◌∙◌, subst, arith}
 use Rattle.std.specs.Prelude.{IsSome}
 use Rattle.sp_tree.specs.Interference.{IsMember, AllDifferent}
 use Rattle.sp_cell.specs.declared.spot.Spot.{Spot}
@@ -13,7 +13,27 @@ use Rattle.sp_code.specs.declared.code.Layout.{Layout}
 use Rattle.sp_code.specs.Memory as mem
 use Rattle.sp_code.specs.Tables.{child_at}
 use Rattle.sp_code.specs.System.{with_spot, spots_of, spot_of, handing_of, plan_from, child_or}
-use Rattle.sp_codegen.proofs.Handed.{spots_from}
+
+in_with : (q : Spot) (o : Option Spot) (ss : List Spot) → In q ss → In q (with_spot o ss)
+in_with q None ss h = h
+in_with q (Some s) ss h = inr h
+
+pub in_spots : (ls : List Layout) (fs : List mem.Frame) (xs : List ℕ) (x : ℕ) (q : Spot) → IsMember x xs → spot_of ls fs x ≡ Some q → In q (spots_of ls fs xs)
+in_spots ls fs [] x q h e = absurd h
+in_spots ls fs (y ∷ xs) x q (inl i) e = subst (λ z. In q (with_spot z (spots_of ls fs xs))) (sym (ap (λ z. spot_of ls fs z) (sym i) ∙ e)) (inl refl)
+in_spots ls fs (y ∷ xs) x q (inr i) e = in_with q (spot_of ls fs y) (spots_of ls fs xs) (in_spots ls fs xs x q i e)
+
+pub spots_from : (ls : List Layout) (fs : List mem.Frame) (xs : List ℕ) (q : Spot) → In q (spots_of ls fs xs) → (x : ℕ) × IsMember x xs × (spot_of ls fs x ≡ Some q)
+spots_from ls fs [] q h = absurd h
+spots_from ls fs (y ∷ xs) q h = go (λ i. later (spots_from ls fs xs q i)) (spot_of ls fs y) refl h
+  where
+    later : (x : ℕ) × IsMember x xs × (spot_of ls fs x ≡ Some q) → (x : ℕ) × IsMember x (y ∷ xs) × (spot_of ls fs x ≡ Some q)
+    later a = (a.0, inr a.1, a.2)
+
+    go : (In q (spots_of ls fs xs) → (x : ℕ) × IsMember x (y ∷ xs) × (spot_of ls fs x ≡ Some q)) → (o : Option Spot) → spot_of ls fs y ≡ o → In q (with_spot o (spots_of ls fs xs)) → (x : ℕ) × IsMember x (y ∷ xs) × (spot_of ls fs x ≡ Some q)
+    go ih None e i = ih i
+    go ih (Some s) e (inl a) = (y, inl refl, e ∙ ap Some (sym a))
+    go ih (Some s) e (inr i) = ih i
 
 zero_plus : (j : ℕ) → 0 + j ≡ j
 zero_plus j = omega arith
