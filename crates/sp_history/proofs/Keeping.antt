@@ -1,6 +1,6 @@
 -- What each operation of a memory keeps, each instruction keeps, and so each turn.
 use Rattle.std.proofs.Common.{◌≡◌, ℕ, zero, suc, ◌+◌, ◌*◌, ◌==◌, ℤ, List, [], ◌∷◌, length, Option, Some, None, Bool, true, false, if◌then◌else◌, ◌&&◌, refl, subst, sym}
-use Rattle.std.specs.Prelude.{slice_get, nat_abs, int_le, int_lt, pos, ◌-ℤ◌, take, not}
+use Rattle.std.specs.Prelude.{slice_get, nat_abs, nat_le, int_le, int_lt, pos, ◌-ℤ◌, take, not}
 use Rattle.std.specs.Fmt.{signed_decimal}
 use Rattle.sp_tree.specs.declared.operators.BinaryOp.{BinaryOp}
 use Rattle.sp_tree.specs.declared.operators.BinaryOp.TheVariants as op
@@ -19,15 +19,15 @@ use Rattle.sp_code.specs.Turns.{Turn, Stopped, Faulted, Begins, ComesIn, EndsSo,
 use Rattle.sp_history.specs.Channels.{CellHas, CellsHave, EntriesHave, ConfigHas, TurnHas, TurnDoes, OneHas}
 
 -- what the operations of a memory keep of I, where each channel that they are handed is one of C
-pub record HasKeeping {M : Type 0} (ops : Ops M) (C : ℕ → Type 0) (I : M → Type 0) (J : Address → M → Type 0) : Type 0 where
+pub record HasKeeping {M : Type 0} (ops : Ops M) (C : ℕ → Type 0) (I : M → Type 0) (J : ℕ → Address → M → Type 0) : Type 0 where
   pub look : (a : Address) (n : M) → I n → CellHas C (ops.look a n)
   pub cells : (a : Address) (k : ℕ) (n : M) → I n → CellsHave C (ops.cells a k n)
   pub put : (a : Address) (c : Cell) (n : M) → I n → ops.has a 1 n ≡ true → CellHas C c → I (ops.put a c n)
   pub read : (a : Address) (v : ℤ) (k : ℕ) (bs : List ℕ) (n : M) → I n → ops.has a 1 n ≡ true → ops.left n ≡ Some bs → I (ops.put a (cell.Ordinal v) (ops.advance k n))
   pub advance : (k : ℕ) (bs : List ℕ) (n : M) → I n → ops.left n ≡ Some bs → I (ops.advance k n)
   pub copy : (to from : Address) (k : ℕ) (n : M) → I n → ops.has to k n ≡ true → I (ops.copy to from k n)
-  pub own : (a : Address) (n : M) → I n → ops.has a 1 n ≡ true → I (ops.own a n)
-  pub target : (a : Address) (n : M) → I n → ops.has a 1 n ≡ true → J a (ops.own a n)
+  pub own : (a : Address) (k : ℕ) (n : M) → I n → ops.has a k n ≡ true → I (ops.own a n)
+  pub target : (a : Address) (k : ℕ) (n : M) → I n → ops.has a k n ≡ true → J k a (ops.own a n)
   pub print : (t : List ℕ) (n m : M) → I n → ops.has_output n ≡ true → ops.print t n ≡ Done m → I m
   pub beat : (n m : M) → I n → ops.beat n ≡ Done m → I m
   pub open_frame : (l : Layout) (up : ℕ) (es : List Entry) (n m : M) → I n → EntriesHave C es → ops.open_frame l up es n ≡ Done m → I m
@@ -37,7 +37,7 @@ both_true : (a b : Bool) → (a && b) ≡ true → (a ≡ true) × (b ≡ true)
 both_true true b e = (refl, e)
 both_true false b e = absurd cc
 
-module _ {M : Type 0} (C : ℕ → Type 0) (I : M → Type 0) (J : Address → M → Type 0) where
+module _ {M : Type 0} (C : ℕ → Type 0) (I : M → Type 0) (J : ℕ → Address → M → Type 0) where
   abbrev K : One M → Type 0
   K o = OneHas C I J o
 
@@ -130,7 +130,7 @@ module _ {M : Type 0} (C : ℕ → Type 0) (I : M → Type 0) (J : Address → M
   k_if true x y h k = h
   k_if false x y h k = k
 
-module _ {M : Type 0} (ops : Ops M) (code : Parts) (C : ℕ → Type 0) (I : M → Type 0) (J : Address → M → Type 0) (law : HasKeeping ops C I J) where
+module _ {M : Type 0} (ops : Ops M) (code : Parts) (C : ℕ → Type 0) (I : M → Type 0) (J : ℕ → Address → M → Type 0) (law : HasKeeping ops C I J) where
   module _ (pc : ℕ) (st : List Entry) (n : M) (e : EntriesHave C st) (h : I n) where
     one_keeps : (g : ℤ → Worked) → OneHas C I J (on_one ops code g pc st n)
     one_keeps g = k_number C I J st _ e (λ v st1 f. k_worked C I J (g v) _ (λ w. ((tt, f), h)))
@@ -142,7 +142,7 @@ module _ {M : Type 0} (ops : Ops M) (code : Parts) (C : ℕ → Type 0) (I : M �
     told_keeps t st1 f = ((tt, f), h)
 
     selected_keeps : (a : Address) (st1 : List Entry) → EntriesHave C st1 → OneHas C I J (selected ops code a (pc + 1) st1 n)
-    selected_keeps a st1 f = k_when C I J (ops.has a 1 n) _ (λ w. ((tt, f), h))
+    selected_keeps a st1 f = k_when C I J (nat_le a.offset 4294967295) _ (λ w. ((tt, f), h))
 
     paced_keeps : (next : ℕ) (st1 : List Entry) (m : M) → EntriesHave C st1 → I m → OneHas C I J (paced ops code next st1 m)
     paced_keeps next st1 m f k = k_if C I J (outside st1) _ _ (k_if C I J (ops.due m) _ _ ((tt, tt), (f, k)) (f, k)) (f, k)
@@ -255,9 +255,9 @@ module _ {M : Type 0} (ops : Ops M) (code : Parts) (C : ℕ → Type 0) (I : M �
   instruction_keeps (Some (i.WritewText k)) pc st n e h = k_number C I J st _ e (λ w st1 f. k_there C I J (slice_get code.texts k) _ (λ t x. wide_keeps pc st n e h true t w st1 f))
   instruction_keeps (Some i.Writeln) pc st n e h = prints_keeps pc st n e h (10 ∷ []) st e
   instruction_keeps (Some (i.Pack k)) pc st n e h = k_address C I J st _ e (λ a st1 f. k_when C I J (ops.has a k n) _ (λ w. ((law.cells a k n h, f), h)))
-  instruction_keeps (Some i.Open) pc st n e h = k_address C I J st _ e (λ a st1 f. k_when C I J (ops.has a 1 n) _ (λ w. ((tt, law.target a n h w), (f, law.own a n h w))))
+  instruction_keeps (Some i.Open) pc st n e h = k_address C I J st _ e (λ a st1 f. k_when C I J (ops.has a 1 n) _ (λ w. ((tt, law.target a 1 n h w), (f, law.own a 1 n h w))))
   instruction_keeps (Some (i.Send k)) pc st n e h = k_cells C I J st _ e (λ cs st1 d f. k_channel C I J st1 _ f (λ c st2 x k. (((x, d), tt), (k, h))))
-  instruction_keeps (Some (i.Receive k)) pc st n e h = k_address C I J st _ e (λ a st1 f. k_channel C I J st1 _ f (λ c st2 x k. k_when C I J (ops.has a 1 n) _ (λ w. ((x, law.target a n h w), (k, law.own a n h w)))))
+  instruction_keeps (Some (i.Receive k)) pc st n e h = k_address C I J st _ e (λ a st1 f. k_channel C I J st1 _ f (λ c st2 x k. k_when C I J (ops.has a 0 n) _ (λ w. ((x, law.target a 0 n h w), (k, law.own a 0 n h w)))))
   instruction_keeps (Some (i.Fork t)) pc st n e h = k_there C I J (slice_get code.forks t) _ (λ table x. forked_keeps pc st n e h t (pos 0) (length table.children) (pc + 1) st e)
   instruction_keeps (Some (i.Forall t)) pc st n e h = k_number C I J st _ e (λ last st1 f. k_number C I J st1 _ f (λ first st2 k. k_if C I J (int_lt last first) _ _ (k, h) (forked_keeps pc st n e h t first (values_in first last) (pc + 1) st2 k)))
   instruction_keeps (Some i.End) pc st n e h = ((tt, tt), (e, h))
@@ -282,8 +282,8 @@ module _ {M : Type 0} (ops : Ops M) (code : Parts) (C : ℕ → Type 0) (I : M �
       go false r = subst (TurnDoes C I J) (sym r) h
 
 -- where nothing is said of addresses
-abbrev pub Anywhere : {M : Type 0} → Address → M → Type 0
-Anywhere a n = Unit {0}
+abbrev pub Anywhere : {M : Type 0} → ℕ → Address → M → Type 0
+Anywhere k a n = Unit {0}
 
 module _ {M : Type 0} (ops : Ops M) (code : Parts) (C : ℕ → Type 0) (I : M → Type 0) (law : HasKeeping ops C I Anywhere) where
   pub turn_has : (c : Config M) (t : Turn M) → ConfigHas C I c → IsTurn ops code c t → TurnHas C I t

@@ -69,8 +69,8 @@ module _ (g : Setting) (C : ℕ → Type 0) (q : ℕ) where
     read = λ a v k bs n h w x. (h.0, put_has a (cell.Ordinal v) ((memory plain g).advance k n).store (advances_has k n h).1 tt);
     advance = λ k bs n h x. advances_has k n h;
     copy = λ to from k n h w. (h.0, puts_has to (part (cells_at plain n.store from.spot) from.offset k) n.store h.1 (have_part C (cells_at plain n.store from.spot) from.offset k (h.1 from.spot)));
-    own = λ a n h w. (h.0, insert_has C n.store.map a.spot (Own (cells_at plain n.store a.spot)) h.1 (h.1 a.spot));
-    target = λ a n h w. tt;
+    own = λ a k n h w. (h.0, insert_has C n.store.map a.spot (Own (cells_at plain n.store a.spot)) h.1 (h.1 a.spot));
+    target = λ a k n h w. tt;
     print = λ t n m h w d. prints t n m h (nat_lt g.limits.output (length (bytes_in (plain.output n.store)) + length t)) d;
     beat = λ n m h d. beats n m h (nat_lt n.ticks g.limits.ticks) d;
     open_frame = λ l up es n m h e d. opens_has l up es n m h e d;

@@ -214,8 +214,8 @@ module _ (g : Setting) (h : Share) (moved : List Spot) where
     read = λ a v j bs n k w x. put_is a (cell.Ordinal v) ((memory plain g).advance j n).store (piece_apart h n.store a 1 k.0 w) (advances_is j n k);
     advance = λ j bs n k x. advances_is j n k;
     copy = λ to from j n k w. puts_is to _ n.store (piece_apart h n.store to j k.0 w) k;
-    own = λ a n k w. (own_is h n.store a.spot (cells_at plain n.store a.spot) (piece_apart h n.store a 1 k.0 w) k.0, k.1);
-    target = λ a n k w. subst IsOwn (sym (get_here n.store.map a.spot (Own (cells_at plain n.store a.spot)))) tt;
+    own = λ a m n k w. (own_is h n.store a.spot (cells_at plain n.store a.spot) (piece_apart h n.store a m k.0 w) k.0, k.1);
+    target = λ a m n k w. subst IsOwn (sym (get_here n.store.map a.spot (Own (cells_at plain n.store a.spot)))) tt;
     print = λ t n m k w d. prints t n m k (output_held n.store.map w) (nat_lt g.limits.output (length (bytes_in (plain.output n.store)) + length t)) d;
     beat = λ n m k d. beats n m k (nat_lt n.ticks g.limits.ticks) d;
     open_frame = λ l up es n m k e d. opens_is l up es n m k d;

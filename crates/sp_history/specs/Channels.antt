@@ -9,11 +9,11 @@ use Rattle.sp_code.specs.Machine.{Entry, Number, Chan, Pointer, Cells, Link, Rep
 use Rattle.sp_code.specs.Turns.{Turn, Stopped, Faulted}
 use Rattle.sp_code.specs.Memory.{Stores, cells_at}
 
--- the address that waits for a channel or a message is one of J
-module _ {M : Type 0} (J : Address → M → Type 0) where
+-- the address that waits for a channel, with a cell behind it, or for a message is one of J
+module _ {M : Type 0} (J : ℕ → Address → M → Type 0) where
   abbrev pub AimsAt : Stop → Config M → Type 0
-  AimsAt (Opens a) (At pc st n) = J a n
-  AimsAt (Receives c k a) (At pc st n) = J a n
+  AimsAt (Opens a) (At pc st n) = J 1 a n
+  AimsAt (Receives c k a) (At pc st n) = J 0 a n
   AimsAt (Forks t v k) (At pc st n) = Unit {0}
   AimsAt (Sends c k cs) (At pc st n) = Unit {0}
   AimsAt Ends (At pc st n) = Unit {0}
@@ -69,7 +69,7 @@ module _ (C : ℕ → Type 0) where
     TurnHas (Faulted f c) = ConfigHas c
 
     -- so for what comes of an instruction and of a turn, where an address that waits for a channel or a message is one of J
-    module _ (J : Address → M → Type 0) where
+    module _ (J : ℕ → Address → M → Type 0) where
       abbrev pub TurnDoes : Turn M → Type 0
       TurnDoes (Stopped stop c) = (StopHas stop × AimsAt J stop c) × ConfigHas c
       TurnDoes (Faulted f c) = ConfigHas c

@@ -35,8 +35,8 @@ IsPart Lends = Unit {0}
 IsPart Lacks = ⊥
 
 -- an address in a piece of the process's own
-abbrev pub Owned : Address → Memory Plain → Type 0
-Owned a n = IsOwn (map.get n.store.map a.spot)
+abbrev pub Owned : ℕ → Address → Memory Plain → Type 0
+Owned k a n = IsOwn (map.get n.store.map a.spot)
 
 -- who waits for a message has a piece of its own for it
 abbrev pub AimsIn : Condition Plain → Type 0
