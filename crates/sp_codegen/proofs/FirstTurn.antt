@@ -23,6 +23,7 @@ use Rattle.sp_code.specs.Stands.{BlockAt, BlocksAt, IsFine}
 use Rattle.sp_code.specs.Quiet.{IsQuiet}
 use Rattle.sp_code.proofs.Blocks.{blocks_stand, layout_found}
 use Rattle.sp_tree.specs.Formed.{IsFormed}
+use Rattle.sp_code.specs.Sizes.{HasSmallTypes}
 use Rattle.sp_codegen.specs.Joints.{Joint}
 use Rattle.sp_codegen.specs.Executions.{Execution}
 use Rattle.sp_codegen.specs.Relation.{Keeps}
@@ -37,7 +38,7 @@ use Rattle.sp_codegen.proofs.Root.{NoChannel, IsFirst, NoIndexes, W, who, j0, ro
 pub laid_of : (p : Program) (code : Code) (moves shares : Stmt → List ℕ) (hush : ℕ → Type 0) → BlocksAt p moves shares code hush → ((f : ℕ) (l : Layout) → slice_get code.layouts f ≡ Some l → layout_of code.layouts f ≡ Some l) → Laid p code.layouts
 laid_of p code moves shares hush blocks finds f b e = let z = blocks f b e in (z.layout, finds f z.layout z.at, z.is)
 
-module _ (g : Setting) (code : Code) (formed : IsFormed g.program) (b : Block) (eb : slice_get g.program.blocks 0 ≡ Some b) (pause : ℕ) (moves shares : Stmt → List ℕ) (hush : ℕ → Type 0) (free : IsFreeOfInterference g.program)
+module _ (g : Setting) (code : Code) (formed : IsFormed g.program) (types : HasSmallTypes g.program) (b : Block) (eb : slice_get g.program.blocks 0 ≡ Some b) (pause : ℕ) (moves shares : Stmt → List ℕ) (hush : ℕ → Type 0) (free : IsFreeOfInterference g.program)
     (finds : (f : ℕ) (l : Layout) → slice_get code.layouts f ≡ Some l → layout_of code.layouts f ≡ Some l) (blocks : BlocksAt g.program moves shares code hush) (small : g.limits.depth ≤ 4294967295) (fits : size_of_frame g 0 ≤ g.limits.cells) where
   abbrev p : Program
   p = g.program
@@ -52,7 +53,7 @@ module _ (g : Setting) (code : Code) (formed : IsFormed g.program) (b : Block) (
   V l = W g code formed laid b eb pause NoChannel IsFirst (refl, refl) l
 
   law : Keeps g w (due_after 0 pause) V V NoIndexes (memory plain (code_run g code pause)) (relation g code w NoChannel IsFirst V V NoIndexes 1 1 0 0 pause [])
-  law = instance g code w NoChannel IsFirst V V NoIndexes 1 1 0 0 pause [] formed laid (omega arith) (λ n x. inl refl) (omega (arith, small)) (λ c d i j h k. absurd h)
+  law = instance g code w NoChannel IsFirst V V NoIndexes 1 1 0 0 pause [] formed types laid (omega arith) (λ n x. inl refl) (omega (arith, small)) (λ c d i j h k. absurd h)
 
   abbrev execution : Execution (Memory Plain)
   execution = record {
@@ -122,8 +123,8 @@ module _ (g : Setting) (code : Code) (formed : IsFormed g.program) (b : Block) (
   first_turn k = subst (λ z. EndsAlike (code_run g code pause) (At z [] n0) (run (source.turn g (due_after 0 pause) k (push b.body [])) w (root g).own (first_store g))) (sym entry_is) (by_outcome (run (source.turn g (due_after 0 pause) k (push b.body [])) w (root g).own (first_store g)) (turned k))
 
 -- for the code of every tree whose blocks keep the rules
-pub first_turn_of_tree : (g : Setting) (moves shares : Stmt → List ℕ) (pause k : ℕ) (b : Block) → IsFormed g.program → IsFreeOfInterference g.program → ((f q : ℕ) (b : Block) → slice_get g.program.blocks f ≡ Some b → IsFine g.program moves shares (IsQuiet g.program) f q b)
+pub first_turn_of_tree : (g : Setting) (moves shares : Stmt → List ℕ) (pause k : ℕ) (b : Block) → IsFormed g.program → HasSmallTypes g.program → IsFreeOfInterference g.program → ((f q : ℕ) (b : Block) → slice_get g.program.blocks f ≡ Some b → IsFine g.program moves shares (IsQuiet g.program) f q b)
     → slice_get g.program.blocks 0 ≡ Some b → g.limits.depth ≤ 4294967295 → size_of_frame g 0 ≤ g.limits.cells
     → EndsAlike (code_run g (program_code g.program moves shares) pause) (first plain (code_run g (program_code g.program moves shares) pause)) (run (source.turn g (due_after 0 pause) k (push b.body [])) (record { name = []; forks = 0; opens = 0 }) (root g).own (first_store g))
-first_turn_of_tree g moves shares pause k b formed free fine eb small fits =
-    first_turn g (program_code g.program moves shares) formed b eb pause moves shares (IsQuiet g.program) free (λ f l e. layout_found g.program f l e) (blocks_stand g.program moves shares (IsQuiet g.program) fine) small fits k
+first_turn_of_tree g moves shares pause k b formed types free fine eb small fits =
+    first_turn g (program_code g.program moves shares) formed types b eb pause moves shares (IsQuiet g.program) free (λ f l e. layout_found g.program f l e) (blocks_stand g.program moves shares (IsQuiet g.program) fine) small fits k

@@ -47,7 +47,7 @@ module _ (g : Setting) (moves shares : Stmt → List ℕ) (pause : ℕ) (life : 
   pub operations_keep : IsLife life → g.limits.depth ≤ 4294967295 → Laws g moves shares pause life
   operations_keep h small = record {
     keeps = instance g (code_of g moves shares pause life) life.who (λ c j. slice_get life.channels j ≡ Some c) (λ q i. slice_get life.processes i ≡ Some q) (λ l. Writes g moves shares pause life l) (λ l. IsReadable g moves shares pause life l)
-        (λ k. Rattle.sp_codegen.specs.Lives.Indexes g moves shares pause life k) life.low life.base life.born life.since pause life.moved tree.formed (laid_of g.program (code_of g moves shares pause life) moves shares (IsQuiet g.program) blocks found) h.based
+        (λ k. Rattle.sp_codegen.specs.Lives.Indexes g moves shares pause life k) life.low life.base life.born life.since pause life.moved tree.formed tree.small (laid_of g.program (code_of g moves shares pause life) moves shares (IsQuiet g.program) blocks found) h.based
         (λ n x. reads_all life.who.name life.given (Cell life.who.name n x) (own_by life.who.name life.given n x)) (let a = h.low in omega (arith, a, small)) h.channels;
     free = tree.free;
     reads_written = λ l w. reads_all life.who.name life.given l w;

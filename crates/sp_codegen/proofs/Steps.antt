@@ -628,4 +628,4 @@ module _ {M : Type 0} (ex : Execution M) where
       makes_bind ex _ (value_gives ex call ok c sc q stack fs o s n t (within (λ u. inl) pl) h.1) (λ y e o1 s1 n1 t1 x1.
       with_channel (After end base below) (kind_of c) y e (λ from. bind (address g call v) (λ a. give (Offered from a.kind (Takes a) todo))) (after_value q c) stack o1 s1 n1 h.2 x1 (λ ch1 j nm.
       makes_bind ex (λ a. give (Offered ch1 a.kind (Takes a) todo)) (address_gives ex call ok v h.0 sc (after_value q c) (m.Chan j ∷ stack) fs o1 s1 n1 t1 (within (λ u i. inr (inl i)) pl) h.3 h.4) (λ a u o2 s2 n2 t2 x2.
-      record { by = (after_var (after_value q c) v + 1, stack, ops.own u n2, fs, m.At (after_var (after_value q c) v) (m.Pointer u ∷ m.Chan j ∷ stack) n2, Receives j h.0 u, stays ops rel w code _, one_at (after_var (after_value q c) v) _ n2 h.5 ∙ holds_when (ops.has u 1 n2) _ (law.has_one t2 a u x2.1 x2.2), law.own t2 a u x2.1 x2.2, receive_is fs ch1 h.0 a u j x2.0 nm x2.1 x2.2, k, h.6, (n2, refl)) })))
+      record { by = (after_var (after_value q c) v + 1, stack, ops.own u n2, fs, m.At (after_var (after_value q c) v) (m.Pointer u ∷ m.Chan j ∷ stack) n2, Receives j h.0 u, stays ops rel w code _, one_at (after_var (after_value q c) v) _ n2 h.5 ∙ holds_when (ops.has u 0 n2) _ (law.has_none t2 a u x2.1 x2.2), law.own t2 a u x2.1 x2.2, receive_is fs ch1 h.0 a u j x2.0 nm x2.1 x2.2, k, h.6, (n2, refl)) })))

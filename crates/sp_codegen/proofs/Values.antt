@@ -1,7 +1,7 @@
 -- The code of an expression gives its value, that of a variable its address.
 use Rattle.std.proofs.Common.{◌≡◌, inl, inr, ℕ, ◌+◌, ◌*◌, ◌==◌, ℤ, List, [], ◌∷◌, ◌++◌, Option, Some, None, Bool, true, false, ◌&&◌, if◌then◌else◌, drop, length, refl, sym, ap, ◌∙◌, subst, arith}
 use Rattle.std.proofs.lemmas.Bool.Decides.{nat_tests}
-use Rattle.std.specs.Prelude.{pos, ◌-ℤ◌, nat_abs, int_le, not, slice_get}
+use Rattle.std.specs.Prelude.{pos, ◌-ℤ◌, nat_abs, nat_le, int_le, not, slice_get}
 use Rattle.sp_base.specs.declared.fault.Fault.TheVariants as fault
 use Rattle.sp_tree.specs.declared.checked.KindOf.{KindOf}
 use Rattle.sp_tree.specs.declared.checked.KindOf.TheVariants as kind
@@ -316,7 +316,7 @@ module _ {M : Type 0} (ex : Execution M) where
   not_many : (ty : Option KindOf) (z : KindOf) → ty ≡ Some z → sort_by (Some z) ≡ Many → sort_by ty ≡ Ordinals → ⊥
   not_many ty z e f h = subst IsMany (sym f ∙ ap sort_by (sym e) ∙ h) tt
 
-  -- an address with a cell behind it
+  -- what must hold does
   selects : (b : Bool) (c : One M) → b ≡ true → when b c ≡ c
   selects b c e = ap (λ z. when z c) e
 
@@ -337,7 +337,7 @@ module _ {M : Type 0} (ex : Execution M) where
           → G js (m.At q (m.Number v ∷ m.Pointer a ∷ stack) n) o s (q + 1) (PlaceTop stack) (PlaceIs js x el) (if y then give (At b1) else fail fault.F1)
       by_test true e gg =
           let pt = law.element b a pi.1 low high ix el (ap (λ y. slice_get p.kinds y) pi.0 ∙ hk) v e in
-          gives_give ops rel w code (At b1) a1 (goes ops rel w code (gg ∙ selects (ops.has a1 1 n) (Goes (m.At (q + 1) (m.Pointer a1 ∷ stack) n)) (law.has_one t b1 a1 pt pi.2))) t (refl, pt, pi.2, pi.3)
+          gives_give ops rel w code (At b1) a1 (goes ops rel w code (gg ∙ selects (nat_le a1.offset 4294967295) (Goes (m.At (q + 1) (m.Pointer a1 ∷ stack) n)) (law.within t b1 a1 pt pi.2))) t (refl, pt, pi.2, pi.3)
       by_test false e gg = gives_fail ops rel w code fault.F1 (js, o, t) gg
 
   fielded_gives : {js : List Joint} {o : Own} {s : Store} (q x k f j : ℕ) (name : List ℕ) (gs : List (List ℕ × ℕ)) (stack : List Entry) (pl : Place) (a : Ptr) (n : M) → rel.Stand js o s n → PlaceIs js x k pl a → slice_get p.kinds k ≡ Some (kind.Fields gs) → slice_get gs f ≡ Some (name, j) → slice_get code.instrs q ≡ Some (i.Field (places.field_offset p gs f))
@@ -346,7 +346,7 @@ module _ {M : Type 0} (ex : Execution M) where
   fielded_gives {js} {o} {s} q x k f j name gs stack (At b) a n t pi hk hf h =
       gives_known ops rel w code (λ y. bind (or_lost (field_kind f y)) (λ u. give (At (record { spot = b.spot; path = b.path ++ f ∷ []; kind = u })))) (kind.Fields gs) (kind_known b.kind k (kind.Fields gs) pi.0 hk)
       (gives_known ops rel w code (λ u. give (At (record { spot = b.spot; path = b.path ++ f ∷ []; kind = u }))) j (or_known (field_kind f (kind.Fields gs)) j (rw hf refl))
-      (gives_give ops rel w code (At b1) a1 (goes ops rel w code (at_one q (m.Pointer a ∷ stack) n h ∙ selects (ops.has a1 1 n) (Goes (m.At (q + 1) (m.Pointer a1 ∷ stack) n)) (law.has_one t b1 a1 pt pi.2))) t (refl, pt, pi.2, pi.3)))
+      (gives_give ops rel w code (At b1) a1 (goes ops rel w code (at_one q (m.Pointer a ∷ stack) n h ∙ selects (nat_le a1.offset 4294967295) (Goes (m.At (q + 1) (m.Pointer a1 ∷ stack) n)) (law.within t b1 a1 pt pi.2))) t (refl, pt, pi.2, pi.3)))
     where
       b1 : Address
       b1 = record { spot = b.spot; path = b.path ++ f ∷ []; kind = j }

@@ -28,6 +28,7 @@ use Rattle.sp_code.specs.Memory.{Memory, memory}
 use Rattle.sp_code.specs.PlainStore.{plain}
 use Rattle.sp_code.specs.Quiet.{IsQuiet}
 use Rattle.sp_code.specs.Scopes.{Scope, level, is_index}
+use Rattle.sp_code.specs.Sizes.{HasSmallTypes}
 use Rattle.sp_code.specs.Stands.{IsFine}
 use Rattle.sp_codegen.specs.Executions.{Execution}
 use Rattle.sp_codegen.specs.Following.{Follows}
@@ -39,6 +40,7 @@ use Rattle.sp_codegen.specs.Standing.{Stand, relation}
 -- a tree that the code of a program may be made of
 pub record IsCompilable (p : Program) (moves shares : Stmt → List ℕ) : Type 0 where
   pub formed : IsFormed p
+  pub small : HasSmallTypes p
   pub free : IsFreeOfInterference p
   pub fine : (f q : ℕ) (b : Block) → slice_get p.blocks f ≡ Some b → IsFine p moves shares (IsQuiet p) f q b
 
