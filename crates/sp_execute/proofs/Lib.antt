@@ -1,4 +1,3 @@
-pub mod Formals
 pub mod Waiting
 pub mod Concluding
 pub mod Executing

@@ -37,7 +37,8 @@ use Rattle.sp_codegen.proofs.Owners.{within_at}
 use Rattle.sp_codegen.proofs.Begins.{child_begins}
 use Rattle.sp_codegen.proofs.Birth.{low_small}
 use Rattle.sp_codegen.proofs.Born.{ChildIs, Seen, child_follows}
-use Rattle.sp_codegen.proofs.Handed.{in_spots, found_at, is_input, console_only, moved_aimed, moved_known, output_handed, right_of, MovedStands, moved_stands, no_console_spot, no_index_spot, index_no_console}
+use Rattle.sp_code.proofs.Plans.{in_spots}
+use Rattle.sp_codegen.proofs.Handed.{found_at, is_input, console_only, moved_aimed, moved_known, output_handed, right_of, MovedStands, moved_stands, no_console_spot, no_index_spot, index_no_console}
 use Rattle.sp_cell.specs.Plan.{in_or, get_away_in, get_lent_out}
 use Rattle.sp_tree.specs.Formed.{IsFormedUse}
 use Rattle.sp_tree.specs.Sets.{Reach}

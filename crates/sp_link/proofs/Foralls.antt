@@ -45,7 +45,7 @@ use Rattle.sp_codegen.proofs.Joints.{sources_length}
 use Rattle.sp_link.proofs.EachStands as each
 use Rattle.sp_link.proofs.Forks as fk
 use Rattle.sp_link.proofs.OneChanges.{q, pr}
-use Rattle.sp_link.proofs.Plans.{none_distinct, moved_by, shared_by}
+use Rattle.sp_code.proofs.Plans.{none_distinct, moved_by, shared_by}
 use Rattle.sp_link.proofs.Pauses.{Entry_of, Meant, Machined, Kept_to, kids}
 use Rattle.sp_link.proofs.Relation.{Ground, Life, Lives, W_of, R_of, Called, Fresh, Stands, Handed, St, Linked, execution, run_is}
 

@@ -11,13 +11,13 @@ use Rattle.sp_tree.specs.Interference.{IsMember}
 use Rattle.sp_tree.specs.Plain.{Program, Stmt, Block, Variable}
 use Rattle.sp_code.specs.declared.code.Formal.{Formal}
 use Rattle.sp_code.specs.declared.code.Layout.{Layout}
+use Rattle.sp_code.specs.Formals.{HasRoom, BeginsWithFormals, HaveFormals}
 use Rattle.sp_code.specs.Emitted.{program_code, layouts_from, layout_of, formal_by, formal_of, cells_of}
 use Rattle.sp_code.specs.Machine as m
 use Rattle.sp_code.specs.Places.{after_block}
 use Rattle.sp_code.specs.Scopes.{frame_of, is_local, size}
 use Rattle.sp_codegen.proofs.Closing.{among_role}
 use Rattle.sp_codegen.proofs.Numbers.{are_known, frame_is}
-use Rattle.sp_machine.specs.Procs.{HasRoom, BeginsWithFormals, HaveFormals}
 
 -- ---- elements of lists
 

@@ -1,4 +1,3 @@
-pub mod Plans
 pub mod Relation
 pub mod Journal
 pub mod SourceTurns
@@ -41,6 +40,7 @@ pub mod OffersWait
 pub mod OffersMeet
 pub mod Offers
 pub mod Ranks
+pub mod Formals
 pub mod SafeSteps
 pub mod Soundness
 pub mod FaultEntries

@@ -44,7 +44,7 @@ use Rattle.sp_link.proofs.ChildrenStand as cs
 use Rattle.sp_link.proofs.Forks as fk
 use Rattle.sp_link.proofs.OneChanges.{q, pr}
 use Rattle.sp_link.proofs.Pauses.{Entry_of, Meant, Machined, Kept_to, kids}
-use Rattle.sp_link.proofs.Plans.{moved_by, shared_by, moved_in}
+use Rattle.sp_code.proofs.Plans.{moved_by, shared_by, moved_in}
 use Rattle.sp_link.proofs.Scoping.{IsScoped, is_scoped}
 use Rattle.sp_link.proofs.Splits.{piece_known, parallel_split, parts_differ}
 use Rattle.sp_link.proofs.Relation.{Ground, Life, Lives, W_of, R_of, Called, Named, Fresh, Stands, Handed, St, Linked, execution, run_is}

@@ -56,6 +56,7 @@ module _ (g : Setting) (moves shares : Stmt → List ℕ) (pause : ℕ) (ready :
     births = births_from at_start es;
     opened = 0;
     formed = ready.formed;
+    small = ready.small;
     laid = laid_of g.program code moves shares (IsQuiet g.program) blocks (λ f l e. layout_found g.program f l e);
     free = ready.free;
     pure = ready.pure;

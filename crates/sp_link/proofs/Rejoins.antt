@@ -24,7 +24,7 @@ use Rattle.sp_codegen.specs.Standing.{spot_at}
 use Rattle.sp_codegen.proofs.Joining.{joined_joining, all_joined}
 use Rattle.sp_link.proofs.Relation.{Ground, Life, Lives, Named, Called, St, Stands, Joined, Handed, Lives_yet, Away_yet, left_of}
 use Rattle.sp_link.proofs.OthersStay.{Jo, joining_more}
-use Rattle.sp_link.proofs.Plans.{out_of}
+use Rattle.sp_code.proofs.Plans.{out_of}
 
 known_piece : (c : Option Content) (cs : List OneCell) → piece_of c ≡ Some cs → IsSome c
 known_piece None cs e = absurd (cc e)

@@ -38,6 +38,7 @@ use Rattle.sp_code.specs.System.{System}
 use Rattle.sp_code.specs.System as sys
 use Rattle.sp_code.specs.Scopes.{slot}
 use Rattle.sp_code.specs.Shares.{SetsAre}
+use Rattle.sp_code.specs.Sizes.{HasSmallTypes}
 use Rattle.sp_code.specs.Sound.{AreLimits}
 use Rattle.sp_code.specs.Stands.{BlocksAt}
 use Rattle.sp_tree.specs.Formed.{IsFormed}
@@ -63,6 +64,7 @@ pub record Ground : Type 1 where
   -- how many channels are open so far
   pub opened : ℕ
   pub formed : IsFormed g.program
+  pub small : HasSmallTypes g.program
   pub laid : Laid g.program code.layouts
   pub free : IsFreeOfInterference g.program
   -- functions change nothing outside themselves, and take values alone
@@ -167,7 +169,7 @@ module _ (G : Ground) where
 
     module _ (f : Fresh) (w : Who) (named : w.name ≡ q) (since : ℕ) where
       pub law : Keeps G.g w (due_after since G.pause) Writes IsReadable lf.J ops (Rel w since)
-      law = instance G.g G.code w Named Called Writes IsReadable lf.J lf.low base lf.born since G.pause lf.moved G.formed G.laid f.based (λ n x. inl named) (let a = f.low_small in let b = G.limits.depth in omega (arith, a, b)) told
+      law = instance G.g G.code w Named Called Writes IsReadable lf.J lf.low base lf.born since G.pause lf.moved G.formed G.small G.laid f.based (λ n x. inl named) (let a = f.low_small in let b = G.limits.depth in omega (arith, a, b)) told
 
       -- all that the simulation of its turns speaks of
       abbrev pub execution : Execution (Memory Plain)

@@ -33,10 +33,10 @@ use Rattle.sp_code.specs.Tables.{child_at}
 use Rattle.sp_codegen.specs.Joints.{Joint, sources, from}
 use Rattle.sp_codegen.specs.Relation.{Placed}
 use Rattle.sp_codegen.proofs.Born.{table_at}
-use Rattle.sp_codegen.proofs.Handed.{in_spots, spots_from, MovedStands, moved_stands, right_of, once}
+use Rattle.sp_codegen.proofs.Handed.{MovedStands, moved_stands, right_of, once}
 use Rattle.sp_codegen.proofs.Owners.{within_at}
 use Rattle.sp_link.proofs.ChildrenStand.{reached_formed, consoles}
-use Rattle.sp_link.proofs.Plans.{out_of, distinct_spots, moved_by, shared_by, distinct_plan, index_by}
+use Rattle.sp_code.proofs.Plans.{in_spots, spots_from, out_of, distinct_spots, moved_by, shared_by, distinct_plan, index_by}
 use Rattle.sp_link.proofs.Relation.{Ground, Life, Called, Named, Fresh, St}
 use Rattle.sp_link.proofs.Scoping.{parts_scoped}
 

@@ -17,6 +17,7 @@ use Rattle.sp_code.specs.Memory as memory
 use Rattle.sp_code.specs.PlainStore.{plain}
 use Rattle.sp_code.specs.Quiet.{IsQuiet}
 use Rattle.sp_code.specs.Shares.{SetsAre}
+use Rattle.sp_code.specs.Sizes.{HasSmallTypes}
 use Rattle.sp_code.specs.Sound.{AreLimits}
 use Rattle.sp_code.specs.Stands.{IsFine}
 use Rattle.sp_code.specs.System.{System, IsSystem}
@@ -27,6 +28,7 @@ pub record IsReady (g : Setting) (moves shares : Stmt → List ℕ) : Type 0 whe
   pub main : Block
   pub first : slice_get g.program.blocks 0 ≡ Some main
   pub formed : IsFormed g.program
+  pub small : HasSmallTypes g.program
   pub free : IsFreeOfInterference g.program
   -- a function changes nothing outside itself, and takes values alone
   pub pure : (f : ℕ) → IsFunction g.program f → (x : ℕ) → ImplicitTarget g.program f x → ⊥

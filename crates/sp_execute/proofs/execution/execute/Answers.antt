@@ -2,12 +2,12 @@ use Rattle.std.proofs.Common.{sym, subst}
 use Rattle.sp_code.specs.declared.code.Parts.{Parts}
 use Rattle.sp_code.specs.Sound.{IsSound, run_of}
 use Rattle.sp_kernel.specs.declared.closed.Closed.{Closed}
+use Rattle.sp_link.proofs.Formals.{have_formals}
 use Rattle.sp_link.proofs.Soundness.{program_sound}
 use Rattle.sp_machine.specs.Procs.{HaveFormals}
 use Rattle.sp_runner.specs.Runs.{IsRun}
 use Rattle.sp_execute.specs.Runs.{setting}
 use Rattle.sp_execute.proofs.Executing.{run_of_code, executed}
-use Rattle.sp_execute.proofs.Formals.{have_formals}
 use Rattle.sp_execute.proofs.execution.execute.Goals as goal
 
 pub run-requires-clause-sound : goal.run-requires-clause-sound

@@ -1,11 +1,11 @@
 use Rattle.std.proofs.Common.{sym, subst}
 use Rattle.sp_code.specs.declared.code.Parts.{Parts}
 use Rattle.sp_code.specs.Sound.{IsSound}
+use Rattle.sp_link.proofs.Formals.{have_formals}
 use Rattle.sp_link.proofs.Soundness.{program_sound}
 use Rattle.sp_machine.specs.Procs.{HaveFormals}
 use Rattle.sp_execute.specs.Runs.{setting}
 use Rattle.sp_execute.proofs.Followed.{followed}
-use Rattle.sp_execute.proofs.Formals.{have_formals}
 use Rattle.sp_execute.proofs.following.follow.Goals as goal
 
 pub replay-requires-clause-sound : goal.replay-requires-clause-sound
