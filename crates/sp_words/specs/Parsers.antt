@@ -1,10 +1,12 @@
 -- The parser of command lines as the kit's `clap` sees it: its rules, ranges and subcommands. The builders in `parser`
 -- promise these shapes, and lemmas lead them to `command_of`, which is said without it.
-use Rattle.std.specs.Prelude.{◌≡◌, ◌∷◌, ◌++◌, true, false, List, [], Some, codes, is_some, map}
-use Rattle.clap.specs.Simple.{App, Shape, new_rule, new_shape}
+use Rattle.std.specs.Prelude.{◌≡◌, ◌∷◌, ◌++◌, true, false, List, [], Result, IfOk, IsOkAnd, Some, codes, is_some, map}
+use Rattle.clap.specs.Simple.{App, Shape, app_of, new_rule, new_shape, shape_of, with_subcommand}
 use Rattle.clap.specs.Walk.{Rule}
 use Rattle.clap.specs.ValueTests.{accepts}
 use Rattle.clap.specs.declared.builder.action.ArgAction.TheVariants.{Set}
+use Rattle.clap.specs.declared.builder.command.Command.{Command}
+use Rattle.clap.specs.declared.builder.command.Command.TheViews.{out-Command}
 use Rattle.clap.specs.declared.builder.value_parser.ValueParser.{ValueParser}
 use Rattle.clap.specs.declared.builder.value_parser.ValueParser.TheVariants as vp
 use Rattle.sp_words.specs.Dashes.{Text}
@@ -81,3 +83,16 @@ app_with q = record {
       ∷ shape_with (codes "code") [] ∷ shape_with (codes "sets") [] ∷ shape_with (codes "format") []
       ∷ shape_with (codes "gen") gen_parsers ∷ replay_shape limit_parsers ∷ [];
 }
+
+-- no option of the command is one of its subcommands as well
+abbrev pub IsLocal : Command → Type 0
+IsLocal c = (out-Command c).has_globals ≡ false
+
+-- where a command is made, one was given, and what was made is `f` of it
+abbrev pub Adds : {E : Type 0} → (App → App) → Result Command E → Result Command E → Type 0
+Adds f given made = IfOk made (λ c. IsOkAnd given (λ b. app_of c ≡ f (app_of b)))
+
+-- where a line is made, a line and a command were given, and the line made has the command as well
+abbrev pub AddsCommand : {E : Type 0} → Result Command E → Result Command E → Result Command E → Type 0
+AddsCommand line command made = IfOk made (λ c. IsOkAnd command (λ sub. IsOkAnd line (λ b.
+    IsLocal sub → app_of c ≡ with_subcommand (app_of b) (shape_of sub))))

@@ -3,10 +3,9 @@
 ghost use Rattle.std.specs.List.{fold};
 ghost use Rattle.std.specs.Prelude.{◌≡◌, ◌∷◌, ◌++◌, [], IfOk, codes, false, map};
 ghost use Rattle.clap.specs.Words.{app_of, rule_of, shape_of, with_rule, with_subcommand};
-ghost use Rattle.clap.specs.declared.builder.command.Command.TheViews.{out-Command as fields_of};
 ghost use Rattle.clap.specs.declared.builder.value_parser.ValueParser.{ValueParser as Parser};
 ghost use Rattle.clap.specs.declared.builder.value_parser.ValueParser.TheVariants.{Unsigned};
-ghost use Rattle.sp_words.specs.Parsers.{IsShowParser, app_with, app_with_file, bare_line, gen_parsers};
+ghost use Rattle.sp_words.specs.Parsers.{Adds, AddsCommand, IsLocal, IsShowParser, app_with, app_with_file, bare_line, gen_parsers};
 ghost use Rattle.sp_words.specs.Parsers.{limit_parsers, option_rule, replay_shape, run_parsers, shape_with, word_rule};
 
 use clap::builder::ValueParser;
@@ -46,78 +45,78 @@ fn show_arg<'a>(alloc: Global) -> Arg<'a>
         .value_parser(SHOWS.as_slice())
 }
 
+// What stands below takes a command, or the want of memory, as the step before gave it, and adds to it. So a chain of steps
+// holds no command across a `?`.
+
+// One more argument.
+fn with_arg<'a>(
+    command: Result<Command<'a>, AllocError>,
+    arg: Arg<'a>,
+) -> Result<Command<'a>, AllocError>
+    ensures rule { arg.entry.global ≡ false → Adds (λ a. with_rule a (rule_of arg.entry)) command.entry result }
+    ensures local { arg.entry.global ≡ false → IfOk command.entry IsLocal → IfOk result IsLocal }
+{
+    command?.arg(arg)
+}
+
 fn plain_command<'a>(alloc: Global, name: &'a str) -> Result<Command<'a>, AllocError>
     ensures app { IfOk result (λ c. app_of c ≡ app_with_file name.entry.now) }
-    ensures local { IfOk result (λ c. (fields_of c).has_globals ≡ false) }
+    ensures local { IfOk result IsLocal }
 {
     Command::new(alloc, name).arg(word_arg(alloc, "FILE"))
 }
 
 fn with_number<'a>(
-    command: Command<'a>,
+    command: Result<Command<'a>, AllocError>,
     alloc: Global,
     name: &'a str,
     least: u64,
     most: u64,
 ) -> Result<Command<'a>, AllocError>
-    ensures rule { IfOk result (λ c. app_of c
-        ≡ with_rule (app_of command.entry) (option_rule (name.entry.now, Unsigned least most))) }
-    ensures local { IfOk result (λ c. (fields_of command.entry).has_globals ≡ false
-        → (fields_of c).has_globals ≡ false) }
+    ensures rule { Adds (λ a. with_rule a (option_rule (name.entry.now, Unsigned least most))) command.entry result }
+    ensures local { IfOk command.entry IsLocal → IfOk result IsLocal }
 {
-    command.arg(number_arg(alloc, name, least, most))
-}
-
-fn with_show<'a>(command: Command<'a>, alloc: Global) -> Result<Command<'a>, AllocError>
-    ensures rule { IfOk result (λ c. (q : Parser)
-        × (app_of c ≡ with_rule (app_of command.entry) (option_rule (codes "show", q))) × IsShowParser q) }
-    ensures local { IfOk result (λ c. (fields_of command.entry).has_globals ≡ false
-        → (fields_of c).has_globals ≡ false) }
-{
-    command.arg(show_arg(alloc))
+    with_arg(command, number_arg(alloc, name, least, most))
 }
 
 // The command with the options of the limits as well.
-fn with_limits<'a>(command: Command<'a>, alloc: Global) -> Result<Command<'a>, AllocError>
-    ensures rules { IfOk result (λ c. app_of c
-        ≡ fold with_rule (app_of command.entry) (map option_rule limit_parsers)) }
-    ensures local { IfOk result (λ c. (fields_of command.entry).has_globals ≡ false
-        → (fields_of c).has_globals ≡ false) }
+fn with_limits<'a>(
+    command: Result<Command<'a>, AllocError>,
+    alloc: Global,
+) -> Result<Command<'a>, AllocError>
+    ensures rules { Adds (λ a. fold with_rule a (map option_rule limit_parsers)) command.entry result }
+    ensures local { IfOk command.entry IsLocal → IfOk result IsLocal }
 {
-    let command = with_number(command, alloc, "ticks", 1, 1_000_000_000)?;
-    let command = with_number(command, alloc, "depth", 1, 10_000)?;
-    let command = with_number(command, alloc, "cells", 1, 67_108_864)?;
-    let command = with_number(command, alloc, "processes", 1, 1_000_000)?;
-    let command = with_number(command, alloc, "channels", 1, 1_000_000)?;
-    let command = with_number(command, alloc, "entries", 1, 10_000_000)?;
+    let command = with_number(command, alloc, "ticks", 1, 1_000_000_000);
+    let command = with_number(command, alloc, "depth", 1, 10_000);
+    let command = with_number(command, alloc, "cells", 1, 67_108_864);
+    let command = with_number(command, alloc, "processes", 1, 1_000_000);
+    let command = with_number(command, alloc, "channels", 1, 1_000_000);
+    let command = with_number(command, alloc, "entries", 1, 10_000_000);
     with_number(command, alloc, "output", 1, 268_435_456)
 }
 
 fn run_command<'a>(alloc: Global) -> Result<Command<'a>, AllocError>
     ensures shape { IfOk result (λ c. (q : Parser)
         × (shape_of c ≡ shape_with (codes "run") (run_parsers q)) × IsShowParser q) }
-    ensures local { IfOk result (λ c. (fields_of c).has_globals ≡ false) }
+    ensures local { IfOk result IsLocal }
 {
-    let command = plain_command(alloc, "run")?;
-    let command = with_number(command, alloc, "workers", 1, 64)?;
-    let command = with_limits(command, alloc)?;
-    with_show(command, alloc)
+    let command = with_number(plain_command(alloc, "run"), alloc, "workers", 1, 64);
+    with_arg(with_limits(command, alloc), show_arg(alloc))
 }
 
 fn gen_command<'a>(alloc: Global) -> Result<Command<'a>, AllocError>
     ensures shape { IfOk result (λ c. shape_of c ≡ shape_with (codes "gen") gen_parsers) }
-    ensures local { IfOk result (λ c. (fields_of c).has_globals ≡ false) }
+    ensures local { IfOk result IsLocal }
 {
-    let command = plain_command(alloc, "gen")?;
-    with_number(command, alloc, "workers", 1, 64)
+    with_number(plain_command(alloc, "gen"), alloc, "workers", 1, 64)
 }
 
 fn replay_command<'a>(alloc: Global) -> Result<Command<'a>, AllocError>
     ensures shape { IfOk result (λ c. shape_of c ≡ replay_shape limit_parsers) }
-    ensures local { IfOk result (λ c. (fields_of c).has_globals ≡ false) }
+    ensures local { IfOk result IsLocal }
 {
-    let command = plain_command(alloc, "replay")?;
-    let command = command.arg(word_arg(alloc, "JOURNAL"))?;
+    let command = with_arg(plain_command(alloc, "replay"), word_arg(alloc, "JOURNAL"));
     with_limits(command, alloc)
 }
 
@@ -133,49 +132,48 @@ fn bare_line<'a>(alloc: Global) -> Command<'a>
         .subcommand_required(true)
 }
 
+// One more command.
+fn with_command<'a>(
+    line: Result<Command<'a>, AllocError>,
+    command: Result<Command<'a>, AllocError>,
+) -> Result<Command<'a>, AllocError>
+    ensures { AddsCommand line.entry command.entry result }
+{
+    match command {
+        Ok(command) => match line {
+            Ok(line) => line.subcommand(command),
+            Err(error) => {
+                drop(command);
+                Err(error)
+            }
+        },
+        Err(error) => {
+            drop(line);
+            Err(error)
+        }
+    }
+}
+
 // One more command that has its FILE alone.
 fn with_plain<'a>(
-    line: Command<'a>,
+    line: Result<Command<'a>, AllocError>,
     alloc: Global,
     name: &'a str,
 ) -> Result<Command<'a>, AllocError>
-    ensures { IfOk result (λ c. app_of c ≡ with_subcommand (app_of line.entry) (shape_with name.entry.now [])) }
+    ensures { Adds (λ a. with_subcommand a (shape_with name.entry.now [])) line.entry result }
 {
-    let command = plain_command(alloc, name)?;
-    line.subcommand(command)
-}
-
-fn with_run<'a>(line: Command<'a>, alloc: Global) -> Result<Command<'a>, AllocError>
-    ensures { IfOk result (λ c. (q : Parser)
-        × (app_of c ≡ with_subcommand (app_of line.entry) (shape_with (codes "run") (run_parsers q))) × IsShowParser q) }
-{
-    let command = run_command(alloc)?;
-    line.subcommand(command)
-}
-
-fn with_gen<'a>(line: Command<'a>, alloc: Global) -> Result<Command<'a>, AllocError>
-    ensures { IfOk result (λ c. app_of c ≡ with_subcommand (app_of line.entry) (shape_with (codes "gen") gen_parsers)) }
-{
-    let command = gen_command(alloc)?;
-    line.subcommand(command)
-}
-
-fn with_replay<'a>(line: Command<'a>, alloc: Global) -> Result<Command<'a>, AllocError>
-    ensures { IfOk result (λ c. app_of c ≡ with_subcommand (app_of line.entry) (replay_shape limit_parsers)) }
-{
-    let command = replay_command(alloc)?;
-    line.subcommand(command)
+    with_command(line, plain_command(alloc, name))
 }
 
 /// The parser of the whole command line. Its words begin with the command.
 pub(crate) fn parser<'a>(alloc: Global) -> Result<Command<'a>, AllocError>
     ensures { IfOk result (λ c. (q : Parser) × (app_of c ≡ app_with q) × IsShowParser q) }
 {
-    let line = with_plain(bare_line(alloc), alloc, "check")?;
-    let line = with_run(line, alloc)?;
-    let line = with_plain(line, alloc, "code")?;
-    let line = with_plain(line, alloc, "sets")?;
-    let line = with_plain(line, alloc, "format")?;
-    let line = with_gen(line, alloc)?;
-    with_replay(line, alloc)
+    let line = with_plain(Ok(bare_line(alloc)), alloc, "check");
+    let line = with_command(line, run_command(alloc));
+    let line = with_plain(line, alloc, "code");
+    let line = with_plain(line, alloc, "sets");
+    let line = with_plain(line, alloc, "format");
+    let line = with_command(line, gen_command(alloc));
+    with_command(line, replay_command(alloc))
 }

@@ -1,17 +1,19 @@
-use Rattle.std.proofs.Common.{◌∙◌, ap, codes}
-use Rattle.std.proofs.lemmas.Result.{IfOk-weaker}
+use Rattle.std.proofs.Common.{codes, map}
 use Rattle.std.specs.List.{fold}
-use Rattle.std.specs.Prelude.{map}
-use Rattle.clap.specs.Words.{App, with_rule}
+use Rattle.clap.specs.Words.{with_rule}
 use Rattle.clap.specs.declared.builder.value_parser.ValueParser.TheVariants.{Unsigned}
-use Rattle.sp_words.specs.Parsers.{limit_parsers, option_rule}
+use Rattle.sp_words.specs.Parsers.{app_with_file, limit_parsers, option_rule}
+use Rattle.sp_words.proofs.ParserLemmas.{added, shown, top_with}
 use Rattle.sp_words.proofs.parser.run_command.Goals as goal
 
 pub returns-clause-shape : goal.returns-clause-shape
 returns-clause-shape c =
-    let workers = c.in_ok-command-2.ensures.rule ∙ ap (λ (a : App). with_rule a (option_rule (codes "workers", Unsigned 1 64))) c.in_ok-command.ensures.app in
-    let limits = c.in_ok-command-3.ensures.rules ∙ ap (λ (a : App). fold with_rule a (map option_rule limit_parsers)) workers in
-    IfOk-weaker c.with_show.result _ _ (λ m h. (h.0, ap (λ (a : App). a.top) (h.1 ∙ ap (λ (a : App). with_rule a (option_rule (codes "show", h.0))) limits), h.2)) c.with_show.ensures.rule
+    let file = app_with_file (codes "run") in
+    let workers = with_rule file (option_rule (codes "workers", Unsigned 1 64)) in
+    let known = added (λ a. with_rule a (option_rule (codes "workers", Unsigned 1 64))) file _ _ c.with_number-command.ensures.rule c.plain_command.ensures.app in
+    let limits = added (λ a. fold with_rule a (map option_rule limit_parsers)) workers _ _ c.with_limits.ensures.rules known in
+    top_with (λ q. with_rule (fold with_rule workers (map option_rule limit_parsers)) (option_rule (codes "show", q))) _
+    (shown (fold with_rule workers (map option_rule limit_parsers)) _ _ _ (c.with_arg.ensures.rule c.show_arg.ensures.local) c.show_arg.ensures.rule limits)
 
 pub returns-clause-local : goal.returns-clause-local
-returns-clause-local c = IfOk-weaker c.with_show.result _ _ (λ m h. h (c.in_ok-command-3.ensures.local (c.in_ok-command-2.ensures.local c.in_ok-command.ensures.local))) c.with_show.ensures.local
+returns-clause-local c = c.with_arg.ensures.local c.show_arg.ensures.local (c.with_limits.ensures.local (c.with_number-command.ensures.local c.plain_command.ensures.local))

@@ -1,0 +1,28 @@
+use Rattle.std.proofs.Common.{codes, [], Ok}
+use Rattle.clap.specs.Words.{App, Shape, with_subcommand}
+use Rattle.clap.specs.declared.builder.value_parser.ValueParser.{ValueParser}
+use Rattle.sp_words.specs.Parsers.{bare_line, gen_parsers, limit_parsers, replay_shape, run_parsers, shape_with}
+use Rattle.sp_words.proofs.ParserLemmas.{added, added_with, shaped, shaped_with}
+use Rattle.sp_words.proofs.parser.parser.Goals as goal
+
+-- the line with one command more
+abbrev more : Shape → App → App
+more sub a = with_subcommand a sub
+
+-- the line up to `run`, where q is the parser of `--show`
+abbrev to_run : ValueParser → App
+to_run q = more (shape_with (codes "run") (run_parsers q)) (more (shape_with (codes "check") []) bare_line)
+
+-- up to `format`
+abbrev to_format : ValueParser → App
+to_format q = more (shape_with (codes "format") []) (more (shape_with (codes "sets") []) (more (shape_with (codes "code") []) (to_run q)))
+
+pub returns : goal.returns
+returns c =
+    let check = added (more (shape_with (codes "check") [])) bare_line (Ok c.bare_line.result) _ c.with_plain-line.ensures c.bare_line.ensures in
+    let run = shaped_with (more (shape_with (codes "check") []) bare_line) (λ q. shape_with (codes "run") (run_parsers q)) _ _ _ c.with_command-line.ensures c.run_command.ensures.local c.run_command.ensures.shape check in
+    let code = added_with (more (shape_with (codes "code") [])) to_run _ _ c.with_plain-line-2.ensures run in
+    let sets = added_with (more (shape_with (codes "sets") [])) (λ q. more (shape_with (codes "code") []) (to_run q)) _ _ c.with_plain-line-3.ensures code in
+    let format = added_with (more (shape_with (codes "format") [])) (λ q. more (shape_with (codes "sets") []) (more (shape_with (codes "code") []) (to_run q))) _ _ c.with_plain-line-4.ensures sets in
+    let gen = added_with (more (shape_with (codes "gen") gen_parsers)) to_format _ _ (shaped (shape_with (codes "gen") gen_parsers) _ _ _ c.with_command-line-2.ensures c.gen_command.ensures.local c.gen_command.ensures.shape) format in
+    added_with (more (replay_shape limit_parsers)) (λ q. more (shape_with (codes "gen") gen_parsers) (to_format q)) _ _ (shaped (replay_shape limit_parsers) _ _ _ c.with_command.ensures c.replay_command.ensures.local c.replay_command.ensures.shape) gen
