@@ -1,8 +1,10 @@
-use Rattle.std.proofs.Common.{ap, sym, subst}
-use Rattle.sp_journal.specs.Births.{NameableFrom, at_start}
-use Rattle.sp_journal.proofs.Walk.{any_entry, kept_whole, still_nameable}
-use Rattle.sp_report.specs.Conditions.{Conditions, after_all}
-use Rattle.sp_report.specs.Fits.{AllFit}
+use Rattle.std.proofs.Common.{ap, sym, subst, ◌∙◌, List, take}
+use Rattle.std.proofs.lemmas.List.{take_all, drop_all}
+use Rattle.sp_journal.specs.declared.entry.Entry.{Entry}
+use Rattle.sp_journal.specs.Births.{CanFollow, NameableFrom, at_start, births}
+use Rattle.sp_journal.proofs.Walk.{any_entry, can_follow, kept_whole, still_nameable, this}
+use Rattle.sp_report.specs.Conditions.{Conditions, after_all, conditions}
+use Rattle.sp_report.specs.Fits.{AllFit, seen}
 use Rattle.sp_report.proofs.FitLaws.{first_fit, one_fits, one_told}
 use Rattle.sp_report.proofs.waiting.after_all.Goals as goal
 
@@ -16,6 +18,18 @@ loop-entry-init c =
       subst (AllFit at_start) (sym c.in_ok-table.ensures) first_fit,
     )
 
+pub tell-requires-clause-next : goal.tell-requires-clause-next
+tell-requires-clause-next c =
+    let es = c.items-entry-items.result.now in
+    let h = c.loop-entry.invariant in
+    subst (λ (xs : List Entry). CanFollow (births xs) (this es c.loop-entry.entry-index c.loop-entry-test.true)) (sym h.1) (can_follow es c.loop-entry.entry-index any_entry c.loop-entry-test.true h.2)
+
+pub add-requires-clause-next : goal.add-requires-clause-next
+add-requires-clause-next c =
+    let es = c.items-entry-items.result.now in
+    let h = c.loop-entry.invariant in
+    subst (λ (xs : List Entry). CanFollow (births xs) (this es c.loop-entry.entry-index c.loop-entry-test.true)) (sym h.1) (can_follow es c.loop-entry.entry-index any_entry c.loop-entry-test.true h.2)
+
 pub loop-entry-preserved : goal.loop-entry-preserved
 loop-entry-preserved c =
     let es = c.items-entry-items.result.now in
@@ -28,3 +42,23 @@ loop-entry-preserved c =
       one_told es i l _ _ _ h.1 c.in_ok-tell.ensures h.3,
       one_fits es i l _ _ _ h.1 c.in_ok-tell.ensures h.2 h.4,
     )
+
+pub returns-clause-ledger : goal.returns-clause-ledger
+returns-clause-ledger c = c.loop-entry.invariant.0
+
+pub returns-clause-journal : goal.returns-clause-journal
+returns-clause-journal c = c.loop-entry.invariant.1 ∙ take_all c.loop-entry.entry-index c.items-entry-items.result.now c.loop-entry-test.false ∙ c.items-entry-items.ensures
+
+pub returns-clause-table : goal.returns-clause-table
+returns-clause-table c =
+    let es = c.items-entry-items.result.now in
+    let t = seen c.loop-entry.table in
+    sym (ap (after_all (births (take c.loop-entry.entry-index es)) t) (drop_all c.loop-entry.entry-index es c.loop-entry-test.false))
+    ∙ c.loop-entry.invariant.3 ∙ ap conditions c.items-entry-items.ensures
+
+pub returns-clause-fit : goal.returns-clause-fit
+returns-clause-fit c =
+    let es = c.items-entry-items.result.now in
+    let whole = take_all c.loop-entry.entry-index es c.loop-entry-test.false ∙ c.items-entry-items.ensures in
+    let told = sym (ap (after_all (births (take c.loop-entry.entry-index es)) (seen c.loop-entry.table)) (drop_all c.loop-entry.entry-index es c.loop-entry-test.false)) ∙ c.loop-entry.invariant.3 ∙ ap conditions c.items-entry-items.ensures in
+    subst (AllFit (births c.args.journal.now.entries)) told (subst (λ (xs : List Entry). AllFit (births xs) (seen c.loop-entry.table)) whole c.loop-entry.invariant.4)
