@@ -1,4 +1,5 @@
-use Rattle.std.proofs.Common.{map}
+use Rattle.std.proofs.Common.{map, arith}
+use Rattle.std.proofs.lemmas.Grind.{common_steps}
 use Rattle.sp_tree.specs.NamedOf as named
 use Rattle.sp_tree.specs.SyntaxOf.{expression_of}
 use Rattle.sp_scope.proofs.Found.{repeat_found}
@@ -8,3 +9,12 @@ pub name_repeat-returns-clause-found : goal.name_repeat-returns-clause-found
 name_repeat-returns-clause-found t c =
     repeat_found _ (map named.statement_of c.in_ok-ss.ss.tree) _ c.in_ok-ss.ss.first c.in_ok-e.e.first _ _ (expression_of c.args.e) (named.expression_of c.in_ok-e.e.tree) _
     c.in_ok-ss.ensures.found c.in_ok-ss.ensures.after c.in_ok-e.ensures c.repeat_form.ensures
+
+pub name_statements-loop-s-preserved : goal.name_statements-loop-s-preserved
+name_statements-loop-s-preserved t c = grind (arith, common_steps)
+
+pub name_arms-loop-a-preserved : goal.name_arms-loop-a-preserved
+name_arms-loop-a-preserved t c = grind (arith, common_steps)
+
+pub name_branches-loop-b-preserved : goal.name_branches-loop-b-preserved
+name_branches-loop-b-preserved t c = grind (arith, common_steps)
