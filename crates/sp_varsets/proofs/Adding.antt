@@ -1,5 +1,5 @@
 -- What is added part by part.
-use Rattle.std.proofs.Common.{◌≡◌, ◌↔◌, ◌⊎◌, ℕ, zero, suc, ◌<◌, ◌≤◌, Bool, true, false, not, ◌==◌, ◌||◌, ◌&&◌, List, [], ◌∷◌, map, drop, length, get_or, refl, sym, ap, subst, ◌∙◌, arith, inl, inr, ◌+◌, add-one, Result, Ok, Err, OnOk, eqb-true, eq-eqb}
+use Rattle.std.proofs.Common.{◌≡◌, ◌↔◌, ◌⊎◌, ℕ, zero, suc, ◌<◌, ◌≤◌, true, false, ◌==◌, ◌||◌, List, [], ◌∷◌, map, drop, length, get_or, refl, sym, ap, subst, ◌∙◌, arith, inl, inr, ◌+◌, add-one, Result, Ok, Err, OnOk, eqb-true, eq-eqb}
 use Rattle.sp_tree.specs.declared.checked.Actual.{Actual}
 use Rattle.sp_tree.specs.declared.checked.Selector.{Selector}
 use Rattle.sp_tree.specs.PlainChecked as p
@@ -113,22 +113,6 @@ union_is old other new e x = (
   λ h. or_out (has old x) (has other x) (sym (e x) ∙ h),
   λ s. e x ∙ or_in (has old x) (has other x) s,
 )
-
-pub without_is : (old new : VarSet) (y : ℕ) → ((x : ℕ) → has new x ≡ has old x && not (y == x)) → IsWithout old new y
-without_is old new y e x = (
-  λ h. let b = both (has old x) (y == x) (sym (e x) ∙ h) in (b.0, λ i. b.1 (eq-eqb y x i)),
-  λ s. e x ∙ join (has old x) (y == x) s.0 (λ h. s.1 (eqb-true y x h)),
-)
-  where
-    both : (a b : Bool) → a && not b ≡ true → (a ≡ true) × (b ≡ true → ⊥)
-    both true true h = absurd (let no : false ≡ true = h in cc)
-    both true false h = (refl, λ e. let no : false ≡ true = e in cc)
-    both false b h = absurd (let no : false ≡ true = h in cc)
-
-    join : (a b : Bool) → a ≡ true → (b ≡ true → ⊥) → a && not b ≡ true
-    join true true h n = absurd (n refl)
-    join true false h n = refl
-    join false b h n = absurd (let no : false ≡ true = h in cc)
 
 -- lists, item by item
 selectors_step : (ss : List Selector) (i : ℕ) (s : Selector) → i < length ss → s ≡ get_or ss i s → selectors (map selector_of (drop i ss)) ≡ p.Select (selector_of s) (selectors (map selector_of (drop (suc i) ss)))

@@ -1,5 +1,5 @@
 -- Bodies, declarations and rows, one after another.
-use Rattle.std.proofs.Common.{◌≡◌, ◌↔◌, ◌⊎◌, ℕ, zero, suc, ◌+◌, ◌<◌, ◌≤◌, Bool, true, false, ◌==◌, ◌||◌, ◌&&◌, List, [], ◌∷◌, ◌++◌, map, drop, length, get_or, set, slice_get, refl, sym, ap, subst, ◌∙◌, arith, inl, inr, add-one, eqb-true, eq-eqb, Some, None}
+use Rattle.std.proofs.Common.{◌≡◌, ◌↔◌, ◌⊎◌, ℕ, zero, suc, ◌+◌, ◌<◌, ◌≤◌, Bool, true, false, ◌==◌, ◌||◌, ◌&&◌, List, [], ◌∷◌, ◌++◌, map, drop, length, get_or, slice_get, refl, sym, ap, subst, ◌∙◌, arith, inl, inr, add-one, eqb-true, eq-eqb, Some, None}
 use Rattle.std.proofs.lemmas.Bool.{cases_eq}
 use Rattle.std.proofs.lemmas.List.{length-append}
 use Rattle.std.proofs.lemmas.Option.{slice_get_within}
@@ -14,10 +14,9 @@ use Rattle.sp_varsets.specs.declared.bodies.Bodies.{Bodies}
 use Rattle.sp_varsets.specs.declared.uses.Uses.{Uses}
 use Rattle.sp_varsets.specs.declared.var_set.VarSet.{VarSet}
 use Rattle.sp_varsets.specs.Members.{has}
-use Rattle.sp_varsets.specs.Paths.{row_has, member}
+use Rattle.sp_varsets.specs.Paths.{member}
 use Rattle.sp_varsets.specs.Bodies.{IsInBlocks, BodyAt, AreBodies, Declares, AreDeclared}
 use Rattle.sp_varsets.proofs.Adding.{Has}
-use Rattle.sp_varsets.proofs.Paths.{row_is, set_same, set_other}
 use Rattle.sp_varsets.proofs.Words.{or_in, or_out}
 
 -- a row put last
@@ -41,9 +40,6 @@ member_past_empty [] s none all zero x = none x
 member_past_empty [] s none all (suc b) x = refl
 member_past_empty (r ∷ rows) s none all zero x = all zero x
 member_past_empty (r ∷ rows) s none all (suc b) x = member_past_empty rows s none (λ c y. all (suc c) y) b x
-
-turn : {A B C : Type 0} → A ≡ B → B ↔ C → A ↔ C
-turn {A} {B} {C} e f = subst (λ (Z : Type 0). Z ↔ C) (sym e) f
 
 rows_more : (old : List VarSet) (s : VarSet) (n b x : ℕ) (H : Type 0) → length old ≡ n → b < n → (member old b x ≡ true) ↔ H → (member (old ++ s ∷ []) b x ≡ true) ↔ H
 rows_more old s n b x H l h f =
@@ -204,17 +200,3 @@ declared_more g old new n i a at d = record {
     ],
   );
 }
-
-pub declared_none : (g : Program) (rows : List VarSet) → length rows ≡ length g.blocks → ((b x : ℕ) → member rows b x ≡ false) → AreDeclared g rows 0
-declared_none g rows l none = record { count = l; members = λ b x low. (λ h. absurd (let no : false ≡ true = sym (none b x) ∙ h in cc), λ s. absurd (let no = s.0 in omega arith)) }
-
--- one row replaced by a changed one
-pub put_row_is : (old : List VarSet) (b : ℕ) (row now : VarSet) (x : ℕ) → slice_get old b ≡ Some row → b < length old → ((y : ℕ) → has now y ≡ (x == y) || has row y)
-    → (c y : ℕ) → member (set old b now) c y ≡ ((c == b) && (x == y)) || member old c y
-put_row_is old b row now x at low put c y = elim (cases_eq c b) [
-  | inl here ↦
-      ap (λ z. member (set old b now) z y) here ∙ (row_is (set old b now) b now y (set_same old b now low) ∙ (put y ∙ (
-      ap (λ z. (x == y) || z) (sym (ap (λ z. member old z y) here ∙ row_is old b row y at)) ∙ sym (ap (λ z. (z && (x == y)) || member old c y) (eq-eqb c b here)))))
-  | inr away ↦
-      ap (λ o. row_has o y) (set_other old b c now away) ∙ sym (ap (λ z. (z && (x == y)) || member old c y) (Rattle.sp_varsets.proofs.Words.not_true (c == b) (λ h. away (eqb-true c b h))))
-]

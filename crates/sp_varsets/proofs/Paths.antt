@@ -37,17 +37,6 @@ pub within_rows : (rows : List VarSet) (b x : ℕ) → member rows b x ≡ true 
 within_rows rows b x h = elim (cases_lt b (length rows)) [ inl l ↦ l | inr g ↦ absurd (let no : false ≡ true = sym (none_past rows b x g) ∙ h in cc) ]
 
 -- one row carried
-pub carried_self : (rows : List VarSet) (b : ℕ) (hidden : VarSet) → Carried rows rows b b hidden false
-carried_self rows b hidden = record {
-  rows = refl;
-  kept = λ c x h. h;
-  led = λ c x h. inl h;
-  others = λ c x n. refl;
-  full = λ x h m. m;
-  none = λ e c x. refl;
-  some = λ e. absurd (let no : false ≡ true = e in cc);
-}
-
 pub carried : (old : List VarSet) (to from : ℕ) (row now : VarSet) (hidden : VarSet) (changed : Bool) → slice_get old to ≡ Some row → to < length old → from ≢ to
     → ((x : ℕ) → has now x ≡ has row x || (member old from x && not (has hidden x)))
     → (changed ≡ false → (x : ℕ) → has now x ≡ has row x) → (changed ≡ true → (x : ℕ) × (has now x ≡ true) × (has row x ≡ false))
@@ -94,17 +83,6 @@ carried old to from row now hidden changed is within away added same grew = reco
     join false b h n = absurd (let no : false ≡ true = h in cc)
 
 -- the calls of one block, one after another
-pub visited_start : (rows : List VarSet) (b : ℕ) (runs hidden : VarSet) → Visited rows rows b runs hidden 0 false
-visited_start rows b runs hidden = record {
-  rows = refl;
-  kept = λ c x h. h;
-  led = λ c x h. inl h;
-  others = λ c x n. refl;
-  full = λ f x l. absurd (omega arith);
-  none = λ e c x. refl;
-  some = λ e. absurd (let no : false ≡ true = e in cc);
-}
-
 false_left : (a b : Bool) → a || b ≡ false → a ≡ false
 false_left true b h = h
 false_left false b h = refl
@@ -154,10 +132,6 @@ visited_rest old new b runs hidden n m changed v none = record {
   some = v.some;
 }
 
--- following
-pub follows_self : (runs hidden rows : List VarSet) → Follows runs hidden rows rows
-follows_self runs hidden rows = record { rows = refl; kept = λ b x h. h; led = λ b x h. ([], h) }
-
 leads_led : (runs hidden old new : List VarSet) → ((b x : ℕ) → member new b x ≡ true → (cs : List ℕ) × Leads old runs hidden cs b x) → (cs : List ℕ) (b x : ℕ) → Leads new runs hidden cs b x → (ds : List ℕ) × Leads old runs hidden ds b x
 leads_led runs hidden old new f [] b x h = f b x h
 leads_led runs hidden old new f (c ∷ cs) b x (r, h, l) = let d = leads_led runs hidden old new f cs c x l in (c ∷ d.0, (r, h, d.1))
@@ -184,14 +158,6 @@ follows_visit runs hidden old new b n r h changed er eh v = record {
       ),
     )
   ];
-}
-
-pub swept_start : (runs hidden rows : List VarSet) → Swept runs hidden rows rows 0 false
-swept_start runs hidden rows = record {
-  follows = follows_self runs hidden rows;
-  none = λ e b x. refl;
-  full = λ e b c x l. absurd (omega arith);
-  some = λ e. absurd (let no : false ≡ true = e in cc);
 }
 
 pub swept_more : (runs hidden old mid new : List VarSet) (b : ℕ) (r h : VarSet) (one two : Bool) → slice_get runs b ≡ Some r → slice_get hidden b ≡ Some h → length old ≤ 2 ^ 32

@@ -1,5 +1,5 @@
 -- Totals, call by call.
-use Rattle.std.proofs.Common.{◌≡◌, ◌≢◌, ◌↔◌, ◌⊎◌, ℕ, zero, suc, ◌+◌, ◌-◌, ◌<◌, ◌≤◌, ◌^◌, Bool, true, false, not, ◌||◌, ◌&&◌, List, [], ◌∷◌, ◌++◌, length, get_or, slice_get, refl, sym, ap, ◌∙◌, arith, inl, inr, Option, Some, None}
+use Rattle.std.proofs.Common.{◌≡◌, ◌↔◌, ℕ, zero, suc, ◌+◌, ◌<◌, ◌≤◌, Bool, true, false, List, [], ◌∷◌, ◌++◌, length, get_or, slice_get, refl, sym, ap, ◌∙◌, arith, inl, inr, Option, Some, None}
 use Rattle.std.proofs.lemmas.Bool.{cases_eq, cases_lt}
 use Rattle.std.proofs.lemmas.List.{get_or_past}
 use Rattle.sp_varsets.specs.declared.sets.Entry.{Entry}
@@ -7,71 +7,13 @@ use Rattle.sp_varsets.specs.declared.var_set.VarSet.{VarSet}
 use Rattle.sp_varsets.specs.declared.walk.Own.{Own}
 use Rattle.sp_varsets.specs.Members.{has}
 use Rattle.sp_varsets.specs.Paths.{row_has, member}
-use Rattle.sp_varsets.specs.Records.{pooled, Extends, Stands, slot_at}
+use Rattle.sp_varsets.specs.Records.{Extends, Stands, slot_at}
 use Rattle.sp_varsets.specs.Totals.{IsInTotal, IsWithin, IsEntry, AreEntries, AreRowEntries}
 use Rattle.sp_varsets.proofs.Gathering.{length_more}
-use Rattle.sp_varsets.proofs.Paths.{none_past, within_rows}
+use Rattle.sp_varsets.proofs.Paths.{none_past}
 use Rattle.sp_varsets.proofs.Walking.{extends_then, stands_more, stands_as}
-use Rattle.sp_varsets.proofs.Words.{or_in, or_out}
 
--- a row added, none of which is hidden
-pub row_added : (mid new nothing : VarSet) (rows : List VarSet) (f : ℕ) → ((x : ℕ) → has nothing x ≡ false) → ((x : ℕ) → has new x ≡ has mid x || (member rows f x && not (has nothing x)))
-    → (x : ℕ) → (has new x ≡ true) ↔ ((has mid x ≡ true) ⊎ (member rows f x ≡ true))
-row_added mid new nothing rows f none e x = (
-  λ h. or_out (has mid x) (member rows f x) (sym (plain x) ∙ h),
-  λ s. plain x ∙ or_in (has mid x) (member rows f x) s,
-)
-  where
-    shown : (b c : Bool) → c ≡ false → b && not c ≡ b
-    shown true c h = ap not h
-    shown false c h = refl
-
-    plain : (x : ℕ) → has new x ≡ has mid x || member rows f x
-    plain x = e x ∙ ap (λ b. has mid x || b) (shown (member rows f x) (has nothing x) (none x))
-
--- the rows of blocks of a set below a number
-abbrev pub IsGathered : VarSet → VarSet → VarSet → List VarSet → ℕ → ℕ → Type 0
-IsGathered old new runs rows n x = (has new x ≡ true) ↔ ((has old x ≡ true) ⊎ ((f : ℕ) × (f < n) × (has runs f ≡ true) × (member rows f x ≡ true)))
-
-pub gathered_none : (old runs : VarSet) (rows : List VarSet) (x : ℕ) → IsGathered old old runs rows 0 x
-gathered_none old runs rows x = (λ h. inl h, λ s. elim s [ inl h ↦ h | inr f ↦ absurd (let l = f.1 in omega arith) ])
-
-pub gathered_more : (old mid new runs : VarSet) (rows : List VarSet) (n f x : ℕ) → IsGathered old mid runs rows n x → (has new x ≡ true) ↔ ((has mid x ≡ true) ⊎ (member rows f x ≡ true))
-    → n ≤ f → has runs f ≡ true → ((y : ℕ) → n ≤ y → y < f → has runs y ≡ false) → IsGathered old new runs rows (f + 1) x
-gathered_more old mid new runs rows n f x g e low is between = (
-  λ h. elim (e.0 h) [
-    | inl m ↦ elim (g.0 m) [ inl o ↦ inl o | inr t ↦ inr (t.0, before t.0 t.1, t.2, t.3) ]
-    | inr r ↦ inr (f, omega arith, is, r)
-  ],
-  λ s. elim s [ inl o ↦ e.1 (inl (g.1 (inl o))) | inr t ↦ found t.0 t.1 t.2 t.3 ],
-)
-  where
-    before : (y : ℕ) → y < n → y < f + 1
-    before y l = omega arith
-
-    found : (y : ℕ) → y < f + 1 → has runs y ≡ true → member rows y x ≡ true → has new x ≡ true
-    found y l r m = elim (cases_eq y f) [
-      | inl here ↦ e.1 (inr (ap (λ z. member rows z x) (sym here) ∙ m))
-      | inr away ↦ elim (cases_lt y n) [
-        | inl less ↦ e.1 (inl (g.1 (inr (y, less, r, m))))
-        | inr more ↦ absurd (let no : false ≡ true = sym (between y more (omega arith)) ∙ r in cc)
-      ]
-    ]
-
--- nothing more is called
-pub gathered_all : (old new runs : VarSet) (rows : List VarSet) (n x : ℕ) → IsGathered old new runs rows n x → length rows ≤ 2 ^ 32 → ((y : ℕ) → n ≤ y → y < 2 ^ 32 → has runs y ≡ false)
-    → (has new x ≡ true) ↔ ((has old x ≡ true) ⊎ ((f : ℕ) × (has runs f ≡ true) × (member rows f x ≡ true)))
-gathered_all old new runs rows n x g small none = (
-  λ h. elim (g.0 h) [ inl o ↦ inl o | inr t ↦ inr (t.0, t.2, t.3) ],
-  λ s. elim s [ inl o ↦ g.1 (inl o) | inr t ↦ found t.0 t.1 t.2 ],
-)
-  where
-    found : (y : ℕ) → has runs y ≡ true → member rows y x ≡ true → has new x ≡ true
-    found y r m = elim (cases_lt y n) [
-      | inl less ↦ g.1 (inr (y, less, r, m))
-      | inr more ↦ absurd (let w = within_rows rows y x m in let no : false ≡ true = sym (none y more (omega arith)) ∙ r in cc)
-    ]
-
+-- one more entry
 pub entry_at : (xs : List Entry) (e : Entry) (m : ℕ) (f : Entry) → slice_get xs m ≡ Some f → slice_get (xs ++ e ∷ []) m ≡ Some f
 entry_at [] e m f h = absurd (let no : None ≡ Some f = h in cc)
 entry_at (x ∷ xs) e zero f h = h
@@ -87,33 +29,6 @@ entry_last xs e m h = ap (λ n. slice_get (xs ++ e ∷ []) n) h ∙ last xs
 pub totals_more : {a b : List VarSet} → Extends a b → (targets seen : List VarSet) (own : Own) (e : Entry) (old : List VarSet) → IsEntry old a own targets seen e → IsEntry old b own targets seen e
 totals_more x targets seen own e old i = record { aims = stands_more x i.aims; sees = stands_more x i.sees }
 
--- the pool by places
-pub pooled_is : (pool : List VarSet) (i x : ℕ) → i ≢ 0 → pooled pool i x ≡ member pool (i - 1) x
-pooled_is pool zero x n = absurd (n refl)
-pooled_is pool (suc i) x n = ap (λ j. row_has (slice_get pool j) x) (less i)
-  where
-    less : (i : ℕ) → i ≡ suc i - 1
-    less i = omega arith
-
-pub pooled_none : (pool : List VarSet) (i x : ℕ) → i ≡ 0 → pooled pool i x ≡ false
-pooled_none pool i x e = ap (λ j. pooled pool j x) e
-
-pub total_none : (pool rows : List VarSet) (own runs : ℕ) → own ≤ length pool → runs ≡ 0 → Stands pool own (λ x. IsInTotal pool rows own runs x)
-total_none pool rows own runs within e = record {
-  within = within;
-  members = λ x. (λ h. inl h, λ s. elim s [ inl h ↦ h | inr t ↦ absurd (let no : false ≡ true = sym (pooled_none pool runs t.0 e) ∙ t.1 in cc) ]);
-}
-
-pub total_all : (pool rows : List VarSet) (own runs : ℕ) (empty one all : VarSet) → ((x : ℕ) → has empty x ≡ false) → ((x : ℕ) → (has one x ≡ true) ↔ ((has empty x ≡ true) ⊎ (pooled pool own x ≡ true)))
-    → ((x : ℕ) → (has all x ≡ true) ↔ ((has one x ≡ true) ⊎ ((f : ℕ) × (pooled pool runs f ≡ true) × (member rows f x ≡ true)))) → (x : ℕ) → (has all x ≡ true) ↔ IsInTotal pool rows own runs x
-total_all pool rows own runs empty one all none f g x = (
-  λ h. elim ((g x).0 h) [
-    | inl o ↦ elim ((f x).0 o) [ inl e ↦ absurd (let no : false ≡ true = sym (none x) ∙ e in cc) | inr p ↦ inl p ]
-    | inr t ↦ inr t
-  ],
-  λ s. (g x).1 (elim s [ inl p ↦ inl ((f x).1 (inr p)) | inr t ↦ inr t ]),
-)
-
 -- an entry made later, of what the pool had before
 pub entry_from : {a b c : List VarSet} → Extends a b → (targets seen : List VarSet) (own : Own) (e : Entry) → IsWithin a own → IsEntry b c own targets seen e → IsEntry a c own targets seen e
 entry_from {a} {b} {c} x targets seen own e w i = record {
@@ -126,13 +41,6 @@ entry_from {a} {b} {c} x targets seen own e w i = record {
       λ s. elim s [ inl p ↦ inl (sym (x.same k y low) ∙ p) | inr t ↦ inr (t.0, sym (x.same own.runs t.0 w.runs) ∙ t.1, t.2) ],
       λ s. elim s [ inl p ↦ inl (x.same k y low ∙ p) | inr t ↦ inr (t.0, x.same own.runs t.0 w.runs ∙ t.1, t.2) ],
     )
-
-pub within_more : {a b : List VarSet} {own : Own} → Extends a b → IsWithin a own → IsWithin b own
-within_more x w = let l = x.longer in record {
-  aims = (let h = w.aims in omega arith);
-  sees = (let h = w.sees in omega arith);
-  runs = (let h = w.runs in omega arith);
-}
 
 pub entries_more : (old mid new : List VarSet) (slots : List (Option Own)) (targets seen : List VarSet) (entries : List Entry) (n : ℕ) (o : Option Own) (e : Entry)
     → AreEntries old mid slots targets seen entries n → Extends mid new → o ≡ slot_at slots n
