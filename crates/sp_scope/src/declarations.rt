@@ -16,12 +16,7 @@ fn constant_rule(at: Place, m: Option<&Meaning>) -> Found
     match m {
         None => breaks(Rule::N1, at),
         Some(Meaning::Constant(_)) => None,
-        Some(Meaning::Kind(_)) => breaks(Rule::N3, at),
-        Some(Meaning::Variable { .. }) => breaks(Rule::N3, at),
-        Some(Meaning::Procedure { .. }) => breaks(Rule::N3, at),
-        Some(Meaning::Function { .. }) => breaks(Rule::N3, at),
-        Some(Meaning::StandardProcedure(_)) => breaks(Rule::N3, at),
-        Some(Meaning::StandardFunction(_)) => breaks(Rule::N3, at),
+        Some(_) => breaks(Rule::N3, at),
     }
 }
 
@@ -31,12 +26,7 @@ fn kind_rule(at: Place, m: Option<&Meaning>) -> Found
     match m {
         None => breaks(Rule::N1, at),
         Some(Meaning::Kind(_)) => None,
-        Some(Meaning::Constant(_)) => breaks(Rule::N3, at),
-        Some(Meaning::Variable { .. }) => breaks(Rule::N3, at),
-        Some(Meaning::Procedure { .. }) => breaks(Rule::N3, at),
-        Some(Meaning::Function { .. }) => breaks(Rule::N3, at),
-        Some(Meaning::StandardProcedure(_)) => breaks(Rule::N3, at),
-        Some(Meaning::StandardFunction(_)) => breaks(Rule::N3, at),
+        Some(_) => breaks(Rule::N3, at),
     }
 }
 

@@ -190,11 +190,7 @@ fn operand_form(
             NamedExprForm::Call(*block, x.at, List::new(alloc))
         }
         Some(Meaning::StandardFunction(f)) => NamedExprForm::Standard(*f, List::new(alloc)),
-        Some(Meaning::Variable { number, .. }) => variable_read(*number, x, xs),
-        None => variable_read(0, x, xs),
-        Some(Meaning::Kind(_)) => variable_read(0, x, xs),
-        Some(Meaning::Procedure { .. }) => variable_read(0, x, xs),
-        Some(Meaning::StandardProcedure(_)) => variable_read(0, x, xs),
+        m => variable_read(variable_number(m), x, xs),
     }
 }
 

@@ -223,9 +223,6 @@ pub fn name_enumerated(alloc: Global, kind: u32, k: &SynKind) -> Result<List<Nam
 {
     match k {
         SynKind::Enumeration(xs) => enumerate(alloc, kind, xs.items()),
-        SynKind::Alias(_) => Ok(List::new(alloc)),
-        SynKind::Array(_, _, _) => Ok(List::new(alloc)),
-        SynKind::Record(_) => Ok(List::new(alloc)),
-        SynKind::Channel(_) => Ok(List::new(alloc)),
+        _ => Ok(List::new(alloc)),
     }
 }

@@ -124,10 +124,7 @@ fn declare_enumerated(
 {
     match k {
         SynKind::Enumeration(xs) => declare_constants(alloc, scopes, xs.items(), first),
-        SynKind::Alias(_) => Ok(first),
-        SynKind::Array(_, _, _) => Ok(first),
-        SynKind::Record(_) => Ok(first),
-        SynKind::Channel(_) => Ok(first),
+        _ => Ok(first),
     }
 }
 

@@ -88,12 +88,7 @@ fn procedure_form(m: Option<&Meaning>, args: List<NamedArg>) -> NamedForm
     match m {
         Some(Meaning::Procedure { block, .. }) => NamedForm::Call(*block, args),
         Some(Meaning::StandardProcedure(p)) => NamedForm::Standard(*p, args),
-        None => NamedForm::Call(0, args),
-        Some(Meaning::Constant(_)) => NamedForm::Call(0, args),
-        Some(Meaning::Kind(_)) => NamedForm::Call(0, args),
-        Some(Meaning::Variable { .. }) => NamedForm::Call(0, args),
-        Some(Meaning::Function { .. }) => NamedForm::Call(0, args),
-        Some(Meaning::StandardFunction(_)) => NamedForm::Call(0, args),
+        _ => NamedForm::Call(0, args),
     }
 }
 

@@ -1,0 +1,6 @@
+use Rattle.std.proofs.Common.{arith}
+use Rattle.std.proofs.lemmas.Grind.{common_steps}
+use Rattle.sp_scope.proofs.kinds.check_groups.Goals as goal
+
+pub loop-g-preserved : goal.loop-g-preserved
+loop-g-preserved c = grind (arith, common_steps)
