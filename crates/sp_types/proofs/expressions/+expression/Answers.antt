@@ -1,4 +1,5 @@
-use Rattle.std.proofs.Common.{ℕ, ap, ◌∙◌, Some, Option}
+use Rattle.std.proofs.Common.{ℕ, ap, ◌∙◌, Some, Option, arith}
+use Rattle.std.proofs.lemmas.Grind.{common_steps}
 use Rattle.sp_tree.specs.NamedOf.{expression_of}
 use Rattle.sp_tree.specs.PlainChecked as k
 use Rattle.sp_tree.specs.CheckedOf as checked
@@ -18,3 +19,21 @@ type_right-returns t c = rw (c.binary_gives.ensures, c.binary.ensures) (ruled (�
 
 pub type_unary-returns : goal.type_unary-returns
 type_unary-returns t c = rw (c.unary_takes.ensures, c.unary.ensures) (ruled (λ (e : k.Expression). k.Unary c.args.op e) (λ (j : Option ℕ). Some (unary_takes c.args.op)) (unary_rule c.args.op) _ _ _ _ _ _ _ _ _ _ (c.place_of-at.ensures ∙ ap (λ e. place (expression_of e)) c.get.ensures) c.in_ok-e.ensures c.unary_rule.ensures c.lesser.ensures)
+
+pub type_selectors-loop-x-preserved : goal.type_selectors-loop-x-preserved
+type_selectors-loop-x-preserved t c = grind (arith, common_steps)
+
+pub type_actuals-loop-x-preserved : goal.type_actuals-loop-x-preserved
+type_actuals-loop-x-preserved t c = grind (arith, common_steps)
+
+pub type_standard-loop-x-preserved : goal.type_standard-loop-x-preserved
+type_standard-loop-x-preserved t c = grind (arith, common_steps)
+
+pub type_selectors-returns : goal.type_selectors-returns
+type_selectors-returns t c = grind (arith, common_steps)
+
+pub type_actuals-returns : goal.type_actuals-returns
+type_actuals-returns t c = grind (arith, common_steps)
+
+pub type_standard-returns : goal.type_standard-returns
+type_standard-returns t c = grind (arith, common_steps)
