@@ -6,8 +6,8 @@ ghost use Rattle.sp_past.specs.Prefixes.{IsQuiet};
 use sp_base::{ChanName, Fault, List, Memory, Pair, ProcName};
 use sp_journal::{End, Entry, Event, Journal, Verdict, Way};
 use sp_judge::{
-    Clock, clocks_say_what_is_known, runs_are_quiet, verdict_of, verdicts_are_exact,
-    verdicts_hold_of_runs,
+    Clock, clocks_say_what_is_known, runs_are_quiet, runs_without_a_fault_are_clean, verdict_of,
+    verdicts_are_exact, verdicts_hold_of_runs,
 };
 use std::alloc::Global;
 use std::test::Fail;
@@ -16,6 +16,7 @@ use std::test::Fail;
 fn laws(_rt: HostRuntime) {
     clocks_say_what_is_known();
     runs_are_quiet();
+    runs_without_a_fault_are_clean();
     verdicts_are_exact();
     verdicts_hold_of_runs();
 }

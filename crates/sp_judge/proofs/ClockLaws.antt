@@ -1,10 +1,11 @@
 -- A clock while the pairs of another one are taken in.
-use Rattle.std.proofs.Common.{◌≡◌, ◌≢◌, ⊎_elim, ℕ, Bool, true, false, cond, max, ◌==◌, List, [], ◌∷◌, Some, filter, unwrap_or, refl, sym, ap, ◌∙◌, subst, eqb-true, eq-eqb}
+use Rattle.std.proofs.Common.{◌≡◌, ◌≢◌, ⊎_elim, ℕ, Bool, true, false, cond, max, ◌==◌, List, [], ◌∷◌, Some, None, Option, ◌⊎◌, inl, inr, is_some, filter, unwrap_or, refl, sym, ap, ◌∙◌, subst, eqb-true, eq-eqb}
 use Rattle.std.specs.Ordering.{nat_cmp, eq_by_cmp, is_eq}
 use Rattle.std.specs.Cmp.{nat_cmp_total, tied_itself}
 use Rattle.std.specs.FinMap.{nat_cmp-IsAntisymmetric}
 use Rattle.std.specs.BTreeMap.{is_at}
 use Rattle.std.specs.Map.{lookup, keys_of}
+use Rattle.std.specs.Option.{IsSome}
 use Rattle.std.specs.List.{IsDistinct, AllByRecursion}
 use Rattle.std.specs.List.Sorted.{IsStrictlySortedBy}
 use Rattle.std.proofs.lemmas.Map.Keys.{IsDistinct-from_sorted}
@@ -62,6 +63,54 @@ taken old new k v es none is q = ⊎_elim here there (cases_eq k q)
         not_same : (b : Bool) → k == q ≡ b → b ≡ false
         not_same true e = absurd (d (eqb-true k q e))
         not_same false e = refl
+
+-- a pair stays where one more is in front, and the first one is found
+pub more_pairs : (q : ℕ) (e : ℕ × ℕ) (es : List (ℕ × ℕ)) → IsSome (lookup (is_at (nat_cmp q)) es)
+    → IsSome (lookup (is_at (nat_cmp q)) (e ∷ es))
+more_pairs q e es h = by (is_at (nat_cmp q) e.0)
+  where
+    by : (b : Bool) → IsSome (cond b (Some e.1) (lookup (is_at (nat_cmp q)) es))
+    by true = refl
+    by false = h
+
+pub first_pair : (q : ℕ) (v : ℕ) (es : List (ℕ × ℕ)) → IsSome (lookup (is_at (nat_cmp q)) ((q, v) ∷ es))
+first_pair q v es = ap (λ b. is_some (cond b (Some v) (lookup (is_at (nat_cmp q)) es))) (same_test q)
+
+-- of a process whose pair was in front and is put elsewhere
+pub pair_moved : (q k v : ℕ) (es : List (ℕ × ℕ)) (A : Type 0) → (q ≡ k → A)
+    → IsSome (lookup (is_at (nat_cmp q)) ((k, v) ∷ es)) → A ⊎ IsSome (lookup (is_at (nat_cmp q)) es)
+pair_moved q k v es A there h = by (is_at (nat_cmp q) k) refl h
+  where
+    by : (b : Bool) → is_at (nat_cmp q) k ≡ b → IsSome (cond b (Some v) (lookup (is_at (nat_cmp q)) es))
+        → A ⊎ IsSome (lookup (is_at (nat_cmp q)) es)
+    by true t x = inl (there (nat_cmp-IsAntisymmetric q k (tie_of (nat_cmp q k) t)))
+    by false t x = inr x
+
+-- a pair of the count 0 is as good as none
+pub counts_kept : (f g : ℕ → Option ℕ) (p : ℕ) → f p ≡ None
+    → ((q : ℕ) → g q ≡ cond (is_at (nat_cmp p) q) (Some 0) (f q)) → (q : ℕ) → unwrap_or (g q) 0 ≡ unwrap_or (f q) 0
+counts_kept f g p none is q = by (is_at (nat_cmp p) q) refl
+  where
+    by : (b : Bool) → is_at (nat_cmp p) q ≡ b → unwrap_or (g q) 0 ≡ unwrap_or (f q) 0
+    by true t =
+        let same : p ≡ q = nat_cmp-IsAntisymmetric p q (tie_of (nat_cmp p q) t) in
+        ap (λ o. unwrap_or o 0) (is q ∙ ap (λ b. cond b (Some 0) (f q)) t)
+        ∙ sym (ap (λ o. unwrap_or o 0) (ap f (sym same) ∙ none))
+    by false t = ap (λ o. unwrap_or o 0) (is q ∙ ap (λ b. cond b (Some 0) (f q)) t)
+
+-- a pair stays where another one is put in, and is there where it is its own
+pub pair_stays : (f g : ℕ → Option ℕ) (p v : ℕ) → ((q : ℕ) → g q ≡ cond (is_at (nat_cmp p) q) (Some v) (f q)) → (q : ℕ)
+    → IsSome (f q) → IsSome (g q)
+pair_stays f g p v is q h = ap is_some (is q) ∙ by (is_at (nat_cmp p) q)
+  where
+    by : (b : Bool) → is_some (cond b (Some v) (f q)) ≡ true
+    by true = refl
+    by false = h
+
+pub pair_put : (f g : ℕ → Option ℕ) (p v : ℕ) → ((q : ℕ) → g q ≡ cond (is_at (nat_cmp p) q) (Some v) (f q)) → (q : ℕ)
+    → q ≡ p → IsSome (g q)
+pair_put f g p v is q e =
+    ap is_some (is q ∙ ap (λ b. cond b (Some v) (f q)) (subst (λ x. is_at (nat_cmp p) x ≡ true) (sym e) (same_test p)))
 
 -- a row of pairs, of which those of this process were kept
 pub kept_count : (p : ℕ × ℕ → Bool) (q : ℕ) → ((v : ℕ) → p (q, v) ≡ true) → (es : List (ℕ × ℕ)) → count_in (filter p es) q ≡ count_in es q

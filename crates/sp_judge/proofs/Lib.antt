@@ -3,7 +3,7 @@ mod Tallies
 mod Standing
 mod Chains
 mod TableLaws
-mod Numbers
+pub mod Numbers
 mod Fronts
 mod BenchLaws
 mod OfferLaws

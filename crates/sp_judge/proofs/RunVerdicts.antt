@@ -165,6 +165,13 @@ module _ (g : Setting) where
   ends_clean turn es n t along whole = ⊎_elim (λ (x : IsClean es). x) (λ (b : Broken t). absurd (whole b))
       (along_clean turn es no_course (start g) n t refl along (sound_opening L (root g) (first_store g)))
 
+  pub clean_with_end : (turn : ℕ) (es : List Occurrence) (n : ℕ) (t : StateOf g) (e : End)
+      → IsAlong g turn es n t → EndIs g t e → (IsFault e → ⊥) → IsClean es
+  clean_with_end turn es n t end.Done along h sure = ends_clean turn es n t along (λ b. b.goes_on h)
+  clean_with_end turn es n t (end.Deadlock ws) along h sure = ends_clean turn es n t along (λ b. b.faulty (h.1).quiet)
+  clean_with_end turn es n t (end.Fault p f) along h sure = absurd (sure tt)
+  clean_with_end turn es n t end.Memory along h sure = absurd h
+
   ordered_ends : (turn : ℕ) (es : List Occurrence) (n : ℕ) (t : StateOf g) (e : End) → IsFreeOfInterference g.program → IsAlong g turn es n t → EndIs g t e → (IsFault e → ⊥) → AreOrdered es → AllEndAlike g n t
   ordered_ends turn es n t end.Done free along h sure ordered =
       each_ends_alike g turn es n t (disjoint g free) along (ends_clean turn es n t along (λ b. b.goes_on h)) (inl h) ordered

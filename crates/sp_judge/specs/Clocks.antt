@@ -1,6 +1,6 @@
 -- What a clock says: a count for each process, 0 where it has no pair. The contracts of clocks, tables and the bench
 -- cite it, as functions, since equal clocks may be stored differently.
-use Rattle.std.specs.Prelude.{◌≡◌, ℕ, ◌<◌, cond, max, ◌==◌, List, Option, Some, None, unwrap_or, slice_get}
+use Rattle.std.specs.Prelude.{◌≡◌, ℕ, ◌<◌, cond, max, ◌==◌, List, Option, Some, None, unwrap_or, slice_get, IsSome}
 use Rattle.std.specs.Ordering.{nat_cmp}
 use Rattle.std.specs.BTreeMap as tree
 use Rattle.sp_judge.specs.declared.clock.Clock.{Clock}
@@ -8,6 +8,10 @@ use Rattle.sp_judge.specs.declared.clock.Clock.{Clock}
 -- the count of a process, 0 where it has no pair
 abbrev pub count_of : Clock → ℕ → ℕ
 count_of c q = unwrap_or (tree.get nat_cmp c.counts q) 0
+
+-- the process has a pair
+abbrev pub HasPair : Clock → ℕ → Type 0
+HasPair c q = IsSome (tree.get nat_cmp c.counts q)
 
 -- the same where there may be no clock
 abbrev pub count_at : Option Clock → ℕ → ℕ

@@ -1,7 +1,7 @@
 //! What a process knows of the others, as a count for each process that it knows of.
 
-ghost use Rattle.std.specs.Prelude.{◌≡◌, ◌<◌, ◌↔◌, ◌==◌, cond, max, nat_lt, ℕ, IsTrue, IfOk, OnOk};
-ghost use Rattle.sp_judge.specs.Clocks.{count_of, raised_in, number_at, IsAsked};
+ghost use Rattle.std.specs.Prelude.{◌≡◌, ◌<◌, ◌↔◌, ◌==◌, cond, max, nat_lt, ℕ, IsTrue, IfOk, OnErr, OnOk};
+ghost use Rattle.sp_judge.specs.Clocks.{count_of, raised_in, number_at, HasPair, IsAsked};
 
 use sp_base::Memory;
 use std::alloc::Global;
@@ -41,9 +41,14 @@ impl Clock {
         self.counts.get(&process).copied().unwrap_or(0)
     }
 
-    /// The process's count becomes the greater of its old one and `count`. The other pairs stay.
+    /// The process's count becomes the greater of its old one and `count`. The other pairs stay. Only a process without
+    /// a pair takes memory, and after `Memory` the counts are as before.
     pub fn raise(&mut self, process: u32, count: u64) -> Result<(), Memory>
-        ensures { OnOk result ((q : ℕ) → count_of self.new q ≡ cond (process == q) (max (count_of self.old q) count) (count_of self.old q)) }
+        ensures ok { OnOk result ((q : ℕ) → count_of self.new q
+            ≡ cond (process == q) (max (count_of self.old q) count) (count_of self.old q)) }
+        ensures err { OnErr result ((q : ℕ) → count_of self.new q ≡ count_of self.old q) }
+        ensures absent { OnErr result (HasPair self.old process → ⊥) }
+        ensures pairs { (q : ℕ) → HasPair self.old q → HasPair self.new q }
     {
         if self.count(process) < count {
             self.counts.insert(process, count)?;
@@ -58,12 +63,28 @@ impl Clock {
         self.count(process) > place
     }
 
-    /// Each count becomes the greater of both clocks'. After `Memory` the clock is of no more use.
+    /// Each count becomes the greater of both clocks'. After `Memory` the counts are as before.
     pub fn merge(&mut self, other: &Clock) -> Result<(), Memory>
-        ensures { OnOk result ((q : ℕ) → count_of self.new q ≡ max (count_of self.old q) (count_of other.now q)) }
+        ensures ok { OnOk result ((q : ℕ) → count_of self.new q ≡ max (count_of self.old q) (count_of other.now q)) }
+        ensures err { OnErr result ((q : ℕ) → count_of self.new q ≡ count_of self.old q) }
     {
+        self.admit(other)?;
         for (process, count) in other.counts.iter() {
             self.raise(*process, *count)?;
+        }
+        Ok(())
+    }
+
+    /// Takes the memory for the other clock's pairs: a process that has one there and none here gets the count 0, which
+    /// is what it has without a pair.
+    fn admit(&mut self, other: &Clock) -> Result<(), Memory>
+        ensures counts { (q : ℕ) → count_of self.new q ≡ count_of self.old q }
+        ensures pairs { OnOk result ((q : ℕ) → HasPair other.now q → HasPair self.new q) }
+    {
+        for (process, _) in other.counts.iter() {
+            if !self.counts.contains_key(process) {
+                self.counts.insert(*process, 0)?;
+            }
         }
         Ok(())
     }

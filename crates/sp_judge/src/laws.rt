@@ -6,11 +6,11 @@ ghost use Rattle.sp_journal.specs.declared.outcome.Verdict.{Verdict};
 ghost use Rattle.sp_tree.specs.Interference.{IsFreeOfInterference};
 ghost use Rattle.sp_meaning.specs.Own.{Setting};
 ghost use Rattle.sp_meaning.specs.Runs.{StateOf};
-ghost use Rattle.sp_meaning.specs.Along.{IsAlong};
+ghost use Rattle.sp_meaning.specs.Along.{IsAlong, IsClean};
 ghost use Rattle.sp_meaning.specs.Ends.{EndIs};
 ghost use Rattle.sp_past.specs.Prefixes.{IsQuiet};
 ghost use Rattle.sp_judge.specs.Counts.{PlaceOf, counts};
-ghost use Rattle.sp_judge.specs.Races.{IsVerdict};
+ghost use Rattle.sp_judge.specs.Races.{IsFault, IsVerdict};
 ghost use Rattle.sp_judge.specs.Runs.{IsRunVerdict};
 
 /// After every journal in which no process makes an entry while its own offer waits, the clocks say what each process
@@ -22,6 +22,12 @@ pub fn clocks_say_what_is_known()
 /// In every run along a journal, with faults or without, no process makes an entry while its own offer waits.
 pub fn runs_are_quiet()
     ensures { (g : Setting) (turn : ℕ) (es : List Occurrence) (n : ℕ) (t : StateOf g) → IsAlong g turn es n t → IsQuiet es }
+{}
+
+/// A run whose end is no fault has a journal without a fault.
+pub fn runs_without_a_fault_are_clean()
+    ensures { (g : Setting) (turn : ℕ) (es : List Occurrence) (n : ℕ) (t : StateOf g) (e : End)
+        → IsAlong g turn es n t → EndIs g t e → (IsFault e → ⊥) → IsClean es }
 {}
 
 /// A journal and an end have at most one verdict: so it is unjudged exactly where the end is a fault, ordered exactly

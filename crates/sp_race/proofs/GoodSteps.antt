@@ -61,24 +61,27 @@ can_step {L} limits s p t e = by_own (working s p) refl e
     by_own None w h = absurd (none_is h)
     by_own (Some own) w h = (own, w)
 
-leads_on : {L : Language} (limits : Totals) (ps rs : List Name) (s t u : State L) → Leads (processes L limits) s ps t → Leads (processes L limits) t rs u → Leads (processes L limits) s (ps ++ rs) u
+pub leads_on : {L : Language} (limits : Totals) (ps rs : List Name) (s t u : State L)
+    → Leads (processes L limits) s ps t → Leads (processes L limits) t rs u → Leads (processes L limits) s (ps ++ rs) u
 leads_on {L} limits [] rs s t u h k = subst (λ z. Leads (processes L limits) z rs u) h k
 leads_on limits (p ∷ ps) rs s t u h k = (h.0, h.1, h.2, leads_on limits ps rs h.0 t u h.3 k)
 
-happens_later : {L : Language} (limits : Totals) (it : State L → Name → L.Own → Type 0) (ps rs : List Name) (s t : State L) → Leads (processes L limits) s ps t → Happens limits it t rs → Happens limits it s (ps ++ rs)
+pub happens_later : {L : Language} (limits : Totals) (it : State L → Name → L.Own → Type 0) (ps rs : List Name)
+    (s t : State L) → Leads (processes L limits) s ps t → Happens limits it t rs → Happens limits it s (ps ++ rs)
 happens_later {L} limits it [] rs s t h k = subst (λ z. Happens limits it z rs) h k
 happens_later limits it (p ∷ ps) rs s t h k = inr (h.0, h.2, happens_later limits it ps rs h.0 t h.3 k)
 
 -- Who takes part in a step: the process, and whom its offer meets
-abbrev TakesPart : {L : Language} → State L → Name → ActOf L → Name → Type 0
+abbrev pub TakesPart : {L : Language} → State L → Name → ActOf L → Name → Type 0
 TakesPart s p a who = (who ≡ p) ⊎ ((c : Channel) × IsOn a c × (s.pending c ≡ Some who))
 
-record Writer {L : Language} (s : State L) (p : Name) (own : L.Own) (l : L.Loc) : Type 0 where
-  who : Name
-  writes : WritesIn s p own who l
-  part : TakesPart s p (L.next own s.store) who
+pub record Writer {L : Language} (s : State L) (p : Name) (own : L.Own) (l : L.Loc) : Type 0 where
+  pub who : Name
+  pub writes : WritesIn s p own who l
+  pub part : TakesPart s p (L.next own s.store) who
 
-writer : {L : Language} (s : State L) (p : Name) (own : L.Own) (l : L.Loc) → WritesTo s (L.next own s.store) l → Writer s p own l
+pub writer : {L : Language} (s : State L) (p : Name) (own : L.Own) (l : L.Loc) → WritesTo s (L.next own s.store) l
+    → Writer s p own l
 writer {L} s p own l h = by_act (L.next own s.store) refl h
   where
     by_act : (a : ActOf L) → L.next own s.store ≡ a → WritesTo s a l → Writer s p own l
@@ -108,7 +111,8 @@ accessor s p own l h = ⊎_elim
     (λ w. let x = writer s p own l w in record { who = x.who; accesses = inr x.writes; part = x.part })
     h
 
-part_alone : {L : Language} (s : State L) (sound : Sound s) (p : Name) (own : L.Own) (a : ActOf L) (who : Name) → working s p ≡ Some own → TakesPart s p a who → IsAlone s who
+pub part_alone : {L : Language} (s : State L) (sound : Sound s) (p : Name) (own : L.Own) (a : ActOf L) (who : Name)
+    → working s p ≡ Some own → TakesPart s p a who → IsAlone s who
 part_alone {L} s sound p own a who w h = ⊎_elim
     (λ (e : who ≡ p). inl (own, ap (λ z. working s z) e ∙ w))
     (λ (x : (c : Channel) × IsOn a c × (s.pending c ≡ Some who)). inr (x.0, sound.waits x.0 who x.2))
@@ -190,7 +194,8 @@ pub record GoodStep {L : Language} (limits : Totals) (origin : State L) (j : Wit
   pub noted : k.notes ≡ notes_after j.state j.notes p (L.next makes.own j.state.store)
   pub knows : KnowsBefore L j.notes p (L.next makes.own j.state.store)
 
-quiet_after : {L : Language} {limits : Totals} (s : State L) (p : Name) (cs : List (Change L)) → Makes limits s p cs → Quiet s → Quiet (after cs s)
+pub quiet_after : {L : Language} {limits : Totals} (s : State L) (p : Name) (cs : List (Change L)) → Makes limits s p cs
+    → Quiet s → Quiet (after cs s)
 quiet_after {L} s p cs m q = fault_frame s p (L.next m.own s.store) cs s (all_in s p (L.next m.own s.store) cs m.does) ∙ q
 
 module _ {L : Language} (limits : Totals) (laws : Laws L) (origin : State L) (disjoint : IsDisjoint L limits origin) where
@@ -299,6 +304,65 @@ module _ {L : Language} (limits : Totals) (laws : Laws L) (origin : State L) (di
       by_own None w h = absurd (none_is h)
       by_own (Some own) w h = (own, w)
 
+  some_eq : {x y : WithNotes L} → ◌≡◌ {A = Option (WithNotes L)} (Some x) (Some y) → x ≡ y
+  some_eq e = cc
+
+  -- two good steps, of which the second could have been made first
+  pub good_exchange : (s : WithNotes L) (p q : Name) (s1 s2 m : WithNotes L) → p ≢ q → GoodStep limits origin s p s1
+      → GoodStep limits origin s1 q s2 → noted_step limits s q ≡ Some m
+      → GoodStep limits origin s q m × GoodStep limits origin m p s2
+  good_exchange s p q s1 s2 m apart g h e =
+      let n1 = notes_after s.state s.notes p (L.next g.makes.own s.state.store) in
+      let here : s1 ≡ to_notes (after g.cs s.state) n1 = λ i. to_notes (g.to i) (g.noted i) in
+      let h' : GoodStep limits origin (to_notes (after g.cs s.state) n1) q s2 =
+      subst (λ z. GoodStep limits origin z q s2) here h in
+      let w = noted_can s q m e in
+      let k = keeps_working s.state p g.cs g.sound g.makes q w.0 (λ x. apart (sym x)) w.1 in
+      let own : w.0 ≡ h'.makes.own = some_is (sym k ∙ h'.makes.works) in
+      let x = exchanged s.state s.notes p q g.cs h'.cs g.way g.leads g.sound g.known g.quiet g.makes h'.makes apart
+      (subst (λ z. working s.state q ≡ Some z) own w.1) g.knows h'.knows in
+      let b = L.next h'.makes.own (after g.cs s.state).store in
+      let c = L.next x.first.own s.state.store in
+      let mid : WithNotes L = to_notes (after x.ds s.state) (notes_after s.state s.notes q c) in
+      let one : GoodStep limits origin s q mid =
+      record {
+        way = g.way;
+        leads = g.leads;
+        sound = g.sound;
+        known = g.known;
+        quiet = g.quiet;
+        cs = x.ds;
+        makes =
+            x.first;
+        to = refl;
+        noted = refl;
+        knows =
+            subst (λ a. KnowsBefore L s.notes q a) (sym x.first_act) x.knows_first;
+      } in
+      let m_is : mid ≡ m = some_eq (sym (made_step s q mid one) ∙ e) in
+      let by_c : notes_after s.state s.notes q b ≡ notes_after s.state s.notes q c =
+      ap (notes_after s.state s.notes q) (sym x.first_act) in
+      let d = L.next x.second.own (after x.ds s.state).store in
+      let two : GoodStep limits origin mid p s2 = record {
+        way = g.way ++ q ∷ [];
+        leads = leads_on limits g.way (q ∷ []) origin s.state (after x.ds s.state) g.leads (
+          after x.ds s.state,
+          g.quiet,
+          steps s.state q x.ds x.first,
+          refl,
+        );
+        sound = sound_kept s.state q x.ds g.sound x.first;
+        known = known_kept s.notes g.known s.state q c;
+        quiet = quiet_after s.state q x.ds x.first g.quiet;
+        cs = x.cs;
+        makes = x.second;
+        to = h'.to ∙ x.same;
+        noted = h'.noted ∙ x.same_notes ∙ (λ i. notes_after (after x.ds s.state) (by_c i) p (sym x.second_act i));
+        knows = subst (λ a. KnowsBefore L (notes_after s.state s.notes q c) p a) (sym x.second_act)
+            (subst (λ z. KnowsBefore L z p (L.next g.makes.own s.state.store)) by_c x.knows_second);
+      } in
+      (subst (λ z. GoodStep limits origin s q z) m_is one, subst (λ z. GoodStep limits origin z p s2) m_is two)
+
   good : Good (noted_processes L limits)
   good = record {
     Step = GoodStep limits origin;
@@ -311,41 +375,8 @@ module _ {L : Language} (limits : Totals) (laws : Laws L) (origin : State L) (di
         let k = keeps_working s.state p g.cs g.sound g.makes q w.0 (λ x. apart (sym x)) w.1 in
         let k1 : working s1.state q ≡ Some w.0 = subst (λ (z : State L). working z q ≡ Some w.0) (sym g.to) k in
         (_, ap (noted_with limits s1 q) k1);
-    exchange = λ s p q s1 s2 m apart g h e. swap s p q s1 s2 m apart g h e;
+    exchange = λ s p q s1 s2 m apart g h e. good_exchange s p q s1 s2 m apart g h e;
   }
-    where
-      some_eq : {x y : WithNotes L} → ◌≡◌ {A = Option (WithNotes L)} (Some x) (Some y) → x ≡ y
-      some_eq e = cc
-
-      swap : (s : WithNotes L) (p q : Name) (s1 s2 m : WithNotes L) → p ≢ q → GoodStep limits origin s p s1 → GoodStep limits origin s1 q s2 → noted_step limits s q ≡ Some m → GoodStep limits origin s q m × GoodStep limits origin m p s2
-      swap s p q s1 s2 m apart g h e =
-          let n1 = notes_after s.state s.notes p (L.next g.makes.own s.state.store) in
-          let here : s1 ≡ to_notes (after g.cs s.state) n1 = λ i. to_notes (g.to i) (g.noted i) in
-          let h' : GoodStep limits origin (to_notes (after g.cs s.state) n1) q s2 = subst (λ z. GoodStep limits origin z q s2) here h in
-          let w = noted_can s q m e in
-          let k = keeps_working s.state p g.cs g.sound g.makes q w.0 (λ x. apart (sym x)) w.1 in
-          let own : w.0 ≡ h'.makes.own = some_is (sym k ∙ h'.makes.works) in
-          let x = exchanged s.state s.notes p q g.cs h'.cs g.way g.leads g.sound g.known g.quiet g.makes h'.makes apart (subst (λ z. working s.state q ≡ Some z) own w.1) g.knows h'.knows in
-          let b = L.next h'.makes.own (after g.cs s.state).store in
-          let c = L.next x.first.own s.state.store in
-          let mid : WithNotes L = to_notes (after x.ds s.state) (notes_after s.state s.notes q c) in
-          let one : GoodStep limits origin s q mid = record { way = g.way; leads = g.leads; sound = g.sound; known = g.known; quiet = g.quiet; cs = x.ds; makes = x.first; to = refl; noted = refl; knows = subst (λ a. KnowsBefore L s.notes q a) (sym x.first_act) x.knows_first } in
-          let m_is : mid ≡ m = some_eq (sym (made_step s q mid one) ∙ e) in
-          let by_c : notes_after s.state s.notes q b ≡ notes_after s.state s.notes q c = ap (notes_after s.state s.notes q) (sym x.first_act) in
-          let d = L.next x.second.own (after x.ds s.state).store in
-          let two : GoodStep limits origin mid p s2 = record {
-            way = g.way ++ q ∷ [];
-            leads = leads_on limits g.way (q ∷ []) origin s.state (after x.ds s.state) g.leads (after x.ds s.state, g.quiet, steps s.state q x.ds x.first, refl);
-            sound = sound_kept s.state q x.ds g.sound x.first;
-            known = known_kept s.notes g.known s.state q c;
-            quiet = quiet_after s.state q x.ds x.first g.quiet;
-            cs = x.cs;
-            makes = x.second;
-            to = h'.to ∙ x.same;
-            noted = h'.noted ∙ x.same_notes ∙ (λ i. notes_after (after x.ds s.state) (by_c i) p (sym x.second_act i));
-            knows = subst (λ a. KnowsBefore L (notes_after s.state s.notes q c) p a) (sym x.second_act) (subst (λ z. KnowsBefore L z p (L.next g.makes.own s.state.store)) by_c x.knows_second);
-          } in
-          (subst (λ z. GoodStep limits origin s q z) m_is one, subst (λ z. GoodStep limits origin z p s2) m_is two)
 
   -- an ordered run without a fault is one of good steps
   good_run : (ps : List Name) (way : List Name) (s t : State L) (n : Notes) → Leads (processes L limits) origin way s → Sound s → IsKnowledge n → Leads (processes L limits) s ps t → Quiet t → IsOrderedRun limits s n ps → (m : Notes) × GoodRun good (to_notes s n) ps (to_notes t m)

@@ -29,11 +29,12 @@ use Rattle.sp_race.proofs.Completion.{ordered_known}
 
 module _ (g : Setting) where
   -- what is known where these n entries have been made
-  record At (s : StateOf g) (v : Notes) (j : Judged) (done : List Occurrence) (n : ℕ) (label : ℕ → Option Event) : Type 0 where
-    linked : Linked s v j done n label
-    sound : Sound s
-    known : IsKnowledge v
-    quiet : s.fault ≡ None
+  pub record At (s : StateOf g) (v : Notes) (j : Judged) (done : List Occurrence) (n : ℕ) (label : ℕ → Option Event) :
+      Type 0 where
+    pub linked : Linked s v j done n label
+    pub sound : Sound s
+    pub known : IsKnowledge v
+    pub quiet : s.fault ≡ None
 
   -- an ordered schedule of n names from s to t, without a fault at its end
   record Goes (s : StateOf g) (v : Notes) (n : ℕ) (t : StateOf g) : Type 0 where
@@ -44,25 +45,28 @@ module _ (g : Setting) where
     ordered : IsOrderedRun (most g) s v names
 
   -- a step without a fault, and its changes
-  record Stepped (s : StateOf g) (q : Name) (own : Process) (m : StateOf g) : Type 0 where
-    cs : List (Change (superpascal g))
-    one : Makes (most g) s q cs
-    same : one.own ≡ own
-    to : m ≡ after cs s
-    quiet : m.fault ≡ None
+  pub record Stepped (s : StateOf g) (q : Name) (own : Process) (m : StateOf g) : Type 0 where
+    pub cs : List (Change (superpascal g))
+    pub one : Makes (most g) s q cs
+    pub same : one.own ≡ own
+    pub to : m ≡ after cs s
+    pub quiet : m.fault ≡ None
 
-  stepped : (s : StateOf g) (q : Name) (own : Process) (m : StateOf g) → running g s q ≡ Some own → next g s q ≡ Some m → m.fault ≡ None → Stepped s q own m
+  pub stepped : (s : StateOf g) (q : Name) (own : Process) (m : StateOf g) → running g s q ≡ Some own
+      → next g s q ≡ Some m → m.fault ≡ None → Stepped s q own m
   stepped s q own m run st quiet =
       let x = made_of s q m st quiet in
       record { cs = x.cs; one = x.makes; same = some_is (sym x.makes.works ∙ run); to = x.to; quiet = quiet }
 
   -- what the step says
-  said : (s : StateOf g) (q : Name) (own : Process) (m : StateOf g) (x : Stepped s q own m) → says g s q own ≡ said_of ((superpascal g).next x.one.own s.store) (Advances x.cs)
+  pub said : (s : StateOf g) (q : Name) (own : Process) (m : StateOf g) (x : Stepped s q own m)
+      → says g s q own ≡ said_of ((superpascal g).next x.one.own s.store) (Advances x.cs)
   said s q own m x =
       let a = (superpascal g).next x.one.own s.store in
       ap (says g s q) (sym x.same) ∙ ap (said_of a) (ap (λ f. unless f (acts s q a)) x.one.within ∙ x.one.does)
 
-  next_at : (s : StateOf g) (v : Notes) (j : Judged) (done : List Occurrence) (n : ℕ) (label : ℕ → Option Event) (q : Name) (own : Process) (m : StateOf g) → At s v j done n label → (x : Stepped s q own m)
+  pub next_at : (s : StateOf g) (v : Notes) (j : Judged) (done : List Occurrence) (n : ℕ) (label : ℕ → Option Event)
+      (q : Name) (own : Process) (m : StateOf g) → At s v j done n label → (x : Stepped s q own m)
       → (j1 : Judged) (done1 : List Occurrence) (n1 : ℕ) (label1 : ℕ → Option Event) → Linked (after x.cs s) (notes_after s v q ((superpascal g).next x.one.own s.store)) j1 done1 n1 label1
       → At m (notes_after s v q ((superpascal g).next own s.store)) j1 done1 n1 label1
   next_at s v j done n label q own m at x j1 done1 n1 label1 l =
@@ -88,12 +92,13 @@ module _ (g : Setting) where
   }
 
   -- a local step is an act that moves
-  record IsMove (s : StateOf g) (own : Process) : Type 0 where
-    next_own : Process
-    writes : List ((superpascal g).Loc × (superpascal g).Value)
-    is : (superpascal g).next own s.store ≡ Moves next_own writes
+  pub record IsMove (s : StateOf g) (own : Process) : Type 0 where
+    pub next_own : Process
+    pub writes : List ((superpascal g).Loc × (superpascal g).Value)
+    pub is : (superpascal g).next own s.store ≡ Moves next_own writes
 
-  local_moves : (s : StateOf g) (q : Name) (own : Process) (m : StateOf g) (x : Stepped s q own m) → says g s q own ≡ None → IsMove s x.one.own
+  pub local_moves : (s : StateOf g) (q : Name) (own : Process) (m : StateOf g) (x : Stepped s q own m)
+      → says g s q own ≡ None → IsMove s x.one.own
   local_moves s q own m x none = by ((superpascal g).next x.one.own s.store) refl (sym (said s q own m x) ∙ none)
     where
       faulty_does : {L : Language} {f : Fault} {cs : List (Change L)} → ◌≡◌ {A = Outcome L} (Faulty f) (Advances cs) → ⊥
@@ -107,7 +112,8 @@ module _ (g : Setting) where
       by Ends e h = absurd (none_is (sym h))
       by (Fails f) e h = absurd (faulty_does (ap (acts s q) (sym e) ∙ x.one.does))
 
-  moves_know : (s : StateOf g) (own : Process) (v : Notes) (q : Name) → IsMove s own → KnowsBefore (superpascal g) v q ((superpascal g).next own s.store)
+  pub moves_know : (s : StateOf g) (own : Process) (v : Notes) (q : Name) → IsMove s own
+      → KnowsBefore (superpascal g) v q ((superpascal g).next own s.store)
   moves_know s own v q h = subst (λ a. KnowsBefore (superpascal g) v q a) (sym h.is) tt
 
   -- k local steps in front
@@ -207,7 +213,7 @@ module _ (g : Setting) where
       (λ c1 u d b x lb at2. along_goes turn es c1 u d t x (judged_by j n e.who e.what) (With done e.who e.what) (suc n) lb b clean.1 at2
       (subst (λ z. KnownFrom (judged_by j z e.who e.what) (With done e.who e.what) es) at.linked.size k.1))))
 
-  linked_start : Linked (start g) no_notes nothing_judged [] 0 (λ i. None)
+  pub linked_start : Linked (start g) no_notes nothing_judged [] 0 (λ i. None)
   linked_start = record {
     size = refl;
     past = λ q i h. absurd (omega (arith, h));

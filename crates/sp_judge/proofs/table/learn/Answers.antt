@@ -13,4 +13,4 @@ returns-clause-clocks c =
     (λ r. h r ∙ (λ i. max
     ((ap (λ x. count_of x r) (c.replace-clock.ensures.value ∙ c.index_mut.ensures.value) ∙ clock_is cs c.args.learner c.index_mut.result.now r c.requires.learner) i)
     ((ap (λ x. count_of x r) c.index.ensures ∙ clock_is (slice_set cs c.args.learner none) c.args.teacher c.index.result.now r (subst (λ n. c.args.teacher < n) (sym (set_length cs c.args.learner none)) c.requires.teacher)) i)))
-    p q) c.merge-merged.ensures
+    p q) c.merge-merged.ensures.ok
