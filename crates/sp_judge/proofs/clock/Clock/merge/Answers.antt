@@ -1,4 +1,4 @@
-use Rattle.std.proofs.Common.{◌≡◌, ℕ, max, ◌∷◌, [], subst, sym, ap, ◌∙◌}
+use Rattle.std.proofs.Common.{◌≡◌, max, ◌∷◌, [], subst, sym, ap, ◌∙◌}
 use Rattle.std.proofs.Math.Nat.{max-zero}
 use Rattle.std.specs.Ordering.{nat_cmp}
 use Rattle.std.specs.BTreeMap.{is_at}
