@@ -1,9 +1,9 @@
 -- One computation after another, as calls tell of them.
 use Rattle.std.proofs.Common.{◌≡◌, ℕ, zero, suc, ◌+◌, ◌≤◌, Bool, true, false, List, [], ◌∷◌, ◌++◌, drop, length, Some, None, refl, ap, ◌∙◌, sym, arith, if◌then◌else◌, length-append}
-use Rattle.std.specs.Prelude.{ℤ, Result, slice_get, not, replicate}
+use Rattle.std.specs.Prelude.{ℤ, slice_get, not, replicate}
 use Rattle.std.proofs.lemmas.List.{length-replicate}
 use Rattle.std.proofs.lemmas.Grind.{common_steps}
-use Rattle.sp_base.specs.declared.halt.Memory.{Memory}
+use Rattle.sp_run.specs.declared.stop.Done.{Done}
 use Rattle.sp_run.specs.declared.stop.Halted.{Halted}
 use Rattle.sp_run.specs.declared.machine.Machine.{Machine}
 use Rattle.sp_run.specs.declared.machine.Setting.{Setting}
@@ -24,7 +24,7 @@ use Rattle.sp_run.specs.DirectDeeds.{peek, settle, turn_of}
 use Rattle.sp_run.specs.Acts.{index_value, next_turn}
 
 -- a call after another computes what the two compute one after the other
-pub does_then : {R A B : Type 0} (g : Setting) (w : Who) (view : R → B) (before mid after : Machine) (result : Result (Result R Halted) Memory) (h : Work A) (k : A → Work B) (a : A)
+pub does_then : {R A B : Type 0} (g : Setting) (w : Who) (view : R → B) (before mid after : Machine) (result : Done R) (h : Work A) (k : A → Work B) (a : A)
     → h (plain_who w) (plain_own before.own) (store_of g before.log) ≡ Got a (plain_own mid.own) (store_of g mid.log)
     → Implements g w view mid result after (k a) → Implements g w view before result after (bind h k)
 does_then g w view before mid after result h k a e d = rw e d
@@ -50,7 +50,7 @@ settle_step g (m.Test x e) todo w o s = refl
 settle_step g m.Leave todo w o s = refl
 settle_step g (m.Break f) todo w o s = refl
 
-pub settle_on : {R : Type 0} (g : Setting) (w : Who) (before mid after : Machine) (view : R → List m.Item) (result : Result (Result R Halted) Memory) (todo rest : List Item) (i : Item)
+pub settle_on : {R : Type 0} (g : Setting) (w : Who) (before mid after : Machine) (view : R → List m.Item) (result : Done R) (todo rest : List Item) (i : Item)
     → todo ≡ i ∷ rest
     → leaves (setting_of g) (item_of i) (plain_who w) (plain_own before.own) (store_of g before.log) ≡ Got true (plain_own mid.own) (store_of g mid.log)
     → Implements g w view mid result after (settle (setting_of g) (items_of rest)) → Implements g w view before result after (settle (setting_of g) (items_of todo))

@@ -1,8 +1,7 @@
 -- What a process does next: loops are left, and then what is first is done.
 use Rattle.std.proofs.Common.{◌≡◌, ℕ, List, [], ◌∷◌, refl}
-use Rattle.std.specs.Prelude.{Result, slice_get, None}
-use Rattle.sp_base.specs.declared.halt.Memory.{Memory}
-use Rattle.sp_run.specs.declared.stop.Halted.{Halted}
+use Rattle.std.specs.Prelude.{slice_get, None}
+use Rattle.sp_run.specs.declared.stop.Done.{Done}
 use Rattle.sp_run.specs.declared.machine.Machine.{Machine}
 use Rattle.sp_run.specs.declared.machine.Setting.{Setting}
 use Rattle.sp_run.specs.declared.machine.Who.{Who}
@@ -16,7 +15,7 @@ use Rattle.sp_run.specs.Doings.{calls_of}
 use Rattle.sp_run.specs.Direct.{Got}
 use Rattle.sp_run.specs.DirectDeeds.{settle, act, deed}
 
-pub deed_act : {R : Type 0} (g : Setting) (w : Who) (before mid after : Machine) (view : R → Deed) (result : Result (Result R Halted) Memory) (n : ℕ) (todo : List m.Item) (items rest : List Item) (i : Item)
+pub deed_act : {R : Type 0} (g : Setting) (w : Who) (before mid after : Machine) (view : R → Deed) (result : Done R) (n : ℕ) (todo : List m.Item) (items rest : List Item) (i : Item)
     → settle (setting_of g) todo (plain_who w) (plain_own before.own) (store_of g before.log) ≡ Got (items_of items) (plain_own mid.own) (store_of g mid.log)
     → items ≡ i ∷ rest
     → Implements g w view mid result after (act (setting_of g) (calls_of g n) (item_of i) (items_of rest)) → Implements g w view before result after (deed (setting_of g) n todo)

@@ -19,9 +19,9 @@ use crate::machine::{Machine, Setting, Who};
 use crate::operators::{kind_at, left_of, ordinal, read_at};
 use crate::stop::{Done, Halted};
 use crate::store::assign;
-use crate::take;
 use crate::texts::{cut_to, line_length, shown, taken_by};
 use crate::value::{Address, Chan, Value, copy_name};
+use crate::{have, take};
 use sp_base::{Fault, Memory};
 use sp_tree::{Arm, Expr, Stmt};
 
@@ -38,7 +38,7 @@ pub fn assigned_to<'a>(
         (assigned_to (plain_address at.now) (plain_value v.now) (items_of todo.old.items)) }
 {
     take!(assign(run, who, machine, at, v));
-    Ok(Ok(Deed::Stepped))
+    Done::Gives(Deed::Stepped)
 }
 
 /// A statement, if an ordinal is true.
@@ -54,10 +54,10 @@ pub fn picked<'a>(
         (picked n (stmt_of a.now) (items_of todo.old.items)) }
 {
     if n <= 0 {
-        return Ok(Ok(Deed::Stepped));
+        return Done::Gives(Deed::Stepped);
     }
-    push(a, todo)?;
-    Ok(Ok(Deed::Stepped))
+    have!(push(a, todo));
+    Done::Gives(Deed::Stepped)
 }
 
 /// One of two statements.
@@ -74,11 +74,11 @@ pub fn either<'a>(
         (either n (stmt_of a.now) (stmt_of b.now) (items_of todo.old.items)) }
 {
     if n <= 0 {
-        push(b, todo)?;
-        return Ok(Ok(Deed::Stepped));
+        have!(push(b, todo));
+        return Done::Gives(Deed::Stepped);
     }
-    push(a, todo)?;
-    Ok(Ok(Deed::Stepped))
+    have!(push(a, todo));
+    Done::Gives(Deed::Stepped)
 }
 
 /// Whether a `for` loop has a value.
@@ -104,7 +104,7 @@ pub fn ranged<'a>(
         (ranged variable low high down (stmt_of body.now) (items_of todo.old.items)) }
 {
     if !is_range(down, low, high) {
-        return Ok(Ok(Deed::Stepped));
+        return Done::Gives(Deed::Stepped);
     }
     let first = Item::First {
         variable,
@@ -113,8 +113,8 @@ pub fn ranged<'a>(
         down,
         body,
     };
-    push_item(first, todo)?;
-    Ok(Ok(Deed::Stepped))
+    have!(push_item(first, todo));
+    Done::Gives(Deed::Stepped)
 }
 
 /// The statement of the arm with this constant, or F9.
@@ -131,10 +131,10 @@ pub fn chosen<'a>(
 {
     match arm_for(n, arms) {
         Some(s) => {
-            push(s, todo)?;
-            Ok(Ok(Deed::Stepped))
+            have!(push(s, todo));
+            Done::Gives(Deed::Stepped)
         }
-        None => Ok(Err(Halted::Fault(Fault::F9))),
+        None => Done::Halts(Halted::Fault(Fault::F9)),
     }
 }
 
@@ -152,10 +152,10 @@ pub fn tested<'a>(
         (tested n (stmt_of s.now) (expr_of e.now) (items_of todo.old.items)) }
 {
     if n <= 0 {
-        push_item(Item::Repeat(s, e), todo)?;
-        return Ok(Ok(Deed::Stepped));
+        have!(push_item(Item::Repeat(s, e), todo));
+        return Done::Gives(Deed::Stepped);
     }
-    Ok(Ok(Deed::Stepped))
+    Done::Gives(Deed::Stepped)
 }
 
 /// An ordinal is true, or F8.
@@ -169,9 +169,9 @@ pub fn assumed<'a>(
     ensures { Implements run.now who.now (plain_deed (items_of todo.new.items)) machine.now result machine.now (assumed n (items_of todo.old.items)) }
 {
     if n <= 0 {
-        return Ok(Err(Halted::Fault(Fault::F8)));
+        return Done::Halts(Halted::Fault(Fault::F8));
     }
-    Ok(Ok(Deed::Stepped))
+    Done::Gives(Deed::Stepped)
 }
 
 /// A new channel goes to an address.
@@ -185,9 +185,9 @@ pub fn opened<'a>(
     ensures { Implements run.now who.now (plain_deed (items_of todo.new.items)) machine.old result machine.new
         (opened (plain_address at.now) (items_of todo.old.items)) }
 {
-    let c = new_channel(run, who)?;
+    let c = have!(new_channel(run, who));
     take!(assign(run, who, machine, at, &c));
-    Ok(Ok(Deed::Opened))
+    Done::Gives(Deed::Opened)
 }
 
 /// The channel that a process opens next.
@@ -214,8 +214,8 @@ pub fn called<'a>(
         (called (setting_of run.now) f (given_of given.now) (items_of todo.old.items)) }
 {
     let block = take!(enter(run, who, machine, f, given));
-    push_both(&block.body, Item::Leave, todo)?;
-    Ok(Ok(Deed::Ticked))
+    have!(push_both(&block.body, Item::Leave, todo));
+    Done::Gives(Deed::Ticked)
 }
 
 /// One more turn of a `while` loop, if its ordinal is true.
@@ -232,11 +232,11 @@ pub fn looped<'a>(
         (looped (setting_of run.now) n (expr_of e.now) (stmt_of s.now) (items_of todo.old.items)) }
 {
     if n <= 0 {
-        return Ok(Ok(Deed::Stepped));
+        return Done::Gives(Deed::Stepped);
     }
     take!(tick(run, who, machine));
-    push_both(s, Item::While(e, s), todo)?;
-    Ok(Ok(Deed::Ticked))
+    have!(push_both(s, Item::While(e, s), todo));
+    Done::Gives(Deed::Ticked)
 }
 
 /// One more turn of a `repeat` loop.
@@ -252,8 +252,8 @@ pub fn repeated<'a>(
         (repeated (setting_of run.now) (stmt_of s.now) (expr_of e.now) (items_of todo.old.items)) }
 {
     take!(tick(run, who, machine));
-    push_both(s, Item::Test(s, e), todo)?;
-    Ok(Ok(Deed::Ticked))
+    have!(push_both(s, Item::Test(s, e), todo));
+    Done::Gives(Deed::Ticked)
 }
 
 /// The value after this one, or want of memory where 64 bits do not hold it.
@@ -282,7 +282,7 @@ fn turn_after<'a>(
     ensures { Implements run.now who.now (plain_deed (items_of todo.new.items)) machine.old result machine.new
         (turn_of (setting_of run.now) variable (next_value down n) limit down (stmt_of body.now) (items_of todo.old.items)) }
 {
-    let n = next_value(down, n)?;
+    let n = have!(next_value(down, n));
     turn_of(run, who, machine, variable, n, limit, down, body, todo)
 }
 
@@ -324,7 +324,7 @@ pub fn returned<'a>(
         (returned (setting_of run.now) (items_of todo.old.items)) }
 {
     take!(leave(run, who, machine));
-    Ok(Ok(Deed::Stepped))
+    Done::Gives(Deed::Stepped)
 }
 
 /// The next item of the input goes to an address.
@@ -341,10 +341,10 @@ pub fn read_value<'a>(
     let kind = take!(kind_at(run, who, machine, at.kind));
     let left = take!(left_of(run, who, machine));
     let Some(taken) = taken_by(kind, left) else {
-        return Ok(Err(Halted::Lost));
+        return Done::Halts(Halted::Lost);
     };
     take!(take_in(run, who, machine, at, taken));
-    Ok(Ok(Deed::Stepped))
+    Done::Gives(Deed::Stepped)
 }
 
 /// The rest of the input's line is skipped.
@@ -359,7 +359,7 @@ pub fn read_line<'a>(
 {
     let left = take!(left_of(run, who, machine));
     take!(advance(run, who, machine, line_length(left)));
-    Ok(Ok(Deed::Stepped))
+    Done::Gives(Deed::Stepped)
 }
 
 /// A text is written behind so many blanks.
@@ -375,7 +375,7 @@ fn write_behind<'a>(
         (write_bytes (setting_of run.now) (replicate blanks 32 ++ text.now) (items_of todo.old.items)) }
 {
     take!(write(run, who, machine, blanks, text));
-    Ok(Ok(Deed::Stepped))
+    Done::Gives(Deed::Stepped)
 }
 
 /// Bytes are written.
@@ -409,7 +409,7 @@ pub fn write_text<'a>(
         None => write_bytes(run, who, machine, text, todo),
         Some(m) => {
             if m <= 0 {
-                return Ok(Err(Halted::Fault(Fault::F1)));
+                return Done::Halts(Halted::Fault(Fault::F1));
             }
             let m = m as usize;
             let text = cut_to(cut, m, text);
@@ -432,6 +432,6 @@ pub fn write_shown<'a>(
         (write_shown (setting_of run.now) kind n width (items_of todo.old.items)) }
 {
     let kind = take!(kind_at(run, who, machine, kind));
-    let (cut, text) = shown(run.alloc, kind, n)?;
+    let (cut, text) = have!(shown(run.alloc, kind, n));
     write_text(run, who, machine, cut, text.items(), width, todo)
 }

@@ -51,12 +51,12 @@ pub fn left_after<'a>(
         (left_after (setting_of run.now) (plain_deed (items_of todo.now.items) deed.now)) }
 {
     match deed {
-        Deed::Stepped => Ok(Ok(true)),
-        Deed::Ticked => Ok(Ok(true)),
-        Deed::Opened => Ok(Err(Halted::Lost)),
-        Deed::Forked(_) => Ok(Err(Halted::Lost)),
-        Deed::Offered { .. } => Ok(Err(Halted::Lost)),
-        Deed::Ended => Ok(Err(Halted::Lost)),
+        Deed::Stepped => Done::Gives(true),
+        Deed::Ticked => Done::Gives(true),
+        Deed::Opened => Done::Halts(Halted::Lost),
+        Deed::Forked(_) => Done::Halts(Halted::Lost),
+        Deed::Offered { .. } => Done::Halts(Halted::Lost),
+        Deed::Ended => Done::Halts(Halted::Lost),
     }
 }
 
@@ -66,5 +66,5 @@ pub fn ended(run: &Setting, who: &Who, machine: &mut Machine, answer: Option<u32
 {
     let v = take!(give_back(run, who, machine, answer));
     take!(leave(run, who, machine));
-    Ok(Ok(v))
+    Done::Gives(v)
 }

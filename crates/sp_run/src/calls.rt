@@ -23,8 +23,8 @@ use crate::machine::{Frame, Held, Home, Machine, Own, Reference, Setting, Who};
 use crate::operators::read_at;
 use crate::stop::{Done, Halted};
 use crate::store::put;
-use crate::take;
 use crate::value::{Address, Loc, Value, copy_address, copy_name, copy_value};
+use crate::{have, take};
 use sp_base::{Fault, List, Memory};
 use sp_tree::{Block, Variable};
 use std::mem;
@@ -42,9 +42,9 @@ pub fn tick(run: &Setting, who: &Who, machine: &mut Machine) -> Done<()>
 {
     if machine.own.ticks < run.limits.ticks {
         machine.own.ticks += 1;
-        Ok(Ok(()))
+        Done::Gives(())
     } else {
-        Ok(Err(Halted::Fault(Fault::F10)))
+        Done::Halts(Halted::Fault(Fault::F10))
     }
 }
 
@@ -54,9 +54,9 @@ pub fn deepen(run: &Setting, who: &Who, machine: &mut Machine) -> Done<()>
 {
     if machine.own.depth < run.limits.depth as u64 {
         machine.own.depth += 1;
-        Ok(Ok(()))
+        Done::Gives(())
     } else {
-        Ok(Err(Halted::Fault(Fault::F11)))
+        Done::Halts(Halted::Fault(Fault::F11))
     }
 }
 
@@ -64,12 +64,12 @@ pub fn deepen(run: &Setting, who: &Who, machine: &mut Machine) -> Done<()>
 pub fn widen(run: &Setting, who: &Who, machine: &mut Machine, n: u64) -> Done<()>
     ensures { Implements run.now who.now same machine.old result machine.new (widen run.now.limits.now n) }
 {
-    let cells = sum_of(machine.own.cells, n)?;
+    let cells = have!(sum_of(machine.own.cells, n));
     if (run.limits.cells as u64) < cells {
-        Ok(Err(Halted::Fault(Fault::F12)))
+        Done::Halts(Halted::Fault(Fault::F12))
     } else {
         machine.own.cells = cells;
-        Ok(Ok(()))
+        Done::Gives(())
     }
 }
 
@@ -79,7 +79,7 @@ pub fn enclosing(run: &Setting, who: &Who, machine: &Machine, parent: Option<u32
 {
     match parent {
         Some(b) => reach(run, who, machine, Wanted::Block(b as usize)),
-        None => Ok(Err(Halted::Lost)),
+        None => Done::Halts(Halted::Lost),
     }
 }
 
@@ -141,10 +141,10 @@ fn lay_one(
         (lay_one (setting_of run.now) frame (x, variable_of v.now) (option_map plain_value (option_copied first.entry))) }
 {
     match first {
-        None => Ok(Ok(())),
+        None => Done::Gives(()),
         Some(first) => {
-            let first = copy_value(run.alloc, first)?;
-            let owner = copy_name(run.alloc, &who.name)?;
+            let first = have!(copy_value(run.alloc, first));
+            let owner = have!(copy_name(run.alloc, &who.name));
             let at = Loc::Cell {
                 owner,
                 frame,
@@ -167,15 +167,15 @@ fn copy_in(
     ensures { Implements run.now who.now same machine.old result machine.new (copy_in (setting_of run.now) frame formals.now (given_of given.now)) }
 {
     let Some((x, xs)) = formals.split_first() else {
-        return Ok(Ok(()));
+        return Done::Gives(());
     };
     let Some((g, gs)) = given.split_first() else {
-        return Ok(Ok(()));
+        return Done::Gives(());
     };
     match g {
         Given::Value(v) => {
-            let v = copy_value(run.alloc, v)?;
-            let owner = copy_name(run.alloc, &who.name)?;
+            let v = have!(copy_value(run.alloc, v));
+            let owner = have!(copy_name(run.alloc, &who.name));
             let at = Loc::Cell {
                 owner,
                 frame,
@@ -204,10 +204,10 @@ fn lay(
         (lay (setting_of run.now) frame (variables_of block x (map variable_of variables.now))) }
 {
     let Some((v, rest)) = variables.split_first() else {
-        return Ok(Ok(()));
+        return Done::Gives(());
     };
     let Some(next) = x.checked_add(1) else {
-        return Err(Memory);
+        return Done::NoMemory;
     };
     if v.block as usize == block {
         take!(lay_one(run, who, machine, frame, x, v, beginning(known, v)));
@@ -229,7 +229,7 @@ fn laid<'a>(
 ) -> Done<&'a Block>
     ensures { Implements run.now who.now block_in machine.old result machine.new (laid (setting_of run.now) frame f (block_of b.now) (given_of given.now)) }
 {
-    let known = initials_of(run.alloc, run.checked.kinds.items())?;
+    let known = have!(initials_of(run.alloc, run.checked.kinds.items()));
     take!(lay(
         run,
         who,
@@ -241,7 +241,7 @@ fn laid<'a>(
         run.checked.variables.items()
     ));
     take!(copy_in(run, who, machine, frame, b.formals.items(), given));
-    Ok(Ok(b))
+    Done::Gives(b)
 }
 
 /// A frame is the newest.
@@ -265,8 +265,8 @@ fn entered<'a>(
     ensures { Implements run.now who.now block_in machine.old result machine.new (entered (setting_of run.now) f (block_of b.now) (given_of given.now)) }
 {
     let link = take!(enclosing(run, who, machine, b.parent));
-    let references = references_of(run, b.formals.items(), given)?;
-    let owner = copy_name(run.alloc, &who.name)?;
+    let references = have!(references_of(run, b.formals.items(), given));
+    let owner = have!(copy_name(run.alloc, &who.name));
     let number = machine.own.frames.len();
     let frame = Frame {
         owner,
@@ -275,7 +275,7 @@ fn entered<'a>(
         link,
         references,
     };
-    push_frame(run, machine, frame)?;
+    have!(push_frame(run, machine, frame));
     laid(run, who, machine, number, f, b, given)
 }
 
@@ -293,11 +293,11 @@ pub fn enter<'a>(
         Some(b) => {
             take!(tick(run, who, machine));
             take!(deepen(run, who, machine));
-            let size = size_of_frame(run, f as usize)?;
+            let size = have!(size_of_frame(run, f as usize));
             take!(widen(run, who, machine, size));
             entered(run, who, machine, f, b, given)
         }
-        None => Ok(Err(Halted::Lost)),
+        None => Done::Halts(Halted::Lost),
     }
 }
 
@@ -317,13 +317,13 @@ pub fn leave(run: &Setting, who: &Who, machine: &mut Machine) -> Done<()>
 {
     match machine.own.frames.items().first() {
         Some(f) => {
-            let cells = cells_of_home(run, f.home)?;
-            pop_frame(run, machine)?;
+            let cells = have!(cells_of_home(run, f.home));
+            have!(pop_frame(run, machine));
             machine.own.depth = machine.own.depth.saturating_sub(1);
             machine.own.cells = machine.own.cells.saturating_sub(cells);
-            Ok(Ok(()))
+            Done::Gives(())
         }
-        None => Ok(Ok(())),
+        None => Done::Gives(()),
     }
 }
 
@@ -353,6 +353,6 @@ pub fn give_back(
             let place = take!(place_of(run, who, machine, x));
             read_at(run, who, machine, &place)
         }
-        None => Ok(Err(Halted::Lost)),
+        None => Done::Halts(Halted::Lost),
     }
 }

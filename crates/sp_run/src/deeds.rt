@@ -21,9 +21,9 @@ use crate::machine::{Held, Machine, Setting, Who};
 use crate::operators::position_of;
 use crate::stop::{Done, Halted};
 use crate::store::{assign, fetch, look, put};
-use crate::take;
 use crate::texts::{Taken, padded};
 use crate::value::{Address, Chan, Loc, Value};
+use crate::{have, take};
 use sp_base::{Fault, List, Memory};
 use sp_tree::{Arm, Stmt};
 
@@ -102,17 +102,17 @@ fn leaves(run: &Setting, who: &Who, machine: &mut Machine, item: &Item) -> Done<
             body: _,
         } => {
             let v = take!(peek(run, who, machine, *variable));
-            Ok(Ok(!goes_on(*down, *limit, &v)))
+            Done::Gives(!goes_on(*down, *limit, &v))
         }
-        Item::Do(_) => Ok(Ok(false)),
-        Item::First { .. } => Ok(Ok(false)),
-        Item::While(_, _) => Ok(Ok(false)),
-        Item::Repeat(_, _) => Ok(Ok(false)),
-        Item::Test(_, _) => Ok(Ok(false)),
-        Item::Send(_, _) => Ok(Ok(false)),
-        Item::Receive(_, _) => Ok(Ok(false)),
-        Item::Leave => Ok(Ok(false)),
-        Item::Break(_) => Ok(Ok(false)),
+        Item::Do(_) => Done::Gives(false),
+        Item::First { .. } => Done::Gives(false),
+        Item::While(_, _) => Done::Gives(false),
+        Item::Repeat(_, _) => Done::Gives(false),
+        Item::Test(_, _) => Done::Gives(false),
+        Item::Send(_, _) => Done::Gives(false),
+        Item::Receive(_, _) => Done::Gives(false),
+        Item::Leave => Done::Gives(false),
+        Item::Break(_) => Done::Gives(false),
     }
 }
 
@@ -135,14 +135,14 @@ pub fn settle<'a>(
     ensures { Implements run.now who.now (beside (items_of todo.new.items)) machine.old result machine.new (settle (setting_of run.now) (items_of todo.old.items)) }
 {
     let Some(first) = todo.first() else {
-        return Ok(Ok(()));
+        return Done::Gives(());
     };
     let item = *first;
     if take!(leaves(run, who, machine, &item)) {
         drop_first(todo);
         settle(run, who, machine, todo)
     } else {
-        Ok(Ok(()))
+        Done::Gives(())
     }
 }
 
@@ -178,8 +178,8 @@ pub fn turn_of<'a>(
         down,
         body,
     };
-    push_both(body, next, todo)?;
-    Ok(Ok(Deed::Ticked))
+    have!(push_both(body, next, todo));
+    Done::Gives(Deed::Ticked)
 }
 
 /// The children are made, if one level more is allowed.
@@ -194,9 +194,9 @@ pub fn fork<'a>(
         (fork (setting_of run.now) (births_of births.entry) (items_of todo.now.items)) }
 {
     if machine.own.depth < run.limits.depth as u64 {
-        Ok(Ok(Deed::Forked(births)))
+        Done::Gives(Deed::Forked(births))
     } else {
-        Ok(Err(Halted::Fault(Fault::F11)))
+        Done::Halts(Halted::Fault(Fault::F11))
     }
 }
 
@@ -215,9 +215,9 @@ pub fn forall<'a>(
         (forall (setting_of run.now) variable low high (stmt_of body.now) (items_of todo.now.items)) }
 {
     if high < low {
-        return Ok(Ok(Deed::Stepped));
+        return Done::Gives(Deed::Stepped);
     }
-    let count = count_of(&low, &high)?;
+    let count = have!(count_of(&low, &high));
     let births = Births::Indexed {
         variable: variable as usize,
         low,
@@ -294,10 +294,10 @@ pub fn write(
     let held = take!(look(run, who, machine, &Loc::Output));
     let bytes = bytes_of(run, held);
     if is_full(run.limits.output, bytes.items(), blanks, text) {
-        return Ok(Err(Halted::Fault(Fault::F16)));
+        return Done::Halts(Halted::Fault(Fault::F16));
     }
-    let text = padded(run.alloc, blanks, text)?;
-    let bytes = joined(bytes, text.items())?;
+    let text = have!(padded(run.alloc, blanks, text));
+    let bytes = have!(joined(bytes, text.items()));
     put(run, who, machine, Loc::Output, Held::Written(bytes))
 }
 
@@ -307,7 +307,7 @@ pub fn advance(run: &Setting, who: &Who, machine: &mut Machine, n: usize) -> Don
 {
     let held = take!(look(run, who, machine, &Loc::Input));
     let Some(next) = position_of(&held).checked_add(n) else {
-        return Err(Memory);
+        return Done::NoMemory;
     };
     put(run, who, machine, Loc::Input, Held::Position(next))
 }
@@ -327,6 +327,6 @@ pub fn take_in(
             take!(advance(run, who, machine, bytes));
             assign(run, who, machine, at, &Value::Ordinal(n))
         }
-        Taken::Fails(f) => Ok(Err(Halted::Fault(f))),
+        Taken::Fails(f) => Done::Halts(Halted::Fault(f)),
     }
 }

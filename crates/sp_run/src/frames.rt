@@ -12,6 +12,7 @@ ghost use Rattle.sp_run.specs.DirectEval.{place_by, place_of, address_of};
 ghost use Rattle.sp_tree.specs.Bare.{variable_of};
 ghost use Rattle.sp_run.specs.Framing.{in_visible, referred_in, index_of};
 
+use crate::have;
 use crate::machine::{Frame, Home, Machine, Reference, Setting, Who};
 use crate::stop::{Done, Halted};
 use crate::value::{Address, Loc, copy_address, copy_name};
@@ -87,9 +88,9 @@ pub fn reach(run: &Setting, who: &Who, machine: &Machine, wanted: Wanted) -> Don
     let frames = machine.own.frames.items();
     let found = seek(wanted, frames.len(), frames);
     if found.is_empty() {
-        Ok(Err(Halted::Lost))
+        Done::Halts(Halted::Lost)
     } else {
-        Ok(Ok(found.len()))
+        Done::Gives(found.len())
     }
 }
 
@@ -100,10 +101,10 @@ fn in_visible(run: &Setting, who: &Who, machine: &Machine, x: usize, v: &Variabl
     let frames = machine.own.frames.items();
     let found = seek(Wanted::Block(v.block as usize), frames.len(), frames);
     let Some((f, _rest)) = found.split_first() else {
-        return Ok(Err(Halted::Lost));
+        return Done::Halts(Halted::Lost);
     };
-    let owner = copy_name(run.alloc, &f.owner)?;
-    Ok(Ok(Place::At(Address {
+    let owner = have!(copy_name(run.alloc, &f.owner));
+    Done::Gives(Place::At(Address {
         spot: Loc::Cell {
             owner,
             frame: f.number,
@@ -111,7 +112,7 @@ fn in_visible(run: &Setting, who: &Who, machine: &Machine, x: usize, v: &Variabl
         },
         path: List::new(run.alloc),
         kind: v.kind,
-    })))
+    }))
 }
 
 /// What the variable parameter stands for in the frame of its block.
@@ -121,14 +122,14 @@ fn referred_in(run: &Setting, who: &Who, machine: &Machine, x: usize, v: &Variab
     let frames = machine.own.frames.items();
     let found = seek(Wanted::Block(v.block as usize), frames.len(), frames);
     let Some((f, _rest)) = found.split_first() else {
-        return Ok(Err(Halted::Lost));
+        return Done::Halts(Halted::Lost);
     };
     match referred(x, f.references.items()) {
         Some(r) => {
-            let a = copy_address(run.alloc, &r.stands)?;
-            Ok(Ok(Place::At(a)))
+            let a = have!(copy_address(run.alloc, &r.stands));
+            Done::Gives(Place::At(a))
         }
-        None => Ok(Err(Halted::Lost)),
+        None => Done::Halts(Halted::Lost),
     }
 }
 
@@ -139,11 +140,11 @@ fn index_of(run: &Setting, who: &Who, machine: &Machine, x: usize) -> Done<Place
     let frames = machine.own.frames.items();
     let found = seek(Wanted::Index(x), frames.len(), frames);
     let Some((f, _rest)) = found.split_first() else {
-        return Ok(Err(Halted::Lost));
+        return Done::Halts(Halted::Lost);
     };
     match f.home {
-        Home::Block(_) => Ok(Err(Halted::Lost)),
-        Home::Index(_, n) => Ok(Ok(Place::Fixed(n))),
+        Home::Block(_) => Done::Halts(Halted::Lost),
+        Home::Index(_, n) => Done::Gives(Place::Fixed(n)),
     }
 }
 
@@ -152,7 +153,7 @@ fn place_by(run: &Setting, who: &Who, machine: &Machine, x: usize, v: &Variable)
     ensures { Implements run.now who.now plain_place machine.now result machine.now (place_by (setting_of run.now) x (variable_of v.now) v.now.role) }
 {
     match v.role {
-        Role::Console => Ok(Err(Halted::Lost)),
+        Role::Console => Done::Halts(Halted::Lost),
         Role::Local => in_visible(run, who, machine, x, v),
         Role::Value => in_visible(run, who, machine, x, v),
         Role::Reference => referred_in(run, who, machine, x, v),
@@ -168,7 +169,7 @@ pub fn place_of(run: &Setting, who: &Who, machine: &Machine, x: u32) -> Done<Pla
 {
     match run.checked.variables.get(x as usize) {
         Some(v) => place_by(run, who, machine, x as usize, v),
-        None => Ok(Err(Halted::Lost)),
+        None => Done::Halts(Halted::Lost),
     }
 }
 
@@ -177,7 +178,7 @@ pub fn address_of(run: &Setting, who: &Who, machine: &Machine, place: Place) -> 
     ensures { Implements run.now who.now plain_address machine.now result machine.now (address_of (setting_of run.now) (plain_place place)) }
 {
     match place {
-        Place::At(a) => Ok(Ok(a)),
-        Place::Fixed(_) => Ok(Err(Halted::Lost)),
+        Place::At(a) => Done::Gives(a),
+        Place::Fixed(_) => Done::Halts(Halted::Lost),
     }
 }

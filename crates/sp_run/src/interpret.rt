@@ -28,8 +28,8 @@ use crate::operators::{
     worked_of,
 };
 use crate::stop::{Done, Halted};
-use crate::take;
 use crate::value::{Address, Value};
+use crate::{have, take};
 use sp_arithmetic::unary;
 use sp_base::{List, Memory};
 use sp_tree::{Actual, Arm, Expr, ExprForm, Form, Selector, Stmt, Var};
@@ -48,7 +48,7 @@ pub fn value(
     ensures { Implements run.now who.now plain_value machine.old result machine.new (value (setting_of run.now) (calls_of run.now fuel) (expr_of e.now)) }
 {
     if levels == 0 {
-        return Err(Memory);
+        return Done::NoMemory;
     }
     form_value(run, who, fuel, levels - 1, machine, e.kind, &e.form)
 }
@@ -66,12 +66,8 @@ fn form_value(
     ensures { Implements run.now who.now plain_value machine.old result machine.new
         (form_value (setting_of run.now) (calls_of run.now fuel) kind (form_of form.now)) }
 {
-    if levels == 0 {
-        return Err(Memory);
-    }
-    let levels = levels - 1;
     match form {
-        ExprForm::Number(n) => Ok(Ok(Value::Ordinal(*n))),
+        ExprForm::Number(n) => Done::Gives(Value::Ordinal(*n)),
         ExprForm::Read(x) => {
             let q = take!(place(run, who, fuel, levels, machine, x));
             read_at(run, who, machine, &q)
@@ -115,11 +111,8 @@ fn place(
 ) -> Done<Place>
     ensures { Implements run.now who.now plain_place machine.old result machine.new (place (setting_of run.now) (calls_of run.now fuel) (var_of x.now)) }
 {
-    if levels == 0 {
-        return Err(Memory);
-    }
     let q = take!(place_of(run, who, machine, x.variable));
-    selected(run, who, fuel, levels - 1, machine, x.selectors.items(), q)
+    selected(run, who, fuel, levels, machine, x.selectors.items(), q)
 }
 
 #[cycle(interpret)]
@@ -136,11 +129,11 @@ fn selected(
         (selected (setting_of run.now) (calls_of run.now fuel) (selectors_of ss.now) (plain_place q)) }
 {
     if levels == 0 {
-        return Err(Memory);
+        return Done::NoMemory;
     }
     let levels = levels - 1;
     let Some((s, rest)) = ss.split_first() else {
-        return Ok(Ok(q));
+        return Done::Gives(q);
     };
     match s {
         Selector::Index(e) => {
@@ -169,23 +162,23 @@ fn actuals(
         (given_by (setting_of run.now) (calls_of run.now fuel) (actuals_of args.now)) }
 {
     if levels == 0 {
-        return Err(Memory);
+        return Done::NoMemory;
     }
     let levels = levels - 1;
     let Some((a, rest)) = args.split_first() else {
-        return Ok(Ok(List::new(run.alloc)));
+        return Done::Gives(List::new(run.alloc));
     };
     match a {
         Actual::Value(e) => {
             let v = take!(value(run, who, fuel, levels, machine, e));
             let given = take!(actuals(run, who, fuel, levels, machine, rest));
-            Ok(Ok(first_given(Given::Value(v), given)?))
+            Done::Gives(have!(first_given(Given::Value(v), given)))
         }
         Actual::Reference(x) => {
             let q = take!(place(run, who, fuel, levels, machine, x));
             let a = take!(address_of(run, who, machine, q));
             let given = take!(actuals(run, who, fuel, levels, machine, rest));
-            Ok(Ok(first_given(Given::Place(a), given)?))
+            Done::Gives(have!(first_given(Given::Place(a), given)))
         }
     }
 }
@@ -212,10 +205,10 @@ fn call(
     ensures { Implements run.now who.now plain_value machine.old result machine.new (calls_of run.now fuel f (given_of given)) }
 {
     if levels == 0 {
-        return Err(Memory);
+        return Done::NoMemory;
     }
     let block = take!(enter(run, who, machine, f, given.items()));
-    let todo = body_of(run, &block.body)?;
+    let todo = have!(body_of(run, &block.body));
     take!(all(run, who, fuel, levels - 1, machine, todo));
     ended(run, who, machine, block.answer)
 }
@@ -232,19 +225,16 @@ fn all<'a>(
 ) -> Done<()>
     ensures { Implements run.now who.now nothing_left machine.old result machine.new (all (setting_of run.now) fuel (items_of todo.entry.items)) }
 {
-    if levels == 0 {
-        return Err(Memory);
-    }
     let mut todo = todo;
     let mut left = fuel;
     while left > 0 {
         left -= 1;
-        let more = take!(one(run, who, left, levels - 1, machine, &mut todo));
+        let more = take!(one(run, who, left, levels, machine, &mut todo));
         if !more {
-            return Ok(Ok(()));
+            return Done::Gives(());
         }
     }
-    Ok(Err(Halted::Long))
+    Done::Halts(Halted::Long)
 }
 
 /// One step of a function's body, and whether something was left to do.
@@ -260,14 +250,11 @@ fn one<'a>(
     ensures { Implements run.now who.now (left_if (items_of todo.new.items)) machine.old result machine.new
         (one (setting_of run.now) fuel (items_of todo.old.items)) }
 {
-    if levels == 0 {
-        return Err(Memory);
-    }
     take!(settle(run, who, machine, todo));
     let Some(item) = take_first(todo) else {
-        return Ok(Ok(false));
+        return Done::Gives(false);
     };
-    let deed = take!(act(run, who, fuel, levels - 1, machine, item, todo));
+    let deed = take!(act(run, who, fuel, levels, machine, item, todo));
     left_after(run, who, machine, todo, &deed)
 }
 
@@ -283,10 +270,7 @@ fn ordinal_of(
 ) -> Done<i64>
     ensures { Implements run.now who.now same machine.old result machine.new (ordinal_of (setting_of run.now) (calls_of run.now fuel) (expr_of e.now)) }
 {
-    if levels == 0 {
-        return Err(Memory);
-    }
-    let v = take!(value(run, who, fuel, levels - 1, machine, e));
+    let v = take!(value(run, who, fuel, levels, machine, e));
     ordinal(run, who, machine, &v)
 }
 
@@ -302,10 +286,7 @@ fn address(
 ) -> Done<Address>
     ensures { Implements run.now who.now plain_address machine.old result machine.new (address (setting_of run.now) (calls_of run.now fuel) (var_of x.now)) }
 {
-    if levels == 0 {
-        return Err(Memory);
-    }
-    let q = take!(place(run, who, fuel, levels - 1, machine, x));
+    let q = take!(place(run, who, fuel, levels, machine, x));
     address_of(run, who, machine, q)
 }
 
@@ -321,15 +302,12 @@ fn width(
 ) -> Done<Option<i64>>
     ensures { Implements run.now who.now same machine.old result machine.new (width (setting_of run.now) (calls_of run.now fuel) (width_of e.now)) }
 {
-    if levels == 0 {
-        return Err(Memory);
-    }
     match e {
         Some(e) => {
-            let n = take!(ordinal_of(run, who, fuel, levels - 1, machine, e));
-            Ok(Ok(Some(n)))
+            let n = take!(ordinal_of(run, who, fuel, levels, machine, e));
+            Done::Gives(Some(n))
         }
-        None => Ok(Ok(None)),
+        None => Done::Gives(None),
     }
 }
 
@@ -347,10 +325,6 @@ pub fn act<'a>(
     ensures { Implements run.now who.now (plain_deed (items_of todo.new.items)) machine.old result machine.new
         (act (setting_of run.now) (calls_of run.now fuel) (item_of item.entry) (items_of todo.old.items)) }
 {
-    if levels == 0 {
-        return Err(Memory);
-    }
-    let levels = levels - 1;
     match item {
         Item::Do(s) => start(run, who, fuel, levels, machine, s, todo),
         Item::First {
@@ -375,7 +349,7 @@ pub fn act<'a>(
         Item::Send(c, e) => start_send(run, who, fuel, levels, machine, c, e, todo),
         Item::Receive(c, x) => start_receive(run, who, fuel, levels, machine, c, x, todo),
         Item::Leave => returned(run, who, machine, todo),
-        Item::Break(f) => Ok(Err(Halted::Fault(f))),
+        Item::Break(f) => Done::Halts(Halted::Fault(f)),
     }
 }
 
@@ -393,10 +367,6 @@ fn start_assign<'a>(
     ensures { Implements run.now who.now (plain_deed (items_of todo.new.items)) machine.old result machine.new
         (start (setting_of run.now) (calls_of run.now fuel) (Assign (var_of x.now) (expr_of e.now)) (items_of todo.old.items)) }
 {
-    if levels == 0 {
-        return Err(Memory);
-    }
-    let levels = levels - 1;
     let at = take!(address(run, who, fuel, levels, machine, x));
     let v = take!(value(run, who, fuel, levels, machine, e));
     assigned_to(run, who, machine, &at, &v, todo)
@@ -416,10 +386,7 @@ fn start_call<'a>(
     ensures { Implements run.now who.now (plain_deed (items_of todo.new.items)) machine.old result machine.new
         (start (setting_of run.now) (calls_of run.now fuel) (Call f (actuals_of args.now)) (items_of todo.old.items)) }
 {
-    if levels == 0 {
-        return Err(Memory);
-    }
-    let given = take!(actuals(run, who, fuel, levels - 1, machine, args));
+    let given = take!(actuals(run, who, fuel, levels, machine, args));
     called(run, who, machine, f, given.items(), todo)
 }
 
@@ -437,10 +404,7 @@ fn start_if<'a>(
     ensures { Implements run.now who.now (plain_deed (items_of todo.new.items)) machine.old result machine.new
         (start (setting_of run.now) (calls_of run.now fuel) (If (expr_of e.now) (stmt_of a.now)) (items_of todo.old.items)) }
 {
-    if levels == 0 {
-        return Err(Memory);
-    }
-    let n = take!(ordinal_of(run, who, fuel, levels - 1, machine, e));
+    let n = take!(ordinal_of(run, who, fuel, levels, machine, e));
     picked(run, who, machine, n, a, todo)
 }
 
@@ -459,10 +423,7 @@ fn start_either<'a>(
     ensures { Implements run.now who.now (plain_deed (items_of todo.new.items)) machine.old result machine.new
         (start (setting_of run.now) (calls_of run.now fuel) (IfElse (expr_of e.now) (stmt_of a.now) (stmt_of b.now)) (items_of todo.old.items)) }
 {
-    if levels == 0 {
-        return Err(Memory);
-    }
-    let n = take!(ordinal_of(run, who, fuel, levels - 1, machine, e));
+    let n = take!(ordinal_of(run, who, fuel, levels, machine, e));
     either(run, who, machine, n, a, b, todo)
 }
 
@@ -480,10 +441,7 @@ fn start_while<'a>(
     ensures { Implements run.now who.now (plain_deed (items_of todo.new.items)) machine.old result machine.new
         (start (setting_of run.now) (calls_of run.now fuel) (While (expr_of e.now) (stmt_of s.now)) (items_of todo.old.items)) }
 {
-    if levels == 0 {
-        return Err(Memory);
-    }
-    let n = take!(ordinal_of(run, who, fuel, levels - 1, machine, e));
+    let n = take!(ordinal_of(run, who, fuel, levels, machine, e));
     looped(run, who, machine, n, e, s, todo)
 }
 
@@ -505,10 +463,6 @@ fn start_for<'a>(
         (start (setting_of run.now) (calls_of run.now fuel)
         (For variable (expr_of from.now) down (expr_of to.now) (stmt_of body.now)) (items_of todo.old.items)) }
 {
-    if levels == 0 {
-        return Err(Memory);
-    }
-    let levels = levels - 1;
     let low = take!(ordinal_of(run, who, fuel, levels, machine, from));
     let high = take!(ordinal_of(run, who, fuel, levels, machine, to));
     ranged(run, who, machine, variable, low, high, down, body, todo)
@@ -528,10 +482,7 @@ fn start_case<'a>(
     ensures { Implements run.now who.now (plain_deed (items_of todo.new.items)) machine.old result machine.new
         (start (setting_of run.now) (calls_of run.now fuel) (Case (expr_of e.now) (arms_of arms.now)) (items_of todo.old.items)) }
 {
-    if levels == 0 {
-        return Err(Memory);
-    }
-    let n = take!(ordinal_of(run, who, fuel, levels - 1, machine, e));
+    let n = take!(ordinal_of(run, who, fuel, levels, machine, e));
     chosen(run, who, machine, n, arms, todo)
 }
 
@@ -552,10 +503,6 @@ fn start_forall<'a>(
         (start (setting_of run.now) (calls_of run.now fuel) (Forall index (expr_of from.now) (expr_of to.now) (stmt_of body.now))
         (items_of todo.old.items)) }
 {
-    if levels == 0 {
-        return Err(Memory);
-    }
-    let levels = levels - 1;
     let low = take!(ordinal_of(run, who, fuel, levels, machine, from));
     let high = take!(ordinal_of(run, who, fuel, levels, machine, to));
     forall(run, who, machine, index, low, high, body, todo)
@@ -574,10 +521,7 @@ fn start_assume<'a>(
     ensures { Implements run.now who.now (plain_deed (items_of todo.new.items)) machine.old result machine.new
         (start (setting_of run.now) (calls_of run.now fuel) (Assume (expr_of e.now)) (items_of todo.old.items)) }
 {
-    if levels == 0 {
-        return Err(Memory);
-    }
-    let n = take!(ordinal_of(run, who, fuel, levels - 1, machine, e));
+    let n = take!(ordinal_of(run, who, fuel, levels, machine, e));
     assumed(run, who, machine, n, todo)
 }
 
@@ -594,10 +538,7 @@ fn start_read<'a>(
     ensures { Implements run.now who.now (plain_deed (items_of todo.new.items)) machine.old result machine.new
         (start (setting_of run.now) (calls_of run.now fuel) (ReadValue (var_of x.now)) (items_of todo.old.items)) }
 {
-    if levels == 0 {
-        return Err(Memory);
-    }
-    let at = take!(address(run, who, fuel, levels - 1, machine, x));
+    let at = take!(address(run, who, fuel, levels, machine, x));
     read_value(run, who, machine, &at, todo)
 }
 
@@ -615,10 +556,6 @@ fn start_write<'a>(
     ensures { Implements run.now who.now (plain_deed (items_of todo.new.items)) machine.old result machine.new
         (start (setting_of run.now) (calls_of run.now fuel) (WriteValue (expr_of e.now) (width_of w.now)) (items_of todo.old.items)) }
 {
-    if levels == 0 {
-        return Err(Memory);
-    }
-    let levels = levels - 1;
     let n = take!(ordinal_of(run, who, fuel, levels, machine, e));
     let m = take!(width(run, who, fuel, levels, machine, w));
     write_shown(run, who, machine, e.kind, n, m, todo)
@@ -638,10 +575,7 @@ fn start_text<'a>(
     ensures { Implements run.now who.now (plain_deed (items_of todo.new.items)) machine.old result machine.new
         (start (setting_of run.now) (calls_of run.now fuel) (WriteText t.now (width_of w.now)) (items_of todo.old.items)) }
 {
-    if levels == 0 {
-        return Err(Memory);
-    }
-    let m = take!(width(run, who, fuel, levels - 1, machine, w));
+    let m = take!(width(run, who, fuel, levels, machine, w));
     write_text(run, who, machine, true, t, m, todo)
 }
 
@@ -658,10 +592,7 @@ fn start_open<'a>(
     ensures { Implements run.now who.now (plain_deed (items_of todo.new.items)) machine.old result machine.new
         (start (setting_of run.now) (calls_of run.now fuel) (Open (var_of x.now)) (items_of todo.old.items)) }
 {
-    if levels == 0 {
-        return Err(Memory);
-    }
-    let at = take!(address(run, who, fuel, levels - 1, machine, x));
+    let at = take!(address(run, who, fuel, levels, machine, x));
     opened(run, who, machine, &at, todo)
 }
 
@@ -679,10 +610,6 @@ fn start_send<'a>(
     ensures { Implements run.now who.now (plain_deed (items_of todo.new.items)) machine.old result machine.new
         (start (setting_of run.now) (calls_of run.now fuel) (Send (expr_of c.now) (expr_of e.now)) (items_of todo.old.items)) }
 {
-    if levels == 0 {
-        return Err(Memory);
-    }
-    let levels = levels - 1;
     let v = take!(value(run, who, fuel, levels, machine, c));
     let to = take!(channel(run, who, machine, &v));
     let w = take!(value(run, who, fuel, levels, machine, e));
@@ -691,7 +618,7 @@ fn start_send<'a>(
         kind: e.kind,
         cargo: Cargo::Message(w),
     };
-    Ok(Ok(d))
+    Done::Gives(d)
 }
 
 #[cycle(interpret)]
@@ -708,10 +635,6 @@ fn start_receive<'a>(
     ensures { Implements run.now who.now (plain_deed (items_of todo.new.items)) machine.old result machine.new
         (start (setting_of run.now) (calls_of run.now fuel) (Receive (expr_of c.now) (var_of x.now)) (items_of todo.old.items)) }
 {
-    if levels == 0 {
-        return Err(Memory);
-    }
-    let levels = levels - 1;
     let v = take!(value(run, who, fuel, levels, machine, c));
     let from = take!(channel(run, who, machine, &v));
     let at = take!(address(run, who, fuel, levels, machine, x));
@@ -720,7 +643,7 @@ fn start_receive<'a>(
         kind: at.kind,
         cargo: Cargo::Takes(at),
     };
-    Ok(Ok(d))
+    Done::Gives(d)
 }
 
 /// The step of a statement that is first.
@@ -737,19 +660,15 @@ fn start<'a>(
     ensures { Implements run.now who.now (plain_deed (items_of todo.new.items)) machine.old result machine.new
         (start (setting_of run.now) (calls_of run.now fuel) (stmt_of s.now) (items_of todo.old.items)) }
 {
-    if levels == 0 {
-        return Err(Memory);
-    }
-    let levels = levels - 1;
     match &s.form {
-        Form::Empty => Ok(Ok(Deed::Stepped)),
+        Form::Empty => Done::Gives(Deed::Stepped),
         Form::Assign(x, e) => start_assign(run, who, fuel, levels, machine, x, e, todo),
         Form::Call(f, args) => {
             start_call(run, who, fuel, levels, machine, *f, args.items(), todo)
         }
         Form::Sequence(ss) => {
-            push_all(ss.items(), todo)?;
-            Ok(Ok(Deed::Stepped))
+            have!(push_all(ss.items(), todo));
+            Done::Gives(Deed::Stepped)
         }
         Form::If(e, a, None) => start_if(run, who, fuel, levels, machine, e, a.get(), todo),
         Form::If(e, a, Some(b)) => {
@@ -817,8 +736,8 @@ fn start<'a>(
             channel,
             values,
         } => {
-            push_sends(channel, values.items(), todo)?;
-            Ok(Ok(Deed::Stepped))
+            have!(push_sends(channel, values.items(), todo));
+            Done::Gives(Deed::Stepped)
         }
         Form::ReceiveEach {
             at: _,
@@ -826,8 +745,8 @@ fn start<'a>(
             channel,
             variables,
         } => {
-            push_receives(channel, variables.items(), todo)?;
-            Ok(Ok(Deed::Stepped))
+            have!(push_receives(channel, variables.items(), todo));
+            Done::Gives(Deed::Stepped)
         }
     }
 }

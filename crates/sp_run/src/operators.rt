@@ -17,8 +17,8 @@ use crate::frames::Place;
 use crate::machine::{Held, Machine, Setting, Who};
 use crate::stop::{Done, Halted};
 use crate::store::{fetch, look};
-use crate::take;
 use crate::value::{Address, Chan, Loc, Value, copy_channel, is_same_channel};
+use crate::{have, take};
 use sp_arithmetic::{absolute_of, binary, next_of, odd, previous_of, square_of, truth_of, within};
 use sp_base::{Fault, List, MAXINT};
 use sp_tree::{BinaryOp, KindOf, StandardFn};
@@ -28,8 +28,8 @@ pub fn worked_of(run: &Setting, who: &Who, machine: &Machine, r: Result<i64, Fau
     ensures { Implements run.now who.now plain_value machine.now result machine.now (work_of (worked r)) }
 {
     match r {
-        Ok(n) => Ok(Ok(Value::Ordinal(n))),
-        Err(f) => Ok(Err(Halted::Fault(f))),
+        Ok(n) => Done::Gives(Value::Ordinal(n)),
+        Err(f) => Done::Halts(Halted::Fault(f)),
     }
 }
 
@@ -38,10 +38,10 @@ pub fn ordinal(run: &Setting, who: &Who, machine: &Machine, v: &Value) -> Done<i
     ensures { Implements run.now who.now same machine.now result machine.now (ordinal (plain_value v.now)) }
 {
     match v {
-        Value::Undefined => Ok(Err(Halted::Lost)),
-        Value::Ordinal(n) => Ok(Ok(*n)),
-        Value::Chan(_) => Ok(Err(Halted::Lost)),
-        Value::Parts(_) => Ok(Err(Halted::Lost)),
+        Value::Undefined => Done::Halts(Halted::Lost),
+        Value::Ordinal(n) => Done::Gives(*n),
+        Value::Chan(_) => Done::Halts(Halted::Lost),
+        Value::Parts(_) => Done::Halts(Halted::Lost),
     }
 }
 
@@ -50,13 +50,13 @@ pub fn channel(run: &Setting, who: &Who, machine: &Machine, v: &Value) -> Done<C
     ensures { Implements run.now who.now plain_channel machine.now result machine.now (channel (plain_value v.now)) }
 {
     match v {
-        Value::Undefined => Ok(Err(Halted::Lost)),
-        Value::Ordinal(_) => Ok(Err(Halted::Lost)),
+        Value::Undefined => Done::Halts(Halted::Lost),
+        Value::Ordinal(_) => Done::Halts(Halted::Lost),
         Value::Chan(c) => {
-            let c = copy_channel(run.alloc, c)?;
-            Ok(Ok(c))
+            let c = have!(copy_channel(run.alloc, c));
+            Done::Gives(c)
         }
-        Value::Parts(_) => Ok(Err(Halted::Lost)),
+        Value::Parts(_) => Done::Halts(Halted::Lost),
     }
 }
 
@@ -71,19 +71,19 @@ fn on_channels(
     ensures { Implements run.now who.now plain_value machine.now result machine.now (channels_op op (plain_channel c.now) (plain_channel d.now)) }
 {
     match op {
-        BinaryOp::Eq => Ok(Ok(Value::Ordinal(truth_of(is_same_channel(c, d))))),
-        BinaryOp::Ne => Ok(Ok(Value::Ordinal(truth_of(!is_same_channel(c, d))))),
-        BinaryOp::Lt => Ok(Err(Halted::Lost)),
-        BinaryOp::Le => Ok(Err(Halted::Lost)),
-        BinaryOp::Gt => Ok(Err(Halted::Lost)),
-        BinaryOp::Ge => Ok(Err(Halted::Lost)),
-        BinaryOp::Add => Ok(Err(Halted::Lost)),
-        BinaryOp::Sub => Ok(Err(Halted::Lost)),
-        BinaryOp::Or => Ok(Err(Halted::Lost)),
-        BinaryOp::Mul => Ok(Err(Halted::Lost)),
-        BinaryOp::Div => Ok(Err(Halted::Lost)),
-        BinaryOp::Mod => Ok(Err(Halted::Lost)),
-        BinaryOp::And => Ok(Err(Halted::Lost)),
+        BinaryOp::Eq => Done::Gives(Value::Ordinal(truth_of(is_same_channel(c, d)))),
+        BinaryOp::Ne => Done::Gives(Value::Ordinal(truth_of(!is_same_channel(c, d)))),
+        BinaryOp::Lt => Done::Halts(Halted::Lost),
+        BinaryOp::Le => Done::Halts(Halted::Lost),
+        BinaryOp::Gt => Done::Halts(Halted::Lost),
+        BinaryOp::Ge => Done::Halts(Halted::Lost),
+        BinaryOp::Add => Done::Halts(Halted::Lost),
+        BinaryOp::Sub => Done::Halts(Halted::Lost),
+        BinaryOp::Or => Done::Halts(Halted::Lost),
+        BinaryOp::Mul => Done::Halts(Halted::Lost),
+        BinaryOp::Div => Done::Halts(Halted::Lost),
+        BinaryOp::Mod => Done::Halts(Halted::Lost),
+        BinaryOp::And => Done::Halts(Halted::Lost),
     }
 }
 
@@ -99,7 +99,7 @@ pub fn operate(
     ensures { Implements run.now who.now plain_value machine.now result machine.now (operate op (plain_value v.now) (plain_value w.now)) }
 {
     match v {
-        Value::Undefined => Ok(Err(Halted::Lost)),
+        Value::Undefined => Done::Halts(Halted::Lost),
         Value::Ordinal(m) => {
             let n = take!(ordinal(run, who, machine, w));
             worked_of(run, who, machine, binary(op, *m, n))
@@ -108,7 +108,7 @@ pub fn operate(
             let d = take!(channel(run, who, machine, w));
             on_channels(run, who, machine, op, c, &d)
         }
-        Value::Parts(_) => Ok(Err(Halted::Lost)),
+        Value::Parts(_) => Done::Halts(Halted::Lost),
     }
 }
 
@@ -157,12 +157,12 @@ pub fn standard(
         StandardFn::Abs => worked_of(run, who, machine, absolute_of(n)),
         StandardFn::Sqr => worked_of(run, who, machine, square_of(n)),
         StandardFn::Odd => worked_of(run, who, machine, odd(n)),
-        StandardFn::Ord => Ok(Ok(Value::Ordinal(n))),
+        StandardFn::Ord => Done::Gives(Value::Ordinal(n)),
         StandardFn::Chr => worked_of(run, who, machine, within(0, 255, n)),
         StandardFn::Succ => worked_of(run, who, machine, next_of(greatest(kind), n)),
         StandardFn::Pred => worked_of(run, who, machine, previous_of(least(kind), n)),
-        StandardFn::Eof => Ok(Err(Halted::Lost)),
-        StandardFn::Eoln => Ok(Err(Halted::Lost)),
+        StandardFn::Eof => Done::Halts(Halted::Lost),
+        StandardFn::Eoln => Done::Halts(Halted::Lost),
     }
 }
 
@@ -177,15 +177,15 @@ pub fn at_input(
     ensures { Implements run.now who.now plain_value machine.now result machine.now (input_op f left.now) }
 {
     match f {
-        StandardFn::Abs => Ok(Err(Halted::Lost)),
-        StandardFn::Sqr => Ok(Err(Halted::Lost)),
-        StandardFn::Odd => Ok(Err(Halted::Lost)),
-        StandardFn::Ord => Ok(Err(Halted::Lost)),
-        StandardFn::Chr => Ok(Err(Halted::Lost)),
-        StandardFn::Succ => Ok(Err(Halted::Lost)),
-        StandardFn::Pred => Ok(Err(Halted::Lost)),
-        StandardFn::Eof => Ok(Ok(Value::Ordinal(truth_of(left.len() == 0)))),
-        StandardFn::Eoln => Ok(Ok(Value::Ordinal(truth_of(is_at_line_end(left))))),
+        StandardFn::Abs => Done::Halts(Halted::Lost),
+        StandardFn::Sqr => Done::Halts(Halted::Lost),
+        StandardFn::Odd => Done::Halts(Halted::Lost),
+        StandardFn::Ord => Done::Halts(Halted::Lost),
+        StandardFn::Chr => Done::Halts(Halted::Lost),
+        StandardFn::Succ => Done::Halts(Halted::Lost),
+        StandardFn::Pred => Done::Halts(Halted::Lost),
+        StandardFn::Eof => Done::Gives(Value::Ordinal(truth_of(left.len() == 0))),
+        StandardFn::Eoln => Done::Gives(Value::Ordinal(truth_of(is_at_line_end(left)))),
     }
 }
 
@@ -202,10 +202,10 @@ fn ordinal_read(run: &Setting, who: &Who, machine: &Machine, v: Value) -> Done<V
     ensures { Implements run.now who.now plain_value machine.now result machine.now (ordinal_read (plain_value v)) }
 {
     match v {
-        Value::Undefined => Ok(Err(Halted::Fault(Fault::F4))),
-        Value::Ordinal(n) => Ok(Ok(Value::Ordinal(n))),
-        Value::Chan(_) => Ok(Err(Halted::Fault(Fault::F4))),
-        Value::Parts(_) => Ok(Err(Halted::Fault(Fault::F4))),
+        Value::Undefined => Done::Halts(Halted::Fault(Fault::F4)),
+        Value::Ordinal(n) => Done::Gives(Value::Ordinal(n)),
+        Value::Chan(_) => Done::Halts(Halted::Fault(Fault::F4)),
+        Value::Parts(_) => Done::Halts(Halted::Fault(Fault::F4)),
     }
 }
 
@@ -213,10 +213,10 @@ fn channel_read(run: &Setting, who: &Who, machine: &Machine, v: Value) -> Done<V
     ensures { Implements run.now who.now plain_value machine.now result machine.now (channel_read (plain_value v)) }
 {
     match v {
-        Value::Undefined => Ok(Err(Halted::Fault(Fault::F5))),
-        Value::Ordinal(_) => Ok(Err(Halted::Fault(Fault::F5))),
-        Value::Chan(c) => Ok(Ok(Value::Chan(c))),
-        Value::Parts(_) => Ok(Err(Halted::Fault(Fault::F5))),
+        Value::Undefined => Done::Halts(Halted::Fault(Fault::F5)),
+        Value::Ordinal(_) => Done::Halts(Halted::Fault(Fault::F5)),
+        Value::Chan(c) => Done::Gives(Value::Chan(c)),
+        Value::Parts(_) => Done::Halts(Halted::Fault(Fault::F5)),
     }
 }
 
@@ -229,8 +229,8 @@ fn checked(run: &Setting, who: &Who, machine: &Machine, kind: &KindOf, v: Value)
         KindOf::Boolean => ordinal_read(run, who, machine, v),
         KindOf::Char => ordinal_read(run, who, machine, v),
         KindOf::Enumeration(_) => ordinal_read(run, who, machine, v),
-        KindOf::Array { .. } => Ok(Ok(v)),
-        KindOf::Fields(_) => Ok(Ok(v)),
+        KindOf::Array { .. } => Done::Gives(v),
+        KindOf::Fields(_) => Done::Gives(v),
         KindOf::Channel(_) => channel_read(run, who, machine, v),
     }
 }
@@ -240,8 +240,8 @@ pub fn kind_at<'a>(run: &Setting<'a>, who: &Who, machine: &Machine, k: u32) -> D
     ensures { Implements run.now who.now pointed machine.now result machine.now (kind_at (setting_of run.now) k) }
 {
     match run.checked.kinds.get(k as usize) {
-        Some(kind) => Ok(Ok(kind)),
-        None => Ok(Err(Halted::Lost)),
+        Some(kind) => Done::Gives(kind),
+        None => Done::Halts(Halted::Lost),
     }
 }
 
@@ -268,8 +268,8 @@ fn component(
         mut path,
         kind: _,
     } = a;
-    path.push(at)?;
-    Ok(Ok(Place::At(Address { spot, path, kind })))
+    have!(path.push(at));
+    Done::Gives(Place::At(Address { spot, path, kind }))
 }
 
 /// The element at an index, or F1.
@@ -293,15 +293,15 @@ fn element_at(
             if *low <= *n && *n <= *high {
                 component(run, who, machine, a, distance(*low, *n), *element)
             } else {
-                Ok(Err(Halted::Fault(Fault::F1)))
+                Done::Halts(Halted::Fault(Fault::F1))
             }
         }
-        KindOf::Integer => Ok(Err(Halted::Lost)),
-        KindOf::Boolean => Ok(Err(Halted::Lost)),
-        KindOf::Char => Ok(Err(Halted::Lost)),
-        KindOf::Enumeration(_) => Ok(Err(Halted::Lost)),
-        KindOf::Fields(_) => Ok(Err(Halted::Lost)),
-        KindOf::Channel(_) => Ok(Err(Halted::Lost)),
+        KindOf::Integer => Done::Halts(Halted::Lost),
+        KindOf::Boolean => Done::Halts(Halted::Lost),
+        KindOf::Char => Done::Halts(Halted::Lost),
+        KindOf::Enumeration(_) => Done::Halts(Halted::Lost),
+        KindOf::Fields(_) => Done::Halts(Halted::Lost),
+        KindOf::Channel(_) => Done::Halts(Halted::Lost),
     }
 }
 
@@ -314,7 +314,7 @@ pub fn indexed(run: &Setting, who: &Who, machine: &Machine, place: Place, n: &i6
             let kind = take!(kind_at(run, who, machine, a.kind));
             element_at(run, who, machine, a, n, kind)
         }
-        Place::Fixed(_) => Ok(Err(Halted::Lost)),
+        Place::Fixed(_) => Done::Halts(Halted::Lost),
     }
 }
 
@@ -344,10 +344,10 @@ pub fn fielded(run: &Setting, who: &Who, machine: &Machine, f: u32, place: Place
             let kind = take!(kind_at(run, who, machine, a.kind));
             match field_kind(f, kind) {
                 Some(t) => component(run, who, machine, a, f as usize, t),
-                None => Ok(Err(Halted::Lost)),
+                None => Done::Halts(Halted::Lost),
             }
         }
-        Place::Fixed(_) => Ok(Err(Halted::Lost)),
+        Place::Fixed(_) => Done::Halts(Halted::Lost),
     }
 }
 
@@ -361,7 +361,7 @@ pub fn read_at(run: &Setting, who: &Who, machine: &mut Machine, place: &Place) -
             let v = take!(fetch(run, who, machine, a));
             checked(run, who, machine, kind, v)
         }
-        Place::Fixed(n) => Ok(Ok(Value::Ordinal(*n))),
+        Place::Fixed(n) => Done::Gives(Value::Ordinal(*n)),
     }
 }
 
@@ -391,5 +391,5 @@ pub fn left_of<'a>(run: &Setting<'a>, who: &Who, machine: &mut Machine) -> Done<
     ensures { Implements run.now who.now pointed machine.old result machine.new (left_of (setting_of run.now)) }
 {
     let held = take!(look(run, who, machine, &Loc::Input));
-    Ok(Ok(after(run.input, position_of(&held))))
+    Done::Gives(after(run.input, position_of(&held)))
 }

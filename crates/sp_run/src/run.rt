@@ -4,6 +4,7 @@ ghost use Rattle.std.specs.Prelude.{◌≡◌, ℕ, IfOk, map};
 ghost use Rattle.sp_tree.specs.PlainOf.{program_of};
 ghost use Rattle.sp_meaning.specs.SuperPascal.{weight_of};
 ghost use Rattle.sp_meaning.specs.Fronts.{longest_from};
+ghost use Rattle.sp_meaning.specs.Runs.{start as start_of};
 ghost use Rattle.sp_run.specs.Machines.{setting_of};
 ghost use Rattle.sp_run.specs.States.{state_of};
 ghost use Rattle.sp_run.specs.Meanings.{name_of, names_of, Means};
@@ -70,6 +71,23 @@ fn goes<'a>(
     Ok(n)
 }
 
+/// The steps of the schedule, made in the opening state, with what they write and the end.
+fn ran<'a>(
+    run: &Setting<'a>,
+    weight: u64,
+    s: &mut State<'a>,
+    schedule: &[ProcName],
+) -> Result<Meant, Memory>
+    requires weight { weight ≡ weight_of (program_of run.now.checked.now) }
+    requires opening { state_of run.now s.old ≡ start_of (setting_of run.now) }
+    ensures { IfOk result (Means (setting_of run.now) (names_of schedule.now)) }
+{
+    let steps = goes(run, weight, s, schedule)?;
+    let output = Text::of(output_of(run, s)?.into_vec());
+    let end = end_of(run, s)?;
+    Ok(Meant { steps, output, end })
+}
+
 /// The plain meaning of a program: the steps of the schedule, made one by one from the opening state up to the first
 /// that can't be made. It is slow, and meant for small programs. Want of memory is the only error.
 pub fn meaning_run(
@@ -89,8 +107,5 @@ pub fn meaning_run(
     };
     let weight = weight_of_program(checked)?;
     let mut state = start(&run)?;
-    let steps = goes(&run, weight, &mut state, schedule.items())?;
-    let output = Text::of(output_of(&run, &state)?.into_vec());
-    let end = end_of(&run, &state)?;
-    Ok(Meant { steps, output, end })
+    ran(&run, weight, &mut state, schedule.items())
 }

@@ -363,9 +363,16 @@ pub fn becomes<'a>(
 ) -> Result<(), Memory>
     ensures { OnOk result (Changes run.now s.old (Becomes p.now (plain_condition condition.entry) ∷ []) s.new) }
 {
-    let name = List::from_slice(run.alloc, p)?;
-    s.conditions.push(Became { name, condition })?;
-    Ok(())
+    match List::from_slice(run.alloc, p) {
+        Ok(name) => {
+            s.conditions.push(Became { name, condition })?;
+            Ok(())
+        }
+        Err(_) => {
+            drop(condition);
+            Err(Memory)
+        }
+    }
 }
 
 /// A process has made one fork more.

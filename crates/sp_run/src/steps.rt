@@ -222,8 +222,8 @@ fn forked<'a>(run: &Setting, parent: &Process<'a>) -> Result<Process<'a>, Memory
         ≡ with_todo (items_of parent.now.todo.items)
         (record { name = parent.now.who.name; forks = parent.now.who.forks + 1; opens = parent.now.who.opens }) (plain_own parent.now.own)) }
 {
+    let forks = sum_of(parent.who.forks, 1)?;
     let Process { todo, who, own } = copy_process(run.alloc, parent)?;
-    let forks = sum_of(who.forks, 1)?;
     Ok(Process {
         todo,
         who: Who {
@@ -290,22 +290,29 @@ fn message(c: Cargo, d: Cargo) -> Option<(Address, Value)>
     }
 }
 
+/// The channel and who waits on it.
+fn waits_on(run: &Setting, channel: &Chan, p: &[(u64, u64)]) -> Result<(Chan, Name), Memory>
+    ensures { IfOk result (λ both. both ≡ (channel.now, p.now)) }
+{
+    let channel = copy_channel(run.alloc, channel)?;
+    let name = List::from_slice(run.alloc, p)?;
+    Ok((channel, name))
+}
+
 /// An offer finds none on its channel, and its process waits.
 fn waits<'a>(run: &Setting, s: &mut State<'a>, p: &[(u64, u64)], o: Offer<'a>) -> Result<(), Memory>
     ensures { OnOk result (Changes run.now s.old (waiting (state_of run.now s.old) p.now (plain_offer o.entry)) s.new) }
 {
-    let channel = copy_channel(run.alloc, &o.channel)?;
-    let name = List::from_slice(run.alloc, p)?;
+    let (channel, name) = match waits_on(run, &o.channel, p) {
+        Ok(both) => both,
+        Err(e) => {
+            drop(o);
+            return Err(e);
+        }
+    };
     becomes(run, s, p, Condition::Waits(o))?;
     set_pending(run, s, channel, Some(name))?;
     adds(run, s, 0, 0)
-}
-
-/// Nobody waits on the channel any more.
-fn clears(run: &Setting, s: &mut State, channel: Chan) -> Result<(), Memory>
-    ensures { OnOk result (Changes run.now s.old (PendsIn (plain_channel channel) None ∷ []) s.new) }
-{
-    set_pending(run, s, channel, None)
 }
 
 /// Both processes go on, nothing is pending, and the message is assigned.
@@ -328,7 +335,7 @@ fn meeting<'a>(
 {
     becomes(run, s, p, Condition::Works(next))?;
     becomes(run, s, z.items(), Condition::Works(other))?;
-    clears(run, s, channel)?;
+    set_pending(run, s, channel, None)?;
     delivers(run, s, a, v)?;
     adds(run, s, 0, 0)
 }
@@ -518,7 +525,7 @@ fn deed_of<'a>(
 {
     take!(settle(run, who, machine, todo));
     let Some(first) = todo.first() else {
-        return Ok(Ok(Deed::Ended));
+        return Done::Gives(Deed::Ended);
     };
     let item = *first;
     drop_first(todo);
@@ -542,6 +549,21 @@ pub fn step<'a>(
     Ok(true)
 }
 
+/// What a step works with: how much it may evaluate, and the store.
+fn means_of(
+    run: &Setting,
+    weight: u64,
+    own: &Own,
+    log: &[Write],
+) -> Result<(u128, List<Write>), Memory>
+    requires { weight ≡ weight_of (program_of run.now.checked.now) }
+    ensures { IfOk result (λ both. both ≡ (enough (setting_of run.now) (plain_own own.now), log.now)) }
+{
+    let fuel = enough(run, weight, own)?;
+    let log = copy_log(run.alloc, log)?;
+    Ok((fuel, log))
+}
+
 /// A process that is running makes its step.
 fn works<'a>(
     run: &Setting<'a>,
@@ -556,14 +578,20 @@ fn works<'a>(
         (deed (setting_of run.now) (enough (setting_of run.now) (plain_own process.entry.own)) (items_of process.entry.todo.items)
         (plain_who process.entry.who) (plain_own process.entry.own) (store_of run.now s.old.log))) }
 {
+    let (fuel, log) = match means_of(run, weight, &process.own, s.log.items()) {
+        Ok(both) => both,
+        Err(e) => {
+            drop(process);
+            return Err(e);
+        }
+    };
     let Process { mut todo, who, own } = process;
-    let fuel = enough(run, weight, &own)?;
-    let log = copy_log(run.alloc, s.log.items())?;
     let mut machine = Machine { own, log };
-    let came = deed_of(run, &who, fuel, &mut machine, &mut todo)?;
+    let came = deed_of(run, &who, fuel, &mut machine, &mut todo);
     let Machine { own, log } = machine;
     match came {
-        Ok(deed) => completes(run, s, p, Process { todo, who, own }, log, deed),
-        Err(halted) => stops(run, s, p, halted),
+        Done::Gives(deed) => completes(run, s, p, Process { todo, who, own }, log, deed),
+        Done::Halts(halted) => stops(run, s, p, halted),
+        Done::NoMemory => Err(Memory),
     }
 }

@@ -1,6 +1,6 @@
 //! What a computation gives.
 
-use sp_base::{Fault, Memory};
+use sp_base::Fault;
 
 /// How a computation ends without a value.
 #[derive(Clone, Copy)]
@@ -14,15 +14,32 @@ pub enum Halted {
 }
 
 /// A value, or how the computation ends without one, or want of memory.
-pub type Done<R> = Result<Result<R, Halted>, Memory>;
+#[derive(Drop)]
+pub enum Done<R> {
+    Gives(R),
+    Halts(Halted),
+    NoMemory,
+}
 
 /// The value; where there is none, the function around ends so.
 #[macro_export]
 macro_rules! take {
     ($done:expr) => {
-        match $done? {
+        match $done {
+            Done::Gives(value) => value,
+            Done::Halts(halted) => return Done::Halts(halted),
+            Done::NoMemory => return Done::NoMemory,
+        }
+    };
+}
+
+/// What there is memory for; where there is none, the function around ends so.
+#[macro_export]
+macro_rules! have {
+    ($result:expr) => {
+        match $result {
             Ok(value) => value,
-            Err(halted) => return Ok(Err(halted)),
+            Err(_) => return Done::NoMemory,
         }
     };
 }

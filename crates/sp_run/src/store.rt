@@ -12,8 +12,8 @@ ghost use Rattle.sp_run.specs.Direct.{look, put, fetch, assign};
 use crate::kinds::first_value;
 use crate::machine::{Held, Machine, Setting, Who, Write};
 use crate::stop::Done;
-use crate::take;
 use crate::value::{Address, Loc, Value, copy_loc, copy_value, is_same_loc, value_at, with_at};
+use crate::{have, take};
 use sp_base::{List, Memory};
 use std::alloc::Global;
 
@@ -77,15 +77,15 @@ fn first_held(run: &Setting, at: &Loc) -> Result<Held, Memory>
 pub fn put(run: &Setting, who: &Who, machine: &mut Machine, at: Loc, held: Held) -> Done<()>
     ensures { Implements run.now who.now same machine.old result machine.new (put (plain_loc at) (plain_held held)) }
 {
-    machine.log.push(Write { at, held })?;
-    Ok(Ok(()))
+    have!(machine.log.push(Write { at, held }));
+    Done::Gives(())
 }
 
 /// Reads a location.
 pub fn look(run: &Setting, who: &Who, machine: &mut Machine, at: &Loc) -> Done<Held>
     ensures { Implements run.now who.now plain_held machine.old result machine.new (look (plain_loc at.now)) }
 {
-    Ok(Ok(held_at(run, machine.log.items(), at)?))
+    Done::Gives(have!(held_at(run, machine.log.items(), at)))
 }
 
 /// The value that stands at an address.
@@ -94,7 +94,7 @@ pub fn fetch(run: &Setting, who: &Who, machine: &mut Machine, a: &Address) -> Do
 {
     let held = take!(look(run, who, machine, &a.spot));
     let v = value_of(held);
-    Ok(Ok(value_at(run.alloc, a.path.items(), &v)?))
+    Done::Gives(have!(value_at(run.alloc, a.path.items(), &v)))
 }
 
 /// The value that is held, if one is.
@@ -121,8 +121,8 @@ pub fn with_value(run: &Setting, a: &Address, held: Held, v: &Value) -> Result<H
 pub fn assign(run: &Setting, who: &Who, machine: &mut Machine, a: &Address, v: &Value) -> Done<()>
     ensures { Implements run.now who.now same machine.old result machine.new (assign (plain_address a.now) (plain_value v.now)) }
 {
-    let held = held_at(run, machine.log.items(), &a.spot)?;
-    let new = with_value(run, a, held, v)?;
-    let at = copy_loc(run.alloc, &a.spot)?;
+    let held = have!(held_at(run, machine.log.items(), &a.spot));
+    let new = have!(with_value(run, a, held, v));
+    let at = have!(copy_loc(run.alloc, &a.spot));
     put(run, who, machine, at, new)
 }

@@ -1,5 +1,4 @@
 use Rattle.std.proofs.Common.{rules, ◌≡◌, sym, subst}
-use Rattle.std.specs.Prelude.{IfOk}
 use Rattle.std.proofs.lemmas.Int.{to_z-of_z}
 use mir.Val.{to_z, of_z, SFits}
 use mir.Syntax.{w64}
@@ -13,14 +12,14 @@ use Rattle.sp_run.specs.Direct.{Came}
 use Rattle.sp_run.proofs.Chains.{next_on, next_not}
 use Rattle.sp_run.proofs.acts.next_turn.Goals as goal
 
-pub returns-in-Err : goal.returns-in-Err
-returns-in-Err c = next_not (setting_of c.args.run.now) c.args.variable c.args.limit c.args.down (stmt_of c.args.body.now) (items_of c.args.todo.now.items) (plain_who c.args.who.now) (plain_own c.args.machine.now.own) (store_of c.args.run.now c.args.machine.now.log) c.in-Err.halted (rw c.in-Err.is at c.in_ok-value.ensures)
+pub returns-in-Halts : goal.returns-in-Halts
+returns-in-Halts c = next_not (setting_of c.args.run.now) c.args.variable c.args.limit c.args.down (stmt_of c.args.body.now) (items_of c.args.todo.now.items) (plain_who c.args.who.now) (plain_own c.args.machine.now.own) (store_of c.args.run.now c.args.machine.now.log) c.in-Halts.halted c.in-Halts.ensures
 
 pub returns : goal.returns
 returns c =
-    let f : SFits w64 c.in-Ok.value = search rules in
-    let z : to_z w64 (of_z w64 c.in-Ok.value) ≡ c.in-Ok.value = to_z-of_z w64 c.in-Ok.value f in
+    let f : SFits w64 c.in-Gives.value = search rules in
+    let z : to_z w64 (of_z w64 c.in-Gives.value) ≡ c.in-Gives.value = to_z-of_z w64 c.in-Gives.value f in
     let y : to_z w64 (of_z w64 c.args.limit) ≡ c.args.limit = to_z-of_z w64 c.args.limit c.ranges.limit in
-    let e = rw c.in-Ok.is at c.in_ok-value.ensures in
-    let k = next_on (setting_of c.args.run.now) c.args.variable c.args.limit c.args.down (stmt_of c.args.body.now) (items_of c.args.todo.now.items) (plain_who c.args.who.now) (plain_own c.args.machine.now.own) (plain_own c.index_value.new.machine.own) (store_of c.args.run.now c.args.machine.now.log) (store_of c.args.run.now c.index_value.new.machine.log) c.in-Ok.value e in
-    subst (λ (x : Came Deed). IfOk c.turn_after.result (λ r. Comes c.args.run.now (plain_deed (items_of c.turn_after.new.todo.items)) r c.turn_after.new.machine x)) (sym k) (rw (z, y) at c.turn_after.ensures)
+    let e = c.in-Gives.ensures in
+    let k = next_on (setting_of c.args.run.now) c.args.variable c.args.limit c.args.down (stmt_of c.args.body.now) (items_of c.args.todo.now.items) (plain_who c.args.who.now) (plain_own c.args.machine.now.own) (plain_own c.index_value.new.machine.own) (store_of c.args.run.now c.args.machine.now.log) (store_of c.args.run.now c.index_value.new.machine.log) c.in-Gives.value e in
+    subst (λ (x : Came Deed). Comes c.args.run.now (plain_deed (items_of c.turn_after.new.todo.items)) c.turn_after.result c.turn_after.new.machine x) (sym k) (rw (z, y) at c.turn_after.ensures)

@@ -8,6 +8,6 @@ use Rattle.sp_run.proofs.deeds.set_index.Goals as goal
 pub returns : goal.returns
 returns c =
     let z : to_z w64 (of_z w64 c.args.n) ≡ c.args.n = to_z-of_z w64 c.args.n c.ranges.n in
-    let e1 = rw c.in-Ok.is at c.in_ok-value.ensures in
-    let e2 = rw c.in-Ok-2.is at c.in_ok-value-2.ensures in
+    let e1 = c.in-Gives.ensures in
+    let e2 = c.in-Gives-address_of.ensures in
     rw (e1, e2) (rw (z, plain_ordinal c.args.n) at c.assign.ensures)

@@ -1,5 +1,4 @@
 use Rattle.std.proofs.Common.{rules, ◌≡◌, ◌-◌, ◌∷◌, [], List, Some, None, true, false, refl, length, sym, ap, ◌∙◌, arith, map, subst}
-use Rattle.std.specs.Prelude.{IfOk}
 use Rattle.std.proofs.lemmas.Int.{to_z-of_z}
 use mir.Val.{to_z, of_z, SFits}
 use mir.Syntax.{w64}
@@ -42,59 +41,59 @@ act-returns-in-Again t c =
     let z : to_z w64 (of_z w64 c.in-Again.limit) ≡ c.in-Again.limit = to_z-of_z w64 c.in-Again.limit f in
     rw i (rw z at c.next_turn.ensures)
 
-pub all-returns-in-Err : goal.all-returns-in-Err
-all-returns-in-Err t c =
-    let e = rw c.in-Err.is at c.in_ok-value.ensures in
-    sym c.loop-left.invariant ∙ not_left (setting_of c.args.run.now) c.loop-left.left (items_of c.loop-left.todo.items) (plain_who c.args.who.now) (plain_own c.loop-left.machine.own) (store_of c.args.run.now c.loop-left.machine.log) c.in-Err.halted (omega arith) e
+pub all-returns-in-Halts : goal.all-returns-in-Halts
+all-returns-in-Halts t c =
+    let e = c.in-Halts.ensures in
+    sym c.loop-left.invariant ∙ not_left (setting_of c.args.run.now) c.loop-left.left (items_of c.loop-left.todo.items) (plain_who c.args.who.now) (plain_own c.loop-left.machine.own) (store_of c.args.run.now c.loop-left.machine.log) c.in-Halts.halted (omega arith) e
 
 pub all-loop-left-preserved : goal.all-loop-left-preserved
 all-loop-left-preserved t c =
-    let m : c.in-Ok.value ≡ true = search rules in
-    let e : one (setting_of c.args.run.now) (c.loop-left.left - 1) (items_of c.loop-left.todo.items) (plain_who c.args.who.now) (plain_own c.loop-left.machine.own) (store_of c.args.run.now c.loop-left.machine.log) ≡ Got (Some (items_of c.one.new.todo.items)) (plain_own c.one.new.machine.own) (store_of c.args.run.now c.one.new.machine.log) = rw (c.in-Ok.is, m) at c.in_ok-value.ensures in
+    let m : c.in-Gives.value ≡ true = search rules in
+    let e : one (setting_of c.args.run.now) (c.loop-left.left - 1) (items_of c.loop-left.todo.items) (plain_who c.args.who.now) (plain_own c.loop-left.machine.own) (store_of c.args.run.now c.loop-left.machine.log) ≡ Got (Some (items_of c.one.new.todo.items)) (plain_own c.one.new.machine.own) (store_of c.args.run.now c.one.new.machine.log) = rw m at c.in-Gives.ensures in
     more_left (setting_of c.args.run.now) c.loop-left.left (items_of c.loop-left.todo.items) (items_of c.one.new.todo.items) (plain_who c.args.who.now) (plain_own c.loop-left.machine.own) (plain_own c.one.new.machine.own) (store_of c.args.run.now c.loop-left.machine.log) (store_of c.args.run.now c.one.new.machine.log) (omega arith) e ∙ c.loop-left.invariant
 
-pub call-returns-in-Err-2 : goal.call-returns-in-Err-2
-call-returns-in-Err-2 t c =
-    let e1 = rw (c.in-Ok.is, c.items.ensures) at c.in_ok-value.ensures in
-    let e2 = rw (c.in-Err-2.is, c.in_ok-todo.ensures) at c.in_ok-value-2.ensures in
+pub call-returns-in-Halts-all : goal.call-returns-in-Halts-all
+call-returns-in-Halts-all t c =
+    let e1 = rw c.items.ensures at c.in-Gives.ensures in
+    let e2 = rw c.in-Ok.ensures at c.in-Halts-all.ensures in
     rw (e1, e2) refl
 
 pub call-returns : goal.call-returns
 call-returns t c =
-    let e1 = rw (c.in-Ok.is, c.items.ensures) at c.in_ok-value.ensures in
-    let e2 = rw (c.in-Ok-2.is, c.in_ok-todo.ensures) at c.in_ok-value-2.ensures in
+    let e1 = rw c.items.ensures at c.in-Gives.ensures in
+    let e2 = rw c.in-Ok.ensures at c.in-Gives-all.ensures in
     rw (e1, e2) c.ended.ensures
 
-pub form_value-returns-in-Ok-2 : goal.form_value-returns-in-Ok-2
-form_value-returns-in-Ok-2 t c =
+pub form_value-returns-in-Gives-ordinal_of : goal.form_value-returns-in-Gives-ordinal_of
+form_value-returns-in-Gives-ordinal_of t c =
     let i : form_of c.args.form.now ≡ Unary c.in-Unary.op (expr_of c.in-Unary.a) = search (rules, ast_f.the_lemmas) in
-    let f : SFits w64 c.in-Ok-2.value = search rules in
-    let z : to_z w64 (of_z w64 c.in-Ok-2.value) ≡ c.in-Ok-2.value = to_z-of_z w64 c.in-Ok-2.value f in
-    let e1 = rw (c.in-Ok-2.is, c.get.ensures) at c.in_ok-value-in-Unary.ensures in
+    let f : SFits w64 c.in-Gives-ordinal_of.value = search rules in
+    let z : to_z w64 (of_z w64 c.in-Gives-ordinal_of.value) ≡ c.in-Gives-ordinal_of.value = to_z-of_z w64 c.in-Gives-ordinal_of.value f in
+    let e1 = rw c.get.ensures at c.in-Gives-ordinal_of.ensures in
     let e2 = rw z at c.unary.ensures in
     rw (i, e1) (rw e2 at c.worked_of.ensures)
 
-pub form_value-returns-in-Ok-7 : goal.form_value-returns-in-Ok-7
-form_value-returns-in-Ok-7 t c =
+pub form_value-returns-in-Gives-kind_at : goal.form_value-returns-in-Gives-kind_at
+form_value-returns-in-Gives-kind_at t c =
     let xs : c.in-Standard.args ≡ c.in-Some.a.now ∷ c.in-Some._rest.now = search rules in
     let i : form_of c.args.form.now ≡ standard_of c.in-Standard.f c.in-Standard.args = search (rules, ast_f.the_lemmas) in
     let j : standard_of c.in-Standard.f c.in-Standard.args ≡ Standard c.in-Standard.f (expr_of c.in-Some.a.now) = ap (λ z. standard_of c.in-Standard.f z) xs in
-    let f : SFits w64 c.in-Ok-6.value = search rules in
-    let z : to_z w64 (of_z w64 c.in-Ok-6.value) ≡ c.in-Ok-6.value = to_z-of_z w64 c.in-Ok-6.value f in
-    let e1 = rw c.in-Ok-6.is at c.in_ok-value-in-Some.ensures in
-    let e2 = rw c.in-Ok-7.is at c.in_ok-value-in-Some-2.ensures in
+    let f : SFits w64 c.in-Gives-ordinal_of-2.value = search rules in
+    let z : to_z w64 (of_z w64 c.in-Gives-ordinal_of-2.value) ≡ c.in-Gives-ordinal_of-2.value = to_z-of_z w64 c.in-Gives-ordinal_of-2.value f in
+    let e1 = c.in-Gives-ordinal_of-2.ensures in
+    let e2 = c.in-Gives-kind_at.ensures in
     rw (i ∙ j, e1, e2) (rw z at c.standard.ensures)
 
-pub form_value-returns-in-Ok-8 : goal.form_value-returns-in-Ok-8
-form_value-returns-in-Ok-8 t c =
+pub form_value-returns-in-Gives-left_of : goal.form_value-returns-in-Gives-left_of
+form_value-returns-in-Gives-left_of t c =
     let l : length c.in-Standard.args ≡ 0 = first_of (search rules, grind (arith, rules)) in
     let xs : c.in-Standard.args ≡ [] = none_in c.in-Standard.args l in
     let i : form_of c.args.form.now ≡ standard_of c.in-Standard.f c.in-Standard.args = search (rules, ast_f.the_lemmas) in
     let j : standard_of c.in-Standard.f c.in-Standard.args ≡ AtInput c.in-Standard.f = ap (λ z. standard_of c.in-Standard.f z) xs in
-    let e1 = rw c.in-Ok-8.is at c.in_ok-value-in-None.ensures in
-    let k : form_value (setting_of c.args.run.now) (calls_of c.args.run.now c.args.fuel) c.args.kind (form_of c.args.form.now) (plain_who c.args.who.now) (plain_own c.args.machine.now.own) (store_of c.args.run.now c.args.machine.now.log) ≡ input_op c.in-Standard.f c.in-Ok-8.value.now (plain_who c.args.who.now) (plain_own c.left_of.new.machine.own) (store_of c.args.run.now c.left_of.new.machine.log) =
-    rw (i ∙ j) (input_is (setting_of c.args.run.now) (calls_of c.args.run.now c.args.fuel) c.args.kind c.in-Standard.f (plain_who c.args.who.now) (plain_own c.args.machine.now.own) (plain_own c.left_of.new.machine.own) (store_of c.args.run.now c.args.machine.now.log) (store_of c.args.run.now c.left_of.new.machine.log) c.in-Ok-8.value.now (input_op c.in-Standard.f c.in-Ok-8.value.now (plain_who c.args.who.now) (plain_own c.left_of.new.machine.own) (store_of c.args.run.now c.left_of.new.machine.log)) e1 refl) in
-    subst (λ (x : Came Value). IfOk c.at_input.result (λ r. Comes c.args.run.now plain_value r c.left_of.new.machine x)) (sym k) c.at_input.ensures
+    let e1 = c.in-Gives-left_of.ensures in
+    let k : form_value (setting_of c.args.run.now) (calls_of c.args.run.now c.args.fuel) c.args.kind (form_of c.args.form.now) (plain_who c.args.who.now) (plain_own c.args.machine.now.own) (store_of c.args.run.now c.args.machine.now.log) ≡ input_op c.in-Standard.f c.in-Gives-left_of.value.now (plain_who c.args.who.now) (plain_own c.left_of.new.machine.own) (store_of c.args.run.now c.left_of.new.machine.log) =
+    rw (i ∙ j) (input_is (setting_of c.args.run.now) (calls_of c.args.run.now c.args.fuel) c.args.kind c.in-Standard.f (plain_who c.args.who.now) (plain_own c.args.machine.now.own) (plain_own c.left_of.new.machine.own) (store_of c.args.run.now c.args.machine.now.log) (store_of c.args.run.now c.left_of.new.machine.log) c.in-Gives-left_of.value.now (input_op c.in-Standard.f c.in-Gives-left_of.value.now (plain_who c.args.who.now) (plain_own c.left_of.new.machine.own) (store_of c.args.run.now c.left_of.new.machine.log)) e1 refl) in
+    subst (λ (x : Came Value). Comes c.args.run.now plain_value c.at_input.result c.left_of.new.machine x) (sym k) c.at_input.ensures
 
 pub start-returns-in-Assign : goal.start-returns-in-Assign
 start-returns-in-Assign t c =
@@ -121,18 +120,18 @@ start-returns-in-Forall t c =
     let i : stmt_of c.args.s.now ≡ Forall c.in-Forall.index (expr_of c.in-Forall.from) (expr_of c.in-Forall.to) (stmt_of c.in-Forall.body) = search (rules, folds.the_lemmas) in
     rw i (rw c.get-in-Forall.ensures at c.start_forall.ensures)
 
-pub start-returns-in_ok-push_sends-in-SendEach : goal.start-returns-in_ok-push_sends-in-SendEach
-start-returns-in_ok-push_sends-in-SendEach t c =
+pub start-returns-in-Ok-push_sends : goal.start-returns-in-Ok-push_sends
+start-returns-in-Ok-push_sends t c =
     let i : stmt_of c.args.s.now ≡ Sequence (bare_statements (placed.sends c.in-SendEach.number c.in-SendEach.at (placed.expression_of c.in-SendEach.channel) (map placed.expression_of c.in-SendEach.values))) = search (rules, folds.the_lemmas) in
     let j = sends_bare c.in-SendEach.number c.in-SendEach.at c.in-SendEach.channel c.in-SendEach.values in
-    let e = rw c.items-in-SendEach.ensures at c.in_ok-push_sends-in-SendEach.ensures in
+    let e = rw c.items-in-SendEach.ensures at c.in-Ok-push_sends.ensures in
     rw (i, j, e) refl
 
-pub start-returns-in_ok-push_receives-in-ReceiveEach : goal.start-returns-in_ok-push_receives-in-ReceiveEach
-start-returns-in_ok-push_receives-in-ReceiveEach t c =
+pub start-returns-in-Ok-push_receives : goal.start-returns-in-Ok-push_receives
+start-returns-in-Ok-push_receives t c =
     let i : stmt_of c.args.s.now ≡ Sequence (bare_statements (placed.receives c.in-ReceiveEach.number c.in-ReceiveEach.at (placed.expression_of c.in-ReceiveEach.channel) (map placed.variable_of c.in-ReceiveEach.variables))) = search (rules, folds.the_lemmas) in
     let j = receives_bare c.in-ReceiveEach.number c.in-ReceiveEach.at c.in-ReceiveEach.channel c.in-ReceiveEach.variables in
-    let e = rw c.items-in-ReceiveEach.ensures at c.in_ok-push_receives-in-ReceiveEach.ensures in
+    let e = rw c.items-in-ReceiveEach.ensures at c.in-Ok-push_receives.ensures in
     rw (i, j, e) refl
 
 pub start-returns-in-ReadLine : goal.start-returns-in-ReadLine
@@ -142,19 +141,19 @@ start-returns-in-ReadLine t c =
 
 pub start_forall-returns : goal.start_forall-returns
 start_forall-returns t c =
-    let f : SFits w64 c.in-Ok.value = search rules in
-    let z : to_z w64 (of_z w64 c.in-Ok.value) ≡ c.in-Ok.value = to_z-of_z w64 c.in-Ok.value f in
-    let h : SFits w64 c.in-Ok-2.value = search rules in
-    let y : to_z w64 (of_z w64 c.in-Ok-2.value) ≡ c.in-Ok-2.value = to_z-of_z w64 c.in-Ok-2.value h in
-    let e1 = rw c.in-Ok.is at c.in_ok-value.ensures in
-    let e2 = rw c.in-Ok-2.is at c.in_ok-value-2.ensures in
+    let f : SFits w64 c.in-Gives.value = search rules in
+    let z : to_z w64 (of_z w64 c.in-Gives.value) ≡ c.in-Gives.value = to_z-of_z w64 c.in-Gives.value f in
+    let h : SFits w64 c.in-Gives-ordinal_of.value = search rules in
+    let y : to_z w64 (of_z w64 c.in-Gives-ordinal_of.value) ≡ c.in-Gives-ordinal_of.value = to_z-of_z w64 c.in-Gives-ordinal_of.value h in
+    let e1 = c.in-Gives.ensures in
+    let e2 = c.in-Gives-ordinal_of.ensures in
     rw (e1, e2) (rw (z, y) at c.forall.ensures)
 
 pub start_write-returns : goal.start_write-returns
 start_write-returns t c =
     let i : expr_of c.args.e.now ≡ Typed (out-Expr c.args.e.now).kind (form_of (out-Expr c.args.e.now).form) = search (rules, ast_e.the_lemmas) in
-    let f : SFits w64 c.in-Ok.value = search rules in
-    let z : to_z w64 (of_z w64 c.in-Ok.value) ≡ c.in-Ok.value = to_z-of_z w64 c.in-Ok.value f in
-    let e1 = rw (c.in-Ok.is, i) at c.in_ok-value.ensures in
-    let e2 = rw c.in-Ok-2.is at c.in_ok-value-2.ensures in
+    let f : SFits w64 c.in-Gives.value = search rules in
+    let z : to_z w64 (of_z w64 c.in-Gives.value) ≡ c.in-Gives.value = to_z-of_z w64 c.in-Gives.value f in
+    let e1 = rw i at c.in-Gives.ensures in
+    let e2 = c.in-Gives-width.ensures in
     rw (i, e1, e2) (rw z at c.write_shown.ensures)

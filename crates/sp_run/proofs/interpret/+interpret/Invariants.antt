@@ -1,4 +1,4 @@
-use Rattle.std.proofs.Common.{◌≡◌}
+use Rattle.std.proofs.Common.{◌≡◌, ◌+◌, ◌*◌}
 use Rattle.sp_run.specs.Items.{items_of}
 use Rattle.sp_run.specs.Machines.{setting_of, plain_who, plain_own, store_of}
 use Rattle.sp_run.specs.DirectDeeds.{all}
@@ -13,85 +13,85 @@ abbrev pub decreases-all-loop-left : goal.decreases-all-loop-left
 decreases-all-loop-left l = l.left
 
 abbrev pub decreases-value : goal.decreases-value
-decreases-value l = l.levels
+decreases-value l = 16 * l.levels
 
 abbrev pub decreases-form_value : goal.decreases-form_value
-decreases-form_value l = l.levels
+decreases-form_value l = 16 * l.levels + 7
 
 abbrev pub decreases-place : goal.decreases-place
-decreases-place l = l.levels
+decreases-place l = 16 * l.levels + 3
 
 abbrev pub decreases-selected : goal.decreases-selected
-decreases-selected l = l.levels
+decreases-selected l = 16 * l.levels + 2
 
 abbrev pub decreases-actuals : goal.decreases-actuals
-decreases-actuals l = l.levels
+decreases-actuals l = 16 * l.levels + 5
 
 abbrev pub decreases-call : goal.decreases-call
-decreases-call l = l.levels
+decreases-call l = 16 * l.levels + 6
 
 abbrev pub decreases-all : goal.decreases-all
-decreases-all l = l.levels
+decreases-all l = 16 * l.levels + 12
 
 abbrev pub decreases-one : goal.decreases-one
-decreases-one l = l.levels
+decreases-one l = 16 * l.levels + 11
 
 abbrev pub decreases-ordinal_of : goal.decreases-ordinal_of
-decreases-ordinal_of l = l.levels
+decreases-ordinal_of l = 16 * l.levels + 1
 
 abbrev pub decreases-address : goal.decreases-address
-decreases-address l = l.levels
+decreases-address l = 16 * l.levels + 4
 
 abbrev pub decreases-width : goal.decreases-width
-decreases-width l = l.levels
+decreases-width l = 16 * l.levels + 2
 
 abbrev pub decreases-act : goal.decreases-act
-decreases-act l = l.levels
+decreases-act l = 16 * l.levels + 10
 
 abbrev pub decreases-start_assign : goal.decreases-start_assign
-decreases-start_assign l = l.levels
+decreases-start_assign l = 16 * l.levels + 8
 
 abbrev pub decreases-start_call : goal.decreases-start_call
-decreases-start_call l = l.levels
+decreases-start_call l = 16 * l.levels + 8
 
 abbrev pub decreases-start_if : goal.decreases-start_if
-decreases-start_if l = l.levels
+decreases-start_if l = 16 * l.levels + 8
 
 abbrev pub decreases-start_either : goal.decreases-start_either
-decreases-start_either l = l.levels
+decreases-start_either l = 16 * l.levels + 8
 
 abbrev pub decreases-start_while : goal.decreases-start_while
-decreases-start_while l = l.levels
+decreases-start_while l = 16 * l.levels + 8
 
 abbrev pub decreases-start_for : goal.decreases-start_for
-decreases-start_for l = l.levels
+decreases-start_for l = 16 * l.levels + 8
 
 abbrev pub decreases-start_case : goal.decreases-start_case
-decreases-start_case l = l.levels
+decreases-start_case l = 16 * l.levels + 8
 
 abbrev pub decreases-start_forall : goal.decreases-start_forall
-decreases-start_forall l = l.levels
+decreases-start_forall l = 16 * l.levels + 8
 
 abbrev pub decreases-start_assume : goal.decreases-start_assume
-decreases-start_assume l = l.levels
+decreases-start_assume l = 16 * l.levels + 8
 
 abbrev pub decreases-start_read : goal.decreases-start_read
-decreases-start_read l = l.levels
+decreases-start_read l = 16 * l.levels + 8
 
 abbrev pub decreases-start_write : goal.decreases-start_write
-decreases-start_write l = l.levels
+decreases-start_write l = 16 * l.levels + 8
 
 abbrev pub decreases-start_text : goal.decreases-start_text
-decreases-start_text l = l.levels
+decreases-start_text l = 16 * l.levels + 8
 
 abbrev pub decreases-start_open : goal.decreases-start_open
-decreases-start_open l = l.levels
+decreases-start_open l = 16 * l.levels + 8
 
 abbrev pub decreases-start_send : goal.decreases-start_send
-decreases-start_send l = l.levels
+decreases-start_send l = 16 * l.levels + 8
 
 abbrev pub decreases-start_receive : goal.decreases-start_receive
-decreases-start_receive l = l.levels
+decreases-start_receive l = 16 * l.levels + 8
 
 abbrev pub decreases-start : goal.decreases-start
-decreases-start l = l.levels
+decreases-start l = 16 * l.levels + 9
