@@ -1,6 +1,8 @@
 pub mod Steps
+pub mod Behind
 pub mod Spelling
 pub mod SoFar
+pub mod Rounds
 pub mod ReadNames
 pub mod Rows
 pub mod Declares

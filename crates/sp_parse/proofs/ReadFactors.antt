@@ -30,6 +30,7 @@ use Rattle.sp_parse.specs.Reads.{Within, Ready, breaks, HasRead, Halts, Reads, B
 use Rattle.sp_parse.specs.Trees.{lay, selectors_of, and_selectors, and_arguments, width_of}
 use Rattle.sp_parse.proofs.Steps.{has_read, one, take, expected, step_ends, below}
 use Rattle.sp_parse.proofs.SoFar.{skipped, ends, halts_on, halts_chain, halts_close, goes_on, starts, chain, nothing_yet}
+use Rattle.sp_parse.proofs.Rounds.{Pending, none_read, item_read, round_on}
 use Rattle.sp_parse.proofs.Rows.{look_map, bare_leads, bare_derives, loose_leads, loose_derives, halts_same, row_reads, row_halts, row_result, row_derives, neither, none_at}
 
 -- lists of the plain tree
@@ -176,14 +177,17 @@ module _ (source : Source) where
   abbrev pub MoreIndicesSoFar : ℕ → List SynSelector → List SynSelector → List Token → List Token → Type 0
   MoreIndicesSoFar d before all ts rest = SoFar source (sym.AnExpression d ∷ sym.MoreIndices d ∷ []) (λ vs. and_selectors before (tree.Select (tree.Index vs.0) vs.1.0)) (sym.MoreIndices d) (and_selectors all) ts rest
 
-  pub index_start : (d : ℕ) {ts rest : List Token} (e : SynExpr) (s : SynSelector) (before all : List SynSelector) → IsExpression d ts rest e → selector_of s ≡ tree.Index (expression_of e) → all ≡ before ++ s ∷ [] → MoreIndicesSoFar d before all ts rest
-  index_start d e s before all h p q = starts h (λ v. ap (λ l. and_selectors l v) q ∙ lay_push tree.Select selector_of before s v ∙ ap (λ x. and_selectors before (tree.Select x v)) (p ∙ ap tree.Index h.same))
+  abbrev pub IndicesPending : ℕ → List SynSelector → List SynSelector → List Token → List Token → Type 0
+  IndicesPending d before all ts rest = Pending source (sym.AnExpression d ∷ sym.MoreIndices d ∷ []) (λ vs. and_selectors before (tree.Select (tree.Index vs.0) vs.1.0)) (sym.AnExpression d ∷ sym.MoreIndices d ∷ []) (λ vs. and_selectors all (tree.Select (tree.Index vs.0) vs.1.0)) ts rest
 
-  pub index_halts : (d : ℕ) {ts rest behind : List Token} (before all : List SynSelector) → MoreIndicesSoFar d before all ts rest → BeginsWith source rest w.Comma behind → (e : Halt) → Halts source (sym.AnExpression d ∷ []) behind e → Halts source (sym.AnExpression d ∷ sym.MoreIndices d ∷ []) ts e
-  index_halts d before all so b e h = halts_on (sym.AnExpression d ∷ []) row.next_index refl refl so b e h
+  pub indices_none : (d : ℕ) {ts : List Token} (before : List SynSelector) → Ready source ts → IndicesPending d before before ts ts
+  indices_none d before a = none_read (λ vs. refl) a
 
-  pub index_more : (d : ℕ) {ts rest behind left : List Token} (e : SynExpr) (s : SynSelector) (before all new : List SynSelector) → MoreIndicesSoFar d before all ts rest → BeginsWith source rest w.Comma behind → IsExpression d behind left e → selector_of s ≡ tree.Index (expression_of e) → new ≡ all ++ s ∷ [] → MoreIndicesSoFar d before new ts left
-  index_more d e s before all new so b h p q = goes_on row.next_index refl refl so b h (λ v. ap (λ l. and_selectors l v) q ∙ lay_push tree.Select selector_of all s v ∙ ap (λ x. and_selectors all (tree.Select x v)) (p ∙ ap tree.Index h.same))
+  pub indices_read : (d : ℕ) {ts rest left : List Token} (e : SynExpr) (s : SynSelector) (before all new : List SynSelector) → IndicesPending d before all ts rest → IsExpression d rest left e → selector_of s ≡ tree.Index (expression_of e) → new ≡ all ++ s ∷ [] → MoreIndicesSoFar d before new ts left
+  indices_read d e s before all new y h p q = item_read y h (λ v. ap (λ l. and_selectors l v) q ∙ lay_push tree.Select selector_of all s v ∙ ap (λ x. and_selectors all (tree.Select x v)) (p ∙ ap tree.Index h.same))
+
+  pub indices_on : (d : ℕ) {ts rest behind : List Token} (before all : List SynSelector) → MoreIndicesSoFar d before all ts rest → BeginsWith source rest w.Comma behind → IndicesPending d before all ts behind
+  indices_on d before all so b = round_on row.next_index refl refl so b (λ vs. refl)
 
   pub indices_close_halts : (d : ℕ) {ts rest : List Token} (before all : List SynSelector) → MoreIndicesSoFar d before all ts rest → BeginsOther rest w.Comma → (e : Halt) → Halts source (sym.AToken w.CloseIndex ∷ []) rest e → Halts source (sym.AnExpression d ∷ sym.MoreIndices d ∷ []) ts e
   indices_close_halts d before all so b e h = halts_close row.indices_end b (ap (λ x. cond (kind_is w.CloseIndex b.token.kind) (Some (entry _ _ row.indices_end)) (cond x (Some (entry _ _ row.next_index)) None)) b.other) refl refl so e h
@@ -213,14 +217,17 @@ module _ (source : Source) where
   abbrev pub ArgumentsSoFar : ℕ → List SynArg → List Token → List Token → Type 0
   ArgumentsSoFar d all ts rest = SoFar source (sym.AnExpression d ∷ sym.AWidth d ∷ sym.MoreArguments d ∷ []) (λ vs. tree.AndArgument (tree.Pass vs.0 vs.1.0) vs.1.1.0) (sym.MoreArguments d) (and_arguments all) ts rest
 
-  pub arguments_start : (d : ℕ) {ts rest : List Token} (a : SynArg) (all : List SynArg) → IsArgument d ts rest a → all ≡ [] ++ a ∷ [] → ArgumentsSoFar d all ts rest
-  arguments_start d a all h e = starts h (λ v. ap (λ l. and_arguments l v) e ∙ ap (λ x. tree.AndArgument x v) h.same)
+  abbrev pub ArgumentsPending : ℕ → List SynArg → List Token → List Token → Type 0
+  ArgumentsPending d all ts rest = Pending source (sym.AnExpression d ∷ sym.AWidth d ∷ sym.MoreArguments d ∷ []) (λ vs. tree.AndArgument (tree.Pass vs.0 vs.1.0) vs.1.1.0) (sym.AnExpression d ∷ sym.AWidth d ∷ sym.MoreArguments d ∷ []) (λ vs. and_arguments all (tree.AndArgument (tree.Pass vs.0 vs.1.0) vs.1.1.0)) ts rest
 
-  pub arguments_halts : (d : ℕ) {ts rest behind : List Token} (all : List SynArg) → ArgumentsSoFar d all ts rest → BeginsWith source rest w.Comma behind → (e : Halt) → Halts source (sym.AnExpression d ∷ sym.AWidth d ∷ []) behind e → Halts source (sym.AnExpression d ∷ sym.AWidth d ∷ sym.MoreArguments d ∷ []) ts e
-  arguments_halts d all so b e h = halts_on (sym.AnExpression d ∷ sym.AWidth d ∷ []) row.next_argument refl refl so b e h
+  pub arguments_none : (d : ℕ) {ts : List Token} (all : List SynArg) → all ≡ [] → Ready source ts → ArgumentsPending d all ts ts
+  arguments_none d all e a = none_read (λ vs. ap (λ l. and_arguments l (tree.AndArgument (tree.Pass vs.0 vs.1.0) vs.1.1.0)) e) a
 
-  pub arguments_more : (d : ℕ) {ts rest behind left : List Token} (a : SynArg) (all new : List SynArg) → ArgumentsSoFar d all ts rest → BeginsWith source rest w.Comma behind → IsArgument d behind left a → new ≡ all ++ a ∷ [] → ArgumentsSoFar d new ts left
-  arguments_more d a all new so b h e = goes_on row.next_argument refl refl so b h (λ v. ap (λ l. and_arguments l v) e ∙ lay_push tree.AndArgument argument_of all a v ∙ ap (λ x. and_arguments all (tree.AndArgument x v)) h.same)
+  pub arguments_read : (d : ℕ) {ts rest left : List Token} (a : SynArg) (all new : List SynArg) → ArgumentsPending d all ts rest → IsArgument d rest left a → new ≡ all ++ a ∷ [] → ArgumentsSoFar d new ts left
+  arguments_read d a all new p h e = item_read p h (λ v. ap (λ l. and_arguments l v) e ∙ lay_push tree.AndArgument argument_of all a v ∙ ap (λ x. and_arguments all (tree.AndArgument x v)) h.same)
+
+  pub arguments_on : (d : ℕ) {ts rest behind : List Token} (all : List SynArg) → ArgumentsSoFar d all ts rest → BeginsWith source rest w.Comma behind → ArgumentsPending d all ts behind
+  arguments_on d all so b = round_on row.next_argument refl refl so b (λ vs. refl)
 
   pub arguments_close_halts : (d : ℕ) {ts rest : List Token} (all : List SynArg) → ArgumentsSoFar d all ts rest → BeginsOther rest w.Comma → (e : Halt) → Halts source (sym.AToken w.Close ∷ []) rest e → Halts source (sym.AnExpression d ∷ sym.AWidth d ∷ sym.MoreArguments d ∷ []) ts e
   arguments_close_halts d all so b e h = halts_close row.arguments_end b (ap (λ x. cond (kind_is w.Close b.token.kind) (Some (entry _ _ row.arguments_end)) (cond x (Some (entry _ _ row.next_argument)) None)) b.other) refl refl so e h

@@ -12,7 +12,8 @@ use Rattle.sp_grammar.specs.Table.{entry, rows, look, kind_is}
 use Rattle.sp_parse.specs.declared.source.Source.{Source}
 use Rattle.sp_parse.specs.Reads.{Ready, HasRead, Halts, BeginsOther, BeginsWith, SoFar}
 use Rattle.sp_parse.proofs.Rows.{row_reads}
-use Rattle.sp_parse.proofs.SoFar.{starts, goes_on, halts_close}
+use Rattle.sp_parse.proofs.SoFar.{halts_close}
+use Rattle.sp_parse.proofs.Rounds.{Pending, none_read, item_read, round_on}
 use Rattle.sp_parse.proofs.Declares.{closes, none_if, name_first, named_halts}
 use Rattle.sp_parse.proofs.ReadTypes.{GroupSymbols, GroupRead}
 
@@ -37,11 +38,17 @@ no_formal source b e h = named_halts source row.by_value refl refl b.token b.res
 abbrev pub FormalsSoFar : Source → List SynFormal → List Token → List Token → Type 0
 FormalsSoFar source all ts rest = SoFar source (AFormal ∷ MoreFormals ∷ []) (λ vs. vs.0 ∷ vs.1.0) MoreFormals (λ fs. all ++ fs) ts rest
 
-pub formals_start : {source : Source} {ts r : List Token} {f : SynFormal} {all : List SynFormal} → FormalRead source ts r f → all ≡ [] ++ f ∷ [] → FormalsSoFar source all ts r
-formals_start h e = starts h (λ fs. ap (λ l. l ++ fs) e ∙ ap (λ f. f ∷ fs) h.same)
+abbrev pub FormalsPending : Source → List SynFormal → List Token → List Token → Type 0
+FormalsPending source all ts rest = Pending source (AFormal ∷ MoreFormals ∷ []) (λ vs. vs.0 ∷ vs.1.0) (AFormal ∷ MoreFormals ∷ []) (λ vs. all ++ vs.0 ∷ vs.1.0) ts rest
 
-pub formals_more : {source : Source} {ts rest behind left : List Token} {f : SynFormal} (all : List SynFormal) {new : List SynFormal} → FormalsSoFar source all ts rest → BeginsWith source rest w.Semicolon behind → FormalRead source behind left f → new ≡ all ++ f ∷ [] → FormalsSoFar source new ts left
-formals_more all so b h e = goes_on row.next_formal refl refl so b h (λ fs. ap (λ l. l ++ fs) e ∙ append_assoc all _ fs ∙ ap (λ f. all ++ f ∷ fs) h.same)
+pub formals_none : {source : Source} {ts : List Token} (all : List SynFormal) → all ≡ [] → Ready source ts → FormalsPending source all ts ts
+formals_none all e a = none_read (λ vs. ap (λ l. l ++ vs.0 ∷ vs.1.0) e) a
+
+pub formals_read : {source : Source} {ts rest left : List Token} {f : SynFormal} (all new : List SynFormal) → FormalsPending source all ts rest → FormalRead source rest left f → new ≡ all ++ f ∷ [] → FormalsSoFar source new ts left
+formals_read all new p h e = item_read p h (λ fs. ap (λ l. l ++ fs) e ∙ append_assoc all _ fs ∙ ap (λ f. all ++ f ∷ fs) h.same)
+
+pub formals_on : {source : Source} {ts rest behind : List Token} (all : List SynFormal) → FormalsSoFar source all ts rest → BeginsWith source rest w.Semicolon behind → FormalsPending source all ts behind
+formals_on all so b = round_on row.next_formal refl refl so b (λ vs. refl)
 
 pub formals_close : {source : Source} {ts rest r : List Token} (all : List SynFormal) → FormalsSoFar source all ts rest → BeginsWith source rest w.Close r → HasRead source (AFormal ∷ MoreFormals ∷ []) (λ vs. vs.0 ∷ vs.1.0) (λ (fs : List SynFormal). fs) ts r all
 formals_close all so b = closes row.formals_end refl refl so b (back_of (append-nil all))

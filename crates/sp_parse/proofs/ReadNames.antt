@@ -12,9 +12,10 @@ use Rattle.sp_grammar.specs.Table as row
 use Rattle.sp_grammar.specs.Table.{entry, rows, look}
 use Rattle.sp_grammar.specs.Derives.{DerivesAll, none, and}
 use Rattle.sp_parse.specs.declared.source.Source.{Source}
-use Rattle.sp_parse.specs.Reads.{Within, HasRead, Begins, BeginsOther, BeginsWith, SoFar}
+use Rattle.sp_parse.specs.Reads.{Within, Ready, HasRead, Begins, BeginsOther, BeginsWith, SoFar}
 use Rattle.sp_parse.proofs.Steps.{has_read, take}
-use Rattle.sp_parse.proofs.SoFar.{starts, goes_on, ends, skipped}
+use Rattle.sp_parse.proofs.SoFar.{ends, skipped}
+use Rattle.sp_parse.proofs.Rounds.{Pending, none_read, item_read, round_on}
 
 pub not_name : (k : Kind) → (k ≡ kind.Name → ⊥) → look (rows AName) k ≡ None
 not_name kind.Name h = absurd (h refl)
@@ -26,11 +27,17 @@ name_is {source} {ts} {r} {t} {n} b p e = has_read b.ready (subst (λ l. Derives
 abbrev pub NamesSoFar : Source → List Name → List Token → List Token → Type 0
 NamesSoFar source all ts rest = SoFar source (AName ∷ MoreNames ∷ []) (λ vs. vs.0 ∷ vs.1.0) MoreNames (λ ns. all ++ ns) ts rest
 
-pub names_start : {source : Source} {ts r : List Token} {n : Name} {all : List Name} → HasRead source (AName ∷ []) (λ vs. vs.0) (λ (n : Name). n) ts r n → all ≡ [] ++ n ∷ [] → NamesSoFar source all ts r
-names_start h e = starts h (λ ns. ap (λ l. l ++ ns) e ∙ ap (λ n. n ∷ ns) h.same)
+abbrev pub NamesPending : Source → List Name → List Token → List Token → Type 0
+NamesPending source all ts rest = Pending source (AName ∷ MoreNames ∷ []) (λ vs. vs.0 ∷ vs.1.0) (AName ∷ MoreNames ∷ []) (λ vs. all ++ vs.0 ∷ vs.1.0) ts rest
 
-pub names_more : {source : Source} {ts rest behind left : List Token} {n : Name} (all : List Name) {new : List Name} → NamesSoFar source all ts rest → BeginsWith source rest w.Comma behind → HasRead source (AName ∷ []) (λ vs. vs.0) (λ (n : Name). n) behind left n → new ≡ all ++ n ∷ [] → NamesSoFar source new ts left
-names_more all so b h e = goes_on row.next_name refl refl so b h (λ ns. ap (λ l. l ++ ns) e ∙ append_assoc all _ ns ∙ ap (λ n. all ++ n ∷ ns) h.same)
+pub names_none : {source : Source} {ts : List Token} (all : List Name) → all ≡ [] → Ready source ts → NamesPending source all ts ts
+names_none all e a = none_read (λ vs. ap (λ l. l ++ vs.0 ∷ vs.1.0) e) a
+
+pub names_read : {source : Source} {ts rest left : List Token} {n : Name} (all new : List Name) → NamesPending source all ts rest → HasRead source (AName ∷ []) (λ vs. vs.0) (λ (n : Name). n) rest left n → new ≡ all ++ n ∷ [] → NamesSoFar source new ts left
+names_read all new p h e = item_read p h (λ ns. ap (λ l. l ++ ns) e ∙ append_assoc all _ ns ∙ ap (λ n. all ++ n ∷ ns) h.same)
+
+pub names_on : {source : Source} {ts rest behind : List Token} (all : List Name) → NamesSoFar source all ts rest → BeginsWith source rest w.Comma behind → NamesPending source all ts behind
+names_on all so b = round_on row.next_name refl refl so b (λ vs. refl)
 
 pub names_end : {source : Source} {ts rest : List Token} (all : List Name) → NamesSoFar source all ts rest → BeginsOther rest w.Comma → HasRead source (AName ∷ MoreNames ∷ []) (λ vs. vs.0 ∷ vs.1.0) (λ (ns : List Name). ns) ts rest all
 names_end all so b = ends so (skipped MoreNames b.token b.rest b.all (ap (λ x. cond x (Some (entry _ _ row.next_name)) None) b.other) refl) so.ready (back_of (append-nil all))

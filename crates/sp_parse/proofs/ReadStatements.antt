@@ -31,7 +31,8 @@ use Rattle.sp_parse.specs.Reads.{Within, Ready, breaks, HasRead, Halts, Reads, B
 use Rattle.sp_parse.specs.Operators.{is_some, BeginsForm}
 use Rattle.sp_parse.specs.Trees.{lay, other_of, arms_of, branches_of, and_statements, and_arms, and_branches}
 use Rattle.sp_parse.proofs.Steps.{has_read, one, take, expected, below}
-use Rattle.sp_parse.proofs.SoFar.{skipped, ends, halts_on, halts_chain, halts_close, goes_on, starts, chain}
+use Rattle.sp_parse.proofs.SoFar.{skipped, ends, halts_chain, halts_close, starts, chain}
+use Rattle.sp_parse.proofs.Rounds.{Pending, none_read, item_read, round_on}
 use Rattle.sp_parse.proofs.Rows.{look_map, after_two, lifted, split_join, copy_leads, copy_derives, copied_leads, copied_derives, halts_same, row_reads, row_halts, row_result, some_of, none_of, some_lifted}
 use Rattle.sp_parse.proofs.ReadFactors.{lay_push, IsExpression, IsArguments}
 
@@ -145,14 +146,18 @@ module _ (source : Source) where
   abbrev pub AreStatements : ℕ → List Token → List Token → List SynStmt → Type 0
   AreStatements d ts r ss = HasRead source (sym.AStatement d ∷ sym.MoreStatements d ∷ []) (λ vs. tree.AndThen vs.0 vs.1.0) statements_of ts r ss
 
-  pub statements_start : (d : ℕ) {ts rest : List Token} (s : SynStmt) (all : List SynStmt) → IsStatement d ts rest s → all ≡ [] ++ s ∷ [] → StatementsSoFar d all ts rest
-  statements_start d s all h e = starts h (λ v. ap (λ l. and_statements l v) e ∙ ap (λ x. tree.AndThen x v) h.same)
+  -- statements are read so far, and another one is pending
+  abbrev pub StatementsPending : ℕ → List SynStmt → List Token → List Token → Type 0
+  StatementsPending d all ts rest = Pending source (sym.AStatement d ∷ sym.MoreStatements d ∷ []) (λ vs. tree.AndThen vs.0 vs.1.0) (sym.AStatement d ∷ sym.MoreStatements d ∷ []) (λ vs. and_statements all (tree.AndThen vs.0 vs.1.0)) ts rest
 
-  pub statements_halt : (d : ℕ) {ts rest behind : List Token} (all : List SynStmt) → StatementsSoFar d all ts rest → BeginsWith source rest w.Semicolon behind → (e : Halt) → Halts source (sym.AStatement d ∷ []) behind e → Halts source (sym.AStatement d ∷ sym.MoreStatements d ∷ []) ts e
-  statements_halt d all so b e h = halts_on (sym.AStatement d ∷ []) row.next_statement refl refl so b e h
+  pub statements_none : (d : ℕ) {ts : List Token} (all : List SynStmt) → all ≡ [] → Ready source ts → StatementsPending d all ts ts
+  statements_none d all e a = none_read (λ vs. ap (λ l. and_statements l (tree.AndThen vs.0 vs.1.0)) e) a
 
-  pub statements_more : (d : ℕ) {ts rest behind left : List Token} (s : SynStmt) (all new : List SynStmt) → StatementsSoFar d all ts rest → BeginsWith source rest w.Semicolon behind → IsStatement d behind left s → new ≡ all ++ s ∷ [] → StatementsSoFar d new ts left
-  statements_more d s all new so b h e = goes_on row.next_statement refl refl so b h (λ v. ap (λ l. and_statements l v) e ∙ lay_push tree.AndThen statement_of all s v ∙ ap (λ x. and_statements all (tree.AndThen x v)) h.same)
+  pub statements_read : (d : ℕ) {ts rest left : List Token} (s : SynStmt) (all new : List SynStmt) → StatementsPending d all ts rest → IsStatement d rest left s → new ≡ all ++ s ∷ [] → StatementsSoFar d new ts left
+  statements_read d s all new p h e = item_read p h (λ v. ap (λ l. and_statements l v) e ∙ lay_push tree.AndThen statement_of all s v ∙ ap (λ x. and_statements all (tree.AndThen x v)) h.same)
+
+  pub statements_on : (d : ℕ) {ts rest behind : List Token} (all : List SynStmt) → StatementsSoFar d all ts rest → BeginsWith source rest w.Semicolon behind → StatementsPending d all ts behind
+  statements_on d all so b = round_on row.next_statement refl refl so b (λ vs. refl)
 
   pub statements_done : (d : ℕ) {ts rest : List Token} (all : List SynStmt) → StatementsSoFar d all ts rest → BeginsOther rest w.Semicolon → AreStatements d ts rest all
   statements_done d all so b = ends so (skipped (sym.MoreStatements d) b.token b.rest b.all (ap (λ x. cond x (Some (entry _ _ row.next_statement)) None) b.other) refl) so.ready (back_of (lay_statements (map statement_of all)))
@@ -190,14 +195,17 @@ module _ (source : Source) where
   abbrev pub LabelsSoFar : List SynConst → List Token → List Token → Type 0
   LabelsSoFar all ts rest = SoFar source (sym.AConstant ∷ sym.MoreLabels ∷ []) (λ vs. vs.0 ∷ vs.1.0) sym.MoreLabels (λ cs. all ++ cs) ts rest
 
-  pub labels_start : {ts rest : List Token} (c : SynConst) (all : List SynConst) → IsConstant ts rest c → all ≡ [] ++ c ∷ [] → LabelsSoFar all ts rest
-  labels_start c all h e = starts h (λ v. ap (λ l. l ++ v) e ∙ ap (λ c. c ∷ v) h.same)
+  abbrev pub LabelsPending : List SynConst → List Token → List Token → Type 0
+  LabelsPending all ts rest = Pending source (sym.AConstant ∷ sym.MoreLabels ∷ []) (λ vs. vs.0 ∷ vs.1.0) (sym.AConstant ∷ sym.MoreLabels ∷ []) (λ vs. all ++ vs.0 ∷ vs.1.0) ts rest
 
-  pub labels_halt : {ts rest behind : List Token} (all : List SynConst) → LabelsSoFar all ts rest → BeginsWith source rest w.Comma behind → (e : Halt) → Halts source (sym.AConstant ∷ []) behind e → Halts source (sym.AConstant ∷ sym.MoreLabels ∷ []) ts e
-  labels_halt all so b e h = halts_on (sym.AConstant ∷ []) row.next_label refl refl so b e h
+  pub labels_none : {ts : List Token} (all : List SynConst) → all ≡ [] → Ready source ts → LabelsPending all ts ts
+  labels_none all e a = none_read (λ vs. ap (λ l. l ++ vs.0 ∷ vs.1.0) e) a
 
-  pub labels_more : {ts rest behind left : List Token} (c : SynConst) (all new : List SynConst) → LabelsSoFar all ts rest → BeginsWith source rest w.Comma behind → IsConstant behind left c → new ≡ all ++ c ∷ [] → LabelsSoFar new ts left
-  labels_more c all new so b h e = goes_on row.next_label refl refl so b h (λ v. ap (λ l. l ++ v) e ∙ append_assoc all _ v ∙ ap (λ c. all ++ c ∷ v) h.same)
+  pub labels_read : {ts rest left : List Token} (c : SynConst) (all new : List SynConst) → LabelsPending all ts rest → IsConstant rest left c → new ≡ all ++ c ∷ [] → LabelsSoFar new ts left
+  labels_read c all new p h e = item_read p h (λ v. ap (λ l. l ++ v) e ∙ append_assoc all _ v ∙ ap (λ c. all ++ c ∷ v) h.same)
+
+  pub labels_on : {ts rest behind : List Token} (all : List SynConst) → LabelsSoFar all ts rest → BeginsWith source rest w.Comma behind → LabelsPending all ts behind
+  labels_on all so b = round_on row.next_label refl refl so b (λ vs. refl)
 
   pub labels_close_halt : {ts rest : List Token} (all : List SynConst) → LabelsSoFar all ts rest → BeginsOther rest w.Comma → (e : Halt) → Halts source (sym.AToken w.Colon ∷ []) rest e → Halts source (sym.AConstant ∷ sym.MoreLabels ∷ []) ts e
   labels_close_halt all so b e h = halts_close row.labels_end b (ap (λ x. cond (kind_is w.Colon b.token.kind) (Some (entry _ _ row.labels_end)) (cond x (Some (entry _ _ row.next_label)) None)) b.other) refl refl so e h
@@ -290,12 +298,6 @@ module _ (source : Source) where
   pub arms_done : (d : ℕ) {ts rest r : List Token} (all : List SynArm) → ArmsSoFar d all ts rest → Expected source w.End rest r → AreArms d ts r all
   arms_done d {r = r} all so h = ends so (subst (λ l. Derives text Within (sym.MoreArms d) l r tree.NoArm) (back_of h.first.all) (take (entry _ _ row.arms_end) refl h.first.token h.first.is tt none)) h.first.ready (no_more_arms all)
 
-  case_all : (d : ℕ) {ts rest behind r : List Token} (at : Place) (x : SynExpr) (all : List SynArm) (s : SynStmt) {vs : Values (sym.AConstant ∷ sym.MoreLabels ∷ sym.AStatement d ∷ sym.MoreArms d ∷ [])} → Ready source r → IsExpression source d ts rest x → Expected source w.Of rest behind → DerivesAll text Within (sym.AConstant ∷ sym.MoreLabels ∷ sym.AStatement d ∷ sym.MoreArms d ∷ []) behind r vs → arms_of all ≡ tree.Or (tree.On (vs.0 ∷ vs.1.0) vs.1.1.0) vs.1.1.1.0 → statement_of s ≡ tree.Does at (tree.Case (expression_of x) (arms_of all)) → HasRead source (sym.AnExpression d ∷ sym.AToken w.Of ∷ sym.AConstant ∷ sym.MoreLabels ∷ sym.AStatement d ∷ sym.MoreArms d ∷ []) (λ vs. tree.Does at (tree.Case vs.0 (tree.Or (tree.On (vs.1.1.0 ∷ vs.1.1.1.0) vs.1.1.1.1.0) vs.1.1.1.1.1.0))) statement_of ts r s
-  case_all d at x all s a h o k p e = has_read a (and (one h) (and (expected o) k)) (e ∙ (λ i. tree.Does at (tree.Case (h.same i) (p i))))
-
-  pub case_is : (d : ℕ) {ts rest behind r : List Token} (at : Place) (x : SynExpr) (all : List SynArm) (s : SynStmt) → IsExpression source d ts rest x → Expected source w.Of rest behind → AreArms d behind r all → statement_of s ≡ tree.Does at (tree.Case (expression_of x) (arms_of all)) → HasRead source (sym.AnExpression d ∷ sym.AToken w.Of ∷ sym.AConstant ∷ sym.MoreLabels ∷ sym.AStatement d ∷ sym.MoreArms d ∷ []) (λ vs. tree.Does at (tree.Case vs.0 (tree.Or (tree.On (vs.1.1.0 ∷ vs.1.1.1.0) vs.1.1.1.1.0) vs.1.1.1.1.1.0))) statement_of ts r s
-  case_is d at x all s h o k e = case_all d at x all s k.ready h o k.derives k.same e
-
   -- processes
   abbrev pub BranchesSoFar : ℕ → List SynBranch → List Token → List Token → Type 0
   BranchesSoFar d all ts rest = SoFar source (sym.AStatement d ∷ sym.MoreStatements d ∷ sym.MoreBranches d ∷ []) (λ vs. tree.Beside (tree.AndThen vs.0 vs.1.0) vs.1.1.0) (sym.MoreBranches d) (and_branches all) ts rest
@@ -303,14 +305,17 @@ module _ (source : Source) where
   abbrev pub AreBranches : ℕ → List Token → List Token → List SynBranch → Type 0
   AreBranches d ts r all = HasRead source (sym.AStatement d ∷ sym.MoreStatements d ∷ sym.MoreBranches d ∷ []) (λ vs. tree.Beside (tree.AndThen vs.0 vs.1.0) vs.1.1.0) branches_of ts r all
 
-  pub branches_start : (d : ℕ) {ts rest : List Token} (ss : List SynStmt) (b : SynBranch) (all : List SynBranch) → AreStatements d ts rest ss → branch_of b ≡ statements_of ss → all ≡ [] ++ b ∷ [] → BranchesSoFar d all ts rest
-  branches_start d ss b all h p e = starts h (λ v. ap (λ l. and_branches l v) e ∙ ap (λ x. tree.Beside x v) (p ∙ h.same))
+  abbrev pub BranchesPending : ℕ → List SynBranch → List Token → List Token → Type 0
+  BranchesPending d all ts rest = Pending source (sym.AStatement d ∷ sym.MoreStatements d ∷ sym.MoreBranches d ∷ []) (λ vs. tree.Beside (tree.AndThen vs.0 vs.1.0) vs.1.1.0) (sym.AStatement d ∷ sym.MoreStatements d ∷ sym.MoreBranches d ∷ []) (λ vs. and_branches all (tree.Beside (tree.AndThen vs.0 vs.1.0) vs.1.1.0)) ts rest
 
-  pub branches_halt : (d : ℕ) {ts rest behind : List Token} (all : List SynBranch) → BranchesSoFar d all ts rest → BeginsWith source rest w.Bar behind → (e : Halt) → Halts source (sym.AStatement d ∷ sym.MoreStatements d ∷ []) behind e → Halts source (sym.AStatement d ∷ sym.MoreStatements d ∷ sym.MoreBranches d ∷ []) ts e
-  branches_halt d all so b e h = halts_on (sym.AStatement d ∷ sym.MoreStatements d ∷ []) row.next_branch refl refl so b e h
+  pub branches_none : (d : ℕ) {ts : List Token} (all : List SynBranch) → all ≡ [] → Ready source ts → BranchesPending d all ts ts
+  branches_none d all e a = none_read (λ vs. ap (λ l. and_branches l (tree.Beside (tree.AndThen vs.0 vs.1.0) vs.1.1.0)) e) a
 
-  pub branches_more : (d : ℕ) {ts rest behind left : List Token} (ss : List SynStmt) (x : SynBranch) (all new : List SynBranch) → BranchesSoFar d all ts rest → BeginsWith source rest w.Bar behind → AreStatements d behind left ss → branch_of x ≡ statements_of ss → new ≡ all ++ x ∷ [] → BranchesSoFar d new ts left
-  branches_more d ss x all new so b h p e = goes_on row.next_branch refl refl so b h (λ v. ap (λ l. and_branches l v) e ∙ lay_push tree.Beside branch_of all x v ∙ ap (λ y. and_branches all (tree.Beside y v)) (p ∙ h.same))
+  pub branches_read : (d : ℕ) {ts rest left : List Token} (ss : List SynStmt) (x : SynBranch) (all new : List SynBranch) → BranchesPending d all ts rest → AreStatements d rest left ss → branch_of x ≡ statements_of ss → new ≡ all ++ x ∷ [] → BranchesSoFar d new ts left
+  branches_read d ss x all new p h y e = item_read p h (λ v. ap (λ l. and_branches l v) e ∙ lay_push tree.Beside branch_of all x v ∙ ap (λ z. and_branches all (tree.Beside z v)) (y ∙ h.same))
+
+  pub branches_on : (d : ℕ) {ts rest behind : List Token} (all : List SynBranch) → BranchesSoFar d all ts rest → BeginsWith source rest w.Bar behind → BranchesPending d all ts behind
+  branches_on d all so b = round_on row.next_branch refl refl so b (λ vs. refl)
 
   pub branches_close_halt : (d : ℕ) {ts rest : List Token} (all : List SynBranch) → BranchesSoFar d all ts rest → BeginsOther rest w.Bar → (e : Halt) → Halts source (sym.AToken w.End ∷ []) rest e → Halts source (sym.AStatement d ∷ sym.MoreStatements d ∷ sym.MoreBranches d ∷ []) ts e
   branches_close_halt d all so b e h = halts_close row.branches_end b (ap (λ x. cond (kind_is w.End b.token.kind) (Some (entry _ _ row.branches_end)) (cond x (Some (entry _ _ row.next_branch)) None)) b.other) refl refl so e h

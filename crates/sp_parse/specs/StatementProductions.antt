@@ -1,12 +1,12 @@
 -- The productions of statements, for the contracts of the parser of statements: under each line of the grammar its symbols
 -- and the statement that they make. `d` says inside how many parts what stands in the statement lies, and `at` is the place
 -- of the statement's first token, which is read before.
-use Rattle.std.specs.Prelude.{ℕ, List, [], ◌∷◌}
+use Rattle.std.specs.Prelude.{ℕ, Bool, List, [], ◌∷◌}
 use Rattle.sp_base.specs.declared.place.Place.{Place}
 use Rattle.sp_tree.specs.declared.syntax.Name.{Name}
 use Rattle.sp_tree.specs.declared.syntax.SynConst.{SynConst}
 use Rattle.sp_tree.specs.Words as w
-use Rattle.sp_tree.specs.PlainSyntax.{Statement, Statements, Arm, Arms, Branches, Does, Assign, Sequence, If, While, Repeat, Case, For, Parallel, Forall, Assume, Entire, AndThen, On, Or, Beside}
+use Rattle.sp_tree.specs.PlainSyntax.{Expression, Statement, Statements, Arm, Arms, Branches, Does, Assign, Sequence, If, While, Repeat, Case, For, Parallel, Forall, Assume, Entire, AndThen, On, Or, Beside}
 use Rattle.sp_grammar.specs.Symbols.{AToken, AName, AConstant, AStatement, AfterName, AnElse, MoreStatements, MoreBranches, MoreLabels, MoreArms, ADirection, AnExpression, Selectors}
 use Rattle.sp_parse.specs.Productions.{Production, production}
 
@@ -52,6 +52,10 @@ abbrev pub for_statement : ℕ → Place → Production Statement
 for_statement d at = production
     (AName ∷ AToken w.Becomes ∷ AnExpression d ∷ ADirection ∷ AnExpression d ∷ AToken w.Do ∷ AStatement d ∷ [])
     (λ (name, (_, (from, (down, (to, (_, (body, _))))))). Does at (For name from down to body))
+
+-- the bounds of it, up to the `do`
+abbrev pub bounds : ℕ → Production (Expression × Bool × Expression)
+bounds d = production (AnExpression d ∷ ADirection ∷ AnExpression d ∷ AToken w.Do ∷ []) (λ (from, (down, (to, _))). (from, down, to))
 
 -- forall = "forall" name ":=" expression "to" expression "do" statement
 abbrev pub forall_statement : ℕ → Place → Production Statement

@@ -1,14 +1,15 @@
 -- The plain trees of parts that stand in no tree yet: lists and options, which sp_tree leads to plain trees only inside the
 -- part that holds them. The readers' contracts take them to say what an answer stands for. A list that is still growing
 -- stands for a function: these items, and then whatever is read behind them.
-use Rattle.std.specs.Prelude.{◌≡◌, List, [], ◌∷◌, Option, Some, None, Result, IfOk, map}
+use Rattle.std.specs.Prelude.{◌≡◌, Bool, List, [], ◌∷◌, Option, Some, None, Result, IfOk, map}
 use Rattle.sp_tree.specs.declared.syntax.SynExpr.{SynExpr}
 use Rattle.sp_tree.specs.declared.syntax.SynSelector.{SynSelector}
 use Rattle.sp_tree.specs.declared.syntax.SynArg.{SynArg}
 use Rattle.sp_tree.specs.declared.syntax.SynStmt.{SynStmt}
 use Rattle.sp_tree.specs.declared.syntax.SynArm.{SynArm}
 use Rattle.sp_tree.specs.declared.syntax.SynBranch.{SynBranch}
-use Rattle.sp_tree.specs.PlainSyntax.{Width, Selectors, Select, Arguments, AndArgument, Other, Statements, AndThen, Arms, Or, Branches, Beside}
+use Rattle.sp_parse.specs.declared.made_statements.Bounds.{Bounds}
+use Rattle.sp_tree.specs.PlainSyntax.{Expression, Width, Selectors, Select, Arguments, AndArgument, Other, Statements, AndThen, Arms, Or, Branches, Beside}
 use Rattle.sp_tree.specs.SyntaxOf.{expression_of, selector_of, argument_of, selectors, width, statement_of, arm_of, branch_of, other, arms, branches}
 
 -- what is made stands for this, unless there is no memory for it
@@ -47,6 +48,10 @@ arms_of all = arms (map arm_of all)
 
 abbrev pub branches_of : List SynBranch → Branches
 branches_of all = branches (map branch_of all)
+
+-- the bounds of a loop over a variable
+abbrev pub bounds_of : Bounds → Expression × Bool × Expression
+bounds_of b = (expression_of b.from, b.down, expression_of b.to)
 
 -- these statements, arms or branches, and then the others
 abbrev pub and_statements : List SynStmt → Statements → Statements

@@ -17,7 +17,8 @@ use crate::names::name;
 use crate::operators::is;
 use crate::source::{Source, cut, expect, misplaced};
 use crate::statements::compound;
-use sp_base::{Halt, List};
+use crate::types::type_name;
+use sp_base::{Boxed, Halt, List};
 use sp_tree::{Kind, MAX_NESTING, SynBlock, SynPart, Syntax, Token, sign, word};
 
 /// Whether a block begins with the token.
@@ -139,11 +140,27 @@ fn procedure<'t>(
 {
     let (called, rest) = name(source, tokens)?;
     let (given, rest) = formals(source, rest)?;
-    let rest = expect(source, rest, Kind::Sign(sign::SEMICOLON))?;
-    let (inner, rest) = block(source, rest, depth)?;
-    let rest = expect(source, rest, Kind::Sign(sign::SEMICOLON))?;
-    let made = procedure_declaration(source.alloc, called, given, None, inner)?;
+    let (inner, rest) = body(source, rest, depth)?;
+    let made = procedure_declaration(called, given, None, inner);
     Ok((made, rest))
+}
+
+// body = ";" block ";"
+/// The block of a procedure or a function, between its semicolons.
+#[cycle(block)]
+fn body<'t>(
+    source: &Source,
+    tokens: &'t [Token],
+    depth: u32,
+) -> Result<(Boxed<SynBlock>, &'t [Token]), Halt>
+    requires { Ready source.now tokens.now }
+    ensures { Reads source.now (grammar.body depth) block_of tokens.now result }
+{
+    let rest = expect(source, tokens, Kind::Sign(sign::SEMICOLON))?;
+    let (inner, rest) = block(source, rest, depth)?;
+    let boxed = Boxed::new(source.alloc, inner)?;
+    let rest = expect(source, rest, Kind::Sign(sign::SEMICOLON))?;
+    Ok((boxed, rest))
 }
 
 // function = "function" name [ formals ] ":" name ";" block ";"
@@ -159,13 +176,27 @@ fn function<'t>(
 {
     let (called, rest) = name(source, tokens)?;
     let (given, rest) = formals(source, rest)?;
-    let rest = expect(source, rest, Kind::Sign(sign::COLON))?;
-    let (answer, rest) = name(source, rest)?;
-    let rest = expect(source, rest, Kind::Sign(sign::SEMICOLON))?;
-    let (inner, rest) = block(source, rest, depth)?;
-    let rest = expect(source, rest, Kind::Sign(sign::SEMICOLON))?;
-    let made = procedure_declaration(source.alloc, called, given, Some(answer), inner)?;
+    let (answer, rest) = type_name(source, rest)?;
+    let (inner, rest) = body(source, rest, depth)?;
+    let made = procedure_declaration(called, given, Some(answer), inner);
     Ok((made, rest))
+}
+
+// outer_block = ";" block "."
+/// The block of a program, behind its heading.
+fn outer_block<'t>(source: &Source, tokens: &'t [Token]) -> Result<(SynBlock, &'t [Token]), Halt>
+    requires { Ready source.now tokens.now }
+    ensures { Reads source.now grammar.outer_block block_of tokens.now result }
+{
+    let rest = expect(source, tokens, Kind::Sign(sign::SEMICOLON))?;
+    let (whole, rest) = block(source, rest, 0)?;
+    match expect(source, rest, Kind::Sign(sign::DOT)) {
+        Ok(rest) => Ok((whole, rest)),
+        Err(e) => {
+            drop(whole);
+            Err(e)
+        }
+    }
 }
 
 // titled = name [ "(" names ")" ] ";" block "."
@@ -176,9 +207,7 @@ fn titled<'t>(source: &Source, tokens: &'t [Token]) -> Result<(Syntax, &'t [Toke
 {
     let (called, rest) = name(source, tokens)?;
     let (listed, rest) = heading(source, rest)?;
-    let rest = expect(source, rest, Kind::Sign(sign::SEMICOLON))?;
-    let (whole, rest) = block(source, rest, 0)?;
-    let rest = expect(source, rest, Kind::Sign(sign::DOT))?;
+    let (whole, rest) = outer_block(source, rest)?;
     Ok((
         Syntax {
             name: called,

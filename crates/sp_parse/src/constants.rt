@@ -4,9 +4,10 @@ ghost use Rattle.std.specs.Prelude.{◌≡◌, None};
 ghost use Rattle.sp_grammar.specs.Symbols.{AConstant, AValue};
 ghost use Rattle.sp_parse.specs.Productions.{itself, single};
 ghost use Rattle.sp_parse.specs.Reads.{Ready, Reads};
+ghost use Rattle.sp_parse.specs.BlockProductions as grammar;
 
 use crate::operators::is;
-use crate::source::{Source, cut, misplaced};
+use crate::source::{Source, cut, expect, misplaced};
 use crate::spelled::{name_at, number_at, quoted_at};
 use sp_base::{Halt, Place};
 use sp_tree::{Kind, SynConst, SynValue, Token, sign};
@@ -78,4 +79,19 @@ pub fn constant<'t>(source: &Source, tokens: &'t [Token]) -> Result<(SynConst, &
         )),
         _ => Err(misplaced(first)),
     }
+}
+
+// constant_then = constant token
+/// A constant, and behind it a token of this kind.
+pub fn constant_then<'t>(
+    source: &Source,
+    tokens: &'t [Token],
+    kind: Kind,
+) -> Result<(SynConst, &'t [Token]), Halt>
+    requires { Ready source.now tokens.now }
+    ensures { Reads source.now (grammar.constant_then kind) itself tokens.now result }
+{
+    let (value, rest) = constant(source, tokens)?;
+    let rest = expect(source, rest, kind)?;
+    Ok((value, rest))
 }

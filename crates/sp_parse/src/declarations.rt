@@ -3,17 +3,18 @@
 ghost use Rattle.std.specs.Prelude.{ℕ};
 ghost use Rattle.sp_tree.specs.SyntaxOf.{part_of};
 ghost use Rattle.sp_grammar.specs.Symbols.{Parts};
+ghost use Rattle.sp_parse.specs.Productions.{itself};
 ghost use Rattle.sp_parse.specs.Reads.{Ready, Reads, ReadsSoFar};
 ghost use Rattle.sp_parse.specs.BlockProductions as grammar;
 ghost use Rattle.sp_parse.specs.Declares.{and_parts};
 
-use crate::constants::constant;
+use crate::constants::constant_then;
 use crate::made_blocks::{constant_declaration, type_declaration, variable_declaration};
-use crate::names::name;
+use crate::names::name_then;
 use crate::source::{Source, expect, pass};
 use crate::types::{group, type_of};
 use sp_base::{Halt, List};
-use sp_tree::{Kind, SynPart, Token, sign};
+use sp_tree::{Kind, SynKind, SynPart, Token, sign};
 
 // one_constant = name "=" constant ";"
 /// A constant and its value.
@@ -21,10 +22,8 @@ fn one_constant<'t>(source: &Source, tokens: &'t [Token]) -> Result<(SynPart, &'
     requires { Ready source.now tokens.now }
     ensures { Reads source.now grammar.one_constant part_of tokens.now result }
 {
-    let (called, rest) = name(source, tokens)?;
-    let rest = expect(source, rest, Kind::Sign(sign::EQUAL))?;
-    let (value, rest) = constant(source, rest)?;
-    let rest = expect(source, rest, Kind::Sign(sign::SEMICOLON))?;
+    let (called, rest) = name_then(source, tokens, Kind::Sign(sign::EQUAL))?;
+    let (value, rest) = constant_then(source, rest, Kind::Sign(sign::SEMICOLON))?;
     Ok((constant_declaration(called, value), rest))
 }
 
@@ -34,11 +33,25 @@ fn one_type<'t>(source: &Source, tokens: &'t [Token]) -> Result<(SynPart, &'t [T
     requires { Ready source.now tokens.now }
     ensures { Reads source.now grammar.one_type part_of tokens.now result }
 {
-    let (called, rest) = name(source, tokens)?;
-    let rest = expect(source, rest, Kind::Sign(sign::EQUAL))?;
-    let (kind, rest) = type_of(source, rest)?;
-    let rest = expect(source, rest, Kind::Sign(sign::SEMICOLON))?;
+    let (called, rest) = name_then(source, tokens, Kind::Sign(sign::EQUAL))?;
+    let (kind, rest) = definition(source, rest)?;
     Ok((type_declaration(called, kind), rest))
+}
+
+// definition = type ";"
+/// The definition of a type, up to its semicolon.
+fn definition<'t>(source: &Source, tokens: &'t [Token]) -> Result<(SynKind, &'t [Token]), Halt>
+    requires { Ready source.now tokens.now }
+    ensures { Reads source.now grammar.definition itself tokens.now result }
+{
+    let (kind, rest) = type_of(source, tokens)?;
+    match expect(source, rest, Kind::Sign(sign::SEMICOLON)) {
+        Ok(rest) => Ok((kind, rest)),
+        Err(e) => {
+            drop(kind);
+            Err(e)
+        }
+    }
 }
 
 // one_group = names ":" name ";"

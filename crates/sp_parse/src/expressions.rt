@@ -41,6 +41,22 @@ pub fn expression<'t>(
     Ok((binary(source.alloc, op, left, right)?, rest))
 }
 
+// expression_then = expression token
+/// An expression, and behind it a token of this kind.
+pub fn expression_then<'t>(
+    source: &Source,
+    tokens: &'t [Token],
+    depth: u32,
+    kind: Kind,
+) -> Result<(SynExpr, &'t [Token]), Halt>
+    requires { Ready source.now tokens.now }
+    ensures { Reads source.now (grammar.expression_then depth kind) expression_of tokens.now result }
+{
+    let (value, rest) = expression(source, tokens, depth)?;
+    let rest = expect(source, rest, kind)?;
+    Ok((value, rest))
+}
+
 // simple = [ "+" | "-" ] term { ( "+" | "-" | "or" ) term }
 /// A simple expression: terms with operators between them.
 #[cycle(expression)]
@@ -216,15 +232,16 @@ fn indices<'t>(
     ensures { ReadsSoFar source.now (grammar.indices depth before) (Selectors depth) and_selectors tokens.now result }
 {
     let mut all = before;
-    let (first, mut rest) = expression(source, tokens, depth)?;
-    all.push(index(first))?;
-    'more: while let Some(after) = pass(source, rest, Kind::Sign(sign::COMMA))? {
-        let (next, left) = expression(source, after, depth)?;
+    let mut rest = tokens;
+    'more: loop {
+        let (next, left) = expression(source, rest, depth)?;
         all.push(index(next))?;
-        rest = left;
+        let Some(after) = pass(source, left, Kind::Sign(sign::COMMA))? else {
+            let rest = expect(source, left, Kind::Sign(sign::CLOSE_INDEX))?;
+            return Ok((all, rest));
+        };
+        rest = after;
     }
-    let rest = expect(source, rest, Kind::Sign(sign::CLOSE_INDEX))?;
-    Ok((all, rest))
 }
 
 // arguments = "(" argument { "," argument } ")"
@@ -239,15 +256,16 @@ pub fn arguments<'t>(
     ensures { Reads source.now (grammar.arguments depth) arguments_of tokens.now result }
 {
     let mut all = List::new(source.alloc);
-    let (first, mut rest) = argument(source, tokens, depth)?;
-    all.push(first)?;
-    'more: while let Some(after) = pass(source, rest, Kind::Sign(sign::COMMA))? {
-        let (next, left) = argument(source, after, depth)?;
+    let mut rest = tokens;
+    'more: loop {
+        let (next, left) = argument(source, rest, depth)?;
         all.push(next)?;
-        rest = left;
+        let Some(after) = pass(source, left, Kind::Sign(sign::COMMA))? else {
+            let rest = expect(source, left, Kind::Sign(sign::CLOSE))?;
+            return Ok((all, rest));
+        };
+        rest = after;
     }
-    let rest = expect(source, rest, Kind::Sign(sign::CLOSE))?;
-    Ok((all, rest))
 }
 
 // argument = expression [ ":" expression ]

@@ -45,16 +45,17 @@ fn some_formals<'t>(
     requires { Ready source.now tokens.now }
     ensures { Reads source.now grammar.formals itself tokens.now result }
 {
-    let (first, mut rest) = formal(source, tokens)?;
     let mut all = List::new(source.alloc);
-    all.push(first)?;
-    'more: while let Some(after) = pass(source, rest, Kind::Sign(sign::SEMICOLON))? {
-        let (next, left) = formal(source, after)?;
+    let mut rest = tokens;
+    'more: loop {
+        let (next, left) = formal(source, rest)?;
         all.push(next)?;
-        rest = left;
+        let Some(after) = pass(source, left, Kind::Sign(sign::SEMICOLON))? else {
+            let rest = expect(source, left, Kind::Sign(sign::CLOSE))?;
+            return Ok((all, rest));
+        };
+        rest = after;
     }
-    let rest = expect(source, rest, Kind::Sign(sign::CLOSE))?;
-    Ok((all, rest))
 }
 
 // optional_formals = [ formals ]

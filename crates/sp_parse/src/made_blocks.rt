@@ -3,11 +3,9 @@
 ghost use Rattle.std.specs.Prelude.{◌≡◌};
 ghost use Rattle.sp_tree.specs.PlainSyntax as tree;
 ghost use Rattle.sp_tree.specs.SyntaxOf.{part_of, parts_of, block_of, statements_of};
-ghost use Rattle.sp_parse.specs.Trees.{Gives};
 
 use sp_base::{Boxed, List, Place};
 use sp_tree::{Name, SynBlock, SynConst, SynForm, SynFormal, SynGroup, SynKind, SynPart, SynStmt};
-use std::alloc::{AllocError, Global};
 
 pub fn constant_declaration(name: Name, value: SynConst) -> SynPart
     ensures { part_of result ≡ tree.Const name value }
@@ -29,21 +27,19 @@ pub fn variable_declaration(of: SynGroup) -> SynPart
 
 /// A procedure, or with an answer a function.
 pub fn procedure_declaration(
-    alloc: Global,
     name: Name,
     formals: List<SynFormal>,
     answer: Option<Name>,
-    inner: SynBlock,
-) -> Result<SynPart, AllocError>
-    ensures { Gives part_of (let b = block_of inner in tree.Proc name formals answer b.parts b.body) result }
+    block: Boxed<SynBlock>,
+) -> SynPart
+    ensures { part_of result ≡ (let b = block_of block in tree.Proc name formals answer b.parts b.body) }
 {
-    let block = Boxed::new(alloc, inner)?;
-    Ok(SynPart::Proc {
+    SynPart::Proc {
         name,
         formals,
         answer,
         block,
-    })
+    }
 }
 
 /// A block with these declarations and the statements behind the `begin` at this place.

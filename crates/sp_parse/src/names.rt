@@ -5,7 +5,7 @@ ghost use Rattle.sp_parse.specs.Productions.{itself, single};
 ghost use Rattle.sp_parse.specs.Reads.{Ready, Reads};
 ghost use Rattle.sp_parse.specs.BlockProductions as grammar;
 
-use crate::source::{Source, cut, misplaced, pass};
+use crate::source::{Source, cut, expect, misplaced, pass};
 use crate::spelled::name_at;
 use sp_base::{Halt, List};
 use sp_tree::{Kind, Name, Token, sign};
@@ -23,19 +23,35 @@ pub fn name<'t>(source: &Source, tokens: &'t [Token]) -> Result<(Name, &'t [Toke
     }
 }
 
+// name_then = name token
+/// A name, and behind it a token of this kind.
+pub fn name_then<'t>(
+    source: &Source,
+    tokens: &'t [Token],
+    kind: Kind,
+) -> Result<(Name, &'t [Token]), Halt>
+    requires { Ready source.now tokens.now }
+    ensures { Reads source.now (grammar.name_then kind) itself tokens.now result }
+{
+    let (name, rest) = name(source, tokens)?;
+    let rest = expect(source, rest, kind)?;
+    Ok((name, rest))
+}
+
 // names = name { "," name }
 /// Names with commas between them.
 pub fn names<'t>(source: &Source, tokens: &'t [Token]) -> Result<(List<Name>, &'t [Token]), Halt>
     requires { Ready source.now tokens.now }
     ensures { Reads source.now grammar.names itself tokens.now result }
 {
-    let (first, mut rest) = name(source, tokens)?;
     let mut all = List::new(source.alloc);
-    all.push(first)?;
-    'more: while let Some(after) = pass(source, rest, Kind::Sign(sign::COMMA))? {
-        let (next, left) = name(source, after)?;
+    let mut rest = tokens;
+    'more: loop {
+        let (next, left) = name(source, rest)?;
         all.push(next)?;
-        rest = left;
+        let Some(after) = pass(source, left, Kind::Sign(sign::COMMA))? else {
+            return Ok((all, left));
+        };
+        rest = after;
     }
-    Ok((all, rest))
 }

@@ -43,7 +43,10 @@ pub fn parse(alloc: Global, text: &[u8], tokens: &[Token]) -> Result<Syntax, Hal
     let source = Source { alloc, text, end };
     let (tree, rest) = program(&source, tokens)?;
     match cut(&source, rest) {
-        Ok((next, _)) => Err(misplaced(next)),
+        Ok((next, _)) => {
+            drop(tree);
+            Err(misplaced(next))
+        }
         Err(_) => Ok(tree),
     }
 }

@@ -5,18 +5,18 @@ ghost use Rattle.sp_grammar.specs.Symbols.{AStatement, AnElse, ADirection};
 ghost use Rattle.sp_parse.specs.Productions.{itself, single};
 ghost use Rattle.sp_parse.specs.Reads.{Ready, Reads};
 ghost use Rattle.sp_parse.specs.StatementProductions as grammar;
-ghost use Rattle.sp_parse.specs.Trees.{other_of, arms_of, branches_of};
+ghost use Rattle.sp_parse.specs.Trees.{other_of, arms_of, branches_of, bounds_of};
 
 use crate::constants::constant;
 use crate::deep::deep_statement;
-use crate::expressions::{arguments, expression, selectors};
+use crate::expressions::{arguments, expression, expression_then, selectors};
 use crate::made::variable;
 use crate::made_statements::{
     Bounds, arm as make_arm, assign_statement, assume_statement, call_statement, case_statement,
     empty_statement, for_statement, forall_statement, if_statement, parallel_statement, process,
     repeat_statement, sequence_statement, while_statement,
 };
-use crate::names::name;
+use crate::names::name_then;
 use crate::operators::{begins_selector, is};
 use crate::source::{Source, cut, expect, misplaced, pass};
 use crate::spelled::name_at;
@@ -72,6 +72,21 @@ fn statement<'t>(
         return assume(source, rest, depth + 1, at);
     }
     Ok((empty_statement(at), tokens))
+}
+
+// statement, in a box of its own
+/// A statement that stands in another one.
+#[cycle(statement)]
+fn boxed_statement<'t>(
+    source: &Source,
+    tokens: &'t [Token],
+    depth: u32,
+) -> Result<(Boxed<SynStmt>, &'t [Token]), Halt>
+    requires { Ready source.now tokens.now }
+    ensures { Reads source.now (single (AStatement depth)) statement_of tokens.now result }
+{
+    let (body, rest) = statement(source, tokens, depth)?;
+    Ok((Boxed::new(source.alloc, body)?, rest))
 }
 
 // after_name = selectors ":=" expression | [ "(" argument { "," argument } ")" ]
@@ -148,14 +163,15 @@ fn statements<'t>(
     ensures { Reads source.now (grammar.sequence depth) statements_of tokens.now result }
 {
     let mut all = List::new(source.alloc);
-    let (first, mut rest) = statement(source, tokens, depth)?;
-    all.push(first)?;
-    'more: while let Some(after) = pass(source, rest, Kind::Sign(sign::SEMICOLON))? {
-        let (next, left) = statement(source, after, depth)?;
+    let mut rest = tokens;
+    'more: loop {
+        let (next, left) = statement(source, rest, depth)?;
         all.push(next)?;
-        rest = left;
+        let Some(after) = pass(source, left, Kind::Sign(sign::SEMICOLON))? else {
+            return Ok((all, left));
+        };
+        rest = after;
     }
-    Ok((all, rest))
 }
 
 // compound = "begin" sequence "end"
@@ -186,11 +202,10 @@ fn choice<'t>(
     requires { Ready source.now tokens.now }
     ensures { Reads source.now (grammar.if_statement depth at) statement_of tokens.now result }
 {
-    let (test, rest) = expression(source, tokens, depth)?;
-    let rest = expect(source, rest, Kind::Word(word::THEN))?;
-    let (body, rest) = statement(source, rest, depth)?;
+    let (test, rest) = expression_then(source, tokens, depth, Kind::Word(word::THEN))?;
+    let (body, rest) = boxed_statement(source, rest, depth)?;
     let (other, rest) = otherwise(source, rest, depth)?;
-    Ok((if_statement(source.alloc, at, test, body, other)?, rest))
+    Ok((if_statement(at, test, body, other), rest))
 }
 
 // otherwise = [ "else" statement ]
@@ -207,8 +222,8 @@ fn otherwise<'t>(
     let Some(after) = pass(source, tokens, Kind::Word(word::ELSE))? else {
         return Ok((None, tokens));
     };
-    let (body, rest) = statement(source, after, depth)?;
-    Ok((Some(Boxed::new(source.alloc, body)?), rest))
+    let (body, rest) = boxed_statement(source, after, depth)?;
+    Ok((Some(body), rest))
 }
 
 // while = "while" expression "do" statement
@@ -223,10 +238,9 @@ fn while_loop<'t>(
     requires { Ready source.now tokens.now }
     ensures { Reads source.now (grammar.while_statement depth at) statement_of tokens.now result }
 {
-    let (test, rest) = expression(source, tokens, depth)?;
-    let rest = expect(source, rest, Kind::Word(word::DO))?;
-    let (body, rest) = statement(source, rest, depth)?;
-    Ok((while_statement(source.alloc, at, test, body)?, rest))
+    let (test, rest) = expression_then(source, tokens, depth, Kind::Word(word::DO))?;
+    let (body, rest) = boxed_statement(source, rest, depth)?;
+    Ok((while_statement(at, test, body), rest))
 }
 
 // repeat = "repeat" sequence "until" expression
@@ -259,15 +273,26 @@ fn for_loop<'t>(
     requires { Ready source.now tokens.now }
     ensures { Reads source.now (grammar.for_statement depth at) statement_of tokens.now result }
 {
-    let (name, rest) = name(source, tokens)?;
-    let rest = expect(source, rest, Kind::Sign(sign::BECOMES))?;
-    let (from, rest) = expression(source, rest, depth)?;
+    let (name, rest) = name_then(source, tokens, Kind::Sign(sign::BECOMES))?;
+    let (bounds, rest) = bounds(source, rest, depth)?;
+    let (body, rest) = boxed_statement(source, rest, depth)?;
+    Ok((for_statement(at, name, bounds, body), rest))
+}
+
+// bounds = expression ( "to" | "downto" ) expression "do"
+/// The bounds of a loop over a variable, up to the `do`.
+fn bounds<'t>(
+    source: &Source,
+    tokens: &'t [Token],
+    depth: u32,
+) -> Result<(Bounds, &'t [Token]), Halt>
+    requires { Ready source.now tokens.now }
+    ensures { Reads source.now (grammar.bounds depth) bounds_of tokens.now result }
+{
+    let (from, rest) = expression(source, tokens, depth)?;
     let (down, rest) = direction(source, rest)?;
-    let (to, rest) = expression(source, rest, depth)?;
-    let rest = expect(source, rest, Kind::Word(word::DO))?;
-    let (body, rest) = statement(source, rest, depth)?;
-    let bounds = Bounds { from, down, to };
-    Ok((for_statement(source.alloc, at, name, bounds, body)?, rest))
+    let (to, rest) = expression_then(source, rest, depth, Kind::Word(word::DO))?;
+    Ok((Bounds { from, down, to }, rest))
 }
 
 // direction = "to" | "downto"
@@ -298,17 +323,11 @@ fn forall<'t>(
     requires { Ready source.now tokens.now }
     ensures { Reads source.now (grammar.forall_statement depth at) statement_of tokens.now result }
 {
-    let (name, rest) = name(source, tokens)?;
-    let rest = expect(source, rest, Kind::Sign(sign::BECOMES))?;
-    let (from, rest) = expression(source, rest, depth)?;
-    let rest = expect(source, rest, Kind::Word(word::TO))?;
-    let (to, rest) = expression(source, rest, depth)?;
-    let rest = expect(source, rest, Kind::Word(word::DO))?;
-    let (body, rest) = statement(source, rest, depth)?;
-    Ok((
-        forall_statement(source.alloc, at, name, from, to, body)?,
-        rest,
-    ))
+    let (name, rest) = name_then(source, tokens, Kind::Sign(sign::BECOMES))?;
+    let (from, rest) = expression_then(source, rest, depth, Kind::Word(word::TO))?;
+    let (to, rest) = expression_then(source, rest, depth, Kind::Word(word::DO))?;
+    let (body, rest) = boxed_statement(source, rest, depth)?;
+    Ok((forall_statement(at, name, from, to, body), rest))
 }
 
 // case = "case" expression "of" arm { ";" arm } [ ";" ] "end"
@@ -323,8 +342,7 @@ fn case_choice<'t>(
     requires { Ready source.now tokens.now }
     ensures { Reads source.now (grammar.case_statement depth at) statement_of tokens.now result }
 {
-    let (test, rest) = expression(source, tokens, depth)?;
-    let rest = expect(source, rest, Kind::Word(word::OF))?;
+    let (test, rest) = expression_then(source, tokens, depth, Kind::Word(word::OF))?;
     let (all, rest) = arms(source, rest, depth)?;
     Ok((case_statement(at, test, all), rest))
 }
@@ -374,15 +392,16 @@ fn labels<'t>(source: &Source, tokens: &'t [Token]) -> Result<(List<SynConst>, &
     ensures { Reads source.now grammar.labels itself tokens.now result }
 {
     let mut all = List::new(source.alloc);
-    let (first, mut rest) = constant(source, tokens)?;
-    all.push(first)?;
-    'more: while let Some(after) = pass(source, rest, Kind::Sign(sign::COMMA))? {
-        let (next, left) = constant(source, after)?;
+    let mut rest = tokens;
+    'more: loop {
+        let (next, left) = constant(source, rest)?;
         all.push(next)?;
-        rest = left;
+        let Some(after) = pass(source, left, Kind::Sign(sign::COMMA))? else {
+            let rest = expect(source, left, Kind::Sign(sign::COLON))?;
+            return Ok((all, rest));
+        };
+        rest = after;
     }
-    let rest = expect(source, rest, Kind::Sign(sign::COLON))?;
-    Ok((all, rest))
 }
 
 // parallel = "parallel" sequence { "|" sequence } "end"
@@ -413,15 +432,16 @@ fn branches<'t>(
     ensures { Reads source.now (grammar.branches depth) branches_of tokens.now result }
 {
     let mut all = List::new(source.alloc);
-    let (first, mut rest) = statements(source, tokens, depth)?;
-    all.push(process(first))?;
-    'more: while let Some(after) = pass(source, rest, Kind::Sign(sign::BAR))? {
-        let (next, left) = statements(source, after, depth)?;
+    let mut rest = tokens;
+    'more: loop {
+        let (next, left) = statements(source, rest, depth)?;
         all.push(process(next))?;
-        rest = left;
+        let Some(after) = pass(source, left, Kind::Sign(sign::BAR))? else {
+            let rest = expect(source, left, Kind::Word(word::END))?;
+            return Ok((all, rest));
+        };
+        rest = after;
     }
-    let rest = expect(source, rest, Kind::Word(word::END))?;
-    Ok((all, rest))
 }
 
 // assume = "assume" expression

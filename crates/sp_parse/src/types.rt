@@ -5,7 +5,7 @@ ghost use Rattle.sp_parse.specs.Productions.{itself, single};
 ghost use Rattle.sp_parse.specs.Reads.{Ready, Reads};
 ghost use Rattle.sp_parse.specs.BlockProductions as grammar;
 
-use crate::constants::constant;
+use crate::constants::constant_then;
 use crate::names::{name, names};
 use crate::operators::is;
 use crate::source::{Source, cut, expect, misplaced, pass};
@@ -20,9 +20,18 @@ pub fn group<'t>(source: &Source, tokens: &'t [Token]) -> Result<(SynGroup, &'t 
     ensures { Reads source.now grammar.group itself tokens.now result }
 {
     let (all, rest) = names(source, tokens)?;
-    let rest = expect(source, rest, Kind::Sign(sign::COLON))?;
-    let (kind, rest) = name(source, rest)?;
+    let (kind, rest) = type_name(source, rest)?;
     Ok((SynGroup { names: all, kind }, rest))
+}
+
+// type_name = ":" name
+/// The type that is named behind a colon.
+pub fn type_name<'t>(source: &Source, tokens: &'t [Token]) -> Result<(Name, &'t [Token]), Halt>
+    requires { Ready source.now tokens.now }
+    ensures { Reads source.now grammar.type_name itself tokens.now result }
+{
+    let rest = expect(source, tokens, Kind::Sign(sign::COLON))?;
+    name(source, rest)
 }
 
 // fields = names ":" name { ";" names ":" name } [ ";" ]
@@ -64,13 +73,20 @@ fn array<'t>(source: &Source, tokens: &'t [Token]) -> Result<(SynKind, &'t [Toke
     ensures { Reads source.now grammar.array_type itself tokens.now result }
 {
     let rest = expect(source, tokens, Kind::Sign(sign::OPEN_INDEX))?;
-    let (low, rest) = constant(source, rest)?;
-    let rest = expect(source, rest, Kind::Sign(sign::RANGE))?;
-    let (high, rest) = constant(source, rest)?;
-    let rest = expect(source, rest, Kind::Sign(sign::CLOSE_INDEX))?;
-    let rest = expect(source, rest, Kind::Word(word::OF))?;
-    let (of, rest) = name(source, rest)?;
+    let (low, rest) = constant_then(source, rest, Kind::Sign(sign::RANGE))?;
+    let (high, rest) = constant_then(source, rest, Kind::Sign(sign::CLOSE_INDEX))?;
+    let (of, rest) = elements(source, rest)?;
     Ok((SynKind::Array(low, high, of), rest))
+}
+
+// elements = "of" name
+/// The type of an array's elements.
+fn elements<'t>(source: &Source, tokens: &'t [Token]) -> Result<(Name, &'t [Token]), Halt>
+    requires { Ready source.now tokens.now }
+    ensures { Reads source.now grammar.elements itself tokens.now result }
+{
+    let rest = expect(source, tokens, Kind::Word(word::OF))?;
+    name(source, rest)
 }
 
 // channel = "*" "(" names ")"

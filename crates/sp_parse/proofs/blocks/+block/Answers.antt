@@ -1,15 +1,18 @@
-use Rattle.std.proofs.Common.{arith, refl, add-one, ◌∙◌, [], ◌∷◌, None}
+use Rattle.std.proofs.Common.{arith, refl, ap, add-one, ◌∙◌, [], ◌∷◌, None}
 use Rattle.std.proofs.lemmas.Result.{err_from_is_err_and}
 use Rattle.sp_tree.specs.PlainSyntax as tree
 use Rattle.sp_tree.specs.Grammar.{declared}
+use Rattle.sp_tree.specs.SyntaxOf.{block_of}
 use Rattle.sp_tree.specs.Words as w
 use Rattle.sp_grammar.specs.Symbols as sym
 use Rattle.sp_grammar.specs.Table as row
 use Rattle.sp_grammar.specs.Derives.{none, and}
 use Rattle.sp_parse.specs.Declares.{and_parts}
+use Rattle.sp_parse.proofs.Behind.{halts_after, halts_behind}
+use Rattle.sp_parse.proofs.Declares.{halts_longer}
 use Rattle.sp_parse.proofs.Steps.{has_read, one, expected, fails, read_err}
 use Rattle.sp_parse.proofs.SoFar.{halts_pending}
-use Rattle.sp_parse.proofs.Rows.{row_halts, with_at, other_at}
+use Rattle.sp_parse.proofs.Rows.{row_halts, with_at, other_at, join_all}
 use Rattle.sp_parse.proofs.ReadBlocks.{block_result, other_first, no_part, parts_start, parts_more, parts_end, section_result, one_more, no_more, declares_err, procedure_same, function_same}
 use Rattle.sp_parse.proofs.blocks.+block.Goals as goal
 
@@ -58,8 +61,41 @@ declarations-returns-then-is-5 t c = one_more c.args.depth c.args.all (row.parts
 pub declarations-returns : goal.declarations-returns
 declarations-returns t c = fails (sym.Parts c.args.depth) c.in_ok-first.ensures (no_part c.args.depth c.in_ok-first.first.kind (other_first c.in_ok-first.ensures c.requires.other) (other_at c.in_ok-first.first w.Const c.is.ensures c.if-is.false) (other_at c.in_ok-first.first w.Type' c.is-2.ensures c.if-is-2.false) (other_at c.in_ok-first.first w.Var c.is-3.ensures c.if-is-3.false) (other_at c.in_ok-first.first w.Procedure c.is-4.ensures c.if-is-4.false) (other_at c.in_ok-first.first w.Function c.is-5.ensures c.if-is-5.false)) refl _ c.misplaced.ensures
 
+pub procedure-returns-in_err-called : goal.procedure-returns-in_err-called
+procedure-returns-in_err-called t c = read_err _ _ _ _ c.from_residual.result _ (err_from_is_err_and c.from_residual.result c.from_residual.ensures.1) (halts_longer c.args.source.now (sym.AName ∷ []) (sym.Formals ∷ sym.AToken w.Semicolon ∷ sym.ABlock c.args.depth ∷ sym.AToken w.Semicolon ∷ []) _ _ c.in_err-called.ensures)
+
+pub procedure-returns-in_err-given : goal.procedure-returns-in_err-given
+procedure-returns-in_err-given t c = read_err _ _ _ _ c.from_residual-in_err-given.result _ (err_from_is_err_and c.from_residual-in_err-given.result c.from_residual-in_err-given.ensures.1) (halts_after (sym.Formals ∷ sym.AToken w.Semicolon ∷ sym.ABlock c.args.depth ∷ sym.AToken w.Semicolon ∷ []) c.in_ok-called.ensures _ (halts_longer c.args.source.now (sym.Formals ∷ []) (sym.AToken w.Semicolon ∷ sym.ABlock c.args.depth ∷ sym.AToken w.Semicolon ∷ []) _ _ c.in_err-given.ensures))
+
+pub procedure-returns-in_err-inner : goal.procedure-returns-in_err-inner
+procedure-returns-in_err-inner t c = read_err _ _ _ _ c.from_residual-in_err-inner.result _ (err_from_is_err_and c.from_residual-in_err-inner.result c.from_residual-in_err-inner.ensures.1) (halts_after (sym.Formals ∷ sym.AToken w.Semicolon ∷ sym.ABlock c.args.depth ∷ sym.AToken w.Semicolon ∷ []) c.in_ok-called.ensures _ (halts_after (sym.AToken w.Semicolon ∷ sym.ABlock c.args.depth ∷ sym.AToken w.Semicolon ∷ []) c.in_ok-given.ensures _ c.in_err-inner.ensures))
+
 pub procedure-returns : goal.procedure-returns
-procedure-returns t c = has_read c.in_ok-rest-2.ensures.first.ready (and (one c.in_ok-called.ensures) (and (one c.in_ok-given.ensures) (and (expected c.in_ok-rest.ensures) (and (one c.in_ok-inner.ensures) (and (expected c.in_ok-rest-2.ensures) none))))) (c.in_ok-made.ensures ∙ procedure_same None c.in_ok-called.ensures.same c.in_ok-given.ensures.same c.in_ok-inner.ensures.same)
+procedure-returns t c = has_read c.in_ok-inner.ensures.ready (and (one c.in_ok-called.ensures) (and (one c.in_ok-given.ensures) c.in_ok-inner.ensures.derives)) (c.procedure_declaration-made.ensures ∙ procedure_same None c.in_ok-called.ensures.same c.in_ok-given.ensures.same c.in_ok-inner.ensures.same)
+
+pub body-returns-in_err-rest : goal.body-returns-in_err-rest
+body-returns-in_err-rest t c = read_err _ _ _ _ c.from_residual.result _ (err_from_is_err_and c.from_residual.result c.from_residual.ensures.1) (halts_longer c.args.source.now (sym.AToken w.Semicolon ∷ []) (sym.ABlock c.args.depth ∷ sym.AToken w.Semicolon ∷ []) _ _ c.in_err-rest.ensures)
+
+pub body-returns-in_err-inner : goal.body-returns-in_err-inner
+body-returns-in_err-inner t c = read_err _ _ _ _ c.from_residual-in_err-inner.result _ (err_from_is_err_and c.from_residual-in_err-inner.result c.from_residual-in_err-inner.ensures.1) (halts_behind (sym.ABlock c.args.depth ∷ sym.AToken w.Semicolon ∷ []) c.in_ok-rest.ensures _ (halts_longer c.args.source.now (sym.ABlock c.args.depth ∷ []) (sym.AToken w.Semicolon ∷ []) _ _ c.in_err-inner.ensures))
+
+pub body-returns-in_err-rest-2 : goal.body-returns-in_err-rest-2
+body-returns-in_err-rest-2 t c = read_err _ _ _ _ c.from_residual-in_err-rest-2.result _ (err_from_is_err_and c.from_residual-in_err-rest-2.result c.from_residual-in_err-rest-2.ensures.1) (halts_behind (sym.ABlock c.args.depth ∷ sym.AToken w.Semicolon ∷ []) c.in_ok-rest.ensures _ (halts_after (sym.AToken w.Semicolon ∷ []) c.in_ok-inner.ensures _ c.in_err-rest-2.ensures))
+
+pub body-returns : goal.body-returns
+body-returns t c = has_read c.in_ok-rest-2.ensures.first.ready (and (expected c.in_ok-rest.ensures) (and (one c.in_ok-inner.ensures) (and (expected c.in_ok-rest-2.ensures) none))) (ap block_of c.in_ok-boxed.ensures ∙ c.in_ok-inner.ensures.same)
+
+pub function-returns-in_err-called : goal.function-returns-in_err-called
+function-returns-in_err-called t c = read_err _ _ _ _ c.from_residual.result _ (err_from_is_err_and c.from_residual.result c.from_residual.ensures.1) (halts_longer c.args.source.now (sym.AName ∷ []) (sym.Formals ∷ sym.AToken w.Colon ∷ sym.AName ∷ sym.AToken w.Semicolon ∷ sym.ABlock c.args.depth ∷ sym.AToken w.Semicolon ∷ []) _ _ c.in_err-called.ensures)
+
+pub function-returns-in_err-given : goal.function-returns-in_err-given
+function-returns-in_err-given t c = read_err _ _ _ _ c.from_residual-in_err-given.result _ (err_from_is_err_and c.from_residual-in_err-given.result c.from_residual-in_err-given.ensures.1) (halts_after (sym.Formals ∷ sym.AToken w.Colon ∷ sym.AName ∷ sym.AToken w.Semicolon ∷ sym.ABlock c.args.depth ∷ sym.AToken w.Semicolon ∷ []) c.in_ok-called.ensures _ (halts_longer c.args.source.now (sym.Formals ∷ []) (sym.AToken w.Colon ∷ sym.AName ∷ sym.AToken w.Semicolon ∷ sym.ABlock c.args.depth ∷ sym.AToken w.Semicolon ∷ []) _ _ c.in_err-given.ensures))
+
+pub function-returns-in_err-answer : goal.function-returns-in_err-answer
+function-returns-in_err-answer t c = read_err _ _ _ _ c.from_residual-in_err-answer.result _ (err_from_is_err_and c.from_residual-in_err-answer.result c.from_residual-in_err-answer.ensures.1) (halts_after (sym.Formals ∷ sym.AToken w.Colon ∷ sym.AName ∷ sym.AToken w.Semicolon ∷ sym.ABlock c.args.depth ∷ sym.AToken w.Semicolon ∷ []) c.in_ok-called.ensures _ (halts_after (sym.AToken w.Colon ∷ sym.AName ∷ sym.AToken w.Semicolon ∷ sym.ABlock c.args.depth ∷ sym.AToken w.Semicolon ∷ []) c.in_ok-given.ensures _ (halts_longer c.args.source.now (sym.AToken w.Colon ∷ sym.AName ∷ []) (sym.AToken w.Semicolon ∷ sym.ABlock c.args.depth ∷ sym.AToken w.Semicolon ∷ []) _ _ c.in_err-answer.ensures)))
+
+pub function-returns-in_err-inner : goal.function-returns-in_err-inner
+function-returns-in_err-inner t c = read_err _ _ _ _ c.from_residual-in_err-inner.result _ (err_from_is_err_and c.from_residual-in_err-inner.result c.from_residual-in_err-inner.ensures.1) (halts_after (sym.Formals ∷ sym.AToken w.Colon ∷ sym.AName ∷ sym.AToken w.Semicolon ∷ sym.ABlock c.args.depth ∷ sym.AToken w.Semicolon ∷ []) c.in_ok-called.ensures _ (halts_after (sym.AToken w.Colon ∷ sym.AName ∷ sym.AToken w.Semicolon ∷ sym.ABlock c.args.depth ∷ sym.AToken w.Semicolon ∷ []) c.in_ok-given.ensures _ (halts_after (sym.AToken w.Semicolon ∷ sym.ABlock c.args.depth ∷ sym.AToken w.Semicolon ∷ []) c.in_ok-answer.ensures _ c.in_err-inner.ensures)))
 
 pub function-returns : goal.function-returns
-function-returns t c = has_read c.in_ok-rest-3.ensures.first.ready (and (one c.in_ok-called.ensures) (and (one c.in_ok-given.ensures) (and (expected c.in_ok-rest.ensures) (and (one c.in_ok-answer.ensures) (and (expected c.in_ok-rest-2.ensures) (and (one c.in_ok-inner.ensures) (and (expected c.in_ok-rest-3.ensures) none))))))) (c.in_ok-made.ensures ∙ function_same c.in_ok-called.ensures.same c.in_ok-given.ensures.same c.in_ok-answer.ensures.same c.in_ok-inner.ensures.same)
+function-returns t c = has_read c.in_ok-inner.ensures.ready (and (one c.in_ok-called.ensures) (and (one c.in_ok-given.ensures) (join_all (sym.AToken w.Colon ∷ sym.AName ∷ []) (sym.AToken w.Semicolon ∷ sym.ABlock c.args.depth ∷ sym.AToken w.Semicolon ∷ []) c.in_ok-answer.ensures.derives c.in_ok-inner.ensures.derives))) (c.procedure_declaration-made.ensures ∙ function_same c.in_ok-called.ensures.same c.in_ok-given.ensures.same c.in_ok-answer.ensures.same c.in_ok-inner.ensures.same)

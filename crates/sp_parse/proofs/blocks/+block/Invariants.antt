@@ -14,6 +14,9 @@ decreases-declarations l = 4 * length l.tokens.now
 abbrev pub decreases-procedure : goal.decreases-procedure
 decreases-procedure l = 4 * length l.tokens.now + 3
 
+abbrev pub decreases-body : goal.decreases-body
+decreases-body l = 4 * length l.tokens.now
+
 abbrev pub decreases-function : goal.decreases-function
 decreases-function l = 4 * length l.tokens.now + 3
 

@@ -1,11 +1,12 @@
-use Rattle.std.proofs.Common.{arith, refl, suc, [], ◌∷◌, ◌++◌, ap, ◌∙◌, add-one}
+use Rattle.std.proofs.Common.{arith, refl, suc, [], ◌∷◌, add-one}
 use Rattle.std.proofs.lemmas.Result.{err_from_is_err_and}
 use Rattle.sp_tree.specs.declared.token.Kind.TheVariants as kind
 use Rattle.sp_tree.specs.Words as w
 use Rattle.sp_tree.specs.Grammar as g
 use Rattle.sp_grammar.specs.Symbols as sym
-use Rattle.sp_parse.proofs.Steps.{fails, read_err, so_far_err, passed, not_passed}
+use Rattle.sp_parse.proofs.Steps.{fails, read_err, so_far_err, passed, not_passed, pass_halts}
 use Rattle.sp_parse.proofs.SoFar.{halts_pending}
+use Rattle.sp_parse.proofs.Rounds.{no_item}
 use Rattle.sp_parse.proofs.Rows.{with_at, other_at}
 use Rattle.sp_parse.proofs.ReadExpressions as x
 use Rattle.sp_parse.proofs.ReadFactors as y
@@ -117,34 +118,40 @@ pub selectors-more-preserved : goal.selectors-more-preserved
 selectors-more-preserved t c = y.field_more c.args.source.now c.args.depth c.in_ok-name.name c.field.result c.more.all c.push.new.self c.more.invariant (passed c.args.source.now w.Dot c.more.rest.now _ c.in-Some-2.after c.in_ok-after.ensures c.in-Some-2.is) c.in_ok-name.ensures c.field.ensures c.in_ok-push.ensures.ok
 
 pub indices-more-init : goal.indices-more-init
-indices-more-init t c = y.index_start c.args.source.now c.args.depth c.in_ok-first.first c.index.result c.args.before c.push.new.self c.in_ok-first.ensures c.index.ensures c.in_ok-push.ensures.ok
+indices-more-init t c = y.indices_none c.args.source.now c.args.depth c.args.before c.requires
 
 pub indices-returns-in_err-next : goal.indices-returns-in_err-next
-indices-returns-in_err-next t c = so_far_err _ _ _ _ _ c.from_residual-in_err-next.result _ (err_from_is_err_and c.from_residual-in_err-next.result c.from_residual-in_err-next.ensures.1) (y.index_halts c.args.source.now c.args.depth c.args.before c.more.all c.more.invariant (passed c.args.source.now w.Comma c.more.rest.now _ c.in-Some.after c.in_ok-after.ensures c.in-Some.is) _ c.in_err-next.ensures)
+indices-returns-in_err-next t c = so_far_err _ _ _ _ _ c.from_residual.result _ (err_from_is_err_and c.from_residual.result c.from_residual.ensures.1) (no_item (sym.AnExpression c.args.depth ∷ []) (sym.MoreIndices c.args.depth ∷ []) c.more.invariant _ c.in_err-next.ensures)
 
-pub indices-more-preserved : goal.indices-more-preserved
-indices-more-preserved t c = y.index_more c.args.source.now c.args.depth c.in_ok-next.next c.index-in-Some.result c.args.before c.more.all c.push-in-Some.new.self c.more.invariant (passed c.args.source.now w.Comma c.more.rest.now _ c.in-Some.after c.in_ok-after.ensures c.in-Some.is) c.in_ok-next.ensures c.index-in-Some.ensures c.in_ok-push-2.ensures.ok
+pub indices-returns-in_err-after : goal.indices-returns-in_err-after
+indices-returns-in_err-after t c = so_far_err _ _ _ _ _ c.from_residual-in_err-after.result _ (err_from_is_err_and c.from_residual-in_err-after.result c.from_residual-in_err-after.ensures.1) (halts_pending (y.indices_read c.args.source.now c.args.depth c.in_ok-next.next c.index.result c.args.before c.more.all c.push.new.self c.more.invariant c.in_ok-next.ensures c.index.ensures c.in_ok-push.ensures.ok) _ (pass_halts c.args.source.now w.Comma c.in_ok-next.left.now (sym.MoreIndices c.args.depth) _ c.in_err-after.ensures))
 
 pub indices-returns-in_err-rest : goal.indices-returns-in_err-rest
-indices-returns-in_err-rest t c = so_far_err _ _ _ _ _ c.from_residual-in_err-rest.result _ (err_from_is_err_and c.from_residual-in_err-rest.result c.from_residual-in_err-rest.ensures.1) (y.indices_close_halts c.args.source.now c.args.depth c.args.before c.more.all c.more.invariant (not_passed c.args.source.now w.Comma c.more.rest.now _ c.in_ok-after.ensures c.in_default.is) _ c.in_err-rest.ensures)
+indices-returns-in_err-rest t c = so_far_err _ _ _ _ _ c.from_residual-in_err-rest.result _ (err_from_is_err_and c.from_residual-in_err-rest.result c.from_residual-in_err-rest.ensures.1) (y.indices_close_halts c.args.source.now c.args.depth c.args.before c.push.new.self (y.indices_read c.args.source.now c.args.depth c.in_ok-next.next c.index.result c.args.before c.more.all c.push.new.self c.more.invariant c.in_ok-next.ensures c.index.ensures c.in_ok-push.ensures.ok) (not_passed c.args.source.now w.Comma c.in_ok-next.left.now _ c.in_ok-after.ensures c.in_default.is) _ c.in_err-rest.ensures)
 
-pub indices-returns : goal.indices-returns
-indices-returns t c = y.indices_close c.args.source.now c.args.depth c.args.before c.more.all c.more.invariant c.in_ok-rest.ensures
+pub indices-returns-in_default : goal.indices-returns-in_default
+indices-returns-in_default t c = y.indices_close c.args.source.now c.args.depth c.args.before c.push.new.self (y.indices_read c.args.source.now c.args.depth c.in_ok-next.next c.index.result c.args.before c.more.all c.push.new.self c.more.invariant c.in_ok-next.ensures c.index.ensures c.in_ok-push.ensures.ok) c.in_ok-rest.ensures
+
+pub indices-more-preserved : goal.indices-more-preserved
+indices-more-preserved t c = y.indices_on c.args.source.now c.args.depth c.args.before c.push.new.self (y.indices_read c.args.source.now c.args.depth c.in_ok-next.next c.index.result c.args.before c.more.all c.push.new.self c.more.invariant c.in_ok-next.ensures c.index.ensures c.in_ok-push.ensures.ok) (passed c.args.source.now w.Comma c.in_ok-next.left.now _ c.in-Some.after c.in_ok-after.ensures c.in-Some.is)
 
 pub arguments-more-init : goal.arguments-more-init
-arguments-more-init t c = y.arguments_start c.args.source.now c.args.depth c.in_ok-first.first c.push.new.self c.in_ok-first.ensures (c.in_ok-push.ensures.ok ∙ ap (λ l. l ++ c.in_ok-first.first ∷ []) c.new-all.ensures)
+arguments-more-init t c = y.arguments_none c.args.source.now c.args.depth c.new-all.result c.new-all.ensures c.requires
 
 pub arguments-returns-in_err-next : goal.arguments-returns-in_err-next
-arguments-returns-in_err-next t c = read_err _ _ _ _ c.from_residual-in_err-next.result _ (err_from_is_err_and c.from_residual-in_err-next.result c.from_residual-in_err-next.ensures.1) (y.arguments_halts c.args.source.now c.args.depth c.more.all c.more.invariant (passed c.args.source.now w.Comma c.more.rest.now _ c.in-Some.after c.in_ok-after.ensures c.in-Some.is) _ c.in_err-next.ensures)
+arguments-returns-in_err-next t c = read_err _ _ _ _ c.from_residual.result _ (err_from_is_err_and c.from_residual.result c.from_residual.ensures.1) (no_item (sym.AnExpression c.args.depth ∷ sym.AWidth c.args.depth ∷ []) (sym.MoreArguments c.args.depth ∷ []) c.more.invariant _ c.in_err-next.ensures)
 
-pub arguments-more-preserved : goal.arguments-more-preserved
-arguments-more-preserved t c = y.arguments_more c.args.source.now c.args.depth c.in_ok-next.next c.more.all c.push-in-Some.new.self c.more.invariant (passed c.args.source.now w.Comma c.more.rest.now _ c.in-Some.after c.in_ok-after.ensures c.in-Some.is) c.in_ok-next.ensures c.in_ok-push-2.ensures.ok
+pub arguments-returns-in_err-after : goal.arguments-returns-in_err-after
+arguments-returns-in_err-after t c = read_err _ _ _ _ c.from_residual-in_err-after.result _ (err_from_is_err_and c.from_residual-in_err-after.result c.from_residual-in_err-after.ensures.1) (halts_pending (y.arguments_read c.args.source.now c.args.depth c.in_ok-next.next c.more.all c.push.new.self c.more.invariant c.in_ok-next.ensures c.in_ok-push.ensures.ok) _ (pass_halts c.args.source.now w.Comma c.in_ok-next.left.now (sym.MoreArguments c.args.depth) _ c.in_err-after.ensures))
 
 pub arguments-returns-in_err-rest : goal.arguments-returns-in_err-rest
-arguments-returns-in_err-rest t c = read_err _ _ _ _ c.from_residual-in_err-rest.result _ (err_from_is_err_and c.from_residual-in_err-rest.result c.from_residual-in_err-rest.ensures.1) (y.arguments_close_halts c.args.source.now c.args.depth c.more.all c.more.invariant (not_passed c.args.source.now w.Comma c.more.rest.now _ c.in_ok-after.ensures c.in_default.is) _ c.in_err-rest.ensures)
+arguments-returns-in_err-rest t c = read_err _ _ _ _ c.from_residual-in_err-rest.result _ (err_from_is_err_and c.from_residual-in_err-rest.result c.from_residual-in_err-rest.ensures.1) (y.arguments_close_halts c.args.source.now c.args.depth c.push.new.self (y.arguments_read c.args.source.now c.args.depth c.in_ok-next.next c.more.all c.push.new.self c.more.invariant c.in_ok-next.ensures c.in_ok-push.ensures.ok) (not_passed c.args.source.now w.Comma c.in_ok-next.left.now _ c.in_ok-after.ensures c.in_default.is) _ c.in_err-rest.ensures)
 
-pub arguments-returns : goal.arguments-returns
-arguments-returns t c = y.arguments_done c.args.source.now c.args.depth c.more.all c.more.invariant c.in_ok-rest.ensures
+pub arguments-returns-in_default : goal.arguments-returns-in_default
+arguments-returns-in_default t c = y.arguments_done c.args.source.now c.args.depth c.push.new.self (y.arguments_read c.args.source.now c.args.depth c.in_ok-next.next c.more.all c.push.new.self c.more.invariant c.in_ok-next.ensures c.in_ok-push.ensures.ok) c.in_ok-rest.ensures
+
+pub arguments-more-preserved : goal.arguments-more-preserved
+arguments-more-preserved t c = y.arguments_on c.args.source.now c.args.depth c.push.new.self (y.arguments_read c.args.source.now c.args.depth c.in_ok-next.next c.more.all c.push.new.self c.more.invariant c.in_ok-next.ensures c.in_ok-push.ensures.ok) (passed c.args.source.now w.Comma c.in_ok-next.left.now _ c.in-Some.after c.in_ok-after.ensures c.in-Some.is)
 
 pub argument-returns-in_default : goal.argument-returns-in_default
 argument-returns-in_default t c = y.no_width c.args.source.now c.args.depth c.in_ok-value.value c.argument.result c.in_ok-value.ensures (not_passed c.args.source.now w.Colon c.in_ok-value.rest.now _ c.in_ok-after.ensures c.in_default.is) c.argument.ensures

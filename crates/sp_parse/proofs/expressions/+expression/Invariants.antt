@@ -1,9 +1,9 @@
 use Rattle.std.proofs.Common.{◌+◌, ◌*◌, [], ◌∷◌, length}
-use Rattle.sp_tree.specs.PlainSyntax.{Select, Index, AndArgument, Pass}
 use Rattle.sp_tree.specs.SyntaxOf.{expression_of}
-use Rattle.sp_grammar.specs.Symbols.{AnExpression, ASimple, MoreTerms, MoreFactors, AFactor, Selectors, MoreIndices, MoreArguments, AWidth}
+use Rattle.sp_grammar.specs.Symbols.{ASimple, MoreTerms, MoreFactors, AFactor, Selectors}
 use Rattle.sp_parse.specs.Reads.{SoFar}
-use Rattle.sp_parse.specs.Trees.{and_selectors, and_arguments}
+use Rattle.sp_parse.specs.Trees.{and_selectors}
+use Rattle.sp_parse.proofs.ReadFactors.{IndicesPending, ArgumentsPending}
 use Rattle.sp_parse.proofs.expressions.+expression.Given as goal
 
 abbrev pub decreases-arguments : goal.decreases-arguments
@@ -58,13 +58,13 @@ abbrev pub decreases-selectors-more : goal.decreases-selectors-more
 decreases-selectors-more l = length l.rest
 
 abbrev pub invariant-indices-more : goal.invariant-indices-more
-invariant-indices-more l = SoFar l.source (AnExpression l.depth ∷ MoreIndices l.depth ∷ []) (λ vs. and_selectors l.fn.before (Select (Index vs.0) vs.1.0)) (MoreIndices l.depth) (and_selectors l.all) l.tokens l.rest
+invariant-indices-more l = IndicesPending l.source l.depth l.fn.before l.all l.tokens l.rest
 
 abbrev pub decreases-indices-more : goal.decreases-indices-more
 decreases-indices-more l = length l.rest
 
 abbrev pub invariant-arguments-more : goal.invariant-arguments-more
-invariant-arguments-more l = SoFar l.source (AnExpression l.depth ∷ AWidth l.depth ∷ MoreArguments l.depth ∷ []) (λ vs. AndArgument (Pass vs.0 vs.1.0) vs.1.1.0) (MoreArguments l.depth) (and_arguments l.all) l.tokens l.rest
+invariant-arguments-more l = ArgumentsPending l.source l.depth l.all l.tokens l.rest
 
 abbrev pub decreases-arguments-more : goal.decreases-arguments-more
 decreases-arguments-more l = length l.rest

@@ -1,9 +1,9 @@
 use Rattle.std.proofs.Common.{length}
-use Rattle.sp_parse.proofs.ReadNames.{NamesSoFar}
+use Rattle.sp_parse.proofs.ReadNames.{NamesPending}
 use Rattle.sp_parse.proofs.names.names.Given as goal
 
 abbrev pub invariant-more : goal.invariant-more
-invariant-more l = NamesSoFar l.source l.all l.tokens l.rest
+invariant-more l = NamesPending l.source l.all l.tokens l.rest
 
 abbrev pub decreases-more : goal.decreases-more
 decreases-more l = length l.rest
