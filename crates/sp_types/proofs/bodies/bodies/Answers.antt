@@ -1,6 +1,38 @@
-use Rattle.std.proofs.Common.{arith}
+use Rattle.std.proofs.Common.{◌≡◌, ◌∙◌, ap, sym, ◌<◌, ◌+◌, ℕ, List, [], ◌∷◌, ◌++◌, map, drop, get_or}
+use Rattle.std.proofs.Common.{length, append_assoc, arith}
 use Rattle.std.proofs.lemmas.Grind.{common_steps}
+use Rattle.sp_base.specs.declared.place.Place.{Place}
+use Rattle.sp_tree.specs.declared.named.NamedBlock.{NamedBlock}
+use Rattle.sp_tree.specs.declared.named.NamedStmt as stmt
+use Rattle.sp_tree.specs.NamedOf.{block_of, statement_of}
+use Rattle.sp_types.specs.TypeWalk.{bodies, statement_counted, statement_place}
+use Rattle.sp_types.proofs.Declared.{ok, same, drop_head}
 use Rattle.sp_types.proofs.bodies.bodies.Goals as goal
+
+place_is : (s : stmt.NamedStmt) → statement_place (statement_of s) ≡ s.at
+place_is s = search stmt.the_lemmas
+
+-- one block more
+bodies_step :
+    (blocks : List NamedBlock) (i : ℕ) (b : NamedBlock) (out more all : List (Place × ℕ)) (n : ℕ) →
+    b ≡ get_or blocks i b → i < length blocks → out ++ bodies (map block_of (drop i blocks)) ≡ all →
+    ok (statement_counted 0 (statement_of b.body)) ≡ ok n → more ≡ out ++ (b.body.at, n) ∷ [] →
+    more ++ bodies (map block_of (drop (i + 1) blocks)) ≡ all
+bodies_step blocks i b out more all n b_is lt invariant n_is more_is =
+    let rest : List (Place × ℕ) = bodies (map block_of (drop (i + 1) blocks)) in
+    ap (λ (m : List (Place × ℕ)). m ++ rest) more_is ∙
+    append_assoc out ((b.body.at, n) ∷ []) rest ∙
+    ap (λ (at : Place). out ++ (at, n) ∷ rest) (sym (place_is b.body)) ∙
+    ap (λ (k : ℕ). out ++ (statement_place (statement_of b.body), k) ∷ rest)
+    (same (statement_counted 0 (statement_of b.body)) n n_is) ∙
+    ap (λ (x : NamedBlock). out ++ bodies (map block_of (x ∷ drop (i + 1) blocks))) b_is ∙
+    ap (λ (xs : List NamedBlock). out ++ bodies (map block_of xs)) (sym (drop_head blocks i b lt)) ∙
+    invariant
 
 pub returns : goal.returns
 returns c = grind (arith, common_steps)
+
+pub loop-b-preserved : goal.loop-b-preserved
+loop-b-preserved c =
+    bodies_step c.args.blocks.now c.loop-b.b-index c.b-item.result c.loop-b.out.items _ _ c.in_ok-n.n c.b-item.is
+    c.loop-b-test.true c.loop-b.invariant c.in_ok-n.ensures c.in_ok-push.ensures.items
