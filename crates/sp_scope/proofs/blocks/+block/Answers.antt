@@ -1,4 +1,5 @@
-use Rattle.std.proofs.Common.{rules}
+use Rattle.std.proofs.Common.{arith, rules}
+use Rattle.std.proofs.lemmas.Grind.{common_steps}
 use Rattle.sp_tree.specs.NamedOf as named
 use Rattle.sp_tree.specs.SyntaxOf.{block_of}
 use Rattle.sp_tree.specs.declared.syntax.SynPart.TheFolds.{the_lemmas}
@@ -7,6 +8,7 @@ use Rattle.sp_tree.specs.PlainSyntax as p
 use Rattle.sp_tree.specs.Scopes.{inside}
 use Rattle.sp_tree.specs.NameWalk.{title_local}
 use Rattle.sp_scope.specs.Walks.{seen_block}
+use Rattle.sp_scope.proofs.Tables.{beside_beside, beside_nothing}
 use Rattle.sp_scope.proofs.Found.{titled_found, part_found, block_found}
 use Rattle.sp_scope.proofs.blocks.+block.Goals as goal
 
@@ -25,3 +27,6 @@ name_titled-returns-clause-found t c =
     _ (inside c.args.scopes.now.around (title_local c.args.scopes.now.local c.args.x.now c.args.fs.now c.args.answer.now))
     (seen_block c.in_ok-inner.inner.tree) c.in_ok-inner.inner.first (named.program_of c.in_ok-tree.tree)
     c.in_ok-declare_title.ensures.after c.in_ok-inner.ensures.found c.in_ok-tree.ensures
+
+pub name_parts-loop-p-preserved : goal.name_parts-loop-p-preserved
+name_parts-loop-p-preserved t c = grind (arith, common_steps, beside_beside, beside_nothing)

@@ -4,3 +4,6 @@ use Rattle.sp_scope.proofs.headings.all_flags.Goals as goal
 
 pub loop-f-preserved : goal.loop-f-preserved
 loop-f-preserved c = grind (arith, common_steps)
+
+pub returns-in_err-push_flags : goal.returns-in_err-push_flags
+returns-in_err-push_flags c = grind (arith, common_steps)
