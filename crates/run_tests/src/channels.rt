@@ -31,12 +31,16 @@ fn two_sends_run(alloc: Global, names: &[u32]) -> Result<Meant, Memory> {
 }
 
 #[test]
-fn the_first_or_the_second_send_comes_first(rt: HostRuntime) -> Result<(), Fail> {
-    for (first, second, output) in [(1, 2, b"12"), (2, 1, b"21")] {
-        let names = [0, 0, 3, first, second, 3, 1, 2, 3, 0, 0, 0];
-        let all = two_sends_run(rt.alloc(), &names)?;
-        assert!(rt; is_done(&all, 12, output.as_slice()));
-    }
+fn the_first_send_comes_first(rt: HostRuntime) -> Result<(), Fail> {
+    let one = two_sends_run(rt.alloc(), &[0, 0, 3, 1, 2, 3, 1, 2, 3, 0, 0, 0])?;
+    assert!(rt; is_done(&one, 12, b"12"));
+    Ok(())
+}
+
+#[test]
+fn the_second_send_comes_first(rt: HostRuntime) -> Result<(), Fail> {
+    let other = two_sends_run(rt.alloc(), &[0, 0, 3, 2, 1, 3, 1, 2, 3, 0, 0, 0])?;
+    assert!(rt; is_done(&other, 12, b"21"));
     Ok(())
 }
 
