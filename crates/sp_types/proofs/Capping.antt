@@ -1,5 +1,5 @@
 -- What is lost where cells are counted up to just above the limit is never asked for.
-use Rattle.std.proofs.Common.{◌≡◌, refl, ap, sym as back_of, ◌∙◌, ℕ, zero, suc, ◌+◌, ◌*◌, ◌≤◌, ◌<◌, List, [], ◌∷◌, ◌++◌, map, Option, Some, None, inl, inr, arith}
+use Rattle.std.proofs.Common.{◌≡◌, refl, ap, sym as back_of, ◌∙◌, ℕ, zero, suc, ◌+◌, ◌*◌, ◌≤◌, List, [], ◌∷◌, ◌++◌, map, Option, Some, None, inl, inr, arith}
 use Rattle.std.specs.Prelude.{option_map, min, sum, slice_get, nat_lt, nat_eq, if◌then◌else◌, Bool, true, false}
 use Rattle.std.proofs.Math.Nat.{mul-le-mul_right, mul_comm, le_of_lt}
 use Rattle.std.proofs.lemmas.Option.{slice_get-map}

@@ -8,9 +8,8 @@ use Rattle.sp_types.specs.CheckedTree.{checked_variables}
 use Rattle.sp_base.specs.declared.place.Place.{Place}
 use Rattle.sp_tree.specs.declared.named.NamedConstant.{NamedConstant}
 use Rattle.sp_tree.specs.declared.named.NamedConstant.TheVariants as constant
-use Rattle.sp_tree.specs.Found.{Found, lesser}
+use Rattle.sp_tree.specs.Found.{Found}
 use Rattle.sp_types.specs.declared.tables.Ordinal.{Ordinal}
-use Rattle.sp_types.specs.TypeRules.{cells_rule}
 use Rattle.sp_types.specs.DeclarationFirsts.{constants_first, cells_first}
 
 -- what a call that did not fail gives

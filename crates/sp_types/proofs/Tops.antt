@@ -1,5 +1,5 @@
 -- The phase of types from its parts.
-use Rattle.std.proofs.Common.{◌≡◌, refl, ap, ◌∙◌, ℕ, ◌+◌, List, [], ◌∷◌, map, Option, None, Result, Ok, sym as back_of}
+use Rattle.std.proofs.Common.{◌≡◌, refl, ap, ◌∙◌, ℕ, ◌+◌, List, [], ◌∷◌, map, Option, None, Result}
 use Rattle.sp_base.specs.declared.place.Place.{Place}
 use Rattle.sp_base.specs.declared.halt.Refusal.{Refusal}
 use Rattle.sp_tree.specs.declared.checked.KindOf.{KindOf}
@@ -10,8 +10,7 @@ use Rattle.sp_tree.specs.PlainNamed as n
 use Rattle.sp_types.specs.declared.tables.Ordinal.{Ordinal}
 use Rattle.sp_tree.specs.PlainChecked as c
 use Rattle.sp_types.specs.Capped.{capped, capped_sizes}
-use Rattle.sp_types.specs.Tables.{Env, numbers_from, constants_from, kinds_from, numbers_of, constants_of, env_of}
-use Rattle.sp_types.specs.TypeRules.{frame_rule, frame_cells}
+use Rattle.sp_types.specs.Tables.{Env, numbers_from, constants_from, kinds_from}
 use Rattle.sp_types.specs.TypeWalk.{places_of, started, starts_of, statement_after}
 use Rattle.sp_types.specs.TypeFirst.{typed}
 use Rattle.sp_types.specs.Firsts.{statement_first}

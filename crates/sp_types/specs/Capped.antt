@@ -1,6 +1,6 @@
 -- Cells counted up to just above the limit: of a larger count no more is known than that it is larger. The contracts
 -- of `sizes` cite it, since a sum of sizes may pass every machine number.
-use Rattle.std.specs.Prelude.{ℕ, ◌+◌, min, List, [], ◌∷◌}
+use Rattle.std.specs.Prelude.{ℕ, ◌+◌, min, List, []}
 use Rattle.sp_tree.specs.declared.checked.KindOf.{KindOf}
 use Rattle.sp_tree.specs.Cells.{size_by, table}
 use Rattle.sp_types.specs.TypeRules.{most_cells}

@@ -2,7 +2,6 @@
 -- that needs its type is not broken. The walk asks them at each node, and the functions of `rules` promise them.
 use Rattle.std.specs.Prelude.{ℕ, ◌+◌, nat_eq, nat_lt, int_le, not, Bool, true, false, ◌&&◌, ◌||◌, if◌then◌else◌, List, [], ◌∷◌, length, slice_get, Option, Some, None}
 use Rattle.std.specs.List.{list_any}
-use Rattle.std.specs.Str.{bytes_eq}
 use Rattle.sp_base.specs.declared.place.Place.{Place}
 use Rattle.sp_base.specs.declared.rule.Rule.{Rule}
 use Rattle.sp_base.specs.declared.rule.Rule.TheVariants as rule

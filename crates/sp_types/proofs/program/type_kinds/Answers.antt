@@ -1,21 +1,16 @@
-use Rattle.std.proofs.Common.{◌≡◌, ℕ, [], List, None, Option, map, subst}
+use Rattle.std.proofs.Common.{◌≡◌, ℕ, List, map, subst}
 use Rattle.std.specs.Prelude.{Result}
 use Rattle.sp_base.specs.declared.halt.Refusal.{Refusal}
 use Rattle.sp_tree.specs.declared.checked.KindOf.{KindOf}
 use Rattle.sp_tree.specs.declared.checked.Variable as variable
 use Rattle.sp_tree.specs.declared.named.NamedBlock.{NamedBlock}
-use Rattle.sp_tree.specs.declared.named.NamedKind.{NamedKind}
-use Rattle.sp_tree.specs.declared.named.NamedConstant.{NamedConstant}
 use Rattle.sp_tree.specs.Found.{AnswersAs}
 use Rattle.sp_tree.specs.NamedOf as plain
-use Rattle.sp_types.specs.declared.tables.Ordinal.{Ordinal}
 use Rattle.sp_types.specs.Capped.{capped_sizes}
 use Rattle.sp_tree.specs.CheckedOf as checked
-use Rattle.sp_types.specs.DeclarationFirsts.{cells_first, constants_first, kinds_first}
-use Rattle.sp_types.specs.Entered.{tabled, typed_blocks, typed_kinds}
+use Rattle.sp_types.specs.DeclarationFirsts.{cells_first}
+use Rattle.sp_types.specs.Entered.{tabled, typed_blocks}
 use Rattle.sp_tree.specs.PlainChecked as k
-use Rattle.sp_types.specs.Tables.{numbers_from, constants_from, kinds_from}
-use Rattle.sp_types.specs.TypeWalk.{places_of}
 use Rattle.sp_types.proofs.Declared.{ok}
 use Rattle.sp_types.proofs.Tops.{kinds_typed}
 use Rattle.sp_types.proofs.program.type_kinds.Goals as goal
