@@ -7,7 +7,7 @@ use Rattle.sp_code.specs.PlainStore.{plain}
 use Rattle.sp_code.specs.Sound.{IsSound, AreLimits}
 use Rattle.sp_code.specs.Control.{Ready, Unborn, control_at_start}
 use Rattle.sp_code.specs.System.{Working, opening}
-use Rattle.sp_machine.specs.Procs.{start_of, HaveFormals}
+use Rattle.sp_machine.specs.Procs.{start_of}
 use Rattle.sp_machine.specs.declared.state.State.{State as Proc}
 use Rattle.sp_history.specs.Agreement.{IsOrderly, Agrees}
 use Rattle.sp_history.proofs.Agreeing.{agrees_start, orderly_start}
@@ -100,8 +100,8 @@ module _ (x : Kernel) (p : Proc) (f : IsFresh x p) (config : config_of p ≡ sta
       each zero = refl
       each (suc q) = refl
 
-  pub opened : AreLimits x.limits → IsSound x.code.value → HaveFormals x.code.value.layouts → IsOpening x
-  opened limits sound formals = record {
+  pub opened : AreLimits x.limits → IsSound x.code.value → IsOpening x
+  opened limits sound = record {
     whole = whole;
     control = control;
     system = system;
@@ -110,5 +110,4 @@ module _ (x : Kernel) (p : Proc) (f : IsFresh x p) (config : config_of p ≡ sta
     journal = f.journal;
     limits = limits;
     sound = sound;
-    formals = formals;
   }

@@ -1,5 +1,5 @@
 -- What stands once a run is over.
-use Rattle.std.proofs.Common.{◌≡◌, ◌≢◌, ◌⊎◌, ◌-◌, length, ℕ, ◌<◌, ◌==◌, if◌then◌else◌, cond, Bool, true, false, inl, inr, List, [], ◌∷◌, Option, Some, None, sym, ◌∙◌, subst, arith}
+use Rattle.std.proofs.Common.{◌≡◌, ◌≢◌, ◌⊎◌, ◌-◌, length, ℕ, ◌<◌, ◌==◌, if◌then◌else◌, cond, Bool, true, false, inl, inr, List, [], ◌∷◌, Option, Some, None, refl, sym, ◌∙◌, subst, arith}
 use Rattle.sp_journal.specs.declared.entry.Way.{Way}
 use Rattle.sp_journal.specs.declared.entry.Way.TheVariants as way
 use Rattle.sp_journal.specs.declared.entry.Event.{Event}
@@ -23,62 +23,95 @@ use Rattle.sp_history.proofs.Outs.{outs_start, outs_all}
 use Rattle.sp_kernel.specs.Keeping.{from_start, control_is}
 use Rattle.sp_kernel.proofs.Serving.{back_abandons}
 
+-- ---- where no event puts a process, one was before the event
+
+-- no event puts a process where these are
+pub record IsByNoEvent (P : Doing → Type 0) : Type 0 where
+  pub ready : P Ready → ⊥
+  pub sending : (c : ℕ) → P (Sending c) → ⊥
+  pub receiving : (c : ℕ) → P (Receiving c) → ⊥
+  pub joining : (n : ℕ) → P (Joining n) → ⊥
+  pub laid : P Laid → ⊥
+  pub ended : P Ended → ⊥
+
+module _ (P : Doing → Type 0) where
+  at_kept : (f : ℕ → Doing) (z q : ℕ) (d : Doing) → (P d → ⊥) → P (at_key ◌==◌ z d f q) → (at_key ◌==◌ z d f q ≡ f q) × (q ≢ z)
+  at_kept f z q d n o = go (number_or z q)
+    where
+      go : (z ≡ q) ⊎ ((z ≢ q) × (z == q ≡ false)) → (at_key ◌==◌ z d f q ≡ f q) × (q ≢ z)
+      go (inl is) = absurd (n (subst P (subst (λ y. at_key ◌==◌ z d f y ≡ d) is (at_same f z d)) o))
+      go (inr m) = (at_other f z q d m.0, λ e. m.0 (sym e))
+
+  module _ (none : IsByNoEvent P) where
+    fewer_kept : (x : ℕ) (d : Doing) (m : Control) (q : ℕ) → P ((one_fewer x d m).doing q) → (one_fewer x d m).doing q ≡ m.doing q
+    fewer_kept x (Joining n) m q o = go (n == 1) o
+      where
+        go : (b : Bool) → P ((if b then queues x m else does x (Joining (n - 1)) m).doing q) → (if b then queues x m else does x (Joining (n - 1)) m).doing q ≡ m.doing q
+        go true o = (at_kept m.doing x q Ready none.ready o).0
+        go false o = (at_kept m.doing x q (Joining (n - 1)) (none.joining (n - 1)) o).0
+    fewer_kept x Unborn m q o = refl
+    fewer_kept x Ready m q o = refl
+    fewer_kept x (Out w) m q o = refl
+    fewer_kept x (Sending c) m q o = refl
+    fewer_kept x (Receiving c) m q o = refl
+    fewer_kept x Laid m q o = refl
+    fewer_kept x Ended m q o = refl
+    fewer_kept x Gone m q o = refl
+
+    module _ (k : Control) (p : ℕ) where
+      offers_kept : (w : Way) (d : Doing) (c : ℕ) (x : Option (Way × ℕ)) (q : ℕ) → (P d → ⊥) → P ((offers w d p c x k).doing q) → ((offers w d p c x k).doing q ≡ k.doing q) × (q ≢ p)
+      offers_kept w d c None q n o = at_kept k.doing p q d n o
+      offers_kept w d c (Some z) q n o =
+          let a = at_kept (at_key ◌==◌ z.1 Ready k.doing) p q Ready none.ready o in
+          let b = at_kept k.doing z.1 q Ready none.ready (subst P a.0 o) in
+          (a.0 ∙ b.0, a.1)
+
+      -- after an event of p it is another one, which was there before
+      pub back_kept : (e : Event) (q : ℕ) → P ((comes_back p e k).doing q) → ((comes_back p e k).doing q ≡ k.doing q) × (q ≢ p)
+      back_kept (event.Fork n) q o = go (is_next k.births n q) o
+        where
+          go : (b : Bool) → P (cond b Ready (cond (p == q) (Joining n) (k.doing q))) → (cond b Ready (cond (p == q) (Joining n) (k.doing q)) ≡ k.doing q) × (q ≢ p)
+          go true o = absurd (none.ready o)
+          go false o = at_kept k.doing p q (Joining n) (none.joining n) o
+      back_kept event.Open q o = at_kept k.doing p q Ready none.ready o
+      back_kept (event.Send c) q o = offers_kept way.Send (Sending c) c (k.pending c) q (none.sending c) o
+      back_kept (event.Receive c) q o = offers_kept way.Receive (Receiving c) c (k.pending c) q (none.receiving c) o
+      back_kept event.End q o = go (k.births.birth p) o
+        where
+          go : (x : Option Birth) → P ((reports x (does p Ended k)).doing q) → ((reports x (does p Ended k)).doing q ≡ k.doing q) × (q ≢ p)
+          go None o = at_kept k.doing p q Ended none.ended o
+          go (Some b) o =
+              let a = fewer_kept b.parent ((does p Ended k).doing b.parent) (does p Ended k) q o in
+              let c = at_kept k.doing p q Ended none.ended (subst P a o) in
+              (a ∙ c.0, c.1)
+      back_kept (event.Fault f) q o = at_kept k.doing p q Laid none.laid o
+      back_kept event.Laid q o = at_kept k.doing p q Laid none.laid o
+      back_kept event.Pause q o = at_kept k.doing p q Ready none.ready o
+
 -- ---- a process is gone only where a worker gave up
 
-at_gone : (f : ℕ → Doing) (z q : ℕ) (d : Doing) → d ≢ Gone → at_key ◌==◌ z d f q ≡ Gone → f q ≡ Gone
-at_gone f z q d n o = go (number_or z q)
-  where
-    go : (z ≡ q) ⊎ ((z ≢ q) × (z == q ≡ false)) → f q ≡ Gone
-    go (inl is) = absurd (n (sym (subst (λ y. at_key ◌==◌ z d f y ≡ d) is (at_same f z d)) ∙ o))
-    go (inr m) = sym (at_other f z q d m.0) ∙ o
+abbrev IsGone : Doing → Type 0
+IsGone d = d ≡ Gone
 
-fewer_gone : (x : ℕ) (d : Doing) (m : Control) (q : ℕ) → (one_fewer x d m).doing q ≡ Gone → m.doing q ≡ Gone
-fewer_gone x (Joining n) m q o = go (n == 1) o
-  where
-    go : (b : Bool) → (if b then queues x m else does x (Joining (n - 1)) m).doing q ≡ Gone → m.doing q ≡ Gone
-    go true o = at_gone m.doing x q Ready (λ e. absurd (cc e)) o
-    go false o = at_gone m.doing x q (Joining (n - 1)) (λ e. absurd (cc e)) o
-fewer_gone x Unborn m q o = o
-fewer_gone x Ready m q o = o
-fewer_gone x (Out w) m q o = o
-fewer_gone x (Sending c) m q o = o
-fewer_gone x (Receiving c) m q o = o
-fewer_gone x Laid m q o = o
-fewer_gone x Ended m q o = o
-fewer_gone x Gone m q o = o
-
-module _ (k : Control) (p : ℕ) where
-  offers_gone : (w : Way) (d : Doing) (c : ℕ) (x : Option (Way × ℕ)) (q : ℕ) → d ≢ Gone → (offers w d p c x k).doing q ≡ Gone → k.doing q ≡ Gone
-  offers_gone w d c None q n o = at_gone k.doing p q d n o
-  offers_gone w d c (Some z) q n o = at_gone k.doing z.1 q Ready (λ e. absurd (cc e)) (at_gone (at_key ◌==◌ z.1 Ready k.doing) p q Ready (λ e. absurd (cc e)) o)
-
-  back_gone : (e : Event) (q : ℕ) → (comes_back p e k).doing q ≡ Gone → k.doing q ≡ Gone
-  back_gone (event.Fork n) q o = go (is_next k.births n q) o
-    where
-      go : (b : Bool) → cond b Ready (cond (p == q) (Joining n) (k.doing q)) ≡ Gone → k.doing q ≡ Gone
-      go true o = absurd (cc o)
-      go false o = at_gone k.doing p q (Joining n) (λ e. absurd (cc e)) o
-  back_gone event.Open q o = at_gone k.doing p q Ready (λ e. absurd (cc e)) o
-  back_gone (event.Send c) q o = offers_gone way.Send (Sending c) c (k.pending c) q (λ e. absurd (cc e)) o
-  back_gone (event.Receive c) q o = offers_gone way.Receive (Receiving c) c (k.pending c) q (λ e. absurd (cc e)) o
-  back_gone event.End q o = go (k.births.birth p) o
-    where
-      go : (x : Option Birth) → (reports x (does p Ended k)).doing q ≡ Gone → k.doing q ≡ Gone
-      go None o = at_gone k.doing p q Ended (λ e. absurd (cc e)) o
-      go (Some b) o = at_gone k.doing p q Ended (λ e. absurd (cc e)) (fewer_gone b.parent ((does p Ended k).doing b.parent) (does p Ended k) q o)
-  back_gone (event.Fault f) q o = at_gone k.doing p q Laid (λ e. absurd (cc e)) o
-  back_gone event.Laid q o = at_gone k.doing p q Laid (λ e. absurd (cc e)) o
-  back_gone event.Pause q o = at_gone k.doing p q Ready (λ e. absurd (cc e)) o
+gone_by_none : IsByNoEvent IsGone
+gone_by_none = record {
+  ready = λ (e : Ready ≡ Gone). absurd (cc e);
+  sending = λ (c : ℕ) (e : Sending c ≡ Gone). absurd (cc e);
+  receiving = λ (c : ℕ) (e : Receiving c ≡ Gone). absurd (cc e);
+  joining = λ (n : ℕ) (e : Joining n ≡ Gone). absurd (cc e);
+  laid = λ (e : Laid ≡ Gone). absurd (cc e);
+  ended = λ (e : Ended ≡ Gone). absurd (cc e);
+}
 
 abbrev NoneGone : Control → Type 0
 NoneGone k = (q : ℕ) → k.doing q ≡ Gone → 0 < k.abandons
 
 gone_takes : (w : ℕ) (got : Option ℕ) (k : Control) → NoneGone k → NoneGone (takes w got k)
 gone_takes w None k h q o = h q o
-gone_takes w (Some p) k h q o = h q (at_gone k.doing p q (Out w) (λ e. absurd (cc e)) o)
+gone_takes w (Some p) k h q o = h q (sym (at_kept IsGone k.doing p q (Out w) (λ (e : Out w ≡ Gone). absurd (cc e)) o).0 ∙ o)
 
 gone_given : (p : Option ℕ) (e : Option Event) (got : Option ℕ) (k : Control) → NoneGone k → NoneGone (given p e got k)
-gone_given (Some p) (Some e) got k h q o = let a = h q (back_gone k p e q o) in let b : (comes_back p e k).abandons ≡ k.abandons = back_abandons p e k in omega (arith, a, b)
+gone_given (Some p) (Some e) got k h q o = let a = h q (sym (back_kept IsGone gone_by_none k p e q o).0 ∙ o) in let b : (comes_back p e k).abandons ≡ k.abandons = back_abandons p e k in omega (arith, a, b)
 gone_given None (Some e) got k h q o = h q o
 gone_given None None None k h q o = omega arith
 gone_given (Some p) None None k h q o = omega arith

@@ -44,9 +44,9 @@ Any c = Unit {0}
 abbrev Every : Memory Plain → Type 0
 Every n = Unit {0}
 
--- one cell fits there
-abbrev Takes : Address → Memory Plain → Type 0
-Takes a n = (c : Cell) → CanPut n.store a (c ∷ [])
+-- so many cells fit there
+abbrev Takes : ℕ → Address → Memory Plain → Type 0
+Takes k a n = (cs : List Cell) → length cs ≡ k → CanPut n.store a cs
 
 any_cell : (c : Cell) → CellHas Any c
 any_cell cell.Undefined = tt
@@ -77,14 +77,14 @@ enough None k n e = absurd (cc e)
 enough (Some cs) k n e = (cs, refl, leb-true (k + n) (length cs) e)
 
 module _ (g : Setting) where
-  takes : (a : Address) (n : Memory Plain) → (memory plain g).has a 1 n ≡ true → Takes a ((memory plain g).own a n)
-  takes a n e c =
-      let w = enough (plain.piece n.store a.spot) a.offset 1 e in
+  takes : (a : Address) (k : ℕ) (n : Memory Plain) → (memory plain g).has a k n ≡ true → Takes k a ((memory plain g).own a n)
+  takes a k n e es many =
+      let w = enough (plain.piece n.store a.spot) a.offset k e in
       let here = get_here n.store.map a.spot (Own (cells_at plain n.store a.spot)) in
       let is : cells_at plain n.store a.spot ≡ w.0 = ap Rattle.sp_code.specs.Memory.cells_in w.1 in
       record {
         own = subst IsOwnPiece (sym here) tt;
-        in_range = (subst Rattle.sp_cell.specs.Map.IsPiece (sym here) tt, subst (λ o. a.offset + 1 ≤ length (cells_of o)) (sym here) (subst (λ cs. a.offset + 1 ≤ length cs) (sym is) w.2));
+        in_range = (subst Rattle.sp_cell.specs.Map.IsPiece (sym here) tt, subst (λ o. a.offset + length es ≤ length (cells_of o)) (sym here) (subst (λ cs. a.offset + length es ≤ length cs) (sym is) (subst (λ j. a.offset + j ≤ length w.0) (sym many) w.2)));
       }
 
   keeping : HasKeeping (memory plain g) Any Every Takes
@@ -95,8 +95,8 @@ module _ (g : Setting) where
     read = λ a v k bs n i w x. tt;
     advance = λ k bs n i x. tt;
     copy = λ to from k n i w. tt;
-    own = λ a n i w. tt;
-    target = λ a n i w. takes a n w;
+    own = λ a k n i w. tt;
+    target = λ a k n i w. takes a k n w;
     print = λ t n o i w d. tt;
     beat = λ n o i d. tt;
     open_frame = λ l up es n o i e d. tt;
@@ -105,7 +105,7 @@ module _ (g : Setting) where
 
   -- a turn that ends at an open
   pub open_takes : (code : Parts) (c : m.Config (Memory Plain)) (p : Proc) → IsTurn (memory plain g) code c (Stopped (m.Opens p.target) (config_of p)) → (d : Cell) → CanPut p.store p.target (d ∷ [])
-  open_takes code c p turn = (turn_does (memory plain g) code Any Every Takes keeping c (Stopped (m.Opens p.target) (config_of p)) (any_config c) turn).0.1
+  open_takes code c p turn d = (turn_does (memory plain g) code Any Every Takes keeping c (Stopped (m.Opens p.target) (config_of p)) (any_config c) turn).0.1 (d ∷ []) refl
 
 -- ---- no fault, or which
 

@@ -47,7 +47,7 @@ noted_take x w y p t = record {
   abandons = let e : y.abandons ≡ x.abandons = ap (λ (c : Control). c.abandons) t.control in omega (arith, e);
   answer = (refl, ap (λ (s : System Plain). s.condition p.number) t.system ∙ (t.work p refl).0, (t.work p refl).1 ∙ ap (λ (g : Setting). g.input) (sym (same_setting x y t.setting)));
   journal = ap (λ (j : _). j.entries) t.journal ∙ sym (append-nil x.journal.entries);
-  gives_up = tt {0};
+  gives_up = (refl, refl);
   given = refl;
 }
 
@@ -115,7 +115,7 @@ noted_turn x w h m y r g e fits gave t is answer =
       abandons = let a : y.abandons ≡ x.abandons = ap (λ (c : Control). c.abandons) now ∙ taken_abandons w (option_map (λ (p : Proc). p.number) r) (comes_back h.proc.number e k) ∙ back_abandons h.proc.number e k in omega (arith, a);
       answer = answer;
       journal = ap (λ (j : _). j.entries) t.journal ∙ gave.entry ∙ ap (λ f. x.journal.entries ++ record { process = h.proc.number; event = f } ∷ []) (sym is);
-      gives_up = tt {0};
+      gives_up = refl;
       given = refl;
     }
 

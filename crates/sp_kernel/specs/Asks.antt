@@ -1,6 +1,6 @@
 -- What the kernel may be asked, and what comes of it: the contract of the kernel as an object that a room keeps. Each
 -- ask is one step, so that the room needs to know no more than these relations.
-use Rattle.std.specs.Prelude.{◌≡◌, ◌≢◌, ◌⊎◌, ℕ, ◌+◌, ◌<◌, ◌≤◌, List, [], ◌++◌, Option, Some, None, Bool, true, false}
+use Rattle.std.specs.Prelude.{◌≡◌, ◌≢◌, ◌⊎◌, ℕ, ◌+◌, ◌<◌, ◌≤◌, List, [], ◌++◌, Option, Some, None, IsSome, Bool, true, false}
 use Rattle.std.specs.Option.{option_map}
 use Rattle.sp_cell.specs.Map.{Plain}
 use Rattle.sp_journal.specs.declared.entry.Note.{Note}
@@ -21,7 +21,7 @@ use Rattle.sp_kernel.specs.declared.ask.Got.{Got}
 use Rattle.sp_kernel.specs.declared.ask.Got.TheVariants as got
 use Rattle.sp_kernel.specs.Procs.{config_of, turn_of}
 use Rattle.sp_kernel.specs.Kernels.{control_of, system_of, setting_of, IsKernel}
-use Rattle.sp_machine.specs.Procs.{KeepsFork, HaveFormals}
+use Rattle.sp_machine.specs.Procs.{KeepsFork}
 use Rattle.sp_kernel.specs.Fits.{Fits, IsWhole}
 use Rattle.sp_history.specs.Agreement.{Follows, Reaches}
 
@@ -35,7 +35,6 @@ pub record IsOpening (x : Kernel) : Type 0 where
   pub journal : x.journal.entries ≡ []
   pub limits : AreLimits x.limits
   pub sound : IsSound x.code.value
-  pub formals : HaveFormals x.code.value.layouts
 
 -- what is handed in fits
 abbrev pub FitsAsk : Kernel → ℕ → Ask → Type 0
@@ -61,9 +60,10 @@ Answers y got.Finished None = (standing (control_of y) ≢ Running) × (y.out �
 Answers y got.Finished (Some q) = ⊥
 Answers y (got.Refused h) o = ⊥
 
--- the note of an abandon has neither event nor process got
+-- the note of an abandon has neither event nor process got, and no other note is so
 abbrev pub GivesUp : Ask → Note → Type 0
-GivesUp (ask.Turn h) n = Unit {0}
+GivesUp (ask.Turn None) n = (n.event ≡ None) × IsSome n.got
+GivesUp (ask.Turn (Some h)) n = IsSome n.event
 GivesUp (ask.Abandon p) n = (n.event ≡ None) × (n.got ≡ None)
 
 -- the process that an ask hands in or gives up

@@ -15,7 +15,8 @@ use Rattle.sp_kernel.specs.declared.handed.Handed.{Handed}
 use Rattle.sp_machine.specs.declared.state.Stop.{Stop}
 use Rattle.sp_machine.specs.declared.state.Stop.TheVariants as stop
 use Rattle.sp_kernel.specs.declared.kernel.Kernel.{Kernel}
-use Rattle.sp_machine.specs.Procs.{KeepsFork, HaveFormals}
+use Rattle.sp_code.specs.Formals.{HaveFormals}
+use Rattle.sp_machine.specs.Procs.{KeepsFork}
 use Rattle.sp_kernel.specs.Procs.{turn_of}
 use Rattle.sp_kernel.specs.Kernels.{control_of, system_of, setting_of}
 

@@ -206,7 +206,7 @@ module _ (x : Kernel) (fine : IsOpening x) (log : List Note) (y : Kernel) (told 
       fork = m.fork;
       input = m.input ∙ ap (λ (g : Setting). g.input) (sym it.setting);
       parent = parent_waits h.proc.number m.holds;
-      code = subst (λ (g : Setting). FitsCode g.code) (sym it.setting) (record { blocks = fine.sound.blocks; formals = fine.formals });
+      code = subst (λ (g : Setting). FitsCode g.code) (sym it.setting) (record { blocks = fine.sound.blocks; formals = fine.sound.formals });
     }
 
     pub later : (a : Ask) → StandsFor (setting_of x) seen w a → StandsFor (setting_of x) log w a × FitsAsk y w a

@@ -6,7 +6,7 @@ ghost use Rattle.sp_kernel.specs.declared.slot.Slot.TheVariants as slot;
 ghost use Rattle.sp_kernel.specs.declared.slot.State.TheVariants as st;
 ghost use Rattle.sp_code.specs.Control.{has_ended, Out};
 ghost use Rattle.sp_code.specs.Sound.{IsSound, AreLimits, run_of};
-ghost use Rattle.sp_machine.specs.Procs.{config_of, start_of, HaveFormals};
+ghost use Rattle.sp_machine.specs.Procs.{config_of, start_of};
 ghost use Rattle.sp_kernel.specs.Kernels.{entered, back, paused, goes_out, lost, doing_in, condition_in, IsReady, IsKernel, Gave, Takes, is_over, control_of, system_of, setting_of, stands_as, Abandons};
 ghost use Rattle.sp_kernel.specs.Fits.{Fits};
 ghost use Rattle.sp_kernel.specs.Asks.{IsOpening};
@@ -66,7 +66,6 @@ impl Kernel {
     pub fn new(alloc: Global, root: Proc, code: Arc<Code>, limits: Limits) -> Result<Kernel, Memory>
         requires root { (config_of root ≡ start_of code.value root.input.value) × (root.number ≡ 0) }
         requires sound { IsSound code.value }
-        requires formals { HaveFormals code.value.layouts }
         requires limits { AreLimits limits }
         ensures opening { IfOk result (λ k. IsOpening k) }
         ensures setting { IfOk result (λ k. setting_of k ≡ run_of code.value root.input.value limits) }

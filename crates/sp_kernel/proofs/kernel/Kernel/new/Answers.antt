@@ -20,6 +20,6 @@ returns c =
       root = c.of-first.ensures;
     } in
     record {
-      opening = opened _ c.args.root fresh c.requires.root.0 c.requires.root.1 c.requires.limits c.requires.sound c.requires.formals;
+      opening = opened _ c.args.root fresh c.requires.root.0 c.requires.root.1 c.requires.limits c.requires.sound;
       setting = λ i. run_of c.args.code.value (c.of-first.ensures i).input.value c.args.limits;
     }
