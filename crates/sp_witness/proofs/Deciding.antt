@@ -1,0 +1,112 @@
+-- A run without a fault at its end is ordered exactly where no schedule of the program meets contention.
+use Rattle.std.proofs.Common.{◌≡◌, ℕ, zero, suc, Bool, true, false, List, [], ◌∷◌, ◌++◌, slice_get, Some, None, refl, sym, ap, ◌∙◌, subst}
+use Rattle.sp_base.specs.declared.fault.Fault.{Fault}
+use Rattle.sp_base.specs.declared.fault.Fault.TheVariants as fault
+use Rattle.sp_journal.specs.Names as happenings
+use Rattle.sp_meaning.specs.Model.{Name, Channel}
+use Rattle.sp_meaning.specs.Entries.{Happening, Opened, Forked, Offered, Faulted, Laid, Paused, Occurrence}
+use Rattle.sp_meaning.specs.Own.{Setting}
+use Rattle.sp_meaning.specs.Runs.{StateOf, start, next, Lawful}
+use Rattle.sp_meaning.specs.Along.{Either, due, Turn, Course, no_course, Entered, Along, IsAlong, IsCleanly, IsClean}
+use Rattle.sp_meaning.specs.Laws.{IsReached}
+use Rattle.sp_meaning.proofs.Journeys.{quiet_step}
+use Rattle.sp_witness.specs.Witness.{who_at, alone, first_part, witness}
+use Rattle.sp_witness.specs.Contention.{Shows, NeverContends}
+use Rattle.sp_witness.proofs.Cleanness.{front_clean}
+use Rattle.sp_journal.specs.declared.entry.Way.{Way}
+use Rattle.sp_journal.specs.declared.outcome.End.{End}
+use Rattle.sp_journal.specs.declared.outcome.Verdict.{Verdict}
+use Rattle.sp_journal.specs.declared.outcome.Verdict.TheVariants as verdict
+use Rattle.sp_race.proofs.Linking.{none_is}
+use Rattle.sp_judge.specs.Races.{IsLeastRace, IsFault, IsVerdict}
+use Rattle.sp_judge.specs.Runs.{AllEndAlike, IsRunVerdict}
+
+module _ (g : Setting) where
+  -- a lawful schedule from s to t
+  abbrev Way_on : StateOf g → StateOf g → Type 0
+  Way_on s t = (names : List Name) × Lawful g s names t
+
+  step_on : (s : StateOf g) (q : Name) (m t : StateOf g) → s.fault ≡ None → next g s q ≡ Some m → Way_on m t
+      → Way_on s t
+  step_on s q m t quiet st way = (q ∷ way.0, (m, quiet, st, way.1))
+
+  -- local steps
+  turn_on : (turn since : ℕ) (q : Name) (k : ℕ) (s m : StateOf g) (paused : Bool) (t : StateOf g)
+      → Turn g turn since q k s m paused → s.fault ≡ None → (m.fault ≡ None → Way_on m t) → Way_on s t
+  turn_on turn since q zero s m paused t h quiet go =
+      subst (λ z. Way_on z t) h.0 (go (ap (λ (z : StateOf g). z.fault) h.0 ∙ quiet))
+  turn_on turn since q (suc k) s m paused t h quiet go =
+      let still = quiet_step g s q h.0 h.3 None h.1 h.2 tt h.4 quiet in
+      step_on s q h.3 t quiet h.4
+      (rest (due g turn since s h.0 q h.3) h.5 still (λ x. turn_on turn since q k h.3 m paused t x still go))
+    where
+      rest : (b : Bool) → Either b ((k ≡ 0) × (m ≡ h.3) × (paused ≡ true)) (Turn g turn since q k h.3 m paused)
+          → h.3.fault ≡ None → (Turn g turn since q k h.3 m paused → Way_on h.3 t) → Way_on h.3 t
+      rest true x still later = subst (λ z. Way_on z t) x.1 (go (ap (λ (z : StateOf g). z.fault) x.1 ∙ still))
+      rest false x still later = later x
+
+  -- an entry without a fault
+  module _ (left : Course → StateOf g → ℕ → Type 0) (c : Course) (m : StateOf g) (paused : Bool) (q : Name)
+      (t : StateOf g) where
+    entered_on : (w : Happening) (n : ℕ) → IsCleanly w → Entered g left c m paused q w n
+        → ((c1 : Course) (u : StateOf g) (d : ℕ) → left c1 u d → u.fault ≡ None → Way_on u t) → m.fault ≡ None
+        → Way_on m t
+    entered_on Opened n ok h go f =
+        step_on m q h.2 t f h.5.3 (go _ h.2 h.3 h.6 (quiet_step g m q h.5.0 h.2 (Some Opened) h.5.1 h.5.2 ok h.5.3 f))
+    entered_on (Forked i) n ok h go f =
+        step_on m q h.2 t f h.5.3
+        (go _ h.2 h.3 h.6 (quiet_step g m q h.5.0 h.2 (Some (Forked i)) h.5.1 h.5.2 ok h.5.3 f))
+    entered_on (Offered w d) n ok h go f =
+        step_on m q h.2 t f h.5.3
+        (go _ h.2 h.3 h.6 (quiet_step g m q h.5.0 h.2 (Some (Offered w d)) h.5.1 h.5.2 ok h.5.3 f))
+    entered_on happenings.Ended n ok h go f =
+        step_on m q h.2 t f h.5.3
+        (go _ h.2 h.3 h.6 (quiet_step g m q h.5.0 h.2 (Some happenings.Ended) h.5.1 h.5.2 ok h.5.3 f))
+    entered_on (Faulted x) n ok h go f = absurd ok
+    entered_on Laid n ok h go f = absurd ok
+    entered_on Paused n ok h go f = go _ m n h.2 f
+
+  -- a journal whose last entry alone is a fault
+  along_on : (turn : ℕ) (xs : List Occurrence) (q : Name) (x : Fault) (c : Course) (s : StateOf g) (n : ℕ)
+      (t : StateOf g)
+      → IsClean xs → Along g turn c s (xs ++ record { who = q; what = Faulted x } ∷ []) n t → s.fault ≡ None
+      → Way_on s t
+  along_on turn [] q x c s n t clean a quiet =
+      turn_on turn (c.since q) q a.1 s a.3 a.4 t a.6 quiet
+      (λ f. step_on a.3 q a.7.2 t f a.7.5.3 ([], a.7.6.1))
+  along_on turn (e ∷ xs) q x c s n t clean a quiet =
+      turn_on turn (c.since e.who) e.who a.1 s a.3 a.4 t a.6 quiet
+      (λ f. entered_on (λ c1 u d. Along g turn c1 u (xs ++ record { who = q; what = Faulted x } ∷ []) d t) c a.3 a.4
+      e.who t
+      e.what a.2 clean.0 a.7 (λ c1 u d b still. along_on turn xs q x c1 u d t clean.1 b still) f)
+
+-- what shows a race is a schedule that meets contention
+module _ (g : Setting) (turn : ℕ) (es : List Occurrence) (w : Way) (c : Channel) (earlier later : ℕ) where
+  -- the run along the witness is one of a lawful schedule
+  pub reached : IsClean es → (n : ℕ) (s : StateOf g) → IsAlong g turn (witness es earlier later) n s → IsReached g s
+  reached clean n s along =
+      along_on g turn (first_part es earlier later ++ alone (slice_get es earlier)) (who_at es later) fault.F6 no_course
+      (start g) n s (front_clean es earlier later clean) along refl
+
+  pub contends : IsClean es → Shows g turn es w c earlier later → NeverContends g → ⊥
+  contends clean shows never =
+      let way = reached clean shows.size shows.state shows.along in
+      never way.0 shows.state way.1 w c (who_at es earlier) (who_at es later) shows.contention
+
+-- where no schedule meets a fault, none contends
+pub alike_never : (g : Setting) (n : ℕ) (t : StateOf g) → AllEndAlike g n t → NeverContends g
+alike_never g n t alike qs u lawful w c first second h = none_is (sym (alike qs u lawful).quiet ∙ h.fault)
+
+module _ (g : Setting) (turn : ℕ) (es : List Occurrence) (n : ℕ) (t : StateOf g) (e : End) (sure : IsFault e → ⊥)
+    (clean : IsClean es)
+    (real : (w : Way) (c : Channel) (earlier later : ℕ) → IsLeastRace es w c earlier later
+    → Shows g turn es w c earlier later) where
+  pub never_alike : (v : Verdict) → IsRunVerdict g es n t e v → v ≡ verdict.Ordered → NeverContends g
+  never_alike v h is = alike_never g n t (subst (λ x. IsRunVerdict g es n t e x) is h).1
+
+  pub ordered_where_never : (v : Verdict) → IsVerdict es e v → NeverContends g → v ≡ verdict.Ordered
+  ordered_where_never verdict.Ordered h never = refl
+  ordered_where_never (verdict.Race w c i k) h never =
+      let d = (h.1).1 in
+      absurd (contends g turn es w d.0 i k clean (real w d.0 i k d.2) never)
+  ordered_where_never verdict.Unjudged h never = absurd (sure h)

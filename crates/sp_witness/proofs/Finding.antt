@@ -1,0 +1,103 @@
+-- The numbers of a nameable journal are found again by its names.
+use Rattle.std.proofs.Common.{◌≡◌, ◌≢◌, ℕ, zero, suc, ◌<◌, ◌≤◌, Bool, true, false, cond, ◌==◌, List, [], ◌∷◌, length, take, Option, Some, None, slice_get, map, eqb-true, eq-eqb, refl, sym, ap, ◌∙◌, arith}
+use Rattle.sp_journal.specs.declared.entry.Event.{Event}
+use Rattle.sp_journal.specs.declared.entry.Event.TheVariants as event
+use Rattle.sp_journal.specs.declared.entry.Entry.{Entry}
+use Rattle.sp_journal.specs.Names.{same_name, same_channel}
+use Rattle.sp_journal.specs.Births.{Births, at_start, after_entry, births, channel, CanFollow, GivesNumbers, NameableFrom, happening, occurrence, occurrences_from}
+use Rattle.sp_journal.proofs.BirthLaws.{Lawful, lawful_start, lawful_after}
+use Rattle.sp_meaning.specs.Along.{IsClean}
+use Rattle.sp_past.specs.Prefixes.{IsQuiet}
+use Rattle.sp_judge.proofs.Numbers.{same_process, same_chan, all_named}
+use Rattle.sp_witness.specs.Witness.{first_part}
+use Rattle.sp_witness.specs.Numbered.{process_number, channel_number, event_of, numbered_entry, numbered_from, numbered}
+use Rattle.sp_witness.specs.Flags.{picks}
+use Rattle.sp_witness.proofs.PassLaw.{whole_pass}
+use Rattle.sp_witness.proofs.Flagging.{picks_taken}
+
+module _ (s : Births) (law : Lawful s) where
+  process_found : (n q : ℕ) → q < n → n ≤ s.processes → process_number s.name n (s.name q) ≡ q
+  process_found zero q lt le = absurd (omega (arith, lt))
+  process_found (suc n) q lt le = by (n == q) refl (λ d. process_found n q (omega (arith, lt, d)) (omega (arith, le)))
+    where
+      is : n == q ≡ same_name (s.name n) (s.name q)
+      is = same_process s law n q (omega (arith, le)) (omega (arith, lt, le))
+
+      by : (b : Bool) → n == q ≡ b → (n ≢ q → process_number s.name n (s.name q) ≡ q)
+          → cond (same_name (s.name n) (s.name q)) n (process_number s.name n (s.name q)) ≡ q
+      by true e rest = ap (λ b. cond b n (process_number s.name n (s.name q))) (sym is ∙ e) ∙ eqb-true n q e
+      by false e rest =
+          let d : n ≢ q = λ f. true_false (sym (eq-eqb n q f) ∙ e) in
+          ap (λ b. cond b n (process_number s.name n (s.name q))) (sym is ∙ e) ∙ rest d
+        where
+          true_false : ◌≡◌ {A = Bool} true false → ⊥
+          true_false f = cc
+
+  channel_found : (n c : ℕ) → c < n → n ≤ s.channels → channel_number s n (channel s c) ≡ c
+  channel_found zero c lt le = absurd (omega (arith, lt))
+  channel_found (suc n) c lt le = by (n == c) refl (λ d. channel_found n c (omega (arith, lt, d)) (omega (arith, le)))
+    where
+      is : n == c ≡ same_channel (channel s n) (channel s c)
+      is = same_chan s law n c (omega (arith, le)) (omega (arith, lt, le))
+
+      by : (b : Bool) → n == c ≡ b → (n ≢ c → channel_number s n (channel s c) ≡ c)
+          → cond (same_channel (channel s n) (channel s c)) n (channel_number s n (channel s c)) ≡ c
+      by true e rest = ap (λ b. cond b n (channel_number s n (channel s c))) (sym is ∙ e) ∙ eqb-true n c e
+      by false e rest =
+          let d : n ≢ c = λ f. true_false (sym (eq-eqb n c f) ∙ e) in
+          ap (λ b. cond b n (channel_number s n (channel s c))) (sym is ∙ e) ∙ rest d
+        where
+          true_false : ◌≡◌ {A = Bool} true false → ⊥
+          true_false f = cc
+
+  entry_found : (e : Entry) → CanFollow s e → numbered_entry s (occurrence s e) ≡ e
+  entry_found e f =
+      let p = process_found s.processes e.process f.0 (omega arith) in
+      let v = by e.event f.1 in
+      λ i. record { process = p i; event = v i }
+    where
+      by : (v : Event) → GivesNumbers s e.process v → event_of s (happening s v) ≡ v
+      by (event.Fork n) given = refl
+      by event.Open given = refl
+      by (event.Send c) given = ap (λ x. event.Send x) (channel_found s.channels c given (omega arith))
+      by (event.Receive c) given = ap (λ x. event.Receive x) (channel_found s.channels c given (omega arith))
+      by event.End given = refl
+      by (event.Fault x) given = refl
+      by event.Laid given = refl
+      by event.Pause given = refl
+
+found_from : (s : Births) (es : List Entry) → Lawful s → NameableFrom s es
+    → numbered_from s (occurrences_from s es) ≡ es
+found_from s [] law f = refl
+found_from s (e ∷ es) law f =
+    let one = entry_found s law e f.0 in
+    let rest = found_from (after_entry s e) es (lawful_after s e law f.0) f.1 in
+    (λ i. one i ∷ numbered_from (after_entry s (one i)) (occurrences_from (after_entry s e) es)) ∙ ap (λ z. e ∷ z) rest
+
+pub found : (es : List Entry) → NameableFrom at_start es → numbered (occurrences_from at_start es) ≡ es
+found es f = found_from at_start es lawful_start f
+
+length_map : {A B : Type 0} (f : A → B) (xs : List A) → length (map f xs) ≡ length xs
+length_map f [] = refl
+length_map f (x ∷ xs) = ap suc (length_map f xs)
+
+inside_by : (xs : List Entry) (i : ℕ) (e : Entry) → slice_get xs i ≡ Some e → i < length xs
+inside_by [] i e h = absurd (none_some h)
+  where
+    none_some : ◌≡◌ {A = Option Entry} None (Some e) → ⊥
+    none_some z = cc
+inside_by (x ∷ xs) zero e h = omega arith
+inside_by (x ∷ xs) (suc i) e h = let l = inside_by xs i e h in omega (arith, l)
+
+-- the picks by numbers are the first part by names
+pub picked_part : (es : List Entry) → NameableFrom at_start es → IsQuiet (occurrences_from at_start es)
+    → IsClean (occurrences_from at_start es) → (earlier later : ℕ) → earlier < later → (two : Entry)
+    → slice_get es later ≡ Some two
+    → map (occurrence (births es)) (picks earlier two.process (take later es))
+    ≡ first_part (occurrences_from at_start es) earlier later
+picked_part es f quiet clean earlier later lt two got =
+    let size : length (occurrences_from at_start es) ≡ length es = ap length (all_named es f)
+    ∙ length_map (occurrence (births es)) es in
+    let l = inside_by es later two got in
+    picks_taken es f earlier later two got
+    ∙ whole_pass (occurrences_from at_start es) earlier later quiet clean lt (omega (arith, size, l))

@@ -1,0 +1,413 @@
+-- A good step leaves what another running process does next, and what it knows; and who can step only after it has
+-- learned of it.
+use Rattle.std.proofs.Common.{◌≡◌, ◌≢◌, ◌⊎◌, ⊎_elim, inl, inr, ℕ, zero, suc, ◌+◌, ◌<◌, ◌≤◌, Bool, true, false, cond, ◌||◌, ◌==◌, List, [], ◌∷◌, ◌++◌, length, Option, Some, None, nat_lt, refl, sym, ap, ◌∙◌, subst, arith}
+use Rattle.sp_base.specs.declared.fault.Fault.TheVariants as fault
+use Rattle.sp_meaning.specs.Maps.{at_key}
+use Rattle.sp_meaning.specs.Asking.{Asking, Done, Loads, Puts, Asks, and_then}
+use Rattle.sp_meaning.specs.Model.{Name, Channel, same_name, Totals, Language, Act, Moves, Opens, Forks, Offering, Ends, Fails, Absent, Works, Waits, Joins, Ended, State, Change, Becomes, changed, after}
+use Rattle.sp_meaning.specs.Steps.{ActOf, OfferOf, ConditionOf, has_ended, working, Outcome, Advances, Faulty, puts, births, way_of, message, meeting, hands, meets, offered, acts, outcome, result_of, step_with, step, Quiet, Sound}
+use Rattle.sp_meaning.specs.Disjoint.{WritesIn, AccessesIn}
+use Rattle.sp_meaning.specs.Own.{Setting, Loc, Process, same_loc}
+use Rattle.sp_meaning.specs.SuperPascal.{superpascal, deed_of, is_beat, beats}
+use Rattle.sp_meaning.specs.Runs.{StateOf, start, most, IsDisjointRun}
+use Rattle.sp_meaning.proofs.Maps.{same_or_not, itself}
+use Rattle.sp_meaning.proofs.Keys.{name_test}
+use Rattle.sp_meaning.proofs.Asking.{local}
+use Rattle.sp_meaning.proofs.Instance.{loc_test, superpascal_keeps}
+use Rattle.sp_meaning.proofs.Frames.{IsOn, WritesTo, IsPartner, IsChild, IsNear, all_in, condition_frame, store_frame}
+use Rattle.sp_meaning.proofs.Status.{Makes, waits_stands, Stands, working_stands, working_same, far, keeps_working}
+use Rattle.sp_meaning.proofs.Parallel.{parallel}
+use Rattle.sp_race.specs.Notes.{Event, both, Notes, Note, Counts, Learns, Records, noted, all_noted, mine, knows, same_event, teaches, tells, other_way, offer_notes, notes_of}
+use Rattle.sp_race.specs.Noting.{WithNotes}
+use Rattle.sp_race.proofs.NotesFrames.{event_test}
+use Rattle.sp_race.proofs.GoodSteps.{GoodStep, steps, quiet_after, leads_on, happens_later, TakesPart, writer, part_alone, events_kept, past_kept}
+
+-- what a computation asks, it asks with another one after it
+asks_then : {Loc Value A B : Type 0} (same : Loc → Loc → Bool) (t : Asking Loc Value A) (f : A → Asking Loc Value B)
+    (m : Loc → Value) (q : Loc) → Asks same t m q → Asks same (and_then t f) m q
+asks_then same (Done a) f m q h = absurd h
+asks_then same (Loads l more) f m q h =
+    ⊎_elim (λ (e : l ≡ q). inl e) (λ (k : Asks same (more (m l)) m q). inr (asks_then same (more (m l)) f m q k)) h
+asks_then same (Puts l v more) f m q h =
+    ⊎_elim (λ (e : l ≡ q). inl e)
+    (λ (k : Asks same more (at_key same l v m) q). inr (asks_then same more f (at_key same l v m) q k)) h
+
+-- the act is a local one
+abbrev pub IsLocal : {O M V T : Type 0} → Act O M V T → Type 0
+IsLocal (Moves o ws) = Unit {0}
+IsLocal (Opens o ws) = ⊥
+IsLocal (Forks o os) = ⊥
+IsLocal (Offering o) = ⊥
+IsLocal Ends = ⊥
+IsLocal (Fails f) = ⊥
+
+-- no change makes a process end
+abbrev NoneEnds : {L : Language} → List (Change L) → Type 0
+NoneEnds [] = Unit {0}
+NoneEnds (Becomes p c ∷ cs) = (has_ended c ≡ false) × NoneEnds cs
+NoneEnds (c ∷ cs) = NoneEnds cs
+
+abbrev EndsNone : {L : Language} → Outcome L → Type 0
+EndsNone (Advances cs) = NoneEnds cs
+EndsNone (Faulty f) = Unit {0}
+
+abbrev IsNoEnd : {O M V T : Type 0} → Act O M V T → Type 0
+IsNoEnd (Moves o ws) = Unit {0}
+IsNoEnd (Opens o ws) = Unit {0}
+IsNoEnd (Forks o os) = Unit {0}
+IsNoEnd (Offering o) = Unit {0}
+IsNoEnd Ends = ⊥
+IsNoEnd (Fails f) = Unit {0}
+
+puts_none : (L : Language) (ws : List (L.Loc × L.Value)) → NoneEnds {L = L} (puts {L = L} ws)
+puts_none L [] = tt
+puts_none L (w ∷ ws) = puts_none L ws
+
+births_none : (L : Language) (p : Name) (k i : ℕ) (os : List L.Own) → NoneEnds {L = L} (births {L = L} p k i os)
+births_none L p k i [] = tt
+births_none L p k i (o ∷ os) = (refl, births_none L p k (suc i) os)
+
+module _ {L : Language} (s : State L) (p : Name) where
+  hands_none : (o : OfferOf L) (z : Name) (w : OfferOf L) (m : Option (L.Target × L.Value))
+      → EndsNone {L = L} (hands s p o z w m)
+  hands_none o z w None = tt
+  hands_none o z w (Some m) =
+      elim (o.kind == w.kind) as (λ b. EndsNone {L = L} (cond b (Advances (meeting s p o z w m)) (Faulty fault.F7))) [
+        | true ↦ (refl, (refl, tt))
+        | false ↦ tt
+      ]
+
+  meets_none : (o : OfferOf L) (z : Name) (c : ConditionOf L) → EndsNone {L = L} (meets s p o z c)
+  meets_none o z Absent = tt
+  meets_none o z (Works x) = tt
+  meets_none o z (Waits w) = hands_none o z w (message o.cargo w.cargo)
+  meets_none o z (Joins k n x) = tt
+  meets_none o z Ended = tt
+
+  offered_none : (o : OfferOf L) (m : Option Name) → EndsNone {L = L} (offered s p o m)
+  offered_none o None = (refl, tt)
+  offered_none o (Some z) = meets_none o z (s.condition z)
+
+  acts_none : (a : ActOf L) → IsNoEnd a → EndsNone {L = L} (acts s p a)
+  acts_none (Moves o ws) h = (refl, puts_none L ws)
+  acts_none (Opens o ws) h = (refl, puts_none L ws)
+  acts_none (Forks o os) h = (refl, births_none L p (s.forks p) 0 os)
+  acts_none (Offering o) h = offered_none o (s.pending o.channel)
+  acts_none Ends h = absurd h
+  acts_none (Fails f) h = tt
+
+-- who has ended after such changes had ended before
+ended_before : {L : Language} (cs : List (Change L)) (t : State L) (r : Name) → NoneEnds cs
+    → has_ended ((after cs t).condition r) ≡ true → t.condition r ≡ (after cs t).condition r
+ended_before [] t r n h = refl
+ended_before {L} (Becomes q c ∷ cs) t r n h =
+    let e = ended_before cs (changed (Becomes q c) t) r n.1 h in
+    by (same_name q r) refl e
+  where
+    by : (b : Bool) → same_name q r ≡ b
+        → cond (same_name q r) c (t.condition r) ≡ (after cs (changed (Becomes q c) t)).condition r
+        → t.condition r ≡ (after cs (changed (Becomes q c) t)).condition r
+    by true is e =
+        let k : c ≡ (after cs (changed (Becomes q c) t)).condition r = ap (λ b. cond b c (t.condition r)) (sym is)
+        ∙ e in
+        absurd (false_true (sym n.0 ∙ ap has_ended k ∙ h))
+      where
+        false_true : ◌≡◌ {A = Bool} false true → ⊥
+        false_true z = cc
+    by false is e = ap (λ b. cond b c (t.condition r)) (sym is) ∙ e
+ended_before (c ∷ cs) t r n h = ended_before cs (changed c t) r n h
+
+none_is : {A : Type 0} {x : A} → ◌≡◌ {A = Option A} None (Some x) → ⊥
+none_is e = cc
+
+some_is : {A : Type 0} {x y : A} → ◌≡◌ {A = Option A} (Some x) (Some y) → x ≡ y
+some_is e = cc
+
+nil_cons : {A : Type 0} {x : A} {xs : List A} → [] ≡ x ∷ xs → ⊥
+nil_cons e = cc
+
+abbrev head_child : Name → ℕ
+head_child [] = 0
+head_child (x ∷ p) = x.1
+
+-- what a child learns at its birth
+both_right : (b : Bool) (f k : Event → Bool) (e : Event) → b ≡ true → k e ≡ true → cond b (both f k) f e ≡ true
+both_right true f k e is h = or_true (f e) (k e) h
+  where
+    or_true : (a c : Bool) → c ≡ true → a || c ≡ true
+    or_true true c h = refl
+    or_true false c h = h
+both_right false f k e is h = absurd (cc is)
+
+both_kept : (b : Bool) (f k : Event → Bool) (e : Event) → f e ≡ true → cond b (both f k) f e ≡ true
+both_kept true f k e h = rw h refl
+both_kept false f k e h = h
+
+pub past_grows : (xs : List Note) (n : Notes) (q : Name) (e : Event) → n.past q e ≡ true
+    → (all_noted xs n).past q e ≡ true
+past_grows [] n q e h = h
+past_grows (Counts p ∷ xs) n q e h = past_grows xs (noted (Counts p) n) q e h
+past_grows (Learns p k ∷ xs) n q e h =
+    past_grows xs (noted (Learns p k) n) q e (both_kept (same_name p q) (n.past q) k e h)
+past_grows (Records c w x ∷ xs) n q e h = past_grows xs (noted (Records c w x) n) q e h
+
+learned : (p : Name) (k : Event → Bool) (xs : List Note) (n : Notes) (e : Event) → k e ≡ true
+    → (all_noted (Learns p k ∷ xs) n).past p e ≡ true
+learned p k xs n e h =
+    past_grows xs (noted (Learns p k) n) p e (both_right (same_name p p) (n.past p) k e (itself name_test p) h)
+
+taught : (p : Name) (k : ℕ) (known : Event → Bool) (x m : ℕ) (n : Notes) (i : ℕ) (e : Event) → known e ≡ true → i < m
+    → (all_noted (teaches p k known x m) n).past ((k, x + i) ∷ p) e ≡ true
+taught p k known x zero n i e h lt = absurd (omega (arith, lt))
+taught p k known x (suc m) n zero e h lt =
+    subst (λ (z : ℕ). (all_noted (teaches p k known x (suc m)) n).past ((k, z) ∷ p) e ≡ true) (omega arith)
+    (learned ((k, x) ∷ p) known (teaches p k known (suc x) m) n e h)
+taught p k known x (suc m) n (suc i) e h lt =
+    subst (λ (z : ℕ). (all_noted (teaches p k known x (suc m)) n).past ((k, z) ∷ p) e ≡ true) (omega arith)
+    (taught p k known (suc x) m (noted (Learns ((k, x) ∷ p) known) n) i e h (omega (arith, lt)))
+
+knows_mine : (n : Notes) (p : Name) → knows n p (mine n p) ≡ true
+knows_mine n p = or_true (n.past p (mine n p)) (same_event (mine n p) (mine n p)) (itself event_test (mine n p))
+  where
+    or_true : (a c : Bool) → c ≡ true → a || c ≡ true
+    or_true true c h = refl
+    or_true false c h = h
+
+-- whom a step meets or forks learns of it
+near_learns : {L : Language} (s : State L) (n : Notes) (p : Name) (a : ActOf L) (q : Name) → q ≢ p → IsNear s p a q
+    → (IsLocal a → ⊥) × (((all_noted (notes_of s n p a) n).past q (mine n p)) ≡ true)
+near_learns {L} s n p a q apart near =
+    ⊎_elim (λ (e : q ≡ p). absurd (apart e))
+    (λ (h : IsPartner s a q ⊎ IsChild s p a q). ⊎_elim (λ (k : IsPartner s a q). partner a k)
+    (λ (k : IsChild s p a q). child a k) h) near
+  where
+    partner : (a : ActOf L) → IsPartner s a q
+        → (IsLocal a → ⊥) × (((all_noted (notes_of s n p a) n).past q (mine n p)) ≡ true)
+    partner (Offering o) h = (
+      λ x. x,
+      subst (λ (m : Option Name). (all_noted (offer_notes n p o.channel (way_of o.cargo) m) n).past q (mine n p) ≡ true)
+          (sym h)
+          (learned q (both (knows n p) (knows n q)) []
+          (all_noted (Records o.channel (way_of o.cargo) (mine n p)
+          ∷ Records o.channel (other_way (way_of o.cargo)) (mine n q) ∷ Counts p ∷ Counts q
+          ∷ Learns p (both (knows n p) (knows n q)) ∷ []) n) (mine n p)
+          (or_left (knows n p (mine n p)) (knows n q (mine n p)) (knows_mine n p))),
+    )
+      where
+        or_left : (a c : Bool) → a ≡ true → a || c ≡ true
+        or_left true c h = refl
+        or_left false c h = absurd (cc h)
+    partner (Moves o ws) h = absurd h
+    partner (Opens o ws) h = absurd h
+    partner (Forks o os) h = absurd h
+    partner Ends h = absurd h
+    partner (Fails f) h = absurd h
+
+    child : (a : ActOf L) → IsChild s p a q
+        → (IsLocal a → ⊥) × (((all_noted (notes_of s n p a) n).past q (mine n p)) ≡ true)
+    child (Forks o os) h = (
+      λ x. x,
+      let m1 = noted (Learns p (same_event (mine n p))) (noted (Counts p) n) in
+          subst (λ (r : Name). (all_noted (notes_of s n p (Forks o os)) n).past r (mine n p) ≡ true)
+          (ap (λ i. (s.forks p, i) ∷ p) (zero_add h.0) ∙ sym h.1)
+          (taught p (s.forks p) (knows n p) 0 (length os) m1 h.0 (mine n p) (knows_mine n p) h.2),
+    )
+      where
+        zero_add : (i : ℕ) → 0 + i ≡ i
+        zero_add i = omega arith
+    child (Moves o ws) h = absurd h
+    child (Opens o ws) h = absurd h
+    child (Offering o) h = absurd h
+    child Ends h = absurd h
+    child (Fails f) h = absurd h
+
+-- who runs after another's step ran before it, or has learned of it
+module _ {L : Language} {limits : Totals} (s : State L) (n : Notes) (p : Name) (cs : List (Change L)) (sound : Sound s) (one : Makes limits s p cs) where
+  abbrev act : ActOf L
+  act = L.next one.own s.store
+
+  abbrev Learned : Name → Type 0
+  Learned q = (IsLocal act → ⊥) × ((all_noted (notes_of s n p act) n).past q (mine n p) ≡ true)
+
+  -- the step of a process that goes on
+  goes_on : (q : Name) (own : L.Own) → q ≢ p → IsNoEnd act → working (after cs s) q ≡ Some own
+      → (working s q ≡ Some own) ⊎ Learned q
+  goes_on q own apart stays w = by (near_or_not act)
+    where
+      near_or_not : (a : ActOf L) → IsNear s p a q ⊎ (IsNear s p a q → ⊥)
+      near_or_not a = ⊎_elim (λ (h : IsPartner s a q). inl (inr (inl h)))
+          (λ (no : IsPartner s a q → ⊥). ⊎_elim (λ (h : IsChild s p a q). inl (inr (inr h)))
+          (λ (never : IsChild s p a q → ⊥). inr (λ n. ⊎_elim apart (⊎_elim no never) n)) (child a)) (partner a)
+        where
+          partner : (a : ActOf L) → IsPartner s a q ⊎ (IsPartner s a q → ⊥)
+          partner (Offering o) = of_pending (s.pending o.channel)
+            where
+              of_pending : (m : Option Name) → (m ≡ Some q) ⊎ (m ≡ Some q → ⊥)
+              of_pending None = inr none_is
+              of_pending (Some z) =
+                  ⊎_elim (λ (e : z ≡ q). inl (ap (λ x. Some x) e)) (λ (e : z ≢ q). inr (λ h. e (some_is h)))
+                  (same_or_not name_test z q)
+          partner (Moves o ws) = inr (λ h. h)
+          partner (Opens o ws) = inr (λ h. h)
+          partner (Forks o os) = inr (λ h. h)
+          partner Ends = inr (λ h. h)
+          partner (Fails f) = inr (λ h. h)
+
+          child : (a : ActOf L) → IsChild s p a q ⊎ (IsChild s p a q → ⊥)
+          child (Forks o os) = by_name q
+            where
+              by_name : (r : Name)
+                  → ((i : ℕ) × (r ≡ (s.forks p, i) ∷ p) × (i < length os))
+                  ⊎ ((i : ℕ) × (r ≡ (s.forks p, i) ∷ p) × (i < length os) → ⊥)
+              by_name [] = inr (λ h. nil_cons h.1)
+              by_name (x ∷ r) = ⊎_elim
+                  (λ (e : x ∷ r ≡ (s.forks p, x.1) ∷ p).
+                  elim (nat_lt x.1 (length os)) as (λ b. nat_lt x.1 (length os) ≡ b
+                  → ((i : ℕ) × (x ∷ r ≡ (s.forks p, i) ∷ p) × (i < length os))
+                  ⊎ ((i : ℕ) × (x ∷ r ≡ (s.forks p, i) ∷ p) × (i < length os) → ⊥)) [
+                    | true ↦ λ b. inl (x.1, e, grind (arith, b))
+                    | false ↦ λ b. inr (λ h. let k : x.1 ≡ h.0 = second h.1 in let l = h.2 in
+                        omega (arith, k, l, not_below b))
+                  ] refl)
+                  (λ (e : x ∷ r ≢ (s.forks p, x.1) ∷ p). inr
+                  (λ h. e (h.1 ∙ ap (λ i. (s.forks p, i) ∷ p) (sym (second h.1)))))
+                  (same_or_not name_test (x ∷ r) ((s.forks p, x.1) ∷ p))
+                where
+                  second : {i : ℕ} → x ∷ r ≡ (s.forks p, i) ∷ p → x.1 ≡ i
+                  second h = ap head_child h
+
+                  not_below : nat_lt x.1 (length os) ≡ false → length os ≤ x.1
+                  not_below b = grind (arith, b)
+          child (Moves o ws) = inr (λ h. h)
+          child (Opens o ws) = inr (λ h. h)
+          child (Offering o) = inr (λ h. h)
+          child Ends = inr (λ h. h)
+          child (Fails f) = inr (λ h. h)
+
+      by : IsNear s p act q ⊎ (IsNear s p act q → ⊥) → (working s q ≡ Some own) ⊎ Learned q
+      by (inl h) = inr (near_learns s n p act q apart h)
+      by (inr h) =
+          let e = condition_frame s p act q h cs s (all_in s p act cs one.does) in
+          let ends : NoneEnds cs = subst (EndsNone {L = L}) one.does (acts_none s p act stays) in
+          inl (rw (sym e) (working_same (after cs s).condition s.condition q ((after cs s).condition q) own
+          (λ k i ended. ended_before cs s ((k, i) ∷ q) ends ended) w))
+
+  -- the last step of a process
+  ends_on : (q : Name) (own : L.Own) → q ≢ p → act ≡ Ends → working (after cs s) q ≡ Some own
+      → (working s q ≡ Some own) ⊎ Learned q
+  ends_on q own apart is w = by p refl
+    where
+      out : (r : Name) → r ≢ p → IsNear s p act r → ⊥
+      out r far near = ⊎_elim far
+          (λ (h : IsPartner s act r ⊎ IsChild s p act r).
+          ⊎_elim (λ (k : IsPartner s act r). subst (λ (a : ActOf L). IsPartner s a r) is k)
+          (λ (k : IsChild s p act r). subst (λ (a : ActOf L). IsChild s p a r) is k) h) near
+
+      same : (r : Name) → r ≢ p → (after cs s).condition r ≡ s.condition r
+      same r far = condition_frame s p act r (out r far) cs s (all_in s p act cs one.does)
+
+      before : ((k i : ℕ) → (k, i) ∷ q ≢ p) → working s q ≡ Some own
+      before far = rw (sym (same q apart))
+          (working_same (after cs s).condition s.condition q ((after cs s).condition q) own
+          (λ k i ended. sym (same ((k, i) ∷ q) (far k i))) w)
+
+      by : (r : Name) → p ≡ r → (working s q ≡ Some own) ⊎ Learned q
+      by [] e = inl (before (λ k i h. nil_cons (sym (h ∙ e))))
+      by (a ∷ r) e = ⊎_elim
+          (λ (h : r ≡ q). inr (
+            λ x. subst IsLocal is x,
+            subst (λ (b : ActOf L). (all_noted (notes_of s n p b) n).past q (mine n p) ≡ true) (sym is)
+                (subst (λ (z : Name).
+                (all_noted (Counts p ∷ Learns p (same_event (mine n p)) ∷ tells z (knows n p)) n).past q (mine n p)
+                ≡ true) (sym e)
+                (subst (λ (z : Name).
+                (all_noted (Counts p ∷ Learns p (same_event (mine n p)) ∷ Learns r (knows n p) ∷ []) n).past z
+                (mine n p) ≡ true) h
+                (learned r (knows n p) [] (noted (Learns p (same_event (mine n p))) (noted (Counts p) n)) (mine n p)
+                (knows_mine n p)))),
+          ))
+          (λ (h : r ≢ q). inl (before (λ k i x. h (tail_is (sym (x ∙ e))))))
+          (same_or_not name_test r q)
+        where
+          tail_is : {x y : ℕ × ℕ} {u v : Name} → x ∷ u ≡ y ∷ v → u ≡ v
+          tail_is h = cc
+
+  pub enabled : (q : Name) (own : L.Own) → q ≢ p → working (after cs s) q ≡ Some own
+      → (working s q ≡ Some own) ⊎ Learned q
+  enabled q own apart w = by act refl
+    where
+      by : (a : ActOf L) → act ≡ a → (working s q ≡ Some own) ⊎ Learned q
+      by (Moves o ws) e = goes_on q own apart (subst IsNoEnd (sym e) tt) w
+      by (Opens o ws) e = goes_on q own apart (subst IsNoEnd (sym e) tt) w
+      by (Forks o os) e = goes_on q own apart (subst IsNoEnd (sym e) tt) w
+      by (Offering o) e = goes_on q own apart (subst IsNoEnd (sym e) tt) w
+      by Ends e = ends_on q own apart e w
+      by (Fails f) e = goes_on q own apart (subst IsNoEnd (sym e) tt) w
+
+module _ (g : Setting) (disjoint : IsDisjointRun g) where
+  abbrev L : Language
+  L = superpascal g
+
+  -- what a step of another process leaves of a running one
+  pub record Unmoved (j k : WithNotes L) (q : Name) (own : Process) : Type 0 where
+    pub works : working k.state q ≡ Some own
+    pub act : L.next own k.state.store ≡ L.next own j.state.store
+    pub beat : beats g own k.state.store ≡ beats g own j.state.store
+    pub past : k.notes.past q ≡ j.notes.past q
+    pub events : k.notes.events q ≡ j.notes.events q
+
+  module _ (j : WithNotes L) (p : Name) (k : WithNotes L) (x : GoodStep (most g) (start g) j p k) (q : Name) (own : Process) (apart : q ≢ p) (w : working j.state q ≡ Some own) where
+    still : working k.state q ≡ Some own
+    still = subst (λ (z : StateOf g). working z q ≡ Some own) (sym x.to)
+        (keeps_working j.state p x.cs x.sound x.makes q own apart w)
+
+    st : step (most g) j.state p ≡ Some k.state
+    st = steps j.state p x.cs x.makes ∙ ap (λ (z : StateOf g). Some z) (sym x.to)
+
+    -- it reads and writes nothing that the step wrote
+    agrees : (l : Loc) → L.touches own k.state.store l → k.state.store l ≡ j.state.store l
+    agrees l touched = ap (λ (z : StateOf g). z.store l) x.to
+        ∙ store_frame j.state p (L.next x.makes.own j.state.store) loc_test l clash x.cs j.state
+        (all_in j.state p (L.next x.makes.own j.state.store) x.cs x.makes.does)
+      where
+        clash : WritesTo j.state (L.next x.makes.own j.state.store) l → ⊥
+        clash wr =
+            let y = writer j.state p x.makes.own l wr in
+            let u : StateOf g = result_of k.state q (outcome (most g) k.state q (L.next own k.state.store)) in
+            let quiet_k : Quiet k.state =
+            subst (λ (z : StateOf g). Quiet z) (sym x.to) (quiet_after j.state p x.cs x.makes x.quiet) in
+            let next : step (most g) k.state q ≡ Some u = ap (step_with (most g) k.state q) still in
+            let leads = leads_on (most g) x.way (p ∷ q ∷ []) (start g) j.state u x.leads (
+              k.state,
+              x.quiet,
+              st,
+              (u, quiet_k, next, refl),
+            ) in
+            let alone = part_alone j.state x.sound p x.makes.own (L.next x.makes.own j.state.store) y.who x.makes.works
+            y.part in
+            disjoint (x.way ++ p ∷ q ∷ []) u leads y.who q
+            (parallel j.state y.who q x.sound alone (inl (own, w)) (not_it y.who y.part)) l
+            (happens_later (most g) (λ z r o. WritesIn z r o y.who l) x.way (p ∷ q ∷ []) (start g) j.state x.leads
+            (inl (x.makes.own, x.makes.works, y.writes)))
+            (happens_later (most g) (λ z r o. AccessesIn z r o q l) x.way (p ∷ q ∷ []) (start g) j.state x.leads
+            (inr (k.state, st, inl (own, still, inl (refl, touched)))))
+          where
+            not_it : (who : Name) → TakesPart j.state p (L.next x.makes.own j.state.store) who → who ≢ q
+            not_it who part e = ⊎_elim
+                (λ (h : who ≡ p). apart (sym e ∙ h))
+                (λ (z : (c : Channel) × IsOn (L.next x.makes.own j.state.store) c × (j.state.pending c ≡ Some who)).
+                waits_stands z.0 (j.state.condition who) (x.sound.waits z.0 who z.2)
+                (subst (λ r. Stands (j.state.condition r)) (sym e)
+                (working_stands j.state.condition q (j.state.condition q) own w)))
+                part
+
+    pub unmoved : Unmoved j k q own
+    unmoved = record {
+      works = still;
+      act = (superpascal_keeps g).local own k.state.store j.state.store agrees;
+      beat = ap is_beat (local loc_test (deed_of g own) k.state.store j.state.store
+          (λ l h. agrees l (asks_then same_loc (deed_of g own) _ k.state.store l h))).value;
+      past = ap (λ (v : Notes). v.past q) x.noted ∙ past_kept j.state j.notes p x.cs x.sound x.makes q own apart w;
+      events = ap (λ (v : Notes). v.events q) x.noted
+          ∙ events_kept j.state j.notes p x.cs x.sound x.makes q own apart w;
+    }

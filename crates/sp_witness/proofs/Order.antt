@@ -1,0 +1,84 @@
+-- Before the later offer of the least race a journal is in order.
+use Rattle.std.proofs.Common.{◌≡◌, ⊎_elim, ℕ, zero, suc, ◌+◌, ◌<◌, ◌≤◌, Bool, true, false, List, [], ◌∷◌, ◌++◌, length, take, take_at, Option, Some, None, slice_get, refl, sym, ap, ◌∙◌, subst, arith}
+use Rattle.sp_journal.specs.declared.entry.Way.{Way}
+use Rattle.sp_journal.specs.Names.{Name, Channel, Happening, Opened, Forked, Offered, Ended, Faulted, Laid, Paused, Occurrence}
+use Rattle.sp_journal.specs.Past.{Judged, judged_by, judged, nothing_judged, KnowsCompletions, CompletedFrom}
+use Rattle.sp_race.specs.Known.{AreKnown}
+use Rattle.sp_race.proofs.Linking.{some_is, none_is}
+use Rattle.sp_race.proofs.Completion.{ordered_known}
+use Rattle.sp_past.proofs.Prefixing.{get_inside}
+use Rattle.sp_judge.specs.Races.{KnowsCompletion, IsLeastRace}
+use Rattle.sp_witness.proofs.Pasts.{Stage, next_stage}
+
+pub get_front : (xs ys : List Occurrence) (i : ℕ) (e : Occurrence) → slice_get xs i ≡ Some e
+    → slice_get (xs ++ ys) i ≡ Some e
+get_front [] ys i e h = absurd (none_is h)
+get_front (x ∷ xs) ys zero e h = h
+get_front (x ∷ xs) ys (suc i) e h = get_front xs ys i e h
+
+pub get_at : (xs : List Occurrence) (e : Occurrence) (ys : List Occurrence) (n : ℕ) → length xs ≡ n
+    → slice_get (xs ++ e ∷ ys) n ≡ Some e
+get_at [] e ys n h = subst (λ z. slice_get (e ∷ ys) z ≡ Some e) h refl
+get_at (x ∷ xs) e ys n h = subst (λ z. slice_get (x ∷ (xs ++ e ∷ ys)) z ≡ Some e) h (get_at xs e ys (length xs) refl)
+
+module _ (es : List Occurrence) (w : Way) (c : Channel) (earlier later : ℕ) (least : IsLeastRace es w c earlier later) where
+  ordered_from : (done mid tail : List Occurrence) (j : Judged) (n : ℕ) → Stage es done (mid ++ tail) j n
+      → n + length mid ≤ later → CompletedFrom j done mid
+  ordered_from done [] tail j n st le = tt
+  ordered_from done (e ∷ mid) tail j n st le = (
+    knows e.what refl,
+    subst (λ z. CompletedFrom (judged_by j z e.who e.what) (done ++ e ∷ []) mid) (sym st.size)
+        (ordered_from (done ++ e ∷ []) mid tail (judged_by j n e.who e.what) (suc n)
+        (next_stage es done e (mid ++ tail) j n st) (omega (arith, le))),
+  )
+    where
+      front_is : judged (take n es) ≡ j
+      front_is = ap judged (ap (take n) st.whole ∙ take_at done (e ∷ (mid ++ tail)) n st.size) ∙ sym st.is
+
+      -- else these two were a race, and a smaller one
+      never : (v : Way) (d : Channel) → e.what ≡ Offered v d → (i : ℕ) (z : Name)
+          → slice_get done i ≡ Some (record { who = z; what = Offered v d }) → (KnowsCompletion j e.who i → ⊥) → ⊥
+      never v d is i z got no_one =
+          let inside = get_inside done i _ got in
+          let size = st.size in
+          ⊎_elim (λ (lt : later < n). omega (arith, lt, le)) (λ (x : (later ≡ n) × (earlier ≤ i)). let s = x.0 in
+          omega (arith, s, le)) (least.1 v d i n (record {
+            before = omega (arith, inside, size);
+            first = z;
+            offered_first = ap (λ xs. slice_get xs i) st.whole ∙ get_front done (e ∷ (mid ++ tail)) i _ got;
+            second = e.who;
+            offered_second = ap (λ xs. slice_get xs n) st.whole ∙ get_at done e (mid ++ tail) n st.size
+                ∙ (λ i. Some (record { who = e.who; what = is i }));
+            unknown = λ k. no_one (subst (λ (x : Judged). KnowsCompletion x e.who i) front_is k);
+          }))
+
+      knows_offer : (v : Way) (d : Channel) → e.what ≡ Offered v d → (i : ℕ) (z : Name)
+          → slice_get done i ≡ Some (record { who = z; what = Offered v d })
+          → (m : ℕ) × (j.completed i ≡ Some m) × (j.past e.who m ≡ true)
+      knows_offer v d is i z got = by (j.completed i) refl
+        where
+          by : (o : Option ℕ) → j.completed i ≡ o → (m : ℕ) × (j.completed i ≡ Some m) × (j.past e.who m ≡ true)
+          by None f = absurd (never v d is i z got (λ k. none_is (sym f ∙ k.1)))
+          by (Some m) f = elim (j.past e.who m) as (λ b. j.past e.who m ≡ b
+              → (m : ℕ) × (j.completed i ≡ Some m) × (j.past e.who m ≡ true)) [
+                | true ↦ λ p. (m, f, p)
+                | false ↦ λ p. absurd
+                    (never v d is i z got (λ k. true_false (sym k.2 ∙ ap (j.past e.who) (some_is (sym k.1 ∙ f)) ∙ p)))
+              ] refl
+            where
+              true_false : ◌≡◌ {A = Bool} true false → ⊥
+              true_false e = cc
+
+      knows : (h : Happening) → e.what ≡ h → KnowsCompletions j done e.who h
+      knows (Offered v d) is = knows_offer v d is
+      knows Opened is = tt
+      knows (Forked k) is = tt
+      knows Ended is = tt
+      knows (Faulted f) is = tt
+      knows Laid is = tt
+      knows Paused is = tt
+
+  pub known_front : (front tail : List Occurrence) → es ≡ front ++ tail → length front ≤ later → AreKnown front
+  known_front front tail whole le =
+      ordered_known front (ordered_from [] front tail nothing_judged 0
+      (record { whole = whole; is = refl; size = refl }) (omega (arith, le)))

@@ -1,0 +1,546 @@
+-- The witness of a race shows it.
+use Rattle.std.proofs.Common.{◌≡◌, ◌≢◌, ⊎_elim, inl, inr, ℕ, suc, ◌+◌, ◌<◌, lt_irrefl, nat_lt, Bool, true, false, cond, ◌&&◌, ◌||◌, List, [], ◌∷◌, ◌++◌, length, length-append, append_assoc, append-nil, take, take_at, Option, Some, None, slice_get, refl, sym, ap, ◌∙◌, subst, arith}
+use Rattle.sp_base.specs.declared.fault.Fault.TheVariants as fault
+use Rattle.sp_journal.specs.declared.entry.Way.{Way}
+use Rattle.sp_journal.specs.Past.{Judged, judged_by, judged, nothing_judged}
+use Rattle.sp_meaning.specs.Model.{Name, Channel, same_name, Language, Waits, Faults, changed}
+use Rattle.sp_meaning.specs.Steps.{Advances, an_entry, cost, passed}
+use Rattle.sp_meaning.specs.Own.{Setting, Process}
+use Rattle.sp_meaning.specs.SuperPascal.{superpascal, root, first_store}
+use Rattle.sp_meaning.specs.Entries.{Happening, Offered, Faulted, Paused, Occurrence}
+use Rattle.sp_meaning.specs.Runs.{StateOf, start, most, running, next, said_of, says, IsDisjointRun}
+use Rattle.sp_meaning.specs.Along.{ticks_of, no_course, Along, IsAlong, IsClean}
+use Rattle.sp_meaning.proofs.Maps.{differs}
+use Rattle.sp_meaning.proofs.Keys.{name_test, and_left}
+use Rattle.sp_meaning.proofs.Journeys.{quiet_step}
+use Rattle.sp_past.specs.Prefixes.{QuietFrom, IsQuiet}
+use Rattle.sp_past.proofs.Prefixing.{or_cases, nothing_kept}
+use Rattle.sp_race.specs.Notes.{Event, no_notes, mine}
+use Rattle.sp_race.specs.Noting.{WithNotes}
+use Rattle.sp_race.specs.Known.{AreKnown}
+use Rattle.sp_race.proofs.GoodSteps.{sound_opening, knows_nothing}
+use Rattle.sp_race.proofs.Linking.{none_is, not_true}
+use Rattle.sp_race.proofs.Verdict.{At, stepped, said, linked_start}
+use Rattle.sp_judge.specs.Races.{KnowsCompletion}
+use Rattle.sp_witness.specs.Witness.{who_of, who_at, alone, past_before, is_pause, is_known, offers_after, is_member, is_among, members, first_part, witness}
+use Rattle.sp_witness.specs.Contention.{IsContention, Shows}
+use Rattle.sp_witness.proofs.Moving.{Head, Free, MarkedFree, Cuts, Tag, Block, heads, kept, left, Ready, Runs, BlockRuns, EachFree, parted, in_front, ready_of, ready_back, ready_before}
+use Rattle.sp_witness.proofs.Pasts.{heads_from, Stage, past_here, MarksAre, cuts_from}
+use Rattle.sp_witness.proofs.Ticks.{said_same}
+use Rattle.sp_witness.proofs.Blocks.{AllQuiet, Valid, since_all, AllValid}
+use Rattle.sp_witness.proofs.Walking.{beside, tag_of, knows_so, Turned, turned, Walked, walked}
+use Rattle.sp_witness.proofs.Back.{entry_of, entries, turn_quiet, rebuilt}
+use Rattle.sp_witness.proofs.Parts.{UnmarkedFree, mark_in, marks_are, marks_after, members_are, free_before, each_left, left_append, kept_append, kept_valid, since_kept, since_stays, since_append, valid_second, cuts_second, Split, split, heads_append}
+use Rattle.sp_witness.proofs.Contending.{Offers, offers_of, waits_here, blocks_fit, contends}
+use Rattle.sp_witness.proofs.Order.{get_at}
+use Rattle.sp_witness.proofs.Standing.{Stands, nothing_stands, stands_from}
+use Rattle.sp_witness.proofs.Witnessing.{quiet_front, clean_front, runs_split, runs_join, entries_join, valid_join, LastStep, last_step, quiet_pending, quiet_condition, Pends, quiet_pends, AllFit, blocks_pend}
+
+true_false : {A : Type 0} → ◌≡◌ {A = Bool} true false → A
+true_false e = absurd (cc e)
+
+none_or : (a b : Bool) → a ≡ false → b ≡ false → a || b ≡ false
+none_or a b h k = ap (λ x. x || b) h ∙ k
+
+or_none : (a b : Bool) → a || b ≡ false → (a ≡ false) × (b ≡ false)
+or_none true b h = true_false h
+or_none false b h = (refl, h)
+
+-- a race, with the journal cut at its two offers
+module _ (g : Setting) (disjoint : IsDisjointRun g) (turn : ℕ) (es : List Occurrence) (n : ℕ) (t : StateOf g) (along : IsAlong g turn es n t) (clean : IsClean es) (quiet : IsQuiet es)
+    (w : Way) (c : Channel) (earlier later : ℕ) (before mid after : List Occurrence) (first second : Name)
+    (whole : es ≡ (before ++ record { who = first; what = Offered w c } ∷ mid)
+    ++ record { who = second; what = Offered w c } ∷ after)
+    (size_first : length before ≡ earlier)
+    (size_second : length (before ++ record { who = first; what = Offered w c } ∷ mid) ≡ later)
+    (known_before : AreKnown (before ++ record { who = first; what = Offered w c } ∷ mid))
+    (unknown : KnowsCompletion (judged (before ++ record { who = first; what = Offered w c } ∷ mid)) second earlier
+    → ⊥) where
+  abbrev L : Language
+  L = superpascal g
+
+  abbrev one : Occurrence
+  one = record { who = first; what = Offered w c }
+
+  abbrev two : Occurrence
+  two = record { who = second; what = Offered w c }
+
+  abbrev front : List Occurrence
+  front = before ++ one ∷ mid
+
+  abbrev known : ℕ → Bool
+  known = is_known es earlier later
+
+  zero_first : 0 + length before ≡ earlier
+  zero_first = omega (arith, size_first)
+
+  zero_second : 0 + length front ≡ later
+  zero_second = omega (arith, size_second)
+
+  in_order : earlier < later
+  in_order = let a = length-append before (one ∷ mid) in omega (arith, size_first, size_second, a)
+
+  stage_first : Stage es before (one ∷ (mid ++ two ∷ after)) (judged before) earlier
+  stage_first = record { whole = whole ∙ append_assoc before (one ∷ mid) (two ∷ after); is = refl; size = size_first }
+
+  stage_second : Stage es front (two ∷ after) (judged front) later
+  stage_second = record { whole = whole; is = refl; size = size_second }
+
+  quiet_second : QuietFrom nothing_judged 0 front × QuietFrom (judged front) (0 + length front) (two ∷ after)
+  quiet_second = quiet_front nothing_judged 0 front (two ∷ after) (subst (QuietFrom nothing_judged 0) whole quiet)
+
+  quiet_first : QuietFrom nothing_judged 0 before × QuietFrom (judged before) (0 + length before) (one ∷ mid)
+  quiet_first = quiet_front nothing_judged 0 before (one ∷ mid) quiet_second.0
+
+  stands_first : Stands (judged before) before earlier
+  stands_first = subst (λ z. Stands (judged before) before z) zero_first
+      (stands_from nothing_judged [] 0 before refl nothing_stands quiet_first.0)
+
+  stands_second : Stands (judged front) front later
+  stands_second = subst (λ z. Stands (judged front) front z) zero_second
+      (stands_from nothing_judged [] 0 front refl nothing_stands quiet_second.0)
+
+  got_first : slice_get es earlier ≡ Some one
+  got_first = ap (λ xs. slice_get xs earlier) stage_first.whole
+      ∙ get_at before one (mid ++ two ∷ after) earlier size_first
+
+  got_second : slice_get es later ≡ Some two
+  got_second = ap (λ xs. slice_get xs later) whole ∙ get_at front two after later size_second
+
+  who_first : who_at es earlier ≡ first
+  who_first = ap who_of got_first
+
+  who_second : who_at es later ≡ second
+  who_second = ap who_of got_second
+
+  past_first : (k : ℕ) → past_before es earlier k ≡ (judged before).past first k
+  past_first = past_here es before one (mid ++ two ∷ after) (judged before) earlier stage_first
+
+  past_second : (k : ℕ) → past_before es later k ≡ (judged front).past second k
+  past_second = past_here es front two after (judged front) later stage_second
+
+  -- neither offer's process knew the earlier offer
+  first_unknown : known earlier ≡ false
+  first_unknown = none_or (past_before es earlier earlier) (past_before es later earlier)
+      (past_first earlier ∙ not_true ((judged before).past first earlier)
+      (λ e. lt_irrefl earlier (stands_first.paired.below first earlier e)))
+      (past_second earlier
+      ∙ not_true ((judged front).past second earlier)
+      (λ e. unknown (stands_second.rounded.complete second earlier first w c
+      (get_at before one mid earlier size_first) e)))
+
+  abbrev mark : ℕ → Bool
+  mark = mark_in es earlier later 0 front
+
+  marks : MarksAre es earlier later mark 0 front
+  marks = marks_are es earlier later front
+
+  first_unmarked : mark earlier ≡ false
+  first_unmarked =
+      subst (λ z. mark z ≡ is_member es earlier later z one (is_among es earlier later first (suc z) mid)) zero_first
+      (marks_after es earlier later mark 0 before (one ∷ mid) marks).0
+      ∙ none_or (known earlier) false first_unknown refl
+
+  abbrev head_first : Head
+  head_first = record { who = first; what = Offered w c; at = earlier; knows = (judged before).past first }
+
+  abbrev head_second : Head
+  head_second = record { who = second; what = Offered w c; at = later; knows = (judged front).past second }
+
+  clean_all : IsClean front
+  clean_all = clean_front front (two ∷ after) (subst IsClean whole clean)
+
+  free_first : UnmarkedFree mark (heads_from nothing_judged 0 before) head_first
+  free_first = free_before es earlier later earlier
+      (λ k e. (or_none (past_before es earlier k) (past_before es later k) e).0)
+      (λ q k e. (or_none (same_name q (who_at es earlier) && nat_lt k earlier)
+      (same_name q (who_at es later) && nat_lt k later) e).0)
+      before one (mid ++ two ∷ after) (judged before) stage_first stands_first.kept quiet_first.1.0 who_first mark []
+      before (one ∷ mid) nothing_judged 0 refl refl (clean_front before (one ∷ mid) clean_all) marks
+      (omega (arith, zero_first))
+
+  free_second : UnmarkedFree mark (heads_from nothing_judged 0 front) head_second
+  free_second = free_before es earlier later later
+      (λ k e. (or_none (past_before es earlier k) (past_before es later k) e).1)
+      (λ q k e. (or_none (same_name q (who_at es earlier) && nat_lt k earlier)
+      (same_name q (who_at es later) && nat_lt k later) e).1)
+      front two after (judged front) stage_second stands_second.kept quiet_second.1.0 who_second mark [] front []
+      nothing_judged 0 refl refl clean_all (subst (MarksAre es earlier later mark 0) (sym (append-nil front)) marks)
+      (omega (arith, zero_second))
+
+  -- the run up to the later offer
+  walk : Walked g turn (two ∷ after) t front no_course (start g) no_notes nothing_judged [] 0 (λ i. None)
+  walk = walked g turn (two ∷ after) t front no_course (start g) n no_notes nothing_judged [] 0 (λ i. None)
+      (subst (λ z. Along g turn no_course (start g) z n t) whole along) clean_all
+      (record {
+        linked = linked_start g;
+        sound = sound_opening L (root g) (first_store g);
+        known = knows_nothing;
+        quiet = refl;
+      }) ([], refl) known_before
+
+  abbrev label : ℕ → Option Event
+  label = walk.label_after
+
+  at_second : At g walk.state walk.notes (judged front) front later label
+  at_second = subst (λ z. At g walk.state walk.notes (judged front) front z label) zero_second walk.at
+
+  abbrev start_notes : WithNotes L
+  start_notes = beside g (start g) no_notes
+
+  abbrev second_notes : WithNotes L
+  second_notes = beside g walk.state walk.notes
+
+  abbrev blocks : List (Block g)
+  blocks = walk.blocks_of
+
+  free_second_blocks : UnmarkedFree mark (heads g blocks) head_second
+  free_second_blocks = subst (λ z. UnmarkedFree mark z head_second) (sym walk.heads_are) free_second
+
+  cuts : Cuts mark (heads g blocks)
+  cuts = subst (Cuts mark) (sym walk.heads_are)
+      (cuts_from es earlier later mark [] front (two ∷ after) nothing_judged 0
+      (record { whole = whole; is = refl; size = refl }) nothing_kept quiet_second.0 clean_all marks)
+
+  -- the entries with their steps, cut at the earlier offer
+  cut : Split g (heads_from nothing_judged 0 before) head_first
+      (heads_from (judged_by (judged before) earlier first (Offered w c)) (suc earlier) mid) blocks
+  cut = split g (heads_from nothing_judged 0 before) head_first
+      (heads_from (judged_by (judged before) earlier first (Offered w c)) (suc earlier) mid) blocks
+      (walk.heads_are ∙ heads_append nothing_judged 0 before (one ∷ mid)
+      ∙ ap (λ z. heads_from nothing_judged 0 before ++ heads_from (judged before) z (one ∷ mid)) zero_first)
+
+  abbrev block : Block g
+  block = cut.block
+
+  block_unmarked : mark block.head.at ≡ false
+  block_unmarked = ap (λ (z : Head). mark z.at) cut.block_is ∙ first_unmarked
+
+  cuts_cut : Cuts mark (heads g (cut.front ++ block ∷ cut.back))
+  cuts_cut = subst (λ z. Cuts mark (heads g z)) cut.whole cuts
+
+  back_free : MarkedFree mark block.head (heads g cut.back)
+  back_free = cuts_second g mark cut.front block cut.back cuts_cut block_unmarked
+
+  front_free : UnmarkedFree mark (heads g cut.front) head_first
+  front_free = subst (λ z. UnmarkedFree mark z head_first) (sym cut.front_is) free_first
+
+  cond_false : {A : Type 0} (b : Bool) (x y : A) → b ≡ false → cond b x y ≡ y
+  cond_false b x y e = ap (λ z. cond z x y) e
+
+  kept_is : kept g mark blocks ≡ kept g mark cut.front ++ kept g mark cut.back
+  kept_is = ap (kept g mark) cut.whole ∙ kept_append g mark cut.front (block ∷ cut.back)
+      ∙ ap (λ z. kept g mark cut.front ++ z)
+      (cond_false (mark block.head.at) (block ∷ kept g mark cut.back) (kept g mark cut.back) block_unmarked)
+
+  left_is : left g mark blocks ≡ left g mark cut.front ++ block ∷ left g mark cut.back
+  left_is = ap (left g mark) cut.whole ∙ left_append g mark cut.front (block ∷ cut.back)
+      ∙ ap (λ z. left g mark cut.front ++ z)
+      (cond_false (mark block.head.at) (left g mark cut.back) (block ∷ left g mark cut.back) block_unmarked)
+
+  -- the later offer's process: its local steps, and its offer
+  rest : Along g turn walk.course walk.state (two ∷ after) walk.steps_left t
+  rest = walk.goes_on
+
+  local_steps : Turned g turn (walk.course.since second) second walk.state rest.3 walk.notes (judged front) front later
+      label head_second rest.4
+  local_steps = turned g turn (walk.course.since second) second rest.1 walk.state rest.3 walk.notes (judged front) front
+      later label head_second rest.4 refl refl refl rest.6 at_second walk.way
+
+  abbrev tags : List (Tag g)
+  tags = local_steps.tags
+
+  abbrev end_notes : WithNotes L
+  end_notes = beside g rest.3 local_steps.notes
+
+  tags_quiet : AllQuiet g turn (walk.course.since second) tags
+  tags_quiet = ⊎_elim
+      (λ (z : (rest.4 ≡ false) × AllQuiet g turn (walk.course.since second) tags × (own : Process) × (running g rest.3 second ≡ Some own) × (what : Happening) × (says g rest.3 second own ≡ Some what)). z.1)
+      (λ (z : (rest.4 ≡ true) × Valid g turn (walk.course.since second) Paused tags (ticks_of g rest.3 second)).
+      true_false (sym z.0 ∙ rest.7.1))
+      local_steps.kind
+
+  abbrev own : Process
+  own = rest.7.5.0
+
+  its_offer : Offers L (L.next own rest.3.store) w c × (passed (most g) rest.3.totals (Some an_entry) ≡ None)
+  its_offer =
+      let h = rest.7.5 in
+      let x = stepped g rest.3 second own rest.7.2 h.1 h.3
+      (quiet_step g rest.3 second own rest.7.2 (Some (Offered w c)) h.1 h.2 tt h.3 local_steps.at.quiet) in
+      let is : said_of {L = L} (L.next own rest.3.store) (Advances []) ≡ Some (Offered w c) =
+      said_same {L = L} (L.next own rest.3.store) [] x.cs
+      ∙ ap (λ z. said_of {L = L} (L.next z rest.3.store) (Advances x.cs)) (sym x.same)
+      ∙ sym (said g rest.3 second own rest.7.2 x) ∙ h.2 in
+      let o = offers_of L (L.next own rest.3.store) w c is in (
+        o,
+        subst (λ a. passed (most g) rest.3.totals (cost a) ≡ None) o.is
+            (subst (λ z. passed (most g) rest.3.totals (cost (L.next z rest.3.store)) ≡ None) x.same x.one.within),
+      )
+
+  ready_end : Ready g label end_notes head_second (tag_of g rest.3 own)
+  ready_end = record {
+    works = rest.7.5.1;
+    act_is = refl;
+    beat_is = refl;
+    past = λ k e lt is. knows_so g rest.3 local_steps.notes (judged front) front later label label second local_steps.at
+        (λ i l. refl) k e lt is;
+  }
+
+  -- first the first part, then the earlier offer, and then the later one's local steps
+  parts : (m : WithNotes L) × BlockRuns g label start_notes (kept g mark blocks) m
+      × BlockRuns g label m (left g mark blocks) second_notes
+  parts = parted g label disjoint mark start_notes second_notes blocks cuts walk.runs
+
+  abbrev after_part : WithNotes L
+  after_part = parts.0
+
+  others : (m : WithNotes L) × BlockRuns g label after_part (left g mark cut.front) m
+      × BlockRuns g label m (block ∷ left g mark cut.back) second_notes
+  others = runs_split g label after_part second_notes (left g mark cut.front) (block ∷ left g mark cut.back)
+      (subst (λ z. BlockRuns g label after_part z second_notes) left_is parts.2)
+
+  block_first : (m : WithNotes L) × Runs g label after_part block.head block.tags m
+      × BlockRuns g label m (left g mark cut.front) others.2.0
+  block_first = in_front g label disjoint after_part others.0 others.2.0 (left g mark cut.front) block.head block.tags
+      (subst (EachFree g label (left g mark cut.front)) (sym cut.block_is)
+      (each_left g mark label cut.front head_first front_free)) others.1 others.2.1
+
+  abbrev after_first : WithNotes L
+  after_first = block_first.0
+
+  abbrev remaining : List (Block g)
+  remaining = left g mark cut.front ++ left g mark cut.back
+
+  free_all : EachFree g label (left g mark blocks) head_second
+  free_all = each_left g mark label blocks head_second free_second_blocks
+
+  free_parts : (xs : List (Block g)) (b : Block g) (ys : List (Block g)) → EachFree g label (xs ++ b ∷ ys) head_second
+      → EachFree g label (xs ++ ys) head_second × Free b.head head_second
+  free_parts [] b ys f = (f.1, f.0)
+  free_parts (x ∷ xs) b ys f = let r = free_parts xs b ys f.1 in ((f.0, r.0), r.1)
+
+  free_cut : EachFree g label remaining head_second × Free block.head head_second
+  free_cut = free_parts (left g mark cut.front) block (left g mark cut.back)
+      (subst (λ z. EachFree g label z head_second) left_is free_all)
+
+  second_first : (m : WithNotes L) × Runs g label after_first head_second tags m
+      × BlockRuns g label m remaining end_notes
+  second_first = in_front g label disjoint after_first second_notes end_notes remaining head_second tags free_cut.0
+      (runs_join g label after_first others.2.0 second_notes (left g mark cut.front) (left g mark cut.back)
+      block_first.2 others.2.2) (local_steps.runs label (λ k lt. refl))
+
+  abbrev at_end : WithNotes L
+  at_end = second_first.0
+
+  ready_at_end : Ready g label at_end head_second (tag_of g rest.3 own)
+  ready_at_end = ready_before g label disjoint at_end end_notes remaining head_second (tag_of g rest.3 own) free_cut.0
+      second_first.2 ready_end
+
+  -- what the later offer's process does next after the earlier offer
+  ready_after_first : (x : Tag g) × Ready g label after_first head_second x
+  ready_after_first = by tags second_first.1
+    where
+      by : (xs : List (Tag g)) → Runs g label after_first head_second xs at_end
+          → (x : Tag g) × Ready g label after_first head_second x
+      by [] r = (tag_of g rest.3 own, subst (λ z. Ready g label z head_second (tag_of g rest.3 own)) r ready_at_end)
+      by (x ∷ xs) r = (x, ready_of g label disjoint after_first head_second x r.1.fits)
+
+  abbrev no_since : Name → ℕ
+  no_since = λ q. 0
+
+  valid_cut : AllValid g turn (since_all g turn no_since cut.front) (block ∷ cut.back)
+  valid_cut = valid_second g mark turn no_since cut.front (block ∷ cut.back)
+      (subst (AllValid g turn no_since) cut.whole walk.valid)
+
+  valid_block : Valid g turn (since_all g turn no_since cut.front block.head.who) (Offered w c) block.tags block.ticks
+  valid_block = subst (λ z. Valid g turn (since_all g turn no_since cut.front block.head.who) z block.tags block.ticks)
+      (ap (λ (z : Head). z.what) cut.block_is) valid_cut.0
+
+  valid_kept : AllValid g turn no_since (kept g mark blocks)
+  valid_kept = kept_valid g mark turn no_since no_since blocks walk.valid cuts (λ q h. refl)
+
+  last : LastStep g label turn w c (since_all g turn no_since cut.front block.head.who) after_part after_first
+      block.head
+  last = last_step g label turn w c (since_all g turn no_since cut.front block.head.who) after_part after_first
+      block.head block.tags block.ticks valid_block block_first.1
+
+  -- each entry of the first part is a pause, or is known
+  all_fit : (j : Judged) (n : ℕ) (xs : List Occurrence) (bs : List (Block g)) → heads g bs ≡ heads_from j n xs
+      → MarksAre es earlier later mark n xs → AllFit g label turn known (kept g mark bs)
+  all_fit j n xs [] e m = tt
+  all_fit j n [] (b ∷ bs) e m = absurd (cons_nil e)
+    where
+      cons_nil : {A : Type 0} {x : A} {xs : List A} → x ∷ xs ≡ [] → ⊥
+      cons_nil e = cc
+  all_fit j n (x ∷ xs) (b ∷ bs) e m =
+      let h : b.head ≡ record { who = x.who; what = x.what; at = n; knows = j.past x.who } = head_is e in
+      let r = all_fit (judged_by j n x.who x.what) (suc n) xs bs (tail_is e) m.1 in
+      elim (mark b.head.at) as (λ z. mark b.head.at ≡ z
+      → AllFit g label turn known (cond z (b ∷ kept g mark bs) (kept g mark bs))) [
+        | true ↦ λ is.
+            let k : is_member es earlier later n x (is_among es earlier later x.who (suc n) xs) ≡ true = sym m.0
+            ∙ ap (λ (z : Head). mark z.at) (sym h) ∙ is in (
+              ⊎_elim
+                  (λ (y : known n ≡ true). inr (ap (λ (z : Head). known z.at) h ∙ y))
+                  (λ (y : is_pause x.what && (offers_after es earlier later x.who n || is_among es earlier later x.who (suc n) xs) ≡ true). inl (ap (λ (z : Head). is_pause z.what) h ∙ and_left (is_pause x.what) (offers_after es earlier later x.who n || is_among es earlier later x.who (suc n) xs) y))
+                  (or_cases (known n) (is_pause x.what
+                  && (offers_after es earlier later x.who n || is_among es earlier later x.who (suc n) xs)) k),
+              r,
+            )
+        | false ↦ λ is. r
+      ] refl
+    where
+      head_is : {A : Type 0} {x y : A} {xs ys : List A} → x ∷ xs ≡ y ∷ ys → x ≡ y
+      head_is e = cc
+
+      tail_is : {A : Type 0} {x y : A} {xs ys : List A} → x ∷ xs ≡ y ∷ ys → xs ≡ ys
+      tail_is e = cc
+
+  pends_last : Pends g label turn known last.before
+  pends_last = quiet_pends g label turn known (since_all g turn no_since cut.front block.head.who) after_part
+      last.before block.head last.locals last.quiet last.runs
+      (blocks_pend g label turn known no_since start_notes after_part (kept g mark blocks)
+      (all_fit nothing_judged 0 front blocks walk.heads_are marks) valid_kept parts.1 (λ d z e. absurd (none_is e)))
+
+  ready_last : Ready g label last.before head_second ready_after_first.0
+  ready_last = ready_back g label disjoint last.before after_first block.head head_second last.tag ready_after_first.0
+      free_cut.1 last.does ready_after_first.1
+
+  -- whose offer is pending is known, and so its offer was completed
+  not_pending : (z : Name) → last.before.state.pending c ≡ Some z → ⊥
+  not_pending z e =
+      let k = pends_last c z e in
+      let m : Event = mine last.before.notes z in
+      ⊎_elim
+      (λ (x : past_before es earlier k.0 ≡ true).
+      let p : (judged before).past first k.0 ≡ true = sym (past_first k.0) ∙ x in
+      let lt : k.0 < block.head.at =
+      subst (λ (h : Head). k.0 < h.at) (sym cut.block_is) (stands_first.paired.below first k.0 p) in
+      let q : last.before.notes.past block.head.who m ≡ true = last.does.fits.past k.0 m lt k.1
+      ∙ ap (λ (h : Head). h.knows k.0) cut.block_is ∙ p in
+      lt_irrefl m.nth (last.does.good.known block.head.who m q))
+      (λ (x : past_before es later k.0 ≡ true).
+      let p : (judged front).past second k.0 ≡ true = sym (past_second k.0) ∙ x in
+      let q : last.before.notes.past second m ≡ true =
+      ready_last.past k.0 m (stands_second.paired.below second k.0 p) k.1 ∙ p in
+      lt_irrefl m.nth (last.does.good.known second m q))
+      (or_cases (past_before es earlier k.0) (past_before es later k.0) k.2)
+
+  none_pending : last.before.state.pending c ≡ None
+  none_pending = by (last.before.state.pending c) refl
+    where
+      by : (o : Option Name) → last.before.state.pending c ≡ o → last.before.state.pending c ≡ None
+      by None e = e
+      by (Some z) e = absurd (not_pending z e)
+
+  who_block : block.head.who ≡ first
+  who_block = ap (λ (z : Head). z.who) cut.block_is
+
+  waits : (after_first.state.pending c ≡ Some block.head.who)
+      × (after_first.state.condition block.head.who ≡ Waits last.offers.offer)
+  waits = waits_here g label last.before block.head last.tag after_first last.does w c last.offers none_pending
+
+  first_second : first ≢ second
+  first_second e = free_cut.1.0 (who_block ∙ e)
+
+  pends_end : at_end.state.pending c ≡ Some first
+  pends_end = quiet_pending g label turn (walk.course.since second) after_first at_end head_second tags c tags_quiet
+      second_first.1 ∙ waits.0 ∙ ap (λ z. Some z) who_block
+
+  waits_end : at_end.state.condition first ≡ Waits last.offers.offer
+  waits_end = quiet_condition g label turn (walk.course.since second) after_first at_end head_second tags first
+      first_second tags_quiet second_first.1
+      ∙ subst (λ (z : Name). after_first.state.condition z ≡ Waits last.offers.offer) who_block waits.1
+
+  offers_end : Offers L (L.next own at_end.state.store) w c
+  offers_end = subst (λ a. Offers L a w c) (sym ready_at_end.act_is) its_offer.0
+
+  faulty : (says g at_end.state second own ≡ Some (Faulted fault.F6))
+      × (next g at_end.state second ≡ Some (changed (Faults second fault.F6) at_end.state))
+  faulty = contends g label at_end.state first second own w c ready_at_end.works offers_end last.offers.offer pends_end
+      waits_end last.offers.way_is
+      (blocks_fit g label (Some an_entry) at_end end_notes remaining second_first.2 its_offer.1)
+
+  abbrev end_state : StateOf g
+  end_state = changed (Faults second fault.F6) at_end.state
+
+  since_block : since_all g turn no_since (kept g mark blocks) block.head.who
+      ≡ since_all g turn no_since cut.front block.head.who
+  since_block =
+      ap (λ z. since_all g turn no_since z block.head.who) kept_is
+      ∙ ap (λ f. f block.head.who) (since_append g mark turn no_since (kept g mark cut.front) (kept g mark cut.back))
+      ∙ since_stays g mark turn (since_all g turn no_since (kept g mark cut.front)) cut.back block.head back_free
+      ∙ since_kept g mark turn no_since no_since cut.front block.head
+      (subst (UnmarkedFree mark (heads g cut.front)) (sym cut.block_is) front_free) refl
+
+  since_second : since_all g turn no_since (kept g mark blocks ++ block ∷ []) second ≡ walk.course.since second
+  since_second =
+      ap (λ f. f second) (since_append g mark turn no_since (kept g mark blocks) (block ∷ []))
+      ∙ ap (λ b. cond b block.ticks (since_all g turn no_since (kept g mark blocks) second))
+      (differs name_test block.head.who second free_cut.1.0)
+      ∙ since_kept g mark turn no_since no_since blocks head_second free_second_blocks refl
+      ∙ ap (λ f. f second) (sym walk.since)
+
+  valid_all : AllValid g turn no_since (kept g mark blocks ++ block ∷ [])
+  valid_all = valid_join g label turn no_since (kept g mark blocks) (block ∷ []) valid_kept
+      (subst (λ z. Valid g turn z block.head.what block.tags block.ticks) (sym since_block) valid_cut.0, tt)
+
+  abbrev tail : List Occurrence
+  tail = record { who = second; what = Faulted fault.F6 } ∷ []
+
+  runs_all : (k : ℕ) × Along g turn no_course (start g) (entries g (kept g mark blocks ++ block ∷ []) ++ tail) k
+      end_state
+  runs_all = rebuilt g turn label tail end_state (kept g mark blocks ++ block ∷ []) start_notes after_first no_course
+      (runs_join g label start_notes after_part after_first (kept g mark blocks) (block ∷ []) parts.1 (
+        after_first,
+        block_first.1,
+        refl,
+      )) valid_all (refl, λ q. refl)
+      (λ c1 e f.
+      let q = turn_quiet g turn label (c1.since second) after_first at_end head_second tags
+      (subst (λ z. AllQuiet g turn z tags) (sym (ap (λ h. h second) e ∙ since_second)) tags_quiet) second_first.1
+      own ready_at_end.works (Faulted fault.F6) faulty.0 in (
+        q.0 + 1,
+        (
+          f.1 second,
+          q.0,
+          1,
+          at_end.state,
+          false,
+          refl,
+          q.1,
+          (f.0, refl, end_state, 0, refl, (own, ready_at_end.works, faulty.0, faulty.1), (refl, refl)),
+        ),
+      ))
+
+  entries_are : entries g (kept g mark blocks ++ block ∷ []) ++ tail ≡ witness es earlier later
+  entries_are =
+      let part : entries g (kept g mark blocks) ≡ first_part es earlier later =
+      members_are es earlier later g mark nothing_judged 0 front blocks walk.heads_are marks
+      ∙ ap (members es earlier later 0)
+      (sym (ap (take later) whole ∙ take_at front (two ∷ after) later size_second)) in
+      ap (λ z. z ++ tail) (entries_join g label (kept g mark blocks) (block ∷ []))
+      ∙ ap (λ z. (entries g (kept g mark blocks) ++ entry_of z ∷ []) ++ tail) cut.block_is
+      ∙ (λ i. (part i ++ alone (sym got_first i)) ++ record { who = sym who_second i; what = Faulted fault.F6 } ∷ [])
+
+  pub shown : Shows g turn es w c earlier later
+  shown = record {
+    size = runs_all.0;
+    state = end_state;
+    along = subst (λ z. Along g turn no_course (start g) z runs_all.0 end_state) entries_are runs_all.1;
+    contention = subst (λ z. IsContention g end_state w c z (who_at es later)) (sym who_first)
+        (subst (λ z. IsContention g end_state w c first z) (sym who_second) (record {
+          fault = refl;
+          own = own;
+          runs = ready_at_end.works;
+          offer = offers_end.offer;
+          offers = offers_end.is;
+          way_is = offers_end.way_is;
+          channel_is = offers_end.channel_is;
+          pends = pends_end;
+          waiting = last.offers.offer;
+          waits = waits_end;
+          same_way = last.offers.way_is;
+        }));
+  }

@@ -1,0 +1,62 @@
+-- The first part of a witness by one pass backwards over the entries before the later offer: who is needed after an
+-- entry says whether the entry is, and who is needed before it. The law of this crate says that this is the first part.
+use Rattle.std.specs.Prelude.{ℕ, zero, suc, Bool, false, ◌&&◌, ◌||◌, ◌==◌, if◌then◌else◌, List, [], ◌∷◌, take, Option, Some, None}
+use Rattle.sp_journal.specs.Maps.{at_key}
+use Rattle.sp_journal.specs.Names.{Name, same_name, Happening, Opened, Forked, Offered, Ended, Faulted, Laid, Paused, Occurrence}
+use Rattle.sp_journal.specs.Past.{Judged, judged_by, nothing_judged}
+use Rattle.sp_witness.specs.Witness.{who_at}
+
+-- one of the first m children of fork k of p is needed
+abbrev pub any_child : (Name → Bool) → Name → ℕ → ℕ → Bool
+any_child needed p k zero = false
+any_child needed p k (suc m) = needed ((k, m) ∷ p) || any_child needed p k m
+
+-- the parent of a process is needed
+abbrev pub parent_is : (Name → Bool) → Name → Bool
+parent_is needed [] = false
+parent_is needed (a ∷ p) = needed p
+
+-- of two that meet both are needed where either is
+abbrev pub needed_to_meet : Name → Option (Name × ℕ) → (Name → Bool) → Name → Bool
+needed_to_meet p None needed = needed
+needed_to_meet p (Some o) needed =
+    at_key same_name p (needed p || needed o.0) (at_key same_name o.0 (needed p || needed o.0) needed)
+
+-- Who is needed before an entry of p, of those needed after it: a parent that forks where a child is, both that meet
+-- where one of them is, a child that ends where its parent is
+abbrev pub needed_before : Judged → Name → Happening → (Name → Bool) → Name → Bool
+needed_before j p Opened needed = needed
+needed_before j p (Forked m) needed = at_key same_name p (needed p || any_child needed p (j.forks p) m) needed
+needed_before j p (Offered w c) needed = needed_to_meet p (j.pending c) needed
+needed_before j p Ended needed = at_key same_name p (needed p || parent_is needed p) needed
+needed_before j p (Faulted f) needed = needed
+needed_before j p Laid needed = needed
+needed_before j p Paused needed = needed
+
+module _ (es : List Occurrence) (earlier later : ℕ) where
+  -- who is needed before these entries, which end before the later offer: the process of that offer, and before the
+  -- earlier offer the process of that one too
+  abbrev pub needed : Judged → ℕ → List Occurrence → Name → Bool
+  needed j n [] q = same_name q (who_at es later)
+  needed j n (e ∷ rest) q =
+      needed_before j e.who e.what (needed (judged_by j n e.who e.what) (suc n) rest) q
+      || ((n == earlier) && same_name q e.who)
+
+  -- the entries whose process is needed
+  abbrev pub taken : Judged → ℕ → List Occurrence → List Occurrence
+  taken j n [] = []
+  taken j n (e ∷ rest) =
+      if needed_before j e.who e.what (needed (judged_by j n e.who e.what) (suc n) rest) e.who
+      then e ∷ taken (judged_by j n e.who e.what) (suc n) rest
+      else taken (judged_by j n e.who e.what) (suc n) rest
+
+  -- whether each of these entries is taken
+  abbrev pub needed_marks : Judged → ℕ → List Occurrence → List Bool
+  needed_marks j n [] = []
+  needed_marks j n (e ∷ rest) =
+      needed_before j e.who e.what (needed (judged_by j n e.who e.what) (suc n) rest) e.who
+      ∷ needed_marks (judged_by j n e.who e.what) (suc n) rest
+
+  -- the pass over all entries before the later offer
+  abbrev pub pass : List Occurrence
+  pass = taken nothing_judged 0 (take later es)
