@@ -1,0 +1,4 @@
+pub mod Ways
+pub mod Numbering
+pub mod Journals
+pub mod Ends
