@@ -13,6 +13,7 @@ use Rattle.sp_tree.specs.NameFirst.{names_broken}
 use Rattle.sp_tree.specs.Interference.{IsFreeOfInterference}
 use Rattle.sp_types.specs.TypeFirst.{types_broken}
 use Rattle.sp_types.specs.CheckedTree.{program_checked}
+use Rattle.sp_code.specs.Sizes.{HasSmallTypes}
 use Rattle.sp_code.specs.Stands.{IsFine}
 use Rattle.sp_code.specs.Quiet.{IsQuiet}
 use Rattle.sp_facts.specs.Gives.{KeepsInterference, IsAccepted}
@@ -24,6 +25,7 @@ use Rattle.sp_facts.proofs.Results.{program_answers}
 use Rattle.sp_facts.proofs.PhaseAnswers.{names_kept, types_kept}
 use Rattle.sp_facts.proofs.Unbroken.{program_free, function_quiet}
 use Rattle.sp_facts.proofs.Grammatical.{program_full}
+use Rattle.sp_facts.proofs.SmallTypes.{types_small}
 use Rattle.sp_facts.proofs.TreeFormed.{program_formed}
 
 -- what is said of the checked tree of a tree that breaks no rule of names and none of types holds of an accepted one
@@ -49,6 +51,9 @@ accepted_fine text g accepted moves shares f q b at =
 
 pub accepted_free : (text : List ℕ) (g : c.Program) → IsAccepted text g → IsFreeOfInterference (bare g)
 accepted_free text g accepted = accepted_by (λ (z : c.Program). IsFreeOfInterference (bare z)) text g accepted (λ s is calm no_types kept. program_free s calm kept)
+
+pub accepted_small : (text : List ℕ) (g : c.Program) → IsAccepted text g → HasSmallTypes (bare g)
+accepted_small text g accepted = accepted_by (λ (z : c.Program). HasSmallTypes (bare z)) text g accepted (λ s is calm no_types kept. types_small s no_types)
 
 pub accepted_formed : (text : List ℕ) (g : c.Program) → IsAccepted text g → IsFormed (bare g)
 accepted_formed text g accepted = accepted_by (λ (z : c.Program). IsFormed (bare z)) text g accepted

@@ -9,6 +9,7 @@ ghost use Rattle.sp_tree.specs.Interference.{IsFreeOfInterference};
 ghost use Rattle.sp_types.specs.TypeFirst.{types_broken};
 ghost use Rattle.sp_facts.specs.Earlier.{AreFormedKinds};
 ghost use Rattle.sp_facts.specs.Held.{AreScoped};
+ghost use Rattle.sp_code.specs.Sizes.{HasSmallTypes};
 ghost use Rattle.sp_code.specs.Stands.{IsFine};
 ghost use Rattle.sp_tree.specs.PlainChecked.{Program as Checked};
 ghost use Rattle.sp_tree.specs.Bare.{bare};
@@ -50,10 +51,11 @@ pub fn blocks_are_fine()
         → (moves shares : Stmt → List ℕ) (f q : ℕ) (c : Block) → slice_get (tree s).blocks f ≡ Some c → IsFine (tree s) moves shares (IsQuiet (tree s)) f q c }
 {}
 
-/// A text that breaks no rule has a tree that is formed and free of interference, and each block of it is fine, whatever sets
-/// of variables its forks are given.
+/// A text that breaks no rule has a tree that is formed, has small types and is free of interference, and each block of it is
+/// fine, whatever sets of variables its forks are given.
 pub fn accepted_trees_are_fine()
     ensures formed { (text : List ℕ) (c : Checked) → IsAccepted text c → IsFormed (bare c) }
+    ensures small { (text : List ℕ) (c : Checked) → IsAccepted text c → HasSmallTypes (bare c) }
     ensures free { (text : List ℕ) (c : Checked) → IsAccepted text c → IsFreeOfInterference (bare c) }
     ensures fine { (text : List ℕ) (c : Checked) → IsAccepted text c
         → (moves shares : Stmt → List ℕ) (f q : ℕ) (b : Block) → slice_get (bare c).blocks f ≡ Some b → IsFine (bare c) moves shares (IsQuiet (bare c)) f q b }

@@ -15,7 +15,7 @@ use Rattle.sp_tree.proofs.NoBreach.{block_at}
 use Rattle.sp_code.specs.Shares.{SetsAre}
 use Rattle.sp_code.specs.Sound.{AreLimits}
 use Rattle.sp_facts.specs.Gives.{KeepsInterference, IsAccepted}
-use Rattle.sp_facts.proofs.Joining.{accepted_fine, accepted_free, accepted_formed}
+use Rattle.sp_facts.proofs.Joining.{accepted_fine, accepted_free, accepted_formed, accepted_small}
 use Rattle.sp_link.specs.Premises.{IsReady}
 
 variable_at : (vs : List Placed) (x : ℕ) (v : Variable) → slice_get (map variable_of vs) x ≡ Some v → (i : Placed) × (slice_get vs x ≡ Some i) × (variable_of i ≡ v)
@@ -55,6 +55,7 @@ accepted_ready text p a moves shares sets input lim l =
       main = first.0;
       first = first.1;
       formed = formed;
+      small = accepted_small text p a;
       free = free;
       pure = changes_nothing p a.1;
       values = takes_values p a.1;
