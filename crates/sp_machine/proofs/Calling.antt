@@ -24,14 +24,15 @@ use Rattle.sp_code.specs.Memory.{Memory, Setting, memory, references, filled, op
 use Rattle.sp_code.specs.PlainStore.{plain}
 use Rattle.sp_machine.specs.declared.stack.Operand.{Operand}
 use Rattle.sp_machine.specs.declared.stack.Operand.TheVariants as operand
-use Rattle.sp_machine.specs.Arguments.{HasOwn, Takes, TakeAll, pointer_in}
-use Rattle.sp_machine.specs.Entries.{entry_of, entries_of}
+use Rattle.sp_machine.specs.Arguments.{HasOwn, Takes, TakeAll}
+use Rattle.sp_machine.specs.Entries.{entry_of, entries_of, pointer_in}
 use Rattle.sp_code.specs.Sound.{run_of}
 use Rattle.sp_base.specs.declared.halt.Memory.{Memory as Refused}
 use Rattle.sp_machine.specs.declared.state.State.{State}
 use Rattle.sp_machine.specs.declared.state.Stop.{Stop}
 use Rattle.sp_machine.specs.declared.state.Stop.TheVariants as stop
-use Rattle.sp_machine.specs.Procs.{HasRoom, Came, Stays, memory_of, setting_of}
+use Rattle.sp_code.specs.Formals.{HasRoom}
+use Rattle.sp_machine.specs.Procs.{Came, Stays, memory_of, setting_of}
 
 -- ---- arguments one after another
 

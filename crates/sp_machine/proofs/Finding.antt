@@ -10,7 +10,7 @@ use Rattle.sp_code.specs.declared.code.Parts.{Parts}
 use Rattle.sp_code.specs.Machine.{layout_of}
 use Rattle.sp_code.specs.Sizes.{HasNumbers, KeepsSizes}
 use Rattle.sp_code.specs.Sound.{HasDistinctBlocks}
-use Rattle.sp_machine.specs.Procs.{HaveFormals, HasRoom}
+use Rattle.sp_code.specs.Formals.{HaveFormals, HasRoom}
 
 pub layout_here : (ls : List Layout) (b i : ℕ) (l : Layout) → i < length ls → l ≡ get_or ls i l → l.block ≡ b → layout_of (drop i ls) b ≡ Some l
 layout_here [] b i l h e k = absurd (omega (arith, h))

@@ -10,13 +10,12 @@ use Rattle.sp_code.specs.Memory.{Memory, memory, Setting}
 use Rattle.sp_code.specs.PlainStore.{plain}
 use Rattle.sp_code.specs.Sound.{run_of}
 use Rattle.sp_code.specs.Budgets.{left_by, ticks_left}
-use Rattle.sp_code.specs.Ranks.{IsRanked}
 use Rattle.sp_code.proofs.Falls.{falls}
 use Rattle.sp_code.proofs.Spending.{spends}
 use Rattle.sp_machine.specs.declared.state.State.{State}
 use Rattle.sp_machine.specs.declared.state.Stop.{Stop}
 use Rattle.sp_machine.specs.declared.state.Stop.TheVariants as stop
-use Rattle.sp_machine.specs.Procs.{config_of, setting_of, next_of, Came, StopIs, FaultIs, IsTurnOf}
+use Rattle.sp_machine.specs.Procs.{config_of, setting_of, next_of, Came, StopIs, FaultIs, IsRankedFrom, IsTurnOf}
 
 module _ (g : Setting) where
   abbrev ops : m.Ops (Memory Plain)
@@ -93,8 +92,8 @@ module _ (x : State) (code : Parts) (lim : Limits) (p : State) (input : p.input 
     pub on_it : Came (next_of p code lim) p q None → ComesIn (memory plain (setting_of x code lim)) code (suc n) (config_of x) (config_of q)
     on_it c = comes_more (setting_of x code lim) n (config_of x) (config_of p) (config_of q) h (goes_to c)
 
-    pub smaller : IsRanked code.instrs → Came (next_of p code lim) p q None → left_by code.instrs (ticks_left (setting_of x code lim)) (config_of q) < left_by code.instrs (ticks_left (setting_of x code lim)) (config_of p)
-    smaller ranked c = falls (memory plain (setting_of x code lim)) code (ticks_left (setting_of x code lim)) (spends plain (setting_of x code lim)) ranked (config_of p) (config_of q) (goes_to c)
+    pub smaller : IsRankedFrom x code lim → Came (next_of p code lim) p q None → left_by code.instrs (ticks_left (setting_of x code lim)) (config_of q) < left_by code.instrs (ticks_left (setting_of x code lim)) (config_of p)
+    smaller ranked c = falls (memory plain (setting_of x code lim)) code (ticks_left (setting_of x code lim)) (spends plain (setting_of x code lim)) (config_of p) (config_of q) (ranked (config_of p) (record { steps = n; by = h })) (goes_to c)
 
     pub ends_it : (s : Stop) → Came (next_of p code lim) p q (Some s) → IsTurnOf x code lim q s
     ends_it s c = stopped (setting_of x code lim) (config_of x) p q n b h x code lim refl refl s (next_of p code lim) (sym same_next) (safe_next n safe b h) c

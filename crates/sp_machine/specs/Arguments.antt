@@ -1,21 +1,9 @@
--- The arguments of a call, and the variables into which they go. The contracts of calls cite it, argument by argument.
-use Rattle.std.specs.Prelude.{ℕ, suc, ◌≤◌, List, [], ◌∷◌, length, Option, Some, None}
-use Rattle.sp_cell.specs.declared.spot.Address.{Address}
-use Rattle.sp_machine.specs.declared.stack.Operand.{Operand}
-use Rattle.sp_machine.specs.declared.stack.Operand.TheVariants as operand
+-- The variables into which the arguments of a call go. The contracts of calls cite it, argument by argument.
+use Rattle.std.specs.Prelude.{ℕ, suc, ◌≤◌, List, [], ◌∷◌, length}
 use Rattle.std.specs.FinMap as map
 use Rattle.sp_cell.specs.declared.spot.Spot.{Spot}
 use Rattle.sp_cell.specs.Map.{Map, IsOwn, cells_at}
 use Rattle.sp_code.specs.Machine.{Entry, Number, Chan, Pointer, Cells, Link, Reply}
-
--- the address that an argument is, if it is one
-abbrev pub pointer_in : Operand → Option Address
-pointer_in (operand.Number n) = None
-pointer_in (operand.Channel c) = None
-pointer_in (operand.Pointer a) = Some a
-pointer_in (operand.Cells cs) = None
-pointer_in (operand.Link r) = None
-pointer_in (operand.Reply r) = None
 
 -- an own piece of so many cells or more
 abbrev pub HasOwn : Map → Spot → ℕ → Type 0

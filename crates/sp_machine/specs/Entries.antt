@@ -1,7 +1,10 @@
 -- The entries of a stack as the machine's definition sees them. The contracts of all instructions that use the stack
 -- cite it.
-use Rattle.std.specs.Prelude.{ℕ, ◌+◌, List, [], ◌∷◌}
+use Rattle.std.specs.Prelude.{◌≡◌, ℕ, ◌+◌, ℤ, List, [], ◌∷◌, Option, Some, None}
+use Rattle.sp_cell.specs.declared.spot.Address.{Address}
+use Rattle.sp_cell.specs.Map.{Plain}
 use Rattle.sp_code.specs.Machine as m
+use Rattle.sp_code.specs.Memory.{Memory}
 use Rattle.sp_machine.specs.declared.stack.Operand.{Operand}
 use Rattle.sp_machine.specs.declared.stack.Operand.TheVariants as operand
 
@@ -32,3 +35,38 @@ counted (operand.Reply r) = 1
 abbrev pub replies : List Operand → ℕ
 replies [] = 0
 replies (o ∷ os) = counted o + replies os
+
+-- the number, the channel and the address that an entry is, if it is one
+abbrev pub number_in : Operand → Option ℤ
+number_in (operand.Number n) = Some n
+number_in (operand.Channel c) = None
+number_in (operand.Pointer a) = None
+number_in (operand.Cells cs) = None
+number_in (operand.Link r) = None
+number_in (operand.Reply r) = None
+
+abbrev pub channel_in : Operand → Option ℕ
+channel_in (operand.Number n) = None
+channel_in (operand.Channel c) = Some c
+channel_in (operand.Pointer a) = None
+channel_in (operand.Cells cs) = None
+channel_in (operand.Link r) = None
+channel_in (operand.Reply r) = None
+
+abbrev pub pointer_in : Operand → Option Address
+pointer_in (operand.Number n) = None
+pointer_in (operand.Channel c) = None
+pointer_in (operand.Pointer a) = Some a
+pointer_in (operand.Cells cs) = None
+pointer_in (operand.Link r) = None
+pointer_in (operand.Reply r) = None
+
+-- no number is on top, no channel, no address: an instruction that takes one lacks it
+abbrev pub HasNoNumber : List Operand → Type 0
+HasNoNumber os = (go : ℤ → List m.Entry → m.One (Memory Plain)) → m.on_number (entries_of os) go ≡ m.Stuck
+
+abbrev pub HasNoChannel : List Operand → Type 0
+HasNoChannel os = (go : ℕ → List m.Entry → m.One (Memory Plain)) → m.on_channel (entries_of os) go ≡ m.Stuck
+
+abbrev pub HasNoPointer : List Operand → Type 0
+HasNoPointer os = (go : Address → List m.Entry → m.One (Memory Plain)) → m.on_address (entries_of os) go ≡ m.Stuck

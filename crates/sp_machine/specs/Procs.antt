@@ -12,6 +12,7 @@ pub use Rattle.sp_code.specs.Formals.{HasRoom, BeginsWithFormals, HaveFormals}
 use Rattle.sp_code.specs.Turns.{Turn, Stopped, Faulted, IsTurn, IsSafe}
 use Rattle.sp_code.specs.Memory.{Memory, memory, first, Setting}
 use Rattle.sp_code.specs.PlainStore.{plain}
+use Rattle.sp_code.specs.Ranks.{IsRankedAlong}
 use Rattle.sp_code.specs.Sound.{run_of}
 use Rattle.sp_machine.specs.declared.state.State.{State}
 use Rattle.sp_machine.specs.declared.state.Stop.{Stop}
@@ -121,6 +122,10 @@ KeepsFork stop.Memory q = Unit {0}
 -- no instruction of the turn lacks what it needs
 abbrev pub CanTurn : State → Parts → Limits → Type 0
 CanTurn p code lim = IsSafe (memory plain (setting_of p code lim)) code (config_of p)
+
+-- the ranks fall along all that the turn comes to, so it ends
+abbrev pub IsRankedFrom : State → Parts → Limits → Type 0
+IsRankedFrom p code lim = IsRankedAlong (memory plain (setting_of p code lim)) code (config_of p)
 
 -- the turn that the definition gives, with what a fork needs
 abbrev pub IsTurnBy : State → Parts → Limits → State → Stop → Type 0

@@ -74,19 +74,16 @@ impl State {
             (entries_of self.old.stack) (memory_of self.old)) self.old self.new s) }
         ensures same { Stays self.old self.new }
     {
-        match self.stack.pop() {
-            Some(Operand::Number(n)) => match convert(conversion, n) {
+        match self.stack.pop_number() {
+            Some(n) => match convert(conversion, n) {
                 Ok(value) => {
                     self.stack.push(Operand::Number(value))?;
                     self.pc += 1;
                     Ok(None)
                 }
-                Err(fault) => {
-                    self.stack.push(Operand::Number(n))?;
-                    Ok(Some(Stop::Fault(fault)))
-                }
+                Err(fault) => self.fail(Operand::Number(n), fault),
             },
-            _ => unreachable!(),
+            None => unreachable!(),
         }
     }
 
@@ -103,19 +100,12 @@ impl State {
         ensures same { Stays self.old self.new }
     {
         match this {
-            Instr::Range { low, high } => match self.stack.pop() {
-                Some(Operand::Number(n)) => match within(low, high, n) {
-                    Ok(value) => {
-                        self.stack.push(Operand::Number(value))?;
-                        self.pc += 1;
-                        Ok(None)
-                    }
-                    Err(fault) => {
-                        self.stack.push(Operand::Number(n))?;
-                        Ok(Some(Stop::Fault(fault)))
-                    }
+            Instr::Range { low, high } => match self.stack.pop_number() {
+                Some(n) => match within(low, high, n) {
+                    Ok(value) => self.push_on(Operand::Number(value)),
+                    Err(fault) => self.fail(Operand::Number(n), fault),
                 },
-                _ => unreachable!(),
+                None => unreachable!(),
             },
             // No other instruction comes here.
             _ => Err(Memory),
@@ -135,19 +125,16 @@ impl State {
         ensures same { Stays self.old self.new }
     {
         match this {
-            Instr::Succ(high) => match self.stack.pop() {
-                Some(Operand::Number(n)) => match next_of(high, n) {
+            Instr::Succ(high) => match self.stack.pop_number() {
+                Some(n) => match next_of(high, n) {
                     Ok(value) => {
                         self.stack.push(Operand::Number(value))?;
                         self.pc += 1;
                         Ok(None)
                     }
-                    Err(fault) => {
-                        self.stack.push(Operand::Number(n))?;
-                        Ok(Some(Stop::Fault(fault)))
-                    }
+                    Err(fault) => self.fail(Operand::Number(n), fault),
                 },
-                _ => unreachable!(),
+                None => unreachable!(),
             },
             // No other instruction comes here.
             _ => Err(Memory),
@@ -167,19 +154,16 @@ impl State {
         ensures same { Stays self.old self.new }
     {
         match this {
-            Instr::Pred(low) => match self.stack.pop() {
-                Some(Operand::Number(n)) => match previous_of(low, n) {
+            Instr::Pred(low) => match self.stack.pop_number() {
+                Some(n) => match previous_of(low, n) {
                     Ok(value) => {
                         self.stack.push(Operand::Number(value))?;
                         self.pc += 1;
                         Ok(None)
                     }
-                    Err(fault) => {
-                        self.stack.push(Operand::Number(n))?;
-                        Ok(Some(Stop::Fault(fault)))
-                    }
+                    Err(fault) => self.fail(Operand::Number(n), fault),
                 },
-                _ => unreachable!(),
+                None => unreachable!(),
             },
             // No other instruction comes here.
             _ => Err(Memory),
@@ -201,23 +185,19 @@ impl State {
             (memory_of self.old)) self.old self.new s) }
         ensures same { Stays self.old self.new }
     {
-        match self.stack.pop() {
-            Some(Operand::Number(n)) => match self.stack.pop() {
-                Some(Operand::Number(m)) => match binary(op, m, n) {
+        match self.stack.pop_number() {
+            Some(n) => match self.stack.pop_number() {
+                Some(m) => match binary(op, m, n) {
                     Ok(value) => {
                         self.stack.push(Operand::Number(value))?;
                         self.pc += 1;
                         Ok(None)
                     }
-                    Err(fault) => {
-                        self.stack.push(Operand::Number(m))?;
-                        self.stack.push(Operand::Number(n))?;
-                        Ok(Some(Stop::Fault(fault)))
-                    }
+                    Err(fault) => self.fail_both(Operand::Number(m), Operand::Number(n), fault),
                 },
-                _ => unreachable!(),
+                None => unreachable!(),
             },
-            _ => unreachable!(),
+            None => unreachable!(),
         }
     }
 
@@ -234,13 +214,13 @@ impl State {
         ensures same { Stays self.old self.new }
     {
         let equal = match self.stack.pop() {
-            Some(Operand::Number(n)) => match self.stack.pop() {
-                Some(Operand::Number(m)) => m == n,
-                _ => unreachable!(),
+            Some(Operand::Number(n)) => match self.stack.pop_number() {
+                Some(m) => m == n,
+                None => unreachable!(),
             },
-            Some(Operand::Channel(d)) => match self.stack.pop() {
-                Some(Operand::Channel(c)) => c == d,
-                _ => unreachable!(),
+            Some(Operand::Channel(d)) => match self.stack.pop_channel() {
+                Some(c) => c == d,
+                None => unreachable!(),
             },
             _ => unreachable!(),
         };

@@ -2,18 +2,19 @@
 
 ghost use Rattle.std.specs.Prelude.{◌≡◌, ◌≢◌, ◌+◌, ◌<◌, ◌≤◌, ◌∷◌, [], IfOk, OnOk, Some, true, length, sum, reverse, take, drop};
 ghost use Rattle.sp_cell.specs.Frame.{HasNextFrame};
+ghost use Rattle.sp_code.specs.Formals.{HaveFormals, BeginsWithFormals};
 ghost use Rattle.sp_code.specs.Machine.{Stuck, entered, called, fit_formals};
 ghost use Rattle.sp_code.specs.Memory.{memory, may_close, references, filled, opened, without_frame};
 ghost use Rattle.sp_code.specs.PlainStore.{plain};
 ghost use Rattle.sp_code.specs.Sound.{HasDistinctBlocks};
 ghost use Rattle.sp_code.specs.declared.instr.Instr.TheVariants as instr;
-ghost use Rattle.sp_machine.specs.Arguments.{TakeAll, pointer_in};
+ghost use Rattle.sp_machine.specs.Arguments.{TakeAll};
 ghost use Rattle.sp_machine.specs.Entries.{entries_of};
-ghost use Rattle.sp_machine.specs.Procs.{does, Came, Stays, setting_of, memory_of, HaveFormals, BeginsWithFormals};
+ghost use Rattle.sp_machine.specs.Procs.{does, Came, Stays, setting_of, memory_of};
 
 use crate::frames::{Frame, Home};
 use crate::layouts::{answer_of, cells_of, cells_of_home, layout_of};
-use crate::stack::Operand;
+use crate::stack::{Operand, pointer_in};
 use crate::state::{State, Stop};
 use sp_base::{Fault, Limits, List, Memory};
 use sp_cell::{Address, Cell, Spot};
@@ -36,16 +37,6 @@ fn references(alloc: Global, arguments: &[Operand]) -> Result<List<(u32, Address
         k += 1;
     }
     Ok(found)
-}
-
-/// The address that an argument is, if it is one.
-fn pointer_in(argument: &Operand) -> Option<Address>
-    ensures { result ≡ pointer_in argument.now }
-{
-    match argument {
-        Operand::Pointer(at) => Some(*at),
-        _ => None,
-    }
 }
 
 /// Puts the arguments by value into the variables of a frame.
@@ -256,10 +247,10 @@ impl State {
                             self.pc = to;
                             Ok(None)
                         }
-                        Cell::Undefined | Cell::Channel(_) => {
-                            self.stack.push(Operand::Reply(to))?;
-                            Ok(Some(Stop::Fault(Fault::F4)))
-                        }
+                        Cell::Undefined | Cell::Channel(_) => self.fail(
+                            Operand::Reply(to),
+                            Fault::F4,
+                        ),
                     },
                     None => unreachable!(),
                 }

@@ -74,8 +74,8 @@ impl State {
         ensures came { IfOk result (λ s. Came (does (Some (instr.Jumpf to)) self.old code.now limits.now) self.old self.new s) }
         ensures same { Stays self.old self.new }
     {
-        match self.stack.pop() {
-            Some(Operand::Number(value)) => {
+        match self.stack.pop_number() {
+            Some(value) => {
                 if value <= 0 {
                     self.pc = to;
                     return Ok(None);
@@ -83,7 +83,7 @@ impl State {
                 self.pc += 1;
                 Ok(None)
             }
-            _ => unreachable!(),
+            None => unreachable!(),
         }
     }
 
@@ -100,8 +100,8 @@ impl State {
         ensures came { IfOk result (λ s. Came (does (Some (instr.Casej value to)) self.old code.now limits.now) self.old self.new s) }
         ensures same { Stays self.old self.new }
     {
-        match self.stack.pop() {
-            Some(Operand::Number(n)) => {
+        match self.stack.pop_number() {
+            Some(n) => {
                 if n == value {
                     self.pc = to;
                     return Ok(None);
@@ -110,7 +110,7 @@ impl State {
                 self.pc += 1;
                 Ok(None)
             }
-            _ => unreachable!(),
+            None => unreachable!(),
         }
     }
 
@@ -121,16 +121,15 @@ impl State {
         ensures came { IfOk result (λ s. Came (does (Some instr.Assume) self.old code.now limits.now) self.old self.new s) }
         ensures same { Stays self.old self.new }
     {
-        match self.stack.pop() {
-            Some(Operand::Number(value)) => {
+        match self.stack.pop_number() {
+            Some(value) => {
                 if value <= 0 {
-                    self.stack.push(Operand::Number(value))?;
-                    return Ok(Some(Stop::Fault(Fault::F8)));
+                    return self.fail(Operand::Number(value), Fault::F8);
                 }
                 self.pc += 1;
                 Ok(None)
             }
-            _ => unreachable!(),
+            None => unreachable!(),
         }
     }
 
@@ -169,24 +168,22 @@ impl State {
             (entries_of self.old.stack) (memory_of self.old)) self.old self.new s) }
         ensures same { Stays self.old self.new }
     {
-        match self.stack.pop() {
-            Some(Operand::Number(last)) => match self.stack.pop() {
-                Some(Operand::Number(first)) => match self.frames.address(0, var) {
+        match self.stack.pop_number() {
+            Some(last) => match self.stack.pop_number() {
+                Some(first) => match self.frames.address(0, var) {
                     Some(at) => {
                         if has_range(down, first, last) {
                             self.store.store(at, Cell::Ordinal(first))?;
-                            self.stack.push(Operand::Number(last))?;
-                            self.pc += 1;
-                            return Ok(None);
+                            return self.push_on(Operand::Number(last));
                         }
                         self.pc = to;
                         Ok(None)
                     }
                     None => unreachable!(),
                 },
-                _ => unreachable!(),
+                None => unreachable!(),
             },
-            _ => unreachable!(),
+            None => unreachable!(),
         }
     }
 
@@ -207,8 +204,8 @@ impl State {
             (entries_of self.old.stack) (memory_of self.old)) self.old self.new s) }
         ensures same { Stays self.old self.new }
     {
-        match self.stack.pop() {
-            Some(Operand::Number(last)) => match self.frames.address(0, var) {
+        match self.stack.pop_number() {
+            Some(last) => match self.frames.address(0, var) {
                 Some(at) => match self.store.load(at) {
                     Cell::Ordinal(value) => {
                         if has_next(down, value, last) {
@@ -222,13 +219,12 @@ impl State {
                         Ok(None)
                     }
                     Cell::Undefined | Cell::Channel(_) => {
-                        self.stack.push(Operand::Number(last))?;
-                        Ok(Some(Stop::Fault(Fault::F4)))
+                        self.fail(Operand::Number(last), Fault::F4)
                     }
                 },
                 None => unreachable!(),
             },
-            _ => unreachable!(),
+            None => unreachable!(),
         }
     }
 }

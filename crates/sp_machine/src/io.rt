@@ -1,6 +1,7 @@
 //! Input and output.
 
-ghost use Rattle.std.specs.Prelude.{◌≡◌, ◌≢◌, ◌+◌, ◌<◌, ◌++◌, IfOk, OnOk, Some, None, true, pos, drop, replicate};
+ghost use Rattle.std.specs.Prelude.{◌≡◌, ◌≢◌, ◌+◌, ◌<◌, ◌++◌, IfOk, OnOk, Some, None, true, pos, take, drop, replicate, if◌then◌else◌};
+ghost use Rattle.sp_tree.specs.Items.{padded};
 ghost use Rattle.sp_cell.specs.declared.cell.Cell.TheVariants.{Ordinal};
 ghost use Rattle.sp_cell.specs.Map.{HasCells};
 ghost use Rattle.sp_code.specs.Machine.{Stuck, reads, writes, writes_wide};
@@ -121,6 +122,41 @@ fn emit(store: &mut Store, blanks: u64, text: &[u8], limits: &Limits) -> Result<
     Ok(true)
 }
 
+/// Writes a text right in a width, which cuts it if `cut`. `false` where the output would pass its limit; then nothing is
+/// written.
+fn emit_wide(
+    store: &mut Store,
+    cut: bool,
+    width: u64,
+    text: &[u8],
+    limits: &Limits,
+) -> Result<bool, Memory>
+    requires { is_held (plain.output store.old) ≡ true }
+    ensures { IfOk result (λ b. Emits b limits.now.output (padded width (if cut then take width text.now else text.now)) store.old
+        store.new) }
+{
+    let shown = cut_to(cut, width, text);
+    let blanks = width.saturating_sub(shown.len() as u64);
+    emit(store, blanks, shown, limits)
+}
+
+/// Writes the text of a value right in a width. `false` where the output would pass its limit; then nothing is written.
+fn show(
+    store: &mut Store,
+    room: &mut Vec<u8>,
+    shown: Shown,
+    n: i64,
+    width: u64,
+    limits: &Limits,
+) -> Result<bool, Memory>
+    requires { is_held (plain.output store.old) ≡ true }
+    ensures { IfOk result (λ b. Emits b limits.now.output
+        (padded width (if is_cut shown then take width (text_of shown n) else text_of shown n)) store.old store.new) }
+{
+    spell(room, shown, n)?;
+    emit_wide(store, cuts(shown), width, room.as_slice(), limits)
+}
+
 impl State {
     /// What is left of the input.
     #[tactic(auto, using(crate::proofs::Positions::position_held, crate::proofs::Positions::position_is, crate::proofs::Positions::position_not_undefined, crate::proofs::Positions::position_not_channel, crate::proofs::Positions::left_held))]
@@ -190,19 +226,16 @@ impl State {
             (entries_of self.old.stack) (memory_of self.old)) self.old self.new s) }
         ensures same { Stays self.old self.new }
     {
-        match self.stack.pop() {
-            Some(Operand::Pointer(at)) => match taken(item, self.left()) {
+        match self.stack.pop_pointer() {
+            Some(at) => match taken(item, self.left()) {
                 Taken::Takes(value, bytes) => {
                     self.take(at, value, bytes)?;
                     self.pc += 1;
                     Ok(None)
                 }
-                Taken::Fails(fault) => {
-                    self.stack.push(Operand::Pointer(at))?;
-                    Ok(Some(Stop::Fault(fault)))
-                }
+                Taken::Fails(fault) => self.fail(Operand::Pointer(at), fault),
             },
-            _ => unreachable!(),
+            None => unreachable!(),
         }
     }
 
@@ -268,17 +301,16 @@ impl State {
             (entries_of self.old.stack) (memory_of self.old)) self.old self.new s) }
         ensures same { Stays self.old self.new }
     {
-        match self.stack.pop() {
-            Some(Operand::Number(n)) => {
+        match self.stack.pop_number() {
+            Some(n) => {
                 spell(&mut self.text, shown, n)?;
                 if !emit(&mut self.store, 0, self.text.as_slice(), limits)? {
-                    self.stack.push(Operand::Number(n))?;
-                    return Ok(Some(Stop::Fault(Fault::F16)));
+                    return self.fail(Operand::Number(n), Fault::F16);
                 }
                 self.pc += 1;
                 Ok(None)
             }
-            _ => unreachable!(),
+            None => unreachable!(),
         }
     }
 
@@ -297,28 +329,36 @@ impl State {
             (self.old.pc + 1) (entries_of self.old.stack) (memory_of self.old)) self.old self.new s) }
         ensures same { Stays self.old self.new }
     {
-        match self.stack.pop() {
-            Some(Operand::Number(width)) => match self.stack.pop() {
-                Some(Operand::Number(n)) => {
+        match self.stack.pop_number() {
+            Some(width) => match self.stack.pop_number() {
+                Some(n) => {
                     if width <= 0 {
-                        self.stack.push(Operand::Number(n))?;
-                        self.stack.push(Operand::Number(width))?;
-                        return Ok(Some(Stop::Fault(Fault::F1)));
+                        return self.fail_both(
+                            Operand::Number(n),
+                            Operand::Number(width),
+                            Fault::F1,
+                        );
                     }
-                    spell(&mut self.text, shown, n)?;
-                    let text = cut_to(cuts(shown), width.unsigned_abs(), self.text.as_slice());
-                    let blanks = width.unsigned_abs().saturating_sub(text.len() as u64);
-                    if !emit(&mut self.store, blanks, text, limits)? {
-                        self.stack.push(Operand::Number(n))?;
-                        self.stack.push(Operand::Number(width))?;
-                        return Ok(Some(Stop::Fault(Fault::F16)));
+                    if !show(
+                        &mut self.store,
+                        &mut self.text,
+                        shown,
+                        n,
+                        width.unsigned_abs(),
+                        limits,
+                    )? {
+                        return self.fail_both(
+                            Operand::Number(n),
+                            Operand::Number(width),
+                            Fault::F16,
+                        );
                     }
                     self.pc += 1;
                     Ok(None)
                 }
-                _ => unreachable!(),
+                None => unreachable!(),
             },
-            _ => unreachable!(),
+            None => unreachable!(),
         }
     }
 
@@ -358,25 +398,27 @@ impl State {
         ensures came { IfOk result (λ s. Came (does (Some (instr.WritewText number)) self.old code.now limits.now) self.old self.new s) }
         ensures same { Stays self.old self.new }
     {
-        match self.stack.pop() {
-            Some(Operand::Number(width)) => match code.text(number) {
+        match self.stack.pop_number() {
+            Some(width) => match code.text(number) {
                 Some(text) => {
                     if width <= 0 {
-                        self.stack.push(Operand::Number(width))?;
-                        return Ok(Some(Stop::Fault(Fault::F1)));
+                        return self.fail(Operand::Number(width), Fault::F1);
                     }
-                    let bytes = cut_to(true, width.unsigned_abs(), text.bytes());
-                    let blanks = width.unsigned_abs().saturating_sub(bytes.len() as u64);
-                    if !emit(&mut self.store, blanks, bytes, limits)? {
-                        self.stack.push(Operand::Number(width))?;
-                        return Ok(Some(Stop::Fault(Fault::F16)));
+                    if !emit_wide(
+                        &mut self.store,
+                        true,
+                        width.unsigned_abs(),
+                        text.bytes(),
+                        limits,
+                    )? {
+                        return self.fail(Operand::Number(width), Fault::F16);
                     }
                     self.pc += 1;
                     Ok(None)
                 }
                 None => unreachable!(),
             },
-            _ => unreachable!(),
+            None => unreachable!(),
         }
     }
 

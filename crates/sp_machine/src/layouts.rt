@@ -6,7 +6,7 @@ ghost use Rattle.sp_code.specs.Machine.{layout_of};
 ghost use Rattle.sp_code.specs.Memory.{cells_of_home, answer_of};
 ghost use Rattle.sp_code.specs.Sound.{HasDistinctBlocks};
 ghost use Rattle.sp_machine.specs.Frames.{home_of};
-ghost use Rattle.sp_machine.specs.Procs.{HaveFormals};
+ghost use Rattle.sp_code.specs.Formals.{HaveFormals};
 
 use crate::frames::Home;
 use sp_base::List;

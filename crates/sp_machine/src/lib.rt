@@ -13,6 +13,7 @@ mod proc;
 mod send;
 mod stack;
 mod state;
+mod steps;
 mod stops;
 mod turn;
 mod variables;

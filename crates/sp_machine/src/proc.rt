@@ -4,10 +4,10 @@ ghost use Rattle.std.specs.Prelude.{◌≡◌, ◌+◌, ◌≤◌, ◌∷◌, []
 ghost use Rattle.sp_code.specs.Memory.{OfBlock};
 ghost use Rattle.sp_code.specs.Machine.{At};
 ghost use Rattle.sp_code.specs.PlainStore.{plain};
-ghost use Rattle.sp_code.specs.Ranks.{IsRanked};
+ghost use Rattle.sp_code.specs.Formals.{HaveFormals};
 ghost use Rattle.sp_code.specs.Sound.{HasDistinctBlocks, CanSplit, CanJoin};
 ghost use Rattle.sp_code.specs.System.{entered_now, table_or};
-ghost use Rattle.sp_machine.specs.Procs.{config_of, start_of, Stays, HaveFormals, CanTurn, IsTurnOf, IsAtFork};
+ghost use Rattle.sp_machine.specs.Procs.{config_of, start_of, Stays, CanTurn, IsRankedFrom, IsTurnOf, IsAtFork};
 ghost use Rattle.sp_machine.specs.Children.{AreNewborn, plan_by};
 ghost use Rattle.sp_machine.specs.Answers.{CanResume, resumed};
 
@@ -86,7 +86,7 @@ impl Proc {
     /// the process can't go on then. It also comes where the place in the input would be more than a cell can hold, which only
     /// code that writes over the input's place brings about.
     pub fn turn(&mut self, code: &Code, limits: &Limits) -> Stop
-        requires ranked { IsRanked code.now.instrs }
+        requires ranked { IsRankedFrom self.old code.now limits.now }
         requires blocks { HasDistinctBlocks code.now.layouts }
         requires formals { HaveFormals code.now.layouts }
         requires safe { CanTurn self.old code.now limits.now }

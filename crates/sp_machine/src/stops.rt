@@ -37,14 +37,14 @@ impl State {
         ensures came { IfOk result (λ s. Came (does (Some instr.Open) self.old code.now limits.now) self.old self.new s) }
         ensures same { Stays self.old self.new }
     {
-        match self.stack.pop() {
-            Some(Operand::Pointer(at)) => {
+        match self.stack.pop_pointer() {
+            Some(at) => {
                 self.store.make_own(at.spot)?;
                 self.target = at;
                 self.pc += 1;
                 Ok(Some(Stop::Open))
             }
-            _ => unreachable!(),
+            None => unreachable!(),
         }
     }
 
@@ -66,8 +66,8 @@ impl State {
             Some(Operand::Cells(cells)) => cells,
             _ => unreachable!(),
         };
-        match self.stack.pop() {
-            Some(Operand::Channel(channel)) => {
+        match self.stack.pop_channel() {
+            Some(channel) => {
                 self.pc += 1;
                 Ok(Some(Stop::Send {
                     channel,
@@ -75,7 +75,7 @@ impl State {
                     cells,
                 }))
             }
-            _ => unreachable!(),
+            None => unreachable!(),
         }
     }
 
@@ -100,17 +100,17 @@ impl State {
         ensures came { IfOk result (λ s. Came (does (Some (instr.Receive message)) self.old code.now limits.now) self.old self.new s) }
         ensures same { Stays self.old self.new }
     {
-        match self.stack.pop() {
-            Some(Operand::Pointer(at)) => match self.stack.pop() {
-                Some(Operand::Channel(channel)) => {
+        match self.stack.pop_pointer() {
+            Some(at) => match self.stack.pop_channel() {
+                Some(channel) => {
                     self.store.make_own(at.spot)?;
                     self.target = at;
                     self.pc += 1;
                     Ok(Some(Stop::Receive { channel, message }))
                 }
-                _ => unreachable!(),
+                None => unreachable!(),
             },
-            _ => unreachable!(),
+            None => unreachable!(),
         }
     }
 
@@ -170,17 +170,19 @@ impl State {
         ensures came { IfOk result (λ s. Came (does (Some (instr.Forall table)) self.old code.now limits.now) self.old self.new s) }
         ensures same { Stays self.old self.new }
     {
-        match self.stack.pop() {
-            Some(Operand::Number(last)) => match self.stack.pop() {
-                Some(Operand::Number(first)) => {
+        match self.stack.pop_number() {
+            Some(last) => match self.stack.pop_number() {
+                Some(first) => {
                     if last < first {
                         self.pc += 1;
                         return Ok(None);
                     }
                     if self.depth >= limits.depth {
-                        self.stack.push(Operand::Number(first))?;
-                        self.stack.push(Operand::Number(last))?;
-                        return Ok(Some(Stop::Fault(Fault::F11)));
+                        return self.fail_both(
+                            Operand::Number(first),
+                            Operand::Number(last),
+                            Fault::F11,
+                        );
                     }
                     let count = count_values(first, last);
                     self.table = table;
@@ -192,9 +194,9 @@ impl State {
                         count,
                     }))
                 }
-                _ => unreachable!(),
+                None => unreachable!(),
             },
-            _ => unreachable!(),
+            None => unreachable!(),
         }
     }
 }

@@ -1,10 +1,10 @@
 //! A turn: instructions up to the next stop.
 
 ghost use Rattle.std.specs.Prelude.{◌≡◌, ◌≢◌, ◌+◌, ◌<◌, IfOk, IfSome, slice_get};
+ghost use Rattle.sp_code.specs.Formals.{HaveFormals};
 ghost use Rattle.sp_code.specs.Machine.{Stuck};
-ghost use Rattle.sp_code.specs.Ranks.{IsRanked};
 ghost use Rattle.sp_code.specs.Sound.{HasDistinctBlocks};
-ghost use Rattle.sp_machine.specs.Procs.{Came, Stays, next_of, HaveFormals, CanTurn, IsTurnOf};
+ghost use Rattle.sp_machine.specs.Procs.{Came, Stays, next_of, CanTurn, IsRankedFrom, IsTurnOf};
 
 use crate::arithmetic::Conversion;
 use crate::io::{Item, Shown};
@@ -107,7 +107,7 @@ impl State {
 
     /// Runs the process to its next stop.
     pub(crate) fn turn(&mut self, code: &Code, limits: &Limits) -> Stop
-        requires ranked { IsRanked code.now.instrs }
+        requires ranked { IsRankedFrom self.old code.now limits.now }
         requires blocks { HasDistinctBlocks code.now.layouts }
         requires formals { HaveFormals code.now.layouts }
         requires safe { CanTurn self.old code.now limits.now }

@@ -42,11 +42,7 @@ impl State {
         ensures same { Stays self.old self.new }
     {
         match self.frames.address(up, var) {
-            Some(at) => {
-                self.stack.push(Operand::Pointer(at))?;
-                self.pc += 1;
-                Ok(None)
-            }
+            Some(at) => self.push_on(Operand::Pointer(at)),
             None => unreachable!(),
         }
     }
@@ -65,17 +61,12 @@ impl State {
         ensures same { Stays self.old self.new }
     {
         match self.frames.reference(up, var) {
-            Some(at) => {
-                self.stack.push(Operand::Pointer(at))?;
-                self.pc += 1;
-                Ok(None)
-            }
+            Some(at) => self.push_on(Operand::Pointer(at)),
             None => unreachable!(),
         }
     }
 
     // Selects an element of an array.
-    #[tactic(auto, using(sp_code::proofs::StoreLaws::has_held, sp_code::proofs::StoreLaws::cells_same))]
     pub(crate) fn element(
         &mut self,
         low: i64,
@@ -89,37 +80,27 @@ impl State {
         ensures came { IfOk result (λ s. Came (does (Some (instr.Index low high size)) self.old code.now limits.now) self.old self.new s) }
         ensures same { Stays self.old self.new }
     {
-        match self.stack.pop() {
-            Some(Operand::Number(n)) => match self.stack.pop() {
-                Some(Operand::Pointer(at)) => {
+        match self.stack.pop_number() {
+            Some(n) => match self.stack.pop_pointer() {
+                Some(at) => {
                     if n < low || high < n {
-                        self.stack.push(Operand::Pointer(at))?;
-                        self.stack.push(Operand::Number(n))?;
-                        return Ok(Some(Stop::Fault(Fault::F1)));
+                        return self.fail_both(Operand::Pointer(at), Operand::Number(n), Fault::F1);
                     }
                     match beyond(at.offset, n.abs_diff(low), size) {
-                        Some(offset) => {
-                            self.stack.push(Operand::Pointer(Address {
-                                spot: at.spot,
-                                offset,
-                            }))?;
-                            self.pc += 1;
-                            Ok(None)
-                        }
-                        None => {
-                            let _cells = self.store.len(at.spot);
-                            unreachable!()
-                        }
+                        Some(offset) => self.push_on(Operand::Pointer(Address {
+                            spot: at.spot,
+                            offset,
+                        })),
+                        None => unreachable!(),
                     }
                 }
-                _ => unreachable!(),
+                None => unreachable!(),
             },
-            _ => unreachable!(),
+            None => unreachable!(),
         }
     }
 
     // Selects what begins so many cells further on.
-    #[tactic(auto, using(sp_code::proofs::StoreLaws::has_held, sp_code::proofs::StoreLaws::cells_same))]
     pub(crate) fn field(
         &mut self,
         cells: u32,
@@ -131,22 +112,15 @@ impl State {
         ensures came { IfOk result (λ s. Came (does (Some (instr.Field cells)) self.old code.now limits.now) self.old self.new s) }
         ensures same { Stays self.old self.new }
     {
-        match self.stack.pop() {
-            Some(Operand::Pointer(at)) => match at.offset.checked_add(cells) {
-                Some(offset) => {
-                    self.stack.push(Operand::Pointer(Address {
-                        spot: at.spot,
-                        offset,
-                    }))?;
-                    self.pc += 1;
-                    Ok(None)
-                }
-                None => {
-                    let _cells = self.store.len(at.spot);
-                    unreachable!()
-                }
+        match self.stack.pop_pointer() {
+            Some(at) => match at.offset.checked_add(cells) {
+                Some(offset) => self.push_on(Operand::Pointer(Address {
+                    spot: at.spot,
+                    offset,
+                })),
+                None => unreachable!(),
             },
-            _ => unreachable!(),
+            None => unreachable!(),
         }
     }
 
@@ -157,19 +131,16 @@ impl State {
         ensures came { IfOk result (λ s. Came (does (Some instr.Load) self.old code.now limits.now) self.old self.new s) }
         ensures same { Stays self.old self.new }
     {
-        match self.stack.pop() {
-            Some(Operand::Pointer(at)) => match self.store.load(at) {
+        match self.stack.pop_pointer() {
+            Some(at) => match self.store.load(at) {
                 Cell::Ordinal(value) => {
                     self.stack.push(Operand::Number(value))?;
                     self.pc += 1;
                     Ok(None)
                 }
-                Cell::Undefined | Cell::Channel(_) => {
-                    self.stack.push(Operand::Pointer(at))?;
-                    Ok(Some(Stop::Fault(Fault::F4)))
-                }
+                Cell::Undefined | Cell::Channel(_) => self.fail(Operand::Pointer(at), Fault::F4),
             },
-            _ => unreachable!(),
+            None => unreachable!(),
         }
     }
 
@@ -184,19 +155,12 @@ impl State {
         ensures came { IfOk result (λ s. Came (does (Some instr.Loadc) self.old code.now limits.now) self.old self.new s) }
         ensures same { Stays self.old self.new }
     {
-        match self.stack.pop() {
-            Some(Operand::Pointer(at)) => match self.store.load(at) {
-                Cell::Channel(channel) => {
-                    self.stack.push(Operand::Channel(channel))?;
-                    self.pc += 1;
-                    Ok(None)
-                }
-                Cell::Undefined | Cell::Ordinal(_) => {
-                    self.stack.push(Operand::Pointer(at))?;
-                    Ok(Some(Stop::Fault(Fault::F5)))
-                }
+        match self.stack.pop_pointer() {
+            Some(at) => match self.store.load(at) {
+                Cell::Channel(channel) => self.push_on(Operand::Channel(channel)),
+                Cell::Undefined | Cell::Ordinal(_) => self.fail(Operand::Pointer(at), Fault::F5),
             },
-            _ => unreachable!(),
+            None => unreachable!(),
         }
     }
 
@@ -212,13 +176,13 @@ impl State {
             Some(Operand::Channel(channel)) => Cell::Channel(channel),
             _ => unreachable!(),
         };
-        match self.stack.pop() {
-            Some(Operand::Pointer(at)) => {
+        match self.stack.pop_pointer() {
+            Some(at) => {
                 self.store.store(at, cell)?;
                 self.pc += 1;
                 Ok(None)
             }
-            _ => unreachable!(),
+            None => unreachable!(),
         }
     }
 
@@ -234,16 +198,16 @@ impl State {
         ensures came { IfOk result (λ s. Came (does (Some (instr.Copy cells)) self.old code.now limits.now) self.old self.new s) }
         ensures same { Stays self.old self.new }
     {
-        match self.stack.pop() {
-            Some(Operand::Pointer(from)) => match self.stack.pop() {
-                Some(Operand::Pointer(to)) => {
+        match self.stack.pop_pointer() {
+            Some(from) => match self.stack.pop_pointer() {
+                Some(to) => {
                     self.store.copy(to, from, cells)?;
                     self.pc += 1;
                     Ok(None)
                 }
-                _ => unreachable!(),
+                None => unreachable!(),
             },
-            _ => unreachable!(),
+            None => unreachable!(),
         }
     }
 
@@ -259,14 +223,12 @@ impl State {
         ensures came { IfOk result (λ s. Came (does (Some (instr.Pack cells)) self.old code.now limits.now) self.old self.new s) }
         ensures same { Stays self.old self.new }
     {
-        match self.stack.pop() {
-            Some(Operand::Pointer(at)) => {
+        match self.stack.pop_pointer() {
+            Some(at) => {
                 let taken = self.store.cells(at, cells)?;
-                self.stack.push(Operand::Cells(taken))?;
-                self.pc += 1;
-                Ok(None)
+                self.push_on(Operand::Cells(taken))
             }
-            _ => unreachable!(),
+            None => unreachable!(),
         }
     }
 }
