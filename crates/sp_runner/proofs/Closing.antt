@@ -65,7 +65,7 @@ ended_phase (Joining n) e = absurd (cc e)
 ended_phase Laid e = absurd (cc e)
 ended_phase Gone e = absurd (cc e)
 
-live_phase : (d : Doing) → has_ended d ≡ false → phase d ≢ Finished
+pub live_phase : (d : Doing) → has_ended d ≡ false → phase d ≢ Finished
 live_phase Ended e f = absurd (cc e)
 live_phase Unborn e f = absurd (cc f)
 live_phase Ready e f = absurd (cc f)

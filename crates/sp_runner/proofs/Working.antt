@@ -8,6 +8,7 @@ use Rattle.sp_journal.specs.declared.entry.Note.{Note}
 use Rattle.sp_code.specs.declared.code.Parts.{Parts}
 use Rattle.sp_code.specs.Memory.{Setting, memory}
 use Rattle.sp_code.specs.PlainStore.{plain}
+use Rattle.sp_code.specs.Ranks.{IsRankedAlong}
 use Rattle.sp_code.specs.Turns.{IsTurn, IsSafe}
 use Rattle.sp_code.specs.Sound.{run_of}
 use Rattle.sp_code.specs.Control.{Control, Out, control_at_start, control, noted, given, takes, entries_of}
@@ -17,7 +18,7 @@ use Rattle.sp_history.proofs.Queues.{at_same}
 use Rattle.sp_machine.specs.declared.state.State.{State as Proc}
 use Rattle.sp_machine.specs.declared.state.Stop.{Stop}
 use Rattle.sp_machine.specs.declared.state.Stop.TheVariants as stop
-use Rattle.sp_machine.specs.Procs.{config_of, turn_by, CanTurn, IsTurnOf, KeepsFork, Stays}
+use Rattle.sp_machine.specs.Procs.{config_of, turn_by, CanTurn, IsRankedFrom, IsTurnOf, KeepsFork, Stays}
 use Rattle.sp_room.specs.History.{LeadsTo as Told, StartsWith, noted as with_note}
 use Rattle.sp_room.specs.Roomed.{Called, Declined}
 use Rattle.sp_room.specs.declared.view.View.{View}
@@ -134,6 +135,10 @@ module _ (x : Kernel) (code : Parts) (lim : Limits) (run : IsRunOf x code lim) (
   -- a turn of what is held lacks nothing
   pub may_turn : CanTurn p code lim
   may_turn = subst (λ (g : Setting). IsSafe (memory plain g) g.code (config_of p)) same_run ((run.opening.sound.safe x.root.value.input.value x.limits run.opening.limits (entries_of seen) h.system h.along).turns p.number (config_of p) h.runs)
+
+  -- and ranks fall along it
+  pub is_ranked : IsRankedFrom p code lim
+  is_ranked = subst (λ (g : Setting). IsRankedAlong (memory plain g) g.code (config_of p)) same_run ((run.opening.sound.safe x.root.value.input.value x.limits run.opening.limits (entries_of seen) h.system h.along).ranks p.number (config_of p) h.runs)
 
   abbrev holds : (q : Proc) → q.number ≡ p.number → HoldsOut (setting_of x) seen w q.number
   holds q same = record { system = h.system; reaches = h.reaches; out = ap (control seen).doing same ∙ h.out; at = config_of p; runs = ap h.system.condition same ∙ h.runs }

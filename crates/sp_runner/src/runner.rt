@@ -3,7 +3,6 @@
 ghost use Rattle.std.specs.Prelude.{◌≡◌, ◌<◌, ◌≤◌, [], IfOk};
 ghost use Rattle.sp_code.specs.Sound.{IsSound, AreLimits, run_of};
 ghost use Rattle.sp_history.specs.Lines.{OneByOne};
-ghost use Rattle.sp_machine.specs.Procs.{HaveFormals};
 ghost use Rattle.sp_room.specs.Seats.{IsSeatOf, SamePlace, claims_of_seat, opening_of, number_of, seen_by, own_of};
 ghost use Rattle.sp_room.specs.Ends.{object_of, notes_of};
 ghost use Rattle.sp_runner.specs.Works.{IsRunOf, Knows, Left, RanBy};
@@ -74,7 +73,6 @@ pub fn run<R: Threads + Wait + Sync, G: Gate>(
 ) -> Result<Closed, Memory>
     requires workers { (0 < workers) × (workers ≤ 64) }
     requires sound { IsSound code.value }
-    requires formals { HaveFormals code.value.layouts }
     requires limits { AreLimits limits.now }
     ensures { IfOk result (λ c. IsRun (run_of code.value input.value limits.now) workers c) }
 {

@@ -1,7 +1,7 @@
 use Rattle.std.proofs.Common.{◌≡◌, ◌⊎◌, ◌<◌, ◌∙◌, sym, ap, subst, refl, false, Some}
 use Rattle.sp_code.specs.declared.code.Parts.{Parts}
 use Rattle.sp_code.specs.Sound.{HasDistinctBlocks}
-use Rattle.sp_machine.specs.Procs.{HaveFormals}
+use Rattle.sp_code.specs.Formals.{HaveFormals}
 use Rattle.sp_room.specs.Seats.{seat_view, own_of, opening_of}
 use Rattle.sp_room.specs.Roomed.{Called, Declined}
 use Rattle.sp_room.proofs.Places.{same_again, stays_of}
@@ -12,7 +12,7 @@ use Rattle.sp_kernel.specs.declared.ask.Got.TheVariants as got
 use Rattle.sp_kernel.specs.Asks.{Steps, refusal, is_abandon, MayAsk}
 use Rattle.sp_runner.specs.Works.{IsNext}
 use Rattle.sp_runner.proofs.Handing.{IsAfter, after, gives_up_next, starts_next}
-use Rattle.sp_runner.proofs.Working.{Has, got_work_so, may_hand_in, may_turn, may_lose, may_give_up}
+use Rattle.sp_runner.proofs.Working.{Has, got_work_so, is_ranked, may_hand_in, may_turn, may_lose, may_give_up}
 use Rattle.sp_runner.proofs.Ending.{finished, gave_up}
 use Rattle.sp_runner.proofs.worker.work.Goals as goal
 
@@ -32,11 +32,17 @@ serve-requires-clause-last g c e = c.loop.invariant.claim
 pub serve-requires-clause-asks : goal.serve-requires-clause-asks
 serve-requires-clause-asks g c = c.loop.invariant.may.asks
 
+pub turn-requires-clause-ranked : goal.turn-requires-clause-ranked
+turn-requires-clause-ranked g c =
+    let x : Kernel = opening_of c.args.room.now in let v = seat_view c.loop.seat in let w = seat_view c.serve.new.self in
+    let has : Has x w.seen w.number c.in-Work.proc = got_work_so x c.requires.run.opening v w c.loop.ask c.in-Work.proc c.serve.ensures.place.number (subst (λ (r : Got). Called Steps x v c.loop.ask r w ⊎ ((is_abandon c.loop.ask ≡ false) × Declined Steps refusal x v c.loop.ask r w)) c.in-Work.is c.serve.ensures.call) in
+    is_ranked x c.args.code.now c.args.limits.now c.requires.run w.seen w.number c.in-Work.proc has
+
 pub turn-requires-clause-blocks : goal.turn-requires-clause-blocks
 turn-requires-clause-blocks g c = subst (λ (p : Parts). HasDistinctBlocks p.layouts) c.requires.run.code c.requires.run.opening.sound.blocks
 
 pub turn-requires-clause-formals : goal.turn-requires-clause-formals
-turn-requires-clause-formals g c = subst (λ (p : Parts). HaveFormals p.layouts) c.requires.run.code c.requires.run.opening.formals
+turn-requires-clause-formals g c = subst (λ (p : Parts). HaveFormals p.layouts) c.requires.run.code c.requires.run.opening.sound.formals
 
 pub turn-requires-clause-safe : goal.turn-requires-clause-safe
 turn-requires-clause-safe g c =
