@@ -21,7 +21,7 @@ use Rattle.sp_history.proofs.Families.{children_start, children_all}
 use Rattle.sp_history.proofs.Legal.{got_of}
 use Rattle.sp_history.proofs.Outs.{outs_start, outs_all}
 use Rattle.sp_machine.specs.declared.state.State.{State as Proc}
-use Rattle.sp_machine.specs.Procs.{CanTurn}
+use Rattle.sp_machine.specs.Procs.{CanTurn, IsRankedFrom}
 use Rattle.sp_room.proofs.Histories.{runs_on, starts_self}
 use Rattle.sp_kernel.specs.declared.handed.Handed.{Handed}
 use Rattle.sp_kernel.specs.declared.kernel.Kernel.{Kernel}
@@ -38,7 +38,7 @@ use Rattle.sp_kernel.proofs.Ending.{named}
 use Rattle.sp_kernel.proofs.Serving.{same_setting, noted_take, noted_turn, taken_abandons, back_abandons}
 use Rattle.sp_runner.specs.Runs.{notes_of_worker}
 use Rattle.sp_runner.specs.Works.{IsRunOf}
-use Rattle.sp_runner.proofs.Working.{Has, may_turn, may_hand_in}
+use Rattle.sp_runner.proofs.Working.{Has, is_ranked, may_turn, may_hand_in}
 use Rattle.sp_replay.specs.declared.followed.Followed.{Followed}
 use Rattle.sp_replay.specs.Held.{held_at}
 use Rattle.sp_replay.specs.Following.{IsAway, HasCome, IsOutAs, AreOut, Follows, Stands, RunsOn, WasTurned, SameRun, IsInHand, Made, Exchanged}
@@ -116,6 +116,9 @@ module _ (x : Kernel) (c : HasCome x) where
     -- it can make a turn
     pub can_turn : CanTurn p code lim
     can_turn = may_turn c.opened code lim run c.log 0 p has
+
+    pub ranked : IsRankedFrom p code lim
+    ranked = is_ranked c.opened code lim run c.log 0 p has
 
     -- and may be handed in after it
     pub fits : (h : Handed) → WasTurned p code lim h → Fits x 0 h

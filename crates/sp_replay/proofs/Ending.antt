@@ -5,7 +5,7 @@ use Rattle.sp_journal.specs.declared.outcome.End.{End}
 use Rattle.sp_code.specs.PlainStore.{plain}
 use Rattle.sp_code.specs.Control.{Doing, Unborn, Ready, Out, Sending, Receiving, Joining, Laid, Ended, Gone, standing, Running as Going, IsDone, IsDeadlock, IsFault, IsMemory, is_ready, has_ended}
 use Rattle.sp_code.specs.System.{store_in}
-use Rattle.sp_history.specs.Agreement.{Each, IsOut, phase, phase_in, Running, Finished, HasOuts}
+use Rattle.sp_history.specs.Agreement.{Each, IsOut, phase, phase_in, Running, HasOuts}
 use Rattle.sp_history.specs.Holding.{IsOutputOf}
 use Rattle.sp_history.proofs.Holders.{one_holder}
 use Rattle.sp_history.proofs.Outs.{nobody_runs}
@@ -15,7 +15,7 @@ use Rattle.sp_kernel.specs.Kernels.{control_of, system_of, setting_of}
 use Rattle.sp_kernel.specs.Closes.{HeldHere, EndsSo as KernelEndsSo}
 use Rattle.sp_kernel.specs.Outputs.{written_by, or_rest}
 use Rattle.sp_kernel.specs.Keeping.{from_start}
-use Rattle.sp_runner.proofs.Closing.{ends_at}
+use Rattle.sp_runner.proofs.Closing.{ends_at, live_phase}
 use Rattle.sp_replay.specs.Held.{held_at, output_in, outputs}
 use Rattle.sp_replay.specs.Following.{IsAway, HasCome, AreOut}
 use Rattle.sp_replay.specs.Replays.{GoesOn, EndsSo}
@@ -44,17 +44,6 @@ some_out (p ∷ ps) n e is = absurd (cc e)
 none_out : (r : List ℕ) (n : ℕ) → is_ready r || nat_lt 0 n ≡ false → n ≡ 0
 none_out [] n is = grind (arith, is)
 none_out (p ∷ ps) n is = absurd (cc is)
-
-live_phase : (d : Doing) → has_ended d ≡ false → phase d ≢ Finished
-live_phase Ended e f = absurd (cc e)
-live_phase Unborn e f = absurd (cc f)
-live_phase Ready e f = absurd (cc f)
-live_phase (Out w) e f = absurd (cc f)
-live_phase (Sending c) e f = absurd (cc f)
-live_phase (Receiving c) e f = absurd (cc f)
-live_phase (Joining n) e f = absurd (cc f)
-live_phase Laid e f = absurd (cc f)
-live_phase Gone e f = absurd (cc f)
 
 -- ---- the end
 

@@ -19,7 +19,8 @@ use Rattle.sp_kernel.specs.Procs.{turn_of}
 use Rattle.sp_kernel.specs.Kernels.{control_of, system_of, setting_of, IsKernel, Gave, Takes}
 use Rattle.sp_kernel.proofs.Serving.{same_setting}
 use Rattle.sp_replay.specs.Following.{IsAway, IsOutAs, AreOut, with_taken}
-use Rattle.sp_replay.proofs.Away.{back_away, back_still}
+use Rattle.sp_kernel.proofs.Closing.{back_kept}
+use Rattle.sp_replay.proofs.Away.{away_by_none, back_still}
 
 some_is : {X : Type 0} {a b : X} → Some a ≡ Some b → a ≡ b
 some_is e = cc
@@ -113,7 +114,7 @@ module _ (x : Kernel) (whole : IsKernel x) (none : x.ready ≡ []) (who : ℕ �
 
   all_left : (q : ℕ) → IsAway ((control_of m).doing q) → (u : Proc) × (rest q ≡ Some u)
   all_left q a =
-      let w = back_away (control_of x) h.proc.number e q (subst IsAway (doing_now q) a) in
+      let w = back_kept IsAway away_by_none (control_of x) h.proc.number e q (subst IsAway (doing_now q) a) in
       let v = o.all q (subst IsAway (doing_now q ∙ w.0) a) in
       (v.0, others q ∙ at_other who h.proc.number q None (λ is. w.1 (sym is)) ∙ v.1)
 

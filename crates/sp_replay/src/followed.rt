@@ -1,11 +1,11 @@
 //! A run that follows a journal, entry by entry.
 
-ghost use Rattle.std.specs.Prelude.{◌≡◌, ◌≢◌, ◌++◌, ◌∷◌, ℕ, [], Err, MatchBool, IfOk, IfErr, OnOk};
+ghost use Rattle.std.specs.Prelude.{◌≡◌, ◌≢◌, ℕ, [], Err, MatchBool, IfOk, IfErr, OnOk};
 ghost use Rattle.sp_code.specs.Sound.{IsSound};
 ghost use Rattle.sp_history.specs.Holding.{IsOutputOf};
 ghost use Rattle.sp_kernel.specs.Asks.{IsOpening};
 ghost use Rattle.sp_kernel.specs.Kernels.{setting_of, system_of};
-ghost use Rattle.sp_machine.specs.Procs.{HaveFormals, CanTurn};
+ghost use Rattle.sp_machine.specs.Procs.{CanTurn, IsRankedFrom};
 ghost use Rattle.sp_replay.specs.Held.{held_at};
 ghost use Rattle.sp_replay.specs.Following.{Follows, Stands, SameRun, RunsOn, WasTurned, IsInHand, Exchanged, Made, CannotCome, with_taken};
 ghost use Rattle.sp_replay.specs.Replays.{Replays, LeadsTo};
@@ -29,7 +29,7 @@ pub(crate) struct Followed {
 // One turn of a process.
 fn turned(proc: Proc, code: &Code, limits: &Limits) -> Result<Handed, Memory>
     requires sound { IsSound code.now }
-    requires formals { HaveFormals code.now.layouts }
+    requires ranked { IsRankedFrom proc code.now limits.now }
     requires safe { CanTurn proc code.now limits.now }
     ensures { IfOk result (λ h. WasTurned proc code.now limits.now h) }
 {
@@ -112,19 +112,9 @@ impl Followed {
         self.take_ready()
     }
 
-    // The event of the last entry.
-    fn newest(&self) -> Event
-        requires { (es : _) × (e : _) × (self.now.kernel.journal.entries ≡ es ++ e ∷ []) }
-        ensures { (es : _) (e : _) → self.now.kernel.journal.entries ≡ es ++ e ∷ [] → result ≡ e.event }
-    {
-        let entries = self.kernel.journal().entries.items();
-        entries[entries.len() - 1].event
-    }
-
     // The next turn of the entry's process. The answer says whether its event is the entry's.
     fn follow(&mut self, code: &Code, limits: &Limits, entry: Entry) -> Result<bool, Memory>
         requires sound { IsSound code.now }
-        requires formals { HaveFormals code.now.layouts }
         requires run { RunsOn self.old.kernel code.now limits.now }
         requires stands { Stands self.old }
         ensures { IfOk result (λ fits. MatchBool fits (Stands self.new × Made self.old.kernel entry.process entry.event self.new.kernel)
@@ -135,7 +125,7 @@ impl Followed {
         };
         let handed = turned(proc, code, limits)?;
         self.hand_in(code, limits, handed)?;
-        Ok(is_same(self.newest(), entry.event))
+        Ok(is_same(self.kernel.newest(), entry.event))
     }
 
     /// Follows all entries from the start on, up to the first that can't come next.
@@ -146,7 +136,6 @@ impl Followed {
         entries: &[Entry],
     ) -> Result<(), ReplayError>
         requires sound { IsSound code.now }
-        requires formals { HaveFormals code.now.layouts }
         requires run { RunsOn self.old.kernel code.now limits.now }
         requires stands { Stands self.old }
         requires start { self.old.kernel.journal.entries ≡ [] }

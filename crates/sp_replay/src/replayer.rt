@@ -2,8 +2,6 @@
 
 ghost use Rattle.std.specs.Prelude.{◌≡◌, [], IfOk};
 ghost use Rattle.sp_code.specs.Sound.{IsSound, AreLimits, run_of};
-ghost use Rattle.sp_journal.specs.Births.{IsNameable};
-ghost use Rattle.sp_machine.specs.Procs.{HaveFormals};
 ghost use Rattle.sp_kernel.specs.Kernels.{setting_of};
 ghost use Rattle.sp_replay.specs.declared.replayer.ReplayError.TheVariants.{Memory as OutOfMemory};
 ghost use Rattle.sp_replay.specs.Following.{Stands, RunsOn};
@@ -56,7 +54,6 @@ fn begin(
     limits: &Limits,
 ) -> Result<Followed, Memory>
     requires sound { IsSound code.now.value }
-    requires formals { HaveFormals code.now.value.layouts }
     requires limits { AreLimits limits.now }
     ensures stands { IfOk result (λ f. Stands f) }
     ensures setting { IfOk result (λ f. setting_of f.kernel ≡ run_of code.now.value input.value limits.now) }
@@ -69,8 +66,7 @@ fn begin(
 }
 
 /// Runs the code on an input along a journal: each entry is the event of the next turn of its process. Each process that can run is
-/// held here, and is turned only when an entry names it. What is made in this call takes its memory from `alloc`. The code is sound,
-/// and the journal gives names.
+/// held here, and is turned only when an entry names it. What is made in this call takes its memory from `alloc`. The code is sound.
 ///
 /// The end and the output are those of the machine after the whole journal. `Unfit` comes exactly where the machine is not defined
 /// along it, with the first entry that does not fit.
@@ -82,9 +78,7 @@ pub fn replay(
     journal: &Journal,
 ) -> Result<Replayed, ReplayError>
     requires sound { IsSound code.value }
-    requires formals { HaveFormals code.value.layouts }
     requires limits { AreLimits limits.now }
-    requires nameable { IsNameable journal.now }
     ensures { Replays (run_of code.value input.value limits.now) journal.now.entries result }
 {
     let mut followed = begin(alloc, &code, input, limits)?;

@@ -1,12 +1,17 @@
 use Rattle.std.proofs.Common.{◌≡◌, ◌∙◌, sym, refl, subst}
 use Rattle.sp_replay.specs.Held.{held_at}
 use Rattle.sp_replay.specs.Following.{Made}
-use Rattle.sp_replay.proofs.Coming.{can_turn, picked_out, in_hand, none_of}
+use Rattle.sp_replay.proofs.Coming.{can_turn, ranked, picked_out, in_hand, none_of}
 use Rattle.sp_replay.proofs.Entries.{not_held, compared}
 use Rattle.sp_replay.proofs.followed.Followed.follow.Goals as goal
 
 pub returns-in_default : goal.returns-in_default
 returns-in_default c = not_held c.args.self.now.kernel c.requires.stands.follows.come (held_at c.args.self.now.held) c.requires.stands.follows.held c.requires.stands.none_ready c.args.entry (sym c.pick.ensures.proc ∙ none_of c.pick.result c.in_default.not-Some)
+
+pub turned-requires-clause-ranked : goal.turned-requires-clause-ranked
+turned-requires-clause-ranked c =
+    ranked c.args.self.now.kernel c.requires.stands.follows.come c.args.code.now c.args.limits.now c.requires.run c.in-Some.proc
+    (picked_out c.args.self.now.kernel (held_at c.args.self.now.held) c.requires.stands.follows.held c.args.entry.process c.in-Some.proc (sym c.pick.ensures.proc ∙ c.in-Some.is))
 
 pub turned-requires-clause-safe : goal.turned-requires-clause-safe
 turned-requires-clause-safe c =
