@@ -11,10 +11,6 @@ use Rattle.sp_meaning.specs.Along.{Course, no_course, Along, Entered}
 use Rattle.sp_execute.specs.Follows.{IsMeant, IsUnfitAt}
 
 module _ (g : Setting) (turn : ℕ) where
-  -- what is left of an entry may be less
-  abbrev Left : Type 1
-  Left = Course → StateOf g → ℕ → Type 0
-
   -- the meaning is defined along these occurrences from here on
   abbrev Defined : List Occurrence → Course → StateOf g → Type 0
   Defined os c s = (n : ℕ) × (t : StateOf g) × Along g turn c s os n t

@@ -2,9 +2,7 @@ use Rattle.std.proofs.Common.{sym, subst}
 use Rattle.sp_code.specs.declared.code.Parts.{Parts}
 use Rattle.sp_code.specs.Sound.{IsSound, run_of}
 use Rattle.sp_kernel.specs.declared.closed.Closed.{Closed}
-use Rattle.sp_link.proofs.Formals.{have_formals}
 use Rattle.sp_link.proofs.Soundness.{program_sound}
-use Rattle.sp_machine.specs.Procs.{HaveFormals}
 use Rattle.sp_runner.specs.Runs.{IsRun}
 use Rattle.sp_execute.specs.Runs.{setting}
 use Rattle.sp_execute.proofs.Executing.{run_of_code, executed}
@@ -14,11 +12,6 @@ pub run-requires-clause-sound : goal.run-requires-clause-sound
 run-requires-clause-sound g c κs within =
     let p = c.requires.program in
     subst (λ (x : Parts). IsSound x) (sym p.3.emitted) (program_sound (setting p.0 c.args.input.value c.args.limits.now) p.1 p.2 p.3.ready)
-
-pub run-requires-clause-formals : goal.run-requires-clause-formals
-run-requires-clause-formals g c κs within =
-    let p = c.requires.program in
-    subst (λ (x : Parts). HaveFormals x.layouts) (sym p.3.emitted) (have_formals p.0 p.3.ready.formed p.1 p.2)
 
 pub judge-requires : goal.judge-requires
 judge-requires g c =
