@@ -6,8 +6,8 @@ use Rattle.sp_tree.specs.declared.checked.Expr.{out-Expr}
 use Rattle.sp_tree.specs.declared.checked.Expr as ast_e
 use Rattle.sp_tree.specs.declared.checked.ExprForm as ast_f
 use Rattle.sp_tree.specs.declared.checked.Form.TheFolds as folds
-use Rattle.sp_tree.specs.Plain.{Typed, Unary, Standard, AtInput, Assign, Sequence, For, Case, Parallel, Forall, ReadLine}
-use Rattle.sp_tree.specs.PlainOf.{expr_of, form_of, var_of, stmt_of, arms_of, standard_of, stmts_of}
+use Rattle.sp_tree.specs.Plain.{Typed, Unary, Standard, AtInput, Assign, Sequence, For, Case, Parallel, Forall, ReadLine, WriteValue}
+use Rattle.sp_tree.specs.PlainOf.{expr_of, form_of, var_of, stmt_of, arms_of, standard_of, stmts_of, width_of}
 use Rattle.sp_tree.specs.CheckedOf as placed
 use Rattle.sp_tree.specs.Bare.{bare_statements}
 use Rattle.sp_tree.proofs.Singles.{sends_bare, receives_bare}
@@ -138,6 +138,11 @@ pub start-returns-in-ReadLine : goal.start-returns-in-ReadLine
 start-returns-in-ReadLine t c =
     let i : stmt_of c.args.s.now ≡ ReadLine = search (rules, folds.the_lemmas) in
     rw i c.read_line.ensures
+
+pub start-returns-in-WriteValue : goal.start-returns-in-WriteValue
+start-returns-in-WriteValue t c =
+    let i : stmt_of c.args.s.now ≡ WriteValue (expr_of c.in-WriteValue.e) (width_of c.in-WriteValue.w) = search (rules, folds.the_lemmas) in
+    rw i c.start_write.ensures
 
 pub start_forall-returns : goal.start_forall-returns
 start_forall-returns t c =
