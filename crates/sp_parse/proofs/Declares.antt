@@ -65,7 +65,7 @@ nothing none = refl
 name_row : {text : List ℕ} (t : Token) (ts u : List Token) (e : Entry (Row AName)) → entry kind.Name [] row.name ≡ e → (vs : Values e.left) → DerivesAll text Within e.left ts u vs → (build text e.row t vs ≡ name_of text t) × (ts ≡ u)
 name_row {text} t ts u e p = subst (λ (e : Entry (Row AName)). (vs : Values e.left) → DerivesAll text Within e.left ts u vs → (build text e.row t vs ≡ name_of text t) × (ts ≡ u)) p (λ vs d. (refl, nothing d))
 
-name_token : {text : List ℕ} {ts u : List Token} {v : Value AName} → Derives text Within AName ts u v → (t : Token) × (ts ≡ t ∷ u) × (t.kind ≡ kind.Name) × (v ≡ name_of text t)
+pub name_token : {text : List ℕ} {ts u : List Token} {v : Value AName} → Derives text Within AName ts u v → (t : Token) × (ts ≡ t ∷ u) × (t.kind ≡ kind.Name) × (v ≡ name_of text t)
 name_token (takes {ts = ts} {r = u} t e h o d) =
     let i = name_entry t.kind e h in
     let j = name_row t ts u e i.1 _ d in

@@ -1,6 +1,5 @@
 -- How declarations of constants, types and variables are read.
 use Rattle.std.proofs.Common.{◌≡◌, ℕ, true, false, List, [], ◌∷◌, ◌++◌, map, Some, cond, refl, sym as back_of, ap, ◌∙◌, subst}
-use Rattle.sp_base.specs.declared.halt.Halt.{Halt}
 use Rattle.sp_tree.specs.declared.token.Token.{Token}
 use Rattle.sp_tree.specs.declared.token.Kind.TheVariants as kind
 use Rattle.sp_tree.specs.declared.syntax.Name.{Name}
@@ -17,11 +16,10 @@ use Rattle.sp_grammar.specs.Table as row
 use Rattle.sp_grammar.specs.Table.{Entry, Row, entry, rows, look, gap, kind_is, PartsRow, parts_rows}
 use Rattle.sp_grammar.specs.Derives.{Derives}
 use Rattle.sp_parse.specs.declared.source.Source.{Source}
-use Rattle.sp_parse.specs.Reads.{Within, breaks, HasRead, Halts, BeginsOther, BeginsWith, SoFar}
+use Rattle.sp_parse.specs.Reads.{Within, Ready, breaks, HasRead, BeginsOther, BeginsWith, SoFar}
 use Rattle.sp_parse.specs.Declares.{and_parts}
-use Rattle.sp_parse.proofs.SoFar.{starts, goes_on, halts_pending}
+use Rattle.sp_parse.proofs.Rounds.{Pending, none_read, item_read, round_at}
 use Rattle.sp_parse.proofs.Rows.{look_map, bare_leads, bare_derives}
-use Rattle.sp_parse.proofs.Declares.{name_first, named_halts, halts_longer}
 use Rattle.sp_parse.proofs.ReadFactors.{lay_push}
 
 pub part_behind : (ps : List SynPart) (p : SynPart) (b : tree.Block) → and_parts (ps ++ p ∷ []) b ≡ and_parts ps (declared (part_of p) b)
@@ -49,16 +47,17 @@ ConstantsRead source ts r p = HasRead source (AName ∷ AToken w.Equal ∷ ACons
 abbrev pub ConstantsSoFar : Source → ℕ → List SynPart → List SynPart → List Token → List Token → Type 0
 ConstantsSoFar source d before all ts rest = SoFar source (AName ∷ AToken w.Equal ∷ AConstant ∷ AToken w.Semicolon ∷ MoreConstants d ∷ []) (λ vs. and_parts before (declared (tree.Const vs.0 vs.1.1.0) vs.1.1.1.1.0)) (MoreConstants d) (λ b. and_parts all b) ts rest
 
-pub constants_start : {source : Source} {ts r : List Token} {p : SynPart} (before : List SynPart) {all : List SynPart} → ConstantsRead source ts r p → all ≡ before ++ p ∷ [] → (d : ℕ) → ConstantsSoFar source d before all ts r
-constants_start {p = p} before h e d = starts h (λ b. ap (λ l. and_parts l b) e ∙ part_behind before p b ∙ ap (λ q. and_parts before (declared q b)) h.same)
+abbrev pub ConstantsPending : Source → ℕ → List SynPart → List SynPart → List Token → List Token → Type 0
+ConstantsPending source d before all ts rest = Pending source (AName ∷ AToken w.Equal ∷ AConstant ∷ AToken w.Semicolon ∷ MoreConstants d ∷ []) (λ vs. and_parts before (declared (tree.Const vs.0 vs.1.1.0) vs.1.1.1.1.0)) (AName ∷ AToken w.Equal ∷ AConstant ∷ AToken w.Semicolon ∷ MoreConstants d ∷ []) (λ vs. and_parts all (declared (tree.Const vs.0 vs.1.1.0) vs.1.1.1.1.0)) ts rest
 
-pub constants_more : {source : Source} {ts rest left : List Token} {p : SynPart} (before all : List SynPart) {new : List SynPart} → ((d : ℕ) → ConstantsSoFar source d before all ts rest) → ConstantsRead source rest left p → new ≡ all ++ p ∷ [] → (d : ℕ) → ConstantsSoFar source d before new ts left
-constants_more {p = p} before all so h e d =
-    let n = name_first (so 0).ready h in
-    goes_on row.next_constant refl refl (so d) n.begins n.read (λ b. ap (λ l. and_parts l b) e ∙ part_behind all p b ∙ ap (λ q. and_parts all (declared q b)) n.same)
+pub constants_none : {source : Source} {ts : List Token} (before : List SynPart) → Ready source ts → (d : ℕ) → ConstantsPending source d before before ts ts
+constants_none before a d = none_read (λ vs. refl) a
 
-pub no_constants : {source : Source} {ts rest behind : List Token} (before all : List SynPart) → ((d : ℕ) → ConstantsSoFar source d before all ts rest) → BeginsWith source rest kind.Name behind → (e : Halt) → Halts source (AName ∷ AToken w.Equal ∷ AConstant ∷ AToken w.Semicolon ∷ []) rest e → (d : ℕ) → Halts source (AName ∷ AToken w.Equal ∷ AConstant ∷ AToken w.Semicolon ∷ MoreConstants d ∷ []) ts e
-no_constants {source} {rest = rest} before all so b e h d = halts_pending (so d) e (named_halts source row.next_constant refl refl b.token _ b.all (has_name b) refl e (halts_longer source (AName ∷ AToken w.Equal ∷ AConstant ∷ AToken w.Semicolon ∷ []) (MoreConstants d ∷ []) rest e h))
+pub constants_read : {source : Source} {ts rest left : List Token} {p : SynPart} (before all new : List SynPart) → ((d : ℕ) → ConstantsPending source d before all ts rest) → ConstantsRead source rest left p → new ≡ all ++ p ∷ [] → (d : ℕ) → ConstantsSoFar source d before new ts left
+constants_read {p = p} before all new y h e d = item_read (y d) h (λ b. ap (λ l. and_parts l b) e ∙ part_behind all p b ∙ ap (λ q. and_parts all (declared q b)) h.same)
+
+pub constants_on : {source : Source} {ts rest behind : List Token} (before all : List SynPart) → ((d : ℕ) → ConstantsSoFar source d before all ts rest) → BeginsWith source rest kind.Name behind → (d : ℕ) → ConstantsPending source d before all ts rest
+constants_on {behind = behind} before all so b d = round_at row.next_constant refl refl (so d) b.token behind b.all (has_name b) refl (λ t vs. refl)
 
 look_constants : (d : ℕ) (t : Token) → kind_is kind.Name t.kind ≡ false → look (rows (MoreConstants d)) t.kind ≡ look (map (λ (e : Entry (PartsRow d)). entry e.key e.left (row.after_constants e.row)) (parts_rows d)) t.kind
 look_constants d t h = ap (λ x. cond x (Some (entry kind.Name (AToken w.Equal ∷ AConstant ∷ AToken w.Semicolon ∷ MoreConstants d ∷ []) row.next_constant)) (look (map (λ (e : Entry (PartsRow d)). entry e.key e.left (row.after_constants e.row)) (parts_rows d)) t.kind)) h
@@ -78,16 +77,17 @@ TypesRead source ts r p = HasRead source (AName ∷ AToken w.Equal ∷ AType ∷
 abbrev pub TypesSoFar : Source → ℕ → List SynPart → List SynPart → List Token → List Token → Type 0
 TypesSoFar source d before all ts rest = SoFar source (AName ∷ AToken w.Equal ∷ AType ∷ AToken w.Semicolon ∷ MoreTypes d ∷ []) (λ vs. and_parts before (declared (tree.Kind vs.0 vs.1.1.0) vs.1.1.1.1.0)) (MoreTypes d) (λ b. and_parts all b) ts rest
 
-pub types_start : {source : Source} {ts r : List Token} {p : SynPart} (before : List SynPart) {all : List SynPart} → TypesRead source ts r p → all ≡ before ++ p ∷ [] → (d : ℕ) → TypesSoFar source d before all ts r
-types_start {p = p} before h e d = starts h (λ b. ap (λ l. and_parts l b) e ∙ part_behind before p b ∙ ap (λ q. and_parts before (declared q b)) h.same)
+abbrev pub TypesPending : Source → ℕ → List SynPart → List SynPart → List Token → List Token → Type 0
+TypesPending source d before all ts rest = Pending source (AName ∷ AToken w.Equal ∷ AType ∷ AToken w.Semicolon ∷ MoreTypes d ∷ []) (λ vs. and_parts before (declared (tree.Kind vs.0 vs.1.1.0) vs.1.1.1.1.0)) (AName ∷ AToken w.Equal ∷ AType ∷ AToken w.Semicolon ∷ MoreTypes d ∷ []) (λ vs. and_parts all (declared (tree.Kind vs.0 vs.1.1.0) vs.1.1.1.1.0)) ts rest
 
-pub types_more : {source : Source} {ts rest left : List Token} {p : SynPart} (before all : List SynPart) {new : List SynPart} → ((d : ℕ) → TypesSoFar source d before all ts rest) → TypesRead source rest left p → new ≡ all ++ p ∷ [] → (d : ℕ) → TypesSoFar source d before new ts left
-types_more {p = p} before all so h e d =
-    let n = name_first (so 0).ready h in
-    goes_on row.next_type refl refl (so d) n.begins n.read (λ b. ap (λ l. and_parts l b) e ∙ part_behind all p b ∙ ap (λ q. and_parts all (declared q b)) n.same)
+pub types_none : {source : Source} {ts : List Token} (before : List SynPart) → Ready source ts → (d : ℕ) → TypesPending source d before before ts ts
+types_none before a d = none_read (λ vs. refl) a
 
-pub no_types : {source : Source} {ts rest behind : List Token} (before all : List SynPart) → ((d : ℕ) → TypesSoFar source d before all ts rest) → BeginsWith source rest kind.Name behind → (e : Halt) → Halts source (AName ∷ AToken w.Equal ∷ AType ∷ AToken w.Semicolon ∷ []) rest e → (d : ℕ) → Halts source (AName ∷ AToken w.Equal ∷ AType ∷ AToken w.Semicolon ∷ MoreTypes d ∷ []) ts e
-no_types {source} {rest = rest} before all so b e h d = halts_pending (so d) e (named_halts source row.next_type refl refl b.token _ b.all (has_name b) refl e (halts_longer source (AName ∷ AToken w.Equal ∷ AType ∷ AToken w.Semicolon ∷ []) (MoreTypes d ∷ []) rest e h))
+pub types_read : {source : Source} {ts rest left : List Token} {p : SynPart} (before all new : List SynPart) → ((d : ℕ) → TypesPending source d before all ts rest) → TypesRead source rest left p → new ≡ all ++ p ∷ [] → (d : ℕ) → TypesSoFar source d before new ts left
+types_read {p = p} before all new y h e d = item_read (y d) h (λ b. ap (λ l. and_parts l b) e ∙ part_behind all p b ∙ ap (λ q. and_parts all (declared q b)) h.same)
+
+pub types_on : {source : Source} {ts rest behind : List Token} (before all : List SynPart) → ((d : ℕ) → TypesSoFar source d before all ts rest) → BeginsWith source rest kind.Name behind → (d : ℕ) → TypesPending source d before all ts rest
+types_on {behind = behind} before all so b d = round_at row.next_type refl refl (so d) b.token behind b.all (has_name b) refl (λ t vs. refl)
 
 look_types : (d : ℕ) (t : Token) → kind_is kind.Name t.kind ≡ false → look (rows (MoreTypes d)) t.kind ≡ look (map (λ (e : Entry (PartsRow d)). entry e.key e.left (row.after_types e.row)) (parts_rows d)) t.kind
 look_types d t h = ap (λ x. cond x (Some (entry kind.Name (AToken w.Equal ∷ AType ∷ AToken w.Semicolon ∷ MoreTypes d ∷ []) row.next_type)) (look (map (λ (e : Entry (PartsRow d)). entry e.key e.left (row.after_types e.row)) (parts_rows d)) t.kind)) h
@@ -107,16 +107,17 @@ VariablesRead source ts r p = HasRead source (AName ∷ MoreNames ∷ AToken w.C
 abbrev pub VariablesSoFar : Source → ℕ → List SynPart → List SynPart → List Token → List Token → Type 0
 VariablesSoFar source d before all ts rest = SoFar source (AName ∷ MoreNames ∷ AToken w.Colon ∷ AName ∷ AToken w.Semicolon ∷ MoreVariables d ∷ []) (λ vs. and_parts before (declared (tree.Var (vs.0 ∷ vs.1.0) vs.1.1.1.0) vs.1.1.1.1.1.0)) (MoreVariables d) (λ b. and_parts all b) ts rest
 
-pub variables_start : {source : Source} {ts r : List Token} {p : SynPart} (before : List SynPart) {all : List SynPart} → VariablesRead source ts r p → all ≡ before ++ p ∷ [] → (d : ℕ) → VariablesSoFar source d before all ts r
-variables_start {p = p} before h e d = starts h (λ b. ap (λ l. and_parts l b) e ∙ part_behind before p b ∙ ap (λ q. and_parts before (declared q b)) h.same)
+abbrev pub VariablesPending : Source → ℕ → List SynPart → List SynPart → List Token → List Token → Type 0
+VariablesPending source d before all ts rest = Pending source (AName ∷ MoreNames ∷ AToken w.Colon ∷ AName ∷ AToken w.Semicolon ∷ MoreVariables d ∷ []) (λ vs. and_parts before (declared (tree.Var (vs.0 ∷ vs.1.0) vs.1.1.1.0) vs.1.1.1.1.1.0)) (AName ∷ MoreNames ∷ AToken w.Colon ∷ AName ∷ AToken w.Semicolon ∷ MoreVariables d ∷ []) (λ vs. and_parts all (declared (tree.Var (vs.0 ∷ vs.1.0) vs.1.1.1.0) vs.1.1.1.1.1.0)) ts rest
 
-pub variables_more : {source : Source} {ts rest left : List Token} {p : SynPart} (before all : List SynPart) {new : List SynPart} → ((d : ℕ) → VariablesSoFar source d before all ts rest) → VariablesRead source rest left p → new ≡ all ++ p ∷ [] → (d : ℕ) → VariablesSoFar source d before new ts left
-variables_more {p = p} before all so h e d =
-    let n = name_first (so 0).ready h in
-    goes_on row.next_variable refl refl (so d) n.begins n.read (λ b. ap (λ l. and_parts l b) e ∙ part_behind all p b ∙ ap (λ q. and_parts all (declared q b)) n.same)
+pub variables_none : {source : Source} {ts : List Token} (before : List SynPart) → Ready source ts → (d : ℕ) → VariablesPending source d before before ts ts
+variables_none before a d = none_read (λ vs. refl) a
 
-pub no_variables : {source : Source} {ts rest behind : List Token} (before all : List SynPart) → ((d : ℕ) → VariablesSoFar source d before all ts rest) → BeginsWith source rest kind.Name behind → (e : Halt) → Halts source (AName ∷ MoreNames ∷ AToken w.Colon ∷ AName ∷ AToken w.Semicolon ∷ []) rest e → (d : ℕ) → Halts source (AName ∷ MoreNames ∷ AToken w.Colon ∷ AName ∷ AToken w.Semicolon ∷ MoreVariables d ∷ []) ts e
-no_variables {source} {rest = rest} before all so b e h d = halts_pending (so d) e (named_halts source row.next_variable refl refl b.token _ b.all (has_name b) refl e (halts_longer source (AName ∷ MoreNames ∷ AToken w.Colon ∷ AName ∷ AToken w.Semicolon ∷ []) (MoreVariables d ∷ []) rest e h))
+pub variables_read : {source : Source} {ts rest left : List Token} {p : SynPart} (before all new : List SynPart) → ((d : ℕ) → VariablesPending source d before all ts rest) → VariablesRead source rest left p → new ≡ all ++ p ∷ [] → (d : ℕ) → VariablesSoFar source d before new ts left
+variables_read {p = p} before all new y h e d = item_read (y d) h (λ b. ap (λ l. and_parts l b) e ∙ part_behind all p b ∙ ap (λ q. and_parts all (declared q b)) h.same)
+
+pub variables_on : {source : Source} {ts rest behind : List Token} (before all : List SynPart) → ((d : ℕ) → VariablesSoFar source d before all ts rest) → BeginsWith source rest kind.Name behind → (d : ℕ) → VariablesPending source d before all ts rest
+variables_on {behind = behind} before all so b d = round_at row.next_variable refl refl (so d) b.token behind b.all (has_name b) refl (λ t vs. refl)
 
 look_variables : (d : ℕ) (t : Token) → kind_is kind.Name t.kind ≡ false → look (rows (MoreVariables d)) t.kind ≡ look (map (λ (e : Entry (PartsRow d)). entry e.key e.left (row.after_variables e.row)) (parts_rows d)) t.kind
 look_variables d t h = ap (λ x. cond x (Some (entry kind.Name (MoreNames ∷ AToken w.Colon ∷ AName ∷ AToken w.Semicolon ∷ MoreVariables d ∷ []) row.next_variable)) (look (map (λ (e : Entry (PartsRow d)). entry e.key e.left (row.after_variables e.row)) (parts_rows d)) t.kind)) h

@@ -3,7 +3,6 @@ use Rattle.std.proofs.Common.{◌≡◌, ℕ, suc, ◌<◌, Bool, true, false, c
 use Rattle.std.proofs.lemmas.List.{append-nil}
 use Rattle.std.specs.Borrow.{Bor}
 use Rattle.sp_base.specs.declared.halt.Halt.{Halt}
-use Rattle.sp_base.specs.declared.halt.Halt.TheVariants as halt
 use Rattle.sp_base.specs.declared.place.Place.{Place}
 use Rattle.sp_tree.specs.declared.token.Token.{Token}
 use Rattle.sp_tree.specs.declared.token.Kind.{Kind}
@@ -31,7 +30,7 @@ use Rattle.sp_parse.specs.Reads.{Within, Ready, breaks, HasRead, Halts, Reads, B
 use Rattle.sp_parse.specs.Operators.{is_some, BeginsForm}
 use Rattle.sp_parse.specs.Trees.{lay, other_of, arms_of, branches_of, and_statements, and_arms, and_branches}
 use Rattle.sp_parse.proofs.Steps.{has_read, one, take, expected, below}
-use Rattle.sp_parse.proofs.SoFar.{skipped, ends, halts_chain, halts_close, starts, chain}
+use Rattle.sp_parse.proofs.SoFar.{skipped, ends, halts_chain, halts_close}
 use Rattle.sp_parse.proofs.Rounds.{Pending, none_read, item_read, round_on}
 use Rattle.sp_parse.proofs.Rows.{look_map, after_two, lifted, split_join, copy_leads, copy_derives, copied_leads, copied_derives, halts_same, row_reads, row_halts, row_result, some_of, none_of, some_lifted}
 use Rattle.sp_parse.proofs.ReadFactors.{lay_push, IsExpression, IsArguments}
@@ -229,8 +228,14 @@ module _ (source : Source) where
   abbrev pub AreArms : ℕ → List Token → List Token → List SynArm → Type 0
   AreArms d ts r all = HasRead source (sym.AConstant ∷ sym.MoreLabels ∷ sym.AStatement d ∷ sym.MoreArms d ∷ []) (λ vs. tree.Or (tree.On (vs.0 ∷ vs.1.0) vs.1.1.0) vs.1.1.1.0) arms_of ts r all
 
-  pub arms_start : (d : ℕ) {ts rest : List Token} (a : SynArm) (all : List SynArm) → IsArm d ts rest a → all ≡ [] ++ a ∷ [] → ArmsSoFar d all ts rest
-  arms_start d a all h e = starts h (λ v. ap (λ l. and_arms l v) e ∙ ap (λ x. tree.Or x v) h.same)
+  abbrev pub ArmsPending : ℕ → List SynArm → List Token → List Token → Type 0
+  ArmsPending d all ts rest = Pending source (sym.AConstant ∷ sym.MoreLabels ∷ sym.AStatement d ∷ sym.MoreArms d ∷ []) (λ vs. tree.Or (tree.On (vs.0 ∷ vs.1.0) vs.1.1.0) vs.1.1.1.0) (sym.AConstant ∷ sym.MoreLabels ∷ sym.AStatement d ∷ sym.MoreArms d ∷ []) (λ vs. and_arms all (tree.Or (tree.On (vs.0 ∷ vs.1.0) vs.1.1.0) vs.1.1.1.0)) ts rest
+
+  pub arms_none : (d : ℕ) {ts : List Token} (all : List SynArm) → all ≡ [] → Ready source ts → ArmsPending d all ts ts
+  arms_none d all e a = none_read (λ vs. ap (λ l. and_arms l (tree.Or (tree.On (vs.0 ∷ vs.1.0) vs.1.1.0) vs.1.1.1.0)) e) a
+
+  pub arms_read : (d : ℕ) {ts rest left : List Token} (a : SynArm) (all new : List SynArm) → ArmsPending d all ts rest → IsArm d rest left a → new ≡ all ++ a ∷ [] → ArmsSoFar d new ts left
+  arms_read d a all new p h e = item_read p h (λ v. ap (λ l. and_arms l v) e ∙ lay_push tree.Or arm_of all a v ∙ ap (λ x. and_arms all (tree.Or x v)) h.same)
 
   module _ (d : ℕ) (t : Token) (ts : List Token) (n : kind_is w.End t.kind ≡ false) where
     abbrev as_arm : Entry ConstantRow → Entry (Row (sym.ArmOrEnd d))
@@ -256,29 +261,21 @@ module _ (source : Source) where
         (look_map (λ e. entry e.key e.left (row.constant e.row)) (λ e. refl) constant_rows t.kind)
         refl tt a (and b (and y (and z none)))
 
-    arm_derives : {x r : List Token} {vs : Values (sym.AConstant ∷ sym.MoreLabels ∷ sym.AStatement d ∷ [])} {m : tree.Arms} → DerivesAll text Within (sym.AConstant ∷ sym.MoreLabels ∷ sym.AStatement d ∷ []) (t ∷ ts) x vs → Derives text Within (sym.MoreArms d) x r m → Derives text Within (sym.ArmOrEnd d) (t ∷ ts) r (tree.Or (tree.On (vs.0 ∷ vs.1.0) vs.1.1.0) m)
-    arm_derives (and a (and b (and y none))) z = arm_derives_at a b y z
+    arm_derives : {r : List Token} {vs : Values (sym.AConstant ∷ sym.MoreLabels ∷ sym.AStatement d ∷ sym.MoreArms d ∷ [])} → DerivesAll text Within (sym.AConstant ∷ sym.MoreLabels ∷ sym.AStatement d ∷ sym.MoreArms d ∷ []) (t ∷ ts) r vs → Derives text Within (sym.ArmOrEnd d) (t ∷ ts) r (tree.Or (tree.On (vs.0 ∷ vs.1.0) vs.1.1.0) vs.1.1.1.0)
+    arm_derives (and a (and b (and y (and z none)))) = arm_derives_at a b y z
 
-    an_arm_at : {left : List Token} (a : SynArm) (all new : List SynArm) → IsArm d (t ∷ ts) left a → new ≡ all ++ a ∷ [] → SoFar source (sym.ArmOrEnd d ∷ []) (λ vs. and_arms all vs.0) (sym.MoreArms d) (and_arms new) (t ∷ ts) left
-    an_arm_at a all new h e = record {
-      is = λ r m y. ((tree.Or (tree.On (h.values.0 ∷ h.values.1.0) h.values.1.1.0) m, tt), and (arm_derives h.derives y) none, ap (λ l. and_arms l m) e ∙ lay_push tree.Or arm_of all a m ∙ ap (λ x. and_arms all (tree.Or x m)) h.same);
-      leads = λ q. arm_leads_at q ∙ h.leads (sym.MoreArms d ∷ q);
-      shorter = h.shorter;
-      ready = h.ready;
+    an_arm_at : {us : List Token} (all : List SynArm) → Pending source (sym.AConstant ∷ sym.MoreLabels ∷ sym.AStatement d ∷ sym.MoreArms d ∷ []) (λ vs. tree.Or (tree.On (vs.0 ∷ vs.1.0) vs.1.1.0) vs.1.1.1.0) (sym.ArmOrEnd d ∷ []) (λ vs. and_arms all vs.0) us (t ∷ ts) → ArmsPending d all us (t ∷ ts)
+    an_arm_at all p = record {
+      is = λ r vs y. p.is r (tree.Or (tree.On (vs.0 ∷ vs.1.0) vs.1.1.0) vs.1.1.1.0, tt) (and (arm_derives y) none);
+      leads = λ q. p.leads q ∙ arm_leads_at q;
+      shorter = p.shorter;
+      ready = p.ready;
     }
 
-    no_arm_at : (e : Halt) → Halts source (sym.AConstant ∷ sym.MoreLabels ∷ sym.AStatement d ∷ []) (t ∷ ts) e → Halts source (sym.ArmOrEnd d ∷ []) (t ∷ ts) e
-    no_arm_at halt.Memory h = tt
-    no_arm_at (halt.Refused f) h = λ q. arm_leads_at q ∙ h (sym.MoreArms d ∷ q)
-
-  pub arms_more : (d : ℕ) {ts rest behind left : List Token} (a : SynArm) (all new : List SynArm) → ArmsSoFar d all ts rest → BeginsWith source rest w.Semicolon behind → BeginsOther behind w.End → IsArm d behind left a → new ≡ all ++ a ∷ [] → ArmsSoFar d new ts left
-  arms_more d {behind = behind} {left = left} a all new so b n h e =
-      chain row.arms_go_on refl refl so b
-      (subst (λ l. SoFar source (sym.ArmOrEnd d ∷ []) (λ vs. and_arms all vs.0) (sym.MoreArms d) (and_arms new) l left) (back_of n.all) (an_arm_at d n.token n.rest n.other a all new (subst (λ l. IsArm d l left a) n.all h) e))
-      (λ vs. refl)
-
-  pub arms_halt : (d : ℕ) {ts rest behind : List Token} (all : List SynArm) → ArmsSoFar d all ts rest → BeginsWith source rest w.Semicolon behind → BeginsOther behind w.End → (e : Halt) → Halts source (sym.AConstant ∷ sym.MoreLabels ∷ sym.AStatement d ∷ []) behind e → Halts source (sym.AConstant ∷ sym.MoreLabels ∷ sym.AStatement d ∷ sym.MoreArms d ∷ []) ts e
-  arms_halt d all so b n e h = halts_chain row.arms_go_on refl refl so b e (subst (λ l. Halts source (sym.ArmOrEnd d ∷ []) l e) (back_of n.all) (no_arm_at d n.token n.rest n.other e (subst (λ l. Halts source (sym.AConstant ∷ sym.MoreLabels ∷ sym.AStatement d ∷ []) l e) n.all h)))
+  pub arms_on : (d : ℕ) {ts rest behind : List Token} (all : List SynArm) → ArmsSoFar d all ts rest → BeginsWith source rest w.Semicolon behind → BeginsOther behind w.End → ArmsPending d all ts behind
+  arms_on d {ts = ts} all so b n =
+      let p : Pending source (sym.AConstant ∷ sym.MoreLabels ∷ sym.AStatement d ∷ sym.MoreArms d ∷ []) (λ vs. tree.Or (tree.On (vs.0 ∷ vs.1.0) vs.1.1.0) vs.1.1.1.0) (sym.ArmOrEnd d ∷ []) (λ vs. and_arms all vs.0) ts _ = round_on row.arms_go_on refl refl so b (λ vs. refl) in
+      subst (λ l. ArmsPending d all ts l) (back_of n.all) (an_arm_at d n.token n.rest n.other all (subst (λ l. Pending source (sym.AConstant ∷ sym.MoreLabels ∷ sym.AStatement d ∷ sym.MoreArms d ∷ []) (λ vs. tree.Or (tree.On (vs.0 ∷ vs.1.0) vs.1.1.0) vs.1.1.1.0) (sym.ArmOrEnd d ∷ []) (λ vs. and_arms all vs.0) ts l) n.all p))
 
   pub arms_end_halt : (d : ℕ) {ts rest behind : List Token} (all : List SynArm) → ArmsSoFar d all ts rest → BeginsWith source rest w.Semicolon behind → (e : Halt) → Halts source (sym.ArmOrEnd d ∷ []) behind e → Halts source (sym.AConstant ∷ sym.MoreLabels ∷ sym.AStatement d ∷ sym.MoreArms d ∷ []) ts e
   arms_end_halt d all so b e h = halts_chain row.arms_go_on refl refl so b e h

@@ -10,14 +10,14 @@ use Rattle.sp_tree.specs.declared.syntax.SynConst.{SynConst}
 use Rattle.sp_tree.specs.declared.syntax.SynGroup.{SynGroup}
 use Rattle.sp_tree.specs.declared.syntax.SynKind.TheVariants as kinds
 use Rattle.sp_tree.specs.Words as w
-use Rattle.sp_tree.specs.Spelling.{name_of}
 use Rattle.sp_grammar.specs.Symbols.{Symbol, Values, AToken, AName, MoreNames, AType, MoreFields, FieldOrEnd}
 use Rattle.sp_grammar.specs.Table as row
 use Rattle.sp_grammar.specs.Table.{entry, rows, look, kind_is}
 use Rattle.sp_parse.specs.declared.source.Source.{Source}
-use Rattle.sp_parse.specs.Reads.{HasRead, Halts, BeginsOther, BeginsWith, SoFar}
-use Rattle.sp_parse.proofs.SoFar.{starts, chain, nothing_yet, halts_pending, halts_close}
-use Rattle.sp_parse.proofs.Declares.{closes, none_if, name_first, named_halts, halts_longer}
+use Rattle.sp_parse.specs.Reads.{Ready, HasRead, Halts, BeginsOther, BeginsWith, SoFar}
+use Rattle.sp_parse.proofs.SoFar.{chain, nothing_yet, halts_close}
+use Rattle.sp_parse.proofs.Rounds.{Pending, none_read, item_read, round_at}
+use Rattle.sp_parse.proofs.Declares.{closes, none_if}
 
 -- names and their type
 abbrev pub GroupSymbols : List Symbol
@@ -46,17 +46,20 @@ FieldsSoFar source all ts rest = SoFar source (AName ∷ MoreNames ∷ AToken w.
 abbrev pub FieldsUpTo : Source → List SynGroup → List Token → List Token → Type 0
 FieldsUpTo source all ts rest = SoFar source (AName ∷ MoreNames ∷ AToken w.Colon ∷ AName ∷ MoreFields ∷ []) (λ vs. record { names = vs.0 ∷ vs.1.0; kind = vs.1.1.1.0 } ∷ vs.1.1.1.1.0) FieldOrEnd (λ gs. all ++ gs) ts rest
 
-pub fields_start : {source : Source} {ts r : List Token} {g : SynGroup} {all : List SynGroup} → GroupRead source ts r g → all ≡ [] ++ g ∷ [] → FieldsSoFar source all ts r
-fields_start h e = starts h (λ gs. ap (λ l. l ++ gs) e ∙ ap (λ g. g ∷ gs) h.same)
+abbrev pub FieldsPending : Source → List SynGroup → List Token → List Token → Type 0
+FieldsPending source all ts rest = Pending source (AName ∷ MoreNames ∷ AToken w.Colon ∷ AName ∷ MoreFields ∷ []) (λ vs. record { names = vs.0 ∷ vs.1.0; kind = vs.1.1.1.0 } ∷ vs.1.1.1.1.0) (AName ∷ MoreNames ∷ AToken w.Colon ∷ AName ∷ MoreFields ∷ []) (λ vs. all ++ record { names = vs.0 ∷ vs.1.0; kind = vs.1.1.1.0 } ∷ vs.1.1.1.1.0) ts rest
+
+pub fields_none : {source : Source} {ts : List Token} (all : List SynGroup) → all ≡ [] → Ready source ts → FieldsPending source all ts ts
+fields_none all e a = none_read (λ vs. ap (λ l. l ++ record { names = vs.0 ∷ vs.1.0; kind = vs.1.1.1.0 } ∷ vs.1.1.1.1.0) e) a
+
+pub fields_read : {source : Source} {ts rest left : List Token} {g : SynGroup} (all new : List SynGroup) → FieldsPending source all ts rest → GroupRead source rest left g → new ≡ all ++ g ∷ [] → FieldsSoFar source new ts left
+fields_read {g = g} all new p h e = item_read p h (λ gs. ap (λ l. l ++ gs) e ∙ append_assoc all (g ∷ []) gs ∙ ap (λ g. all ++ g ∷ gs) h.same)
 
 pub fields_on : {source : Source} {ts rest behind : List Token} (all : List SynGroup) → FieldsSoFar source all ts rest → BeginsWith source rest w.Semicolon behind → FieldsUpTo source all ts behind
 fields_on all so b = chain row.fields_go_on refl refl so b (nothing_yet FieldOrEnd (λ vs. all ++ vs.0) (λ gs. all ++ gs) (λ gs. refl) b.ready) (λ vs. refl)
 
-pub fields_more : {source : Source} {ts rest left : List Token} {g : SynGroup} (all : List SynGroup) {new : List SynGroup} → FieldsUpTo source all ts rest → GroupRead source rest left g → new ≡ all ++ g ∷ [] → FieldsSoFar source new ts left
-fields_more {source} {ts} {rest} {left} {g} all {new} so h e =
-    let n = name_first so.ready h in
-    let text = source.text.now in
-    chain row.next_field refl refl so n.begins (starts {of = λ vs. all ++ record { names = name_of text n.begins.token ∷ vs.0; kind = vs.1.1.0 } ∷ vs.1.1.1.0} n.read (λ gs. ap (λ l. l ++ gs) e ∙ append_assoc all (g ∷ []) gs ∙ ap (λ g. all ++ g ∷ gs) n.same)) (λ vs. refl)
+pub fields_next : {source : Source} {ts rest : List Token} (all : List SynGroup) → FieldsUpTo source all ts rest → BeginsOther rest w.End → FieldsPending source all ts rest
+fields_next all so b = round_at row.next_field refl refl so b.token b.rest b.all (λ n. none_if _ b.other (none_if _ n refl)) refl (λ t vs. refl)
 
 pub fields_close : {source : Source} {ts rest r : List Token} (all : List SynGroup) → FieldsSoFar source all ts rest → BeginsWith source rest w.End r → HasRead source (AName ∷ MoreNames ∷ AToken w.Colon ∷ AName ∷ MoreFields ∷ []) (λ vs. record { names = vs.0 ∷ vs.1.0; kind = vs.1.1.1.0 } ∷ vs.1.1.1.1.0) (λ (gs : List SynGroup). gs) ts r all
 fields_close all so b = closes row.fields_end refl refl so b (back_of (append-nil all))
@@ -66,6 +69,3 @@ fields_up all so b = closes row.no_field refl refl so b (back_of (append-nil all
 
 pub no_fields : {source : Source} {ts rest : List Token} (all : List SynGroup) → FieldsSoFar source all ts rest → BeginsOther rest w.Semicolon → (e : Halt) → Halts source (AToken w.End ∷ []) rest e → Halts source (AName ∷ MoreNames ∷ AToken w.Colon ∷ AName ∷ MoreFields ∷ []) ts e
 no_fields all so b e h = halts_close row.fields_end b (ap (λ x. cond (kind_is w.End b.token.kind) (Some (entry w.End [] row.fields_end)) (cond x (Some (entry w.Semicolon (FieldOrEnd ∷ []) row.fields_go_on)) None)) b.other) refl refl so e h
-
-pub no_next_field : {source : Source} {ts rest : List Token} (all : List SynGroup) → FieldsUpTo source all ts rest → BeginsOther rest w.End → (e : Halt) → Halts source GroupSymbols rest e → Halts source (AName ∷ MoreNames ∷ AToken w.Colon ∷ AName ∷ MoreFields ∷ []) ts e
-no_next_field {source} {ts} {rest} all so b e h = halts_pending so e (named_halts source row.next_field refl refl b.token b.rest b.all (λ n. none_if _ b.other (none_if _ n refl)) refl e (halts_longer source GroupSymbols (MoreFields ∷ []) rest e h))

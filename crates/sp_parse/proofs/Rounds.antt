@@ -1,18 +1,21 @@
 -- Loops whose rounds begin with an item: some symbols are read, and what completes the pending ones completes the whole.
-use Rattle.std.proofs.Common.{◌≡◌, ◌≤◌, List, [], ◌∷◌, ◌++◌, length, Some, None, refl, sym as back_of, ap, ◌∙◌, subst, arith, append_assoc}
+use Rattle.std.proofs.Common.{◌≡◌, ◌≤◌, false, List, [], ◌∷◌, ◌++◌, length, Some, None, refl, sym as back_of, ap, ◌∙◌, subst, arith, append_assoc}
 use Rattle.sp_base.specs.declared.halt.Halt.{Halt}
 use Rattle.sp_base.specs.declared.halt.Halt.TheVariants as halt
 use Rattle.sp_tree.specs.declared.token.Token.{Token}
 use Rattle.sp_tree.specs.declared.token.Kind.{Kind}
+use Rattle.sp_tree.specs.declared.token.Kind.TheVariants as kind
+use Rattle.sp_tree.specs.Spelling.{name_of}
 use Rattle.sp_tree.specs.Breaches.{nesting}
-use Rattle.sp_grammar.specs.Symbols.{Symbol, Value, Values, part}
-use Rattle.sp_grammar.specs.Table.{Row, entry, rows, look, build}
+use Rattle.sp_grammar.specs.Symbols.{Symbol, Value, Values, part, AName}
+use Rattle.sp_grammar.specs.Table.{Row, entry, rows, look, gap, build, kind_is}
 use Rattle.sp_grammar.specs.Machine.{allows}
-use Rattle.sp_grammar.specs.Derives.{Begins as MayBegin, Derives, DerivesAll}
+use Rattle.sp_grammar.specs.Derives.{Begins as MayBegin, Derives, DerivesAll, and}
 use Rattle.sp_parse.specs.declared.source.Source.{Source}
 use Rattle.sp_parse.specs.Reads.{Within, Ready, breaks, HasRead, Halts, BeginsWith, SoFar}
 use Rattle.sp_parse.proofs.Steps.{take, step_takes}
 use Rattle.sp_parse.proofs.SoFar.{glue, glue_all}
+use Rattle.sp_parse.proofs.Declares.{name_token, named_leads}
 
 pub record Pending {V : Type 0} (source : Source) (l : List Symbol) (of : Values l → V) (p : List Symbol) (gives : Values p → V) (ts rest : List Token) : Type 0 where
   pub is : (r : List Token) (vs : Values p) → DerivesAll source.text.now Within p rest r vs → (ws : Values l) × DerivesAll source.text.now Within l ts r ws × (gives vs ≡ of ws)
@@ -51,3 +54,19 @@ round_on {source = source} {s = s} {m = m} {behind = behind} {k = k} row found w
 pub no_item : {V : Type 0} {source : Source} {l : List Symbol} {of : Values l → V} (a m : List Symbol) {gives : Values (a ++ m) → V} {ts rest : List Token} → Pending source l of (a ++ m) gives ts rest → (e : Halt) → Halts source a rest e → Halts source l ts e
 no_item a m p halt.Memory h = tt
 no_item {source = source} a m {rest = rest} p (halt.Refused f) h = λ q. p.leads q ∙ ap (breaks source rest) (append_assoc a m q) ∙ h (m ++ q)
+
+-- the token before another item is the name that the item begins with
+named_completes : {V : Type 0} {source : Source} {l : List Symbol} {of : Values l → V} {s : Symbol} {gives : Value s → V} {m : List Symbol} (new : Values (AName ∷ m) → V) {ts rest : List Token} (row : Row s kind.Name m) → look (rows s) kind.Name ≡ Some (entry kind.Name m row) → part s ≡ None → SoFar source l of s gives ts rest → ((t : Token) (vs : Values m) → new (name_of source.text.now t, vs) ≡ gives (build source.text.now row t vs)) → (r : List Token) {vs : Values (AName ∷ m)} → DerivesAll source.text.now Within (AName ∷ m) rest r vs → (ws : Values l) × DerivesAll source.text.now Within l ts r ws × (new vs ≡ of ws)
+named_completes {source = source} {s = s} {m = m} new row found whole so e r (and {u = u} {vs = us} x xs) =
+    let text = source.text.now in
+    let i = name_token x in
+    let j = so.is r (build text row i.0 us) (subst (λ l. Derives text Within s l r (build text row i.0 us)) (back_of i.1) (take (entry kind.Name m row) found i.0 i.2 (subst (λ p. MayBegin Within p (i.0 ∷ u)) (back_of whole) tt) xs)) in
+    (j.0, j.1, ap (λ n. new (n, us)) i.3 ∙ e i.0 us ∙ j.2)
+
+pub round_at : {V : Type 0} {source : Source} {l : List Symbol} {of : Values l → V} {s : Symbol} {gives : Value s → V} {m : List Symbol} {new : Values (AName ∷ m) → V} {ts rest : List Token} (row : Row s kind.Name m) → look (rows s) kind.Name ≡ Some (entry kind.Name m row) → part s ≡ None → SoFar source l of s gives ts rest → (t : Token) (r : List Token) → rest ≡ t ∷ r → (kind_is kind.Name t.kind ≡ false → look (rows s) t.kind ≡ None) → gap s t ≡ None → ((t : Token) (vs : Values m) → new (name_of source.text.now t, vs) ≡ gives (build source.text.now row t vs)) → Pending source l of (AName ∷ m) new ts rest
+round_at {source = source} {s = s} {m = m} {new = new} row found whole so t r p other g e = record {
+  is = λ r vs d. named_completes new row found whole so e r d;
+  leads = λ q. so.leads q ∙ ap (λ ts. breaks source ts (s ∷ q)) p ∙ named_leads source s m row found whole t r (kind_is kind.Name t.kind) refl other g q ∙ ap (λ ts. breaks source ts (AName ∷ m ++ q)) (back_of p);
+  shorter = so.shorter;
+  ready = so.ready;
+}

@@ -75,14 +75,15 @@ pub fn constants<'t>(
     requires { Ready source.now tokens.now }
     ensures { (d : ℕ) → ReadsSoFar source.now (grammar.constants all d) (Parts d) and_parts tokens.now result }
 {
-    let (first, mut rest) = one_constant(source, tokens)?;
-    all.push(first)?;
-    'more: while let Some(_) = pass(source, rest, Kind::Name)? {
+    let mut rest = tokens;
+    'more: loop {
         let (next, left) = one_constant(source, rest)?;
         all.push(next)?;
+        let Some(_) = pass(source, left, Kind::Name)? else {
+            return Ok((all, left));
+        };
         rest = left;
     }
-    Ok((all, rest))
 }
 
 // types = "type" name "=" type ";" { name "=" type ";" }
@@ -95,14 +96,15 @@ pub fn types<'t>(
     requires { Ready source.now tokens.now }
     ensures { (d : ℕ) → ReadsSoFar source.now (grammar.types all d) (Parts d) and_parts tokens.now result }
 {
-    let (first, mut rest) = one_type(source, tokens)?;
-    all.push(first)?;
-    'more: while let Some(_) = pass(source, rest, Kind::Name)? {
+    let mut rest = tokens;
+    'more: loop {
         let (next, left) = one_type(source, rest)?;
         all.push(next)?;
+        let Some(_) = pass(source, left, Kind::Name)? else {
+            return Ok((all, left));
+        };
         rest = left;
     }
-    Ok((all, rest))
 }
 
 // variables = "var" names ":" name ";" { names ":" name ";" }
@@ -115,12 +117,13 @@ pub fn variables<'t>(
     requires { Ready source.now tokens.now }
     ensures { (d : ℕ) → ReadsSoFar source.now (grammar.variables all d) (Parts d) and_parts tokens.now result }
 {
-    let (first, mut rest) = one_group(source, tokens)?;
-    all.push(first)?;
-    'more: while let Some(_) = pass(source, rest, Kind::Name)? {
+    let mut rest = tokens;
+    'more: loop {
         let (next, left) = one_group(source, rest)?;
         all.push(next)?;
+        let Some(_) = pass(source, left, Kind::Name)? else {
+            return Ok((all, left));
+        };
         rest = left;
     }
-    Ok((all, rest))
 }

@@ -359,18 +359,19 @@ fn arms<'t>(
     ensures { Reads source.now (grammar.arms depth) arms_of tokens.now result }
 {
     let mut all = List::new(source.alloc);
-    let (first, mut rest) = arm(source, tokens, depth)?;
-    all.push(first)?;
-    'more: while let Some(after) = pass(source, rest, Kind::Sign(sign::SEMICOLON))? {
+    let mut rest = tokens;
+    'more: loop {
+        let (next, left) = arm(source, rest, depth)?;
+        all.push(next)?;
+        let Some(after) = pass(source, left, Kind::Sign(sign::SEMICOLON))? else {
+            let rest = expect(source, left, Kind::Word(word::END))?;
+            return Ok((all, rest));
+        };
         if let Some(behind) = pass(source, after, Kind::Word(word::END))? {
             return Ok((all, behind));
         }
-        let (next, left) = arm(source, after, depth)?;
-        all.push(next)?;
-        rest = left;
+        rest = after;
     }
-    let rest = expect(source, rest, Kind::Word(word::END))?;
-    Ok((all, rest))
 }
 
 // arm = constant { "," constant } ":" statement

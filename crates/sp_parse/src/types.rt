@@ -40,19 +40,20 @@ fn fields<'t>(source: &Source, tokens: &'t [Token]) -> Result<(List<SynGroup>, &
     requires { Ready source.now tokens.now }
     ensures { Reads source.now grammar.fields itself tokens.now result }
 {
-    let (first, mut rest) = group(source, tokens)?;
     let mut all = List::new(source.alloc);
-    all.push(first)?;
-    'more: while let Some(after) = pass(source, rest, Kind::Sign(sign::SEMICOLON))? {
-        if let Some(left) = pass(source, after, Kind::Word(word::END))? {
-            return Ok((all, left));
-        }
-        let (next, left) = group(source, after)?;
+    let mut rest = tokens;
+    'more: loop {
+        let (next, left) = group(source, rest)?;
         all.push(next)?;
-        rest = left;
+        let Some(after) = pass(source, left, Kind::Sign(sign::SEMICOLON))? else {
+            let rest = expect(source, left, Kind::Word(word::END))?;
+            return Ok((all, rest));
+        };
+        if let Some(behind) = pass(source, after, Kind::Word(word::END))? {
+            return Ok((all, behind));
+        }
+        rest = after;
     }
-    let rest = expect(source, rest, Kind::Word(word::END))?;
-    Ok((all, rest))
 }
 
 // listed = names ")"

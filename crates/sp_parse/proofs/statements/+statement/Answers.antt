@@ -1,4 +1,4 @@
-use Rattle.std.proofs.Common.{arith, refl, [], ◌∷◌, ◌++◌, ap, ◌∙◌, add-one}
+use Rattle.std.proofs.Common.{arith, refl, [], ◌∷◌, ap, ◌∙◌, add-one}
 use Rattle.std.proofs.lemmas.Result.{err_from_is_err_and}
 use Rattle.sp_tree.specs.declared.token.Kind.TheVariants as kind
 use Rattle.sp_tree.specs.Words as w
@@ -14,7 +14,7 @@ use Rattle.sp_parse.proofs.Rounds.{no_item}
 use Rattle.sp_parse.proofs.Rows.{with_at, other_at, none_at, join_all}
 use Rattle.sp_parse.proofs.Declares.{halts_longer}
 use Rattle.sp_parse.proofs.Behind.{halts_after, halts_behind}
-use Rattle.sp_parse.proofs.ReadStatements.{form_result, empty_is, compound_is, sequence_is, statements_none, statements_read, statements_on, statements_done, no_other, other_halts, other_is, repeat_is, arm_is, arms_start, arms_halt, arms_end_halt, arms_more, arms_last, arms_close_halt, arms_done, branches_none, branches_read, branches_on, branches_close_halt, branches_done, parallel_is}
+use Rattle.sp_parse.proofs.ReadStatements.{form_result, empty_is, compound_is, sequence_is, statements_none, statements_read, statements_on, statements_done, no_other, other_halts, other_is, repeat_is, arm_is, arms_none, arms_read, arms_on, arms_end_halt, arms_last, arms_close_halt, arms_done, branches_none, branches_read, branches_on, branches_close_halt, branches_done, parallel_is}
 use Rattle.sp_parse.proofs.statements.+statement.Goals as goal
 
 pub statement-returns-then-is : goal.statement-returns-then-is
@@ -173,29 +173,29 @@ arm-returns-in_err-body t c = read_err _ _ _ _ c.from_residual-in_err-body.resul
 pub arm-returns : goal.arm-returns
 arm-returns t c = arm_is c.args.source.now c.args.depth c.in_ok-constants.constants c.in_ok-body.body c.arm.result c.in_ok-constants.ensures c.in_ok-body.ensures c.arm.ensures
 
-pub arms-returns-in_err-first : goal.arms-returns-in_err-first
-arms-returns-in_err-first t c = read_err _ _ _ _ c.from_residual.result _ (err_from_is_err_and c.from_residual.result c.from_residual.ensures.1) (halts_longer c.args.source.now (sym.AConstant ∷ sym.MoreLabels ∷ sym.AStatement c.args.depth ∷ []) (sym.MoreArms c.args.depth ∷ []) _ _ c.in_err-first.ensures)
-
 pub arms-more-init : goal.arms-more-init
-arms-more-init t c = arms_start c.args.source.now c.args.depth c.in_ok-first.first c.push.new.self c.in_ok-first.ensures (c.in_ok-push.ensures.ok ∙ ap (λ l. l ++ c.in_ok-first.first ∷ []) c.new-all.ensures)
-
-pub arms-returns-in_err-behind : goal.arms-returns-in_err-behind
-arms-returns-in_err-behind t c = read_err _ _ _ _ c.from_residual-in_err-behind.result _ (err_from_is_err_and c.from_residual-in_err-behind.result c.from_residual-in_err-behind.ensures.1) (arms_end_halt c.args.source.now c.args.depth c.more.all c.more.invariant (passed c.args.source.now w.Semicolon c.more.rest.now _ c.in-Some.after c.in_ok-after.ensures c.in-Some.is) _ (pass_halts c.args.source.now w.End c.in-Some.after.now (sym.ArmOrEnd c.args.depth) _ c.in_err-behind.ensures))
-
-pub arms-returns-in-Some-2 : goal.arms-returns-in-Some-2
-arms-returns-in-Some-2 t c = arms_last c.args.source.now c.args.depth c.more.all c.more.invariant (passed c.args.source.now w.Semicolon c.more.rest.now _ c.in-Some.after c.in_ok-after.ensures c.in-Some.is) (passed c.args.source.now w.End c.in-Some.after.now _ c.in-Some-2.behind c.in_ok-behind.ensures c.in-Some-2.is)
+arms-more-init t c = arms_none c.args.source.now c.args.depth c.new-all.result c.new-all.ensures c.requires
 
 pub arms-returns-in_err-next : goal.arms-returns-in_err-next
-arms-returns-in_err-next t c = read_err _ _ _ _ c.from_residual-in_err-next.result _ (err_from_is_err_and c.from_residual-in_err-next.result c.from_residual-in_err-next.ensures.1) (arms_halt c.args.source.now c.args.depth c.more.all c.more.invariant (passed c.args.source.now w.Semicolon c.more.rest.now _ c.in-Some.after c.in_ok-after.ensures c.in-Some.is) (not_passed c.args.source.now w.End c.in-Some.after.now _ c.in_ok-behind.ensures c.in_default-2.is) _ c.in_err-next.ensures)
+arms-returns-in_err-next t c = read_err _ _ _ _ c.from_residual.result _ (err_from_is_err_and c.from_residual.result c.from_residual.ensures.1) (no_item (sym.AConstant ∷ sym.MoreLabels ∷ sym.AStatement c.args.depth ∷ []) (sym.MoreArms c.args.depth ∷ []) c.more.invariant _ c.in_err-next.ensures)
 
-pub arms-more-preserved : goal.arms-more-preserved
-arms-more-preserved t c = arms_more c.args.source.now c.args.depth c.in_ok-next.next c.more.all c.push-in-Some.new.self c.more.invariant (passed c.args.source.now w.Semicolon c.more.rest.now _ c.in-Some.after c.in_ok-after.ensures c.in-Some.is) (not_passed c.args.source.now w.End c.in-Some.after.now _ c.in_ok-behind.ensures c.in_default-2.is) c.in_ok-next.ensures c.in_ok-push-2.ensures.ok
+pub arms-returns-in_err-after : goal.arms-returns-in_err-after
+arms-returns-in_err-after t c = read_err _ _ _ _ c.from_residual-in_err-after.result _ (err_from_is_err_and c.from_residual-in_err-after.result c.from_residual-in_err-after.ensures.1) (halts_pending (arms_read c.args.source.now c.args.depth c.in_ok-next.next c.more.all c.push.new.self c.more.invariant c.in_ok-next.ensures c.in_ok-push.ensures.ok) _ (pass_halts c.args.source.now w.Semicolon c.in_ok-next.left.now (sym.MoreArms c.args.depth) _ c.in_err-after.ensures))
 
 pub arms-returns-in_err-rest : goal.arms-returns-in_err-rest
-arms-returns-in_err-rest t c = read_err _ _ _ _ c.from_residual-in_err-rest.result _ (err_from_is_err_and c.from_residual-in_err-rest.result c.from_residual-in_err-rest.ensures.1) (arms_close_halt c.args.source.now c.args.depth c.more.all c.more.invariant (not_passed c.args.source.now w.Semicolon c.more.rest.now _ c.in_ok-after.ensures c.in_default.is) _ c.in_err-rest.ensures)
+arms-returns-in_err-rest t c = read_err _ _ _ _ c.from_residual-in_err-rest.result _ (err_from_is_err_and c.from_residual-in_err-rest.result c.from_residual-in_err-rest.ensures.1) (arms_close_halt c.args.source.now c.args.depth c.push.new.self (arms_read c.args.source.now c.args.depth c.in_ok-next.next c.more.all c.push.new.self c.more.invariant c.in_ok-next.ensures c.in_ok-push.ensures.ok) (not_passed c.args.source.now w.Semicolon c.in_ok-next.left.now _ c.in_ok-after.ensures c.in_default.is) _ c.in_err-rest.ensures)
 
-pub arms-returns : goal.arms-returns
-arms-returns t c = arms_done c.args.source.now c.args.depth c.more.all c.more.invariant c.in_ok-rest.ensures
+pub arms-returns-in_default : goal.arms-returns-in_default
+arms-returns-in_default t c = arms_done c.args.source.now c.args.depth c.push.new.self (arms_read c.args.source.now c.args.depth c.in_ok-next.next c.more.all c.push.new.self c.more.invariant c.in_ok-next.ensures c.in_ok-push.ensures.ok) c.in_ok-rest.ensures
+
+pub arms-more-preserved : goal.arms-more-preserved
+arms-more-preserved t c = arms_on c.args.source.now c.args.depth c.push.new.self (arms_read c.args.source.now c.args.depth c.in_ok-next.next c.more.all c.push.new.self c.more.invariant c.in_ok-next.ensures c.in_ok-push.ensures.ok) (passed c.args.source.now w.Semicolon c.in_ok-next.left.now _ c.in-Some.after c.in_ok-after.ensures c.in-Some.is) (not_passed c.args.source.now w.End c.in-Some.after.now _ c.in_ok-behind.ensures c.in_default-2.is)
+
+pub arms-returns-in_err-behind : goal.arms-returns-in_err-behind
+arms-returns-in_err-behind t c = read_err _ _ _ _ c.from_residual-in_err-behind.result _ (err_from_is_err_and c.from_residual-in_err-behind.result c.from_residual-in_err-behind.ensures.1) (arms_end_halt c.args.source.now c.args.depth c.push.new.self (arms_read c.args.source.now c.args.depth c.in_ok-next.next c.more.all c.push.new.self c.more.invariant c.in_ok-next.ensures c.in_ok-push.ensures.ok) (passed c.args.source.now w.Semicolon c.in_ok-next.left.now _ c.in-Some.after c.in_ok-after.ensures c.in-Some.is) _ (pass_halts c.args.source.now w.End c.in-Some.after.now (sym.ArmOrEnd c.args.depth) _ c.in_err-behind.ensures))
+
+pub arms-returns-in-Some-2 : goal.arms-returns-in-Some-2
+arms-returns-in-Some-2 t c = arms_last c.args.source.now c.args.depth c.push.new.self (arms_read c.args.source.now c.args.depth c.in_ok-next.next c.more.all c.push.new.self c.more.invariant c.in_ok-next.ensures c.in_ok-push.ensures.ok) (passed c.args.source.now w.Semicolon c.in_ok-next.left.now _ c.in-Some.after c.in_ok-after.ensures c.in-Some.is) (passed c.args.source.now w.End c.in-Some.after.now _ c.in-Some-2.behind c.in_ok-behind.ensures c.in-Some-2.is)
 
 pub branches-more-init : goal.branches-more-init
 branches-more-init t c = branches_none c.args.source.now c.args.depth c.new-all.result c.new-all.ensures c.requires

@@ -1,5 +1,5 @@
 use Rattle.std.proofs.Common.{◌+◌, ◌*◌, length}
-use Rattle.sp_parse.proofs.ReadStatements.{StatementsPending, ArmsSoFar, BranchesPending}
+use Rattle.sp_parse.proofs.ReadStatements.{StatementsPending, ArmsPending, BranchesPending}
 use Rattle.sp_parse.proofs.statements.+statement.Given as goal
 
 abbrev pub decreases-arm : goal.decreases-arm
@@ -57,7 +57,7 @@ abbrev pub decreases-statements-more : goal.decreases-statements-more
 decreases-statements-more l = length l.rest
 
 abbrev pub invariant-arms-more : goal.invariant-arms-more
-invariant-arms-more l = ArmsSoFar l.source l.depth l.all l.tokens l.rest
+invariant-arms-more l = ArmsPending l.source l.depth l.all l.tokens l.rest
 
 abbrev pub decreases-arms-more : goal.decreases-arms-more
 decreases-arms-more l = length l.rest
