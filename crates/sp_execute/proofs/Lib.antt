@@ -1,4 +1,5 @@
 pub mod Waiting
+pub mod Races
 pub mod Concluding
 pub mod Executing
 pub mod Followed

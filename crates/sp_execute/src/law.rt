@@ -1,12 +1,34 @@
-//! A law of journals that are followed. The function does nothing: what counts is its contract.
+//! Laws of journals that are followed, and of races. These functions do nothing: what counts is their contracts.
 
 ghost use Rattle.std.specs.Prelude.{◌≡◌, ℕ, List};
 ghost use Rattle.sp_journal.specs.declared.entry.Entry.{Entry};
 ghost use Rattle.sp_meaning.specs.Own.{Setting};
+ghost use Rattle.sp_execute.specs.declared.execution.Ran.{Ran as ARan};
 ghost use Rattle.sp_execute.specs.Follows.{IsMeant, IsUnfitAt};
+ghost use Rattle.sp_execute.specs.Runs.{Executes};
+ghost use Rattle.sp_execute.specs.Witnesses.{ShowsRace};
+ghost use Rattle.sp_link.specs.Premises.{IsReady};
+ghost use Rattle.sp_tree.specs.Plain.{Stmt};
+
+use sp_judge::runs_without_a_fault_are_clean;
+use sp_numbered::{witnesses_are_journals, witnesses_end_in_contention};
+use sp_witness::ordered_runs_never_contend;
 
 /// A journal along which the meaning is defined is unfit at no entry, and any other one at one entry alone.
 pub fn one_unfit_entry()
     ensures first { (g : Setting) (es : List Entry) (m n : ℕ) → IsUnfitAt g es m → IsUnfitAt g es n → m ≡ n }
     ensures not_both { (g : Setting) (es : List Entry) (n : ℕ) → IsMeant g es → IsUnfitAt g es n → ⊥ }
 {}
+
+/// The race of a run of a program that is ready is shown by its witness: a journal along which the meaning of the same
+/// program, on the same input and with the same limits, is defined, and which ends with the fault F6 of the later offer as it
+/// meets the pending earlier one. A run that ends without a fault is ordered exactly where no lawful schedule meets contention.
+pub fn races_are_shown()
+    ensures { (g : Setting) (moves shares : Stmt → List ℕ) (workers : ℕ) (r : ARan)
+        → IsReady g moves shares → Executes g workers r → ShowsRace g r }
+{
+    runs_without_a_fault_are_clean();
+    witnesses_are_journals();
+    witnesses_end_in_contention();
+    ordered_runs_never_contend();
+}

@@ -6,10 +6,12 @@ mod execution;
 mod following;
 mod law;
 mod verdict;
+mod witnessing;
 
 pub use conclusion::{Concluded, conclude};
 pub use execution::{Ran, execute};
 pub use following::follow;
-pub use law::one_unfit_entry;
+pub use law::{one_unfit_entry, races_are_shown};
 pub use sp_replay::{ReplayError, Replayed};
 pub use verdict::judge;
+pub use witnessing::witness;

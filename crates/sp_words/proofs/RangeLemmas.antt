@@ -8,7 +8,7 @@ use Rattle.std.specs.Prelude.{codes, nat_le, nat_lt, option_and_then, unwrap_or}
 use Rattle.std.specs.Str.{bytes_eq}
 use Rattle.std.specs.Str.Parse.{digits_value, without_leading_plus}
 use Rattle.sp_words.specs.Dashes.{Item, Text, file, given, items, journal}
-use Rattle.sp_words.specs.Options.{Choice, gen_options, is_number_in, is_numeral, limit_options, number_below, number_or, option_names, options_of, run_options, show_or_end, size_named}
+use Rattle.sp_words.specs.Options.{Choice, gen_options, is_number_in, is_numeral, limit_options, number_below, number_or, option_names, options_of, run_options, witness_options, show_or_end, size_named}
 use Rattle.sp_words.specs.Ranges.{AreInRange, IsInRange, IsUpTo}
 use Rattle.sp_words.specs.Words.{command_from, command_named, command_of, command_of_items, command_read, command_with, each_once, has_journal, is_accepted, limits_from, lookup, subject, text_of, with_journal, workers_from}
 use Rattle.sp_words.specs.declared.command.Command.{Command}
@@ -99,6 +99,9 @@ limits_of_run = (((refl, refl), refl), (((refl, refl), refl), (((refl, refl), re
 limits_of_replay : Each (IsFoundIn limit_options) limit_options
 limits_of_replay = (((refl, refl), refl), (((refl, refl), refl), (((refl, refl), refl), (((refl, refl), refl), (((refl, refl), refl), (((refl, refl), refl), (((refl, refl), refl), tt)))))))
 
+limits_of_witness : Each (IsFoundIn witness_options) limit_options
+limits_of_witness = (((refl, refl), refl), (((refl, refl), refl), (((refl, refl), refl), (((refl, refl), refl), (((refl, refl), refl), (((refl, refl), refl), (((refl, refl), refl), tt)))))))
+
 workers_in_range : (options : List Choice) (is : List Item) → list_all (is_accepted options) is ≡ true → IsFoundIn options (codes "workers", is_number_in 1 64)
     → IsUpTo 64 (workers_from (lookup is))
 workers_in_range options is e f = limit_in_range options is (codes "workers") (2 ^ 32) 64 4 e f (omega arith, omega arith)
@@ -153,6 +156,9 @@ word_in_range name.Sets is word c accepted e = rw (sym (some_same (command.Sets 
 word_in_range name.Format is word c accepted e = rw (sym (some_same (command.Format word) c e)) tt
 word_in_range name.Gen is word c accepted e = gen_in_range is word (size_named word) c accepted refl e
 word_in_range name.Replay is word c accepted e = journal_in_range is word (lookup is (codes "JOURNAL")) c accepted e
+word_in_range name.Witness is word c accepted e =
+    rw (sym (some_same (command.Witness word (workers_from (lookup is)) (limits_from (lookup is))) c e))
+    (limits_in_range witness_options is (workers_from (lookup is)) accepted limits_of_witness (workers_in_range witness_options is accepted ((refl, refl), refl)))
 
 found_in_range : (called : CommandName) (is : List Item) (found : Option Text) (c : Command) → list_all (is_accepted (options_of called)) is ≡ true
     → option_and_then (command_from called (lookup is)) found ≡ Some c → AreInRange c

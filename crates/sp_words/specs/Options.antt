@@ -63,7 +63,11 @@ run_options = (codes "workers", is_number_in 1 64) ∷ limit_options ++ (codes "
 abbrev pub gen_options : List Choice
 gen_options = (codes "workers", is_number_in 1 64) ∷ []
 
--- only `run`, `gen` and `replay` have options
+-- the options of `witness`: those of `run`, but for the reports
+abbrev pub witness_options : List Choice
+witness_options = (codes "workers", is_number_in 1 64) ∷ limit_options
+
+-- only `run`, `gen`, `replay` and `witness` have options
 abbrev pub options_of : CommandName → List Choice
 options_of name.Check = []
 options_of name.Run = run_options
@@ -72,6 +76,7 @@ options_of name.Sets = []
 options_of name.Format = []
 options_of name.Gen = gen_options
 options_of name.Replay = limit_options
+options_of name.Witness = witness_options
 
 -- the names of the options of a command
 abbrev pub option_names : CommandName → List Text

@@ -46,6 +46,10 @@ run_parsers q = (codes "workers", vp.Unsigned 1 64) ∷ limit_parsers ++ (codes 
 abbrev pub gen_parsers : List (Text × ValueParser)
 gen_parsers = (codes "workers", vp.Unsigned 1 64) ∷ []
 
+-- the options of `witness`
+abbrev pub witness_parsers : List (Text × ValueParser)
+witness_parsers = (codes "workers", vp.Unsigned 1 64) ∷ limit_parsers
+
 -- the parser takes the names of the reports
 abbrev pub IsShowParser : ValueParser → Type 0
 IsShowParser q = (text : Text) → accepts false q text ≡ is_some (show_named text)
@@ -81,7 +85,8 @@ app_with q = record {
   top = record bare_line.top { is_leaf = false };
   subs = shape_with (codes "check") [] ∷ shape_with (codes "run") (run_parsers q)
       ∷ shape_with (codes "code") [] ∷ shape_with (codes "sets") [] ∷ shape_with (codes "format") []
-      ∷ shape_with (codes "gen") gen_parsers ∷ replay_shape limit_parsers ∷ [];
+      ∷ shape_with (codes "gen") gen_parsers ∷ replay_shape limit_parsers
+      ∷ shape_with (codes "witness") witness_parsers ∷ [];
 }
 
 -- no option of the command is one of its subcommands as well

@@ -76,6 +76,7 @@ command_from name.Sets value word = Some (command.Sets word)
 command_from name.Format value word = Some (command.Format word)
 command_from name.Gen value word = option_map (λ size. command.Gen size (workers_from value)) (size_named word)
 command_from name.Replay value word = option_map (λ text. command.Replay word text (limits_from value)) (value (codes "JOURNAL"))
+command_from name.Witness value word = Some (command.Witness word (workers_from value) (limits_from value))
 
 -- the command by the texts of its subjects, where FILE is one of them
 abbrev pub command_with : CommandName → (Text → Option Text) → Option Command
@@ -104,6 +105,7 @@ has_journal name.Sets = false
 has_journal name.Format = false
 has_journal name.Gen = false
 has_journal name.Replay = true
+has_journal name.Witness = false
 
 -- where there is a JOURNAL, it is the second of the words that are no options
 abbrev pub with_journal : Bool → List Item → List Item
@@ -121,7 +123,9 @@ command_of_items command is = command_of_parts command (with_journal (has_journa
 
 -- the commands by their names
 abbrev pub command_names : List (Text × CommandName)
-command_names = (codes "check", name.Check) ∷ (codes "run", name.Run) ∷ (codes "code", name.Code) ∷ (codes "sets", name.Sets) ∷ (codes "format", name.Format) ∷ (codes "gen", name.Gen) ∷ (codes "replay", name.Replay) ∷ []
+command_names = (codes "check", name.Check) ∷ (codes "run", name.Run) ∷ (codes "code", name.Code)
+    ∷ (codes "sets", name.Sets) ∷ (codes "format", name.Format) ∷ (codes "gen", name.Gen)
+    ∷ (codes "replay", name.Replay) ∷ (codes "witness", name.Witness) ∷ []
 
 -- the command of a name
 abbrev pub command_named : Text → Option CommandName

@@ -41,6 +41,13 @@ pub enum Command {
         journal: Word,
         limits: Limits,
     },
+    /// Run the program, and show the race that its verdict names.
+    Witness {
+        file: Word,
+        /// How many workers run its processes, from 1 to 64.
+        workers: u32,
+        limits: Limits,
+    },
 }
 
 /// The names of the commands.
@@ -53,6 +60,7 @@ pub(crate) enum CommandName {
     Format,
     Gen,
     Replay,
+    Witness,
 }
 
 /// Why the words give no command.

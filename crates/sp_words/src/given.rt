@@ -145,5 +145,10 @@ pub(crate) fn command_given(
         CommandName::Format => Command::Format(file(alloc, text)?),
         CommandName::Gen => gen_given(text, given).ok_or(WordsError::Refused)?,
         CommandName::Replay => replay_given(alloc, text, given)?,
+        CommandName::Witness => Command::Witness {
+            file: file(alloc, text)?,
+            workers: small_number(given, "workers", DEFAULT_WORKERS),
+            limits: limits(given),
+        },
     })
 }

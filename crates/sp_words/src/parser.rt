@@ -6,7 +6,8 @@ ghost use Rattle.clap.specs.Words.{app_of, rule_of, shape_of, with_rule, with_su
 ghost use Rattle.clap.specs.declared.builder.value_parser.ValueParser.{ValueParser as Parser};
 ghost use Rattle.clap.specs.declared.builder.value_parser.ValueParser.TheVariants.{Unsigned};
 ghost use Rattle.sp_words.specs.Parsers.{Adds, AddsCommand, IsLocal, IsShowParser, app_with, app_with_file, bare_line, gen_parsers};
-ghost use Rattle.sp_words.specs.Parsers.{limit_parsers, option_rule, replay_shape, run_parsers, shape_with, word_rule};
+ghost use Rattle.sp_words.specs.Parsers.{limit_parsers, option_rule, replay_shape, run_parsers, shape_with, witness_parsers};
+ghost use Rattle.sp_words.specs.Parsers.{word_rule};
 
 use clap::builder::ValueParser;
 use clap::{Arg, ArgAction, Command};
@@ -120,6 +121,14 @@ fn replay_command<'a>(alloc: Global) -> Result<Command<'a>, AllocError>
     with_limits(command, alloc)
 }
 
+fn witness_command<'a>(alloc: Global) -> Result<Command<'a>, AllocError>
+    ensures shape { IfOk result (λ c. shape_of c ≡ shape_with (codes "witness") witness_parsers) }
+    ensures local { IfOk result IsLocal }
+{
+    let command = with_number(plain_command(alloc, "witness"), alloc, "workers", 1, 64);
+    with_limits(command, alloc)
+}
+
 // The whole command line without its commands.
 fn bare_line<'a>(alloc: Global) -> Command<'a>
     ensures { app_of result ≡ bare_line }
@@ -175,5 +184,6 @@ pub(crate) fn parser<'a>(alloc: Global) -> Result<Command<'a>, AllocError>
     let line = with_plain(line, alloc, "sets");
     let line = with_plain(line, alloc, "format");
     let line = with_command(line, gen_command(alloc));
-    with_command(line, replay_command(alloc))
+    let line = with_command(line, replay_command(alloc));
+    with_command(line, witness_command(alloc))
 }

@@ -38,6 +38,18 @@ static LIMIT_OPTIONS: [&str; 7] = [
     "output",
 ];
 
+/// The options of `witness`.
+static WITNESS_OPTIONS: [&str; 8] = [
+    "workers",
+    "ticks",
+    "depth",
+    "cells",
+    "processes",
+    "channels",
+    "entries",
+    "output",
+];
+
 /// The options of `gen`.
 static GEN_OPTIONS: [&str; 1] = ["workers"];
 
@@ -52,6 +64,7 @@ fn command_named(word: &str) -> Option<CommandName>
         "format" => Some(CommandName::Format),
         "gen" => Some(CommandName::Gen),
         "replay" => Some(CommandName::Replay),
+        "witness" => Some(CommandName::Witness),
         _ => None,
     }
 }
@@ -63,6 +76,7 @@ fn option_names(command: CommandName) -> &'static [&'static str]
         CommandName::Run => RUN_OPTIONS.as_slice(),
         CommandName::Gen => GEN_OPTIONS.as_slice(),
         CommandName::Replay => LIMIT_OPTIONS.as_slice(),
+        CommandName::Witness => WITNESS_OPTIONS.as_slice(),
         CommandName::Check | CommandName::Code | CommandName::Sets | CommandName::Format => &[],
     }
 }

@@ -25,22 +25,26 @@ use Rattle.sp_words.specs.declared.command.Command.TheVariants as command
 use Rattle.superpascal.specs.declared.ending.Ending.{Ending}
 use Rattle.superpascal.specs.declared.ending.Ending.TheVariants as e
 use Rattle.superpascal.specs.declared.ending.Answer.{Answer}
+use Rattle.superpascal.specs.declared.telling.Telling.{Telling}
+use Rattle.superpascal.specs.declared.telling.Telling.TheVariants as told
 use Rattle.superpascal.specs.Answering.{HasEndLines}
 use Rattle.superpascal.specs.Answers.{has_output, line_of, notes_by, notes_of, output_of, status_of}
 use Rattle.superpascal.specs.Calls.{All, Call, Exactly, Failed, IsAnswered, IsFinal, IsOutside, IsUnwritten, OfText, Part}
-use Rattle.superpascal.specs.Causes.{Cause, by_words, before_words, by_command, Files, HasGenerated, HasMade, HasRead, HasReplayed, HasRun, IsBadJournal, IsLongJournal, IsNotLoaded, IsNotRead, IsRefusedFor, IsTold, IsTooLong, IsTooMuch, IsUnfit, IsUntouched, ReadsAfterRules, Stream, accepted, refused, silent}
+use Rattle.superpascal.specs.Causes.{Cause, by_words, before_words, by_command, Files, HasGenerated, HasMade, HasRead, HasReplayed, HasRun, IsBadJournal, IsLongJournal, IsNotLoaded, IsNotRead, IsRefusedFor, IsTold, IsTooLong, IsTooMuch, IsUnfit, IsUntouched, ReadsAfterRules, Stream, refused, silent}
 use Rattle.superpascal.specs.Following.{Following, IsMeantAlong, IsNoJournal, PrintsReplay, SaysJournal}
 use Rattle.superpascal.specs.Headline.{Headline, IsMeant, Prints, SaysRefusal}
 use Rattle.superpascal.specs.Promise.{Promise}
 use Rattle.superpascal.specs.Replays.{IsJournalOf, IsUnfitFor, ending_of_replay, replay_notes}
-use Rattle.superpascal.specs.Runs.{IsRunOf, Reports, ending_of, generated_answer, generated_output, run_answer, run_notes}
+use Rattle.superpascal.specs.Runs.{IsRunOf, Reports, ending_of, generated_answer, generated_output, run_answer, told_notes, told_output}
 use Rattle.superpascal.specs.Statuses.{InputIsTooLong, IsQuiet, IsRunOfWords, ReadsFail, Statuses}
 use Rattle.superpascal.specs.Texts.{Asked, Breaks, CanRead, Followed, IsDisjointText, IsJournalText, Keeps, KeepsAll, Loads, Makes, asks, asks_replay, asks_run, asks_text, follows, text_of}
+use Rattle.superpascal.specs.Witnessing.{IsShown}
 use Rattle.superpascal.specs.Writing.{AreWritten, Writing, WritesLine}
 use Rattle.superpascal.proofs.Laws.{Laws, disjoint_text, keeps_all, keeps_or, kept_or, made_asks, made_keeps, made_once, one_break}
+use Rattle.superpascal.proofs.Asking.{asked_breaks, asked_keeps, asked_makes, asked_no_text, asked_text, breaks_asked, keeps_asked, not_gen, not_run, one_asked}
 use Rattle.superpascal.proofs.Parts.{when_told}
-use Rattle.superpascal.proofs.Replaying.{code_keeps, if_mapped, if_told, meant_along, not_followed, not_generated, not_run, not_unfit, one_followed, replay_notes_stand, same_entry, told_of}
-use Rattle.superpascal.proofs.Telling.{ends_of, replay_ends}
+use Rattle.superpascal.proofs.Replaying.{code_keeps, if_mapped, if_told, meant_along, not_followed, not_generated, not_unfit, one_followed, replay_notes_stand, same_entry, told_of}
+use Rattle.superpascal.proofs.Tellable.{ends_of, replay_ends}
 use Rattle.superpascal.proofs.Why.{HasEnded, HasRanFor, HasReplayedFor, IsRanBy, ran_of, same_ran, why, why_of}
 
 no_command : (o : Option Command) (c : Command) → o ≡ Some c → o ≡ None → ⊥
@@ -48,24 +52,6 @@ no_command o c h k = cc
 
 one_command : (o : Option Command) (c d : Command) → o ≡ Some c → o ≡ Some d → d ≡ c
 one_command o c d h k = cc
-
-one_file : (a b : Asked) → asks b ≡ asks a → b.file ≡ a.file
-one_file a b h = cc
-
-one_workers : (a b : Asked) → asks b ≡ asks a → b.workers ≡ a.workers
-one_workers a b h = cc
-
-one_limits : (a b : Asked) → asks b ≡ asks a → b.limits ≡ a.limits
-one_limits a b h = cc
-
-one_show : (a b : Asked) → asks b ≡ asks a → b.show ≡ a.show
-one_show a b h = cc
-
-one_asked : (a b : Asked) → asks b ≡ asks a → b ≡ a
-one_asked a b c = λ i. record { file = one_file a b c i; workers = one_workers a b c i; limits = one_limits a b c i; show = one_show a b c i }
-
-not_gen : (a : Asked) (size workers : ℕ) → asks a ≡ command.Gen size workers → ⊥
-not_gen a size workers h = cc
 
 one_size : (m n x y : ℕ) → command.Gen m x ≡ command.Gen n y → m ≡ n
 one_size m n x y h = cc
@@ -90,6 +76,11 @@ run_notes_stand (ends.Deadlock ws) notes h = refl
 run_notes_stand (ends.Fault n y) notes h = refl
 run_notes_stand ends.Memory notes h = absurd h
 
+-- the output is that of the run, or the text that stands for it
+output_stands : (reports : Reports) (t : Telling) (r : Ran) → output_of (run_answer reports t r) ≡ told_output t r
+output_stands reports (told.Reports show) r = refl
+output_stands reports told.Witness r = refl
+
 -- a command that answers from a text alone runs nothing
 text_or_run : (d : Command) → asks_text d → asks_run d → ⊥
 text_or_run (command.Check file) q r = r
@@ -97,6 +88,7 @@ text_or_run (command.Run file workers limits show) q r = q
 text_or_run (command.Code file) q r = r
 text_or_run (command.Sets file) q r = r
 text_or_run (command.Format file) q r = r
+text_or_run (command.Witness file workers limits) q r = q
 text_or_run (command.Gen size workers) q r = q
 text_or_run (command.Replay file journal limits) q r = r
 
@@ -166,8 +158,9 @@ module _ (f : Files) (s : Stream) (reports : Reports) (w : Option Command) (a : 
     ran_keeps : HasRanFor f s reports w a → Keeps d text
     ran_keeps (c, u, inl (asked, p, h)) =
         let same : asks asked ≡ d = sym p ∙ one_command w d c v u in
-        let all : KeepsAll text = of_text KeepsAll (asks asked) (u ∙ ap Some p) (told_keeps (f.held asked.file) h.text h.loaded (run_keeps h.text h.input asked.workers h.ran asked.limits h.is_run)) in
-        subst (λ (x : Command). Keeps x text) same all
+        let told = subst (λ (o : Option (List ℕ)). IfSome o KeepsAll) (sym (asked_text f.held asked)) (told_keeps (f.held asked.file) h.text h.loaded (run_keeps h.text h.input asked.workers h.ran asked.limits h.is_run)) in
+        let all : KeepsAll text = of_text KeepsAll (asks asked) (u ∙ ap Some p) told in
+        subst (λ (x : Command). Keeps x text) same (asked_keeps asked text all)
     ran_keeps (c, u, inr (size, workers, p, h)) =
         let same : command.Gen size workers ≡ d = sym p ∙ one_command w d c v u in
         let all : KeepsAll text = of_text KeepsAll (command.Gen size workers) (u ∙ ap Some p) (run_keeps (generated_text size) [] workers h.ran default_limits h.is_run) in
@@ -228,10 +221,10 @@ module _ (f : Files) (s : Stream) (reports : Reports) (w : Option Command) (a : 
     kept_by _ k (inr (inr i)) = absurd (omega arith)
 
     not_text : (c : Command) → asks_text c → (asked : Asked) → c ≡ asks asked → ⊥
-    not_text c q asked p = subst asks_text p q
+    not_text c q asked p = asked_no_text asked (subst asks_text p q)
 
     not_ran : asks_text d → HasRanFor f s reports w a → ⊥
-    not_ran q (c, u, inl (asked, p, h)) = subst asks_text (sym (one_command w d c v u) ∙ p) q
+    not_ran q (c, u, inl (asked, p, h)) = asked_no_text asked (subst asks_text (sym (one_command w d c v u) ∙ p) q)
     not_ran q (c, u, inr (size, workers, p, h)) = subst asks_text (sym (one_command w d c v u) ∙ p) q
 
     not_followed_by : asks_text d → (b : Followed) → w ≡ Some (follows b) → ⊥
@@ -321,6 +314,9 @@ module _ (f : Files) (s : Stream) (reports : Reports) (w : Option Command) (a : 
   -- too long an input for a text that is kept
   module _ (b : Asked) (text : List ℕ) (v : w ≡ Some (asks b)) (t : f.held b.file ≡ Some text) (l : Laws) (kept : KeepsAll text)
       (input : List ℕ) (left : s.left ≡ Some input) (long : IsTooLong input) where
+    text_is : text_of f.held (asks b) ≡ Some text
+    text_is = asked_text f.held b ∙ t
+
     fits_not : (d : Command) → w ≡ Some d → IsRanBy f s reports w a d → ⊥
     fits_not d u (inl (asked, p, h)) =
         let same : h.input ≡ input = told_of s.left h.input input left h.read in
@@ -345,8 +341,8 @@ module _ (f : Files) (s : Stream) (reports : Reports) (w : Option Command) (a : 
     long_due e.LongJournal k = absurd (followed_not k.0 k.1)
     long_due (e.BadJournal n) k = absurd (followed_not k.0 k.1)
     long_due (e.Unfit n) k = absurd (followed_not k.0 k.1)
-    long_due e.Accepted (c, u, h) = absurd (makes (asks b) text v t c u h)
-    long_due (e.Refused r) (c, u, h) = absurd (kept_or l text h.refusal kept (breaks (asks b) text v t c u h))
+    long_due e.Accepted (c, u, h) = absurd (asked_makes b text h.output h.line (makes (asks b) text v text_is c u h))
+    long_due (e.Refused r) (c, u, h) = absurd (kept_or l text h.refusal kept (breaks_asked b text h.refusal (breaks (asks b) text v text_is c u h)))
     long_due e.BadWords k = absurd (no_command _ _ v k)
     long_due e.ReadFault k = (omega arith, omega arith)
     long_due e.TooLong k = (omega arith, omega arith)
@@ -477,8 +473,8 @@ module _ (c : Call) (k : IsAnswered c) (l : Laws) where
     has_ran : HasRanFor c.files c.source c.reports (command_of c.words) k.answer
     has_ran = ran_of c.files c.source c.reports (command_of c.words) k.answer r k.cause (given r h)
 
-    same_run : (reports : Reports) (b : Asked) (x : Ran) → k.answer ≡ run_answer reports b.show x → x ≡ r
-    same_run reports b x i = same_ran k.answer (run_answer reports b.show x) x r i refl (given r h)
+    same_run : (reports : Reports) (b : Asked) (x : Ran) → k.answer ≡ run_answer reports b.telling x → x ≡ r
+    same_run reports b x i = same_ran k.answer (run_answer reports b.telling x) x r i refl (given r h)
 
     same_generated : (size : ℕ) (x : Ran) → k.answer ≡ generated_answer size x → x ≡ r
     same_generated size x i = same_ran k.answer (generated_answer size x) x r i refl (given r h)
@@ -521,15 +517,16 @@ module _ (c : Call) (k : IsAnswered c) (l : Laws) where
           go (d, u, inl (x, p, m)) = subst P (one_asked b x (sym p ∙ one_command _ (asks b) d v u)) (q x m)
           go (d, u, inr (size, workers, p, m)) = absurd (not_gen b size workers (sym (one_command _ (asks b) d v u) ∙ p))
 
-      run_written : AreWritten c r.closed.output (run_notes c.reports b.show r)
-      run_written = of_run (λ x. AreWritten c r.closed.output (run_notes c.reports x.show r)) (λ x m. go x m)
+      run_written : AreWritten c (told_output b.telling r) (told_notes c.reports b.telling r)
+      run_written = of_run (λ x. AreWritten c (told_output x.telling r) (told_notes c.reports x.telling r)) (λ x m. go x m)
         where
-          go : (x : Asked) → HasRun c.files c.source c.reports x k.answer → AreWritten c r.closed.output (run_notes c.reports x.show r)
+          go : (x : Asked) → HasRun c.files c.source c.reports x k.answer → AreWritten c (told_output x.telling r) (told_notes c.reports x.telling r)
           go x m =
               let same : m.ran ≡ r = same_run c.reports x m.ran m.answer in
-              written r.closed.output (run_notes c.reports x.show r)
-              (ap output_of m.answer ∙ ap (λ (z : Ran). z.closed.output) same)
-              (ap notes_of m.answer ∙ (run_notes_stand m.ran.closed.end (run_notes c.reports x.show m.ran) (ends_of _ _ _ _ m.ran m.is_run) ∙ ap (run_notes c.reports x.show) same))
+              written (told_output x.telling r) (told_notes c.reports x.telling r)
+              (ap output_of m.answer ∙ (output_stands c.reports x.telling m.ran ∙ ap (told_output x.telling) same))
+              (ap notes_of m.answer
+              ∙ (run_notes_stand m.ran.closed.end (told_notes c.reports x.telling m.ran) (ends_of _ _ _ _ m.ran m.is_run) ∙ ap (told_notes c.reports x.telling) same))
 
       -- with the text and the input that are told
       run_meant : (text input : List ℕ) → c.files.held b.file ≡ Some text → c.source.left ≡ Some input → IsMeant b text input r
@@ -546,7 +543,22 @@ module _ (c : Call) (k : IsAnswered c) (l : Laws) where
               meant x text input r h = (bare h.tree, (h.tree, h.has.accepted.0, refl), h.meant)
 
       run_disjoint : (text : List ℕ) → c.files.held b.file ≡ Some text → IsDisjointText text
-      run_disjoint text t = disjoint_text l text (ran_keeps c.files c.source c.reports (command_of c.words) k.answer (asks b) text v t has_ran)
+      run_disjoint text t =
+          disjoint_text l text (keeps_asked b text (ran_keeps c.files c.source c.reports (command_of c.words) k.answer (asks b) text v (asked_text c.files.held b ∙ t) has_ran))
+
+      -- the witness of its race
+      run_shown : (text input : List ℕ) → c.files.held b.file ≡ Some text → c.source.left ≡ Some input → IsShown b text input r
+      run_shown text input t left = of_run (λ x. command_of c.words ≡ Some (asks x) → c.files.held x.file ≡ Some text → IsShown x text input r) (λ x m v i. go x m v i) v t
+        where
+          go : (x : Asked) → HasRun c.files c.source c.reports x k.answer → command_of c.words ≡ Some (asks x) → c.files.held x.file ≡ Some text → IsShown x text input r
+          go x m v i =
+              let same : m.ran ≡ r = same_run c.reports x m.ran m.answer in
+              let this : m.text ≡ text = told_of (c.files.held x.file) m.text text i m.loaded in
+              let that : m.input ≡ input = told_of c.source.left m.input input left m.read in
+              shown x v text input r (subst (IsRunOf text input x.workers x.limits) same (subst (λ y. IsRunOf text y x.workers x.limits m.ran) that (subst (λ y. IsRunOf y m.input x.workers x.limits m.ran) this m.is_run)))
+            where
+              shown : (x : Asked) → command_of c.words ≡ Some (asks x) → (text input : List ℕ) (r : Ran) → IsRunOf text input x.workers x.limits r → IsShown x text input r
+              shown x v text input r h = (bare h.tree, (h.tree, h.has.accepted.0, refl), l.shown c.words x v text input r h)
 
     generated_written : (size workers : ℕ) → command_of c.words ≡ Some (command.Gen size workers) → AreWritten c (generated_output size r) []
     generated_written size workers v = go has_ran
@@ -780,13 +792,15 @@ module _ (c : Call) (k : IsAnswered c) (l : Laws) where
 
   pub headline : Headline c
   headline = record {
-    refused = λ b text v t. refuses (asks b) text v t;
-    no_other_refused = λ b text v t. refuses_only (asks b) text v t;
+    refused = λ b text v t r h. refuses (asks b) text v (asked_text c.files.held b ∙ t) r (asked_breaks b text r h);
+    no_other_refused = λ b text v t n.
+        let h = refuses_only (asks b) text v (asked_text c.files.held b ∙ t) n in
+        (h.0, breaks_asked b text h.0 h.1);
     disjoint = λ b text v t r h. run_disjoint r h b v text t;
     meant = λ b text v t input left r h. (run_meant r h b v text input t left, prints r h b v);
   }
     where
-      prints : (r : Ran) → c.outcome.ran ≡ Some r → (b : Asked) → command_of c.words ≡ Some (asks b) → Prints c r
+      prints : (r : Ran) → c.outcome.ran ≡ Some r → (b : Asked) → command_of c.words ≡ Some (asks b) → Prints c b.telling r
       prints r h b v = let m = run_written r h b v in record { status = run_status r h; whole = λ n. (m.whole n).0; part = m.part_of_output }
 
   -- the notes where there is no output
@@ -840,4 +854,11 @@ module _ (c : Call) (k : IsAnswered c) (l : Laws) where
 
 -- all that the top call promises
 pub promise : (c : Call) → IsAnswered c → Laws → Promise c
-promise c k l = record { headline = headline c k l; following = following c k l; statuses = statuses c k l; writing = writing c k l; answered = k }
+promise c k l = record {
+  headline = headline c k l;
+  following = following c k l;
+  witnessing = record { shown = λ b text v t input left r h. run_shown c k l r h b v text input t left };
+  statuses = statuses c k l;
+  writing = writing c k l;
+  answered = k;
+}

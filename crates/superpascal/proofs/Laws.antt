@@ -23,6 +23,7 @@ use Rattle.sp_varsets.specs.AreSets.{AreSets}
 use Rattle.sp_varsets.specs.declared.sets.Sets.{Sets}
 use Rattle.sp_words.specs.declared.command.Command.{Command}
 use Rattle.sp_words.specs.declared.command.Command.TheVariants as command
+use Rattle.superpascal.proofs.Showing.{ShowsLaw}
 use Rattle.superpascal.specs.Texts.{Breaks, BreaksOne, HasSets, IsDisjointText, Keeps, KeepsAll, Makes, asks_all, asks_text}
 
 pub record Laws : Type 0 where
@@ -46,6 +47,8 @@ pub record Laws : Type 0 where
   pub journal : (v w : Version) (j k : Journal) (bytes : List ℕ) → IsTextOf v j bytes → IsTextOf w k bytes → j ≡ k
   pub unfit : (g : Setting) (es : List Entry) (m n : ℕ) → IsUnfitAt g es m → IsUnfitAt g es n → m ≡ n
   pub unfit_or : (g : Setting) (es : List Entry) (n : ℕ) → IsMeant g es → IsUnfitAt g es n → ⊥
+  -- by `witness`
+  pub shown : ShowsLaw
 
 module _ (l : Laws) (text : List ℕ) where
   one_length : (a b : Refusal) → BreaksLength text a → BreaksLength text b → a ≡ b
@@ -72,6 +75,7 @@ module _ (l : Laws) (text : List ℕ) where
   one_break (command.Code file) a b x y = one_rule a b x y
   one_break (command.Sets file) a b x y = l.first text a b x y
   one_break (command.Format file) a b x y = l.no_layout text a b x y
+  one_break (command.Witness file workers limits) a b x y = one_rule a b x y
   one_break (command.Gen size workers) a b x y = one_rule a b x y
   one_break (command.Replay file journal limits) a b x y = one_rule a b x y
 
@@ -82,6 +86,7 @@ module _ (l : Laws) (text : List ℕ) where
   keeps_or (command.Code file) r k x = kept_or r k x
   keeps_or (command.Sets file) r k x = l.not_both text k.0 r k.1 x
   keeps_or (command.Format file) r k x = l.layout_or text k.0 r k.1 x
+  keeps_or (command.Witness file workers limits) r k x = kept_or r k x
   keeps_or (command.Gen size workers) r k x = kept_or r k x
   keeps_or (command.Replay file journal limits) r k x = kept_or r k x
 
@@ -96,6 +101,7 @@ module _ (l : Laws) (text : List ℕ) where
   made_once (command.Code file) a b n m x y = (l.listing text a b x.0 y.0, x.1 ∙ sym y.1)
   made_once (command.Sets file) a b n m x y = (one_sets a b x.0 y.0, x.1 ∙ sym y.1)
   made_once (command.Format file) a b n m x y = (l.layout text a b x.0 y.0, x.1 ∙ sym y.1)
+  made_once (command.Witness file workers limits) a b n m x y = absurd x
   made_once (command.Gen size workers) a b n m x y = absurd x
   made_once (command.Replay file journal limits) a b n m x y = absurd x
 
@@ -110,6 +116,7 @@ made_keeps (command.Run file workers limits show) text out line m = absurd m
 made_keeps (command.Code file) text out line m = (m.0.0, m.0.1, m.0.2)
 made_keeps (command.Sets file) text out line m = (m.0.0, m.0.1)
 made_keeps (command.Format file) text out line m = (out, m.0)
+made_keeps (command.Witness file workers limits) text out line m = absurd m
 made_keeps (command.Gen size workers) text out line m = absurd m
 made_keeps (command.Replay file journal limits) text out line m = absurd m
 
@@ -119,6 +126,7 @@ made_asks (command.Run file workers limits show) text out line m = m
 made_asks (command.Code file) text out line m = tt
 made_asks (command.Sets file) text out line m = tt
 made_asks (command.Format file) text out line m = tt
+made_asks (command.Witness file workers limits) text out line m = m
 made_asks (command.Gen size workers) text out line m = m
 made_asks (command.Replay file journal limits) text out line m = m
 
@@ -128,6 +136,7 @@ keeps_all (command.Run file workers limits show) text q k = k
 keeps_all (command.Code file) text q k = k
 keeps_all (command.Sets file) text q k = absurd q
 keeps_all (command.Format file) text q k = absurd q
+keeps_all (command.Witness file workers limits) text q k = k
 keeps_all (command.Gen size workers) text q k = k
 keeps_all (command.Replay file journal limits) text q k = k
 
@@ -138,6 +147,7 @@ long_breaks (command.Run file workers limits show) all h = inl (inl (inl (inl (t
 long_breaks (command.Code file) all h = inl (inl (inl (inl (too_long all start refl h))))
 long_breaks (command.Sets file) all h = inl (inl (too_long all start refl h))
 long_breaks (command.Format file) all h = inl (inl (too_long all start refl h))
+long_breaks (command.Witness file workers limits) all h = inl (inl (inl (inl (too_long all start refl h))))
 long_breaks (command.Gen size workers) all h = inl (inl (inl (inl (too_long all start refl h))))
 long_breaks (command.Replay file journal limits) all h = inl (inl (inl (inl (too_long all start refl h))))
 
@@ -154,5 +164,6 @@ pub laws : ((text : List ℕ) (p q : c.Program) → IsChecked text p → IsCheck
     → ((text a b : List ℕ) → HasListing text a → HasListing text b → a ≡ b)
     → ((v w : Version) (j k : Journal) (bytes : List ℕ) → IsTextOf v j bytes → IsTextOf w k bytes → j ≡ k)
     → ((g : Setting) (es : List Entry) (m n : ℕ) → IsUnfitAt g es m → IsUnfitAt g es n → m ≡ n)
-    → ((g : Setting) (es : List Entry) (n : ℕ) → IsMeant g es → IsUnfitAt g es n → ⊥) → Laws
-laws s t u v w d x y z o q j m n = record { tree = s; first = t; not_both = u; any_first = v; accepted_or = w; disjoint = d; layout = x; no_layout = y; layout_or = z; sets_text = o; listing = q; journal = j; unfit = m; unfit_or = n }
+    → ((g : Setting) (es : List Entry) (n : ℕ) → IsMeant g es → IsUnfitAt g es n → ⊥)
+    → ShowsLaw → Laws
+laws s t u v w d x y z o q j m n shown = record { tree = s; first = t; not_both = u; any_first = v; accepted_or = w; disjoint = d; layout = x; no_layout = y; layout_or = z; sets_text = o; listing = q; journal = j; unfit = m; unfit_or = n; shown = shown }

@@ -2,6 +2,8 @@ pub mod Calling
 pub mod Laws
 pub mod Parts
 pub mod Replaying
+pub mod Asking
 pub mod Running
-pub mod Telling
+pub mod Showing
+pub mod Tellable
 pub mod Why

@@ -5,7 +5,6 @@ use Rattle.sp_base.specs.declared.halt.Halt.{Halt}
 use Rattle.sp_base.specs.declared.halt.Halt.TheVariants as halt
 use Rattle.sp_base.specs.declared.halt.Refusal.{Refusal}
 use Rattle.sp_base.specs.declared.limits.Limits.{Limits}
-use Rattle.sp_base.specs.declared.limits.Show.{Show}
 use Rattle.sp_code.specs.Listing.{listing_text}
 use Rattle.sp_code.specs.declared.code.Parts.{Parts}
 use Rattle.sp_compile.specs.Codes.{Codes, IsCompiled}
@@ -22,10 +21,12 @@ use Rattle.sp_words.specs.Ranges.{default_limits}
 use Rattle.sp_words.specs.declared.command.Command.{Command}
 use Rattle.sp_words.specs.declared.command.Command.TheVariants as command
 use Rattle.superpascal.specs.declared.ending.Answer.{Answer}
-use Rattle.superpascal.specs.Answering.{CodeAnswer, CommandCause, GeneratedAnswer, GeneratedCause, InputAnswer, IsMade, JournalAnswer, AnswersRefusal, ReplayAnswer, RunAnswer, TextCause, halted, too_long, unloaded}
+use Rattle.superpascal.specs.declared.telling.Telling.{Telling}
+use Rattle.superpascal.specs.Answering.{CodeAnswer, CommandCause, GeneratedAnswer, GeneratedCause, InputAnswer, IsMade, JournalAnswer, AnswersRefusal, RanAnswer, ReplayAnswer, RunAnswer, TextCause, halted, too_long, unloaded}
 use Rattle.superpascal.specs.Causes.{Cause, by_command, Due, by_run, by_generated, by_text, by_rule, by_library, by_source, by_length, by_memory, Files, IsTold, IsUntouched, ReadsAfterRules, Stream, accepted}
 use Rattle.superpascal.specs.Runs.{HasCode, IsRunOf, Reports}
-use Rattle.superpascal.specs.Texts.{Asked, Breaks, BreaksOne, IsAbout, KeepsAll, asked, asks, text_of}
+use Rattle.superpascal.specs.Texts.{Asked, Breaks, BreaksOne, CanRead, IsAbout, KeepsAll, asked, asks, asks_for, text_of}
+use Rattle.superpascal.proofs.Asking.{asked_breaks, asked_reads, asked_text}
 use Rattle.superpascal.proofs.Laws.{long_breaks}
 
 -- ---- what is told
@@ -51,6 +52,7 @@ held_of f (command.Run file workers limits show) name h = ap f.held h
 held_of f (command.Code file) name h = ap f.held h
 held_of f (command.Sets file) name h = ap f.held h
 held_of f (command.Format file) name h = ap f.held h
+held_of f (command.Witness file workers limits) name h = ap f.held h
 held_of f (command.Gen size workers) name h = absurd h
 held_of f (command.Replay file journal limits) name h = ap f.held h
 
@@ -88,8 +90,9 @@ made_by d x text r h k = subst (λ (y : Command). IsMade y text r) (sym h) k
 pub command_by : (f : Files) (s : Stream) (reports : Reports) (d x : Command) (a : Answer) → d ≡ x → CommandCause f s reports x a → CommandCause f s reports d a
 command_by f s reports d x a h k = subst (λ (y : Command). CommandCause f s reports y a) (sym h) k
 
-pub run_by : (d : Command) (file name : List ℕ) (workers : ℕ) (limits : Limits) (show : Show) → d ≡ command.Run file workers limits show → name ≡ file → d ≡ asks (asked name workers limits show)
-run_by d file name workers limits show h i = h ∙ ap (λ (n : List ℕ). command.Run n workers limits show) (sym i)
+pub run_by : (d : Command) (file name : List ℕ) (workers : ℕ) (limits : Limits) (t : Telling) → d ≡ asks_for t file workers limits → name ≡ file
+    → d ≡ asks (asked name workers limits t)
+run_by d file name workers limits t h i = h ∙ ap (λ (n : List ℕ). asks_for t n workers limits) (sym i)
 
 -- ---- `run`
 
@@ -119,18 +122,22 @@ pub replay_compiled : (held : Option (List ℕ)) (before after : ℕ) (s : Strea
 replay_compiled held before after s limits text a r code i k h =
     inl (record { kept = keeps_compiled text r k }, h text (program_of r.accepted.checked) (of_code text text (program_of r.accepted.checked) r.code code refl i (has_code text r k)))
 
-module _ (s : Stream) (reports : Reports) (show : Show) (workers : ℕ) (limits : Limits) (text : List ℕ) (a : Answer) where
-  pub input_ran : (input : List ℕ) → IsTold s.left input → length input ≤ 16777216 → IsAtEnd s.left' → CodeAnswer reports show workers limits text input a → InputAnswer s reports show workers limits text a
+module _ (s : Stream) (reports : Reports) (telling : Telling) (workers : ℕ) (limits : Limits) (text : List ℕ) (a : Answer) where
+  pub input_ran : (input : List ℕ) → IsTold s.left input → length input ≤ 16777216 → IsAtEnd s.left' → CodeAnswer reports telling workers limits text input a → InputAnswer s reports telling workers limits text a
   input_ran input t n e (inl (r, h, inl k)) = inl (record { input = input; ran = r; read = t; fits = n; at_end = e; is_run = h; answer = k })
   input_ran input t n e (inl (r, h, inr k)) = inr (inr (inr k))
   input_ran input t n e (inr k) = inr (inr (inr k))
 
-  pub run_compiled : (r : CompiledText) (code : Parts) → code ≡ r.code → IsCompiled text r → ((program : List ℕ) (t : c.Program) → HasCode program t code → InputAnswer s reports show workers limits program a) → RunAnswer s reports show workers limits text a
+  pub run_compiled : (r : CompiledText) (code : Parts) → code ≡ r.code → IsCompiled text r → ((program : List ℕ) (t : c.Program) → HasCode program t code → InputAnswer s reports telling workers limits program a) → RunAnswer s reports telling workers limits text a
   run_compiled r code i k h = inl (record { kept = keeps_compiled text r k }, h text (program_of r.accepted.checked) (of_code text text (program_of r.accepted.checked) r.code code refl i (has_code text r k)))
 
-  pub run_halted : (h : Halt) → IsUntouched s → Codes text (Err h) → halted h a → RunAnswer s reports show workers limits text a
+  pub run_halted : (h : Halt) → IsUntouched s → Codes text (Err h) → halted h a → RunAnswer s reports telling workers limits text a
   run_halted (halt.Refused r) u b h = inr (u, inl (record { refusal = r; breaks = b; answer = h }))
   run_halted halt.Memory u b h = inr (u, inr h)
+
+-- the answer to a telling that is known
+pub told_by : (reports : Reports) (t u : Telling) (r : Ran) (a : Answer) → t ≡ u → ((made : Reports) → RanAnswer made u r a) → RanAnswer reports t r a
+told_by reports t u r a h k = subst (λ (x : Telling). RanAnswer reports x r a) (sym h) (k reports)
 
 -- of a command whose text breaks a rule first
 pub command_refused : (f : Files) (s : Stream) (reports : Reports) (d : Command) (a : Answer) (r : Refusal) → IsUntouched s → IfSome (text_of f.held d) (λ x. Breaks d x r) → AnswersRefusal r a → CommandCause f s reports d a
@@ -151,16 +158,25 @@ module _ (f : Files) (s : Stream) (reports : Reports) (b : Asked) (a : Answer) w
     kept_is : KeepsAll text → IfSome (f.held b.file) KeepsAll
     kept_is k = when_told KeepsAll (f.held b.file) text t k
 
-    reads : KeepsAll text → ReadsAfterRules f s (asks b)
-    reads k = inr (kept_is k)
+    can_read : KeepsAll text → CanRead f.held (asks b)
+    can_read k = asked_reads f.held b (kept_is k)
 
-    pub run_loaded : RunAnswer s reports b.show b.workers b.limits text a → Due_run
+    reads : KeepsAll text → ReadsAfterRules f s (asks b)
+    reads k = inr (can_read k)
+
+    -- the first rule that the text breaks is that for which the command refuses it
+    refused_for : (r : Refusal) → BreaksOne text r → IfSome (text_of f.held (asks b)) (λ x. Breaks (asks b) x r)
+    refused_for r h =
+        subst (λ (o : Option (List ℕ)). IfSome o (λ x. Breaks (asks b) x r)) (sym (asked_text f.held b))
+        (when_told (λ x. Breaks (asks b) x r) (f.held b.file) text t (asked_breaks b text r h))
+
+    pub run_loaded : RunAnswer s reports b.telling b.workers b.limits text a → Due_run
     run_loaded (inl (k, inl h)) =
         (by_run b refl (record { text = text; input = h.input; ran = h.ran; loaded = t; read = h.read; fits = h.fits; at_end = h.at_end; is_run = h.is_run; answer = h.answer }), reads k.kept)
-    run_loaded (inl (k, inr (inl h))) = (by_source (record { reads = kept_is k.kept; rose = h.0; answer = h.1 }), reads k.kept)
-    run_loaded (inl (k, inr (inr (inl h)))) = (by_length (record { reads = kept_is k.kept; long = h.0; answer = h.1 }), reads k.kept)
+    run_loaded (inl (k, inr (inl h))) = (by_source (record { reads = can_read k.kept; rose = h.0; answer = h.1 }), reads k.kept)
+    run_loaded (inl (k, inr (inr (inl h)))) = (by_length (record { reads = can_read k.kept; long = h.0; answer = h.1 }), reads k.kept)
     run_loaded (inl (k, inr (inr (inr h)))) = (by_memory h, reads k.kept)
-    run_loaded (inr (u, inl m)) = command_refused f s reports (asks b) a m.refusal u (when_told (λ x. BreaksOne x m.refusal) (f.held b.file) text t m.breaks) m.answer
+    run_loaded (inr (u, inl m)) = command_refused f s reports (asks b) a m.refusal u (refused_for m.refusal m.breaks) m.answer
     run_loaded (inr (u, inr h)) = (by_memory h, inl u)
 
 -- ---- `gen`

@@ -26,7 +26,7 @@ use Rattle.superpascal.specs.Causes.{by_library, by_source, by_length, by_memory
 use Rattle.superpascal.specs.Following.{IsMeantAlong}
 use Rattle.superpascal.specs.Replays.{IsJournalOf, IsReplayOf, IsUnfitFor, ending_of_replay}
 use Rattle.superpascal.specs.Runs.{HasCode, Reports}
-use Rattle.superpascal.specs.Texts.{Asked, BreaksOne, CanRead, Followed, IsJournalText, KeepsAll, asks, followed, follows}
+use Rattle.superpascal.specs.Texts.{BreaksOne, CanRead, Followed, IsJournalText, KeepsAll, followed, follows}
 use Rattle.superpascal.proofs.Laws.{Laws}
 use Rattle.superpascal.proofs.Parts.{command_refused, when_told}
 
@@ -43,9 +43,6 @@ one_limits a b h = cc
 
 pub one_followed : (a b : Followed) → follows b ≡ follows a → b ≡ a
 one_followed a b h = λ i. record { file = one_file a b h i; journal = one_journal a b h i; limits = one_limits a b h i }
-
-pub not_run : (b : Followed) (a : Asked) → follows b ≡ asks a → ⊥
-not_run b a h = cc
 
 pub not_generated : (b : Followed) (size workers : ℕ) → follows b ≡ command.Gen size workers → ⊥
 not_generated b size workers h = cc

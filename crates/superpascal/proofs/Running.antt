@@ -21,7 +21,7 @@ use Rattle.sp_tree.specs.Plain.{Program, Stmt}
 use Rattle.sp_tree.specs.PlainChecked as c
 use Rattle.sp_words.specs.Ranges.{IsInRange}
 use Rattle.superpascal.specs.Answering.{Follows}
-use Rattle.superpascal.specs.Runs.{HasCode, IsRunOf}
+use Rattle.superpascal.specs.Runs.{HasCode, IsRunOf, IsSomeRun}
 
 -- options in their ranges are within their types
 below : (m n k : ℕ) → m ≤ n → n ≤ k → m ≤ k
@@ -87,7 +87,12 @@ module _ (law : ReadyLaw) (code : Parts) (input : List ℕ) (workers : ℕ) (lim
           go (Err (error.Unfit n)) m = record { tree = t; code = code; has = has; unfit = m }
           go (Err error.Memory) m = tt
 
+-- the program of a run is ready for its code
+pub is_ready : ReadyLaw → (text input : List ℕ) (workers : ℕ) (limits : Limits) → IsInRange workers limits → (r : Ran)
+    → (h : IsRunOf text input workers limits r) → IsReady (setting (bare h.tree) input limits) h.has.code.0.moves h.has.code.0.shares
+is_ready law text input workers limits range r h = (ready_code law h.code input workers limits range text h.tree h.has).ready
+
 -- a run that is known is one of some text
-pub some_run : (program input : List ℕ) (workers : ℕ) (limits : Limits) (r : Ran) → IsRunOf program input workers limits r
-    → (x : List ℕ) × (y : List ℕ) × (n : ℕ) × (l : Limits) × IsRunOf x y n l r
-some_run program input workers limits r h = (program, input, workers, limits, h)
+pub some_run : (program input : List ℕ) (workers : ℕ) (limits : Limits) (r : Ran) → IsInRange workers limits
+    → IsRunOf program input workers limits r → IsSomeRun r
+some_run program input workers limits r range h = (program, input, workers, limits, range, h)

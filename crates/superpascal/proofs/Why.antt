@@ -13,7 +13,7 @@ use Rattle.superpascal.specs.Causes.{Cause, by_words, before_words, by_command, 
 use Rattle.superpascal.specs.Replays.{ending_of_replay, replay_answer}
 use Rattle.superpascal.specs.Runs.{Reports, ending_of, generated_answer, run_answer}
 use Rattle.superpascal.specs.Texts.{Asked, Followed, asks, follows}
-use Rattle.superpascal.proofs.Telling.{Ends, ends_of, replay_ends}
+use Rattle.superpascal.proofs.Tellable.{Ends, ends_of, replay_ends}
 
 module _ (f : Files) (s : Stream) (reports : Reports) (w : Option Command) (a : Answer) where
   -- a program has run for this command
@@ -61,7 +61,7 @@ module _ (f : Files) (s : Stream) (reports : Reports) (w : Option Command) (a : 
   at b h k = subst why (sym (ap (λ (z : Answer). z.ending) h)) k
 
   why_due : (d : Command) → w ≡ Some d → Due f s reports d a → why a.ending
-  why_due d v (by_run asked p h) = at (run_answer reports asked.show h.ran) h.answer (by_end h.ran.closed.end (ends_of _ _ _ _ h.ran h.is_run) (inl (d, v, inl (asked, p, h))))
+  why_due d v (by_run asked p h) = at (run_answer reports asked.telling h.ran) h.answer (by_end h.ran.closed.end (ends_of _ _ _ _ h.ran h.is_run) (inl (d, v, inl (asked, p, h))))
   why_due d v (by_generated size workers p h) = at (generated_answer size h.ran) h.answer (by_end h.ran.closed.end (ends_of _ _ _ _ h.ran h.is_run) (inl (d, v, inr (size, workers, p, h))))
   why_due d v (by_text h) = at _ h.answer (d, v, h)
   why_due d v (by_rule h) = at _ h.answer (d, v, h)

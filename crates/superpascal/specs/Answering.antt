@@ -5,7 +5,6 @@ use Rattle.sp_base.specs.declared.halt.Halt.{Halt}
 use Rattle.sp_base.specs.declared.halt.Halt.TheVariants as halt
 use Rattle.sp_base.specs.declared.halt.Refusal.{Refusal}
 use Rattle.sp_base.specs.declared.limits.Limits.{Limits}
-use Rattle.sp_base.specs.declared.limits.Show.{Show}
 use Rattle.sp_base.specs.declared.rule.Rule.TheVariants as rule
 use Rattle.sp_execute.specs.declared.execution.Ran.{Ran}
 use Rattle.sp_gen.specs.Generated.{generated_text}
@@ -27,6 +26,7 @@ use Rattle.sp_words.specs.declared.command.Command.{Command}
 use Rattle.superpascal.specs.declared.ending.Ending.{Ending}
 use Rattle.superpascal.specs.declared.ending.Ending.TheVariants as e
 use Rattle.superpascal.specs.declared.ending.Answer.{Answer}
+use Rattle.superpascal.specs.declared.telling.Telling.{Telling}
 use Rattle.superpascal.specs.Causes.{Due, Files, HasGenerated, HasMade, IsNotLoaded, IsRefusedFor, IsTold, IsTooLong, IsUntouched, ReadsAfterRules, Stream, accepted, refused, silent}
 use Rattle.superpascal.specs.Replays.{IsJournalOf, IsReplayOf, IsUnfitFor, numbered, replay_answer}
 use Rattle.superpascal.specs.Runs.{IsRunOf, Reports, generated_answer, run_answer}
@@ -65,32 +65,34 @@ TextCause f c a = HasMade f c a ⊎ (IsRefusedFor f c a ⊎ (IsNotLoaded f c a �
 abbrev pub IsTellable : Ran → Type 0
 IsTellable r = IsNameable r.closed.journal × HasLines r.closed.end
 
--- how a run is told by `run`, or want of memory
-abbrev pub RanAnswer : Reports → Show → Ran → Answer → Type 0
-RanAnswer reports show r a = (a ≡ run_answer reports show r) ⊎ (a ≡ silent e.OutOfMemory)
+-- how a run is told, or want of memory
+abbrev pub RanAnswer : Reports → Telling → Ran → Answer → Type 0
+RanAnswer reports telling r a = (a ≡ run_answer reports telling r) ⊎ (a ≡ silent e.OutOfMemory)
 
 -- how a run is told by `gen`, or want of memory
 abbrev pub GeneratedAnswer : ℕ → Ran → Answer → Type 0
 GeneratedAnswer size r a = (a ≡ generated_answer size r) ⊎ (a ≡ silent e.OutOfMemory)
 
 -- what comes of the code of a text on an input
-abbrev pub CodeAnswer : Reports → Show → ℕ → Limits → List ℕ → List ℕ → Answer → Type 0
-CodeAnswer reports show workers limits text input a = ((r : Ran) × IsRunOf text input workers limits r × RanAnswer reports show r a) ⊎ (a ≡ silent e.OutOfMemory)
+abbrev pub CodeAnswer : Reports → Telling → ℕ → Limits → List ℕ → List ℕ → Answer → Type 0
+CodeAnswer reports telling workers limits text input a =
+    ((r : Ran) × IsRunOf text input workers limits r × RanAnswer reports telling r a) ⊎ (a ≡ silent e.OutOfMemory)
 
 -- a run on the input that the source gives
-pub record RunsOnInput (s : Stream) (reports : Reports) (show : Show) (workers : ℕ) (limits : Limits) (text : List ℕ) (a : Answer) : Type 0 where
+pub record RunsOnInput (s : Stream) (reports : Reports) (telling : Telling) (workers : ℕ) (limits : Limits) (text : List ℕ)
+    (a : Answer) : Type 0 where
   pub input : List ℕ
   pub ran : Ran
   pub read : IsTold s.left input
   pub fits : length input ≤ 16777216
   pub at_end : IsAtEnd s.left'
   pub is_run : IsRunOf text input workers limits ran
-  pub answer : a ≡ run_answer reports show ran
+  pub answer : a ≡ run_answer reports telling ran
 
 -- what comes of it on the input that the source gives
-abbrev pub InputAnswer : Stream → Reports → Show → ℕ → Limits → List ℕ → Answer → Type 0
-InputAnswer s reports show workers limits text a =
-    RunsOnInput s reports show workers limits text a
+abbrev pub InputAnswer : Stream → Reports → Telling → ℕ → Limits → List ℕ → Answer → Type 0
+InputAnswer s reports telling workers limits text a =
+    RunsOnInput s reports telling workers limits text a
     ⊎ ((Rose s.before s.after × (a ≡ silent e.ReadFault)) ⊎ ((IfSome s.left IsTooLong × (a ≡ silent e.TooLong)) ⊎ (a ≡ silent e.OutOfMemory)))
 
 -- the text breaks no rule
@@ -104,9 +106,9 @@ pub record IsRefusedText (text : List ℕ) (a : Answer) : Type 0 where
   pub answer : AnswersRefusal refusal a
 
 -- what comes of a text
-abbrev pub RunAnswer : Stream → Reports → Show → ℕ → Limits → List ℕ → Answer → Type 0
-RunAnswer s reports show workers limits text a =
-    (IsKeptText text × InputAnswer s reports show workers limits text a)
+abbrev pub RunAnswer : Stream → Reports → Telling → ℕ → Limits → List ℕ → Answer → Type 0
+RunAnswer s reports telling workers limits text a =
+    (IsKeptText text × InputAnswer s reports telling workers limits text a)
     ⊎ (IsUntouched s × (IsRefusedText text a ⊎ (a ≡ silent e.OutOfMemory)))
 
 -- what comes of words that ask for a command

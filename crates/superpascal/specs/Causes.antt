@@ -82,7 +82,7 @@ pub record HasRun (f : Files) (s : Stream) (reports : Reports) (asked : Asked) (
   pub fits : length input ≤ 16777216
   pub at_end : IsAtEnd s.left'
   pub is_run : IsRunOf text input asked.workers asked.limits ran
-  pub answer : a ≡ run_answer reports asked.show ran
+  pub answer : a ≡ run_answer reports asked.telling ran
 
 -- the generated program of this size has run on no input, and this is the answer
 pub record HasGenerated (size workers : ℕ) (a : Answer) : Type 0 where

@@ -1,4 +1,4 @@
--- The headline of the program, for its command `run`.
+-- The headline of the program, for its commands `run` and `witness`.
 --
 -- For all program bytes, input and worker counts: the text is refused exactly where a written rule is broken; in no schedule
 -- does a process write what a parallel one uses; what a run prints and how it ends is what the source meaning gives along its
@@ -15,18 +15,19 @@ use Rattle.sp_print.specs.Lines.{refusal_text}
 use Rattle.sp_tree.specs.Plain.{Program}
 use Rattle.superpascal.specs.Answers.{status_of}
 use Rattle.superpascal.specs.Calls.{All, Call, IsOutside, OfInput, OfRun, Part}
-use Rattle.superpascal.specs.Runs.{ending_of}
+use Rattle.superpascal.specs.Runs.{ending_of, told_output}
 use Rattle.superpascal.specs.Texts.{Asked, BreaksOne, IsDisjointText}
+use Rattle.superpascal.specs.declared.telling.Telling.{Telling}
 
 -- status 1 and the line of the rule, unless the outside came in their place
 abbrev pub SaysRefusal : Call → Refusal → Type 0
 SaysRefusal c r = ((c.outcome.status ≡ 1) × All c.notes (refusal_text r)) ⊎ IsOutside c.outcome.status
 
--- the status tells the end of the run, and its output was written; with status 6 a first part of it
-pub record Prints (c : Call) (r : Ran) : Type 0 where
+-- the status tells the end of the run, and its output, or its witness, was written; with status 6 a first part of it
+pub record Prints (c : Call) (telling : Telling) (r : Ran) : Type 0 where
   pub status : (c.outcome.status ≡ status_of (ending_of r.closed.end)) ⊎ (c.outcome.status ≡ 6)
-  pub whole : c.outcome.status ≢ 6 → All c.output r.closed.output
-  pub part : Part c.output r.closed.output
+  pub whole : c.outcome.status ≢ 6 → All c.output (told_output telling r)
+  pub part : Part c.output (told_output telling r)
 
 -- the run is one of the program of the text: along its journal the meaning of the program on the input with the limits is defined, with
 -- its output and its end; its verdict is the exact one; where that is `ordered`, every lawful schedule ends alike
@@ -40,4 +41,4 @@ pub record Headline (c : Call) : Type 0 where
   -- in no schedule does a process write what a parallel one uses
   pub disjoint : OfRun c (λ a text. (r : Ran) → c.outcome.ran ≡ Some r → IsDisjointText text)
   -- what a run prints and how it ends is what the meaning gives along its journal; and what `ordered` promises
-  pub meant : OfInput c (λ a text input. (r : Ran) → c.outcome.ran ≡ Some r → IsMeant a text input r × Prints c r)
+  pub meant : OfInput c (λ a text input. (r : Ran) → c.outcome.ran ≡ Some r → IsMeant a text input r × Prints c a.telling r)

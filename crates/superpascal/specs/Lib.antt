@@ -9,4 +9,5 @@ pub mod Replays
 pub mod Runs
 pub mod Statuses
 pub mod Texts
+pub mod Witnessing
 pub mod Writing

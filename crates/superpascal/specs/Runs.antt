@@ -1,6 +1,7 @@
 -- A run of the program of a text, and what is told of it. The contracts of `runs` and `notes` promise it; the headline
 -- and the written texts are said by it.
-use Rattle.std.specs.Prelude.{ℕ, ◌≤◌, Bool, true, false, if◌then◌else◌, List, [], ◌++◌, Some, None, codes, decimal, length}
+use Rattle.std.specs.Option.{option_map_or}
+use Rattle.std.specs.Prelude.{ℕ, ◌≤◌, Bool, true, false, if◌then◌else◌, List, [], ◌++◌, Option, Some, None, codes, decimal, length}
 use Rattle.sp_base.specs.declared.limits.Limits.{Limits}
 use Rattle.sp_base.specs.declared.limits.Show.{Show}
 use Rattle.sp_base.specs.declared.limits.Show.TheVariants as show
@@ -9,6 +10,7 @@ use Rattle.sp_code.specs.Lengths.{tree_length}
 use Rattle.sp_code.specs.Sound.{run_of}
 use Rattle.sp_execute.specs.declared.execution.Ran.{Ran}
 use Rattle.sp_execute.specs.Runs.{Executes, setting}
+use Rattle.sp_execute.specs.Witnesses.{witness_of}
 use Rattle.sp_front.specs.Compiles.{IsAccepted}
 use Rattle.sp_generate.specs.Generated.{IsCodeOf}
 use Rattle.sp_journal.specs.declared.entry.Entry.{Entry}
@@ -20,9 +22,12 @@ use Rattle.sp_print.specs.Lines.{end_text, verdict_text}
 use Rattle.sp_runner.specs.Runs.{IsRun}
 use Rattle.sp_tree.specs.Bare.{bare}
 use Rattle.sp_tree.specs.PlainChecked as c
+use Rattle.sp_words.specs.Ranges.{IsInRange}
 use Rattle.superpascal.specs.declared.ending.Ending.{Ending}
 use Rattle.superpascal.specs.declared.ending.Ending.TheVariants as e
 use Rattle.superpascal.specs.declared.ending.Answer.{Answer}
+use Rattle.superpascal.specs.declared.telling.Telling.{Telling}
+use Rattle.superpascal.specs.declared.telling.Telling.TheVariants as told
 
 -- the text has this tree, which breaks no rule, and this is its code
 pub record HasCode (text : List ℕ) (tree : c.Program) (parts : Parts) : Type 0 where
@@ -38,6 +43,11 @@ pub record IsRunOf (text input : List ℕ) (workers : ℕ) (limits : Limits) (r 
   pub has : HasCode text tree code
   pub run : IsRun (run_of code input limits) workers r.closed
   pub meant : Executes (setting (bare tree) input limits) workers r
+
+-- it is a run of some text's program, by workers and with limits that words may ask for
+abbrev pub IsSomeRun : Ran → Type 0
+IsSomeRun r = (text : List ℕ) × (input : List ℕ) × (workers : ℕ) × (limits : Limits)
+    × IsInRange workers limits × IsRunOf text input workers limits r
 
 -- the end of a run is told by this ending of the call
 abbrev pub ending_of : End → Ending
@@ -69,6 +79,20 @@ end_lines r = end_text r.closed.end ++ verdict_text r.verdict
 abbrev pub run_notes : Reports → Show → Ran → List ℕ
 run_notes reports s r = if is_journal s then journal_text version.Two r.closed.journal else end_lines r ++ reports s r.closed.journal.entries
 
+-- the text of the witness of the run's race; where there is no race, nothing
+abbrev pub witness_text : Ran → List ℕ
+witness_text r = option_map_or (journal_text version.Two) (witness_of r) []
+
+-- the output of a run that is told so: its own, or the text of its witness
+abbrev pub told_output : Telling → Ran → List ℕ
+told_output (told.Reports show) r = r.closed.output
+told_output told.Witness r = witness_text r
+
+-- the notes of a run that is told so
+abbrev pub told_notes : Reports → Telling → Ran → List ℕ
+told_notes reports (told.Reports show) r = run_notes reports show r
+told_notes reports told.Witness r = end_lines r
+
 -- the output of `gen`
 abbrev pub generated_output : ℕ → Ran → List ℕ
 generated_output size r =
@@ -77,9 +101,19 @@ generated_output size r =
 
 -- ---- answers
 
--- the answer of `run` with this run
-abbrev pub run_answer : Reports → Show → Ran → Answer
-run_answer reports s r = record { ending = ending_of r.closed.end; ran = Some r; output = None; notes = run_notes reports s r }
+-- the text that stands for the output of a run that is told so
+abbrev pub output_instead : Telling → Ran → Option (List ℕ)
+output_instead (told.Reports show) r = None
+output_instead told.Witness r = Some (witness_text r)
+
+-- the answer of `run` or `witness` with this run
+abbrev pub run_answer : Reports → Telling → Ran → Answer
+run_answer reports telling r = record {
+  ending = ending_of r.closed.end;
+  ran = Some r;
+  output = output_instead telling r;
+  notes = told_notes reports telling r;
+}
 
 -- the answer of `gen` with this run
 abbrev pub generated_answer : ℕ → Ran → Answer

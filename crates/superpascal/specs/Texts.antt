@@ -3,7 +3,6 @@
 use Rattle.std.specs.Prelude.{◌≡◌, ◌⊎◌, ℕ, ◌≤◌, List, [], Option, Some, IfSome, codes, length}
 use Rattle.sp_base.specs.declared.halt.Refusal.{Refusal}
 use Rattle.sp_base.specs.declared.limits.Limits.{Limits}
-use Rattle.sp_base.specs.declared.limits.Show.{Show}
 use Rattle.sp_code.specs.Lengths.{tree_length}
 use Rattle.sp_compile.specs.Codes.{BreaksLength, HasListing}
 use Rattle.sp_format.specs.Formats.{HasLayout, HasNoLayout}
@@ -21,6 +20,8 @@ use Rattle.sp_varsets.specs.AreSets.{AreSets}
 use Rattle.sp_varsets.specs.declared.sets.Sets.{Sets}
 use Rattle.sp_words.specs.declared.command.Command.{Command}
 use Rattle.sp_words.specs.declared.command.Command.TheVariants as command
+use Rattle.superpascal.specs.declared.telling.Telling.{Telling}
+use Rattle.superpascal.specs.declared.telling.Telling.TheVariants as told
 
 -- the text has a tree that breaks no rule of the phases, and its code is no longer than code may be
 abbrev pub KeepsAll : List ℕ → Type 0
@@ -43,18 +44,24 @@ HasSets text out = (p : c.Program) × IsChecked text p × (s : Sets) × AreSets 
 abbrev pub IsDisjointText : List ℕ → Type 0
 IsDisjointText text = (p : m.Program) → IsProgramOf text p → (g : Setting) → g.program ≡ p → IsDisjointRun g
 
--- the run that words ask for
+-- the run that words ask for, and how it is told
 pub record Asked : Type 0 where
   pub file : List ℕ
   pub workers : ℕ
   pub limits : Limits
-  pub show : Show
+  pub telling : Telling
 
-abbrev pub asked : List ℕ → ℕ → Limits → Show → Asked
-asked file workers limits show = record { file = file; workers = workers; limits = limits; show = show }
+abbrev pub asked : List ℕ → ℕ → Limits → Telling → Asked
+asked file workers limits telling =
+    record { file = file; workers = workers; limits = limits; telling = telling }
+
+-- the command for a run that is told so
+abbrev pub asks_for : Telling → List ℕ → ℕ → Limits → Command
+asks_for (told.Reports show) file workers limits = command.Run file workers limits show
+asks_for told.Witness file workers limits = command.Witness file workers limits
 
 abbrev pub asks : Asked → Command
-asks a = command.Run a.file a.workers a.limits a.show
+asks a = asks_for a.telling a.file a.workers a.limits
 
 -- the replay that words ask for
 pub record Followed : Type 0 where
@@ -75,6 +82,7 @@ text_of held (command.Run file workers limits show) = held file
 text_of held (command.Code file) = held file
 text_of held (command.Sets file) = held file
 text_of held (command.Format file) = held file
+text_of held (command.Witness file workers limits) = held file
 text_of held (command.Gen size workers) = Some (generated_text size)
 text_of held (command.Replay file journal limits) = held file
 
@@ -85,6 +93,7 @@ IsAbout (command.Run file workers limits show) name = file ≡ name
 IsAbout (command.Code file) name = file ≡ name
 IsAbout (command.Sets file) name = file ≡ name
 IsAbout (command.Format file) name = file ≡ name
+IsAbout (command.Witness file workers limits) name = file ≡ name
 IsAbout (command.Gen size workers) name = ⊥
 IsAbout (command.Replay file journal limits) name = file ≡ name
 
@@ -95,6 +104,7 @@ FollowsUnder (command.Run file workers limits show) name = ⊥
 FollowsUnder (command.Code file) name = ⊥
 FollowsUnder (command.Sets file) name = ⊥
 FollowsUnder (command.Format file) name = ⊥
+FollowsUnder (command.Witness file workers limits) name = ⊥
 FollowsUnder (command.Gen size workers) name = ⊥
 FollowsUnder (command.Replay file journal limits) name = journal ≡ name
 
@@ -110,6 +120,7 @@ Breaks (command.Run file workers limits show) text r = BreaksOne text r
 Breaks (command.Code file) text r = BreaksOne text r
 Breaks (command.Sets file) text r = BreaksFirst text r
 Breaks (command.Format file) text r = HasNoLayout text r
+Breaks (command.Witness file workers limits) text r = BreaksOne text r
 Breaks (command.Gen size workers) text r = BreaksOne text r
 Breaks (command.Replay file journal limits) text r = BreaksOne text r
 
@@ -120,6 +131,7 @@ Keeps (command.Run file workers limits show) text = KeepsAll text
 Keeps (command.Code file) text = KeepsAll text
 Keeps (command.Sets file) text = IsAnalysed text
 Keeps (command.Format file) text = (out : List ℕ) × HasLayout text out
+Keeps (command.Witness file workers limits) text = KeepsAll text
 Keeps (command.Gen size workers) text = KeepsAll text
 Keeps (command.Replay file journal limits) text = KeepsAll text
 
@@ -130,6 +142,7 @@ asks_text (command.Run file workers limits show) = ⊥
 asks_text (command.Code file) = Unit {0}
 asks_text (command.Sets file) = Unit {0}
 asks_text (command.Format file) = Unit {0}
+asks_text (command.Witness file workers limits) = ⊥
 asks_text (command.Gen size workers) = ⊥
 asks_text (command.Replay file journal limits) = ⊥
 
@@ -140,6 +153,7 @@ asks_run (command.Run file workers limits show) = Unit {0}
 asks_run (command.Code file) = ⊥
 asks_run (command.Sets file) = ⊥
 asks_run (command.Format file) = ⊥
+asks_run (command.Witness file workers limits) = Unit {0}
 asks_run (command.Gen size workers) = Unit {0}
 asks_run (command.Replay file journal limits) = ⊥
 
@@ -150,6 +164,7 @@ asks_replay (command.Run file workers limits show) = ⊥
 asks_replay (command.Code file) = ⊥
 asks_replay (command.Sets file) = ⊥
 asks_replay (command.Format file) = ⊥
+asks_replay (command.Witness file workers limits) = ⊥
 asks_replay (command.Gen size workers) = ⊥
 asks_replay (command.Replay file journal limits) = Unit {0}
 
@@ -164,6 +179,7 @@ CanRead held (command.Run file workers limits show) = IfSome (held file) KeepsAl
 CanRead held (command.Code file) = ⊥
 CanRead held (command.Sets file) = ⊥
 CanRead held (command.Format file) = ⊥
+CanRead held (command.Witness file workers limits) = IfSome (held file) KeepsAll
 CanRead held (command.Gen size workers) = ⊥
 CanRead held (command.Replay file journal limits) = IfSome (held file) KeepsAll × IfSome (held journal) IsJournalText
 
@@ -174,6 +190,7 @@ Makes (command.Run file workers limits show) text out line = ⊥
 Makes (command.Code file) text out line = HasListing text out × (line ≡ [])
 Makes (command.Sets file) text out line = HasSets text out × (line ≡ [])
 Makes (command.Format file) text out line = HasLayout text out × (line ≡ [])
+Makes (command.Witness file workers limits) text out line = ⊥
 Makes (command.Gen size workers) text out line = ⊥
 Makes (command.Replay file journal limits) text out line = ⊥
 
@@ -184,5 +201,6 @@ asks_all (command.Run file workers limits show) = Unit {0}
 asks_all (command.Code file) = Unit {0}
 asks_all (command.Sets file) = ⊥
 asks_all (command.Format file) = ⊥
+asks_all (command.Witness file workers limits) = Unit {0}
 asks_all (command.Gen size workers) = Unit {0}
 asks_all (command.Replay file journal limits) = Unit {0}

@@ -7,7 +7,7 @@ use Rattle.sp_words.specs.declared.command.Command.TheVariants as command
 use Rattle.superpascal.specs.declared.ending.Ending.{Ending}
 use Rattle.superpascal.specs.Answers.{has_output, line_of, status_of}
 use Rattle.superpascal.specs.Calls.{All, Call, IsUnwritten, OfText, Part}
-use Rattle.superpascal.specs.Runs.{generated_output, run_notes}
+use Rattle.superpascal.specs.Runs.{generated_output, told_notes, told_output}
 use Rattle.superpascal.specs.Texts.{Asked, Makes, asks}
 
 -- the output and the notes were written whole; with status 6 a first part of each
@@ -23,8 +23,9 @@ WritesLine c = (ending : Ending) × (c.outcome.status ≡ status_of ending) × (
 pub record Writing (c : Call) : Type 0 where
   -- what a command makes of the text alone
   pub made : OfText c (λ d text. (out line : List ℕ) → Makes d text out line → c.outcome.status ≡ 0 → All c.output out × All c.notes line)
-  -- the output of a run, and its end, verdict and reports, or its journal
-  pub ran : (a : Asked) → command_of c.words ≡ Some (asks a) → (r : Ran) → c.outcome.ran ≡ Some r → AreWritten c r.closed.output (run_notes c.reports a.show r)
+  -- the output of a run, or the witness of its race; and its end, verdict and reports, or its journal
+  pub ran : (a : Asked) → command_of c.words ≡ Some (asks a) → (r : Ran) → c.outcome.ran ≡ Some r
+      → AreWritten c (told_output a.telling r) (told_notes c.reports a.telling r)
   -- those of `gen`
   pub generated : (size workers : ℕ) → command_of c.words ≡ Some (command.Gen size workers) → (r : Ran) → c.outcome.ran ≡ Some r → AreWritten c (generated_output size r) []
   -- else a line, and no output

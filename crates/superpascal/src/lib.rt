@@ -7,6 +7,7 @@ mod notes;
 mod outcome;
 mod replays;
 mod runs;
+mod telling;
 mod texts;
 mod top;
 mod writing;

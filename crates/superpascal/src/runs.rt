@@ -1,19 +1,20 @@
 //! The commands that run a program.
 
 ghost use Rattle.std.specs.Prelude.{ℕ, ◌≤◌, List, IfOk};
-ghost use Rattle.sp_base.specs.declared.limits.Limits.{Limits as ALimits};
 ghost use Rattle.sp_gen.specs.Generated.{generated_text};
 ghost use Rattle.sp_report.specs.Telling.{AreFresh, reports};
 ghost use Rattle.sp_tree.specs.PlainChecked.{Program as Checked};
 ghost use Rattle.sp_words.specs.Ranges.{IsInRange};
 ghost use Rattle.superpascal.specs.Answering.{CodeAnswer, CommandCause, GeneratedAnswer, GeneratedCause, InputAnswer, RanAnswer, RunAnswer};
 ghost use Rattle.superpascal.specs.Causes.{files, stream};
-ghost use Rattle.superpascal.specs.Runs.{HasCode, IsRunOf};
+ghost use Rattle.superpascal.specs.Runs.{HasCode, IsRunOf, IsSomeRun, Reports as AReports};
 ghost use Rattle.superpascal.specs.Texts.{asked, asks};
+ghost use Rattle.superpascal.specs.declared.telling.Telling.TheVariants.{Reports, Witness};
 
 use crate::answers::{halted, silent, unloaded};
 use crate::ending::{Answer, Ending};
-use crate::notes::{ending_of, generated_output, run_notes};
+use crate::notes::{end_lines, ending_of, generated_output, run_notes, witness_text};
+use crate::telling::Telling;
 use crate::texts::LONGEST;
 use sp_base::{Limits, Memory, Show, Text};
 use sp_code::Code;
@@ -51,11 +52,11 @@ fn run_code<R: Threads + Wait + Sync, G: Gate>(
     execute(rt, alloc, code, input, workers, limits, gate)
 }
 
-// Tells of a run.
-fn ran_answer(alloc: Global, watchers: Vec<Box<dyn Watcher>>, show: Show, ran: Ran) -> Answer
+// Tells of a run by its output and its end, its verdict and these reports, or by its journal.
+fn reported(alloc: Global, watchers: Vec<Box<dyn Watcher>>, show: Show, ran: Ran) -> Answer
     requires fresh { AreFresh told watchers.items }
-    requires run { (program : List ℕ) × (input : List ℕ) × (workers : ℕ) × (limits : ALimits) × IsRunOf program input workers limits ran }
-    ensures { RanAnswer (reports text title watchers.items) show ran result }
+    requires run { IsSomeRun ran }
+    ensures { RanAnswer (reports text title watchers.items) (Reports show) ran result }
 {
     match run_notes(alloc, watchers, show, &ran) {
         Ok(notes) => Answer {
@@ -68,6 +69,37 @@ fn ran_answer(alloc: Global, watchers: Vec<Box<dyn Watcher>>, show: Show, ran: R
     }
 }
 
+// Tells of a run by the witness of its race, its end and its verdict.
+fn witnessed(alloc: Global, ran: Ran) -> Answer
+    requires run { IsSomeRun ran }
+    ensures { (made : AReports) → RanAnswer made Witness ran result }
+{
+    let Ok(output) = witness_text(alloc, &ran) else {
+        return silent(alloc, Ending::OutOfMemory);
+    };
+    match end_lines(alloc, &ran) {
+        Ok(notes) => Answer {
+            ending: ending_of(ran.closed.end()),
+            ran: Some(ran),
+            output: Some(Text::of(output)),
+            notes: Text::of(notes),
+        },
+        Err(_) => silent(alloc, Ending::OutOfMemory),
+    }
+}
+
+// Tells of a run.
+fn ran_answer(alloc: Global, watchers: Vec<Box<dyn Watcher>>, telling: Telling, ran: Ran) -> Answer
+    requires fresh { AreFresh told watchers.items }
+    requires run { IsSomeRun ran }
+    ensures { RanAnswer (reports text title watchers.items) telling ran result }
+{
+    match telling {
+        Telling::Reports(show) => reported(alloc, watchers, show, ran),
+        Telling::Witness => witnessed(alloc, ran),
+    }
+}
+
 // Runs the code of a text on an input, and tells of the run.
 fn code_answer<R: Threads + Wait + Sync, G: Gate>(
     rt: &R,
@@ -76,7 +108,7 @@ fn code_answer<R: Threads + Wait + Sync, G: Gate>(
     input: Text,
     workers: u32,
     limits: &Limits,
-    show: Show,
+    telling: Telling,
     gate: &G,
     watchers: Vec<Box<dyn Watcher>>,
 ) -> Answer
@@ -84,10 +116,10 @@ fn code_answer<R: Threads + Wait + Sync, G: Gate>(
     requires range { IsInRange workers limits.now }
     requires code { (program : List ℕ) × (tree : Checked) × HasCode program tree code }
     ensures { (program : List ℕ) (tree : Checked) → HasCode program tree code
-        → CodeAnswer (reports text title watchers.items) show workers limits.now program input result }
+        → CodeAnswer (reports text title watchers.items) telling workers limits.now program input result }
 {
     match run_code(rt, alloc, code, input, workers, limits, gate) {
-        Ok(ran) => ran_answer(alloc, watchers, show, ran),
+        Ok(ran) => ran_answer(alloc, watchers, telling, ran),
         Err(_) => silent(alloc, Ending::OutOfMemory),
     }
 }
@@ -100,7 +132,7 @@ fn input_answer<R: Threads + Wait + Sync, I: Source, G: Gate>(
     input: &mut I,
     workers: u32,
     limits: &Limits,
-    show: Show,
+    telling: Telling,
     gate: &G,
     watchers: Vec<Box<dyn Watcher>>,
 ) -> Answer
@@ -109,11 +141,11 @@ fn input_answer<R: Threads + Wait + Sync, I: Source, G: Gate>(
     requires code { (program : List ℕ) × (tree : Checked) × HasCode program tree code }
     ensures { (program : List ℕ) (tree : Checked) → HasCode program tree code
         → InputAnswer (stream (I.left input.old) (I.left input.new) (I.faults input.old) (I.faults input.new))
-        (reports text title watchers.items) show workers limits.now program result }
+        (reports text title watchers.items) telling workers limits.now program result }
 {
     match read_all(alloc, input, LONGEST_INPUT) {
         Ok(bytes) => code_answer(
-            rt, alloc, code, bytes, workers, limits, show, gate, watchers,
+            rt, alloc, code, bytes, workers, limits, telling, gate, watchers,
         ),
         Err(ReadError::TooLong) => silent(alloc, Ending::TooLong),
         Err(ReadError::Failed) => silent(alloc, Ending::ReadFault),
@@ -129,14 +161,14 @@ fn program_answer<R: Threads + Wait + Sync, I: Source, G: Gate>(
     input: &mut I,
     workers: u32,
     limits: &Limits,
-    show: Show,
+    telling: Telling,
     gate: &G,
     watchers: Vec<Box<dyn Watcher>>,
 ) -> Answer
     requires fresh { AreFresh told watchers.items }
     requires range { IsInRange workers limits.now }
     ensures { RunAnswer (stream (I.left input.old) (I.left input.new) (I.faults input.old) (I.faults input.new))
-        (reports text title watchers.items) show workers limits.now program.now result }
+        (reports text title watchers.items) telling workers limits.now program.now result }
 {
     match compiled_apart(rt, alloc, program) {
         Ok(compiled) => input_answer(
@@ -146,7 +178,7 @@ fn program_answer<R: Threads + Wait + Sync, I: Source, G: Gate>(
             input,
             workers,
             limits,
-            show,
+            telling,
             gate,
             watchers,
         ),
@@ -161,7 +193,7 @@ pub(crate) fn run_answer<R: Threads + Wait + Sync, L: Library, I: Source, G: Gat
     file: &str,
     workers: u32,
     limits: &Limits,
-    show: Show,
+    telling: Telling,
     library: &mut L,
     input: &mut I,
     gate: &G,
@@ -172,7 +204,7 @@ pub(crate) fn run_answer<R: Threads + Wait + Sync, L: Library, I: Source, G: Gat
     ensures { CommandCause (files (L.held library.old) (L.faults library.old) (L.faults library.new))
         (stream (I.left input.old) (I.left input.new) (I.faults input.old) (I.faults input.new))
         (reports text title watchers.items)
-        (asks (asked file.now workers limits.now show)) result }
+        (asks (asked file.now workers limits.now telling)) result }
 {
     match library.load(alloc, file, LONGEST) {
         Ok(text) => program_answer(
@@ -182,7 +214,7 @@ pub(crate) fn run_answer<R: Threads + Wait + Sync, L: Library, I: Source, G: Gat
             input,
             workers,
             limits,
-            show,
+            telling,
             gate,
             watchers,
         ),
@@ -192,7 +224,7 @@ pub(crate) fn run_answer<R: Threads + Wait + Sync, L: Library, I: Source, G: Gat
 
 // Tells of a run of the generated program of this size.
 fn generated_ran(alloc: Global, size: u32, ran: Ran) -> Answer
-    requires run { (program : List ℕ) × (input : List ℕ) × (workers : ℕ) × (limits : ALimits) × IsRunOf program input workers limits ran }
+    requires run { IsSomeRun ran }
     ensures { GeneratedAnswer size ran result }
 {
     match generated_output(alloc, size, &ran) {

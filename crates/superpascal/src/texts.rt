@@ -74,7 +74,10 @@ fn make(rt: &impl Threads, alloc: Global, command: &Command, text: &[u8]) -> Res
         Command::Code(_) => list(rt, alloc, text),
         Command::Sets(_) => tell_sets(rt, alloc, text),
         Command::Format(_) => lay_out(alloc, text),
-        Command::Run { .. } | Command::Gen { .. } | Command::Replay { .. } => unreachable!(),
+        Command::Run { .. }
+        | Command::Witness { .. }
+        | Command::Gen { .. }
+        | Command::Replay { .. } => unreachable!(),
     }
 }
 

@@ -14,14 +14,16 @@ use crate::ending::{Answer, Ending};
 use crate::outcome::Outcome;
 use crate::replays::replay_answer;
 use crate::runs::{generated_answer, run_answer};
+use crate::telling::Telling;
 use crate::texts::text_answer;
 use crate::writing::write;
 use sp_compile::one_listing;
-use sp_execute::one_unfit_entry;
+use sp_execute::{one_unfit_entry, races_are_shown};
 use sp_format::one_layout;
 use sp_front::{accepted_texts_are_disjoint, one_answer, one_compilation};
 use sp_journal::one_journal_of_a_text;
 use sp_outside::{Gate, Library, Sink, Source};
+use sp_ready::accepted_programs_are_ready;
 use sp_report::Watcher;
 use sp_sets::one_sets_text;
 use sp_words::{Command, WordsError, accepted_options_are_in_range, read_words};
@@ -60,7 +62,23 @@ fn command_answer<R: Threads + Wait + Sync, L: Library, I: Source, G: Gate>(
             file.text(),
             *workers,
             limits,
-            *show,
+            Telling::Reports(*show),
+            library,
+            input,
+            gate,
+            watchers,
+        ),
+        Command::Witness {
+            file,
+            workers,
+            limits,
+        } => run_answer(
+            rt,
+            alloc,
+            file.text(),
+            *workers,
+            limits,
+            Telling::Witness,
             library,
             input,
             gate,
@@ -158,13 +176,17 @@ fn answer_and_write<R: Threads + Wait + Sync, L: Library, I: Source, O: Sink, N:
 /// | 9 | where a line of the journal is no text of a next entry | `bad journal N`, the first such line, counted from 1 |
 /// | 9 | where the program cannot make an entry of the journal there | `journal unfit N`, the first such entry, counted from 0 |
 ///
+/// `witness` runs as `run` does, and writes to `output`, in place of what the program wrote, the witness of the race that its
+/// verdict names: a journal that `replay` follows to the fault F6. Where there is no race, it writes nothing there. Its notes are
+/// the end and the verdict.
+///
 /// `gen` runs the program that it generates on no input, reads no file and no input, and writes the size, the output, the number of
 /// entries, the end and the verdict to `output`; its status is that of the run.
 ///
 /// `replay` runs the program of the text along a journal, on the calling thread, and gives no run back.
 ///
 /// The order of work is: the words; the load; the rules of the text and its code; for `replay` the load of the journal and its text;
-/// the input, for `run` and `replay` alone; the run; the verdict; the texts; writing `output`; writing `notes`. The first step that
+/// the input, for `run`, `witness` and `replay` alone; the run; the verdict; the texts; writing `output`; writing `notes`. The first step that
 /// ends the call decides the status. Where the words, a load, the text, the journal, the input or memory end the call, nothing is written to `output`. After a failed write to `output` nothing
 /// is written to `notes`. A text is compiled by a thread of `rt` with a large stack, so a chain of operators may be as long as the
 /// text; the workers are threads of `rt` too.
@@ -194,6 +216,9 @@ pub fn superpascal<R: Threads + Wait + Sync, L: Library, I: Source, O: Sink, N: 
     one_sets_text();
     one_journal_of_a_text();
     one_unfit_entry();
+    races_are_shown();
+    accepted_programs_are_ready();
+    accepted_options_are_in_range();
     accepted_texts_are_disjoint();
     answer_and_write(
         rt, alloc, words, library, input, output, notes, gate, watchers,

@@ -234,7 +234,8 @@ pub fn expect_given(
 
 // Whether a call with these words and this status tells of a run.
 fn tells_of_a_run(words: &[&str], status: u8) -> bool {
-    let runs = matches!(words.first(), Some(command) if *command == "run" || *command == "gen");
+    let runs =
+        matches!(words.first(), Some(command) if ["run", "gen", "witness"].contains(command));
     runs && (status == 0 || status == 3 || status == 4)
 }
 

@@ -18,4 +18,5 @@ mod runs;
 #[cfg(test)]
 mod texts;
 #[cfg(test)]
+mod witnesses;
 mod workers;

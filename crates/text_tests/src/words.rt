@@ -5,7 +5,8 @@ use std::alloc::{AllocError, Global};
 use std::process::Abort;
 
 /// The words as a command line in one text: the command, its file or its size and, of `run` and `gen`, the workers;
-/// of `run` the limits in their order and the report too, and of `replay` the journal and the limits.
+/// of `run` the limits in their order and the report too, of `witness` the limits, and of `replay` the journal and the
+/// limits.
 fn reading(alloc: Global, line: &[&str]) -> Result<String, AllocError> {
     let mut words = Vec::new(alloc);
     for word in line {
@@ -42,6 +43,14 @@ fn shown(alloc: Global, command: &Command) -> Result<String, AllocError> {
         } => {
             let counts = limited(alloc, limits)?;
             format!(in alloc; "replay {} {} {counts}", file.text(), journal.text())
+        }
+        Command::Witness {
+            file,
+            workers,
+            limits,
+        } => {
+            let counts = limited(alloc, limits)?;
+            format!(in alloc; "witness {} {workers} {counts}", file.text())
         }
     }
 }
@@ -170,6 +179,29 @@ const REPLAYS_REFUSED: [&[&str]; 5] = [
 fn replays_refused(rt: HostRuntime) -> Result<(), AllocError> {
     for line in REPLAYS_REFUSED {
         check(&rt, rt.alloc(), line, "bad words")?;
+    }
+    Ok(())
+}
+
+const WITNESSES: [Row; 6] = [
+    (
+        &["witness", "a.sp"],
+        "witness a.sp 4 10000000 1000 4194304 100000 100000 1000000 16777216",
+    ),
+    (
+        &["witness", "--output=1", "--workers", "64", "--", "-a"],
+        "witness -a 64 10000000 1000 4194304 100000 100000 1000000 1",
+    ),
+    (&["witness"], "bad words"),
+    (&["witness", "a", "b"], "bad words"),
+    (&["witness", "a", "--show=end"], "bad words"),
+    (&["witness", "a", "--workers=65"], "bad words"),
+];
+
+#[test]
+fn witnesses(rt: HostRuntime) -> Result<(), AllocError> {
+    for (line, expected) in WITNESSES {
+        check(&rt, rt.alloc(), line, expected)?;
     }
     Ok(())
 }

@@ -1,7 +1,7 @@
 use Rattle.std.proofs.Common.{codes, [], Ok}
 use Rattle.clap.specs.Words.{App, Shape, with_subcommand}
 use Rattle.clap.specs.declared.builder.value_parser.ValueParser.{ValueParser}
-use Rattle.sp_words.specs.Parsers.{bare_line, gen_parsers, limit_parsers, replay_shape, run_parsers, shape_with}
+use Rattle.sp_words.specs.Parsers.{bare_line, gen_parsers, limit_parsers, replay_shape, run_parsers, shape_with, witness_parsers}
 use Rattle.sp_words.proofs.ParserLemmas.{added, added_with, shaped, shaped_with}
 use Rattle.sp_words.proofs.parser.parser.Goals as goal
 
@@ -17,6 +17,10 @@ to_run q = more (shape_with (codes "run") (run_parsers q)) (more (shape_with (co
 abbrev to_format : ValueParser → App
 to_format q = more (shape_with (codes "format") []) (more (shape_with (codes "sets") []) (more (shape_with (codes "code") []) (to_run q)))
 
+-- up to `gen`
+abbrev to_gen : ValueParser → App
+to_gen q = more (shape_with (codes "gen") gen_parsers) (to_format q)
+
 pub returns : goal.returns
 returns c =
     let check = added (more (shape_with (codes "check") [])) bare_line (Ok c.bare_line.result) _ c.with_plain-line.ensures c.bare_line.ensures in
@@ -25,4 +29,7 @@ returns c =
     let sets = added_with (more (shape_with (codes "sets") [])) (λ q. more (shape_with (codes "code") []) (to_run q)) _ _ c.with_plain-line-3.ensures code in
     let format = added_with (more (shape_with (codes "format") [])) (λ q. more (shape_with (codes "sets") []) (more (shape_with (codes "code") []) (to_run q))) _ _ c.with_plain-line-4.ensures sets in
     let gen = added_with (more (shape_with (codes "gen") gen_parsers)) to_format _ _ (shaped (shape_with (codes "gen") gen_parsers) _ _ _ c.with_command-line-2.ensures c.gen_command.ensures.local c.gen_command.ensures.shape) format in
-    added_with (more (replay_shape limit_parsers)) (λ q. more (shape_with (codes "gen") gen_parsers) (to_format q)) _ _ (shaped (replay_shape limit_parsers) _ _ _ c.with_command.ensures c.replay_command.ensures.local c.replay_command.ensures.shape) gen
+    let replay = added_with (more (replay_shape limit_parsers)) to_gen _ _
+    (shaped (replay_shape limit_parsers) _ _ _ c.with_command-line-3.ensures c.replay_command.ensures.local c.replay_command.ensures.shape) gen in
+    added_with (more (shape_with (codes "witness") witness_parsers)) (λ q. more (replay_shape limit_parsers) (to_gen q)) _ _
+    (shaped (shape_with (codes "witness") witness_parsers) _ _ _ c.with_command.ensures c.witness_command.ensures.local c.witness_command.ensures.shape) replay

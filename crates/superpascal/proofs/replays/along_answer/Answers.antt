@@ -1,5 +1,5 @@
 use Rattle.std.proofs.Common.{Ok, Err}
-use Rattle.superpascal.proofs.Telling.{replay_ends}
+use Rattle.superpascal.proofs.Tellable.{replay_ends}
 use Rattle.superpascal.proofs.replays.along_answer.Goals as goal
 
 pub replayed_answer-requires : goal.replayed_answer-requires

@@ -1,11 +1,15 @@
 use Rattle.std.proofs.Common.{refl, subst}
 use Rattle.sp_words.specs.Ranges.{AreInRange}
+use Rattle.superpascal.specs.declared.telling.Telling.TheVariants as told
 use Rattle.superpascal.proofs.Parts.{command_by, command_of_generated, command_of_text, run_by}
 use Rattle.superpascal.proofs.Replaying.{follow_by}
 use Rattle.superpascal.proofs.top.command_answer.Goals as goal
 
 pub run_answer-requires-clause-range : goal.run_answer-requires-clause-range
 run_answer-requires-clause-range g c κs within = subst AreInRange c.in-Run.is (c.accepted_options_are_in_range.ensures.accepted c.requires.asked.0 c.args.command.now c.requires.asked.1)
+
+pub run_answer-requires-in-Witness-clause-range : goal.run_answer-requires-in-Witness-clause-range
+run_answer-requires-in-Witness-clause-range g c κs within = subst AreInRange c.in-Witness.is (c.accepted_options_are_in_range.ensures.accepted c.requires.asked.0 c.args.command.now c.requires.asked.1)
 
 pub generated_answer-requires-clause-size : goal.generated_answer-requires-clause-size
 generated_answer-requires-clause-size g c κs within = (subst AreInRange c.in-Gen.is (c.accepted_options_are_in_range.ensures.accepted c.requires.asked.0 c.args.command.now c.requires.asked.1)).0
@@ -14,7 +18,10 @@ pub generated_answer-requires-clause-workers : goal.generated_answer-requires-cl
 generated_answer-requires-clause-workers g c κs within = (subst AreInRange c.in-Gen.is (c.accepted_options_are_in_range.ensures.accepted c.requires.asked.0 c.args.command.now c.requires.asked.1)).1
 
 pub returns-in-Run : goal.returns-in-Run
-returns-in-Run g c = command_by _ _ _ c.args.command.now _ c.run_answer.result (run_by _ _ c.text.result.now _ _ _ c.in-Run.is c.text.ensures) c.run_answer.ensures
+returns-in-Run g c =
+    command_by _ _ _ c.args.command.now _ c.run_answer.result
+    (run_by c.args.command.now _ c.text.result.now c.in-Run.workers c.in-Run.limits (told.Reports c.in-Run.show) c.in-Run.is c.text.ensures)
+    c.run_answer.ensures
 
 pub returns-in-Gen : goal.returns-in-Gen
 returns-in-Gen g c = command_by _ _ _ c.args.command.now _ c.generated_answer.result c.in-Gen.is (command_of_generated _ _ _ _ _ c.generated_answer.result (refl, refl) c.generated_answer.ensures)
@@ -27,3 +34,9 @@ replay_answer-requires g c = record { range = subst AreInRange c.in-Replay.is (c
 
 pub returns-in-Replay : goal.returns-in-Replay
 returns-in-Replay g c = command_by _ _ _ c.args.command.now _ c.replay_answer.result (follow_by _ _ _ c.text-in-Replay.result.now c.text-in-Replay-2.result.now _ c.in-Replay.is c.text-in-Replay.ensures c.text-in-Replay-2.ensures) (c.replay_answer.ensures _)
+
+pub returns-in-Witness : goal.returns-in-Witness
+returns-in-Witness g c =
+    command_by _ _ _ c.args.command.now _ c.run_answer-in-Witness.result
+    (run_by c.args.command.now _ c.text-in-Witness.result.now c.in-Witness.workers c.in-Witness.limits told.Witness c.in-Witness.is
+    c.text-in-Witness.ensures) c.run_answer-in-Witness.ensures

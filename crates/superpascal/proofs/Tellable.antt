@@ -16,7 +16,7 @@ use Rattle.sp_replay.specs.declared.replayer.Replayed.{Replayed}
 use Rattle.sp_runner.specs.Ends.{EndsAt}
 use Rattle.superpascal.specs.Answering.{HasEndLines, IsTellable}
 use Rattle.superpascal.specs.Replays.{IsReplayOf}
-use Rattle.superpascal.specs.Runs.{IsRunOf}
+use Rattle.superpascal.specs.Runs.{IsRunOf, IsSomeRun}
 
 abbrev pub Ends : End → Type 0
 Ends x = HasLines x
@@ -33,6 +33,10 @@ ends_of text input workers limits r h = ends_at r.closed.journal.entries h.run.g
 
 pub tellable : (text input : List ℕ) (workers : ℕ) (limits : Limits) (r : Ran) → IsRunOf text input workers limits r → IsTellable r
 tellable text input workers limits r h = (h.meant.about.names, ends_of text input workers limits r h)
+
+-- a run that is known can be told
+pub known_tellable : (r : Ran) → IsSomeRun r → IsTellable r
+known_tellable r (text, input, workers, limits, range, h) = tellable text input workers limits r h
 
 -- no replay does
 meant_ends : (g : Setting) (s : StateOf g) (o : Option End) → EndsSo g s o → HasEndLines o

@@ -1,0 +1,12 @@
+//! How a run is told.
+
+use sp_base::Show;
+
+/// How a run is told.
+#[derive(Clone, Copy)]
+pub enum Telling {
+    /// By its output; by its end, its verdict and these reports, or by its journal.
+    Reports(Show),
+    /// By the witness of its race, in place of its output; by its end and its verdict.
+    Witness,
+}
