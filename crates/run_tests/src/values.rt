@@ -3,7 +3,7 @@
 use crate::maker::{LIMITS, Maker, X, Y, is_done};
 use sp_base::{Boxed, Fault, Limits, MAXINT, Memory, Text};
 use sp_run::Meant;
-use sp_tree::{BinaryOp, ExprForm, Form, Stmt};
+use sp_tree::{BinaryOp, Expr, ExprForm, Form, Stmt};
 use std::alloc::Global;
 use std::test::Fail;
 
@@ -15,24 +15,34 @@ fn quotient(m: &Maker, a: i64, b: i64) -> Result<ExprForm, Memory> {
     Ok(ExprForm::Binary(BinaryOp::Div, a, b))
 }
 
-// X becomes 85 div 2, and is written.
-fn quotient_written(alloc: Global, names: &[u32]) -> Result<Meant, Memory> {
+// The product of X and a number.
+fn product(m: &Maker, n: i64) -> Result<Expr, Memory> {
+    let a = Boxed::new(m.alloc, m.read(0, X))?;
+    let b = Boxed::new(m.alloc, m.number(n))?;
+    Ok(m.expr(ExprForm::Binary(BinaryOp::Mul, a, b)))
+}
+
+// X becomes 6, and X * 7 is written.
+fn product_written(alloc: Global, names: &[u32]) -> Result<Meant, Memory> {
     let m = Maker { alloc };
-    let body = m.both(m.assign(X, quotient(&m, 85, 2)?), m.write(X))?;
+    let written = m.stmt(Form::WriteValue(product(&m, 7)?, None));
+    let body = m.both(m.assign(X, ExprForm::Number(6)), written)?;
     m.run_all(body, names)
 }
 
 #[test]
-fn a_quotient_is_not_yet_written(rt: HostRuntime) -> Result<(), Fail> {
-    let one = quotient_written(rt.alloc(), &[0])?;
-    assert!(rt; one.steps == 1 && one.output.bytes() == b"".as_slice() && one.end.is_none());
+fn a_schedule_that_stops_before_the_end(rt: HostRuntime) -> Result<(), Fail> {
+    let two = product_written(rt.alloc(), &[0, 0])?;
+    assert!(rt; two.steps == 2 && two.output.bytes() == b"42".as_slice() && two.end.is_none());
     Ok(())
 }
 
 #[test]
-fn a_quotient_is_written(rt: HostRuntime) -> Result<(), Fail> {
-    let all = quotient_written(rt.alloc(), &[0, 0, 0, 0])?;
-    assert!(rt; is_done(&all, 3, b"42"));
+fn a_schedule_to_the_end(rt: HostRuntime) -> Result<(), Fail> {
+    for names in [[0, 0, 0].as_slice(), &[0, 0, 0, 0]] {
+        let all = product_written(rt.alloc(), names)?;
+        assert!(rt; is_done(&all, 3, b"42"));
+    }
     Ok(())
 }
 
