@@ -19,4 +19,5 @@ mod runs;
 mod texts;
 #[cfg(test)]
 mod witnesses;
+#[cfg(test)]
 mod workers;
