@@ -65,7 +65,7 @@ pub record Statuses (c : Call) : Type 0 where
   pub memory : c.outcome.status ≡ 8 → IsUnwritten c.output × (c.outcome.ran ≡ None)
   -- nothing else: where the words ask for a command that refuses the text for no rule, and nothing outside fails
   pub complete : OfText c (λ d text. Keeps d text → IsQuiet c d → IsFinal c.outcome.status ⊎ ((c.outcome.status ≡ 8) ⊎ (asks_replay d × (c.outcome.status ≡ 9))))
-  -- the source is read by `run` and `replay` alone, and only where what they load before is right
+  -- the source is read by `run`, `witness` and `replay` alone, and only where what they load before is right
   pub source : IsUntouched c.source ⊎ ((d : Command) × (command_of c.words ≡ Some d) × CanRead c.files.held d)
-  -- the program of a text that `check`, `code`, `run`, `replay` or `gen` goes through is disjoint
+  -- the program of a text that `check`, `code`, `run`, `witness`, `replay` or `gen` goes through is disjoint
   pub disjoint : OfText c (λ d text. asks_all d → IsFinal c.outcome.status → IsDisjointText text)
