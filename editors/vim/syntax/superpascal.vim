@@ -1,4 +1,4 @@
-" Vim syntax file for SuperPascal (.sp, .pas). Copy it to ~/.vim/syntax/ and set: autocmd BufRead,BufNewFile *.sp,*.pas set filetype=superpascal
+" Vim syntax file for SuperPascal.
 if exists("b:current_syntax")
   finish
 endif
@@ -24,10 +24,15 @@ syntax match superpascalRefused "\<\d\+\(\.\d\+\|[eE][+-]\=\d\+\)\|[\^@/]"
 " The name that a heading declares.
 syntax match superpascalName "\(\<\(program\|procedure\|function\)\s\+\)\@<=\a\w*"
 syntax match superpascalSign ":=\|<>\|<=\|>=\|\.\.\||"
-syntax match superpascalText "'\([^'\n\r]\|''\)*'"
-" A comment is closed as it was opened, and does not nest.
+" The closing quote of a text is one that no other quote follows, and stands on the same line.
+syntax match superpascalText "'\([^'\n\r]\|''\)*''\@!"
+syntax match superpascalUnfinished "'\([^'\r]\|''\)*\(\r\|$\)"
+" A comment is closed as it was opened, and does not nest. Where no end follows, the rest of the text is in it.
 syntax region superpascalComment start="{" end="}"
 syntax region superpascalComment start="(\*" end="\*)"
+syntax region superpascalUnfinished start="{\(\_[^}]*}\)\@!" end="\%$"
+syntax region superpascalUnfinished start="(\*\(\_.\{-}\*)\)\@!" end="\%$"
+syntax sync fromstart
 
 highlight default link superpascalDeclaration Keyword
 highlight default link superpascalConditional Conditional
@@ -36,6 +41,7 @@ highlight default link superpascalParallel Special
 highlight default link superpascalStatement Statement
 highlight default link superpascalOperator Operator
 highlight default link superpascalRefused Error
+highlight default link superpascalUnfinished Error
 highlight default link superpascalType Type
 highlight default link superpascalConstant Constant
 highlight default link superpascalFunction Function
