@@ -2,5 +2,5 @@ program answer;
 var x: integer;
 begin
   x := 6;
-  write(x * 7)
+  writeln(x * 7)
 end.
