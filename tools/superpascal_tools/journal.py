@@ -1,0 +1,168 @@
+"""Journals and timelines: reading them, the order of names, and the offers that race."""
+from __future__ import annotations
+
+import re
+from typing import NamedTuple, Optional
+
+from .trouble import BAD_JOURNAL, Trouble
+
+ENTRY = re.compile(r"(0(?:/\d+\.\d+)*) (?:(fork) (\d+)|(send|receive) (0(?:/\d+\.\d+)*#\d+)|(fault) (F\d+)|(open|end|laid|pause))$")
+HEADS = ("superpascal journal 1", "superpascal journal 2", "timeline")
+OTHERS = ("census", "tree", "waiting")
+
+
+class Entry(NamedTuple):
+    """An entry: its process, what the process did, and the count of children, the channel or the fault."""
+
+    name: str
+    kind: str
+    argument: str
+
+    def __str__(self) -> str:
+        return " ".join(part for part in self if part)
+
+
+class Record(NamedTuple):
+    """What was told of a run: the lines of its end and verdict, where they are there, and its entries."""
+
+    head: list[str]
+    entries: list[Entry]
+
+
+def entry_of(line: str) -> Optional[Entry]:
+    """The entry that a line spells, if it does."""
+    got = ENTRY.match(line)
+    if got is None:
+        return None
+    name, *parts = got.groups()
+    kind = parts[0] or parts[2] or parts[4] or parts[6]
+    return Entry(name, kind, parts[1] or parts[3] or parts[5] or "")
+
+
+def read_record(text: str, strict: bool = True) -> Record:
+    """Reads what `--show journal`, `timeline` or `all` wrote; with the lines of the end and the verdict before it."""
+    lines = text.split("\n")
+    cut = lines.pop()
+    if cut and not strict:
+        lines.append(cut)
+    elif cut:
+        raise Trouble(BAD_JOURNAL, "line %d is cut off: %s" % (len(lines) + 1, cut[:80]))
+    head: list[str] = []
+    entries: list[Entry] = []
+    known: dict[str, str] = {}
+    part = ""
+    for number, line in enumerate(lines, 1):
+        if not part:
+            if line in HEADS:
+                part = line
+            else:
+                head.append(line)
+            continue
+        if line in OTHERS:
+            break
+        if part == "timeline":
+            index, _, line = line.partition(" ")
+            if index != str(len(entries)):
+                raise Trouble(BAD_JOURNAL, "line %d is no entry of a timeline: %s" % (number, (index + " " + line)[:80]))
+        entry = entry_of(line)
+        if entry is None:
+            raise Trouble(BAD_JOURNAL, "line %d is no entry of a journal: %s" % (number, line[:80]))
+        entries.append(Entry(*[known.setdefault(word, word) for word in entry]))
+    if not part:
+        raise Trouble(BAD_JOURNAL, "this is no journal and no timeline: it has no line `superpascal journal 2` or `timeline`")
+    return Record(head, entries)
+
+
+def journal_text(entries: list[Entry]) -> str:
+    """The entries as a journal that `replay` takes."""
+    return "superpascal journal 2\n" + "".join(str(entry) + "\n" for entry in entries)
+
+
+def order_of(name: str) -> list[tuple[int, ...]]:
+    """By what the names of processes are in order."""
+    return [tuple(map(int, pair.split("."))) for pair in name.split("/")[1:]]
+
+
+def parent_of(name: str) -> str:
+    """The name of the parent of a process that is not the root."""
+    return name.rpartition("/")[0]
+
+
+def racing(entries: list[Entry]) -> Optional[tuple[int, int]]:
+    """The least pair of offers that race, by the later one and then the earlier: as the program's verdict has it.
+
+    A clock has the number of known entries only for a process of which another one's later offer asks.
+    """
+    if any(entry.kind == "fault" for entry in entries):
+        return None
+    clocks: dict[str, dict[str, int]] = {"0": {}}
+    asked, met = who_is_asked(entries), partners(entries)
+    forks: dict[str, int] = {}
+    offers: dict[tuple[str, str], list[int]] = {}
+    for at, (name, kind, argument) in enumerate(entries):
+        if kind == "fork":
+            fork = forks[name] = forks.get(name, -1) + 1
+            given = {**clocks[name], name: at} if name in asked else clocks[name]
+            for child in range(int(argument)):
+                clocks["%s/%d.%d" % (name, fork, child)] = given
+        elif kind in ("send", "receive"):
+            those = offers.setdefault((argument, kind), [])
+            if those and not knows(entries, met, clocks[name], name, those[-1], at):
+                return next(it for it in those if not knows(entries, met, clocks[name], name, it, at)), at
+            those.append(at)
+            other = met.get(at, at)
+            if other < at:
+                partner = entries[other].name
+                both = merged(clocks[name], clocks[partner], at, [who for who in (name, partner) if who in asked])
+                clocks[name] = clocks[partner] = both
+        elif kind == "end" and name != "0":
+            parent = parent_of(name)
+            clocks[parent] = merged(clocks[parent], clocks.pop(name), at, [name] if name in asked else [])
+    return None
+
+
+def merged(one: dict[str, int], other: dict[str, int], at: int, those: list[str]) -> dict[str, int]:
+    """What two processes know together, and all that these have done up to the entry `at`."""
+    if one is other and not those:
+        return one
+    both = {**one}
+    for who, count in other.items():
+        if count > both.get(who, -1):
+            both[who] = count
+    for who in those:
+        both[who] = at
+    return both
+
+
+def knows(entries: list[Entry], met: dict[int, int], clock: dict[str, int], name: str, offer: int, at: int) -> bool:
+    """Whether the process knows, before the entry `at`, that this offer has met its partner."""
+    if offer not in met or max(offer, met[offer]) >= at:
+        return False
+    return entries[offer].name == name or clock.get(entries[offer].name, -1) >= max(offer, met[offer])
+
+
+def who_is_asked(entries: list[Entry]) -> set[str]:
+    """The processes whose offers are followed by one of another process, of the same way on the same channel."""
+    last: dict[tuple[str, str], str] = {}
+    asked = set()
+    for name, kind, argument in entries:
+        if kind in ("send", "receive"):
+            before = last.get((argument, kind), name)
+            if before != name:
+                asked.add(before)
+            last[argument, kind] = name
+    return asked
+
+
+def partners(entries: list[Entry]) -> dict[int, int]:
+    """For each offer that met another one, the index of that."""
+    pending: dict[str, int] = {}
+    met: dict[int, int] = {}
+    for at, (_, kind, argument) in enumerate(entries):
+        if kind in ("send", "receive"):
+            other = pending.pop(argument, None)
+            if other is None:
+                pending[argument] = at
+            else:
+                met[at], met[other] = other, at
+    return met

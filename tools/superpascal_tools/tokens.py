@@ -1,0 +1,61 @@
+"""Tokens of a text that the program accepts, with their places."""
+from __future__ import annotations
+
+import re
+from typing import NamedTuple
+
+from .trouble import REFUSED, Trouble
+
+MAXINT = 9223372036854775807
+
+WORDS = frozenset("""and array assume begin case const div do downto else end for forall function if mod not of or
+parallel procedure program record repeat then to type until var while""".split())
+
+TOKEN = re.compile(r"""(?P<blank>[ \t\f\r\n]+|\{[^}]*\}|\(\*.*?\*\))
+|(?P<name>[A-Za-z][A-Za-z0-9_]*)|(?P<number>[0-9]+)
+|(?P<text>'(?:[^'\r\n]|'')*')
+|(?P<sign>:=|<>|<=|>=|\.\.|[-+*=<>()\[\].,;:|])""", re.S | re.X)
+
+Place = tuple[int, int]
+
+
+class Token(NamedTuple):
+    """A token: its kind (word, sign, name, number, text or end), its spelling in lower case, and its place."""
+
+    kind: str
+    word: str
+    place: Place
+
+
+def tokens_of(text: str) -> list[Token]:
+    """The tokens of a text, whose characters are its bytes; the last one has the kind `end`."""
+    found: list[Token] = []
+    at, line, begun = 0, 1, 0
+    while at < len(text):
+        got = TOKEN.match(text, at)
+        if got is None:
+            raise Trouble(REFUSED, "the text breaks a rule at %d:%d" % (line, at - begun + 1))
+        kind, word = got.lastgroup or "", got.group()
+        if kind != "blank":
+            if kind == "name":
+                word = word.lower()
+                kind = "word" if word in WORDS else "name"
+            found.append(Token(kind, word, (line, at - begun + 1)))
+        breaks = word.count("\n") if kind == "blank" else 0
+        if breaks:
+            line += breaks
+            begun = at + word.rindex("\n") + 1
+        at = got.end()
+    found.append(Token("end", "", (line, at - begun + 1)))
+    return found
+
+
+def number_of(digits: str) -> int:
+    """The value of decimal digits; one above all integers where there are too many of them."""
+    digits = digits.lstrip("0") or "0"
+    return int(digits) if len(digits) <= 20 else 10 ** 20
+
+
+def text_of(word: str) -> bytes:
+    """The bytes that a text stands for."""
+    return word[1:-1].replace("''", "'").encode("latin1")

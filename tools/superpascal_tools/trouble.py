@@ -1,0 +1,106 @@
+"""What ends a tool: one line on standard error and a status of its own."""
+from __future__ import annotations
+
+import os
+import sys
+from typing import Callable, Sequence
+
+BAD_WORDS = 20
+NO_PROGRAM = 21
+NO_FILE = 22
+BAD_JOURNAL = 23
+UNFIT = 24
+REFUSED = 25
+NO_MEMORY = 26
+STOPPED = 27
+UNFORESEEN = 28
+
+STATUSES = """statuses of the tool itself (those of the program are 0 to 9, and are handed on):
+  20  the words ask for nothing that the tool does
+  21  the program is missing, or cannot be run
+  22  a file cannot be read or written
+  23  what should be a journal is none, or is cut off in a line
+  24  the journal does not fit this text and input
+  25  the text breaks a rule, so that it cannot be followed
+  26  out of memory
+  27  stopped by Ctrl-C
+  28  the tool cannot do it, and this is a mistake in the tool
+"""
+
+UNPROVED = """This tool is proved of nothing: it explains with an interpreter of its own, and where it differs from the
+program, the program is right.
+"""
+
+
+class Trouble(Exception):
+    """Ends the tool with one line and a status."""
+
+    def __init__(self, status: int, line: str) -> None:
+        super().__init__(line)
+        self.status = status
+
+
+class Unfit(Trouble):
+    """The entry at this index is not one that the text makes there."""
+
+    def __init__(self, index: int, why: str) -> None:
+        super().__init__(UNFIT, "the journal does not fit this text and input: entry %d: %s" % (index, why))
+        self.index = index
+
+
+def read_file(path: str) -> bytes:
+    """The bytes of a file."""
+    try:
+        with open(path, "rb") as file:
+            return file.read()
+    except OSError as error:
+        raise Trouble(NO_FILE, "cannot read %s: %s" % (path, error.strerror)) from None
+
+
+def write_file(path: str, text: bytes) -> None:
+    """Writes a file, or standard output where the path is `-`."""
+    try:
+        if path == "-":
+            sys.stdout.buffer.write(text)
+            sys.stdout.buffer.flush()
+            return
+        with open(path, "wb") as file:
+            file.write(text)
+    except BrokenPipeError:
+        hush()
+    except OSError as error:
+        raise Trouble(NO_FILE, "cannot write %s: %s" % (path, error.strerror)) from None
+
+
+def hush() -> None:
+    """Nobody reads standard output any more: what is left for it goes nowhere."""
+    os.dup2(os.open(os.devnull, os.O_WRONLY), 1)
+
+
+def say(text: str) -> None:
+    """Writes to standard error, whatever letters its locale has; a reader that has gone is no trouble."""
+    try:
+        sys.stderr.flush()
+        sys.stderr.buffer.write(text.encode("utf-8", "replace"))
+        sys.stderr.buffer.flush()
+    except OSError:
+        pass
+
+
+def ended(name: str, main: Callable[[Sequence[str]], int]) -> int:
+    """The status of a tool: its own or the program's where it went well, else that of the trouble, told in one line."""
+    sys.setrecursionlimit(10_000)
+    try:
+        return main(sys.argv[1:])
+    except Trouble as trouble:
+        said, status = str(trouble), trouble.status
+    except MemoryError:
+        said, status = "out of memory", NO_MEMORY
+    except KeyboardInterrupt:
+        said, status = "stopped", STOPPED
+    except Exception as error:  # pylint: disable=broad-except
+        if os.environ.get("SUPERPASCAL_TOOLS_TRACE"):
+            raise
+        said, status = "cannot do it (%s: %s)" % (type(error).__name__, str(error)[:200]), UNFORESEEN
+    say("%s: %s\n" % (name, said))
+    return status
