@@ -1,0 +1,204 @@
+"""The end of a run in words: a fault, a deadlock, a race."""
+from __future__ import annotations
+
+from typing import Optional
+
+from . import handbook
+from .following import Met, Run
+from .journal import order_of, racing
+from .kinds import Channel, Frame, shown, shown_cells, variable_name, Array, Record as RecordType
+from .process import Process
+from .source import Source
+from .waiting import holders, waiting, who_would_come
+
+VARIABLES = 12
+CALLS = 12
+PROCESSES = 40
+
+
+class Ends:
+    """Tells how a run along a journal ended."""
+
+    def __init__(self, run: Run, source: Source) -> None:
+        self.run, self.source, self.program = run, source, run.program
+
+    def told(self) -> str:
+        """The end, and the race if there is one; nothing for a run that is done and ordered."""
+        end = self.run.end()
+        if end == "fault" and self.run.met is not None:
+            return self.fault(self.run.met)
+        race = self.race()
+        if end == "deadlock":
+            return race + self.deadlock()
+        return race + (self.unended() if end == "no end" else "")
+
+    # Words for parts.
+    def who(self, process: Process) -> str:
+        """A process by its name and the call that it is in."""
+        title = process.title()
+        return "%s%s" % (process.name, " in %s" % title if process.calls else " (%s)" % title if title else "")
+
+    def line_of(self, operation: int) -> int:
+        """The line of an operation."""
+        return self.program.places[operation][0]
+
+    def path(self, process: Process) -> str:
+        """The calls that lead to where a process is."""
+        calls = process.path()
+        lines = ["    called at line %d: %s\n" % (self.line_of(here), call) for call, here in calls[:CALLS]]
+        if len(calls) > CALLS:
+            lines.append("    and %d calls before\n" % (len(calls) - CALLS))
+        return "".join(lines)
+
+    def channel(self, channel: Channel, process: Process) -> str:
+        """A channel by the variable that it was opened in, and by what the process calls it here."""
+        first, last = self.program.spelled.get(process.stands, (0, 0))
+        tokens = self.program.tokens[first:last]
+        here = "".join(" %s " % it.word if it.kind == "word" else it.word for it in tokens).replace("  ", " ").strip()
+        names = [channel.opened_as] if channel.opened_as else []
+        if here and here != channel.opened_as and len(here) <= 40:
+            names.append("here %s" % here)
+        return "%s%s" % (channel.name, " (%s)" % ", ".join(names) if names else "")
+
+    def variables(self, process: Process) -> str:
+        """The variables that the process sees, those of its own call first."""
+        found: list[str] = []
+        frame: Optional[Frame] = process.frame
+        while frame is not None and len(found) < VARIABLES:
+            for declared in frame.block.variables[:VARIABLES]:
+                value, name = None, declared.name
+                kind, home, offset = declared.kind, frame, declared.offset
+                if declared.what == "byvar":
+                    home, offset = frame[offset]
+                    name = "%s (%s)" % (name, variable_name(home, offset))
+                if frame.block.answer == offset and home is frame:
+                    name = "the result"
+                if isinstance(kind, (Array, RecordType)):
+                    value = shown_cells(home[offset:offset + kind.cells], kind, 1)
+                else:
+                    cell = home[offset]
+                    value = cell.name if isinstance(cell, Channel) else shown(cell, kind)
+                found.append("%s = %s" % (name, value))
+            frame = frame.static
+        return "    where %s\n" % ", ".join(found[:VARIABLES]) if found else ""
+
+    # A fault.
+    def fault(self, met: Met) -> str:
+        """A fault: its line, the calls that lead there and the variables; of a clash both offers."""
+        process = met.process
+        said = "%s, %s, in process %s\n" % (met.fault, handbook.fault_name(met.fault), self.who(process))
+        said += self.source.named(self.program.places[process.stands], "  ")
+        said += self.path(process) + self.variables(process)
+        event = met.event
+        if met.other is not None and met.other.offer is not None and met.fault in ("F6", "F7"):
+            other = met.other
+            said += "  %s on channel %s: %s.\n" % (event[0], self.channel(event[1], process), self.message(event))
+            said += "  There waits since entry %d process %s with %s: %s.\n" % (
+                other.entry, self.who(other), other.offer[0], self.message(other.offer))
+            said += self.source.named(self.program.places[other.stands], "  ")
+            said += self.path(other)
+        elif met.fault == "F18" and not self.run.data:
+            said += "  The input is empty; a file is given as input by <FILE behind the words.\n"
+        said += "  %s comes exactly where: %s.\n" % (met.fault, handbook.plain(handbook.rules_and_faults()[met.fault][1]))
+        return said
+
+    def message(self, event: tuple) -> str:
+        """What an offer sends, or where it puts what it receives."""
+        if event[0] == "send":
+            return "the value %s" % shown(event[2], event[3])
+        return "into %s" % variable_name(*event[2])
+
+    # A deadlock.
+    def deadlock(self) -> str:
+        """Who waits where and on what, who could meet it, and the circle."""
+        stuck = sorted(waiting(self.run), key=lambda it: order_of(it.name))
+        said = "deadlock: %d process%s, and no other can go on\n" % (
+            len(stuck), " waits" if len(stuck) == 1 else "es wait")
+        told = {process.name: self.waits(process) for process in stuck[:PROCESSES]}
+        names = {process.name: self.who(process) for process in stuck}
+        holding = {}
+        for process in stuck[:PROCESSES]:
+            if process.offer is not None:
+                holding[process.name] = [it.name for it in holders(self.run, process.offer[1], process)]
+        places = {process.name: process.stands for process in stuck}
+        comers = who_would_come(self.run)
+        for stands in dict.fromkeys(places[name] for name in told):
+            said += self.source.named(self.program.places[stands], "  ")
+            for name in told:
+                if places[name] == stands:
+                    said += told[name] + self.partner(name, comers, holding, names)
+        if len(stuck) > PROCESSES:
+            said += "  and %d more\n" % (len(stuck) - PROCESSES)
+        return said + self.circle(comers, [process.name for process in stuck], names)
+
+    def waits(self, process: Process) -> str:
+        """One process that waits."""
+        offer = process.offer
+        if offer is None:
+            return ""
+        what = "to send %s on" % shown(offer[2], offer[3]) if offer[0] == "send" else \
+            "to receive %s from" % variable_name(*offer[2])
+        return "    %s waits %s channel %s, since entry %d\n" % (
+            self.who(process), what, self.channel(offer[1], process), process.entry)
+
+    def partner(self, name: str, comers: dict[str, list[tuple[str, int]]], holding: dict[str, list[str]],
+                names: dict[str, str]) -> str:
+        """Who could meet a process that waits, and where that one is."""
+        found = comers.get(name, [])[:2]
+        if found:
+            return "".join("      could be met by %s at line %d, which waits itself\n" % (names[who], self.line_of(at))
+                           for who, at in found)
+        others = holding.get(name, [])[:2]
+        if others:
+            return "      no process would come to it; %s knows the channel, and waits itself\n" % \
+                " and ".join(names[who] for who in others)
+        return "      no process that is left knows the channel\n"
+
+    def circle(self, comers: dict[str, list[tuple[str, int]]], stuck: list[str], names: dict[str, str]) -> str:
+        """The first circle in which each process waits for the next one."""
+        for start in stuck:
+            seen: list[str] = []
+            name = start
+            while name not in seen and comers.get(name):
+                seen.append(name)
+                name = comers[name][0][0]
+            if name in seen:
+                ring = seen[seen.index(name):]
+                shown_ring = ring if len(ring) <= 8 else ring[:7] + ["..", ring[-1]]
+                return "  the circle: each waits for the next one:\n    %s\n" % " -> ".join(
+                    names.get(it, it) for it in shown_ring + [name])
+        return ""
+
+    # A race.
+    def race(self) -> str:
+        """The two offers that race, and why neither knows of the other."""
+        entries = self.run.entries
+        pair = racing(entries)
+        if pair is None:
+            return ""
+        earlier, later = pair
+        channel = self.run.channels[entries[earlier].argument]
+        said = "race: which of these two %ss on channel %s comes first is left to the schedule\n" % (
+            entries[earlier].kind, channel)
+        for at in pair:
+            process = self.run.processes[entries[at].name]
+            what = self.run.messages.get(at)
+            said += "  entry %d, process %s%s\n" % (at, self.who(process), ", the value %s" % what if what else "")
+            said += self.source.named(self.run.place(at), "  ")
+        one, other = entries[earlier].name, entries[later].name
+        if earlier in self.run.meets:
+            partner = self.run.meets[earlier]
+            said += "  %s met the %s of %s (entry %d), and nothing told %s: no message and no join leads from there to\n" \
+                    "  entry %d. So in another schedule %s comes first, or both wait at once, which is F6.\n" % (
+                        one, entries[partner].kind, entries[partner].name, partner, other, later, other)
+        else:
+            said += "  %s had met nobody, so %s may come first.\n" % (one, other)
+        return said
+
+    def unended(self) -> str:
+        """Where a journal stops before an end."""
+        going = [it for it in self.run.processes.values() if it.state == 0]
+        said = "the journal stops before an end: %d process%s can go on\n" % (len(going), "" if len(going) == 1 else "es")
+        for process in going[:8]:
+            said += "  %s, behind line %d\n" % (self.who(process), self.line_of(process.stands))
+        return said

@@ -1,0 +1,100 @@
+"""The program: where it is, and calls of it."""
+from __future__ import annotations
+
+import os
+import subprocess
+from typing import NamedTuple, Optional, Sequence
+
+from .handbook import TOP
+from .following import Limits
+from .trouble import BAD_WORDS, NO_PROGRAM, Trouble, say
+
+LIMITS = Limits._fields
+
+
+class Answer(NamedTuple):
+    """What a call of the program gave."""
+
+    status: int
+    output: bytes
+    notes: str
+
+
+class Caller:
+    """Calls the program: the one that is named, else that of SUPERPASCAL, else ./superpascal of this repository."""
+
+    def __init__(self, path: Optional[str] = None) -> None:
+        named = path or os.environ.get("SUPERPASCAL")
+        self.path = named or os.path.join(TOP, "superpascal")
+        if not named and not os.path.exists(os.path.join(TOP, "crates/sp_main/out/sp_main")):
+            self.build()
+        if os.sep not in self.path:
+            self.path = os.path.join(".", self.path) if os.path.exists(self.path) else self.path
+
+    def build(self) -> None:
+        """The script ./superpascal builds the program at its first call, and says how far it is."""
+        say("the program is not built: ./superpascal builds it now, or SUPERPASCAL names one\n")
+        try:
+            subprocess.run([self.path, "check", os.path.join(TOP, "examples/answer.sp")], stdin=subprocess.DEVNULL,
+                           stdout=subprocess.DEVNULL, check=False)
+        except OSError as error:
+            raise Trouble(NO_PROGRAM, "cannot run %s: %s" % (self.path, error.strerror)) from None
+
+    def __call__(self, words: Sequence[str], data: bytes = b"") -> Answer:
+        try:
+            got = subprocess.run([self.path, *words], input=data, capture_output=True, check=False)
+        except (OSError, ValueError) as error:
+            why = error.strerror if isinstance(error, OSError) else str(error)
+            raise Trouble(NO_PROGRAM, "cannot run the program %s: %s" % (self.path, why)) from None
+        if got.returncode < 0:
+            raise Trouble(NO_PROGRAM, "the program was ended by signal %d" % -got.returncode)
+        return Answer(got.returncode, got.stdout, got.stderr.decode("utf-8", "replace"))
+
+
+class Words(NamedTuple):
+    """The words of a call of the program: its command, the words that are no options, and the options."""
+
+    command: str
+    plain: list[str]
+    options: dict[str, str]
+
+
+def split_words(words: Sequence[str]) -> Words:
+    """Takes words apart as the program does, where it accepts them."""
+    plain, options, left = [], {}, list(words[1:])
+    while left:
+        word = left.pop(0)
+        if word == "--":
+            plain.extend(left)
+            break
+        if not word.startswith("-"):
+            plain.append(word)
+            continue
+        name, equals, value = word.partition("=")
+        options[name] = value if equals else left.pop(0) if left else ""
+    return Words(words[0] if words else "", plain, options)
+
+
+def limits_of(options: dict[str, str]) -> Limits:
+    """The limits that the options set."""
+    found = {}
+    for name in LIMITS:
+        value = options.get("--" + name)
+        if value is not None:
+            try:
+                found[name] = int(value)
+            except ValueError:
+                raise Trouble(BAD_WORDS, "--%s wants a number" % name) from None
+    return Limits(**found)
+
+
+def take_option(words: list[str], name: str) -> Optional[str]:
+    """Takes a leading option with its value from the words."""
+    if words and words[0].startswith(name + "="):
+        return words.pop(0).split("=", 1)[1]
+    if words and words[0] == name:
+        if len(words) < 2:
+            raise Trouble(BAD_WORDS, "%s wants a value" % name)
+        del words[0]
+        return words.pop(0)
+    return None

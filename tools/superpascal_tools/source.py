@@ -1,0 +1,38 @@
+"""Lines of a text with a caret below a place."""
+from __future__ import annotations
+
+from .tokens import Place
+
+WIDE = 110
+BEFORE = 70
+
+
+class Source:
+    """A text by its lines, and the name of its file."""
+
+    def __init__(self, file: str, text: bytes) -> None:
+        self.file, self.lines = file, text.split(b"\n")
+
+    def line(self, place: Place, indent: str = "") -> str:
+        """The line of a place, its number before it, and a caret below the place. Long lines are cut around it."""
+        number, column = place
+        if number > len(self.lines):
+            return indent + "(the end of the text)\n"
+        text = self.lines[number - 1].rstrip(b"\r")
+        before = shown(text[:column - 1])
+        whole = shown(text)
+        first = max(0, len(before) - BEFORE)
+        cut = "…" if first else ""
+        more = "…" if len(whole) > first + WIDE else ""
+        margin = "%s%5d | " % (indent, number)
+        return "%s%s%s%s\n%s%s^\n" % (margin, cut, whole[first:first + WIDE], more, " " * len(margin),
+                                     " " * (len(before) - first + len(cut)))
+
+    def named(self, place: Place, indent: str = "") -> str:
+        """The line of a place, with the file and the place above it."""
+        return "%s%s:%d:%d\n%s" % ((indent, self.file) + place + (self.line(place, indent),))
+
+
+def shown(text: bytes) -> str:
+    """Bytes as they are shown: each that cannot be printed as a blank or a mark."""
+    return "".join(it if it.isprintable() else " " for it in text.decode("utf-8", "replace"))

@@ -1,0 +1,74 @@
+"""Which variables statements change and use, and where: for the rules of interference."""
+from __future__ import annotations
+
+from bisect import bisect_left
+from typing import Iterator, NamedTuple, Optional
+
+from .kinds import Block, Declared
+from .language import Program
+from .tokens import Place
+
+
+class Way(NamedTuple):
+    """How a variable is reached: a position of it, or a call of a block that reaches it."""
+
+    place: Place
+    block: Optional[Block]
+
+
+Reached = dict[tuple[Declared, bool], Way]
+
+
+class Uses:
+    """The variables of statements of a program, each with one way to it."""
+
+    def __init__(self, program: Program) -> None:
+        self.program = program
+        self.positions = [at for at, _, _ in program.uses]
+        self.calls = [at for at, _ in program.called]
+        self.implicit: dict[Block, Reached] = {block: {} for block in program.blocks}
+        self.callers: dict[Block, list[tuple[Block, Place]]] = {}
+        todo = []
+        for block in program.blocks:
+            for place, callee in self.calls_in(block.first, block.last):
+                self.callers.setdefault(callee, []).append((block, place))
+            for key, way in self.direct(block.first, block.last).items():
+                if not key[0].block.is_inside(block):
+                    self.implicit[block][key] = way
+                    todo.append((block, key))
+        while todo:
+            callee, key = todo.pop()
+            for block, place in self.callers.get(callee, []):
+                if key not in self.implicit[block] and not key[0].block.is_inside(block):
+                    self.implicit[block][key] = Way(place, callee)
+                    todo.append((block, key))
+
+    def calls_in(self, first: int, last: int) -> Iterator[tuple[Place, Block]]:
+        """The calls in these tokens."""
+        for at, callee in self.program.called[bisect_left(self.calls, first):bisect_left(self.calls, last)]:
+            yield self.program.tokens[at].place, callee
+
+    def direct(self, first: int, last: int) -> Reached:
+        """The variables that have a position in these tokens, with the first one."""
+        found: Reached = {}
+        for at, declared, target in self.program.uses[bisect_left(self.positions, first):bisect_left(self.positions, last)]:
+            found.setdefault((declared, target), Way(self.program.tokens[at].place, None))
+        return found
+
+    def reached(self, first: int, last: int) -> Reached:
+        """The variables of the statement of these tokens: targets (true) and expression variables (false)."""
+        found = self.direct(first, last)
+        for place, callee in self.calls_in(first, last):
+            for key in self.implicit[callee]:
+                found.setdefault(key, Way(place, callee))
+        return found
+
+    def told(self, key: tuple[Declared, bool], way: Way) -> str:
+        """A way in words: `changes x at 5:3, in show, called at 12:5`."""
+        calls = []
+        while way.block is not None and len(calls) < 5:
+            calls.append("in %s, called at %d:%d" % ((way.block.name,) + way.place))
+            way = self.implicit[way.block][key]
+        verb = "reads" if key[0] is self.program.input and key[1] else \
+            "writes" if key[0] is self.program.output else "changes" if key[1] else "uses"
+        return ", ".join(["%s %s at %d:%d" % ((verb, key[0].name) + way.place)] + calls[::-1])
