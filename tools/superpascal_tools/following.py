@@ -6,7 +6,7 @@ from typing import Any, NamedTuple, Optional
 from .journal import Entry
 from .kinds import Channel, Frame, shown, variable_name
 from .language import Program
-from .process import ENDED, JOINS, LAID, RUNS, WAITS, Process
+from .process import ENDED, JOINS, LAID, RUNS, WAITS, Process, called
 from .tokens import Place
 from .trouble import Unfit
 
@@ -51,6 +51,7 @@ class Run:
         self.meets: dict[int, int] = {}
         self.counted, self.running, self.faulted = 0, 1, 0
         self.met: Optional[Met] = None
+        self.first: dict[str, str] = {}
 
     def follow(self, entries: list[Entry]) -> None:
         """Follows these entries; refuses the first one that does not fit."""
@@ -84,8 +85,9 @@ class Run:
             raise Unfit(at, str(entry) + ", and there is no fault before it")
         event = process.advance()
         self.stood.append(process.stands)
-        if process.what[:1] == " " and process.calls:
-            process.what = ""
+        if process.calls and name not in self.first:
+            block, _, _, arguments = process.calls[0]
+            self.first[name] = called(block, arguments)
         if kind == "laid":
             process.state = LAID
             self.running -= 1

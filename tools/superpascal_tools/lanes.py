@@ -1,0 +1,119 @@
+"""Lanes: a place across for each process that is shown. Where there would be too many, subtrees are folded."""
+from __future__ import annotations
+
+from typing import Iterable, Optional
+
+from .journal import order_of, parent_of
+
+MOST = 60
+OUTSIDE = "outside"
+
+
+class Lanes:
+    """The lane of each process: its own, or the one that it is folded into.
+
+    A process has its children to its right; the children of its next fork take the same lanes again.
+    """
+
+    def __init__(self, names: Iterable[str], top: str = "0") -> None:
+        inside = {name for name in names if name == top or name.startswith(top + "/")}
+        inside.add(top)
+        for name in list(inside):
+            while name != top:
+                name = parent_of(name)
+                inside.add(name)
+        self.top = top
+        self.depth_of_top = top.count("/")
+        self.children: dict[str, dict[int, list[str]]] = {}
+        for name in sorted(inside - {top}, key=order_of):
+            fork = int(name.rpartition("/")[2].split(".")[0])
+            self.children.setdefault(parent_of(name), {}).setdefault(fork, []).append(name)
+        self.deep, self.most = self.fold()
+        self.lane: dict[str, int] = {}
+        self.rests: dict[str, str] = {}
+        self.place()
+
+    def width(self, deep: int, most: Optional[int]) -> int:
+        """How many lanes there are where children are shown down to this depth, and at the last one only so many."""
+        wide: dict[str, int] = {}
+        todo = [(self.top, 0, False)]
+        while todo:
+            name, level, ready = todo.pop()
+            forks = self.children.get(name, {}) if level < deep else {}
+            if not ready and forks:
+                todo.append((name, level, True))
+                todo.extend((child, level + 1, False) for those in forks.values() for child in self.cut(those, level, deep, most))
+                continue
+            sums = [sum(wide[child] for child in self.cut(those, level, deep, most))
+                    + (len(self.cut(those, level, deep, most)) < len(those)) for those in forks.values()]
+            wide[name] = 1 + max(sums, default=0)
+        return wide[self.top]
+
+    @staticmethod
+    def cut(those: list[str], level: int, deep: int, most: Optional[int]) -> list[str]:
+        """The children that are shown."""
+        return those if most is None or level + 1 < deep else those[:most]
+
+    def fold(self) -> tuple[int, Optional[int]]:
+        """How deep children are shown, and how many of a fork at that depth."""
+        deep, deepest = 0, max((name.count("/") for name in self.children), default=self.depth_of_top - 1)
+        deepest -= self.depth_of_top - 1
+        while deep < deepest and self.width(deep + 1, None) <= MOST:
+            deep += 1
+        if deep == deepest:
+            return deep, None
+        low, high = 0, MOST
+        while low < high:
+            middle = (low + high + 1) // 2
+            if self.width(deep + 1, middle) <= MOST:
+                low = middle
+            else:
+                high = middle - 1
+        return (deep + 1, low) if low else (deep, None)
+
+    def place(self) -> None:
+        """Gives each process that is shown its lane."""
+        self.lane[self.top] = 0
+        todo = [(self.top, 0)]
+        order = []
+        while todo:
+            name, level = todo.pop()
+            order.append((name, level))
+            if level < self.deep:
+                for those in self.children.get(name, {}).values():
+                    todo.extend((child, level + 1) for child in self.cut(those, level, self.deep, self.most))
+        wide: dict[str, int] = {}
+        for name, level in reversed(order):
+            wide[name] = 1
+            for those in self.children.get(name, {}).values() if level < self.deep else ():
+                shown = self.cut(those, level, self.deep, self.most)
+                wide[name] = max(wide[name], 1 + sum(wide[child] for child in shown) + (len(shown) < len(those)))
+        for name, level in order:
+            for fork, those in self.children.get(name, {}).items() if level < self.deep else ():
+                at = self.lane[name] + 1
+                for child in (shown := self.cut(those, level, self.deep, self.most)):
+                    self.lane[child] = at
+                    at += wide[child]
+                if len(shown) < len(those):
+                    rest = "%s/%d.*" % (name, fork)
+                    self.lane[rest] = at
+                    self.rests[rest] = "%d more" % (len(those) - len(shown))
+        self.count = wide[self.top]
+
+    def owner(self, name: str) -> str:
+        """The process, or the fold, in whose lane a process is shown."""
+        if name != self.top and not name.startswith(self.top + "/"):
+            return OUTSIDE
+        pairs = name.split("/")
+        shown = "/".join(pairs[:1 + self.depth_of_top + self.deep])
+        if shown in self.lane:
+            return shown
+        while shown != self.top:
+            parent, pair = parent_of(shown), shown.rpartition("/")[2]
+            rest = "%s/%s.*" % (parent, pair.split(".")[0])
+            if rest in self.lane:
+                return rest
+            if parent in self.lane:
+                return parent
+            shown = parent
+        return self.top
