@@ -172,7 +172,7 @@ class Drawing:
         """The name of a lane and the call of its process, where it begins."""
         born = self.moments.born.get(lane)
         x = self.x(lane)
-        y = self.y(born[0]) + 12 if born and self.is_born(lane) and lane != "0" else HEAD - 18
+        y = self.y(born[0]) + 12 if born and self.is_born(lane) and lane != "0" else HEAD - 26
         title = self.view.titles.get(lane, self.lanes.rests.get(lane, "")).replace("process statement", "part")
         parts = lane.split("/")
         short = lane if len(parts) <= 4 else "…/" + "/".join(parts[-3:])

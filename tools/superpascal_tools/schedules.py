@@ -1,0 +1,116 @@
+"""tools/schedules: many runs of one text, and how they end."""
+from __future__ import annotations
+
+import os
+import sys
+from typing import NamedTuple, Optional, Sequence
+
+from .journal import journal_text, read_record
+from .program import Answer, Caller, split_words, take_option
+from .trouble import BAD_WORDS, REFUSED, STATUSES, UNPROVED, Trouble, read_file, write_file
+
+HELP = """usage: tools/schedules [--program PROGRAM] [--journals FOLDER] FILE N [OPTIONS of `superpascal run`] <INPUT
+
+Runs the text N times, with 2, 4 and 8 workers in turn where --workers says nothing, and prints a table: the different
+ends, verdicts and outputs, with how often each came. Of each kind one journal is kept in FOLDER (the current one) as
+NAME.1.journal and so on, which `superpascal replay` takes. Where a verdict is a race, the schedule in which its two
+offers clash is one more row: that of `superpascal witness`. What did not come in N runs may still come: a verdict
+`ordered` says that nothing else can.
+
+"""
+WORKERS = ("2", "4", "8")
+MOST = 100_000
+WIDE = 44
+
+
+class Kind(NamedTuple):
+    """What is the same in runs of one kind: the end, the word of the verdict, and the output."""
+
+    end: str
+    verdict: str
+    output: bytes
+
+
+def main(given: Sequence[str]) -> int:
+    """Prints the table of the runs."""
+    words = list(given)
+    if words and words[0] in ("--help", "-h", "help"):
+        sys.stdout.write(HELP + UNPROVED + "\n" + STATUSES)
+        return 0
+    own: dict[str, Optional[str]] = {}
+    while words and words[0].split("=")[0] in ("--program", "--journals"):
+        name = words[0].split("=")[0]
+        own[name] = take_option(words, name)
+    asked = split_words(["run"] + words)
+    if len(asked.plain) != 2 or not asked.plain[1].isdigit() or not 1 <= int(asked.plain[1][:9]) <= MOST:
+        raise Trouble(BAD_WORDS, "wanted are FILE and N, from 1 to %d; --help says more" % MOST)
+    if "--show" in asked.options:
+        raise Trouble(BAD_WORDS, "--show is not for this tool")
+    file, count = asked.plain[0], int(asked.plain[1])
+    read_file(file)
+    options = [word for name, value in asked.options.items() if name != "--workers" for word in (name, value)]
+    workers = (asked.options["--workers"],) if "--workers" in asked.options else WORKERS
+    caller = Caller(own.get("--program"))
+    data = b"" if sys.stdin is None or sys.stdin.isatty() else sys.stdin.buffer.read()
+    seen, kept = many(caller, file, count, options, workers, data)
+    witness = clash(caller, file, options, data) if any(kind.verdict.startswith("race") for kind in seen) else ""
+    folder = own.get("--journals") or "."
+    sys.stdout.write(table(file, seen, kept, witness, folder, count))
+    return 0
+
+
+def many(caller: Caller, file: str, count: int, options: list[str], workers: Sequence[str],
+         data: bytes) -> tuple[dict[Kind, int], dict[Kind, str]]:
+    """How often each kind of run came, and a journal of each."""
+    seen: dict[Kind, int] = {}
+    kept: dict[Kind, str] = {}
+    for number in range(count):
+        answer = caller(["run", "--show", "timeline", "--workers", workers[number % len(workers)], *options, "--", file], data)
+        if answer.status not in (0, 3, 4):
+            line = answer.notes.split("\n")[0]
+            raise Trouble(REFUSED if answer.status == 1 else BAD_WORDS, "the program says: %s" % line)
+        kind = kind_of(answer)
+        seen[kind] = seen.get(kind, 0) + 1
+        if kind not in kept:
+            kept[kind] = journal_text(read_record(answer.notes).entries)
+    return seen, kept
+
+
+def kind_of(answer: Answer) -> Kind:
+    """The kind of a run: two races differ in their channel, and not in their indices."""
+    head = answer.notes.partition("\ntimeline\n")[0].split("\n")
+    return Kind("; ".join(head[:-1]), " ".join(head[-1].split(" ")[:3]), answer.output)
+
+
+def clash(caller: Caller, file: str, options: list[str], data: bytes) -> str:
+    """The journal of the schedule in which the two offers of a race clash."""
+    answer = caller(["witness", "--workers", "1", *options, "--", file], data)
+    return answer.output.decode() if answer.status in (0, 3, 4) else ""
+
+
+def table(file: str, seen: dict[Kind, int], kept: dict[Kind, str], witness: str, folder: str, count: int) -> str:
+    """The table, the most frequent kind first; writes the journals."""
+    name = os.path.splitext(os.path.basename(file))[0]
+    rows = [("runs", "end", "verdict", "output", "journal")]
+    for number, kind in enumerate(sorted(seen, key=lambda it: (-seen[it], it)), 1):
+        path = os.path.join(folder, "%s.%d.journal" % (name, number))
+        write_file(path, kept[kind].encode())
+        rows.append((str(seen[kind]), short(kind.end), kind.verdict, shown(kind.output), path))
+    if witness:
+        path = os.path.join(folder, "%s.witness.journal" % name)
+        write_file(path, witness.encode())
+        process, _, fault = witness.split("\n")[-2].partition(" ")
+        rows.append(("-", "%s %s" % (fault, process), "unjudged", "(by witness)", path))
+    sizes = [max(len(row[column]) for row in rows) for column in range(4)]
+    said = "".join("  ".join(cell.ljust(size) for cell, size in zip(row, sizes + [0])).rstrip() + "\n" for row in rows)
+    return "%d runs of %s: %d kind%s\n%s" % (count, file, len(seen), "" if len(seen) == 1 else "s", said)
+
+
+def short(text: str) -> str:
+    """A text that is not too wide for a column."""
+    return text if len(text) <= WIDE else text[:WIDE - 1] + "…"
+
+
+def shown(output: bytes) -> str:
+    """An output on one line."""
+    return short(output.decode("utf-8", "backslashreplace").replace("\\", "\\\\").replace("\n", "\\n").replace("\t", "\\t"))
