@@ -75,7 +75,8 @@ class Drawing:
 
     def is_born(self, name: str) -> bool:
         """Whether the birth of a process is in the part that is drawn."""
-        return self.view.first <= self.moments.born[name][1] <= self.view.last or self.moments.born[name][1] < 0 == self.view.first
+        at = self.moments.born[name][1]
+        return self.view.first <= at <= self.view.last or at < 0 == self.view.first
 
     # Rows.
     def levels(self) -> None:
@@ -179,7 +180,8 @@ class Drawing:
         for number, (text, kind, size) in enumerate(((short, "name", 10.0), (title, "", 9.0))):
             if text:
                 base = y + 11 * number
-                self.paper.label(cut(text, LANE - 8, size), [(x + 4, base), (x + 4, base + 11)], kind, lane + " " + title, size)
+                places = [(x + 4, base), (x + 4, base + 11)]
+                self.paper.label(cut(text, LANE - 8, size), places, kind, lane + " " + title, size)
 
     def life(self, lane: str) -> None:
         """The line of a process, in parts: at work, waiting for a partner, for its children."""
@@ -195,7 +197,8 @@ class Drawing:
         stop = self.y(ended[0]) if ended and ended[1] <= view.last else self.bottom
         for begin, end, kind in self.pauses_of(lane):
             self.paper.line((x, top), (x, begin), "work", "process " + lane)
-            self.paper.line((x, begin), (x, end), kind, "process %s %s" % (lane, "waits" if kind != "join" else "waits for its children"))
+            what = "waits for its children" if kind == "join" else "waits"
+            self.paper.line((x, begin), (x, end), kind, "process %s %s" % (lane, what))
             top = end
         if top < stop:
             self.paper.line((x, top), (x, stop), "work", "process " + lane)
@@ -224,8 +227,8 @@ class Drawing:
         if name not in self.lanes.lane:
             return
         row, at, count = self.moments.forks[fork]
-        children = [it for it in ["%s/%d.%d" % (name, number, child) for child in range(min(count, 61))] + ["%s/%d.*" % fork]
-                    if it in self.lanes.lane]
+        names = ["%s/%d.%d" % (name, number, child) for child in range(min(count, 61))] + ["%s/%d.*" % fork]
+        children = [it for it in names if it in self.lanes.lane]
         joined = self.moments.joined.get(fork)
         if not children:
             return
@@ -239,7 +242,8 @@ class Drawing:
                 ended = self.moments.ended.get(child)
                 if ended and ended[0] < joined[0]:
                     self.paper.line((self.x(child), self.y(ended[0])), (self.x(child), y), "join")
-            self.paper.line((self.x(name), y), (right, y), "fork", "all children of fork %d of %s have ended" % (number, name))
+            tip = "all children of fork %d of %s have ended" % (number, name)
+            self.paper.line((self.x(name), y), (right, y), "fork", tip)
 
     def mark(self, at: int) -> None:
         """What an entry leaves on the paper."""
@@ -300,15 +304,16 @@ class Drawing:
         said = cut(said, room)
         middle = (x1 + x2) / 2 - wide(said) / 2
         left = min(x1, x2) + 8
-        self.paper.label(said, [(middle, y - 3), (left, y - 3), (max(x1, x2) - 10 - wide(said), y - 3), (middle, y + 9)],
-                         "loud" if loud else "value", tip)
+        places = [(middle, y - 3), (left, y - 3), (max(x1, x2) - 10 - wide(said), y - 3), (middle, y + 9)]
+        self.paper.label(said, places, "loud" if loud else "value", tip)
 
     def stuck(self, at: int) -> None:
         """An offer that waits at the end."""
         x, y = self.x(self.owner(at)), self.y(self.moments.ready[at])
         self.paper.put("rect", self.told(at), x=x - 4, y=y - 4, width=8, height=8, class_="mark")
         more = [self.view.values.get(at, ""), "line %d" % self.view.lines[at] if at in self.view.lines else ""]
-        for number, text in enumerate(["%s %s" % (self.entries[at].kind, self.entries[at].argument)] + [it for it in more if it]):
+        offer = "%s %s" % (self.entries[at].kind, self.entries[at].argument)
+        for number, text in enumerate([offer] + [it for it in more if it]):
             self.paper.label(cut(text, LANE - 12), [(x + 8, y + 4 + 11 * number)], "loud", self.told(at))
 
     def pair(self) -> None:

@@ -99,8 +99,7 @@ class Ends:
             said += self.path(other)
         elif met.fault == "F18" and not self.run.data:
             said += "  The input is empty; a file is given as input by <FILE behind the words.\n"
-        said += "  %s comes exactly where: %s.\n" % (met.fault, handbook.plain(handbook.rules_and_faults()[met.fault][1]))
-        return said
+        return said + "  %s comes exactly where: %s.\n" % (met.fault, handbook.fault_sentence(met.fault))
 
     def message(self, event: tuple) -> str:
         """What an offer sends, or where it puts what it receives."""
@@ -129,7 +128,7 @@ class Ends:
                     said += told[name] + self.partner(name, comers, holding, names)
         if len(stuck) > PROCESSES:
             said += "  and %d more\n" % (len(stuck) - PROCESSES)
-        return said + self.circle(comers, [process.name for process in stuck], names)
+        return said + self.circle(comers, [process.name for process in stuck])
 
     def waits(self, process: Process) -> str:
         """One process that waits."""
@@ -154,7 +153,8 @@ class Ends:
                 " and ".join(names[who] for who in others)
         return "      no process that is left knows the channel\n"
 
-    def circle(self, comers: dict[str, list[tuple[str, int]]], stuck: list[str], names: dict[str, str]) -> str:
+    @staticmethod
+    def circle(comers: dict[str, list[tuple[str, int]]], stuck: list[str]) -> str:
         """The first circle in which each process waits for the next one."""
         for start in stuck:
             seen: list[str] = []
@@ -164,9 +164,8 @@ class Ends:
                 name = comers[name][0][0]
             if name in seen:
                 ring = seen[seen.index(name):]
-                shown_ring = ring if len(ring) <= 8 else ring[:7] + ["..", ring[-1]]
-                return "  the circle: each waits for the next one:\n    %s\n" % " -> ".join(
-                    names.get(it, it) for it in shown_ring + [name])
+                parts = ring if len(ring) <= 8 else ring[:7] + ["..", ring[-1]]
+                return "  the circle, in which each waits for the next one: %s\n" % " -> ".join(parts + [name])
         return ""
 
     # A race.
@@ -188,9 +187,10 @@ class Ends:
         one, other = entries[earlier].name, entries[later].name
         if earlier in self.run.meets:
             partner = self.run.meets[earlier]
-            said += "  %s met the %s of %s (entry %d), and nothing told %s: no message and no join leads from there to\n" \
-                    "  entry %d. So in another schedule %s comes first, or both wait at once, which is F6.\n" % (
-                        one, entries[partner].kind, entries[partner].name, partner, other, later, other)
+            said += "  %s met the %s of %s (entry %d), and nothing told %s of it: no message and no join\n" % (
+                one, entries[partner].kind, entries[partner].name, partner, other)
+            said += "  leads from there to entry %d. So in another schedule %s comes first, or both wait at once,\n" \
+                    "  which is F6.\n" % (later, other)
         else:
             said += "  %s had met nobody, so %s may come first.\n" % (one, other)
         return said
@@ -198,7 +198,8 @@ class Ends:
     def unended(self) -> str:
         """Where a journal stops before an end."""
         going = [it for it in self.run.processes.values() if it.state == 0]
-        said = "the journal stops before an end: %d process%s can go on\n" % (len(going), "" if len(going) == 1 else "es")
+        plural = "" if len(going) == 1 else "es"
+        said = "the journal stops before an end: %d process%s can go on\n" % (len(going), plural)
         for process in going[:8]:
             said += "  %s, behind line %d\n" % (self.who(process), self.line_of(process.stands))
         return said

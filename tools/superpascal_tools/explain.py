@@ -10,7 +10,7 @@ from typing import Optional, Sequence
 from . import handbook, refusals
 from .ends import Ends
 from .following import Run
-from .journal import Record, entry_of, journal_text, read_record
+from .journal import Record, entry_of, read_record
 from .language import Program
 from .program import Answer, Caller, Words, limits_of, split_words, take_option
 from .source import Source
@@ -29,7 +29,6 @@ The program is PROGRAM, else the one that SUPERPASCAL names, else ./superpascal 
 
 """
 SHOWS = ("end", "timeline", "census", "tree", "waiting", "all", "journal")
-REPORTS = ("timeline", "census", "tree", "waiting")
 RUNS = ("run", "replay", "witness")
 
 
@@ -57,11 +56,10 @@ def explain(words: list[str], caller: Caller) -> int:
     data = read_input(asked, caller)
     show, told = shown_as(words, asked)
     answer = caller(told, data)
-    if show is not None:
-        record = read_notes(answer)
-        answer = Answer(answer.status, answer.output, as_asked(answer.notes, show, record))
-    else:
-        record = None
+    timeline = ""
+    if show is not None and answer.status in (0, 3, 4) and "\ntimeline\n" in answer.notes:
+        timeline = answer.notes
+        answer = Answer(answer.status, answer.output, as_asked(timeline, show))
     try:
         sys.stdout.buffer.write(answer.output)
         sys.stdout.buffer.flush()
@@ -69,7 +67,7 @@ def explain(words: list[str], caller: Caller) -> int:
         hush()
     say(answer.notes)
     try:
-        say(meaning(asked, answer, record, data, caller))
+        say(meaning(asked, answer, timeline, data, caller))
     except Trouble as trouble:
         say("explain: %s\n" % trouble)
     return answer.status
@@ -108,30 +106,21 @@ def shown_as(words: list[str], asked: Words) -> tuple[Optional[str], list[str]]:
     return show, words[:1] + told + rest
 
 
-def read_notes(answer: Answer) -> Optional[Record]:
-    """The timeline in the notes, if there is one."""
-    if answer.status not in (0, 3, 4) or "\ntimeline\n" not in answer.notes:
-        return None
-    return read_record(answer.notes)
-
-
-def as_asked(notes: str, show: str, record: Optional[Record]) -> str:
-    """The notes as the program would have written them."""
-    if record is None or show == "all":
+def as_asked(notes: str, show: str) -> str:
+    """The notes as the program would have written them; these have the timeline, and all reports where one is asked."""
+    if show in ("timeline", "all"):
         return notes
+    head, _, rest = notes.partition("\ntimeline\n")
+    head += "\n"
+    if show == "end":
+        return head
     if show == "journal":
-        return journal_text(record.entries)
-    parts = {"end": "".join(line + "\n" for line in record.head)}
-    part = ""
-    lines = notes.splitlines(keepends=True)[len(record.head):]
-    for line in lines:
-        if line.rstrip("\n") in REPORTS:
-            part = line.rstrip("\n")
-        parts[part] = parts.get(part, "") + line
-    return parts["end"] + (parts.get(show, "") if show != "end" else "")
+        return "superpascal journal 2\n" + "".join(line.partition(" ")[2] for line in rest.splitlines(keepends=True))
+    parts = re.split(r"^(census|tree|waiting)\n", rest, flags=re.M)
+    return head + "".join(name + "\n" + text for name, text in zip(parts[1::2], parts[2::2]) if name == show)
 
 
-def meaning(asked: Words, answer: Answer, record: Optional[Record], data: bytes, caller: Caller) -> str:
+def meaning(asked: Words, answer: Answer, timeline: str, data: bytes, caller: Caller) -> str:
     """What the answer means."""
     notes = answer.notes
     got = re.match(r"refused (\w+) (\d+):(\d+)\n", notes)
@@ -144,8 +133,8 @@ def meaning(asked: Words, answer: Answer, record: Optional[Record], data: bytes,
     if notes == "read fault\n":
         missing = ["  no file: %s\n" % it for it in asked.plain if not os.path.isfile(it)]
         return "".join(missing) or "  a file or the input cannot be read\n"
-    if asked.command == "run" and record is not None:
-        return run_told(asked, answer, record, data, caller)
+    if asked.command == "run" and timeline:
+        return run_told(asked, answer, timeline, data, caller)
     if asked.command == "witness" and answer.status in (0, 3, 4) and answer.output:
         return followed(asked, read_record(answer.output.decode("latin1")), data, None)
     if asked.command == "replay" and len(asked.plain) == 2:
@@ -171,12 +160,12 @@ def bad_words(asked: Words) -> str:
     return said
 
 
-def run_told(asked: Words, answer: Answer, record: Record, data: bytes, caller: Caller) -> str:
+def run_told(asked: Words, answer: Answer, timeline: str, data: bytes, caller: Caller) -> str:
     """The end of a run, and its race with the schedule in which it comes to a clash."""
-    verdict = record.head[-1] if record.head else ""
+    verdict = timeline.partition("\ntimeline\n")[0].rpartition("\n")[2]
     if answer.status == 0 and not verdict.startswith("race"):
         return ""
-    said = followed(asked, record, data, answer.output)
+    said = followed(asked, read_record(timeline), data, answer.output)
     if verdict.startswith("race"):
         words = ["witness", "--workers", "1"]
         for name, value in asked.options.items():

@@ -42,6 +42,11 @@ def fault_name(fault: str) -> str:
     return plain(rules_and_faults()[fault][0])
 
 
+def fault_sentence(fault: str) -> str:
+    """Where exactly a fault comes."""
+    return plain(rules_and_faults()[fault][1])
+
+
 def sentence(name: str) -> Optional[str]:
     """What the language says of a rule or a fault, with its example."""
     row = rules_and_faults().get(name)
@@ -49,13 +54,14 @@ def sentence(name: str) -> Optional[str]:
         return None
     if name.startswith("F"):
         return "%s, %s: %s.\n  The smallest program: %s\n" % (name, plain(row[0]), plain(row[1]), plain(row[2]))
-    return "%s is broken where %s.\n  Its place: %s. An example: %s\n" % (name, plain(row[0]), plain(row[1]), plain(row[2]))
+    where, place, shown = map(plain, row)
+    return "%s is broken where %s.\n  Its place: %s. An example: %s\n" % (name, where, place, shown)
 
 
 def example(name: str) -> tuple[str, str]:
     """The text of the example of a rule or a fault, and what is said behind it; no text where none is whole."""
     cell = rules_and_faults()[name][2]
-    got = re.match(r"`(program .*?\.)`(.*)$", cell)
+    got = re.match(r"`(program [^`]*)`((?: at|, in| with| on the input).*|)$", cell)
     return (got[1].replace("\\|", "|"), got[2]) if got else ("", cell)
 
 

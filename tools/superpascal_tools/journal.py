@@ -6,7 +6,9 @@ from typing import NamedTuple, Optional
 
 from .trouble import BAD_JOURNAL, Trouble
 
-ENTRY = re.compile(r"(0(?:/\d+\.\d+)*) (?:(fork) (\d+)|(send|receive) (0(?:/\d+\.\d+)*#\d+)|(fault) (F\d+)|(open|end|laid|pause))$")
+PROCESS = r"(0(?:/\d+\.\d+)*)"
+ENTRY = re.compile(PROCESS + r" (?:(fork) (\d+)|(send|receive) (0(?:/\d+\.\d+)*#\d+)|(fault) (F\d+)"
+                   r"|(open|end|laid|pause))$")
 HEADS = ("superpascal journal 1", "superpascal journal 2", "timeline")
 OTHERS = ("census", "tree", "waiting")
 
@@ -63,13 +65,14 @@ def read_record(text: str, strict: bool = True) -> Record:
         if part == "timeline":
             index, _, line = line.partition(" ")
             if index != str(len(entries)):
-                raise Trouble(BAD_JOURNAL, "line %d is no entry of a timeline: %s" % (number, (index + " " + line)[:80]))
+                said = (index + " " + line)[:80]
+                raise Trouble(BAD_JOURNAL, "line %d is no entry of a timeline: %s" % (number, said))
         entry = entry_of(line)
         if entry is None:
             raise Trouble(BAD_JOURNAL, "line %d is no entry of a journal: %s" % (number, line[:80]))
         entries.append(Entry(*[known.setdefault(word, word) for word in entry]))
     if not part:
-        raise Trouble(BAD_JOURNAL, "this is no journal and no timeline: it has no line `superpascal journal 2` or `timeline`")
+        raise Trouble(BAD_JOURNAL, "this is no journal: it has no line `superpascal journal 2` or `timeline`")
     return Record(head, entries)
 
 

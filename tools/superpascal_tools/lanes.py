@@ -42,7 +42,8 @@ class Lanes:
             forks = self.children.get(name, {}) if level < deep else {}
             if not ready and forks:
                 todo.append((name, level, True))
-                todo.extend((child, level + 1, False) for those in forks.values() for child in self.cut(those, level, deep, most))
+                for those in forks.values():
+                    todo.extend((child, level + 1, False) for child in self.cut(those, level, deep, most))
                 continue
             sums = [sum(wide[child] for child in self.cut(those, level, deep, most))
                     + (len(self.cut(those, level, deep, most)) < len(those)) for those in forks.values()]

@@ -11,7 +11,8 @@ text.title{font-size:14px;font-weight:bold}text.name{font-size:10px;font-weight:
 text.value{fill:#0072b2}text.loud{fill:#a03c00;font-weight:bold}
 text.foot{font-family:DejaVu Sans Mono,monospace;font-size:11px}
 line.work{stroke:#333;stroke-width:2}line.folded{stroke:#bbb;stroke-width:8}
-line.wait{stroke:#e69f00;stroke-width:2.5;stroke-dasharray:4 3}line.stuck{stroke:#a03c00;stroke-width:3;stroke-dasharray:7 3}
+line.wait{stroke:#e69f00;stroke-width:2.5;stroke-dasharray:4 3}
+line.stuck{stroke:#a03c00;stroke-width:3;stroke-dasharray:7 3}
 line.join{stroke:#999;stroke-width:1.2;stroke-dasharray:1 4}
 line.fork{stroke:#333;stroke-width:1.6}line.end{stroke:#333;stroke-width:4}
 line.message{stroke:#0072b2;stroke-width:1.6}line.race{stroke:#a03c00;stroke-width:3.2}
@@ -45,8 +46,11 @@ class Paper:
 
     def put(self, tag: str, tip: str = "", text: Optional[str] = None, **words: object) -> None:
         """An element, with what a pointer on it tells."""
-        told = "".join(' %s="%s"' % (name.rstrip("_").replace("_", "-"), number(value)) for name, value in words.items())
-        inner = (html.escape(text) if text is not None else "") + ("<title>%s</title>" % html.escape(tip) if tip else "")
+        told = ""
+        for name, value in words.items():
+            told += ' %s="%s"' % (name.rstrip("_").replace("_", "-"), number(value))
+        inner = html.escape(text) if text is not None else ""
+        inner += "<title>%s</title>" % html.escape(tip) if tip else ""
         self.lines.append("<%s%s>%s</%s>" % (tag, told, inner, tag) if inner else "<%s%s/>" % (tag, told))
 
     def line(self, start: tuple[float, float], stop: tuple[float, float], kind: str, tip: str = "") -> None:
@@ -86,8 +90,9 @@ class Paper:
     def svg(self, size: tuple[float, float], title: str, told: str) -> str:
         """The whole picture, with a title and a description for readers of screens."""
         marks = ARROW % ("blue", 8, 8, "#0072b2") + ARROW % ("brown", 10, 10, "#a03c00")
-        return ('<svg xmlns="http://www.w3.org/2000/svg" role="img" aria-labelledby="title told" width="%s" height="%s" '
-                'viewBox="0 0 %s %s">\n<title id="title">%s</title>\n<desc id="told">%s</desc>\n<style>%s</style>\n'
+        return ('<svg xmlns="http://www.w3.org/2000/svg" role="img" aria-labelledby="title told" width="%s" '
+                'height="%s" viewBox="0 0 %s %s">\n<title id="title">%s</title>\n<desc id="told">%s</desc>\n'
+                '<style>%s</style>\n'
                 '<defs>%s</defs>\n<rect width="100%%" height="100%%" fill="#fff"/>\n%s\n</svg>\n' % (
                     (number(size[0]), number(size[1])) * 2 + (html.escape(title), html.escape(told), STYLE, marks,
                                                               "\n".join(self.lines))))

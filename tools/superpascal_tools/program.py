@@ -10,6 +10,8 @@ from .following import Limits
 from .trouble import BAD_WORDS, NO_PROGRAM, Trouble, say
 
 LIMITS = Limits._fields
+BUILT = ("crates/sp_main/out/sp_main", "out/unproved", "out/unproved_checked")
+CHATTER = "superpascal: "
 
 
 class Answer(NamedTuple):
@@ -21,12 +23,15 @@ class Answer(NamedTuple):
 
 
 class Caller:
-    """Calls the program: the one that is named, else that of SUPERPASCAL, else ./superpascal of this repository."""
+    """Calls the program: the one that is named, else that of SUPERPASCAL, else ./superpascal of this repository.
+
+    What that script says for itself, in lines that begin with its name, is handed on at once and is no part of notes.
+    """
 
     def __init__(self, path: Optional[str] = None) -> None:
         named = path or os.environ.get("SUPERPASCAL")
         self.path = named or os.path.join(TOP, "superpascal")
-        if not named and not os.path.exists(os.path.join(TOP, "crates/sp_main/out/sp_main")):
+        if not named and not any(os.path.exists(os.path.join(TOP, path)) for path in BUILT):
             self.build()
         if os.sep not in self.path:
             self.path = os.path.join(".", self.path) if os.path.exists(self.path) else self.path
@@ -48,7 +53,12 @@ class Caller:
             raise Trouble(NO_PROGRAM, "cannot run the program %s: %s" % (self.path, why)) from None
         if got.returncode < 0:
             raise Trouble(NO_PROGRAM, "the program was ended by signal %d" % -got.returncode)
-        return Answer(got.returncode, got.stdout, got.stderr.decode("utf-8", "replace"))
+        notes = got.stderr.decode("utf-8", "replace")
+        if CHATTER in notes:
+            lines = notes.splitlines(keepends=True)
+            say("".join(line for line in lines if line.startswith(CHATTER)))
+            notes = "".join(line for line in lines if not line.startswith(CHATTER))
+        return Answer(got.returncode, got.stdout, notes)
 
 
 class Words(NamedTuple):

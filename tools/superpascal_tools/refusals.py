@@ -33,7 +33,7 @@ def explained(source: Source, text: bytes, rule: str, place: Place, caller: Call
     said = source.line(place)
     row = handbook.sentence(rule)
     said += "  " + (row or rule + "\n")
-    if rule == "G1":
+    if rule in ("G1", "G2"):
         found = may_stand(text, place, caller)
         said += "  Here may stand: %s\n" % ("  ".join(found) if found else "nothing")
     elif rule == "N1":
@@ -55,7 +55,7 @@ def place_in(text: bytes, place: Place) -> int:
 
 
 def may_stand(text: bytes, place: Place, caller: Caller) -> list[str]:
-    """The tokens that may stand at the place of G1: the program itself says it of each, in a copy that ends there."""
+    """The tokens that may stand at the place of G1 or G2: the program says it of each, in a copy that ends there."""
     before = text[:place_in(text, place)]
     folder = tempfile.mkdtemp(prefix="superpascal-")
     stand_ins = {"a name": "x", "a number": "1", "a text": "'xy'"}
@@ -117,8 +117,8 @@ def between_processes(program: Program, uses: Uses, place: Place) -> list[str]:
 def clashes(program: Program, uses: Uses, one: tuple[int, Reached], other: tuple[int, Reached]) -> list[str]:
     """What two process statements share, and how each comes to it."""
     here, there = one[1], other[1]
-    those = {variable for variable, target in there if target and ((variable, True) in here or (variable, False) in here)}
-    those |= {variable for variable, target in here if target and (variable, False) in there}
+    used = {variable for variable, _ in here} & {variable for variable, _ in there}
+    those = {variable for variable in used if (variable, True) in here or (variable, True) in there}
     lines = []
     for variable in by_name(program, those):
         told = []
@@ -135,7 +135,8 @@ def of_forall(program: Program, uses: Uses, place: Place) -> list[str]:
         if forall == place:
             reached = uses.reached(*tokens)
             those = {variable for variable, target in reached if target}
-            return ["The element statement %s." % uses.told((it, True), reached[it, True]) for it in by_name(program, those)]
+            return ["The element statement %s." % uses.told((it, True), reached[it, True])
+                    for it in by_name(program, those)]
     return []
 
 

@@ -65,7 +65,8 @@ def many(caller: Caller, file: str, count: int, options: list[str], workers: Seq
     seen: dict[Kind, int] = {}
     kept: dict[Kind, str] = {}
     for number in range(count):
-        answer = caller(["run", "--show", "timeline", "--workers", workers[number % len(workers)], *options, "--", file], data)
+        words = ["run", "--show", "timeline", "--workers", workers[number % len(workers)], *options, "--", file]
+        answer = caller(words, data)
         if answer.status not in (0, 3, 4):
             line = answer.notes.split("\n")[0]
             raise Trouble(REFUSED if answer.status == 1 else BAD_WORDS, "the program says: %s" % line)
@@ -113,4 +114,5 @@ def short(text: str) -> str:
 
 def shown(output: bytes) -> str:
     """An output on one line."""
-    return short(output.decode("utf-8", "backslashreplace").replace("\\", "\\\\").replace("\n", "\\n").replace("\t", "\\t"))
+    text = output.decode("utf-8", "backslashreplace").replace("\\", "\\\\")
+    return short(text.replace("\n", "\\n").replace("\t", "\\t"))

@@ -51,7 +51,8 @@ class Uses:
     def direct(self, first: int, last: int) -> Reached:
         """The variables that have a position in these tokens, with the first one."""
         found: Reached = {}
-        for at, declared, target in self.program.uses[bisect_left(self.positions, first):bisect_left(self.positions, last)]:
+        begin, end = bisect_left(self.positions, first), bisect_left(self.positions, last)
+        for at, declared, target in self.program.uses[begin:end]:
             found.setdefault((declared, target), Way(self.program.tokens[at].place, None))
         return found
 
