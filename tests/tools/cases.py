@@ -3,6 +3,8 @@ import os
 import shutil
 import subprocess
 import tempfile
+import threading
+from concurrent.futures import ThreadPoolExecutor
 
 HERE = os.path.dirname(os.path.realpath(__file__))
 TOP = os.path.dirname(os.path.dirname(HERE))
@@ -16,14 +18,20 @@ class Cases:
         self.program, self.writes, self.passed, self.failed = program, writes, 0, 0
         self.place = tempfile.TemporaryDirectory(prefix="superpascal-tools-")
         self.folder = self.place.name
+        self.lock = threading.Lock()
 
     def check(self, holds, what):
         """One comparison."""
-        if holds:
-            self.passed += 1
-        else:
-            self.failed += 1
-            print("FAILED: " + what, flush=True)
+        with self.lock:
+            self.passed += bool(holds)
+            self.failed += not holds
+            if not holds:
+                print("FAILED: " + what, flush=True)
+
+    def each(self, work, those):
+        """The results of this work on each of those, some at a time."""
+        with ThreadPoolExecutor(4) as pool:
+            return list(pool.map(work, those))
 
     def same(self, got, wanted, what):
         """Two texts that should be the same; else the first lines that differ."""

@@ -64,9 +64,8 @@ end.
 
 def test(case):
     """All explanations."""
-    told = []
-    for name in sorted(handbook.rules_and_faults(), key=lambda it: (it[0] == "F", it[0], int(it[1:]))):
-        told.append(rule(case, name) if name[0] != "F" else fault(case, name))
+    names = sorted(handbook.rules_and_faults(), key=lambda it: (it[0] == "F", it[0], int(it[1:])))
+    told = case.each(lambda name: rule(case, name) if name[0] != "F" else fault(case, name), names)
     for name in ("philosophers", "race", "interference"):
         told.append(of(case, ["run", copy(os.path.join(EXAMPLES, name + ".sp"), case.folder), "--workers", "1"]))
     copy(os.path.join(EXAMPLES, "race_clash.journal"), case.folder)

@@ -12,9 +12,14 @@ LETTER = 0.58
 
 def test(case):
     """A picture of each run."""
-    for name, path, data in gallery():
-        if case.run(["check", path])[0]:
-            continue
+    case.each(lambda it: draw(case, *it), gallery())
+    same_in_all_forms(case)
+    parts(case)
+
+
+def draw(case, name, path, data):
+    """The picture of a run."""
+    if case.run(["check", path])[0] == 0:
         file = copy(path, case.folder)
         status, picture, said = case.tool("picture", ["run", file, "--workers", "1"], data)
         case.check(status == 0 and "Traceback" not in said, "%s: status %d, %s" % (name, status, said))
@@ -28,8 +33,6 @@ def test(case):
                 with open(os.path.join(TOP, "docs/philosophers.svg"), "wb") as out:
                     out.write(picture)
             case.check(picture == page, "docs/philosophers.svg is another one")
-    same_in_all_forms(case)
-    parts(case)
 
 
 def well_formed(case, name, picture):

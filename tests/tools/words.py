@@ -34,10 +34,7 @@ def test(case):
         ("schedules", ["mistyped.sp", "3"], 25), ("schedules", ["--journals", "no", "race.sp", "1"], 22),
         ("schedules", ["race.sp", "3", "--show", "all"], 20),
     ]
-    for tool, words, wanted in table:
-        status, _, said = case.tool(tool, words)
-        case.check(status == wanted and said.count("\n") == 1 and said.startswith(tool + ": "),
-                   "%s %s: status %d, %s" % (tool, words, status, said[:300]))
+    case.each(lambda it: refused(case, *it), table)
     for tool in ("explain", "picture", "schedules"):
         status, told, _ = case.tool(tool, ["--help"])
         case.check(status == 0 and told.count(b"proved of nothing") == 1 and b"\n  24  " in told, tool + " --help")
@@ -45,8 +42,16 @@ def test(case):
     schedules(case)
 
 
+def refused(case, tool, words, wanted):
+    """One line and this status."""
+    status, _, said = case.tool(tool, words)
+    case.check(status == wanted and said.count("\n") == 1 and said.startswith(tool + ": "),
+               "%s %s: status %d, %s" % (tool, words, status, said[:300]))
+
+
 def handed_on(case):
     """What the program refuses keeps its notes and status; what is said behind them names what is wrong."""
+    case.file("chain.sp", CHAIN)
     for words, wanted in ((["rnu", "race.sp"], "near: run"), (["run", "race.sp", "--tick", "3"], "near: --ticks"),
                           (["run"], "a word is missing"), (["run", "nothing.sp"], "no file: nothing.sp"),
                           (["replay", "race.sp", "cut.journal"], "is cut off"),
@@ -55,7 +60,6 @@ def handed_on(case):
                           (["replay", "race.sp", "short.journal"], "stops before an end"),
                           (["run", "quicksort.sp"], "The input is empty"), (["check", "bytes.sp"], "S1 is broken"),
                           (["run", "chain.sp"], "F2, overflow")):
-        case.file("chain.sp", CHAIN)
         status, _, notes = case.run(words)
         got, _, said = case.tool("explain", words)
         case.check(got == status and said.startswith(notes) and wanted in said and "Traceback" not in said,

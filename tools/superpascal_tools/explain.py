@@ -14,7 +14,7 @@ from .journal import Record, entry_of, read_record
 from .language import Program
 from .program import Answer, Caller, Words, limits_of, split_words, take_option
 from .source import Source
-from .trouble import BAD_WORDS, STATUSES, UNPROVED, Trouble, Unfit, hush, read_file, say
+from .trouble import BAD_WORDS, STATUSES, UNPROVED, Trouble, Unfit, put_out, read_file, read_input, say
 
 HELP = """usage: tools/explain [--program PROGRAM] COMMAND ..
   tools/explain run FILE [OPTIONS] <INPUT          as `superpascal run`, and then why it ended so
@@ -37,7 +37,7 @@ def main(given: Sequence[str]) -> int:
     words = list(given)
     path = take_option(words, "--program")
     if words and words[0] in ("--help", "-h", "help"):
-        sys.stdout.write(HELP + UNPROVED + "\n" + STATUSES)
+        put_out((HELP + UNPROVED + "\n" + STATUSES).encode())
         return 0
     if not words:
         raise Trouble(BAD_WORDS, "a command is wanted; --help lists them")
@@ -45,7 +45,7 @@ def main(given: Sequence[str]) -> int:
         found = handbook.sentence(words[0].upper())
         if found is None:
             raise Trouble(BAD_WORDS, "no rule and no fault is called %s" % words[0])
-        sys.stdout.write(found)
+        put_out(found.encode())
         return 0
     return explain(words, Caller(path))
 
@@ -53,18 +53,14 @@ def main(given: Sequence[str]) -> int:
 def explain(words: list[str], caller: Caller) -> int:
     """The program's own answer, and behind it what it means."""
     asked = split_words(words)
-    data = read_input(asked, caller)
+    data = input_of(asked, caller)
     show, told = shown_as(words, asked)
     answer = caller(told, data)
     timeline = ""
     if show is not None and answer.status in (0, 3, 4) and "\ntimeline\n" in answer.notes:
         timeline = answer.notes
         answer = Answer(answer.status, answer.output, as_asked(timeline, show))
-    try:
-        sys.stdout.buffer.write(answer.output)
-        sys.stdout.buffer.flush()
-    except BrokenPipeError:
-        hush()
+    put_out(answer.output)
     say(answer.notes)
     try:
         say(meaning(asked, answer, timeline, data, caller))
@@ -73,20 +69,15 @@ def explain(words: list[str], caller: Caller) -> int:
     return answer.status
 
 
-def read_input(asked: Words, caller: Caller) -> bytes:
+def input_of(asked: Words, caller: Caller) -> bytes:
     """The standard input, where the command reads it; none is read for a text that is refused."""
     if asked.command not in RUNS or not asked.plain:
         return b""
-    if sys.stdin is None or sys.stdin.closed:
-        return b""
-    if sys.stdin.isatty():
+    if sys.stdin is not None and not sys.stdin.closed and sys.stdin.isatty():
         if caller(["check", "--", asked.plain[0]]).status:
             return b""
         say("explain: reading the input: Ctrl-D ends it\n")
-    try:
-        return sys.stdin.buffer.read()
-    except OSError as error:
-        raise Trouble(BAD_WORDS, "cannot read the input: %s" % error.strerror) from None
+    return read_input()
 
 
 def shown_as(words: list[str], asked: Words) -> tuple[Optional[str], list[str]]:

@@ -2,7 +2,6 @@
 from __future__ import annotations
 
 import os
-import sys
 from typing import Optional, Sequence
 
 from .drawing import Drawing, View
@@ -13,7 +12,7 @@ from .language import Program
 from .lanes import Lanes
 from .moments import Moments
 from .program import Caller, limits_of, split_words
-from .trouble import BAD_WORDS, REFUSED, STATUSES, UNPROVED, Trouble, read_file, say, write_file
+from .trouble import BAD_WORDS, REFUSED, STATUSES, UNPROVED, Trouble, put_out, read_file, read_input, say, write_file
 from .waiting import waiting, who_would_come
 
 HELP = """usage: tools/picture [OPTIONS] [JOURNAL] >RUN.svg
@@ -46,7 +45,7 @@ def main(given: Sequence[str]) -> int:
     """Draws a run."""
     words = list(given)
     if words and words[0] in ("--help", "-h", "help"):
-        sys.stdout.write(HELP + UNPROVED + "\n" + STATUSES)
+        put_out((HELP + UNPROVED + "\n" + STATUSES).encode())
         return 0
     runs = words[:1] == ["run"]
     own, rest, in_order = own_options(words[1:] if runs else words)
@@ -58,7 +57,7 @@ def main(given: Sequence[str]) -> int:
         unknown = [name for name in asked.options if name[2:] not in limits_of({})._fields]
         if unknown or len(asked.plain) > 1:
             raise Trouble(BAD_WORDS, "not understood: %s; --help says more" % " ".join(unknown or asked.plain[1:]))
-        told = read_file(asked.plain[0]) if asked.plain else sys.stdin.buffer.read()
+        told = read_file(asked.plain[0]) if asked.plain else read_input()
         record = read_record(told.decode("utf-8", "replace"))
         data = read_file(own["--input"]) if "--input" in own else b""
     view = View(Moments(record.entries, in_order), Lanes([]), 0, 0, "", foot_of(record))
@@ -99,7 +98,7 @@ def ran(own: dict[str, str], rest: list[str]) -> tuple[Record, str, bytes]:
     if not asked.plain or "--show" in asked.options:
         raise Trouble(BAD_WORDS, "run wants a FILE, and no --show")
     caller = Caller(own.get("--program"))
-    data = read_file(own["--input"]) if "--input" in own else b"" if sys.stdin.isatty() else sys.stdin.buffer.read()
+    data = read_file(own["--input"]) if "--input" in own else read_input()
     answer = caller(["run", "--show", "timeline"] + rest, data)
     if answer.status not in (0, 3, 4):
         line = answer.notes.split("\n")[0]

@@ -2,12 +2,11 @@
 from __future__ import annotations
 
 import os
-import sys
 from typing import NamedTuple, Optional, Sequence
 
 from .journal import journal_text, read_record
 from .program import Answer, Caller, split_words, take_option
-from .trouble import BAD_WORDS, REFUSED, STATUSES, UNPROVED, Trouble, read_file, write_file
+from .trouble import BAD_WORDS, REFUSED, STATUSES, UNPROVED, Trouble, put_out, read_file, read_input, write_file
 
 HELP = """usage: tools/schedules [--program PROGRAM] [--journals FOLDER] FILE N [OPTIONS of `superpascal run`] <INPUT
 
@@ -35,7 +34,7 @@ def main(given: Sequence[str]) -> int:
     """Prints the table of the runs."""
     words = list(given)
     if words and words[0] in ("--help", "-h", "help"):
-        sys.stdout.write(HELP + UNPROVED + "\n" + STATUSES)
+        put_out((HELP + UNPROVED + "\n" + STATUSES).encode())
         return 0
     own: dict[str, Optional[str]] = {}
     while words and words[0].split("=")[0] in ("--program", "--journals"):
@@ -51,11 +50,11 @@ def main(given: Sequence[str]) -> int:
     options = [word for name, value in asked.options.items() if name != "--workers" for word in (name, value)]
     workers = (asked.options["--workers"],) if "--workers" in asked.options else WORKERS
     caller = Caller(own.get("--program"))
-    data = b"" if sys.stdin is None or sys.stdin.isatty() else sys.stdin.buffer.read()
+    data = read_input()
     seen, kept = many(caller, file, count, options, workers, data)
     witness = clash(caller, file, options, data) if any(kind.verdict.startswith("race") for kind in seen) else ""
     folder = own.get("--journals") or "."
-    sys.stdout.write(table(file, seen, kept, witness, folder, count))
+    put_out(table(file, seen, kept, witness, folder, count).encode())
     return 0
 
 

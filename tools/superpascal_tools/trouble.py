@@ -59,17 +59,36 @@ def read_file(path: str) -> bytes:
 
 def write_file(path: str, text: bytes) -> None:
     """Writes a file, or standard output where the path is `-`."""
+    if path == "-":
+        put_out(text)
+        return
     try:
-        if path == "-":
-            sys.stdout.buffer.write(text)
-            sys.stdout.buffer.flush()
-            return
         with open(path, "wb") as file:
             file.write(text)
+    except OSError as error:
+        raise Trouble(NO_FILE, "cannot write %s: %s" % (path, error.strerror)) from None
+
+
+def put_out(text: bytes) -> None:
+    """Writes to standard output; a reader that has gone is no trouble."""
+    try:
+        sys.stdout.buffer.write(text)
+        sys.stdout.buffer.flush()
     except BrokenPipeError:
         hush()
     except OSError as error:
-        raise Trouble(NO_FILE, "cannot write %s: %s" % (path, error.strerror)) from None
+        hush()
+        raise Trouble(NO_FILE, "cannot write the output: %s" % error.strerror) from None
+
+
+def read_input() -> bytes:
+    """The standard input to its end; nothing where it is closed."""
+    if sys.stdin is None or sys.stdin.closed:
+        return b""
+    try:
+        return sys.stdin.buffer.read()
+    except OSError as error:
+        raise Trouble(NO_FILE, "cannot read the input: %s" % error.strerror) from None
 
 
 def hush() -> None:
