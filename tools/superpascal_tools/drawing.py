@@ -5,7 +5,6 @@ from bisect import bisect_left
 from dataclasses import dataclass, field
 from typing import Optional
 
-from .journal import Entry
 from .lanes import OUTSIDE, Lanes
 from .moments import Moments
 from .paper import Paper, cut, wide
@@ -25,6 +24,7 @@ class View:
     title: str
     foot: list[str]
     race: Optional[tuple[int, int]] = None
+    clash: Optional[tuple[int, int]] = None
     values: dict[int, str] = field(default_factory=dict)
     titles: dict[str, str] = field(default_factory=dict)
     lines: dict[int, int] = field(default_factory=dict)
@@ -141,7 +141,7 @@ class Drawing:
             other = self.moments.meets[at]
             said += ", meets entry %d of %s" % (other, self.entries[other].name)
         if at in self.view.values:
-            said += ", value %s" % self.view.values[at]
+            said += ", %s%s" % ("value " if at in self.moments.meets else "", self.view.values[at])
         return said + (", line %d" % self.view.lines[at] if at in self.view.lines else "")
 
     # Drawing.
@@ -317,12 +317,16 @@ class Drawing:
             self.paper.label(cut(text, LANE - 12), [(x + 8, y + 4 + 11 * number)], "loud", self.told(at))
 
     def pair(self) -> None:
-        """The curve between the two offers that race."""
-        if not self.view.race or not all(self.view.first <= at <= self.view.last for at in self.view.race):
+        """The curve between the two offers that race, or that clash in a fault."""
+        pair = self.view.race or self.view.clash
+        if not pair or not all(self.view.first <= at <= self.view.last for at in pair):
             return
-        (x1, y1), (x2, y2) = (self.point(at) for at in self.view.race)
-        self.paper.put("path", "entries %d and %d race" % self.view.race, class_="pair", d="M%g,%g Q%g,%g %g,%g" % (
-            x1 + 4, y1 + 3, max(x1, x2) + 36, (y1 + y2) / 2, x2 + 4, y2))
+        (x1, y1), (x2, y2) = (self.point(at) for at in pair)
+        tip = "entries %d and %d %s" % (pair + ("race" if self.view.race else "clash",))
+        way = (x1 + 4, y1 + 3, max(x1, x2) + 36, (y1 + y2) / 2, x2 + 4, y2)
+        if self.view.clash:
+            way = (x1, y1 - 4, (x1 + x2) / 2, min(y1, y2) - 34, x2, y2 - 6)
+        self.paper.put("path", tip, class_="pair", d="M%g,%g Q%g,%g %g,%g" % way)
 
     def waits(self, low: float) -> float:
         """Below the lanes: who waits for whom."""

@@ -99,7 +99,8 @@ class Ends:
             said += self.path(other)
         elif met.fault == "F18" and not self.run.data:
             said += "  The input is empty; a file is given as input by <FILE behind the words.\n"
-        return said + "  %s comes exactly where: %s.\n" % (met.fault, handbook.fault_sentence(met.fault))
+        where = handbook.fault_sentence(met.fault)
+        return said + handbook.wrapped("  %s comes exactly where: %s." % (met.fault, where), "    ")
 
     def message(self, event: tuple) -> str:
         """What an offer sends, or where it puts what it receives."""
@@ -114,7 +115,6 @@ class Ends:
         said = "deadlock: %d process%s, and no other can go on\n" % (
             len(stuck), " waits" if len(stuck) == 1 else "es wait")
         told = {process.name: self.waits(process) for process in stuck[:PROCESSES]}
-        names = {process.name: self.who(process) for process in stuck}
         holding = {}
         for process in stuck[:PROCESSES]:
             if process.offer is not None:
@@ -125,7 +125,7 @@ class Ends:
             said += self.source.named(self.program.places[stands], "  ")
             for name in told:
                 if places[name] == stands:
-                    said += told[name] + self.partner(name, comers, holding, names)
+                    said += told[name] + self.partner(name, comers, holding)
         if len(stuck) > PROCESSES:
             said += "  and %d more\n" % (len(stuck) - PROCESSES)
         return said + self.circle(comers, [process.name for process in stuck])
@@ -137,20 +137,19 @@ class Ends:
             return ""
         what = "to send %s on" % shown(offer[2], offer[3]) if offer[0] == "send" else \
             "to receive %s from" % variable_name(*offer[2])
-        return "    %s waits %s channel %s, since entry %d\n" % (
+        return "    %s\n      waits %s channel %s, since entry %d\n" % (
             self.who(process), what, self.channel(offer[1], process), process.entry)
 
-    def partner(self, name: str, comers: dict[str, list[tuple[str, int]]], holding: dict[str, list[str]],
-                names: dict[str, str]) -> str:
+    def partner(self, name: str, comers: dict[str, list[tuple[str, int]]], holding: dict[str, list[str]]) -> str:
         """Who could meet a process that waits, and where that one is."""
         found = comers.get(name, [])[:2]
         if found:
-            return "".join("      could be met by %s at line %d, which waits itself\n" % (names[who], self.line_of(at))
+            return "".join("      could be met by %s at line %d, which waits itself\n" % (who, self.line_of(at))
                            for who, at in found)
         others = holding.get(name, [])[:2]
         if others:
             return "      no process would come to it; %s knows the channel, and waits itself\n" % \
-                " and ".join(names[who] for who in others)
+                " and ".join(others)
         return "      no process that is left knows the channel\n"
 
     @staticmethod

@@ -3,11 +3,13 @@ from __future__ import annotations
 
 import os
 import re
+import textwrap
 from functools import lru_cache
 from typing import Optional
 
 from .trouble import read_file
 
+WIDE = 100
 TOP = os.path.dirname(os.path.dirname(os.path.dirname(os.path.realpath(__file__))))
 
 
@@ -42,6 +44,11 @@ def fault_name(fault: str) -> str:
     return plain(rules_and_faults()[fault][0])
 
 
+def wrapped(text: str, indent: str = "  ") -> str:
+    """A text in lines that a terminal can show, the later ones behind this indent."""
+    return textwrap.fill(text, WIDE, subsequent_indent=indent, break_on_hyphens=False, break_long_words=False) + "\n"
+
+
 def fault_sentence(fault: str) -> str:
     """Where exactly a fault comes."""
     return plain(rules_and_faults()[fault][1])
@@ -52,10 +59,10 @@ def sentence(name: str) -> Optional[str]:
     row = rules_and_faults().get(name)
     if row is None:
         return None
+    first, second, shown = map(plain, row)
     if name.startswith("F"):
-        return "%s, %s: %s.\n  The smallest program: %s\n" % (name, plain(row[0]), plain(row[1]), plain(row[2]))
-    where, place, shown = map(plain, row)
-    return "%s is broken where %s.\n  Its place: %s. An example: %s\n" % (name, where, place, shown)
+        return wrapped("%s, %s: %s." % (name, first, second)) + "  A smallest program: %s\n" % shown
+    return wrapped("%s is broken where %s. Its place: %s." % (name, first, second)) + "  An example: %s\n" % shown
 
 
 def example(name: str) -> tuple[str, str]:

@@ -5,7 +5,7 @@ import os
 from typing import Optional, Sequence
 
 from .drawing import Drawing, View
-from .following import Run
+from .following import Limits, Run
 from .journal import Entry, Record, order_of, racing, read_record
 from .kinds import shown, variable_name
 from .language import Program
@@ -115,9 +115,9 @@ def foot_of(record: Record) -> list[str]:
     return ["fault %s %s" % (entry.argument, entry.name) for entry in faults[:1]]
 
 
-def know(view: View, record: Record, path: str, data: bytes, limits: object) -> None:
+def know(view: View, record: Record, path: str, data: bytes, limits: Limits) -> None:
     """What the text says of the entries."""
-    run = Run(Program(read_file(path).decode("latin1")), data, limits)  # type: ignore[arg-type]
+    run = Run(Program(read_file(path).decode("latin1")), data, limits)
     run.follow(record.entries)
     view.values = dict(run.messages)
     view.titles = {name: process.title() for name, process in run.processes.items()}
@@ -126,7 +126,10 @@ def know(view: View, record: Record, path: str, data: bytes, limits: object) -> 
     for process in waiting(run):
         if process.offer is not None:
             kind, _, what, of_type = process.offer
-            view.values[process.entry] = shown(what, of_type) if kind == "send" else "into " + variable_name(*what)
+            said = "value " + shown(what, of_type) if kind == "send" else "into " + variable_name(*what)
+            view.values[process.entry] = said
+    if run.met and run.met.other:
+        view.clash = (run.met.other.entry, run.met.process.entry)
     if run.end() == "deadlock":
         comers = who_would_come(run)
         for name in sorted(comers, key=order_of):
@@ -163,20 +166,14 @@ def choose(view: View, record: Record, own: dict[str, str]) -> None:
 def touched(view: View, entries: list[Entry]) -> set[str]:
     """The processes that have a part in the entries that are drawn."""
     names = set()
+    number = {at: fork for (_, fork), (_, at, _) in view.moments.forks.items()}
     for at in range(view.first, view.last + 1):
         names.add(entries[at].name)
-        if entries[at].kind == "fork":
-            fork = next_fork(view, at)
-            names.update("%s/%d.%d" % (entries[at].name, fork, child) for child in range(int(entries[at].argument)))
+        if at in number:
+            name, _, count = entries[at]
+            names.update("%s/%d.%d" % (name, number[at], child) for child in range(int(count)))
     names.update(entries[at].name for at in view.moments.waiting.values() if view.last + 1 == len(entries))
     return names
-
-
-def next_fork(view: View, at: int) -> int:
-    """The number of the fork that is made at an entry."""
-    if not hasattr(view, "fork_at"):
-        view.fork_at = {index: fork for (_, fork), (_, index, _) in view.moments.forks.items()}  # type: ignore
-    return view.fork_at[at]  # type: ignore[attr-defined]
 
 
 def race_of(record: Record) -> Optional[tuple[int, int]]:

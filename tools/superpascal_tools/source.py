@@ -3,8 +3,8 @@ from __future__ import annotations
 
 from .tokens import Place
 
-WIDE = 110
-BEFORE = 70
+WIDE = 100
+BEFORE = 64
 
 
 class Source:
