@@ -181,13 +181,14 @@ class Statements(Expressions):
 
     def forall(self, place: Place) -> None:
         """`forall`."""
-        at, name = self.place, self.next()
+        at, name, number = self.place, self.next(), self.at - 1
         self.need(":=")
         kind = self.expression()
         self.need("to")
         self.expression()
         self.need("do")
         inner = Block(self.block, "forall", name, at)
+        inner.first = number
         index = Declared("var", name, inner, at)
         index.kind = kind
         inner.names[name] = index

@@ -49,10 +49,12 @@ class Uses:
             yield self.program.tokens[at].place, callee
 
     def direct(self, first: int, last: int) -> Reached:
-        """The variables that have a position in these tokens, with the first one."""
+        """The variables that have a position in these tokens, with the first one; no index of a forall among them."""
         found: Reached = {}
         begin, end = bisect_left(self.positions, first), bisect_left(self.positions, last)
         for at, declared, target in self.program.uses[begin:end]:
+            if declared.block.what == "forall" and declared.block.first >= first:
+                continue
             found.setdefault((declared, target), Way(self.program.tokens[at].place, None))
         return found
 
