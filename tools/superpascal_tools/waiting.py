@@ -16,7 +16,7 @@ def waiting(run: Run) -> list[Process]:
 def who_would_come(run: Run) -> dict[str, list[tuple[str, int]]]:
     """For a process that waits: which others that wait would meet it later, and the operation with which they would.
 
-    A guess: what a process would have received is taken to be what its variable has, or else the least value. It
+    A guess: what a process would have received is taken to be what its variable holds, or else 0 or the least value. It
     changes the variables of the run, so nothing is asked of the run after it.
     """
     wanted = {}
