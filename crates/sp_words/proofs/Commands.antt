@@ -30,7 +30,7 @@ use Rattle.sp_words.specs.Parsers.{IsShowParser, app_with, gen_parsers, limit_pa
 use Rattle.sp_words.specs.Words.{command_from, command_named, command_names, command_of, command_of_items, command_read, command_with, each_once, has_journal, is_accepted, lookup, with_journal}
 use Rattle.sp_words.specs.declared.command.Command.{Command}
 use Rattle.sp_words.specs.declared.command.CommandName.{CommandName}
-use Rattle.sp_words.specs.declared.command.CommandName.TheVariants.{Check, Run, Code, Sets, Format, Gen, Replay, Witness}
+use Rattle.sp_words.specs.declared.command.CommandName.TheVariants.{Check, Run, Code, Sets, Format, Gen, Replay, Witness, Build}
 use Rattle.sp_words.proofs.Readings.{Each}
 use Rattle.sp_words.proofs.Rules.{Options, Parsers, clear, file_id, journal_id, level, rules}
 use Rattle.sp_words.proofs.Levels.{IsFree, and-false, good, names}
@@ -47,6 +47,7 @@ word_for Format = codes "format"
 word_for Gen = codes "gen"
 word_for Replay = codes "replay"
 word_for Witness = codes "witness"
+word_for Build = codes "build"
 
 some_same : {X : Type 0} {x y : X} → Some x ≡ Some y → x ≡ y
 some_same {X} {x} {y} e = ap (λ o. Rattle.std.specs.Prelude.unwrap_or o x) e
@@ -67,7 +68,7 @@ word_found (x ∷ xs) word command each e = found_step x word command (find (λ 
 
 -- the word that names a command
 pub word_of_command : (word : Text) (command : CommandName) → command_named word ≡ Some command → word ≡ word_for command
-word_of_command word command e = word_found command_names word command (refl, (refl, (refl, (refl, (refl, (refl, (refl, (refl, tt)))))))) e
+word_of_command word command e = word_found command_names word command (refl, (refl, (refl, (refl, (refl, (refl, (refl, (refl, (refl, tt))))))))) e
 
 -- ---- the walk past the command
 
@@ -151,6 +152,7 @@ option_parsers q Format = []
 option_parsers q Gen = gen_parsers
 option_parsers q Replay = limit_parsers
 option_parsers q Witness = witness_parsers
+option_parsers q Build = []
 
 abbrev pub parsers_for : ValueParser → CommandName → Parsers
 parsers_for q command = (has_journal command, option_parsers q command)
@@ -160,7 +162,7 @@ abbrev pub level_for : ValueParser → CommandName → Shape
 level_for q command = level (word_for command) (parsers_for q command)
 
 abbrev pub shapes : ValueParser → List Shape
-shapes q = map (level_for q) (Check ∷ Run ∷ Code ∷ Sets ∷ Format ∷ Gen ∷ Replay ∷ Witness ∷ [])
+shapes q = map (level_for q) (Check ∷ Run ∷ Code ∷ Sets ∷ Format ∷ Gen ∷ Replay ∷ Witness ∷ Build ∷ [])
 
 built_is : (q : ValueParser) → built (app_with q) ≡ app (shapes q)
 built_is q = refl
@@ -180,6 +182,7 @@ enters_command q Format words = enters (shapes q) (word_for Format) (level_for q
 enters_command q Gen words = enters (shapes q) (word_for Gen) (level_for q Gen) words refl refl
 enters_command q Replay words = enters (shapes q) (word_for Replay) (level_for q Replay) words refl refl
 enters_command q Witness words = enters (shapes q) (word_for Witness) (level_for q Witness) words refl refl
+enters_command q Build words = enters (shapes q) (word_for Build) (level_for q Build) words refl refl
 
 number_test : (a b : Bool) (n : ℕ) (f : ℕ → Bool) → (a && (b && f n)) ≡ option_map_or f (cond (a && b) (Some n) None) false
 number_test true true n f = refl
@@ -217,6 +220,7 @@ agrees q Format show = tt
 agrees q Gen show = (refl, takes_number 1 64, tt)
 agrees q Replay show = limits_agree [] [] tt
 agrees q Witness show = (refl, takes_number 1 64, limits_agree [] [] tt)
+agrees q Build show = tt
 
 is_free : (q : ValueParser) (command : CommandName) → IsFree (parsers_for q command)
 is_free q Check = (refl, refl)
@@ -227,6 +231,7 @@ is_free q Format = (refl, refl)
 is_free q Gen = (refl, refl)
 is_free q Replay = (refl, refl)
 is_free q Witness = (refl, refl)
+is_free q Build = (refl, refl)
 
 -- ---- the words
 
@@ -267,6 +272,7 @@ incomplete command is e = without_file command (lookup is) (lookup is file_id) _
     without Gen word d = absurd (true≢false d)
     without Replay word d = without_journal (lookup is journal_id) _ d
     without Witness word d = absurd (true≢false d)
+    without Build word d = absurd (true≢false d)
 
 -- items that the parse refuses are no command
 left_out : (g : Bool) (command : CommandName) (is : List Item) → (g && is_complete (has_journal command) is) ≡ false → cond g (command_with command (lookup is)) None ≡ None

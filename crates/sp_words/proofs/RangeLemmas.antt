@@ -154,6 +154,7 @@ word_in_range name.Run is word c accepted e =
 word_in_range name.Code is word c accepted e = rw (sym (some_same (command.Code word) c e)) tt
 word_in_range name.Sets is word c accepted e = rw (sym (some_same (command.Sets word) c e)) tt
 word_in_range name.Format is word c accepted e = rw (sym (some_same (command.Format word) c e)) tt
+word_in_range name.Build is word c accepted e = rw (sym (some_same (command.Build word) c e)) tt
 word_in_range name.Gen is word c accepted e = gen_in_range is word (size_named word) c accepted refl e
 word_in_range name.Replay is word c accepted e = journal_in_range is word (lookup is (codes "JOURNAL")) c accepted e
 word_in_range name.Witness is word c accepted e =

@@ -77,6 +77,7 @@ options_of name.Format = []
 options_of name.Gen = gen_options
 options_of name.Replay = limit_options
 options_of name.Witness = witness_options
+options_of name.Build = []
 
 -- the names of the options of a command
 abbrev pub option_names : CommandName → List Text

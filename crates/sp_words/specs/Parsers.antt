@@ -86,7 +86,7 @@ app_with q = record {
   subs = shape_with (codes "check") [] ∷ shape_with (codes "run") (run_parsers q)
       ∷ shape_with (codes "code") [] ∷ shape_with (codes "sets") [] ∷ shape_with (codes "format") []
       ∷ shape_with (codes "gen") gen_parsers ∷ replay_shape limit_parsers
-      ∷ shape_with (codes "witness") witness_parsers ∷ [];
+      ∷ shape_with (codes "witness") witness_parsers ∷ shape_with (codes "build") [] ∷ [];
 }
 
 -- no option of the command is one of its subcommands as well

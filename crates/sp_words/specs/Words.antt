@@ -77,6 +77,7 @@ command_from name.Format value word = Some (command.Format word)
 command_from name.Gen value word = option_map (λ size. command.Gen size (workers_from value)) (size_named word)
 command_from name.Replay value word = option_map (λ text. command.Replay word text (limits_from value)) (value (codes "JOURNAL"))
 command_from name.Witness value word = Some (command.Witness word (workers_from value) (limits_from value))
+command_from name.Build value word = Some (command.Build word)
 
 -- the command by the texts of its subjects, where FILE is one of them
 abbrev pub command_with : CommandName → (Text → Option Text) → Option Command
@@ -106,6 +107,7 @@ has_journal name.Format = false
 has_journal name.Gen = false
 has_journal name.Replay = true
 has_journal name.Witness = false
+has_journal name.Build = false
 
 -- where there is a JOURNAL, it is the second of the words that are no options
 abbrev pub with_journal : Bool → List Item → List Item
@@ -125,7 +127,8 @@ command_of_items command is = command_of_parts command (with_journal (has_journa
 abbrev pub command_names : List (Text × CommandName)
 command_names = (codes "check", name.Check) ∷ (codes "run", name.Run) ∷ (codes "code", name.Code)
     ∷ (codes "sets", name.Sets) ∷ (codes "format", name.Format) ∷ (codes "gen", name.Gen)
-    ∷ (codes "replay", name.Replay) ∷ (codes "witness", name.Witness) ∷ []
+    ∷ (codes "replay", name.Replay) ∷ (codes "witness", name.Witness)
+    ∷ (codes "build", name.Build) ∷ []
 
 -- the command of a name
 abbrev pub command_named : Text → Option CommandName

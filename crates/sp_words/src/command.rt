@@ -48,6 +48,8 @@ pub enum Command {
         workers: u32,
         limits: Limits,
     },
+    /// Write the code of the program as a text that can be read again.
+    Build(Word),
 }
 
 /// The names of the commands.
@@ -61,6 +63,7 @@ pub(crate) enum CommandName {
     Gen,
     Replay,
     Witness,
+    Build,
 }
 
 /// Why the words give no command.

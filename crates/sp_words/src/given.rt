@@ -143,6 +143,7 @@ pub(crate) fn command_given(
         CommandName::Code => Command::Code(file(alloc, text)?),
         CommandName::Sets => Command::Sets(file(alloc, text)?),
         CommandName::Format => Command::Format(file(alloc, text)?),
+        CommandName::Build => Command::Build(file(alloc, text)?),
         CommandName::Gen => gen_given(text, given).ok_or(WordsError::Refused)?,
         CommandName::Replay => replay_given(alloc, text, given)?,
         CommandName::Witness => Command::Witness {

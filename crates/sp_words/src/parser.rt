@@ -185,5 +185,6 @@ pub(crate) fn parser<'a>(alloc: Global) -> Result<Command<'a>, AllocError>
     let line = with_plain(line, alloc, "format");
     let line = with_command(line, gen_command(alloc));
     let line = with_command(line, replay_command(alloc));
-    with_command(line, witness_command(alloc))
+    let line = with_command(line, witness_command(alloc));
+    with_plain(line, alloc, "build")
 }

@@ -65,6 +65,7 @@ fn command_named(word: &str) -> Option<CommandName>
         "gen" => Some(CommandName::Gen),
         "replay" => Some(CommandName::Replay),
         "witness" => Some(CommandName::Witness),
+        "build" => Some(CommandName::Build),
         _ => None,
     }
 }
@@ -77,7 +78,11 @@ fn option_names(command: CommandName) -> &'static [&'static str]
         CommandName::Gen => GEN_OPTIONS.as_slice(),
         CommandName::Replay => LIMIT_OPTIONS.as_slice(),
         CommandName::Witness => WITNESS_OPTIONS.as_slice(),
-        CommandName::Check | CommandName::Code | CommandName::Sets | CommandName::Format => &[],
+        CommandName::Check
+        | CommandName::Code
+        | CommandName::Sets
+        | CommandName::Format
+        | CommandName::Build => &[],
     }
 }
 

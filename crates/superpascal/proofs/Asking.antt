@@ -9,7 +9,7 @@ use Rattle.sp_words.specs.declared.command.Command.{Command}
 use Rattle.sp_words.specs.declared.command.Command.TheVariants as command
 use Rattle.superpascal.specs.declared.telling.Telling.{Telling}
 use Rattle.superpascal.specs.declared.telling.Telling.TheVariants as told
-use Rattle.superpascal.specs.Texts.{Asked, Breaks, BreaksOne, CanRead, Followed, IsAbout, Keeps, KeepsAll, Makes, asked, asks, asks_for, asks_text, follows, text_of}
+use Rattle.superpascal.specs.Texts.{Asked, Breaks, BreaksOne, CanRead, Followed, IsAbout, Keeps, KeepsAll, Makes, asked, asks, asks_build, asks_for, asks_text, follows, text_of}
 
 -- what holds of `run` and of `witness` holds of the command
 pub either_command : (P : Command → Type 0) (b : Asked)
@@ -46,6 +46,9 @@ asked_makes b text out line = either_command (λ d. Makes d text out line → �
 
 pub asked_no_text : (b : Asked) → asks_text (asks b) → ⊥
 asked_no_text b = either_command (λ d. asks_text d → ⊥) b (λ show h. h) (λ h. h)
+
+pub asked_no_build : (b : Asked) → asks_build (asks b) → ⊥
+asked_no_build b = either_command (λ d. asks_build d → ⊥) b (λ show h. h) (λ h. h)
 
 pub asked_range : (b : Asked) → AreInRange (asks b) → IsInRange b.workers b.limits
 asked_range b = either_command (λ d. AreInRange d → IsInRange b.workers b.limits) b (λ show h. h) (λ h. h)

@@ -30,18 +30,18 @@ use Rattle.superpascal.specs.declared.telling.Telling.TheVariants as told
 use Rattle.superpascal.specs.Answering.{HasEndLines}
 use Rattle.superpascal.specs.Answers.{has_output, line_of, notes_by, notes_of, output_of, status_of}
 use Rattle.superpascal.specs.Calls.{All, Call, Exactly, Failed, IsAnswered, IsFinal, IsOutside, IsUnwritten, OfText, Part}
-use Rattle.superpascal.specs.Causes.{Cause, by_words, before_words, by_command, Files, HasGenerated, HasMade, HasRead, HasReplayed, HasRun, IsBadJournal, IsLongJournal, IsNotLoaded, IsNotRead, IsRefusedFor, IsTold, IsTooLong, IsTooMuch, IsUnfit, IsUntouched, ReadsAfterRules, Stream, refused, silent}
+use Rattle.superpascal.specs.Causes.{Cause, by_words, before_words, by_command, Files, HasGenerated, HasMade, HasRead, HasReplayed, HasRun, IsBadJournal, IsLongCode, IsLongJournal, IsNotLoaded, IsNotRead, IsRefusedFor, IsTold, IsTooLong, IsTooMuch, IsUnfit, IsUntouched, ReadsAfterRules, Stream, refused, silent}
 use Rattle.superpascal.specs.Following.{Following, IsMeantAlong, IsNoJournal, PrintsReplay, SaysJournal}
 use Rattle.superpascal.specs.Headline.{Headline, IsMeant, Prints, SaysRefusal}
 use Rattle.superpascal.specs.Promise.{Promise}
 use Rattle.superpascal.specs.Replays.{IsJournalOf, IsUnfitFor, ending_of_replay, replay_notes}
 use Rattle.superpascal.specs.Runs.{IsRunOf, Reports, ending_of, generated_answer, generated_output, run_answer, told_notes, told_output}
-use Rattle.superpascal.specs.Statuses.{InputIsTooLong, IsQuiet, IsRunOfWords, ReadsFail, Statuses}
-use Rattle.superpascal.specs.Texts.{Asked, Breaks, CanRead, Followed, IsDisjointText, IsJournalText, Keeps, KeepsAll, Loads, Makes, asks, asks_replay, asks_run, asks_text, follows, text_of}
+use Rattle.superpascal.specs.Statuses.{InputIsTooLong, IsQuiet, IsRunOfWords, IsWell, ReadsFail, Statuses}
+use Rattle.superpascal.specs.Texts.{Asked, Breaks, CanRead, Followed, HasLongCode, IsDisjointText, IsJournalText, Keeps, KeepsAll, Loads, Makes, asks, asks_build, asks_replay, asks_run, asks_text, follows, text_of}
 use Rattle.superpascal.specs.Witnessing.{IsShown}
 use Rattle.superpascal.specs.Writing.{AreWritten, Writing, WritesLine}
-use Rattle.superpascal.proofs.Laws.{Laws, disjoint_text, keeps_all, keeps_or, kept_or, made_asks, made_keeps, made_once, one_break}
-use Rattle.superpascal.proofs.Asking.{asked_breaks, asked_keeps, asked_makes, asked_no_text, asked_text, breaks_asked, keeps_asked, not_gen, not_run, one_asked}
+use Rattle.superpascal.proofs.Laws.{Laws, code_text_keeps, disjoint_text, keeps_all, keeps_or, kept_or, made_asks, made_keeps, made_once, one_break}
+use Rattle.superpascal.proofs.Asking.{asked_breaks, asked_keeps, asked_makes, asked_no_build, asked_no_text, asked_text, breaks_asked, keeps_asked, not_gen, not_run, one_asked}
 use Rattle.superpascal.proofs.Parts.{when_told}
 use Rattle.superpascal.proofs.Replaying.{code_keeps, if_mapped, if_told, meant_along, not_followed, not_generated, not_unfit, one_followed, replay_notes_stand, same_entry, told_of}
 use Rattle.superpascal.proofs.Tellable.{ends_of, replay_ends}
@@ -91,6 +91,46 @@ text_or_run (command.Format file) q r = r
 text_or_run (command.Witness file workers limits) q r = q
 text_or_run (command.Gen size workers) q r = q
 text_or_run (command.Replay file journal limits) q r = r
+text_or_run (command.Build file) q r = r
+
+-- a command that writes a code file answers from a text alone
+build_text : (d : Command) → asks_build d → asks_text d
+build_text (command.Check file) q = tt
+build_text (command.Run file workers limits show) q = q
+build_text (command.Code file) q = tt
+build_text (command.Sets file) q = tt
+build_text (command.Format file) q = tt
+build_text (command.Witness file workers limits) q = q
+build_text (command.Gen size workers) q = q
+build_text (command.Replay file journal limits) q = q
+build_text (command.Build file) q = tt
+
+-- what it refuses, and of what it makes something
+build_keeps : (d : Command) (text : List ℕ) → asks_build d → KeepsAll text → Keeps d text
+build_keeps (command.Check file) text q k = k
+build_keeps (command.Run file workers limits show) text q k = k
+build_keeps (command.Code file) text q k = k
+build_keeps (command.Sets file) text q k = absurd q
+build_keeps (command.Format file) text q k = absurd q
+build_keeps (command.Witness file workers limits) text q k = k
+build_keeps (command.Gen size workers) text q k = k
+build_keeps (command.Replay file journal limits) text q k = k
+build_keeps (command.Build file) text q k = k
+
+-- a code file is not too long
+build_short : (l : Laws) (d : Command) (text out line : List ℕ) → asks_build d → Makes d text out line → HasLongCode text → ⊥
+build_short l (command.Check file) text out line q m h = q
+build_short l (command.Run file workers limits show) text out line q m h = q
+build_short l (command.Code file) text out line q m h = q
+build_short l (command.Sets file) text out line q m h = q
+build_short l (command.Format file) text out line q m h = q
+build_short l (command.Witness file workers limits) text out line q m h = q
+build_short l (command.Gen size workers) text out line q m h = q
+build_short l (command.Replay file journal limits) text out line q m h = q
+build_short l (command.Build file) text out line q m (other, has, long) = apart out other (l.code_text text out other m.0.0 has) m.0.1 long
+  where
+    apart : (a b : List ℕ) → a ≡ b → length a ≤ 67108864 → 67108864 < length b → ⊥
+    apart a b e h k = let i : length a ≡ length b = ap length e in omega arith
 
 -- ---- from the ending
 
@@ -122,6 +162,7 @@ module _ (f : Files) (s : Stream) (reports : Reports) (w : Option Command) (a : 
   words_due h e.LongJournal k = absurd (no_command _ _ k.1 h)
   words_due h (e.BadJournal n) k = absurd (no_command _ _ k.1 h)
   words_due h (e.Unfit n) k = absurd (no_command _ _ k.1 h)
+  words_due h e.LongCode k = absurd (no_command _ _ k.1 h)
   words_due h e.Accepted k = absurd (no_command _ _ k.1 h)
   words_due h (e.Refused r) k = absurd (no_command _ _ k.1 h)
   words_due h e.ReadFault k = inr (omega arith, omega arith)
@@ -187,6 +228,15 @@ module _ (f : Files) (s : Stream) (reports : Reports) (w : Option Command) (a : 
         subst (λ (x : Command). Makes x text h.output h.line) (one_command w d c v u)
         (subst (λ (x : List ℕ). Makes c x h.output h.line) (of_text (λ x. h.text ≡ x) c u h.loaded) h.makes)
 
+    -- a text whose code is too long for a file is kept
+    long_code : (c : Command) → w ≡ Some c → IsLongCode f c a → asks_build d × HasLongCode text
+    long_code c u h =
+        (subst asks_build (one_command w d c v u) h.builds,
+        subst HasLongCode (of_text (λ x. h.text ≡ x) c u h.loaded) h.long)
+
+    long_keeps : (c : Command) → w ≡ Some c → IsLongCode f c a → Keeps d text
+    long_keeps c u h = let k = long_code c u h in build_keeps d text k.0 (code_text_keeps text k.1.0 k.1.1)
+
     breaks : (c : Command) → w ≡ Some c → (h : IsRefusedFor f c a) → Breaks d text h.refusal
     breaks c u h = subst (λ (x : Command). Breaks x text h.refusal) (one_command w d c v u) (of_text (λ x. Breaks c x h.refusal) c u h.breaks)
 
@@ -198,6 +248,7 @@ module _ (f : Files) (s : Stream) (reports : Reports) (w : Option Command) (a : 
     refusal_due l r b e.LongJournal i (c, u, h) = absurd (keeps_or l text d r (followed_keeps c u h.kept) b)
     refusal_due l r b (e.BadJournal n) i (c, u, h) = absurd (keeps_or l text d r (followed_keeps c u h.kept) b)
     refusal_due l r b (e.Unfit n) i (c, u, h) = absurd (keeps_or l text d r (unfit_keeps c n u h) b)
+    refusal_due l r b e.LongCode i (c, u, h) = absurd (keeps_or l text d r (long_keeps c u h) b)
     refusal_due l r b e.Accepted i (c, u, h) = absurd (keeps_or l text d r (made_keeps d text h.output h.line (makes c u h)) b)
     refusal_due l r b (e.Refused q) i (c, u, h) = inl (refl, ap (λ (z : Answer). z.notes) h.answer ∙ ap refusal_text (one_break l text d h.refusal r (breaks c u h) b))
     refusal_due l r b e.BadWords i k = absurd (no_command _ _ v k)
@@ -240,6 +291,28 @@ module _ (f : Files) (s : Stream) (reports : Reports) (w : Option Command) (a : 
     made_only q e.Accepted (c, u, h) i = subst (λ (y : Command). (z : HasMade f y a) × Makes d text z.output z.line) (one_command w d c v u) (h, makes c u h)
     made_only q _ k i = absurd (omega arith)
 
+    -- the code is too long exactly where that is said
+    long_only : (x : Ending) → Why x → status_of x ≡ 10 → asks_build d × HasLongCode text
+    long_only e.LongCode (c, u, h) i = long_code c u h
+    long_only _ k i = absurd (omega arith)
+
+    long_code_due : asks_build d → Laws → HasLongCode text → (x : Ending) → Why x → Due_status x 10
+    long_code_due q l m e.Done k = absurd (not_ended (build_text d q) k)
+    long_code_due q l m e.NoEnd k = absurd (not_followed_by (build_text d q) k.0 k.1)
+    long_code_due q l m e.Deadlock k = absurd (not_ended (build_text d q) k)
+    long_code_due q l m e.Fault k = absurd (not_ended (build_text d q) k)
+    long_code_due q l m e.LongJournal k = absurd (not_followed_by (build_text d q) k.0 k.1)
+    long_code_due q l m (e.BadJournal n) k = absurd (not_followed_by (build_text d q) k.0 k.1)
+    long_code_due q l m (e.Unfit n) k = absurd (not_followed_by (build_text d q) k.0 k.1)
+    long_code_due q l m e.LongCode k = inl refl
+    long_code_due q l m e.Accepted (c, u, h) = absurd (build_short l d text h.output h.line q (makes c u h) m)
+    long_code_due q l m (e.Refused r) (c, u, h) =
+        absurd (keeps_or l text d h.refusal (build_keeps d text q (code_text_keeps text m.0 m.1)) (breaks c u h))
+    long_code_due q l m e.BadWords k = absurd (no_command _ _ v k)
+    long_code_due q l m e.ReadFault k = inr (omega arith, omega arith)
+    long_code_due q l m e.TooLong k = inr (omega arith, omega arith)
+    long_code_due q l m e.OutOfMemory k = inr (omega arith, omega arith)
+
     made_due : asks_text d → Laws → ((out line : List ℕ) × Makes d text out line) → (x : Ending) → Why x → Due_status x 0
     made_due q l m e.Done k = inl refl
     made_due q l m e.NoEnd k = inl refl
@@ -248,6 +321,7 @@ module _ (f : Files) (s : Stream) (reports : Reports) (w : Option Command) (a : 
     made_due q l m e.LongJournal k = absurd (not_followed_by q k.0 k.1)
     made_due q l m (e.BadJournal n) k = absurd (not_followed_by q k.0 k.1)
     made_due q l m (e.Unfit n) k = absurd (not_followed_by q k.0 k.1)
+    made_due q l m e.LongCode (c, u, h) = let x = long_code c u h in absurd (build_short l d text m.0 m.1 x.0 m.2 x.1)
     made_due q l m e.Accepted k = inl refl
     made_due q l m (e.Refused r) (c, u, h) = absurd (keeps_or l text d h.refusal (made_keeps d text m.0 m.1 m.2) (breaks c u h))
     made_due q l m e.BadWords k = absurd (no_command _ _ v k)
@@ -259,9 +333,6 @@ module _ (f : Files) (s : Stream) (reports : Reports) (w : Option Command) (a : 
     module _ (l : Laws) (kept : Keeps d text)
         (library : (name : List ℕ) → Loads f.held d name → Rose (f.before name) (f.after name) → ⊥) (source : Rose s.before s.after → ⊥)
         (fits : CanRead f.held d → (input : List ℕ) × (s.left ≡ Some input) × (length input ≤ 16777216)) where
-      abbrev Ends_well : ℕ → Type 0
-      Ends_well n = IsFinal n ⊎ ((n ≡ 8) ⊎ (asks_replay d × (n ≡ 9)))
-
       replay_asked : (b : Followed) → w ≡ Some (follows b) → asks_replay d
       replay_asked b u = subst asks_replay (one_command w d (follows b) v u) tt
 
@@ -278,7 +349,7 @@ module _ (f : Files) (s : Stream) (reports : Reports) (w : Option Command) (a : 
           short : (input : List ℕ) → length input ≤ 16777216 → 16777216 < length input → ⊥
           short input h k = omega arith
 
-      ends_well : (x : Ending) → Why x → Ends_well (status_of x)
+      ends_well : (x : Ending) → Why x → IsWell d (status_of x)
       ends_well e.Done k = inl (inl refl)
       ends_well e.Deadlock k = inl (inr (inr refl))
       ends_well e.Fault k = inl (inr (inl refl))
@@ -289,9 +360,10 @@ module _ (f : Files) (s : Stream) (reports : Reports) (w : Option Command) (a : 
       ends_well e.ReadFault (c, u, h) = absurd (read_well c u h)
       ends_well e.TooLong (b, u, h) = absurd (long_well b u h)
       ends_well e.OutOfMemory k = inr (inl refl)
-      ends_well e.LongJournal k = inr (inr (replay_asked k.0 k.1, refl))
-      ends_well (e.BadJournal n) k = inr (inr (replay_asked k.0 k.1, refl))
-      ends_well (e.Unfit n) k = inr (inr (replay_asked k.0 k.1, refl))
+      ends_well e.LongJournal k = inr (inr (inl (replay_asked k.0 k.1, refl)))
+      ends_well (e.BadJournal n) k = inr (inr (inl (replay_asked k.0 k.1, refl)))
+      ends_well (e.Unfit n) k = inr (inr (inl (replay_asked k.0 k.1, refl)))
+      ends_well e.LongCode (c, u, h) = inr (inr (inr ((long_code c u h).0, refl)))
 
   -- a command with a run, where the status is that of one
   followed_or_run : (d : Command) → w ≡ Some d → asks_run d → HasReplayedFor f s reports w a → ⊥
@@ -341,6 +413,7 @@ module _ (f : Files) (s : Stream) (reports : Reports) (w : Option Command) (a : 
     long_due e.LongJournal k = absurd (followed_not k.0 k.1)
     long_due (e.BadJournal n) k = absurd (followed_not k.0 k.1)
     long_due (e.Unfit n) k = absurd (followed_not k.0 k.1)
+    long_due e.LongCode (c, u, h) = absurd (asked_no_build b (long_code (asks b) text v text_is c u h).0)
     long_due e.Accepted (c, u, h) = absurd (asked_makes b text h.output h.line (makes (asks b) text v text_is c u h))
     long_due (e.Refused r) (c, u, h) = absurd (kept_or l text h.refusal kept (breaks_asked b text h.refusal (breaks (asks b) text v text_is c u h)))
     long_due e.BadWords k = absurd (no_command _ _ v k)
@@ -385,6 +458,7 @@ module _ (f : Files) (s : Stream) (reports : Reports) (w : Option Command) (a : 
     came l kept e.LongJournal (x, u, h) = came_long (this (λ y. IsLongJournal f y a) x u h)
     came l kept (e.BadJournal n) (x, u, h) = came_bad n (this (λ y. IsBadJournal f y n a) x u h)
     came l kept (e.Unfit n) (x, u, h) = came_unfit n (this (λ y. IsUnfit f s y n a) x u h)
+    came l kept e.LongCode (c, u, h) = absurd (long_code (follows b) text v t c u h).0
 
     -- a final status comes where it was followed
     followed_only : (x : Ending) → Why x → IsFinal (status_of x) → HasReplayed f s b a
@@ -396,6 +470,11 @@ module _ (f : Files) (s : Stream) (reports : Reports) (w : Option Command) (a : 
     followed_only _ k (inl i) = absurd (omega arith)
     followed_only _ k (inr (inl i)) = absurd (omega arith)
     followed_only _ k (inr (inr i)) = absurd (omega arith)
+
+  -- why a code file is not written
+  long_said : (x : Ending) → Why x → status_of x ≡ 10 → (d : Command) × (w ≡ Some d) × asks_build d × IfSome (text_of f.held d) HasLongCode
+  long_said e.LongCode (d, v, h) i = (d, v, h.builds, when_told HasLongCode (text_of f.held d) h.text h.loaded h.long)
+  long_said _ k i = absurd (omega arith)
 
   -- why a journal is refused
   abbrev Refused_journal : Type 0
@@ -588,6 +667,12 @@ module _ (c : Call) (k : IsAnswered c) (l : Laws) where
     λ m. due 0 (made_due c.files c.source c.reports (command_of c.words) k.answer d text v t q l m ending due_why),
   )
 
+  long_exactly : OfText c (λ d text. asks_build d → Exactly status 10 (HasLongCode text))
+  long_exactly d text v t q = (
+    λ h. (long_only c.files c.source c.reports (command_of c.words) k.answer d text v t ending due_why (undisplaced 10 (λ p. absurd (omega arith)) h)).1,
+    λ m. due 10 (long_code_due c.files c.source c.reports (command_of c.words) k.answer d text v t q l m ending due_why),
+  )
+
   made_written : OfText c (λ d text. (out line : List ℕ) → Makes d text out line → status ≡ 0 → All c.output out × All c.notes line)
   made_written d text v t out line m h =
       let n = made_only c.files c.source c.reports (command_of c.words) k.answer d text v t (made_asks d text out line m) ending due_why (undisplaced 0 (λ p. absurd (omega arith)) h) in
@@ -610,9 +695,9 @@ module _ (c : Call) (k : IsAnswered c) (l : Laws) where
       let m : k.answer ≡ silent e.OutOfMemory = no_memory c.files c.source c.reports (command_of c.words) k.answer ending due_why (undisplaced 8 (λ p. absurd (omega arith)) h) in
       (k.written.untouched (ap (λ (z : Answer). has_output z.ending) m), k.ran ∙ ap (λ (z : Answer). z.ran) m)
 
-  complete_is : OfText c (λ d text. Keeps d text → IsQuiet c d → IsFinal status ⊎ ((status ≡ 8) ⊎ (asks_replay d × (status ≡ 9))))
+  complete_is : OfText c (λ d text. Keeps d text → IsQuiet c d → IsWell d status)
   complete_is d text v t kept q =
-      subst (λ n. IsFinal n ⊎ ((n ≡ 8) ⊎ (asks_replay d × (n ≡ 9)))) (sym (same_status not_displaced))
+      subst (IsWell d) (sym (same_status not_displaced))
       (ends_well c.files c.source c.reports (command_of c.words) k.answer d text v t l kept q.library q.source q.input ending due_why)
     where
       not_displaced : status ≢ 6
@@ -785,6 +870,8 @@ module _ (c : Call) (k : IsAnswered c) (l : Laws) where
     long_refused = λ b text v t kept input left long. outside (long_due c.files c.source c.reports (command_of c.words) k.answer b text v t l kept input left long ending due_why);
     long_unfollowed = λ b text bytes v t u kept is input left long. outside (followed_long b text bytes v t u kept is input left long);
     memory = no_run_of_memory;
+    long_code = long_exactly;
+    no_other_long = λ h. long_said c.files c.source c.reports (command_of c.words) k.answer ending due_why (undisplaced 10 (λ p. absurd (omega arith)) h);
     complete = complete_is;
     source = source_is;
     disjoint = λ d text v t q h. disjoint_text l text (keeps_all d text q (kept_by c.files c.source c.reports (command_of c.words) k.answer d text v t ending due_why (final_status h)));
@@ -806,6 +893,7 @@ module _ (c : Call) (k : IsAnswered c) (l : Laws) where
   -- the notes where there is no output
   line_is : (x : Ending) → why c.files c.source c.reports (command_of c.words) k.answer x → has_output x ≡ false → (notes_by x k.answer.notes ≡ line_of x) ⊎ ((r : Refusal) × (k.answer ≡ refused r))
   line_is e.LongJournal m h = inl refl
+  line_is e.LongCode m h = inl refl
   line_is (e.BadJournal n) (b, v, m) h = inl (ap (λ (z : Answer). z.notes) m.answer)
   line_is (e.Unfit n) (b, v, m) h = inl (ap (λ (z : Answer). z.notes) m.answer)
   line_is e.Done m h = absurd (no_true h)
@@ -833,6 +921,7 @@ module _ (c : Call) (k : IsAnswered c) (l : Laws) where
   without_output e.LongJournal a b d = refl
   without_output (e.BadJournal n) a b d = refl
   without_output (e.Unfit n) a b d = refl
+  without_output e.LongCode a b d = refl
 
   pub writing : Writing c
   writing = record {

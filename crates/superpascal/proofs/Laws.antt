@@ -24,7 +24,7 @@ use Rattle.sp_varsets.specs.declared.sets.Sets.{Sets}
 use Rattle.sp_words.specs.declared.command.Command.{Command}
 use Rattle.sp_words.specs.declared.command.Command.TheVariants as command
 use Rattle.superpascal.proofs.Showing.{ShowsLaw}
-use Rattle.superpascal.specs.Texts.{Breaks, BreaksOne, HasSets, IsDisjointText, Keeps, KeepsAll, Makes, asks_all, asks_text}
+use Rattle.superpascal.specs.Texts.{Breaks, BreaksOne, HasCodeText, HasSets, IsDisjointText, Keeps, KeepsAll, Makes, asks_all, asks_text}
 
 pub record Laws : Type 0 where
   -- by characters, grammar, names and types
@@ -43,6 +43,8 @@ pub record Laws : Type 0 where
   pub sets_text : (p : c.Program) (s t : Sets) (a b : List ℕ) → AreSets p s → AreSets p t → IsSetsText p s a → IsSetsText p t b → a ≡ b
   -- by the listing
   pub listing : (text a b : List ℕ) → HasListing text a → HasListing text b → a ≡ b
+  -- by the text of the code
+  pub code_text : (text a b : List ℕ) → HasCodeText text a → HasCodeText text b → a ≡ b
   -- by `replay`
   pub journal : (v w : Version) (j k : Journal) (bytes : List ℕ) → IsTextOf v j bytes → IsTextOf w k bytes → j ≡ k
   pub unfit : (g : Setting) (es : List Entry) (m n : ℕ) → IsUnfitAt g es m → IsUnfitAt g es n → m ≡ n
@@ -78,6 +80,7 @@ module _ (l : Laws) (text : List ℕ) where
   one_break (command.Witness file workers limits) a b x y = one_rule a b x y
   one_break (command.Gen size workers) a b x y = one_rule a b x y
   one_break (command.Replay file journal limits) a b x y = one_rule a b x y
+  one_break (command.Build file) a b x y = one_rule a b x y
 
   -- a command that refuses the text for no rule refuses it for none
   pub keeps_or : (d : Command) (r : Refusal) → Keeps d text → Breaks d text r → ⊥
@@ -89,6 +92,7 @@ module _ (l : Laws) (text : List ℕ) where
   keeps_or (command.Witness file workers limits) r k x = kept_or r k x
   keeps_or (command.Gen size workers) r k x = kept_or r k x
   keeps_or (command.Replay file journal limits) r k x = kept_or r k x
+  keeps_or (command.Build file) r k x = kept_or r k x
 
   one_sets : (a b : List ℕ) → HasSets text a → HasSets text b → a ≡ b
   one_sets a b (p, h, s, are, x) (q, k, t, also, y) =
@@ -104,10 +108,15 @@ module _ (l : Laws) (text : List ℕ) where
   made_once (command.Witness file workers limits) a b n m x y = absurd x
   made_once (command.Gen size workers) a b n m x y = absurd x
   made_once (command.Replay file journal limits) a b n m x y = absurd x
+  made_once (command.Build file) a b n m x y = (l.code_text text a b x.0.0 y.0.0, x.1 ∙ sym y.1)
 
   -- a text that is kept is disjoint
   pub disjoint_text : KeepsAll text → IsDisjointText text
   disjoint_text k p (tree, is, same) g e = l.disjoint text k.0 k.1 g (e ∙ (sym same ∙ ap bare (l.tree text tree k.0 is k.1.0)))
+
+-- a text with a code breaks no rule
+pub code_text_keeps : (text out : List ℕ) → HasCodeText text out → KeepsAll text
+code_text_keeps text out h = (h.0, h.1, h.2)
 
 -- of a text of which the command makes something it refuses none
 pub made_keeps : (d : Command) (text out line : List ℕ) → Makes d text out line → Keeps d text
@@ -119,6 +128,7 @@ made_keeps (command.Format file) text out line m = (out, m.0)
 made_keeps (command.Witness file workers limits) text out line m = absurd m
 made_keeps (command.Gen size workers) text out line m = absurd m
 made_keeps (command.Replay file journal limits) text out line m = absurd m
+made_keeps (command.Build file) text out line m = code_text_keeps text out m.0.0
 
 pub made_asks : (d : Command) (text out line : List ℕ) → Makes d text out line → asks_text d
 made_asks (command.Check file) text out line m = tt
@@ -129,6 +139,7 @@ made_asks (command.Format file) text out line m = tt
 made_asks (command.Witness file workers limits) text out line m = m
 made_asks (command.Gen size workers) text out line m = m
 made_asks (command.Replay file journal limits) text out line m = m
+made_asks (command.Build file) text out line m = tt
 
 pub keeps_all : (d : Command) (text : List ℕ) → asks_all d → Keeps d text → KeepsAll text
 keeps_all (command.Check file) text q k = k
@@ -139,6 +150,7 @@ keeps_all (command.Format file) text q k = absurd q
 keeps_all (command.Witness file workers limits) text q k = k
 keeps_all (command.Gen size workers) text q k = k
 keeps_all (command.Replay file journal limits) text q k = k
+keeps_all (command.Build file) text q k = k
 
 -- every command refuses a text that is longer than a text may be
 pub long_breaks : (d : Command) (all : List ℕ) → 1048576 < length all → Breaks d all (record { rule = rule.L1; at = start })
@@ -150,6 +162,7 @@ long_breaks (command.Format file) all h = inl (inl (too_long all start refl h))
 long_breaks (command.Witness file workers limits) all h = inl (inl (inl (inl (too_long all start refl h))))
 long_breaks (command.Gen size workers) all h = inl (inl (inl (inl (too_long all start refl h))))
 long_breaks (command.Replay file journal limits) all h = inl (inl (inl (inl (too_long all start refl h))))
+long_breaks (command.Build file) all h = inl (inl (inl (inl (too_long all start refl h))))
 
 pub laws : ((text : List ℕ) (p q : c.Program) → IsChecked text p → IsChecked text q → p ≡ q)
     → ((text : List ℕ) (a b : Refusal) → BreaksFirst text a → BreaksFirst text b → a ≡ b)
@@ -162,8 +175,9 @@ pub laws : ((text : List ℕ) (p q : c.Program) → IsChecked text p → IsCheck
     → ((text out : List ℕ) (r : Refusal) → HasLayout text out → HasNoLayout text r → ⊥)
     → ((p : c.Program) (s t : Sets) (a b : List ℕ) → AreSets p s → AreSets p t → IsSetsText p s a → IsSetsText p t b → a ≡ b)
     → ((text a b : List ℕ) → HasListing text a → HasListing text b → a ≡ b)
+    → ((text a b : List ℕ) → HasCodeText text a → HasCodeText text b → a ≡ b)
     → ((v w : Version) (j k : Journal) (bytes : List ℕ) → IsTextOf v j bytes → IsTextOf w k bytes → j ≡ k)
     → ((g : Setting) (es : List Entry) (m n : ℕ) → IsUnfitAt g es m → IsUnfitAt g es n → m ≡ n)
     → ((g : Setting) (es : List Entry) (n : ℕ) → IsMeant g es → IsUnfitAt g es n → ⊥)
     → ShowsLaw → Laws
-laws s t u v w d x y z o q j m n shown = record { tree = s; first = t; not_both = u; any_first = v; accepted_or = w; disjoint = d; layout = x; no_layout = y; layout_or = z; sets_text = o; listing = q; journal = j; unfit = m; unfit_or = n; shown = shown }
+laws s t u v w d x y z o q f j m n shown = record { tree = s; first = t; not_both = u; any_first = v; accepted_or = w; disjoint = d; layout = x; no_layout = y; layout_or = z; sets_text = o; listing = q; code_text = f; journal = j; unfit = m; unfit_or = n; shown = shown }

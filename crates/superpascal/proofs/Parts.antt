@@ -6,6 +6,7 @@ use Rattle.sp_base.specs.declared.halt.Halt.TheVariants as halt
 use Rattle.sp_base.specs.declared.halt.Refusal.{Refusal}
 use Rattle.sp_base.specs.declared.limits.Limits.{Limits}
 use Rattle.sp_code.specs.Listing.{listing_text}
+use Rattle.sp_codefile.specs.CodeText.{code_text}
 use Rattle.sp_code.specs.declared.code.Parts.{Parts}
 use Rattle.sp_compile.specs.Codes.{Codes, IsCompiled}
 use Rattle.sp_compile.specs.declared.phases.CompiledText.{CompiledText}
@@ -21,11 +22,12 @@ use Rattle.sp_words.specs.Ranges.{default_limits}
 use Rattle.sp_words.specs.declared.command.Command.{Command}
 use Rattle.sp_words.specs.declared.command.Command.TheVariants as command
 use Rattle.superpascal.specs.declared.ending.Answer.{Answer}
+use Rattle.superpascal.specs.declared.ending.Ending.TheVariants as e
 use Rattle.superpascal.specs.declared.telling.Telling.{Telling}
 use Rattle.superpascal.specs.Answering.{CodeAnswer, CommandCause, GeneratedAnswer, GeneratedCause, InputAnswer, IsMade, JournalAnswer, AnswersRefusal, RanAnswer, ReplayAnswer, RunAnswer, TextCause, halted, too_long, unloaded}
-use Rattle.superpascal.specs.Causes.{Cause, by_command, Due, by_run, by_generated, by_text, by_rule, by_library, by_source, by_length, by_memory, Files, IsTold, IsUntouched, ReadsAfterRules, Stream, accepted}
+use Rattle.superpascal.specs.Causes.{Cause, by_command, Due, by_run, by_generated, by_text, by_code, by_rule, by_library, by_source, by_length, by_memory, Files, IsTold, IsUntouched, ReadsAfterRules, Stream, accepted, silent}
 use Rattle.superpascal.specs.Runs.{HasCode, IsRunOf, Reports}
-use Rattle.superpascal.specs.Texts.{Asked, Breaks, BreaksOne, CanRead, IsAbout, KeepsAll, asked, asks, asks_for, text_of}
+use Rattle.superpascal.specs.Texts.{Asked, Breaks, BreaksOne, CanRead, HasCodeText, IsAbout, KeepsAll, asked, asks, asks_for, text_of}
 use Rattle.superpascal.proofs.Asking.{asked_breaks, asked_reads, asked_text}
 use Rattle.superpascal.proofs.Laws.{long_breaks}
 
@@ -55,6 +57,7 @@ held_of f (command.Format file) name h = ap f.held h
 held_of f (command.Witness file workers limits) name h = ap f.held h
 held_of f (command.Gen size workers) name h = absurd h
 held_of f (command.Replay file journal limits) name h = ap f.held h
+held_of f (command.Build file) name h = ap f.held h
 
 -- ---- commands that answer from the text alone
 
@@ -63,22 +66,23 @@ module _ (f : Files) (d : Command) (name : List ℕ) (about : IsAbout d name) (a
   to_text P h = subst P (sym (held_of f d name about)) h
 
   refuses : (r : Refusal) → IfSome (text_of f.held d) (λ text. Breaks d text r) → AnswersRefusal r a → TextCause f d a
-  refuses r b (inl h) = inr (inl (record { refusal = r; breaks = b; answer = h }))
-  refuses r b (inr h) = inr (inr (inr h))
+  refuses r b (inl h) = inr (inr (inl (record { refusal = r; breaks = b; answer = h })))
+  refuses r b (inr h) = inr (inr (inr (inr h)))
 
   -- a text that the library does not give
   pub text_unloaded : (X : Type 0) (error : LoadError)
       → IfSome (f.held name) (λ all. (◌≡◌ {A = Result X LoadError} (Err error) (Err load.TooLong)) ↔ ((1048576 < length all) × (◌≢◌ {A = Result X LoadError} (Err error) (Err load.Failed))))
       → (◌≡◌ {A = Result X LoadError} (Err error) (Err load.Failed) → Rose (f.before name) (f.after name)) → unloaded error a → TextCause f d a
   text_unloaded X load.TooLong t r h = refuses too_long (to_text (λ o. IfSome o (λ x. Breaks d x too_long)) (long_broken d (f.held name) (is_long (f.held name) _ _ t refl))) h
-  text_unloaded X load.Failed t r h = inr (inr (inl (record { name = name; loads = inl about; rose = r refl; answer = h })))
-  text_unloaded X load.Memory t r h = inr (inr (inr h))
+  text_unloaded X load.Failed t r h = inr (inr (inr (inl (record { name = name; loads = inl about; rose = r refl; answer = h }))))
+  text_unloaded X load.Memory t r h = inr (inr (inr (inr h)))
 
 due_of_text : (f : Files) (s : Stream) (reports : Reports) (d : Command) (a : Answer) → TextCause f d a → Due f s reports d a
 due_of_text f s reports d a (inl h) = by_text h
-due_of_text f s reports d a (inr (inl h)) = by_rule h
-due_of_text f s reports d a (inr (inr (inl h))) = by_library h
-due_of_text f s reports d a (inr (inr (inr h))) = by_memory h
+due_of_text f s reports d a (inr (inl h)) = by_code h
+due_of_text f s reports d a (inr (inr (inl h))) = by_rule h
+due_of_text f s reports d a (inr (inr (inr (inl h)))) = by_library h
+due_of_text f s reports d a (inr (inr (inr (inr h)))) = by_memory h
 
 pub command_of_text : (f : Files) (s : Stream) (reports : Reports) (d : Command) (a : Answer) → IsUntouched s → TextCause f d a → CommandCause f s reports d a
 command_of_text f s reports d a u h = (due_of_text f s reports d a h, inl u)
@@ -115,7 +119,19 @@ compiled_some text r code i k = let h = compiled_code text text r code refl i k 
 
 -- the listing of the code of a text
 pub list_made : (text : List ℕ) (r : CompiledText) (code : Parts) (out line : List ℕ) (a : Answer) → IsCompiled text r → code ≡ r.code → out ≡ listing_text code → line ≡ [] → a ≡ accepted out line → (file : List ℕ) → IsMade (command.Code file) text (Ok a)
-list_made text r code out line a k i o n h file = (out, line, ((program_of r.accepted.checked, k.accepted, k.short, r.code, k.code, o ∙ ap listing_text i), n), h)
+list_made text r code out line a k i o n h file = inl (out, line, ((program_of r.accepted.checked, k.accepted, k.short, r.code, k.code, o ∙ ap listing_text i), n), h)
+
+-- the text of the code of a text
+has_code_text : (text : List ℕ) (r : CompiledText) (code : Parts) (out : List ℕ) → IsCompiled text r → code ≡ r.code → out ≡ code_text code → HasCodeText text out
+has_code_text text r code out k i o = (program_of r.accepted.checked, k.accepted, k.short, r.code, k.code, o ∙ ap code_text i)
+
+pub code_made : (text : List ℕ) (r : CompiledText) (code : Parts) (out line : List ℕ) (a : Answer) → IsCompiled text r → code ≡ r.code
+    → out ≡ code_text code → length out ≤ 67108864 → line ≡ [] → a ≡ accepted out line → (file : List ℕ) → IsMade (command.Build file) text (Ok a)
+code_made text r code out line a k i o small n h file = inl (out, line, ((has_code_text text r code out k i o, small), n), h)
+
+pub code_long : (text : List ℕ) (r : CompiledText) (code : Parts) (out : List ℕ) (a : Answer) → IsCompiled text r → code ≡ r.code
+    → out ≡ code_text code → 67108864 < length out → a ≡ silent e.LongCode → (file : List ℕ) → IsMade (command.Build file) text (Ok a)
+code_long text r code out a k i o large h file = inr (tt, (out, has_code_text text r code out k i o, large), h)
 
 pub replay_compiled : (held : Option (List ℕ)) (before after : ℕ) (s : Stream) (limits : Limits) (text : List ℕ) (a : Answer) (r : CompiledText) (code : Parts) → code ≡ r.code → IsCompiled text r
     → ((program : List ℕ) (t : c.Program) → HasCode program t code → JournalAnswer held before after s program limits a) → ReplayAnswer held before after s limits text a

@@ -9,7 +9,7 @@ use Rattle.superpascal.specs.declared.ending.Ending.{Ending}
 use Rattle.superpascal.specs.declared.ending.Ending.TheVariants as e
 use Rattle.superpascal.specs.declared.ending.Answer.{Answer}
 use Rattle.superpascal.specs.Answering.{HasEndLines}
-use Rattle.superpascal.specs.Causes.{Cause, by_words, before_words, by_command, Due, by_run, by_generated, by_text, by_rule, by_library, by_source, by_length, by_memory, by_replay, by_entry, by_line, by_size, Files, HasGenerated, HasMade, HasReplayed, HasRun, IsBadJournal, IsLongJournal, IsNotLoaded, IsNotRead, IsRefusedFor, IsTooMuch, IsUnfit, Stream, silent}
+use Rattle.superpascal.specs.Causes.{Cause, by_words, before_words, by_command, Due, by_run, by_generated, by_text, by_code, by_rule, by_library, by_source, by_length, by_memory, by_replay, by_entry, by_line, by_size, Files, HasGenerated, HasMade, HasReplayed, HasRun, IsBadJournal, IsLongCode, IsLongJournal, IsNotLoaded, IsNotRead, IsRefusedFor, IsTooMuch, IsUnfit, Stream, silent}
 use Rattle.superpascal.specs.Replays.{ending_of_replay, replay_answer}
 use Rattle.superpascal.specs.Runs.{Reports, ending_of, generated_answer, run_answer}
 use Rattle.superpascal.specs.Texts.{Asked, Followed, asks, follows}
@@ -45,6 +45,7 @@ module _ (f : Files) (s : Stream) (reports : Reports) (w : Option Command) (a : 
   why e.LongJournal = (asked : Followed) × (w ≡ Some (follows asked)) × IsLongJournal f asked a
   why (e.BadJournal n) = (asked : Followed) × (w ≡ Some (follows asked)) × IsBadJournal f asked n a
   why (e.Unfit n) = (asked : Followed) × (w ≡ Some (follows asked)) × IsUnfit f s asked n a
+  why e.LongCode = (d : Command) × (w ≡ Some d) × IsLongCode f d a
 
   by_end : (x : End) → Ends x → HasEnded → why (ending_of x)
   by_end ends.Done p h = h
@@ -64,6 +65,7 @@ module _ (f : Files) (s : Stream) (reports : Reports) (w : Option Command) (a : 
   why_due d v (by_run asked p h) = at (run_answer reports asked.telling h.ran) h.answer (by_end h.ran.closed.end (ends_of _ _ _ _ h.ran h.is_run) (inl (d, v, inl (asked, p, h))))
   why_due d v (by_generated size workers p h) = at (generated_answer size h.ran) h.answer (by_end h.ran.closed.end (ends_of _ _ _ _ h.ran h.is_run) (inl (d, v, inr (size, workers, p, h))))
   why_due d v (by_text h) = at _ h.answer (d, v, h)
+  why_due d v (by_code h) = at _ h.answer (d, v, h)
   why_due d v (by_rule h) = at _ h.answer (d, v, h)
   why_due d v (by_library h) = at _ h.answer (d, v, inl h)
   why_due d v (by_source h) = at _ h.answer (d, v, inr h)
@@ -90,6 +92,7 @@ module _ (f : Files) (s : Stream) (reports : Reports) (w : Option Command) (a : 
   ran_due d r (by_run asked p h) k = inl (asked, p, h)
   ran_due d r (by_generated size workers p h) k = inr (size, workers, p, h)
   ran_due d r (by_text h) k = absurd (no_run _ r h.answer refl k)
+  ran_due d r (by_code h) k = absurd (no_run _ r h.answer refl k)
   ran_due d r (by_rule h) k = absurd (no_run _ r h.answer refl k)
   ran_due d r (by_library h) k = absurd (no_run _ r h.answer refl k)
   ran_due d r (by_source h) k = absurd (no_run _ r h.answer refl k)

@@ -27,10 +27,10 @@ use Rattle.superpascal.specs.declared.ending.Ending.{Ending}
 use Rattle.superpascal.specs.declared.ending.Ending.TheVariants as e
 use Rattle.superpascal.specs.declared.ending.Answer.{Answer}
 use Rattle.superpascal.specs.declared.telling.Telling.{Telling}
-use Rattle.superpascal.specs.Causes.{Due, Files, HasGenerated, HasMade, IsNotLoaded, IsRefusedFor, IsTold, IsTooLong, IsUntouched, ReadsAfterRules, Stream, accepted, refused, silent}
+use Rattle.superpascal.specs.Causes.{Due, Files, HasGenerated, HasMade, IsLongCode, IsNotLoaded, IsRefusedFor, IsTold, IsTooLong, IsUntouched, ReadsAfterRules, Stream, accepted, refused, silent}
 use Rattle.superpascal.specs.Replays.{IsJournalOf, IsReplayOf, IsUnfitFor, numbered, replay_answer}
 use Rattle.superpascal.specs.Runs.{IsRunOf, Reports, generated_answer, run_answer}
-use Rattle.superpascal.specs.Texts.{Breaks, BreaksOne, KeepsAll, Makes}
+use Rattle.superpascal.specs.Texts.{Breaks, BreaksOne, HasLongCode, KeepsAll, Makes, asks_build}
 
 -- the answer to a text that breaks this rule first, or want of memory
 abbrev pub AnswersRefusal : Refusal → Answer → Type 0
@@ -51,15 +51,21 @@ unloaded load.TooLong a = AnswersRefusal too_long a
 unloaded load.Failed a = a ≡ silent e.ReadFault
 unloaded load.Memory a = a ≡ silent e.OutOfMemory
 
--- what a command makes of a text, or why it makes nothing
+-- what a command makes of a text, or that the code is too long for a file
+abbrev pub IsMadeOf : Command → List ℕ → Answer → Type 0
+IsMadeOf c text a =
+    ((out line : List ℕ) × Makes c text out line × (a ≡ accepted out line))
+    ⊎ (asks_build c × HasLongCode text × (a ≡ silent e.LongCode))
+
+-- the same, or why it makes nothing
 abbrev pub IsMade : Command → List ℕ → Result Answer Halt → Type 0
-IsMade c text (Ok a) = (out line : List ℕ) × Makes c text out line × (a ≡ accepted out line)
+IsMade c text (Ok a) = IsMadeOf c text a
 IsMade c text (Err (halt.Refused r)) = Breaks c text r
 IsMade c text (Err halt.Memory) = Unit {0}
 
 -- the answer of a command that answers from the text alone
 abbrev pub TextCause : Files → Command → Answer → Type 0
-TextCause f c a = HasMade f c a ⊎ (IsRefusedFor f c a ⊎ (IsNotLoaded f c a ⊎ (a ≡ silent e.OutOfMemory)))
+TextCause f c a = HasMade f c a ⊎ (IsLongCode f c a ⊎ (IsRefusedFor f c a ⊎ (IsNotLoaded f c a ⊎ (a ≡ silent e.OutOfMemory))))
 
 -- the run can be told: its journal gives names, and it did not end by want of memory
 abbrev pub IsTellable : Ran → Type 0

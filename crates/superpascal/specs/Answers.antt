@@ -22,6 +22,7 @@ status_of e.OutOfMemory = 8
 status_of e.LongJournal = 9
 status_of (e.BadJournal n) = 9
 status_of (e.Unfit n) = 9
+status_of e.LongCode = 10
 
 -- the answer has an output: that of a run or a replay, or the text that the command asks for, if any
 abbrev pub has_output : Ending → Bool
@@ -38,6 +39,7 @@ has_output e.OutOfMemory = false
 has_output e.LongJournal = false
 has_output (e.BadJournal n) = false
 has_output (e.Unfit n) = false
+has_output e.LongCode = false
 
 -- the line of a call that has no output
 abbrev pub line_of : Ending → List ℕ
@@ -49,6 +51,7 @@ line_of e.OutOfMemory = codes "out of memory\n"
 line_of e.LongJournal = codes "journal too long\n"
 line_of (e.BadJournal n) = codes "bad journal " ++ decimal n ++ codes "\n"
 line_of (e.Unfit n) = codes "journal unfit " ++ decimal n ++ codes "\n"
+line_of e.LongCode = codes "code file too long\n"
 line_of e.Done = []
 line_of e.Deadlock = []
 line_of e.Fault = []
@@ -70,6 +73,7 @@ notes_by e.OutOfMemory notes = line_of e.OutOfMemory
 notes_by e.LongJournal notes = line_of e.LongJournal
 notes_by (e.BadJournal n) notes = notes
 notes_by (e.Unfit n) notes = notes
+notes_by e.LongCode notes = line_of e.LongCode
 
 abbrev pub notes_of : Answer → List ℕ
 notes_of a = notes_by a.ending a.notes

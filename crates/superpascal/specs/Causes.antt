@@ -19,7 +19,7 @@ use Rattle.superpascal.specs.declared.ending.Ending.TheVariants as e
 use Rattle.superpascal.specs.declared.ending.Answer.{Answer}
 use Rattle.superpascal.specs.Replays.{IsJournalOf, IsReplayOf, IsUnfitFor, numbered, replay_answer}
 use Rattle.superpascal.specs.Runs.{IsRunOf, Reports, generated_answer, run_answer}
-use Rattle.superpascal.specs.Texts.{Asked, Breaks, CanRead, Followed, KeepsAll, Loads, Makes, asks, follows, text_of}
+use Rattle.superpascal.specs.Texts.{Asked, Breaks, CanRead, Followed, HasLongCode, KeepsAll, Loads, Makes, asks, asks_build, follows, text_of}
 
 -- ---- the outside
 
@@ -99,6 +99,14 @@ pub record HasMade (f : Files) (c : Command) (a : Answer) : Type 0 where
   pub makes : Makes c text output line
   pub answer : a ≡ accepted output line
 
+-- the code of the text is longer than a code file may be
+pub record IsLongCode (f : Files) (c : Command) (a : Answer) : Type 0 where
+  pub builds : asks_build c
+  pub text : List ℕ
+  pub loaded : IsTold (text_of f.held c) text
+  pub long : HasLongCode text
+  pub answer : a ≡ silent e.LongCode
+
 -- the text of the command breaks a rule first
 pub record IsRefusedFor (f : Files) (c : Command) (a : Answer) : Type 0 where
   pub refusal : Refusal
@@ -169,6 +177,7 @@ pub data Due (f : Files) (s : Stream) (reports : Reports) (c : Command) (a : Ans
   by_run : (asked : Asked) → c ≡ asks asked → HasRun f s reports asked a → Due f s reports c a
   by_generated : (size workers : ℕ) → c ≡ command.Gen size workers → HasGenerated size workers a → Due f s reports c a
   by_text : HasMade f c a → Due f s reports c a
+  by_code : IsLongCode f c a → Due f s reports c a
   by_rule : IsRefusedFor f c a → Due f s reports c a
   by_library : IsNotLoaded f c a → Due f s reports c a
   by_source : IsNotRead f s c a → Due f s reports c a

@@ -15,7 +15,7 @@ use Rattle.superpascal.specs.Calls.{Call, Exactly, Failed, IsFinal, IsOutside, I
 use Rattle.superpascal.specs.Causes.{IsTold, IsTooLong, IsUntouched}
 use Rattle.superpascal.specs.Headline.{SaysRefusal}
 use Rattle.superpascal.specs.Runs.{IsRunOf, ending_of}
-use Rattle.superpascal.specs.Texts.{Asked, Breaks, CanRead, IsDisjointText, IsJournalText, Keeps, KeepsAll, Loads, Makes, asks, asks_all, asks_replay, asks_run, asks_text}
+use Rattle.superpascal.specs.Texts.{Asked, Breaks, CanRead, HasLongCode, IsDisjointText, IsJournalText, Keeps, KeepsAll, Loads, Makes, asks, asks_all, asks_build, asks_replay, asks_run, asks_text, text_of}
 
 -- the library failed under a name that the command loads, or the source failed where the command reads it
 abbrev pub ReadsFail : Call → Type 0
@@ -42,6 +42,10 @@ pub record IsQuiet (c : Call) (d : Command) : Type 0 where
   pub output : Failed c.output → ⊥
   pub notes : Failed c.notes → ⊥
 
+-- the status is a final one, or memory was wanting, or the journal or the code is at fault
+abbrev pub IsWell : Command → ℕ → Type 0
+IsWell d status = IsFinal status ⊎ ((status ≡ 8) ⊎ ((asks_replay d × (status ≡ 9)) ⊎ (asks_build d × (status ≡ 10))))
+
 pub record Statuses (c : Call) : Type 0 where
   -- 2: the words are refused
   pub bad_words : Exactly c.outcome.status 2 (command_of c.words ≡ None)
@@ -63,9 +67,12 @@ pub record Statuses (c : Call) : Type 0 where
   pub long_unfollowed : OfReplay c (λ b text bytes. KeepsAll text → IsJournalText bytes → (input : List ℕ) → c.source.left ≡ Some input → IsTooLong input → IsOutside c.outcome.status)
   -- 8: nothing is put to the output, and no run is given back
   pub memory : c.outcome.status ≡ 8 → IsUnwritten c.output × (c.outcome.ran ≡ None)
+  -- 10: the code of the text is too long for a file
+  pub long_code : OfText c (λ d text. asks_build d → Exactly c.outcome.status 10 (HasLongCode text))
+  pub no_other_long : c.outcome.status ≡ 10 → (d : Command) × (command_of c.words ≡ Some d) × asks_build d × IfSome (text_of c.files.held d) HasLongCode
   -- nothing else: where the words ask for a command that refuses the text for no rule, and nothing outside fails
-  pub complete : OfText c (λ d text. Keeps d text → IsQuiet c d → IsFinal c.outcome.status ⊎ ((c.outcome.status ≡ 8) ⊎ (asks_replay d × (c.outcome.status ≡ 9))))
+  pub complete : OfText c (λ d text. Keeps d text → IsQuiet c d → IsWell d c.outcome.status)
   -- the source is read by `run`, `witness` and `replay` alone, and only where what they load before is right
   pub source : IsUntouched c.source ⊎ ((d : Command) × (command_of c.words ≡ Some d) × CanRead c.files.held d)
-  -- the program of a text that `check`, `code`, `run`, `witness`, `replay` or `gen` goes through is disjoint
+  -- the program of a text that `check`, `code`, `build`, `run`, `witness`, `replay` or `gen` goes through is disjoint
   pub disjoint : OfText c (λ d text. asks_all d → IsFinal c.outcome.status → IsDisjointText text)

@@ -1,14 +1,17 @@
 -- What each command finds in a text: the first rule for which it refuses the text, or what it makes of it. The
 -- contracts of `texts` promise it, and the causes, the headline and the writing cite it.
-use Rattle.std.specs.Prelude.{◌≡◌, ◌⊎◌, ℕ, ◌≤◌, List, [], Option, Some, IfSome, codes, length}
+use Rattle.std.specs.Prelude.{◌≡◌, ◌⊎◌, ℕ, ◌<◌, ◌≤◌, List, [], Option, Some, IfSome, codes, length}
 use Rattle.sp_base.specs.declared.halt.Refusal.{Refusal}
 use Rattle.sp_base.specs.declared.limits.Limits.{Limits}
 use Rattle.sp_code.specs.Lengths.{tree_length}
+use Rattle.sp_code.specs.declared.code.Parts.{Parts}
+use Rattle.sp_codefile.specs.CodeText.{code_text}
 use Rattle.sp_compile.specs.Codes.{BreaksLength, HasListing}
 use Rattle.sp_format.specs.Formats.{HasLayout, HasNoLayout}
 use Rattle.sp_front.specs.Checks.{BreaksFirst, IsChecked, IsProgramOf}
 use Rattle.sp_front.specs.Compiles.{BreaksAnyFirst, IsAccepted}
 use Rattle.sp_gen.specs.Generated.{generated_text}
+use Rattle.sp_generate.specs.Generated.{IsCodeOf}
 use Rattle.sp_journal.specs.Reading.{IsText}
 use Rattle.sp_meaning.specs.Own.{Setting}
 use Rattle.sp_meaning.specs.Runs.{IsDisjointRun}
@@ -38,6 +41,19 @@ IsAnalysed text = (p : c.Program) × IsChecked text p
 -- this is the text of the sets of the text's tree
 abbrev pub HasSets : List ℕ → List ℕ → Type 0
 HasSets text out = (p : c.Program) × IsChecked text p × (s : Sets) × AreSets p s × IsSetsText p s out
+
+-- the text breaks no rule, and this is the text of its code
+abbrev pub HasCodeText : List ℕ → List ℕ → Type 0
+HasCodeText text out =
+    (p : c.Program) × IsAccepted text p × (tree_length (bare p) ≤ 1048576) × (code : Parts) × IsCodeOf (bare p) code × (out ≡ code_text code)
+
+-- the text of the code is no longer than is loaded
+abbrev pub IsCodeFile : List ℕ → List ℕ → Type 0
+IsCodeFile text out = HasCodeText text out × (length out ≤ 67108864)
+
+-- the text of the code is longer than that
+abbrev pub HasLongCode : List ℕ → Type 0
+HasLongCode text = (out : List ℕ) × HasCodeText text out × (67108864 < length out)
 
 -- on no input, with no limits and in no lawful schedule does a process of the text's program write what a parallel one
 -- reads or writes
@@ -85,6 +101,7 @@ text_of held (command.Format file) = held file
 text_of held (command.Witness file workers limits) = held file
 text_of held (command.Gen size workers) = Some (generated_text size)
 text_of held (command.Replay file journal limits) = held file
+text_of held (command.Build file) = held file
 
 -- the command is about the text under this name
 abbrev pub IsAbout : Command → List ℕ → Type 0
@@ -96,6 +113,7 @@ IsAbout (command.Format file) name = file ≡ name
 IsAbout (command.Witness file workers limits) name = file ≡ name
 IsAbout (command.Gen size workers) name = ⊥
 IsAbout (command.Replay file journal limits) name = file ≡ name
+IsAbout (command.Build file) name = file ≡ name
 
 -- the command follows the journal under this name
 abbrev pub FollowsUnder : Command → List ℕ → Type 0
@@ -107,6 +125,7 @@ FollowsUnder (command.Format file) name = ⊥
 FollowsUnder (command.Witness file workers limits) name = ⊥
 FollowsUnder (command.Gen size workers) name = ⊥
 FollowsUnder (command.Replay file journal limits) name = journal ≡ name
+FollowsUnder (command.Build file) name = ⊥
 
 -- the command loads what is held under this name: its text, or the journal, where its text breaks no rule
 abbrev pub Loads : (List ℕ → Option (List ℕ)) → Command → List ℕ → Type 0
@@ -123,6 +142,7 @@ Breaks (command.Format file) text r = HasNoLayout text r
 Breaks (command.Witness file workers limits) text r = BreaksOne text r
 Breaks (command.Gen size workers) text r = BreaksOne text r
 Breaks (command.Replay file journal limits) text r = BreaksOne text r
+Breaks (command.Build file) text r = BreaksOne text r
 
 -- the command refuses the text for no rule
 abbrev pub Keeps : Command → List ℕ → Type 0
@@ -134,6 +154,7 @@ Keeps (command.Format file) text = (out : List ℕ) × HasLayout text out
 Keeps (command.Witness file workers limits) text = KeepsAll text
 Keeps (command.Gen size workers) text = KeepsAll text
 Keeps (command.Replay file journal limits) text = KeepsAll text
+Keeps (command.Build file) text = KeepsAll text
 
 -- the commands that answer from the text alone
 abbrev pub asks_text : Command → Type 0
@@ -145,6 +166,7 @@ asks_text (command.Format file) = Unit {0}
 asks_text (command.Witness file workers limits) = ⊥
 asks_text (command.Gen size workers) = ⊥
 asks_text (command.Replay file journal limits) = ⊥
+asks_text (command.Build file) = Unit {0}
 
 -- the commands that run a program with workers
 abbrev pub asks_run : Command → Type 0
@@ -156,6 +178,7 @@ asks_run (command.Format file) = ⊥
 asks_run (command.Witness file workers limits) = Unit {0}
 asks_run (command.Gen size workers) = Unit {0}
 asks_run (command.Replay file journal limits) = ⊥
+asks_run (command.Build file) = ⊥
 
 -- the command that follows a journal
 abbrev pub asks_replay : Command → Type 0
@@ -167,6 +190,19 @@ asks_replay (command.Format file) = ⊥
 asks_replay (command.Witness file workers limits) = ⊥
 asks_replay (command.Gen size workers) = ⊥
 asks_replay (command.Replay file journal limits) = Unit {0}
+asks_replay (command.Build file) = ⊥
+
+-- the command that writes a code file
+abbrev pub asks_build : Command → Type 0
+asks_build (command.Check file) = ⊥
+asks_build (command.Run file workers limits show) = ⊥
+asks_build (command.Code file) = ⊥
+asks_build (command.Sets file) = ⊥
+asks_build (command.Format file) = ⊥
+asks_build (command.Witness file workers limits) = ⊥
+asks_build (command.Gen size workers) = ⊥
+asks_build (command.Replay file journal limits) = ⊥
+asks_build (command.Build file) = Unit {0}
 
 -- these bytes are the text of a journal, and no more than are loaded
 abbrev pub IsJournalText : List ℕ → Type 0
@@ -182,6 +218,7 @@ CanRead held (command.Format file) = ⊥
 CanRead held (command.Witness file workers limits) = IfSome (held file) KeepsAll
 CanRead held (command.Gen size workers) = ⊥
 CanRead held (command.Replay file journal limits) = IfSome (held file) KeepsAll × IfSome (held journal) IsJournalText
+CanRead held (command.Build file) = ⊥
 
 -- what the command makes of the text alone, for the output and for the notes
 abbrev pub Makes : Command → List ℕ → List ℕ → List ℕ → Type 0
@@ -193,6 +230,7 @@ Makes (command.Format file) text out line = HasLayout text out × (line ≡ [])
 Makes (command.Witness file workers limits) text out line = ⊥
 Makes (command.Gen size workers) text out line = ⊥
 Makes (command.Replay file journal limits) text out line = ⊥
+Makes (command.Build file) text out line = IsCodeFile text out × (line ≡ [])
 
 -- the commands that go through the rules of interference too, and name no broken one
 abbrev pub asks_all : Command → Type 0
@@ -204,3 +242,4 @@ asks_all (command.Format file) = ⊥
 asks_all (command.Witness file workers limits) = Unit {0}
 asks_all (command.Gen size workers) = Unit {0}
 asks_all (command.Replay file journal limits) = Unit {0}
+asks_all (command.Build file) = Unit {0}

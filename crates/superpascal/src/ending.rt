@@ -35,6 +35,8 @@ pub enum Ending {
     BadJournal(u64),
     /// The entry with this index is the first that the program cannot make there.
     Unfit(u64),
+    /// The text of the code is longer than a code file may be.
+    LongCode,
 }
 
 /// All that a call has to write, and what it gives back. Where a program has run, its output is that of the run unless
@@ -64,6 +66,7 @@ impl Ending {
             Ending::TooLong => 7,
             Ending::OutOfMemory => 8,
             Ending::LongJournal | Ending::BadJournal(_) | Ending::Unfit(_) => 9,
+            Ending::LongCode => 10,
         }
     }
 
@@ -109,5 +112,6 @@ pub fn notes_by<'a>(ending: Ending, notes: &'a [u8]) -> &'a [u8]
         Ending::TooLong => b"input too long\n",
         Ending::OutOfMemory => b"out of memory\n",
         Ending::LongJournal => b"journal too long\n",
+        Ending::LongCode => b"code file too long\n",
     }
 }

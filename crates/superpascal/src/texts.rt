@@ -1,18 +1,20 @@
 //! The commands that answer from the text alone.
 
-ghost use Rattle.std.specs.Prelude.{ℕ, List};
-ghost use Rattle.sp_words.specs.declared.command.Command.TheVariants.{Check, Code, Format, Sets};
+ghost use Rattle.std.specs.Prelude.{◌≡◌, ℕ, List};
+ghost use Rattle.sp_words.specs.declared.command.Command.TheVariants.{Build, Check, Code, Format, Sets};
 ghost use Rattle.superpascal.specs.Answering.{IsMade, TextCause};
 ghost use Rattle.superpascal.specs.Causes.{files};
-ghost use Rattle.superpascal.specs.Texts.{IsAbout, asks_text};
+ghost use Rattle.superpascal.specs.Texts.{HasCodeText, IsAbout, asks_text};
 
-use crate::answers::{accepted, halted, unloaded};
-use crate::ending::Answer;
+use crate::answers::{accepted, halted, silent, unloaded};
+use crate::ending::{Answer, Ending};
 use sp_base::Halt;
 use sp_code::listing;
+use sp_codefile::encode;
 use sp_compile::compiled_apart;
 use sp_format::format;
-use sp_front::analyse_apart;
+use sp_front::{analyse_apart, one_answer};
+use sp_generate::one_code;
 use sp_outside::Library;
 use sp_sets::print_sets;
 use sp_words::Command;
@@ -21,6 +23,9 @@ use std::thread::Threads;
 
 /// The longest text that is loaded, in bytes.
 pub(crate) const LONGEST: u32 = 1_048_576;
+
+/// The longest code file, in bytes.
+const LONGEST_CODE: usize = 67_108_864;
 
 // Says of the text that it is accepted.
 fn check(rt: &impl Threads, alloc: Global, text: &[u8]) -> Result<Answer, Halt>
@@ -41,6 +46,20 @@ fn list(rt: &impl Threads, alloc: Global, text: &[u8]) -> Result<Answer, Halt>
     drop(compiled);
     let lines = lines?;
     Ok(accepted(lines, Vec::new(alloc)))
+}
+
+// Writes the code of the text as a file.
+fn build(rt: &impl Threads, alloc: Global, text: &[u8]) -> Result<Answer, Halt>
+    ensures { (file : List ℕ) → IsMade (Build file) text.now result }
+{
+    let compiled = compiled_apart(rt, alloc, text)?;
+    let file = encode(alloc, compiled.code());
+    drop(compiled);
+    let file = file?;
+    if file.len() > LONGEST_CODE {
+        return Ok(silent(alloc, Ending::LongCode));
+    }
+    Ok(accepted(file, Vec::new(alloc)))
 }
 
 // Tells the sets of the text.
@@ -74,11 +93,20 @@ fn make(rt: &impl Threads, alloc: Global, command: &Command, text: &[u8]) -> Res
         Command::Code(_) => list(rt, alloc, text),
         Command::Sets(_) => tell_sets(rt, alloc, text),
         Command::Format(_) => lay_out(alloc, text),
+        Command::Build(_) => build(rt, alloc, text),
         Command::Run { .. }
         | Command::Witness { .. }
         | Command::Gen { .. }
         | Command::Replay { .. } => unreachable!(),
     }
+}
+
+/// The code of a text has one text.
+pub(crate) fn one_code_text()
+    ensures { (text a b : List ℕ) → HasCodeText text a → HasCodeText text b → a ≡ b }
+{
+    one_answer();
+    one_code();
 }
 
 /// Does what the command asks of the text in this file.

@@ -15,7 +15,7 @@ use crate::outcome::Outcome;
 use crate::replays::replay_answer;
 use crate::runs::{generated_answer, run_answer};
 use crate::telling::Telling;
-use crate::texts::text_answer;
+use crate::texts::{one_code_text, text_answer};
 use crate::writing::write;
 use sp_compile::one_listing;
 use sp_execute::{one_unfit_entry, races_are_shown};
@@ -49,8 +49,11 @@ fn command_answer<R: Threads + Wait + Sync, L: Library, I: Source, G: Gate>(
 {
     accepted_options_are_in_range();
     match command {
-        Command::Check(file) | Command::Code(file) | Command::Sets(file) | Command::Format(file) =>
-            text_answer(rt, alloc, command, file.text(), library),
+        Command::Check(file)
+        | Command::Code(file)
+        | Command::Sets(file)
+        | Command::Format(file)
+        | Command::Build(file) => text_answer(rt, alloc, command, file.text(), library),
         Command::Run {
             file,
             workers,
@@ -162,7 +165,7 @@ fn answer_and_write<R: Threads + Wait + Sync, L: Library, I: Source, O: Sink, N:
 /// | 0 | where the run ends done | `done`, the verdict and the reports; or the journal |
 /// | 0 | where `replay` has followed the journal to the end done, or to none | `replayed`, and `done` or `no end` |
 /// | 0 | where `check` finds no broken rule | `accepted` |
-/// | 0 | where `code`, `sets` or `format` has given its text | none |
+/// | 0 | where `code`, `build`, `sets` or `format` has given its text | none |
 /// | 1 | where the text breaks a rule: for `sets` one of its characters, grammar, names and types, for `format` one of its characters and grammar, else any rule | `refused RULE LINE:COLUMN`, the first such rule |
 /// | 2 | where the words are refused | `bad words` |
 /// | 3 | where a fault ends the run | `fault F NAME`, the verdict and the reports; or the journal |
@@ -175,10 +178,13 @@ fn answer_and_write<R: Threads + Wait + Sync, L: Library, I: Source, O: Sink, N:
 /// | 9 | where the journal is longer than 67,108,864 bytes | `journal too long` |
 /// | 9 | where a line of the journal is no text of a next entry | `bad journal N`, the first such line, counted from 1 |
 /// | 9 | where the program cannot make an entry of the journal there | `journal unfit N`, the first such entry, counted from 0 |
+/// | 10 | where the code that `build` would write is longer than 67,108,864 bytes | `code file too long` |
 ///
 /// `witness` runs as `run` does, and writes to `output`, in place of what the program wrote, the witness of the race that its
 /// verdict names: a journal that `replay` follows to the fault F6. Where there is no race, it writes nothing there. Its notes are
 /// the end and the verdict.
+///
+/// `build` writes the code of the text to `output`, as a text that can be read again.
 ///
 /// `gen` runs the program that it generates on no input, reads no file and no input, and writes the size, the output, the number of
 /// entries, the end and the verdict to `output`; its status is that of the run.
@@ -213,6 +219,7 @@ pub fn superpascal<R: Threads + Wait + Sync, L: Library, I: Source, O: Sink, N: 
     one_compilation();
     one_layout();
     one_listing();
+    one_code_text();
     one_sets_text();
     one_journal_of_a_text();
     one_unfit_entry();

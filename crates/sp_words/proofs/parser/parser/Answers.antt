@@ -21,6 +21,10 @@ to_format q = more (shape_with (codes "format") []) (more (shape_with (codes "se
 abbrev to_gen : ValueParser → App
 to_gen q = more (shape_with (codes "gen") gen_parsers) (to_format q)
 
+-- up to `witness`
+abbrev to_witness : ValueParser → App
+to_witness q = more (shape_with (codes "witness") witness_parsers) (more (replay_shape limit_parsers) (to_gen q))
+
 pub returns : goal.returns
 returns c =
     let check = added (more (shape_with (codes "check") [])) bare_line (Ok c.bare_line.result) _ c.with_plain-line.ensures c.bare_line.ensures in
@@ -31,5 +35,7 @@ returns c =
     let gen = added_with (more (shape_with (codes "gen") gen_parsers)) to_format _ _ (shaped (shape_with (codes "gen") gen_parsers) _ _ _ c.with_command-line-2.ensures c.gen_command.ensures.local c.gen_command.ensures.shape) format in
     let replay = added_with (more (replay_shape limit_parsers)) to_gen _ _
     (shaped (replay_shape limit_parsers) _ _ _ c.with_command-line-3.ensures c.replay_command.ensures.local c.replay_command.ensures.shape) gen in
-    added_with (more (shape_with (codes "witness") witness_parsers)) (λ q. more (replay_shape limit_parsers) (to_gen q)) _ _
-    (shaped (shape_with (codes "witness") witness_parsers) _ _ _ c.with_command.ensures c.witness_command.ensures.local c.witness_command.ensures.shape) replay
+    let witness = added_with (more (shape_with (codes "witness") witness_parsers)) (λ q. more (replay_shape limit_parsers) (to_gen q)) _ _
+    (shaped (shape_with (codes "witness") witness_parsers) _ _ _ c.with_command-line-4.ensures c.witness_command.ensures.local
+    c.witness_command.ensures.shape) replay in
+    added_with (more (shape_with (codes "build") [])) to_witness _ _ c.with_plain.ensures witness

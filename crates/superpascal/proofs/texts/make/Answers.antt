@@ -13,3 +13,6 @@ returns-in-Sets g c = made_by c.args.command.now _ c.args.text.now c.tell_sets.r
 
 pub returns-in-Format : goal.returns-in-Format
 returns-in-Format g c = made_by c.args.command.now _ c.args.text.now c.lay_out.result c.in-Format.is (c.lay_out.ensures [])
+
+pub returns-in-Build : goal.returns-in-Build
+returns-in-Build g c = made_by c.args.command.now _ c.args.text.now c.build.result c.in-Build.is (c.build.ensures [])
