@@ -4,7 +4,6 @@ use Rattle.std.specs.Prelude.{IfSome}
 use Rattle.sp_base.specs.declared.halt.Refusal.{Refusal}
 use Rattle.sp_base.specs.declared.limits.Limits.{Limits}
 use Rattle.sp_base.specs.declared.limits.Show.{Show}
-use Rattle.sp_words.specs.Ranges.{AreInRange, IsInRange}
 use Rattle.sp_words.specs.declared.command.Command.{Command}
 use Rattle.sp_words.specs.declared.command.Command.TheVariants as command
 use Rattle.superpascal.specs.declared.telling.Telling.{Telling}
@@ -49,9 +48,6 @@ asked_no_text b = either_command (λ d. asks_text d → ⊥) b (λ show h. h) (�
 
 pub asked_no_build : (b : Asked) → asks_build (asks b) → ⊥
 asked_no_build b = either_command (λ d. asks_build d → ⊥) b (λ show h. h) (λ h. h)
-
-pub asked_range : (b : Asked) → AreInRange (asks b) → IsInRange b.workers b.limits
-asked_range b = either_command (λ d. AreInRange d → IsInRange b.workers b.limits) b (λ show h. h) (λ h. h)
 
 -- ---- one command asks for one run
 

@@ -43,7 +43,7 @@ use Rattle.superpascal.specs.Writing.{AreWritten, Writing, WritesLine}
 use Rattle.superpascal.proofs.Laws.{Laws, code_text_keeps, disjoint_text, keeps_all, keeps_or, kept_or, made_asks, made_keeps, made_once, one_break}
 use Rattle.superpascal.proofs.Asking.{asked_breaks, asked_keeps, asked_makes, asked_no_build, asked_no_text, asked_text, breaks_asked, keeps_asked, not_gen, not_run, one_asked}
 use Rattle.superpascal.proofs.Parts.{when_told}
-use Rattle.superpascal.proofs.Replaying.{code_keeps, if_mapped, if_told, meant_along, not_followed, not_generated, not_unfit, one_followed, replay_notes_stand, same_entry, told_of}
+use Rattle.superpascal.proofs.Replaying.{if_mapped, if_told, meant_along, not_followed, not_generated, not_unfit, one_followed, replay_notes_stand, same_entry, told_of, tree_keeps}
 use Rattle.superpascal.proofs.Tellable.{ends_of, replay_ends}
 use Rattle.superpascal.proofs.Why.{HasEnded, HasRanFor, HasReplayedFor, IsRanBy, ran_of, same_ran, why, why_of}
 
@@ -213,11 +213,11 @@ module _ (f : Files) (s : Stream) (reports : Reports) (w : Option Command) (a : 
 
     replay_keeps : HasReplayedFor f s reports w a → Keeps d text
     replay_keeps (b, u, h) =
-        followed_keeps b u (told_keeps (f.held b.file) h.has_read.text h.has_read.loaded (code_keeps h.has_read.text h.is_replay.tree h.is_replay.code h.is_replay.has))
+        followed_keeps b u (told_keeps (f.held b.file) h.has_read.text h.has_read.loaded (tree_keeps h.has_read.text h.is_replay.tree h.is_replay.has))
 
     unfit_keeps : (b : Followed) (n : ℕ) → w ≡ Some (follows b) → IsUnfit f s b n a → Keeps d text
     unfit_keeps b n u h =
-        followed_keeps b u (told_keeps (f.held b.file) h.has_read.text h.has_read.loaded (code_keeps h.has_read.text h.is_unfit.tree h.is_unfit.code h.is_unfit.has))
+        followed_keeps b u (told_keeps (f.held b.file) h.has_read.text h.has_read.loaded (tree_keeps h.has_read.text h.is_unfit.tree h.is_unfit.has))
 
     ended_keeps : HasEnded f s reports w a → Keeps d text
     ended_keeps (inl k) = ran_keeps k
@@ -485,7 +485,7 @@ module _ (f : Files) (s : Stream) (reports : Reports) (w : Option Command) (a : 
   journal_refused e.LongJournal (b, u, h) i = (b, u, h.kept, inl (if_mapped _ IsNoJournal (f.held b.journal) (λ x m. inl m) h.long))
   journal_refused (e.BadJournal n) (b, u, h) i = (b, u, h.kept, inl (if_mapped _ IsNoJournal (f.held b.journal) (λ x m. inr m) h.no_text))
   journal_refused (e.Unfit n) (b, u, h) i =
-      (b, u, when_told KeepsAll (f.held b.file) h.has_read.text h.has_read.loaded (code_keeps h.has_read.text h.is_unfit.tree h.is_unfit.code h.is_unfit.has), inr (h.has_read, n, h.is_unfit))
+      (b, u, when_told KeepsAll (f.held b.file) h.has_read.text h.has_read.loaded (tree_keeps h.has_read.text h.is_unfit.tree h.is_unfit.has), inr (h.has_read, n, h.is_unfit))
   journal_refused _ k i = absurd (omega arith)
 
 -- ---- of a call
@@ -627,17 +627,17 @@ module _ (c : Call) (k : IsAnswered c) (l : Laws) where
 
       -- the witness of its race
       run_shown : (text input : List ℕ) → c.files.held b.file ≡ Some text → c.source.left ≡ Some input → IsShown b text input r
-      run_shown text input t left = of_run (λ x. command_of c.words ≡ Some (asks x) → c.files.held x.file ≡ Some text → IsShown x text input r) (λ x m v i. go x m v i) v t
+      run_shown text input t left = of_run (λ x. c.files.held x.file ≡ Some text → IsShown x text input r) (λ x m i. go x m i) t
         where
-          go : (x : Asked) → HasRun c.files c.source c.reports x k.answer → command_of c.words ≡ Some (asks x) → c.files.held x.file ≡ Some text → IsShown x text input r
-          go x m v i =
+          go : (x : Asked) → HasRun c.files c.source c.reports x k.answer → c.files.held x.file ≡ Some text → IsShown x text input r
+          go x m i =
               let same : m.ran ≡ r = same_run c.reports x m.ran m.answer in
               let this : m.text ≡ text = told_of (c.files.held x.file) m.text text i m.loaded in
               let that : m.input ≡ input = told_of c.source.left m.input input left m.read in
-              shown x v text input r (subst (IsRunOf text input x.workers x.limits) same (subst (λ y. IsRunOf text y x.workers x.limits m.ran) that (subst (λ y. IsRunOf y m.input x.workers x.limits m.ran) this m.is_run)))
+              shown x text input r (subst (IsRunOf text input x.workers x.limits) same (subst (λ y. IsRunOf text y x.workers x.limits m.ran) that (subst (λ y. IsRunOf y m.input x.workers x.limits m.ran) this m.is_run)))
             where
-              shown : (x : Asked) → command_of c.words ≡ Some (asks x) → (text input : List ℕ) (r : Ran) → IsRunOf text input x.workers x.limits r → IsShown x text input r
-              shown x v text input r h = (bare h.tree, (h.tree, h.has.accepted.0, refl), l.shown c.words x v text input r h)
+              shown : (x : Asked) (text input : List ℕ) (r : Ran) → IsRunOf text input x.workers x.limits r → IsShown x text input r
+              shown x text input r h = (bare h.tree, (h.tree, h.has.accepted.0, refl), h.shown)
 
     generated_written : (size workers : ℕ) → command_of c.words ≡ Some (command.Gen size workers) → AreWritten c (generated_output size r) []
     generated_written size workers v = go has_ran

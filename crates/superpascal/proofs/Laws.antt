@@ -23,7 +23,6 @@ use Rattle.sp_varsets.specs.AreSets.{AreSets}
 use Rattle.sp_varsets.specs.declared.sets.Sets.{Sets}
 use Rattle.sp_words.specs.declared.command.Command.{Command}
 use Rattle.sp_words.specs.declared.command.Command.TheVariants as command
-use Rattle.superpascal.proofs.Showing.{ShowsLaw}
 use Rattle.superpascal.specs.Texts.{Breaks, BreaksOne, HasCodeText, HasSets, IsDisjointText, Keeps, KeepsAll, Makes, asks_all, asks_text}
 
 pub record Laws : Type 0 where
@@ -49,8 +48,6 @@ pub record Laws : Type 0 where
   pub journal : (v w : Version) (j k : Journal) (bytes : List ℕ) → IsTextOf v j bytes → IsTextOf w k bytes → j ≡ k
   pub unfit : (g : Setting) (es : List Entry) (m n : ℕ) → IsUnfitAt g es m → IsUnfitAt g es n → m ≡ n
   pub unfit_or : (g : Setting) (es : List Entry) (n : ℕ) → IsMeant g es → IsUnfitAt g es n → ⊥
-  -- by `witness`
-  pub shown : ShowsLaw
 
 module _ (l : Laws) (text : List ℕ) where
   one_length : (a b : Refusal) → BreaksLength text a → BreaksLength text b → a ≡ b
@@ -179,5 +176,5 @@ pub laws : ((text : List ℕ) (p q : c.Program) → IsChecked text p → IsCheck
     → ((v w : Version) (j k : Journal) (bytes : List ℕ) → IsTextOf v j bytes → IsTextOf w k bytes → j ≡ k)
     → ((g : Setting) (es : List Entry) (m n : ℕ) → IsUnfitAt g es m → IsUnfitAt g es n → m ≡ n)
     → ((g : Setting) (es : List Entry) (n : ℕ) → IsMeant g es → IsUnfitAt g es n → ⊥)
-    → ShowsLaw → Laws
-laws s t u v w d x y z o q f j m n shown = record { tree = s; first = t; not_both = u; any_first = v; accepted_or = w; disjoint = d; layout = x; no_layout = y; layout_or = z; sets_text = o; listing = q; code_text = f; journal = j; unfit = m; unfit_or = n; shown = shown }
+    → Laws
+laws s t u v w d x y z o q f j m n = record { tree = s; first = t; not_both = u; any_first = v; accepted_or = w; disjoint = d; layout = x; no_layout = y; layout_or = z; sets_text = o; listing = q; code_text = f; journal = j; unfit = m; unfit_or = n }

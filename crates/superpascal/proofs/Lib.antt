@@ -4,6 +4,5 @@ pub mod Parts
 pub mod Replaying
 pub mod Asking
 pub mod Running
-pub mod Showing
 pub mod Tellable
 pub mod Why

@@ -24,9 +24,9 @@ use Rattle.sp_words.specs.declared.command.Command.TheVariants as command
 use Rattle.superpascal.specs.declared.ending.Answer.{Answer}
 use Rattle.superpascal.specs.declared.ending.Ending.TheVariants as e
 use Rattle.superpascal.specs.declared.telling.Telling.{Telling}
-use Rattle.superpascal.specs.Answering.{CodeAnswer, CommandCause, GeneratedAnswer, GeneratedCause, InputAnswer, IsMade, JournalAnswer, AnswersRefusal, RanAnswer, ReplayAnswer, RunAnswer, TextCause, halted, too_long, unloaded}
+use Rattle.superpascal.specs.Answering.{CodeAnswer, CommandCause, GeneratedAnswer, GeneratedCause, HasCode, InputAnswer, IsMade, JournalAnswer, AnswersRefusal, RanAnswer, ReplayAnswer, RunAnswer, TextCause, halted, too_long, unloaded}
 use Rattle.superpascal.specs.Causes.{Cause, by_command, Due, by_run, by_generated, by_text, by_code, by_rule, by_library, by_source, by_length, by_memory, Files, IsTold, IsUntouched, ReadsAfterRules, Stream, accepted, silent}
-use Rattle.superpascal.specs.Runs.{HasCode, IsRunOf, Reports}
+use Rattle.superpascal.specs.Runs.{IsRunOf, Reports}
 use Rattle.superpascal.specs.Texts.{Asked, Breaks, BreaksOne, CanRead, HasCodeText, IsAbout, KeepsAll, asked, asks, asks_for, text_of}
 use Rattle.superpascal.proofs.Asking.{asked_breaks, asked_reads, asked_text}
 use Rattle.superpascal.proofs.Laws.{long_breaks}
@@ -102,7 +102,7 @@ run_by d file name workers limits t h i = h ∙ ap (λ (n : List ℕ). asks_for 
 
 -- the code of a text
 has_code : (text : List ℕ) (r : CompiledText) → IsCompiled text r → HasCode text (program_of r.accepted.checked) r.code
-has_code text r h = record { accepted = h.accepted; short = h.short; code = h.code }
+has_code text r h = record { has = record { accepted = h.accepted; short = h.short }; code = h.code }
 
 keeps_compiled : (text : List ℕ) (r : CompiledText) → IsCompiled text r → KeepsAll text
 keeps_compiled text r h = (program_of r.accepted.checked, h.accepted, h.short)

@@ -25,7 +25,7 @@ use Rattle.superpascal.specs.Answers.{notes_by}
 use Rattle.superpascal.specs.Causes.{by_library, by_source, by_length, by_memory, by_replay, by_entry, by_line, by_size, Files, HasRead, IsTold, Stream}
 use Rattle.superpascal.specs.Following.{IsMeantAlong}
 use Rattle.superpascal.specs.Replays.{IsJournalOf, IsReplayOf, IsUnfitFor, ending_of_replay}
-use Rattle.superpascal.specs.Runs.{HasCode, Reports}
+use Rattle.superpascal.specs.Runs.{HasTree, Reports}
 use Rattle.superpascal.specs.Texts.{BreaksOne, CanRead, Followed, IsJournalText, KeepsAll, followed, follows}
 use Rattle.superpascal.proofs.Laws.{Laws}
 use Rattle.superpascal.proofs.Parts.{command_refused, when_told}
@@ -54,8 +54,8 @@ pub rose_before : (before middle after : ℕ) → before ≤ middle → Rose mid
 rose_before before middle after l (inl r) = inl (omega (arith, l, r))
 rose_before before middle after l (inr r) = inr r
 
-pub code_keeps : (text : List ℕ) (tree : c.Program) (code : _) → HasCode text tree code → KeepsAll text
-code_keeps text tree code h = (tree, h.accepted, h.short)
+pub tree_keeps : (text : List ℕ) (tree : c.Program) → HasTree text tree → KeepsAll text
+tree_keeps text tree h = (tree, h.accepted, h.short)
 
 module _ (f : Files) (s : Stream) (reports : Reports) (b : Followed) (a : Answer) (text : List ℕ) (t : IsTold (f.held b.file) text)
     (before after : ℕ) (rises : Rose before after → Rose (f.before b.journal) (f.after b.journal)) where
@@ -134,14 +134,14 @@ replay_notes_stand (Some ends.Memory) notes h = absurd h
 
 module _ (l : Laws) (text input : List ℕ) (limits : Limits) (j : Journal) where
   -- the program of a text is that of its code
-  same_program : (p : Program) → IsProgramOf text p → (tree : c.Program) (code : _) → HasCode text tree code → bare tree ≡ p
-  same_program p (q, is, e) tree code has = ap bare (l.tree text tree q has.accepted.0 is) ∙ e
+  same_program : (p : Program) → IsProgramOf text p → (tree : c.Program) → HasTree text tree → bare tree ≡ p
+  same_program p (q, is, e) tree has = ap bare (l.tree text tree q has.accepted.0 is) ∙ e
 
   pub meant_defined : (p : Program) → IsProgramOf text p → (r : Replayed) → IsReplayOf text input limits j r → IsDefined (setting p input limits) j.entries
-  meant_defined p is r h = subst (λ (q : Program). IsDefined (setting q input limits) j.entries) (same_program p is h.tree h.code h.has) (h.meant.steps, h.meant.state, h.meant.along)
+  meant_defined p is r h = subst (λ (q : Program). IsDefined (setting q input limits) j.entries) (same_program p is h.tree h.has) (h.meant.steps, h.meant.state, h.meant.along)
 
   pub unfit_there : (p : Program) → IsProgramOf text p → (n : ℕ) → IsUnfitFor text input limits j n → IsUnfitAt (setting p input limits) j.entries n
-  unfit_there p is n h = subst (λ (q : Program). IsUnfitAt (setting q input limits) j.entries n) (same_program p is h.tree h.code h.has) h.unfit
+  unfit_there p is n h = subst (λ (q : Program). IsUnfitAt (setting q input limits) j.entries n) (same_program p is h.tree h.has) h.unfit
 
 module _ (f : Files) (s : Stream) (b : Followed) (l : Laws) (h : HasRead f s b) (text bytes input : List ℕ)
     (t : f.held b.file ≡ Some text) (u : f.held b.journal ≡ Some bytes) (i : s.left ≡ Some input) where

@@ -5,23 +5,24 @@ use Rattle.sp_base.specs.declared.halt.Memory.{Memory}
 use Rattle.sp_base.specs.declared.limits.Limits.{Limits}
 use Rattle.sp_code.specs.declared.code.Parts.{Parts}
 use Rattle.sp_code.specs.Shares.{SetsAre}
-use Rattle.sp_code.specs.Sound.{AreLimits, run_of}
+use Rattle.sp_code.specs.Sound.{AreLimits}
 use Rattle.sp_execute.specs.declared.execution.Ran.{Ran}
 use Rattle.sp_execute.specs.Follows.{Follows as FollowsProgram}
 use Rattle.sp_execute.specs.Runs.{Executes, IsCodeOf as IsReadyCode, setting}
+use Rattle.sp_execute.specs.Witnesses.{IsReadyRun, ShowsRace}
 use Rattle.sp_facts.specs.Gives.{IsAccepted}
 use Rattle.sp_journal.specs.declared.entry.Journal.{Journal}
 use Rattle.sp_link.specs.Premises.{IsReady}
+use Rattle.sp_meaning.specs.Own.{Setting}
 use Rattle.sp_replay.specs.declared.replayer.Replayed.{Replayed}
 use Rattle.sp_replay.specs.declared.replayer.ReplayError.{ReplayError}
 use Rattle.sp_replay.specs.declared.replayer.ReplayError.TheVariants as error
-use Rattle.sp_runner.specs.Runs.{IsRun}
 use Rattle.sp_tree.specs.Bare.{bare}
 use Rattle.sp_tree.specs.Plain.{Program, Stmt}
 use Rattle.sp_tree.specs.PlainChecked as c
 use Rattle.sp_words.specs.Ranges.{IsInRange}
-use Rattle.superpascal.specs.Answering.{Follows}
-use Rattle.superpascal.specs.Runs.{HasCode, IsRunOf, IsSomeRun}
+use Rattle.superpascal.specs.Answering.{Follows, HasCode}
+use Rattle.superpascal.specs.Runs.{IsRunOf}
 
 -- options in their ranges are within their types
 below : (m n k : ℕ) → m ≤ n → n ≤ k → m ≤ k
@@ -42,10 +43,14 @@ abbrev pub ReadyLaw : Type 0
 ReadyLaw = (text : List ℕ) (t : c.Program) → IsAccepted text t → (moves shares : Stmt → List ℕ) → SetsAre (bare t) moves shares
     → (input : List ℕ) (lim : Limits) → AreLimits lim → IsReady (record { program = bare t; input = input; limits = lim }) moves shares
 
+-- the law of races
+abbrev pub RaceLaw : Type 0
+RaceLaw = (g : Setting) (moves shares : Stmt → List ℕ) (workers : ℕ) (r : Ran) → IsReady g moves shares → Executes g workers r → ShowsRace g r
+
 module _ (law : ReadyLaw) (code : Parts) (input : List ℕ) (workers : ℕ) (lim : Limits) (range : IsInRange workers lim) where
   ready_code : (text : List ℕ) (t : c.Program) (has : HasCode text t code) → IsReadyCode (setting (bare t) input lim) has.code.0.moves has.code.0.shares code
   ready_code text t has = record {
-    ready = law text t has.accepted has.code.0.moves has.code.0.shares has.code.0.are input lim (limits_are workers lim range);
+    ready = law text t has.has.accepted has.code.0.moves has.code.0.shares has.code.0.are input lim (limits_are workers lim range);
     emitted = has.code.1;
   }
 
@@ -62,16 +67,25 @@ module _ (law : ReadyLaw) (code : Parts) (input : List ℕ) (workers : ℕ) (lim
     abbrev Meant : List ℕ → Parts → Ran → Type 0
     Meant y x r = (p : Program) (moves shares : Stmt → List ℕ) → IsReadyCode (setting p y lim) moves shares x → Executes (setting p y lim) workers r
 
-    pub is_run_if : (r : Result Ran Memory) → IfOk r (λ e. IsRun (run_of held read lim) workers e.closed) → IfOk r (λ e. Meant read held e)
+    -- a run of the code is one of the program, and the program is ready for it
+    pub ready_if : ((text : List ℕ) × (t : c.Program) × HasCode text t code) → (r : Result Ran Memory) → IfOk r (λ e. Meant read held e) → IfOk r IsReadyRun
+    ready_if some (Ok e) meant =
+        let x = ready_held some in
+        (setting x.0 read lim, x.1, x.2, workers, x.3.ready, meant x.0 x.1 x.2 x.3)
+    ready_if some (Err x) meant = tt
+
+    pub is_run_if : RaceLaw → (r : Result Ran Memory) → IfOk r (λ e. Meant read held e)
         → IfOk r (λ e. (text : List ℕ) (t : c.Program) → HasCode text t code → IsRunOf text input workers lim e)
-    is_run_if (Ok e) run meant = λ text t has. record {
-      tree = t;
-      code = code;
-      has = has;
-      run = subst (λ (z : List ℕ × Parts). IsRun (run_of z.1 z.0 lim) workers e.closed) (λ k. (i k, h k)) run;
-      meant = subst (λ (z : List ℕ × Parts). Meant z.0 z.1 e) (λ k. (i k, h k)) meant (bare t) has.code.0.moves has.code.0.shares (ready_code text t has);
-    }
-    is_run_if (Err x) run meant = tt
+    is_run_if races (Ok e) meant = λ text t has.
+        let ready = ready_code text t has in
+        let executes = subst (λ (z : List ℕ × Parts). Meant z.0 z.1 e) (λ k. (i k, h k)) meant (bare t) has.code.0.moves has.code.0.shares ready in
+        record {
+          tree = t;
+          has = has.has;
+          meant = executes;
+          shown = races (setting (bare t) input lim) has.code.0.moves has.code.0.shares workers e ready.ready executes;
+        }
+    is_run_if races (Err x) meant = tt
 
     module _ (j : Journal) (r : Result Replayed ReplayError) (says : (p : Program) (moves shares : Stmt → List ℕ) → IsReadyCode (setting p read lim) moves shares held → FollowsProgram (setting p read lim) j r) where
       said : (text : List ℕ) (t : c.Program) → HasCode text t code → FollowsProgram (setting (bare t) input lim) j r
@@ -83,16 +97,6 @@ module _ (law : ReadyLaw) (code : Parts) (input : List ℕ) (workers : ℕ) (lim
       follows_text text t has = go r (said text t has)
         where
           go : (x : Result Replayed ReplayError) → FollowsProgram (setting (bare t) input lim) j x → Follows text input lim j x
-          go (Ok y) m = record { tree = t; code = code; has = has; meant = m }
-          go (Err (error.Unfit n)) m = record { tree = t; code = code; has = has; unfit = m }
+          go (Ok y) m = record { tree = t; has = has.has; meant = m }
+          go (Err (error.Unfit n)) m = record { tree = t; has = has.has; unfit = m }
           go (Err error.Memory) m = tt
-
--- the program of a run is ready for its code
-pub is_ready : ReadyLaw → (text input : List ℕ) (workers : ℕ) (limits : Limits) → IsInRange workers limits → (r : Ran)
-    → (h : IsRunOf text input workers limits r) → IsReady (setting (bare h.tree) input limits) h.has.code.0.moves h.has.code.0.shares
-is_ready law text input workers limits range r h = (ready_code law h.code input workers limits range text h.tree h.has).ready
-
--- a run that is known is one of some text
-pub some_run : (program input : List ℕ) (workers : ℕ) (limits : Limits) (r : Ran) → IsInRange workers limits
-    → IsRunOf program input workers limits r → IsSomeRun r
-some_run program input workers limits r range h = (program, input, workers, limits, range, h)

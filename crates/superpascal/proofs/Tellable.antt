@@ -1,42 +1,41 @@
 -- What of a run lets it be told.
 use Rattle.std.proofs.Common.{ℕ, List, Option, Some, None}
 use Rattle.sp_base.specs.declared.limits.Limits.{Limits}
-use Rattle.sp_code.specs.System.{System}
-use Rattle.sp_cell.specs.Map.{Plain}
 use Rattle.sp_execute.specs.declared.execution.Ran.{Ran}
-use Rattle.sp_journal.specs.declared.entry.Entry.{Entry}
+use Rattle.sp_execute.specs.Runs.{Executes, setting}
+use Rattle.sp_execute.specs.Witnesses.{IsReadyRun}
 use Rattle.sp_journal.specs.declared.entry.Journal.{Journal}
 use Rattle.sp_journal.specs.declared.outcome.End.{End}
 use Rattle.sp_journal.specs.declared.outcome.End.TheVariants as ends
-use Rattle.sp_meaning.specs.Ends.{EndsSo}
+use Rattle.sp_meaning.specs.Ends.{EndIs, EndsSo}
 use Rattle.sp_meaning.specs.Own.{Setting}
 use Rattle.sp_meaning.specs.Runs.{StateOf}
 use Rattle.sp_print.specs.Lines.{HasLines}
 use Rattle.sp_replay.specs.declared.replayer.Replayed.{Replayed}
-use Rattle.sp_runner.specs.Ends.{EndsAt}
+use Rattle.sp_tree.specs.Bare.{bare}
 use Rattle.superpascal.specs.Answering.{HasEndLines, IsTellable}
 use Rattle.superpascal.specs.Replays.{IsReplayOf}
-use Rattle.superpascal.specs.Runs.{IsRunOf, IsSomeRun}
+use Rattle.superpascal.specs.Runs.{IsRunOf}
 
 abbrev pub Ends : End → Type 0
 Ends x = HasLines x
 
-ends_at : (es : List Entry) (s : System Plain) (x : End) → EndsAt es s x → HasLines x
-ends_at es s ends.Done h = tt
-ends_at es s (ends.Deadlock ws) h = tt
-ends_at es s (ends.Fault n y) h = tt
-ends_at es s ends.Memory h = absurd h
-
 -- no run ends by want of memory
+ends_at : (g : Setting) (s : StateOf g) (x : End) → EndIs g s x → HasLines x
+ends_at g s ends.Done h = tt
+ends_at g s (ends.Deadlock ws) h = tt
+ends_at g s (ends.Fault n y) h = tt
+ends_at g s ends.Memory h = absurd h
+
+executed : (g : Setting) (workers : ℕ) (r : Ran) → Executes g workers r → IsTellable r
+executed g workers r h = (h.about.names, ends_at g h.about.state r.closed.end h.about.end)
+
 pub ends_of : (text input : List ℕ) (workers : ℕ) (limits : Limits) (r : Ran) → IsRunOf text input workers limits r → HasLines r.closed.end
-ends_of text input workers limits r h = ends_at r.closed.journal.entries h.run.gives.system r.closed.end h.run.gives.end
+ends_of text input workers limits r h = (executed (setting (bare h.tree) input limits) workers r h.meant).1
 
-pub tellable : (text input : List ℕ) (workers : ℕ) (limits : Limits) (r : Ran) → IsRunOf text input workers limits r → IsTellable r
-tellable text input workers limits r h = (h.meant.about.names, ends_of text input workers limits r h)
-
--- a run that is known can be told
-pub known_tellable : (r : Ran) → IsSomeRun r → IsTellable r
-known_tellable r (text, input, workers, limits, range, h) = tellable text input workers limits r h
+-- a run of a program that is ready can be told
+pub ready_tellable : (r : Ran) → IsReadyRun r → IsTellable r
+ready_tellable r (g, moves, shares, workers, ready, h) = executed g workers r h
 
 -- no replay does
 meant_ends : (g : Setting) (s : StateOf g) (o : Option End) → EndsSo g s o → HasEndLines o

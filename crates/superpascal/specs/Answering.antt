@@ -6,8 +6,10 @@ use Rattle.sp_base.specs.declared.halt.Halt.TheVariants as halt
 use Rattle.sp_base.specs.declared.halt.Refusal.{Refusal}
 use Rattle.sp_base.specs.declared.limits.Limits.{Limits}
 use Rattle.sp_base.specs.declared.rule.Rule.TheVariants as rule
+use Rattle.sp_code.specs.declared.code.Parts.{Parts}
 use Rattle.sp_execute.specs.declared.execution.Ran.{Ran}
 use Rattle.sp_gen.specs.Generated.{generated_text}
+use Rattle.sp_generate.specs.Generated.{IsCodeOf}
 use Rattle.sp_journal.specs.declared.entry.Journal.{Journal}
 use Rattle.sp_journal.specs.declared.outcome.End.{End}
 use Rattle.sp_journal.specs.Births.{IsNameable}
@@ -21,6 +23,8 @@ use Rattle.sp_print.specs.Lines.{HasLines}
 use Rattle.sp_replay.specs.declared.replayer.Replayed.{Replayed}
 use Rattle.sp_replay.specs.declared.replayer.ReplayError.{ReplayError}
 use Rattle.sp_replay.specs.declared.replayer.ReplayError.TheVariants as error
+use Rattle.sp_tree.specs.Bare.{bare}
+use Rattle.sp_tree.specs.PlainChecked as c
 use Rattle.sp_tree.specs.Places.{start}
 use Rattle.sp_words.specs.declared.command.Command.{Command}
 use Rattle.superpascal.specs.declared.ending.Ending.{Ending}
@@ -29,7 +33,7 @@ use Rattle.superpascal.specs.declared.ending.Answer.{Answer}
 use Rattle.superpascal.specs.declared.telling.Telling.{Telling}
 use Rattle.superpascal.specs.Causes.{Due, Files, HasGenerated, HasMade, IsLongCode, IsNotLoaded, IsRefusedFor, IsTold, IsTooLong, IsUntouched, ReadsAfterRules, Stream, accepted, refused, silent}
 use Rattle.superpascal.specs.Replays.{IsJournalOf, IsReplayOf, IsUnfitFor, numbered, replay_answer}
-use Rattle.superpascal.specs.Runs.{IsRunOf, Reports, generated_answer, run_answer}
+use Rattle.superpascal.specs.Runs.{HasTree, IsRunOf, Reports, generated_answer, run_answer}
 use Rattle.superpascal.specs.Texts.{Breaks, BreaksOne, HasLongCode, KeepsAll, Makes, asks_build}
 
 -- the answer to a text that breaks this rule first, or want of memory
@@ -66,6 +70,11 @@ IsMade c text (Err halt.Memory) = Unit {0}
 -- the answer of a command that answers from the text alone
 abbrev pub TextCause : Files → Command → Answer → Type 0
 TextCause f c a = HasMade f c a ⊎ (IsLongCode f c a ⊎ (IsRefusedFor f c a ⊎ (IsNotLoaded f c a ⊎ (a ≡ silent e.OutOfMemory))))
+
+-- the text has this tree, which breaks no rule, and this is its code
+pub record HasCode (text : List ℕ) (tree : c.Program) (parts : Parts) : Type 0 where
+  pub has : HasTree text tree
+  pub code : IsCodeOf (bare tree) parts
 
 -- the run can be told: its journal gives names, and it did not end by want of memory
 abbrev pub IsTellable : Ran → Type 0

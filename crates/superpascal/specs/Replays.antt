@@ -2,7 +2,6 @@
 -- clauses on `replay` and the written texts are said by it.
 use Rattle.std.specs.Prelude.{ℕ, ◌≤◌, List, ◌++◌, Option, Some, None, codes, length}
 use Rattle.sp_base.specs.declared.limits.Limits.{Limits}
-use Rattle.sp_code.specs.declared.code.Parts.{Parts}
 use Rattle.sp_execute.specs.Follows.{IsFollowed, IsUnfitAt}
 use Rattle.sp_execute.specs.Runs.{setting}
 use Rattle.sp_journal.specs.declared.entry.Journal.{Journal}
@@ -17,7 +16,7 @@ use Rattle.superpascal.specs.declared.ending.Ending.{Ending}
 use Rattle.superpascal.specs.declared.ending.Ending.TheVariants as e
 use Rattle.superpascal.specs.declared.ending.Answer.{Answer}
 use Rattle.superpascal.specs.Answers.{line_of}
-use Rattle.superpascal.specs.Runs.{HasCode, ending_of}
+use Rattle.superpascal.specs.Runs.{HasTree, ending_of}
 
 -- this is the journal of these bytes, which are no more than are loaded
 pub record IsJournalOf (bytes : List ℕ) (j : Journal) : Type 0 where
@@ -28,15 +27,13 @@ pub record IsJournalOf (bytes : List ℕ) (j : Journal) : Type 0 where
 -- the program of the text on the input with the limits was followed along the journal, with this end and this output
 pub record IsReplayOf (text input : List ℕ) (limits : Limits) (j : Journal) (r : Replayed) : Type 0 where
   pub tree : c.Program
-  pub code : Parts
-  pub has : HasCode text tree code
+  pub has : HasTree text tree
   pub meant : IsFollowed (setting (bare tree) input limits) j r
 
 -- it can be followed along the first n entries, and not with the next one
 pub record IsUnfitFor (text input : List ℕ) (limits : Limits) (j : Journal) (n : ℕ) : Type 0 where
   pub tree : c.Program
-  pub code : Parts
-  pub has : HasCode text tree code
+  pub has : HasTree text tree
   pub unfit : IsUnfitAt (setting (bare tree) input limits) j.entries n
 
 -- what a replay comes to is told by this ending of the call

@@ -5,49 +5,37 @@ use Rattle.std.specs.Prelude.{ℕ, ◌≤◌, Bool, true, false, if◌then◌els
 use Rattle.sp_base.specs.declared.limits.Limits.{Limits}
 use Rattle.sp_base.specs.declared.limits.Show.{Show}
 use Rattle.sp_base.specs.declared.limits.Show.TheVariants as show
-use Rattle.sp_code.specs.declared.code.Parts.{Parts}
 use Rattle.sp_code.specs.Lengths.{tree_length}
-use Rattle.sp_code.specs.Sound.{run_of}
 use Rattle.sp_execute.specs.declared.execution.Ran.{Ran}
 use Rattle.sp_execute.specs.Runs.{Executes, setting}
-use Rattle.sp_execute.specs.Witnesses.{witness_of}
+use Rattle.sp_execute.specs.Witnesses.{ShowsRace, witness_of}
 use Rattle.sp_front.specs.Compiles.{IsAccepted}
-use Rattle.sp_generate.specs.Generated.{IsCodeOf}
 use Rattle.sp_journal.specs.declared.entry.Entry.{Entry}
 use Rattle.sp_journal.specs.declared.outcome.End.{End}
 use Rattle.sp_journal.specs.declared.outcome.End.TheVariants as ends
 use Rattle.sp_journal.specs.declared.version.Version.TheVariants as version
 use Rattle.sp_journal.specs.Texts.{journal_text}
 use Rattle.sp_print.specs.Lines.{end_text, verdict_text}
-use Rattle.sp_runner.specs.Runs.{IsRun}
 use Rattle.sp_tree.specs.Bare.{bare}
 use Rattle.sp_tree.specs.PlainChecked as c
-use Rattle.sp_words.specs.Ranges.{IsInRange}
 use Rattle.superpascal.specs.declared.ending.Ending.{Ending}
 use Rattle.superpascal.specs.declared.ending.Ending.TheVariants as e
 use Rattle.superpascal.specs.declared.ending.Answer.{Answer}
 use Rattle.superpascal.specs.declared.telling.Telling.{Telling}
 use Rattle.superpascal.specs.declared.telling.Telling.TheVariants as told
 
--- the text has this tree, which breaks no rule, and this is its code
-pub record HasCode (text : List ℕ) (tree : c.Program) (parts : Parts) : Type 0 where
+-- the text has this tree, which breaks no rule, and its code is no longer than code may be
+pub record HasTree (text : List ℕ) (tree : c.Program) : Type 0 where
   pub accepted : IsAccepted text tree
   pub short : tree_length (bare tree) ≤ 1048576
-  pub code : IsCodeOf (bare tree) parts
 
--- A run of the text's program on the input with the limits, by so many workers: a run of its code, in which the meaning of the
--- program along the journal is defined, with that output and that end, and with its exact verdict and what that promises.
+-- A run of the text's program on the input with the limits, by so many workers: along the journal the meaning of the program is
+-- defined, with that output and that end; the verdict is the exact one, with what that promises; and the witness of its race shows it.
 pub record IsRunOf (text input : List ℕ) (workers : ℕ) (limits : Limits) (r : Ran) : Type 0 where
   pub tree : c.Program
-  pub code : Parts
-  pub has : HasCode text tree code
-  pub run : IsRun (run_of code input limits) workers r.closed
+  pub has : HasTree text tree
   pub meant : Executes (setting (bare tree) input limits) workers r
-
--- it is a run of some text's program, by workers and with limits that words may ask for
-abbrev pub IsSomeRun : Ran → Type 0
-IsSomeRun r = (text : List ℕ) × (input : List ℕ) × (workers : ℕ) × (limits : Limits)
-    × IsInRange workers limits × IsRunOf text input workers limits r
+  pub shown : ShowsRace (setting (bare tree) input limits) r
 
 -- the end of a run is told by this ending of the call
 abbrev pub ending_of : End → Ending

@@ -1,18 +1,18 @@
 //! What is told of a run.
 
 ghost use Rattle.std.specs.Prelude.{◌≡◌, ◌++◌, IfOk, codes};
+ghost use Rattle.sp_execute.specs.Witnesses.{IsReadyRun};
 ghost use Rattle.sp_print.specs.Lines.{HasLines};
 ghost use Rattle.sp_report.specs.Telling.{AreFresh, reports};
 ghost use Rattle.superpascal.specs.Answering.{HasEndLines, IsTellable};
 ghost use Rattle.superpascal.specs.Replays.{ending_of_replay, lines_of_replay};
-ghost use Rattle.superpascal.specs.Runs.{IsSomeRun, end_lines, ending_of, generated_output, is_journal, run_notes, witness_text};
+ghost use Rattle.superpascal.specs.Runs.{end_lines, ending_of, generated_output, is_journal, run_notes, witness_text};
 
 use crate::ending::Ending;
 use sp_base::{Memory, Show, put_decimal};
 use sp_execute::{Ran, witness};
 use sp_journal::{End, print_journal};
 use sp_print::verdict_line;
-use sp_ready::accepted_programs_are_ready;
 use sp_report::{Watcher, tell};
 use std::alloc::Global;
 
@@ -83,10 +83,9 @@ pub(crate) fn run_notes(
 
 /// The text of the witness of the run's race; where there is no race, nothing.
 pub(crate) fn witness_text(alloc: Global, ran: &Ran) -> Result<Vec<u8>, Memory>
-    requires { IsSomeRun ran.now }
+    requires { IsReadyRun ran.now }
     ensures { IfOk result (λ text. text.items ≡ witness_text ran.now) }
 {
-    accepted_programs_are_ready();
     match witness(alloc, ran)? {
         Some(journal) => print_journal(alloc, &journal),
         None => Ok(Vec::new(alloc)),

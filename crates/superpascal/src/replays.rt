@@ -4,9 +4,9 @@ ghost use Rattle.std.specs.Prelude.{ℕ, ◌≤◌, List, Ok, Err, length};
 ghost use Rattle.sp_journal.specs.Births.{IsNameable};
 ghost use Rattle.sp_tree.specs.PlainChecked.{Program as Checked};
 ghost use Rattle.sp_words.specs.Ranges.{IsInRange};
-ghost use Rattle.superpascal.specs.Answering.{AlongAnswer, AnswersReplay, BytesAnswer, CommandCause, Follows, HasEndLines, JournalAnswer, ReplayAnswer, SourceAnswer};
+ghost use Rattle.superpascal.specs.Answering.{AlongAnswer, AnswersReplay, BytesAnswer, CommandCause, Follows, HasCode, HasEndLines, JournalAnswer, ReplayAnswer, SourceAnswer};
 ghost use Rattle.superpascal.specs.Causes.{files, stream};
-ghost use Rattle.superpascal.specs.Runs.{HasCode, Reports};
+ghost use Rattle.superpascal.specs.Runs.{Reports};
 ghost use Rattle.superpascal.specs.Texts.{followed, follows};
 
 use crate::answers::{bad_journal, halted, silent, unfit, unloaded};

@@ -1,13 +1,14 @@
 //! The commands that run a program.
 
 ghost use Rattle.std.specs.Prelude.{ℕ, ◌≤◌, List, IfOk};
+ghost use Rattle.sp_execute.specs.Witnesses.{IsReadyRun};
 ghost use Rattle.sp_gen.specs.Generated.{generated_text};
 ghost use Rattle.sp_report.specs.Telling.{AreFresh, reports};
 ghost use Rattle.sp_tree.specs.PlainChecked.{Program as Checked};
 ghost use Rattle.sp_words.specs.Ranges.{IsInRange};
-ghost use Rattle.superpascal.specs.Answering.{CodeAnswer, CommandCause, GeneratedAnswer, GeneratedCause, InputAnswer, RanAnswer, RunAnswer};
+ghost use Rattle.superpascal.specs.Answering.{CodeAnswer, CommandCause, GeneratedAnswer, GeneratedCause, HasCode, InputAnswer, RanAnswer, RunAnswer};
 ghost use Rattle.superpascal.specs.Causes.{files, stream};
-ghost use Rattle.superpascal.specs.Runs.{HasCode, IsRunOf, IsSomeRun, Reports as AReports};
+ghost use Rattle.superpascal.specs.Runs.{IsRunOf, Reports as AReports};
 ghost use Rattle.superpascal.specs.Texts.{asked, asks};
 ghost use Rattle.superpascal.specs.declared.telling.Telling.TheVariants.{Reports, Witness};
 
@@ -19,7 +20,7 @@ use crate::texts::LONGEST;
 use sp_base::{Limits, Memory, Show, Text};
 use sp_code::Code;
 use sp_compile::compiled_apart;
-use sp_execute::{Ran, execute};
+use sp_execute::{Ran, execute, races_are_shown};
 use sp_gen::generated;
 use sp_outside::{Gate, Library, ReadError, Source, read_all};
 use sp_ready::accepted_programs_are_ready;
@@ -44,9 +45,11 @@ fn run_code<R: Threads + Wait + Sync, G: Gate>(
 ) -> Result<Ran, Memory>
     requires range { IsInRange workers limits.now }
     requires code { (program : List ℕ) × (tree : Checked) × HasCode program tree code }
-    ensures { IfOk result (λ r. (program : List ℕ) (tree : Checked) → HasCode program tree code → IsRunOf program input workers limits.now r) }
+    ensures ready { IfOk result IsReadyRun }
+    ensures run { IfOk result (λ r. (program : List ℕ) (tree : Checked) → HasCode program tree code → IsRunOf program input workers limits.now r) }
 {
     accepted_programs_are_ready();
+    races_are_shown();
     let code = Arc::new(alloc, code)?;
     let input = Arc::new(alloc, input)?;
     execute(rt, alloc, code, input, workers, limits, gate)
@@ -55,7 +58,7 @@ fn run_code<R: Threads + Wait + Sync, G: Gate>(
 // Tells of a run by its output and its end, its verdict and these reports, or by its journal.
 fn reported(alloc: Global, watchers: Vec<Box<dyn Watcher>>, show: Show, ran: Ran) -> Answer
     requires fresh { AreFresh told watchers.items }
-    requires run { IsSomeRun ran }
+    requires run { IsReadyRun ran }
     ensures { RanAnswer (reports text title watchers.items) (Reports show) ran result }
 {
     match run_notes(alloc, watchers, show, &ran) {
@@ -71,7 +74,7 @@ fn reported(alloc: Global, watchers: Vec<Box<dyn Watcher>>, show: Show, ran: Ran
 
 // Tells of a run by the witness of its race, its end and its verdict.
 fn witnessed(alloc: Global, ran: Ran) -> Answer
-    requires run { IsSomeRun ran }
+    requires run { IsReadyRun ran }
     ensures { (made : AReports) → RanAnswer made Witness ran result }
 {
     let Ok(output) = witness_text(alloc, &ran) else {
@@ -91,7 +94,7 @@ fn witnessed(alloc: Global, ran: Ran) -> Answer
 // Tells of a run.
 fn ran_answer(alloc: Global, watchers: Vec<Box<dyn Watcher>>, telling: Telling, ran: Ran) -> Answer
     requires fresh { AreFresh told watchers.items }
-    requires run { IsSomeRun ran }
+    requires run { IsReadyRun ran }
     ensures { RanAnswer (reports text title watchers.items) telling ran result }
 {
     match telling {
@@ -224,7 +227,7 @@ pub(crate) fn run_answer<R: Threads + Wait + Sync, L: Library, I: Source, G: Gat
 
 // Tells of a run of the generated program of this size.
 fn generated_ran(alloc: Global, size: u32, ran: Ran) -> Answer
-    requires run { IsSomeRun ran }
+    requires run { IsReadyRun ran }
     ensures { GeneratedAnswer size ran result }
 {
     match generated_output(alloc, size, &ran) {

@@ -18,12 +18,11 @@ use crate::telling::Telling;
 use crate::texts::{one_code_text, text_answer};
 use crate::writing::write;
 use sp_compile::one_listing;
-use sp_execute::{one_unfit_entry, races_are_shown};
+use sp_execute::one_unfit_entry;
 use sp_format::one_layout;
 use sp_front::{accepted_texts_are_disjoint, one_answer, one_compilation};
 use sp_journal::one_journal_of_a_text;
 use sp_outside::{Gate, Library, Sink, Source};
-use sp_ready::accepted_programs_are_ready;
 use sp_report::Watcher;
 use sp_sets::one_sets_text;
 use sp_words::{Command, WordsError, accepted_options_are_in_range, read_words};
@@ -223,9 +222,6 @@ pub fn superpascal<R: Threads + Wait + Sync, L: Library, I: Source, O: Sink, N: 
     one_sets_text();
     one_journal_of_a_text();
     one_unfit_entry();
-    races_are_shown();
-    accepted_programs_are_ready();
-    accepted_options_are_in_range();
     accepted_texts_are_disjoint();
     answer_and_write(
         rt, alloc, words, library, input, output, notes, gate, watchers,
