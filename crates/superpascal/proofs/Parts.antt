@@ -6,7 +6,7 @@ use Rattle.sp_base.specs.declared.halt.Halt.TheVariants as halt
 use Rattle.sp_base.specs.declared.halt.Refusal.{Refusal}
 use Rattle.sp_base.specs.declared.limits.Limits.{Limits}
 use Rattle.sp_code.specs.Listing.{listing_text}
-use Rattle.sp_codefile.specs.CodeText.{code_text}
+use Rattle.sp_codefile.specs.CodeText.{IsTextOf}
 use Rattle.sp_code.specs.declared.code.Parts.{Parts}
 use Rattle.sp_compile.specs.Codes.{Codes, IsCompiled}
 use Rattle.sp_compile.specs.declared.phases.CompiledText.{CompiledText}
@@ -122,15 +122,16 @@ pub list_made : (text : List ℕ) (r : CompiledText) (code : Parts) (out line : 
 list_made text r code out line a k i o n h file = inl (out, line, ((program_of r.accepted.checked, k.accepted, k.short, r.code, k.code, o ∙ ap listing_text i), n), h)
 
 -- the text of the code of a text
-has_code_text : (text : List ℕ) (r : CompiledText) (code : Parts) (out : List ℕ) → IsCompiled text r → code ≡ r.code → out ≡ code_text code → HasCodeText text out
-has_code_text text r code out k i o = (program_of r.accepted.checked, k.accepted, k.short, r.code, k.code, o ∙ ap code_text i)
+has_code_text : (text : List ℕ) (r : CompiledText) (code : Parts) (out : List ℕ) → IsCompiled text r → code ≡ r.code → IsTextOf code out → HasCodeText text out
+has_code_text text r code out k i o =
+    (program_of r.accepted.checked, k.accepted, k.short, r.code, k.code, subst (λ (x : Parts). IsTextOf x out) i o)
 
 pub code_made : (text : List ℕ) (r : CompiledText) (code : Parts) (out line : List ℕ) (a : Answer) → IsCompiled text r → code ≡ r.code
-    → out ≡ code_text code → length out ≤ 67108864 → line ≡ [] → a ≡ accepted out line → (file : List ℕ) → IsMade (command.Build file) text (Ok a)
+    → IsTextOf code out → length out ≤ 67108864 → line ≡ [] → a ≡ accepted out line → (file : List ℕ) → IsMade (command.Build file) text (Ok a)
 code_made text r code out line a k i o small n h file = inl (out, line, ((has_code_text text r code out k i o, small), n), h)
 
 pub code_long : (text : List ℕ) (r : CompiledText) (code : Parts) (out : List ℕ) (a : Answer) → IsCompiled text r → code ≡ r.code
-    → out ≡ code_text code → 67108864 < length out → a ≡ silent e.LongCode → (file : List ℕ) → IsMade (command.Build file) text (Ok a)
+    → IsTextOf code out → 67108864 < length out → a ≡ silent e.LongCode → (file : List ℕ) → IsMade (command.Build file) text (Ok a)
 code_long text r code out a k i o large h file = inr (tt, (out, has_code_text text r code out k i o, large), h)
 
 pub replay_compiled : (held : Option (List ℕ)) (before after : ℕ) (s : Stream) (limits : Limits) (text : List ℕ) (a : Answer) (r : CompiledText) (code : Parts) → code ≡ r.code → IsCompiled text r

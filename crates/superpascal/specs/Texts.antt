@@ -5,7 +5,7 @@ use Rattle.sp_base.specs.declared.halt.Refusal.{Refusal}
 use Rattle.sp_base.specs.declared.limits.Limits.{Limits}
 use Rattle.sp_code.specs.Lengths.{tree_length}
 use Rattle.sp_code.specs.declared.code.Parts.{Parts}
-use Rattle.sp_codefile.specs.CodeText.{code_text}
+use Rattle.sp_codefile.specs.CodeText.{IsTextOf}
 use Rattle.sp_compile.specs.Codes.{BreaksLength, HasListing}
 use Rattle.sp_format.specs.Formats.{HasLayout, HasNoLayout}
 use Rattle.sp_front.specs.Checks.{BreaksFirst, IsChecked, IsProgramOf}
@@ -45,7 +45,7 @@ HasSets text out = (p : c.Program) × IsChecked text p × (s : Sets) × AreSets 
 -- the text breaks no rule, and this is the text of its code
 abbrev pub HasCodeText : List ℕ → List ℕ → Type 0
 HasCodeText text out =
-    (p : c.Program) × IsAccepted text p × (tree_length (bare p) ≤ 1048576) × (code : Parts) × IsCodeOf (bare p) code × (out ≡ code_text code)
+    (p : c.Program) × IsAccepted text p × (tree_length (bare p) ≤ 1048576) × (code : Parts) × IsCodeOf (bare p) code × IsTextOf code out
 
 -- the text of the code is no longer than is loaded
 abbrev pub IsCodeFile : List ℕ → List ℕ → Type 0

@@ -10,4 +10,4 @@ pub returns : goal.returns
 returns c = λ text a b h k.
     let trees = c.one_answer.ensures.tree text h.0 k.0 h.1.0 k.1.0 in
     let code = subst (λ (p : placed.Program). IsCodeOf (bare p) h.3) trees h.4 in
-    h.5 ∙ ap code_text (c.one_code.ensures (bare k.0) h.3 k.3 code k.4) ∙ sym k.5
+    h.5.text ∙ ap code_text (c.one_code.ensures (bare k.0) h.3 k.3 code k.4) ∙ sym k.5.text
