@@ -40,3 +40,4 @@ pub mod Tabled
 pub mod KeptRows
 pub mod AnswerRow
 pub mod AnswerForks
+pub mod Printing

@@ -17,3 +17,4 @@ pub mod Changes
 pub mod Clashing
 pub mod Verdict
 pub mod Activations
+pub mod CodeText

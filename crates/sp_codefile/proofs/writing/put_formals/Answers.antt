@@ -1,0 +1,12 @@
+use Rattle.std.proofs.Common.{arith}
+use Rattle.std.proofs.lemmas.List.Elements.{All-more}
+use Rattle.sp_codefile.specs.CodeText.{formal_text}
+use Rattle.sp_codefile.specs.CodeText.{FormalFits}
+use Rattle.sp_codefile.proofs.Printing.{text_more}
+use Rattle.sp_codefile.proofs.writing.put_formals.Goals as goal
+
+pub loop-formal-preserved : goal.loop-formal-preserved
+loop-formal-preserved c = record {
+  text = text_more formal_text c.args.formals.now c.loop-formal.formal-index _ c.args.out.now.items _ _ (omega arith) c.loop-formal.invariant.text c.in_ok-put_formal.ensures.text;
+  fits = All-more FormalFits c.args.formals.now c.loop-formal.formal-index _ (omega arith) c.loop-formal.invariant.fits c.in_ok-put_formal.ensures.fits;
+}

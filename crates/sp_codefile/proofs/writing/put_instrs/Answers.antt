@@ -1,0 +1,15 @@
+use Rattle.std.proofs.Common.{List, ℕ, ◌++◌, arith, ap, ◌∙◌}
+use Rattle.std.proofs.lemmas.List.Elements.{All-more}
+use Rattle.sp_code.specs.Listing.{instr_line}
+use Rattle.sp_code.proofs.Numbered.{numbered_next}
+use Rattle.sp_codefile.specs.CodeText.{InstrFits}
+use Rattle.sp_codefile.proofs.Printing.{numbered_line, instr_is_line}
+use Rattle.sp_codefile.proofs.writing.put_instrs.Goals as goal
+
+pub loop-number-preserved : goal.loop-number-preserved
+loop-number-preserved c = record {
+  text = numbered_next instr_line c.args.instrs.now c.loop-number.number _ c.args.out.now.items _ _ (omega arith) c.loop-number.invariant.text
+      (numbered_line c.loop-number.out.items _ _ _ c.in_ok-put_instr.ensures.text c.in_ok-extend_from_slice.ensures.items
+      ∙ ap (λ (y : List ℕ). c.loop-number.out.items ++ y) (instr_is_line c.loop-number.number _));
+  fits = All-more InstrFits c.args.instrs.now c.loop-number.number _ (omega arith) c.loop-number.invariant.fits c.in_ok-put_instr.ensures.fits;
+}
