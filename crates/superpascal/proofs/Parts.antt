@@ -1,6 +1,6 @@
 -- From what the parts of a call answer to the cause of its answer.
 use Rattle.std.proofs.Common.{◌≡◌, ◌≢◌, inl, inr, ℕ, ◌<◌, ◌≤◌, List, [], length, Option, Some, None, Result, Ok, Err, refl, sym, ◌∙◌, ap, subst}
-use Rattle.std.specs.Prelude.{IfSome, ◌↔◌}
+use Rattle.std.specs.Prelude.{IfSome, ◌↔◌, codes}
 use Rattle.sp_base.specs.declared.halt.Halt.{Halt}
 use Rattle.sp_base.specs.declared.halt.Halt.TheVariants as halt
 use Rattle.sp_base.specs.declared.halt.Refusal.{Refusal}
@@ -77,6 +77,12 @@ module _ (f : Files) (d : Command) (name : List ℕ) (about : IsAbout d name) (a
   text_unloaded X load.Failed t r h = inr (inr (inr (inl (record { name = name; loads = inl about; rose = r refl; answer = h }))))
   text_unloaded X load.Memory t r h = inr (inr (inr (inr h)))
 
+  -- a text of which nothing is made
+  pub text_halted : (text : List ℕ) → IsTold (f.held name) text → (h : Halt) → IsMade d text (Err h) → halted h a → TextCause f d a
+  text_halted text t (halt.Refused r) b k =
+      refuses r (to_text (λ o. IfSome o (λ x. Breaks d x r)) (when_told (λ x. Breaks d x r) (f.held name) text t b)) k
+  text_halted text t halt.Memory b k = inr (inr (inr (inr k)))
+
 due_of_text : (f : Files) (s : Stream) (reports : Reports) (d : Command) (a : Answer) → TextCause f d a → Due f s reports d a
 due_of_text f s reports d a (inl h) = by_text h
 due_of_text f s reports d a (inr (inl h)) = by_code h
@@ -116,6 +122,11 @@ compiled_code text program r code h i k = (program_of r.accepted.checked, of_cod
 
 pub compiled_some : (text : List ℕ) (r : CompiledText) (code : Parts) → code ≡ r.code → IsCompiled text r → (program : List ℕ) × (t : c.Program) × HasCode program t code
 compiled_some text r code i k = let h = compiled_code text text r code refl i k in (text, h.0, h.1)
+
+-- a text is accepted
+pub check_made : (text : List ℕ) (r : CompiledText) (out line : List ℕ) (a : Answer) → IsCompiled text r → out ≡ [] → line ≡ codes "accepted\n"
+    → a ≡ accepted out line → (file : List ℕ) → IsMade (command.Check file) text (Ok a)
+check_made text r out line a k o n h file = inl (out, line, (keeps_compiled text r k, o, n), h)
 
 -- the listing of the code of a text
 pub list_made : (text : List ℕ) (r : CompiledText) (code : Parts) (out line : List ℕ) (a : Answer) → IsCompiled text r → code ≡ r.code → out ≡ listing_text code → line ≡ [] → a ≡ accepted out line → (file : List ℕ) → IsMade (command.Code file) text (Ok a)
