@@ -21,7 +21,7 @@ HELP = """usage: tools/explain [--program PROGRAM] COMMAND ..
   tools/explain replay FILE JOURNAL [..] <INPUT    as `superpascal replay`, and then the same of this journal
   tools/explain witness FILE [..] <INPUT           as `superpascal witness`, and then the clash that it shows
   tools/explain check FILE                         as `superpascal check`, and then why the text is refused; so with
-                                                   code, sets and format
+                                                   code, build, sets and format
   tools/explain RULE, tools/explain FAULT          what the language says of a rule or a fault, as I1 or F6
 
 The output, the notes and the status of the program stay as they are; what is added goes to standard error behind them.
