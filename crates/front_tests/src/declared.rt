@@ -7,7 +7,6 @@ use sp_tree::{
     Name, Named, SynBlock, SynConst, SynForm, SynKind, SynPart, SynStmt, SynValue, Syntax,
 };
 use std::alloc::{AllocError, Global};
-use std::test::Fail;
 
 fn at(column: u32) -> Place {
     Place { line: 1, column }
@@ -21,19 +20,17 @@ fn name(alloc: Global, text: &[u8], column: u32) -> Result<Name, AllocError> {
     })
 }
 
-fn program(alloc: Global, parts: List<SynPart>) -> Result<Syntax, AllocError> {
-    let name = name(alloc, b"g", 9)?;
-    Ok(Syntax {
+// A program with these declarations, and no statement.
+fn program(name: Name, heading: List<Name>, parts: List<SynPart>) -> Syntax {
+    let body = SynStmt {
+        at: at(5),
+        form: SynForm::Empty,
+    };
+    Syntax {
         name,
-        heading: List::new(alloc),
-        block: SynBlock {
-            parts,
-            body: SynStmt {
-                at: at(5),
-                form: SynForm::Empty,
-            },
-        },
-    })
+        heading,
+        block: SynBlock { parts, body },
+    }
 }
 
 /// Three letters, another name for each number below 17,576.
@@ -52,13 +49,19 @@ fn integers(alloc: Global, n: u32) -> Result<SynPart, AllocError> {
     Ok(SynPart::Kind(own, SynKind::Alias(integer)))
 }
 
-/// So many types, each another name of integer.
-fn types(alloc: Global, count: u32) -> Result<List<SynPart>, Halt> {
+fn push_integers(parts: &mut List<SynPart>, alloc: Global, n: u32) -> Result<(), Halt> {
+    let part = integers(alloc, n)?;
+    parts.push(part)?;
+    Ok(())
+}
+
+/// So many types, each another name of integer. Where no memory is left they are fewer.
+fn types(alloc: Global, count: u32) -> List<SynPart> {
     let mut parts = List::new(alloc);
     for n in 0..count {
-        parts.push(integers(alloc, n)?)?;
+        let _ = push_integers(&mut parts, alloc, n);
     }
-    Ok(parts)
+    parts
 }
 
 // A constant that is another name of `maxint`.
@@ -71,38 +74,60 @@ fn constant(alloc: Global) -> Result<SynConst, AllocError> {
     })
 }
 
-fn one_constant(alloc: Global) -> Result<List<SynPart>, Halt> {
+fn push_constant(parts: &mut List<SynPart>, alloc: Global) -> Result<(), Halt> {
     let own = name(alloc, b"a", 18)?;
-    let part = SynPart::Const(own, constant(alloc)?);
+    let constant = constant(alloc)?;
+    parts.push(SynPart::Const(own, constant))?;
+    Ok(())
+}
+
+fn one_constant(alloc: Global) -> List<SynPart> {
     let mut parts = List::new(alloc);
-    parts.push(part)?;
-    Ok(parts)
+    let _ = push_constant(&mut parts, alloc);
+    parts
 }
 
 fn resolved(alloc: Global, parts: List<SynPart>) -> Result<Named, Halt> {
-    resolve(alloc, program(alloc, parts)?)
+    match name(alloc, b"g", 9) {
+        Ok(name) => resolve(alloc, program(name, List::new(alloc), parts)),
+        Err(_) => {
+            drop(parts);
+            Err(Halt::Memory)
+        }
+    }
+}
+
+// How many constants, types, variables and blocks there are.
+fn counts(named: &Named) -> [usize; 4] {
+    [
+        named.constants.len(),
+        named.kinds.len(),
+        named.variables.len(),
+        named.blocks.len(),
+    ]
+}
+
+// Whether these declarations, and those of the language, are so many.
+fn are(alloc: Global, parts: List<SynPart>, wanted: [usize; 4]) -> bool {
+    match resolved(alloc, parts) {
+        Ok(named) => {
+            let counts = counts(&named);
+            drop(named);
+            counts == wanted
+        }
+        Err(_) => false,
+    }
 }
 
 #[test]
-fn numbers_a_constant(rt: HostRuntime) -> Result<(), Fail> {
-    let named = resolved(rt.alloc(), one_constant(rt.alloc())?)?;
-    assert_eq!(rt; named.constants.len(), 4);
-    assert_eq!(rt; named.kinds.len(), 3);
-    assert_eq!(rt; named.variables.len(), 2);
-    assert_eq!(rt; named.blocks.len(), 1);
-    Ok(())
+fn numbers_a_constant_and_4096_types(rt: HostRuntime) {
+    let alloc = rt.alloc();
+    assert!(rt; are(alloc, one_constant(alloc), [4, 3, 2, 1]));
+    assert!(rt; are(alloc, types(alloc, 4096), [3, 4099, 2, 1]));
 }
 
 #[test]
-fn takes_4096_types(rt: HostRuntime) -> Result<(), Fail> {
-    let named = resolved(rt.alloc(), types(rt.alloc(), 4096)?)?;
-    assert_eq!(rt; named.kinds.len(), 4099);
-    Ok(())
-}
-
-#[test]
-fn refuses_4097_types(rt: HostRuntime) -> Result<(), Fail> {
-    let answer = resolved(rt.alloc(), types(rt.alloc(), 4097)?);
+fn refuses_4097_types(rt: HostRuntime) {
+    let answer = resolved(rt.alloc(), types(rt.alloc(), 4097));
     assert!(rt; is_refused(answer, Rule::L4, 1, 4096));
-    Ok(())
 }

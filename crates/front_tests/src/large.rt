@@ -1,9 +1,9 @@
 //! Texts with parts that are nested up to the limit, and long ones.
 
 use crate::grammar::{accepts, refuses};
+use crate::rows::{add, add_times, repeated};
 use sp_base::Rule;
-use std::alloc::{AllocError, Global};
-use std::test::Fail;
+use std::alloc::Global;
 
 /// A text in which a part is repeated: what stands before, the part, what stands between, its end, what stands behind.
 struct Nest<'a> {
@@ -14,32 +14,23 @@ struct Nest<'a> {
     end: &'a [u8],
 }
 
-fn put_times(text: &mut Vec<u8>, part: &[u8], count: u32) -> Result<(), AllocError> {
-    for _ in 0..count {
-        text.extend_from_slice(part)?;
-    }
-    Ok(())
-}
-
-fn nested(alloc: Global, nest: &Nest, count: u32) -> Result<Vec<u8>, AllocError> {
-    let mut text = Vec::from_slice(alloc, nest.front)?;
-    put_times(&mut text, nest.part, count)?;
-    text.extend_from_slice(nest.middle)?;
-    put_times(&mut text, nest.last, count)?;
-    text.extend_from_slice(nest.end)?;
-    Ok(text)
+fn nested(alloc: Global, nest: &Nest, count: u32) -> Vec<u8> {
+    let mut text = repeated(alloc, nest.front, nest.part, count, nest.middle);
+    add_times(&mut text, nest.last, count);
+    add(&mut text, nest.end);
+    text
 }
 
 // Whether the text with so many parts has a tree.
-fn takes(alloc: Global, nest: &Nest, count: u32) -> Result<bool, AllocError> {
-    let text = nested(alloc, nest, count)?;
-    Ok(accepts(alloc, &text))
+fn takes(alloc: Global, nest: &Nest, count: u32) -> bool {
+    let text = nested(alloc, nest, count);
+    accepts(alloc, &text)
 }
 
 // Whether the text with one part more is too deep in this column.
-fn is_too_deep(alloc: Global, nest: &Nest, most: u32, column: u32) -> Result<bool, AllocError> {
-    let text = nested(alloc, nest, most.saturating_add(1))?;
-    Ok(refuses(alloc, &text, Rule::L2, 1, column))
+fn is_too_deep(alloc: Global, nest: &Nest, most: u32, column: u32) -> bool {
+    let text = nested(alloc, nest, most.saturating_add(1));
+    refuses(alloc, &text, Rule::L2, 1, column)
 }
 
 // An expression in an assignment.
@@ -117,35 +108,22 @@ const DEEP: [(Nest, u32, u32); 5] = [
 ];
 
 #[test]
-fn nesting(rt: HostRuntime) -> Result<(), Fail> {
+fn nesting(rt: HostRuntime) {
     for (nest, most, column) in &DEEP {
-        assert!(rt; takes(rt.alloc(), nest, *most)?, "{column}");
+        assert!(rt; takes(rt.alloc(), nest, *most), "{column}");
+        assert!(rt; is_too_deep(rt.alloc(), nest, *most, *column), "{column}");
     }
-    Ok(())
 }
 
+const LONG: [(Nest, u32); 3] = [
+    (SUMMANDS, 400_000),
+    (ARGUMENTS, 300_000),
+    (STATEMENTS, 500_000),
+];
+
 #[test]
-fn nesting_too_deep(rt: HostRuntime) -> Result<(), Fail> {
-    for (nest, most, column) in &DEEP {
-        assert!(rt; is_too_deep(rt.alloc(), nest, *most, *column)?, "{column}");
+fn operands_arguments_and_statements(rt: HostRuntime) {
+    for (nest, count) in &LONG {
+        assert!(rt; takes(rt.alloc(), nest, *count), "{count}");
     }
-    Ok(())
-}
-
-#[test]
-fn operands(rt: HostRuntime) -> Result<(), Fail> {
-    assert!(rt; takes(rt.alloc(), &SUMMANDS, 400_000)?);
-    Ok(())
-}
-
-#[test]
-fn arguments(rt: HostRuntime) -> Result<(), Fail> {
-    assert!(rt; takes(rt.alloc(), &ARGUMENTS, 300_000)?);
-    Ok(())
-}
-
-#[test]
-fn statements(rt: HostRuntime) -> Result<(), Fail> {
-    assert!(rt; takes(rt.alloc(), &STATEMENTS, 500_000)?);
-    Ok(())
 }

@@ -1,14 +1,14 @@
 //! Statements and expressions, spelled again from their trees with their parts marked.
 
-use crate::declarations::{add, add_constant, add_digit, add_name, add_quoted};
+use crate::declarations::{add_constant, add_digit, add_name, add_quoted};
+use crate::rows::add;
 use sp_base::Place;
 use sp_front::read_text;
 use sp_tree::{
     BinaryOp, Name, SynArg, SynArm, SynBranch, SynConst, SynExpr, SynExprForm, SynForm,
-    SynSelector, SynStmt, SynVar, UnaryOp,
+    SynSelector, SynStmt, SynVar, Syntax, UnaryOp,
 };
-use std::alloc::{AllocError, Global};
-use std::test::Fail;
+use std::alloc::Global;
 
 // An operator of one operand, behind the parenthesis of both.
 fn unary_text(op: UnaryOp) -> &'static [u8] {
@@ -39,106 +39,99 @@ fn binary_text(op: BinaryOp) -> &'static [u8] {
 
 // An expression with each operator and its operands in parentheses. A number is one digit.
 #[cycle(spell_expression)]
-fn add_expression(all: &mut Vec<u8>, e: &SynExpr) -> Result<(), AllocError> {
+fn add_expression(all: &mut Vec<u8>, e: &SynExpr) {
     match &e.form {
         SynExprForm::Number(n) => add_digit(all, *n),
         SynExprForm::Quoted(text) => add_quoted(all, text),
         SynExprForm::Read(v) => add_variable(all, v),
         SynExprForm::Call(name, args) => {
-            add_name(all, name)?;
-            add_arguments(all, args.items())
+            add_name(all, name);
+            add_arguments(all, args.items());
         }
         SynExprForm::Unary(op, a) => {
-            add(all, unary_text(*op))?;
-            add_expression(all, a.get())?;
-            add(all, b")")
+            add(all, unary_text(*op));
+            add_expression(all, a.get());
+            add(all, b")");
         }
         SynExprForm::Binary(op, a, b) => {
-            add(all, b"(")?;
-            add_expression(all, a.get())?;
-            add(all, binary_text(*op))?;
-            add_expression(all, b.get())?;
-            add(all, b")")
+            add(all, b"(");
+            add_expression(all, a.get());
+            add(all, binary_text(*op));
+            add_expression(all, b.get());
+            add(all, b")");
         }
     }
 }
 
 #[cycle(spell_expression)]
-fn add_variable(all: &mut Vec<u8>, v: &SynVar) -> Result<(), AllocError> {
-    add_name(all, &v.name)?;
+fn add_variable(all: &mut Vec<u8>, v: &SynVar) {
+    add_name(all, &v.name);
     for selector in v.selectors.items() {
-        add_selector(all, selector)?;
+        add_selector(all, selector);
     }
-    Ok(())
 }
 
 #[cycle(spell_expression)]
-fn add_selector(all: &mut Vec<u8>, selector: &SynSelector) -> Result<(), AllocError> {
+fn add_selector(all: &mut Vec<u8>, selector: &SynSelector) {
     match selector {
         SynSelector::Index(e) => {
-            add(all, b"[")?;
-            add_expression(all, e)?;
-            add(all, b"]")
+            add(all, b"[");
+            add_expression(all, e);
+            add(all, b"]");
         }
         SynSelector::Field(name) => {
-            add(all, b".")?;
-            add_name(all, name)
+            add(all, b".");
+            add_name(all, name);
         }
     }
 }
 
 #[cycle(spell_expression)]
-fn add_arguments(all: &mut Vec<u8>, args: &[SynArg]) -> Result<(), AllocError> {
+fn add_arguments(all: &mut Vec<u8>, args: &[SynArg]) {
     let mut before: &[u8] = b"(";
     for arg in args {
-        add(all, before)?;
-        add_argument(all, arg)?;
+        add(all, before);
+        add_argument(all, arg);
         before = b",";
     }
-    add(all, b")")
+    add(all, b")");
 }
 
 #[cycle(spell_expression)]
-fn add_argument(all: &mut Vec<u8>, arg: &SynArg) -> Result<(), AllocError> {
-    add_expression(all, &arg.value)?;
+fn add_argument(all: &mut Vec<u8>, arg: &SynArg) {
+    add_expression(all, &arg.value);
     if let Some(width) = &arg.width {
-        add(all, b":")?;
-        add_expression(all, width)?;
+        add(all, b":");
+        add_expression(all, width);
     }
-    Ok(())
 }
 
-fn add_assignment(all: &mut Vec<u8>, to: &SynVar, value: &SynExpr) -> Result<(), AllocError> {
-    add_variable(all, to)?;
-    add(all, b":=")?;
-    add_expression(all, value)
+fn add_assignment(all: &mut Vec<u8>, to: &SynVar, value: &SynExpr) {
+    add_variable(all, to);
+    add(all, b":=");
+    add_expression(all, value);
 }
 
-fn add_call(all: &mut Vec<u8>, name: &Name, args: &[SynArg]) -> Result<(), AllocError> {
-    add_name(all, name)?;
+fn add_call(all: &mut Vec<u8>, name: &Name, args: &[SynArg]) {
+    add_name(all, name);
     if args.is_empty() {
-        return Ok(());
+        return;
     }
-    add_arguments(all, args)
+    add_arguments(all, args);
 }
 
 // A word and what is asked behind it.
-fn add_asked(all: &mut Vec<u8>, word: &[u8], test: &SynExpr) -> Result<(), AllocError> {
-    add(all, word)?;
-    add_expression(all, test)
+fn add_asked(all: &mut Vec<u8>, word: &[u8], test: &SynExpr) {
+    add(all, word);
+    add_expression(all, test);
 }
 
 // A variable and what it begins at.
-fn add_start(
-    all: &mut Vec<u8>,
-    word: &[u8],
-    name: &Name,
-    from: &SynExpr,
-) -> Result<(), AllocError> {
-    add(all, word)?;
-    add_name(all, name)?;
-    add(all, b":=")?;
-    add_expression(all, from)
+fn add_start(all: &mut Vec<u8>, word: &[u8], name: &Name, from: &SynExpr) {
+    add(all, word);
+    add_name(all, name);
+    add(all, b":=");
+    add_expression(all, from);
 }
 
 fn way_text(down: bool) -> &'static [u8] {
@@ -147,37 +140,37 @@ fn way_text(down: bool) -> &'static [u8] {
 
 // A statement, with an end of its own where the language has none.
 #[cycle(spell_statement)]
-fn add_statement(all: &mut Vec<u8>, s: &SynStmt) -> Result<(), AllocError> {
+fn add_statement(all: &mut Vec<u8>, s: &SynStmt) {
     match &s.form {
-        SynForm::Empty => Ok(()),
+        SynForm::Empty => {}
         SynForm::Assign(to, value) => add_assignment(all, to, value),
         SynForm::Call(name, args) => add_call(all, name, args.items()),
         SynForm::Sequence(body) => {
-            add(all, b"begin ")?;
-            add_statements(all, body.items())?;
-            add(all, b" end")
+            add(all, b"begin ");
+            add_statements(all, body.items());
+            add(all, b" end");
         }
         SynForm::If(test, body, other) => {
-            add_asked(all, b"if ", test)?;
-            add(all, b" then ")?;
-            add_statement(all, body.get())?;
+            add_asked(all, b"if ", test);
+            add(all, b" then ");
+            add_statement(all, body.get());
             if let Some(other) = other {
-                add_otherwise(all, other.get())?;
+                add_otherwise(all, other.get());
             }
-            add(all, b" fi")
+            add(all, b" fi");
         }
         SynForm::While(test, body) => {
-            add_asked(all, b"while ", test)?;
-            add_body(all, body.get())
+            add_asked(all, b"while ", test);
+            add_body(all, body.get());
         }
         SynForm::Repeat(body, test) => {
-            add(all, b"repeat ")?;
-            add_statements(all, body.items())?;
-            add_asked(all, b" until ", test)
+            add(all, b"repeat ");
+            add_statements(all, body.items());
+            add_asked(all, b" until ", test);
         }
         SynForm::Case(test, arms) => {
-            add_asked(all, b"case ", test)?;
-            add_arms(all, arms.items())
+            add_asked(all, b"case ", test);
+            add_arms(all, arms.items());
         }
         SynForm::For {
             name,
@@ -186,9 +179,9 @@ fn add_statement(all: &mut Vec<u8>, s: &SynStmt) -> Result<(), AllocError> {
             to,
             body,
         } => {
-            add_start(all, b"for ", name, from)?;
-            add_asked(all, way_text(*down), to)?;
-            add_body(all, body.get())
+            add_start(all, b"for ", name, from);
+            add_asked(all, way_text(*down), to);
+            add_body(all, body.get());
         }
         SynForm::Parallel(branches) => add_branches(all, branches.items()),
         SynForm::Forall {
@@ -197,106 +190,108 @@ fn add_statement(all: &mut Vec<u8>, s: &SynStmt) -> Result<(), AllocError> {
             to,
             body,
         } => {
-            add_start(all, b"forall ", name, from)?;
-            add_asked(all, b" to ", to)?;
-            add_body(all, body.get())
+            add_start(all, b"forall ", name, from);
+            add_asked(all, b" to ", to);
+            add_body(all, body.get());
         }
         SynForm::Assume(test) => add_asked(all, b"assume ", test),
     }
 }
 
 #[cycle(spell_statement)]
-fn add_otherwise(all: &mut Vec<u8>, other: &SynStmt) -> Result<(), AllocError> {
-    add(all, b" else ")?;
-    add_statement(all, other)
+fn add_otherwise(all: &mut Vec<u8>, other: &SynStmt) {
+    add(all, b" else ");
+    add_statement(all, other);
 }
 
 // What is done again and again, or in each process.
 #[cycle(spell_statement)]
-fn add_body(all: &mut Vec<u8>, body: &SynStmt) -> Result<(), AllocError> {
-    add(all, b" do ")?;
-    add_statement(all, body)?;
-    add(all, b" od")
+fn add_body(all: &mut Vec<u8>, body: &SynStmt) {
+    add(all, b" do ");
+    add_statement(all, body);
+    add(all, b" od");
 }
 
 #[cycle(spell_statement)]
-fn add_statements(all: &mut Vec<u8>, body: &[SynStmt]) -> Result<(), AllocError> {
+fn add_statements(all: &mut Vec<u8>, body: &[SynStmt]) {
     let mut before: &[u8] = b"";
     for s in body {
-        add(all, before)?;
-        add_statement(all, s)?;
+        add(all, before);
+        add_statement(all, s);
         before = b";";
     }
-    Ok(())
 }
 
 #[cycle(spell_statement)]
-fn add_arms(all: &mut Vec<u8>, arms: &[SynArm]) -> Result<(), AllocError> {
-    add(all, b" of ")?;
+fn add_arms(all: &mut Vec<u8>, arms: &[SynArm]) {
+    add(all, b" of ");
     for arm in arms {
-        add_arm(all, arm)?;
+        add_arm(all, arm);
     }
-    add(all, b"end")
+    add(all, b"end");
 }
 
 #[cycle(spell_statement)]
-fn add_arm(all: &mut Vec<u8>, arm: &SynArm) -> Result<(), AllocError> {
-    add_constants(all, arm.constants.items())?;
-    add_statement(all, &arm.body)?;
+fn add_arm(all: &mut Vec<u8>, arm: &SynArm) {
+    add_constants(all, arm.constants.items());
+    add_statement(all, &arm.body);
     add(all, b"; ")
 }
 
-fn add_constants(all: &mut Vec<u8>, constants: &[SynConst]) -> Result<(), AllocError> {
+fn add_constants(all: &mut Vec<u8>, constants: &[SynConst]) {
     let mut before: &[u8] = b"";
     for constant in constants {
-        add(all, before)?;
-        add_constant(all, constant)?;
+        add(all, before);
+        add_constant(all, constant);
         before = b",";
     }
-    add(all, b":")
+    add(all, b":");
 }
 
 #[cycle(spell_statement)]
-fn add_branches(all: &mut Vec<u8>, branches: &[SynBranch]) -> Result<(), AllocError> {
-    add(all, b"parallel")?;
+fn add_branches(all: &mut Vec<u8>, branches: &[SynBranch]) {
+    add(all, b"parallel");
     for branch in branches {
-        add(all, b"|")?;
-        add_branch(all, branch)?;
+        add(all, b"|");
+        add_branch(all, branch);
     }
-    add(all, b" end")
+    add(all, b" end");
 }
 
 #[cycle(spell_statement)]
-fn add_branch(all: &mut Vec<u8>, branch: &SynBranch) -> Result<(), AllocError> {
-    add_statements(all, branch.statements.items())
+fn add_branch(all: &mut Vec<u8>, branch: &SynBranch) {
+    add_statements(all, branch.statements.items());
 }
 
-// The statement part of a program with these statements, spelled again; nothing where the text is refused.
-fn spelled(alloc: Global, statements: &str) -> Result<Vec<u8>, AllocError> {
-    let text = format!(in alloc; "program g; begin {statements} end.")?;
+fn is_spelled(alloc: Global, tree: &Syntax, wanted: &str) -> bool {
     let mut all = Vec::new(alloc);
-    if let Ok(tree) = read_text(alloc, text.as_bytes()) {
-        add_statement(&mut all, &tree.block.body)?;
-    }
-    Ok(all)
+    add_statement(&mut all, &tree.block.body);
+    all.as_slice() == wanted.as_bytes()
 }
 
-// The number of the first statement part that is not spelled as it should be.
-fn first_wrong(alloc: Global, cases: &[(&str, &str)]) -> Result<Option<usize>, AllocError> {
-    for (i, (statements, wanted)) in cases.iter().enumerate() {
-        let found = spelled(alloc, statements)?;
-        if found.as_slice() != wanted.as_bytes() {
-            return Ok(Some(i));
+// Whether the statement part of a program is spelled so from its tree.
+fn spells(alloc: Global, text: &[u8], wanted: &str) -> bool {
+    match read_text(alloc, text) {
+        Ok(tree) => {
+            let spelled = is_spelled(alloc, &tree, wanted);
+            drop(tree);
+            spelled
         }
+        Err(_) => false,
     }
-    Ok(None)
+}
+
+// A program with these statements.
+fn program(alloc: Global, statements: &str) -> Vec<u8> {
+    let mut text = Vec::new(alloc);
+    add(&mut text, b"program g; begin ");
+    add(&mut text, statements.as_bytes());
+    add(&mut text, b" end.");
+    text
 }
 
 // Where the value that the first statement assigns begins.
-fn place_of_value(alloc: Global, text: &[u8]) -> Option<Place> {
-    let Ok(tree) = read_text(alloc, text) else {
-        return None;
-    };
+fn place_of_value(tree: &Syntax) -> Option<Place> {
     let SynForm::Sequence(all) = &tree.block.body.form else {
         return None;
     };
@@ -306,15 +301,22 @@ fn place_of_value(alloc: Global, text: &[u8]) -> Option<Place> {
     Some(value.at)
 }
 
+// Whether it begins in this column.
+fn begins_at(alloc: Global, text: &[u8], column: u32) -> bool {
+    match read_text(alloc, text) {
+        Ok(tree) => {
+            let found = place_of_value(&tree);
+            drop(tree);
+            found == Some(Place { line: 1, column })
+        }
+        Err(_) => false,
+    }
+}
+
 #[test]
-fn an_expression_begins_at_its_outermost_parenthesis(rt: HostRuntime) -> Result<(), Fail> {
-    let found = place_of_value(rt.alloc(), b"program g; begin x := ((a) + b) end.");
-    let wanted = Place {
-        line: 1,
-        column: 23,
-    };
-    assert_eq!(rt; found, Some(wanted));
-    Ok(())
+fn an_expression_begins_at_its_outermost_parenthesis(rt: HostRuntime) {
+    let text = b"program g; begin x := ((a) + b) end.";
+    assert!(rt; begins_at(rt.alloc(), text, 23));
 }
 
 const STATEMENTS: [(&str, &str); 10] = [
@@ -346,9 +348,11 @@ const STATEMENTS: [(&str, &str); 10] = [
 ];
 
 #[test]
-fn each_form_of_statement(rt: HostRuntime) -> Result<(), Fail> {
-    assert_eq!(rt; first_wrong(rt.alloc(), &STATEMENTS)?, None);
-    Ok(())
+fn each_form_of_statement(rt: HostRuntime) {
+    for (statements, wanted) in &STATEMENTS {
+        let text = program(rt.alloc(), statements);
+        assert!(rt; spells(rt.alloc(), &text, wanted), "{wanted}");
+    }
 }
 
 const EXPRESSIONS: [(&str, &str); 10] = [
@@ -374,7 +378,9 @@ const EXPRESSIONS: [(&str, &str); 10] = [
 ];
 
 #[test]
-fn each_form_of_expression(rt: HostRuntime) -> Result<(), Fail> {
-    assert_eq!(rt; first_wrong(rt.alloc(), &EXPRESSIONS)?, None);
-    Ok(())
+fn each_form_of_expression(rt: HostRuntime) {
+    for (statements, wanted) in &EXPRESSIONS {
+        let text = program(rt.alloc(), statements);
+        assert!(rt; spells(rt.alloc(), &text, wanted), "{wanted}");
+    }
 }

@@ -17,20 +17,36 @@ fn number(n: u64) -> SynExpr {
     }
 }
 
-fn sum(alloc: Global, left: SynExpr, right: SynExpr) -> Result<SynExpr, AllocError> {
-    let left = Boxed::new(alloc, left)?;
-    let right = Boxed::new(alloc, right)?;
-    Ok(SynExpr {
+fn sum_of(left: Boxed<SynExpr>, right: Boxed<SynExpr>) -> SynExpr {
+    SynExpr {
         at: PLACE,
         form: SynExprForm::Binary(BinaryOp::Add, left, right),
-    })
+    }
+}
+
+// A sum whose right operand is a number.
+fn sum(alloc: Global, left: SynExpr, right: u64) -> Result<SynExpr, AllocError> {
+    let left = Boxed::new(alloc, left)?;
+    match Boxed::new(alloc, number(right)) {
+        Ok(right) => Ok(sum_of(left, right)),
+        Err(error) => {
+            drop(left);
+            Err(error)
+        }
+    }
+}
+
+// Whether an expression comes apart to its place and a sum.
+fn is_sum(e: SynExpr) -> bool {
+    let (at, form) = e.parts();
+    let is_sum = matches!(&form, SynExprForm::Binary(BinaryOp::Add, _, _));
+    drop(form);
+    is_sum && at == PLACE
 }
 
 #[test]
 fn takes_a_sum_apart(rt: HostRuntime) -> Result<(), Fail> {
-    let (at, form) = sum(rt.alloc(), number(1), number(2))?.parts();
-    assert_eq!(rt; at, PLACE);
-    assert!(rt; matches!(&form, SynExprForm::Binary(BinaryOp::Add, _, _)));
+    assert!(rt; is_sum(sum(rt.alloc(), number(1), 2)?));
     Ok(())
 }
 
@@ -38,7 +54,7 @@ fn takes_a_sum_apart(rt: HostRuntime) -> Result<(), Fail> {
 fn drops_400000_operands(rt: HostRuntime) -> Result<(), Fail> {
     let mut chain = number(0);
     for _ in 0..400_000u32 {
-        chain = sum(rt.alloc(), chain, number(1))?;
+        chain = sum(rt.alloc(), chain, 1)?;
     }
     drop(chain);
     Ok(())
@@ -79,12 +95,17 @@ fn typed_sum(alloc: Global) -> Result<Expr, AllocError> {
     })
 }
 
+// Whether a typed expression comes apart to its place, its type 0 and a sum.
+fn is_typed_sum(e: Expr) -> bool {
+    let (at, kind, form) = e.parts();
+    let is_sum = matches!(&form, ExprForm::Binary(BinaryOp::Add, _, _));
+    drop(form);
+    is_sum && at == PLACE && kind == 0
+}
+
 #[test]
 fn takes_an_expression_apart(rt: HostRuntime) -> Result<(), Fail> {
-    let (place, number, form) = typed_sum(rt.alloc())?.parts();
-    assert_eq!(rt; place, PLACE);
-    assert_eq!(rt; number, 0);
-    assert!(rt; matches!(&form, ExprForm::Binary(BinaryOp::Add, _, _)));
+    assert!(rt; is_typed_sum(typed_sum(rt.alloc())?));
     Ok(())
 }
 
@@ -99,11 +120,17 @@ fn negated(alloc: Global) -> Result<NamedExpr, AllocError> {
     })
 }
 
+// Whether a named expression comes apart to its place and a negation.
+fn is_negation(e: NamedExpr) -> bool {
+    let (at, form) = e.parts();
+    let is_negation = matches!(&form, NamedExprForm::Unary(UnaryOp::Not, _));
+    drop(form);
+    is_negation && at == PLACE
+}
+
 #[test]
 fn takes_a_named_expression_apart(rt: HostRuntime) -> Result<(), Fail> {
-    let (at, form) = negated(rt.alloc())?.parts();
-    assert_eq!(rt; at, PLACE);
-    assert!(rt; matches!(&form, NamedExprForm::Unary(UnaryOp::Not, _)));
+    assert!(rt; is_negation(negated(rt.alloc())?));
     Ok(())
 }
 
