@@ -60,21 +60,24 @@ fn drops_400000_operands(rt: HostRuntime) -> Result<(), Fail> {
     Ok(())
 }
 
+fn push_empty(statements: &mut List<SynStmt>) {
+    let _ = statements.push(SynStmt {
+        at: PLACE,
+        form: SynForm::Empty,
+    });
+}
+
 #[test]
-fn drops_1000000_statements(rt: HostRuntime) -> Result<(), Fail> {
+fn drops_1000000_statements(rt: HostRuntime) {
     let mut statements = List::new(rt.alloc());
     for _ in 0..1_000_000u32 {
-        statements.push(SynStmt {
-            at: PLACE,
-            form: SynForm::Empty,
-        })?;
+        push_empty(&mut statements);
     }
-    assert_eq!(rt; statements.len(), 1_000_000);
+    assert!(rt; statements.len() == 1_000_000);
     drop(SynStmt {
         at: PLACE,
         form: SynForm::Sequence(statements),
     });
-    Ok(())
 }
 
 fn typed_number(n: i64, column: u32) -> Expr {
@@ -144,8 +147,8 @@ fn takes_the_earlier_place_and_then_the_earlier_row(rt: HostRuntime) {
         rule: Rule::N1,
         at: later,
     };
-    assert_eq!(rt; lesser(Some(n5), Some(n3)), Some(n3));
-    assert_eq!(rt; lesser(Some(n5), Some(n1)), Some(n5));
-    assert_eq!(rt; lesser(None, Some(n1)), Some(n1));
-    assert_eq!(rt; lesser(Some(n1), None), Some(n1));
+    assert!(rt; lesser(Some(n5), Some(n3)) == Some(n3));
+    assert!(rt; lesser(Some(n5), Some(n1)) == Some(n5));
+    assert!(rt; lesser(None, Some(n1)) == Some(n1));
+    assert!(rt; lesser(Some(n1), None) == Some(n1));
 }
