@@ -1,8 +1,7 @@
 //! A function that calls itself without end, on a thread with a large stack.
 
-use crate::maker::{LIMITS, Maker, X, fault_of, schedule};
-use sp_base::{Fault, Limits, List, Memory};
-use sp_run::meaning_run;
+use crate::maker::{LIMITS, Maker, X, fault_of};
+use sp_base::{Fault, Limits, List};
 use sp_tree::ExprForm;
 use std::alloc::Global;
 use std::test::Fail;
@@ -20,11 +19,10 @@ fn again(alloc: Global) -> ExprForm {
     ExprForm::Call(1, crate::maker::HERE, List::new(alloc))
 }
 
-fn runs_away(alloc: Global) -> Result<Option<Fault>, Memory> {
+fn runs_away(alloc: Global) -> Option<Fault> {
     let m = Maker { alloc };
-    let program = m.program(m.assign(X, again(alloc)), m.assign(6, again(alloc)))?;
-    let meant = meaning_run(&program, b"", &DEEP, &schedule(alloc, &[0])?)?;
-    Ok(fault_of(&meant))
+    let program = m.program(m.assign(X, again(alloc)), m.assign(6, again(alloc)));
+    fault_of(m.run(&DEEP, program, &[0]))
 }
 
 #[test]
@@ -33,7 +31,7 @@ fn a_function_that_calls_itself_without_end(rt: HostRuntime) -> Result<(), Fail>
     let thread = Builder::new()
         .stack_size(0x1000_0000)
         .spawn(&rt, move || runs_away(alloc))?;
-    let fault = thread.join(&rt)?;
+    let fault = thread.join(&rt);
     assert!(rt; fault == Some(Fault::F11));
     Ok(())
 }

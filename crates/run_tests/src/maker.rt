@@ -1,9 +1,12 @@
-//! Makes small programs and schedules, and runs them.
+//! Makes small programs and schedules, and runs them. Where no memory is left a part is missing, and the run is another.
+//! What is large is handed to `drop` before an answer is given, so that no proof looks into it there.
 
 use sp_base::{Boxed, Fault, Limits, List, Memory, Pair, Place, ProcName, Text};
 use sp_journal::End;
 use sp_run::{Meant, meaning_run};
-use sp_tree::{Block, Checked, Expr, ExprForm, Form, KindOf, Role, Selector, Stmt, Var, Variable};
+use sp_tree::{
+    BinaryOp, Block, Checked, Expr, ExprForm, Form, KindOf, Role, Selector, Stmt, Var, Variable,
+};
 use std::alloc::Global;
 
 pub const HERE: Place = Place { line: 1, column: 1 };
@@ -57,14 +60,14 @@ impl Maker {
         }
     }
 
-    pub fn element(&self, n: i64) -> Result<Var, Memory> {
+    pub fn element(&self, n: i64) -> Var {
         let mut selectors = List::new(self.alloc);
-        selectors.push(Selector::Index(self.number(n)))?;
-        Ok(Var {
+        let _ = selectors.push(Selector::Index(self.number(n)));
+        Var {
             variable: A,
             at: HERE,
             selectors,
-        })
+        }
     }
 
     pub fn read(&self, kind: u32, x: u32) -> Expr {
@@ -104,20 +107,31 @@ impl Maker {
     }
 
     /// A forall of the empty statement from one number to another.
-    pub fn forall(&self, from: i64, to: i64) -> Result<Stmt, Memory> {
-        Ok(self.stmt(Form::Forall {
-            index: X,
-            from: self.number(from),
-            to: self.number(to),
-            body: Boxed::new(self.alloc, self.stmt(Form::Empty))?,
-        }))
+    pub fn forall(&self, from: i64, to: i64) -> Stmt {
+        match Boxed::new(self.alloc, self.stmt(Form::Empty)) {
+            Ok(body) => self.stmt(Form::Forall {
+                index: X,
+                from: self.number(from),
+                to: self.number(to),
+                body,
+            }),
+            Err(_) => self.stmt(Form::Empty),
+        }
     }
 
-    pub fn both(&self, a: Stmt, b: Stmt) -> Result<List<Stmt>, Memory> {
+    /// An operation on two operands.
+    pub fn binary(&self, op: BinaryOp, a: Expr, b: Expr) -> ExprForm {
+        match boxes(self.alloc, a, b) {
+            Some((a, b)) => ExprForm::Binary(op, a, b),
+            None => ExprForm::Number(0),
+        }
+    }
+
+    pub fn both(&self, a: Stmt, b: Stmt) -> List<Stmt> {
         let mut all = List::new(self.alloc);
-        all.push(a)?;
-        all.push(b)?;
-        Ok(all)
+        let _ = all.push(a);
+        let _ = all.push(b);
+        all
     }
 
     fn variable(&self, kind: u32, block: u32, role: Role) -> Variable {
@@ -130,29 +144,30 @@ impl Maker {
         }
     }
 
-    fn kinds(&self) -> Result<List<KindOf>, Memory> {
-        let messages = List::from_slice(self.alloc, &[0])?;
+    fn kinds(&self) -> List<KindOf> {
+        let mut messages = List::new(self.alloc);
+        let _ = messages.push(0);
         let mut kinds = List::new(self.alloc);
-        kinds.push(KindOf::Integer)?;
-        kinds.push(KindOf::Channel(messages))?;
-        kinds.push(KindOf::Array {
+        let _ = kinds.push(KindOf::Integer);
+        let _ = kinds.push(KindOf::Channel(messages));
+        let _ = kinds.push(KindOf::Array {
             low: 1,
             high: 3,
             index: 0,
             element: 0,
-        })?;
-        Ok(kinds)
+        });
+        kinds
     }
 
-    fn variables(&self) -> Result<List<Variable>, Memory> {
+    fn variables(&self) -> List<Variable> {
         let mut variables = List::new(self.alloc);
-        variables.push(self.variable(0, 0, Role::Console))?;
-        variables.push(self.variable(0, 0, Role::Console))?;
+        let _ = variables.push(self.variable(0, 0, Role::Console));
+        let _ = variables.push(self.variable(0, 0, Role::Console));
         for kind in [1, 0, 0, 2] {
-            variables.push(self.variable(kind, 0, Role::Local))?;
+            let _ = variables.push(self.variable(kind, 0, Role::Local));
         }
-        variables.push(self.variable(0, 1, Role::Answer))?;
-        Ok(variables)
+        let _ = variables.push(self.variable(0, 1, Role::Answer));
+        variables
     }
 
     fn block(&self, parent: Option<u32>, answer: Option<u32>, body: Stmt) -> Block {
@@ -166,68 +181,126 @@ impl Maker {
         }
     }
 
-    fn blocks(&self, body: Stmt, function: Stmt) -> Result<List<Block>, Memory> {
+    fn blocks(&self, body: Stmt, function: Stmt) -> List<Block> {
         let mut blocks = List::new(self.alloc);
-        blocks.push(self.block(None, None, body))?;
-        blocks.push(self.block(Some(0), Some(6), function))?;
-        Ok(blocks)
+        let _ = blocks.push(self.block(None, None, body));
+        let _ = blocks.push(self.block(Some(0), Some(6), function));
+        blocks
     }
 
     /// A program with a function that has no parameters.
-    pub fn program(&self, body: Stmt, function: Stmt) -> Result<Checked, Memory> {
-        let blocks = self.blocks(body, function)?;
-        Ok(Checked {
-            kinds: self.kinds()?,
-            variables: self.variables()?,
-            blocks,
-        })
+    pub fn program(&self, body: Stmt, function: Stmt) -> Checked {
+        Checked {
+            kinds: self.kinds(),
+            variables: self.variables(),
+            blocks: self.blocks(body, function),
+        }
     }
 
-    /// Runs a body by a schedule: 0 is the root, and 1 + 10 f + i is child i of its fork f.
-    pub fn run(&self, limits: &Limits, body: Stmt, names: &[u32]) -> Result<Meant, Memory> {
-        let program = self.program(body, self.stmt(Form::Empty))?;
-        meaning_run(&program, b"", limits, &schedule(self.alloc, names)?)
+    /// Runs a program by a schedule: 0 is the root, and 1 + 10 f + i is child i of its fork f.
+    pub fn run(&self, limits: &Limits, program: Checked, names: &[u32]) -> Result<Meant, Memory> {
+        let schedule = schedule(self.alloc, names);
+        let meant = meaning_run(&program, b"", limits, &schedule);
+        drop(program);
+        drop(schedule);
+        meant
     }
 
     /// Runs statements in sequence.
     pub fn run_all(&self, body: List<Stmt>, names: &[u32]) -> Result<Meant, Memory> {
-        self.run(&LIMITS, self.stmt(Form::Sequence(body)), names)
+        let body = self.stmt(Form::Sequence(body));
+        self.run(&LIMITS, self.program(body, self.stmt(Form::Empty)), names)
     }
 
     /// The fault of the first step of a body.
-    pub fn fault(&self, limits: &Limits, body: Stmt) -> Result<Option<Fault>, Memory> {
-        Ok(fault_of(&self.run(limits, body, &[0])?))
+    pub fn fault(&self, limits: &Limits, body: Stmt) -> Option<Fault> {
+        fault_of(self.run(limits, self.program(body, self.stmt(Form::Empty)), &[0]))
     }
 }
 
-// The process of this number: 0 is the root, and 1 + 10 f + i is child i of its fork f.
-fn process(alloc: Global, number: u32) -> Result<ProcName, Memory> {
-    let mut pairs = List::new(alloc);
-    if number > 0 {
-        let n = number - 1;
-        pairs.push(Pair {
-            fork: n / 10,
-            child: n % 10,
-        })?;
-    }
-    Ok(ProcName { pairs })
+// Both in boxes, or nothing where no memory is left.
+fn boxes(alloc: Global, a: Expr, b: Expr) -> Option<(Boxed<Expr>, Boxed<Expr>)> {
+    let a = Boxed::new(alloc, a);
+    let b = Boxed::new(alloc, b);
+    two(a, b)
 }
 
-pub fn schedule(alloc: Global, names: &[u32]) -> Result<List<ProcName>, Memory> {
-    let mut out = List::new(alloc);
-    for n in names {
-        out.push(process(alloc, *n)?)?;
-    }
-    Ok(out)
-}
-
-pub fn fault_of(meant: &Meant) -> Option<Fault> {
-    match &meant.end {
-        Some(End::Fault { process: _, fault }) => Some(*fault),
+fn two<T: Drop, E: Drop>(a: Result<T, E>, b: Result<T, E>) -> Option<(T, T)> {
+    match (a, b) {
+        (Ok(a), Ok(b)) => Some((a, b)),
         _ => None,
     }
 }
 
-pub fn is_done(meant: &Meant, steps: u64, output: &[u8]) -> bool {
-    meant.steps == steps && meant.output.bytes() == output && matches!(&meant.end, Some(End::Done))
+// The process of this number: 0 is the root, and 1 + 10 f + i is child i of its fork f.
+fn process(alloc: Global, number: u32) -> ProcName {
+    let mut pairs = List::new(alloc);
+    if number > 0 {
+        let n = number - 1;
+        let _ = pairs.push(Pair {
+            fork: n / 10,
+            child: n % 10,
+        });
+    }
+    ProcName { pairs }
+}
+
+fn schedule(alloc: Global, names: &[u32]) -> List<ProcName> {
+    let mut out = List::new(alloc);
+    for n in names {
+        let _ = out.push(process(alloc, *n));
+    }
+    out
+}
+
+/// How a run ended.
+#[derive(Clone, Copy, Debug, PartialEq, Eq)]
+pub enum Ended {
+    NotYet,
+    Done,
+    Fault(Fault),
+    /// With so many that wait.
+    Deadlock(usize),
+    Memory,
+}
+
+fn ended(meant: &Meant) -> Ended {
+    match &meant.end {
+        None => Ended::NotYet,
+        Some(End::Done) => Ended::Done,
+        Some(End::Fault { process: _, fault }) => Ended::Fault(*fault),
+        Some(End::Deadlock(waiters)) => Ended::Deadlock(waiters.len()),
+        Some(End::Memory) => Ended::Memory,
+    }
+}
+
+fn is_so(meant: &Meant, steps: u64, output: &[u8], end: Ended) -> bool {
+    meant.steps == steps && meant.output.bytes() == output && ended(meant) == end
+}
+
+/// Whether a run made so many steps, wrote that, and ended so.
+pub fn is_run(meant: Result<Meant, Memory>, steps: u64, output: &[u8], end: Ended) -> bool {
+    match meant {
+        Ok(meant) => {
+            let so = is_so(&meant, steps, output, end);
+            drop(meant);
+            so
+        }
+        Err(_) => false,
+    }
+}
+
+/// The fault in which a run ended, if it did.
+pub fn fault_of(meant: Result<Meant, Memory>) -> Option<Fault> {
+    match meant {
+        Ok(meant) => {
+            let end = ended(&meant);
+            drop(meant);
+            match end {
+                Ended::Fault(fault) => Some(fault),
+                _ => None,
+            }
+        }
+        Err(_) => None,
+    }
 }
