@@ -3,7 +3,6 @@
 use sp_compile::compiled;
 use sp_length::length;
 use std::alloc::Global;
-use std::test::Fail;
 
 struct Row<'a> {
     text: &'a [u8],
@@ -125,11 +124,21 @@ const ROWS: [Row; 28] = [
     },
 ];
 
-#[test]
-fn lengths_are_those_of_the_table(rt: HostRuntime) -> Result<(), Fail> {
-    for row in ROWS.iter() {
-        let made = compiled(rt.alloc(), row.text)?;
-        assert_eq!(rt; length(made.checked()), row.length);
+// Whether the code of a text is so long.
+fn is_as_long(alloc: Global, text: &[u8], wanted: u32) -> bool {
+    match compiled(alloc, text) {
+        Ok(made) => {
+            let found = length(made.checked());
+            drop(made);
+            found == wanted
+        }
+        Err(_) => false,
     }
-    Ok(())
+}
+
+#[test]
+fn lengths_are_those_of_the_table(rt: HostRuntime) {
+    for (i, row) in ROWS.iter().enumerate() {
+        assert!(rt; is_as_long(rt.alloc(), row.text, row.length), "{i}");
+    }
 }
