@@ -94,70 +94,110 @@ fn loaded(store: &Store, at: Address) -> Option<Cell> {
     }
 }
 
+// Whether an undefined piece is undefined still once it is made own.
+fn makes_own(store: &mut Store) -> bool {
+    let a = at(2, 0);
+    store.has_cells(a, 1)
+        && store.make_own(a.spot).is_ok()
+        && loaded(store, a) == Some(Cell::Undefined)
+}
+
+// Whether a cell that is undefined is stored and loaded.
+fn stores_one(store: &mut Store) -> bool {
+    let a = at(2, 0);
+    loaded(store, a) == Some(Cell::Undefined)
+        && store.has_cells(a, 1)
+        && store.store(a, Cell::Ordinal(5)).is_ok()
+        && loaded(store, a) == Some(Cell::Ordinal(5))
+}
+
 // Whether two cells are put into an array of a store's own.
-fn puts_two(store: &mut Store, alloc: Global) -> Result<bool, Memory> {
-    let cells = List::from_slice(alloc, &[Cell::Ordinal(1), Cell::Channel(2)])?;
+fn puts_two(store: &mut Store, alloc: Global) -> bool {
     let to = at(3, 0);
-    if store.has_cells(to, 2) && store.is_own(to.spot) {
-        store.put(to, &cells);
-        return Ok(true);
+    match List::from_slice(alloc, &[Cell::Ordinal(1), Cell::Channel(2)]) {
+        Ok(cells) => {
+            let puts = store.has_cells(to, 2) && store.is_own(to.spot);
+            if puts {
+                store.put(to, &cells);
+            }
+            puts
+        }
+        Err(_) => false,
     }
-    Ok(false)
 }
 
 // Whether two cells of an array are copied one place up.
-fn copies_two(store: &mut Store) -> Result<bool, Memory> {
+fn copies_two(store: &mut Store) -> bool {
     let from = at(3, 0);
     let to = at(3, 1);
-    if store.has_cells(from, 2) && store.has_cells(to, 2) {
-        store.copy(to, from, 2)?;
-        return Ok(true);
-    }
-    Ok(false)
+    store.has_cells(from, 2) && store.has_cells(to, 2) && store.copy(to, from, 2).is_ok()
 }
 
-#[test]
-fn a_cell_is_stored_and_loaded(rt: HostRuntime) -> Result<(), Fail> {
-    let mut store = Store::root(rt.alloc(), &[1, 3])?;
-    let a = at(2, 0);
-    assert_eq!(rt; loaded(&store, a), Some(Cell::Undefined));
-    assert!(rt; store.has_cells(a, 1));
-    store.store(a, Cell::Ordinal(5))?;
-    assert_eq!(rt; loaded(&store, a), Some(Cell::Ordinal(5)));
-    Ok(())
-}
-
-#[test]
-fn a_piece_is_made_own(rt: HostRuntime) -> Result<(), Fail> {
-    let mut store = Store::root(rt.alloc(), &[1, 3])?;
-    let a = at(2, 0);
-    assert!(rt; store.has_cells(a, 1));
-    store.make_own(a.spot)?;
-    assert_eq!(rt; loaded(&store, a), Some(Cell::Undefined));
-    Ok(())
-}
-
-#[test]
-fn cells_are_put_and_copied(rt: HostRuntime) -> Result<(), Fail> {
-    let mut store = Store::root(rt.alloc(), &[1, 3])?;
-    assert!(rt; puts_two(&mut store, rt.alloc())?);
-    assert!(rt; copies_two(&mut store)?);
+// Whether these are the three cells of the array.
+fn has_three(store: &Store, wanted: &[Cell]) -> bool {
     let from = at(3, 0);
-    assert!(rt; store.has_cells(from, 3));
-    let all = [Cell::Ordinal(1), Cell::Ordinal(1), Cell::Channel(2)];
-    assert_eq!(rt; store.cells(from, 3)?.items(), all.as_slice());
-    Ok(())
+    if !store.has_cells(from, 3) {
+        return false;
+    }
+    match store.cells(from, 3) {
+        Ok(found) => found.items() == wanted,
+        Err(_) => false,
+    }
+}
+
+fn puts_and_copies(store: &mut Store, alloc: Global) -> bool {
+    let wanted = [Cell::Ordinal(1), Cell::Ordinal(1), Cell::Channel(2)];
+    puts_two(store, alloc) && copies_two(store) && has_three(store, &wanted)
+}
+
+// What comes of making own, of storing one cell, and of putting and copying several, in a new store.
+fn done_with_cells(alloc: Global) -> [bool; 3] {
+    match Store::root(alloc, &[1, 3]) {
+        Ok(mut store) => {
+            let own = makes_own(&mut store);
+            let one = stores_one(&mut store);
+            let several = puts_and_copies(&mut store, alloc);
+            drop(store);
+            [own, one, several]
+        }
+        Err(_) => [false; 3],
+    }
 }
 
 #[test]
-fn the_output_grows(rt: HostRuntime) -> Result<(), Fail> {
-    let mut store = Store::root(rt.alloc(), &[])?;
-    assert!(rt; has_output(&store));
-    store.append(b"ab")?;
-    assert!(rt; has_output(&store));
-    store.append(b"c")?;
-    assert_eq!(rt; store.output(), Some(b"abc".as_slice()));
-    Ok(())
+fn cells_are_made_own_stored_put_and_copied(rt: HostRuntime) {
+    assert_eq!(rt; done_with_cells(rt.alloc()), [true; 3]);
+}
+
+// Whether the output is held, and takes these bytes.
+fn appends(store: &mut Store, bytes: &[u8]) -> bool {
+    if has_output(store) {
+        return store.append(bytes).is_ok();
+    }
+    false
+}
+
+fn writes(store: &mut Store) -> bool {
+    if appends(store, b"ab") && appends(store, b"c") {
+        return store.output() == Some(b"abc".as_slice());
+    }
+    false
+}
+
+fn output_grows(alloc: Global) -> bool {
+    match Store::root(alloc, &[]) {
+        Ok(mut store) => {
+            let grows = writes(&mut store);
+            drop(store);
+            grows
+        }
+        Err(_) => false,
+    }
+}
+
+#[test]
+fn the_output_grows(rt: HostRuntime) {
+    assert!(rt; output_grows(rt.alloc()));
 }
 
 #[test]
@@ -165,6 +205,7 @@ fn ten_thousand_frames_are_pushed_and_popped(rt: HostRuntime) -> Result<(), Fail
     let mut store = Store::root(rt.alloc(), &[1])?;
     push_all(&mut store, 10_000)?;
     pop_all(&mut store, 10_000);
+    drop(store);
     Ok(())
 }
 
@@ -182,7 +223,8 @@ fn a_frame_has_4096_variables(rt: HostRuntime) -> Result<(), Fail> {
     };
     assert!(rt; store.has_cells(last, 1));
     store.store(last, Cell::Ordinal(3))?;
-    assert_eq!(rt; loaded(&store, last), Some(Cell::Ordinal(3)));
+    assert!(rt; loaded(&store, last) == Some(Cell::Ordinal(3)));
+    drop(store);
     Ok(())
 }
 
@@ -219,27 +261,51 @@ fn what_moves_comes_back_and_what_is_shared_is_read(rt: HostRuntime) -> Result<(
     assert!(rt; store.is_own(target) && store.is_own(input));
     let mut children = store.split(&plan)?.into_vec();
     let Some(mut child) = children.pop() else {
+        drop(store);
         return Ok(());
     };
-    assert_eq!(rt; loaded(&child, index()), Some(Cell::Ordinal(-3)));
-    assert_eq!(rt; loaded(&child, at(0, 0)), Some(Cell::Ordinal(0)));
+    assert!(rt; loaded(&child, index()) == Some(Cell::Ordinal(-3)));
+    assert!(rt; loaded(&child, at(0, 0)) == Some(Cell::Ordinal(0)));
     assert!(rt; child.has_cells(written, 1));
     child.store(written, Cell::Ordinal(9))?;
     assert!(rt; child.is_own(target) && store.is_away(target));
     store.join(child);
-    assert_eq!(rt; loaded(&store, written), Some(Cell::Ordinal(9)));
+    assert!(rt; loaded(&store, written) == Some(Cell::Ordinal(9)));
+    drop(store);
     Ok(())
 }
 
+// How many children share one variable of a new store, where so many are forked.
+fn sharing_children(alloc: Global, input: Spot, children: u32) -> usize {
+    match Store::root(alloc, &[]) {
+        Ok(mut store) => {
+            let count = forked(&mut store, alloc, input, children);
+            drop(store);
+            count
+        }
+        Err(_) => 0,
+    }
+}
+
+fn forked(store: &mut Store, alloc: Global, input: Spot, children: u32) -> usize {
+    if !store.is_own(input) {
+        return 0;
+    }
+    match share_with(store, alloc, input, children) {
+        Ok(all) => {
+            let count = all.len();
+            drop(all);
+            count
+        }
+        Err(_) => 0,
+    }
+}
+
 #[test]
-fn a_hundred_thousand_children_share_one_piece(rt: HostRuntime) -> Result<(), Fail> {
-    let mut store = Store::root(rt.alloc(), &[])?;
+fn a_hundred_thousand_children_share_one_piece(rt: HostRuntime) {
     let input = Spot {
         frame: 0,
         variable: 0,
     };
-    assert!(rt; store.is_own(input));
-    let children = share_with(&mut store, rt.alloc(), input, 100_000)?;
-    assert_eq!(rt; children.len(), 100_000);
-    Ok(())
+    assert!(rt; sharing_children(rt.alloc(), input, 100_000) == 100_000);
 }
