@@ -1,5 +1,6 @@
 //! Calls over a library, a source and sinks in memory.
 
+ghost use Rattle.std.specs.Prelude.{◌≤◌};
 ghost use Rattle.sp_report.specs.Telling.{AreFresh};
 
 use sp_base::{List, Text};
@@ -8,7 +9,6 @@ use sp_report::{Census, ProcessTree, Timeline, Waiting, Watcher, in_order};
 use std::alloc::{AllocError, Global};
 use std::process::Abort;
 use std::sync::Wait;
-use std::test::Fail;
 use std::thread::Threads;
 use superpascal::{Outcome, superpascal};
 
@@ -21,61 +21,85 @@ pub const ORDERED: &str = "done\nordered\n";
 /// The words of a run with one worker.
 pub const RUN: [&str; 4] = ["run", "--workers", "1", "a.sp"];
 
-/// So many of this byte.
-pub fn filled(alloc: Global, byte: u8, count: usize) -> Result<Vec<u8>, AllocError> {
-    vec![in alloc; byte; count].map_err(AllocError::from)
+/// These bytes. Where no memory is left there are none.
+pub fn copy(alloc: Global, bytes: &[u8]) -> Vec<u8> {
+    let mut all = Vec::new(alloc);
+    let _ = all.extend_from_slice(bytes);
+    all
+}
+
+/// So many of this byte. Where no memory is left there are none.
+pub fn filled(alloc: Global, byte: u8, count: usize) -> Vec<u8> {
+    match vec![in alloc; byte; count] {
+        Ok(bytes) => bytes,
+        Err(_) => Vec::new(alloc),
+    }
+}
+
+/// What stands before, a part so many times, and what stands behind. Where no memory is left a part is missing.
+pub fn repeated(alloc: Global, front: &str, part: &str, count: usize, end: &str) -> String {
+    let mut text = String::new(alloc);
+    let _ = text.push_str(front);
+    for _ in 0..count {
+        let _ = text.push_str(part);
+    }
+    let _ = text.push_str(end);
+    text
 }
 
 // A file of this name.
-fn file(alloc: Global, name: &str, bytes: &[u8]) -> Result<(Text, Text), AllocError> {
-    let name = Vec::from_slice(alloc, name.as_bytes())?;
-    let bytes = Vec::from_slice(alloc, bytes)?;
-    Ok((Text::of(name), Text::of(bytes)))
+fn file(alloc: Global, name: &str, bytes: &[u8]) -> (Text, Text) {
+    (
+        Text::of(copy(alloc, name.as_bytes())),
+        Text::of(copy(alloc, bytes)),
+    )
 }
 
 // This text under two names, and this journal.
-fn files(alloc: Global, text: &str, journal: &[u8]) -> Result<List<(Text, Text)>, AllocError> {
+fn files(alloc: Global, text: &str, journal: &[u8]) -> List<(Text, Text)> {
     let mut files = List::new(alloc);
-    for name in ["a.sp", "-a"] {
-        files.push(file(alloc, name, text.as_bytes())?)?;
-    }
-    files.push(file(alloc, "j", journal)?)?;
-    Ok(files)
+    let _ = files.push(file(alloc, "a.sp", text.as_bytes()));
+    let _ = files.push(file(alloc, "-a", text.as_bytes()));
+    let _ = files.push(file(alloc, "j", journal));
+    files
 }
 
-// A library with this text under two names and this journal, of which these calls fail.
-fn library(
-    alloc: Global,
-    text: &str,
-    journal: &[u8],
-    failing: &[u32],
-) -> Result<MemoryLibrary, AllocError> {
-    let failing = List::from_slice(alloc, failing)?;
-    let files = files(alloc, text, journal)?;
-    Ok(MemoryLibrary::new(files, failing))
+// The calls that fail.
+fn calls(alloc: Global, failing: &[u32]) -> List<u32> {
+    match List::from_slice(alloc, failing) {
+        Ok(calls) => calls,
+        Err(_) => List::new(alloc),
+    }
+}
+
+/// A source that gives at most so many of these bytes a call, of which these calls fail.
+pub fn source_of(alloc: Global, input: Vec<u8>, most: usize, failing: &[u32]) -> MemorySource
+    requires { 1 ≤ most }
+{
+    MemorySource::new(input, most, calls(alloc, failing))
 }
 
 /// A source that gives all that is asked for.
 pub fn source(alloc: Global, input: Vec<u8>) -> MemorySource {
-    MemorySource::new(input, 4096, List::new(alloc))
+    source_of(alloc, input, 4096, &[])
 }
 
 // A sink that takes a byte a call, of which these calls fail.
-fn sink(alloc: Global, failing: &[u32]) -> Result<MemorySink, AllocError> {
-    let failing = List::from_slice(alloc, failing)?;
-    let room = filled(alloc, 0, 1024)?;
-    Ok(MemorySink::new(room, 1, failing))
+fn sink(alloc: Global, failing: &[u32]) -> MemorySink {
+    MemorySink::new(filled(alloc, 0, 1024), 1, calls(alloc, failing))
 }
 
-fn words_of(alloc: Global, words: &[&str]) -> Result<Vec<String>, AllocError> {
+fn words_of(alloc: Global, words: &[&str]) -> Vec<String> {
     let mut all = Vec::new(alloc);
     for word in words {
-        all.push(String::from_str(alloc, word)?)?;
+        if let Ok(word) = String::from_str(alloc, word) {
+            let _ = all.push(word);
+        }
     }
-    Ok(all)
+    all
 }
 
-// The call with these watchers.
+// The status of the call with these watchers, and whether it told of a run.
 fn call_watched<R: Threads + Wait + Sync, G: Gate>(
     rt: &R,
     alloc: Global,
@@ -86,15 +110,18 @@ fn call_watched<R: Threads + Wait + Sync, G: Gate>(
     notes: &mut MemorySink,
     gate: &G,
     watchers: Vec<Box<dyn Watcher>>,
-) -> Outcome
+) -> (u8, bool)
     requires fresh { AreFresh told watchers.items }
 {
-    superpascal(
+    let outcome = superpascal(
         rt, alloc, words, library, input, output, notes, gate, watchers,
-    )
+    );
+    let ended = (outcome.status, outcome.ran.is_some());
+    drop(outcome);
+    ended
 }
 
-// The call with the four watchers.
+// The same of the call with the four watchers.
 fn call_over<R: Threads + Wait + Sync, G: Gate>(
     rt: &R,
     alloc: Global,
@@ -104,11 +131,11 @@ fn call_over<R: Threads + Wait + Sync, G: Gate>(
     output: &mut MemorySink,
     notes: &mut MemorySink,
     gate: &G,
-) -> Result<Outcome, AllocError> {
-    let timeline = Box::new(alloc, Timeline::new(alloc))?;
-    let census = Box::new(alloc, Census::new(alloc))?;
-    let tree = Box::new(alloc, ProcessTree::new(alloc))?;
-    let waiting = Box::new(alloc, Waiting::new(alloc))?;
+) -> Result<(u8, bool), AllocError> {
+    let timeline: Box<dyn Watcher> = Box::new(alloc, Timeline::new(alloc))?;
+    let census: Box<dyn Watcher> = Box::new(alloc, Census::new(alloc))?;
+    let tree: Box<dyn Watcher> = Box::new(alloc, ProcessTree::new(alloc))?;
+    let waiting: Box<dyn Watcher> = Box::new(alloc, Waiting::new(alloc))?;
     let watchers = in_order(alloc, timeline, census, tree, waiting)?;
     Ok(call_watched(
         rt, alloc, words, library, input, output, notes, gate, watchers,
@@ -139,21 +166,23 @@ pub struct Given {
     pub notes: Vec<u8>,
 }
 
-// What such a call has given.
+// What such a call has given. Where no memory is left for it, the status is none of the program's.
 fn given_by(
     alloc: Global,
-    outcome: &Outcome,
+    ended: Result<(u8, bool), AllocError>,
     output: &MemorySink,
     notes: &MemorySink,
-) -> Result<Given, AllocError> {
-    let output = Vec::from_slice(alloc, output.bytes())?;
-    let notes = Vec::from_slice(alloc, notes.bytes())?;
-    Ok(Given {
-        status: outcome.status,
-        ran: outcome.ran.is_some(),
-        output,
-        notes,
-    })
+) -> Given {
+    let (status, ran) = match ended {
+        Ok(ended) => ended,
+        Err(_) => (255, false),
+    };
+    Given {
+        status,
+        ran,
+        output: copy(alloc, output.bytes()),
+        notes: copy(alloc, notes.bytes()),
+    }
 }
 
 // The call over this library.
@@ -165,10 +194,10 @@ fn call_on<R: Threads + Wait + Sync, G: Gate>(
     input: &mut MemorySource,
     failing: Failing,
     gate: &G,
-) -> Result<Given, AllocError> {
-    let mut output = sink(alloc, failing.output)?;
-    let mut notes = sink(alloc, failing.notes)?;
-    let outcome = call_over(
+) -> Given {
+    let mut output = sink(alloc, failing.output);
+    let mut notes = sink(alloc, failing.notes);
+    let ended = call_over(
         rt,
         alloc,
         words,
@@ -177,8 +206,33 @@ fn call_on<R: Threads + Wait + Sync, G: Gate>(
         &mut output,
         &mut notes,
         gate,
-    )?;
-    given_by(alloc, &outcome, &output, &notes)
+    );
+    let given = given_by(alloc, ended, &output, &notes);
+    drop(output);
+    drop(notes);
+    given
+}
+
+// The call on this text, this journal and this input through this gate.
+fn call_with<R: Threads + Wait + Sync, G: Gate>(
+    rt: &R,
+    alloc: Global,
+    words: &[&str],
+    text: &str,
+    journal: &[u8],
+    input: &mut MemorySource,
+    failing: Failing,
+    gate: &G,
+) -> Given {
+    let words = words_of(alloc, words);
+    let mut library = MemoryLibrary::new(
+        files(alloc, text, journal),
+        calls(alloc, failing.library),
+    );
+    let given = call_on(rt, alloc, &words, &mut library, input, failing, gate);
+    drop(words);
+    drop(library);
+    given
 }
 
 /// The call on this text and this input through this gate.
@@ -190,10 +244,22 @@ pub fn call<R: Threads + Wait + Sync, G: Gate>(
     input: &mut MemorySource,
     failing: Failing,
     gate: &G,
-) -> Result<Given, AllocError> {
-    let words = words_of(alloc, words)?;
-    let mut library = library(alloc, text, b"", failing.library)?;
-    call_on(rt, alloc, &words, &mut library, input, failing, gate)
+) -> Given {
+    call_with(rt, alloc, words, text, b"", input, failing, gate)
+}
+
+/// The call on this text without input, of which these calls fail.
+pub fn call_failing<R: Threads + Wait + Sync>(
+    rt: &R,
+    alloc: Global,
+    words: &[&str],
+    text: &str,
+    failing: Failing,
+) -> Given {
+    let mut input = source(alloc, Vec::new(alloc));
+    let given = call(rt, alloc, words, text, &mut input, failing, &OpenGate);
+    drop(input);
+    given
 }
 
 /// The call on this text and this input that follows this journal, which is `j` in the library.
@@ -205,10 +271,8 @@ pub fn call_along<R: Threads + Wait + Sync>(
     journal: &[u8],
     input: &mut MemorySource,
     failing: Failing,
-) -> Result<Given, AllocError> {
-    let words = words_of(alloc, words)?;
-    let mut library = library(alloc, text, journal, failing.library)?;
-    call_on(rt, alloc, &words, &mut library, input, failing, &OpenGate)
+) -> Given {
+    call_with(rt, alloc, words, text, journal, input, failing, &OpenGate)
 }
 
 // Asserts what a call has written.
@@ -220,16 +284,16 @@ fn expect_written(rt: &impl Abort, given: &Given, output: &str, notes: &str, mes
 /// Asserts what a call has given. The message says for which text or which words.
 pub fn expect_given(
     rt: &impl Abort,
-    given: &Given,
+    given: Given,
     status: u8,
     ran: bool,
     output: &str,
     notes: &str,
     message: &str,
 ) {
-    expect_written(rt, given, output, notes, message);
-    assert_eq!(rt; given.status, status, "{message}");
-    assert_eq!(rt; given.ran, ran, "{message}");
+    expect_written(rt, &given, output, notes, message);
+    assert_eq!(rt; (given.status, given.ran), (status, ran), "{message}");
+    drop(given);
 }
 
 // Whether a call with these words and this status tells of a run.
@@ -249,12 +313,12 @@ pub fn expect_on<R: Threads + Wait + Sync + Abort>(
     status: u8,
     output: &str,
     notes: &str,
-) -> Result<(), Fail> {
+) {
     let mut input = source(alloc, input);
-    let given = call(rt, alloc, words, text, &mut input, NONE, &OpenGate)?;
+    let given = call(rt, alloc, words, text, &mut input, NONE, &OpenGate);
+    drop(input);
     let ran = tells_of_a_run(words, status);
-    expect_given(rt, &given, status, ran, output, notes, text);
-    Ok(())
+    expect_given(rt, given, status, ran, output, notes, text);
 }
 
 /// Asserts what a call gives on this text without input.
@@ -266,9 +330,9 @@ pub fn expect<R: Threads + Wait + Sync + Abort>(
     status: u8,
     output: &str,
     notes: &str,
-) -> Result<(), Fail> {
+) {
     let input = Vec::new(alloc);
-    expect_on(rt, alloc, words, text, input, status, output, notes)
+    expect_on(rt, alloc, words, text, input, status, output, notes);
 }
 
 /// Asserts that each call on these texts ends with this status. A row has the text, the output and the notes.
@@ -278,11 +342,10 @@ pub fn expect_texts<R: Threads + Wait + Sync + Abort>(
     words: &[&str],
     status: u8,
     rows: &[(&str, &str, &str)],
-) -> Result<(), Fail> {
+) {
     for &(text, output, notes) in rows {
-        expect(rt, alloc, words, text, status, output, notes)?;
+        expect(rt, alloc, words, text, status, output, notes);
     }
-    Ok(())
 }
 
 /// Words, a text, and the output and the notes of the call.
@@ -300,11 +363,10 @@ pub fn expect_words<R: Threads + Wait + Sync + Abort>(
     alloc: Global,
     status: u8,
     rows: &[Asked],
-) -> Result<(), Fail> {
+) {
     for row in rows {
         expect(
             rt, alloc, row.words, row.text, status, row.output, row.notes,
-        )?;
+        );
     }
-    Ok(())
 }

@@ -5,7 +5,6 @@ use crate::workers::{PIPE, TREE};
 use std::alloc::Global;
 use std::process::Abort;
 use std::sync::Wait;
-use std::test::Fail;
 use std::thread::Threads;
 
 const BAD: [&[&str]; 18] = [
@@ -30,20 +29,10 @@ const BAD: [&[&str]; 18] = [
 ];
 
 // Asserts that all these words are refused.
-fn expect_refused<R: Threads + Wait + Sync + Abort>(
-    rt: &R,
-    alloc: Global,
-    rows: &[&[&str]],
-) -> Result<(), Fail> {
+fn expect_refused<R: Threads + Wait + Sync + Abort>(rt: &R, alloc: Global, rows: &[&[&str]]) {
     for words in rows {
-        expect(rt, alloc, words, ANSWER, 2, "", "bad words\n")?;
+        expect(rt, alloc, words, ANSWER, 2, "", "bad words\n");
     }
-    Ok(())
-}
-
-#[test]
-fn words_that_are_refused(rt: HostRuntime) -> Result<(), Fail> {
-    expect_refused(&rt, rt.alloc(), &BAD)
 }
 
 const FILES: [Asked; 5] = [
@@ -80,8 +69,9 @@ const FILES: [Asked; 5] = [
 ];
 
 #[test]
-fn words_that_are_read(rt: HostRuntime) -> Result<(), Fail> {
-    expect_words(&rt, rt.alloc(), 0, &FILES)
+fn words_that_are_refused_or_read(rt: HostRuntime) {
+    expect_refused(&rt, rt.alloc(), &BAD);
+    expect_words(&rt, rt.alloc(), 0, &FILES);
 }
 
 const ARMS: &str =
@@ -112,18 +102,18 @@ const REPORTS: [Asked; 3] = [
 ];
 
 #[test]
-fn reports(rt: HostRuntime) -> Result<(), Fail> {
-    expect_words(&rt, rt.alloc(), 0, &REPORTS)
+fn reports(rt: HostRuntime) {
+    expect_words(&rt, rt.alloc(), 0, &REPORTS);
 }
 
 #[test]
-fn what_waits_in_a_deadlock(rt: HostRuntime) -> Result<(), Fail> {
+fn what_waits_in_a_deadlock(rt: HostRuntime) {
     let words = ["run", "--workers", "1", "--show", "waiting", "a.sp"];
     let text =
         "program r; type ch = *(integer); var c: ch; x: integer; begin open(c); parallel receive(c, x) | begin end end end.";
     let notes =
         "deadlock\nwaits 0/0.0 receive 0#0\nordered\nwaiting\n0 join 0/0.0\n0/0.0 receive 0#0\n";
-    expect(&rt, rt.alloc(), &words, text, 4, "", notes)
+    expect(&rt, rt.alloc(), &words, text, 4, "", notes);
 }
 
 // Texts, outputs and journals of runs that are done.
@@ -163,11 +153,6 @@ const JOURNALS: [(&str, &str, &str); 7] = [
 
 const WITH_JOURNAL: [&str; 6] = ["run", "--workers", "1", "--show", "journal", "a.sp"];
 
-#[test]
-fn journals(rt: HostRuntime) -> Result<(), Fail> {
-    expect_texts(&rt, rt.alloc(), &WITH_JOURNAL, 0, &JOURNALS)
-}
-
 const FAULTS: [(&str, &str, &str); 2] = [
     (
         "program r; type ch = *(integer); var c: ch; x: integer; begin open(c); parallel send(c, 1) | send(c, 2) | receive(c, x) end end.",
@@ -181,11 +166,6 @@ const FAULTS: [(&str, &str, &str); 2] = [
     ),
 ];
 
-#[test]
-fn journals_of_faults(rt: HostRuntime) -> Result<(), Fail> {
-    expect_texts(&rt, rt.alloc(), &WITH_JOURNAL, 3, &FAULTS)
-}
-
 const DEADLOCKS: [(&str, &str, &str); 1] = [(
     STUCK,
     "",
@@ -193,8 +173,11 @@ const DEADLOCKS: [(&str, &str, &str); 1] = [(
 )];
 
 #[test]
-fn journals_of_deadlocks(rt: HostRuntime) -> Result<(), Fail> {
-    expect_texts(&rt, rt.alloc(), &WITH_JOURNAL, 4, &DEADLOCKS)
+fn journals(rt: HostRuntime) {
+    let alloc = rt.alloc();
+    expect_texts(&rt, alloc, &WITH_JOURNAL, 0, &JOURNALS);
+    expect_texts(&rt, alloc, &WITH_JOURNAL, 3, &FAULTS);
+    expect_texts(&rt, alloc, &WITH_JOURNAL, 4, &DEADLOCKS);
 }
 
 /// A limit, a text, and the status, the output and the notes of its run with one worker.
@@ -334,21 +317,16 @@ const LIMITS: [Limit; 15] = [
     },
 ];
 
-fn expect_limits<R: Threads + Wait + Sync + Abort>(
-    rt: &R,
-    alloc: Global,
-    rows: &[Limit],
-) -> Result<(), Fail> {
+fn expect_limits<R: Threads + Wait + Sync + Abort>(rt: &R, alloc: Global, rows: &[Limit]) {
     for row in rows {
         let words = ["run", "--workers", "1", row.name, row.value, "a.sp"];
         expect(
             rt, alloc, &words, row.text, row.status, row.output, row.notes,
-        )?;
+        );
     }
-    Ok(())
 }
 
 #[test]
-fn limits(rt: HostRuntime) -> Result<(), Fail> {
-    expect_limits(&rt, rt.alloc(), &LIMITS)
+fn limits(rt: HostRuntime) {
+    expect_limits(&rt, rt.alloc(), &LIMITS);
 }

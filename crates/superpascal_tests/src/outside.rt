@@ -3,14 +3,13 @@
 ghost use Rattle.std.specs.Prelude.{◌≤◌};
 
 use crate::calls::{
-    ANSWER, Failing, NONE, ORDERED, RUN, call, expect, expect_given, expect_on, filled, source,
+    ANSWER, Failing, NONE, ORDERED, RUN, call, call_failing, copy, expect, expect_given, expect_on,
+    filled, source, source_of,
 };
-use sp_base::List;
 use sp_outside::{MemorySource, OpenGate, Source};
-use std::alloc::{AllocError, Global};
+use std::alloc::Global;
 use std::process::Abort;
 use std::sync::Wait;
-use std::test::Fail;
 use std::thread::Threads;
 
 // Asserts that a run of the answer over this source ends with this status, before it writes an output.
@@ -21,68 +20,64 @@ fn expect_end<R: Threads + Wait + Sync + Abort>(
     failing: Failing,
     status: u8,
     notes: &str,
-) -> Result<(), Fail> {
-    let given = call(rt, alloc, &RUN, ANSWER, &mut input, failing, &OpenGate)?;
-    expect_given(rt, &given, status, false, "", notes, "");
-    Ok(())
+) {
+    let given = call(rt, alloc, &RUN, ANSWER, &mut input, failing, &OpenGate);
+    drop(input);
+    expect_given(rt, given, status, false, "", notes, "");
 }
 
-// A source that gives at most so many of these bytes a call, of which this call fails.
-fn failing_source(
+const NO_LIBRARY: Failing<'static> = Failing {
+    library: &[0],
+    ..NONE
+};
+
+const NO_NOTES: Failing<'static> = Failing {
+    notes: &[0],
+    ..NONE
+};
+
+#[test]
+fn a_library_that_fails(rt: HostRuntime) {
+    let input = source(rt.alloc(), Vec::new(rt.alloc()));
+    expect_end(&rt, rt.alloc(), input, NO_LIBRARY, 5, "read fault\n");
+}
+
+#[test]
+fn a_file_that_is_absent(rt: HostRuntime) {
+    for command in ["run", "check", "code", "sets", "format"] {
+        let words = [command, "absent"];
+        expect(&rt, rt.alloc(), &words, ANSWER, 5, "", "read fault\n");
+    }
+}
+
+// Asserts that a source of which this call fails ends the run.
+fn expect_source_fault<R: Threads + Wait + Sync + Abort>(
+    rt: &R,
     alloc: Global,
     bytes: &[u8],
     most: usize,
-    failing: u32,
-) -> Result<MemorySource, AllocError>
+    call: u32,
+)
     requires { 1 ≤ most }
 {
-    let failing = List::from_slice(alloc, &[failing])?;
-    let bytes = Vec::from_slice(alloc, bytes)?;
-    Ok(MemorySource::new(bytes, most, failing))
+    let input = source_of(alloc, copy(alloc, bytes), most, &[call]);
+    expect_end(rt, alloc, input, NONE, 5, "read fault\n");
 }
 
 #[test]
-fn a_library_that_fails(rt: HostRuntime) -> Result<(), Fail> {
-    let input = source(rt.alloc(), Vec::new(rt.alloc()));
-    let failing = Failing {
-        library: &[0],
-        ..NONE
-    };
-    expect_end(&rt, rt.alloc(), input, failing, 5, "read fault\n")
-}
-
-#[test]
-fn a_file_that_is_absent(rt: HostRuntime) -> Result<(), Fail> {
-    for command in ["run", "check", "code", "sets", "format"] {
-        let words = [command, "absent"];
-        expect(&rt, rt.alloc(), &words, ANSWER, 5, "", "read fault\n")?;
-    }
-    Ok(())
-}
-
-#[test]
-fn a_source_that_fails(rt: HostRuntime) -> Result<(), Fail> {
+fn sources_that_fail(rt: HostRuntime) {
+    let alloc = rt.alloc();
     for k in 0..4u32 {
-        let input = failing_source(rt.alloc(), b"abc", 1, k)?;
-        expect_end(&rt, rt.alloc(), input, NONE, 5, "read fault\n")?;
+        expect_source_fault(&rt, alloc, b"abc", 1, k);
     }
-    Ok(())
+    // at its end
+    expect_source_fault(&rt, alloc, b"12 34", 4096, 1);
 }
 
 #[test]
-fn a_source_that_fails_at_its_end(rt: HostRuntime) -> Result<(), Fail> {
-    let input = failing_source(rt.alloc(), b"12 34", 4096, 1)?;
-    expect_end(&rt, rt.alloc(), input, NONE, 5, "read fault\n")
-}
-
-#[test]
-fn a_source_and_notes_that_fail(rt: HostRuntime) -> Result<(), Fail> {
-    let input = failing_source(rt.alloc(), b"", 4096, 0)?;
-    let failing = Failing {
-        notes: &[0],
-        ..NONE
-    };
-    expect_end(&rt, rt.alloc(), input, failing, 6, "")
+fn a_source_and_notes_that_fail(rt: HostRuntime) {
+    let input = source_of(rt.alloc(), Vec::new(rt.alloc()), 4096, &[0]);
+    expect_end(&rt, rt.alloc(), input, NO_NOTES, 6, "");
 }
 
 // Asserts that a call on the answer without input ends with a write fault.
@@ -94,41 +89,33 @@ fn expect_write_fault<R: Threads + Wait + Sync + Abort>(
     ran: bool,
     output: &str,
     notes: &str,
-) -> Result<(), Fail> {
-    let mut input = source(alloc, Vec::new(alloc));
-    let given = call(rt, alloc, words, ANSWER, &mut input, failing, &OpenGate)?;
-    expect_given(rt, &given, 6, ran, output, notes, "");
-    Ok(())
+) {
+    let given = call_failing(rt, alloc, words, ANSWER, failing);
+    expect_given(rt, given, 6, ran, output, notes, "");
 }
 
 const NO_RUNS: [&[&str]; 3] = [&["check", "a.sp"], &["run", "absent"], &["run"]];
 
 #[test]
-fn notes_of_no_run_that_fail(rt: HostRuntime) -> Result<(), Fail> {
-    let failing = Failing {
-        notes: &[0],
-        ..NONE
-    };
+fn notes_of_no_run_that_fail(rt: HostRuntime) {
     for words in &NO_RUNS {
-        expect_write_fault(&rt, rt.alloc(), words, failing, false, "", "")?;
+        expect_write_fault(&rt, rt.alloc(), words, NO_NOTES, false, "", "");
     }
-    Ok(())
 }
 
 #[test]
-fn an_output_that_fails(rt: HostRuntime) -> Result<(), Fail> {
+fn an_output_that_fails(rt: HostRuntime) {
     for (k, output) in [(0u32, ""), (1, "4")] {
         let failing = Failing {
             output: &[k],
             ..NONE
         };
-        expect_write_fault(&rt, rt.alloc(), &RUN, failing, true, output, "")?;
+        expect_write_fault(&rt, rt.alloc(), &RUN, failing, true, output, "");
     }
-    Ok(())
 }
 
 #[test]
-fn notes_that_fail(rt: HostRuntime) -> Result<(), Fail> {
+fn notes_that_fail(rt: HostRuntime) {
     let mut written = String::new(rt.alloc());
     let mut at = 0u32;
     for character in ORDERED.chars() {
@@ -136,12 +123,11 @@ fn notes_that_fail(rt: HostRuntime) -> Result<(), Fail> {
             notes: &[at],
             ..NONE
         };
-        expect_write_fault(&rt, rt.alloc(), &RUN, failing, true, "42", &written)?;
-        written.push(character)?;
+        expect_write_fault(&rt, rt.alloc(), &RUN, failing, true, "42", &written);
+        let _ = written.push(character);
         at = at.saturating_add(1);
     }
     assert_eq!(rt; at, 13);
-    Ok(())
 }
 
 // How many bytes of four a call leaves in its source.
@@ -150,11 +136,14 @@ fn left_after<R: Threads + Wait + Sync>(
     alloc: Global,
     words: &[&str],
     text: &str,
-) -> Result<usize, Fail> {
-    let mut input = source(alloc, Vec::from_slice(alloc, b"12 x")?);
-    let _given = call(rt, alloc, words, text, &mut input, NONE, &OpenGate)?;
+) -> Option<usize> {
+    let mut input = source(alloc, copy(alloc, b"12 x"));
+    let given = call(rt, alloc, words, text, &mut input, NONE, &OpenGate);
+    drop(given);
     let mut rest = [0u8; 8];
-    Ok(input.take(&mut rest)?)
+    let left = input.take(&mut rest).ok();
+    drop(input);
+    left
 }
 
 // Asserts what each of these calls leaves. A row has the words and the text.
@@ -163,12 +152,11 @@ fn expect_left<R: Threads + Wait + Sync + Abort>(
     alloc: Global,
     rows: &[(&[&str], &str)],
     count: usize,
-) -> Result<(), Fail> {
+) {
     for &(words, text) in rows {
-        let left = left_after(rt, alloc, words, text)?;
-        assert_eq!(rt; left, count, "{words:?}");
+        let left = left_after(rt, alloc, words, text);
+        assert!(rt; left == Some(count), "{words:?}");
     }
-    Ok(())
 }
 
 const UNTOUCHED: [(&[&str], &str); 8] = [
@@ -182,11 +170,6 @@ const UNTOUCHED: [(&[&str], &str); 8] = [
     (&["run", "a.sp"], "program g; begin x := 1 end."),
 ];
 
-#[test]
-fn inputs_that_are_not_touched(rt: HostRuntime) -> Result<(), Fail> {
-    expect_left(&rt, rt.alloc(), &UNTOUCHED, 4)
-}
-
 // Runs that are done, that end in a fault, and in a deadlock.
 const ENDED: [(&[&str], &str); 3] = [
     (&RUN, ANSWER),
@@ -198,8 +181,9 @@ const ENDED: [(&[&str], &str); 3] = [
 ];
 
 #[test]
-fn inputs_that_are_read_to_their_end(rt: HostRuntime) -> Result<(), Fail> {
-    expect_left(&rt, rt.alloc(), &ENDED, 0)
+fn inputs_that_are_not_touched_or_read_to_their_end(rt: HostRuntime) {
+    expect_left(&rt, rt.alloc(), &UNTOUCHED, 4);
+    expect_left(&rt, rt.alloc(), &ENDED, 0);
 }
 
 const LONG: [(usize, u8, &str, &str); 2] = [
@@ -208,10 +192,9 @@ const LONG: [(usize, u8, &str, &str); 2] = [
 ];
 
 #[test]
-fn long_inputs(rt: HostRuntime) -> Result<(), Fail> {
+fn long_inputs(rt: HostRuntime) {
     for (count, status, output, notes) in LONG {
-        let input = filled(rt.alloc(), b'a', count)?;
-        expect_on(&rt, rt.alloc(), &RUN, ANSWER, input, status, output, notes)?;
+        let input = filled(rt.alloc(), b'a', count);
+        expect_on(&rt, rt.alloc(), &RUN, ANSWER, input, status, output, notes);
     }
-    Ok(())
 }

@@ -1,10 +1,9 @@
 //! Texts that break a rule.
 
-use crate::calls::expect;
-use std::alloc::{AllocError, Global};
+use crate::calls::{expect, repeated};
+use std::alloc::Global;
 use std::process::Abort;
 use std::sync::Wait;
-use std::test::Fail;
 use std::thread::Threads;
 
 // Asserts that this command refuses each of these texts. A row has the text and the notes.
@@ -13,11 +12,10 @@ fn refuses<R: Threads + Wait + Sync + Abort>(
     alloc: Global,
     command: &str,
     rows: &[(&str, &str)],
-) -> Result<(), Fail> {
+) {
     for &(text, notes) in rows {
-        expect(rt, alloc, &[command, "a.sp"], text, 1, "", notes)?;
+        expect(rt, alloc, &[command, "a.sp"], text, 1, "", notes);
     }
-    Ok(())
 }
 
 // Rules of characters and of the grammar.
@@ -44,14 +42,6 @@ const SPELLED: [(&str, &str); 9] = [
         "refused S4 2:13\n",
     ),
 ];
-
-#[test]
-fn rules_of_the_spelling(rt: HostRuntime) -> Result<(), Fail> {
-    for command in ["run", "check", "code", "sets", "format"] {
-        refuses(&rt, rt.alloc(), command, &SPELLED)?;
-    }
-    Ok(())
-}
 
 // Rules of names and types.
 const NAMED: [(&str, &str); 9] = [
@@ -90,14 +80,6 @@ const NAMED: [(&str, &str); 9] = [
     ),
 ];
 
-#[test]
-fn rules_of_names_and_types(rt: HostRuntime) -> Result<(), Fail> {
-    for command in ["run", "check", "code", "sets"] {
-        refuses(&rt, rt.alloc(), command, &NAMED)?;
-    }
-    Ok(())
-}
-
 // Rules of interference.
 const INTERFERING: [(&str, &str); 6] = [
     (
@@ -127,59 +109,41 @@ const INTERFERING: [(&str, &str); 6] = [
 ];
 
 #[test]
-fn rules_of_interference(rt: HostRuntime) -> Result<(), Fail> {
+fn broken_rules(rt: HostRuntime) {
+    let alloc = rt.alloc();
     for command in ["run", "check", "code"] {
-        refuses(&rt, rt.alloc(), command, &INTERFERING)?;
+        refuses(&rt, alloc, command, &SPELLED);
+        refuses(&rt, alloc, command, &NAMED);
+        refuses(&rt, alloc, command, &INTERFERING);
     }
-    Ok(())
-}
-
-// So many spaces.
-fn spaces(alloc: Global, count: usize) -> Result<String, AllocError> {
-    let mut text = String::new(alloc);
-    for _ in 0..count {
-        text.push_str(" ")?;
-    }
-    Ok(text)
+    refuses(&rt, alloc, "sets", &SPELLED);
+    refuses(&rt, alloc, "sets", &NAMED);
+    refuses(&rt, alloc, "format", &SPELLED);
 }
 
 // Asserts that a text of so many spaces is refused.
-fn expect_long<R: Threads + Wait + Sync + Abort>(
-    rt: &R,
-    alloc: Global,
-    count: usize,
-    notes: &str,
-) -> Result<(), Fail> {
-    let text = spaces(alloc, count)?;
+fn expect_long<R: Threads + Wait + Sync + Abort>(rt: &R, alloc: Global, count: usize, notes: &str) {
+    let text = repeated(alloc, "", " ", count, "");
     for command in ["run", "format"] {
-        refuses(rt, alloc, command, &[(&text, notes)])?;
+        refuses(rt, alloc, command, &[(&text, notes)]);
     }
-    Ok(())
 }
 
 #[test]
-fn the_longest_text_of_spaces(rt: HostRuntime) -> Result<(), Fail> {
-    expect_long(&rt, rt.alloc(), 1_048_576, "refused G2 1:1048577\n")
-}
-
-#[test]
-fn a_text_of_spaces_that_is_too_long(rt: HostRuntime) -> Result<(), Fail> {
-    expect_long(&rt, rt.alloc(), 1_048_577, "refused L1 1:1\n")
+fn the_longest_text_of_spaces_and_a_longer_one(rt: HostRuntime) {
+    expect_long(&rt, rt.alloc(), 1_048_576, "refused G2 1:1048577\n");
+    expect_long(&rt, rt.alloc(), 1_048_577, "refused L1 1:1\n");
 }
 
 // A `write` of so many arguments.
-fn arguments(alloc: Global, count: usize) -> Result<String, AllocError> {
-    let mut text = String::from_str(alloc, "program l; var a: integer; begin a := 1; write(a")?;
-    for _ in 1..count {
-        text.push_str(",a")?;
-    }
-    text.push_str(") end.")?;
-    Ok(text)
+fn arguments(alloc: Global, count: usize) -> String {
+    let front = "program l; var a: integer; begin a := 1; write(a";
+    repeated(alloc, front, ",a", count.saturating_sub(1), ") end.")
 }
 
 #[test]
-fn the_longest_code(rt: HostRuntime) -> Result<(), Fail> {
-    let text = arguments(rt.alloc(), 349_524)?;
+fn the_longest_code(rt: HostRuntime) {
+    let text = arguments(rt.alloc(), 349_524);
     expect(
         &rt,
         rt.alloc(),
@@ -188,14 +152,13 @@ fn the_longest_code(rt: HostRuntime) -> Result<(), Fail> {
         0,
         "",
         "accepted\n",
-    )
+    );
 }
 
 #[test]
-fn code_that_is_too_long(rt: HostRuntime) -> Result<(), Fail> {
-    let text = arguments(rt.alloc(), 349_525)?;
+fn code_that_is_too_long(rt: HostRuntime) {
+    let text = arguments(rt.alloc(), 349_525);
     for command in ["run", "check", "code"] {
-        refuses(&rt, rt.alloc(), command, &[(&text, "refused L5 1:1\n")])?;
+        refuses(&rt, rt.alloc(), command, &[(&text, "refused L5 1:1\n")]);
     }
-    Ok(())
 }

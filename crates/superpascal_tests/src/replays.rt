@@ -1,11 +1,11 @@
 //! Journals that are followed, and journals that are not.
 
-use crate::calls::{Failing, Given, NONE, call, call_along, expect_given, filled, source};
-use sp_outside::{MemorySource, OpenGate};
-use std::alloc::{AllocError, Global};
+use crate::calls::{
+    Failing, Given, NONE, call_along, call_failing, copy, expect_given, filled, source,
+};
+use std::alloc::Global;
 use std::process::Abort;
 use std::sync::Wait;
-use std::test::Fail;
 use std::thread::Threads;
 
 const REPLAY: [&str; 3] = ["replay", "a.sp", "j"];
@@ -40,15 +40,17 @@ fn follow<R: Threads + Wait + Sync>(
     text: &str,
     journal: &[u8],
     failing: Failing,
-) -> Result<Given, Fail> {
+) -> Given {
     let mut input = source(alloc, Vec::new(alloc));
-    Ok(call_along(rt, alloc, &REPLAY, text, journal, &mut input, failing)?)
+    let given = call_along(rt, alloc, &REPLAY, text, journal, &mut input, failing);
+    drop(input);
+    given
 }
 
-fn journal_of(alloc: Global, head: &str, lines: &str) -> Result<Vec<u8>, AllocError> {
-    let mut journal = Vec::from_slice(alloc, head.as_bytes())?;
-    journal.extend_from_slice(lines.as_bytes())?;
-    Ok(journal)
+fn journal_of(alloc: Global, head: &str, lines: &str) -> Vec<u8> {
+    let mut journal = copy(alloc, head.as_bytes());
+    let _ = journal.extend_from_slice(lines.as_bytes());
+    journal
 }
 
 // Asserts what following each of these journals gives, with this first line.
@@ -58,13 +60,13 @@ fn expect_under<R: Threads + Wait + Sync + Abort>(
     text: &str,
     head: &str,
     rows: &[Row],
-) -> Result<(), Fail> {
+) {
     for row in rows {
-        let journal = journal_of(alloc, head, row.journal)?;
-        let given = follow(rt, alloc, text, &journal, NONE)?;
+        let journal = journal_of(alloc, head, row.journal);
+        let given = follow(rt, alloc, text, &journal, NONE);
         expect_given(
             rt,
-            &given,
+            given,
             row.status,
             false,
             row.output,
@@ -72,28 +74,17 @@ fn expect_under<R: Threads + Wait + Sync + Abort>(
             row.journal,
         );
     }
-    Ok(())
 }
 
 // Asserts what following each of these texts gives.
-fn expect_rows<R: Threads + Wait + Sync + Abort>(
-    rt: &R,
-    alloc: Global,
-    text: &str,
-    rows: &[Row],
-) -> Result<(), Fail> {
-    expect_under(rt, alloc, text, "", rows)
+fn expect_rows<R: Threads + Wait + Sync + Abort>(rt: &R, alloc: Global, text: &str, rows: &[Row]) {
+    expect_under(rt, alloc, text, "", rows);
 }
 
 // Asserts what following journals with these lines gives, in both versions.
-fn expect_lines<R: Threads + Wait + Sync + Abort>(
-    rt: &R,
-    alloc: Global,
-    text: &str,
-    rows: &[Row],
-) -> Result<(), Fail> {
-    expect_under(rt, alloc, text, "superpascal journal 1\n", rows)?;
-    expect_under(rt, alloc, text, "superpascal journal 2\n", rows)
+fn expect_lines<R: Threads + Wait + Sync + Abort>(rt: &R, alloc: Global, text: &str, rows: &[Row]) {
+    expect_under(rt, alloc, text, "superpascal journal 1\n", rows);
+    expect_under(rt, alloc, text, "superpascal journal 2\n", rows);
 }
 
 const RACES: [Row; 5] = [
@@ -129,11 +120,6 @@ const RACES: [Row; 5] = [
     },
 ];
 
-#[test]
-fn journals_of_a_race(rt: HostRuntime) -> Result<(), Fail> {
-    expect_lines(&rt, rt.alloc(), RACE, &RACES)
-}
-
 // After a fault only `laid` comes, of a process that runs.
 const CLASHES: [Row; 3] = [
     Row {
@@ -155,11 +141,6 @@ const CLASHES: [Row; 3] = [
         notes: "journal unfit 2\n",
     },
 ];
-
-#[test]
-fn journals_of_a_clash(rt: HostRuntime) -> Result<(), Fail> {
-    expect_lines(&rt, rt.alloc(), CLASH, &CLASHES)
-}
 
 const ENDLESS: [Row; 3] = [
     Row {
@@ -188,12 +169,6 @@ const PAUSED: [Row; 1] = [Row {
     output: "",
     notes: "journal unfit 0\n",
 }];
-
-#[test]
-fn journals_of_a_deadlock(rt: HostRuntime) -> Result<(), Fail> {
-    expect_lines(&rt, rt.alloc(), STUCK, &ENDLESS)?;
-    expect_rows(&rt, rt.alloc(), STUCK, &PAUSED)
-}
 
 const BAD: [Row; 5] = [
     Row {
@@ -228,11 +203,6 @@ const BAD: [Row; 5] = [
     },
 ];
 
-#[test]
-fn texts_of_no_journal(rt: HostRuntime) -> Result<(), Fail> {
-    expect_rows(&rt, rt.alloc(), RACE, &BAD)
-}
-
 // The rules of the text come before the journal.
 const BROKEN: [Row; 2] = [
     Row {
@@ -250,45 +220,47 @@ const BROKEN: [Row; 2] = [
 ];
 
 #[test]
-fn a_text_that_breaks_a_rule(rt: HostRuntime) -> Result<(), Fail> {
-    expect_rows(&rt, rt.alloc(), "program b; begin x := 1 end.", &BROKEN)
+fn journals_that_fit_and_that_do_not(rt: HostRuntime) {
+    let alloc = rt.alloc();
+    expect_lines(&rt, alloc, RACE, &RACES);
+    expect_lines(&rt, alloc, CLASH, &CLASHES);
+    expect_lines(&rt, alloc, STUCK, &ENDLESS);
+    expect_rows(&rt, alloc, STUCK, &PAUSED);
+    expect_rows(&rt, alloc, RACE, &BAD);
+    expect_rows(&rt, alloc, "program b; begin x := 1 end.", &BROKEN);
 }
 
 // Asserts what following a journal of `ECHO` on this input gives.
 fn expect_echo<R: Threads + Wait + Sync + Abort>(
     rt: &R,
     alloc: Global,
-    mut input: MemorySource,
-    journal: &[u8],
+    bytes: Vec<u8>,
     status: u8,
     output: &str,
     notes: &str,
-) -> Result<(), Fail> {
-    let given = call_along(rt, alloc, &REPLAY, ECHO, journal, &mut input, NONE)?;
-    expect_given(rt, &given, status, false, output, notes, "");
-    Ok(())
+) {
+    let mut input = source(alloc, bytes);
+    let given = call_along(rt, alloc, &REPLAY, ECHO, ENDED, &mut input, NONE);
+    drop(input);
+    expect_given(rt, given, status, false, output, notes, "");
 }
 
 const ENDED: &[u8] = b"superpascal journal 2\n0 end\n";
 
 #[test]
-fn on_an_input(rt: HostRuntime) -> Result<(), Fail> {
-    let bytes = Vec::from_slice(rt.alloc(), b"17 4")?;
-    let input = source(rt.alloc(), bytes);
-    expect_echo(&rt, rt.alloc(), input, ENDED, 0, "17", "replayed\ndone\n")
-}
-
-#[test]
-fn on_no_input(rt: HostRuntime) -> Result<(), Fail> {
-    let input = source(rt.alloc(), Vec::new(rt.alloc()));
-    expect_echo(&rt, rt.alloc(), input, ENDED, 9, "", "journal unfit 0\n")
-}
-
-#[test]
-fn on_too_long_an_input(rt: HostRuntime) -> Result<(), Fail> {
-    let bytes = filled(rt.alloc(), b' ', 16_777_217)?;
-    let input = source(rt.alloc(), bytes);
-    expect_echo(&rt, rt.alloc(), input, ENDED, 7, "", "input too long\n")
+fn on_inputs(rt: HostRuntime) {
+    let alloc = rt.alloc();
+    expect_echo(
+        &rt,
+        alloc,
+        copy(alloc, b"17 4"),
+        0,
+        "17",
+        "replayed\ndone\n",
+    );
+    expect_echo(&rt, alloc, Vec::new(alloc), 9, "", "journal unfit 0\n");
+    let long = filled(alloc, b' ', 16_777_217);
+    expect_echo(&rt, alloc, long, 7, "", "input too long\n");
 }
 
 // Asserts what a call that follows a journal of a race gives where these calls fail.
@@ -298,65 +270,73 @@ fn expect_failing<R: Threads + Wait + Sync + Abort>(
     failing: Failing,
     status: u8,
     notes: &str,
-) -> Result<(), Fail> {
-    let given = follow(rt, alloc, RACE, b"", failing)?;
-    expect_given(rt, &given, status, false, "", notes, "");
-    Ok(())
+) {
+    let given = follow(rt, alloc, RACE, b"", failing);
+    expect_given(rt, given, status, false, "", notes, "");
+}
+
+// The library fails at the text, and at the journal; then the notes fail.
+const FAILING: [(Failing, u8, &str); 3] = [
+    (
+        Failing {
+            library: &[0],
+            ..NONE
+        },
+        5,
+        "read fault\n",
+    ),
+    (
+        Failing {
+            library: &[1],
+            ..NONE
+        },
+        5,
+        "read fault\n",
+    ),
+    (
+        Failing {
+            notes: &[0],
+            ..NONE
+        },
+        6,
+        "",
+    ),
+];
+
+#[test]
+fn calls_that_fail(rt: HostRuntime) {
+    for (failing, status, notes) in FAILING {
+        expect_failing(&rt, rt.alloc(), failing, status, notes);
+    }
 }
 
 #[test]
-fn a_library_that_fails_at_the_text(rt: HostRuntime) -> Result<(), Fail> {
-    let failing = Failing {
-        library: &[0],
-        ..NONE
-    };
-    expect_failing(&rt, rt.alloc(), failing, 5, "read fault\n")
-}
-
-#[test]
-fn a_library_that_fails_at_the_journal(rt: HostRuntime) -> Result<(), Fail> {
-    let failing = Failing {
-        library: &[1],
-        ..NONE
-    };
-    expect_failing(&rt, rt.alloc(), failing, 5, "read fault\n")
-}
-
-#[test]
-fn notes_that_fail(rt: HostRuntime) -> Result<(), Fail> {
-    let failing = Failing {
-        notes: &[0],
-        ..NONE
-    };
-    expect_failing(&rt, rt.alloc(), failing, 6, "")
-}
-
-#[test]
-fn a_journal_that_is_too_long(rt: HostRuntime) -> Result<(), Fail> {
-    let journal = filled(rt.alloc(), b' ', 67_108_865)?;
-    let given = follow(&rt, rt.alloc(), RACE, journal.as_slice(), NONE)?;
-    expect_given(&rt, &given, 9, false, "", "journal too long\n", "");
-    Ok(())
+fn a_journal_that_is_too_long(rt: HostRuntime) {
+    let journal = filled(rt.alloc(), b' ', 67_108_865);
+    let given = follow(&rt, rt.alloc(), RACE, journal.as_slice(), NONE);
+    expect_given(&rt, given, 9, false, "", "journal too long\n", "");
 }
 
 // The journal of a run with so many workers is followed to its output.
-fn expect_same<R: Threads + Wait + Sync + Abort>(
-    rt: &R,
-    alloc: Global,
-    workers: &str,
-) -> Result<(), Fail> {
+fn expect_same<R: Threads + Wait + Sync + Abort>(rt: &R, alloc: Global, workers: &str) {
     let words = ["run", "--workers", workers, "--show", "journal", "a.sp"];
-    let mut input = source(alloc, Vec::new(alloc));
-    let run = call(rt, alloc, &words, RACE, &mut input, NONE, &OpenGate)?;
-    let replay = follow(rt, alloc, RACE, run.notes.as_slice(), NONE)?;
-    assert_eq!(rt; run.output.as_slice(), replay.output.as_slice());
-    assert_eq!(rt; replay.notes.as_slice(), "replayed\ndone\n".as_bytes());
-    assert_eq!(rt; replay.status, 0);
-    Ok(())
+    let run = call_failing(rt, alloc, &words, RACE, NONE);
+    let replay = follow(rt, alloc, RACE, run.notes.as_slice(), NONE);
+    assert!(rt;
+        run.output.as_slice() == replay.output.as_slice(),
+        "{workers}"
+    );
+    drop(run);
+    assert!(rt;
+        replay.notes.as_slice() == "replayed\ndone\n".as_bytes(),
+        "{workers}"
+    );
+    assert!(rt; replay.status == 0, "{workers}");
+    drop(replay);
 }
 
 #[test]
-fn journals_of_runs(rt: HostRuntime) -> Result<(), Fail> {
-    expect_same(&rt, rt.alloc(), "1")?;
-    expect_same(&rt, rt.alloc(), "4")
+fn journals_of_runs(rt: HostRuntime) {
+    expect_same(&rt, rt.alloc(), "1");
+    expect_same(&rt, rt.alloc(), "4");
 }

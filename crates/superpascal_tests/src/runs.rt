@@ -1,8 +1,6 @@
 //! Programs that run with one worker: what they write, how they end, and the verdict.
 
-use crate::calls::{ANSWER, ORDERED, RUN, expect, expect_on, expect_texts};
-use std::alloc::{AllocError, Global};
-use std::test::Fail;
+use crate::calls::{ANSWER, ORDERED, RUN, copy, expect, expect_on, expect_texts, repeated};
 
 // Without procedures and processes.
 const LOCAL: [(&str, &str, &str); 12] = [
@@ -60,11 +58,6 @@ const LOCAL: [(&str, &str, &str); 12] = [
     ),
 ];
 
-#[test]
-fn local_statements(rt: HostRuntime) -> Result<(), Fail> {
-    expect_texts(&rt, rt.alloc(), &RUN, 0, &LOCAL)
-}
-
 // Functions, and variable parameters in processes.
 const CALLS: [(&str, &str, &str); 4] = [
     (
@@ -88,11 +81,6 @@ const CALLS: [(&str, &str, &str); 4] = [
         ORDERED,
     ),
 ];
-
-#[test]
-fn calls_of_blocks(rt: HostRuntime) -> Result<(), Fail> {
-    expect_texts(&rt, rt.alloc(), &RUN, 0, &CALLS)
-}
 
 // Runs that are done, raced or ordered.
 const PROCESSES: [(&str, &str, &str); 6] = [
@@ -128,11 +116,6 @@ const PROCESSES: [(&str, &str, &str); 6] = [
     ),
 ];
 
-#[test]
-fn processes(rt: HostRuntime) -> Result<(), Fail> {
-    expect_texts(&rt, rt.alloc(), &RUN, 0, &PROCESSES)
-}
-
 // Turns that are cut.
 const TURNS: [(&str, &str, &str); 3] = [
     (
@@ -151,11 +134,6 @@ const TURNS: [(&str, &str, &str); 3] = [
         ORDERED,
     ),
 ];
-
-#[test]
-fn long_turns(rt: HostRuntime) -> Result<(), Fail> {
-    expect_texts(&rt, rt.alloc(), &RUN, 0, &TURNS)
-}
 
 // In the order of the faults.
 const FAULTS: [(&str, &str, &str); 16] = [
@@ -241,21 +219,11 @@ const FAULTS: [(&str, &str, &str); 16] = [
     ),
 ];
 
-#[test]
-fn faults(rt: HostRuntime) -> Result<(), Fail> {
-    expect_texts(&rt, rt.alloc(), &RUN, 3, &FAULTS)
-}
-
 const DEADLOCKS: [(&str, &str, &str); 1] = [(
     "program r; type ch = *(integer); var c: ch; x: integer; begin open(c); receive(c, x) end.",
     "",
     "deadlock\nwaits 0 receive 0#0\nordered\n",
 )];
-
-#[test]
-fn deadlocks(rt: HostRuntime) -> Result<(), Fail> {
-    expect_texts(&rt, rt.alloc(), &RUN, 4, &DEADLOCKS)
-}
 
 const READS: &str =
     "program n(input, output); var x, y: integer; begin read(x); write(x); read(y) end.";
@@ -268,36 +236,30 @@ const INPUTS: [(&str, u8, &str); 3] = [
 ];
 
 #[test]
-fn inputs(rt: HostRuntime) -> Result<(), Fail> {
+fn runs_of_programs(rt: HostRuntime) {
+    let alloc = rt.alloc();
+    expect_texts(&rt, alloc, &RUN, 0, &LOCAL);
+    expect_texts(&rt, alloc, &RUN, 0, &CALLS);
+    expect_texts(&rt, alloc, &RUN, 0, &PROCESSES);
+    expect_texts(&rt, alloc, &RUN, 0, &TURNS);
+    expect_texts(&rt, alloc, &RUN, 3, &FAULTS);
+    expect_texts(&rt, alloc, &RUN, 4, &DEADLOCKS);
+}
+
+#[test]
+fn inputs(rt: HostRuntime) {
     for (input, status, notes) in INPUTS {
-        let input = Vec::from_slice(rt.alloc(), input.as_bytes())?;
-        expect_on(&rt, rt.alloc(), &RUN, READS, input, status, "12", notes)?;
+        let input = copy(rt.alloc(), input.as_bytes());
+        expect_on(&rt, rt.alloc(), &RUN, READS, input, status, "12", notes);
     }
-    Ok(())
 }
 
-// A sum of so many ones.
-fn ones(alloc: Global, count: usize) -> Result<String, AllocError> {
-    let mut text = String::from_str(alloc, "program l; begin write(1")?;
-    for _ in 1..count {
-        text.push_str("+1")?;
-    }
-    text.push_str(") end.")?;
-    Ok(text)
-}
-
-// The caller's own stack would not hold it.
+// The caller's own stack would not hold the sum of so many ones.
 #[test]
-fn a_long_sum(rt: HostRuntime) -> Result<(), Fail> {
-    let text = ones(rt.alloc(), 40_000)?;
-    expect(&rt, rt.alloc(), &RUN, &text, 0, "40000", ORDERED)
-}
-
-#[test]
-fn the_longest_text(rt: HostRuntime) -> Result<(), Fail> {
-    let mut text = String::from_str(rt.alloc(), ANSWER)?;
-    for _ in text.len()..1_048_576 {
-        text.push_str(" ")?;
-    }
-    expect(&rt, rt.alloc(), &RUN, &text, 0, "42", ORDERED)
+fn a_long_sum_and_the_longest_text(rt: HostRuntime) {
+    let alloc = rt.alloc();
+    let sum = repeated(alloc, "program l; begin write(1", "+1", 39_999, ") end.");
+    expect(&rt, alloc, &RUN, &sum, 0, "40000", ORDERED);
+    let longest = repeated(alloc, ANSWER, " ", 1_048_576 - ANSWER.len(), "");
+    expect(&rt, alloc, &RUN, &longest, 0, "42", ORDERED);
 }

@@ -4,7 +4,6 @@ use crate::calls::{ANSWER, expect, expect_texts};
 use std::alloc::Global;
 use std::process::Abort;
 use std::sync::Wait;
-use std::test::Fail;
 use std::thread::Threads;
 
 const ACCEPTED: [(&str, &str, &str); 4] = [
@@ -18,18 +17,6 @@ const ACCEPTED: [(&str, &str, &str); 4] = [
     // what would fault when it runs
     ("program h; begin write(7 mod 0) end.", "", "accepted\n"),
 ];
-
-#[test]
-fn accepted_texts(rt: HostRuntime) -> Result<(), Fail> {
-    expect_texts(&rt, rt.alloc(), &["check", "a.sp"], 0, &ACCEPTED)
-}
-
-#[test]
-fn the_code_of_a_text(rt: HostRuntime) -> Result<(), Fail> {
-    let listing =
-        "0 addr 0 2\n1 const 6\n2 store\n3 addr 0 2\n4 load\n5 const 7\n6 mul\n7 write int\n8 end\n";
-    expect(&rt, rt.alloc(), &["code", "a.sp"], ANSWER, 0, listing, "")
-}
 
 const SETS: [(&str, &str, &str); 6] = [
     (
@@ -63,8 +50,13 @@ const SETS: [(&str, &str, &str); 6] = [
 ];
 
 #[test]
-fn sets_of_texts(rt: HostRuntime) -> Result<(), Fail> {
-    expect_texts(&rt, rt.alloc(), &["sets", "a.sp"], 0, &SETS)
+fn accepted_texts_their_code_and_their_sets(rt: HostRuntime) {
+    let alloc = rt.alloc();
+    expect_texts(&rt, alloc, &["check", "a.sp"], 0, &ACCEPTED);
+    let listing =
+        "0 addr 0 2\n1 const 6\n2 store\n3 addr 0 2\n4 load\n5 const 7\n6 mul\n7 write int\n8 end\n";
+    expect(&rt, alloc, &["code", "a.sp"], ANSWER, 0, listing, "");
+    expect_texts(&rt, alloc, &["sets", "a.sp"], 0, &SETS);
 }
 
 // Asserts the layout of a text, and that it is its own layout.
@@ -73,11 +65,10 @@ fn expect_layout<R: Threads + Wait + Sync + Abort>(
     alloc: Global,
     text: &str,
     layout: &str,
-) -> Result<(), Fail> {
+) {
     for text in [text, layout] {
-        expect(rt, alloc, &["format", "a.sp"], text, 0, layout, "")?;
+        expect(rt, alloc, &["format", "a.sp"], text, 0, layout, "");
     }
-    Ok(())
 }
 
 const LAYOUTS: [(&str, &str); 3] = [
@@ -97,9 +88,8 @@ const LAYOUTS: [(&str, &str); 3] = [
 ];
 
 #[test]
-fn layouts_of_texts(rt: HostRuntime) -> Result<(), Fail> {
+fn layouts_of_texts(rt: HostRuntime) {
     for (text, layout) in LAYOUTS {
-        expect_layout(&rt, rt.alloc(), text, layout)?;
+        expect_layout(&rt, rt.alloc(), text, layout);
     }
-    Ok(())
 }

@@ -1,12 +1,10 @@
 //! Witnesses of races, and replays of them.
 
-use crate::calls::{Given, NONE, call, call_along, expect_given, expect_texts, source};
+use crate::calls::{Given, NONE, call_along, call_failing, expect_given, expect_texts, source};
 use crate::workers::PIPE;
-use sp_outside::OpenGate;
 use std::alloc::Global;
 use std::process::Abort;
 use std::sync::Wait;
-use std::test::Fail;
 use std::thread::Threads;
 
 // Two senders on one channel.
@@ -56,11 +54,6 @@ const DONE: [(&str, &str, &str); 5] = [
     (PIPE, "", "done\nordered\n"),
 ];
 
-#[test]
-fn witnesses(rt: HostRuntime) -> Result<(), Fail> {
-    expect_texts(&rt, rt.alloc(), &WITNESS, 0, &DONE)
-}
-
 // The same of a run that ends in a deadlock.
 const DEADLOCKED: [(&str, &str, &str); 1] = [(
     STUCK,
@@ -69,20 +62,15 @@ const DEADLOCKED: [(&str, &str, &str); 1] = [(
 )];
 
 #[test]
-fn a_witness_of_a_deadlock(rt: HostRuntime) -> Result<(), Fail> {
-    expect_texts(&rt, rt.alloc(), &WITNESS, 4, &DEADLOCKED)
+fn witnesses(rt: HostRuntime) {
+    expect_texts(&rt, rt.alloc(), &WITNESS, 0, &DONE);
+    expect_texts(&rt, rt.alloc(), &WITNESS, 4, &DEADLOCKED);
 }
 
 // What `witness` gives of this text with so many workers.
-fn witness_of<R: Threads + Wait + Sync>(
-    rt: &R,
-    alloc: Global,
-    text: &str,
-    workers: &str,
-) -> Result<Given, Fail> {
+fn witness_of<R: Threads + Wait + Sync>(rt: &R, alloc: Global, text: &str, workers: &str) -> Given {
     let words = ["witness", "--workers", workers, "a.sp"];
-    let mut input = source(alloc, Vec::new(alloc));
-    Ok(call(rt, alloc, &words, text, &mut input, NONE, &OpenGate)?)
+    call_failing(rt, alloc, &words, text, NONE)
 }
 
 // Asserts that following this journal ends in a fault F6 of one of the two senders.
@@ -91,18 +79,18 @@ fn expect_contention<R: Threads + Wait + Sync + Abort>(
     alloc: Global,
     text: &str,
     journal: &[u8],
-) -> Result<(), Fail> {
+) {
     let words = ["replay", "a.sp", "j"];
     let mut input = source(alloc, Vec::new(alloc));
-    let given = call_along(rt, alloc, &words, text, journal, &mut input, NONE)?;
+    let given = call_along(rt, alloc, &words, text, journal, &mut input, NONE);
+    drop(input);
     let later = given.notes.as_slice() == "replayed\nfault F6 0/0.1\n".as_bytes();
     let notes = if later {
         "replayed\nfault F6 0/0.1\n"
     } else {
         "replayed\nfault F6 0/0.2\n"
     };
-    expect_given(rt, &given, 3, false, "", notes, text);
-    Ok(())
+    expect_given(rt, given, 3, false, "", notes, text);
 }
 
 // The witness of a race is followed to its fault. Where the two offers contended in the run itself, there is no verdict.
@@ -111,22 +99,22 @@ fn expect_followed<R: Threads + Wait + Sync + Abort>(
     alloc: Global,
     text: &str,
     workers: &str,
-) -> Result<(), Fail> {
-    let given = witness_of(rt, alloc, text, workers)?;
+) {
+    let given = witness_of(rt, alloc, text, workers);
     assert!(rt; given.ran, "{workers}");
     if given.status == 3 {
-        assert_eq!(rt; given.output.len(), 0, "{workers}");
-        return Ok(());
+        assert!(rt; given.output.is_empty(), "{workers}");
+    } else {
+        expect_contention(rt, alloc, text, given.output.as_slice());
     }
-    expect_contention(rt, alloc, text, given.output.as_slice())
+    drop(given);
 }
 
 #[test]
-fn witnesses_are_followed(rt: HostRuntime) -> Result<(), Fail> {
+fn witnesses_are_followed(rt: HostRuntime) {
     for text in [SENDERS, RECEIVERS, PAUSING, STUCK] {
         for workers in ["1", "2", "8"] {
-            expect_followed(&rt, rt.alloc(), text, workers)?;
+            expect_followed(&rt, rt.alloc(), text, workers);
         }
     }
-    Ok(())
 }

@@ -6,7 +6,6 @@ use std::alloc::Global;
 use std::process::Abort;
 use std::sync::Wait;
 use std::sync::atomic::{AtomicU64, Ordering};
-use std::test::Fail;
 use std::thread::Threads;
 
 /// A pipeline of three processes.
@@ -18,14 +17,13 @@ pub const TREE: &str =
     "program tree;\ntype chan = *(integer);\nvar c: chan; r: integer;\nprocedure node(d: integer; up: chan);\nvar a, b: chan; x, y: integer;\nbegin\n  if d = 0 then send(up, 1)\n  else begin\n    open(a, b);\n    parallel node(d - 1, a) | node(d - 1, b)\n    | receive(a, x); receive(b, y); send(up, x + y)\n    end\n  end\nend;\nbegin\n  open(c);\n  parallel node(4, c) | receive(c, r) end;\n  write(r)\nend.";
 
 #[test]
-fn any_number_of_workers(rt: HostRuntime) -> Result<(), Fail> {
+fn any_number_of_workers(rt: HostRuntime) {
     for (text, output) in [(PIPE, "13"), (TREE, "16")] {
         for workers in ["1", "2", "8"] {
             let words = ["run", "--workers", workers, "a.sp"];
-            expect(&rt, rt.alloc(), &words, text, 0, output, ORDERED)?;
+            expect(&rt, rt.alloc(), &words, text, 0, output, ORDERED);
         }
     }
-    Ok(())
 }
 
 const GENERATED: [(&str, &str); 2] = [
@@ -37,18 +35,14 @@ const GENERATED: [(&str, &str); 2] = [
 ];
 
 #[test]
-fn generated_programs(rt: HostRuntime) -> Result<(), Fail> {
+fn generated_programs(rt: HostRuntime) {
+    let alloc = rt.alloc();
     for (size, output) in GENERATED {
-        expect(&rt, rt.alloc(), &["gen", size], "", 0, output, "")?;
+        expect(&rt, alloc, &["gen", size], "", 0, output, "");
     }
-    Ok(())
-}
-
-#[test]
-fn a_large_generated_program(rt: HostRuntime) -> Result<(), Fail> {
     let words = ["gen", "2000", "--workers", "1"];
     let output = "size 2000\noutput 20010055\nentries 44027\ndone\nordered\n";
-    expect(&rt, rt.alloc(), &words, "", 0, output, "")
+    expect(&rt, alloc, &words, "", 0, output, "");
 }
 
 /// Lets process 1 enter once process 2 has, and notes where it has not seen this in so many looks.
@@ -94,12 +88,12 @@ fn expect_through<R: Threads + Wait + Sync + Abort>(
     alloc: Global,
     workers: &str,
     gate: &Meeting,
-) -> Result<(), Fail> {
+) {
     let words = ["run", "--workers", workers, "a.sp"];
     let mut input = source(alloc, Vec::new(alloc));
-    let given = call(rt, alloc, &words, TWO, &mut input, NONE, gate)?;
-    expect_given(rt, &given, 0, true, "12", ORDERED, TWO);
-    Ok(())
+    let given = call(rt, alloc, &words, TWO, &mut input, NONE, gate);
+    drop(input);
+    expect_given(rt, given, 0, true, "12", ORDERED, TWO);
 }
 
 // Asserts what such a run gives, and whether process 1 has missed process 2.
@@ -109,20 +103,17 @@ fn expect_meeting<R: Threads + Wait + Sync + Abort>(
     workers: &str,
     looks: u64,
     missed: u64,
-) -> Result<(), Fail> {
+) {
     let gate = Meeting::new(looks);
-    expect_through(rt, alloc, workers, &gate)?;
-    assert_eq!(rt; gate.missed.load(Ordering::SeqCst), missed);
-    Ok(())
+    expect_through(rt, alloc, workers, &gate);
+    let found = gate.missed.load(Ordering::SeqCst);
+    drop(gate);
+    assert_eq!(rt; found, missed);
 }
 
-// The one worker takes process 1 first, and enters with it before it takes process 2.
+// The one worker takes process 1 first, and enters with it before it takes process 2; two workers are in a turn at once.
 #[test]
-fn one_worker_is_in_one_turn_at_once(rt: HostRuntime) -> Result<(), Fail> {
-    expect_meeting(&rt, rt.alloc(), "1", 1000, 1)
-}
-
-#[test]
-fn two_workers_are_in_a_turn_at_once(rt: HostRuntime) -> Result<(), Fail> {
-    expect_meeting(&rt, rt.alloc(), "2", 1_000_000_000, 0)
+fn turns_at_once(rt: HostRuntime) {
+    expect_meeting(&rt, rt.alloc(), "1", 1000, 1);
+    expect_meeting(&rt, rt.alloc(), "2", 1_000_000_000, 0);
 }
