@@ -60,6 +60,7 @@ fn add_command(all: &mut Vec<u8>, command: &Command) {
         Command::Code(file) => add_named(all, b"code", file),
         Command::Sets(file) => add_named(all, b"sets", file),
         Command::Format(file) => add_named(all, b"format", file),
+        Command::Build(file) => add_named(all, b"build", file),
         Command::Run {
             file,
             workers,
@@ -125,11 +126,13 @@ fn asks(alloc: Global, line: &[&str], wanted: &str) -> bool {
 /// A command line, and what it asks for.
 type Row = (&'static [&'static str], &'static str);
 
-const LINES: [Row; 35] = [
+const LINES: [Row; 37] = [
     (&["check", "a"], "check a"),
     (&["code", "a"], "code a"),
     (&["sets", "--", "-a"], "sets -a"),
     (&["format", "a.sp"], "format a.sp"),
+    (&["build", "a.sp"], "build a.sp"),
+    (&["build", "a", "--workers=2"], "bad words"),
     (
         &["run", ""],
         "run  4 10000000 1000 4194304 100000 100000 1000000 16777216 End",
