@@ -41,3 +41,8 @@ pub mod KeptRows
 pub mod AnswerRow
 pub mod AnswerForks
 pub mod Printing
+pub mod Leasts
+pub mod BlockLaws
+pub mod Beginnings
+pub mod Failing
+pub mod Alone

@@ -18,3 +18,6 @@ pub mod Clashing
 pub mod Verdict
 pub mod Activations
 pub mod CodeText
+pub mod Least
+pub mod Blocks
+pub mod Alone
