@@ -264,7 +264,7 @@ pub enum Ended {
     Memory,
 }
 
-fn ended(meant: &Meant) -> Ended {
+fn how_it_ended(meant: &Meant) -> Ended {
     match &meant.end {
         None => Ended::NotYet,
         Some(End::Done) => Ended::Done,
@@ -275,7 +275,7 @@ fn ended(meant: &Meant) -> Ended {
 }
 
 fn is_so(meant: &Meant, steps: u64, output: &[u8], end: Ended) -> bool {
-    meant.steps == steps && meant.output.bytes() == output && ended(meant) == end
+    meant.steps == steps && meant.output.bytes() == output && how_it_ended(meant) == end
 }
 
 /// Whether a run made so many steps, wrote that, and ended so.
@@ -294,7 +294,7 @@ pub fn is_run(meant: Result<Meant, Memory>, steps: u64, output: &[u8], end: Ende
 pub fn fault_of(meant: Result<Meant, Memory>) -> Option<Fault> {
     match meant {
         Ok(meant) => {
-            let end = ended(&meant);
+            let end = how_it_ended(&meant);
             drop(meant);
             match end {
                 Ended::Fault(fault) => Some(fault),
