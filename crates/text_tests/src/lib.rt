@@ -5,8 +5,6 @@
 #[cfg(test)]
 mod generated;
 #[cfg(test)]
-mod made;
-#[cfg(test)]
 mod outside;
 #[cfg(test)]
 mod print;

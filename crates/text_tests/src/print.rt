@@ -1,9 +1,10 @@
 //! The lines of refusals, ends and verdicts.
 
-use sp_base::{ChanName, Fault, List, Memory, Place, ProcName, Refusal, Rule};
+use sp_base::{ChanName, Fault, List, Place, ProcName, Refusal, Rule};
 use sp_journal::{End, Verdict, Waiter, Way};
 use sp_print::{end_lines, refusal_line, verdict_line};
 use std::alloc::Global;
+use std::test::Fail;
 
 fn root(alloc: Global) -> ProcName {
     ProcName {
@@ -11,52 +12,39 @@ fn root(alloc: Global) -> ProcName {
     }
 }
 
-fn channel(alloc: Global) -> ChanName {
-    ChanName {
-        owner: root(alloc),
+#[test]
+fn a_deadlock(rt: HostRuntime) -> Result<(), Fail> {
+    let channel = ChanName {
+        owner: root(rt.alloc()),
         nth: 0,
-    }
-}
-
-// A process that waits to receive.
-fn waiting(alloc: Global) -> List<Waiter> {
-    let mut waiters = List::new(alloc);
-    let _ = waiters.push(Waiter {
-        process: root(alloc),
+    };
+    let mut waiters = List::new(rt.alloc());
+    waiters.push(Waiter {
+        process: root(rt.alloc()),
         way: Way::Receive,
-        channel: channel(alloc),
-    });
-    waiters
-}
-
-fn is_line(line: Result<Vec<u8>, Memory>, wanted: &[u8]) -> bool {
-    match line {
-        Ok(line) => line.as_slice() == wanted,
-        Err(_) => false,
-    }
-}
-
-// Whether an end has these lines.
-fn ends(alloc: Global, end: End, wanted: &[u8]) -> bool {
-    let lines = end_lines(alloc, &end);
-    drop(end);
-    is_line(lines, wanted)
+        channel,
+    })?;
+    let lines = end_lines(rt.alloc(), &End::Deadlock(waiters))?;
+    assert_eq!(rt;
+        lines.as_slice(),
+        b"deadlock\nwaits 0 receive 0#0\n".as_slice()
+    );
+    Ok(())
 }
 
 #[test]
-fn ends_of_runs(rt: HostRuntime) {
-    let alloc = rt.alloc();
-    let deadlock = End::Deadlock(waiting(alloc));
-    assert!(rt; ends(alloc, deadlock, b"deadlock\nwaits 0 receive 0#0\n"));
+fn a_fault(rt: HostRuntime) -> Result<(), Fail> {
     let fault = End::Fault {
-        process: root(alloc),
+        process: root(rt.alloc()),
         fault: Fault::F5,
     };
-    assert!(rt; ends(alloc, fault, b"fault F5 0\n"));
+    let lines = end_lines(rt.alloc(), &fault)?;
+    assert_eq!(rt; lines.as_slice(), b"fault F5 0\n".as_slice());
+    Ok(())
 }
 
 #[test]
-fn a_refusal(rt: HostRuntime) {
+fn a_refusal(rt: HostRuntime) -> Result<(), Fail> {
     let refusal = Refusal {
         rule: Rule::G2,
         at: Place {
@@ -64,18 +52,23 @@ fn a_refusal(rt: HostRuntime) {
             column: 54,
         },
     };
-    assert!(rt; is_line(refusal_line(rt.alloc(), refusal), b"refused G2 1:54\n"));
+    let line = refusal_line(rt.alloc(), refusal)?;
+    assert_eq!(rt; line.as_slice(), b"refused G2 1:54\n".as_slice());
+    Ok(())
 }
 
 #[test]
-fn a_race(rt: HostRuntime) {
+fn a_race(rt: HostRuntime) -> Result<(), Fail> {
     let race = Verdict::Race {
         way: Way::Send,
-        channel: channel(rt.alloc()),
+        channel: ChanName {
+            owner: root(rt.alloc()),
+            nth: 0,
+        },
         earlier: 3,
         later: 4,
     };
-    let line = verdict_line(rt.alloc(), &race);
-    drop(race);
-    assert!(rt; is_line(line, b"race send 0#0 3 4\n"));
+    let line = verdict_line(rt.alloc(), &race)?;
+    assert_eq!(rt; line.as_slice(), b"race send 0#0 3 4\n".as_slice());
+    Ok(())
 }
