@@ -230,9 +230,10 @@ module _ (f : Files) (s : Stream) (reports : Reports) (w : Option Command) (a : 
 
     -- a text whose code is too long for a file is kept
     long_code : (c : Command) → w ≡ Some c → IsLongCode f c a → asks_build d × HasLongCode text
-    long_code c u h =
-        (subst asks_build (one_command w d c v u) h.builds,
-        subst HasLongCode (of_text (λ x. h.text ≡ x) c u h.loaded) h.long)
+    long_code c u h = (
+      subst asks_build (one_command w d c v u) h.builds,
+      subst HasLongCode (of_text (λ x. h.text ≡ x) c u h.loaded) h.long,
+    )
 
     long_keeps : (c : Command) → w ≡ Some c → IsLongCode f c a → Keeps d text
     long_keeps c u h = let k = long_code c u h in build_keeps d text k.0 (code_text_keeps text k.1.0 k.1.1)
