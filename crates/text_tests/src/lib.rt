@@ -5,6 +5,8 @@
 #[cfg(test)]
 mod generated;
 #[cfg(test)]
+mod made;
+#[cfg(test)]
 mod outside;
 #[cfg(test)]
 mod print;

@@ -1,82 +1,132 @@
 //! What words ask for, row by row.
 
+use crate::made::add;
+use sp_base::{Limits, Show, Word, put_decimal};
 use sp_words::{Command, WordsError, read_words};
-use std::alloc::{AllocError, Global};
-use std::process::Abort;
+use std::alloc::Global;
 
-/// The words as a command line in one text: the command, its file or its size and, of `run` and `gen`, the workers;
-/// of `run` the limits in their order and the report too, of `witness` the limits, and of `replay` the journal and the
-/// limits.
-fn reading(alloc: Global, line: &[&str]) -> Result<String, AllocError> {
+// The words of a line. Where no memory is left they are fewer.
+fn words_of(alloc: Global, line: &[&str]) -> Vec<String> {
     let mut words = Vec::new(alloc);
     for word in line {
-        words.push(String::from_str(alloc, word)?)?;
+        if let Ok(word) = String::from_str(alloc, word) {
+            let _ = words.push(word);
+        }
     }
-    match read_words(alloc, words.as_slice()) {
-        Ok(command) => shown(alloc, &command),
-        Err(WordsError::Refused) => String::from_str(alloc, "bad words"),
-        Err(WordsError::Memory) => Err(AllocError),
+    words
+}
+
+// A blank and a number.
+fn add_number(all: &mut Vec<u8>, number: u64) {
+    add(all, b" ");
+    let _ = put_decimal(all, number);
+}
+
+// A word, a blank and the name of a text.
+fn add_named(all: &mut Vec<u8>, word: &[u8], name: &Word) {
+    add(all, word);
+    add(all, b" ");
+    add(all, name.text().as_bytes());
+}
+
+fn add_limits(all: &mut Vec<u8>, limits: &Limits) {
+    add_number(all, limits.ticks);
+    add_number(all, limits.depth as u64);
+    add_number(all, limits.cells as u64);
+    add_number(all, limits.processes as u64);
+    add_number(all, limits.channels as u64);
+    add_number(all, limits.entries as u64);
+    add_number(all, limits.output);
+}
+
+fn show_text(show: Show) -> &'static [u8] {
+    match show {
+        Show::End => b" End",
+        Show::Timeline => b" Timeline",
+        Show::Census => b" Census",
+        Show::Tree => b" Tree",
+        Show::Waiting => b" Waiting",
+        Show::All => b" All",
+        Show::Journal => b" Journal",
     }
 }
 
-fn shown(alloc: Global, command: &Command) -> Result<String, AllocError> {
+/// The words as a command line in one text: the command, its file or its size and, of `run`, `gen` and `witness`, the
+/// workers; of `run` the limits in their order and the report too, of `witness` the limits, and of `replay` the journal
+/// and the limits.
+fn add_command(all: &mut Vec<u8>, command: &Command) {
     match command {
-        Command::Check(file) => format!(in alloc; "check {}", file.text()),
-        Command::Code(file) => format!(in alloc; "code {}", file.text()),
-        Command::Sets(file) => format!(in alloc; "sets {}", file.text()),
-        Command::Format(file) => format!(in alloc; "format {}", file.text()),
-        Command::Build(file) => format!(in alloc; "build {}", file.text()),
+        Command::Check(file) => add_named(all, b"check", file),
+        Command::Code(file) => add_named(all, b"code", file),
+        Command::Sets(file) => add_named(all, b"sets", file),
+        Command::Format(file) => add_named(all, b"format", file),
+        Command::Build(file) => add_named(all, b"build", file),
         Command::Run {
             file,
             workers,
             limits,
             show,
         } => {
-            let name = file.text();
-            let counts = limited(alloc, limits)?;
-            format!(in alloc; "run {name} {workers} {counts} {show:?}")
+            add_named(all, b"run", file);
+            add_number(all, *workers as u64);
+            add_limits(all, limits);
+            add(all, show_text(*show));
         }
-        Command::Gen { size, workers } => format!(in alloc; "gen {size} {workers}"),
+        Command::Gen { size, workers } => {
+            add(all, b"gen");
+            add_number(all, *size as u64);
+            add_number(all, *workers as u64);
+        }
         Command::Replay {
             file,
             journal,
             limits,
         } => {
-            let counts = limited(alloc, limits)?;
-            format!(in alloc; "replay {} {} {counts}", file.text(), journal.text())
+            add_named(all, b"replay", file);
+            add_named(all, b"", journal);
+            add_limits(all, limits);
         }
         Command::Witness {
             file,
             workers,
             limits,
         } => {
-            let counts = limited(alloc, limits)?;
-            format!(in alloc; "witness {} {workers} {counts}", file.text())
+            add_named(all, b"witness", file);
+            add_number(all, *workers as u64);
+            add_limits(all, limits);
         }
     }
 }
 
-fn limited(alloc: Global, limits: &sp_base::Limits) -> Result<String, AllocError> {
-    let processes = format!(in alloc;
-        "{} {} {}",
-        limits.processes, limits.channels, limits.entries
-    )?;
-    format!(in alloc;
-        "{} {} {} {processes} {}",
-        limits.ticks, limits.depth, limits.cells, limits.output
-    )
+fn is_shown(alloc: Global, command: &Command, wanted: &str) -> bool {
+    let mut all = Vec::new(alloc);
+    add_command(&mut all, command);
+    all.as_slice() == wanted.as_bytes()
 }
 
-fn check(rt: &impl Abort, alloc: Global, line: &[&str], expected: &str) -> Result<(), AllocError> {
-    let text = reading(alloc, line)?;
-    assert_eq!(rt; text.as_str(), expected);
-    Ok(())
+// Whether the answer is this command, or that the words are bad.
+fn is_answer(alloc: Global, answer: &Result<Command, WordsError>, wanted: &str) -> bool {
+    match answer {
+        Ok(command) => is_shown(alloc, command, wanted),
+        Err(WordsError::Refused) => wanted == "bad words",
+        Err(WordsError::Memory) => false,
+    }
+}
+
+// Whether that is what the words ask for.
+fn asks(alloc: Global, line: &[&str], wanted: &str) -> bool {
+    let words = words_of(alloc, line);
+    let answer = read_words(alloc, words.as_slice());
+    drop(words);
+    let asks = is_answer(alloc, &answer, wanted);
+    drop(answer);
+    asks
 }
 
 /// A command line, and what it asks for.
 type Row = (&'static [&'static str], &'static str);
 
-const COMMANDS: [Row; 10] = [
+const LINES: [Row; 37] = [
     (&["check", "a"], "check a"),
     (&["code", "a"], "code a"),
     (&["sets", "--", "-a"], "sets -a"),
@@ -90,17 +140,6 @@ const COMMANDS: [Row; 10] = [
     (&[], "bad words"),
     (&["gone", "a"], "bad words"),
     (&["check", "a", "--workers=2"], "bad words"),
-];
-
-#[test]
-fn commands(rt: HostRuntime) -> Result<(), AllocError> {
-    for (line, expected) in COMMANDS {
-        check(&rt, rt.alloc(), line, expected)?;
-    }
-    Ok(())
-}
-
-const SIZES: [Row; 15] = [
     (&["gen", "3"], "gen 3 4"),
     (&["gen", "--workers=64", "1"], "gen 1 64"),
     (&["gen", "--workers", "1", "--", "+02000"], "gen 2000 1"),
@@ -116,17 +155,6 @@ const SIZES: [Row; 15] = [
     (&["gen", ""], "bad words"),
     (&["gen", "1."], "bad words"),
     (&["gen", "n"], "bad words"),
-];
-
-#[test]
-fn sizes(rt: HostRuntime) -> Result<(), AllocError> {
-    for (line, expected) in SIZES {
-        check(&rt, rt.alloc(), line, expected)?;
-    }
-    Ok(())
-}
-
-const REPLAYS: [Row; 4] = [
     (
         &["replay", "a.sp", "a.journal"],
         "replay a.sp a.journal 10000000 1000 4194304 100000 100000 1000000 16777216",
@@ -160,33 +188,6 @@ const REPLAYS: [Row; 4] = [
         &["replay", "a", "--", "a"],
         "replay a a 10000000 1000 4194304 100000 100000 1000000 16777216",
     ),
-];
-
-#[test]
-fn replays(rt: HostRuntime) -> Result<(), AllocError> {
-    for (line, expected) in REPLAYS {
-        check(&rt, rt.alloc(), line, expected)?;
-    }
-    Ok(())
-}
-
-const REPLAYS_REFUSED: [&[&str]; 5] = [
-    &["replay", "a"],
-    &["replay", "a", "b", "c"],
-    &["replay", "a", "b", "--workers", "2"],
-    &["replay", "a", "b", "--show=end"],
-    &["replay", "a", "b", "--ticks", "0"],
-];
-
-#[test]
-fn replays_refused(rt: HostRuntime) -> Result<(), AllocError> {
-    for line in REPLAYS_REFUSED {
-        check(&rt, rt.alloc(), line, "bad words")?;
-    }
-    Ok(())
-}
-
-const WITNESSES: [Row; 6] = [
     (
         &["witness", "a.sp"],
         "witness a.sp 4 10000000 1000 4194304 100000 100000 1000000 16777216",
@@ -199,37 +200,6 @@ const WITNESSES: [Row; 6] = [
     (&["witness", "a", "b"], "bad words"),
     (&["witness", "a", "--show=end"], "bad words"),
     (&["witness", "a", "--workers=65"], "bad words"),
-];
-
-#[test]
-fn witnesses(rt: HostRuntime) -> Result<(), AllocError> {
-    for (line, expected) in WITNESSES {
-        check(&rt, rt.alloc(), line, expected)?;
-    }
-    Ok(())
-}
-
-const REFUSED: [&[&str]; 9] = [
-    &["run"],
-    &["run", "--workers", "0", "a"],
-    &["run", "--workers", "-1", "a"],
-    &["run", "--workers", "--", "a"],
-    &["run", "-x", "a"],
-    &["run", "-"],
-    &["run", "a", "b"],
-    &["run", "a", "--ticks", "1", "--ticks=1"],
-    &["run", "--", "a", "--ticks=1"],
-];
-
-#[test]
-fn words_refused(rt: HostRuntime) -> Result<(), AllocError> {
-    for line in REFUSED {
-        check(&rt, rt.alloc(), line, "bad words")?;
-    }
-    Ok(())
-}
-
-const RANGES: [Row; 2] = [
     (
         &[
             "run",
@@ -269,11 +239,34 @@ const RANGES: [Row; 2] = [
 ];
 
 #[test]
-fn least_and_greatest(rt: HostRuntime) -> Result<(), AllocError> {
-    for (line, expected) in RANGES {
-        check(&rt, rt.alloc(), line, expected)?;
+fn command_lines(rt: HostRuntime) {
+    for (line, wanted) in LINES {
+        assert!(rt; asks(rt.alloc(), line, wanted), "{wanted}");
     }
-    Ok(())
+}
+
+const REFUSED: [&[&str]; 14] = [
+    &["replay", "a"],
+    &["replay", "a", "b", "c"],
+    &["replay", "a", "b", "--workers", "2"],
+    &["replay", "a", "b", "--show=end"],
+    &["replay", "a", "b", "--ticks", "0"],
+    &["run"],
+    &["run", "--workers", "0", "a"],
+    &["run", "--workers", "-1", "a"],
+    &["run", "--workers", "--", "a"],
+    &["run", "-x", "a"],
+    &["run", "-"],
+    &["run", "a", "b"],
+    &["run", "a", "--ticks", "1", "--ticks=1"],
+    &["run", "--", "a", "--ticks=1"],
+];
+
+#[test]
+fn words_refused(rt: HostRuntime) {
+    for line in REFUSED {
+        assert!(rt; asks(rt.alloc(), line, "bad words"), "{line:?}");
+    }
 }
 
 const BEYOND: [&str; 17] = [
@@ -297,9 +290,11 @@ const BEYOND: [&str; 17] = [
 ];
 
 #[test]
-fn beyond_each_range(rt: HostRuntime) -> Result<(), AllocError> {
+fn beyond_each_range(rt: HostRuntime) {
     for word in BEYOND {
-        check(&rt, rt.alloc(), &["run", word, "a"], "bad words")?;
+        assert!(rt;
+            asks(rt.alloc(), &["run", word, "a"], "bad words"),
+            "{word}"
+        );
     }
-    Ok(())
 }
