@@ -46,3 +46,14 @@ pub mod BlockLaws
 pub mod Beginnings
 pub mod Failing
 pub mod Alone
+mod Printing
+mod WordLaws
+mod LeftLaws
+mod InstrLaws
+mod ItemLaws
+mod LeadLaws
+mod LineLaws
+mod ReadLaws
+mod LayoutLaws
+mod KindLaws
+mod OneLaws

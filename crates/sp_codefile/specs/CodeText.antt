@@ -106,8 +106,10 @@ pub record ChildFits (c : ChildTable) : Type 0 where
   pub shared : All IsNumber c.shared
   pub index : MayBeNumber c.index
 
-abbrev pub TableFits : ForkTable → Type 0
-TableFits t = All ChildFits t.children
+-- its children have numbers of 64 bits
+pub record TableFits (t : ForkTable) : Type 0 where
+  pub count : length t.children < 2 ^ 64
+  pub children : All ChildFits t.children
 
 abbrev pub IsByte : ℕ → Type 0
 IsByte b = b < 256

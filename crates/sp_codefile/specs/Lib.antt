@@ -21,3 +21,8 @@ pub mod CodeText
 pub mod Least
 pub mod Blocks
 pub mod Alone
+pub mod Cuts
+pub mod Decoding
+pub mod Items
+pub mod Lines
+pub mod Opcodes

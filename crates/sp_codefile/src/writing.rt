@@ -1,8 +1,7 @@
 //! Code written as text.
 
-ghost use Rattle.std.specs.Prelude.{◌≡◌, ◌++◌, All, IfOk, OnOk, codes, decimal};
+ghost use Rattle.std.specs.Prelude.{◌≡◌, ◌++◌, ◌^◌, ◌<◌, All, IfOk, OnOk, codes, decimal, false, length};
 ghost use Rattle.std.specs.List.{flat_map};
-ghost use Rattle.std.specs.Prelude.{◌<◌, false};
 ghost use Rattle.std.specs.Fmt.{digit_glyph};
 ghost use Rattle.sp_code.specs.Listing.{number_text, numbered, instr_text, instr_line};
 ghost use Rattle.sp_codefile.specs.CodeText.{parent_text, answer_text, formal_text, layout_text, byte_text, text_text, index_text, child_text, line, child_of, table_text, code_text};
@@ -250,6 +249,7 @@ fn put_instrs(out: &mut Vec<u8>, instrs: &[Instr]) -> Result<(), Memory>
 fn put_table(out: &mut Vec<u8>, table: usize, children: &[ChildTable]) -> Result<(), Memory>
     ensures text { OnOk result (out.new.items ≡ out.old.items ++ numbered (child_of table) 0 children.now) }
     ensures fits { OnOk result (All ChildFits children.now) }
+    ensures count { OnOk result (length children.now < 2 ^ 64) }
 {
     for (number, child) in children.iter().enumerate() {
         put_child(out, table, number, child)?;

@@ -1,4 +1,4 @@
-use Rattle.std.proofs.Common.{List, ◌++◌, All, arith, ap, subst, ◌∙◌}
+use Rattle.std.proofs.Common.{List, ◌++◌, ◌<◌, ◌^◌, length, All, arith, ap, subst, ◌∙◌}
 use Rattle.sp_code.specs.declared.code.ChildTable.{ChildTable}
 use Rattle.sp_code.specs.Listing.{numbered}
 use Rattle.sp_code.proofs.Numbered.{numbered_step}
@@ -12,5 +12,8 @@ loop-number-preserved c =
     let x = c.index-forks-number.result in record {
       text = numbered_step table_text c.args.forks.now n x c.args.out.now.items _ _ (omega arith) c.index-forks-number.is c.loop-number.invariant.text
           (c.in_ok-put_table.ensures.text ∙ ap (λ (xs : List ChildTable). c.loop-number.out.items ++ numbered (child_of n) 0 xs) c.items.ensures);
-      fits = fits_more TableFits c.args.forks.now n x (omega arith) c.index-forks-number.is c.loop-number.invariant.fits (subst (All ChildFits) c.items.ensures c.in_ok-put_table.ensures.fits);
+      fits = fits_more TableFits c.args.forks.now n x (omega arith) c.index-forks-number.is c.loop-number.invariant.fits (record {
+        count = subst (λ (xs : List ChildTable). length xs < 2 ^ 64) c.items.ensures c.in_ok-put_table.ensures.count;
+        children = subst (All ChildFits) c.items.ensures c.in_ok-put_table.ensures.fits;
+      });
     }

@@ -1,0 +1,5 @@
+//! Tests of code files. They stand above `sp_codefile`, so that it is proved once.
+#![tactic(auto)]
+
+#[cfg(test)]
+mod tests;

@@ -1,0 +1,438 @@
+-- Laws of instructions and their words.
+use Rattle.std.proofs.Common.{◌≡◌, ℕ, ◌^◌, ◌<◌, ◌&&◌, nat_le, Bool, true, false, not, ℤ, pos, List, [], ◌∷◌, ◌++◌, Option, Some, None, refl, sym, ap, ◌∙◌, subst, arith}
+use Rattle.std.specs.Fmt.{signed_decimal, decimal}
+use Rattle.std.specs.Int.Signed.{mag}
+use Rattle.std.specs.List.{flat_map}
+use Rattle.sp_code.specs.declared.instr.Instr.{Instr}
+use Rattle.sp_code.specs.declared.instr.Instr.TheVariants as i
+use Rattle.sp_code.specs.Listing.{word, operands, operand_text}
+use Rattle.sp_codefile.specs.declared.opcodes.Operand.{Operand}
+use Rattle.sp_codefile.specs.CodeText.{IsNumber, IsInteger, InstrFits}
+use Rattle.sp_codefile.specs.Cuts.{word_of, class_cut}
+use Rattle.sp_codefile.specs.Opcodes.{instr_named, filled}
+use Rattle.sp_codefile.proofs.WordLaws.{NoBlank, AtBlank, Outside, AtClass, follow, blank_at, class_at, signed_no_blank, begins_signed, integer_small}
+
+-- a word of letters and blanks
+abbrev lettered : List ℕ → Bool
+lettered [] = true
+lettered (x ∷ xs) = not (nat_le 45 x && nat_le x 57) && lettered xs
+
+both_left : (a b : Bool) → a && b ≡ true → a ≡ true
+both_left true b e = refl
+both_left false b e = absurd (cc e)
+
+both_right : (a b : Bool) → a && b ≡ true → b ≡ true
+both_right true b e = e
+both_right false b e = absurd (cc e)
+
+not_true : (b : Bool) → not b ≡ true → b ≡ false
+not_true true e = absurd (cc e)
+not_true false e = refl
+
+outside : (xs : List ℕ) → lettered xs ≡ true → Outside 45 57 xs
+outside [] e = tt
+outside (x ∷ xs) e = (not_true (nat_le 45 x && nat_le x 57) (both_left (not (nat_le 45 x && nat_le x 57)) (lettered xs) e), outside xs (both_right (not (nat_le 45 x && nat_le x 57)) (lettered xs) e))
+
+is_lettered : (x : Instr) → lettered (word x) ≡ true
+is_lettered (i.Const x) = refl
+is_lettered (i.Addr x y) = refl
+is_lettered (i.Deref x y) = refl
+is_lettered (i.Index x y z) = refl
+is_lettered (i.Field x) = refl
+is_lettered i.Load = refl
+is_lettered i.Loadc = refl
+is_lettered i.Store = refl
+is_lettered (i.Copy x) = refl
+is_lettered i.Add = refl
+is_lettered i.Sub = refl
+is_lettered i.Mul = refl
+is_lettered i.Div = refl
+is_lettered i.Mod = refl
+is_lettered i.Neg = refl
+is_lettered i.Abs = refl
+is_lettered i.Sqr = refl
+is_lettered i.Odd = refl
+is_lettered i.And = refl
+is_lettered i.Or = refl
+is_lettered i.Not = refl
+is_lettered i.Eq = refl
+is_lettered i.Ne = refl
+is_lettered i.Lt = refl
+is_lettered i.Le = refl
+is_lettered i.Gt = refl
+is_lettered i.Ge = refl
+is_lettered (i.Range x y) = refl
+is_lettered (i.Succ x) = refl
+is_lettered (i.Pred x) = refl
+is_lettered (i.Jump x) = refl
+is_lettered (i.Jumpf x) = refl
+is_lettered (i.Casej x y) = refl
+is_lettered i.Nocase = refl
+is_lettered i.Tick = refl
+is_lettered i.Assume = refl
+is_lettered (i.Forup x y) = refl
+is_lettered (i.Fordown x y) = refl
+is_lettered (i.Nextup x y) = refl
+is_lettered (i.Nextdown x y) = refl
+is_lettered (i.Call x y) = refl
+is_lettered i.Return = refl
+is_lettered i.ReadInt = refl
+is_lettered i.ReadChar = refl
+is_lettered i.Readln = refl
+is_lettered i.Eof = refl
+is_lettered i.Eoln = refl
+is_lettered i.WriteInt = refl
+is_lettered i.WriteChar = refl
+is_lettered i.WriteBool = refl
+is_lettered (i.WriteText x) = refl
+is_lettered i.WritewInt = refl
+is_lettered i.WritewChar = refl
+is_lettered i.WritewBool = refl
+is_lettered (i.WritewText x) = refl
+is_lettered i.Writeln = refl
+is_lettered (i.Pack x) = refl
+is_lettered i.Open = refl
+is_lettered (i.Send x) = refl
+is_lettered (i.Receive x) = refl
+is_lettered (i.Fork x) = refl
+is_lettered (i.Forall x) = refl
+is_lettered i.End = refl
+
+pub word_outside : (x : Instr) → Outside 45 57 (word x)
+word_outside x = outside (word x) (is_lettered x)
+
+-- the instruction with operands of 0
+abbrev pub plain : Instr → Instr
+plain (i.Const x) = i.Const (pos 0)
+plain (i.Addr x y) = i.Addr 0 0
+plain (i.Deref x y) = i.Deref 0 0
+plain (i.Index x y z) = i.Index (pos 0) (pos 0) 0
+plain (i.Field x) = i.Field 0
+plain i.Load = i.Load
+plain i.Loadc = i.Loadc
+plain i.Store = i.Store
+plain (i.Copy x) = i.Copy 0
+plain i.Add = i.Add
+plain i.Sub = i.Sub
+plain i.Mul = i.Mul
+plain i.Div = i.Div
+plain i.Mod = i.Mod
+plain i.Neg = i.Neg
+plain i.Abs = i.Abs
+plain i.Sqr = i.Sqr
+plain i.Odd = i.Odd
+plain i.And = i.And
+plain i.Or = i.Or
+plain i.Not = i.Not
+plain i.Eq = i.Eq
+plain i.Ne = i.Ne
+plain i.Lt = i.Lt
+plain i.Le = i.Le
+plain i.Gt = i.Gt
+plain i.Ge = i.Ge
+plain (i.Range x y) = i.Range (pos 0) (pos 0)
+plain (i.Succ x) = i.Succ (pos 0)
+plain (i.Pred x) = i.Pred (pos 0)
+plain (i.Jump x) = i.Jump 0
+plain (i.Jumpf x) = i.Jumpf 0
+plain (i.Casej x y) = i.Casej (pos 0) 0
+plain i.Nocase = i.Nocase
+plain i.Tick = i.Tick
+plain i.Assume = i.Assume
+plain (i.Forup x y) = i.Forup 0 0
+plain (i.Fordown x y) = i.Fordown 0 0
+plain (i.Nextup x y) = i.Nextup 0 0
+plain (i.Nextdown x y) = i.Nextdown 0 0
+plain (i.Call x y) = i.Call 0 0
+plain i.Return = i.Return
+plain i.ReadInt = i.ReadInt
+plain i.ReadChar = i.ReadChar
+plain i.Readln = i.Readln
+plain i.Eof = i.Eof
+plain i.Eoln = i.Eoln
+plain i.WriteInt = i.WriteInt
+plain i.WriteChar = i.WriteChar
+plain i.WriteBool = i.WriteBool
+plain (i.WriteText x) = i.WriteText 0
+plain i.WritewInt = i.WritewInt
+plain i.WritewChar = i.WritewChar
+plain i.WritewBool = i.WritewBool
+plain (i.WritewText x) = i.WritewText 0
+plain i.Writeln = i.Writeln
+plain (i.Pack x) = i.Pack 0
+plain i.Open = i.Open
+plain (i.Send x) = i.Send 0
+plain (i.Receive x) = i.Receive 0
+plain (i.Fork x) = i.Fork 0
+plain (i.Forall x) = i.Forall 0
+plain i.End = i.End
+
+pub named_plain : (x : Instr) → instr_named (word x) ≡ Some (plain x)
+named_plain (i.Const x) = refl
+named_plain (i.Addr x y) = refl
+named_plain (i.Deref x y) = refl
+named_plain (i.Index x y z) = refl
+named_plain (i.Field x) = refl
+named_plain i.Load = refl
+named_plain i.Loadc = refl
+named_plain i.Store = refl
+named_plain (i.Copy x) = refl
+named_plain i.Add = refl
+named_plain i.Sub = refl
+named_plain i.Mul = refl
+named_plain i.Div = refl
+named_plain i.Mod = refl
+named_plain i.Neg = refl
+named_plain i.Abs = refl
+named_plain i.Sqr = refl
+named_plain i.Odd = refl
+named_plain i.And = refl
+named_plain i.Or = refl
+named_plain i.Not = refl
+named_plain i.Eq = refl
+named_plain i.Ne = refl
+named_plain i.Lt = refl
+named_plain i.Le = refl
+named_plain i.Gt = refl
+named_plain i.Ge = refl
+named_plain (i.Range x y) = refl
+named_plain (i.Succ x) = refl
+named_plain (i.Pred x) = refl
+named_plain (i.Jump x) = refl
+named_plain (i.Jumpf x) = refl
+named_plain (i.Casej x y) = refl
+named_plain i.Nocase = refl
+named_plain i.Tick = refl
+named_plain i.Assume = refl
+named_plain (i.Forup x y) = refl
+named_plain (i.Fordown x y) = refl
+named_plain (i.Nextup x y) = refl
+named_plain (i.Nextdown x y) = refl
+named_plain (i.Call x y) = refl
+named_plain i.Return = refl
+named_plain i.ReadInt = refl
+named_plain i.ReadChar = refl
+named_plain i.Readln = refl
+named_plain i.Eof = refl
+named_plain i.Eoln = refl
+named_plain i.WriteInt = refl
+named_plain i.WriteChar = refl
+named_plain i.WriteBool = refl
+named_plain (i.WriteText x) = refl
+named_plain i.WritewInt = refl
+named_plain i.WritewChar = refl
+named_plain i.WritewBool = refl
+named_plain (i.WritewText x) = refl
+named_plain i.Writeln = refl
+named_plain (i.Pack x) = refl
+named_plain i.Open = refl
+named_plain (i.Send x) = refl
+named_plain (i.Receive x) = refl
+named_plain (i.Fork x) = refl
+named_plain (i.Forall x) = refl
+named_plain i.End = refl
+
+-- a word was read as this operand, where it is one
+pub record IsRead (z : ℤ) (a : Operand) : Type 0 where
+  pub integer : IsInteger z → a.integer ≡ z
+  pub number : (n : ℕ) → IsNumber n → z ≡ pos n → a.number ≡ n
+
+abbrev pub Agree : List ℤ → List Operand → Type 0
+Agree [] ops = Unit {0}
+Agree (z ∷ zs) [] = Unit {0}
+Agree (z ∷ zs) (a ∷ ops) = IsRead z a × Agree zs ops
+
+pub filled_plain : (x : Instr) → InstrFits x → (a b c : Operand) → Agree (operands x) (a ∷ b ∷ c ∷ []) → filled (plain x) a b c ≡ x
+filled_plain (i.Const x) f a b c h = ap i.Const (h.0.integer f)
+filled_plain (i.Addr x y) f a b c h = let e0 = h.0.number x f.0 refl in let e1 = h.1.0.number y f.1 refl in λ j. i.Addr (e0 j) (e1 j)
+filled_plain (i.Deref x y) f a b c h = let e0 = h.0.number x f.0 refl in let e1 = h.1.0.number y f.1 refl in λ j. i.Deref (e0 j) (e1 j)
+filled_plain (i.Index x y z) f a b c h = let e0 = h.0.integer f.0 in let e1 = h.1.0.integer f.1 in let e2 = h.1.1.0.number z f.2 refl in λ j. i.Index (e0 j) (e1 j) (e2 j)
+filled_plain (i.Field x) f a b c h = ap i.Field (h.0.number x f refl)
+filled_plain i.Load f a b c h = refl
+filled_plain i.Loadc f a b c h = refl
+filled_plain i.Store f a b c h = refl
+filled_plain (i.Copy x) f a b c h = ap i.Copy (h.0.number x f refl)
+filled_plain i.Add f a b c h = refl
+filled_plain i.Sub f a b c h = refl
+filled_plain i.Mul f a b c h = refl
+filled_plain i.Div f a b c h = refl
+filled_plain i.Mod f a b c h = refl
+filled_plain i.Neg f a b c h = refl
+filled_plain i.Abs f a b c h = refl
+filled_plain i.Sqr f a b c h = refl
+filled_plain i.Odd f a b c h = refl
+filled_plain i.And f a b c h = refl
+filled_plain i.Or f a b c h = refl
+filled_plain i.Not f a b c h = refl
+filled_plain i.Eq f a b c h = refl
+filled_plain i.Ne f a b c h = refl
+filled_plain i.Lt f a b c h = refl
+filled_plain i.Le f a b c h = refl
+filled_plain i.Gt f a b c h = refl
+filled_plain i.Ge f a b c h = refl
+filled_plain (i.Range x y) f a b c h = let e0 = h.0.integer f.0 in let e1 = h.1.0.integer f.1 in λ j. i.Range (e0 j) (e1 j)
+filled_plain (i.Succ x) f a b c h = ap i.Succ (h.0.integer f)
+filled_plain (i.Pred x) f a b c h = ap i.Pred (h.0.integer f)
+filled_plain (i.Jump x) f a b c h = ap i.Jump (h.0.number x f refl)
+filled_plain (i.Jumpf x) f a b c h = ap i.Jumpf (h.0.number x f refl)
+filled_plain (i.Casej x y) f a b c h = let e0 = h.0.integer f.0 in let e1 = h.1.0.number y f.1 refl in λ j. i.Casej (e0 j) (e1 j)
+filled_plain i.Nocase f a b c h = refl
+filled_plain i.Tick f a b c h = refl
+filled_plain i.Assume f a b c h = refl
+filled_plain (i.Forup x y) f a b c h = let e0 = h.0.number x f.0 refl in let e1 = h.1.0.number y f.1 refl in λ j. i.Forup (e0 j) (e1 j)
+filled_plain (i.Fordown x y) f a b c h = let e0 = h.0.number x f.0 refl in let e1 = h.1.0.number y f.1 refl in λ j. i.Fordown (e0 j) (e1 j)
+filled_plain (i.Nextup x y) f a b c h = let e0 = h.0.number x f.0 refl in let e1 = h.1.0.number y f.1 refl in λ j. i.Nextup (e0 j) (e1 j)
+filled_plain (i.Nextdown x y) f a b c h = let e0 = h.0.number x f.0 refl in let e1 = h.1.0.number y f.1 refl in λ j. i.Nextdown (e0 j) (e1 j)
+filled_plain (i.Call x y) f a b c h = let e0 = h.0.number x f.0 refl in let e1 = h.1.0.number y f.1 refl in λ j. i.Call (e0 j) (e1 j)
+filled_plain i.Return f a b c h = refl
+filled_plain i.ReadInt f a b c h = refl
+filled_plain i.ReadChar f a b c h = refl
+filled_plain i.Readln f a b c h = refl
+filled_plain i.Eof f a b c h = refl
+filled_plain i.Eoln f a b c h = refl
+filled_plain i.WriteInt f a b c h = refl
+filled_plain i.WriteChar f a b c h = refl
+filled_plain i.WriteBool f a b c h = refl
+filled_plain (i.WriteText x) f a b c h = ap i.WriteText (h.0.number x f refl)
+filled_plain i.WritewInt f a b c h = refl
+filled_plain i.WritewChar f a b c h = refl
+filled_plain i.WritewBool f a b c h = refl
+filled_plain (i.WritewText x) f a b c h = ap i.WritewText (h.0.number x f refl)
+filled_plain i.Writeln f a b c h = refl
+filled_plain (i.Pack x) f a b c h = ap i.Pack (h.0.number x f refl)
+filled_plain i.Open f a b c h = refl
+filled_plain (i.Send x) f a b c h = ap i.Send (h.0.number x f refl)
+filled_plain (i.Receive x) f a b c h = ap i.Receive (h.0.number x f refl)
+filled_plain (i.Fork x) f a b c h = ap i.Fork (h.0.number x f refl)
+filled_plain (i.Forall x) f a b c h = ap i.Forall (h.0.number x f refl)
+filled_plain i.End f a b c h = refl
+
+-- each operand is written in a word of digits
+abbrev pub AreSmall : List ℤ → Type 0
+AreSmall [] = Unit {0}
+AreSmall (z ∷ zs) = (mag z < 2 ^ 63) × AreSmall zs
+
+pub operands_small : (x : Instr) → InstrFits x → AreSmall (operands x)
+operands_small (i.Const x) f = (integer_small x f, tt)
+operands_small (i.Addr x y) f = (let a = f.0 in omega arith, (let a = f.1 in omega arith, tt))
+operands_small (i.Deref x y) f = (let a = f.0 in omega arith, (let a = f.1 in omega arith, tt))
+operands_small (i.Index x y z) f = (integer_small x f.0, (integer_small y f.1, (let a = f.2 in omega arith, tt)))
+operands_small (i.Field x) f = (let a = f in omega arith, tt)
+operands_small i.Load f = tt
+operands_small i.Loadc f = tt
+operands_small i.Store f = tt
+operands_small (i.Copy x) f = (let a = f in omega arith, tt)
+operands_small i.Add f = tt
+operands_small i.Sub f = tt
+operands_small i.Mul f = tt
+operands_small i.Div f = tt
+operands_small i.Mod f = tt
+operands_small i.Neg f = tt
+operands_small i.Abs f = tt
+operands_small i.Sqr f = tt
+operands_small i.Odd f = tt
+operands_small i.And f = tt
+operands_small i.Or f = tt
+operands_small i.Not f = tt
+operands_small i.Eq f = tt
+operands_small i.Ne f = tt
+operands_small i.Lt f = tt
+operands_small i.Le f = tt
+operands_small i.Gt f = tt
+operands_small i.Ge f = tt
+operands_small (i.Range x y) f = (integer_small x f.0, (integer_small y f.1, tt))
+operands_small (i.Succ x) f = (integer_small x f, tt)
+operands_small (i.Pred x) f = (integer_small x f, tt)
+operands_small (i.Jump x) f = (let a = f in omega arith, tt)
+operands_small (i.Jumpf x) f = (let a = f in omega arith, tt)
+operands_small (i.Casej x y) f = (integer_small x f.0, (let a = f.1 in omega arith, tt))
+operands_small i.Nocase f = tt
+operands_small i.Tick f = tt
+operands_small i.Assume f = tt
+operands_small (i.Forup x y) f = (let a = f.0 in omega arith, (let a = f.1 in omega arith, tt))
+operands_small (i.Fordown x y) f = (let a = f.0 in omega arith, (let a = f.1 in omega arith, tt))
+operands_small (i.Nextup x y) f = (let a = f.0 in omega arith, (let a = f.1 in omega arith, tt))
+operands_small (i.Nextdown x y) f = (let a = f.0 in omega arith, (let a = f.1 in omega arith, tt))
+operands_small (i.Call x y) f = (let a = f.0 in omega arith, (let a = f.1 in omega arith, tt))
+operands_small i.Return f = tt
+operands_small i.ReadInt f = tt
+operands_small i.ReadChar f = tt
+operands_small i.Readln f = tt
+operands_small i.Eof f = tt
+operands_small i.Eoln f = tt
+operands_small i.WriteInt f = tt
+operands_small i.WriteChar f = tt
+operands_small i.WriteBool f = tt
+operands_small (i.WriteText x) f = (let a = f in omega arith, tt)
+operands_small i.WritewInt f = tt
+operands_small i.WritewChar f = tt
+operands_small i.WritewBool f = tt
+operands_small (i.WritewText x) f = (let a = f in omega arith, tt)
+operands_small i.Writeln f = tt
+operands_small (i.Pack x) f = (let a = f in omega arith, tt)
+operands_small i.Open f = tt
+operands_small (i.Send x) f = (let a = f in omega arith, tt)
+operands_small (i.Receive x) f = (let a = f in omega arith, tt)
+operands_small (i.Fork x) f = (let a = f in omega arith, tt)
+operands_small (i.Forall x) f = (let a = f in omega arith, tt)
+operands_small i.End f = tt
+
+at_operands : (zs : List ℤ) → AreSmall zs → AtClass 45 57 (flat_map operand_text zs)
+at_operands [] s = tt
+at_operands (z ∷ zs) s = (refl, begins_signed z (flat_map operand_text zs) s.0)
+
+-- the word of an instruction ends where its operands begin
+pub instr_cut : (x : Instr) → InstrFits x → class_cut 45 57 (word x ++ flat_map operand_text (operands x)) ≡ (word x, flat_map operand_text (operands x))
+instr_cut x f = class_at 45 57 (word x) (flat_map operand_text (operands x)) refl (word_outside x) (at_operands (operands x) (operands_small x f))
+
+-- what a word says, read as an operand
+pub record Reads (w : List ℕ) (a : Operand) : Type 0 where
+  pub number : (n : ℕ) → IsNumber n → w ≡ decimal n → a.number ≡ n
+  pub integer : (z : ℤ) → IsInteger z → w ≡ signed_decimal z → a.integer ≡ z
+
+blank_operands : (zs : List ℤ) → AtBlank (flat_map operand_text zs)
+blank_operands [] = tt
+blank_operands (z ∷ zs) = refl
+
+pub operand_cut : (z : ℤ) (zs : List ℤ) → mag z < 2 ^ 63 → word_of (flat_map operand_text (z ∷ zs)) ≡ (signed_decimal z, flat_map operand_text zs)
+operand_cut z zs l = blank_at (signed_decimal z) (flat_map operand_text zs) (signed_no_blank z l) (blank_operands zs)
+
+one_read : (z : ℤ) (w : List ℕ) (a : Operand) → w ≡ signed_decimal z → Reads w a → IsRead z a
+one_read z w a e r = record { integer = λ f. r.integer z f e; number = λ n f g. r.number n f (e ∙ ap signed_decimal g) }
+
+-- the operands in the words of a text, each of which was read
+pub agree : (zs : List ℤ) (t u v : List ℕ) (a b c : Operand) → AreSmall zs → t ≡ flat_map operand_text zs → Reads (word_of t).0 a → u ≡ (word_of t).1 → Reads (word_of u).0 b → v ≡ (word_of u).1 → Reads (word_of v).0 c → Agree zs (a ∷ b ∷ c ∷ [])
+agree [] t u v a b c s e ra eu rb ev rc = tt
+agree (x ∷ []) t u v a b c s e ra eu rb ev rc = let f = ap word_of e ∙ operand_cut x [] s.0 in (one_read x _ a (ap (λ (p : List ℕ × List ℕ). p.0) f) ra, tt)
+agree (x ∷ (y ∷ [])) t u v a b c s e ra eu rb ev rc =
+    let f = ap word_of e ∙ operand_cut x (y ∷ []) s.0 in
+    let g = ap word_of (eu ∙ ap (λ (p : List ℕ × List ℕ). p.1) f) ∙ operand_cut y [] s.1.0 in
+    (one_read x _ a (ap (λ (p : List ℕ × List ℕ). p.0) f) ra, (one_read y _ b (ap (λ (p : List ℕ × List ℕ). p.0) g) rb, tt))
+agree (x ∷ (y ∷ (z ∷ zs))) t u v a b c s e ra eu rb ev rc =
+    let f = ap word_of e ∙ operand_cut x (y ∷ (z ∷ zs)) s.0 in
+    let g = ap word_of (eu ∙ ap (λ (p : List ℕ × List ℕ). p.1) f) ∙ operand_cut y (z ∷ zs) s.1.0 in
+    let h = ap word_of (ev ∙ ap (λ (p : List ℕ × List ℕ). p.1) g) ∙ operand_cut z zs s.1.1.0 in
+    (one_read x _ a (ap (λ (p : List ℕ × List ℕ). p.0) f) ra, (one_read y _ b (ap (λ (p : List ℕ × List ℕ). p.0) g) rb, (one_read z _ c (ap (λ (p : List ℕ × List ℕ). p.0) h) rc, all zs)))
+  where
+    all : (zs : List ℤ) → Agree zs []
+    all [] = tt
+    all (z ∷ zs) = tt
+
+some_same : (x y : Instr) → ◌≡◌ {A = Option Instr} (Some x) (Some y) → x ≡ y
+some_same x y e = cc
+
+none_some : (x : Instr) → ◌≡◌ {A = Option Instr} None (Some x) → ⊥
+none_some x e = cc
+
+-- an instruction that is read from its text
+pub read_back : (x : Instr) → InstrFits x → (t name r0 r1 r2 w1 w2 w3 : List ℕ) (y : Instr) (a b c : Operand) → t ≡ word x ++ flat_map operand_text (operands x)
+    → name ≡ (class_cut 45 57 t).0 → r0 ≡ (class_cut 45 57 t).1 → w1 ≡ (word_of r0).0 → r1 ≡ (word_of r0).1 → w2 ≡ (word_of r1).0 → r2 ≡ (word_of r1).1 → w3 ≡ (word_of r2).0
+    → Some y ≡ instr_named name → Reads w1 a → Reads w2 b → Reads w3 c → filled y a b c ≡ x
+read_back x f t name r0 r1 r2 w1 w2 w3 y a b c e en e0 f1 e1 f2 e2 f3 h ra rb rc =
+    let k = follow (class_cut 45 57) t _ (word x) (flat_map operand_text (operands x)) name r0 e (instr_cut x f) en e0 in
+    let is : y ≡ plain x = some_same y (plain x) (h ∙ ap instr_named k.0 ∙ named_plain x) in
+    let all = agree (operands x) r0 r1 r2 a b c (operands_small x f) k.1 (subst (λ (w : List ℕ). Reads w a) f1 ra) e1 (subst (λ (w : List ℕ). Reads w b) f2 rb) e2 (subst (λ (w : List ℕ). Reads w c) f3 rc) in
+    ap (λ (z : Instr). filled z a b c) is ∙ filled_plain x f a b c all
+
+pub has_name : (x : Instr) → InstrFits x → (t name : List ℕ) → t ≡ word x ++ flat_map operand_text (operands x) → name ≡ (class_cut 45 57 t).0 → None ≡ instr_named name → ⊥
+has_name x f t name e en h = none_some (plain x) (h ∙ ap instr_named (en ∙ ap (λ (z : List ℕ). (class_cut 45 57 z).0) e ∙ ap (λ (p : List ℕ × List ℕ). p.0) (instr_cut x f)) ∙ named_plain x)
