@@ -57,3 +57,7 @@ mod ReadLaws
 mod LayoutLaws
 mod KindLaws
 mod OneLaws
+pub mod Owning
+pub mod Handing
+pub mod Owned
+pub mod Placing

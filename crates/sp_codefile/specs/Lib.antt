@@ -26,3 +26,5 @@ pub mod Decoding
 pub mod Items
 pub mod Lines
 pub mod Opcodes
+pub mod Owners
+pub mod Placed
