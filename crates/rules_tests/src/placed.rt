@@ -18,7 +18,12 @@ fn first(parts: Parts) -> Result<Option<u32>, Memory> {
 
 /// A program that calls a procedure which begins and ends as told.
 fn called(alloc: Global, entry: u32, last: Instr) -> Result<Parts, Fail> {
-    let instrs = vec![in alloc; Instr::Call { block: 1, up: 0 }, Instr::End, Instr::Tick, last]?;
+    let instrs = vec![in alloc;
+        Instr::Call { block: 1, up: 0 },
+        Instr::End,
+        Instr::Tick,
+        last,
+    ]?;
     let mut parts = plain(alloc, instrs)?;
     parts.layouts.push(procedure(alloc, entry, 2)?)?;
     Ok(parts)
@@ -38,7 +43,13 @@ fn code_ends_as_it_may(rt: HostRuntime) -> Result<(), Fail> {
 
 /// Whose an instruction is, of a program with one child, that begins as told.
 fn owner(alloc: Global, entry: u32, p: usize) -> Result<Option<Owner>, Fail> {
-    let instrs = vec![in alloc; Instr::Fork(0), Instr::End, Instr::Tick, Instr::End, Instr::End]?;
+    let instrs = vec![in alloc;
+        Instr::Fork(0),
+        Instr::End,
+        Instr::Tick,
+        Instr::End,
+        Instr::End,
+    ]?;
     let mut parts = plain(alloc, instrs)?;
     parts.forks = List::of(vec![in alloc; table(alloc, entry, None)?]?);
     match code_of(parts) {
