@@ -16,8 +16,21 @@ fn first(parts: Parts) -> Result<Option<u32>, Memory> {
     }
 }
 
-/// A program that calls a procedure which begins and ends as told.
-fn called(alloc: Global, entry: u32, last: Instr) -> Result<Parts, Fail> {
+/// The same, of the worked code with another second instruction.
+fn second(alloc: Global, instr: Instr) -> Result<Option<u32>, Fail> {
+    let parts = answer(alloc, instr)?;
+    Ok(first(parts)?)
+}
+
+#[test]
+fn the_program_ends_as_it_may(rt: HostRuntime) -> Result<(), Fail> {
+    assert_eq!(rt; second(rt.alloc(), Instr::Const(6))?, None);
+    assert_eq!(rt; second(rt.alloc(), Instr::Return)?, Some(1));
+    Ok(())
+}
+
+/// The same, of a program that calls a procedure which begins and ends as told.
+fn called(alloc: Global, entry: u32, last: Instr) -> Result<Option<u32>, Fail> {
     let instrs = vec![in alloc;
         Instr::Call { block: 1, up: 0 },
         Instr::End,
@@ -25,19 +38,17 @@ fn called(alloc: Global, entry: u32, last: Instr) -> Result<Parts, Fail> {
         last,
     ]?;
     let mut parts = plain(alloc, instrs)?;
-    parts.layouts.push(procedure(alloc, entry, 2)?)?;
-    Ok(parts)
+    let layout = procedure(alloc, entry, 2)?;
+    parts.layouts.push(layout)?;
+    Ok(first(parts)?)
 }
 
 #[test]
-fn code_ends_as_it_may(rt: HostRuntime) -> Result<(), Fail> {
-    let alloc = rt.alloc();
-    assert_eq!(rt; first(answer(alloc, Instr::Const(6))?)?, None);
-    assert_eq!(rt; first(answer(alloc, Instr::Return)?)?, Some(1));
-    assert_eq!(rt; first(called(alloc, 2, Instr::Return)?)?, None);
-    assert_eq!(rt; first(called(alloc, 2, Instr::End)?)?, Some(3));
-    assert_eq!(rt; first(called(alloc, 2, Instr::Tick)?)?, Some(3));
-    assert_eq!(rt; first(called(alloc, 1, Instr::Return)?)?, Some(1));
+fn a_procedure_ends_as_it_may(rt: HostRuntime) -> Result<(), Fail> {
+    assert_eq!(rt; called(rt.alloc(), 2, Instr::Return)?, None);
+    assert_eq!(rt; called(rt.alloc(), 2, Instr::End)?, Some(3));
+    assert_eq!(rt; called(rt.alloc(), 2, Instr::Tick)?, Some(3));
+    assert_eq!(rt; called(rt.alloc(), 1, Instr::Return)?, Some(1));
     Ok(())
 }
 
@@ -51,7 +62,8 @@ fn owner(alloc: Global, entry: u32, p: usize) -> Result<Option<Owner>, Fail> {
         Instr::End,
     ]?;
     let mut parts = plain(alloc, instrs)?;
-    parts.forks = List::of(vec![in alloc; table(alloc, entry, None)?]?);
+    let only = table(alloc, entry, None)?;
+    parts.forks = List::of(vec![in alloc; only]?);
     match code_of(parts) {
         None => Ok(None),
         Some(code) => Ok(owners(&code)?.get(p).copied()),
