@@ -1,5 +1,5 @@
 -- Laws of instructions and their words.
-use Rattle.std.proofs.Common.{◌≡◌, ℕ, ◌^◌, ◌<◌, ◌&&◌, nat_le, Bool, true, false, not, ℤ, pos, List, [], ◌∷◌, ◌++◌, Option, Some, None, refl, sym, ap, ◌∙◌, subst, arith}
+use Rattle.std.proofs.Common.{◌≡◌, ℕ, ◌^◌, ◌<◌, ◌&&◌, nat_le, Bool, true, false, not, ℤ, pos, List, [], ◌∷◌, ◌++◌, Option, Some, None, refl, ap, ◌∙◌, subst, arith}
 use Rattle.std.specs.Fmt.{signed_decimal, decimal}
 use Rattle.std.specs.Int.Signed.{mag}
 use Rattle.std.specs.List.{flat_map}
@@ -10,7 +10,7 @@ use Rattle.sp_codefile.specs.declared.opcodes.Operand.{Operand}
 use Rattle.sp_codefile.specs.CodeText.{IsNumber, IsInteger, InstrFits}
 use Rattle.sp_codefile.specs.Cuts.{word_of, class_cut}
 use Rattle.sp_codefile.specs.Opcodes.{instr_named, filled}
-use Rattle.sp_codefile.proofs.WordLaws.{NoBlank, AtBlank, Outside, AtClass, follow, blank_at, class_at, signed_no_blank, begins_signed, integer_small}
+use Rattle.sp_codefile.proofs.WordLaws.{AtBlank, Outside, AtClass, follow, blank_at, class_at, signed_no_blank, begins_signed, integer_small}
 
 -- a word of letters and blanks
 abbrev lettered : List ℕ → Bool

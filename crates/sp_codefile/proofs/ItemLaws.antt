@@ -1,19 +1,19 @@
 -- Code as a row of items: its text and its sizes, item by item.
-use Rattle.std.proofs.Common.{◌≡◌, ◌≢◌, ℕ, zero, suc, ◌+◌, ◌-◌, ◌^◌, ◌<◌, ◌≤◌, List, [], ◌∷◌, ◌++◌, length, map, refl, sym, ap, ◌∙◌, subst, arith, append_assoc, append-nil, length-append, codes, decimal, All}
+use Rattle.std.proofs.Common.{◌≡◌, ℕ, suc, ◌+◌, ◌-◌, ◌<◌, List, [], ◌∷◌, ◌++◌, length, refl, sym, ap, ◌∙◌, arith, append_assoc, append-nil, length-append, codes, All}
 use Rattle.std.specs.List.{flat_map}
 use Rattle.std.proofs.lemmas.Grind.{flat_map-append}
-use Rattle.std.proofs.lemmas.List.Elements.{All-push, All-head, All-tail, All-cons, All-nil, All-append}
+use Rattle.std.proofs.lemmas.List.Elements.{All-push, All-head, All-tail, All-cons, All-nil}
 use Rattle.sp_code.specs.declared.code.ChildTable.{ChildTable}
 use Rattle.sp_code.specs.declared.code.ForkTable.{ForkTable}
 use Rattle.sp_code.specs.declared.code.Layout.{Layout}
 use Rattle.sp_code.specs.declared.code.Parts.{Parts}
 use Rattle.sp_code.specs.declared.instr.Instr.{Instr}
 use Rattle.sp_code.specs.Listing.{numbered, instr_line}
-use Rattle.sp_code.specs.Sizes.{KeepsSizes, HasNumbers, HasSmallSizes, HasChild, IsSize}
+use Rattle.sp_code.specs.Sizes.{HasNumbers, HasSmallSizes, HasChild}
 use Rattle.sp_codefile.specs.declared.item.Item.{Item}
 use Rattle.sp_codefile.specs.declared.item.Item.TheVariants as item
-use Rattle.sp_codefile.specs.CodeText.{line, layout_text, text_text, child_text, child_of, table_text, code_text, IsNumber, LayoutFits, ChildFits, TableFits, InstrFits, IsByte, IsCode}
-use Rattle.sp_codefile.specs.Items.{last_children, with_child, item_text, ItemFits, HasRoom, CanFollow, after_item}
+use Rattle.sp_codefile.specs.CodeText.{line, layout_text, text_text, child_of, table_text, code_text, LayoutFits, ChildFits, TableFits, InstrFits, IsByte, IsCode}
+use Rattle.sp_codefile.specs.Items.{last_children, with_child, item_text, CanFollow, after_item}
 use Rattle.sp_codefile.proofs.Printing.{instr_is_line}
 
 numbered_last : {X : Type 0} (text : ℕ → X → List ℕ) (n : ℕ) (xs : List X) (x : X) → numbered text n (xs ++ x ∷ []) ≡ numbered text n xs ++ text (n + length xs) x

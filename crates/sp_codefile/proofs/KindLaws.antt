@@ -1,5 +1,5 @@
 -- Reading a line by its kind.
-use Rattle.std.proofs.Common.{◌≡◌, ◌≢◌, ℕ, suc, ◌+◌, ◌*◌, ◌-◌, ◌/◌, ◌%◌, ◌^◌, ◌<◌, ◌≤◌, ◌==◌, nat_lt, Bool, true, false, cond, List, [], ◌∷◌, ◌++◌, length, drop, get_or, Option, Some, None, Result, Ok, Err, refl, sym, ap, ◌∙◌, subst, arith, append_assoc, append-nil, codes, decimal, All}
+use Rattle.std.proofs.Common.{◌≡◌, ℕ, ◌+◌, ◌*◌, ◌-◌, ◌/◌, ◌%◌, ◌^◌, ◌<◌, ◌≤◌, ◌==◌, nat_lt, Bool, true, false, cond, List, [], ◌∷◌, ◌++◌, length, drop, get_or, Some, None, Result, Ok, Err, refl, sym, ap, ◌∙◌, subst, arith, append_assoc, codes, decimal, All}
 use Rattle.std.specs.List.{flat_map}
 use Rattle.std.specs.Result.{IfOk}
 use Rattle.std.specs.Fmt.{digit_glyph}
@@ -17,11 +17,11 @@ use Rattle.sp_codefile.specs.declared.item.Item.{Item}
 use Rattle.sp_codefile.specs.declared.item.Item.TheVariants as item
 use Rattle.sp_codefile.specs.declared.reading.Kind.{Kind}
 use Rattle.sp_codefile.specs.declared.reading.Kind.TheVariants as kind
-use Rattle.sp_codefile.specs.CodeText.{byte_text, text_text, layout_text, child_text, index_text, IsByte, IsCode, LayoutFits, ChildFits, InstrFits}
+use Rattle.sp_codefile.specs.CodeText.{byte_text, child_text, index_text, IsByte, IsCode, LayoutFits, ChildFits, InstrFits}
 use Rattle.sp_codefile.specs.Cuts.{blank_cut}
 use Rattle.sp_codefile.specs.Items.{item_text, last_children, HasRoom, ItemFits, CanFollow, IsNext}
 use Rattle.sp_codefile.specs.Lines.{layout_words, child_words, digit_value, bytes_of, kind_of}
-use Rattle.sp_codefile.proofs.Printing.{child_body, child_entry, child_lists}
+use Rattle.sp_codefile.proofs.Printing.{child_body}
 use Rattle.sp_codefile.proofs.WordLaws.{Within, blank_at, digits_within, digits_no_blank}
 use Rattle.sp_codefile.proofs.LayoutLaws.{layout_behind, child_behind}
 

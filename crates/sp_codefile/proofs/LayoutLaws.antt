@@ -1,5 +1,5 @@
 -- Reading the lines of layouts and children, word by word.
-use Rattle.std.proofs.Common.{◌≡◌, ◌≢◌, ℕ, suc, ◌^◌, ◌<◌, ◌≤◌, ◌==◌, ◌&&◌, Bool, true, false, List, [], ◌∷◌, ◌++◌, length, drop, Option, Some, None, refl, sym, ap, ◌∙◌, subst, arith, append_assoc, append-nil, codes, decimal, All}
+use Rattle.std.proofs.Common.{◌≡◌, ◌≢◌, ℕ, ◌^◌, ◌<◌, Bool, true, false, List, [], ◌∷◌, ◌++◌, length, drop, Option, Some, None, refl, sym, ap, ◌∙◌, subst, arith, append_assoc, append-nil, codes, decimal, All}
 use Rattle.std.specs.List.{flat_map}
 use Rattle.sp_code.specs.declared.code.ChildTable.{ChildTable}
 use Rattle.sp_code.specs.declared.code.Formal.{Formal}
@@ -7,10 +7,10 @@ use Rattle.sp_code.specs.declared.code.Formal.TheVariants as formal
 use Rattle.sp_code.specs.declared.code.Layout.{Layout}
 use Rattle.sp_code.specs.Listing.{number_text}
 use Rattle.sp_codefile.specs.CodeText.{parent_text, answer_text, formal_text, layout_text, index_text, child_text, IsNumber, MayBeNumber, FormalFits, LayoutFits, ChildFits}
-use Rattle.sp_codefile.specs.Cuts.{blank_cut, word_of, class_cut}
+use Rattle.sp_codefile.specs.Cuts.{word_of, class_cut}
 use Rattle.sp_codefile.specs.Lines.{parent_word, answer_word, layout_words, child_words}
-use Rattle.sp_codefile.proofs.Printing.{child_body, child_entry, child_lists}
-use Rattle.sp_codefile.proofs.WordLaws.{NoBlank, AtBlank, AtClass, blank_at, class_at, digits_no_blank, numbers_no_letter, follow, word_shorter, at_blank}
+use Rattle.sp_codefile.proofs.Printing.{child_body}
+use Rattle.sp_codefile.proofs.WordLaws.{AtBlank, AtClass, blank_at, class_at, digits_no_blank, numbers_no_letter, follow, word_shorter, at_blank}
 
 -- a number that stands before something else
 pub number_before : (n : ℕ) (rest : List ℕ) → n < 2 ^ 64 → AtBlank rest → word_of (number_text n ++ rest) ≡ (decimal n, rest)

@@ -1,12 +1,11 @@
 -- The text of an item has no line feed.
-use Rattle.std.proofs.Common.{◌≡◌, ℕ, suc, ◌+◌, ◌-◌, ◌/◌, ◌%◌, ◌^◌, ◌<◌, ◌≤◌, ◌&&◌, nat_le, Bool, true, false, ℤ, pos, negsuc, List, [], ◌∷◌, ◌++◌, length, Option, Some, None, refl, sym, ap, subst, arith, codes, decimal, All}
+use Rattle.std.proofs.Common.{◌≡◌, ℕ, suc, ◌-◌, ◌/◌, ◌%◌, ◌^◌, ◌<◌, ◌≤◌, ◌&&◌, nat_le, Bool, true, false, ℤ, pos, negsuc, List, [], ◌∷◌, ◌++◌, length, Option, Some, None, refl, sym, subst, arith, codes, decimal, All}
 use Rattle.std.specs.Int.Signed.{mag}
 use Rattle.std.specs.List.{flat_map}
 use Rattle.std.specs.Fmt.{signed_decimal, digit_glyph}
 use Rattle.std.proofs.lemmas.Bool.Decides.{nat_tests}
 use Rattle.std.proofs.lemmas.List.Elements.{All-head, All-tail}
 use Rattle.sp_code.specs.declared.code.ChildTable.{ChildTable}
-use Rattle.sp_code.specs.declared.code.ForkTable.{ForkTable}
 use Rattle.sp_code.specs.declared.code.Formal.{Formal}
 use Rattle.sp_code.specs.declared.code.Formal.TheVariants as formal
 use Rattle.sp_code.specs.declared.code.Layout.{Layout}
@@ -16,9 +15,9 @@ use Rattle.sp_code.specs.declared.instr.Instr.TheVariants as i
 use Rattle.sp_code.specs.Listing.{word, operands, number_text, operand_text, instr_text}
 use Rattle.sp_codefile.specs.declared.item.Item.{Item}
 use Rattle.sp_codefile.specs.declared.item.Item.TheVariants as item
-use Rattle.sp_codefile.specs.CodeText.{parent_text, answer_text, formal_text, layout_text, byte_text, text_text, index_text, child_text, IsNumber, MayBeNumber, FormalFits, LayoutFits, ChildFits, TableFits, IsByte, InstrFits, IsCode, IsOneLine}
+use Rattle.sp_codefile.specs.CodeText.{parent_text, answer_text, formal_text, layout_text, byte_text, text_text, index_text, child_text, IsNumber, MayBeNumber, FormalFits, LayoutFits, ChildFits, IsByte, InstrFits, IsCode, IsOneLine}
 use Rattle.sp_codefile.specs.Items.{item_text, last_children, CanFollow}
-use Rattle.sp_codefile.proofs.Printing.{child_body, child_entry, child_lists}
+use Rattle.sp_codefile.proofs.Printing.{child_body}
 use Rattle.sp_codefile.proofs.WordLaws.{Within, within_append, within_wider, digits_within}
 use Rattle.sp_codefile.proofs.InstrLaws.{AreSmall, operands_small}
 

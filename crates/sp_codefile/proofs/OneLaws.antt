@@ -1,9 +1,9 @@
 -- No two items have one text, and no two codes.
-use Rattle.std.proofs.Common.{◌≡◌, ◌≢◌, ℕ, zero, suc, ◌+◌, ◌-◌, ◌^◌, ◌<◌, ◌≤◌, Bool, true, false, ℤ, pos, negsuc, List, [], ◌∷◌, ◌++◌, length, drop, Option, Some, None, refl, sym, ap, ◌∙◌, subst, arith, append_assoc, append-nil, codes, decimal, All}
+use Rattle.std.proofs.Common.{◌≡◌, ℕ, zero, suc, ◌-◌, ◌^◌, ◌<◌, Bool, true, false, ℤ, pos, negsuc, List, [], ◌∷◌, ◌++◌, length, drop, Option, Some, None, refl, sym, ap, ◌∙◌, subst, arith, append_assoc, codes, decimal, All}
 use Rattle.std.specs.Int.Signed.{mag}
 use Rattle.std.specs.List.{flat_map}
 use Rattle.std.specs.Fmt.{signed_decimal}
-use Rattle.std.proofs.lemmas.Fmt.{decimal_injective, decimal_nonempty}
+use Rattle.std.proofs.lemmas.Fmt.{decimal_injective}
 use Rattle.std.proofs.lemmas.List.Elements.{All-head, All-tail}
 use Rattle.sp_code.specs.declared.code.ChildTable.{ChildTable}
 use Rattle.sp_code.specs.declared.code.Formal.{Formal}
@@ -11,21 +11,20 @@ use Rattle.sp_code.specs.declared.code.Formal.TheVariants as formal
 use Rattle.sp_code.specs.declared.code.Layout.{Layout}
 use Rattle.sp_code.specs.declared.code.Parts.{Parts}
 use Rattle.sp_code.specs.declared.instr.Instr.{Instr}
-use Rattle.sp_code.specs.Listing.{word, operands, operand_text, number_text, instr_text}
+use Rattle.sp_code.specs.Listing.{operands, operand_text, number_text, instr_text}
 use Rattle.sp_codefile.specs.declared.item.Item.{Item}
 use Rattle.sp_codefile.specs.declared.item.Item.TheVariants as item
 use Rattle.sp_codefile.specs.declared.opcodes.Operand.{Operand}
-use Rattle.sp_codefile.specs.declared.reading.Kind.{Kind}
 use Rattle.sp_codefile.specs.declared.reading.Kind.TheVariants as kind
-use Rattle.sp_codefile.specs.CodeText.{formal_text, index_text, code_text, IsNumber, MayBeNumber, FormalFits, LayoutFits, ChildFits, InstrFits, IsCode, IsTextOf}
+use Rattle.sp_codefile.specs.CodeText.{formal_text, index_text, IsNumber, MayBeNumber, FormalFits, LayoutFits, ChildFits, InstrFits, IsCode, IsTextOf}
 use Rattle.sp_codefile.specs.Cuts.{blank_cut, word_of, class_cut}
 use Rattle.sp_codefile.specs.Items.{item_text, last_children, CanFollow, after_item}
 use Rattle.sp_codefile.specs.Lines.{parent_word, answer_word, layout_words, child_words, bytes_of, kind_of}
 use Rattle.sp_codefile.specs.Opcodes.{instr_named, filled}
 use Rattle.sp_codefile.proofs.WordLaws.{Within, number_cut, digits_within, no_sign}
 use Rattle.sp_codefile.proofs.InstrLaws.{IsRead, Agree, AreSmall, plain, named_plain, filled_plain, operands_small, instr_cut, operand_cut}
-use Rattle.sp_codefile.proofs.ItemLaws.{text_step, code_step}
-use Rattle.sp_codefile.proofs.LayoutLaws.{number_before, blank_formals, l1, l2, l3, l4, l5, l6, l7, l8, l9, c1, c2, c3, c4, c5, c6, c7, c8, c9, layout_behind, layout_block, layout_entry, layout_parent, layout_answer, behind_sizes, layout_sizes, behind_variables, layout_variables, behind_formals, child_behind, child_table, behind_child, child_number, behind_entry, child_entry_cut, behind_moves, child_moved, behind_shares, child_shared}
+use Rattle.sp_codefile.proofs.ItemLaws.{code_step}
+use Rattle.sp_codefile.proofs.LayoutLaws.{number_before, blank_formals, l1, l2, l3, l4, l5, l6, l7, l8, c1, c2, c3, c4, c5, c6, c7, c8, layout_behind, layout_block, layout_entry, layout_parent, layout_answer, behind_sizes, layout_sizes, behind_variables, layout_variables, behind_formals, child_behind, child_table, behind_child, child_number, behind_entry, child_entry_cut, behind_moves, child_moved, behind_shares, child_shared}
 use Rattle.sp_codefile.proofs.LeadLaws.{Leads, no_parts, from_nothing}
 use Rattle.sp_codefile.proofs.ReadLaws.{GoesOn, none_goes_on, goes_on_next, none_left, no_parts_code}
 use Rattle.sp_codefile.proofs.KindLaws.{kind_of_item, kind_is, bytes_back, instr_behind}

@@ -1,5 +1,5 @@
 -- Reading a code file on, line by line.
-use Rattle.std.proofs.Common.{◌≡◌, ◌≢◌, ℕ, zero, suc, ◌+◌, ◌<◌, ◌≤◌, ◌==◌, Bool, true, false, cond, List, [], ◌∷◌, ◌++◌, length, Option, Some, None, refl, sym, ap, ◌∙◌, subst, arith, append_assoc, append-nil, length-append, codes, All}
+use Rattle.std.proofs.Common.{◌≡◌, ◌≢◌, ℕ, zero, suc, ◌+◌, ◌==◌, Bool, true, false, cond, List, [], ◌∷◌, ◌++◌, length, Option, Some, None, refl, sym, ap, ◌∙◌, subst, arith, append_assoc, append-nil, length-append, codes}
 use Rattle.std.proofs.lemmas.List.{append_cancel_left}
 use Rattle.std.proofs.lemmas.List.Elements.{All-nil}
 use Rattle.sp_journal.specs.Splits.{first_split, with_first}
@@ -8,11 +8,11 @@ use Rattle.sp_code.specs.Sizes.{HasNumbers, HasSmallSizes, HasChild}
 use Rattle.sp_codefile.specs.declared.item.Item.{Item}
 use Rattle.std.specs.List.{flat_map}
 use Rattle.sp_code.specs.Listing.{numbered, instr_line}
-use Rattle.sp_codefile.specs.CodeText.{layout_text, text_text, table_text, line, code_text, LayoutFits, TableFits, InstrFits, IsByte, IsCode, IsTextOf, IsText, IsOneLine, AreLines, BeginsCode, IsFirstBad}
+use Rattle.sp_codefile.specs.CodeText.{layout_text, text_text, table_text, line, code_text, IsCode, IsTextOf, IsOneLine, AreLines, IsFirstBad}
 use Rattle.sp_codefile.specs.Items.{item_text, CanFollow, after_item, IsNext}
 use Rattle.sp_codefile.proofs.WordLaws.{here, apart, same}
 use Rattle.sp_codefile.proofs.ItemLaws.{text_step, code_step}
-use Rattle.sp_codefile.proofs.LeadLaws.{Leads, no_parts, from_nothing, items_text, text_along, code_along}
+use Rattle.sp_codefile.proofs.LeadLaws.{Leads, no_parts, from_nothing, items_text, text_along}
 use Rattle.sp_codefile.proofs.LineLaws.{item_one_line}
 
 -- what stands before and behind the first line feed

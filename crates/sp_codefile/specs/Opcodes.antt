@@ -1,5 +1,5 @@
 -- Instructions by their words, for the parts of the reader. No public contract cites these.
-use Rattle.std.specs.Prelude.{ℕ, ℤ, pos, List, [], ◌∷◌, Option, find}
+use Rattle.std.specs.Prelude.{ℕ, pos, List, [], ◌∷◌, Option, find}
 use Rattle.std.specs.Str.{bytes_eq}
 use Rattle.sp_code.specs.declared.instr.Instr.{Instr}
 use Rattle.sp_code.specs.declared.instr.Instr.TheVariants as i

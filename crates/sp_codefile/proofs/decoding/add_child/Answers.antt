@@ -1,4 +1,4 @@
-use Rattle.std.proofs.Common.{◌≡◌, ◌∙◌}
+use Rattle.std.proofs.Common.{◌∙◌}
 use Rattle.sp_codefile.proofs.LeadLaws.{child_added}
 use Rattle.sp_codefile.proofs.decoding.add_child.Goals as goal
 

@@ -1,4 +1,4 @@
-use Rattle.std.proofs.Common.{◌≡◌, sym, ap, ◌∙◌}
+use Rattle.std.proofs.Common.{◌∙◌}
 use Rattle.sp_codefile.proofs.InstrLaws.{read_back, has_name}
 use Rattle.sp_codefile.proofs.opcodes.read_instr.Goals as goal
 

@@ -1,9 +1,8 @@
-use Rattle.std.proofs.Common.{◌≡◌, List, ℕ, [], ◌∷◌, ◌++◌, ap, sym, ◌∙◌, subst, arith, length}
+use Rattle.std.proofs.Common.{List, sym, subst}
 use Rattle.sp_code.specs.declared.code.Formal.{Formal}
-use Rattle.sp_code.specs.declared.code.Formal.TheVariants as formal
 use Rattle.sp_codefile.specs.CodeText.{formal_text, FormalFits}
 use Rattle.sp_codefile.proofs.LeftLaws.{Left, left_start, left_next, left_end}
-use Rattle.sp_codefile.proofs.WordLaws.{not_empty, empty, some_length, word_shorter}
+use Rattle.sp_codefile.proofs.WordLaws.{not_empty, empty, some_length}
 use Rattle.sp_codefile.proofs.LayoutLaws.{formal_read, no_formal, shorter_twice}
 use Rattle.sp_codefile.proofs.reading.formals.Goals as goal
 

@@ -1,4 +1,4 @@
-use Rattle.std.proofs.Common.{◌≡◌, ◌<◌, List, ℕ, [], ◌∷◌, ◌++◌, ap, sym, ◌∙◌, subst, arith, length}
+use Rattle.std.proofs.Common.{◌≡◌, ◌<◌, List, ℕ, [], ◌++◌, sym, subst, length}
 use Rattle.sp_code.specs.Listing.{number_text}
 use Rattle.sp_codefile.specs.CodeText.{IsNumber}
 use Rattle.sp_codefile.specs.Cuts.{word_of}

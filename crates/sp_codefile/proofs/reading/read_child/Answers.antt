@@ -1,4 +1,4 @@
-use Rattle.std.proofs.Common.{◌≡◌, ℕ, ◌<◌, Bool, true, false, sym, ap, ◌∙◌, arith, codes, rules, decimal}
+use Rattle.std.proofs.Common.{◌≡◌, sym, ◌∙◌, arith, codes, rules, decimal}
 use Rattle.std.proofs.lemmas.Fmt.{decimal_injective, decimal_digit}
 use Rattle.sp_codefile.specs.declared.item.Item.TheVariants as item
 use Rattle.sp_codefile.proofs.LayoutLaws.{child_back}

@@ -1,4 +1,3 @@
-use Rattle.std.proofs.Common.{◌≡◌, sym, ap, ◌∙◌}
 use Rattle.sp_codefile.proofs.LayoutLaws.{layout_back, parent_read, answer_read}
 use Rattle.sp_codefile.proofs.reading.read_layout.Goals as goal
 

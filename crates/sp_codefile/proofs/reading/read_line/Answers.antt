@@ -1,4 +1,4 @@
-use Rattle.std.proofs.Common.{◌≡◌, List, ℕ, drop, sym, ap, ◌∙◌}
+use Rattle.std.proofs.Common.{drop, sym, ap, ◌∙◌}
 use Rattle.sp_codefile.specs.Lines.{bytes_of}
 use Rattle.sp_codefile.proofs.KindLaws.{says_layout, says_text, says_instr, says_child_of}
 use Rattle.sp_codefile.proofs.reading.read_line.Goals as goal

@@ -1,4 +1,4 @@
-use Rattle.std.proofs.Common.{All, arith}
+use Rattle.std.proofs.Common.{arith}
 use Rattle.sp_codefile.specs.CodeText.{layout_text, LayoutFits}
 use Rattle.sp_codefile.proofs.Printing.{line_more, fits_more}
 use Rattle.sp_codefile.proofs.writing.put_layouts.Goals as goal

@@ -1,7 +1,6 @@
 use Rattle.std.proofs.Common.{◌≡◌, ◌++◌, All, take}
-use Rattle.std.specs.List.{flat_map}
-use Rattle.sp_code.specs.Listing.{numbered, instr_line}
-use Rattle.sp_codefile.specs.CodeText.{line, layout_text, text_text, child_of, table_text, LayoutFits, IsByte, InstrFits, ChildFits, TableFits}
+use Rattle.sp_code.specs.Listing.{numbered}
+use Rattle.sp_codefile.specs.CodeText.{table_text, TableFits}
 use Rattle.sp_codefile.proofs.writing.put_tables.Given as goal
 
 abbrev pub invariant-loop-number : goal.invariant-loop-number
