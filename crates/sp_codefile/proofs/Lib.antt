@@ -40,7 +40,6 @@ pub mod Tabled
 pub mod KeptRows
 pub mod AnswerRow
 pub mod AnswerForks
-pub mod Printing
 pub mod Leasts
 pub mod BlockLaws
 pub mod Beginnings
