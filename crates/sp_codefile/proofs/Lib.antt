@@ -40,3 +40,8 @@ pub mod Tabled
 pub mod KeptRows
 pub mod AnswerRow
 pub mod AnswerForks
+pub mod Leasts
+pub mod BlockLaws
+pub mod Beginnings
+pub mod Failing
+pub mod Alone

@@ -17,3 +17,6 @@ pub mod Changes
 pub mod Clashing
 pub mod Verdict
 pub mod Activations
+pub mod Least
+pub mod Blocks
+pub mod Alone
