@@ -23,23 +23,23 @@ use Rattle.sp_codefile.proofs.Leasts.{same, both}
 
 -- ---- tests
 
-or_split : (a b : Bool) → (a || b) ≡ true → (a ≡ true) ⊎ (b ≡ true)
+pub or_split : (a b : Bool) → (a || b) ≡ true → (a ≡ true) ⊎ (b ≡ true)
 or_split true b e = inl refl
 or_split false b e = inr e
 
-or_left : (a b : Bool) → a ≡ true → (a || b) ≡ true
+pub or_left : (a b : Bool) → a ≡ true → (a || b) ≡ true
 or_left true b e = refl
 or_left false b e = absurd (cc e)
 
-or_right : (a b : Bool) → b ≡ true → (a || b) ≡ true
+pub or_right : (a b : Bool) → b ≡ true → (a || b) ≡ true
 or_right true b e = refl
 or_right false b e = e
 
-not_true : (a : Bool) → not a ≡ true → a ≡ false
+pub not_true : (a : Bool) → not a ≡ true → a ≡ false
 not_true true e = absurd (cc e)
 not_true false e = refl
 
-not_false : (a : Bool) → a ≡ false → not a ≡ true
+pub not_false : (a : Bool) → a ≡ false → not a ≡ true
 not_false a e = rw e refl
 
 some_not : {T : Type 0} (o : Option T) → is_some o ≡ false → o ≡ None

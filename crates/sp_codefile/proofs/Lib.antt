@@ -45,3 +45,7 @@ pub mod BlockLaws
 pub mod Beginnings
 pub mod Failing
 pub mod Alone
+pub mod Owning
+pub mod Handing
+pub mod Owned
+pub mod Placing

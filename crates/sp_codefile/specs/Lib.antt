@@ -20,3 +20,5 @@ pub mod Activations
 pub mod Least
 pub mod Blocks
 pub mod Alone
+pub mod Owners
+pub mod Placed

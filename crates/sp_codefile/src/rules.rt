@@ -8,7 +8,10 @@ mod blocks;
 mod layouts;
 mod least;
 mod names;
+pub mod owners;
+pub mod placed;
 mod tables;
+mod ways;
 
 use crate::rules::blocks::Blocks;
 use crate::rules::layouts::first_layout;
@@ -18,11 +21,11 @@ use crate::rules::tables::{first_in, flags};
 use sp_base::Memory;
 use sp_code::Code;
 
-/// The least instruction at which code names what is not there, or a layout or a table is wrong in itself; None where nothing
-/// is. Wrong are: a jump, call, fork or text whose target is not there; an entry that is not there; a program that is not
-/// there, or has a parent, formals or an answer; sizes that do not fit the variables, formals and answer; a child of a fork
-/// with an index, and a forall with other than one child with an index. An entry past the code counts by its number. The only
-/// other answer is want of memory.
+/// The least instruction at which code names what is not there, or a layout or a table is wrong in itself; None where
+/// nothing is. Wrong are: a jump, call, fork or text whose target is not there; an entry that is not there; a program
+/// that is not there, or has a parent, formals or an answer; sizes that do not fit the variables, formals and answer;
+/// a child of a fork with an index, and a forall with other than one child with an index. An entry past the code
+/// counts by its number. The only other answer is want of memory.
 pub fn first_wrong_alone(code: &Code) -> Result<Option<u32>, Memory>
     ensures { IfOk result (λ first. IsLeast (BreaksAlone code.now) first) }
 {

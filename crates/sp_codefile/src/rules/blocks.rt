@@ -2,9 +2,10 @@
 
 ghost use Rattle.std.specs.Prelude.{◌≡◌, ◌+◌, ◌≤◌, IfOk, OnOk, length};
 ghost use Rattle.sp_codefile.specs.Blocks.{IsNumbered, Notes, number_from, number_of};
-ghost use Rattle.std.specs.Option.{is_some};
+ghost use Rattle.std.specs.Option.{is_some, option_copied};
+ghost use Rattle.sp_code.specs.Machine.{layout_of};
 
-use sp_base::Memory;
+use sp_base::{List, Memory};
 use sp_code::Layout;
 use std::alloc::Global;
 use std::collections::BTreeMap;
@@ -53,6 +54,17 @@ impl Blocks {
         ensures { result ≡ number_of self.now.first block }
     {
         self.first.get(&block).copied()
+    }
+
+    /// The layout of a block.
+    pub(crate) fn find<'a>(&self, layouts: &'a List<Layout>, block: u32) -> Option<&'a Layout>
+        requires { IsNumbered self.now.first layouts.now }
+        ensures { option_copied result ≡ layout_of layouts.now block }
+    {
+        match self.place(block) {
+            None => None,
+            Some(place) => layouts.get(place as usize),
+        }
     }
 
     /// Whether a block has a layout.

@@ -3,7 +3,8 @@
 ghost use Rattle.std.specs.Prelude.{◌≡◌, ◌++◌, length};
 ghost use Rattle.sp_codefile.specs.Alone.{LayoutFails, layout_fails};
 ghost use Rattle.sp_codefile.specs.Least.{IsLeast, Upto};
-ghost use Rattle.sp_codefile.specs.Named.{answer_cells, begins_with, formal_cells, formals_cells, has_sizes, is_program};
+ghost use Rattle.sp_codefile.specs.Named.{answer_cells, begins_with, formal_cells, formals_cells, has_sizes};
+ghost use Rattle.sp_codefile.specs.Named.{is_program};
 
 use crate::rules::least::{least, place_if};
 use sp_code::{Formal, Layout};

@@ -1,7 +1,8 @@
 //! What can be wrong with a table of children in itself.
 
 ghost use Rattle.std.specs.Prelude.{◌≡◌, Some, length, IfOk};
-ghost use Rattle.sp_codefile.specs.Alone.{AreFlags, ChildFails, ChildrenFail, Marks, TableFails, child_fails, first_fails, flag_at, named_in, table_by};
+ghost use Rattle.sp_codefile.specs.Alone.{AreFlags, ChildFails, ChildrenFail, Marks, TableFails, child_fails};
+ghost use Rattle.sp_codefile.specs.Alone.{first_fails, flag_at, named_in, table_by};
 ghost use Rattle.sp_codefile.specs.Least.{IsLeast, Upto};
 
 use crate::rules::least::{least, place_if};
