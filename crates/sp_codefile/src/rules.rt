@@ -4,13 +4,22 @@ ghost use Rattle.std.specs.Prelude.{IfOk};
 ghost use Rattle.sp_codefile.specs.Alone.{BreaksAlone};
 ghost use Rattle.sp_codefile.specs.Least.{IsLeast};
 
+mod areas;
 mod blocks;
+mod cells;
+mod effects;
+mod homes;
 mod layouts;
 mod least;
 mod names;
 pub mod owners;
 pub mod placed;
+mod points;
+mod rounds;
+mod shapes;
+mod stacks;
 mod tables;
+pub mod verify;
 mod ways;
 
 use crate::rules::blocks::Blocks;

@@ -76,7 +76,7 @@ fn owner_at(owners: &List<Owner>, p: usize) -> Owner
 }
 
 // The least instruction that may not, by whose each is.
-fn first_by(code: &Code, owners: &List<Owner>) -> Option<u32>
+pub(crate) fn first_by(code: &Code, owners: &List<Owner>) -> Option<u32>
     requires { AreOwners code.now owners.now }
     ensures { IsLeast (IsMisplaced code.now) result }
 {
