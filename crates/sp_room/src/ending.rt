@@ -37,7 +37,7 @@ pub(crate) fn gather<K: Kept>(room: Room<K>, mut row: Vec<RoomSeat<K>>) -> Box<D
         } = next;
         room.table.shared.join_seat::<TakeIn>(&mut keeper, seat);
     }
-    let Room { table } = room;
+    let Room { table, lobby: _ } = room;
     let held = take_only(table.close_with(keeper));
     let Some(desk) = held else { unreachable!() };
     desk

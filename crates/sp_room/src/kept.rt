@@ -57,6 +57,10 @@ pub trait Kept {
     fn last(ask: &Self::Ask) -> bool
         ensures { result ≡ final_ask ask.now };
 
+    /// How many seats that found nothing to take could take something now: after a note so many of those that rest are woken, and
+    /// all where it is `u64::MAX`. It changes nothing, and nothing is promised of it.
+    fn left(&self) -> u64;
+
     /// The worker that the note names.
     fn by(note: &Self::Note) -> u32
         ensures { result ≡ author note.now };

@@ -6,6 +6,8 @@ mod desk;
 mod ending;
 mod kept;
 mod law;
+mod lobby;
+mod rest;
 mod room;
 mod seat;
 mod seats;

@@ -8,10 +8,12 @@ ghost use Rattle.sp_room.specs.History.{StartsWith, notes_by, LeadsTo};
 use crate::desk::{Desk, put, put_last};
 use crate::ending::gather;
 use crate::kept::{Kept, Served};
+use crate::lobby::Lobby;
+use crate::rest::rest_in;
 use crate::seat::{Room, RoomSeat};
 use crate::seats::deal;
 use crate::settled::Settled;
-use crate::turn::{give_back, give_last, give_on, sleep_at, take_turn};
+use crate::turn::{give_back, give_last, give_on, take_turn};
 use atomic_table::{Refused, Table};
 use sp_base::List;
 use std::alloc::{AllocFailed, Global};
@@ -34,6 +36,7 @@ impl<K: Kept> Room<K> {
         ensures err { IfErr result (λ x. x ≡ object) }
     {
         let about = Snapshot::of(&object);
+        let lobby = Lobby::new(object.left());
         let Ok(row) = Vec::with_capacity(alloc, seats as usize) else {
             return Err(object);
         };
@@ -55,7 +58,7 @@ impl<K: Kept> Room<K> {
         slots.push_reserved(Some(desk));
         match Table::new(alloc, &[0, 0], slots, &about) {
             Ok((table, first)) => {
-                let room = Room { table };
+                let room = Room { table, lobby };
                 let row = deal(&room, first, row, seats);
                 Ok((room, List::of(row)))
             }
@@ -155,10 +158,11 @@ impl<K: Kept> RoomSeat<K> {
         }
     }
 
-    /// Sleeps while the room's history is as long as what the seat has seen, or returns for no reason. It changes nothing.
+    /// Returns once the object has something left to take that no other seat comes for at once, or for no reason. Before that it looks
+    /// a few times, then it dozes while notes come, and sleeps while none do. It changes nothing.
     pub fn rest<R: Wait>(&self, rt: &R, room: &Room<K>)
         requires seat { IsSeatOf room.now self.now }
     {
-        sleep_at(rt, room, self.seen);
+        rest_in(rt, room);
     }
 }

@@ -5,6 +5,7 @@ ghost use Rattle.sp_room.specs.Roomed.{IsIdle};
 use crate::desk::Desk;
 use crate::kept::Kept;
 use crate::law::Law;
+use crate::lobby::Lobby;
 use crate::view::View;
 use atomic_table::{Seat, Table};
 use std::alloc::Global;
@@ -13,6 +14,7 @@ use std::snapshot::Snapshot;
 /// A lock round an object, with the history of its calls. Threads share it by reference.
 ///
 /// Word 0 of its table is the turn, word 1 counts the history, and the one slot has the object and its notes.
+/// Whom a note wakes is told beside it.
 #[derive(Drop)]
 pub struct Room<K: Kept> {
     pub(crate) table: Table<
@@ -22,6 +24,7 @@ pub struct Room<K: Kept> {
         Law<K>,
         Global,
     >,
+    pub(crate) lobby: Lobby,
     ghost sized: { (table.shared.table_id.words ≡ 2) × (table.shared.table_id.slots ≡ 1) },
 }
 

@@ -1,5 +1,5 @@
 //! Taking the turn and giving it back.
-ghost use Rattle.std.specs.Prelude.{◌≡◌, ◌-◌, ◌+◌, ◌%◌, ◌^◌, ◌<◌, ◌≤◌, true, false, Some, None, [], ◌∷◌, ◌++◌, length};
+ghost use Rattle.std.specs.Prelude.{◌≡◌, ◌-◌, ◌+◌, ◌<◌, ◌≤◌, true, false, Some, None, [], ◌∷◌, ◌++◌, length};
 ghost use Rattle.std.specs.Vec.{vec_capacity};
 ghost use Rattle.sp_room.specs.Roomed.{holder, raised, raised_last, returned, Holds, IsIdle};
 ghost use Rattle.sp_room.specs.History.{LeadsTo};
@@ -7,6 +7,7 @@ ghost use Rattle.sp_room.specs.History.{LeadsTo};
 use crate::desk::Desk;
 use crate::kept::Kept;
 use crate::law::{GiveBack, Raise, RaiseLast, Take};
+use crate::lobby::{low_bits, pause};
 use crate::seat::Room;
 use crate::view::View;
 use atomic_table::Seat;
@@ -18,7 +19,13 @@ const TURN: usize = 0;
 /// The word that counts the history.
 const COUNT: usize = 1;
 
-// Waits until the turn is free, and takes the desk. Who loses a try sleeps until a turn is given back.
+/// How often a seat looks whether the turn comes free before it sleeps, and how long it lets the processor pause between two looks.
+const TRIES: u32 = 20;
+
+const BETWEEN: u32 = 2;
+
+// Waits until the turn is free, and takes the desk. Who loses a try looks for a moment whether the turn comes free, and then sleeps
+// until a turn is given back.
 pub(crate) fn take_turn<K: Kept, R: Wait>(
     rt: &R,
     room: &Room<K>,
@@ -41,9 +48,33 @@ pub(crate) fn take_turn<K: Kept, R: Wait>(
             };
             return desk;
         }
-        shared.park(rt, TURN, low_bits(found));
+        if !comes_free(room) {
+            room.lobby.begin_wait();
+            shared.park(rt, TURN, low_bits(found));
+            room.lobby.end_wait();
+        }
     }
     unreachable!()
+}
+
+// Whether the turn comes free in a moment.
+fn comes_free<K: Kept>(room: &Room<K>) -> bool {
+    for _ in 0..TRIES {
+        pause(BETWEEN);
+        if room.table.shared.peek(TURN) == 0 {
+            return true;
+        }
+    }
+    false
+}
+
+// Wakes a seat that sleeps until the turn is free, if there is one.
+//
+// The turn is free before it looks, and who sleeps is counted before it finds the turn taken: so one of the two sees the other.
+fn wake_next<K: Kept>(room: &Room<K>) {
+    if room.lobby.has_waiting() {
+        room.table.shared.wake_one(TURN);
+    }
 }
 
 // Lays the desk back as it was found, and gives the turn back.
@@ -66,7 +97,7 @@ pub(crate) fn give_back<K: Kept>(
     let empty = shared.exchange(seat, 0, Some(desk));
     let None = empty else { unreachable!() };
     shared.store::<GiveBack>(seat, TURN, 0);
-    shared.wake_one(TURN);
+    wake_next(room);
     count
 }
 
@@ -89,12 +120,13 @@ pub(crate) fn give_on<K: Kept>(
 {
     let shared = &room.table.shared;
     let count = desk.notes.len() as u64;
+    room.lobby.tell(desk.object.left());
     let empty = shared.exchange(seat, 0, Some(desk));
     let None = empty else { unreachable!() };
     shared.fetch_add::<Raise>(seat, COUNT, 1);
     shared.store::<GiveBack>(seat, TURN, 0);
-    shared.wake_one(TURN);
-    shared.wake_all(COUNT);
+    wake_next(room);
+    room.lobby.wake();
     count
 }
 
@@ -118,23 +150,17 @@ pub(crate) fn give_last<K: Kept>(
 {
     let shared = &room.table.shared;
     let count = desk.notes.len() as u64;
+    room.lobby.tell(desk.object.left());
     let empty = shared.exchange(seat, 0, Some(desk));
     let None = empty else { unreachable!() };
     shared.fetch_add::<RaiseLast>(seat, COUNT, 1);
     shared.store::<GiveBack>(seat, TURN, 0);
-    shared.wake_one(TURN);
-    shared.wake_all(COUNT);
+    wake_next(room);
+    room.lobby.wake();
     count
 }
 
-// Sleeps while the history has this many notes, or returns for no reason.
-pub(crate) fn sleep_at<K: Kept, R: Wait>(rt: &R, room: &Room<K>, count: u64) {
-    room.table.shared.park(rt, COUNT, low_bits(count));
-}
-
-// What `park` compares of a word.
-fn low_bits(word: u64) -> u32
-    ensures { result ≡ word % 2 ^ 32 }
-{
-    (word % (1 << 32)) as u32
+/// How many notes the history has.
+pub(crate) fn count_of<K: Kept>(room: &Room<K>) -> u64 {
+    room.table.shared.peek(COUNT)
 }

@@ -76,6 +76,11 @@ impl Kept for Sum {
         matches!(ask, Ask::Leave)
     }
 
+    // All may look at a new sum.
+    fn left(&self) -> u64 {
+        u64::MAX
+    }
+
     fn by(note: &Note) -> u32 {
         note.worker
     }
