@@ -107,6 +107,11 @@ impl Lobby {
         self.looking.fetch_sub(1, SeqCst);
     }
 
+    /// Whether one seat alone looks.
+    pub(crate) fn is_alone(&self) -> bool {
+        self.looking.load(SeqCst) == 1
+    }
+
     /// A seat is about to sleep until the turn is free.
     pub(crate) fn begin_wait(&self) {
         self.waiting.fetch_add(1, SeqCst);

@@ -14,7 +14,7 @@ const LOOKS: u32 = 8;
 /// message to message, which so keeps the processes that it wakes itself.
 const PAUSES: u32 = 40;
 
-/// How often a seat dozes before it rests.
+/// How often a seat dozes before it rests. Only one that looks alone does.
 const DOZES: u32 = 100;
 
 // What a seat has seen.
@@ -35,7 +35,7 @@ pub(crate) fn rest_in<K: Kept, R: Wait>(rt: &R, room: &Room<K>) {
     for _ in rt.forever() {
         match look(room) {
             Sight::Left => break,
-            Sight::Notes if dozes < DOZES => {
+            Sight::Notes if dozes < DOZES && room.lobby.is_alone() => {
                 dozes += 1;
                 room.lobby.doze(rt);
             }
