@@ -145,6 +145,10 @@ fn bad_lines(rt: HostRuntime) -> Result<(), Fail> {
         ("superpascal code 1", 1),
         ("superpascal code 2\n", 1),
         ("superpascal code 1\n\n", 2),
+        (
+            "layout 0 0 - none sizes 1 variables 2 formals\n0 addr 0 2\n1 const 6\n2 store\n3 addr 0 2\n4 load\n5 const 7\n6 mul\n7 write int\n8 end\n",
+            1,
+        ),
         ("superpascal code 1\n0 end", 2),
         ("superpascal code 1\n1 end\n", 2),
         ("superpascal code 1\n0 end\n0 end\n", 3),
