@@ -1,9 +1,9 @@
 //! What is wrong with code in itself, beside the nearest code with which nothing is.
 
 use crate::made::{answer, code_of, plain, procedure, program, table};
+use sp_areas::parts::first_wrong_alone;
 use sp_base::{List, Memory};
 use sp_code::{Instr, Parts};
-use sp_codefile::rules::first_wrong_alone;
 use std::alloc::Global;
 use std::test::Fail;
 

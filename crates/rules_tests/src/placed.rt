@@ -1,10 +1,10 @@
 //! Whose code each instruction is, and what it may not end.
 
 use crate::made::{answer, code_of, plain, procedure, table};
+use sp_areas::owners::{Owner, owners};
+use sp_areas::placed::first_misplaced;
 use sp_base::{List, Memory};
 use sp_code::{Instr, Parts};
-use sp_codefile::rules::owners::{Owner, owners};
-use sp_codefile::rules::placed::first_misplaced;
 use std::alloc::Global;
 use std::test::Fail;
 

@@ -1,5 +1,6 @@
 -- Laws of instructions and their words.
-use Rattle.std.proofs.Common.{◌≡◌, ℕ, ◌^◌, ◌<◌, ◌&&◌, nat_le, Bool, true, false, not, ℤ, pos, List, [], ◌∷◌, ◌++◌, Option, Some, None, refl, ap, ◌∙◌, subst, arith}
+use Rattle.std.proofs.Common.{◌≡◌, ℕ, ◌^◌, ◌<◌, ◌&&◌, nat_le, Bool, true, false, not, ℤ, pos, List, [], ◌∷◌, ◌++◌}
+use Rattle.std.proofs.Common.{Option, Some, None, refl, ap, ◌∙◌, subst, arith}
 use Rattle.std.specs.Fmt.{signed_decimal, decimal}
 use Rattle.std.specs.Int.Signed.{mag}
 use Rattle.std.specs.List.{flat_map}
@@ -10,7 +11,8 @@ use Rattle.sp_codefile.specs.declared.opcodes.Operand.{Operand}
 use Rattle.sp_codefile.specs.CodeText.{IsNumber, IsInteger, InstrFits}
 use Rattle.sp_codefile.specs.Cuts.{word_of, class_cut}
 use Rattle.sp_codefile.specs.Opcodes.{instr_named, filled}
-use Rattle.sp_codefile.proofs.WordLaws.{AtBlank, Outside, AtClass, follow, blank_at, class_at, signed_no_blank, begins_signed, integer_small}
+use Rattle.sp_codefile.proofs.WordLaws.{AtBlank, Outside, AtClass, follow, blank_at, class_at, signed_no_blank}
+use Rattle.sp_codefile.proofs.WordLaws.{begins_signed, integer_small}
 
 -- a word of letters and blanks
 abbrev lettered : List ℕ → Bool
@@ -31,7 +33,12 @@ not_true false e = refl
 
 outside : (xs : List ℕ) → lettered xs ≡ true → Outside 45 57 xs
 outside [] e = tt
-outside (x ∷ xs) e = (not_true (nat_le 45 x && nat_le x 57) (both_left (not (nat_le 45 x && nat_le x 57)) (lettered xs) e), outside xs (both_right (not (nat_le 45 x && nat_le x 57)) (lettered xs) e))
+outside (x ∷ xs) e = (
+  not_true (nat_le 45 x
+      && nat_le x 57) (both_left (not (nat_le 45 x
+      && nat_le x 57)) (lettered xs) e),
+  outside xs (both_right (not (nat_le 45 x && nat_le x 57)) (lettered xs) e),
+)
 
 is_lettered : (x : Instr) → lettered (word x) ≡ true
 is_lettered (i.Const x) = refl
@@ -242,11 +249,15 @@ Agree [] ops = Unit {0}
 Agree (z ∷ zs) [] = Unit {0}
 Agree (z ∷ zs) (a ∷ ops) = IsRead z a × Agree zs ops
 
-pub filled_plain : (x : Instr) → InstrFits x → (a b c : Operand) → Agree (operands x) (a ∷ b ∷ c ∷ []) → filled (plain x) a b c ≡ x
+pub filled_plain : (x : Instr) → InstrFits x → (a b c : Operand) → Agree (operands x) (a ∷ b ∷ c ∷ [])
+    → filled (plain x) a b c ≡ x
 filled_plain (i.Const x) f a b c h = ap i.Const (h.0.integer f)
-filled_plain (i.Addr x y) f a b c h = let e0 = h.0.number x f.0 refl in let e1 = h.1.0.number y f.1 refl in λ j. i.Addr (e0 j) (e1 j)
-filled_plain (i.Deref x y) f a b c h = let e0 = h.0.number x f.0 refl in let e1 = h.1.0.number y f.1 refl in λ j. i.Deref (e0 j) (e1 j)
-filled_plain (i.Index x y z) f a b c h = let e0 = h.0.integer f.0 in let e1 = h.1.0.integer f.1 in let e2 = h.1.1.0.number z f.2 refl in λ j. i.Index (e0 j) (e1 j) (e2 j)
+filled_plain (i.Addr x y) f a b c h = let e0 = h.0.number x f.0 refl in let e1 = h.1.0.number y f.1 refl in λ j. i.Addr
+    (e0 j) (e1 j)
+filled_plain (i.Deref x y) f a b c h = let e0 = h.0.number x f.0 refl in let e1 = h.1.0.number y f.1 refl in λ j.
+    i.Deref (e0 j) (e1 j)
+filled_plain (i.Index x y z) f a b c h = let e0 = h.0.integer f.0 in let e1 = h.1.0.integer f.1 in
+    let e2 = h.1.1.0.number z f.2 refl in λ j. i.Index (e0 j) (e1 j) (e2 j)
 filled_plain (i.Field x) f a b c h = ap i.Field (h.0.number x f refl)
 filled_plain i.Load f a b c h = refl
 filled_plain i.Loadc f a b c h = refl
@@ -270,20 +281,27 @@ filled_plain i.Lt f a b c h = refl
 filled_plain i.Le f a b c h = refl
 filled_plain i.Gt f a b c h = refl
 filled_plain i.Ge f a b c h = refl
-filled_plain (i.Range x y) f a b c h = let e0 = h.0.integer f.0 in let e1 = h.1.0.integer f.1 in λ j. i.Range (e0 j) (e1 j)
+filled_plain (i.Range x y) f a b c h = let e0 = h.0.integer f.0 in let e1 = h.1.0.integer f.1 in λ j. i.Range (e0 j)
+    (e1 j)
 filled_plain (i.Succ x) f a b c h = ap i.Succ (h.0.integer f)
 filled_plain (i.Pred x) f a b c h = ap i.Pred (h.0.integer f)
 filled_plain (i.Jump x) f a b c h = ap i.Jump (h.0.number x f refl)
 filled_plain (i.Jumpf x) f a b c h = ap i.Jumpf (h.0.number x f refl)
-filled_plain (i.Casej x y) f a b c h = let e0 = h.0.integer f.0 in let e1 = h.1.0.number y f.1 refl in λ j. i.Casej (e0 j) (e1 j)
+filled_plain (i.Casej x y) f a b c h = let e0 = h.0.integer f.0 in let e1 = h.1.0.number y f.1 refl in λ j. i.Casej
+    (e0 j) (e1 j)
 filled_plain i.Nocase f a b c h = refl
 filled_plain i.Tick f a b c h = refl
 filled_plain i.Assume f a b c h = refl
-filled_plain (i.Forup x y) f a b c h = let e0 = h.0.number x f.0 refl in let e1 = h.1.0.number y f.1 refl in λ j. i.Forup (e0 j) (e1 j)
-filled_plain (i.Fordown x y) f a b c h = let e0 = h.0.number x f.0 refl in let e1 = h.1.0.number y f.1 refl in λ j. i.Fordown (e0 j) (e1 j)
-filled_plain (i.Nextup x y) f a b c h = let e0 = h.0.number x f.0 refl in let e1 = h.1.0.number y f.1 refl in λ j. i.Nextup (e0 j) (e1 j)
-filled_plain (i.Nextdown x y) f a b c h = let e0 = h.0.number x f.0 refl in let e1 = h.1.0.number y f.1 refl in λ j. i.Nextdown (e0 j) (e1 j)
-filled_plain (i.Call x y) f a b c h = let e0 = h.0.number x f.0 refl in let e1 = h.1.0.number y f.1 refl in λ j. i.Call (e0 j) (e1 j)
+filled_plain (i.Forup x y) f a b c h = let e0 = h.0.number x f.0 refl in let e1 = h.1.0.number y f.1 refl in λ j.
+    i.Forup (e0 j) (e1 j)
+filled_plain (i.Fordown x y) f a b c h = let e0 = h.0.number x f.0 refl in let e1 = h.1.0.number y f.1 refl in λ j.
+    i.Fordown (e0 j) (e1 j)
+filled_plain (i.Nextup x y) f a b c h = let e0 = h.0.number x f.0 refl in let e1 = h.1.0.number y f.1 refl in λ j.
+    i.Nextup (e0 j) (e1 j)
+filled_plain (i.Nextdown x y) f a b c h = let e0 = h.0.number x f.0 refl in let e1 = h.1.0.number y f.1 refl in λ j.
+    i.Nextdown (e0 j) (e1 j)
+filled_plain (i.Call x y) f a b c h = let e0 = h.0.number x f.0 refl in let e1 = h.1.0.number y f.1 refl in λ j. i.Call
+    (e0 j) (e1 j)
 filled_plain i.Return f a b c h = refl
 filled_plain i.ReadInt f a b c h = refl
 filled_plain i.ReadChar f a b c h = refl
@@ -382,8 +400,10 @@ at_operands [] s = tt
 at_operands (z ∷ zs) s = (refl, begins_signed z (flat_map operand_text zs) s.0)
 
 -- the word of an instruction ends where its operands begin
-pub instr_cut : (x : Instr) → InstrFits x → class_cut 45 57 (word x ++ flat_map operand_text (operands x)) ≡ (word x, flat_map operand_text (operands x))
-instr_cut x f = class_at 45 57 (word x) (flat_map operand_text (operands x)) refl (word_outside x) (at_operands (operands x) (operands_small x f))
+pub instr_cut : (x : Instr) → InstrFits x
+    → class_cut 45 57 (word x ++ flat_map operand_text (operands x)) ≡ (word x, flat_map operand_text (operands x))
+instr_cut x f = class_at 45 57 (word x) (flat_map operand_text (operands x)) refl (word_outside x)
+    (at_operands (operands x) (operands_small x f))
 
 -- what a word says, read as an operand
 pub record Reads (w : List ℕ) (a : Operand) : Type 0 where
@@ -394,25 +414,36 @@ blank_operands : (zs : List ℤ) → AtBlank (flat_map operand_text zs)
 blank_operands [] = tt
 blank_operands (z ∷ zs) = refl
 
-pub operand_cut : (z : ℤ) (zs : List ℤ) → mag z < 2 ^ 63 → word_of (flat_map operand_text (z ∷ zs)) ≡ (signed_decimal z, flat_map operand_text zs)
+pub operand_cut : (z : ℤ) (zs : List ℤ) → mag z < 2 ^ 63
+    → word_of (flat_map operand_text (z ∷ zs)) ≡ (signed_decimal z, flat_map operand_text zs)
 operand_cut z zs l = blank_at (signed_decimal z) (flat_map operand_text zs) (signed_no_blank z l) (blank_operands zs)
 
 one_read : (z : ℤ) (w : List ℕ) (a : Operand) → w ≡ signed_decimal z → Reads w a → IsRead z a
 one_read z w a e r = record { integer = λ f. r.integer z f e; number = λ n f g. r.number n f (e ∙ ap signed_decimal g) }
 
 -- the operands in the words of a text, each of which was read
-pub agree : (zs : List ℤ) (t u v : List ℕ) (a b c : Operand) → AreSmall zs → t ≡ flat_map operand_text zs → Reads (word_of t).0 a → u ≡ (word_of t).1 → Reads (word_of u).0 b → v ≡ (word_of u).1 → Reads (word_of v).0 c → Agree zs (a ∷ b ∷ c ∷ [])
+pub agree : (zs : List ℤ) (t u v : List ℕ) (a b c : Operand) → AreSmall zs → t ≡ flat_map operand_text zs
+    → Reads (word_of t).0 a → u ≡ (word_of t).1 → Reads (word_of u).0 b → v ≡ (word_of u).1 → Reads (word_of v).0 c
+    → Agree zs (a ∷ b ∷ c ∷ [])
 agree [] t u v a b c s e ra eu rb ev rc = tt
-agree (x ∷ []) t u v a b c s e ra eu rb ev rc = let f = ap word_of e ∙ operand_cut x [] s.0 in (one_read x _ a (ap (λ (p : List ℕ × List ℕ). p.0) f) ra, tt)
+agree (x ∷ []) t u v a b c s e ra eu rb ev rc = let f = ap word_of e
+    ∙ operand_cut x [] s.0 in (one_read x _ a (ap (λ (p : List ℕ × List ℕ). p.0) f) ra, tt)
 agree (x ∷ (y ∷ [])) t u v a b c s e ra eu rb ev rc =
     let f = ap word_of e ∙ operand_cut x (y ∷ []) s.0 in
-    let g = ap word_of (eu ∙ ap (λ (p : List ℕ × List ℕ). p.1) f) ∙ operand_cut y [] s.1.0 in
-    (one_read x _ a (ap (λ (p : List ℕ × List ℕ). p.0) f) ra, (one_read y _ b (ap (λ (p : List ℕ × List ℕ). p.0) g) rb, tt))
+    let g = ap word_of (eu ∙ ap (λ (p : List ℕ × List ℕ). p.1) f) ∙ operand_cut y [] s.1.0 in (
+      one_read x _ a (ap (λ (p : List ℕ × List ℕ). p.0) f) ra,
+      (one_read y _ b (ap (λ (p : List ℕ × List ℕ). p.0) g) rb, tt),
+    )
 agree (x ∷ (y ∷ (z ∷ zs))) t u v a b c s e ra eu rb ev rc =
     let f = ap word_of e ∙ operand_cut x (y ∷ (z ∷ zs)) s.0 in
     let g = ap word_of (eu ∙ ap (λ (p : List ℕ × List ℕ). p.1) f) ∙ operand_cut y (z ∷ zs) s.1.0 in
-    let h = ap word_of (ev ∙ ap (λ (p : List ℕ × List ℕ). p.1) g) ∙ operand_cut z zs s.1.1.0 in
-    (one_read x _ a (ap (λ (p : List ℕ × List ℕ). p.0) f) ra, (one_read y _ b (ap (λ (p : List ℕ × List ℕ). p.0) g) rb, (one_read z _ c (ap (λ (p : List ℕ × List ℕ). p.0) h) rc, all zs)))
+    let h = ap word_of (ev ∙ ap (λ (p : List ℕ × List ℕ). p.1) g) ∙ operand_cut z zs s.1.1.0 in (
+      one_read x _ a (ap (λ (p : List ℕ × List ℕ). p.0) f) ra,
+      (
+        one_read y _ b (ap (λ (p : List ℕ × List ℕ). p.0) g) rb,
+        (one_read z _ c (ap (λ (p : List ℕ × List ℕ). p.0) h) rc, all zs),
+      ),
+    )
   where
     all : (zs : List ℤ) → Agree zs []
     all [] = tt
@@ -425,14 +456,21 @@ none_some : (x : Instr) → ◌≡◌ {A = Option Instr} None (Some x) → ⊥
 none_some x e = cc
 
 -- an instruction that is read from its text
-pub read_back : (x : Instr) → InstrFits x → (t name r0 r1 r2 w1 w2 w3 : List ℕ) (y : Instr) (a b c : Operand) → t ≡ word x ++ flat_map operand_text (operands x)
-    → name ≡ (class_cut 45 57 t).0 → r0 ≡ (class_cut 45 57 t).1 → w1 ≡ (word_of r0).0 → r1 ≡ (word_of r0).1 → w2 ≡ (word_of r1).0 → r2 ≡ (word_of r1).1 → w3 ≡ (word_of r2).0
+pub read_back : (x : Instr) → InstrFits x → (t name r0 r1 r2 w1 w2 w3 : List ℕ) (y : Instr) (a b c : Operand)
+    → t ≡ word x ++ flat_map operand_text (operands x)
+    → name ≡ (class_cut 45 57 t).0 → r0 ≡ (class_cut 45 57 t).1 → w1 ≡ (word_of r0).0 → r1 ≡ (word_of r0).1
+    → w2 ≡ (word_of r1).0 → r2 ≡ (word_of r1).1 → w3 ≡ (word_of r2).0
     → Some y ≡ instr_named name → Reads w1 a → Reads w2 b → Reads w3 c → filled y a b c ≡ x
 read_back x f t name r0 r1 r2 w1 w2 w3 y a b c e en e0 f1 e1 f2 e2 f3 h ra rb rc =
-    let k = follow (class_cut 45 57) t _ (word x) (flat_map operand_text (operands x)) name r0 e (instr_cut x f) en e0 in
+    let k = follow (class_cut 45 57) t _ (word x) (flat_map operand_text (operands x)) name r0 e
+    (instr_cut x f) en e0 in
     let is : y ≡ plain x = some_same y (plain x) (h ∙ ap instr_named k.0 ∙ named_plain x) in
-    let all = agree (operands x) r0 r1 r2 a b c (operands_small x f) k.1 (subst (λ (w : List ℕ). Reads w a) f1 ra) e1 (subst (λ (w : List ℕ). Reads w b) f2 rb) e2 (subst (λ (w : List ℕ). Reads w c) f3 rc) in
+    let all = agree (operands x) r0 r1 r2 a b c (operands_small x f) k.1 (subst (λ (w : List ℕ). Reads w a) f1 ra) e1
+    (subst (λ (w : List ℕ). Reads w b) f2 rb) e2 (subst (λ (w : List ℕ). Reads w c) f3 rc) in
     ap (λ (z : Instr). filled z a b c) is ∙ filled_plain x f a b c all
 
-pub has_name : (x : Instr) → InstrFits x → (t name : List ℕ) → t ≡ word x ++ flat_map operand_text (operands x) → name ≡ (class_cut 45 57 t).0 → None ≡ instr_named name → ⊥
-has_name x f t name e en h = none_some (plain x) (h ∙ ap instr_named (en ∙ ap (λ (z : List ℕ). (class_cut 45 57 z).0) e ∙ ap (λ (p : List ℕ × List ℕ). p.0) (instr_cut x f)) ∙ named_plain x)
+pub has_name : (x : Instr) → InstrFits x → (t name : List ℕ) → t ≡ word x ++ flat_map operand_text (operands x)
+    → name ≡ (class_cut 45 57 t).0 → None ≡ instr_named name → ⊥
+has_name x f t name e en h = none_some (plain x) (h
+    ∙ ap instr_named (en ∙ ap (λ (z : List ℕ). (class_cut 45 57 z).0) e
+    ∙ ap (λ (p : List ℕ × List ℕ). p.0) (instr_cut x f)) ∙ named_plain x)

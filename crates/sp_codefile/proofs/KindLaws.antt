@@ -1,5 +1,7 @@
 -- Reading a line by its kind.
-use Rattle.std.proofs.Common.{◌≡◌, ℕ, ◌+◌, ◌*◌, ◌-◌, ◌/◌, ◌%◌, ◌^◌, ◌<◌, ◌≤◌, ◌==◌, nat_lt, Bool, true, false, cond, List, [], ◌∷◌, ◌++◌, length, drop, get_or, Some, None, Result, Ok, Err, refl, sym, ap, ◌∙◌, subst, arith, append_assoc, codes, decimal, All}
+use Rattle.std.proofs.Common.{◌≡◌, ℕ, ◌+◌, ◌*◌, ◌-◌, ◌/◌, ◌%◌, ◌^◌, ◌<◌, ◌≤◌, ◌==◌, nat_lt, Bool, true, false, cond}
+use Rattle.std.proofs.Common.{List, [], ◌∷◌, ◌++◌, length, drop, get_or, Some, None, Result, Ok, Err, refl, sym, ap}
+use Rattle.std.proofs.Common.{◌∙◌, subst, arith, append_assoc, codes, decimal, All}
 use Rattle.std.specs.List.{flat_map}
 use Rattle.std.specs.Result.{IfOk}
 use Rattle.std.specs.Fmt.{digit_glyph}
@@ -17,7 +19,8 @@ use Rattle.sp_codefile.specs.declared.item.Item.{Item}
 use Rattle.sp_codefile.specs.declared.item.Item.TheVariants as item
 use Rattle.sp_codefile.specs.declared.reading.Kind.{Kind}
 use Rattle.sp_codefile.specs.declared.reading.Kind.TheVariants as kind
-use Rattle.sp_codefile.specs.CodeText.{byte_text, child_text, index_text, IsByte, IsCode, LayoutFits, ChildFits, InstrFits}
+use Rattle.sp_codefile.specs.CodeText.{byte_text, child_text, index_text, IsByte, IsCode, LayoutFits, ChildFits}
+use Rattle.sp_codefile.specs.CodeText.{InstrFits}
 use Rattle.sp_codefile.specs.Cuts.{blank_cut}
 use Rattle.sp_codefile.specs.Items.{item_text, last_children, HasRoom, ItemFits, CanFollow, IsNext}
 use Rattle.sp_codefile.specs.Lines.{layout_words, child_words, digit_value, bytes_of, kind_of}
@@ -31,10 +34,13 @@ glyph_value : (d : ℕ) → d < 16 → digit_value (digit_glyph false d) ≡ d
 glyph_value d l = by (nat_lt d 10) refl
   where
     low : (d : ℕ) → nat_lt d 10 ≡ true → cond (nat_lt (48 + d) 58) ((48 + d) % 16) (((48 + d) % 16 + 9) % 16) ≡ d
-    low d e = let k : nat_lt (48 + d) 58 ≡ true = grind (arith, nat_tests) in let m : d < 10 = grind (arith, nat_tests) in ap (λ b. cond b ((48 + d) % 16) (((48 + d) % 16 + 9) % 16)) k ∙ omega arith
+    low d e = let k : nat_lt (48 + d) 58 ≡ true = grind (arith, nat_tests) in let m : d < 10 = grind
+        (arith, nat_tests) in ap (λ b. cond b ((48 + d) % 16) (((48 + d) % 16 + 9) % 16)) k ∙ omega arith
 
-    high : (d : ℕ) → d < 16 → nat_lt d 10 ≡ false → cond (nat_lt (87 + d) 58) ((87 + d) % 16) (((87 + d) % 16 + 9) % 16) ≡ d
-    high d l e = let k : nat_lt (87 + d) 58 ≡ false = grind (arith, nat_tests) in let m : 10 ≤ d = grind (arith, nat_tests) in ap (λ b. cond b ((87 + d) % 16) (((87 + d) % 16 + 9) % 16)) k ∙ omega arith
+    high : (d : ℕ) → d < 16 → nat_lt d 10 ≡ false
+        → cond (nat_lt (87 + d) 58) ((87 + d) % 16) (((87 + d) % 16 + 9) % 16) ≡ d
+    high d l e = let k : nat_lt (87 + d) 58 ≡ false = grind (arith, nat_tests) in let m : 10 ≤ d = grind
+        (arith, nat_tests) in ap (λ b. cond b ((87 + d) % 16) (((87 + d) % 16 + 9) % 16)) k ∙ omega arith
 
     by : (b : Bool) → nat_lt d 10 ≡ b → digit_value (digit_glyph false d) ≡ d
     by true e = ap (λ b. digit_value (cond b (48 + d) (87 + d))) e ∙ low d e
@@ -77,7 +83,8 @@ kind_is p (item.Text t) h = refl
 kind_is p (item.Instr x) h =
     let n = length p.instrs in
     let small : n < 2 ^ 64 = let a = h.0.1 in omega arith in
-    ap kind_of (append_assoc (decimal n) (codes " ") (instr_text x)) ∙ digit_kind (decimal n) (codes " " ++ instr_text x) (decimal_nonempty n small) (digits_within n small)
+    ap kind_of (append_assoc (decimal n) (codes " ") (instr_text x))
+    ∙ digit_kind (decimal n) (codes " " ++ instr_text x) (decimal_nonempty n small) (digits_within n small)
 kind_is p (item.Table c) h = child_kind (length p.forks) 0 c
 kind_is p (item.Child c) h = child_kind (length p.forks - 1) (last_children p.forks) c
 
@@ -86,31 +93,49 @@ abbrev pub Says : List ℕ → Item → Type 0
 Says line x = (p : Parts) (y : Item) → IsCode p → CanFollow p y → line ≡ item_text p y → x ≡ y
 
 module _ (line : List ℕ) where
-  pub says_layout : (l : Layout) → kind_of line ≡ kind.Layout → ((m : Layout) → LayoutFits m → drop 6 line ≡ layout_words m → l ≡ m) → Says line (item.Layout l)
+  pub says_layout : (l : Layout) → kind_of line ≡ kind.Layout
+      → ((m : Layout) → LayoutFits m → drop 6 line ≡ layout_words m → l ≡ m) → Says line (item.Layout l)
   says_layout l k f p (item.Layout m) c h e = ap item.Layout (f m h.1 (ap (drop 6) e ∙ layout_behind m))
-  says_layout l k f p (item.Text t) c h e = let a : kind.Layout ≡ kind.Text = sym k ∙ ap kind_of e ∙ kind_is p (item.Text t) h in absurd (cc a)
-  says_layout l k f p (item.Instr x) c h e = let a : kind.Layout ≡ kind.Instr = sym k ∙ ap kind_of e ∙ kind_is p (item.Instr x) h in absurd (cc a)
-  says_layout l k f p (item.Table d) c h e = let a : kind.Layout ≡ kind.Child = sym k ∙ ap kind_of e ∙ kind_is p (item.Table d) h in absurd (cc a)
-  says_layout l k f p (item.Child d) c h e = let a : kind.Layout ≡ kind.Child = sym k ∙ ap kind_of e ∙ kind_is p (item.Child d) h in absurd (cc a)
+  says_layout l k f p (item.Text t) c h e = let a : kind.Layout ≡ kind.Text = sym k ∙ ap kind_of e
+      ∙ kind_is p (item.Text t) h in absurd (cc a)
+  says_layout l k f p (item.Instr x) c h e = let a : kind.Layout ≡ kind.Instr = sym k ∙ ap kind_of e
+      ∙ kind_is p (item.Instr x) h in absurd (cc a)
+  says_layout l k f p (item.Table d) c h e = let a : kind.Layout ≡ kind.Child = sym k ∙ ap kind_of e
+      ∙ kind_is p (item.Table d) h in absurd (cc a)
+  says_layout l k f p (item.Child d) c h e = let a : kind.Layout ≡ kind.Child = sym k ∙ ap kind_of e
+      ∙ kind_is p (item.Child d) h in absurd (cc a)
 
   pub says_text : (t : List ℕ) → kind_of line ≡ kind.Text → t ≡ bytes_of (drop 5 line) → Says line (item.Text t)
-  says_text t k f p (item.Layout m) c h e = let a : kind.Text ≡ kind.Layout = sym k ∙ ap kind_of e ∙ kind_is p (item.Layout m) h in absurd (cc a)
-  says_text t k f p (item.Text u) c h e = ap item.Text (f ∙ ap (λ (z : List ℕ). bytes_of (drop 5 z)) e ∙ bytes_back u h.1)
-  says_text t k f p (item.Instr x) c h e = let a : kind.Text ≡ kind.Instr = sym k ∙ ap kind_of e ∙ kind_is p (item.Instr x) h in absurd (cc a)
-  says_text t k f p (item.Table d) c h e = let a : kind.Text ≡ kind.Child = sym k ∙ ap kind_of e ∙ kind_is p (item.Table d) h in absurd (cc a)
-  says_text t k f p (item.Child d) c h e = let a : kind.Text ≡ kind.Child = sym k ∙ ap kind_of e ∙ kind_is p (item.Child d) h in absurd (cc a)
+  says_text t k f p (item.Layout m) c h e = let a : kind.Text ≡ kind.Layout = sym k ∙ ap kind_of e
+      ∙ kind_is p (item.Layout m) h in absurd (cc a)
+  says_text t k f p (item.Text u) c h e = ap item.Text (f ∙ ap (λ (z : List ℕ). bytes_of (drop 5 z)) e
+      ∙ bytes_back u h.1)
+  says_text t k f p (item.Instr x) c h e = let a : kind.Text ≡ kind.Instr = sym k ∙ ap kind_of e
+      ∙ kind_is p (item.Instr x) h in absurd (cc a)
+  says_text t k f p (item.Table d) c h e = let a : kind.Text ≡ kind.Child = sym k ∙ ap kind_of e
+      ∙ kind_is p (item.Table d) h in absurd (cc a)
+  says_text t k f p (item.Child d) c h e = let a : kind.Text ≡ kind.Child = sym k ∙ ap kind_of e
+      ∙ kind_is p (item.Child d) h in absurd (cc a)
 
-  pub instr_behind : (n : ℕ) (x : Instr) → n < 2 ^ 64 → line ≡ decimal n ++ codes " " ++ instr_text x → drop 1 (blank_cut line).1 ≡ instr_text x
+  pub instr_behind : (n : ℕ) (x : Instr) → n < 2 ^ 64 → line ≡ decimal n ++ codes " " ++ instr_text x
+      → drop 1 (blank_cut line).1 ≡ instr_text x
   instr_behind n x l e =
       ap (λ (z : List ℕ). drop 1 (blank_cut z).1) (e ∙ append_assoc (decimal n) (codes " ") (instr_text x))
-      ∙ ap (λ (z : List ℕ × List ℕ). drop 1 z.1) (blank_at (decimal n) (codes " " ++ instr_text x) (digits_no_blank n l) refl)
+      ∙ ap (λ (z : List ℕ × List ℕ). drop 1 z.1) (blank_at (decimal n) (codes " "
+      ++ instr_text x) (digits_no_blank n l) refl)
 
-  pub says_instr : (x : Instr) → kind_of line ≡ kind.Instr → ((y : Instr) → InstrFits y → drop 1 (blank_cut line).1 ≡ instr_text y → x ≡ y) → Says line (item.Instr x)
-  says_instr x k f p (item.Layout m) c h e = let a : kind.Instr ≡ kind.Layout = sym k ∙ ap kind_of e ∙ kind_is p (item.Layout m) h in absurd (cc a)
-  says_instr x k f p (item.Text t) c h e = let a : kind.Instr ≡ kind.Text = sym k ∙ ap kind_of e ∙ kind_is p (item.Text t) h in absurd (cc a)
-  says_instr x k f p (item.Instr y) c h e = ap item.Instr (f y h.1 (instr_behind (length p.instrs) y (let a = h.0.1 in omega arith) e))
-  says_instr x k f p (item.Table d) c h e = let a : kind.Instr ≡ kind.Child = sym k ∙ ap kind_of e ∙ kind_is p (item.Table d) h in absurd (cc a)
-  says_instr x k f p (item.Child d) c h e = let a : kind.Instr ≡ kind.Child = sym k ∙ ap kind_of e ∙ kind_is p (item.Child d) h in absurd (cc a)
+  pub says_instr : (x : Instr) → kind_of line ≡ kind.Instr
+      → ((y : Instr) → InstrFits y → drop 1 (blank_cut line).1 ≡ instr_text y → x ≡ y) → Says line (item.Instr x)
+  says_instr x k f p (item.Layout m) c h e = let a : kind.Instr ≡ kind.Layout = sym k ∙ ap kind_of e
+      ∙ kind_is p (item.Layout m) h in absurd (cc a)
+  says_instr x k f p (item.Text t) c h e = let a : kind.Instr ≡ kind.Text = sym k ∙ ap kind_of e
+      ∙ kind_is p (item.Text t) h in absurd (cc a)
+  says_instr x k f p (item.Instr y) c h e = ap item.Instr
+      (f y h.1 (instr_behind (length p.instrs) y (let a = h.0.1 in omega arith) e))
+  says_instr x k f p (item.Table d) c h e = let a : kind.Instr ≡ kind.Child = sym k ∙ ap kind_of e
+      ∙ kind_is p (item.Table d) h in absurd (cc a)
+  says_instr x k f p (item.Child d) c h e = let a : kind.Instr ≡ kind.Child = sym k ∙ ap kind_of e
+      ∙ kind_is p (item.Child d) h in absurd (cc a)
 
   last_some : (fs : List ForkTable) → All HasChild fs → 0 < length fs → 0 < last_children fs
   last_some [] a l = absurd (omega arith)
@@ -119,19 +144,27 @@ module _ (line : List ℕ) where
 
   pub says_child : (x : Item) → kind_of line ≡ kind.Child
       → ((t : ℕ) (c : ChildTable) → t < 2 ^ 64 → ChildFits c → drop 5 line ≡ child_words t 0 c → x ≡ item.Table c)
-      → ((t n : ℕ) (c : ChildTable) → t < 2 ^ 64 → 0 < n → n < 2 ^ 64 → ChildFits c → drop 5 line ≡ child_words t n c → x ≡ item.Child c) → Says line x
-  says_child x k f g p (item.Layout m) c h e = let a : kind.Child ≡ kind.Layout = sym k ∙ ap kind_of e ∙ kind_is p (item.Layout m) h in absurd (cc a)
-  says_child x k f g p (item.Text t) c h e = let a : kind.Child ≡ kind.Text = sym k ∙ ap kind_of e ∙ kind_is p (item.Text t) h in absurd (cc a)
-  says_child x k f g p (item.Instr y) c h e = let a : kind.Child ≡ kind.Instr = sym k ∙ ap kind_of e ∙ kind_is p (item.Instr y) h in absurd (cc a)
-  says_child x k f g p (item.Table d) c h e = f (length p.forks) d (let a = h.0 in omega arith) h.1 (ap (drop 5) e ∙ child_behind (length p.forks) 0 d)
+      → ((t n : ℕ) (c : ChildTable) → t < 2 ^ 64 → 0 < n → n < 2 ^ 64 → ChildFits c → drop 5 line ≡ child_words t n c
+      → x ≡ item.Child c) → Says line x
+  says_child x k f g p (item.Layout m) c h e = let a : kind.Child ≡ kind.Layout = sym k ∙ ap kind_of e
+      ∙ kind_is p (item.Layout m) h in absurd (cc a)
+  says_child x k f g p (item.Text t) c h e = let a : kind.Child ≡ kind.Text = sym k ∙ ap kind_of e
+      ∙ kind_is p (item.Text t) h in absurd (cc a)
+  says_child x k f g p (item.Instr y) c h e = let a : kind.Child ≡ kind.Instr = sym k ∙ ap kind_of e
+      ∙ kind_is p (item.Instr y) h in absurd (cc a)
+  says_child x k f g p (item.Table d) c h e = f (length p.forks) d (let a = h.0 in omega arith) h.1 (ap (drop 5) e
+      ∙ child_behind (length p.forks) 0 d)
   says_child x k f g p (item.Child d) c h e =
-      g (length p.forks - 1) (last_children p.forks) d (let a = c.sizes.forks in omega arith) (last_some p.forks c.sizes.children h.0.0) (let a = h.0.1 in omega arith) h.1
+      g (length p.forks - 1) (last_children p.forks) d (let a = c.sizes.forks in omega arith)
+      (last_some p.forks c.sizes.children h.0.0) (let a = h.0.1 in omega arith) h.1
       (ap (drop 5) e ∙ child_behind (length p.forks - 1) (last_children p.forks) d)
 
 -- the same of a child that may not be read for want of memory
 pub says_child_of : {E : Type 0} (line : List ℕ) (r : Result Item E) → kind_of line ≡ kind.Child
-    → ((t : ℕ) (c : ChildTable) → t < 2 ^ 64 → ChildFits c → drop 5 line ≡ child_words t 0 c → IfOk r (λ x. x ≡ item.Table c))
-    → ((t n : ℕ) (c : ChildTable) → t < 2 ^ 64 → 0 < n → n < 2 ^ 64 → ChildFits c → drop 5 line ≡ child_words t n c → IfOk r (λ x. x ≡ item.Child c))
+    → ((t : ℕ) (c : ChildTable) → t < 2 ^ 64 → ChildFits c → drop 5 line ≡ child_words t 0 c
+    → IfOk r (λ x. x ≡ item.Table c))
+    → ((t n : ℕ) (c : ChildTable) → t < 2 ^ 64 → 0 < n → n < 2 ^ 64 → ChildFits c → drop 5 line ≡ child_words t n c
+    → IfOk r (λ x. x ≡ item.Child c))
     → (p : Parts) (y : Item) → IsCode p → CanFollow p y → line ≡ item_text p y → IfOk r (λ x. x ≡ y)
 says_child_of line (Ok x) k f g = says_child line x k f g
 says_child_of line (Err e) k f g = λ p y c h d. tt
@@ -147,7 +180,8 @@ module _ (p : Parts) (line : List ℕ) (x : Item) (c : IsCode p) (says : Says li
   pub other_text : (line ≡ item_text p x → ⊥) → IsNext p line None
   other_text n y h e = n (e ∙ ap (item_text p) (sym (says p y c h e)))
 
-pub bytes_step : (xs : List ℕ) (d e : ℕ) → 2 ≤ length xs → bytes_of xs ≡ (digit_value (get_or xs 0 d) * 16 + digit_value (get_or xs 1 e)) ∷ bytes_of (drop 2 xs)
+pub bytes_step : (xs : List ℕ) (d e : ℕ) → 2 ≤ length xs
+    → bytes_of xs ≡ (digit_value (get_or xs 0 d) * 16 + digit_value (get_or xs 1 e)) ∷ bytes_of (drop 2 xs)
 bytes_step [] d e l = absurd (omega arith)
 bytes_step (x ∷ []) d e l = absurd (omega arith)
 bytes_step (x ∷ (y ∷ ys)) d e l = refl

@@ -1,5 +1,7 @@
 -- The text of an item has no line feed.
-use Rattle.std.proofs.Common.{◌≡◌, ℕ, suc, ◌-◌, ◌/◌, ◌%◌, ◌^◌, ◌<◌, ◌≤◌, ◌&&◌, nat_le, Bool, true, false, ℤ, pos, negsuc, List, [], ◌∷◌, ◌++◌, length, Option, Some, None, refl, sym, subst, arith, codes, decimal, All}
+use Rattle.std.proofs.Common.{◌≡◌, ℕ, suc, ◌-◌, ◌/◌, ◌%◌, ◌^◌, ◌<◌, ◌≤◌, ◌&&◌, nat_le, Bool, true, false, ℤ, pos}
+use Rattle.std.proofs.Common.{negsuc, List, [], ◌∷◌, ◌++◌, length, Option, Some, None, refl, sym, subst, arith, codes}
+use Rattle.std.proofs.Common.{decimal, All}
 use Rattle.std.specs.Int.Signed.{mag}
 use Rattle.std.specs.List.{flat_map}
 use Rattle.std.specs.Fmt.{signed_decimal, digit_glyph}
@@ -15,7 +17,9 @@ use Rattle.sp_code.specs.declared.instr.Instr.TheVariants as i
 use Rattle.sp_code.specs.Listing.{word, operands, number_text, operand_text, instr_text}
 use Rattle.sp_codefile.specs.declared.item.Item.{Item}
 use Rattle.sp_codefile.specs.declared.item.Item.TheVariants as item
-use Rattle.sp_codefile.specs.CodeText.{parent_text, answer_text, formal_text, layout_text, byte_text, text_text, index_text, child_text, IsNumber, MayBeNumber, FormalFits, LayoutFits, ChildFits, IsByte, InstrFits, IsCode, IsOneLine}
+use Rattle.sp_codefile.specs.CodeText.{parent_text, answer_text, formal_text, layout_text, byte_text, text_text}
+use Rattle.sp_codefile.specs.CodeText.{index_text, child_text, IsNumber, MayBeNumber, FormalFits, LayoutFits, ChildFits}
+use Rattle.sp_codefile.specs.CodeText.{IsByte, InstrFits, IsCode, IsOneLine}
 use Rattle.sp_codefile.specs.Items.{item_text, last_children, CanFollow}
 use Rattle.sp_codefile.proofs.Printing.{child_body}
 use Rattle.sp_codefile.proofs.WordLaws.{Within, within_append, within_wider, digits_within}
@@ -43,19 +47,38 @@ is_le m n e = grind (arith, nat_tests)
 tested : (xs : List ℕ) → in_line xs ≡ true → Plain xs
 tested [] e = tt
 tested (x ∷ xs) e =
-    let r = both_right (nat_le 32 x) (nat_le x 122 && in_line xs) e in
-    (is_le 32 x (both_left (nat_le 32 x) (nat_le x 122 && in_line xs) e), is_le x 122 (both_left (nat_le x 122) (in_line xs) r), tested xs (both_right (nat_le x 122) (in_line xs) r))
+    let r = both_right (nat_le 32 x) (nat_le x 122 && in_line xs) e in (
+      is_le 32 x (both_left (nat_le 32 x) (nat_le x 122
+          && in_line xs) e),
+      is_le x 122 (both_left (nat_le x 122) (in_line xs) r),
+      tested xs
+          (both_right (nat_le x 122) (in_line xs) r),
+    )
 
 joined : (xs ys : List ℕ) → Plain xs → Plain ys → Plain (xs ++ ys)
 joined xs ys a b = within_append 32 122 xs ys a b
 
-joined_11 : (a b c d e s t v w x y : List ℕ) → Plain a → Plain b → Plain c → Plain d → Plain e → Plain s → Plain t → Plain v → Plain w → Plain x → Plain y → Plain (a ++ b ++ c ++ d ++ e ++ s ++ t ++ v ++ w ++ x ++ y)
+joined_11 : (a b c d e s t v w x y : List ℕ) → Plain a → Plain b → Plain c → Plain d → Plain e → Plain s → Plain t
+    → Plain v → Plain w → Plain x → Plain y → Plain (a ++ b ++ c ++ d ++ e ++ s ++ t ++ v ++ w ++ x ++ y)
 joined_11 a b c d e s t v w x y ha hb hc hd he hs ht hv hw hx hy =
-    joined (a ++ b ++ c ++ d ++ e ++ s ++ t ++ v ++ w ++ x) y (joined (a ++ b ++ c ++ d ++ e ++ s ++ t ++ v ++ w) x (joined (a ++ b ++ c ++ d ++ e ++ s ++ t ++ v) w (joined (a ++ b ++ c ++ d ++ e ++ s ++ t) v (joined (a ++ b ++ c ++ d ++ e ++ s) t (joined (a ++ b ++ c ++ d ++ e) s (joined (a ++ b ++ c ++ d) e (joined (a ++ b ++ c) d (joined (a ++ b) c (joined a b ha hb) hc) hd) he) hs) ht) hv) hw) hx) hy
+    joined (a ++ b ++ c ++ d ++ e ++ s ++ t ++ v ++ w
+    ++ x) y (joined (a ++ b ++ c ++ d ++ e ++ s ++ t ++ v
+    ++ w) x (joined (a ++ b ++ c ++ d ++ e ++ s ++ t
+    ++ v) w (joined (a ++ b ++ c ++ d ++ e ++ s
+    ++ t) v (joined (a ++ b ++ c ++ d ++ e
+    ++ s) t (joined (a ++ b ++ c ++ d ++ e) s
+    (joined (a ++ b ++ c ++ d) e (joined (a ++ b
+    ++ c) d (joined (a ++ b) c (joined a b ha hb) hc) hd) he) hs) ht) hv) hw) hx) hy
 
-joined_child : (a b c d e s t v w x y : List ℕ) → Plain a → Plain b → Plain c → Plain d → Plain e → Plain s → Plain t → Plain v → Plain w → Plain x → Plain y → Plain ((a ++ b ++ c ++ d ++ e ++ s) ++ (t ++ v ++ w ++ x) ++ y)
+joined_child : (a b c d e s t v w x y : List ℕ) → Plain a → Plain b → Plain c → Plain d → Plain e → Plain s → Plain t
+    → Plain v → Plain w → Plain x → Plain y → Plain ((a ++ b ++ c ++ d ++ e ++ s) ++ (t ++ v ++ w ++ x) ++ y)
 joined_child a b c d e s t v w x y ha hb hc hd he hs ht hv hw hx hy =
-    joined ((a ++ b ++ c ++ d ++ e ++ s) ++ (t ++ v ++ w ++ x)) y (joined (a ++ b ++ c ++ d ++ e ++ s) (t ++ v ++ w ++ x) (joined (a ++ b ++ c ++ d ++ e) s (joined (a ++ b ++ c ++ d) e (joined (a ++ b ++ c) d (joined (a ++ b) c (joined a b ha hb) hc) hd) he) hs) (joined (t ++ v ++ w) x (joined (t ++ v) w (joined t v ht hv) hw) hx)) hy
+    joined ((a ++ b ++ c ++ d ++ e ++ s)
+    ++ (t ++ v ++ w ++ x)) y (joined (a ++ b ++ c ++ d ++ e ++ s) (t ++ v ++ w
+    ++ x) (joined (a ++ b ++ c ++ d ++ e) s
+    (joined (a ++ b ++ c ++ d) e (joined (a ++ b
+    ++ c) d (joined (a ++ b) c (joined a b ha hb) hc) hd) he) hs) (joined (t ++ v
+    ++ w) x (joined (t ++ v) w (joined t v ht hv) hw) hx)) hy
 
 digits : (n : ℕ) → n < 2 ^ 64 → Plain (decimal n)
 digits n l = within_wider 48 57 32 122 (decimal n) (omega arith) (omega arith) (digits_within n l)
@@ -67,9 +90,11 @@ signed (negsuc n) l = (omega arith, omega arith, digits (suc n) (omega arith))
 number : (n : ℕ) → IsNumber n → Plain (number_text n)
 number n l = (omega arith, omega arith, digits n (omega arith))
 
-each : {X : Type 0} (text : X → List ℕ) (Fits : X → Type 0) → ((x : X) → Fits x → Plain (text x)) → (xs : List X) → All Fits xs → Plain (flat_map text xs)
+each : {X : Type 0} (text : X → List ℕ) (Fits : X → Type 0) → ((x : X) → Fits x → Plain (text x)) → (xs : List X)
+    → All Fits xs → Plain (flat_map text xs)
 each text Fits one [] a = tt
-each text Fits one (x ∷ xs) a = joined (text x) (flat_map text xs) (one x (All-head Fits x xs a)) (each text Fits one xs (All-tail Fits x xs a))
+each text Fits one (x ∷ xs) a = joined (text x) (flat_map text xs) (one x (All-head Fits x xs a))
+    (each text Fits one xs (All-tail Fits x xs a))
 
 numbers : (ns : List ℕ) → All IsNumber ns → Plain (flat_map number_text ns)
 numbers ns a = each number_text IsNumber number ns a
@@ -84,12 +109,17 @@ answer false = tested (codes " none") refl
 
 one_formal : (f : Formal) → FormalFits f → Plain (formal_text f)
 one_formal (formal.Value n) l = joined (codes " value") (number_text n) (tested (codes " value") refl) (number n l)
-one_formal (formal.Reference n) l = joined (codes " reference") (number_text n) (tested (codes " reference") refl) (number n l)
+one_formal (formal.Reference n) l = joined (codes " reference") (number_text n) (tested (codes " reference") refl)
+    (number n l)
 
 layout : (l : Layout) → LayoutFits l → Plain (layout_text l)
 layout l f =
-    joined_11 (codes "layout") (number_text l.block) (number_text l.entry) (parent_text l.parent) (answer_text l.answer) (codes " sizes") (flat_map number_text l.sizes) (codes " variables") (flat_map number_text l.variables) (codes " formals") (flat_map formal_text l.formals)
-    (tested (codes "layout") refl) (number l.block f.block) (number l.entry f.entry) (parent l.parent f.parent) (answer l.answer) (tested (codes " sizes") refl) (numbers l.sizes f.sizes) (tested (codes " variables") refl) (numbers l.variables f.variables)
+    joined_11 (codes "layout") (number_text l.block) (number_text l.entry) (parent_text l.parent) (answer_text l.answer)
+    (codes " sizes") (flat_map number_text l.sizes) (codes " variables") (flat_map number_text l.variables)
+    (codes " formals") (flat_map formal_text l.formals)
+    (tested (codes "layout") refl) (number l.block f.block) (number l.entry f.entry) (parent l.parent f.parent)
+    (answer l.answer) (tested (codes " sizes") refl) (numbers l.sizes f.sizes) (tested (codes " variables") refl)
+    (numbers l.variables f.variables)
     (tested (codes " formals") refl) (each formal_text FormalFits one_formal l.formals f.formals)
 
 glyph : (d : ℕ) → d < 16 → (32 ≤ digit_glyph false d) × (digit_glyph false d ≤ 122)
@@ -102,7 +132,8 @@ one_byte b l =
     (high.0, high.1, (low.0, low.1, tt))
 
 text : (t : List ℕ) → All IsByte t → Plain (text_text t)
-text t a = joined (codes "text ") (flat_map byte_text t) (tested (codes "text ") refl) (each byte_text IsByte one_byte t a)
+text t a = joined (codes "text ") (flat_map byte_text t) (tested (codes "text ") refl)
+    (each byte_text IsByte one_byte t a)
 
 index : (i : Option ℕ) → MayBeNumber i → Plain (index_text i)
 index None f = tt
@@ -110,8 +141,12 @@ index (Some v) f = joined (codes " index") (number_text v) (tested (codes " inde
 
 child : (t k : ℕ) (c : ChildTable) → t < 2 ^ 64 → k < 2 ^ 64 → ChildFits c → Plain (child_text t k c)
 child t k c l m f = subst (λ (z : List ℕ). Plain (z ++ index_text c.index)) (sym (child_body t k c))
-    (joined_child (codes "table ") (decimal t) (codes " child ") (decimal k) (codes " entry ") (decimal c.entry) (codes " moves") (flat_map number_text c.moved) (codes " shares") (flat_map number_text c.shared) (index_text c.index)
-    (tested (codes "table ") refl) (digits t l) (tested (codes " child ") refl) (digits k m) (tested (codes " entry ") refl) (digits c.entry (let a = f.entry in omega arith)) (tested (codes " moves") refl) (numbers c.moved f.moved)
+    (joined_child (codes "table ") (decimal t) (codes " child ") (decimal k) (codes " entry ") (decimal c.entry)
+    (codes " moves") (flat_map number_text c.moved) (codes " shares") (flat_map number_text c.shared)
+    (index_text c.index)
+    (tested (codes "table ") refl) (digits t l) (tested (codes " child ") refl) (digits k m)
+    (tested (codes " entry ") refl) (digits c.entry (let a = f.entry in omega arith)) (tested (codes " moves") refl)
+    (numbers c.moved f.moved)
     (tested (codes " shares") refl) (numbers c.shared f.shared) (index c.index f.index))
 
 in_words : (x : Instr) → in_line (word x) ≡ true
@@ -181,10 +216,16 @@ in_words i.End = refl
 
 all_operands : (zs : List ℤ) → AreSmall zs → Plain (flat_map operand_text zs)
 all_operands [] s = tt
-all_operands (z ∷ zs) s = (omega arith, omega arith, joined (signed_decimal z) (flat_map operand_text zs) (signed z s.0) (all_operands zs s.1))
+all_operands (z ∷ zs) s = (
+  omega arith,
+  omega arith,
+  joined (signed_decimal z) (flat_map operand_text zs) (signed z s.0)
+      (all_operands zs s.1),
+)
 
 instr : (x : Instr) → InstrFits x → Plain (instr_text x)
-instr x f = joined (word x) (flat_map operand_text (operands x)) (tested (word x) (in_words x)) (all_operands (operands x) (operands_small x f))
+instr x f = joined (word x) (flat_map operand_text (operands x)) (tested (word x) (in_words x))
+    (all_operands (operands x) (operands_small x f))
 
 one_line : (xs : List ℕ) → Plain xs → IsOneLine xs
 one_line [] w = tt
@@ -194,7 +235,11 @@ pub item_one_line : (p : Parts) (x : Item) → IsCode p → CanFollow p x → Is
 item_one_line p (item.Layout l) c h = one_line (layout_text l) (layout l h.1)
 item_one_line p (item.Text t) c h = one_line (text_text t) (text t h.1)
 item_one_line p (item.Instr x) c h = one_line (item_text p (item.Instr x))
-    (joined (decimal (length p.instrs) ++ codes " ") (instr_text x) (joined (decimal (length p.instrs)) (codes " ") (digits (length p.instrs) (let a = h.0.1 in omega arith)) (tested (codes " ") refl)) (instr x h.1))
-item_one_line p (item.Table c) k h = one_line (child_text (length p.forks) 0 c) (child (length p.forks) 0 c (let a = h.0 in omega arith) (omega arith) h.1)
+    (joined (decimal (length p.instrs) ++ codes " ") (instr_text x)
+    (joined (decimal (length p.instrs)) (codes " ") (digits (length p.instrs) (let a = h.0.1 in omega arith))
+    (tested (codes " ") refl)) (instr x h.1))
+item_one_line p (item.Table c) k h = one_line (child_text (length p.forks) 0 c)
+    (child (length p.forks) 0 c (let a = h.0 in omega arith) (omega arith) h.1)
 item_one_line p (item.Child c) k h = one_line (child_text (length p.forks - 1) (last_children p.forks) c)
-    (child (length p.forks - 1) (last_children p.forks) c (let a = k.sizes.forks in omega arith) (let a = h.0.1 in omega arith) h.1)
+    (child (length p.forks - 1) (last_children p.forks) c (let a = k.sizes.forks in omega arith)
+    (let a = h.0.1 in omega arith) h.1)

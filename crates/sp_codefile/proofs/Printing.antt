@@ -1,5 +1,7 @@
 -- Laws of what is written, item by item.
-use Rattle.std.proofs.Common.{◌≡◌, ℕ, suc, ◌+◌, ◌-◌, ◌<◌, List, [], ◌∷◌, ◌++◌, length, take, get_or, refl, sym, ap, ◌∙◌, arith, append_assoc, append-nil, length-append, codes, decimal, All, subst, Result, Ok, Err}
+use Rattle.std.proofs.Common.{◌≡◌, ℕ, suc, ◌+◌, ◌-◌, ◌<◌, List, [], ◌∷◌, ◌++◌, length, take, get_or, refl, sym, ap, ◌∙◌}
+use Rattle.std.proofs.Common.{arith, append_assoc, append-nil, length-append, codes, decimal, All, subst, Result, Ok}
+use Rattle.std.proofs.Common.{Err}
 use Rattle.std.specs.Result.{OnOk}
 use Rattle.sp_code.specs.declared.instr.Instr.{Instr}
 use Rattle.std.proofs.lemmas.List.Elements.{All-more}
@@ -11,13 +13,18 @@ use Rattle.sp_code.specs.Listing.{number_text, child_line, instr_line, instr_tex
 use Rattle.sp_codefile.specs.CodeText.{body, line, index_text, child_text}
 
 -- the text of one item more
-pub text_more : {X : Type 0} (text : X → List ℕ) (xs : List X) (i : ℕ) (d : X) (old out new : List ℕ) → i < length xs → out ≡ old ++ flat_map text (take i xs) → new ≡ out ++ text (get_or xs i d) → new ≡ old ++ flat_map text (take (i + 1) xs)
+pub text_more : {X : Type 0} (text : X → List ℕ) (xs : List X) (i : ℕ) (d : X) (old out new : List ℕ) → i < length xs
+    → out ≡ old ++ flat_map text (take i xs) → new ≡ out ++ text (get_or xs i d) → new ≡ old
+    ++ flat_map text (take (i + 1) xs)
 text_more text xs i d old out new l e f =
     let s : suc i ≡ i + 1 = omega arith in
     let one : flat_map text (get_or xs i d ∷ []) ≡ text (get_or xs i d) = append-nil (text (get_or xs i d)) in
     let more : flat_map text (take (i + 1) xs) ≡ flat_map text (take i xs) ++ text (get_or xs i d) =
-    ap (λ (j : ℕ). flat_map text (take j xs)) (sym s) ∙ ap (flat_map text) (take-suc xs i d l) ∙ flat_map-append text (take i xs) (get_or xs i d ∷ []) ∙ ap (λ (y : List ℕ). flat_map text (take i xs) ++ y) one in
-    f ∙ ap (λ (y : List ℕ). y ++ text (get_or xs i d)) e ∙ append_assoc old (flat_map text (take i xs)) (text (get_or xs i d)) ∙ ap (λ (y : List ℕ). old ++ y) (sym more)
+    ap (λ (j : ℕ). flat_map text (take j xs)) (sym s) ∙ ap (flat_map text) (take-suc xs i d l)
+    ∙ flat_map-append text (take i xs) (get_or xs i d ∷ [])
+    ∙ ap (λ (y : List ℕ). flat_map text (take i xs) ++ y) one in
+    f ∙ ap (λ (y : List ℕ). y ++ text (get_or xs i d)) e
+    ∙ append_assoc old (flat_map text (take i xs)) (text (get_or xs i d)) ∙ ap (λ (y : List ℕ). old ++ y) (sym more)
 
 -- a line without its line feed
 pub body_of : (text : List ℕ) → body (text ++ 10 ∷ []) ≡ text
@@ -37,11 +44,14 @@ regrouped e m f s g = simp append_assoc refl
 
 pub child_body : (t k : ℕ) (c : ChildTable) → body (child_line t k c) ≡ child_entry t k c ++ child_lists c
 child_body t k c =
-    body_of (child_entry t k c ++ codes " moves" ++ flat_map number_text c.moved ++ codes " shares" ++ flat_map number_text c.shared)
-    ∙ sym (regrouped (child_entry t k c) (codes " moves") (flat_map number_text c.moved) (codes " shares") (flat_map number_text c.shared))
+    body_of (child_entry t k c ++ codes " moves" ++ flat_map number_text c.moved ++ codes " shares"
+    ++ flat_map number_text c.shared)
+    ∙ sym (regrouped (child_entry t k c) (codes " moves") (flat_map number_text c.moved) (codes " shares")
+    (flat_map number_text c.shared))
 
 -- the parts of a child's line put one after another
-pub child_put : (t k : ℕ) (c : ChildTable) (old one two new : List ℕ) → one ≡ old ++ child_entry t k c → two ≡ one ++ child_lists c → new ≡ two ++ index_text c.index → new ≡ old ++ child_text t k c
+pub child_put : (t k : ℕ) (c : ChildTable) (old one two new : List ℕ) → one ≡ old ++ child_entry t k c → two ≡ one
+    ++ child_lists c → new ≡ two ++ index_text c.index → new ≡ old ++ child_text t k c
 child_put t k c old one two new e f g =
     let parts = append_assoc old (child_entry t k c) (child_lists c) in
     g ∙ ap (λ (y : List ℕ). y ++ index_text c.index) (f ∙ ap (λ (y : List ℕ). y ++ child_lists c) e ∙ parts)
@@ -49,12 +59,16 @@ child_put t k c old one two new e f g =
     ∙ ap (λ (y : List ℕ). old ++ (y ++ index_text c.index)) (sym (child_body t k c))
 
 -- one item's line more
-pub line_more : {X : Type 0} (text : X → List ℕ) (xs : List X) (i : ℕ) (x : X) (old out mid new : List ℕ) → i < length xs → x ≡ get_or xs i x → out ≡ old ++ flat_map (λ y. line (text y)) (take i xs) → mid ≡ out ++ text x → new ≡ mid ++ codes "\n" → new ≡ old ++ flat_map (λ y. line (text y)) (take (i + 1) xs)
+pub line_more : {X : Type 0} (text : X → List ℕ) (xs : List X) (i : ℕ) (x : X) (old out mid new : List ℕ)
+    → i < length xs → x ≡ get_or xs i x → out ≡ old ++ flat_map (λ y. line (text y)) (take i xs) → mid ≡ out ++ text x
+    → new ≡ mid ++ codes "\n" → new ≡ old ++ flat_map (λ y. line (text y)) (take (i + 1) xs)
 line_more text xs i x old out mid new l is e f g =
     text_more (λ y. line (text y)) xs i x old out new l e
-    (g ∙ ap (λ (y : List ℕ). y ++ codes "\n") f ∙ append_assoc out (text x) (codes "\n") ∙ ap (λ (y : _). out ++ line (text y)) is)
+    (g ∙ ap (λ (y : List ℕ). y ++ codes "\n") f ∙ append_assoc out (text x) (codes "\n")
+    ∙ ap (λ (y : _). out ++ line (text y)) is)
 
-pub fits_more : {X : Type 0} (P : X → Type 0) (xs : List X) (i : ℕ) (x : X) → i < length xs → x ≡ get_or xs i x → All P (take i xs) → P x → All P (take (i + 1) xs)
+pub fits_more : {X : Type 0} (P : X → Type 0) (xs : List X) (i : ℕ) (x : X) → i < length xs → x ≡ get_or xs i x
+    → All P (take i xs) → P x → All P (take (i + 1) xs)
 fits_more P xs i x l is a p = All-more P xs i x l a (subst P is p)
 
 -- what follows from a fact of an `Ok`

@@ -1,5 +1,7 @@
 -- Laws of cutting a line into words.
-use Rattle.std.proofs.Common.{◌≡◌, ◌≢◌, ℕ, suc, ◌+◌, ◌%◌, ◌^◌, ◌<◌, ◌≤◌, ◌==◌, ◌&&◌, nat_le, Bool, true, false, cond, ℤ, pos, negsuc, List, [], ◌∷◌, ◌++◌, length, refl, sym, ap, ◌∙◌, subst, arith, decimal, codes, All}
+use Rattle.std.proofs.Common.{◌≡◌, ◌≢◌, ℕ, suc, ◌+◌, ◌%◌, ◌^◌, ◌<◌, ◌≤◌, ◌==◌, ◌&&◌, nat_le, Bool, true, false, cond, ℤ}
+use Rattle.std.proofs.Common.{pos, negsuc, List, [], ◌∷◌, ◌++◌, length, refl, sym, ap, ◌∙◌, subst, arith, decimal}
+use Rattle.std.proofs.Common.{codes, All}
 use Rattle.std.specs.Fmt.{signed_decimal}
 use Rattle.std.specs.Int.Signed.{mag}
 use Rattle.std.specs.List.{flat_map}
@@ -48,18 +50,22 @@ abbrev pub AtClass : ℕ → ℕ → List ℕ → Type 0
 AtClass low high [] = Unit {0}
 AtClass low high (x ∷ xs) = (x ≡ 32) × (begins low high xs ≡ true)
 
-not_begun : (low high : ℕ) (w rest : List ℕ) → nat_le low 32 && nat_le 32 high ≡ false → Outside low high w → AtClass low high rest → begins low high (w ++ rest) ≡ false
+not_begun : (low high : ℕ) (w rest : List ℕ) → nat_le low 32 && nat_le 32 high ≡ false → Outside low high w
+    → AtClass low high rest → begins low high (w ++ rest) ≡ false
 not_begun low high [] [] z o a = refl
 not_begun low high [] (y ∷ ys) z o a = ap (λ (k : ℕ). nat_le low k && nat_le k high) a.0 ∙ z
 not_begun low high (y ∷ w) rest z o a = o.0
 
-pub class_at : (low high : ℕ) (w rest : List ℕ) → nat_le low 32 && nat_le 32 high ≡ false → Outside low high w → AtClass low high rest → class_cut low high (w ++ rest) ≡ (w, rest)
+pub class_at : (low high : ℕ) (w rest : List ℕ) → nat_le low 32 && nat_le 32 high ≡ false → Outside low high w
+    → AtClass low high rest → class_cut low high (w ++ rest) ≡ (w, rest)
 class_at low high [] [] z o a = refl
 class_at low high [] (x ∷ xs) z o a = rw (here x 32 a.0) (rw a.1 refl)
 class_at low high (x ∷ w) rest z o a =
-    rw (not_begun low high w rest z o.1 a) (rw (and_false (x == 32)) (ap (λ (p : List ℕ × List ℕ). (x ∷ p.0, p.1)) (class_at low high w rest z o.1 a)))
+    rw (not_begun low high w rest z o.1 a) (rw (and_false (x == 32)) (ap (λ (p : List ℕ
+    × List ℕ). (x ∷ p.0, p.1)) (class_at low high w rest z o.1 a)))
 
-pub outside_append : (low high : ℕ) (xs ys : List ℕ) → Outside low high xs → Outside low high ys → Outside low high (xs ++ ys)
+pub outside_append : (low high : ℕ) (xs ys : List ℕ) → Outside low high xs → Outside low high ys
+    → Outside low high (xs ++ ys)
 outside_append low high [] ys a b = b
 outside_append low high (x ∷ xs) ys a b = (a.0, outside_append low high xs ys a.1 b)
 
@@ -72,13 +78,15 @@ abbrev pub Within : ℕ → ℕ → List ℕ → Type 0
 Within low high [] = Unit {0}
 Within low high (x ∷ xs) = (low ≤ x) × (x ≤ high) × Within low high xs
 
-pub within_append : (low high : ℕ) (xs ys : List ℕ) → Within low high xs → Within low high ys → Within low high (xs ++ ys)
+pub within_append : (low high : ℕ) (xs ys : List ℕ) → Within low high xs → Within low high ys
+    → Within low high (xs ++ ys)
 within_append low high [] ys a b = b
 within_append low high (x ∷ xs) ys a b = (a.0, a.1, within_append low high xs ys a.2 b)
 
 pub within_wider : (lo hi low high : ℕ) (xs : List ℕ) → low ≤ lo → hi ≤ high → Within lo hi xs → Within low high xs
 within_wider lo hi low high [] l h w = tt
-within_wider lo hi low high (x ∷ xs) l h w = (let a = w.0 in omega arith, let a = w.1 in omega arith, within_wider lo hi low high xs l h w.2)
+within_wider lo hi low high (x ∷ xs) l h w =
+    (let a = w.0 in omega arith, let a = w.1 in omega arith, within_wider lo hi low high xs l h w.2)
 
 pub digits_within : (n : ℕ) → n < 2 ^ 64 → Within 48 57 (decimal n)
 digits_within n l = decimal_by_steps (λ _ ds. Within 48 57 ds)
@@ -105,7 +113,11 @@ digits_no_letter n l = no_letter (decimal n) (digits_within n l)
 
 pub numbers_no_letter : (ns : List ℕ) → All IsNumber ns → Outside 97 122 (flat_map number_text ns)
 numbers_no_letter [] a = tt
-numbers_no_letter (n ∷ ns) a = (refl, outside_append 97 122 (decimal n) (flat_map number_text ns) (digits_no_letter n (omega (arith, All-head IsNumber n ns a))) (numbers_no_letter ns (All-tail IsNumber n ns a)))
+numbers_no_letter (n ∷ ns) a = (
+  refl,
+  outside_append 97 122 (decimal n) (flat_map number_text ns)
+      (digits_no_letter n (omega (arith, All-head IsNumber n ns a))) (numbers_no_letter ns (All-tail IsNumber n ns a)),
+)
 
 pub signed_no_blank : (z : ℤ) → mag z < 2 ^ 63 → NoBlank (signed_decimal z)
 signed_no_blank (pos n) l = digits_no_blank n (omega arith)
@@ -120,7 +132,8 @@ begins_digit (d ∷ ds) rest s w = digit d w.0 w.1
 
 -- a number begins with a digit or a sign
 pub begins_signed : (z : ℤ) (rest : List ℕ) → mag z < 2 ^ 63 → begins 45 57 (signed_decimal z ++ rest) ≡ true
-begins_signed (pos n) rest l = begins_digit (decimal n) rest (decimal_nonempty n (omega arith)) (digits_within n (omega arith))
+begins_signed (pos n) rest l = begins_digit (decimal n) rest (decimal_nonempty n (omega arith))
+    (digits_within n (omega arith))
 begins_signed (negsuc n) rest l = refl
 
 -- a number of 64 bits with its sign
@@ -138,14 +151,17 @@ blank_numbers [] = tt
 blank_numbers (n ∷ ns) = refl
 
 -- the first of some numbers, and the text of the others
-pub number_cut : (n : ℕ) (ns : List ℕ) → IsNumber n → word_of (flat_map number_text (n ∷ ns)) ≡ (decimal n, flat_map number_text ns)
+pub number_cut : (n : ℕ) (ns : List ℕ) → IsNumber n
+    → word_of (flat_map number_text (n ∷ ns)) ≡ (decimal n, flat_map number_text ns)
 number_cut n ns l = blank_at (decimal n) (flat_map number_text ns) (digits_no_blank n (omega arith)) (blank_numbers ns)
 
 blank_shorter : (xs : List ℕ) → length (blank_cut xs).1 ≤ length xs
 blank_shorter [] = omega arith
 blank_shorter (x ∷ xs) = by (x == 32) (blank_shorter xs)
   where
-    by : (b : Bool) → length (blank_cut xs).1 ≤ length xs → length (cond {A = List ℕ × List ℕ} b ([], x ∷ xs) (x ∷ (blank_cut xs).0, (blank_cut xs).1)).1 ≤ length (x ∷ xs)
+    by : (b : Bool) → length (blank_cut xs).1 ≤ length xs
+        → length (cond {A = List ℕ × List ℕ} b ([], x ∷ xs) (x ∷ (blank_cut xs).0, (blank_cut xs).1)).1 ≤ length
+        (x ∷ xs)
     by true h = omega arith
     by false h = omega arith
 
@@ -155,8 +171,13 @@ word_shorter [] l = absurd (omega arith)
 word_shorter (x ∷ xs) l = let h = blank_shorter xs in omega arith
 
 -- a pair that was found by parts
-pub follow : (f : List ℕ → List ℕ × List ℕ) (t x w r a b : List ℕ) → t ≡ x → f x ≡ (w, r) → a ≡ (f t).0 → b ≡ (f t).1 → (a ≡ w) × (b ≡ r)
-follow f t x w r a b e g h k = (h ∙ ap (λ (p : List ℕ × List ℕ). p.0) (ap f e ∙ g), k ∙ ap (λ (p : List ℕ × List ℕ). p.1) (ap f e ∙ g))
+pub follow : (f : List ℕ → List ℕ × List ℕ) (t x w r a b : List ℕ) → t ≡ x → f x ≡ (w, r) → a ≡ (f t).0 → b ≡ (f t).1
+    → (a ≡ w) × (b ≡ r)
+follow f t x w r a b e g h k = (
+  h ∙ ap (λ (p : List ℕ × List ℕ). p.0) (ap f e ∙ g),
+  k
+      ∙ ap (λ (p : List ℕ × List ℕ). p.1) (ap f e ∙ g),
+)
 
 true_false : ◌≡◌ {A = Bool} true false → ⊥
 true_false g = cc

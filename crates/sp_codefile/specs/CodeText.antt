@@ -1,6 +1,7 @@
--- The text of code: a first line, and then a line for each layout, text, instruction and child of a fork table. Writing and
--- reading code files promise the same definition, which makes the two inverse.
-use Rattle.std.specs.Prelude.{◌≡◌, ℕ, suc, zero, ◌-◌, ◌/◌, ◌%◌, ◌^◌, ◌<◌, Bool, true, false, List, [], ◌∷◌, ◌++◌, length, take, Option, Some, None, All, codes}
+-- The text of code: a first line, and then a line for each layout, text, instruction and child of a fork table. Writing
+-- and reading code files promise the same definition, which makes the two inverse.
+use Rattle.std.specs.Prelude.{◌≡◌, ℕ, suc, zero, ◌-◌, ◌/◌, ◌%◌, ◌^◌, ◌<◌, Bool, true, false, List, [], ◌∷◌, ◌++◌}
+use Rattle.std.specs.Prelude.{length, take, Option, Some, None, All, codes}
 use Rattle.std.specs.List.{flat_map}
 use Rattle.std.specs.Fmt.{digit_glyph}
 use Rattle.std.specs.Prelude.{FitsSigned, ℤ}
@@ -54,7 +55,8 @@ index_text (Some v) = codes " index" ++ number_text v
 abbrev pub body : List ℕ → List ℕ
 body line = take (length line - 1) line
 
--- child k of fork table t as the listing has it, with the index behind, as `table 0 child 0 entry 7 moves shares 3 index 4`
+-- child k of fork table t as the listing has it, with the index behind, as `table 0 child 0 entry 7 moves shares 3
+-- index 4`
 abbrev pub child_text : ℕ → ℕ → ChildTable → List ℕ
 child_text t k c = body (child_line t k c) ++ index_text c.index
 
@@ -72,7 +74,8 @@ table_text t table = numbered (child_of t) 0 table.children
 -- the first line, all layouts, all texts, all instructions as the listing has them, and all fork tables
 abbrev pub code_text : Parts → List ℕ
 code_text code =
-    codes "superpascal code 1\n" ++ flat_map (λ l. line (layout_text l)) code.layouts ++ flat_map (λ t. line (text_text t)) code.texts
+    codes "superpascal code 1\n" ++ flat_map (λ l. line (layout_text l)) code.layouts
+    ++ flat_map (λ t. line (text_text t)) code.texts
     ++ numbered instr_line 0 code.instrs ++ numbered table_text 0 code.forks
 
 -- a number of 32 bits

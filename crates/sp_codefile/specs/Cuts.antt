@@ -1,5 +1,5 @@
--- Cutting a line into words, for the parts of the reader. No public contract cites these; they are recursive, so that proofs go
--- by the bytes of a line.
+-- Cutting a line into words, for the parts of the reader. No public contract cites these; they are recursive, so that
+-- proofs go by the bytes of a line.
 use Rattle.std.specs.Prelude.{ℕ, ◌==◌, ◌&&◌, nat_le, Bool, false, cond, List, [], ◌∷◌}
 
 -- the text up to the first blank, and from this blank on
@@ -20,4 +20,5 @@ begins low high (x ∷ xs) = nat_le low x && nat_le x high
 -- the text up to the first blank with a byte from low to high behind it, and from this blank on
 abbrev pub class_cut : ℕ → ℕ → List ℕ → List ℕ × List ℕ
 class_cut low high [] = ([], [])
-class_cut low high (x ∷ xs) = cond (x == 32 && begins low high xs) ([], x ∷ xs) (x ∷ (class_cut low high xs).0, (class_cut low high xs).1)
+class_cut low high (x ∷ xs) = cond (x == 32
+    && begins low high xs) ([], x ∷ xs) (x ∷ (class_cut low high xs).0, (class_cut low high xs).1)

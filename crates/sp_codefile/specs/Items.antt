@@ -1,6 +1,7 @@
--- Code as a row of items, a line each: which can come next, with what text, and the parts with it. No public contract cites these;
--- the parts of the reader promise them to each other, so that each line is looked at once.
-use Rattle.std.specs.Prelude.{◌≡◌, ℕ, ◌+◌, ◌-◌, ◌^◌, ◌<◌, List, [], ◌∷◌, ◌++◌, length, Option, Some, None, All, codes, decimal}
+-- Code as a row of items, a line each: which can come next, with what text, and the parts with it. No public contract
+-- cites these; the parts of the reader promise them to each other, so that each line is looked at once.
+use Rattle.std.specs.Prelude.{◌≡◌, ℕ, ◌+◌, ◌-◌, ◌^◌, ◌<◌, List, [], ◌∷◌, ◌++◌, length, Option, Some, None, All, codes}
+use Rattle.std.specs.Prelude.{decimal}
 use Rattle.sp_code.specs.declared.code.ChildTable.{ChildTable}
 use Rattle.sp_code.specs.declared.code.ForkTable.{ForkTable}
 use Rattle.sp_code.specs.declared.code.Parts.{Parts}
@@ -40,7 +41,8 @@ ItemFits (item.Child c) = ChildFits c
 
 -- it stands behind these parts, and there are no more of its kind than code may have
 abbrev pub HasRoom : Parts → Item → Type 0
-HasRoom p (item.Layout l) = (p.texts ≡ []) × (p.instrs ≡ []) × (p.forks ≡ []) × (length p.layouts < 1048576) × HasNumbers l
+HasRoom p (item.Layout l) = (p.texts ≡ []) × (p.instrs ≡ []) × (p.forks ≡ []) × (length p.layouts < 1048576)
+    × HasNumbers l
 HasRoom p (item.Text t) = (p.instrs ≡ []) × (p.forks ≡ []) × (length p.texts < 1048576)
 HasRoom p (item.Instr x) = (p.forks ≡ []) × (length p.instrs < 1048576)
 HasRoom p (item.Table c) = length p.forks < 1048576
@@ -60,5 +62,6 @@ after_item p (item.Child c) = record p { forks = with_child p.forks c }
 
 -- the line is the text of this item, which can come next, and of no other; or it is the text of none
 abbrev pub IsNext : Parts → List ℕ → Option Item → Type 0
-IsNext p line (Some x) = CanFollow p x × (line ≡ item_text p x) × ((y : Item) → CanFollow p y → line ≡ item_text p y → y ≡ x)
+IsNext p line (Some x) = CanFollow p x × (line ≡ item_text p x)
+    × ((y : Item) → CanFollow p y → line ≡ item_text p y → y ≡ x)
 IsNext p line None = (y : Item) → CanFollow p y → line ≡ item_text p y → ⊥

@@ -1,6 +1,7 @@
--- The lines of layouts and children behind their first word, and what digits write, for the parts of the reader. No public contract
--- cites these.
-use Rattle.std.specs.Prelude.{ℕ, ◌+◌, ◌*◌, ◌%◌, ◌==◌, nat_lt, get_or, cond, Bool, true, false, List, [], ◌∷◌, ◌++◌, Option, Some, None, codes, decimal}
+-- The lines of layouts and children behind their first word, and what digits write, for the parts of the reader. No
+-- public contract cites these.
+use Rattle.std.specs.Prelude.{ℕ, ◌+◌, ◌*◌, ◌%◌, ◌==◌, nat_lt, get_or, cond, Bool, true, false, List, [], ◌∷◌, ◌++◌}
+use Rattle.std.specs.Prelude.{Option, Some, None, codes, decimal}
 use Rattle.std.specs.List.{flat_map}
 use Rattle.sp_code.specs.declared.code.ChildTable.{ChildTable}
 use Rattle.sp_code.specs.declared.code.Layout.{Layout}
@@ -22,13 +23,16 @@ answer_word false = codes "none"
 -- a layout behind its first word
 abbrev pub layout_words : Layout → List ℕ
 layout_words l =
-    number_text l.block ++ (number_text l.entry ++ (parent_text l.parent ++ (answer_text l.answer ++ (codes " sizes" ++ (flat_map number_text l.sizes
-    ++ (codes " variables" ++ (flat_map number_text l.variables ++ (codes " formals" ++ flat_map formal_text l.formals))))))))
+    number_text l.block ++ (number_text l.entry
+    ++ (parent_text l.parent ++ (answer_text l.answer ++ (codes " sizes" ++ (flat_map number_text l.sizes
+    ++ (codes " variables"
+    ++ (flat_map number_text l.variables ++ (codes " formals" ++ flat_map formal_text l.formals))))))))
 
 -- child k of fork table t behind its first word
 abbrev pub child_words : ℕ → ℕ → ChildTable → List ℕ
 child_words t k c =
-    number_text t ++ (codes " child" ++ (number_text k ++ (codes " entry" ++ (number_text c.entry ++ (codes " moves" ++ (flat_map number_text c.moved
+    number_text t ++ (codes " child"
+    ++ (number_text k ++ (codes " entry" ++ (number_text c.entry ++ (codes " moves" ++ (flat_map number_text c.moved
     ++ (codes " shares" ++ (flat_map number_text c.shared ++ index_text c.index))))))))
 
 -- what a hexadecimal digit stands for
@@ -43,4 +47,5 @@ bytes_of (x ∷ (y ∷ ys)) = (digit_value x * 16 + digit_value y) ∷ bytes_of 
 
 -- what a line says, by its first bytes: `l`, `ta`, `t`, or another
 abbrev pub kind_of : List ℕ → Kind
-kind_of line = cond (get_or line 0 0 == 108) kind.Layout (cond (get_or line 0 0 == 116) (cond (get_or line 1 0 == 97) kind.Child kind.Text) kind.Instr)
+kind_of line = cond (get_or line 0 0 == 108) kind.Layout
+    (cond (get_or line 0 0 == 116) (cond (get_or line 1 0 == 97) kind.Child kind.Text) kind.Instr)

@@ -18,7 +18,8 @@ use thiserror::Error;
 /// Why bytes are not read as code.
 #[derive(Clone, Copy, Debug, PartialEq, Eq, Error)]
 pub enum DecodeError {
-    /// This line, counted from 1, is the first with which the lines begin no code's text, or the next line, which is missing.
+    /// This line, counted from 1, is the first with which the lines begin no code's text, or the next line, which is
+    /// missing.
     #[error("line {0} begins no code's text")]
     BadLine(u64),
     /// Memory was refused.

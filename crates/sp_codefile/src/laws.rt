@@ -1,21 +1,8 @@
-//! What follows from the rules of code files, for every code, input and limits. These functions do nothing: each one's contract
-//! is a law, and whoever rests on the law calls it or cites it.
+//! What follows from the format of code files. The function does nothing: its contract is the law.
 
 ghost use Rattle.std.specs.Prelude.{◌≡◌, List, ℕ};
 ghost use Rattle.sp_code.specs.declared.code.Parts.{Parts};
-ghost use Rattle.sp_code.specs.Sizes.{KeepsSizes};
-ghost use Rattle.sp_code.specs.Sound.{IsSound};
-ghost use Rattle.sp_codefile.specs.Activations.{AnswersQuietly};
 ghost use Rattle.sp_codefile.specs.CodeText.{IsTextOf};
-ghost use Rattle.sp_codefile.specs.Verdict.{IsVerified};
-
-/// Code that breaks no rule is sound: along every journal each turn of each process ends, lacks no operand, jumps to no instruction
-/// that is not there and touches nothing that its process does not hold; and each fork, join and message can be carried out.
-/// While a block that answers is being called, its process stops at nothing but a fault or a pause.
-pub fn verified_code_is_sound()
-    ensures sound { (c : Parts) → KeepsSizes c → IsVerified c → IsSound c }
-    ensures quiet { (c : Parts) → KeepsSizes c → IsVerified c → AnswersQuietly c }
-{}
 
 /// A text is that of one code, so no two codes have the same.
 pub fn a_text_is_of_one_code()

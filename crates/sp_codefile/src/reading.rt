@@ -1,4 +1,5 @@
-//! What a line of a code file says. Bytes that are no line may give any answer: whoever reads a line writes it again, and compares.
+//! What a line of a code file says. Bytes that are no line may give any answer: whoever reads a line writes it again,
+//! and compares.
 
 ghost use Rattle.std.specs.Prelude.{◌≡◌, ◌<◌, ◌^◌, ℕ, true, false, List, Option, Some, None, All, IfOk, codes, decimal};
 ghost use Rattle.std.specs.List.{flat_map};
@@ -10,7 +11,8 @@ ghost use Rattle.sp_code.specs.declared.code.Parts.{Parts};
 ghost use Rattle.sp_code.specs.Listing.{number_text};
 ghost use Rattle.sp_codefile.specs.declared.item.Item.{Item as ItemOf};
 ghost use Rattle.sp_codefile.specs.declared.item.Item.TheVariants as item;
-ghost use Rattle.sp_codefile.specs.CodeText.{formal_text, index_text, IsCode, IsNumber, MayBeNumber, FormalFits, LayoutFits, ChildFits};
+ghost use Rattle.sp_codefile.specs.CodeText.{formal_text, index_text, IsCode, IsNumber, MayBeNumber, FormalFits};
+ghost use Rattle.sp_codefile.specs.CodeText.{LayoutFits, ChildFits};
 ghost use Rattle.sp_codefile.specs.Items.{item_text, CanFollow};
 ghost use Rattle.sp_codefile.specs.Lines.{layout_words, child_words, digit_value, bytes_of, kind_of};
 
@@ -48,7 +50,8 @@ fn formal(name: &[u8], cells: u32) -> Formal
 
 /// The formals of a text of words.
 fn formals(alloc: Global, text: &[u8]) -> Result<List<Formal>, Memory>
-    ensures { (fs : List FormalOf) → All FormalFits fs → text.now ≡ flat_map formal_text fs → IfOk result (λ it. it ≡ fs) }
+    ensures { (fs : List FormalOf) → All FormalFits fs → text.now ≡ flat_map formal_text fs
+        → IfOk result (λ it. it ≡ fs) }
 {
     let mut formals = List::new(alloc);
     let mut rest = text;
@@ -147,8 +150,10 @@ fn index(text: &[u8]) -> Option<u32>
 
 /// The child of a line behind its first word.
 fn read_child(alloc: Global, text: &[u8]) -> Result<Item, Memory>
-    ensures first { (t : ℕ) (c : ChildOf) → t < 2 ^ 64 → ChildFits c → text.now ≡ child_words t 0 c → IfOk result (λ it. it ≡ item.Table c) }
-    ensures further { (t k : ℕ) (c : ChildOf) → t < 2 ^ 64 → 0 < k → k < 2 ^ 64 → ChildFits c → text.now ≡ child_words t k c
+    ensures first { (t : ℕ) (c : ChildOf) → t < 2 ^ 64 → ChildFits c → text.now ≡ child_words t 0 c
+        → IfOk result (λ it. it ≡ item.Table c) }
+    ensures further { (t k : ℕ) (c : ChildOf) → t < 2 ^ 64 → 0 < k → k < 2 ^ 64 → ChildFits c
+        → text.now ≡ child_words t k c
         → IfOk result (λ it. it ≡ item.Child c) }
 {
     let (_, rest) = next_word(text);
@@ -204,7 +209,8 @@ fn kind_of(line: &[u8]) -> Kind
 
 /// What a line without its line feed says.
 pub(crate) fn read_line(alloc: Global, line: &[u8]) -> Result<Item, Memory>
-    ensures { (p : Parts) (x : ItemOf) → IsCode p → CanFollow p x → line.now ≡ item_text p x → IfOk result (λ it. it ≡ x) }
+    ensures { (p : Parts) (x : ItemOf) → IsCode p → CanFollow p x → line.now ≡ item_text p x
+        → IfOk result (λ it. it ≡ x) }
 {
     match kind_of(line) {
         Kind::Layout => Ok(Item::Layout(read_layout(alloc, after(line, 6))?)),

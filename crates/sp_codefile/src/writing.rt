@@ -4,8 +4,10 @@ ghost use Rattle.std.specs.Prelude.{◌≡◌, ◌++◌, ◌^◌, ◌<◌, All, 
 ghost use Rattle.std.specs.List.{flat_map};
 ghost use Rattle.std.specs.Fmt.{digit_glyph};
 ghost use Rattle.sp_code.specs.Listing.{number_text, numbered, instr_text, instr_line};
-ghost use Rattle.sp_codefile.specs.CodeText.{parent_text, answer_text, formal_text, layout_text, byte_text, text_text, index_text, child_text, line, child_of, table_text, code_text};
-ghost use Rattle.sp_codefile.specs.CodeText.{IsNumber, MayBeNumber, FormalFits, LayoutFits, ChildFits, TableFits, IsByte, InstrFits, IsTextOf};
+ghost use Rattle.sp_codefile.specs.CodeText.{parent_text, answer_text, formal_text, layout_text, byte_text, text_text};
+ghost use Rattle.sp_codefile.specs.CodeText.{index_text, child_text, line, child_of, table_text, code_text};
+ghost use Rattle.sp_codefile.specs.CodeText.{IsNumber, MayBeNumber, FormalFits, LayoutFits, ChildFits, TableFits};
+ghost use Rattle.sp_codefile.specs.CodeText.{IsByte, InstrFits, IsTextOf};
 
 use sp_base::{Memory, Text, put_decimal};
 use sp_code::{ChildTable, Code, ForkTable, Formal, Instr, Layout};
@@ -269,8 +271,8 @@ fn put_tables(out: &mut Vec<u8>, forks: &[ForkTable]) -> Result<(), Memory>
     Ok(())
 }
 
-/// The text of code, as a code file has it: a first line, and then a line for each layout, text, instruction and child of a fork
-/// table. `docs/FORMATS.md` has its form. It is refused for want of memory alone.
+/// The text of code, as a code file has it: a first line, and then a line for each layout, text, instruction and child
+/// of a fork table. `docs/FORMATS.md` has its form. It is refused for want of memory alone.
 pub fn encode(alloc: Global, code: &Code) -> Result<Vec<u8>, Memory>
     ensures { IfOk result (λ text. IsTextOf code.now text.items) }
 {

@@ -3,7 +3,8 @@ use Rattle.sp_code.specs.declared.code.Parts.{Parts}
 use Rattle.sp_codefile.specs.CodeText.{IsTextOf}
 use Rattle.sp_codefile.specs.Items.{item_text, IsNext}
 use Rattle.sp_codefile.proofs.WordLaws.{not_empty, empty}
-use Rattle.sp_codefile.proofs.ReadLaws.{Begun, head, parts_first, none_parts, begun_first, bad_first, begun_next, bad_line, read_whole, shorter}
+use Rattle.sp_codefile.proofs.ReadLaws.{Begun, head, parts_first, none_parts, begun_first, bad_first, begun_next}
+use Rattle.sp_codefile.proofs.ReadLaws.{bad_line, read_whole, shorter}
 use Rattle.sp_codefile.proofs.decoding.decode.Goals as goal
 
 pub returns-in_default : goal.returns-in_default
@@ -24,7 +25,13 @@ loop-rest-init c =
     let short = shorter bytes head rest (sym e) in (
       1,
       refl,
-      subst (λ (q : Parts). Begun bytes 1 q rest) (λ j. record { instrs = sym c.new.ensures j; layouts = sym c.new-2.ensures j; forks = sym c.new-3.ensures j; texts = sym c.new-4.ensures j }) (begun_first bytes rest e),
+      subst (λ (q : Parts). Begun bytes 1 q rest)
+          (λ j. record {
+            instrs = sym c.new.ensures j;
+            layouts = sym c.new-2.ensures j;
+            forks = sym c.new-3.ensures j;
+            texts = sym c.new-4.ensures j;
+          }) (begun_first bytes rest e),
       omega arith,
     )
 
@@ -32,19 +39,23 @@ pub returns-in_default-split_line : goal.returns-in_default-split_line
 returns-in_default-split_line c =
     let rest = c.loop-rest.rest.now in
     let i = c.loop-rest.invariant in
-    bad_line c.args.bytes.now i.0 c.loop-rest.line c.loop-rest.parts rest i.1 i.2 (not_empty rest c.is_empty.result c.is_empty.ensures c.loop-rest-test.true)
+    bad_line c.args.bytes.now i.0 c.loop-rest.line c.loop-rest.parts rest i.1 i.2
+    (not_empty rest c.is_empty.result c.is_empty.ensures c.loop-rest-test.true)
     (λ x more h f. none_parts (item_text c.loop-rest.parts x) more (c.in_default-split_line.ensures ∙ f))
 
 pub returns-in_default-2 : goal.returns-in_default-2
 returns-in_default-2 c =
     let rest = c.loop-rest.rest.now in
     let i = c.loop-rest.invariant in
-    let none : IsNext c.loop-rest.parts c.in-Some-split_line.text.now None = subst (IsNext c.loop-rest.parts c.in-Some-split_line.text.now) c.in_default-2.is c.in_ok-item.ensures in
-    bad_line c.args.bytes.now i.0 c.loop-rest.line c.loop-rest.parts rest i.1 i.2 (not_empty rest c.is_empty.result c.is_empty.ensures c.loop-rest-test.true)
+    let none : IsNext c.loop-rest.parts c.in-Some-split_line.text.now None = subst
+    (IsNext c.loop-rest.parts c.in-Some-split_line.text.now) c.in_default-2.is c.in_ok-item.ensures in
+    bad_line c.args.bytes.now i.0 c.loop-rest.line c.loop-rest.parts rest i.1 i.2
+    (not_empty rest c.is_empty.result c.is_empty.ensures c.loop-rest-test.true)
     (λ x more h f. none x h (parts_first _ _ _ _ (c.in-Some-split_line.ensures ∙ f)))
 
 pub loop-rest-smaller : goal.loop-rest-smaller
-loop-rest-smaller c = let short = shorter c.loop-rest.rest.now c.in-Some-split_line.text.now c.in-Some-split_line.behind.now c.in-Some-split_line.ensures in omega arith
+loop-rest-smaller c = let short = shorter c.loop-rest.rest.now c.in-Some-split_line.text.now
+    c.in-Some-split_line.behind.now c.in-Some-split_line.ensures in omega arith
 
 pub loop-rest-preserved : goal.loop-rest-preserved
 loop-rest-preserved c =
@@ -60,7 +71,8 @@ loop-rest-preserved c =
     let fits = i.3 in (
       suc i.0,
       omega arith,
-      begun_next bytes i.0 p rest text behind c.in-Some-2.item c.add.new.parts i.2 c.in-Some-split_line.ensures next c.in_ok-add.ensures,
+      begun_next bytes i.0 p rest text behind c.in-Some-2.item c.add.new.parts i.2 c.in-Some-split_line.ensures next
+          c.in_ok-add.ensures,
       omega arith,
     )
 
@@ -70,4 +82,5 @@ returns c =
     let rest = c.loop-rest.rest.now in
     let i = c.loop-rest.invariant in
     subst (λ (r : Parts). IsTextOf r bytes × ((q : Parts) → IsTextOf q bytes → q ≡ r)) (sym c.of.ensures)
-    (read_whole bytes i.0 c.loop-rest.parts rest i.2 (empty rest c.is_empty.result c.is_empty.ensures c.loop-rest-test.false))
+    (read_whole bytes i.0 c.loop-rest.parts rest i.2
+    (empty rest c.is_empty.result c.is_empty.ensures c.loop-rest-test.false))

@@ -10,7 +10,8 @@ no_number : (n : ℕ) (more : List ℕ) → number_text n ++ more ≡ [] → ⊥
 no_number n more e = cc
 
 pub loop-rest-init : goal.loop-rest-init
-loop-rest-init c = subst (λ (ns : List ℕ). Left number_text IsNumber c.args.text.now ns c.args.text.now) (sym c.new-numbers.ensures) (left_start number_text IsNumber c.args.text.now)
+loop-rest-init c = subst (λ (ns : List ℕ). Left number_text IsNumber c.args.text.now ns c.args.text.now)
+    (sym c.new-numbers.ensures) (left_start number_text IsNumber c.args.text.now)
 
 pub loop-rest-smaller : goal.loop-rest-smaller
 loop-rest-smaller c =
@@ -33,4 +34,5 @@ loop-rest-preserved c =
 pub returns : goal.returns
 returns c = λ ns a e.
     let rest = c.loop-rest.rest.now in
-    left_end number_text IsNumber c.args.text.now c.loop-rest.numbers rest (empty rest c.is_empty.result c.is_empty.ensures c.loop-rest-test.false) no_number c.loop-rest.invariant ns a e
+    left_end number_text IsNumber c.args.text.now c.loop-rest.numbers rest
+    (empty rest c.is_empty.result c.is_empty.ensures c.loop-rest-test.false) no_number c.loop-rest.invariant ns a e

@@ -12,7 +12,8 @@ returns c = λ l f e.
     let w6 = c.next_word-6.ensures in
     let v = c.class_cut-2.ensures in
     let w8 = c.next_word-7.ensures in
-    let k = layout_back l f c.args.text.now _ _ _ _ _ _ _ _ _ _ _ _ _ _ _ e w0.before w0.rest w1.before w1.rest w2.before w2.rest w3.before w3.rest w4.rest s.before s.rest w6.rest v.before v.rest w8.rest in
+    let k = layout_back l f c.args.text.now _ _ _ _ _ _ _ _ _ _ _ _ _ _ _ e w0.before w0.rest w1.before w1.rest
+    w2.before w2.rest w3.before w3.rest w4.rest s.before s.rest w6.rest v.before v.rest w8.rest in
     let block = c.number.ensures l.block f.block k.block in
     let entry = c.number-2.ensures l.entry f.entry k.entry in
     let around = parent_read l.parent f.parent _ c.parent.result k.parent c.parent.ensures.none c.parent.ensures.some in
@@ -20,4 +21,12 @@ returns c = λ l f e.
     let sizes = c.in_ok-sizes.ensures l.sizes f.sizes k.sizes in
     let variables = c.in_ok-variables.ensures l.variables f.variables k.variables in
     let formals = c.in_ok-formals.ensures l.formals f.formals k.formals in
-    λ j. record { block = block j; entry = entry j; parent = around j; answer = answer j; sizes = sizes j; variables = variables j; formals = formals j }
+    λ j. record {
+      block = block j;
+      entry = entry j;
+      parent = around j;
+      answer = answer j;
+      sizes = sizes j;
+      variables = variables j;
+      formals = formals j;
+    }

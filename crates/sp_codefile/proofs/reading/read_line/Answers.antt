@@ -5,11 +5,13 @@ use Rattle.sp_codefile.proofs.reading.read_line.Goals as goal
 
 pub returns-in_ok-read_layout-in-Layout : goal.returns-in_ok-read_layout-in-Layout
 returns-in_ok-read_layout-in-Layout c =
-    says_layout c.args.line.now c.in_ok-read_layout-in-Layout.field-0 (sym c.kind_of.ensures ∙ c.in-Layout.is) (λ m f e. c.in_ok-read_layout-in-Layout.ensures m f (c.after.ensures ∙ e))
+    says_layout c.args.line.now c.in_ok-read_layout-in-Layout.field-0 (sym c.kind_of.ensures
+    ∙ c.in-Layout.is) (λ m f e. c.in_ok-read_layout-in-Layout.ensures m f (c.after.ensures ∙ e))
 
 pub returns-in_ok-read_bytes-in-Text : goal.returns-in_ok-read_bytes-in-Text
 returns-in_ok-read_bytes-in-Text c =
-    says_text c.args.line.now c.of.result (sym c.kind_of.ensures ∙ c.in-Text.is) (c.of.ensures ∙ c.in_ok-read_bytes-in-Text.ensures ∙ ap bytes_of c.after-in-Text.ensures)
+    says_text c.args.line.now c.of.result (sym c.kind_of.ensures ∙ c.in-Text.is) (c.of.ensures
+    ∙ c.in_ok-read_bytes-in-Text.ensures ∙ ap bytes_of c.after-in-Text.ensures)
 
 pub returns-in-Child : goal.returns-in-Child
 returns-in-Child c =

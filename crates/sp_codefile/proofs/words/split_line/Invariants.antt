@@ -4,4 +4,8 @@ use Rattle.sp_journal.specs.Splits.{first_split}
 use Rattle.sp_codefile.proofs.words.split_line.Given as goal
 
 abbrev pub invariant-loop-at : goal.invariant-loop-at
-invariant-loop-at l = first_split 10 l.text ≡ option_map (λ (p : List ℕ × List ℕ). (take l.at l.text ++ p.0, p.1)) (first_split 10 (drop l.at l.text))
+invariant-loop-at l = first_split 10 l.text ≡ option_map (λ (p : List ℕ × List ℕ). (
+  take l.at l.text
+      ++ p.0,
+  p.1,
+)) (first_split 10 (drop l.at l.text))

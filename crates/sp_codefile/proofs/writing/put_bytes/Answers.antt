@@ -7,6 +7,8 @@ use Rattle.sp_codefile.proofs.writing.put_bytes.Goals as goal
 
 pub loop-byte-preserved : goal.loop-byte-preserved
 loop-byte-preserved c = record {
-  text = text_more byte_text c.args.bytes.now c.loop-byte.byte-index _ c.args.out.now.items _ _ (omega arith) c.loop-byte.invariant.text c.in_ok-put_byte.ensures.text;
-  fits = All-more IsByte c.args.bytes.now c.loop-byte.byte-index _ (omega arith) c.loop-byte.invariant.fits c.put_byte.ensures.fits;
+  text = text_more byte_text c.args.bytes.now c.loop-byte.byte-index _ c.args.out.now.items _ _
+      (omega arith) c.loop-byte.invariant.text c.in_ok-put_byte.ensures.text;
+  fits = All-more IsByte c.args.bytes.now c.loop-byte.byte-index _
+      (omega arith) c.loop-byte.invariant.fits c.put_byte.ensures.fits;
 }

@@ -7,6 +7,8 @@ use Rattle.sp_codefile.proofs.writing.put_formals.Goals as goal
 
 pub loop-formal-preserved : goal.loop-formal-preserved
 loop-formal-preserved c = record {
-  text = text_more formal_text c.args.formals.now c.loop-formal.formal-index _ c.args.out.now.items _ _ (omega arith) c.loop-formal.invariant.text c.in_ok-put_formal.ensures.text;
-  fits = All-more FormalFits c.args.formals.now c.loop-formal.formal-index _ (omega arith) c.loop-formal.invariant.fits c.in_ok-put_formal.ensures.fits;
+  text = text_more formal_text c.args.formals.now c.loop-formal.formal-index _ c.args.out.now.items _ _
+      (omega arith) c.loop-formal.invariant.text c.in_ok-put_formal.ensures.text;
+  fits = All-more FormalFits c.args.formals.now c.loop-formal.formal-index _
+      (omega arith) c.loop-formal.invariant.fits c.in_ok-put_formal.ensures.fits;
 }

@@ -8,8 +8,11 @@ use Rattle.sp_codefile.proofs.writing.put_instrs.Goals as goal
 
 pub loop-number-preserved : goal.loop-number-preserved
 loop-number-preserved c = record {
-  text = numbered_next instr_line c.args.instrs.now c.loop-number.number _ c.args.out.now.items _ _ (omega arith) c.loop-number.invariant.text
-      (numbered_line c.loop-number.out.items _ _ _ c.in_ok-put_instr.ensures.text c.in_ok-extend_from_slice.ensures.items
+  text = numbered_next instr_line c.args.instrs.now c.loop-number.number _ c.args.out.now.items _ _
+      (omega arith) c.loop-number.invariant.text
+      (numbered_line c.loop-number.out.items _ _ _ c.in_ok-put_instr.ensures.text
+      c.in_ok-extend_from_slice.ensures.items
       ∙ ap (λ (y : List ℕ). c.loop-number.out.items ++ y) (instr_is_line c.loop-number.number _));
-  fits = All-more InstrFits c.args.instrs.now c.loop-number.number _ (omega arith) c.loop-number.invariant.fits c.in_ok-put_instr.ensures.fits;
+  fits = All-more InstrFits c.args.instrs.now c.loop-number.number _
+      (omega arith) c.loop-number.invariant.fits c.in_ok-put_instr.ensures.fits;
 }

@@ -7,6 +7,8 @@ use Rattle.sp_codefile.proofs.writing.put_numbers.Goals as goal
 
 pub loop-number-preserved : goal.loop-number-preserved
 loop-number-preserved c = record {
-  text = text_more number_text c.args.numbers.now c.loop-number.number-index _ c.args.out.now.items _ _ (omega arith) c.loop-number.invariant.text c.in_ok-put_number.ensures.text;
-  fits = All-more IsNumber c.args.numbers.now c.loop-number.number-index _ (omega arith) c.loop-number.invariant.fits c.put_number.ensures.fits;
+  text = text_more number_text c.args.numbers.now c.loop-number.number-index _ c.args.out.now.items _ _
+      (omega arith) c.loop-number.invariant.text c.in_ok-put_number.ensures.text;
+  fits = All-more IsNumber c.args.numbers.now c.loop-number.number-index _
+      (omega arith) c.loop-number.invariant.fits c.put_number.ensures.fits;
 }

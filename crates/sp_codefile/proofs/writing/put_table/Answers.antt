@@ -8,7 +8,10 @@ pub loop-number-preserved : goal.loop-number-preserved
 loop-number-preserved c =
     let n = c.loop-number.number in
     let x = c.index-children-number.result in record {
-      text = numbered_step (child_of c.args.table) c.args.children.now n x c.args.out.now.items _ _ (omega arith) c.index-children-number.is c.loop-number.invariant.text
-          (numbered_line c.loop-number.out.items _ _ _ c.in_ok-put_child.ensures.text c.in_ok-extend_from_slice.ensures.items);
-      fits = fits_more ChildFits c.args.children.now n x (omega arith) c.index-children-number.is c.loop-number.invariant.fits c.in_ok-put_child.ensures.fits;
+      text = numbered_step (child_of c.args.table) c.args.children.now n x c.args.out.now.items _ _
+          (omega arith) c.index-children-number.is c.loop-number.invariant.text
+          (numbered_line c.loop-number.out.items _ _ _ c.in_ok-put_child.ensures.text
+          c.in_ok-extend_from_slice.ensures.items);
+      fits = fits_more ChildFits c.args.children.now n x
+          (omega arith) c.index-children-number.is c.loop-number.invariant.fits c.in_ok-put_child.ensures.fits;
     }

@@ -10,10 +10,14 @@ pub loop-number-preserved : goal.loop-number-preserved
 loop-number-preserved c =
     let n = c.loop-number.number in
     let x = c.index-forks-number.result in record {
-      text = numbered_step table_text c.args.forks.now n x c.args.out.now.items _ _ (omega arith) c.index-forks-number.is c.loop-number.invariant.text
-          (c.in_ok-put_table.ensures.text ∙ ap (λ (xs : List ChildTable). c.loop-number.out.items ++ numbered (child_of n) 0 xs) c.items.ensures);
-      fits = fits_more TableFits c.args.forks.now n x (omega arith) c.index-forks-number.is c.loop-number.invariant.fits (record {
-        count = subst (λ (xs : List ChildTable). length xs < 2 ^ 64) c.items.ensures c.in_ok-put_table.ensures.count;
-        children = subst (All ChildFits) c.items.ensures c.in_ok-put_table.ensures.fits;
-      });
+      text = numbered_step table_text c.args.forks.now n x c.args.out.now.items _ _
+          (omega arith) c.index-forks-number.is c.loop-number.invariant.text
+          (c.in_ok-put_table.ensures.text
+          ∙ ap (λ (xs : List ChildTable). c.loop-number.out.items ++ numbered (child_of n) 0 xs) c.items.ensures);
+      fits = fits_more TableFits c.args.forks.now n x (omega arith) c.index-forks-number.is c.loop-number.invariant.fits
+          (record {
+            count = subst (λ (xs : List ChildTable). length xs < 2 ^ 64) c.items.ensures
+                c.in_ok-put_table.ensures.count;
+            children = subst (All ChildFits) c.items.ensures c.in_ok-put_table.ensures.fits;
+          });
     }

@@ -1,0 +1,12 @@
+use Rattle.std.proofs.Common.{refl}
+use Rattle.sp_areas.proofs.Surrounding.{homes_are, hung_start}
+use Rattle.sp_areas.proofs.around.homes.Goals as goal
+
+pub hang_all-requires-clause-just : goal.hang_all-requires-clause-just
+hang_all-requires-clause-just c = hung_start c.args.code.now c.in_ok-nodes.field-0 _ c.in_ok-nodes.ensures refl
+    c.in_ok-of.ensures
+
+pub returns : goal.returns
+returns c =
+    homes_are c.args.code.now c.in_ok-nodes.field-0.of c.args.owners.now c.hang_all.new.grown _ c.requires.owners
+    c.in_ok-nodes.ensures.full c.in_ok-hang_all.ensures refl c.in_ok-at.ensures

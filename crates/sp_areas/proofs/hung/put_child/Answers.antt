@@ -1,0 +1,16 @@
+use Rattle.std.proofs.Common.{Option, ℕ, Some, sym, subst}
+use Rattle.std.specs.Prelude.{OnOk}
+use Rattle.sp_areas.specs.declared.tree.Frame.TheVariants as frame
+use Rattle.sp_areas.specs.Around.{PutsChild}
+use Rattle.sp_areas.specs.Grown.{Puts}
+use Rattle.sp_areas.proofs.Hanging.{on_map, puts_index}
+use Rattle.sp_areas.proofs.hung.put_child.Goals as goal
+
+pub returns-in-Some : goal.returns-in-Some
+returns-in-Some c =
+    let old = c.args.nodes.now in
+    let new = c.put.new.tree in
+    let x = c.in-Some.x in
+    subst (λ (o : Option ℕ). OnOk c.put.result (PutsChild old new c.args.around o)) (sym c.in-Some.is)
+    (on_map c.put.result (Puts old new (frame.Index x) (Some c.args.around)) (PutsChild old new c.args.around (Some x))
+    (puts_index old new c.args.around x) c.put.ensures)

@@ -1,0 +1,10 @@
+use Rattle.sp_areas.specs.Around.{AreHung}
+use Rattle.sp_areas.specs.Grown.{left}
+use Rattle.sp_areas.proofs.hung.search.Given as goal
+
+-- nodes stand for what is around, and a sweep that finds something leaves less to be found
+abbrev pub invariant-sweeps : goal.invariant-sweeps
+invariant-sweeps l = AreHung l.code l.of_blocks l.grown
+
+abbrev pub decreases-sweeps : goal.decreases-sweeps
+decreases-sweeps l = left l.grown.of

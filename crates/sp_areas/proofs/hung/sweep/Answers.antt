@@ -1,0 +1,10 @@
+use Rattle.sp_areas.specs.Around.{AreHung, IsHungBy}
+use Rattle.sp_areas.proofs.Growing.{items_more}
+use Rattle.sp_areas.proofs.hung.sweep.Goals as goal
+
+pub loop-q-preserved : goal.loop-q-preserved
+loop-q-preserved c =
+    items_more (AreHung c.args.code.now c.args.of_blocks.now)
+    (IsHungBy c.args.code.now c.args.owners.now c.args.of_blocks.now)
+    c.args.grown.now c.loop-q.grown c.hang.new.grown c.loop-q.q c.loop-q.changed c.in_ok-new.new c.loop-q.invariant
+    c.in_ok-new.ensures

@@ -1,0 +1,9 @@
+use Rattle.sp_areas.specs.Grown.{AreLed, left}
+use Rattle.sp_areas.proofs.led.search.Given as goal
+
+-- what has a node is led, and a sweep that finds something leaves less to be found
+abbrev pub invariant-sweeps : goal.invariant-sweeps
+invariant-sweeps l = AreLed l.code.layouts l.grown
+
+abbrev pub decreases-sweeps : goal.decreases-sweeps
+decreases-sweeps l = left l.grown.of

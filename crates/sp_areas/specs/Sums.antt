@@ -1,0 +1,13 @@
+-- Rule V1 as the passes find it: where an instruction lies in two areas, they look no further.
+use Rattle.std.specs.Prelude.{◌⊎◌, ℕ}
+use Rattle.sp_code.specs.declared.code.Parts.{Parts}
+use Rattle.sp_rules.specs.Named.{Homeless, DeclaredTwice, Unnamed}
+use Rattle.sp_areas.specs.Alone.{BreaksAlone}
+use Rattle.sp_areas.specs.Misnamed.{MisnamesOnly}
+use Rattle.sp_areas.specs.Only.{UnknownOnly}
+use Rattle.sp_areas.specs.Placed.{IsMisplaced}
+
+-- one of the passes finds something there
+abbrev pub IsFound : Parts → ℕ → Type 0
+IsFound c p = ((BreaksAlone c p ⊎ Homeless c p) ⊎ (DeclaredTwice c p ⊎ Unnamed c p))
+    ⊎ ((UnknownOnly c p ⊎ MisnamesOnly c p) ⊎ IsMisplaced c p)

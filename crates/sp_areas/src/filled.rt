@@ -1,0 +1,80 @@
+//! The blocks, as nodes of a tree: each inside its parent, or alone where it is not led to the program.
+
+ghost use Rattle.std.specs.Prelude.{◌≡◌, ◌+◌, ◌<◌, Some, IfOk, OnOk, length};
+ghost use Rattle.sp_code.specs.Machine.{layout_of};
+ghost use Rattle.sp_rules.specs.Areas.{is_root};
+ghost use Rattle.sp_areas.specs.Around.{AreFilled};
+ghost use Rattle.sp_areas.specs.Blocks.{IsNumbered};
+
+use crate::blocks::Blocks;
+use crate::led::{led, nothing};
+use crate::tree::{Frame, Grown, give_node, node_at};
+use sp_base::Memory;
+use sp_code::Code;
+
+// Gives a layout a node inside no other one, if it has none.
+fn fill_one(code: &Code, blocks: &Blocks, grown: &mut Grown, item: usize) -> Result<(), Memory>
+    requires blocks { IsNumbered blocks.now.first code.now.layouts }
+    requires just { AreFilled code.now item grown.old }
+    requires there { item < length code.now.layouts }
+    ensures { OnOk result (AreFilled code.now (item + 1) grown.new) }
+{
+    if node_at(&grown.of, item).is_some() {
+        return Ok(());
+    }
+    let block = match code.parts().layouts.get(item) {
+        None => return Ok(()),
+        Some(l) => l.block,
+    };
+    let place = match blocks.place(block) {
+        None => return Ok(()),
+        Some(place) => place,
+    };
+    give_node(grown, item, Frame::Block { block, place }, None)?;
+    Ok(())
+}
+
+fn fill(code: &Code, blocks: &Blocks, grown: &mut Grown) -> Result<(), Memory>
+    requires blocks { IsNumbered blocks.now.first code.now.layouts }
+    requires just { AreFilled code.now 0 grown.old }
+    ensures { OnOk result (AreFilled code.now (length code.now.layouts) grown.new) }
+{
+    let count = code.parts().layouts.len();
+    for item in 0..count {
+        fill_one(code, blocks, grown, item)?;
+    }
+    Ok(())
+}
+
+// Whether the program is there and has no parent.
+fn is_root(code: &Code, blocks: &Blocks) -> bool
+    requires { IsNumbered blocks.now.first code.now.layouts }
+    ensures { result ≡ is_root (layout_of code.now.layouts 0) }
+{
+    match blocks.find(&code.parts().layouts, 0) {
+        None => false,
+        Some(l) => l.parent.is_none(),
+    }
+}
+
+// What is led to the program, if there is one.
+fn begun(code: &Code, blocks: &Blocks) -> Result<Grown, Memory>
+    requires { IsNumbered blocks.now.first code.now.layouts }
+    ensures { IfOk result (λ grown. AreFilled code.now 0 grown) }
+{
+    if is_root(code, blocks) {
+        led(code, blocks)
+    } else {
+        nothing(code, code.parts().layouts.len())
+    }
+}
+
+/// Nodes for all layouts. The only other answer is want of memory.
+pub(crate) fn filled(code: &Code, blocks: &Blocks) -> Result<Grown, Memory>
+    requires { IsNumbered blocks.now.first code.now.layouts }
+    ensures { IfOk result (λ grown. AreFilled code.now (length code.now.layouts) grown) }
+{
+    let mut grown = begun(code, blocks)?;
+    fill(code, blocks, &mut grown)?;
+    Ok(grown)
+}

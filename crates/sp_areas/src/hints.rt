@@ -1,0 +1,131 @@
+//! Where variables are likely to be found. It only saves time: whoever uses a hint looks whether it is right.
+
+use crate::tables::mark;
+use crate::tree::{Frame, Node};
+use sp_base::{List, Memory};
+use sp_code::{Code, Layout};
+use std::collections::BTreeMap;
+
+/// How many frames there are from the outermost one to that of a variable, and its place in the frame; and the hint
+/// before this one, where the variable is declared more than once.
+#[derive(Clone, Copy)]
+pub(crate) struct Hint {
+    pub depth: usize,
+    pub place: usize,
+    pub before: Option<usize>,
+}
+
+/// How deep each node of a tree lies, and where variables are declared: the last hint of each.
+#[derive(Drop)]
+pub(crate) struct Hints {
+    pub depths: List<usize>,
+    hints: List<Hint>,
+    last: BTreeMap<u32, usize>,
+}
+
+impl Hints {
+    /// The last hint of a variable.
+    pub(crate) fn last(&self, x: u32) -> Option<usize> {
+        self.last.get(&x).copied()
+    }
+
+    pub(crate) fn hint(&self, number: usize) -> Option<Hint> {
+        self.hints.get(number).copied()
+    }
+
+    fn note(&mut self, x: u32, depth: usize, place: usize) -> Result<(), Memory> {
+        let before = self.last(x);
+        let number = self.hints.len();
+        self.hints.push(Hint {
+            depth,
+            place,
+            before,
+        })?;
+        self.last.insert(x, number)?;
+        Ok(())
+    }
+}
+
+fn depth_of(depths: &List<usize>, node: usize) -> usize {
+    match depths.get(node) {
+        None => 0,
+        Some(depth) => *depth,
+    }
+}
+
+fn depth_inside(depths: &List<usize>, around: Option<usize>) -> usize {
+    match around {
+        None => 1,
+        Some(node) => {
+            let depth = depth_of(depths, node);
+            if depth < 1_000_000_000 {
+                depth + 1
+            } else {
+                depth
+            }
+        }
+    }
+}
+
+fn depths(nodes: &List<Node>) -> Result<List<usize>, Memory> {
+    let mut depths = List::new(nodes.alloc());
+    for n in nodes.items() {
+        let depth = depth_inside(&depths, n.around);
+        depths.push(depth)?;
+    }
+    Ok(depths)
+}
+
+fn note_layout(hints: &mut Hints, l: &Layout, depth: usize) -> Result<(), Memory> {
+    for (place, x) in l.variables.items().iter().enumerate() {
+        hints.note(*x, depth, place)?;
+    }
+    Ok(())
+}
+
+fn was_seen(seen: &List<bool>, place: usize) -> bool {
+    match seen.get(place) {
+        None => true,
+        Some(seen) => *seen,
+    }
+}
+
+fn note_frame(
+    layouts: &List<Layout>,
+    seen: &mut List<bool>,
+    hints: &mut Hints,
+    frame: Frame,
+    depth: usize,
+) -> Result<(), Memory> {
+    match frame {
+        Frame::Index(x) => hints.note(x, depth, 0),
+        Frame::Block { block: _, place } => {
+            if was_seen(seen, place as usize) {
+                return Ok(());
+            }
+            mark(seen, place);
+            match layouts.get(place as usize) {
+                None => Ok(()),
+                Some(l) => note_layout(hints, l, depth),
+            }
+        }
+    }
+}
+
+/// Hints for all variables. The only other answer is want of memory.
+pub(crate) fn find_hints(code: &Code, nodes: &List<Node>) -> Result<Hints, Memory> {
+    let layouts = &code.parts().layouts;
+    let alloc = nodes.alloc();
+    let depths = depths(nodes)?;
+    let mut seen = List::of(vec![in alloc; false; layouts.len()]?);
+    let mut hints = Hints {
+        depths,
+        hints: List::new(alloc),
+        last: BTreeMap::new(alloc),
+    };
+    for (k, n) in nodes.items().iter().enumerate() {
+        let depth = depth_of(&hints.depths, k);
+        note_frame(layouts, &mut seen, &mut hints, n.frame, depth)?;
+    }
+    Ok(hints)
+}

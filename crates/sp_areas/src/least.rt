@@ -1,0 +1,24 @@
+//! The first of several answers.
+
+ghost use Rattle.std.specs.Prelude.{◌≡◌, true};
+ghost use Rattle.sp_areas.specs.Least.{IsLeast, least};
+
+/// Of two answers the one that comes first.
+pub fn least(a: Option<u32>, b: Option<u32>) -> Option<u32>
+    ensures { result ≡ least a b }
+{
+    match a {
+        None => b,
+        Some(m) => match b {
+            None => a,
+            Some(n) => { if n < m { b } else { a } }
+        },
+    }
+}
+
+/// The place, if something is broken there.
+pub fn place_if(broken: bool, place: u32) -> Option<u32>
+    ensures { IsLeast (λ p. (place ≡ p) × (broken ≡ true)) result }
+{
+    if broken { Some(place) } else { None }
+}

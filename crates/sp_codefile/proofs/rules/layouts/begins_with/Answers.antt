@@ -1,7 +1,0 @@
-use Rattle.std.proofs.Common.{rules, ◌∙◌, sym}
-use Rattle.sp_codefile.specs.Named.{answer_cells}
-use Rattle.sp_codefile.proofs.Beginnings.{ends_before}
-use Rattle.sp_codefile.proofs.rules.layouts.begins_with.Goals as goal
-
-pub returns-in-None : goal.returns-in-None
-returns-in-None c = sym (ends_before c.loop-k.k c.args.formals.now (answer_cells c.args.answer) c.args.sizes.now c.loop-k-test.true (search rules)) ∙ c.loop-k.invariant

@@ -1,6 +1,0 @@
-use Rattle.sp_codefile.specs.Owners.{Each, IsSpread, Spreads}
-use Rattle.sp_codefile.proofs.rules.owners.visit_all.Given as goal
-
--- the instructions so far have handed on theirs
-abbrev pub invariant-loop-p : goal.invariant-loop-p
-invariant-loop-p l = Spreads l.code l.fn.owners l.owners (Each (IsSpread l.code) l.p) l.changed

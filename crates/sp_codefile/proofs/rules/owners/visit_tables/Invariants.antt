@@ -1,6 +1,0 @@
-use Rattle.sp_codefile.specs.Owners.{Each, IsSpreadBy, Spreads}
-use Rattle.sp_codefile.proofs.rules.owners.visit_tables.Given as goal
-
--- the tables so far have handed on theirs
-abbrev pub invariant-loop-t : goal.invariant-loop-t
-invariant-loop-t l = Spreads l.code l.fn.owners l.owners (Each (IsSpreadBy l.code) l.t) l.changed

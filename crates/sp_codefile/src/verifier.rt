@@ -1,0 +1,235 @@
+//! What code of any origin must keep to be run without its source: all rules, in their order.
+
+ghost use Rattle.std.specs.Prelude.{◌≡◌, ◌+◌, IfOk, IfErr, OnOk};
+ghost use Rattle.sp_code.specs.Sound.{IsSound};
+ghost use Rattle.sp_rules.specs.Verdict.{Breaks, IsVerified, number};
+ghost use Rattle.sp_areas.specs.Blocks.{IsNumbered};
+ghost use Rattle.sp_areas.specs.Homes.{AreHomes};
+ghost use Rattle.sp_areas.specs.Least.{IsLeast};
+ghost use Rattle.sp_areas.specs.Owners.{AreOwners};
+ghost use Rattle.sp_shapes.specs.Shapes.{AreShapes};
+ghost use Rattle.sp_effects.specs.Effects.{AreEffects};
+ghost use Rattle.sp_codefile.specs.declared.verifier.Rejected.TheVariants.{Memory as OutOfMemory};
+ghost use Rattle.sp_codefile.specs.Verifying.{IsRefused, KeepsBefore, Verifies, rule_of};
+
+use sp_areas::around::homes;
+use sp_areas::blocks::Blocks;
+use sp_areas::homes::Homes;
+use sp_areas::owners::{Owner, owners};
+use sp_areas::rounds::first_round;
+use sp_areas::whole::first_v1;
+use sp_base::{List, Memory};
+use sp_code::Code;
+use sp_effects::clash::first_clash;
+use sp_effects::effects::{Effects, find_effects};
+use sp_effects::handed::first_ill_handed;
+use sp_effects::loud::first_loud;
+use sp_rules::laws::verified_code_is_sound;
+use sp_shapes::calls::first_unfit;
+use sp_shapes::cells::first_passing;
+use sp_shapes::messages::first_length;
+use sp_shapes::shapes::{Outcome, Shapes, shapes_of};
+use std::marker::Model;
+use thiserror::Error;
+
+/// The rules that code must keep, the first one first.
+#[derive(Clone, Copy, Debug, PartialEq, Eq)]
+pub enum VRule {
+    /// What code names is there, and stands where it may.
+    V1,
+    /// Operands are there, of the right shapes, whichever way one comes.
+    V2,
+    /// No cells left of an address are passed.
+    V3,
+    /// Messages of one type have one length, and room where they are received.
+    V4,
+    /// Operands of calls fit, and a block that answers has no reference formal.
+    V5,
+    /// Children of forks are handed what they store and load, and no two what one of them stores.
+    V6,
+    /// Reference operands of calls have different variables, none of which the called block touches by itself.
+    V7,
+    /// Blocks that answer store nothing outside themselves and come to no stop.
+    V8,
+    /// Each way back to itself passes a `tick` or a `call`.
+    V9,
+}
+
+/// Why code is not verified.
+#[derive(Clone, Copy, Debug, PartialEq, Eq, Error)]
+pub enum Rejected {
+    /// This is the first broken rule, and the least instruction at which it is broken.
+    #[error("rule {0:?} is broken at instruction {1}")]
+    Rule(VRule, u32),
+    /// Memory was refused.
+    #[error("out of memory")]
+    Memory,
+}
+
+impl From<Memory> for Rejected {
+    ghost from_gives = { λ _ e. e ≡ OutOfMemory };
+
+    fn from(_error: Memory) -> Rejected {
+        Rejected::Memory
+    }
+}
+
+/// Code that breaks no rule.
+#[derive(Debug, Drop)]
+pub struct Verified {
+    code: Code,
+}
+
+impl Model for Verified {
+    ghost use Rattle.sp_code.specs.declared.code.Parts.{Parts};
+    ghost use Rattle.sp_rules.specs.Verdict.{IsVerified};
+
+    ghost Value = { Parts };
+
+    ghost view = { λ v. v.code };
+
+    ghost invariant = { λ v. IsVerified v.code };
+}
+
+impl Verified {
+    /// The code. It is sound.
+    pub fn code(&self) -> &Code
+        ensures same { result.now ≡ self.now }
+        ensures verified { IsVerified result.now }
+        ensures sound { IsSound result.now }
+    {
+        let _parts = self.code.parts();
+        verified_code_is_sound();
+        &self.code
+    }
+
+    /// The code, for good. It is sound.
+    pub fn into_code(self) -> Code
+        ensures same { result ≡ self }
+        ensures verified { IsVerified result }
+        ensures sound { IsSound result }
+    {
+        let Verified { code } = self;
+        let _parts = code.parts();
+        verified_code_is_sound();
+        code
+    }
+}
+
+// Whether a rule is kept, by the least instruction at which it is broken.
+fn keep(code: &Code, rule: VRule, first: Option<u32>) -> Result<(), Rejected>
+    requires before { KeepsBefore code.now (number (rule_of rule)) }
+    requires first { IsLeast (Breaks code.now (rule_of rule)) first }
+    ensures ok { OnOk result (KeepsBefore code.now (number (rule_of rule) + 1)) }
+    ensures err { IfErr result (λ e. IsRefused code.now e) }
+{
+    match first {
+        None => Ok(()),
+        Some(p) => Err(Rejected::Rule(rule, p)),
+    }
+}
+
+// Whether V2 is kept, and then the shapes that instructions are reached with.
+fn keep_shapes(
+    code: &Code,
+    blocks: &Blocks,
+    owners: &List<Owner>,
+    homes: &Homes,
+) -> Result<Shapes, Rejected>
+    requires kept { KeepsBefore code.now 2 }
+    requires blocks { IsNumbered blocks.now.first code.now.layouts }
+    requires owners { AreOwners code.now owners.now }
+    requires homes { AreHomes code.now homes.now }
+    ensures ok { IfOk result (λ s. KeepsBefore code.now 3 × AreShapes code.now s) }
+    ensures err { IfErr result (λ e. IsRefused code.now e) }
+{
+    match shapes_of(code, blocks, owners, homes)? {
+        Outcome::Broken(p) => Err(Rejected::Rule(VRule::V2, p)),
+        Outcome::Kept(shapes) => Ok(shapes),
+    }
+}
+
+// Whether V3, V4 and V5 are.
+fn keep_cells(code: &Code, blocks: &Blocks, shapes: &Shapes) -> Result<(), Rejected>
+    requires kept { KeepsBefore code.now 3 }
+    requires blocks { IsNumbered blocks.now.first code.now.layouts }
+    requires shapes { AreShapes code.now shapes.now }
+    ensures ok { OnOk result (KeepsBefore code.now 6) }
+    ensures err { IfErr result (λ e. IsRefused code.now e) }
+{
+    keep(code, VRule::V3, first_passing(code, shapes))?;
+    let length = first_length(code, shapes)?;
+    keep(code, VRule::V4, length)?;
+    keep(code, VRule::V5, first_unfit(code, blocks, shapes))
+}
+
+// Whether V6, V7 and V8 are.
+fn keep_effects(
+    code: &Code,
+    blocks: &Blocks,
+    owners: &List<Owner>,
+    homes: &Homes,
+    shapes: &Shapes,
+    effects: &Effects,
+) -> Result<(), Rejected>
+    requires kept { KeepsBefore code.now 6 }
+    requires blocks { IsNumbered blocks.now.first code.now.layouts }
+    requires owners { AreOwners code.now owners.now }
+    requires homes { AreHomes code.now homes.now }
+    requires shapes { AreShapes code.now shapes.now }
+    requires effects { AreEffects code.now effects.now }
+    ensures ok { OnOk result (KeepsBefore code.now 9) }
+    ensures err { IfErr result (λ e. IsRefused code.now e) }
+{
+    let handed = first_ill_handed(code, owners, effects)?;
+    keep(code, VRule::V6, handed)?;
+    let clash = first_clash(code, blocks, homes, shapes, effects)?;
+    keep(code, VRule::V7, clash)?;
+    let loud = first_loud(code, effects)?;
+    keep(code, VRule::V8, loud)
+}
+
+// Whether all rules behind V1 are.
+fn keep_others(
+    code: &Code,
+    blocks: &Blocks,
+    owners: &List<Owner>,
+    homes: &Homes,
+) -> Result<(), Rejected>
+    requires kept { KeepsBefore code.now 2 }
+    requires blocks { IsNumbered blocks.now.first code.now.layouts }
+    requires owners { AreOwners code.now owners.now }
+    requires homes { AreHomes code.now homes.now }
+    ensures ok { OnOk result (IsVerified code.now) }
+    ensures err { IfErr result (λ e. IsRefused code.now e) }
+{
+    let shapes = keep_shapes(code, blocks, owners, homes)?;
+    keep_cells(code, blocks, &shapes)?;
+    let effects = find_effects(code, blocks, owners, homes, &shapes)?;
+    keep_effects(code, blocks, owners, homes, &shapes, &effects)?;
+    let round = first_round(code, owners)?;
+    keep(code, VRule::V9, round)
+}
+
+// Whether all rules are.
+fn judge(code: &Code) -> Result<(), Rejected>
+    ensures ok { OnOk result (IsVerified code.now) }
+    ensures err { IfErr result (λ e. IsRefused code.now e) }
+{
+    let parts = code.parts();
+    let blocks = Blocks::of(parts.instrs.alloc(), parts.layouts.items())?;
+    let owners = owners(code)?;
+    let homes = homes(code, &blocks, &owners)?;
+    let first = first_v1(code, &blocks, &owners, &homes)?;
+    keep(code, VRule::V1, first)?;
+    keep_others(code, &blocks, &owners, &homes)
+}
+
+/// Verifies code: it is verified exactly where it breaks no rule. Otherwise it is let go. The only other answer is want
+/// of memory.
+pub fn verify(code: Code) -> Result<Verified, Rejected>
+    ensures { Verifies code result }
+{
+    judge(&code)?;
+    Ok(Verified { code })
+}

@@ -1,0 +1,393 @@
+-- The facts that are found are those of the areas: each follows, and none is left out.
+use Rattle.std.proofs.Common.{◌≡◌, inl, inr, ⊎_elim, refl, ap, sym, ◌∙◌, subst, ℕ, zero, suc, ◌<◌, ◌==◌, List, [], ◌∷◌}
+use Rattle.std.proofs.Common.{length, Option, Some, None, Bool, true, false, if◌then◌else◌, arith, eqb-true}
+use Rattle.std.specs.Prelude.{slice_get}
+use Rattle.std.proofs.lemmas.Bool.{eq-eqb}
+use Rattle.std.proofs.lemmas.Option.{slice_get_within}
+use Rattle.sp_tree.specs.Interference.{IsMember}
+use Rattle.sp_code.specs.declared.instr.Instr.{Instr}
+use Rattle.sp_code.specs.declared.instr.Instr.TheVariants as i
+use Rattle.sp_code.specs.declared.code.Layout.{Layout}
+use Rattle.sp_code.specs.declared.code.ChildTable.{ChildTable}
+use Rattle.sp_code.specs.declared.code.Parts.{Parts}
+use Rattle.sp_code.specs.Machine.{layout_of}
+use Rattle.sp_rules.specs.Areas.{Area, Body, Child, instr_at, child_at, table_named, entry, entry_of_layout}
+use Rattle.sp_rules.specs.Areas.{entry_of_child}
+use Rattle.sp_rules.specs.Shapes.{Shape}
+use Rattle.sp_rules.specs.Reach.{IsIn, IsArea, Passes}
+use Rattle.sp_rules.specs.Touched.{stored_by, loaded_by}
+use Rattle.sp_rules.specs.Effects.{Kind, Stored, Loaded, IsAside, IsNumber, IsActual, Becomes, IsStarted, IsCalled}
+use Rattle.sp_rules.specs.Effects.{Does, IsEffect}
+use Rattle.sp_rules.specs.Verdict.{HasStop, is_stop}
+use Rattle.sp_rules.specs.Named.{BreaksV1, BlocksApart, InTwo, LiesIn}
+use Rattle.sp_areas.specs.declared.owners.Owner.{Owner}
+use Rattle.sp_areas.specs.declared.owners.Owner.TheVariants as owner
+use Rattle.sp_areas.specs.Owners.{AreOwners, Owns}
+use Rattle.sp_rules.proofs.Facts.{same_some, none_some, no_true}
+use Rattle.sp_rules.proofs.Walking.{passes}
+use Rattle.sp_rules.proofs.EffectLaws.{does_effect, child_effect, called_effect, effects_within, stops_within}
+use Rattle.sp_effects.specs.declared.edges.Edge.{Edge}
+use Rattle.sp_effects.specs.declared.edges.Edge.TheVariants as edge
+use Rattle.sp_effects.specs.declared.facts.Fact.{Fact}
+use Rattle.sp_effects.specs.declared.facts.Deed.{Deed}
+use Rattle.sp_effects.specs.declared.facts.Deed.TheVariants as deed
+use Rattle.sp_effects.specs.Facts.{has_fact, fact, has_pair, Tells}
+use Rattle.sp_effects.specs.Own.{DoesAt, OwnBefore}
+use Rattle.sp_effects.specs.Edges.{EdgeAt, AreEdges}
+use Rattle.sp_effects.specs.Effects.{Comes}
+use Rattle.sp_effects.specs.Closing.{AreOwn, is_own, is_index, fact_along, Leads, FollowsBy, Closes, ClosesBy, IsDeed}
+use Rattle.sp_effects.specs.Closing.{AreFacts}
+use Rattle.sp_effects.proofs.Owns.{in_member, member_in}
+use Rattle.sp_effects.proofs.Linking.{name_of, layout_place, entry_within}
+use Rattle.sp_effects.proofs.Telling.{equal_or}
+
+-- ---- areas by their first instructions
+
+owner_is : (os : List Owner) (p : ℕ) → p < length os → (o : Owner) × (slice_get os p ≡ Some o)
+owner_is [] p l = absurd (omega (arith, l))
+owner_is (o ∷ os) zero l = (o, refl)
+owner_is (o ∷ os) (suc p) l = owner_is os p (omega (arith, l))
+
+layout_some : (ls : List Layout) (j : ℕ) (l : Layout) → slice_get ls j ≡ Some l → (m : Layout)
+    × (layout_of ls l.block ≡ Some m)
+layout_some [] j l e = absurd (none_some l e)
+layout_some (k ∷ ls) zero l e = go (k.block == l.block) refl
+  where
+    go : (t : Bool) → k.block == l.block ≡ t → (m : Layout) × ((if t then Some k else layout_of ls l.block) ≡ Some m)
+    go true h = (k, refl)
+    go false h = absurd (no_true (k.block == l.block)
+        (eq-eqb k.block l.block (ap (λ (x : Layout). x.block) (same_some k l e))) h)
+layout_some (k ∷ ls) (suc j) l e = go (k.block == l.block) (layout_some ls j l e)
+  where
+    go : (t : Bool) → (m : Layout) × (layout_of ls l.block ≡ Some m) → (m : Layout)
+        × ((if t then Some k else layout_of ls l.block) ≡ Some m)
+    go true h = (k, refl)
+    go false h = h
+
+module _ (c : Parts) (kept : (p : ℕ) → BreaksV1 c p → ⊥) (os : List Owner) (owners : AreOwners c os) where
+  alone : (p : ℕ) (o : Owner) → Owns c p o → (a b : Area) → LiesIn c p a → LiesIn c p b → a ≡ b
+  alone p owner.Nobody h a b la lb = absurd (h a la)
+  alone p (owner.Block d) h a b la lb = h.only a la ∙ sym (h.only b lb)
+  alone p (owner.Child q k) h a b la lb = h.only a la ∙ sym (h.only b lb)
+  alone p owner.Several h a b la lb = absurd (kept p (InTwo (h.one, h.lies, inl (h.other, h.too, h.apart))))
+
+  begins : (a : Area) → IsArea c a → LiesIn c (entry c a) a
+  begins a i = (i, record { steps = 0; way = refl })
+
+  pub one_area : (a b : Area) → IsArea c a → IsArea c b → entry c a ≡ entry c b → a ≡ b
+  one_area a b ia ib e =
+      let l = entry_within c kept a ia in
+      let o = owner_is os (entry c a) (let s = owners.0 in omega (arith, l, s)) in
+      alone (entry c a) o.0 (owners.1 (entry c a) o.0 o.1) a b (begins a ia)
+      (subst (λ p. LiesIn c p b) (sym e) (begins b ib))
+
+  -- ---- variables of a block's own
+
+  same_layout : (f j : ℕ) (l m : Layout) → layout_of c.layouts f ≡ Some l → slice_get c.layouts j ≡ Some m
+      → l.entry ≡ m.entry → m ≡ l
+  same_layout f j l m e g s =
+      let r = layout_some c.layouts j m g in
+      let q = layout_place c.layouts m.block r.0 r.1 in
+      let first : layout_of c.layouts m.block ≡ Some m =
+      ⊎_elim (λ z. r.1 ∙ (sym q.1 ∙ ap (slice_get c.layouts) z
+      ∙ g)) (λ d. absurd (kept m.entry (BlocksApart (j, m, g, refl, inl (q.0, r.0, q.1, d, q.2)))))
+      (equal_or q.0 j) in
+      let a : Body m.block ≡ Body f = one_area (Body m.block) (Body f) (m, first) (l, e) (ap entry_of_layout first
+      ∙ sym s ∙ sym (ap entry_of_layout e)) in
+      let b : m.block ≡ f = cc (a) in
+      same_some m l (sym first ∙ ap (layout_of c.layouts) b ∙ e)
+
+  module _ (ks : List (ℕ × ℕ)) (are_own : AreOwn c ks) where
+    own_in : (f : ℕ) (l : Layout) (x : ℕ) → layout_of c.layouts f ≡ Some l → has_pair ks (l.entry, x) ≡ true
+        → IsMember x l.variables
+    own_in f l x e h =
+        let o = (are_own (l.entry, x)).0 h in
+        in_member x l.variables (subst (λ (z : Layout). IsIn x z.variables) (same_layout f o.0 l o.1 e o.2 o.3.0) o.3.1)
+
+    in_own : (f : ℕ) (l : Layout) (x : ℕ) → layout_of c.layouts f ≡ Some l → IsMember x l.variables
+        → has_pair ks (l.entry, x) ≡ true
+    in_own f l x e h = let j = layout_place c.layouts f l e in (are_own (l.entry, x)).1
+        (j.0, l, j.1, (refl, member_in x l.variables h))
+
+    -- ---- each follows
+
+    -- an area does it
+    abbrev IsTrue : Fact → Type 0
+    IsTrue g = (a : Area) × IsArea c a × (g.area ≡ entry c a) × IsDeed c a g.deed
+
+    does_deed : (a : Area) (p : ℕ) (d : Deed) → DoesAt c a p d → IsDeed c a d
+    does_deed a p (deed.Stores x) (inl (ss, r, h)) = does_effect c (Does c) Stored a x (inl (p, ss, r, h))
+    does_deed a p (deed.Stores x) (inr (k, t, s, h)) = does_effect c (Does c) Stored a x (inr (p, k, t, s, h))
+    does_deed a p (deed.Loads x) (inl (ss, r, h)) = does_effect c (Does c) Loaded a x (inl (p, ss, r, h))
+    does_deed a p (deed.Loads x) (inr (k, t, s, h)) = does_effect c (Does c) Loaded a x (inr (p, k, t, s, h))
+    does_deed a p deed.Stops (inl (ss, r, h)) = ([], (p, ss, r, h))
+    does_deed a p deed.Stops (inr (k, t, s, h)) = absurd h
+
+    led : (a : Area) (d : Deed) (g : Fact) → IsArea c a → Some (fact (entry c a) d) ≡ Some g → IsDeed c a d → IsTrue g
+    led a d g ia e h = let s = same_some (fact (entry c a) d) g e in
+        (a, ia, ap (λ (z : Fact). z.area) (sym s), subst (λ (z : Fact). IsDeed c a z.deed) s h)
+
+    not_aside : (o : Option ℕ) (x : ℕ) → is_index o x ≡ false → IsAside Loaded o x
+    not_aside None x e = tt
+    not_aside (Some y) x e = λ s. no_true (x == y) (eq-eqb x y s) e
+
+    module _ (a : Area) (ia : IsArea c a) (p : ℕ) (g : Fact) where
+      by_start : (k : ℕ) (t : ChildTable) (own : Bool) (d : Deed) → IsStarted c a p k t → IsDeed c (Child a p k) d
+          → fact_along (edge.Started (entry c a) t.index) own d ≡ Some g → IsTrue g
+      by_start k t own (deed.Stores x) s h e = led a (deed.Stores x) g ia e
+          (child_effect c (Does c) Stored a p k x t s tt h)
+      by_start k t own (deed.Loads x) s h e = go (is_index t.index x) refl e
+        where
+          go : (b : Bool) → is_index t.index x ≡ b
+              → (if b then None else Some (fact (entry c a) (deed.Loads x))) ≡ Some g → IsTrue g
+          go true z e = absurd (none_some g e)
+          go false z e = led a (deed.Loads x) g ia e
+              (child_effect c (Does c) Loaded a p k x t s (not_aside t.index x z) h)
+      by_start k t own deed.Stops s h e = led a deed.Stops g ia e (Child a p k ∷ h.0, inl (p, k, t, refl, s, h.1))
+
+      module _ (f up : ℕ) (ss : List Shape) (l : Layout) (call : IsCalled c a p f up ss l) where
+        by_call : (own : Bool) (d : Deed) → own ≡ is_own ks l.entry d → IsDeed c (Body f) d
+            → fact_along (edge.Called (entry c a)) own d ≡ Some g → IsTrue g
+        by_call true (deed.Stores x) z h e = absurd (none_some g e)
+        by_call false (deed.Stores x) z h e = led a (deed.Stores x) g ia e
+            (called_effect c (Does c) Stored a p f up x x ss l call
+            (inl (refl, λ m. no_true (has_pair ks (l.entry, x)) (in_own f l x call.layout m) (sym z))) h)
+        by_call true (deed.Loads x) z h e = absurd (none_some g e)
+        by_call false (deed.Loads x) z h e = led a (deed.Loads x) g ia e
+            (called_effect c (Does c) Loaded a p f up x x ss l call
+            (inl (refl, λ m. no_true (has_pair ks (l.entry, x)) (in_own f l x call.layout m) (sym z))) h)
+        by_call own deed.Stops z h e = led a deed.Stops g ia e (Body f ∷ h.0, inr (p, f, up, ss, l, refl, call, h.1))
+
+        by_pass : (k y x : ℕ) (own : Bool) (d : Deed) → IsNumber l k y → IsActual l ss k x → IsDeed c (Body f) d
+            → fact_along (edge.Passed (entry c a) y x) own d ≡ Some g → IsTrue g
+        by_pass k y x own (deed.Stores w) num act h e = go (w == y) refl e
+          where
+            go : (b : Bool) → (w == y) ≡ b → (if b then Some (fact (entry c a) (deed.Stores x)) else None) ≡ Some g
+                → IsTrue g
+            go true z e = led a (deed.Stores x) g ia e
+                (called_effect c (Does c) Stored a p f up x w ss l call (inr (
+                  k,
+                  num
+                      ∙ ap Some (sym (eqb-true w y z)),
+                  act,
+                )) h)
+            go false z e = absurd (none_some g e)
+        by_pass k y x own (deed.Loads w) num act h e = go (w == y) refl e
+          where
+            go : (b : Bool) → (w == y) ≡ b → (if b then Some (fact (entry c a) (deed.Loads x)) else None) ≡ Some g
+                → IsTrue g
+            go true z e = led a (deed.Loads x) g ia e
+                (called_effect c (Does c) Loaded a p f up x w ss l call (inr (
+                  k,
+                  num
+                      ∙ ap Some (sym (eqb-true w y z)),
+                  act,
+                )) h)
+            go false z e = absurd (none_some g e)
+        by_pass k y x own deed.Stops num act h e = absurd (none_some g e)
+
+    module _ (rows : List (List Edge)) (edges : AreEdges c rows) where
+      true_led : (f g : Fact) → IsTrue f → Leads rows ks f g → IsTrue g
+      true_led f g (b, ib, at, h) (e, has, w) = go (edges.only f.area e has)
+        where
+          own : Bool
+          own = is_own ks f.area f.deed
+
+          as_edge : (x : Edge) → e ≡ x → fact_along x own f.deed ≡ Some g
+          as_edge x s = ap (λ z. fact_along z own f.deed) (sym s) ∙ w
+
+          go : (p : ℕ) × EdgeAt c p f.area e → IsTrue g
+          go (p, inr (a, k, t, ia, st, (m, s))) =
+              let child : IsArea c (Child a p k) = (ia, st.0, (t, st.1)) in
+              let same : b ≡ Child a p k = one_area b (Child a p k) ib child (sym at ∙ m
+              ∙ sym (ap entry_of_child st.1)) in
+              by_start a ia p g k t own f.deed st (subst (λ (z : Area). IsDeed c z f.deed) same h)
+              (as_edge (edge.Started (entry c a) t.index) s)
+          go (p, inl (a, d, up, ss, l, ia, call, (m, inl s))) =
+              let same : b ≡ Body d = one_area b (Body d) ib (l, call.layout) (sym at ∙ m
+              ∙ sym (ap entry_of_layout call.layout)) in
+              by_call a ia p g d up ss l call own f.deed (ap (λ n. is_own ks n f.deed) m)
+              (subst (λ (z : Area). IsDeed c z f.deed) same h) (as_edge (edge.Called (entry c a)) s)
+          go (p, inl (a, d, up, ss, l, ia, call, (m, inr (k, y, x, num, act, s)))) =
+              let same : b ≡ Body d = one_area b (Body d) ib (l, call.layout) (sym at ∙ m
+              ∙ sym (ap entry_of_layout call.layout)) in
+              by_pass a ia p g d up ss l call k y x own f.deed num act (subst (λ (z : Area). IsDeed c z f.deed) same h)
+              (as_edge (edge.Passed (entry c a) y x) s)
+
+      module _ (old new : List Fact) (start : Tells [] old (OwnBefore c (length c.instrs)))
+          (closes : Closes rows ks old new) where
+        first_true : (g : Fact) → has_fact old g ≡ true → IsTrue g
+        first_true g h = ⊎_elim (λ z. absurd (cc z))
+            (λ (w : OwnBefore c (length c.instrs) g). (w.2.0, w.2.1.0, w.2.2, does_deed w.2.0 w.0 g.deed w.2.3))
+            (start.only g h)
+
+        all_true : (n : ℕ) (g : Fact) → FollowsBy rows ks old n g → IsTrue g
+        all_true zero g h = first_true g h
+        all_true (suc n) g (f, h, l) = true_led f g (all_true n f h) l
+
+        sound : (a : Area) (d : Deed) → IsArea c a → has_fact new (fact (entry c a) d) ≡ true → IsDeed c a d
+        sound a d ia h =
+            let w = closes.only (fact (entry c a) d) h in
+            let t = all_true w.0 (fact (entry c a) d) w.1 in
+            subst (λ (z : Area). IsDeed c z d) (one_area t.0 a t.1 ia (sym t.2)) t.3
+
+        -- ---- none is left out
+
+        abbrev deed_by : Kind → ℕ → Deed
+        deed_by Stored x = deed.Stores x
+        deed_by Loaded x = deed.Loads x
+
+        abbrev Has : Area → Deed → Type 0
+        Has a d = IsArea c a → has_fact new (fact (entry c a) d) ≡ true
+
+        own_there : (a : Area) (p : ℕ) (d : Deed) → IsArea c a → Passes c a p → p < length c.instrs → DoesAt c a p d
+            → has_fact new (fact (entry c a) d) ≡ true
+        own_there a p d ia w l h = closes.kept (fact (entry c a) d)
+            (start.has (fact (entry c a) d) (p, l, (a, (ia, w), refl, h)))
+
+        stored_within : (a : Area) (p x : ℕ) (ss : List Shape) → IsIn x (stored_by c a (instr_at c p) ss)
+            → p < length c.instrs
+        stored_within a p x ss h = go (instr_at c p) refl h
+          where
+            go : (o : Option Instr) → instr_at c p ≡ o → IsIn x (stored_by c a o ss) → p < length c.instrs
+            go None e h = absurd h
+            go (Some o) e h = slice_get_within c.instrs p o e
+
+        loaded_within : (a : Area) (p x : ℕ) (ss : List Shape) → IsIn x (loaded_by c a (instr_at c p) ss)
+            → p < length c.instrs
+        loaded_within a p x ss h = go (instr_at c p) refl h
+          where
+            go : (o : Option Instr) → instr_at c p ≡ o → IsIn x (loaded_by c a o ss) → p < length c.instrs
+            go None e h = absurd h
+            go (Some o) e h = slice_get_within c.instrs p o e
+
+        stop_within : (p : ℕ) → is_stop (instr_at c p) ≡ true → p < length c.instrs
+        stop_within p h = go (instr_at c p) refl h
+          where
+            go : (o : Option Instr) → instr_at c p ≡ o → is_stop o ≡ true → p < length c.instrs
+            go None e h = absurd (cc h)
+            go (Some o) e h = slice_get_within c.instrs p o e
+
+        table_within : (p k : ℕ) (t : ChildTable) → child_at c p k ≡ Some t → p < length c.instrs
+        table_within p k t e = go (instr_at c p) refl (name_of (table_named (instr_at c p)) k c.forks t e).1
+          where
+            n : ℕ
+            n = (name_of (table_named (instr_at c p)) k c.forks t e).0
+
+            go : (o : Option Instr) → instr_at c p ≡ o → table_named o ≡ Some n → p < length c.instrs
+            go None e h = absurd (none_some n h)
+            go (Some o) e h = slice_get_within c.instrs p o e
+
+        call_within : (p f up : ℕ) → instr_at c p ≡ Some (i.Call f up) → p < length c.instrs
+        call_within p f up e = slice_get_within c.instrs p (i.Call f up) e
+
+        does_has : (u : Kind) (a : Area) (x : ℕ) → Does c u a x → Has a (deed_by u x)
+        does_has Stored a x (inl (p, ss, r, h)) ia = own_there a p (deed.Stores x) ia (passes c a p ss r)
+            (stored_within a p x ss h) (inl (ss, r, h))
+        does_has Stored a x (inr (p, k, t, s, h)) ia = own_there a p (deed.Stores x) ia s.0 (table_within p k t s.1)
+            (inr (k, t, s, h))
+        does_has Loaded a x (inl (p, ss, r, h)) ia = own_there a p (deed.Loads x) ia (passes c a p ss r)
+            (loaded_within a p x ss h) (inl (ss, r, h))
+        does_has Loaded a x (inr (p, k, t, s, h)) ia = own_there a p (deed.Loads x) ia s.0 (table_within p k t s.1)
+            (inr (k, t, s, h))
+
+        stop_has : (a : Area) → HasStop c a → Has a deed.Stops
+        stop_has a (p, ss, r, h) ia = own_there a p deed.Stops ia (passes c a p ss r) (stop_within p h) (inl (ss, r, h))
+
+        -- along an edge
+        goes : (p m n : ℕ) (e : Edge) (d x : Deed) → p < length c.instrs → EdgeAt c p m e
+            → has_fact new (fact m d) ≡ true
+            → fact_along e (is_own ks m d) d ≡ Some (fact n x) → has_fact new (fact n x) ≡ true
+        goes p m n e d x l w h s = closes.closed (fact m d) (fact n x) h (e, edges.has p m e l w, s)
+
+        from_child : (a : Area) (p k : ℕ) (t : ChildTable) (d : Deed) → IsStarted c a p k t
+            → ((own : Bool) → fact_along (edge.Started (entry c a) t.index) own d ≡ Some (fact (entry c a) d))
+            → Has (Child a p k) d → Has a d
+        from_child a p k t d s z h ia =
+            goes p t.entry (entry c a) (edge.Started (entry c a) t.index) d d (table_within p k t s.1)
+            (inr (a, k, t, ia, s, (refl, refl)))
+            (subst (λ n. has_fact new (fact n d) ≡ true) (ap entry_of_child s.1) (h (ia, s.0, (t, s.1))))
+            (z (is_own ks t.entry d))
+
+        no_index : (o : Option ℕ) (x : ℕ) → IsAside Loaded o x → is_index o x ≡ false
+        no_index None x h = refl
+        no_index (Some y) x h = go (x == y) refl
+          where
+            go : (b : Bool) → (x == y) ≡ b → b ≡ false
+            go true e = absurd (h (eqb-true x y e))
+            go false e = refl
+
+        child_has : (u : Kind) (a : Area) (p k x : ℕ) (t : ChildTable) → IsStarted c a p k t → IsAside u t.index x
+            → Has (Child a p k) (deed_by u x) → Has a (deed_by u x)
+        child_has Stored a p k x t s z h = from_child a p k t (deed.Stores x) s (λ own. refl) h
+        child_has Loaded a p k x t s z h = from_child a p k t (deed.Loads x) s
+            (λ own. ap (λ (b : Bool). if b then None else Some (fact (entry c a) (deed.Loads x)))
+            (no_index t.index x z)) h
+
+        module _ (a : Area) (p f up : ℕ) (ss : List Shape) (l : Layout) (call : IsCalled c a p f up ss l) where
+          at_entry : (d : Deed) → Has (Body f) d → has_fact new (fact l.entry d) ≡ true
+          at_entry d h = subst (λ n. has_fact new (fact n d) ≡ true) (ap entry_of_layout call.layout)
+              (h (l, call.layout))
+
+          outer : (x : ℕ) → (IsMember x l.variables → ⊥) → has_pair ks (l.entry, x) ≡ false
+          outer x never = go (has_pair ks (l.entry, x)) refl
+            where
+              go : (b : Bool) → has_pair ks (l.entry, x) ≡ b → b ≡ false
+              go true e = absurd (never (own_in f l x call.layout e))
+              go false e = refl
+
+          from_called : (d : Deed)
+              → fact_along (edge.Called (entry c a)) (is_own ks l.entry d) d ≡ Some (fact (entry c a) d)
+              → Has (Body f) d
+              → Has a d
+          from_called d z h ia = goes p l.entry (entry c a) (edge.Called (entry c a)) d d (call_within p f up call.call)
+              (inl (a, f, up, ss, l, ia, call, (refl, inl refl))) (at_entry d h) z
+
+          from_passed : (k y x : ℕ) (d e : Deed) → IsNumber l k y → IsActual l ss k x
+              → ((own : Bool) → fact_along (edge.Passed (entry c a) y x) own d ≡ Some (fact (entry c a) e))
+              → Has (Body f) d → Has a e
+          from_passed k y x d e num act z h ia =
+              goes p l.entry (entry c a) (edge.Passed (entry c a) y x) d e (call_within p f up call.call)
+              (inl (a, f, up, ss, l, ia, call, (refl, inr (k, y, x, num, act, refl)))) (at_entry d h)
+              (z (is_own ks l.entry d))
+
+          if_same : (y : ℕ) (g : Fact) → ◌≡◌ {A = Option Fact} (if y == y then Some g else None) (Some g)
+          if_same y g = ap (λ (b : Bool). if b then Some g else None) (eq-eqb y y refl)
+
+          called_has : (u : Kind) (x y : ℕ) → Becomes l ss y x → Has (Body f) (deed_by u y) → Has a (deed_by u x)
+          called_has Stored x y (inl (s, never)) h =
+              subst (λ z. Has a (deed.Stores z)) (sym s)
+              (from_called (deed.Stores y) (ap
+              (λ (b : Bool). if b then None else Some (fact (entry c a) (deed.Stores y))) (outer y never)) h)
+          called_has Stored x y (inr (k, num, act)) h = from_passed k y x (deed.Stores y) (deed.Stores x) num act
+              (λ own. if_same y (fact (entry c a) (deed.Stores x))) h
+          called_has Loaded x y (inl (s, never)) h =
+              subst (λ z. Has a (deed.Loads z)) (sym s)
+              (from_called (deed.Loads y) (ap
+              (λ (b : Bool). if b then None else Some (fact (entry c a) (deed.Loads y))) (outer y never)) h)
+          called_has Loaded x y (inr (k, num, act)) h = from_passed k y x (deed.Loads y) (deed.Loads x) num act
+              (λ own. if_same y (fact (entry c a) (deed.Loads x))) h
+
+        effect_has : (u : Kind) (a : Area) (x : ℕ) → IsEffect c (Does c) u a x → Has a (deed_by u x)
+        effect_has u a x e =
+            effects_within c (Does c) (λ v b y. Has b (deed_by v y)) does_has child_has
+            (λ v b p f up z y ss l call m h. called_has b p f up ss l call v z y m h) u a x e
+
+        comes_has : (a : Area) → Comes c a → Has a deed.Stops
+        comes_has a (bs, h) =
+            stops_within c (Does c) (HasStop c) (λ b. Has b deed.Stops) stop_has
+            (λ b p k t s z. from_child b p k t deed.Stops s (λ own. refl) z)
+            (λ b p f up ss l call z. from_called b p f up ss l call deed.Stops refl z) bs a h
+
+        complete : (a : Area) (d : Deed) → IsArea c a → IsDeed c a d → has_fact new (fact (entry c a) d) ≡ true
+        complete a (deed.Stores x) ia h = effect_has Stored a x h ia
+        complete a (deed.Loads x) ia h = effect_has Loaded a x h ia
+        complete a deed.Stops ia h = comes_has a h ia
+
+        pub are_facts : AreFacts c new
+        are_facts a d ia = (sound a d ia, complete a d ia)
+
+  pub facts_closed : (none old new : List Fact) → none ≡ [] → Tells none old (OwnBefore c (length c.instrs))
+      → ClosesBy c old new → AreFacts c new
+  facts_closed none old new e start by = are_facts by.own by.are_own by.rows by.are_edges old new
+      (subst (λ (z : List Fact). Tells z old (OwnBefore c (length c.instrs))) e start) by.closes

@@ -1,0 +1,89 @@
+-- Rule V8: what the pass finds is broken, and what is broken it finds.
+use Rattle.std.proofs.Common.{◌≡◌, inl, inr, ⊎_elim, sym, ap, subst, ◌∙◌, ℕ, List, [], length, Option, Some, None, Bool}
+use Rattle.std.proofs.Common.{true, ◌||◌, arith}
+use Rattle.std.specs.Prelude.{slice_get}
+use Rattle.std.proofs.lemmas.Option.{slice_get_within}
+use Rattle.sp_code.specs.declared.code.Layout.{Layout}
+use Rattle.sp_code.specs.declared.code.Parts.{Parts}
+use Rattle.sp_code.specs.Machine.{layout_of}
+use Rattle.sp_rules.specs.Areas.{Body, entry_of_layout}
+use Rattle.sp_rules.specs.Effects.{Does}
+use Rattle.sp_rules.specs.Forks as fork
+use Rattle.sp_rules.specs.Named.{BreaksV1}
+use Rattle.sp_rules.specs.Verdict.{BreaksV8, HasStop}
+use Rattle.sp_rules.proofs.Facts.{both_true, and_true}
+use Rattle.sp_areas.specs.Least.{IsLeast, Upto}
+use Rattle.sp_areas.proofs.Leasts.{all}
+use Rattle.sp_effects.specs.declared.effects.Deeds.{Deeds}
+use Rattle.sp_effects.specs.declared.effects.Effects.{Effects}
+use Rattle.sp_effects.specs.Effects.{AreEffects, AreDeeds}
+use Rattle.sp_effects.specs.Loud.{IsLoud, LayoutLoud, is_loud}
+use Rattle.sp_effects.specs.Variables.{goes_out, with_layouts}
+use Rattle.sp_effects.proofs.Members.{or_left, or_right, or_split}
+use Rattle.sp_effects.proofs.Owned.{layout_here, one_layout, out_from, out_is}
+
+-- ---- one layout
+
+module _ (ls : List Layout) (j : ℕ) (l : Layout) (is : slice_get ls j ≡ Some l) (ks : List (ℕ
+    × ℕ)) (own : ks ≡ with_layouts [] 0 ls) where
+  loud_is : (o : Option Deeds) → is_loud ks j l o ≡ true → IsLoud l o
+  loud_is None e = absurd (cc e)
+  loud_is (Some d) e =
+      let b = both_true l.answer (d.stops || goes_out ks j 0 d.stored) e in (
+        b.0,
+        ⊎_elim (λ h. inr h) (λ h. let r = out_is ls j l is ks own 0 d.stored h in inl (r.0, r.1, r.3))
+            (or_split d.stops (goes_out ks j 0 d.stored) b.1),
+      )
+
+  loud_from : (o : Option Deeds) → IsLoud l o → is_loud ks j l o ≡ true
+  loud_from None h = absurd h
+  loud_from (Some d) (a, inr s) = and_true l.answer (d.stops
+      || goes_out ks j 0 d.stored) a (or_left d.stops (goes_out ks j 0 d.stored) s)
+  loud_from (Some d) (a, inl (x, i, m)) =
+      and_true l.answer (d.stops || goes_out ks j 0 d.stored) a
+      (or_right d.stops (goes_out ks j 0 d.stored) (out_from ls j l is ks own 0 d.stored x i (omega arith) m))
+
+  pub one_loud : (e : Effects) (b : Bool) (o : Option ℕ) → b ≡ is_loud ks j l (slice_get e.rows l.entry)
+      → IsLeast (λ p. (l.entry ≡ p) × (b ≡ true)) o → IsLeast (LayoutLoud e ls j) o
+  one_loud e b o t h =
+      one_layout (λ i m. IsLoud m (slice_get e.rows m.entry)) ls j l b o is
+      (λ f. loud_is (slice_get e.rows l.entry) (sym t ∙ f)) (λ f. t ∙ loud_from (slice_get e.rows l.entry) f) h
+
+-- ---- the row of a block
+
+pub body_row : (c : Parts) (e : Effects) (are : AreEffects c e) (l : Layout) → layout_of c.layouts l.block ≡ Some l
+    → (d : Deeds) × (slice_get e.rows l.entry ≡ Some d) × AreDeeds c (Body l.block) d
+body_row c e are l is =
+    let r = are.rows (Body l.block) (l, is) in
+    (r.0, ap (slice_get e.rows) (sym (ap entry_of_layout is)) ∙ r.1, r.2)
+
+-- ---- V8
+
+module _ (c : Parts) (e : Effects) (are : AreEffects c e) (kept : (p : ℕ) → BreaksV1 c p → ⊥) where
+  to_rule : (l : Layout) (d : Deeds) → AreDeeds c (Body l.block) d → IsLoud l (Some d)
+      → fork.BreaksV8 c (Does c) (HasStop c) l l.block
+  to_rule l d deeds (a, inl (x, i, m)) = (a, inl (x, (deeds.stored x).0 i, m))
+  to_rule l d deeds (a, inr s) = (a, inr (deeds.stops.0 s))
+
+  from_rule : (l : Layout) (d : Deeds) → AreDeeds c (Body l.block) d → fork.BreaksV8 c (Does c) (HasStop c) l l.block
+      → IsLoud l (Some d)
+  from_rule l d deeds (a, inl (x, i, m)) = (a, inl (x, (deeds.stored x).1 i, m))
+  from_rule l d deeds (a, inr s) = (a, inr (deeds.stops.1 s))
+
+  found : (j p : ℕ) → LayoutLoud e c.layouts j p → BreaksV8 c p
+  found j p (l, is, at, h) =
+      let r = body_row c e are l (layout_here c kept j l is) in
+      (l, (j, is), at, to_rule l r.0 r.2 (subst (IsLoud l) r.1 h))
+
+  finds : (p : ℕ) → BreaksV8 c p → Upto (LayoutLoud e c.layouts) (length c.layouts) p
+  finds p (l, (j, is), at, h) =
+      let r = body_row c e are l (layout_here c kept j l is) in
+      record {
+        item = j;
+        below = slice_get_within c.layouts j l is;
+        holds =
+            (l, is, at, subst (IsLoud l) (sym r.1) (from_rule l r.0 r.2 h));
+      }
+
+  pub v8_least : (o : Option ℕ) → IsLeast (Upto (LayoutLoud e c.layouts) (length c.layouts)) o → IsLeast (BreaksV8 c) o
+  v8_least o h = all (LayoutLoud e c.layouts) (BreaksV8 c) (length c.layouts) o found finds h

@@ -1,0 +1,48 @@
+-- Each instruction lies in one area, which is known by its first instruction.
+use Rattle.std.proofs.Common.{◌≡◌, inl, refl, ap, sym, ◌∙◌, subst, ℕ, zero, suc, ◌<◌, List, [], ◌∷◌, length, Option}
+use Rattle.std.proofs.Common.{Some, None, arith}
+use Rattle.std.specs.Prelude.{slice_get, MatchOption}
+use Rattle.std.proofs.lemmas.Option.{slice_get_within}
+use Rattle.sp_code.specs.declared.instr.Instr.{Instr}
+use Rattle.sp_code.specs.declared.code.Parts.{Parts}
+use Rattle.sp_rules.specs.Areas.{Area, Body, Child, instr_at, entry, entry_of_layout, entry_of_child}
+use Rattle.sp_rules.specs.Reach.{IsArea}
+use Rattle.sp_rules.specs.Named.{BreaksV1, InTwo, LiesIn}
+use Rattle.sp_areas.specs.declared.owners.Owner.{Owner}
+use Rattle.sp_areas.specs.declared.owners.Owner.TheVariants as owner
+use Rattle.sp_areas.specs.Owners.{AreOwners, IsOnly, Owns, owner_of, entry_at}
+use Rattle.sp_areas.specs.Only.{LiesOnlyIn}
+use Rattle.sp_effects.specs.Own.{child_entry, entry_by}
+
+-- what an area does at an instruction, that instruction does
+pub instr_within : (c : Parts) (p : ℕ) (o : Instr) → instr_at c p ≡ Some o → p < length c.instrs
+instr_within c p o e = slice_get_within c.instrs p o e
+
+module _ (c : Parts) where
+  area_entry : (a : Area) → IsArea c a → entry_by c (owner_of a) ≡ Some (entry c a)
+  area_entry (Body b) (l, e) = ap entry_at e ∙ ap Some (sym (ap entry_of_layout e))
+  area_entry (Child a p k) (i, w, (t, e)) = ap child_entry e ∙ ap Some (sym (ap entry_of_child e))
+
+  -- the area of an instruction, by its owner, if there is one
+  abbrev pub Found : ℕ → Option ℕ → Type 0
+  Found p r = MatchOption r ((a : Area) → LiesIn c p a → ⊥) (λ n. (a : Area) × LiesOnlyIn c p a × (entry c a ≡ n))
+
+  one_found : (p : ℕ) (o : Owner) (r : Option ℕ) → IsOnly c p o → r ≡ entry_by c o → Found p r
+  one_found p o r h e =
+      let s : entry_by c o ≡ Some (entry c h.area) = ap (entry_by c) (sym h.is) ∙ area_entry h.area h.lies.0 in
+      subst (Found p) (sym (e ∙ s)) (h.area, (h.lies, h.only), refl)
+
+  pub area_found : (p : ℕ) (o : Owner) (r : Option ℕ) → ((q : ℕ) → BreaksV1 c q → ⊥) → Owns c p o → r ≡ entry_by c o
+      → Found p r
+  area_found p owner.Nobody r kept h e = subst (Found p) (sym e) h
+  area_found p (owner.Block b) r kept h e = one_found p (owner.Block b) r h e
+  area_found p (owner.Child q k) r kept h e = one_found p (owner.Child q k) r h e
+  area_found p owner.Several r kept h e = absurd (kept p (InTwo (h.one, h.lies, inl (h.other, h.too, h.apart))))
+
+  pub owner_there : (os : List Owner) (p : ℕ) → AreOwners c os → p < length c.instrs → slice_get os p ≡ None → ⊥
+  owner_there os p are l e = past os p (let m = are.0 in omega (arith, l, m)) e
+    where
+      past : (xs : List Owner) (i : ℕ) → i < length xs → slice_get xs i ≡ None → ⊥
+      past [] i l e = omega (arith, l)
+      past (y ∷ ys) zero l e = cc (e)
+      past (y ∷ ys) (suc i) l e = past ys i (omega (arith, l)) e

@@ -1,0 +1,341 @@
+-- What instructions do themselves is told.
+use Rattle.std.proofs.Common.{◌≡◌, ◌⊎◌, inl, inr, ⊎_elim, refl, ap, sym, ◌∙◌, subst, ℕ, zero, suc, ◌+◌, ◌<◌, List, []}
+use Rattle.std.proofs.Common.{◌∷◌, length, take, Option, Some, None, Bool, true, false, get_or, arith}
+use Rattle.std.specs.Prelude.{slice_get, Result, Ok, Err, OnOk}
+use Rattle.sp_code.specs.declared.instr.Instr.{Instr}
+use Rattle.sp_code.specs.declared.code.Parts.{Parts}
+use Rattle.sp_rules.specs.Areas.{Area, instr_at, child_at, child_of, table_at, table_named, entry}
+use Rattle.sp_rules.specs.Shapes.{Shape}
+use Rattle.sp_rules.specs.Reach.{IsIn}
+use Rattle.sp_rules.specs.Touched.{stored_by, loaded_by}
+use Rattle.sp_rules.specs.Verdict.{is_stop}
+use Rattle.sp_rules.proofs.Facts.{same_some, none_some, which}
+use Rattle.sp_rules.proofs.Walking.{passes}
+use Rattle.sp_rules.specs.Rules.{ComesTo}
+use Rattle.sp_rules.specs.Named.{LiesIn}
+use Rattle.sp_areas.specs.Only.{LiesOnlyIn}
+use Rattle.sp_tree.specs.Interference.{IsMember}
+use Rattle.sp_code.specs.declared.code.ChildTable.{ChildTable}
+use Rattle.sp_code.specs.declared.code.ForkTable.{ForkTable}
+use Rattle.sp_shapes.specs.declared.shapes.Shapes.{Shapes}
+use Rattle.sp_shapes.specs.Shapes.{AreShapes}
+use Rattle.sp_shapes.specs.Stacks.{list_of}
+use Rattle.std.proofs.lemmas.Option.{slice_get_within}
+use Rattle.sp_effects.specs.declared.facts.Fact.{Fact}
+use Rattle.sp_effects.specs.declared.facts.Deed.{Deed}
+use Rattle.sp_effects.specs.declared.facts.Deed.TheVariants as deed
+use Rattle.sp_effects.specs.Facts.{fact, with_fact, Tells}
+use Rattle.sp_effects.specs.Own.{IsOf, IsAmong, IsStop, IsHanded, OneIsHanded, ForkedAt, ReachedAt, OwnAt, OwnBefore}
+use Rattle.sp_effects.specs.Own.{DoesBy, deed_of, flat}
+use Rattle.sp_effects.proofs.Telling.{tells_none, tells_as, tells_then, tells_one}
+
+-- what holds where all went well
+pub ok_on : {T E : Type 0} (r : Result T E) (P Q : Type 0) → (P → Q) → OnOk r P → OnOk r Q
+ok_on (Ok x) P Q f h = f h
+ok_on (Err e) P Q f h = tt
+
+-- ---- lists
+
+in_first : (xs : List ℕ) (i x y : ℕ) → slice_get xs i ≡ Some y → IsIn x (take (suc i) xs) → IsIn x (take i xs) ⊎ (x ≡ y)
+in_first [] i x y e h = absurd (none_some y e)
+in_first (z ∷ xs) zero x y e h = inr (⊎_elim (λ s. s ∙ same_some z y e) (λ n. absurd (none xs n)) h)
+  where
+    none : (ys : List ℕ) → IsIn x (take 0 ys) → ⊥
+    none [] n = n
+    none (w ∷ ys) n = n
+in_first (z ∷ xs) (suc i) x y e h = ⊎_elim (λ s. inl (inl s))
+    (λ n. ⊎_elim (λ m. inl (inr m)) (λ s. inr s) (in_first xs i x y e n)) h
+
+first_in : (xs : List ℕ) (i x y : ℕ) → slice_get xs i ≡ Some y → IsIn x (take i xs) ⊎ (x ≡ y) → IsIn x (take (suc i) xs)
+first_in [] i x y e h = absurd (none_some y e)
+first_in (z ∷ xs) zero x y e h = ⊎_elim (λ n. absurd n) (λ s. inl (s ∙ sym (same_some z y e))) h
+first_in (z ∷ xs) (suc i) x y e (inl (inl s)) = inl s
+first_in (z ∷ xs) (suc i) x y e (inl (inr n)) = inr (first_in xs i x y e (inl n))
+first_in (z ∷ xs) (suc i) x y e (inr s) = inr (first_in xs i x y e (inr s))
+
+pub read : (xs : List ℕ) (i : ℕ) → i < length xs → slice_get xs i ≡ Some (get_or xs i 0)
+read [] i l = absurd (omega (arith, l))
+read (x ∷ xs) zero l = refl
+read (x ∷ xs) (suc i) l = read xs i (omega (arith, l))
+
+next : (i : ℕ) → i + 1 ≡ suc i
+next i = omega arith
+
+pub in_taken : (xs : List ℕ) (i x y : ℕ) → slice_get xs i ≡ Some y → IsIn x (take (i + 1) xs) → IsIn x (take i xs)
+    ⊎ (x ≡ y)
+in_taken xs i x y e h = in_first xs i x y e (subst (λ n. IsIn x (take n xs)) (next i) h)
+
+pub taken_in : (xs : List ℕ) (i x y : ℕ) → slice_get xs i ≡ Some y → IsIn x (take i xs) ⊎ (x ≡ y)
+    → IsIn x (take (i + 1) xs)
+taken_in xs i x y e h = subst (λ n. IsIn x (take n xs)) (sym (next i)) (first_in xs i x y e h)
+
+-- ---- one fact
+
+pub fact_is : (n : ℕ) (e : Deed) (f : Fact) → f.area ≡ n → f.deed ≡ e → f ≡ fact n e
+fact_is n e f p q = λ i. record { area = p i; deed = q i }
+
+-- what an area does in one way more
+pub of_one : (n : ℕ) (e : Deed) (g : Fact) (D : Deed → Type 0) (f : Fact) → g ≡ fact n e → f ≡ g → D e → IsOf n D f
+of_one n e g D f s h d = let p = h
+    ∙ s in record { area = ap (λ (x : Fact). x.area) p; does = subst D (sym (ap (λ (x : Fact). x.deed) p)) d }
+
+pub told_more : (a b : List Fact) (n i y : ℕ) (s : Bool) (xs : List ℕ) (e : Deed) → slice_get xs i ≡ Some y
+    → e ≡ deed_of s y
+    → Tells a b (IsOf n (IsAmong s (take i xs)))
+    → Tells a (with_fact b (fact n e)) (IsOf n (IsAmong s (take (i + 1) xs)))
+told_more a b n i y s xs e g h t =
+    tells_as a (with_fact b (fact n e)) (λ f. IsOf n (IsAmong s (take i xs)) f
+    ⊎ (f ≡ fact n e)) (IsOf n (IsAmong s (take (i + 1) xs))) to from
+    (tells_then a b (with_fact b (fact n e)) (IsOf n (IsAmong s (take i xs))) (λ f. f ≡ fact n e) t
+    (tells_one b (fact n e)))
+  where
+    to : (f : Fact) → IsOf n (IsAmong s (take i xs)) f ⊎ (f ≡ fact n e) → IsOf n (IsAmong s (take (i + 1) xs)) f
+    to f (inl o) = record { area = o.area; does = (o.does.0, taken_in xs i o.does.0 y g (inl o.does.1), o.does.2) }
+    to f (inr p) = of_one n e (fact n e) (IsAmong s (take (i + 1) xs)) f refl p (y, taken_in xs i y y g (inr refl), h)
+
+    from : (f : Fact) → IsOf n (IsAmong s (take (i + 1) xs)) f → IsOf n (IsAmong s (take i xs)) f ⊎ (f ≡ fact n e)
+    from f o = ⊎_elim (λ m. inl (record { area = o.area; does = (o.does.0, m, o.does.2) }))
+        (λ m. inr (fact_is n e f o.area (o.does.2 ∙ ap (deed_of s) m ∙ sym h))) (in_taken xs i o.does.0 y g o.does.1)
+
+pub none_taken : (a : List Fact) (n : ℕ) (s : Bool) (xs : List ℕ) → Tells a a (IsOf n (IsAmong s (take 0 xs)))
+none_taken a n s [] = tells_none a (IsOf n (IsAmong s [])) (λ f o. absurd (o.does.1))
+none_taken a n s (x ∷ xs) = tells_none a (IsOf n (IsAmong s [])) (λ f o. absurd (o.does.1))
+
+pub stop_told : (a : List Fact) (n : ℕ) (o : Instr) → is_stop (Some o) ≡ true
+    → Tells a (with_fact a (fact n deed.Stops)) (IsOf n (IsStop (Some o)))
+stop_told a n o e =
+    tells_as a (with_fact a (fact n deed.Stops)) (λ f. f ≡ fact n deed.Stops) (IsOf n (IsStop (Some o)))
+    (λ f p. of_one n deed.Stops (fact n deed.Stops) (IsStop (Some o)) f refl p (e, refl))
+    (λ f h. fact_is n deed.Stops f h.area h.does.1) (tells_one a (fact n deed.Stops))
+
+pub no_stop : (a : List Fact) (n : ℕ) (o : Instr) → is_stop (Some o) ≡ false → Tells a a (IsOf n (IsStop (Some o)))
+no_stop a n o e = tells_none a (IsOf n (IsStop (Some o))) (λ f h. absurd (let z = sym e ∙ h.does.0 in cc (z)))
+
+-- ---- an instruction
+
+module _ (c : Parts) (a : Area) (p : ℕ) (ss : List Shape) where
+  pub shaped_told : (f g h k : List Fact) (n : ℕ) (o : Instr) (xs ys : List ℕ) → instr_at c p ≡ Some o
+      → stored_by c a (Some o) ss ≡ xs → loaded_by c a (Some o) ss ≡ ys
+      → Tells f g (IsOf n (IsAmong true xs)) → Tells g h (IsOf n (IsAmong false ys))
+      → Tells h k (IsOf n (IsStop (Some o))) → Tells f k (IsOf n (DoesBy c a p ss))
+  shaped_told f g h k n o xs ys ei ex ey t u v =
+      tells_as f k (λ z. (IsOf n (IsAmong true xs) z ⊎ IsOf n (IsAmong false ys) z)
+      ⊎ IsOf n (IsStop (Some o)) z) (IsOf n (DoesBy c a p ss)) to from
+      (tells_then f h k (λ z. IsOf n (IsAmong true xs) z
+      ⊎ IsOf n (IsAmong false ys) z) (IsOf n (IsStop (Some o)))
+      (tells_then f g h (IsOf n (IsAmong true xs)) (IsOf n (IsAmong false ys)) t u) v)
+    where
+      es : stored_by c a (instr_at c p) ss ≡ xs
+      es = ap (λ (z : Option Instr). stored_by c a z ss) ei ∙ ex
+
+      el : loaded_by c a (instr_at c p) ss ≡ ys
+      el = ap (λ (z : Option Instr). loaded_by c a z ss) ei ∙ ey
+
+      stored : (x : ℕ) (d : Deed) → IsIn x xs → d ≡ deed.Stores x → DoesBy c a p ss d
+      stored x d i s = subst (DoesBy c a p ss) (sym s) (subst (IsIn x) (sym es) i)
+
+      loaded : (x : ℕ) (d : Deed) → IsIn x ys → d ≡ deed.Loads x → DoesBy c a p ss d
+      loaded x d i s = subst (DoesBy c a p ss) (sym s) (subst (IsIn x) (sym el) i)
+
+      stops : (d : Deed) → is_stop (Some o) ≡ true → d ≡ deed.Stops → DoesBy c a p ss d
+      stops d e s = subst (DoesBy c a p ss) (sym s) (ap is_stop ei ∙ e)
+
+      to : (z : Fact) → (IsOf n (IsAmong true xs) z ⊎ IsOf n (IsAmong false ys) z) ⊎ IsOf n (IsStop (Some o)) z
+          → IsOf n (DoesBy c a p ss) z
+      to z (inl (inl w)) = record { area = w.area; does = stored w.does.0 z.deed w.does.1 w.does.2 }
+      to z (inl (inr w)) = record { area = w.area; does = loaded w.does.0 z.deed w.does.1 w.does.2 }
+      to z (inr w) = record { area = w.area; does = stops z.deed w.does.0 w.does.1 }
+
+      split : (d : Deed) → DoesBy c a p ss d → (IsAmong true xs d ⊎ IsAmong false ys d) ⊎ IsStop (Some o) d
+      split (deed.Stores x) i = inl (inl (x, subst (IsIn x) es i, refl))
+      split (deed.Loads x) i = inl (inr (x, subst (IsIn x) el i, refl))
+      split deed.Stops e = inr (sym (ap is_stop ei) ∙ e, refl)
+
+      from : (z : Fact) → IsOf n (DoesBy c a p ss) z → (IsOf n (IsAmong true xs) z ⊎ IsOf n (IsAmong false ys) z)
+          ⊎ IsOf n (IsStop (Some o)) z
+      from z w =
+          ⊎_elim (λ r. inl (⊎_elim (λ q. inl (record { area = w.area; does = q }))
+          (λ q. inr (record { area = w.area; does = q })) r)) (λ q. inr (record { area = w.area; does = q }))
+          (split z.deed w.does)
+
+-- ---- children
+
+pub in_member : (x : ℕ) (xs : List ℕ) → IsIn x xs → IsMember x xs
+in_member x [] i = i
+in_member x (y ∷ ys) (inl e) = inl e
+in_member x (y ∷ ys) (inr i) = inr (in_member x ys i)
+
+pub member_in : (x : ℕ) (xs : List ℕ) → IsMember x xs → IsIn x xs
+member_in x [] i = i
+member_in x (y ∷ ys) (inl e) = inl e
+member_in x (y ∷ ys) (inr i) = inr (member_in x ys i)
+
+pub child_told : (f g h : List Fact) (n : ℕ) (t : ChildTable) (ms ss : List ℕ) → ms ≡ t.moved → ss ≡ t.shared
+    → Tells f g (IsOf n (IsAmong true ms)) → Tells g h (IsOf n (IsAmong false ss)) → Tells f h (IsOf n (IsHanded t))
+child_told f g h n t ms ss em es u v = tells_as f h (λ z. IsOf n (IsAmong true ms) z
+    ⊎ IsOf n (IsAmong false ss) z) (IsOf n (IsHanded t)) to from
+    (tells_then f g h (IsOf n (IsAmong true ms)) (IsOf n (IsAmong false ss)) u v)
+  where
+    to : (z : Fact) → IsOf n (IsAmong true ms) z ⊎ IsOf n (IsAmong false ss) z → IsOf n (IsHanded t) z
+    to z (inl w) = record {
+      area = w.area;
+      does = subst (IsHanded t) (sym w.does.2)
+          (in_member w.does.0 t.moved (subst (IsIn w.does.0) em w.does.1));
+    }
+    to z (inr w) = record {
+      area = w.area;
+      does = subst (IsHanded t) (sym w.does.2)
+          (in_member w.does.0 t.shared (subst (IsIn w.does.0) es w.does.1));
+    }
+
+    split : (d : Deed) → IsHanded t d → IsAmong true ms d ⊎ IsAmong false ss d
+    split (deed.Stores x) i = inl (x, subst (IsIn x) (sym em) (member_in x t.moved i), refl)
+    split (deed.Loads x) i = inr (x, subst (IsIn x) (sym es) (member_in x t.shared i), refl)
+    split deed.Stops i = absurd i
+
+    from : (z : Fact) → IsOf n (IsHanded t) z → IsOf n (IsAmong true ms) z ⊎ IsOf n (IsAmong false ss) z
+    from z w = ⊎_elim (λ q. inl (record { area = w.area; does = q })) (λ q. inr (record { area = w.area; does = q }))
+        (split z.deed w.does)
+
+pub before_or : (k n : ℕ) → k < n + 1 → (k < n) ⊎ (k ≡ n)
+before_or k n l = ⊎_elim (λ h. inl h) (λ z. ⊎_elim (λ e. inr e) (λ h. absurd (omega (arith, h, l))) z) (which k n)
+
+pub none_handed : (f : List Fact) (n : ℕ) (ts : List ChildTable) → Tells f f (IsOf n (OneIsHanded ts 0))
+none_handed f n ts = tells_none f (IsOf n (OneIsHanded ts 0))
+    (λ z w. absurd (let l : w.does.0 < 0 = w.does.2 in omega (arith, l)))
+
+pub children_more : (f g h : List Fact) (n k : ℕ) (t : ChildTable) (ts : List ChildTable) → slice_get ts k ≡ Some t
+    → Tells f g (IsOf n (OneIsHanded ts k)) → Tells g h (IsOf n (IsHanded t))
+    → Tells f h (IsOf n (OneIsHanded ts (k + 1)))
+children_more f g h n k t ts e u v = tells_as f h (λ z. IsOf n (OneIsHanded ts k) z
+    ⊎ IsOf n (IsHanded t) z) (IsOf n (OneIsHanded ts (k + 1))) to from
+    (tells_then f g h (IsOf n (OneIsHanded ts k)) (IsOf n (IsHanded t)) u v)
+  where
+    to : (z : Fact) → IsOf n (OneIsHanded ts k) z ⊎ IsOf n (IsHanded t) z → IsOf n (OneIsHanded ts (k + 1)) z
+    to z (inl w) = record {
+      area = w.area;
+      does =
+          (w.does.0, w.does.1, (let l = w.does.2 in omega (arith, l)), w.does.3, w.does.4);
+    }
+    to z (inr w) = record { area = w.area; does = (k, t, omega arith, e, w.does) }
+
+    from : (z : Fact) → IsOf n (OneIsHanded ts (k + 1)) z → IsOf n (OneIsHanded ts k) z ⊎ IsOf n (IsHanded t) z
+    from z w =
+        ⊎_elim (λ l. inl (record { area = w.area; does = (w.does.0, w.does.1, l, w.does.3, w.does.4) }))
+        (λ s. inr (record {
+          area = w.area;
+          does = subst (λ (y : ChildTable). IsHanded y z.deed)
+              (same_some w.does.1 t (sym w.does.3 ∙ ap (slice_get ts) s ∙ e)) w.does.4;
+        })) (before_or w.does.0 k w.does.2)
+
+-- ---- at an instruction
+
+module _ (c : Parts) (p : ℕ) where
+  pub not_forked : (f : List Fact) (n : ℕ) → table_at c.forks (table_named (instr_at c p)) ≡ None
+      → Tells f f (IsOf n (ForkedAt c p))
+  not_forked f n e = tells_none f (IsOf n (ForkedAt c p))
+      (λ z w. absurd (none_some w.does.1 (sym (ap (λ (o : Option ForkTable). child_of o w.does.0) e) ∙ w.does.2)))
+
+  pub forked_told : (f g : List Fact) (n : ℕ) (tb : ForkTable) (ts : List ChildTable)
+      → table_at c.forks (table_named (instr_at c p)) ≡ Some tb → ts ≡ tb.children
+      → Tells f g (IsOf n (OneIsHanded ts (length ts))) → Tells f g (IsOf n (ForkedAt c p))
+  forked_told f g n tb ts e s t = tells_as f g (IsOf n (OneIsHanded ts (length ts))) (IsOf n (ForkedAt c p)) to from t
+    where
+      child_is : (k : ℕ) → child_at c p k ≡ slice_get ts k
+      child_is k = ap (λ (o : Option ForkTable). child_of o k) e ∙ ap (λ (xs : List ChildTable). slice_get xs k) (sym s)
+
+      to : (z : Fact) → IsOf n (OneIsHanded ts (length ts)) z → IsOf n (ForkedAt c p) z
+      to z w = record { area = w.area; does = (w.does.0, w.does.1, child_is w.does.0 ∙ w.does.3, w.does.4) }
+
+      from : (z : Fact) → IsOf n (ForkedAt c p) z → IsOf n (OneIsHanded ts (length ts)) z
+      from z w =
+          let g = sym (child_is w.does.0) ∙ w.does.2 in
+          record { area = w.area; does = (w.does.0, w.does.1, slice_get_within ts w.does.0 w.does.1 g, g, w.does.3) }
+
+  -- ---- where it is reached
+
+  module _ (shapes : Shapes) (are : AreShapes c shapes) where
+    pub not_reached : (f : List Fact) → flat (slice_get shapes.at p) ≡ None → Tells f f (ReachedAt c p)
+    not_reached f e = tells_none f (ReachedAt c p) (λ z w. absurd (let k = are.all w.0 p w.1 w.2 in none_some k.0 (sym e
+        ∙ ap flat k.1)))
+
+    flat_is : (o : Option (Option ℕ)) (s : ℕ) → flat o ≡ Some s → o ≡ Some (Some s)
+    flat_is None s e = absurd (none_some s e)
+    flat_is (Some o) s e = ap Some e
+
+    pub reached_told : (f g : List Fact) (n s : ℕ) (a : Area) → flat (slice_get shapes.at p) ≡ Some s → LiesOnlyIn c p a
+        → entry c a ≡ n
+        → Tells f g (IsOf n (DoesBy c a p (list_of shapes.stacks s))) → Tells f g (ReachedAt c p)
+    reached_told f g n s a e only at t = tells_as f g (IsOf n (DoesBy c a p (list_of shapes.stacks s)))
+        (ReachedAt c p) to from t
+      where
+        here : slice_get shapes.at p ≡ Some (Some s)
+        here = flat_is (slice_get shapes.at p) s e
+
+        same_area : (b : Area) (ss : List Shape) → ComesTo c b p ss → b ≡ a
+        same_area b ss w = only.1 b (w.0, passes c b p ss w.1)
+
+        to : (z : Fact) → IsOf n (DoesBy c a p (list_of shapes.stacks s)) z → ReachedAt c p z
+        to z w =
+            let k = are.come p s here in
+            let b : k.0 ≡ a = same_area k.0 (list_of shapes.stacks s) k.1 in (
+              a,
+              list_of shapes.stacks s,
+              subst (λ (y : Area). ComesTo c y p (list_of shapes.stacks s)) b k.1,
+              w.area
+                  ∙ sym at,
+              w.does,
+            )
+
+        from : (z : Fact) → ReachedAt c p z → IsOf n (DoesBy c a p (list_of shapes.stacks s)) z
+        from z (b, ss, w, h, d) =
+            let q : b ≡ a = same_area b ss w in
+            let k = are.all b p ss w in
+            let i : s ≡ k.0 = same_some s k.0 (same_some (Some s) (Some k.0) (sym here ∙ k.1)) in
+            let l : ss ≡ list_of shapes.stacks s = sym k.2 ∙ ap (list_of shapes.stacks) (sym i) in
+            record {
+              area = h ∙ ap (entry c) q
+                  ∙ at;
+              does = subst (λ (y : List Shape). DoesBy c a p y z.deed) l
+                  (subst (λ (y : Area). DoesBy c y p ss z.deed) q d);
+            }
+
+  -- ---- both
+
+  pub at_none : (f : List Fact) → ((a : Area) → LiesIn c p a → ⊥) → Tells f f (OwnAt c p)
+  at_none f never = tells_none f (OwnAt c p) (λ z w. absurd (never w.0 w.1))
+
+  pub at_told : (f g h : List Fact) (n : ℕ) (a : Area) → LiesOnlyIn c p a → entry c a ≡ n → Tells f g (ReachedAt c p)
+      → Tells g h (IsOf n (ForkedAt c p)) → Tells f h (OwnAt c p)
+  at_told f g h n a only at u v = tells_as f h (λ z. ReachedAt c p z
+      ⊎ IsOf n (ForkedAt c p) z) (OwnAt c p) to from (tells_then f g h (ReachedAt c p) (IsOf n (ForkedAt c p)) u v)
+    where
+      to : (z : Fact) → ReachedAt c p z ⊎ IsOf n (ForkedAt c p) z → OwnAt c p z
+      to z (inl (b, ss, w, e, d)) = (b, (w.0, passes c b p ss w.1), e, inl (ss, w.1, d))
+      to z (inr w) = (a, only.0, w.area ∙ sym at, inr (w.does.0, w.does.1, (only.0.1, w.does.2), w.does.3))
+
+      from : (z : Fact) → OwnAt c p z → ReachedAt c p z ⊎ IsOf n (ForkedAt c p) z
+      from z (b, lies, e, inl (ss, r, d)) = inl (b, ss, (lies.0, r), e, d)
+      from z (b, lies, e, inr (k, t, s, d)) = inr (record {
+        area = e ∙ ap (entry c) (only.1 b lies)
+            ∙ at;
+        does = (k, t, s.1, d);
+      })
+
+-- ---- at all
+
+module _ (c : Parts) where
+  pub none_before : (f : List Fact) → Tells f f (OwnBefore c 0)
+  none_before f = tells_none f (OwnBefore c 0) (λ z w. absurd (let l : w.0 < 0 = w.1 in omega (arith, l)))
+
+  pub before_more : (f g h : List Fact) (p : ℕ) → Tells f g (OwnBefore c p) → Tells g h (OwnAt c p)
+      → Tells f h (OwnBefore c (p + 1))
+  before_more f g h p u v = tells_as f h (λ z. OwnBefore c p z
+      ⊎ OwnAt c p z) (OwnBefore c (p + 1)) to from (tells_then f g h (OwnBefore c p) (OwnAt c p) u v)
+    where
+      to : (z : Fact) → OwnBefore c p z ⊎ OwnAt c p z → OwnBefore c (p + 1) z
+      to z (inl w) = (w.0, (let l = w.1 in omega (arith, l)), w.2)
+      to z (inr w) = (p, omega arith, w)
+
+      from : (z : Fact) → OwnBefore c (p + 1) z → OwnBefore c p z ⊎ OwnAt c p z
+      from z w = ⊎_elim (λ l. inl (w.0, l, w.2)) (λ s. inr (subst (λ q. OwnAt c q z) s w.2)) (before_or w.0 p w.1)

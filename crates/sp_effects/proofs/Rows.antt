@@ -1,0 +1,232 @@
+-- Facts are written into rows, by their areas.
+use Rattle.std.proofs.Common.{◌≡◌, ◌≢◌, ◌⊎◌, inl, inr, ⊎_elim, refl, ap, sym, ◌∙◌, subst, ℕ, zero, suc, ◌+◌, ◌<◌, List}
+use Rattle.std.proofs.Common.{[], ◌∷◌, ◌++◌, length, Some, None, Bool, true, false, arith}
+use Rattle.std.specs.Prelude.{slice_get, slice_set, ◌↔◌, IsTrue}
+use Rattle.std.proofs.lemmas.List.{length-set}
+use Rattle.std.proofs.lemmas.Option.{slice_get_within}
+use Rattle.sp_code.specs.declared.code.Parts.{Parts}
+use Rattle.sp_rules.specs.Areas.{Area, entry}
+use Rattle.sp_rules.specs.Reach.{IsIn, IsArea}
+use Rattle.sp_rules.specs.Effects.{Does, HasEffect}
+use Rattle.sp_rules.specs.Named.{BreaksV1}
+use Rattle.sp_rules.proofs.Facts.{same_some, none_some}
+use Rattle.sp_effects.specs.declared.effects.Deeds.{Deeds}
+use Rattle.sp_effects.specs.declared.facts.Fact.{Fact}
+use Rattle.sp_effects.specs.declared.facts.Deed.{Deed}
+use Rattle.sp_effects.specs.declared.facts.Deed.TheVariants as deed
+use Rattle.sp_effects.specs.Facts.{has_fact, fact}
+use Rattle.sp_effects.specs.Effects.{InRow, HasDeed, Puts, Writes, AreRows, AreDeeds, AreEffects, touches}
+use Rattle.sp_effects.specs.Closing.{IsDeed, AreFacts}
+use Rattle.sp_effects.proofs.Telling.{get_set_same, get_set_other, equal_or, told_place, place_told, or_split, or_left}
+use Rattle.sp_effects.proofs.Telling.{or_right}
+use Rattle.sp_effects.proofs.Owns.{before_or}
+use Rattle.sp_effects.proofs.Linking.{entry_within}
+
+-- ---- one row
+
+in_last : (x y : ℕ) (xs : List ℕ) → IsIn x (xs ++ y ∷ []) → IsIn x xs ⊎ (x ≡ y)
+in_last x y [] (inl e) = inr e
+in_last x y [] (inr i) = absurd i
+in_last x y (z ∷ xs) (inl e) = inl (inl e)
+in_last x y (z ∷ xs) (inr i) = ⊎_elim (λ j. inl (inr j)) (λ e. inr e) (in_last x y xs i)
+
+last_in : (x y : ℕ) (xs : List ℕ) → IsIn x xs ⊎ (x ≡ y) → IsIn x (xs ++ y ∷ [])
+last_in x y [] (inl i) = absurd i
+last_in x y [] (inr e) = inl e
+last_in x y (z ∷ xs) (inl (inl e)) = inl e
+last_in x y (z ∷ xs) (inl (inr i)) = inr (last_in x y xs (inl i))
+last_in x y (z ∷ xs) (inr e) = inr (last_in x y xs (inr e))
+
+stores_is : (x y : ℕ) → deed.Stores x ≡ deed.Stores y → x ≡ y
+stores_is x y e = cc (e)
+
+loads_is : (x y : ℕ) → deed.Loads x ≡ deed.Loads y → x ≡ y
+loads_is x y e = cc (e)
+
+pub puts_stored : (r : Deeds) (xs : List ℕ) (y : ℕ) → xs ≡ r.stored ++ y ∷ []
+    → Puts r (record { stored = xs; loaded = r.loaded; stops = r.stops }) (deed.Stores y)
+puts_stored r xs y s (deed.Stores x) = (
+  λ i. ⊎_elim (λ j. inl j) (λ e. inr (ap deed.Stores e)) (in_last x y r.stored (subst (IsIn x) s i)),
+  λ w. subst
+      (IsIn x) (sym s) (last_in x y r.stored (⊎_elim (λ j. inl j) (λ e. inr (stores_is x y e)) w)),
+)
+puts_stored r xs y s (deed.Loads x) = (λ i. inl i, λ w. ⊎_elim (λ j. j) (λ e. absurd (cc (e))) w)
+puts_stored r xs y s deed.Stops = (λ i. inl i, λ w. ⊎_elim (λ j. j) (λ e. absurd (cc (e))) w)
+
+pub puts_loaded : (r : Deeds) (xs : List ℕ) (y : ℕ) → xs ≡ r.loaded ++ y ∷ []
+    → Puts r (record { stored = r.stored; loaded = xs; stops = r.stops }) (deed.Loads y)
+puts_loaded r xs y s (deed.Stores x) = (λ i. inl i, λ w. ⊎_elim (λ j. j) (λ e. absurd (cc (e))) w)
+puts_loaded r xs y s (deed.Loads x) = (
+  λ i. ⊎_elim (λ j. inl j) (λ e. inr (ap deed.Loads e)) (in_last x y r.loaded (subst (IsIn x) s i)),
+  λ w. subst
+      (IsIn x) (sym s) (last_in x y r.loaded (⊎_elim (λ j. inl j) (λ e. inr (loads_is x y e)) w)),
+)
+puts_loaded r xs y s deed.Stops = (λ i. inl i, λ w. ⊎_elim (λ j. j) (λ e. absurd (cc (e))) w)
+
+pub puts_stops : (r : Deeds) → Puts r (record { stored = r.stored; loaded = r.loaded; stops = true }) deed.Stops
+puts_stops r (deed.Stores x) = (λ i. inl i, λ w. ⊎_elim (λ j. j) (λ e. absurd (cc (e))) w)
+puts_stops r (deed.Loads x) = (λ i. inl i, λ w. ⊎_elim (λ j. j) (λ e. absurd (cc (e))) w)
+puts_stops r deed.Stops = (λ i. inr refl, λ w. refl)
+
+pub puts_deed : (old new : Deeds) (d e : Deed) → d ≡ e → Puts old new e → Puts old new d
+puts_deed old new d e s h = subst (Puts old new) (sym s) h
+
+-- ---- rows
+
+pub writes_one : (rows : List Deeds) (f : Fact) (r new none : Deeds) → slice_get rows f.area ≡ Some r
+    → Puts r new f.deed → Writes rows (slice_set (slice_set rows f.area none) f.area new) f
+writes_one rows f r new none at p = record { size = size; kept = kept; has = has; only = only }
+  where
+    m : ℕ
+    m = f.area
+
+    middle : List Deeds
+    middle = slice_set rows m none
+
+    last : List Deeds
+    last = slice_set middle m new
+
+    size : length last ≡ length rows
+    size = length-set middle m new ∙ length-set rows m none
+
+    here : slice_get last m ≡ Some new
+    here = get_set_same middle m new (subst (λ n. m < n) (sym (length-set rows m none)) (slice_get_within rows m r at))
+
+    there : (n : ℕ) → n ≢ m → slice_get last n ≡ slice_get rows n
+    there n d = get_set_other middle m n new (λ s. d (sym s)) ∙ get_set_other rows m n none (λ s. d (sym s))
+
+    kept : (n : ℕ) (d : Deed) → HasDeed rows n d → HasDeed last n d
+    kept n d (s, g, i) =
+        ⊎_elim (λ q. (
+          new,
+          ap (slice_get last) q
+              ∙ here,
+          (p d).1 (inl (subst (λ x. InRow x d) (same_some s r (sym g ∙ ap (slice_get rows) q
+              ∙ at)) i)),
+        )) (λ o. (s, there n o ∙ g, i)) (equal_or n m)
+
+    has : f.area < length rows → HasDeed last m f.deed
+    has l = (new, here, (p f.deed).1 (inr refl))
+
+    only : (n : ℕ) (d : Deed) → HasDeed last n d → HasDeed rows n d ⊎ ((n ≡ f.area) × (d ≡ f.deed))
+    only n d (s, g, i) =
+        ⊎_elim (λ q. let z = same_some s new (sym g ∙ ap (slice_get last) q
+        ∙ here) in ⊎_elim (λ j. inl (
+          r,
+          ap (slice_get rows) q
+              ∙ at,
+          j,
+        )) (λ e. inr (q, e)) ((p d).0 (subst (λ x. InRow x d) z i)))
+        (λ o. inl (s, sym (there n o) ∙ g, i)) (equal_or n m)
+
+pub writes_none : (rows : List Deeds) (f : Fact) → (f.area < length rows → ⊥) → Writes rows rows f
+writes_none rows f h = record { size = refl; kept = λ m d i. i; has = λ l. absurd (h l); only = λ m d i. inl i }
+
+pub deeds_more : (rows : List Deeds) (none : Deeds) → none.stored ≡ [] → none.loaded ≡ [] → none.stops ≡ false
+    → ((m : ℕ) (d : Deed) → HasDeed rows m d → ⊥) → (m : ℕ) (d : Deed) → HasDeed (rows ++ none ∷ []) m d → ⊥
+deeds_more [] none es el et h zero d (r, g, i) = empty d (subst (λ (x : Deeds). InRow x d) (sym (same_some none r g)) i)
+  where
+    empty : (d : Deed) → InRow none d → ⊥
+    empty (deed.Stores x) i = absurd (subst (IsIn x) es i)
+    empty (deed.Loads x) i = absurd (subst (IsIn x) el i)
+    empty deed.Stops i = let z = sym et ∙ i in cc (z)
+deeds_more [] none es el et h (suc m) d (r, g, i) = none_some r g
+deeds_more (x ∷ rows) none es el et h zero d w = h 0 d w
+deeds_more (x ∷ rows) none es el et h (suc m) d w = deeds_more rows none es el et (λ n e v. h (suc n) e v) m d w
+
+-- ---- all facts
+
+pub no_rows : (fs : List Fact) (n : ℕ) (rows : List Deeds) → length rows ≡ n
+    → ((m : ℕ) (d : Deed) → HasDeed rows m d → ⊥) → AreRows fs 0 n rows
+no_rows fs n rows s h = record {
+  size = s;
+  has = λ j f l e z. absurd (omega (arith, l));
+  only = λ m d w. absurd
+      (h m d w);
+}
+
+pub rows_more : (fs : List Fact) (i n : ℕ) (f : Fact) (a b : List Deeds) → slice_get fs i ≡ Some f → AreRows fs i n a
+    → Writes a b f → AreRows fs (i + 1) n b
+rows_more fs i n f a b e h w = record { size = w.size ∙ h.size; has = has; only = only }
+  where
+    has : (j : ℕ) (g : Fact) → j < i + 1 → slice_get fs j ≡ Some g → g.area < n → HasDeed b g.area g.deed
+    has j g l s z =
+        ⊎_elim (λ q. w.kept g.area g.deed (h.has j g q s z))
+        (λ q. let t : f ≡ g = same_some f g (sym e ∙ ap (slice_get fs) (sym q)
+        ∙ s) in subst (λ (x : Fact). HasDeed b x.area x.deed) t
+        (w.has (subst (λ k. f.area < k) (sym h.size) (subst (λ (x : Fact). x.area < n) (sym t) z))))
+        (before_or j i l)
+
+    only : (m : ℕ) (d : Deed) → HasDeed b m d → has_fact fs (fact m d) ≡ true
+    only m d v = ⊎_elim (λ o. h.only m d o) (λ o. place_told fs i (fact m d) (e
+        ∙ ap Some (λ k. record { area = sym o.0 k; deed = sym o.1 k }))) (w.only m d v)
+
+none_past : (fs : List Fact) (i : ℕ) → slice_get fs i ≡ None → (j : ℕ) → j < length fs → j < i
+none_past [] i e j l = absurd (omega (arith, l))
+none_past (f ∷ fs) zero e j l = absurd (none_some f (sym e))
+none_past (f ∷ fs) (suc i) e zero l = omega arith
+none_past (f ∷ fs) (suc i) e (suc j) l = let m = none_past fs i e j (omega (arith, l)) in omega (arith, m)
+
+pub rows_end : (fs : List Fact) (i n : ℕ) (rows : List Deeds) → slice_get fs i ≡ None → AreRows fs i n rows
+    → AreRows fs (length fs) n rows
+rows_end fs i n rows e h = record {
+  size = h.size;
+  has = λ j f l s z. h.has j f (none_past fs i e j l) s z;
+  only = h.only;
+}
+
+pub rows_all : (fs : List Fact) (i n : ℕ) (rows : List Deeds) → i ≡ length fs → AreRows fs i n rows
+    → AreRows fs (length fs) n rows
+rows_all fs i n rows e h = subst (λ k. AreRows fs k n rows) e h
+
+-- ---- areas
+
+row_at : (rows : List Deeds) (m : ℕ) → m < length rows → (r : Deeds) × (slice_get rows m ≡ Some r)
+row_at [] m l = absurd (omega (arith, l))
+row_at (r ∷ rows) zero l = (r, refl)
+row_at (r ∷ rows) (suc m) l = row_at rows m (omega (arith, l))
+
+module _ (c : Parts) (kept : (p : ℕ) → BreaksV1 c p
+    → ⊥) (fs : List Fact) (facts : AreFacts c fs) (rows : List Deeds)
+    (are : AreRows fs (length fs) (length c.instrs) rows) where
+  row_is : (a : Area) (r : Deeds) (d : Deed) → IsArea c a → slice_get rows (entry c a) ≡ Some r
+      → InRow r d ↔ IsDeed c a d
+  row_is a r d ia e = (λ i. (facts a d ia).0 (are.only (entry c a) d (r, e, i)), back)
+    where
+      back : IsDeed c a d → InRow r d
+      back h =
+          let t = told_place fs (fact (entry c a) d) ((facts a d ia).1 h) in
+          let w = are.has t.0 (fact (entry c a) d) (slice_get_within fs t.0 (fact (entry c a) d) t.1) t.1
+          (entry_within c kept a ia) in
+          subst (λ (x : Deeds). InRow x d) (same_some w.0 r (sym w.1 ∙ e)) w.2
+
+  pub are_effects : AreEffects c (record { rows = rows; facts = fs })
+  are_effects = record { rows = there; touched = touched }
+    where
+      there : (a : Area) → IsArea c a → (r : Deeds) × (slice_get rows (entry c a) ≡ Some r) × AreDeeds c a r
+      there a ia =
+          let r = row_at rows (entry c a) (subst (λ n. entry c a < n) (sym are.size) (entry_within c kept a ia)) in (
+            r.0,
+            r.1,
+            record {
+              stored = λ x. row_is a r.0 (deed.Stores x) ia r.1;
+              loaded = λ x. row_is a r.0
+                  (deed.Loads x) ia r.1;
+              stops = row_is a r.0 deed.Stops ia r.1;
+            },
+          )
+
+      touched : (a : Area) (x : ℕ) → IsArea c a
+          → IsTrue (touches (record { rows = rows; facts = fs }) (entry c a) x) ↔ HasEffect c (Does c) a x
+      touched a x ia = (
+        λ i. ⊎_elim (λ h. inl ((facts a (deed.Stores x) ia).0 h)) (λ h. inr ((facts a (deed.Loads x) ia).0 h))
+            (or_split s l i),
+        λ w. ⊎_elim (λ h. or_left s l ((facts a (deed.Stores x) ia).1 h))
+            (λ h. or_right s l ((facts a (deed.Loads x) ia).1 h)) w,
+      )
+        where
+          s : Bool
+          s = has_fact fs (fact (entry c a) (deed.Stores x))
+
+          l : Bool
+          l = has_fact fs (fact (entry c a) (deed.Loads x))

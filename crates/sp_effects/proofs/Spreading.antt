@@ -1,0 +1,196 @@
+-- Facts lead to others along edges; each is followed once, and then nothing is left.
+use Rattle.std.proofs.Common.{◌≡◌, ◌⊎◌, inl, inr, ⊎_elim, refl, ap, sym, ◌∙◌, subst, ℕ, zero, suc, ◌+◌, ◌<◌, ◌==◌, List}
+use Rattle.std.proofs.Common.{[], ◌∷◌, length, take, Option, Some, None, Bool, true, ◌||◌, ◌&&◌, cond, arith, eqb-true}
+use Rattle.std.specs.Prelude.{slice_get, ◌↔◌}
+use Rattle.std.specs.Ordering.{is_eq}
+use Rattle.std.proofs.lemmas.Bool.{eq-eqb}
+use Rattle.std.proofs.lemmas.Option.{slice_get_within}
+use Rattle.sp_code.specs.declared.code.Layout.{Layout}
+use Rattle.sp_rules.specs.Reach.{IsIn}
+use Rattle.sp_rules.proofs.Facts.{same_some, none_some, both_true, and_true}
+use Rattle.sp_effects.specs.declared.edges.Edge.{Edge}
+use Rattle.sp_effects.specs.declared.facts.Fact.{Fact}
+use Rattle.sp_effects.specs.declared.facts.Deed.{Deed}
+use Rattle.sp_effects.specs.Facts.{has_fact, with_fact, pair_cmp, has_pair, Tells}
+use Rattle.sp_effects.specs.Closing.{AddsPairs, IsOwnOf, IsOwnIn, fact_along, AlongOne, Leads, Follows, ClosesTo}
+use Rattle.sp_effects.specs.Closing.{Closes}
+use Rattle.sp_effects.specs.Closing.{is_own}
+use Rattle.sp_effects.proofs.Telling.{told_place, place_told, told_on, tells_none, tells_as, tells_then, tells_one}
+use Rattle.sp_effects.proofs.Telling.{pair_put, or_split, or_left, or_right}
+use Rattle.sp_effects.proofs.Owns.{in_taken, taken_in, before_or}
+
+-- ---- pairs
+
+pair_is : (p q : ℕ × ℕ) → ((p.0 == q.0) && (p.1 == q.1)) ≡ true → (p.0 ≡ q.0) × (p.1 ≡ q.1)
+pair_is p q h = let b = both_true (p.0 == q.0) (p.1 == q.1) h in (eqb-true p.0 q.0 b.0, eqb-true p.1 q.1 b.1)
+
+pub pair_more : (old now new : List (ℕ × ℕ)) (m i y : ℕ) (xs : List ℕ) → slice_get xs i ≡ Some y
+    → AddsPairs old now (IsOwnOf m (take i xs))
+    → ((q : ℕ × ℕ) → has_pair new q ≡ cond (is_eq (pair_cmp (m, y) q)) true (has_pair now q))
+    → AddsPairs old new (IsOwnOf m (take (i + 1) xs))
+pair_more old now new m i y xs e h u q = (to, from)
+  where
+    put : has_pair new q ≡ (((q.0 == m) && (q.1 == y)) || has_pair now q)
+    put = pair_put new now (m, y) u q.0 q.1
+
+    to : has_pair new q ≡ true → (has_pair old q ≡ true) ⊎ IsOwnOf m (take (i + 1) xs) q
+    to w = ⊎_elim (λ z. let b = pair_is q (m, y) z in inr (b.0, taken_in xs i q.1 y e (inr b.1)))
+        (λ z. ⊎_elim (λ o. inl o) (λ o. inr (o.0, taken_in xs i q.1 y e (inl o.1))) ((h q).0 z))
+        (or_split ((q.0 == m) && (q.1 == y)) (has_pair now q) (sym put ∙ w))
+
+    now_new : has_pair now q ≡ true → has_pair new q ≡ true
+    now_new w = put ∙ or_right ((q.0 == m) && (q.1 == y)) (has_pair now q) w
+
+    from : (has_pair old q ≡ true) ⊎ IsOwnOf m (take (i + 1) xs) q → has_pair new q ≡ true
+    from (inl o) = now_new ((h q).1 (inl o))
+    from (inr o) = ⊎_elim (λ z. now_new ((h q).1 (inr (o.0, z)))) (λ z. put
+        ∙ or_left ((q.0 == m) && (q.1 == y)) (has_pair now q)
+        (and_true (q.0 == m) (q.1 == y) (eq-eqb q.0 m o.0) (eq-eqb q.1 y z))) (in_taken xs i q.1 y e o.1)
+
+pub pairs_same : (ks : List (ℕ × ℕ)) (m : ℕ) (xs : List ℕ) → AddsPairs ks ks (IsOwnOf m (take 0 xs))
+pairs_same ks m [] q = (λ w. inl w, λ w. ⊎_elim (λ z. z) (λ z. absurd z.1) w)
+pairs_same ks m (x ∷ xs) q = (λ w. inl w, λ w. ⊎_elim (λ z. z) (λ z. absurd z.1) w)
+
+-- those of the first layouts
+abbrev pub OwnFirst : ℕ → List Layout → ℕ × ℕ → Type 0
+OwnFirst n ls q = (j : ℕ) × (l : Layout) × (j < n) × (slice_get ls j ≡ Some l) × IsOwnOf l.entry l.variables q
+
+abbrev pub AreFirst : ℕ → List Layout → List (ℕ × ℕ) → Type 0
+AreFirst n ls ks = (q : ℕ × ℕ) → (has_pair ks q ≡ true) ↔ OwnFirst n ls q
+
+pub none_first : (ls : List Layout) (ks : List (ℕ × ℕ)) → ks ≡ [] → AreFirst 0 ls ks
+none_first ls ks e q = (
+  λ w. absurd (let z = sym (ap (λ (x : List (ℕ × ℕ)). has_pair x q) e)
+      ∙ w in cc (z)),
+  λ w. absurd (let l : w.0 < 0 = w.2 in omega (arith, l)),
+)
+
+pub first_more : (ls : List Layout) (now new : List (ℕ × ℕ)) (n : ℕ) (l : Layout) (xs : List ℕ)
+    → slice_get ls n ≡ Some l → xs ≡ l.variables → AreFirst n ls now → AddsPairs now new (IsOwnOf l.entry xs)
+    → AreFirst (n + 1) ls new
+first_more ls now new n l xs e s h u q = (to, from)
+  where
+    to : has_pair new q ≡ true → OwnFirst (n + 1) ls q
+    to w = ⊎_elim (λ z. let o = (h q).0 z in (o.0, o.1, (let i = o.2 in omega (arith, i)), o.3, o.4))
+        (λ z. (n, l, omega arith, e, (z.0, subst (IsIn q.1) s z.1))) ((u q).0 w)
+
+    from : OwnFirst (n + 1) ls q → has_pair new q ≡ true
+    from (j, k, i, g, o) =
+        ⊎_elim (λ z. (u q).1 (inl ((h q).1 (j, k, z, g, o))))
+        (λ z. let m : k ≡ l = same_some k l (sym g ∙ ap (slice_get ls) z
+        ∙ e) in (u q).1 (inr (
+          o.0
+              ∙ ap (λ (y : Layout). y.entry) m,
+          subst (IsIn q.1) (ap (λ (y : Layout). y.variables) m
+              ∙ sym s) o.1,
+        ))) (before_or j n i)
+
+pub all_own : (ls : List Layout) (ks : List (ℕ × ℕ)) (n : ℕ) → n ≡ length ls → AreFirst n ls ks → (q : ℕ × ℕ)
+    → (has_pair ks q ≡ true) ↔ IsOwnIn ls q
+all_own ls ks n e h q = (
+  λ w. let o = (h q).0 w in (o.0, o.1, o.3, o.4),
+  λ w. (h q).1
+      (w.0, w.1, subst (λ m. w.0 < m) (sym e) (slice_get_within ls w.0 w.1 w.2), w.2, w.3),
+)
+
+-- ---- along edges
+
+pub carried_told : (fs : List Fact) (o : Option Fact) (g : Fact) → o ≡ Some g
+    → Tells fs (with_fact fs g) (λ f. o ≡ Some f)
+carried_told fs o g e = tells_as fs (with_fact fs g) (λ f. f ≡ g) (λ f. o ≡ Some f) (λ f s. e
+    ∙ ap Some (sym s)) (λ f s. same_some f g (sym s ∙ e)) (tells_one fs g)
+
+pub none_along : (fs : List Fact) (row : List Edge) (own : Bool) (d : Deed) → Tells fs fs (AlongOne row own d 0)
+none_along fs row own d = tells_none fs (AlongOne row own d 0)
+    (λ f w. absurd (let l : w.0 < 0 = w.2 in omega (arith, l)))
+
+pub along_more : (a b x : List Fact) (row : List Edge) (own : Bool) (d : Deed) (k : ℕ) (e : Edge)
+    → slice_get row k ≡ Some e → Tells a b (AlongOne row own d k) → Tells b x (λ g. fact_along e own d ≡ Some g)
+    → Tells a x (AlongOne row own d (k + 1))
+along_more a b x row own d k e h u v = tells_as a x (λ g. AlongOne row own d k g
+    ⊎ (fact_along e own d ≡ Some g)) (AlongOne row own d (k + 1)) to from
+    (tells_then a b x (AlongOne row own d k) (λ g. fact_along e own d ≡ Some g) u v)
+  where
+    to : (g : Fact) → AlongOne row own d k g ⊎ (fact_along e own d ≡ Some g) → AlongOne row own d (k + 1) g
+    to g (inl w) = (w.0, w.1, (let l = w.2 in omega (arith, l)), w.3, w.4)
+    to g (inr w) = (k, e, omega arith, h, w)
+
+    from : (g : Fact) → AlongOne row own d (k + 1) g → AlongOne row own d k g ⊎ (fact_along e own d ≡ Some g)
+    from g w =
+        ⊎_elim (λ l. inl (w.0, w.1, l, w.3, w.4))
+        (λ s. inr (subst (λ (y : Edge). fact_along y own d ≡ Some g) (same_some w.1 e (sym w.3 ∙ ap (slice_get row) s
+        ∙ h)) w.4)) (before_or w.0 k w.2)
+
+module _ (rows : List (List Edge)) (own : List (ℕ × ℕ)) where
+  pub no_row : (fs : List Fact) (f : Fact) → slice_get rows f.area ≡ None → Tells fs fs (Leads rows own f)
+  no_row fs f e = tells_none fs (Leads rows own f) (λ g w. absurd (none_some w.1.0 (sym e ∙ w.1.1)))
+
+  pub row_leads : (a b : List Fact) (f : Fact) (r row : List Edge) (mine : Bool) → slice_get rows f.area ≡ Some r
+      → row ≡ r → mine ≡ is_own own f.area f.deed → Tells a b (AlongOne row mine f.deed (length row))
+      → Tells a b (Leads rows own f)
+  row_leads a b f r row mine e s m t = tells_as a b (AlongOne row mine f.deed (length row)) (Leads rows own f) to from t
+    where
+      to : (g : Fact) → AlongOne row mine f.deed (length row) g → Leads rows own f g
+      to g (k, x, l, h, w) = (
+        x,
+        (
+          r,
+          e,
+          (
+            k,
+            ap (λ (z : List Edge). slice_get z k) (sym s)
+                ∙ h,
+          ),
+        ),
+        ap (λ (z : Bool). fact_along x z f.deed) (sym m) ∙ w,
+      )
+
+      from : (g : Fact) → Leads rows own f g → AlongOne row mine f.deed (length row) g
+      from g (x, (q, h, (k, i)), w) =
+          let z : q ≡ row = same_some q r (sym h ∙ e) ∙ sym s in
+          let at : slice_get row k ≡ Some x = ap (λ (y : List Edge). slice_get y k) (sym z) ∙ i in
+          (k, x, slice_get_within row k x at, at, ap (λ (y : Bool). fact_along x y f.deed) m ∙ w)
+
+  -- ---- until nothing is left
+
+  pub closes_none : (fs : List Fact) → ClosesTo rows own fs fs 0
+  closes_none fs = record { kept = λ f t. t; done = λ j f g l e w. absurd (omega (arith, l)); only = λ g t. (zero, t) }
+
+  there : (fs : List Fact) (i j : ℕ) (f : Fact) → slice_get fs i ≡ Some f → j < i → (g : Fact)
+      × (slice_get fs j ≡ Some g)
+  there [] i j f e l = absurd (none_some f e)
+  there (x ∷ fs) zero j f e l = absurd (omega (arith, l))
+  there (x ∷ fs) (suc i) zero f e l = (x, refl)
+  there (x ∷ fs) (suc i) (suc j) f e l = there fs i j f e (omega (arith, l))
+
+  pub closes_more : (old now new : List Fact) (i : ℕ) (f : Fact) → slice_get now i ≡ Some f
+      → ClosesTo rows own old now i → Tells now new (Leads rows own f) → ClosesTo rows own old new (i + 1)
+  closes_more old now new i f e h t = record {
+    kept = λ g w. told_on now new (Leads rows own f) t g (h.kept g w);
+    done = done;
+    only = only;
+  }
+    where
+      done : (j : ℕ) (x g : Fact) → j < i + 1 → slice_get new j ≡ Some x → Leads rows own x g → has_fact new g ≡ true
+      done j x g l s w = ⊎_elim (λ z. let r = there now i j f e z in let q : r.0 ≡ x = same_some r.0 x
+          (sym (t.extends j r.0 r.1) ∙ s) in told_on now new (Leads rows own f) t g
+          (h.done j x g z (r.1 ∙ ap Some q) w))
+          (λ z. let q : f ≡ x = same_some f x (sym (t.extends i f e) ∙ ap (slice_get new) (sym z)
+          ∙ s) in t.has g (subst (λ y. Leads rows own y g) (sym q) w)) (before_or j i l)
+
+      only : (g : Fact) → has_fact new g ≡ true → Follows rows own old g
+      only g w = ⊎_elim (λ z. h.only g z) (λ z. let r = h.only f (place_told now i f e) in (suc r.0, (f, r.1, z)))
+          (t.only g w)
+
+  pub closed_now : (old new : List Fact) (i : ℕ) → slice_get new i ≡ None → ClosesTo rows own old new i
+      → Closes rows own old new
+  closed_now old new i e h = record { kept = h.kept; closed = closed; only = h.only }
+    where
+      inside : (fs : List Fact) (k j : ℕ) (f : Fact) → slice_get fs k ≡ None → slice_get fs j ≡ Some f → j < k
+      inside [] k j f n s = absurd (none_some f s)
+      inside (x ∷ fs) zero j f n s = absurd (none_some x (sym n))
+      inside (x ∷ fs) (suc k) zero f n s = omega arith
+      inside (x ∷ fs) (suc k) (suc j) f n s = let l = inside fs k j f n s in omega (arith, l)
+
+      closed : (f g : Fact) → has_fact new f ≡ true → Leads rows own f g → has_fact new g ≡ true
+      closed f g w l = let r = told_place new f w in h.done r.0 f g (inside new i r.0 f e r.1) r.1 l

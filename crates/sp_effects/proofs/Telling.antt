@@ -1,0 +1,293 @@
+-- Facts are told one after the other; sets of them are told the same.
+use Rattle.std.proofs.Common.{◌≡◌, ◌≢◌, ◌⊎◌, inl, inr, ⊎_elim, refl, ap, sym, ◌∙◌, subst, ℕ, zero, suc, ◌<◌, ◌==◌, List}
+use Rattle.std.proofs.Common.{[], ◌∷◌, ◌++◌, length, Option, Some, Bool, true, false, ◌||◌, ◌&&◌, if◌then◌else◌, cond}
+use Rattle.std.proofs.Common.{arith, eqb-true}
+use Rattle.std.specs.Prelude.{slice_get, slice_set}
+use Rattle.std.specs.BTreeSet.{BTreeSet}
+use Rattle.std.specs.declared.cmp.Ordering.{Ordering}
+use Rattle.std.specs.declared.cmp.Ordering.TheVariants.{Less, Equal, Greater}
+use Rattle.std.specs.Ordering.{nat_cmp, ordering_then, is_eq}
+use Rattle.std.proofs.lemmas.Bool.{eq-eqb}
+use Rattle.std.proofs.lemmas.Bool.Decides.{nat_tests}
+use Rattle.std.proofs.lemmas.List.Folds.{list_any-append}
+use Rattle.std.proofs.lemmas.List.{length-set}
+use Rattle.std.proofs.lemmas.Option.{slice_get_within}
+use Rattle.sp_rules.specs.Areas.{given}
+use Rattle.sp_rules.proofs.Facts.{same_some, none_some, both_true, and_true, which}
+use Rattle.sp_effects.specs.declared.facts.Fact.{Fact}
+use Rattle.sp_effects.specs.declared.facts.Index.{Index}
+use Rattle.sp_effects.specs.declared.facts.Sets.{Sets}
+use Rattle.sp_effects.specs.declared.facts.Deed.{Deed}
+use Rattle.sp_effects.specs.declared.facts.Deed.TheVariants as deed
+use Rattle.sp_effects.specs.Facts.{same_deed, same, has_fact, with_fact, pair_cmp, has_pair, has_number, in_sets}
+use Rattle.sp_effects.specs.Facts.{index_has}
+use Rattle.sp_effects.specs.Facts.{sets_have, AreIndexed, Tells}
+
+-- ---- lists
+
+pub get_set_same : {T : Type 0} (xs : List T) (i : ℕ) (x : T) → i < length xs → slice_get (slice_set xs i x) i ≡ Some x
+get_set_same [] i x h = absurd (omega (arith, h))
+get_set_same (y ∷ ys) zero x h = refl
+get_set_same (y ∷ ys) (suc i) x h = get_set_same ys i x (omega (arith, h))
+
+pub get_set_other : {T : Type 0} (xs : List T) (i j : ℕ) (x : T) → i ≢ j
+    → slice_get (slice_set xs i x) j ≡ slice_get xs j
+get_set_other [] i j x h = refl
+get_set_other (y ∷ ys) zero zero x h = absurd (h refl)
+get_set_other (y ∷ ys) zero (suc j) x h = refl
+get_set_other (y ∷ ys) (suc i) zero x h = refl
+get_set_other (y ∷ ys) (suc i) (suc j) x h = get_set_other ys i j x (λ e. h (ap suc e))
+
+pub equal_or : (i j : ℕ) → (i ≡ j) ⊎ (i ≢ j)
+equal_or i j = ⊎_elim (λ h. inr (λ e. let s : i ≡ j = e in omega (arith, h, s)))
+    (λ z. ⊎_elim (λ e. inl e) (λ h. inr (λ e. let s : i ≡ j = e in omega (arith, h, s))) z) (which i j)
+
+-- ---- equal facts
+
+pub deed_is : (d e : Deed) → same_deed d e ≡ true → d ≡ e
+deed_is (deed.Stores x) (deed.Stores y) h = ap deed.Stores (eqb-true x y h)
+deed_is (deed.Loads x) (deed.Loads y) h = ap deed.Loads (eqb-true x y h)
+deed_is deed.Stops deed.Stops h = refl
+deed_is (deed.Stores x) (deed.Loads y) h = absurd (cc h)
+deed_is (deed.Stores x) deed.Stops h = absurd (cc h)
+deed_is (deed.Loads x) (deed.Stores y) h = absurd (cc h)
+deed_is (deed.Loads x) deed.Stops h = absurd (cc h)
+deed_is deed.Stops (deed.Stores y) h = absurd (cc h)
+deed_is deed.Stops (deed.Loads y) h = absurd (cc h)
+
+deed_self : (d : Deed) → same_deed d d ≡ true
+deed_self (deed.Stores x) = eq-eqb x x refl
+deed_self (deed.Loads x) = eq-eqb x x refl
+deed_self deed.Stops = refl
+
+pub same_is : (f g : Fact) → same f g ≡ true → f ≡ g
+same_is f g h =
+    let b = both_true (f.area == g.area) (same_deed f.deed g.deed) h in
+    let p : f.area ≡ g.area = eqb-true f.area g.area b.0 in
+    let d : f.deed ≡ g.deed = deed_is f.deed g.deed b.1 in
+    λ i. record { area = p i; deed = d i }
+
+pub same_self : (f : Fact) → same f f ≡ true
+same_self f = and_true (f.area == f.area) (same_deed f.deed f.deed) (eq-eqb f.area f.area refl) (deed_self f.deed)
+
+-- ---- lists of facts
+
+pub or_split : (a b : Bool) → (a || b) ≡ true → (a ≡ true) ⊎ (b ≡ true)
+or_split true b e = inl refl
+or_split false b e = inr e
+
+pub or_left : (a b : Bool) → a ≡ true → (a || b) ≡ true
+or_left true b e = refl
+or_left false b e = absurd (cc e)
+
+pub or_right : (a b : Bool) → b ≡ true → (a || b) ≡ true
+or_right true b e = refl
+or_right false b e = e
+
+-- what is told stands at a place, and what stands there is told
+pub told_place : (fs : List Fact) (f : Fact) → has_fact fs f ≡ true → (i : ℕ) × (slice_get fs i ≡ Some f)
+told_place [] f h = absurd (cc h)
+told_place (g ∷ fs) f h = ⊎_elim (λ e. (0, ap Some (sym (same_is f g e))))
+    (λ e. let r = told_place fs f e in (suc r.0, r.1)) (or_split (same f g) (has_fact fs f) h)
+
+pub place_told : (fs : List Fact) (i : ℕ) (f : Fact) → slice_get fs i ≡ Some f → has_fact fs f ≡ true
+place_told [] i f e = absurd (none_some f e)
+place_told (g ∷ fs) zero f e = or_left (same f g) (has_fact fs f)
+    (subst (λ x. same f x ≡ true) (sym (same_some g f e)) (same_self f))
+place_told (g ∷ fs) (suc i) f e = or_right (same f g) (has_fact fs f) (place_told fs i f e)
+
+or_none : (a b : Bool) → (a || (b || false)) ≡ (a || b)
+or_none true b = refl
+or_none false true = refl
+or_none false false = refl
+
+pub told_last : (fs : List Fact) (g f : Fact) → has_fact (fs ++ g ∷ []) f ≡ (has_fact fs f || same f g)
+told_last fs g f = list_any-append (same f) fs (g ∷ []) ∙ or_none (has_fact fs f) (same f g)
+
+-- ---- sets
+
+nat_same : (a b : ℕ) → is_eq (nat_cmp a b) ≡ (b == a)
+nat_same a b = grind (arith, nat_tests)
+
+then_is : (x y : Ordering) → is_eq (ordering_then x y) ≡ (is_eq x && is_eq y)
+then_is Less y = refl
+then_is Equal y = refl
+then_is Greater y = refl
+
+pair_same : (p q : ℕ × ℕ) → is_eq (pair_cmp p q) ≡ ((q.0 == p.0) && (q.1 == p.1))
+pair_same p q =
+    then_is (nat_cmp p.0 q.0) (nat_cmp p.1 q.1) ∙ ap (λ (x : Bool). x && is_eq (nat_cmp p.1 q.1)) (nat_same p.0 q.0)
+    ∙ ap (λ (x : Bool). (q.0 == p.0) && x) (nat_same p.1 q.1)
+
+cond_or : (a b : Bool) → cond a true b ≡ (a || b)
+cond_or true b = refl
+cond_or false b = refl
+
+and_none : (a b : Bool) → b ≡ ((a && false) || b)
+and_none true b = refl
+and_none false b = refl
+
+and_all : (a : Bool) → a ≡ (a && true)
+and_all true = refl
+and_all false = refl
+
+-- a set with one pair more
+pub pair_put : (new old : List (ℕ × ℕ)) (k : ℕ × ℕ)
+    → ((q : ℕ × ℕ) → has_pair new q ≡ cond (is_eq (pair_cmp k q)) true (has_pair old q))
+    → (p x : ℕ) → has_pair new (p, x) ≡ (((p == k.0) && (x == k.1)) || has_pair old (p, x))
+pair_put new old k h p x =
+    h (p, x) ∙ ap (λ (b : Bool). cond b true (has_pair old (p, x))) (pair_same k (p, x))
+    ∙ cond_or ((p == k.0) && (x == k.1)) (has_pair old (p, x))
+
+number_put : (new old : List ℕ) (k : ℕ)
+    → ((q : ℕ) → has_number new q ≡ cond (is_eq (nat_cmp k q)) true (has_number old q))
+    → (p : ℕ) → has_number new p ≡ ((p == k) || has_number old p)
+number_put new old k h p = h p ∙ ap (λ (b : Bool). cond b true (has_number old p)) (nat_same k p)
+    ∙ cond_or (p == k) (has_number old p)
+
+-- the sets of an area with one deed more
+abbrev PutsIn : Sets → Sets → Deed → Type 0
+PutsIn old new e = (d : Deed) → in_sets new d ≡ (same_deed d e || in_sets old d)
+
+pub puts_stores : (old : Sets) (s : BTreeSet ℕ) (x : ℕ)
+    → ((q : ℕ) → has_number s.keys q ≡ cond (is_eq (nat_cmp x q)) true (has_number old.stored.keys q))
+    → PutsIn old (record { stored = s; loaded = old.loaded; stops = old.stops }) (deed.Stores x)
+puts_stores old s x h (deed.Stores y) = number_put s.keys old.stored.keys x h y
+puts_stores old s x h (deed.Loads y) = refl
+puts_stores old s x h deed.Stops = refl
+
+pub puts_loads : (old : Sets) (s : BTreeSet ℕ) (x : ℕ)
+    → ((q : ℕ) → has_number s.keys q ≡ cond (is_eq (nat_cmp x q)) true (has_number old.loaded.keys q))
+    → PutsIn old (record { stored = old.stored; loaded = s; stops = old.stops }) (deed.Loads x)
+puts_loads old s x h (deed.Stores y) = refl
+puts_loads old s x h (deed.Loads y) = number_put s.keys old.loaded.keys x h y
+puts_loads old s x h deed.Stops = refl
+
+pub puts_stops : (old : Sets)
+    → PutsIn old (record { stored = old.stored; loaded = old.loaded; stops = true }) deed.Stops
+puts_stops old (deed.Stores y) = refl
+puts_stops old (deed.Loads y) = refl
+puts_stops old deed.Stops = refl
+
+pub puts_deed : (old new : Sets) (g e : Deed) → g ≡ e → PutsIn old new e → (d : Deed)
+    → in_sets new d ≡ (same_deed d g || in_sets old d)
+puts_deed old new g e s h d = h d ∙ ap (λ (x : Deed). same_deed d x || in_sets old d) (sym s)
+
+-- one area more, that does nothing
+pub noted_more : (areas : List Sets) (none : Sets) → ((d : Deed) → in_sets none d ≡ false)
+    → (p : ℕ) (d : Deed) → sets_have (areas ++ none ∷ []) p d ≡ sets_have areas p d
+noted_more [] none h zero d = h d
+noted_more [] none h (suc p) d = refl
+noted_more (s ∷ areas) none h zero d = refl
+noted_more (s ∷ areas) none h (suc p) d = noted_more areas none h p d
+
+-- one place is changed
+pub noted_put : (areas : List Sets) (none old new : Sets) (g : Fact) → slice_get areas g.area ≡ Some old
+    → PutsIn old new g.deed
+    → (f : Fact) → sets_have (slice_set (slice_set areas g.area none) g.area new) f.area f.deed ≡ (same f g
+    || sets_have areas f.area f.deed)
+noted_put areas none old new g at h f = ⊎_elim here there (equal_or f.area g.area)
+  where
+    m : ℕ
+    m = g.area
+
+    middle : List Sets
+    middle = slice_set areas m none
+
+    inside : m < length middle
+    inside = subst (λ n. m < n) (sym (length-set areas m none)) (slice_get_within areas m old at)
+
+    of : Option Sets → Bool
+    of o = given false o (λ s. in_sets s f.deed)
+
+    now : f.area ≡ m → sets_have (slice_set middle m new) f.area f.deed ≡ in_sets new f.deed
+    now q = ap (λ n. sets_have (slice_set middle m new) n f.deed) q
+        ∙ ap (λ (o : Option Sets). given false o (λ s. in_sets s f.deed)) (get_set_same middle m new inside)
+
+    was : f.area ≡ m → sets_have areas f.area f.deed ≡ in_sets old f.deed
+    was q = ap (λ n. sets_have areas n f.deed) q ∙ ap (λ (o : Option Sets). given false o (λ s. in_sets s f.deed)) at
+
+    here : f.area ≡ m → sets_have (slice_set middle m new) f.area f.deed ≡ (same f g || sets_have areas f.area f.deed)
+    here q =
+        now q ∙ h f.deed ∙ ap (λ (b : Bool). same_deed f.deed g.deed || b) (sym (was q)) ∙
+        ap (λ (b : Bool). (b && same_deed f.deed g.deed)
+        || sets_have areas f.area f.deed) (sym (eq-eqb f.area g.area q))
+
+    there : f.area ≢ m → sets_have (slice_set middle m new) f.area f.deed ≡ (same f g || sets_have areas f.area f.deed)
+    there q =
+        ap (λ (o : Option Sets). given false o (λ s. in_sets s f.deed))
+        (get_set_other middle m f.area new (λ s. q (sym s)) ∙ get_set_other areas m f.area none (λ s. q (sym s))) ∙
+        sym (ap (λ (b : Bool). (b && same_deed f.deed g.deed)
+        || sets_have areas f.area f.deed) (not_equal (f.area == g.area) (λ s. q (eqb-true f.area g.area s))))
+      where
+        not_equal : (b : Bool) → (b ≡ true → ⊥) → b ≡ false
+        not_equal true h = absurd (h refl)
+        not_equal false h = refl
+
+pub noted_then : (a b d : List Sets) (g : Fact) → ((p : ℕ) (e : Deed) → sets_have b p e ≡ sets_have a p e)
+    → ((f : Fact) → sets_have d f.area f.deed ≡ (same f g || sets_have b f.area f.deed)) → (f : Fact)
+    → sets_have d f.area f.deed ≡ (same f g || sets_have a f.area f.deed)
+noted_then a b d g h k f = k f ∙ ap (λ (x : Bool). same f g || x) (h f.area f.deed)
+
+-- the list and the sets grow together
+or_turned : (a b : Bool) → (a || b) ≡ (b || a)
+or_turned true true = refl
+or_turned true false = refl
+or_turned false true = refl
+or_turned false false = refl
+
+pub indexed_more : (fs : List Fact) (old new : Index) (g : Fact) → AreIndexed fs old
+    → ((f : Fact) → index_has new f.area f.deed ≡ (same f g || index_has old f.area f.deed))
+    → AreIndexed (fs ++ g ∷ []) new
+indexed_more fs old new g h put f = put f ∙ or_turned (same f g) (index_has old f.area f.deed)
+    ∙ ap (λ (b : Bool). b || same f g) (h f) ∙ sym (told_last fs g f)
+
+-- ---- what is told more
+
+pub tells_none : (fs : List Fact) (W : Fact → Type 0) → ((f : Fact) → W f → has_fact fs f ≡ true) → Tells fs fs W
+tells_none fs W h = record { extends = λ i f e. e; has = h; only = λ f e. inl e }
+
+pub tells_as : (a b : List Fact) (W V : Fact → Type 0) → ((f : Fact) → W f → V f) → ((f : Fact) → V f → W f)
+    → Tells a b W → Tells a b V
+tells_as a b W V to from t = record {
+  extends = t.extends;
+  has = λ f v. t.has f (from f v);
+  only = λ f e. ⊎_elim
+      (λ o. inl o) (λ w. inr (to f w)) (t.only f e);
+}
+
+pub told_on : (a b : List Fact) (W : Fact → Type 0) → Tells a b W → (f : Fact) → has_fact a f ≡ true
+    → has_fact b f ≡ true
+told_on a b W t f e = let r = told_place a f e in place_told b r.0 f (t.extends r.0 f r.1)
+
+pub tells_then : (a b d : List Fact) (W V : Fact → Type 0) → Tells a b W → Tells b d V → Tells a d (λ f. W f ⊎ V f)
+tells_then a b d W V s t = record { extends = λ i f e. t.extends i f (s.extends i f e); has = has; only = only }
+  where
+    has : (f : Fact) → W f ⊎ V f → has_fact d f ≡ true
+    has f (inl w) = told_on b d V t f (s.has f w)
+    has f (inr v) = t.has f v
+
+    only : (f : Fact) → has_fact d f ≡ true → (has_fact a f ≡ true) ⊎ (W f ⊎ V f)
+    only f e = ⊎_elim (λ o. ⊎_elim (λ x. inl x) (λ w. inr (inl w)) (s.only f o)) (λ v. inr (inr v)) (t.only f e)
+
+pub tells_one : (fs : List Fact) (g : Fact) → Tells fs (with_fact fs g) (λ f. f ≡ g)
+tells_one fs g = go (has_fact fs g) refl
+  where
+    go : (b : Bool) → has_fact fs g ≡ b → Tells fs (if b then fs else fs ++ g ∷ []) (λ f. f ≡ g)
+    go true e = tells_none fs (λ f. f ≡ g) (λ f s. subst (λ x. has_fact fs x ≡ true) (sym s) e)
+    go false e = record { extends = extends; has = has; only = only }
+      where
+        extends : (i : ℕ) (f : Fact) → slice_get fs i ≡ Some f → slice_get (fs ++ g ∷ []) i ≡ Some f
+        extends i f s = before fs i s
+          where
+            before : (xs : List Fact) (j : ℕ) → slice_get xs j ≡ Some f → slice_get (xs ++ g ∷ []) j ≡ Some f
+            before [] j s = absurd (none_some f s)
+            before (x ∷ xs) zero s = s
+            before (x ∷ xs) (suc j) s = before xs j s
+
+        has : (f : Fact) → f ≡ g → has_fact (fs ++ g ∷ []) f ≡ true
+        has f s = told_last fs g f ∙ or_right (has_fact fs f) (same f g) (subst (λ x. same f x ≡ true) s (same_self f))
+
+        only : (f : Fact) → has_fact (fs ++ g ∷ []) f ≡ true → (has_fact fs f ≡ true) ⊎ (f ≡ g)
+        only f e = ⊎_elim (λ o. inl o) (λ s. inr (same_is f g s))
+            (or_split (has_fact fs f) (same f g) (sym (told_last fs g f) ∙ e))

@@ -1,0 +1,202 @@
+-- Rule V7: what the passes find is broken, and what is broken they find.
+use Rattle.std.proofs.Common.{◌≡◌, inl, inr, ⊎_elim, refl, sym, ap, subst, ◌∙◌, ℕ, ◌<◌, List, [], length, Option, Some}
+use Rattle.std.proofs.Common.{None, Bool, true, false, ◌||◌, if◌then◌else◌, ◌==◌, arith, eqb-true}
+use Rattle.std.specs.Prelude.{slice_get}
+use Rattle.std.specs.BTreeMap.{BTreeMap}
+use Rattle.std.proofs.lemmas.Bool.{eq-eqb}
+use Rattle.std.proofs.lemmas.Option.{slice_get_within}
+use Rattle.sp_code.specs.declared.instr.Instr.{Instr}
+use Rattle.sp_code.specs.declared.instr.Instr.TheVariants as i
+use Rattle.sp_code.specs.declared.code.Layout.{Layout}
+use Rattle.sp_code.specs.declared.code.Parts.{Parts}
+use Rattle.sp_code.specs.Machine.{layout_of}
+use Rattle.sp_code.specs.Memory.{Home}
+use Rattle.sp_code.specs.Sizes.{KeepsSizes}
+use Rattle.sp_rules.specs.Areas.{Area, Body, homes, instr_at}
+use Rattle.sp_rules.specs.Effects.{Does, IsCalled}
+use Rattle.sp_rules.specs.Forks as fork
+use Rattle.sp_rules.specs.Keeps.{Keeps}
+use Rattle.sp_rules.specs.Named.{BreaksV1, BlocksApart, IsLayout, LiesIn}
+use Rattle.sp_rules.specs.Rules.{BreaksV2, BreaksV3, BreaksV4, BreaksV5}
+use Rattle.sp_rules.specs.Verdict.{BreaksV7, HasStop, Inside}
+use Rattle.sp_rules.proofs.Assembly.{fits_types, have_children}
+use Rattle.sp_rules.proofs.Facts.{both_true, and_true, none_some}
+use Rattle.sp_rules.proofs.Kept.{keeps}
+use Rattle.sp_rules.proofs.Scoping.{found_layout}
+use Rattle.sp_rules.proofs.Walking.{passes}
+use Rattle.sp_areas.specs.Alone.{flag_at}
+use Rattle.sp_areas.specs.Blocks.{IsNumbered, number_from, number_of}
+use Rattle.sp_areas.specs.Least.{IsLeast, Upto, least}
+use Rattle.sp_areas.proofs.BlockLaws.{place_some}
+use Rattle.sp_areas.proofs.Leasts.{all, both, same}
+use Rattle.sp_shapes.specs.declared.shapes.Shapes.{Shapes}
+use Rattle.sp_shapes.specs.Shapes.{AreShapes}
+use Rattle.sp_shapes.specs.Stacks.{list_of}
+use Rattle.sp_effects.specs.declared.effects.Deeds.{Deeds}
+use Rattle.sp_effects.specs.declared.effects.Effects.{Effects}
+use Rattle.sp_effects.specs.Calls.{CallFails, reached}
+use Rattle.sp_effects.specs.Effects.{AreEffects, AreDeeds}
+use Rattle.sp_effects.specs.Turns.{AreInside, LayoutTurns, SomeCalls, Turns, inside_of, is_inside, turns}
+use Rattle.sp_effects.specs.Variables.{goes_out, with_layouts}
+use Rattle.sp_effects.proofs.Inward.{inside_is, is_inside_here, reached_is}
+use Rattle.sp_effects.proofs.Loudness.{body_row}
+use Rattle.sp_effects.proofs.Members.{not_both, or_left, or_right, or_split}
+use Rattle.sp_effects.proofs.Owned.{layout_here, one_layout, out_from, out_is}
+use Rattle.sp_effects.proofs.Passing.{CallBreaks, call_found, call_finds, place_there}
+
+-- ---- one layout
+
+module _ (ls : List Layout) (j : ℕ) (l : Layout) (is : slice_get ls j ≡ Some l) (ks : List (ℕ
+    × ℕ)) (own : ks ≡ with_layouts [] 0 ls) (flags : List Bool) where
+  turns_is : (o : Option Deeds) → turns ks flags j o ≡ true → Turns flags j l o
+  turns_is None e = absurd (cc e)
+  turns_is (Some d) e =
+      let b = both_true (flag_at flags j) (goes_out ks j 2 d.stored || goes_out ks j 2 d.loaded) e in (
+        b.0,
+        ⊎_elim
+            (λ h. let r = out_is ls j l is ks own 2 d.stored h in
+            (r.0, inl r.1, r.3, (let m = r.2 in omega (arith, m))))
+            (λ h. let r = out_is ls j l is ks own 2 d.loaded h in
+            (r.0, inr r.1, r.3, (let m = r.2 in omega (arith, m))))
+            (or_split (goes_out ks j 2 d.stored) (goes_out ks j 2 d.loaded) b.1),
+      )
+
+  turns_from : (o : Option Deeds) → Turns flags j l o → turns ks flags j o ≡ true
+  turns_from None h = absurd h
+  turns_from (Some d) (f, (x, inl i, m, h)) =
+      and_true (flag_at flags j) (goes_out ks j 2 d.stored || goes_out ks j 2 d.loaded) f
+      (or_left (goes_out ks j 2 d.stored) (goes_out ks j 2 d.loaded)
+      (out_from ls j l is ks own 2 d.stored x i (omega (arith, h)) m))
+  turns_from (Some d) (f, (x, inr i, m, h)) =
+      and_true (flag_at flags j) (goes_out ks j 2 d.stored || goes_out ks j 2 d.loaded) f
+      (or_right (goes_out ks j 2 d.stored) (goes_out ks j 2 d.loaded)
+      (out_from ls j l is ks own 2 d.loaded x i (omega (arith, h)) m))
+
+  pub one_turn : (e : Effects) (b : Bool) (o : Option ℕ) → b ≡ turns ks flags j (slice_get e.rows l.entry)
+      → IsLeast (λ p. (l.entry ≡ p) × (b ≡ true)) o → IsLeast (LayoutTurns e flags ls j) o
+  one_turn e b o t h =
+      one_layout (λ n m. Turns flags n m (slice_get e.rows m.entry)) ls j l b o is
+      (λ f. turns_is (slice_get e.rows l.entry) (sym t ∙ f)) (λ f. t ∙ turns_from (slice_get e.rows l.entry) f) h
+
+-- ---- blocks that are called inside themselves
+
+-- the second way to break V7
+abbrev pub TurnBreaks : Parts → ℕ → Type 0
+TurnBreaks c p = (l : Layout) × IsLayout c l × (l.entry ≡ p)
+    × fork.BreaksV7Inside c (Does c) (HasStop c) (Inside c) l l.block
+
+inside_call : (hs : List Home) (first : BTreeMap ℕ ℕ) (o : Option Instr) (j : ℕ) → inside_of hs first o ≡ Some j
+    → (b up : ℕ) × (o ≡ Some (i.Call b up)) × (is_inside hs b up ≡ true) × (number_of first b ≡ Some j)
+inside_call hs first (Some (i.Call b up)) j e = go (is_inside hs b up) refl e
+  where
+    go : (t : Bool) → is_inside hs b up ≡ t → (if t then number_of first b else None) ≡ Some j
+        → (d v : ℕ) × (Some (i.Call b up) ≡ Some (i.Call d v)) × (is_inside hs d v ≡ true)
+        × (number_of first d ≡ Some j)
+    go true t e = (b, up, refl, t, e)
+    go false t e = absurd (none_some j e)
+inside_call hs first o j e = absurd (none_some j e)
+
+module _ (c : Parts) (k : Keeps c) (kept : (p : ℕ) → BreaksV1 c p → ⊥) (e : Effects) (are : AreEffects c e)
+    (first : BTreeMap ℕ ℕ) (numbered : IsNumbered first c.layouts) (s : Shapes) (shapes : AreShapes c s)
+    (flags : List Bool) (inside : AreInside c first s (length c.instrs) flags) where
+  module _ (j : ℕ) (l : Layout) (is : slice_get c.layouts j ≡ Some l) where
+    at : layout_of c.layouts l.block ≡ Some l
+    at = layout_here c kept j l is
+
+    below : j < length c.layouts
+    below = slice_get_within c.layouts j l is
+
+    called_is : flag_at flags j ≡ true → fork.IsCalledInside c (Does c) (HasStop c) (Inside c) l.block
+    called_is f = by_call ((inside.each j below).0 f)
+      where
+        by_call : SomeCalls c first s (length c.instrs) j
+            → fork.IsCalledInside c (Does c) (HasStop c) (Inside c) l.block
+        by_call h =
+            let q = h.calls in
+            let r = inside_call (homes c q.area) first (instr_at c h.at) j q.calls in
+            let b = r.0 in
+            let same_place = place_some c.layouts b j (sym (numbered b) ∙ r.4) in
+            let here : layout_of c.layouts b ≡ Some l = sym same_place ∙ is in
+            let named : l.block ≡ b = (found_layout c.layouts b l here).0 in
+            let come = shapes.come h.at q.stack (reached_is c k first s shapes (slice_get s.at h.at) q.stack q.come) in
+            let a = come.0 in
+            let lies : LiesIn c h.at a = (come.1.0, passes c a h.at (list_of s.stacks q.stack) come.1.1) in
+            let alike : a ≡ q.area = q.lies.1 a lies in
+            let call : IsCalled c a h.at b r.1
+            (list_of s.stacks q.stack) l = record { reached = come.1.1; call = r.2; layout = here } in
+            let round = inside_is c k a h.at b r.1 (list_of s.stacks q.stack) l come.1.0 call
+            (subst (λ (z : Area). is_inside (homes c z) b r.1 ≡ true) (sym alike) r.3) in
+            subst (λ d. fork.IsCalledInside c (Does c) (HasStop c) (Inside c) d) (sym named)
+            (a, h.at, r.1, list_of s.stacks q.stack, l, come.1.0, call, round)
+
+    -- its block has that place
+    placed : number_of first l.block ≡ Some j
+    placed = go (place_there c.layouts l.block l at)
+      where
+        go : (n : ℕ) × (number_from 0 c.layouts l.block ≡ Some n) × (slice_get c.layouts n ≡ Some l)
+            → number_of first l.block ≡ Some j
+        go (n, f, g) = numbered l.block ∙ f ∙ ap Some (alike (n == j) refl)
+          where
+            alike : (t : Bool) → n == j ≡ t → n ≡ j
+            alike true h = eqb-true n j h
+            alike false h = absurd (kept l.entry
+                (BlocksApart (j, l, is, refl, inl (n, l, g, (λ z. not_both (n == j) (eq-eqb n j z) h), refl))))
+
+    is_called : fork.IsCalledInside c (Does c) (HasStop c) (Inside c) l.block → flag_at flags j ≡ true
+    is_called (a, p, up, ss, m, there, call, round) =
+        let n = shapes.all a p ss (there, call.reached) in
+        let lies : LiesIn c p a = (there, passes c a p ss call.reached) in
+        let h = is_inside_here c k a p l.block up ss m there call round in
+        let calls = ap (λ (o : Option Instr). inside_of (homes c a) first o) call.call
+        ∙ ap (λ t. if t then number_of first l.block else None) h ∙ placed in
+        (inside.each j below).1 (record {
+          at = p;
+          before = slice_get_within c.instrs p (i.Call l.block up) call.call;
+          calls = record {
+            area = a;
+            lies = (lies, λ b z. k.apart p b a z lies);
+            stack = n.0;
+            come = ap reached n.1;
+            calls = calls;
+          };
+        })
+
+    turn_rule : (d : Deeds) → AreDeeds c (Body l.block) d → Turns flags j l (Some d)
+        → fork.BreaksV7Inside c (Does c) (HasStop c) (Inside c) l l.block
+    turn_rule d deeds (f, (x, inl h, m, z)) = (called_is f, (x, (inl ((deeds.stored x).0 h), m), z))
+    turn_rule d deeds (f, (x, inr h, m, z)) = (called_is f, (x, (inr ((deeds.loaded x).0 h), m), z))
+
+    rule_turn : (d : Deeds) → AreDeeds c (Body l.block) d
+        → fork.BreaksV7Inside c (Does c) (HasStop c) (Inside c) l l.block → Turns flags j l (Some d)
+    rule_turn d deeds (f, (x, (inl h, m), z)) = (is_called f, (x, inl ((deeds.stored x).1 h), m, z))
+    rule_turn d deeds (f, (x, (inr h, m), z)) = (is_called f, (x, inr ((deeds.loaded x).1 h), m, z))
+
+  turn_found : (j p : ℕ) → LayoutTurns e flags c.layouts j p → TurnBreaks c p
+  turn_found j p (l, is, first, h) =
+      let r = body_row c e are l (at j l is) in
+      (l, (j, is), first, turn_rule j l is r.0 r.2 (subst (Turns flags j l) r.1 h))
+
+  turn_finds : (p : ℕ) → TurnBreaks c p → Upto (LayoutTurns e flags c.layouts) (length c.layouts) p
+  turn_finds p (l, (j, is), first, h) =
+      let r = body_row c e are l (at j l is) in
+      record {
+        item = j;
+        below = slice_get_within c.layouts j l is;
+        holds =
+            (l, is, first, subst (Turns flags j l) (sym r.1) (rule_turn j l is r.0 r.2 h));
+      }
+
+  pub v7_least : (ks : List (ℕ × ℕ)) → ks ≡ with_layouts [] 0 c.layouts → (a b : Option ℕ)
+      → IsLeast (CallFails c e ks first s) a
+      → IsLeast (Upto (LayoutTurns e flags c.layouts) (length c.layouts)) b → IsLeast (BreaksV7 c) (least a b)
+  v7_least ks own a b h g =
+      both (CallBreaks c) (TurnBreaks c) a b
+      (same (CallFails c e ks first s) (CallBreaks c) a (λ p. call_found c e are ks own first numbered s shapes p)
+      (λ p. call_finds c e are ks own first numbered s shapes p) h)
+      (all (LayoutTurns e flags c.layouts) (TurnBreaks c) (length c.layouts) b turn_found turn_finds g)
+
+-- ---- code that keeps V1 to V5
+
+pub keeps_all : (c : Parts) → KeepsSizes c → ((p : ℕ) → BreaksV1 c p → ⊥) → ((p : ℕ) → BreaksV2 c p → ⊥)
+    → ((p : ℕ) → BreaksV3 c p → ⊥) → ((p : ℕ) → BreaksV4 c p → ⊥) → ((p : ℕ) → BreaksV5 c p → ⊥) → Keeps c
+keeps_all c sizes = keeps c (have_children c sizes) (fits_types c sizes)

@@ -1,0 +1,6 @@
+use Rattle.sp_effects.specs.Edges.{HasEdges}
+use Rattle.sp_effects.proofs.edges.edges_of.Given as goal
+
+-- the edges of the instructions so far are put
+abbrev pub invariant-loop-p : goal.invariant-loop-p
+invariant-loop-p l = HasEdges l.code l.p l.rows

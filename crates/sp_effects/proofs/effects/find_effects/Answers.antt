@@ -1,0 +1,14 @@
+use Rattle.std.proofs.Common.{◌≡◌, ap, ◌∙◌, subst, length}
+use Rattle.sp_code.specs.declared.code.Parts.{Parts}
+use Rattle.sp_effects.specs.Effects.{AreRows}
+use Rattle.sp_effects.proofs.Rows.{are_effects}
+use Rattle.sp_effects.proofs.effects.find_effects.Goals as goal
+
+pub returns : goal.returns
+returns c =
+    let code = c.args.code.now in
+    let fs = c.in_ok-facts.facts in
+    let m : c.len.result ≡ length code.instrs = c.len.ensures
+    ∙ ap (λ (z : Parts). length z.instrs) c.parts.ensures.same in
+    are_effects code c.requires.kept fs c.in_ok-facts.ensures c.in_ok-rows.rows
+    (subst (λ n. AreRows fs (length fs) n c.in_ok-rows.rows) m c.in_ok-rows.ensures)

@@ -1,0 +1,109 @@
+-- What goes on from fact to fact along edges, until nothing is new.
+use Rattle.std.specs.Prelude.{◌≡◌, ◌⊎◌, ◌↔◌, ℕ, zero, suc, ◌==◌, ◌<◌, List, Option, Some, None, Bool, true, false}
+use Rattle.std.specs.Prelude.{if◌then◌else◌, slice_get}
+use Rattle.sp_code.specs.declared.code.Layout.{Layout}
+use Rattle.sp_code.specs.declared.code.Parts.{Parts}
+use Rattle.sp_rules.specs.Areas.{Area, entry}
+use Rattle.sp_rules.specs.Reach.{IsIn, IsArea}
+use Rattle.sp_rules.specs.Effects.{Stored, Loaded, Does, IsEffect}
+use Rattle.sp_effects.specs.declared.edges.Edge.{Edge}
+use Rattle.sp_effects.specs.declared.edges.Edge.TheVariants as edge
+use Rattle.sp_effects.specs.declared.facts.Fact.{Fact}
+use Rattle.sp_effects.specs.declared.facts.Deed.{Deed}
+use Rattle.sp_effects.specs.declared.facts.Deed.TheVariants as deed
+use Rattle.sp_effects.specs.Facts.{fact, has_fact, has_pair}
+use Rattle.sp_effects.specs.Edges.{HasEdge, AreEdges}
+use Rattle.sp_effects.specs.Effects.{Comes}
+
+-- ---- variables of a block's own
+
+-- pairs are added
+abbrev pub AddsPairs : List (ℕ × ℕ) → List (ℕ × ℕ) → (ℕ × ℕ → Type 0) → Type 0
+AddsPairs old new W = (q : ℕ × ℕ) → (has_pair new q ≡ true) ↔ ((has_pair old q ≡ true) ⊎ W q)
+
+-- a first instruction, and a variable among these
+abbrev pub IsOwnOf : ℕ → List ℕ → ℕ × ℕ → Type 0
+IsOwnOf m xs q = (q.0 ≡ m) × IsIn q.1 xs
+
+-- of a layout, and a variable of it
+abbrev pub IsOwnIn : List Layout → ℕ × ℕ → Type 0
+IsOwnIn ls q = (j : ℕ) × (l : Layout) × (slice_get ls j ≡ Some l) × IsOwnOf l.entry l.variables q
+
+-- the pairs are those
+abbrev pub AreOwn : Parts → List (ℕ × ℕ) → Type 0
+AreOwn c ks = (q : ℕ × ℕ) → (has_pair ks q ≡ true) ↔ IsOwnIn c.layouts q
+
+-- it is done to a variable of the area's own
+abbrev pub is_own : List (ℕ × ℕ) → ℕ → Deed → Bool
+is_own ks m (deed.Stores x) = has_pair ks (m, x)
+is_own ks m (deed.Loads x) = has_pair ks (m, x)
+is_own ks m deed.Stops = false
+
+-- ---- along an edge
+
+abbrev pub is_index : Option ℕ → ℕ → Bool
+is_index None x = false
+is_index (Some y) x = x == y
+
+-- what is done becomes this on the edge, if it goes along it; own says whether it is done to a variable of the area's
+-- own
+abbrev pub fact_along : Edge → Bool → Deed → Option Fact
+fact_along (edge.Started to index) own (deed.Stores x) = Some (fact to (deed.Stores x))
+fact_along (edge.Started to index) own (deed.Loads x) = if is_index index x then None else Some (fact to (deed.Loads x))
+fact_along (edge.Started to index) own deed.Stops = Some (fact to deed.Stops)
+fact_along (edge.Called to) own (deed.Stores x) = if own then None else Some (fact to (deed.Stores x))
+fact_along (edge.Called to) own (deed.Loads x) = if own then None else Some (fact to (deed.Loads x))
+fact_along (edge.Called to) own deed.Stops = Some (fact to deed.Stops)
+fact_along (edge.Passed to y x) own (deed.Stores z) = if z == y then Some (fact to (deed.Stores x)) else None
+fact_along (edge.Passed to y x) own (deed.Loads z) = if z == y then Some (fact to (deed.Loads x)) else None
+fact_along (edge.Passed to y x) own deed.Stops = None
+
+-- along one of these edges
+abbrev pub AlongOne : List Edge → Bool → Deed → ℕ → Fact → Type 0
+AlongOne row own d n g = (k : ℕ) × (e : Edge) × (k < n) × (slice_get row k ≡ Some e) × (fact_along e own d ≡ Some g)
+
+module _ (rows : List (List Edge)) (own : List (ℕ × ℕ)) where
+  -- one fact leads to another
+  abbrev pub Leads : Fact → Fact → Type 0
+  Leads f g = (e : Edge) × HasEdge rows f.area e × (fact_along e (is_own own f.area f.deed) f.deed ≡ Some g)
+
+  -- in so many steps from these
+  abbrev pub FollowsBy : List Fact → ℕ → Fact → Type 0
+  FollowsBy old zero g = has_fact old g ≡ true
+  FollowsBy old (suc n) g = (f : Fact) × FollowsBy old n f × Leads f g
+
+  abbrev pub Follows : List Fact → Fact → Type 0
+  Follows old g = (n : ℕ) × FollowsBy old n g
+
+  -- those that the first so many lead to are there, and all follow from the old ones
+  pub record ClosesTo (old new : List Fact) (n : ℕ) : Type 0 where
+    pub kept : (f : Fact) → has_fact old f ≡ true → has_fact new f ≡ true
+    pub done : (j : ℕ) (f g : Fact) → j < n → slice_get new j ≡ Some f → Leads f g → has_fact new g ≡ true
+    pub only : (g : Fact) → has_fact new g ≡ true → Follows old g
+
+  -- nothing is left to which they lead
+  pub record Closes (old new : List Fact) : Type 0 where
+    pub kept : (f : Fact) → has_fact old f ≡ true → has_fact new f ≡ true
+    pub closed : (f g : Fact) → has_fact new f ≡ true → Leads f g → has_fact new g ≡ true
+    pub only : (g : Fact) → has_fact new g ≡ true → Follows old g
+
+-- ---- of areas
+
+module _ (c : Parts) where
+  -- the area does it, with what it starts and calls
+  abbrev pub IsDeed : Area → Deed → Type 0
+  IsDeed a (deed.Stores x) = IsEffect c (Does c) Stored a x
+  IsDeed a (deed.Loads x) = IsEffect c (Does c) Loaded a x
+  IsDeed a deed.Stops = Comes c a
+
+  -- the facts are closed along the edges of the code
+  pub record ClosesBy (old new : List Fact) : Type 0 where
+    pub rows : List (List Edge)
+    pub own : List (ℕ × ℕ)
+    pub are_edges : AreEdges c rows
+    pub are_own : AreOwn c own
+    pub closes : Closes rows own old new
+
+  -- the facts are those of the areas that are there
+  abbrev pub AreFacts : List Fact → Type 0
+  AreFacts fs = (a : Area) (d : Deed) → IsArea c a → (has_fact fs (fact (entry c a) d) ≡ true) ↔ IsDeed a d

@@ -1,0 +1,66 @@
+-- Facts about areas of code, in the order in which they are found: an area, by its first instruction, stores a
+-- variable, loads one, or comes to a stop.
+use Rattle.std.specs.Prelude.{◌≡◌, ◌⊎◌, ℕ, ◌==◌, ◌&&◌, ◌++◌, List, [], ◌∷◌, Some, Bool, true, false, if◌then◌else◌}
+use Rattle.std.specs.Prelude.{slice_get}
+use Rattle.std.specs.List.{list_any}
+use Rattle.std.specs.declared.cmp.Ordering.{Ordering}
+use Rattle.std.specs.Ordering.{nat_cmp, ordering_then, is_eq}
+use Rattle.sp_effects.specs.declared.facts.Fact.{Fact}
+use Rattle.sp_effects.specs.declared.facts.Sets.{Sets}
+use Rattle.sp_effects.specs.declared.facts.Index.{Index}
+use Rattle.sp_rules.specs.Areas.{given}
+use Rattle.sp_effects.specs.declared.facts.Deed.{Deed}
+use Rattle.sp_effects.specs.declared.facts.Deed.TheVariants as deed
+
+abbrev pub same_deed : Deed → Deed → Bool
+same_deed (deed.Stores x) (deed.Stores y) = x == y
+same_deed (deed.Loads x) (deed.Loads y) = x == y
+same_deed deed.Stops deed.Stops = true
+same_deed d e = false
+
+abbrev pub same : Fact → Fact → Bool
+same f g = (f.area == g.area) && same_deed f.deed g.deed
+
+-- the fact is among these
+abbrev pub has_fact : List Fact → Fact → Bool
+has_fact fs f = list_any (same f) fs
+
+abbrev pub fact : ℕ → Deed → Fact
+fact p d = record { area = p; deed = d }
+
+-- with one more, unless it is there
+abbrev pub with_fact : List Fact → Fact → List Fact
+with_fact fs f = if has_fact fs f then fs else fs ++ f ∷ []
+
+-- by area and variable
+abbrev pub pair_cmp : ℕ × ℕ → ℕ × ℕ → Ordering
+pair_cmp p q = ordering_then (nat_cmp p.0 q.0) (nat_cmp p.1 q.1)
+
+abbrev pub has_pair : List (ℕ × ℕ) → ℕ × ℕ → Bool
+has_pair ks q = list_any (λ (k : ℕ × ℕ). is_eq (pair_cmp q k)) ks
+
+abbrev pub has_number : List ℕ → ℕ → Bool
+has_number ks q = list_any (λ k. is_eq (nat_cmp q k)) ks
+
+-- sets of variables say so
+abbrev pub in_sets : Sets → Deed → Bool
+in_sets s (deed.Stores x) = has_number s.stored.keys x
+in_sets s (deed.Loads x) = has_number s.loaded.keys x
+in_sets s deed.Stops = s.stops
+
+-- those of an area do
+abbrev pub sets_have : List Sets → ℕ → Deed → Bool
+sets_have areas p d = given false (slice_get areas p) (λ s. in_sets s d)
+
+abbrev pub index_has : Index → ℕ → Deed → Bool
+index_has it p d = sets_have it.areas p d
+
+-- the sets have the same facts
+abbrev pub AreIndexed : List Fact → Index → Type 0
+AreIndexed fs it = (f : Fact) → index_has it f.area f.deed ≡ has_fact fs f
+
+-- these facts are added, and no others; each that was there stays at its place
+pub record Tells (old new : List Fact) (W : Fact → Type 0) : Type 0 where
+  pub extends : (i : ℕ) (f : Fact) → slice_get old i ≡ Some f → slice_get new i ≡ Some f
+  pub has : (f : Fact) → W f → has_fact new f ≡ true
+  pub only : (f : Fact) → has_fact new f ≡ true → (has_fact old f ≡ true) ⊎ W f

@@ -1,0 +1,12 @@
+pub mod Facts
+pub mod Effects
+pub mod Own
+pub mod Edges
+pub mod Closing
+pub mod Sets
+pub mod Handed
+pub mod Befores
+pub mod Variables
+pub mod Loud
+pub mod Calls
+pub mod Turns

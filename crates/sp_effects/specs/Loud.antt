@@ -1,0 +1,21 @@
+-- Rules V8, and V7 at a block that is called inside itself, as a verifier tests them: of each layout what its block
+-- does, held against its own variables.
+use Rattle.std.specs.Prelude.{◌≡◌, ◌⊎◌, ℕ, List, Option, Some, None, Bool, true, false, ◌&&◌, ◌||◌, slice_get}
+use Rattle.sp_tree.specs.Interference.{IsMember}
+use Rattle.sp_code.specs.declared.code.Layout.{Layout}
+use Rattle.sp_rules.specs.Reach.{IsIn}
+use Rattle.sp_effects.specs.declared.effects.Deeds.{Deeds}
+use Rattle.sp_effects.specs.declared.effects.Effects.{Effects}
+use Rattle.sp_effects.specs.Variables.{LayoutDoes, goes_out}
+
+-- an answering block stores outside itself, or stops
+abbrev pub is_loud : List (ℕ × ℕ) → ℕ → Layout → Option Deeds → Bool
+is_loud ks j l None = false
+is_loud ks j l (Some d) = l.answer && (d.stops || goes_out ks j 0 d.stored)
+
+abbrev pub IsLoud : Layout → Option Deeds → Type 0
+IsLoud l None = ⊥
+IsLoud l (Some d) = (l.answer ≡ true) × (((x : ℕ) × IsIn x d.stored × (IsMember x l.variables → ⊥)) ⊎ (d.stops ≡ true))
+
+abbrev pub LayoutLoud : Effects → List Layout → ℕ → ℕ → Type 0
+LayoutLoud e = LayoutDoes (λ j l. IsLoud l (slice_get e.rows l.entry))

@@ -1,0 +1,112 @@
+-- What an instruction does itself, in forms that are few.
+use Rattle.std.specs.Prelude.{◌≡◌, ◌⊎◌, ℕ, ◌<◌, List, [], ◌∷◌, Option, Some, None, Bool, true, false, length, slice_get}
+use Rattle.sp_tree.specs.Interference.{IsMember}
+use Rattle.sp_code.specs.declared.instr.Instr.{Instr}
+use Rattle.sp_code.specs.declared.code.Layout.{Layout}
+use Rattle.sp_code.specs.declared.code.ChildTable.{ChildTable}
+use Rattle.sp_code.specs.declared.code.Parts.{Parts}
+use Rattle.sp_code.specs.Machine.{layout_of}
+use Rattle.sp_rules.specs.Areas.{Area, given, instr_at, child_at, variable_at, entry}
+use Rattle.sp_rules.specs.Shapes.{Shape, below}
+use Rattle.sp_rules.specs.Reach.{IsIn, Reaches}
+use Rattle.sp_rules.specs.Touched.{stored_by, loaded_by, topmost, addresses, numbered}
+use Rattle.sp_rules.specs.Effects.{IsStarted}
+use Rattle.sp_rules.specs.Verdict.{is_stop}
+use Rattle.sp_rules.specs.Named.{LiesIn}
+use Rattle.sp_rules.specs.Rules.{ComesTo}
+use Rattle.sp_areas.specs.declared.owners.Owner.{Owner}
+use Rattle.sp_areas.specs.declared.owners.Owner.TheVariants as owner
+use Rattle.sp_areas.specs.Owners.{entry_at}
+use Rattle.sp_effects.specs.declared.facts.Fact.{Fact}
+use Rattle.sp_effects.specs.declared.facts.Deed.{Deed}
+use Rattle.sp_effects.specs.declared.facts.Deed.TheVariants as deed
+use Rattle.sp_effects.specs.declared.places.Place.{Place}
+use Rattle.sp_effects.specs.declared.places.Place.TheVariants as place
+
+-- what is there, if there is something
+abbrev pub flat : Option (Option ℕ) → Option ℕ
+flat None = None
+flat (Some o) = o
+
+-- where a child begins, if there is one
+abbrev pub child_entry : Option ChildTable → Option ℕ
+child_entry None = None
+child_entry (Some t) = Some t.entry
+
+-- where the area of an owner begins
+abbrev pub entry_by : Parts → Owner → Option ℕ
+entry_by c owner.Nobody = None
+entry_by c (owner.Block b) = entry_at (layout_of c.layouts b)
+entry_by c (owner.Child p k) = child_entry (child_at c p k)
+entry_by c owner.Several = None
+
+-- the variables of the operands for the formals of a layout, if there is one
+abbrev pub operand_variables : Option Layout → List Shape → List ℕ
+operand_variables l ss = given [] l (λ m. addresses (length m.formals) ss)
+
+module _ (c : Parts) where
+  -- the variables at a place
+  abbrev pub variables_at : Area → Place → List Shape → List ℕ
+  variables_at a place.Nowhere ss = []
+  variables_at a (place.Number x) ss = x ∷ []
+  variables_at a place.Input ss = 0 ∷ topmost ss
+  variables_at a place.Top ss = topmost ss
+  variables_at a place.Second ss = topmost (below ss)
+  variables_at a (place.Loop var) ss = numbered (variable_at c a 0 var)
+  variables_at a (place.Passed b) ss = operand_variables (layout_of c.layouts b) ss
+
+  -- the instruction at p does this, where the operands have these shapes
+  abbrev pub DoesBy : Area → ℕ → List Shape → Deed → Type 0
+  DoesBy a p ss (deed.Stores x) = IsIn x (stored_by c a (instr_at c p) ss)
+  DoesBy a p ss (deed.Loads x) = IsIn x (loaded_by c a (instr_at c p) ss)
+  DoesBy a p ss deed.Stops = is_stop (instr_at c p) ≡ true
+
+-- a child is handed this
+abbrev pub IsHanded : ChildTable → Deed → Type 0
+IsHanded t (deed.Stores x) = IsMember x t.moved
+IsHanded t (deed.Loads x) = IsMember x t.shared
+IsHanded t deed.Stops = ⊥
+
+-- one of these children is
+abbrev pub OneIsHanded : List ChildTable → ℕ → Deed → Type 0
+OneIsHanded ts n d = (k : ℕ) × (t : ChildTable) × (k < n) × (slice_get ts k ≡ Some t) × IsHanded t d
+
+-- a variable is stored, or loaded
+abbrev pub deed_of : Bool → ℕ → Deed
+deed_of true x = deed.Stores x
+deed_of false x = deed.Loads x
+
+-- an area does what fits
+pub record IsOf (n : ℕ) (D : Deed → Type 0) (f : Fact) : Type 0 where
+  pub area : f.area ≡ n
+  pub does : D f.deed
+
+-- it comes to a stop, if the instruction is one
+abbrev pub IsStop : Option Instr → Deed → Type 0
+IsStop o d = (is_stop o ≡ true) × (d ≡ deed.Stops)
+
+-- a variable among these is stored, or loaded
+abbrev pub IsAmong : Bool → List ℕ → Deed → Type 0
+IsAmong s xs d = (x : ℕ) × IsIn x xs × (d ≡ deed_of s x)
+
+module _ (c : Parts) where
+  -- the fork or forall at p hands it to a child
+  abbrev pub ForkedAt : ℕ → Deed → Type 0
+  ForkedAt p d = (k : ℕ) × (t : ChildTable) × (child_at c p k ≡ Some t) × IsHanded t d
+
+  -- the instruction at p does it itself, where it is reached
+  abbrev pub ReachedAt : ℕ → Fact → Type 0
+  ReachedAt p f = (a : Area) × (ss : List Shape) × ComesTo c a p ss × (f.area ≡ entry c a) × DoesBy c a p ss f.deed
+
+  -- the instruction at p does it itself, or hands it to a child
+  abbrev pub DoesAt : Area → ℕ → Deed → Type 0
+  DoesAt a p d = ((ss : List Shape) × Reaches c a p ss × DoesBy c a p ss d)
+      ⊎ ((k : ℕ) × (t : ChildTable) × IsStarted c a p k t × IsHanded t d)
+
+  -- the area that has the instruction does it there
+  abbrev pub OwnAt : ℕ → Fact → Type 0
+  OwnAt p f = (a : Area) × LiesIn c p a × (f.area ≡ entry c a) × DoesAt a p f.deed
+
+  -- at one of the first instructions
+  abbrev pub OwnBefore : ℕ → Fact → Type 0
+  OwnBefore n f = (p : ℕ) × (p < n) × OwnAt p f

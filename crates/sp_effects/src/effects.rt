@@ -1,0 +1,153 @@
+//! The effects of areas of code.
+
+ghost use Rattle.std.specs.Prelude.{◌≡◌, ℕ, IfOk, OnOk, length, slice_get};
+ghost use Rattle.sp_areas.specs.Blocks.{IsNumbered};
+ghost use Rattle.sp_areas.specs.Homes.{AreHomes};
+ghost use Rattle.sp_areas.specs.Owners.{AreOwners};
+ghost use Rattle.sp_effects.specs.Effects.{AreEffects, AreRows, HasDeed, Puts, Writes, touches};
+ghost use Rattle.sp_effects.specs.declared.facts.Deed.{Deed as DeedOf};
+ghost use Rattle.sp_rules.specs.Named.{BreaksV1};
+ghost use Rattle.sp_shapes.specs.Shapes.{AreShapes};
+ghost use Rattle.std.specs.Option.{option_copied};
+
+use crate::closing::facts_of;
+use crate::facts::{Deed, Fact, Facts};
+use sp_areas::blocks::Blocks;
+use sp_areas::homes::Homes;
+use sp_areas::owners::Owner;
+use sp_base::{List, Memory};
+use sp_code::Code;
+use sp_shapes::shapes::Shapes;
+use std::alloc::Global;
+
+/// What the code of a block or child does, with the children that it starts and the blocks that it calls.
+#[derive(Drop)]
+pub struct Deeds {
+    /// The variables that it stores, each once.
+    pub stored: List<u32>,
+    /// The variables that it loads, each once.
+    pub loaded: List<u32>,
+    /// Whether it comes to a stop other than a fault.
+    pub stops: bool,
+}
+
+/// What the code of each block and child does, by its first instruction.
+#[derive(Drop)]
+pub struct Effects {
+    /// By the number of the first instruction. Where no code begins, a row says nothing.
+    pub rows: List<Deeds>,
+    /// The same as facts.
+    pub facts: Facts,
+}
+
+impl Effects {
+    /// What the block or child with this first instruction does.
+    pub fn of(&self, entry: u32) -> Option<&Deeds>
+        ensures { option_copied result ≡ slice_get self.now.rows entry }
+    {
+        self.rows.get(entry as usize)
+    }
+
+    /// Whether the block or child with this first instruction stores or loads the variable.
+    pub fn touches(&self, entry: u32, variable: u32) -> bool
+        ensures { result ≡ touches self.now entry variable }
+    {
+        let stores = Fact {
+            area: entry,
+            deed: Deed::Stores(variable),
+        };
+        let loads = Fact {
+            area: entry,
+            deed: Deed::Loads(variable),
+        };
+        self.facts.has(stores) || self.facts.has(loads)
+    }
+}
+
+// So many rows that say nothing.
+fn empty_rows(alloc: Global, count: usize) -> Result<List<Deeds>, Memory>
+    ensures { IfOk result (λ rows. (length rows ≡ count) × ((m : ℕ) (d : DeedOf) → HasDeed rows m d → ⊥)) }
+{
+    let mut rows = List::new(alloc);
+    for _m in 0..count {
+        rows.push(Deeds {
+            stored: List::new(alloc),
+            loaded: List::new(alloc),
+            stops: false,
+        })?;
+    }
+    Ok(rows)
+}
+
+// Puts a deed into a row.
+fn put(row: &mut Deeds, deed: Deed) -> Result<(), Memory>
+    ensures { OnOk result (Puts row.old row.new deed) }
+{
+    match deed {
+        Deed::Stores(x) => {
+            row.stored.push(x)?;
+        }
+        Deed::Loads(x) => {
+            row.loaded.push(x)?;
+        }
+        Deed::Stops => {
+            row.stops = true;
+        }
+    }
+    Ok(())
+}
+
+// Writes a fact into the row of its area.
+fn write(alloc: Global, rows: &mut List<Deeds>, fact: Fact) -> Result<(), Memory>
+    ensures { OnOk result (Writes rows.old rows.new fact) }
+{
+    let at = fact.area as usize;
+    if at >= rows.len() {
+        return Ok(());
+    }
+    let none = Deeds {
+        stored: List::new(alloc),
+        loaded: List::new(alloc),
+        stops: false,
+    };
+    let mut row = rows.replace(at, none);
+    put(&mut row, fact.deed)?;
+    let _none = rows.replace(at, row);
+    Ok(())
+}
+
+// Facts by their areas, in so many rows.
+fn rows_of(alloc: Global, facts: &Facts, count: usize) -> Result<List<Deeds>, Memory>
+    ensures { IfOk result (AreRows facts.now (length facts.now) count) }
+{
+    let mut rows = empty_rows(alloc, count)?;
+    for i in 0..facts.len() {
+        let fact = match facts.at(i) {
+            None => return Ok(rows),
+            Some(fact) => fact,
+        };
+        write(alloc, &mut rows, fact)?;
+    }
+    Ok(rows)
+}
+
+/// What the code of each block and child does. It wants V1 kept. The only other answer is want of memory.
+pub fn find_effects(
+    code: &Code,
+    blocks: &Blocks,
+    owners: &List<Owner>,
+    homes: &Homes,
+    shapes: &Shapes,
+) -> Result<Effects, Memory>
+    requires kept { (p : ℕ) → BreaksV1 code.now p → ⊥ }
+    requires blocks { IsNumbered blocks.now.first code.now.layouts }
+    requires owners { AreOwners code.now owners.now }
+    requires homes { AreHomes code.now homes.now }
+    requires shapes { AreShapes code.now shapes.now }
+    ensures { IfOk result (λ effects. AreEffects code.now effects) }
+{
+    let facts = facts_of(code, blocks, owners, homes, shapes)?;
+    let instrs = &code.parts().instrs;
+    let rows = rows_of(instrs.alloc(), &facts, instrs.len())?;
+    Ok(Effects { rows, facts })
+}

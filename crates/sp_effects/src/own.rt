@@ -1,0 +1,383 @@
+//! What instructions do themselves.
+
+ghost use Rattle.std.specs.Prelude.{◌≡◌, ◌++◌, ◌∷◌, [], ℕ, ◌<◌, OnOk, length, Some, List};
+ghost use Rattle.sp_areas.specs.Blocks.{IsNumbered};
+ghost use Rattle.sp_areas.specs.Homes.{AreHomes, found_of};
+ghost use Rattle.sp_areas.specs.Only.{LiesOnlyIn};
+ghost use Rattle.sp_areas.specs.Owners.{AreOwners};
+ghost use Rattle.sp_code.specs.Machine.{layout_of};
+ghost use Rattle.sp_effects.specs.Facts.{Tells};
+ghost use Rattle.sp_effects.specs.Own.{DoesBy, ForkedAt, IsAmong, IsHanded, IsOf, IsStop, OneIsHanded, OwnAt};
+ghost use Rattle.sp_effects.specs.Own.{OwnBefore, ReachedAt, deed_of, operand_variables, variables_at};
+ghost use Rattle.sp_rules.specs.Areas.{Area, entry, instr_at};
+ghost use Rattle.sp_rules.specs.Named.{BreaksV1};
+ghost use Rattle.sp_rules.specs.Touched.{topmost, addresses, numbered};
+ghost use Rattle.sp_rules.specs.Shapes.{below};
+ghost use Rattle.sp_shapes.specs.Shapes.{AreShapes};
+ghost use Rattle.sp_shapes.specs.Stacks.{Holds, IsStacks, list_of, shape_of};
+
+use crate::areas::{area_at, stack_at, table_of};
+use crate::facts::{Deed, Fact, Facts};
+use crate::places::{Place, is_stop, loaded_place, stored_place};
+use sp_areas::blocks::Blocks;
+use sp_areas::homes::{Found, Homes};
+use sp_areas::owners::Owner;
+use sp_base::{List, Memory};
+use sp_code::{ChildTable, Code, Instr};
+use sp_shapes::shapes::Shapes;
+use sp_shapes::stacks::{Shape, Stacks};
+
+// Puts a variable last.
+fn push(list: &mut List<u32>, x: u32) -> Result<(), Memory>
+    ensures { OnOk result (list.new ≡ list.old ++ x ∷ []) }
+{
+    list.push(x)?;
+    Ok(())
+}
+
+// Puts the variable of an operand last, if it is an address.
+fn push_shape(list: &mut List<u32>, shape: Shape) -> Result<(), Memory>
+    ensures { OnOk result (list.new ≡ list.old ++ topmost (shape_of shape ∷ [])) }
+{
+    match shape {
+        Shape::Address { variable, left: _ } => push(list, variable),
+        _ => Ok(()),
+    }
+}
+
+// That of the topmost operand.
+fn push_top(list: &mut List<u32>, stacks: &Stacks, stack: u32) -> Result<(), Memory>
+    requires stacks { IsStacks stacks.now }
+    requires there { Holds stacks.now stack }
+    ensures { OnOk result (list.new ≡ list.old ++ topmost (list_of stacks.now stack)) }
+{
+    match stacks.top(stack) {
+        None => Ok(()),
+        Some((shape, _)) => push_shape(list, shape),
+    }
+}
+
+// That of the second.
+fn push_second(list: &mut List<u32>, stacks: &Stacks, stack: u32) -> Result<(), Memory>
+    requires stacks { IsStacks stacks.now }
+    requires there { Holds stacks.now stack }
+    ensures { OnOk result (list.new ≡ list.old ++ topmost (below (list_of stacks.now stack))) }
+{
+    match stacks.top(stack) {
+        None => Ok(()),
+        Some((_, rest)) => push_top(list, stacks, rest),
+    }
+}
+
+// A variable that was looked up.
+fn push_found(list: &mut List<u32>, found: Option<Found>) -> Result<(), Memory>
+    ensures { OnOk result (list.new ≡ list.old ++ numbered (found_of found)) }
+{
+    match found {
+        None => Ok(()),
+        Some(found) => push(list, found.number),
+    }
+}
+
+// Those of the topmost operands, so many.
+fn push_addresses(
+    list: &mut List<u32>,
+    stacks: &Stacks,
+    stack: u32,
+    count: usize,
+) -> Result<(), Memory>
+    requires stacks { IsStacks stacks.now }
+    requires there { Holds stacks.now stack }
+    ensures { OnOk result (list.new ≡ list.old ++ addresses count (list_of stacks.now stack)) }
+{
+    let mut at = stack;
+    for _k in 0..count {
+        let (shape, rest) = match stacks.top(at) {
+            None => return Ok(()),
+            Some(top) => top,
+        };
+        push_shape(list, shape)?;
+        at = rest;
+    }
+    Ok(())
+}
+
+// Those of the operands of a call.
+fn push_passed(
+    list: &mut List<u32>,
+    code: &Code,
+    blocks: &Blocks,
+    block: u32,
+    stacks: &Stacks,
+    stack: u32,
+) -> Result<(), Memory>
+    requires blocks { IsNumbered blocks.now.first code.now.layouts }
+    requires stacks { IsStacks stacks.now }
+    requires there { Holds stacks.now stack }
+    ensures { OnOk result (list.new ≡ list.old
+        ++ operand_variables (layout_of code.now.layouts block) (list_of stacks.now stack)) }
+{
+    match blocks.find(&code.parts().layouts, block) {
+        None => Ok(()),
+        Some(layout) => push_addresses(list, stacks, stack, layout.formals.len()),
+    }
+}
+
+// The variables at a place.
+fn push_placed(
+    list: &mut List<u32>,
+    code: &Code,
+    blocks: &Blocks,
+    homes: &Homes,
+    p: u32,
+    place: Place,
+    stacks: &Stacks,
+    stack: u32,
+) -> Result<(), Memory>
+    requires blocks { IsNumbered blocks.now.first code.now.layouts }
+    requires homes { AreHomes code.now homes.now }
+    requires stacks { IsStacks stacks.now }
+    requires there { Holds stacks.now stack }
+    requires within { p < length code.now.instrs }
+    ensures { OnOk result ((a : Area) → LiesOnlyIn code.now p a
+        → list.new ≡ list.old ++ variables_at code.now a place (list_of stacks.now stack)) }
+{
+    match place {
+        Place::Nowhere => Ok(()),
+        Place::Number(x) => push(list, x),
+        Place::Input => {
+            push(list, 0)?;
+            push_top(list, stacks, stack)
+        }
+        Place::Top => push_top(list, stacks, stack),
+        Place::Second => push_second(list, stacks, stack),
+        Place::Loop(var) => {
+            let found = homes.variable(code, p, 0, var);
+            push_found(list, found)
+        }
+        Place::Passed(block) => push_passed(list, code, blocks, block, stacks, stack),
+    }
+}
+
+fn deed_of(stores: bool, x: u32) -> Deed
+    ensures { result ≡ deed_of stores x }
+{
+    if stores {
+        Deed::Stores(x)
+    } else {
+        Deed::Loads(x)
+    }
+}
+
+// Tells that an area stores these variables, or that it loads them.
+fn tell(facts: &mut Facts, area: u32, stores: bool, variables: &[u32]) -> Result<(), Memory>
+    ensures { OnOk result (Tells facts.old facts.new (IsOf area (IsAmong stores variables.now))) }
+{
+    for i in 0..variables.len() {
+        let deed = deed_of(stores, variables[i]);
+        facts.add(Fact { area, deed })?;
+    }
+    Ok(())
+}
+
+// Tells what stands at a place.
+fn tell_placed(
+    code: &Code,
+    blocks: &Blocks,
+    homes: &Homes,
+    stacks: &Stacks,
+    facts: &mut Facts,
+    area: u32,
+    p: u32,
+    stores: bool,
+    place: Place,
+    stack: u32,
+) -> Result<(), Memory>
+    requires blocks { IsNumbered blocks.now.first code.now.layouts }
+    requires homes { AreHomes code.now homes.now }
+    requires stacks { IsStacks stacks.now }
+    requires there { Holds stacks.now stack }
+    requires within { p < length code.now.instrs }
+    ensures { OnOk result ((a : Area) → LiesOnlyIn code.now p a
+        → Tells facts.old facts.new (IsOf area
+        (IsAmong stores (variables_at code.now a place (list_of stacks.now stack))))) }
+{
+    let mut list = List::new(code.parts().instrs.alloc());
+    push_placed(&mut list, code, blocks, homes, p, place, stacks, stack)?;
+    tell(facts, area, stores, list.items())
+}
+
+// Tells that an area comes to a stop, if the instruction is one.
+fn tell_stop(facts: &mut Facts, area: u32, instr: Instr) -> Result<(), Memory>
+    ensures { OnOk result (Tells facts.old facts.new (IsOf area (IsStop (Some instr)))) }
+{
+    if is_stop(instr) {
+        facts.add(Fact {
+            area,
+            deed: Deed::Stops,
+        })?;
+    }
+    Ok(())
+}
+
+// Tells what an instruction does itself, with these shapes.
+fn tell_shaped(
+    code: &Code,
+    blocks: &Blocks,
+    homes: &Homes,
+    stacks: &Stacks,
+    facts: &mut Facts,
+    area: u32,
+    p: u32,
+    instr: Instr,
+    stack: u32,
+) -> Result<(), Memory>
+    requires blocks { IsNumbered blocks.now.first code.now.layouts }
+    requires homes { AreHomes code.now homes.now }
+    requires stacks { IsStacks stacks.now }
+    requires there { Holds stacks.now stack }
+    requires instr { instr_at code.now p ≡ Some instr }
+    requires within { p < length code.now.instrs }
+    ensures { OnOk result ((a : Area) → LiesOnlyIn code.now p a
+        → Tells facts.old facts.new (IsOf area (DoesBy code.now a p (list_of stacks.now stack)))) }
+{
+    tell_placed(
+        code,
+        blocks,
+        homes,
+        stacks,
+        facts,
+        area,
+        p,
+        true,
+        stored_place(instr),
+        stack,
+    )?;
+    tell_placed(
+        code,
+        blocks,
+        homes,
+        stacks,
+        facts,
+        area,
+        p,
+        false,
+        loaded_place(instr),
+        stack,
+    )?;
+    tell_stop(facts, area, instr)
+}
+
+// Tells what an area hands to one child.
+fn tell_child(facts: &mut Facts, area: u32, child: &ChildTable) -> Result<(), Memory>
+    ensures { OnOk result (Tells facts.old facts.new (IsOf area (IsHanded child.now))) }
+{
+    tell(facts, area, true, child.moved.items())?;
+    tell(facts, area, false, child.shared.items())
+}
+
+// Tells what it hands to these.
+fn tell_children(facts: &mut Facts, area: u32, children: &[ChildTable]) -> Result<(), Memory>
+    ensures { OnOk result (Tells facts.old facts.new (IsOf area (OneIsHanded children.now (length children.now)))) }
+{
+    for k in 0..children.len() {
+        tell_child(facts, area, &children[k])?;
+    }
+    Ok(())
+}
+
+// Tells what the fork or forall at p hands on, if there is one.
+fn tell_forked(code: &Code, facts: &mut Facts, area: u32, p: u32) -> Result<(), Memory>
+    ensures { OnOk result (Tells facts.old facts.new (IsOf area (ForkedAt code.now p))) }
+{
+    match table_of(code, p) {
+        None => Ok(()),
+        Some(table) => tell_children(facts, area, table.children.items()),
+    }
+}
+
+// Tells what the instruction at p does itself, if it is reached.
+fn tell_reached(
+    code: &Code,
+    blocks: &Blocks,
+    homes: &Homes,
+    shapes: &Shapes,
+    facts: &mut Facts,
+    area: u32,
+    p: u32,
+) -> Result<(), Memory>
+    requires blocks { IsNumbered blocks.now.first code.now.layouts }
+    requires homes { AreHomes code.now homes.now }
+    requires shapes { AreShapes code.now shapes.now }
+    requires lies { (a : Area) × LiesOnlyIn code.now p a × (entry code.now a ≡ area) }
+    requires within { p < length code.now.instrs }
+    ensures { OnOk result (Tells facts.old facts.new (ReachedAt code.now p)) }
+{
+    let stack = match stack_at(shapes, p) {
+        None => return Ok(()),
+        Some(stack) => stack,
+    };
+    let instr = match code.instr(p) {
+        None => return Ok(()),
+        Some(instr) => instr,
+    };
+    tell_shaped(
+        code,
+        blocks,
+        homes,
+        &shapes.stacks,
+        facts,
+        area,
+        p,
+        instr,
+        stack,
+    )
+}
+
+// Tells what the instruction at p does.
+fn tell_at(
+    code: &Code,
+    blocks: &Blocks,
+    owners: &List<Owner>,
+    homes: &Homes,
+    shapes: &Shapes,
+    facts: &mut Facts,
+    p: u32,
+) -> Result<(), Memory>
+    requires kept { (p : ℕ) → BreaksV1 code.now p → ⊥ }
+    requires blocks { IsNumbered blocks.now.first code.now.layouts }
+    requires owners { AreOwners code.now owners.now }
+    requires homes { AreHomes code.now homes.now }
+    requires shapes { AreShapes code.now shapes.now }
+    requires there { p < length code.now.instrs }
+    ensures { OnOk result (Tells facts.old facts.new (OwnAt code.now p)) }
+{
+    let area = match area_at(code, blocks, owners, p) {
+        None => return Ok(()),
+        Some(area) => area,
+    };
+    tell_reached(code, blocks, homes, shapes, facts, area, p)?;
+    tell_forked(code, facts, area, p)
+}
+
+/// What each area does itself, or hands to its children.
+pub fn tell_own(
+    code: &Code,
+    blocks: &Blocks,
+    owners: &List<Owner>,
+    homes: &Homes,
+    shapes: &Shapes,
+    facts: &mut Facts,
+) -> Result<(), Memory>
+    requires kept { (p : ℕ) → BreaksV1 code.now p → ⊥ }
+    requires blocks { IsNumbered blocks.now.first code.now.layouts }
+    requires owners { AreOwners code.now owners.now }
+    requires homes { AreHomes code.now homes.now }
+    requires shapes { AreShapes code.now shapes.now }
+    ensures { OnOk result (Tells facts.old facts.new (OwnBefore code.now (length code.now.instrs))) }
+{
+    for p in 0..code.parts().instrs.len() {
+        tell_at(code, blocks, owners, homes, shapes, facts, p as u32)?;
+    }
+    Ok(())
+}

@@ -1,0 +1,79 @@
+-- Ways through the code of an area: which instructions it has, and which shapes of operands some way brings to one.
+use Rattle.std.specs.Prelude.{◌≡◌, ◌≢◌, ◌⊎◌, ℕ, zero, suc, ◌+◌, List, [], ◌∷◌, Option, Some, None}
+use Rattle.sp_code.specs.declared.instr.Instr.{Instr}
+use Rattle.sp_code.specs.declared.instr.Instr.TheVariants as i
+use Rattle.sp_code.specs.declared.code.ChildTable.{ChildTable}
+use Rattle.sp_code.specs.declared.code.Layout.{Layout}
+use Rattle.sp_code.specs.declared.code.Parts.{Parts}
+use Rattle.sp_code.specs.Machine.{layout_of}
+use Rattle.sp_rules.specs.Areas.{Area, Body, Child, instr_at, child_at, entry}
+use Rattle.sp_rules.specs.Shapes.{Shape, Shaped, Wrong, To, shaped}
+
+-- the instructions to which one goes by a jump or by going on. `nocase` counts as going on, by what it takes and leaves
+abbrev pub nexts : ℕ → Option Instr → List ℕ
+nexts p None = []
+nexts p (Some (i.Jump to)) = to ∷ []
+nexts p (Some (i.Jumpf to)) = (p + 1) ∷ to ∷ []
+nexts p (Some (i.Casej v to)) = (p + 1) ∷ to ∷ []
+nexts p (Some (i.Forup var to)) = (p + 1) ∷ to ∷ []
+nexts p (Some (i.Fordown var to)) = (p + 1) ∷ to ∷ []
+nexts p (Some (i.Nextup var to)) = to ∷ (p + 1) ∷ []
+nexts p (Some (i.Nextdown var to)) = to ∷ (p + 1) ∷ []
+nexts p (Some i.Return) = []
+nexts p (Some i.End) = []
+nexts p _ = (p + 1) ∷ []
+
+-- a number is in a list
+abbrev pub IsIn : ℕ → List ℕ → Type 0
+IsIn q [] = ⊥
+IsIn q (p ∷ ps) = (q ≡ p) ⊎ IsIn q ps
+
+-- these shapes are brought there
+abbrev pub IsBrought : ℕ → List Shape → List (ℕ × List Shape) → Type 0
+IsBrought q ts [] = ⊥
+IsBrought q ts (w ∷ ws) = ((q ≡ w.0) × (ts ≡ w.1)) ⊎ IsBrought q ts ws
+
+-- an instruction leads there with these shapes
+abbrev pub Leads : Shaped → ℕ → List Shape → Type 0
+Leads Wrong q ts = ⊥
+Leads (To ws) q ts = IsBrought q ts ws
+
+module _ (c : Parts) where
+  -- n steps lead from an instruction to another
+  abbrev pub Goes : ℕ → ℕ → ℕ → Type 0
+  Goes zero p q = p ≡ q
+  Goes (suc n) p q = (r : ℕ) × IsIn r (nexts p (instr_at c p)) × Goes n r q
+
+  -- an instruction is in the code of an area
+  pub record Passes (a : Area) (p : ℕ) : Type 0 where
+    pub steps : ℕ
+    pub way : Goes steps (entry c a) p
+
+  -- an area is there: its block has a layout, or its fork is in an area that is there, with that child
+  abbrev pub IsArea : Area → Type 0
+  IsArea (Body b) = (l : Layout) × (layout_of c.layouts b ≡ Some l)
+  IsArea (Child a p k) = IsArea a × Passes a p × ((t : ChildTable) × (child_at c p k ≡ Some t))
+
+  module _ (a : Area) where
+    -- a way of n instructions brings these shapes to an instruction
+    abbrev pub Brings : ℕ → ℕ → List Shape → Type 0
+    Brings zero p ss = (p ≡ entry c a) × (ss ≡ [])
+    Brings (suc n) q ts = (p : ℕ) × (ss : List Shape) × Brings n p ss × Leads (shaped c a (instr_at c p) p ss) q ts
+
+    -- some way brings them
+    pub record Reaches (p : ℕ) (ss : List Shape) : Type 0 where
+      pub steps : ℕ
+      pub way : Brings steps p ss
+
+    -- an instruction is whole, where these shapes are brought: no two differ, and it takes what it needs of them
+    abbrev pub IsWhole : (ℕ → List Shape → Type 0) → ℕ → Type 0
+    IsWhole Brought p = ((ss ts : List Shape) → Brought p ss → Brought p ts → ss ≡ ts)
+        × ((ss : List Shape) → Brought p ss → shaped c a (instr_at c p) p ss ≢ Wrong)
+
+    -- a way of at most n instructions brings these shapes, and goes on from an instruction only while all such ways
+    -- leave it whole
+    abbrev pub Arrives : ℕ → ℕ → List Shape → Type 0
+    Arrives zero p ss = (p ≡ entry c a) × (ss ≡ [])
+    Arrives (suc n) q ts = Arrives n q ts
+        ⊎ ((p : ℕ) × (ss : List Shape) × Arrives n p ss × IsWhole (Arrives n) p
+        × Leads (shaped c a (instr_at c p) p ss) q ts)

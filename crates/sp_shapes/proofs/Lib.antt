@@ -1,0 +1,13 @@
+pub mod Stacking
+pub mod Forms
+pub mod Takings
+pub mod Stepping
+pub mod Ways
+pub mod Searching
+pub mod Comparing
+pub mod Walks
+pub mod Starting
+pub mod Closing
+pub mod Reaching
+pub mod Formals
+pub mod Measuring

@@ -1,0 +1,32 @@
+-- A step by the form of an instruction is a step of the instruction.
+use Rattle.std.proofs.Common.{◌≡◌, ap, sym, ◌∙◌, ℕ, List, Option, Some, None}
+use Rattle.std.specs.Prelude.{Result, Ok, Err, IfOk}
+use Rattle.sp_code.specs.declared.instr.Instr.{Instr}
+use Rattle.sp_code.specs.declared.code.Parts.{Parts}
+use Rattle.sp_rules.specs.Areas.{Area, given, instr_at}
+use Rattle.sp_rules.specs.Shapes.{Shape, Wrong, shaped}
+use Rattle.sp_shapes.specs.declared.stacks.Stacks.{Stacks}
+use Rattle.sp_shapes.specs.declared.plans.Plan.{Plan}
+use Rattle.sp_shapes.specs.declared.steps.Step.{Step}
+use Rattle.sp_shapes.specs.declared.steps.Step.TheVariants as step
+use Rattle.sp_shapes.specs.Plans.{plan_at, by_plan}
+use Rattle.sp_shapes.specs.Steps.{IsStep}
+use Rattle.sp_shapes.proofs.Forms.{by_form}
+
+module _ (c : Parts) (a : Area) (p : ℕ) (ss : List Shape) (i : Instr) where
+  form : (o : Option Plan) → instr_at c p ≡ Some i → o ≡ plan_at c a i
+      → shaped c a (instr_at c p) p ss ≡ given Wrong o (λ pl. by_plan pl p ss)
+  form o e h = ap (λ (z : Option Instr). shaped c a z p ss) e ∙ by_form c a p ss i
+      ∙ ap (λ (z : Option Plan). given Wrong z (λ pl. by_plan pl p ss)) (sym h)
+
+  pub wrong_form : (st : Stacks) → instr_at c p ≡ Some i → None ≡ plan_at c a i
+      → IsStep st step.Wrong (shaped c a (instr_at c p) p ss)
+  wrong_form st e h = record { is = sym (form None e h); held = λ x b. absurd b }
+
+  pub right_form : (st : Stacks) (s : Step) (pl : Plan) → instr_at c p ≡ Some i → Some pl ≡ plan_at c a i
+      → IsStep st s (by_plan pl p ss) → IsStep st s (shaped c a (instr_at c p) p ss)
+  right_form st s pl e h k = record { is = k.is ∙ sym (form (Some pl) e h); held = k.held }
+
+pub each_ok : {T E : Type 0} (r : Result T E) (P Q : T → Type 0) → ((x : T) → P x → Q x) → IfOk r P → IfOk r Q
+each_ok (Ok x) P Q f h = f x h
+each_ok (Err e) P Q f h = tt

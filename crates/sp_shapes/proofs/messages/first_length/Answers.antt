@@ -1,0 +1,11 @@
+use Rattle.std.proofs.Common.{sym, subst}
+use Rattle.sp_areas.specs.Least.{IsLeast}
+use Rattle.sp_rules.specs.Rules.{BreaksV4}
+use Rattle.sp_shapes.proofs.Measuring.{least_length}
+use Rattle.sp_shapes.proofs.messages.first_length.Goals as goal
+
+pub returns : goal.returns
+returns c =
+    subst (IsLeast (BreaksV4 c.args.code.now)) (sym c.least.ensures)
+    (least_length c.args.code.now c.args.shapes.now c.requires c.in_ok-other.other c.first_lacking-lacking.result
+    c.in_ok-other.ensures c.first_lacking-lacking.ensures)

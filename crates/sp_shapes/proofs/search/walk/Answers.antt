@@ -1,0 +1,23 @@
+use Rattle.std.proofs.Common.{◌≡◌, sym, ap, Some}
+use Rattle.sp_shapes.specs.Search.{Walks, waiting}
+use Rattle.sp_shapes.proofs.Walks.{fails, goes_far, on_ok}
+use Rattle.sp_shapes.proofs.search.walk.Goals as goal
+
+pub returns-in-Wrong : goal.returns-in-Wrong
+returns-in-Wrong c =
+    fails c.args.code.now c.args.search.now c.args.p c.in-Some-Some.k c.step_from.new.stacks
+    (Some c.in-Some-Some.field-0) c.in-Some-Some.ensures (ap Some c.in-Some-Some.field-0-is)
+    (sym c.if-is_marked.ensures) c.step_from.ensures.stacks c.step_from.ensures.extends
+    c.in_ok-step_from.field-0 c.in_ok-step_from.ensures.goes c.mark.new.broken c.in-Wrong.is c.mark.ensures
+
+pub returns-in_ok-wait-in-To : goal.returns-in_ok-wait-in-To
+returns-in_ok-wait-in-To c =
+    on_ok c.wait-in-To.result (c.wait-in-To.new.arrivals ≡ waiting c.in-To.second c.wait.new.arrivals)
+    (Walks c.args.code.now c.args.search.now
+    (record c.args.search.now { stacks = c.step_from.new.stacks; arrivals = c.wait-in-To.new.arrivals }) c.args.p)
+    (λ d. goes_far c.args.code.now c.args.search.now c.args.p c.in-Some-Some.k c.step_from.new.stacks
+    (Some c.in-Some-Some.field-0) c.in-Some-Some.ensures (ap Some c.in-Some-Some.field-0-is)
+    (sym c.if-is_marked.ensures) c.step_from.ensures.stacks c.step_from.ensures.extends
+    c.in_ok-step_from.field-0 c.in_ok-step_from.ensures.goes c.in-To.first c.in-To.second c.wait.new.arrivals
+    c.wait-in-To.new.arrivals c.in-To.is c.in_ok-wait-in-To.ensures d)
+    c.wait-in-To.ensures

@@ -1,0 +1,9 @@
+pub mod Stacks
+pub mod Plans
+pub mod Taking
+pub mod Steps
+pub mod Search
+pub mod Starts
+pub mod Shapes
+pub mod Reached
+pub mod Lengths

@@ -1,0 +1,202 @@
+-- What each instruction takes from the stack, what it leaves there, and where it goes on: the rule in a few forms.
+use Rattle.std.specs.Prelude.{ℕ, ◌+◌, ◌-◌, List, [], ◌∷◌, Option, Some, None, if◌then◌else◌, length}
+use Rattle.sp_code.specs.declared.instr.Instr.{Instr}
+use Rattle.sp_code.specs.declared.instr.Instr.TheVariants as i
+use Rattle.sp_code.specs.declared.code.Layout.{Layout}
+use Rattle.sp_code.specs.declared.code.Parts.{Parts}
+use Rattle.sp_code.specs.Machine.{layout_of}
+use Rattle.sp_rules.specs.Areas.{Area, Found, variable_at}
+use Rattle.sp_rules.specs.Shapes.{Shape, Shaped, Wrong, To, on, either, take_o, take_c, take_a, take_value, take_same}
+use Rattle.sp_rules.specs.Shapes.{take_cells, take_all}
+use Rattle.sp_shapes.specs.declared.stacks.Shape.{Shape as Kept}
+use Rattle.sp_shapes.specs.declared.stacks.Shape.TheVariants as kept
+use Rattle.sp_shapes.specs.declared.plans.Kind.{Kind}
+use Rattle.sp_shapes.specs.declared.plans.Kind.TheVariants as kind
+use Rattle.sp_shapes.specs.declared.plans.Takes.{Takes}
+use Rattle.sp_shapes.specs.declared.plans.Takes.TheVariants as takes
+use Rattle.sp_shapes.specs.declared.plans.Leaves.{Leaves}
+use Rattle.sp_shapes.specs.declared.plans.Leaves.TheVariants as leaves
+use Rattle.sp_shapes.specs.declared.plans.Goes.{Goes}
+use Rattle.sp_shapes.specs.declared.plans.Goes.TheVariants as goes
+use Rattle.sp_shapes.specs.declared.plans.Plan.{Plan}
+use Rattle.sp_shapes.specs.Stacks.{shape_of}
+
+-- ---- the forms
+
+abbrev pub straight : Plan
+straight = record { takes = takes.Nothing; leaves = leaves.Nothing; goes = goes.Next }
+
+abbrev pub pushed : Kept → Plan
+pushed s = record { takes = takes.Nothing; leaves = leaves.One s; goes = goes.Next }
+
+abbrev pub two_to_one : Plan
+two_to_one = record { takes = takes.Two kind.Ordinal kind.Ordinal; leaves = leaves.One kept.Ordinal; goes = goes.Next }
+
+abbrev pub one_to_one : Plan
+one_to_one = record { takes = takes.One kind.Ordinal; leaves = leaves.One kept.Ordinal; goes = goes.Next }
+
+abbrev pub one_gone : Plan
+one_gone = record { takes = takes.One kind.Ordinal; leaves = leaves.Nothing; goes = goes.Next }
+
+abbrev pub two_gone : Plan
+two_gone = record { takes = takes.Two kind.Ordinal kind.Ordinal; leaves = leaves.Nothing; goes = goes.Next }
+
+abbrev pub read : Kept → Plan
+read s = record { takes = takes.One kind.Address; leaves = leaves.One s; goes = goes.Next }
+
+abbrev pub filled : Plan
+filled = record { takes = takes.One kind.Address; leaves = leaves.Nothing; goes = goes.Next }
+
+abbrev pub pair_gone : Kind → Kind → Plan
+pair_gone k j = record { takes = takes.Two k j; leaves = leaves.Nothing; goes = goes.Next }
+
+abbrev pub compared : Plan
+compared = record { takes = takes.Same; leaves = leaves.One kept.Ordinal; goes = goes.Next }
+
+abbrev pub last : Plan
+last = record { takes = takes.Last; leaves = leaves.Nothing; goes = goes.Nowhere }
+
+abbrev pub led : Takes → Leaves → Goes → Plan
+led t l g = record { takes = t; leaves = l; goes = g }
+
+-- an instruction that names no variable and calls no block
+abbrev pub plain : Instr → Plan
+plain (i.Const v) = pushed kept.Ordinal
+plain (i.Index low high size) = led (takes.Two kind.Ordinal kind.Address) (leaves.Inside size) goes.Next
+plain (i.Field k) = led (takes.One kind.Address) (leaves.Further k) goes.Next
+plain i.Load = read kept.Ordinal
+plain i.Loadc = read kept.Channel
+plain i.Store = pair_gone kind.Value kind.Address
+plain (i.Copy v) = pair_gone kind.Address kind.Address
+plain i.Add = two_to_one
+plain i.Sub = two_to_one
+plain i.Mul = two_to_one
+plain i.Div = two_to_one
+plain i.Mod = two_to_one
+plain i.Neg = one_to_one
+plain i.Abs = one_to_one
+plain i.Sqr = one_to_one
+plain i.Odd = one_to_one
+plain i.And = two_to_one
+plain i.Or = two_to_one
+plain i.Not = one_to_one
+plain i.Eq = compared
+plain i.Ne = compared
+plain i.Lt = two_to_one
+plain i.Le = two_to_one
+plain i.Gt = two_to_one
+plain i.Ge = two_to_one
+plain (i.Range low high) = one_to_one
+plain (i.Succ v) = one_to_one
+plain (i.Pred v) = one_to_one
+plain (i.Jump to) = led takes.Nothing leaves.Nothing (goes.There to)
+plain (i.Jumpf to) = led (takes.One kind.Ordinal) leaves.Nothing (goes.Either to)
+plain (i.Casej v to) = led (takes.One kind.Ordinal) (leaves.One kept.Ordinal) (goes.Past to)
+plain i.Nocase = one_gone
+plain i.Tick = straight
+plain i.Assume = one_gone
+plain (i.Forup var to) = led (takes.Two kind.Ordinal kind.Ordinal) (leaves.One kept.Ordinal) (goes.Past to)
+plain (i.Fordown var to) = led (takes.Two kind.Ordinal kind.Ordinal) (leaves.One kept.Ordinal) (goes.Past to)
+plain (i.Nextup var to) = led (takes.One kind.Ordinal) (leaves.One kept.Ordinal) (goes.Back to)
+plain (i.Nextdown var to) = led (takes.One kind.Ordinal) (leaves.One kept.Ordinal) (goes.Back to)
+plain i.Return = last
+plain i.ReadInt = filled
+plain i.ReadChar = filled
+plain i.Readln = straight
+plain i.Eof = pushed kept.Ordinal
+plain i.Eoln = pushed kept.Ordinal
+plain i.WriteInt = one_gone
+plain i.WriteChar = one_gone
+plain i.WriteBool = one_gone
+plain (i.WriteText v) = straight
+plain i.WritewInt = two_gone
+plain i.WritewChar = two_gone
+plain i.WritewBool = two_gone
+plain (i.WritewText v) = one_gone
+plain i.Writeln = straight
+plain (i.Pack k) = read (kept.Cells k)
+plain i.Open = filled
+plain (i.Send v) = pair_gone kind.Message kind.Channel
+plain (i.Receive v) = pair_gone kind.Address kind.Channel
+plain (i.Fork v) = straight
+plain (i.Forall v) = two_gone
+plain i.End = last
+plain _ = straight
+
+-- one that names a variable, and a call
+abbrev pub addressed : Option Found → Option Plan
+addressed None = None
+addressed (Some f) = Some (pushed (kept.Address f.number f.cells))
+
+abbrev pub calling : Layout → Plan
+calling l = led (takes.Many (length l.formals)) (if l.answer then leaves.One kept.Ordinal else leaves.Nothing) goes.Next
+
+abbrev pub called : Option Layout → Option Plan
+called None = None
+called (Some l) = Some (calling l)
+
+-- an instruction in an area
+abbrev pub plan_at : Parts → Area → Instr → Option Plan
+plan_at c a (i.Addr up var) = addressed (variable_at c a up var)
+plan_at c a (i.Deref up var) = addressed (variable_at c a up var)
+plan_at c a (i.Call b up) = called (layout_of c.layouts b)
+plan_at c a o = Some (plain o)
+
+-- ---- what the forms do
+
+-- an operand of a kind is taken; of an address the variable and the cells left go on too
+abbrev pub take_one : Kind → List Shape → (ℕ → ℕ → List Shape → Shaped) → Shaped
+take_one kind.Ordinal ss go = take_o ss (go 0 0)
+take_one kind.Channel ss go = take_c ss (go 0 0)
+take_one kind.Address ss go = take_a ss go
+take_one kind.Value ss go = take_value ss (go 0 0)
+take_one kind.Message ss go = take_cells ss (λ n. go 0 0)
+
+-- nothing may be there
+abbrev pub take_last : List Shape → (List Shape → Shaped) → Shaped
+take_last [] go = go []
+take_last (s ∷ ss) go = Wrong
+
+abbrev pub take : Takes → List Shape → (ℕ → ℕ → List Shape → Shaped) → Shaped
+take takes.Nothing ss go = go 0 0 ss
+take (takes.One k) ss go = take_one k ss go
+take (takes.Two k j) ss go = take_one k ss (λ x n s1. take_one j s1 go)
+take takes.Same ss go = take_same ss (go 0 0)
+take (takes.Many n) ss go = take_all n ss (go 0 0)
+take takes.Last ss go = take_last ss (go 0 0)
+
+-- the shape that is left, by the variable and the cells left of the address that was taken
+abbrev pub left : Leaves → ℕ → ℕ → Option Kept
+left leaves.Nothing x n = None
+left (leaves.One s) x n = Some s
+left (leaves.Inside size) x n = Some (kept.Address x size)
+left (leaves.Further k) x n = Some (kept.Address x (n - k))
+
+abbrev pub topped : Option Kept → List Shape → List Shape
+topped None ss = ss
+topped (Some s) ss = shape_of s ∷ ss
+
+-- on from p, with what is left on top and with the rest alone
+abbrev pub go_on : Goes → ℕ → List Shape → List Shape → Shaped
+go_on goes.Nowhere p ts ss = To []
+go_on goes.Next p ts ss = on (p + 1) ts
+go_on (goes.There to) p ts ss = on to ts
+go_on (goes.Either to) p ts ss = either (p + 1) ts to ts
+go_on (goes.Past to) p ts ss = either (p + 1) ts to ss
+go_on (goes.Back to) p ts ss = either to ts (p + 1) ss
+
+-- where that is
+abbrev pub goes_to : Goes → ℕ → List ℕ
+goes_to goes.Nowhere p = []
+goes_to goes.Next p = (p + 1) ∷ []
+goes_to (goes.There to) p = to ∷ []
+goes_to (goes.Either to) p = (p + 1) ∷ to ∷ []
+goes_to (goes.Past to) p = (p + 1) ∷ to ∷ []
+goes_to (goes.Back to) p = to ∷ (p + 1) ∷ []
+
+-- what was taken is gone, and it goes on with what is left
+abbrev pub goes_with : Plan → ℕ → ℕ → ℕ → List Shape → Shaped
+goes_with pl p x n ss = go_on pl.goes p (topped (left pl.leaves x n) ss) ss
+
+abbrev pub by_plan : Plan → ℕ → List Shape → Shaped
+by_plan pl p ss = take pl.takes ss (goes_with pl p)

@@ -1,0 +1,54 @@
+-- Where ways begin: at the entry of each area that is there, with no operands.
+use Rattle.std.specs.Prelude.{◌≡◌, ◌⊎◌, ℕ, ◌<◌, List, Some, Bool, true, false, slice_get, length}
+use Rattle.sp_code.specs.declared.code.Layout.{Layout}
+use Rattle.sp_code.specs.declared.code.ChildTable.{ChildTable}
+use Rattle.sp_code.specs.declared.code.Parts.{Parts}
+use Rattle.sp_code.specs.Machine.{layout_of}
+use Rattle.sp_rules.specs.Areas.{Area, child_at, entry}
+use Rattle.sp_rules.specs.Reach.{IsArea}
+use Rattle.sp_rules.specs.Named.{LiesIn}
+use Rattle.sp_areas.specs.declared.owners.Owner.{Owner}
+use Rattle.sp_areas.specs.declared.owners.Owner.TheVariants as owner
+use Rattle.sp_shapes.specs.declared.steps.Arrival.{Arrival}
+use Rattle.sp_shapes.specs.Search.{IsAmong}
+
+-- the empty list, brought there
+abbrev pub start : ℕ → Arrival
+start q = record { at = q; list = 0 }
+
+-- so many items, and each is this one
+abbrev pub AreAll : {T : Type 0} → T → ℕ → List T → Type 0
+AreAll {T} x n xs = (length xs ≡ n) × ((p : ℕ) (y : T) → slice_get xs p ≡ Some y → y ≡ x)
+
+-- an area begins there
+abbrev pub IsEntry : Parts → ℕ → Type 0
+IsEntry c q = (a : Area) × IsArea c a × (entry c a ≡ q)
+
+-- starts are added, only where areas begin, and wherever this holds
+pub record Adds (c : Parts) (Q : ℕ → Type 0) (old new : List Arrival) : Type 0 where
+  pub keeps : (x : Arrival) → IsAmong x old → IsAmong x new
+  pub true_of : (x : Arrival) → IsAmong x new → IsAmong x old ⊎ ((x ≡ start x.at) × IsEntry c x.at)
+  pub has : (q : ℕ) → Q q → IsAmong (start q) new
+
+-- one of the first layouts is its block's, and begins there
+abbrev pub IsOfLayouts : Parts → ℕ → ℕ → Type 0
+IsOfLayouts c n q = (j : ℕ) × (l m : Layout) × (j < n) × (slice_get c.layouts j ≡ Some l)
+    × (layout_of c.layouts l.block ≡ Some m) × (m.entry ≡ q)
+
+-- one of the first children begins there
+abbrev pub IsOfChildren : List ChildTable → ℕ → ℕ → Type 0
+IsOfChildren ts n q = (k : ℕ) × (ch : ChildTable) × (k < n) × (slice_get ts k ≡ Some ch) × (ch.entry ≡ q)
+
+-- a child that an instruction of an area makes begins there
+abbrev pub IsMadeAt : Parts → ℕ → ℕ → Type 0
+IsMadeAt c p q = (k : ℕ) × (ch : ChildTable) × (child_at c p k ≡ Some ch) × (ch.entry ≡ q) × ((a : Area) × LiesIn c p a)
+
+-- one of the first instructions makes it
+abbrev pub IsMade : Parts → ℕ → ℕ → Type 0
+IsMade c n q = (p : ℕ) × (p < n) × IsMadeAt c p q
+
+abbrev pub is_nobody : Owner → Bool
+is_nobody owner.Nobody = true
+is_nobody (owner.Block b) = false
+is_nobody (owner.Child p k) = false
+is_nobody owner.Several = false

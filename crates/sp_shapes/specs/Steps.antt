@@ -1,0 +1,28 @@
+-- Where an instruction leads, and with which lists of shapes.
+use Rattle.std.specs.Prelude.{◌≡◌, ◌⊎◌, ℕ, List, [], ◌∷◌, Option, Some, None}
+use Rattle.sp_rules.specs.Shapes.{Shape, Shaped, Wrong, To}
+use Rattle.sp_shapes.specs.declared.stacks.Stacks.{Stacks}
+use Rattle.sp_shapes.specs.declared.steps.Arrival.{Arrival}
+use Rattle.sp_shapes.specs.declared.steps.Step.{Step}
+use Rattle.sp_shapes.specs.declared.steps.Step.TheVariants as step
+use Rattle.sp_shapes.specs.Stacks.{Holds, list_of}
+
+-- with one more, if it is there
+abbrev pub brought : Stacks → Option Arrival → List (ℕ × List Shape) → List (ℕ × List Shape)
+brought st None ws = ws
+brought st (Some x) ws = (x.at, list_of st x.list) ∷ ws
+
+-- what a step means
+abbrev pub shaped_by : Stacks → Step → Shaped
+shaped_by st step.Wrong = Wrong
+shaped_by st (step.To f s) = To (brought st f (brought st s []))
+
+-- an arrival is of a step
+abbrev pub Brings : Step → Arrival → Type 0
+Brings step.Wrong x = ⊥
+Brings (step.To f s) x = (f ≡ Some x) ⊎ (s ≡ Some x)
+
+-- a step means this, and its lists are there
+pub record IsStep (st : Stacks) (o : Step) (sh : Shaped) : Type 0 where
+  pub is : shaped_by st o ≡ sh
+  pub held : (x : Arrival) → Brings o x → Holds st x.list

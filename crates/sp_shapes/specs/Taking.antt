@@ -1,0 +1,34 @@
+-- What is left of a list of shapes where something was taken from it.
+use Rattle.std.specs.Prelude.{◌≡◌, ℕ, List, Option, Some, Bool, true, false}
+use Rattle.sp_rules.specs.Areas.{given}
+use Rattle.sp_rules.specs.Shapes.{Shape, Shaped, Wrong}
+use Rattle.sp_shapes.specs.declared.stacks.Shape.{Shape as Kept}
+use Rattle.sp_shapes.specs.declared.stacks.Shape.TheVariants as kept
+use Rattle.sp_shapes.specs.declared.stacks.Stacks.{Stacks}
+use Rattle.sp_shapes.specs.declared.plans.Kind.{Kind}
+use Rattle.sp_shapes.specs.declared.plans.Kind.TheVariants as kind
+use Rattle.sp_shapes.specs.declared.taking.Taken.{Taken}
+use Rattle.sp_shapes.specs.Stacks.{Holds, list_of}
+
+-- a shape is of a kind
+abbrev pub admits : Kind → Kept → Bool
+admits kind.Ordinal kept.Ordinal = true
+admits kind.Channel kept.Channel = true
+admits kind.Address (kept.Address x n) = true
+admits kind.Value kept.Ordinal = true
+admits kind.Value kept.Channel = true
+admits kind.Message kept.Ordinal = true
+admits kind.Message kept.Channel = true
+admits kind.Message (kept.Cells n) = true
+admits k s = false
+
+-- what is left where a shape was taken
+abbrev pub taken_of : Kept → ℕ → Taken
+taken_of (kept.Address x n) r = record { variable = x; left = n; rest = r }
+taken_of s r = record { variable = 0; left = 0; rest = r }
+
+-- this is what goes on where something is taken, and nothing goes on where that is not there
+pub record IsTaken (st : Stacks) (take : (ℕ → ℕ → List Shape → Shaped) → Shaped) (o : Option Taken) : Type 0 where
+  pub goes : (go : ℕ → ℕ → List Shape → Shaped) → take go
+      ≡ given Wrong o (λ t. go t.variable t.left (list_of st t.rest))
+  pub held : (t : Taken) → o ≡ Some t → Holds st t.rest

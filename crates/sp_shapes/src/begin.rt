@@ -1,0 +1,149 @@
+//! Where ways begin.
+
+ghost use Rattle.std.specs.Prelude.{◌≡◌, ℕ, OnOk, IfOk, None, Some, [], false, length, slice_get};
+ghost use Rattle.sp_areas.specs.Blocks.{IsNumbered};
+ghost use Rattle.sp_areas.specs.Owners.{AreOwners, Owns};
+ghost use Rattle.sp_code.specs.declared.code.ChildTable.{ChildTable};
+ghost use Rattle.sp_rules.specs.Areas.{table_named};
+ghost use Rattle.sp_shapes.specs.Search.{AreCompared};
+ghost use Rattle.sp_shapes.specs.Starts.{Adds, AreAll, IsEntry, IsMade, IsMadeAt, IsOfChildren, IsOfLayouts, is_nobody};
+
+use crate::search::Search;
+use crate::stacks::Stacks;
+use crate::steps::Arrival;
+use sp_areas::blocks::Blocks;
+use sp_areas::owners::Owner;
+use sp_base::{List, Memory};
+use sp_code::{ChildTable, Code, Instr};
+use std::alloc::Global;
+
+fn start(code: &Code, arrivals: &mut List<Arrival>, at: u32) -> Result<(), Memory>
+    requires { IsEntry code.now at }
+    ensures { OnOk result (Adds code.now (λ q. q ≡ at) arrivals.old arrivals.new) }
+{
+    arrivals.push(Arrival { at, list: 0 })?;
+    Ok(())
+}
+
+// At the entry of each block.
+fn begin_blocks(code: &Code, blocks: &Blocks, arrivals: &mut List<Arrival>) -> Result<(), Memory>
+    requires { IsNumbered blocks.now.first code.now.layouts }
+    ensures { OnOk result (Adds code.now (IsOfLayouts code.now (length code.now.layouts)) arrivals.old arrivals.new) }
+{
+    let layouts = &code.parts().layouts;
+    for l in layouts.items() {
+        match blocks.find(layouts, l.block) {
+            None => {}
+            Some(m) => start(code, arrivals, m.entry)?,
+        }
+    }
+    Ok(())
+}
+
+// At the entry of each of these children.
+fn begin_children(
+    code: &Code,
+    children: &[ChildTable],
+    arrivals: &mut List<Arrival>,
+) -> Result<(), Memory>
+    requires { (k : ℕ) (ch : ChildTable) → slice_get children.now k ≡ Some ch → IsEntry code.now ch.entry }
+    ensures { OnOk result (Adds code.now (IsOfChildren children.now (length children.now)) arrivals.old arrivals.new) }
+{
+    for child in children {
+        start(code, arrivals, child.entry)?;
+    }
+    Ok(())
+}
+
+fn table_named(instr: Instr) -> Option<u32>
+    ensures { result ≡ table_named (Some instr) }
+{
+    match instr {
+        Instr::Fork(t) => Some(t),
+        Instr::Forall(t) => Some(t),
+        _ => None,
+    }
+}
+
+fn is_nobody(o: Owner) -> bool
+    ensures { result ≡ is_nobody o }
+{
+    match o {
+        Owner::Nobody => true,
+        _ => false,
+    }
+}
+
+// At the entries of the children that an instruction makes, if it lies in an area.
+fn begin_at(code: &Code, arrivals: &mut List<Arrival>, p: u32, o: Owner) -> Result<(), Memory>
+    requires { Owns code.now p o }
+    ensures { OnOk result (Adds code.now (IsMadeAt code.now p) arrivals.old arrivals.new) }
+{
+    if is_nobody(o) {
+        return Ok(());
+    }
+    let instr = match code.instr(p) {
+        None => return Ok(()),
+        Some(instr) => instr,
+    };
+    let t = match table_named(instr) {
+        None => return Ok(()),
+        Some(t) => t,
+    };
+    match code.table(t) {
+        None => Ok(()),
+        Some(table) => begin_children(code, table.children.items(), arrivals),
+    }
+}
+
+// At the entries of all children.
+fn begin_forks(
+    code: &Code,
+    owners: &List<Owner>,
+    arrivals: &mut List<Arrival>,
+) -> Result<(), Memory>
+    requires { AreOwners code.now owners.now }
+    ensures { OnOk result (Adds code.now (IsMade code.now (length code.now.instrs)) arrivals.old arrivals.new) }
+{
+    let count = code.parts().instrs.len();
+    for p in 0..count {
+        let o = owners.items()[p];
+        begin_at(code, arrivals, p as u32, o)?;
+    }
+    Ok(())
+}
+
+fn no_lists(alloc: Global, count: usize) -> Result<List<Option<u32>>, Memory>
+    ensures { IfOk result (λ xs. AreAll None count xs) }
+{
+    Ok(List::of(vec![in alloc; None; count]?))
+}
+
+fn no_marks(alloc: Global, count: usize) -> Result<List<bool>, Memory>
+    ensures { IfOk result (λ xs. AreAll false count xs) }
+{
+    Ok(List::of(vec![in alloc; false; count]?))
+}
+
+/// What is kept at first: that ways begin at the entry of each area, with no operands.
+pub(crate) fn begin(code: &Code, blocks: &Blocks, owners: &List<Owner>) -> Result<Search, Memory>
+    requires blocks { IsNumbered blocks.now.first code.now.layouts }
+    requires owners { AreOwners code.now owners.now }
+    ensures { IfOk result (λ search. AreCompared code.now search × (search.frontier ≡ [])) }
+{
+    let parts = code.parts();
+    let alloc = parts.instrs.alloc();
+    let count = parts.instrs.len();
+    let mut arrivals = List::new(alloc);
+    begin_blocks(code, blocks, &mut arrivals)?;
+    begin_forks(code, owners, &mut arrivals)?;
+    let at = no_lists(alloc, count)?;
+    let broken = no_marks(alloc, count)?;
+    Ok(Search {
+        stacks: Stacks::new(alloc),
+        at,
+        broken,
+        frontier: List::new(alloc),
+        arrivals,
+    })
+}

@@ -1,0 +1,172 @@
+//! Where an instruction leads, and with which lists of shapes.
+
+ghost use Rattle.std.specs.Prelude.{◌≡◌, ◌<◌, IfOk, length};
+ghost use Rattle.sp_areas.specs.Blocks.{IsNumbered};
+ghost use Rattle.sp_areas.specs.Homes.{AreHomes};
+ghost use Rattle.sp_areas.specs.Only.{LiesOnlyIn};
+ghost use Rattle.sp_rules.specs.Areas.{Area, instr_at};
+ghost use Rattle.sp_rules.specs.Shapes.{shaped};
+ghost use Rattle.sp_shapes.specs.declared.stacks.Stacks.{Stacks};
+ghost use Rattle.sp_shapes.specs.Plans.{by_plan, go_on, goes_with, left, topped};
+ghost use Rattle.sp_shapes.specs.Stacks.{Extends, Holds, IsStacks, list_of};
+ghost use Rattle.sp_shapes.specs.Steps.{IsStep};
+
+use crate::plans::{Goes, Leaves, Plan, planned};
+use crate::stacks::{Shape, Stacks};
+use crate::taking::{Taken, take};
+use sp_areas::blocks::Blocks;
+use sp_areas::homes::Homes;
+use sp_base::Memory;
+use sp_code::Code;
+
+/// A list of shapes, by its number, that is brought to an instruction.
+#[derive(Clone, Copy)]
+pub struct Arrival {
+    pub at: u32,
+    pub list: u32,
+}
+
+/// Where an instruction leads.
+#[derive(Clone, Copy)]
+pub enum Step {
+    /// An operand is missing, of the wrong shape or left over.
+    Wrong,
+    /// To up to two instructions.
+    To {
+        first: Option<Arrival>,
+        second: Option<Arrival>,
+    },
+}
+
+// Where it goes on, with what is left on top and with the rest alone.
+fn go_on(goes: Goes, p: u32, top: u32, rest: u32) -> Step
+    requires { p < 1048576 }
+    ensures { (st : Stacks) → Holds st top → Holds st rest
+        → IsStep st result (go_on goes p (list_of st top) (list_of st rest)) }
+{
+    let next = Arrival {
+        at: p + 1,
+        list: top,
+    };
+    match goes {
+        Goes::Nowhere => Step::To {
+            first: None,
+            second: None,
+        },
+        Goes::Next => Step::To {
+            first: Some(next),
+            second: None,
+        },
+        Goes::There(to) => Step::To {
+            first: Some(Arrival { at: to, list: top }),
+            second: None,
+        },
+        Goes::Either(to) => Step::To {
+            first: Some(next),
+            second: Some(Arrival { at: to, list: top }),
+        },
+        Goes::Past(to) => Step::To {
+            first: Some(next),
+            second: Some(Arrival { at: to, list: rest }),
+        },
+        Goes::Back(to) => Step::To {
+            first: Some(Arrival { at: to, list: top }),
+            second: Some(Arrival {
+                at: p + 1,
+                list: rest,
+            }),
+        },
+    }
+}
+
+// The shape that is left.
+fn left(leaves: Leaves, t: Taken) -> Option<Shape>
+    ensures { result ≡ left leaves t.variable t.left }
+{
+    match leaves {
+        Leaves::Nothing => None,
+        Leaves::One(shape) => Some(shape),
+        Leaves::Inside(size) => Some(Shape::Address {
+            variable: t.variable,
+            left: size,
+        }),
+        Leaves::Further(k) => Some(Shape::Address {
+            variable: t.variable,
+            left: t.left.saturating_sub(k),
+        }),
+    }
+}
+
+// Puts a shape on top, if there is one.
+fn top(stacks: &mut Stacks, shape: Option<Shape>, rest: u32) -> Result<u32, Memory>
+    requires stacks { IsStacks stacks.old }
+    requires there { Holds stacks.old rest }
+    ensures stacks { IsStacks stacks.new }
+    ensures extends { Extends stacks.old stacks.new }
+    ensures topped { IfOk result (λ n. Holds stacks.new n
+        × (list_of stacks.new n ≡ topped shape (list_of stacks.old rest))) }
+{
+    match shape {
+        None => Ok(rest),
+        Some(shape) => stacks.push(shape, rest),
+    }
+}
+
+// Leaves what is left, and goes on.
+fn leave(stacks: &mut Stacks, plan: Plan, p: u32, t: Taken) -> Result<Step, Memory>
+    requires stacks { IsStacks stacks.old }
+    requires there { Holds stacks.old t.rest }
+    requires small { p < 1048576 }
+    ensures stacks { IsStacks stacks.new }
+    ensures extends { Extends stacks.old stacks.new }
+    ensures goes { IfOk result (λ step. IsStep stacks.new step
+        (goes_with plan p t.variable t.left (list_of stacks.old t.rest))) }
+{
+    let n = top(stacks, left(plan.leaves, t), t.rest)?;
+    Ok(go_on(plan.goes, p, n, t.rest))
+}
+
+// Does what an instruction does to the shapes.
+fn carry_out(stacks: &mut Stacks, plan: Plan, p: u32, s: u32) -> Result<Step, Memory>
+    requires stacks { IsStacks stacks.old }
+    requires there { Holds stacks.old s }
+    requires small { p < 1048576 }
+    ensures stacks { IsStacks stacks.new }
+    ensures extends { Extends stacks.old stacks.new }
+    ensures goes { IfOk result (λ step. IsStep stacks.new step (by_plan plan p (list_of stacks.old s))) }
+{
+    match take(stacks, plan.takes, s) {
+        None => Ok(Step::Wrong),
+        Some(t) => leave(stacks, plan, p, t),
+    }
+}
+
+/// Where the instruction at p leads with these shapes, if it stands in one area alone.
+pub(crate) fn step_from(
+    code: &Code,
+    blocks: &Blocks,
+    homes: &Homes,
+    stacks: &mut Stacks,
+    p: u32,
+    s: u32,
+) -> Result<Step, Memory>
+    requires blocks { IsNumbered blocks.now.first code.now.layouts }
+    requires homes { AreHomes code.now homes.now }
+    requires stacks { IsStacks stacks.old }
+    requires held { Holds stacks.old s }
+    requires there { p < length code.now.instrs }
+    requires small { p < 1048576 }
+    ensures stacks { IsStacks stacks.new }
+    ensures extends { Extends stacks.old stacks.new }
+    ensures goes { IfOk result (λ step. (a : Area) → LiesOnlyIn code.now p a
+        → IsStep stacks.new step (shaped code.now a (instr_at code.now p) p (list_of stacks.old s))) }
+{
+    let instr = match code.instr(p) {
+        None => return Ok(Step::Wrong),
+        Some(instr) => instr,
+    };
+    match planned(code, blocks, homes, p, instr) {
+        None => Ok(Step::Wrong),
+        Some(plan) => carry_out(stacks, plan, p, s),
+    }
+}
