@@ -21,7 +21,8 @@ use Rattle.sp_meaning.specs.Ends as meant
 use Rattle.sp_code.specs.Machine.{Stop, Forks, Opens, Sends, Receives, Ends, Pauses}
 use Rattle.sp_code.specs.Memory as memory
 use Rattle.sp_code.specs.PlainStore.{plain}
-use Rattle.sp_code.specs.System.{System, Condition, Absent, Working, Waits, Joins, Laid, Gone, Over, IsSystem, Leads, store_in, opening}
+use Rattle.sp_code.specs.System.{System, Condition, Absent, Working, Waits, Joins, Laid, Gone, Over, IsSystem, Leads}
+use Rattle.sp_code.specs.System.{store_in, opening}
 use Rattle.sp_history.specs.Agreement.{Finished, phase_in}
 use Rattle.sp_history.specs.Holding.{IsOutputOf}
 use Rattle.sp_kernel.specs.Faults.{fault_in, fault_by}
@@ -44,8 +45,14 @@ has_fault (x ∷ es) p f e = by (has_fault es p f) x.event refl e
     one : {x y : ℕ × Fault} → Some x ≡ Some y → x ≡ y
     one e = cc e
 
-    by : (fault_in es ≡ Some (p, f) → HasFaultEntry es p f) → (y : Event) → x.event ≡ y → fault_by x.process y (fault_in es) ≡ Some (p, f) → (x ≡ record { process = p; event = event.Fault f }) ⊎ HasFaultEntry es p f
-    by on (event.Fault h) i e = inl (λ j. record { process = (one e j).0; event = (i ∙ ap (λ (z : ℕ × Fault). event.Fault z.1) (one e)) j })
+    by : (fault_in es ≡ Some (p, f) → HasFaultEntry es p f) → (y : Event) → x.event ≡ y
+        → fault_by x.process y (fault_in es) ≡ Some (p, f) → (x ≡ record { process = p; event = event.Fault f })
+        ⊎ HasFaultEntry es p f
+    by on (event.Fault h) i e = inl (λ j. record {
+      process = (one e j).0;
+      event = (i
+          ∙ ap (λ (z : ℕ × Fault). event.Fault z.1) (one e)) j;
+    })
     by on (event.Fork n) i e = inr (on e)
     by on event.Open i e = inr (on e)
     by on (event.Send c) i e = inr (on e)
@@ -55,12 +62,16 @@ has_fault (x ∷ es) p f e = by (has_fault es p f) x.event refl e
     by on event.Pause i e = inr (on e)
 
 -- what the entries have given to a system is what they give
-births_are : (g : memory.Setting) (es : List Entry) (s t : System Plain) → Leads plain g s es t → t.births ≡ births_from s.births es
+births_are : (g : memory.Setting) (es : List Entry) (s t : System Plain) → Leads plain g s es t
+    → t.births ≡ births_from s.births es
 births_are g [] s t h = ap (λ (y : System Plain). y.births) h
 births_are g (e ∷ es) s t h =
-    births_are g es h.0 t h.2 ∙ ap (λ (y : System Plain). births_from y.births es) h.1.5 ∙ ap (λ y. births_from (after_event s.births e.process y) es) h.1.4
+    births_are g es h.0 t h.2 ∙ ap (λ (y : System Plain). births_from y.births es) h.1.5
+    ∙ ap (λ y. births_from (after_event s.births e.process y) es) h.1.4
 
-module _ (g : Setting) (moves shares : Stmt → List ℕ) (pause : ℕ) (ready : IsReady g moves shares) (es : List Entry) (t : System Plain) (h : IsSystem plain (run_by g moves shares pause) es t) where
+module _ (g : Setting) (moves shares : Stmt
+    → List ℕ) (pause : ℕ) (ready : IsReady g moves shares) (es : List Entry) (t : System Plain)
+    (h : IsSystem plain (run_by g moves shares pause) es t) where
   pub names : NameableFrom at_start es
   names = names_on g moves shares pause ready es t h
 
@@ -71,7 +82,8 @@ module _ (g : Setting) (moves shares : Stmt → List ℕ) (pause : ℕ) (ready :
   lawful = subst (λ (b : Births). Lawful b) (sym births_here) (lawful_births es names)
 
   unborn : (q : ℕ) → t.births.processes ≤ q → t.condition q ≡ Absent
-  unborn q l = let z = linked_along (ground g moves shares pause ready es names) ready.main ready.first es names refl t h in z.linked.unborn q l
+  unborn q l = let z = linked_along
+      (ground g moves shares pause ready es names) ready.main ready.first es names refl t h in z.linked.unborn q l
 
   pub means : (n : ℕ) × (s : StateOf g) × IsAlong g pause (occurrences_from at_start es) n s
   means = program_means g moves shares pause ready es names t h
@@ -82,7 +94,8 @@ module _ (g : Setting) (moves shares : Stmt → List ℕ) (pause : ℕ) (ready :
         let mine = program_output g moves shares pause ready es names t h n s k in
         let holder : mine.0 ≡ q = o.only mine.0 mine.1 (output_of g s) mine.2 mine.3 in
         let store : Some o.store ≡ Some mine.1 = sym o.at ∙ ap (λ y. store_in (t.condition y)) (sym holder) ∙ mine.2 in
-        bytes_same text (output_of g s) (sym o.output ∙ ap (λ y. plain.output y) (store_same o.store mine.1 store) ∙ mine.3)
+        bytes_same text (output_of g s) (sym o.output ∙ ap (λ y. plain.output y) (store_same o.store mine.1 store)
+        ∙ mine.3)
       where
         store_same : (x y : Plain) → Some x ≡ Some y → x ≡ y
         store_same x y e = cc e
@@ -113,9 +126,14 @@ module _ (g : Setting) (moves shares : Stmt → List ℕ) (pause : ℕ) (ready :
 
     pub same_end : (e : End) → EndsAt es t e → EndIs g s e
     same_end end.Done d = over d.0
-    same_end (end.Deadlock ws) d = let z = stuck t lawful unborn ws d in (z.0, program_stuck g moves shares pause ready es t h n s k z.0 z.1, z.2)
-    same_end (end.Fault name f) d =
-        ((births_from at_start es).name d.0, program_fault g moves shares pause ready es t h n s k d.0 f (has_fault es d.0 f d.1), d.2 ∙ ap (λ (b : Births). proc_name (b.name d.0)) births_here)
+    same_end (end.Deadlock ws) d = let z = stuck t lawful unborn ws d in
+        (z.0, program_stuck g moves shares pause ready es t h n s k z.0 z.1, z.2)
+    same_end (end.Fault name f) d = (
+      (births_from at_start es).name d.0,
+      program_fault g moves shares pause ready es t h n s k d.0 f
+          (has_fault es d.0 f d.1),
+      d.2 ∙ ap (λ (b : Births). proc_name (b.name d.0)) births_here,
+    )
     same_end end.Memory d = absurd d
 
 pub concluded : (g : Setting) (moves shares : Stmt → List ℕ) (c : Closed) → IsRunOfCode g moves shares c → IsAbout g c
@@ -129,6 +147,7 @@ concluded g moves shares c r =
       steps = z.0;
       state = z.1;
       along = z.2;
-      output = same_output g moves shares TURN_TICKS r.ready es t h z.0 z.1 z.2 r.gives.output.0 c.output r.gives.output.1;
+      output = same_output g moves shares TURN_TICKS r.ready es t h z.0 z.1 z.2 r.gives.output.0 c.output
+          r.gives.output.1;
       end = same_end g moves shares TURN_TICKS r.ready es t h z.0 z.1 z.2 c.end r.gives.end;
     }

@@ -1,5 +1,6 @@
 -- What the machine says of a journal with the code of a program is what the program means along it (`followed`).
-use Rattle.std.proofs.Common.{◌≡◌, ℕ, zero, suc, List, [], ◌∷◌, take, Option, Some, None, Result, Ok, Err, refl, sym, ap, ◌∙◌, subst}
+use Rattle.std.proofs.Common.{◌≡◌, ℕ, zero, suc, List, [], ◌∷◌, take, Option, Some, None, Result, Ok, Err, refl, sym}
+use Rattle.std.proofs.Common.{ap, ◌∙◌, subst}
 use Rattle.sp_base.specs.declared.limits.Limits.{Limits}
 use Rattle.sp_base.specs.declared.limits.TheConstants.{TURN_TICKS}
 use Rattle.sp_base.specs.declared.fault.Fault.{Fault}
@@ -59,47 +60,56 @@ works (Over d) e = absurd (cc e)
 
 module _ (g : Setting) (moves shares : Stmt → List ℕ) (ready : IsReady g moves shares) where
   -- a system that goes on is at no end of the program
-  goes_on : (es : List Entry) (t : System Plain) (h : IsSystem plain (run_by g moves shares TURN_TICKS) es t) (n : ℕ) (s : StateOf g) → IsAlong g TURN_TICKS (occurrences_from at_start es) n s
+  goes_on : (es : List Entry) (t : System Plain) (h : IsSystem plain (run_by g moves shares TURN_TICKS) es t) (n : ℕ)
+      (s : StateOf g) → IsAlong g TURN_TICKS (occurrences_from at_start es) n s
       → machine.GoesOn t → (e : End) → EndIs g s e → ⊥
   goes_on es t h n s k on end.Done d =
-      let over = program_over g moves shares TURN_TICKS ready es (names g moves shares TURN_TICKS ready es t h) t h n s k d in
+      let over = program_over g moves shares TURN_TICKS ready es
+      (names g moves shares TURN_TICKS ready es t h) t h n s k d in
       on.root (ap (λ y. phase_in y) over.1)
   goes_on es t h n s k on (end.Deadlock ws) d =
       let stuck = program_deadlock g moves shares TURN_TICKS ready es t h n s k d.0 d.1 in
       let runs = works (t.condition on.runs.0) on.runs.1 in
       stuck.idle on.runs.0 runs.0 runs.1
-  goes_on es t h n s k on (end.Fault p f) d = none (sym (program_quiet g moves shares TURN_TICKS ready es t h n s k on.quiet) ∙ d.1)
+  goes_on es t h n s k on (end.Fault p f) d = none
+      (sym (program_quiet g moves shares TURN_TICKS ready es t h n s k on.quiet) ∙ d.1)
     where
       none : {x : Name × Fault} → None ≡ Some x → ⊥
       none e = cc e
   goes_on es t h n s k on end.Memory d = absurd d
 
-  ends : (es : List Entry) (t : System Plain) (h : IsSystem plain (run_by g moves shares TURN_TICKS) es t) (n : ℕ) (s : StateOf g) → IsAlong g TURN_TICKS (occurrences_from at_start es) n s
+  ends : (es : List Entry) (t : System Plain) (h : IsSystem plain (run_by g moves shares TURN_TICKS) es t) (n : ℕ)
+      (s : StateOf g) → IsAlong g TURN_TICKS (occurrences_from at_start es) n s
       → (o : Option End) → machine.EndsSo es t o → EndsSo g s o
   ends es t h n s k None on = goes_on es t h n s k on
   ends es t h n s k (Some e) at = same_end g moves shares TURN_TICKS ready es t h n s k e at
 
-  pub program_follows : (j : Journal) → IsNameable j → (r : Result Replayed ReplayError) → machine.Replays (run_by g moves shares TURN_TICKS) j.entries r → Follows g j r
+  pub program_follows : (j : Journal) → IsNameable j → (r : Result Replayed ReplayError)
+      → machine.Replays (run_by g moves shares TURN_TICKS) j.entries r → Follows g j r
   program_follows j named (Ok r) h =
       let z = means g moves shares TURN_TICKS ready j.entries h.system h.along in
       record {
         steps = z.0;
         state = z.1;
         along = z.2;
-        output = same_output g moves shares TURN_TICKS ready j.entries h.system h.along z.0 z.1 z.2 h.output.0 r.output h.output.1;
+        output = same_output g moves shares TURN_TICKS ready j.entries h.system h.along z.0 z.1 z.2 h.output.0 r.output
+            h.output.1;
         end = ends j.entries h.system h.along z.0 z.1 z.2 r.end h.end;
       }
   program_follows j named (Err (error.Unfit n)) h = record {
     inside = h.inside;
     fits = means g moves shares TURN_TICKS ready (take n j.entries) h.fits.0 h.fits.1;
     unfit = λ m.
-        let z = program_runs g moves shares TURN_TICKS ready (take (suc n) j.entries) (nameable_front at_start (suc n) j.entries named) m.0 m.1 m.2 in
+        let z = program_runs g moves shares TURN_TICKS ready (take (suc n) j.entries)
+        (nameable_front at_start (suc n) j.entries named) m.0 m.1 m.2 in
         h.unfit z.0 z.1;
   }
   program_follows j named (Err error.Memory) h = tt {0}
 
-module _ (code : Parts) (input : List ℕ) (lim : Limits) (p : Program) (moves shares : Stmt → List ℕ) (is : IsCodeOf (setting p input lim) moves shares code) where
-  pub followed : (j : Journal) → IsNameable j → (r : Result Replayed ReplayError) → machine.Replays (run_of code input lim) j.entries r → Follows (setting p input lim) j r
+module _ (code : Parts) (input : List ℕ) (lim : Limits) (p : Program) (moves shares : Stmt
+    → List ℕ) (is : IsCodeOf (setting p input lim) moves shares code) where
+  pub followed : (j : Journal) → IsNameable j → (r : Result Replayed ReplayError)
+      → machine.Replays (run_of code input lim) j.entries r → Follows (setting p input lim) j r
   followed j named r h =
       program_follows (setting p input lim) moves shares is.ready j named r
       (subst (λ (x : Parts). machine.Replays (run_of x input lim) j.entries r) is.emitted h)

@@ -1,5 +1,6 @@
 -- Where the meaning is defined along a journal, it is defined along each first part of it (`first_part`).
-use Rattle.std.proofs.Common.{◌≡◌, ◌⊎◌, inl, inr, ℕ, zero, suc, ◌+◌, ◌<◌, ◌≤◌, Bool, List, [], ◌∷◌, ◌++◌, take, refl, ap, subst, arith}
+use Rattle.std.proofs.Common.{◌≡◌, ◌⊎◌, inl, inr, ℕ, zero, suc, ◌+◌, ◌<◌, ◌≤◌, Bool, List, [], ◌∷◌, ◌++◌, take, refl}
+use Rattle.std.proofs.Common.{ap, subst, arith}
 use Rattle.sp_base.specs.declared.limits.TheConstants.{TURN_TICKS}
 use Rattle.sp_journal.specs.declared.entry.Entry.{Entry}
 use Rattle.sp_journal.specs.Births.{Births, at_start, after_entry, occurrences_from}
@@ -15,22 +16,31 @@ module _ (g : Setting) (turn : ℕ) where
   abbrev Defined : List Occurrence → Course → StateOf g → Type 0
   Defined os c s = (n : ℕ) × (t : StateOf g) × Along g turn c s os n t
 
-  module _ (os ps : List Occurrence) (shorter : (c : Course) (s : StateOf g) (n : ℕ) (t : StateOf g) → Along g turn c s os n t → Defined ps c s) where
+  module _ (os ps : List Occurrence) (shorter : (c : Course) (s : StateOf g) (n : ℕ) (t : StateOf g)
+      → Along g turn c s os n t → Defined ps c s) where
     entered : (c : Course) (m : StateOf g) (paused : Bool) (q : Name) (what : Happening) (n : ℕ) (t : StateOf g)
         → Entered g (λ c1 u r. Along g turn c1 u os r t) c m paused q what n
         → (k : ℕ) × (z : StateOf g) × Entered g (λ c1 u r. Along g turn c1 u ps r z) c m paused q what k
     entered c m paused q Laid n t h = let r = shorter _ _ n t h.1 in (r.0, r.1, (h.0, r.2))
     entered c m paused q Paused n t h = let r = shorter _ _ n t h.2 in (r.0, r.1, (h.0, h.1, r.2))
-    entered c m paused q (Forked count) n t (a, b, u, rest, e, i, l) = let r = shorter _ _ rest t l in (suc r.0, r.1, (a, b, u, r.0, refl, i, r.2))
-    entered c m paused q Opened n t (a, b, u, rest, e, i, l) = let r = shorter _ _ rest t l in (suc r.0, r.1, (a, b, u, r.0, refl, i, r.2))
-    entered c m paused q (Offered w ch) n t (a, b, u, rest, e, i, l) = let r = shorter _ _ rest t l in (suc r.0, r.1, (a, b, u, r.0, refl, i, r.2))
-    entered c m paused q Ended n t (a, b, u, rest, e, i, l) = let r = shorter _ _ rest t l in (suc r.0, r.1, (a, b, u, r.0, refl, i, r.2))
-    entered c m paused q (Faulted f) n t (a, b, u, rest, e, i, l) = let r = shorter _ _ rest t l in (suc r.0, r.1, (a, b, u, r.0, refl, i, r.2))
+    entered c m paused q (Forked count) n t (a, b, u, rest, e, i, l) = let r = shorter _ _ rest t l in
+        (suc r.0, r.1, (a, b, u, r.0, refl, i, r.2))
+    entered c m paused q Opened n t (a, b, u, rest, e, i, l) = let r = shorter _ _ rest t l in
+        (suc r.0, r.1, (a, b, u, r.0, refl, i, r.2))
+    entered c m paused q (Offered w ch) n t (a, b, u, rest, e, i, l) = let r = shorter _ _ rest t l in
+        (suc r.0, r.1, (a, b, u, r.0, refl, i, r.2))
+    entered c m paused q Ended n t (a, b, u, rest, e, i, l) = let r = shorter _ _ rest t l in
+        (suc r.0, r.1, (a, b, u, r.0, refl, i, r.2))
+    entered c m paused q (Faulted f) n t (a, b, u, rest, e, i, l) = let r = shorter _ _ rest t l in
+        (suc r.0, r.1, (a, b, u, r.0, refl, i, r.2))
 
-  first_part : (b : Births) (xs ys : List Entry) (c : Course) (s : StateOf g) (n : ℕ) (t : StateOf g) → Along g turn c s (occurrences_from b (xs ++ ys)) n t → Defined (occurrences_from b xs) c s
+  first_part : (b : Births) (xs ys : List Entry) (c : Course) (s : StateOf g) (n : ℕ) (t : StateOf g)
+      → Along g turn c s (occurrences_from b (xs ++ ys)) n t → Defined (occurrences_from b xs) c s
   first_part b [] ys c s n t h = (0, s, (refl, refl))
   first_part b (x ∷ xs) ys c s n t (laid, k, rest, m, paused, e, made, h) =
-      let r = entered (occurrences_from (after_entry b x) (xs ++ ys)) (occurrences_from (after_entry b x) xs) (first_part (after_entry b x) xs ys) c m paused _ _ rest t h in
+      let r = entered (occurrences_from (after_entry b x) (xs
+      ++ ys)) (occurrences_from (after_entry b x) xs)
+      (first_part (after_entry b x) xs ys) c m paused _ _ rest t h in
       (k + r.0, r.1, (laid, k, r.0, m, paused, refl, made, r.2))
 
 -- a shorter first part is a first part of a longer one
@@ -46,14 +56,16 @@ whole_take (suc n) [] = ([], refl)
 whole_take (suc n) (e ∷ es) = let r = whole_take n es in (r.0, ap (λ xs. e ∷ xs) r.1)
 
 meant_part : (g : Setting) (xs ys es : List Entry) → es ≡ xs ++ ys → IsMeant g es → IsMeant g xs
-meant_part g xs ys es e (n, s, h) = first_part g TURN_TICKS at_start xs ys no_course (start g) n s (subst (λ zs. Along g TURN_TICKS no_course (start g) (occurrences_from at_start zs) n s) e h)
+meant_part g xs ys es e (n, s, h) = first_part g TURN_TICKS at_start xs ys no_course (start g) n s
+    (subst (λ zs. Along g TURN_TICKS no_course (start g) (occurrences_from at_start zs) n s) e h)
 
 pub not_both : (g : Setting) (es : List Entry) (n : ℕ) → IsMeant g es → IsUnfitAt g es n → ⊥
 not_both g es n m u = let r = whole_take (suc n) es in u.unfit (meant_part g (take (suc n) es) r.0 es r.1 m)
 
 -- no later entry is the first
 not_later : (g : Setting) (es : List Entry) (m n : ℕ) → m < n → IsUnfitAt g es m → IsUnfitAt g es n → ⊥
-not_later g es m n l u v = let r = shorter_take (suc m) n es (omega (arith, l)) in u.unfit (meant_part g (take (suc m) es) r.0 (take n es) r.1 v.fits)
+not_later g es m n l u v = let r = shorter_take (suc m) n es (omega (arith, l)) in u.unfit
+    (meant_part g (take (suc m) es) r.0 (take n es) r.1 v.fits)
 
 order : (m n : ℕ) → (m ≡ n) ⊎ ((m < n) ⊎ (n < m))
 order zero zero = inl refl

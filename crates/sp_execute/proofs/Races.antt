@@ -73,11 +73,13 @@ pub record CanShow (j : Journal) (earlier later : ℕ) : Type 0 where
   pub names : occurrences (witness_journal j earlier later) ≡ witness (occurrences j) earlier later
 
 -- the race that a verdict names
-verdict_race : (es : List Occurrence) (e : End) (v : Verdict) (w : Way) (c : ChanName) (earlier later : ℕ) → v ≡ verdict.Race w c earlier later → IsVerdict es e v
+verdict_race : (es : List Occurrence) (e : End) (v : Verdict) (w : Way) (c : ChanName) (earlier later : ℕ)
+    → v ≡ verdict.Race w c earlier later → IsVerdict es e v
     → IsVerdict es e (verdict.Race w c earlier later)
 verdict_race es e v w c earlier later h is = subst (IsVerdict es e) h is
 
-module _ (g : Setting) (moves shares : Stmt → List ℕ) (workers : ℕ) (r : Ran) (ready : IsReady g moves shares) (x : Executes g workers r)
+module _ (g : Setting) (moves shares : Stmt
+    → List ℕ) (workers : ℕ) (r : Ran) (ready : IsReady g moves shares) (x : Executes g workers r)
     (clean : CleanLaw) (witnesses : WitnessLaw) where
   abbrev names : List Occurrence
   names = occurrences r.closed.journal
@@ -97,7 +99,8 @@ module _ (g : Setting) (moves shares : Stmt → List ℕ) (workers : ℕ) (r : R
     is_clean = clean g TURN_TICKS names x.about.steps x.about.state r.closed.end x.about.along x.about.end named.0
 
     pub is_witness : IsWitness g TURN_TICKS r.closed.journal w channel earlier later
-    is_witness = witnesses g moves shares TURN_TICKS ready r.closed.journal x.about.steps x.about.state x.about.along is_clean w channel earlier later least
+    is_witness = witnesses g moves shares TURN_TICKS ready r.closed.journal x.about.steps x.about.state x.about.along
+        is_clean w channel earlier later least
 
     pub offers : OffersLaw → (earlier < later) × (later < length r.closed.journal.entries)
         × IfSome (slice_get r.closed.journal.entries earlier) (λ e. IsPlain e.event)
@@ -122,10 +125,12 @@ module _ (g : Setting) (moves shares : Stmt → List ℕ) (workers : ℕ) (r : R
       followed = (
         is_witness.shows.size,
         is_witness.shows.state,
-        subst (λ os. IsAlong g TURN_TICKS os is_witness.shows.size is_witness.shows.state) (sym is_witness.names) is_witness.shows.along,
+        subst (λ os. IsAlong g TURN_TICKS os is_witness.shows.size is_witness.shows.state)
+            (sym is_witness.names) is_witness.shows.along,
       );
       ends = λ s f.
-          contention g moves shares TURN_TICKS ready r.closed.journal x.about.steps x.about.state x.about.along is_clean w channel earlier later least
+          contention g moves shares TURN_TICKS ready r.closed.journal x.about.steps x.about.state x.about.along is_clean
+          w channel earlier later least
           f.steps f.state f.along s.end f.end;
     }
 
@@ -137,7 +142,8 @@ module _ (g : Setting) (moves shares : Stmt → List ℕ) (workers : ℕ) (r : R
   pub shows_race : ContentionLaw → OrderedLaw → ShowsRace g r
   shows_race law ordered = record {
     witness = shown law r.verdict refl;
-    ordered = λ no. ordered g TURN_TICKS names x.about.steps x.about.state r.closed.end r.verdict ready.free x.about.along x.about.end no x.verdict;
+    ordered = λ no. ordered g TURN_TICKS names x.about.steps x.about.state r.closed.end r.verdict ready.free
+        x.about.along x.about.end no x.verdict;
   }
 
 -- of a run of a program that is ready, and its journal as the call reads it

@@ -1,4 +1,5 @@
--- Where the system of a program's code ends in a deadlock, its waiters in order of names are all that wait in it (`stuck`).
+-- Where the system of a program's code ends in a deadlock, its waiters in order of names are all that wait in it
+-- (`stuck`).
 use Rattle.std.proofs.Common.{◌≡◌, ◌⊎◌, inl, inr, ℕ, zero, suc, ◌≤◌, List, ◌++◌, Some, None, refl, sym, ap, ◌∙◌, subst}
 use Rattle.std.specs.Prelude.{map}
 use Rattle.std.specs.List.Sorted.{IsPermutation}
@@ -47,7 +48,8 @@ abbrev Waits_with : Births → ℕ → Condition Plain → Waiting → Type 0
 Waits_with b i X w = (stop : Stop) × (d : Config (Memory Plain)) × (X ≡ Waits stop d) × (waiting_at b i stop ≡ Some w)
 
 to_send : (b : Births) (i c : ℕ) (X : Condition Plain) → doing_in X ≡ Sending c → Waits_with b i X (Sends_at b i c)
-to_send b i c (Waits (Sends c1 k cs) d) e = let same : c1 ≡ c = cc e in (Sends c1 k cs, d, refl, ap (λ y. Some (Sends_at b i y)) same)
+to_send b i c (Waits (Sends c1 k cs) d) e = let same : c1 ≡ c = cc e in
+    (Sends c1 k cs, d, refl, ap (λ y. Some (Sends_at b i y)) same)
 to_send b i c (Waits (Receives c1 k a) d) e = absurd (cc e)
 to_send b i c (Waits (Forks t v n) d) e = absurd (cc e)
 to_send b i c (Waits (Opens a) d) e = absurd (cc e)
@@ -60,8 +62,10 @@ to_send b i c (Laid d) e = absurd (cc e)
 to_send b i c Gone e = absurd (cc e)
 to_send b i c (Over d) e = absurd (cc e)
 
-to_receive : (b : Births) (i c : ℕ) (X : Condition Plain) → doing_in X ≡ Receiving c → Waits_with b i X (Receives_at b i c)
-to_receive b i c (Waits (Receives c1 k a) d) e = let same : c1 ≡ c = cc e in (Receives c1 k a, d, refl, ap (λ y. Some (Receives_at b i y)) same)
+to_receive : (b : Births) (i c : ℕ) (X : Condition Plain) → doing_in X ≡ Receiving c
+    → Waits_with b i X (Receives_at b i c)
+to_receive b i c (Waits (Receives c1 k a) d) e = let same : c1 ≡ c = cc e in
+    (Receives c1 k a, d, refl, ap (λ y. Some (Receives_at b i y)) same)
 to_receive b i c (Waits (Sends c1 k cs) d) e = absurd (cc e)
 to_receive b i c (Waits (Forks t v n) d) e = absurd (cc e)
 to_receive b i c (Waits (Opens a) d) e = absurd (cc e)
@@ -75,7 +79,8 @@ to_receive b i c Gone e = absurd (cc e)
 to_receive b i c (Over d) e = absurd (cc e)
 
 -- one process, in both lists
-one_more : (b : Births) (q : ℕ) (X : Condition Plain) (ws : List Waiting) → waiting b q (offer_in X) ++ map waiter_of ws ≡ map waiter_of (with_waiting b q (doing_in X) ws)
+one_more : (b : Births) (q : ℕ) (X : Condition Plain) (ws : List Waiting) → waiting b q (offer_in X)
+    ++ map waiter_of ws ≡ map waiter_of (with_waiting b q (doing_in X) ws)
 one_more b q (Waits (Sends c k cs) d) ws = refl
 one_more b q (Waits (Receives c k a) d) ws = refl
 one_more b q (Waits (Forks t v n) d) ws = refl
@@ -89,20 +94,37 @@ one_more b q (Laid d) ws = refl
 one_more b q Gone ws = refl
 one_more b q (Over d) ws = refl
 
-module _ (t : System Plain) (lawful : Lawful t.births) (unborn : (q : ℕ) → t.births.processes ≤ q → t.condition q ≡ Absent) where
+module _ (t : System Plain) (lawful : Lawful t.births) (unborn : (q : ℕ) → t.births.processes ≤ q
+    → t.condition q ≡ Absent) where
   abbrev k : Control
   k = record control_at_start { doing = λ q. doing_in (t.condition q); births = t.births }
 
   same_list : (q n : ℕ) → waiters_among t.births t.condition (numbers q n) ≡ map waiter_of (waiting_from k q n)
   same_list q zero = refl
-  same_list q (suc n) = ap (λ ws. waiting t.births q (offer_in (t.condition q)) ++ ws) (same_list (suc q) n) ∙ one_more t.births q (t.condition q) (waiting_from k (suc q) n)
+  same_list q (suc n) = ap (λ ws. waiting t.births q (offer_in (t.condition q)) ++ ws) (same_list (suc q) n)
+      ∙ one_more t.births q (t.condition q) (waiting_from k (suc q) n)
 
   to_system : (w : Waiting) → IsWaiting k w → WaitsAs t w
   to_system w h = by h.2
     where
-      by : ((k.doing h.0 ≡ Sending h.1) × (w ≡ Sends_at k.births h.0 h.1)) ⊎ ((k.doing h.0 ≡ Receiving h.1) × (w ≡ Receives_at k.births h.0 h.1)) → WaitsAs t w
-      by (inl x) = let z = to_send t.births h.0 h.1 (t.condition h.0) x.0 in (h.0, z.0, z.1, z.2, z.3 ∙ ap (λ y. Some y) (sym x.1))
-      by (inr x) = let z = to_receive t.births h.0 h.1 (t.condition h.0) x.0 in (h.0, z.0, z.1, z.2, z.3 ∙ ap (λ y. Some y) (sym x.1))
+      by : ((k.doing h.0 ≡ Sending h.1) × (w ≡ Sends_at k.births h.0 h.1))
+          ⊎ ((k.doing h.0 ≡ Receiving h.1) × (w ≡ Receives_at k.births h.0 h.1)) → WaitsAs t w
+      by (inl x) = let z = to_send t.births h.0 h.1 (t.condition h.0) x.0 in (
+        h.0,
+        z.0,
+        z.1,
+        z.2,
+        z.3
+            ∙ ap (λ y. Some y) (sym x.1),
+      )
+      by (inr x) = let z = to_receive t.births h.0 h.1 (t.condition h.0) x.0 in (
+        h.0,
+        z.0,
+        z.1,
+        z.2,
+        z.3
+            ∙ ap (λ y. Some y) (sym x.1),
+      )
 
   from_system : (w : Waiting) → WaitsAs t w → IsWaiting k w
   from_system w h = by h.1 h.3 h.4
@@ -123,7 +145,8 @@ module _ (t : System Plain) (lawful : Lawful t.births) (unborn : (q : ℕ) → t
 
   pub stuck : (ws : List Waiter) → IsDeadlock t ws → (vs : List Waiting) × IsStuck t vs × (ws ≡ map waiter_of vs)
   stuck ws d =
-      let z = all_waiting k lawful (λ q h. ap doing_in (unborn q h)) ws (subst (λ (l : List Waiter). IsPermutation l ws) (same_list 0 t.births.processes) d.all) d.sorted in (
+      let z = all_waiting k lawful (λ q h. ap doing_in (unborn q h)) ws
+      (subst (λ (l : List Waiter). IsPermutation l ws) (same_list 0 t.births.processes) d.all) d.sorted in (
         z.0,
         record {
           quiet = d.quiet;

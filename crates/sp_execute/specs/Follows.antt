@@ -13,7 +13,8 @@ use Rattle.sp_replay.specs.declared.replayer.Replayed.{Replayed}
 use Rattle.sp_replay.specs.declared.replayer.ReplayError.{ReplayError}
 use Rattle.sp_replay.specs.declared.replayer.ReplayError.TheVariants as error
 
--- along the journal the meaning of the program is defined; the output and the end, or that there is none, are those of its state there
+-- along the journal the meaning of the program is defined; the output and the end, or that there is none, are those of
+-- its state there
 pub record IsFollowed (g : Setting) (j : Journal) (r : Replayed) : Type 0 where
   pub steps : ℕ
   pub state : StateOf g

@@ -34,7 +34,8 @@ pub record IsRunOfCode (g : Setting) (moves shares : Stmt → List ℕ) (c : Clo
   pub ready : IsReady g moves shares
   pub gives : EndsWith (run_by g moves shares TURN_TICKS) c.journal.entries c.end c.output
 
--- along the journal, which gives names, the meaning of the program is defined; the end and the output are those of its state there
+-- along the journal, which gives names, the meaning of the program is defined; the end and the output are those of its
+-- state there
 pub record IsAbout (g : Setting) (c : Closed) : Type 0 where
   pub names : IsNameable c.journal
   pub steps : ℕ
@@ -43,7 +44,8 @@ pub record IsAbout (g : Setting) (c : Closed) : Type 0 where
   pub output : c.output ≡ output_of g state
   pub end : EndIs g state c.end
 
--- the program's run along the journal has so many steps and that state, and the verdict says of it what it promises of a run
+-- the program's run along the journal has so many steps and that state, and the verdict says of it what it promises of
+-- a run
 abbrev pub Promises : Setting → Closed → Verdict → Type 0
 Promises g c v = (a : IsAbout g c) × IsRunVerdict g (occurrences c.journal) a.steps a.state c.end v
 

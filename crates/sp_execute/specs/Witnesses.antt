@@ -1,5 +1,5 @@
--- What the witness of a run's race is, and what it shows. The contract of `witness` and the law `races_are_shown` promise
--- it, and the contract of the top call cites both.
+-- What the witness of a run's race is, and what it shows. The contract of `witness` and the law `races_are_shown`
+-- promise it, and the contract of the top call cites both.
 use Rattle.std.specs.Prelude.{◌≡◌, ◌↔◌, ℕ, List, Option, Some, None}
 use Rattle.sp_base.specs.declared.fault.Fault.TheVariants as fault
 use Rattle.sp_base.specs.declared.limits.TheConstants.{TURN_TICKS}
@@ -38,8 +38,8 @@ abbrev pub IsReadyRun : Ran → Type 0
 IsReadyRun r = (g : Setting) × (moves : Stmt → List ℕ) × (shares : Stmt → List ℕ) × (workers : ℕ)
     × IsReady g moves shares × Executes g workers r
 
--- the witness of these two offers is a journal of the program, which is followed, to the fault F6 of the later offer as it
--- meets the pending earlier one, of the same way on the same channel
+-- the witness of these two offers is a journal of the program, which is followed, to the fault F6 of the later offer as
+-- it meets the pending earlier one, of the same way on the same channel
 pub record ShowsOffers (g : Setting) (j : Journal) (v : Verdict) (earlier later : ℕ) : Type 0 where
   pub channel : Channel
   pub way : Way
@@ -55,8 +55,8 @@ Shown g j verdict.Ordered = Unit {0}
 Shown g j (verdict.Race w c earlier later) = ShowsOffers g j (verdict.Race w c earlier later) earlier later
 Shown g j verdict.Unjudged = Unit {0}
 
--- What the verdict on a run says of the program: its race is shown by its witness, and a run that ends without a fault is
--- ordered exactly where no lawful schedule of the program, on this input and with these limits, meets contention.
+-- What the verdict on a run says of the program: its race is shown by its witness, and a run that ends without a fault
+-- is ordered exactly where no lawful schedule of the program, on this input and with these limits, meets contention.
 pub record ShowsRace (g : Setting) (r : Ran) : Type 0 where
   pub witness : Shown g r.closed.journal r.verdict
   pub ordered : (IsFault r.closed.end → ⊥) → (r.verdict ≡ verdict.Ordered) ↔ NeverContends g

@@ -14,13 +14,14 @@ pub struct Concluded {
     pub closed: Closed,
 }
 
-/// Takes a run of code as one of the program that the code is of. For every program, input and limits of which it is the code, and
-/// sets that the forks of the code take over and share: where the machine gives that end and that output along that journal, the
-/// meaning of the program on the input with the limits is defined along the journal, and the end and the output are those of its
-/// state there. `closed` is held unchanged.
+/// Takes a run of code as one of the program that the code is of. For every program, input and limits of which it is
+/// the code, and sets that the forks of the code take over and share: where the machine gives that end and that output
+/// along that journal, the meaning of the program on the input with the limits is defined along the journal, and the
+/// end and the output are those of its state there. `closed` is held unchanged.
 pub fn conclude(closed: Closed) -> Concluded
     ensures same { result.closed ≡ closed }
-    ensures about { (g : Setting) (moves shares : Stmt → List ℕ) → IsRunOfCode g moves shares closed → IsAbout g result.closed }
+    ensures about { (g : Setting) (moves shares : Stmt → List ℕ) → IsRunOfCode g moves shares closed
+        → IsAbout g result.closed }
 {
     Concluded { closed }
 }

@@ -27,12 +27,12 @@ pub struct Ran {
     pub verdict: Verdict,
 }
 
-/// Runs the code of a program on an input, with so many workers, and judges the run. What is made in this call takes its memory from
-/// `alloc`. `workers` is from 1 to 64, and the code is that of a program that is ready for it.
+/// Runs the code of a program on an input, with so many workers, and judges the run. What is made in this call takes
+/// its memory from `alloc`. `workers` is from 1 to 64, and the code is that of a program that is ready for it.
 ///
-/// The run is one of the workers over the room, and for every program that has this code one of the program: the meaning along the
-/// journal is defined, with that output and that end. The verdict is exactly that of the journal and the end; where it is ordered,
-/// every lawful schedule ends alike. The journal of one worker is first in, first out.
+/// The run is one of the workers over the room, and for every program that has this code one of the program: the
+/// meaning along the journal is defined, with that output and that end. The verdict is exactly that of the journal and
+/// the end; where it is ordered, every lawful schedule ends alike. The journal of one worker is first in, first out.
 ///
 /// The error is want of memory alone.
 pub fn execute<R: Threads + Wait + Sync, G: Gate>(
@@ -49,7 +49,8 @@ pub fn execute<R: Threads + Wait + Sync, G: Gate>(
         × IsCodeOf (setting p input.value limits.now) moves shares code.value }
     ensures run { IfOk result (λ e. IsRun (run_of code.value input.value limits.now) workers e.closed) }
     ensures program { IfOk result (λ e. (p : Program) (moves shares : Stmt → List ℕ)
-        → IsCodeOf (setting p input.value limits.now) moves shares code.value → Executes (setting p input.value limits.now) workers e) }
+        → IsCodeOf (setting p input.value limits.now) moves shares code.value
+        → Executes (setting p input.value limits.now) workers e) }
 {
     let closed = run(rt, alloc, code, input, workers, limits, gate)?;
     let concluded = conclude(closed);

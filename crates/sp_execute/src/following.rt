@@ -13,12 +13,12 @@ use sp_replay::{ReplayError, Replayed, replay};
 use std::alloc::Global;
 use std::sync::Arc;
 
-/// Runs the code of a program on an input along a journal, on this thread. What is made in this call takes its memory from `alloc`.
-/// The code is that of a program that is ready for it, and the journal gives names.
+/// Runs the code of a program on an input along a journal, on this thread. What is made in this call takes its memory
+/// from `alloc`. The code is that of a program that is ready for it, and the journal gives names.
 ///
-/// For every program that has this code: the journal is followed exactly where the meaning of the program is defined along it, and
-/// then the output and the end are those of its state there; where the run goes on there, it has no end. `Unfit` tells the first
-/// entry with which the meaning is not defined.
+/// For every program that has this code: the journal is followed exactly where the meaning of the program is defined
+/// along it, and then the output and the end are those of its state there; where the run goes on there, it has no end.
+/// `Unfit` tells the first entry with which the meaning is not defined.
 pub fn follow(
     alloc: Global,
     code: Arc<Code>,
@@ -30,7 +30,8 @@ pub fn follow(
         × IsCodeOf (setting p input.value limits.now) moves shares code.value }
     requires nameable { IsNameable journal.now }
     ensures { (p : Program) (moves shares : Stmt → List ℕ)
-        → IsCodeOf (setting p input.value limits.now) moves shares code.value → Follows (setting p input.value limits.now) journal.now result }
+        → IsCodeOf (setting p input.value limits.now) moves shares code.value
+        → Follows (setting p input.value limits.now) journal.now result }
 {
     replay(alloc, code, input, limits, journal)
 }

@@ -21,8 +21,9 @@ pub fn one_unfit_entry()
 {}
 
 /// The race of a run of a program that is ready is shown by its witness: a journal along which the meaning of the same
-/// program, on the same input and with the same limits, is defined, and which ends with the fault F6 of the later offer as it
-/// meets the pending earlier one. A run that ends without a fault is ordered exactly where no lawful schedule meets contention.
+/// program, on the same input and with the same limits, is defined, and which ends with the fault F6 of the later offer
+/// as it meets the pending earlier one. A run that ends without a fault is ordered exactly where no lawful schedule
+/// meets contention.
 pub fn races_are_shown()
     ensures { (g : Setting) (moves shares : Stmt → List ℕ) (workers : ℕ) (r : ARan)
         → IsReady g moves shares → Executes g workers r → ShowsRace g r }

@@ -13,15 +13,17 @@ use sp_journal::Verdict;
 use sp_judge::{runs_are_quiet, verdict_of, verdicts_hold_of_runs};
 use std::alloc::Global;
 
-/// Whether the result of a run of a program depends on the schedule. The verdict is exactly that of the journal and the end: unjudged
-/// where the run ended by a fault, else ordered where the order condition holds, else the least race. Where it is ordered and the
-/// program keeps the rules of interference, every lawful schedule of the program on the input with the limits ends alike.
+/// Whether the result of a run of a program depends on the schedule. The verdict is exactly that of the journal and the
+/// end: unjudged where the run ended by a fault, else ordered where the order condition holds, else the least race.
+/// Where it is ordered and the program keeps the rules of interference, every lawful schedule of the program on the
+/// input with the limits ends alike.
 ///
 /// The error is want of memory alone.
 pub fn judge(alloc: Global, concluded: &Concluded) -> Result<Verdict, Memory>
     requires about { (g : Setting) × IsAbout g concluded.now.closed }
     ensures exact { IfOk result (λ v. IsVerdict (occurrences concluded.now.closed.journal) concluded.now.closed.end v) }
-    ensures promise { IfOk result (λ v. (g : Setting) → IsFreeOfInterference g.program → IsAbout g concluded.now.closed → Promises g concluded.now.closed v) }
+    ensures promise { IfOk result (λ v. (g : Setting) → IsFreeOfInterference g.program → IsAbout g concluded.now.closed
+        → Promises g concluded.now.closed v) }
 {
     runs_are_quiet();
     verdicts_hold_of_runs();

@@ -12,8 +12,8 @@ use sp_numbered::witnesses_are_journals;
 use sp_witness::races_have_offers;
 use std::alloc::Global;
 
-/// The witness of the run's race: a journal of the program that ends where the two offers of the verdict contend. `None`
-/// where the verdict is no race. The run is one that `execute` gave.
+/// The witness of the run's race: a journal of the program that ends where the two offers of the verdict contend.
+/// `None` where the verdict is no race. The run is one that `execute` gave.
 ///
 /// The error is want of memory alone.
 pub fn witness(alloc: Global, ran: &Ran) -> Result<Option<Journal>, Memory>

@@ -1,5 +1,6 @@
 -- What stands once all workers have left.
-use Rattle.std.proofs.Common.{◌≡◌, ◌⊎◌, inl, inr, ◌+◌, ℕ, nat_lt, zero, suc, length, slice_get, ◌<◌, ◌≤◌, false, List, [], ◌∷◌, ◌++◌, Option, Some, None, ltb-false, refl, sym, ap, ◌∙◌, subst, arith}
+use Rattle.std.proofs.Common.{◌≡◌, ◌⊎◌, inl, inr, ◌+◌, ℕ, nat_lt, zero, suc, length, slice_get, ◌<◌, ◌≤◌, false, List}
+use Rattle.std.proofs.Common.{[], ◌∷◌, ◌++◌, Option, Some, None, ltb-false, refl, sym, ap, ◌∙◌, subst, arith}
 use Rattle.sp_journal.specs.declared.entry.Note.{Note}
 use Rattle.sp_journal.specs.declared.entry.Event.{Event}
 use Rattle.sp_code.specs.Memory.{Setting, Stores}
@@ -30,7 +31,8 @@ use Rattle.sp_runner.specs.Works.{Left}
 
 module _ (x : Kernel) (fine : IsOpening x) (v w : View Kernel Note) (a : Ask) where
   -- who is told that it is finished sees the run over
-  pub finished : Called Steps x v a got.Finished w ⊎ ((is_abandon a ≡ false) × Declined Steps refusal x v a got.Finished w) → Left w.seen
+  pub finished : Called Steps x v a got.Finished w
+      ⊎ ((is_abandon a ≡ false) × Declined Steps refusal x v a got.Finished w) → Left w.seen
   finished (inl c) = inl (subst IsOver (control_is x fine w.seen c.left c.legal_after) (go c.note a c.answer))
     where
       told : (o : Option ℕ) → Answers c.left got.Finished o → IsOver (control_of c.left)
@@ -49,25 +51,34 @@ module _ (x : Kernel) (fine : IsOpening x) (v w : View Kernel Note) (a : Ask) wh
       go (ask.Abandon q) e = absurd e
 
 abandons_more : (n : Note) (k : Control) → n.event ≡ None → n.got ≡ None → (noted n k).abandons ≡ k.abandons + 1
-abandons_more n k e g = subst (λ (z : Option Event × Option ℕ). (takes n.worker z.1 (given n.given z.0 z.1 k)).abandons ≡ k.abandons + 1) (λ i. (sym e i, sym g i)) (by n.given)
+abandons_more n k e g = subst (λ (z : Option Event
+    × Option ℕ). (takes n.worker z.1 (given n.given z.0 z.1 k)).abandons ≡ k.abandons + 1) (λ i. (sym e i, sym g i))
+    (by n.given)
   where
     by : (p : Option ℕ) → (takes n.worker None (given p None None k)).abandons ≡ k.abandons + 1
     by None = refl
     by (Some p) = refl
 
 -- who gives up sees that it did
-pub gave_up : (x : Kernel) (fine : IsOpening x) (v w : View Kernel Note) (p : Option Proc) (r : Got) → Called Steps x v (ask.Abandon p) r w ⊎ ((is_abandon (ask.Abandon p) ≡ false) × Declined Steps refusal x v (ask.Abandon p) r w) → Left w.seen
-gave_up x fine v w p r (inl c) = inr (subst (λ (k : Control). 0 < k.abandons) (control_is x fine w.seen c.left c.legal_after) (go c.note c.answer))
+pub gave_up : (x : Kernel) (fine : IsOpening x) (v w : View Kernel Note) (p : Option Proc) (r : Got)
+    → Called Steps x v (ask.Abandon p) r w
+    ⊎ ((is_abandon (ask.Abandon p) ≡ false) × Declined Steps refusal x v (ask.Abandon p) r w) → Left w.seen
+gave_up x fine v w p r (inl c) = inr
+    (subst (λ (k : Control). 0 < k.abandons) (control_is x fine w.seen c.left c.legal_after) (go c.note c.answer))
   where
     go : (o : Option Note) → Steps c.met v.number (ask.Abandon p) c.left r o → 0 < (control_of c.left).abandons
     go None s = absurd s.1
-    go (Some n) s = let e : (control_of c.left).abandons ≡ (control_of c.met).abandons + 1 = ap (λ (k : Control). k.abandons) s.control ∙ abandons_more n (control_of c.met) s.gives_up.0 s.gives_up.1 in omega (arith, e)
+    go (Some n) s = let e : (control_of c.left).abandons ≡ (control_of c.met).abandons + 1 = ap
+        (λ (k : Control). k.abandons) s.control
+        ∙ abandons_more n (control_of c.met) s.gives_up.0 s.gives_up.1 in omega (arith, e)
 gave_up x fine v w p r (inr d) = absurd (cc (d.0))
 
 -- ---- what all notes leave
 
 abandons_grow : (n : Note) (k : Control) → k.abandons ≤ (noted n k).abandons
-abandons_grow n k = let e : (noted n k).abandons ≡ (given n.given n.event n.got k).abandons = taken_abandons n.worker n.got _ in let f = by n.given n.event n.got in omega (arith, e, f)
+abandons_grow n k = let e : (noted n k).abandons ≡
+    (given n.given n.event n.got k).abandons = taken_abandons n.worker n.got _ in let f = by n.given n.event n.got in
+    omega (arith, e, f)
   where
     by : (p : Option ℕ) (e : Option Event) (q : Option ℕ) → k.abandons ≤ (given p e q k).abandons
     by (Some p) (Some e) q = let b : _ ≡ k.abandons = back_abandons p e k in omega (arith, b)
@@ -81,15 +92,18 @@ abandons_all : (ns : List Note) (k : Control) → k.abandons ≤ (noted_all ns k
 abandons_all [] k = omega arith
 abandons_all (n ∷ ns) k = let a = abandons_grow n k in let b = abandons_all ns (noted n k) in omega (arith, a, b)
 
-over_stays : {S : Type 0} (stores : Stores S) (g : Setting) (k : Control) (s t : System S) (ns : List Note) → IsOrderly k → Agrees k s → HasOuts k → IsOver k → Reaches stores g k s ns t → IsOver (noted_all ns k)
+over_stays : {S : Type 0} (stores : Stores S) (g : Setting) (k : Control) (s t : System S) (ns : List Note)
+    → IsOrderly k → Agrees k s → HasOuts k → IsOver k → Reaches stores g k s ns t → IsOver (noted_all ns k)
 over_stays stores g k s t [] h a o v r = v
 over_stays stores g k s t (n ∷ ns) h a o v r =
     let m = keeps stores g k s r.0 n h a r.1 in
     let b = over_by stores g n.worker n.given n.event n.got k s r.0 o v r.1.gives r.1.gets in
-    over_stays stores g (noted n k) r.0 t ns m.0 m.1 (outs_by stores g n.worker n.given n.event n.got k s r.0 h o r.1.gives r.1.gets) b.1 r.2
+    over_stays stores g (noted n k) r.0 t ns m.0 m.1
+    (outs_by stores g n.worker n.given n.event n.got k s r.0 h o r.1.gives r.1.gets) b.1 r.2
 
 -- once one seat has left, and no worker gave up, the run is over
-pub ran_to : (x : Kernel) (fine : IsOpening x) (log : List Note) (y : Kernel) → Told Steps x log y → (seen : List Note) → StartsWith log seen → Left seen → y.abandons ≡ 0 → RanTo x log y
+pub ran_to : (x : Kernel) (fine : IsOpening x) (log : List Note) (y : Kernel) → Told Steps x log y → (seen : List Note)
+    → StartsWith log seen → Left seen → y.abandons ≡ 0 → RanTo x log y
 ran_to x fine log y told seen starts left kept = record {
   legal = told;
   over = go left;
@@ -102,11 +116,15 @@ ran_to x fine log y told seen starts left kept = record {
     go : Left seen → IsOver (control_of y)
     go (inl v) =
         let g = setting_of x in let at = opening plain g in
-        let f = reaches_front plain g control_at_start at (system_of y) seen starts.0 (subst (λ (l : List Note). Reaches plain g control_at_start at l (system_of y)) starts.1 (from_start x fine log y told)) in
+        let f = reaches_front plain g control_at_start at (system_of y) seen starts.0
+        (subst (λ (l : List Note). Reaches plain g control_at_start at l (system_of y)) starts.1
+        (from_start x fine log y told)) in
         let h = reaches_keeps plain g control_at_start at f.0 seen orderly_start (agrees_start plain g) f.1 in
         let o = outs_all plain g control_at_start at f.0 seen orderly_start (agrees_start plain g) outs_start f.1 in
         subst IsOver (sym same) (over_stays plain g (control seen) f.0 (system_of y) starts.0 h.0 h.1 o v f.2)
-    go (inr some) = absurd (let e : y.abandons ≡ (noted_all starts.0 (control seen)).abandons = ap (λ (k : Control). k.abandons) same in let m = abandons_all starts.0 (control seen) in omega (arith, e, m, some, kept))
+    go (inr some) = absurd (let e : y.abandons ≡ (noted_all starts.0 (control seen)).abandons = ap
+        (λ (k : Control). k.abandons) same in let m = abandons_all starts.0 (control seen) in omega
+        (arith, e, m, some, kept))
 
 pub none_up : (n : ℕ) → nat_lt 0 n ≡ false → n ≡ 0
 none_up n e = omega (arith, ltb-false 0 n e)

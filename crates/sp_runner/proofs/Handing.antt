@@ -1,5 +1,6 @@
 -- Each call of a worker gives what the one before it got.
-use Rattle.std.proofs.Common.{◌≡◌, ◌⊎◌, inl, inr, ℕ, false, List, [], ◌∷◌, ◌++◌, Option, Some, None, refl, sym, ap, ◌∙◌, subst}
+use Rattle.std.proofs.Common.{◌≡◌, ◌⊎◌, inl, inr, ℕ, false, List, [], ◌∷◌, ◌++◌, Option, Some, None, refl, sym, ap, ◌∙◌}
+use Rattle.std.proofs.Common.{subst}
 use Rattle.std.specs.Option.{option_map}
 use mathlib.Core.List.{append-nil}
 use Rattle.sp_journal.specs.declared.entry.Note.{Note}
@@ -16,7 +17,8 @@ use Rattle.sp_kernel.specs.declared.ask.Got.TheVariants as got
 use Rattle.sp_kernel.specs.Asks.{Steps, Answers, is_abandon, refusal, given_by}
 use Rattle.sp_runner.specs.Works.{last_got, IsNext}
 
-one_more : (o : Option ℕ) (ns : List Note) (n : Note) → OneByOne o ns → n.given ≡ last_got o ns → OneByOne o (ns ++ n ∷ [])
+one_more : (o : Option ℕ) (ns : List Note) (n : Note) → OneByOne o ns → n.given ≡ last_got o ns
+    → OneByOne o (ns ++ n ∷ [])
 one_more o [] n x e = (e, tt {0})
 one_more o (m ∷ ms) n x e = (x.0, one_more m.got ms n x.1 e)
 
@@ -51,13 +53,19 @@ module _ (x : Kernel) (v w : View Kernel Note) (a : Ask) (r : Got) (next : IsNex
       told got.Finished e (Some q) t = absurd t
       told (got.Refused h) e q t = absurd t
 
-      go : (o : Option Note) (b : Ask) → b ≡ a → (s : Got) → s ≡ r → Steps c.met v.number b c.left s o → w.own ≡ v.own ++ noted o → IsAfter w.own r
-      go None (ask.Turn None) e s f t own = kept (own ∙ append-nil v.own) (ap given_by (sym e) ∙ told s f None (subst (λ (y : Kernel). Answers y s None) (sym t.0) t.1))
-      go None (ask.Turn (Some h)) e s f t own = kept (own ∙ append-nil v.own) (ap given_by (sym e) ∙ ap got_in (sym t.1 ∙ f))
+      go : (o : Option Note) (b : Ask) → b ≡ a → (s : Got) → s ≡ r → Steps c.met v.number b c.left s o → w.own ≡ v.own
+          ++ noted o → IsAfter w.own r
+      go None (ask.Turn None) e s f t own = kept (own ∙ append-nil v.own) (ap given_by (sym e)
+          ∙ told s f None (subst (λ (y : Kernel). Answers y s None) (sym t.0) t.1))
+      go None (ask.Turn (Some h)) e s f t own = kept (own ∙ append-nil v.own) (ap given_by (sym e)
+          ∙ ap got_in (sym t.1 ∙ f))
       go None (ask.Abandon q) e s f t own = absurd t.1
       go (Some n) b e s f t own =
-          subst (λ ns. IsAfter ns r) (sym own)
-          (one_more None v.own n next.0 (t.given ∙ ap given_by e ∙ sym next.1), last_more None v.own n ∙ told s f n.got t.answer)
+          subst (λ ns. IsAfter ns r) (sym own) (
+            one_more None v.own n next.0 (t.given ∙ ap given_by e ∙ sym next.1),
+            last_more None v.own n
+                ∙ told s f n.got t.answer,
+          )
 
   after_none : Declined Steps refusal x v a r w → IsAfter w.own r
   after_none d = go a refl d.answer
@@ -71,7 +79,8 @@ module _ (x : Kernel) (v w : View Kernel Note) (a : Ask) (r : Got) (next : IsNex
   after (inr d) = after_none d.1
 
 -- who gives up hands in what it held
-pub gives_up_next : (own : List Note) (h : Option Handed) → IsAfter own (got.Refused h) → IsNext own (ask.Abandon (option_map (λ (i : Handed). i.proc) h))
+pub gives_up_next : (own : List Note) (h : Option Handed) → IsAfter own (got.Refused h)
+    → IsNext own (ask.Abandon (option_map (λ (i : Handed). i.proc) h))
 gives_up_next own None n = n
 gives_up_next own (Some h) n = n
 

@@ -60,15 +60,19 @@ module _ (x : Kernel) (fine : IsOpening x) (v w : View Kernel Note) (a : Ask) wh
         where
           by : (o : Option ℕ) → o ≡ Some q → (m : Control) → (takes n.worker o m).doing q ≡ Out n.worker
           by None e m = absurd (cc e)
-          by (Some r) e m = let f : r ≡ q = cc e in subst (λ i. (takes n.worker (Some i) m).doing q ≡ Out n.worker) (sym f) (at_same m.doing q (Out n.worker))
+          by (Some r) e m = let f : r ≡ q = cc e in subst (λ i. (takes n.worker (Some i) m).doing q ≡ Out n.worker)
+              (sym f) (at_same m.doing q (Out n.worker))
 
-      found : (b : Ask) (n : Note) (o : Option ℕ) → n.got ≡ o → Notes c.met v.number b c.left (got.Work p) n → Answers c.left (got.Work p) o → Has x w.seen w.number p
+      found : (b : Ask) (n : Note) (o : Option ℕ) → n.got ≡ o → Notes c.met v.number b c.left (got.Work p) n
+          → Answers c.left (got.Work p) o → Has x w.seen w.number p
       found b n None e s t = absurd t
       found b n (Some q) e s t = record {
         system = system_of c.left;
         reaches = from_start x fine w.seen c.left c.legal_after;
         along = along x fine w.seen c.left c.legal_after;
-        out = ap (λ (k : Control). k.doing p.number) (sym (control_is x fine w.seen c.left c.legal_after) ∙ s.control) ∙ ap (noted n (control_of c.met)).doing t.0 ∙ noted_out n q (control_of c.met) e ∙ ap (λ i. Out i) (s.worker ∙ sym same);
+        out = ap (λ (k : Control). k.doing p.number) (sym (control_is x fine w.seen c.left c.legal_after) ∙ s.control)
+            ∙ ap (noted n (control_of c.met)).doing t.0 ∙ noted_out n q (control_of c.met) e
+            ∙ ap (λ i. Out i) (s.worker ∙ sym same);
         runs = ap (system_of c.left).condition t.0 ∙ t.1;
         input = t.2 ∙ ap (λ (g : Setting). g.input) (it x fine w.seen c.left c.legal_after).setting;
       }
@@ -79,7 +83,8 @@ module _ (x : Kernel) (fine : IsOpening x) (v w : View Kernel Note) (a : Ask) wh
       go None (ask.Abandon q) s = absurd s.1
       go (Some n) b s = found b n n.got refl s s.answer
 
-  pub got_work_so : (p : Proc) → w.number ≡ v.number → Called Steps x v a (got.Work p) w ⊎ ((is_abandon a ≡ false) × Declined Steps refusal x v a (got.Work p) w) → Has x w.seen w.number p
+  pub got_work_so : (p : Proc) → w.number ≡ v.number → Called Steps x v a (got.Work p) w
+      ⊎ ((is_abandon a ≡ false) × Declined Steps refusal x v a (got.Work p) w) → Has x w.seen w.number p
   got_work_so p same (inl c) = got_work p same c
   got_work_so p same (inr d) = go a d.1.answer
     where
@@ -91,9 +96,16 @@ module _ (x : Kernel) (fine : IsOpening x) (v w : View Kernel Note) (a : Ask) wh
   held_by : (h : Option Handed) → Called Steps x v a (got.Refused h) w → Back x v w a h
   held_by h c = go c.note a refl c.answer c.own
     where
-      go : (o : Option Note) (b : Ask) → a ≡ b → Steps c.met v.number b c.left (got.Refused h) o → w.own ≡ v.own ++ with_note o → Back x v w a h
+      go : (o : Option Note) (b : Ask) → a ≡ b → Steps c.met v.number b c.left (got.Refused h) o → w.own ≡ v.own
+          ++ with_note o → Back x v w a h
       go None (ask.Turn None) e s own = absurd s.1
-      go None (ask.Turn (Some i)) e s own = let f : h ≡ Some i = cc (s.1) in record { ask = e ∙ ap ask.Turn (sym f); own = own ∙ append-nil v.own; last = c.left; legal = c.legal_after }
+      go None (ask.Turn (Some i)) e s own = let f : h ≡ Some i = cc (s.1) in record {
+        ask = e
+            ∙ ap ask.Turn (sym f);
+        own = own ∙ append-nil v.own;
+        last = c.left;
+        legal = c.legal_after;
+      }
       go None (ask.Abandon q) e s own = absurd s.1
       go (Some n) b e s own = absurd (none n.got s.answer)
         where
@@ -105,58 +117,87 @@ module _ (x : Kernel) (fine : IsOpening x) (v w : View Kernel Note) (a : Ask) wh
   held_refused h d = go a refl d.answer
     where
       go : (b : Ask) → a ≡ b → refusal b (got.Refused h) → Back x v w a h
-      go (ask.Turn i) e f = let g : h ≡ i = cc f in record { ask = e ∙ ap ask.Turn (sym g); own = d.own; last = d.met; legal = d.legal }
+      go (ask.Turn i) e f = let g : h ≡ i = cc f in record {
+        ask = e
+            ∙ ap ask.Turn (sym g);
+        own = d.own;
+        last = d.met;
+        legal = d.legal;
+      }
       go (ask.Abandon q) e f = absurd f
 
-  abrupt : (seen : List Note) (n : ℕ) (h : Option Handed) → StandsFor (setting_of x) seen n (ask.Turn h) → StandsFor (setting_of x) seen n (ask.Abandon (option_map (λ (i : Handed). i.proc) h))
+  abrupt : (seen : List Note) (n : ℕ) (h : Option Handed) → StandsFor (setting_of x) seen n (ask.Turn h)
+      → StandsFor (setting_of x) seen n (ask.Abandon (option_map (λ (i : Handed). i.proc) h))
   abrupt seen n None s = tt {0}
   abrupt seen n (Some h) s = s.holds
 
-  pub may_give_up : (h : Option Handed) → w.number ≡ v.number → StartsWith w.seen v.seen → notes_of_worker w.number w.seen ≡ w.own → MayAsk x v.number v.seen v.own a
+  pub may_give_up : (h : Option Handed) → w.number ≡ v.number → StartsWith w.seen v.seen
+      → notes_of_worker w.number w.seen ≡ w.own → MayAsk x v.number v.seen v.own a
       → Called Steps x v a (got.Refused h) w ⊎ ((is_abandon a ≡ false) × Declined Steps refusal x v a (got.Refused h) w)
       → MayAsk x w.number w.seen w.own (ask.Abandon (option_map (λ (i : Handed). i.proc) h))
   may_give_up h number starts by may call = go (both call)
     where
-      both : Called Steps x v a (got.Refused h) w ⊎ ((is_abandon a ≡ false) × Declined Steps refusal x v a (got.Refused h) w) → Back x v w a h
+      both : Called Steps x v a (got.Refused h) w
+          ⊎ ((is_abandon a ≡ false) × Declined Steps refusal x v a (got.Refused h) w) → Back x v w a h
       both (inl c) = held_by h c
       both (inr d) = held_refused h d.1
 
       go : Back x v w a h → MayAsk x w.number w.seen w.own (ask.Abandon (option_map (λ (i : Handed). i.proc) h))
       go t =
-          let mine : notes_of_worker v.number w.seen ≡ v.own = subst (λ i. notes_of_worker i w.seen ≡ v.own) number (by ∙ t.own) in
-          let s = later x fine w.seen t.last t.legal v.number v.seen v.own may.0 starts mine a may.1 in
-          (by, subst (λ i. StandsFor (setting_of x) w.seen i (ask.Abandon (option_map (λ (j : Handed). j.proc) h))) (sym number) (abrupt w.seen v.number h (subst (λ b. StandsFor (setting_of x) w.seen v.number b) t.ask s.0)))
+          let mine : notes_of_worker v.number w.seen ≡ v.own = subst (λ i. notes_of_worker i w.seen ≡ v.own) number (by
+          ∙ t.own) in
+          let s = later x fine w.seen t.last t.legal v.number v.seen v.own may.0 starts mine a may.1 in (
+            by,
+            subst (λ i. StandsFor (setting_of x) w.seen i (ask.Abandon (option_map (λ (j : Handed). j.proc) h)))
+                (sym number) (abrupt w.seen v.number h
+                (subst (λ b. StandsFor (setting_of x) w.seen v.number b) t.ask s.0)),
+          )
 
-module _ (x : Kernel) (code : Parts) (lim : Limits) (run : IsRunOf x code lim) (seen : List Note) (w : ℕ) (p : Proc) (h : Has x seen w p) where
+module _ (x : Kernel) (code : Parts) (lim : Limits) (run : IsRunOf x code lim) (seen : List Note) (w : ℕ) (p : Proc)
+    (h : Has x seen w p) where
   -- the run of the process is that of the room
   same_run : setting_of x ≡ run_of code p.input.value lim
   same_run = λ i. run_of (run.code i) (sym h.input i) (run.limits i)
 
   -- a turn of what is held lacks nothing
   pub may_turn : CanTurn p code lim
-  may_turn = subst (λ (g : Setting). IsSafe (memory plain g) g.code (config_of p)) same_run ((run.opening.sound.safe x.root.value.input.value x.limits run.opening.limits (entries_of seen) h.system h.along).turns p.number (config_of p) h.runs)
+  may_turn = subst (λ (g : Setting). IsSafe (memory plain g) g.code (config_of p)) same_run
+      ((run.opening.sound.safe x.root.value.input.value x.limits run.opening.limits
+      (entries_of seen) h.system h.along).turns p.number (config_of p) h.runs)
 
   -- and ranks fall along it
   pub is_ranked : IsRankedFrom p code lim
-  is_ranked = subst (λ (g : Setting). IsRankedAlong (memory plain g) g.code (config_of p)) same_run ((run.opening.sound.safe x.root.value.input.value x.limits run.opening.limits (entries_of seen) h.system h.along).ranks p.number (config_of p) h.runs)
+  is_ranked = subst (λ (g : Setting). IsRankedAlong (memory plain g) g.code (config_of p)) same_run
+      ((run.opening.sound.safe x.root.value.input.value x.limits run.opening.limits
+      (entries_of seen) h.system h.along).ranks p.number (config_of p) h.runs)
 
   abbrev holds : (q : Proc) → q.number ≡ p.number → HoldsOut (setting_of x) seen w q.number
-  holds q same = record { system = h.system; reaches = h.reaches; out = ap (control seen).doing same ∙ h.out; at = config_of p; runs = ap h.system.condition same ∙ h.runs }
+  holds q same = record {
+    system = h.system;
+    reaches = h.reaches;
+    out = ap (control seen).doing same
+        ∙ h.out;
+    at = config_of p;
+    runs = ap h.system.condition same ∙ h.runs;
+  }
 
   -- a process that was turned may be handed in
-  pub may_hand_in : (own : List Note) (q : Proc) (s : Stop) → notes_of_worker w seen ≡ own → IsTurnOf p code lim q s → Stays p q → (s ≡ stop.Memory → ⊥) → MayAsk x w seen own (ask.Turn (Some (record { proc = q; stop = s })))
+  pub may_hand_in : (own : List Note) (q : Proc) (s : Stop) → notes_of_worker w seen ≡ own → IsTurnOf p code lim q s
+      → Stays p q → (s ≡ stop.Memory → ⊥) → MayAsk x w seen own (ask.Turn (Some (record { proc = q; stop = s })))
   may_hand_in own q s by turned stays not = (
     by,
     record {
       holds = holds q stays.0;
-      turn = subst (λ (g : Setting). IsTurn (memory plain g) g.code (config_of p) (turn_by s q)) (sym same_run) (by_stop s not turned).0;
+      turn = subst (λ (g : Setting). IsTurn (memory plain g) g.code (config_of p) (turn_by s q)) (sym same_run)
+          (by_stop s not turned).0;
       fork = (by_stop s not turned).1;
       input = ap (λ (i : _). i.value) stays.1 ∙ h.input;
       whole = whole s not;
     },
   )
     where
-      by_stop : (r : Stop) → (r ≡ stop.Memory → ⊥) → IsTurnOf p code lim q r → IsTurn (memory plain (run_of code p.input.value lim)) code (config_of p) (turn_by r q) × KeepsFork r q
+      by_stop : (r : Stop) → (r ≡ stop.Memory → ⊥) → IsTurnOf p code lim q r
+          → IsTurn (memory plain (run_of code p.input.value lim)) code (config_of p) (turn_by r q) × KeepsFork r q
       by_stop stop.Memory n t = absurd (n refl)
       by_stop (stop.Fork u v i) n t = t
       by_stop stop.Open n t = t
@@ -177,5 +218,6 @@ module _ (x : Kernel) (code : Parts) (lim : Limits) (run : IsRunOf x code lim) (
       whole (stop.Fault f) n = tt {0}
 
   -- who is lost with its worker
-  pub may_lose : (own : List Note) (q : Proc) → notes_of_worker w seen ≡ own → Stays p q → MayAsk x w seen own (ask.Abandon (Some q))
+  pub may_lose : (own : List Note) (q : Proc) → notes_of_worker w seen ≡ own → Stays p q
+      → MayAsk x w seen own (ask.Abandon (Some q))
   may_lose own q by stays = (by, holds q stays.0)

@@ -16,8 +16,9 @@ use Rattle.sp_runner.specs.Ends.{EndsWith}
 abbrev pub notes_of_worker : ℕ → List Note → List Note
 notes_of_worker w ns = notes_by (λ (n : Note). n.worker) w ns
 
--- the journal is that of a legal history of the kernel, which is made of the calls of the workers: each of them gives what its call
--- before got. The machine along that journal is at that end, with that output. The journal of one worker is first in, first out
+-- the journal is that of a legal history of the kernel, which is made of the calls of the workers: each of them gives
+-- what its call before got. The machine along that journal is at that end, with that output. The journal of one worker
+-- is first in, first out
 pub record IsRun (g : Setting) (workers : ℕ) (c : Closed) : Type 0 where
   pub notes : List Note
   pub legal : IsLegal plain g notes

@@ -55,11 +55,11 @@ fn run_all<R: Threads + Wait + Sync, G: Gate>(
     Ok(settled)
 }
 
-/// Runs the code on an input with so many workers, to the end of the run: it is done, in a deadlock, or it met a fault. What is
-/// made in this call takes its memory from `alloc`. `workers` is from 1 to 64, and the code is sound.
+/// Runs the code on an input with so many workers, to the end of the run: it is done, in a deadlock, or it met a fault.
+/// What is made in this call takes its memory from `alloc`. `workers` is from 1 to 64, and the code is sound.
 ///
-/// Each worker serves the room with what it holds, enters the gate and runs one turn. It rests where nothing can be taken. The
-/// journal depends on the workers; the end and the output are those of the machine along that journal.
+/// Each worker serves the room with what it holds, enters the gate and runs one turn. It rests where nothing can be
+/// taken. The journal depends on the workers; the end and the output are those of the machine along that journal.
 ///
 /// The error is want of memory alone.
 pub fn run<R: Threads + Wait + Sync, G: Gate>(

@@ -26,8 +26,8 @@ fn held(refused: Option<Handed>) -> Option<Proc>
     }
 }
 
-/// One worker, from its first ask to its last. It gives its seat back once the run is over and nothing is out, or once it gave
-/// up for want of memory.
+/// One worker, from its first ask to its last. It gives its seat back once the run is over and nothing is out, or once
+/// it gave up for want of memory.
 pub(crate) fn work<R: Wait, G: Gate>(
     rt: &R,
     room: &Room<Kernel>,

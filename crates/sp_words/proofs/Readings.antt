@@ -1,5 +1,6 @@
 -- How numbers and names are read from texts.
-use Rattle.std.proofs.Common.{◌≡◌, ◌^◌, ◌&&◌, ℕ, Bool, cond, true, false, refl, sym, ap, ◌∙◌, List, [], ◌∷◌, length, Some, None, option_map, Result, Ok, Err, true≢false}
+use Rattle.std.proofs.Common.{◌≡◌, ◌^◌, ◌&&◌, ℕ, Bool, cond, true, false, refl, sym, ap, ◌∙◌, List, [], ◌∷◌, length}
+use Rattle.std.proofs.Common.{Some, None, option_map, Result, Ok, Err, true≢false}
 use Rattle.std.proofs.lemmas.Bool.{ltb-true, lt-ltb}
 use Rattle.std.proofs.lemmas.Slice.Eq.{bytes_eq-Decides}
 use Rattle.std.specs.Prelude.{nat_lt, unwrap_or}
@@ -56,7 +57,8 @@ unwritten true n never = absurd (never refl)
 unwritten false n never = refl
 
 -- what `parse` reads is the number below the bound of the type, where there is one
-pub number_parsed : {E : Type 0} (k : ℕ) (text : Text) (r : Result ℕ E) → ParsesUnsigned k 10 text r → result_ok r ≡ number_below (2 ^ k) text
+pub number_parsed : {E : Type 0} (k : ℕ) (text : Text) (r : Result ℕ E) → ParsesUnsigned k 10 text r
+    → result_ok r ≡ number_below (2 ^ k) text
 number_parsed k text (Ok n) h =
     let digits = without_leading_plus text in
     let tested : (is_numeral digits && nat_lt (digits_value 10 digits) (2 ^ k)) ≡ true =

@@ -1,10 +1,12 @@
 -- The arguments of one level of the command line, once it is built, and what one use of them comes to.
-use Rattle.std.proofs.Common.{◌≡◌, ◌&&◌, ◌||◌, ℕ, Bool, cond, true, false, not, refl, sym, ap, ◌∙◌, List, [], ◌∷◌, ◌++◌, map, Option, Some, None, option_map, append-nil, true≢false}
+use Rattle.std.proofs.Common.{◌≡◌, ◌&&◌, ◌||◌, ℕ, Bool, cond, true, false, not, refl, sym, ap, ◌∙◌, List, [], ◌∷◌, ◌++◌}
+use Rattle.std.proofs.Common.{map, Option, Some, None, option_map, append-nil, true≢false}
 use Rattle.std.specs.List.{find}
 use Rattle.std.specs.Str.{bytes_eq}
 use Rattle.std.specs.Prelude.{codes}
 use Rattle.std.proofs.lemmas.Slice.Eq.{bytes_eq-Decides}
-use Rattle.clap.specs.Walk.{Row, Rule, arg_by_id, arg_by_index, arg_by_long, at_row, has_row, more_values, used, with_values}
+use Rattle.clap.specs.Walk.{Row, Rule, arg_by_id, arg_by_index, arg_by_long, at_row, has_row, more_values, used}
+use Rattle.clap.specs.Walk.{with_values}
 use Rattle.clap.specs.Simple.{Shape, new_shape}
 use Rattle.clap.specs.ValueTests.{accepts}
 use Rattle.clap.specs.Values.{reading_of, refused_kind}
@@ -100,11 +102,15 @@ clear-or_else (k ∷ ks) b = refl
 abbrev pub new_row : Text → Reading → Text → Row
 new_row id how value = record { id = id; values = value ∷ []; count = None; source = Some CommandLine; reading = how }
 
-pub fault_of_use : (id : Text) (long : Option Text) (index : Option ℕ) (p : ValueParser) (required : Bool) (value : Text) (rows : List Row)
-    → clear (use_fault false (single id long index p required) (value ∷ []) rows) ≡ (not (has_row id rows) && accepts false p value)
+pub fault_of_use : (id : Text) (long : Option Text) (index : Option ℕ) (p : ValueParser) (required : Bool)
+    (value : Text) (rows : List Row)
+    → clear (use_fault false (single id long index p required) (value ∷ []) rows) ≡ (not (has_row id rows)
+    && accepts false p value)
 fault_of_use id long index p required value rows = go (has_row id rows) (accepts false p value) (refused_kind p)
   where
-    go : (h b : Bool) (k : ErrorKind) → clear (or_else (cond (h && true) (kind.ArgumentConflict ∷ []) []) (or_else (cond b [] (k ∷ [])) [])) ≡ (not h && b)
+    go : (h b : Bool) (k : ErrorKind)
+        → clear (or_else (cond (h && true) (kind.ArgumentConflict ∷ []) []) (or_else (cond b [] (k ∷ [])) [])) ≡ (not h
+        && b)
     go true true k = refl
     go true false k = refl
     go false true k = refl
@@ -114,15 +120,18 @@ or_both : (a b : Bool) → (a || b) ≡ false → (a ≡ false) × (b ≡ false)
 or_both true b e = absurd (true≢false e)
 or_both false b e = (refl, e)
 
-pub at_no_row : (id : Text) (change : Row → List Row) (missing rows : List Row) → has_row id rows ≡ false → at_row id change missing rows ≡ rows ++ missing
+pub at_no_row : (id : Text) (change : Row → List Row) (missing rows : List Row) → has_row id rows ≡ false
+    → at_row id change missing rows ≡ rows ++ missing
 at_no_row id change missing [] e = refl
 at_no_row id change missing (r ∷ rs) e =
     let parts = or_both (bytes_eq r.id id) (has_row id rs) e in
     let here : bytes_eq r.id id ≡ false = parts.0 in
     rw here (ap (λ xs. r ∷ xs) (at_no_row id change missing rs parts.1))
 
-pub rows_of_use : (id : Text) (long : Option Text) (index : Option ℕ) (p : ValueParser) (required : Bool) (value : Text) (rows : List Row)
-    → has_row id rows ≡ false → used (single id long index p required) (value ∷ []) rows ≡ rows ++ new_row id (reading_of p) value ∷ []
+pub rows_of_use : (id : Text) (long : Option Text) (index : Option ℕ) (p : ValueParser) (required : Bool) (value : Text)
+    (rows : List Row)
+    → has_row id rows ≡ false → used (single id long index p required) (value ∷ []) rows ≡ rows
+    ++ new_row id (reading_of p) value ∷ []
 rows_of_use id long index p required value rows e =
     ap (with_values id (reading_of p) CommandLine (value ∷ [])) (at_no_row id (λ _. []) [] rows e ∙ append-nil rows)
     ∙ at_no_row id (more_values CommandLine (value ∷ [])) (new_row id (reading_of p) value ∷ []) rows e
@@ -159,7 +168,8 @@ among : (os : Options) (n : Text) → contains (map (λ o. o.0) os) n ≡ true �
 among [] n e = absurd (true≢false (sym e))
 among (o ∷ os) n e = go (bytes_eq o.0 n) refl e (among os n)
   where
-    go : (b : Bool) → bytes_eq o.0 n ≡ b → (b || contains (map (λ o. o.0) os) n) ≡ true → (contains (map (λ o. o.0) os) n ≡ true → IsAmong os n) → IsAmong (o ∷ os) n
+    go : (b : Bool) → bytes_eq o.0 n ≡ b → (b || contains (map (λ o. o.0) os) n) ≡ true
+        → (contains (map (λ o. o.0) os) n ≡ true → IsAmong os n) → IsAmong (o ∷ os) n
     go true d k ih =
         let is : o.0 ≡ n = same_name o.0 n d in
         record {
@@ -192,7 +202,8 @@ apart ns n id none e = go (bytes_eq n id) refl
     go false d = d
     go true d = absurd (true≢false (sym e ∙ ap (contains ns) (same_name n id d) ∙ none))
 
-id_behind : (there : Bool) (rest : List Rule) (n : Text) → bytes_eq journal_id n ≡ false → arg_by_id (behind_file there rest) n ≡ arg_by_id rest n
+id_behind : (there : Bool) (rest : List Rule) (n : Text) → bytes_eq journal_id n ≡ false
+    → arg_by_id (behind_file there rest) n ≡ arg_by_id rest n
 id_behind true rest n e = rw e refl
 id_behind false rest n e = refl
 
@@ -201,7 +212,8 @@ long_behind true rest n = refl
 long_behind false rest n = refl
 
 -- the name of an option is neither that of FILE nor that of JOURNAL
-pub option_of : (os : Parsers) (n : Text) → contains (map (λ o. o.0) os.1) file_id ≡ false → contains (map (λ o. o.0) os.1) journal_id ≡ false
+pub option_of : (os : Parsers) (n : Text) → contains (map (λ o. o.0) os.1) file_id ≡ false
+    → contains (map (λ o. o.0) os.1) journal_id ≡ false
     → contains (map (λ o. o.0) os.1) n ≡ true → IsOption os n
 option_of os n no_file no_journal e =
     let a = among os.1 n e in

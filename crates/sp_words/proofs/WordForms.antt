@@ -1,9 +1,11 @@
 -- How the parser of command lines sees the forms of words.
-use Rattle.std.proofs.Common.{◌≡◌, ◌==◌, ◌&&◌, ℕ, Bool, true, false, refl, ap, ap₂, ◌∙◌, ◌⊎◌, inl, inr, List, [], ◌∷◌, Option, Some, None, eqb-true, cond}
+use Rattle.std.proofs.Common.{◌≡◌, ◌==◌, ◌&&◌, ℕ, Bool, true, false, refl, ap, ap₂, ◌∙◌, ◌⊎◌, inl, inr, List, [], ◌∷◌}
+use Rattle.std.proofs.Common.{Option, Some, None, eqb-true, cond}
 use Rattle.std.specs.List.{after_first, list_any}
 use Rattle.std.specs.Str.{bytes_eq}
 use Rattle.clap.specs.Lexer.{long_of, short_of}
-use Rattle.sp_words.specs.Dashes.{Text, after_dash, contains, form_by_value, form_of, form_of_option, form_of_rest, form_of_tail, form_of_text, name_and_value, name_of, value_of}
+use Rattle.sp_words.specs.Dashes.{Text, after_dash, contains, form_by_value, form_of, form_of_option, form_of_rest}
+use Rattle.sp_words.specs.Dashes.{form_of_tail, form_of_text, name_and_value, name_of, value_of}
 use Rattle.sp_words.specs.declared.form.Form.{Form}
 use Rattle.sp_words.specs.declared.form.Form.TheVariants.{Plain, End, Whole, Open, Stray}
 
@@ -51,15 +53,23 @@ not_end_of x y z zs = go (x == 45) (y == 45)
     go true false = refl
     go false b = refl
 
-long_word_of : (x y z : ℕ) (zs : Text) → (x == 45) ≡ true → (y == 45) ≡ true → long_of (x ∷ y ∷ z ∷ zs) ≡ Some (name_and_value (z ∷ zs))
+long_word_of : (x y z : ℕ) (zs : Text) → (x == 45) ≡ true → (y == 45) ≡ true
+    → long_of (x ∷ y ∷ z ∷ zs) ≡ Some (name_and_value (z ∷ zs))
 long_word_of x y z zs d e = rw (d, e) refl
 
-by_value : (options : List Text) (word : Text) (value : Option Text) → bytes_eq word dashes ≡ false → long_of word ≡ Some (name_of word, value)
-    → (value ≡ None) ⊎ (value ≡ Some (value_of word)) → contains options (name_of word) ≡ true → ReadsWord options word (form_by_value value)
+by_value : (options : List Text) (word : Text) (value : Option Text) → bytes_eq word dashes ≡ false
+    → long_of word ≡ Some (name_of word, value)
+    → (value ≡ None) ⊎ (value ≡ Some (value_of word)) → contains options (name_of word) ≡ true
+    → ReadsWord options word (form_by_value value)
 by_value options word None not_end long cases known = record { not_end = not_end; long = long; known = known }
 by_value options word (Some v) not_end long cases known = elim cases [
   | inl none ↦ absurd (some≢none v none)
-  | inr same ↦ record { not_end = not_end; long = long ∙ ap (λ (o : Option Text). Some (name_of word, o)) same; known = known }
+  | inr same ↦ record {
+    not_end = not_end;
+    long = long
+        ∙ ap (λ (o : Option Text). Some (name_of word, o)) same;
+    known = known;
+  }
 ]
 
 value_cases : (b : Bool) (v : Text) → (cond b (Some v) None ≡ None) ⊎ (cond b (Some v) None ≡ Some v)
@@ -73,14 +83,17 @@ by_name options x y z zs d e = go (contains options (name_and_value (z ∷ zs)).
     go : (b : Bool) → contains options (name_and_value (z ∷ zs)).0 ≡ b
         → ReadsWord options (x ∷ y ∷ z ∷ zs) (cond b (form_by_value (name_and_value (z ∷ zs)).1) Stray)
     go false k = tt
-    go true k = by_value options (x ∷ y ∷ z ∷ zs) (name_and_value (z ∷ zs)).1 (not_end_of x y z zs) (long_word_of x y z zs d e)
+    go true k = by_value options (x ∷ y ∷ z ∷ zs) (name_and_value (z ∷ zs)).1 (not_end_of x y z zs)
+        (long_word_of x y z zs d e)
         (value_cases (list_any (λ b. b == 61) (z ∷ zs)) (after_first (λ b. b == 61) (z ∷ zs))) k
 
-two_dashes : (options : List Text) (x y : ℕ) (ys : Text) → (x == 45) ≡ true → (y == 45) ≡ true → ReadsWord options (x ∷ y ∷ ys) (form_of_text options ys)
+two_dashes : (options : List Text) (x y : ℕ) (ys : Text) → (x == 45) ≡ true → (y == 45) ≡ true
+    → ReadsWord options (x ∷ y ∷ ys) (form_of_text options ys)
 two_dashes options x y [] d e = ap₂ (λ a b. a ∷ b ∷ []) (eqb-true _ _ d) (eqb-true _ _ e)
 two_dashes options x y (z ∷ zs) d e = by_name options x y z zs d e
 
-one_dash : (options : List Text) (x : ℕ) (xs : Text) → (x == 45) ≡ true → ReadsWord options (x ∷ xs) (form_of_tail options (after_dash xs))
+one_dash : (options : List Text) (x : ℕ) (xs : Text) → (x == 45) ≡ true
+    → ReadsWord options (x ∷ xs) (form_of_tail options (after_dash xs))
 one_dash options x [] d = tt
 one_dash options x (y ∷ ys) d = go (y == 45) refl
   where

@@ -1,6 +1,8 @@
 -- The options of the commands: their names, and which texts are values of theirs. `command_of` reads words by it, and
 -- the contracts of `given` cite it. The ranges stand as tests on texts, since a value is judged before it is a number.
-use Rattle.std.specs.Prelude.{◌&&◌, ◌++◌, ◌^◌, ℕ, Bool, false, List, [], ◌∷◌, Option, Some, None, codes, find, if◌then◌else◌, is_some, length, map, nat_le, nat_lt, option_and_then, option_map, unwrap_or}
+use Rattle.std.specs.Prelude.{◌&&◌, ◌++◌, ◌^◌, ℕ, Bool, false, List, [], ◌∷◌, Option, Some, None, codes, find}
+use Rattle.std.specs.Prelude.{if◌then◌else◌, is_some, length, map, nat_le, nat_lt, option_and_then, option_map}
+use Rattle.std.specs.Prelude.{unwrap_or}
 use Rattle.std.specs.List.{list_all}
 use Rattle.std.specs.Option.{option_map_or}
 use Rattle.std.specs.Char.{digit_value}
@@ -29,7 +31,8 @@ is_number_in least greatest text =
 
 -- the size that the text writes: a number of `u64` from 1 to 2,000
 abbrev pub size_named : Text → Option ℕ
-size_named text = option_and_then (λ n. if nat_le 1 n && nat_le n 2000 then Some n else None) (number_below (2 ^ 64) text)
+size_named text = option_and_then (λ n. if nat_le 1 n
+    && nat_le n 2000 then Some n else None) (number_below (2 ^ 64) text)
 
 -- the reports by their names
 abbrev pub shows : List (Text × Show)
@@ -57,17 +60,18 @@ limit_options = (codes "ticks", is_number_in 1 1000000000)
 
 -- the options of `run`
 abbrev pub run_options : List Choice
-run_options = (codes "workers", is_number_in 1 64) ∷ limit_options ++ (codes "show", λ text. is_some (show_named text)) ∷ []
+run_options = (codes "workers", is_number_in 1 64) ∷ limit_options
+    ++ (codes "show", λ text. is_some (show_named text)) ∷ []
 
 -- the options of `gen`
 abbrev pub gen_options : List Choice
 gen_options = (codes "workers", is_number_in 1 64) ∷ []
 
--- the options of `witness`: those of `run`, but for the reports
-abbrev pub witness_options : List Choice
-witness_options = (codes "workers", is_number_in 1 64) ∷ limit_options
+-- the options of `witness` and `exec`: those of `run`, but for the reports
+abbrev pub worker_options : List Choice
+worker_options = (codes "workers", is_number_in 1 64) ∷ limit_options
 
--- only `run`, `gen`, `replay` and `witness` have options
+-- only `run`, `gen`, `replay`, `witness` and `exec` have options
 abbrev pub options_of : CommandName → List Choice
 options_of name.Check = []
 options_of name.Run = run_options
@@ -76,8 +80,9 @@ options_of name.Sets = []
 options_of name.Format = []
 options_of name.Gen = gen_options
 options_of name.Replay = limit_options
-options_of name.Witness = witness_options
+options_of name.Witness = worker_options
 options_of name.Build = []
+options_of name.Exec = worker_options
 
 -- the names of the options of a command
 abbrev pub option_names : CommandName → List Text

@@ -46,9 +46,9 @@ run_parsers q = (codes "workers", vp.Unsigned 1 64) ∷ limit_parsers ++ (codes 
 abbrev pub gen_parsers : List (Text × ValueParser)
 gen_parsers = (codes "workers", vp.Unsigned 1 64) ∷ []
 
--- the options of `witness`
-abbrev pub witness_parsers : List (Text × ValueParser)
-witness_parsers = (codes "workers", vp.Unsigned 1 64) ∷ limit_parsers
+-- the options of `witness` and `exec`
+abbrev pub worker_parsers : List (Text × ValueParser)
+worker_parsers = (codes "workers", vp.Unsigned 1 64) ∷ limit_parsers
 
 -- the parser takes the names of the reports
 abbrev pub IsShowParser : ValueParser → Type 0
@@ -60,7 +60,8 @@ shape_with name options = record (new_shape name) { rules = file_rule ∷ map op
 
 -- `replay` with its FILE, its JOURNAL and these options
 abbrev pub replay_shape : List (Text × ValueParser) → Shape
-replay_shape options = record (new_shape (codes "replay")) { rules = file_rule ∷ journal_rule ∷ map option_rule options }
+replay_shape options = record (new_shape
+    (codes "replay")) { rules = file_rule ∷ journal_rule ∷ map option_rule options }
 
 -- a command with its FILE alone
 abbrev pub app_with_file : Text → App
@@ -86,7 +87,8 @@ app_with q = record {
   subs = shape_with (codes "check") [] ∷ shape_with (codes "run") (run_parsers q)
       ∷ shape_with (codes "code") [] ∷ shape_with (codes "sets") [] ∷ shape_with (codes "format") []
       ∷ shape_with (codes "gen") gen_parsers ∷ replay_shape limit_parsers
-      ∷ shape_with (codes "witness") witness_parsers ∷ shape_with (codes "build") [] ∷ [];
+      ∷ shape_with (codes "witness") worker_parsers ∷ shape_with (codes "build") []
+      ∷ shape_with (codes "exec") worker_parsers ∷ [];
 }
 
 -- no option of the command is one of its subcommands as well

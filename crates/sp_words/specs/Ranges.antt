@@ -31,6 +31,7 @@ AreInRange (command.Gen size workers) = IsUpTo 2000 size × IsUpTo 64 workers
 AreInRange (command.Replay file journal limits) = IsInRange 1 limits
 AreInRange (command.Witness file workers limits) = IsInRange workers limits
 AreInRange (command.Build file) = Unit {0}
+AreInRange (command.Exec file workers limits) = IsInRange workers limits
 
 -- the workers where no option is given
 abbrev pub default_workers : ℕ

@@ -1,7 +1,8 @@
 -- What a list of words asks for: the command with its FILE, options and defaults, or none. The contract of
 -- `read_words` and the top call's causes cite `command_of`. It goes by the items of the words and not by the kit's
 -- parser, so that one page says which words are refused.
-use Rattle.std.specs.Prelude.{◌&&◌, ◌++◌, ◌^◌, ℕ, Bool, true, false, not, List, [], ◌∷◌, Option, Some, None, codes, find, if◌then◌else◌, option_and_then, option_map}
+use Rattle.std.specs.Prelude.{◌&&◌, ◌++◌, ◌^◌, ℕ, Bool, true, false, not, List, [], ◌∷◌, Option, Some, None, codes}
+use Rattle.std.specs.Prelude.{find, if◌then◌else◌, option_and_then, option_map}
 use Rattle.std.specs.List.{list_all}
 use Rattle.std.specs.Option.{option_map_or}
 use Rattle.std.specs.Str.{bytes_eq}
@@ -70,14 +71,17 @@ workers_from value = number_or (2 ^ 32) default_workers (value (codes "workers")
 -- the command with its FILE, or `gen` with a size that it may have, and what its JOURNAL and options were given
 abbrev pub command_from : CommandName → (Text → Option Text) → Text → Option Command
 command_from name.Check value word = Some (command.Check word)
-command_from name.Run value word = Some (command.Run word (workers_from value) (limits_from value) (show_or_end (value (codes "show"))))
+command_from name.Run value word = Some
+    (command.Run word (workers_from value) (limits_from value) (show_or_end (value (codes "show"))))
 command_from name.Code value word = Some (command.Code word)
 command_from name.Sets value word = Some (command.Sets word)
 command_from name.Format value word = Some (command.Format word)
 command_from name.Gen value word = option_map (λ size. command.Gen size (workers_from value)) (size_named word)
-command_from name.Replay value word = option_map (λ text. command.Replay word text (limits_from value)) (value (codes "JOURNAL"))
+command_from name.Replay value word = option_map (λ text. command.Replay word text (limits_from value))
+    (value (codes "JOURNAL"))
 command_from name.Witness value word = Some (command.Witness word (workers_from value) (limits_from value))
 command_from name.Build value word = Some (command.Build word)
+command_from name.Exec value word = Some (command.Exec word (workers_from value) (limits_from value))
 
 -- the command by the texts of its subjects, where FILE is one of them
 abbrev pub command_with : CommandName → (Text → Option Text) → Option Command
@@ -108,12 +112,14 @@ has_journal name.Gen = false
 has_journal name.Replay = true
 has_journal name.Witness = false
 has_journal name.Build = false
+has_journal name.Exec = false
 
 -- where there is a JOURNAL, it is the second of the words that are no options
 abbrev pub with_journal : Bool → List Item → List Item
 with_journal there is = if there then journal_second is else is
 
--- the items are a FILE, or the N of `gen`, perhaps a JOURNAL, and options with values that they may have, each at most once
+-- the items are a FILE, or the N of `gen`, perhaps a JOURNAL, and options with values that they may have, each at most
+-- once
 abbrev pub command_of_parts : CommandName → List Item → Option Command
 command_of_parts command is =
     if each_once [] is && list_all (is_accepted (options_of command)) is then command_with command (lookup is)
@@ -128,7 +134,7 @@ abbrev pub command_names : List (Text × CommandName)
 command_names = (codes "check", name.Check) ∷ (codes "run", name.Run) ∷ (codes "code", name.Code)
     ∷ (codes "sets", name.Sets) ∷ (codes "format", name.Format) ∷ (codes "gen", name.Gen)
     ∷ (codes "replay", name.Replay) ∷ (codes "witness", name.Witness)
-    ∷ (codes "build", name.Build) ∷ []
+    ∷ (codes "build", name.Build) ∷ (codes "exec", name.Exec) ∷ []
 
 -- the command of a name
 abbrev pub command_named : Text → Option CommandName

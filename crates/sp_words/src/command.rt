@@ -7,7 +7,7 @@ use sp_base::{Limits, Show, Word};
 use std::alloc::{AllocError, AllocFailed};
 use thiserror::Error;
 
-/// What the words ask for. `file`, or the one word of a command, names the program text.
+/// What the words ask for. `file`, or the one word of a command, names the program text, but for `Exec`.
 #[derive(Debug, Drop)]
 pub enum Command {
     /// Say whether the text keeps all rules, or name the first that it breaks.
@@ -50,6 +50,14 @@ pub enum Command {
     },
     /// Write the code of the program as a text that can be read again.
     Build(Word),
+    /// Run the code that such a text gives, without its source.
+    Exec {
+        /// The name of the code's text.
+        file: Word,
+        /// How many workers run its processes, from 1 to 64.
+        workers: u32,
+        limits: Limits,
+    },
 }
 
 /// The names of the commands.
@@ -64,13 +72,15 @@ pub(crate) enum CommandName {
     Replay,
     Witness,
     Build,
+    Exec,
 }
 
 /// Why the words give no command.
 #[derive(Clone, Copy, Debug, PartialEq, Eq, Error)]
 pub enum WordsError {
     /// The command is missing or unknown, its FILE, N or JOURNAL is missing or there is one too many, an N is out of
-    /// its range, an option is unknown, repeated, without its value or out of its range, or a word breaks the dash rule.
+    /// its range, an option is unknown, repeated, without its value or out of its range, or a word breaks the dash
+    /// rule.
     #[error("bad words")]
     Refused,
     /// Memory was refused.

@@ -5,7 +5,7 @@ ghost use Rattle.sp_words.specs.Ranges.{default_limits};
 
 use sp_base::Limits;
 
-/// The workers of a `run` or `gen` whose words give no number.
+/// The workers of a run whose words give no number.
 pub(crate) const DEFAULT_WORKERS: u32 = 4;
 
 /// The limits of a `run` whose words give none.

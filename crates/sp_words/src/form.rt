@@ -1,7 +1,8 @@
 //! The dash rule: which words before `--` may begin with a dash.
 
 ghost use Rattle.std.specs.Prelude.{◌≡◌, IsTrue, ◌↔◌, None, is_some, map, string_bytes};
-ghost use Rattle.sp_words.specs.Dashes.{after_dash, form_of, form_of_option, form_of_text, items, name_and_value, text_in, texts_of};
+ghost use Rattle.sp_words.specs.Dashes.{after_dash, form_of, form_of_option, form_of_text, items, name_and_value};
+ghost use Rattle.sp_words.specs.Dashes.{text_in, texts_of};
 
 /// How a word before `--` reads, where no option waits for its value.
 #[derive(Clone, Copy, Debug, PartialEq, Eq)]

@@ -118,8 +118,8 @@ fn replay_given(alloc: Global, text: &str, given: &ArgMatches<'_>) -> Result<Com
     })
 }
 
-/// The command with what its level of the parse found. Without a FILE, an N in its range, or a JOURNAL where it has one,
-/// it is refused.
+/// The command with what its level of the parse found. Without a FILE, an N in its range, or a JOURNAL where it has
+/// one, it is refused.
 pub(crate) fn command_given(
     alloc: Global,
     command: CommandName,
@@ -147,6 +147,11 @@ pub(crate) fn command_given(
         CommandName::Gen => gen_given(text, given).ok_or(WordsError::Refused)?,
         CommandName::Replay => replay_given(alloc, text, given)?,
         CommandName::Witness => Command::Witness {
+            file: file(alloc, text)?,
+            workers: small_number(given, "workers", DEFAULT_WORKERS),
+            limits: limits(given),
+        },
+        CommandName::Exec => Command::Exec {
             file: file(alloc, text)?,
             workers: small_number(given, "workers", DEFAULT_WORKERS),
             limits: limits(given),

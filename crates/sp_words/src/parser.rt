@@ -5,9 +5,10 @@ ghost use Rattle.std.specs.Prelude.{◌≡◌, ◌∷◌, ◌++◌, [], IfOk, co
 ghost use Rattle.clap.specs.Words.{app_of, rule_of, shape_of, with_rule, with_subcommand};
 ghost use Rattle.clap.specs.declared.builder.value_parser.ValueParser.{ValueParser as Parser};
 ghost use Rattle.clap.specs.declared.builder.value_parser.ValueParser.TheVariants.{Unsigned};
-ghost use Rattle.sp_words.specs.Parsers.{Adds, AddsCommand, IsLocal, IsShowParser, app_with, app_with_file, bare_line, gen_parsers};
-ghost use Rattle.sp_words.specs.Parsers.{limit_parsers, option_rule, replay_shape, run_parsers, shape_with, witness_parsers};
-ghost use Rattle.sp_words.specs.Parsers.{word_rule};
+ghost use Rattle.sp_words.specs.Parsers.{Adds, AddsCommand, IsLocal, IsShowParser, app_with, app_with_file, bare_line};
+ghost use Rattle.sp_words.specs.Parsers.{gen_parsers};
+ghost use Rattle.sp_words.specs.Parsers.{limit_parsers, option_rule, replay_shape, run_parsers, shape_with, word_rule};
+ghost use Rattle.sp_words.specs.Parsers.{worker_parsers};
 
 use clap::builder::ValueParser;
 use clap::{Arg, ArgAction, Command};
@@ -46,8 +47,8 @@ fn show_arg<'a>(alloc: Global) -> Arg<'a>
         .value_parser(SHOWS.as_slice())
 }
 
-// What stands below takes a command, or the want of memory, as the step before gave it, and adds to it. So a chain of steps
-// holds no command across a `?`.
+// What stands below takes a command, or the want of memory, as the step before gave it, and adds to it. So a chain of
+// steps holds no command across a `?`.
 
 // One more argument.
 fn with_arg<'a>(
@@ -121,11 +122,12 @@ fn replay_command<'a>(alloc: Global) -> Result<Command<'a>, AllocError>
     with_limits(command, alloc)
 }
 
-fn witness_command<'a>(alloc: Global) -> Result<Command<'a>, AllocError>
-    ensures shape { IfOk result (λ c. shape_of c ≡ shape_with (codes "witness") witness_parsers) }
+// A command with the options of `run`, but for the reports.
+fn worker_command<'a>(alloc: Global, name: &'a str) -> Result<Command<'a>, AllocError>
+    ensures shape { IfOk result (λ c. shape_of c ≡ shape_with name.entry.now worker_parsers) }
     ensures local { IfOk result IsLocal }
 {
-    let command = with_number(plain_command(alloc, "witness"), alloc, "workers", 1, 64);
+    let command = with_number(plain_command(alloc, name), alloc, "workers", 1, 64);
     with_limits(command, alloc)
 }
 
@@ -185,6 +187,7 @@ pub(crate) fn parser<'a>(alloc: Global) -> Result<Command<'a>, AllocError>
     let line = with_plain(line, alloc, "format");
     let line = with_command(line, gen_command(alloc));
     let line = with_command(line, replay_command(alloc));
-    let line = with_command(line, witness_command(alloc));
-    with_plain(line, alloc, "build")
+    let line = with_command(line, worker_command(alloc, "witness"));
+    let line = with_plain(line, alloc, "build");
+    with_command(line, worker_command(alloc, "exec"))
 }

@@ -38,8 +38,8 @@ static LIMIT_OPTIONS: [&str; 7] = [
     "output",
 ];
 
-/// The options of `witness`.
-static WITNESS_OPTIONS: [&str; 8] = [
+/// The options of `witness` and `exec`.
+static WORKER_OPTIONS: [&str; 8] = [
     "workers",
     "ticks",
     "depth",
@@ -66,6 +66,7 @@ fn command_named(word: &str) -> Option<CommandName>
         "replay" => Some(CommandName::Replay),
         "witness" => Some(CommandName::Witness),
         "build" => Some(CommandName::Build),
+        "exec" => Some(CommandName::Exec),
         _ => None,
     }
 }
@@ -77,7 +78,7 @@ fn option_names(command: CommandName) -> &'static [&'static str]
         CommandName::Run => RUN_OPTIONS.as_slice(),
         CommandName::Gen => GEN_OPTIONS.as_slice(),
         CommandName::Replay => LIMIT_OPTIONS.as_slice(),
-        CommandName::Witness => WITNESS_OPTIONS.as_slice(),
+        CommandName::Witness | CommandName::Exec => WORKER_OPTIONS.as_slice(),
         CommandName::Check
         | CommandName::Code
         | CommandName::Sets

@@ -8,11 +8,13 @@ use Rattle.sp_words.specs.declared.command.Command.{Command}
 use Rattle.sp_words.specs.declared.command.Command.TheVariants as command
 use Rattle.superpascal.specs.declared.telling.Telling.{Telling}
 use Rattle.superpascal.specs.declared.telling.Telling.TheVariants as told
-use Rattle.superpascal.specs.Texts.{Asked, Breaks, BreaksOne, CanRead, Followed, IsAbout, Keeps, KeepsAll, Makes, asked, asks, asks_build, asks_for, asks_text, follows, text_of}
+use Rattle.superpascal.specs.Texts.{Asked, Breaks, BreaksOne, CanRead, Executed, Followed, IsAbout, Keeps, KeepsAll}
+use Rattle.superpascal.specs.Texts.{Makes, asked, asks, asks_build, asks_for, asks_text, executes, follows, text_of}
 
 -- what holds of `run` and of `witness` holds of the command
 pub either_command : (P : Command → Type 0) (b : Asked)
-    → ((show : Show) → P (command.Run b.file b.workers b.limits show)) → P (command.Witness b.file b.workers b.limits) → P (asks b)
+    → ((show : Show) → P (command.Run b.file b.workers b.limits show)) → P (command.Witness b.file b.workers b.limits)
+    → P (asks b)
 either_command P b run witness = go b.telling
   where
     go : (t : Telling) → P (asks_for t b.file b.workers b.limits)
@@ -51,21 +53,32 @@ asked_no_build b = either_command (λ d. asks_build d → ⊥) b (λ show h. h) 
 
 -- ---- one command asks for one run
 
-not_generated : (size workers file : _) (n : ℕ) (limits : Limits) (t : Telling) → asks_for t file n limits ≡ command.Gen size workers → ⊥
+not_generated : (size workers file : _) (n : ℕ) (limits : Limits) (t : Telling)
+    → asks_for t file n limits ≡ command.Gen size workers → ⊥
 not_generated size workers file n limits (told.Reports show) h = cc
 not_generated size workers file n limits told.Witness h = cc
 
 pub not_gen : (a : Asked) (size workers : ℕ) → asks a ≡ command.Gen size workers → ⊥
 not_gen a size workers h = not_generated size workers a.file a.workers a.limits a.telling h
 
-not_replayed : (b : Followed) (file : List ℕ) (n : ℕ) (limits : Limits) (t : Telling) → follows b ≡ asks_for t file n limits → ⊥
+not_replayed : (b : Followed) (file : List ℕ) (n : ℕ) (limits : Limits) (t : Telling)
+    → follows b ≡ asks_for t file n limits → ⊥
 not_replayed b file n limits (told.Reports show) h = cc
 not_replayed b file n limits told.Witness h = cc
 
 pub not_run : (b : Followed) (a : Asked) → follows b ≡ asks a → ⊥
 not_run b a h = not_replayed b a.file a.workers a.limits a.telling h
 
-one_for : (t u : Telling) (file name : List ℕ) (n m : ℕ) (limits other : Limits) → asks_for u name m other ≡ asks_for t file n limits
+not_executed : (file : List ℕ) (n : ℕ) (limits : Limits) (t : Telling) (b : Executed)
+    → asks_for t file n limits ≡ executes b → ⊥
+not_executed file n limits (told.Reports show) b h = cc
+not_executed file n limits told.Witness b h = cc
+
+pub not_exec : (a : Asked) (b : Executed) → asks a ≡ executes b → ⊥
+not_exec a b h = not_executed a.file a.workers a.limits a.telling b h
+
+one_for : (t u : Telling) (file name : List ℕ) (n m : ℕ) (limits other : Limits)
+    → asks_for u name m other ≡ asks_for t file n limits
     → asked name m other u ≡ asked file n limits t
 one_for (told.Reports a) (told.Reports b) file name n m limits other h =
     let file_is : name ≡ file = cc in

@@ -1,8 +1,11 @@
 -- What follows from the answer of a call, its cause and its writing.
-use Rattle.std.proofs.Common.{◌≡◌, ◌≢◌, ◌⊎◌, inl, inr, ℕ, ◌<◌, ◌≤◌, List, [], length, Option, Some, None, true, false, refl, sym, ◌∙◌, ap, subst, arith}
+use Rattle.std.proofs.Common.{◌≡◌, ◌≢◌, ◌⊎◌, inl, inr, ℕ, ◌<◌, ◌≤◌, List, [], length, Option, Some, None, true, false}
+use Rattle.std.proofs.Common.{refl, sym, ◌∙◌, ap, subst, arith}
 use Rattle.std.specs.Prelude.{IfSome}
 use Rattle.sp_base.specs.declared.halt.Refusal.{Refusal}
 use Rattle.sp_base.specs.declared.limits.Limits.{Limits}
+use Rattle.sp_codefile.specs.Verifying.{rule_of}
+use Rattle.sp_codefile.specs.declared.verifier.VRule.{VRule}
 use Rattle.sp_execute.specs.declared.execution.Ran.{Ran}
 use Rattle.sp_execute.specs.Follows.{IsMeant as IsDefined, IsUnfitAt}
 use Rattle.sp_execute.specs.Runs.{setting}
@@ -29,28 +32,40 @@ use Rattle.superpascal.specs.declared.telling.Telling.{Telling}
 use Rattle.superpascal.specs.declared.telling.Telling.TheVariants as told
 use Rattle.superpascal.specs.Answering.{HasEndLines}
 use Rattle.superpascal.specs.Answers.{has_output, line_of, notes_by, notes_of, output_of, status_of}
-use Rattle.superpascal.specs.Calls.{All, Call, Exactly, Failed, IsAnswered, IsFinal, IsOutside, IsUnwritten, OfText, Part}
-use Rattle.superpascal.specs.Causes.{Cause, by_words, before_words, by_command, Files, HasGenerated, HasMade, HasRead, HasReplayed, HasRun, IsBadJournal, IsLongCode, IsLongJournal, IsNotLoaded, IsNotRead, IsRefusedFor, IsTold, IsTooLong, IsTooMuch, IsUnfit, IsUntouched, ReadsAfterRules, Stream, refused, silent}
+use Rattle.superpascal.specs.Calls.{All, Call, Exactly, Failed, IsAnswered, IsFinal, IsOutside, IsUnwritten, OfText}
+use Rattle.superpascal.specs.Calls.{Part}
+use Rattle.superpascal.specs.Causes.{Cause, by_words, before_words, by_command, Files, HasGenerated, HasMade, HasRead}
+use Rattle.superpascal.specs.Causes.{HasReplayed, HasRun, IsBadCode, IsBadJournal, IsLongCode, IsLongFile}
+use Rattle.superpascal.specs.Causes.{IsLongJournal, IsNotLoaded, IsNotRead, IsRefusedFor, IsRejectedCode, IsTold}
+use Rattle.superpascal.specs.Causes.{IsTooLong, IsTooMuch, IsUnfit, IsUntouched, ReadsAfterRules, Stream, refused}
+use Rattle.superpascal.specs.Causes.{silent}
 use Rattle.superpascal.specs.Following.{Following, IsMeantAlong, IsNoJournal, PrintsReplay, SaysJournal}
 use Rattle.superpascal.specs.Headline.{Headline, IsMeant, Prints, SaysRefusal}
-use Rattle.superpascal.specs.Promise.{Promise}
 use Rattle.superpascal.specs.Replays.{IsJournalOf, IsUnfitFor, ending_of_replay, replay_notes}
-use Rattle.superpascal.specs.Runs.{IsRunOf, Reports, ending_of, generated_answer, generated_output, run_answer, told_notes, told_output}
+use Rattle.superpascal.specs.Runs.{IsRunOf, Reports, ending_of, generated_answer, generated_output, run_answer}
+use Rattle.superpascal.specs.Runs.{told_notes, told_output}
 use Rattle.superpascal.specs.Statuses.{InputIsTooLong, IsQuiet, IsRunOfWords, IsWell, ReadsFail, Statuses}
-use Rattle.superpascal.specs.Texts.{Asked, Breaks, CanRead, Followed, HasLongCode, IsDisjointText, IsJournalText, Keeps, KeepsAll, Loads, Makes, asks, asks_build, asks_replay, asks_run, asks_text, follows, text_of}
+use Rattle.superpascal.specs.Texts.{Asked, Breaks, CanRead, Executed, Followed, HasLongCode, IsDisjointText}
+use Rattle.superpascal.specs.Texts.{IsJournalText, IsSoundFile, Keeps, KeepsAll, Loads, Makes, asks, asks_build}
+use Rattle.superpascal.specs.Texts.{asks_execution, asks_replay, asks_run, asks_text, executes, follows, text_of}
 use Rattle.superpascal.specs.Witnessing.{IsShown}
 use Rattle.superpascal.specs.Writing.{AreWritten, Writing, WritesLine}
-use Rattle.superpascal.proofs.Laws.{Laws, code_text_keeps, disjoint_text, keeps_all, keeps_or, kept_or, made_asks, made_keeps, made_once, one_break}
-use Rattle.superpascal.proofs.Asking.{asked_breaks, asked_keeps, asked_makes, asked_no_build, asked_no_text, asked_text, breaks_asked, keeps_asked, not_gen, not_run, one_asked}
+use Rattle.superpascal.proofs.Laws.{Laws, code_text_keeps, disjoint_text, keeps_all, keeps_or, kept_or, made_asks}
+use Rattle.superpascal.proofs.Laws.{made_keeps, made_once, one_break}
+use Rattle.superpascal.proofs.Asking.{asked_breaks, asked_keeps, asked_makes, asked_no_build, asked_no_text, asked_text}
+use Rattle.superpascal.proofs.Asking.{breaks_asked, keeps_asked, not_exec, not_gen, not_run, one_asked}
+use Rattle.superpascal.proofs.CodeFiles.{not_bad, not_long, not_rejected}
 use Rattle.superpascal.proofs.Parts.{when_told}
-use Rattle.superpascal.proofs.Replaying.{if_mapped, if_told, meant_along, not_followed, not_generated, not_unfit, one_followed, replay_notes_stand, same_entry, told_of, tree_keeps}
+use Rattle.superpascal.proofs.Replaying.{if_mapped, if_told, meant_along, not_followed, not_generated, not_unfit}
+use Rattle.superpascal.proofs.Replaying.{one_followed, replay_notes_stand, same_entry, told_of, tree_keeps}
 use Rattle.superpascal.proofs.Tellable.{ends_of, replay_ends}
-use Rattle.superpascal.proofs.Why.{HasEnded, HasRanFor, HasReplayedFor, IsRanBy, ran_of, same_ran, why, why_of}
+use Rattle.superpascal.proofs.Why.{HasEnded, HasExecutedFor, HasRanFor, HasReplayedFor, IsRanBy, ran_of, same_ran, why}
+use Rattle.superpascal.proofs.Why.{why_of}
 
-no_command : (o : Option Command) (c : Command) → o ≡ Some c → o ≡ None → ⊥
+pub no_command : (o : Option Command) (c : Command) → o ≡ Some c → o ≡ None → ⊥
 no_command o c h k = cc
 
-one_command : (o : Option Command) (c d : Command) → o ≡ Some c → o ≡ Some d → d ≡ c
+pub one_command : (o : Option Command) (c d : Command) → o ≡ Some c → o ≡ Some d → d ≡ c
 one_command o c d h k = cc
 
 one_size : (m n x y : ℕ) → command.Gen m x ≡ command.Gen n y → m ≡ n
@@ -63,14 +78,14 @@ no_true : true ≡ false → ⊥
 no_true g = cc
 
 -- the ending of a run
-final : (x : End) → HasLines x → IsFinal (status_of (ending_of x)) × (has_output (ending_of x) ≡ true)
+pub final : (x : End) → HasLines x → IsFinal (status_of (ending_of x)) × (has_output (ending_of x) ≡ true)
 final ends.Done h = (inl refl, refl)
 final (ends.Deadlock ws) h = (inr (inr refl), refl)
 final (ends.Fault n y) h = (inr (inl refl), refl)
 final ends.Memory h = absurd h
 
 -- the notes of a run stand as they are
-run_notes_stand : (x : End) (notes : List ℕ) → HasLines x → notes_by (ending_of x) notes ≡ notes
+pub run_notes_stand : (x : End) (notes : List ℕ) → HasLines x → notes_by (ending_of x) notes ≡ notes
 run_notes_stand ends.Done notes h = refl
 run_notes_stand (ends.Deadlock ws) notes h = refl
 run_notes_stand (ends.Fault n y) notes h = refl
@@ -92,6 +107,7 @@ text_or_run (command.Witness file workers limits) q r = q
 text_or_run (command.Gen size workers) q r = q
 text_or_run (command.Replay file journal limits) q r = r
 text_or_run (command.Build file) q r = r
+text_or_run (command.Exec file workers limits) q r = r
 
 -- a command that writes a code file answers from a text alone
 build_text : (d : Command) → asks_build d → asks_text d
@@ -104,6 +120,7 @@ build_text (command.Witness file workers limits) q = q
 build_text (command.Gen size workers) q = q
 build_text (command.Replay file journal limits) q = q
 build_text (command.Build file) q = tt
+build_text (command.Exec file workers limits) q = q
 
 -- what it refuses, and of what it makes something
 build_keeps : (d : Command) (text : List ℕ) → asks_build d → KeepsAll text → Keeps d text
@@ -116,9 +133,11 @@ build_keeps (command.Witness file workers limits) text q k = k
 build_keeps (command.Gen size workers) text q k = k
 build_keeps (command.Replay file journal limits) text q k = k
 build_keeps (command.Build file) text q k = k
+build_keeps (command.Exec file workers limits) text q k = absurd q
 
 -- a code file is not too long
-build_short : (l : Laws) (d : Command) (text out line : List ℕ) → asks_build d → Makes d text out line → HasLongCode text → ⊥
+build_short : (l : Laws) (d : Command) (text out line : List ℕ) → asks_build d → Makes d text out line
+    → HasLongCode text → ⊥
 build_short l (command.Check file) text out line q m h = q
 build_short l (command.Run file workers limits show) text out line q m h = q
 build_short l (command.Code file) text out line q m h = q
@@ -127,7 +146,9 @@ build_short l (command.Format file) text out line q m h = q
 build_short l (command.Witness file workers limits) text out line q m h = q
 build_short l (command.Gen size workers) text out line q m h = q
 build_short l (command.Replay file journal limits) text out line q m h = q
-build_short l (command.Build file) text out line q m (other, has, long) = apart out other (l.code_text text out other m.0.0 has) m.0.1 long
+build_short l (command.Exec file workers limits) text out line q m h = q
+build_short l (command.Build file) text out line q m (other, has, long) = apart out other
+    (l.code_text text out other m.0.0 has) m.0.1 long
   where
     apart : (a b : List ℕ) → a ≡ b → length a ≤ 67108864 → 67108864 < length b → ⊥
     apart a b e h k = let i : length a ≡ length b = ap length e in omega arith
@@ -151,7 +172,8 @@ module _ (f : Files) (s : Stream) (reports : Reports) (w : Option Command) (a : 
 
   ended_asked : w ≡ None → HasEnded f s reports w a → ⊥
   ended_asked h (inl k) = no_command _ _ k.1 h
-  ended_asked h (inr k) = no_command _ _ k.1 h
+  ended_asked h (inr (inl k)) = no_command _ _ k.1 h
+  ended_asked h (inr (inr k)) = no_command _ _ k.1 h
 
   words_due : w ≡ None → (x : Ending) → Why x → Due_status x 2
   words_due h e.BadWords k = inl refl
@@ -163,13 +185,17 @@ module _ (f : Files) (s : Stream) (reports : Reports) (w : Option Command) (a : 
   words_due h (e.BadJournal n) k = absurd (no_command _ _ k.1 h)
   words_due h (e.Unfit n) k = absurd (no_command _ _ k.1 h)
   words_due h e.LongCode k = absurd (no_command _ _ k.1 h)
+  words_due h e.LongFile k = absurd (no_command _ _ k.1 h)
+  words_due h (e.BadCode n) k = absurd (no_command _ _ k.1 h)
+  words_due h (e.Rejected v i) k = absurd (no_command _ _ k.1 h)
   words_due h e.Accepted k = absurd (no_command _ _ k.1 h)
   words_due h (e.Refused r) k = absurd (no_command _ _ k.1 h)
   words_due h e.ReadFault k = inr (omega arith, omega arith)
   words_due h e.TooLong k = inr (omega arith, omega arith)
   words_due h e.OutOfMemory k = inr (omega arith, omega arith)
 
-  read_fails : (x : Ending) → Why x → status_of x ≡ 5 → (d : Command) × (w ≡ Some d) × (IsNotLoaded f d a ⊎ IsNotRead f s d a)
+  read_fails : (x : Ending) → Why x → status_of x ≡ 5 → (d : Command) × (w ≡ Some d)
+      × (IsNotLoaded f d a ⊎ IsNotRead f s d a)
   read_fails e.ReadFault k h = k
   read_fails _ k h = absurd (omega arith)
 
@@ -188,9 +214,11 @@ module _ (f : Files) (s : Stream) (reports : Reports) (w : Option Command) (a : 
   module _ (d : Command) (text : List ℕ) (v : w ≡ Some d) (t : text_of f.held d ≡ Some text) where
     -- what is told of the text of the command holds of this one
     of_text : (P : List ℕ → Type 0) (c : Command) → w ≡ Some c → IfSome (text_of f.held c) P → P text
-    of_text P c u h = if_told P (text_of f.held d) text t (subst (λ (x : Command). IfSome (text_of f.held x) P) (one_command w d c v u) h)
+    of_text P c u h = if_told P (text_of f.held d) text t
+        (subst (λ (x : Command). IfSome (text_of f.held x) P) (one_command w d c v u) h)
 
-    run_keeps : (all input : List ℕ) (workers : ℕ) (r : Ran) (limits : Limits) → IsRunOf all input workers limits r → KeepsAll all
+    run_keeps : (all input : List ℕ) (workers : ℕ) (r : Ran) (limits : Limits) → IsRunOf all input workers limits r
+        → KeepsAll all
     run_keeps all input workers r limits h = (h.tree, h.has.accepted, h.has.short)
 
     told_keeps : (o : Option (List ℕ)) (all : List ℕ) → IsTold o all → KeepsAll all → IfSome o KeepsAll
@@ -199,29 +227,46 @@ module _ (f : Files) (s : Stream) (reports : Reports) (w : Option Command) (a : 
     ran_keeps : HasRanFor f s reports w a → Keeps d text
     ran_keeps (c, u, inl (asked, p, h)) =
         let same : asks asked ≡ d = sym p ∙ one_command w d c v u in
-        let told = subst (λ (o : Option (List ℕ)). IfSome o KeepsAll) (sym (asked_text f.held asked)) (told_keeps (f.held asked.file) h.text h.loaded (run_keeps h.text h.input asked.workers h.ran asked.limits h.is_run)) in
+        let told = subst (λ (o : Option (List ℕ)). IfSome o KeepsAll) (sym (asked_text f.held asked))
+        (told_keeps (f.held asked.file) h.text h.loaded
+        (run_keeps h.text h.input asked.workers h.ran asked.limits h.is_run)) in
         let all : KeepsAll text = of_text KeepsAll (asks asked) (u ∙ ap Some p) told in
         subst (λ (x : Command). Keeps x text) same (asked_keeps asked text all)
     ran_keeps (c, u, inr (size, workers, p, h)) =
         let same : command.Gen size workers ≡ d = sym p ∙ one_command w d c v u in
-        let all : KeepsAll text = of_text KeepsAll (command.Gen size workers) (u ∙ ap Some p) (run_keeps (generated_text size) [] workers h.ran default_limits h.is_run) in
+        let all : KeepsAll text = of_text KeepsAll (command.Gen size workers) (u
+        ∙ ap Some p) (run_keeps (generated_text size) [] workers h.ran default_limits h.is_run) in
         subst (λ (x : Command). Keeps x text) same all
 
     -- a text of which a journal was loaded is kept
     followed_keeps : (b : Followed) → w ≡ Some (follows b) → IfSome (f.held b.file) KeepsAll → Keeps d text
-    followed_keeps b u h = subst (λ (x : Command). Keeps x text) (one_command w d (follows b) v u) (of_text KeepsAll (follows b) u h)
+    followed_keeps b u h = subst (λ (x : Command). Keeps x text) (one_command w d (follows b) v u)
+        (of_text KeepsAll (follows b) u h)
 
     replay_keeps : HasReplayedFor f s reports w a → Keeps d text
     replay_keeps (b, u, h) =
-        followed_keeps b u (told_keeps (f.held b.file) h.has_read.text h.has_read.loaded (tree_keeps h.has_read.text h.is_replay.tree h.is_replay.has))
+        followed_keeps b u (told_keeps (f.held b.file) h.has_read.text h.has_read.loaded
+        (tree_keeps h.has_read.text h.is_replay.tree h.is_replay.has))
 
     unfit_keeps : (b : Followed) (n : ℕ) → w ≡ Some (follows b) → IsUnfit f s b n a → Keeps d text
     unfit_keeps b n u h =
-        followed_keeps b u (told_keeps (f.held b.file) h.has_read.text h.has_read.loaded (tree_keeps h.has_read.text h.is_unfit.tree h.is_unfit.has))
+        followed_keeps b u (told_keeps (f.held b.file) h.has_read.text h.has_read.loaded
+        (tree_keeps h.has_read.text h.is_unfit.tree h.is_unfit.has))
+
+    -- a code file that has run is kept, and one that is at fault breaks no rule of texts
+    executed_keeps : HasExecutedFor f s reports w a → Keeps d text
+    executed_keeps (b, u, h) =
+        subst (λ (x : Command). Keeps x text) (one_command w d (executes b) v u)
+        (of_text IsSoundFile (executes b) u
+        (when_told IsSoundFile (f.held b.file) h.bytes h.loaded (h.is_execution.code, h.is_execution.file)))
+
+    executed_breaks : (b : Executed) → w ≡ Some (executes b) → (r : Refusal) → Breaks d text r → ⊥
+    executed_breaks b u r h = subst (λ (x : Command). Breaks x text r) (sym (one_command w d (executes b) v u)) h
 
     ended_keeps : HasEnded f s reports w a → Keeps d text
     ended_keeps (inl k) = ran_keeps k
-    ended_keeps (inr k) = replay_keeps k
+    ended_keeps (inr (inl k)) = replay_keeps k
+    ended_keeps (inr (inr k)) = executed_keeps k
 
     makes : (c : Command) → w ≡ Some c → (h : HasMade f c a) → Makes d text h.output h.line
     makes c u h =
@@ -239,9 +284,11 @@ module _ (f : Files) (s : Stream) (reports : Reports) (w : Option Command) (a : 
     long_keeps c u h = let k = long_code c u h in build_keeps d text k.0 (code_text_keeps text k.1.0 k.1.1)
 
     breaks : (c : Command) → w ≡ Some c → (h : IsRefusedFor f c a) → Breaks d text h.refusal
-    breaks c u h = subst (λ (x : Command). Breaks x text h.refusal) (one_command w d c v u) (of_text (λ x. Breaks c x h.refusal) c u h.breaks)
+    breaks c u h = subst (λ (x : Command). Breaks x text h.refusal) (one_command w d c v u)
+        (of_text (λ x. Breaks c x h.refusal) c u h.breaks)
 
-    refusal_due : Laws → (r : Refusal) → Breaks d text r → (x : Ending) → x ≡ a.ending → Why x → Due_line x (refusal_text r)
+    refusal_due : Laws → (r : Refusal) → Breaks d text r → (x : Ending) → x ≡ a.ending → Why x
+        → Due_line x (refusal_text r)
     refusal_due l r b e.Done i k = absurd (keeps_or l text d r (ended_keeps k) b)
     refusal_due l r b e.Deadlock i k = absurd (keeps_or l text d r (ended_keeps k) b)
     refusal_due l r b e.Fault i k = absurd (keeps_or l text d r (ended_keeps k) b)
@@ -250,8 +297,16 @@ module _ (f : Files) (s : Stream) (reports : Reports) (w : Option Command) (a : 
     refusal_due l r b (e.BadJournal n) i (c, u, h) = absurd (keeps_or l text d r (followed_keeps c u h.kept) b)
     refusal_due l r b (e.Unfit n) i (c, u, h) = absurd (keeps_or l text d r (unfit_keeps c n u h) b)
     refusal_due l r b e.LongCode i (c, u, h) = absurd (keeps_or l text d r (long_keeps c u h) b)
-    refusal_due l r b e.Accepted i (c, u, h) = absurd (keeps_or l text d r (made_keeps d text h.output h.line (makes c u h)) b)
-    refusal_due l r b (e.Refused q) i (c, u, h) = inl (refl, ap (λ (z : Answer). z.notes) h.answer ∙ ap refusal_text (one_break l text d h.refusal r (breaks c u h) b))
+    refusal_due l r b e.LongFile i (c, u, h) = absurd (executed_breaks c u r b)
+    refusal_due l r b (e.BadCode n) i (c, u, h) = absurd (executed_breaks c u r b)
+    refusal_due l r b (e.Rejected v i) j (c, u, h) = absurd (executed_breaks c u r b)
+    refusal_due l r b e.Accepted i (c, u, h) = absurd
+        (keeps_or l text d r (made_keeps d text h.output h.line (makes c u h)) b)
+    refusal_due l r b (e.Refused q) i (c, u, h) = inl (
+      refl,
+      ap (λ (z : Answer). z.notes) h.answer
+          ∙ ap refusal_text (one_break l text d h.refusal r (breaks c u h) b),
+    )
     refusal_due l r b e.BadWords i k = absurd (no_command _ _ v k)
     refusal_due l r b e.ReadFault i k = inr (omega arith, omega arith)
     refusal_due l r b e.TooLong i k = inr (omega arith, omega arith)
@@ -282,20 +337,29 @@ module _ (f : Files) (s : Stream) (reports : Reports) (w : Option Command) (a : 
     not_followed_by : asks_text d → (b : Followed) → w ≡ Some (follows b) → ⊥
     not_followed_by q b u = subst asks_text (sym (one_command w d (follows b) v u)) q
 
+    not_executed_by : asks_text d → (b : Executed) → w ≡ Some (executes b) → ⊥
+    not_executed_by q b u = subst asks_text (sym (one_command w d (executes b) v u)) q
+
     not_ended : asks_text d → HasEnded f s reports w a → ⊥
     not_ended q (inl k) = not_ran q k
-    not_ended q (inr k) = not_followed_by q k.0 k.1
+    not_ended q (inr (inl k)) = not_followed_by q k.0 k.1
+    not_ended q (inr (inr k)) = not_executed_by q k.0 k.1
 
-    made_only : asks_text d → (x : Ending) → Why x → status_of x ≡ 0 → (h : HasMade f d a) × Makes d text h.output h.line
+    made_only : asks_text d → (x : Ending) → Why x → status_of x ≡ 0 → (h : HasMade f d a)
+        × Makes d text h.output h.line
     made_only q e.Done k i = absurd (not_ended q k)
     made_only q e.NoEnd k i = absurd (not_followed_by q k.0 k.1)
-    made_only q e.Accepted (c, u, h) i = subst (λ (y : Command). (z : HasMade f y a) × Makes d text z.output z.line) (one_command w d c v u) (h, makes c u h)
+    made_only q e.Accepted (c, u, h) i = subst (λ (y : Command). (z : HasMade f y a)
+        × Makes d text z.output z.line) (one_command w d c v u) (h, makes c u h)
     made_only q _ k i = absurd (omega arith)
 
     -- the code is too long exactly where that is said
-    long_only : (x : Ending) → Why x → status_of x ≡ 10 → asks_build d × HasLongCode text
-    long_only e.LongCode (c, u, h) i = long_code c u h
-    long_only _ k i = absurd (omega arith)
+    long_only : asks_build d → (x : Ending) → Why x → status_of x ≡ 10 → HasLongCode text
+    long_only q e.LongCode (c, u, h) i = (long_code c u h).1
+    long_only q e.LongFile (c, u, h) i = absurd (not_executed_by (build_text d q) c u)
+    long_only q (e.BadCode n) (c, u, h) i = absurd (not_executed_by (build_text d q) c u)
+    long_only q (e.Rejected r n) (c, u, h) i = absurd (not_executed_by (build_text d q) c u)
+    long_only q _ k i = absurd (omega arith)
 
     long_code_due : asks_build d → Laws → HasLongCode text → (x : Ending) → Why x → Due_status x 10
     long_code_due q l m e.Done k = absurd (not_ended (build_text d q) k)
@@ -306,6 +370,9 @@ module _ (f : Files) (s : Stream) (reports : Reports) (w : Option Command) (a : 
     long_code_due q l m (e.BadJournal n) k = absurd (not_followed_by (build_text d q) k.0 k.1)
     long_code_due q l m (e.Unfit n) k = absurd (not_followed_by (build_text d q) k.0 k.1)
     long_code_due q l m e.LongCode k = inl refl
+    long_code_due q l m e.LongFile k = inl refl
+    long_code_due q l m (e.BadCode n) k = inl refl
+    long_code_due q l m (e.Rejected r n) k = inl refl
     long_code_due q l m e.Accepted (c, u, h) = absurd (build_short l d text h.output h.line q (makes c u h) m)
     long_code_due q l m (e.Refused r) (c, u, h) =
         absurd (keeps_or l text d h.refusal (build_keeps d text q (code_text_keeps text m.0 m.1)) (breaks c u h))
@@ -314,7 +381,8 @@ module _ (f : Files) (s : Stream) (reports : Reports) (w : Option Command) (a : 
     long_code_due q l m e.TooLong k = inr (omega arith, omega arith)
     long_code_due q l m e.OutOfMemory k = inr (omega arith, omega arith)
 
-    made_due : asks_text d → Laws → ((out line : List ℕ) × Makes d text out line) → (x : Ending) → Why x → Due_status x 0
+    made_due : asks_text d → Laws → ((out line : List ℕ) × Makes d text out line) → (x : Ending) → Why x
+        → Due_status x 0
     made_due q l m e.Done k = inl refl
     made_due q l m e.NoEnd k = inl refl
     made_due q l m e.Deadlock k = absurd (not_ended q k)
@@ -322,9 +390,13 @@ module _ (f : Files) (s : Stream) (reports : Reports) (w : Option Command) (a : 
     made_due q l m e.LongJournal k = absurd (not_followed_by q k.0 k.1)
     made_due q l m (e.BadJournal n) k = absurd (not_followed_by q k.0 k.1)
     made_due q l m (e.Unfit n) k = absurd (not_followed_by q k.0 k.1)
+    made_due q l m e.LongFile k = absurd (not_executed_by q k.0 k.1)
+    made_due q l m (e.BadCode n) k = absurd (not_executed_by q k.0 k.1)
+    made_due q l m (e.Rejected r n) k = absurd (not_executed_by q k.0 k.1)
     made_due q l m e.LongCode (c, u, h) = let x = long_code c u h in absurd (build_short l d text m.0 m.1 x.0 m.2 x.1)
     made_due q l m e.Accepted k = inl refl
-    made_due q l m (e.Refused r) (c, u, h) = absurd (keeps_or l text d h.refusal (made_keeps d text m.0 m.1 m.2) (breaks c u h))
+    made_due q l m (e.Refused r) (c, u, h) = absurd
+        (keeps_or l text d h.refusal (made_keeps d text m.0 m.1 m.2) (breaks c u h))
     made_due q l m e.BadWords k = absurd (no_command _ _ v k)
     made_due q l m e.ReadFault k = inr (omega arith, omega arith)
     made_due q l m e.TooLong k = inr (omega arith, omega arith)
@@ -332,13 +404,15 @@ module _ (f : Files) (s : Stream) (reports : Reports) (w : Option Command) (a : 
 
     -- what comes of a text that is kept where nothing fails outside
     module _ (l : Laws) (kept : Keeps d text)
-        (library : (name : List ℕ) → Loads f.held d name → Rose (f.before name) (f.after name) → ⊥) (source : Rose s.before s.after → ⊥)
+        (library : (name : List ℕ) → Loads f.held d name → Rose (f.before name) (f.after name)
+        → ⊥) (source : Rose s.before s.after → ⊥)
         (fits : CanRead f.held d → (input : List ℕ) × (s.left ≡ Some input) × (length input ≤ 16777216)) where
       replay_asked : (b : Followed) → w ≡ Some (follows b) → asks_replay d
       replay_asked b u = subst asks_replay (one_command w d (follows b) v u) tt
 
       read_well : (c : Command) → w ≡ Some c → IsNotLoaded f c a ⊎ IsNotRead f s c a → ⊥
-      read_well c u (inl h) = library h.name (subst (λ (x : Command). Loads f.held x h.name) (one_command w d c v u) h.loads) h.rose
+      read_well c u (inl h) = library h.name
+          (subst (λ (x : Command). Loads f.held x h.name) (one_command w d c v u) h.loads) h.rose
       read_well c u (inr h) = source h.rose
 
       long_well : (c : Command) → w ≡ Some c → IsTooMuch f s c a → ⊥
@@ -349,6 +423,22 @@ module _ (f : Files) (s : Stream) (reports : Reports) (w : Option Command) (a : 
         where
           short : (input : List ℕ) → length input ≤ 16777216 → 16777216 < length input → ⊥
           short input h k = omega arith
+
+      -- a code file of which a sound code comes is not at fault
+      file_kept : (b : Executed) → w ≡ Some (executes b) → IsSoundFile text
+      file_kept b u = subst (λ (x : Command). Keeps x text) (sym (one_command w d (executes b) v u)) kept
+
+      long_file : (b : Executed) → w ≡ Some (executes b) → IsLongFile f b a → ⊥
+      long_file b u h = not_long text (file_kept b u) (of_text (λ x. 67108864 < length x) (executes b) u h.long)
+
+      bad_file : (b : Executed) → w ≡ Some (executes b) → (n : ℕ) → IsBadCode f b n a → ⊥
+      bad_file b u n h = not_bad h.bytes n
+          (subst IsSoundFile (sym (of_text (λ x. h.bytes ≡ x) (executes b) u h.loaded)) (file_kept b u)) h.bad
+
+      rejected_file : (b : Executed) → w ≡ Some (executes b) → (r : VRule) (n : ℕ) → IsRejectedCode f b r n a → ⊥
+      rejected_file b u r n h =
+          not_rejected l h.code h.bytes (subst IsSoundFile (sym (of_text (λ x. h.bytes ≡ x) (executes b) u h.loaded))
+          (file_kept b u)) h.text (rule_of r) n h.rejected
 
       ends_well : (x : Ending) → Why x → IsWell d (status_of x)
       ends_well e.Done k = inl (inl refl)
@@ -365,27 +455,37 @@ module _ (f : Files) (s : Stream) (reports : Reports) (w : Option Command) (a : 
       ends_well (e.BadJournal n) k = inr (inr (inl (replay_asked k.0 k.1, refl)))
       ends_well (e.Unfit n) k = inr (inr (inl (replay_asked k.0 k.1, refl)))
       ends_well e.LongCode (c, u, h) = inr (inr (inr ((long_code c u h).0, refl)))
+      ends_well e.LongFile (c, u, h) = absurd (long_file c u h)
+      ends_well (e.BadCode n) (c, u, h) = absurd (bad_file c u n h)
+      ends_well (e.Rejected r n) (c, u, h) = absurd (rejected_file c u r n h)
 
   -- a command with a run, where the status is that of one
   followed_or_run : (d : Command) → w ≡ Some d → asks_run d → HasReplayedFor f s reports w a → ⊥
   followed_or_run d v n (b, u, h) = subst asks_run (sym (one_command w d (follows b) v u)) n
 
+  executed_or_run : (d : Command) → w ≡ Some d → asks_run d → HasExecutedFor f s reports w a → ⊥
+  executed_or_run d v n (b, u, h) = subst asks_run (sym (one_command w d (executes b) v u)) n
+
   ended_there : (d : Command) → w ≡ Some d → asks_run d → HasEnded f s reports w a → (r : Ran) × (a.ran ≡ Some r)
   ended_there d v n (inl (c, u, h)) = ran_there c h
-  ended_there d v n (inr k) = absurd (followed_or_run d v n k)
+  ended_there d v n (inr (inl k)) = absurd (followed_or_run d v n k)
+  ended_there d v n (inr (inr k)) = absurd (executed_or_run d v n k)
 
-  run_there : (d : Command) → w ≡ Some d → asks_run d → (x : Ending) → Why x → IsFinal (status_of x) → (r : Ran) × (a.ran ≡ Some r)
+  run_there : (d : Command) → w ≡ Some d → asks_run d → (x : Ending) → Why x → IsFinal (status_of x) → (r : Ran)
+      × (a.ran ≡ Some r)
   run_there d v n e.Done k i = ended_there d v n k
   run_there d v n e.Deadlock k i = ended_there d v n k
   run_there d v n e.Fault k i = ended_there d v n k
   run_there d v n e.NoEnd k i = absurd (followed_or_run d v n k)
-  run_there d v n e.Accepted (c, u, h) i = absurd (text_or_run d (subst asks_text (one_command w d c v u) (made_asks c h.text h.output h.line h.makes)) n)
+  run_there d v n e.Accepted (c, u, h) i = absurd
+      (text_or_run d (subst asks_text (one_command w d c v u) (made_asks c h.text h.output h.line h.makes)) n)
   run_there d v n _ k (inl i) = absurd (omega arith)
   run_there d v n _ k (inr (inl i)) = absurd (omega arith)
   run_there d v n _ k (inr (inr i)) = absurd (omega arith)
 
   -- too long an input for a text that is kept
-  module _ (b : Asked) (text : List ℕ) (v : w ≡ Some (asks b)) (t : f.held b.file ≡ Some text) (l : Laws) (kept : KeepsAll text)
+  module _ (b : Asked) (text : List ℕ) (v : w ≡ Some (asks b)) (t : f.held b.file ≡ Some text) (l : Laws)
+      (kept : KeepsAll text)
       (input : List ℕ) (left : s.left ≡ Some input) (long : IsTooLong input) where
     text_is : text_of f.held (asks b) ≡ Some text
     text_is = asked_text f.held b ∙ t
@@ -402,9 +502,13 @@ module _ (f : Files) (s : Stream) (reports : Reports) (w : Option Command) (a : 
     followed_not : (x : Followed) → w ≡ Some (follows x) → ⊥
     followed_not x u = not_run x b (one_command w (asks b) (follows x) v u)
 
+    executed_not : (x : Executed) → w ≡ Some (executes x) → ⊥
+    executed_not x u = not_exec b x (one_command w (executes x) (asks b) u v)
+
     ended_not : HasEnded f s reports w a → ⊥
     ended_not (inl (c, u, h)) = fits_not c u h
-    ended_not (inr k) = followed_not k.0 k.1
+    ended_not (inr (inl k)) = followed_not k.0 k.1
+    ended_not (inr (inr k)) = executed_not k.0 k.1
 
     long_due : (x : Ending) → Why x → IsOutside (status_of x)
     long_due e.Done k = absurd (ended_not k)
@@ -414,9 +518,13 @@ module _ (f : Files) (s : Stream) (reports : Reports) (w : Option Command) (a : 
     long_due e.LongJournal k = absurd (followed_not k.0 k.1)
     long_due (e.BadJournal n) k = absurd (followed_not k.0 k.1)
     long_due (e.Unfit n) k = absurd (followed_not k.0 k.1)
+    long_due e.LongFile k = absurd (executed_not k.0 k.1)
+    long_due (e.BadCode n) k = absurd (executed_not k.0 k.1)
+    long_due (e.Rejected r n) k = absurd (executed_not k.0 k.1)
     long_due e.LongCode (c, u, h) = absurd (asked_no_build b (long_code (asks b) text v text_is c u h).0)
     long_due e.Accepted (c, u, h) = absurd (asked_makes b text h.output h.line (makes (asks b) text v text_is c u h))
-    long_due (e.Refused r) (c, u, h) = absurd (kept_or l text h.refusal kept (breaks_asked b text h.refusal (breaks (asks b) text v text_is c u h)))
+    long_due (e.Refused r) (c, u, h) = absurd
+        (kept_or l text h.refusal kept (breaks_asked b text h.refusal (breaks (asks b) text v text_is c u h)))
     long_due e.BadWords k = absurd (no_command _ _ v k)
     long_due e.ReadFault k = (omega arith, omega arith)
     long_due e.TooLong k = (omega arith, omega arith)
@@ -439,11 +547,19 @@ module _ (f : Files) (s : Stream) (reports : Reports) (w : Option Command) (a : 
 
     not_ran_here : HasRanFor f s reports w a → ⊥
     not_ran_here (c, u, inl (asked, p, h)) = not_run b asked (sym (one_command w (follows b) c v u) ∙ p)
-    not_ran_here (c, u, inr (size, workers, p, h)) = not_generated b size workers (sym (one_command w (follows b) c v u) ∙ p)
+    not_ran_here (c, u, inr (size, workers, p, h)) = not_generated b size workers (sym (one_command w (follows b) c v u)
+        ∙ p)
+
+    not_executed_here : (x : Executed) → w ≡ Some (executes x) → ⊥
+    not_executed_here x u = apart (one_command w (executes x) (follows b) u v)
+      where
+        apart : follows b ≡ executes x → ⊥
+        apart h = cc
 
     ended_here : HasEnded f s reports w a → HasReplayed f s b a
     ended_here (inl k) = absurd (not_ran_here k)
-    ended_here (inr k) = replayed_by k
+    ended_here (inr (inl k)) = replayed_by k
+    ended_here (inr (inr k)) = absurd (not_executed_here k.0 k.1)
 
     came : Laws → KeepsAll text → (x : Ending) → Why x → Came b x
     came l kept e.Done k = came_followed (ended_here k)
@@ -460,6 +576,9 @@ module _ (f : Files) (s : Stream) (reports : Reports) (w : Option Command) (a : 
     came l kept (e.BadJournal n) (x, u, h) = came_bad n (this (λ y. IsBadJournal f y n a) x u h)
     came l kept (e.Unfit n) (x, u, h) = came_unfit n (this (λ y. IsUnfit f s y n a) x u h)
     came l kept e.LongCode (c, u, h) = absurd (long_code (follows b) text v t c u h).0
+    came l kept e.LongFile k = absurd (not_executed_here k.0 k.1)
+    came l kept (e.BadCode n) k = absurd (not_executed_here k.0 k.1)
+    came l kept (e.Rejected r n) k = absurd (not_executed_here k.0 k.1)
 
     -- a final status comes where it was followed
     followed_only : (x : Ending) → Why x → IsFinal (status_of x) → HasReplayed f s b a
@@ -472,73 +591,96 @@ module _ (f : Files) (s : Stream) (reports : Reports) (w : Option Command) (a : 
     followed_only _ k (inr (inl i)) = absurd (omega arith)
     followed_only _ k (inr (inr i)) = absurd (omega arith)
 
-  -- why a code file is not written
-  long_said : (x : Ending) → Why x → status_of x ≡ 10 → (d : Command) × (w ≡ Some d) × asks_build d × IfSome (text_of f.held d) HasLongCode
-  long_said e.LongCode (d, v, h) i = (d, v, h.builds, when_told HasLongCode (text_of f.held d) h.text h.loaded h.long)
+  -- why a code file is not written, or not run
+  abbrev Code_refused : Type 0
+  Code_refused = (d : Command) × (w ≡ Some d)
+      × ((asks_build d × IfSome (text_of f.held d) HasLongCode) ⊎ asks_execution d)
+
+  long_said : (x : Ending) → Why x → status_of x ≡ 10 → Code_refused
+  long_said e.LongCode (d, v, h) i =
+      (d, v, inl (h.builds, when_told HasLongCode (text_of f.held d) h.text h.loaded h.long))
+  long_said e.LongFile (b, v, h) i = (executes b, v, inr tt)
+  long_said (e.BadCode n) (b, v, h) i = (executes b, v, inr tt)
+  long_said (e.Rejected r n) (b, v, h) i = (executes b, v, inr tt)
   long_said _ k i = absurd (omega arith)
 
   -- why a journal is refused
   abbrev Refused_journal : Type 0
   Refused_journal = (b : Followed) × (w ≡ Some (follows b)) × IfSome (f.held b.file) KeepsAll
-      × (IfSome (f.held b.journal) IsNoJournal ⊎ ((h : HasRead f s b) × (n : ℕ) × IsUnfitFor h.text h.input b.limits h.journal n))
+      × (IfSome (f.held b.journal) IsNoJournal
+      ⊎ ((h : HasRead f s b) × (n : ℕ) × IsUnfitFor h.text h.input b.limits h.journal n))
 
   journal_refused : (x : Ending) → Why x → status_of x ≡ 9 → Refused_journal
-  journal_refused e.LongJournal (b, u, h) i = (b, u, h.kept, inl (if_mapped _ IsNoJournal (f.held b.journal) (λ x m. inl m) h.long))
-  journal_refused (e.BadJournal n) (b, u, h) i = (b, u, h.kept, inl (if_mapped _ IsNoJournal (f.held b.journal) (λ x m. inr m) h.no_text))
-  journal_refused (e.Unfit n) (b, u, h) i =
-      (b, u, when_told KeepsAll (f.held b.file) h.has_read.text h.has_read.loaded (tree_keeps h.has_read.text h.is_unfit.tree h.is_unfit.has), inr (h.has_read, n, h.is_unfit))
+  journal_refused e.LongJournal (b, u, h) i =
+      (b, u, h.kept, inl (if_mapped _ IsNoJournal (f.held b.journal) (λ x m. inl m) h.long))
+  journal_refused (e.BadJournal n) (b, u, h) i =
+      (b, u, h.kept, inl (if_mapped _ IsNoJournal (f.held b.journal) (λ x m. inr m) h.no_text))
+  journal_refused (e.Unfit n) (b, u, h) i = (
+    b,
+    u,
+    when_told KeepsAll (f.held b.file) h.has_read.text h.has_read.loaded
+        (tree_keeps h.has_read.text h.is_unfit.tree h.is_unfit.has),
+    inr (h.has_read, n, h.is_unfit),
+  )
   journal_refused _ k i = absurd (omega arith)
 
 -- ---- of a call
 
 module _ (c : Call) (k : IsAnswered c) (l : Laws) where
-  abbrev status : ℕ
+  abbrev pub status : ℕ
   status = c.outcome.status
 
-  abbrev ending : Ending
+  abbrev pub ending : Ending
   ending = k.answer.ending
 
-  due_why : why c.files c.source c.reports (command_of c.words) k.answer ending
+  pub due_why : why c.files c.source c.reports (command_of c.words) k.answer ending
   due_why = why_of c.files c.source c.reports (command_of c.words) k.answer k.cause
 
   -- a status other than 6 is that of the answer
-  same_status : status ≢ 6 → status ≡ status_of ending
+  pub same_status : status ≢ 6 → status ≡ status_of ending
   same_status h = go k.written.status_is
     where
       go : (status ≡ status_of ending) ⊎ (status ≡ 6) → status ≡ status_of ending
       go (inl i) = i
       go (inr i) = absurd (h i)
 
-  not_six : (n : ℕ) → (n ≡ 6 → ⊥) → status ≡ n → status ≢ 6
+  pub not_six : (n : ℕ) → (n ≡ 6 → ⊥) → status ≡ n → status ≢ 6
   not_six n other h i = other (sym h ∙ i)
 
-  undisplaced : (n : ℕ) → (n ≡ 6 → ⊥) → status ≡ n → status_of ending ≡ n
+  pub undisplaced : (n : ℕ) → (n ≡ 6 → ⊥) → status ≡ n → status_of ending ≡ n
   undisplaced n other h = sym (same_status (not_six n other h)) ∙ h
 
   due : (n : ℕ) → (status_of ending ≡ n) ⊎ IsOutside (status_of ending) → (status ≡ n) ⊎ IsOutside status
   due n d = go k.written.status_is d
     where
-      go : (status ≡ status_of ending) ⊎ (status ≡ 6) → (status_of ending ≡ n) ⊎ IsOutside (status_of ending) → (status ≡ n) ⊎ IsOutside status
+      go : (status ≡ status_of ending) ⊎ (status ≡ 6) → (status_of ending ≡ n) ⊎ IsOutside (status_of ending)
+          → (status ≡ n) ⊎ IsOutside status
       go (inr i) h = inr (omega arith, omega arith)
       go (inl i) (inl h) = inl (i ∙ h)
       go (inl i) (inr h) = inr (subst IsOutside (sym i) h)
 
-  outside : IsOutside (status_of ending) → IsOutside status
+  pub outside : IsOutside (status_of ending) → IsOutside status
   outside h = go k.written.status_is
     where
       go : (status ≡ status_of ending) ⊎ (status ≡ 6) → IsOutside status
       go (inr i) = (omega arith, omega arith)
       go (inl i) = subst IsOutside (sym i) h
 
-  says : (line : List ℕ) → ((status_of ending ≡ 1) × (notes_of k.answer ≡ line)) ⊎ IsOutside (status_of ending) → ((status ≡ 1) × All c.notes line) ⊎ IsOutside status
+  says : (line : List ℕ) → ((status_of ending ≡ 1) × (notes_of k.answer ≡ line)) ⊎ IsOutside (status_of ending)
+      → ((status ≡ 1) × All c.notes line) ⊎ IsOutside status
   says line d = go k.written.status_is d
     where
-      go : (status ≡ status_of ending) ⊎ (status ≡ 6) → ((status_of ending ≡ 1) × (notes_of k.answer ≡ line)) ⊎ IsOutside (status_of ending) → ((status ≡ 1) × All c.notes line) ⊎ IsOutside status
+      go : (status ≡ status_of ending) ⊎ (status ≡ 6) → ((status_of ending ≡ 1) × (notes_of k.answer ≡ line))
+          ⊎ IsOutside (status_of ending) → ((status ≡ 1) × All c.notes line) ⊎ IsOutside status
       go (inr i) h = inr (omega arith, omega arith)
-      go (inl i) (inl h) = inl (i ∙ h.0, subst (All c.notes) h.1 (k.written.all_written (not_six 1 (λ p. absurd (omega arith)) (i ∙ h.0))).1)
+      go (inl i) (inl h) = inl (
+        i
+            ∙ h.0,
+        subst (All c.notes) h.1 (k.written.all_written (not_six 1 (λ p. absurd (omega arith)) (i ∙ h.0))).1,
+      )
       go (inl i) (inr h) = inr (subst IsOutside (sym i) h)
 
-  final_status : IsFinal status → IsFinal (status_of ending)
+  pub final_status : IsFinal status → IsFinal (status_of ending)
   final_status (inl h) = inl (undisplaced 0 (λ p. absurd (omega arith)) h)
   final_status (inr (inl h)) = inr (inl (undisplaced 3 (λ p. absurd (omega arith)) h))
   final_status (inr (inr h)) = inr (inr (undisplaced 4 (λ p. absurd (omega arith)) h))
@@ -563,8 +705,10 @@ module _ (c : Call) (k : IsAnswered c) (l : Laws) where
     run_ending = go has_ran
       where
         go : HasRanFor c.files c.source c.reports (command_of c.words) k.answer → ending ≡ ending_of r.closed.end
-        go (d, u, inl (b, p, m)) = ap (λ (z : Answer). z.ending) m.answer ∙ ap (λ (z : Ran). ending_of z.closed.end) (same_run c.reports b m.ran m.answer)
-        go (d, u, inr (size, workers, p, m)) = ap (λ (z : Answer). z.ending) m.answer ∙ ap (λ (z : Ran). ending_of z.closed.end) (same_generated size m.ran m.answer)
+        go (d, u, inl (b, p, m)) = ap (λ (z : Answer). z.ending) m.answer
+            ∙ ap (λ (z : Ran). ending_of z.closed.end) (same_run c.reports b m.ran m.answer)
+        go (d, u, inr (size, workers, p, m)) = ap (λ (z : Answer). z.ending) m.answer
+            ∙ ap (λ (z : Ran). ending_of z.closed.end) (same_generated size m.ran m.answer)
 
     run_status : (status ≡ status_of (ending_of r.closed.end)) ⊎ (status ≡ 6)
     run_status = go k.written.status_is
@@ -578,12 +722,34 @@ module _ (c : Call) (k : IsAnswered c) (l : Laws) where
       where
         go : HasRanFor c.files c.source c.reports (command_of c.words) k.answer → IsRunOfWords c r
         go (d, u, inl (b, p, m)) =
-            inl (b, u ∙ ap Some p, m.at_end, m.text, m.input, m.loaded, m.read, subst (IsRunOf m.text m.input b.workers b.limits) (same_run c.reports b m.ran m.answer) m.is_run)
-        go (d, u, inr (size, workers, p, m)) = inr (size, workers, u ∙ ap Some p, subst (IsRunOf (generated_text size) [] workers default_limits) (same_generated size m.ran m.answer) m.is_run)
+            inl (
+              b,
+              u ∙ ap Some p,
+              m.at_end,
+              m.text,
+              m.input,
+              m.loaded,
+              m.read,
+              subst
+                  (IsRunOf m.text m.input b.workers b.limits) (same_run c.reports b m.ran m.answer) m.is_run,
+            )
+        go (d, u, inr (size, workers, p, m)) = inr (
+          size,
+          workers,
+          u
+              ∙ ap Some p,
+          subst (IsRunOf (generated_text size) [] workers default_limits)
+              (same_generated size m.ran m.answer) m.is_run,
+        )
 
-    written : (output notes : List ℕ) → output_of k.answer ≡ output → notes_of k.answer ≡ notes → AreWritten c output notes
+    written : (output notes : List ℕ) → output_of k.answer ≡ output → notes_of k.answer ≡ notes
+        → AreWritten c output notes
     written output notes i j = record {
-      whole = λ n. (subst (All c.output) i (k.written.all_written n).0, subst (All c.notes) j (k.written.all_written n).1);
+      whole = λ n. (
+        subst (All c.output) i (k.written.all_written n).0,
+        subst (All c.notes) j
+            (k.written.all_written n).1,
+      );
       part_of_output = subst (Part c.output) i k.written.part_of_output;
       part_of_notes = subst (Part c.notes) j k.written.part_of_notes;
     }
@@ -595,52 +761,71 @@ module _ (c : Call) (k : IsAnswered c) (l : Laws) where
         where
           go : HasRanFor c.files c.source c.reports (command_of c.words) k.answer → P b
           go (d, u, inl (x, p, m)) = subst P (one_asked b x (sym p ∙ one_command _ (asks b) d v u)) (q x m)
-          go (d, u, inr (size, workers, p, m)) = absurd (not_gen b size workers (sym (one_command _ (asks b) d v u) ∙ p))
+          go (d, u, inr (size, workers, p, m)) = absurd (not_gen b size workers (sym (one_command _ (asks b) d v u)
+              ∙ p))
 
       run_written : AreWritten c (told_output b.telling r) (told_notes c.reports b.telling r)
-      run_written = of_run (λ x. AreWritten c (told_output x.telling r) (told_notes c.reports x.telling r)) (λ x m. go x m)
+      run_written = of_run (λ x. AreWritten c (told_output x.telling r) (told_notes c.reports x.telling r))
+          (λ x m. go x m)
         where
-          go : (x : Asked) → HasRun c.files c.source c.reports x k.answer → AreWritten c (told_output x.telling r) (told_notes c.reports x.telling r)
+          go : (x : Asked) → HasRun c.files c.source c.reports x k.answer
+              → AreWritten c (told_output x.telling r) (told_notes c.reports x.telling r)
           go x m =
               let same : m.ran ≡ r = same_run c.reports x m.ran m.answer in
               written (told_output x.telling r) (told_notes c.reports x.telling r)
               (ap output_of m.answer ∙ (output_stands c.reports x.telling m.ran ∙ ap (told_output x.telling) same))
               (ap notes_of m.answer
-              ∙ (run_notes_stand m.ran.closed.end (told_notes c.reports x.telling m.ran) (ends_of _ _ _ _ m.ran m.is_run) ∙ ap (told_notes c.reports x.telling) same))
+              ∙ (run_notes_stand m.ran.closed.end (told_notes c.reports x.telling m.ran)
+              (ends_of _ _ _ _ m.ran m.is_run) ∙ ap (told_notes c.reports x.telling) same))
 
       -- with the text and the input that are told
-      run_meant : (text input : List ℕ) → c.files.held b.file ≡ Some text → c.source.left ≡ Some input → IsMeant b text input r
-      run_meant text input t left = of_run (λ x. c.files.held x.file ≡ Some text → IsMeant x text input r) (λ x m i. go x m i) t
+      run_meant : (text input : List ℕ) → c.files.held b.file ≡ Some text → c.source.left ≡ Some input
+          → IsMeant b text input r
+      run_meant text input t left = of_run (λ x. c.files.held x.file ≡ Some text
+          → IsMeant x text input r) (λ x m i. go x m i) t
         where
-          go : (x : Asked) → HasRun c.files c.source c.reports x k.answer → c.files.held x.file ≡ Some text → IsMeant x text input r
+          go : (x : Asked) → HasRun c.files c.source c.reports x k.answer → c.files.held x.file ≡ Some text
+              → IsMeant x text input r
           go x m i =
               let same : m.ran ≡ r = same_run c.reports x m.ran m.answer in
               let this : m.text ≡ text = told_of (c.files.held x.file) m.text text i m.loaded in
               let that : m.input ≡ input = told_of c.source.left m.input input left m.read in
-              meant x text input r (subst (IsRunOf text input x.workers x.limits) same (subst (λ y. IsRunOf text y x.workers x.limits m.ran) that (subst (λ y. IsRunOf y m.input x.workers x.limits m.ran) this m.is_run)))
+              meant x text input r (subst (IsRunOf text input x.workers x.limits) same
+              (subst (λ y. IsRunOf text y x.workers x.limits m.ran) that
+              (subst (λ y. IsRunOf y m.input x.workers x.limits m.ran) this m.is_run)))
             where
-              meant : (x : Asked) (text input : List ℕ) (r : Ran) → IsRunOf text input x.workers x.limits r → IsMeant x text input r
+              meant : (x : Asked) (text input : List ℕ) (r : Ran) → IsRunOf text input x.workers x.limits r
+                  → IsMeant x text input r
               meant x text input r h = (bare h.tree, (h.tree, h.has.accepted.0, refl), h.meant)
 
       run_disjoint : (text : List ℕ) → c.files.held b.file ≡ Some text → IsDisjointText text
       run_disjoint text t =
-          disjoint_text l text (keeps_asked b text (ran_keeps c.files c.source c.reports (command_of c.words) k.answer (asks b) text v (asked_text c.files.held b ∙ t) has_ran))
+          disjoint_text l text (keeps_asked b text
+          (ran_keeps c.files c.source c.reports (command_of c.words) k.answer (asks b) text v
+          (asked_text c.files.held b ∙ t) has_ran))
 
       -- the witness of its race
-      run_shown : (text input : List ℕ) → c.files.held b.file ≡ Some text → c.source.left ≡ Some input → IsShown b text input r
-      run_shown text input t left = of_run (λ x. c.files.held x.file ≡ Some text → IsShown x text input r) (λ x m i. go x m i) t
+      pub run_shown : (text input : List ℕ) → c.files.held b.file ≡ Some text → c.source.left ≡ Some input
+          → IsShown b text input r
+      run_shown text input t left = of_run (λ x. c.files.held x.file ≡ Some text
+          → IsShown x text input r) (λ x m i. go x m i) t
         where
-          go : (x : Asked) → HasRun c.files c.source c.reports x k.answer → c.files.held x.file ≡ Some text → IsShown x text input r
+          go : (x : Asked) → HasRun c.files c.source c.reports x k.answer → c.files.held x.file ≡ Some text
+              → IsShown x text input r
           go x m i =
               let same : m.ran ≡ r = same_run c.reports x m.ran m.answer in
               let this : m.text ≡ text = told_of (c.files.held x.file) m.text text i m.loaded in
               let that : m.input ≡ input = told_of c.source.left m.input input left m.read in
-              shown x text input r (subst (IsRunOf text input x.workers x.limits) same (subst (λ y. IsRunOf text y x.workers x.limits m.ran) that (subst (λ y. IsRunOf y m.input x.workers x.limits m.ran) this m.is_run)))
+              shown x text input r (subst (IsRunOf text input x.workers x.limits) same
+              (subst (λ y. IsRunOf text y x.workers x.limits m.ran) that
+              (subst (λ y. IsRunOf y m.input x.workers x.limits m.ran) this m.is_run)))
             where
-              shown : (x : Asked) (text input : List ℕ) (r : Ran) → IsRunOf text input x.workers x.limits r → IsShown x text input r
+              shown : (x : Asked) (text input : List ℕ) (r : Ran) → IsRunOf text input x.workers x.limits r
+                  → IsShown x text input r
               shown x text input r h = (bare h.tree, (h.tree, h.has.accepted.0, refl), h.shown)
 
-    generated_written : (size workers : ℕ) → command_of c.words ≡ Some (command.Gen size workers) → AreWritten c (generated_output size r) []
+    generated_written : (size workers : ℕ) → command_of c.words ≡ Some (command.Gen size workers)
+        → AreWritten c (generated_output size r) []
     generated_written size workers v = go has_ran
       where
         of_size : (n x : ℕ) → n ≡ size → HasGenerated n x k.answer → AreWritten c (generated_output size r) []
@@ -650,56 +835,74 @@ module _ (c : Call) (k : IsAnswered c) (l : Laws) where
             (ap output_of m.answer ∙ (ap (generated_output n) same ∙ ap (λ y. generated_output y r) i))
             (ap notes_of m.answer ∙ run_notes_stand m.ran.closed.end [] (ends_of _ _ _ _ m.ran m.is_run))
 
-        go : HasRanFor c.files c.source c.reports (command_of c.words) k.answer → AreWritten c (generated_output size r) []
-        go (d, u, inl (b, p, m)) = absurd (not_gen b size workers (sym p ∙ one_command _ (command.Gen size workers) d v u))
-        go (d, u, inr (n, x, p, m)) = of_size n x (one_size n size x workers (sym p ∙ one_command _ (command.Gen size workers) d v u)) m
+        go : HasRanFor c.files c.source c.reports (command_of c.words) k.answer
+            → AreWritten c (generated_output size r) []
+        go (d, u, inl (b, p, m)) = absurd (not_gen b size workers (sym p
+            ∙ one_command _ (command.Gen size workers) d v u))
+        go (d, u, inr (n, x, p, m)) = of_size n x (one_size n size x workers (sym p
+            ∙ one_command _ (command.Gen size workers) d v u)) m
 
   -- ---- the clauses
 
   refuses : OfText c (λ d text. (r : Refusal) → Breaks d text r → SaysRefusal c r)
-  refuses d text v t r b = says (refusal_text r) (refusal_due c.files c.source c.reports (command_of c.words) k.answer d text v t l r b ending refl due_why)
+  refuses d text v t r b = says (refusal_text r)
+      (refusal_due c.files c.source c.reports (command_of c.words) k.answer d text v t l r b ending refl due_why)
 
   refuses_only : OfText c (λ d text. status ≡ 1 → (r : Refusal) × Breaks d text r)
-  refuses_only d text v t h = refused_only c.files c.source c.reports (command_of c.words) k.answer d text v t ending due_why (undisplaced 1 (λ p. absurd (omega arith)) h)
+  refuses_only d text v t h = refused_only c.files c.source c.reports
+      (command_of c.words) k.answer d text v t ending due_why (undisplaced 1 (λ p. absurd (omega arith)) h)
 
   makes_it : OfText c (λ d text. asks_text d → Exactly status 0 ((out line : List ℕ) × Makes d text out line))
   makes_it d text v t q = (
-    λ h. let m = made_only c.files c.source c.reports (command_of c.words) k.answer d text v t q ending due_why (undisplaced 0 (λ p. absurd (omega arith)) h) in (m.0.output, m.0.line, m.1),
+    λ h. let m = made_only c.files c.source c.reports (command_of c.words) k.answer d text v t q ending due_why
+        (undisplaced 0 (λ p. absurd (omega arith)) h) in (m.0.output, m.0.line, m.1),
     λ m. due 0 (made_due c.files c.source c.reports (command_of c.words) k.answer d text v t q l m ending due_why),
   )
 
   long_exactly : OfText c (λ d text. asks_build d → Exactly status 10 (HasLongCode text))
   long_exactly d text v t q = (
-    λ h. (long_only c.files c.source c.reports (command_of c.words) k.answer d text v t ending due_why (undisplaced 10 (λ p. absurd (omega arith)) h)).1,
-    λ m. due 10 (long_code_due c.files c.source c.reports (command_of c.words) k.answer d text v t q l m ending due_why),
+    λ h. long_only c.files c.source c.reports (command_of c.words) k.answer d text v t q ending due_why
+        (undisplaced 10 (λ p. absurd (omega arith)) h),
+    λ m. due 10 (long_code_due c.files c.source c.reports
+        (command_of c.words) k.answer d text v t q l m ending due_why),
   )
 
-  made_written : OfText c (λ d text. (out line : List ℕ) → Makes d text out line → status ≡ 0 → All c.output out × All c.notes line)
+  made_written : OfText c (λ d text. (out line : List ℕ) → Makes d text out line → status ≡ 0 → All c.output out
+      × All c.notes line)
   made_written d text v t out line m h =
-      let n = made_only c.files c.source c.reports (command_of c.words) k.answer d text v t (made_asks d text out line m) ending due_why (undisplaced 0 (λ p. absurd (omega arith)) h) in
+      let n = made_only c.files c.source c.reports (command_of c.words) k.answer d text v t
+      (made_asks d text out line m) ending due_why (undisplaced 0 (λ p. absurd (omega arith)) h) in
       let once = made_once l text d n.0.output out n.0.line line n.1 m in
-      let all = k.written.all_written (not_six 0 (λ p. absurd (omega arith)) h) in
-      (subst (All c.output) (ap output_of n.0.answer ∙ once.0) all.0, subst (All c.notes) (ap notes_of n.0.answer ∙ once.1) all.1)
+      let all = k.written.all_written (not_six 0 (λ p. absurd (omega arith)) h) in (
+        subst (All c.output) (ap output_of n.0.answer ∙ once.0) all.0,
+        subst (All c.notes) (ap notes_of n.0.answer
+            ∙ once.1) all.1,
+      )
 
   reads_fail : status ≡ 5 → ReadsFail c
-  reads_fail h = go (read_fails c.files c.source c.reports (command_of c.words) k.answer ending due_why (undisplaced 5 (λ p. absurd (omega arith)) h))
+  reads_fail h = go (read_fails c.files c.source c.reports (command_of c.words) k.answer ending due_why
+      (undisplaced 5 (λ p. absurd (omega arith)) h))
     where
-      go : ((d : Command) × (command_of c.words ≡ Some d) × (IsNotLoaded c.files d k.answer ⊎ IsNotRead c.files c.source d k.answer)) → ReadsFail c
+      go : ((d : Command) × (command_of c.words ≡ Some d)
+          × (IsNotLoaded c.files d k.answer ⊎ IsNotRead c.files c.source d k.answer)) → ReadsFail c
       go (d, v, inl m) = (d, v, inl (m.name, m.loads, m.rose))
       go (d, v, inr m) = (d, v, inr (m.reads, m.rose))
 
   too_long_is : status ≡ 7 → InputIsTooLong c
-  too_long_is h = let m = input_long c.files c.source c.reports (command_of c.words) k.answer ending due_why (undisplaced 7 (λ p. absurd (omega arith)) h) in (m.0, m.1, m.2.reads, m.2.long)
+  too_long_is h = let m = input_long c.files c.source c.reports (command_of c.words) k.answer ending due_why
+      (undisplaced 7 (λ p. absurd (omega arith)) h) in (m.0, m.1, m.2.reads, m.2.long)
 
   no_run_of_memory : status ≡ 8 → IsUnwritten c.output × (c.outcome.ran ≡ None)
   no_run_of_memory h =
-      let m : k.answer ≡ silent e.OutOfMemory = no_memory c.files c.source c.reports (command_of c.words) k.answer ending due_why (undisplaced 8 (λ p. absurd (omega arith)) h) in
+      let m : k.answer ≡ silent e.OutOfMemory = no_memory c.files c.source c.reports
+      (command_of c.words) k.answer ending due_why (undisplaced 8 (λ p. absurd (omega arith)) h) in
       (k.written.untouched (ap (λ (z : Answer). has_output z.ending) m), k.ran ∙ ap (λ (z : Answer). z.ran) m)
 
   complete_is : OfText c (λ d text. Keeps d text → IsQuiet c d → IsWell d status)
   complete_is d text v t kept q =
       subst (IsWell d) (sym (same_status not_displaced))
-      (ends_well c.files c.source c.reports (command_of c.words) k.answer d text v t l kept q.library q.source q.input ending due_why)
+      (ends_well c.files c.source c.reports
+      (command_of c.words) k.answer d text v t l kept q.library q.source q.input ending due_why)
     where
       not_displaced : status ≢ 6
       not_displaced h = go (k.written.displaced h)
@@ -711,18 +914,21 @@ module _ (c : Call) (k : IsAnswered c) (l : Laws) where
   source_is : IsUntouched c.source ⊎ ((d : Command) × (command_of c.words ≡ Some d) × CanRead c.files.held d)
   source_is = go k.cause
     where
-      reads : (d : Command) → command_of c.words ≡ Some d → ReadsAfterRules c.files c.source d → IsUntouched c.source ⊎ ((b : Command) × (command_of c.words ≡ Some b) × CanRead c.files.held b)
+      reads : (d : Command) → command_of c.words ≡ Some d → ReadsAfterRules c.files c.source d → IsUntouched c.source
+          ⊎ ((b : Command) × (command_of c.words ≡ Some b) × CanRead c.files.held b)
       reads d v (inl u) = inl u
       reads d v (inr m) = inr (d, v, m)
 
-      go : Cause c.files c.source c.reports (command_of c.words) k.answer → IsUntouched c.source ⊎ ((d : Command) × (command_of c.words ≡ Some d) × CanRead c.files.held d)
+      go : Cause c.files c.source c.reports (command_of c.words) k.answer → IsUntouched c.source
+          ⊎ ((d : Command) × (command_of c.words ≡ Some d) × CanRead c.files.held d)
       go (by_words n h u) = inl u
       go (before_words h u) = inl u
       go (by_command d v h r) = reads d v r
 
   -- ---- of a replay
 
-  module _ (b : Followed) (text bytes : List ℕ) (v : command_of c.words ≡ Some (follows b)) (t : c.files.held b.file ≡ Some text) (u : c.files.held b.journal ≡ Some bytes) where
+  module _ (b : Followed) (text bytes : List ℕ) (v : command_of c.words ≡ Some (follows b))
+      (t : c.files.held b.file ≡ Some text) (u : c.files.held b.journal ≡ Some bytes) where
     abbrev Came_here : Type 0
     Came_here = Came c.files c.source c.reports (command_of c.words) k.answer b ending
 
@@ -731,7 +937,8 @@ module _ (c : Call) (k : IsAnswered c) (l : Laws) where
 
     -- a journal that is read is the text of one
     read_is : (h : HasRead c.files c.source b) → IsJournalOf bytes h.journal
-    read_is h = subst (λ x. IsJournalOf x h.journal) (told_of (c.files.held b.journal) h.bytes bytes u h.told) h.is_journal
+    read_is h = subst (λ x. IsJournalOf x h.journal)
+        (told_of (c.files.held b.journal) h.bytes bytes u h.told) h.is_journal
 
     is_short : (h : HasRead c.files c.source b) → length bytes ≤ 67108864
     is_short h = (read_is h).short
@@ -745,7 +952,8 @@ module _ (c : Call) (k : IsAnswered c) (l : Laws) where
         short : (x y : List ℕ) → x ≡ y → length x ≤ 16777216 → 16777216 < length y → ⊥
         short x y e h k = let i : length x ≡ length y = ap length e in omega arith
 
-    followed_long : KeepsAll text → IsJournalText bytes → (input : List ℕ) → c.source.left ≡ Some input → IsTooLong input → IsOutside (status_of ending)
+    followed_long : KeepsAll text → IsJournalText bytes → (input : List ℕ) → c.source.left ≡ Some input
+        → IsTooLong input → IsOutside (status_of ending)
     followed_long kept is input left long = go (came_here kept)
       where
         go : Came_here → IsOutside (status_of ending)
@@ -782,24 +990,35 @@ module _ (c : Call) (k : IsAnswered c) (l : Laws) where
         go (came_followed h) = absurd (too_short (is_short h.has_read) long)
         go (came_unfit n h) = absurd (too_short (is_short h.has_read) long)
         go (came_bad n h) = absurd (too_short (if_told _ (c.files.held b.journal) bytes u h.short) long)
-        go (came_long h) = says_journal e.LongJournal refl (ap notes_of h.answer) (ap (λ (z : Answer). z.ending) h.answer)
+        go (came_long h) = says_journal e.LongJournal refl (ap notes_of h.answer)
+            (ap (λ (z : Answer). z.ending) h.answer)
         go (came_outside o) = outside_journal e.LongJournal o
 
-    says_bad : KeepsAll text → length bytes ≤ 67108864 → (IsText bytes → ⊥) → ((n : ℕ) × IsFirstBad n bytes × SaysJournal c (e.BadJournal n)) ⊎ IsOutside status
+    says_bad : KeepsAll text → length bytes ≤ 67108864 → (IsText bytes → ⊥)
+        → ((n : ℕ) × IsFirstBad n bytes × SaysJournal c (e.BadJournal n)) ⊎ IsOutside status
     says_bad kept short none = go (came_here kept)
       where
         go : Came_here → ((n : ℕ) × IsFirstBad n bytes × SaysJournal c (e.BadJournal n)) ⊎ IsOutside status
         go (came_followed h) = let j = read_is h.has_read in absurd (none (j.version, h.has_read.journal, j.text))
         go (came_unfit n h) = let j = read_is h.has_read in absurd (none (j.version, h.has_read.journal, j.text))
-        go (came_bad n h) = inl (n, if_told _ (c.files.held b.journal) bytes u h.bad, says_journal (e.BadJournal n) refl (ap notes_of h.answer) (ap (λ (z : Answer). z.ending) h.answer))
+        go (came_bad n h) = inl (
+          n,
+          if_told _ (c.files.held b.journal) bytes u h.bad,
+          says_journal (e.BadJournal n) refl
+              (ap notes_of h.answer) (ap (λ (z : Answer). z.ending) h.answer),
+        )
         go (came_long h) = absurd (too_short short (if_told _ (c.files.held b.journal) bytes u h.long))
         go (came_outside o) = inr (outside o)
 
     module _ (input : List ℕ) (left : c.source.left ≡ Some input) where
       is_followed : IsFinal status → (r : Replayed) × IsMeantAlong b text bytes input r × PrintsReplay c r
       is_followed f =
-          let h = followed_only c.files c.source c.reports (command_of c.words) k.answer b text v t ending due_why (final_status f) in
-          (h.replayed, meant_along c.files c.source b l h.has_read text bytes input t u left h.replayed h.is_replay, prints h)
+          let h = followed_only c.files c.source c.reports (command_of c.words) k.answer b text v t ending due_why
+          (final_status f) in (
+            h.replayed,
+            meant_along c.files c.source b l h.has_read text bytes input t u left h.replayed h.is_replay,
+            prints h,
+          )
         where
           apart : IsFinal status → status ≢ 6
           apart (inl i) = not_six 0 (λ p. absurd (omega arith)) i
@@ -812,11 +1031,14 @@ module _ (c : Call) (k : IsAnswered c) (l : Laws) where
               record {
                 status = same_status (apart f) ∙ ap (λ (z : Answer). status_of z.ending) h.answer;
                 output = subst (All c.output) (ap output_of h.answer) all.0;
-                notes = subst (All c.notes) (ap notes_of h.answer ∙ replay_notes_stand h.replayed.end (replay_notes h.replayed) (replay_ends _ _ _ _ h.replayed h.is_replay)) all.1;
+                notes = subst (All c.notes) (ap notes_of h.answer
+                    ∙ replay_notes_stand h.replayed.end (replay_notes h.replayed)
+                    (replay_ends _ _ _ _ h.replayed h.is_replay)) all.1;
                 at_end = h.has_read.at_end;
               }
 
-      module _ (kept : KeepsAll text) (fits : length input ≤ 16777216) (p : Program) (is : IsProgramOf text p) (j : Journal) (of : IsJournalOf bytes j) where
+      module _ (kept : KeepsAll text) (fits : length input ≤ 16777216) (p : Program) (is : IsProgramOf text p)
+          (j : Journal) (of : IsJournalOf bytes j) where
         is_accepted : IsDefined (setting p input b.limits) j.entries → IsFinal status ⊎ IsOutside status
         is_accepted d = go (came_here kept)
           where
@@ -825,8 +1047,11 @@ module _ (c : Call) (k : IsAnswered c) (l : Laws) where
             final_replay (Some x) h = (final x h).0
 
             go : Came_here → IsFinal status ⊎ IsOutside status
-            go (came_followed h) = final_or (subst IsFinal (sym (ap (λ (z : Answer). status_of z.ending) h.answer)) (final_replay h.replayed.end (replay_ends _ _ _ _ h.replayed h.is_replay)))
-            go (came_unfit n h) = absurd (not_unfit c.files c.source b l h.has_read text bytes input t u left p is j of n h.is_unfit d)
+            go (came_followed h) = final_or
+                (subst IsFinal (sym (ap (λ (z : Answer). status_of z.ending) h.answer))
+                (final_replay h.replayed.end (replay_ends _ _ _ _ h.replayed h.is_replay)))
+            go (came_unfit n h) = absurd (not_unfit c.files c.source b l h.has_read text bytes input t u left p is j of
+                n h.is_unfit d)
             go (came_bad n h) = absurd (if_told _ (c.files.held b.journal) bytes u h.no_text (of.version, j, of.text))
             go (came_long h) = absurd (too_short of.short (if_told _ (c.files.held b.journal) bytes u h.long))
             go (came_outside o) = inr (outside o)
@@ -835,9 +1060,11 @@ module _ (c : Call) (k : IsAnswered c) (l : Laws) where
         is_unfit n d = go (came_here kept)
           where
             go : Came_here → SaysJournal c (e.Unfit n)
-            go (came_followed h) = absurd (not_followed c.files c.source b l h.has_read text bytes input t u left p is j of n h.replayed h.is_replay d)
+            go (came_followed h) = absurd (not_followed c.files c.source b l h.has_read text bytes input t u left p is j
+                of n h.replayed h.is_replay d)
             go (came_unfit m h) =
-                subst (λ x. SaysJournal c (e.Unfit x)) (same_entry c.files c.source b l h.has_read text bytes input t u left p is j of m n h.is_unfit d)
+                subst (λ x. SaysJournal c (e.Unfit x))
+                (same_entry c.files c.source b l h.has_read text bytes input t u left p is j of m n h.is_unfit d)
                 (says_journal (e.Unfit m) refl (ap notes_of h.answer) (ap (λ (z : Answer). z.ending) h.answer))
             go (came_bad m h) = absurd (if_told _ (c.files.held b.journal) bytes u h.no_text (of.version, j, of.text))
             go (came_long h) = absurd (too_short of.short (if_told _ (c.files.held b.journal) bytes u h.long))
@@ -846,36 +1073,47 @@ module _ (c : Call) (k : IsAnswered c) (l : Laws) where
   pub following : Following c
   following = record {
     followed = λ b text bytes v t u input left f. is_followed b text bytes v t u input left f;
-    accepted = λ b text bytes v t u input left kept fits p is j of d. is_accepted b text bytes v t u input left kept fits p is j of d;
-    unfit = λ b text bytes v t u input left kept fits p is j of n d. is_unfit b text bytes v t u input left kept fits p is j of n d;
+    accepted = λ b text bytes v t u input left kept fits p is j of d.
+        is_accepted b text bytes v t u input left kept fits p is j of d;
+    unfit = λ b text bytes v t u input left kept fits p is j of n d.
+        is_unfit b text bytes v t u input left kept fits p is j of n d;
     bad = λ b text bytes v t u kept short none. says_bad b text bytes v t u kept short none;
     long = λ b text bytes v t u kept long. says_long b text bytes v t u kept long;
-    only = λ h. journal_refused c.files c.source c.reports (command_of c.words) k.answer ending due_why (undisplaced 9 (λ p. absurd (omega arith)) h);
+    only = λ h. journal_refused c.files c.source c.reports (command_of c.words) k.answer ending due_why
+        (undisplaced 9 (λ p. absurd (omega arith)) h);
   }
 
   pub statuses : Statuses c
   statuses = record {
     bad_words = (
-      λ h. words_only c.files c.source c.reports (command_of c.words) k.answer ending due_why (undisplaced 2 (λ p. absurd (omega arith)) h),
+      λ h. words_only c.files c.source c.reports (command_of c.words) k.answer ending due_why
+          (undisplaced 2 (λ p. absurd (omega arith)) h),
       λ h. due 2 (words_due c.files c.source c.reports (command_of c.words) k.answer h ending due_why),
     );
     refused = refuses;
     no_other_refused = refuses_only;
     made = makes_it;
     by_end = run_status;
-    ran = λ d v n h. let m = run_there c.files c.source c.reports (command_of c.words) k.answer d v n ending due_why (final_status h) in (m.0, k.ran ∙ m.1);
+    ran = λ d v n h. let m = run_there c.files c.source c.reports (command_of c.words) k.answer d v n ending due_why
+        (final_status h) in (m.0, k.ran ∙ m.1);
     runs = runs_words;
     read_fault = reads_fail;
     write_fault = k.written.displaced;
     too_long = too_long_is;
-    long_refused = λ b text v t kept input left long. outside (long_due c.files c.source c.reports (command_of c.words) k.answer b text v t l kept input left long ending due_why);
-    long_unfollowed = λ b text bytes v t u kept is input left long. outside (followed_long b text bytes v t u kept is input left long);
+    long_refused = λ b text v t kept input left long. outside
+        (long_due c.files c.source c.reports
+        (command_of c.words) k.answer b text v t l kept input left long ending due_why);
+    long_unfollowed = λ b text bytes v t u kept is input left long. outside
+        (followed_long b text bytes v t u kept is input left long);
     memory = no_run_of_memory;
     long_code = long_exactly;
-    no_other_long = λ h. long_said c.files c.source c.reports (command_of c.words) k.answer ending due_why (undisplaced 10 (λ p. absurd (omega arith)) h);
+    no_other_long = λ h. long_said c.files c.source c.reports (command_of c.words) k.answer ending due_why
+        (undisplaced 10 (λ p. absurd (omega arith)) h);
     complete = complete_is;
     source = source_is;
-    disjoint = λ d text v t q h. disjoint_text l text (keeps_all d text q (kept_by c.files c.source c.reports (command_of c.words) k.answer d text v t ending due_why (final_status h)));
+    disjoint = λ d text v t q h. disjoint_text l text
+        (keeps_all d text q (kept_by c.files c.source c.reports (command_of c.words) k.answer d text v t ending due_why
+        (final_status h)));
   }
 
   pub headline : Headline c
@@ -888,13 +1126,19 @@ module _ (c : Call) (k : IsAnswered c) (l : Laws) where
     meant = λ b text v t input left r h. (run_meant r h b v text input t left, prints r h b v);
   }
     where
-      prints : (r : Ran) → c.outcome.ran ≡ Some r → (b : Asked) → command_of c.words ≡ Some (asks b) → Prints c b.telling r
-      prints r h b v = let m = run_written r h b v in record { status = run_status r h; whole = λ n. (m.whole n).0; part = m.part_of_output }
+      prints : (r : Ran) → c.outcome.ran ≡ Some r → (b : Asked) → command_of c.words ≡ Some (asks b)
+          → Prints c b.telling r
+      prints r h b v = let m = run_written r h b v in
+          record { status = run_status r h; whole = λ n. (m.whole n).0; part = m.part_of_output }
 
   -- the notes where there is no output
-  line_is : (x : Ending) → why c.files c.source c.reports (command_of c.words) k.answer x → has_output x ≡ false → (notes_by x k.answer.notes ≡ line_of x) ⊎ ((r : Refusal) × (k.answer ≡ refused r))
+  line_is : (x : Ending) → why c.files c.source c.reports (command_of c.words) k.answer x → has_output x ≡ false
+      → (notes_by x k.answer.notes ≡ line_of x) ⊎ ((r : Refusal) × (k.answer ≡ refused r))
   line_is e.LongJournal m h = inl refl
   line_is e.LongCode m h = inl refl
+  line_is e.LongFile m h = inl refl
+  line_is (e.BadCode n) (b, v, m) h = inl (ap (λ (z : Answer). z.notes) m.answer)
+  line_is (e.Rejected r n) (b, v, m) h = inl (ap (λ (z : Answer). z.notes) m.answer)
   line_is (e.BadJournal n) (b, v, m) h = inl (ap (λ (z : Answer). z.notes) m.answer)
   line_is (e.Unfit n) (b, v, m) h = inl (ap (λ (z : Answer). z.notes) m.answer)
   line_is e.Done m h = absurd (no_true h)
@@ -923,6 +1167,9 @@ module _ (c : Call) (k : IsAnswered c) (l : Laws) where
   without_output (e.BadJournal n) a b d = refl
   without_output (e.Unfit n) a b d = refl
   without_output e.LongCode a b d = refl
+  without_output e.LongFile a b d = refl
+  without_output (e.BadCode n) a b d = refl
+  without_output (e.Rejected r n) a b d = refl
 
   pub writing : Writing c
   writing = record {
@@ -935,20 +1182,17 @@ module _ (c : Call) (k : IsAnswered c) (l : Laws) where
         (writes_line i n (k.written.all_written g).1, k.written.untouched n);
   }
     where
-      writes_line : status ≡ status_of ending → has_output ending ≡ false → All c.notes (notes_of k.answer) → WritesLine c
+      writes_line : status ≡ status_of ending → has_output ending ≡ false → All c.notes (notes_of k.answer)
+          → WritesLine c
       writes_line i n m = go (line_is ending due_why n)
         where
-          go : (notes_by ending k.answer.notes ≡ line_of ending) ⊎ ((r : Refusal) × (k.answer ≡ refused r)) → WritesLine c
+          go : (notes_by ending k.answer.notes ≡ line_of ending) ⊎ ((r : Refusal) × (k.answer ≡ refused r))
+              → WritesLine c
           go (inl h) = (ending, i, n, subst (All c.notes) h m)
-          go (inr (r, h)) = (e.Refused r, i ∙ ap (λ (z : Answer). status_of z.ending) h, refl, subst (All c.notes) (ap notes_of h) m)
-
--- all that the top call promises
-pub promise : (c : Call) → IsAnswered c → Laws → Promise c
-promise c k l = record {
-  headline = headline c k l;
-  following = following c k l;
-  witnessing = record { shown = λ b text v t input left r h. run_shown c k l r h b v text input t left };
-  statuses = statuses c k l;
-  writing = writing c k l;
-  answered = k;
-}
+          go (inr (r, h)) = (
+            e.Refused r,
+            i
+                ∙ ap (λ (z : Answer). status_of z.ending) h,
+            refl,
+            subst (All c.notes) (ap notes_of h) m,
+          )

@@ -3,6 +3,8 @@ use Rattle.std.proofs.Common.{◌≡◌, inl, inr, ℕ, ◌<◌, ◌≤◌, List
 use Rattle.sp_base.specs.declared.halt.Refusal.{Refusal}
 use Rattle.sp_base.specs.declared.rule.Rule.TheVariants as rule
 use Rattle.sp_code.specs.Lengths.{tree_length}
+use Rattle.sp_code.specs.declared.code.Parts.{Parts}
+use Rattle.sp_codefile.specs.CodeText.{IsTextOf as IsTextOfCode}
 use Rattle.sp_compile.specs.Codes.{BreaksLength, HasListing}
 use Rattle.sp_execute.specs.Follows.{IsMeant, IsUnfitAt}
 use Rattle.sp_format.specs.Formats.{HasLayout, HasNoLayout}
@@ -23,7 +25,8 @@ use Rattle.sp_varsets.specs.AreSets.{AreSets}
 use Rattle.sp_varsets.specs.declared.sets.Sets.{Sets}
 use Rattle.sp_words.specs.declared.command.Command.{Command}
 use Rattle.sp_words.specs.declared.command.Command.TheVariants as command
-use Rattle.superpascal.specs.Texts.{Breaks, BreaksOne, HasCodeText, HasSets, IsDisjointText, Keeps, KeepsAll, Makes, asks_all, asks_text}
+use Rattle.superpascal.specs.Texts.{Breaks, BreaksOne, HasCodeText, HasSets, IsAbout, IsDisjointText, Keeps, KeepsAll}
+use Rattle.superpascal.specs.Texts.{Makes, asks_all, asks_text}
 
 pub record Laws : Type 0 where
   -- by characters, grammar, names and types
@@ -33,17 +36,21 @@ pub record Laws : Type 0 where
   -- by all phases
   pub any_first : (text : List ℕ) (a b : Refusal) → BreaksAnyFirst text a → BreaksAnyFirst text b → a ≡ b
   pub accepted_or : (text : List ℕ) (p : c.Program) (r : Refusal) → IsAccepted text p → BreaksAnyFirst text r → ⊥
-  pub disjoint : (text : List ℕ) (p : c.Program) → IsAccepted text p → (g : Setting) → g.program ≡ bare p → IsDisjointRun g
+  pub disjoint : (text : List ℕ) (p : c.Program) → IsAccepted text p → (g : Setting) → g.program ≡ bare p
+      → IsDisjointRun g
   -- by `format`
   pub layout : (text a b : List ℕ) → HasLayout text a → HasLayout text b → a ≡ b
   pub no_layout : (text : List ℕ) (a b : Refusal) → HasNoLayout text a → HasNoLayout text b → a ≡ b
   pub layout_or : (text out : List ℕ) (r : Refusal) → HasLayout text out → HasNoLayout text r → ⊥
   -- by the text of the sets
-  pub sets_text : (p : c.Program) (s t : Sets) (a b : List ℕ) → AreSets p s → AreSets p t → IsSetsText p s a → IsSetsText p t b → a ≡ b
+  pub sets_text : (p : c.Program) (s t : Sets) (a b : List ℕ) → AreSets p s → AreSets p t → IsSetsText p s a
+      → IsSetsText p t b → a ≡ b
   -- by the listing
   pub listing : (text a b : List ℕ) → HasListing text a → HasListing text b → a ≡ b
   -- by the text of the code
   pub code_text : (text a b : List ℕ) → HasCodeText text a → HasCodeText text b → a ≡ b
+  -- by the code of a file
+  pub code : (p q : Parts) (bytes : List ℕ) → IsTextOfCode p bytes → IsTextOfCode q bytes → p ≡ q
   -- by `replay`
   pub journal : (v w : Version) (j k : Journal) (bytes : List ℕ) → IsTextOf v j bytes → IsTextOf w k bytes → j ≡ k
   pub unfit : (g : Setting) (es : List Entry) (m n : ℕ) → IsUnfitAt g es m → IsUnfitAt g es n → m ≡ n
@@ -63,7 +70,8 @@ module _ (l : Laws) (text : List ℕ) where
   -- and none where it is kept
   pub kept_or : (r : Refusal) → KeepsAll text → BreaksOne text r → ⊥
   kept_or r k (inl x) = l.accepted_or text k.0 r k.1 x
-  kept_or r k (inr x) = too_many (tree_length (bare k.0)) (tree_length (bare x.0)) (ap (λ (p : c.Program). tree_length (bare p)) (l.tree text k.0 x.0 k.1.0 x.1.0)) k.2 x.2
+  kept_or r k (inr x) = too_many (tree_length (bare k.0)) (tree_length (bare x.0))
+      (ap (λ (p : c.Program). tree_length (bare p)) (l.tree text k.0 x.0 k.1.0 x.1.0)) k.2 x.2
     where
       too_many : (m n : ℕ) → m ≡ n → m ≤ 1048576 → 1048576 < n → ⊥
       too_many m n e h k = omega arith
@@ -78,6 +86,7 @@ module _ (l : Laws) (text : List ℕ) where
   one_break (command.Gen size workers) a b x y = one_rule a b x y
   one_break (command.Replay file journal limits) a b x y = one_rule a b x y
   one_break (command.Build file) a b x y = one_rule a b x y
+  one_break (command.Exec file workers limits) a b x y = absurd x
 
   -- a command that refuses the text for no rule refuses it for none
   pub keeps_or : (d : Command) (r : Refusal) → Keeps d text → Breaks d text r → ⊥
@@ -90,11 +99,13 @@ module _ (l : Laws) (text : List ℕ) where
   keeps_or (command.Gen size workers) r k x = kept_or r k x
   keeps_or (command.Replay file journal limits) r k x = kept_or r k x
   keeps_or (command.Build file) r k x = kept_or r k x
+  keeps_or (command.Exec file workers limits) r k x = x
 
   one_sets : (a b : List ℕ) → HasSets text a → HasSets text b → a ≡ b
   one_sets a b (p, h, s, are, x) (q, k, t, also, y) =
       let same : q ≡ p = l.tree text q p k h in
-      l.sets_text p s t a b are (subst (λ (z : c.Program). AreSets z t) same also) x (subst (λ (z : c.Program). IsSetsText z t b) same y)
+      l.sets_text p s t a b are (subst (λ (z : c.Program). AreSets z t) same also) x
+      (subst (λ (z : c.Program). IsSetsText z t b) same y)
 
   pub made_once : (d : Command) (a b n m : List ℕ) → Makes d text a n → Makes d text b m → (a ≡ b) × (n ≡ m)
   made_once (command.Check file) a b n m x y = (x.1 ∙ sym y.1, x.2 ∙ sym y.2)
@@ -106,10 +117,12 @@ module _ (l : Laws) (text : List ℕ) where
   made_once (command.Gen size workers) a b n m x y = absurd x
   made_once (command.Replay file journal limits) a b n m x y = absurd x
   made_once (command.Build file) a b n m x y = (l.code_text text a b x.0.0 y.0.0, x.1 ∙ sym y.1)
+  made_once (command.Exec file workers limits) a b n m x y = absurd x
 
   -- a text that is kept is disjoint
   pub disjoint_text : KeepsAll text → IsDisjointText text
-  disjoint_text k p (tree, is, same) g e = l.disjoint text k.0 k.1 g (e ∙ (sym same ∙ ap bare (l.tree text tree k.0 is k.1.0)))
+  disjoint_text k p (tree, is, same) g e = l.disjoint text k.0 k.1 g (e
+      ∙ (sym same ∙ ap bare (l.tree text tree k.0 is k.1.0)))
 
 -- a text with a code breaks no rule
 pub code_text_keeps : (text out : List ℕ) → HasCodeText text out → KeepsAll text
@@ -126,6 +139,7 @@ made_keeps (command.Witness file workers limits) text out line m = absurd m
 made_keeps (command.Gen size workers) text out line m = absurd m
 made_keeps (command.Replay file journal limits) text out line m = absurd m
 made_keeps (command.Build file) text out line m = code_text_keeps text out m.0.0
+made_keeps (command.Exec file workers limits) text out line m = absurd m
 
 pub made_asks : (d : Command) (text out line : List ℕ) → Makes d text out line → asks_text d
 made_asks (command.Check file) text out line m = tt
@@ -137,6 +151,7 @@ made_asks (command.Witness file workers limits) text out line m = m
 made_asks (command.Gen size workers) text out line m = m
 made_asks (command.Replay file journal limits) text out line m = m
 made_asks (command.Build file) text out line m = tt
+made_asks (command.Exec file workers limits) text out line m = m
 
 pub keeps_all : (d : Command) (text : List ℕ) → asks_all d → Keeps d text → KeepsAll text
 keeps_all (command.Check file) text q k = k
@@ -148,18 +163,21 @@ keeps_all (command.Witness file workers limits) text q k = k
 keeps_all (command.Gen size workers) text q k = k
 keeps_all (command.Replay file journal limits) text q k = k
 keeps_all (command.Build file) text q k = k
+keeps_all (command.Exec file workers limits) text q k = absurd q
 
--- every command refuses a text that is longer than a text may be
-pub long_breaks : (d : Command) (all : List ℕ) → 1048576 < length all → Breaks d all (record { rule = rule.L1; at = start })
-long_breaks (command.Check file) all h = inl (inl (inl (inl (too_long all start refl h))))
-long_breaks (command.Run file workers limits show) all h = inl (inl (inl (inl (too_long all start refl h))))
-long_breaks (command.Code file) all h = inl (inl (inl (inl (too_long all start refl h))))
-long_breaks (command.Sets file) all h = inl (inl (too_long all start refl h))
-long_breaks (command.Format file) all h = inl (inl (too_long all start refl h))
-long_breaks (command.Witness file workers limits) all h = inl (inl (inl (inl (too_long all start refl h))))
-long_breaks (command.Gen size workers) all h = inl (inl (inl (inl (too_long all start refl h))))
-long_breaks (command.Replay file journal limits) all h = inl (inl (inl (inl (too_long all start refl h))))
-long_breaks (command.Build file) all h = inl (inl (inl (inl (too_long all start refl h))))
+-- every command that is about a text refuses one that is longer than a text may be
+pub long_breaks : (d : Command) (name all : List ℕ) → IsAbout d name → 1048576 < length all
+    → Breaks d all (record { rule = rule.L1; at = start })
+long_breaks (command.Check file) name all about h = inl (inl (inl (inl (too_long all start refl h))))
+long_breaks (command.Run file workers limits show) name all about h = inl (inl (inl (inl (too_long all start refl h))))
+long_breaks (command.Code file) name all about h = inl (inl (inl (inl (too_long all start refl h))))
+long_breaks (command.Sets file) name all about h = inl (inl (too_long all start refl h))
+long_breaks (command.Format file) name all about h = inl (inl (too_long all start refl h))
+long_breaks (command.Witness file workers limits) name all about h = inl (inl (inl (inl (too_long all start refl h))))
+long_breaks (command.Gen size workers) name all about h = inl (inl (inl (inl (too_long all start refl h))))
+long_breaks (command.Replay file journal limits) name all about h = inl (inl (inl (inl (too_long all start refl h))))
+long_breaks (command.Build file) name all about h = inl (inl (inl (inl (too_long all start refl h))))
+long_breaks (command.Exec file workers limits) name all about h = absurd about
 
 pub laws : ((text : List ℕ) (p q : c.Program) → IsChecked text p → IsChecked text q → p ≡ q)
     → ((text : List ℕ) (a b : Refusal) → BreaksFirst text a → BreaksFirst text b → a ≡ b)
@@ -170,11 +188,30 @@ pub laws : ((text : List ℕ) (p q : c.Program) → IsChecked text p → IsCheck
     → ((text a b : List ℕ) → HasLayout text a → HasLayout text b → a ≡ b)
     → ((text : List ℕ) (a b : Refusal) → HasNoLayout text a → HasNoLayout text b → a ≡ b)
     → ((text out : List ℕ) (r : Refusal) → HasLayout text out → HasNoLayout text r → ⊥)
-    → ((p : c.Program) (s t : Sets) (a b : List ℕ) → AreSets p s → AreSets p t → IsSetsText p s a → IsSetsText p t b → a ≡ b)
+    → ((p : c.Program) (s t : Sets) (a b : List ℕ) → AreSets p s → AreSets p t → IsSetsText p s a → IsSetsText p t b
+    → a ≡ b)
     → ((text a b : List ℕ) → HasListing text a → HasListing text b → a ≡ b)
     → ((text a b : List ℕ) → HasCodeText text a → HasCodeText text b → a ≡ b)
+    → ((p q : Parts) (bytes : List ℕ) → IsTextOfCode p bytes → IsTextOfCode q bytes → p ≡ q)
     → ((v w : Version) (j k : Journal) (bytes : List ℕ) → IsTextOf v j bytes → IsTextOf w k bytes → j ≡ k)
     → ((g : Setting) (es : List Entry) (m n : ℕ) → IsUnfitAt g es m → IsUnfitAt g es n → m ≡ n)
     → ((g : Setting) (es : List Entry) (n : ℕ) → IsMeant g es → IsUnfitAt g es n → ⊥)
     → Laws
-laws s t u v w d x y z o q f j m n = record { tree = s; first = t; not_both = u; any_first = v; accepted_or = w; disjoint = d; layout = x; no_layout = y; layout_or = z; sets_text = o; listing = q; code_text = f; journal = j; unfit = m; unfit_or = n }
+laws s t u v w d x y z o q f c j m n = record {
+  tree = s;
+  first = t;
+  not_both = u;
+  any_first = v;
+  accepted_or = w;
+  disjoint = d;
+  layout = x;
+  no_layout = y;
+  layout_or = z;
+  sets_text = o;
+  listing = q;
+  code_text = f;
+  code = c;
+  journal = j;
+  unfit = m;
+  unfit_or = n;
+}

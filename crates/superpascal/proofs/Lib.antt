@@ -6,3 +6,8 @@ pub mod Asking
 pub mod Running
 pub mod Tellable
 pub mod Why
+pub mod CodeFiles
+pub mod Executing
+pub mod Promising
+pub mod Executed
+pub mod RunningFiles

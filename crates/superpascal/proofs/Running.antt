@@ -28,7 +28,7 @@ use Rattle.superpascal.specs.Runs.{IsRunOf}
 below : (m n k : ℕ) → m ≤ n → n ≤ k → m ≤ k
 below m n k h i = omega arith
 
-limits_are : (workers : ℕ) (lim : Limits) → IsInRange workers lim → AreLimits lim
+pub limits_are : (workers : ℕ) (lim : Limits) → IsInRange workers lim → AreLimits lim
 limits_are workers lim r = record {
   depth = below lim.depth 10000 4294967295 r.depth.1 (omega arith);
   cells = below lim.cells 67108864 4294967295 r.cells.1 (omega arith);
@@ -40,35 +40,45 @@ limits_are workers lim r = record {
 
 -- the law of ready programs
 abbrev pub ReadyLaw : Type 0
-ReadyLaw = (text : List ℕ) (t : c.Program) → IsAccepted text t → (moves shares : Stmt → List ℕ) → SetsAre (bare t) moves shares
-    → (input : List ℕ) (lim : Limits) → AreLimits lim → IsReady (record { program = bare t; input = input; limits = lim }) moves shares
+ReadyLaw = (text : List ℕ) (t : c.Program) → IsAccepted text t → (moves shares : Stmt → List ℕ)
+    → SetsAre (bare t) moves shares
+    → (input : List ℕ) (lim : Limits) → AreLimits lim
+    → IsReady (record { program = bare t; input = input; limits = lim }) moves shares
 
 -- the law of races
 abbrev pub RaceLaw : Type 0
-RaceLaw = (g : Setting) (moves shares : Stmt → List ℕ) (workers : ℕ) (r : Ran) → IsReady g moves shares → Executes g workers r → ShowsRace g r
+RaceLaw = (g : Setting) (moves shares : Stmt → List ℕ) (workers : ℕ) (r : Ran) → IsReady g moves shares
+    → Executes g workers r → ShowsRace g r
 
-module _ (law : ReadyLaw) (code : Parts) (input : List ℕ) (workers : ℕ) (lim : Limits) (range : IsInRange workers lim) where
-  ready_code : (text : List ℕ) (t : c.Program) (has : HasCode text t code) → IsReadyCode (setting (bare t) input lim) has.code.0.moves has.code.0.shares code
+module _ (law : ReadyLaw) (code : Parts) (input : List ℕ) (workers : ℕ) (lim : Limits)
+    (range : IsInRange workers lim) where
+  pub ready_code : (text : List ℕ) (t : c.Program) (has : HasCode text t code)
+      → IsReadyCode (setting (bare t) input lim) has.code.0.moves has.code.0.shares code
   ready_code text t has = record {
-    ready = law text t has.has.accepted has.code.0.moves has.code.0.shares has.code.0.are input lim (limits_are workers lim range);
+    ready = law text t has.has.accepted has.code.0.moves has.code.0.shares has.code.0.are input lim
+        (limits_are workers lim range);
     emitted = has.code.1;
   }
 
   -- of the code and the input as the run holds them
   module _ (held : Parts) (read : List ℕ) (h : held ≡ code) (i : read ≡ input) where
-    pub ready_held : ((text : List ℕ) × (t : c.Program) × HasCode text t code) → (p : Program) × (moves : Stmt → List ℕ) × (shares : Stmt → List ℕ) × IsReadyCode (setting p read lim) moves shares held
+    pub ready_held : ((text : List ℕ) × (t : c.Program) × HasCode text t code) → (p : Program) × (moves : Stmt → List ℕ)
+        × (shares : Stmt → List ℕ) × IsReadyCode (setting p read lim) moves shares held
     ready_held (text, t, has) = (
       bare t,
       has.code.0.moves,
       has.code.0.shares,
-      subst (λ (z : List ℕ × Parts). IsReadyCode (setting (bare t) z.0 lim) has.code.0.moves has.code.0.shares z.1) (λ k. (sym i k, sym h k)) (ready_code text t has),
+      subst (λ (z : List ℕ × Parts). IsReadyCode (setting (bare t) z.0 lim) has.code.0.moves has.code.0.shares z.1)
+          (λ k. (sym i k, sym h k)) (ready_code text t has),
     )
 
     abbrev Meant : List ℕ → Parts → Ran → Type 0
-    Meant y x r = (p : Program) (moves shares : Stmt → List ℕ) → IsReadyCode (setting p y lim) moves shares x → Executes (setting p y lim) workers r
+    Meant y x r = (p : Program) (moves shares : Stmt → List ℕ) → IsReadyCode (setting p y lim) moves shares x
+        → Executes (setting p y lim) workers r
 
     -- a run of the code is one of the program, and the program is ready for it
-    pub ready_if : ((text : List ℕ) × (t : c.Program) × HasCode text t code) → (r : Result Ran Memory) → IfOk r (λ e. Meant read held e) → IfOk r IsReadyRun
+    pub ready_if : ((text : List ℕ) × (t : c.Program) × HasCode text t code) → (r : Result Ran Memory)
+        → IfOk r (λ e. Meant read held e) → IfOk r IsReadyRun
     ready_if some (Ok e) meant =
         let x = ready_held some in
         (setting x.0 read lim, x.1, x.2, workers, x.3.ready, meant x.0 x.1 x.2 x.3)
@@ -78,7 +88,8 @@ module _ (law : ReadyLaw) (code : Parts) (input : List ℕ) (workers : ℕ) (lim
         → IfOk r (λ e. (text : List ℕ) (t : c.Program) → HasCode text t code → IsRunOf text input workers lim e)
     is_run_if races (Ok e) meant = λ text t has.
         let ready = ready_code text t has in
-        let executes = subst (λ (z : List ℕ × Parts). Meant z.0 z.1 e) (λ k. (i k, h k)) meant (bare t) has.code.0.moves has.code.0.shares ready in
+        let executes = subst (λ (z : List ℕ × Parts). Meant z.0 z.1 e) (λ k. (i k, h k)) meant
+        (bare t) has.code.0.moves has.code.0.shares ready in
         record {
           tree = t;
           has = has.has;
@@ -87,16 +98,20 @@ module _ (law : ReadyLaw) (code : Parts) (input : List ℕ) (workers : ℕ) (lim
         }
     is_run_if races (Err x) meant = tt
 
-    module _ (j : Journal) (r : Result Replayed ReplayError) (says : (p : Program) (moves shares : Stmt → List ℕ) → IsReadyCode (setting p read lim) moves shares held → FollowsProgram (setting p read lim) j r) where
+    module _ (j : Journal) (r : Result Replayed ReplayError) (says : (p : Program) (moves shares : Stmt → List ℕ)
+        → IsReadyCode (setting p read lim) moves shares held → FollowsProgram (setting p read lim) j r) where
       said : (text : List ℕ) (t : c.Program) → HasCode text t code → FollowsProgram (setting (bare t) input lim) j r
       said text t has =
-          subst (λ (z : List ℕ × Parts). (p : Program) (moves shares : Stmt → List ℕ) → IsReadyCode (setting p z.0 lim) moves shares z.1 → FollowsProgram (setting p z.0 lim) j r) (λ k. (i k, h k)) says
+          subst (λ (z : List ℕ × Parts). (p : Program) (moves shares : Stmt → List ℕ)
+          → IsReadyCode (setting p z.0 lim) moves shares z.1
+          → FollowsProgram (setting p z.0 lim) j r) (λ k. (i k, h k)) says
           (bare t) has.code.0.moves has.code.0.shares (ready_code text t has)
 
       pub follows_text : (text : List ℕ) (t : c.Program) → HasCode text t code → Follows text input lim j r
       follows_text text t has = go r (said text t has)
         where
-          go : (x : Result Replayed ReplayError) → FollowsProgram (setting (bare t) input lim) j x → Follows text input lim j x
+          go : (x : Result Replayed ReplayError) → FollowsProgram (setting (bare t) input lim) j x
+              → Follows text input lim j x
           go (Ok y) m = record { tree = t; has = has.has; meant = m }
           go (Err (error.Unfit n)) m = record { tree = t; has = has.has; unfit = m }
           go (Err error.Memory) m = tt

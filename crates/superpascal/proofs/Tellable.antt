@@ -1,19 +1,25 @@
 -- What of a run lets it be told.
 use Rattle.std.proofs.Common.{ℕ, List, Option, Some, None}
 use Rattle.sp_base.specs.declared.limits.Limits.{Limits}
+use Rattle.sp_cell.specs.Map.{Plain}
+use Rattle.sp_code.specs.System.{System}
 use Rattle.sp_execute.specs.declared.execution.Ran.{Ran}
 use Rattle.sp_execute.specs.Runs.{Executes, setting}
 use Rattle.sp_execute.specs.Witnesses.{IsReadyRun}
+use Rattle.sp_journal.specs.declared.entry.Entry.{Entry}
 use Rattle.sp_journal.specs.declared.entry.Journal.{Journal}
 use Rattle.sp_journal.specs.declared.outcome.End.{End}
 use Rattle.sp_journal.specs.declared.outcome.End.TheVariants as ends
+use Rattle.sp_kernel.specs.declared.closed.Closed.{Closed}
 use Rattle.sp_meaning.specs.Ends.{EndIs, EndsSo}
 use Rattle.sp_meaning.specs.Own.{Setting}
 use Rattle.sp_meaning.specs.Runs.{StateOf}
 use Rattle.sp_print.specs.Lines.{HasLines}
 use Rattle.sp_replay.specs.declared.replayer.Replayed.{Replayed}
+use Rattle.sp_runner.specs.Ends.{EndsAt}
 use Rattle.sp_tree.specs.Bare.{bare}
 use Rattle.superpascal.specs.Answering.{HasEndLines, IsTellable}
+use Rattle.superpascal.specs.Executions.{IsExecutionOf}
 use Rattle.superpascal.specs.Replays.{IsReplayOf}
 use Rattle.superpascal.specs.Runs.{IsRunOf}
 
@@ -30,7 +36,8 @@ ends_at g s ends.Memory h = absurd h
 executed : (g : Setting) (workers : ℕ) (r : Ran) → Executes g workers r → IsTellable r
 executed g workers r h = (h.about.names, ends_at g h.about.state r.closed.end h.about.end)
 
-pub ends_of : (text input : List ℕ) (workers : ℕ) (limits : Limits) (r : Ran) → IsRunOf text input workers limits r → HasLines r.closed.end
+pub ends_of : (text input : List ℕ) (workers : ℕ) (limits : Limits) (r : Ran) → IsRunOf text input workers limits r
+    → HasLines r.closed.end
 ends_of text input workers limits r h = (executed (setting (bare h.tree) input limits) workers r h.meant).1
 
 -- a run of a program that is ready can be told
@@ -45,5 +52,18 @@ meant_ends g s (Some (ends.Deadlock ws)) h = tt
 meant_ends g s (Some (ends.Fault n y)) h = tt
 meant_ends g s (Some ends.Memory) h = absurd h
 
-pub replay_ends : (text input : List ℕ) (limits : Limits) (j : Journal) (r : Replayed) → IsReplayOf text input limits j r → HasEndLines r.end
+pub replay_ends : (text input : List ℕ) (limits : Limits) (j : Journal) (r : Replayed)
+    → IsReplayOf text input limits j r → HasEndLines r.end
 replay_ends text input limits j r h = meant_ends _ h.meant.state r.end h.meant.end
+
+-- nor an execution
+entries_end : (es : List Entry) (s : System Plain) (x : End) → EndsAt es s x → HasLines x
+entries_end es s ends.Done h = tt
+entries_end es s (ends.Deadlock ws) h = tt
+entries_end es s (ends.Fault n y) h = tt
+entries_end es s ends.Memory h = absurd h
+
+pub execution_ends : (bytes input : List ℕ) (workers : ℕ) (limits : Limits) (r : Closed)
+    → IsExecutionOf bytes input workers limits r → HasLines r.end
+execution_ends bytes input workers limits r h = let g = h.runs.machine.gives in
+    entries_end r.journal.entries g.system r.end g.end

@@ -3,22 +3,30 @@ use Rattle.std.proofs.Common.{◌≡◌, ◌⊎◌, inl, inr, ℕ, Option, Some,
 use Rattle.sp_execute.specs.declared.execution.Ran.{Ran}
 use Rattle.sp_journal.specs.declared.outcome.End.{End}
 use Rattle.sp_journal.specs.declared.outcome.End.TheVariants as ends
+use Rattle.sp_kernel.specs.declared.closed.Closed.{Closed}
 use Rattle.sp_words.specs.declared.command.Command.{Command}
 use Rattle.sp_words.specs.declared.command.Command.TheVariants as command
 use Rattle.superpascal.specs.declared.ending.Ending.{Ending}
 use Rattle.superpascal.specs.declared.ending.Ending.TheVariants as e
 use Rattle.superpascal.specs.declared.ending.Answer.{Answer}
 use Rattle.superpascal.specs.Answering.{HasEndLines}
-use Rattle.superpascal.specs.Causes.{Cause, by_words, before_words, by_command, Due, by_run, by_generated, by_text, by_code, by_rule, by_library, by_source, by_length, by_memory, by_replay, by_entry, by_line, by_size, Files, HasGenerated, HasMade, HasReplayed, HasRun, IsBadJournal, IsLongCode, IsLongJournal, IsNotLoaded, IsNotRead, IsRefusedFor, IsTooMuch, IsUnfit, Stream, silent}
+use Rattle.superpascal.specs.Causes.{Cause, by_words, before_words, by_command, Due, by_run, by_generated, by_text}
+use Rattle.superpascal.specs.Causes.{by_code, by_rule, by_library, by_source, by_length, by_memory, by_replay, by_entry}
+use Rattle.superpascal.specs.Causes.{by_line, by_size, by_execution, by_long_file, by_code_line, by_rejection, Files}
+use Rattle.superpascal.specs.Causes.{HasExecuted, HasGenerated, HasMade, HasReplayed, HasRun, IsBadCode, IsBadJournal}
+use Rattle.superpascal.specs.Causes.{IsLongCode, IsLongFile, IsLongJournal, IsNotLoaded, IsNotRead, IsRefusedFor}
+use Rattle.superpascal.specs.Causes.{IsRejectedCode, IsTooMuch, IsUnfit, Stream, silent}
+use Rattle.superpascal.specs.Executions.{execution_answer}
 use Rattle.superpascal.specs.Replays.{ending_of_replay, replay_answer}
 use Rattle.superpascal.specs.Runs.{Reports, ending_of, generated_answer, run_answer}
-use Rattle.superpascal.specs.Texts.{Asked, Followed, asks, follows}
-use Rattle.superpascal.proofs.Tellable.{Ends, ends_of, replay_ends}
+use Rattle.superpascal.specs.Texts.{Asked, Executed, Followed, asks, executes, follows}
+use Rattle.superpascal.proofs.Tellable.{Ends, ends_of, execution_ends, replay_ends}
 
 module _ (f : Files) (s : Stream) (reports : Reports) (w : Option Command) (a : Answer) where
   -- a program has run for this command
   abbrev pub IsRanBy : Command → Type 0
-  IsRanBy d = ((asked : Asked) × (d ≡ asks asked) × HasRun f s reports asked a) ⊎ ((size workers : ℕ) × (d ≡ command.Gen size workers) × HasGenerated size workers a)
+  IsRanBy d = ((asked : Asked) × (d ≡ asks asked) × HasRun f s reports asked a)
+      ⊎ ((size workers : ℕ) × (d ≡ command.Gen size workers) × HasGenerated size workers a)
 
   abbrev pub HasRanFor : Type 0
   HasRanFor = (d : Command) × (w ≡ Some d) × IsRanBy d
@@ -27,9 +35,13 @@ module _ (f : Files) (s : Stream) (reports : Reports) (w : Option Command) (a : 
   abbrev pub HasReplayedFor : Type 0
   HasReplayedFor = (asked : Followed) × (w ≡ Some (follows asked)) × HasReplayed f s asked a
 
-  -- a program came to its end, in a run or along a journal
+  -- a code file has run for this command
+  abbrev pub HasExecutedFor : Type 0
+  HasExecutedFor = (asked : Executed) × (w ≡ Some (executes asked)) × HasExecuted f s asked a
+
+  -- a program or a code file came to its end, in a run or along a journal
   abbrev pub HasEnded : Type 0
-  HasEnded = HasRanFor ⊎ HasReplayedFor
+  HasEnded = HasRanFor ⊎ (HasReplayedFor ⊎ HasExecutedFor)
 
   abbrev pub why : Ending → Type 0
   why e.Done = HasEnded
@@ -46,6 +58,9 @@ module _ (f : Files) (s : Stream) (reports : Reports) (w : Option Command) (a : 
   why (e.BadJournal n) = (asked : Followed) × (w ≡ Some (follows asked)) × IsBadJournal f asked n a
   why (e.Unfit n) = (asked : Followed) × (w ≡ Some (follows asked)) × IsUnfit f s asked n a
   why e.LongCode = (d : Command) × (w ≡ Some d) × IsLongCode f d a
+  why e.LongFile = (asked : Executed) × (w ≡ Some (executes asked)) × IsLongFile f asked a
+  why (e.BadCode n) = (asked : Executed) × (w ≡ Some (executes asked)) × IsBadCode f asked n a
+  why (e.Rejected v i) = (asked : Executed) × (w ≡ Some (executes asked)) × IsRejectedCode f asked v i a
 
   by_end : (x : End) → Ends x → HasEnded → why (ending_of x)
   by_end ends.Done p h = h
@@ -55,25 +70,34 @@ module _ (f : Files) (s : Stream) (reports : Reports) (w : Option Command) (a : 
 
   by_replay_end : (o : Option End) → HasEndLines o → HasReplayedFor → why (ending_of_replay o)
   by_replay_end None p h = h
-  by_replay_end (Some x) p h = by_end x p (inr h)
+  by_replay_end (Some x) p h = by_end x p (inr (inl h))
 
   -- the ending of an answer that is known
   at : (b : Answer) → a ≡ b → why b.ending → why a.ending
   at b h k = subst why (sym (ap (λ (z : Answer). z.ending) h)) k
 
   why_due : (d : Command) → w ≡ Some d → Due f s reports d a → why a.ending
-  why_due d v (by_run asked p h) = at (run_answer reports asked.telling h.ran) h.answer (by_end h.ran.closed.end (ends_of _ _ _ _ h.ran h.is_run) (inl (d, v, inl (asked, p, h))))
-  why_due d v (by_generated size workers p h) = at (generated_answer size h.ran) h.answer (by_end h.ran.closed.end (ends_of _ _ _ _ h.ran h.is_run) (inl (d, v, inr (size, workers, p, h))))
+  why_due d v (by_run asked p h) = at (run_answer reports asked.telling h.ran) h.answer
+      (by_end h.ran.closed.end (ends_of _ _ _ _ h.ran h.is_run) (inl (d, v, inl (asked, p, h))))
+  why_due d v (by_generated size workers p h) = at (generated_answer size h.ran) h.answer
+      (by_end h.ran.closed.end (ends_of _ _ _ _ h.ran h.is_run) (inl (d, v, inr (size, workers, p, h))))
   why_due d v (by_text h) = at _ h.answer (d, v, h)
   why_due d v (by_code h) = at _ h.answer (d, v, h)
   why_due d v (by_rule h) = at _ h.answer (d, v, h)
   why_due d v (by_library h) = at _ h.answer (d, v, inl h)
   why_due d v (by_source h) = at _ h.answer (d, v, inr h)
   why_due d v (by_length h) = at _ h.answer (d, v, h)
-  why_due d v (by_replay asked p h) = at (replay_answer h.replayed) h.answer (by_replay_end h.replayed.end (replay_ends _ _ _ _ h.replayed h.is_replay) (asked, v ∙ ap Some p, h))
+  why_due d v (by_replay asked p h) = at (replay_answer h.replayed) h.answer
+      (by_replay_end h.replayed.end (replay_ends _ _ _ _ h.replayed h.is_replay) (asked, v ∙ ap Some p, h))
   why_due d v (by_entry asked n p h) = at _ h.answer (asked, v ∙ ap Some p, h)
   why_due d v (by_line asked n p h) = at _ h.answer (asked, v ∙ ap Some p, h)
   why_due d v (by_size asked p h) = at _ h.answer (asked, v ∙ ap Some p, h)
+  why_due d v (by_execution asked p h) =
+      at (execution_answer h.run) h.answer
+      (by_end h.run.end (execution_ends _ _ _ _ h.run h.is_execution) (inr (inr (asked, v ∙ ap Some p, h))))
+  why_due d v (by_long_file asked p h) = at _ h.answer (asked, v ∙ ap Some p, h)
+  why_due d v (by_code_line asked n p h) = at _ h.answer (asked, v ∙ ap Some p, h)
+  why_due d v (by_rejection asked rule i p h) = at _ h.answer (asked, v ∙ ap Some p, h)
   why_due d v (by_memory h) = at _ h h
 
   pub why_of : Cause f s reports w a → why a.ending
@@ -101,12 +125,55 @@ module _ (f : Files) (s : Stream) (reports : Reports) (w : Option Command) (a : 
   ran_due d r (by_entry asked n p h) k = absurd (no_run _ r h.answer refl k)
   ran_due d r (by_line asked n p h) k = absurd (no_run _ r h.answer refl k)
   ran_due d r (by_size asked p h) k = absurd (no_run _ r h.answer refl k)
+  ran_due d r (by_execution asked p h) k = absurd (no_run _ r h.answer refl k)
+  ran_due d r (by_long_file asked p h) k = absurd (no_run _ r h.answer refl k)
+  ran_due d r (by_code_line asked n p h) k = absurd (no_run _ r h.answer refl k)
+  ran_due d r (by_rejection asked rule i p h) k = absurd (no_run _ r h.answer refl k)
   ran_due d r (by_memory h) k = absurd (no_run _ r h refl k)
 
   pub ran_of : (r : Ran) → Cause f s reports w a → a.ran ≡ Some r → HasRanFor
   ran_of r (by_words n h u) k = absurd (no_run _ r h refl k)
   ran_of r (before_words h u) k = absurd (no_run _ r h refl k)
   ran_of r (by_command d v due reads) k = (d, v, ran_due d r due k)
+
+  -- a run of a code file that is given back has run for the command
+  no_file : (b : Answer) (r : Closed) → a ≡ b → b.executed ≡ None → a.executed ≡ Some r → ⊥
+  no_file b r h n k = none_some r (sym n ∙ sym (ap (λ (z : Answer). z.executed) h) ∙ k)
+    where
+      none_some : (r : Closed) → ◌≡◌ {A = Option Closed} None (Some r) → ⊥
+      none_some r h = cc
+
+  executed_due : (d : Command) (r : Closed) → Due f s reports d a → a.executed ≡ Some r → (asked : Executed)
+      × (d ≡ executes asked) × HasExecuted f s asked a
+  executed_due d r (by_run asked p h) k = absurd (no_file _ r h.answer refl k)
+  executed_due d r (by_generated size workers p h) k = absurd (no_file _ r h.answer refl k)
+  executed_due d r (by_text h) k = absurd (no_file _ r h.answer refl k)
+  executed_due d r (by_code h) k = absurd (no_file _ r h.answer refl k)
+  executed_due d r (by_rule h) k = absurd (no_file _ r h.answer refl k)
+  executed_due d r (by_library h) k = absurd (no_file _ r h.answer refl k)
+  executed_due d r (by_source h) k = absurd (no_file _ r h.answer refl k)
+  executed_due d r (by_length h) k = absurd (no_file _ r h.answer refl k)
+  executed_due d r (by_replay asked p h) k = absurd (no_file _ r h.answer refl k)
+  executed_due d r (by_entry asked n p h) k = absurd (no_file _ r h.answer refl k)
+  executed_due d r (by_line asked n p h) k = absurd (no_file _ r h.answer refl k)
+  executed_due d r (by_size asked p h) k = absurd (no_file _ r h.answer refl k)
+  executed_due d r (by_execution asked p h) k = (asked, p, h)
+  executed_due d r (by_long_file asked p h) k = absurd (no_file _ r h.answer refl k)
+  executed_due d r (by_code_line asked n p h) k = absurd (no_file _ r h.answer refl k)
+  executed_due d r (by_rejection asked rule i p h) k = absurd (no_file _ r h.answer refl k)
+  executed_due d r (by_memory h) k = absurd (no_file _ r h refl k)
+
+  pub executed_of : (r : Closed) → Cause f s reports w a → a.executed ≡ Some r → HasExecutedFor
+  executed_of r (by_words n h u) k = absurd (no_file _ r h refl k)
+  executed_of r (before_words h u) k = absurd (no_file _ r h refl k)
+  executed_of r (by_command d v due reads) k = let x = executed_due d r due k in (x.0, v ∙ ap Some x.1, x.2)
+
+-- the run of a code file of an answer that is known
+pub same_file : (a b : Answer) (x r : Closed) → a ≡ b → b.executed ≡ Some x → a.executed ≡ Some r → x ≡ r
+same_file a b x r h k m = some_same x r (sym k ∙ sym (ap (λ (z : Answer). z.executed) h) ∙ m)
+  where
+    some_same : (x r : Closed) → ◌≡◌ {A = Option Closed} (Some x) (Some r) → x ≡ r
+    some_same x r h = cc
 
 -- the run of an answer that is known
 pub same_ran : (a b : Answer) (x r : Ran) → a ≡ b → b.ran ≡ Some x → a.ran ≡ Some r → x ≡ r

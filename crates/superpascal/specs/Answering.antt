@@ -1,5 +1,5 @@
 -- What the parts of a call answer, before it is told apart by commands. The contracts of `answers`, `notes`, `runs`,
--- `replays` and `texts` promise it, a case for each way in which a text, a file or an input is found.
+-- `replays`, `executions` and `texts` promise it, a case for each way in which a text, a file or an input is found.
 use Rattle.std.specs.Prelude.{◌≡◌, ◌⊎◌, ℕ, ◌<◌, ◌≤◌, List, Option, Some, None, IfSome, Result, Ok, Err, length}
 use Rattle.sp_base.specs.declared.halt.Halt.{Halt}
 use Rattle.sp_base.specs.declared.halt.Halt.TheVariants as halt
@@ -7,6 +7,9 @@ use Rattle.sp_base.specs.declared.halt.Refusal.{Refusal}
 use Rattle.sp_base.specs.declared.limits.Limits.{Limits}
 use Rattle.sp_base.specs.declared.rule.Rule.TheVariants as rule
 use Rattle.sp_code.specs.declared.code.Parts.{Parts}
+use Rattle.sp_codefile.specs.CodeText.{IsFirstBad as IsFirstBadOfCode, IsTextOf as IsTextOfCode}
+use Rattle.sp_codefile.specs.Verifying.{rule_of}
+use Rattle.sp_codefile.specs.declared.verifier.VRule.{VRule}
 use Rattle.sp_execute.specs.declared.execution.Ran.{Ran}
 use Rattle.sp_gen.specs.Generated.{generated_text}
 use Rattle.sp_generate.specs.Generated.{IsCodeOf}
@@ -15,6 +18,7 @@ use Rattle.sp_journal.specs.declared.outcome.End.{End}
 use Rattle.sp_journal.specs.Births.{IsNameable}
 use Rattle.sp_journal.specs.Reading.{IsText}
 use Rattle.sp_journal.specs.Texts.{IsFirstBad}
+use Rattle.sp_kernel.specs.declared.closed.Closed.{Closed}
 use Rattle.sp_outside.specs.Counts.{Rose}
 use Rattle.sp_outside.specs.Told.{IsAtEnd}
 use Rattle.sp_outside.specs.declared.failed.LoadError.{LoadError}
@@ -23,6 +27,7 @@ use Rattle.sp_print.specs.Lines.{HasLines}
 use Rattle.sp_replay.specs.declared.replayer.Replayed.{Replayed}
 use Rattle.sp_replay.specs.declared.replayer.ReplayError.{ReplayError}
 use Rattle.sp_replay.specs.declared.replayer.ReplayError.TheVariants as error
+use Rattle.sp_rules.specs.Verdict.{IsRejected}
 use Rattle.sp_tree.specs.Bare.{bare}
 use Rattle.sp_tree.specs.PlainChecked as c
 use Rattle.sp_tree.specs.Places.{start}
@@ -31,10 +36,12 @@ use Rattle.superpascal.specs.declared.ending.Ending.{Ending}
 use Rattle.superpascal.specs.declared.ending.Ending.TheVariants as e
 use Rattle.superpascal.specs.declared.ending.Answer.{Answer}
 use Rattle.superpascal.specs.declared.telling.Telling.{Telling}
-use Rattle.superpascal.specs.Causes.{Due, Files, HasGenerated, HasMade, IsLongCode, IsNotLoaded, IsRefusedFor, IsTold, IsTooLong, IsUntouched, ReadsAfterRules, Stream, accepted, refused, silent}
+use Rattle.superpascal.specs.Causes.{Due, Files, HasGenerated, HasMade, IsLongCode, IsNotLoaded, IsRefusedFor, IsTold}
+use Rattle.superpascal.specs.Causes.{IsTooLong, IsUntouched, ReadsAfterRules, Stream, accepted, refused, silent}
+use Rattle.superpascal.specs.Executions.{IsExecutionOf, execution_answer}
 use Rattle.superpascal.specs.Replays.{IsJournalOf, IsReplayOf, IsUnfitFor, numbered, replay_answer}
 use Rattle.superpascal.specs.Runs.{HasTree, IsRunOf, Reports, generated_answer, run_answer}
-use Rattle.superpascal.specs.Texts.{Breaks, BreaksOne, HasLongCode, KeepsAll, Makes, asks_build}
+use Rattle.superpascal.specs.Texts.{Breaks, BreaksOne, HasLongCode, IsSoundFile, KeepsAll, Makes, asks_build}
 
 -- the answer to a text that breaks this rule first, or want of memory
 abbrev pub AnswersRefusal : Refusal → Answer → Type 0
@@ -69,7 +76,8 @@ IsMade c text (Err halt.Memory) = Unit {0}
 
 -- the answer of a command that answers from the text alone
 abbrev pub TextCause : Files → Command → Answer → Type 0
-TextCause f c a = HasMade f c a ⊎ (IsLongCode f c a ⊎ (IsRefusedFor f c a ⊎ (IsNotLoaded f c a ⊎ (a ≡ silent e.OutOfMemory))))
+TextCause f c a = HasMade f c a
+    ⊎ (IsLongCode f c a ⊎ (IsRefusedFor f c a ⊎ (IsNotLoaded f c a ⊎ (a ≡ silent e.OutOfMemory))))
 
 -- the text has this tree, which breaks no rule, and this is its code
 pub record HasCode (text : List ℕ) (tree : c.Program) (parts : Parts) : Type 0 where
@@ -94,7 +102,8 @@ CodeAnswer reports telling workers limits text input a =
     ((r : Ran) × IsRunOf text input workers limits r × RanAnswer reports telling r a) ⊎ (a ≡ silent e.OutOfMemory)
 
 -- a run on the input that the source gives
-pub record RunsOnInput (s : Stream) (reports : Reports) (telling : Telling) (workers : ℕ) (limits : Limits) (text : List ℕ)
+pub record RunsOnInput (s : Stream) (reports : Reports) (telling : Telling) (workers : ℕ) (limits : Limits)
+    (text : List ℕ)
     (a : Answer) : Type 0 where
   pub input : List ℕ
   pub ran : Ran
@@ -108,7 +117,8 @@ pub record RunsOnInput (s : Stream) (reports : Reports) (telling : Telling) (wor
 abbrev pub InputAnswer : Stream → Reports → Telling → ℕ → Limits → List ℕ → Answer → Type 0
 InputAnswer s reports telling workers limits text a =
     RunsOnInput s reports telling workers limits text a
-    ⊎ ((Rose s.before s.after × (a ≡ silent e.ReadFault)) ⊎ ((IfSome s.left IsTooLong × (a ≡ silent e.TooLong)) ⊎ (a ≡ silent e.OutOfMemory)))
+    ⊎ ((Rose s.before s.after × (a ≡ silent e.ReadFault))
+    ⊎ ((IfSome s.left IsTooLong × (a ≡ silent e.TooLong)) ⊎ (a ≡ silent e.OutOfMemory)))
 
 -- the text breaks no rule
 pub record IsKeptText (text : List ℕ) : Type 0 where
@@ -132,7 +142,8 @@ CommandCause f s reports c a = Due f s reports c a × ReadsAfterRules f s c
 
 -- what comes of a generated text
 abbrev pub GeneratedCause : ℕ → ℕ → Answer → Type 0
-GeneratedCause size workers a = HasGenerated size workers a ⊎ (IsRefusedText (generated_text size) a ⊎ (a ≡ silent e.OutOfMemory))
+GeneratedCause size workers a = HasGenerated size workers a
+    ⊎ (IsRefusedText (generated_text size) a ⊎ (a ≡ silent e.OutOfMemory))
 
 -- ---- a journal that is followed
 
@@ -147,7 +158,7 @@ abbrev pub HasEndLines : Option End → Type 0
 HasEndLines None = Unit {0}
 HasEndLines (Some x) = HasLines x
 
--- the answer with a line that names a number of the journal, or want of memory
+-- the answer with a line that names a number of the journal or of the code, or want of memory
 abbrev pub AnswersNumber : Ending → Answer → Type 0
 AnswersNumber x a = (a ≡ numbered x) ⊎ (a ≡ silent e.OutOfMemory)
 
@@ -159,7 +170,8 @@ AnswersReplay (Err error.Memory) a = a ≡ silent e.OutOfMemory
 
 -- what comes of the code of a text along a journal on an input
 abbrev pub AlongAnswer : List ℕ → List ℕ → Limits → Journal → Answer → Type 0
-AlongAnswer text input limits j a = (r : Result Replayed ReplayError) × Follows text input limits j r × AnswersReplay r a
+AlongAnswer text input limits j a = (r : Result Replayed ReplayError) × Follows text input limits j r
+    × AnswersReplay r a
 
 -- the input that the source gives was read whole
 pub record HasInput (s : Stream) (input : List ℕ) : Type 0 where
@@ -171,7 +183,8 @@ pub record HasInput (s : Stream) (input : List ℕ) : Type 0 where
 abbrev pub SourceAnswer : Stream → List ℕ → Limits → Journal → Answer → Type 0
 SourceAnswer s text limits j a =
     ((input : List ℕ) × HasInput s input × AlongAnswer text input limits j a)
-    ⊎ ((Rose s.before s.after × (a ≡ silent e.ReadFault)) ⊎ ((IfSome s.left IsTooLong × (a ≡ silent e.TooLong)) ⊎ (a ≡ silent e.OutOfMemory)))
+    ⊎ ((Rose s.before s.after × (a ≡ silent e.ReadFault))
+    ⊎ ((IfSome s.left IsTooLong × (a ≡ silent e.TooLong)) ⊎ (a ≡ silent e.OutOfMemory)))
 
 -- these bytes are the text of no journal, and this is the answer
 pub record IsNoText (bytes : List ℕ) (a : Answer) : Type 0 where
@@ -190,10 +203,56 @@ BytesAnswer s text limits bytes a =
 abbrev pub JournalAnswer : Option (List ℕ) → ℕ → ℕ → Stream → List ℕ → Limits → Answer → Type 0
 JournalAnswer held before after s text limits a =
     ((bytes : List ℕ) × IsTold held bytes × (length bytes ≤ 67108864) × BytesAnswer s text limits bytes a)
-    ⊎ (IsUntouched s × ((IfSome held (λ bytes. 67108864 < length bytes) × (a ≡ silent e.LongJournal)) ⊎ ((Rose before after × (a ≡ silent e.ReadFault)) ⊎ (a ≡ silent e.OutOfMemory))))
+    ⊎ (IsUntouched s × ((IfSome held (λ bytes. 67108864 < length bytes) × (a ≡ silent e.LongJournal))
+    ⊎ ((Rose before after × (a ≡ silent e.ReadFault)) ⊎ (a ≡ silent e.OutOfMemory))))
 
 -- what comes of a text whose program follows a journal
 abbrev pub ReplayAnswer : Option (List ℕ) → ℕ → ℕ → Stream → Limits → List ℕ → Answer → Type 0
 ReplayAnswer held before after s limits text a =
     (IsKeptText text × JournalAnswer held before after s text limits a)
     ⊎ (IsUntouched s × (IsRefusedText text a ⊎ (a ≡ silent e.OutOfMemory)))
+
+-- ---- a code file that is run
+
+-- the answer to a code file that the library does not give
+abbrev pub AnswersNoFile : LoadError → Answer → Type 0
+AnswersNoFile load.TooLong a = a ≡ silent e.LongFile
+AnswersNoFile load.Failed a = a ≡ silent e.ReadFault
+AnswersNoFile load.Memory a = a ≡ silent e.OutOfMemory
+
+-- how a run is told, or want of memory
+abbrev pub AnswersExecution : Closed → Answer → Type 0
+AnswersExecution r a = (a ≡ execution_answer r) ⊎ (a ≡ silent e.OutOfMemory)
+
+-- what comes of the code of a file on an input
+abbrev pub ExecutionAnswer : ℕ → Limits → List ℕ → List ℕ → Answer → Type 0
+ExecutionAnswer workers limits bytes input a =
+    ((r : Closed) × IsExecutionOf bytes input workers limits r × AnswersExecution r a) ⊎ (a ≡ silent e.OutOfMemory)
+
+-- what comes of it on the input that the source gives
+abbrev pub SourceExecution : Stream → ℕ → Limits → List ℕ → Answer → Type 0
+SourceExecution s workers limits bytes a =
+    ((input : List ℕ) × HasInput s input × ExecutionAnswer workers limits bytes input a)
+    ⊎ ((Rose s.before s.after × (a ≡ silent e.ReadFault))
+    ⊎ ((IfSome s.left IsTooLong × (a ≡ silent e.TooLong)) ⊎ (a ≡ silent e.OutOfMemory)))
+
+-- the code of these bytes breaks a rule first, and this is the answer
+pub record IsRejectedFile (bytes : List ℕ) (a : Answer) : Type 0 where
+  pub code : Parts
+  pub rule : VRule
+  pub instruction : ℕ
+  pub text : IsTextOfCode code bytes
+  pub rejected : IsRejected code (rule_of rule) instruction
+  pub answer : AnswersNumber (e.Rejected rule instruction) a
+
+-- these bytes are the text of no code, and this is the answer
+pub record IsNoCode (bytes : List ℕ) (a : Answer) : Type 0 where
+  pub line : ℕ
+  pub bad : IsFirstBadOfCode line bytes
+  pub answer : AnswersNumber (e.BadCode line) a
+
+-- what comes of the bytes of a code file
+abbrev pub FileAnswer : Stream → ℕ → Limits → List ℕ → Answer → Type 0
+FileAnswer s workers limits bytes a =
+    (IsSoundFile bytes × SourceExecution s workers limits bytes a)
+    ⊎ (IsUntouched s × (IsRejectedFile bytes a ⊎ (IsNoCode bytes a ⊎ (a ≡ silent e.OutOfMemory))))

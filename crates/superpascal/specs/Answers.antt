@@ -1,8 +1,11 @@
 -- What a call has to write, and its status: the table of endings. The contracts of `ending` and `writing` promise it,
 -- and the headline and the statuses are said by it.
 use Rattle.std.specs.Prelude.{ℕ, List, [], ◌++◌, Option, Some, None, Bool, true, false, codes, decimal}
+use Rattle.sp_codefile.specs.Verifying.{rule_of}
 use Rattle.sp_execute.specs.declared.execution.Ran.{Ran}
+use Rattle.sp_kernel.specs.declared.closed.Closed.{Closed}
 use Rattle.sp_print.specs.Lines.{refusal_text}
+use Rattle.sp_rules.specs.Verdict.{number}
 use Rattle.superpascal.specs.declared.ending.Ending.{Ending}
 use Rattle.superpascal.specs.declared.ending.Ending.TheVariants as e
 use Rattle.superpascal.specs.declared.ending.Answer.{Answer}
@@ -23,8 +26,11 @@ status_of e.LongJournal = 9
 status_of (e.BadJournal n) = 9
 status_of (e.Unfit n) = 9
 status_of e.LongCode = 10
+status_of e.LongFile = 10
+status_of (e.BadCode n) = 10
+status_of (e.Rejected v i) = 10
 
--- the answer has an output: that of a run or a replay, or the text that the command asks for, if any
+-- the answer has an output: that of a run, a replay or an execution, or the text that the command asks for, if any
 abbrev pub has_output : Ending → Bool
 has_output e.Done = true
 has_output e.Deadlock = true
@@ -40,6 +46,9 @@ has_output e.LongJournal = false
 has_output (e.BadJournal n) = false
 has_output (e.Unfit n) = false
 has_output e.LongCode = false
+has_output e.LongFile = false
+has_output (e.BadCode n) = false
+has_output (e.Rejected v i) = false
 
 -- the line of a call that has no output
 abbrev pub line_of : Ending → List ℕ
@@ -52,13 +61,16 @@ line_of e.LongJournal = codes "journal too long\n"
 line_of (e.BadJournal n) = codes "bad journal " ++ decimal n ++ codes "\n"
 line_of (e.Unfit n) = codes "journal unfit " ++ decimal n ++ codes "\n"
 line_of e.LongCode = codes "code file too long\n"
+line_of e.LongFile = codes "code file too long\n"
+line_of (e.BadCode n) = codes "bad code " ++ decimal n ++ codes "\n"
+line_of (e.Rejected v i) = codes "rejected V" ++ decimal (number (rule_of v)) ++ codes " " ++ decimal i ++ codes "\n"
 line_of e.Done = []
 line_of e.Deadlock = []
 line_of e.Fault = []
 line_of e.NoEnd = []
 line_of e.Accepted = []
 
--- the notes: those of the run, of the refusal or of the journal, or a line that is the same for every text
+-- the notes: those of the run, of the refusal, of the journal or of the code, or a line that is the same for every text
 abbrev pub notes_by : Ending → List ℕ → List ℕ
 notes_by e.Done notes = notes
 notes_by e.Deadlock notes = notes
@@ -74,15 +86,19 @@ notes_by e.LongJournal notes = line_of e.LongJournal
 notes_by (e.BadJournal n) notes = notes
 notes_by (e.Unfit n) notes = notes
 notes_by e.LongCode notes = line_of e.LongCode
+notes_by e.LongFile notes = line_of e.LongFile
+notes_by (e.BadCode n) notes = notes
+notes_by (e.Rejected v i) notes = notes
 
 abbrev pub notes_of : Answer → List ℕ
 notes_of a = notes_by a.ending a.notes
 
--- the text that stands for the output, or else what the run wrote
-abbrev pub output_by : Option (List ℕ) → Option Ran → List ℕ
-output_by (Some text) ran = text
-output_by None (Some r) = r.closed.output
-output_by None None = []
+-- the text that stands for the output, or else what the run of the program wrote, or that of a code file
+abbrev pub output_by : Option (List ℕ) → Option Ran → Option Closed → List ℕ
+output_by (Some text) ran executed = text
+output_by None (Some r) executed = r.closed.output
+output_by None None (Some x) = x.output
+output_by None None None = []
 
 abbrev pub output_of : Answer → List ℕ
-output_of a = output_by a.output a.ran
+output_of a = output_by a.output a.ran a.executed

@@ -10,7 +10,7 @@ use Rattle.superpascal.specs.declared.outcome.Outcome.{Outcome}
 use Rattle.superpascal.specs.Answers.{status_of, notes_of, output_of, has_output}
 use Rattle.superpascal.specs.Causes.{Cause, Files, Stream}
 use Rattle.superpascal.specs.Runs.{Reports}
-use Rattle.superpascal.specs.Texts.{Asked, Followed, asks, follows, text_of}
+use Rattle.superpascal.specs.Texts.{Asked, Executed, Followed, asks, executes, follows, text_of}
 
 -- what a sink has got, where it tells it, before and after the call, and its counts of faults
 pub record Sink : Type 0 where
@@ -51,11 +51,20 @@ pub record Call : Type 0 where
 
 abbrev pub call : List (List ℕ) → Files → Stream → Reports → Sink → Sink → Outcome → Call
 call words files source reports output notes outcome =
-    record { words = words; files = files; source = source; reports = reports; output = output; notes = notes; outcome = outcome }
+    record {
+      words = words;
+      files = files;
+      source = source;
+      reports = reports;
+      output = output;
+      notes = notes;
+      outcome = outcome;
+    }
 
 -- of the run that the words ask for, and its text, where the library tells it
 abbrev pub OfRun : Call → (Asked → List ℕ → Type 0) → Type 0
-OfRun c P = (a : Asked) (text : List ℕ) → command_of c.words ≡ Some (asks a) → c.files.held a.file ≡ Some text → P a text
+OfRun c P = (a : Asked) (text : List ℕ) → command_of c.words ≡ Some (asks a) → c.files.held a.file ≡ Some text
+    → P a text
 
 -- the same with the input, where the source tells it
 abbrev pub OfInput : Call → (Asked → List ℕ → List ℕ → Type 0) → Type 0
@@ -63,11 +72,21 @@ OfInput c P = OfRun c (λ a text. (input : List ℕ) → c.source.left ≡ Some 
 
 -- of the replay that the words ask for, its text and the bytes of its journal, where the library tells both
 abbrev pub OfReplay : Call → (Followed → List ℕ → List ℕ → Type 0) → Type 0
-OfReplay c P = (b : Followed) (text bytes : List ℕ) → command_of c.words ≡ Some (follows b) → c.files.held b.file ≡ Some text → c.files.held b.journal ≡ Some bytes → P b text bytes
+OfReplay c P = (b : Followed) (text bytes : List ℕ) → command_of c.words ≡ Some (follows b)
+    → c.files.held b.file ≡ Some text → c.files.held b.journal ≡ Some bytes → P b text bytes
 
 -- the same with the input, where the source tells it
 abbrev pub OfReplayInput : Call → (Followed → List ℕ → List ℕ → List ℕ → Type 0) → Type 0
 OfReplayInput c P = OfReplay c (λ b text bytes. (input : List ℕ) → c.source.left ≡ Some input → P b text bytes input)
+
+-- of the execution that the words ask for, and the bytes of its code file, where the library tells them
+abbrev pub OfExecution : Call → (Executed → List ℕ → Type 0) → Type 0
+OfExecution c P = (b : Executed) (bytes : List ℕ) → command_of c.words ≡ Some (executes b)
+    → c.files.held b.file ≡ Some bytes → P b bytes
+
+-- the same with the input, where the source tells it
+abbrev pub OfExecutionInput : Call → (Executed → List ℕ → List ℕ → Type 0) → Type 0
+OfExecutionInput c P = OfExecution c (λ b bytes. (input : List ℕ) → c.source.left ≡ Some input → P b bytes input)
 
 -- of the command that the words ask for, and its text, where that is told
 abbrev pub OfText : Call → (Command → List ℕ → Type 0) → Type 0
@@ -81,7 +100,8 @@ IsOutside status = (5 ≤ status) × (status ≤ 8)
 abbrev pub IsFinal : ℕ → Type 0
 IsFinal status = (status ≡ 0) ⊎ ((status ≡ 3) ⊎ (status ≡ 4))
 
--- The status comes only where the fact holds; and where it holds the status comes, unless the outside came in its place.
+-- The status comes only where the fact holds; and where it holds the status comes, unless the outside came in its
+-- place.
 abbrev pub Exactly : ℕ → ℕ → Type 0 → Type 0
 Exactly status s P = (status ≡ s → P) × (P → (status ≡ s) ⊎ IsOutside status)
 
@@ -107,3 +127,4 @@ pub record IsAnswered (c : Call) : Type 0 where
   pub cause : Cause c.files c.source c.reports (command_of c.words) answer
   pub written : Writes answer c.output c.notes c.outcome.status
   pub ran : c.outcome.ran ≡ answer.ran
+  pub executed : c.outcome.executed ≡ answer.executed

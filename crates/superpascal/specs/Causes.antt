@@ -2,24 +2,32 @@
 -- parts of a call promise it, and the statuses of the top call are led from it.
 use Rattle.std.specs.Prelude.{◌≡◌, ◌⊎◌, ℕ, ◌<◌, ◌≤◌, List, [], Option, Some, None, IfSome, length}
 use Rattle.sp_base.specs.declared.halt.Refusal.{Refusal}
+use Rattle.sp_code.specs.declared.code.Parts.{Parts}
+use Rattle.sp_codefile.specs.CodeText.{IsFirstBad as IsFirstBadOfCode, IsTextOf as IsTextOfCode}
+use Rattle.sp_codefile.specs.Verifying.{rule_of}
+use Rattle.sp_codefile.specs.declared.verifier.VRule.{VRule}
 use Rattle.sp_gen.specs.Generated.{generated_text}
 use Rattle.sp_execute.specs.declared.execution.Ran.{Ran}
 use Rattle.sp_journal.specs.declared.entry.Journal.{Journal}
 use Rattle.sp_journal.specs.Reading.{IsText}
 use Rattle.sp_journal.specs.Texts.{IsFirstBad}
+use Rattle.sp_kernel.specs.declared.closed.Closed.{Closed}
 use Rattle.sp_outside.specs.Counts.{Rose}
 use Rattle.sp_outside.specs.Told.{IsAtEnd}
 use Rattle.sp_print.specs.Lines.{refusal_text}
 use Rattle.sp_replay.specs.declared.replayer.Replayed.{Replayed}
+use Rattle.sp_rules.specs.Verdict.{IsRejected}
 use Rattle.sp_words.specs.Ranges.{default_limits}
 use Rattle.sp_words.specs.declared.command.Command.{Command}
 use Rattle.sp_words.specs.declared.command.Command.TheVariants as command
 use Rattle.superpascal.specs.declared.ending.Ending.{Ending}
 use Rattle.superpascal.specs.declared.ending.Ending.TheVariants as e
 use Rattle.superpascal.specs.declared.ending.Answer.{Answer}
+use Rattle.superpascal.specs.Executions.{IsExecutionOf, execution_answer}
 use Rattle.superpascal.specs.Replays.{IsJournalOf, IsReplayOf, IsUnfitFor, numbered, replay_answer}
 use Rattle.superpascal.specs.Runs.{IsRunOf, Reports, generated_answer, run_answer}
-use Rattle.superpascal.specs.Texts.{Asked, Breaks, CanRead, Followed, HasLongCode, KeepsAll, Loads, Makes, asks, asks_build, follows, text_of}
+use Rattle.superpascal.specs.Texts.{Asked, Breaks, CanRead, Executed, Followed, HasLongCode, KeepsAll, Loads, Makes}
+use Rattle.superpascal.specs.Texts.{asks, asks_build, executes, follows, text_of}
 
 -- ---- the outside
 
@@ -60,15 +68,15 @@ IsTooLong input = 16777216 < length input
 
 -- an answer without an output
 abbrev pub silent : Ending → Answer
-silent ending = record { ending = ending; ran = None; output = None; notes = [] }
+silent ending = record { ending = ending; ran = None; executed = None; output = None; notes = [] }
 
 -- the answer of a command that answers from the text alone
 abbrev pub accepted : List ℕ → List ℕ → Answer
-accepted out line = record { ending = e.Accepted; ran = None; output = Some out; notes = line }
+accepted out line = record { ending = e.Accepted; ran = None; executed = None; output = Some out; notes = line }
 
 -- the answer to a text that breaks this rule first
 abbrev pub refused : Refusal → Answer
-refused r = record { ending = e.Refused r; ran = None; output = None; notes = refusal_text r }
+refused r = record { ending = e.Refused r; ran = None; executed = None; output = None; notes = refusal_text r }
 
 -- ---- causes
 
@@ -172,6 +180,41 @@ pub record IsLongJournal (f : Files) (asked : Followed) (a : Answer) : Type 0 wh
   pub long : IfSome (f.held asked.journal) (λ bytes. 67108864 < length bytes)
   pub answer : a ≡ silent e.LongJournal
 
+-- the code file has run on the whole input, and this is the answer
+pub record HasExecuted (f : Files) (s : Stream) (asked : Executed) (a : Answer) : Type 0 where
+  pub bytes : List ℕ
+  pub input : List ℕ
+  pub run : Closed
+  pub loaded : IsTold (f.held asked.file) bytes
+  pub read : IsTold s.left input
+  pub fits : length input ≤ 16777216
+  pub at_end : IsAtEnd s.left'
+  pub is_execution : IsExecutionOf bytes input asked.workers asked.limits run
+  pub answer : a ≡ execution_answer run
+
+-- the code file is longer than the limit
+pub record IsLongFile (f : Files) (asked : Executed) (a : Answer) : Type 0 where
+  pub long : IfSome (f.held asked.file) (λ bytes. 67108864 < length bytes)
+  pub answer : a ≡ silent e.LongFile
+
+-- line n of the code file is the first with which its lines begin no code's text
+pub record IsBadCode (f : Files) (asked : Executed) (n : ℕ) (a : Answer) : Type 0 where
+  pub bytes : List ℕ
+  pub loaded : IsTold (f.held asked.file) bytes
+  pub short : length bytes ≤ 67108864
+  pub bad : IsFirstBadOfCode n bytes
+  pub answer : a ≡ numbered (e.BadCode n)
+
+-- the code of the file breaks rule v first, and instruction i is the least at which it does
+pub record IsRejectedCode (f : Files) (asked : Executed) (v : VRule) (i : ℕ) (a : Answer) : Type 0 where
+  pub bytes : List ℕ
+  pub code : Parts
+  pub loaded : IsTold (f.held asked.file) bytes
+  pub short : length bytes ≤ 67108864
+  pub text : IsTextOfCode code bytes
+  pub rejected : IsRejected code (rule_of v) i
+  pub answer : a ≡ numbered (e.Rejected v i)
+
 -- Why an answer to a command is due.
 pub data Due (f : Files) (s : Stream) (reports : Reports) (c : Command) (a : Answer) : Type 0 where
   by_run : (asked : Asked) → c ≡ asks asked → HasRun f s reports asked a → Due f s reports c a
@@ -186,6 +229,11 @@ pub data Due (f : Files) (s : Stream) (reports : Reports) (c : Command) (a : Ans
   by_entry : (asked : Followed) (n : ℕ) → c ≡ follows asked → IsUnfit f s asked n a → Due f s reports c a
   by_line : (asked : Followed) (n : ℕ) → c ≡ follows asked → IsBadJournal f asked n a → Due f s reports c a
   by_size : (asked : Followed) → c ≡ follows asked → IsLongJournal f asked a → Due f s reports c a
+  by_execution : (asked : Executed) → c ≡ executes asked → HasExecuted f s asked a → Due f s reports c a
+  by_long_file : (asked : Executed) → c ≡ executes asked → IsLongFile f asked a → Due f s reports c a
+  by_code_line : (asked : Executed) (n : ℕ) → c ≡ executes asked → IsBadCode f asked n a → Due f s reports c a
+  by_rejection : (asked : Executed) (v : VRule) (i : ℕ) → c ≡ executes asked → IsRejectedCode f asked v i a
+      → Due f s reports c a
   by_memory : a ≡ silent e.OutOfMemory → Due f s reports c a
 
 -- the source is touched only where the command reads it, and what it loads before is right

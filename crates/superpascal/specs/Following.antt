@@ -1,5 +1,6 @@
--- What the top call promises of `replay`: a journal is followed exactly where the meaning of the program is defined along
--- it, with its output and its end; else the first thing that is wrong with it is named, and status 9 comes of nothing else.
+-- What the top call promises of `replay`: a journal is followed exactly where the meaning of the program is defined
+-- along it, with its output and its end; else the first thing that is wrong with it is named, and status 9 comes of
+-- nothing else.
 use Rattle.std.specs.Prelude.{◌≡◌, ◌⊎◌, ℕ, ◌<◌, ◌≤◌, List, Some, IfSome, length}
 use Rattle.sp_execute.specs.Follows.{IsFollowed, IsMeant, IsUnfitAt}
 use Rattle.sp_execute.specs.Runs.{setting}
@@ -30,7 +31,8 @@ pub record PrintsReplay (c : Call) (r : Replayed) : Type 0 where
   pub notes : All c.notes (replay_notes r)
   pub at_end : IsAtEnd c.source.left'
 
--- the bytes are those of a journal along which the meaning of the text's program on the input is defined, with this output and end
+-- the bytes are those of a journal along which the meaning of the text's program on the input is defined, with this
+-- output and end
 pub record IsMeantAlong (b : Followed) (text bytes input : List ℕ) (r : Replayed) : Type 0 where
   pub journal : Journal
   pub is_journal : IsJournalOf bytes journal
@@ -44,17 +46,24 @@ IsNoJournal bytes = (67108864 < length bytes) ⊎ (IsText bytes → ⊥)
 
 pub record Following (c : Call) : Type 0 where
   -- what is told of a journal that was followed is what the program means along it
-  pub followed : OfReplayInput c (λ b text bytes input. IsFinal c.outcome.status → (r : Replayed) × IsMeantAlong b text bytes input r × PrintsReplay c r)
+  pub followed : OfReplayInput c (λ b text bytes input. IsFinal c.outcome.status → (r : Replayed)
+      × IsMeantAlong b text bytes input r × PrintsReplay c r)
   -- a journal is followed wherever the meaning is defined along it
-  pub accepted : OfReplayInput c (λ b text bytes input. KeepsAll text → length input ≤ 16777216 → (p : Program) → IsProgramOf text p → (j : Journal) → IsJournalOf bytes j → IsMeant (setting p input b.limits) j.entries
+  pub accepted : OfReplayInput c (λ b text bytes input. KeepsAll text → length input ≤ 16777216 → (p : Program)
+      → IsProgramOf text p → (j : Journal) → IsJournalOf bytes j → IsMeant (setting p input b.limits) j.entries
       → IsFinal c.outcome.status ⊎ IsOutside c.outcome.status)
   -- else the first entry is named with which it is not defined
-  pub unfit : OfReplayInput c (λ b text bytes input. KeepsAll text → length input ≤ 16777216 → (p : Program) → IsProgramOf text p → (j : Journal) → IsJournalOf bytes j → (n : ℕ) → IsUnfitAt (setting p input b.limits) j.entries n
+  pub unfit : OfReplayInput c (λ b text bytes input. KeepsAll text → length input ≤ 16777216 → (p : Program)
+      → IsProgramOf text p → (j : Journal) → IsJournalOf bytes j → (n : ℕ)
+      → IsUnfitAt (setting p input b.limits) j.entries n
       → SaysJournal c (e.Unfit n))
   -- of bytes that are the text of no journal, the first line is named that is not the text of a next entry
-  pub bad : OfReplay c (λ b text bytes. KeepsAll text → length bytes ≤ 67108864 → (IsText bytes → ⊥) → ((n : ℕ) × IsFirstBad n bytes × SaysJournal c (e.BadJournal n)) ⊎ IsOutside c.outcome.status)
+  pub bad : OfReplay c (λ b text bytes. KeepsAll text → length bytes ≤ 67108864 → (IsText bytes → ⊥)
+      → ((n : ℕ) × IsFirstBad n bytes × SaysJournal c (e.BadJournal n)) ⊎ IsOutside c.outcome.status)
   -- a journal that is too long is not read
   pub long : OfReplay c (λ b text bytes. KeepsAll text → 67108864 < length bytes → SaysJournal c e.LongJournal)
   -- 9: the text breaks no rule, and no journal is read, or all was read and an entry does not fit
-  pub only : c.outcome.status ≡ 9 → (b : Followed) × (command_of c.words ≡ Some (follows b)) × IfSome (c.files.held b.file) KeepsAll
-      × (IfSome (c.files.held b.journal) IsNoJournal ⊎ ((h : HasRead c.files c.source b) × (n : ℕ) × IsUnfitFor h.text h.input b.limits h.journal n))
+  pub only : c.outcome.status ≡ 9 → (b : Followed) × (command_of c.words ≡ Some (follows b))
+      × IfSome (c.files.held b.file) KeepsAll
+      × (IfSome (c.files.held b.journal) IsNoJournal
+      ⊎ ((h : HasRead c.files c.source b) × (n : ℕ) × IsUnfitFor h.text h.input b.limits h.journal n))

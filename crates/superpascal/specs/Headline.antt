@@ -1,11 +1,12 @@
 -- The headline of the program, for its commands `run` and `witness`.
 --
--- For all program bytes, input and worker counts: the text is refused exactly where a written rule is broken; in no schedule
--- does a process write what a parallel one uses; what a run prints and how it ends is what the source meaning gives along its
--- journal; and a run that is reported `ordered` ends, in every schedule, with that output and that end, after equally many steps.
+-- For all program bytes, input and worker counts: the text is refused exactly where a written rule is broken; in no
+-- schedule does a process write what a parallel one uses; what a run prints and how it ends is what the source meaning
+-- gives along its journal; and a run that is reported `ordered` ends, in every schedule, with that output and that end,
+-- after equally many steps.
 --
--- The bytes of the program and the input are those that the library and the source tell when the call begins. Where they are not
--- told, as by files and streams of the system, nothing is said of contents.
+-- The bytes of the program and the input are those that the library and the source tell when the call begins. Where
+-- they are not told, as by files and streams of the system, nothing is said of contents.
 use Rattle.std.specs.Prelude.{◌≡◌, ◌≢◌, ◌⊎◌, ℕ, List, Some}
 use Rattle.sp_base.specs.declared.halt.Refusal.{Refusal}
 use Rattle.sp_execute.specs.declared.execution.Ran.{Ran}
@@ -29,8 +30,9 @@ pub record Prints (c : Call) (telling : Telling) (r : Ran) : Type 0 where
   pub whole : c.outcome.status ≢ 6 → All c.output (told_output telling r)
   pub part : Part c.output (told_output telling r)
 
--- the run is one of the program of the text: along its journal the meaning of the program on the input with the limits is defined, with
--- its output and its end; its verdict is the exact one; where that is `ordered`, every lawful schedule ends alike
+-- the run is one of the program of the text: along its journal the meaning of the program on the input with the limits
+-- is defined, with its output and its end; its verdict is the exact one; where that is `ordered`, every lawful schedule
+-- ends alike
 abbrev pub IsMeant : Asked → List ℕ → List ℕ → Ran → Type 0
 IsMeant a text input r = (p : Program) × IsProgramOf text p × Executes (setting p input a.limits) a.workers r
 
@@ -41,4 +43,5 @@ pub record Headline (c : Call) : Type 0 where
   -- in no schedule does a process write what a parallel one uses
   pub disjoint : OfRun c (λ a text. (r : Ran) → c.outcome.ran ≡ Some r → IsDisjointText text)
   -- what a run prints and how it ends is what the meaning gives along its journal; and what `ordered` promises
-  pub meant : OfInput c (λ a text input. (r : Ran) → c.outcome.ran ≡ Some r → IsMeant a text input r × Prints c a.telling r)
+  pub meant : OfInput c (λ a text input. (r : Ran) → c.outcome.ran ≡ Some r → IsMeant a text input r
+      × Prints c a.telling r)

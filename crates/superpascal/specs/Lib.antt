@@ -2,6 +2,8 @@ pub mod Answering
 pub mod Answers
 pub mod Calls
 pub mod Causes
+pub mod Executions
+pub mod Executing
 pub mod Headline
 pub mod Following
 pub mod Promise

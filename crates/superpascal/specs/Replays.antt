@@ -55,8 +55,14 @@ replay_notes r = codes "replayed\n" ++ lines_of_replay r.end
 
 -- the answer of `replay` where the journal was followed
 abbrev pub replay_answer : Replayed → Answer
-replay_answer r = record { ending = ending_of_replay r.end; ran = None; output = Some r.output; notes = replay_notes r }
+replay_answer r = record {
+  ending = ending_of_replay r.end;
+  ran = None;
+  executed = None;
+  output = Some r.output;
+  notes = replay_notes r;
+}
 
--- the answer that names a number of the journal
+-- the answer that names a number of the journal, or of the code
 abbrev pub numbered : Ending → Answer
-numbered ending = record { ending = ending; ran = None; output = None; notes = line_of ending }
+numbered ending = record { ending = ending; ran = None; executed = None; output = None; notes = line_of ending }

@@ -1,7 +1,8 @@
 -- A run of the program of a text, and what is told of it. The contracts of `runs` and `notes` promise it; the headline
 -- and the written texts are said by it.
 use Rattle.std.specs.Option.{option_map_or}
-use Rattle.std.specs.Prelude.{ℕ, ◌≤◌, Bool, true, false, if◌then◌else◌, List, [], ◌++◌, Option, Some, None, codes, decimal, length}
+use Rattle.std.specs.Prelude.{ℕ, ◌≤◌, Bool, true, false, if◌then◌else◌, List, [], ◌++◌, Option, Some, None, codes}
+use Rattle.std.specs.Prelude.{decimal, length}
 use Rattle.sp_base.specs.declared.limits.Limits.{Limits}
 use Rattle.sp_base.specs.declared.limits.Show.{Show}
 use Rattle.sp_base.specs.declared.limits.Show.TheVariants as show
@@ -29,8 +30,9 @@ pub record HasTree (text : List ℕ) (tree : c.Program) : Type 0 where
   pub accepted : IsAccepted text tree
   pub short : tree_length (bare tree) ≤ 1048576
 
--- A run of the text's program on the input with the limits, by so many workers: along the journal the meaning of the program is
--- defined, with that output and that end; the verdict is the exact one, with what that promises; and the witness of its race shows it.
+-- A run of the text's program on the input with the limits, by so many workers: along the journal the meaning of the
+-- program is defined, with that output and that end; the verdict is the exact one, with what that promises; and the
+-- witness of its race shows it.
 pub record IsRunOf (text input : List ℕ) (workers : ℕ) (limits : Limits) (r : Ran) : Type 0 where
   pub tree : c.Program
   pub has : HasTree text tree
@@ -65,7 +67,8 @@ end_lines r = end_text r.closed.end ++ verdict_text r.verdict
 
 -- the journal alone, or the end, the verdict and the reports
 abbrev pub run_notes : Reports → Show → Ran → List ℕ
-run_notes reports s r = if is_journal s then journal_text version.Two r.closed.journal else end_lines r ++ reports s r.closed.journal.entries
+run_notes reports s r = if is_journal s then journal_text version.Two r.closed.journal else end_lines r
+    ++ reports s r.closed.journal.entries
 
 -- the text of the witness of the run's race; where there is no race, nothing
 abbrev pub witness_text : Ran → List ℕ
@@ -99,10 +102,18 @@ abbrev pub run_answer : Reports → Telling → Ran → Answer
 run_answer reports telling r = record {
   ending = ending_of r.closed.end;
   ran = Some r;
+  executed = None;
   output = output_instead telling r;
   notes = told_notes reports telling r;
 }
 
 -- the answer of `gen` with this run
 abbrev pub generated_answer : ℕ → Ran → Answer
-generated_answer size r = record { ending = ending_of r.closed.end; ran = Some r; output = Some (generated_output size r); notes = [] }
+generated_answer size r = record {
+  ending = ending_of r.closed.end;
+  ran = Some r;
+  executed = None;
+  output = Some
+      (generated_output size r);
+  notes = [];
+}

@@ -15,7 +15,9 @@ use Rattle.superpascal.specs.Calls.{Call, Exactly, Failed, IsFinal, IsOutside, I
 use Rattle.superpascal.specs.Causes.{IsTold, IsTooLong, IsUntouched}
 use Rattle.superpascal.specs.Headline.{SaysRefusal}
 use Rattle.superpascal.specs.Runs.{IsRunOf, ending_of}
-use Rattle.superpascal.specs.Texts.{Asked, Breaks, CanRead, HasLongCode, IsDisjointText, IsJournalText, Keeps, KeepsAll, Loads, Makes, asks, asks_all, asks_build, asks_replay, asks_run, asks_text, text_of}
+use Rattle.superpascal.specs.Texts.{Asked, Breaks, CanRead, HasLongCode, IsDisjointText, IsJournalText, Keeps, KeepsAll}
+use Rattle.superpascal.specs.Texts.{Loads, Makes, asks, asks_all, asks_build, asks_execution, asks_replay, asks_run}
+use Rattle.superpascal.specs.Texts.{asks_text, text_of}
 
 -- the library failed under a name that the command loads, or the source failed where the command reads it
 abbrev pub ReadsFail : Call → Type 0
@@ -25,14 +27,18 @@ ReadsFail c = (d : Command) × (command_of c.words ≡ Some d)
 
 -- the words ask for a command that reads the input, and it is too long
 abbrev pub InputIsTooLong : Call → Type 0
-InputIsTooLong c = (d : Command) × (command_of c.words ≡ Some d) × CanRead c.files.held d × IfSome c.source.left IsTooLong
+InputIsTooLong c = (d : Command) × (command_of c.words ≡ Some d) × CanRead c.files.held d
+    × IfSome c.source.left IsTooLong
 
--- the run that is given back is one of the text and the input that the words ask for, of which nothing is left, or of a generated text
+-- the run that is given back is one of the text and the input that the words ask for, of which nothing is left, or of a
+-- generated text
 abbrev pub IsRunOfWords : Call → Ran → Type 0
 IsRunOfWords c r =
     ((a : Asked) × (command_of c.words ≡ Some (asks a)) × IsAtEnd c.source.left'
-    × (text input : List ℕ) × IsTold (c.files.held a.file) text × IsTold c.source.left input × IsRunOf text input a.workers a.limits r)
-    ⊎ ((size workers : ℕ) × (command_of c.words ≡ Some (command.Gen size workers)) × IsRunOf (generated_text size) [] workers default_limits r)
+    × (text input : List ℕ) × IsTold (c.files.held a.file) text × IsTold c.source.left input
+    × IsRunOf text input a.workers a.limits r)
+    ⊎ ((size workers : ℕ) × (command_of c.words ≡ Some (command.Gen size workers))
+    × IsRunOf (generated_text size) [] workers default_limits r)
 
 -- nothing outside fails in the call, and the input, where the command reads it, is told and no longer than is read
 pub record IsQuiet (c : Call) (d : Command) : Type 0 where
@@ -42,7 +48,7 @@ pub record IsQuiet (c : Call) (d : Command) : Type 0 where
   pub output : Failed c.output → ⊥
   pub notes : Failed c.notes → ⊥
 
--- the status is a final one, or memory was wanting, or the journal or the code is at fault
+-- the status is a final one, or memory was wanting, or the journal or the code of the text is at fault
 abbrev pub IsWell : Command → ℕ → Type 0
 IsWell d status = IsFinal status ⊎ ((status ≡ 8) ⊎ ((asks_replay d × (status ≡ 9)) ⊎ (asks_build d × (status ≡ 10))))
 
@@ -55,24 +61,30 @@ pub record Statuses (c : Call) : Type 0 where
   -- 0 of a command that answers from the text alone: something is made of it
   pub made : OfText c (λ d text. asks_text d → Exactly c.outcome.status 0 ((out line : List ℕ) × Makes d text out line))
   -- 0, 3, 4 of a run: by its end
-  pub by_end : (r : Ran) → c.outcome.ran ≡ Some r → (c.outcome.status ≡ status_of (ending_of r.closed.end)) ⊎ (c.outcome.status ≡ 6)
-  pub ran : (d : Command) → command_of c.words ≡ Some d → asks_run d → IsFinal c.outcome.status → (r : Ran) × (c.outcome.ran ≡ Some r)
+  pub by_end : (r : Ran) → c.outcome.ran ≡ Some r → (c.outcome.status ≡ status_of (ending_of r.closed.end))
+      ⊎ (c.outcome.status ≡ 6)
+  pub ran : (d : Command) → command_of c.words ≡ Some d → asks_run d → IsFinal c.outcome.status → (r : Ran)
+      × (c.outcome.ran ≡ Some r)
   pub runs : (r : Ran) → c.outcome.ran ≡ Some r → IsRunOfWords c r
   -- 5, 6: the outside failed
   pub read_fault : c.outcome.status ≡ 5 → ReadsFail c
   pub write_fault : c.outcome.status ≡ 6 → Failed c.output ⊎ Failed c.notes
   -- 7: the input is too long, where what is loaded before it is right
   pub too_long : c.outcome.status ≡ 7 → InputIsTooLong c
-  pub long_refused : OfRun c (λ a text. KeepsAll text → (input : List ℕ) → c.source.left ≡ Some input → IsTooLong input → IsOutside c.outcome.status)
-  pub long_unfollowed : OfReplay c (λ b text bytes. KeepsAll text → IsJournalText bytes → (input : List ℕ) → c.source.left ≡ Some input → IsTooLong input → IsOutside c.outcome.status)
+  pub long_refused : OfRun c (λ a text. KeepsAll text → (input : List ℕ) → c.source.left ≡ Some input → IsTooLong input
+      → IsOutside c.outcome.status)
+  pub long_unfollowed : OfReplay c (λ b text bytes. KeepsAll text → IsJournalText bytes → (input : List ℕ)
+      → c.source.left ≡ Some input → IsTooLong input → IsOutside c.outcome.status)
   -- 8: nothing is put to the output, and no run is given back
   pub memory : c.outcome.status ≡ 8 → IsUnwritten c.output × (c.outcome.ran ≡ None)
-  -- 10: the code of the text is too long for a file
+  -- 10: the code of the text is too long for a file, or the code file is at fault (`Executing`)
   pub long_code : OfText c (λ d text. asks_build d → Exactly c.outcome.status 10 (HasLongCode text))
-  pub no_other_long : c.outcome.status ≡ 10 → (d : Command) × (command_of c.words ≡ Some d) × asks_build d × IfSome (text_of c.files.held d) HasLongCode
-  -- nothing else: where the words ask for a command that refuses the text for no rule, and nothing outside fails
+  pub no_other_long : c.outcome.status ≡ 10 → (d : Command) × (command_of c.words ≡ Some d)
+      × ((asks_build d × IfSome (text_of c.files.held d) HasLongCode) ⊎ asks_execution d)
+  -- nothing else: where the words ask for a command that refuses the text, or the code file, for no rule, and nothing
+  -- outside fails
   pub complete : OfText c (λ d text. Keeps d text → IsQuiet c d → IsWell d c.outcome.status)
-  -- the source is read by `run`, `witness` and `replay` alone, and only where what they load before is right
+  -- the source is read by `run`, `witness`, `replay` and `exec` alone, and only where what they load before is right
   pub source : IsUntouched c.source ⊎ ((d : Command) × (command_of c.words ≡ Some d) × CanRead c.files.held d)
   -- the program of a text that `check`, `code`, `build`, `run`, `witness`, `replay` or `gen` goes through is disjoint
   pub disjoint : OfText c (λ d text. asks_all d → IsFinal c.outcome.status → IsDisjointText text)

@@ -15,6 +15,7 @@ use Rattle.sp_generate.specs.Generated.{IsCodeOf}
 use Rattle.sp_journal.specs.Reading.{IsText}
 use Rattle.sp_meaning.specs.Own.{Setting}
 use Rattle.sp_meaning.specs.Runs.{IsDisjointRun}
+use Rattle.sp_rules.specs.Verdict.{IsVerified}
 use Rattle.sp_sets.specs.SetsText.{IsSetsText}
 use Rattle.sp_tree.specs.Bare.{bare}
 use Rattle.sp_tree.specs.Plain as m
@@ -45,7 +46,8 @@ HasSets text out = (p : c.Program) × IsChecked text p × (s : Sets) × AreSets 
 -- the text breaks no rule, and this is the text of its code
 abbrev pub HasCodeText : List ℕ → List ℕ → Type 0
 HasCodeText text out =
-    (p : c.Program) × IsAccepted text p × (tree_length (bare p) ≤ 1048576) × (code : Parts) × IsCodeOf (bare p) code × IsTextOf code out
+    (p : c.Program) × IsAccepted text p × (tree_length (bare p) ≤ 1048576) × (code : Parts) × IsCodeOf (bare p) code
+    × IsTextOf code out
 
 -- the text of the code is no longer than is loaded
 abbrev pub IsCodeFile : List ℕ → List ℕ → Type 0
@@ -54,6 +56,16 @@ IsCodeFile text out = HasCodeText text out × (length out ≤ 67108864)
 -- the text of the code is longer than that
 abbrev pub HasLongCode : List ℕ → Type 0
 HasLongCode text = (out : List ℕ) × HasCodeText text out × (67108864 < length out)
+
+-- these bytes are the text of this code, which breaks no rule of code files, and no more than are loaded
+pub record IsFileOf (code : Parts) (bytes : List ℕ) : Type 0 where
+  pub text : IsTextOf code bytes
+  pub short : length bytes ≤ 67108864
+  pub verified : IsVerified code
+
+-- these bytes are the text of some such code
+abbrev pub IsSoundFile : List ℕ → Type 0
+IsSoundFile bytes = (code : Parts) × IsFileOf code bytes
 
 -- on no input, with no limits and in no lawful schedule does a process of the text's program write what a parallel one
 -- reads or writes
@@ -91,7 +103,19 @@ followed file journal limits = record { file = file; journal = journal; limits =
 abbrev pub follows : Followed → Command
 follows b = command.Replay b.file b.journal b.limits
 
--- the text that a command is about, where the library tells it, or that it makes itself
+-- the execution of a code file that words ask for
+pub record Executed : Type 0 where
+  pub file : List ℕ
+  pub workers : ℕ
+  pub limits : Limits
+
+abbrev pub executed : List ℕ → ℕ → Limits → Executed
+executed file workers limits = record { file = file; workers = workers; limits = limits }
+
+abbrev pub executes : Executed → Command
+executes b = command.Exec b.file b.workers b.limits
+
+-- the text that a command is about, or its code file, where the library tells it, or the text that it makes itself
 abbrev pub text_of : (List ℕ → Option (List ℕ)) → Command → Option (List ℕ)
 text_of held (command.Check file) = held file
 text_of held (command.Run file workers limits show) = held file
@@ -102,6 +126,7 @@ text_of held (command.Witness file workers limits) = held file
 text_of held (command.Gen size workers) = Some (generated_text size)
 text_of held (command.Replay file journal limits) = held file
 text_of held (command.Build file) = held file
+text_of held (command.Exec file workers limits) = held file
 
 -- the command is about the text under this name
 abbrev pub IsAbout : Command → List ℕ → Type 0
@@ -114,6 +139,7 @@ IsAbout (command.Witness file workers limits) name = file ≡ name
 IsAbout (command.Gen size workers) name = ⊥
 IsAbout (command.Replay file journal limits) name = file ≡ name
 IsAbout (command.Build file) name = file ≡ name
+IsAbout (command.Exec file workers limits) name = ⊥
 
 -- the command follows the journal under this name
 abbrev pub FollowsUnder : Command → List ℕ → Type 0
@@ -126,13 +152,28 @@ FollowsUnder (command.Witness file workers limits) name = ⊥
 FollowsUnder (command.Gen size workers) name = ⊥
 FollowsUnder (command.Replay file journal limits) name = journal ≡ name
 FollowsUnder (command.Build file) name = ⊥
+FollowsUnder (command.Exec file workers limits) name = ⊥
 
--- the command loads what is held under this name: its text, or the journal, where its text breaks no rule
+-- the command runs the code file under this name
+abbrev pub ExecutesUnder : Command → List ℕ → Type 0
+ExecutesUnder (command.Check file) name = ⊥
+ExecutesUnder (command.Run file workers limits show) name = ⊥
+ExecutesUnder (command.Code file) name = ⊥
+ExecutesUnder (command.Sets file) name = ⊥
+ExecutesUnder (command.Format file) name = ⊥
+ExecutesUnder (command.Witness file workers limits) name = ⊥
+ExecutesUnder (command.Gen size workers) name = ⊥
+ExecutesUnder (command.Replay file journal limits) name = ⊥
+ExecutesUnder (command.Build file) name = ⊥
+ExecutesUnder (command.Exec file workers limits) name = file ≡ name
+
+-- the command loads what is held under this name: its text, or the journal, where its text breaks no rule, or its code
+-- file
 abbrev pub Loads : (List ℕ → Option (List ℕ)) → Command → List ℕ → Type 0
-Loads held c name = IsAbout c name ⊎ (FollowsUnder c name × IfSome (text_of held c) KeepsAll)
+Loads held c name = IsAbout c name ⊎ ((FollowsUnder c name × IfSome (text_of held c) KeepsAll) ⊎ ExecutesUnder c name)
 
--- the first rule for which the command refuses the text: of all rules, for `sets` of those of characters, grammar, names and
--- types, for `format` of those that it goes through
+-- the first rule for which the command refuses the text: of all rules, for `sets` of those of characters, grammar,
+-- names and types, for `format` of those that it goes through; a code file has no text that could break one
 abbrev pub Breaks : Command → List ℕ → Refusal → Type 0
 Breaks (command.Check file) text r = BreaksOne text r
 Breaks (command.Run file workers limits show) text r = BreaksOne text r
@@ -143,8 +184,9 @@ Breaks (command.Witness file workers limits) text r = BreaksOne text r
 Breaks (command.Gen size workers) text r = BreaksOne text r
 Breaks (command.Replay file journal limits) text r = BreaksOne text r
 Breaks (command.Build file) text r = BreaksOne text r
+Breaks (command.Exec file workers limits) text r = ⊥
 
--- the command refuses the text for no rule
+-- the command refuses the text for no rule, and a code file neither
 abbrev pub Keeps : Command → List ℕ → Type 0
 Keeps (command.Check file) text = KeepsAll text
 Keeps (command.Run file workers limits show) text = KeepsAll text
@@ -155,6 +197,7 @@ Keeps (command.Witness file workers limits) text = KeepsAll text
 Keeps (command.Gen size workers) text = KeepsAll text
 Keeps (command.Replay file journal limits) text = KeepsAll text
 Keeps (command.Build file) text = KeepsAll text
+Keeps (command.Exec file workers limits) text = IsSoundFile text
 
 -- the commands that answer from the text alone
 abbrev pub asks_text : Command → Type 0
@@ -167,6 +210,7 @@ asks_text (command.Witness file workers limits) = ⊥
 asks_text (command.Gen size workers) = ⊥
 asks_text (command.Replay file journal limits) = ⊥
 asks_text (command.Build file) = Unit {0}
+asks_text (command.Exec file workers limits) = ⊥
 
 -- the commands that run a program with workers
 abbrev pub asks_run : Command → Type 0
@@ -179,6 +223,7 @@ asks_run (command.Witness file workers limits) = Unit {0}
 asks_run (command.Gen size workers) = Unit {0}
 asks_run (command.Replay file journal limits) = ⊥
 asks_run (command.Build file) = ⊥
+asks_run (command.Exec file workers limits) = ⊥
 
 -- the command that follows a journal
 abbrev pub asks_replay : Command → Type 0
@@ -191,6 +236,7 @@ asks_replay (command.Witness file workers limits) = ⊥
 asks_replay (command.Gen size workers) = ⊥
 asks_replay (command.Replay file journal limits) = Unit {0}
 asks_replay (command.Build file) = ⊥
+asks_replay (command.Exec file workers limits) = ⊥
 
 -- the command that writes a code file
 abbrev pub asks_build : Command → Type 0
@@ -203,6 +249,20 @@ asks_build (command.Witness file workers limits) = ⊥
 asks_build (command.Gen size workers) = ⊥
 asks_build (command.Replay file journal limits) = ⊥
 asks_build (command.Build file) = Unit {0}
+asks_build (command.Exec file workers limits) = ⊥
+
+-- the command that runs a code file
+abbrev pub asks_execution : Command → Type 0
+asks_execution (command.Check file) = ⊥
+asks_execution (command.Run file workers limits show) = ⊥
+asks_execution (command.Code file) = ⊥
+asks_execution (command.Sets file) = ⊥
+asks_execution (command.Format file) = ⊥
+asks_execution (command.Witness file workers limits) = ⊥
+asks_execution (command.Gen size workers) = ⊥
+asks_execution (command.Replay file journal limits) = ⊥
+asks_execution (command.Build file) = ⊥
+asks_execution (command.Exec file workers limits) = Unit {0}
 
 -- these bytes are the text of a journal, and no more than are loaded
 abbrev pub IsJournalText : List ℕ → Type 0
@@ -219,6 +279,7 @@ CanRead held (command.Witness file workers limits) = IfSome (held file) KeepsAll
 CanRead held (command.Gen size workers) = ⊥
 CanRead held (command.Replay file journal limits) = IfSome (held file) KeepsAll × IfSome (held journal) IsJournalText
 CanRead held (command.Build file) = ⊥
+CanRead held (command.Exec file workers limits) = IfSome (held file) IsSoundFile
 
 -- what the command makes of the text alone, for the output and for the notes
 abbrev pub Makes : Command → List ℕ → List ℕ → List ℕ → Type 0
@@ -231,6 +292,7 @@ Makes (command.Witness file workers limits) text out line = ⊥
 Makes (command.Gen size workers) text out line = ⊥
 Makes (command.Replay file journal limits) text out line = ⊥
 Makes (command.Build file) text out line = IsCodeFile text out × (line ≡ [])
+Makes (command.Exec file workers limits) text out line = ⊥
 
 -- the commands that go through the rules of interference too, and name no broken one
 abbrev pub asks_all : Command → Type 0
@@ -243,3 +305,4 @@ asks_all (command.Witness file workers limits) = Unit {0}
 asks_all (command.Gen size workers) = Unit {0}
 asks_all (command.Replay file journal limits) = Unit {0}
 asks_all (command.Build file) = Unit {0}
+asks_all (command.Exec file workers limits) = ⊥

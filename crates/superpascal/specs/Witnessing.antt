@@ -1,5 +1,5 @@
--- What `witness` says of a race. It is a part of the contract of the top call: the output is the text of a journal of the
--- program itself, on this input and with these limits, which ends where the two offers of the verdict contend.
+-- What `witness` says of a race. It is a part of the contract of the top call: the output is the text of a journal of
+-- the program itself, on this input and with these limits, which ends where the two offers of the verdict contend.
 use Rattle.std.specs.Prelude.{◌≡◌, ℕ, List, Some}
 use Rattle.sp_execute.specs.declared.execution.Ran.{Ran}
 use Rattle.sp_execute.specs.Runs.{setting}

@@ -18,15 +18,19 @@ pub record AreWritten (c : Call) (output notes : List ℕ) : Type 0 where
 
 -- otherwise the line of the status
 abbrev pub WritesLine : Call → Type 0
-WritesLine c = (ending : Ending) × (c.outcome.status ≡ status_of ending) × (has_output ending ≡ false) × All c.notes (line_of ending)
+WritesLine c = (ending : Ending) × (c.outcome.status ≡ status_of ending) × (has_output ending ≡ false)
+    × All c.notes (line_of ending)
 
 pub record Writing (c : Call) : Type 0 where
   -- what a command makes of the text alone
-  pub made : OfText c (λ d text. (out line : List ℕ) → Makes d text out line → c.outcome.status ≡ 0 → All c.output out × All c.notes line)
+  pub made : OfText c (λ d text. (out line : List ℕ) → Makes d text out line → c.outcome.status ≡ 0 → All c.output out
+      × All c.notes line)
   -- the output of a run, or the witness of its race; and its end, verdict and reports, or its journal
   pub ran : (a : Asked) → command_of c.words ≡ Some (asks a) → (r : Ran) → c.outcome.ran ≡ Some r
       → AreWritten c (told_output a.telling r) (told_notes c.reports a.telling r)
   -- those of `gen`
-  pub generated : (size workers : ℕ) → command_of c.words ≡ Some (command.Gen size workers) → (r : Ran) → c.outcome.ran ≡ Some r → AreWritten c (generated_output size r) []
+  pub generated : (size workers : ℕ) → command_of c.words ≡ Some (command.Gen size workers) → (r : Ran)
+      → c.outcome.ran ≡ Some r → AreWritten c (generated_output size r) []
   -- else a line, and no output
-  pub line : c.outcome.status ≢ 0 → c.outcome.status ≢ 3 → c.outcome.status ≢ 4 → c.outcome.status ≢ 6 → WritesLine c × IsUnwritten c.output
+  pub line : c.outcome.status ≢ 0 → c.outcome.status ≢ 3 → c.outcome.status ≢ 4 → c.outcome.status ≢ 6 → WritesLine c
+      × IsUnwritten c.output

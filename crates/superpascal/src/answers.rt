@@ -1,12 +1,16 @@
 //! Answers without a run.
 
 ghost use Rattle.std.specs.Prelude.{◌≡◌, ◌⊎◌, ◌++◌, None, IfOk, codes, decimal};
+ghost use Rattle.sp_codefile.specs.Verifying.{rule_of};
+ghost use Rattle.sp_rules.specs.Verdict.{number};
 ghost use Rattle.superpascal.specs.Answering.{AnswersNumber, AnswersRefusal, halted, unloaded};
+ghost use Rattle.superpascal.specs.Answers.{line_of};
 ghost use Rattle.superpascal.specs.Causes.{accepted, silent};
 ghost use Rattle.superpascal.specs.declared.ending.Ending.TheVariants as variants;
 
 use crate::ending::{Answer, Ending};
 use sp_base::{Halt, Memory, Place, Refusal, Rule, Text, put_decimal};
+use sp_codefile::VRule;
 use sp_outside::LoadError;
 use sp_print::refusal_line;
 use std::alloc::Global;
@@ -18,6 +22,7 @@ pub(crate) fn silent(alloc: Global, ending: Ending) -> Answer
     Answer {
         ending,
         ran: None,
+        executed: None,
         output: None,
         notes: Text::of(Vec::new(alloc)),
     }
@@ -30,6 +35,7 @@ pub(crate) fn accepted(output: Vec<u8>, notes: Vec<u8>) -> Answer
     Answer {
         ending: Ending::Accepted,
         ran: None,
+        executed: None,
         output: Some(Text::of(output)),
         notes: Text::of(notes),
     }
@@ -43,6 +49,7 @@ pub(crate) fn refused(alloc: Global, refusal: Refusal) -> Answer
         Ok(line) => Answer {
             ending: Ending::Refused(refusal),
             ran: None,
+            executed: None,
             output: None,
             notes: Text::of(line),
         },
@@ -89,12 +96,20 @@ fn number_line(alloc: Global, words: &[u8], number: u64) -> Result<Vec<u8>, Memo
 
 // The answer whose notes are such a line, or want of memory.
 fn numbered(alloc: Global, ending: Ending, words: &[u8], number: u64) -> Answer
-    ensures { (result ≡ record { ending = ending; ran = None; output = None; notes = words.now ++ decimal number ++ codes "\n" }) ⊎ (result ≡ silent variants.OutOfMemory) }
+    ensures { (result ≡ record {
+      ending = ending;
+      ran = None;
+      executed = None;
+      output = None;
+      notes = words.now
+          ++ decimal number ++ codes "\n";
+    }) ⊎ (result ≡ silent variants.OutOfMemory) }
 {
     match number_line(alloc, words, number) {
         Ok(line) => Answer {
             ending,
             ran: None,
+            executed: None,
             output: None,
             notes: Text::of(line),
         },
@@ -114,4 +129,56 @@ pub(crate) fn unfit(alloc: Global, entry: u64) -> Answer
     ensures { AnswersNumber (variants.Unfit entry) result }
 {
     numbered(alloc, Ending::Unfit(entry), b"journal unfit ", entry)
+}
+
+/// The answer to a code file of which this line is the first with which its lines begin no code's text.
+pub(crate) fn bad_code(alloc: Global, line: u64) -> Answer
+    ensures { AnswersNumber (variants.BadCode line) result }
+{
+    numbered(alloc, Ending::BadCode(line), b"bad code ", line)
+}
+
+// The number of a rule of code files.
+fn rule_number(rule: VRule) -> u64
+    ensures { result ≡ number (rule_of rule) }
+{
+    match rule {
+        VRule::V1 => 1,
+        VRule::V2 => 2,
+        VRule::V3 => 3,
+        VRule::V4 => 4,
+        VRule::V5 => 5,
+        VRule::V6 => 6,
+        VRule::V7 => 7,
+        VRule::V8 => 8,
+        VRule::V9 => 9,
+    }
+}
+
+// The line that names a broken rule and an instruction.
+fn rejection_line(alloc: Global, rule: VRule, instruction: u32) -> Result<Vec<u8>, Memory>
+    ensures { IfOk result (λ line. line.items ≡ line_of (variants.Rejected rule instruction)) }
+{
+    let mut line = Vec::from_slice(alloc, b"rejected V")?;
+    put_decimal(&mut line, rule_number(rule))?;
+    line.extend_from_slice(b" ")?;
+    put_decimal(&mut line, instruction as u64)?;
+    line.extend_from_slice(b"\n")?;
+    Ok(line)
+}
+
+/// The answer to a code file whose code breaks this rule first, where this instruction is the least at which it does.
+pub(crate) fn rejected(alloc: Global, rule: VRule, instruction: u32) -> Answer
+    ensures { AnswersNumber (variants.Rejected rule instruction) result }
+{
+    match rejection_line(alloc, rule, instruction) {
+        Ok(line) => Answer {
+            ending: Ending::Rejected(rule, instruction),
+            ran: None,
+            executed: None,
+            output: None,
+            notes: Text::of(line),
+        },
+        Err(_) => silent(alloc, Ending::OutOfMemory),
+    }
 }

@@ -4,7 +4,9 @@ ghost use Rattle.std.specs.Prelude.{◌≡◌};
 ghost use Rattle.superpascal.specs.Answers.{has_output, notes_by, output_of, status_of};
 
 use sp_base::{Refusal, Text};
+use sp_codefile::VRule;
 use sp_execute::Ran;
+use sp_kernel::Closed;
 
 /// How a call ends.
 #[derive(Clone, Copy)]
@@ -37,16 +39,23 @@ pub enum Ending {
     Unfit(u64),
     /// The text of the code is longer than a code file may be.
     LongCode,
+    /// The code file is longer than the limit.
+    LongFile,
+    /// This line of the code file is the first with which its lines begin no code's text.
+    BadCode(u64),
+    /// The code of the file breaks this rule first, and this instruction is the least at which it does.
+    Rejected(VRule, u32),
 }
 
-/// All that a call has to write, and what it gives back. Where a program has run, its output is that of the run unless
-/// another text stands here for it; the notes are those of the command, where a text is refused the line of the refusal;
-/// else they are a line, and what
-/// stands here for them is empty, but for a line that names a number of the journal.
+/// All that a call has to write, and what it gives back. Where a program or a code file has run, its output is that of
+/// the run unless another text stands here for it; the notes are those of the command, where a text is refused the line
+/// of the refusal; else they are a line, and what stands here for them is empty, but for a line that names a number of
+/// the journal or of the code.
 #[derive(Drop)]
 pub struct Answer {
     pub ending: Ending,
     pub ran: Option<Ran>,
+    pub executed: Option<Closed>,
     pub output: Option<Text>,
     pub notes: Text,
 }
@@ -66,7 +75,7 @@ impl Ending {
             Ending::TooLong => 7,
             Ending::OutOfMemory => 8,
             Ending::LongJournal | Ending::BadJournal(_) | Ending::Unfit(_) => 9,
-            Ending::LongCode => 10,
+            Ending::LongCode | Ending::LongFile | Ending::BadCode(_) | Ending::Rejected(_, _) => 10,
         }
     }
 
@@ -86,15 +95,16 @@ impl Answer {
     pub fn output(&self) -> &[u8]
         ensures { result.now ≡ output_of self.now }
     {
-        match (&self.output, &self.ran) {
-            (Some(text), _) => text.bytes(),
-            (None, Some(ran)) => ran.closed.output().bytes(),
-            (None, None) => b"",
+        match (&self.output, &self.ran, &self.executed) {
+            (Some(text), _, _) => text.bytes(),
+            (None, Some(ran), _) => ran.closed.output().bytes(),
+            (None, None, Some(run)) => run.output().bytes(),
+            (None, None, None) => b"",
         }
     }
 }
 
-/// The notes with this ending, where these are those of the command, of the refusal or of the journal.
+/// The notes with this ending, where these are those of the command, of the refusal, of the journal or of the code.
 pub fn notes_by<'a>(ending: Ending, notes: &'a [u8]) -> &'a [u8]
     ensures { result.now ≡ notes_by ending notes.now }
 {
@@ -106,12 +116,14 @@ pub fn notes_by<'a>(ending: Ending, notes: &'a [u8]) -> &'a [u8]
         | Ending::Accepted
         | Ending::Refused(_)
         | Ending::BadJournal(_)
-        | Ending::Unfit(_) => notes,
+        | Ending::Unfit(_)
+        | Ending::BadCode(_)
+        | Ending::Rejected(_, _) => notes,
         Ending::BadWords => b"bad words\n",
         Ending::ReadFault => b"read fault\n",
         Ending::TooLong => b"input too long\n",
         Ending::OutOfMemory => b"out of memory\n",
         Ending::LongJournal => b"journal too long\n",
-        Ending::LongCode => b"code file too long\n",
+        Ending::LongCode | Ending::LongFile => b"code file too long\n",
     }
 }

@@ -3,6 +3,7 @@
 
 mod answers;
 mod ending;
+mod executions;
 mod notes;
 mod outcome;
 mod replays;
@@ -14,4 +15,5 @@ mod writing;
 
 pub use outcome::Outcome;
 pub use sp_execute::Ran;
+pub use sp_kernel::Closed;
 pub use top::superpascal;

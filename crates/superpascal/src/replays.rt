@@ -4,7 +4,8 @@ ghost use Rattle.std.specs.Prelude.{ℕ, ◌≤◌, List, Ok, Err, length};
 ghost use Rattle.sp_journal.specs.Births.{IsNameable};
 ghost use Rattle.sp_tree.specs.PlainChecked.{Program as Checked};
 ghost use Rattle.sp_words.specs.Ranges.{IsInRange};
-ghost use Rattle.superpascal.specs.Answering.{AlongAnswer, AnswersReplay, BytesAnswer, CommandCause, Follows, HasCode, HasEndLines, JournalAnswer, ReplayAnswer, SourceAnswer};
+ghost use Rattle.superpascal.specs.Answering.{AlongAnswer, AnswersReplay, BytesAnswer, CommandCause, Follows, HasCode};
+ghost use Rattle.superpascal.specs.Answering.{HasEndLines, JournalAnswer, ReplayAnswer, SourceAnswer};
 ghost use Rattle.superpascal.specs.Causes.{files, stream};
 ghost use Rattle.superpascal.specs.Runs.{Reports};
 ghost use Rattle.superpascal.specs.Texts.{followed, follows};
@@ -39,7 +40,8 @@ fn follow_code(
     requires range { IsInRange 1 limits.now }
     requires code { (program : List ℕ) × (tree : Checked) × HasCode program tree code }
     requires nameable { IsNameable journal.now }
-    ensures { (program : List ℕ) (tree : Checked) → HasCode program tree code → Follows program input limits.now journal.now result }
+    ensures { (program : List ℕ) (tree : Checked) → HasCode program tree code
+        → Follows program input limits.now journal.now result }
 {
     accepted_programs_are_ready();
     let Ok(code) = Arc::new(alloc, code) else {
@@ -60,6 +62,7 @@ fn replayed_answer(alloc: Global, replayed: Replayed) -> Answer
         Ok(notes) => Answer {
             ending: ending_of_replay(&replayed.end),
             ran: None,
+            executed: None,
             output: Some(replayed.output),
             notes: Text::of(notes),
         },
@@ -88,7 +91,8 @@ fn along_answer(
     requires range { IsInRange 1 limits.now }
     requires code { (program : List ℕ) × (tree : Checked) × HasCode program tree code }
     requires nameable { IsNameable journal.now }
-    ensures { (program : List ℕ) (tree : Checked) → HasCode program tree code → AlongAnswer program input limits.now journal.now result }
+    ensures { (program : List ℕ) (tree : Checked) → HasCode program tree code
+        → AlongAnswer program input limits.now journal.now result }
 {
     match follow_code(alloc, code, input, limits, journal) {
         Ok(replayed) => replayed_answer(alloc, replayed),
@@ -108,7 +112,8 @@ fn source_answer<I: Source>(
     requires code { (program : List ℕ) × (tree : Checked) × HasCode program tree code }
     requires nameable { IsNameable journal.now }
     ensures { (program : List ℕ) (tree : Checked) → HasCode program tree code
-        → SourceAnswer (stream (I.left input.old) (I.left input.new) (I.faults input.old) (I.faults input.new)) program limits.now journal.now result }
+        → SourceAnswer (stream (I.left input.old) (I.left input.new) (I.faults input.old)
+        (I.faults input.new)) program limits.now journal.now result }
 {
     match read_all(alloc, input, LONGEST_INPUT) {
         Ok(bytes) => along_answer(alloc, code, bytes, limits, journal),
@@ -130,7 +135,8 @@ fn bytes_answer<I: Source>(
     requires code { (program : List ℕ) × (tree : Checked) × HasCode program tree code }
     requires short { length bytes.now ≤ 67108864 }
     ensures { (program : List ℕ) (tree : Checked) → HasCode program tree code
-        → BytesAnswer (stream (I.left input.old) (I.left input.new) (I.faults input.old) (I.faults input.new)) program limits.now bytes.now result }
+        → BytesAnswer (stream (I.left input.old) (I.left input.new) (I.faults input.old)
+        (I.faults input.new)) program limits.now bytes.now result }
 {
     match read_journal(alloc, bytes) {
         Ok(journal) => source_answer(alloc, code, input, limits, &journal),
@@ -151,8 +157,10 @@ fn journal_answer<L: Library, I: Source>(
     requires range { IsInRange 1 limits.now }
     requires code { (program : List ℕ) × (tree : Checked) × HasCode program tree code }
     ensures { (program : List ℕ) (tree : Checked) → HasCode program tree code
-        → JournalAnswer (L.held library.old journal.now) (L.faults library.old journal.now) (L.faults library.new journal.now)
-        (stream (I.left input.old) (I.left input.new) (I.faults input.old) (I.faults input.new)) program limits.now result }
+        → JournalAnswer (L.held library.old journal.now) (L.faults library.old journal.now)
+        (L.faults library.new journal.now)
+        (stream (I.left input.old) (I.left input.new) (I.faults input.old)
+        (I.faults input.new)) program limits.now result }
 {
     match library.load(alloc, journal, LONGEST_JOURNAL) {
         Ok(bytes) => bytes_answer(alloc, code, input, limits, bytes.as_slice()),
@@ -173,8 +181,10 @@ fn program_answer<L: Library, I: Source>(
     input: &mut I,
 ) -> Answer
     requires range { IsInRange 1 limits.now }
-    ensures { ReplayAnswer (L.held library.old journal.now) (L.faults library.old journal.now) (L.faults library.new journal.now)
-        (stream (I.left input.old) (I.left input.new) (I.faults input.old) (I.faults input.new)) limits.now program.now result }
+    ensures { ReplayAnswer (L.held library.old journal.now) (L.faults library.old journal.now)
+        (L.faults library.new journal.now)
+        (stream (I.left input.old) (I.left input.new) (I.faults input.old)
+        (I.faults input.new)) limits.now program.now result }
 {
     match compiled_apart(rt, alloc, program) {
         Ok(compiled) => journal_answer(
@@ -200,7 +210,8 @@ pub(crate) fn replay_answer<L: Library, I: Source>(
     input: &mut I,
 ) -> Answer
     requires range { IsInRange 1 limits.now }
-    ensures { (reports : Reports) → CommandCause (files (L.held library.old) (L.faults library.old) (L.faults library.new))
+    ensures { (reports : Reports)
+        → CommandCause (files (L.held library.old) (L.faults library.old) (L.faults library.new))
         (stream (I.left input.old) (I.left input.new) (I.faults input.old) (I.faults input.new)) reports
         (follows (followed file.now journal.now limits.now)) result }
 {

@@ -6,7 +6,8 @@ ghost use Rattle.sp_gen.specs.Generated.{generated_text};
 ghost use Rattle.sp_report.specs.Telling.{AreFresh, reports};
 ghost use Rattle.sp_tree.specs.PlainChecked.{Program as Checked};
 ghost use Rattle.sp_words.specs.Ranges.{IsInRange};
-ghost use Rattle.superpascal.specs.Answering.{CodeAnswer, CommandCause, GeneratedAnswer, GeneratedCause, HasCode, InputAnswer, RanAnswer, RunAnswer};
+ghost use Rattle.superpascal.specs.Answering.{CodeAnswer, CommandCause, GeneratedAnswer, GeneratedCause, HasCode};
+ghost use Rattle.superpascal.specs.Answering.{InputAnswer, RanAnswer, RunAnswer};
 ghost use Rattle.superpascal.specs.Causes.{files, stream};
 ghost use Rattle.superpascal.specs.Runs.{IsRunOf, Reports as AReports};
 ghost use Rattle.superpascal.specs.Texts.{asked, asks};
@@ -46,7 +47,8 @@ fn run_code<R: Threads + Wait + Sync, G: Gate>(
     requires range { IsInRange workers limits.now }
     requires code { (program : List ℕ) × (tree : Checked) × HasCode program tree code }
     ensures ready { IfOk result IsReadyRun }
-    ensures run { IfOk result (λ r. (program : List ℕ) (tree : Checked) → HasCode program tree code → IsRunOf program input workers limits.now r) }
+    ensures run { IfOk result (λ r. (program : List ℕ) (tree : Checked) → HasCode program tree code
+        → IsRunOf program input workers limits.now r) }
 {
     accepted_programs_are_ready();
     races_are_shown();
@@ -65,6 +67,7 @@ fn reported(alloc: Global, watchers: Vec<Box<dyn Watcher>>, show: Show, ran: Ran
         Ok(notes) => Answer {
             ending: ending_of(ran.closed.end()),
             ran: Some(ran),
+            executed: None,
             output: None,
             notes: Text::of(notes),
         },
@@ -84,6 +87,7 @@ fn witnessed(alloc: Global, ran: Ran) -> Answer
         Ok(notes) => Answer {
             ending: ending_of(ran.closed.end()),
             ran: Some(ran),
+            executed: None,
             output: Some(Text::of(output)),
             notes: Text::of(notes),
         },
@@ -234,6 +238,7 @@ fn generated_ran(alloc: Global, size: u32, ran: Ran) -> Answer
         Ok(output) => Answer {
             ending: ending_of(ran.closed.end()),
             ran: Some(ran),
+            executed: None,
             output: Some(Text::of(output)),
             notes: Text::of(Vec::new(alloc)),
         },

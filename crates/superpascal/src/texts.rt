@@ -97,7 +97,8 @@ fn make(rt: &impl Threads, alloc: Global, command: &Command, text: &[u8]) -> Res
         Command::Run { .. }
         | Command::Witness { .. }
         | Command::Gen { .. }
-        | Command::Replay { .. } => unreachable!(),
+        | Command::Replay { .. }
+        | Command::Exec { .. } => unreachable!(),
     }
 }
 

@@ -11,12 +11,14 @@ ghost use Rattle.superpascal.specs.Promise.{Promise};
 
 use crate::answers::silent;
 use crate::ending::{Answer, Ending};
+use crate::executions::execution_answer;
 use crate::outcome::Outcome;
 use crate::replays::replay_answer;
 use crate::runs::{generated_answer, run_answer};
 use crate::telling::Telling;
 use crate::texts::{one_code_text, text_answer};
 use crate::writing::write;
+use sp_codefile::laws::a_text_is_of_one_code;
 use sp_compile::one_listing;
 use sp_execute::one_unfit_entry;
 use sp_format::one_layout;
@@ -100,6 +102,20 @@ fn command_answer<R: Threads + Wait + Sync, L: Library, I: Source, G: Gate>(
             library,
             input,
         ),
+        Command::Exec {
+            file,
+            workers,
+            limits,
+        } => execution_answer(
+            rt,
+            alloc,
+            file.text(),
+            *workers,
+            limits,
+            library,
+            input,
+            gate,
+        ),
     }
 }
 
@@ -148,53 +164,68 @@ fn answer_and_write<R: Threads + Wait + Sync, L: Library, I: Source, O: Sink, N:
 {
     let answer = answer(rt, alloc, words, library, input, gate, watchers);
     let status = write(&answer, output, notes);
+    let Answer { ran, executed, .. } = answer;
     Outcome {
         status,
-        ran: answer.ran,
+        ran,
+        executed,
     }
 }
 
 /// The top call. `words` are those behind the program's own name, as `docs/COMMANDS.md` says. `run` runs the program of
 /// the text: its output goes to `output`, and the end, the verdict and the chosen reports, or the journal alone, go to
-/// `notes`. The watchers make the reports; they have been told nothing before. Each worker enters the gate before each turn
-/// that it makes.
+/// `notes`. The watchers make the reports; they have been told nothing before. Each worker enters the gate before each
+/// turn that it makes.
 ///
 /// | status | comes | notes |
 /// |---|---|---|
-/// | 0 | where the run ends done | `done`, the verdict and the reports; or the journal |
+/// | 0 | where the run ends done | `done`, the verdict and the reports; or the journal; of `exec` `done` alone |
 /// | 0 | where `replay` has followed the journal to the end done, or to none | `replayed`, and `done` or `no end` |
 /// | 0 | where `check` finds no broken rule | `accepted` |
 /// | 0 | where `code`, `build`, `sets` or `format` has given its text | none |
-/// | 1 | where the text breaks a rule: for `sets` one of its characters, grammar, names and types, for `format` one of its characters and grammar, else any rule | `refused RULE LINE:COLUMN`, the first such rule |
+/// | 1 | where the text breaks a rule: for `sets` one of its characters, grammar, names and types, for `format` one of
+/// its characters and grammar, else any rule | `refused RULE LINE:COLUMN`, the first such rule |
 /// | 2 | where the words are refused | `bad words` |
 /// | 3 | where a fault ends the run | `fault F NAME`, the verdict and the reports; or the journal |
-/// | 4 | where the run ends in a deadlock | `deadlock`, a line for each process that waits, the verdict and the reports; or the journal |
-/// | 3, 4 | where `replay` has followed the journal to a fault, or to a deadlock | `replayed`, and the lines of that end |
+/// | 4 | where the run ends in a deadlock | `deadlock`, a line for each process that waits, the verdict and the
+/// reports; or the journal |
+/// | 3, 4 | where `replay` has followed the journal to a fault, or to a deadlock | `replayed`, and the lines of that
+/// end |
 /// | 5 | where the library's count of faults under a name that was loaded rose, or the source's | `read fault` |
 /// | 6 | where the count of faults of a sink rose; it displaces the status that was due | a first part of the notes |
 /// | 7 | where the source gave more than 16,777,216 bytes | `input too long` |
 /// | 8 | where memory was refused | `out of memory` |
 /// | 9 | where the journal is longer than 67,108,864 bytes | `journal too long` |
-/// | 9 | where a line of the journal is no text of a next entry | `bad journal N`, the first such line, counted from 1 |
-/// | 9 | where the program cannot make an entry of the journal there | `journal unfit N`, the first such entry, counted from 0 |
-/// | 10 | where the code that `build` would write is longer than 67,108,864 bytes | `code file too long` |
+/// | 9 | where a line of the journal is no text of a next entry | `bad journal N`, the first such line, counted from 1
+/// |
+/// | 9 | where the program cannot make an entry of the journal there | `journal unfit N`, the first such entry, counted
+/// from 0 |
+/// | 10 | where the code that `build` would write, or the code file, is longer than 67,108,864 bytes | `code file too
+/// long` |
+/// | 10 | where the lines of the code file begin no code's text | `bad code N`, the first such line, counted from 1 |
+/// | 10 | where the code of the file breaks a rule of code files | `rejected VN I`, the first such rule, and the least
+/// instruction at which it is broken, counted from 0 |
 ///
-/// `witness` runs as `run` does, and writes to `output`, in place of what the program wrote, the witness of the race that its
-/// verdict names: a journal that `replay` follows to the fault F6. Where there is no race, it writes nothing there. Its notes are
-/// the end and the verdict.
+/// `witness` runs as `run` does, and writes to `output`, in place of what the program wrote, the witness of the race
+/// that its verdict names: a journal that `replay` follows to the fault F6. Where there is no race, it writes nothing
+/// there. Its notes are the end and the verdict.
 ///
-/// `build` writes the code of the text to `output`, as a text that can be read again.
+/// `build` writes the code of the text to `output`, as a text that can be read again. `exec` runs what such a text
+/// says, also one that no `build` wrote, where its code breaks no rule of code files: its output goes to `output`, and
+/// the lines of its end to `notes`. There is no verdict, since there is no program.
 ///
-/// `gen` runs the program that it generates on no input, reads no file and no input, and writes the size, the output, the number of
-/// entries, the end and the verdict to `output`; its status is that of the run.
+/// `gen` runs the program that it generates on no input, reads no file and no input, and writes the size, the output,
+/// the number of entries, the end and the verdict to `output`; its status is that of the run.
 ///
-/// `replay` runs the program of the text along a journal, on the calling thread, and gives no run back.
+/// `replay` runs the program of the text along a journal, on the calling thread, and gives no run back. `exec` gives
+/// its run back apart, without a verdict.
 ///
-/// The order of work is: the words; the load; the rules of the text and its code; for `replay` the load of the journal and its text;
-/// the input, for `run`, `witness` and `replay` alone; the run; the verdict; the texts; writing `output`; writing `notes`. The first step that
-/// ends the call decides the status. Where the words, a load, the text, the journal, the input or memory end the call, nothing is written to `output`. After a failed write to `output` nothing
-/// is written to `notes`. A text is compiled by a thread of `rt` with a large stack, so a chain of operators may be as long as the
-/// text; the workers are threads of `rt` too.
+/// The order of work is: the words; the load; the rules of the text and its code, or for `exec` those of the code file;
+/// for `replay` the load of the journal and its text; the input, for `run`, `witness`, `replay` and `exec` alone; the
+/// run; the verdict; the texts; writing `output`; writing `notes`. The first step that ends the call decides the
+/// status. Where the words, a load, the text, the journal, the code file, the input or memory end the call, nothing is
+/// written to `output`. After a failed write to `output` nothing is written to `notes`. A text is compiled by a thread
+/// of `rt` with a large stack, so a chain of operators may be as long as the text; the workers are threads of `rt` too.
 pub fn superpascal<R: Threads + Wait + Sync, L: Library, I: Source, O: Sink, N: Sink, G: Gate>(
     rt: &R,
     alloc: Global,
@@ -219,6 +250,7 @@ pub fn superpascal<R: Threads + Wait + Sync, L: Library, I: Source, O: Sink, N: 
     one_layout();
     one_listing();
     one_code_text();
+    a_text_is_of_one_code();
     one_sets_text();
     one_journal_of_a_text();
     one_unfit_entry();

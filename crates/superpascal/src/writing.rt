@@ -12,7 +12,8 @@ use sp_outside::{Failed, Sink, put_all};
 /// Writes the output and then the notes, and gives the status.
 pub(crate) fn write<O: Sink, N: Sink>(answer: &Answer, output: &mut O, notes: &mut N) -> u8
     requires { has_output answer.now.ending ≡ false → output_of answer.now ≡ [] }
-    ensures { Writes answer.now (sink (O.written output.old) (O.written output.new) (O.faults output.old) (O.faults output.new))
+    ensures { Writes answer.now (sink (O.written output.old) (O.written output.new) (O.faults output.old)
+        (O.faults output.new))
         (sink (N.written notes.old) (N.written notes.new) (N.faults notes.old) (N.faults notes.new)) result }
 {
     if answer.ending.has_output() {
@@ -30,7 +31,8 @@ fn write_notes<N: Sink>(answer: &Answer, notes: &mut N) -> u8
     ensures status_is { (result ≡ status_of answer.now.ending) ⊎ (result ≡ 6) }
     ensures all_written { result ≢ 6 → Grows (N.written notes.old) (N.written notes.new) (notes_of answer.now) }
     ensures displaced { result ≡ 6 → Rose (N.faults notes.old) (N.faults notes.new) }
-    ensures part { (n : ℕ) × (n ≤ length (notes_of answer.now)) × Grows (N.written notes.old) (N.written notes.new) (take n (notes_of answer.now)) }
+    ensures part { (n : ℕ) × (n ≤ length (notes_of answer.now))
+        × Grows (N.written notes.old) (N.written notes.new) (take n (notes_of answer.now)) }
 {
     match put_all(notes, notes_by(answer.ending, answer.notes.bytes())) {
         Ok(()) => answer.ending.status(),

@@ -99,7 +99,10 @@ fn words_of(alloc: Global, words: &[&str]) -> Vec<String> {
     all
 }
 
-// The status of the call with these watchers, and whether it told of a run.
+// The status of a call, and whether it told of the run of a program, and of a code file.
+type Ended = (u8, bool, bool);
+
+// How the call with these watchers ended.
 fn call_watched<R: Threads + Wait + Sync, G: Gate>(
     rt: &R,
     alloc: Global,
@@ -110,13 +113,17 @@ fn call_watched<R: Threads + Wait + Sync, G: Gate>(
     notes: &mut MemorySink,
     gate: &G,
     watchers: Vec<Box<dyn Watcher>>,
-) -> (u8, bool)
+) -> Ended
     requires fresh { AreFresh told watchers.items }
 {
     let outcome = superpascal(
         rt, alloc, words, library, input, output, notes, gate, watchers,
     );
-    let ended = (outcome.status, outcome.ran.is_some());
+    let ended = (
+        outcome.status,
+        outcome.ran.is_some(),
+        outcome.executed.is_some(),
+    );
     drop(outcome);
     ended
 }
@@ -131,7 +138,7 @@ fn call_over<R: Threads + Wait + Sync, G: Gate>(
     output: &mut MemorySink,
     notes: &mut MemorySink,
     gate: &G,
-) -> Result<(u8, bool), AllocError> {
+) -> Result<Ended, AllocError> {
     let timeline: Box<dyn Watcher> = Box::new(alloc, Timeline::new(alloc))?;
     let census: Box<dyn Watcher> = Box::new(alloc, Census::new(alloc))?;
     let tree: Box<dyn Watcher> = Box::new(alloc, ProcessTree::new(alloc))?;
@@ -162,6 +169,8 @@ pub struct Given {
     pub status: u8,
     /// Whether it told of a run.
     pub ran: bool,
+    /// Whether it told of the run of a code file.
+    pub executed: bool,
     pub output: Vec<u8>,
     pub notes: Vec<u8>,
 }
@@ -169,17 +178,18 @@ pub struct Given {
 // What such a call has given. Where no memory is left for it, the status is none of the program's.
 fn given_by(
     alloc: Global,
-    ended: Result<(u8, bool), AllocError>,
+    ended: Result<Ended, AllocError>,
     output: &MemorySink,
     notes: &MemorySink,
 ) -> Given {
-    let (status, ran) = match ended {
+    let (status, ran, executed) = match ended {
         Ok(ended) => ended,
-        Err(_) => (255, false),
+        Err(_) => (255, false, false),
     };
     Given {
         status,
         ran,
+        executed,
         output: copy(alloc, output.bytes()),
         notes: copy(alloc, notes.bytes()),
     }
@@ -296,7 +306,7 @@ pub fn expect_given(
     drop(given);
 }
 
-// Whether a call with these words and this status tells of a run.
+// Whether a call with these words and this status tells of the run of a program.
 fn tells_of_a_run(words: &[&str], status: u8) -> bool {
     let runs =
         matches!(words.first(), Some(command) if ["run", "gen", "witness"].contains(command));

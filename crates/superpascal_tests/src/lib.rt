@@ -8,6 +8,8 @@ mod calls;
 #[cfg(test)]
 mod damaged;
 #[cfg(test)]
+mod executions;
+#[cfg(test)]
 mod options;
 #[cfg(test)]
 mod outside;

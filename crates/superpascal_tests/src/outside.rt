@@ -44,7 +44,7 @@ fn a_library_that_fails(rt: HostRuntime) {
 
 #[test]
 fn a_file_that_is_absent(rt: HostRuntime) {
-    for command in ["run", "check", "code", "sets", "format"] {
+    for command in ["run", "check", "code", "sets", "format", "exec"] {
         let words = [command, "absent"];
         expect(&rt, rt.alloc(), &words, ANSWER, 5, "", "read fault\n");
     }

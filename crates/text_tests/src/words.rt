@@ -51,9 +51,9 @@ fn show_text(show: Show) -> &'static [u8] {
     }
 }
 
-/// The words as a command line in one text: the command, its file or its size and, of `run`, `gen` and `witness`, the
-/// workers; of `run` the limits in their order and the report too, of `witness` the limits, and of `replay` the journal
-/// and the limits.
+/// The words as a command line in one text: the command, its file or its size and, of `run`, `gen`, `witness` and
+/// `exec`, the workers; of `run` the limits in their order and the report too, of `witness` and `exec` the limits, and of
+/// `replay` the journal and the limits.
 fn add_command(all: &mut Vec<u8>, command: &Command) {
     match command {
         Command::Check(file) => add_named(all, b"check", file),
@@ -95,6 +95,15 @@ fn add_command(all: &mut Vec<u8>, command: &Command) {
             add_number(all, *workers as u64);
             add_limits(all, limits);
         }
+        Command::Exec {
+            file,
+            workers,
+            limits,
+        } => {
+            add_named(all, b"exec", file);
+            add_number(all, *workers as u64);
+            add_limits(all, limits);
+        }
     }
 }
 
@@ -126,7 +135,7 @@ fn asks(alloc: Global, line: &[&str], wanted: &str) -> bool {
 /// A command line, and what it asks for.
 type Row = (&'static [&'static str], &'static str);
 
-const LINES: [Row; 37] = [
+const LINES: [Row; 43] = [
     (&["check", "a"], "check a"),
     (&["code", "a"], "code a"),
     (&["sets", "--", "-a"], "sets -a"),
@@ -200,6 +209,18 @@ const LINES: [Row; 37] = [
     (&["witness", "a", "b"], "bad words"),
     (&["witness", "a", "--show=end"], "bad words"),
     (&["witness", "a", "--workers=65"], "bad words"),
+    (
+        &["exec", "a.spc"],
+        "exec a.spc 4 10000000 1000 4194304 100000 100000 1000000 16777216",
+    ),
+    (
+        &["exec", "--ticks", "2", "--workers=1", "--", "-a"],
+        "exec -a 1 2 1000 4194304 100000 100000 1000000 16777216",
+    ),
+    (&["exec"], "bad words"),
+    (&["exec", "a", "b"], "bad words"),
+    (&["exec", "a", "--show=end"], "bad words"),
+    (&["exec", "a", "--workers=0"], "bad words"),
     (
         &[
             "run",

@@ -11,7 +11,8 @@ use Rattle.sp_execute.proofs.execution.execute.Goals as goal
 pub run-requires-clause-sound : goal.run-requires-clause-sound
 run-requires-clause-sound g c κs within =
     let p = c.requires.program in
-    subst (λ (x : Parts). IsSound x) (sym p.3.emitted) (program_sound (setting p.0 c.args.input.value c.args.limits.now) p.1 p.2 p.3.ready)
+    subst (λ (x : Parts). IsSound x) (sym p.3.emitted)
+    (program_sound (setting p.0 c.args.input.value c.args.limits.now) p.1 p.2 p.3.ready)
 
 pub judge-requires : goal.judge-requires
 judge-requires g c =
@@ -20,7 +21,8 @@ judge-requires g c =
       about = (
         setting p.0 c.args.input.value c.args.limits.now,
         c.conclude-concluded.ensures.about (setting p.0 c.args.input.value c.args.limits.now) p.1 p.2
-            (run_of_code c.args.code.value c.args.input.value c.args.limits.now p.0 p.1 p.2 p.3 c.args.workers c.in_ok-closed.closed c.in_ok-closed.ensures),
+            (run_of_code c.args.code.value c.args.input.value c.args.limits.now p.0 p.1 p.2 p.3 c.args.workers
+            c.in_ok-closed.closed c.in_ok-closed.ensures),
       );
     }
 
@@ -28,8 +30,10 @@ pub returns-clause-program : goal.returns-clause-program
 returns-clause-program g c = λ p moves shares is.
     executed c.args.code.value c.args.input.value c.args.limits.now p moves shares is c.args.workers
     (record { closed = c.conclude-concluded.result.closed; verdict = c.in_ok-verdict.verdict })
-    (subst (λ (z : Closed). IsRun (run_of c.args.code.value c.args.input.value c.args.limits.now) c.args.workers z) (sym c.conclude-concluded.ensures.same) c.in_ok-closed.ensures)
+    (subst (λ (z : Closed). IsRun (run_of c.args.code.value c.args.input.value c.args.limits.now) c.args.workers z)
+    (sym c.conclude-concluded.ensures.same) c.in_ok-closed.ensures)
     c.in_ok-verdict.ensures.exact
     (c.in_ok-verdict.ensures.promise (setting p c.args.input.value c.args.limits.now) is.ready.free
     (c.conclude-concluded.ensures.about (setting p c.args.input.value c.args.limits.now) moves shares
-    (run_of_code c.args.code.value c.args.input.value c.args.limits.now p moves shares is c.args.workers c.in_ok-closed.closed c.in_ok-closed.ensures)))
+    (run_of_code c.args.code.value c.args.input.value c.args.limits.now p moves shares is c.args.workers
+    c.in_ok-closed.closed c.in_ok-closed.ensures)))

@@ -9,7 +9,8 @@ use Rattle.sp_execute.proofs.following.follow.Goals as goal
 pub replay-requires-clause-sound : goal.replay-requires-clause-sound
 replay-requires-clause-sound c =
     let p = c.requires.program in
-    subst (λ (x : Parts). IsSound x) (sym p.3.emitted) (program_sound (setting p.0 c.args.input.value c.args.limits.now) p.1 p.2 p.3.ready)
+    subst (λ (x : Parts). IsSound x) (sym p.3.emitted)
+    (program_sound (setting p.0 c.args.input.value c.args.limits.now) p.1 p.2 p.3.ready)
 
 pub replay-requires-clause-limits : goal.replay-requires-clause-limits
 replay-requires-clause-limits c =
@@ -18,4 +19,5 @@ replay-requires-clause-limits c =
 
 pub returns : goal.returns
 returns c = λ p moves shares is.
-    followed c.args.code.value c.args.input.value c.args.limits.now p moves shares is c.args.journal.now c.requires.nameable c.replay.result c.replay.ensures
+    followed c.args.code.value c.args.input.value c.args.limits.now p moves shares is c.args.journal.now
+    c.requires.nameable c.replay.result c.replay.ensures

@@ -15,18 +15,27 @@ pub verdict_of-requires-clause-quiet : goal.verdict_of-requires-clause-quiet
 verdict_of-requires-clause-quiet c =
     let a = c.requires.about in
     subst (λ (j : Journal). IsQuiet (occurrences j)) (sym c.journal.ensures)
-    (c.runs_are_quiet.ensures a.0 TURN_TICKS (occurrences c.args.concluded.now.closed.journal) a.1.steps a.1.state a.1.along)
+    (c.runs_are_quiet.ensures a.0 TURN_TICKS
+    (occurrences c.args.concluded.now.closed.journal) a.1.steps a.1.state a.1.along)
 
 pub returns-clause-exact : goal.returns-clause-exact
 returns-clause-exact c =
-    subst (λ (j : Journal). IfOk c.verdict_of.result (λ v. IsVerdict (occurrences j) c.args.concluded.now.closed.end v)) c.journal.ensures
-    (subst (λ (e : End). IfOk c.verdict_of.result (λ v. IsVerdict (occurrences c.journal.result.now) e v)) c.end.ensures c.verdict_of.ensures)
+    subst (λ (j : Journal). IfOk c.verdict_of.result
+    (λ v. IsVerdict (occurrences j) c.args.concluded.now.closed.end v)) c.journal.ensures
+    (subst (λ (e : End). IfOk c.verdict_of.result
+    (λ v. IsVerdict (occurrences c.journal.result.now) e v)) c.end.ensures c.verdict_of.ensures)
 
 pub returns-clause-promise : goal.returns-clause-promise
 returns-clause-promise c =
     let d = c.args.concluded.now.closed in
-    if_judged (λ v. IsVerdict (occurrences d.journal) d.end v) (λ v. (g : Setting) → IsFreeOfInterference g.program → IsAbout g d → Promises g d v)
-    (λ v x g free a. (a, c.verdicts_hold_of_runs.ensures g TURN_TICKS (occurrences d.journal) a.steps a.state d.end v free a.along a.end x))
+    if_judged (λ v. IsVerdict (occurrences d.journal) d.end v) (λ v. (g : Setting) → IsFreeOfInterference g.program
+    → IsAbout g d → Promises g d v)
+    (λ v x g free a. (
+      a,
+      c.verdicts_hold_of_runs.ensures g TURN_TICKS
+          (occurrences d.journal) a.steps a.state d.end v free a.along a.end x,
+    ))
     c.verdict_of.result
     (subst (λ (j : Journal). IfOk c.verdict_of.result (λ v. IsVerdict (occurrences j) d.end v)) c.journal.ensures
-    (subst (λ (e : End). IfOk c.verdict_of.result (λ v. IsVerdict (occurrences c.journal.result.now) e v)) c.end.ensures c.verdict_of.ensures))
+    (subst (λ (e : End). IfOk c.verdict_of.result
+    (λ v. IsVerdict (occurrences c.journal.result.now) e v)) c.end.ensures c.verdict_of.ensures))

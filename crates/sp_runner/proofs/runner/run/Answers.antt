@@ -22,7 +22,10 @@ returns g c =
     c.in_ok-kernel.ensures.setting
     ∙ ap (λ (p : Parts). run_of p c.in_ok-root.root.input.value c.args.limits.now) clone
     ∙ ap (λ (i : _). run_of c.args.code.value i.value c.args.limits.now) c.in_ok-root.ensures.same.1 in
-    if_closed (λ z. EndIs y z.end) (λ z. z.journal.entries ≡ entries_of log) (λ z. y.abandons ≡ 0 → (q : ℕ) × IsOutputOf (system_of y) q z.output)
+    if_closed (λ z. EndIs y z.end) (λ z. z.journal.entries ≡ entries_of log) (λ z. y.abandons ≡ 0 → (q : ℕ)
+    × IsOutputOf (system_of y) q z.output)
     (λ z. IsRun (run_of c.args.code.value c.args.input.value c.args.limits.now) c.args.workers z)
-    (λ z e j o. subst (λ (s : Setting). IsRun s c.args.workers z) same (closed_run c.args.workers x c.in_ok-kernel.ensures.opening log y c.requires.workers.0 c.in_ok-settled.ensures z e j o c.close.ensures.idle))
+    (λ z e j o. subst (λ (s : Setting). IsRun s c.args.workers z) same
+    (closed_run c.args.workers x c.in_ok-kernel.ensures.opening log y c.requires.workers.0 c.in_ok-settled.ensures z
+    e j o c.close.ensures.idle))
     c.close.result c.close.ensures.end c.close.ensures.journal c.close.ensures.output

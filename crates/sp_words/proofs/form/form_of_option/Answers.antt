@@ -4,10 +4,18 @@ use Rattle.sp_words.specs.Dashes.{form_by_value}
 use Rattle.sp_words.proofs.form.form_of_option.Goals as goal
 
 pub returns-then-not-contains : goal.returns-then-not-contains
-returns-then-not-contains c = form_missing (map (λ s. s.now) c.args.options.now) (c.args.name.now, option_map (λ s. s.now) c.args.value) (sym (contains-map c.args.options.now c.args.name.now) ∙ sym c.contains.ensures.value ∙ c.if-not-contains.true)
+returns-then-not-contains c = form_missing (map (λ s. s.now) c.args.options.now)
+    (c.args.name.now, option_map (λ s. s.now) c.args.value) (sym (contains-map c.args.options.now c.args.name.now)
+    ∙ sym c.contains.ensures.value ∙ c.if-not-contains.true)
 
 pub returns-in-Some : goal.returns-in-Some
-returns-in-Some c = form_named (map (λ s. s.now) c.args.options.now) (c.args.name.now, option_map (λ s. s.now) c.args.value) _ (sym (contains-map c.args.options.now c.args.name.now) ∙ sym c.contains.ensures.value ∙ c.if-not-contains.false) (sym (ap (λ (o : _). form_by_value (option_map (λ s. s.now) o)) c.in-Some.is))
+returns-in-Some c = form_named (map (λ s. s.now) c.args.options.now)
+    (c.args.name.now, option_map (λ s. s.now) c.args.value) _ (sym (contains-map c.args.options.now c.args.name.now)
+    ∙ sym c.contains.ensures.value ∙ c.if-not-contains.false)
+    (sym (ap (λ (o : _). form_by_value (option_map (λ s. s.now) o)) c.in-Some.is))
 
 pub returns-in-None : goal.returns-in-None
-returns-in-None c = form_named (map (λ s. s.now) c.args.options.now) (c.args.name.now, option_map (λ s. s.now) c.args.value) _ (sym (contains-map c.args.options.now c.args.name.now) ∙ sym c.contains.ensures.value ∙ c.if-not-contains.false) (sym (ap (λ (o : _). form_by_value (option_map (λ s. s.now) o)) c.in-None.is))
+returns-in-None c = form_named (map (λ s. s.now) c.args.options.now)
+    (c.args.name.now, option_map (λ s. s.now) c.args.value) _ (sym (contains-map c.args.options.now c.args.name.now)
+    ∙ sym c.contains.ensures.value ∙ c.if-not-contains.false)
+    (sym (ap (λ (o : _). form_by_value (option_map (λ s. s.now) o)) c.in-None.is))

@@ -5,5 +5,6 @@ use Rattle.sp_words.proofs.Readings.{number_read}
 use Rattle.sp_words.proofs.given.number.Goals as goal
 
 pub returns-in-Some : goal.returns-in-Some
-returns-in-Some c = c.unwrap_or.ensures ∙ number_read 64 c.in-Some.text.now c.parse.result c.args.default c.parse.ensures.value.0
+returns-in-Some c = c.unwrap_or.ensures
+    ∙ number_read 64 c.in-Some.text.now c.parse.result c.args.default c.parse.ensures.value.0
     ∙ ap (λ (t : Option Text). number_or (2 ^ 64) c.args.default t) c.in-Some.ensures

@@ -9,7 +9,8 @@ pub returns-clause-shape : goal.returns-clause-shape
 returns-clause-shape c =
     let file = app_with_file (codes "gen") in
     top_of (with_rule file (option_rule (codes "workers", Unsigned 1 64))) _
-    (added (λ a. with_rule a (option_rule (codes "workers", Unsigned 1 64))) file _ _ c.with_number.ensures.rule c.plain_command.ensures.app)
+    (added (λ a. with_rule a (option_rule
+    (codes "workers", Unsigned 1 64))) file _ _ c.with_number.ensures.rule c.plain_command.ensures.app)
 
 pub returns-clause-local : goal.returns-clause-local
 returns-clause-local c = c.with_number.ensures.local c.plain_command.ensures.local

@@ -1,7 +1,8 @@
 use Rattle.std.proofs.Common.{codes, [], Ok}
 use Rattle.clap.specs.Words.{App, Shape, with_subcommand}
 use Rattle.clap.specs.declared.builder.value_parser.ValueParser.{ValueParser}
-use Rattle.sp_words.specs.Parsers.{bare_line, gen_parsers, limit_parsers, replay_shape, run_parsers, shape_with, witness_parsers}
+use Rattle.sp_words.specs.Parsers.{bare_line, gen_parsers, limit_parsers, replay_shape, run_parsers, shape_with}
+use Rattle.sp_words.specs.Parsers.{worker_parsers}
 use Rattle.sp_words.proofs.ParserLemmas.{added, added_with, shaped, shaped_with}
 use Rattle.sp_words.proofs.parser.parser.Goals as goal
 
@@ -15,7 +16,8 @@ to_run q = more (shape_with (codes "run") (run_parsers q)) (more (shape_with (co
 
 -- up to `format`
 abbrev to_format : ValueParser → App
-to_format q = more (shape_with (codes "format") []) (more (shape_with (codes "sets") []) (more (shape_with (codes "code") []) (to_run q)))
+to_format q = more (shape_with (codes "format") [])
+    (more (shape_with (codes "sets") []) (more (shape_with (codes "code") []) (to_run q)))
 
 -- up to `gen`
 abbrev to_gen : ValueParser → App
@@ -23,19 +25,34 @@ to_gen q = more (shape_with (codes "gen") gen_parsers) (to_format q)
 
 -- up to `witness`
 abbrev to_witness : ValueParser → App
-to_witness q = more (shape_with (codes "witness") witness_parsers) (more (replay_shape limit_parsers) (to_gen q))
+to_witness q = more (shape_with (codes "witness") worker_parsers) (more (replay_shape limit_parsers) (to_gen q))
 
 pub returns : goal.returns
 returns c =
-    let check = added (more (shape_with (codes "check") [])) bare_line (Ok c.bare_line.result) _ c.with_plain-line.ensures c.bare_line.ensures in
-    let run = shaped_with (more (shape_with (codes "check") []) bare_line) (λ q. shape_with (codes "run") (run_parsers q)) _ _ _ c.with_command-line.ensures c.run_command.ensures.local c.run_command.ensures.shape check in
+    let check = added (more (shape_with (codes "check") [])) bare_line
+    (Ok c.bare_line.result) _ c.with_plain-line.ensures c.bare_line.ensures in
+    let run = shaped_with (more (shape_with (codes "check") []) bare_line)
+    (λ q. shape_with (codes "run") (run_parsers q)) _ _ _ c.with_command-line.ensures c.run_command.ensures.local
+    c.run_command.ensures.shape check in
     let code = added_with (more (shape_with (codes "code") [])) to_run _ _ c.with_plain-line-2.ensures run in
-    let sets = added_with (more (shape_with (codes "sets") [])) (λ q. more (shape_with (codes "code") []) (to_run q)) _ _ c.with_plain-line-3.ensures code in
-    let format = added_with (more (shape_with (codes "format") [])) (λ q. more (shape_with (codes "sets") []) (more (shape_with (codes "code") []) (to_run q))) _ _ c.with_plain-line-4.ensures sets in
-    let gen = added_with (more (shape_with (codes "gen") gen_parsers)) to_format _ _ (shaped (shape_with (codes "gen") gen_parsers) _ _ _ c.with_command-line-2.ensures c.gen_command.ensures.local c.gen_command.ensures.shape) format in
+    let sets = added_with (more (shape_with (codes "sets") []))
+    (λ q. more (shape_with (codes "code") []) (to_run q)) _ _ c.with_plain-line-3.ensures code in
+    let format = added_with (more (shape_with (codes "format") []))
+    (λ q. more (shape_with (codes "sets") [])
+    (more (shape_with (codes "code") []) (to_run q))) _ _ c.with_plain-line-4.ensures sets in
+    let gen = added_with (more (shape_with (codes "gen") gen_parsers)) to_format _ _
+    (shaped (shape_with (codes "gen") gen_parsers) _ _ _ c.with_command-line-2.ensures c.gen_command.ensures.local
+    c.gen_command.ensures.shape) format in
     let replay = added_with (more (replay_shape limit_parsers)) to_gen _ _
-    (shaped (replay_shape limit_parsers) _ _ _ c.with_command-line-3.ensures c.replay_command.ensures.local c.replay_command.ensures.shape) gen in
-    let witness = added_with (more (shape_with (codes "witness") witness_parsers)) (λ q. more (replay_shape limit_parsers) (to_gen q)) _ _
-    (shaped (shape_with (codes "witness") witness_parsers) _ _ _ c.with_command-line-4.ensures c.witness_command.ensures.local
-    c.witness_command.ensures.shape) replay in
-    added_with (more (shape_with (codes "build") [])) to_witness _ _ c.with_plain.ensures witness
+    (shaped (replay_shape limit_parsers) _ _ _ c.with_command-line-3.ensures c.replay_command.ensures.local
+    c.replay_command.ensures.shape) gen in
+    let witness = added_with (more (shape_with (codes "witness") worker_parsers))
+    (λ q. more (replay_shape limit_parsers) (to_gen q)) _ _
+    (shaped (shape_with (codes "witness") worker_parsers) _ _ _ c.with_command-line-4.ensures
+    c.worker_command.ensures.local
+    c.worker_command.ensures.shape) replay in
+    let build = added_with (more (shape_with (codes "build") [])) to_witness _ _ c.with_plain-line-5.ensures witness in
+    added_with (more (shape_with (codes "exec") worker_parsers))
+    (λ q. more (shape_with (codes "build") []) (to_witness q)) _ _
+    (shaped (shape_with (codes "exec") worker_parsers) _ _ _ c.with_command.ensures c.worker_command-2.ensures.local
+    c.worker_command-2.ensures.shape) build

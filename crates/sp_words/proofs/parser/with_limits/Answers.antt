@@ -22,7 +22,13 @@ returns-clause-rules c =
     (in_turn (number (codes "channels") 1000000) (first 4) _ _ _ c.with_number-command-5.ensures.rule
     (in_turn (number (codes "processes") 1000000) (first 3) _ _ _ c.with_number-command-4.ensures.rule
     (in_turn (number (codes "cells") 67108864) (first 2) _ _ _ c.with_number-command-3.ensures.rule
-    (in_turn (number (codes "depth") 10000) (first 1) _ _ _ c.with_number-command-2.ensures.rule c.with_number-command.ensures.rule)))))
+    (in_turn (number (codes "depth") 10000)
+    (first 1) _ _ _ c.with_number-command-2.ensures.rule c.with_number-command.ensures.rule)))))
 
 pub returns-clause-local : goal.returns-clause-local
-returns-clause-local c = λ l. c.with_number.ensures.local (c.with_number-command-6.ensures.local (c.with_number-command-5.ensures.local (c.with_number-command-4.ensures.local (c.with_number-command-3.ensures.local (c.with_number-command-2.ensures.local (c.with_number-command.ensures.local l))))))
+returns-clause-local c = λ l. c.with_number.ensures.local
+    (c.with_number-command-6.ensures.local
+    (c.with_number-command-5.ensures.local
+    (c.with_number-command-4.ensures.local
+    (c.with_number-command-3.ensures.local
+    (c.with_number-command-2.ensures.local (c.with_number-command.ensures.local l))))))

@@ -4,11 +4,11 @@ use Rattle.clap.specs.Words.{with_rule}
 use Rattle.clap.specs.declared.builder.value_parser.ValueParser.TheVariants.{Unsigned}
 use Rattle.sp_words.specs.Parsers.{app_with_file, limit_parsers, option_rule}
 use Rattle.sp_words.proofs.ParserLemmas.{added, top_of}
-use Rattle.sp_words.proofs.parser.witness_command.Goals as goal
+use Rattle.sp_words.proofs.parser.worker_command.Goals as goal
 
 pub returns-clause-shape : goal.returns-clause-shape
 returns-clause-shape c =
-    let file = app_with_file (codes "witness") in
+    let file = app_with_file c.args.name.now in
     let workers = with_rule file (option_rule (codes "workers", Unsigned 1 64)) in
     let known = added (λ a. with_rule a (option_rule (codes "workers", Unsigned 1 64))) file _ _
     c.with_number-command.ensures.rule c.plain_command.ensures.app in

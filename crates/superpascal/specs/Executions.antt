@@ -1,0 +1,39 @@
+-- A code file that is run, and what is told of it. The contracts of `executions` and `notes` promise it; the clauses on
+-- `exec` are said by it.
+use Rattle.std.specs.Prelude.{ℕ, List, Some, None}
+use Rattle.sp_base.specs.declared.limits.Limits.{Limits}
+use Rattle.sp_code.specs.declared.code.Parts.{Parts}
+use Rattle.sp_execute.specs.Machines.{RunsCode}
+use Rattle.sp_execute.specs.Runs.{IsAbout, setting}
+use Rattle.sp_kernel.specs.declared.closed.Closed.{Closed}
+use Rattle.sp_print.specs.Lines.{end_text}
+use Rattle.sp_tree.specs.Bare.{bare}
+use Rattle.sp_tree.specs.PlainChecked as c
+use Rattle.superpascal.specs.declared.ending.Answer.{Answer}
+use Rattle.superpascal.specs.Runs.{HasTree, ending_of}
+use Rattle.superpascal.specs.Texts.{IsCodeFile, IsFileOf}
+
+-- the program of this text, on the input with the limits, means that end and that output along the journal
+pub record IsMeantBy (text input : List ℕ) (limits : Limits) (r : Closed) : Type 0 where
+  pub tree : c.Program
+  pub has : HasTree text tree
+  pub about : IsAbout (setting (bare tree) input limits) r
+
+-- An execution of the code file of these bytes on the input with the limits, by so many workers: the machine with the
+-- code comes to that end, with that output, along the journal. Where the bytes are what `build` writes for a text, so
+-- does its program.
+pub record IsExecutionOf (bytes input : List ℕ) (workers : ℕ) (limits : Limits) (r : Closed) : Type 0 where
+  pub code : Parts
+  pub file : IsFileOf code bytes
+  pub runs : RunsCode code input limits workers r
+  pub meant : (text : List ℕ) → IsCodeFile text bytes → IsMeantBy text input limits r
+
+-- the answer of `exec` with this run: its output, and the lines of its end
+abbrev pub execution_answer : Closed → Answer
+execution_answer r = record {
+  ending = ending_of r.end;
+  ran = None;
+  executed = Some r;
+  output = None;
+  notes = end_text r.end;
+}
