@@ -36,11 +36,7 @@ fn refusal_behind(alloc: Global, rule: &str, text: &str) -> String {
 
 // The pipeline with a mark behind each token but the last.
 const MARKED: &str =
-    "program~ pipe~;~\ntype~ chan~ =~ *~(~integer~)~;~ net~ =~ array~ [~0~..~3~]~ of~ chan~;~\nvar~ c~:~ net~;~ r~:~
-        integer~;~\nprocedure~ node~(~a~,~ b~:~ chan~)~;~\nvar~ x~:~ integer~;~\nbegin~ receive~(~a~,~ x~)~;~
-        send~(~b~,~ x~ +~ 1~)~ end~;~\nbegin~\n  open~(~c~[~0~]~,~ c~[~1~]~,~ c~[~2~]~,~ c~[~3~]~)~;~\n  parallel~
-        send~(~c~[~0~]~,~ 10~)~\n  |~ forall~ i~ :=~ 1~ to~ 3~ do~ node~(~c~[~i~-~1~]~,~ c~[~i~]~)~\n  |~
-        receive~(~c~[~3~]~,~ r~)~\n  end~;~\n  write~(~r~)~\nend~.";
+    "program~ pipe~;~\ntype~ chan~ =~ *~(~integer~)~;~ net~ =~ array~ [~0~..~3~]~ of~ chan~;~\nvar~ c~:~ net~;~ r~:~ integer~;~\nprocedure~ node~(~a~,~ b~:~ chan~)~;~\nvar~ x~:~ integer~;~\nbegin~ receive~(~a~,~ x~)~;~ send~(~b~,~ x~ +~ 1~)~ end~;~\nbegin~\n  open~(~c~[~0~]~,~ c~[~1~]~,~ c~[~2~]~,~ c~[~3~]~)~;~\n  parallel~ send~(~c~[~0~]~,~ 10~)~\n  |~ forall~ i~ :=~ 1~ to~ 3~ do~ node~(~c~[~i~-~1~]~,~ c~[~i~]~)~\n  |~ receive~(~c~[~3~]~,~ r~)~\n  end~;~\n  write~(~r~)~\nend~.";
 
 // Asserts that this first part of a text is refused at its end.
 fn expect_cut<R: Threads + Wait + Sync + Abort>(rt: &R, alloc: Global, text: &str) {

@@ -13,8 +13,7 @@ const EXEC: [&str; 2] = ["exec", "a.sp"];
 
 // The code file of the answer.
 const ANSWER_CODE: &str =
-    "superpascal code 1\nlayout 0 0 - none sizes 1 variables 2 formals\n0 addr 0 2\n1 const 6\n2 store\n3 addr 0 2\n4
-        load\n5 const 7\n6 mul\n7 write int\n8 end\n";
+    "superpascal code 1\nlayout 0 0 - none sizes 1 variables 2 formals\n0 addr 0 2\n1 const 6\n2 store\n3 addr 0 2\n4 load\n5 const 7\n6 mul\n7 write int\n8 end\n";
 
 // A code file, and the output and the notes of its run.
 const RUN: [(&str, &str, &str); 1] = [(ANSWER_CODE, "42", "done\n")];
@@ -22,20 +21,17 @@ const RUN: [(&str, &str, &str); 1] = [(ANSWER_CODE, "42", "done\n")];
 // Code files that are not run, and the notes.
 const REJECTED: [(&str, &str, &str); 7] = [
     (
-        "superpascal code 1\nlayout 0 0 - none sizes 1 variables 2 formals\n0 addr 0 3\n1 const 6\n2 store\n3 addr 0
-            2\n4 load\n5 const 7\n6 mul\n7 write int\n8 end\n",
+        "superpascal code 1\nlayout 0 0 - none sizes 1 variables 2 formals\n0 addr 0 3\n1 const 6\n2 store\n3 addr 0 2\n4 load\n5 const 7\n6 mul\n7 write int\n8 end\n",
         "",
         "rejected V1 0\n",
     ),
     (
-        "superpascal code 1\nlayout 0 0 - none sizes 1 variables 2 formals\n0 addr 0 2\n1 neg\n2 store\n3 addr 0 2\n4
-            load\n5 const 7\n6 mul\n7 write int\n8 end\n",
+        "superpascal code 1\nlayout 0 0 - none sizes 1 variables 2 formals\n0 addr 0 2\n1 neg\n2 store\n3 addr 0 2\n4 load\n5 const 7\n6 mul\n7 write int\n8 end\n",
         "",
         "rejected V2 1\n",
     ),
     (
-        "layout 0 0 - none sizes 1 variables 2 formals\n0 addr 0 2\n1 const 6\n2 store\n3 addr 0 2\n4 load\n5 const 7\n6
-            mul\n7 write int\n8 end\n",
+        "layout 0 0 - none sizes 1 variables 2 formals\n0 addr 0 2\n1 const 6\n2 store\n3 addr 0 2\n4 load\n5 const 7\n6 mul\n7 write int\n8 end\n",
         "",
         "bad code 1\n",
     ),
@@ -89,18 +85,15 @@ fn a_code_file_that_is_too_long(rt: HostRuntime) {
 const TEXTS: [(&str, &str); 7] = [
     (ANSWER, ""),
     (
-        "program b; var x, y: integer; function f(n: integer): integer; begin f := n + 1 end;
-            begin parallel x := f(1) | y := 2 end; write('ab', x, y) end.",
+        "program b; var x, y: integer; function f(n: integer): integer; begin f := n + 1 end; begin parallel x := f(1) | y := 2 end; write('ab', x, y) end.",
         "",
     ),
     (
-        "program p; type ch = *(integer); var c: ch; x: integer; begin open(c); parallel send(c, 4) | receive(c, x) end;
-            write(x) end.",
+        "program p; type ch = *(integer); var c: ch; x: integer; begin open(c); parallel send(c, 4) | receive(c, x) end; write(x) end.",
         "",
     ),
     (
-        "program a; const n = 3; type row = array [1..n] of integer; var r: row; i: integer;
-            begin for i := 1 to n do r[i] := i * i; for i := n downto 1 do write(r[i]:3) end.",
+        "program a; const n = 3; type row = array [1..n] of integer; var r: row; i: integer; begin for i := 1 to n do r[i] := i * i; for i := n downto 1 do write(r[i]:3) end.",
         "",
     ),
     (

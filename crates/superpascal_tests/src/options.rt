@@ -75,8 +75,7 @@ fn words_that_are_refused_or_read(rt: HostRuntime) {
 }
 
 const ARMS: &str =
-    "program f; var a, b: integer; procedure p(var u, v: integer); begin parallel u := 1 | v := 2 end end;
-        begin p(a, b); write(a, b) end.";
+    "program f; var a, b: integer; procedure p(var u, v: integer); begin parallel u := 1 | v := 2 end end; begin p(a, b); write(a, b) end.";
 
 const STUCK: &str =
     "program r; type ch = *(integer); var c: ch; x: integer; begin open(c); receive(c, x) end.";
@@ -86,8 +85,7 @@ const REPORTS: [Asked; 3] = [
         words: &["run", "--workers", "1", "--show", "all", "a.sp"],
         text: ARMS,
         output: "12",
-        notes: "done\nordered\ntimeline\n0 0 fork 2\n1 0/0.0 end\n2 0/0.1 end\n3 0 end\ncensus\nforks 1\nopens 0\nsends
-            0\nreceives 0\nends 3\nfaults 0\nlaid 0\ntree\n0\n  0.0\n  0.1\nwaiting\n",
+        notes: "done\nordered\ntimeline\n0 0 fork 2\n1 0/0.0 end\n2 0/0.1 end\n3 0 end\ncensus\nforks 1\nopens 0\nsends 0\nreceives 0\nends 3\nfaults 0\nlaid 0\ntree\n0\n  0.0\n  0.1\nwaiting\n",
     },
     Asked {
         words: &["run", "--workers", "1", "--show", "census", "a.sp"],
@@ -111,8 +109,8 @@ fn reports(rt: HostRuntime) {
 #[test]
 fn what_waits_in_a_deadlock(rt: HostRuntime) {
     let words = ["run", "--workers", "1", "--show", "waiting", "a.sp"];
-    let text = "program r; type ch = *(integer); var c: ch; x: integer; begin open(c);
-            parallel receive(c, x) | begin end end end.";
+    let text =
+        "program r; type ch = *(integer); var c: ch; x: integer; begin open(c); parallel receive(c, x) | begin end end end.";
     let notes =
         "deadlock\nwaits 0/0.0 receive 0#0\nordered\nwaiting\n0 join 0/0.0\n0/0.0 receive 0#0\n";
     expect(&rt, rt.alloc(), &words, text, 4, "", notes);
@@ -122,11 +120,9 @@ fn what_waits_in_a_deadlock(rt: HostRuntime) {
 const JOURNALS: [(&str, &str, &str); 7] = [
     (ANSWER, "42", "superpascal journal 2\n0 end\n"),
     (
-        "program r; type ch = *(integer); var c: ch; x, y: integer; begin open(c); parallel begin receive(c, x);
-            receive(c, y) end | send(c, 1) | send(c, 2) end; write(x, y) end.",
+        "program r; type ch = *(integer); var c: ch; x, y: integer; begin open(c); parallel begin receive(c, x); receive(c, y) end | send(c, 1) | send(c, 2) end; write(x, y) end.",
         "12",
-        "superpascal journal 2\n0 open\n0 fork 3\n0/0.0 receive 0#0\n0/0.1 send 0#0\n0/0.2 send 0#0\n0/0.0 receive
-            0#0\n0/0.1 end\n0/0.2 end\n0/0.0 end\n0 end\n",
+        "superpascal journal 2\n0 open\n0 fork 3\n0/0.0 receive 0#0\n0/0.1 send 0#0\n0/0.2 send 0#0\n0/0.0 receive 0#0\n0/0.1 end\n0/0.2 end\n0/0.0 end\n0 end\n",
     ),
     (
         "program m; procedure node(i: integer); begin end; begin forall i := 1 to 0 do node(i) end.",
@@ -134,9 +130,7 @@ const JOURNALS: [(&str, &str, &str); 7] = [
         "superpascal journal 2\n0 end\n",
     ),
     (
-        "program f; type t = array [1..2] of integer; var a: t; b: integer; procedure p(var u, v: integer);
-            begin parallel u := 1 | parallel v := 2 | begin end end end end; begin a[2] := 5; p(a[1], b);
-            write(a[1], a[2], b) end.",
+        "program f; type t = array [1..2] of integer; var a: t; b: integer; procedure p(var u, v: integer); begin parallel u := 1 | parallel v := 2 | begin end end end end; begin a[2] := 5; p(a[1], b); write(a[1], a[2], b) end.",
         "152",
         "superpascal journal 2\n0 fork 2\n0/0.0 end\n0/0.1 fork 2\n0/0.1/0.0 end\n0/0.1/0.1 end\n0/0.1 end\n0 end\n",
     ),
@@ -161,14 +155,12 @@ const WITH_JOURNAL: [&str; 6] = ["run", "--workers", "1", "--show", "journal", "
 
 const FAULTS: [(&str, &str, &str); 2] = [
     (
-        "program r; type ch = *(integer); var c: ch; x: integer; begin open(c);
-            parallel send(c, 1) | send(c, 2) | receive(c, x) end end.",
+        "program r; type ch = *(integer); var c: ch; x: integer; begin open(c); parallel send(c, 1) | send(c, 2) | receive(c, x) end end.",
         "",
         "superpascal journal 2\n0 open\n0 fork 3\n0/0.0 send 0#0\n0/0.1 fault F6\n",
     ),
     (
-        "program t; var i: integer; begin parallel begin write(1); for i := 1 to 100000 do begin end;
-            write(2) end | assume false end end.",
+        "program t; var i: integer; begin parallel begin write(1); for i := 1 to 100000 do begin end; write(2) end | assume false end end.",
         "1",
         "superpascal journal 2\n0 fork 2\n0/0.0 pause\n0/0.1 fault F8\n",
     ),
@@ -200,8 +192,7 @@ struct Limit<'a> {
 }
 
 const FACTORIAL: &str =
-    "program q; function f(n: integer): integer; begin if n = 0 then f := 1 else f := n * f(n - 1) end;
-        begin write(f(5)) end.";
+    "program q; function f(n: integer): integer; begin if n = 0 then f := 1 else f := n * f(n - 1) end; begin write(f(5)) end.";
 
 const LIMITS: [Limit; 15] = [
     Limit {

@@ -95,8 +95,7 @@ const INTERFERING: [(&str, &str); 6] = [
         "refused I2 1:34\n",
     ),
     (
-        "program f; var a, b: integer; procedure p(var u, v: integer); begin parallel u := 1 | v := 2 end end;
-            begin p(a, a); write(a, b) end.",
+        "program f; var a, b: integer; procedure p(var u, v: integer); begin parallel u := 1 | v := 2 end end; begin p(a, a); write(a, b) end.",
         "refused I4 1:114\n",
     ),
     (

@@ -12,12 +12,11 @@ const REPLAY: [&str; 3] = ["replay", "a.sp", "j"];
 
 // Two senders on one channel.
 const RACE: &str =
-    "program r; type ch = *(integer); var c: ch; x, y: integer; begin open(c); parallel begin receive(c, x);
-        receive(c, y) end | send(c, 1) | send(c, 2) end; write(x, y) end.";
+    "program r; type ch = *(integer); var c: ch; x, y: integer; begin open(c); parallel begin receive(c, x); receive(c, y) end | send(c, 1) | send(c, 2) end; write(x, y) end.";
 
 // Two senders of which one receiver takes one message.
-const CLASH: &str = "program r; type ch = *(integer); var c: ch; x: integer; begin open(c);
-        parallel send(c, 1) | send(c, 2) | receive(c, x) end end.";
+const CLASH: &str =
+    "program r; type ch = *(integer); var c: ch; x: integer; begin open(c); parallel send(c, 1) | send(c, 2) | receive(c, x) end end.";
 
 // Nothing is sent.
 const STUCK: &str =
@@ -90,15 +89,13 @@ fn expect_lines<R: Threads + Wait + Sync + Abort>(rt: &R, alloc: Global, text: &
 
 const RACES: [Row; 5] = [
     Row {
-        journal: "0 open\n0 fork 3\n0/0.0 receive 0#0\n0/0.1 send 0#0\n0/0.2 send 0#0\n0/0.0 receive 0#0\n0/0.1
-            end\n0/0.2 end\n0/0.0 end\n0 end\n",
+        journal: "0 open\n0 fork 3\n0/0.0 receive 0#0\n0/0.1 send 0#0\n0/0.2 send 0#0\n0/0.0 receive 0#0\n0/0.1 end\n0/0.2 end\n0/0.0 end\n0 end\n",
         status: 0,
         output: "12",
         notes: "replayed\ndone\n",
     },
     Row {
-        journal: "0 open\n0 fork 3\n0/0.0 receive 0#0\n0/0.2 send 0#0\n0/0.1 send 0#0\n0/0.0 receive 0#0\n0/0.1
-            end\n0/0.2 end\n0/0.0 end\n0 end\n",
+        journal: "0 open\n0 fork 3\n0/0.0 receive 0#0\n0/0.2 send 0#0\n0/0.1 send 0#0\n0/0.0 receive 0#0\n0/0.1 end\n0/0.2 end\n0/0.0 end\n0 end\n",
         status: 0,
         output: "21",
         notes: "replayed\ndone\n",
@@ -110,8 +107,7 @@ const RACES: [Row; 5] = [
         notes: "replayed\nno end\n",
     },
     Row {
-        journal: "0 open\n0 fork 3\n0/0.1 send 0#0\n0/0.2 send 0#0\n0/0.0 receive 0#0\n0/0.1 end\n0/0.2 end\n0/0.0
-            end\n0 end\n",
+        journal: "0 open\n0 fork 3\n0/0.1 send 0#0\n0/0.2 send 0#0\n0/0.0 receive 0#0\n0/0.1 end\n0/0.2 end\n0/0.0 end\n0 end\n",
         status: 9,
         output: "",
         notes: "journal unfit 3\n",

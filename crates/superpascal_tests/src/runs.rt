@@ -22,8 +22,7 @@ const LOCAL: [(&str, &str, &str); 12] = [
         ORDERED,
     ),
     (
-        "program s; type p = record x, y: integer end; t = array [1..3] of p; var a: t; i, u: integer; begin u := 0;
-            for i := 1 to 3 do begin a[i].x := i; a[i].y := i * i; u := u + a[i].x * a[i].y end; write(u) end.",
+        "program s; type p = record x, y: integer end; t = array [1..3] of p; var a: t; i, u: integer; begin u := 0; for i := 1 to 3 do begin a[i].x := i; a[i].y := i * i; u := u + a[i].x * a[i].y end; write(u) end.",
         "36",
         ORDERED,
     ),
@@ -62,27 +61,22 @@ const LOCAL: [(&str, &str, &str); 12] = [
 // Functions, and variable parameters in processes.
 const CALLS: [(&str, &str, &str); 4] = [
     (
-        "program q; function f(n: integer): integer; begin if n = 0 then f := 1 else f := n * f(n - 1) end;
-            begin write(f(5)) end.",
+        "program q; function f(n: integer): integer; begin if n = 0 then f := 1 else f := n * f(n - 1) end; begin write(f(5)) end.",
         "120",
         ORDERED,
     ),
     (
-        "program q; function f(n: integer): integer; begin if n = 0 then f := 1 else f := n * f(n - 1) end;
-            begin write(f(13)) end.",
+        "program q; function f(n: integer): integer; begin if n = 0 then f := 1 else f := n * f(n - 1) end; begin write(f(13)) end.",
         "6227020800",
         ORDERED,
     ),
     (
-        "program f; var a, b: integer; procedure p(var u, v: integer); begin parallel u := 1 | v := 2 end end;
-            begin p(a, b); write(a, b) end.",
+        "program f; var a, b: integer; procedure p(var u, v: integer); begin parallel u := 1 | v := 2 end end; begin p(a, b); write(a, b) end.",
         "12",
         ORDERED,
     ),
     (
-        "program f; type t = array [1..2] of integer; var a: t; b: integer; procedure p(var u, v: integer);
-            begin parallel u := 1 | parallel v := 2 | begin end end end end; begin a[2] := 5; p(a[1], b);
-            write(a[1], a[2], b) end.",
+        "program f; type t = array [1..2] of integer; var a: t; b: integer; procedure p(var u, v: integer); begin parallel u := 1 | parallel v := 2 | begin end end end end; begin a[2] := 5; p(a[1], b); write(a[1], a[2], b) end.",
         "152",
         ORDERED,
     ),
@@ -91,20 +85,17 @@ const CALLS: [(&str, &str, &str); 4] = [
 // Runs that are done, raced or ordered.
 const PROCESSES: [(&str, &str, &str); 6] = [
     (
-        "program r; type ch = *(integer); var c: ch; x, y: integer; begin open(c); parallel begin receive(c, x);
-            receive(c, y) end | send(c, 1) | send(c, 2) end; write(x, y) end.",
+        "program r; type ch = *(integer); var c: ch; x, y: integer; begin open(c); parallel begin receive(c, x); receive(c, y) end | send(c, 1) | send(c, 2) end; write(x, y) end.",
         "12",
         "done\nrace send 0#0 3 4\n",
     ),
     (
-        "program r; type ch = *(integer); var c: ch; x, y: integer; begin open(c); parallel begin send(c, 1);
-            send(c, 2) end | receive(c, x) | receive(c, y) end end.",
+        "program r; type ch = *(integer); var c: ch; x, y: integer; begin open(c); parallel begin send(c, 1); send(c, 2) end | receive(c, x) | receive(c, y) end end.",
         "",
         "done\nrace receive 0#0 3 4\n",
     ),
     (
-        "program k; type ch = *(integer); var c: ch; x, y: integer; begin open(c);
-            parallel send(c, 1) | receive(c, x) end; parallel send(c, 2) | receive(c, y) end; write(x, y) end.",
+        "program k; type ch = *(integer); var c: ch; x, y: integer; begin open(c); parallel send(c, 1) | receive(c, x) end; parallel send(c, 2) | receive(c, y) end; write(x, y) end.",
         "12",
         ORDERED,
     ),
@@ -114,14 +105,12 @@ const PROCESSES: [(&str, &str, &str); 6] = [
         ORDERED,
     ),
     (
-        "program z; type ch = *(integer); var c, d: ch; x, y: integer; begin open(c, d);
-            parallel send(c, 1) | begin receive(c, x); send(d, x) end | receive(d, y) end; write(y) end.",
+        "program z; type ch = *(integer); var c, d: ch; x, y: integer; begin open(c, d); parallel send(c, 1) | begin receive(c, x); send(d, x) end | receive(d, y) end; write(y) end.",
         "1",
         ORDERED,
     ),
     (
-        "program k; type ch = *(integer); var c: ch; x, y: integer; begin open(c); parallel send(c, 1) | receive(c, x);
-            parallel send(c, 2) | receive(c, y) end end; write(x, y) end.",
+        "program k; type ch = *(integer); var c: ch; x, y: integer; begin open(c); parallel send(c, 1) | receive(c, x); parallel send(c, 2) | receive(c, y) end end; write(x, y) end.",
         "12",
         ORDERED,
     ),
@@ -204,20 +193,17 @@ const FAULTS: [(&str, &str, &str); 16] = [
         "fault F5 0\nunjudged\n",
     ),
     (
-        "program r; type ch = *(integer); var c: ch; x: integer; begin open(c);
-            parallel send(c, 1) | send(c, 2) | receive(c, x) end end.",
+        "program r; type ch = *(integer); var c: ch; x: integer; begin open(c); parallel send(c, 1) | send(c, 2) | receive(c, x) end end.",
         "",
         "fault F6 0/0.1\nunjudged\n",
     ),
     (
-        "program k; type ch = *(integer, boolean); var c: ch; x: boolean; begin open(c);
-            parallel send(c, 1) | receive(c, x) end end.",
+        "program k; type ch = *(integer, boolean); var c: ch; x: boolean; begin open(c); parallel send(c, 1) | receive(c, x) end end.",
         "",
         "fault F7 0/0.1\nunjudged\n",
     ),
     (
-        "program t; var i: integer; begin parallel begin write(1); for i := 1 to 100000 do begin end;
-            write(2) end | assume false end end.",
+        "program t; var i: integer; begin parallel begin write(1); for i := 1 to 100000 do begin end; write(2) end | assume false end end.",
         "1",
         "fault F8 0/0.1\nunjudged\n",
     ),

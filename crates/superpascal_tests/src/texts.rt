@@ -42,10 +42,8 @@ const SETS: [(&str, &str, &str); 6] = [
     ),
     // the input and the output first; an inner statement before the program's own
     (
-        "program p; var y, x: integer; procedure q; begin parallel read(x) end end;\nbegin parallel begin write(y);
-            q end end end.",
-        "implicit q targets input x expressions\nparallel 1:50 0 targets input x expressions\nparallel 2:7 0 targets
-            input output x expressions y\n",
+        "program p; var y, x: integer; procedure q; begin parallel read(x) end end;\nbegin parallel begin write(y); q end end end.",
+        "implicit q targets input x expressions\nparallel 1:50 0 targets input x expressions\nparallel 2:7 0 targets input output x expressions y\n",
         "",
     ),
     ("program g; begin end.", "", ""),

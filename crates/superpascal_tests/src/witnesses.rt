@@ -9,29 +9,23 @@ use std::thread::Threads;
 
 // Two senders on one channel.
 const SENDERS: &str =
-    "program r; type ch = *(integer); var c: ch; x, y: integer; begin open(c); parallel begin receive(c, x);
-        receive(c, y) end | send(c, 1) | send(c, 2) end; write(x, y) end.";
+    "program r; type ch = *(integer); var c: ch; x, y: integer; begin open(c); parallel begin receive(c, x); receive(c, y) end | send(c, 1) | send(c, 2) end; write(x, y) end.";
 
 // Two receivers on one channel.
 const RECEIVERS: &str =
-    "program r; type ch = *(integer); var c: ch; x, y: integer; begin open(c); parallel begin send(c, 1);
-        send(c, 2) end | receive(c, x) | receive(c, y) end end.";
+    "program r; type ch = *(integer); var c: ch; x, y: integer; begin open(c); parallel begin send(c, 1); send(c, 2) end | receive(c, x) | receive(c, y) end end.";
 
 // One of the senders is the child of a process that forked again.
 const NESTED: &str =
-    "program r; type ch = *(integer); var c: ch; x, y: integer; begin open(c); parallel begin receive(c, x);
-        receive(c, y) end | parallel send(c, 1) | begin end end | send(c, 2) end end.";
+    "program r; type ch = *(integer); var c: ch; x, y: integer; begin open(c); parallel begin receive(c, x); receive(c, y) end | parallel send(c, 1) | begin end end | send(c, 2) end end.";
 
 // Both senders pause twice before they offer.
 const PAUSING: &str =
-    "program r; type ch = *(integer); var c: ch; x, y, i, j: integer; begin open(c); parallel begin receive(c, x);
-        receive(c, y) end | begin for i := 1 to 250000 do begin end;
-        send(c, 1) end | begin for j := 1 to 250000 do begin end; send(c, 2) end end end.";
+    "program r; type ch = *(integer); var c: ch; x, y, i, j: integer; begin open(c); parallel begin receive(c, x); receive(c, y) end | begin for i := 1 to 250000 do begin end; send(c, 1) end | begin for j := 1 to 250000 do begin end; send(c, 2) end end end.";
 
 // The receiver waits for a third message in vain.
 const STUCK: &str =
-    "program r; type ch = *(integer); var c: ch; x, y: integer; begin open(c); parallel begin receive(c, x);
-        receive(c, y); receive(c, x) end | send(c, 1) | send(c, 2) end end.";
+    "program r; type ch = *(integer); var c: ch; x, y: integer; begin open(c); parallel begin receive(c, x); receive(c, y); receive(c, x) end | send(c, 1) | send(c, 2) end end.";
 
 const WITNESS: [&str; 4] = ["witness", "--workers", "1", "a.sp"];
 
@@ -54,8 +48,7 @@ const DONE: [(&str, &str, &str); 5] = [
     ),
     (
         PAUSING,
-        "superpascal journal 2\n0 open\n0 fork 3\n0/0.1 pause\n0/0.2 pause\n0/0.1 pause\n0/0.2 pause\n0/0.1 send
-            0#0\n0/0.2 fault F6\n",
+        "superpascal journal 2\n0 open\n0 fork 3\n0/0.1 pause\n0/0.2 pause\n0/0.1 pause\n0/0.2 pause\n0/0.1 send 0#0\n0/0.2 fault F6\n",
         "done\nrace send 0#0 7 8\n",
     ),
     (PIPE, "", "done\nordered\n"),
@@ -100,8 +93,7 @@ fn expect_contention<R: Threads + Wait + Sync + Abort>(
     expect_given(rt, given, 3, false, "", notes, text);
 }
 
-// The witness of a race is followed to its fault. Where the two offers contended in the run itself, there is no
-// verdict.
+// The witness of a race is followed to its fault. Where the two offers contended in the run itself, there is no verdict.
 fn expect_followed<R: Threads + Wait + Sync + Abort>(
     rt: &R,
     alloc: Global,

@@ -10,18 +10,11 @@ use std::thread::Threads;
 
 /// A pipeline of three processes.
 pub const PIPE: &str =
-    "program pipe;\ntype chan = *(integer); net = array [0..3] of chan;\nvar c: net;
-        r: integer;\nprocedure node(a, b: chan);\nvar x: integer;\nbegin receive(a, x);
-        send(b, x + 1) end;\nbegin\n  open(c[0], c[1], c[2], c[3]);\n  parallel send(c[0],
-        10)\n  | forall i := 1 to 3 do node(c[i-1], c[i])\n  | receive(c[3], r)\n  end;\n  write(r)\nend.";
+    "program pipe;\ntype chan = *(integer); net = array [0..3] of chan;\nvar c: net; r: integer;\nprocedure node(a, b: chan);\nvar x: integer;\nbegin receive(a, x); send(b, x + 1) end;\nbegin\n  open(c[0], c[1], c[2], c[3]);\n  parallel send(c[0], 10)\n  | forall i := 1 to 3 do node(c[i-1], c[i])\n  | receive(c[3], r)\n  end;\n  write(r)\nend.";
 
 /// A tree of processes.
 pub const TREE: &str =
-    "program tree;\ntype chan = *(integer);\nvar c: chan; r: integer;\nprocedure node(d: integer; up: chan);\nvar a,
-        b: chan; x, y: integer;\nbegin\n  if d = 0 then send(up, 1)\n  else begin\n    open(a,
-        b);\n    parallel node(d - 1, a) | node(d - 1, b)\n    | receive(a, x); receive(b, y);
-        send(up, x + y)\n    end\n  end\nend;\nbegin\n  open(c);\n  parallel node(4, c) | receive(c,
-        r) end;\n  write(r)\nend.";
+    "program tree;\ntype chan = *(integer);\nvar c: chan; r: integer;\nprocedure node(d: integer; up: chan);\nvar a, b: chan; x, y: integer;\nbegin\n  if d = 0 then send(up, 1)\n  else begin\n    open(a, b);\n    parallel node(d - 1, a) | node(d - 1, b)\n    | receive(a, x); receive(b, y); send(up, x + y)\n    end\n  end\nend;\nbegin\n  open(c);\n  parallel node(4, c) | receive(c, r) end;\n  write(r)\nend.";
 
 #[test]
 fn any_number_of_workers(rt: HostRuntime) {
@@ -118,8 +111,7 @@ fn expect_meeting<R: Threads + Wait + Sync + Abort>(
     assert_eq!(rt; found, missed);
 }
 
-// The one worker takes process 1 first, and enters with it before it takes process 2; two workers are in a turn at
-// once.
+// The one worker takes process 1 first, and enters with it before it takes process 2; two workers are in a turn at once.
 #[test]
 fn turns_at_once(rt: HostRuntime) {
     expect_meeting(&rt, rt.alloc(), "1", 1000, 1);
