@@ -159,9 +159,6 @@ module _ (Just : Grown → Type 0) where
           let x = h.same refl in let y = k.same refl in
           (y.0 ∙ x.0, (subst P (sym y.0) x.1, y.1))
 
-  pub items_none : (g : Grown) (P : ℕ → Grown → Type 0) → Just g → Steps Just g g (EachItem P 0) false
-  items_none g P j = steps_none g (EachItem P 0) j (λ k l. absurd (omega (arith, l)))
-
   pub items_more : (P : ℕ → Grown → Type 0) (a b d : Grown) (k : ℕ) (s t : Bool) → Steps Just a b (EachItem P k) s
       → Steps Just b d (P k) t → Steps Just a d (EachItem P (k + 1)) (s || t)
   items_more P a b d k s t h m = steps_as a d (λ g. EachItem P k g × P k g) (EachItem P (k + 1)) (s

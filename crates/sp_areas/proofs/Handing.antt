@@ -20,7 +20,7 @@ use Rattle.sp_areas.specs.Owners.{IsTrueOf, AreTrue, is_same, IsOwner, join, lef
 use Rattle.sp_areas.specs.Owners.{Gives, Spreads, KnowsAt, IsSpread, IsHanded, IsSpreadBy, AreBegun, Each, IsClosed}
 use Rattle.sp_areas.specs.Owners.{listed, entry_at}
 use Rattle.sp_rules.proofs.Facts.{same_some, none_some, no_true}
-use Rattle.sp_areas.proofs.Owning.{same_is, same_self, gives_spreads, spreads_none, spreads_as, spreads_then}
+use Rattle.sp_areas.proofs.Owning.{same_is, same_self, gives_spreads, spreads_as, spreads_then}
 use Rattle.sp_areas.proofs.Owning.{spreads_room, true_along, true_table, true_child, true_begin}
 
 -- ---- one change
@@ -58,13 +58,6 @@ gives_old os x o w e h = record { now = now; less = λ z. absurd (cc z); same = 
     now : os ≡ given os (slice_get os x) (λ v. slice_set os x (join v o))
     now = sym (ap (λ (u : Option Owner). given os u (λ v. slice_set os x (join v o))) e
         ∙ ap (slice_set os x) (sym (same_is w (join w o) h)) ∙ set_same os x w e)
-
-pub gives_none : (os : List Owner) (x : ℕ) (o : Owner) → slice_get os x ≡ None → Gives os os x o false
-gives_none os x o e = record {
-  now = sym (ap (λ (u : Option Owner). given os u (λ v. slice_set os x (join v o))) e);
-  less = λ z. absurd (cc z);
-  same = λ z. refl;
-}
 
 pub gives_new : (os : List Owner) (x : ℕ) (o w : Owner) → slice_get os x ≡ Some w → is_same w (join w o) ≡ false
     → Gives os (slice_set os x (join w o)) x o true
@@ -132,14 +125,6 @@ module _ (c : Parts) where
 
   -- ---- to the end of a way
 
-  pub hand_none : (os : List Owner) (o : Owner) → AreTrue c os → Spreads c os os (KnowsAt c None o) false
-  hand_none os o are = spreads_none c os (KnowsAt c None o) are (λ q e l. absurd (none_some q e))
-
-  pub hand_past : (os : List Owner) (q : ℕ) (o : Owner) → AreTrue c os → length c.instrs ≤ q
-      → Spreads c os os (KnowsAt c (Some q) o) false
-  hand_past os q o are h = spreads_none c os (KnowsAt c (Some q) o) are
-      (λ r e l. absurd (let s = same_some q r e in omega (arith, s, l, h)))
-
   pub hand_given : (a b : List Owner) (q : ℕ) (o : Owner) (s : Bool) → AreTrue c a → IsOwner o → q < length c.instrs
       → IsTrueOf c q o → Gives a b q o s → Spreads c a b (KnowsAt c (Some q) o) s
   hand_given a b q o s are some l t g =
@@ -151,16 +136,6 @@ module _ (c : Parts) where
 
   abbrev Tabled : ℕ → Owner → List Owner → Type 0
   Tabled p o os = (t : ℕ) → Names c t p → t < length c.forks → Knows os (length c.instrs + t) (as_child p o)
-
-  pub table_none : (os : List Owner) (p : ℕ) (o : Owner) (i : Instr) → AreTrue c os → instr_at c p ≡ Some i
-      → None ≡ table_named (Some i) → Spreads c os os (Tabled p o) false
-  table_none os p o i are e n = spreads_none c os (Tabled p o) are (λ t m l. absurd (none_some t (n
-      ∙ sym (ap table_named e) ∙ m)))
-
-  pub table_past : (os : List Owner) (p t : ℕ) (o : Owner) (i : Instr) → AreTrue c os → instr_at c p ≡ Some i
-      → Some t ≡ table_named (Some i) → length c.forks ≤ t → Spreads c os os (Tabled p o) false
-  table_past os p t o i are e n h = spreads_none c os (Tabled p o) are (λ u m l. absurd (let s = same_some t u (n
-      ∙ sym (ap table_named e) ∙ m) in omega (arith, s, l, h)))
 
   pub table_given : (a b : List Owner) (p t : ℕ) (o v : Owner) (i : Instr) (s : Bool) → AreTrue c a → IsOwner o
       → p < length c.instrs → IsTrueOf c p o → instr_at c p ≡ Some i → Some t ≡ table_named (Some i)
@@ -180,10 +155,6 @@ module _ (c : Parts) where
       a_child p owner.Several some e = cc (e)
 
   -- ---- an instruction
-
-  pub visit_nothing : (os : List Owner) (p : ℕ) → AreTrue c os → ((o : Owner) → slice_get os p ≡ Some o → IsOwner o → ⊥)
-      → Spreads c os os (IsSpread c p) false
-  visit_nothing os p are never = spreads_none c os (IsSpread c p) are (λ o e some. absurd (never o e some))
 
   pub is_nobody : (os : List Owner) (p : ℕ) (w : Owner) → slice_get os p ≡ Some w → is_same w owner.Nobody ≡ true
       → (o : Owner) → slice_get os p ≡ Some o → IsOwner o → ⊥
@@ -213,10 +184,6 @@ module _ (c : Parts) where
           )
 
   -- ---- children
-
-  pub handed_none : (os : List Owner) (o : Owner) (ts : List ChildTable) → AreTrue c os
-      → Spreads c os os (IsHanded c o ts 0) false
-  handed_none os o ts are = spreads_none c os (IsHanded c o ts 0) are (λ k ch l. absurd (omega (arith, l)))
 
   pub handed_more : (a b d : List Owner) (o v : Owner) (ts : List ChildTable) (k : ℕ) (ch : ChildTable) (s t : Bool)
       → slice_get ts k ≡ Some ch → v ≡ of_child k o
@@ -249,11 +216,6 @@ module _ (c : Parts) where
           ∙ sym (ap (λ (u : Option ForkTable). child_of u j) et) ∙ i in
           subst (λ z. Knows b ch.entry (of_child j z)) (sym w) (k j ch (slice_get_within ts j ch g) g l)
 
-  pub table_nothing : (os : List Owner) (t : ℕ) → AreTrue c os
-      → ((o : Owner) → slice_get os (length c.instrs + t) ≡ Some o → IsOwner o → ⊥)
-      → Spreads c os os (IsSpreadBy c t) false
-  table_nothing os t are never = spreads_none c os (IsSpreadBy c t) are (λ o e some. absurd (never o e some))
-
   pub child_true : (os : List Owner) (t : ℕ) (o : Owner) (tb : ForkTable) (ts : List ChildTable) → AreTrue c os
       → slice_get os (length c.instrs + t) ≡ Some o → slice_get c.forks t ≡ Some tb → ts ≡ tb.children
       → (k : ℕ) (ch : ChildTable) → slice_get ts k ≡ Some ch → ch.entry < length c.instrs
@@ -263,9 +225,6 @@ module _ (c : Parts) where
       ∙ ap (λ (zs : List ChildTable). slice_get zs k) (sym ets) ∙ g) l (are.each (length c.instrs + t) o e)
 
   -- ---- entries of blocks
-
-  pub begun_none : (os : List Owner) → AreTrue c os → Spreads c os os (AreBegun c 0) false
-  begun_none os are = spreads_none c os (AreBegun c 0) are (λ j l m h. absurd (omega (arith, h)))
 
   pub begun_more : (a b d : List Owner) (j : ℕ) (l : Layout) (to : Option ℕ) (s t : Bool)
       → slice_get c.layouts j ≡ Some l → ((m : Layout) → layout_of c.layouts l.block ≡ Some m → to ≡ Some m.entry)
@@ -285,9 +244,6 @@ module _ (c : Parts) where
               (z.1 m.entry (at m (subst (λ (y : Layout). layout_of c.layouts y.block ≡ Some m) r em)) lm)
 
   -- ---- all
-
-  pub each_none : (P : ℕ → List Owner → Type 0) (os : List Owner) → AreTrue c os → Spreads c os os (Each P 0) false
-  each_none P os are = spreads_none c os (Each P 0) are (λ x l. absurd (omega (arith, l)))
 
   pub each_more : (P : ℕ → List Owner → Type 0) (a b d : List Owner) (k : ℕ) (s t : Bool) → Spreads c a b (Each P k) s
       → Spreads c b d (P k) t → Spreads c a d (Each P (k + 1)) (s || t)

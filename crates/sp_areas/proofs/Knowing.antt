@@ -92,9 +92,6 @@ some_at ls x (g ∷ hs) zero h e t = or_left (has_variable ls x g) (some_has ls 
     (ap (has_variable ls x) (same_some g h e) ∙ t)
 some_at ls x (g ∷ hs) (suc k) h e t = or_right (has_variable ls x g) (some_has ls x hs) (some_at ls x hs k h e t)
 
-pub found_home : (ls : List Layout) (o : Option Home) (f : Frame) → IsFound ls o (Some f) → o ≡ Some (home_of f)
-found_home ls o f i = sym i.is
-
 pub near_has : (ls : List Layout) (x : ℕ) (hs : List Home) (k : ℕ) (f : Frame) → IsFound ls (slice_get hs k) (Some f)
     → (IsFrame ls f → has_variable ls x (home_of f) ≡ true) → some_has ls x hs ≡ true
 near_has ls x hs k f i t = some_at ls x hs k (home_of f) (sym i.is) (t (i.frame f refl))

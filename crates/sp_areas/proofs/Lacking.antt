@@ -36,22 +36,6 @@ flag_within [] i e = absurd (cc e)
 flag_within (b ∷ fs) zero e = omega arith
 flag_within (b ∷ fs) (suc i) e = let r = flag_within fs i e in omega (arith, r)
 
-no_flag : (count i : ℕ) → flag_at (replicate count false) i ≡ false
-no_flag zero i = refl
-no_flag (suc k) zero = refl
-no_flag (suc k) (suc i) = no_flag k i
-
-length_false : (count : ℕ) → length (replicate count false) ≡ count
-length_false zero = refl
-length_false (suc k) = ap suc (length_false k)
-
-pub doubled_none : (ls : List Layout) (fs : List Bool) → fs ≡ replicate (length ls) false → AreDoubled ls fs 0
-doubled_none ls fs e = record {
-  size = ap length e ∙ length_false (length ls);
-  yes = λ i h. absurd (no_true (flag_at fs i) h (ap (λ (z : List Bool). flag_at z i) e ∙ no_flag (length ls) i));
-  all = λ i j l h. absurd (omega (arith, h));
-}
-
 module _ (ls : List Layout) (j : ℕ) (l : Layout) (e : slice_get ls j ≡ Some l) where
   pub doubled_first : (fs : List Bool) → number_from 0 ls l.block ≡ Some j → AreDoubled ls fs j
       → AreDoubled ls fs (j + 1)

@@ -221,19 +221,6 @@ equal_or i j = go (i == j) refl
     go false e = inr (λ s. no_true (i == j) (eq-eqb i j s) e)
 
 module _ (ls : List Layout) where
-  pub tried_past : (g : Grown) (j : ℕ) → slice_get ls j ≡ None → IsTried ls j g
-  tried_past g j e l o s i = absurd (none_some l (sym e ∙ s))
-
-  pub tried_has : (g : Grown) (j n : ℕ) → node_at g.of j ≡ Some n → IsTried ls j g
-  tried_has g j n e l o s i = (n, e)
-
-  pub tried_not : (g : Grown) (j : ℕ) (m : Layout) → slice_get ls j ≡ Some m → inside_of ls g.of m ≡ None
-      → IsTried ls j g
-  tried_not g j m e n l o s i = absurd (none_some (ap_some o) (sym n
-      ∙ ap (inside_of ls g.of) (same_some m l (sym e ∙ s)) ∙ i))
-    where
-      ap_some : Option ℕ → Option ℕ
-      ap_some u = u
 
   pub led_more : (old new : Grown) (j place : ℕ) (l : Layout) (o : Option ℕ) → AreLed ls old → slice_get ls j ≡ Some l
       → node_at old.of j ≡ None → number_from 0 ls l.block ≡ Some place

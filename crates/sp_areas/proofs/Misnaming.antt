@@ -61,10 +61,6 @@ module _ (c : Parts) where
       (both_false (names_well c a (instr_at c p)) (loops_well c a (instr_at c p)) h))
       (both_false (level_fits c a (instr_at c p)) (names_well c a (instr_at c p) && loops_well c a (instr_at c p)) e)
 
-  -- which area it is, and that it does not fit there
-  Unfit : ℕ → Type 0
-  Unfit p = (a : Area) × LiesOnlyIn c p a × (fits c a (instr_at c p) ≡ false)
-
   unfit : (p : ℕ) → MisnamesOnly c p → (a : Area) × LiesOnlyIn c p a × (fits c a (instr_at c p) ≡ false)
   unfit p (inl (a, l, h)) = (
     a,

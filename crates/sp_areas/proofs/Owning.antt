@@ -156,9 +156,6 @@ module _ (c : Parts) where
 
   -- ---- steps one after the other
 
-  pub spreads_none : (os : List Owner) (P : List Owner → Type 0) → AreTrue c os → P os → Spreads c os os P false
-  spreads_none os P are p = record { just = are; less = λ e. absurd (cc e); same = λ e. (refl, p) }
-
   pub spreads_as : (a b : List Owner) (P Q : List Owner → Type 0) (s : Bool) → (b ≡ a → P b → Q b) → Spreads c a b P s
       → Spreads c a b Q s
   spreads_as a b P Q s f h = record { just = h.just; less = h.less; same = λ e. let z = h.same e in (z.0, f z.0 z.1) }
@@ -222,10 +219,6 @@ module _ (c : Parts) where
   to_table : (p t : ℕ) (a : Area) → p < length c.instrs → Names c t p → Has c p a
       → Has c (length c.instrs + t) (Child a p 0)
   to_table p t a l n h = inr (t, p, a, refl, n, lies_in p a l h, refl)
-
-  around : Area → Area
-  around (Body b) = Body b
-  around (Child a p k) = a
 
   pub true_table : (p t : ℕ) (o : Owner) → p < length c.instrs → Names c t p → IsTrueOf c p o
       → IsTrueOf c (length c.instrs + t) (as_child p o)

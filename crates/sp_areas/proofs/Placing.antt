@@ -25,16 +25,6 @@ in_has q [] i = absurd i
 in_has q (r ∷ rs) (inl e) = or_left (q == r) (has_way q rs) (eq-eqb q r e)
 in_has q (r ∷ rs) (inr i) = or_right (q == r) (has_way q rs) (in_has q rs i)
 
-or_none : (a : Bool) → (a || false) ≡ a
-or_none true = refl
-or_none false = refl
-
-pub has_listed : (q : ℕ) (f s : Option ℕ) → has_way q (listed f s) ≡ leads f q || leads s q
-has_listed q None None = refl
-has_listed q None (Some r) = or_none (q == r)
-has_listed q (Some p) None = refl
-has_listed q (Some p) (Some r) = ap (λ z. (q == p) || z) (or_none (q == r))
-
 ends_by : (c : Parts) (a : Area) (o : Option Instr) → ends_as (owner_of a) o ≡ ends_well c a o
 ends_by c (Body b) (Some i.Return) = refl
 ends_by c (Child a p k) (Some i.Return) = refl

@@ -85,12 +85,6 @@ module _ (c : Parts) where
   strays_on : (s p q : ℕ) → Strays c s p → IsIn q (free_nexts p (instr_at c p)) → Strays c s q
   strays_on s p q h m = (suc h.0, wanders_more (suc h.0) s p q h.1 m)
 
-  -- both ways of an instruction, where it has them
-  pub each_way : (P : ℕ → Type 0) (p : ℕ) (f s : Option ℕ) → listed f s ≡ free_nexts p (instr_at c p)
-      → ((q : ℕ) → f ≡ Some q → P q) → ((q : ℕ) → s ≡ Some q → P q)
-      → (q : ℕ) → IsIn q (free_nexts p (instr_at c p)) → P q
-  each_way P p f s e x y q m = ⊎_elim (λ z. x q z) (λ z. y q z) (in_listed q f s (subst (IsIn q) (sym e) m))
-
   -- ---- numbers
 
   module _ (ns : List ℕ) (limit : ℕ) (falls : (p : ℕ) (a : Area) → LiesIn c p a → FallsFrom c ns limit p) where
@@ -118,11 +112,6 @@ module _ (c : Parts) where
   first_is ns (Some p) falls b = (b, no_round ns p falls)
 
 -- ---- flags
-
-flag_set : (fs : List Bool) (q : ℕ) → q < length fs → flag_at (slice_set fs q true) q ≡ true
-flag_set [] q h = absurd (omega (arith, h))
-flag_set (f ∷ fs) zero h = refl
-flag_set (f ∷ fs) (suc q) h = flag_set fs q (omega (arith, h))
 
 flag_old : (fs : List Bool) (q r : ℕ) → flag_at (slice_set fs q true) r ≡ true → (r ≡ q) ⊎ (flag_at fs r ≡ true)
 flag_old [] q r e = inr e
@@ -169,19 +158,9 @@ less_set fs q h e =
     let s = set_sum fs q (get_or fs q true) g in
     omega (arith, s, z)
 
-no_flags : (n q : ℕ) → flag_at (replicate n false) q ≡ true → ⊥
-no_flags zero q e = cc e
-no_flags (suc n) zero e = cc e
-no_flags (suc n) (suc q) e = no_flags n q e
-
 -- ---- the search
 
 module _ (c : Parts) (s : ℕ) where
-  pub led_none : AreLed c s (replicate (length c.instrs) false)
-  led_none = record {
-    size = length-replicate (length c.instrs) false;
-    each = λ q e. absurd (no_flags (length c.instrs) q e);
-  }
 
   pub widens_none : (fs : List Bool) → AreLed c s fs → Widens c s fs fs
   widens_none fs led = record { led = led; fewer = omega arith }

@@ -213,9 +213,6 @@ module _ (c : Parts) where
 
     -- ---- the beginning and the end
 
-    pub hung_none : (os : List Owner) (q : ℕ) (g : Grown) → table_named (instr_at c q) ≡ None → IsHungBy c os blocks q g
-    hung_none os q g e t n names l h = absurd (none_some t (sym e ∙ names))
-
     pub hung_has : (os : List Owner) (q t base : ℕ) (g : Grown) → table_named (instr_at c q) ≡ Some t
         → node_at g.of t ≡ Some base → IsHungBy c os blocks q g
     hung_has os q t base g e s u n names l h = (
@@ -223,10 +220,6 @@ module _ (c : Parts) where
       subst (λ z. node_at g.of z ≡ Some base) (same_some t u (sym e
           ∙ names)) s,
     )
-
-    pub hung_not : (os : List Owner) (q : ℕ) (g : Grown) → node_of c (length g.nodes) blocks g.of (owner_in os q) ≡ None
-        → IsHungBy c os blocks q g
-    hung_not os q g e t n names l h = absurd (none_some n (sym e ∙ h))
 
     pub hung_past : (os : List Owner) (q t : ℕ) (g : Grown) → table_named (instr_at c q) ≡ Some t
         → slice_get c.forks t ≡ None → IsHungBy c os blocks q g

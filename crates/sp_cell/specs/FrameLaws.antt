@@ -42,10 +42,6 @@ above_newest ns r l = above_at ns (length ns - 1) (omega arith) (λ j b. elim (c
   | inr h ↦ let e : j ≡ length ns - 1 = omega arith in rw e (omega arith)
 ])
 
-pub above_none : (ns : List ℕ) → length ns ≡ 0 → above ns ≡ 0
-above_none [] e = refl
-above_none (n ∷ ns) e = absurd (omega arith)
-
 -- a number above all goes last
 pub rising_push : (ns : List ℕ) (n : ℕ) → IsRising ns → above ns ≤ n → IsRising (ns ++ n ∷ [])
 rising_push ns n r a i j l b =
@@ -57,11 +53,6 @@ rising_push ns n r a i j l b =
           let at : get_or (ns ++ n ∷ []) j 0 ≡ n = rw e (get_or-append_right ns (n ∷ []) (length ns) (length ns) 0 refl (omega arith) ∙ ap (λ k. get_or (n ∷ []) k 0) {y = 0} (omega arith)) in
           rw (get_or-append ns (n ∷ []) 0 i (omega arith), at) (omega arith)
     ]
-
-pub rising_pop : (ns : List ℕ) → IsRising ns → IsRising (take (length ns - 1) ns)
-rising_pop ns r i j l b =
-    let len = length-take-le (length ns - 1) ns (omega arith) in
-    rw (get_or-take (length ns - 1) ns i 0 (omega arith), get_or-take (length ns - 1) ns j 0 (omega arith)) (r i j l (omega arith))
 
 -- ---- known frames
 
@@ -182,21 +173,3 @@ next_pushed p cs =
     let own = above_append p.own n in
     let known = above_known (with_pieces p.map n 0 cs) (n + 1) (λ q k. elim (known_pieces p.map n 0 cs q k) [ inl h ↦ omega (arith, known_below p.map q h) | inr e ↦ omega (arith, e) ]) in
     omega (arith, own, known)
-
-above_take : (ns : List ℕ) (k : ℕ) → above (take k ns) ≤ above ns
-above_take [] zero = omega arith
-above_take [] (suc k) = omega arith
-above_take (n ∷ ns) zero = omega arith
-above_take (n ∷ ns) (suc k) = omega (arith, above_take ns k)
-
-known_without : (m : Map) (n : ℕ) (q : Spot) → IsSome (map.get (without m n) q) → IsSome (map.get m q)
-known_without m n q k = elim (cases_eq q.frame n) [
-  | inl e ↦ absurd (false≢true (rw (without_here m n q e) at k))
-  | inr d ↦ rw (← without_other m n q d) k
-]
-
--- and a pop takes none
-pub next_popped : (p : Plain) → next_frame (popped p) ≤ next_frame p
-next_popped p =
-    let known = above_known (without p.map (newest p.own)) (above (frames (map.keys p.map))) (λ q k. known_below p.map q (known_without p.map (newest p.own) q k)) in
-    omega (arith, known, above_take p.own (length p.own - 1))

@@ -61,10 +61,6 @@ pub known_taken : (m : Map) (ss : List Spot) (c : Map) (q : Spot) → IsSome (ma
 known_taken m [] c q k = k
 known_taken m (s ∷ ss) c q k = known_taken m ss (hold c s (map.get m s)) q (known_hold c s (map.get m s) q k)
 
-pub known_lent : (m : Map) (ss : List Spot) (c : Map) (q : Spot) → IsSome (map.get c q) → IsSome (map.get (lent m ss c) q)
-known_lent m [] c q k = k
-known_lent m (s ∷ ss) c q k = known_lent m ss (map.insert c s (Shared (cells_at m s))) q (known_insert c s (Shared (cells_at m s)) q k)
-
 pub above_step : (ss : List Spot) (k : ℕ) (d : Spot) → k < length ss → above (frames (take (k + 1) ss)) ≡ max (above (frames (take k ss))) ((get_or ss k d).frame + 1)
 above_step ss k d b = subst (λ n. above (frames (take n ss)) ≡ max (above (frames (take k ss))) ((get_or ss k d).frame + 1)) {x = suc k} (omega arith) (above_suc ss k d b)
   where

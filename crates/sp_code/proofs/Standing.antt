@@ -73,9 +73,6 @@ module _ (p : Program) (moves shares : Stmt → List ℕ) (all : Parts) (hush : 
   pub width_stop : (sc : List Scope) (q : ℕ) (w : Option Expr) → q + length (width_code p sc w) ≡ after_width q w
   width_stop sc q w = omega (arith, width_count p sc w, width_after q w)
 
-  pub right_stop : (sc : List Scope) (q k : ℕ) (z : Sort) (form : ExprForm) → q + length (right_code p sc k z form) ≡ after_right q z form
-  right_stop sc q k z form = omega (arith, right_count p sc k z form, right_after q z form)
-
   pub tests_stop : (q : ℕ) (arms : Arms) (b : ℕ) → q + length (tests_code p arms b) ≡ after_tests q arms
   tests_stop q arms b = omega (arith, tests_count p arms b, tests_after q arms)
 

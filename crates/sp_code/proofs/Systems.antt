@@ -29,8 +29,3 @@ module _ {S : Type 0} (stores : Stores S) (g : Setting) where
   leads_same s [] t u h k = h ∙ sym k
   leads_same s (e ∷ es) t u h k =
       leads_same h.0 es t u h.2 (subst (λ (m : System S). Leads stores g m es u) (enters_same s e.process e.event e.event k.0 h.0 k.1 h.1) k.2)
-
-  -- one entry more
-  pub leads_more : (s : System S) (es : List Entry) (e : Entry) (t u : System S) → Leads stores g s es t → Enters stores g t e.process e.event u → Leads stores g s (es ++ e ∷ []) u
-  leads_more s [] e t u h k = (u, subst (λ (m : System S). Enters stores g m e.process e.event u) h k, refl)
-  leads_more s (x ∷ es) e t u h k = (h.0, h.1, leads_more h.0 es e t u h.2 k)

@@ -176,17 +176,3 @@ module _ (p : Parts) (line : List ℕ) (x : Item) (c : IsCode p) (says : Says li
 
   pub is_next : HasRoom p x → ItemFits x → line ≡ item_text p x → IsNext p line (Some x)
   is_next room fits e = ((room, fits), e, λ y h g. sym (says p y c h g))
-
-  pub other_text : (line ≡ item_text p x → ⊥) → IsNext p line None
-  other_text n y h e = n (e ∙ ap (item_text p) (sym (says p y c h e)))
-
-pub bytes_step : (xs : List ℕ) (d e : ℕ) → 2 ≤ length xs
-    → bytes_of xs ≡ (digit_value (get_or xs 0 d) * 16 + digit_value (get_or xs 1 e)) ∷ bytes_of (drop 2 xs)
-bytes_step [] d e l = absurd (omega arith)
-bytes_step (x ∷ []) d e l = absurd (omega arith)
-bytes_step (x ∷ (y ∷ ys)) d e l = refl
-
-pub bytes_end : (xs : List ℕ) → length xs < 2 → bytes_of xs ≡ []
-bytes_end [] l = refl
-bytes_end (x ∷ []) l = refl
-bytes_end (x ∷ (y ∷ ys)) l = absurd (omega arith)

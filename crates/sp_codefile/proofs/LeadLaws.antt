@@ -160,10 +160,6 @@ text_along p (x ∷ xs) q h =
     text_along (after_item p x) xs q h.1 ∙ ap (λ (z : List ℕ). z ++ items_text (after_item p x) xs) (text_step p x h.0)
     ∙ append_assoc (code_text p) (line (item_text p x)) (items_text (after_item p x) xs)
 
-pub code_along : (p : Parts) (xs : List Item) (q : Parts) → IsCode p → Leads p xs q → IsCode q
-code_along p [] q c e = subst IsCode e c
-code_along p (x ∷ xs) q c h = code_along (after_item p x) xs q (code_step p x c h.0) h.1
-
 -- how many children the last table has, by its place
 pub last_by_place : (fs : List ForkTable) (i : ℕ) (t : ForkTable) → i ≡ length fs - 1 → Some t ≡ slice_get fs i
     → length t.children ≡ last_children fs

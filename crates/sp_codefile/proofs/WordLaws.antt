@@ -69,10 +69,6 @@ pub outside_append : (low high : ℕ) (xs ys : List ℕ) → Outside low high xs
 outside_append low high [] ys a b = b
 outside_append low high (x ∷ xs) ys a b = (a.0, outside_append low high xs ys a.1 b)
 
-pub blank_append : (xs ys : List ℕ) → NoBlank xs → NoBlank ys → NoBlank (xs ++ ys)
-blank_append [] ys a b = b
-blank_append (x ∷ xs) ys a b = (a.0, blank_append xs ys a.1 b)
-
 -- each byte is from low to high
 abbrev pub Within : ℕ → ℕ → List ℕ → Type 0
 Within low high [] = Unit {0}

@@ -173,15 +173,3 @@ module _ (c : Parts) (k : Keeps c) (first : BTreeMap ℕ ℕ) (s : Shapes) (shap
             (λ g. absurd (none_some u (sym e ∙ g))) (some_more u f),
       );
     }
-
-  pub no_flags : (old : List Bool) → length old ≡ length c.layouts → ((j : ℕ) → flag_at old j ≡ false)
-      → AreInside c first s 0 old
-  no_flags old e f = record {
-    size = e;
-    each = λ u l. (λ g. absurd (not_both (flag_at old u) g (f u)), λ g. absurd (let m = g.before in omega (arith, m)));
-  }
-
-pub flag_replicate : (n j : ℕ) → flag_at (replicate n false) j ≡ false
-flag_replicate zero j = refl
-flag_replicate (suc n) zero = refl
-flag_replicate (suc n) (suc j) = flag_replicate n j

@@ -108,9 +108,6 @@ before_or k n l = ⊎_elim (λ h. inl h) (λ z. ⊎_elim (λ e. inr e) (λ h. ab
 
 -- ---- children
 
-pub no_starts : (a : List (List Edge)) (ts : List ChildTable) (n : ℕ) → Links a a (OneStarts ts n 0)
-no_starts a ts n = links_none a (OneStarts ts n 0) (λ m e w. let l : w.0 < 0 = w.2 in omega (arith, l))
-
 pub starts_more : (a b d : List (List Edge)) (ts : List ChildTable) (n k : ℕ) (t : ChildTable) → slice_get ts k ≡ Some t
     → Links a b (OneStarts ts n k) → Links b d (λ m e. (m ≡ t.entry) × (e ≡ edge.Started n t.index))
     → Links a d (OneStarts ts n (k + 1))
@@ -135,8 +132,6 @@ deep_linked a b l o e s t = links_as a b (λ m f. (m ≡ l.entry) × (f ≡ e)) 
     × (o ≡ Some f)) (λ m f w. (w.0, s ∙ ap Some (sym w.1))) (λ m f w. (w.0, same_some f e (sym w.1 ∙ s))) t
 
 module _ (l : Layout) (n : ℕ) (ss : List Shape) where
-  pub no_deeper : (a : List (List Edge)) → Links a a (IsDeeper l n ss 0)
-  no_deeper a = links_none a (IsDeeper l n ss 0) (λ m e w. let z : w.1.0 < 0 = w.1.1 in omega (arith, z))
 
   pub deeper_more : (a b d : List (List Edge)) (j : ℕ) (s : Shape) → slice_get ss j ≡ Some s
       → Links a b (IsDeeper l n ss j) → Links b d (λ m e. (m ≡ l.entry) × (deep_edge l n j s ≡ Some e))
@@ -365,11 +360,6 @@ module _ (c : Parts) (p : ℕ) where
             let q : d ≡ a = only.1 d (there, st.0) in
             let h = sym (child_is k) ∙ st.1 in
             (k, ch, slice_get_within ts k ch h, h, subst (λ j. IsStart ch j m g) (ap (entry c) q ∙ at) w)
-
-  pub no_table : (a : List (List Edge)) → table_at c.forks (table_named (instr_at c p)) ≡ None
-      → Links a a (StartedAt c p)
-  no_table a e = links_none a (StartedAt c p)
-      (λ m g w. none_some w.2 (sym (ap (λ (o : Option ForkTable). child_of o w.1) e) ∙ w.4.1))
 
   pub nothing_at : (a : List (List Edge)) → ((d : Area) → LiesIn c p d → ⊥) → Links a a (EdgeAt c p)
   nothing_at a never =

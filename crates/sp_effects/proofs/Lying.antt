@@ -14,10 +14,6 @@ use Rattle.sp_areas.specs.Owners.{AreOwners, IsOnly, Owns, owner_of, entry_at}
 use Rattle.sp_areas.specs.Only.{LiesOnlyIn}
 use Rattle.sp_effects.specs.Own.{child_entry, entry_by}
 
--- what an area does at an instruction, that instruction does
-pub instr_within : (c : Parts) (p : ℕ) (o : Instr) → instr_at c p ≡ Some o → p < length c.instrs
-instr_within c p o e = slice_get_within c.instrs p o e
-
 module _ (c : Parts) where
   area_entry : (a : Area) → IsArea c a → entry_by c (owner_of a) ≡ Some (entry c a)
   area_entry (Body b) (l, e) = ap entry_at e ∙ ap Some (sym (ap entry_of_layout e))

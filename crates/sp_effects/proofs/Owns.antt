@@ -97,10 +97,6 @@ told_more a b n i y s xs e g h t =
     from f o = ⊎_elim (λ m. inl (record { area = o.area; does = (o.does.0, m, o.does.2) }))
         (λ m. inr (fact_is n e f o.area (o.does.2 ∙ ap (deed_of s) m ∙ sym h))) (in_taken xs i o.does.0 y g o.does.1)
 
-pub none_taken : (a : List Fact) (n : ℕ) (s : Bool) (xs : List ℕ) → Tells a a (IsOf n (IsAmong s (take 0 xs)))
-none_taken a n s [] = tells_none a (IsOf n (IsAmong s [])) (λ f o. absurd (o.does.1))
-none_taken a n s (x ∷ xs) = tells_none a (IsOf n (IsAmong s [])) (λ f o. absurd (o.does.1))
-
 pub stop_told : (a : List Fact) (n : ℕ) (o : Instr) → is_stop (Some o) ≡ true
     → Tells a (with_fact a (fact n deed.Stops)) (IsOf n (IsStop (Some o)))
 stop_told a n o e =
@@ -200,10 +196,6 @@ child_told f g h n t ms ss em es u v = tells_as f h (λ z. IsOf n (IsAmong true 
 pub before_or : (k n : ℕ) → k < n + 1 → (k < n) ⊎ (k ≡ n)
 before_or k n l = ⊎_elim (λ h. inl h) (λ z. ⊎_elim (λ e. inr e) (λ h. absurd (omega (arith, h, l))) z) (which k n)
 
-pub none_handed : (f : List Fact) (n : ℕ) (ts : List ChildTable) → Tells f f (IsOf n (OneIsHanded ts 0))
-none_handed f n ts = tells_none f (IsOf n (OneIsHanded ts 0))
-    (λ z w. absurd (let l : w.does.0 < 0 = w.does.2 in omega (arith, l)))
-
 pub children_more : (f g h : List Fact) (n k : ℕ) (t : ChildTable) (ts : List ChildTable) → slice_get ts k ≡ Some t
     → Tells f g (IsOf n (OneIsHanded ts k)) → Tells g h (IsOf n (IsHanded t))
     → Tells f h (IsOf n (OneIsHanded ts (k + 1)))
@@ -231,26 +223,6 @@ children_more f g h n k t ts e u v = tells_as f h (λ z. IsOf n (OneIsHanded ts 
 -- ---- at an instruction
 
 module _ (c : Parts) (p : ℕ) where
-  pub not_forked : (f : List Fact) (n : ℕ) → table_at c.forks (table_named (instr_at c p)) ≡ None
-      → Tells f f (IsOf n (ForkedAt c p))
-  not_forked f n e = tells_none f (IsOf n (ForkedAt c p))
-      (λ z w. absurd (none_some w.does.1 (sym (ap (λ (o : Option ForkTable). child_of o w.does.0) e) ∙ w.does.2)))
-
-  pub forked_told : (f g : List Fact) (n : ℕ) (tb : ForkTable) (ts : List ChildTable)
-      → table_at c.forks (table_named (instr_at c p)) ≡ Some tb → ts ≡ tb.children
-      → Tells f g (IsOf n (OneIsHanded ts (length ts))) → Tells f g (IsOf n (ForkedAt c p))
-  forked_told f g n tb ts e s t = tells_as f g (IsOf n (OneIsHanded ts (length ts))) (IsOf n (ForkedAt c p)) to from t
-    where
-      child_is : (k : ℕ) → child_at c p k ≡ slice_get ts k
-      child_is k = ap (λ (o : Option ForkTable). child_of o k) e ∙ ap (λ (xs : List ChildTable). slice_get xs k) (sym s)
-
-      to : (z : Fact) → IsOf n (OneIsHanded ts (length ts)) z → IsOf n (ForkedAt c p) z
-      to z w = record { area = w.area; does = (w.does.0, w.does.1, child_is w.does.0 ∙ w.does.3, w.does.4) }
-
-      from : (z : Fact) → IsOf n (ForkedAt c p) z → IsOf n (OneIsHanded ts (length ts)) z
-      from z w =
-          let g = sym (child_is w.does.0) ∙ w.does.2 in
-          record { area = w.area; does = (w.does.0, w.does.1, slice_get_within ts w.does.0 w.does.1 g, g, w.does.3) }
 
   -- ---- where it is reached
 
@@ -301,9 +273,6 @@ module _ (c : Parts) (p : ℕ) where
             }
 
   -- ---- both
-
-  pub at_none : (f : List Fact) → ((a : Area) → LiesIn c p a → ⊥) → Tells f f (OwnAt c p)
-  at_none f never = tells_none f (OwnAt c p) (λ z w. absurd (never w.0 w.1))
 
   pub at_told : (f g h : List Fact) (n : ℕ) (a : Area) → LiesOnlyIn c p a → entry c a ≡ n → Tells f g (ReachedAt c p)
       → Tells g h (IsOf n (ForkedAt c p)) → Tells f h (OwnAt c p)

@@ -65,44 +65,12 @@ none_first ls ks e q = (
   λ w. absurd (let l : w.0 < 0 = w.2 in omega (arith, l)),
 )
 
-pub first_more : (ls : List Layout) (now new : List (ℕ × ℕ)) (n : ℕ) (l : Layout) (xs : List ℕ)
-    → slice_get ls n ≡ Some l → xs ≡ l.variables → AreFirst n ls now → AddsPairs now new (IsOwnOf l.entry xs)
-    → AreFirst (n + 1) ls new
-first_more ls now new n l xs e s h u q = (to, from)
-  where
-    to : has_pair new q ≡ true → OwnFirst (n + 1) ls q
-    to w = ⊎_elim (λ z. let o = (h q).0 z in (o.0, o.1, (let i = o.2 in omega (arith, i)), o.3, o.4))
-        (λ z. (n, l, omega arith, e, (z.0, subst (IsIn q.1) s z.1))) ((u q).0 w)
-
-    from : OwnFirst (n + 1) ls q → has_pair new q ≡ true
-    from (j, k, i, g, o) =
-        ⊎_elim (λ z. (u q).1 (inl ((h q).1 (j, k, z, g, o))))
-        (λ z. let m : k ≡ l = same_some k l (sym g ∙ ap (slice_get ls) z
-        ∙ e) in (u q).1 (inr (
-          o.0
-              ∙ ap (λ (y : Layout). y.entry) m,
-          subst (IsIn q.1) (ap (λ (y : Layout). y.variables) m
-              ∙ sym s) o.1,
-        ))) (before_or j n i)
-
-pub all_own : (ls : List Layout) (ks : List (ℕ × ℕ)) (n : ℕ) → n ≡ length ls → AreFirst n ls ks → (q : ℕ × ℕ)
-    → (has_pair ks q ≡ true) ↔ IsOwnIn ls q
-all_own ls ks n e h q = (
-  λ w. let o = (h q).0 w in (o.0, o.1, o.3, o.4),
-  λ w. (h q).1
-      (w.0, w.1, subst (λ m. w.0 < m) (sym e) (slice_get_within ls w.0 w.1 w.2), w.2, w.3),
-)
-
 -- ---- along edges
 
 pub carried_told : (fs : List Fact) (o : Option Fact) (g : Fact) → o ≡ Some g
     → Tells fs (with_fact fs g) (λ f. o ≡ Some f)
 carried_told fs o g e = tells_as fs (with_fact fs g) (λ f. f ≡ g) (λ f. o ≡ Some f) (λ f s. e
     ∙ ap Some (sym s)) (λ f s. same_some f g (sym s ∙ e)) (tells_one fs g)
-
-pub none_along : (fs : List Fact) (row : List Edge) (own : Bool) (d : Deed) → Tells fs fs (AlongOne row own d 0)
-none_along fs row own d = tells_none fs (AlongOne row own d 0)
-    (λ f w. absurd (let l : w.0 < 0 = w.2 in omega (arith, l)))
 
 pub along_more : (a b x : List Fact) (row : List Edge) (own : Bool) (d : Deed) (k : ℕ) (e : Edge)
     → slice_get row k ≡ Some e → Tells a b (AlongOne row own d k) → Tells b x (λ g. fact_along e own d ≡ Some g)
@@ -122,8 +90,6 @@ along_more a b x row own d k e h u v = tells_as a x (λ g. AlongOne row own d k 
         ∙ h)) w.4)) (before_or w.0 k w.2)
 
 module _ (rows : List (List Edge)) (own : List (ℕ × ℕ)) where
-  pub no_row : (fs : List Fact) (f : Fact) → slice_get rows f.area ≡ None → Tells fs fs (Leads rows own f)
-  no_row fs f e = tells_none fs (Leads rows own f) (λ g w. absurd (none_some w.1.0 (sym e ∙ w.1.1)))
 
   pub row_leads : (a b : List Fact) (f : Fact) (r row : List Edge) (mine : Bool) → slice_get rows f.area ≡ Some r
       → row ≡ r → mine ≡ is_own own f.area f.deed → Tells a b (AlongOne row mine f.deed (length row))
@@ -152,9 +118,6 @@ module _ (rows : List (List Edge)) (own : List (ℕ × ℕ)) where
           (k, x, slice_get_within row k x at, at, ap (λ (y : Bool). fact_along x y f.deed) m ∙ w)
 
   -- ---- until nothing is left
-
-  pub closes_none : (fs : List Fact) → ClosesTo rows own fs fs 0
-  closes_none fs = record { kept = λ f t. t; done = λ j f g l e w. absurd (omega (arith, l)); only = λ g t. (zero, t) }
 
   there : (fs : List Fact) (i j : ℕ) (f : Fact) → slice_get fs i ≡ Some f → j < i → (g : Fact)
       × (slice_get fs j ≡ Some g)

@@ -123,14 +123,6 @@ cond_or : (a b : Bool) → cond a true b ≡ (a || b)
 cond_or true b = refl
 cond_or false b = refl
 
-and_none : (a b : Bool) → b ≡ ((a && false) || b)
-and_none true b = refl
-and_none false b = refl
-
-and_all : (a : Bool) → a ≡ (a && true)
-and_all true = refl
-and_all false = refl
-
 -- a set with one pair more
 pub pair_put : (new old : List (ℕ × ℕ)) (k : ℕ × ℕ)
     → ((q : ℕ × ℕ) → has_pair new q ≡ cond (is_eq (pair_cmp k q)) true (has_pair old q))
@@ -223,11 +215,6 @@ noted_put areas none old new g at h f = ⊎_elim here there (equal_or f.area g.a
         not_equal : (b : Bool) → (b ≡ true → ⊥) → b ≡ false
         not_equal true h = absurd (h refl)
         not_equal false h = refl
-
-pub noted_then : (a b d : List Sets) (g : Fact) → ((p : ℕ) (e : Deed) → sets_have b p e ≡ sets_have a p e)
-    → ((f : Fact) → sets_have d f.area f.deed ≡ (same f g || sets_have b f.area f.deed)) → (f : Fact)
-    → sets_have d f.area f.deed ≡ (same f g || sets_have a f.area f.deed)
-noted_then a b d g h k f = k f ∙ ap (λ (x : Bool). same f g || x) (h f.area f.deed)
 
 -- the list and the sets grow together
 or_turned : (a b : Bool) → (a || b) ≡ (b || a)

@@ -46,12 +46,6 @@ use Rattle.sp_facts.proofs.Headings.{own, in_blocks, among_own, own_join, own_no
 use Rattle.sp_facts.proofs.Blocks.{parts_below, parts_scoped, IsOpen}
 use Rattle.sp_facts.proofs.Tree.{checked_own, variables_held, blocks_held, block_from, parent_below, steps, top, final_length, starts_length}
 
-parameters : n.Block → List ℕ
-parameters b = b.formals
-
-results_ : n.Block → List ℕ
-results_ b = as_list (answer_variable b.answer)
-
 abbrev Heading : (Role → Bool) → (n.Block → List ℕ) → Type 0
 Heading fits g = (l : Local) (x : Name) (fs : List SynFormal) (answer : Option Name) (i : Inside) → next_variable (formals_local (opened (next_block l.counts) 0 (title_local l x fs answer)) fs).counts ≡ next_variable l.counts + length (formals_named (inside [] l) (next_block l.counts) fs)
     → (env : Env) → env.local ≡ l → i.answer ≡ (heading_local l x fs answer).answer

@@ -123,9 +123,6 @@ module _ (p : Program) (constants : ℕ) where
   AimsOf procedure.Send args = Unit {0}
   AimsOf procedure.Receive args = AreAimedLater args
 
-  abbrev pub InConstants : List NamedConst → Type 0
-  InConstants cs = Unit {0}
-
   abbrev mutual
     pub InStatement : List Scope → n.Statement → Type 0
     InStatement sc (n.Does at form) = InStatementForm sc form

@@ -484,8 +484,3 @@ canonical_kept {text} {is} p t x =
 
 pub canonical_items : {text : List ℕ} {is : List Item} → HasTree text → HasItems text is → HasItems (canonical is) is
 canonical_items (p, t) x = has_items (canonical_kept p t x).kept
-
--- The canonical text of a canonical text is itself.
-pub canonical_again : {text out other : List ℕ} → HasTree text → IsCanonical text out → IsCanonical out other → other ≡ out
-canonical_again t p q =
-    q.is ∙ ap canonical (one_items q.has (subst (λ v. HasItems v p.items) (back_of p.is) (canonical_items t p.has))) ∙ back_of p.is

@@ -234,10 +234,6 @@ module _ {text rest out others : List ℕ} {context : Context} (after : List ℕ
     is = w;
   }
 
--- a first item takes at least a byte, so there is room for one more of each kind
-pub lay_room : {text rest out others : List ℕ} {context : Context} (b : ℕ) → rest ≡ b ∷ others → LaidSoFar text rest out context → (context.begun < 1048576) × (context.ended < 1048576) × (context.opened < 1048576) × (context.closed < 1048576)
-lay_room b e x = let l = ap length e in (omega (arith, x.few_begun), omega (arith, x.few_ended), omega (arith, x.few_opened), omega (arith, x.few_closed))
-
 none_left : {rest : List ℕ} {is : List Item} → rest ≡ [] → HasItems rest is → is ≡ []
 none_left e no_item = refl
 none_left e (blank b h x) = absurd cc

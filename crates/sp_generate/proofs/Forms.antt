@@ -59,9 +59,6 @@ module _ (p : b.Program) (mv sh : ℕ → List ℕ) (sc : List Scope) where
   assigned : (t n q : ℕ) (v : b.Var) (e : b.Expr) → assign_code p sc v e ≡ code p sc t n q (b.Assign v e)
   assigned t n q v (b.Typed k form) = refl
 
-  no_assign : (q : ℕ) (v : c.Variable) (e : c.Expression) → form_tables p mv sh q (c.Assign v e) ≡ []
-  no_assign q v e = refl
-
   pub assign_is : (d : Draft) (v : c.Variable) (e : c.Expression) → with_code d (assign_code p sc (bare_variable v) (bare_expression e)) ≡ written_form p mv sh d sc (c.Assign v e)
   unfolding written_form
   assign_is d v e =
@@ -306,10 +303,6 @@ module _ (p : b.Program) (mv sh : ℕ → List ℕ) (sc : List Scope) where
         texts = d.texts ++ texts_of st;
       }
 
-  -- a loop's first and last instruction, up or down
-  up_or_down : (down : Bool) (x m n : ℕ) (xs : List Instr) → for_instr down x m ∷ i.Tick ∷ (xs ++ next_instr down x n ∷ []) ≡ (if down then i.Fordown x m else i.Forup x m) ∷ i.Tick ∷ (xs ++ (if down then i.Nextdown x n else i.Nextup x n) ∷ [])
-  up_or_down down x m n xs = refl
-
   pub for_is : (d : Draft) (x : ℕ) (at : Place) (from : c.Expression) (down : Bool) (to : c.Expression) (s : c.Statement)
       → looped p mv sh (with_code (with_code d (value_code p sc (bare_expression from))) (value_code p sc (bare_expression to))) sc s (for_instr down (slot p x)) (next_instr down (slot p x) (length ((d.instrs ++ value_code p sc (bare_expression from)) ++ value_code p sc (bare_expression to)) + 1))
       ≡ written_form p mv sh d sc (c.For x at from down to s)
@@ -376,13 +369,6 @@ module _ (p : b.Program) (mv sh : ℕ → List ℕ) (sc : List Scope) where
         forks = (append_assoc d.forks (ts ++ []) (tables_children p mv sh (length (d.instrs ++ (cs ++ i.End ∷ []))) rest) ∙ (λ j. d.forks ++ (append-nil ts j ++ tables_children p mv sh (eq j) rest))) k;
         texts = (append_assoc d.texts (xs ++ []) (texts_of_all (bare_statements rest)) ∙ (λ j. d.texts ++ (append-nil xs j ++ texts_of_all (bare_statements rest)))) k;
       }
-
-  -- the lines of a fork table
-  pub lines_step : (out : List ChildTable) (d : Draft) (s : c.Statement) (rest : c.Statements)
-      → (out ++ child p mv sh (length d.instrs) None s ∷ []) ++ children p mv sh (length (written_children p mv sh d sc (c.AndThen s c.NoStatement)).instrs) rest ≡ out ++ children p mv sh (length d.instrs) (c.AndThen s rest)
-  unfolding written_children
-  lines_step out d s rest =
-      append_assoc out (child p mv sh (length d.instrs) None s ∷ []) _ ∙ (λ j. out ++ (child p mv sh (length d.instrs) None s ∷ children p mv sh (child_place d s j) rest))
 
   -- ---- the statements of a `case`
 

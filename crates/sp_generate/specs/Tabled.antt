@@ -35,11 +35,6 @@ offsets_by sizes (kind.Channel ks) = []
 abbrev pub offsets_of : Program → List (List ℕ)
 offsets_of p = map (offsets_by (sizes p.kinds)) p.kinds
 
--- the frame of each block, from block b on
-abbrev pub frames_from : Program → ℕ → List Block → List (List ℕ)
-frames_from p b [] = []
-frames_from p b (k ∷ ks) = frame_of p b ∷ frames_from p (suc b) ks
-
 -- a level, so many scopes further out
 abbrev pub more : ℕ → Option ℕ → Option ℕ
 more n None = None

@@ -75,29 +75,9 @@ look_after_variables d row.parts_var = refl
 look_after_variables d row.parts_procedure = refl
 look_after_variables d row.parts_function = refl
 
-look_statement : (d : ℕ) {k : Kind} {l : List Symbol} (c : FormRow (suc d) k l) → look (rows (sym.AStatement d)) k ≡ Some (entry _ _ (row.statement {d = d} c))
-look_statement d row.form_name = refl
-look_statement d row.form_begin = refl
-look_statement d row.form_if = refl
-look_statement d row.form_while = refl
-look_statement d row.form_repeat = refl
-look_statement d row.form_for = refl
-look_statement d row.form_case = refl
-look_statement d row.form_parallel = refl
-look_statement d row.form_forall = refl
-look_statement d row.form_assume = refl
-
 look_target : (d : ℕ) {k : Kind} {l : List Symbol} (c : SelectorRow d k l) → look (rows (sym.AfterName d)) k ≡ Some (entry _ _ (row.target c))
 look_target d row.selector_index = refl
 look_target d row.selector_field = refl
-
-look_reference : (d : ℕ) {k : Kind} {l : List Symbol} (c : SelectorRow d k l) → look (rows (sym.AReference d)) k ≡ Some (entry _ _ (row.reference c))
-look_reference d row.selector_index = refl
-look_reference d row.selector_field = refl
-
-look_selector : (d : ℕ) {k : Kind} {l : List Symbol} (c : SelectorRow d k l) → look (rows (sym.Selectors d)) k ≡ Some (entry _ _ (row.selector c))
-look_selector d row.selector_index = refl
-look_selector d row.selector_field = refl
 
 look_factor : (d : ℕ) {k : Kind} {l : List Symbol} (c : FactorRow d k l) → look (rows (sym.AFactor d)) k ≡ Some (entry _ _ (row.factor c))
 look_factor d row.factor_number = refl

@@ -156,9 +156,6 @@ hold_lend e = cc
 pub hold_lack : Holds ≡ Lacks → ⊥
 hold_lack e = cc
 
-pub lend_lack : Lends ≡ Lacks → ⊥
-lend_lack e = cc
-
 module _ (share : ℕ → Share) (holder : ℕ) (birth : ℕ → Option Birth) (f : ℕ → Condition Plain) (h : IsShared share holder f birth) (order : (r : ℕ) (d : Birth) → birth r ≡ Some d → d.parent < r)
     (q : ℕ) (b : Birth) (born : birth q ≡ Some b) (p p0 m : Plain) (x : Condition Plain) (was : store_in (f q) ≡ Some p0) (is : StoreIs (share q) p) (moved : p.moved ≡ p0.moved)
     (mother : store_in (f b.parent) ≡ Some m) (can : CanJoin m p) (now : store_in x ≡ Some (plain.joined m p)) (aims : AimsIn x) where

@@ -122,10 +122,6 @@ module _ {S : Type 0} (stores : Stores S) (g : Setting) where
   reaches_front k s t [] ms r = (s, refl, r)
   reaches_front k s t (n ∷ ns) ms r = let o = reaches_front (noted n k) r.0 t ns ms r.2 in (o.0, (r.0, r.1, o.1), o.2)
 
-  pub reaches_more : (k : Control) (s u t : System S) (ns ms : List Note) → Reaches stores g k s ns u → Reaches stores g (noted_all ns k) u ms t → Reaches stores g k s (ns ++ ms) t
-  reaches_more k s u t [] ms r q = subst (λ x. Reaches stores g k x ms t) (sym r) q
-  reaches_more k s u t (n ∷ ns) ms r q = (r.0, r.1, reaches_more (noted n k) r.0 u t ns ms r.2 q)
-
   -- ---- what is out with a worker
 
   stays_by : (v : ℕ) (give : Option ℕ) (e : Option Event) (got : Option ℕ) (k : Control) (s t : System S) → IsOrderly k → Agrees k s → Gives stores g k s v give e got t → Gets stores g (given give e got k) e got

@@ -27,9 +27,6 @@ waits_channel way.Send way.Receive c d e = absurd cc
 waits_channel way.Receive way.Send c d e = absurd cc
 waits_channel way.Receive way.Receive c d e = cc
 
-apart_of : (f : ℕ → Doing) (p q : ℕ) (a b : Doing) → f p ≡ a → f q ≡ b → a ≢ b → p ≢ q
-apart_of f p q a b e h n is = n (sym e ∙ ap f is ∙ h)
-
 -- ---- the queue
 
 module _ {d : ℕ → Doing} {r : List ℕ} (h : IsQueue d r) where

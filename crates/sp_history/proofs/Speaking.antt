@@ -68,10 +68,6 @@ module _ (C D : ℕ → Type 0) (weaker : (c : ℕ) → C c → D c) where
   condition_weak q Gone h = tt
   condition_weak q (Over c) h = config_weak q c h
 
-  turn_weak : (q : ℕ) (t : Turn (Memory Plain)) → TurnHas C (Keeps C q) t → TurnHas D (Keeps D q) t
-  turn_weak q (Stopped s c) h = (stop_weak s h.0, config_weak q c h.1)
-  turn_weak q (Faulted f c) h = config_weak q c h
-
 -- ---- what happens, with one property throughout
 
 module _ (g : Setting) (C : ℕ → Type 0) where

@@ -9,15 +9,6 @@ use Rattle.sp_tree.specs.Sites.{Site, SplitsAt, SpreadsAt, LoopsAt, CallsAt, Sto
 use Rattle.sp_tree.specs.Interferes.{IsSite}
 use Rattle.sp_varsets.specs.Parts.{IsPart, IsInForm, IsAmong, IsInArms, IsInOther}
 
-pub of_two : (xs ys : List Site) (site : Site) → IsSite site (xs ++ ys) → IsSite site xs ⊎ IsSite site ys
-of_two [] ys site i = inr i
-of_two (x ∷ xs) ys site (inl e) = inl (inl e)
-of_two (x ∷ xs) ys site (inr i) = go (of_two xs ys site i)
-  where
-    go : IsSite site xs ⊎ IsSite site ys → IsSite site (x ∷ xs) ⊎ IsSite site ys
-    go (inl j) = inl (inr j)
-    go (inr j) = inr j
-
 pub in_first : (xs ys : List Site) (site : Site) → IsSite site xs → IsSite site (xs ++ ys)
 in_first [] ys site i = absurd i
 in_first (x ∷ xs) ys site (inl e) = inl e

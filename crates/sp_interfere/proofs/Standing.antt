@@ -27,9 +27,6 @@ standing_nowhere ks (suc n) f = refl
 pub bare_at : (ks : List p.Block) (b : ℕ) (k : p.Block) → slice_get ks b ≡ Some k → slice_get (map bare_block ks) b ≡ Some (bare_block k)
 bare_at ks b k e = slice_get-map bare_block ks b ∙ ap (option_map bare_block) e
 
-some_is : {A : Type 0} (x y : A) → Some x ≡ Some y → x ≡ y
-some_is x y e = cc e
-
 module _ (c : p.Program) where
   -- what the test finds around a block, it finds further up
   abbrev Above : ℕ → ℕ → Type 0

@@ -40,9 +40,6 @@ held_last : (v : Version) (es : List Entry) (e : Entry) → AreHeld v es → Can
 held_last v [] e a h = (h, tt)
 held_last v (x ∷ es) e a h = (a.0, held_last v es e a.1 h)
 
-not_cons : {A : Type 0} (x : A) (xs : List A) → [] ≡ x ∷ xs → ⊥
-not_cons x xs e = cc
-
 -- with no text left no entries are
 pub nothing_left : (v : Version) (s : Births) → Lawful s → (rest : List ℕ) (more : List Entry) → rest ≡ [] → Left v s rest more → more ≡ []
 nothing_left v s l rest [] e h = refl

@@ -37,10 +37,6 @@ none_some x e = cc
 pub some_same : {A : Type 0} (x y : A) → ◌≡◌ {A = Option A} (Some x) (Some y) → x ≡ y
 some_same x y e = cc
 
-pub some_if : {P : Type 0} (o : Option ℕ) (v : ℕ) → SomeIff o P v → P → o ≡ Some v
-some_if None v h p = absurd (h p)
-some_if (Some x) v h p = ap (λ y. Some y) h.1
-
 -- what follows from a fact of an `Ok`
 pub on_ok : {T E A B : Type 0} (r : Result T E) → OnOk r A → (A → B) → OnOk r B
 on_ok (Ok x) a f = f a

@@ -102,9 +102,6 @@ module _ (all : List Entry) (nameable : NameableFrom at_start all) (quiet : IsQu
   pub its_made : number_at b.made.items p ≡ made os (s.name p)
   its_made = ap (λ x. unwrap_or x 0) (h.made_is p here)
 
-  judged_more : judged (named s (take (at + 1) all)) ≡ judged_by (judged os) (length os) o.who o.what
-  judged_more = ap judged grown ∙ judged_last os o
-
   -- it is there, and after this entry its count is still asked for
   abbrev pub Live : ℕ → Type 0
   Live q = (q < s.processes) × IsAsked until (at + 1) q

@@ -76,37 +76,6 @@ more_pairs q e es h = by (is_at (nat_cmp q) e.0)
 pub first_pair : (q : ℕ) (v : ℕ) (es : List (ℕ × ℕ)) → IsSome (lookup (is_at (nat_cmp q)) ((q, v) ∷ es))
 first_pair q v es = ap (λ b. is_some (cond b (Some v) (lookup (is_at (nat_cmp q)) es))) (same_test q)
 
--- of a process whose pair was in front and is put elsewhere
-pub pair_moved : (q k v : ℕ) (es : List (ℕ × ℕ)) (A : Type 0) → (q ≡ k → A)
-    → IsSome (lookup (is_at (nat_cmp q)) ((k, v) ∷ es)) → A ⊎ IsSome (lookup (is_at (nat_cmp q)) es)
-pair_moved q k v es A there h = by (is_at (nat_cmp q) k) refl h
-  where
-    by : (b : Bool) → is_at (nat_cmp q) k ≡ b → IsSome (cond b (Some v) (lookup (is_at (nat_cmp q)) es))
-        → A ⊎ IsSome (lookup (is_at (nat_cmp q)) es)
-    by true t x = inl (there (nat_cmp-IsAntisymmetric q k (tie_of (nat_cmp q k) t)))
-    by false t x = inr x
-
--- a pair of the count 0 is as good as none
-pub counts_kept : (f g : ℕ → Option ℕ) (p : ℕ) → f p ≡ None
-    → ((q : ℕ) → g q ≡ cond (is_at (nat_cmp p) q) (Some 0) (f q)) → (q : ℕ) → unwrap_or (g q) 0 ≡ unwrap_or (f q) 0
-counts_kept f g p none is q = by (is_at (nat_cmp p) q) refl
-  where
-    by : (b : Bool) → is_at (nat_cmp p) q ≡ b → unwrap_or (g q) 0 ≡ unwrap_or (f q) 0
-    by true t =
-        let same : p ≡ q = nat_cmp-IsAntisymmetric p q (tie_of (nat_cmp p q) t) in
-        ap (λ o. unwrap_or o 0) (is q ∙ ap (λ b. cond b (Some 0) (f q)) t)
-        ∙ sym (ap (λ o. unwrap_or o 0) (ap f (sym same) ∙ none))
-    by false t = ap (λ o. unwrap_or o 0) (is q ∙ ap (λ b. cond b (Some 0) (f q)) t)
-
--- a pair stays where another one is put in, and is there where it is its own
-pub pair_stays : (f g : ℕ → Option ℕ) (p v : ℕ) → ((q : ℕ) → g q ≡ cond (is_at (nat_cmp p) q) (Some v) (f q)) → (q : ℕ)
-    → IsSome (f q) → IsSome (g q)
-pair_stays f g p v is q h = ap is_some (is q) ∙ by (is_at (nat_cmp p) q)
-  where
-    by : (b : Bool) → is_some (cond b (Some v) (f q)) ≡ true
-    by true = refl
-    by false = h
-
 pub pair_put : (f g : ℕ → Option ℕ) (p v : ℕ) → ((q : ℕ) → g q ≡ cond (is_at (nat_cmp p) q) (Some v) (f q)) → (q : ℕ)
     → q ≡ p → IsSome (g q)
 pair_put f g p v is q e =

@@ -164,9 +164,6 @@ module _ (all : List Entry) (nameable : NameableFrom at_start all) (quiet : IsQu
   pub next_length : length (take (at + 1) all) ≡ at + 1
   next_length = take_length all (at + 1) (let l = get_within all at e inside in omega arith)
 
-  pub past_length : length past ≡ at
-  past_length = named_length (births all) before ∙ at_length
-
   pub grown : named (births all) (take (at + 1) all) ≡ past ++ next ∷ []
   grown = ap (named (births all)) (take_next all at e inside) ∙ named_more (births all) before e []
 

@@ -67,9 +67,6 @@ module _ (all : List Entry) (t : IsTame all) (at : ℕ) where
     abbrev e : Entry
     e = record { process = r.process; event = offer_event r.way r.channel }
 
-    pub process_inside : r.process < s.processes
-    process_inside = front.there all t.nameable t.quiet law at e racing.0
-
     pub channel_inside : r.channel < s.channels
     channel_inside = channel_there all t.nameable t.quiet law at e r.way r.channel racing.0 refl
 
@@ -89,9 +86,3 @@ module _ (all : List Entry) (t : IsTame all) (at : ℕ) where
 pub none_racing : (es : List Entry) (at : ℕ) (r : Option Racer) → IsRacing es at r → ((x : Racer) → r ≡ Some x → ⊥) → IsRacing es at None
 none_racing es at None f off = f
 none_racing es at (Some x) f off = absurd (off x refl)
-
--- a verdict on a run that ended by no fault
-pub verdict_from : (os : List Occurrence) (e : End) (v : Verdict) → (IsFault e → ⊥) → IsJudged os v → IsVerdict os e v
-verdict_from os e verdict.Ordered f j = (f, j)
-verdict_from os e (verdict.Race w c i k) f j = (f, j)
-verdict_from os e verdict.Unjudged f j = absurd j

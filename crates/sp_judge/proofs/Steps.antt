@@ -285,20 +285,5 @@ pub ok_both : {T E : Type 0} (A B : Type 0) (r : Result T E) → OnOk r A → On
 ok_both A B (Ok x) a b = (a, b)
 ok_both A B (Err x) a b = tt
 
-pub below_or_this : (k i : ℕ) → k < i + 1 → (k < i) ⊎ (k ≡ i)
-below_or_this k i l = grind (arith)
-
 pub true_not_false : ◌≡◌ {A = Bool} true false → ⊥
 true_not_false e = cc
-
-pub push_blank : (cs : List Clock) (c : Clock) → ((p q : ℕ) → clock_at cs p q ≡ 0) → ((q : ℕ) → count_of c q ≡ 0) → (p q : ℕ) → clock_at (cs ++ c ∷ []) p q ≡ 0
-push_blank [] c h e zero q = e q
-push_blank [] c h e (suc p) q = refl
-push_blank (x ∷ cs) c h e zero q = h 0 q
-push_blank (x ∷ cs) c h e (suc p) q = push_blank cs c (λ r s. h (suc r) s) e p q
-
-pub push_same : {X : Type 0} (xs : List X) (x : X) → ((p : ℕ) → p < length xs → slice_get xs p ≡ Some x) → (p : ℕ) → p < length xs + 1 → slice_get (xs ++ x ∷ []) p ≡ Some x
-push_same [] x h zero l = refl
-push_same [] x h (suc p) l = absurd (omega arith)
-push_same (y ∷ xs) x h zero l = h 0 (omega arith)
-push_same (y ∷ xs) x h (suc p) l = push_same xs x (λ r k. h (suc r) (omega arith)) p (omega arith)

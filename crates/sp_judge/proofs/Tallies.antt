@@ -164,12 +164,6 @@ module _ (P : (ℕ → Bool) → (Name → ℕ) → Type 0) (union : (f g : ℕ 
   gives_back_all [] past count b = b
   gives_back_all (x ∷ p) past count b = gains_all p past count b
 
-pair_first : (x y : Name × ℕ) → ◌≡◌ {A = Option (Name × ℕ)} (Some x) (Some y) → x.0 ≡ y.0
-pair_first x y e = ap (λ (z : Name × ℕ). z.0) (same x y e)
-  where
-    same : (x y : Name × ℕ) → ◌≡◌ {A = Option (Name × ℕ)} (Some x) (Some y) → x ≡ y
-    same x y e = cc
-
 pair_second : (x y : Name × ℕ) → ◌≡◌ {A = Option (Name × ℕ)} (Some x) (Some y) → x.1 ≡ y.1
 pair_second x y e = ap (λ (z : Name × ℕ). z.1) (same x y e)
   where
@@ -179,13 +173,6 @@ pair_second x y e = ap (λ (z : Name × ℕ). z.1) (same x y e)
 module _ (j : Judged) (es : List Occurrence) (count : Name → Name → ℕ) (kept : Kept j es) (below : (q : Name) (i : ℕ) → j.past q i ≡ true → i < length es) (says : (q : Name) → Says es (j.past q) (count q)) where
   abbrev n : ℕ
   n = length es
-
-  past_clear : (q : Name) (i : ℕ) → n ≤ i → j.past q i ≡ false
-  past_clear q i l = by (j.past q i) refl
-    where
-      by : (b : Bool) → j.past q i ≡ b → b ≡ false
-      by true h = absurd (let x = below q i h in omega arith)
-      by false h = refl
 
   counts_of : (q : Name) (i k : ℕ) → PlaceOf es q i k → Counts es q i
   counts_of q i k p = (p.0, p.1, p.2)

@@ -211,9 +211,6 @@ module _ (all : List Entry) (nameable : NameableFrom at_start all) (quiet : IsQu
         given (y ∷ xs) (suc n) zero l g = g
         given (y ∷ xs) (suc n) (suc i) l g = given xs n i (omega arith) g
 
-    process_there : (i : ℕ) (x : Entry) → slice_get all i ≡ Some x → x.process < s.processes
-    process_there i x g = front.there all nameable quiet lawful i x g
-
     offer_in : (w : Way) (c : ℕ) (i : ℕ) (x : Entry) → i < at → slice_get all i ≡ Some x → x.event ≡ offer_event w c → OfferIn os i (s.name x.process) w (channel s c)
     offer_in w c i x l g is = named_get s (take at all) i x (into_front i x l g) ∙ (λ j. Some (record { who = s.name x.process; what = (ap (happening s) is ∙ offer_happens s w c) j }))
 

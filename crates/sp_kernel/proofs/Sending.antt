@@ -145,9 +145,6 @@ module _ (x : Kernel) (k : IsKernel x) (p w : ℕ) (here : (control_of x).doing 
     at_z : WaitsAs (slice_get x.slots z) c (record { way = way.Receive; process = z; message = j })
     at_z = k.offers c (record { way = way.Receive; process = z; message = j }) pending
 
-    other : z ≢ p
-    other = no_waiter x k p w here c (record { way = way.Receive; process = z; message = j }) pending
-
     z_there : z < length x.slots
     z_there = go (slice_get x.slots z) refl at_z
       where

@@ -43,28 +43,6 @@ not_over k e = go (nat_lt 0 k.abandons) k.faulted (has_ended (k.doing 0)) e k.re
     go false false false e [] = front_none k (if nat_lt 0 k.out then Running else IsDeadlock) [] refl
     go false false false e (x ∷ xs) = refl
 
-pub took_none : (x : Kernel) (k : IsKernel x) (w : ℕ) → front (control_of x) ≡ None → Takes x w x None
-took_none x k w e = record { control = refl; front = sym e; system = refl; same = λ r. refl; work = λ p r. absurd (cc r); setting = (refl, refl, refl); journal = refl; whole = k }
-
-pub took_nothing : (x : Kernel) (k : IsKernel x) (w : ℕ) → is_over (control_of x) ≡ false → front_of x.ready ≡ None → Takes x w (record x { ready = behind x.ready }) None
-took_nothing x k w o e = subst (λ (r : List ℕ). Takes x w (record x { ready = r }) None) (empty x.ready e) (took_none x k w (not_over (control_of x) o ∙ e))
-  where
-    empty : (r : List ℕ) → front_of r ≡ None → r ≡ behind r
-    empty [] e = refl
-    empty (y ∷ ys) e = absurd (cc e)
-
-pub ready_slot : (o : Option Slot) → doing_in o ≡ Ready → IsReady o
-ready_slot None e = absurd (cc e)
-ready_slot (Some (slot.Here r st.Ready)) e = tt {0}
-ready_slot (Some (slot.Out v r)) e = absurd (cc e)
-ready_slot (Some (slot.Here r (st.Sending d j cs))) e = absurd (cc e)
-ready_slot (Some (slot.Here r (st.Receiving d j))) e = absurd (cc e)
-ready_slot (Some (slot.Here r (st.Joining n))) e = absurd (cc e)
-ready_slot (Some (slot.Here r st.Laid)) e = absurd (cc e)
-ready_slot (Some slot.Ended) e = absurd (cc e)
-ready_slot (Some (slot.Here r st.Over)) e = absurd (cc e)
-ready_slot (Some (slot.Gone r)) e = absurd (cc e)
-
 pub first_ready : (x : Kernel) (k : IsKernel x) (q : ℕ) → front_of x.ready ≡ Some q → IsGot (control_of x) (Some q)
 first_ready x k q e = go x.ready refl k.orderly.queue.queued e
   where

@@ -143,10 +143,6 @@ pub record IsKernel (x : Kernel) : Type 0 where
   pub numbers : (q : ℕ) → NumberIn (setting_of x).input (slice_get x.slots q) q
   pub parents : HasParents x.parents (births x.journal.entries)
 
--- the process is out with a worker, since it was so
-abbrev pub is_out : Option Slot → ℕ → Proc → Type 0
-is_out o w p = (x : _) × (o ≡ Some (slot.Out w x)) × (x.value ≡ p)
-
 -- ---- what the steps do
 
 -- an entry more

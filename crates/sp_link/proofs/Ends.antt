@@ -297,10 +297,6 @@ module _ (G : Ground) (lv : Lives G) (c : Course) (s : StateOf G.g) (u : System 
     at_far : (a : ℕ) → b.parent ≢ a → i ≢ a → u1.condition a ≡ u.condition a
     at_far a e f = at_else a e ∙ ap (λ y. cond y sys.Gone (u.condition a)) (number_is i a f)
 
-    rest_of : Name → Name
-    rest_of [] = []
-    rest_of (y ∷ a) = a
-
     no_empty : {a : Name} → (b.fork, b.child) ∷ a ≡ [] → ⊥
     no_empty h = cc h
 

@@ -72,10 +72,6 @@ pub indexed_length : (x : ℕ) (st : Stmt) (low : ℤ) (n : ℕ) → length (ind
 indexed_length x st low zero = refl
 indexed_length x st low (suc n) = ap suc (indexed_length x st (low +ℤ pos 1) n)
 
--- the machine counts no more children than 64 bits
-most : ℕ
-most = 18446744073709551615
-
 cut : (m : ℕ) → min m 18446744073709551615 ≤ m
 cut m = omega arith
 

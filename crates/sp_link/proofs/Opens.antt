@@ -124,10 +124,6 @@ module _ (G : Ground) (lv : Lives G) (c : Course) (s : StateOf G.g) (u : System 
   tn_is : IsTurn (ops G) G.code d (Stopped (machine.Opens t.6) (At t.0 t.1 t.2))
   tn_is = turn_is G lv c s u l i d at_i z (Stopped (machine.Opens t.6) (At t.0 t.1 t.2)) (t.4, t.8, t.9)
 
-  -- the faults of the totals, on both sides
-  totals_fault : (e1 e2 : Bool) → Option Fault
-  totals_fault e1 e2 = if e1 then Some fault.F15 else (if e2 then Some fault.F14 else None)
-
   passes : (e1 e2 : Bool) → nat_lt G.g.limits.entries (u.entries + 1) ≡ e1 → nat_lt G.g.limits.channels (u.births.channels + 1) ≡ e2 → passed (most G.g) x.at.totals (Some a_channel) ≡ (if e1 then Some fault.F15 else (if e2 then Some fault.F14 else None))
   passes e1 e2 h1 h2 =
       ap (λ (a : Totals). passed (most G.g) a (Some a_channel)) x.elsewhere.totals
@@ -177,9 +173,6 @@ module _ (G : Ground) (lv : Lives G) (c : Course) (s : StateOf G.g) (u : System 
 
     known_now : Known G.g t1
     known_now = record { sound = step_sound (most G.g) x.at v t1 known_then.sound goes_next; well = lowered G.g (λ b. ticks_in (x.at.condition b)) t1 (step_well G.g x.at known_then.sound v (raised G.g x.at known_then.well) t1 goes_next) }
-
-    kt : Keeps_to G.g.program (W_of G lv) (R_of G lv) s.forks v p1
-    kt = keeps_to G lv c s u l i d at_i
 
     rights_now : Inv G.g.program (W_of G lv) (R_of G lv) t1.condition t1.forks
     rights_now = inv_local G (W_of G lv) (R_of G lv) s.condition t1.condition s.forks t1.forks v l.rights x.elsewhere.forks (present G lv c s u l i d at_i) cond_r

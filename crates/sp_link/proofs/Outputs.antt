@@ -29,12 +29,6 @@ module _ (G : Ground) (lv : Lives G) (c : Course) (s : StateOf G.g) (u : System 
   at_config : (d : Config (Memory Plain)) → store_in {S = Plain} (sys.Working d) ≡ Some (store_of d)
   at_config (At pc st n) = refl
 
-  at_waits : (z : Rattle.sp_code.specs.Machine.Stop) (d : Config (Memory Plain)) → store_in {S = Plain} (sys.Waits z d) ≡ Some (store_of d)
-  at_waits z (At pc st n) = refl
-
-  at_joins : (left : ℕ) (d : Config (Memory Plain)) → store_in {S = Plain} (sys.Joins left d) ≡ Some (store_of d)
-  at_joins left (At pc st n) = refl
-
   at_laid : (d : Config (Memory Plain)) → store_in {S = Plain} (sys.Laid d) ≡ Some (store_of d)
   at_laid (At pc st n) = refl
 

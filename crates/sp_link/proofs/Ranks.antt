@@ -618,10 +618,6 @@ beyond [] k h = refl
 beyond (x ∷ xs) zero h = absurd (omega (arith, h))
 beyond (x ∷ xs) (suc k) h = beyond xs k (omega (arith, h))
 
-no_ways : (f : ℕ → ℕ) (b p : ℕ) (o : Option Instr) → o ≡ None → AllBelow f b (ways p o)
-no_ways f b p None e = tt
-no_ways f b p (Some x) e = absurd (cc e)
-
 -- where no rank of a place in the code passes its length
 ranked_by : (all : List Instr) → ((p : ℕ) → p < length all → (n : ℕ) → rank n all p ≤ length all) → IsRanked all
 unfolding rank IsRanked

@@ -42,13 +42,6 @@ use Rattle.sp_link.proofs.Scoping.{parts_scoped}
 
 -- ---- contents
 
-pub piece_held : (c : Option Content) → IsPiece c → IsHeld c
-piece_held None h = absurd h
-piece_held (Some (Owned cs)) h = tt
-piece_held (Some (Shared cs)) h = tt
-piece_held (Some (Bytes bs)) h = tt
-piece_held (Some Away) h = absurd h
-
 pub piece_known : (c : Option Content) → IsPiece c → IsSome c
 piece_known None h = absurd h
 piece_known (Some c) h = refl

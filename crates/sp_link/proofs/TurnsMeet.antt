@@ -117,9 +117,6 @@ module _ (G : Ground) (lf : Life) (kids : ℕ → ℕ → Life) (q : Name) (sinc
     pub kept : Kept_of result
     kept = turn_keeps G.g G.free q Wr Rd own_right z.fresh.reads dues last (enough_turn G.g dues pr) pr.todo pr.who pr.own s.store z.named fit
 
-    abbrev pub start_at : Config (Memory Plain)
-    start_at = At z.pc z.stack z.memory
-
     -- and in the machine
     abbrev pub Turned_as : Came source.Stop × Store → Type 0
     Turned_as r = Turned (execution G lf kids q z.fresh pr.who z.named since) (At z.pc z.stack z.memory) lf.end [] lf.below r

@@ -75,9 +75,6 @@ references_end os found i h = ap (λ (es : List Operand). found ++ references i 
 
 -- ---- values in their variables
 
-spot_at : ℕ → ℕ → Spot
-spot_at n k = record { frame = n; variable = k }
-
 other_spot : (n j k : ℕ) → j ≢ k → ◌≢◌ {A = Spot} (record { frame = n; variable = j }) (record { frame = n; variable = k })
 other_spot n j k h e = h (ap (λ (s : Spot). s.variable) e)
 

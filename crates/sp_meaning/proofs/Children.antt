@@ -125,8 +125,6 @@ module _ (p : Program) (W R V T : Loc → Type 0) (fs : List Frame) (q : Name) (
 
 -- the rights after fork k of q
 module _ (p : Program) (W R : Name → Loc → Type 0) (q : Name) (k : ℕ) (fs : List Frame) (ss : List Stmt) where
-  is_it : Name → ℕ → Bool
-  is_it r m = same_name q r && (m == k)
 
   abbrev pub writes_after : Name → Loc → Type 0
   writes_after [] l = W [] l

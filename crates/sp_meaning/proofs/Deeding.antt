@@ -26,14 +26,6 @@ use Rattle.sp_meaning.proofs.Entered.{fresh, fresh_linked, fresh_sound}
 pub record From {A : Type 0} (q : Name) (W R : Loc → Type 0) (fs : List Frame) (G : A → List Frame → Type 0) (h : Work A) : Type 0 where
   pub by : (w : Who) (o : Own) → w.name ≡ q → o.frames ≡ fs → Within W R (λ a o1. G a o1.frames) (h w o)
 
-within_more : {A : Type 0} (W R : Loc → Type 0) (F G : A → Own → Type 0) (x : Asking Loc Held (Came A)) → ((a : A) (o : Own) → F a o → G a o) → Within W R F x → Within W R G x
-within_more W R F G (Done (Got a o)) i h = i a o h
-within_more W R F G (Done (Bad f)) i h = tt
-within_more W R F G (Done Lost) i h = tt
-within_more W R F G (Done Long) i h = tt
-within_more W R F G (Loads l more) i h = (h.0, λ v. within_more W R F G (more v) i (h.1 v))
-within_more W R F G (Puts l v more) i h = (h.0, within_more W R F G more i h.1)
-
 module _ (q : Name) (W R : Loc → Type 0) where
   pub after : {A B : Type 0} {F : A → Type 0} {G : B → List Frame → Type 0} {fs : List Frame} (h : Work A) (g : A → Work B) → Keeps q W R fs F h → ((a : A) → F a → From q W R fs G (g a)) → From q W R fs G (bind h g)
   after {F = F} {G = G} {fs = fs} h g a b = record { by = λ w o n e. within_then W R (λ x o1. (o1.frames ≡ fs) × F x) (λ x o1. G x o1.frames) (h w o) g w (a.by w o n e) (λ x o1 f. (b x f.1).by w o1 n f.0) }
@@ -46,9 +38,6 @@ module _ (q : Name) (W R : Loc → Type 0) where
 
   pub fails : {A : Type 0} {G : A → List Frame → Type 0} {fs : List Frame} (f : Fault) → From q W R fs G (fail f)
   fails f = record { by = λ w o n e. tt }
-
-  pub loses : {A : Type 0} {G : A → List Frame → Type 0} {fs : List Frame} → From q W R fs G lost
-  loses = record { by = λ w o n e. tt }
 
 number : (a b : ℕ) → (a ≡ b) ⊎ (a ≢ b)
 number a b = go (a == b) refl

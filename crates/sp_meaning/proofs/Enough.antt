@@ -64,9 +64,6 @@ module _ (t : ℕ) where
   pub lost_steady : (A : Type 0) → Steady {A = A} t lost
   lost_steady A = record { by = λ w o le. tt }
 
-  pub mine_steady : Steady t mine
-  mine_steady = record { by = λ w o le. (le, tt) }
-
   pub look_steady : (l : Loc) → Steady t (look l)
   look_steady l = record { by = λ w o le h. (le, tt) }
 

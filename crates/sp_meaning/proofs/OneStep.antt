@@ -12,7 +12,3 @@ module _ (p : Program) (Here : Use → Type 0) (x : ℕ) where
   pub one_step : IsTarget p Here x → InOneStep
   one_step ([], r) = inl r
   one_step (b ∷ bs, r) = inr (b, r.0, r.1, (r.2, r.3, r.4, (bs, r.5)))
-
-  pub from_one_step : InOneStep → IsTarget p Here x
-  from_one_step (inl h) = ([], h)
-  from_one_step (inr h) = (h.0 ∷ h.3.3.0, (h.1, h.2, h.3.0, h.3.1, h.3.2, h.3.3.1))

@@ -157,20 +157,3 @@ module _ (p : Program) where
   pub no_target : AreFunctionsPure → {Here : Use → Type 0} → ((u : Use) → Here u → PureUse u) → (bs : List ℕ) (x : ℕ) → Reach p Here bs (Target x) → ⊥
   no_target pure uses [] x r = uses (Target x) r
   no_target pure uses (b ∷ bs) x r = pure b (uses (CallOf b r.0) r.1) x (r.2, r.3, r.4, (bs, r.5))
-
--- a program that breaks no rule of interference has pure functions
-pub functions_pure : (c : checked.Program) → ((r : Rule) (at : Place) → Interferes c r at → ⊥) → AreFunctionsPure (bare c)
-functions_pure c calm f function x i =
-    let m = block_at c.blocks f function.0 function.2 in
-    calm rule.I8 m.0.at (f, m.0, m.1, refl, function, x, i)
-
-variable_at : (xs : List checked_variable.Variable) (x : ℕ) (v : Variable) → slice_get (map variable_of xs) x ≡ Some v → (i : checked_variable.Variable) × (slice_get xs x ≡ Some i) × (variable_of i ≡ v)
-variable_at [] x v e = absurd (cc e)
-variable_at (y ∷ ys) zero v e = (y, refl, cc e)
-variable_at (y ∷ ys) (suc x) v e = variable_at ys x v e
-
-pub functions_take_values : (c : checked.Program) → ((r : Rule) (at : Place) → Interferes c r at → ⊥) → DoFunctionsTakeValues (bare c)
-functions_take_values c calm f b e function x member v ev is =
-    let m = block_at c.blocks f b e in
-    let i = variable_at c.variables x v ev in
-    calm rule.I7 i.0.at (f, m.0, m.1, function, x, subst (λ (y : Block). IsMember x y.formals) (sym m.2) member, i.0, i.1, ap (λ (y : Variable). y.role) i.2 ∙ is, refl)

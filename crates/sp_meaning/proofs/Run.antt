@@ -21,13 +21,3 @@ run_bind {A} {B} h g w o m = answer_then loc_test (h w o) (λ r. go_on g w r) m 
     go (Bad f, m1) = refl
     go (Lost, m1) = refl
     go (Long, m1) = refl
-
-pub meets_bind : {A B : Type 0} (h : Work A) (g : A → Work B) (w : Who) (o : Own) (m : Store) (Q : A → Own → Store → Type 0) (R : B → Own → Store → Type 0) (F : Fault → Store → Type 0)
-    → Meets Q F (run h w o m) → ((a : A) (o1 : Own) (m1 : Store) → Q a o1 m1 → Meets R F (run (g a) w o1 m1)) → Meets R F (run (bind h g) w o m)
-meets_bind {A} {B} h g w o m Q R F hh gg = subst (Meets R F) (sym (run_bind h g w o m)) (go (run h w o m) hh)
-  where
-    go : (r : Came A × Store) → Meets Q F r → Meets R F (then_run g w r)
-    go (Got a o1, m1) q = gg a o1 m1 q
-    go (Bad f, m1) q = q
-    go (Lost, m1) q = tt
-    go (Long, m1) q = tt

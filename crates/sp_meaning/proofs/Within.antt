@@ -111,10 +111,6 @@ module _ (q : Name) (W R : Loc → Type 0) (fs : List Frame) where
   or_lost_stays {A} None = lost_stays A
   or_lost_stays (Some a) = give_stays a
 
-  pub if_stays : {A : Type 0} (b : Bool) (h g : Work A) → Stays h → Stays g → Stays (if b then h else g)
-  if_stays true h g x y = x
-  if_stays false h g x y = y
-
   pub fetch_stays : (a : Address) → R a.spot → Stays (fetch a)
   fetch_stays a r = then_stays (look a.spot) _ (look_stays a.spot r) (λ h. give_stays _)
 

@@ -15,10 +15,6 @@ use Rattle.sp_race.proofs.Changes.{Apart, ApartFrom, AllApart, after_swap}
 abbrev pub Touches : {L : Language} → State L → L.Own → L.Loc → Type 0
 Touches {L} s own l = (L.touches own s.store l) ⊎ WritesTo s (L.next own s.store) l
 
--- The totals
-nothing : Totals
-nothing = record { processes = 0; channels = 0; entries = 0 }
-
 abbrev spent : Option Totals → Totals
 spent None = record { processes = 0; channels = 0; entries = 0 }
 spent (Some n) = n

@@ -266,9 +266,6 @@ made_then x y z p e m s = record {
 pub picked_out : (x : Kernel) (who : ℕ → Option Proc) → AreOut x who → (q : ℕ) (p : Proc) → who q ≡ Some p → IsOutAs x p.number p
 picked_out x who o q p e = let w = o.each q p e in subst (λ n. IsOutAs x n p) (sym w.number) w
 
-pub runs_again : (x y : Kernel) (code : Parts) (lim : Limits) → setting_of y ≡ setting_of x → RunsOn x code lim → RunsOn y code lim
-runs_again x y code lim e r = record { code = ap (λ (g : Setting). g.code) e ∙ r.code; limits = ap (λ (g : Setting). g.limits) e ∙ r.limits }
-
 -- one was picked and turned, and all others are held
 pub in_hand : (f g : Followed) (code : Parts) (lim : Limits) (q : ℕ) (p : Proc) (h : Handed) → Stands f → g.kernel ≡ f.kernel → held_at f.held q ≡ Some p → ((r : ℕ) → held_at g.held r ≡ at_key ◌==◌ q None (held_at f.held) r) → WasTurned p code lim h → IsInHand g code lim h
 in_hand f g code lim q p h s same e others t =

@@ -135,9 +135,6 @@ none_first : (a b : Option (List ℕ)) → or_rest a b ≡ None → (a ≡ None)
 none_first None b e = (refl, e)
 none_first (Some bs) b e = absurd (cc e)
 
-some_same : {X : Type 0} {a b : X} → Some a ≡ Some b → a ≡ b
-some_same e = cc
-
 pub no_outputs : (held : List (Option Proc)) → outputs held ≡ None → (q : ℕ) (p : Proc) → held_at held q ≡ Some p → written_by p ≡ None
 no_outputs [] e q p is = absurd (cc is)
 no_outputs (o ∷ os) e zero p is = subst (λ (r : Option Proc). output_in r ≡ None) is (none_first (output_in o) (outputs os) e).0

@@ -331,20 +331,9 @@ module _ {O A G N : Type 0} (opens : O → Type 0) (steps : O → ℕ → A → 
   gives_last slots id me me' me'' d note bare is up active holding items runs reserve space = subst (λ (m : Sat O N). Allows Rule slots id m 0 (λ _. 0) (λ _. Returned (step slots 0 0 0 none) m 0)) (sym (counted_last me me' me'' d note bare is items up))
       (returns_turn slots id (raised_last me.0 (note ∷ []), (0, Some d) ∷ []) d active holding refl items runs reserve (omega (arith, ap (λ (l : List N). length l) items, space)))
 
--- what the seat is after all this
-pub given_back : {O N : Type 0} (me me' me'' : Sat O N) (d : Filed O N) → me' ≡ (me.0, (0, Some d) ∷ Rattle.atomic_table.specs.Table.rest me.1) → me'' ≡ (returned me'.0, []) → me'' ≡ (returned me.0, [])
-given_back me me' me'' d is back = back ∙ ap (λ (m : Sat _ _). (returned m.0, [])) is
-
 pub given_on : {O N : Type 0} (me me' me'' me''' : Sat O N) (d : Filed O N) (note : N) → me ≡ (me.0, (0, None) ∷ []) → me' ≡ (me.0, (0, Some d) ∷ Rattle.atomic_table.specs.Table.rest me.1)
     → d.value.notes.items ≡ me.0.seen ++ note ∷ [] → me'' ≡ (raised me'.0 (drop (length me'.0.seen) (in_hand me'.1)), me'.1) → me''' ≡ (returned me''.0, [])
     → me''' ≡ (returned (raised me.0 (note ∷ [])), [])
 given_on {O} {N} me me' me'' me''' d note bare is items up back = back ∙ ap (λ (m : Sat O N). (returned m.0, [])) (up ∙ (ap (λ (m : Sat O N). (raised m.0 (drop (length m.0.seen) (in_hand m.1)), m.1))
     (is ∙ ap (λ (m : Sat O N). (me.0, (0, Some d) ∷ Rattle.atomic_table.specs.Table.rest m.1)) bare)
     ∙ ap (λ (l : List N). (raised me.0 l, (0, Some d) ∷ [])) (ap (drop (length me.0.seen)) items ∙ drop_seen me.0.seen (note ∷ []))))
-
-pub given_last : {O N : Type 0} (me me' me'' me''' : Sat O N) (d : Filed O N) (note : N) → me ≡ (me.0, (0, None) ∷ []) → me' ≡ (me.0, (0, Some d) ∷ Rattle.atomic_table.specs.Table.rest me.1)
-    → d.value.notes.items ≡ me.0.seen ++ note ∷ [] → me'' ≡ (raised_last me'.0 (drop (length me'.0.seen) (in_hand me'.1)), me'.1) → me''' ≡ (returned me''.0, [])
-    → me''' ≡ (returned (raised_last me.0 (note ∷ [])), [])
-given_last {O} {N} me me' me'' me''' d note bare is items up back = back ∙ ap (λ (m : Sat O N). (returned m.0, [])) (up ∙ (ap (λ (m : Sat O N). (raised_last m.0 (drop (length m.0.seen) (in_hand m.1)), m.1))
-    (is ∙ ap (λ (m : Sat O N). (me.0, (0, Some d) ∷ Rattle.atomic_table.specs.Table.rest m.1)) bare)
-    ∙ ap (λ (l : List N). (raised_last me.0 l, (0, Some d) ∷ [])) (ap (drop (length me.0.seen)) items ∙ drop_seen me.0.seen (note ∷ []))))

@@ -64,12 +64,6 @@ module _ {O A G N : Type 0} (opens : O → Type 0) (steps : O → ℕ → A → 
         legal_after = runs_on steps x d.value.notes.items d.value.object y m.0.number a g n ((holds.2 x from).1) here;
       }
 
-  -- what the seat has seen after a turn with no note
-  pub seen_back : (m m' m'' : Sat O N) (cs : List (ℕ × Option (Filed O N))) (d : Filed O N)
-      → m' ≡ (holder m.0 d.value.notes.items d.value.reserved, cs) → Holds opens steps author m.0 d → m'' ≡ (returned m'.0, [])
-      → StartsWith m''.0.seen m.0.seen × (notes_by author m''.0.number m''.0.seen ≡ m''.0.own)
-  seen_back m m' m'' cs d won holds end = subst (λ (z : Sat O N). StartsWith z.0.seen m.0.seen × (notes_by author z.0.number z.0.seen ≡ z.0.own)) (sym (end ∙ ap (λ (z : Sat O N). (returned z.0, [])) won)) (holds.0, holds.1)
-
   -- the call with no note, which leaves the object as it was
   pub looked : (m m' m'' : Sat O N) (cs : List (ℕ × Option (Filed O N))) (d : Filed O N) (y : O) (number : ℕ) (a : A) (g : G) (o : Option N)
       → m' ≡ (holder m.0 d.value.notes.items d.value.reserved, cs) → Holds opens steps author m.0 d → m'' ≡ (returned m'.0, []) → m.0.opening ≡ Some x → number ≡ m.0.number → steps d.value.object number a y g o → o ≡ None → y ≡ d.value.object
@@ -95,9 +89,3 @@ module _ {O A G N : Type 0} (opens : O → Type 0) (steps : O → ℕ → A → 
       → Declined steps refused x m.0 a g m''.0
   declined refused m m' m'' cs d a g won holds end from back = subst (λ (z : Sat O N). Declined steps refused x m.0 a g z.0) (sym (end ∙ ap (λ (z : Sat O N). (returned z.0, [])) won))
       record { answer = back; own = refl; met = d.value.object; legal = (holds.2 x from).1 }
-
-pub space_last : {N : Type 0} (items old : List N) (n : N) (r space room : ℕ) → items ≡ old ++ n ∷ [] → length old + r ≤ space → 0 < r → room ≡ space → length items + (r - 1) ≤ room
-space_last items old n r space room is fits some_left same = omega (arith, ap (λ (l : List _). length l) is, length-append old (n ∷ []), fits, some_left, same)
-
-pub space_on : {N : Type 0} (items old : List N) (n : N) (r long space room : ℕ) → items ≡ old ++ n ∷ [] → long ≡ length old → long + (r + 1) ≤ space → room ≡ space → length items + r ≤ room
-space_on items old n r long space room is len fits same = omega (arith, ap (λ (l : List _). length l) is, length-append old (n ∷ []), fits, len, same)

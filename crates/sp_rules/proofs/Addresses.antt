@@ -292,9 +292,6 @@ module _ (c : Parts) (k : Keeps c) where
         go (Some x) is e = listed l.variables n f.number (is
             ∙ ap Some (sym (number_is x (slice_get l.formals n) (slice_get l.sizes n) f e)))
 
-    named : Found → Type 0
-    named f = (is_plain f.naming ≡ true) ⊎ (is_reference f.naming ≡ true)
-
     in_home : (h : Home) (var : ℕ) (f : Found) → found_at c.layouts h var ≡ Some f → (is_plain f.naming ≡ true)
         ⊎ (is_reference f.naming ≡ true) → IsMember f.number (variables_in c.layouts h)
     in_home (OfBlock b) var f e w = go (layout_of c.layouts b) e

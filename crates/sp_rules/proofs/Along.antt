@@ -24,9 +24,6 @@ use Rattle.sp_rules.specs.Systems.{without, awaits, IsLive, Lent, moved_to, with
 use Rattle.sp_rules.proofs.Messages.{lives_received}
 use Rattle.sp_rules.proofs.Rejoining.{lives_whole, lent_rest}
 
-some_is : {X : Type 0} {y z : X} → Some y ≡ Some z → y ≡ z
-some_is e = cc
-
 pub without_length : (q : ℕ) (xs : List ℕ) → IsMember q xs → length (without q xs) ≡ length xs - 1
 without_length q [] m = absurd m
 without_length q (x ∷ xs) m = go (q == x) refl m (without_length q xs) (some xs)

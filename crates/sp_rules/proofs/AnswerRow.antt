@@ -166,22 +166,3 @@ verified V7 p (inl (a, b, up, ss, l, area, call, h)) = no_call a p b up ss l cal
 verified V7 p (inr h) = no_call h.3.0.0 h.3.0.1 h.0.block h.3.0.2 h.3.0.3 h.3.0.4 h.3.0.6
 verified V8 p h = no_true h.0.answer h.3.0 (one_layout (λ l. l.answer ≡ false) refl h.1.0 h.0 h.1.1)
 verified V9 p h = keeps_v9 p h
-
-of_one : {X : Type 0} (P : X → Type 0) (x : X) → P x → All P (x ∷ [])
-of_one P x h zero d l = h
-of_one P x h (suc k) d l = absurd (omega (arith, l))
-
-small : KeepsSizes answer
-small = record {
-  instrs = omega arith;
-  layouts = omega arith;
-  forks = omega arith;
-  texts = omega arith;
-  frames = of_one HasNumbers main (omega arith);
-  sizes = of_one HasSmallSizes main (of_one IsSize 1 (omega arith));
-  children = λ k d l. absurd (omega (arith, l));
-}
-
--- so it is sound: the theorem is not empty
-pub answer_sound : IsSound answer
-answer_sound = verified_sound answer small verified

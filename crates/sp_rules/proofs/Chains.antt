@@ -14,10 +14,6 @@ use Rattle.std.specs.Prelude.{nat_lt}
 use Rattle.std.proofs.lemmas.Bool.{ltb-true}
 use Rattle.std.proofs.lemmas.List.{length-drop, drop-drop}
 
--- frames outward are an end of the list
-pub last_is_drop : (n : ℕ) (fs : List Frame) → (k : ℕ) × (last_frames n fs ≡ drop k fs)
-last_is_drop n fs = (length fs - n, refl)
-
 pub up_is_drop : (k : ℕ) (fs : List Frame) → (j : ℕ) × (frames_up k fs ≡ drop j fs)
 up_is_drop zero fs = (0, refl)
 up_is_drop (suc k) [] = (0, refl)

@@ -30,14 +30,6 @@ use Rattle.sp_rules.proofs.Lists.{member_front, member_back, member_either}
 use Rattle.sp_rules.proofs.Scoping.{found_layout, area_drop, homes_step, is_block_of, inner}
 use Rattle.sp_rules.proofs.Walking.{passes}
 
-some_is : {X : Type 0} {y z : X} → Some y ≡ Some z → y ≡ z
-some_is e = cc
-
-in_either : (x : ℕ) (ys zs : List ℕ) → IsIn x (ys ++ zs) → IsIn x ys ⊎ IsIn x zs
-in_either x [] zs h = inr h
-in_either x (y ∷ ys) zs (inl e) = inl (inl e)
-in_either x (y ∷ ys) zs (inr h) = ⊎_elim (λ k. inl (inr k)) (λ k. inr k) (in_either x ys zs h)
-
 pub is_member : (x : ℕ) (ys : List ℕ) → IsIn x ys → IsMember x ys
 is_member x [] h = h
 is_member x (y ∷ ys) (inl e) = inl e

@@ -95,9 +95,6 @@ module _ {S : Type 0} (stores : Stores S) (ls : List Layout) (n : Memory S) (x l
   pub has_left : (k : ℕ) → k ≤ left → has_cells (stores.piece n.store q.spot) q.offset k ≡ true
   has_left k h = has_some (stores.piece n.store q.spot) w.cells q.offset k here (reaches k h)
 
-  pub known_here : (s : Spot) → w.spot ≡ s → q.spot ≡ s
-  known_here s e = same_some q.spot w.spot (sym pt.stands ∙ w.stands) ∙ e
-
 module _ {S : Type 0} (stores : Stores S) (g : Setting) where
   same_done : (n m : Memory S) → ◌≡◌ {A = Did (Memory S)} (Done n) (Done m) → n ≡ m
   same_done n m e = cc

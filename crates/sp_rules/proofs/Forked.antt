@@ -171,9 +171,6 @@ module _ (g : Setting) {Area : Type 0} (H : Area → List Home) (E : Area → �
     right : (x : ℕ) → E e x → IsRight t x
     right x r = c.rights x r
 
-    wrong : IsRight t 0 ⊎ IsRight t 1 → E e 0 ⊎ E e 1
-    wrong z = ⊎_elim (λ r. inl (c.given 0 r)) (λ r. inr (c.given 1 r)) z
-
     back : E e 0 ⊎ E e 1 → IsRight t 0 ⊎ IsRight t 1
     back z = ⊎_elim (λ r. inl (c.rights 0 r)) (λ r. inr (c.rights 1 r)) z
 

@@ -23,9 +23,6 @@ use Rattle.sp_rules.proofs.Lists.{member_front, member_back, member_either}
 use Rattle.sp_rules.proofs.Forking.{has_held}
 use Rattle.sp_rules.proofs.Keeping.{Keeps, all_keeps, keeps_same}
 
-some_is : {X : Type 0} {y z : X} → Some y ≡ Some z → y ≡ z
-some_is e = cc
-
 -- ---- lists of numbers
 
 pub newest_last : (ms : List ℕ) (n : ℕ) → newest (ms ++ n ∷ []) ≡ n

@@ -40,15 +40,6 @@ in_split x [] zs h = inr h
 in_split x (y ∷ ys) zs (inl e) = inl (inl e)
 in_split x (y ∷ ys) zs (inr h) = ⊎_elim (λ k. inl (inr k)) (λ k. inr k) (in_split x ys zs h)
 
-in_front : (x : ℕ) (ys zs : List ℕ) → IsIn x ys → IsIn x (ys ++ zs)
-in_front x [] zs h = absurd h
-in_front x (y ∷ ys) zs (inl e) = inl e
-in_front x (y ∷ ys) zs (inr h) = inr (in_front x ys zs h)
-
-in_back : (x : ℕ) (ys zs : List ℕ) → IsIn x zs → IsIn x (ys ++ zs)
-in_back x [] zs h = h
-in_back x (y ∷ ys) zs h = inr (in_back x ys zs h)
-
 listed : (xs : List ℕ) (n x : ℕ) → slice_get xs n ≡ Some x → IsMember x xs
 listed [] n x e = absurd (cc e)
 listed (y ∷ xs) zero x e = inl (sym (some_is e))

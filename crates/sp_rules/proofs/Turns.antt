@@ -246,9 +246,6 @@ module _ {S : Type 0} (stores : Stores S) (g : Setting) (sc : Scoped g.code) (a 
   abbrev Whole : List ℕ → Type 0
   Whole xs = (y : ℕ) → IsIn y xs → 2 ≤ y → HasWhole stores g.code.layouts n y
 
-  Any : List Shape → Type 0
-  Any zs = Unit {0}
-
   -- the variables of a list are ones that the instruction stores
   abbrev Sub : List ℕ → Type 0
   Sub xs = (x : ℕ) → IsIn x xs → IsIn x (stored_by g.code a (instr_at g.code p) ss)

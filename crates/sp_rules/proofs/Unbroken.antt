@@ -11,9 +11,6 @@ use Rattle.sp_rules.specs.Reach.{IsArea}
 use Rattle.sp_rules.specs.Shapes.{Shape}
 use Rattle.sp_rules.proofs.Lists.{member_or}
 
-some_is : {X : Type 0} {y z : X} → Some y ≡ Some z → y ≡ z
-some_is e = cc
-
 different_or : (xs : List ℕ) → AllDifferent xs ⊎ (AllDifferent xs → ⊥)
 different_or [] = inl tt
 different_or (x ∷ xs) = ⊎_elim (λ m. inr (λ d. d.0 m))

@@ -43,9 +43,6 @@ use Rattle.sp_rules.proofs.Safety.{system_ok, system_safe}
 use Rattle.sp_rules.proofs.Scoping.{declared_here, found_layout, layout_different, newest}
 use Rattle.sp_rules.proofs.Walking.{passes}
 
-some_is : {X : Type 0} {y z : X} → Some y ≡ Some z → y ≡ z
-some_is e = cc
-
 module _ (g : Setting) (k : Keeps g.code) (e : KeepsEffects g.code (Does g.code)) (known : (p : ℕ) → Unknown g.code p
     → ⊥) (small : g.limits.depth ≤ 4294967295) where
   abbrev pub E : Area → ℕ → Type 0

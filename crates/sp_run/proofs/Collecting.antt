@@ -49,9 +49,6 @@ pub record AreBelow (run : set.Setting) (s : State) (i : ℕ) (vs : List Waiting
   pub only : (w : Waiting) → IsIn w vs → WaitsSo (setting_of run) (state_of run s) w
   pub whole : (k : ℕ) → k < i → (w : Waiting) → WaitsSo (setting_of run) (state_of run s) w → name_at s.conditions k ≡ w.who → IsIn w vs
 
-pub below_nothing : (run : set.Setting) (s : State) → AreBelow run s 0 []
-below_nothing run s = record { sorted = tt; only = λ w i. absurd i; whole = λ k h. absurd (omega arith) }
-
 at_or_below : (k i : ℕ) → k < suc i → (k < i) ⊎ (k ≡ i)
 at_or_below k i h = grind arith
 

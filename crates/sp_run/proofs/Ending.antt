@@ -30,11 +30,6 @@ ended_is m.Ended e = refl
 not_ended : (c : Standing) → has_ended c ≡ false → c ≡ m.Ended → ⊥
 not_ended c e h = let x : true ≡ false = sym (ap has_ended h) ∙ e in absurd (cc x)
 
--- a process that runs was found
-pub some_runs : (p : Option Process) (x : Option o.Process) → option_map plain_process p ≡ x → is_some p ≡ true → (own : o.Process) × (x ≡ Some own)
-some_runs None x e h = absurd (cc h)
-some_runs (Some p) x e h = (plain_process p, sym e)
-
 -- none was found
 pub none_runs : (p : Option Process) (x : Option o.Process) → option_map plain_process p ≡ x → is_some p ≡ false → x ≡ None
 none_runs None x e h = sym e

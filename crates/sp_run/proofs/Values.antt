@@ -10,10 +10,6 @@ item_values p [] i = refl
 item_values p (v ∷ vs) zero = refl
 item_values p (v ∷ vs) (suc i) = item_values p vs i
 
-pub get_at_undefined : (path : List ℕ) → get_at path Undefined ≡ Undefined
-get_at_undefined [] = refl
-get_at_undefined (i ∷ path) = get_at_undefined path
-
 pub with_item_here : {A : Type 0} (p : A → Value) (f : Value → Value) (vs : List A) (i : ℕ) (x u : A) → slice_get vs i ≡ Some x → p u ≡ f (p x) → values (map p (slice_set vs i u)) ≡ with_item f (values (map p vs)) i
 with_item_here p f [] i x u e h = cc
 with_item_here p f (v ∷ vs) zero x u e h = let k : v ≡ x = cc in cc
@@ -24,31 +20,11 @@ with_item_past p f [] i e = refl
 with_item_past p f (v ∷ vs) zero e = cc
 with_item_past p f (v ∷ vs) (suc i) e = ap (λ ws. Then (p v) ws) (with_item_past p f vs i e)
 
-pub parts_none : {A : Type 0} (p : A → Value) (vs : List A) (i : ℕ) (path rest : List ℕ) → slice_get vs i ≡ None → path ≡ i ∷ rest → get_at path (Parts (values (map p vs))) ≡ Undefined
-parts_none p vs i path rest e h = rw h (rw (item_values p vs i) (rw e (get_at_undefined rest)))
-
-pub parts_some : {A : Type 0} (p : A → Value) (vs : List A) (i : ℕ) (path rest : List ℕ) (x : A) → slice_get vs i ≡ Some x → path ≡ i ∷ rest → get_at path (Parts (values (map p vs))) ≡ get_at rest (p x)
-parts_some p vs i path rest x e h = rw h (rw (item_values p vs i) (rw e refl))
-
-pub undefined_has_none : (i : ℕ) (path rest : List ℕ) → path ≡ i ∷ rest → get_at path Undefined ≡ Undefined
-undefined_has_none i path rest h = rw h (get_at_undefined rest)
-
-pub ordinal_has_none : (n : ℤ) (i : ℕ) (path rest : List ℕ) → path ≡ i ∷ rest → get_at path (Ordinal n) ≡ Undefined
-ordinal_has_none n i path rest h = rw h (get_at_undefined rest)
-
-pub channel_has_none : (c : Channel) (i : ℕ) (path rest : List ℕ) → path ≡ i ∷ rest → get_at path (Chan c) ≡ Undefined
-channel_has_none c i path rest h = rw h (get_at_undefined rest)
-
 pub with_part_here : {A : Type 0} (p : A → Value) (w : Value) (vs : List A) (i : ℕ) (path rest : List ℕ) (x u : A) → slice_get vs i ≡ Some x → path ≡ i ∷ rest → p u ≡ set_at rest w (p x) → set_at path w (Parts (values (map p vs))) ≡ Parts (values (map p (slice_set vs i u)))
 with_part_here p w vs i path rest x u e h k = rw h (ap Parts (sym (with_item_here p (set_at rest w) vs i x u e k)))
 
 pub with_part_past : {A : Type 0} (p : A → Value) (w : Value) (vs : List A) (i : ℕ) (path rest : List ℕ) → slice_get vs i ≡ None → path ≡ i ∷ rest → set_at path w (Parts (values (map p vs))) ≡ Parts (values (map p vs))
 with_part_past p w vs i path rest e h = rw h (ap Parts (with_item_past p (set_at rest w) vs i e))
-
-pub first_mapped : {A : Type 0} (p : A → Value) (vs : List A) (i : ℕ) → first_or Undefined (slice_get (map p vs) i) ≡ first_or Undefined (option_map p (slice_get vs i))
-first_mapped p [] i = refl
-first_mapped p (v ∷ vs) zero = refl
-first_mapped p (v ∷ vs) (suc i) = first_mapped p vs i
 
 pub some_mapped : {A B : Type 0} (p : A → B) (vs : List A) (i : ℕ) (x : A) → slice_get vs i ≡ Some x → slice_get (map p vs) i ≡ Some (p x)
 some_mapped p [] i x e = cc

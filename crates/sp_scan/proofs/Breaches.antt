@@ -298,16 +298,6 @@ module _ {bs r : List ℕ} (c : Comment bs r) where
   pub fine_comment : (s : Rule) → BreaksHere s bs → ⊥
   fine_comment = none_by bs (record { s1 = inr comment_stray; s2 = inr (λ o. o.open_end r c); s3 = inr comment_text; s4 = inr (λ o. comment_number o.number); s5 = inr (λ o. comment_name o.name); u1 = inr comment_u1; u2 = inr comment_u2 })
 
--- a comment without end
-open_stray : {bs : List ℕ} → opens_comment bs ≡ true → StrayByte bs → ⊥
-open_stray h (stray b e o q d f g n) = differ h o
-
-pub open_comment : (bs : List ℕ) → opens_comment bs ≡ true → ((r : List ℕ) → Comment bs r → ⊥) → FirstHere rule.S2 bs
-open_comment bs h f = record {
-  broken = record { opens = h; open_end = f };
-  first = rows_free 2 bs (record { s1 = inr (open_stray h); s2 = inl (omega arith); s3 = inl (omega arith); s4 = inl (omega arith); s5 = inl (omega arith); u1 = inl (omega arith); u2 = inl (omega arith) });
-}
-
 -- where no token begins
 module _ (b : ℕ) (bs : List ℕ) (blank : is_blank b ≡ false) (closed : opens_comment (b ∷ bs) ≡ false) (none : NoToken (b ∷ bs)) where
   no_stray_odd : (n : ℕ) → b ≡ n → (n ≡ 39) ⊎ (is_odd n ≡ true) → StrayByte (b ∷ bs) → ⊥

@@ -92,9 +92,6 @@ no_text_at b rest r k h f (word n c e x w) = letter_quote b e h
 no_text_at b rest r k h f (number c e x) = digit_quote b e h
 no_text_at b rest r k h f (sign n s e g) = no_quote b (sign_plain b rest s r n e g) h
 
-pub none_text : (bytes rest : List ℕ) (b : ℕ) → bytes ≡ b ∷ rest → b ≡ 39 → ((r : List ℕ) → TextBody rest r → ⊥) → NoToken bytes
-none_text bytes rest b e h f k r x = no_text_at b rest r k h f (subst (λ l. Lexeme k l r) e x)
-
 -- signs
 below_twenty : (n : ℕ) (s : List ℕ) → slice_get signs n ≡ Some s → n < 20
 below_twenty n s h = slice_get_within signs n s h
@@ -122,16 +119,6 @@ no_sign_at b rest r k l d q f (text c e x) = q e
 pub none_sign : (bytes rest : List ℕ) (b : ℕ) → bytes ≡ b ∷ rest → is_letter b ≡ false → is_digit b ≡ false → b ≢ 39 → ((n : ℕ) (r : List ℕ) → n < 20 → HasSign bytes n r → ⊥) → NoToken bytes
 none_sign bytes rest b e l d q f k r x = no_sign_at b rest r k l d q (λ n r h g. f n r h (subst (λ l. HasSign l n r) (sym e) g)) (subst (λ l. Lexeme k l r) e x)
 
-nothing_there : (r : List ℕ) (k : Kind) (bs : List ℕ) → bs ≡ [] → Lexeme k bs r → ⊥
-nothing_there r k bs e (name c h x n) = cc
-nothing_there r k bs e (word n c h x w) = cc
-nothing_there r k bs e (number c h x) = cc
-nothing_there r k bs e (text c h x) = cc
-nothing_there r k bs e (sign n s h g) = let l = lexeme_length (sign n s h g) in let m = ap length e in omega arith
-
-pub none_empty : (bytes : List ℕ) → bytes ≡ [] → NoToken bytes
-none_empty bytes e k r x = nothing_there r k bytes e x
-
 no_brace_at : {r : List ℕ} (rest : List ℕ) (b : ℕ) → b ≡ 123 → ((r : List ℕ) → BraceBody rest r → ⊥) → Comment (b ∷ rest) r → ⊥
 no_brace_at rest b h f (brace_comment c e x) = f _ x
 no_brace_at rest b h f (star_comment a c e g x) = omega arith
@@ -139,13 +126,6 @@ no_brace_at rest b h f (star_comment a c e g x) = omega arith
 no_star_at : {r : List ℕ} (behind : List ℕ) (a b : ℕ) → a ≡ 40 → ((r : List ℕ) → StarBody behind r → ⊥) → Comment (a ∷ b ∷ behind) r → ⊥
 no_star_at behind a b h f (brace_comment c e x) = omega arith
 no_star_at behind a b h f (star_comment c e g i x) = f _ x
-
-no_comment_at : {r : List ℕ} (b : ℕ) (rest : List ℕ) → b ≢ 123 → (b ≡ 40 → Lacks 42 rest) → Comment (b ∷ rest) r → ⊥
-no_comment_at b rest h f (brace_comment c e x) = h e
-no_comment_at b rest h f (star_comment a c e g x) = f e g
-
-no_comment : {r : List ℕ} → Comment [] r → ⊥
-no_comment h = elim h [ ]
 
 -- the longer of two signs
 sign_text : (bytes : List ℕ) (n : ℕ) (s r r' : List ℕ) → slice_get signs n ≡ Some s → bytes ≡ s ++ r → HasSign bytes n r' → length r ≡ length r'
@@ -201,12 +181,6 @@ closes_star bytes rest behind a (Some r) e h g f =
     let b : ℕ = 42 in
     let i : b ≡ 42 = refl in
     subst (λ l. Comment l r.now) (sym (e ∙ ap (λ l. a ∷ l) g)) (star_comment a b h i f)
-
-pub closes_none : (bytes rest : List ℕ) (b : ℕ) → bytes ≡ b ∷ rest → b ≢ 123 → (b ≡ 40 → Lacks 42 rest) → (r : List ℕ) → Comment bytes r → ⊥
-closes_none bytes rest b e h f r x = no_comment_at b rest h f (subst (λ l. Comment l r) e x)
-
-pub closes_empty : (bytes : List ℕ) → bytes ≡ [] → (r : List ℕ) → Comment bytes r → ⊥
-closes_empty bytes e r x = no_comment (subst (λ l. Comment l r) e x)
 
 pub no_truth : IsTrue false → ⊥
 no_truth h = cc

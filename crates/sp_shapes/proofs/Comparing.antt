@@ -36,8 +36,6 @@ module _ (c : Parts) (n : ℕ) (s new : Search) (h : Compares c n s) (moves : Mo
 
 module _ (c : Parts) (v1 : KeepsV1 c) (n : ℕ) (s : Search) (rest : List Arrival) (x : Arrival)
     (last : s.arrivals ≡ rest ++ x ∷ []) (h : Compares c n s) where
-  popped : Search
-  popped = record s { arrivals = rest }
 
   here : IsAmong x s.arrivals
   here = subst (IsAmong x) (sym last) (among_last x rest)

@@ -44,11 +44,6 @@ one_formal fs m f s ss e =
     ∙ ap (fit_formals (take m fs ++ f ∷ [])) (lowest_before m ss (s ∷ []))
     ∙ fits_last (take m fs) f (lowest_first m ss []) s
 
--- a formal with no operand left
-pub no_operand : (fs : List Formal) (m : ℕ) → m < length fs → fit_formals (take (suc m) fs) [] ≡ false
-no_operand [] m l = absurd (omega (arith, l))
-no_operand (f ∷ fs) m l = refl
-
 -- one formal and one operand less
 pub one_less : (fs : List Formal) (k j : ℕ) (f : Formal) (s : Shape) (ss : List Shape) → k < length fs
     → j ≡ length fs - 1 - k → slice_get fs j ≡ Some f

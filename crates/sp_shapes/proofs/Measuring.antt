@@ -87,11 +87,6 @@ within c s h f p w e = ⊎_elim (λ r. let l = r.1 in let z = h.size in omega (a
 
 -- ---- tables
 
-pub no_lengths : (R : ℕ → ℕ → Type 0) (c : Parts) (s : Shapes) (m : BTreeMap ℕ ℕ) → ((k : ℕ) → length_of m k ≡ None)
-    → AreLengths R c s 0 m
-no_lengths R c s m none =
-    record { each = λ q w l e. absurd (omega (arith, l)); some = λ k x e. absurd (none_some x (sym (none k) ∙ e)) }
-
 -- of one instruction more
 last : (n q : ℕ) → q < n + 1 → (q < n) ⊎ (q ≡ n)
 last n q l = go (nat_lt q n) refl

@@ -33,8 +33,6 @@ below_or k n l = go (nat_lt k n) refl
     go false e = inr (Prim.grind (arith, e, l))
 
 module _ (c : Parts) where
-  pub adds_none : (Q : ℕ → Type 0) (xs : List Arrival) → ((q : ℕ) → Q q → ⊥) → Adds c Q xs xs
-  adds_none Q xs f = record { keeps = λ x a. a; true_of = λ x a. inl a; has = λ q w. absurd (f q w) }
 
   pub adds_one : (xs : List Arrival) (q : ℕ) → IsEntry c q → Adds c (λ r. r ≡ q) xs (xs ++ start q ∷ [])
   adds_one xs q h = record {
@@ -57,9 +55,6 @@ module _ (c : Parts) where
   adds_as Q R xs ys f h = record { keeps = h.keeps; true_of = h.true_of; has = λ q r. h.has q (f q r) }
 
   -- ---- blocks
-
-  pub no_layouts : (q : ℕ) → IsOfLayouts c 0 q → ⊥
-  no_layouts q h = let l = h.3 in omega (arith, l)
 
   -- one more layout, which is found or not
   pub more_layouts : (n q : ℕ) (l : Layout) (o : Option Layout) → slice_get c.layouts n ≡ Some l
@@ -89,9 +84,6 @@ module _ (c : Parts) where
 
   -- ---- children
 
-  pub no_children : (ts : List ChildTable) (q : ℕ) → IsOfChildren ts 0 q → ⊥
-  no_children ts q h = let l = h.2 in omega (arith, l)
-
   pub more_children : (ts : List ChildTable) (n q : ℕ) (ch : ChildTable) → slice_get ts n ≡ Some ch
       → IsOfChildren ts (n + 1) q → IsOfChildren ts n q ⊎ (q ≡ ch.entry)
   more_children ts n q ch e (k, d, l, g, at) = go (below_or k n l)
@@ -105,27 +97,6 @@ module _ (c : Parts) where
   someone p (owner.Block b) h e = (h.area, h.lies)
   someone p (owner.Child q k) h e = (h.area, h.lies)
   someone p owner.Several h e = (h.one, h.lies)
-
-  pub no_owner : (p : ℕ) (o : Owner) → Owns c p o → is_nobody o ≡ true → (q : ℕ) → IsMadeAt c p q → ⊥
-  no_owner p owner.Nobody h e q m = h m.4.0 m.4.1
-  no_owner p (owner.Block b) h e q m = cc e
-  no_owner p (owner.Child r k) h e q m = cc e
-  no_owner p owner.Several h e q m = cc e
-
-  pub no_instr : (p : ℕ) → instr_at c p ≡ None → (q : ℕ) → IsMadeAt c p q → ⊥
-  no_instr p e q m = none_some m.1
-      (sym (ap (λ (o : Option Instr). child_of (table_at c.forks (table_named o)) m.0) e) ∙ m.2)
-
-  pub no_table : (p : ℕ) (i : Instr) → instr_at c p ≡ Some i → table_named (Some i) ≡ None → (q : ℕ) → IsMadeAt c p q
-      → ⊥
-  no_table p i e f q m =
-      none_some m.1 (sym (ap (λ (o : Option ℕ). child_of (table_at c.forks o) m.0) (ap table_named e ∙ f)) ∙ m.2)
-
-  pub past_table : (p t : ℕ) (i : Instr) → instr_at c p ≡ Some i → table_named (Some i) ≡ Some t
-      → slice_get c.forks t ≡ None → (q : ℕ) → IsMadeAt c p q → ⊥
-  past_table p t i e f g q m =
-      none_some m.1 (sym (ap (λ (o : Option ℕ). child_of (table_at c.forks o) m.0) (ap table_named e ∙ f)
-      ∙ ap (λ (o : Option ForkTable). child_of o m.0) g) ∙ m.2)
 
   module _ (p t : ℕ) (i : Instr) (tb : ForkTable) (e : instr_at c p ≡ Some i) (f : table_named (Some i) ≡ Some t)
       (g : slice_get c.forks t ≡ Some tb) where

@@ -29,18 +29,6 @@ same_number m n = go (m == n) refl
     go true e = inl (eqb-true m n e)
     go false e = inr (λ s. no_true (m == n) (Rattle.std.proofs.lemmas.Bool.eq-eqb m n s) e)
 
-around : Area → Area
-around (Body b) = Body b
-around (Child a p k) = a
-
-at_of : Area → ℕ
-at_of (Body b) = b
-at_of (Child a p k) = p
-
-number_of : Area → ℕ
-number_of (Body b) = b
-number_of (Child a p k) = k
-
 same_area : (a b : Area) → (a ≡ b) ⊎ (a ≢ b)
 same_area (Body b) (Body d) = ⊎_elim (λ e. inl (ap Body e)) (λ f. inr (λ s. f (cc s))) (same_number b d)
 same_area (Body b) (Child d q j) = inr (λ s. cc s)

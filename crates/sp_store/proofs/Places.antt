@@ -118,16 +118,6 @@ module _ (ss : List Spot) (es : List Entry) (h : IsStrictlySortedBy spot_cmp ss)
       ∙ ap (put spot_cmp q (content e)) (sym (map.entries-from_sorted spot_cmp (pairs ss es) (sorted_pairs ss es h)))
       ∙ sym (map.entries-insert spot_total (layout ss es) q (content e)))
 
-  -- a binary search for a spot that stands somewhere does not miss it
-  pub not_missed : (q : Spot) → ContainsAt ss q → (i : ℕ) → (IsNonDecreasingBy (λ y. ordering_index (spot_cmp y q)) ss → IsPartitionPoint (λ y. spot_cmp y q ≡ Less) (λ y. spot_cmp y q ≡ Greater) ss i) → ⊥
-  not_missed q c i parted =
-      let p = parted (comparisons_rise ss q h) in
-      let here : spot_cmp (get_or ss c.0 q) q ≡ Equal = rw (c.2 q) (spot_itself q) in
-      elim (cases_lt c.0 i) [
-        | inl below ↦ apart_less _ (p.0 c.0 q (omega arith) below) here
-        | inr above ↦ apart_greater _ (p.1 c.0 q above c.1) here
-      ]
-
 -- what a binary search finds
 reversed_less : (s q : Spot) → spot_cmp s q ≡ Less → spot_cmp q s ≡ Greater
 reversed_less s q e = rw (spot_total.antisymm q s) (rw e refl)
@@ -234,13 +224,6 @@ all_take P [] zero h = tt
 all_take P [] (suc n) h = tt
 all_take P (x ∷ xs) zero h = tt
 all_take P (x ∷ xs) (suc n) h = (h.0, all_take P xs n h.1)
-
-pub sorted_take : (ss : List Spot) (n : ℕ) → IsStrictlySortedBy spot_cmp ss → IsStrictlySortedBy spot_cmp (take n ss)
-unfolding IsStrictlySortedBy
-sorted_take [] zero h = tt
-sorted_take [] (suc n) h = tt
-sorted_take (s ∷ ss) zero h = tt
-sorted_take (s ∷ ss) (suc n) h = (all_take _ ss n h.0, sorted_take ss n h.1)
 
 -- ---- a range of places taken out
 

@@ -31,21 +31,8 @@ pub noted : (old new : Index) (n : ℕ) (f : List ℕ × ℕ) (rest : List (List
     → option_or (under new name) (field_from (n + 1) name rest) ≡ option_or (under old name) (field_from n name (f ∷ rest))
 noted old new n f rest h name = ap (λ u. option_or u (field_from (n + 1) name rest)) (h name) ∙ one_field (under old name) n f rest name
 
-or_none : (u : Option (ℕ × ℕ)) → option_or u None ≡ u
-or_none (Some x) = refl
-or_none None = refl
-
 is_name : (name other : List ℕ) → bytes_eq name other ≡ true → name ≡ other
 is_name name other e = (bytes_eq-Decides name other).0 e
-
--- a field whose name is there changes nothing
-pub not_noted : (index : Index) (n : ℕ) (f : List ℕ × ℕ) → is_some (under index f.0) ≡ true → Notes index index n f
-not_noted index n f h name = by (under index name) (bytes_eq name f.0) refl refl
-  where
-    by : (u : Option (ℕ × ℕ)) (b : Bool) → under index name ≡ u → bytes_eq name f.0 ≡ b → u ≡ option_or u (if b then Some (n, f.1) else None)
-    by (Some x) b e k = refl
-    by None false e k = refl
-    by None true e k = absurd (is_off (sym h ∙ ap (λ x. is_some (under index x)) (sym (is_name name f.0 k)) ∙ ap is_some e))
 
 swapped : (name other : List ℕ) → bytes_eq name other ≡ bytes_eq other name
 swapped name other = search (rules, bytes_eq-Decides)
@@ -80,14 +67,3 @@ pub counted : (old new : List ℕ) (j : ℕ) (rest : List ℕ) → ((k : ℕ) �
 counted old new j rest h k =
     ap (λ b. b || list_any (nat_eq k) rest) (h k ∙ ap (λ b. cond b true (has old k)) (same_number j k))
     ∙ or_test (nat_eq k j) (has old k) (list_any (nat_eq k) rest)
-
-or_false : (b : Bool) → b || false ≡ b
-or_false true = refl
-or_false false = refl
-
--- at the end nothing is ahead
-pub index_done : (index : Index) (fields : List (List ℕ × ℕ)) → ((name : List ℕ) → option_or (under index name) None ≡ field_from 0 name fields) → IsIndex index fields
-index_done index fields h name = sym (or_none (under index name)) ∙ h name
-
-pub numbers_done : (numbers kinds : List ℕ) → ((k : ℕ) → has numbers k || false ≡ list_any (nat_eq k) kinds) → IsNumbers numbers kinds
-numbers_done numbers kinds h k = sym (or_false (has numbers k)) ∙ h k

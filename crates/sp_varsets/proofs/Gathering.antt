@@ -35,12 +35,6 @@ member_last rows s b x e = ap (λ c. member (rows ++ s ∷ []) c x) e ∙ member
 pub length_more : {A : Type 0} (xs : List A) (x : A) → length (xs ++ x ∷ []) ≡ length xs + 1
 length_more xs x = length-append xs (x ∷ [])
 
-pub member_past_empty : (rows : List VarSet) (s : VarSet) → ((x : ℕ) → has s x ≡ false) → ((b x : ℕ) → member rows b x ≡ false) → (b x : ℕ) → member (rows ++ s ∷ []) b x ≡ false
-member_past_empty [] s none all zero x = none x
-member_past_empty [] s none all (suc b) x = refl
-member_past_empty (r ∷ rows) s none all zero x = all zero x
-member_past_empty (r ∷ rows) s none all (suc b) x = member_past_empty rows s none (λ c y. all (suc c) y) b x
-
 rows_more : (old : List VarSet) (s : VarSet) (n b x : ℕ) (H : Type 0) → length old ≡ n → b < n → (member old b x ≡ true) ↔ H → (member (old ++ s ∷ []) b x ≡ true) ↔ H
 rows_more old s n b x H l h f =
     let e = member_before old s b x (omega arith) in

@@ -170,12 +170,6 @@ slot_other (x ∷ xs) zero (suc m) o h = refl
 slot_other (x ∷ xs) (suc n) zero o h = refl
 slot_other (x ∷ xs) (suc n) (suc m) o h = slot_other xs n m o (λ e. h (ap suc e))
 
-pub slot_more : (xs : List (Option Own)) (m : ℕ) → slot_at (xs ++ None ∷ []) m ≡ slot_at xs m
-slot_more [] zero = refl
-slot_more [] (suc m) = refl
-slot_more (x ∷ xs) zero = refl
-slot_more (x ∷ xs) (suc m) = slot_more xs m
-
 -- one statement, from what it has inside it
 pub statement_is : (s : Stmt) → statement_of s ≡ p.Does (out-Stmt s).number (out-Stmt s).at (statement_form_of (out-Stmt s).form)
 statement_is s = search (rules, fold_out-Stmt)

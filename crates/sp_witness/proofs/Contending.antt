@@ -79,18 +79,6 @@ module _ (g : Setting) (label : ℕ → Option Event) where
     pub act_is : act ≡ x.act
     act_is = ap (λ o. L.next o s.state.store) (some_is (sym does.good.makes.works ∙ does.fits.works)) ∙ does.fits.act_is
 
-    -- what a local step leaves
-    pub local_notes : IsLocal x.act → m.notes ≡ s.notes
-    local_notes loc = does.good.noted ∙ by act (subst IsLocal (sym act_is) loc)
-      where
-        by : (a : ActOf L) → IsLocal a → all_noted (notes_of s.state s.notes h.who a) s.notes ≡ s.notes
-        by (Moves o ws) k = refl
-        by (Opens o ws) k = absurd k
-        by (Forks o os) k = absurd k
-        by (Offering o) k = absurd k
-        by Ends k = absurd k
-        by (Fails f) k = absurd k
-
     pub local_pending : IsLocal x.act → (c : Channel) → m.state.pending c ≡ s.state.pending c
     local_pending loc c = ap (λ (z : StateOf g). z.pending c) does.good.to
         ∙ pending_frame s.state h.who act c (off act (subst IsLocal (sym act_is) loc)) does.good.cs s.state

@@ -102,8 +102,6 @@ module _ (es : List Occurrence) (earlier later : ℕ) where
       (before : List Occurrence) (target : Occurrence) (rest : List Occurrence) (ji : Judged)
       (stage : Stage es before (target ∷ rest) ji i) (kept_i : Kept ji before)
       (quiet_i : WaitsForNone ji target.who) (who_is : who_at es i ≡ target.who) where
-    target_head : Head
-    target_head = record { who = target.who; what = target.what; at = i; knows = ji.past target.who }
 
     below_at : (n i : ℕ) → n < i → nat_lt n i ≡ true
     below_at n i lt = grind (arith, nat_tests, lt)

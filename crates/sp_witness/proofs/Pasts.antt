@@ -77,9 +77,6 @@ module _ (es : List Occurrence) where
     pub is : j ≡ judged done
     pub size : length done ≡ n
 
-  pub first_stage : Stage [] es nothing_judged 0
-  first_stage = record { whole = refl; is = refl; size = refl }
-
   pub next_stage : (done : List Occurrence) (e : Occurrence) (rest : List Occurrence) (j : Judged) (n : ℕ)
       → Stage done (e ∷ rest) j n → Stage (done ++ e ∷ []) rest (judged_by j n e.who e.what) (suc n)
   next_stage done e rest j n st = record {

@@ -77,9 +77,6 @@ module _ (g : Setting) (disjoint : IsDisjointRun g) (turn : ℕ) (es : List Occu
   zero_second : 0 + length front ≡ later
   zero_second = omega (arith, size_second)
 
-  in_order : earlier < later
-  in_order = let a = length-append before (one ∷ mid) in omega (arith, size_first, size_second, a)
-
   stage_first : Stage es before (one ∷ (mid ++ two ∷ after)) (judged before) earlier
   stage_first = record { whole = whole ∙ append_assoc before (one ∷ mid) (two ∷ after); is = refl; size = size_first }
 

@@ -16,7 +16,7 @@ use Rattle.sp_witness.proofs.Independent.{IsLocal}
 use Rattle.sp_witness.proofs.Moving.{Head, Tag, Block, Does, Runs, BlockRuns, EachFree}
 use Rattle.sp_witness.proofs.Blocks.{IsMove, IsQuiet, AllQuiet, IsLast, Valid, since_after, since_all, AllValid}
 use Rattle.sp_witness.proofs.Back.{entry_of, entries}
-use Rattle.sp_witness.proofs.Contending.{Offers, offers_of, local_notes, local_pending, local_condition, pends_next}
+use Rattle.sp_witness.proofs.Contending.{Offers, offers_of, local_pending, local_condition, pends_next}
 
 pub quiet_front : (j : Judged) (n : ℕ) (xs ys : List Occurrence) → QuietFrom j n (xs ++ ys)
     → QuietFrom j n xs × QuietFrom (judged_from j n xs) (n + length xs) ys
@@ -33,9 +33,6 @@ clean_front (x ∷ xs) ys c = (c.0, clean_front xs ys c.1)
 true_false : {A : Type 0} → ◌≡◌ {A = Bool} true false → A
 true_false e = absurd (cc e)
 
-none_or : (a b : Bool) → a ≡ false → b ≡ false → a || b ≡ false
-none_or a b h k = ap (λ x. x || b) h ∙ k
-
 module _ (g : Setting) (label : ℕ → Option Event) where
   abbrev L : Language
   L = superpascal g
@@ -49,11 +46,6 @@ module _ (g : Setting) (label : ℕ → Option Event) where
       → BlockRuns g label s (xs ++ ys) t
   runs_join s m t [] ys r k = subst (λ z. BlockRuns g label z ys t) r k
   runs_join s m t (x ∷ xs) ys r k = (r.0, r.1, runs_join r.0 m t xs ys r.2 k)
-
-  pub free_join : (xs ys : List (Block g)) (h : Head) → EachFree g label xs h → EachFree g label ys h
-      → EachFree g label (xs ++ ys) h
-  free_join [] ys h a b = b
-  free_join (x ∷ xs) ys h a b = (a.0, free_join xs ys h a.1 b)
 
   pub entries_join : (xs ys : List (Block g)) → entries g (xs ++ ys) ≡ entries g xs ++ entries g ys
   entries_join [] ys = refl
@@ -107,13 +99,6 @@ module _ (g : Setting) (label : ℕ → Option Event) where
 
     local_is : (since : ℕ) (x : Tag g) (b : Bool) (ticks : ℕ) → IsMove g turn since x b ticks → IsLocal x.act
     local_is since x b ticks v = subst IsLocal (sym v.is) tt
-
-    -- local steps leave notes, offers, and other processes
-    pub quiet_notes : (since : ℕ) (s t : WithNotes L) (h : Head) (xs : List (Tag g)) → AllQuiet g turn since xs
-        → Runs g label s h xs t → t.notes ≡ s.notes
-    quiet_notes since s t h [] q r = ap (λ (z : WithNotes L). z.notes) r
-    quiet_notes since s t h (x ∷ xs) q r = quiet_notes since r.0 t h xs q.1 r.2
-        ∙ local_notes g label s h x r.0 r.1 (local_is since x false q.0.0 q.0.1)
 
     pub quiet_pending : (since : ℕ) (s t : WithNotes L) (h : Head) (xs : List (Tag g)) (c : Channel)
         → AllQuiet g turn since xs → Runs g label s h xs t → t.state.pending c ≡ s.state.pending c

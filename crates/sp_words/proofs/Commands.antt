@@ -193,9 +193,6 @@ level_for q command = level (word_for command) (parsers_for q command)
 abbrev pub shapes : ValueParser → List Shape
 shapes q = map (level_for q) (Check ∷ Run ∷ Code ∷ Sets ∷ Format ∷ Gen ∷ Replay ∷ Witness ∷ Build ∷ Exec ∷ [])
 
-built_is : (q : ValueParser) → built (app_with q) ≡ app (shapes q)
-built_is q = refl
-
 pub free : (q : ValueParser) → is_simple_and_free (app_with q) ≡ true
 free q = refl
 
@@ -407,17 +404,6 @@ given_command a q word words all command f sub is_app is_all line_is faults subs
     ∙ ap (λ (r : List Row). command_with command (λ id. first_of id r)) same
     ∙ line_is.found (ap clear (sym (ap₂ fault_of is_app is_all) ∙ clean))
     ∙ ap command_of (sym is_all)
-
--- a parse that succeeded has met a command
-pub never_alone : (a : App) (q : ValueParser) (word : Text) (words all : List Text) (command : CommandName)
-    (sub : Option (Text × List Row))
-    → a ≡ app_with q → all ≡ word ∷ words → ReadsLine q word words command
-    → (is_simple a ≡ true → sub ≡ subcommand_of a all)
-    → None ≡ option_map (λ p. p.1) sub → ⊥
-never_alone a q word words all command sub is_app is_all line_is subs rows =
-    let sub_is : sub ≡ subcommand_of a all = subs (ap is_simple is_app ∙ simple q) in
-    none≢some _ (rows ∙ ap (option_map (λ (p : Text × List Row). p.1)) (sub_is ∙ ap₂ subcommand_of is_app is_all)
-    ∙ line_is.entered_rows)
 
 not_clear : (kinds : Kinds) (k : ErrorKind) → IsAmong k kinds → clear kinds ≡ false
 not_clear [] k h = absurd h

@@ -161,9 +161,6 @@ same_name a b = (bytes_eq-Decides a b).0
 itself_of : (a : Text) → bytes_eq a a ≡ true
 itself_of a = (bytes_eq-Decides a a).1 refl
 
-or_left : (a b : Bool) → a ≡ true → (a || b) ≡ true
-or_left a b e = rw e refl
-
 among : (os : Options) (n : Text) → contains (map (λ o. o.0) os) n ≡ true → IsAmong os n
 among [] n e = absurd (true≢false (sym e))
 among (o ∷ os) n e = go (bytes_eq o.0 n) refl e (among os n)

@@ -71,9 +71,6 @@ one_command o c d h k = cc
 one_size : (m n x y : ℕ) → command.Gen m x ≡ command.Gen n y → m ≡ n
 one_size m n x y h = cc
 
-one_count : (m n x y : ℕ) → command.Gen m x ≡ command.Gen n y → x ≡ y
-one_count m n x y h = cc
-
 no_true : true ≡ false → ⊥
 no_true g = cc
 
@@ -326,9 +323,6 @@ module _ (f : Files) (s : Stream) (reports : Reports) (w : Option Command) (a : 
     kept_by _ k (inl i) = absurd (omega arith)
     kept_by _ k (inr (inl i)) = absurd (omega arith)
     kept_by _ k (inr (inr i)) = absurd (omega arith)
-
-    not_text : (c : Command) → asks_text c → (asked : Asked) → c ≡ asks asked → ⊥
-    not_text c q asked p = asked_no_text asked (subst asks_text p q)
 
     not_ran : asks_text d → HasRanFor f s reports w a → ⊥
     not_ran q (c, u, inl (asked, p, h)) = asked_no_text asked (subst asks_text (sym (one_command w d c v u) ∙ p) q)

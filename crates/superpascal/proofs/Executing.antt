@@ -381,8 +381,6 @@ module _ (c : Call) (k : IsAnswered c) (l : Laws) where
 
     -- of the input that is told
     module _ (input : List ℕ) (left : c.source.left ≡ Some input) (sound : IsSoundFile bytes) where
-      sound_here : (x : List ℕ) → IsTold (c.files.held b.file) x → IsSoundFile x
-      sound_here x h = subst IsSoundFile (sym (this_file x h)) sound
 
       runs_well : length input ≤ 16777216 → IsFinal is_status ⊎ IsOutside is_status
       runs_well fits = go came_here

@@ -40,10 +40,6 @@ pub ends_of : (text input : List ℕ) (workers : ℕ) (limits : Limits) (r : Ran
     → HasLines r.closed.end
 ends_of text input workers limits r h = (executed (setting (bare h.tree) input limits) workers r h.meant).1
 
--- a run of a program that is ready can be told
-pub ready_tellable : (r : Ran) → IsReadyRun r → IsTellable r
-ready_tellable r (g, moves, shares, workers, ready, h) = executed g workers r h
-
 -- no replay does
 meant_ends : (g : Setting) (s : StateOf g) (o : Option End) → EndsSo g s o → HasEndLines o
 meant_ends g s None h = tt
