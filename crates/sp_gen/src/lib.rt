@@ -1,4 +1,15 @@
 //! The text of a program with as many parallel processes as one asks for.
+//!
+//! Calls:
+//! - `generated`: for a size from 1 to 2,000 exactly the bytes of `generated_text size`; the error is want of memory
+//!   alone.
+//!
+//! To know:
+//! - That the program breaks no rule is tested by its runs, not proved. Should it break one, `gen` would name it.
+//!
+//! To change:
+//! - The program: `specs/Generated.antt`, the function of the same part in `src/text.rt`, and
+//!   `text_tests/src/generated.rt`.
 #![tactic(auto)]
 
 mod text;

@@ -1,4 +1,4 @@
-//! The generated program.
+//! The text of the generated program, byte for byte that of `specs/Generated.antt`.
 
 ghost use Rattle.std.specs.Prelude.{◌≡◌, ◌≤◌, ◌++◌, IfOk, OnOk};
 ghost use Rattle.std.specs.List.{flat_map};

@@ -1,4 +1,4 @@
--- The kernel as it begins.
+-- A kernel that was just made is at the start of a run (`opened`).
 use Rattle.std.proofs.Common.{◌≡◌, ◌≢◌, ◌⊎◌, ℕ, zero, suc, ◌==◌, inl, inr, false, List, [], ◌∷◌, length, Option, Some, None, if◌then◌else◌, slice_get, refl, sym, ap, ◌∙◌, subst, arith}
 use Rattle.std.proofs.Math.Path.{fun_ext}
 use Rattle.sp_channel.specs.declared.channels.Pending.{Pending}

@@ -1,4 +1,4 @@
--- The kernel may go to another thread.
+-- The kernel, a seat of its room and the room may go to another thread. What a kernel is made of is so too.
 use denote.Param.Send.{IsSend, IsSync, struct_send, enum_send, recorded_send, sendable}
 use denote.Struct.Declared as s
 use denote.Enum.Declared as e

@@ -1,4 +1,4 @@
--- An event that is a fault.
+-- An event that is a fault: its process is laid down with that fault, and this leads to `Gave`.
 use Rattle.std.proofs.Common.{◌≡◌, ℕ, ◌+◌, ◌<◌, ◌≤◌, nat_lt, true, false, Some, Result, Ok, Err, OnOk, sym, ap, subst, refl, ◌∙◌, arith}
 use Rattle.sp_base.specs.declared.fault.Fault.{Fault}
 use Rattle.sp_journal.specs.declared.entry.Event.TheVariants as event

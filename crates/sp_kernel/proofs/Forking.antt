@@ -1,4 +1,4 @@
--- A fork: the children are ready, and the parent joins them.
+-- A fork: the children are ready, and the parent joins them. It leads from `specs/Forks.antt` to `Gave`.
 use Rattle.std.proofs.Common.{◌≡◌, ◌≢◌, ◌⊎◌, ℕ, zero, suc, ◌+◌, ◌-◌, ◌<◌, ◌≤◌, ◌==◌, inl, inr, Bool, true, false, cond, nat_lt, ℤ, List, [], ◌∷◌, ◌++◌, length, length-append, get_or, ltb-true, ltb-false, Option, Some, None, slice_get, slice_set, refl, sym, ap, ◌∙◌, subst, arith}
 use Rattle.std.proofs.Math.Path.{fun_ext}
 use Rattle.std.proofs.lemmas.Option.{slice_get-get_or, slice_get_past}

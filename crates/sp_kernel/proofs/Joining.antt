@@ -1,4 +1,5 @@
--- An end: the first process is over, and a child's parent takes back from it.
+-- An end: the first process is over, and a child's parent takes back from it. It leads from `specs/Ends.antt` to
+-- `Gave`.
 use Rattle.std.proofs.Common.{◌≡◌, ◌≢◌, ◌⊎◌, ℕ, ◌-◌, ◌<◌, ◌==◌, inl, inr, Bool, true, false, if◌then◌else◌, List, [], ◌∷◌, ◌++◌, length, Option, Some, None, slice_get, slice_set, refl, sym, ap, ◌∙◌, subst}
 use Rattle.sp_cell.specs.Map.{Plain}
 use Rattle.sp_journal.specs.declared.entry.Birth.{Birth}

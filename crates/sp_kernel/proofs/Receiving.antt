@@ -1,4 +1,4 @@
--- An offer to receive: it waits, it meets, or it is a fault.
+-- An offer to receive: it waits, it meets, or it is a fault. It leads from `specs/Receives.antt` to `Gave`.
 use Rattle.std.proofs.Common.{◌≡◌, ◌≢◌, ◌⊎◌, ℕ, ◌+◌, ◌-◌, ◌<◌, ◌==◌, inl, inr, Bool, true, false, if◌then◌else◌, nat_lt, List, [], ◌∷◌, ◌++◌, length, Option, Some, None, slice_get, slice_set, refl, sym, ap, ◌∙◌, subst}
 use Rattle.sp_base.specs.declared.limits.Limits.{Limits}
 use Rattle.sp_base.specs.declared.fault.Fault.TheVariants as fault

@@ -1,4 +1,4 @@
--- Each call of the kernel that leaves a note is one of the definitions.
+-- Each call of the kernel that leaves a note is a step of the control and the system of the definitions (`Notes`).
 use Rattle.std.proofs.Common.{◌≡◌, ◌≢◌, ◌⊎◌, ℕ, ◌+◌, ◌-◌, ◌<◌, ◌≤◌, ◌==◌, ◌||◌, nat_lt, inl, inr, Bool, true, false, cond, if◌then◌else◌, List, [], ◌∷◌, ◌++◌, length, length-append, Option, Some, None, slice_set, refl, sym, ap, ◌∙◌, subst, arith}
 use Rattle.std.specs.Option.{option_map}
 use Rattle.sp_cell.specs.Map.{Plain}

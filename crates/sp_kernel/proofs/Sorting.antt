@@ -1,4 +1,4 @@
--- Waiters in order of names.
+-- Waiters in order of names, read off slot by slot.
 use Rattle.std.proofs.Common.{◌≡◌, ℕ, zero, suc, ◌+◌, Bool, List, [], ◌∷◌, ◌++◌, append_assoc, take, Some, slice_get, refl, sym, ap, ◌∙◌, arith}
 use denote.Ref.{Bor}
 use denote.Param.Members.{Mut}

@@ -1,4 +1,4 @@
--- Whose output is found.
+-- The output that is found in the slots is that of a process which is neither out nor gone.
 use Rattle.std.proofs.Common.{◌≡◌, ℕ, zero, suc, List, [], ◌∷◌, Option, Some, None, slice_get, refl, sym, ap, ◌∙◌}
 use Rattle.std.specs.Prelude.{MatchOption}
 use Rattle.sp_cell.specs.Map.{Plain}

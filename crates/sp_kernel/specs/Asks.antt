@@ -1,5 +1,5 @@
--- What the kernel may be asked, and what comes of it: the contract of the kernel as an object that a room keeps. Each
--- ask is one step, so that the room needs to know no more than these relations.
+-- What the kernel may be asked, by the history that a seat has seen, and what comes of it: the contract of the kernel
+-- as an object that a room keeps. Each ask is one step, so that the room needs to know no more than these relations.
 use Rattle.std.specs.Prelude.{◌≡◌, ◌≢◌, ◌⊎◌, ℕ, ◌+◌, ◌<◌, ◌≤◌, List, [], ◌++◌, Option, Some, None, IsSome, Bool, true, false}
 use Rattle.std.specs.Option.{option_map}
 use Rattle.sp_cell.specs.Map.{Plain}

@@ -1,5 +1,5 @@
 -- The kernel in memory as the definitions see it: the control and the system that its slots, queue and journal stand
--- for, and its invariant. All contracts of the kernel cite it.
+-- for, its invariant, and what each call does (`Takes`, `Gave`, `Abandons`). All contracts of the kernel cite it.
 use Rattle.std.specs.Prelude.{◌≡◌, ℕ, ◌+◌, ◌-◌, List, [], ◌∷◌, ◌++◌, length, Option, Some, None, Bool, slice_get, slice_set, nat_lt, ◌||◌}
 use Rattle.std.specs.Option.{option_map}
 use Rattle.sp_cell.specs.Map.{Plain}

@@ -1,5 +1,5 @@
--- A process in memory as the definitions see it, and the turn that was handed in: sp_machine's words, passed on, with
--- those that the kernel's contracts need besides.
+-- A process in memory as the definitions see it, and the turn that was handed in: the words of `sp_machine`, passed on,
+-- with those that the kernel's contracts need besides.
 use Rattle.std.specs.Prelude.{◌≡◌, ℕ, List, Option}
 use Rattle.std.specs.Option.{option_map}
 use Rattle.sp_cell.specs.declared.cell.Cell.{Cell}

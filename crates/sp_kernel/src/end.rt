@@ -1,4 +1,4 @@
-//! A process ends.
+//! The event of a process that ends: the first process is over, or a parent takes back what moved to its child.
 
 ghost use Rattle.std.specs.Prelude.{◌≡◌, ◌≢◌, ◌<◌, false, Some, length, slice_get, slice_set, OnOk, OnErr, IfErr};
 ghost use Rattle.sp_journal.specs.declared.entry.Event.TheVariants as event;

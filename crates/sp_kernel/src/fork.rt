@@ -1,4 +1,4 @@
-//! A process forks.
+//! The event of a process that forks: room for the children first, then the children in their slots.
 
 ghost use Rattle.std.specs.Prelude.{ℕ, ◌≡◌, ◌+◌, ◌<◌, true, false, length, MatchOption, IfSome, OnOk, OnErr, IfErr};
 ghost use Rattle.sp_code.specs.Sound.{HasDistinctBlocks, CanSplit};

@@ -1,4 +1,4 @@
-//! The processes of a run, its channels and its journal.
+//! The processes of a run, its channels and its journal, with the calls `new`, `take`, `give` and `abandon`.
 
 ghost use Rattle.std.specs.Prelude.{◌≡◌, ◌+◌, ◌-◌, ◌<◌, nat_lt, true, false, IfSome, Some, None, [], ◌∷◌, ◌++◌, length, slice_get, slice_set, OnOk, OnErr, IfErr, IfOk};
 ghost use Rattle.sp_journal.specs.declared.entry.Event.TheVariants as event;

@@ -1,4 +1,4 @@
-//! A channel is opened.
+//! The event of a process that opens a channel.
 
 ghost use Rattle.std.specs.Prelude.{◌≡◌, ◌+◌, ◌<◌, false, [], ◌∷◌, length, OnOk, OnErr, IfErr};
 ghost use Rattle.sp_cell.specs.declared.cell.Cell.TheVariants as cell;

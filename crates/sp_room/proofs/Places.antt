@@ -1,4 +1,4 @@
--- A seat stays where it is, whatever it does.
+-- A seat stays where it is, whatever it does: what a caller needs of a seat that moved.
 use Rattle.std.proofs.Common.{ℕ, ◌∙◌}
 use Rattle.sp_room.specs.declared.kept.Kept.{Ghosts}
 use Rattle.sp_room.specs.declared.seat.Room.{Room}

@@ -1,4 +1,4 @@
--- Each step of a room keeps its rule.
+-- Each step of a turn keeps the rule of the room's table.
 use Rattle.std.proofs.Common.{◌≡◌, ◌≢◌, ◌⊎◌, inl, inr, ⊎_elim, ℕ, ◌+◌, ◌-◌, ◌%◌, ◌^◌, ◌<◌, ◌≤◌, List, [], ◌∷◌, ◌++◌, length, drop, get_or, set, eqb, refl, sym, ap, ◌∙◌, subst, arith, length-set, length-append, true≢false, get_or-set_same, get_or-set_other, Option, Some, None, true, false}
 use mathlib.Core.Option.{some, none, some-injective}
 use lib.ListN.{get_elem?}

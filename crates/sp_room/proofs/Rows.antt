@@ -1,4 +1,4 @@
--- Rows of seats, by index.
+-- Rows of seats, by index, and the seat that takes in the ones before it.
 use Rattle.std.proofs.Common.{◌≡◌, ◌≢◌, ◌<◌, false, subst, arith, append_assoc, length-append, ◌⊎◌, inl, inr, ⊎_elim, ℕ, zero, suc, ◌+◌, List, [], ◌∷◌, ◌++◌, map, length, refl, sym, ap, ◌∙◌, Some, slice_get}
 use mathlib.Core.Option.{some}
 use lib.ListN.{get_elem?}

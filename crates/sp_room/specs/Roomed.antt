@@ -1,6 +1,6 @@
--- The rule of the table, and what each step tells. Word 0 is the turn: 0 where it is free, and else one more than the
--- number of the seat that has it. Word 1 counts the history. The slot is at home where the turn is free. The rule of
--- the room's table of atomics, in `law`, is this one.
+-- The rule of the room's table, and what each step tells. Word 0 is the turn: 0 where it is free, and else one more
+-- than the number of the seat that has it. Word 1 counts the history. The slot is at home where the turn is free. The
+-- rule of the room's table of atomics, in `src/law.rt`, is this one.
 use Rattle.std.specs.Prelude.{◌≡◌, ◌≢◌, ℕ, ◌+◌, ◌-◌, ◌<◌, ◌≤◌, List, [], ◌∷◌, ◌++◌, length, slice_index, drop, Option, Some, None, true, false}
 use mathlib.Core.Option.{some}
 use lib.ListN.{get_elem?}

@@ -1,4 +1,4 @@
-//! What lies in the room's slot.
+//! What lies in the room's slot, the object with the notes of its history, and the asking of the object.
 ghost use Rattle.std.specs.Prelude.{◌≡◌, ◌+◌, ◌-◌, ◌<◌, ◌≤◌, true, false, Some, [], ◌∷◌, ◌++◌, length, IfOk, IfErr};
 ghost use Rattle.std.specs.Vec.{vec_capacity};
 ghost use Rattle.sp_room.specs.History.{noted};

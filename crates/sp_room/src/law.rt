@@ -1,4 +1,4 @@
-//! The rule of a room's table, and what each step tells.
+//! The rule of a room's table, and what each step of a seat tells.
 use crate::desk::Desk;
 use crate::kept::Kept;
 use crate::view::View;

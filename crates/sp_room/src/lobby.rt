@@ -1,5 +1,5 @@
-//! Which seats sleep or look for something to take, and whom a note wakes. No promise rests on it: it is beside the table,
-//! and its numbers are read in no contract.
+//! Which seats sleep or look for something to take, and whom a note wakes. No promise rests on it: it is beside the
+//! table, and its numbers are read in no contract.
 use std::hint::spin_loop;
 use std::sync::Wait;
 use std::sync::atomic::AtomicU64;

@@ -1,4 +1,4 @@
-//! What a seat does that found nothing to take.
+//! What a seat does that found nothing to take: it looks, dozes and rests. No clause speaks of it.
 
 use crate::kept::Kept;
 use crate::lobby::pause;

@@ -1,4 +1,4 @@
-//! Dealing out the seats of a room.
+//! The dealing out of a room's seats.
 ghost use Rattle.std.specs.Prelude.{◌≡◌, ℕ, ◌+◌, ◌<◌, ◌≤◌, Some, [], length, slice_get};
 ghost use Rattle.std.specs.Vec.{vec_capacity};
 ghost use Rattle.sp_room.specs.Seats.{seat_view, seat_table};

@@ -1,4 +1,4 @@
-//! What a room leaves.
+//! What a room leaves once it is closed: the object and the history.
 ghost use Rattle.std.specs.Prelude.{◌≡◌};
 
 use crate::kept::Kept;

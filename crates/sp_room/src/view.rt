@@ -1,4 +1,4 @@
-//! What a seat knows. No value of it is made.
+//! What a seat knows: its view, which its own steps alone change. No value of it is made.
 use std::collections::LinkedList;
 
 /// The view of a seat, which its own steps alone change.

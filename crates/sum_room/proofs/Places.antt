@@ -1,4 +1,4 @@
--- Three seats in a row.
+-- The seats of a room with three seats, and of one with a single seat, each at its place.
 use Rattle.std.proofs.Common.{◌≡◌, ℕ, zero, suc, List, [], ◌∷◌, length, subst, sym, Some, slice_get}
 
 in_three : {X : Type 0} (P : ℕ → X → Type 0) (a b c : X) → P 0 a → P 1 b → P 2 c → (k : ℕ) (t : X) → slice_get (a ∷ b ∷ c ∷ []) k ≡ Some t → P k t

@@ -1,4 +1,19 @@
 //! A sum in a room: the smallest object that a room can keep, and the tests of `sp_room`.
+//!
+//! Calls:
+//! - `add_many`: adds so many times at a seat, or until memory refuses an add; the seat stays in its place and keeps
+//!   its claims. The sums that it collects are not promised.
+//! - `add_and_leave`: one seat adds and then leaves, by its note in reserve. It promises nothing; a test looks at what
+//!   it gives.
+//! - `race`: two threads add, and then a third seat looks. It promises nothing; a test looks at the `Outcome`.
+//! - `Sum`, `Ask`, `Got`, `Note`: the object, which implements `Kept`, its asks, its answers and its notes.
+//!
+//! To know:
+//! - `src/tests.rt` has the tests of `sp_room`: two threads that add to one sum, and a seat that leaves after a refused
+//!   add.
+//!
+//! To change:
+//! - A law of `Kept`: `specs/Adding.antt`.
 #![tactic(auto)]
 
 ghost use Rattle.std.specs.Prelude.{◌≡◌, ◌+◌, ◌<◌, ◌^◌, Some, List, [], ◌∷◌, length};

@@ -1,4 +1,4 @@
-//! A sum that goes up.
+//! A sum that goes up, with its asks, its answers and its notes.
 
 /// What a room keeps here.
 #[derive(Drop)]

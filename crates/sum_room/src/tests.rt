@@ -1,3 +1,4 @@
+//! The tests of `sp_room`: two threads add to one sum, and a seat still leaves whose add was refused.
 use super::*;
 use std::test::*;
 
