@@ -1,4 +1,5 @@
--- What the machine says of a journal with the code of a program is what the program means along it (`followed`).
+-- What the machine says of a journal with the code of a program is what the program means along it (`followed`): it
+-- leads from `replay` to the program.
 use Rattle.std.proofs.Common.{◌≡◌, ℕ, zero, suc, List, [], ◌∷◌, take, Option, Some, None, Result, Ok, Err, refl, sym}
 use Rattle.std.proofs.Common.{ap, ◌∙◌, subst}
 use Rattle.sp_base.specs.declared.limits.Limits.{Limits}

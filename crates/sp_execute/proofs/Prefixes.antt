@@ -1,4 +1,5 @@
--- Where the meaning is defined along a journal, it is defined along each first part of it (`first_part`).
+-- Where the meaning is defined along a journal, it is defined along each first part of it (`first_part`). So a journal
+-- is unfit at one entry alone, which is the law `one_unfit_entry`.
 use Rattle.std.proofs.Common.{◌≡◌, ◌⊎◌, inl, inr, ℕ, zero, suc, ◌+◌, ◌<◌, ◌≤◌, Bool, List, [], ◌∷◌, ◌++◌, take, refl}
 use Rattle.std.proofs.Common.{ap, subst, arith}
 use Rattle.sp_base.specs.declared.limits.TheConstants.{TURN_TICKS}

@@ -1,4 +1,4 @@
-//! What a run of code says of the program that the code is of.
+//! The call `conclude`: what a run of code says of the program that the code is of.
 
 ghost use Rattle.std.specs.Prelude.{◌≡◌, ℕ, List};
 ghost use Rattle.sp_tree.specs.Plain.{Program, Stmt};

@@ -1,4 +1,4 @@
-//! A program's code from its start to the verdict.
+//! The call `execute`: a program's code from its start to the verdict.
 
 ghost use Rattle.std.specs.Prelude.{◌<◌, ◌≤◌, ℕ, List, IfOk};
 ghost use Rattle.sp_tree.specs.Plain.{Program, Stmt};

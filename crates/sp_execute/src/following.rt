@@ -1,4 +1,4 @@
-//! A journal followed with the code of a program.
+//! The call `follow`: a journal followed with the code of a program.
 
 ghost use Rattle.std.specs.Prelude.{ℕ, List};
 ghost use Rattle.sp_tree.specs.Plain.{Program, Stmt};

@@ -1,5 +1,44 @@
 //! A program from its code to its verdict: the run of its code is concluded to be one of the program, judged, and both
 //! are given. Code that has no source is run too, to its end alone.
+//!
+//! Calls:
+//! - `execute`: a run of a ready program's code by 1 to 64 workers, with its exact verdict: for each program with this
+//!   code the meaning is defined along the journal, with that end and output (`Executes`).
+//! - `conclude`: takes a run of code as one of each ready program that has the code (`IsAbout`), where the machine
+//!   gives that end and output along its journal. The run stays as it is.
+//! - `judge`: exactly the verdict of the journal and the end, with what it promises of each such program that is free
+//!   of interference: where it is ordered, all lawful schedules end alike.
+//! - `follow`: for each program with this code: where the meaning is defined along the journal, its output and end, or
+//!   none where the run goes on; else the first entry with which it is not. Or want of memory.
+//! - `witness`: the witness of a run's race, a journal that gives names (`witness_of`); none exactly where the verdict
+//!   names no race.
+//! - `run_code`: a run of sound code by 1 to 64 workers, without a verdict; end and output are the machine's along the
+//!   journal, and the meaning's for each ready program with this code (`RunsCode`).
+//! - `Ran`: a run with its verdict, which `execute` alone makes. `Concluded`: a run of a program, which `conclude`
+//!   alone makes. `Replayed`, `ReplayError`: those of `sp_replay`.
+//!
+//! Laws:
+//! - `one_unfit_entry`: a journal along which the meaning is defined is unfit at no entry, and any other one at one
+//!   entry alone.
+//! - `races_are_shown`: along the witness of a run's race the meaning is defined, to the fault F6 of the later offer;
+//!   and a run without a fault is ordered exactly where no lawful schedule meets contention.
+//!
+//! To know:
+//! - `execute` runs the code (`run` of `sp_runner`), `conclude` takes the run as one of the program, `judge` judges it.
+//!   `follow` runs it along a given journal (`replay` of `sp_replay`). `witness` makes the journal of a run's race
+//!   (`witness` of `sp_witness`). `run_code` runs code that need have no program, and judges nothing.
+//! - `specs/Runs.antt` says what is asked (`IsCodeOf`), what a run says of the program (`IsAbout`) and what is promised
+//!   (`Executes`); `Follows.antt`, `Witnesses.antt` and `Machines.antt` have the contracts of `follow`, `witness` and
+//!   `run_code`.
+//! - `proofs/Concluding.antt` leads from the machine's end and output along a journal to the program's, with
+//!   `proofs/Waiting.antt` for those that wait; `proofs/Followed.antt` leads from `replay` to the program,
+//!   `proofs/Races.antt` from a run's verdict to its witness.
+//! - No call takes the tree: a program is named in the contracts alone, and each clause holds of every program that has
+//!   the code.
+//!
+//! To change:
+//! - What is promised of a run: `Executes`, and `executed` of `proofs/Executing.antt`.
+//! - An end: its clause in `same_end` of `proofs/Concluding.antt`.
 #![tactic(auto)]
 
 mod conclusion;

@@ -1,4 +1,4 @@
-//! Code of any origin from its start to its end.
+//! The call `run_code`: code of any origin from its start to its end, without a verdict.
 
 ghost use Rattle.std.specs.Prelude.{◌<◌, ◌≤◌, IfOk};
 ghost use Rattle.sp_code.specs.Sound.{AreLimits, IsSound};

@@ -1,4 +1,4 @@
-//! The verdict on a run of a program.
+//! The call `judge`: the verdict on a run of a program.
 
 ghost use Rattle.std.specs.Prelude.{IfOk};
 ghost use Rattle.sp_journal.specs.Births.{occurrences};

@@ -1,4 +1,4 @@
-//! The witness of a run's race.
+//! The call `witness`: the witness of a run's race.
 
 ghost use Rattle.std.specs.Prelude.{◌≡◌, IfOk, IfSome};
 ghost use Rattle.sp_journal.specs.Births.{IsNameable};

@@ -1,4 +1,4 @@
--- What stands once a run is over: where no worker gave up, no process is gone and every one is in its slot.
+-- What stands once a run is over: no process is out, and where no worker gave up none is gone.
 use Rattle.std.proofs.Common.{◌≡◌, ◌≢◌, ◌⊎◌, ◌-◌, length, ℕ, ◌<◌, ◌==◌, if◌then◌else◌, cond, Bool, true, false, inl, inr, List, [], ◌∷◌, Option, Some, None, refl, sym, ◌∙◌, subst, arith}
 use Rattle.sp_journal.specs.declared.entry.Way.{Way}
 use Rattle.sp_journal.specs.declared.entry.Way.TheVariants as way

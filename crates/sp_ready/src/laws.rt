@@ -1,4 +1,5 @@
-//! A function that does nothing: its contract is a law.
+//! The law that the program of a text which breaks no rule is ready. The function does nothing: its contract is the
+//! law.
 
 ghost use Rattle.std.specs.Prelude.{ℕ, List};
 ghost use Rattle.sp_base.specs.declared.limits.Limits.{Limits};

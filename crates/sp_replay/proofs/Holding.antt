@@ -1,4 +1,4 @@
--- Lists of processes by numbers.
+-- Lists of processes that are held, by numbers.
 use Rattle.std.proofs.Common.{◌≡◌, ◌≢◌, ◌⊎◌, ℕ, zero, suc, ◌<◌, ◌≤◌, ◌==◌, inl, inr, false, cond, List, [], ◌∷◌, ◌++◌, length, slice_set, Option, None, refl, sym, ap, ◌∙◌, subst, arith}
 use Rattle.sp_journal.specs.Maps.{at_key}
 use Rattle.sp_history.proofs.Queues.{number_or, at_same, at_other}

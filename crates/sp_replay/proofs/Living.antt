@@ -1,4 +1,4 @@
--- The root lives while any process does, since parents wait for their children; and how many can be out.
+-- The root lives while any process does, since parents wait for their children; and how many processes can be out.
 use Rattle.std.proofs.Common.{◌≡◌, ◌≢◌, ◌⊎◌, ℕ, zero, suc, ◌+◌, ◌<◌, ◌≤◌, ◌==◌, inl, inr, cond, Bool, true, false, List, [], ◌∷◌, length, refl, sym, subst, arith}
 use Rattle.sp_journal.proofs.BirthLaws.{Lawful, Born}
 use Rattle.sp_code.specs.Control.{Control, Doing, Unborn, Ready, Out, Sending, Receiving, Joining, Laid, Ended, Gone, has_ended}

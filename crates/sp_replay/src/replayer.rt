@@ -1,4 +1,4 @@
-//! A run along a given journal.
+//! The call `replay`: a run along a given journal, and what it answers.
 
 ghost use Rattle.std.specs.Prelude.{◌≡◌, [], IfOk};
 ghost use Rattle.sp_code.specs.Sound.{IsSound, AreLimits, run_of};

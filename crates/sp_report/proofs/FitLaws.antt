@@ -1,4 +1,4 @@
--- What processes wait for stays there.
+-- What processes wait for stays there with each entry more of a journal.
 use Rattle.std.proofs.Common.{◌≡◌, ◌∙◌, ◌+◌, ◌-◌, ◌==◌, ◌<◌, ◌≤◌, ◌&&◌, ℕ, Bool, true, false, cond, List, Option, Some, None, length, take, drop, sym, ap, subst, arith}
 use Rattle.sp_journal.specs.declared.entry.Way.{Way}
 use Rattle.sp_journal.specs.declared.entry.Way.TheVariants as way

@@ -1,4 +1,4 @@
--- The front of a nameable journal is nameable.
+-- The front of a nameable journal is nameable. Besides: the texts so far, with those of one more watcher.
 use Rattle.std.proofs.Common.{◌≡◌, ◌<◌, ℕ, Bool, true, false, cond, true≢false, append-nil, filter, zero, suc, refl, sym, subst, ◌∙◌, ap, ap₂, List, [], ◌∷◌, ◌++◌, length, take, arith}
 use Rattle.std.specs.List.{flat_map, slice_index_or}
 use Rattle.std.proofs.lemmas.List.Concat.{flat_map-append}

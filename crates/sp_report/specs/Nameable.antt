@@ -1,5 +1,5 @@
--- To be nameable is a fact without choices, as a ghost field of a struct has to be: the watchers keep it beside their
--- journals.
+-- That a journal is nameable is a fact without choices, as a ghost field of a struct has to be: the watchers keep it
+-- beside their journals.
 use Rattle.std.specs.Prelude.{ℕ, List, [], ◌∷◌}
 use Rattle.std.specs.Coded.{×_prop, Unit-prop, le_prop}
 use Rattle.sp_journal.specs.declared.entry.Event.{Event}

@@ -1,6 +1,7 @@
--- Which watchers are told, by the option `--show`, and what they tell together: the contract of `tell` promises it, and the output of
--- the top call is said by it. What a watcher is, its trait says: what it was told, its text over every list of entries, and its
--- title. The definitions take these as functions, so that contracts name the texts of a whole list of watchers in one word.
+-- Which watchers are told, by the option `--show`, and what they tell together: the contract of `tell` promises it, and
+-- the output of the top call is said by it. What a watcher is, its trait says: what it was told, its text over every
+-- list of entries, and its title. The definitions take these as functions, so that contracts name the texts of a whole
+-- list of watchers in one word.
 use Rattle.std.specs.Prelude.{◌≡◌, ℕ, Bool, true, false, List, [], All, codes, filter}
 use Rattle.std.specs.List.{flat_map}
 use Rattle.std.specs.Str.{bytes_eq}

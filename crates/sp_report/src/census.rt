@@ -1,4 +1,4 @@
-//! How many entries of each kind a journal has.
+//! The watcher `Census`: how many entries of each kind a journal has.
 
 ghost use Rattle.std.specs.Prelude.{◌≡◌, ◌++◌, ◌∷◌, [], IfOk, OnErr, OnOk, codes};
 ghost use Rattle.std.specs.List.{flat_map};

@@ -1,4 +1,28 @@
 //! Reports of a run: watchers that are told the entries of its journal and make a text of them.
+//!
+//! Calls:
+//! - `Watcher`: the trait. What a watcher was told is a list of entries (`told`), its text is a function of every such
+//!   list (`text`), and `title` is its name: `name` gives it, `see` tells one entry more, `finish` puts the text.
+//! - `Timeline`, `Census`, `ProcessTree`, `Waiting`: the watchers. `new` gives one that was told nothing; its text is
+//!   exactly that of its file in `specs/`.
+//! - `in_order`: four watchers that were told nothing and have these names, in the order timeline, census, tree,
+//!   waiting.
+//! - `tell`: the texts of the chosen watchers over the journal, in the order in which they are handed in (`reports`);
+//!   the error is want of memory alone.
+//!
+//! To know:
+//! - `src/watcher.rt` is what every watcher promises; each watcher has a file of its own. `src/telling.rt` has `tell`,
+//!   over boxed watchers that are handed in, and `src/order.rt` puts the watchers of the program in their order.
+//! - `src/table.rt` follows what each process does, entry by entry, for `Waiting`.
+//! - Processes are put in order by an ordered map under their names.
+//! - A name chooses a watcher, so several watchers of one name are all told.
+//! - A tree of a million processes takes as long as a million insertions into the map.
+//! - In `waiting` a fault counts from its entry on, whoever made it.
+//!
+//! To change:
+//! - A watcher: a file of its own with an `impl Watcher`, its text in `specs/`, its name in `is_chosen`, its place in
+//!   `in_order`.
+//! - What an event does to a process: `specs/Conditions.antt` and `src/table.rt`.
 #![tactic(auto)]
 
 mod census;

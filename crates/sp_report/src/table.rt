@@ -1,4 +1,4 @@
-//! What each process of a journal does after its entries.
+//! What each process of a journal does after its entries, followed entry by entry for `Waiting`.
 
 ghost use Rattle.std.specs.Prelude.{◌≡◌, ◌∷◌, [], IfOk, OnOk};
 ghost use Rattle.sp_journal.specs.Births.{CanFollow, births};

@@ -1,4 +1,4 @@
-//! The telling of a journal to the chosen watchers.
+//! The telling of a journal to the chosen ones of boxed watchers that are handed in.
 
 ghost use Rattle.std.specs.Prelude.{◌≡◌, ◌++◌, [], All, IfOk, OnOk, filter};
 ghost use Rattle.std.specs.List.{flat_map};

@@ -1,4 +1,4 @@
-//! The entries of a journal with their indices.
+//! The watcher `Timeline`: the entries of a journal with their indices.
 
 ghost use Rattle.std.specs.Prelude.{◌≡◌, ◌++◌, [], IfOk, OnOk, codes, decimal, true};
 ghost use Rattle.sp_journal.specs.Births.{IsNameable, at_start};

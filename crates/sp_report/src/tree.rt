@@ -1,4 +1,5 @@
-//! The processes of a journal as a tree.
+//! The watcher `ProcessTree`: the processes of a journal as a tree. They are put in order by an ordered map under their
+//! names.
 
 ghost use Rattle.std.specs.Prelude.{◌≡◌, ◌++◌, [], IfOk, OnOk, codes, decimal};
 ghost use Rattle.sp_journal.specs.Births.{IsNameable, at_start, births};

@@ -1,4 +1,5 @@
-//! The processes of a journal that wait at its end.
+//! The watcher `Waiting`: the processes of a journal that wait at its end. They are put in order by an ordered map
+//! under their names.
 
 ghost use Rattle.std.specs.Prelude.{◌≡◌, ◌++◌, ◌+◌, ◌≤◌, [], IfOk, OnOk, codes};
 ghost use Rattle.sp_journal.specs.Births.{IsNameable, at_start, births};

@@ -1,4 +1,4 @@
-//! What every watcher does.
+//! What every watcher promises: the trait `Watcher`.
 
 ghost use Rattle.std.specs.Prelude.{◌≡◌, ◌++◌, ◌∷◌, [], List, OnErr, OnOk, ℕ};
 ghost use Rattle.sp_journal.specs.Births.{NameableFrom, at_start};

@@ -1,4 +1,4 @@
--- Each call of a worker gives what the one before it got.
+-- Each call of a worker gives what the one before it got: its own notes say so, one by one.
 use Rattle.std.proofs.Common.{◌≡◌, ◌⊎◌, inl, inr, ℕ, false, List, [], ◌∷◌, ◌++◌, Option, Some, None, refl, sym, ap, ◌∙◌}
 use Rattle.std.proofs.Common.{subst}
 use Rattle.std.specs.Option.{option_map}

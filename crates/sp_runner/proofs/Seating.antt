@@ -1,4 +1,4 @@
--- What a new seat knows.
+-- What a worker knows at a new seat: it has no notes of its own yet, and a claim on a note of the reserve.
 use Rattle.std.proofs.Common.{◌≡◌, ℕ, ◌<◌, [], sym, ap, ◌∙◌}
 use Rattle.sp_journal.specs.declared.entry.Note.{Note}
 use Rattle.sp_room.specs.declared.kept.Kept.{Ghosts}

@@ -1,4 +1,5 @@
--- What a worker holds may be handed in.
+-- What a worker holds may be handed in: who gets work has it out, in the state of the system along what its seat has
+-- seen.
 use Rattle.std.proofs.Common.{◌≡◌, ◌⊎◌, ℕ, ◌++◌, false, inl, inr, List, Option, Some, None, refl, sym, ap, ◌∙◌, subst}
 use mathlib.Core.List.{append-nil}
 use Rattle.std.specs.Option.{option_map}

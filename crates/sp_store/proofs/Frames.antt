@@ -1,4 +1,4 @@
--- Frame numbers as the calls find them.
+-- Frame numbers as the calls find them: the last own one is the greatest.
 use Rattle.std.proofs.Common.{◌≡◌, ℕ, ◌+◌, ◌-◌, ◌<◌, List, length, get_or, Result, Ok, Err, arith, ap, ◌∙◌, sym}
 use Rattle.std.specs.Result.{OnErr}
 use Rattle.std.proofs.lemmas.Grind.{get_or_default_zero}

@@ -1,4 +1,4 @@
-//! The pieces of a frame.
+//! The adding of a frame's pieces.
 
 ghost use Rattle.std.specs.Prelude.{◌≡◌, ◌+◌, ◌<◌, ◌≤◌, OnOk, OnErr, length};
 ghost use Rattle.sp_cell.specs.Frame.{with_pieces, without};

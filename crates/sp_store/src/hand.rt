@@ -1,4 +1,4 @@
-//! Moving entries from one store to another.
+//! The moving of entries from one store to another.
 
 ghost use Rattle.std.specs.Prelude.{◌≡◌, ◌<◌, IsSome, length, slice_index_or, ℕ};
 ghost use Rattle.std.specs.FinMap as map;

@@ -1,4 +1,4 @@
-//! A store is handed to the thread that runs its process.
+//! That a store is `Send`: it is handed to the thread that runs its process.
 
 ghost use Rattle.std.specs.Prelude.{◌≡◌};
 

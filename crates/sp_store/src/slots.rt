@@ -1,4 +1,4 @@
-//! Entries by their spots.
+//! The map of a store in memory: entries by their spots, in the order of the spots.
 
 ghost use Rattle.std.specs.Prelude.{◌≡◌, ◌<◌, ◌++◌, IsSome, Some, None, IfOk, IfErr, OnOk, OnErr, MatchOption, length, ℕ, ◌-◌, ◌≤◌, ◌==◌, ◌≢◌, if◌then◌else◌, take, drop, vec_len, slice_index_or};
 ghost use Rattle.std.specs.Borrow.{sem};

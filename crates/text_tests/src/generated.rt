@@ -1,4 +1,4 @@
-//! A generated text, byte for byte.
+//! The tests of `sp_gen`: a generated text, byte for byte.
 
 use crate::made::add;
 use sp_gen::generated;

@@ -1,4 +1,4 @@
-//! The calls of `sp_outside`, with failing ones among them, and one run of each real adapter.
+//! The tests of `sp_outside`: its calls, with failing ones among them, and one run of each real adapter.
 
 use crate::made::add;
 use sp_base::{List, Text};

@@ -1,4 +1,4 @@
-//! The lines of refusals, ends and verdicts.
+//! The tests of `sp_print`: the lines of refusals, ends and verdicts.
 
 use sp_base::{ChanName, Fault, List, Memory, Place, ProcName, Refusal, Rule};
 use sp_journal::{End, Verdict, Waiter, Way};

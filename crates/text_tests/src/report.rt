@@ -1,4 +1,4 @@
-//! Reports of small journals, by hand.
+//! The tests of `sp_report`: reports of small journals, by hand.
 
 ghost use Rattle.sp_journal.specs.Births.{IsNameable};
 

@@ -1,4 +1,4 @@
-//! What words ask for, row by row.
+//! The tests of `sp_words`: what words ask for, row by row.
 
 use crate::made::add;
 use sp_base::{Limits, Show, Word, put_decimal};
