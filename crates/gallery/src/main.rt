@@ -1,5 +1,17 @@
-//! The gallery: makes each run of `table.txt` by the top call, and says whether status, output and notes are as expected.
-//! It runs in the folder `data`, where the texts and what is expected of them stand.
+//! The gallery: makes each run of `table.txt` by the top call, and says whether status, output and notes are as
+//! expected. It runs in the folder `data`, where the texts and what is expected of them stand.
+//!
+//! To know:
+//! - `src/main.rt` goes through the table and compares; `src/call.rt` makes the call, with input, output and notes in
+//!   memory.
+//! - A line with the command `run` that names no number of workers is made with 1, 2 and 8 workers, any other line
+//!   once.
+//! - `examples` is a link to the folder `data`. `rt ci` runs the program there and compares what it writes with
+//!   `stdout`, a line for each run.
+//!
+//! To change:
+//! - An example: its text, its `.in`, `.out` and `.notes`, its line in `data/table.txt` and in `data/README.md`, and
+//!   its lines in `stdout`.
 #![tactic(auto)]
 
 mod call;

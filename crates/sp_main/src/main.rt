@@ -1,4 +1,17 @@
-//! The program: the top call over the files of the system and the standard streams.
+//! The program: the top call over the files of the system and the standard streams, with the watchers timeline, census,
+//! tree and waiting in this order.
+//!
+//! To know:
+//! - It runs the words behind the program's name, and ends with the status of the call. The contract of `called` is the
+//!   `Promise` of the top call.
+//! - Before the call, want of memory gives status 8 with the line `out of memory`, and any other error status 2 with
+//!   `bad words`, since words are text; where that line cannot be written, the status is 6. No contract says this.
+//! - The gate that it hands in does nothing.
+//!
+//! To change:
+//! - Which program is run, compiled and kept: the script `superpascal` (`docs/COMMANDS.md` says how); how it is proved
+//!   alone: the script `prove`. A command or option stands in `tell_words`, `has_option` and `look_for_files` of the
+//!   first too.
 #![tactic(auto)]
 
 ghost use Rattle.std.specs.Prelude.{◌≡◌, map};

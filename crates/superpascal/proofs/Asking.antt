@@ -1,4 +1,5 @@
--- The command that asks for a run is `run` or `witness`: what holds of both.
+-- The command that asks for a run is `run` or `witness`: what holds of both. It leads from the two to the run that they
+-- ask for.
 use Rattle.std.proofs.Common.{◌≡◌, ℕ, List, Option, refl}
 use Rattle.std.specs.Prelude.{IfSome}
 use Rattle.sp_base.specs.declared.halt.Refusal.{Refusal}

@@ -1,4 +1,4 @@
--- What follows from the answer of a call, its cause and its writing.
+-- What follows from the answer of a call, its cause and its writing: from these to the clauses of the contract.
 use Rattle.std.proofs.Common.{◌≡◌, ◌≢◌, ◌⊎◌, inl, inr, ℕ, ◌<◌, ◌≤◌, List, [], length, Option, Some, None, true, false}
 use Rattle.std.proofs.Common.{refl, sym, ◌∙◌, ap, subst, arith}
 use Rattle.std.specs.Prelude.{IfSome}

@@ -1,4 +1,4 @@
--- What follows of `exec` from the answer of a call, its cause and its writing.
+-- What follows of `exec` from the answer of a call, its cause and its writing: from these to the clauses on code files.
 use Rattle.std.proofs.Common.{◌≡◌, ◌⊎◌, inl, inr, ℕ, ◌<◌, ◌≤◌, List, length, Option, Some, None, refl, sym, ◌∙◌, ap}
 use Rattle.std.proofs.Common.{subst, arith}
 use Rattle.std.specs.Prelude.{◌++◌, IfSome, codes, decimal}

@@ -1,4 +1,4 @@
--- All that the top call promises.
+-- All that the top call promises, put together from its parts.
 use Rattle.superpascal.specs.Calls.{Call, IsAnswered}
 use Rattle.superpascal.specs.Promise.{Promise}
 use Rattle.superpascal.proofs.Calling.{following, headline, run_shown, statuses, writing}

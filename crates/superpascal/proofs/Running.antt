@@ -1,4 +1,5 @@
--- The run of the code of a text is one of its program, and so is what follows a journal.
+-- The run of the code of a text is one of its program, and so is what follows a journal. It leads from `execute` and
+-- `follow`, and the laws of ready programs and of races, to the text's program.
 use Rattle.std.proofs.Common.{◌≡◌, ℕ, ◌≤◌, List, Result, Ok, Err, sym, subst, arith}
 use Rattle.std.specs.Prelude.{IfOk}
 use Rattle.sp_base.specs.declared.halt.Memory.{Memory}

@@ -1,5 +1,5 @@
 -- The run of the code of a file: it is sound, and where `build` wrote the file for a text, it runs as the text's
--- program means.
+-- program means. It leads from `run_code` to the run of a code file.
 use Rattle.std.proofs.Common.{◌≡◌, ℕ, List, Result, Ok, Err, sym, subst}
 use Rattle.std.specs.Prelude.{IfOk}
 use Rattle.sp_base.specs.declared.halt.Memory.{Memory}

@@ -1,4 +1,4 @@
--- What of a run lets it be told.
+-- What lets a run be told: no run, no replay and no run of a code file ends by want of memory.
 use Rattle.std.proofs.Common.{ℕ, List, Option, Some, None}
 use Rattle.sp_base.specs.declared.limits.Limits.{Limits}
 use Rattle.sp_cell.specs.Map.{Plain}

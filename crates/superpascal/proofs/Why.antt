@@ -1,4 +1,4 @@
--- Why an answer is due, by its ending.
+-- Why an answer is due, by its ending: it leads from an ending to its cause.
 use Rattle.std.proofs.Common.{◌≡◌, ◌⊎◌, inl, inr, ℕ, Option, Some, None, refl, sym, ◌∙◌, ap, subst}
 use Rattle.sp_execute.specs.declared.execution.Ran.{Ran}
 use Rattle.sp_journal.specs.declared.outcome.End.{End}

@@ -1,5 +1,5 @@
--- A call of the program: what it is given, what it leaves, and how its answer is written. The contract of the top call
--- speaks of this record, so that its clauses need no name of a stream or a library.
+-- A call of the program (`Call`): what it is given, what it leaves, and how its answer is written (`IsAnswered`). The
+-- contract of the top call speaks of this record, so that its clauses need no name of a stream or a library.
 use Rattle.std.specs.Prelude.{◌≡◌, ◌≢◌, ◌⊎◌, ℕ, ◌<◌, ◌≤◌, List, true, false, length, take, Option, Some}
 use Rattle.sp_outside.specs.Counts.{Rose}
 use Rattle.sp_outside.specs.Told.{Grows}

@@ -1,5 +1,5 @@
--- What a call finds outside, and why an answer is due: for each ending the cause that it names. The contracts of the
--- parts of a call promise it, and the statuses of the top call are led from it.
+-- What a call finds outside, and why an answer is due (`Cause`): for each ending the cause that it names. The contracts
+-- of the parts of a call promise it, and the statuses of the top call are led from it.
 use Rattle.std.specs.Prelude.{◌≡◌, ◌⊎◌, ℕ, ◌<◌, ◌≤◌, List, [], Option, Some, None, IfSome, length}
 use Rattle.sp_base.specs.declared.halt.Refusal.{Refusal}
 use Rattle.sp_code.specs.declared.code.Parts.{Parts}

@@ -1,5 +1,5 @@
--- A run of the program of a text, and what is told of it. The contracts of `runs` and `notes` promise it; the headline
--- and the written texts are said by it.
+-- A run of the program of a text (`IsRunOf`), and what is told of it. The contracts of `runs` and `notes` promise it;
+-- the headline and the written texts are said by it.
 use Rattle.std.specs.Option.{option_map_or}
 use Rattle.std.specs.Prelude.{ℕ, ◌≤◌, Bool, true, false, if◌then◌else◌, List, [], ◌++◌, Option, Some, None, codes}
 use Rattle.std.specs.Prelude.{decimal, length}

@@ -1,5 +1,6 @@
--- What each command finds in a text: the first rule for which it refuses the text, or what it makes of it. The
--- contracts of `texts` promise it, and the causes, the headline and the writing cite it.
+-- What each command finds in a text: the first rule for which it refuses the text (`Breaks`), or none (`Keeps`), or
+-- what it makes of it (`Makes`). The contracts of `texts` promise it, and the causes, the headline and the writing cite
+-- it.
 use Rattle.std.specs.Prelude.{◌≡◌, ◌⊎◌, ℕ, ◌<◌, ◌≤◌, List, [], Option, Some, IfSome, codes, length}
 use Rattle.sp_base.specs.declared.halt.Refusal.{Refusal}
 use Rattle.sp_base.specs.declared.limits.Limits.{Limits}

@@ -1,4 +1,4 @@
-//! Answers without a run.
+//! The answers of calls that end without a run, with their lines.
 
 ghost use Rattle.std.specs.Prelude.{◌≡◌, ◌⊎◌, ◌++◌, None, IfOk, codes, decimal};
 ghost use Rattle.sp_codefile.specs.Verifying.{rule_of};

@@ -1,4 +1,4 @@
-//! How a call ends, and what it has to write.
+//! How a call ends (`Ending`), and what it has to write (`Answer`), with statuses and lines.
 
 ghost use Rattle.std.specs.Prelude.{◌≡◌};
 ghost use Rattle.superpascal.specs.Answers.{has_output, notes_by, output_of, status_of};

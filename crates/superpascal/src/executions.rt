@@ -1,4 +1,4 @@
-//! The command that runs a code file.
+//! The command that runs a code file: `exec`.
 
 ghost use Rattle.std.specs.Prelude.{◌≤◌, List, ℕ, IfOk, length};
 ghost use Rattle.sp_codefile.specs.CodeText.{IsTextOf};

@@ -1,4 +1,57 @@
 //! The top call: from words, a library and a source, two sinks, a gate and watchers to a status and the run.
+//!
+//! Calls:
+//! - `superpascal`: does what the words ask and keeps `Promise` (`specs/Promise.antt`), which has seven parts:
+//!   - `Headline`, of `run` and `witness`: a text is refused exactly where it breaks a rule; no process writes what a
+//!     parallel one uses; output and end are those of the meaning along the journal; what `ordered` promises.
+//!   - `Following`, of `replay`: a journal is followed exactly where the meaning is defined along it, with that output
+//!     and end; else status 9, with the first thing that is wrong with it.
+//!   - `Executing`, of `exec`: only code that breaks no rule is run, to the machine's output and end along the journal,
+//!     which are the meaning's where `build` wrote the file; else status 10, with the first thing that is wrong.
+//!   - `Witnessing`: the witness of a run's race is a journal of the program that ends where the two offers contend.
+//!   - `Statuses` and `Writing`: when each status comes, exactly by its cause, and what is then written.
+//!   - `IsAnswered`: which answer was due and why, and how it was written.
+//! - `Outcome`: the status, and the run that is given back. `Ran`, `Closed`: runs, those of `sp_execute` and
+//!   `sp_kernel`.
+//!
+//! To know:
+//! - `src/top.rt` is the call and its order of work by commands: words, load, rules of the text and its code, journal,
+//!   input, run, verdict, texts, write, status.
+//! - `src/texts.rt` has the commands that answer from the text alone, `src/runs.rt` those that run a program, told as
+//!   `src/telling.rt` says, `src/replays.rt` the one that follows a journal, `src/executions.rt` the one that runs a
+//!   code file. `src/notes.rt` is what is told of a run, `src/answers.rt` has the answers without a run.
+//! - `src/ending.rt` is how a call ends (`Ending`) and what it has to write (`Answer`), `src/writing.rt` writes it,
+//!   `src/outcome.rt` is what is given back.
+//! - The contract speaks of a call as `specs/Calls.antt` describes it (`Call`). What each function inside answers
+//!   stands in `specs/Answering.antt`, why an answer is due in `specs/Causes.antt` (`Cause`), what it has to write in
+//!   `specs/Answers.antt`.
+//! - Of the proofs, `Running` and `RunningFiles` lead from `sp_execute` to a text's program and to a code file,
+//!   `Parts`, `Replaying` and `Executed` from the parts of a call to the cause of its answer, `Why` from an ending to
+//!   its cause, `Calling` and `Executing` from cause and writing to the contract; `Promising` puts the parts together.
+//! - The rules of the text come before its input, so `run`, `check` and `code` name the first broken rule of all;
+//!   `sets` looks up to types and `format` at characters and grammar. A text longer than the library's limit is never
+//!   seen whole; that it is longer is all that L1 says, so its refusal needs no bytes.
+//! - The thread that compiles has a copy of the text and gives back tree, sets and code; a run keeps the code alone.
+//! - "Exactly" yields to the outside and to want of memory: where the cause of a status holds, the status comes, or one
+//!   from 5 to 8. 5 and 6 come only where a count rose, and 7 only where the input, if it is told, is longer than the
+//!   limit.
+//! - Where the library does not tell its bytes, as a real file's, the run is still that of some text that breaks no
+//!   rule; nothing is said of which.
+//! - Where 6 displaces a status, `IsAnswered` tells the answer that was due, and the run is given back all the same.
+//! - The reports enter the clauses as a function from a choice and entries to bytes, so that definitions need not know
+//!   what a watcher is.
+//! - The gate is entered by each worker before each turn. `sp_main` hands in one that does nothing; a test can see by
+//!   its own that workers are in turns at once.
+//!
+//! To change:
+//! - A status or a line: `Ending` in `src/ending.rt`, `specs/Answers.antt`, its cause in `Due` of `specs/Causes.antt`,
+//!   its clause in `specs/Statuses.antt`, `proofs/Why.antt` and `proofs/Calling.antt`.
+//! - A command: its variant in `sp_words`; `text_of`, `IsAbout`, `FollowsUnder`, `ExecutesUnder`, `Breaks`, `Keeps`,
+//!   `asks_text`, `asks_run`, `asks_replay`, `asks_build`, `asks_execution`, `CanRead`, `Makes` and `asks_all` of
+//!   `specs/Texts.antt`; its function in `src/texts.rt`, `src/runs.rt`, `src/replays.rt` or `src/executions.rt`, its
+//!   arm in `src/top.rt`.
+//! - What is told of a run: `run_notes` of `specs/Runs.antt`, `src/notes.rt`.
+//! - A phase over the text: `sp_front`, `sp_compile`.
 #![tactic(auto)]
 
 mod answers;

@@ -1,4 +1,4 @@
-//! What is told of a run.
+//! What is told of a run and of a replay: their ends, notes and outputs.
 
 ghost use Rattle.std.specs.Prelude.{◌≡◌, ◌++◌, IfOk, codes};
 ghost use Rattle.sp_execute.specs.Witnesses.{IsReadyRun};

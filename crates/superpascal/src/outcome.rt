@@ -1,4 +1,4 @@
-//! How the program ends.
+//! What the call gives back: the status, and the run where one came to its end.
 
 use sp_execute::Ran;
 use sp_kernel::Closed;

@@ -1,4 +1,4 @@
-//! The command that follows a journal.
+//! The command that follows a journal: `replay`.
 
 ghost use Rattle.std.specs.Prelude.{ℕ, ◌≤◌, List, Ok, Err, length};
 ghost use Rattle.sp_journal.specs.Births.{IsNameable};

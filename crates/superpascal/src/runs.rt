@@ -1,4 +1,4 @@
-//! The commands that run a program.
+//! The commands that run a program: `run`, `witness` and `gen`.
 
 ghost use Rattle.std.specs.Prelude.{ℕ, ◌≤◌, List, IfOk};
 ghost use Rattle.sp_execute.specs.Witnesses.{IsReadyRun};

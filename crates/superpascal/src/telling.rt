@@ -1,4 +1,4 @@
-//! How a run is told.
+//! How a run is told: by its output and reports, or by the witness of its race.
 
 use sp_base::Show;
 

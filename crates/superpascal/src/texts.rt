@@ -1,4 +1,4 @@
-//! The commands that answer from the text alone.
+//! The commands that answer from the text alone: `check`, `code`, `build`, `sets` and `format`.
 
 ghost use Rattle.std.specs.Prelude.{◌≡◌, ℕ, List};
 ghost use Rattle.sp_words.specs.declared.command.Command.TheVariants.{Build, Check, Code, Format, Sets};

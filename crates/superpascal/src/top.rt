@@ -1,4 +1,4 @@
-//! The top call.
+//! The top call, and its order of work by commands.
 
 ghost use Rattle.std.specs.Prelude.{◌≡◌, List, ℕ, Some, map};
 ghost use Rattle.std.specs.String.{string_bytes};

@@ -1,4 +1,4 @@
-//! The writing of an answer.
+//! The writing of an answer: the output, then the notes, and the status.
 
 ghost use Rattle.std.specs.Prelude.{◌≡◌, ◌≢◌, ◌⊎◌, ℕ, ◌≤◌, [], false, length, take};
 ghost use Rattle.sp_outside.specs.Counts.{Rose};
