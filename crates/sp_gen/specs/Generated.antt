@@ -1,5 +1,6 @@
--- The text of the generated program, line by line. The contract of `generated` cites it, and so do the top call's causes
--- for `gen`: the program is a fact of the text, so that `run` and `code` may be asked for it as for any other text.
+-- The text of the generated program, line by line. The contract of `generated` cites it, and so do the top call's
+-- causes for `gen`: the program is a fact of the text, so that `run` and `code` may be asked for it as for any other
+-- text.
 use Rattle.std.specs.Prelude.{ℕ, List, [], ◌∷◌, ◌++◌, codes, decimal}
 use Rattle.std.specs.Borrow.{Bor}
 use Rattle.std.specs.List.{flat_map}
