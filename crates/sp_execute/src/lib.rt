@@ -14,8 +14,8 @@
 //!   names no race.
 //! - `run_code`: a run of sound code by 1 to 64 workers, without a verdict; end and output are the machine's along the
 //!   journal, and the meaning's for each ready program with this code (`RunsCode`).
-//! - `Ran`: a run with its verdict, which `execute` alone makes. `Concluded`: a run of a program, which `conclude`
-//!   alone makes. `Replayed`, `ReplayError`: those of `sp_replay`.
+//! - `Ran`: a run with its verdict, as `execute` makes one. `Concluded`: a run of a program, as `conclude` makes one.
+//!   `Replayed`, `ReplayError`: those of `sp_replay`.
 //!
 //! Laws:
 //! - `one_unfit_entry`: a journal along which the meaning is defined is unfit at no entry, and any other one at one
