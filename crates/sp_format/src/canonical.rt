@@ -1,4 +1,4 @@
-//! The canonical text of a text.
+//! The canonical text of a text, in one pass over its items.
 
 ghost use Rattle.std.specs.Prelude.{◌≡◌, ◌∷◌};
 ghost use Rattle.sp_base.specs.declared.rule.Rule.{Rule as ARule};

@@ -1,4 +1,4 @@
-//! What the layout of an item takes from the items before it.
+//! What the layout of an item takes from the items before it: counts, and the kind of the last.
 
 ghost use Rattle.std.specs.Prelude.{◌≡◌, ◌<◌, ◌+◌, ◌^◌, ℕ, List, [], ◌∷◌, cond, true, false};
 ghost use Rattle.sp_format.specs.Items.{Item, item};

@@ -1,4 +1,4 @@
-//! Items put last into a text.
+//! Items put behind a text, each with the gap before it.
 
 ghost use Rattle.std.specs.Prelude.{◌≡◌, ◌++◌, OnOk, map};
 ghost use Rattle.sp_tree.specs.Characters.{lower as lower_of, is_blank as is_a_blank};

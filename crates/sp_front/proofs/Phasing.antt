@@ -1,4 +1,4 @@
--- What the phases answer one after the other, as one answer about the text.
+-- What the phases up to types answer one after the other, as one answer about the text.
 use Rattle.std.proofs.Common.{◌≡◌, ℕ, List, Result, Ok, Err, inl, inr, refl, sym as back_of, ap, ◌∙◌, subst}
 use Rattle.std.specs.Result.{IfOk}
 use Rattle.sp_base.specs.declared.halt.Halt.{Halt}

@@ -1,5 +1,6 @@
--- What a text is by all phases: its checked tree, or the first rule that it breaks. The contract of the check promises
--- it, and the top call's causes cite it; a phase's rules count only where the phases before it have none.
+-- What a text is by the phases up to types: its checked tree, or the first rule that it breaks. The contract of the
+-- check promises it, and the top call's causes cite it; a phase's rules count only where the phases before it have
+-- none.
 use Rattle.std.specs.Prelude.{◌≡◌, ◌⊎◌, ℕ, List, Result, Ok, Err}
 use Rattle.sp_base.specs.declared.halt.Halt.{Halt}
 use Rattle.sp_base.specs.declared.halt.Halt.TheVariants as halt

@@ -1,5 +1,5 @@
--- What a text is: its tree, or the first rule of its characters or its grammar that it breaks. The contract of the
--- reader promises it, over the scanner and the parser together.
+-- What a text is by its characters and its grammar: its tree, or the first of their rules that it breaks. The contract
+-- of the reader promises it, over the scanner and the parser together.
 use Rattle.std.specs.Prelude.{ℕ, List, Result, Ok, Err}
 use Rattle.sp_base.specs.declared.halt.Halt.{Halt}
 use Rattle.sp_base.specs.declared.halt.Halt.TheVariants as halt

@@ -1,4 +1,4 @@
-//! All phases: from the bytes of a text to its tree and its sets.
+//! The phases up to sets (`analyse`), and all of them with interference (`compile`), from the bytes of a text on.
 
 ghost use Rattle.std.specs.Prelude.{◌≡◌, IfOk};
 ghost use Rattle.sp_tree.specs.PlainOf.{program_of};

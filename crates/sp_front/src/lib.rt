@@ -1,4 +1,39 @@
-//! The tree of a text, and its checked tree, or the first rule that it breaks.
+//! The phases together: from the bytes of a text to its tree, its checked tree and its sets, or the first rule that it
+//! breaks.
+//!
+//! Calls:
+//! - `read_text`: exactly the tree of a text, or the first rule of its characters and its grammar that it breaks.
+//! - `typed`: exactly the checked tree of a text, or the first rule up to types that it breaks. With a tree the text
+//!   breaks none of these, and the tree's program is that of the text (`IsProgramOf`).
+//! - `analyse`: the checked tree of a text and exactly its sets, or the first rule up to types that it breaks.
+//!   Interference is not looked at.
+//! - `analyse_apart`: the same on a thread of its own with a large stack; want of memory where no thread can be made.
+//! - `compile`: the `Accepted` of a text that breaks no rule, or the first rule of all phases that it breaks. The
+//!   tree's program is that of the text, free of interference, and disjoint in every lawful schedule.
+//! - `Accepted`: `checked` is its checked tree, `sets` the sets of the tree.
+//!
+//! Laws:
+//! - `one_answer`: a text has at most one first broken rule up to types, one checked tree and one program, and never a
+//!   checked tree and a broken rule.
+//! - `one_compilation`: a text has at most one first broken rule of all phases, and an accepted one has none.
+//! - `some_answer`: a text has a checked tree, or a first broken rule up to types; so one that breaks none has a
+//!   program.
+//! - `numbers_differ`: no two statements of the checked tree of a text have one number.
+//! - `numbered_trees`: in the checked tree of a text a block stands after the one around it, and two statements with
+//!   one number are one.
+//! - `accepted_texts_are_disjoint`: on no input, with no limits and in no lawful schedule does a process of an
+//!   accepted text write what a parallel one reads or writes.
+//!
+//! To know:
+//! - `src/reader.rt` has characters and grammar, `src/phases.rt` goes on up to types, `src/compiling.rt` to sets and
+//!   interference. `specs/Texts.antt`, `Checks.antt` and `Compiles.antt` say what each of them answers.
+//! - Each call may answer want of memory too.
+//! - `typed`, `analyse` and `compile` recurse as deep as the longest chain of operators is long. Of these `analyse`
+//!   has a call here that brings the stack for it; who calls the others has to.
+//! - `IsProgramOf` of `specs/Checks.antt` is the program of a text.
+//!
+//! To change:
+//! - A further phase: `src/compiling.rt`, its outcome in `specs/Compiles.antt`, its line in `proofs/Accepting.antt`.
 #![tactic(auto)]
 
 mod compiling;

@@ -1,4 +1,4 @@
-//! From the bytes of a text through all phases to its checked tree.
+//! The phases up to types, from the bytes of a text to its checked tree.
 
 ghost use Rattle.std.specs.Prelude.{IfOk};
 ghost use Rattle.sp_tree.specs.PlainOf.{program_of};

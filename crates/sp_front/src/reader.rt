@@ -1,4 +1,4 @@
-//! From the bytes of a text to its tree.
+//! The phases of characters and grammar, from the bytes of a text to its tree.
 
 ghost use Rattle.sp_front.specs.Texts.{ParsesTo};
 

@@ -1,4 +1,4 @@
-//! Blocks and programs. `depth` says inside how many parts a block lies.
+//! How blocks and programs are read. `depth` says inside how many parts a block lies.
 
 ghost use Rattle.std.specs.Prelude.{[], ◌∷◌, ℕ, ◌≤◌};
 ghost use Rattle.sp_tree.specs.Words.{Begin as ABegin};

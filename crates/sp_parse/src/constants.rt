@@ -1,4 +1,4 @@
-//! Constants.
+//! How constants are read.
 
 ghost use Rattle.std.specs.Prelude.{◌≡◌, None};
 ghost use Rattle.sp_grammar.specs.Symbols.{AConstant, AValue};

@@ -1,4 +1,4 @@
-//! Declarations of constants, types and variables.
+//! How declarations of constants, types and variables are read.
 
 ghost use Rattle.std.specs.Prelude.{ℕ};
 ghost use Rattle.sp_tree.specs.SyntaxOf.{part_of};

@@ -1,4 +1,4 @@
-//! Expressions. `depth` says inside how many parts one lies.
+//! How expressions are read. `depth` says inside how many parts one lies.
 
 ghost use Rattle.sp_tree.specs.SyntaxOf.{expression_of, argument_of, arguments_of};
 ghost use Rattle.sp_grammar.specs.Symbols.{AnExpression, ASimple, MoreTerms, AFactor, Selectors};

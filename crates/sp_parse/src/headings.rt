@@ -1,4 +1,4 @@
-//! Formal parameters, and the names in a program's heading.
+//! How formal parameters, and the names in a program's heading, are read.
 
 ghost use Rattle.std.specs.Prelude.{◌≡◌};
 ghost use Rattle.sp_grammar.specs.Symbols.{AFormal, Formals, AHeading};

@@ -1,4 +1,23 @@
-//! The tree that the tokens of a text spell, or the first of the grammar's rules that they break.
+//! The tree that the tokens of a text spell, or the first rule of the grammar that they break, by recursive descent.
+//!
+//! Calls:
+//! - `parse`: of tokens that are those of the text, exactly the tree that they spell, where they break no rule of the
+//!   grammar; else the first rule that they break (G1, L2, G2); or want of memory.
+//!
+//! To know:
+//! - Above each parse function stands its line of the grammar, and its contract names the production that it reads.
+//! - `specs/BlockProductions.antt`, `ExpressionProductions.antt` and `StatementProductions.antt` list the productions:
+//!   their symbols and what these make.
+//! - `Reads` of `specs/Reads.antt` says that the tree is what the production makes, and that the machine of
+//!   `sp_grammar` goes on the same way or gets stuck at the same place.
+//! - Chains, lists and selectors are loops. Only nesting is recursion, and at most 200 parts deep.
+//! - Of the proofs, `Steps` and `Behind` are the steps of the machine and what stands behind them, `SoFar` and
+//!   `Rounds` the loops (`Rounds` those that begin with an item), `Rows` the use of rows of the table. `Read*` have
+//!   the lemmas of each group of functions, and `Parsing` leads to the tokens' own definitions.
+//!
+//! To change:
+//! - A line of the grammar: its production, the function of its symbol, its constructor in `src/made*.rt`, and its
+//!   lemmas in `proofs/Read*`.
 #![tactic(auto)]
 
 mod blocks;

@@ -1,4 +1,4 @@
-//! Expressions from their parts.
+//! Constructors of expressions, from their parts.
 
 ghost use Rattle.std.specs.Prelude.{◌≡◌};
 ghost use Rattle.sp_tree.specs.Grammar.{joined as joined_of, moved as moved_of};

@@ -1,4 +1,4 @@
-//! Declarations and blocks from their parts.
+//! Constructors of declarations and blocks, from their parts.
 
 ghost use Rattle.std.specs.Prelude.{◌≡◌};
 ghost use Rattle.sp_tree.specs.PlainSyntax as tree;

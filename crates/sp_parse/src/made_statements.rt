@@ -1,4 +1,4 @@
-//! Statements from their parts, each with the place of its first token.
+//! Constructors of statements, from their parts, each with the place of its first token.
 
 ghost use Rattle.std.specs.Prelude.{◌≡◌};
 ghost use Rattle.sp_tree.specs.PlainSyntax as tree;

@@ -1,4 +1,4 @@
-//! Names and lists of names.
+//! How names and lists of names are read.
 
 ghost use Rattle.sp_grammar.specs.Symbols.{AName};
 ghost use Rattle.sp_parse.specs.Productions.{itself, single};

@@ -1,4 +1,4 @@
-//! The tree of a text.
+//! The parser as one call: the tree of a text's tokens, or the first rule of the grammar that they break.
 
 ghost use Rattle.std.specs.Prelude.{◌≡◌, ◌≤◌, length};
 ghost use Rattle.sp_tree.specs.Places.{place_at};

@@ -1,4 +1,4 @@
-//! What single tokens say.
+//! What single tokens say: a name in lower case, a number, a text without its quotes.
 
 ghost use Rattle.std.specs.Prelude.{◌≡◌, map};
 ghost use Rattle.sp_tree.specs.Characters.{lower as lower_of};

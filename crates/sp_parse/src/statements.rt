@@ -1,4 +1,5 @@
-//! Statements. `depth` says inside how many parts one lies; what stands in a statement lies inside one more.
+//! How statements are read. `depth` says inside how many parts one lies; what stands in a statement lies inside one
+//! more.
 
 ghost use Rattle.sp_tree.specs.SyntaxOf.{statement_of, statements_of, arm_of};
 ghost use Rattle.sp_grammar.specs.Symbols.{AStatement, AnElse, ADirection};

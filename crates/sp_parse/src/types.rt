@@ -1,4 +1,4 @@
-//! Types, and names of one type.
+//! How types, and names of one type, are read.
 
 ghost use Rattle.sp_grammar.specs.Symbols.{AType};
 ghost use Rattle.sp_parse.specs.Productions.{itself, single};

@@ -1,4 +1,4 @@
-//! Bytes one by one.
+//! Bytes one by one: the first and the others, of which sort a byte is, and what stands first.
 
 ghost use Rattle.std.specs.Prelude.{◌≡◌, ◌↔◌, IsTrue, map};
 ghost use Rattle.sp_tree.specs.Characters.{is_blank as is_a_blank, is_letter as is_a_letter, is_digit as is_a_digit};

@@ -1,4 +1,4 @@
-//! The rules of characters at one place.
+//! The rules of characters at one place: what stands first there, or the first rule that is broken.
 
 ghost use Rattle.std.specs.Prelude.{◌≡◌, ◌≢◌, ◌<◌, ◌↔◌, ◌∷◌, IsTrue, true, false, map};
 ghost use Rattle.sp_tree.specs.declared.token.Kind.TheVariants.{Number, Name};

@@ -1,4 +1,4 @@
-//! Names, numbers, texts and comments, behind their first bytes.
+//! What is behind names, numbers, texts and comments, from behind their first bytes on.
 
 ghost use Rattle.std.specs.Prelude.{◌≡◌};
 ghost use Rattle.sp_tree.specs.Characters.{is_digit, is_name_byte};

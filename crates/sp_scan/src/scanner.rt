@@ -1,4 +1,4 @@
-//! The tokens of a text.
+//! The pass over a text: its tokens, or the first rule of its characters that it breaks.
 
 ghost use Rattle.std.specs.Prelude.{◌≡◌, ◌+◌, ◌-◌, ◌<◌, ◌≤◌, ◌^◌, length, take};
 ghost use Rattle.sp_tree.specs.Places.{place_behind, next_place};

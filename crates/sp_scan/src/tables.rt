@@ -1,4 +1,4 @@
-//! The spellings of words and signs.
+//! The tables of words, refused words and signs: how each is spelled, by its number.
 
 ghost use Rattle.std.specs.Prelude.{◌≡◌, ◌<◌, Some, slice_get};
 ghost use Rattle.sp_tree.specs.Lexemes.{words, refused_words, signs};

@@ -1,4 +1,4 @@
-//! The longest token at a place.
+//! The longest token at a place: a name, a word, a number, a text or a sign.
 
 ghost use Rattle.std.specs.Prelude.{◌≡◌, ◌<◌, ◌+◌, ◌∷◌, map, true};
 ghost use Rattle.sp_tree.specs.Characters.{lower, is_letter};
