@@ -1,4 +1,21 @@
 //! The arithmetic of the language: what the operators and standard functions give of ordinals, or the fault.
+//!
+//! Calls:
+//! - `in_range`: the number where it is an integer of the language, else F2. `within`: the number where it is from
+//!   `low` to `high`, else F1.
+//! - `next_of`, `previous_of`: the number after one below `high`, or before one above `low`, else F1.
+//! - `absolute_of`, `square_of`, `product`: the absolute value, the square, the product, or F2.
+//! - `quotient`: truncated toward zero, or F2; F3 by 0. `modulus`: the remainder, from 0 to `n - 1`; F3 where `n` is
+//!   not above 0.
+//! - `odd`, `truth_of`: 1 for true, 0 for false.
+//! - `unary`, `binary`: what an operator gives of one ordinal or of two, or the fault.
+//!
+//! To know:
+//! - Each call gives exactly what its definition in `sp_tree`'s `specs/Operators.antt` gives; `specs/Worked.antt`
+//!   leads from a result in memory to what is defined.
+//!
+//! To change:
+//! - An operator: `src/lib.rt`, and `sp_tree`'s `specs/Operators.antt`.
 #![tactic(auto)]
 
 ghost use Rattle.std.specs.Prelude.{◌≡◌, ◌≢◌, int_div, int_rem, pos, ◌+ℤ◌, ◌-ℤ◌, ◌*ℤ◌};

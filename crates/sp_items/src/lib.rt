@@ -1,4 +1,23 @@
-//! Items as the input and the output have them: numbers and chars that are read, how far a line goes, and the texts of values.
+//! Items as the input and the output have them: numbers and chars that are read, how far a line goes, and the texts of
+//! values.
+//!
+//! Calls:
+//! - `number_in`: an integer that stands first behind blanks, with its sign, and how many bytes were taken; F17
+//!   without a digit, F18 where nothing is behind the blanks, F2 outside the integers.
+//! - `char_in`: the next byte, a space for a line feed, and that one byte was taken; F18 where nothing is left.
+//! - `line_length`, `is_at_line_end`: how many bytes the line has yet, with its line feed; whether nothing is left of
+//!   it.
+//! - `truth_text`: `false` for a number that is not above 0, else `true`. `byte_of`: the absolute value of the ordinal
+//!   modulo 256.
+//! - `cut_to`: the text as far as the width goes, where it is to be cut, else all of it.
+//! - `Taken`: what reading gives, a value and how many bytes it took, or a fault.
+//!
+//! To know:
+//! - All calls but `cut_to` give exactly what their definitions in `sp_tree`'s `specs/Items.antt` give;
+//!   `specs/Taking.antt` leads from a `Taken` in memory to what is defined.
+//!
+//! To change:
+//! - An item: `src/lib.rt`, and `sp_tree`'s `specs/Items.antt`.
 #![tactic(auto)]
 
 ghost use Rattle.std.specs.Prelude.{◌≡◌, ◌+◌, ◌<◌, ◌≤◌, ◌^◌, MatchOption, length, take, if◌then◌else◌};

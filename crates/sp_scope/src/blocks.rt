@@ -1,4 +1,4 @@
-//! Blocks, and what their parts declare.
+//! The walk through blocks: what their parts declare, and their statement parts.
 
 ghost use Rattle.std.specs.Prelude.{◌≡◌, ◌++◌, ◌∷◌, [], map, None, Ok, OnOk};
 ghost use Rattle.sp_tree.specs.Found.{Answers, AnswersAs};

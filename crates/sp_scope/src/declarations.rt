@@ -1,4 +1,4 @@
-//! The rules of names at one name, with the declarations visible there.
+//! The rules of names at a constant, a type and a declaration, with the declarations visible there.
 
 ghost use Rattle.std.specs.Prelude.{◌≡◌};
 ghost use Rattle.std.specs.Option.{option_copied};

@@ -1,4 +1,4 @@
-//! Expressions with numbers for names.
+//! The walk through expressions, with numbers for names.
 
 ghost use Rattle.std.specs.Prelude.{◌≡◌, map, None, Ok};
 ghost use Rattle.std.specs.Option.{option_copied};

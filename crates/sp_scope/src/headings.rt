@@ -1,4 +1,4 @@
-//! Headings of procedures and functions.
+//! The walk through headings of procedures and functions.
 
 ghost use Rattle.std.specs.Prelude.{◌≡◌, ◌++◌, ◌∷◌, [], map, Ok, OnOk};
 ghost use Rattle.sp_tree.specs.Found.{Answers, AnswersAs};

@@ -1,4 +1,4 @@
-//! Definitions of types.
+//! The walk through definitions of types: their rules, and their forms with numbers for names.
 
 ghost use Rattle.std.specs.Prelude.{◌≡◌, ◌++◌, [], map, Ok, OnOk};
 ghost use Rattle.std.specs.Ordering.{nat_cmp};

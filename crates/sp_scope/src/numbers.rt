@@ -1,4 +1,5 @@
-//! The numbers of declarations.
+//! The next numbers of constants, types, variables and blocks. One that would not fit 32 bits is answered as want of
+//! memory.
 
 ghost use Rattle.std.specs.Prelude.{◌≡◌, ◌+◌, Ok};
 ghost use Rattle.sp_tree.specs.Found.{Answers};

@@ -1,4 +1,4 @@
-//! Parts that declare constants, types and variables.
+//! The walk through parts that declare constants, types and variables.
 
 ghost use Rattle.std.specs.Prelude.{◌≡◌, ◌++◌, ◌∷◌, [], Ok, OnOk};
 ghost use Rattle.sp_tree.specs.Found.{Answers, AnswersAs};

@@ -1,4 +1,5 @@
-//! The names of a program.
+//! The phase of names as one call: a program's heading, its standard declarations, and the tables of all that it
+//! declares.
 
 ghost use Rattle.std.specs.Prelude.{◌≡◌, ◌++◌, ◌∷◌, [], true, false, None, Some, Ok, codes};
 ghost use Rattle.sp_tree.specs.Found.{Answers, AnswersAs};

@@ -1,4 +1,4 @@
-//! The rules of names at one name, by what it stands for.
+//! The rules of names at one name, by what it stands for: a function for each place of a name.
 
 ghost use Rattle.std.specs.Prelude.{◌≡◌};
 ghost use Rattle.std.specs.Option.{option_copied};

@@ -1,4 +1,6 @@
-//! The declarations that are visible where the walk stands.
+//! The tables of declarations that are visible where the walk stands, one for each block.
+//!
+//! The hash of the tables has a fixed seed, so names can be made that collide.
 
 ghost use Rattle.std.specs.Prelude.{◌≡◌, ◌+◌, nat_le, ◌++◌, ◌∷◌, [], map, None, Ok, OnOk};
 ghost use Rattle.std.specs.Option.{option_copied, is_some};

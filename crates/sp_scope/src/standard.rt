@@ -1,4 +1,4 @@
-//! The standard names.
+//! The standard names, declared in a block of their own.
 
 ghost use Rattle.std.specs.Prelude.{◌≡◌, [], Ok, OnOk, codes};
 ghost use Rattle.sp_tree.specs.Found.{Answers, AnswersAs};

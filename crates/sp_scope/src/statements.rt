@@ -1,4 +1,4 @@
-//! Statements with numbers for names.
+//! The walk through statements, with numbers for names.
 
 ghost use Rattle.std.specs.Prelude.{◌≡◌, map, option_map, None, Ok, OnOk, Some};
 ghost use Rattle.std.specs.Option.{option_copied};

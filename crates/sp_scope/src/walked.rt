@@ -1,4 +1,4 @@
-//! What the walk gives of a part of the tree.
+//! What the walk gives of a block and of a heading.
 
 use sp_base::{Boxed, List};
 pub use sp_tree::Walked;

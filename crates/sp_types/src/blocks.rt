@@ -1,4 +1,4 @@
-//! The blocks of a program with types.
+//! The blocks of a program with types, each with the rules at its frame, its result and its statements.
 
 ghost use Rattle.std.specs.Prelude.{◌≡◌, map, Ok, OnOk};
 ghost use Rattle.sp_tree.specs.NamedOf.{block_of};

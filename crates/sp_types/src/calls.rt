@@ -1,4 +1,4 @@
-//! Calls of standard procedures, as the single statements that they stand for.
+//! The arguments of `read`, `write` and `open`, as the single statements that they stand for.
 
 ghost use Rattle.std.specs.Prelude.{◌≡◌, map, Ok, option_map};
 ghost use Rattle.sp_tree.specs.NamedOf.{expression_of, argument_of, arguments, width};

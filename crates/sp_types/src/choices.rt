@@ -1,4 +1,4 @@
-//! The constants of a `case` statement.
+//! The constants of a `case` statement, and the rules at them.
 
 ghost use Rattle.std.specs.Prelude.{◌≡◌, map, Ok, []};
 ghost use Rattle.sp_tree.specs.Found.{Answers};

@@ -1,4 +1,4 @@
-//! How many statements there are.
+//! How many numbers a statement takes: the number behind a statement whose own number is given.
 
 ghost use Rattle.std.specs.Prelude.{◌≡◌, ◌+◌, map, option_map, Ok};
 ghost use Rattle.sp_tree.specs.Found.{Answers};

@@ -1,4 +1,4 @@
-//! The rules of types at declarations.
+//! The rules of types at declarations: constants, bounds of types, and the cells of types and frames.
 
 ghost use Rattle.std.specs.Prelude.{◌≡◌, ◌∷◌, [], drop, ◌++◌, Ok, OnOk};
 ghost use Rattle.sp_tree.specs.Found.{Answers, lesser};

@@ -1,4 +1,4 @@
-//! A type with what is looked up in it.
+//! A type with what is looked up in it: the fields of a record by name, the message types of a channel.
 
 ghost use Rattle.std.specs.Prelude.{◌≡◌, nat_eq, Ok, OnOk, IfOk};
 ghost use Rattle.std.specs.List.{list_any};

@@ -1,4 +1,4 @@
-//! Expressions with types.
+//! The pass over expressions, which consumes the tree and gives tree, type and first broken rule at once.
 
 ghost use Rattle.std.specs.Prelude.{◌≡◌, ℕ, map, pos, None, Some, Ok};
 ghost use Rattle.sp_tree.specs.NamedOf.{expression_of, expression_form_of, variable_of, selector_of, argument_of, arguments, selectors};

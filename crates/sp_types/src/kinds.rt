@@ -1,4 +1,4 @@
-//! The declared types.
+//! The declared types, in order of declaration, from their definitions.
 
 ghost use Rattle.std.specs.Prelude.{◌≡◌, ◌++◌, ◌∷◌, [], map, ℕ, List, Ok, OnOk};
 ghost use Rattle.sp_tree.specs.Found.{Answers};

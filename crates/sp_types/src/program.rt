@@ -1,4 +1,4 @@
-//! The types of a program.
+//! The phase of types as one call: tables, blocks, and the checked tree of the whole.
 
 ghost use Rattle.std.specs.Prelude.{◌≡◌, ◌++◌, ◌∷◌, [], drop, map, None, Ok, OnOk};
 ghost use Rattle.sp_tree.specs.Cells.{sizes};

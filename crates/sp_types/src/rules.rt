@@ -1,4 +1,4 @@
-//! The rules of types at one node, by the types of its parts.
+//! The rules of types in code, each at one node, by the types of its parts.
 
 ghost use Rattle.std.specs.Prelude.{◌≡◌};
 ghost use Rattle.std.specs.Option.{option_copied};

@@ -1,4 +1,4 @@
-//! The constants of a `case` statement that have been read.
+//! The constants of a `case` statement that have been read, to find one that is repeated.
 
 ghost use Rattle.std.specs.Prelude.{◌≡◌, ◌++◌, ◌∷◌, [], Ok};
 ghost use Rattle.std.specs.List.{list_any};

@@ -1,4 +1,4 @@
-//! The cells of types and frames, counted up to just above the limit.
+//! The cells of types and frames, counted up to just above the limit (`specs/Capped.antt`).
 
 ghost use Rattle.std.specs.Prelude.{◌≡◌, ◌+◌, ◌*◌, ◌∷◌, ℕ, List, [], map, sum, slice_get, Ok};
 ghost use Rattle.sp_tree.specs.Found.{Answers};

@@ -1,4 +1,4 @@
-//! Statements with types, numbered, each call of a standard procedure as single statements.
+//! The pass over statements: with types, numbered, each call of a standard procedure as single statements.
 
 ghost use Rattle.std.specs.Prelude.{◌≡◌, map, Ok, OnOk};
 ghost use Rattle.sp_tree.specs.NamedOf.{expression_of, statement_of, statement_form_of, statements, arms, arm_of, branches, branch_of};

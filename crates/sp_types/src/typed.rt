@@ -1,4 +1,5 @@
-//! What the walk gives of a part of the tree.
+//! What the pass gives of a part of the tree: the part with types, its own type, and the first broken rule up to its
+//! end.
 
 use sp_tree::Found;
 pub use sp_tree::Walked;

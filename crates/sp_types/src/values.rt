@@ -1,4 +1,4 @@
-//! Constants, chars and fields.
+//! Single values: chars, numbers, and the fields of a variable that has a type so far.
 
 ghost use Rattle.std.specs.Prelude.{◌≡◌, pos, Ok};
 ghost use Rattle.sp_tree.specs.Found.{Answers};

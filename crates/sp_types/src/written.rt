@@ -1,4 +1,4 @@
-//! Constants as they are written.
+//! Constants as they are written: type and number of each, with its sign.
 
 ghost use Rattle.std.specs.Prelude.{◌≡◌, neg_ℤ, true, Some, Ok};
 ghost use Rattle.sp_tree.specs.Found.{Answers};
