@@ -1,4 +1,4 @@
-//! What is asked of the sets.
+//! What the rules ask of sets: whether one has a variable, whether two meet, whether two statements clash.
 
 ghost use Rattle.std.specs.Prelude.{◌≡◌};
 ghost use Rattle.sp_varsets.specs.Members.{has};

@@ -1,4 +1,4 @@
-//! A program.
+//! The phase of interference as one call: all blocks of a program, and the rules at the headings of functions.
 
 ghost use Rattle.std.specs.Prelude.{◌≡◌, ◌∷◌, [], ◌≤◌, ◌^◌, None, map, length, slice_get, Ok};
 ghost use Rattle.std.specs.Option.{option_copied, option_map};

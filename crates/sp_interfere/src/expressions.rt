@@ -1,4 +1,4 @@
-//! The calls in expressions.
+//! The way through expressions, variables and arguments, to the rules at the calls in them.
 
 ghost use Rattle.std.specs.Prelude.{◌≡◌, ◌∷◌, [], map};
 ghost use Rattle.sp_tree.specs.CheckedOf.{expression_of, expression_form_of, variable_of, selector_of, actual_of, expressions, selectors, actuals, program_of};

@@ -1,4 +1,4 @@
-//! The process statements of one parallel statement.
+//! Rule I1 at the process statements of one parallel statement.
 
 ghost use Rattle.std.specs.Prelude.{◌≡◌, ◌<◌, ◌⊎◌, ℕ, List, [], ◌∷◌, ◌++◌, map, true, false};
 ghost use Rattle.sp_tree.specs.CheckedOf.{statement_of, statements};

@@ -1,4 +1,4 @@
-//! The statements of a block.
+//! The way through the statements of a block, to the rules at each of them.
 
 ghost use Rattle.std.specs.Prelude.{◌≡◌, map, option_map};
 ghost use Rattle.sp_tree.specs.CheckedOf.{expression_of, variable_of, width_of, statement_of, statement_form_of, statements, arms, arm_of, other, sends, receives, program_of};

@@ -1,4 +1,4 @@
-//! What follows from the definition of the text. The function does nothing: its contract is a law.
+//! The law that a tree has one text of its sets. The function does nothing: its contract is the law.
 
 ghost use Rattle.std.specs.Prelude.{◌≡◌, ℕ, List};
 ghost use Rattle.sp_sets.specs.SetsText.{IsSetsText};

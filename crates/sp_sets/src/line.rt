@@ -1,4 +1,4 @@
-//! A line of the text.
+//! What has a line of its own in the text of the sets, and the order of lines.
 
 ghost use Rattle.std.specs.Prelude.{◌≡◌};
 ghost use Rattle.sp_sets.specs.Orders.{line_cmp, part_number, place_cmp};

@@ -1,4 +1,4 @@
-//! The text of the sets.
+//! The text of the sets, put line by line.
 
 ghost use Rattle.std.specs.Prelude.{◌≡◌, ℕ, ◌<◌, ◌≤◌, ◌-◌, ◌^◌, ◌++◌, List, IfOk, OnOk, length, map};
 ghost use Rattle.sp_sets.specs.SetsText.{IsImplicit, IsLine, IsLineAt, IsOfBlock, IsSetsText, Joined, head_by, place_text};

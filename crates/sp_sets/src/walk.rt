@@ -1,4 +1,4 @@
-//! The lines that a tree has.
+//! The lines that a tree has in the text of the sets, gathered and sorted.
 
 ghost use Rattle.std.specs.Prelude.{◌≡◌, [], ◌∷◌, ◌++◌, None, IfOk, OnOk, map, option_map};
 ghost use Rattle.sp_varsets.specs.Parts.{number_of};

@@ -1,4 +1,4 @@
-//! The statement parts of blocks, and the variables that blocks declare.
+//! What stands in the statement parts of blocks, and the variables that blocks declare.
 
 ghost use Rattle.std.specs.Prelude.{◌≡◌, ℕ, ◌<◌, ◌≤◌, ◌^◌, false, ◌||◌, ◌&&◌, ◌==◌, not, [], ◌∷◌, ◌++◌, OnOk, IfOk, map, length};
 ghost use Rattle.sp_tree.specs.Bare.{bare};

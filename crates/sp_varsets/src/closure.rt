@@ -1,4 +1,4 @@
-//! What calls carry from block to block.
+//! What calls carry from block to block, gathered by sweeps until nothing is new.
 
 ghost use Rattle.std.specs.Prelude.{◌≡◌, ℕ, ◌^◌, ◌<◌, ◌≤◌, true, false, not, ◌||◌, ◌&&◌, OnOk, IfOk, length};
 ghost use Rattle.sp_varsets.specs.Members.{has};

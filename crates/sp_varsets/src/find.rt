@@ -1,4 +1,4 @@
-//! The sets of all statements and blocks of a tree.
+//! The sets of all statements and blocks of a tree, as one call (`sets_of`).
 
 ghost use Rattle.std.specs.Prelude.{◌≡◌, ◌^◌, ◌≤◌, IfOk, length, map};
 ghost use Rattle.sp_tree.specs.CheckedOf.{program_of, block_of};

@@ -1,4 +1,4 @@
-//! Variables from a number on.
+//! Whether a set has variables from a number on.
 
 ghost use Rattle.std.specs.Prelude.{◌≡◌, ◌↔◌, ℕ, ◌^◌, ◌≤◌, true, IsTrue};
 ghost use Rattle.sp_varsets.specs.Members.{has};

@@ -1,14 +1,31 @@
 //! The variables that statements and blocks use.
 //!
-//! `sets_of(alloc, checked)` gives a `Sets`: for each statement, by its number, its target variables (`targets`) and its
-//! expression variables (`expressions`); for each block, by its number, those of its statement part that neither it
-//! nor a block inside it declares (`implicit_targets`, `implicit_expressions`), followed through calls; and whether a
-//! call of it leads to a statement that a function may not have (`stops`). `AreSets` of `specs/AreSets.antt` says it,
-//! for every statement and block, exactly by paths of calls.
+//! Calls:
+//! - `sets_of`: the sets of a tree whose statements have numbers of their own and whose blocks stand after those
+//!   around them, for every statement and block exactly by paths of calls (`AreSets`); or want of memory.
+//! - `Sets::targets`, `expressions`: the target variables and the expression variables of the statement with this
+//!   number, those of the procedures and functions that it calls among them.
+//! - `Sets::implicit_targets`, `implicit_expressions`: those of the statement part of the block with this number that
+//!   neither it nor a block inside it declares, calls followed.
+//! - `Sets::stops`: whether the block's statement part has a statement that a function may not have, or a call of it
+//!   leads to one.
+//! - `VarSet::contains`, `is_empty`, `meets`, `has_from`: whether it has a variable, none, one in common with another
+//!   set, one of this number or a greater one.
+//! - `VarSet::new`, `next`, `words`: the empty set; the least variable from a number on; a count of words, below 64
+//!   times which all variables are.
+//! - `VarUnion::new`, `add`, `meets`: the union of sets that are added one by one, without memory, of the 8,256
+//!   variables from number `64 * first` on, and whether it has one of these in common with a set.
 //!
-//! A `VarSet` is read by `contains`, `next` (in order of numbers) and `meets`. A `VarUnion` is the union of sets
-//! that are added one by one, without memory, for the 8,256 variables from a first one on; `VarSet::words` says how
-//! far a set goes, so that a few windows see it whole.
+//! To know:
+//! - `specs/AreSets.antt` says what the sets of a tree are.
+//! - `src/uses.rt` and `walk.rt` gather what stands in each part, `closure.rt` what calls carry, `totals.rt` joins
+//!   both in a pool.
+//! - `proofs/Reaching` leads to paths.
+//! - `VarSet::words` says how far a set goes, so that a few unions, each over its window of variables, see it whole.
+//!
+//! To change:
+//! - A form of statement: `src/walk.rt`, `src/simple.rt`.
+//! - A set: `specs/Members.antt`, `proofs/Words.antt`.
 #![tactic(auto)]
 
 mod bodies;

@@ -1,4 +1,4 @@
-//! The sets of a tree.
+//! The sets of a tree, by the numbers of its statements and blocks (`Sets`).
 
 ghost use Rattle.std.specs.Prelude.{◌≡◌};
 ghost use Rattle.sp_varsets.specs.AreSets.{chosen, targets_of, expressions_of, implicit_targets_of, implicit_expressions_of, stops_of};

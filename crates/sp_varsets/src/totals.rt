@@ -1,4 +1,4 @@
-//! The sets of statements with what their calls carry, and those of blocks.
+//! The sets of statements with what their calls carry, and those of blocks, joined in a pool.
 
 ghost use Rattle.std.specs.Prelude.{◌≡◌, ◌↔◌, ◌⊎◌, ℕ, ◌^◌, ◌<◌, ◌≤◌, true, false, Some, OnOk, IfOk, length, get_or};
 ghost use Rattle.sp_varsets.specs.Members.{has};

@@ -1,4 +1,4 @@
-//! Unions of sets without memory.
+//! Unions of sets without memory (`VarUnion`).
 
 ghost use Rattle.std.specs.Prelude.{◌≡◌, ◌↔◌, ℕ, true, false, ◌||◌, IsTrue, length};
 ghost use Rattle.sp_varsets.specs.Members.{has, InWindow, joined};

@@ -1,4 +1,4 @@
-//! What stands in expressions, variables and arguments.
+//! What stands in expressions, variables and arguments: variables, and blocks that are called.
 
 ghost use Rattle.std.specs.Prelude.{◌≡◌, ℕ, false, OnOk, map};
 ghost use Rattle.sp_tree.specs.Bare.{bare_expression, bare_form, bare_variable, bare_selectors, bare_actuals, bare_width};

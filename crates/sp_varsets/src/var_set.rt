@@ -1,4 +1,4 @@
-//! Sets of variables.
+//! Sets of variables, as bits of words (`VarSet`).
 
 ghost use Rattle.std.specs.Prelude.{◌≡◌, ◌↔◌, ℕ, ◌+◌, ◌*◌, ◌^◌, ◌<◌, ◌≤◌, true, false, not, ◌||◌, ◌&&◌, ◌==◌, IsTrue, IfOk, OnOk, MatchOption, length, get_or};
 ghost use Rattle.sp_varsets.specs.Members.{has, IsNext};

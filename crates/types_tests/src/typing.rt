@@ -1,3 +1,6 @@
+//! Trees made by hand, through the phase of types: single statements and their numbers, and chars that are no
+//! integers.
+
 use sp_base::{Boxed, Halt, List, Place, Refusal, Rule, Text};
 use sp_tree::{
     BinaryOp, Checked, Form, Named, NamedArg, NamedBlock, NamedConstant, NamedExpr, NamedExprForm,
