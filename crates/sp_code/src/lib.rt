@@ -1,4 +1,59 @@
-//! Code for the stack machine: instructions, layouts, fork tables, and their listing. What code does is defined in `specs/`.
+//! Code for the stack machine as data, and its listing; by definitions what code does, and where the code of a tree
+//! stands.
+//!
+//! Calls:
+//! - `Instr`: an instruction. `Layout`, `Formal`: the frame of a block, and how it takes a parameter. `ForkTable`,
+//!   `ChildTable`: what a fork hands to its children.
+//! - `Parts::keeps_sizes`: exactly whether the parts are no larger than code may be (`KeepsSizes`, by `MAX_CODE` and
+//!   `MAX_FRAME`).
+//! - `Code::of`, `parts`: the code of parts that keep the sizes; its parts again, which keep them.
+//! - `Code::instr`, `text`, `table`: the instruction, the text, the fork table of this number from 0, or none.
+//! - `ForkTable::index`, `child`: the index of a `forall`; what the child of this number begins with, for a `forall`
+//!   always the one that the table has.
+//! - `listing`: exactly the text of code, a line for each instruction with its number, and then a line for each child
+//!   of each fork table; or want of memory.
+//!
+//! Laws:
+//! - `laws::turns_are_functions`: one instruction, and one turn, is a function of the process; a turn that is computed
+//!   to an end has that end.
+//! - `laws::turns_of_ranked_code_end`: a turn along which the ranks fall is over within a computed number of
+//!   instructions, and has an end where none lacks what it needs; in ranked code they fall along every turn.
+//! - `laws::systems_are_functions`: a turn makes at most one event, and there is at most one system along a journal.
+//! - `laws::code_has_its_length`: the code of a statement, and of a program, has exactly the number of instructions of
+//!   the table of lengths.
+//! - `laws::code_stands`: where each block keeps the rules of names, types and variables (`IsFine`), its code stands
+//!   in that of the program; and a call finds the layout that the block has in the tree.
+//!
+//! To know:
+//! - What code does: `specs/Machine.antt` (one instruction, over any memory), `Turns.antt`, `Memory.antt` (frames and
+//!   counts, over any store), `PlainStore.antt` (the store as `sp_cell`'s plain map), `Control.antt` (the kernel's
+//!   notes), `System.antt` (all processes along a journal, legal histories), `Ranks.antt`, `Budgets.antt` and
+//!   `Sound.antt` (turns that end, safe code).
+//! - The code of a tree: `specs/Scopes`, `Places`, `Lengths`, `Emitted`, `Stands`, `Quiet`.
+//! - What code of any origin is asked: `specs/Sizes`, `Formals` (frames begin with their parameters), `Ranks`,
+//!   `Sound`.
+//! - Of the proofs, `Turning` and `Falls` are for turns, `Systems` for journals, `Counts`, `Standing` and `Blocks` for
+//!   the code of a tree. `Plans` (what a fork hands over) and `Pieces` (a new frame in a store) are for the crates
+//!   above.
+//! - `call BLOCK` names a layout by its block and not by its place in the list, since code that was not generated may
+//!   have layouts in any order.
+//! - `index` and `field` are stuck where no cell of the variable is behind the address that they select. So an address
+//!   never leaves its variable, also one that is not used.
+//! - A value parameter takes exactly the cells of its type, tested when the block is called.
+//! - `write char` writes the number modulo 256. Code that no tree stands behind may write any ordinal as a char.
+//! - `forall` counts at most 2^64 - 1 children, since `const` may push -2^63.
+//! - Where the first frame is too large, F12 is the root's turn before its first instruction: nothing in the table of
+//!   instructions can say it.
+//! - A fault leaves the process at the instruction that has it, with nothing changed.
+//! - The ticks after which a process pauses are a parameter of the definitions; `run_of` sets it to `TURN_TICKS`.
+//! - Variables of a fork's table that stand in no visible frame have no spot and are handed to nobody. Generated code
+//!   has none. The index of a `forall` is held in its element statement besides.
+//!
+//! To change:
+//! - An instruction: `src/instr.rt`, `src/words.rt`, `specs/Listing`, `Machine`, `Ranks`, and a clause in
+//!   `proofs/Falls`.
+//! - A form of statement: `specs/Places`, `Lengths`, `Emitted`, `Stands`, and a clause in `proofs/Counts` and
+//!   `Standing`.
 #![tactic(auto)]
 
 mod code;

@@ -1,4 +1,4 @@
-//! The listing of code.
+//! The listing of code (`listing`), a line for each instruction and each child of a fork table.
 
 ghost use Rattle.std.specs.Prelude.{◌≡◌, ◌++◌, IfOk, OnOk, codes};
 ghost use Rattle.std.specs.List.{flat_map};

@@ -1,4 +1,4 @@
-//! How instructions are printed.
+//! How instructions are printed: the word of each, and the numbers after it.
 
 ghost use Rattle.std.specs.Prelude.{◌≡◌, ◌++◌, OnOk};
 ghost use Rattle.std.specs.Fmt.{signed_decimal};

@@ -1,4 +1,5 @@
-//! Laws which show that the phases together give each text one answer. Of the functions only their contracts count.
+//! Laws which show that the phases together give each text one answer, and that an accepted text is disjoint in every
+//! lawful schedule. Of the functions only their contracts count.
 
 ghost use Rattle.std.specs.Prelude.{◌≡◌, ◌⊎◌, ℕ, List};
 ghost use Rattle.sp_base.specs.declared.halt.Refusal.{Refusal};
