@@ -1,4 +1,4 @@
-//! Canonical texts.
+//! Canonical texts: of short, long and deep ones, and texts that have none.
 
 use crate::rows::{add, add_times, is_refused, repeated};
 use sp_base::Rule;

@@ -1,4 +1,4 @@
--- What declarations are read by.
+-- What declarations are read by: how a name that has to come is read, and with which tokens no constant begins.
 use Rattle.std.proofs.Common.{◌≡◌, ℕ, ◌<◌, length, arith, Bool, true, false, cond, List, [], ◌∷◌, ◌++◌, Option, Some, None, Err, refl, sym as back_of, ap, ◌∙◌, subst, append_assoc}
 use Rattle.sp_base.specs.declared.halt.Halt.{Halt}
 use Rattle.sp_base.specs.declared.halt.Halt.TheVariants as halt

@@ -1,4 +1,4 @@
--- Blocks of declarations in tables.
+-- Blocks of declarations in tables, and how names are looked up in them.
 use Rattle.std.proofs.Common.{suc, length, map, ◌≡◌, refl, ap, ◌∙◌, List, [], ◌∷◌, ◌++◌, ℕ, Option, Some, None, Bool, true, false, if◌then◌else◌}
 use Rattle.std.specs.Str.{bytes_eq}
 use Rattle.indexmap.specs.IndexMap.{insert_entry}

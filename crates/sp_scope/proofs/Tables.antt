@@ -1,4 +1,4 @@
--- What parts declare, put together.
+-- The tables of what parts declare, put together one behind the other.
 use Rattle.std.proofs.Common.{◌≡◌, refl, ap, ◌∙◌, List, [], ◌∷◌, ◌++◌}
 use Rattle.sp_tree.specs.PlainNamed as n
 use Rattle.sp_tree.specs.NamedTree.{beside, nothing_named}

@@ -11,9 +11,9 @@
 //! To know:
 //! - One pass consumes the syntax tree, gives each part with numbers for names, and carries the first broken rule so
 //!   far: `specs/Walks.antt` and `Firsts.antt`.
-//! - `src/scopes.rt` has the tables of declarations, one for each block. `src/rules.rt` and `declarations.rt` have a
-//!   function for each rule. `src/expressions.rt`, `statements.rt`, `parts.rt`, `headings.rt` and `blocks.rt` are the
-//!   walk, `program.rt` the tables of the program.
+//! - `src/scopes.rt` has the tables of declarations, one for each block. `src/rules.rt` and `declarations.rt` have the
+//!   rules, a function for each place at which a name may stand. `src/expressions.rt`, `statements.rt`, `parts.rt`,
+//!   `headings.rt` and `blocks.rt` are the walk, `program.rt` the tables of the program.
 //! - A number that would not fit 32 bits is answered as want of memory. No program has so many declarations.
 //! - The hash of the tables has a fixed seed, so names can be made that collide.
 //!

@@ -1,4 +1,4 @@
--- What is added part by part.
+-- What a pass adds to the sets, part by part.
 use Rattle.std.proofs.Common.{◌≡◌, ◌↔◌, ◌⊎◌, ℕ, zero, suc, ◌<◌, ◌≤◌, true, false, ◌==◌, ◌||◌, List, [], ◌∷◌, map, drop, length, get_or, refl, sym, ap, subst, ◌∙◌, arith, inl, inr, ◌+◌, add-one, Result, Ok, Err, OnOk, eqb-true, eq-eqb}
 use Rattle.sp_tree.specs.declared.checked.Actual.{Actual}
 use Rattle.sp_tree.specs.declared.checked.Selector.{Selector}

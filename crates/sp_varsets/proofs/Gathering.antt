@@ -1,4 +1,4 @@
--- Bodies, declarations and rows, one after another.
+-- Bodies, declarations and rows of blocks, gathered one block after another.
 use Rattle.std.proofs.Common.{◌≡◌, ◌↔◌, ◌⊎◌, ℕ, zero, suc, ◌+◌, ◌<◌, ◌≤◌, Bool, true, false, ◌==◌, ◌||◌, ◌&&◌, List, [], ◌∷◌, ◌++◌, map, drop, length, get_or, slice_get, refl, sym, ap, subst, ◌∙◌, arith, inl, inr, add-one, eqb-true, eq-eqb, Some, None}
 use Rattle.std.proofs.lemmas.Bool.{cases_eq}
 use Rattle.std.proofs.lemmas.List.{length-append}
