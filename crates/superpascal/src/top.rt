@@ -177,34 +177,10 @@ fn answer_and_write<R: Threads + Wait + Sync, L: Library, I: Source, O: Sink, N:
 /// `notes`. The watchers make the reports; they have been told nothing before. Each worker enters the gate before each
 /// turn that it makes.
 ///
-/// | status | comes | notes |
-/// |---|---|---|
-/// | 0 | where the run ends done | `done`, the verdict and the reports; or the journal; of `exec` `done` alone |
-/// | 0 | where `replay` has followed the journal to the end done, or to none | `replayed`, and `done` or `no end` |
-/// | 0 | where `check` finds no broken rule | `accepted` |
-/// | 0 | where `code`, `build`, `sets` or `format` has given its text | none |
-/// | 1 | where the text breaks a rule: for `sets` one of its characters, grammar, names and types, for `format` one of
-/// its characters and grammar, else any rule | `refused RULE LINE:COLUMN`, the first such rule |
-/// | 2 | where the words are refused | `bad words` |
-/// | 3 | where a fault ends the run | `fault F NAME`, the verdict and the reports; or the journal |
-/// | 4 | where the run ends in a deadlock | `deadlock`, a line for each process that waits, the verdict and the
-/// reports; or the journal |
-/// | 3, 4 | where `replay` has followed the journal to a fault, or to a deadlock | `replayed`, and the lines of that
-/// end |
-/// | 5 | where the library's count of faults under a name that was loaded rose, or the source's | `read fault` |
-/// | 6 | where the count of faults of a sink rose; it displaces the status that was due | a first part of the notes |
-/// | 7 | where the source gave more than 16,777,216 bytes | `input too long` |
-/// | 8 | where memory was refused | `out of memory` |
-/// | 9 | where the journal is longer than 67,108,864 bytes | `journal too long` |
-/// | 9 | where a line of the journal is no text of a next entry | `bad journal N`, the first such line, counted from 1
-/// |
-/// | 9 | where the program cannot make an entry of the journal there | `journal unfit N`, the first such entry, counted
-/// from 0 |
-/// | 10 | where the code that `build` would write, or the code file, is longer than 67,108,864 bytes | `code file too
-/// long` |
-/// | 10 | where the lines of the code file begin no code's text | `bad code N`, the first such line, counted from 1 |
-/// | 10 | where the code of the file breaks a rule of code files | `rejected VN I`, the first such rule, and the least
-/// instruction at which it is broken, counted from 0 |
+/// The table of statuses stands in `docs/COMMANDS.md`: which status comes when, with which line of the notes. Of the
+/// answers inside a call `status_of` and `line_of` of `specs/Answers.antt` say the same; 6 comes where the count of
+/// faults of a sink rose, and displaces the status that was due. 5 comes where the library's count of faults under a
+/// name that was loaded rose, or the source's.
 ///
 /// `witness` runs as `run` does, and writes to `output`, in place of what the program wrote, the witness of the race
 /// that its verdict names: a journal that `replay` follows to the fault F6. Where there is no race, it writes nothing
