@@ -1,4 +1,5 @@
-//! The search for what is around each instruction.
+//! The search for what is around each instruction: it makes a tree of the blocks and the children of forks, and gives
+//! each instruction a node of it.
 
 ghost use Rattle.std.specs.Prelude.{◌≡◌, None, IfOk, length, replicate};
 ghost use Rattle.sp_areas.specs.Blocks.{IsNumbered};

@@ -1,5 +1,5 @@
-//! Components of the ways that pass no tick and no call. Their numbers are a guess: whoever takes them checks what is
-//! needed of them.
+//! Components of the code's ways that pass no tick and no call, for rule V9. Their numbers are a guess: whoever takes
+//! them checks what is needed of them.
 
 ghost use Rattle.std.specs.Prelude.{◌≡◌};
 ghost use Rattle.sp_areas.specs.Rounds.{has_owner, number_at};

@@ -1,4 +1,4 @@
-//! Variables that are declared a second time.
+//! Variables that are declared a second time: a point of rule V1.
 
 ghost use Rattle.std.specs.Prelude.{◌≡◌, ◌+◌, ◌<◌, [], Some, IfOk, length, slice_get};
 ghost use Rattle.sp_rules.specs.Areas.{child_of};

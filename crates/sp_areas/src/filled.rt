@@ -1,4 +1,4 @@
-//! The blocks, as nodes of a tree: each inside its parent, or alone where it is not led to the program.
+//! All blocks as nodes of a tree: each inside its parent, or alone where it is not led to the program.
 
 ghost use Rattle.std.specs.Prelude.{◌≡◌, ◌+◌, ◌<◌, Some, IfOk, OnOk, length};
 ghost use Rattle.sp_code.specs.Machine.{layout_of};

@@ -1,4 +1,4 @@
-//! Layouts whose block has another one, or whose parents do not lead to block 0.
+//! Layouts whose block has another one, or whose parents do not lead to block 0: a point of rule V1.
 
 ghost use Rattle.std.specs.Prelude.{◌≡◌, ◌+◌, ◌<◌, List, Some, IfOk, length, slice_get};
 ghost use Rattle.sp_code.specs.declared.code.Layout.{Layout};

@@ -1,4 +1,4 @@
-//! What is around each instruction: which variables it may name.
+//! What is around each instruction, as the search answers it: which variables the instruction may name.
 
 ghost use Rattle.std.specs.Prelude.{◌≡◌, ◌<◌, Some, length, slice_get};
 ghost use Rattle.sp_code.specs.declared.code.Parts.{Parts};

@@ -1,4 +1,5 @@
-//! The children of forks, as nodes of a tree: each inside what is around its fork.
+//! The children of forks, as nodes of a tree: each inside what is around its fork. They are put in the order of
+//! `order`.
 
 ghost use Rattle.std.specs.Prelude.{◌≡◌, ℕ, ◌+◌, ◌<◌, Some, None, IfOk, OnOk, length, slice_get};
 ghost use Rattle.sp_rules.specs.Areas.{instr_at, table_named};

@@ -1,4 +1,4 @@
-//! The first of several answers.
+//! The first of several answers: the less of two places at which something is broken.
 
 ghost use Rattle.std.specs.Prelude.{◌≡◌, true};
 ghost use Rattle.sp_areas.specs.Least.{IsLeast, least};

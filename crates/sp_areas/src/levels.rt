@@ -1,4 +1,4 @@
-//! The blocks around code, by levels.
+//! The blocks around code, found by levels outward.
 
 ghost use Rattle.std.specs.Prelude.{◌≡◌, ◌<◌, length, slice_get};
 ghost use Rattle.sp_rules.specs.Areas.{Area, homes as homes_of};

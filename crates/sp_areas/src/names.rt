@@ -1,4 +1,4 @@
-//! What instructions name.
+//! Instructions that name what is not there.
 
 ghost use Rattle.std.specs.Prelude.{◌≡◌, Some, false};
 ghost use Rattle.sp_rules.specs.Areas.{instr_at};

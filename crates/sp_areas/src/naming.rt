@@ -1,4 +1,4 @@
-//! Tables that not exactly one instruction of an area names.
+//! Tables that not exactly one instruction of an area names: a point of rule V1.
 
 ghost use Rattle.std.specs.Prelude.{◌≡◌, ◌+◌, ◌<◌, Some, IfOk, length, slice_get};
 ghost use Rattle.sp_rules.specs.Named.{Unnamed};

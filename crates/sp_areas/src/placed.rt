@@ -1,4 +1,5 @@
-//! Where instructions stand.
+//! Instructions that stand where they may not: in two areas, going on past the last instruction, or ending what they
+//! may not end.
 
 ghost use Rattle.std.specs.Prelude.{◌≡◌, ◌<◌, Some, IfOk, length, slice_get};
 ghost use Rattle.sp_areas.specs.Least.{IsLeast};

@@ -1,4 +1,4 @@
-//! What instructions name by what is around them: the level of a call, and variables.
+//! What instructions name by what is around them: the level of a call, and variables. Both are points of rule V1.
 
 ghost use Rattle.std.specs.Prelude.{◌≡◌, ◌<◌, Some, false, length, slice_get};
 ghost use Rattle.sp_rules.specs.Areas.{Area, given, instr_at};

@@ -1,4 +1,5 @@
-//! Ways back with no tick and no call: rule V9.
+//! Rule V9: ways of an instruction back to itself with no tick and no call. The numbers that `components` guesses are
+//! checked by a loop.
 
 ghost use Rattle.std.specs.Prelude.{◌≡◌, ◌↔◌, ◌<◌, ◌≤◌, ℕ, IfOk, IsTrue, MatchOption, OnOk, Some, false, length, true};
 ghost use Rattle.sp_rules.specs.Areas.{Area, instr_at};

@@ -1,4 +1,4 @@
-//! A tree of homes, in which one finds who is so many levels outward.
+//! A tree of what is around code, in which one finds who is so many levels outward.
 
 ghost use Rattle.std.specs.Prelude.{◌≡◌, ℕ, ◌+◌, ◌<◌, ◌≤◌, ◌∷◌, ◌++◌, List, Some, None, [], OnOk, MatchOption, length};
 ghost use Rattle.std.specs.Prelude.{slice_get};

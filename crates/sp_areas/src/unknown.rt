@@ -1,4 +1,4 @@
-//! The variables that forks hand to their children.
+//! The variables that forks hand to their children, where nothing around the fork has one: a point of rule V1.
 
 ghost use Rattle.std.specs.Prelude.{◌≡◌, ◌+◌, ◌<◌, ◌⊎◌, ◌++◌, true, IfOk, length};
 ghost use Rattle.sp_rules.specs.Areas.{Area, homes as homes_of};

@@ -1,4 +1,4 @@
-//! The instructions to which one goes from another.
+//! The instructions to which the code goes on from an instruction.
 
 ghost use Rattle.std.specs.Prelude.{◌≡◌, ◌+◌, ◌<◌, Some, None};
 ghost use Rattle.sp_areas.specs.Owners.{listed};

@@ -1,4 +1,4 @@
-//! Rule V1 as a whole.
+//! Rule V1 as a whole: the least of what its passes find.
 
 ghost use Rattle.std.specs.Prelude.{IfOk};
 ghost use Rattle.sp_rules.specs.Named.{BreaksV1, DeclaredTwice, Homeless, Unnamed};

@@ -1,4 +1,4 @@
-//! Areas by their first instructions.
+//! Areas of code, known by their first instructions.
 
 ghost use Rattle.std.specs.Prelude.{◌≡◌, ℕ, ◌<◌, Some, MatchOption, length, slice_get};
 ghost use Rattle.std.specs.Option.{option_copied};

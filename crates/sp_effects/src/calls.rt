@@ -1,4 +1,4 @@
-//! What calls pass by reference: rule V7 at a call.
+//! Rule V7 at a call: the variables that it passes by reference.
 
 ghost use Rattle.std.specs.Prelude.{◌≡◌, ◌+◌, ◌++◌, ◌<◌, ◌≤◌, ℕ, [], IfOk, OnOk, Some, MatchOption, drop, length};
 ghost use Rattle.std.specs.Prelude.{slice_get};

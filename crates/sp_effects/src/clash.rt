@@ -1,4 +1,4 @@
-//! What calls pass by reference and what blocks that are called inside themselves do: rule V7.
+//! Rule V7: what calls pass by reference, and what blocks that are called inside themselves do.
 
 ghost use Rattle.std.specs.Prelude.{◌≡◌, ◌≤◌, ℕ, IfOk, Some, [], length, slice_get};
 ghost use Rattle.sp_areas.specs.Alone.{flag_at};

@@ -1,4 +1,4 @@
-//! What goes on from fact to fact.
+//! How facts go on from area to area along edges, until nothing is new.
 
 ghost use Rattle.std.specs.Prelude.{◌≡◌, ℕ, ◌<◌, OnOk, IfOk, Some, Bool, length, slice_get};
 ghost use Rattle.sp_areas.specs.Blocks.{IsNumbered};

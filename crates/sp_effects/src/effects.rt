@@ -1,4 +1,4 @@
-//! The effects of areas of code.
+//! The effects of areas of code, as a table by their first instructions.
 
 ghost use Rattle.std.specs.Prelude.{◌≡◌, ℕ, IfOk, OnOk, length, slice_get};
 ghost use Rattle.sp_areas.specs.Blocks.{IsNumbered};

@@ -1,4 +1,4 @@
-//! Facts about areas of code.
+//! Facts about areas of code: a set that keeps the order in which they are found.
 
 ghost use Rattle.std.specs.Prelude.{◌≡◌, ℕ, ◌<◌, ◌||◌, ◌++◌, ◌∷◌, [], false, IfOk, OnOk, length, slice_get};
 ghost use Rattle.sp_effects.specs.declared.facts.Deed.{Deed as DeedOf};

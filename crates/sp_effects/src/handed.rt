@@ -1,4 +1,4 @@
-//! What children are handed: rule V6.
+//! Rule V6: what the children of forks are handed, held against what they do.
 
 ghost use Rattle.std.specs.Prelude.{◌≡◌, ℕ, IfOk, OnOk, length, slice_get, Some};
 ghost use Rattle.sp_areas.specs.Least.{IsLeast, Upto};

@@ -1,4 +1,4 @@
-//! Blocks that are called inside themselves.
+//! Blocks that are called inside themselves, for rule V7.
 
 ghost use Rattle.std.specs.Prelude.{◌≡◌, ℕ, ◌+◌, ◌<◌, None, Some, IfOk, false, length, slice_get};
 ghost use Rattle.sp_rules.specs.Areas.{Area, homes as homes_of, instr_at};

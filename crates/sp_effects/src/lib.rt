@@ -1,4 +1,27 @@
 //! What the code of blocks and children does to variables, for rules V6 to V8 of code files.
+//!
+//! Calls:
+//! - `find_effects` (`effects`): of code that keeps V1, exactly the variables that the code of each block and child
+//!   stores and loads, with the children that it starts and the blocks that it calls, and whether it comes to a stop
+//!   other than a fault (`AreEffects`).
+//! - `Effects::of`, `touches`: what the area with this first instruction does; whether it stores or loads a variable.
+//! - `first_ill_handed` (`handed`): the least instruction at which V6 is broken, of code that keeps V1; none where it
+//!   is broken nowhere.
+//! - `first_clash` (`clash`): the same for V7, of code that keeps V1 to V5. `first_loud` (`loud`): the same for V8, of
+//!   code that keeps V1.
+//! - `tell_own` (`own`), `edges_of` (`edges`), `facts_of` (`closing`): what areas do themselves, the ways on which this
+//!   goes from area to area, and all that follows.
+//! - `Facts::new`, `len`, `at`, `has`, `add` (`facts`): a list of facts, each once. `table_of`, `area_at`, `stack_at`
+//!   (`areas`), `stored_place`, `loaded_place`, `is_stop` (`places`): what is looked up of an instruction.
+//!
+//! To know:
+//! - Each answer is exact. The only other one is want of memory.
+//! - An area is known by its first instruction: that of no other area, where V1 is kept.
+//! - `facts.rt` is a set of facts about areas (`specs/Facts.antt`), `places.rt` and `own.rt` are what instructions do
+//!   themselves, `edges.rt` and `closing.rt` how facts go from area to area until nothing is new, `effects.rt` makes a
+//!   table of them.
+//! - `handed.rt` is V6; `clash.rt` is V7, with `calls.rt` (a call) and `inside.rt` (a block that is called inside
+//!   itself); `loud.rt` is V8. `sets.rt` and `variables.rt` serve them.
 #![tactic(auto)]
 
 pub mod areas;

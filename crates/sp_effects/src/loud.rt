@@ -1,4 +1,4 @@
-//! What blocks with an answer do outside themselves: rule V8.
+//! Rule V8: blocks with a result that store outside themselves or come to a stop.
 
 ghost use Rattle.std.specs.Prelude.{◌≡◌, ◌≤◌, ℕ, [], IfOk, Some, length, slice_get};
 ghost use Rattle.sp_areas.specs.Least.{IsLeast, Upto};

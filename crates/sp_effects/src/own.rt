@@ -1,4 +1,4 @@
-//! What instructions do themselves.
+//! What instructions do themselves: the variables that they store and load, stops, and what forks hand on.
 
 ghost use Rattle.std.specs.Prelude.{◌≡◌, ◌++◌, ◌∷◌, [], ℕ, ◌<◌, OnOk, length, Some, List};
 ghost use Rattle.sp_areas.specs.Blocks.{IsNumbered};

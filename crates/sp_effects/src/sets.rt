@@ -1,4 +1,4 @@
-//! Sets of variables.
+//! Ordered sets of variables.
 
 ghost use Rattle.std.specs.Prelude.{◌≡◌, IfOk, OnOk, not};
 ghost use Rattle.sp_effects.specs.Sets.{all_new, goes_beyond, meets, with_all, with_index, with_one, has};

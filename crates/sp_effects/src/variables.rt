@@ -1,4 +1,4 @@
-//! Which variables blocks have.
+//! Which variables the blocks of layouts have.
 
 ghost use Rattle.std.specs.Prelude.{◌≡◌, ◌≤◌, [], IfOk, OnOk, length};
 ghost use Rattle.std.specs.BTreeSet.{insert_key};

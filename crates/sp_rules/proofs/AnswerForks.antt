@@ -1,4 +1,4 @@
--- The worked code without forks and calls breaks none of V6, V7 and V8.
+-- The code of `x := 6; write(x * 7)`, which has no forks and calls, breaks none of V6, V7 and V8.
 use Rattle.std.proofs.Common.{◌≡◌, inl, inr, ℕ, zero, suc, [], Option, Some, None, Bool, true, false, ap, ◌∙◌}
 use Rattle.std.specs.Prelude.{slice_get}
 use Rattle.sp_code.specs.declared.instr.Instr.TheVariants as i

@@ -1,4 +1,5 @@
--- The code of `x := 6; write(x * 7)` breaks none of V1, V4 and V9.
+-- The code of `x := 6; write(x * 7)` breaks no rule, and so is sound. V1, V4 and V9 are looked at here, the others in
+-- `Rows` and `AnswerForks`.
 use Rattle.std.proofs.Common.{◌≡◌, ◌⊎◌, inl, inr, ⊎_elim, ℕ, zero, suc, ◌+◌, ◌≤◌, ◌<◌, List, [], ◌∷◌, Option, Some}
 use Rattle.std.proofs.Common.{None, Bool, true, false, ◌&&◌, refl, ap, subst, arith}
 use Rattle.std.specs.Prelude.{slice_get, All}

@@ -1,4 +1,4 @@
--- Rows: small codes that break the rules on effects and forks, found by computing.
+-- Small codes that break V6 or V7, by computing.
 use Rattle.std.proofs.Common.{◌≡◌, ◌⊎◌, inl, inr, ℕ, List, [], ◌∷◌, Option, Some, None, refl, arith}
 use Rattle.sp_code.specs.declared.code.ChildTable.{ChildTable}
 use Rattle.sp_code.specs.declared.code.Layout.{Layout}

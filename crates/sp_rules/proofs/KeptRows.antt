@@ -1,5 +1,5 @@
--- A row in which a code with a fork keeps V6 and V7: its areas are the program and the two children, and each child
--- stores what moves to it alone.
+-- A code with a fork that keeps V6 and V7. Its areas are the program and the two children, and each child stores what
+-- moves to it alone.
 use Rattle.std.proofs.Common.{◌≡◌, ◌≢◌, ◌⊎◌, inl, inr, ⊎_elim, ℕ, zero, suc, ◌==◌, List, [], ◌∷◌, Some, None, Bool}
 use Rattle.std.proofs.Common.{true, false, if◌then◌else◌, refl, sym, ◌∙◌, subst, eqb-true, arith}
 use Rattle.std.specs.Prelude.{IsSome}

@@ -1,4 +1,5 @@
--- Worked codes: which rules they break, and where, by computing.
+-- Worked codes: the code of `x := 6; write(x * 7)` keeps V2, V3 and V5, and neighbours of it break V1, V2 or V9, by
+-- computing.
 use Rattle.std.proofs.Common.{◌≡◌, ◌∙◌, inl, inr, ℕ, zero, suc, List, [], ◌∷◌, Option, Some, None, Bool, true, false}
 use Rattle.std.proofs.Common.{◌==◌, if◌then◌else◌, refl, sym, ap, eqb-true, arith}
 use Rattle.std.specs.Prelude.{pos}

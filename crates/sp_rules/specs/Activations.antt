@@ -1,4 +1,5 @@
--- The activations of a process, one above another: each is of a block that the one below it calls.
+-- The activations of a process, one above another: each is of a block that the one below it calls. It says what a
+-- process may stop at while a block with a result is being called.
 use Rattle.std.specs.Prelude.{◌≡◌, ◌⊎◌, ℕ, List, [], ◌∷◌, Some, true, false}
 use Rattle.sp_base.specs.declared.limits.Limits.{Limits}
 use Rattle.sp_cell.specs.Map.{Plain}

@@ -1,4 +1,4 @@
--- Small codes for the rules on effects and forks.
+-- Small codes that the rows of V6 and V7 are computed on.
 use Rattle.std.specs.Prelude.{[], ◌∷◌, Some, None, false, pos}
 use Rattle.sp_code.specs.declared.instr.Instr.TheVariants as i
 use Rattle.sp_code.specs.declared.code.Formal.TheVariants as formal

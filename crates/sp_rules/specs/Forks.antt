@@ -1,4 +1,4 @@
--- The rules on forks, calls and answers: V6, V7 and V8. Each is said by what breaks it.
+-- The rules on forks, calls and blocks with a result: V6, V7 and V8, each said by what breaks it.
 use Rattle.std.specs.Prelude.{◌≡◌, ◌≢◌, ◌⊎◌, ℕ, ◌<◌, List, [], Some, IsSome, true}
 use Rattle.sp_tree.specs.Interference.{IsMember, AllDifferent}
 use Rattle.sp_code.specs.declared.code.Layout.{Layout}

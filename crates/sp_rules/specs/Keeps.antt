@@ -1,4 +1,5 @@
--- Code that keeps V1 to V5, said as what holds. The theorem of a turn rests on it; it follows where no rule is broken.
+-- Code that keeps V1 to V5, said as what holds. The theorem of a turn rests on it, and it follows where no rule is
+-- broken.
 use Rattle.std.specs.Prelude.{◌≡◌, ℕ, ◌≤◌, List, [], ◌∷◌, Some, None, true, slice_get, length}
 use Rattle.sp_code.specs.declared.instr.Instr.TheVariants as i
 use Rattle.sp_code.specs.declared.code.ChildTable.{ChildTable}

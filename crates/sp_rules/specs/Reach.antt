@@ -1,4 +1,6 @@
 -- Ways through the code of an area: which instructions it has, and which shapes of operands some way brings to one.
+-- `Reaches` takes all ways, `Arrives` those of at most so many instructions that go on only from instructions at which
+-- V2 is kept.
 use Rattle.std.specs.Prelude.{◌≡◌, ◌≢◌, ◌⊎◌, ℕ, zero, suc, ◌+◌, List, [], ◌∷◌, Option, Some, None}
 use Rattle.sp_code.specs.declared.instr.Instr.{Instr}
 use Rattle.sp_code.specs.declared.instr.Instr.TheVariants as i

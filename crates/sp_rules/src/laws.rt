@@ -1,5 +1,5 @@
-//! What follows from the rules of code files, for every code, input and limits. These functions do nothing: each one's
-//! contract is a law, and whoever rests on the law calls it or cites it.
+//! The law that code which breaks no rule is sound, for every code, input and limits. The function does nothing: its
+//! contract is the law, and whoever rests on the law calls it or cites it.
 
 ghost use Rattle.sp_code.specs.declared.code.Parts.{Parts};
 ghost use Rattle.sp_code.specs.Sizes.{KeepsSizes};

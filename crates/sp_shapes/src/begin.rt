@@ -1,4 +1,4 @@
-//! Where ways begin.
+//! Where ways begin: at the entry of each area, with no operands.
 
 ghost use Rattle.std.specs.Prelude.{◌≡◌, ℕ, OnOk, IfOk, None, Some, [], false, length, slice_get};
 ghost use Rattle.sp_areas.specs.Blocks.{IsNumbered};

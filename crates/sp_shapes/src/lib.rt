@@ -1,5 +1,25 @@
 //! Rules V2 to V5 of code files, by passes over the code: each finds the least instruction at which something is
 //! broken. They find which shapes of operands each instruction is reached with.
+//!
+//! Calls:
+//! - `shapes_of` (`shapes`): of code that keeps V1, the least instruction at which V2 is broken, or, where it is broken
+//!   nowhere, exactly the shapes that each instruction is reached with (`AreShapes`).
+//! - `first_passing` (`cells`): by these shapes, the least instruction at which V3 is broken; none where it is broken
+//!   nowhere.
+//! - `first_length` (`messages`), `first_unfit` (`calls`): the same for V4 and V5.
+//! - `Stacks::new`, `push`, `top` (`stacks`): lists of shapes by their numbers.
+//!
+//! Types: `Shapes` and `Outcome` (`shapes`), `Shape` and `Stacks` (`stacks`), `Plan` (`plans`), `Step` and `Arrival`
+//! (`steps`), `Search` (`search`), `Message` (`messages`).
+//!
+//! To know:
+//! - Each answer is exact. The only other one is want of memory.
+//! - Where V2 is kept, all ways bring the same shapes to an instruction: so `Shapes` has one list for each.
+//! - `stacks.rt` keeps each list of shapes once. `plans.rt` has what each instruction takes, leaves and goes on to, in
+//!   a few forms (`specs/Plans.antt`, `proofs/Forms.antt`).
+//! - `taking.rt` and `steps.rt` are one step by these forms, `begin.rt` is where ways begin, `search.rt` follows all
+//!   ways level by level (`specs/Search.antt` says what is kept meanwhile), `shapes.rt` is V2.
+//! - `reached.rt` asks what an instruction is reached with; `cells.rt`, `messages.rt` and `calls.rt` are V3, V4 and V5.
 #![tactic(auto)]
 
 pub mod begin;

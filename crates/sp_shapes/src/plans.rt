@@ -1,4 +1,4 @@
-//! What each instruction takes from the stack, what it leaves there, and where it goes on.
+//! What each instruction takes from the stack, what it leaves there, and where it goes on, in a few forms.
 
 ghost use Rattle.std.specs.Prelude.{◌≡◌, ◌<◌, length};
 ghost use Rattle.sp_areas.specs.Blocks.{IsNumbered};

@@ -1,4 +1,4 @@
-//! What an instruction is reached with.
+//! The list of shapes that an instruction is reached with, if some way comes to it.
 
 ghost use Rattle.std.specs.Prelude.{◌≡◌};
 ghost use Rattle.sp_shapes.specs.Reached.{reached_at};

@@ -1,4 +1,4 @@
-//! Following all ways, the shorter ones first.
+//! Following all ways level by level, the shorter ones first.
 
 ghost use Rattle.std.specs.Prelude.{◌≡◌, ℕ, ◌+◌, ◌++◌, ◌<◌, IfOk, OnOk, [], length, slice_get, slice_set, true};
 ghost use Rattle.sp_areas.specs.Blocks.{IsNumbered};

@@ -1,4 +1,4 @@
-//! Where an instruction leads, and with which lists of shapes.
+//! One step: where an instruction leads, and with which lists of shapes.
 
 ghost use Rattle.std.specs.Prelude.{◌≡◌, ◌<◌, IfOk, length};
 ghost use Rattle.sp_areas.specs.Blocks.{IsNumbered};

@@ -1,4 +1,4 @@
-//! What is taken from lists of shapes.
+//! What is taken from lists of shapes, and what is left of them.
 
 ghost use Rattle.std.specs.Prelude.{◌≡◌};
 ghost use Rattle.sp_shapes.specs.declared.plans.Takes.TheVariants as takes_of;
