@@ -1,4 +1,9 @@
 //! Tests of code files. They stand above `sp_codefile`, so that it is proved once.
+//!
+//! To know:
+//! - `src/tests.rt` has code files that are read and written again, and the bad line of others: lines left out, doubled
+//!   and cut, and files with one byte changed.
+//! - `src/verified.rt` has code files that are verified, and the nearest ones that are rejected.
 #![tactic(auto)]
 
 #[cfg(test)]

@@ -1,4 +1,4 @@
-//! The listing of worked code, and the readers of code, each once.
+//! Code that is written without a text: its listing, and each reader of code once.
 
 use crate::made::is_text;
 use sp_base::{List, Text};

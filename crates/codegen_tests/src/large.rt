@@ -1,4 +1,4 @@
-//! Texts at the limit of code, and beyond it.
+//! Texts whose code is as long as code may be, and longer.
 
 use crate::made::instructions;
 use sp_base::{Halt, Place, Refusal, Rule};

@@ -1,4 +1,4 @@
-//! What is wrong with code in itself, beside the nearest code with which nothing is.
+//! V1 of instructions, layouts and tables in themselves: what is wrong, beside the nearest code with which nothing is.
 
 use crate::made::{answer, code_of, plain, procedure, program, table};
 use sp_areas::parts::first_wrong_alone;

@@ -1,4 +1,4 @@
-//! What is around instructions: levels, variables, homes, and what forks hand on.
+//! V1 by what is around instructions: levels, variables, homes, and what forks hand on.
 
 ghost use Rattle.std.specs.Prelude.{IfOk};
 ghost use Rattle.sp_areas.specs.Blocks.{IsNumbered};

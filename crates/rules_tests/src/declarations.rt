@@ -1,4 +1,4 @@
-//! Variables that are declared a second time.
+//! V1 of variables that are declared a second time.
 
 use crate::made::{code_of, plain, procedure, table};
 use sp_areas::declarations::first_twice;

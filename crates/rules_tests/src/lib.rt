@@ -1,4 +1,12 @@
-//! Tests of the rules of code files: they stand here, so that the crates of the rules are proved once.
+//! Tests of the rules of code files: a code that breaks a point of a rule, beside the nearest one that keeps it. They
+//! stand here, so that the crates of the rules are proved once.
+//!
+//! To know:
+//! - `made.rt` has the small codes that the tests begin with.
+//! - Of V1, `alone.rt` has what is wrong in itself, `around.rt` what instructions name and what forks hand on,
+//!   `declarations.rt` variables that are declared twice, `naming.rt` tables and who names them, `placed.rt` where
+//!   instructions stand.
+//! - `shaped.rt` has V2 to V5, `rounds.rt` V9. No test here breaks V6, V7 or V8.
 #![tactic(auto)]
 
 #[cfg(test)]

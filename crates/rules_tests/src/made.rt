@@ -1,4 +1,4 @@
-//! Small codes.
+//! Small codes that the tests of the rules begin with.
 
 use sp_base::List;
 use sp_code::{ChildTable, Code, ForkTable, Formal, Instr, Layout, Parts};

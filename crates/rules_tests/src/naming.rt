@@ -1,4 +1,4 @@
-//! Tables that not exactly one instruction of an area names.
+//! V1 of tables that not exactly one instruction of an area names.
 
 use crate::made::{code_of, plain, table};
 use sp_areas::naming::first_unnamed;

@@ -1,4 +1,4 @@
-//! Whose code each instruction is, and what it may not end.
+//! V1 of where instructions stand: whose code each one is, and what it may not end.
 
 use crate::made::{answer, code_of, plain, procedure, table};
 use sp_areas::owners::{Owner, owners};

@@ -1,4 +1,4 @@
-//! Ways back with no tick and no call.
+//! V9: ways back with no tick and no call.
 
 use crate::made::{code_of, plain, procedure};
 use sp_areas::owners::owners;

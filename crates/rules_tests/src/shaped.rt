@@ -1,4 +1,4 @@
-//! Operands: a code that breaks each of the rules V2 to V5, beside the nearest that breaks none.
+//! V2 to V5, on operands: a code that breaks each rule, beside the nearest that breaks none.
 
 use crate::made::{answer, code_of, plain, procedure};
 use sp_base::List;

@@ -1,4 +1,4 @@
--- What is known of the rules before one.
+-- What the verifier knows of the rules before the one that it asks: each of them is kept.
 use Rattle.std.proofs.Common.{◌≡◌, subst, ℕ, ◌<◌, Some, arith}
 use Rattle.sp_code.specs.declared.code.Parts.{Parts}
 use Rattle.sp_rules.specs.Named.{BreaksV1}

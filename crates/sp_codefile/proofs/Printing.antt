@@ -1,4 +1,4 @@
--- Laws of what is written, item by item.
+-- Laws of the text of code as it is written, item by item.
 use Rattle.std.proofs.Common.{◌≡◌, ℕ, suc, ◌+◌, ◌-◌, ◌<◌, List, [], ◌∷◌, ◌++◌, length, take, get_or, refl, sym, ap, ◌∙◌}
 use Rattle.std.proofs.Common.{arith, append_assoc, append-nil, length-append, codes, decimal, All, subst, Result, Ok}
 use Rattle.std.proofs.Common.{Err}

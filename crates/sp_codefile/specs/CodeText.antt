@@ -1,5 +1,6 @@
--- The text of code: a first line, and then a line for each layout, text, instruction and child of a fork table. Writing
--- and reading code files promise the same definition, which makes the two inverse.
+-- The text of code, and which line of other bytes is the first bad one. The text has a first line, and then a line for
+-- each layout, text, instruction and child of a fork table. Writing and reading code files promise the same definition,
+-- which makes the two inverse.
 use Rattle.std.specs.Prelude.{◌≡◌, ℕ, suc, zero, ◌-◌, ◌/◌, ◌%◌, ◌^◌, ◌<◌, Bool, true, false, List, [], ◌∷◌, ◌++◌}
 use Rattle.std.specs.Prelude.{length, take, Option, Some, None, All, codes}
 use Rattle.std.specs.List.{flat_map}

@@ -1,4 +1,5 @@
--- What a verifier answers: the contract of `verify`. It says both that the answer is right and that there is no other.
+-- What `verify` answers: the contract of the verifier. It says both that the answer is right and that there is no
+-- other.
 use Rattle.std.specs.Prelude.{◌≡◌, ℕ, ◌<◌, Result, Ok, Err}
 use Rattle.sp_code.specs.declared.code.Parts.{Parts}
 use Rattle.sp_rules.specs.Verdict.{Rule, V1, V2, V3, V4, V5, V6, V7, V8, V9, number, Breaks, IsVerified, IsRejected}

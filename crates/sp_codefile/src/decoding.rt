@@ -1,4 +1,5 @@
-//! Reading a code file, line by line.
+//! Reading a code file, line by line (`decode`). A line is taken only where the item that was read, written again, is
+//! the line.
 
 ghost use Rattle.std.specs.Prelude.{◌≡◌, ◌++◌, ◌∷◌, [], ◌<◌, ◌↔◌, IsTrue, IfOk, OnOk, length};
 ghost use Rattle.sp_codefile.specs.declared.decoding.DecodeError.TheVariants.{Memory as OutOfMemory};

@@ -1,4 +1,4 @@
-//! What a line of a code file says.
+//! The items of a code file: what one line behind the first adds to code.
 
 use sp_base::Text;
 use sp_code::{ChildTable, Instr, Layout};

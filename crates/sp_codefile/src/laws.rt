@@ -1,4 +1,4 @@
-//! What follows from the format of code files. The function does nothing: its contract is the law.
+//! The law that a text is that of one code. The function does nothing: its contract is the law.
 
 ghost use Rattle.std.specs.Prelude.{◌≡◌, List, ℕ};
 ghost use Rattle.sp_code.specs.declared.code.Parts.{Parts};

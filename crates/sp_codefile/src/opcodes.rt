@@ -1,4 +1,4 @@
-//! Instructions by their words.
+//! Reading instructions by their words and operands.
 
 ghost use Rattle.std.specs.Prelude.{◌≡◌, ℕ, ℤ, decimal};
 ghost use Rattle.std.specs.Fmt.{signed_decimal};

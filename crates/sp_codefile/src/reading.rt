@@ -1,5 +1,5 @@
-//! What a line of a code file says. Bytes that are no line may give any answer: whoever reads a line writes it again,
-//! and compares.
+//! Reading what a line of a code file says. Bytes that are no line may give any answer: whoever reads a line writes it
+//! again, and compares.
 
 ghost use Rattle.std.specs.Prelude.{◌≡◌, ◌<◌, ◌^◌, ℕ, true, false, List, Option, Some, None, All, IfOk, codes, decimal};
 ghost use Rattle.std.specs.List.{flat_map};

@@ -1,4 +1,5 @@
-//! What code of any origin must keep to be run without its source: all rules, in their order.
+//! The verifier (`verify`): all rules in their order, by the passes of `sp_areas`, `sp_shapes` and `sp_effects`.
+//! `Verified` is code that breaks none.
 
 ghost use Rattle.std.specs.Prelude.{◌≡◌, ◌+◌, IfOk, IfErr, OnOk};
 ghost use Rattle.sp_code.specs.Sound.{IsSound};

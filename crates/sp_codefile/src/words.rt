@@ -1,5 +1,5 @@
-//! Words and numbers of a line. Bytes that no code is written with may give any answer: whoever reads a line writes it
-//! again, and compares.
+//! Cutting a line into words, and reading numbers. Bytes that no code is written with may give any answer: whoever
+//! reads a line writes it again, and compares.
 
 ghost use Rattle.std.specs.Prelude.{◌≡◌, ◌<◌, ℕ, ℤ, IfOk, decimal, length, drop};
 ghost use Rattle.std.specs.Option.{option_map};

@@ -1,4 +1,4 @@
-//! Code written as text.
+//! Writing code as text (`encode`), and each kind of line.
 
 ghost use Rattle.std.specs.Prelude.{◌≡◌, ◌++◌, ◌^◌, ◌<◌, All, IfOk, OnOk, codes, decimal, false, length};
 ghost use Rattle.std.specs.List.{flat_map};

@@ -1,4 +1,4 @@
--- What is made of a text may go to another thread.
+-- That what is made of a text may go to another thread.
 use denote.Param.Send.{IsSend, struct_send, recorded_send, sendable}
 use denote.Struct.Declared as s
 use Rattle.std.proofs.Crossing.{crosses}

@@ -1,4 +1,4 @@
--- What comes of the answer of the generator.
+-- What the generator's answer is for the compilation: code, the refusal L5, or want of memory.
 use Rattle.std.proofs.Common.{◌≡◌, inr, ℕ, List, Result, Ok, Err, refl, sym, subst}
 use Rattle.sp_base.specs.declared.halt.Halt.{Halt}
 use Rattle.sp_tree.specs.declared.checked.Checked.{Checked}

@@ -1,4 +1,4 @@
-//! What is proved of the definitions.
+//! The law that the code of a text has one listing.
 
 ghost use Rattle.std.specs.Prelude.{◌≡◌, ℕ, List};
 ghost use Rattle.sp_compile.specs.Codes.{HasListing};

@@ -1,4 +1,4 @@
-//! All phases over a text, and its code.
+//! All phases over a text up to its code (`compiled`), and the same on a thread with a large stack (`compiled_apart`).
 
 ghost use Rattle.std.specs.Prelude.{◌≡◌};
 ghost use Rattle.sp_compile.specs.Codes.{Codes, halt_of};

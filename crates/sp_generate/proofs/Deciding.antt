@@ -1,4 +1,5 @@
--- Tests that tell the targets and the expression variables of any statement, from the sets of a tree's blocks; and lists of those that pass.
+-- Tests that tell the targets and the expression variables of any statement, from the sets of a tree's blocks; and
+-- lists of those that pass.
 use Rattle.std.proofs.Common.{◌≡◌, inl, inr, ℕ, zero, suc, ◌+◌, ◌*◌, ◌<◌, ◌≤◌, Bool, true, false, cond, ◌&&◌, ◌||◌, ◌==◌, if◌then◌else◌, List, [], ◌∷◌, length, slice_get, Option, Some, None, refl, sym, ap, ◌∙◌, subst, arith, true≢false, eq-eqb, ne_eqb, eqb-true}
 use Rattle.std.specs.Prelude.{option_map}
 use Rattle.std.specs.List.{filter}

@@ -1,4 +1,4 @@
--- The limit of the length of a tree.
+-- A length as it is told is beyond the limit of code exactly where the length is.
 use Rattle.std.proofs.Common.{◌≡◌, ℕ, ◌<◌, ◌≤◌, ◌↔◌, Bool, true, false, true≢false, sym, arith}
 use Rattle.std.specs.Prelude.{min, IsTrue}
 use Rattle.sp_length.specs.Told.{told}

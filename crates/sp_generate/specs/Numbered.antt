@@ -1,5 +1,5 @@
--- The code of a program as it is written: its fork tables have what the sets tell by the numbers of process
--- statements. The parts of the generator promise it, and a law leads it to the code of sp_code.
+-- The code of a program as it is written: its fork tables have what the sets tell by the numbers of process statements.
+-- The parts of the generator promise it, and a law leads it to the code of `sp_code`.
 use Rattle.sp_tree.specs.PlainChecked as c
 use Rattle.sp_tree.specs.Bare.{bare}
 use Rattle.sp_code.specs.declared.code.Parts.{Parts}

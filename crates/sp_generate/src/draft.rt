@@ -1,4 +1,4 @@
-//! Code as far as it is written.
+//! Code as far as it is written, and how a part of it is mended.
 
 ghost use Rattle.std.specs.Prelude.{◌≡◌, ◌++◌, ◌∷◌, length, OnOk, List};
 ghost use Rattle.sp_code.specs.declared.instr.Instr.{Instr as AnInstr};

@@ -1,4 +1,4 @@
-//! What is proved of the definitions.
+//! The law that a program has one code.
 
 ghost use Rattle.std.specs.Prelude.{◌≡◌};
 ghost use Rattle.sp_tree.specs.Plain.{Program};

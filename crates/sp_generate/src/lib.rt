@@ -1,4 +1,28 @@
-//! The code of a checked tree.
+//! The code of a checked tree, instruction by instruction, with what its forks hand over.
+//!
+//! Calls:
+//! - `generate`: of a tree with its sets, exactly its code (`IsCodeOf`) where that has at most 1,048,576 instructions,
+//!   else `GenError::TooLong` with its length as `sp_length` tells it. Want of memory comes only where the code is not
+//!   too long.
+//!
+//! Laws:
+//! - `one_code`: a program has one code.
+//!
+//! To know:
+//! - The code is instruction by instruction that of the definitions of `sp_code` (`specs/Generated.antt`). Processes
+//!   are handed variables in order of their numbers, so that a program has one code (`src/law.rt`).
+//! - A number that is no `u32`, and code with more fork tables, texts or layouts than it may have, are answered as want
+//!   of memory. Neither is in the code of a text, which has at most 1,048,576 bytes.
+//! - `ground.rt` is what is kept of the tree, `single.rt` has single instructions, `expressions.rt`, `simple.rt`,
+//!   `statements.rt`, `choices.rt` and `blocks.rt` are the pass, `handed.rt` is what a process is handed.
+//! - `specs/Written.antt` is what stands once a part was written behind what stood: the form of every contract of the
+//!   pass. `Tables` and `Handings` are the fork tables by the numbers of statements, `Numbered` the code with them.
+//! - `proofs/Forms` has a lemma for each form, `Filled` the jumps of a `case`. `Inside`, `Deciding` and `Telling` lead
+//!   from the numbers of statements to the sets of any statement; `OneCode` is the law.
+//!
+//! To change:
+//! - A form: `Emitted` of `sp_code`, the function of its name, its lemma in `proofs/Forms`, its clauses in `Tables`,
+//!   `Inside` and `Telling`.
 #![tactic(auto)]
 
 mod blocks;

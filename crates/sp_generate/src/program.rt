@@ -1,4 +1,4 @@
-//! The code of a whole program.
+//! The code of a whole program (`generate`), and why there is none.
 
 ghost use Rattle.std.specs.Prelude.{◌≡◌, ◌<◌, ◌↔◌, IsTrue, IfOk, OnOk, length, map};
 ghost use Rattle.sp_tree.specs.CheckedOf.{program_of, block_of};

@@ -1,4 +1,4 @@
-//! Single instructions, and what they need of the tree.
+//! Single instructions, and what they need of the tree's tables.
 
 ghost use Rattle.std.specs.Prelude.{◌≡◌, ℕ, List, slice_get, IfOk, Some};
 ghost use Rattle.sp_tree.specs.Cells.{first_or};

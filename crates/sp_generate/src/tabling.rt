@@ -1,4 +1,4 @@
-//! The tables of a tree, made.
+//! The tables of a tree that the generator keeps, made in one call (`Ground`).
 
 ghost use Rattle.std.specs.Prelude.{◌≡◌, IfOk};
 

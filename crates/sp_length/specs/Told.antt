@@ -1,5 +1,5 @@
--- A length as it is told: one that is no `u32` is told as the greatest. The contracts of all lengths cite it, so that
--- a sum never wraps and the limit is still seen to be passed.
+-- How a length is told: one that is no `u32` is told as the greatest. The contracts of all lengths cite it, so that a
+-- sum never wraps and the limit is still seen to be passed.
 use Rattle.std.specs.Prelude.{ℕ, min}
 
 -- a length as a `u32`

@@ -1,4 +1,4 @@
-//! Lengths that are told up to the greatest `u32`.
+//! Sums of lengths, told up to the greatest `u32`.
 
 ghost use Rattle.std.specs.Prelude.{◌≡◌, ◌+◌};
 ghost use Rattle.sp_length.specs.Told.{told};
