@@ -1,4 +1,5 @@
--- The first process, the children of a fork, and their parent: each stands where it begins, and stands again where it goes on.
+-- The first process, the children of a fork, and their parent: each stands where it begins, and stands again where it
+-- goes on.
 use Rattle.std.proofs.Common.{◌≡◌, ◌⊎◌, inl, inr, ℕ, suc, ◌+◌, ◌≤◌, ◌<◌, ℤ, List, [], ◌∷◌, length, Some, None, refl, sym, ap, subst, arith, true, ◌++◌}
 use Rattle.std.specs.Prelude.{◌+ℤ◌, pos, IsSome, slice_get}
 use Rattle.std.specs.FinMap as fin

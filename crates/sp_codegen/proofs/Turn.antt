@@ -1,4 +1,4 @@
--- Loops that are left, items, calls of functions, and a turn.
+-- A turn of the code as a turn of the meaning: loops that are left, items, calls of functions, and the whole turn.
 use Rattle.std.proofs.Common.{◌≡◌, inl, ℕ, zero, suc, ◌+◌, ◌==◌, ℤ, List, [], ◌∷◌, Option, Some, None, Bool, true, false, if◌then◌else◌, drop, refl, sym, ap, ◌∙◌, subst, arith}
 use Rattle.std.proofs.lemmas.Bool.Decides.{nat_tests}
 use Rattle.std.specs.Prelude.{pos, int_le, slice_get}

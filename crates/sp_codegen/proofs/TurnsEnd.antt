@@ -1,4 +1,5 @@
--- A turn ends: within the budget of its ticks and the weights of what is left to do it is never out of steps (`this_turn_ends`).
+-- A turn ends: within the budget of its ticks and the weights of what is left to do it is never out of steps
+-- (`this_turn_ends`).
 use Rattle.std.proofs.Common.{ℕ, zero, suc, ◌+◌, ◌<◌, List, Bool, true, false, if◌then◌else◌, sym, subst, arith}
 use Rattle.sp_meaning.specs.Own.{Setting, Own, Who, Item, Process, Came, Got, Bad, Lost, Long, give}
 use Rattle.sp_meaning.specs.Deeds.{Deed, Stepped, Ticked, Opened, Forked, Offered}

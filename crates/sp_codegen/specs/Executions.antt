@@ -1,5 +1,5 @@
--- One process that runs the code of a tree: all that the simulation of its turns speaks of, and what it asks of it.
--- The simulation is proved over this record, and Lives.antt gives one for each process of a run.
+-- One process that runs the code of a tree: all that the simulation of its turns speaks of, and what it asks of it. The
+-- simulation is proved over this record, and `Lives` gives one for each process of a run.
 use Rattle.std.specs.Prelude.{◌≡◌, ℕ, List, Some, Bool, slice_get}
 use Rattle.sp_tree.specs.Formed.{IsFormedUse}
 use Rattle.sp_tree.specs.Plain.{Block, Stmt}

@@ -2,8 +2,7 @@
 //!
 //! Calls:
 //! - `compiled`: of a text that breaks no rule its tree, its sets and its code (`CompiledText`); else the first rule
-//!   that it breaks, with its place; or want of memory. The rules are those of `sp_front`, and after them L5, the
-//!   length of the code.
+//!   that it breaks, with its place; or want of memory.
 //! - `compiled_apart`: the same, on a thread with a stack for the longest text. Where no thread can be made it answers
 //!   want of memory.
 //! - `CompiledText::checked`, `sets`, `code`, `into_code`: the tree, its sets, its code; the code alone.
@@ -12,7 +11,8 @@
 //! - `one_listing`: the code of a text has one listing.
 //!
 //! To know:
-//! - Both calls have the contract `Codes` of `specs/Codes.antt`, which also says what the listing of a text is.
+//! - Both calls have the contract `Codes` of `specs/Codes.antt`, which also says what the listing of a text is. The
+//!   rules are those of `sp_front`, and after them L5, the length of the code.
 //! - `compiled` recurses as deep as the longest chain of operators is long: `compiled_apart` gives it the stack for
 //!   that.
 //!

@@ -1,9 +1,8 @@
 //! What the code of blocks and children does to variables, for rules V6 to V8 of code files.
 //!
 //! Calls:
-//! - `find_effects` (`effects`): of code that keeps V1, exactly the variables that the code of each block and child
-//!   stores and loads, with the children that it starts and the blocks that it calls, and whether it comes to a stop
-//!   other than a fault (`AreEffects`).
+//! - `find_effects` (`effects`): of code that keeps V1, exactly the variables that each area stores and loads, with
+//!   what it starts and calls, and whether it comes to a stop other than a fault (`AreEffects`).
 //! - `Effects::of`, `touches`: what the area with this first instruction does; whether it stores or loads a variable.
 //! - `first_ill_handed` (`handed`): the least instruction at which V6 is broken, of code that keeps V1; none where it
 //!   is broken nowhere.

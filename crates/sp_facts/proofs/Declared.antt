@@ -1,5 +1,5 @@
--- What a program declares is of what it has declared before: constants are named behind their declarations, types and variables are
--- of types that have been declared.
+-- What a program declares is of what it has declared before: constants are named behind their declarations, types and
+-- variables are of types that have been declared.
 use Rattle.std.proofs.Common.{◌≡◌, ap, subst, ℕ, suc, ◌+◌, ◌≤◌, List, [], ◌∷◌, ◌++◌, Option, Some, None, length, arith}
 use Rattle.sp_tree.specs.declared.checked.Role.{Role}
 use Rattle.sp_tree.specs.declared.checked.Role.TheVariants as role

@@ -1,4 +1,5 @@
--- What the answers of the phases say: where a tree comes out, no rule is broken, and the tree is the one of the definitions.
+-- What the answers of the phases say: where a tree comes out, no rule is broken, and the tree is the one of the
+-- definitions.
 use Rattle.std.proofs.Common.{◌≡◌, [], Some, None, Ok, refl, sym, ◌∙◌}
 use Rattle.sp_tree.specs.Found.{Found, outcome}
 use Rattle.sp_tree.specs.PlainSyntax as syntax

@@ -1,4 +1,5 @@
--- The sites of a checked statement: those of calls and loops are any, those of foralls and parallel statements are what is asked of them.
+-- The sites of a checked statement: those of calls and loops are any, those of foralls and parallel statements are what
+-- is asked of them.
 use Rattle.std.proofs.Common.{◌≡◌, inl, inr, refl, sym, subst, ℕ, zero, suc, ◌+◌, List, [], ◌∷◌, ◌++◌, Option, Some, None, slice_get}
 use Rattle.std.specs.Prelude.{map}
 use Rattle.sp_base.specs.declared.place.Place.{Place}

@@ -1,4 +1,5 @@
--- The calls of standard procedures are fine, where no rule of types is broken and each name is of a visible declaration.
+-- The calls of standard procedures are fine, where no rule of types is broken and each name is of a visible
+-- declaration.
 use Rattle.std.proofs.Common.{◌≡◌, inl, inr, refl, ap, sym, ◌∙◌, ℕ, ◌+◌, List, [], ◌∷◌, ◌++◌, Option, Some, None, Bool, true, false, slice_get}
 use Rattle.std.specs.Prelude.{nat_eq, ◌||◌}
 use Rattle.sp_base.specs.declared.place.Place.{Place}

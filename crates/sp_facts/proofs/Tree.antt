@@ -1,4 +1,5 @@
--- The tree of a program, piece by piece, is that of its tree with numbers for names: blocks, roles and blocks of variables.
+-- The tree of a program, piece by piece, is that of its tree with numbers for names: blocks, roles and blocks of
+-- variables.
 use Rattle.std.proofs.Common.{◌≡◌, refl, ap, sym, ◌∙◌, subst, ℕ, zero, suc, ◌+◌, ◌≤◌, ◌==◌, List, [], ◌∷◌, Option, Some, None, Bool, if◌then◌else◌, ◌&&◌, length, slice_get, slice_set, arith}
 use Rattle.std.specs.Prelude.{map}
 use Rattle.sp_base.specs.declared.place.Place.{Place}

@@ -1,4 +1,5 @@
--- A tree that breaks no rule of interference keeps them at every use, and a call of a function leads to no statement that it may not have.
+-- A tree that breaks no rule of interference keeps them at every use, and a call of a function leads to no statement
+-- that it may not have.
 use Rattle.std.proofs.Common.{◌≡◌, refl, sym, subst, ℕ, [], ◌∷◌, Some, length, slice_get}
 use Rattle.sp_base.specs.declared.place.Place.{Place}
 use Rattle.sp_base.specs.declared.rule.Rule.TheVariants as rule

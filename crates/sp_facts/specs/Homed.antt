@@ -1,5 +1,5 @@
--- Variables of blocks that there are, none of them a console: what the phase of names gives of all variables behind
--- the first two.
+-- Variables are of blocks that there are, and none of them is a console. The phase of names gives it of all variables
+-- behind the first two.
 use Rattle.std.specs.Prelude.{ℕ, suc, ◌≤◌, List}
 use Rattle.sp_tree.specs.declared.checked.Role.{Role}
 use Rattle.sp_tree.specs.declared.checked.Role.TheVariants as role

@@ -1,4 +1,5 @@
-//! What follows from the definitions of names and types. These functions do nothing: each one's contract is a law.
+//! What follows from the definitions of names and types for trees that break no rule. These functions do nothing: each
+//! one's contract is a law.
 
 ghost use Rattle.std.specs.Prelude.{◌≡◌, ℕ, List, [], Some, length, slice_get};
 ghost use Rattle.sp_tree.specs.PlainSyntax.{Program};

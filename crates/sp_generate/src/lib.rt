@@ -1,9 +1,8 @@
 //! The code of a checked tree, instruction by instruction, with what its forks hand over.
 //!
 //! Calls:
-//! - `generate`: of a tree with its sets, exactly its code (`IsCodeOf`) where that has at most 1,048,576 instructions,
-//!   else `GenError::TooLong` with its length as `sp_length` tells it. Want of memory comes only where the code is not
-//!   too long.
+//! - `generate`: of a tree with its sets, its code (`IsCodeOf`), or want of memory, where the code has at most
+//!   1,048,576 instructions; else `GenError::TooLong` with its length as `length` of `sp_length` tells it.
 //!
 //! Laws:
 //! - `one_code`: a program has one code.

@@ -1,5 +1,5 @@
--- A process after its entry stands as before, with its ticks at that entry in place of those at the last one, and with one more fork
--- or open: its memory, the code of what it has left to do, and its offer.
+-- A process after its entry stands as before, with its ticks at that entry in place of those at the last one, and with
+-- one more fork or open: its memory, the code of what it has left to do, and its offer.
 use Rattle.std.proofs.Common.{◌≡◌, ◌⊎◌, inl, ℕ, ◌+◌, List, [], ◌∷◌, length, Some, sym, subst}
 use Rattle.std.specs.Prelude.{Bool, slice_get}
 use Rattle.sp_tree.specs.Formed.{IsFormedUse}

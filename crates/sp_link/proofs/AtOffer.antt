@@ -1,4 +1,5 @@
--- A process at its stop with an offer: where it stands after the entry, with which cargo, and what it may do when it goes on.
+-- A process at its stop with an offer: where it stands after the entry, with which cargo, and what it may do when it
+-- goes on.
 use Rattle.std.proofs.Common.{◌≡◌, ◌⊎◌, ℕ, List, ◌∷◌, length, refl, sym, ap, ◌∙◌, subst}
 use Rattle.sp_cell.specs.Map.{Plain}
 use Rattle.sp_meaning.specs.Model.{Name, Channel, Cargo}

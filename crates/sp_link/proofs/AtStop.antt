@@ -1,5 +1,5 @@
--- A process at its stop, before its kernel step: all others stand as before its turn, with the system of the machine unchanged
--- (`does_at`), and rights and totals are those of before.
+-- A process at its stop, before its kernel step: all others stand as before its turn, with the system of the machine
+-- unchanged (`does_at`), and rights and totals are those of before.
 use Rattle.std.proofs.Common.{◌≡◌, ◌⊎◌, inl, ⊎_elim, ℕ, ◌<◌, ◌∷◌, Some, Bool, true, false, refl, sym, ap, ◌∙◌, subst, arith, List, length}
 use Rattle.std.specs.Prelude.{◌≢◌}
 use Rattle.sp_cell.specs.Map.{Plain}

@@ -1,5 +1,5 @@
--- A fork: a child of a parallel statement stands as it is born (`child_stands`), its parent keeps of it what its join will need
--- (`handed_facts`), and joins with what moved away (`parent_joins`).
+-- A fork: a child of a parallel statement stands as it is born (`child_stands`), its parent keeps of it what its join
+-- will need (`handed_facts`), and joins with what moved away (`parent_joins`).
 use Rattle.std.proofs.Common.{◌≡◌, ◌⊎◌, inl, inr, ⊎_elim, ℕ, zero, suc, ◌+◌, ◌<◌, ◌≤◌, ℤ, List, [], ◌∷◌, length, Some, None, true, false, if◌then◌else◌, refl, sym, ap, ◌∙◌, arith}
 use Rattle.std.specs.Prelude.{◌≢◌, IsSome, slice_get}
 use Rattle.std.specs.FinMap as fin

@@ -1,5 +1,5 @@
--- A child of a forall: nothing moves to it, and what it shares its parent holds; it stands as it is born, with its index in a frame of
--- its own (`each_stands`), and its parent keeps of it what its join will need (`each_handed`).
+-- A child of a forall: nothing moves to it, and what it shares its parent holds; it stands as it is born, with its
+-- index in a frame of its own (`each_stands`), and its parent keeps of it what its join will need (`each_handed`).
 use Rattle.std.proofs.Common.{◌≡◌, ◌⊎◌, inl, inr, ⊎_elim, ℕ, suc, ◌+◌, ◌==◌, ◌≤◌, ℤ, List, [], ◌∷◌, length, Option, Some, None, Bool, true, false, if◌then◌else◌, refl, sym, ap, ◌∙◌, arith, eqb-true, eq-eqb}
 use Rattle.std.specs.Prelude.{◌≢◌, ◌+ℤ◌, pos, IsSome, slice_get}
 use Rattle.std.specs.FinMap as fin

@@ -1,5 +1,5 @@
--- How a run of a program's code ends is how the program does: the same ones wait where nobody can go on, and the fault of the journal is
--- the program's.
+-- How a run of a program's code ends is how the program does: the same ones wait where nobody can go on, and the fault
+-- of the journal is the program's.
 use Rattle.std.proofs.Common.{◌≡◌, ℕ, List, Some, None, Bool, true, false, refl, sym, ◌∙◌, subst}
 use Rattle.sp_base.specs.declared.fault.Fault.{Fault}
 use Rattle.sp_tree.specs.Plain.{Stmt}

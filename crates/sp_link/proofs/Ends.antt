@@ -1,5 +1,5 @@
--- The entry `End` on both sides: of the first process (`root_ends`), and of a child, whose pieces go back to its parent, which joins on
--- or runs (`child_ends`).
+-- The entry `End` on both sides: of the first process (`root_ends`), and of a child, whose pieces go back to its
+-- parent, which joins on or runs (`child_ends`).
 use Rattle.std.proofs.Common.{◌≡◌, ◌⊎◌, inl, ⊎_elim, ℕ, zero, suc, ◌+◌, ◌-◌, ◌<◌, ◌≤◌, ◌==◌, List, [], ◌∷◌, length, Option, Some, None, Bool, true, false, cond, if◌then◌else◌, eqb-true, eq-eqb, refl, sym, ap, ◌∙◌, subst, arith}
 use Rattle.std.specs.Prelude.{◌≢◌}
 use Rattle.sp_journal.specs.declared.entry.Birth.{Birth}

@@ -1,5 +1,5 @@
--- Every entry on both sides: each process that runs makes one, by how its turn ends (`entry`). So the meaning goes along every journal
--- of the system (`system_is_meaning`).
+-- Every entry on both sides: each process that runs makes one, by how its turn ends (`entry`). So the meaning goes
+-- along every journal of the system (`system_is_meaning`).
 use Rattle.std.proofs.Common.{◌≡◌, inl, inr, ⊎_elim, ℕ, List, Bool, true, false, refl, sym, ap, ◌∙◌, subst}
 use Rattle.sp_journal.specs.declared.entry.Entry.{Entry}
 use Rattle.sp_journal.specs.Births.{at_start, happening}

@@ -1,5 +1,5 @@
--- The fault of a run is that of its journal: along a journal the meaning comes to the fault that an entry of it says (`fault_told`), and
--- where a fault stands in the machine an entry says it (`fault_entry`).
+-- The fault of a run is that of its journal: along a journal the meaning comes to the fault that an entry of it says
+-- (`fault_told`), and where a fault stands in the machine an entry says it (`fault_entry`).
 use Rattle.std.proofs.Common.{◌≡◌, inl, inr, ℕ, zero, suc, List, [], ◌∷◌, Option, Some, None, Bool, true, false, if◌then◌else◌, refl, sym, ap, ◌∙◌, subst}
 use Rattle.sp_base.specs.declared.fault.Fault.{Fault}
 use Rattle.sp_journal.specs.declared.entry.Event.{Event}

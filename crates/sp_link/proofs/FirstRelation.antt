@@ -1,5 +1,5 @@
--- The opening states of the meaning and of the machine are linked (`opening_linked`): the first process stands, or its frame is too
--- large and F12 is its first step.
+-- The opening states of the meaning and of the machine are linked (`opening_linked`): the first process stands, or its
+-- frame is too large and F12 is its first step.
 use Rattle.std.proofs.Common.{◌≡◌, ◌⊎◌, inl, inr, ℕ, zero, suc, ◌<◌, ◌≤◌, ◌==◌, List, [], ◌∷◌, Some, Bool, true, false, if◌then◌else◌, eqb-true, refl, sym, ap, ◌∙◌, subst, arith}
 use Rattle.std.specs.Prelude.{◌≢◌, nat_lt, nat_le, slice_get}
 use Rattle.sp_base.specs.declared.fault.Fault.TheVariants as fault

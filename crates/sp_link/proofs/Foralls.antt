@@ -1,6 +1,6 @@
--- A forall forks: each child has a life by the element statement and its place in the code, stands as it is born, with its index, and
--- its parent keeps of it what the join will need (`forall_entry`). Where the machine counts fewer children than the meaning, both pass
--- the limit of processes.
+-- A forall forks: each child has a life by the element statement and its place in the code, stands as it is born, with
+-- its index, and its parent keeps of it what the join will need (`forall_entry`). Where the machine counts fewer
+-- children than the meaning, both pass the limit of processes.
 use Rattle.std.proofs.Common.{◌≡◌, ◌⊎◌, inl, inr, ⊎_elim, ℕ, zero, suc, ◌+◌, ◌<◌, ◌≤◌, ℤ, List, [], ◌∷◌, length, Option, Some, None, Bool, true, false, min, refl, sym, ap, ◌∙◌, subst, arith}
 use Rattle.std.specs.Prelude.{◌+ℤ◌, ◌-ℤ◌, nat_abs, int_lt, nat_lt, pos, IsSome, slice_get}
 use Rattle.std.specs.FinMap as fin

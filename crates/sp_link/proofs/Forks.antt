@@ -1,6 +1,6 @@
--- The entry `Fork` on both sides, whichever statement forks: the children are born with their lives, and the parent joins them
--- (`fork_entry`); or the entries or the processes are at their limit: F15, F13. What a parallel and what a forall statement give for
--- this is in `Parallels` and `Foralls`.
+-- The entry `Fork` on both sides, whichever statement forks: the children are born with their lives, and the parent
+-- joins them (`fork_entry`); or the entries or the processes are at their limit: F15, F13. What a parallel and what a
+-- forall statement give for this is in `Parallels` and `Foralls`.
 use Rattle.std.proofs.Common.{◌≡◌, ◌⊎◌, inl, inr, ⊎_elim, ℕ, zero, suc, ◌+◌, ◌<◌, ◌≤◌, ◌==◌, ℤ, List, [], ◌∷◌, length, Option, Some, None, Bool, true, false, ◌&&◌, cond, if◌then◌else◌, eqb-true, eq-eqb, refl, sym, ap, ◌∙◌, subst, arith}
 use Rattle.std.specs.Prelude.{◌≢◌, ◌-◌, nat_lt, nat_le, IsSome, slice_get}
 use Rattle.std.specs.FinMap as fin

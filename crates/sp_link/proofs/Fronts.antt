@@ -1,5 +1,5 @@
--- What each front of a journal that can be named has given to processes and channels is a beginning of what the whole gives
--- (`all_began`). The relation speaks of the whole journal's names; this leads from them to those of a front.
+-- What each front of a journal that can be named has given to processes and channels is a beginning of what the whole
+-- gives (`all_began`). The relation speaks of the whole journal's names; this leads from them to those of a front.
 use Rattle.std.proofs.Common.{◌≡◌, ℕ, ◌+◌, ◌<◌, ◌≤◌, ◌==◌, List, [], ◌∷◌, Bool, true, false, ◌&&◌, cond, eqb-true, refl, sym, ap, ◌∙◌, subst, arith}
 use Rattle.std.specs.Prelude.{nat_le, nat_lt, ◌-◌}
 use Rattle.sp_journal.specs.declared.entry.Event.{Event}

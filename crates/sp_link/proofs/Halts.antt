@@ -1,5 +1,5 @@
--- A process that does nothing more: it faults, or it is laid down after another's fault. `Halted` is where its turn has come to on both
--- sides, with one output; `laid_entry` and `failed_entry` are the entries `Laid` and `Fault`.
+-- A process that does nothing more: it faults, or it is laid down after another's fault. `Halted` is where its turn has
+-- come to on both sides, with one output; `laid_entry` and `failed_entry` are the entries `Laid` and `Fault`.
 use Rattle.std.proofs.Common.{◌≡◌, ◌⊎◌, inl, ⊎_elim, ℕ, suc, ◌+◌, ◌==◌, List, ◌∷◌, length, Some, Bool, true, false, cond, if◌then◌else◌, ◌||◌, refl, sym, ap, ◌∙◌, subst, arith}
 use Rattle.std.specs.Prelude.{◌≢◌}
 use Rattle.sp_base.specs.declared.fault.Fault.{Fault}

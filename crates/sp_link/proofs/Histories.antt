@@ -1,5 +1,5 @@
--- A legal history of the kernel over a program's code ends as the program does along its journal: what the control of its notes tells
--- of the end is so of the program.
+-- A legal history of the kernel over a program's code ends as the program does along its journal: what the control of
+-- its notes tells of the end is so of the program.
 use Rattle.std.proofs.Common.{◌≡◌, ◌⊎◌, inl, inr, ℕ, ◌-◌, ◌==◌, List, [], ◌∷◌, Option, Some, None, Bool, true, false, cond, if◌then◌else◌, ◌||◌, refl, sym, ap, ◌∙◌, subst, arith}
 use Rattle.std.specs.Prelude.{◌≢◌, nat_lt}
 use Rattle.sp_tree.specs.Plain.{Stmt}

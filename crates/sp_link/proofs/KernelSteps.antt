@@ -1,5 +1,6 @@
--- The step at a stop: what it is in the meaning (`kernel_next`, `kernel_says`). A fork, an offer and an end write nothing but cells of
--- frames that are gone, which the meaning leaves out; a process stands without them (`stand_dead`).
+-- The step at a stop: what it is in the meaning (`kernel_next`, `kernel_says`). A fork, an offer and an end write
+-- nothing but cells of frames that are gone, which the meaning leaves out; a process stands without them
+-- (`stand_dead`).
 use Rattle.std.proofs.Common.{◌≡◌, ◌⊎◌, ⊎_elim, ℕ, suc, ◌≤◌, List, length, Some, ap, ◌∙◌, arith}
 use Rattle.sp_cell.specs.Map.{Plain}
 use Rattle.sp_meaning.specs.Model.{Name}

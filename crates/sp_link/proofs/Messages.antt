@@ -1,4 +1,5 @@
--- A message goes over: what is sent, in cells, is of its type (`sent_flat`), and the receiver stands with it (`receiver_stands`).
+-- A message goes over: what is sent, in cells, is of its type (`sent_flat`), and the receiver stands with it
+-- (`receiver_stands`).
 use Rattle.std.proofs.Common.{◌≡◌, ◌⊎◌, ℕ, ◌+◌, ◌<◌, ◌≤◌, List, length, Option, Some, None, true, refl, sym, ap, ◌∙◌, subst, arith}
 use Rattle.std.specs.FinMap as fin
 use Rattle.sp_cell.specs.declared.cell.Cell.{Cell as OneCell}

@@ -1,4 +1,5 @@
--- Where more channels are named, each memory stands as before: what an open needs of all processes but the one that opens.
+-- Where more channels are named, each memory stands as before: what an open needs of all processes but the one that
+-- opens.
 use Rattle.std.proofs.Common.{inl, inr, ⊎_elim, ℕ, List, [], ◌∷◌}
 use Rattle.sp_cell.specs.declared.cell.Cell.{Cell as OneCell}
 use Rattle.sp_cell.specs.declared.cell.Cell.TheVariants as cell

@@ -1,4 +1,5 @@
--- The order of names as the program keeps them is that of the meaning (`in_order`), and each is told by its pairs (`one_name`).
+-- The order of names as the program keeps them is that of the meaning (`in_order`), and each is told by its pairs
+-- (`one_name`).
 use Rattle.std.proofs.Common.{◌≡◌, ℕ, ◌==◌, List, [], ◌∷◌, ◌++◌, Bool, true, false, cond, if◌then◌else◌, refl, sym, ap, ◌∙◌, arith}
 use Rattle.std.specs.Prelude.{nat_lt, map, reverse}
 use Rattle.std.proofs.lemmas.List.{reverse-append, reverse-reverse}

@@ -1,5 +1,5 @@
--- At a fork the children get their lives: what is said of others goes over (`does_lives`), and so does the invariant of rights
--- (`inv_same`).
+-- At a fork the children get their lives: what is said of others goes over (`does_lives`), and so does the invariant of
+-- rights (`inv_same`).
 use Rattle.std.proofs.Common.{◌≡◌, inl, inr, ⊎_elim, ℕ, ◌∷◌, sym, subst}
 use Rattle.sp_cell.specs.Map.{Plain}
 use Rattle.sp_meaning.specs.Model.{Name, Cargo, Message, Takes, Condition, Absent, Works, Waits, Joins, Ended}

@@ -1,4 +1,5 @@
--- The entry of an offer, whatever is pending on its channel (`offering`): it waits, it meets the other one, or a fault comes.
+-- The entry of an offer, whatever is pending on its channel (`offering`): it waits, it meets the other one, or a fault
+-- comes.
 use Rattle.std.proofs.Common.{◌≡◌, ℕ, ◌+◌, ◌<◌, List, ◌∷◌, Option, Some, None, Bool, true, false, if◌then◌else◌, refl, sym, ap, ◌∙◌, subst, arith}
 use Rattle.std.specs.Prelude.{◌≢◌, nat_lt}
 use Rattle.sp_base.specs.declared.fault.Fault.TheVariants as fault

@@ -1,5 +1,5 @@
--- The entry `Send` or `Receive` on both sides where an offer is pending on the channel. It meets the other one, and both go on, the
--- receiver with the message (`meets`); or both have one way, or other types: F6, F7 (`clashes`).
+-- The entry `Send` or `Receive` on both sides where an offer is pending on the channel. It meets the other one, and
+-- both go on, the receiver with the message (`meets`); or both have one way, or other types: F6, F7 (`clashes`).
 use Rattle.std.proofs.Common.{◌≡◌, ◌⊎◌, inl, inr, ⊎_elim, ℕ, suc, ◌+◌, ◌<◌, ◌==◌, List, [], ◌∷◌, Option, Some, None, Bool, true, false, cond, if◌then◌else◌, eqb-true, eq-eqb, refl, sym, ap, ◌∙◌, subst, arith}
 use Rattle.std.specs.Prelude.{◌≢◌, nat_lt}
 use Rattle.sp_base.specs.declared.fault.Fault.{Fault}

@@ -1,4 +1,5 @@
--- The entry `Send` or `Receive` on both sides where nothing is pending on the channel: the offer waits (`waiting_entry`).
+-- The entry `Send` or `Receive` on both sides where nothing is pending on the channel: the offer waits
+-- (`waiting_entry`).
 use Rattle.std.proofs.Common.{◌≡◌, ◌⊎◌, inl, ⊎_elim, ℕ, suc, ◌+◌, ◌<◌, ◌==◌, List, ◌∷◌, length, Option, Some, None, Bool, true, false, cond, if◌then◌else◌, eqb-true, eq-eqb, refl, sym, ap, ◌∙◌, subst, arith}
 use Rattle.std.specs.Prelude.{◌≢◌, nat_lt}
 use Rattle.sp_journal.specs.Births.{Births, channel}

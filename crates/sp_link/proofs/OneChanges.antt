@@ -1,5 +1,5 @@
--- An entry that changes one process alone and what it may write keeps the relation (`linked_local`). Here are also the facts of the
--- process that makes an entry: its name, that it runs, its rights, and that it is alone.
+-- An entry that changes one process alone and what it may write keeps the relation (`linked_local`). Here are also the
+-- facts of the process that makes an entry: its name, that it runs, its rights, and that it is alone.
 use Rattle.std.proofs.Common.{◌≡◌, ◌⊎◌, inl, inr, ⊎_elim, ℕ, ◌<◌, ◌==◌, ◌∷◌, Some, None, Bool, true, false, cond, if◌then◌else◌, eqb-true, eq-eqb, refl, sym, ap, ◌∙◌, subst, arith}
 use Rattle.std.specs.Prelude.{◌≢◌}
 use Rattle.sp_journal.specs.Maps.{at_key}

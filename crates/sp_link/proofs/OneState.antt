@@ -1,5 +1,5 @@
--- Along a journal the meaning has one state at most, after one number of steps: a turn is a function of the state, and so is the
--- step of an entry. The way from the meaning back to the machine rests on it (`Replay`).
+-- Along a journal the meaning has one state at most, after one number of steps: a turn is a function of the state, and
+-- so is the step of an entry. The way from the meaning back to the machine rests on it (`Replay`).
 use Rattle.std.proofs.Common.{◌≡◌, ℕ, zero, suc, ◌+◌, List, [], ◌∷◌, Option, Some, None, Bool, true, false, refl, sym, ap, ◌∙◌, subst}
 use Rattle.sp_meaning.specs.Entries.{Happening, Occurrence, Opened, Forked, Offered, Ended, Faulted, Laid, Paused}
 use Rattle.sp_meaning.specs.Own.{Setting}

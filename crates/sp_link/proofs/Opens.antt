@@ -1,5 +1,5 @@
--- The entry `Open` on both sides: the new channel has the next number and its name, and stands in the target (`opening_entry`); or the
--- entries or the channels are at their limit: F15, F14.
+-- The entry `Open` on both sides: the new channel has the next number and its name, and stands in the target
+-- (`opening_entry`); or the entries or the channels are at their limit: F15, F14.
 use Rattle.std.proofs.Common.{◌≡◌, ◌⊎◌, inl, ⊎_elim, ℕ, suc, ◌+◌, ◌<◌, ◌==◌, List, ◌∷◌, length, Option, Some, None, Bool, true, false, cond, if◌then◌else◌, eqb-true, eq-eqb, refl, sym, ap, ◌∙◌, subst, arith}
 use Rattle.std.specs.Prelude.{◌≢◌, nat_lt}
 use Rattle.sp_base.specs.declared.fault.Fault.{Fault}

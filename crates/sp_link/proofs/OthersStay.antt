@@ -1,5 +1,5 @@
--- All other processes stay as they are where one writes only what it may write (`does_stay`): who runs or waits reads nothing of it,
--- since parallel processes are disjoint; who joins has it away with the child that is above the writer.
+-- All other processes stay as they are where one writes only what it may write (`does_stay`): who runs or waits reads
+-- nothing of it, since parallel processes are disjoint; who joins has it away with the child that is above the writer.
 use Rattle.std.proofs.Common.{◌≡◌, ◌⊎◌, inl, inr, ⊎_elim, ℕ, zero, suc, ◌+◌, ◌<◌, List, [], ◌∷◌, ◌++◌, Option, Some, None, Bool, true, false, ◌&&◌, if◌then◌else◌, refl, sym, ap, ◌∙◌, subst}
 use Rattle.std.specs.Prelude.{◌≢◌}
 use Rattle.sp_cell.specs.declared.spot.Spot.{Spot}

@@ -1,5 +1,6 @@
--- The output of the system is that of the meaning (`output_is`). Who may write the output holds it, or has handed it to a child that has
--- not ended; so it is found from the first process downward, and each child has a greater number than its parent.
+-- The output of the system is that of the meaning (`output_is`). Who may write the output holds it, or has handed it to
+-- a child that has not ended; so it is found from the first process downward, and each child has a greater number than
+-- its parent.
 use Rattle.std.proofs.Common.{◌≡◌, ◌⊎◌, inl, inr, ⊎_elim, ℕ, zero, suc, ◌+◌, ◌<◌, ◌≤◌, List, [], ◌∷◌, Option, Some, None, true, false, refl, sym, ap, ◌∙◌, subst, arith}
 use Rattle.std.specs.Prelude.{◌≢◌}
 use Rattle.std.specs.FinMap as fin

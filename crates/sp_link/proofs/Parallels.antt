@@ -1,5 +1,5 @@
--- A parallel statement forks: each child has a life by its statement and its place in the code, stands as it is born, and its parent
--- keeps of it what the join will need (`parallel_entry`).
+-- A parallel statement forks: each child has a life by its statement and its place in the code, stands as it is born,
+-- and its parent keeps of it what the join will need (`parallel_entry`).
 use Rattle.std.proofs.Common.{◌≡◌, ◌⊎◌, inl, inr, ⊎_elim, ℕ, zero, suc, ◌+◌, ◌<◌, ◌≤◌, List, [], ◌∷◌, length, Option, Some, None, Bool, true, false, refl, sym, ap, ◌∙◌, subst, arith}
 use Rattle.std.specs.Prelude.{◌≢◌, nat_lt, pos, IsSome, slice_get}
 use Rattle.std.specs.FinMap as fin

@@ -1,5 +1,5 @@
--- The entry `Pause` on both sides (`pausing`). `Entry_of` is the form of every event's lemma: the turn of the machine, the way of the
--- meaning to the same entry, and the relation after it.
+-- The entry `Pause` on both sides (`pausing`). `Entry_of` is the form of every event's lemma: the turn of the machine,
+-- the way of the meaning to the same entry, and the relation after it.
 use Rattle.std.proofs.Common.{◌≡◌, ◌⊎◌, inl, ℕ, ◌+◌, ◌==◌, List, ◌∷◌, true, false, if◌then◌else◌, cond, refl, sym, ap, ◌∙◌, subst, arith}
 use Rattle.sp_journal.specs.Births.{after_event}
 use Rattle.sp_journal.specs.Maps.{at_key}

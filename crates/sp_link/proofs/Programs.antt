@@ -1,5 +1,5 @@
--- The theorem for programs: the code of a program that is ready, along each journal that can be named, is the program's meaning along
--- that journal, both ways, and no turn of it lacks what it needs.
+-- The theorem for programs: the code of a program that is ready, along each journal that can be named, is the program's
+-- meaning along that journal, both ways, and no turn of it lacks what it needs.
 use Rattle.std.proofs.Common.{◌≡◌, ℕ, ◌<◌, List, false, refl, ap}
 use Rattle.sp_journal.specs.declared.entry.Entry.{Entry}
 use Rattle.sp_journal.specs.Births.{Births, channel, at_start, births_from, occurrences_from, NameableFrom}

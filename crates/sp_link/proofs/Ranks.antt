@@ -1,5 +1,6 @@
--- The code of a program is ranked: no way of ticks and calls is longer than the code (`program_ranked`). Each part is straight, or its
--- ways back lead to a tick; so the rank at its beginning is no higher than that behind it and the part's length.
+-- The code of a program is ranked: no way of ticks and calls is longer than the code (`program_ranked`). Each part is
+-- straight, or its ways back lead to a tick; so the rank at its beginning is no higher than that behind it and the
+-- part's length.
 use Rattle.std.proofs.Common.{◌≡◌, ◌⊎◌, inl, inr, ⊎_elim, ℕ, zero, suc, ◌+◌, ◌<◌, ◌≤◌, ◌==◌, ℤ, List, [], ◌∷◌, ◌++◌, length, Option, Some, None, Bool, true, false, if◌then◌else◌, refl, ap, ◌∙◌, subst, arith}
 use Rattle.std.specs.Prelude.{slice_get, nat_lt}
 use Rattle.sp_tree.specs.declared.checked.KindOf.{KindOf}

@@ -1,5 +1,5 @@
--- A child ends and its parent takes back what moved to it: the parent joins on with one child fewer (`joins_on`), or stands again after
--- the last one (`runs_on`).
+-- A child ends and its parent takes back what moved to it: the parent joins on with one child fewer (`joins_on`), or
+-- stands again after the last one (`runs_on`).
 use Rattle.std.proofs.Common.{◌≡◌, ◌⊎◌, inl, inr, ⊎_elim, ℕ, zero, suc, ◌+◌, ◌<◌, ◌≤◌, ◌==◌, List, [], ◌∷◌, length, Option, Some, None, Bool, true, false, ◌&&◌, if◌then◌else◌, eqb-true, eq-eqb, refl, sym, ap, ◌∙◌, subst, arith}
 use Rattle.std.specs.Prelude.{◌≢◌, IsSome}
 use Rattle.std.specs.FinMap as fin

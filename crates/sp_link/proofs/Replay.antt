@@ -1,5 +1,5 @@
--- The other way round: where the meaning goes along a journal, the system does (`replays`). Turn and entry of the meaning are functions,
--- and the machine's turn gives one of each; so the journal's entry is the machine's.
+-- The other way round: where the meaning goes along a journal, the system does (`replays`). Turn and entry of the
+-- meaning are functions, and the machine's turn gives one of each; so the journal's entry is the machine's.
 use Rattle.std.proofs.Common.{◌≡◌, ◌⊎◌, inl, inr, ℕ, zero, suc, ◌+◌, ◌<◌, List, [], ◌∷◌, Some, None, Bool, true, false, if◌then◌else◌, ◌&&◌, refl, sym, ap, ◌∙◌, subst, arith}
 use Rattle.sp_journal.specs.declared.entry.Event.{Event}
 use Rattle.sp_journal.specs.declared.entry.Event.TheVariants as event

@@ -1,5 +1,6 @@
--- All is well with the next event of each process of a system that is linked: a fork can be carried out (`can_split`), and a child that
--- ends can be joined (`can_join`), and a message can be put where it goes (`put_by_send`, `put_by_receive`).
+-- All is well with the next event of each process of a system that is linked: a fork can be carried out (`can_split`),
+-- and a child that ends can be joined (`can_join`), and a message can be put where it goes (`put_by_send`,
+-- `put_by_receive`).
 use Rattle.std.proofs.Common.{◌≡◌, ◌⊎◌, inl, inr, ⊎_elim, ℕ, zero, suc, ◌<◌, ◌==◌, ℤ, List, [], ◌∷◌, ◌++◌, length, Option, Some, None, Bool, true, false, if◌then◌else◌, eqb-true, refl, sym, ap, ◌∙◌, subst, arith}
 use Rattle.std.specs.Prelude.{nat_le}
 use Rattle.std.specs.FinMap as fin

@@ -1,5 +1,5 @@
--- A variable that a statement uses is declared, and an index is used by the statement itself and in scope (`is_scoped`): the code of a
--- statement finds each variable by its scopes, and no scope of a called block is an index.
+-- A variable that a statement uses is declared, and an index is used by the statement itself and in scope
+-- (`is_scoped`): the code of a statement finds each variable by its scopes, and no scope of a called block is an index.
 use Rattle.std.proofs.Common.{◌≡◌, inl, inr, ℕ, suc, zero, ◌+◌, ◌==◌, List, [], ◌∷◌, length, Option, Some, None, Bool, true, false, if◌then◌else◌, eqb-true, refl, sym, ◌∙◌, subst}
 use Rattle.std.specs.Prelude.{slice_get}
 use Rattle.sp_tree.specs.declared.checked.Role.TheVariants as role

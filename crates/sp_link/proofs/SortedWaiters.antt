@@ -1,5 +1,5 @@
--- The waiters of a run in order of their names, as the program tells them, are all that wait in the control, in the order of the meaning
--- (`all_waiting`).
+-- The waiters of a run in order of their names, as the program tells them, are all that wait in the control, in the
+-- order of the meaning (`all_waiting`).
 use Rattle.std.proofs.Common.{◌≡◌, ◌⊎◌, inl, inr, ⊎_elim, ℕ, zero, suc, ◌+◌, ◌<◌, ◌≤◌, List, [], ◌∷◌, length, Bool, true, false, refl, sym, ap, ◌∙◌, subst, arith}
 use Rattle.std.specs.Prelude.{map, slice_set, slice_index_or}
 use Rattle.std.specs.List.{swap, Contains, AllByRecursion, IsDistinct}

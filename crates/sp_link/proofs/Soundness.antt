@@ -1,5 +1,5 @@
--- The code of a program that is ready is sound (`program_sound`): each way back in it passes a tick or a call, and all is well with
--- every turn and every event along each journal of its system.
+-- The code of a program that is ready is sound (`program_sound`): each way back in it passes a tick or a call, and all
+-- is well with every turn and every event along each journal of its system.
 use Rattle.std.specs.Prelude.{ℕ, List, refl}
 use Rattle.sp_base.specs.declared.limits.Limits.{Limits}
 use Rattle.sp_base.specs.declared.limits.TheConstants.{TURN_TICKS}

@@ -1,5 +1,6 @@
--- The run of a turn of one process, as the simulation of its code has it, is its local steps in the state of the meaning: up to the
--- moment at which it is due (`Pauses`), or to its next kernel step (`Comes_to`). `P` is what local steps keep.
+-- The run of a turn of one process, as the simulation of its code has it, is its local steps in the state of the
+-- meaning: up to the moment at which it is due (`Pauses`), or to its next kernel step (`Comes_to`). `P` is what local
+-- steps keep.
 use Rattle.std.proofs.Common.{◌≡◌, ◌⊎◌, inl, inr, ℕ, zero, suc, ◌+◌, List, Some, None, Bool, true, false, ◌&&◌, if◌then◌else◌, refl, sym, ap, ◌∙◌, subst}
 use Rattle.std.specs.Prelude.{◌≢◌, nat_le}
 use Rattle.sp_meaning.specs.Model.{Name, Works}

@@ -1,5 +1,5 @@
--- Where a process stands to one that acts: both are parallel, or the one that acts is below it, in a child that it joins. What such a
--- child's descendants write and the parent may read, the child may write (`child_writes`).
+-- Where a process stands to one that acts: both are parallel, or the one that acts is below it, in a child that it
+-- joins. What such a child's descendants write and the parent may read, the child may write (`child_writes`).
 use Rattle.std.proofs.Common.{◌≡◌, ◌⊎◌, inl, inr, ⊎_elim, ℕ, [], ◌∷◌, ◌++◌, length, length-append, sym, ap, ◌∙◌, subst, arith}
 use Rattle.std.specs.Prelude.{◌≢◌}
 use Rattle.sp_meaning.specs.Model.{Name, State, Language}

@@ -1,5 +1,6 @@
--- The turn of a process that stands, on both sides: how it ends in the meaning (`outcome`), what it kept to (`kept`), how it ends in
--- the machine (`turned`), that it does end (`ends`), and that no instruction of it lacks what it needs (`safe`).
+-- The turn of a process that stands, on both sides: how it ends in the meaning (`outcome`), what it kept to (`kept`),
+-- how it ends in the machine (`turned`), that it does end (`ends`), and that no instruction of it lacks what it needs
+-- (`safe`).
 use Rattle.std.proofs.Common.{◌≡◌, ◌⊎◌, inl, inr, ℕ, zero, suc, List, [], Some, Bool, true, false, refl, sym, subst}
 use Rattle.sp_cell.specs.Map.{Plain}
 use Rattle.sp_meaning.specs.Model.{Name}

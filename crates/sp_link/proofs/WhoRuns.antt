@@ -1,5 +1,5 @@
--- Nobody runs in the meaning where nobody runs in the machine and no fault stands (`nobody`), and the other way round; the first
--- process has ended on both sides (`root_over`). So deadlock is the same on both.
+-- Nobody runs in the meaning where nobody runs in the machine and no fault stands (`nobody`), and the other way round;
+-- the first process has ended on both sides (`root_over`). So deadlock is the same on both.
 use Rattle.std.proofs.Common.{◌≡◌, ℕ, [], Option, Some, None, false, refl, ap, ◌∙◌, subst}
 use Rattle.sp_cell.specs.Map.{Plain}
 use Rattle.sp_meaning.specs.Model.{Name, Ended}

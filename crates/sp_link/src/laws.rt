@@ -1,5 +1,5 @@
-//! What follows for all processes of a run, of the source and of its code, along a journal. These functions do nothing: each one's
-//! contract is a law.
+//! What follows for all processes of a run, of the source and of its code, along a journal. These functions do nothing:
+//! each one's contract is a law.
 
 ghost use Rattle.std.specs.Prelude.{◌≡◌, ◌<◌, ℕ, List, Some, None, true, false};
 ghost use Rattle.sp_base.specs.declared.fault.Fault.{Fault};

@@ -1,5 +1,5 @@
 -- The children of a fork: their frames, numbers and first instructions. The contracts of `children` and of a process's
--- fork promise it, and the kernel's forks cite it; the stores come from sp_store's `split`.
+-- fork promise it, and the kernel's forks cite it; the stores come from `sp_store`'s `split`.
 use Rattle.std.specs.Prelude.{◌≡◌, ℕ, ◌+◌, ◌<◌, ℤ, List, [], ◌∷◌, length, get_or, slice_get, Option, Some, None}
 use Rattle.sp_base.specs.declared.limits.Limits.{Limits}
 use Rattle.sp_cell.specs.declared.spot.Handing.{Handing}

@@ -1,4 +1,4 @@
-//! Instructions on ordinals.
+//! The instructions on ordinals: constants, conversions, ranges, successors, operators and comparison.
 
 ghost use Rattle.std.specs.Prelude.{◌≡◌, ◌≢◌, ◌+◌, ◌<◌, IfOk, Some};
 ghost use Rattle.sp_code.specs.Machine.{Stuck, on_two, on_one};

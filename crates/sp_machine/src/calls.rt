@@ -1,4 +1,4 @@
-//! Calls and returns.
+//! The instructions that call blocks and return from them.
 
 ghost use Rattle.std.specs.Prelude.{◌≡◌, ◌≢◌, ◌+◌, ◌<◌, ◌≤◌, ◌∷◌, [], IfOk, OnOk, Some, true, length, sum, reverse, take, drop};
 ghost use Rattle.sp_cell.specs.Frame.{HasNextFrame};

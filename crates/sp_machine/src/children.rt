@@ -1,4 +1,4 @@
-//! Forks: what a process hands to its children, and the children.
+//! Forks: what a process hands to its children, and how the children begin.
 
 ghost use Rattle.std.specs.Prelude.{◌≡◌, ℕ, ◌+◌, ◌<◌, ◌≤◌, IfOk, OnOk, OnErr, IsSome, pos, ◌+ℤ◌, ◌≤ℤ◌, length, get_or, take, slice_get, ◌≢◌};
 ghost use Rattle.std.specs.Option.{option_copied};

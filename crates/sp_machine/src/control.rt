@@ -1,4 +1,4 @@
-//! Jumps, loops and ticks.
+//! The instructions of jumps, loops and ticks.
 
 ghost use Rattle.std.specs.Prelude.{◌≡◌, ◌≢◌, ◌+◌, ◌<◌, IfOk, Some, nat_le, true};
 ghost use Rattle.sp_base.specs.declared.limits.TheConstants.{TURN_TICKS};

@@ -1,4 +1,4 @@
-//! The frames of a process.
+//! The frames of a process, and the addresses of variables in them by level and number.
 
 ghost use Rattle.std.specs.Prelude.{◌≡◌, ◌≢◌, ◌<◌, ◌≤◌, ◌+◌, ◌∷◌, ◌++◌, [], List, length, min, take, drop, IfOk, OnOk, OnErr};
 ghost use Rattle.sp_code.specs.Memory.{Frame as PlainFrame, last_frames, frames_up, addr_in, deref_in, referred};

@@ -1,4 +1,4 @@
-//! Input and output.
+//! The instructions that read the input and write the output.
 
 ghost use Rattle.std.specs.Prelude.{◌≡◌, ◌≢◌, ◌+◌, ◌<◌, ◌++◌, IfOk, OnOk, Some, None, true, pos, take, drop, replicate, if◌then◌else◌};
 ghost use Rattle.sp_tree.specs.Items.{padded};

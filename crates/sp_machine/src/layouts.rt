@@ -1,4 +1,4 @@
-//! The layouts of blocks.
+//! The layouts of blocks, found by number, and the cells of frames.
 
 ghost use Rattle.std.specs.Prelude.{◌≡◌, ◌≤◌, length, sum};
 ghost use Rattle.std.specs.Option.{option_copied};

@@ -1,5 +1,29 @@
-//! One process of the stack machine: its turns, and what a fork, a join and an answer do to it. The process runs any code
-//! that is sound.
+//! One process of the stack machine: its turns, and what a fork, a join and an answer do to it. The process runs any
+//! code that is sound.
+//!
+//! Calls:
+//! - `Proc::root`: process 0 of a run of code on an input, with the frame of the program, at its first instruction.
+//! - `Proc::number`, `store`: its number in the run, and its variables.
+//! - `Proc::turn`: runs it to its next stop, or until it is due: exactly the turn that `sp_code` defines (`IsTurnOf`),
+//!   of code that is ranked from there and a turn that lacks nothing (`CanTurn`).
+//! - `Proc::enter`: at its entry in the journal, from which on its ticks count for the next pause.
+//! - `Proc::resume`: gives it what it waits for (`Answer`).
+//! - `Proc::split`: at a fork, exactly its children, with the numbers from `number` on; what moves to them is away from
+//!   it, and what they share is shared. Where memory is refused, it is as before.
+//! - `Proc::join`: takes back from a child that has ended what moved to it.
+//!
+//! To know:
+//! - The types are `Proc`, `Answer`, `Stop` (why a turn ended), `State`, `Stack`, `Operand`, `Frames`, `Frame`, `Home`.
+//! - `turn`, `root` and `split` require one layout for each block, `turn` also that frames have room for formals.
+//! - `specs/Procs.antt` leads from memory to the definitions: `config_of` is a process as the definitions see it.
+//! - Each instruction is a function of `State`, whose contract is `Came` of the definition's instruction. How an
+//!   instruction ends: `src/steps.rt`. `src/turn.rt` joins them to a turn, and `proofs/Going` leads from instructions
+//!   to a turn.
+//! - After want of memory nothing is said of a process but that it keeps its number and its input.
+//!
+//! To change:
+//! - An instruction: its function, and `step` in `src/turn.rt`.
+//! - The frames: `src/frames.rt`.
 #![tactic(auto)]
 
 mod arithmetic;

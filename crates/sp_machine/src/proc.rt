@@ -1,4 +1,4 @@
-//! A process.
+//! A process as its kernel uses it: it begins, takes turns, gets answers, forks and joins.
 
 ghost use Rattle.std.specs.Prelude.{◌≡◌, ◌+◌, ◌≤◌, ◌∷◌, [], IfOk, OnOk, OnErr, length, sum, slice_get};
 ghost use Rattle.sp_code.specs.Memory.{OfBlock};

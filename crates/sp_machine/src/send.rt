@@ -1,4 +1,4 @@
-//! A process is handed to the thread that runs it.
+//! That a process may go to the thread that runs it (`Send`).
 
 ghost use Rattle.std.specs.Prelude.{◌≡◌};
 

@@ -1,4 +1,4 @@
-//! The stack of a process.
+//! The stack of operands of a process.
 
 ghost use Rattle.std.specs.Prelude.{◌≡◌, ◌≤◌, ◌∷◌, [], Some, None, OnOk, OnErr, MatchOption, length, reverse, take, drop};
 ghost use Rattle.sp_code.specs.Machine.{outside};

@@ -1,4 +1,4 @@
-//! Instructions at which a turn stops: offers and forks.
+//! Instructions at which a turn stops: opens, sends, receives and forks.
 
 ghost use Rattle.std.specs.Prelude.{◌≡◌, ◌≢◌, ◌+◌, ◌<◌, ◌≤◌, ◌∷◌, [], IfOk, Some, true, length, int_le, pos, ◌+ℤ◌, ◌≤ℤ◌};
 ghost use Rattle.sp_code.specs.Machine.{Stuck, At, Forks, values_in};

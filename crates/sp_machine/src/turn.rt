@@ -1,4 +1,4 @@
-//! A turn: instructions up to the next stop.
+//! A turn of a process: its instructions one after another, up to the next stop.
 
 ghost use Rattle.std.specs.Prelude.{◌≡◌, ◌≢◌, ◌+◌, ◌<◌, IfOk, IfSome, slice_get};
 ghost use Rattle.sp_code.specs.Formals.{HaveFormals};

@@ -1,4 +1,4 @@
-//! Instructions on variables.
+//! The instructions on variables: addresses, loads, stores and copies.
 
 ghost use Rattle.std.specs.Prelude.{◌≡◌, ◌≢◌, ◌+◌, ◌*◌, ◌<◌, ◌≤◌, IfOk, MatchOption, Some};
 ghost use Rattle.sp_code.specs.Machine.{Stuck};

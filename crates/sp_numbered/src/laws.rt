@@ -1,4 +1,5 @@
-//! What is promised of journals by numbers. These functions do nothing: what counts is their contracts.
+//! The laws of journals by numbers: that of a run, and that of a witness. These functions do nothing: what counts is
+//! their contracts.
 
 ghost use Rattle.std.specs.Prelude.{◌≡◌, ℕ, ◌++◌, ◌∷◌, [], List, Option, Some};
 ghost use Rattle.sp_base.specs.declared.fault.Fault.TheVariants as fault;

@@ -2,9 +2,8 @@
 //! sound.
 //!
 //! Laws:
-//! - `verified_code_is_sound` (`laws`): code whose parts keep their sizes and that breaks no rule is sound (`IsSound`
-//!   of `sp_code`); and wherever a process comes to an instruction that stops, it is in no call of a block with a
-//!   result (`AnswersQuietly`).
+//! - `verified_code_is_sound` (`laws`): code of proper sizes that breaks no rule is sound (`IsSound` of `sp_code`), and
+//!   no process is in a call of a block with a result where it comes to an instruction that stops (`AnswersQuietly`).
 //!
 //! To know:
 //! - `specs/Areas.antt` divides code into areas: the code of each block and of each child of a fork. All rules speak of

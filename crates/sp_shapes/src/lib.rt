@@ -9,10 +9,9 @@
 //! - `first_length` (`messages`), `first_unfit` (`calls`): the same for V4 and V5.
 //! - `Stacks::new`, `push`, `top` (`stacks`): lists of shapes by their numbers.
 //!
-//! Types: `Shapes` and `Outcome` (`shapes`), `Shape` and `Stacks` (`stacks`), `Plan` (`plans`), `Step` and `Arrival`
-//! (`steps`), `Search` (`search`), `Message` (`messages`).
-//!
 //! To know:
+//! - The types are `Shapes` and `Outcome` (`shapes`), `Shape` and `Stacks` (`stacks`), `Plan` (`plans`), `Step` and
+//!   `Arrival` (`steps`), `Search` (`search`), `Message` (`messages`).
 //! - Each answer is exact. The only other one is want of memory.
 //! - Where V2 is kept, all ways bring the same shapes to an instruction: so `Shapes` has one list for each.
 //! - `stacks.rt` keeps each list of shapes once. `plans.rt` has what each instruction takes, leaves and goes on to, in

@@ -1,4 +1,4 @@
-//! What the words may ask for.
+//! The commands that words may ask for, and why words give none.
 
 ghost use Rattle.std.specs.Prelude.{◌≡◌};
 ghost use Rattle.sp_words.specs.declared.command.WordsError.TheVariants.{Memory as OutOfMemory};

@@ -1,4 +1,5 @@
-//! The workers and the limits of a run where no option is given.
+//! The workers and the limits of a run where no option is given. A caller that has no words for them, as `gen`, takes
+//! the limits from here.
 
 ghost use Rattle.std.specs.Prelude.{◌≡◌};
 ghost use Rattle.sp_words.specs.Ranges.{default_limits};

@@ -1,4 +1,5 @@
-//! A function that does nothing: its contract is a law.
+//! The law that the options of every command that words ask for are in their ranges. The function does nothing: its
+//! contract is the law.
 
 ghost use Rattle.std.specs.Prelude.{◌≡◌, ◌≤◌, ℕ, List, Some};
 ghost use Rattle.sp_words.specs.declared.command.Command.{Command};

@@ -1,4 +1,4 @@
-//! The reading of the words.
+//! Reading the words (`read_words`): the command by its name, the dash rule for its options, and then the parser.
 
 ghost use Rattle.std.specs.Prelude.{◌≡◌, IfErr, IfOk, None, Some, map, string_bytes};
 ghost use Rattle.clap.specs.Words.{kind_of};
