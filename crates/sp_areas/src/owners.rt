@@ -1,4 +1,5 @@
-//! Whose code each instruction is. A search hands owners on along `ways` and tables, until a sweep finds nothing new.
+//! Whose code each instruction is: that of no area, of one block or child alone, or of several. A search hands owners
+//! on along `ways` and tables, until a sweep finds nothing new.
 
 ghost use Rattle.std.specs.Prelude.{◌≡◌, ℕ, ◌+◌, ◌<◌, Some, IfOk, OnOk, length, slice_get};
 ghost use Rattle.sp_code.specs.declared.code.ChildTable.{ChildTable};

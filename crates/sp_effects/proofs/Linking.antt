@@ -1,4 +1,5 @@
--- Edges are put one after the other.
+-- Edges are put into their rows one after the other: at one operand, at the children of a table, at each instruction,
+-- and at all of them.
 use Rattle.std.proofs.Common.{◌≡◌, ◌≢◌, ◌⊎◌, inl, inr, ⊎_elim, refl, ap, sym, ◌∙◌, subst, ℕ, zero, suc, ◌+◌, ◌-◌, ◌<◌}
 use Rattle.std.proofs.Common.{◌==◌, List, [], ◌∷◌, ◌++◌, length, Option, Some, None, Bool, true, false, if◌then◌else◌}
 use Rattle.std.proofs.Common.{arith, eqb-true}

@@ -1,4 +1,4 @@
--- What instructions do themselves is told.
+-- What instructions do themselves is told as facts: what each adds to those before it.
 use Rattle.std.proofs.Common.{◌≡◌, ◌⊎◌, inl, inr, ⊎_elim, refl, ap, sym, ◌∙◌, subst, ℕ, zero, suc, ◌+◌, ◌<◌, List, []}
 use Rattle.std.proofs.Common.{◌∷◌, length, take, Option, Some, None, Bool, true, false, get_or, arith}
 use Rattle.std.specs.Prelude.{slice_get, Result, Ok, Err, OnOk}

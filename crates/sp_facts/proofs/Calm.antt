@@ -1,4 +1,4 @@
--- Lists of broken rules that are empty have no part that breaks one.
+-- Where a list of broken rules is empty, no part of it has one.
 use Rattle.std.proofs.Common.{◌≡◌, refl, ap, sym, ◌∙◌, ℕ, List, [], ◌∷◌, Option, Some, None, Bool, true, false, if◌then◌else◌, arith}
 use Rattle.std.specs.Prelude.{not, nat_eq, ◌||◌}
 use Rattle.sp_base.specs.declared.place.Place.{Place}

@@ -1,4 +1,4 @@
--- The indices of the foralls in a statement have one number after the other.
+-- That the indices of the foralls in a statement have one number after the other, where no rule of names is broken.
 use Rattle.std.proofs.Common.{◌≡◌, refl, ap, sym, ◌∙◌, subst, ℕ, suc, List, [], Option, Some, None, arith}
 use Rattle.sp_tree.specs.declared.checked.Role.TheVariants as role
 use Rattle.sp_tree.specs.declared.meaning.Meaning.{Meaning}

@@ -1,5 +1,5 @@
--- Variables are of blocks that there are, and none of them is a console. The phase of names gives it of all variables
--- behind the first two.
+-- What the phase of names gives of all variables but the first two: each is of a block that there is, and none is a
+-- console.
 use Rattle.std.specs.Prelude.{ℕ, suc, ◌≤◌, List}
 use Rattle.sp_tree.specs.declared.checked.Role.{Role}
 use Rattle.sp_tree.specs.declared.checked.Role.TheVariants as role

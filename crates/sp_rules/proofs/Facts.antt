@@ -1,4 +1,4 @@
--- Small facts of lists, shapes and areas that the proof of a turn uses.
+-- Small facts of numbers, spans and cells that the proof of a turn uses.
 use Rattle.std.proofs.Common.{◌≡◌, ◌⊎◌, inl, inr, ℕ, zero, suc, ◌+◌, ◌<◌, ◌≤◌, ℤ, List, length, Option, Some, None}
 use Rattle.std.proofs.Common.{Bool, true, false, if◌then◌else◌, ◌&&◌, refl, sym, ap, ◌∙◌, ⊎_elim, arith}
 use Rattle.std.specs.Prelude.{nat_le, nat_lt, nat_abs, int_le, ◌-ℤ◌, pos, IsSome, take, drop}

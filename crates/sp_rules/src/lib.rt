@@ -6,8 +6,8 @@
 //!   no process is in a call of a block with a result where it comes to an instruction that stops (`AnswersQuietly`).
 //!
 //! To know:
-//! - `specs/Areas.antt` divides code into areas: the code of each block and of each child of a fork. All rules speak of
-//!   areas.
+//! - `specs/Areas.antt` divides code into areas: the code of each block and of each child of a fork. The rules are said
+//!   of areas.
 //! - `Shapes` and `Reach` say which operands come to an instruction; `Arrives` of `Reach` says it by ways in the order
 //!   of their length.
 //! - `Named` is V1, `Rules` V2 to V5 and V9, `Effects` the variables that an area stores and loads, `Forks` V6 to V8 by

@@ -7,7 +7,8 @@
 //! - `first_passing` (`cells`): by these shapes, the least instruction at which V3 is broken; none where it is broken
 //!   nowhere.
 //! - `first_length` (`messages`), `first_unfit` (`calls`): the same for V4 and V5.
-//! - `Stacks::new`, `push`, `top` (`stacks`): lists of shapes by their numbers.
+//! - `Stacks::new`, `push`, `top` (`stacks`): lists of shapes by their numbers. `push` answers want of memory at 2^32
+//!   lists too.
 //!
 //! To know:
 //! - The types are `Shapes` and `Outcome` (`shapes`), `Shape` and `Stacks` (`stacks`), `Plan` (`plans`), `Step` and
