@@ -1,5 +1,5 @@
--- The names of the rules, as refusals print them. `Rule`'s printing promises them, and sp_print's text of a refusal is
--- made of them. A clause for each rule, so that a renamed or missing rule is seen here.
+-- The names of the rules, as refusals print them. `Rule`'s printing promises them, and `sp_print`'s text of a refusal
+-- is made of them. A clause for each rule, so that a renamed or missing rule is seen here.
 use Rattle.std.specs.Prelude.{ℕ, List, codes}
 use Rattle.sp_base.specs.declared.rule.Rule.{Rule}
 use Rattle.sp_base.specs.declared.rule.Rule.TheVariants as rule

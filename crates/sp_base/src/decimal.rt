@@ -1,4 +1,4 @@
-//! Numbers in decimal.
+//! Numbers put in decimal behind the bytes of a text.
 
 ghost use Rattle.std.specs.Prelude.{◌≡◌, ◌++◌, OnErr, OnOk, decimal};
 ghost use Rattle.std.specs.Fmt.{signed_decimal};

@@ -1,4 +1,4 @@
-//! The faults that end a run.
+//! The faults that end a run, and their names.
 
 ghost use Rattle.std.specs.Prelude.{◌≡◌, Some};
 ghost use Rattle.sp_base.specs.Faults.{fault_name};

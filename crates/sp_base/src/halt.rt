@@ -1,4 +1,4 @@
-//! Why a pass over a text gives no answer.
+//! Why a pass over a text gives no answer: a broken rule with its place, or want of memory.
 
 ghost use Rattle.std.specs.Prelude.{◌≡◌};
 ghost use Rattle.sp_base.specs.declared.halt.Halt.TheVariants.{Memory as OutOfMemory};

@@ -1,4 +1,4 @@
-//! The range of integers, and how far a run may go.
+//! The range of integers, how far a run may go, and what is told of a run (`Show`).
 
 ghost use Rattle.std.specs.Prelude.{◌≡◌, pos};
 ghost use Rattle.sp_base.specs.declared.limits.TheConstants.{MAXINT, TURN_TICKS};

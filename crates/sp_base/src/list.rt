@@ -1,4 +1,4 @@
-//! Lists that contracts see as plain lists.
+//! Lists that contracts see as plain lists of their items.
 
 ghost use Rattle.std.specs.Prelude.{◌≡◌, ◌<◌, ◌++◌, ◌∷◌, [], length, slice_get, slice_set, swap, take};
 ghost use Rattle.std.specs.Option.{option_copied};

@@ -1,4 +1,5 @@
-//! The names of processes and channels. A name is the same in every run in which its process forks and opens alike.
+//! The names of processes and channels, with their order and their texts. A name is the same in every run in which
+//! its process forks and opens alike.
 
 ghost use Rattle.std.specs.Prelude.{◌≡◌, ◌++◌, IfOk, OnErr, OnOk, Some, length, take};
 ghost use Rattle.std.specs.Ordering.{is_eq};

@@ -1,4 +1,4 @@
-//! Where something stands in a text.
+//! Where something stands in a text, by line and column.
 
 /// A place in a text. Lines and columns count from 1, a column counts bytes, and a line ends with a line feed.
 #[derive(Clone, Copy, Debug, PartialEq, Eq)]

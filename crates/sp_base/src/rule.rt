@@ -1,4 +1,4 @@
-//! The rules that a program text keeps.
+//! The rules that a program text keeps, and their names.
 
 ghost use Rattle.std.specs.Prelude.{◌≡◌, Some};
 ghost use Rattle.sp_base.specs.Rules.{rule_name};

@@ -1,4 +1,4 @@
--- Names as the program keeps them.
+-- Laws of names as the program keeps them.
 use Rattle.std.proofs.Common.{◌≡◌, List, [], ◌∷◌, ◌++◌, refl, sym, ap}
 use Rattle.sp_base.specs.declared.name.ProcName.{ProcName}
 use Rattle.sp_journal.specs.Names.{Name, pairs_of, proc_name}

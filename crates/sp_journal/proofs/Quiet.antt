@@ -1,4 +1,4 @@
--- Events that give no number.
+-- Events that give no number change nothing of what a journal gives.
 use Rattle.std.proofs.Common.{◌≡◌, ◌⊎◌, ⊎_elim, ℕ, ap}
 use Rattle.sp_base.specs.declared.fault.Fault.{Fault}
 use Rattle.sp_journal.specs.declared.entry.Event.{Event}

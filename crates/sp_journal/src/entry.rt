@@ -1,4 +1,4 @@
-//! What a journal is made of.
+//! What a journal is made of: entries, their events, and what these give to processes and channels.
 
 use sp_base::{Fault, List};
 

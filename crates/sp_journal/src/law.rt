@@ -1,4 +1,4 @@
-//! A law of the texts of journals. The function does nothing: what counts is its contract.
+//! The law that no two journals have one text. The function does nothing: what counts is its contract.
 
 ghost use Rattle.std.specs.Prelude.{◌≡◌, List, ℕ};
 ghost use Rattle.sp_journal.specs.declared.entry.Journal.{Journal};

@@ -1,4 +1,4 @@
-//! A journal with the tables of the names that its entries give.
+//! A journal with the tables of the names that its entries give (`Ledger`). Printing and the reports go by it.
 
 ghost use Rattle.std.specs.Prelude.{◌≡◌, ◌++◌, ◌∷◌, [], ◌<◌, ◌≤◌, ◌^◌, ◌↔◌, IsTrue, IfOk, OnErr, OnOk};
 ghost use Rattle.sp_journal.specs.Births.{births, channel, CanFollow, IsNameable};

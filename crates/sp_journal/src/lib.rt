@@ -1,4 +1,39 @@
-//! The journal of a run: its entries, the names that they give to processes and channels, and its text.
+//! The journal of a run: its entries, the names that they give to processes and channels, and its text. The
+//! definitions of what a process knows of a journal and of ordered journals stand here too.
+//!
+//! Calls:
+//! - `print_journal`: exactly the text of a nameable journal, in version 2.
+//! - `read_journal`: a nameable journal of which these bytes are the text, in version 1 (without `pause`) or 2, and
+//!   no other has it; or the number of the first bad line, and then they are the text of no journal.
+//! - `Journal`: `push` puts an entry last, or leaves the journal as it was; `birth` is how a process came to be, none
+//!   exactly for the root and for a number that no entry gave; `name` is the name of a process, which no other
+//!   process of the journal has. Both go over the whole journal.
+//! - `Ledger`: a journal with the tables of its names. `new`, `of` (a nameable journal), `into_journal`; `can_follow`
+//!   says exactly whether an entry can come next, `add` takes such a one in, or stays the ledger of the same journal.
+//!   `processes`, `channels` are how many there are; `birth`, `name`, `channel` are exactly what the journal gives to
+//!   a number that is there.
+//! - `Ledger::put_entry`: puts exactly the text of an entry that can come next last, or leaves the bytes as before.
+//!   `Way::word`: the way's text.
+//! - Types: `Entry`, `Event`, `Way`, `Birth`, `Opening`; `Note` (what one call of the kernel did); `End`, `Waiter`
+//!   (how a run ends) and `Verdict`.
+//!
+//! Laws:
+//! - `one_journal_of_a_text`: no two journals have one text, in whatever versions.
+//!
+//! To know:
+//! - A journal is nameable where each entry can follow those before it: its process and its channel are there, and
+//!   numbers below 4,294,967,296 are left for what it gives.
+//! - `specs/Births.antt` has numbers, births and names; `specs/Names.antt` names as definitions use them;
+//!   `specs/Past.antt` what each process knows, and ordered; `specs/Queue.antt` first in, first out;
+//!   `specs/Texts.antt` and `specs/Reading.antt` the text.
+//! - `Ledger` keeps names in tables, so that printing and the reports find each in the time of its length and the
+//!   logarithm of the forks.
+//! - The reader finds an entry by the parts of its line and takes only what prints as it was read. So its parts may
+//!   give any answer to other bytes.
+//!
+//! To change:
+//! - An event: `Event` in `src/entry.rt`; its texts in `specs/Texts.antt`, `src/print.rt` and `src/reader.rt`; what
+//!   it gives in `specs/Births.antt`; what it teaches in `specs/Past.antt`.
 #![tactic(auto)]
 
 mod entry;

@@ -1,4 +1,4 @@
-//! How a run ends, and what the judge says of it.
+//! How a run ends, and the verdict on it.
 
 use crate::entry::Way;
 use sp_base::{ChanName, Fault, List, ProcName};

@@ -1,4 +1,4 @@
-//! The text of a journal.
+//! The text of a journal, and of one entry of a ledger.
 
 ghost use Rattle.std.specs.Prelude.{◌≡◌, ◌++◌, ◌<◌, IfOk, OnErr, OnOk, codes, decimal, length, take};
 ghost use Rattle.sp_journal.specs.Births.{births, CanFollow, GivesNumbers, IsNameable};

@@ -1,4 +1,4 @@
-//! Reading a journal's text.
+//! Reading a journal's text: the journal, or the first bad line.
 
 ghost use Rattle.std.specs.Prelude.{◌≡◌, ◌++◌};
 ghost use Rattle.sp_journal.specs.Reading.{ReadsJournal, ReadsAlone, IsVersionOf};

@@ -1,4 +1,5 @@
-//! A journal as it is read from its text, line by line.
+//! A journal as it is read from its text, line by line. The reader finds an entry by the parts of its line, and takes
+//! only what prints as it was read.
 
 ghost use Rattle.std.specs.Prelude.{◌≡◌, ◌+◌, ◌++◌, ◌∷◌, [], ◌<◌, ◌^◌, ◌↔◌, ℕ, IsTrue, Some, IfOk, OnOk, codes, decimal};
 ghost use Rattle.sp_base.specs.declared.fault.Fault.{Fault};

@@ -1,4 +1,4 @@
-//! Cutting bytes, and the numbers and faults that they write.
+//! Cutting bytes at a mark, and the numbers and faults that bytes write.
 
 ghost use Rattle.std.specs.Prelude.{◌≡◌, ◌<◌, ◌^◌, ℕ, Some, decimal};
 ghost use Rattle.std.specs.Str.{IsAscii};

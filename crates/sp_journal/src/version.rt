@@ -1,4 +1,4 @@
-//! The versions of a journal's text.
+//! The versions of a journal's text, and which events each can hold.
 
 ghost use Rattle.std.specs.Prelude.{◌↔◌, IsTrue};
 ghost use Rattle.sp_journal.specs.Texts.{CanHold};

@@ -1,4 +1,4 @@
-//! Counters of faults.
+//! Counters of faults, which stay at their last value.
 
 ghost use Rattle.std.specs.Prelude.{◌≡◌, ◌≤◌};
 ghost use Rattle.sp_outside.specs.Counts.{Rose, next_count};

@@ -1,4 +1,4 @@
-//! What watches the workers.
+//! What watches the workers: it is entered before each turn.
 
 /// Is entered by a worker that has taken a process, before it runs the turn. It changes nothing that a result may
 /// depend on, and returns.

@@ -1,4 +1,4 @@
-//! Where texts are held under names.
+//! Where texts are held under names: the trait `Library`.
 
 ghost use Rattle.std.specs.Prelude.{◌≡◌, ◌≢◌, ◌↔◌, ℕ, List, Option, ◌<◌, ◌≤◌, length, IfOk, IfSome, vec_len};
 ghost use Rattle.sp_outside.specs.Counts.{Rose};

@@ -1,4 +1,4 @@
-//! Libraries in memory.
+//! Libraries in memory: one whose calls may be made to fail, and one whose calls never fail.
 
 ghost use Rattle.std.specs.Prelude.{◌≡◌, ◌≢◌, ◌↔◌, ◌||◌, ℕ, List, [], Some, None, is_none, ◌<◌, ◌≤◌, length, IfOk, IfSome, IsTrue, vec_len, unwrap_or, drop};
 ghost use Rattle.std.specs.Option.{option_copied};

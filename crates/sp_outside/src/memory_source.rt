@@ -1,4 +1,4 @@
-//! Sources in memory.
+//! Sources in memory: one whose calls may be made to fail, and one whose calls never fail.
 
 ghost use Rattle.std.specs.Prelude.{◌≡◌, ◌↔◌, ◌<◌, ◌≤◌, Some, Ok, min, take, drop, length, IfOk, OnErr, IsErr, IsTrue};
 ghost use Rattle.sp_outside.specs.Told.{Shrinks, IsAtEnd};

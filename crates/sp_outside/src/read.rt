@@ -1,4 +1,4 @@
-//! Reading a source to its end.
+//! Reading a source to its end, up to a limit.
 
 ghost use Rattle.std.specs.Prelude.{◌≡◌, ◌<◌, ◌≤◌, length, IfOk, IfSome, OnOk};
 ghost use Rattle.sp_outside.specs.Told.{IsAtEnd};

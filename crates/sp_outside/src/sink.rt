@@ -1,4 +1,4 @@
-//! Where bytes go.
+//! Where bytes go: the trait `Sink`, and putting all bytes of a text.
 
 ghost use Rattle.std.specs.Prelude.{◌≡◌, ℕ, List, Option, ◌<◌, ◌≤◌, ◌++◌, take, length, IfOk, OnErr, OnOk};
 ghost use Rattle.sp_outside.specs.Counts.{Rose};

@@ -1,4 +1,4 @@
-//! Where input comes from.
+//! Where input comes from: the trait `Source`.
 
 ghost use Rattle.std.specs.Prelude.{◌≡◌, ℕ, List, Option, ◌<◌, ◌≤◌, take, drop, length, IfOk, OnErr};
 ghost use Rattle.sp_outside.specs.Told.{Shrinks, IsAtEnd};

@@ -1,4 +1,4 @@
--- The tests of names and channels.
+-- The tests of names and channels, as equalities.
 use Rattle.std.proofs.Common.{◌≡◌, Bool, true, false, ◌&&◌, ◌==◌, [], ◌∷◌, refl, ap, ◌∙◌, eqb-true, eq-eqb}
 use Rattle.sp_journal.specs.Names.{Name, Channel, same_name, same_channel}
 

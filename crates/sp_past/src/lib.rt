@@ -1,5 +1,17 @@
-//! The law of what processes know of a journal: what a process knows of another is always a prefix of that one's
-//! counted entries. So a count for each known process says all that a process knows.
+//! What a process knows of another is always a prefix of that one's counted entries. So a count for each known
+//! process says all that a process knows. This crate has the law alone.
+//!
+//! Laws:
+//! - `knows_prefixes`: in every journal in which no process makes an entry while its own offer waits, who knows a
+//!   counted entry of a process knows all earlier counted ones of that process, and nothing but counted entries is
+//!   known.
+//!
+//! To know:
+//! - Fork, open, send, receive and end are counted; a fault, a laid process and a pause are not.
+//! - `proofs/Prefixing.antt` keeps the law from entry to entry.
+//!
+//! To change:
+//! - What an entry teaches: `sp_journal/specs/Past.antt`, and `one_entry` in `proofs/Prefixing.antt`.
 #![tactic(auto)]
 
 ghost use Rattle.std.specs.Prelude.{List};

@@ -1,4 +1,4 @@
-//! The lines of an end.
+//! The lines of an end of a run.
 
 ghost use Rattle.std.specs.Prelude.{◌≡◌, ◌++◌, IfOk, OnOk};
 ghost use Rattle.std.specs.List.{flat_map};
