@@ -1,5 +1,5 @@
-//! Makes small programs and schedules, and runs them. Where no memory is left a part is missing, and the run is another.
-//! What is large is handed to `drop` before an answer is given, so that no proof looks into it there.
+//! Makes small programs and schedules, and runs them. Where no memory is left a part is missing, and the run is
+//! another. What is large is handed to `drop` before an answer is given, so that no proof looks into it there.
 
 use sp_base::{Boxed, Fault, Limits, List, Memory, Pair, Place, ProcName, Text};
 use sp_journal::End;

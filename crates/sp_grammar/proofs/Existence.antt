@@ -1,5 +1,5 @@
--- Tokens that the machine takes whole spell a program; and the tokens of a text spell one and break no rule, or one rule
--- is the first that they break.
+-- Tokens that the machine takes whole spell a program; and the tokens of a text spell one and break no rule, or one
+-- rule is the first that they break.
 use Rattle.std.proofs.Common.{◌≡◌, ℕ, true, List, [], ◌∷◌, Option, Some, ◌⊎◌, inl, inr, refl}
 use borrow.Author.Tests.{ltb-true}
 use Rattle.sp_base.specs.declared.place.Place.{Place}

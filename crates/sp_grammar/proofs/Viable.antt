@@ -1,4 +1,5 @@
--- Where the machine gets stuck is the first token with which the tokens are not viable, or with which a part lies too deep.
+-- Where the machine gets stuck is the first token with which the tokens are not viable, or with which a part lies too
+-- deep.
 use Rattle.std.proofs.Common.{◌≡◌, ℕ, suc, ◌<◌, ◌≤◌, Bool, true, false, ltb, List, [], ◌∷◌, ◌++◌, length, Option, Some, None, ◌⊎◌, inl, inr, refl, sym as back_of, ap, ◌∙◌, subst, append_assoc, arith}
 use borrow.Author.Tests.{ltb-true}
 use Rattle.std.proofs.lemmas.Bool.Decides.{nat_tests}

@@ -1,8 +1,9 @@
--- A machine on a stack of symbols that takes one token at a time, and gets stuck at the first token with which no program
--- goes on. It is how proofs find that place: the grammar says which tokens are a program, and the machine where others
--- cease to be the beginning of one. The parser's contracts say that it stops where the machine does, and a law of this crate
--- runs it to show that each text has a tree or a first broken rule. It is made of functions that compute on the tokens, so
--- that a run over known tokens reduces. A limit is how many parts a part may lie inside; with none, the tokens alone count.
+-- A machine on a stack of symbols that takes one token at a time, and gets stuck at the first token with which no
+-- program goes on. It is how proofs find that place: the grammar says which tokens are a program, and the machine
+-- where others cease to be the beginning of one. The parser's contracts say that it stops where the machine does, and
+-- a law of this crate runs it to show that each text has a tree or a first broken rule. It is made of functions that
+-- compute on the tokens, so that a run over known tokens reduces. A limit is how many parts a part may lie inside;
+-- with none, the tokens alone count.
 use Rattle.std.specs.Prelude.{◌≡◌, ℕ, ◌<◌, Bool, true, false, nat_lt, List, [], ◌∷◌, ◌++◌, Option, Some, None, length, ◌⊎◌}
 use Rattle.sp_tree.specs.declared.token.Token.{Token}
 use Rattle.sp_grammar.specs.Symbols.{Symbol, Value, part}

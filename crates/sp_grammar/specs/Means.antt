@@ -1,7 +1,8 @@
--- What each symbol is in the grammar of sp_tree, for the proofs that the table derives what the grammar says and nothing
--- else. One clause for each symbol, with the family of the grammar that it names. Where a symbol begins in the middle of a
--- line, the clause adds what is before it: the name before AfterName, the `;` before ArmOrEnd and FieldOrEnd, the left
--- operand before a relation, more terms or more factors. So every promise about symbols is one about lines of the grammar.
+-- What each symbol is in the grammar of sp_tree, for the proofs that the table derives what the grammar says and
+-- nothing else. One clause for each symbol, with the family of the grammar that it names. Where a symbol begins in
+-- the middle of a line, the clause adds what is before it: the name before AfterName, the `;` before ArmOrEnd and
+-- FieldOrEnd, the left operand before a relation, more terms or more factors. So every promise about symbols is one
+-- about lines of the grammar.
 use Rattle.std.specs.Prelude.{ℕ, suc, List, [], ◌∷◌}
 use Rattle.sp_tree.specs.declared.token.Token.{Token}
 use Rattle.sp_tree.specs.declared.syntax.Name.{Name}

@@ -1,9 +1,9 @@
--- The symbols of the grammar: what may be pending while the tokens are taken one by one, and what each stands for. The
--- table, the machine and the parser's contracts speak of them. A symbol is a line of the grammar, or a place inside a line
--- where the next token decides how it goes on: the rest of a list (More..), what may be missing (AnElse, AWidth, Formals,
--- AHeading), what follows a name (AfterName, AReference). They are cut so that one token is always enough to decide, which
--- makes the table a function of symbol and token. The rest of a sum or product is a function of what is before it, since
--- operators group to the left.
+-- The symbols of the grammar: what may be pending while the tokens are taken one by one, and what each stands for.
+-- The table, the machine and the parser's contracts speak of them. A symbol is a line of the grammar, or a place
+-- inside a line where the next token decides how it goes on: the rest of a list (More..), what may be missing
+-- (AnElse, AWidth, Formals, AHeading), what follows a name (AfterName, AReference). They are cut so that one token is
+-- always enough to decide, which makes the table a function of symbol and token. The rest of a sum or product is a
+-- function of what is before it, since operators group to the left.
 use Rattle.std.specs.Prelude.{ℕ, Bool, List, [], ◌∷◌, ◌++◌, Option, Some, None}
 use Rattle.sp_tree.specs.declared.token.Kind.{Kind}
 use Rattle.sp_tree.specs.declared.syntax.Name.{Name}

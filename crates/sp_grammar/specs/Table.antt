@@ -1,9 +1,9 @@
--- The table of the grammar: what each symbol leaves behind a token that it takes, and what it then stands for. A symbol
--- that takes none of its tokens may stand for nothing. Derives and the machine are both read off it, which makes them agree.
--- A row is first a member of a family (`Row s k l`: at a token of kind k the symbol s leaves the symbols l), so that a proof
--- goes by its cases and the type of what it builds is known; `rows` then lists the rows of each symbol, so that a row can be
--- looked up by a token. What several symbols begin with (the parts of a block, the forms of a statement, selectors, factors)
--- is a family of its own, and stands once.
+-- The table of the grammar: what each symbol leaves behind a token that it takes, and what it then stands for. A
+-- symbol that takes none of its tokens may stand for nothing. Derives and the machine are both read off it, which
+-- makes them agree. A row is first a member of a family (`Row s k l`: at a token of kind k the symbol s leaves the
+-- symbols l), so that a proof goes by its cases and the type of what it builds is known; `rows` then lists the rows
+-- of each symbol, so that a row can be looked up by a token. What several symbols begin with (the parts of a block,
+-- the forms of a statement, selectors, factors) is a family of its own, and stands once.
 use Rattle.std.specs.Prelude.{ℕ, suc, Bool, true, false, ◌==◌, cond, List, [], ◌∷◌, ◌++◌, map, Option, Some, None}
 use Rattle.sp_tree.specs.declared.token.Token.{Token}
 use Rattle.sp_tree.specs.declared.token.Kind.{Kind}

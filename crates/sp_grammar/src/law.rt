@@ -1,4 +1,5 @@
-//! Laws which show that the definitions are the right ones. The functions do nothing: what counts is their contracts.
+//! The laws of the grammar, which show that its definitions are the right ones. The functions do nothing: what counts
+//! is their contracts.
 
 ghost use Rattle.std.specs.Prelude.{◌≡◌, ◌⊎◌, ℕ, List, []};
 ghost use Rattle.sp_base.specs.declared.halt.Refusal.{Refusal};

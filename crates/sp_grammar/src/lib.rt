@@ -1,4 +1,26 @@
-//! What the grammar's definitions promise, and a machine on symbols that decides them token by token.
+//! Laws of the grammar: one tree, one first broken rule; and for the parser a machine on symbols that decides the
+//! grammar token by token, with its lemmas.
+//!
+//! Laws:
+//! - `one_list`: a text has at most one list of tokens.
+//! - `one_tree`: a list of tokens spells at most one program.
+//! - `one_first_bad`: at most one token is the first with which the tokens are no prefix of a program.
+//! - `one_verdict`: a text has at most one tree and at most one first broken rule of characters and grammar, and
+//!   never both.
+//! - `some_verdict`: a text that has tokens has a tree, or a rule that is the first it breaks.
+//!
+//! To know:
+//! - The grammar itself stands in `sp_tree`. `specs/Symbols.antt` cuts its lines into symbols, and `specs/Means.antt`
+//!   says what each symbol is in it.
+//! - `specs/Table.antt` has a row for each token that a symbol takes; `specs/Derives.antt` is what a symbol takes by
+//!   these rows, `specs/Machine.antt` takes one token at a time by them, and `specs/Stops.antt` is the rule that is
+//!   broken where the machine gets stuck.
+//! - `proofs/From.antt` and `To.antt` lead from `Derives` to the grammar and back, `Run.antt` to the machine,
+//!   `Firsts.antt` from where it gets stuck to the first broken rule.
+//!
+//! To change:
+//! - A line of the grammar: its rows and `build` in `specs/Table.antt`, a clause in `specs/Means.antt`,
+//!   `proofs/From.antt`, `proofs/To.antt`, `proofs/Completes.antt`.
 #![tactic(auto)]
 
 mod law;

@@ -1,4 +1,5 @@
--- What a step reads and writes is the process's to read and write, and what it comes to is fair (statements, calls, items).
+-- What a step of statements, calls and items reads and writes is the process's to read and write, and what it comes
+-- to is fair.
 use Rattle.std.proofs.Common.{◌≡◌, ◌≢◌, ◌⊎◌, inl, inr, ⊎_elim, sym, ap, ◌∙◌, subst, arith, ◌==◌, eqb-true, eq-eqb, ℕ, zero, suc, ◌+◌, ◌≤◌, Bool, true, false, List, [], ◌∷◌, ◌++◌, length, Option, Some, None, refl, if◌then◌else◌}
 use Rattle.std.specs.Prelude.{◌+ℤ◌, ◌-ℤ◌, ℤ, pos, nat_abs, slice_get, nat_lt, int_le, int_lt, take}
 use Rattle.sp_tree.specs.Plain.{Expr, Typed, Actuals, Var, Program, Variable, Block, Stmt, Empty, Assign, Call, Sequence, If, IfElse, While, Repeat, For, Case, Parallel, Forall, Assume, ReadValue, ReadLine, WriteValue, WriteText, WriteLine, Open, Send, Receive, Stmts, No, And, On, Arms, NoArm, Or}

@@ -1,4 +1,4 @@
--- Each fault, and which of two comes first: by computing.
+-- Worked programs for each fault, and for which of two comes first, by computing.
 use Rattle.std.proofs.Common.{◌≡◌, ℕ, List, [], ◌∷◌, Option, Some, None, refl}
 use Rattle.std.specs.Prelude.{pos}
 use Rattle.sp_tree.specs.declared.checked.KindOf.TheVariants as kind

@@ -1,4 +1,5 @@
--- Each step keeps what is known of the state: a pending offer's process waits, unborn children are absent, and the parent of a child that lives joins it.
+-- Each step keeps what is known of the state: a pending offer's process waits, unborn children are absent, and the
+-- parent of a child that lives joins it.
 use Rattle.std.proofs.Common.{◌≡◌, ◌≢◌, ◌⊎◌, ⊎_elim, inl, inr, ℕ, suc, ◌+◌, ◌<◌, ◌≤◌, le_refl, le_trans, Bool, true, false, cond, List, [], ◌∷◌, length, Option, Some, None, refl, sym, ap, ◌∙◌, subst, arith}
 use Rattle.sp_meaning.specs.Model.{Name, Channel, same_name, Totals, Language, Moves, Opens, Forks, Offering, Ends, Fails, Condition, Absent, Works, Waits, Joins, Ended, State, Change, Becomes, Forked, Adds, changed, after}
 use Rattle.sp_meaning.specs.Steps.{ActOf, OfferOf, ConditionOf, has_ended, Outcome, Advances, births, meeting, waiting, acts, WaitsOn, Lives, JoinsAt, Sound}

@@ -1,4 +1,4 @@
--- The sets one call at a time: what a closure over the calls computes.
+-- The sets of a program one call at a time: what a closure over the calls computes.
 use Rattle.std.proofs.Common.{◌⊎◌, inl, inr, ℕ, [], ◌∷◌}
 use Rattle.sp_tree.specs.Plain.{Program, Actuals}
 use Rattle.sp_tree.specs.Uses.{Use, Target, CallOf}

@@ -1,4 +1,4 @@
--- A process is due after two ticks, pauses, and ends.
+-- A worked process that is due after two ticks, pauses, and ends.
 use Rattle.std.proofs.Common.{ℕ, zero, suc, true, false, List, [], ◌∷◌, Option, Some, None, refl}
 use Rattle.sp_tree.specs.Plain.{Empty, For}
 use Rattle.sp_meaning.specs.Own.{Process}

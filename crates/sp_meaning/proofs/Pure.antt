@@ -1,4 +1,5 @@
--- Expressions are pure: what they call is functions alone, with values alone, and a function changes nothing outside itself.
+-- Expressions are pure: what they call is functions alone, with values alone, and a function changes nothing outside
+-- itself.
 use Rattle.std.proofs.Common.{◌≡◌, inl, inr, ℕ, zero, suc, List, [], ◌∷◌, Option, Some, None, map, refl, sym, ap, ◌∙◌, subst}
 use Rattle.std.specs.Prelude.{slice_get}
 use Rattle.sp_base.specs.declared.place.Place.{Place}

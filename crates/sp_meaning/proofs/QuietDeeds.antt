@@ -1,6 +1,7 @@
--- What a step leaves as it was. An expression writes nothing but cells of frames that calls made, and that are gone when it has its value.
--- So a step that forks, offers or ends, whose writes the meaning leaves out, wrote nothing that is still there; and one that fails
--- wrote nothing to the output.
+-- What a step that forks, offers, ends or fails leaves as it was, where expressions are pure. An expression writes
+-- nothing but cells of frames that calls made, and that are gone when it has its value. So a step that forks, offers
+-- or ends, whose writes the meaning leaves out, wrote nothing that is still there; and one that fails wrote nothing
+-- to the output.
 use Rattle.std.proofs.Common.{◌≡◌, ◌⊎◌, inl, inr, ⊎_elim, ℕ, ◌≤◌, List, [], ◌∷◌, length, Option, Some, None, Bool, true, false, if◌then◌else◌, cond, refl, sym, ap, ◌∙◌, subst, arith}
 use Rattle.std.specs.Prelude.{ℤ, pos, ◌+ℤ◌, ◌-ℤ◌, nat_abs, nat_lt, int_le, int_lt, slice_get, ◌+◌, ◌++◌}
 use Rattle.sp_base.specs.declared.fault.Fault.{Fault}

@@ -1,4 +1,4 @@
--- Reading goes on where it stopped: by computing.
+-- Worked programs in which reading goes on where it stopped, by computing.
 use Rattle.std.proofs.Common.{◌≡◌, ℕ, List, [], ◌∷◌, None, refl}
 use Rattle.sp_tree.specs.declared.checked.KindOf.TheVariants as kind
 use Rattle.sp_tree.specs.declared.checked.Role.TheVariants as role

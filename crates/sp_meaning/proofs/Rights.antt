@@ -1,4 +1,5 @@
--- Rights by names: a process has its own locations and those that its fork gave it; what one of two parallel ones may write the other has not.
+-- Rights by names: a process has its own locations and those that its fork gave it; what one of two parallel ones may
+-- write the other has not.
 use Rattle.std.proofs.Common.{◌≡◌, ◌≢◌, ◌⊎◌, inl, inr, ℕ, ◌<◌, List, [], ◌∷◌, ◌++◌, length, length-append, refl, sym, ap, ◌∙◌, subst, arith}
 use Rattle.std.specs.Prelude.{drop}
 use Rattle.sp_meaning.specs.Model.{Name}

@@ -1,4 +1,5 @@
--- Worked programs in one schedule or another, by computing. std's decimal digits do not compute here, so numbers are written as chars.
+-- Worked programs in one schedule or another, by computing. std's decimal digits do not compute here, so numbers are
+-- written as chars.
 use Rattle.std.proofs.Common.{◌≡◌, ℕ, List, [], ◌∷◌, Some, None, refl}
 use Rattle.std.specs.Prelude.{negsuc, pos}
 use Rattle.sp_base.specs.declared.fault.Fault.TheVariants as fault

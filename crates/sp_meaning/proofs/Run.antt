@@ -1,4 +1,4 @@
--- Running one after the other: the only place where the trees of reads and writes are seen.
+-- Computations run on a store one after the other: the only place where the trees of reads and writes are seen.
 use Rattle.std.proofs.Common.{◌≡◌, ◌∙◌, refl, sym, subst}
 use Rattle.sp_base.specs.declared.fault.Fault.{Fault}
 use Rattle.sp_meaning.specs.Asking.{answer}

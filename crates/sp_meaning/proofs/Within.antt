@@ -1,4 +1,4 @@
--- What an evaluation reads and writes is the process's to read and write (expressions).
+-- What the evaluation of an expression reads and writes is the process's to read and write.
 use Rattle.std.proofs.Common.{◌≡◌, inl, inr, sym, ap, ◌∙◌, subst, ℕ, Bool, true, false, List, [], ◌∷◌, Option, Some, None, refl, length, if◌then◌else◌}
 use Rattle.std.specs.Prelude.{ℤ, ◌-ℤ◌, nat_abs, slice_get, int_le, ◌&&◌, ◌++◌}
 use Rattle.sp_base.specs.declared.fault.Fault.{Fault}

@@ -1,4 +1,5 @@
--- Files in memory: the contracts of `MemoryLibrary` say by it what a name holds. Of files with one name the first counts.
+-- Files in memory: the contracts of `MemoryLibrary` say by it what a name holds. Of files with one name the first
+-- counts.
 use Rattle.std.specs.Prelude.{ℕ, List, Option}
 use Rattle.std.specs.Map.{lookup}
 use Rattle.std.specs.Str.{bytes_eq}

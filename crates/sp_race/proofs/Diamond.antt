@@ -1,4 +1,5 @@
--- The diamond: where one run is of good steps and ends stuck, each lawful schedule is the front of one that ends as it does.
+-- The diamond: where one run is of good steps and ends stuck, each lawful schedule is the front of one that ends as
+-- it does.
 use Rattle.std.proofs.Common.{◌≡◌, ◌≢◌, ◌⊎◌, ⊎_elim, ℕ, suc, List, [], ◌∷◌, length, Option, Some, None, refl, sym, subst, arith}
 use Rattle.sp_meaning.specs.Schedules.{System, Leads, IsStuck, EndsAlike}
 

@@ -1,5 +1,5 @@
--- For each rule of interference a program that breaks it, with the place, by computing, and beside it the nearest one that breaks
--- no rule of interference at all. Above each stands its text, by whose columns the places are.
+-- For each rule of interference a program that breaks it, with the place, by computing. Beside it stands the nearest
+-- program that breaks no rule of interference at all. Above each stands its text, by whose columns the places are.
 use Rattle.std.proofs.Common.{◌≡◌, inl, inr, ℕ, zero, suc, List, [], ◌∷◌, Some, None, refl, sym, subst, ap, ◌∙◌, arith}
 use Rattle.std.specs.Prelude.{◌+◌, pos, false, slice_get, codes}
 use Rattle.sp_base.specs.declared.place.Place.{Place}

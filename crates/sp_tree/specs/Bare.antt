@@ -1,5 +1,5 @@
--- The plain tree without places, which the meaning runs, of one with places. Contracts on a checked tree in memory say
--- by it what the tree means; places serve reports alone, so the meaning knows none.
+-- How places are left out of a plain checked tree, which gives the plain tree that the meaning runs. Contracts on a
+-- checked tree in memory say by it what the tree means; places serve reports alone, so the meaning knows none.
 use Rattle.std.specs.Prelude.{map, Option, Some, None}
 use Rattle.sp_tree.specs.declared.checked.Variable as memory
 use Rattle.sp_tree.specs.PlainChecked as p

@@ -1,5 +1,6 @@
--- The plain tree, with its places, of a checked one in memory. Contracts of the walks over the tree in memory speak of
--- plain trees by it. It is a fold on what memory holds, and definitions go by clauses on what it gives.
+-- The plain tree, with its places, of a checked one in memory: the one fold to it. Contracts of the walks over the
+-- tree in memory speak of plain trees by it. It is a fold on what memory holds, and definitions go by clauses on what
+-- it gives.
 use Rattle.std.specs.Prelude.{ℕ, ◌+◌, List, [], ◌∷◌, map, Option, Some, None}
 use Rattle.sp_base.specs.declared.place.Place.{Place}
 use Rattle.sp_tree.specs.declared.checked.Actual.TheOpen as e

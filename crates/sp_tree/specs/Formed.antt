@@ -1,5 +1,6 @@
--- What the phases of names and types give of every accepted tree beyond its use of names: its types are built of earlier ones, its
--- blocks and variables fit together, and what stands in a statement is of the kinds that it should be. The code of a tree rests on it.
+-- What the phases of names and types give of every accepted tree beyond its use of names: its types are built of
+-- earlier ones, its blocks and variables fit together, and what stands in a statement is of the kinds that it should
+-- be. The code of a tree rests on it.
 use Rattle.std.specs.Prelude.{◌≡◌, ◌≢◌, ℕ, suc, ◌≤◌, ℤ, int_le, List, [], ◌∷◌, Option, Some, None, Bool, true, false, if◌then◌else◌, length, slice_get}
 use Rattle.sp_tree.specs.declared.checked.KindOf.TheVariants as kind
 use Rattle.sp_tree.specs.declared.checked.Role.{Role}

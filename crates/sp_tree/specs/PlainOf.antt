@@ -1,4 +1,5 @@
--- The plain tree of a checked one in memory: its tree with places, without them.
+-- The plain tree of a checked one in memory, for each part of a tree. It is `CheckedOf`, the tree with its places,
+-- and then `Bare`, which leaves the places out.
 use Rattle.std.specs.Prelude.{List, [], ◌∷◌, map, Option}
 use Rattle.sp_tree.specs.declared.operators.StandardFn.{StandardFn}
 use Rattle.sp_tree.specs.declared.checked.Expr as ast_e

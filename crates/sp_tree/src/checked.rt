@@ -1,4 +1,4 @@
-//! The tree of an accepted text, with numbers for names.
+//! The tree of an accepted text, with numbers for names and the places of its parts.
 
 ghost use Rattle.std.specs.Prelude.{◌≡◌, ◌<◌};
 ghost use Rattle.sp_tree.specs.declared.checked.Expr.{size-Expr};

@@ -1,4 +1,4 @@
-//! The first of two broken rules.
+//! The order of broken rules, and the first of two, which a phase carries on as it walks.
 
 ghost use Rattle.std.specs.Prelude.{◌≡◌};
 ghost use Rattle.sp_tree.specs.First.{row, before};

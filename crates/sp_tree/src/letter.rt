@@ -1,4 +1,4 @@
-//! Letters.
+//! The lower case of a letter.
 
 ghost use Rattle.std.specs.Prelude.{◌≡◌};
 ghost use Rattle.sp_tree.specs.Characters.{lower as lower_case};

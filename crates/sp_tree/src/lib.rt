@@ -1,4 +1,56 @@
-//! The tokens and the trees of a program's text.
+//! The tokens and the trees of a program's text as plain data, and by definitions what is a program: the rules of
+//! characters, grammar, names and interference.
+//!
+//! Calls:
+//! - Types of a text: `Token`, `Kind`, with the numbers of words and signs in `word` and `sign`; `Syntax` and its
+//!   parts (`Syn..`), the tree that tokens spell; `Named` and its parts (`Named..`), the tree with numbers for names.
+//! - Types of an accepted text: `Checked`, `Block`, `Variable`, `Role`, `KindOf`, `Stmt`, `Form`, `Expr`, `ExprForm`,
+//!   `Var`, `Selector`, `Actual`, `Arm`; `BinaryOp`, `UnaryOp`, `StandardFn`, which the trees share; `Meaning`,
+//!   `Sort`, `Counts`, `Passing`, `StandardProcedure`.
+//! - `Expr::parts`, `SynExpr::parts`, `NamedExpr::parts`: the parts of an expression, each smaller than the whole. A
+//!   type with a `drop` of its own is taken apart in its own methods alone.
+//! - `row`, `before`: the row of a rule in the rule table, and which of two refusals is reported: the earlier one, or
+//!   at one place that of the earlier row.
+//! - `Found` (a refusal or none): `lesser` is the first of two, `breaks` and `breaks_if` make one. `Walked`: a part
+//!   of a tree with the first rule broken up to its end.
+//! - `lower`: the lower case of a letter, any other byte itself.
+//! - `MAX_TEXT`, `MAX_NAME`, `MAX_NESTING`: how many bytes a text and a name may have, how deep parts may lie.
+//!
+//! To know:
+//! - Each tree is said twice: in memory (`src/`), and as a plain one in types of specifications
+//!   (`specs/PlainSyntax.antt`, `PlainNamed`, `PlainChecked`, `Plain`), over which definitions go by cases.
+//!   `SyntaxOf`, `NamedOf` and `CheckedOf` are the folds from the one to the other. `Bare` leaves the places out of
+//!   `PlainChecked` and gives `Plain`, which the meaning runs; `PlainOf` is `CheckedOf` and `Bare` together.
+//! - Characters and grammar: `specs/Lexemes.antt`, `Scans`, `Grammar`, `Viable`, `Breaches`, `First`.
+//! - Names: `Scopes` (declarations that are visible), `NameRules` (a clause for each row of the rules), `NameWalk`
+//!   (what stands where), `NamedTree` (the tree) and `NameFirst` say which rule of names a program breaks first, or
+//!   its tree. `Found` is the order of broken rules that code carries on.
+//! - Interference: `Uses`, `Sets`, `Interference` are its rules by what a statement uses; `Sites` and `Interferes`
+//!   the same rules with their places, by clauses on `PlainChecked`. `proofs/NoBreach.antt` leads from the rules with
+//!   places to those without, `Unbroken` is a test that no rule is broken, `BreachRows` has a row for each rule.
+//! - `Formed` is what names and types give of every accepted tree; `Around` has the scopes around a place; `Cells`
+//!   the cells of types and frames.
+//! - `For` has the place of its variable's name and `ExprForm::Call` that of the called name, since rules are broken
+//!   there and neither is the place of the statement or expression.
+//! - `answer` of a block is the number of the variable with the role `Answer`; `Enumeration(n)` has n constants;
+//!   `succ` and `pred` have the type of their operand.
+//! - In the grammar each part asks `Ok` of its depth and of its tokens. `Ok` is `Any` for the plain grammar, and
+//!   `Shallow` where parts that begin in the tokens so far lie inside fewer than 200 others. Tokens that come after
+//!   do not count: a token is refused that begins a part too deep, and not the one before it with which only deep
+//!   programs go on.
+//! - G1 and L2 hold of a token and of all behind it; the first of them, by place and then by row, is the one that is
+//!   reported.
+//! - In `Named` the standard constants, types and the input and output stand first in the tables, at the place of the
+//!   program's name. Statements have no numbers there yet: one with several arguments becomes several statements only
+//!   with the checked tree.
+//! - The index of a `forall` is taken out of what stands in the element statement, not out of what calls carry: a
+//!   call never carries it, since its block is the one around.
+//!
+//! To change:
+//! - A form of statement or expression: `src/syntax.rt`, `specs/PlainSyntax.antt`, `SyntaxOf`, `Grammar`, and the
+//!   same for `src/checked.rt`, `PlainChecked`, `CheckedOf`, `Plain`, `Bare`.
+//! - A word or sign: `specs/Lexemes.antt`, `specs/Words.antt`, `src/word.rt`, `src/sign.rt`.
+//! - A rule of names: `specs/NameRules.antt`.
 #![tactic(auto)]
 
 mod checked;

@@ -1,4 +1,4 @@
-//! What a name stands for where it is visible.
+//! What a name stands for where it is visible, and what is counted of declarations.
 
 use crate::checked::Role;
 use crate::operators::StandardFn;

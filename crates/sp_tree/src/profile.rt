@@ -1,4 +1,4 @@
-//! The limits of the language's profile.
+//! The limits of the language's profile: of a text, of a name, and of parts inside others.
 
 /// How many bytes a text may have.
 pub const MAX_TEXT: usize = 1_048_576;

@@ -1,4 +1,4 @@
-//! The signs.
+//! The signs, each by its number in the list of signs.
 
 /// `+`
 pub const PLUS: u8 = 0;

@@ -1,4 +1,4 @@
-//! The tokens of a text.
+//! The tokens of a text: the kind, the bytes and the place of each.
 
 use sp_base::Place;
 

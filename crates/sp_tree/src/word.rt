@@ -1,4 +1,4 @@
-//! The reserved words, in the order of the alphabet.
+//! The reserved words, each by its number in the order of the alphabet.
 
 pub const AND: u8 = 0;
 
