@@ -1,4 +1,4 @@
-//! Clocks, and the verdicts on journals written by hand.
+//! Tests of clocks, and of the verdicts on journals written by hand.
 
 ghost use Rattle.sp_journal.specs.Births.{occurrences, IsNameable};
 ghost use Rattle.sp_past.specs.Prefixes.{IsQuiet};

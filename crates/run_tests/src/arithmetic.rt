@@ -1,4 +1,4 @@
-//! The calls of `sp_arithmetic`, each once.
+//! Tests of the calls of `sp_arithmetic`, each once.
 
 use sp_arithmetic::{
     absolute_of, binary, in_range, modulus, next_of, odd, previous_of, product, quotient,

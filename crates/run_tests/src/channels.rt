@@ -1,4 +1,4 @@
-//! Forks, joins and meetings on a channel.
+//! Tests of forks, joins and rendezvous on a channel.
 
 use crate::maker::{Ended, Maker, X, Y, is_run};
 use sp_base::{Fault, Memory};

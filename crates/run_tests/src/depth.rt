@@ -1,4 +1,4 @@
-//! A function that calls itself without end, on a thread with a large stack.
+//! The test of a function that calls itself without end, on a thread with a large stack.
 
 use crate::maker::{LIMITS, Maker, X, fault_of};
 use sp_base::{Fault, Limits, List};

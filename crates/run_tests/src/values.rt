@@ -1,4 +1,4 @@
-//! One process: what it writes, and the faults of its steps.
+//! Tests of one process: what it writes, and the faults of its steps.
 
 use crate::maker::{Ended, LIMITS, Maker, X, Y, is_run};
 use sp_base::{Boxed, Fault, Limits, MAXINT, Memory, Text};

@@ -1,4 +1,4 @@
-//! The smallest part of a variable.
+//! The smallest part of a variable: one cell.
 
 /// One cell of a variable. A boolean, a character or an enumerated value is kept as its ordinal number.
 #[derive(Clone, Copy, Debug, PartialEq, Eq)]

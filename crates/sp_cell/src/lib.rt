@@ -1,4 +1,23 @@
-//! Cells, the pieces that they form, and the plain map that a store is seen as.
+//! Cells, the pieces that they form, and the plain map that a store is seen as, with what frames, forks and joins do
+//! to it.
+//!
+//! Calls:
+//! - `Piece`: the cells of one variable, which contracts see as a list. `new` has undefined cells alone; `read`,
+//!   `write` and `copy_range` are of cells inside it, and leave the others; `len`, `cells`, `duplicate`.
+//! - Types: `Cell`; `Spot` (a variable of a frame), `Address` (a cell of one), `Handing` (what one child gets at a
+//!   fork).
+//!
+//! To know:
+//! - A variable is named by a frame of the run and a number in it. Each store numbers its frames itself, and a child
+//!   numbers the frame of its index without regard to frames of its parent that it does not know; so *held* speaks of
+//!   what the numbers mean (`View`), never of the numbers.
+//! - The definitions stand in `specs/Map.antt` (the map), `Frame.antt` (push and pop), `Fork.antt` (split and join)
+//!   and `Held.antt` (all stores of a run side by side). The laws over them, which have no representation in view,
+//!   stand in `specs/` too: `Laws`, `FrameLaws`, `HeldLaws`, `Partition`, `Plan`, `Steps`.
+//!
+//! To change:
+//! - What a store means: `specs/Map.antt`, `specs/Frame.antt`, `specs/Fork.antt`.
+//! - What all stores of a run keep: `specs/Held.antt`.
 #![tactic(auto)]
 
 mod cell;

@@ -1,4 +1,4 @@
-//! The cells of one variable.
+//! The cells of one variable, as a list.
 
 ghost use Rattle.std.specs.Prelude.{◌≡◌, ◌+◌, ◌<◌, ◌≤◌, IfOk, length, replicate, slice_index_or, slice_set};
 ghost use Rattle.sp_cell.specs.Lists.{overwritten};

@@ -1,4 +1,4 @@
--- Where the first unknown offer is looked for by halves.
+-- The search by halves for the first unknown offer: what each look-up says of the rest.
 use Rattle.std.proofs.Common.{◌≡◌, ℕ, ◌<◌, ◌≤◌, ◌↔◌, true, List, take, length, get_or, Some, slice_get, refl, sym, ap, ◌∙◌, subst, arith}
 use Rattle.std.proofs.lemmas.Option.{slice_get-get_or, get_or_from_slice_get}
 use Rattle.sp_journal.specs.declared.entry.Entry.{Entry}

@@ -1,4 +1,5 @@
-//! The judge's tables.
+//! The judge's tables, and what each entry does to them. They have a clock and a count of counted entries for each
+//! process, a line for each channel (the offer that waits, the last offer of each way), and a place for each entry.
 
 ghost use Rattle.std.specs.Prelude.{◌≡◌, ◌<◌, ◌≤◌, ◌+◌, ◌++◌, ◌∷◌, ◌↔◌, ℕ, [], Some, IsTrue, OnOk, IfOk, MatchOption, length, slice_get, slice_set, take};
 ghost use Rattle.sp_journal.specs.Births.{births};

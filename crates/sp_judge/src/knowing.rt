@@ -1,4 +1,5 @@
-//! What the process of the next entry knows of the offers before it.
+//! What the process of the next entry knows of the offers before it. Which counts are asked for is found beforehand;
+//! the first unknown offer is sought once, when a race is found.
 
 ghost use Rattle.std.specs.Prelude.{◌≡◌, ◌<◌, ◌≤◌, ◌↔◌, ℕ, Some, IsTrue, IfOk, MatchOption, length, slice_get, take};
 ghost use Rattle.sp_journal.specs.Births.{births};

@@ -1,3 +1,6 @@
+//! The laws of clocks and verdicts, and what a verdict promises of a run along a journal. The functions do nothing:
+//! each one's contract is a law.
+
 ghost use Rattle.std.specs.Prelude.{◌≡◌, ℕ, List, nat_lt};
 ghost use Rattle.sp_journal.specs.Names.{Name, Occurrence};
 ghost use Rattle.sp_journal.specs.Past.{judged};

@@ -1,3 +1,5 @@
+//! The laws of ordered runs, whose contracts are all that the functions have.
+
 ghost use Rattle.std.specs.Prelude.{◌≡◌, ℕ, ◌↔◌, ◌⊎◌, List, true};
 ghost use Rattle.sp_journal.specs.Names.{Name, Occurrence};
 ghost use Rattle.sp_journal.specs.Past.{AreOrdered};

@@ -1,4 +1,4 @@
--- The parts of calls and of steps, one after another.
+-- Calls and steps taken apart: their parts, one after another.
 use Rattle.std.proofs.Common.{◌≡◌, ℕ, suc, ◌+◌, List, [], ◌∷◌, Option, Some, None, refl, ap, ◌∙◌, sym, subst, arith, drop, slice_get}
 use Rattle.std.proofs.lemmas.Bool.{eq-eqb}
 use Rattle.sp_tree.specs.declared.checked.KindOf.{KindOf}

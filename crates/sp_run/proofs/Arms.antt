@@ -1,4 +1,4 @@
--- The arms of a case, one after another.
+-- The search through the arms of a `case`, one after another.
 use Rattle.std.proofs.Common.{◌≡◌, ℕ, zero, suc, ◌<◌, ◌≤◌, Bool, true, false, List, [], ◌∷◌, Option, Some, None, map, drop, length, get_or, refl, ap, ◌∙◌, sym, arith, rules}
 use Rattle.std.specs.Prelude.{ℤ}
 use Rattle.sp_tree.specs.declared.checked.Arm.{Arm, out-Arm, fold_out-Arm}

@@ -1,4 +1,4 @@
--- One computation after another, as calls tell of them.
+-- Computations one after another, as the contracts of calls tell of them.
 use Rattle.std.proofs.Common.{◌≡◌, ℕ, zero, suc, ◌+◌, ◌≤◌, Bool, true, false, List, [], ◌∷◌, ◌++◌, drop, length, Some, None, refl, ap, ◌∙◌, sym, arith, if◌then◌else◌, length-append}
 use Rattle.std.specs.Prelude.{ℤ, slice_get, not, replicate}
 use Rattle.std.proofs.lemmas.List.{length-replicate}

@@ -1,4 +1,4 @@
--- A name told from the root on, read from its end.
+-- Names that memory has from the root on are those of the definitions, read from the end.
 use Rattle.std.proofs.Common.{◌≡◌, ℕ, zero, suc, ◌-◌, ◌<◌, ◌≤◌, List, [], ◌∷◌, ◌++◌, map, reverse, take, length, get_or, refl, ap, ◌∙◌, sym, arith, add-one, sub-one}
 use Rattle.std.proofs.lemmas.List.{reverse-append, take_more}
 use Rattle.sp_base.specs.declared.name.Pair.{Pair}

@@ -1,4 +1,4 @@
--- What a value in memory is, form by form.
+-- What a value in memory stands for, form by form.
 use Rattle.std.proofs.Common.{◌≡◌, ℤ, List, map, rules, refl, ap, ◌∙◌, sym, arith}
 use Rattle.sp_run.specs.declared.value.Value.{Value, fold-roll-Value, roll-Value}
 use Rattle.sp_run.specs.declared.value.Value.TheViews.{the_lemmas}

@@ -1,5 +1,5 @@
--- What a call of the interpreter gives, against the definition of what it computes. All contracts on its work are said
--- in this word, with want of memory left free.
+-- What a call of the interpreter gives, against the definition of what it computes (`Implements`). All contracts on
+-- its work are said in this word, with want of memory left free.
 use Rattle.std.specs.Prelude.{◌≡◌}
 use denote.Bor.{Bor}
 use Rattle.sp_run.specs.declared.machine.Machine.{Machine}

@@ -1,5 +1,5 @@
--- What a schedule means: the longest lawful front of it, what it writes, and how it ends. The contract of
--- `meaning_run` promises it, in the words of sp_meaning alone.
+-- What a schedule means (`Means`): the longest lawful front of it, what it writes, and how it ends. The contract of
+-- `meaning_run` promises it, in the words of `sp_meaning` alone.
 use Rattle.std.specs.Prelude.{◌≡◌, ℕ, ◌<◌, Bool, true, false, List, [], ◌∷◌, ◌++◌, take, drop, length, map, reverse, Option, Some, None, if◌then◌else◌}
 use Rattle.sp_base.specs.declared.name.Pair.{Pair}
 use Rattle.sp_base.specs.declared.name.ProcName.{ProcName}

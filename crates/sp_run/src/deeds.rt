@@ -1,4 +1,4 @@
-//! What a step of a process does.
+//! What a step of a process does, to itself and to others.
 
 ghost use Rattle.std.specs.Prelude.{◌≡◌, ◌+◌, ◌++◌, IfOk, map, drop, length, nat_lt, replicate};
 ghost use Rattle.std.specs.Option.{option_copied, option_map};

@@ -1,4 +1,4 @@
-//! How a run ends.
+//! How a run ends, read off its state.
 
 ghost use Rattle.std.specs.Prelude.{◌≡◌, ◌++◌, ℕ, IfOk, OnOk, reverse, map, []};
 ghost use Rattle.sp_journal.specs.Names.{pairs_of, proc_name, chan_name};

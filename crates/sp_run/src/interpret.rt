@@ -1,4 +1,5 @@
-//! Expressions and statements, by their definitions, with every function that they call.
+//! Expressions and statements, by their definitions, with every function that they call. The small parts are in
+//! `acts.rt`, `bodies.rt`, `calls.rt` and `texts.rt`.
 
 ghost use Rattle.std.specs.Prelude.{◌≡◌, ◌∷◌, IfOk, map};
 ghost use Rattle.sp_tree.specs.PlainOf.{expr_of, form_of, var_of, stmt_of, arms_of, width_of, selectors_of, actuals_of};

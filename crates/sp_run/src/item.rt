@@ -1,4 +1,5 @@
-//! What a process has left to do.
+//! What a process has left to do. Several values on one channel are several items, which need no statement of their
+//! own in memory.
 
 ghost use Rattle.std.specs.Prelude.{◌≡◌, ◌∷◌, OnOk, map};
 ghost use Rattle.sp_tree.specs.PlainOf.{stmt_of, expr_of, var_of, sends, receives, stmts_of};

@@ -1,4 +1,5 @@
-//! What follows from the definitions. These functions do nothing: each one's contract is a law.
+//! The laws that the meaning and its text with the store passed along agree. The functions do nothing: each one's
+//! contract is a law.
 
 ghost use Rattle.std.specs.Prelude.{◌≡◌, ℕ, List, Some};
 ghost use Rattle.sp_tree.specs.Plain.{Expr};

@@ -1,4 +1,4 @@
-//! What a process works on: its own part, and the store.
+//! What a process works on: its own part, with the newest frame first, and the store.
 
 use crate::value::{Address, Loc, Name, Value};
 use sp_base::{Limits, List};

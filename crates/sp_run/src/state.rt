@@ -1,4 +1,5 @@
-//! The state of a run: what each process is doing, the store, the offers that are pending, totals and a fault.
+//! The state of a run: what each process is doing, the store, the offers that are pending, totals and a fault. Each
+//! part is a log of what happened.
 
 ghost use Rattle.std.specs.Prelude.{◌≡◌, ◌∷◌, [], List, IfOk, OnOk, Option, Some, None, length};
 ghost use Rattle.std.specs.Option.{option_copied, option_map};

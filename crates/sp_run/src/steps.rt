@@ -1,4 +1,5 @@
-//! One step of one process in a state.
+//! One step of one process in a state. A step that cannot be made changes nothing, and a faulting step keeps neither
+//! its writes nor its output.
 
 ghost use Rattle.std.specs.Prelude.{◌≡◌, ◌+◌, ◌+ℤ◌, ◌∷◌, [], IfOk, OnOk, Option, Some, None, length, map, pos, replicate};
 ghost use Rattle.std.specs.Option.{option_map};

@@ -1,4 +1,4 @@
-//! What a computation gives.
+//! What a computation gives: a value, how it ends without one, or want of memory.
 
 use sp_base::Fault;
 

@@ -1,4 +1,4 @@
-//! Items read and written.
+//! Items read from the input and written to the output.
 
 ghost use Rattle.std.specs.Prelude.{◌≡◌, ◌+◌, ◌<◌, ◌≤◌, ◌^◌, ◌++◌, ◌∷◌, [], IfOk, MatchOption, replicate, take, length, codes, if◌then◌else◌, pos};
 ghost use Rattle.std.specs.Fmt.{signed_decimal};

@@ -1,4 +1,4 @@
-//! How much one step may evaluate.
+//! The bound on the work of one step: how much it may evaluate.
 
 ghost use Rattle.std.specs.Prelude.{◌≡◌, IfOk, map};
 ghost use Rattle.sp_tree.specs.PlainOf.{expr_of, var_of, sends, receives, stmt_of, arms_of, blocks_of, program_of, stmts_of};

@@ -1,4 +1,4 @@
--- The numbers of a witness, entry by entry.
+-- The new numbers that the code gives the entries of a witness, entry by entry.
 use Rattle.std.proofs.Common.{◌≡◌, ◌≢◌, ⊎_elim, ℕ, ◌+◌, ◌-◌, ◌<◌, ◌≤◌, Bool, true, false, cond, ◌&&◌, ◌==◌, nat_lt, nat_le, List, [], ◌∷◌, ◌++◌, append_assoc, Option, Some, unwrap_or, length, get_or, take, drop, add-one, refl, sym, ap, ◌∙◌, arith}
 use Rattle.std.proofs.lemmas.Bool.{cases_eq}
 use Rattle.std.proofs.lemmas.Bool.Decides.{nat_tests}

@@ -1,4 +1,4 @@
--- The entries of a race are there, and the earlier one is an offer.
+-- The two entries of a race are there, and the earlier one is an offer.
 use Rattle.std.proofs.Common.{◌≡◌, ◌<◌, ℕ, zero, suc, List, [], ◌∷◌, length, Some, slice_get, refl, sym, ap, subst}
 use Rattle.std.specs.Option.{IfSome}
 use Rattle.std.proofs.lemmas.Option.{slice_get_within}

@@ -1,4 +1,4 @@
--- The tables number the witness.
+-- The tables of new numbers give the entries of the witness.
 use Rattle.std.proofs.Common.{◌≡◌, ℕ, zero, suc, ◌<◌, ◌≤◌, Bool, false, List, [], ◌∷◌, ◌++◌, append_assoc, map, take, drop, Option, Some, None, slice_get, refl, sym, ap, ◌∙◌, subst, arith}
 use Rattle.std.proofs.lemmas.List.{take-append-drop}
 use Rattle.sp_base.specs.declared.fault.Fault.TheVariants as fault

@@ -1,4 +1,5 @@
-//! What is promised of witnesses. These functions do nothing: what counts is their contracts.
+//! What is promised of witnesses and of the passes that find them. These functions do nothing but call one another:
+//! what counts is their contracts.
 
 ghost use Rattle.std.specs.Prelude.{◌≡◌, ◌<◌, ◌↔◌, ◌++◌, ◌∷◌, [], ℕ, IfSome, List, Some, None, length, map, slice_get, take};
 ghost use Rattle.sp_base.specs.declared.fault.Fault.TheVariants as fault;

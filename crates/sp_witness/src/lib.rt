@@ -1,4 +1,45 @@
-//! The witness of a race: a journal that leads to the contention of its two offers.
+//! The witness of a race: the journal in which its two offers contend. It has what the processes of the two offers
+//! knew just before them, with the pauses on the way, then the earlier offer, and then the fault F6 of the later
+//! one's process.
+//!
+//! Calls:
+//! - `witness`: exactly the witness of two offers of a journal without a fault, as a nameable journal with numbers of
+//!   its own. It asks that the journal is nameable, that no process makes an entry while its own offer waits, and
+//!   that the witness by names is that of a nameable journal.
+//!
+//! Laws:
+//! - `races_are_real`: of a run of a program that keeps the rules of interference, along a journal without a fault,
+//!   the witness of the least race is the journal of a run of the same program, input and limits, which ends in
+//!   contention of the two offers, with the fault F6.
+//! - `ordered_runs_never_contend`: the verdict on a run whose end is no fault is ordered exactly where no lawful
+//!   schedule of the program contends.
+//! - `runs_are_ordered_alike`: so of two runs of one program, input and limits, each with an end that is no fault,
+//!   both are ordered or neither is.
+//! - `one_pass_takes_the_first_part`, `flags_pick_the_first_part`: one pass backwards, by names and by numbers, takes
+//!   exactly the entries of the witness before the earlier offer.
+//! - `numbers_are_found`: the entries of a nameable journal are found again by its names.
+//! - `tables_number_the_witness`: tables of new numbers, filled forwards over the marked entries, give the entries of
+//!   the witness.
+//! - `races_have_offers`: the two entries of a race are there, the earlier one before the later one, and it is an
+//!   offer.
+//!
+//! To know:
+//! - `specs/Witness.antt` is the witness by names, `specs/Numbered.antt` by numbers.
+//! - The code goes over the run three times: forwards for whom each offer meets (`src/ties.rt`), backwards with the
+//!   set of the processes that are needed (`src/marks.rt`), and forwards for the new numbers (`src/numbers.rt`);
+//!   `src/race.rt` puts them together. `specs/Needed.antt`, `Flags.antt` and `Moved.antt` say the same of lists, and
+//!   `specs/Passes.antt` ties the tables to them.
+//! - That a race is real: `proofs/Independent.antt` and `Moving.antt` (a step that did not know of the one before it
+//!   could have been made first), `Pasts.antt` (who knows an entry knows what its process knew before it),
+//!   `Walking.antt` and `Back.antt` (from a journal to steps and back), `Shown.antt` (the run up to the later offer,
+//!   parted), `Real.antt`.
+//! - That the code's passes give the witness: `proofs/Passing.antt`, `Pass.antt` and `Flagging.antt` backwards;
+//!   `Moved.antt`, `Tables.antt` and `OwnFronts.antt` for the numbers; `Backwards.antt`, `Forwards.antt` and
+//!   `Whole.antt` for the code.
+//!
+//! To change:
+//! - Which entries stand in a witness: `specs/Witness.antt`, `specs/Needed.antt`, `specs/Flags.antt` and
+//!   `src/marks.rt`.
 #![tactic(auto)]
 
 mod laws;

@@ -1,4 +1,4 @@
-//! Which entries of a run are in the first part of a witness.
+//! The second pass, backwards: which entries of a run are in the first part of a witness.
 
 ghost use Rattle.std.specs.Prelude.{◌≡◌, ◌+◌, ◌<◌, ◌≤◌, ◌^◌, IfOk, OnOk, ℕ, None, length, take};
 ghost use Rattle.sp_journal.specs.Births.{at_start, births, NameableFrom};

@@ -1,4 +1,4 @@
-//! The marked entries of a run, with numbers of their own.
+//! The third pass, forwards: the marked entries of a run, with numbers of their own.
 
 ghost use Rattle.std.specs.Prelude.{◌≡◌, ◌+◌, ◌<◌, ◌≤◌, ◌^◌, ◌++◌, ◌∷◌, [], IfOk, OnOk, ℕ, cond, length, map};
 ghost use Rattle.sp_base.specs.declared.fault.Fault.TheVariants as fault;

@@ -1,4 +1,4 @@
-//! The witness of the two offers of a race.
+//! The witness of the two offers of a race, by the three passes.
 
 ghost use Rattle.std.specs.Prelude.{◌≡◌, ◌<◌, IfOk, IfSome, length, slice_get};
 ghost use Rattle.sp_journal.specs.Births.{occurrences, IsNameable};

@@ -1,4 +1,4 @@
-//! Whom the offers of a run meet.
+//! The first pass, forwards: whom the offers of a run meet.
 
 ghost use Rattle.std.specs.Prelude.{◌≡◌, ◌+◌, ◌<◌, ◌^◌, IfOk, OnOk, ℕ};
 ghost use Rattle.sp_journal.specs.Births.{Births, at_start, after_event, births, NameableFrom};

@@ -1,4 +1,4 @@
-//! The witnesses of journals written by hand.
+//! The test of the witness of a journal written by hand.
 
 ghost use Rattle.std.specs.Prelude.{◌≡◌, ◌<◌, IfSome, length, slice_get};
 ghost use Rattle.sp_journal.specs.Births.{occurrences, IsNameable};
