@@ -1,4 +1,4 @@
--- What stands at the front of a list that grew.
+-- A list that grew keeps what stood at its front.
 use Rattle.std.proofs.Common.{◌≡◌, List, ◌++◌, length, take, drop, sym, ap, ◌∙◌, append_assoc, take-append-drop}
 use Rattle.std.proofs.Math.Seq.{take-append_seam}
 

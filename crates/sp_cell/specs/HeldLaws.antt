@@ -1,5 +1,5 @@
--- A fork and a join keep the partition of all variables. The laws of sp_store promise it in their contracts; it is led
--- from one variable to one child, and from there to all stores.
+-- A fork and a join keep the partition of all variables. The laws of `sp_store` promise it in their contracts; it is
+-- led from one variable to one child, and from there to all stores.
 use Rattle.std.specs.Prelude.{◌≡◌, ◌≢◌, ◌⊎◌, ℕ, ◌+◌, if◌then◌else◌, Bool, List, [], ◌∷◌, ◌++◌, Option, None, Some, IsSome}
 use Rattle.std.proofs.Common.{sym, subst, ap, refl, ◌∙◌, arith, inl, inr}
 use Rattle.std.proofs.lemmas.Bool.{cases_eq}

@@ -1,5 +1,5 @@
--- What a fork leaves to whom, and that its joins give the map back. The contract of `split` promises it as laws of the
--- definition in Fork.antt, so that a wrong `handed` would be seen.
+-- What a fork leaves to whom, and that its joins give the map back. The contract of `split` promises it as laws of
+-- the definition in `Fork.antt`, so that a wrong `handed` would be seen.
 use Rattle.std.specs.Prelude.{◌≡◌, ℕ, ℤ, ◌<◌, ◌≢◌, List, [], ◌∷◌, ◌++◌, Option, None, Some, IsSome}
 use Rattle.std.proofs.Common.{sym, ap, refl, ◌∙◌, arith, inl, inr}
 use Rattle.std.specs.FinMap as map

@@ -1,4 +1,4 @@
--- The machine follows each symbol.
+-- The machine follows what each symbol derives by the table.
 use Rattle.std.proofs.Common.{◌≡◌, ℕ, ◌<◌, Bool, true, false, List, ◌∷◌, ◌++◌, length, Option, Some, None, ◌⊎◌, inl, inr, refl, ap, ◌∙◌}
 use Rattle.sp_tree.specs.declared.token.Token.{Token}
 use Rattle.sp_grammar.specs.Symbols.{Symbol, Value, Values, part}

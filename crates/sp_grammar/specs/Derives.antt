@@ -1,6 +1,6 @@
 -- What a symbol takes of the tokens, and what it then stands for, as the table has it: by the row of the next token,
--- or nothing where there is no row. It stands between two others: the grammar of sp_tree, a family for each line, in
--- which promises are written, and the machine, which takes one token at a time. Proofs show that it is the same as
+-- or nothing where there is no row. It stands between two others: the grammar of `sp_tree`, a family for each line,
+-- in which promises are written, and the machine, which takes one token at a time. Proofs show that it is the same as
 -- each of them, and the parser's contracts speak of it, since it goes by symbols as the parser does. It is a family
 -- of derivations and no function, so that it needs no measure and a proof goes by its two cases. `Ok` is asked of
 -- each part at its depth and its tokens, as in the grammar.

@@ -1,4 +1,4 @@
--- What each symbol is in the grammar of sp_tree, for the proofs that the table derives what the grammar says and
+-- What each symbol is in the grammar of `sp_tree`, for the proofs that the table derives what the grammar says and
 -- nothing else. One clause for each symbol, with the family of the grammar that it names. Where a symbol begins in
 -- the middle of a line, the clause adds what is before it: the name before AfterName, the `;` before ArmOrEnd and
 -- FieldOrEnd, the left operand before a relation, more terms or more factors. So every promise about symbols is one

@@ -1,4 +1,4 @@
--- Laws of names as the program keeps them.
+-- Different names stay different in the form in which the program keeps them.
 use Rattle.std.proofs.Common.{◌≡◌, List, [], ◌∷◌, ◌++◌, refl, sym, ap}
 use Rattle.sp_base.specs.declared.name.ProcName.{ProcName}
 use Rattle.sp_journal.specs.Names.{Name, pairs_of, proc_name}

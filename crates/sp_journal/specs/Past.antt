@@ -1,5 +1,5 @@
 -- What each process knows of a journal, and which journals are ordered. They speak of entries by names alone. The
--- contracts of the judge and of sp_race cite them: a verdict rests on what a process could know when it offered.
+-- contracts of the judge and of `sp_race` cite them: a verdict rests on what a process could know when it offered.
 use Rattle.std.specs.Prelude.{◌≡◌, ℕ, suc, zero, ◌+◌, Bool, true, false, cond, ◌||◌, ◌==◌, List, [], ◌∷◌, ◌++◌, length, Option, Some, None, slice_get}
 use Rattle.sp_journal.specs.declared.entry.Journal.{Journal}
 use Rattle.sp_journal.specs.Maps.{at_key}

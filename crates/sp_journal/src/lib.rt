@@ -5,13 +5,13 @@
 //! - `print_journal`: exactly the text of a nameable journal, in version 2.
 //! - `read_journal`: a nameable journal of which these bytes are the text, in version 1 (without `pause`) or 2, and
 //!   no other has it; or the number of the first bad line, and then they are the text of no journal.
-//! - `Journal`: `push` puts an entry last, or leaves the journal as it was; `birth` is how a process came to be, none
-//!   exactly for the root and for a number that no entry gave; `name` is the name of a process, which no other
-//!   process of the journal has. Both go over the whole journal.
-//! - `Ledger`: a journal with the tables of its names. `new`, `of` (a nameable journal), `into_journal`; `can_follow`
-//!   says exactly whether an entry can come next, `add` takes such a one in, or stays the ledger of the same journal.
-//!   `processes`, `channels` are how many there are; `birth`, `name`, `channel` are exactly what the journal gives to
-//!   a number that is there.
+//! - `Journal::push`: puts an entry last, or leaves the journal as it was where memory is refused.
+//! - `Journal::birth`: how a process came to be; none exactly for the root and for a number that no entry gave.
+//!   `Journal::name`: its name, which no other process of the journal has. Both go over the journal.
+//! - `Ledger`: a journal with the tables of its names, by `new` or by `of` (a nameable journal). `can_follow` says
+//!   exactly whether an entry can come next; `add` takes such a one in, or the journal stays the same.
+//! - `Ledger::processes`, `channels`: how many there are. `birth`, `name`, `channel`: exactly what the journal gives
+//!   to a number that is there. `into_journal`: the journal alone.
 //! - `Ledger::put_entry`: puts exactly the text of an entry that can come next last, or leaves the bytes as before.
 //!   `Way::word`: the way's text.
 //! - Types: `Entry`, `Event`, `Way`, `Birth`, `Opening`; `Note` (what one call of the kernel did); `End`, `Waiter`

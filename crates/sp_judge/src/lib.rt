@@ -1,15 +1,14 @@
 //! The judge: whether the result of a run depends on the schedule, by its journal and its end alone.
 //!
 //! Calls:
-//! - `verdict_of`: the verdict on a nameable journal in which no process makes an entry while its own offer waits:
-//!   `Unjudged` exactly where the end is a fault, else `Ordered` exactly where the order condition holds, else the
-//!   least race, by the later and then the earlier index.
+//! - `verdict_of`: `Unjudged` exactly where the end is a fault, else `Ordered` exactly where the order condition
+//!   holds, else the least race, by the later and then the earlier index. What it asks of the journal is told below.
 //! - `Clock`: a count for each process, 0 where it has no pair. `new` has none; `raise` and `merge` take the greater
 //!   counts, or leave all as they were; `knows` says whether the count is above a place.
 //!
 //! Laws:
-//! - `clocks_say_what_is_known`: in such a journal a counted entry is known exactly where the count of its process is
-//!   above the number of counted entries before it.
+//! - `clocks_say_what_is_known`: where no process makes an entry while its own offer waits, a counted entry is known
+//!   exactly where the count of its process is above the number of that one's counted entries before it.
 //! - `runs_are_quiet`: in every run along a journal no process makes an entry while its own offer waits.
 //! - `runs_without_a_fault_are_clean`: a run whose end is no fault has a journal without a fault.
 //! - `verdicts_are_exact`: a journal and an end have at most one verdict.
@@ -24,8 +23,8 @@
 //!   decides an entry.
 //! - `src/knowing.rt` says which counts are asked for, and seeks the first unknown offer once, when a race is found.
 //!   Clocks keep no other counts; `docs/MEANING.md` says when they are large.
-//! - The judge asks of a journal that it gives names and that no process makes an entry while its own offer waits.
-//!   Every run's journal keeps it, since a process that waits makes no step.
+//! - `verdict_of` asks of a journal that it is nameable and that no process makes an entry while its own offer waits.
+//!   Every run's journal keeps the second, since a process that waits makes no step.
 //! - What a verdict promises of a run along a journal is proved in `proofs/QuietRuns.antt` and
 //!   `proofs/RunVerdicts.antt`.
 //!

@@ -1,4 +1,5 @@
--- A fork hands over rights: each child gets those of its statement's variables, and keeps the invariant with them.
+-- A fork hands over rights: each child gets those of its statement's variables, and keeps the invariant behind
+-- disjointness with them.
 use Rattle.std.proofs.Common.{◌≡◌, ◌≢◌, inl, inr, ℕ, zero, suc, ◌==◌, ◌&&◌, Bool, true, false, List, [], ◌∷◌, length, Option, Some, None, refl, sym, ap, ◌∙◌, subst, arith, if◌then◌else◌, eqb-true, eq-eqb}
 use Rattle.std.specs.Prelude.{slice_get, ℤ}
 use Rattle.sp_tree.specs.declared.checked.Role.{Role}

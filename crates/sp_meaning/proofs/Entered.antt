@@ -1,4 +1,5 @@
--- A call keeps the invariant: what is sound for the call in the caller's frames makes the body sound in the new one.
+-- A call keeps the invariant behind disjointness: what is sound for the call in the caller's frames makes the body
+-- sound in the new one.
 use Rattle.std.proofs.Common.{◌≡◌, ◌≢◌, ◌⊎◌, inl, inr, ⊎_elim, ℕ, zero, suc, ◌<◌, ◌≤◌, ◌==◌, Bool, true, false, List, [], ◌∷◌, length, Option, Some, None, refl, sym, ap, ◌∙◌, subst, arith, if◌then◌else◌, eqb-true, eq-eqb}
 use Rattle.std.specs.Prelude.{slice_get}
 use Rattle.sp_tree.specs.declared.checked.Role.{Role}

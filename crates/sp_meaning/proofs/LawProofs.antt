@@ -1,4 +1,4 @@
--- The laws, as the contracts of laws.rt state them.
+-- The laws, as the contracts of `laws.rt` state them.
 use Rattle.std.proofs.Common.{◌≡◌, ◌≢◌, inl, inr, [], ◌++◌, Option, Some, None, refl, sym, ap, ◌∙◌, subst, append-nil}
 use Rattle.sp_base.specs.declared.fault.Fault.{Fault}
 use Rattle.sp_meaning.specs.Model.{Name, Moves, Opens, Forks, Offering, Ends, Fails}

@@ -1,4 +1,4 @@
--- The invariant behind disjointness, along every lawful schedule.
+-- The invariant behind disjointness holds along every lawful schedule.
 use Rattle.std.proofs.Common.{◌≡◌, ◌⊎◌, inl, inr, ⊎_elim, ℕ, zero, suc, ◌+◌, ◌<◌, ◌≤◌, ◌==◌, ◌&&◌, Bool, true, false, cond, List, [], ◌∷◌, length, Option, Some, None, refl, sym, ap, ◌∙◌, subst, arith, if◌then◌else◌, eq-eqb}
 use Rattle.std.specs.Prelude.{slice_get}
 use Rattle.sp_base.specs.declared.fault.Fault.{Fault}

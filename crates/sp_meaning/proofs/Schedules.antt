@@ -1,4 +1,4 @@
--- Fronts of lawful schedules.
+-- The front of a lawful schedule is lawful, of any system.
 use Rattle.std.proofs.Common.{List, [], ◌∷◌, ◌++◌, refl}
 use Rattle.sp_meaning.specs.Schedules.{System, Leads}
 

@@ -1,4 +1,4 @@
--- Entries of a journal by names, as the journal has them: those of sp_journal, under the names by which the meaning
+-- Entries of a journal by names, as the journal has them: those of `sp_journal`, under the names by which the meaning
 -- speaks of them.
 use Rattle.std.specs.Prelude.{Bool, true, false}
 pub use Rattle.sp_journal.specs.Names.{Happening, Opened, Forked, Offered, Ended, Faulted, Laid, Paused, Occurrence}

@@ -1,2 +1,2 @@
--- The operators, which the meaning and the code share: those of sp_tree, passed on.
+-- The operators, which the meaning and the code share: those of `sp_tree`, passed on.
 pub use Rattle.sp_tree.specs.Operators.{Worked, Yields, Faults, is_integer, integer, truth, ranged, successor, predecessor, modulo, same_ordinal, is_range, is_before, next_value, absolute, square, is_odd, unary_op, binary_op, least, greatest}

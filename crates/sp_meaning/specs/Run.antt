@@ -1,5 +1,5 @@
--- A computation run on a store, and what it meets: the form in which code is compared with it. sp_codegen's contracts
--- speak so, since a machine has one store and a computation a tree.
+-- A computation run on a store, and what it meets: the form in which code is compared with it. `sp_codegen`'s
+-- contracts speak so, since a machine has one store and a computation a tree.
 use Rattle.sp_base.specs.declared.fault.Fault.{Fault}
 use Rattle.sp_meaning.specs.Asking.{answer}
 use Rattle.sp_meaning.specs.Own.{Loc, Held, Own, Who, Came, Got, Bad, Lost, Long, Work, same_loc}

@@ -22,8 +22,9 @@
 //! To know:
 //! - `specs/Model.antt` and `Steps` are the processes, whatever their language; `Own`, `Asking`, `Eval`, `Deeds`,
 //!   `Turn` and `SuperPascal` are one process; `Runs`, `Along`, `Ends`, `Disjoint` are what is said of a run.
-//! - `Owning` is what each process has the right to, which `proofs/Started.antt`, `Deeding`, `Children` and `OneStep`
-//!   keep along a run.
+//! - `Owning` is what each process has the right to, which `proofs/Started.antt`, `Deeding`, `Children` and `Owned`
+//!   keep along a run. `proofs/QuietDeeds.antt`: what a step that forks, offers, ends or fails leaves as it was, where
+//!   expressions are pure (`Pure`).
 //! - Names have the newest step first, so that a parent is the tail. Texts have the oldest first, and the order of
 //!   names is by the oldest first.
 //! - The ticks that a process had made at its last entry are those after the operands of that step, functions called

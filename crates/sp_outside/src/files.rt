@@ -1,4 +1,4 @@
-//! Files of the system as a library. What they hold is not told.
+//! Files of the system as a library (`FileLibrary`). What they hold is not told, since no contract can say it.
 
 ghost use Rattle.std.specs.Prelude.{◌≡◌, None, IfOk, IfSome, take};
 

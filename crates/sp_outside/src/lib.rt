@@ -5,8 +5,8 @@
 //! known, and the clauses speak of that.
 //!
 //! Calls:
-//! - `Library::load`: all bytes under the name, at most `limit`; where they are told, `TooLong` comes exactly where
-//!   they are more and the call did not fail. What the library holds does not change.
+//! - `Library::load`: all bytes under the name, at most `limit`, where they are told; `TooLong` comes exactly where
+//!   they are more and the call did not fail. What the library holds stays.
 //! - `Source::take`: moves the next bytes into the front of the buffer, leaves the rest of the buffer, and says how
 //!   many; none into a buffer that is not empty means that nothing is left. Where it fails, no byte was moved.
 //! - `Sink::put`: takes the first bytes of the piece, at least one where it has any, and says how many. Where it
@@ -15,9 +15,9 @@
 //! - `read_all`: all bytes that the source has left, which are at most `limit`; the source is then at its end.
 //!   `TooLong` comes only where they are more.
 //! - `put_all`: puts all bytes; where it fails, the sink has got a first part of them.
-//! - `MemoryLibrary`, `MemorySource`, `MemorySink`: tell their bytes; the calls with the given numbers fail, and
-//!   those of a library with a name that is not there. `SureLibrary`, `SureSource`, `SureSink` never count a fault,
-//!   so none of their calls answers `Failed`.
+//! - `MemoryLibrary`, `MemorySource`, `MemorySink`: tell their bytes; exactly the calls with the given numbers fail,
+//!   and of a library those with a name that is not there.
+//! - `SureLibrary`, `SureSource`, `SureSink`: tell their bytes; none of their calls answers `Failed`.
 //! - `FileLibrary`, `StreamSource`, `StreamSink`: files of the system, and readers and writers of std.
 //! - `Failed`, `LoadError`, `ReadError`: what a call answers that gives or takes no bytes.
 //!

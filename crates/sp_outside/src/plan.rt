@@ -1,4 +1,5 @@
-//! Which calls of an outside in memory fail, and how many have failed.
+//! Which calls of an outside in memory fail, and how many have failed. A call number above 4,294,967,295 is in no
+//! list of failing calls, so the counter of calls may stay at its last value.
 
 ghost use Rattle.std.specs.Prelude.{◌≡◌, ◌≤◌};
 ghost use Rattle.sp_outside.specs.Counts.{Rose};

@@ -1,4 +1,6 @@
-//! Readers and writers of std as source and sink. What they give and get is not told.
+//! Readers and writers of std as source and sink (`StreamSource`, `StreamSink`). To a caller of the traits what they
+//! give and get is not told; their own clauses say it of readers and writers whose bytes are known. A put of no bytes
+//! writes nothing.
 
 ghost use Rattle.std.specs.Prelude.{◌≡◌, None, ◌<◌, ◌≤◌, take, drop, length, IfOk, OnErr};
 ghost use Rattle.std.specs.Io.KnownBytes.{Consumes, Appends, IsAtEnd};

@@ -1,10 +1,9 @@
-//! What a process knows of another is always a prefix of that one's counted entries. So a count for each known
-//! process says all that a process knows. This crate has the law alone.
+//! The law of what processes know of a journal: what a process knows of another is always a prefix of that one's
+//! counted entries. So a count for each known process says all that a process knows.
 //!
 //! Laws:
-//! - `knows_prefixes`: in every journal in which no process makes an entry while its own offer waits, who knows a
-//!   counted entry of a process knows all earlier counted ones of that process, and nothing but counted entries is
-//!   known.
+//! - `knows_prefixes`: where no process makes an entry while its own offer waits, who knows a counted entry of a
+//!   process knows all earlier counted ones of that process, and only counted entries are known.
 //!
 //! To know:
 //! - Fork, open, send, receive and end are counted; a fault, a laid process and a pause are not.

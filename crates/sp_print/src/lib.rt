@@ -6,9 +6,6 @@
 //!   that waits, or `fault FAULT NAME`.
 //! - `verdict_line`: exactly `ordered`, `unjudged`, or `race` with way, channel and the indices of the two offers.
 //!
-//! To know:
-//! - Each gives no bytes where memory is refused.
-//!
 //! To change:
 //! - A line: `specs/Lines.antt`, and its function in `src/refusal.rt`, `src/end.rt` or `src/verdict.rt`.
 #![tactic(auto)]

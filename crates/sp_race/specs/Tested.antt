@@ -1,5 +1,5 @@
 -- The order condition as a test that computes. A law of this crate says that it tells what the definition in
--- sp_journal says, so that rows can be computed.
+-- `sp_journal` says, so that rows can be computed.
 use Rattle.std.specs.Prelude.{ℕ, suc, Bool, true, false, ◌&&◌, if◌then◌else◌, List, [], ◌∷◌, ◌++◌, length, Option, Some, None}
 use Rattle.sp_journal.specs.declared.entry.Way.{Way}
 use Rattle.sp_journal.specs.Names.{Name, Channel, same_way, same_channel, Happening, Opened, Forked, Offered, Ended, Faulted, Laid, Paused, Occurrence}

@@ -4,14 +4,16 @@
 //! `sp_journal`, and whoever rests on the law calls it or cites it.
 //!
 //! Laws:
-//! - `ordered_runs_end_alike`: a program keeps the rules of interference; a run of n steps, along a journal without a
-//!   fault, has come to t, which is done or in a deadlock, and the order condition holds of the journal. Then every
-//!   lawful schedule has at most n names, meets no fault, and is the front of one with n names that leads to t.
+//! - `ordered_runs_end_alike`: where a run along an ordered journal without a fault, of a program that keeps the
+//!   rules of interference, is done or in a deadlock, each lawful schedule meets no fault and goes on to the same
+//!   state.
 //! - `order_conditions_agree`: to know the completion of each earlier offer of its way on its channel is the same as
 //!   to know the offer itself, in every journal.
 //! - `order_is_decided`: the order condition can be computed (`order_test`).
 //!
 //! To know:
+//! - `ordered_runs_end_alike` says more exactly that each lawful schedule has at most as many names as the run has
+//!   steps, and is the front of one with so many names.
 //! - `specs/Notes.antt` is what a judge notes beside a run; no step reads it.
 //! - `proofs/Commuting.antt` and `Rendezvous.antt` exchange two steps, `Diamond.antt` counts the steps of any system
 //!   with such exchanges, `Linking.antt` ties the notes to the journal's pasts, and `Verdict.antt` joins them along a

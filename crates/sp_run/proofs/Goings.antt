@@ -1,4 +1,4 @@
--- All names of a schedule that are left, one step after another.
+-- All that is left to do, one step after another.
 use Rattle.std.proofs.Common.{◌≡◌, ℕ, zero, suc, List, [], ◌∷◌, length, ◌-◌, ◌<◌, Option, Some, None, refl, ap, ◌∙◌, sym, arith, sub-one}
 use Rattle.sp_run.specs.declared.stop.Halted.{Halted}
 use Rattle.sp_meaning.specs.Own.{Setting, Item, Own, Who}

@@ -1,5 +1,5 @@
 -- Work with the store passed along: what a computation gives in this store, and the store after it. The interpreter
--- works so, and Agree.antt leads it to the meaning's trees of reads and writes.
+-- works so, and `Agree.antt` leads it to the meaning's trees of reads and writes.
 use Rattle.std.specs.Prelude.{ℕ, ◌+◌, ◌==◌, List, [], ◌∷◌, Option, Some, None, Bool, if◌then◌else◌, nat_lt, length}
 use Rattle.sp_base.specs.declared.fault.Fault.{Fault}
 use Rattle.sp_base.specs.declared.fault.Fault.TheVariants as fault

@@ -1,5 +1,5 @@
--- Statements in steps, with the store passed along: the meaning's Deeds, line by line, over the work of Direct.antt.
--- The interpreter promises it.
+-- Statements in steps, with the store passed along: the meaning's Deeds, line by line, over the work of
+-- `Direct.antt`. The interpreter promises it.
 use Rattle.std.specs.Prelude.{ℕ, zero, suc, ◌+◌, ◌-◌, ℤ, pos, ◌+ℤ◌, ◌-ℤ◌, nat_abs, int_lt, int_le, List, [], ◌∷◌, ◌++◌, Option, Some, None, Bool, true, false, if◌then◌else◌, nat_lt, length, take, slice_get}
 use Rattle.std.specs.Fmt.{signed_decimal}
 use Rattle.sp_base.specs.declared.fault.Fault.TheVariants as fault

@@ -1,5 +1,5 @@
--- The rules of interference, said of the whole program by paths, variables and sets. The promises of disjoint runs and
--- of verdicts require them; they stand apart from the walk that finds a breach, which is Interferes.antt.
+-- The rules of interference, said of the whole program by paths, variables and sets. The promises of disjoint runs
+-- and of verdicts require them; they stand apart from the walk that finds a breach, which is `Interferes.antt`.
 use Rattle.std.specs.Prelude.{◌≡◌, ◌⊎◌, ℕ, ◌<◌, List, [], ◌∷◌, Some, slice_get}
 use Rattle.sp_tree.specs.declared.checked.Role.TheVariants as role
 use Rattle.sp_tree.specs.Plain.{Entire, ByValue, ByReference, Actuals, Nothing, Pass, Program, Variable, Block, Stmt, Stmts, No, And}

@@ -1,5 +1,5 @@
 -- The rules of interference that a program breaks, each with its place, by clauses on the tree with places. The
--- contract of the check promises the first of these, and a law says that none means the rules of Interference.antt.
+-- contract of the check promises the first of these, and a law says that none means the rules of `Interference.antt`.
 use Rattle.std.specs.Prelude.{◌≡◌, ◌⊎◌, ℕ, ◌≤◌, List, [], ◌∷◌, Some, slice_get}
 use Rattle.sp_base.specs.declared.place.Place.{Place}
 use Rattle.sp_base.specs.declared.rule.Rule.{Rule}

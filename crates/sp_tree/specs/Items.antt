@@ -1,5 +1,5 @@
 -- Numbers read from the input, and items as they are written. The meaning and the machine's definition share it, so
--- that both read and write the same bytes; sp_items promises it.
+-- that both read and write the same bytes; `sp_items` promises it.
 use Rattle.std.specs.Prelude.{ℕ, suc, ◌+◌, ◌-◌, ◌*◌, ◌%◌, ◌==◌, nat_abs, ℤ, pos, neg_ℤ, List, [], ◌∷◌, ◌++◌, Bool, true, false, ◌||◌, if◌then◌else◌, int_le, length, take, drop, replicate, codes}
 use Rattle.sp_base.specs.declared.fault.Fault.{Fault}
 use Rattle.sp_base.specs.declared.fault.Fault.TheVariants as fault

@@ -1,5 +1,5 @@
 -- The first broken rule of names of a program, and what resolving its names gives: the contract of the resolution.
--- Each is one line over the walk of NameWalk.antt.
+-- Each is one line over the walk of `NameWalk.antt`.
 use Rattle.std.specs.Prelude.{List, [], ◌++◌, None, Result}
 use Rattle.sp_base.specs.declared.halt.Refusal.{Refusal}
 use Rattle.sp_tree.specs.PlainNamed as n

@@ -1,5 +1,6 @@
 -- All that stands in a program for the rules of names, with the declarations visible there. `join` puts together what
--- is found at the sites: lists give all broken rules, `lesser` the first. The contracts of sp_scope follow its parts.
+-- is found at the sites: lists give all broken rules, `lesser` the first. The contracts of `sp_scope` follow its
+-- parts.
 use Rattle.std.specs.Prelude.{ℕ, suc, ◌+◌, ◌&&◌, List, [], ◌∷◌, ◌++◌, map, Bool, true, false, if◌then◌else◌, Option, Some, None}
 use Rattle.sp_base.specs.declared.place.Place.{Place}
 use Rattle.sp_tree.specs.declared.checked.Role.{Role}

@@ -1,5 +1,5 @@
 -- The tree with numbers for names in types of specifications: definitions by clauses compute on it, and proofs go by
--- its cases. The rules of types and the contracts of sp_scope and sp_types speak of it.
+-- its cases. The rules of types and the contracts of `sp_scope` and `sp_types` speak of it.
 use Rattle.std.specs.Prelude.{ℕ, List, Option, Bool}
 use Rattle.sp_base.specs.declared.place.Place.{Place}
 use Rattle.sp_tree.specs.declared.operators.UnaryOp.{UnaryOp}

@@ -1,5 +1,5 @@
 -- The syntax tree in types of specifications: definitions by clauses compute on it, and proofs go by its cases. The
--- grammar, the rules of names and the contracts of the parser, the formatter and sp_scope speak of it.
+-- grammar, the rules of names and the contracts of the parser, the formatter and `sp_scope` speak of it.
 use Rattle.std.specs.Prelude.{ℕ, List, Option, Bool}
 use Rattle.sp_base.specs.declared.place.Place.{Place}
 use Rattle.sp_tree.specs.declared.operators.UnaryOp.{UnaryOp}

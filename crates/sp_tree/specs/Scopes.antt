@@ -1,5 +1,5 @@
 -- The declarations that are visible at a place: those of the innermost block, and those of the blocks around it. The
--- rules of names ask it, and the tables of sp_scope promise it.
+-- rules of names ask it, and the tables of `sp_scope` promise it.
 use Rattle.std.specs.Prelude.{ℕ, ◌+◌, nat_le, List, [], ◌∷◌, Option, Some, None, if◌then◌else◌, codes}
 use Rattle.std.specs.Map.{lookup}
 use Rattle.std.specs.Str.{bytes_eq}

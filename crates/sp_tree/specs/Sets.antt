@@ -1,5 +1,5 @@
--- The variables that a statement uses, by paths of calls: the meaning of the sets that sp_varsets computes. It is said
--- by paths, and not by a closure, so that it shares nothing with the computation.
+-- The variables that a statement uses, by paths of calls: the meaning of the sets that `sp_varsets` computes. It is
+-- said by paths, and not by a closure, so that it shares nothing with the computation.
 use Rattle.std.specs.Prelude.{◌≡◌, ◌⊎◌, ℕ, zero, suc, List, [], ◌∷◌, Some, slice_get}
 use Rattle.sp_tree.specs.Plain.{Actuals, Program, Variable, Block}
 use Rattle.sp_tree.specs.Uses.{Use, Target, Seen, CallOf, ParallelOf, ForallOf, Stop, In_stmt}

@@ -1,5 +1,5 @@
 -- Where the rules of interference look, by clauses on the tree with places: forks, loops, calls and what a function
--- may not have. Interferes.antt tells the breaches at each site, and sp_interfere looks at the same ones.
+-- may not have. `Interferes.antt` tells the breaches at each site, and `sp_interfere` looks at the same ones.
 use Rattle.std.specs.Prelude.{ℕ, List, [], ◌∷◌, ◌++◌, Option, Some, None}
 use Rattle.sp_base.specs.declared.place.Place.{Place}
 use Rattle.sp_tree.specs.PlainChecked.{Expression, At, ExpressionForm, Number, Read, Unary, Binary, Apply, Standard, Variable, Entire, Selectors, Whole, Select, Index, Field, Actuals, Nothing, Pass, ByValue, ByReference, NoExpression, AndExpression, Statement, Does, Form, Empty, Assign, Call, Sequence, If, While, Repeat, For, Case, Parallel, Forall, Assume, ReadValue, ReadLine, WriteValue, WriteText, WriteLine, Open, Send, Receive, NoElse, Else, Statements, NoStatement, AndThen, On, Arms, NoArm, Or}

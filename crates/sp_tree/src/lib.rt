@@ -5,10 +5,11 @@
 //! - Types of a text: `Token`, `Kind`, with the numbers of words and signs in `word` and `sign`; `Syntax` and its
 //!   parts (`Syn..`), the tree that tokens spell; `Named` and its parts (`Named..`), the tree with numbers for names.
 //! - Types of an accepted text: `Checked`, `Block`, `Variable`, `Role`, `KindOf`, `Stmt`, `Form`, `Expr`, `ExprForm`,
-//!   `Var`, `Selector`, `Actual`, `Arm`; `BinaryOp`, `UnaryOp`, `StandardFn`, which the trees share; `Meaning`,
-//!   `Sort`, `Counts`, `Passing`, `StandardProcedure`.
-//! - `Expr::parts`, `SynExpr::parts`, `NamedExpr::parts`: the parts of an expression, each smaller than the whole. A
-//!   type with a `drop` of its own is taken apart in its own methods alone.
+//!   `Var`, `Selector`, `Actual`, `Arm`.
+//! - Types that the trees share: `BinaryOp`, `UnaryOp`, `StandardFn`; and for names `Meaning`, `Sort`, `Counts`,
+//!   `Passing`, `StandardProcedure`.
+//! - `Expr::parts`, `SynExpr::parts`, `NamedExpr::parts`: the parts of an expression, whose form is smaller than the
+//!   whole. A type with a `drop` of its own is taken apart in its own methods alone.
 //! - `row`, `before`: the row of a rule in the rule table, and which of two refusals is reported: the earlier one, or
 //!   at one place that of the earlier row.
 //! - `Found` (a refusal or none): `lesser` is the first of two, `breaks` and `breaks_if` make one. `Walked`: a part

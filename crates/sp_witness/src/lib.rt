@@ -3,14 +3,12 @@
 //! one's process.
 //!
 //! Calls:
-//! - `witness`: exactly the witness of two offers of a journal without a fault, as a nameable journal with numbers of
-//!   its own. It asks that the journal is nameable, that no process makes an entry while its own offer waits, and
-//!   that the witness by names is that of a nameable journal.
+//! - `witness`: exactly the witness of two offers of a nameable journal without a fault, as a nameable journal with
+//!   numbers of its own.
 //!
 //! Laws:
-//! - `races_are_real`: of a run of a program that keeps the rules of interference, along a journal without a fault,
-//!   the witness of the least race is the journal of a run of the same program, input and limits, which ends in
-//!   contention of the two offers, with the fault F6.
+//! - `races_are_real`: of a run along a journal without a fault, of a program that keeps the rules of interference,
+//!   the witness of the least race is the journal of a run that ends in contention of its offers, with F6.
 //! - `ordered_runs_never_contend`: the verdict on a run whose end is no fault is ordered exactly where no lawful
 //!   schedule of the program contends.
 //! - `runs_are_ordered_alike`: so of two runs of one program, input and limits, each with an end that is no fault,
@@ -20,10 +18,12 @@
 //! - `numbers_are_found`: the entries of a nameable journal are found again by its names.
 //! - `tables_number_the_witness`: tables of new numbers, filled forwards over the marked entries, give the entries of
 //!   the witness.
-//! - `races_have_offers`: the two entries of a race are there, the earlier one before the later one, and it is an
-//!   offer.
+//! - `races_have_offers`: the two entries of a race are there, the earlier one before the later one, and the
+//!   earlier one gives no number, as an offer.
 //!
 //! To know:
+//! - `witness` asks also that no process of the journal makes an entry while its own offer waits, and that the
+//!   witness by names is that of a nameable journal, as for the least race of a program's run.
 //! - `specs/Witness.antt` is the witness by names, `specs/Numbered.antt` by numbers.
 //! - The code goes over the run three times: forwards for whom each offer meets (`src/ties.rt`), backwards with the
 //!   set of the processes that are needed (`src/marks.rt`), and forwards for the new numbers (`src/numbers.rt`);
