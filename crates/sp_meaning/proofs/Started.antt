@@ -1,4 +1,5 @@
--- A program that keeps the rules is disjoint.
+-- A program that keeps the rules is disjoint. Of the rules it needs I1, I2, I4 and I5, and what names and types give
+-- of the tree.
 use Rattle.std.proofs.Common.{◌≡◌, ◌≢◌, inl, inr, ℕ, zero, suc, ◌<◌, ◌==◌, Bool, true, false, List, [], ◌∷◌, Option, Some, None, refl, sym, ◌∙◌, subst, arith, if◌then◌else◌, nat_lt}
 use Rattle.std.specs.Prelude.{slice_get}
 use Rattle.sp_tree.specs.declared.checked.Role.{Role}

@@ -1,6 +1,7 @@
 -- The way of a run along a journal: the states between its entries, with the ticks that each entry fixes. The
 -- headline of a run, the judge's promises and `sp_link` go by it, since a journal alone says how far each process
--- went.
+-- went. The ticks that a process had made at its last entry are those after the operands of that step, functions
+-- called there included.
 use Rattle.std.specs.Prelude.{◌≡◌, ℕ, zero, suc, ◌+◌, Bool, true, false, cond, ◌&&◌, ◌||◌, if◌then◌else◌, nat_le, List, [], ◌∷◌, Some, None}
 use Rattle.sp_meaning.specs.Model.{Name, Condition, Absent, Works, Waits, Joins, Ended, same_name}
 use Rattle.sp_meaning.specs.Own.{Setting, Held, Address, Process}

@@ -37,7 +37,7 @@
 //!
 //! To change:
 //! - A statement: `specs/Deeds.antt` (`start`, `push`) and a line in `proofs/EnoughSteps.antt`.
-//! - An operator: `specs/Operators.antt`.
+//! - An operator: `sp_tree/specs/Operators.antt`, which `specs/Operators.antt` passes on.
 #![tactic(auto)]
 
 mod laws;

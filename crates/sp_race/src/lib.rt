@@ -5,15 +5,15 @@
 //!
 //! Laws:
 //! - `ordered_runs_end_alike`: where a run along an ordered journal without a fault, of a program that keeps the
-//!   rules of interference, is done or in a deadlock, each lawful schedule meets no fault and goes on to the same
-//!   state.
+//!   rules of interference, is done or in a deadlock, every lawful schedule meets no fault and can end so too.
 //! - `order_conditions_agree`: to know the completion of each earlier offer of its way on its channel is the same as
 //!   to know the offer itself, in every journal.
 //! - `order_is_decided`: the order condition can be computed (`order_test`).
 //!
 //! To know:
 //! - `ordered_runs_end_alike` says more exactly that each lawful schedule has at most as many names as the run has
-//!   steps, and is the front of one with so many names.
+//!   steps, and is the front of one with so many names that leads to the same state: so output and end are those of
+//!   the run.
 //! - `specs/Notes.antt` is what a judge notes beside a run; no step reads it.
 //! - `proofs/Commuting.antt` and `Rendezvous.antt` exchange two steps, `Diamond.antt` counts the steps of any system
 //!   with such exchanges, `Linking.antt` ties the notes to the journal's pasts, and `Verdict.antt` joins them along a

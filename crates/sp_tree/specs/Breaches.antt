@@ -1,5 +1,6 @@
 -- The rules of the grammar that a list of tokens breaks, and the first rule that a text breaks. The contracts of the
--- parser, the formatter and the front cite it. It asks which tokens could go on, and not what a parser does.
+-- parser, the formatter and the front cite it. It asks which tokens could go on, and not what a parser does. G1 and
+-- L2 hold of a token and of all behind it; the first of them, by place and then by row, is the one that is reported.
 use Rattle.std.specs.Prelude.{◌≡◌, ℕ, List, [], ◌∷◌, ◌++◌, length, ◌⊎◌}
 use Rattle.sp_base.specs.declared.place.Place.{Place}
 use Rattle.sp_base.specs.declared.halt.Refusal.{Refusal}

@@ -1,5 +1,6 @@
--- The first of the broken rules so far, and what a phase answers. The walks over names, types and interference promise
--- their answers in these words, each with memory's refusal left free.
+-- The first of the broken rules so far, and what a phase answers. The walks over names, types and interference
+-- promise their answers in these words, each with memory's refusal left free. It is the order of broken rules that
+-- code carries on.
 use Rattle.std.specs.Prelude.{◌≡◌, List, [], ◌∷◌, Bool, true, false, if◌then◌else◌, Option, Some, None, Result, Ok, Err}
 use Rattle.sp_base.specs.declared.place.Place.{Place}
 use Rattle.sp_base.specs.declared.rule.Rule.{Rule}

@@ -1,5 +1,7 @@
 -- What stands in a statement: the positions of variables, the calls, the forks. The sets, the rules of interference
--- and the facts of code ask it by occurrence, so that each question is one relation on the tree.
+-- and the facts of code ask it by occurrence, so that each question is one relation on the tree. The index of a
+-- `forall` is taken out of what stands in the element statement, not out of what calls carry: a call never carries
+-- it.
 use Rattle.std.specs.Prelude.{◌≡◌, ◌≢◌, ◌⊎◌, ℕ, Option, Some, None}
 use Rattle.sp_tree.specs.Plain.{Expr, Typed, ExprForm, Number, Read, Unary, Binary, Apply, Standard, AtInput, Var, Entire, Index, Field, Selectors, Whole, Select, ByValue, ByReference, Actuals, Nothing, Pass, Stmt, Empty, Assign, Call, Sequence, If, IfElse, While, Repeat, For, Case, Parallel, Forall, Assume, ReadValue, ReadLine, WriteValue, WriteText, WriteLine, Open, Send, Receive, Stmts, No, And, On, Arms, NoArm, Or}
 

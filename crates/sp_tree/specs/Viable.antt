@@ -1,5 +1,6 @@
--- Which tokens spell a program, and which are the beginning of some program. The first bad token is defined by it, for
--- the parser's refusal.
+-- Which tokens spell a program, and which are the beginning of some program. The first bad token is defined by it,
+-- for the parser's refusal. Where the grammar asks `Ok` of a part, `Any` asks nothing, and `Shallow` that a part
+-- which begins in the tokens so far lies inside fewer parts than the limit.
 use Rattle.std.specs.Prelude.{◌≡◌, ℕ, ◌<◌, List, [], ◌∷◌, ◌++◌, length}
 use Rattle.sp_tree.specs.declared.token.Token.{Token}
 use Rattle.sp_tree.specs.PlainSyntax.{Program}

@@ -1,4 +1,5 @@
-//! The tree of an accepted text, with numbers for names and the places of its parts.
+//! The tree of an accepted text, with numbers for names and the places of its parts. `For` has the place of its
+//! variable's name and `ExprForm::Call` that of the called name, since rules are broken there.
 
 ghost use Rattle.std.specs.Prelude.{◌≡◌, ◌<◌};
 ghost use Rattle.sp_tree.specs.declared.checked.Expr.{size-Expr};

@@ -1,4 +1,6 @@
-//! The tree with numbers for names, before types are known.
+//! The tree with numbers for names, before types are known. The standard constants, types and the input and output
+//! stand first in the tables, at the place of the program's name. Statements have no numbers yet: one with several
+//! arguments becomes several statements only with the checked tree.
 
 ghost use Rattle.std.specs.Prelude.{◌≡◌, ◌<◌};
 ghost use Rattle.sp_tree.specs.declared.named.NamedExpr.{size-NamedExpr};

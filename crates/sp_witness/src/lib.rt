@@ -9,10 +9,10 @@
 //! Laws:
 //! - `races_are_real`: of a run along a journal without a fault, of a program that keeps the rules of interference,
 //!   the witness of the least race is the journal of a run that ends in contention of its offers, with F6.
-//! - `ordered_runs_never_contend`: the verdict on a run whose end is no fault is ordered exactly where no lawful
-//!   schedule of the program contends.
-//! - `runs_are_ordered_alike`: so of two runs of one program, input and limits, each with an end that is no fault,
-//!   both are ordered or neither is.
+//! - `ordered_runs_never_contend`: the verdict on a run whose end is no fault, of a program that keeps the rules of
+//!   interference, is ordered exactly where no lawful schedule of the program contends.
+//! - `runs_are_ordered_alike`: so of two such runs on one input and with the same limits both are ordered, or neither
+//!   is.
 //! - `one_pass_takes_the_first_part`, `flags_pick_the_first_part`: one pass backwards, by names and by numbers, takes
 //!   exactly the entries of the witness before the earlier offer.
 //! - `numbers_are_found`: the entries of a nameable journal are found again by its names.
@@ -22,8 +22,9 @@
 //!   earlier one gives no number, as an offer.
 //!
 //! To know:
-//! - `witness` asks also that no process of the journal makes an entry while its own offer waits, and that the
-//!   witness by names is that of a nameable journal, as for the least race of a program's run.
+//! - `witness`, and the laws of passes and tables, ask that no process of the journal makes an entry while its own
+//!   offer waits, and `witness` that the witness by names is that of a nameable journal, as for the least race of a
+//!   program's run.
 //! - `specs/Witness.antt` is the witness by names, `specs/Numbered.antt` by numbers.
 //! - The code goes over the run three times: forwards for whom each offer meets (`src/ties.rt`), backwards with the
 //!   set of the processes that are needed (`src/marks.rt`), and forwards for the new numbers (`src/numbers.rt`);
