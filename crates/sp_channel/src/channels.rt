@@ -58,8 +58,8 @@ impl Channels {
         }
     }
 
-    /// Opens a channel for a process, and gives its number, which is the count of channels before. Nothing is pending
-    /// on it. Where memory is refused, the channels are unchanged.
+    /// Opens a channel, and gives its number, which is the count of channels before. Nothing is pending on it. Whose it
+    /// is makes no difference. Where memory is refused, the channels are unchanged.
     pub fn open(&mut self, _owner: u32) -> Result<u32, Memory>
         requires { length self.old < 4294967295 }
         ensures number { IfOk result (λ n. n ≡ length self.old) }

@@ -42,7 +42,7 @@ pub fn turns_of_ranked_code_end()
         → IsRankedAlong (memory plain g) g.code c }
 {}
 
-/// A turn makes one event, and there is at most one system along a journal.
+/// A turn makes at most one event, and there is at most one system along a journal.
 pub fn systems_are_functions()
     ensures event { (g : Setting) (s : System Plain) (q : ℕ) (e f : Event) (t u : System Plain) → Enters plain g s q e t → Enters plain g s q f u → e ≡ f }
     ensures system { (g : Setting) (es : List Entry) (t u : System Plain) → IsSystem plain g es t → IsSystem plain g es u → t ≡ u }

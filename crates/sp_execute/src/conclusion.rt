@@ -7,7 +7,7 @@ ghost use Rattle.sp_execute.specs.Runs.{IsRunOfCode, IsAbout};
 
 use sp_kernel::Closed;
 
-/// A run of a program. `conclude` alone makes one.
+/// A run of a program, as `conclude` gives it.
 #[derive(Drop)]
 pub struct Concluded {
     /// The run of the program's code.

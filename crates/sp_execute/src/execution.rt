@@ -18,7 +18,7 @@ use std::alloc::Global;
 use std::sync::{Arc, Wait};
 use std::thread::Threads;
 
-/// A run of a program with the verdict on it. `execute` alone makes one.
+/// A run of a program with the verdict on it, as `execute` gives it.
 #[derive(Drop)]
 pub struct Ran {
     /// The run: its end, its journal and its output.

@@ -18,7 +18,7 @@ use std::sync::Arc;
 ///
 /// For every program that has this code: the journal is followed exactly where the meaning of the program is defined
 /// along it, and then the output and the end are those of its state there; where the run goes on there, it has no end.
-/// `Unfit` tells the first entry with which the meaning is not defined.
+/// `Unfit` tells the first entry with which the meaning is not defined. Where memory is refused, neither is told.
 pub fn follow(
     alloc: Global,
     code: Arc<Code>,

@@ -1,4 +1,4 @@
--- A text has one canonical text, or one rule for which it has none.
+-- A text has at most one canonical text or one rule for which it has none, and never both.
 use Rattle.std.proofs.Common.{◌≡◌, inl, inr, ℕ, List, length, sym, ◌∙◌, ap, arith}
 use Rattle.sp_base.specs.declared.halt.Refusal.{Refusal}
 use Rattle.sp_grammar.proofs.OneList.{one_verdict, not_both}

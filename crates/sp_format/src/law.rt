@@ -25,7 +25,7 @@ pub fn items_kept()
     ensures not_refused { (text out : List ℕ) (r : Refusal) → HasTree text → IsCanonical text out → HasNoLayout out r → ⊥ }
 {}
 
-/// A text has a canonical text or a rule for which it has none, one of them, and never both.
+/// A text has at most one canonical text and at most one rule for which it has none, and never both.
 pub fn one_layout()
     ensures layout { (text a b : List ℕ) → HasLayout text a → HasLayout text b → a ≡ b }
     ensures refusal { (text : List ℕ) (a b : Refusal) → HasNoLayout text a → HasNoLayout text b → a ≡ b }

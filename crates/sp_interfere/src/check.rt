@@ -93,8 +93,9 @@ fn rules_first(c: &Checked, s: &Sets) -> Found
     first
 }
 
-/// Whether the program breaks no rule of interference (I1 to I9), or the first that it breaks, with its place. Its sets
-/// are those that `sets` gave of it. It takes no memory.
+/// Whether the program breaks no rule of interference (I1 to I9) by these sets, or the first that it breaks so, with its
+/// place. Where the sets are those that `sets_of` gives of it, that is the verdict on the program itself. It takes no
+/// memory.
 ///
 /// It recurses as deep as the longest chain of operators is long.
 pub fn check_sets(checked: &Checked, sets: &Sets) -> Result<(), Refusal>

@@ -68,8 +68,8 @@ fn begin(
 /// Runs the code on an input along a journal: each entry is the event of the next turn of its process. Each process that can run is
 /// held here, and is turned only when an entry names it. What is made in this call takes its memory from `alloc`. The code is sound.
 ///
-/// The end and the output are those of the machine after the whole journal. `Unfit` comes exactly where the machine is not defined
-/// along it, with the first entry that does not fit.
+/// The end and the output are those of the machine after the whole journal. `Unfit` comes only where the machine is not
+/// defined along it, with the first entry that does not fit; there nothing else comes, but where memory is refused.
 pub fn replay(
     alloc: Global,
     code: Arc<Code>,

@@ -83,7 +83,8 @@ pub fn flags_pick_the_first_part()
         ≡ first_part (occurrences j) earlier later }
 {}
 
-/// The two entries of a race are there, the earlier one is an offer, and it stands before the later one.
+/// The two entries of a race are there, the earlier one gives no number (it is no fork and no open), and it stands
+/// before the later one.
 pub fn races_have_offers()
     ensures { (j : Journal) (w : Way) (c : Channel) (earlier later : ℕ) → Race (occurrences j) w c earlier later
         → (earlier < later) × (later < length j.entries)
