@@ -27,7 +27,6 @@ pub mod Static
 pub mod Within
 pub mod Entered
 pub mod Rights
-pub mod OneStep
 pub mod Deeding
 pub mod Children
 pub mod Owned
