@@ -4,8 +4,9 @@ use Rattle.std.proofs.Common.{◌∷◌, length, Option, Some, None, Bool, true,
 use Rattle.std.specs.Prelude.{slice_get, not, nat_le}
 use Rattle.std.specs.BTreeMap.{BTreeMap}
 use Rattle.std.specs.Option as option
-use Rattle.std.proofs.lemmas.Bool.{le-leb, eq-eqb}
-use Rattle.std.proofs.lemmas.Option.{slice_get_within}
+use Rattle.std.proofs.lemmas.Bool.{le-leb, eq-eqb, and_from, and_parts, not-true, not_from_false, or_cases, or_left}
+use Rattle.std.proofs.lemmas.Bool.{or_right}
+use Rattle.std.proofs.lemmas.Option.{slice_get_within, none-some, same_Some}
 use Rattle.sp_code.specs.declared.instr.Instr.{Instr}
 use Rattle.sp_code.specs.declared.instr.Instr.TheVariants as i
 use Rattle.sp_code.specs.declared.code.Layout.{Layout}
@@ -20,30 +21,10 @@ use Rattle.sp_rules.specs.Named.{names_there}
 use Rattle.sp_areas.specs.Blocks.{IsNumbered, number_of}
 use Rattle.sp_areas.specs.Alone.{BreaksAlone, LayoutFails, ChildFails, ChildrenFail, TableFails, AreFlags, layout_fails}
 use Rattle.sp_areas.specs.Alone.{child_fails, first_fails, flag_at, named_in, table_by, is_table}
-use Rattle.sp_rules.proofs.Facts.{same_some, none_some, both_true, and_true}
 use Rattle.sp_areas.proofs.BlockLaws.{has_layout}
 use Rattle.sp_areas.proofs.Leasts.{same, both}
 
 -- ---- tests
-
-pub or_split : (a b : Bool) → (a || b) ≡ true → (a ≡ true) ⊎ (b ≡ true)
-or_split true b e = inl refl
-or_split false b e = inr e
-
-pub or_left : (a b : Bool) → a ≡ true → (a || b) ≡ true
-or_left true b e = refl
-or_left false b e = absurd (cc e)
-
-pub or_right : (a b : Bool) → b ≡ true → (a || b) ≡ true
-or_right true b e = refl
-or_right false b e = e
-
-pub not_true : (a : Bool) → not a ≡ true → a ≡ false
-not_true true e = absurd (cc e)
-not_true false e = refl
-
-pub not_false : (a : Bool) → a ≡ false → not a ≡ true
-not_false a e = rw e refl
 
 some_not : {T : Type 0} (o : Option T) → is_some o ≡ false → o ≡ None
 some_not None e = refl
@@ -58,7 +39,7 @@ is_the_table t (Some u) e = ap Some (eqb-true u t e)
 named_there : (b : Bool) (t : ℕ) (os : List Instr) → named_in b t os ≡ true → (q : ℕ) × (o : Instr)
     × (slice_get os q ≡ Some o) × (table_by b o ≡ Some t)
 named_there b t [] e = absurd (cc e)
-named_there b t (o ∷ os) e = go (or_split (is_table t (table_by b o)) (named_in b t os) e) (named_there b t os)
+named_there b t (o ∷ os) e = go (or_cases (is_table t (table_by b o)) (named_in b t os) e) (named_there b t os)
   where
     go : (is_table t (table_by b o) ≡ true) ⊎ (named_in b t os ≡ true)
         → (named_in b t os ≡ true → (q : ℕ) × (x : Instr) × (slice_get os q ≡ Some x) × (table_by b x ≡ Some t))
@@ -68,21 +49,21 @@ named_there b t (o ∷ os) e = go (or_split (is_table t (table_by b o)) (named_i
 
 there_named : (b : Bool) (t q : ℕ) (os : List Instr) (o : Instr) → slice_get os q ≡ Some o → table_by b o ≡ Some t
     → named_in b t os ≡ true
-there_named b t q [] o e h = absurd (none_some o e)
+there_named b t q [] o e h = absurd (none-some o e)
 there_named b t zero (x ∷ os) o e h =
-    let s : x ≡ o = same_some x o e in
+    let s : x ≡ o = same_Some x o e in
     or_left (is_table t (table_by b x)) (named_in b t os) (ap (λ (y : Instr). is_table t (table_by b y)) s
     ∙ ap (is_table t) h ∙ eq-eqb t t refl)
 there_named b t (suc q) (x ∷ os) o e h = or_right (is_table t (table_by b x)) (named_in b t os)
     (there_named b t q os o e h)
 
 fork_is : (t : ℕ) (o : Instr) → table_by false o ≡ Some t → o ≡ i.Fork t
-fork_is t (i.Fork u) e = ap i.Fork (same_some u t e)
-fork_is t o e = absurd (none_some t e)
+fork_is t (i.Fork u) e = ap i.Fork (same_Some u t e)
+fork_is t o e = absurd (none-some t e)
 
 forall_is : (t : ℕ) (o : Instr) → table_by true o ≡ Some t → o ≡ i.Forall t
-forall_is t (i.Forall u) e = ap i.Forall (same_some u t e)
-forall_is t o e = absurd (none_some t e)
+forall_is t (i.Forall u) e = ap i.Forall (same_Some u t e)
+forall_is t o e = absurd (none-some t e)
 
 module _ (c : Parts) (first : BTreeMap ℕ ℕ) (numbered : IsNumbered first c.layouts) (forked foralled : List Bool)
     (forks : AreFlags false c.instrs (length c.forks) forked)
@@ -111,24 +92,24 @@ module _ (c : Parts) (first : BTreeMap ℕ ℕ) (numbered : IsNumbered first c.l
   from_program : (p : ℕ) → Program p → BreaksAlone c p
   from_program p h = inr (inl (inl (
     some_not (layout_of c.layouts 0) (sym (has 0)
-        ∙ not_true (option.is_some (number_of first 0)) h.1),
+        ∙ not-true (option.is_some (number_of first 0)) h.1),
     sym h.0,
   )))
 
   from_layout : (j p : ℕ) → LayoutFails (layout_fails (length c.instrs)) c.layouts j p → BreaksAlone c p
-  from_layout j p (l, e, at, f) = ⊎_elim past (λ g. ⊎_elim sizes program (or_split (not (has_sizes l)) ((l.block == 0)
-      && not (is_program l)) g)) (or_split (nat_le (length c.instrs) l.entry) (not (has_sizes l)
+  from_layout j p (l, e, at, f) = ⊎_elim past (λ g. ⊎_elim sizes program (or_cases (not (has_sizes l)) ((l.block == 0)
+      && not (is_program l)) g)) (or_cases (nat_le (length c.instrs) l.entry) (not (has_sizes l)
       || ((l.block == 0) && not (is_program l))) f)
     where
       past : nat_le (length c.instrs) l.entry ≡ true → BreaksAlone c p
       past h = inl (inr (record { past = reached (length c.instrs) l.entry p h at; of = inl (l, (j, e), at) }))
 
       sizes : not (has_sizes l) ≡ true → BreaksAlone c p
-      sizes h = inr (inr (inl (l, (j, e), at, not_true (has_sizes l) h)))
+      sizes h = inr (inr (inl (l, (j, e), at, not-true (has_sizes l) h)))
 
       program : ((l.block == 0) && not (is_program l)) ≡ true → BreaksAlone c p
-      program h = let b = both_true (l.block == 0) (not (is_program l)) h in inr
-          (inl (inr (l, (j, e), eqb-true l.block 0 b.0, at, not_true (is_program l) b.1)))
+      program h = let b = and_parts (l.block == 0) (not (is_program l)) h in inr
+          (inl (inr (l, (j, e), eqb-true l.block 0 b.0, at, not-true (is_program l) b.1)))
 
   child_is : (t k : ℕ) (tb : ForkTable) (ch : ChildTable) → slice_get c.forks t ≡ Some tb
       → slice_get tb.children k ≡ Some ch → IsChild c t k ch
@@ -148,14 +129,14 @@ module _ (c : Parts) (first : BTreeMap ℕ ℕ) (numbered : IsNumbered first c.l
             of = inr
                 (t, u.item, ch, is, u.holds.2);
           })))
-          (λ h. let b = both_true (flag_at forked t) (is_some ch.index) h in
+          (λ h. let b = and_parts (flag_at forked t) (is_some ch.index) h in
           let r = named_there false t c.instrs (sym (forks.1 t (slice_get_within c.forks t tb e)) ∙ b.0) in
           inr (inr (inr (t, r.0, inl (r.2 ∙ ap Some (fork_is t r.1 r.3), (u.item, ch, is, u.holds.2, b.1))))))
-          (or_split (nat_le (length c.instrs) ch.entry) (flag_at forked t && is_some ch.index) u.holds.3)
+          (or_cases (nat_le (length c.instrs) ch.entry) (flag_at forked t && is_some ch.index) u.holds.3)
 
       alone : ChildFails (first_fails (flag_at foralled t) (length tb.children)) tb.children 0 p → BreaksAlone c p
       alone (ch, f, at, h) =
-          let b = both_true (flag_at foralled t) (not ((length tb.children == 1) && is_some ch.index)) h in
+          let b = and_parts (flag_at foralled t) (not ((length tb.children == 1) && is_some ch.index)) h in
           let r = named_there true t c.instrs (sym (foralls.1 t (slice_get_within c.forks t tb e)) ∙ b.0) in
           inr (inr (inr (
             t,
@@ -163,7 +144,7 @@ module _ (c : Parts) (first : BTreeMap ℕ ℕ) (numbered : IsNumbered first c.l
             inr (
               r.2
                   ∙ ap Some (forall_is t r.1 r.3),
-              (ch, tb, child_is t 0 tb ch e f, at, e, not_true ((length tb.children == 1) && is_some ch.index) b.1),
+              (ch, tb, child_is t 0 tb ch e f, at, e, not-true ((length tb.children == 1) && is_some ch.index) b.1),
             ),
           )))
 
@@ -178,7 +159,7 @@ module _ (c : Parts) (first : BTreeMap ℕ ℕ) (numbered : IsNumbered first c.l
     where
       go : (o : Option ForkTable) → slice_get c.forks t ≡ o → child_of o k ≡ Some ch → (tb : ForkTable)
           × (slice_get c.forks t ≡ Some tb) × (slice_get tb.children k ≡ Some ch)
-      go None e h = absurd (none_some ch h)
+      go None e h = absurd (none-some ch h)
       go (Some tb) e h = (tb, e, h)
 
   to_table : (t p : ℕ) (tb : ForkTable) → slice_get c.forks t ≡ Some tb
@@ -211,19 +192,19 @@ module _ (c : Parts) (first : BTreeMap ℕ ℕ) (numbered : IsNumbered first c.l
       m.of
 
   no_program : (p : ℕ) → NoProgram c p → (Names p ⊎ Program p) ⊎ (Layouts p ⊎ Tables p)
-  no_program p (inl (e, at)) = inl (inr (sym at, not_false (option.is_some (number_of first 0)) (has 0 ∙ ap is_some e)))
+  no_program p (inl (e, at)) = inl (inr (sym at, not_from_false (option.is_some (number_of first 0)) (has 0 ∙ ap is_some e)))
   no_program p (inr (l, is, zero_is, at, f)) =
       inr (inl (to_layout l p is at (or_right (nat_le (length c.instrs) l.entry) (not (has_sizes l)
       || ((l.block == 0) && not (is_program l)))
       (or_right (not (has_sizes l)) ((l.block == 0)
-      && not (is_program l)) (and_true (l.block == 0) (not (is_program l)) (eq-eqb l.block 0 zero_is)
-      (not_false (is_program l) f))))))
+      && not (is_program l)) (and_from (l.block == 0) (not (is_program l)) (eq-eqb l.block 0 zero_is)
+      (not_from_false (is_program l) f))))))
 
   from_sizes : (p : ℕ) → Sized c p → (Names p ⊎ Program p) ⊎ (Layouts p ⊎ Tables p)
   from_sizes p (l, is, at, f) =
       inr (inl (to_layout l p is at (or_right (nat_le (length c.instrs) l.entry) (not (has_sizes l)
       || ((l.block == 0) && not (is_program l)))
-      (or_left (not (has_sizes l)) ((l.block == 0) && not (is_program l)) (not_false (has_sizes l) f)))))
+      (or_left (not (has_sizes l)) ((l.block == 0) && not (is_program l)) (not_from_false (has_sizes l) f)))))
 
   flag : (b : Bool) (fs : List Bool) (t q : ℕ) (o : Instr) (tb : ForkTable) → AreFlags b c.instrs (length c.forks) fs
       → slice_get c.forks t ≡ Some tb
@@ -235,18 +216,18 @@ module _ (c : Parts) (first : BTreeMap ℕ ℕ) (numbered : IsNumbered first c.l
       let r = table_there t k ch is in
       inr (inr (to_child t k p ch is at (or_right (nat_le (length c.instrs) ch.entry) (flag_at forked t
       && is_some ch.index)
-      (and_true (flag_at forked t) (is_some ch.index) (flag false forked t q (i.Fork t) r.0 forks r.1 o refl) f))))
+      (and_from (flag_at forked t) (is_some ch.index) (flag false forked t q (i.Fork t) r.0 forks r.1 o refl) f))))
   from_index p (t, q, inr (o, (ch, tb, is, at, e, f))) =
       let r = table_there t 0 ch is in
-      let s : r.0 ≡ tb = same_some r.0 tb (sym r.1 ∙ e) in
+      let s : r.0 ≡ tb = same_Some r.0 tb (sym r.1 ∙ e) in
       let g = subst (λ (x : ForkTable). slice_get x.children 0 ≡ Some ch) s r.2 in
       inr (inr (to_table t p tb e (inr (
         ch,
         g,
         at,
-        and_true (flag_at foralled t) (not ((length tb.children == 1)
+        and_from (flag_at foralled t) (not ((length tb.children == 1)
             && is_some ch.index)) (flag true foralled t q (i.Forall t) tb foralls e o refl)
-            (not_false ((length tb.children == 1) && is_some ch.index) f),
+            (not_from_false ((length tb.children == 1) && is_some ch.index) f),
       ))))
 
   -- ---- both ways

@@ -3,11 +3,11 @@ use Rattle.std.proofs.Common.{◌≡◌, ◌∙◌, ap, refl, ℕ, zero, suc, �
 use Rattle.std.proofs.Common.{◌∷◌, Some, None, arith}
 use Rattle.std.specs.Prelude.{slice_get}
 use Rattle.std.specs.Option.{is_some}
+use Rattle.std.proofs.lemmas.Option.{same_Some}
 use Rattle.sp_code.specs.declared.code.Layout.{Layout}
 use Rattle.sp_code.specs.Machine.{layout_of}
 use Rattle.sp_areas.specs.Blocks.{number_from}
 use Rattle.sp_rules.specs.Named as named
-use Rattle.sp_rules.proofs.Facts.{same_some}
 
 -- a block has a place where it has a layout
 pub has_layout : (n : ℕ) (ls : List Layout) (b : ℕ) → is_some (number_from n ls b) ≡ named.is_some (layout_of ls b)
@@ -44,7 +44,7 @@ place_from n (l ∷ ls) b k e = go (l.block == b) e (place_from (n + 1) ls b k)
     go : (t : Bool) → (if t then Some n else number_from (n + 1) ls b) ≡ Some k
         → (number_from (n + 1) ls b ≡ Some k → (j : ℕ) × (k ≡ n + 1 + j) × (slice_get ls j ≡ layout_of ls b))
         → (j : ℕ) × (k ≡ n + j) × (slice_get (l ∷ ls) j ≡ (if t then Some l else layout_of ls b))
-    go true e on = (zero, start (same_some n k e), refl)
+    go true e on = (zero, start (same_Some n k e), refl)
     go false e on = let r = on e in (suc r.0, later r.0 r.1, r.2)
 
 pub place_some : (ls : List Layout) (b k : ℕ) → number_from 0 ls b ≡ Some k → slice_get ls k ≡ layout_of ls b

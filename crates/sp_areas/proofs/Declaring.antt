@@ -5,9 +5,10 @@ use Rattle.std.specs.Prelude.{slice_get, nat_lt, Result, Ok, Err, IfOk}
 use Rattle.std.specs.List.{list_any}
 use Rattle.std.specs.Ordering.{nat_cmp, is_eq}
 use Rattle.std.specs.BTreeSet.{BTreeSet, contains}
-use Rattle.std.proofs.lemmas.Bool.{eq-eqb}
+use Rattle.std.proofs.lemmas.Bool.{eq-eqb, lt-ltb, ltb-true, or_cases, or_left, or_right}
 use Rattle.std.proofs.lemmas.Bool.Decides.{nat_tests}
-use Rattle.std.proofs.lemmas.Option.{slice_get_within}
+use Rattle.std.proofs.lemmas.Option.{slice_get_within, none-some, same_Some}
+use Rattle.sp_base.proofs.Facts.{less_same_or_more, tie_is_equal}
 use Rattle.sp_code.specs.declared.code.Layout.{Layout}
 use Rattle.sp_code.specs.declared.code.ChildTable.{ChildTable}
 use Rattle.sp_code.specs.declared.code.ForkTable.{ForkTable}
@@ -17,12 +18,7 @@ use Rattle.sp_rules.specs.Named.{Declared, InLayout, OfChild, IsBefore, declared
 use Rattle.sp_rules.specs.Named.{DeclaredTwice, IsChild}
 use Rattle.sp_areas.specs.Least.{IsLeast, least}
 use Rattle.sp_areas.specs.Twice.{IsDeclaredBefore, IsLate, IsLateBefore, Knows, Notes, is_late}
-use Rattle.sp_rules.proofs.Facts.{same_some, none_some, which}
 use Rattle.sp_areas.proofs.Leasts.{same, both}
-use Rattle.sp_areas.proofs.Alone.{or_split, or_left, or_right}
-
-same_number : (j k : ℕ) → is_eq (nat_cmp j k) ≡ nat_eq k j
-same_number j k = grind (arith, nat_tests)
 
 -- a variable is in the set after another one is put in, if it is that one or was in it
 added_split : (a b : Bool) → cond a true b ≡ true → (a ≡ true) ⊎ (b ≡ true)
@@ -36,12 +32,6 @@ added_left false b e = absurd (cc e)
 added_right : (a b : Bool) → b ≡ true → cond a true b ≡ true
 added_right true b e = refl
 added_right false b e = e
-
-lower : (a b : ℕ) → nat_lt a b ≡ true → a < b
-lower a b e = Prim.grind (arith, e)
-
-is_lower : (a b : ℕ) → a < b → nat_lt a b ≡ true
-is_lower a b h = grind (arith, nat_tests)
 
 pub if_ok : {T E : Type 0} (P Q : T → Type 0) (r : Result T E) → ((x : T) → P x → Q x) → IfOk r P → IfOk r Q
 if_ok P Q (Ok x) f h = f x h
@@ -85,7 +75,7 @@ module _ (c : Parts) where
     where
       at : (a b : ℕ) → a ≡ j → b < k + 1 → IsBefore (InLayout a b) (InLayout j k) ⊎ (InLayout a b ≡ InLayout j k)
       at a b e l = ⊎_elim (λ h. inl (inr (e, h))) (λ z. ⊎_elim (λ s. inr (λ i. InLayout (e i) (s i)))
-          (λ h. absurd (omega (arith, h, l))) z) (which b k)
+          (λ h. absurd (omega (arith, h, l))) z) (less_same_or_more b k)
 
       split : (f : Declared) → IsBefore f (InLayout j (k + 1)) → IsBefore f (InLayout j k) ⊎ (f ≡ InLayout j k)
       split (InLayout a b) (inl h) = inl (inl h)
@@ -102,7 +92,7 @@ module _ (c : Parts) where
     where
       at : (a b : ℕ) → a ≡ t → b < k + 1 → IsBefore (OfChild a b) (OfChild t k) ⊎ (OfChild a b ≡ OfChild t k)
       at a b e l = ⊎_elim (λ h. inl (inr (e, h))) (λ z. ⊎_elim (λ s. inr (λ i. OfChild (e i) (s i)))
-          (λ h. absurd (omega (arith, h, l))) z) (which b k)
+          (λ h. absurd (omega (arith, h, l))) z) (less_same_or_more b k)
 
       split : (f : Declared) → IsBefore f (OfChild t (k + 1)) → IsBefore f (OfChild t k) ⊎ (f ≡ OfChild t k)
       split (InLayout a b) h = inl tt
@@ -120,28 +110,28 @@ module _ (c : Parts) where
   passes d n s o next e k = moves d n s o (λ f x q h b. next.before f b) back k
     where
       back : Precedes n d
-      back f x q h b = ⊎_elim (λ z. z) (λ (z : f ≡ d). absurd (none_some (x, q) (sym e ∙ ap (declared c) (sym z) ∙ h)))
+      back f x q h b = ⊎_elim (λ z. z) (λ (z : f ≡ d). absurd (none-some (x, q) (sym e ∙ ap (declared c) (sym z) ∙ h)))
           (next.split f b)
 
   -- and one that declares a variable is noted
   module _ (d n : Declared) (next : IsNext d n) (s t : BTreeSet ℕ) (o w : Option ℕ) (x p : ℕ) (is : declared c d ≡ Some
       (x, p)) (k : Knows c d s o) (note : Notes s t o w x p) where
     is_number : (y q : ℕ) → declared c d ≡ Some (y, q) → x ≡ y
-    is_number y q h = ap (λ (z : ℕ × ℕ). z.0) (same_some (x, p) (y, q) (sym is ∙ h))
+    is_number y q h = ap (λ (z : ℕ × ℕ). z.0) (same_Some (x, p) (y, q) (sym is ∙ h))
 
     is_place : (y q : ℕ) → declared c d ≡ Some (y, q) → p ≡ q
-    is_place y q h = ap (λ (z : ℕ × ℕ). z.1) (same_some (x, p) (y, q) (sym is ∙ h))
+    is_place y q h = ap (λ (z : ℕ × ℕ). z.1) (same_Some (x, p) (y, q) (sym is ∙ h))
 
     has : (y : ℕ) → IsDeclaredBefore c n y → contains nat_cmp t y ≡ true
     has y (e, q, b, h) = ⊎_elim
         (λ z. note.added y ∙ added_right (is_eq (nat_cmp x y)) (contains nat_cmp s y) (k.has y (e, q, z, h)))
-        (λ (z : e ≡ d). note.added y ∙ added_left (is_eq (nat_cmp x y)) (contains nat_cmp s y) (same_number x y
+        (λ (z : e ≡ d). note.added y ∙ added_left (is_eq (nat_cmp x y)) (contains nat_cmp s y) (tie_is_equal x y
         ∙ eq-eqb y x (sym (is_number y q (ap (declared c) (sym z) ∙ h)))))
         (next.split e b)
 
     just : (y : ℕ) → contains nat_cmp t y ≡ true → IsDeclaredBefore c n y
     just y i = ⊎_elim
-        (λ z. let u : y ≡ x = eqb-true y x (sym (same_number x y) ∙ z) in (
+        (λ z. let u : y ≡ x = eqb-true y x (sym (tie_is_equal x y) ∙ z) in (
           d,
           p,
           next.itself,
@@ -155,15 +145,15 @@ module _ (c : Parts) where
     is_so q h = (
       x,
       is ∙ ap (λ v. Some (x, v)) h.0,
-      ⊎_elim (λ z. inl (lower x 2 z)) (λ z. inr (k.just x z))
-          (or_split (nat_lt x 2) (contains nat_cmp s x) h.1),
+      ⊎_elim (λ z. inl (ltb-true x 2 z)) (λ z. inr (k.just x z))
+          (or_cases (nat_lt x 2) (contains nat_cmp s x) h.1),
     )
 
     so_is : (q : ℕ) → IsLate c d q → (p ≡ q) × (is_late s x ≡ true)
     so_is q (y, h, z) = (
       is_place y q h,
       ⊎_elim
-          (λ (l : y < 2). or_left (nat_lt x 2) (contains nat_cmp s x) (is_lower x 2 (subst (λ v. v < 2)
+          (λ (l : y < 2). or_left (nat_lt x 2) (contains nat_cmp s x) (lt-ltb x 2 (subst (λ v. v < 2)
           (sym (is_number y q h)) l)))
           (λ (b : IsDeclaredBefore c d y). or_right (nat_lt x 2) (contains nat_cmp s x)
           (k.has x (subst (IsDeclaredBefore c d) (sym (is_number y q h)) b)))
@@ -196,14 +186,14 @@ module _ (c : Parts) where
     where
       go : (o : Option ℕ) → slice_get l.variables k ≡ o → given {B = Option (ℕ × ℕ)} None o (λ y. Some (y, l.entry)) ≡
           Some (x, q) → k < length l.variables
-      go None s z = absurd (none_some (x, q) z)
+      go None s z = absurd (none-some (x, q) z)
       go (Some y) s z = slice_get_within l.variables k y s
 
   a_layout : (j k x q : ℕ) → declared c (InLayout j k) ≡ Some (x, q) → j < length c.layouts
   a_layout j k x q h = go (slice_get c.layouts j) refl h
     where
       go : (o : Option Layout) → slice_get c.layouts j ≡ o → declared_in o k ≡ Some (x, q) → j < length c.layouts
-      go None s z = absurd (none_some (x, q) z)
+      go None s z = absurd (none-some (x, q) z)
       go (Some l) s z = slice_get_within c.layouts j l s
 
   in_table : (t k x q : ℕ) (tb : ForkTable) → slice_get c.forks t ≡ Some tb → declared c (OfChild t k) ≡ Some (x, q)
@@ -212,7 +202,7 @@ module _ (c : Parts) where
       (child_of o k)) e) ∙ h)
     where
       go : (o : Option ChildTable) → slice_get tb.children k ≡ o → declared_by o ≡ Some (x, q) → k < length tb.children
-      go None s z = absurd (none_some (x, q) z)
+      go None s z = absurd (none-some (x, q) z)
       go (Some ch) s z = slice_get_within tb.children k ch s
 
   a_table : (t k x q : ℕ) → declared c (OfChild t k) ≡ Some (x, q) → t < length c.forks
@@ -220,7 +210,7 @@ module _ (c : Parts) where
     where
       go : (o : Option ForkTable) → slice_get c.forks t ≡ o → declared_by (child_of o k) ≡ Some (x, q)
           → t < length c.forks
-      go None s z = absurd (none_some (x, q) z)
+      go None s z = absurd (none-some (x, q) z)
       go (Some tb) s z = slice_get_within c.forks t tb s
 
   pub layout_ends : (j k : ℕ) (l : Layout) (s : BTreeSet ℕ) (o : Option ℕ) → slice_get c.layouts j ≡ Some l
@@ -238,7 +228,7 @@ module _ (c : Parts) where
             u,
             (let i = in_layout j b x q l e (subst (λ v. declared c (InLayout v b) ≡
                 Some (x, q)) u d) in omega (arith, i, h)),
-          )) (λ y. absurd (omega (arith, y, z))) y) (which a j)
+          )) (λ y. absurd (omega (arith, y, z))) y) (less_same_or_more a j)
       back (InLayout a b) x q d (inr z) = absurd (let u = z.1 in omega (arith, u))
       back (OfChild t b) x q d z = absurd z
 
@@ -271,7 +261,7 @@ module _ (c : Parts) where
             u,
             (let i = in_table t b x q tb e (subst (λ v. declared c (OfChild v b) ≡
                 Some (x, q)) u d) in omega (arith, i, h)),
-          )) (λ y. absurd (omega (arith, y, z))) y) (which a t)
+          )) (λ y. absurd (omega (arith, y, z))) y) (less_same_or_more a t)
       back (OfChild a b) x q d (inr z) = absurd (let u = z.1 in omega (arith, u))
 
   -- before the first one nothing is known

@@ -1,12 +1,12 @@
 -- One layout or child that fails a test, among others.
 use Rattle.std.proofs.Common.{◌≡◌, sym, ◌∙◌, ap, subst, ℕ, List, Option, Some, Bool, true}
 use Rattle.std.specs.Prelude.{slice_get}
+use Rattle.std.proofs.lemmas.Option.{same_Some}
 use Rattle.sp_code.specs.declared.code.Layout.{Layout}
 use Rattle.sp_code.specs.declared.code.ChildTable.{ChildTable}
 use Rattle.sp_code.specs.declared.code.ForkTable.{ForkTable}
 use Rattle.sp_areas.specs.Alone.{LayoutFails, ChildFails, ChildrenFail, TableFails, flag_at}
 use Rattle.sp_areas.specs.Least.{IsLeast}
-use Rattle.sp_rules.proofs.Facts.{same_some}
 use Rattle.sp_areas.proofs.Leasts.{same}
 
 pub one_layout : (fails : Layout → Bool) (ls : List Layout) (j : ℕ) (l : Layout) (b : Bool) (o : Option ℕ)
@@ -19,7 +19,7 @@ one_layout fails ls j l b o e f = same (λ p. (l.entry ≡ p) × (b ≡ true)) (
 
     down : (p : ℕ) → LayoutFails fails ls j p → (l.entry ≡ p) × (b ≡ true)
     down p h =
-        let s : h.0 ≡ l = same_some h.0 l (sym h.1 ∙ e) in
+        let s : h.0 ≡ l = same_Some h.0 l (sym h.1 ∙ e) in
         (ap (λ (m : Layout). m.entry) (sym s) ∙ h.2, f ∙ ap fails (sym s) ∙ h.3)
 
 pub one_child : (fails : ChildTable → Bool) (ts : List ChildTable) (k : ℕ) (t : ChildTable) (b : Bool) (o : Option ℕ)
@@ -32,7 +32,7 @@ one_child fails ts k t b o e f = same (λ p. (t.entry ≡ p) × (b ≡ true)) (C
 
     down : (p : ℕ) → ChildFails fails ts k p → (t.entry ≡ p) × (b ≡ true)
     down p h =
-        let s : h.0 ≡ t = same_some h.0 t (sym h.1 ∙ e) in
+        let s : h.0 ≡ t = same_Some h.0 t (sym h.1 ∙ e) in
         (ap (λ (m : ChildTable). m.entry) (sym s) ∙ h.2, f ∙ ap fails (sym s) ∙ h.3)
 
 pub one_table : (n : ℕ) (forked foralled : List Bool) (fs : List ForkTable) (t : ℕ) (tb : ForkTable) (o : Option ℕ)
@@ -47,5 +47,5 @@ one_table n forked foralled fs t tb o e = same (C tb) (TableFails n forked foral
     down : (p : ℕ) → TableFails n forked foralled fs t p
         → ChildrenFail n (flag_at forked t) (flag_at foralled t) tb.children p
     down p h =
-        let s : h.0 ≡ tb = same_some h.0 tb (sym h.1 ∙ e) in
+        let s : h.0 ≡ tb = same_Some h.0 tb (sym h.1 ∙ e) in
         subst (λ (x : ForkTable). ChildrenFail n (flag_at forked t) (flag_at foralled t) x.children p) s h.2

@@ -4,13 +4,14 @@ use Rattle.std.proofs.Common.{◌≡◌, ◌≢◌, ⊎_elim, refl, ap, sym, ◌
 use Rattle.std.proofs.Common.{[], ◌∷◌, length, replicate, Option, Some, None, Bool, true, false, ◌&&◌, arith}
 use Rattle.std.specs.Prelude.{slice_get}
 use Rattle.std.proofs.lemmas.List.{length-set}
-use Rattle.std.proofs.lemmas.Option.{slice_get_within}
+use Rattle.std.proofs.lemmas.Option.{slice_get_within, none-some, same_Some}
+use Rattle.std.proofs.lemmas.Bool.{and_from, and_parts, cases_eq}
+use Rattle.sp_base.proofs.Facts.{below_or_last}
 use Rattle.sp_code.specs.declared.code.Layout.{Layout}
 use Rattle.sp_code.specs.declared.code.Parts.{Parts}
 use Rattle.sp_code.specs.Machine.{layout_of}
 use Rattle.sp_code.specs.Memory.{Home, OfBlock}
 use Rattle.sp_rules.specs.Areas.{is_root, is_led, leads_by, homes_by, alone, block_homes}
-use Rattle.sp_rules.proofs.Facts.{same_some, none_some, and_true, both_true}
 use Rattle.sp_areas.specs.declared.tree.Frame.TheVariants as frame
 use Rattle.sp_areas.specs.declared.tree.Grown.{Grown}
 use Rattle.sp_areas.specs.Around.{AreFilled}
@@ -18,8 +19,8 @@ use Rattle.sp_areas.specs.Blocks.{number_from}
 use Rattle.sp_areas.specs.Grown.{node_at, Gets, AreAllLed}
 use Rattle.sp_areas.specs.Tree.{with_list}
 use Rattle.sp_areas.proofs.BlockLaws.{place_some}
-use Rattle.sp_areas.proofs.Growing.{at_last, before_last, below_or}
-use Rattle.sp_areas.proofs.Leading.{equal_or, node_new, node_old, none_led}
+use Rattle.sp_areas.proofs.Growing.{at_last, before_last}
+use Rattle.sp_areas.proofs.Leading.{node_new, node_old, none_led}
 
 module _ (c : Parts) where
   led_homes : (b : ℕ) → is_led c b ≡ true
@@ -50,7 +51,7 @@ module _ (c : Parts) where
           let fuel = led.1 (length c.layouts) (omega (arith, a, count)) in (
             a,
             λ f. fuel.1 root f ∙ ap (homes_by (length c.layouts) c.layouts) (sym f)
-                ∙ sym (led_homes l.block (and_true (is_root (layout_of c.layouts 0))
+                ∙ sym (led_homes l.block (and_from (is_root (layout_of c.layouts 0))
                 (leads_by (length c.layouts) c.layouts (layout_of c.layouts l.block)) root
                 (ap (leads_by (length c.layouts) c.layouts) f ∙ fuel.0))),
           )
@@ -59,10 +60,10 @@ module _ (c : Parts) where
           → layout_of c.layouts l.block ≡ Some l → (t : Bool) → is_led c l.block ≡ t → is_led c l.block ≡ false
       lonely j l n e f false s = s
       lonely j l n e f true s =
-          let b = both_true (is_root (layout_of c.layouts 0))
+          let b = and_parts (is_root (layout_of c.layouts 0))
           (leads_by (length c.layouts) c.layouts (layout_of c.layouts l.block)) s in
           let has = are.all j (length c.layouts) l e (ap (leads_by (length c.layouts) c.layouts) (sym f) ∙ b.1) in
-          absurd (none_some has.0 (sym n ∙ has.1))
+          absurd (none-some has.0 (sym n ∙ has.1))
 
   pub filled_none : (g : Grown) → is_root (layout_of c.layouts 0) ≡ false → g.nodes ≡ []
       → g.of ≡ replicate (length c.layouts) None → AreFilled c 0 g
@@ -81,7 +82,7 @@ module _ (c : Parts) where
   fuller : (n : ℕ) (os : List (Option ℕ)) → ((j : ℕ) → j < n → (k : ℕ) × (node_at os j ≡ Some k)) → (k : ℕ)
       × (node_at os n ≡ Some k) → (j : ℕ) → j < n + 1 → (k : ℕ) × (node_at os j ≡ Some k)
   fuller n os full has j h = ⊎_elim (λ (l : j < n). full j l) (λ (e : j ≡ n). subst (λ i. (k : ℕ)
-      × (node_at os i ≡ Some k)) (sym e) has) (below_or j n h)
+      × (node_at os i ≡ Some k)) (sym e) has) (below_or_last j n h)
 
   pub filled_same : (n k : ℕ) (g : Grown) → AreFilled c n g → node_at g.of n ≡ Some k → AreFilled c (n + 1) g
   filled_same n k g are e = record {
@@ -128,21 +129,21 @@ module _ (c : Parts) where
 
       lonely : (j : ℕ) (x : Layout) → node_at new.of j ≡ None → slice_get c.layouts j ≡ Some x
           → layout_of c.layouts x.block ≡ Some x → is_led c x.block ≡ false
-      lonely j x h s f = ⊎_elim (λ (q : n ≡ j). absurd (none_some size (sym (ap (node_at new.of) q ∙ h)
-          ∙ here))) (λ (d : n ≢ j). are.alone j x (sym (away j d) ∙ h) s f) (equal_or n j)
+      lonely j x h s f = ⊎_elim (λ (q : n ≡ j). absurd (none-some size (sym (ap (node_at new.of) q ∙ h)
+          ∙ here))) (λ (d : n ≢ j). are.alone j x (sym (away j d) ∙ h) s f) (cases_eq n j)
 
       before : (j : ℕ) → j < n → (k : ℕ) × (node_at new.of j ≡ Some k)
       before j h = let was = are.full j h in (was.0, away j (λ q. (let z : n ≡ j = q in omega (arith, z, h))) ∙ was.1)
 
       each : (j k : ℕ) (x : Layout) → node_at new.of j ≡ Some k → slice_get c.layouts j ≡ Some x
           → (k < length new.nodes) × (layout_of c.layouts x.block ≡ Some x → lists k ≡ block_homes c x.block)
-      each j k x h s = ⊎_elim same other (equal_or n j)
+      each j k x h s = ⊎_elim same other (cases_eq n j)
         where
           same : n ≡ j → (k < length new.nodes)
               × (layout_of c.layouts x.block ≡ Some x → lists k ≡ block_homes c x.block)
           same q =
-              let is : size ≡ k = same_some size k (sym here ∙ ap (node_at new.of) q ∙ h) in
-              let lx : l ≡ x = same_some l x (sym e ∙ ap (slice_get c.layouts) q ∙ s) in
+              let is : size ≡ k = same_Some size k (sym here ∙ ap (node_at new.of) q ∙ h) in
+              let lx : l ≡ x = same_Some l x (sym e ∙ ap (slice_get c.layouts) q ∙ s) in
               subst (λ z. (z < length new.nodes)
               × (layout_of c.layouts x.block ≡ Some x → lists z ≡ block_homes c x.block)) is
               (subst (λ (z : Layout). (size < length new.nodes)

@@ -3,12 +3,12 @@ use Rattle.std.proofs.Common.{◌≡◌, ◌⊎◌, inl, inr, ⊎_elim, refl, ap
 use Rattle.std.proofs.Common.{◌==◌, if◌then◌else◌, List, [], ◌∷◌, ◌++◌, length, Option, Some, None, Bool, true, false}
 use Rattle.std.proofs.Common.{◌||◌, arith, eqb-true}
 use Rattle.std.specs.Prelude.{slice_get, drop}
-use Rattle.std.proofs.lemmas.Bool.{eq-eqb}
+use Rattle.std.proofs.lemmas.Bool.{eq-eqb, ne_eqb}
 use Rattle.std.proofs.lemmas.List.{length-append}
-use Rattle.std.proofs.lemmas.Option.{slice_get_within}
+use Rattle.std.proofs.lemmas.Option.{slice_get_within, none-some, same_Some}
+use Rattle.sp_base.proofs.Facts.{below_or_last}
 use Rattle.sp_code.specs.declared.code.Layout.{Layout}
 use Rattle.sp_code.specs.Memory.{Home}
-use Rattle.sp_rules.proofs.Facts.{same_some, none_some}
 use Rattle.sp_areas.specs.declared.tree.Frame.{Frame}
 use Rattle.sp_areas.specs.declared.tree.Grown.{Grown}
 use Rattle.sp_areas.specs.declared.tree.Jump.{Jump}
@@ -17,38 +17,21 @@ use Rattle.sp_areas.specs.Grown.{Steps, EachItem, left}
 use Rattle.sp_areas.specs.Tree.{home_of, IsFrame, IsAround, around_list, IsJump, IsNode, AreLists, with_list}
 use Rattle.sp_areas.proofs.Outward.{drop_none}
 
-pub unequal : (a b : ℕ) → (a ≡ b → ⊥) → a == b ≡ false
-unequal a b d = go (a == b) refl
-  where
-    go : (t : Bool) → a == b ≡ t → a == b ≡ false
-    go true e = absurd (d (eqb-true a b e))
-    go false e = e
-
 pub at_last : (lists : ℕ → List Home) (size : ℕ) (hs : List Home) → with_list lists size hs size ≡ hs
 at_last lists size hs = ap (λ (b : Bool). if b then hs else lists size) (eq-eqb size size refl)
 
 pub before_last : (lists : ℕ → List Home) (size : ℕ) (hs : List Home) (k : ℕ) → k < size
     → with_list lists size hs k ≡ lists k
 before_last lists size hs k l = ap (λ (b : Bool). if b then hs else lists k)
-    (unequal k size (λ (e : k ≡ size). omega (arith, e, l)))
+    (ne_eqb k size (λ (e : k ≡ size). omega (arith, e, l)))
 
 pub get_push : {T : Type 0} (xs : List T) (x y : T) (k : ℕ) → slice_get (xs ++ x ∷ []) k ≡ Some y
     → (slice_get xs k ≡ Some y) ⊎ ((k ≡ length xs) × (x ≡ y))
-get_push [] x y zero e = inr (refl, same_some x y e)
-get_push [] x y (suc k) e = absurd (none_some y e)
+get_push [] x y zero e = inr (refl, same_Some x y e)
+get_push [] x y (suc k) e = absurd (none-some y e)
 get_push (z ∷ xs) x y zero e = inl e
 get_push (z ∷ xs) x y (suc k) e = ⊎_elim (λ h. inl h) (λ h. let s = h.0 in inr (omega (arith, s), h.1))
     (get_push xs x y k e)
-
-pub push_last : {T : Type 0} (xs : List T) (x : T) → slice_get (xs ++ x ∷ []) (length xs) ≡ Some x
-push_last [] x = refl
-push_last (y ∷ xs) x = push_last xs x
-
-pub push_before : {T : Type 0} (xs : List T) (x : T) (k : ℕ) → k < length xs
-    → slice_get (xs ++ x ∷ []) k ≡ slice_get xs k
-push_before [] x k l = absurd (omega (arith, l))
-push_before (y ∷ xs) x zero l = refl
-push_before (y ∷ xs) x (suc k) l = push_before xs x k (omega (arith, l))
 
 module _ (ls : List Layout) (lists : ℕ → List Home) (size : ℕ) (new : List Home) where
   raise_jump : (hs : List Home) (j : Jump) → IsJump lists size hs j → IsJump (with_list lists size new) (size + 1) hs j
@@ -122,13 +105,6 @@ put_lists ls lists ns n hs are i k m e =
     (subst (IsNode ls (with_list lists (length ns) hs) (length ns + 1) hs) h.1 i))
     (get_push ns n m k e))
 
-pub below_or : (k n : ℕ) → k < n + 1 → (k < n) ⊎ (k ≡ n)
-below_or k n l = go (k == n) refl
-  where
-    go : (t : Bool) → k == n ≡ t → (k < n) ⊎ (k ≡ n)
-    go true e = inr (Prim.grind (arith, e))
-    go false e = inl (Prim.grind (arith, e, l))
-
 -- ---- steps
 
 module _ (Just : Grown → Type 0) where
@@ -165,4 +141,4 @@ module _ (Just : Grown → Type 0) where
       || t) more (steps_then a b d (EachItem P k) (P k) s t h m)
     where
       more : d ≡ a → EachItem P k d × P k d → EachItem P (k + 1) d
-      more same z j l = ⊎_elim (λ (m : j < k). z.0 j m) (λ (e : j ≡ k). subst (λ i. P i d) (sym e) z.1) (below_or j k l)
+      more same z j l = ⊎_elim (λ (m : j < k). z.0 j m) (λ (e : j ≡ k). subst (λ i. P i d) (sym e) z.1) (below_or_last j k l)

@@ -4,7 +4,8 @@ use Rattle.std.proofs.Common.{◌≡◌, ◌⊎◌, inl, inr, ⊎_elim, refl, ap
 use Rattle.std.proofs.Common.{[], ◌∷◌, length, Option, Some, None, Bool, true, false, ◌||◌, if◌then◌else◌, arith}
 use Rattle.std.specs.Prelude.{slice_get, slice_set, nat_lt, Result, Ok, Err, IfOk}
 use Rattle.std.proofs.lemmas.List.Sums.{sum_by-set}
-use Rattle.std.proofs.lemmas.Option.{slice_get_within, get_or_from_slice_get}
+use Rattle.std.proofs.lemmas.Option.{slice_get_within, get_or_from_slice_get, none-some, same_Some}
+use Rattle.sp_base.proofs.Facts.{below_or_last, not_true_and_false}
 use Rattle.sp_code.specs.declared.instr.Instr.{Instr}
 use Rattle.sp_code.specs.declared.code.Layout.{Layout}
 use Rattle.sp_code.specs.declared.code.ChildTable.{ChildTable}
@@ -19,7 +20,6 @@ use Rattle.sp_rules.specs.Named.{Names}
 use Rattle.sp_areas.specs.Owners.{IsTrueOf, AreTrue, is_same, IsOwner, join, left, room, as_child, of_child, Knows}
 use Rattle.sp_areas.specs.Owners.{Gives, Spreads, KnowsAt, IsSpread, IsHanded, IsSpreadBy, AreBegun, Each, IsClosed}
 use Rattle.sp_areas.specs.Owners.{listed, entry_at}
-use Rattle.sp_rules.proofs.Facts.{same_some, none_some, no_true}
 use Rattle.sp_areas.proofs.Owning.{same_is, same_self, gives_spreads, spreads_as, spreads_then}
 use Rattle.sp_areas.proofs.Owning.{spreads_room, true_along, true_table, true_child, true_begin}
 
@@ -27,7 +27,7 @@ use Rattle.sp_areas.proofs.Owning.{spreads_room, true_along, true_table, true_ch
 
 set_same : (xs : List Owner) (x : ℕ) (w : Owner) → slice_get xs x ≡ Some w → slice_set xs x w ≡ xs
 set_same [] x w e = refl
-set_same (y ∷ ys) zero w e = ap (λ z. z ∷ ys) (sym (same_some y w e))
+set_same (y ∷ ys) zero w e = ap (λ z. z ∷ ys) (sym (same_Some y w e))
 set_same (y ∷ ys) (suc x) w e = ap (λ zs. y ∷ zs) (set_same ys x w e)
 
 few : (o : Owner) → is_same owner.Nobody o ≡ false → left o < 2
@@ -42,7 +42,7 @@ fewer w o one e = go (is_same w o) e
   where
     go : (b : Bool) → is_same w (if b then w else owner.Several) ≡ false
         → left (if b then w else owner.Several) < left w
-    go true e = absurd (no_true (is_same w w) (same_self w) e)
+    go true e = absurd (not_true_and_false (is_same w w) (same_self w) e)
     go false e = omega (arith, one)
 
 falls : (w o : Owner) → is_same w (join w o) ≡ false → left (join w o) < left w
@@ -94,13 +94,6 @@ in_listed q (Some p) (Some r) (inl e) = inl (ap Some (sym e))
 in_listed q (Some p) (Some r) (inr (inl e)) = inr (ap Some (sym e))
 in_listed q (Some p) (Some r) (inr (inr i)) = absurd i
 
-pub below_or : (k n : ℕ) → k < n + 1 → (k < n) ⊎ (k ≡ n)
-below_or k n l = go (nat_lt k n) refl
-  where
-    go : (t : Bool) → nat_lt k n ≡ t → (k < n) ⊎ (k ≡ n)
-    go true e = inl (Prim.grind (arith, e))
-    go false e = inr (Prim.grind (arith, e, l))
-
 -- what holds of an answer, if there is one
 pub ok_map : {T E : Type 0} (r : Result T E) (P Q : T → Type 0) → ((x : T) → P x → Q x) → IfOk r P → IfOk r Q
 ok_map (Ok x) P Q f h = f x h
@@ -129,7 +122,7 @@ module _ (c : Parts) where
       → IsTrueOf c q o → Gives a b q o s → Spreads c a b (KnowsAt c (Some q) o) s
   hand_given a b q o s are some l t g =
       spreads_as c a b (λ os. Knows os q o) (KnowsAt c (Some q) o) s
-      (λ same k r e m. subst (λ z. Knows b z o) (same_some q r e) k)
+      (λ same k r e m. subst (λ z. Knows b z o) (same_Some q r e) k)
       (gives_spreads c a b q o s are some t g (omega (arith, l)))
 
   -- ---- to a table
@@ -142,7 +135,7 @@ module _ (c : Parts) where
       → t < length c.forks → v ≡ as_child p o → Gives a b (length c.instrs + t) v s → Spreads c a b (Tabled p o) s
   table_given a b p t o v i s are some l h e n m ev g =
       spreads_as c a b (λ os. Knows os (length c.instrs + t) (as_child p o)) (Tabled p o) s
-      (λ same k u r w. subst (λ z. Knows b (length c.instrs + z) (as_child p o)) (same_some t u (n
+      (λ same k u r w. subst (λ z. Knows b (length c.instrs + z) (as_child p o)) (same_Some t u (n
       ∙ sym (ap table_named e) ∙ r)) k)
       (gives_spreads c a b (length c.instrs + t) (as_child p o) s are (a_child p o some)
       (true_table c p t o l (ap table_named e
@@ -158,10 +151,10 @@ module _ (c : Parts) where
 
   pub is_nobody : (os : List Owner) (p : ℕ) (w : Owner) → slice_get os p ≡ Some w → is_same w owner.Nobody ≡ true
       → (o : Owner) → slice_get os p ≡ Some o → IsOwner o → ⊥
-  is_nobody os p w e h o f some = some (same_some o w (sym f ∙ e) ∙ same_is w owner.Nobody h)
+  is_nobody os p w e h o f some = some (same_Some o w (sym f ∙ e) ∙ same_is w owner.Nobody h)
 
   pub an_owner : (w : Owner) → is_same w owner.Nobody ≡ false → IsOwner w
-  an_owner w h e = no_true (is_same w owner.Nobody) (ap (λ z. is_same z owner.Nobody) e) h
+  an_owner w h e = not_true_and_false (is_same w owner.Nobody) (ap (λ z. is_same z owner.Nobody) e) h
 
   pub visited : (a b d e : List Owner) (p : ℕ) (o : Owner) (i : Instr) (f s : Option ℕ) (r t u : Bool)
       → slice_get a p ≡ Some o → instr_at c p ≡ Some i → listed f s ≡ nexts p (Some i)
@@ -175,7 +168,7 @@ module _ (c : Parts) where
     where
       is_spread : e ≡ a → (KnowsAt c f o e × KnowsAt c s o e) × Tabled p o e → IsSpread c p e
       is_spread same k v ev some =
-          let w : v ≡ o = same_some v o (sym ev ∙ ap (λ (os : List Owner). slice_get os p) same ∙ ea) in
+          let w : v ≡ o = same_Some v o (sym ev ∙ ap (λ (os : List Owner). slice_get os p) same ∙ ea) in
           subst (λ z. ((q : ℕ) → IsIn q (nexts p (instr_at c p)) → q < length c.instrs → Knows e q z)
           × ((t : ℕ) → Names c t p → t < length c.forks → Knows e (length c.instrs + t) (as_child p z))) (sym w) (
             (λ q j l. ⊎_elim (λ z. k.0.0 q z l) (λ z. k.0.1 q z l) (in_listed q f s (subst (IsIn q) (ap (nexts p) ei
@@ -194,11 +187,11 @@ module _ (c : Parts) where
       || t) more (spreads_then c a b d (IsHanded c o ts k) (KnowsAt c (Some ch.entry) v) s t h m)
     where
       more : d ≡ a → IsHanded c o ts k d × KnowsAt c (Some ch.entry) v d → IsHanded c o ts (k + 1) d
-      more same z j x l ex lx = ⊎_elim (λ (m : j < k). z.0 j x m ex lx) here (below_or j k l)
+      more same z j x l ex lx = ⊎_elim (λ (m : j < k). z.0 j x m ex lx) here (below_or_last j k l)
         where
           here : j ≡ k → Knows d x.entry (of_child j o)
           here s =
-              let r : x ≡ ch = same_some x ch (sym ex ∙ ap (slice_get ts) s ∙ e) in
+              let r : x ≡ ch = same_Some x ch (sym ex ∙ ap (slice_get ts) s ∙ e) in
               let y = z.1 ch.entry refl (subst (λ (y : ChildTable). y.entry < length c.instrs) r lx) in
               subst (λ (y : ChildTable). Knows d y.entry (of_child j o)) (sym r)
               (subst (λ i. Knows d ch.entry (of_child i o)) (sym s) (subst (Knows d ch.entry) ev y))
@@ -210,7 +203,7 @@ module _ (c : Parts) where
     where
       by : b ≡ a → IsHanded c o ts (length ts) b → IsSpreadBy c t b
       by same k v ev some j ch i l =
-          let w : v ≡ o = same_some v o (sym ev ∙ ap (λ (os : List Owner). slice_get os (length c.instrs + t)) same
+          let w : v ≡ o = same_Some v o (sym ev ∙ ap (λ (os : List Owner). slice_get os (length c.instrs + t)) same
           ∙ ea) in
           let g : slice_get ts j ≡ Some ch = ap (λ (zs : List ChildTable). slice_get zs j) ets
           ∙ sym (ap (λ (u : Option ForkTable). child_of u j) et) ∙ i in
@@ -235,11 +228,11 @@ module _ (c : Parts) where
       || t) more (spreads_then c a b d (AreBegun c j) (KnowsAt c to (owner.Block l.block)) s t h k)
     where
       more : d ≡ a → AreBegun c j d × KnowsAt c to (owner.Block l.block) d → AreBegun c (j + 1) d
-      more same z i x m lt ex em lm = ⊎_elim (λ (y : i < j). z.0 i x m y ex em lm) here (below_or i j lt)
+      more same z i x m lt ex em lm = ⊎_elim (λ (y : i < j). z.0 i x m y ex em lm) here (below_or_last i j lt)
         where
           here : i ≡ j → Knows d m.entry (owner.Block x.block)
           here s =
-              let r : x ≡ l = same_some x l (sym ex ∙ ap (slice_get c.layouts) s ∙ e) in
+              let r : x ≡ l = same_Some x l (sym ex ∙ ap (slice_get c.layouts) s ∙ e) in
               subst (λ (y : Layout). Knows d m.entry (owner.Block y.block)) (sym r)
               (z.1 m.entry (at m (subst (λ (y : Layout). layout_of c.layouts y.block ≡ Some m) r em)) lm)
 
@@ -251,7 +244,7 @@ module _ (c : Parts) where
       || t) more (spreads_then c a b d (Each P k) (P k) s t h m)
     where
       more : d ≡ a → Each P k d × P k d → Each P (k + 1) d
-      more same z x l = ⊎_elim (λ (y : x < k). z.0 x y) (λ (e : x ≡ k). subst (λ i. P i d) (sym e) z.1) (below_or x k l)
+      more same z x l = ⊎_elim (λ (y : x < k). z.0 x y) (λ (e : x ≡ k). subst (λ i. P i d) (sym e) z.1) (below_or_last x k l)
 
   pub swept : (a b d e : List Owner) (r s t : Bool) → Spreads c a b (AreBegun c (length c.layouts)) r
       → Spreads c b d (Each (IsSpread c) (length c.instrs)) s → Spreads c d e (Each (IsSpreadBy c) (length c.forks)) t
@@ -288,9 +281,9 @@ pub entry_true : (c : Parts) (b q : ℕ) → entry_at (layout_of c.layouts b) �
 entry_true c b q e l = go (layout_of c.layouts b) refl e
   where
     go : (o : Option Layout) → layout_of c.layouts b ≡ o → entry_at o ≡ Some q → IsTrueOf c q (owner.Block b)
-    go None f e = absurd (none_some q e)
+    go None f e = absurd (none-some q e)
     go (Some m) f e =
-        let s = same_some m.entry q e in
+        let s = same_Some m.entry q e in
         subst (λ z. IsTrueOf c z (owner.Block b)) s (true_begin c b m f (subst (λ z. z < length c.instrs) (sym s) l))
 
 -- whatever is closed

@@ -3,18 +3,18 @@ use Rattle.std.proofs.Common.{◌≡◌, ⊎_elim, refl, ap, sym, ◌∙◌, ℕ
 use Rattle.std.proofs.Common.{List, [], ◌∷◌, ◌++◌, length, Some, None, arith}
 use Rattle.std.specs.Prelude.{slice_get, Result, Ok, Err, OnOk}
 use Rattle.std.proofs.lemmas.List.{length-append}
+use Rattle.std.proofs.lemmas.Option.{same_Some}
+use Rattle.sp_base.proofs.Facts.{below_or_last, item_there}
 use Rattle.sp_code.specs.declared.code.Layout.{Layout}
 use Rattle.sp_code.specs.declared.code.ChildTable.{ChildTable}
 use Rattle.sp_code.specs.Memory.{Home}
 use Rattle.sp_rules.specs.Areas.{with_home}
-use Rattle.sp_rules.proofs.Facts.{same_some}
 use Rattle.sp_areas.specs.declared.tree.Frame.TheVariants as frame
 use Rattle.sp_areas.specs.declared.tree.Node.{Node}
 use Rattle.sp_areas.specs.Grown.{Puts}
 use Rattle.sp_areas.specs.Around.{PutsChild, IsExtended, PutsChildren}
 use Rattle.sp_areas.specs.Tree.{AreLists, with_list}
-use Rattle.sp_areas.proofs.Growing.{at_last, before_last, below_or, put_lists, raised}
-use Rattle.sp_areas.proofs.Outward.{got}
+use Rattle.sp_areas.proofs.Growing.{at_last, before_last, put_lists, raised}
 
 -- the same node again
 pub puts_again : (old : List Node) (number : ℕ) (n : Node) → ((m : Node) → slice_get old number ≡ Some m → n ≡ m)
@@ -24,7 +24,7 @@ puts_again old number n is = record { more = length-append old (n ∷ []); lists
     stand : (ls : List Layout) (lists : ℕ → List Home) → AreLists ls old lists → number < length old
         → AreLists ls (old ++ n ∷ []) (with_list lists (length old) (lists number))
     stand ls lists are l =
-        let m = got old number l in
+        let m = item_there old number l in
         let e : slice_get old number ≡ Some n = m.1 ∙ ap Some (sym (is m.0 m.1)) in
         put_lists ls lists old n (lists number) are
         (raised ls lists (length old) (lists number) (lists number) n (are number n e))
@@ -80,7 +80,7 @@ module _ (around : ℕ) (ts : List ChildTable) where
 
           each : (k : ℕ) (x : ChildTable) → k < n + 1 → slice_get ts k ≡ Some x
               → after (length old + k) ≡ with_home x.index (lists around)
-          each k x b s = ⊎_elim below here (below_or k n b)
+          each k x b s = ⊎_elim below here (below_or_last k n b)
             where
               below : k < n → after (length old + k) ≡ with_home x.index (lists around)
               below m = before_last i.after (length mid) new_list (length old + k) (omega (arith, m, at))
@@ -89,7 +89,7 @@ module _ (around : ℕ) (ts : List ChildTable) where
               here : k ≡ n → after (length old + k) ≡ with_home x.index (lists around)
               here q =
                   let w : length old + k ≡ length mid = omega (arith, q, at) in
-                  let same_child : ch ≡ x = same_some ch x (sym e ∙ ap (slice_get ts) (sym q) ∙ s) in
+                  let same_child : ch ≡ x = same_Some ch x (sym e ∙ ap (slice_get ts) (sym q) ∙ s) in
                   ap after w ∙ at_last i.after (length mid) new_list
                   ∙ ap (λ (hs : List Home). with_home ch.index hs) (i.same around l)
                   ∙ ap (λ (y : ChildTable). with_home y.index (lists around)) same_child

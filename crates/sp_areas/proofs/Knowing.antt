@@ -3,8 +3,9 @@ use Rattle.std.proofs.Common.{◌≡◌, ◌⊎◌, inl, inr, ⊎_elim, refl, ap
 use Rattle.std.proofs.Common.{◌==◌, List, [], ◌∷◌, ◌++◌, length, drop, Option, Some, None, Bool, true, false, ◌||◌}
 use Rattle.std.proofs.Common.{arith, eqb-true}
 use Rattle.std.specs.Prelude.{slice_get, not}
-use Rattle.std.proofs.lemmas.Bool.{eq-eqb}
-use Rattle.std.proofs.lemmas.Option.{slice_get_within}
+use Rattle.std.proofs.lemmas.Bool.{eq-eqb, not-true, not_from_false, or_left, or_right}
+use Rattle.std.proofs.lemmas.Option.{slice_get_within, none-some, same_Some}
+use Rattle.sp_base.proofs.Facts.{below_or_last, item_there, not_true_and_false}
 use Rattle.sp_code.specs.declared.code.Layout.{Layout}
 use Rattle.sp_code.specs.declared.code.ChildTable.{ChildTable}
 use Rattle.sp_code.specs.declared.code.ForkTable.{ForkTable}
@@ -13,7 +14,6 @@ use Rattle.sp_code.specs.Memory.{Home}
 use Rattle.sp_rules.specs.Areas.{Area, Body, Child, homes, child_of, instr_at, table_named}
 use Rattle.sp_rules.specs.Reach.{IsIn}
 use Rattle.sp_rules.specs.Named.{Names, is_in, has_variable, some_has}
-use Rattle.sp_rules.proofs.Facts.{same_some, none_some, no_true}
 use Rattle.sp_areas.specs.declared.homes.Homes.{Homes}
 use Rattle.sp_areas.specs.declared.tree.Frame.{Frame}
 use Rattle.sp_areas.specs.Homes.{AreHomes}
@@ -24,16 +24,14 @@ use Rattle.sp_areas.specs.Least.{IsLeast, Upto}
 use Rattle.sp_areas.specs.declared.owners.Owner.TheVariants as owner
 use Rattle.sp_areas.specs.Owners.{owner_of, Owns}
 use Rattle.sp_areas.specs.Unknown.{ChildUnknown, HasUnknown, IsBelow, IsBetter, OneUnknown, UnknownBy}
-use Rattle.sp_areas.proofs.Alone.{not_false, not_true, or_left, or_right}
-use Rattle.sp_areas.proofs.Growing.{below_or}
 use Rattle.sp_areas.proofs.Leasts.{same}
 use Rattle.sp_areas.proofs.Owned.{named_within}
 use Rattle.sp_areas.proofs.Surrounding.{owner_is}
-use Rattle.sp_areas.proofs.Outward.{drop_none, got}
+use Rattle.sp_areas.proofs.Outward.{drop_none}
 
 pub drop_split : {T : Type 0} (xs : List T) (k : ℕ) (x : T) → slice_get xs k ≡ Some x → drop k xs ≡ x ∷ drop (k + 1) xs
-drop_split [] k x e = absurd (none_some x e)
-drop_split (y ∷ xs) zero x e = ap (λ z. z ∷ xs) (same_some y x e) ∙ ap (λ (zs : List _). x ∷ zs) (sym (drop_none xs))
+drop_split [] k x e = absurd (none-some x e)
+drop_split (y ∷ xs) zero x e = ap (λ z. z ∷ xs) (same_Some y x e) ∙ ap (λ (zs : List _). x ∷ zs) (sym (drop_none xs))
 drop_split (y ∷ xs) (suc k) x e = let n : suc (k + 1) ≡ suc k + 1 = omega arith in drop_split xs k x e
     ∙ ap (λ i. x ∷ drop i (y ∷ xs)) n
 
@@ -69,8 +67,8 @@ pub in_none : (x : ℕ) (xs : List ℕ) (k : ℕ) → length xs ≤ k → is_in 
 in_none x xs k l h = sym (h ∙ ap (is_in x) (drop_past xs k l))
 
 pub in_at : (x y : ℕ) (xs : List ℕ) (k : ℕ) → slice_get xs k ≡ Some y → x == y ≡ true → is_in x xs ≡ true
-in_at x y [] k e t = absurd (none_some y e)
-in_at x y (z ∷ xs) zero e t = or_left (x == z) (is_in x xs) (ap (λ w. x == w) (same_some z y e) ∙ t)
+in_at x y [] k e t = absurd (none-some y e)
+in_at x y (z ∷ xs) zero e t = or_left (x == z) (is_in x xs) (ap (λ w. x == w) (same_Some z y e) ∙ t)
 in_at x y (z ∷ xs) (suc k) e t = or_right (x == z) (is_in x xs) (in_at x y xs k e t)
 
 pub in_get : (x : ℕ) (xs : List ℕ) → IsIn x xs → (k : ℕ) × (slice_get xs k ≡ Some x)
@@ -79,17 +77,17 @@ in_get x (y ∷ xs) (inl e) = (zero, ap Some (sym e))
 in_get x (y ∷ xs) (inr i) = let r = in_get x xs i in (suc r.0, r.1)
 
 pub get_in : (x : ℕ) (xs : List ℕ) (k : ℕ) → slice_get xs k ≡ Some x → IsIn x xs
-get_in x [] k e = none_some x e
-get_in x (y ∷ xs) zero e = inl (sym (same_some y x e))
+get_in x [] k e = none-some x e
+get_in x (y ∷ xs) zero e = inl (sym (same_Some y x e))
 get_in x (y ∷ xs) (suc k) e = inr (get_in x xs k e)
 
 -- ---- in homes
 
 pub some_at : (ls : List Layout) (x : ℕ) (hs : List Home) (k : ℕ) (h : Home) → slice_get hs k ≡ Some h
     → has_variable ls x h ≡ true → some_has ls x hs ≡ true
-some_at ls x [] k h e t = absurd (none_some h e)
+some_at ls x [] k h e t = absurd (none-some h e)
 some_at ls x (g ∷ hs) zero h e t = or_left (has_variable ls x g) (some_has ls x hs)
-    (ap (has_variable ls x) (same_some g h e) ∙ t)
+    (ap (has_variable ls x) (same_Some g h e) ∙ t)
 some_at ls x (g ∷ hs) (suc k) h e t = or_right (has_variable ls x g) (some_has ls x hs) (some_at ls x hs k h e t)
 
 pub near_has : (ls : List Layout) (x : ℕ) (hs : List Home) (k : ℕ) (f : Frame) → IsFound ls (slice_get hs k) (Some f)
@@ -114,7 +112,7 @@ pub homes_short : (c : Parts) (h : Homes) (p : ℕ) (a : Area) → AreHomes c h 
     → length (homes c a) ≤ length h.nodes
 homes_short c h p a are l only =
     let i = are.each p a l only in
-    let n = got h.nodes i.node i.within in
+    let n = item_there h.nodes i.node i.within in
     subst (λ (hs : List Home). length hs ≤ length h.nodes) i.stands (are.tree i.node n.0 n.1).short
 
 -- ---- unknown ones
@@ -128,9 +126,9 @@ one_large ls x hs t l s = record {
   yes = λ e. (
     l,
     sym s
-        ∙ not_true t e,
+        ∙ not-true t e,
   );
-  no = λ e u. no_true (not t) (not_false t (s ∙ u.1)) e;
+  no = λ e u. not_true_and_false (not t) (not_from_false t (s ∙ u.1)) e;
 }
 
 pub unknown_here : (ls : List Layout) (xs : List ℕ) (hs : List Home) (k x : ℕ) → slice_get xs k ≡ Some x
@@ -232,13 +230,13 @@ module _ (P : ℕ → Type 0) (ls : List Layout) (hs : List Home) (ts : List Chi
       split p u (inl l) = inl (inr (record { item = u.item; below = l; holds = u.holds }))
       split p u (inr q) =
           let x = u.holds in
-          let s : x.0 ≡ ch = same_some x.0 ch (sym x.1 ∙ ap (slice_get ts) q ∙ e) in
+          let s : x.0 ≡ ch = same_Some x.0 ch (sym x.1 ∙ ap (slice_get ts) q ∙ e) in
           inr (subst (λ (z : ChildTable). (z.entry ≡ p) × HasUnknown ls (z.moved ++ z.shared) hs) s (x.2, x.3))
 
       down : (p : ℕ) → P p ⊎ Upto (ChildUnknown ls hs ts) (n + 1) p → (P p ⊎ Upto (ChildUnknown ls hs ts) n p)
           ⊎ ((ch.entry ≡ p) × HasUnknown ls (ch.moved ++ ch.shared) hs)
       down p (inl z) = inl (inl z)
-      down p (inr u) = split p u (below_or u.item n u.below)
+      down p (inr u) = split p u (below_or_last u.item n u.below)
 
 module _ (c : Parts) where
   -- an instruction that hands nothing unknown on
@@ -246,7 +244,7 @@ module _ (c : Parts) where
       → IsLeast (Upto (UnknownBy c) (q + 1)) o
   after_none q o never h = same (Upto (UnknownBy c) q) (Upto (UnknownBy c) (q + 1)) o
       (λ p u. record { item = u.item; below = (let l = u.below in omega (arith, l)); holds = u.holds })
-      (λ p u. down p u (below_or u.item q u.below)) h
+      (λ p u. down p u (below_or_last u.item q u.below)) h
     where
       down : (p : ℕ) (u : Upto (UnknownBy c) (q + 1) p) → (u.item < q) ⊎ (u.item ≡ q) → Upto (UnknownBy c) q p
       down p u (inl l) = record { item = u.item; below = l; holds = u.holds }
@@ -259,7 +257,7 @@ module _ (c : Parts) where
       → IsLeast (Upto (UnknownBy c) (q + 1)) o
   after_table q t tb a o names only there h =
       same (λ p. Upto (UnknownBy c) q p ⊎ Upto (ChildUnknown c.layouts (homes c a) tb.children) (length tb.children) p)
-      (Upto (UnknownBy c) (q + 1)) o up (λ p u. down p u (below_or u.item q u.below)) h
+      (Upto (UnknownBy c) (q + 1)) o up (λ p u. down p u (below_or_last u.item q u.below)) h
     where
       up : (p : ℕ) → Upto (UnknownBy c) q p
           ⊎ Upto (ChildUnknown c.layouts (homes c a) tb.children) (length tb.children) p → Upto (UnknownBy c) (q + 1) p
@@ -285,7 +283,7 @@ module _ (c : Parts) where
 
       by_it : (p : ℕ) → UnknownBy c q p → Upto (ChildUnknown c.layouts (homes c a) tb.children) (length tb.children) p
       by_it p (u, k, ch, b, n, l, i, e, h) =
-          let s : u ≡ t = same_some u t (sym n ∙ names) in
+          let s : u ≡ t = same_Some u t (sym n ∙ names) in
           let g : slice_get tb.children k ≡ Some ch = sym
           (ap (λ (o : Option ForkTable). child_of o k) (ap (slice_get c.forks) s ∙ there)) ∙ i in
           let w : b ≡ a = only.1 b l.0 in
@@ -312,12 +310,12 @@ module _ (c : Parts) where
   never_nobody q p h u = h u.3 u.5.0
 
   pub never_named : (q p : ℕ) → table_named (instr_at c q) ≡ None → UnknownBy c q p → ⊥
-  never_named q p e u = none_some u.0 (sym e ∙ u.4)
+  never_named q p e u = none-some u.0 (sym e ∙ u.4)
 
   pub never_there : (q p t : ℕ) → table_named (instr_at c q) ≡ Some t → slice_get c.forks t ≡ None → UnknownBy c q p → ⊥
   never_there q p t e n u =
-      let s : u.0 ≡ t = same_some u.0 t (sym u.4 ∙ e) in
-      none_some u.2 (sym (ap (λ (o : Option ForkTable). child_of o u.1) (ap (slice_get c.forks) s ∙ n)) ∙ u.6)
+      let s : u.0 ≡ t = same_Some u.0 t (sym u.4 ∙ e) in
+      none-some u.2 (sym (ap (λ (o : Option ForkTable). child_of o u.1) (ap (slice_get c.forks) s ∙ n)) ∙ u.6)
 
   pub all_unknown : (o : Option ℕ) → IsLeast (Upto (UnknownBy c) (length c.instrs)) o → IsLeast (UnknownOnly c) o
   all_unknown o h = same (Upto (UnknownBy c) (length c.instrs)) (UnknownOnly c) o up down h

@@ -3,13 +3,13 @@ use Rattle.std.proofs.Common.{◌≡◌, ◌≢◌, ◌⊎◌, inl, inr, ⊎_eli
 use Rattle.std.proofs.Common.{List, [], ◌∷◌, length, replicate, Option, Some, None, Bool, true, false}
 use Rattle.std.proofs.Common.{◌||◌, arith, eqb-true}
 use Rattle.std.specs.Prelude.{slice_get}
-use Rattle.std.proofs.lemmas.Bool.{eq-eqb}
-use Rattle.std.proofs.lemmas.Option.{slice_get_within}
+use Rattle.std.proofs.lemmas.Bool.{eq-eqb, or_cases, or_left, or_right}
+use Rattle.std.proofs.lemmas.Option.{slice_get_within, none-some, same_Some}
+use Rattle.sp_base.proofs.Facts.{below_or_last, not_true_and_false}
 use Rattle.sp_code.specs.declared.code.Layout.{Layout}
 use Rattle.sp_code.specs.declared.code.Parts.{Parts}
 use Rattle.sp_rules.specs.Areas.{leads_by}
 use Rattle.sp_rules.specs.Named.{Homeless}
-use Rattle.sp_rules.proofs.Facts.{same_some, none_some, no_true}
 use Rattle.sp_areas.specs.declared.tree.Grown.{Grown}
 use Rattle.sp_areas.specs.Alone.{Marks, flag_at}
 use Rattle.sp_areas.specs.Blocks.{number_from}
@@ -17,8 +17,6 @@ use Rattle.sp_areas.specs.Grown.{node_at, AreAllLed}
 use Rattle.sp_areas.specs.Homeless.{LacksHome, HomelessAt, is_place, IsDoubled, AreDoubled}
 use Rattle.sp_areas.specs.Least.{IsLeast, Upto}
 use Rattle.sp_areas.specs.Misnamed.{Decides}
-use Rattle.sp_areas.proofs.Alone.{or_split, or_left, or_right}
-use Rattle.sp_areas.proofs.Growing.{below_or}
 use Rattle.sp_areas.proofs.Leading.{layout_block, place_there, placed_layout}
 use Rattle.sp_areas.proofs.Leasts.{same}
 
@@ -27,8 +25,8 @@ place_is None j e = absurd (cc e)
 place_is (Some k) j e = ap Some (eqb-true k j e)
 
 place_not : (o : Option ℕ) (j : ℕ) → is_place o j ≡ false → o ≡ Some j → ⊥
-place_not None j e s = none_some j s
-place_not (Some k) j e s = no_true (k == j) (eq-eqb k j (same_some k j s)) e
+place_not None j e s = none-some j s
+place_not (Some k) j e s = not_true_and_false (k == j) (eq-eqb k j (same_Some k j s)) e
 
 -- a flag that is there stands at a place that is there
 flag_within : (fs : List Bool) (i : ℕ) → flag_at fs i ≡ true → i < length fs
@@ -43,15 +41,15 @@ module _ (ls : List Layout) (j : ℕ) (l : Layout) (e : slice_get ls j ≡ Some 
     size = are.size;
     yes = are.yes;
     all = λ i k m h s d q. all i k m s d q
-        (below_or k j h);
+        (below_or_last k j h);
   }
     where
       all : (i k : ℕ) (m : Layout) → slice_get ls k ≡ Some m → k ≢ i → number_from 0 ls m.block ≡ Some i → (k < j)
           ⊎ (k ≡ j) → flag_at fs i ≡ true
       all i k m s d q (inl h) = are.all i k m h s d q
       all i k m s d q (inr h) =
-          let lm : l ≡ m = same_some l m (sym e ∙ ap (slice_get ls) (sym h) ∙ s) in
-          let ji : j ≡ i = same_some j i (sym p ∙ ap (λ (x : Layout). number_from 0 ls x.block) lm ∙ q) in
+          let lm : l ≡ m = same_Some l m (sym e ∙ ap (slice_get ls) (sym h) ∙ s) in
+          let ji : j ≡ i = same_Some j i (sym p ∙ ap (λ (x : Layout). number_from 0 ls x.block) lm ∙ q) in
           absurd (d (h ∙ ji))
 
   pub doubled_more : (old new : List Bool) (place : ℕ) → number_from 0 ls l.block ≡ Some place → j ≢ place
@@ -60,7 +58,7 @@ module _ (ls : List Layout) (j : ℕ) (l : Layout) (e : slice_get ls j ≡ Some 
     size = g.0
         ∙ are.size;
     yes = yes;
-    all = λ i k m h s d q. all i k m s d q (below_or k j h);
+    all = λ i k m h s d q. all i k m s d q (below_or_last k j h);
   }
     where
       flag : (i : ℕ) → i < length old → flag_at new i ≡ (place == i) || flag_at old i
@@ -73,7 +71,7 @@ module _ (ls : List Layout) (j : ℕ) (l : Layout) (e : slice_get ls j ≡ Some 
       yes i h = ⊎_elim
           (λ t. let q = eqb-true place i t in (j, l, e, (λ s. far (s ∙ sym q)), p ∙ ap Some q))
           (λ t. are.yes i t)
-          (or_split (place == i) (flag_at old i) (sym (flag i (within i h)) ∙ h))
+          (or_cases (place == i) (flag_at old i) (sym (flag i (within i h)) ∙ h))
 
       inside : (i k : ℕ) (m : Layout) → number_from 0 ls m.block ≡ Some i → i < length old
       inside i k m q = let x = placed_layout ls m.block i q in let a = slice_get_within ls i x.0 x.1 in
@@ -83,8 +81,8 @@ module _ (ls : List Layout) (j : ℕ) (l : Layout) (e : slice_get ls j ≡ Some 
           ⊎ (k ≡ j) → flag_at new i ≡ true
       all i k m s d q (inl h) = flag i (inside i k m q) ∙ or_right (place == i) (flag_at old i) (are.all i k m h s d q)
       all i k m s d q (inr h) =
-          let lm : l ≡ m = same_some l m (sym e ∙ ap (slice_get ls) (sym h) ∙ s) in
-          let pi : place ≡ i = same_some place i (sym p ∙ ap (λ (x : Layout). number_from 0 ls x.block) lm ∙ q) in
+          let lm : l ≡ m = same_Some l m (sym e ∙ ap (slice_get ls) (sym h) ∙ s) in
+          let pi : place ≡ i = same_Some place i (sym p ∙ ap (λ (x : Layout). number_from 0 ls x.block) lm ∙ q) in
           flag i (inside i k m q) ∙ or_left (place == i) (flag_at old i) (eq-eqb place i pi)
 
   pub note_first : (fs : List Bool) → is_place (number_from 0 ls l.block) j ≡ true → AreDoubled ls fs j
@@ -122,7 +120,7 @@ module _ (ls : List Layout) (j : ℕ) (l : Layout) (e : slice_get ls j ≡ Some 
       yes =
           let d = are.yes j t in
           let m = placed_layout ls d.1.block j d.4 in
-          let lm : m.0 ≡ l = same_some m.0 l (sym m.1 ∙ e) in
+          let lm : m.0 ≡ l = same_Some m.0 l (sym m.1 ∙ e) in
           inl (d.0, d.1, d.2, d.3, sym (layout_block ls d.1.block m.0 m.2) ∙ ap (λ (x : Layout). x.block) lm)
 
   pub lacks_none : (fs : List Bool) (g : Grown) → is_place (number_from 0 ls l.block) j ≡ true
@@ -136,7 +134,7 @@ module _ (ls : List Layout) (j : ℕ) (l : Layout) (e : slice_get ls j ≡ Some 
     where
       go : (b : Bool) → leads_by (length ls) ls (Some l) ≡ b → leads_by (length ls) ls (Some l) ≡ false
       go false s = s
-      go true s = let has = led.all j (length ls) l e s in absurd (none_some has.0 (sym n ∙ has.1))
+      go true s = let has = led.all j (length ls) l e s in absurd (none-some has.0 (sym n ∙ has.1))
 
   pub lacks_not : (fs : List Bool) (g : Grown) (n : ℕ) → is_place (number_from 0 ls l.block) j ≡ true
       → AreDoubled ls fs (length ls) → flag_at fs j ≡ false → AreAllLed ls g → node_at g.of j ≡ Some n
@@ -144,14 +142,14 @@ module _ (ls : List Layout) (j : ℕ) (l : Layout) (e : slice_get ls j ≡ Some 
   lacks_not fs g n t are f led s = record { yes = λ z. absurd (cc z); no = λ z. no }
     where
       no : LacksHome ls j l → ⊥
-      no (inl (k, m, h, d, b)) = no_true (flag_at fs j)
+      no (inl (k, m, h, d, b)) = not_true_and_false (flag_at fs j)
           (are.all j k m (slice_get_within ls k m h) h d (ap (number_from 0 ls) b
           ∙ place_is (number_from 0 ls l.block) j t)) f
       no (inr h) =
           let was = led.led.each j n l s e in
           let a = was.0 in
           let count = led.led.count in
-          no_true (leads_by (length ls) ls (Some l)) (was.1 (length ls) (omega (arith, a, count))).0 h
+          not_true_and_false (leads_by (length ls) ls (Some l)) (was.1 (length ls) (omega (arith, a, count))).0 h
 
   pub one_homeless : (b : Bool) (o : Option ℕ) → Decides b (LacksHome ls j l)
       → IsLeast (λ p. (l.entry ≡ p) × (b ≡ true)) o → IsLeast (HomelessAt ls j) o
@@ -160,7 +158,7 @@ module _ (ls : List Layout) (j : ℕ) (l : Layout) (e : slice_get ls j ≡ Some 
     where
       down : (p : ℕ) → HomelessAt ls j p → (t : Bool) → b ≡ t → (l.entry ≡ p) × (b ≡ true)
       down p z t s =
-          let q : z.0 ≡ l = same_some z.0 l (sym z.1 ∙ e) in
+          let q : z.0 ≡ l = same_Some z.0 l (sym z.1 ∙ e) in
           let w : (l.entry ≡ p)
           × LacksHome ls j l = subst (λ (x : Layout). (x.entry ≡ p) × LacksHome ls j x) q (z.2, z.3) in
           (w.0, go t s w.1)

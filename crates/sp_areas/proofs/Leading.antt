@@ -4,17 +4,17 @@ use Rattle.std.proofs.Common.{◌==◌, if◌then◌else◌, List, [], ◌∷◌
 use Rattle.std.proofs.Common.{true, false, arith, eqb-true}
 use Rattle.std.specs.Prelude.{slice_get, slice_set}
 use Rattle.std.specs.Option.{is_some}
-use Rattle.std.proofs.lemmas.Bool.{eq-eqb}
+use Rattle.std.proofs.lemmas.Bool.{eq-eqb, cases_eq}
 use Rattle.std.proofs.lemmas.List.{length-set}
 use Rattle.std.proofs.lemmas.List.Folds.{sum_by-replicate}
 use Rattle.std.proofs.lemmas.List.Sums.{sum_by-set}
-use Rattle.std.proofs.lemmas.Option.{slice_get_within, get_or_from_slice_get}
+use Rattle.std.proofs.lemmas.Option.{slice_get_within, get_or_from_slice_get, none-some, same_Some}
+use Rattle.sp_base.proofs.Facts.{get_beside_set, get_where_set, item_is_not_none}
 use Rattle.sp_code.specs.declared.code.Layout.{Layout}
 use Rattle.sp_code.specs.Machine.{layout_of}
 use Rattle.sp_code.specs.Memory.{Home, OfBlock}
 use Rattle.sp_rules.specs.Areas.{given, parent_of, is_root, leads_by, homes_by}
 use Rattle.sp_rules.specs.Named as named
-use Rattle.sp_rules.proofs.Facts.{same_some, none_some, no_true}
 use Rattle.sp_areas.specs.declared.tree.Frame.TheVariants as frame
 use Rattle.sp_areas.specs.declared.tree.Grown.{Grown}
 use Rattle.sp_areas.specs.declared.tree.Node.{Node}
@@ -24,24 +24,23 @@ use Rattle.sp_areas.specs.Grown.{IsTried, AreAllLed}
 use Rattle.sp_areas.specs.Tree.{IsAround, around_list, with_list}
 use Rattle.sp_areas.proofs.BlockLaws.{has_layout, place_none, place_some}
 use Rattle.sp_areas.proofs.Growing.{at_last, before_last}
-use Rattle.sp_areas.proofs.Owning.{get_set_same, get_set_other}
 
 -- ---- layouts and their places
 
 pub layout_block : (ls : List Layout) (b : ℕ) (l : Layout) → layout_of ls b ≡ Some l → l.block ≡ b
-layout_block [] b l e = absurd (none_some l e)
+layout_block [] b l e = absurd (none-some l e)
 layout_block (m ∷ ls) b l e = go (m.block == b) refl e (layout_block ls b l)
   where
     go : (t : Bool) → m.block == b ≡ t → (if t then Some m else layout_of ls b) ≡ Some l
         → (layout_of ls b ≡ Some l → l.block ≡ b) → l.block ≡ b
-    go true t e on = ap (λ (x : Layout). x.block) (sym (same_some m l e)) ∙ eqb-true m.block b t
+    go true t e on = ap (λ (x : Layout). x.block) (sym (same_Some m l e)) ∙ eqb-true m.block b t
     go false t e on = on e
 
 -- a layout that stands somewhere is one of its block
 pub layout_there : (ls : List Layout) (j : ℕ) (l : Layout) → slice_get ls j ≡ Some l → layout_of ls l.block ≡ None → ⊥
-layout_there [] j l e n = none_some l e
+layout_there [] j l e n = none-some l e
 layout_there (m ∷ ls) zero l e n = go (m.block == l.block)
-    (eq-eqb m.block l.block (ap (λ (x : Layout). x.block) (same_some m l e))) n
+    (eq-eqb m.block l.block (ap (λ (x : Layout). x.block) (same_Some m l e))) n
   where
     go : (t : Bool) → t ≡ true → (if t then Some m else layout_of ls l.block) ≡ None → ⊥
     go true t n = cc (n)
@@ -82,13 +81,13 @@ is_parent ls os l n e = go l.parent refl e
   where
     at : (b : ℕ) → l.parent ≡ Some b → (o : Option ℕ) → number_from 0 ls b ≡ o
         → given None o (λ k. node_at os k) ≡ Some n → IsParent ls os l n
-    at b p None s e = absurd (none_some n e)
+    at b p None s e = absurd (none-some n e)
     at b p (Some k) s e = let m = placed_layout ls b k s in
         record { block = b; place = k; layout = m.0; parent = p; there = m.1; first = m.2; node = e }
 
     go : (o : Option ℕ) → l.parent ≡ o
         → given None o (λ b. given None (number_from 0 ls b) (λ k. node_at os k)) ≡ Some n → IsParent ls os l n
-    go None p e = absurd (none_some n e)
+    go None p e = absurd (none-some n e)
     go (Some b) p e = at b p (number_from 0 ls b) refl e
 
 -- what a layout may get a node inside
@@ -102,12 +101,12 @@ is_inside ls os l o e = go (l.block == 0) refl e
   where
     at : l.block == 0 ≡ false → (u : Option ℕ) → parent_node ls os l ≡ u → given None u (λ n. Some (Some n)) ≡ Some o
         → IsInside ls os l o
-    at z None s e = absurd (none_some o e)
-    at z (Some n) s e = InParent z n (sym (same_some (Some n) o e)) (is_parent ls os l n s)
+    at z None s e = absurd (none-some o e)
+    at z (Some n) s e = InParent z n (sym (same_Some (Some n) o e)) (is_parent ls os l n s)
 
     go : (t : Bool) → l.block == 0 ≡ t
         → (if t then Some None else given None (parent_node ls os l) (λ n. Some (Some n))) ≡ Some o → IsInside ls os l o
-    go true z e = AsRoot z (sym (same_some None o e))
+    go true z e = AsRoot z (sym (same_Some None o e))
     go false z e = at z (parent_node ls os l) refl e
 
 no_parent : (l : Layout) → is_root (Some l) ≡ true → l.parent ≡ None
@@ -173,13 +172,8 @@ module _ (ls : List Layout) (os : List (Option ℕ)) (lists : ℕ → List Home)
 lacks : (os : List (Option ℕ)) (j : ℕ) → j < length os → node_at os j ≡ None → slice_get os j ≡ Some None
 lacks os j l e = go (slice_get os j) refl e
   where
-    past : {T : Type 0} (xs : List T) (k : ℕ) → k < length xs → slice_get xs k ≡ None → ⊥
-    past [] k l e = absurd (omega (arith, l))
-    past (x ∷ xs) zero l e = cc (e)
-    past (x ∷ xs) (suc k) l e = past xs k (omega (arith, l)) e
-
     go : (o : Option (Option ℕ)) → slice_get os j ≡ o → given None o (λ u. u) ≡ None → slice_get os j ≡ Some None
-    go None s e = absurd (past os j l s)
+    go None s e = absurd (item_is_not_none os j l s)
     go (Some u) s e = s ∙ ap Some e
 
 -- one that had none has one now: one fewer lacks it
@@ -191,34 +185,23 @@ left_falls os j n l e =
     omega (arith, s, g)
 
 pub node_new : (os : List (Option ℕ)) (j n : ℕ) → j < length os → node_at (slice_set os j (Some n)) j ≡ Some n
-node_new os j n l = ap (λ (u : Option (Option ℕ)). given None u (λ o. o)) (get_set_same os j (Some n) l)
+node_new os j n l = ap (λ (u : Option (Option ℕ)). given None u (λ o. o)) (get_where_set os j (Some n) l)
 
 pub node_old : (os : List (Option ℕ)) (j n k : ℕ) → j ≢ k → node_at (slice_set os j (Some n)) k ≡ node_at os k
-node_old os j n k d = ap (λ (u : Option (Option ℕ)). given None u (λ o. o)) (get_set_other os j k (Some n) d)
+node_old os j n k d = ap (λ (u : Option (Option ℕ)). given None u (λ o. o)) (get_beside_set os j k (Some n) d)
 
 pub is_none : {T : Type 0} (o : Option T) → is_some o ≡ false → o ≡ None
 is_none None e = refl
 is_none (Some x) e = absurd (cc e)
 
-pub a_some : {T : Type 0} (o : Option T) → is_some o ≡ true → (x : T) × (o ≡ Some x)
-a_some None e = absurd (cc e)
-a_some (Some x) e = (x, refl)
-
 pub nothing_at : (count j : ℕ) (n : ℕ) → node_at (replicate count None) j ≡ Some n → ⊥
-nothing_at zero j n e = none_some n e
-nothing_at (suc k) zero n e = none_some n e
+nothing_at zero j n e = none-some n e
+nothing_at (suc k) zero n e = none-some n e
 nothing_at (suc k) (suc j) n e = nothing_at k j n e
 
 pub length_none : (count : ℕ) → length (replicate {A = Option ℕ} count None) ≡ count
 length_none zero = refl
 length_none (suc k) = ap suc (length_none k)
-
-pub equal_or : (i j : ℕ) → (i ≡ j) ⊎ (i ≢ j)
-equal_or i j = go (i == j) refl
-  where
-    go : (b : Bool) → i == j ≡ b → (i ≡ j) ⊎ (i ≢ j)
-    go true e = inl (eqb-true i j e)
-    go false e = inr (λ s. no_true (i == j) (eq-eqb i j s) e)
 
 module _ (ls : List Layout) where
 
@@ -257,13 +240,13 @@ module _ (ls : List Layout) where
 
       each : (i m : ℕ) (x : Layout) → node_at new.of i ≡ Some m → slice_get ls i ≡ Some x → (m < length new.nodes)
           × IsLed ls lists x m
-      each i m x h s = ⊎_elim same other (equal_or j i)
+      each i m x h s = ⊎_elim same other (cases_eq j i)
         where
           same : j ≡ i → (m < length new.nodes) × IsLed ls lists x m
           same q =
-              let is : size ≡ m = same_some size m (sym (node_new old.of j size long)
+              let is : size ≡ m = same_Some size m (sym (node_new old.of j size long)
               ∙ ap (λ (os : List (Option ℕ)). node_at os j) (sym g.of) ∙ ap (node_at new.of) q ∙ h) in
-              let lx : l ≡ x = same_some l x (sym e ∙ ap (slice_get ls) q ∙ s) in
+              let lx : l ≡ x = same_Some l x (sym e ∙ ap (slice_get ls) q ∙ s) in
               subst (λ z. (z < length new.nodes) × IsLed ls lists x z) is
               (subst (λ z. (size < length new.nodes) × IsLed ls lists z size) lx (
                 omega (arith, more),
@@ -303,7 +286,7 @@ module _ (ls : List Layout) where
   pub none_led : (g : Grown) → g.nodes ≡ [] → g.of ≡ replicate (length ls) None → AreLed ls g
   none_led g en eo = record {
     lists = λ k. [];
-    tree = λ k n e. absurd (none_some n (ap (λ (ns : List Node). slice_get ns k) (sym en) ∙ e));
+    tree = λ k n e. absurd (none-some n (ap (λ (ns : List Node). slice_get ns k) (sym en) ∙ e));
     long = ap length eo ∙ length_none (length ls);
     count = (let a = ap length en in let b = ap left eo in let d = all_left (length ls) in omega (arith, a, b, d));
     each = λ j n l e s. absurd (nothing_at (length ls) j n (ap (λ (os : List (Option ℕ)). node_at os j) (sym eo) ∙ e));

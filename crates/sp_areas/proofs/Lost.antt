@@ -3,7 +3,9 @@ use Rattle.std.proofs.Common.{◌≡◌, ◌⊎◌, ◌≢◌, inl, inr, ⊎_eli
 use Rattle.std.proofs.Common.{Option, Some, None, Bool, true, arith}
 use Rattle.std.specs.Prelude.{slice_get, slice_set}
 use Rattle.std.proofs.lemmas.List.{length-set, length-replicate, get_or-replicate}
-use Rattle.std.proofs.lemmas.Option.{slice_get_within, slice_get_cases, get_or_from_slice_get}
+use Rattle.std.proofs.lemmas.Option.{slice_get_within, slice_get_cases, get_or_from_slice_get, none-some, same_Some}
+use Rattle.std.proofs.lemmas.Bool.{cases_eq}
+use Rattle.sp_base.proofs.Facts.{get_beside_set, get_where_set, item_is_not_none, less_same_or_more}
 use Rattle.sp_code.specs.declared.code.ForkTable.{ForkTable}
 use Rattle.sp_code.specs.declared.code.Parts.{Parts}
 use Rattle.sp_rules.specs.Areas.{Area, given, child_of}
@@ -16,14 +18,9 @@ use Rattle.sp_areas.specs.Alone.{ChildFails}
 use Rattle.sp_areas.specs.Least.{IsLeast, Upto}
 use Rattle.sp_areas.specs.Owners.{Owns, AreOwners, is_same}
 use Rattle.sp_areas.specs.Namers.{with_namer, noted, none_yet, is_lost, NamedBy, AreNamers, IsLost, LostAt}
-use Rattle.sp_rules.proofs.Facts.{same_some, none_some, which}
 use Rattle.sp_areas.proofs.Leasts.{same, all}
-use Rattle.sp_areas.proofs.Owning.{get_set_same, get_set_other, equal_or, same_is}
+use Rattle.sp_areas.proofs.Owning.{same_is}
 use Rattle.sp_areas.proofs.Owned.{named_within, table_of}
-
-not_past : {T : Type 0} (xs : List T) (i : ℕ) → i < length xs → slice_get xs i ≡ None → ⊥
-not_past xs i l e = let r = slice_get_cases xs i in ⊎_elim (λ z. none_some z.0 (sym e ∙ z.2))
-    (λ z. (let y = z.0 in omega (arith, y, l))) r.1
 
 module _ (c : Parts) where
   -- ---- one more instruction
@@ -34,24 +31,24 @@ module _ (c : Parts) where
     where
       only : (q : ℕ) → q < n + 1 → Names c t q → q ≡ n
       only q l m = ⊎_elim (λ z. absurd (h q z m)) (λ z. ⊎_elim (λ e. e) (λ y. absurd (omega (arith, y, l))) z)
-          (which q n)
+          (less_same_or_more q n)
   one_more n t (namer.One p) is h = (p, n, h.1, is, λ e. (let l = h.0 in omega (arith, l, e)))
   one_more n t namer.Several is h = h
 
   -- it does not
   no_more : (n t : ℕ) (w : Namer) → (Names c t n → ⊥) → NamedBy c n t w → NamedBy c (n + 1) t w
   no_more n t namer.Nothing not h = λ q l m. ⊎_elim (λ z. h q z m) (λ z. ⊎_elim (λ (e : q ≡ n). not
-      (subst (Names c t) e m)) (λ y. omega (arith, y, l)) z) (which q n)
+      (subst (Names c t) e m)) (λ y. omega (arith, y, l)) z) (less_same_or_more q n)
   no_more n t (namer.One p) not h = ((let l = h.0 in omega (arith, l)), h.1, only)
     where
       only : (q : ℕ) → q < n + 1 → Names c t q → q ≡ p
       only q l m = ⊎_elim (λ z. h.2 q z m) (λ z. ⊎_elim (λ (e : q ≡ n). absurd (not (subst (Names c t) e m)))
-          (λ y. absurd (omega (arith, y, l))) z) (which q n)
+          (λ y. absurd (omega (arith, y, l))) z) (less_same_or_more q n)
   no_more n t namer.Several not h = h
 
   -- an instruction names one table at most
   one_name : (t u n : ℕ) → Names c t n → Names c u n → t ≡ u
-  one_name t u n h k = same_some t u (sym h ∙ k)
+  one_name t u n h k = same_Some t u (sym h ∙ k)
 
   pub begun : (n : ℕ) → n ≡ length c.forks → AreNamers c 0 (none_yet n)
   begun n e = (
@@ -79,19 +76,19 @@ module _ (c : Parts) where
           (with_namer w n)))
       go None e = (
         h.0,
-        λ t w f. no_more n t w (other t (λ s. none_some w (sym e ∙ ap (slice_get ws) s ∙ f)))
+        λ t w f. no_more n t w (other t (λ s. none-some w (sym e ∙ ap (slice_get ws) s ∙ f)))
             (h.1 t w f),
       )
       go (Some v) e = (length-set ws u (with_namer v n) ∙ h.0, each)
         where
           each : (t : ℕ) (w : Namer) → slice_get (slice_set ws u (with_namer v n)) t ≡ Some w → NamedBy c (n + 1) t w
           each t w f = ⊎_elim
-              (λ (s : u ≡ t). let r = same_some (with_namer v n) w (sym (get_set_same ws u (with_namer v n)
+              (λ (s : u ≡ t). let r = same_Some (with_namer v n) w (sym (get_where_set ws u (with_namer v n)
               (slice_get_within ws u v e)) ∙ ap (slice_get (slice_set ws u (with_namer v n))) s ∙ f) in
               subst (NamedBy c (n + 1) t) r (subst (λ z. NamedBy c (n + 1) z (with_namer v n)) s (one_more n u v is
               (h.1 u v e))))
-              (λ (d : u ≢ t). no_more n t w (other t d) (h.1 t w (sym (get_set_other ws u t (with_namer v n) d) ∙ f)))
-              (equal_or u t)
+              (λ (d : u ≢ t). no_more n t w (other t d) (h.1 t w (sym (get_beside_set ws u t (with_namer v n) d) ∙ f)))
+              (cases_eq u t)
 
   -- ---- whether a table is at fault
 
@@ -105,7 +102,7 @@ module _ (c : Parts) where
       where
         go : (o : Option Owner) → slice_get os p ≡ o → given true o (λ v. is_same v owner.Nobody) ≡ true → (a : Area)
             → LiesIn c p a → ⊥
-        go None s z = absurd (let l = named_within c t p h.1 in let n = are.0 in not_past os p (omega (arith, l, n)) s)
+        go None s z = absurd (let l = named_within c t p h.1 in let n = are.0 in item_is_not_none os p (omega (arith, l, n)) s)
         go (Some v) s z = nobody p v z (are.1 p v s)
     lost_is t namer.Several h e = inr (inl h)
 

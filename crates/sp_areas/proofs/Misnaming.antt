@@ -3,31 +3,20 @@ use Rattle.std.proofs.Common.{◌≡◌, ◌⊎◌, inl, inr, ⊎_elim, refl, ap
 use Rattle.std.proofs.Common.{Bool, true, false, ◌&&◌}
 use Rattle.std.specs.Prelude.{not}
 use Rattle.std.proofs.lemmas.Option.{slice_get_within}
+use Rattle.std.proofs.lemmas.Bool.{and_cases, and_left, and_right, not-true, not_from_false}
+use Rattle.sp_base.proofs.Facts.{not_true_and_false}
 use Rattle.sp_code.specs.declared.instr.Instr.{Instr}
 use Rattle.sp_code.specs.declared.instr.Instr.TheVariants as i
 use Rattle.sp_code.specs.declared.code.Parts.{Parts}
 use Rattle.sp_rules.specs.Areas.{Area, Body, Child, Found, given, instr_at, variable_at}
 use Rattle.sp_rules.specs.Named.{is_some, is_loop_variable, is_plain, is_reference, level_fits, in_range, names_well}
 use Rattle.sp_rules.specs.Named.{loops_well}
-use Rattle.sp_rules.proofs.Facts.{no_true}
 use Rattle.sp_areas.specs.declared.owners.Owner.{Owner}
 use Rattle.sp_areas.specs.declared.owners.Owner.TheVariants as owner
 use Rattle.sp_areas.specs.Misnamed.{MisnamesOnly, fits, Decides}
 use Rattle.sp_areas.specs.Only.{LiesOnlyIn}
 use Rattle.sp_areas.specs.Owners.{owner_of, IsOnly, Owns}
-use Rattle.sp_areas.proofs.Alone.{not_true, not_false}
 use Rattle.sp_areas.proofs.Surrounding.{owner_is}
-
-both_false : (a b : Bool) → (a && b) ≡ false → (a ≡ false) ⊎ (b ≡ false)
-both_false true b e = inr e
-both_false false b e = inl refl
-
-left_false : (a b : Bool) → a ≡ false → (a && b) ≡ false
-left_false a b e = ap (λ t. t && b) e
-
-right_false : (a b : Bool) → b ≡ false → (a && b) ≡ false
-right_false true b e = e
-right_false false b e = refl
 
 nothing : (o : Option Found) → is_some o ≡ false → o ≡ None
 nothing None e = refl
@@ -45,9 +34,9 @@ module _ (c : Parts) where
   no_loop o e = ap is_loop_variable (nothing o e)
 
   ranged : (a : Area) (o : Option Instr) → in_range c a o ≡ false → (names_well c a o && loops_well c a o) ≡ false
-  ranged a (Some (i.Addr up var)) e = left_false (names_well c a (Some (i.Addr up var))) true
+  ranged a (Some (i.Addr up var)) e = and_left (names_well c a (Some (i.Addr up var))) true
       (no_plain (variable_at c a up var) e)
-  ranged a (Some (i.Deref up var)) e = left_false (names_well c a (Some (i.Deref up var))) true
+  ranged a (Some (i.Deref up var)) e = and_left (names_well c a (Some (i.Deref up var))) true
       (no_reference (variable_at c a up var) e)
   ranged a (Some (i.Forup var to)) e = no_loop (variable_at c a 0 var) e
   ranged a (Some (i.Fordown var to)) e = no_loop (variable_at c a 0 var) e
@@ -58,35 +47,35 @@ module _ (c : Parts) where
   pub misnames_yes : (a : Area) (p : ℕ) → LiesOnlyIn c p a → fits c a (instr_at c p) ≡ false → MisnamesOnly c p
   misnames_yes a p l e =
       ⊎_elim (λ h. inl (a, l, h)) (λ h. ⊎_elim (λ h. inr (inr (inl (a, l, h)))) (λ h. inr (inr (inr (a, l, h))))
-      (both_false (names_well c a (instr_at c p)) (loops_well c a (instr_at c p)) h))
-      (both_false (level_fits c a (instr_at c p)) (names_well c a (instr_at c p) && loops_well c a (instr_at c p)) e)
+      (and_cases (names_well c a (instr_at c p)) (loops_well c a (instr_at c p)) h))
+      (and_cases (level_fits c a (instr_at c p)) (names_well c a (instr_at c p) && loops_well c a (instr_at c p)) e)
 
   unfit : (p : ℕ) → MisnamesOnly c p → (a : Area) × LiesOnlyIn c p a × (fits c a (instr_at c p) ≡ false)
   unfit p (inl (a, l, h)) = (
     a,
     l,
-    left_false (level_fits c a (instr_at c p)) (names_well c a (instr_at c p)
+    and_left (level_fits c a (instr_at c p)) (names_well c a (instr_at c p)
         && loops_well c a (instr_at c p)) h,
   )
   unfit p (inr (inl (a, l, h))) = (
     a,
     l,
-    right_false (level_fits c a (instr_at c p)) (names_well c a (instr_at c p)
+    and_right (level_fits c a (instr_at c p)) (names_well c a (instr_at c p)
         && loops_well c a (instr_at c p)) (ranged a (instr_at c p) h),
   )
   unfit p (inr (inr (inl (a, l, h)))) = (
     a,
     l,
-    right_false (level_fits c a (instr_at c p)) (names_well c a (instr_at c p)
+    and_right (level_fits c a (instr_at c p)) (names_well c a (instr_at c p)
         && loops_well c a (instr_at c p))
-        (left_false (names_well c a (instr_at c p)) (loops_well c a (instr_at c p)) h),
+        (and_left (names_well c a (instr_at c p)) (loops_well c a (instr_at c p)) h),
   )
   unfit p (inr (inr (inr (a, l, h)))) = (
     a,
     l,
-    right_false (level_fits c a (instr_at c p)) (names_well c a (instr_at c p)
+    and_right (level_fits c a (instr_at c p)) (names_well c a (instr_at c p)
         && loops_well c a (instr_at c p))
-        (right_false (names_well c a (instr_at c p)) (loops_well c a (instr_at c p)) h),
+        (and_right (names_well c a (instr_at c p)) (loops_well c a (instr_at c p)) h),
   )
 
   -- a test by the one area decides it; where there is no one area, it is not broken
@@ -98,10 +87,10 @@ module _ (c : Parts) where
       one = (h.lies, h.only)
 
       yes : not t ≡ true → MisnamesOnly c p
-      yes e = misnames_yes h.area p one (sym (test h.area one) ∙ not_true t e)
+      yes e = misnames_yes h.area p one (sym (test h.area one) ∙ not-true t e)
 
       no : not t ≡ false → MisnamesOnly c p → ⊥
-      no e m = let u = unfit p m in no_true (not t) (not_false t (test u.0 u.1 ∙ u.2)) e
+      no e m = let u = unfit p m in not_true_and_false (not t) (not_from_false t (test u.0 u.1 ∙ u.2)) e
 
   pub decides_nobody : (p : ℕ) → Owns c p owner.Nobody → Decides false (MisnamesOnly c p)
   decides_nobody p h = record { yes = λ e. absurd (cc e); no = λ e m. h (unfit p m).0 (unfit p m).1.0 }

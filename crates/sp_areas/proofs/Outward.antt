@@ -3,9 +3,9 @@ use Rattle.std.proofs.Common.{◌≡◌, refl, ap, sym, ◌∙◌, subst, ℕ, z
 use Rattle.std.proofs.Common.{Option, Some, None, arith}
 use Rattle.std.specs.Prelude.{slice_get, drop}
 use Rattle.std.proofs.lemmas.List.{drop-drop}
+use Rattle.std.proofs.lemmas.Option.{none-some, same_Some}
 use Rattle.sp_code.specs.declared.code.Layout.{Layout}
 use Rattle.sp_code.specs.Memory.{Home}
-use Rattle.sp_rules.proofs.Facts.{same_some, none_some}
 use Rattle.sp_areas.specs.declared.tree.Jump.{Jump}
 use Rattle.sp_areas.specs.declared.tree.Node.{Node}
 use Rattle.sp_areas.specs.Tree.{home_of, IsFrame, around_list, IsJump, IsNode, IsFound}
@@ -16,18 +16,6 @@ drop_none (x ∷ xs) = refl
 
 pub drop_more : {T : Type 0} (n : ℕ) (x : T) (xs : List T) → drop (suc n) (x ∷ xs) ≡ drop n xs
 drop_more n x xs = refl
-
-pub get_past : {T : Type 0} (xs : List T) (k : ℕ) → k < length xs → slice_get xs k ≡ None → ⊥
-get_past [] k l e = absurd (omega (arith, l))
-get_past (x ∷ xs) zero l e = cc (e)
-get_past (x ∷ xs) (suc k) l e = get_past xs k (omega (arith, l)) e
-
-pub got : {T : Type 0} (xs : List T) (k : ℕ) → k < length xs → (x : T) × (slice_get xs k ≡ Some x)
-got xs k l = go (slice_get xs k) refl
-  where
-    go : (o : Option _) → slice_get xs k ≡ o → (x : _) × (slice_get xs k ≡ Some x)
-    go None e = absurd (get_past xs k l e)
-    go (Some x) e = (x, e)
 
 pub first_left : {T : Type 0} (n : ℕ) (xs : List T) → slice_get xs n ≡ slice_get (drop n xs) 0
 first_left zero [] = refl
@@ -68,7 +56,7 @@ module _ (ls : List Layout) (lists : ℕ → List Home) (size : ℕ) where
   found_here hs xs up left n i e z = record {
     is = sym at;
     frame = λ f s. subst (IsFrame ls)
-        (same_some n.frame f s) i.frame;
+        (same_Some n.frame f s) i.frame;
   }
     where
       at : slice_get xs up ≡ Some (home_of n.frame)
@@ -78,7 +66,7 @@ module _ (ls : List Layout) (lists : ℕ → List Home) (size : ℕ) where
   -- with levels left and nothing around, there is none
   pub found_none : (hs xs : List Home) (up left : ℕ) (n : Node) → IsNode ls lists size hs n → drop up xs ≡ drop left hs
       → 0 < left → n.around ≡ None → IsFound ls (slice_get xs up) None
-  found_none hs xs up left n i e l s = record { is = sym at; frame = λ f t. absurd (none_some f t) }
+  found_none hs xs up left n i e l s = record { is = sym at; frame = λ f t. absurd (none-some f t) }
     where
       nothing : (k : ℕ) (h : Home) → 0 < k → drop k (h ∷ []) ≡ []
       nothing zero h l = absurd (omega (arith, l))

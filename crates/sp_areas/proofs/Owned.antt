@@ -4,7 +4,7 @@ use Rattle.std.proofs.Common.{List, [], ◌∷◌, length, take, Option, Some, N
 use Rattle.std.proofs.Common.{eqb-true}
 use Rattle.std.specs.Prelude.{slice_get}
 use Rattle.std.proofs.lemmas.List.{length-take-le}
-use Rattle.std.proofs.lemmas.Option.{slice_get_within}
+use Rattle.std.proofs.lemmas.Option.{slice_get_within, none-some, same_Some}
 use Rattle.sp_code.specs.declared.instr.Instr.{Instr}
 use Rattle.sp_code.specs.declared.code.Layout.{Layout}
 use Rattle.sp_code.specs.declared.code.ChildTable.{ChildTable}
@@ -19,36 +19,35 @@ use Rattle.sp_rules.specs.Reach.{IsIn, IsArea, Passes, Goes, nexts}
 use Rattle.sp_rules.specs.Named.{LiesIn, Names, IsChild}
 use Rattle.sp_areas.specs.Owners.{owner_of, IsOnly, Owns, AreOwners, HasOne, IsTrueOf, AreTrue, IsOwner, as_child}
 use Rattle.sp_areas.specs.Owners.{of_child, Knows, IsClosed}
-use Rattle.sp_rules.proofs.Facts.{same_some, none_some}
 use Rattle.sp_areas.proofs.Owning.{lies_in}
 
 pub layout_in : (ls : List Layout) (b : ℕ) (l : Layout) → layout_of ls b ≡ Some l → (j : ℕ) × (slice_get ls j ≡ Some l)
     × (l.block ≡ b)
-layout_in [] b l e = absurd (none_some l e)
+layout_in [] b l e = absurd (none-some l e)
 layout_in (m ∷ ls) b l e = go (m.block == b) refl e (layout_in ls b l)
   where
     go : (t : Bool) → m.block == b ≡ t → (if t then Some m else layout_of ls b) ≡ Some l
         → (layout_of ls b ≡ Some l → (j : ℕ) × (slice_get ls j ≡ Some l) × (l.block ≡ b))
         → (j : ℕ) × (slice_get (m ∷ ls) j ≡ Some l) × (l.block ≡ b)
-    go true t e on = (zero, e, ap (λ (x : Layout). x.block) (sym (same_some m l e)) ∙ eqb-true m.block b t)
+    go true t e on = (zero, e, ap (λ (x : Layout). x.block) (sym (same_Some m l e)) ∙ eqb-true m.block b t)
     go false t e on = let r = on e in (suc r.0, r.1, r.2)
 
 pub table_of : (t k : ℕ) (fs : List ForkTable) (ch : ChildTable) → child_of (slice_get fs t) k ≡ Some ch → t < length fs
 table_of t k fs ch e = go (slice_get fs t) refl e
   where
     go : (o : Option ForkTable) → slice_get fs t ≡ o → child_of o k ≡ Some ch → t < length fs
-    go None s e = absurd (none_some ch e)
+    go None s e = absurd (none-some ch e)
     go (Some tb) s e = slice_get_within fs t tb s
 
 pub name_of : (o : Option ℕ) (k : ℕ) (fs : List ForkTable) (ch : ChildTable) → child_of (table_at fs o) k ≡ Some ch
     → (t : ℕ) × (o ≡ Some t)
-name_of None k fs ch e = absurd (none_some ch e)
+name_of None k fs ch e = absurd (none-some ch e)
 name_of (Some t) k fs ch e = (t, refl)
 
 taken : {T : Type 0} (n i : ℕ) (xs : List T) (x : T) → slice_get (take n xs) i ≡ Some x → (i < n)
     × (slice_get xs i ≡ Some x)
-taken zero i xs x e = absurd (none_some x e)
-taken (suc n) i [] x e = absurd (none_some x e)
+taken zero i xs x e = absurd (none-some x e)
+taken (suc n) i [] x e = absurd (none-some x e)
 taken (suc n) zero (y ∷ ys) x e = (omega arith, e)
 taken (suc n) (suc i) (y ∷ ys) x e = let r = taken n i ys x e in let l = r.0 in (omega (arith, l), r.1)
 
@@ -56,7 +55,7 @@ pub named_within : (c : Parts) (t p : ℕ) → Names c t p → p < length c.inst
 named_within c t p n = go (instr_at c p) refl n
   where
     go : (o : Option Instr) → instr_at c p ≡ o → table_named o ≡ Some t → p < length c.instrs
-    go None e n = absurd (none_some t n)
+    go None e n = absurd (none-some t n)
     go (Some i) e n = slice_get_within c.instrs p i e
 
 pub step_within : (c : Parts) (p q : ℕ) → IsIn q (nexts p (instr_at c p)) → p < length c.instrs
@@ -174,7 +173,7 @@ module _ (c : Parts) (os : List Owner) (are : AreTrue c os) (closed : IsClosed c
   -- of two areas, each has the same owner there
   alike : (a b : Area) (p : ℕ) → p < length c.instrs → LiesIn c p a → LiesIn c p b
       → (slice_get os p ≡ Some owner.Several → ⊥) → owner_of a ≡ owner_of b
-  alike a b p l h k never = same_some (owner_of a) (owner_of b) (sym (not_two p (owner_of a) never (known a p h l))
+  alike a b p l h k never = same_Some (owner_of a) (owner_of b) (sym (not_two p (owner_of a) never (known a p h l))
       ∙ not_two p (owner_of b) never (known b p k l))
 
   -- the fork around knows of one alone, too
@@ -212,7 +211,7 @@ module _ (c : Parts) (os : List Owner) (are : AreTrue c os) (closed : IsClosed c
     lies = lies;
     is = h.is;
     only = λ b k. one_area b h.area p l k lies
-        (λ s. d (same_some o owner.Several (sym e ∙ s)));
+        (λ s. d (same_Some o owner.Several (sym e ∙ s)));
   }
     where
       lies : LiesIn c p h.area
@@ -221,7 +220,7 @@ module _ (c : Parts) (os : List Owner) (are : AreTrue c os) (closed : IsClosed c
   nobody : (p : ℕ) → p < length c.instrs → slice_get os p ≡ Some owner.Nobody → (a : Area) → LiesIn c p a → ⊥
   nobody p l e a h =
       let k = known a p h l in
-      let s = same_some owner.Nobody k.found (sym e ∙ k.is) in
+      let s = same_Some owner.Nobody k.found (sym e ∙ k.is) in
       found_some p (owner_of a) (an_owner a) k (sym s)
 
   owns : (p : ℕ) (o : Owner) → p < length c.instrs → slice_get os p ≡ Some o → IsTrueOf c p o → Owns c p o

@@ -3,9 +3,10 @@ use Rattle.std.proofs.Common.{◌≡◌, ◌⊎◌, ◌≢◌, inl, inr, ⊎_eli
 use Rattle.std.proofs.Common.{◌==◌, List, [], ◌∷◌, length, Option, Some, None, Bool, true, false, ◌||◌, if◌then◌else◌}
 use Rattle.std.proofs.Common.{arith, eqb-true}
 use Rattle.std.specs.Prelude.{slice_get, slice_set}
-use Rattle.std.proofs.lemmas.Bool.{eq-eqb}
+use Rattle.std.proofs.lemmas.Bool.{eq-eqb, and_parts, cases_eq}
 use Rattle.std.proofs.lemmas.List.{length-set}
-use Rattle.std.proofs.lemmas.Option.{slice_get_within}
+use Rattle.std.proofs.lemmas.Option.{slice_get_within, same_Some}
+use Rattle.sp_base.proofs.Facts.{get_beside_set, get_where_set, item_is_not_none, not_true_and_false}
 use Rattle.sp_code.specs.declared.code.Layout.{Layout}
 use Rattle.sp_code.specs.declared.code.ChildTable.{ChildTable}
 use Rattle.sp_code.specs.declared.code.Parts.{Parts}
@@ -18,36 +19,15 @@ use Rattle.sp_rules.specs.Reach.{IsIn, Goes, nexts}
 use Rattle.sp_rules.specs.Named.{LiesIn, Names, IsChild}
 use Rattle.sp_areas.specs.Owners.{owner_of, Has, HasOne, HasTwo, IsTrueOf, AreTrue, is_same, IsOwner, join, room}
 use Rattle.sp_areas.specs.Owners.{as_child, of_child, Knows, Gives, Spreads}
-use Rattle.sp_rules.proofs.Facts.{same_some, both_true, no_true}
 
 -- ---- lists
-
-pub get_set_same : {T : Type 0} (xs : List T) (i : ℕ) (x : T) → i < length xs → slice_get (slice_set xs i x) i ≡ Some x
-get_set_same [] i x h = absurd (omega (arith, h))
-get_set_same (y ∷ ys) zero x h = refl
-get_set_same (y ∷ ys) (suc i) x h = get_set_same ys i x (omega (arith, h))
-
-pub get_set_other : {T : Type 0} (xs : List T) (i j : ℕ) (x : T) → i ≢ j
-    → slice_get (slice_set xs i x) j ≡ slice_get xs j
-get_set_other [] i j x h = refl
-get_set_other (y ∷ ys) zero zero x h = absurd (h refl)
-get_set_other (y ∷ ys) zero (suc j) x h = refl
-get_set_other (y ∷ ys) (suc i) zero x h = refl
-get_set_other (y ∷ ys) (suc i) (suc j) x h = get_set_other ys i j x (λ e. h (ap suc e))
-
-pub equal_or : (i j : ℕ) → (i ≡ j) ⊎ (i ≢ j)
-equal_or i j = go (i == j) refl
-  where
-    go : (b : Bool) → i == j ≡ b → (i ≡ j) ⊎ (i ≢ j)
-    go true e = inl (eqb-true i j e)
-    go false e = inr (λ h. no_true (i == j) (eq-eqb i j h) e)
 
 -- ---- owners
 
 pub same_is : (w o : Owner) → is_same w o ≡ true → w ≡ o
 same_is owner.Nobody owner.Nobody e = refl
 same_is (owner.Block b) (owner.Block d) e = ap owner.Block (eqb-true b d e)
-same_is (owner.Child p k) (owner.Child q j) e = let b = both_true (p == q) (k == j) e in let x = eqb-true p q b.0 in
+same_is (owner.Child p k) (owner.Child q j) e = let b = and_parts (p == q) (k == j) e in let x = eqb-true p q b.0 in
     let y = eqb-true k j b.1 in λ z. owner.Child (x z) (y z)
 same_is owner.Several owner.Several e = refl
 same_is w o e = absurd (cc e)
@@ -82,7 +62,7 @@ module _ (c : Parts) where
     other = k.area;
     has = h.has;
     too = k.has;
-    apart = λ s. no_true (is_same w o)
+    apart = λ s. not_true_and_false (is_same w o)
         (ap (is_same w) (sym (sym h.is ∙ ap owner_of s ∙ k.is)) ∙ same_self w) e;
   }
 
@@ -120,29 +100,24 @@ module _ (c : Parts) where
           where
             each : (y : ℕ) (v : Owner) → slice_get (slice_set old x (join w o)) y ≡ Some v → IsTrueOf c y v
             each y v h = ⊎_elim
-                (λ (s : x ≡ y). let r = same_some (join w o) v
-                (sym (get_set_same old x (join w o) (slice_get_within old x w e))
+                (λ (s : x ≡ y). let r = same_Some (join w o) v
+                (sym (get_where_set old x (join w o) (slice_get_within old x w e))
                 ∙ ap (slice_get (slice_set old x (join w o))) s ∙ h) in
                 subst (λ z. IsTrueOf c z v) s (subst (IsTrueOf c x) r (true_join x w o (are.each x w e) some k)))
-                (λ (d : x ≢ y). are.each y v (sym (get_set_other old x y (join w o) d) ∙ h))
-                (equal_or x y)
+                (λ (d : x ≢ y). are.each y v (sym (get_beside_set old x y (join w o) d) ∙ h))
+                (cases_eq x y)
 
     gives_knows : x < length old → Knows new x o
     gives_knows l = go (slice_get old x) refl
       where
         go : (u : Option Owner) → slice_get old x ≡ u → Knows new x o
-        go None e = absurd (past old x l e)
-          where
-            past : (xs : List Owner) (i : ℕ) → i < length xs → slice_get xs i ≡ None → ⊥
-            past [] i l e = omega (arith, l)
-            past (y ∷ ys) zero l e = cc (e)
-            past (y ∷ ys) (suc i) l e = past ys i (omega (arith, l)) e
+        go None e = absurd (item_is_not_none old x l e)
         go (Some w) e =
             let s = g.now ∙ ap (λ (u : Option Owner). given old u (λ v. slice_set old x (join v o))) e in
             record {
               found = join w o;
               is = ap (λ (os : List Owner). slice_get os x) s
-                  ∙ get_set_same old x (join w o) l;
+                  ∙ get_where_set old x (join w o) l;
               above = join_above w o;
             }
 

@@ -2,7 +2,8 @@
 use Rattle.std.proofs.Common.{◌≡◌, ◌⊎◌, inl, inr, ⊎_elim, refl, ap, sym, ◌∙◌, ℕ, ◌+◌, ◌≤◌, ◌==◌, List, [], ◌∷◌, length}
 use Rattle.std.proofs.Common.{Option, Some, None, Bool, true, false, ◌||◌, arith, eqb-true}
 use Rattle.std.specs.Prelude.{not, nat_le}
-use Rattle.std.proofs.lemmas.Bool.{le-leb, eq-eqb}
+use Rattle.std.proofs.lemmas.Bool.{le-leb, eq-eqb, and_from, and_parts, not-true, not_from_false, or_cases, or_left}
+use Rattle.std.proofs.lemmas.Bool.{or_right}
 use Rattle.sp_code.specs.declared.instr.Instr.{Instr}
 use Rattle.sp_code.specs.declared.instr.Instr.TheVariants as i
 use Rattle.sp_code.specs.declared.code.Parts.{Parts}
@@ -13,12 +14,10 @@ use Rattle.sp_rules.specs.Reach.{IsIn, nexts}
 use Rattle.sp_rules.specs.Named.{Shared, Misplaced, ends_well}
 use Rattle.sp_areas.specs.Owners.{owner_of, IsOnly, Owns, listed}
 use Rattle.sp_areas.specs.Placed.{ends_as, has_way, runs_past, fails_placed, leads}
-use Rattle.sp_rules.proofs.Facts.{both_true, and_true}
-use Rattle.sp_areas.proofs.Alone.{or_split, or_left, or_right, not_true, not_false}
 
 has_in : (q : ℕ) (ns : List ℕ) → has_way q ns ≡ true → IsIn q ns
 has_in q [] e = absurd (cc e)
-has_in q (r ∷ rs) e = ⊎_elim (λ h. inl (eqb-true q r h)) (λ h. inr (has_in q rs h)) (or_split (q == r) (has_way q rs) e)
+has_in q (r ∷ rs) e = ⊎_elim (λ h. inl (eqb-true q r h)) (λ h. inr (has_in q rs h)) (or_cases (q == r) (has_way q rs) e)
 
 in_has : (q : ℕ) (ns : List ℕ) → IsIn q ns → has_way q ns ≡ true
 in_has q [] i = absurd i
@@ -38,13 +37,13 @@ module _ (c : Parts) (p : ℕ) where
       → (runs_past (length c.instrs) p (instr_at c p) || not (ends_as w (instr_at c p))) ≡ true → Shared c p
       ⊎ Misplaced c (ends_well c) p
   only_fails w h e = ⊎_elim past ends
-      (or_split (runs_past (length c.instrs) p (instr_at c p)) (not (ends_as w (instr_at c p))) e)
+      (or_cases (runs_past (length c.instrs) p (instr_at c p)) (not (ends_as w (instr_at c p))) e)
     where
       reached : nat_le (length c.instrs) (p + 1) ≡ true → length c.instrs ≤ p + 1
       reached l = Prim.grind (arith, l)
 
       past : runs_past (length c.instrs) p (instr_at c p) ≡ true → Shared c p ⊎ Misplaced c (ends_well c) p
-      past r = let b = both_true (has_way (p + 1) (nexts p (instr_at c p))) (nat_le (length c.instrs) (p + 1)) r in inl
+      past r = let b = and_parts (has_way (p + 1) (nexts p (instr_at c p))) (nat_le (length c.instrs) (p + 1)) r in inl
           (h.area, h.lies, inr (has_in (p + 1) (nexts p (instr_at c p)) b.0, reached b.1))
 
       ends : not (ends_as w (instr_at c p)) ≡ true → Shared c p ⊎ Misplaced c (ends_well c) p
@@ -52,7 +51,7 @@ module _ (c : Parts) (p : ℕ) where
         h.area,
         h.lies,
         sym (ends_by c h.area (instr_at c p))
-            ∙ ap (λ (z : Owner). ends_as z (instr_at c p)) h.is ∙ not_true (ends_as w (instr_at c p)) f,
+            ∙ ap (λ (z : Owner). ends_as z (instr_at c p)) h.is ∙ not-true (ends_as w (instr_at c p)) f,
       )
 
   fails_only : (w : Owner) → IsOnly c p w → Shared c p ⊎ Misplaced c (ends_well c) p
@@ -60,12 +59,12 @@ module _ (c : Parts) (p : ℕ) where
   fails_only w h (inl (a, lies, inl (b, k, d))) = absurd (d (h.only a lies ∙ sym (h.only b k)))
   fails_only w h (inl (a, lies, inr (i, l))) =
       or_left (runs_past (length c.instrs) p (instr_at c p)) (not (ends_as w (instr_at c p)))
-      (and_true (has_way (p + 1) (nexts p (instr_at c p))) (nat_le (length c.instrs) (p + 1))
+      (and_from (has_way (p + 1) (nexts p (instr_at c p))) (nat_le (length c.instrs) (p + 1))
       (in_has (p + 1) (nexts p (instr_at c p)) i) (le-leb (length c.instrs) (p + 1) l))
   fails_only w h (inr (a, lies, f)) =
       let s : a ≡ h.area = h.only a lies in
       or_right (runs_past (length c.instrs) p (instr_at c p)) (not (ends_as w (instr_at c p)))
-      (not_false (ends_as w (instr_at c p)) (ap (λ (z : Owner). ends_as z (instr_at c p)) (sym h.is
+      (not_from_false (ends_as w (instr_at c p)) (ap (λ (z : Owner). ends_as z (instr_at c p)) (sym h.is
       ∙ ap owner_of (sym s)) ∙ ends_by c a (instr_at c p) ∙ f))
 
   pub is_misplaced : (w : Owner) → Owns c p w → fails_placed (length c.instrs) p (instr_at c p) w ≡ true → Shared c p

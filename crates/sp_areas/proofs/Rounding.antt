@@ -5,7 +5,8 @@ use Rattle.std.proofs.Common.{[], ◌∷◌, length, Option, Some, None, Bool, t
 use Rattle.std.specs.Prelude.{slice_get, slice_set, replicate, not, get_or, Result, Ok, Err, OnOk, IsTrue, ◌↔◌}
 use Rattle.std.proofs.lemmas.List.{length-set, length-replicate}
 use Rattle.std.proofs.lemmas.List.Sums.{sum_by-set}
-use Rattle.std.proofs.lemmas.Option.{slice_get_within, slice_get-get_or, get_or_from_slice_get}
+use Rattle.std.proofs.lemmas.Option.{slice_get_within, slice_get-get_or, get_or_from_slice_get, none-some}
+use Rattle.sp_base.proofs.Facts.{less_same_or_more, not_true_and_false}
 use Rattle.sp_code.specs.declared.instr.Instr.{Instr}
 use Rattle.sp_code.specs.declared.instr.Instr.TheVariants as i
 use Rattle.sp_code.specs.declared.code.Parts.{Parts}
@@ -22,7 +23,6 @@ use Rattle.sp_areas.specs.Rounds.{has_owner, number_at, FallsFrom, before, Break
 use Rattle.sp_areas.specs.Rounds.{AreLed, Widens, IsAt, IsDone}
 use Rattle.sp_areas.proofs.Handing.{in_listed, way_first, way_second}
 use Rattle.sp_areas.proofs.Owning.{along}
-use Rattle.sp_rules.proofs.Facts.{none_some, no_true, which}
 
 -- ---- owners
 
@@ -55,7 +55,7 @@ module _ (c : Parts) (os : List Owner) (are : AreOwners c os) (p : ℕ) where
       by owner.Several n = refl
 
       go : (w : Option Owner) → slice_get os p ≡ w → has_owner os p ≡ true
-      go None s = absurd (none_some (get_or os p owner.Nobody) (sym s
+      go None s = absurd (none-some (get_or os p owner.Nobody) (sym s
           ∙ slice_get-get_or os p owner.Nobody (there are.0)))
       go (Some o) s = ap (λ w. given false w (λ o. not (is_same o owner.Nobody))) s ∙ by o (are.1 p o s)
 
@@ -143,9 +143,9 @@ fewer_set fs q = go (slice_get fs q) refl
   where
     past : slice_get fs q ≡ None → length fs ≤ q
     past e = ⊎_elim
-        (λ (l : q < length fs). absurd (none_some (get_or fs q true) (sym e ∙ slice_get-get_or fs q true l)))
+        (λ (l : q < length fs). absurd (none-some (get_or fs q true) (sym e ∙ slice_get-get_or fs q true l)))
         (λ z. ⊎_elim (λ (m : q ≡ length fs). omega (arith, m)) (λ (m : length fs < q). omega (arith, m)) z)
-        (which q (length fs))
+        (less_same_or_more q (length fs))
 
     go : (o : Option Bool) → slice_get fs q ≡ o → gaps (slice_set fs q true) ≤ gaps fs
     go None e = let s = ap gaps (set_past fs q (past e)) in omega (arith, s)
@@ -242,7 +242,7 @@ on_map (Err e) P Q f h = tt
 
 module _ (c : Parts) (os : List Owner) (are : AreOwners c os) (p : ℕ) where
   pub not_broken : has_owner os p ≡ false → BreaksV9 c p → ⊥
-  not_broken e b = let l = lies_back c p b in no_true (has_owner os p) (has_there c os are p l.1.0 l.1.1 l.0) e
+  not_broken e b = let l = lies_back c p b in not_true_and_false (has_owner os p) (has_there c os are p l.1.0 l.1.1 l.0) e
 
   -- V9 is broken there as the search says
   pub broken_is : (fs : List Bool) (b : Bool) → has_owner os p ≡ true → AreLed c p fs → IsDone c p fs
@@ -253,7 +253,7 @@ module _ (c : Parts) (os : List Owner) (are : AreOwners c os) (p : ℕ) where
   )
   broken_is fs false e led done s = (
     λ t. absurd (cc t),
-    λ x. absurd (no_true (flag_at fs p) (flagged c p fs led done (strays_back c p x)) (sym s)),
+    λ x. absurd (not_true_and_false (flag_at fs p) (flagged c p fs led done (strays_back c p x)) (sym s)),
   )
 
 pub broken_at : (c : Parts) (to : Option ℕ) (p : ℕ) (b : Bool) → to ≡ Some p → IsTrue b ↔ BreaksV9 c p → b ≡ true

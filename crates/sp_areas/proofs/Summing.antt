@@ -5,6 +5,7 @@ use Rattle.std.proofs.Common.{length, Option, Some, None, Bool, true, false, ari
 use Rattle.std.specs.Prelude.{slice_get, nat_lt}
 use Rattle.std.proofs.lemmas.Bool.Decides.{nat_tests}
 use Rattle.std.proofs.lemmas.Option.{slice_get_cases}
+use Rattle.std.proofs.lemmas.Bool.{cases_lt, le-ltb}
 use Rattle.sp_code.specs.declared.instr.Instr.{Instr}
 use Rattle.sp_code.specs.declared.instr.Instr.TheVariants as i
 use Rattle.sp_code.specs.declared.code.ChildTable.{ChildTable}
@@ -36,16 +37,6 @@ pub lower : (P Q : ℕ → Type 0) (o : Option ℕ) → ((p : ℕ) → P p → Q
     → IsLeast P o → IsLeast Q o
 lower P Q None up down h = λ p q. let r = down p q in h r.0 r.2
 lower P Q (Some n) up down h = (up n h.0, λ p l q. let r = down p q in let s = r.1 in h.1 r.0 (omega (arith, l, s)) r.2)
-
-below_or_past : (p n : ℕ) → (p < n) ⊎ (n ≤ p)
-below_or_past p n = go (nat_lt p n) refl
-  where
-    go : (t : Bool) → nat_lt p n ≡ t → (p < n) ⊎ (n ≤ p)
-    go true e = inl (Prim.grind (arith, e))
-    go false e = inr (Prim.grind (arith, e))
-
-not_below : (p n : ℕ) → n ≤ p → nat_lt p n ≡ false
-not_below p n h = grind (arith, nat_tests)
 
 -- ---- the last step of a way
 
@@ -159,7 +150,7 @@ module _ (c : Parts) where
         r,
         (let l = inside in omega (arith, l, h)),
         inl
-            (inl (inl (inl (inl (e ∙ not_below p (length c.instrs) h))))),
+            (inl (inl (inl (inl (e ∙ le-ltb p (length c.instrs) h))))),
       )
 
   past : (a : Area) (p : ℕ) → LiesIn c p a → length c.instrs ≤ p → FoundBy p
@@ -168,7 +159,7 @@ module _ (c : Parts) where
       (last_step w.steps (entry c a) p w.way)
 
   shared : (p : ℕ) → Shared c p → FoundBy p
-  shared p h = ⊎_elim (λ l. placed p (l, inl h)) (past h.0 p h.1) (below_or_past p (length c.instrs))
+  shared p h = ⊎_elim (λ l. placed p (l, inl h)) (past h.0 p h.1) (cases_lt p (length c.instrs))
 
   module _ (os : List Owner) (are : AreOwners c os) where
     -- an instruction lies in one area alone, or in two
@@ -192,7 +183,7 @@ module _ (c : Parts) where
     misplaced well found p (a, lies, f) = ⊎_elim
         (λ l. ⊎_elim (λ o. here p (found p (a, o, f))) (λ s. shared p (two p s)) (decide p a l lies))
         (past a p lies)
-        (below_or_past p (length c.instrs))
+        (cases_lt p (length c.instrs))
 
     -- the children of an instruction of two areas begin in two
     children : (q k p : ℕ) (ch : ChildTable) → child_at c q k ≡ Some ch → ch.entry ≡ p → IsShared c q → Shared c p
@@ -226,7 +217,7 @@ module _ (c : Parts) where
     found p (TableUnknown h) = unknown p h
     found p (LevelDiffers h) = misplaced (level_fits c) (λ q z. inr (inl (inr (inl z)))) p h
     found p (InTwo h) = shared p h
-    found p (EndsWrong h) = ⊎_elim (λ l. placed p (l, inr h)) (past h.0 p h.1) (below_or_past p (length c.instrs))
+    found p (EndsWrong h) = ⊎_elim (λ l. placed p (l, inr h)) (past h.0 p h.1) (cases_lt p (length c.instrs))
     found p (OutOfRange h) = misplaced (in_range c) (λ q z. inr (inl (inr (inr (inl z))))) p h
     found p (NamedWrong h) = misplaced (names_well c) (λ q z. inr (inl (inr (inr (inr (inl z)))))) p h
     found p (LoopsWrong h) = misplaced (loops_well c) (λ q z. inr (inl (inr (inr (inr (inr z)))))) p h

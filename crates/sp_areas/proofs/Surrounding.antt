@@ -4,9 +4,10 @@ use Rattle.std.proofs.Common.{◌≡◌, ◌≢◌, ◌⊎◌, inl, inr, ⊎_eli
 use Rattle.std.proofs.Common.{if◌then◌else◌, List, [], ◌∷◌, ◌++◌, length, replicate, Option, Some, None, Bool, true}
 use Rattle.std.proofs.Common.{false, arith}
 use Rattle.std.specs.Prelude.{slice_get, nat_lt}
-use Rattle.std.proofs.lemmas.Bool.{lt-ltb}
+use Rattle.std.proofs.lemmas.Bool.{lt-ltb, cases_eq}
 use Rattle.std.proofs.lemmas.List.{length-append, length-set}
-use Rattle.std.proofs.lemmas.Option.{slice_get_within}
+use Rattle.std.proofs.lemmas.Option.{slice_get_within, none-some, same_Some}
+use Rattle.sp_base.proofs.Facts.{below_or_last, get_before_last, get_last, item_there}
 use Rattle.sp_code.specs.declared.code.ChildTable.{ChildTable}
 use Rattle.sp_code.specs.declared.code.ForkTable.{ForkTable}
 use Rattle.sp_code.specs.declared.code.Parts.{Parts}
@@ -15,7 +16,6 @@ use Rattle.sp_rules.specs.Areas.{Area, Body, Child, given, instr_at, table_named
 use Rattle.sp_rules.specs.Areas.{entry_of_child, index_of_child, with_home, block_homes, homes}
 use Rattle.sp_rules.specs.Reach.{Goes}
 use Rattle.sp_rules.specs.Named.{LiesIn, Names, IsChild}
-use Rattle.sp_rules.proofs.Facts.{same_some, none_some}
 use Rattle.sp_areas.specs.declared.owners.Owner.{Owner}
 use Rattle.sp_areas.specs.declared.owners.Owner.TheVariants as owner
 use Rattle.sp_areas.specs.declared.tree.Grown.{Grown}
@@ -30,10 +30,8 @@ use Rattle.sp_areas.specs.declared.tree.Node.{Node}
 use Rattle.sp_areas.specs.Homes.{AreHomes, IsHome}
 use Rattle.sp_areas.specs.Tree.{AreLists}
 use Rattle.sp_areas.proofs.BlockLaws.{place_none}
-use Rattle.sp_areas.proofs.Growing.{below_or, push_before, push_last}
-use Rattle.sp_areas.proofs.Leading.{equal_or, layout_block, left_falls, node_new, node_old, nothing_at, placed_layout}
+use Rattle.sp_areas.proofs.Leading.{layout_block, left_falls, node_new, node_old, nothing_at, placed_layout}
 use Rattle.sp_areas.proofs.Leading.{length_none}
-use Rattle.sp_areas.proofs.Outward.{got}
 use Rattle.sp_areas.proofs.Owned.{name_of, named_within, table_of}
 
 abbrev around_of : Area → Area
@@ -76,16 +74,16 @@ module _ (c : Parts) where
 
   pub owner_there : (os : List Owner) (p : ℕ) → AreOwners c os → p < length c.instrs → Owns c p (owner_in os p)
   owner_there os p are l =
-      let o = got os p (let s = are.0 in omega (arith, s, l)) in
+      let o = item_there os p (let s = are.0 in omega (arith, s, l)) in
       subst (Owns c p) (sym (ap (λ (u : Option Owner). given owner.Nobody u (λ x. x)) o.1)) (are.1 p o.0 o.1)
 
   -- an owner that has a node is that of one area alone
   one_area : (size : ℕ) (blocks tables : List (Option ℕ)) (p n : ℕ) (o : Owner) → Owns c p o
       → node_of c size blocks tables o ≡ Some n → (a : Area) × LiesOnlyIn c p a × (owner_of a ≡ o)
-  one_area size blocks tables p n owner.Nobody h e = absurd (none_some n e)
+  one_area size blocks tables p n owner.Nobody h e = absurd (none-some n e)
   one_area size blocks tables p n (owner.Block b) h e = (h.area, (h.lies, h.only), h.is)
   one_area size blocks tables p n (owner.Child q k) h e = (h.area, (h.lies, h.only), h.is)
-  one_area size blocks tables p n owner.Several h e = absurd (none_some n e)
+  one_area size blocks tables p n owner.Several h e = absurd (none-some n e)
 
   -- ---- nodes
 
@@ -100,32 +98,32 @@ module _ (c : Parts) where
       where
         go : (u : Option ℕ) → number_from 0 c.layouts b ≡ u → given None u (λ k. node_at blocks k) ≡ Some n
             → (n < length g.nodes) × (are.lists n ≡ homes c (Body b))
-        go None s e = absurd (none_some n e)
+        go None s e = absurd (none-some n e)
         go (Some k) s e = are.block b k n s e
     node_right g are (Child a q k) p n l e = at (table_named (instr_at c q)) refl e
       where
         last : (t base : ℕ) → Names c t q → node_at g.of t ≡ Some base → (b : Bool)
             → (if b then Some (base + k) else None) ≡ Some n → (n < length g.nodes)
             × (are.lists n ≡ homes c (Child a q k))
-        last t base s w false e = absurd (none_some n e)
+        last t base s w false e = absurd (none-some n e)
         last t base s w true e =
             let ch = l.0.0.2.0 in
             let there = l.0.0.2.1 in
             let i : IsChild c t k ch = sym (ap (λ (z : Option ℕ). child_of (table_at c.forks z) k) s) ∙ there in
             let h = are.child t base k ch w i in
-            let is = same_some (base + k) n e in
+            let is = same_Some (base + k) n e in
             (subst (λ z. z < length g.nodes) is h.0, ap are.lists (sym is) ∙ h.1 q a s (entry_only a p q k ch l there))
 
         in_table : (t : ℕ) → Names c t q → (v : Option ℕ) → node_at g.of t ≡ v
             → given None v (λ base. child_node (length g.nodes) base k) ≡ Some n → (n < length g.nodes)
             × (are.lists n ≡ homes c (Child a q k))
-        in_table t s None w e = absurd (none_some n e)
+        in_table t s None w e = absurd (none-some n e)
         in_table t s (Some base) w e = last t base s w (nat_lt (base + k) (length g.nodes)) e
 
         at : (u : Option ℕ) → table_named (instr_at c q) ≡ u
             → given None u (λ t. given None (node_at g.of t) (λ base. child_node (length g.nodes) base k)) ≡ Some n
             → (n < length g.nodes) × (are.lists n ≡ homes c (Child a q k))
-        at None s e = absurd (none_some n e)
+        at None s e = absurd (none-some n e)
         at (Some t) s e = in_table t s (node_at g.of t) refl e
 
     module _ (old new : Grown) (are : AreHung c blocks old) (t q around : ℕ) (tb : ForkTable) (o : Owner)
@@ -178,11 +176,11 @@ module _ (c : Parts) where
           (omega (arith, a, more), λ r a n only. extended.same (base + k) was.0 ∙ was.1 r a n only)
 
       child : (u base k : ℕ) (ch : ChildTable) → node_at new.of u ≡ Some base → IsChild c u k ch → IsRight u base k ch
-      child u base k ch e i = ⊎_elim same other (equal_or t u)
+      child u base k ch e i = ⊎_elim same other (cases_eq t u)
         where
           same : t ≡ u → IsRight u base k ch
           same s =
-              let is : length old.nodes ≡ base = same_some (length old.nodes) base
+              let is : length old.nodes ≡ base = same_Some (length old.nodes) base
               (sym (node_new old.of t (length old.nodes) long)
               ∙ ap (λ (os : List (Option ℕ)). node_at os t) (sym g.of) ∙ ap (node_at new.of) s ∙ e) in
               subst (λ z. IsRight u z k ch) is
@@ -217,15 +215,15 @@ module _ (c : Parts) where
         → node_at g.of t ≡ Some base → IsHungBy c os blocks q g
     hung_has os q t base g e s u n names l h = (
       base,
-      subst (λ z. node_at g.of z ≡ Some base) (same_some t u (sym e
+      subst (λ z. node_at g.of z ≡ Some base) (same_Some t u (sym e
           ∙ names)) s,
     )
 
     pub hung_past : (os : List Owner) (q t : ℕ) (g : Grown) → table_named (instr_at c q) ≡ Some t
         → slice_get c.forks t ≡ None → IsHungBy c os blocks q g
     hung_past os q t g e s u n names l h =
-        let m = got c.forks u l in
-        absurd (none_some m.0 (sym s ∙ ap (slice_get c.forks) (same_some t u (sym e ∙ names)) ∙ m.1))
+        let m = item_there c.forks u l in
+        absurd (none-some m.0 (sym s ∙ ap (slice_get c.forks) (same_Some t u (sym e ∙ names)) ∙ m.1))
 
     pub all_hung : (os : List Owner) (g : Grown) → AreHung c blocks g
         → EachItem (IsHungBy c os blocks) (length c.instrs) g → AreAllHung c os blocks g
@@ -238,7 +236,7 @@ module _ (c : Parts) where
       where
         go : (u : Option ℕ) → number_from 0 c.layouts b ≡ u → (n : ℕ)
             × (given None (number_from 0 c.layouts b) (λ k. node_at blocks k) ≡ Some n)
-        go None s = absurd (none_some l.0.0.0 (sym (place_none 0 c.layouts b s) ∙ l.0.0.1))
+        go None s = absurd (none-some l.0.0.0 (sym (place_none 0 c.layouts b s) ∙ l.0.0.1))
         go (Some k) s =
             let m = placed_layout c.layouts b k s in
             let n = full k (slice_get_within c.layouts k m.0 m.1) in
@@ -272,13 +270,13 @@ module _ (c : Parts) where
       size =
           (let a = length-append at (o ∷ []) in let s = are.size in omega (arith, a, s));
       each = λ p l. each p l
-          (below_or p n l);
+          (below_or_last p n l);
     }
       where
         each : (p : ℕ) → p < n + 1 → (p < n) ⊎ (p ≡ n)
             → slice_get (at ++ o ∷ []) p ≡ Some (node_of c (length g.nodes) blocks g.of (owner_in os p))
-        each p l (inl h) = push_before at o p (let s = are.size in omega (arith, s, h)) ∙ are.each p h
-        each p l (inr h) = ap (slice_get (at ++ o ∷ [])) (h ∙ sym are.size) ∙ push_last at o
+        each p l (inl h) = get_before_last at o p (let s = are.size in omega (arith, s, h)) ∙ are.each p h
+        each p l (inr h) = ap (slice_get (at ++ o ∷ [])) (h ∙ sym are.size) ∙ get_last at o
             ∙ ap Some (e ∙ ap (λ i. node_of c (length g.nodes) blocks g.of (owner_in os i)) (sym h))
 
     pub homes_are : (os : List Owner) (g : Grown) (h : Homes) → AreOwners c os → IsFull c.layouts blocks

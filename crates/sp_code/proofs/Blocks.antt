@@ -1,6 +1,9 @@
 -- The code of a program has exactly the tree's length, and all its blocks stand in it.
 use Rattle.std.proofs.Common.{Option, ap, Bool, ◌∙◌, ◌≡◌, ℕ, zero, suc, ◌+◌, List, [], ◌∷◌, ◌++◌, length, Some, refl, sym, subst, arith}
+use Rattle.std.proofs.Common.{zero-add}
 use Rattle.std.specs.Prelude.{slice_get, ◌≢◌, if◌then◌else◌}
+use Rattle.std.proofs.lemmas.Option.{same_Some}
+use Rattle.sp_base.proofs.Facts.{next_goes_left}
 use Rattle.sp_cell.specs.FrameLaws.{is_same, is_other}
 use Rattle.sp_code.specs.Machine as m
 use Rattle.sp_code.specs.Sound.{HasDistinctBlocks}
@@ -29,13 +32,10 @@ has_self (x ∷ xs) = (refl, has_shift x xs xs 0 (has_self xs))
 -- ---- layouts
 
 module _ (p : Program) where
-  some_layout : (l m : Layout) → ◌≡◌ {A = Option Layout} (Some l) (Some m) → l ≡ m
-  some_layout l m e = cc
-
   -- the layout at a place is of the block of that number
   block_at : (b q : ℕ) (ks : List Block) (f : ℕ) (l : Layout) → slice_get (layouts_from p b q ks) f ≡ Some l → l.block ≡ b + f
   block_at b q [] f l e = absurd cc
-  block_at b q (k ∷ ks) zero l e = let w : b ≡ l.block = ap (λ (x : Layout). x.block) (some_layout (layout_of p b q k) l e) in omega (arith, w)
+  block_at b q (k ∷ ks) zero l e = let w : b ≡ l.block = ap (λ (x : Layout). x.block) (same_Some (layout_of p b q k) l e) in omega (arith, w)
   block_at b q (k ∷ ks) (suc f) l e = omega (arith, block_at (suc b) (after_block p q k) ks f l e)
 
   pub distinct_blocks : (b q : ℕ) (ks : List Block) → HasDistinctBlocks (layouts_from p b q ks)
@@ -96,14 +96,11 @@ module _ (p : Program) (moves shares : Stmt → List ℕ) where
         let y : b + 1 ≡ suc b = omega arith in
         subst (λ (x : ℕ). BlockAt p moves shares all hush x k) z
         (blocks_stand_from (suc b) (t + tables_in j.body) (n + texts_in j.body) (after_block p q j) ks
-        (λ g r i d. subst (λ (x : ℕ). IsFine p moves shares hush x r i) (more b g) (fine (suc g) r i d))
+        (λ g r i d. subst (λ (x : ℕ). IsFine p moves shares hush x r i) (next_goes_left b g) (fine (suc g) r i d))
         (subst (λ (x : ℕ). HasAt all.layouts x (layouts_from p (suc b) (after_block p q j) ks)) y l.1)
         (has_back all.instrs q (after_block p q j) (block_code p b t n q j) _ (block_stop b t n q j) h)
         (has_back all.forks t _ (tables p moves shares q j.body) _ (tables_stop p moves shares all hush t q j.body) a)
         (has_back all.texts n _ (texts_of j.body) _ (texts_stop p moves shares all hush n j.body) w) f k e)
-      where
-        more : (b g : ℕ) → b + suc g ≡ suc b + g
-        more b g = omega arith
 
   -- in its own code
   pub blocks_stand : (hush : ℕ → Type 0) → ((f q : ℕ) (b : Block) → slice_get p.blocks f ≡ Some b → IsFine p moves shares hush f q b) → BlocksAt p moves shares (program_code p moves shares) hush
@@ -111,8 +108,5 @@ module _ (p : Program) (moves shares : Stmt → List ℕ) where
       let all = program_code p moves shares in
       let none : 0 + f ≡ f = omega arith in
       subst (λ (x : ℕ). BlockAt p moves shares all hush x b) none
-      (blocks_stand_from all hush 0 0 0 0 p.blocks (λ g r k d. subst (λ (x : ℕ). IsFine p moves shares hush x r k) (sym (none_of g)) (fine g r k d))
+      (blocks_stand_from all hush 0 0 0 0 p.blocks (λ g r k d. subst (λ (x : ℕ). IsFine p moves shares hush x r k) (sym (zero-add g)) (fine g r k d))
       (has_self all.layouts) (has_self all.instrs) (has_self all.forks) (has_self all.texts) f b e)
-    where
-      none_of : (g : ℕ) → 0 + g ≡ g
-      none_of g = omega arith

@@ -1,12 +1,13 @@
 -- What the tests of a plain store say.
 use Rattle.std.proofs.Common.{◌≡◌, ℕ, ◌+◌, ◌≤◌, List, [], ◌∷◌, length, Option, Some, None, Bool, true, false, refl, sym, ap, ◌∙◌}
 use Rattle.std.specs.Prelude.{◌≢◌, ◌&&◌, ◌==◌, ◌||◌, not}
-use Rattle.std.proofs.lemmas.Bool.{leb-true, eqb-true}
+use Rattle.std.proofs.lemmas.Bool.{leb-true, eqb-true, and_parts}
 use Rattle.std.specs.List.{list_all, list_any}
 use Rattle.std.specs.Ordering.{eq_by_cmp, is_eq}
 use Rattle.std.specs.declared.cmp.Ordering.{Ordering}
 use Rattle.std.specs.declared.cmp.Ordering.TheVariants.{Less, Equal, Greater}
 use Rattle.std.specs.FinMap as map
+use Rattle.sp_base.specs.Order.{tie_of}
 use Rattle.sp_cell.specs.declared.spot.Spot.{Spot}
 use Rattle.sp_cell.specs.declared.spot.Address.{Address}
 use Rattle.sp_cell.specs.Map.{Content, Own, Shared, Output, Away, Map, Plain, IsPiece, IsOutput, HasCells, cells_of, output_of, output_spot, spot_cmp}
@@ -46,23 +47,13 @@ output_there (Some Away) e = absurd cc
 pub output_held : (m : Map) → is_held (output_of (map.get m output_spot)) ≡ true → IsOutput (map.get m output_spot)
 output_held m e = output_there (map.get m output_spot) e
 
--- a frame that may go has nothing away
-both_true : (a b : Bool) → (a && b) ≡ true → (a ≡ true) × (b ≡ true)
-both_true true b e = (refl, e)
-both_true false b e = absurd cc
-
-tie_of : (r : Ordering) → is_eq r ≡ true → r ≡ Equal
-tie_of Less e = absurd cc
-tie_of Equal e = refl
-tie_of Greater e = absurd cc
-
 -- a key that stands in the list passes the test that all pass
 passes : (test : Spot → Bool) (q : Spot) (ks : List Spot) → list_any (eq_by_cmp spot_cmp q) ks ≡ true → list_all test ks ≡ true → test q ≡ true
 passes test q [] h a = absurd cc
-passes test q (k ∷ ks) h a = go (eq_by_cmp spot_cmp q k) refl h (λ r. passes test q ks r (both_true (test k) (list_all test ks) a).1)
+passes test q (k ∷ ks) h a = go (eq_by_cmp spot_cmp q k) refl h (λ r. passes test q ks r (and_parts (test k) (list_all test ks) a).1)
   where
     go : (b : Bool) → eq_by_cmp spot_cmp q k ≡ b → (b || list_any (eq_by_cmp spot_cmp q) ks) ≡ true → (list_any (eq_by_cmp spot_cmp q) ks ≡ true → test q ≡ true) → test q ≡ true
-    go true e h rest = ap test (spot_same q k (tie_of (spot_cmp q k) e)) ∙ (both_true (test k) (list_all test ks) a).0
+    go true e h rest = ap test (spot_same q k (tie_of (spot_cmp q k) e)) ∙ (and_parts (test k) (list_all test ks) a).0
     go false e h rest = rest h
 
 not_both : (a b : Bool) → a ≡ true → b ≡ true → not (a && b) ≡ true → ⊥
@@ -82,6 +73,6 @@ no_frame (n ∷ ns) e w = cc
 -- where the test allows it, the newest own frame has this number, and nothing of it is away
 pub may_go : (p : Plain) (n : ℕ) → plain.may_pop p n ≡ true → (p.own ≢ []) × (newest p.own ≡ n) × NoneAway p.map n
 may_go p n e =
-    let w = both_true (is_newest p.own n) (none_away p.map n) e in
-    let k = both_true (is_there p.own) (newest p.own == n) w.0 in
+    let w = and_parts (is_newest p.own n) (none_away p.map n) e in
+    let k = and_parts (is_there p.own) (newest p.own == n) w.0 in
     (no_frame p.own k.0, eqb-true (newest p.own) n k.1, none_is_away p.map n w.1)

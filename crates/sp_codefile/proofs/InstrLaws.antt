@@ -4,6 +4,9 @@ use Rattle.std.proofs.Common.{Option, Some, None, refl, ap, ◌∙◌, subst, ar
 use Rattle.std.specs.Fmt.{signed_decimal, decimal}
 use Rattle.std.specs.Int.Signed.{mag}
 use Rattle.std.specs.List.{flat_map}
+use Rattle.std.proofs.lemmas.Bool.{not-true}
+use Rattle.std.proofs.lemmas.Option.{none-some, same_Some}
+use Rattle.sp_base.proofs.Facts.{first_true, second_true}
 use Rattle.sp_code.specs.declared.instr.Instr.{Instr}
 use Rattle.sp_code.specs.declared.instr.Instr.TheVariants as i
 use Rattle.sp_code.specs.Listing.{word, operands, operand_text}
@@ -19,25 +22,13 @@ abbrev lettered : List ℕ → Bool
 lettered [] = true
 lettered (x ∷ xs) = not (nat_le 45 x && nat_le x 57) && lettered xs
 
-both_left : (a b : Bool) → a && b ≡ true → a ≡ true
-both_left true b e = refl
-both_left false b e = absurd (cc e)
-
-both_right : (a b : Bool) → a && b ≡ true → b ≡ true
-both_right true b e = e
-both_right false b e = absurd (cc e)
-
-not_true : (b : Bool) → not b ≡ true → b ≡ false
-not_true true e = absurd (cc e)
-not_true false e = refl
-
 outside : (xs : List ℕ) → lettered xs ≡ true → Outside 45 57 xs
 outside [] e = tt
 outside (x ∷ xs) e = (
-  not_true (nat_le 45 x
-      && nat_le x 57) (both_left (not (nat_le 45 x
+  not-true (nat_le 45 x
+      && nat_le x 57) (first_true (not (nat_le 45 x
       && nat_le x 57)) (lettered xs) e),
-  outside xs (both_right (not (nat_le 45 x && nat_le x 57)) (lettered xs) e),
+  outside xs (second_true (not (nat_le 45 x && nat_le x 57)) (lettered xs) e),
 )
 
 is_lettered : (x : Instr) → lettered (word x) ≡ true
@@ -449,12 +440,6 @@ agree (x ∷ (y ∷ (z ∷ zs))) t u v a b c s e ra eu rb ev rc =
     all [] = tt
     all (z ∷ zs) = tt
 
-some_same : (x y : Instr) → ◌≡◌ {A = Option Instr} (Some x) (Some y) → x ≡ y
-some_same x y e = cc
-
-none_some : (x : Instr) → ◌≡◌ {A = Option Instr} None (Some x) → ⊥
-none_some x e = cc
-
 -- an instruction that is read from its text
 pub read_back : (x : Instr) → InstrFits x → (t name r0 r1 r2 w1 w2 w3 : List ℕ) (y : Instr) (a b c : Operand)
     → t ≡ word x ++ flat_map operand_text (operands x)
@@ -464,13 +449,13 @@ pub read_back : (x : Instr) → InstrFits x → (t name r0 r1 r2 w1 w2 w3 : List
 read_back x f t name r0 r1 r2 w1 w2 w3 y a b c e en e0 f1 e1 f2 e2 f3 h ra rb rc =
     let k = follow (class_cut 45 57) t _ (word x) (flat_map operand_text (operands x)) name r0 e
     (instr_cut x f) en e0 in
-    let is : y ≡ plain x = some_same y (plain x) (h ∙ ap instr_named k.0 ∙ named_plain x) in
+    let is : y ≡ plain x = same_Some y (plain x) (h ∙ ap instr_named k.0 ∙ named_plain x) in
     let all = agree (operands x) r0 r1 r2 a b c (operands_small x f) k.1 (subst (λ (w : List ℕ). Reads w a) f1 ra) e1
     (subst (λ (w : List ℕ). Reads w b) f2 rb) e2 (subst (λ (w : List ℕ). Reads w c) f3 rc) in
     ap (λ (z : Instr). filled z a b c) is ∙ filled_plain x f a b c all
 
 pub has_name : (x : Instr) → InstrFits x → (t name : List ℕ) → t ≡ word x ++ flat_map operand_text (operands x)
     → name ≡ (class_cut 45 57 t).0 → None ≡ instr_named name → ⊥
-has_name x f t name e en h = none_some (plain x) (h
+has_name x f t name e en h = none-some (plain x) (h
     ∙ ap instr_named (en ∙ ap (λ (z : List ℕ). (class_cut 45 57 z).0) e
     ∙ ap (λ (p : List ℕ × List ℕ). p.0) (instr_cut x f)) ∙ named_plain x)

@@ -4,6 +4,7 @@ use Rattle.std.proofs.Common.{append_assoc, append-nil, length-append, codes, Al
 use Rattle.std.specs.List.{flat_map}
 use Rattle.std.proofs.lemmas.Grind.{flat_map-append}
 use Rattle.std.proofs.lemmas.List.Elements.{All-push, All-head, All-tail, All-cons, All-nil}
+use Rattle.std.proofs.lemmas.List.{length_push}
 use Rattle.sp_code.specs.declared.code.ChildTable.{ChildTable}
 use Rattle.sp_code.specs.declared.code.ForkTable.{ForkTable}
 use Rattle.sp_code.specs.declared.code.Layout.{Layout}
@@ -135,9 +136,6 @@ with_child_length [] c = refl
 with_child_length (t ∷ []) c = refl
 with_child_length (t ∷ (u ∷ ts)) c = ap suc (with_child_length (u ∷ ts) c)
 
-one_more : {X : Type 0} (xs : List X) (x : X) → length (xs ++ x ∷ []) ≡ length xs + 1
-one_more xs x = length-append xs (x ∷ [])
-
 small_sizes : (l : Layout) → LayoutFits l → HasSmallSizes l
 small_sizes l f k d b = let a = f.sizes k d b in omega arith
 
@@ -149,7 +147,7 @@ code_step p (item.Layout l) i h = record {
     forks = i.sizes.forks;
     texts = i.sizes.texts;
     children = i.sizes.children;
-    layouts = let a = h.0.3 in omega (arith, one_more p.layouts l);
+    layouts = let a = h.0.3 in omega (arith, length_push p.layouts l);
     frames = All-push HasNumbers p.layouts l i.sizes.frames h.0.4;
     sizes = All-push HasSmallSizes p.layouts l i.sizes.sizes (small_sizes l h.1);
   };
@@ -166,7 +164,7 @@ code_step p (item.Text t) i h = record {
     frames = i.sizes.frames;
     sizes = i.sizes.sizes;
     children = i.sizes.children;
-    texts = let a = h.0.2 in omega (arith, one_more p.texts t);
+    texts = let a = h.0.2 in omega (arith, length_push p.texts t);
   };
   texts = All-push (All IsByte) p.texts t i.texts h.1;
   layouts = i.layouts;
@@ -181,7 +179,7 @@ code_step p (item.Instr x) i h = record {
     frames = i.sizes.frames;
     sizes = i.sizes.sizes;
     children = i.sizes.children;
-    instrs = let a = h.0.1 in omega (arith, one_more p.instrs x);
+    instrs = let a = h.0.1 in omega (arith, length_push p.instrs x);
   };
   instrs = All-push InstrFits p.instrs x i.instrs h.1;
   layouts = i.layouts;
@@ -196,7 +194,7 @@ code_step p (item.Table c) i h =
         texts = i.sizes.texts;
         frames = i.sizes.frames;
         sizes = i.sizes.sizes;
-        forks = let a = h.0 in omega (arith, one_more p.forks t);
+        forks = let a = h.0 in omega (arith, length_push p.forks t);
         children = All-push HasChild p.forks t i.sizes.children (omega arith);
       };
       forks = All-push TableFits p.forks t i.forks
@@ -213,11 +211,11 @@ code_step p (item.Child c) i h = record {
     frames = i.sizes.frames;
     sizes = i.sizes.sizes;
     forks = let a = i.sizes.forks in omega (arith, with_child_length p.forks c);
-    children = with_child_all HasChild p.forks c i.sizes.children (λ t e a. omega (arith, one_more t.children c));
+    children = with_child_all HasChild p.forks c i.sizes.children (λ t e a. omega (arith, length_push t.children c));
   };
   forks = with_child_all TableFits p.forks c i.forks
       (λ t e a. record {
-        count = let b = h.0.1 in omega (arith, one_more t.children c);
+        count = let b = h.0.1 in omega (arith, length_push t.children c);
         children = All-push ChildFits t.children c a.children h.1;
       });
   layouts = i.layouts;

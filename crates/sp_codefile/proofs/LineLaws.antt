@@ -7,6 +7,8 @@ use Rattle.std.specs.List.{flat_map}
 use Rattle.std.specs.Fmt.{signed_decimal, digit_glyph}
 use Rattle.std.proofs.lemmas.Bool.Decides.{nat_tests}
 use Rattle.std.proofs.lemmas.List.Elements.{All-head, All-tail}
+use Rattle.std.proofs.lemmas.Bool.{leb-true}
+use Rattle.sp_base.proofs.Facts.{first_true, second_true}
 use Rattle.sp_code.specs.declared.code.ChildTable.{ChildTable}
 use Rattle.sp_code.specs.declared.code.Formal.{Formal}
 use Rattle.sp_code.specs.declared.code.Formal.TheVariants as formal
@@ -33,26 +35,15 @@ abbrev in_line : List ℕ → Bool
 in_line [] = true
 in_line (x ∷ xs) = nat_le 32 x && (nat_le x 122 && in_line xs)
 
-both_left : (a b : Bool) → a && b ≡ true → a ≡ true
-both_left true b e = refl
-both_left false b e = absurd (cc e)
-
-both_right : (a b : Bool) → a && b ≡ true → b ≡ true
-both_right true b e = e
-both_right false b e = absurd (cc e)
-
-is_le : (m n : ℕ) → nat_le m n ≡ true → m ≤ n
-is_le m n e = grind (arith, nat_tests)
-
 tested : (xs : List ℕ) → in_line xs ≡ true → Plain xs
 tested [] e = tt
 tested (x ∷ xs) e =
-    let r = both_right (nat_le 32 x) (nat_le x 122 && in_line xs) e in (
-      is_le 32 x (both_left (nat_le 32 x) (nat_le x 122
+    let r = second_true (nat_le 32 x) (nat_le x 122 && in_line xs) e in (
+      leb-true 32 x (first_true (nat_le 32 x) (nat_le x 122
           && in_line xs) e),
-      is_le x 122 (both_left (nat_le x 122) (in_line xs) r),
+      leb-true x 122 (first_true (nat_le x 122) (in_line xs) r),
       tested xs
-          (both_right (nat_le x 122) (in_line xs) r),
+          (second_true (nat_le x 122) (in_line xs) r),
     )
 
 joined : (xs ys : List ℕ) → Plain xs → Plain ys → Plain (xs ++ ys)

@@ -7,6 +7,7 @@ use Rattle.std.specs.List.{flat_map}
 use Rattle.std.specs.Fmt.{signed_decimal}
 use Rattle.std.proofs.lemmas.Fmt.{decimal_injective}
 use Rattle.std.proofs.lemmas.List.Elements.{All-head, All-tail}
+use Rattle.std.proofs.lemmas.Option.{same_Some}
 use Rattle.sp_code.specs.declared.code.ChildTable.{ChildTable}
 use Rattle.sp_code.specs.declared.code.Formal.{Formal}
 use Rattle.sp_code.specs.declared.code.Formal.TheVariants as formal
@@ -253,13 +254,10 @@ operands_same (y ∷ ys) (z ∷ zs) a b e =
     let rest = operands_same ys zs a.1 b.1 k.1 in
     λ j. one j ∷ rest j
 
-some_same : (x y : Instr) → ◌≡◌ {A = Option Instr} (Some x) (Some y) → x ≡ y
-some_same x y e = cc
-
 instr_same : (x y : Instr) → InstrFits x → InstrFits y → instr_text x ≡ instr_text y → x ≡ y
 instr_same x y f g e =
     let k = both (class_cut 45 57) (instr_text x) (instr_text y) _ _ _ _ e (instr_cut x f) (instr_cut y g) in
-    let named : plain x ≡ plain y = some_same (plain x) (plain y) (sym (named_plain x) ∙ ap instr_named k.0
+    let named : plain x ≡ plain y = same_Some (plain x) (plain y) (sym (named_plain x) ∙ ap instr_named k.0
     ∙ named_plain y) in
     let ops : operands x ≡ operands y = operands_same (operands x) (operands y) (operands_small x f)
     (operands_small y g) k.1 in

@@ -9,11 +9,12 @@ use Rattle.sp_code.specs.declared.code.Parts.{Parts}
 use Rattle.sp_code.specs.Sizes.{HasNumbers, HasSmallSizes, HasChild}
 use Rattle.sp_codefile.specs.declared.item.Item.{Item}
 use Rattle.std.specs.List.{flat_map}
+use Rattle.std.proofs.lemmas.Bool.{eqb-true, ne_eqb, true≢false}
 use Rattle.sp_code.specs.Listing.{numbered, instr_line}
 use Rattle.sp_codefile.specs.CodeText.{layout_text, text_text, table_text, line, code_text, IsCode, IsTextOf, IsOneLine}
 use Rattle.sp_codefile.specs.CodeText.{AreLines, IsFirstBad}
 use Rattle.sp_codefile.specs.Items.{item_text, CanFollow, after_item, IsNext}
-use Rattle.sp_codefile.proofs.WordLaws.{here, apart, same}
+use Rattle.sp_codefile.proofs.WordLaws.{here}
 use Rattle.sp_codefile.proofs.ItemLaws.{text_step, code_step}
 use Rattle.sp_codefile.proofs.LeadLaws.{Leads, no_parts, from_nothing, items_text, text_along}
 use Rattle.sp_codefile.proofs.LineLaws.{item_one_line}
@@ -39,7 +40,7 @@ none_parts a b e = cc
 
 pub line_at : (xs ys : List ℕ) → IsOneLine xs → first_split 10 (xs ++ 10 ∷ ys) ≡ Some (xs, ys)
 line_at [] ys w = refl
-line_at (x ∷ xs) ys w = rw (apart x 10 w.0) (rw (line_at xs ys w.1) refl)
+line_at (x ∷ xs) ys w = rw (ne_eqb x 10 w.0) (rw (line_at xs ys w.1) refl)
 
 pub line_joins : (xs a b : List ℕ) → first_split 10 xs ≡ Some (a, b) → xs ≡ a ++ 10 ∷ b
 line_joins [] a b e = absurd (none_parts a b e)
@@ -48,7 +49,7 @@ line_joins (x ∷ xs) a b e = by (x == 10) refl (first_split 10 xs) (λ y z g. l
     by : (t : Bool) → x == 10 ≡ t → (o : Option (List ℕ × List ℕ))
         → ((y z : List ℕ) → o ≡ Some (y, z) → xs ≡ y ++ 10 ∷ z) → cond t (Some ([], xs)) (with_first x o) ≡ Some (a, b)
         → x ∷ xs ≡ a ++ 10 ∷ b
-    by true f o h g = (λ i. same x 10 f i ∷ xs) ∙ (λ i. parts_first [] xs a b g i ++ 10 ∷ parts_second [] xs a b g i)
+    by true f o h g = (λ i. eqb-true x 10 f i ∷ xs) ∙ (λ i. parts_first [] xs a b g i ++ 10 ∷ parts_second [] xs a b g i)
     by false f None h g = absurd (none_parts a b g)
     by false f (Some p) h g = ap (λ (y : List ℕ). x ∷ y) (h p.0 p.1 refl)
         ∙ (λ i. parts_first (x ∷ p.0) p.1 a b g i ++ 10 ∷ parts_second (x ∷ p.0) p.1 a b g i)
@@ -236,10 +237,7 @@ head_one_line = (
 )
   where
     n : (b : ℕ) → b == 10 ≡ false → b ≡ 10 → ⊥
-    n b f e = true_false (sym (here b 10 e) ∙ f)
-      where
-        true_false : ◌≡◌ {A = Bool} true false → ⊥
-        true_false g = cc
+    n b f e = true≢false (sym (here b 10 e) ∙ f)
 
 -- what stands behind the first line
 grouped : (h l t i f : List ℕ) → h ++ l ++ t ++ i ++ f ≡ h ++ (l ++ (t ++ (i ++ f)))

@@ -8,22 +8,15 @@ use Rattle.std.specs.List.{flat_map}
 use Rattle.std.proofs.lemmas.Bool.Decides.{nat_tests}
 use Rattle.std.proofs.lemmas.Fmt.{decimal_by_steps, decimal_nonempty}
 use Rattle.std.proofs.lemmas.List.Elements.{All-head, All-tail}
+use Rattle.std.proofs.lemmas.Bool.{eqb-true, ne_eqb, true≢false}
+use Rattle.std.proofs.lemmas.List.{nil_from_length}
+use Rattle.sp_base.proofs.Facts.{and_with_false}
 use Rattle.sp_code.specs.Listing.{number_text}
 use Rattle.sp_codefile.specs.CodeText.{IsNumber, IsInteger}
 use Rattle.sp_codefile.specs.Cuts.{blank_cut, word_of, begins, class_cut}
 
 pub here : (j k : ℕ) → j ≡ k → j == k ≡ true
 here j k e = grind (arith, nat_tests)
-
-pub apart : (j k : ℕ) → j ≢ k → j == k ≡ false
-apart j k e = grind (arith, nat_tests)
-
-pub same : (j k : ℕ) → j == k ≡ true → j ≡ k
-same j k e = grind (arith, nat_tests)
-
-and_false : (b : Bool) → b && false ≡ false
-and_false true = refl
-and_false false = refl
 
 -- no byte is a blank
 abbrev pub NoBlank : List ℕ → Type 0
@@ -61,7 +54,7 @@ pub class_at : (low high : ℕ) (w rest : List ℕ) → nat_le low 32 && nat_le 
 class_at low high [] [] z o a = refl
 class_at low high [] (x ∷ xs) z o a = rw (here x 32 a.0) (rw a.1 refl)
 class_at low high (x ∷ w) rest z o a =
-    rw (not_begun low high w rest z o.1 a) (rw (and_false (x == 32)) (ap (λ (p : List ℕ
+    rw (not_begun low high w rest z o.1 a) (rw (and_with_false (x == 32)) (ap (λ (p : List ℕ
     × List ℕ). (x ∷ p.0, p.1)) (class_at low high w rest z o.1 a)))
 
 pub outside_append : (low high : ℕ) (xs ys : List ℕ) → Outside low high xs → Outside low high ys
@@ -92,7 +85,7 @@ digits_within n l = decimal_by_steps (λ _ ds. Within 48 57 ds)
 
 no_blank : (xs : List ℕ) → Within 48 57 xs → NoBlank xs
 no_blank [] w = tt
-no_blank (x ∷ xs) w = (apart x 32 (λ e. let a = w.0 in omega arith), no_blank xs w.2)
+no_blank (x ∷ xs) w = (ne_eqb x 32 (λ e. let a = w.0 in omega arith), no_blank xs w.2)
 
 no_letter : (xs : List ℕ) → Within 48 57 xs → Outside 97 122 xs
 no_letter [] w = tt
@@ -175,18 +168,11 @@ follow f t x w r a b e g h k = (
       ∙ ap (λ (p : List ℕ × List ℕ). p.1) (ap f e ∙ g),
 )
 
-true_false : ◌≡◌ {A = Bool} true false → ⊥
-true_false g = cc
-
 pub not_empty : (xs : List ℕ) (b : Bool) → b ≡ (length xs == 0) → b ≡ false → xs ≢ []
-not_empty xs b e f z = true_false (sym (ap (λ (ys : List ℕ). length ys == 0) z) ∙ sym e ∙ f)
+not_empty xs b e f z = true≢false (sym (ap (λ (ys : List ℕ). length ys == 0) z) ∙ sym e ∙ f)
 
 pub empty : (xs : List ℕ) (b : Bool) → b ≡ (length xs == 0) → b ≡ true → xs ≡ []
-empty xs b e f = by xs (same (length xs) 0 (sym e ∙ f))
-  where
-    by : (xs : List ℕ) → length xs ≡ 0 → xs ≡ []
-    by [] h = refl
-    by (x ∷ xs) h = absurd (omega arith)
+empty xs b e f = nil_from_length xs (eqb-true (length xs) 0 (sym e ∙ f))
 
 pub some_length : (xs : List ℕ) → xs ≢ [] → 0 < length xs
 some_length [] n = absurd (n refl)

@@ -1,6 +1,7 @@
 -- The children of a fork: where the code of each begins, its place in the tree, and the indexes that it is handed.
 use Rattle.std.proofs.Common.{◌≡◌, inl, inr, ⊎_elim, ℕ, zero, suc, ◌+◌, ◌≤◌, ◌==◌, ℤ, List, [], ◌∷◌, ◌++◌, Option, Some, None, Bool, true, false, if◌then◌else◌, length, refl, sym, ap, ◌∙◌, subst, arith, eqb-true, eq-eqb}
 use Rattle.std.specs.Prelude.{◌≢◌, ◌+ℤ◌, pos, slice_get}
+use Rattle.std.proofs.lemmas.Option.{same_Some}
 use Rattle.sp_tree.specs.declared.checked.Role.{Role}
 use Rattle.sp_tree.specs.declared.checked.Role.TheVariants as role
 use Rattle.sp_tree.specs.Cells.{variables_of}
@@ -123,9 +124,6 @@ module _ {M : Type 0} (ex : Execution M) where
 
 -- ---- indexes
 
-is_some : {A : Type 0} (a b : A) → Some a ≡ Some b → a ≡ b
-is_some a b e = cc e
-
 module _ (p : Program) (formed : IsFormed p) (ls : List Layout) (laid : Laid p ls) (Called : Name → ℕ → Type 0) (x : ℕ) (v : Variable) (ev : slice_get p.variables x ≡ Some v) (iv : v.role ≡ role.Index) where
   not_among : (fits : Role → Bool) → fits role.Index ≡ false → (xs : List (ℕ × Variable)) → AreKnown p formed xs → IsMember x (among fits xs) → ⊥
   not_among fits f [] k h = h
@@ -133,7 +131,7 @@ module _ (p : Program) (formed : IsFormed p) (ls : List Layout) (laid : Laid p l
     where
       go : (c : Bool) → fits y.1.role ≡ c → (IsMember x (among fits ys) → ⊥) → IsMember x (if c then y.0 ∷ among fits ys else among fits ys) → ⊥
       go true e ih (inl a) =
-          let vy : v ≡ y.1 = is_some v y.1 (sym ev ∙ ap (λ z. slice_get p.variables z) a ∙ k.0) in
+          let vy : v ≡ y.1 = same_Some v y.1 (sym ev ∙ ap (λ z. slice_get p.variables z) a ∙ k.0) in
           let bad : false ≡ true = sym f ∙ ap fits (sym iv ∙ ap (λ (z : Variable). z.role) vy) ∙ e in
           absurd (cc bad)
       go true e ih (inr a) = ih a

@@ -2,7 +2,9 @@
 use Rattle.std.proofs.Common.{◌≡◌, inl, inr, ℕ, zero, suc, ◌+◌, ◌<◌, ◌==◌, ℤ, List, [], ◌∷◌, Option, Some, None, Bool, true, false, ◌&&◌, if◌then◌else◌, drop, take, length, refl, sym, ap, ◌∙◌, subst, arith, eqb-true}
 use Rattle.std.specs.Prelude.{pos, ◌+ℤ◌, ◌-ℤ◌, nat_abs, int_lt, int_le, slice_get, nat_lt, not, ◌%◌}
 use Rattle.std.specs.Fmt.{signed_decimal}
+use Rattle.std.proofs.lemmas.Bool.{and_from}
 use Rattle.sp_base.specs.declared.fault.Fault.TheVariants as fault
+use Rattle.sp_base.proofs.Facts.{length_of_map}
 use Rattle.sp_tree.specs.declared.checked.KindOf.{KindOf}
 use Rattle.sp_tree.specs.declared.checked.KindOf.TheVariants as kind
 use Rattle.sp_tree.specs.Plain.{Expr, Typed, ExprForm, Number, Read, Unary, Binary, Apply, Standard, AtInput, Var, Entire, Actuals, Program, Block, Stmt, Empty, Assign, Call, Sequence, If, IfElse, While, Repeat, For, Case, Parallel, Forall, Assume, ReadValue, ReadLine, WriteValue, WriteText, WriteLine, Open, Send, Receive, On, Arms, NoArm, Or}
@@ -41,7 +43,6 @@ use Rattle.sp_codegen.specs.Relation.{Stood, OneCell, cell_of, Entered, GivensAr
 use Rattle.sp_codegen.proofs.Runs.{Realizes, Known, stays, goes, breaks, comes_on, known_bind, gives_fail, gives_alike}
 use Rattle.sp_codegen.proofs.Joints.{sources_length, up_from}
 use Rattle.sp_codegen.proofs.Chains.{block_agrees, found, seek_all, find_in}
-use Rattle.sp_codegen.proofs.Closing.{length_map}
 use Rattle.sp_codegen.proofs.Values.{P, pushed, within, may_see, at_console, CallsMeet, at_one, value_gives, form_gives, place_gives, address_gives, ordinal_gives, actuals_gives, rest_of, left_known, kind_known, or_known, fetch_known, visible_known, block_home, PlaceIs, IsMany}
 use Rattle.sp_codegen.proofs.Follows.{slides, jumps, Follows, slide_follows, push_follows, push_all_follows, cells_in, CargoIs, ForkIs, Makes, Made, makes_after, makes_bind, makes_known, makes_by, makes_went, makes_fail, makes_tick}
 
@@ -155,9 +156,6 @@ module _ {M : Type 0} (ex : Execution M) where
   many_kind (Some (kind.Fields fs)) e = (kind.Fields fs, refl, λ v o s. record { by = refl })
   many_kind (Some (kind.Channel ks)) e = absurd (subst IsMany (sym e) tt)
 
-  both_true : (a b : Bool) → a ≡ true → b ≡ true → (a && b) ≡ true
-  both_true a b e f = ap (λ z. z && b) e ∙ f
-
   -- assignment
   assign_makes : (call : Calls) → Oks call → (end : ℕ) (base : List Entry) (below : List Joint) (z : Sort) (k : ℕ) (form : ExprForm) (sc : List Scope) (q : ℕ) (stack : List Entry) (todo : List Item) (a : Address) (u : Ptr) (fs : List Joint) (o : Own) (s : Store) (n : M) → rel.Stand fs o s n → Pl sc fs (In_form form) → sort p k ≡ z → a.kind ≡ k → rel.Points fs a u → R a.spot
       → RightAt p moves shares (Stands code) (HasFork code) (HasWords code) hush sc q k z form → After end base below todo fs (after_right q z form + 1) stack
@@ -191,7 +189,7 @@ module _ {M : Type 0} (ex : Execution M) where
               stack,
               ops.copy u b (size p k) n1,
               fs,
-              goes ops rel w code (one_at (after_var q v) _ n1 h.1 ∙ holds_when (ops.has b (size p k) n1 && ops.has u (size p k) n1) _ (both_true _ _ has_from has_to)),
+              goes ops rel w code (one_at (after_var q v) _ n1 h.1 ∙ holds_when (ops.has b (size p k) n1 && ops.has u (size p k) n1) _ (and_from _ _ has_from has_to)),
               subst (λ y. rel.Stand fs o1 (at_key same_loc a.spot (assigned a (s1 a.spot) (Tree (get_at c.path (value_in (s1 c.spot))))) s1) (ops.copy u b (size p y) n1)) ek (law.copy t1 a c u b pt x.1 ra x.2 (ek ∙ sym x.0)),
               fo,
             );
@@ -388,7 +386,7 @@ module _ {M : Type 0} (ex : Execution M) where
           let r = found (is_block c) (places.is_block c) (block_agrees c) sc fs h.0 pl.chain x.0 in
           let seek_is : seek (is_block c) (length (sources fs)) (sources fs) ≡ sources (r.frame ∷ r.rest) = seek_all (is_block c) fs ∙ r.sought in
           let op = law.open_frame t f b z.layout h.1 z.is c h.0 r.frame r.rest e r.at seek_is gs es gv in
-          let formals_are : length z.layout.formals ≡ length b.formals = ap (λ (y : Layout). length y.formals) z.is ∙ length_map _ b.formals in
+          let formals_are : length z.layout.formals ≡ length b.formals = ap (λ (y : Layout). length y.formals) z.is ∙ length_of_map _ b.formals in
           let fresh_is : fresh p w.name W R 0 (λ m x h. mine_written m x) reads free (sources fs) f b args gs c r.frame.source ≡ frame_for rel w f b fs (r.frame ∷ r.rest) gs =
           (let a = sources_length fs in let k = sym (sought (is_block c) (length (sources fs)) (sources fs) r.frame.source (sources r.rest) pl.linked seek_is).1 ∙ sources_length (r.frame ∷ r.rest) in
           λ i. record { owner = w.name; number = a i; home = OfBlock f; link = k i; references = references b.formals gs }) in

@@ -1,8 +1,8 @@
 -- The variables of operands for reference formals.
 use Rattle.std.proofs.Common.{◌≡◌, refl, sym, ap, ◌∙◌, ℕ, zero, suc, ◌+◌, ◌-◌, ◌<◌, ◌≤◌, List, [], ◌∷◌, ◌++◌, Option}
-use Rattle.std.proofs.Common.{Some, None, true, false, ◌||◌, length, drop, get_or, arith}
+use Rattle.std.proofs.Common.{Some, None, true, false, ◌||◌, length, drop, get_or, arith, add-one}
 use Rattle.std.specs.Prelude.{slice_get}
-use Rattle.std.proofs.lemmas.List.{at_drop_more, length-drop}
+use Rattle.std.proofs.lemmas.List.{at_drop_more, length-drop, append-nil}
 use Rattle.std.proofs.lemmas.Option.{slice_get_past}
 use Rattle.sp_code.specs.declared.code.Formal.{Formal}
 use Rattle.sp_rules.specs.Areas.{given}
@@ -12,16 +12,9 @@ use Rattle.sp_effects.specs.Calls.{actual_at, actual_of, actuals, is_outer, list
 
 -- ---- going over operands
 
-empty_behind : (xs : List ℕ) → xs ++ [] ≡ xs
-empty_behind [] = refl
-empty_behind (x ∷ xs) = ap (λ (ys : List ℕ). x ∷ ys) (empty_behind xs)
-
 given_none : {A : Type 0} (o : Option A) → given {B = Option ℕ} None o (λ x. None) ≡ None
 given_none None = refl
 given_none (Some x) = refl
-
-more_is : (n : ℕ) → n + 1 ≡ suc n
-more_is n = omega arith
 
 short : (ss : List Shape) (i : ℕ) → drop i ss ≡ [] → length ss ≤ i
 short ss i e = let f = length-drop i ss in let g = ap (λ (z : List Shape). length z) e in omega (arith, f, g)
@@ -37,7 +30,7 @@ no_more fs ss i zero h = let e : i + zero ≡ i = omega arith in ap (actuals fs 
 no_more fs ss i (suc d) h =
     let e : i + suc d ≡ suc (i + d) = omega arith in
     ap (actuals fs ss) e ∙ ap (λ (o : Option ℕ). actuals fs ss (i + d)
-    ++ listed o) (no_actual fs ss (i + d) (omega (arith, h))) ∙ empty_behind (actuals fs ss (i + d))
+    ++ listed o) (no_actual fs ss (i + d) (omega (arith, h))) ∙ append-nil (actuals fs ss (i + d))
     ∙ no_more fs ss i d h
 
 pub all_listed : (fs : List Formal) (ss : List Shape) (i n : ℕ) → i ≤ n → drop i ss ≡ []
@@ -63,7 +56,7 @@ one_listed fs ss rest i f s at e =
     let r = next_shape ss rest s i e in
     let g = ap (λ (o : Option Formal). given None o (λ h. given None (slice_get ss i) (actual_of h))) at
     ∙ ap (λ (o : Option Shape). given None o (actual_of f)) r.0 in
-    (sym (ap (actuals fs ss) (more_is i) ∙ ap (λ (o : Option ℕ). actuals fs ss i ++ listed o) g), r.1)
+    (sym (ap (actuals fs ss) (add-one i) ∙ ap (λ (o : Option ℕ). actuals fs ss i ++ listed o) g), r.1)
 
 -- ---- going over variables
 

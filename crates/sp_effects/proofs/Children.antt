@@ -3,7 +3,8 @@ use Rattle.std.proofs.Common.{◌≡◌, ◌⊎◌, inl, inr, refl, ap, sym, ◌
 use Rattle.std.proofs.Common.{length, Option, Some, None, Bool, true, false, arith, eqb-true}
 use Rattle.std.specs.Prelude.{slice_get}
 use Rattle.std.proofs.lemmas.Bool.{eq-eqb}
-use Rattle.std.proofs.lemmas.Option.{slice_get_within}
+use Rattle.std.proofs.lemmas.Option.{slice_get_within, none-some, same_Some}
+use Rattle.sp_base.proofs.Facts.{item_there, not_true_and_false}
 use Rattle.sp_code.specs.declared.instr.Instr.{Instr}
 use Rattle.sp_code.specs.declared.code.ChildTable.{ChildTable}
 use Rattle.sp_code.specs.declared.code.ForkTable.{ForkTable}
@@ -11,16 +12,9 @@ use Rattle.sp_code.specs.declared.code.Parts.{Parts}
 use Rattle.sp_rules.specs.Areas.{Area, Child, instr_at, table_named, table_at, child_of, child_at}
 use Rattle.sp_rules.specs.Reach.{IsArea}
 use Rattle.sp_rules.specs.Named.{BreaksV1, TableUnnamed, LiesIn, Names, IsChild}
-use Rattle.sp_rules.proofs.Facts.{same_some, none_some, no_true}
 use Rattle.sp_areas.specs.declared.owners.Owner.{Owner}
 use Rattle.sp_areas.specs.declared.owners.Owner.TheVariants as owner
 use Rattle.sp_areas.specs.Owners.{AreOwners, Owns}
-
--- what is there in a list
-pub item_there : {T : Type 0} (xs : List T) (k : ℕ) → k < length xs → (x : T) × (slice_get xs k ≡ Some x)
-item_there [] k h = absurd (omega (arith, h))
-item_there (x ∷ xs) zero h = (x, refl)
-item_there (x ∷ xs) (suc k) h = item_there xs k (omega (arith, h))
 
 pub table_there : (fs : List ForkTable) (t k : ℕ) (ch : ChildTable) → child_of (slice_get fs t) k ≡ Some ch
     → (tb : ForkTable) × (slice_get fs t ≡ Some tb) × (slice_get tb.children k ≡ Some ch)
@@ -28,26 +22,26 @@ table_there fs t k ch h = go (slice_get fs t) refl h
   where
     go : (o : Option ForkTable) → slice_get fs t ≡ o → child_of o k ≡ Some ch → (tb : ForkTable)
         × (slice_get fs t ≡ Some tb) × (slice_get tb.children k ≡ Some ch)
-    go None e h = absurd (none_some ch h)
+    go None e h = absurd (none-some ch h)
     go (Some tb) e h = (tb, e, h)
 
 pub name_there : (fs : List ForkTable) (o : Option ℕ) (k : ℕ) (ch : ChildTable) → child_of (table_at fs o) k ≡ Some ch
     → (t : ℕ) × (o ≡ Some t)
-name_there fs None k ch e = absurd (none_some ch e)
+name_there fs None k ch e = absurd (none-some ch e)
 name_there fs (Some t) k ch e = (t, refl)
 
 -- an instruction names a table, or none does
 is_name : (t : ℕ) (o : Option ℕ) → (o ≡ Some t) ⊎ (o ≡ Some t → ⊥)
-is_name t None = inr (λ e. none_some t e)
+is_name t None = inr (λ e. none-some t e)
 is_name t (Some u) = go (u == t) refl
   where
     go : (b : Bool) → u == t ≡ b → (Some u ≡ Some t) ⊎ (Some u ≡ Some t → ⊥)
     go true e = inl (ap Some (eqb-true u t e))
-    go false e = inr (λ h. no_true (u == t) (eq-eqb u t (same_some u t h)) e)
+    go false e = inr (λ h. not_true_and_false (u == t) (eq-eqb u t (same_Some u t h)) e)
 
 name_in : (t : ℕ) (os : List Instr) → ((q : ℕ) × (table_named (slice_get os q) ≡ Some t))
     ⊎ ((q : ℕ) → table_named (slice_get os q) ≡ Some t → ⊥)
-name_in t [] = inr (λ q e. none_some t e)
+name_in t [] = inr (λ q e. none-some t e)
 name_in t (o ∷ os) = go (is_name t (table_named (Some o))) (name_in t os)
   where
     no : (table_named (Some o) ≡ Some t → ⊥) → ((q : ℕ) → table_named (slice_get os q) ≡ Some t → ⊥) → (q : ℕ)
@@ -67,7 +61,7 @@ named_within : (c : Parts) (t p : ℕ) → Names c t p → p < length c.instrs
 named_within c t p n = go (instr_at c p) refl n
   where
     go : (o : Option Instr) → instr_at c p ≡ o → table_named o ≡ Some t → p < length c.instrs
-    go None e n = absurd (none_some t n)
+    go None e n = absurd (none-some t n)
     go (Some i) e n = slice_get_within c.instrs p i e
 
 -- a child by the instruction that makes it

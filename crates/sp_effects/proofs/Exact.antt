@@ -2,8 +2,9 @@
 use Rattle.std.proofs.Common.{◌≡◌, inl, inr, ⊎_elim, refl, ap, sym, ◌∙◌, subst, ℕ, zero, suc, ◌<◌, ◌==◌, List, [], ◌∷◌}
 use Rattle.std.proofs.Common.{length, Option, Some, None, Bool, true, false, if◌then◌else◌, arith, eqb-true}
 use Rattle.std.specs.Prelude.{slice_get}
-use Rattle.std.proofs.lemmas.Bool.{eq-eqb}
-use Rattle.std.proofs.lemmas.Option.{slice_get_within}
+use Rattle.std.proofs.lemmas.Bool.{eq-eqb, cases_eq}
+use Rattle.std.proofs.lemmas.Option.{slice_get_within, none-some, same_Some}
+use Rattle.sp_base.proofs.Facts.{not_true_and_false}
 use Rattle.sp_tree.specs.Interference.{IsMember}
 use Rattle.sp_code.specs.declared.instr.Instr.{Instr}
 use Rattle.sp_code.specs.declared.instr.Instr.TheVariants as i
@@ -23,7 +24,6 @@ use Rattle.sp_rules.specs.Named.{BreaksV1, BlocksApart, InTwo, LiesIn}
 use Rattle.sp_areas.specs.declared.owners.Owner.{Owner}
 use Rattle.sp_areas.specs.declared.owners.Owner.TheVariants as owner
 use Rattle.sp_areas.specs.Owners.{AreOwners, Owns}
-use Rattle.sp_rules.proofs.Facts.{same_some, none_some, no_true}
 use Rattle.sp_rules.proofs.Walking.{passes}
 use Rattle.sp_rules.proofs.EffectLaws.{does_effect, child_effect, called_effect, effects_within, stops_within}
 use Rattle.sp_effects.specs.declared.edges.Edge.{Edge}
@@ -39,7 +39,6 @@ use Rattle.sp_effects.specs.Closing.{AreOwn, is_own, is_index, fact_along, Leads
 use Rattle.sp_effects.specs.Closing.{AreFacts}
 use Rattle.sp_effects.proofs.Owns.{in_member, member_in}
 use Rattle.sp_effects.proofs.Linking.{name_of, layout_place, entry_within}
-use Rattle.sp_effects.proofs.Telling.{equal_or}
 
 -- ---- areas by their first instructions
 
@@ -50,13 +49,13 @@ owner_is (o ∷ os) (suc p) l = owner_is os p (omega (arith, l))
 
 layout_some : (ls : List Layout) (j : ℕ) (l : Layout) → slice_get ls j ≡ Some l → (m : Layout)
     × (layout_of ls l.block ≡ Some m)
-layout_some [] j l e = absurd (none_some l e)
+layout_some [] j l e = absurd (none-some l e)
 layout_some (k ∷ ls) zero l e = go (k.block == l.block) refl
   where
     go : (t : Bool) → k.block == l.block ≡ t → (m : Layout) × ((if t then Some k else layout_of ls l.block) ≡ Some m)
     go true h = (k, refl)
-    go false h = absurd (no_true (k.block == l.block)
-        (eq-eqb k.block l.block (ap (λ (x : Layout). x.block) (same_some k l e))) h)
+    go false h = absurd (not_true_and_false (k.block == l.block)
+        (eq-eqb k.block l.block (ap (λ (x : Layout). x.block) (same_Some k l e))) h)
 layout_some (k ∷ ls) (suc j) l e = go (k.block == l.block) (layout_some ls j l e)
   where
     go : (t : Bool) → (m : Layout) × (layout_of ls l.block ≡ Some m) → (m : Layout)
@@ -91,11 +90,11 @@ module _ (c : Parts) (kept : (p : ℕ) → BreaksV1 c p → ⊥) (os : List Owne
       let first : layout_of c.layouts m.block ≡ Some m =
       ⊎_elim (λ z. r.1 ∙ (sym q.1 ∙ ap (slice_get c.layouts) z
       ∙ g)) (λ d. absurd (kept m.entry (BlocksApart (j, m, g, refl, inl (q.0, r.0, q.1, d, q.2)))))
-      (equal_or q.0 j) in
+      (cases_eq q.0 j) in
       let a : Body m.block ≡ Body f = one_area (Body m.block) (Body f) (m, first) (l, e) (ap entry_of_layout first
       ∙ sym s ∙ sym (ap entry_of_layout e)) in
       let b : m.block ≡ f = cc (a) in
-      same_some m l (sym first ∙ ap (layout_of c.layouts) b ∙ e)
+      same_Some m l (sym first ∙ ap (layout_of c.layouts) b ∙ e)
 
   module _ (ks : List (ℕ × ℕ)) (are_own : AreOwn c ks) where
     own_in : (f : ℕ) (l : Layout) (x : ℕ) → layout_of c.layouts f ≡ Some l → has_pair ks (l.entry, x) ≡ true
@@ -124,12 +123,12 @@ module _ (c : Parts) (kept : (p : ℕ) → BreaksV1 c p → ⊥) (os : List Owne
     does_deed a p deed.Stops (inr (k, t, s, h)) = absurd h
 
     led : (a : Area) (d : Deed) (g : Fact) → IsArea c a → Some (fact (entry c a) d) ≡ Some g → IsDeed c a d → IsTrue g
-    led a d g ia e h = let s = same_some (fact (entry c a) d) g e in
+    led a d g ia e h = let s = same_Some (fact (entry c a) d) g e in
         (a, ia, ap (λ (z : Fact). z.area) (sym s), subst (λ (z : Fact). IsDeed c a z.deed) s h)
 
     not_aside : (o : Option ℕ) (x : ℕ) → is_index o x ≡ false → IsAside Loaded o x
     not_aside None x e = tt
-    not_aside (Some y) x e = λ s. no_true (x == y) (eq-eqb x y s) e
+    not_aside (Some y) x e = λ s. not_true_and_false (x == y) (eq-eqb x y s) e
 
     module _ (a : Area) (ia : IsArea c a) (p : ℕ) (g : Fact) where
       by_start : (k : ℕ) (t : ChildTable) (own : Bool) (d : Deed) → IsStarted c a p k t → IsDeed c (Child a p k) d
@@ -140,7 +139,7 @@ module _ (c : Parts) (kept : (p : ℕ) → BreaksV1 c p → ⊥) (os : List Owne
         where
           go : (b : Bool) → is_index t.index x ≡ b
               → (if b then None else Some (fact (entry c a) (deed.Loads x))) ≡ Some g → IsTrue g
-          go true z e = absurd (none_some g e)
+          go true z e = absurd (none-some g e)
           go false z e = led a (deed.Loads x) g ia e
               (child_effect c (Does c) Loaded a p k x t s (not_aside t.index x z) h)
       by_start k t own deed.Stops s h e = led a deed.Stops g ia e (Child a p k ∷ h.0, inl (p, k, t, refl, s, h.1))
@@ -148,14 +147,14 @@ module _ (c : Parts) (kept : (p : ℕ) → BreaksV1 c p → ⊥) (os : List Owne
       module _ (f up : ℕ) (ss : List Shape) (l : Layout) (call : IsCalled c a p f up ss l) where
         by_call : (own : Bool) (d : Deed) → own ≡ is_own ks l.entry d → IsDeed c (Body f) d
             → fact_along (edge.Called (entry c a)) own d ≡ Some g → IsTrue g
-        by_call true (deed.Stores x) z h e = absurd (none_some g e)
+        by_call true (deed.Stores x) z h e = absurd (none-some g e)
         by_call false (deed.Stores x) z h e = led a (deed.Stores x) g ia e
             (called_effect c (Does c) Stored a p f up x x ss l call
-            (inl (refl, λ m. no_true (has_pair ks (l.entry, x)) (in_own f l x call.layout m) (sym z))) h)
-        by_call true (deed.Loads x) z h e = absurd (none_some g e)
+            (inl (refl, λ m. not_true_and_false (has_pair ks (l.entry, x)) (in_own f l x call.layout m) (sym z))) h)
+        by_call true (deed.Loads x) z h e = absurd (none-some g e)
         by_call false (deed.Loads x) z h e = led a (deed.Loads x) g ia e
             (called_effect c (Does c) Loaded a p f up x x ss l call
-            (inl (refl, λ m. no_true (has_pair ks (l.entry, x)) (in_own f l x call.layout m) (sym z))) h)
+            (inl (refl, λ m. not_true_and_false (has_pair ks (l.entry, x)) (in_own f l x call.layout m) (sym z))) h)
         by_call own deed.Stops z h e = led a deed.Stops g ia e (Body f ∷ h.0, inr (p, f, up, ss, l, refl, call, h.1))
 
         by_pass : (k y x : ℕ) (own : Bool) (d : Deed) → IsNumber l k y → IsActual l ss k x → IsDeed c (Body f) d
@@ -171,7 +170,7 @@ module _ (c : Parts) (kept : (p : ℕ) → BreaksV1 c p → ⊥) (os : List Owne
                       ∙ ap Some (sym (eqb-true w y z)),
                   act,
                 )) h)
-            go false z e = absurd (none_some g e)
+            go false z e = absurd (none-some g e)
         by_pass k y x own (deed.Loads w) num act h e = go (w == y) refl e
           where
             go : (b : Bool) → (w == y) ≡ b → (if b then Some (fact (entry c a) (deed.Loads x)) else None) ≡ Some g
@@ -183,8 +182,8 @@ module _ (c : Parts) (kept : (p : ℕ) → BreaksV1 c p → ⊥) (os : List Owne
                       ∙ ap Some (sym (eqb-true w y z)),
                   act,
                 )) h)
-            go false z e = absurd (none_some g e)
-        by_pass k y x own deed.Stops num act h e = absurd (none_some g e)
+            go false z e = absurd (none-some g e)
+        by_pass k y x own deed.Stops num act h e = absurd (none-some g e)
 
     module _ (rows : List (List Edge)) (edges : AreEdges c rows) where
       true_led : (f g : Fact) → IsTrue f → Leads rows ks f g → IsTrue g
@@ -275,7 +274,7 @@ module _ (c : Parts) (kept : (p : ℕ) → BreaksV1 c p → ⊥) (os : List Owne
             n = (name_of (table_named (instr_at c p)) k c.forks t e).0
 
             go : (o : Option Instr) → instr_at c p ≡ o → table_named o ≡ Some n → p < length c.instrs
-            go None e h = absurd (none_some n h)
+            go None e h = absurd (none-some n h)
             go (Some o) e h = slice_get_within c.instrs p o e
 
         call_within : (p f up : ℕ) → instr_at c p ≡ Some (i.Call f up) → p < length c.instrs

@@ -1,9 +1,10 @@
 -- One child or table is at fault where its test says so.
 use Rattle.std.proofs.Common.{◌≡◌, inl, inr, ⊎_elim, sym, subst, ◌∙◌, ℕ, List, Option, Some, None, Bool, true}
 use Rattle.std.specs.Prelude.{slice_get, ◌↔◌, length}
+use Rattle.std.proofs.lemmas.Bool.{or_cases, or_left, or_right}
+use Rattle.std.proofs.lemmas.Option.{same_Some}
 use Rattle.sp_code.specs.declared.code.ChildTable.{ChildTable}
 use Rattle.sp_code.specs.declared.code.ForkTable.{ForkTable}
-use Rattle.sp_rules.proofs.Facts.{same_some}
 use Rattle.sp_areas.specs.Least.{IsLeast, Upto}
 use Rattle.sp_areas.proofs.Leasts.{same}
 use Rattle.sp_effects.specs.declared.effects.Deeds.{Deeds}
@@ -12,7 +13,6 @@ use Rattle.sp_effects.specs.declared.handed.Before.{Before}
 use Rattle.sp_effects.specs.Befores.{IsBefore}
 use Rattle.sp_effects.specs.Handed.{ChildFails, FailsAs, TableFails, clashes, fails_alone, fails_by}
 use Rattle.sp_effects.proofs.Alone.{alone_is, alone_from, clash_is, clash_from}
-use Rattle.sp_effects.proofs.Members.{or_left, or_right, or_split}
 
 -- a child, by what it does
 pub fails_as : (o : Option Deeds) (b : Before) (t : ChildTable) (ts : List ChildTable) (n : ℕ) → IsBefore ts n b
@@ -20,7 +20,7 @@ pub fails_as : (o : Option Deeds) (b : Before) (t : ChildTable) (ts : List Child
 fails_as None b t ts n before = (λ e. absurd (cc e), λ f. absurd f)
 fails_as (Some d) b t ts n before = (
   λ e. ⊎_elim (λ h. inl (alone_is d.stored d.loaded t h)) (λ h. inr (clash_is ts n b before t h))
-      (or_split (fails_alone d.stored d.loaded t) (clashes b.moved.keys b.handed.keys t) e),
+      (or_cases (fails_alone d.stored d.loaded t) (clashes b.moved.keys b.handed.keys t) e),
   λ f. ⊎_elim (λ h. or_left (fails_alone d.stored d.loaded t) (clashes b.moved.keys b.handed.keys t)
       (alone_from d.stored d.loaded t h))
       (λ h. or_right (fails_alone d.stored d.loaded t) (clashes b.moved.keys b.handed.keys t)
@@ -45,7 +45,7 @@ one_child e ts k t before b o is befores by = same (λ p. (t.entry ≡ p)
         × (b ≡ true)) (sym i) (λ x y. (x, f.1 y)) h g
 
     back : (p : ℕ) → ChildFails e ts k p → (t.entry ≡ p) × (b ≡ true)
-    back p (s, j, h, g) = at p s (same_some s t (sym j ∙ is)) h g
+    back p (s, j, h, g) = at p s (same_Some s t (sym j ∙ is)) h g
 
 -- a table's children
 pub one_table : (e : Effects) (fs : List ForkTable) (t : ℕ) (tb : ForkTable) (o : Option ℕ) → slice_get fs t ≡ Some tb
@@ -55,4 +55,4 @@ one_table e fs t tb o is = same (Upto (ChildFails e tb.children) (length tb.chil
   where
     back : (p : ℕ) → TableFails e fs t p → Upto (ChildFails e tb.children) (length tb.children) p
     back p (s, j, h) = subst (λ (z : ForkTable). Upto (ChildFails e z.children) (length z.children) p)
-        (same_some s tb (sym j ∙ is)) h
+        (same_Some s tb (sym j ∙ is)) h

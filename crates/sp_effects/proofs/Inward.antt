@@ -3,9 +3,10 @@ use Rattle.std.proofs.Common.{◌≡◌, ◌⊎◌, inl, inr, ⊎_elim, refl, sy
 use Rattle.std.proofs.Common.{List, Option, Some, None, Bool, true, false, ◌||◌, length, replicate, arith, eqb-true}
 use Rattle.std.specs.Prelude.{slice_get, nat_lt}
 use Rattle.std.specs.BTreeMap.{BTreeMap}
-use Rattle.std.proofs.lemmas.Bool.{eq-eqb}
+use Rattle.std.proofs.lemmas.Bool.{eq-eqb, and_from, and_parts, or_cases, or_left, or_right}
 use Rattle.std.proofs.lemmas.List.{length-drop}
-use Rattle.std.proofs.lemmas.Option.{slice_get_within}
+use Rattle.std.proofs.lemmas.Option.{slice_get_within, none-some, same_Some}
+use Rattle.sp_base.proofs.Facts.{less_same_or_more}
 use Rattle.sp_code.specs.declared.code.Layout.{Layout}
 use Rattle.sp_code.specs.declared.code.Parts.{Parts}
 use Rattle.sp_code.specs.Memory.{Home, OfBlock, OfIndex}
@@ -17,7 +18,6 @@ use Rattle.sp_rules.specs.Named.{LiesIn, level_fits, is_block}
 use Rattle.sp_rules.specs.Reach.{IsArea}
 use Rattle.sp_rules.specs.Shapes.{Shape}
 use Rattle.sp_rules.specs.Verdict.{Inside}
-use Rattle.sp_rules.proofs.Facts.{both_true, and_true, same_some, none_some, which}
 use Rattle.sp_rules.proofs.Scoping.{area_drop, homes_step, inner, is_block_of}
 use Rattle.sp_rules.proofs.Walking.{passes}
 use Rattle.sp_areas.specs.Alone.{Marks, flag_at}
@@ -29,7 +29,6 @@ use Rattle.sp_shapes.specs.Stacks.{list_of}
 use Rattle.sp_effects.specs.Calls.{reached}
 use Rattle.sp_effects.specs.Turns as turns
 use Rattle.sp_effects.specs.Turns.{AreInside, CallsInside, SomeCalls, inside_of, is_inside}
-use Rattle.sp_effects.proofs.Members.{not_both, or_left, or_right, or_split}
 
 -- ---- where a block stands among those around code
 
@@ -88,7 +87,7 @@ module _ (c : Parts) where
         omega (arith, m, v, x, y, f, g)
 
     pub inside_is : is_inside (homes c a) b up ≡ true → Inside c (block_of c a) b
-    inside_is e = let r = both_true (nat_lt 0 up) (turns.is_block b (block_at (slice_get (homes c a) (up - 1)))) e in
+    inside_is e = let r = and_parts (nat_lt 0 up) (turns.is_block b (block_at (slice_get (homes c a) (up - 1)))) e in
         to_block a (up - 1) b (block_is b (slice_get (homes c a) (up - 1)) r.1)
 
     pub is_inside_here : Inside c (block_of c a) b → is_inside (homes c a) b up ≡ true
@@ -96,14 +95,14 @@ module _ (c : Parts) where
         let r = from_block a b h in
         let s = just_inside r.0 r.1 in
         let t : r.0 ≡ up - 1 = omega (arith, s) in
-        and_true (nat_lt 0 up) (turns.is_block b (block_at (slice_get (homes c a) (up - 1)))) (Prim.grind (arith, s))
+        and_from (nat_lt 0 up) (turns.is_block b (block_at (slice_get (homes c a) (up - 1)))) (Prim.grind (arith, s))
         (is_block_here b (slice_get (homes c a) (up - 1)) (ap (slice_get (homes c a)) (sym t) ∙ r.1))
 
 -- ---- flags
 
 module _ (c : Parts) (k : Keeps c) (first : BTreeMap ℕ ℕ) (s : Shapes) (shapes : AreShapes c s) where
   pub reached_is : (o : Option (Option ℕ)) (n : ℕ) → reached o ≡ Some n → o ≡ Some (Some n)
-  reached_is None n e = absurd (none_some n e)
+  reached_is None n e = absurd (none-some n e)
   reached_is (Some o) n e = ap Some e
 
   pub only : (p n : ℕ) → reached (slice_get s.at p) ≡ Some n → (a : Area) × LiesOnlyIn c p a
@@ -120,7 +119,7 @@ module _ (c : Parts) (k : Keeps c) (first : BTreeMap ℕ ℕ) (s : Shapes) (shap
     placed_is j e = go (reached (slice_get s.at p)) refl
       where
         go : (t : Option ℕ) → reached (slice_get s.at p) ≡ t → CallsInside c first s p j
-        go None h = absurd (none_some j (sym (none h) ∙ e))
+        go None h = absurd (none-some j (sym (none h) ∙ e))
         go (Some n) h = let a = only p n h in
             record { area = a.0; lies = a.1; stack = n; come = h; calls = sym (come a.0 n a.1 h) ∙ e }
 
@@ -128,7 +127,7 @@ module _ (c : Parts) (k : Keeps c) (first : BTreeMap ℕ ℕ) (s : Shapes) (shap
     is_placed j h = come h.area h.stack h.lies h.come ∙ h.calls
 
     some_more : (j : ℕ) → SomeCalls c first s (p + 1) j → SomeCalls c first s p j ⊎ (o ≡ Some j)
-    some_more j h = go (which h.at p)
+    some_more j h = go (less_same_or_more h.at p)
       where
         go : (h.at < p) ⊎ ((h.at ≡ p) ⊎ (p < h.at)) → SomeCalls c first s p j ⊎ (o ≡ Some j)
         go (inl l) = inl (record { at = h.at; before = l; calls = h.calls })
@@ -145,7 +144,7 @@ module _ (c : Parts) (k : Keeps c) (first : BTreeMap ℕ ℕ) (s : Shapes) (shap
     flagged old new j e m h = record {
       size = m.0 ∙ h.size;
       each = λ u l. (
-        λ f. more_some u (split u l (or_split (j == u) (flag_at old u) (sym (m.1 u (within u l))
+        λ f. more_some u (split u l (or_cases (j == u) (flag_at old u) (sym (m.1 u (within u l))
             ∙ f))),
         λ f. m.1 u (within u l) ∙ set u l (some_more u f),
       );
@@ -162,7 +161,7 @@ module _ (c : Parts) (k : Keeps c) (first : BTreeMap ℕ ℕ) (s : Shapes) (shap
         set : (u : ℕ) → u < length c.layouts → SomeCalls c first s p u ⊎ (o ≡ Some u)
             → ((j == u) || flag_at old u) ≡ true
         set u l (inl f) = or_right (j == u) (flag_at old u) ((h.each u l).1 f)
-        set u l (inr f) = or_left (j == u) (flag_at old u) (eq-eqb j u (same_some j u (sym e ∙ f)))
+        set u l (inr f) = or_left (j == u) (flag_at old u) (eq-eqb j u (same_Some j u (sym e ∙ f)))
 
     pub not_flagged : (old : List Bool) → o ≡ None → AreInside c first s p old → AreInside c first s (p + 1) old
     not_flagged old e h = record {
@@ -170,6 +169,6 @@ module _ (c : Parts) (k : Keeps c) (first : BTreeMap ℕ ℕ) (s : Shapes) (shap
       each = λ u l. (
         λ f. more_some u (inl ((h.each u l).0 f)),
         λ f. ⊎_elim (λ g. (h.each u l).1 g)
-            (λ g. absurd (none_some u (sym e ∙ g))) (some_more u f),
+            (λ g. absurd (none-some u (sym e ∙ g))) (some_more u f),
       );
     }

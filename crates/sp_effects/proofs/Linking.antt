@@ -5,7 +5,9 @@ use Rattle.std.proofs.Common.{◌==◌, List, [], ◌∷◌, ◌++◌, length, O
 use Rattle.std.proofs.Common.{arith, eqb-true}
 use Rattle.std.specs.Prelude.{slice_get, slice_set}
 use Rattle.std.proofs.lemmas.List.{length-set}
-use Rattle.std.proofs.lemmas.Option.{slice_get_within}
+use Rattle.std.proofs.lemmas.Option.{slice_get_within, none-some, same_Some}
+use Rattle.std.proofs.lemmas.Bool.{cases_eq}
+use Rattle.sp_base.proofs.Facts.{below_or_last, get_beside_set, get_where_set, less_same_or_more}
 use Rattle.sp_code.specs.declared.instr.Instr.{Instr}
 use Rattle.sp_code.specs.declared.instr.Instr.TheVariants as i
 use Rattle.sp_code.specs.declared.code.ChildTable.{ChildTable}
@@ -25,12 +27,10 @@ use Rattle.sp_areas.specs.Only.{LiesOnlyIn}
 use Rattle.sp_shapes.specs.declared.shapes.Shapes.{Shapes}
 use Rattle.sp_shapes.specs.Shapes.{AreShapes}
 use Rattle.sp_shapes.specs.Stacks.{list_of}
-use Rattle.sp_rules.proofs.Facts.{same_some, none_some, which}
 use Rattle.sp_rules.proofs.Walking.{passes}
 use Rattle.sp_effects.specs.declared.edges.Edge.{Edge}
 use Rattle.sp_effects.specs.declared.edges.Edge.TheVariants as edge
 use Rattle.sp_effects.specs.Own.{flat}
-use Rattle.sp_effects.proofs.Telling.{get_set_same, get_set_other, equal_or}
 use Rattle.sp_effects.specs.Edges.{InRow, HasEdge, Puts, Links, passed_by, formal_at, deep_edge, IsDeep, IsDeeper}
 use Rattle.sp_effects.specs.Edges.{IsPassed, called_block, IsCall, IsStart, OneStarts, CalledAt, StartedAt, EdgeAt}
 use Rattle.sp_effects.specs.Edges.{HasEdges}
@@ -51,10 +51,10 @@ links_one rows m e r new none at p = record { size = size; kept = kept; has = ha
     size = length-set middle m new ∙ length-set rows m none
 
     here : slice_get last m ≡ Some new
-    here = get_set_same middle m new (subst (λ n. m < n) (sym (length-set rows m none)) (slice_get_within rows m r at))
+    here = get_where_set middle m new (subst (λ n. m < n) (sym (length-set rows m none)) (slice_get_within rows m r at))
 
     there : (n : ℕ) → n ≢ m → slice_get last n ≡ slice_get rows n
-    there n d = get_set_other middle m n new (λ s. d (sym s)) ∙ get_set_other rows m n none (λ s. d (sym s))
+    there n d = get_beside_set middle m n new (λ s. d (sym s)) ∙ get_beside_set rows m n none (λ s. d (sym s))
 
     kept : (n : ℕ) (f : Edge) → HasEdge rows n f → HasEdge last n f
     kept n f (s, g, i) =
@@ -62,23 +62,23 @@ links_one rows m e r new none at p = record { size = size; kept = kept; has = ha
           new,
           ap (slice_get last) q
               ∙ here,
-          p.kept f (subst (λ x. InRow x f) (same_some s r (sym g ∙ ap (slice_get rows) q ∙ at)) i),
+          p.kept f (subst (λ x. InRow x f) (same_Some s r (sym g ∙ ap (slice_get rows) q ∙ at)) i),
         ))
-        (λ d. (s, there n d ∙ g, i)) (equal_or n m)
+        (λ d. (s, there n d ∙ g, i)) (cases_eq n m)
 
     has : (n : ℕ) (f : Edge) → (n ≡ m) × (f ≡ e) → HasEdge last n f
     has n f (q, h) = (new, ap (slice_get last) q ∙ here, subst (InRow new) (sym h) p.has)
 
     only : (n : ℕ) (f : Edge) → HasEdge last n f → HasEdge rows n f ⊎ ((n ≡ m) × (f ≡ e))
     only n f (s, g, i) =
-        ⊎_elim (λ q. let z = same_some s new (sym g ∙ ap (slice_get last) q
+        ⊎_elim (λ q. let z = same_Some s new (sym g ∙ ap (slice_get last) q
         ∙ here) in ⊎_elim (λ j. inl (
           r,
           ap (slice_get rows) q
               ∙ at,
           j,
         )) (λ h. inr (q, h)) (p.only f (subst (λ x. InRow x f) z i)))
-        (λ d. inl (s, sym (there n d) ∙ g, i)) (equal_or n m)
+        (λ d. inl (s, sym (there n d) ∙ g, i)) (cases_eq n m)
 
 -- ---- more of them
 
@@ -104,9 +104,6 @@ links_then a b d W V s t = record {
   only = λ m e i. ⊎_elim (λ o. ⊎_elim (λ x. inl x) (λ x. inr (inl x)) (s.only m e o)) (λ x. inr (inr x)) (t.only m e i);
 }
 
-before_or : (k n : ℕ) → k < n + 1 → (k < n) ⊎ (k ≡ n)
-before_or k n l = ⊎_elim (λ h. inl h) (λ z. ⊎_elim (λ e. inr e) (λ h. absurd (omega (arith, h, l))) z) (which k n)
-
 -- ---- children
 
 pub starts_more : (a b d : List (List Edge)) (ts : List ChildTable) (n k : ℕ) (t : ChildTable) → slice_get ts k ≡ Some t
@@ -122,15 +119,15 @@ starts_more a b d ts n k t g u v = links_as a d (λ m e. OneStarts ts n k m e
     from : (m : ℕ) (e : Edge) → OneStarts ts n (k + 1) m e → OneStarts ts n k m e ⊎ IsStart t n m e
     from m e w =
         ⊎_elim (λ l. inl (w.0, w.1, l, w.3, w.4))
-        (λ s. inr (subst (λ (y : ChildTable). IsStart y n m e) (same_some w.1 t (sym w.3 ∙ ap (slice_get ts) s
-        ∙ g)) w.4)) (before_or w.0 k w.2)
+        (λ s. inr (subst (λ (y : ChildTable). IsStart y n m e) (same_Some w.1 t (sym w.3 ∙ ap (slice_get ts) s
+        ∙ g)) w.4)) (below_or_last w.0 k w.2)
 
 -- ---- operands
 
 pub deep_linked : (a b : List (List Edge)) (l : Layout) (o : Option Edge) (e : Edge) → o ≡ Some e
     → Links a b (λ m f. (m ≡ l.entry) × (f ≡ e)) → Links a b (λ m f. (m ≡ l.entry) × (o ≡ Some f))
 deep_linked a b l o e s t = links_as a b (λ m f. (m ≡ l.entry) × (f ≡ e)) (λ m f. (m ≡ l.entry)
-    × (o ≡ Some f)) (λ m f w. (w.0, s ∙ ap Some (sym w.1))) (λ m f w. (w.0, same_some f e (sym w.1 ∙ s))) t
+    × (o ≡ Some f)) (λ m f w. (w.0, s ∙ ap Some (sym w.1))) (λ m f w. (w.0, same_Some f e (sym w.1 ∙ s))) t
 
 module _ (l : Layout) (n : ℕ) (ss : List Shape) where
 
@@ -153,9 +150,9 @@ module _ (l : Layout) (n : ℕ) (ss : List Shape) where
           ⊎_elim (λ q. inl (h, (d, q, (t, i, w))))
           (λ q. inr (
             h,
-            subst (λ y. deep_edge l n j y ≡ Some e) (same_some t s (sym i ∙ ap (slice_get ss) q
+            subst (λ y. deep_edge l n j y ≡ Some e) (same_Some t s (sym i ∙ ap (slice_get ss) q
                 ∙ g)) (subst (λ y. deep_edge l n y t ≡ Some e) q w),
-          )) (before_or d j z)
+          )) (below_or_last d j z)
 
   -- where no operand is left, there are no more
   pub deeper_end : (a b : List (List Edge)) (j k : ℕ) → ((d : ℕ) → j < d + 1 → slice_get ss d ≡ None)
@@ -166,8 +163,8 @@ module _ (l : Layout) (n : ℕ) (ss : List Shape) where
       from : (m : ℕ) (e : Edge) → IsDeeper l n ss k m e → IsDeeper l n ss j m e
       from m e (q, (d, z, (s, i, w))) =
           ⊎_elim (λ x. (q, (d, x, (s, i, w))))
-          (λ x. absurd (none_some s (sym (none d
-          (⊎_elim (λ y. let v : d ≡ j = y in omega (arith, v)) (λ y. omega (arith, y)) x)) ∙ i))) (which d j)
+          (λ x. absurd (none-some s (sym (none d
+          (⊎_elim (λ y. let v : d ≡ j = y in omega (arith, v)) (λ y. omega (arith, y)) x)) ∙ i))) (less_same_or_more d j)
 
   -- the edges of all operands are those of formals and actual variables
   passed_is : (y k x left : ℕ) (v : Option ℕ) (f : Option Formal) (s : Shape) → v ≡ Some y
@@ -179,13 +176,13 @@ module _ (l : Layout) (n : ℕ) (ss : List Shape) where
   is_passed : (v : Option ℕ) (f : Option Formal) (s : Shape) (e : Edge) → passed_by n v f s ≡ Some e
       → (y k x left : ℕ) × (v ≡ Some y) × (f ≡ Some (formal.Reference k)) × (s ≡ A x left) × (e ≡ edge.Passed n y x)
   is_passed (Some y) (Some (formal.Reference k)) (A x left) e h =
-      (y, k, x, left, refl, refl, refl, sym (same_some (edge.Passed n y x) e h))
-  is_passed None f s e h = absurd (none_some e h)
-  is_passed (Some y) None s e h = absurd (none_some e h)
-  is_passed (Some y) (Some (formal.Value k)) s e h = absurd (none_some e h)
-  is_passed (Some y) (Some (formal.Reference k)) O e h = absurd (none_some e h)
-  is_passed (Some y) (Some (formal.Reference k)) C e h = absurd (none_some e h)
-  is_passed (Some y) (Some (formal.Reference k)) (L m) e h = absurd (none_some e h)
+      (y, k, x, left, refl, refl, refl, sym (same_Some (edge.Passed n y x) e h))
+  is_passed None f s e h = absurd (none-some e h)
+  is_passed (Some y) None s e h = absurd (none-some e h)
+  is_passed (Some y) (Some (formal.Value k)) s e h = absurd (none-some e h)
+  is_passed (Some y) (Some (formal.Reference k)) O e h = absurd (none-some e h)
+  is_passed (Some y) (Some (formal.Reference k)) C e h = absurd (none-some e h)
+  is_passed (Some y) (Some (formal.Reference k)) (L m) e h = absurd (none-some e h)
 
   turned : (k m : ℕ) → k < m → m - 1 - (m - 1 - k) ≡ k
   turned k m h = omega (arith, h)
@@ -267,27 +264,27 @@ none_below ss at j e h d l = ap (slice_get ss) further ∙ sym (h (d - j))
 -- ---- at an instruction
 
 called_is : (o : Option Instr) (f : ℕ) → called_block o ≡ Some f → (up : ℕ) × (o ≡ Some (i.Call f up))
-called_is None f e = absurd (none_some f e)
-called_is (Some (i.Call b up)) f e = (up, ap (λ z. Some (i.Call z up)) (same_some b f e))
-called_is (Some o) f e = absurd (none_some f e)
+called_is None f e = absurd (none-some f e)
+called_is (Some (i.Call b up)) f e = (up, ap (λ z. Some (i.Call z up)) (same_Some b f e))
+called_is (Some o) f e = absurd (none-some f e)
 
 flat_is : (o : Option (Option ℕ)) (s : ℕ) → flat o ≡ Some s → o ≡ Some (Some s)
-flat_is None s e = absurd (none_some s e)
+flat_is None s e = absurd (none-some s e)
 flat_is (Some o) s e = ap Some e
 
 module _ (c : Parts) (p : ℕ) where
   module _ (shapes : Shapes) (are : AreShapes c shapes) where
     pub no_stack : (a : List (List Edge)) → flat (slice_get shapes.at p) ≡ None → Links a a (CalledAt c p)
     no_stack a e = links_none a (CalledAt c p)
-        (λ m g w. let k = are.all w.0 p w.3 (w.5, w.6.reached) in none_some k.0 (sym e ∙ ap flat k.1))
+        (λ m g w. let k = are.all w.0 p w.3 (w.5, w.6.reached) in none-some k.0 (sym e ∙ ap flat k.1))
 
   pub no_call : (a : List (List Edge)) → called_block (instr_at c p) ≡ None → Links a a (CalledAt c p)
-  no_call a e = links_none a (CalledAt c p) (λ m g w. none_some w.1 (sym e ∙ ap called_block w.6.call))
+  no_call a e = links_none a (CalledAt c p) (λ m g w. none-some w.1 (sym e ∙ ap called_block w.6.call))
 
   pub no_layout : (a : List (List Edge)) (f : ℕ) → called_block (instr_at c p) ≡ Some f → layout_of c.layouts f ≡ None
       → Links a a (CalledAt c p)
-  no_layout a f e h = links_none a (CalledAt c p) (λ m g w. let s : f ≡ w.1 = same_some f w.1 (sym e
-      ∙ ap called_block w.6.call) in none_some w.4 (sym h ∙ ap (layout_of c.layouts) s ∙ w.6.layout))
+  no_layout a f e h = links_none a (CalledAt c p) (λ m g w. let s : f ≡ w.1 = same_Some f w.1 (sym e
+      ∙ ap called_block w.6.call) in none-some w.4 (sym h ∙ ap (layout_of c.layouts) s ∙ w.6.layout))
 
   module _ (a : Area) (n : ℕ) (only : LiesOnlyIn c p a) (at : entry c a ≡ n) where
     pub call_at : (x y : List (List Edge)) (shapes : Shapes) (s f : ℕ) (l : Layout) → AreShapes c shapes
@@ -325,10 +322,10 @@ module _ (c : Parts) (p : ℕ) where
         from m g (d, k, up, ts, o, there, call, w) =
             let q : d ≡ a = same_area d ts (there, call.reached) in
             let r = are.all d p ts (there, call.reached) in
-            let i : s ≡ r.0 = same_some s r.0 (same_some (Some s) (Some r.0) (sym here ∙ r.1)) in
+            let i : s ≡ r.0 = same_Some s r.0 (same_Some (Some s) (Some r.0) (sym here ∙ r.1)) in
             let es : ts ≡ ss = sym r.2 ∙ ap (list_of shapes.stacks) (sym i) in
-            let ek : f ≡ k = same_some f k (sym b ∙ ap called_block call.call) in
-            let eo : o ≡ l = same_some o l (sym call.layout ∙ ap (layout_of c.layouts) (sym ek) ∙ h) in
+            let ek : f ≡ k = same_Some f k (sym b ∙ ap called_block call.call) in
+            let eo : o ≡ l = same_Some o l (sym call.layout ∙ ap (layout_of c.layouts) (sym ek) ∙ h) in
             subst (λ (z : Layout). IsCall z n ss m g) eo
             (subst (λ (z : List Shape). IsCall o n z m g) es (subst (λ z. IsCall o z ts m g) (ap (entry c) q
             ∙ at) w))
@@ -372,18 +369,18 @@ module _ (c : Parts) (p : ℕ) where
 
 pub name_of : (o : Option ℕ) (k : ℕ) (fs : List ForkTable) (ch : ChildTable) → child_of (table_at fs o) k ≡ Some ch
     → (t : ℕ) × (o ≡ Some t)
-name_of None k fs ch e = absurd (none_some ch e)
+name_of None k fs ch e = absurd (none-some ch e)
 name_of (Some t) k fs ch e = (t, refl)
 
 pub layout_place : (ls : List Layout) (b : ℕ) (l : Layout) → layout_of ls b ≡ Some l → (j : ℕ)
     × (slice_get ls j ≡ Some l) × (l.block ≡ b)
-layout_place [] b l e = absurd (none_some l e)
+layout_place [] b l e = absurd (none-some l e)
 layout_place (m ∷ ls) b l e = go (m.block == b) refl e (layout_place ls b l)
   where
     go : (t : Bool) → m.block == b ≡ t → (if t then Some m else layout_of ls b) ≡ Some l
         → (layout_of ls b ≡ Some l → (j : ℕ) × (slice_get ls j ≡ Some l) × (l.block ≡ b))
         → (j : ℕ) × (slice_get (m ∷ ls) j ≡ Some l) × (l.block ≡ b)
-    go true t e on = (zero, e, ap (λ (x : Layout). x.block) (sym (same_some m l e)) ∙ eqb-true m.block b t)
+    go true t e on = (zero, e, ap (λ (x : Layout). x.block) (sym (same_Some m l e)) ∙ eqb-true m.block b t)
     go false t e on = let r = on e in (suc r.0, r.1, r.2)
 
 module _ (c : Parts) (kept : (p : ℕ) → BreaksV1 c p → ⊥) where
@@ -395,7 +392,7 @@ module _ (c : Parts) (kept : (p : ℕ) → BreaksV1 c p → ⊥) where
             (λ q. omega (arith, q)) z;
         of = inl (l, (let j = layout_place c.layouts b l e in (j.0, j.1)), refl);
       })))))
-      (which l.entry (length c.instrs))
+      (less_same_or_more l.entry (length c.instrs))
 
   pub child_within : (p k : ℕ) (t : ChildTable) → child_at c p k ≡ Some t → t.entry < length c.instrs
   child_within p k t e =
@@ -406,7 +403,7 @@ module _ (c : Parts) (kept : (p : ℕ) → BreaksV1 c p → ⊥) where
         past = ⊎_elim (λ q. let s : t.entry ≡ length c.instrs = q in omega (arith, s))
             (λ q. omega (arith, q)) z;
         of = inr (n.0, k, t, i, refl);
-      }))))) (which t.entry (length c.instrs))
+      }))))) (less_same_or_more t.entry (length c.instrs))
 
   -- each area that is there begins at an instruction that is there
   pub entry_within : (a : Area) → IsArea c a → entry c a < length c.instrs
@@ -431,7 +428,7 @@ module _ (c : Parts) where
     where
       has : (p m : ℕ) (e : Edge) → p < n + 1 → EdgeAt c p m e → HasEdge b m e
       has p m e l w = ⊎_elim (λ z. t.kept m e (h.has p m e z w)) (λ s. t.has m e (subst (λ q. EdgeAt c q m e) s w))
-          (before_or p n l)
+          (below_or_last p n l)
 
       only : (m : ℕ) (e : Edge) → HasEdge b m e → (p : ℕ) × EdgeAt c p m e
       only m e w = ⊎_elim (λ z. h.only m e z) (λ z. (n, z)) (t.only m e w)
@@ -439,8 +436,8 @@ module _ (c : Parts) where
 -- rows with no edges
 pub rows_more : (rows : List (List Edge)) (none : List Edge) → none ≡ [] → ((m : ℕ) (e : Edge) → HasEdge rows m e → ⊥)
     → (m : ℕ) (e : Edge) → HasEdge (rows ++ none ∷ []) m e → ⊥
-rows_more [] none s h zero e (r, g, i) = none_some e
-    (ap (λ (x : List Edge). slice_get x i.0) (sym (sym (same_some none r g) ∙ s)) ∙ i.1)
-rows_more [] none s h (suc m) e (r, g, i) = none_some r g
+rows_more [] none s h zero e (r, g, i) = none-some e
+    (ap (λ (x : List Edge). slice_get x i.0) (sym (sym (same_Some none r g) ∙ s)) ∙ i.1)
+rows_more [] none s h (suc m) e (r, g, i) = none-some r g
 rows_more (x ∷ rows) none s h zero e w = h 0 e w
 rows_more (x ∷ rows) none s h (suc m) e w = rows_more rows none s (λ n f v. h (suc n) f v) m e w

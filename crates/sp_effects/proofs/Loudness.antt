@@ -3,6 +3,7 @@ use Rattle.std.proofs.Common.{◌≡◌, inl, inr, ⊎_elim, sym, ap, subst, ◌
 use Rattle.std.proofs.Common.{true, ◌||◌, arith}
 use Rattle.std.specs.Prelude.{slice_get}
 use Rattle.std.proofs.lemmas.Option.{slice_get_within}
+use Rattle.std.proofs.lemmas.Bool.{and_from, and_parts, or_cases, or_left, or_right}
 use Rattle.sp_code.specs.declared.code.Layout.{Layout}
 use Rattle.sp_code.specs.declared.code.Parts.{Parts}
 use Rattle.sp_code.specs.Machine.{layout_of}
@@ -11,7 +12,6 @@ use Rattle.sp_rules.specs.Effects.{Does}
 use Rattle.sp_rules.specs.Forks as fork
 use Rattle.sp_rules.specs.Named.{BreaksV1}
 use Rattle.sp_rules.specs.Verdict.{BreaksV8, HasStop}
-use Rattle.sp_rules.proofs.Facts.{both_true, and_true}
 use Rattle.sp_areas.specs.Least.{IsLeast, Upto}
 use Rattle.sp_areas.proofs.Leasts.{all}
 use Rattle.sp_effects.specs.declared.effects.Deeds.{Deeds}
@@ -19,7 +19,6 @@ use Rattle.sp_effects.specs.declared.effects.Effects.{Effects}
 use Rattle.sp_effects.specs.Effects.{AreEffects, AreDeeds}
 use Rattle.sp_effects.specs.Loud.{IsLoud, LayoutLoud, is_loud}
 use Rattle.sp_effects.specs.Variables.{goes_out, with_layouts}
-use Rattle.sp_effects.proofs.Members.{or_left, or_right, or_split}
 use Rattle.sp_effects.proofs.Owned.{layout_here, one_layout, out_from, out_is}
 
 -- ---- one layout
@@ -29,18 +28,18 @@ module _ (ls : List Layout) (j : ℕ) (l : Layout) (is : slice_get ls j ≡ Some
   loud_is : (o : Option Deeds) → is_loud ks j l o ≡ true → IsLoud l o
   loud_is None e = absurd (cc e)
   loud_is (Some d) e =
-      let b = both_true l.answer (d.stops || goes_out ks j 0 d.stored) e in (
+      let b = and_parts l.answer (d.stops || goes_out ks j 0 d.stored) e in (
         b.0,
         ⊎_elim (λ h. inr h) (λ h. let r = out_is ls j l is ks own 0 d.stored h in inl (r.0, r.1, r.3))
-            (or_split d.stops (goes_out ks j 0 d.stored) b.1),
+            (or_cases d.stops (goes_out ks j 0 d.stored) b.1),
       )
 
   loud_from : (o : Option Deeds) → IsLoud l o → is_loud ks j l o ≡ true
   loud_from None h = absurd h
-  loud_from (Some d) (a, inr s) = and_true l.answer (d.stops
+  loud_from (Some d) (a, inr s) = and_from l.answer (d.stops
       || goes_out ks j 0 d.stored) a (or_left d.stops (goes_out ks j 0 d.stored) s)
   loud_from (Some d) (a, inl (x, i, m)) =
-      and_true l.answer (d.stops || goes_out ks j 0 d.stored) a
+      and_from l.answer (d.stops || goes_out ks j 0 d.stored) a
       (or_right d.stops (goes_out ks j 0 d.stored) (out_from ls j l is ks own 0 d.stored x i (omega arith) m))
 
   pub one_loud : (e : Effects) (b : Bool) (o : Option ℕ) → b ≡ is_loud ks j l (slice_get e.rows l.entry)

@@ -3,6 +3,7 @@ use Rattle.std.proofs.Common.{◌≡◌, inl, refl, ap, sym, ◌∙◌, subst, �
 use Rattle.std.proofs.Common.{Some, None, arith}
 use Rattle.std.specs.Prelude.{slice_get, MatchOption}
 use Rattle.std.proofs.lemmas.Option.{slice_get_within}
+use Rattle.sp_base.proofs.Facts.{item_is_not_none}
 use Rattle.sp_code.specs.declared.instr.Instr.{Instr}
 use Rattle.sp_code.specs.declared.code.Parts.{Parts}
 use Rattle.sp_rules.specs.Areas.{Area, Body, Child, instr_at, entry, entry_of_layout, entry_of_child}
@@ -36,9 +37,4 @@ module _ (c : Parts) where
   area_found p owner.Several r kept h e = absurd (kept p (InTwo (h.one, h.lies, inl (h.other, h.too, h.apart))))
 
   pub owner_there : (os : List Owner) (p : ℕ) → AreOwners c os → p < length c.instrs → slice_get os p ≡ None → ⊥
-  owner_there os p are l e = past os p (let m = are.0 in omega (arith, l, m)) e
-    where
-      past : (xs : List Owner) (i : ℕ) → i < length xs → slice_get xs i ≡ None → ⊥
-      past [] i l e = omega (arith, l)
-      past (y ∷ ys) zero l e = cc (e)
-      past (y ∷ ys) (suc i) l e = past ys i (omega (arith, l)) e
+  owner_there os p are l e = item_is_not_none os p (let m = are.0 in omega (arith, l, m)) e

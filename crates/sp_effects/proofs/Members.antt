@@ -9,6 +9,9 @@ use Rattle.std.specs.Ordering.{nat_cmp, is_eq, match_ordering}
 use Rattle.std.specs.BTreeMap.{is_at}
 use Rattle.std.specs.BTreeSet.{insert_key}
 use Rattle.std.proofs.lemmas.List.{at_drop_more}
+use Rattle.std.proofs.lemmas.Bool.{cases_Bool, false_from_ne_true, not-true, not_from_false, or_cases, or_left}
+use Rattle.std.proofs.lemmas.Bool.{or_right}
+use Rattle.sp_base.proofs.Facts.{not_true_and_false}
 use Rattle.sp_tree.specs.Interference.{IsMember, AllDifferent}
 use Rattle.sp_effects.specs.Sets.{has, with_one, with_all, with_index, all_new, meets, goes_beyond}
 
@@ -36,37 +39,6 @@ beyond_here ks xs i h f e = sym (at_drop_more (goes_beyond ks) xs i 0 h
 
 -- ---- tests
 
-pub or_split : (a b : Bool) → (a || b) ≡ true → (a ≡ true) ⊎ (b ≡ true)
-or_split true b e = inl refl
-or_split false b e = inr e
-
-pub or_left : (a b : Bool) → a ≡ true → (a || b) ≡ true
-or_left true b e = refl
-or_left false b e = absurd (cc e)
-
-pub or_right : (a b : Bool) → b ≡ true → (a || b) ≡ true
-or_right true b e = refl
-or_right false b e = e
-
-pub not_true : (a : Bool) → not a ≡ true → a ≡ false
-not_true true e = absurd (cc e)
-not_true false e = refl
-
-pub not_false : (a : Bool) → a ≡ false → not a ≡ true
-not_false a e = rw e refl
-
-pub either : (a : Bool) → (a ≡ true) ⊎ (a ≡ false)
-either true = inl refl
-either false = inr refl
-
-pub not_both : (a : Bool) → a ≡ true → a ≡ false → ⊥
-not_both a e f = cc
-
--- what cannot be true is false
-pub refuted : (a : Bool) → (a ≡ true → ⊥) → a ≡ false
-refuted true h = absurd (h refl)
-refuted false h = refl
-
 -- ---- one more key, in any order by which equal keys are one
 
 module _ {K : Type 0} (cmp : K → K → Ordering) (exact : (x y : K) → is_eq (cmp x y) ≡ true → x ≡ y) (same : (x : K)
@@ -75,18 +47,18 @@ module _ {K : Type 0} (cmp : K → K → Ordering) (exact : (x y : K) → is_eq 
   is_key ks q = list_any (is_at (cmp q)) ks
 
   pub key_in : (ks : List K) (k q : K) → is_key (insert_key cmp ks k) q ≡ true → (q ≡ k) ⊎ (is_key ks q ≡ true)
-  key_in [] k q e = ⊎_elim (λ h. inl (exact q k h)) (λ h. absurd (cc h)) (or_split (is_eq (cmp q k)) false e)
+  key_in [] k q e = ⊎_elim (λ h. inl (exact q k h)) (λ h. absurd (cc h)) (or_cases (is_eq (cmp q k)) false e)
   key_in (x ∷ xs) k q e = go (cmp k x) e (key_in xs k q)
     where
       go : (o : Ordering) → is_key (match_ordering o (k ∷ x ∷ xs) (x ∷ xs) (x ∷ insert_key cmp xs k)) q ≡ true
           → (is_key (insert_key cmp xs k) q ≡ true → (q ≡ k) ⊎ (is_key xs q ≡ true)) → (q ≡ k)
           ⊎ (is_key (x ∷ xs) q ≡ true)
-      go Less e on = ⊎_elim (λ h. inl (exact q k h)) (λ h. inr h) (or_split (is_eq (cmp q k)) (is_key (x ∷ xs) q) e)
+      go Less e on = ⊎_elim (λ h. inl (exact q k h)) (λ h. inr h) (or_cases (is_eq (cmp q k)) (is_key (x ∷ xs) q) e)
       go Equal e on = inr e
       go Greater e on =
           ⊎_elim (λ h. inr (or_left (is_eq (cmp q x)) (is_key xs q) h))
           (λ h. ⊎_elim (λ i. inl i) (λ i. inr (or_right (is_eq (cmp q x)) (is_key xs q) i)) (on h))
-          (or_split (is_eq (cmp q x)) (is_key (insert_key cmp xs k) q) e)
+          (or_cases (is_eq (cmp q x)) (is_key (insert_key cmp xs k) q) e)
 
   pub key_kept : (ks : List K) (k q : K) → is_key ks q ≡ true → is_key (insert_key cmp ks k) q ≡ true
   key_kept [] k q e = absurd (cc e)
@@ -99,7 +71,7 @@ module _ {K : Type 0} (cmp : K → K → Ordering) (exact : (x y : K) → is_eq 
       go Greater on =
           ⊎_elim (λ h. or_left (is_eq (cmp q x)) (is_key (insert_key cmp xs k) q) h)
           (λ h. or_right (is_eq (cmp q x)) (is_key (insert_key cmp xs k) q) (on h))
-          (or_split (is_eq (cmp q x)) (is_key xs q) e)
+          (or_cases (is_eq (cmp q x)) (is_key xs q) e)
 
   pub key_here : (ks : List K) (k : K) → is_key (insert_key cmp ks k) k ≡ true
   key_here [] k = or_left (is_eq (cmp k k)) false (same k)
@@ -129,7 +101,7 @@ pub one_here : (ks : List ℕ) (k : ℕ) → has (with_one ks k) k ≡ true
 one_here = key_here nat_cmp nat_exact nat_same
 
 pub one_other : (ks : List ℕ) (k q : ℕ) → has (with_one ks k) q ≡ false → has ks q ≡ false
-one_other ks k q e = refuted (has ks q) (λ h. not_both (has (with_one ks k) q) (one_kept ks k q h) e)
+one_other ks k q e = false_from_ne_true (has ks q) (λ h. not_true_and_false (has (with_one ks k) q) (one_kept ks k q h) e)
 
 -- ---- all of a list
 
@@ -161,7 +133,7 @@ index_kept ks (Some x) q e = one_kept ks x q e
 pub meets_is : (ks xs : List ℕ) → meets ks xs ≡ true → (x : ℕ) × IsMember x xs × (has ks x ≡ true)
 meets_is ks [] e = absurd (cc e)
 meets_is ks (x ∷ xs) e = ⊎_elim (λ h. (x, inl refl, h)) (λ h. let r = meets_is ks xs h in (r.0, inr r.1, r.2))
-    (or_split (has ks x) (meets ks xs) e)
+    (or_cases (has ks x) (meets ks xs) e)
 
 pub meets_from : (ks xs : List ℕ) (x : ℕ) → IsMember x xs → has ks x ≡ true → meets ks xs ≡ true
 meets_from ks [] x h e = absurd h
@@ -171,19 +143,19 @@ meets_from ks (y ∷ ys) x (inr h) e = or_right (has ks y) (meets ks ys) (meets_
 pub beyond_is : (ks xs : List ℕ) → goes_beyond ks xs ≡ true → (x : ℕ) × IsMember x xs × (has ks x ≡ false)
 beyond_is ks [] e = absurd (cc e)
 beyond_is ks (x ∷ xs) e =
-    ⊎_elim (λ h. (x, inl refl, not_true (has ks x) h)) (λ h. let r = beyond_is ks xs h in (r.0, inr r.1, r.2))
-    (or_split (not (has ks x)) (goes_beyond ks xs) e)
+    ⊎_elim (λ h. (x, inl refl, not-true (has ks x) h)) (λ h. let r = beyond_is ks xs h in (r.0, inr r.1, r.2))
+    (or_cases (not (has ks x)) (goes_beyond ks xs) e)
 
 pub beyond_from : (ks xs : List ℕ) (x : ℕ) → IsMember x xs → has ks x ≡ false → goes_beyond ks xs ≡ true
 beyond_from ks [] x h e = absurd h
 beyond_from ks (y ∷ ys) x (inl i) e = or_left (not (has ks y)) (goes_beyond ks ys)
-    (not_false (has ks y) (subst (λ z. has ks z ≡ false) i e))
+    (not_from_false (has ks y) (subst (λ z. has ks z ≡ false) i e))
 beyond_from ks (y ∷ ys) x (inr h) e = or_right (not (has ks y)) (goes_beyond ks ys) (beyond_from ks ys x h e)
 
 -- all are new: they differ, and none was there
 pub new_is : (ks xs : List ℕ) → all_new ks xs ≡ true → AllDifferent xs × ((x : ℕ) → IsMember x xs → has ks x ≡ false)
 new_is ks [] e = (tt, λ x h. absurd h)
-new_is ks (x ∷ xs) e = go (either (has ks x)) (new_is (with_one ks x) xs)
+new_is ks (x ∷ xs) e = go (cases_Bool (has ks x)) (new_is (with_one ks x) xs)
   where
     go : (has ks x ≡ true) ⊎ (has ks x ≡ false)
         → (all_new (with_one ks x) xs ≡ true → AllDifferent xs
@@ -192,7 +164,7 @@ new_is ks (x ∷ xs) e = go (either (has ks x)) (new_is (with_one ks x) xs)
     go (inl h) on = absurd (cc (sym (ap (λ b. not b && all_new (with_one ks x) xs) h) ∙ e))
     go (inr h) on =
         let r = on (sym (ap (λ b. not b && all_new (with_one ks x) xs) h) ∙ e) in (
-          (λ m. not_both (has (with_one ks x) x) (one_here ks x) (r.1 x m), r.0),
+          (λ m. not_true_and_false (has (with_one ks x) x) (one_here ks x) (r.1 x m), r.0),
           λ y m. ⊎_elim (λ i. subst (λ z. has ks z ≡ false) (sym i) h) (λ n. one_other ks x y (r.1 y n)) m,
         )
 
@@ -201,6 +173,6 @@ new_from ks [] d h = refl
 new_from ks (x ∷ xs) d h =
     ap (λ b. not b && all_new (with_one ks x) xs) (h x (inl refl))
     ∙ new_from (with_one ks x) xs d.1
-    (λ y m. refuted (has (with_one ks x) y)
-    (λ k. ⊎_elim (λ i. d.0 (subst (λ z. IsMember z xs) i m)) (λ i. not_both (has ks y) i (h y (inr m)))
+    (λ y m. false_from_ne_true (has (with_one ks x) y)
+    (λ k. ⊎_elim (λ i. d.0 (subst (λ z. IsMember z xs) i m)) (λ i. not_true_and_false (has ks y) i (h y (inr m)))
     (one_in ks x y k)))

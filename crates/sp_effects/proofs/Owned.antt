@@ -2,22 +2,23 @@
 use Rattle.std.proofs.Common.{◌≡◌, ◌⊎◌, inl, inr, ⊎_elim, refl, sym, ap, subst, ◌∙◌, ℕ, zero, suc, ◌+◌, ◌≤◌, ◌==◌, List}
 use Rattle.std.proofs.Common.{[], ◌∷◌, Option, Some, Bool, true, false, ◌&&◌, if◌then◌else◌, arith, eqb-true}
 use Rattle.std.specs.Prelude.{not, nat_le, slice_get}
-use Rattle.std.proofs.lemmas.Bool.{le-leb, eq-eqb}
+use Rattle.std.proofs.lemmas.Bool.{le-leb, eq-eqb, and_from, and_parts, false_from_ne_true, not-true, not_from_false}
+use Rattle.std.proofs.lemmas.Bool.{or_cases, or_left, or_right}
 use Rattle.std.specs.declared.cmp.Ordering.{Ordering}
 use Rattle.std.specs.declared.cmp.Ordering.TheVariants.{Less, Equal, Greater}
 use Rattle.std.specs.Ordering.{nat_cmp, is_eq, ordering_then}
 use Rattle.std.specs.BTreeSet.{insert_key}
+use Rattle.std.proofs.lemmas.Option.{none-some, same_Some}
+use Rattle.sp_base.proofs.Facts.{not_true_and_false}
 use Rattle.sp_tree.specs.Interference.{IsMember}
 use Rattle.sp_code.specs.declared.code.Layout.{Layout}
 use Rattle.sp_code.specs.declared.code.Parts.{Parts}
 use Rattle.sp_code.specs.Machine.{layout_of}
 use Rattle.sp_rules.specs.Named.{BreaksV1, BlocksApart}
-use Rattle.sp_rules.proofs.Facts.{same_some, none_some, both_true, and_true}
 use Rattle.sp_areas.specs.Least.{IsLeast}
 use Rattle.sp_areas.proofs.Leasts.{same}
 use Rattle.sp_effects.specs.Variables.{LayoutDoes, goes_out, owns, place_cmp, with_layouts, with_variables}
-use Rattle.sp_effects.proofs.Members.{key_here, key_in, key_kept, nat_exact, nat_same, not_both, not_false, not_true}
-use Rattle.sp_effects.proofs.Members.{or_left, or_right, or_split, refuted}
+use Rattle.sp_effects.proofs.Members.{key_here, key_in, key_kept, nat_exact, nat_same}
 
 -- ---- places and variables
 
@@ -106,12 +107,12 @@ layouts_kept ks n (l ∷ ls) i x e = layouts_kept (with_variables ks n l.variabl
 
 layouts_here : (ks : List (ℕ × ℕ)) (n : ℕ) (ls : List Layout) (k i x : ℕ) (l : Layout) → slice_get ls k ≡ Some l
     → i ≡ n + k → IsMember x l.variables → owns (with_layouts ks n ls) i x ≡ true
-layouts_here ks n [] k i x l e s m = absurd (none_some l e)
+layouts_here ks n [] k i x l e s m = absurd (none-some l e)
 layouts_here ks n (h ∷ ls) zero i x l e s m =
     let t : i ≡ n = omega (arith, s) in
     layouts_kept (with_variables ks n h.variables) (n + 1) ls i x
     (subst (λ z. owns (with_variables ks n h.variables) z x ≡ true) (sym t)
-    (variables_here ks n h.variables x (subst (λ (z : Layout). IsMember x z.variables) (sym (same_some h l e)) m)))
+    (variables_here ks n h.variables x (subst (λ (z : Layout). IsMember x z.variables) (sym (same_Some h l e)) m)))
 layouts_here ks n (h ∷ ls) (suc k) i x l e s m = layouts_here (with_variables ks n h.variables) (n + 1) ls k i x l e
     (omega (arith, s)) m
 
@@ -123,7 +124,7 @@ module _ (ls : List Layout) (j : ℕ) (l : Layout) (is : slice_get ls j ≡ Some
     where
       there : IsOwn ls 0 j x → IsMember x l.variables
       there o = let s = o.at in let t : o.place ≡ j = omega (arith, s) in subst (λ (z : Layout). IsMember x z.variables)
-          (same_some o.layout l (sym (ap (slice_get ls) (sym t) ∙ o.is) ∙ is)) o.member
+          (same_Some o.layout l (sym (ap (slice_get ls) (sym t) ∙ o.is) ∙ is)) o.member
 
   pub member_own : (x : ℕ) → IsMember x l.variables → owns (with_layouts [] 0 ls) j x ≡ true
   member_own x m = layouts_here [] 0 ls j j x l is (omega arith) m
@@ -134,15 +135,15 @@ module _ (ls : List Layout) (j : ℕ) (l : Layout) (is : slice_get ls j ≡ Some
   out_is ks k n [] e = absurd (cc e)
   out_is ks k n (x ∷ xs) e =
       ⊎_elim
-      (λ h. let b = both_true (nat_le n x) (not (owns ks j x)) h in (
+      (λ h. let b = and_parts (nat_le n x) (not (owns ks j x)) h in (
         x,
         inl refl,
         (let g = b.0 in Prim.grind (arith, g)),
-        λ m. not_both (owns ks j x) (ap (λ (z : List (ℕ
-            × ℕ)). owns z j x) k ∙ member_own x m) (not_true (owns ks j x) b.1),
+        λ m. not_true_and_false (owns ks j x) (ap (λ (z : List (ℕ
+            × ℕ)). owns z j x) k ∙ member_own x m) (not-true (owns ks j x) b.1),
       ))
       (λ h. let r = out_is ks k n xs h in (r.0, inr r.1, r.2, r.3))
-      (or_split (nat_le n x && not (owns ks j x)) (goes_out ks j n xs) e)
+      (or_cases (nat_le n x && not (owns ks j x)) (goes_out ks j n xs) e)
 
   pub out_from : (ks : List (ℕ × ℕ)) → ks ≡ with_layouts [] 0 ls → (n : ℕ) (xs : List ℕ) (x : ℕ) → IsMember x xs → n ≤ x
       → (IsMember x l.variables → ⊥) → goes_out ks j n xs ≡ true
@@ -150,8 +151,8 @@ module _ (ls : List Layout) (j : ℕ) (l : Layout) (is : slice_get ls j ≡ Some
   out_from ks k n (y ∷ ys) x (inl i) l f =
       or_left (nat_le n y && not (owns ks j y)) (goes_out ks j n ys)
       (subst (λ z. (nat_le n z && not (owns ks j z)) ≡ true) i
-      (and_true (nat_le n x) (not (owns ks j x)) (le-leb n x l)
-      (not_false (owns ks j x) (refuted (owns ks j x) (λ e. f (own_member x (sym (ap (λ (z : List (ℕ
+      (and_from (nat_le n x) (not (owns ks j x)) (le-leb n x l)
+      (not_from_false (owns ks j x) (false_from_ne_true (owns ks j x) (λ e. f (own_member x (sym (ap (λ (z : List (ℕ
       × ℕ)). owns z j x) k) ∙ e)))))))
   out_from ks k n (y ∷ ys) x (inr h) l f = or_right (nat_le n y
       && not (owns ks j y)) (goes_out ks j n ys) (out_from ks k n ys x h l f)
@@ -170,13 +171,13 @@ one_layout Does ls j l b o is f g = same (λ p. (l.entry ≡ p)
     at p m i h d = (sym (ap (λ (z : Layout). z.entry) i) ∙ h, g (subst (Does j) i d))
 
     back : (p : ℕ) → LayoutDoes Does ls j p → (l.entry ≡ p) × (b ≡ true)
-    back p (m, k, h, d) = at p m (same_some m l (sym k ∙ is)) h d
+    back p (m, k, h, d) = at p m (same_Some m l (sym k ∙ is)) h d
 
 -- the first layout of a block
 first_of : (ls : List Layout) (j : ℕ) (l : Layout) → slice_get ls j ≡ Some l → (k : ℕ) × (m : Layout)
     × (slice_get ls k ≡ Some m) × (m.block ≡ l.block) × (layout_of ls l.block ≡ Some m)
-first_of [] j l e = absurd (none_some l e)
-first_of (m ∷ ls) zero l e = go (same_some m l e)
+first_of [] j l e = absurd (none-some l e)
+first_of (m ∷ ls) zero l e = go (same_Some m l e)
   where
     go : m ≡ l → (k : ℕ) × (n : Layout) × (slice_get (m ∷ ls) k ≡ Some n) × (n.block ≡ l.block)
         × (layout_of (m ∷ ls) l.block ≡ Some n)
@@ -209,4 +210,4 @@ layout_here c kept j l e = go (first_of c.layouts j l e)
         at : (t : Bool) → k == j ≡ t → layout_of c.layouts l.block ≡ Some l
         at true t = f ∙ sym (sym e ∙ ap (slice_get c.layouts) (sym (eqb-true k j t)) ∙ is)
         at false t = absurd (kept l.entry
-            (BlocksApart (j, l, e, refl, inl (k, m, is, (λ s. not_both (k == j) (eq-eqb k j s) t), b))))
+            (BlocksApart (j, l, e, refl, inl (k, m, is, (λ s. not_true_and_false (k == j) (eq-eqb k j s) t), b))))

@@ -1,6 +1,6 @@
 -- What instructions do themselves is told as facts: what each adds to those before it.
 use Rattle.std.proofs.Common.{◌≡◌, ◌⊎◌, inl, inr, ⊎_elim, refl, ap, sym, ◌∙◌, subst, ℕ, zero, suc, ◌+◌, ◌<◌, List, []}
-use Rattle.std.proofs.Common.{◌∷◌, length, take, Option, Some, None, Bool, true, false, get_or, arith}
+use Rattle.std.proofs.Common.{◌∷◌, length, take, Option, Some, None, Bool, true, false, get_or, arith, add-one}
 use Rattle.std.specs.Prelude.{slice_get, Result, Ok, Err, OnOk}
 use Rattle.sp_code.specs.declared.instr.Instr.{Instr}
 use Rattle.sp_code.specs.declared.code.Parts.{Parts}
@@ -9,7 +9,6 @@ use Rattle.sp_rules.specs.Shapes.{Shape}
 use Rattle.sp_rules.specs.Reach.{IsIn}
 use Rattle.sp_rules.specs.Touched.{stored_by, loaded_by}
 use Rattle.sp_rules.specs.Verdict.{is_stop}
-use Rattle.sp_rules.proofs.Facts.{same_some, none_some, which}
 use Rattle.sp_rules.proofs.Walking.{passes}
 use Rattle.sp_rules.specs.Rules.{ComesTo}
 use Rattle.sp_rules.specs.Named.{LiesIn}
@@ -20,7 +19,8 @@ use Rattle.sp_code.specs.declared.code.ForkTable.{ForkTable}
 use Rattle.sp_shapes.specs.declared.shapes.Shapes.{Shapes}
 use Rattle.sp_shapes.specs.Shapes.{AreShapes}
 use Rattle.sp_shapes.specs.Stacks.{list_of}
-use Rattle.std.proofs.lemmas.Option.{slice_get_within}
+use Rattle.std.proofs.lemmas.Option.{slice_get_within, none-some, same_Some}
+use Rattle.sp_base.proofs.Facts.{below_or_last}
 use Rattle.sp_effects.specs.declared.facts.Fact.{Fact}
 use Rattle.sp_effects.specs.declared.facts.Deed.{Deed}
 use Rattle.sp_effects.specs.declared.facts.Deed.TheVariants as deed
@@ -37,8 +37,8 @@ ok_on (Err e) P Q f h = tt
 -- ---- lists
 
 in_first : (xs : List ℕ) (i x y : ℕ) → slice_get xs i ≡ Some y → IsIn x (take (suc i) xs) → IsIn x (take i xs) ⊎ (x ≡ y)
-in_first [] i x y e h = absurd (none_some y e)
-in_first (z ∷ xs) zero x y e h = inr (⊎_elim (λ s. s ∙ same_some z y e) (λ n. absurd (none xs n)) h)
+in_first [] i x y e h = absurd (none-some y e)
+in_first (z ∷ xs) zero x y e h = inr (⊎_elim (λ s. s ∙ same_Some z y e) (λ n. absurd (none xs n)) h)
   where
     none : (ys : List ℕ) → IsIn x (take 0 ys) → ⊥
     none [] n = n
@@ -47,8 +47,8 @@ in_first (z ∷ xs) (suc i) x y e h = ⊎_elim (λ s. inl (inl s))
     (λ n. ⊎_elim (λ m. inl (inr m)) (λ s. inr s) (in_first xs i x y e n)) h
 
 first_in : (xs : List ℕ) (i x y : ℕ) → slice_get xs i ≡ Some y → IsIn x (take i xs) ⊎ (x ≡ y) → IsIn x (take (suc i) xs)
-first_in [] i x y e h = absurd (none_some y e)
-first_in (z ∷ xs) zero x y e h = ⊎_elim (λ n. absurd n) (λ s. inl (s ∙ sym (same_some z y e))) h
+first_in [] i x y e h = absurd (none-some y e)
+first_in (z ∷ xs) zero x y e h = ⊎_elim (λ n. absurd n) (λ s. inl (s ∙ sym (same_Some z y e))) h
 first_in (z ∷ xs) (suc i) x y e (inl (inl s)) = inl s
 first_in (z ∷ xs) (suc i) x y e (inl (inr n)) = inr (first_in xs i x y e (inl n))
 first_in (z ∷ xs) (suc i) x y e (inr s) = inr (first_in xs i x y e (inr s))
@@ -58,16 +58,13 @@ read [] i l = absurd (omega (arith, l))
 read (x ∷ xs) zero l = refl
 read (x ∷ xs) (suc i) l = read xs i (omega (arith, l))
 
-next : (i : ℕ) → i + 1 ≡ suc i
-next i = omega arith
-
 pub in_taken : (xs : List ℕ) (i x y : ℕ) → slice_get xs i ≡ Some y → IsIn x (take (i + 1) xs) → IsIn x (take i xs)
     ⊎ (x ≡ y)
-in_taken xs i x y e h = in_first xs i x y e (subst (λ n. IsIn x (take n xs)) (next i) h)
+in_taken xs i x y e h = in_first xs i x y e (subst (λ n. IsIn x (take n xs)) (add-one i) h)
 
 pub taken_in : (xs : List ℕ) (i x y : ℕ) → slice_get xs i ≡ Some y → IsIn x (take i xs) ⊎ (x ≡ y)
     → IsIn x (take (i + 1) xs)
-taken_in xs i x y e h = subst (λ n. IsIn x (take n xs)) (sym (next i)) (first_in xs i x y e h)
+taken_in xs i x y e h = subst (λ n. IsIn x (take n xs)) (sym (add-one i)) (first_in xs i x y e h)
 
 -- ---- one fact
 
@@ -193,9 +190,6 @@ child_told f g h n t ms ss em es u v = tells_as f h (λ z. IsOf n (IsAmong true 
     from z w = ⊎_elim (λ q. inl (record { area = w.area; does = q })) (λ q. inr (record { area = w.area; does = q }))
         (split z.deed w.does)
 
-pub before_or : (k n : ℕ) → k < n + 1 → (k < n) ⊎ (k ≡ n)
-before_or k n l = ⊎_elim (λ h. inl h) (λ z. ⊎_elim (λ e. inr e) (λ h. absurd (omega (arith, h, l))) z) (which k n)
-
 pub children_more : (f g h : List Fact) (n k : ℕ) (t : ChildTable) (ts : List ChildTable) → slice_get ts k ≡ Some t
     → Tells f g (IsOf n (OneIsHanded ts k)) → Tells g h (IsOf n (IsHanded t))
     → Tells f h (IsOf n (OneIsHanded ts (k + 1)))
@@ -217,8 +211,8 @@ children_more f g h n k t ts e u v = tells_as f h (λ z. IsOf n (OneIsHanded ts 
         (λ s. inr (record {
           area = w.area;
           does = subst (λ (y : ChildTable). IsHanded y z.deed)
-              (same_some w.does.1 t (sym w.does.3 ∙ ap (slice_get ts) s ∙ e)) w.does.4;
-        })) (before_or w.does.0 k w.does.2)
+              (same_Some w.does.1 t (sym w.does.3 ∙ ap (slice_get ts) s ∙ e)) w.does.4;
+        })) (below_or_last w.does.0 k w.does.2)
 
 -- ---- at an instruction
 
@@ -228,11 +222,11 @@ module _ (c : Parts) (p : ℕ) where
 
   module _ (shapes : Shapes) (are : AreShapes c shapes) where
     pub not_reached : (f : List Fact) → flat (slice_get shapes.at p) ≡ None → Tells f f (ReachedAt c p)
-    not_reached f e = tells_none f (ReachedAt c p) (λ z w. absurd (let k = are.all w.0 p w.1 w.2 in none_some k.0 (sym e
+    not_reached f e = tells_none f (ReachedAt c p) (λ z w. absurd (let k = are.all w.0 p w.1 w.2 in none-some k.0 (sym e
         ∙ ap flat k.1)))
 
     flat_is : (o : Option (Option ℕ)) (s : ℕ) → flat o ≡ Some s → o ≡ Some (Some s)
-    flat_is None s e = absurd (none_some s e)
+    flat_is None s e = absurd (none-some s e)
     flat_is (Some o) s e = ap Some e
 
     pub reached_told : (f g : List Fact) (n s : ℕ) (a : Area) → flat (slice_get shapes.at p) ≡ Some s → LiesOnlyIn c p a
@@ -263,7 +257,7 @@ module _ (c : Parts) (p : ℕ) where
         from z (b, ss, w, h, d) =
             let q : b ≡ a = same_area b ss w in
             let k = are.all b p ss w in
-            let i : s ≡ k.0 = same_some s k.0 (same_some (Some s) (Some k.0) (sym here ∙ k.1)) in
+            let i : s ≡ k.0 = same_Some s k.0 (same_Some (Some s) (Some k.0) (sym here ∙ k.1)) in
             let l : ss ≡ list_of shapes.stacks s = sym k.2 ∙ ap (list_of shapes.stacks) (sym i) in
             record {
               area = h ∙ ap (entry c) q
@@ -307,4 +301,4 @@ module _ (c : Parts) where
       to z (inr w) = (p, omega arith, w)
 
       from : (z : Fact) → OwnBefore c (p + 1) z → OwnBefore c p z ⊎ OwnAt c p z
-      from z w = ⊎_elim (λ l. inl (w.0, l, w.2)) (λ s. inr (subst (λ q. OwnAt c q z) s w.2)) (before_or w.0 p w.1)
+      from z w = ⊎_elim (λ l. inl (w.0, l, w.2)) (λ s. inr (subst (λ q. OwnAt c q z) s w.2)) (below_or_last w.0 p w.1)

@@ -3,7 +3,10 @@ use Rattle.std.proofs.Common.{◌≡◌, ◌⊎◌, ◌≢◌, inl, inr, ⊎_eli
 use Rattle.std.proofs.Common.{[], ◌∷◌, ◌++◌, Option, Some, None, Bool, true, false, length, arith}
 use Rattle.std.specs.Prelude.{not, slice_get, ◌↔◌}
 use Rattle.std.specs.BTreeMap.{BTreeMap}
-use Rattle.std.proofs.lemmas.Option.{slice_get_within}
+use Rattle.std.proofs.lemmas.Option.{slice_get_within, none-some, same_Some}
+use Rattle.std.proofs.lemmas.Bool.{and_from, and_parts, false_from_ne_true, not-true, not_from_false, or_cases, or_left}
+use Rattle.std.proofs.lemmas.Bool.{or_right}
+use Rattle.sp_base.proofs.Facts.{less_same_or_more, not_true_and_false}
 use Rattle.sp_tree.specs.Interference.{IsMember, AllDifferent}
 use Rattle.sp_code.specs.declared.instr.Instr.{Instr}
 use Rattle.sp_code.specs.declared.instr.Instr.TheVariants as i
@@ -18,7 +21,6 @@ use Rattle.sp_rules.specs.Forks as fork
 use Rattle.sp_rules.specs.Reach.{IsArea}
 use Rattle.sp_rules.specs.Shapes.{Shape, O, C, L, A}
 use Rattle.sp_rules.specs.Verdict.{HasStop}
-use Rattle.sp_rules.proofs.Facts.{both_true, and_true, same_some, none_some, which}
 use Rattle.sp_rules.proofs.Lists.{member_or, member_front, member_back, member_either, different_front, different_apart}
 use Rattle.sp_areas.specs.Blocks.{IsNumbered, number_from, number_of}
 use Rattle.sp_areas.proofs.BlockLaws.{place_none, place_some}
@@ -31,8 +33,7 @@ use Rattle.sp_effects.specs.Calls.{CallFails, actual_at, actual_of, actuals, cal
 use Rattle.sp_effects.specs.Calls.{meets_outer, reached, variable_of}
 use Rattle.sp_effects.specs.Variables.{owns, with_layouts}
 use Rattle.sp_effects.specs.Sets.{all_new}
-use Rattle.sp_effects.proofs.Members.{new_from, new_is, not_both, not_false, not_true, or_left, or_right, or_split}
-use Rattle.sp_effects.proofs.Members.{refuted}
+use Rattle.sp_effects.proofs.Members.{new_from, new_is}
 use Rattle.sp_effects.proofs.Owned.{member_own, own_member}
 use Rattle.sp_effects.proofs.Alone.{different_join}
 
@@ -45,7 +46,7 @@ given_true (Some x) f e = (x, refl, e)
 
 pub given_some : {A B : Type 0} (o : Option A) (f : A → Option B) (y : B) → given None o f ≡ Some y → (x : A)
     × (o ≡ Some x) × (f x ≡ Some y)
-given_some None f y e = absurd (none_some y e)
+given_some None f y e = absurd (none-some y e)
 given_some (Some x) f y e = (x, refl, e)
 
 pub given_at : {A B : Type 0} (other : B) (o : Option A) (f : A → B) (x : A) → o ≡ Some x → given other o f ≡ f x
@@ -54,14 +55,14 @@ given_at other o f x e = ap (λ z. given other z f) e
 -- ---- operands, by their places
 
 variable_is : (s : Shape) (x : ℕ) → variable_of s ≡ Some x → (left : ℕ) × (s ≡ A x left)
-variable_is O x e = absurd (none_some x e)
-variable_is C x e = absurd (none_some x e)
-variable_is (L n) x e = absurd (none_some x e)
-variable_is (A y n) x e = (n, ap (λ z. A z n) (same_some y x e))
+variable_is O x e = absurd (none-some x e)
+variable_is C x e = absurd (none-some x e)
+variable_is (L n) x e = absurd (none-some x e)
+variable_is (A y n) x e = (n, ap (λ z. A z n) (same_Some y x e))
 
 actual_is : (f : Formal) (s : Shape) (x : ℕ) → actual_of f s ≡ Some x → (cells left : ℕ) × (f ≡ formal.Reference cells)
     × (s ≡ A x left)
-actual_is (formal.Value n) s x e = absurd (none_some x e)
+actual_is (formal.Value n) s x e = absurd (none-some x e)
 actual_is (formal.Reference n) s x e = let r = variable_is s x e in (n, r.0, refl, r.1)
 
 module _ (l : Layout) (ss : List Shape) where
@@ -94,8 +95,8 @@ module _ (l : Layout) (ss : List Shape) where
   listed_is (Some y) x (inr h) = absurd h
 
   is_listed : (o : Option ℕ) (x : ℕ) → o ≡ Some x → IsMember x (listed o)
-  is_listed None x e = absurd (none_some x e)
-  is_listed (Some y) x e = inl (sym (same_some y x e))
+  is_listed None x e = absurd (none-some x e)
+  is_listed (Some y) x e = inl (sym (same_Some y x e))
 
   listed_different : (o : Option ℕ) → AllDifferent (listed o)
   listed_different None = tt
@@ -110,7 +111,7 @@ module _ (l : Layout) (ss : List Shape) where
 
   at_member : (n i x : ℕ) → i < n → At i x → IsMember x (actuals l.formals ss n)
   at_member zero i x h e = absurd (omega (arith, h))
-  at_member (suc n) i x h e = go (which i n) (λ m. at_member n i x m e)
+  at_member (suc n) i x h e = go (less_same_or_more i n) (λ m. at_member n i x m e)
     where
       go : (i < n) ⊎ ((i ≡ n) ⊎ (n < i)) → (i < n → IsMember x (actuals l.formals ss n))
           → IsMember x (actuals l.formals ss (suc n))
@@ -157,17 +158,17 @@ module _ (l : Layout) (ss : List Shape) where
       at x e d (inl m) = let r = member_at n x m in inl
           (record { one = r.0; other = n; variable = x; apart = r.1; within = omega arith; has = r.2; too = e })
       at x e d (inr f) = inr (joined d (actual_at l.formals ss n)
-          (λ y s m. f (subst (λ z. IsMember z (actuals l.formals ss n)) (same_some y x (sym s ∙ e)) m)))
+          (λ y s m. f (subst (λ z. IsMember z (actuals l.formals ss n)) (same_Some y x (sym s ∙ e)) m)))
 
       go : (o : Option ℕ) → actual_at l.formals ss n ≡ o → Twice n ⊎ AllDifferent (actuals l.formals ss n)
           → Twice (suc n) ⊎ AllDifferent (actuals l.formals ss (suc n))
       go o e (inl t) = inl (further t)
-      go None e (inr d) = inr (joined d (actual_at l.formals ss n) (λ x s m. none_some x (sym e ∙ s)))
+      go None e (inr d) = inr (joined d (actual_at l.formals ss n) (λ x s m. none-some x (sym e ∙ s)))
       go (Some x) e (inr d) = at x e d (member_or x (actuals l.formals ss n))
 
   not_twice : (n i k x : ℕ) → AllDifferent (actuals l.formals ss n) → i < k → k < n → At i x → At k x → ⊥
   not_twice zero i k x d h w e f = absurd (omega (arith, w))
-  not_twice (suc n) i k x d h w e f = go (which k n)
+  not_twice (suc n) i k x d h w e f = go (less_same_or_more k n)
       (λ m. not_twice n i k x (different_front (actuals l.formals ss n) (listed (actual_at l.formals ss n)) d) h m e f)
     where
       go : (k < n) ⊎ ((k ≡ n) ⊎ (n < k)) → (k < n → ⊥) → ⊥
@@ -202,7 +203,7 @@ module _ (l : Layout) (ss : List Shape) where
       let n = length l.formals in
       let y = a.0 in
       let z = b.0 in
-      go (which (n - 1 - j) (n - 1 - k)) a b
+      go (less_same_or_more (n - 1 - j) (n - 1 - k)) a b
     where
       go : (length l.formals - 1 - j < length l.formals - 1 - k)
           ⊎ ((length l.formals - 1 - j ≡ length l.formals - 1 - k)
@@ -222,13 +223,13 @@ module _ (e : Effects) (ks : List (ℕ × ℕ)) (j entry : ℕ) where
       × (owns ks j x ≡ false)
   outer_is [] h = absurd (cc h)
   outer_is (x ∷ xs) h =
-      ⊎_elim (λ k. let b = both_true (touches e entry x) (not (owns ks j x)) k in
-      (x, inl refl, b.0, not_true (owns ks j x) b.1))
+      ⊎_elim (λ k. let b = and_parts (touches e entry x) (not (owns ks j x)) k in
+      (x, inl refl, b.0, not-true (owns ks j x) b.1))
       (λ k. let r = outer_is xs k in (r.0, inr r.1, r.2, r.3))
-      (or_split (is_outer e ks j entry x) (meets_outer e ks j entry xs) h)
+      (or_cases (is_outer e ks j entry x) (meets_outer e ks j entry xs) h)
 
   is_outer_from : (x : ℕ) → touches e entry x ≡ true → owns ks j x ≡ false → is_outer e ks j entry x ≡ true
-  is_outer_from x h f = and_true (touches e entry x) (not (owns ks j x)) h (not_false (owns ks j x) f)
+  is_outer_from x h f = and_from (touches e entry x) (not (owns ks j x)) h (not_from_false (owns ks j x) f)
 
   outer_from : (xs : List ℕ) (x : ℕ) → IsMember x xs → touches e entry x ≡ true → owns ks j x ≡ false
       → meets_outer e ks j entry xs ≡ true
@@ -261,7 +262,7 @@ module _ (c : Parts) (e : Effects) (are : AreEffects c e) (ks : List (ℕ × ℕ
         at_is l ss i.0 r.0 i.1 i.2,
         (
           (touched r.0).0 r.2,
-          λ m. not_both (owns ks j r.0) (ap (λ (z : List (ℕ × ℕ)). owns z j r.0) own
+          λ m. not_true_and_false (owns ks j r.0) (ap (λ (z : List (ℕ × ℕ)). owns z j r.0) own
               ∙ member_own c.layouts j l is r.0 m) r.3,
         ),
       )
@@ -273,20 +274,20 @@ module _ (c : Parts) (e : Effects) (are : AreEffects c e) (ks : List (ℕ × ℕ
       let y = a.0 in
       outer_from e ks j l.entry Xs x (at_member l ss (length l.formals) (length l.formals - 1 - k) x
       (omega (arith, y)) a.1) ((touched x).1 h)
-      (refuted (owns ks j x) (λ g. m (own_member c.layouts j l is x (sym (ap (λ (z : List (ℕ × ℕ)). owns z j x) own)
+      (false_from_ne_true (owns ks j x) (λ g. m (own_member c.layouts j l is x (sym (ap (λ (z : List (ℕ × ℕ)). owns z j x) own)
       ∙ g))))
 
   pub clash_rule : call_clashes e ks j l ss ≡ true → fork.BreaksV7 c (Does c) (HasStop c) l b ss
   clash_rule h = ⊎_elim (λ k. inl (go (twice_or l ss (length l.formals)) k)) (λ k. inr (outer_rule k))
-      (or_split (not (all_new [] Xs)) (meets_outer e ks j l.entry Xs) h)
+      (or_cases (not (all_new [] Xs)) (meets_outer e ks j l.entry Xs) h)
     where
       go : Twice l ss (length l.formals) ⊎ AllDifferent Xs → not (all_new [] Xs) ≡ true → IsTwice l ss
       go (inl t) k = twice_is l ss t
-      go (inr d) k = absurd (not_both (all_new [] Xs) (new_from [] Xs d (λ x m. refl)) (not_true (all_new [] Xs) k))
+      go (inr d) k = absurd (not_true_and_false (all_new [] Xs) (new_from [] Xs d (λ x m. refl)) (not-true (all_new [] Xs) k))
 
   pub rule_clash : fork.BreaksV7 c (Does c) (HasStop c) l b ss → call_clashes e ks j l ss ≡ true
   rule_clash (inl t) = or_left (not (all_new [] Xs)) (meets_outer e ks j l.entry Xs)
-      (not_false (all_new [] Xs) (refuted (all_new [] Xs) (λ h. is_twice l ss (new_is [] Xs h).0 t)))
+      (not_from_false (all_new [] Xs) (false_from_ne_true (all_new [] Xs) (λ h. is_twice l ss (new_is [] Xs h).0 t)))
   rule_clash (inr t) = or_right (not (all_new [] Xs)) (meets_outer e ks j l.entry Xs) (rule_outer t)
 
 -- ---- at an instruction
@@ -297,11 +298,11 @@ CallBreaks c p = (a : Area) × (b up : ℕ) × (ss : List Shape) × (l : Layout)
     × fork.BreaksV7 c (Does c) (HasStop c) l b ss
 
 called_is : (o : Option Instr) (b : ℕ) → called o ≡ Some b → (up : ℕ) × (o ≡ Some (i.Call b up))
-called_is (Some (i.Call d up)) b e = (up, ap (λ z. Some (i.Call z up)) (same_some d b e))
-called_is o b e = absurd (none_some b e)
+called_is (Some (i.Call d up)) b e = (up, ap (λ z. Some (i.Call z up)) (same_Some d b e))
+called_is o b e = absurd (none-some b e)
 
 reached_is : (o : Option (Option ℕ)) (n : ℕ) → reached o ≡ Some n → o ≡ Some (Some n)
-reached_is None n e = absurd (none_some n e)
+reached_is None n e = absurd (none-some n e)
 reached_is (Some o) n e = ap Some e
 
 -- the place of a layout that is there
@@ -310,7 +311,7 @@ pub place_there : (ls : List Layout) (b : ℕ) (l : Layout) → layout_of ls b �
 place_there ls b l e = go (number_from 0 ls b) refl
   where
     go : (o : Option ℕ) → number_from 0 ls b ≡ o → (j : ℕ) × (number_from 0 ls b ≡ Some j) × (slice_get ls j ≡ Some l)
-    go None f = absurd (none_some l (sym (place_none 0 ls b f) ∙ e))
+    go None f = absurd (none-some l (sym (place_none 0 ls b f) ∙ e))
     go (Some j) f = (j, f, place_some ls b j f ∙ e)
 
 module _ (c : Parts) (e : Effects) (are : AreEffects c e) (ks : List (ℕ × ℕ)) (own : ks ≡ with_layouts [] 0 c.layouts)

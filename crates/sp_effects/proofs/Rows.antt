@@ -3,13 +3,14 @@ use Rattle.std.proofs.Common.{◌≡◌, ◌≢◌, ◌⊎◌, inl, inr, ⊎_eli
 use Rattle.std.proofs.Common.{[], ◌∷◌, ◌++◌, length, Some, None, Bool, true, false, arith}
 use Rattle.std.specs.Prelude.{slice_get, slice_set, ◌↔◌, IsTrue}
 use Rattle.std.proofs.lemmas.List.{length-set}
-use Rattle.std.proofs.lemmas.Option.{slice_get_within}
+use Rattle.std.proofs.lemmas.Option.{slice_get_within, none-some, same_Some}
+use Rattle.std.proofs.lemmas.Bool.{cases_eq, or_cases, or_left, or_right}
+use Rattle.sp_base.proofs.Facts.{below_or_last, get_beside_set, get_where_set}
 use Rattle.sp_code.specs.declared.code.Parts.{Parts}
 use Rattle.sp_rules.specs.Areas.{Area, entry}
 use Rattle.sp_rules.specs.Reach.{IsIn, IsArea}
 use Rattle.sp_rules.specs.Effects.{Does, HasEffect}
 use Rattle.sp_rules.specs.Named.{BreaksV1}
-use Rattle.sp_rules.proofs.Facts.{same_some, none_some}
 use Rattle.sp_effects.specs.declared.effects.Deeds.{Deeds}
 use Rattle.sp_effects.specs.declared.facts.Fact.{Fact}
 use Rattle.sp_effects.specs.declared.facts.Deed.{Deed}
@@ -17,9 +18,7 @@ use Rattle.sp_effects.specs.declared.facts.Deed.TheVariants as deed
 use Rattle.sp_effects.specs.Facts.{has_fact, fact}
 use Rattle.sp_effects.specs.Effects.{InRow, HasDeed, Puts, Writes, AreRows, AreDeeds, AreEffects, touches}
 use Rattle.sp_effects.specs.Closing.{IsDeed, AreFacts}
-use Rattle.sp_effects.proofs.Telling.{get_set_same, get_set_other, equal_or, told_place, place_told, or_split, or_left}
-use Rattle.sp_effects.proofs.Telling.{or_right}
-use Rattle.sp_effects.proofs.Owns.{before_or}
+use Rattle.sp_effects.proofs.Telling.{told_place, place_told}
 use Rattle.sp_effects.proofs.Linking.{entry_within}
 
 -- ---- one row
@@ -90,10 +89,10 @@ writes_one rows f r new none at p = record { size = size; kept = kept; has = has
     size = length-set middle m new ∙ length-set rows m none
 
     here : slice_get last m ≡ Some new
-    here = get_set_same middle m new (subst (λ n. m < n) (sym (length-set rows m none)) (slice_get_within rows m r at))
+    here = get_where_set middle m new (subst (λ n. m < n) (sym (length-set rows m none)) (slice_get_within rows m r at))
 
     there : (n : ℕ) → n ≢ m → slice_get last n ≡ slice_get rows n
-    there n d = get_set_other middle m n new (λ s. d (sym s)) ∙ get_set_other rows m n none (λ s. d (sym s))
+    there n d = get_beside_set middle m n new (λ s. d (sym s)) ∙ get_beside_set rows m n none (λ s. d (sym s))
 
     kept : (n : ℕ) (d : Deed) → HasDeed rows n d → HasDeed last n d
     kept n d (s, g, i) =
@@ -101,36 +100,36 @@ writes_one rows f r new none at p = record { size = size; kept = kept; has = has
           new,
           ap (slice_get last) q
               ∙ here,
-          (p d).1 (inl (subst (λ x. InRow x d) (same_some s r (sym g ∙ ap (slice_get rows) q
+          (p d).1 (inl (subst (λ x. InRow x d) (same_Some s r (sym g ∙ ap (slice_get rows) q
               ∙ at)) i)),
-        )) (λ o. (s, there n o ∙ g, i)) (equal_or n m)
+        )) (λ o. (s, there n o ∙ g, i)) (cases_eq n m)
 
     has : f.area < length rows → HasDeed last m f.deed
     has l = (new, here, (p f.deed).1 (inr refl))
 
     only : (n : ℕ) (d : Deed) → HasDeed last n d → HasDeed rows n d ⊎ ((n ≡ f.area) × (d ≡ f.deed))
     only n d (s, g, i) =
-        ⊎_elim (λ q. let z = same_some s new (sym g ∙ ap (slice_get last) q
+        ⊎_elim (λ q. let z = same_Some s new (sym g ∙ ap (slice_get last) q
         ∙ here) in ⊎_elim (λ j. inl (
           r,
           ap (slice_get rows) q
               ∙ at,
           j,
         )) (λ e. inr (q, e)) ((p d).0 (subst (λ x. InRow x d) z i)))
-        (λ o. inl (s, sym (there n o) ∙ g, i)) (equal_or n m)
+        (λ o. inl (s, sym (there n o) ∙ g, i)) (cases_eq n m)
 
 pub writes_none : (rows : List Deeds) (f : Fact) → (f.area < length rows → ⊥) → Writes rows rows f
 writes_none rows f h = record { size = refl; kept = λ m d i. i; has = λ l. absurd (h l); only = λ m d i. inl i }
 
 pub deeds_more : (rows : List Deeds) (none : Deeds) → none.stored ≡ [] → none.loaded ≡ [] → none.stops ≡ false
     → ((m : ℕ) (d : Deed) → HasDeed rows m d → ⊥) → (m : ℕ) (d : Deed) → HasDeed (rows ++ none ∷ []) m d → ⊥
-deeds_more [] none es el et h zero d (r, g, i) = empty d (subst (λ (x : Deeds). InRow x d) (sym (same_some none r g)) i)
+deeds_more [] none es el et h zero d (r, g, i) = empty d (subst (λ (x : Deeds). InRow x d) (sym (same_Some none r g)) i)
   where
     empty : (d : Deed) → InRow none d → ⊥
     empty (deed.Stores x) i = absurd (subst (IsIn x) es i)
     empty (deed.Loads x) i = absurd (subst (IsIn x) el i)
     empty deed.Stops i = let z = sym et ∙ i in cc (z)
-deeds_more [] none es el et h (suc m) d (r, g, i) = none_some r g
+deeds_more [] none es el et h (suc m) d (r, g, i) = none-some r g
 deeds_more (x ∷ rows) none es el et h zero d w = h 0 d w
 deeds_more (x ∷ rows) none es el et h (suc m) d w = deeds_more rows none es el et (λ n e v. h (suc n) e v) m d w
 
@@ -152,10 +151,10 @@ rows_more fs i n f a b e h w = record { size = w.size ∙ h.size; has = has; onl
     has : (j : ℕ) (g : Fact) → j < i + 1 → slice_get fs j ≡ Some g → g.area < n → HasDeed b g.area g.deed
     has j g l s z =
         ⊎_elim (λ q. w.kept g.area g.deed (h.has j g q s z))
-        (λ q. let t : f ≡ g = same_some f g (sym e ∙ ap (slice_get fs) (sym q)
+        (λ q. let t : f ≡ g = same_Some f g (sym e ∙ ap (slice_get fs) (sym q)
         ∙ s) in subst (λ (x : Fact). HasDeed b x.area x.deed) t
         (w.has (subst (λ k. f.area < k) (sym h.size) (subst (λ (x : Fact). x.area < n) (sym t) z))))
-        (before_or j i l)
+        (below_or_last j i l)
 
     only : (m : ℕ) (d : Deed) → HasDeed b m d → has_fact fs (fact m d) ≡ true
     only m d v = ⊎_elim (λ o. h.only m d o) (λ o. place_told fs i (fact m d) (e
@@ -163,7 +162,7 @@ rows_more fs i n f a b e h w = record { size = w.size ∙ h.size; has = has; onl
 
 none_past : (fs : List Fact) (i : ℕ) → slice_get fs i ≡ None → (j : ℕ) → j < length fs → j < i
 none_past [] i e j l = absurd (omega (arith, l))
-none_past (f ∷ fs) zero e j l = absurd (none_some f (sym e))
+none_past (f ∷ fs) zero e j l = absurd (none-some f (sym e))
 none_past (f ∷ fs) (suc i) e zero l = omega arith
 none_past (f ∷ fs) (suc i) e (suc j) l = let m = none_past fs i e j (omega (arith, l)) in omega (arith, m)
 
@@ -198,7 +197,7 @@ module _ (c : Parts) (kept : (p : ℕ) → BreaksV1 c p
           let t = told_place fs (fact (entry c a) d) ((facts a d ia).1 h) in
           let w = are.has t.0 (fact (entry c a) d) (slice_get_within fs t.0 (fact (entry c a) d) t.1) t.1
           (entry_within c kept a ia) in
-          subst (λ (x : Deeds). InRow x d) (same_some w.0 r (sym w.1 ∙ e)) w.2
+          subst (λ (x : Deeds). InRow x d) (same_Some w.0 r (sym w.1 ∙ e)) w.2
 
   pub are_effects : AreEffects c (record { rows = rows; facts = fs })
   are_effects = record { rows = there; touched = touched }
@@ -220,7 +219,7 @@ module _ (c : Parts) (kept : (p : ℕ) → BreaksV1 c p
           → IsTrue (touches (record { rows = rows; facts = fs }) (entry c a) x) ↔ HasEffect c (Does c) a x
       touched a x ia = (
         λ i. ⊎_elim (λ h. inl ((facts a (deed.Stores x) ia).0 h)) (λ h. inr ((facts a (deed.Loads x) ia).0 h))
-            (or_split s l i),
+            (or_cases s l i),
         λ w. ⊎_elim (λ h. or_left s l ((facts a (deed.Stores x) ia).1 h))
             (λ h. or_right s l ((facts a (deed.Loads x) ia).1 h)) w,
       )

@@ -3,11 +3,11 @@ use Rattle.std.proofs.Common.{◌≡◌, ◌⊎◌, inl, inr, ⊎_elim, refl, ap
 use Rattle.std.proofs.Common.{[], ◌∷◌, length, take, Option, Some, None, Bool, true, ◌||◌, ◌&&◌, cond, arith, eqb-true}
 use Rattle.std.specs.Prelude.{slice_get, ◌↔◌}
 use Rattle.std.specs.Ordering.{is_eq}
-use Rattle.std.proofs.lemmas.Bool.{eq-eqb}
-use Rattle.std.proofs.lemmas.Option.{slice_get_within}
+use Rattle.std.proofs.lemmas.Bool.{eq-eqb, and_from, and_parts, or_cases, or_left, or_right}
+use Rattle.std.proofs.lemmas.Option.{slice_get_within, none-some, same_Some}
+use Rattle.sp_base.proofs.Facts.{below_or_last}
 use Rattle.sp_code.specs.declared.code.Layout.{Layout}
 use Rattle.sp_rules.specs.Reach.{IsIn}
-use Rattle.sp_rules.proofs.Facts.{same_some, none_some, both_true, and_true}
 use Rattle.sp_effects.specs.declared.edges.Edge.{Edge}
 use Rattle.sp_effects.specs.declared.facts.Fact.{Fact}
 use Rattle.sp_effects.specs.declared.facts.Deed.{Deed}
@@ -16,13 +16,13 @@ use Rattle.sp_effects.specs.Closing.{AddsPairs, IsOwnOf, IsOwnIn, fact_along, Al
 use Rattle.sp_effects.specs.Closing.{Closes}
 use Rattle.sp_effects.specs.Closing.{is_own}
 use Rattle.sp_effects.proofs.Telling.{told_place, place_told, told_on, tells_none, tells_as, tells_then, tells_one}
-use Rattle.sp_effects.proofs.Telling.{pair_put, or_split, or_left, or_right}
-use Rattle.sp_effects.proofs.Owns.{in_taken, taken_in, before_or}
+use Rattle.sp_effects.proofs.Telling.{pair_put}
+use Rattle.sp_effects.proofs.Owns.{in_taken, taken_in}
 
 -- ---- pairs
 
 pair_is : (p q : ℕ × ℕ) → ((p.0 == q.0) && (p.1 == q.1)) ≡ true → (p.0 ≡ q.0) × (p.1 ≡ q.1)
-pair_is p q h = let b = both_true (p.0 == q.0) (p.1 == q.1) h in (eqb-true p.0 q.0 b.0, eqb-true p.1 q.1 b.1)
+pair_is p q h = let b = and_parts (p.0 == q.0) (p.1 == q.1) h in (eqb-true p.0 q.0 b.0, eqb-true p.1 q.1 b.1)
 
 pub pair_more : (old now new : List (ℕ × ℕ)) (m i y : ℕ) (xs : List ℕ) → slice_get xs i ≡ Some y
     → AddsPairs old now (IsOwnOf m (take i xs))
@@ -36,7 +36,7 @@ pair_more old now new m i y xs e h u q = (to, from)
     to : has_pair new q ≡ true → (has_pair old q ≡ true) ⊎ IsOwnOf m (take (i + 1) xs) q
     to w = ⊎_elim (λ z. let b = pair_is q (m, y) z in inr (b.0, taken_in xs i q.1 y e (inr b.1)))
         (λ z. ⊎_elim (λ o. inl o) (λ o. inr (o.0, taken_in xs i q.1 y e (inl o.1))) ((h q).0 z))
-        (or_split ((q.0 == m) && (q.1 == y)) (has_pair now q) (sym put ∙ w))
+        (or_cases ((q.0 == m) && (q.1 == y)) (has_pair now q) (sym put ∙ w))
 
     now_new : has_pair now q ≡ true → has_pair new q ≡ true
     now_new w = put ∙ or_right ((q.0 == m) && (q.1 == y)) (has_pair now q) w
@@ -45,7 +45,7 @@ pair_more old now new m i y xs e h u q = (to, from)
     from (inl o) = now_new ((h q).1 (inl o))
     from (inr o) = ⊎_elim (λ z. now_new ((h q).1 (inr (o.0, z)))) (λ z. put
         ∙ or_left ((q.0 == m) && (q.1 == y)) (has_pair now q)
-        (and_true (q.0 == m) (q.1 == y) (eq-eqb q.0 m o.0) (eq-eqb q.1 y z))) (in_taken xs i q.1 y e o.1)
+        (and_from (q.0 == m) (q.1 == y) (eq-eqb q.0 m o.0) (eq-eqb q.1 y z))) (in_taken xs i q.1 y e o.1)
 
 pub pairs_same : (ks : List (ℕ × ℕ)) (m : ℕ) (xs : List ℕ) → AddsPairs ks ks (IsOwnOf m (take 0 xs))
 pairs_same ks m [] q = (λ w. inl w, λ w. ⊎_elim (λ z. z) (λ z. absurd z.1) w)
@@ -70,7 +70,7 @@ none_first ls ks e q = (
 pub carried_told : (fs : List Fact) (o : Option Fact) (g : Fact) → o ≡ Some g
     → Tells fs (with_fact fs g) (λ f. o ≡ Some f)
 carried_told fs o g e = tells_as fs (with_fact fs g) (λ f. f ≡ g) (λ f. o ≡ Some f) (λ f s. e
-    ∙ ap Some (sym s)) (λ f s. same_some f g (sym s ∙ e)) (tells_one fs g)
+    ∙ ap Some (sym s)) (λ f s. same_Some f g (sym s ∙ e)) (tells_one fs g)
 
 pub along_more : (a b x : List Fact) (row : List Edge) (own : Bool) (d : Deed) (k : ℕ) (e : Edge)
     → slice_get row k ≡ Some e → Tells a b (AlongOne row own d k) → Tells b x (λ g. fact_along e own d ≡ Some g)
@@ -86,8 +86,8 @@ along_more a b x row own d k e h u v = tells_as a x (λ g. AlongOne row own d k 
     from : (g : Fact) → AlongOne row own d (k + 1) g → AlongOne row own d k g ⊎ (fact_along e own d ≡ Some g)
     from g w =
         ⊎_elim (λ l. inl (w.0, w.1, l, w.3, w.4))
-        (λ s. inr (subst (λ (y : Edge). fact_along y own d ≡ Some g) (same_some w.1 e (sym w.3 ∙ ap (slice_get row) s
-        ∙ h)) w.4)) (before_or w.0 k w.2)
+        (λ s. inr (subst (λ (y : Edge). fact_along y own d ≡ Some g) (same_Some w.1 e (sym w.3 ∙ ap (slice_get row) s
+        ∙ h)) w.4)) (below_or_last w.0 k w.2)
 
 module _ (rows : List (List Edge)) (own : List (ℕ × ℕ)) where
 
@@ -113,7 +113,7 @@ module _ (rows : List (List Edge)) (own : List (ℕ × ℕ)) where
 
       from : (g : Fact) → Leads rows own f g → AlongOne row mine f.deed (length row) g
       from g (x, (q, h, (k, i)), w) =
-          let z : q ≡ row = same_some q r (sym h ∙ e) ∙ sym s in
+          let z : q ≡ row = same_Some q r (sym h ∙ e) ∙ sym s in
           let at : slice_get row k ≡ Some x = ap (λ (y : List Edge). slice_get y k) (sym z) ∙ i in
           (k, x, slice_get_within row k x at, at, ap (λ (y : Bool). fact_along x y f.deed) m ∙ w)
 
@@ -121,7 +121,7 @@ module _ (rows : List (List Edge)) (own : List (ℕ × ℕ)) where
 
   there : (fs : List Fact) (i j : ℕ) (f : Fact) → slice_get fs i ≡ Some f → j < i → (g : Fact)
       × (slice_get fs j ≡ Some g)
-  there [] i j f e l = absurd (none_some f e)
+  there [] i j f e l = absurd (none-some f e)
   there (x ∷ fs) zero j f e l = absurd (omega (arith, l))
   there (x ∷ fs) (suc i) zero f e l = (x, refl)
   there (x ∷ fs) (suc i) (suc j) f e l = there fs i j f e (omega (arith, l))
@@ -135,11 +135,11 @@ module _ (rows : List (List Edge)) (own : List (ℕ × ℕ)) where
   }
     where
       done : (j : ℕ) (x g : Fact) → j < i + 1 → slice_get new j ≡ Some x → Leads rows own x g → has_fact new g ≡ true
-      done j x g l s w = ⊎_elim (λ z. let r = there now i j f e z in let q : r.0 ≡ x = same_some r.0 x
+      done j x g l s w = ⊎_elim (λ z. let r = there now i j f e z in let q : r.0 ≡ x = same_Some r.0 x
           (sym (t.extends j r.0 r.1) ∙ s) in told_on now new (Leads rows own f) t g
           (h.done j x g z (r.1 ∙ ap Some q) w))
-          (λ z. let q : f ≡ x = same_some f x (sym (t.extends i f e) ∙ ap (slice_get new) (sym z)
-          ∙ s) in t.has g (subst (λ y. Leads rows own y g) (sym q) w)) (before_or j i l)
+          (λ z. let q : f ≡ x = same_Some f x (sym (t.extends i f e) ∙ ap (slice_get new) (sym z)
+          ∙ s) in t.has g (subst (λ y. Leads rows own y g) (sym q) w)) (below_or_last j i l)
 
       only : (g : Fact) → has_fact new g ≡ true → Follows rows own old g
       only g w = ⊎_elim (λ z. h.only g z) (λ z. let r = h.only f (place_told now i f e) in (suc r.0, (f, r.1, z)))
@@ -150,8 +150,8 @@ module _ (rows : List (List Edge)) (own : List (ℕ × ℕ)) where
   closed_now old new i e h = record { kept = h.kept; closed = closed; only = h.only }
     where
       inside : (fs : List Fact) (k j : ℕ) (f : Fact) → slice_get fs k ≡ None → slice_get fs j ≡ Some f → j < k
-      inside [] k j f n s = absurd (none_some f s)
-      inside (x ∷ fs) zero j f n s = absurd (none_some x (sym n))
+      inside [] k j f n s = absurd (none-some f s)
+      inside (x ∷ fs) zero j f n s = absurd (none-some x (sym n))
       inside (x ∷ fs) (suc k) zero f n s = omega arith
       inside (x ∷ fs) (suc k) (suc j) f n s = let l = inside fs k j f n s in omega (arith, l)
 

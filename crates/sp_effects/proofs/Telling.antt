@@ -7,13 +7,14 @@ use Rattle.std.specs.BTreeSet.{BTreeSet}
 use Rattle.std.specs.declared.cmp.Ordering.{Ordering}
 use Rattle.std.specs.declared.cmp.Ordering.TheVariants.{Less, Equal, Greater}
 use Rattle.std.specs.Ordering.{nat_cmp, ordering_then, is_eq}
-use Rattle.std.proofs.lemmas.Bool.{eq-eqb}
+use Rattle.std.proofs.lemmas.Bool.{eq-eqb, and_from, and_parts, cases_eq, false_from_ne_true, or_cases, or_left}
+use Rattle.std.proofs.lemmas.Bool.{or_right}
 use Rattle.std.proofs.lemmas.Bool.Decides.{nat_tests}
 use Rattle.std.proofs.lemmas.List.Folds.{list_any-append}
 use Rattle.std.proofs.lemmas.List.{length-set}
-use Rattle.std.proofs.lemmas.Option.{slice_get_within}
+use Rattle.std.proofs.lemmas.Option.{slice_get_within, none-some, same_Some}
+use Rattle.sp_base.proofs.Facts.{get_beside_set, get_where_set, tie_of_both}
 use Rattle.sp_rules.specs.Areas.{given}
-use Rattle.sp_rules.proofs.Facts.{same_some, none_some, both_true, and_true, which}
 use Rattle.sp_effects.specs.declared.facts.Fact.{Fact}
 use Rattle.sp_effects.specs.declared.facts.Index.{Index}
 use Rattle.sp_effects.specs.declared.facts.Sets.{Sets}
@@ -24,23 +25,6 @@ use Rattle.sp_effects.specs.Facts.{index_has}
 use Rattle.sp_effects.specs.Facts.{sets_have, AreIndexed, Tells}
 
 -- ---- lists
-
-pub get_set_same : {T : Type 0} (xs : List T) (i : ℕ) (x : T) → i < length xs → slice_get (slice_set xs i x) i ≡ Some x
-get_set_same [] i x h = absurd (omega (arith, h))
-get_set_same (y ∷ ys) zero x h = refl
-get_set_same (y ∷ ys) (suc i) x h = get_set_same ys i x (omega (arith, h))
-
-pub get_set_other : {T : Type 0} (xs : List T) (i j : ℕ) (x : T) → i ≢ j
-    → slice_get (slice_set xs i x) j ≡ slice_get xs j
-get_set_other [] i j x h = refl
-get_set_other (y ∷ ys) zero zero x h = absurd (h refl)
-get_set_other (y ∷ ys) zero (suc j) x h = refl
-get_set_other (y ∷ ys) (suc i) zero x h = refl
-get_set_other (y ∷ ys) (suc i) (suc j) x h = get_set_other ys i j x (λ e. h (ap suc e))
-
-pub equal_or : (i j : ℕ) → (i ≡ j) ⊎ (i ≢ j)
-equal_or i j = ⊎_elim (λ h. inr (λ e. let s : i ≡ j = e in omega (arith, h, s)))
-    (λ z. ⊎_elim (λ e. inl e) (λ h. inr (λ e. let s : i ≡ j = e in omega (arith, h, s))) z) (which i j)
 
 -- ---- equal facts
 
@@ -62,38 +46,26 @@ deed_self deed.Stops = refl
 
 pub same_is : (f g : Fact) → same f g ≡ true → f ≡ g
 same_is f g h =
-    let b = both_true (f.area == g.area) (same_deed f.deed g.deed) h in
+    let b = and_parts (f.area == g.area) (same_deed f.deed g.deed) h in
     let p : f.area ≡ g.area = eqb-true f.area g.area b.0 in
     let d : f.deed ≡ g.deed = deed_is f.deed g.deed b.1 in
     λ i. record { area = p i; deed = d i }
 
 pub same_self : (f : Fact) → same f f ≡ true
-same_self f = and_true (f.area == f.area) (same_deed f.deed f.deed) (eq-eqb f.area f.area refl) (deed_self f.deed)
+same_self f = and_from (f.area == f.area) (same_deed f.deed f.deed) (eq-eqb f.area f.area refl) (deed_self f.deed)
 
 -- ---- lists of facts
-
-pub or_split : (a b : Bool) → (a || b) ≡ true → (a ≡ true) ⊎ (b ≡ true)
-or_split true b e = inl refl
-or_split false b e = inr e
-
-pub or_left : (a b : Bool) → a ≡ true → (a || b) ≡ true
-or_left true b e = refl
-or_left false b e = absurd (cc e)
-
-pub or_right : (a b : Bool) → b ≡ true → (a || b) ≡ true
-or_right true b e = refl
-or_right false b e = e
 
 -- what is told stands at a place, and what stands there is told
 pub told_place : (fs : List Fact) (f : Fact) → has_fact fs f ≡ true → (i : ℕ) × (slice_get fs i ≡ Some f)
 told_place [] f h = absurd (cc h)
 told_place (g ∷ fs) f h = ⊎_elim (λ e. (0, ap Some (sym (same_is f g e))))
-    (λ e. let r = told_place fs f e in (suc r.0, r.1)) (or_split (same f g) (has_fact fs f) h)
+    (λ e. let r = told_place fs f e in (suc r.0, r.1)) (or_cases (same f g) (has_fact fs f) h)
 
 pub place_told : (fs : List Fact) (i : ℕ) (f : Fact) → slice_get fs i ≡ Some f → has_fact fs f ≡ true
-place_told [] i f e = absurd (none_some f e)
+place_told [] i f e = absurd (none-some f e)
 place_told (g ∷ fs) zero f e = or_left (same f g) (has_fact fs f)
-    (subst (λ x. same f x ≡ true) (sym (same_some g f e)) (same_self f))
+    (subst (λ x. same f x ≡ true) (sym (same_Some g f e)) (same_self f))
 place_told (g ∷ fs) (suc i) f e = or_right (same f g) (has_fact fs f) (place_told fs i f e)
 
 or_none : (a b : Bool) → (a || (b || false)) ≡ (a || b)
@@ -109,14 +81,9 @@ told_last fs g f = list_any-append (same f) fs (g ∷ []) ∙ or_none (has_fact 
 nat_same : (a b : ℕ) → is_eq (nat_cmp a b) ≡ (b == a)
 nat_same a b = grind (arith, nat_tests)
 
-then_is : (x y : Ordering) → is_eq (ordering_then x y) ≡ (is_eq x && is_eq y)
-then_is Less y = refl
-then_is Equal y = refl
-then_is Greater y = refl
-
 pair_same : (p q : ℕ × ℕ) → is_eq (pair_cmp p q) ≡ ((q.0 == p.0) && (q.1 == p.1))
 pair_same p q =
-    then_is (nat_cmp p.0 q.0) (nat_cmp p.1 q.1) ∙ ap (λ (x : Bool). x && is_eq (nat_cmp p.1 q.1)) (nat_same p.0 q.0)
+    tie_of_both (nat_cmp p.0 q.0) (nat_cmp p.1 q.1) ∙ ap (λ (x : Bool). x && is_eq (nat_cmp p.1 q.1)) (nat_same p.0 q.0)
     ∙ ap (λ (x : Bool). (q.0 == p.0) && x) (nat_same p.1 q.1)
 
 cond_or : (a b : Bool) → cond a true b ≡ (a || b)
@@ -178,7 +145,7 @@ pub noted_put : (areas : List Sets) (none old new : Sets) (g : Fact) → slice_g
     → PutsIn old new g.deed
     → (f : Fact) → sets_have (slice_set (slice_set areas g.area none) g.area new) f.area f.deed ≡ (same f g
     || sets_have areas f.area f.deed)
-noted_put areas none old new g at h f = ⊎_elim here there (equal_or f.area g.area)
+noted_put areas none old new g at h f = ⊎_elim here there (cases_eq f.area g.area)
   where
     m : ℕ
     m = g.area
@@ -194,7 +161,7 @@ noted_put areas none old new g at h f = ⊎_elim here there (equal_or f.area g.a
 
     now : f.area ≡ m → sets_have (slice_set middle m new) f.area f.deed ≡ in_sets new f.deed
     now q = ap (λ n. sets_have (slice_set middle m new) n f.deed) q
-        ∙ ap (λ (o : Option Sets). given false o (λ s. in_sets s f.deed)) (get_set_same middle m new inside)
+        ∙ ap (λ (o : Option Sets). given false o (λ s. in_sets s f.deed)) (get_where_set middle m new inside)
 
     was : f.area ≡ m → sets_have areas f.area f.deed ≡ in_sets old f.deed
     was q = ap (λ n. sets_have areas n f.deed) q ∙ ap (λ (o : Option Sets). given false o (λ s. in_sets s f.deed)) at
@@ -208,13 +175,9 @@ noted_put areas none old new g at h f = ⊎_elim here there (equal_or f.area g.a
     there : f.area ≢ m → sets_have (slice_set middle m new) f.area f.deed ≡ (same f g || sets_have areas f.area f.deed)
     there q =
         ap (λ (o : Option Sets). given false o (λ s. in_sets s f.deed))
-        (get_set_other middle m f.area new (λ s. q (sym s)) ∙ get_set_other areas m f.area none (λ s. q (sym s))) ∙
+        (get_beside_set middle m f.area new (λ s. q (sym s)) ∙ get_beside_set areas m f.area none (λ s. q (sym s))) ∙
         sym (ap (λ (b : Bool). (b && same_deed f.deed g.deed)
-        || sets_have areas f.area f.deed) (not_equal (f.area == g.area) (λ s. q (eqb-true f.area g.area s))))
-      where
-        not_equal : (b : Bool) → (b ≡ true → ⊥) → b ≡ false
-        not_equal true h = absurd (h refl)
-        not_equal false h = refl
+        || sets_have areas f.area f.deed) (false_from_ne_true (f.area == g.area) (λ s. q (eqb-true f.area g.area s))))
 
 -- the list and the sets grow together
 or_turned : (a b : Bool) → (a || b) ≡ (b || a)
@@ -268,7 +231,7 @@ tells_one fs g = go (has_fact fs g) refl
         extends i f s = before fs i s
           where
             before : (xs : List Fact) (j : ℕ) → slice_get xs j ≡ Some f → slice_get (xs ++ g ∷ []) j ≡ Some f
-            before [] j s = absurd (none_some f s)
+            before [] j s = absurd (none-some f s)
             before (x ∷ xs) zero s = s
             before (x ∷ xs) (suc j) s = before xs j s
 
@@ -277,4 +240,4 @@ tells_one fs g = go (has_fact fs g) refl
 
         only : (f : Fact) → has_fact (fs ++ g ∷ []) f ≡ true → (has_fact fs f ≡ true) ⊎ (f ≡ g)
         only f e = ⊎_elim (λ o. inl o) (λ s. inr (same_is f g s))
-            (or_split (has_fact fs f) (same f g) (sym (told_last fs g f) ∙ e))
+            (or_cases (has_fact fs f) (same f g) (sym (told_last fs g f) ∙ e))

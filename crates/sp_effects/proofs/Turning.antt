@@ -3,8 +3,9 @@ use Rattle.std.proofs.Common.{◌≡◌, inl, inr, ⊎_elim, refl, sym, ap, subs
 use Rattle.std.proofs.Common.{None, Bool, true, false, ◌||◌, if◌then◌else◌, ◌==◌, arith, eqb-true}
 use Rattle.std.specs.Prelude.{slice_get}
 use Rattle.std.specs.BTreeMap.{BTreeMap}
-use Rattle.std.proofs.lemmas.Bool.{eq-eqb}
-use Rattle.std.proofs.lemmas.Option.{slice_get_within}
+use Rattle.std.proofs.lemmas.Bool.{eq-eqb, and_from, and_parts, or_cases, or_left, or_right}
+use Rattle.std.proofs.lemmas.Option.{slice_get_within, none-some}
+use Rattle.sp_base.proofs.Facts.{not_true_and_false}
 use Rattle.sp_code.specs.declared.instr.Instr.{Instr}
 use Rattle.sp_code.specs.declared.instr.Instr.TheVariants as i
 use Rattle.sp_code.specs.declared.code.Layout.{Layout}
@@ -20,7 +21,6 @@ use Rattle.sp_rules.specs.Named.{BreaksV1, BlocksApart, IsLayout, LiesIn}
 use Rattle.sp_rules.specs.Rules.{BreaksV2, BreaksV3, BreaksV4, BreaksV5}
 use Rattle.sp_rules.specs.Verdict.{BreaksV7, HasStop, Inside}
 use Rattle.sp_rules.proofs.Assembly.{fits_types, have_children}
-use Rattle.sp_rules.proofs.Facts.{both_true, and_true, none_some}
 use Rattle.sp_rules.proofs.Kept.{keeps}
 use Rattle.sp_rules.proofs.Scoping.{found_layout}
 use Rattle.sp_rules.proofs.Walking.{passes}
@@ -40,7 +40,6 @@ use Rattle.sp_effects.specs.Turns.{AreInside, LayoutTurns, SomeCalls, Turns, ins
 use Rattle.sp_effects.specs.Variables.{goes_out, with_layouts}
 use Rattle.sp_effects.proofs.Inward.{inside_is, is_inside_here, reached_is}
 use Rattle.sp_effects.proofs.Loudness.{body_row}
-use Rattle.sp_effects.proofs.Members.{not_both, or_left, or_right, or_split}
 use Rattle.sp_effects.proofs.Owned.{layout_here, one_layout, out_from, out_is}
 use Rattle.sp_effects.proofs.Passing.{CallBreaks, call_found, call_finds, place_there}
 
@@ -51,24 +50,24 @@ module _ (ls : List Layout) (j : ℕ) (l : Layout) (is : slice_get ls j ≡ Some
   turns_is : (o : Option Deeds) → turns ks flags j o ≡ true → Turns flags j l o
   turns_is None e = absurd (cc e)
   turns_is (Some d) e =
-      let b = both_true (flag_at flags j) (goes_out ks j 2 d.stored || goes_out ks j 2 d.loaded) e in (
+      let b = and_parts (flag_at flags j) (goes_out ks j 2 d.stored || goes_out ks j 2 d.loaded) e in (
         b.0,
         ⊎_elim
             (λ h. let r = out_is ls j l is ks own 2 d.stored h in
             (r.0, inl r.1, r.3, (let m = r.2 in omega (arith, m))))
             (λ h. let r = out_is ls j l is ks own 2 d.loaded h in
             (r.0, inr r.1, r.3, (let m = r.2 in omega (arith, m))))
-            (or_split (goes_out ks j 2 d.stored) (goes_out ks j 2 d.loaded) b.1),
+            (or_cases (goes_out ks j 2 d.stored) (goes_out ks j 2 d.loaded) b.1),
       )
 
   turns_from : (o : Option Deeds) → Turns flags j l o → turns ks flags j o ≡ true
   turns_from None h = absurd h
   turns_from (Some d) (f, (x, inl i, m, h)) =
-      and_true (flag_at flags j) (goes_out ks j 2 d.stored || goes_out ks j 2 d.loaded) f
+      and_from (flag_at flags j) (goes_out ks j 2 d.stored || goes_out ks j 2 d.loaded) f
       (or_left (goes_out ks j 2 d.stored) (goes_out ks j 2 d.loaded)
       (out_from ls j l is ks own 2 d.stored x i (omega (arith, h)) m))
   turns_from (Some d) (f, (x, inr i, m, h)) =
-      and_true (flag_at flags j) (goes_out ks j 2 d.stored || goes_out ks j 2 d.loaded) f
+      and_from (flag_at flags j) (goes_out ks j 2 d.stored || goes_out ks j 2 d.loaded) f
       (or_right (goes_out ks j 2 d.stored) (goes_out ks j 2 d.loaded)
       (out_from ls j l is ks own 2 d.loaded x i (omega (arith, h)) m))
 
@@ -93,8 +92,8 @@ inside_call hs first (Some (i.Call b up)) j e = go (is_inside hs b up) refl e
         → (d v : ℕ) × (Some (i.Call b up) ≡ Some (i.Call d v)) × (is_inside hs d v ≡ true)
         × (number_of first d ≡ Some j)
     go true t e = (b, up, refl, t, e)
-    go false t e = absurd (none_some j e)
-inside_call hs first o j e = absurd (none_some j e)
+    go false t e = absurd (none-some j e)
+inside_call hs first o j e = absurd (none-some j e)
 
 module _ (c : Parts) (k : Keeps c) (kept : (p : ℕ) → BreaksV1 c p → ⊥) (e : Effects) (are : AreEffects c e)
     (first : BTreeMap ℕ ℕ) (numbered : IsNumbered first c.layouts) (s : Shapes) (shapes : AreShapes c s)
@@ -140,7 +139,7 @@ module _ (c : Parts) (k : Keeps c) (kept : (p : ℕ) → BreaksV1 c p → ⊥) (
             alike : (t : Bool) → n == j ≡ t → n ≡ j
             alike true h = eqb-true n j h
             alike false h = absurd (kept l.entry
-                (BlocksApart (j, l, is, refl, inl (n, l, g, (λ z. not_both (n == j) (eq-eqb n j z) h), refl))))
+                (BlocksApart (j, l, is, refl, inl (n, l, g, (λ z. not_true_and_false (n == j) (eq-eqb n j z) h), refl))))
 
     is_called : fork.IsCalledInside c (Does c) (HasStop c) (Inside c) l.block → flag_at flags j ≡ true
     is_called (a, p, up, ss, m, there, call, round) =

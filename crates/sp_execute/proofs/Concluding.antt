@@ -1,5 +1,6 @@
 -- What the machine gives along a journal with the code of a program is what the program means along it (`concluded`).
 use Rattle.std.proofs.Common.{◌≡◌, ◌⊎◌, inl, inr, ℕ, ◌≤◌, List, [], ◌∷◌, Some, refl, sym, ap, ◌∙◌, subst}
+use Rattle.std.proofs.lemmas.Option.{same_Some}
 use Rattle.sp_base.specs.declared.fault.Fault.{Fault}
 use Rattle.sp_base.specs.declared.limits.TheConstants.{TURN_TICKS}
 use Rattle.sp_tree.specs.Plain.{Stmt}
@@ -42,16 +43,13 @@ has_fault : (es : List Entry) (p : ℕ) (f : Fault) → fault_in es ≡ Some (p,
 has_fault [] p f e = absurd (cc e)
 has_fault (x ∷ es) p f e = by (has_fault es p f) x.event refl e
   where
-    one : {x y : ℕ × Fault} → Some x ≡ Some y → x ≡ y
-    one e = cc e
-
     by : (fault_in es ≡ Some (p, f) → HasFaultEntry es p f) → (y : Event) → x.event ≡ y
         → fault_by x.process y (fault_in es) ≡ Some (p, f) → (x ≡ record { process = p; event = event.Fault f })
         ⊎ HasFaultEntry es p f
     by on (event.Fault h) i e = inl (λ j. record {
-      process = (one e j).0;
+      process = (same_Some _ _ e j).0;
       event = (i
-          ∙ ap (λ (z : ℕ × Fault). event.Fault z.1) (one e)) j;
+          ∙ ap (λ (z : ℕ × Fault). event.Fault z.1) (same_Some _ _ e)) j;
     })
     by on (event.Fork n) i e = inr (on e)
     by on event.Open i e = inr (on e)
@@ -94,14 +92,8 @@ module _ (g : Setting) (moves shares : Stmt
         let mine = program_output g moves shares pause ready es names t h n s k in
         let holder : mine.0 ≡ q = o.only mine.0 mine.1 (output_of g s) mine.2 mine.3 in
         let store : Some o.store ≡ Some mine.1 = sym o.at ∙ ap (λ y. store_in (t.condition y)) (sym holder) ∙ mine.2 in
-        bytes_same text (output_of g s) (sym o.output ∙ ap (λ y. plain.output y) (store_same o.store mine.1 store)
+        same_Some text (output_of g s) (sym o.output ∙ ap (λ y. plain.output y) (same_Some o.store mine.1 store)
         ∙ mine.3)
-      where
-        store_same : (x y : Plain) → Some x ≡ Some y → x ≡ y
-        store_same x y e = cc e
-
-        bytes_same : (x y : List ℕ) → Some x ≡ Some y → x ≡ y
-        bytes_same x y e = cc e
 
     -- the first process has ended
     over : phase_in (t.condition 0) ≡ Finished → meant.IsDone g s

@@ -2,6 +2,7 @@
 -- leads from `replay` to the program.
 use Rattle.std.proofs.Common.{◌≡◌, ℕ, zero, suc, List, [], ◌∷◌, take, Option, Some, None, Result, Ok, Err, refl, sym}
 use Rattle.std.proofs.Common.{ap, ◌∙◌, subst}
+use Rattle.std.proofs.lemmas.Option.{none-some}
 use Rattle.sp_base.specs.declared.limits.Limits.{Limits}
 use Rattle.sp_base.specs.declared.limits.TheConstants.{TURN_TICKS}
 use Rattle.sp_base.specs.declared.fault.Fault.{Fault}
@@ -72,11 +73,8 @@ module _ (g : Setting) (moves shares : Stmt → List ℕ) (ready : IsReady g mov
       let stuck = program_deadlock g moves shares TURN_TICKS ready es t h n s k d.0 d.1 in
       let runs = works (t.condition on.runs.0) on.runs.1 in
       stuck.idle on.runs.0 runs.0 runs.1
-  goes_on es t h n s k on (end.Fault p f) d = none
+  goes_on es t h n s k on (end.Fault p f) d = none-some _
       (sym (program_quiet g moves shares TURN_TICKS ready es t h n s k on.quiet) ∙ d.1)
-    where
-      none : {x : Name × Fault} → None ≡ Some x → ⊥
-      none e = cc e
   goes_on es t h n s k on end.Memory d = absurd d
 
   ends : (es : List Entry) (t : System Plain) (h : IsSystem plain (run_by g moves shares TURN_TICKS) es t) (n : ℕ)

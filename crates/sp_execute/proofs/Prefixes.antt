@@ -2,6 +2,7 @@
 -- is unfit at one entry alone, which is the law `one_unfit_entry`.
 use Rattle.std.proofs.Common.{◌≡◌, ◌⊎◌, inl, inr, ℕ, zero, suc, ◌+◌, ◌<◌, ◌≤◌, Bool, List, [], ◌∷◌, ◌++◌, take, refl}
 use Rattle.std.proofs.Common.{ap, subst, arith}
+use Rattle.std.proofs.lemmas.Bool.{cases_order}
 use Rattle.sp_base.specs.declared.limits.TheConstants.{TURN_TICKS}
 use Rattle.sp_journal.specs.declared.entry.Entry.{Entry}
 use Rattle.sp_journal.specs.Births.{Births, at_start, after_entry, occurrences_from}
@@ -68,19 +69,8 @@ not_later : (g : Setting) (es : List Entry) (m n : ℕ) → m < n → IsUnfitAt 
 not_later g es m n l u v = let r = shorter_take (suc m) n es (omega (arith, l)) in u.unfit
     (meant_part g (take (suc m) es) r.0 (take n es) r.1 v.fits)
 
-order : (m n : ℕ) → (m ≡ n) ⊎ ((m < n) ⊎ (n < m))
-order zero zero = inl refl
-order zero (suc n) = inr (inl (omega arith))
-order (suc m) zero = inr (inr (omega arith))
-order (suc m) (suc n) = go (order m n)
-  where
-    go : (m ≡ n) ⊎ ((m < n) ⊎ (n < m)) → (suc m ≡ suc n) ⊎ ((suc m < suc n) ⊎ (suc n < suc m))
-    go (inl e) = inl (ap suc e)
-    go (inr (inl l)) = inr (inl (omega (arith, l)))
-    go (inr (inr l)) = inr (inr (omega (arith, l)))
-
 pub one_entry : (g : Setting) (es : List Entry) (m n : ℕ) → IsUnfitAt g es m → IsUnfitAt g es n → m ≡ n
-one_entry g es m n u v = go (order m n)
+one_entry g es m n u v = go (cases_order m n)
   where
     go : (m ≡ n) ⊎ ((m < n) ⊎ (n < m)) → m ≡ n
     go (inl e) = e

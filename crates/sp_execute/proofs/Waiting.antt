@@ -3,6 +3,7 @@
 use Rattle.std.proofs.Common.{◌≡◌, ◌⊎◌, inl, inr, ℕ, zero, suc, ◌≤◌, List, ◌++◌, Some, None, refl, sym, ap, ◌∙◌, subst}
 use Rattle.std.specs.Prelude.{map}
 use Rattle.std.specs.List.Sorted.{IsPermutation}
+use Rattle.std.proofs.lemmas.Option.{none-some, same_Some}
 use Rattle.sp_journal.specs.declared.entry.Way.TheVariants as way
 use Rattle.sp_journal.specs.declared.outcome.Waiter.{Waiter}
 use Rattle.sp_journal.specs.Births.{Births, channel}
@@ -129,19 +130,13 @@ module _ (t : System Plain) (lawful : Lawful t.births) (unborn : (q : ℕ) → t
   from_system : (w : Waiting) → WaitsAs t w → IsWaiting k w
   from_system w h = by h.1 h.3 h.4
     where
-      one : {x y : Waiting} → Some x ≡ Some y → x ≡ y
-      one e = cc e
-
-      nothing : {x : Waiting} → None ≡ Some x → ⊥
-      nothing e = cc e
-
       by : (stop : Stop) → t.condition h.0 ≡ Waits stop h.2 → waiting_at t.births h.0 stop ≡ Some w → IsWaiting k w
-      by (Forks tb v n) e r = absurd (nothing r)
-      by (Opens x) e r = absurd (nothing r)
-      by (Sends c m cs) e r = (h.0, c, inl (ap doing_in e, sym (one r)))
-      by (Receives c m x) e r = (h.0, c, inr (ap doing_in e, sym (one r)))
-      by Ends e r = absurd (nothing r)
-      by Pauses e r = absurd (nothing r)
+      by (Forks tb v n) e r = absurd (none-some _ r)
+      by (Opens x) e r = absurd (none-some _ r)
+      by (Sends c m cs) e r = (h.0, c, inl (ap doing_in e, sym (same_Some _ _ r)))
+      by (Receives c m x) e r = (h.0, c, inr (ap doing_in e, sym (same_Some _ _ r)))
+      by Ends e r = absurd (none-some _ r)
+      by Pauses e r = absurd (none-some _ r)
 
   pub stuck : (ws : List Waiter) → IsDeadlock t ws → (vs : List Waiting) × IsStuck t vs × (ws ≡ map waiter_of vs)
   stuck ws d =

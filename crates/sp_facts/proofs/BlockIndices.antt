@@ -1,6 +1,7 @@
 -- The foralls of each block have numbers of the block's own indices.
 use Rattle.std.proofs.Common.{◌≡◌, refl, ap, sym, ◌∙◌, subst, ℕ, zero, suc, ◌+◌, ◌≤◌, List, [], ◌∷◌, ◌++◌, Option, Some, Bool, true, false, length, slice_get, arith}
 use Rattle.std.specs.Prelude.{nat_le, map}
+use Rattle.std.proofs.lemmas.Option.{same_Some}
 use Rattle.sp_tree.specs.declared.checked.Role.TheVariants as role
 use Rattle.sp_tree.specs.NameFirst.{together, all_at}
 use Rattle.sp_tree.specs.Scopes as names
@@ -152,13 +153,7 @@ module _ (s : syntax.Program) (calm : names_broken s ≡ []) where
   pub has_ : (ks : List (Option ℕ)) (us : List checked.Variable) (x : ℕ) (v : plain.Variable) (o : Option ℕ) → slice_get (map variable_of (checked_variables ks us)) x ≡ Some v → slice_get ks x ≡ Some o → v.kind ≡ or_zero o
   has_ ks [] x v o e f = absurd (cc e)
   has_ [] (u ∷ us) x v o e f = absurd (cc e)
-  has_ (k ∷ ks) (u ∷ us) zero v o e f = sym (ap (λ (z : plain.Variable). z.kind) (same_v (variable_of (record u { kind = or_zero k })) v e)) ∙ ap or_zero (same_o k o f)
-    where
-      same_v : (a b : plain.Variable) → Some a ≡ Some b → a ≡ b
-      same_v a b e = cc e
-
-      same_o : (a b : Option ℕ) → Some a ≡ Some b → a ≡ b
-      same_o a b e = cc e
+  has_ (k ∷ ks) (u ∷ us) zero v o e f = sym (ap (λ (z : plain.Variable). z.kind) (same_Some (variable_of (record u { kind = or_zero k })) v e)) ∙ ap or_zero (same_Some k o f)
   has_ (k ∷ ks) (u ∷ us) (suc x) v o e f = has_ ks us x v o e f
 
   pub room_ : (ks : List (Option ℕ)) (us : List checked.Variable) (x : ℕ) (v : plain.Variable) → slice_get (map variable_of (checked_variables ks us)) x ≡ Some v → suc x ≤ length us

@@ -18,6 +18,7 @@ use Rattle.sp_code.specs.Scopes.{Scope, OfBlock, is_block, level, one_more, scop
 use Rattle.sp_facts.specs.Visible.{IsScope, AreFlags, IsAround, IsValid, AreValid, IsVisible, IsChain}
 use Rattle.sp_facts.proofs.Calm.{calm_parts}
 use Rattle.std.proofs.lemmas.List.{length-append}
+use Rattle.std.proofs.lemmas.Option.{same_Some}
 use Rattle.sp_tree.specs.declared.checked.Variable as checked
 use Rattle.sp_tree.specs.declared.meaning.Sort.{Sort}
 use Rattle.sp_tree.specs.declared.meaning.Sort.TheVariants as sort
@@ -351,12 +352,9 @@ module _ (p : plain.Program) (m : ℕ) where
             own = r.0.own;
             home = r.0.home;
             near = r.0.near;
-            answer = λ u y uat ans. r.0.result ∙ answer_is answer head.answer y c.answer ca (ap (λ (z : plain.Block). z.answer) (block_is c u (sym cat ∙ uat)) ∙ ans);
+            answer = λ u y uat ans. r.0.result ∙ answer_is answer head.answer y c.answer ca (ap (λ (z : plain.Block). z.answer) (same_Some c u (sym cat ∙ uat)) ∙ ans);
           } in
           let body_in = statement_in p m steps results f sc2 in_ (parts_local head parts) body chain2 body_place pieces.3 (subst (λ z. Holds p m (next_variable (parts_local head parts).counts) (indices z body)) number (subst (λ z. Holds p m z d) at_body v3.1)) in (
             record { visible = outer.visible; own = outer.own; home = outer.home; near = outer.near; result = outer.result },
             (subst (λ z. InStatement p m z (named_statement in_ (parts_local head parts) body)) (sym chain2.0) body_in, subst (λ z. AreScoped p m z inner.blocks) in_blocks r.1),
           )
-        where
-          block_is : (c u : plain.Block) → Some c ≡ Some u → c ≡ u
-          block_is c u e = cc e

@@ -1,6 +1,8 @@
 -- Where a list of broken rules is empty, no part of it has one.
 use Rattle.std.proofs.Common.{◌≡◌, refl, ap, sym, ◌∙◌, ℕ, List, [], ◌∷◌, Option, Some, None, Bool, true, false, if◌then◌else◌, arith}
 use Rattle.std.specs.Prelude.{not, nat_eq, ◌||◌}
+use Rattle.std.proofs.lemmas.Bool.{not-false}
+use Rattle.std.proofs.lemmas.Option.{same_Some}
 use Rattle.sp_base.specs.declared.place.Place.{Place}
 use Rattle.sp_base.specs.declared.rule.Rule.{Rule}
 use Rattle.sp_base.specs.declared.halt.Refusal.{Refusal}
@@ -48,24 +50,13 @@ pub calm_all : (rs : List Refusal) → taken rs None ≡ None → rs ≡ []
 calm_all [] e = refl
 calm_all (r ∷ rs) e = absurd (taken_some rs r e)
 
-pub not_true : (b : Bool) → not b ≡ false → b ≡ true
-not_true true e = refl
-not_true false e = absurd (cc e)
-
-pub or_false : (a b : Bool) → (a || b) ≡ false → (a ≡ false) × (b ≡ false)
-or_false false b e = (refl, e)
-or_false true b e = absurd (cc e)
-
 pub calm_if : (r : Rule) (at : Place) (b : Bool) → breaks_if r at b ≡ None → b ≡ false
 calm_if r at true e = absurd (cc e)
 calm_if r at false e = refl
 
 pub calm_unless : (r : Rule) (at : Place) (takes : ℕ → Bool) (o : Option ℕ) (k : ℕ) → o ≡ Some k → unless r at takes o ≡ None → takes k ≡ true
 calm_unless r at takes None k e u = absurd (cc e)
-calm_unless r at takes (Some j) k e u = ap takes (sym (some_is j k e)) ∙ not_true (takes j) (calm_if r at (not (takes j)) u)
-  where
-    some_is : (a b : ℕ) → Some a ≡ Some b → a ≡ b
-    some_is a b e = cc e
+calm_unless r at takes (Some j) k e u = ap takes (sym (same_Some j k e)) ∙ not-false (takes j) (calm_if r at (not (takes j)) u)
 
 pub nat_eq_is : (a b : ℕ) → nat_eq a b ≡ true → a ≡ b
 nat_eq_is a b e = Prim.grind (arith, e)
@@ -74,4 +65,4 @@ nat_eq_is a b e = Prim.grind (arith, e)
 pub calm_differ : (j k : Option ℕ) (a b : ℕ) → j ≡ Some a → k ≡ Some b → differ j k ≡ false → a ≡ b
 calm_differ None k a b ja kb d = absurd (cc ja)
 calm_differ (Some j) None a b ja kb d = absurd (cc kb)
-calm_differ (Some j) (Some k) a b ja kb d = cc (ja, kb, nat_eq_is j k (not_true (nat_eq j k) d))
+calm_differ (Some j) (Some k) a b ja kb d = cc (ja, kb, nat_eq_is j k (not-false (nat_eq j k) d))

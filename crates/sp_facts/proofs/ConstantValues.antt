@@ -2,6 +2,7 @@
 use Rattle.std.proofs.Common.{◌≡◌, refl, ap, sym, ◌∙◌, subst, ℕ, zero, suc, ◌+◌, ◌≤◌, List, [], ◌∷◌, ◌++◌, Option, Some, None, Bool, true, false, if◌then◌else◌, length, slice_get, arith}
 use Rattle.std.specs.Prelude.{ℤ, pos, neg_ℤ, nat_eq, ◌||◌}
 use Rattle.std.proofs.lemmas.List.{length-append}
+use Rattle.std.proofs.lemmas.Bool.{not-false, or_parts}
 use Rattle.sp_base.specs.declared.rule.Rule.TheVariants as rule
 use Rattle.sp_tree.specs.declared.checked.KindOf.{KindOf}
 use Rattle.sp_tree.specs.declared.checked.KindOf.TheVariants as kind
@@ -21,7 +22,7 @@ use Rattle.sp_types.specs.TypeRules.{is_ordinal, const_rule, bounds_rule}
 use Rattle.sp_types.specs.TypeWalk as w
 use Rattle.sp_facts.specs.Earlier.{HaveValues, AllHaveValues}
 use Rattle.sp_facts.specs.Given.{IsBehind, AreBehind, IsBoundBehind, AreBoundsBehind}
-use Rattle.sp_facts.proofs.Calm.{calm_parts, calm_site, calm_if, not_true, or_false, nat_eq_is}
+use Rattle.sp_facts.proofs.Calm.{calm_parts, calm_site, calm_if, nat_eq_is}
 
 module _ (kinds : List KindOf) (integer : is_ordinal (slice_get kinds 0) ≡ true) (char : is_ordinal (slice_get kinds 2) ≡ true) where
   abbrev pub IsKnown : List (Option Ordinal) → Type 0
@@ -31,7 +32,7 @@ module _ (kinds : List KindOf) (integer : is_ordinal (slice_get kinds 0) ≡ tru
   value_some known (given.Number k) h b l = (record { kind = 0; number = pos k }, refl, integer)
   value_some known (given.Quoted []) h b l = absurd (cc l)
   value_some known (given.Quoted (c ∷ [])) h b l = (record { kind = 2; number = pos c }, refl, char)
-  value_some known (given.Quoted (c ∷ d ∷ t)) h b l = let e = nat_eq_is (suc (suc (length t))) 1 (not_true (nat_eq (suc (suc (length t))) 1) l) in absurd (omega (arith, e))
+  value_some known (given.Quoted (c ∷ d ∷ t)) h b l = let e = nat_eq_is (suc (suc (length t))) 1 (not-false (nat_eq (suc (suc (length t))) 1) l) in absurd (omega (arith, e))
   value_some known (given.Constant k) h b l = let r = h k b in (r.0, ap entry r.1, r.2)
 
   signed_some : (sign : Option Bool) (o : Ordinal) → (u : Ordinal) × (signed sign (Some o) ≡ Some u) × (u.kind ≡ o.kind)
@@ -47,7 +48,7 @@ module _ (kinds : List KindOf) (integer : is_ordinal (slice_get kinds 0) ≡ tru
       (t.0, ap (signed c.negative) r.1 ∙ t.1, subst (λ z. is_ordinal (slice_get kinds z) ≡ true) (sym t.2) r.2)
 
   not_long : (all : List (Option Ordinal)) (c : NamedConst) → const_rule all c ≡ None → is_long c.value ≡ false
-  not_long all c e = (or_false (is_long c.value) (has_wrong_sign c.negative (value_by all c.value)) (calm_if rule.Y14 c.at (is_long c.value || has_wrong_sign c.negative (value_by all c.value)) e)).0
+  not_long all c e = (or_parts (is_long c.value) (has_wrong_sign c.negative (value_by all c.value)) (calm_if rule.Y14 c.at (is_long c.value || has_wrong_sign c.negative (value_by all c.value)) e)).0
 
   known_more : (known : List (Option Ordinal)) (o : Ordinal) → IsKnown known → is_ordinal (slice_get kinds o.kind) ≡ true → IsKnown (known ++ Some o ∷ [])
   known_more [] o h d zero l = (o, refl, d)

@@ -10,6 +10,7 @@ use Rattle.sp_tree.specs.NameWalk.{role_of}
 use Rattle.sp_tree.specs.PlainSyntax.{Expression, At, ExpressionForm, Number, Quoted, Read, Apply, Unary, Binary, Variable, Entire, Selector, Index, Field, Selectors, Whole, Select, Argument, Pass, Width, NoWidth, Within, Arguments, NoArgument, AndArgument}
 use Rattle.sp_facts.proofs.Calm.{calm_parts}
 use Rattle.std.proofs.lemmas.List.{length-append}
+use Rattle.std.proofs.lemmas.Option.{same_Some}
 use Rattle.sp_tree.specs.Scopes.{Local, inside, opened, declared, most, variable, next_variable}
 use Rattle.sp_tree.specs.NameWalk.{statement_local, statements_local, other_local, arms_local, arm_local, branches_local, form_local, indexed, deeper}
 use Rattle.sp_tree.specs.PlainSyntax.{Statement, Does, Form, Empty, Assign, Call, Sequence, If, While, Repeat, Case, For, Parallel, Forall, Assume, Other, NoElse, Else, Statements, NoStatement, AndThen, Arm, On, Arms, NoArm, Or, Branches, NoBranch, Beside}
@@ -58,11 +59,8 @@ OrdinalAt full ts next at = (t : ℕ) × (slice_get full at ≡ Some (next + t))
 
 ordinal_at : (ns : List ℕ) (consts : List (Option Ordinal)) (known : List ℕ) (next : ℕ) (ks : List NamedKind) (j : ℕ) (d : NamedKind) → slice_get ks j ≡ Some d → IsOrdinalForm d.form → OrdinalAt (numbers_from known next ks) (kinds_from ns consts ks) next (length known + j)
 ordinal_at ns consts known next [] j d e o = absurd (cc e)
-ordinal_at ns consts known next (k ∷ ks) zero d e o = go k.form (subst (λ (z : NamedKind). IsOrdinalForm z.form) (sym (same k d e)) o) (λ y h. keeps (known ++ y ∷ []) h ks (length known) y (get_last known y))
+ordinal_at ns consts known next (k ∷ ks) zero d e o = go k.form (subst (λ (z : NamedKind). IsOrdinalForm z.form) (sym (same_Some k d e)) o) (λ y h. keeps (known ++ y ∷ []) h ks (length known) y (get_last known y))
   where
-    same : (a b : NamedKind) → Some a ≡ Some b → a ≡ b
-    same a b e = cc e
-
     at_end : (z : ℕ) → (full : List ℕ) → slice_get full (length known) ≡ Some next → slice_get full (length known + 0) ≡ Some (next + 0)
     at_end z full h = let a : length known + 0 ≡ length known = omega arith in let b : next ≡ next + 0 = omega arith in ap (slice_get full) a ∙ h ∙ ap Some b
 

@@ -2,6 +2,8 @@
 use Rattle.std.proofs.Common.{◌≡◌, ◌⊎◌, inl, inr, refl, ap, sym, ◌∙◌, subst, ℕ, suc, ◌+◌, List, [], ◌∷◌, Option, Some, None, Bool, true, false, if◌then◌else◌, length, slice_get, arith}
 use Rattle.std.specs.Prelude.{ℤ, pos, not, nat_eq, ◌||◌}
 use Rattle.std.specs.Str.{bytes_eq}
+use Rattle.std.proofs.lemmas.Bool.{not-false, or_parts}
+use Rattle.std.proofs.lemmas.Option.{same_Some}
 use Rattle.sp_base.specs.declared.place.Place.{Place}
 use Rattle.sp_base.specs.declared.rule.Rule.TheVariants as rule
 use Rattle.sp_tree.specs.declared.checked.KindOf.{KindOf}
@@ -34,10 +36,7 @@ use Rattle.sp_tree.specs.Bare.{bare_expression, bare_form, bare_variable, bare_s
 use Rattle.sp_facts.specs.Knows.{IsKind, AreFormals, Knows, HasIndices}
 use Rattle.sp_code.specs.Stands.{ValueAt, FormAt, PlaceAt, VarAt, VarRole, SelectedAt, ActualsAt, ReadAt, UnaryAt, Operands, NoIndex, IsTarget, CallAt, Around, AnyInstr, AnyTable, AnyText}
 use Rattle.sp_facts.specs.Scoped.{SeenIn, SeenRole, AimedExpression, CallIn, AroundIn, InExpression, InForm, InVariable, InSelectors, InActuals, InArguments}
-use Rattle.sp_facts.proofs.Calm.{calm_parts, calm_site, calm_at, calm_lesser, calm_if, calm_unless, calm_differ, nat_eq_is, not_true, or_false}
-
-pub some_is : {A : Type 0} (a b : A) → Some a ≡ Some b → a ≡ b
-some_is a b e = cc e
+use Rattle.sp_facts.proofs.Calm.{calm_parts, calm_site, calm_at, calm_lesser, calm_if, calm_unless, calm_differ, nat_eq_is}
 
 pub ordinal_sort : (o : Option KindOf) → is_ordinal o ≡ true → sort_by o ≡ Ordinals
 ordinal_sort None e = absurd (cc e)
@@ -209,7 +208,7 @@ module _ (p : Program) (m : ℕ) (moves shares : Stmt → List ℕ) (hush : ℕ 
     where
       go : (field_from (m + 1) name fs ≡ Some f → (j : ℕ) × (f.0 ≡ (m + 1) + j) × ((x : List ℕ) × (slice_get fs j ≡ Some (x, f.1)))) → (b : Bool) → (if b then Some (m, g.1) else field_from (m + 1) name fs) ≡ Some f
           → (j : ℕ) × (f.0 ≡ m + j) × ((x : List ℕ) × (slice_get (g ∷ fs) j ≡ Some (x, f.1)))
-      go next true e = let s = some_is (m, g.1) f e in (0, subst (λ (z : ℕ × ℕ). z.0 ≡ m + 0) s (let z : m ≡ m + 0 = omega arith in z), (g.0, subst (λ (z : ℕ × ℕ). Some g ≡ Some (g.0, z.1)) s refl))
+      go next true e = let s = same_Some (m, g.1) f e in (0, subst (λ (z : ℕ × ℕ). z.0 ≡ m + 0) s (let z : m ≡ m + 0 = omega arith in z), (g.0, subst (λ (z : ℕ × ℕ). Some g ≡ Some (g.0, z.1)) s refl))
       go next false e = let r = next e in (suc r.0, (let w = r.1 in omega (arith, w)), r.2)
 
   -- what a standard function gives
@@ -250,7 +249,7 @@ module _ (p : Program) (m : ℕ) (moves shares : Stmt → List ℕ) (hush : ℕ 
   quoted : (at : Place) (t : List ℕ) → text_rule at t ≡ None → FormIs (ordinal_kind (char_of t)) (plain.Number (number_or (pos 0) (char_of t)))
   quoted at [] e = absurd (cc e)
   quoted at (c ∷ []) e = (2, refl, (kind.Char, knows.char), λ q. (tt, ap sort_by knows.char))
-  quoted at (c ∷ d ∷ t) e = let w = nat_eq_is (suc (suc (length t))) 1 (not_true (nat_eq (suc (suc (length t))) 1) (calm_if rule.Y14 at (not (nat_eq (suc (suc (length t))) 1)) e)) in absurd (omega (arith, w))
+  quoted at (c ∷ d ∷ t) e = let w = nat_eq_is (suc (suc (length t))) 1 (not-false (nat_eq (suc (suc (length t))) 1) (calm_if rule.Y14 at (not (nat_eq (suc (suc (length t))) 1)) e)) in absurd (omega (arith, w))
 
   abbrev pub SelectsIs : ℕ → Option ℕ → plain.Selectors → Type 0
   SelectsIs k o ss = (k2 : ℕ) × (o ≡ Some k2) × IsKind p k2 × ((q : ℕ) → Selects q ss k k2)
@@ -261,9 +260,9 @@ module _ (p : Program) (m : ℕ) (moves shares : Stmt → List ℕ) (hush : ℕ 
   index_one at ia None i k ki oe ie ik calm = absurd (cc oe)
   index_one at ia (Some j) None k ki oe ie ik calm = absurd (cc ie)
   index_one at ia (Some j) (Some i) k ki oe ie (t, at_k) calm =
-      let jk = some_is j k oe in
+      let jk = same_Some j k oe in
       let ek : slice_get env.kinds j ≡ Some t = ap (slice_get env.kinds) jk ∙ kind_same k ∙ at_k in
-      go t (some_is i ki ie) at_k (subst (λ z. index_kind_rule at ia (Some i) z ≡ None) ek calm) (λ z e. subst (λ w. element_in (Some i) w ≡ z) (sym ek) e)
+      go t (same_Some i ki ie) at_k (subst (λ z. index_kind_rule at ia (Some i) z ≡ None) ek calm) (λ z e. subst (λ w. element_in (Some i) w ≡ z) (sym ek) e)
     where
       go : (t : KindOf) → i ≡ ki → slice_get p.kinds k ≡ Some t → index_of_rule at ia (Some i) t ≡ None → ((z : Option ℕ) → element_of (Some i) t ≡ z → element env (Some j) (Some i) ≡ z)
           → (low high : ℤ) × (el : ℕ) × (slice_get p.kinds k ≡ Some (kind.Array low high ki el)) × (element env (Some j) (Some i) ≡ Some el)
@@ -273,7 +272,7 @@ module _ (p : Program) (m : ℕ) (moves shares : Stmt → List ℕ) (hush : ℕ 
       go (kind.Enumeration m) e a c w = absurd (cc c)
       go (kind.Array low high index el) e a c w =
           let same = calm_if rule.Y2 ia (not (nat_eq index i)) c in
-          let ii = nat_eq_is index i (not_true (nat_eq index i) same) in
+          let ii = nat_eq_is index i (not-false (nat_eq index i) same) in
           (low, high, el, subst (λ z. slice_get p.kinds k ≡ Some (kind.Array low high z el)) (ii ∙ e) a, w (Some el) (ap (λ b. if b then None else Some el) same))
       go (kind.Fields fs) e a c w = absurd (cc c)
       go (kind.Channel ks) e a c w = absurd (cc c)
@@ -283,7 +282,7 @@ module _ (p : Program) (m : ℕ) (moves shares : Stmt → List ℕ) (hush : ℕ 
       → (fs : List (List ℕ × ℕ)) × (x : List ℕ) × (t : ℕ) × (slice_get p.kinds k ≡ Some (kind.Fields fs)) × (slice_get fs (numbered_field env o name) ≡ Some (x, t)) × (field env o name ≡ Some t)
   field_one at name None k oe ik calm = absurd (cc oe)
   field_one at name (Some j) k oe (t, at_k) calm =
-      let ek : slice_get env.kinds j ≡ Some t = ap (slice_get env.kinds) (some_is j k oe) ∙ kind_same k ∙ at_k in
+      let ek : slice_get env.kinds j ≡ Some t = ap (slice_get env.kinds) (same_Some j k oe) ∙ kind_same k ∙ at_k in
       go t at_k ek (subst (λ z. field_found at (field_in name z) ≡ None) ek calm)
     where
       found : (fs : List (List ℕ × ℕ)) → slice_get p.kinds k ≡ Some (kind.Fields fs) → slice_get env.kinds j ≡ Some (kind.Fields fs) → (r : Option (ℕ × ℕ)) → field_from 0 name fs ≡ r → field_found at r ≡ None
@@ -320,8 +319,8 @@ module _ (p : Program) (m : ℕ) (moves shares : Stmt → List ℕ) (hush : ℕ 
   argument_one x xs e rest v o vat oe (inr r) calm val ref more q =
       let known = (knows.variables x v vat (subst NoIndex (sym r) tt)).0 in
       let or : o ≡ Some role.Reference = oe ∙ ap Some r in
-      let rules = or_false (not (is_variable e)) (differ (variable_kind env x) (expression_kind env e)) (calm_if rule.Y7 (place e) (not (is_variable e) || differ (variable_kind env x) (expression_kind env e)) (subst (λ z. actual_rule z (place e) (is_variable e) (variable_kind env x) (expression_kind env e) ≡ None) or calm)) in
-      let w = ref r (not_true (is_variable e) rules.0) in
+      let rules = or_parts (not (is_variable e)) (differ (variable_kind env x) (expression_kind env e)) (calm_if rule.Y7 (place e) (not (is_variable e) || differ (variable_kind env x) (expression_kind env e)) (subst (λ z. actual_rule z (place e) (is_variable e) (variable_kind env x) (expression_kind env e) ≡ None) or calm)) in
+      let w = ref r (not-false (is_variable e) rules.0) in
       let same = calm_differ (variable_kind env x) (expression_kind env e) v.kind w.2 known w.3 rules.1 in
       subst (λ z. Passes q (bare_actuals (c.Pass (passed z (checked_expression env e)) rest)) (x ∷ xs)) (sym or)
       (subst (λ z. Passes q (bare_actuals (c.Pass z rest)) (x ∷ xs)) (sym w.1) (w.2, w.4 q, w.5, (v, vat, same, r), more (after_var q (bare_variable w.0))))

@@ -1,6 +1,7 @@
 -- The blocks of a tree that breaks no rule are fine.
 use Rattle.std.proofs.Common.{◌≡◌, refl, sym, subst, ℕ, zero, suc, ◌+◌, List, [], ◌∷◌, Option, Some, None, Bool, true, false, length, slice_get, arith}
 use Rattle.std.specs.Prelude.{map}
+use Rattle.std.proofs.lemmas.Option.{same_Some}
 use Rattle.sp_tree.specs.declared.checked.Variable as checked
 use Rattle.sp_tree.specs.NameFirst.{together, names_broken}
 use Rattle.sp_tree.specs.Found.{listed}
@@ -83,14 +84,11 @@ module _ (p : plain.Program) (m : ℕ) (moves shares : Stmt → List ℕ) (hush 
       first d e q = subst (λ (y : plain.Block). Quiet p m moves shares hush free (scopes_of p k) (In_stmt y.body) → Done p m moves shares hush free (scopes_of p k) y.body) e
           (λ q. (statement_fine p m moves shares hush (performs p m moves shares hush) free (started env z) (scopes_of p k) b.body (ready_at k env z knows) body_calm in_b typed_b q).1) q
 
-      some_is : (x y : plain.Block) → Some x ≡ Some y → x ≡ y
-      some_is x y e = cc e
-
       by : (i : ℕ) → slice_get (map bare_block (checked_blocks env (z ∷ starts) (b ∷ bs))) i ≡ Some c → Quiet p m moves shares hush free (scopes_of p (k + i)) (In_stmt c.body)
           → ((j : ℕ) → slice_get (map bare_block (checked_blocks (statement_after (started env z) b.body) starts bs)) j ≡ Some c → Quiet p m moves shares hush free (scopes_of p (suc k + j)) (In_stmt c.body) → Done p m moves shares hush free (scopes_of p (suc k + j)) c.body)
           → Done p m moves shares hush free (scopes_of p (k + i)) c.body
       by zero e q later = subst (λ y. Done p m moves shares hush free (scopes_of p y) c.body) (let y : k ≡ k + 0 = omega arith in y)
-          (first c (some_is (bare_block (checked_block (started env z) b)) c e) (subst (λ y. Quiet p m moves shares hush free (scopes_of p y) (In_stmt c.body)) (let y : k + 0 ≡ k = omega arith in y) q))
+          (first c (same_Some (bare_block (checked_block (started env z) b)) c e) (subst (λ y. Quiet p m moves shares hush free (scopes_of p y) (In_stmt c.body)) (let y : k + 0 ≡ k = omega arith in y) q))
       by (suc i) e q later = subst (λ y. Done p m moves shares hush free (scopes_of p y) c.body) (let y : suc k + i ≡ k + suc i = omega arith in y)
           (later i e (subst (λ y. Quiet p m moves shares hush free (scopes_of p y) (In_stmt c.body)) (let y : k + suc i ≡ suc k + i = omega arith in y) q))
 

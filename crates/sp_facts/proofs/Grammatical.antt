@@ -1,6 +1,7 @@
 -- What the grammar gives of the tree of a text: a record has a field, and a parallel statement has a process statement.
 use Rattle.std.proofs.Common.{◌≡◌, subst, ℕ, zero, suc, ◌≤◌, List, [], ◌∷◌, ◌++◌, Option, Some, None, Bool, true, false, if◌then◌else◌, length, slice_get, arith}
 use Rattle.std.specs.Prelude.{ℤ, pos, map}
+use Rattle.std.proofs.lemmas.Option.{same_Some}
 use Rattle.sp_tree.specs.declared.token.Token.{Token}
 use Rattle.sp_tree.specs.declared.meaning.Meaning.{Meaning}
 use Rattle.sp_tree.specs.declared.meaning.Meaning.TheVariants as meaning
@@ -132,9 +133,6 @@ module _ (text : List ℕ) where
 
 -- ---- types
 
-same : (a b : KindOf) → Some a ≡ Some b → a ≡ b
-same a b e = cc e
-
 array_no_fields : (low high low2 high2 : ℤ) (i e : ℕ) (fs : List (List ℕ × ℕ)) (z : Bool) → (if z then kind.Array low high i e else kind.Array low2 high2 i e) ≡ kind.Fields fs → ⊥
 array_no_fields low high low2 high2 i e fs true h = cc h
 array_no_fields low high low2 high2 i e fs false h = cc h
@@ -157,10 +155,10 @@ record_filled ns known (t ∷ ks) h k fs e = by t.form h.0 k e (λ k e. record_f
     by (form.Alias j) i k e more = more k e
     by (form.Enumeration m) i zero e more = absurd (cc e)
     by (form.Enumeration m) i (suc k) e more = more k e
-    by (form.Array a b el) i zero e more = absurd (array_no_fields (number_or (pos 1) (const_value known a)) (number_or (pos 0) (const_value known b)) (pos 1) (pos 0) (type_or 0 (const_value known a)) (type_number ns el) fs (are_bounds known a b) (same (array_of known a b (type_number ns el)) (kind.Fields fs) e))
+    by (form.Array a b el) i zero e more = absurd (array_no_fields (number_or (pos 1) (const_value known a)) (number_or (pos 0) (const_value known b)) (pos 1) (pos 0) (type_or 0 (const_value known a)) (type_number ns el) fs (are_bounds known a b) (same_Some (array_of known a b (type_number ns el)) (kind.Fields fs) e))
     by (form.Array a b el) i (suc k) e more = more k e
     by (form.Fields []) i k e more = absurd i
-    by (form.Fields (g ∷ gs)) i zero e more = filled (g.0, type_number ns g.1) (map (λ f. (f.0, type_number ns f.1)) gs) fs (same (kind.Fields (map (λ f. (f.0, type_number ns f.1)) (g ∷ gs))) (kind.Fields fs) e)
+    by (form.Fields (g ∷ gs)) i zero e more = filled (g.0, type_number ns g.1) (map (λ f. (f.0, type_number ns f.1)) gs) fs (same_Some (kind.Fields (map (λ f. (f.0, type_number ns f.1)) (g ∷ gs))) (kind.Fields fs) e)
     by (form.Fields (g ∷ gs)) i (suc k) e more = more k e
     by (form.Channel cs) i zero e more = absurd (cc e)
     by (form.Channel cs) i (suc k) e more = more k e

@@ -11,7 +11,8 @@ use Rattle.sp_tree.specs.NameWalk as w
 use Rattle.sp_tree.specs.NameWalk.{role_of}
 use Rattle.sp_tree.specs.PlainNamed as n
 use Rattle.sp_facts.proofs.Calm.{calm_parts}
-use Rattle.std.proofs.lemmas.List.{length-append}
+use Rattle.std.proofs.lemmas.List.{length-append, append-nil}
+use Rattle.std.proofs.lemmas.Bool.{eqb-true}
 use Rattle.sp_tree.specs.declared.checked.Variable as checked
 use Rattle.sp_tree.specs.Scopes.{Local, inside, opened, declared, most, variable, next_variable}
 use Rattle.sp_tree.specs.NameWalk.{statement_local, statements_local, other_local, arms_local, arm_local, branches_local, form_local, indexed, deeper}
@@ -96,16 +97,13 @@ blocks_join : (g : n.Block → List ℕ) (f k : ℕ) (xs ys : List n.Block) → 
 blocks_join g f k [] ys = ap (λ z. in_blocks g f z ys) (let z : k ≡ k + 0 = omega arith in z)
 blocks_join g f k (b ∷ xs) ys = go (k == f) refl (blocks_join g f (suc k) xs ys ∙ ap (λ z. in_blocks g f (suc k) xs ++ in_blocks g f z ys) (let z : suc k + length xs ≡ k + suc (length xs) = omega arith in z))
   where
-    same : (k f : ℕ) → (k == f) ≡ true → k ≡ f
-    same k f e = Prim.grind (arith, e)
-
     last : (xs : List ℕ) → xs ≡ xs ++ []
     last [] = refl
     last (x ∷ xs) = ap (λ z. x ∷ z) (last xs)
 
     go : (z : Bool) → (k == f) ≡ z → in_blocks g f (suc k) (xs ++ ys) ≡ in_blocks g f (suc k) xs ++ in_blocks g f (k + suc (length xs)) ys
         → (if z then g b else in_blocks g f (suc k) (xs ++ ys)) ≡ (if z then g b else in_blocks g f (suc k) xs) ++ in_blocks g f (k + suc (length xs)) ys
-    go true e h = let s = same k f e in last (g b) ∙ ap (λ z. g b ++ z) (sym (blocks_below g f (k + suc (length xs)) ys (omega (arith, s))))
+    go true e h = let s = eqb-true k f e in last (g b) ∙ ap (λ z. g b ++ z) (sym (blocks_below g f (k + suc (length xs)) ys (omega (arith, s))))
     go false e h = h
 
 pub formals_of_ : (env : Env) (b : ℕ) (fs : List SynFormal) → AllOf b (formals_named env b fs)
@@ -184,18 +182,11 @@ module _ (fits : Role → Bool) (no_local : fits role.Local ≡ false) (no_index
         let none = own_none fits f (k + length a + length b + length inner.variables) d (indices_fit fits no_index head.block body) in
         let mid : own fits f (k + length a + length b) inner.variables ≡ in_blocks g f (suc j) inner.blocks = subst (λ z. own fits f z inner.variables ≡ in_blocks g f (suc j) inner.blocks) (sym at_head) (subst (λ z. own fits f (next_variable head.counts) inner.variables ≡ in_blocks g f z inner.blocks) blocks_ inside_) in
         let i = inside_with in_ head parts body inner in
-        let tail : own fits f (k + length a + length b) (inner.variables ++ d) ≡ in_blocks g f (suc j) inner.blocks = own_join fits f (k + length a + length b) inner.variables d ∙ ap (λ z. own fits f (k + length a + length b) inner.variables ++ z) none ∙ nothing (own fits f (k + length a + length b) inner.variables) ∙ mid in
+        let tail : own fits f (k + length a + length b) (inner.variables ++ d) ≡ in_blocks g f (suc j) inner.blocks = own_join fits f (k + length a + length b) inner.variables d ∙ ap (λ z. own fits f (k + length a + length b) inner.variables ++ z) none ∙ append-nil (own fits f (k + length a + length b) inner.variables) ∙ mid in
         let same_length = same_formals env (inside [] l) j fs in
         let first = heading l x fs answer i (let z : next_variable formals.counts ≡ k + length (formals_named (inside [] l) j fs) = omega (arith, m1, m2, same_length) in z) env refl refl in
         split (j == f) refl k a b (inner.variables ++ d) (g (procedure_block env x fs answer i)) (in_blocks g f (suc j) inner.blocks) (each_join (λ (u : checked.Variable). u.block ≡ j) a b (formals_of_ env j fs) (answer_of_ env j x answer)) first tail (λ e. blocks_below g f (suc j) inner.blocks (omega (arith, e)))
       where
-        nothing : (xs : List ℕ) → xs ++ [] ≡ xs
-        nothing [] = refl
-        nothing (x ∷ xs) = ap (λ z. x ∷ z) (nothing xs)
-
-        same : (a b : ℕ) → (a == b) ≡ true → a ≡ b
-        same a b e = Prim.grind (arith, e)
-
         split : (z : Bool) → (next_block l.counts == f) ≡ z → (k : ℕ) (a b rest : List checked.Variable) (mine others_ : List ℕ) → AllOf (next_block l.counts) (a ++ b) → own fits (next_block l.counts) k (a ++ b) ≡ mine → own fits f (k + length a + length b) rest ≡ others_ → (next_block l.counts ≡ f → others_ ≡ [])
             → own fits f k (a ++ (b ++ rest)) ≡ (if z then mine else others_)
         split z e k a b rest mine others_ all first tail below =
@@ -207,5 +198,5 @@ module _ (fits : Role → Bool) (no_local : fits role.Local ≡ false) (no_index
             assoc (x ∷ xs) ys zs = ap (λ z. x ∷ z) (assoc xs ys zs)
 
             go : (z : Bool) → (next_block l.counts == f) ≡ z → own fits f k (a ++ b) ++ others_ ≡ (if z then mine else others_)
-            go true e = let s = same (next_block l.counts) f e in ap (λ z. own fits f k (a ++ b) ++ z) (below s) ∙ nothing (own fits f k (a ++ b)) ∙ subst (λ z. own fits z k (a ++ b) ≡ mine) s first
+            go true e = let s = eqb-true (next_block l.counts) f e in ap (λ z. own fits f k (a ++ b) ++ z) (below s) ∙ append-nil (own fits f k (a ++ b)) ∙ subst (λ z. own fits z k (a ++ b) ≡ mine) s first
             go false e = ap (λ z. z ++ others_) (own_other fits (next_block l.counts) f k (a ++ b) all e)

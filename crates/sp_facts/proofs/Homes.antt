@@ -2,6 +2,7 @@
 use Rattle.std.proofs.Common.{◌≡◌, ap, sym, ◌∙◌, subst, ℕ, zero, suc, ◌+◌, ◌≤◌, List, [], ◌∷◌, ◌++◌, Option, Some, None, Bool, true, false, length, slice_get, arith}
 use Rattle.std.specs.Prelude.{◌<◌}
 use Rattle.std.proofs.lemmas.List.{length-append}
+use Rattle.std.proofs.lemmas.Option.{same_Some}
 use Rattle.sp_tree.specs.declared.checked.Role.TheVariants as role
 use Rattle.sp_tree.specs.declared.checked.Variable as checked
 use Rattle.sp_tree.specs.declared.syntax.Name.{Name}
@@ -32,10 +33,7 @@ homed_join b us vs h k = each_join (λ (u : checked.Variable). (suc u.block ≤ 
 
 homed_at : (b : ℕ) (us : List checked.Variable) (x : ℕ) (u : checked.Variable) → AreHomed b us → slice_get us x ≡ Some u → (suc u.block ≤ b) × NoConsole u.role
 homed_at b [] x u h e = absurd (cc e)
-homed_at b (w ∷ us) zero u h e = subst (λ (z : checked.Variable). (suc z.block ≤ b) × NoConsole z.role) (same w u e) h.0
-  where
-    same : (a b : checked.Variable) → Some a ≡ Some b → a ≡ b
-    same a b e = cc e
+homed_at b (w ∷ us) zero u h e = subst (λ (z : checked.Variable). (suc z.block ≤ b) × NoConsole z.role) (same_Some w u e) h.0
 homed_at b (w ∷ us) (suc x) u h e = homed_at b us x u h.1 e
 
 -- so many blocks there are
@@ -107,14 +105,8 @@ module _ (s : syntax.Program) (calm : names_broken s ≡ []) where
 
   -- a variable of the tree with numbers for names
   role_home : (x : ℕ) (u : checked.Variable) → slice_get (named s calm).variables x ≡ Some u → (suc u.block ≤ suc (length inner_.blocks)) × (u.role ≡ role.Console → (u.block ≡ 0) × (suc x ≤ 2))
-  role_home zero u e = (subst (λ (z : checked.Variable). suc z.block ≤ suc (length inner_.blocks)) (same e) (omega arith), λ c. (ap (λ (z : checked.Variable). z.block) (sym (same e)), omega arith))
-    where
-      same : {a b : checked.Variable} → Some a ≡ Some b → a ≡ b
-      same e = cc e
-  role_home (suc zero) u e = (subst (λ (z : checked.Variable). suc z.block ≤ suc (length inner_.blocks)) (same e) (omega arith), λ c. (ap (λ (z : checked.Variable). z.block) (sym (same e)), omega arith))
-    where
-      same : {a b : checked.Variable} → Some a ≡ Some b → a ≡ b
-      same e = cc e
+  role_home zero u e = (subst (λ (z : checked.Variable). suc z.block ≤ suc (length inner_.blocks)) (same_Some _ _ e) (omega arith), λ c. (ap (λ (z : checked.Variable). z.block) (sym (same_Some _ _ e)), omega arith))
+  role_home (suc zero) u e = (subst (λ (z : checked.Variable). suc z.block ≤ suc (length inner_.blocks)) (same_Some _ _ e) (omega arith), λ c. (ap (λ (z : checked.Variable). z.block) (sym (same_Some _ _ e)), omega arith))
   role_home (suc (suc x)) u e = let h = homed_at (suc (length inner_.blocks)) (inner_.variables ++ indices 0 body_) x u rest_homed e in (h.0, λ c. absurd (subst NoConsole c h.1))
 
   block_there : (k : ℕ) (bs : List n.Block) (j : ℕ) → HoldsBlocks (tree s calm) (length (named s calm).constants) k bs → suc j ≤ length bs → (b : plain.Block) × (slice_get (tree s calm).blocks (k + j) ≡ Some b)
@@ -142,8 +134,5 @@ module _ (s : syntax.Program) (calm : names_broken s ≡ []) where
   pub program_block : (b : plain.Block) → slice_get (tree s calm).blocks 0 ≡ Some b → (b.parent ≡ None) × (b.formals ≡ []) × (b.answer ≡ None)
   program_block b at =
       let c = (held_blocks s calm).0 in
-      let e = same c.0 b (sym c.1 ∙ at) in
+      let e = same_Some c.0 b (sym c.1 ∙ at) in
       (ap (λ (z : plain.Block). z.parent) (sym e) ∙ c.2, ap (λ (z : plain.Block). z.formals) (sym e) ∙ c.3, ap (λ (z : plain.Block). z.answer) (sym e) ∙ c.4)
-    where
-      same : (x y : plain.Block) → Some x ≡ Some y → x ≡ y
-      same x y e = cc e

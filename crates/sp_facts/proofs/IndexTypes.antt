@@ -1,6 +1,9 @@
 -- The index of a forall has in the tree the type of its first limit: no other statement gives it one.
 use Rattle.std.proofs.Common.{◌≡◌, ◌⊎◌, inl, inr, refl, ap, sym, ◌∙◌, subst, ℕ, suc, ◌<◌, ◌≤◌, List, [], ◌∷◌, Option, Some, Bool, true, false, length, slice_get, slice_set, arith}
 use Rattle.std.specs.Prelude.{nat_le}
+use Rattle.std.proofs.lemmas.Bool.{leb-false, leb-true}
+use Rattle.std.proofs.lemmas.List.{length-set}
+use Rattle.std.proofs.lemmas.Option.{same_Some}
 use Rattle.sp_tree.specs.declared.checked.Role.TheVariants as role
 use Rattle.sp_tree.specs.Plain.{Program, Variable}
 use Rattle.sp_tree.specs.PlainNamed as n
@@ -13,7 +16,7 @@ use Rattle.sp_facts.specs.Knows.{IsTyped, IsTypedForm, AreTyped, AreTypedArms, A
 use Rattle.sp_code.specs.Stands.{NoIndex}
 use Rattle.sp_facts.specs.TypedBlocks.{AreBlocksTyped}
 use Rattle.sp_facts.specs.Numbered.{ends, ends_form, ends_all, ends_arms, ends_branches, IsNumbered, IsNumberedForm, AreNumbered, AreNumberedArms, AreNumberedBranches}
-use Rattle.sp_facts.proofs.Statements.{get_set, get_other, set_length}
+use Rattle.sp_facts.proofs.Statements.{get_set, get_other}
 use Rattle.sp_facts.proofs.Tree.{statement_length, statements_length}
 
 -- ---- the numbers of a statement are not before its first
@@ -144,7 +147,7 @@ module _ (p : Program) (last : List (Option ℕ)) (has : (x : ℕ) (v : Variable
               has x v (expression_kind env from) at (subst (λ z. slice_get last z ≡ Some (expression_kind env from)) (sym h.0)
               (a k (omega arith) (omega (arith, y)) ∙ stays (suc k) inner s k h.1 (inl (omega arith)) ∙ subst (λ z. slice_get (slice_set env.variables x (expression_kind env from)) z ≡ Some (expression_kind env from)) h.0 (get_set env.variables x (expression_kind env from) r2)))
               ∙ ap or_zero ke)),
-          typed (suc k) inner s (set_length env.variables x (expression_kind env from) ∙ l) h.1 (λ z m r. a z (omega (arith, m)) r),
+          typed (suc k) inner s (length-set env.variables x (expression_kind env from) ∙ l) h.1 (λ z m r. a z (omega (arith, m)) r),
         )
     form_typed k env (Assume e) l h a = tt
 
@@ -193,23 +196,14 @@ later_stays p k env (z ∷ starts) (b ∷ bs) y v at l ((lo, num, own), h) =
     dec : (lo e y : ℕ) → (lo ≤ y) × (suc y ≤ e) ⊎ Outside lo e y
     dec lo e y = go (nat_le lo y) (nat_le (suc y) e) refl refl
       where
-        yes : (a b : ℕ) → nat_le a b ≡ true → a ≤ b
-        yes a b e = Prim.grind (arith, e)
-
-        not_ : (a b : ℕ) → nat_le a b ≡ false → b < a
-        not_ a b e = Prim.grind (arith, e)
-
         go : (a b : Bool) → nat_le lo y ≡ a → nat_le (suc y) e ≡ b → (lo ≤ y) × (suc y ≤ e) ⊎ Outside lo e y
-        go true true x z = inl (yes lo y x, yes (suc y) e z)
-        go true false x z = let w = not_ (suc y) e z in inr (inr (omega (arith, w)))
-        go false b x z = inr (inl (not_ lo y x))
+        go true true x z = inl (leb-true lo y x, leb-true (suc y) e z)
+        go true false x z = let w = leb-false (suc y) e z in inr (inr (omega (arith, w)))
+        go false b x z = inr (inl (leb-false lo y x))
 
     where_is : (lo ≤ y) × (suc y ≤ ends lo b.body) ⊎ Outside lo (ends lo b.body) y → Outside lo (ends lo b.body) y
     where_is (inr o) = o
-    where_is (inl i) = let u = own y i.0 i.1 in let s = ap (λ (w : Variable). w.block) (some_is v u.0 (sym at ∙ u.1)) ∙ u.2 in absurd (omega (arith, l, s))
-      where
-        some_is : (a b : Variable) → Some a ≡ Some b → a ≡ b
-        some_is a b e = cc e
+    where_is (inl i) = let u = own y i.0 i.1 in let s = ap (λ (w : Variable). w.block) (same_Some v u.0 (sym at ∙ u.1)) ∙ u.2 in absurd (omega (arith, l, s))
 
 -- a variable that is no index keeps its type
 pub others_stay : (p : Program) (k : ℕ) (env : Env) (starts : List ℕ) (bs : List n.Block) (y : ℕ) (v : Variable) → slice_get p.variables y ≡ Some v → NoIndex v.role → AreSpans p k bs → Same y env (blocks_after env starts bs)
@@ -222,23 +216,14 @@ others_stay p k env (z ∷ starts) (b ∷ bs) y v at l ((lo, num, own), h) =
     dec : (lo e y : ℕ) → (lo ≤ y) × (suc y ≤ e) ⊎ Outside lo e y
     dec lo e y = go (nat_le lo y) (nat_le (suc y) e) refl refl
       where
-        yes : (a b : ℕ) → nat_le a b ≡ true → a ≤ b
-        yes a b e = Prim.grind (arith, e)
-
-        not_ : (a b : ℕ) → nat_le a b ≡ false → b < a
-        not_ a b e = Prim.grind (arith, e)
-
         go : (a b : Bool) → nat_le lo y ≡ a → nat_le (suc y) e ≡ b → (lo ≤ y) × (suc y ≤ e) ⊎ Outside lo e y
-        go true true x z = inl (yes lo y x, yes (suc y) e z)
-        go true false x z = let w = not_ (suc y) e z in inr (inr (omega (arith, w)))
-        go false b x z = inr (inl (not_ lo y x))
+        go true true x z = inl (leb-true lo y x, leb-true (suc y) e z)
+        go true false x z = let w = leb-false (suc y) e z in inr (inr (omega (arith, w)))
+        go false b x z = inr (inl (leb-false lo y x))
 
     where_is : (lo ≤ y) × (suc y ≤ ends lo b.body) ⊎ Outside lo (ends lo b.body) y → Outside lo (ends lo b.body) y
     where_is (inr o) = o
-    where_is (inl i) = let u = own y i.0 i.1 in absurd (subst NoIndex (ap (λ (w : Variable). w.role) (some_is v u.0 (sym at ∙ u.1)) ∙ u.3) l)
-      where
-        some_is : (a b : Variable) → Some a ≡ Some b → a ≡ b
-        some_is a b e = cc e
+    where_is (inl i) = let u = own y i.0 i.1 in absurd (subst NoIndex (ap (λ (w : Variable). w.role) (same_Some v u.0 (sym at ∙ u.1)) ∙ u.3) l)
 
 module _ (p : Program) (last : List (Option ℕ)) (has : (x : ℕ) (v : Variable) (o : Option ℕ) → slice_get p.variables x ≡ Some v → slice_get last x ≡ Some o → v.kind ≡ or_zero o) (n_ : ℕ) (room : (x : ℕ) (v : Variable) → slice_get p.variables x ≡ Some v → suc x ≤ n_) where
   pub blocks_typed : (k : ℕ) (env : Env) (starts : List ℕ) (bs : List n.Block) → length env.variables ≡ n_ → AreSpans p k bs → last ≡ (blocks_after env starts bs).variables → AreBlocksTyped p env starts bs

@@ -1,6 +1,7 @@
 -- Where no rule of names is broken, each name in a statement is of a visible declaration.
 use Rattle.std.proofs.Common.{◌≡◌, ◌⊎◌, inl, inr, refl, ap, sym, ◌∙◌, subst, ℕ, suc, ◌+◌, List, [], ◌∷◌, ◌++◌, Option, Some, None, Bool, true, false, if◌then◌else◌, length, slice_get, arith}
 use Rattle.std.specs.Prelude.{not, nat_eq}
+use Rattle.std.proofs.lemmas.Bool.{not-false}
 use Rattle.sp_base.specs.declared.rule.Rule.TheVariants as rule
 use Rattle.sp_tree.specs.declared.checked.Role.{Role}
 use Rattle.sp_tree.specs.declared.checked.Role.TheVariants as role
@@ -24,7 +25,7 @@ use Rattle.sp_code.specs.Scopes.{Scope, OfBlock, OfIndex, is_block, level, scope
 use Rattle.sp_code.specs.Stands.{NoIndex}
 use Rattle.sp_facts.specs.Scoped.{SeenIn, SeenRole, AimedIn}
 use Rattle.sp_facts.specs.Visible.{IsScope, IsAround, IsValid, AreValid, AllValid, IsVisible, IsChain}
-use Rattle.sp_facts.proofs.Calm.{calm_parts, calm_site, calm_lesser, calm_if, nat_eq_is, not_true}
+use Rattle.sp_facts.proofs.Calm.{calm_parts, calm_site, calm_lesser, calm_if, nat_eq_is}
 use Rattle.sp_tree.specs.declared.checked.Variable as checked
 use Rattle.sp_tree.specs.declared.meaning.StandardProcedure.{StandardProcedure}
 use Rattle.sp_tree.specs.declared.meaning.StandardProcedure.TheVariants as procedure
@@ -162,7 +163,7 @@ module _ (p : plain.Program) (m : ℕ) where
     assign_in sc around l h x false (Some (meaning.StandardProcedure g)) f e = absurd (cc e)
     assign_in sc around l h x false (Some (meaning.Function b fs)) f e = absurd (cc e)
     assign_in sc around l h x true (Some (meaning.Function b fs)) (k, is, (y, ans)) e =
-        let own : b ≡ block = nat_eq_is b l.block (not_true (nat_eq b l.block) (calm_if rule.N7 x.at (not (nat_eq b l.block)) e)) ∙ h.own in
+        let own : b ≡ block = nat_eq_is b l.block (not-false (nat_eq b l.block) (calm_if rule.N7 x.at (not (nat_eq b l.block)) e)) ∙ h.own in
         let at = subst (λ z. slice_get p.blocks z ≡ Some k) own is.0 in
         let same = h.answer k y at ans in
         let r = results block k y at ans in
@@ -173,7 +174,7 @@ module _ (p : plain.Program) (m : ℕ) where
     loop_in : (sc : List Scope) (around : List names.Scope) (l : Local) → IsPlace sc block around l → (x : Name) (o : Option Meaning) → IsFound p m sc o → loop_rule l.block x.at o ≡ None → ForIn p m sc (variable_number o)
     loop_in sc around l h x o f e =
         let two = calm_lesser (target_rule x.at o) (breaks_if rule.N8 x.at (not (is_local l.block o))) e in
-        go o f (not_true (is_local l.block o) (calm_if rule.N8 x.at (not (is_local l.block o)) two.1))
+        go o f (not-false (is_local l.block o) (calm_if rule.N8 x.at (not (is_local l.block o)) two.1))
       where
         local : (y b : ℕ) → IsValid p m sc (meaning.Variable y b role.Local) → nat_eq b l.block ≡ true → ForIn p m sc y
         local y b (v, at, vr, vb, around_) t =
@@ -249,10 +250,10 @@ module _ (p : plain.Program) (m : ℕ) where
           go (Some (meaning.Function b fs)) h e c = absurd (cc e)
           go (Some (meaning.StandardFunction g)) h e c = absurd (cc e)
           go (Some (meaning.Procedure g fs)) (b, is, none) e c =
-              let l = nat_eq_is (length fs) (w.count args) (not_true (nat_eq (length fs) (w.count args)) (calm_if rule.N6 f.at (not (nat_eq (length fs) (w.count args))) e)) in
+              let l = nat_eq_is (length fs) (w.count args) (not-false (nat_eq (length fs) (w.count args)) (calm_if rule.N6 f.at (not (nat_eq (length fs) (w.count args))) e)) in
               (b, called p m steps sc chain g fs b is, none, actuals_in p m steps sc chain env visible fs b.formals passing.Value args is.1 l c)
           go (Some (meaning.StandardProcedure g)) h e c = (
-            subst (λ z. procedure_takes g z ≡ true) (sym (counts p m steps sc chain env visible args)) (not_true (procedure_takes g (w.count args)) (calm_if rule.N6 f.at (not (procedure_takes g (w.count args))) e)),
+            subst (λ z. procedure_takes g z ≡ true) (sym (counts p m steps sc chain env visible args)) (not-false (procedure_takes g (w.count args)) (calm_if rule.N6 f.at (not (procedure_takes g (w.count args))) e)),
             aims_in g c,
             arguments_in p m steps sc chain env visible (references_of (Some (meaning.StandardProcedure g))) (rest_of (Some (meaning.StandardProcedure g))) args c,
           )

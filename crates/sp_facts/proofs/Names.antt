@@ -2,6 +2,8 @@
 use Rattle.std.proofs.Common.{◌≡◌, ◌⊎◌, inl, inr, refl, ap, sym, ◌∙◌, subst, ℕ, suc, ◌==◌, List, [], ◌∷◌, Option, Some, None, Bool, true, false, if◌then◌else◌, length, slice_get, arith, eq-eqb}
 use Rattle.std.specs.Prelude.{not, nat_eq, ◌&&◌, drop}
 use Rattle.std.specs.Str.{bytes_eq}
+use Rattle.std.proofs.lemmas.Bool.{not-false, true≢false}
+use Rattle.std.proofs.lemmas.Option.{same_Some}
 use Rattle.sp_base.specs.declared.place.Place.{Place}
 use Rattle.sp_base.specs.declared.rule.Rule.TheVariants as rule
 use Rattle.sp_tree.specs.declared.checked.Role.{Role}
@@ -26,7 +28,7 @@ use Rattle.sp_types.specs.TypeWalk.{count, is_variable}
 use Rattle.sp_code.specs.Stands.{NoIndex}
 use Rattle.sp_facts.specs.Scoped.{SeenIn, SeenRole, AimedIn, AimedExpression, CallIn, AroundIn, InExpression, InForm, InSelectors, InActuals, InArguments, InWidth}
 use Rattle.sp_facts.specs.Visible.{IsScope, AreFlags, IsAround, IsBlockIn, IsValid, AreValid, AllValid, IsVisible, IsChain}
-use Rattle.sp_facts.proofs.Calm.{calm_parts, calm_site, calm_at, calm_if, nat_eq_is, not_true}
+use Rattle.sp_facts.proofs.Calm.{calm_parts, calm_site, calm_at, calm_if, nat_eq_is}
 
 -- ---- scopes of the code
 
@@ -62,11 +64,8 @@ module _ (p : plain.Program) (m : ℕ) where
       go : (z : Bool) → (b == d) ≡ z → (IsScope (OfBlock b) sc → (up : ℕ) × (level (is_block b) sc ≡ Some up) × (drop up sc ≡ scopes_of p b)) → (OfBlock b ≡ OfBlock d) ⊎ IsScope (OfBlock b) sc
           → (up : ℕ) × (level (is_block b) (OfBlock d ∷ sc) ≡ Some up) × (drop up (OfBlock d ∷ sc) ≡ scopes_of p b)
       go true t next h = (0, ap (λ (z : Bool). if z then Some 0 else one_more (level (is_block b) sc)) t, sym e ∙ ap (scopes_of p) (sym (same t)))
-      go false t next (inl x) = absurd (no (sym (eq-eqb b d (block_is b d x)) ∙ t))
+      go false t next (inl x) = absurd (true≢false (sym (eq-eqb b d (block_is b d x)) ∙ t))
         where
-          no : true ≡ false → ⊥
-          no e = cc e
-
           block_is : (b d : ℕ) → OfBlock b ≡ OfBlock d → b ≡ d
           block_is b d e = cc e
       go false t next (inr h) = let r = next h in (suc r.0, ap (λ (z : Bool). if z then Some 0 else one_more (level (is_block b) sc)) t ∙ ap one_more r.1, r.2)
@@ -144,7 +143,7 @@ module _ (p : plain.Program) (m : ℕ) where
       operand_in x true (Some (meaning.StandardProcedure b)) ss f e h = absurd (cc e)
       operand_in x false (Some (meaning.StandardProcedure b)) ss f e h = absurd (cc e)
       operand_in x true (Some (meaning.Function g fs)) ss (b, is, ans) e h =
-          let none = nat_eq_is (length fs) 0 (not_true (nat_eq (length fs) 0) (calm_if rule.N6 x.at (not (nat_eq (length fs) 0)) e)) in
+          let none = nat_eq_is (length fs) 0 (not-false (nat_eq (length fs) 0) (calm_if rule.N6 x.at (not (nat_eq (length fs) 0)) e)) in
           (b, called g fs b is, ans, go fs b.formals none is.1)
         where
           go : (fs : List Bool) (xs : List ℕ) → length fs ≡ 0 → AreFlags p m fs xs → InActuals p m sc xs n.NoArgument
@@ -152,7 +151,7 @@ module _ (p : plain.Program) (m : ℕ) where
           go [] (y ∷ ys) l a = a
           go (g ∷ fs) xs l a = absurd (omega (arith, l))
       operand_in x false (Some (meaning.Function g fs)) ss f e h = absurd (cc e)
-      operand_in x true (Some (meaning.StandardFunction g)) ss f e h = (not_true (function_takes g 0) (calm_if rule.N6 x.at (not (function_takes g 0)) e), tt)
+      operand_in x true (Some (meaning.StandardFunction g)) ss f e h = (not-false (function_takes g 0) (calm_if rule.N6 x.at (not (function_takes g 0)) e), tt)
       operand_in x false (Some (meaning.StandardFunction g)) ss f e h = absurd (cc e)
 
       pub target_in : (x : Name) (o : Option Meaning) (ss : n.Selectors) → IsFound sc o → target_rule x.at o ≡ None → SeenIn p m sc (variable_number o) × AimedIn p m (variable_number o) × (operand_named o x ss ≡ n.Read (n.Entire (variable_number o) x.at ss))
@@ -211,8 +210,8 @@ module _ (p : plain.Program) (m : ℕ) where
       function_in g (Some (meaning.Variable y b r)) k args f c e a h = absurd (cc e)
       function_in g (Some (meaning.Procedure b fs)) k args f c e a h = absurd (cc e)
       function_in g (Some (meaning.StandardProcedure s)) k args f c e a h = absurd (cc e)
-      function_in g (Some (meaning.Function j fs)) k args (b, is, ans) c e a h = (b, called j fs b is, ans, h fs b.formals refl (nat_eq_is (length fs) k (not_true (nat_eq (length fs) k) (calm_if rule.N6 g.at (not (nat_eq (length fs) k)) e))) is.1)
-      function_in g (Some (meaning.StandardFunction s)) k args f c e a h = (subst (λ z. function_takes s z ≡ true) (sym c) (not_true (function_takes s k) (calm_if rule.N6 g.at (not (function_takes s k)) e)), a)
+      function_in g (Some (meaning.Function j fs)) k args (b, is, ans) c e a h = (b, called j fs b is, ans, h fs b.formals refl (nat_eq_is (length fs) k (not-false (nat_eq (length fs) k) (calm_if rule.N6 g.at (not (nat_eq (length fs) k)) e))) is.1)
+      function_in g (Some (meaning.StandardFunction s)) k args f c e a h = (subst (λ z. function_takes s z ≡ true) (sym c) (not-false (function_takes s k) (calm_if rule.N6 g.at (not (function_takes s k)) e)), a)
 
       call_is_none : (at : Place) (f : Name) (o : Option Meaning) (args : n.Arguments) → is_variable (n.At at (function_named o f args)) ≡ true → AimedExpression p m (n.At at (function_named o f args))
       call_is_none at f None args i = tt
@@ -226,13 +225,10 @@ module _ (p : plain.Program) (m : ℕ) where
 
       aims_reference : (f : Bool) (fs : List Bool) (rest : Passing) (x : ℕ) → (v : plain.Variable) × (slice_get p.variables x ≡ Some v) × (v.role ≡ role_of f) → (v : plain.Variable) → slice_get p.variables x ≡ Some v → v.role ≡ role.Reference → aims (next_passing (f ∷ fs) rest) ≡ true
       aims_reference true fs rest x flag v at is = refl
-      aims_reference false fs rest x (u, uat, ur) v at is = absurd (no (sym ur ∙ ap (λ (z : plain.Variable). z.role) (some_is u v (sym uat ∙ at)) ∙ is))
+      aims_reference false fs rest x (u, uat, ur) v at is = absurd (no (sym ur ∙ ap (λ (z : plain.Variable). z.role) (same_Some u v (sym uat ∙ at)) ∙ is))
         where
           no : role.Value ≡ role.Reference → ⊥
           no e = cc e
-
-          some_is : (a b : plain.Variable) → Some a ≡ Some b → a ≡ b
-          some_is a b e = cc e
 
       mutual
         pub expression_in : (e : Expression) → w.expression_sites [] together all_at env e ≡ [] → InExpression p m sc (named_expression env e)

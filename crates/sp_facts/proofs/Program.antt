@@ -1,6 +1,9 @@
 -- What the phase of names gives of a program that breaks no rule of names.
 use Rattle.std.proofs.Common.{◌≡◌, inl, refl, ap, sym, ◌∙◌, subst, ℕ, zero, suc, ◌+◌, ◌≤◌, ◌==◌, List, [], ◌∷◌, ◌++◌, Option, Some, None, Bool, true, false, if◌then◌else◌, length, slice_get, arith, eq-eqb}
 use Rattle.std.specs.Prelude.{◌&&◌}
+use Rattle.std.proofs.lemmas.Bool.{eqb-true}
+use Rattle.std.proofs.lemmas.List.{append-nil}
+use Rattle.std.proofs.lemmas.Option.{none-some, same_Some}
 use Rattle.sp_tree.specs.declared.checked.Role.{Role}
 use Rattle.sp_tree.specs.declared.checked.Role.TheVariants as role
 use Rattle.sp_tree.specs.declared.syntax.Name.{Name}
@@ -51,10 +54,6 @@ Heading fits g = (l : Local) (x : Name) (fs : List SynFormal) (answer : Option N
     → (env : Env) → env.local ≡ l → i.answer ≡ (heading_local l x fs answer).answer
     → own fits (next_block l.counts) (next_variable l.counts) (formals_named env (next_block l.counts) fs ++ answer_named env (next_block l.counts) x answer) ≡ g (procedure_block env x fs answer i)
 
-nothing : (xs : List ℕ) → xs ++ [] ≡ xs
-nothing [] = refl
-nothing (x ∷ xs) = ap (λ z. x ∷ z) (nothing xs)
-
 parameters_heading : Heading is_parameter (λ (b : n.Block). b.formals)
 parameters_heading l x fs answer i at env e ie =
     let f = next_block l.counts in
@@ -62,7 +61,7 @@ parameters_heading l x fs answer i at env e ie =
     let a = formals_named env f fs in
     let b = answer_named env f x answer in
     own_join is_parameter f k a b ∙ ap (λ z. z ++ own is_parameter f (k + length a) b) (own_all is_parameter f k a (formals_of_ env f fs) (formals_fit is_parameter true is_formal env f fs))
-    ∙ ap (λ z. numbers k a ++ z) (own_none is_parameter f (k + length a) b (answer_fit is_parameter false refl env f x answer)) ∙ nothing (numbers k a)
+    ∙ ap (λ z. numbers k a ++ z) (own_none is_parameter f (k + length a) b (answer_fit is_parameter false refl env f x answer)) ∙ append-nil (numbers k a)
     ∙ ap (λ (z : Local). numbers (next_variable z.counts) (formals_named env (next_block z.counts) fs)) (sym e)
   where
     is_formal : (r : Bool) → is_parameter (role_of r) ≡ true
@@ -90,10 +89,7 @@ results_heading l x fs answer i at env e ie =
 
 in_blocks_at : (g : n.Block → List ℕ) (k f : ℕ) (bs : List n.Block) (b : n.Block) → slice_get bs f ≡ Some b → in_blocks g (k + f) k bs ≡ g b
 in_blocks_at g k f [] b e = absurd (cc e)
-in_blocks_at g k zero (c ∷ bs) b e = ap (λ (z : Bool). if z then g c else in_blocks g (k + 0) (suc k) bs) (eq-eqb k (k + 0) (omega arith)) ∙ ap g (some_is c b e)
-  where
-    some_is : (a b : n.Block) → Some a ≡ Some b → a ≡ b
-    some_is a b e = cc e
+in_blocks_at g k zero (c ∷ bs) b e = ap (λ (z : Bool). if z then g c else in_blocks g (k + 0) (suc k) bs) (eq-eqb k (k + 0) (omega arith)) ∙ ap g (same_Some c b e)
 in_blocks_at g k (suc f) (c ∷ bs) b e = ap (λ (z : Bool). if z then g c else in_blocks g (k + suc f) (suc k) bs) (other k f) ∙ ap (λ z. in_blocks g z (suc k) bs) (let z : k + suc f ≡ suc k + f = omega arith in z) ∙ in_blocks_at g (suc k) f bs b e
   where
     other : (k f : ℕ) → (k == (k + suc f)) ≡ false
@@ -104,16 +100,13 @@ own_member : (fits : Role → Bool) (f k x : ℕ) (us : List checked.Variable) (
 own_member fits f k x [] rest e = absurd (cc e)
 own_member fits f k x (u ∷ us) rest e = go (u.block == f) (fits u.role) refl refl e (λ e. own_member fits f (suc k) x us rest e)
   where
-    same : (a b : ℕ) → (a == b) ≡ true → a ≡ b
-    same a b e = Prim.grind (arith, e)
-
     first : (a b : ℕ) (xs ys : List ℕ) → a ∷ xs ≡ b ∷ ys → a ≡ b
     first a b xs ys e = cc e
 
     go : (b r : Bool) → (u.block == f) ≡ b → fits u.role ≡ r → (if b && r then k ∷ own fits f (suc k) us else own fits f (suc k) us) ≡ x ∷ rest
         → (own fits f (suc k) us ≡ x ∷ rest → (j : ℕ) × (u : checked.Variable) × (x ≡ suc k + j) × (slice_get us j ≡ Some u) × (fits u.role ≡ true) × (u.block ≡ f))
         → (j : ℕ) × (v : checked.Variable) × (x ≡ k + j) × (slice_get (u ∷ us) j ≡ Some v) × (fits v.role ≡ true) × (v.block ≡ f)
-    go true true be re e next = (0, u, (let z = first k x (own fits f (suc k) us) rest e in omega (arith, z)), refl, re, same u.block f be)
+    go true true be re e next = (0, u, (let z = first k x (own fits f (suc k) us) rest e in omega (arith, z)), refl, re, eqb-true u.block f be)
     go true false be re e next = let r = next e in (suc r.0, r.1, (let z = r.2 in omega (arith, z)), r.3, r.4, r.5)
     go false s be re e next = let r = next e in (suc r.0, r.1, (let z = r.2 in omega (arith, z)), r.3, r.4, r.5)
 
@@ -153,10 +146,7 @@ module _ (s : syntax.Program) (calm : names_broken s ≡ []) where
   -- ---- parents
 
   below_all : AreBelow 0 named.blocks
-  below_all = ((λ q e. absurd (no q e)), parts_below std empty parts_ calm_two.0 (omega arith))
-    where
-      no : (q : ℕ) → None ≡ Some q → ⊥
-      no q e = cc e
+  below_all = ((λ q e. absurd (none-some q e)), parts_below std empty parts_ calm_two.0 (omega arith))
 
   pub parents : (f q : ℕ) (b : plain.Block) → slice_get tree.blocks f ≡ Some b → b.parent ≡ Some q → suc q ≤ f
   parents f q b at e =
@@ -168,7 +158,7 @@ module _ (s : syntax.Program) (calm : names_broken s ≡ []) where
 
   program_own : (fits : Role → Bool) → fits role.Console ≡ false → fits role.Local ≡ false → fits role.Index ≡ false → (g : n.Block → List ℕ) → Heading fits g → g (program_block s.name (inside_named std empty parts_ body_).body) ≡ [] → (f : ℕ) → own fits f 0 named.variables ≡ in_blocks g f 0 named.blocks
   program_own fits nc nl ni g heading none f =
-      console 0 (if (0 == f) && fits role.Console then 1 ∷ own fits f 2 (inner_.variables ++ indices 0 body_) else own fits f 2 (inner_.variables ++ indices 0 body_)) (0 == f) ∙ console 1 (own fits f 2 (inner_.variables ++ indices 0 body_)) (0 == f) ∙ own_join fits f 2 inner_.variables (indices 0 body_) ∙ ap (λ z. own fits f 2 inner_.variables ++ z) (own_none fits f (2 + length inner_.variables) (indices 0 body_) (indices_fit fits ni 0 body_)) ∙ nothing (own fits f 2 inner_.variables)
+      console 0 (if (0 == f) && fits role.Console then 1 ∷ own fits f 2 (inner_.variables ++ indices 0 body_) else own fits f 2 (inner_.variables ++ indices 0 body_)) (0 == f) ∙ console 1 (own fits f 2 (inner_.variables ++ indices 0 body_)) (0 == f) ∙ own_join fits f 2 inner_.variables (indices 0 body_) ∙ ap (λ z. own fits f 2 inner_.variables ++ z) (own_none fits f (2 + length inner_.variables) (indices 0 body_) (indices_fit fits ni 0 body_)) ∙ append-nil (own fits f 2 inner_.variables)
       ∙ parts_own fits nl ni g heading f std empty parts_ calm_two.0 ∙ sym (go (0 == f) refl)
     where
       console : (k : ℕ) (rest : List ℕ) (b : Bool) → (if b && fits role.Console then k ∷ rest else rest) ≡ rest
@@ -201,10 +191,7 @@ module _ (s : syntax.Program) (calm : names_broken s ≡ []) where
 
   held_at : (k : ℕ) (us : List checked.Variable) (j : ℕ) (u : checked.Variable) → Holds tree m k us → slice_get us j ≡ Some u → (v : plain.Variable) × (slice_get tree.variables (k + j) ≡ Some v) × (v.role ≡ u.role) × (v.block ≡ u.block)
   held_at k [] j u h e = absurd (cc e)
-  held_at k (w ∷ us) zero u h e = let s = some_is w u e in (h.0.0, subst (λ z. slice_get tree.variables z ≡ Some h.0.0) (let z : k ≡ k + 0 = omega arith in z) h.0.1, h.0.2 ∙ ap (λ (z : checked.Variable). z.role) s, h.0.3 ∙ ap (λ (z : checked.Variable). z.block) s)
-    where
-      some_is : (a b : checked.Variable) → Some a ≡ Some b → a ≡ b
-      some_is a b e = cc e
+  held_at k (w ∷ us) zero u h e = let s = same_Some w u e in (h.0.0, subst (λ z. slice_get tree.variables z ≡ Some h.0.0) (let z : k ≡ k + 0 = omega arith in z) h.0.1, h.0.2 ∙ ap (λ (z : checked.Variable). z.role) s, h.0.3 ∙ ap (λ (z : checked.Variable). z.block) s)
   held_at k (w ∷ us) (suc j) u h e = let r = held_at (suc k) us j u h.1 e in (r.0, subst (λ z. slice_get tree.variables z ≡ Some r.0) (let z : suc k + j ≡ k + suc j = omega arith in z) r.1, r.2, r.3)
 
   pub results : (f : ℕ) (b : plain.Block) (x : ℕ) → slice_get tree.blocks f ≡ Some b → b.answer ≡ Some x → (v : plain.Variable) × (slice_get tree.variables x ≡ Some v) × (v.role ≡ role.Answer) × (v.block ≡ f)

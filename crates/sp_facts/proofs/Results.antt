@@ -1,5 +1,6 @@
 -- The result of a function is of an ordinal type.
 use Rattle.std.proofs.Common.{◌≡◌, refl, ap, sym, ◌∙◌, subst, ℕ, zero, suc, ◌+◌, List, [], ◌∷◌, Option, Some, None, true, length, slice_get, arith}
+use Rattle.std.proofs.lemmas.Option.{same_Some}
 use Rattle.sp_base.specs.declared.rule.Rule.TheVariants as rule
 use Rattle.sp_tree.specs.declared.checked.Variable as checked
 use Rattle.sp_tree.specs.declared.named.NamedAnswer.{NamedAnswer}
@@ -71,12 +72,9 @@ answers_ordinal p numbers cells variables k env (z ∷ starts) (c ∷ bs) same l
     let two = calm_parts (w.block_sites [] together listed numbers cells variables k (started env z) c) (w.blocks_sites [] together listed numbers cells variables (k + 1) (statement_after (started env z) c.body) starts bs) calm in
     let one = calm_parts (listed (frame_rule c.at (frame_cells numbers cells k variables))) (together (w.answer_sites [] together listed (started env z) c.answer) (w.statement_sites [] together listed (started env z) c.body)) two.0 in
     let mine = (calm_parts (w.answer_sites [] together listed (started env z) c.answer) (w.statement_sites [] together listed (started env z) c.body) one.1).0 in
-    let is : c.answer ≡ Some a = ap (λ (y : n.Block). y.answer) (same_block c b e) ∙ ans in
+    let is : c.answer ≡ Some a = ap (λ (y : n.Block). y.answer) (same_Some c b e) ∙ ans in
     let rule_ = calm_site (answer_rule (started env z) a.at (variable_kind (started env z) a.variable)) (subst (λ y. w.answer_sites [] together listed (started env z) y ≡ []) is mine) in
     subst (λ ks. is_ordinal (slice_get ks v.kind) ≡ true) same (calm_unless rule.Y14 a.at (ordinal (started env z)) (variable_kind (started env z) a.variable) v.kind known rule_)
-  where
-    same_block : (x y : n.Block) → Some x ≡ Some y → x ≡ y
-    same_block x y e = cc e
 answers_ordinal p numbers cells variables k env (z ∷ starts) (c ∷ bs) same len (span, spans) calm (suc i) b a v e ans at d known =
     let next = statement_after (started env z) c.body in
     let two = calm_parts (w.block_sites [] together listed numbers cells variables k (started env z) c) (w.blocks_sites [] together listed numbers cells variables (k + 1) next starts bs) calm in
@@ -93,7 +91,7 @@ program_answers s calm no_types f b x v at ans vat =
     let r = block_from (env_of n_) (starts_of n_.blocks) n_.blocks f b at in
     let a = answer_from r.0.answer x (sym r.4 ∙ ans) in
     let w_ = results s calm f b x at ans in
-    let d = subst NoIndex (sym (ap (λ (z : plain.Variable). z.role) (same v w_.0 (sym vat ∙ w_.1)) ∙ w_.2)) tt in
+    let d = subst NoIndex (sym (ap (λ (z : plain.Variable). z.role) (same_Some v w_.0 (sym vat ∙ w_.1)) ∙ w_.2)) tt in
     let known = variable_is_of s calm x v vat d in
     let rest = w.blocks_sites [] together listed (numbers_of n_) (sizes (env_of n_).kinds) n_.variables 0 (env_of n_) (starts_of n_.blocks) n_.blocks in
     let cells = w.cells_sites [] together listed (w.places_of n_.kinds) (sizes (env_of n_).kinds) in
@@ -102,9 +100,6 @@ program_answers s calm no_types f b x v at ans vat =
     answers_ordinal p_ (numbers_of n_) (sizes (env_of n_).kinds) n_.variables 0 (env_of n_) (starts_of n_.blocks) n_.blocks refl (starts_length n_.blocks) (spans s calm) blocks_calm f r.0 a.0 v r.1 a.1
     (subst (λ z. slice_get p_.variables z ≡ Some v) (sym a.2) vat) d (subst (λ z. variable_kind (env_of n_) z ≡ Some v.kind) (sym a.2) known)
   where
-    same : (a b : plain.Variable) → Some a ≡ Some b → a ≡ b
-    same a b e = cc e
-
     answer_from : (o : Option NamedAnswer) (x : ℕ) → answer_variable o ≡ Some x → (a : NamedAnswer) × (o ≡ Some a) × (a.variable ≡ x)
     answer_from None x e = absurd (cc e)
     answer_from (Some a) x e = (a, refl, (let y : a.variable ≡ x = cc e in y))

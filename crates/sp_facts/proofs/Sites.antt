@@ -2,6 +2,7 @@
 -- is asked of them.
 use Rattle.std.proofs.Common.{◌≡◌, inl, inr, refl, sym, subst, ℕ, zero, suc, ◌+◌, List, [], ◌∷◌, ◌++◌, Option, Some, None, slice_get}
 use Rattle.std.specs.Prelude.{map}
+use Rattle.std.proofs.lemmas.Option.{same_Some}
 use Rattle.sp_base.specs.declared.place.Place.{Place}
 use Rattle.sp_tree.specs.declared.meaning.StandardProcedure.{StandardProcedure}
 use Rattle.sp_tree.specs.declared.meaning.StandardProcedure.TheVariants as procedure
@@ -189,8 +190,5 @@ module _ (Fits : Site → Type 0) (calls : (f : ℕ) (at : Place) (args : c.Actu
     pub blocks_fit : (env : Env) (starts : List ℕ) (bs : List n.Block) → BlocksHave OnIndex OnBranches bs → (f : ℕ) (b : c.Block) → slice_get (checked_blocks env starts bs) f ≡ Some b → Each Fits (statement_sites b.body)
     blocks_fit env starts [] h f b e = absurd (cc e)
     blocks_fit env [] (a ∷ bs) h f b e = absurd (cc e)
-    blocks_fit env (k ∷ starts) (a ∷ bs) h zero b e = subst (λ (z : c.Block). Each Fits (statement_sites z.body)) (same (checked_block (started env k) a) b e) (statement_fits (started env k) a.body h.0)
-      where
-        same : (x y : c.Block) → Some x ≡ Some y → x ≡ y
-        same x y e = cc e
+    blocks_fit env (k ∷ starts) (a ∷ bs) h zero b e = subst (λ (z : c.Block). Each Fits (statement_sites z.body)) (same_Some (checked_block (started env k) a) b e) (statement_fits (started env k) a.body h.0)
     blocks_fit env (k ∷ starts) (a ∷ bs) h (suc f) b e = blocks_fit (statement_after (started env k) a.body) starts bs h.1 f b e

@@ -1,6 +1,9 @@
 -- Where no rule of types is broken, and each name is of a visible declaration, a statement is fine.
 use Rattle.std.proofs.Common.{◌≡◌, ◌⊎◌, inl, inr, refl, ap, sym, ◌∙◌, subst, ℕ, zero, suc, ◌+◌, ◌≤◌, List, [], ◌∷◌, Option, Some, None, Bool, true, false, if◌then◌else◌, length, slice_get, slice_set, arith, eq-eqb, eqb-true, ◌==◌}
 use Rattle.std.specs.Prelude.{ℤ, nat_eq}
+use Rattle.std.proofs.lemmas.Bool.{true≢false}
+use Rattle.std.proofs.lemmas.List.{length-set}
+use Rattle.std.proofs.lemmas.Option.{same_Some}
 use Rattle.sp_base.specs.declared.place.Place.{Place}
 use Rattle.sp_base.specs.declared.rule.Rule.{Rule}
 use Rattle.sp_base.specs.declared.rule.Rule.TheVariants as rule
@@ -38,7 +41,7 @@ use Rattle.sp_tree.specs.Bare.{bare_statement, bare_statement_form, bare_stateme
 use Rattle.sp_facts.specs.Knows.{IsTyped, IsTypedForm, AreTyped, AreTypedArms, AreTypedBranches}
 use Rattle.sp_code.specs.Stands.{Hushed, StandsAt, AllAt, ChildrenAt, ArmsAt, RightAt, OrdinalAt, TestAt, TestsAt}
 use Rattle.sp_facts.specs.Scoped.{IsInForall, InStatement, InStatementForm, InStatements, InArms, InBranches}
-use Rattle.sp_facts.proofs.Expressions.{form_fine, some_is, ordinal_sort, expression_fine, variable_fine, actuals_fine, call_at, ordinal_is, boolean_is}
+use Rattle.sp_facts.proofs.Expressions.{form_fine, ordinal_sort, expression_fine, variable_fine, actuals_fine, call_at, ordinal_is, boolean_is}
 
 -- ---- what is known goes on
 
@@ -53,11 +56,6 @@ get_other (z ∷ xs) zero zero a d = absurd (d refl)
 get_other (z ∷ xs) zero (suc y) a d = refl
 get_other (z ∷ xs) (suc x) zero a d = refl
 get_other (z ∷ xs) (suc x) (suc y) a d = get_other xs x y a (λ e. d (ap suc e))
-
-pub set_length : {A : Type 0} (xs : List A) (x : ℕ) (a : A) → length (slice_set xs x a) ≡ length xs
-set_length [] x a = refl
-set_length (z ∷ xs) zero a = refl
-set_length (z ∷ xs) (suc x) a = ap suc (set_length xs x a)
 
 module _ (p : Program) (m : ℕ) where
   abbrev pub IsIndex : ℕ → Type 0
@@ -76,8 +74,8 @@ module _ (p : Program) (m : ℕ) where
     boolean = h.boolean;
     char = h.char;
     given = h.given;
-    variables = λ y u ya d. (ap entry (get_other env.variables x y k (λ e. subst NoIndex (ap (λ (z : Variable). z.role) (some_is u v (sym ya ∙ ap (slice_get p.variables) e ∙ at)) ∙ r) d)) ∙ (h.variables y u ya d).0, (h.variables y u ya d).1);
-    room = λ y u ya. (let l = h.room y u ya in let z = set_length env.variables x k in omega (arith, l, z));
+    variables = λ y u ya d. (ap entry (get_other env.variables x y k (λ e. subst NoIndex (ap (λ (z : Variable). z.role) (same_Some u v (sym ya ∙ ap (slice_get p.variables) e ∙ at)) ∙ r) d)) ∙ (h.variables y u ya d).0, (h.variables y u ya d).1);
+    room = λ y u ya. (let l = h.room y u ya in let z = length-set env.variables x k in omega (arith, l, z));
     roles = h.roles;
     blocks = h.blocks;
     formals = h.formals;
@@ -104,10 +102,7 @@ module _ (p : Program) (m : ℕ) where
       go false b e =
           let found = less (level (is_index y) sc) e in
           let r = h y found.0 v found.1 at in
-          (ap entry (get_other env.variables x y o (λ yx. no (sym (eq-eqb y x yx) ∙ b))) ∙ r.0, r.1)
-        where
-          no : true ≡ false → ⊥
-          no e = cc e
+          (ap entry (get_other env.variables x y o (λ yx. true≢false (sym (eq-eqb y x yx) ∙ b))) ∙ r.0, r.1)
 
   -- what is known later of the same program
   abbrev pub Grown : Env → Env → Type 0
@@ -136,10 +131,7 @@ module _ (p : Program) (m : ℕ) where
           let yx = eqb-true y x b in
           let vx = subst (λ z. slice_get p.variables z ≡ Some v) yx at in
           ap (λ z. entry (slice_get (slice_set env.variables x o) z)) yx ∙ ap entry (get_set env.variables x o (h.room x v vx)) ∙ oe ∙ ap Some (sym (typed v vx))
-      go y v at e false b = ap entry (get_other env.variables x y o (λ yx. no (sym (eq-eqb y x yx) ∙ b))) ∙ e
-        where
-          no : true ≡ false → ⊥
-          no e = cc e
+      go y v at e false b = ap entry (get_other env.variables x y o (λ yx. true≢false (sym (eq-eqb y x yx) ∙ b))) ∙ e
 
   module _ (moves shares : Stmt → List ℕ) (hush : ℕ → Type 0) where
     abbrev pub Done : Bool → List Scope → Stmt → Type 0

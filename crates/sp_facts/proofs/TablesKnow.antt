@@ -1,6 +1,7 @@
 -- The tables of the phase of types say what the tree is.
 use Rattle.std.proofs.Common.{◌≡◌, inl, inr, refl, ap, sym, ◌∙◌, subst, ℕ, zero, suc, ◌+◌, ◌≤◌, ◌==◌, List, [], ◌∷◌, Option, Some, Bool, true, false, if◌then◌else◌, length, slice_get, arith}
 use Rattle.std.specs.Prelude.{map}
+use Rattle.std.proofs.lemmas.Option.{same_Some}
 use Rattle.sp_tree.specs.declared.checked.KindOf.{KindOf}
 use Rattle.sp_tree.specs.declared.checked.KindOf.TheVariants as kind
 use Rattle.sp_tree.specs.declared.checked.Role.{Role}
@@ -33,28 +34,22 @@ use Rattle.sp_facts.proofs.Declared.{program_behind, program_typed}
 use Rattle.sp_facts.proofs.Program.{named, tree, formals, results}
 use Rattle.sp_facts.proofs.BlockIndices.{spans, has_, room_, types_length}
 
-same_variable : (a b : plain.Variable) → Some a ≡ Some b → a ≡ b
-same_variable a b e = cc e
-
 roles_at : (ks : List (Option ℕ)) (us : List checked.Variable) (x : ℕ) (v : plain.Variable) → slice_get (map variable_of (checked_variables ks us)) x ≡ Some v → slice_get (roles_of us) x ≡ Some v.role
 roles_at ks [] x v e = absurd (cc e)
 roles_at [] (u ∷ us) x v e = absurd (cc e)
-roles_at (k ∷ ks) (u ∷ us) zero v e = ap (λ (z : plain.Variable). Some z.role) (same_variable (variable_of (record u { kind = or_zero k })) v e)
+roles_at (k ∷ ks) (u ∷ us) zero v e = ap (λ (z : plain.Variable). Some z.role) (same_Some (variable_of (record u { kind = or_zero k })) v e)
 roles_at (k ∷ ks) (u ∷ us) (suc x) v e = roles_at ks us x v e
 
 -- a variable of the tree is one of the tree with numbers for names
 pub variable_from : (ks : List (Option ℕ)) (us : List checked.Variable) (x : ℕ) (v : plain.Variable) → slice_get (map variable_of (checked_variables ks us)) x ≡ Some v → (u : checked.Variable) × (slice_get us x ≡ Some u) × (v.role ≡ u.role) × (v.block ≡ u.block)
 variable_from ks [] x v e = absurd (cc e)
 variable_from [] (u ∷ us) x v e = absurd (cc e)
-variable_from (k ∷ ks) (u ∷ us) zero v e = let s = same_variable (variable_of (record u { kind = or_zero k })) v e in (u, refl, ap (λ (z : plain.Variable). z.role) (sym s), ap (λ (z : plain.Variable). z.block) (sym s))
+variable_from (k ∷ ks) (u ∷ us) zero v e = let s = same_Some (variable_of (record u { kind = or_zero k })) v e in (u, refl, ap (λ (z : plain.Variable). z.role) (sym s), ap (λ (z : plain.Variable). z.block) (sym s))
 variable_from (k ∷ ks) (u ∷ us) (suc x) v e = variable_from ks us x v e
 
 types_at : (ns : List ℕ) (us : List checked.Variable) (x : ℕ) (u : checked.Variable) → slice_get us x ≡ Some u → slice_get (types_of ns us) x ≡ Some (type_of ns u.role u.kind)
 types_at ns [] x u e = absurd (cc e)
-types_at ns (w ∷ us) zero u e = ap (λ (z : checked.Variable). Some (type_of ns z.role z.kind)) (same w u e)
-  where
-    same : (a b : checked.Variable) → Some a ≡ Some b → a ≡ b
-    same a b e = cc e
+types_at ns (w ∷ us) zero u e = ap (λ (z : checked.Variable). Some (type_of ns z.role z.kind)) (same_Some w u e)
 types_at ns (w ∷ us) (suc x) u e = types_at ns us x u e
 
 type_is : (ns : List ℕ) (r : Role) (k : ℕ) → NoIndex r → type_of ns r k ≡ Some (type_number ns k)
@@ -68,10 +63,7 @@ type_is ns role.Answer k d = refl
 signatures_at : (env : Env) (starts : List ℕ) (bs : List n.Block) (f : ℕ) (b : plain.Block) → slice_get (map bare_block (checked_blocks env starts bs)) f ≡ Some b → slice_get (signatures bs) f ≡ Some (record { formals = b.formals; answer = b.answer })
 signatures_at env starts [] f b e = absurd (cc e)
 signatures_at env [] (c ∷ bs) f b e = absurd (cc e)
-signatures_at env (z ∷ starts) (c ∷ bs) zero b e = ap (λ (y : plain.Block). Some (record { formals = y.formals; answer = y.answer })) (same (bare_block (checked_block (started env z) c)) b e)
-  where
-    same : (a b : plain.Block) → Some a ≡ Some b → a ≡ b
-    same a b e = cc e
+signatures_at env (z ∷ starts) (c ∷ bs) zero b e = ap (λ (y : plain.Block). Some (record { formals = y.formals; answer = y.answer })) (same_Some (bare_block (checked_block (started env z) c)) b e)
 signatures_at env (z ∷ starts) (c ∷ bs) (suc f) b e = signatures_at (statement_after (started env z) c.body) starts bs f b e
 
 -- members of a block's parameters
@@ -106,18 +98,12 @@ there (u ∷ ts) (suc k) l = there ts k (omega (arith, l))
 
 before_at : (k : ℕ) (fs : List (List ℕ × ℕ)) (f : ℕ) (x : List ℕ × ℕ) → AreBefore k fs → slice_get fs f ≡ Some x → suc x.1 ≤ k
 before_at k [] f x h e = absurd (cc e)
-before_at k (g ∷ fs) zero x h e = subst (λ (z : List ℕ × ℕ). suc z.1 ≤ k) (same g x e) h.0
-  where
-    same : (a b : List ℕ × ℕ) → Some a ≡ Some b → a ≡ b
-    same a b e = cc e
+before_at k (g ∷ fs) zero x h e = subst (λ (z : List ℕ × ℕ). suc z.1 ≤ k) (same_Some g x e) h.0
 before_at k (g ∷ fs) (suc f) x h e = before_at k fs f x h.1 e
 
 pub kind_low : (k : ℕ) (us : List checked.Variable) (x : ℕ) (u : checked.Variable) → HaveTypes k us → slice_get us x ≡ Some u → suc u.kind ≤ k
 kind_low k [] x u h e = absurd (cc e)
-kind_low k (w ∷ us) zero u h e = subst (λ (z : checked.Variable). suc z.kind ≤ k) (same w u e) h.0
-  where
-    same : (a b : checked.Variable) → Some a ≡ Some b → a ≡ b
-    same a b e = cc e
+kind_low k (w ∷ us) zero u h e = subst (λ (z : checked.Variable). suc z.kind ≤ k) (same_Some w u e) h.0
 kind_low k (w ∷ us) (suc x) u h e = kind_low k us x u h.1 e
 
 -- a variable that is no index has in the tree the type that it is declared with

@@ -2,6 +2,8 @@
 -- variables.
 use Rattle.std.proofs.Common.{◌≡◌, refl, ap, sym, ◌∙◌, subst, ℕ, zero, suc, ◌+◌, ◌≤◌, ◌==◌, List, [], ◌∷◌, Option, Some, None, Bool, if◌then◌else◌, ◌&&◌, length, slice_get, slice_set, arith}
 use Rattle.std.specs.Prelude.{map}
+use Rattle.std.proofs.lemmas.List.{length-set}
+use Rattle.std.proofs.lemmas.Option.{same_Some}
 use Rattle.sp_base.specs.declared.place.Place.{Place}
 use Rattle.sp_tree.specs.declared.checked.Role.{Role}
 use Rattle.sp_tree.specs.declared.checked.Variable as checked
@@ -19,11 +21,6 @@ use Rattle.sp_facts.proofs.NameStatements.{Holds}
 use Rattle.sp_facts.proofs.Headings.{own}
 
 -- ---- the table of types keeps its length
-
-set_length : {A : Type 0} (xs : List A) (x : ℕ) (a : A) → length (slice_set xs x a) ≡ length xs
-set_length [] x a = refl
-set_length (z ∷ xs) zero a = refl
-set_length (z ∷ xs) (suc x) a = ap suc (set_length xs x a)
 
 abbrev pub Same : Env → Env → Type 0
 Same a b = length b.variables ≡ length a.variables
@@ -45,7 +42,7 @@ mutual
   form_length env (Case e arms) = arms_length env arms
   form_length env (For x at from down to a) = statement_length env a
   form_length env (Parallel bs) = branches_length env bs
-  form_length env (Forall x from to a) = statement_length (indexed env x (expression_kind env from)) a ∙ set_length env.variables x (expression_kind env from)
+  form_length env (Forall x from to a) = statement_length (indexed env x (expression_kind env from)) a ∙ length-set env.variables x (expression_kind env from)
   form_length env (Assume e) = refl
 
   pub statements_length : (env : Env) (ss : Statements) → Same env (statements_after env ss)
@@ -105,18 +102,12 @@ module _ (p : plain.Program) (m : ℕ) where
 pub block_from : (env : Env) (starts : List ℕ) (bs : List n.Block) (f : ℕ) (c : plain.Block) → slice_get (map bare_block (checked_blocks env starts bs)) f ≡ Some c → (b : n.Block) × (slice_get bs f ≡ Some b) × (c.parent ≡ b.parent) × (c.formals ≡ b.formals) × (c.answer ≡ answer_variable b.answer)
 block_from env starts [] f c e = absurd (cc e)
 block_from env [] (b ∷ bs) f c e = absurd (cc e)
-block_from env (z ∷ starts) (b ∷ bs) zero c e = let s = some_is (bare_block (checked_block (started env z) b)) c e in (b, refl, ap (λ (y : plain.Block). y.parent) (sym s), ap (λ (y : plain.Block). y.formals) (sym s), ap (λ (y : plain.Block). y.answer) (sym s))
-  where
-    some_is : (a b : plain.Block) → Some a ≡ Some b → a ≡ b
-    some_is a b e = cc e
+block_from env (z ∷ starts) (b ∷ bs) zero c e = let s = same_Some (bare_block (checked_block (started env z) b)) c e in (b, refl, ap (λ (y : plain.Block). y.parent) (sym s), ap (λ (y : plain.Block). y.formals) (sym s), ap (λ (y : plain.Block). y.answer) (sym s))
 block_from env (z ∷ starts) (b ∷ bs) (suc f) c e = block_from (statement_after (started env z) b.body) starts bs f c e
 
 pub parent_below : (k : ℕ) (bs : List n.Block) (f : ℕ) (b : n.Block) (q : ℕ) → AreBelow k bs → slice_get bs f ≡ Some b → b.parent ≡ Some q → suc q ≤ k + f
 parent_below k [] f b q h e s = absurd (cc e)
-parent_below k (c ∷ bs) zero b q h e s = let l = h.0 q (ap (λ (y : n.Block). y.parent) (some_is c b e) ∙ s) in omega (arith, l)
-  where
-    some_is : (a b : n.Block) → Some a ≡ Some b → a ≡ b
-    some_is a b e = cc e
+parent_below k (c ∷ bs) zero b q h e s = let l = h.0 q (ap (λ (y : n.Block). y.parent) (same_Some c b e) ∙ s) in omega (arith, l)
 parent_below k (c ∷ bs) (suc f) b q h e s = let l = parent_below (suc k) bs f b q h.1 e s in omega (arith, l)
 
 -- ---- scopes: with parents before their blocks, the number of steps is enough

@@ -2,7 +2,10 @@
 use Rattle.std.proofs.Common.{◌≡◌, refl, ap, sym, subst, ℕ, zero, suc, ◌+◌, ◌≤◌, List, [], ◌∷◌, ◌++◌, Option, Some, Bool, true, false, if◌then◌else◌, ◌&&◌, length, slice_get, arith}
 use Rattle.std.specs.Prelude.{pos, int_le, not, nat_eq, map, ◌||◌}
 use Rattle.std.proofs.lemmas.List.{length-append}
+use Rattle.std.proofs.lemmas.Bool.{not-false, or_parts}
+use Rattle.std.proofs.lemmas.Option.{same_Some}
 use Rattle.sp_base.specs.declared.rule.Rule.TheVariants as rule
+use Rattle.sp_base.proofs.Facts.{get_in_front, second_true}
 use Rattle.sp_tree.specs.declared.checked.KindOf.{KindOf}
 use Rattle.sp_tree.specs.declared.checked.KindOf.TheVariants as kind
 use Rattle.sp_tree.specs.declared.named.NamedConst.{NamedConst}
@@ -23,15 +26,10 @@ use Rattle.sp_types.specs.TypeRules.{const_rule, bounds_rule}
 use Rattle.sp_types.specs.TypeWalk as w
 use Rattle.sp_tree.specs.Formed.{AreBefore}
 use Rattle.sp_facts.specs.Earlier.{IsEarlier, AreEarlier, HasValue, HaveValues, AllHaveValues, IsFormedKind, AreFormedKinds}
-use Rattle.sp_facts.proofs.Calm.{calm_parts, calm_site, calm_if, not_true, or_false}
+use Rattle.sp_facts.proofs.Calm.{calm_parts, calm_site, calm_if}
 
 abbrev Below : ℕ → List ℕ → Type 0
 Below next xs = (i x : ℕ) → slice_get xs i ≡ Some x → suc x ≤ next
-
-get_front : (xs ys : List ℕ) (i x : ℕ) → slice_get xs i ≡ Some x → slice_get (xs ++ ys) i ≡ Some x
-get_front [] ys i x e = absurd (cc e)
-get_front (y ∷ xs) ys zero x e = e
-get_front (y ∷ xs) ys (suc i) x e = get_front xs ys i x e
 
 get_within : (xs : List ℕ) (i : ℕ) → suc i ≤ length xs → (x : ℕ) × (slice_get xs i ≡ Some x)
 get_within [] i l = absurd (omega (arith, l))
@@ -39,35 +37,28 @@ get_within (y ∷ xs) zero l = (y, refl)
 get_within (y ∷ xs) (suc i) l = get_within xs i (omega (arith, l))
 
 below_more : (next more y : ℕ) (xs : List ℕ) → Below next xs → next ≤ more → suc y ≤ more → Below more (xs ++ y ∷ [])
-below_more next more y [] h l r zero x e = subst (λ z. suc z ≤ more) (some_is y x e) r
-  where
-    some_is : (a b : ℕ) → Some a ≡ Some b → a ≡ b
-    some_is a b e = cc e
+below_more next more y [] h l r zero x e = subst (λ z. suc z ≤ more) (same_Some y x e) r
 below_more next more y [] h l r (suc i) x e = absurd (cc e)
 below_more next more y (z ∷ xs) h l r zero x e = let b = h 0 x e in omega (arith, b, l)
 below_more next more y (z ∷ xs) h l r (suc i) x e = below_more next more y xs (λ i x e. h (suc i) x e) l r i x e
 
 pub keeps : (known : List ℕ) (next : ℕ) (ks : List NamedKind) (i x : ℕ) → slice_get known i ≡ Some x → slice_get (numbers_from known next ks) i ≡ Some x
 keeps known next [] i x e = e
-keeps known next (k ∷ ks) i x e = keeps (known ++ number_by known next k.form ∷ []) (next_by next k.form) ks i x (get_front known (number_by known next k.form ∷ []) i x e)
+keeps known next (k ∷ ks) i x e = keeps (known ++ number_by known next k.form ∷ []) (next_by next k.form) ks i x (get_in_front known (number_by known next k.form ∷ []) i x e)
 
 -- the bounds of an array
 array_formed : (known : List (Option Ordinal)) (a b : NamedConst) (e el i : ℕ) → w.bounds_sites [] together listed known (form.Array a b e) ≡ [] → HasValue known a → HasValue known b → suc el ≤ i → IsFormedKind i (array_of known a b el)
 array_formed known a b e el i calm (oa, va) (ob, vb) l =
     let one = calm_parts (listed (const_rule known a)) (together (listed (const_rule known b)) (listed (bounds_rule b.at (const_value known a) (const_value known b)))) calm in
     let two = calm_parts (listed (const_rule known b)) (listed (bounds_rule b.at (const_value known a) (const_value known b))) one.1 in
-    let ra = or_false (is_long a.value) (has_wrong_sign a.negative (value_by known a.value)) (calm_if rule.Y14 a.at (is_long a.value || has_wrong_sign a.negative (value_by known a.value)) (calm_site (const_rule known a) one.0)) in
-    let rb = or_false (is_long b.value) (has_wrong_sign b.negative (value_by known b.value)) (calm_if rule.Y14 b.at (is_long b.value || has_wrong_sign b.negative (value_by known b.value)) (calm_site (const_rule known b) two.0)) in
+    let ra = or_parts (is_long a.value) (has_wrong_sign a.negative (value_by known a.value)) (calm_if rule.Y14 a.at (is_long a.value || has_wrong_sign a.negative (value_by known a.value)) (calm_site (const_rule known a) one.0)) in
+    let rb = or_parts (is_long b.value) (has_wrong_sign b.negative (value_by known b.value)) (calm_if rule.Y14 b.at (is_long b.value || has_wrong_sign b.negative (value_by known b.value)) (calm_site (const_rule known b) two.0)) in
     let wrong = calm_if rule.Y13 b.at (are_wrong (const_value known a) (const_value known b)) (calm_site (bounds_rule b.at (const_value known a) (const_value known b)) two.1) in
-    let le = and_true (nat_eq oa.kind ob.kind) (int_le oa.number ob.number) (not_true (nat_eq oa.kind ob.kind && int_le oa.number ob.number) (subst (λ z. are_wrong (Some oa) z ≡ false) vb (subst (λ z. are_wrong z (const_value known b) ≡ false) va wrong))) in
+    let le = second_true (nat_eq oa.kind ob.kind) (int_le oa.number ob.number) (not-false (nat_eq oa.kind ob.kind && int_le oa.number ob.number) (subst (λ z. are_wrong (Some oa) z ≡ false) vb (subst (λ z. are_wrong z (const_value known b) ≡ false) va wrong))) in
     let right = all_false (is_long a.value) (is_long b.value) (has_wrong_sign a.negative (value_by known a.value)) (has_wrong_sign b.negative (value_by known b.value)) (are_wrong (const_value known a) (const_value known b)) ra.0 rb.0 ra.1 rb.1 wrong in
     subst (λ (z : Bool). IsFormedKind i (if z then kind.Array (number_or (pos 1) (const_value known a)) (number_or (pos 0) (const_value known b)) (type_or 0 (const_value known a)) el else kind.Array (pos 1) (pos 0) (type_or 0 (const_value known a)) el)) (sym right)
     (l, subst (λ z. int_le z (number_or (pos 0) (const_value known b)) ≡ true) (sym (ap (number_or (pos 1)) va)) (subst (λ z. int_le oa.number z ≡ true) (sym (ap (number_or (pos 0)) vb)) le))
   where
-    and_true : (x y : Bool) → (x && y) ≡ true → y ≡ true
-    and_true true y e = e
-    and_true false y e = absurd (cc e)
-
     all_false : (a b c d e : Bool) → a ≡ false → b ≡ false → c ≡ false → d ≡ false → e ≡ false → (not a && (not b && (not c && (not d && not e)))) ≡ true
     all_false false false false false false p q r s t = refl
     all_false true b c d e p q r s t = absurd (cc p)
@@ -165,10 +156,7 @@ numbers_below consts ns known next (k ∷ ks) below (early, more) =
 -- by the number of a type
 pub formed_at : (i k : ℕ) (ts : List KindOf) (t : KindOf) → AreFormedKinds i ts → slice_get ts k ≡ Some t → IsFormedKind (i + k) t
 formed_at i k [] t h e = absurd (cc e)
-formed_at i zero (u ∷ ts) t h e = subst (λ z. IsFormedKind z t) (let z : i ≡ i + 0 = omega arith in z) (subst (IsFormedKind i) (some_is u t e) h.0)
-  where
-    some_is : (a b : KindOf) → Some a ≡ Some b → a ≡ b
-    some_is a b e = cc e
+formed_at i zero (u ∷ ts) t h e = subst (λ z. IsFormedKind z t) (let z : i ≡ i + 0 = omega arith in z) (subst (IsFormedKind i) (same_Some u t e) h.0)
 formed_at i (suc k) (u ∷ ts) t h e = subst (λ z. IsFormedKind z t) (let z : suc i + k ≡ i + suc k = omega arith in z) (formed_at (suc i) k ts t h.1 e)
 
 -- of a program

@@ -2,6 +2,7 @@
 use Rattle.std.proofs.Common.{◌≡◌, refl, subst, ℕ, zero, suc, ◌+◌, ◌≤◌, List, [], ◌∷◌, Option, Some, None, Bool, true, false, if◌then◌else◌, slice_get, slice_set, arith}
 use Rattle.std.specs.Prelude.{map}
 use Rattle.std.specs.Str.{bytes_eq}
+use Rattle.std.proofs.lemmas.Option.{same_Some}
 use Rattle.sp_tree.specs.declared.checked.KindOf.{KindOf}
 use Rattle.sp_tree.specs.declared.checked.KindOf.TheVariants as kind
 use Rattle.sp_tree.specs.declared.checked.Variable as checked
@@ -194,11 +195,8 @@ module _ (k : ℕ) where
   pub variable_there : (ks : List (Option ℕ)) (us : List checked.Variable) (x : ℕ) (v : plain.Variable) → 3 ≤ k → AreThere k ks → slice_get (map variable_of (checked_variables ks us)) x ≡ Some v → suc v.kind ≤ k
   variable_there ks [] x v l h e = absurd (cc e)
   variable_there [] (u ∷ us) x v l h e = absurd (cc e)
-  variable_there (t ∷ ks) (u ∷ us) zero v l h e = subst (λ (z : plain.Variable). suc z.kind ≤ k) (same (variable_of (record u { kind = or_zero t })) v e) (or_there t h.0)
+  variable_there (t ∷ ks) (u ∷ us) zero v l h e = subst (λ (z : plain.Variable). suc z.kind ≤ k) (same_Some (variable_of (record u { kind = or_zero t })) v e) (or_there t h.0)
     where
-      same : (a b : plain.Variable) → Some a ≡ Some b → a ≡ b
-      same a b e = cc e
-
       or_there : (t : Option ℕ) → IsThere k t → suc (or_zero t) ≤ k
       or_there None h = omega (arith, l)
       or_there (Some t) h = h

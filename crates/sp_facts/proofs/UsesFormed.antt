@@ -1,5 +1,6 @@
 -- In a fine statement each target is a variable that there is and no index, and the output is not read.
 use Rattle.std.proofs.Common.{◌≡◌, inl, inr, ap, sym, ◌∙◌, subst, ℕ, ◌+◌, List, [], ◌∷◌, Option, Some, None, true, slice_get}
+use Rattle.std.proofs.lemmas.Option.{same_Some}
 use Rattle.sp_tree.specs.declared.checked.Role.{Role}
 use Rattle.sp_tree.specs.declared.checked.Role.TheVariants as role
 use Rattle.sp_tree.specs.Plain.{Expr, Typed, ExprForm, Number, Read, Unary, Binary, Apply, Standard, AtInput, Var, Entire, Index, Field, Selectors, Whole, Select, ByValue, ByReference, Actuals, Nothing, Pass, Program, Variable, Stmt, Empty, Assign, Call, Sequence, If, IfElse, While, Repeat, For, Case, Parallel, Forall, Assume, ReadValue, ReadLine, WriteValue, WriteText, WriteLine, Open, Send, Receive, Stmts, No, And, On, Arms, NoArm, Or}
@@ -49,11 +50,8 @@ module _ (p : Program) (input : (v : Variable) × (slice_get p.variables 0 ≡ S
 
   no_output : (sc : List Scope) (q x k : ℕ) → VarAt p moves shares AnyInstr AnyTable AnyText hush sc q x k → x ≡ 1 → ⊥
   no_output sc q x k (v, at, kind, r) e =
-      let s : v ≡ output.0 = same v output.0 (sym (subst (λ z. slice_get p.variables z ≡ Some v) e at) ∙ output.1) in
+      let s : v ≡ output.0 = same_Some v output.0 (sym (subst (λ z. slice_get p.variables z ≡ Some v) e at) ∙ output.1) in
       subst (VarRole p moves shares AnyInstr AnyTable AnyText hush sc q x v) (ap (λ (z : Variable). z.role) s ∙ output.2) r
-    where
-      same : (a b : Variable) → Some a ≡ Some b → a ≡ b
-      same a b e = cc e
 
   console_not : (r : Role) → r ≡ role.Console → r ≡ role.Index → ⊥
   console_not r c e = cc (sym c ∙ e)

@@ -4,6 +4,7 @@ use Rattle.std.proofs.Common.{◌≡◌, ℕ, ◌-◌, ◌≤◌, Bool, true, fa
 use Rattle.std.specs.Prelude.{slice_get}
 use Rattle.std.proofs.lemmas.Bool.Decides.{nat_tests}
 use Rattle.std.proofs.Math.Seq.{take-append_seam}
+use Rattle.std.proofs.lemmas.Bool.{false_from_ne_true}
 use Rattle.sp_tree.specs.declared.token.Kind.{Kind}
 use Rattle.sp_tree.specs.declared.token.Kind.TheVariants as kind
 use Rattle.sp_tree.specs.Characters.{is_letter, is_digit, is_name_byte, lower}
@@ -192,15 +193,11 @@ sign_opens b [] (y ∷ r) u f h g = no_star b y (no_brace b u h) g
 sign_opens b (y ∷ []) r u f h g = h
 sign_opens b (y ∷ z ∷ s) r u f h g = absurd f
 
-not_true : (b : Bool) → (b ≡ true → ⊥) → b ≡ false
-not_true true h = absurd (h refl)
-not_true false h = refl
-
 sign_again_by : (n b : ℕ) (s u : List ℕ) → slice_get signs n ≡ Some (b ∷ s) → SignForm (b ∷ s) → opens_comment (b ∷ (s ++ u)) ≡ false → (r : List ℕ) → Stops (goes_on (b ∷ s)) r → ReadsToken (kind.Sign n) (b ∷ s) r
 sign_again_by n b s u h f o r g =
     let p = sign_plain b (s ++ r) (b ∷ s) r n h refl in (
       sign_opens b s r u f o g,
-      longest_sign (b ∷ (s ++ r)) (s ++ r) r b n refl (not_true (is_letter b) (no_letter b p)) (not_true (is_digit b) (no_digit b p)) (no_quote b p)
+      longest_sign (b ∷ (s ++ r)) (s ++ r) r b n refl (false_from_ne_true (is_letter b) (no_letter b p)) (false_from_ne_true (is_digit b) (no_digit b p)) (no_quote b p)
           (record { text = b ∷ s; is = h; all = refl })
           (λ m r' l x. sign_bound (b ∷ s) x.text r r' f (each_at SignForm signs m x.text signs_form x.is) g x.all),
     )

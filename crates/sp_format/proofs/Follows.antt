@@ -6,6 +6,7 @@ use Rattle.std.proofs.lemmas.Bool.{cases_lt}
 use Rattle.std.proofs.lemmas.List.{length-map}
 use Rattle.sp_base.specs.declared.rule.Rule.{Rule}
 use Rattle.sp_base.specs.declared.rule.Rule.TheVariants as rule
+use Rattle.sp_base.proofs.Facts.{first_true, second_true}
 use Rattle.sp_tree.specs.declared.token.Token.{Token}
 use Rattle.sp_tree.specs.declared.token.Kind.{Kind}
 use Rattle.sp_tree.specs.declared.token.Kind.TheVariants as kind
@@ -185,23 +186,15 @@ abbrev all_from : (ℕ → List ℕ → Bool) → ℕ → List (List ℕ) → Bo
 all_from f i [] = true
 all_from f i (x ∷ xs) = f i x && all_from f (suc i) xs
 
-and_left : (a b : Bool) → (a && b) ≡ true → a ≡ true
-and_left true b h = refl
-and_left false b h = absurd cc
-
-and_right : (a b : Bool) → (a && b) ≡ true → b ≡ true
-and_right true b h = h
-and_right false b h = absurd cc
-
 sign_at : (f : ℕ → List ℕ → Bool) (i : ℕ) (xs : List (List ℕ)) (n : ℕ) (x : List ℕ) → all_from f i xs ≡ true → slice_get xs n ≡ Some x → f (i + n) x ≡ true
 sign_at f i [] n x h e = absurd cc
 sign_at f i (y ∷ xs) zero x h e =
     let same : y ≡ x = cc in
     let z : i + 0 ≡ i = omega arith in
-    subst (λ j. f j x ≡ true) (back_of z) (subst (λ y. f i y ≡ true) same (and_left (f i y) (all_from f (suc i) xs) h))
+    subst (λ j. f j x ≡ true) (back_of z) (subst (λ y. f i y ≡ true) same (first_true (f i y) (all_from f (suc i) xs) h))
 sign_at f i (y ∷ xs) (suc n) x h e =
     let z : suc i + n ≡ i + suc n = omega arith in
-    subst (λ j. f j x ≡ true) z (sign_at f (suc i) xs n x (and_right (f i y) (all_from f (suc i) xs) h) e)
+    subst (λ j. f j x ≡ true) z (sign_at f (suc i) xs n x (second_true (f i y) (all_from f (suc i) xs) h) e)
 
 -- whether what goes on with a sign is the first byte of another
 abbrev goes_with : List ℕ → List ℕ → Bool

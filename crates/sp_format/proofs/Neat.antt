@@ -2,6 +2,8 @@
 -- dot.
 use Rattle.std.proofs.Common.{◌≡◌, ℕ, suc, Bool, true, false, ◌||◌, ◌&&◌, ◌==◌, cond, ◌<◌, length, map, List, [], ◌∷◌, ◌++◌, append_assoc, Option, Some, None, ◌⊎◌, inl, inr, refl, sym as back_of, ap, ◌∙◌, subst, arith}
 use Rattle.std.proofs.lemmas.Bool.Decides.{nat_tests}
+use Rattle.std.proofs.lemmas.Bool.{eqb-true, false_from_ne_true}
+use Rattle.sp_base.proofs.Facts.{first_true, second_true}
 use Rattle.sp_tree.specs.declared.token.Token.{Token}
 use Rattle.sp_tree.specs.declared.token.Kind.{Kind}
 use Rattle.sp_tree.specs.declared.token.Kind.TheVariants as kind
@@ -59,14 +61,6 @@ neat (s ∷ q) = neat q
 abbrev ready : Kind → List Symbol → Bool
 ready (kind.Sign n) q = cond (n == 9) (holds_part q) (cond (n == 14) (holds_name q) true)
 ready k q = true
-
-and_left : (a b : Bool) → (a && b) ≡ true → a ≡ true
-and_left true b h = refl
-and_left false b h = absurd cc
-
-and_right : (a b : Bool) → (a && b) ≡ true → b ≡ true
-and_right true b h = h
-and_right false b h = absurd cc
 
 names_hold : (q : List Symbol) → names_first q ≡ true → holds_part q ≡ true
 names_hold [] h = absurd cc
@@ -164,7 +158,7 @@ by : {k : Kind} {l : List Symbol} (q : List Symbol) → Fine k l → neat q ≡ 
 by q f h = (f.same q ∙ h, f.ready' q)
 
 row_neat : {s : Symbol} {k : Kind} {l : List Symbol} (q : List Symbol) → Row s k l → neat (s ∷ q) ≡ true → (neat (l ++ q) ≡ true) × (ready k (l ++ q) ≡ true)
-row_neat q (row.token {k = k}) h = (and_right (guard k q) (neat q) h, guard_ready k q (and_left (guard k q) (neat q) h))
+row_neat q (row.token {k = k}) h = (second_true (guard k q) (neat q) h, guard_ready k q (first_true (guard k q) (neat q) h))
 row_neat q row.program h = (h, refl)
 row_neat q row.name h = (h, refl)
 row_neat q row.heading h = (h, refl)
@@ -228,8 +222,8 @@ row_neat q (row.next_term {d = d} r) h = (h, of_adding r (ATerm d ∷ MoreTerms 
 row_neat q (row.next_factor {d = d} r) h = (h, of_multiplying r (AFactor d ∷ MoreFactors d ∷ q))
 
 tail_neat : (s : Symbol) (q : List Symbol) → neat (s ∷ q) ≡ true → neat q ≡ true
-tail_neat (AToken k) q h = and_right (guard k q) (neat q) h
-tail_neat AProgram q h = and_right (is_empty q) (neat q) h
+tail_neat (AToken k) q h = second_true (guard k q) (neat q) h
+tail_neat AProgram q h = second_true (is_empty q) (neat q) h
 tail_neat s q h = h
 
 -- ---- one token
@@ -278,14 +272,11 @@ if_true b {x} y e h = let f : cond true x y ≡ true = subst (λ b. cond b x y �
 if_false : (b x : Bool) {y : Bool} → b ≡ false → cond b x y ≡ true → y ≡ true
 if_false b x {y} e h = let f : cond false x y ≡ true = subst (λ b. cond b x y ≡ true) e h in f
 
-eq_by : (a b : ℕ) → (a == b) ≡ true → a ≡ b
-eq_by a b h = grind (arith, nat_tests)
-
 ne_by : (a : ℕ) → (a == 14) ≡ true → (a == 9) ≡ false
 ne_by a h = grind (arith, nat_tests)
 
 star_by : (q n : List Symbol) (t : Token) (a b : ℕ) → ready (kind.Sign a) q ≡ true → t.kind ≡ kind.Sign b → after None q t ≡ On n → (x y z : Bool) → (a == 9) ≡ x → (b == 2) ≡ y → (a == 14) ≡ z → (w : Bool) → ((x && y) || (z && w)) ≡ false
-star_by q n t a b h e p true true z f g i w = absurd (no_star q n t (if_true (a == 9) _ f h) (e ∙ ap kind.Sign (eq_by b 2 g)) p)
+star_by q n t a b h e p true true z f g i w = absurd (no_star q n t (if_true (a == 9) _ f h) (e ∙ ap kind.Sign (eqb-true b 2 g)) p)
 star_by q n t a b h e p true false true f g i w = absurd (let j = ne_by a i in cc)
 star_by q n t a b h e p true false false f g i w = refl
 star_by q n t a b h e p false y true f g i w = absurd (no_dot q n t b (if_true (a == 14) _ i (if_false (a == 9) _ f h)) e p)
@@ -296,13 +287,9 @@ no_digits [] n t h e p = cc
 no_digits (AName ∷ q) n t h e p = stuck AName q n t kind.Number e refl refl p
 no_digits (s ∷ q) n t h e p = cc
 
-not_true : (b : Bool) → (b ≡ true → ⊥) → b ≡ false
-not_true true h = absurd (h refl)
-not_true false h = refl
-
 no_clash : (q n : List Symbol) (t : Token) (j k : Kind) → ready j q ≡ true → t.kind ≡ k → after None q t ≡ On n → clash j k ≡ false
 no_clash q n t (kind.Sign a) (kind.Sign b) h e p = star_by q n t a b h e p (a == 9) (b == 2) (a == 14) refl refl refl (b == 14 || b == 18)
-no_clash q n t (kind.Sign a) kind.Number h e p = not_true (a == 14) (λ f. no_digits q n t (if_true (a == 14) _ f (if_false (a == 9) _ (ne_by a f) h)) e p)
+no_clash q n t (kind.Sign a) kind.Number h e p = false_from_ne_true (a == 14) (λ f. no_digits q n t (if_true (a == 14) _ f (if_false (a == 9) _ (ne_by a f) h)) e p)
 no_clash q n t j k h e p = refl
 
 -- ---- all tokens

@@ -1,6 +1,7 @@
 -- The items of bytes are one list, and the layout goes along them.
 use Rattle.std.proofs.Common.{◌≡◌, ℕ, zero, suc, ◌+◌, ◌-◌, ◌<◌, ◌≤◌, Bool, true, false, cond, List, [], ◌∷◌, ◌++◌, length, length-append, append_assoc, Option, Some, None, ◌⊎◌, inl, inr, refl, sym as back_of, ap, ◌∙◌, subst, arith}
 use Rattle.std.proofs.lemmas.Bool.{cases_lt}
+use Rattle.std.proofs.lemmas.List.{append-nil}
 use Rattle.sp_base.specs.declared.place.Place.{Place}
 use Rattle.sp_base.specs.declared.halt.Refusal.{Refusal}
 use Rattle.sp_base.specs.declared.rule.Rule.{Rule}
@@ -240,15 +241,11 @@ none_left e (blank b h x) = absurd cc
 none_left e (comment c x) = absurd (let l = comment_length c in omega (arith, ap length e))
 none_left e (token k o l x) = absurd (let m = lexeme_length l.spelled in omega (arith, ap length e))
 
-append_nil : (l : List ℕ) → l ++ [] ≡ l
-append_nil [] = refl
-append_nil (b ∷ l) = ap (λ k. b ∷ k) (append_nil l)
-
 pub lay_done : {text rest out : List ℕ} {context : Context} (o : List ℕ) → rest ≡ [] → length out < 1048576 → o ≡ out ++ 10 ∷ [] → LaidSoFar text rest out context → IsCanonical text o
 lay_done {out = out} o e h q x = record {
   items = x.all;
   has = x.has_all;
-  is = q ∙ ap (λ l. l ++ 10 ∷ []) (back_of (append_nil out) ∙ ap (λ l. out ++ laid x.before l) (back_of (none_left e x.has)) ∙ x.out_is);
+  is = q ∙ ap (λ l. l ++ 10 ∷ []) (back_of (append-nil out) ∙ ap (λ l. out ++ laid x.before l) (back_of (none_left e x.has)) ∙ x.out_is);
   short = omega (arith, ap length q, length-append out (10 ∷ []));
 }
 

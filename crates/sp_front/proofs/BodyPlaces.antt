@@ -1,7 +1,9 @@
 -- The statement parts of the blocks of a text stand at different places. Each stands at its own `begin`, and the tokens of a
 -- text rise.
 use Rattle.std.proofs.Common.{◌≡◌, ◌≢◌, ℕ, zero, suc, ◌<◌, ◌≤◌, List, [], ◌∷◌, ◌++◌, length, map, Option, Some, None, inl, inr, ◌⊎◌, refl, sym as back_of, ap, ap₂, ◌∙◌, subst, arith}
+use Rattle.std.proofs.lemmas.Option.{none-some}
 use Rattle.sp_base.specs.declared.place.Place.{Place}
+use Rattle.sp_base.proofs.Facts.{less_same_or_more}
 use Rattle.sp_tree.specs.declared.token.Token.{Token}
 use Rattle.sp_tree.specs.declared.syntax.Name.{Name}
 use Rattle.sp_tree.specs.declared.syntax.SynFormal.{SynFormal}
@@ -56,13 +58,10 @@ module _ (text : List ℕ) (Ok : ℕ → List Token → Type 0) where
     all_tail none = same
     all_tail (and x y) = far (derived_tail x) (all_tail y)
 
-  no_gap : {v : tree.Block} → ◌≡◌ {A = Option tree.Block} None (Some v) → ⊥
-  no_gap e = cc
-
   -- parts take their first token
   parts_take : {d : ℕ} {t : Token} {ts r : List Token} {v : Value (sym.Parts d)} → Derives text Ok (sym.Parts d) (t ∷ ts) r v → Tail ts r
   parts_take (takes t e l b x) = all_tail x
-  parts_take (skips t l e) = absurd (no_gap e)
+  parts_take (skips t l e) = absurd (none-some _ e)
 
   mutual
     names_tail : {ts r : List Token} {ns : List Name} → g.IsNames text ts r ns → Tail ts r
@@ -272,19 +271,8 @@ module _ (text : List ℕ) (Ok : ℕ → List Token → Type 0) where
   not_earlier p (inr h) = let k = h.1 in absurd (omega arith)
 
   places_differ : (i j : ℕ) → i ≢ j → i < length text → j < length text → place_at text i ≢ place_at text j
-  places_differ i j n h k e = go (order i j)
+  places_differ i j n h k e = go (less_same_or_more i j)
     where
-      order : (i j : ℕ) → (i < j) ⊎ ((i ≡ j) ⊎ (j < i))
-      order zero zero = inr (inl refl)
-      order zero (suc j) = inl (omega arith)
-      order (suc i) zero = inr (inr (omega arith))
-      order (suc i) (suc j) = next (order i j)
-        where
-          next : (i < j) ⊎ ((i ≡ j) ⊎ (j < i)) → (suc i < suc j) ⊎ ((suc i ≡ suc j) ⊎ (suc j < suc i))
-          next (inl l) = inl (omega arith)
-          next (inr (inl e)) = inr (inl (ap suc e))
-          next (inr (inr l)) = inr (inr (omega arith))
-
       go : (i < j) ⊎ ((i ≡ j) ⊎ (j < i)) → ⊥
       go (inl l) = not_earlier (place_at text j) (subst (λ p. Earlier p (place_at text j)) e (rises text start i j l (omega arith)))
       go (inr (inl l)) = n l

@@ -4,6 +4,8 @@ use Rattle.std.proofs.Common.{◌≡◌, inl, inr, ℕ, zero, suc, ◌+◌, ◌*
 use Rattle.std.specs.Prelude.{option_map}
 use Rattle.std.specs.List.{filter}
 use Rattle.std.proofs.lemmas.Option.{slice_get-map}
+use Rattle.std.proofs.lemmas.Bool.{and_parts, false_from_ne_true}
+use Rattle.sp_base.proofs.Facts.{or_with_true}
 use Rattle.sp_tree.specs.PlainChecked as c
 use Rattle.sp_tree.specs.Bare.{bare, bare_block}
 use Rattle.sp_tree.specs.Plain.{Block, Stmt}
@@ -25,10 +27,6 @@ some_use : (Use → Bool) → List Use → Bool
 some_use f [] = false
 some_use f (u ∷ us) = f u || some_use f us
 
-or_right : (b : Bool) → b || true ≡ true
-or_right true = refl
-or_right false = refl
-
 use_found : (f : Use → Bool) (us : List Use) → some_use f us ≡ true → (u : Use) × Among u us × (f u ≡ true)
 unfolding some_use
 use_found f [] h = absurd (true≢false (sym h))
@@ -42,7 +40,7 @@ use_finds : (f : Use → Bool) (us : List Use) (u : Use) → Among u us → f u 
 unfolding some_use
 use_finds f [] u a h = absurd a
 use_finds f (v ∷ vs) u (inl e) h = ap (λ (b : Bool). b || some_use f vs) (ap f (sym e) ∙ h)
-use_finds f (v ∷ vs) u (inr a) h = ap (λ (b : Bool). f v || b) (use_finds f vs u a h) ∙ or_right (f v)
+use_finds f (v ∷ vs) u (inr a) h = ap (λ (b : Bool). f v || b) (use_finds f vs u a h) ∙ or_with_true (f v)
 
 no_use : (f : Use → Bool) (us : List Use) → ((u : Use) → Among u us → f u ≡ false) → some_use f us ≡ false
 unfolding some_use
@@ -61,10 +59,6 @@ above_each n (v ∷ vs) u (inl e) = omega (arith, ap n e)
 above_each n (v ∷ vs) u (inr a) = omega (arith, above_each n vs u a)
 
 -- ---- the tests of a tree with its sets
-
-both_true : (a b : Bool) → a && b ≡ true → (a ≡ true) × (b ≡ true)
-both_true true b h = (refl, h)
-both_true false b h = absurd (true≢false (sym h))
 
 block_given : (tree : c.Program) (b : ℕ) → is_given (slice_get tree.blocks b) ≡ true → (k : c.Block) × (slice_get tree.blocks b ≡ Some k)
 block_given tree b h = go (slice_get tree.blocks b) refl
@@ -116,16 +110,12 @@ module _ (tree : c.Program) (sets : Sets) where
   pub limit_of : Stmt → ℕ
   limit_of s = total limit (stmt_uses s)
 
-  not_true : (b : Bool) → (b ≡ true → ⊥) → b ≡ false
-  not_true true h = absurd (h refl)
-  not_true false h = refl
-
   aims_below : (x : ℕ) (u : Use) → limit u ≤ x → aims x u ≡ false
   unfolding aims limit
   aims_below x (Target y) h = ne_eqb x y (λ e. omega (arith, e, h))
   aims_below x (Seen y) h = refl
   aims_below x (CallOf b args) h =
-      not_true _ (λ k. let low = below_words (implicit_targets_of sets b).words x (both_true (is_given (slice_get tree.blocks b)) (has (implicit_targets_of sets b) x) k).1 in omega (arith, low, h))
+      false_from_ne_true _ (λ k. let low = below_words (implicit_targets_of sets b).words x (and_parts (is_given (slice_get tree.blocks b)) (has (implicit_targets_of sets b) x) k).1 in omega (arith, low, h))
   aims_below x (ParallelOf ss) h = refl
   aims_below x (ForallOf y s) h = refl
   aims_below x Stop h = refl
@@ -135,7 +125,7 @@ module _ (tree : c.Program) (sets : Sets) where
   sees_below x (Target y) h = refl
   sees_below x (Seen y) h = ne_eqb x y (λ e. omega (arith, e, h))
   sees_below x (CallOf b args) h =
-      not_true _ (λ k. let low = below_words (implicit_expressions_of sets b).words x (both_true (is_given (slice_get tree.blocks b)) (has (implicit_expressions_of sets b) x) k).1 in omega (arith, low, h))
+      false_from_ne_true _ (λ k. let low = below_words (implicit_expressions_of sets b).words x (and_parts (is_given (slice_get tree.blocks b)) (has (implicit_expressions_of sets b) x) k).1 in omega (arith, low, h))
   sees_below x (ParallelOf ss) h = refl
   sees_below x (ForallOf y s) h = refl
   sees_below x Stop h = refl
@@ -158,7 +148,7 @@ module _ (tree : c.Program) (sets : Sets) where
     aims_is s x (Target y) h e = ([], subst (λ (z : ℕ). In_stmt s (Target z)) (sym (eqb-true x y e)) h)
     aims_is s x (Seen y) h e = absurd (true≢false (sym e))
     aims_is s x (CallOf b args) h e =
-        let two = both_true (is_given (slice_get tree.blocks b)) (has (implicit_targets_of sets b) x) e in
+        let two = and_parts (is_given (slice_get tree.blocks b)) (has (implicit_targets_of sets b) x) e in
         let k = block_given tree b two.0 in
         let i = ((are.blocks b k.0 k.1).targets x).0 two.1 in
         (b ∷ i.3.0, (args, h, i.0, i.1, i.2, i.3.1))
@@ -183,7 +173,7 @@ module _ (tree : c.Program) (sets : Sets) where
     sees_is s x (Target y) h e = absurd (true≢false (sym e))
     sees_is s x (Seen y) h e = ([], subst (λ (z : ℕ). In_stmt s (Seen z)) (sym (eqb-true x y e)) h)
     sees_is s x (CallOf b args) h e =
-        let two = both_true (is_given (slice_get tree.blocks b)) (has (implicit_expressions_of sets b) x) e in
+        let two = and_parts (is_given (slice_get tree.blocks b)) (has (implicit_expressions_of sets b) x) e in
         let k = block_given tree b two.0 in
         let i = ((are.blocks b k.0 k.1).expressions x).0 two.1 in
         (b ∷ i.3.0, (args, h, i.0, i.1, i.2, i.3.1))

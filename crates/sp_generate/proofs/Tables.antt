@@ -2,7 +2,7 @@
 use Rattle.std.proofs.Common.{◌≡◌, ℕ, zero, suc, ◌+◌, List, [], ◌∷◌, Option, Some, None, slice_get, map, refl, sym, ap, ◌∙◌, arith}
 use Rattle.std.specs.Prelude.{option_map, sum, take}
 use Rattle.std.proofs.lemmas.List.Sums.{sum-map, sum_by-cons}
-use Rattle.std.proofs.lemmas.Option.{slice_get-map}
+use Rattle.std.proofs.lemmas.Option.{slice_get-map, same_Some}
 use Rattle.sp_tree.specs.declared.checked.KindOf.TheVariants as kind
 use Rattle.sp_tree.specs.declared.checked.Block as ast_b
 use Rattle.sp_tree.specs.CheckedOf.{block_of}
@@ -44,13 +44,10 @@ offset_at p n (x ∷ fs) (suc f) o e = omega (arith, offset_at p (n + size p x.1
 offset_is : (p : Program) (fs : List (List ℕ × ℕ)) (f o : ℕ) → slice_get (offsets_from (sizes p.kinds) 0 fs) f ≡ Some o → o ≡ field_offset p fs f
 offset_is p fs f o e = offset_at p 0 fs f o e ∙ omega arith
 
-some_is : {A : Type 0} (x y : A) → Some x ≡ Some y → x ≡ y
-some_is x y e = cc e
-
 pub offset_found : (p : Program) (k f o : ℕ) (os : List ℕ) (fs : List (List ℕ × ℕ)) → slice_get (offsets_of p) k ≡ Some os → slice_get os f ≡ Some o → slice_get p.kinds k ≡ Some (kind.Fields fs) → o ≡ field_offset p fs f
 offset_found p k f o os fs i j e =
     let there : Some (offsets_from (sizes p.kinds) 0 fs) ≡ Some os = ap (option_map (offsets_by (sizes p.kinds))) (sym e) ∙ sym (slice_get-map (offsets_by (sizes p.kinds)) p.kinds k) ∙ i in
-    offset_is p fs f o (ap (λ (xs : List ℕ). slice_get xs f) (some_is _ _ there) ∙ j)
+    offset_is p fs f o (ap (λ (xs : List ℕ). slice_get xs f) (same_Some _ _ there) ∙ j)
 
 -- the plain block of a number
 pub block_at : (blocks : List ast_b.Block) (f : ℕ) (b : ast_b.Block) → slice_get blocks f ≡ Some b → slice_get (map bare_block (map block_of blocks)) f ≡ Some (bare_block (block_of b))

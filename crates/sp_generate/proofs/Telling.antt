@@ -1,6 +1,8 @@
 -- The code that is written by numbers of statements is the code of the program.
 use Rattle.std.proofs.Common.{◌≡◌, ◌⊎◌, inl, inr, ℕ, zero, suc, ◌+◌, ◌*◌, ◌≤◌, ◌<◌, Bool, true, false, not, List, [], ◌∷◌, ◌++◌, length, map, slice_get, Option, Some, None, refl, sym, ap, ◌∙◌, arith, true≢false}
 use Rattle.std.specs.List.{filter}
+use Rattle.std.proofs.lemmas.Bool.{false_from_ne_true}
+use Rattle.sp_base.proofs.Facts.{not_refutes, same_if_both_follow}
 use Rattle.sp_tree.specs.PlainChecked as c
 use Rattle.sp_tree.specs.Bare.{bare, bare_block, bare_expression, bare_statement, bare_statement_form, bare_statements, bare_arms}
 use Rattle.sp_tree.specs.Plain.{Program, Stmt}
@@ -109,16 +111,8 @@ module _ (p : Program) (mv sh : ℕ → List ℕ) (moves shares : Stmt → List 
 
 -- ---- what is moved and shared, of any statement
 
-same_test : (a b : Bool) → (a ≡ true → b ≡ true) → (b ≡ true → a ≡ true) → a ≡ b
-same_test true b f g = sym (f refl)
-same_test false true f g = g refl
-same_test false false f g = refl
-
 from_none : (n y : ℕ) → 0 + n ≤ y → n ≤ y
 from_none n y h = omega (arith, h)
-
-not_false : (b : Bool) → not b ≡ true → b ≡ true → ⊥
-not_false b h k = true≢false (sym h ∙ ap not k)
 
 module _ (tree : c.Program) (sets : Sets) (are : AreSets tree sets) where
   moves : Stmt → List ℕ
@@ -178,7 +172,7 @@ module _ (tree : c.Program) (sets : Sets) (are : AreSets tree sets) where
     moved_only = λ s x m. target_told tree sets are s x (moved_is s x m);
     shared = used;
     shared_only = λ s x m. inr (seen_told tree sets are s x (shared_is s x m).0);
-    apart = λ s x m k. not_false (is_target tree sets s x) (shared_is s x k).1 (moved_is s x m);
+    apart = λ s x m k. not_refutes (is_target tree sets s x) (shared_is s x k).1 (moved_is s x m);
     moved_once = λ s. each_once (moves s) (moves_order s);
     shared_once = λ s. each_once (shares s) (shares_order s);
   }
@@ -189,27 +183,19 @@ module _ (tree : c.Program) (sets : Sets) (are : AreSets tree sets) where
   -- ---- what a statement of the tree tells by its number
 
   has_below : (n : ℕ) → (x : ℕ) → 0 + 64 * length (targets_of sets n).words ≤ x → has (targets_of sets n) x ≡ false
-  has_below n x h = not_so (has (targets_of sets n) x) (λ k. let l = below_words (targets_of sets n).words x k in omega (arith, l, h))
-    where
-      not_so : (b : Bool) → (b ≡ true → ⊥) → b ≡ false
-      not_so true f = absurd (f refl)
-      not_so false f = refl
+  has_below n x h = false_from_ne_true (has (targets_of sets n) x) (λ k. let l = below_words (targets_of sets n).words x k in omega (arith, l, h))
 
   seen_has_below : (n : ℕ) → (x : ℕ) → 0 + 64 * length (expressions_of sets n).words ≤ x → has (expressions_of sets n) x ≡ false
-  seen_has_below n x h = not_so (has (expressions_of sets n) x) (λ k. let l = below_words (expressions_of sets n).words x k in omega (arith, l, h))
-    where
-      not_so : (b : Bool) → (b ≡ true → ⊥) → b ≡ false
-      not_so true f = absurd (f refl)
-      not_so false f = refl
+  seen_has_below n x h = false_from_ne_true (has (expressions_of sets n) x) (λ k. let l = below_words (expressions_of sets n).words x k in omega (arith, l, h))
 
   module _ (t : c.Statement) (of : OfStatement (bare tree) sets t) where
     target_test : (x : ℕ) → has (targets_of sets (number_of t)) x ≡ is_target tree sets (bare_statement t) x
     target_test x =
-        same_test _ _ (λ h. target_tells tree sets are (bare_statement t) x ((of.targets x).0 h)) (λ h. (of.targets x).1 (target_told tree sets are (bare_statement t) x h))
+        same_if_both_follow _ _ (λ h. target_tells tree sets are (bare_statement t) x ((of.targets x).0 h)) (λ h. (of.targets x).1 (target_told tree sets are (bare_statement t) x h))
 
     seen_test : (x : ℕ) → has (expressions_of sets (number_of t)) x ≡ is_seen tree sets (bare_statement t) x
     seen_test x =
-        same_test _ _ (λ h. seen_tells tree sets are (bare_statement t) x ((of.expressions x).0 h)) (λ h. (of.expressions x).1 (seen_told tree sets are (bare_statement t) x h))
+        same_if_both_follow _ _ (λ h. seen_tells tree sets are (bare_statement t) x ((of.expressions x).0 h)) (λ h. (of.expressions x).1 (seen_told tree sets are (bare_statement t) x h))
 
     moves_told : moved_of sets (number_of t) ≡ moves (bare_statement t)
     unfolding moves

@@ -1,5 +1,6 @@
 -- The blocks of a program, one after the other.
 use Rattle.std.proofs.Common.{◌≡◌, ℕ, suc, ◌<◌, ◌≤◌, ◌+◌, List, [], ◌∷◌, ◌++◌, length, get_or, map, drop, refl, sym, ap, ◌∙◌, arith, append_assoc, append-nil}
+use Rattle.std.proofs.Common.{add-one}
 use Rattle.std.proofs.lemmas.List.{drop_more, drop_all}
 use Rattle.sp_tree.specs.declared.checked.Block as checked
 use Rattle.sp_tree.specs.declared.checked.Checked.{Checked}
@@ -21,9 +22,6 @@ use Rattle.sp_generate.specs.Numbered.{numbered_code}
 use Rattle.sp_generate.specs.Tables.{tables, tables_blocks}
 use Rattle.sp_generate.specs.Written.{written, with_code, written_block, written_blocks}
 use Rattle.sp_generate.proofs.Forms.{ended_place, forks_place, texts_place}
-
-one : (b : ℕ) → b + 1 ≡ suc b
-one b = omega arith
 
 -- the blocks that are left, one by one
 pub blocks_on : (xs ys : List checked.Block) (i : ℕ) (k : checked.Block) → ys ≡ xs → i < length ys → k ≡ get_or ys i k → map block_of (drop i xs) ≡ block_of k ∷ map block_of (drop (i + 1) xs)
@@ -75,13 +73,13 @@ module _ (p : Program) (mv sh : ℕ → List ℕ) where
 
   pub block_next : (d d2 : Draft) (b n : ℕ) (k : c.Block) (ks : List c.Block) → n ≡ b → d2 ≡ written_block p mv sh d n k → written_blocks p mv sh d2 (b + 1) ks ≡ written_blocks p mv sh d b (k ∷ ks)
   block_next d d2 b n k ks en ed =
-      (λ i. written_blocks p mv sh (ed i) (one b i) ks) ∙ (λ i. written_blocks p mv sh (written_block p mv sh d (en i) k) (suc b) ks) ∙ block_step d b k ks
+      (λ i. written_blocks p mv sh (ed i) (add-one b i) ks) ∙ (λ i. written_blocks p mv sh (written_block p mv sh d (en i) k) (suc b) ks) ∙ block_step d b k ks
 
   pub layout_next : (out out2 : List Layout) (d d2 : Draft) (b n q : ℕ) (l : Layout) (k : c.Block) (ks : List c.Block)
       → n ≡ b → q ≡ length d.instrs → l ≡ layout_of p n q (bare_block k) → out2 ≡ out ++ l ∷ [] → d2 ≡ written_block p mv sh d n k
       → out2 ++ layouts_from p (b + 1) (length d2.instrs) (map bare_block ks) ≡ out ++ layouts_from p b (length d.instrs) (map bare_block (k ∷ ks))
   layout_next out out2 d d2 b n q l k ks en eq el eo ed =
-      (λ i. eo i ++ layouts_from p (one b i) (length (ed i).instrs) (map bare_block ks))
+      (λ i. eo i ++ layouts_from p (add-one b i) (length (ed i).instrs) (map bare_block ks))
       ∙ (λ i. (out ++ el i ∷ []) ++ layouts_from p (suc b) (length (written_block p mv sh d n k).instrs) (map bare_block ks))
       ∙ (λ i. (out ++ layout_of p (en i) (eq i) (bare_block k) ∷ []) ++ layouts_from p (suc b) (length (written_block p mv sh d (en i) k).instrs) (map bare_block ks))
       ∙ layout_step out d b k ks

@@ -1,5 +1,6 @@
 -- What the table derives is in the grammar.
 use Rattle.std.proofs.Common.{◌≡◌, ℕ, suc, Bool, true, false, cond, List, [], ◌∷◌, ◌++◌, Option, Some, None, refl, sym as back_of, subst, ap, ◌∙◌}
+use Rattle.sp_base.proofs.Facts.{some_is_not_none}
 use Rattle.sp_tree.specs.declared.token.Token.{Token}
 use Rattle.sp_tree.specs.declared.token.Kind.{Kind}
 use Rattle.sp_tree.specs.declared.token.Kind.TheVariants as kind
@@ -15,9 +16,6 @@ use Rattle.sp_grammar.specs.Derives.{Begins, Derives, takes, skips, DerivesAll}
 use Rattle.sp_grammar.specs.Derives as d
 use Rattle.sp_grammar.specs.Means.{Means, MeansAll, none, and}
 use borrow.Author.Tests.{eqb-true}
-
-pub clash : {A X : Type 0} {x : A} (o : Option A) → o ≡ Some x → o ≡ None → X
-clash o p q = absurd cc
 
 -- kinds that pass the test are the same
 pub kind_is-true : (a b : Kind) → kind_is a b ≡ true → a ≡ b
@@ -186,7 +184,7 @@ module _ (text : List ℕ) (Ok : ℕ → List Token → Type 0) where
   passed sym.Formals t r h = g.no_formals
   passed (sym.AStatement d) t r h = g.empty t
   passed (sym.AfterName d) t r h = λ us n i. g.plain_call i
-  passed (sym.AnElse d) t r h = g.no_else (λ p. clash (look (rows (sym.AnElse d)) t.kind) (ap (look (rows (sym.AnElse d))) p) h)
+  passed (sym.AnElse d) t r h = g.no_else (λ p. some_is_not_none (look (rows (sym.AnElse d)) t.kind) (ap (look (rows (sym.AnElse d))) p) h)
   passed (sym.MoreStatements d) t r h = g.statements_end
   passed (sym.ARelation d) t r h = λ a. g.no_relation
   passed (sym.MoreTerms d) t r h = λ a. g.terms_end

@@ -1,5 +1,6 @@
 -- A symbol takes at most one list of tokens, and stands for one thing.
 use Rattle.std.proofs.Common.{◌≡◌, ℕ, List, ◌∷◌, Option, Some, None, refl, subst}
+use Rattle.sp_base.proofs.Facts.{one_value, some_is_not_none}
 use Rattle.sp_tree.specs.declared.token.Token.{Token}
 use Rattle.sp_tree.specs.PlainSyntax.{Program}
 use Rattle.sp_tree.specs.Viable.{Any, Spells}
@@ -11,12 +12,6 @@ use Rattle.sp_grammar.specs.Derives.{Derives, takes, skips, DerivesAll, none, an
 -- the same rest and the same value
 pub data Both (X : Type 0) : List Token → X → List Token → X → Type 0 where
   both : {r : List Token} {x : X} → Both X r x r x
-
-same_some : {A : Type 0} {x y : A} (o : Option A) → o ≡ Some x → o ≡ Some y → x ≡ y
-same_some o p q = cc
-
-clash : {A X : Type 0} {x : A} (o : Option A) → o ≡ Some x → o ≡ None → X
-clash o p q = absurd cc
 
 module _ (text : List ℕ) (Ok : ℕ → List Token → Type 0) where
   built : (s : Symbol) (t : Token) (e : Entry (Row s)) {r r' : List Token} {vs vs' : Values e.left} → Both (Values e.left) r vs r' vs' → Both (Value s) r (build text e.row t vs) r' (build text e.row t vs')
@@ -37,10 +32,10 @@ module _ (text : List ℕ) (Ok : ℕ → List Token → Type 0) where
 
   mutual
     pub unique : {s : Symbol} {ts r r' : List Token} {v v' : Value s} → Derives text Ok s ts r v → Derives text Ok s ts r' v' → Both (Value s) r v r' v'
-    unique {s} (takes t e q g a) (takes t' e' q' g' a') = taken s t _ _ _ e _ e' (same_some (look (rows s) t.kind) q q') _ (λ vs'' a''. unique_all a a'') a'
-    unique {s} (takes t e q g a) (skips t' q' h') = clash (look (rows s) t.kind) q q'
-    unique {s} (skips t q h) (takes t' e' q' g' a') = clash (look (rows s) t.kind) q' q
-    unique {s} (skips t {v = v} q h) (skips t' {v = v'} q' h') = same_gap s _ v v' (same_some (gap s t) h h')
+    unique {s} (takes t e q g a) (takes t' e' q' g' a') = taken s t _ _ _ e _ e' (one_value (look (rows s) t.kind) q q') _ (λ vs'' a''. unique_all a a'') a'
+    unique {s} (takes t e q g a) (skips t' q' h') = some_is_not_none (look (rows s) t.kind) q q'
+    unique {s} (skips t q h) (takes t' e' q' g' a') = some_is_not_none (look (rows s) t.kind) q' q
+    unique {s} (skips t {v = v} q h) (skips t' {v = v'} q' h') = same_gap s _ v v' (one_value (gap s t) h h')
 
     pub unique_all : {l : List Symbol} {ts r r' : List Token} {vs vs' : Values l} → DerivesAll text Ok l ts r vs → DerivesAll text Ok l ts r' vs' → Both (Values l) r vs r' vs'
     unique_all none none = both

@@ -8,6 +8,7 @@ use Rattle.sp_tree.specs.declared.token.Kind.TheVariants as kind
 use Rattle.sp_tree.specs.Characters.{is_blank, is_letter, is_digit}
 use Rattle.sp_tree.specs.Lexemes.{words, signs, Run, run_ends, run_goes_on, TextBody, text_ends, two_quotes, text_byte, BraceBody, brace_ends, brace_byte, StarBody, star_ends, star_byte, Comment, brace_comment, star_comment, opens_comment, Lexeme, name, word, number, text, sign, Longest}
 use Rattle.sp_base.specs.declared.halt.Refusal.{Refusal}
+use Rattle.sp_base.proofs.Facts.{equals_itself}
 use Rattle.sp_tree.specs.PlainSyntax.{Program}
 use Rattle.sp_tree.specs.First.{IsFirst}
 use Rattle.sp_tree.specs.Viable.{Spells}
@@ -106,12 +107,9 @@ same_bytes [] [] = true
 same_bytes (b ∷ bs) (c ∷ cs) = (b == c) && same_bytes bs cs
 same_bytes bs cs = false
 
-eqb_same : (b : ℕ) → (b == b) ≡ true
-eqb_same b = grind (arith, nat_tests)
-
 same_self : (bs : List ℕ) → same_bytes bs bs ≡ true
 same_self [] = refl
-same_self (b ∷ bs) = λ i. eqb_same b i && same_self bs i
+same_self (b ∷ bs) = λ i. equals_itself b i && same_self bs i
 
 abbrev absent : List ℕ → List (List ℕ) → Bool
 absent w [] = true

@@ -11,6 +11,8 @@ use Rattle.sp_base.specs.declared.place.Place.{Place}
 use Rattle.sp_base.specs.declared.halt.Refusal.{Refusal}
 use Rattle.sp_base.specs.declared.rule.Rule.{Rule}
 use Rattle.sp_base.specs.declared.rule.Rule.TheVariants as rule
+use Rattle.sp_base.proofs.Facts.{one_value}
+use Rattle.sp_base.specs.Order.{both_tie}
 use Rattle.sp_tree.specs.First.{row, refusal_cmp, before, IsFirst}
 use Rattle.sp_tree.specs.Places.{next_place, place_behind}
 
@@ -21,11 +23,6 @@ abbrev IsTie : Ordering → Type 0
 IsTie Less = ⊥
 IsTie Equal = Unit {0}
 IsTie Greater = ⊥
-
-both_tie : (r s : Ordering) → ordering_then r s ≡ Equal → (r ≡ Equal) × (s ≡ Equal)
-both_tie Less s e = absurd (subst IsTie (back_of e) tt)
-both_tie Equal s e = (refl, e)
-both_tie Greater s e = absurd (subst IsTie (back_of e) tt)
 
 -- the rules in the order of the table
 abbrev table : List Rule
@@ -80,11 +77,8 @@ at_row rule.I8 = refl
 at_row rule.I9 = refl
 at_row rule.L5 = refl
 
-same_some : {A : Type 0} {x y : A} (o : Option A) → o ≡ Some x → o ≡ Some y → x ≡ y
-same_some o p q = cc
-
 same_rule : (r s : Rule) → row r ≡ row s → r ≡ s
-same_rule r s e = same_some (slice_get table (row s)) (ap (slice_get table) (back_of e) ∙ at_row r) (at_row s)
+same_rule r s e = one_value (slice_get table (row s)) (ap (slice_get table) (back_of e) ∙ at_row r) (at_row s)
 
 -- only equal refusals tie
 pub same_refusal : (a b : Refusal) → refusal_cmp a b ≡ Equal → a ≡ b

@@ -1,5 +1,6 @@
 -- The control and the system go on alike: an event of the one is the event of the other.
 use Rattle.std.proofs.Common.{◌≡◌, ◌≢◌, ℕ, ◌-◌, ◌≤◌, ◌==◌, ℤ, inl, Bool, true, false, cond, if◌then◌else◌, List, [], Option, Some, None, refl, sym, ap, ◌∙◌, subst, arith}
+use Rattle.std.proofs.lemmas.Bool.{eqb-true}
 use Rattle.sp_base.specs.declared.fault.Fault.{Fault}
 use Rattle.sp_cell.specs.declared.cell.Cell.{Cell}
 use Rattle.sp_cell.specs.declared.spot.Address.{Address}
@@ -16,7 +17,7 @@ use Rattle.sp_code.specs.Memory.{Setting, Stores, Memory, first}
 use Rattle.sp_code.specs.Control.{Control, Doing, Unborn, Ready, Out, Sending, Receiving, Joining, Laid, Ended, Gone, does, queues, offers, one_fewer, reports, comes_back, takes, behind, control_at_start}
 use Rattle.sp_code.specs.System.{System, Condition, Absent, Working, Waits, Joins, Laid as IsLaid, Gone as HasGone, Over, event_at, event_or, event_of, fault_of, entered_now, received, sent, taken, rejoined, reported, happens, unless_fault, lays, after, store_of, config_of, counted, opening}
 use Rattle.sp_history.specs.Agreement.{Phase, Never, Running, ToSend, ToReceive, ToJoin, Down, Finished, Odd, phase, phase_in, waiting_phase, IsQueue, IsOrderly, Agrees, SamePending, waits_by, IsGot}
-use Rattle.sp_history.proofs.Queues.{number_is, at_other, both_at}
+use Rattle.sp_history.proofs.Queues.{at_other, both_at}
 use Rattle.sp_history.proofs.Orders.{queue_take}
 
 -- ---- small steps
@@ -77,7 +78,7 @@ pub as_it_was : (p q : ℕ) (m : ℕ → Doing) (d : Doing) → m p ≡ d → ph
 as_it_was p q m d e = go (p == q) refl
   where
     go : (t : Bool) → p == q ≡ t → phase (m q) ≡ cond t (phase d) (phase (m q))
-    go true w = ap (λ x. phase (m x)) (sym (number_is p q w)) ∙ ap phase e
+    go true w = ap (λ x. phase (m x)) (sym (eqb-true p q w)) ∙ ap phase e
     go false w = refl
 
 fewer_control : (k : Control) (p : ℕ) (d : Doing) → k.doing p ≡ d → (q : ℕ) → phase ((one_fewer p d k).doing q) ≡ cond (p == q) (fewer (phase d)) (phase (k.doing q))
@@ -286,11 +287,11 @@ orderly_start = record {
 }
   where
     zero_is : (q : ℕ) (b : Bool) → q == 0 ≡ b → (if b then Ready else Unborn) ≡ Ready → q ≡ 0
-    zero_is q true w e = number_is q 0 w
+    zero_is q true w e = eqb-true q 0 w
     zero_is q false w e = absurd (cc e)
 
     unborn : (q : ℕ) (b : Bool) → q == 0 ≡ b → 1 ≤ q → (if b then Ready else Unborn) ≡ Unborn
-    unborn q true w l = absurd (omega (arith, number_is q 0 w, l))
+    unborn q true w l = absurd (omega (arith, eqb-true q 0 w, l))
     unborn q false w l = refl
 
 -- taking one that is ready changes nothing that the system tells

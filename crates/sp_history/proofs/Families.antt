@@ -1,5 +1,7 @@
 -- A child that has not ended is awaited by its parent.
 use Rattle.std.proofs.Common.{◌≡◌, ◌≢◌, ◌⊎◌, ℕ, zero, suc, ◌-◌, ◌≤◌, ◌==◌, inl, inr, Bool, true, false, cond, if◌then◌else◌, List, [], ◌∷◌, length, Option, Some, None, refl, sym, ap, ◌∙◌, subst, arith}
+use Rattle.std.proofs.lemmas.Bool.{eqb-true}
+use Rattle.std.proofs.lemmas.Option.{same_Some}
 use Rattle.sp_journal.specs.declared.entry.Way.{Way}
 use Rattle.sp_journal.specs.declared.entry.Way.TheVariants as way
 use Rattle.sp_journal.specs.declared.entry.Event.{Event}
@@ -14,7 +16,7 @@ use Rattle.sp_code.specs.Memory.{Setting, Stores}
 use Rattle.sp_code.specs.System.{System, Gives, Gets}
 use Rattle.sp_history.specs.Agreement.{Among, IsOrderly, Agrees, Reaches, waits_by, IsGot}
 use Rattle.sp_history.specs.Lines.{left_of, IsLive, HasChildren}
-use Rattle.sp_history.proofs.Queues.{number_is, number_or, at_same, at_other, numbers_have}
+use Rattle.sp_history.proofs.Queues.{number_or, at_same, at_other, numbers_have}
 use Rattle.sp_history.proofs.Orders.{orderly_back, next_is, out_there}
 use Rattle.sp_history.proofs.Legal.{got_of, keeps}
 use Rattle.sp_history.proofs.Outs.{without, without_length, without_has}
@@ -133,9 +135,6 @@ module _ (k : Control) (o : IsOrderly k) (h : HasChildren k) (p w : ℕ) (out : 
       count r false e (inl is) = subst (λ y. length (at_key ◌==◌ p (numbers k.births.processes n) h.children y) ≡ left_of (cond (p == y) (Joining n) (k.doing y))) is (ap length (at_same h.children p (numbers k.births.processes n)) ∙ numbers_length k.births.processes n ∙ ap left_of (sym (at_same k.doing p (Joining n))))
       count r false e (inr d) = ap length (at_other h.children p r (numbers k.births.processes n) d.0) ∙ h.count r ∙ ap left_of (sym (at_other k.doing p r (Joining n) d.0))
 
-      some_is : {x y : Birth} → Some x ≡ Some y → x ≡ y
-      some_is e = cc
-
       live_was : (q : ℕ) → (p ≡ q) ⊎ ((p ≢ q) × (p == q ≡ false)) → IsLive (at_key ◌==◌ p (Joining n) k.doing q) → IsLive (k.doing q)
       live_was q (inl is) i = subst (λ y. IsLive (k.doing y)) is live_out
       live_was q (inr d) i = subst IsLive (at_other k.doing p q (Joining n) d.0) i
@@ -144,7 +143,7 @@ module _ (k : Control) (o : IsOrderly k) (h : HasChildren k) (p w : ℕ) (out : 
           → Among q (at_key ◌==◌ p (numbers k.births.processes n) h.children b.parent)
       all q b true e f i =
           let l = next_is k.births n q e in
-          let is : p ≡ b.parent = ap (λ (x : Birth). x.parent) (some_is f) in
+          let is : p ≡ b.parent = ap (λ (x : Birth). x.parent) (same_Some _ _ f) in
           subst (λ y. Among q (at_key ◌==◌ p (numbers k.births.processes n) h.children y)) is (subst (Among q) (sym (at_same h.children p (numbers k.births.processes n))) (numbers_have k.births.processes n q l.0 l.1))
       all q b false e f i = go (number_or p b.parent) (h.all q b f (live_was q (number_or p q) i))
         where
@@ -172,7 +171,7 @@ module _ (k : Control) (o : IsOrderly k) (h : HasChildren k) (p w : ℕ) (out : 
       fewer b e n joins a = by (n == 1) refl
         where
           by : (t : Bool) → n == 1 ≡ t → HasChildren (record (if t then queues b.parent m else does b.parent (Joining (n - 1)) m) { out = k.out - 1; births = k.births })
-          by true f = made _ _ (one_gone h.children m.doing k.births.birth p b.parent n Ready dead joins (let x = number_is n 1 f in omega (arith, x)) a ended)
+          by true f = made _ _ (one_gone h.children m.doing k.births.birth p b.parent n Ready dead joins (let x = eqb-true n 1 f in omega (arith, x)) a ended)
           by false f = made _ _ (one_gone h.children m.doing k.births.birth p b.parent n (Joining (n - 1)) dead joins refl a ended)
 
       go : (x : Option Birth) → k.births.birth p ≡ x → HasChildren (record (reports x m) { out = k.out - 1; births = k.births })

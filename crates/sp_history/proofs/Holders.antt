@@ -1,7 +1,10 @@
 -- Along a history of safe code one process holds the output, and no other.
 use Rattle.std.proofs.Common.{◌≡◌, ◌≢◌, ◌⊎◌, inl, inr, ℕ, ◌+◌, ◌-◌, ◌<◌, ◌≤◌, ◌==◌, ℤ, List, [], ◌∷◌, Option, Some, None, Bool, true, false, cond, if◌then◌else◌, refl, sym, ap, ◌∙◌, subst, arith}
+use Rattle.std.proofs.Common.{zero-add}
 use Rattle.std.specs.Prelude.{slice_get}
 use Rattle.std.specs.FinMap as map
+use Rattle.std.proofs.lemmas.Bool.{eqb-true}
+use Rattle.std.proofs.lemmas.Option.{none-some, same_Some}
 use Rattle.sp_base.specs.declared.fault.Fault.{Fault}
 use Rattle.sp_cell.specs.declared.cell.Cell.{Cell}
 use Rattle.sp_cell.specs.declared.cell.Cell.TheVariants as cell
@@ -35,7 +38,7 @@ use Rattle.sp_history.specs.Lines.{HasChildren}
 use Rattle.sp_history.specs.Counted.{IsCounted}
 use Rattle.sp_history.specs.Channels.{EntriesHave, ConfigHas, AimsAt, TurnDoes}
 use Rattle.sp_history.specs.Holding.{Share, Holds, Lends, Lacks, StoreIs, IsPart, Owned, AimsIn, IsShared, HasHolder, IsOutputOf}
-use Rattle.sp_history.proofs.Queues.{number_is, number_or, at_same, at_other}
+use Rattle.sp_history.proofs.Queues.{number_or, at_same, at_other}
 use Rattle.sp_history.proofs.Orders.{next_is, next_not, next_yes}
 use Rattle.sp_history.proofs.Keeping.{turn_does}
 use Rattle.sp_history.proofs.Naming.{there, after_counted}
@@ -43,7 +46,7 @@ use Rattle.sp_history.proofs.Families.{parent_joins, children_by, children_start
 use Rattle.sp_history.proofs.Agreeing.{orderly_start, agrees_start}
 use Rattle.sp_history.proofs.Legal.{keeps}
 use Rattle.sp_history.proofs.Outputs.{Shares, AnyChannel, any_cells, own_is, target_apart, sharing}
-use Rattle.sp_history.proofs.Holding.{some_store, no_store, store_runs, store_waits, store_joins, store_laid, store_over, store_on, one_change, received_change, join_lacks, join_holds, no_lender, not_held}
+use Rattle.sp_history.proofs.Holding.{store_runs, store_waits, store_joins, store_laid, store_over, store_on, one_change, received_change, join_lacks, join_holds, no_lender, not_held}
 use Rattle.sp_history.proofs.Splitting.{plan_in, plan_found, plan_alone, fork_quiet, fork_lends}
 
 -- ---- births
@@ -55,11 +58,8 @@ IsBorn b = (q : ℕ) (d : Birth) → b.birth q ≡ Some d → (q < b.processes) 
 born_event : (b : Births) (q : ℕ) (e : Event) → q < b.processes → IsBorn b → IsBorn (after_event b q e)
 born_event b q (event.Fork n) l h r d = go (is_next b n r) refl
   where
-    some_is : {x y : Birth} → Some x ≡ Some y → x ≡ y
-    some_is w = cc
-
     go : (t : Bool) → is_next b n r ≡ t → cond t (Some (record { parent = q; fork = b.forks q; child = r - b.processes })) (b.birth r) ≡ Some d → (r < b.processes + n) × (d.parent < r)
-    go true w k = let x = next_is b n r w in let y : q ≡ d.parent = ap (λ (z : Birth). z.parent) (some_is k) in (omega (arith, x), omega (arith, x, y, l))
+    go true w k = let x = next_is b n r w in let y : q ≡ d.parent = ap (λ (z : Birth). z.parent) (same_Some _ _ k) in (omega (arith, x), omega (arith, x, y, l))
     go false w k = let x = h r d k in (omega (arith, x), x.1)
 born_event b q event.Open l h r d = h r d
 born_event b q (event.Send c) l h r d = h r d
@@ -224,7 +224,7 @@ module _ (g : Setting) (s : System Plain) (q : ℕ) (c0 : Config (Memory Plain))
         where
           by : (b : Bool) → nx r ≡ b → nx r ≡ false
           by false z = z
-          by true z = absurd (no_store (ap store_in (sym (counted.absent r (next_is s.births n r z).0)) ∙ w))
+          by true z = absurd (none-some _ (ap store_in (sym (counted.absent r (next_is s.births n r z).0)) ∙ w))
 
       old : (r : ℕ) (d : Birth) → s.births.birth r ≡ Some d → nx d.parent ≡ false
       old r d w = let x = born r d w in next_not s.births n d.parent (omega (arith, x))
@@ -235,14 +235,11 @@ module _ (g : Setting) (s : System Plain) (q : ℕ) (c0 : Config (Memory Plain))
       few : (r : ℕ) → nx r ≡ true → r - s.births.processes < n
       few r w = let x = next_is s.births n r w in omega (arith, x)
 
-      none : (j : ℕ) → 0 + j ≡ j
-      none j = omega arith
-
       hand : ℕ → List Spot
       hand j = (handing_of g.code.layouts (frames_of c) v j (child_or (child_at (table_or (slice_get g.code.forks t)) j))).moved
 
       inside : (r : ℕ) → nx r ≡ true → In output_spot (H r).moved → In output_spot (moved_of hs)
-      inside r w i = plan_in g.code.layouts (frames_of c) (table_or (slice_get g.code.forks t)) v output_spot 0 n (r - s.births.processes) (few r w) (subst (λ j. In output_spot (hand j)) (sym (none (r - s.births.processes))) i)
+      inside r w i = plan_in g.code.layouts (frames_of c) (table_or (slice_get g.code.forks t)) v output_spot 0 n (r - s.births.processes) (few r w) (subst (λ j. In output_spot (hand j)) (sym (zero-add (r - s.births.processes))) i)
 
       kept : (IsPart (h.share q) → In output_spot (moved_of hs) → ⊥) → HasHolder (record (happens plain g q (Forks t v n) c s) { births = after_event s.births q (event.Fork n) })
       kept quiet = record {
@@ -271,11 +268,11 @@ module _ (g : Setting) (s : System Plain) (q : ℕ) (c0 : Config (Memory Plain))
           new0 = next_yes s.births n r0 (omega arith) (omega (arith, found.1))
 
           has0 : In output_spot (H r0).moved
-          has0 = subst (λ j. In output_spot (hand j)) (none found.0 ∙ sym index) found.2
+          has0 = subst (λ j. In output_spot (hand j)) (zero-add found.0 ∙ sym index) found.2
 
           alone : (r : ℕ) → nx r ≡ true → In output_spot (H r).moved → r0 ≡ r
           alone r w j =
-              let same : found.0 ≡ r - s.births.processes = plan_alone g.code.layouts (frames_of c) (table_or (slice_get g.code.forks t)) v output_spot 0 n found.0 (r - s.births.processes) can.distinct found.1 (few r w) found.2 (subst (λ x. In output_spot (hand x)) (sym (none (r - s.births.processes))) j) in
+              let same : found.0 ≡ r - s.births.processes = plan_alone g.code.layouts (frames_of c) (table_or (slice_get g.code.forks t)) v output_spot 0 n found.0 (r - s.births.processes) can.distinct found.1 (few r w) found.2 (subst (λ x. In output_spot (hand x)) (sym (zero-add (r - s.births.processes))) j) in
               let x = next_is s.births n r w in
               omega (arith, same, x)
 
@@ -374,12 +371,12 @@ opening_held g = record {
 }
   where
     only : (q : ℕ) (b : Bool) → q == 0 ≡ b → (if b then Holds else Lacks) ≡ Holds → q ≡ 0
-    only q true w e = number_is q 0 w
+    only q true w e = eqb-true q 0 w
     only q false w e = absurd (cc e)
 
     stores : (p : Plain) (b : Bool) → store_in (if b then Working (first plain g) else Absent) ≡ Some p → StoreIs (if b then Holds else Lacks) p
-    stores p true e = subst (StoreIs Holds) (some_store e) (subst IsOutput (sym (root_output (sizes_of (m.layout_of g.code.layouts 0)))) tt, tt)
-    stores p false e = absurd (no_store e)
+    stores p true e = subst (StoreIs Holds) (same_Some _ _ e) (subst IsOutput (sym (root_output (sizes_of (m.layout_of g.code.layouts 0)))) tt, tt)
+    stores p false e = absurd (none-some _ e)
 
     aims : (b : Bool) → AimsIn (if b then Working (first plain g) else Absent)
     aims true = tt
@@ -475,7 +472,7 @@ module _ (g : Setting) where
   opening_counted = record { forks = λ q. omega arith; opens = λ q. omega arith; absent = λ q l. go q (q == 0) refl l }
     where
       go : (q : ℕ) (b : Bool) → q == 0 ≡ b → 1 ≤ q → (if b then Working (first plain g) else Absent) ≡ Absent
-      go q true e l = absurd (omega (arith, number_is q 0 e, l))
+      go q true e l = absurd (omega (arith, eqb-true q 0 e, l))
       go q false e l = refl
 
   -- after a history of safe code

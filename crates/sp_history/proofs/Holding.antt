@@ -2,6 +2,7 @@
 use Rattle.std.proofs.Common.{◌≡◌, ◌≢◌, ◌⊎◌, inl, inr, ℕ, ◌<◌, ◌==◌, List, [], ◌∷◌, Option, Some, None, false, refl, sym, ap, ◌∙◌, subst, arith}
 use Rattle.std.proofs.Math.Path.{fun_ext}
 use Rattle.std.specs.FinMap as map
+use Rattle.std.proofs.lemmas.Option.{none-some, same_Some}
 use Rattle.sp_cell.specs.declared.cell.Cell.{Cell}
 use Rattle.sp_cell.specs.declared.spot.Spot.{Spot}
 use Rattle.sp_cell.specs.declared.spot.Address.{Address}
@@ -21,12 +22,6 @@ use Rattle.sp_history.specs.Channels.{AimsAt}
 use Rattle.sp_history.specs.Holding.{Share, Holds, Lends, Lacks, StoreIs, IsPart, Owned, AimsIn, IsShared}
 use Rattle.sp_history.proofs.Queues.{number_or, at_same, at_other}
 use Rattle.sp_history.proofs.Outputs.{own_is, target_apart, output_known}
-
-pub some_store : {p q : Plain} → Some p ≡ Some q → p ≡ q
-some_store e = cc
-
-pub no_store : {p : Plain} → None ≡ Some p → ⊥
-no_store e = cc
 
 -- ---- stores of conditions
 
@@ -79,7 +74,7 @@ module _ (share : ℕ → Share) (holder : ℕ) (birth : ℕ → Option Birth) w
       at_store q r e = go (number_or z q)
         where
           go : (z ≡ q) ⊎ ((z ≢ q) × (z == q ≡ false)) → ((z ≡ q) × (p ≡ r)) ⊎ (store_in (f q) ≡ Some r)
-          go (inl w) = inl (w, some_store (sym now ∙ ap store_in (sym (at_same f z x)) ∙ ap (λ y. store_in (at_key ◌==◌ z x f y)) w ∙ e))
+          go (inl w) = inl (w, same_Some _ _ (sym now ∙ ap store_in (sym (at_same f z x)) ∙ ap (λ y. store_in (at_key ◌==◌ z x f y)) w ∙ e))
           go (inr o) = inr (ap store_in (sym (at_other f z q x o.0)) ∙ e)
 
       here : (z ≡ holder) ⊎ ((z ≢ holder) × (z == holder ≡ false)) → (r : Plain) × (store_in (at_key ◌==◌ z x f holder) ≡ Some r)
@@ -173,14 +168,14 @@ module _ (share : ℕ → Share) (holder : ℕ) (birth : ℕ → Option Birth) (
   join_store r t e = go (number_or b.parent r)
     where
       go : (b.parent ≡ r) ⊎ ((b.parent ≢ r) × (b.parent == r ≡ false)) → ((b.parent ≡ r) × (plain.joined m p ≡ t)) ⊎ ((b.parent ≢ r) × (q ≢ r) × (store_in (f r) ≡ Some t))
-      go (inl w) = inl (w, some_store (sym now ∙ ap store_in (sym at_parent) ∙ ap (λ y. store_in (after_join y)) w ∙ e))
+      go (inl w) = inl (w, same_Some _ _ (sym now ∙ ap store_in (sym at_parent) ∙ ap (λ y. store_in (after_join y)) w ∙ e))
       go (inr o) = inr (child (number_or q r))
         where
           left : store_in (at_key ◌==◌ q Gone f r) ≡ Some t
           left = ap store_in (sym (at_other (at_key ◌==◌ q Gone f) b.parent r x o.0)) ∙ e
 
           child : (q ≡ r) ⊎ ((q ≢ r) × (q == r ≡ false)) → (b.parent ≢ r) × (q ≢ r) × (store_in (f r) ≡ Some t)
-          child (inl w) = absurd (no_store (ap store_in (sym (at_same f q Gone)) ∙ ap (λ y. store_in (at_key ◌==◌ q Gone f y)) w ∙ left))
+          child (inl w) = absurd (none-some _ (ap store_in (sym (at_same f q Gone)) ∙ ap (λ y. store_in (at_key ◌==◌ q Gone f y)) w ∙ left))
           child (inr d) = (o.0, d.0, ap store_in (sym (at_other f q r Gone d.0)) ∙ left)
 
   join_aims : (r : ℕ) → AimsIn (after_join r)

@@ -1,5 +1,6 @@
 -- The journal of one worker that hands in what it holds is first in, first out.
 use Rattle.std.proofs.Common.{◌≡◌, ◌≢◌, ◌⊎◌, ℕ, ◌+◌, ◌-◌, ◌==◌, inl, inr, Bool, true, false, cond, nat_lt, ◌||◌, if◌then◌else◌, List, [], ◌∷◌, ◌++◌, append_assoc, Option, Some, None, refl, sym, ap, ◌∙◌, subst, arith}
+use Rattle.std.proofs.lemmas.List.{append-nil}
 use Rattle.sp_journal.specs.declared.entry.Way.{Way}
 use Rattle.sp_journal.specs.declared.entry.Way.TheVariants as way
 use Rattle.sp_journal.specs.declared.entry.Event.{Event}
@@ -19,10 +20,6 @@ use Rattle.sp_history.proofs.Agreeing.{pending_at, orderly_start, agrees_start}
 use Rattle.sp_history.proofs.Legal.{got_of, keeps}
 use Rattle.sp_history.proofs.Families.{children_start, parent_joins, children_back, children_takes}
 use Rattle.sp_history.proofs.Orders.{orderly_back}
-
-append_none : (xs : List ℕ) → xs ++ [] ≡ xs
-append_none [] = refl
-append_none (x ∷ xs) = ap (λ ys. x ∷ ys) (append_none xs)
 
 -- the process that the worker holds, before those that are ready
 abbrev held : Option ℕ → List ℕ → List ℕ
@@ -94,7 +91,7 @@ module _ (k : Control) (l : Line) (p w : ℕ) (o : IsOrderly k) (h : HasChildren
         awaited = one_join m.doing l.awaited b (a - 1) Ready (λ j g. absurd (cc g)) ended;
       }
       fewer b n joins a e false f = record {
-        ready = ap (λ (s : Bool). k.ready ++ cond s (b ∷ []) []) (ap (λ x. x == 1) e ∙ f) ∙ append_none k.ready;
+        ready = ap (λ (s : Bool). k.ready ++ cond s (b ∷ []) []) (ap (λ x. x == 1) e ∙ f) ∙ append-nil k.ready;
         pending = i.pending;
         awaited = one_join m.doing l.awaited b (a - 1) (Joining (n - 1)) (λ j g. ap (λ x. x - 1) e ∙ is_joining (n - 1) j g) ended;
       }

@@ -2,6 +2,7 @@
 use Rattle.std.proofs.Common.{◌≡◌, ℕ, zero, suc, ◌+◌, ◌*◌, ◌==◌, ℤ, List, [], ◌∷◌, length, Option, Some, None, Bool, true, false, if◌then◌else◌, ◌&&◌, refl, subst, sym}
 use Rattle.std.specs.Prelude.{slice_get, nat_abs, nat_le, int_le, int_lt, pos, ◌-ℤ◌, take, not}
 use Rattle.std.specs.Fmt.{signed_decimal}
+use Rattle.std.proofs.lemmas.Bool.{and_parts}
 use Rattle.sp_tree.specs.declared.operators.BinaryOp.{BinaryOp}
 use Rattle.sp_tree.specs.declared.operators.BinaryOp.TheVariants as op
 use Rattle.sp_tree.specs.declared.operators.UnaryOp.TheVariants as sign
@@ -32,10 +33,6 @@ pub record HasKeeping {M : Type 0} (ops : Ops M) (C : ℕ → Type 0) (I : M →
   pub beat : (n m : M) → I n → ops.beat n ≡ Done m → I m
   pub open_frame : (l : Layout) (up : ℕ) (es : List Entry) (n m : M) → I n → EntriesHave C es → ops.open_frame l up es n ≡ Done m → I m
   pub close_frame : (n : M) → I n → ops.may_close n ≡ true → I (ops.close_frame n)
-
-both_true : (a b : Bool) → (a && b) ≡ true → (a ≡ true) × (b ≡ true)
-both_true true b e = (refl, e)
-both_true false b e = absurd cc
 
 module _ {M : Type 0} (C : ℕ → Type 0) (I : M → Type 0) (J : ℕ → Address → M → Type 0) where
   abbrev K : One M → Type 0
@@ -206,7 +203,7 @@ module _ {M : Type 0} (ops : Ops M) (code : Parts) (C : ℕ → Type 0) (I : M �
   instruction_keeps (Some i.Load) pc st n e h = k_address C I J st _ e (λ a st1 f. k_when C I J (ops.has a 1 n) _ (λ w. k_ordinal C I J (ops.look a n) _ (λ v. ((tt, f), h))))
   instruction_keeps (Some i.Loadc) pc st n e h = k_address C I J st _ e (λ a st1 f. k_when C I J (ops.has a 1 n) _ (λ w. k_channel_in C I J (ops.look a n) _ (law.look a n h) (λ c k. ((k, f), h))))
   instruction_keeps (Some i.Store) pc st n e h = k_cell C I J st _ e (λ c st1 k f. k_address C I J st1 _ f (λ a st2 j. k_when C I J (ops.has a 1 n) _ (λ w. (j, law.put a c n h w k))))
-  instruction_keeps (Some (i.Copy k)) pc st n e h = k_address C I J st _ e (λ from st1 f. k_address C I J st1 _ f (λ to st2 j. k_when C I J (ops.has from k n && ops.has to k n) _ (λ w. (j, law.copy to from k n h (both_true (ops.has from k n) (ops.has to k n) w).1))))
+  instruction_keeps (Some (i.Copy k)) pc st n e h = k_address C I J st _ e (λ from st1 f. k_address C I J st1 _ f (λ to st2 j. k_when C I J (ops.has from k n && ops.has to k n) _ (λ w. (j, law.copy to from k n h (and_parts (ops.has from k n) (ops.has to k n) w).1))))
   instruction_keeps (Some i.Add) pc st n e h = two_keeps pc st n e h op.Add
   instruction_keeps (Some i.Sub) pc st n e h = two_keeps pc st n e h op.Sub
   instruction_keeps (Some i.Mul) pc st n e h = two_keeps pc st n e h op.Mul

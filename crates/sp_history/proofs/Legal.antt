@@ -1,5 +1,6 @@
 -- A legal history determines the control and the system; what is out with a worker stays so until that worker's next note.
 use Rattle.std.proofs.Common.{◌≡◌, ◌≢◌, ℕ, ◌<◌, List, [], ◌∷◌, ◌++◌, Option, Some, None, refl, sym, ap, ◌∙◌, subst}
+use Rattle.std.proofs.lemmas.Option.{same_Some}
 use Rattle.sp_journal.specs.declared.entry.Event.{Event}
 use Rattle.sp_journal.specs.declared.entry.Note.{Note}
 use Rattle.sp_journal.specs.declared.entry.Entry.{Entry}
@@ -61,11 +62,8 @@ module _ {S : Type 0} (stores : Stores S) (g : Setting) where
   kept_by w None None (Some q) k s t h a i j = let f = got_of k h (Some q) (sym j) in (orderly_takes k h w (Some q) f, subst (Agrees (takes w (Some q) k)) (sym i) (agrees_takes k s a w (Some q) f))
   kept_by w None (Some e) got k s t h a i j = absurd i
   kept_by w (Some p) None None k s t h a i j =
-      let out : (r : ℕ) → Some p ≡ Some r → k.doing r ≡ Out w = λ r e. subst (λ x. k.doing x ≡ Out w) (some_is e) i.0 in
+      let out : (r : ℕ) → Some p ≡ Some r → k.doing r ≡ Out w = λ r e. subst (λ x. k.doing x ≡ Out w) (same_Some _ _ e) i.0 in
       (orderly_gives_up k h w (Some p) out, subst (Agrees (abandons (Some p) k)) (sym i.2) (agrees_gives_up k s a w (Some p) out))
-    where
-      some_is : {x y : ℕ} → Some x ≡ Some y → x ≡ y
-      some_is e = cc
   kept_by w (Some p) None (Some q) k s t h a i j = absurd (cc (i.1))
   kept_by w (Some p) (Some e) got k s t h a i j =
       let c : Enters stores g s p e t = i.1 in
@@ -139,14 +137,11 @@ module _ {S : Type 0} (stores : Stores S) (g : Setting) where
       left None f = out
       left (Some q) f = at_other k.doing q p Gone (λ is. apart (same_worker (k.doing p) v w (ap k.doing (sym is) ∙ f q refl) out)) ∙ out
 
-      some_is : {x y : ℕ} → Some x ≡ Some y → x ≡ y
-      some_is e = cc
-
       go : (give : Option ℕ) (e : Option Event) (got : Option ℕ) → Gives stores g k s v give e got t → Gets stores g (given give e got k) e got → ((takes v got (given give e got k)).doing p ≡ Out w) × (t.condition p ≡ Working c)
       go None None None i j = (left None (λ q f. absurd (cc f)), ap (λ (x : System S). x.condition p) i ∙ runs)
       go None None (Some q) i j = (taken k out (Some q) (got_of k h (Some q) (sym j)), ap (λ (x : System S). x.condition p) i ∙ runs)
       go None (Some e) got i j = absurd i
-      go (Some q) None None i j = (left (Some q) (λ r f. subst (λ x. k.doing x ≡ Out v) (some_is f) i.0), ap (λ (x : System S). x.condition p) i.2 ∙ runs)
+      go (Some q) None None i j = (left (Some q) (λ r f. subst (λ x. k.doing x ≡ Out v) (same_Some _ _ f) i.0), ap (λ (x : System S). x.condition p) i.2 ∙ runs)
       go (Some q) None (Some r) i j = absurd (cc (i.1))
       go (Some q) (Some e) got i j =
           let other : q ≢ p = λ is. apart (same_worker (k.doing p) v w (ap k.doing (sym is) ∙ i.0) out) in

@@ -1,5 +1,6 @@
 -- The journal of a run is nameable: its limits keep all numbers below 2 ^ 32.
 use Rattle.std.proofs.Common.{◌≡◌, ◌≢◌, ◌⊎◌, ℕ, ◌+◌, ◌≤◌, ◌<◌, ◌==◌, inl, inr, Bool, true, false, cond, nat_lt, if◌then◌else◌, List, [], ◌∷◌, Option, Some, None, refl, sym, ap, ◌∙◌, subst, arith}
+use Rattle.std.proofs.lemmas.Bool.{cases_lt, eqb-true}
 use Rattle.sp_base.specs.declared.fault.Fault.{Fault}
 use Rattle.sp_base.specs.declared.fault.Fault.TheVariants as fault
 use Rattle.sp_cell.specs.declared.cell.Cell.{Cell}
@@ -20,7 +21,7 @@ use Rattle.sp_code.specs.System.{System, Condition, Absent, Working, Waits, Join
 use Rattle.sp_history.specs.Channels.{StopHas}
 use Rattle.sp_history.specs.Spoken.{IsSpoken}
 use Rattle.sp_history.specs.Counted.{IsCounted}
-use Rattle.sp_history.proofs.Queues.{number_is, number_or, at_same, at_other}
+use Rattle.sp_history.proofs.Queues.{number_or, at_same, at_other}
 use Rattle.sp_history.proofs.Orders.{next_past}
 use Rattle.sp_history.proofs.Speaking.{turn_spoken, enters_spoken, opening_spoken}
 
@@ -32,15 +33,8 @@ first_none (Some f) b e = absurd cc
 
 module _ (g : Setting) (s : System Plain) (q : ℕ) (c0 : Config (Memory Plain)) (runs : s.condition q ≡ Working c0) (h : IsCounted s) where
   pub there : q < s.births.processes
-  there = go (number_or_less q s.births.processes)
+  there = go (cases_lt q s.births.processes)
     where
-      number_or_less : (a b : ℕ) → (a < b) ⊎ (b ≤ a)
-      number_or_less a b = by (nat_lt a b) refl
-        where
-          by : (t : Bool) → nat_lt a b ≡ t → (a < b) ⊎ (b ≤ a)
-          by true e = inl (grind (arith, e))
-          by false e = inr (grind (arith, e))
-
       go : (q < s.births.processes) ⊎ (s.births.processes ≤ q) → q < s.births.processes
       go (inl l) = l
       go (inr l) = absurd (let e = h.absent q l in cc (e, runs))
@@ -205,7 +199,7 @@ module _ (g : Setting) (lim : AreLimits g.limits) where
   opening_counted = record { forks = λ q. omega arith; opens = λ q. omega arith; absent = λ q l. go q (q == 0) refl l }
     where
       go : (q : ℕ) (b : Bool) → q == 0 ≡ b → 1 ≤ q → (if b then Working (first plain g) else Absent) ≡ Absent
-      go q true e l = absurd (omega (arith, number_is q 0 e, l))
+      go q true e l = absurd (omega (arith, eqb-true q 0 e, l))
       go q false e l = refl
 
   pub system_nameable : (es : List Entry) (s : System Plain) → IsSystem plain g es s → NameableFrom at_start es

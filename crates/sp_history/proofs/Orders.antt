@@ -1,5 +1,6 @@
 -- Each event and each take keeps the control orderly.
 use Rattle.std.proofs.Common.{◌≡◌, ◌≢◌, ◌⊎◌, ℕ, ◌+◌, ◌-◌, ◌≤◌, ◌<◌, ◌==◌, nat_le, inl, inr, Bool, true, false, cond, if◌then◌else◌, List, [], ◌∷◌, ◌++◌, Option, Some, None, refl, sym, ap, ◌∙◌, subst, arith}
+use Rattle.std.proofs.lemmas.Option.{same_Some}
 use Rattle.sp_journal.specs.declared.entry.Way.{Way}
 use Rattle.sp_journal.specs.declared.entry.Way.TheVariants as way
 use Rattle.sp_journal.specs.declared.entry.Event.{Event}
@@ -297,10 +298,7 @@ orderly_forks k h p u n e = record {
         go (inr o) = rw (o.1) f
 
     parent : (q : ℕ) (b : Birth) (t : Bool) → is_next k.births n q ≡ t → cond t (Some (record { parent = p; fork = k.births.forks p; child = q - k.births.processes })) (k.births.birth q) ≡ Some b → b.parent < q
-    parent q b true w f = let l = next_is k.births n q w in let g : p ≡ b.parent = ap (λ (x : Birth). x.parent) (some_is f) in omega (arith, l, g, there)
-      where
-        some_is : {x y : Birth} → Some x ≡ Some y → x ≡ y
-        some_is e = cc
+    parent q b true w f = let l = next_is k.births n q w in let g : p ≡ b.parent = ap (λ (x : Birth). x.parent) (same_Some _ _ f) in omega (arith, l, g, there)
     parent q b false w f = h.parents q b f
 
 -- every event of a process that is out keeps the control orderly

@@ -1,5 +1,6 @@
 -- Lists of numbers: each, different, among.
 use Rattle.std.proofs.Common.{◌≡◌, ◌≢◌, ◌⊎◌, ℕ, zero, suc, ◌+◌, ◌≤◌, ◌<◌, ◌==◌, inl, inr, Bool, true, false, cond, List, [], ◌∷◌, ◌++◌, refl, sym, subst, arith}
+use Rattle.std.proofs.lemmas.Bool.{eqb-false}
 use borrow.Author.Tests.{eqb-true}
 use Rattle.sp_journal.specs.Maps.{at_key}
 use Rattle.sp_journal.specs.Queue.{numbers}
@@ -47,19 +48,13 @@ pub numbers_have : (a n q : ℕ) → a ≤ q → q < a + n → Among q (numbers 
 numbers_have a zero q l h = absurd (omega (arith, l, h))
 numbers_have a (suc n) q l h = elim (q == a) as (λ b. q == a ≡ b → Among q (numbers a (suc n))) [
   | true ↦ λ e. inl (eqb-true q a e)
-  | false ↦ λ e. inr (numbers_have (suc a) n q (omega (arith, l, eqb-true q a, e, not_same q a e)) (omega (arith, h)))
+  | false ↦ λ e. inr (numbers_have (suc a) n q (omega (arith, l, eqb-true q a, e, eqb-false q a e)) (omega (arith, h)))
 ] refl
-  where
-    not_same : (q a : ℕ) → q == a ≡ false → q ≢ a
-    not_same q a e is = let t : a == a ≡ true = grind (arith) in let u : q == a ≡ true = rw is t in absurd (cc (e, u))
 
 -- ---- maps by numbers
 
 pub itself : (p : ℕ) → p == p ≡ true
 itself p = grind (arith)
-
-pub number_is : (p q : ℕ) → p == q ≡ true → p ≡ q
-number_is p q e = eqb-true p q e
 
 pub number_or : (p q : ℕ) → (p ≡ q) ⊎ ((p ≢ q) × (p == q ≡ false))
 number_or p q = elim (p == q) as (λ b. p == q ≡ b → (p ≡ q) ⊎ ((p ≢ q) × (p == q ≡ false))) [

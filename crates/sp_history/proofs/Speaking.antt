@@ -1,6 +1,7 @@
 -- Along a journal every process has its number and speaks of channels that are there.
 use Rattle.std.proofs.Common.{◌≡◌, ℕ, ◌-◌, ◌≤◌, ◌<◌, ◌==◌, ℤ, Bool, true, false, cond, if◌then◌else◌, List, [], ◌∷◌, Option, Some, None, refl, sym, subst, arith}
 use Rattle.std.specs.Prelude.{slice_get}
+use Rattle.std.proofs.lemmas.Bool.{eqb-true}
 use Rattle.sp_base.specs.declared.fault.Fault.{Fault}
 use Rattle.sp_cell.specs.declared.cell.Cell.{Cell}
 use Rattle.sp_cell.specs.declared.cell.Cell.TheVariants as cell
@@ -22,7 +23,6 @@ use Rattle.sp_code.specs.PlainStore.{plain}
 use Rattle.sp_code.specs.System.{System, Condition, Absent, Working, Waits, Joins, Laid, Gone, Over, event_at, event_or, fault_of, entered_now, frames_of, plan_of, newborn, handing_of, child_or, table_or, on_store, received, sent, taken, rejoined, reported, happens, unless_fault, lays, after, stop_of, message_of, store_of, config_of, opening, Enters, Leads, IsSystem}
 use Rattle.sp_history.specs.Channels.{CellHas, CellsHave, EntriesHave, StopHas, StoreHas, ConfigHas, TurnHas}
 use Rattle.sp_history.specs.Spoken.{Keeps, ConditionHas, IsSpoken}
-use Rattle.sp_history.proofs.Queues.{number_is}
 use Rattle.sp_history.proofs.Cells.{child_has, handed_has, taken_has, root_has}
 use Rattle.sp_history.proofs.Memories.{put_has, puts_has, keeping}
 use Rattle.sp_history.proofs.Keeping.{turn_has}
@@ -81,7 +81,7 @@ module _ (g : Setting) (C : ℕ → Type 0) where
   at_has z x f h a r = go (z == r) refl
     where
       go : (b : Bool) → z == r ≡ b → Has r (cond b x (f r))
-      go true e = subst (λ y. Has y x) (number_is z r e) h
+      go true e = subst (λ y. Has y x) (eqb-true z r e) h
       go false e = a r
 
   store_has : (q : ℕ) (c : Config (Memory Plain)) → Mine q c → StoreHas C plain (store_of c)
@@ -259,7 +259,7 @@ module _ (g : Setting) where
   opening_spoken q = go (q == 0) refl
     where
       go : (b : Bool) → q == 0 ≡ b → ConditionHas (λ c. c < 0) q (if b then Working (first plain g) else Absent)
-      go true e = (tt, (sym (number_is q 0 e), root_has (λ c. c < 0) (sizes_of (m.layout_of g.code.layouts 0))))
+      go true e = (tt, (sym (eqb-true q 0 e), root_has (λ c. c < 0) (sizes_of (m.layout_of g.code.layouts 0))))
       go false e = tt
 
   pub system_spoken : (es : List Entry) (s : System Plain) → IsSystem plain g es s → IsSpoken s

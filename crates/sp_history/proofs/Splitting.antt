@@ -1,6 +1,7 @@
 -- A fork leaves the output with its holder, or hands it to one child.
 use Rattle.std.proofs.Common.{◌≡◌, ◌≢◌, ◌⊎◌, inl, inr, ℕ, zero, suc, ◌+◌, ◌<◌, ◌==◌, ℤ, List, [], ◌∷◌, ◌++◌, Option, Some, None, Bool, true, false, cond, refl, sym, ap, ◌∙◌, subst, arith}
 use Rattle.std.specs.FinMap as map
+use Rattle.std.proofs.lemmas.Option.{same_Some}
 use Rattle.sp_cell.specs.declared.cell.Cell.TheVariants as cell
 use Rattle.sp_cell.specs.declared.spot.Spot.{Spot}
 use Rattle.sp_cell.specs.declared.spot.Handing.{Handing}
@@ -22,7 +23,7 @@ use Rattle.sp_code.specs.System.{Condition, Working, Joins, store_in, store_of, 
 use Rattle.sp_history.specs.Holding.{Share, Holds, Lends, Lacks, StoreIs, IsPart, AimsIn, IsShared}
 use Rattle.sp_history.proofs.Queues.{itself, number_or, at_same, at_other}
 use Rattle.sp_history.proofs.Outputs.{not_output, output_known}
-use Rattle.sp_history.proofs.Holding.{some_store, store_runs, store_joins, joined_lacks, hold_lend, hold_lack}
+use Rattle.sp_history.proofs.Holding.{store_runs, store_joins, joined_lacks, hold_lend, hold_lack}
 
 -- ---- what a plan hands to its children
 
@@ -134,10 +135,7 @@ module _ (share : ℕ → Share) (holder : ℕ) (birth : ℕ → Option Birth) (
   other_is r w d = old_is r w ∙ at_other f q r (Joins n e) d
 
   new_birth : (r : ℕ) (d : Birth) → nx r ≡ true → births_then r ≡ Some d → q ≡ d.parent
-  new_birth r d w k = sym (mine r) ∙ ap (λ (y : Birth). y.parent) (some_is (sym (ap (λ b. cond b (Some (made r)) (birth r)) w) ∙ k))
-    where
-      some_is : {x y : Birth} → Some x ≡ Some y → x ≡ y
-      some_is w = cc
+  new_birth r d w k = sym (mine r) ∙ ap (λ (y : Birth). y.parent) (same_Some _ _ (sym (ap (λ b. cond b (Some (made r)) (birth r)) w) ∙ k))
 
   old_birth : (r : ℕ) (d : Birth) → nx r ≡ false → births_then r ≡ Some d → birth r ≡ Some d
   old_birth r d w k = sym (ap (λ b. cond b (Some (made r)) (birth r)) w) ∙ k
@@ -156,10 +154,10 @@ module _ (share : ℕ → Share) (holder : ℕ) (birth : ℕ → Option Birth) (
       go false w (inr k) = Other w k.0
 
   new_store : (r : ℕ) (t : Plain) → nx r ≡ true → store_in (after_fork r) ≡ Some t → plain.child p (H r) ≡ t
-  new_store r t w k = some_store (ap (λ y. Some y) (sym (kids r)) ∙ sym (store_runs (child r)) ∙ ap store_in (sym (new_is r w)) ∙ k)
+  new_store r t w k = same_Some _ _ (ap (λ y. Some y) (sym (kids r)) ∙ sym (store_runs (child r)) ∙ ap store_in (sym (new_is r w)) ∙ k)
 
   self_store : (r : ℕ) (t : Plain) → q ≡ r → store_in (after_fork r) ≡ Some t → plain.handed p hs ≡ t
-  self_store r t w k = some_store (ap (λ y. Some y) (sym left) ∙ sym (store_joins n e) ∙ ap store_in (sym self_is) ∙ ap (λ y. store_in (after_fork y)) w ∙ k)
+  self_store r t w k = same_Some _ _ (ap (λ y. Some y) (sym left) ∙ sym (store_joins n e) ∙ ap store_in (sym self_is) ∙ ap (λ y. store_in (after_fork y)) w ∙ k)
 
   other_store : (r : ℕ) (t : Plain) → nx r ≡ false → q ≢ r → store_in (after_fork r) ≡ Some t → store_in (f r) ≡ Some t
   other_store r t w d k = ap store_in (sym (other_is r w d)) ∙ k

@@ -1,8 +1,9 @@
 -- A statement clashes with one before it exactly where it meets the unions of what came before.
 use Rattle.std.proofs.Common.{◌≡◌, ◌↔◌, ◌⊎◌, inl, inr, ℕ, ◌+◌, ◌*◌, ◌<◌, ◌≤◌, Bool, true, false, ◌||◌, List, [], ◌∷◌, ◌++◌, refl, sym, ap, ◌∙◌, subst, arith}
 use Rattle.std.specs.List.{list_any}
+use Rattle.std.proofs.lemmas.Bool.{or_cases, or_left, or_right}
+use Rattle.sp_base.proofs.Facts.{or_with_false}
 use Rattle.sp_tree.specs.Interference.{IsMember}
-use Rattle.sp_tree.proofs.Certified.{or_cases, or_left, or_right}
 use Rattle.sp_varsets.specs.declared.sets.Sets.{Sets}
 use Rattle.sp_varsets.specs.declared.union.VarUnion.{VarUnion}
 use Rattle.sp_varsets.specs.Members.{has, InWindow, joined}
@@ -11,11 +12,7 @@ use Rattle.sp_interfere.specs.Tests.{clash, Joins, is_target, is_used}
 use Rattle.sp_interfere.proofs.Some.{any_from, any_to, clash_from, clash_target, clash_seen, not_false}
 
 any_or : (f : ℕ → Bool) (xs : List ℕ) (y : ℕ) → list_any f (xs ++ y ∷ []) ≡ (list_any f xs || f y)
-any_or f [] y = last (f y)
-  where
-    last : (b : Bool) → b || false ≡ b
-    last true = refl
-    last false = refl
+any_or f [] y = or_with_false (f y)
 any_or f (x ∷ xs) y = ap (λ b. f x || b) (any_or f xs y) ∙ grouped (f x) (list_any f xs) (f y)
   where
     grouped : (a b c : Bool) → a || (b || c) ≡ (a || b) || c

@@ -1,5 +1,6 @@
 -- What stands before each of several items, as their channel, needs to be looked at once.
 use Rattle.std.proofs.Common.{◌≡◌, ◌⊎◌, inl, inr, ℕ, ◌+◌, Bool, false, List, [], ◌∷◌, map, length, Option, Some, None, refl, sym, ap, ◌∙◌, subst}
+use Rattle.std.proofs.lemmas.Option.{same_Some}
 use Rattle.sp_base.specs.declared.place.Place.{Place}
 use Rattle.sp_base.specs.declared.halt.Refusal.{Refusal}
 use Rattle.sp_base.specs.declared.rule.Rule.{Rule}
@@ -17,9 +18,6 @@ use Rattle.sp_interfere.proofs.Along.{along, expression_along, variable_along}
 use Rattle.sp_interfere.proofs.Least.{Finds, finds_none, finds_both, finds_as}
 use Rattle.sp_interfere.proofs.Broken.{refusal, AtSite, finds_site, finds_along}
 
-some_is : (x y : Refusal) → Some x ≡ Some y → x ≡ y
-some_is x y e = cc e
-
 module _ (f h : Found → Found) (P Q : Refusal → Type 0) (to : (x : Refusal) → P x → Q x) (from : (x : Refusal) → Q x → P x) (a : Finds f P) (b : Finds h Q) (g : Found) where
   abbrev All : Rule → Place → Type 0
   All r at = (g ≡ Some (refusal r at)) ⊎ P (refusal r at)
@@ -35,13 +33,13 @@ module _ (f h : Found → Found) (P Q : Refusal → Type 0) (to : (x : Refusal) 
   first_a : (x : Refusal) → f g ≡ Some x → IsFirst All x
   first_a x e = record {
     breaks = a.among g x e;
-    first = λ other i. let z = a.least g other i in subst (λ w. before other w ≡ false) (some_is z.0 x (sym z.1 ∙ e)) z.2;
+    first = λ other i. let z = a.least g other i in subst (λ w. before other w ≡ false) (same_Some z.0 x (sym z.1 ∙ e)) z.2;
   }
 
   first_b : (x : Refusal) → h g ≡ Some x → IsFirst All x
   first_b x e = record {
     breaks = back x (b.among g x e);
-    first = λ other i. let z = b.least g other (forth other i) in subst (λ w. before other w ≡ false) (some_is z.0 x (sym z.1 ∙ e)) z.2;
+    first = λ other i. let z = b.least g other (forth other i) in subst (λ w. before other w ≡ false) (same_Some z.0 x (sym z.1 ∙ e)) z.2;
   }
 
   by : (m n : Found) → f g ≡ m → h g ≡ n → f g ≡ h g

@@ -1,9 +1,12 @@
 -- The walk finds the first rule of interference that a program breaks.
 use Rattle.std.proofs.Common.{◌≡◌, ◌⊎◌, inl, inr, ℕ, zero, suc, ◌+◌, ◌≤◌, Bool, true, false, ◌&&◌, List, [], ◌∷◌, length, Option, Some, None, slice_get, Result, Ok, Err, refl, sym, ap, ◌∙◌, subst, arith}
+use Rattle.std.proofs.lemmas.Bool.{and_from}
+use Rattle.std.proofs.lemmas.Option.{same_Some}
 use Rattle.sp_base.specs.declared.place.Place.{Place}
 use Rattle.sp_base.specs.declared.halt.Refusal.{Refusal}
 use Rattle.sp_base.specs.declared.rule.Rule.{Rule}
 use Rattle.sp_base.specs.declared.rule.Rule.TheVariants as rule
+use Rattle.sp_base.proofs.Facts.{first_true, second_true}
 use Rattle.sp_tree.specs.declared.checked.Role.TheVariants as role
 use Rattle.sp_tree.specs.declared.checked.Variable as declared
 use Rattle.sp_tree.specs.First.{before, IsFirst}
@@ -17,7 +20,6 @@ use Rattle.sp_tree.specs.Interference.{IsMember, IsCalledInside, IsFunction}
 use Rattle.sp_tree.specs.Sites.{Site, SplitsAt, SpreadsAt, LoopsAt, CallsAt, StopsAt, statement_sites}
 use Rattle.sp_tree.specs.Interferes.{IsSite, SplitBreaks, Repeats, CallRepeats, PassesImplicit, SiteBreaks, SiteStops, Interferes}
 use Rattle.sp_tree.proofs.NoBreach.{block_at}
-use Rattle.sp_tree.proofs.Certified.{and_left, and_right}
 use Rattle.sp_varsets.specs.declared.sets.Sets.{Sets}
 use Rattle.sp_varsets.specs.Members.{has}
 use Rattle.sp_varsets.specs.Parts.{number_of, IsPart}
@@ -25,16 +27,13 @@ use Rattle.sp_varsets.specs.AreSets.{targets_of, implicit_targets_of, stops_of, 
 use Rattle.sp_interfere.specs.Tests.{some_in, is_any, has_declared}
 use Rattle.sp_interfere.specs.Rules.{is_reference, is_function, stands_in, blocks_first, rules_first}
 use Rattle.sp_interfere.specs.Verdict.{IsVerdict}
-use Rattle.sp_interfere.proofs.Some.{and_both, some_from, some_to}
+use Rattle.sp_interfere.proofs.Some.{some_from, some_to}
 use Rattle.sp_interfere.proofs.Standing.{bare_at, stands_from, stands_to, within}
 use Rattle.sp_interfere.proofs.Fits.{AllParts, Fits, one_fits, statement_fits}
 use Rattle.sp_interfere.proofs.Calls.{statement_called}
 use Rattle.sp_interfere.proofs.Least.{Finds}
 use Rattle.sp_interfere.proofs.Broken.{refusal, Broken, Clashed, Repeated, Passed, is_inside, Called, AtSite, AtFormal, AtFormals, AtHeading, InBlock, InBlocks, finds_blocks, block_of, of_block}
 use Rattle.sp_interfere.proofs.Means.{rule_of, at_of, is_reference_to, answer_of, clash_to, clash_back, repeat_to, repeat_back, passed_to, passed_back, declared_to_implicit, implicit_declared, One}
-
-some_is : {A : Type 0} (x y : A) → Some x ≡ Some y → x ≡ y
-some_is x y e = cc e
 
 module _ (c : p.Program) (s : Sets) (are : AreSets c s) (rises : HaveEarlierParents c) where
   -- a function, with the places and without
@@ -44,7 +43,7 @@ module _ (c : p.Program) (s : Sets) (are : AreSets c s) (rises : HaveEarlierPare
   function_back : (b : ℕ) (k : p.Block) → slice_get c.blocks b ≡ Some k → IsFunction (bare c) b → (y : ℕ) × (k.answer ≡ Some y)
   function_back b k e (m, y, at, a) =
       let r = block_at c.blocks b m at in
-      let same : r.0 ≡ k = some_is r.0 k (sym r.1 ∙ e) in
+      let same : r.0 ≡ k = same_Some r.0 k (sym r.1 ∙ e) in
       (y, ap (λ (z : p.Block). z.answer) (sym same) ∙ (ap (λ (z : Block). z.answer) r.2 ∙ a))
 
   flag : (o : Option ℕ) (y : ℕ) → o ≡ Some y → is_function o ≡ true
@@ -89,8 +88,8 @@ module _ (c : p.Program) (s : Sets) (are : AreSets c s) (rises : HaveEarlierPare
 
     inside_to : (f : ℕ) (m : p.Block) → slice_get c.blocks f ≡ Some m → (bs : Actuals) → In_stmt (bare_statement k.body) (CallOf f bs) → is_inside s c b f ≡ true → Interferes c rule.I6 m.at
     inside_to f m em bs run h =
-        let n = stands_from c (length c.blocks) b f (and_left (stands_in c.blocks (length c.blocks) (Some b) f) (has_declared s f) h) in
-        let y = declared_to_implicit (bare c) s f (are.blocks f m em) (and_right (stands_in c.blocks (length c.blocks) (Some b) f) (has_declared s f) h) in
+        let n = stands_from c (length c.blocks) b f (first_true (stands_in c.blocks (length c.blocks) (Some b) f) (has_declared s f) h) in
+        let y = declared_to_implicit (bare c) s f (are.blocks f m em) (second_true (stands_in c.blocks (length c.blocks) (Some b) f) (has_declared s f) h) in
         (f, m, em, refl, (n.0, b, n.1, bare_block k, bare_at c.blocks b k e, bs, run), y.0, y.1, y.2)
 
     called_to : (f : ℕ) (at : Place) (args : p.Actuals) → IsSite (CallsAt f at args) (statement_sites k.body) → (o : Option p.Block) → slice_get c.blocks f ≡ o → (x : Refusal) → Called s c (is_function k.answer) b f at args o x → Says x
@@ -98,7 +97,7 @@ module _ (c : p.Program) (s : Sets) (are : AreSets c s) (rises : HaveEarlierPare
     called_to f at args i (Some m) q x (inl (inl h)) = let z = passed_to (bare c) s f (are.blocks f m q) args x h in said_by rule.I5 x z.0 (b, k, e, CallsAt f at args, i, z.1)
     called_to f at args i (Some m) q x (inl (inr (h, z))) = said rule.I6 m.at x z (inside_to f m q (bare_actuals args) (fit (CallsAt f at args) i) h)
     called_to f at args i (Some m) q x (inr (h, z)) =
-        said rule.I9 at x z (b, k, e, function_to b k e (and_left (is_function k.answer) (stops_of s f) h), CallsAt f at args, i, (refl, (are.blocks f m q).stops.0 (and_right (is_function k.answer) (stops_of s f) h)))
+        said rule.I9 at x z (b, k, e, function_to b k e (first_true (is_function k.answer) (stops_of s f) h), CallsAt f at args, i, (refl, (are.blocks f m q).stops.0 (second_true (is_function k.answer) (stops_of s f) h)))
 
     none_before : (at : Place) (parts : p.Statements) → One (bare c) s (λ u. ⊥) parts at → SplitBreaks (bare c) parts at
     none_before at parts (inl (u, n, h)) = absurd n
@@ -150,7 +149,7 @@ module _ (c : p.Program) (s : Sets) (are : AreSets c s) (rises : HaveEarlierPare
     stop_back (LoopsAt y here t) i f at h = absurd h
     stop_back (CallsAt d here args) i f at (there, (m, em, bs, r)) =
         let z = block_at c.blocks d m em in
-        call_back d here args z.0 z.1 (refusal rule.I9 at) (inr (and_both (is_function k.answer) (stops_of s d) f ((are.blocks d z.0 z.1).stops.1 (m, em, bs, r)), ap (refusal rule.I9) (sym there)))
+        call_back d here args z.0 z.1 (refusal rule.I9 at) (inr (and_from (is_function k.answer) (stops_of s d) f ((are.blocks d z.0 z.1).stops.1 (m, em, bs, r)), ap (refusal rule.I9) (sym there)))
     stop_back (StopsAt here) i f at there = (f, ap (refusal rule.I9) (sym there))
 
     formals_back : (xs : List ℕ) (y : ℕ) → IsMember y xs → (i : declared.Variable) → slice_get c.variables y ≡ Some i → i.role ≡ role.Reference → AtFormals s c xs (refusal rule.I7 i.at)
@@ -172,7 +171,7 @@ module _ (c : p.Program) (s : Sets) (are : AreSets c s) (rises : HaveEarlierPare
       let z = block_at c.blocks d w ew in
       let called = statement_called f bs z.0.body (subst (λ (v : Block). In_stmt v.body (CallOf f bs)) (sym z.2) run) in
       let up = stands_to c rises n (length c.blocks) d f (within c d z.0 z.1) below in
-      let test = and_both (stands_in c.blocks (length c.blocks) (Some d) f) (has_declared s f) up (implicit_declared (bare c) s f y (are.blocks f m em) i l) in
+      let test = and_from (stands_in c.blocks (length c.blocks) (Some d) f) (has_declared s f) up (implicit_declared (bare c) s f y (are.blocks f m em) i l) in
       (d, z.0, z.1, subst (λ p. InBlock s c d z.0 (refusal rule.I6 p)) here (called_back d z.0 z.1 d f m em called.0 called.1 called.2 test))
 
   broken_back : (r : Rule) (at : Place) → Interferes c r at → Found_in r at
@@ -197,7 +196,7 @@ module _ (c : p.Program) (s : Sets) (are : AreSets c s) (rises : HaveEarlierPare
 
   pub verdict : (o : Found) → rules_first s c ≡ o → IsVerdict c (outcome o tt)
   verdict None q = λ r at h. let z = all.least None (refusal r at) (inr (back r at h)) in cc (z.1, q)
-  verdict (Some x) q = record { breaks = there x (only (all.among None x q)); first = λ other h. let z = all.least None other (inr (back other.rule other.at h)) in let same : z.0 ≡ x = some_is z.0 x (sym z.1 ∙ q) in subst (λ w. before other w ≡ false) same z.2 }
+  verdict (Some x) q = record { breaks = there x (only (all.among None x q)); first = λ other h. let z = all.least None other (inr (back other.rule other.at h)) in let same : z.0 ≡ x = same_Some z.0 x (sym z.1 ∙ q) in subst (λ w. before other w ≡ false) same z.2 }
     where
       only : (None ≡ Some x) ⊎ InBlocks s c 0 c.blocks x → InBlocks s c 0 c.blocks x
       only (inl e) = absurd (cc e)

@@ -5,6 +5,7 @@ use Rattle.std.specs.declared.cmp.Ordering.{Ordering}
 use Rattle.std.specs.declared.cmp.Ordering.TheVariants.{Less, Equal, Greater}
 use Rattle.std.specs.Cmp.{IsTotalOrder}
 use Rattle.std.proofs.lemmas.Cmp.{upto, tied_itself}
+use Rattle.std.proofs.lemmas.Option.{same_Some}
 use Rattle.sp_base.specs.declared.halt.Refusal.{Refusal}
 use Rattle.sp_tree.specs.First.{refusal_cmp, before}
 use Rattle.sp_tree.specs.Found.{Found, lesser}
@@ -85,9 +86,6 @@ finds_as {f = f} {h = h} {P = P} {Q = Q} same to from a = record {
     back g x (inl e) = inl e
     back g x (inr q) = inr (from x q)
 
-some_is : (x y : Refusal) → Some x ≡ Some y → x ≡ y
-some_is x y e = cc e
-
 -- at one node
 pub finds_one : (found : Found) → Finds (λ g. lesser g found) (λ r. found ≡ Some r)
 finds_one None = record {
@@ -116,12 +114,12 @@ finds_one (Some y) = record {
     first (Some z) r e = by z r (before y z) e
 
     pick : (z x : Refusal) (b : Bool) → before y z ≡ b → (Some z ≡ Some x) ⊎ (Some y ≡ Some x) → (r : Refusal) × ((if b then Some y else Some z) ≡ Some r) × (before x r ≡ false)
-    pick z x true e (inl h) = (y, refl, subst (λ w. before w y ≡ false) (some_is z x h) (not_back y z e))
-    pick z x true e (inr h) = (y, refl, subst (λ w. before w y ≡ false) (some_is y x h) (not_itself y))
-    pick z x false e (inl h) = (z, refl, subst (λ w. before w z ≡ false) (some_is z x h) (not_itself z))
-    pick z x false e (inr h) = (z, refl, subst (λ w. before w z ≡ false) (some_is y x h) e)
+    pick z x true e (inl h) = (y, refl, subst (λ w. before w y ≡ false) (same_Some z x h) (not_back y z e))
+    pick z x true e (inr h) = (y, refl, subst (λ w. before w y ≡ false) (same_Some y x h) (not_itself y))
+    pick z x false e (inl h) = (z, refl, subst (λ w. before w z ≡ false) (same_Some z x h) (not_itself z))
+    pick z x false e (inr h) = (z, refl, subst (λ w. before w z ≡ false) (same_Some y x h) e)
 
     last : (g : Found) (x : Refusal) → (g ≡ Some x) ⊎ (Some y ≡ Some x) → (r : Refusal) × (lesser g (Some y) ≡ Some r) × (before x r ≡ false)
     last None x (inl h) = absurd (cc h)
-    last None x (inr h) = (y, refl, subst (λ w. before w y ≡ false) (some_is y x h) (not_itself y))
+    last None x (inr h) = (y, refl, subst (λ w. before w y ≡ false) (same_Some y x h) (not_itself y))
     last (Some z) x h = pick z x (before y z) refl h

@@ -1,10 +1,12 @@
 -- What the tests on the sets of a tree say is broken is broken, and what is broken the tests say.
 use Rattle.std.proofs.Common.{◌≡◌, ◌⊎◌, inl, inr, ℕ, zero, suc, ◌+◌, ◌≤◌, Bool, true, false, ◌==◌, ◌&&◌, ◌||◌, List, [], ◌∷◌, ◌++◌, length, Option, Some, None, slice_get, refl, sym, ap, ◌∙◌, subst, arith, eqb-true, eq-eqb}
 use Rattle.std.specs.List.{list_any}
+use Rattle.std.proofs.lemmas.Bool.{or_cases, or_left, or_right}
 use Rattle.sp_base.specs.declared.place.Place.{Place}
 use Rattle.sp_base.specs.declared.halt.Refusal.{Refusal}
 use Rattle.sp_base.specs.declared.rule.Rule.{Rule}
 use Rattle.sp_base.specs.declared.rule.Rule.TheVariants as rule
+use Rattle.sp_base.proofs.Facts.{or_from_either}
 use Rattle.sp_tree.specs.declared.checked.Role.{Role}
 use Rattle.sp_tree.specs.declared.checked.Role.TheVariants as role
 use Rattle.sp_tree.specs.declared.checked.Variable as declared
@@ -17,14 +19,13 @@ use Rattle.sp_tree.specs.Interference.{IsMember, IsCalledInside, IsFunction}
 use Rattle.sp_tree.specs.Sites.{Site, SplitsAt, SpreadsAt, LoopsAt, CallsAt, StopsAt, statement_sites}
 use Rattle.sp_tree.specs.Interferes.{IsSite, place_of, Interfere, ClashesIn, SplitBreaks, Repeats, CallRepeats, PassesImplicit, SiteBreaks, SiteStops, Interferes}
 use Rattle.sp_tree.proofs.NoBreach.{block_at}
-use Rattle.sp_tree.proofs.Certified.{and_left, and_right, or_cases, or_left, or_right}
 use Rattle.sp_varsets.specs.declared.sets.Sets.{Sets}
 use Rattle.sp_varsets.specs.Members.{has}
 use Rattle.sp_varsets.specs.Parts.{number_of, IsPart}
 use Rattle.sp_varsets.specs.AreSets.{targets_of, expressions_of, implicit_targets_of, implicit_expressions_of, stops_of, OfStatement, OfBlock, AreSets, HaveEarlierParents}
 use Rattle.sp_interfere.specs.Tests.{some_in, is_any, is_declared, clash, has_implicit, has_declared}
 use Rattle.sp_interfere.specs.Rules.{is_reference, is_function, stands_in}
-use Rattle.sp_interfere.proofs.Some.{and_both, some_from, some_to, declared_from, declared_to, any_from, any_to, clash_from, clash_target, clash_seen}
+use Rattle.sp_interfere.proofs.Some.{some_from, some_to, declared_from, declared_to, any_from, any_to, clash_from, clash_target, clash_seen}
 use Rattle.sp_interfere.proofs.Standing.{bare_at, stands_from, stands_to, within}
 use Rattle.sp_interfere.proofs.Fits.{AllParts, Fits, one_fits, statement_fits}
 use Rattle.sp_interfere.proofs.Calls.{statement_called}
@@ -161,10 +162,6 @@ module _ (g : Program) (s : Sets) where
   implicit_back f y b (k, e, free, inl h) = inl ((b.targets y).1 (k, e, free, h))
   implicit_back f y b (k, e, free, inr h) = inr ((b.expressions y).1 (k, e, free, h))
 
-  either : (a b : Bool) → (a ≡ true) ⊎ (b ≡ true) → a || b ≡ true
-  either a b (inl h) = or_left a b h
-  either a b (inr h) = or_right a b h
-
   pub passed_to : (f : ℕ) → OfBlock g s f → (args : p.Actuals) (x : Refusal) → Passed s f args x → (x.rule ≡ rule.I5) × PassesImplicit g f args x.at
   passed_to f b p.Nothing x h = absurd h
   passed_to f b (p.Pass (p.ByValue e) rest) x h = passed_to f b rest x h
@@ -176,7 +173,7 @@ module _ (g : Program) (s : Sets) where
   passed_back f b p.Nothing at h = h
   passed_back f b (p.Pass (p.ByValue e) rest) at h = passed_back f b rest at h
   passed_back f b (p.Pass (p.ByReference (p.Entire y here ss)) rest) at (inl (there, i)) =
-      inl (either (has (implicit_targets_of s f) y) (has (implicit_expressions_of s f) y) (implicit_back f y b i), ap (refusal rule.I5) (sym there))
+      inl (or_from_either (has (implicit_targets_of s f) y) (has (implicit_expressions_of s f) y) (implicit_back f y b i), ap (refusal rule.I5) (sym there))
   passed_back f b (p.Pass (p.ByReference (p.Entire y here ss)) rest) at (inr h) = inr (passed_back f b rest at h)
 
   -- I6

@@ -1,25 +1,15 @@
 -- Tests on sets of variables, and what they say.
 use Rattle.std.proofs.Common.{◌≡◌, ◌≢◌, ◌↔◌, ◌⊎◌, inl, inr, ℕ, zero, suc, ◌*◌, ◌<◌, ◌≤◌, Bool, true, false, ◌||◌, ◌&&◌, not, ◌==◌, List, [], ◌∷◌, ◌++◌, length, refl, sym, ap, ◌∙◌, subst, arith, eqb-true, eq-eqb}
-use Rattle.std.proofs.lemmas.Bool.{cases_eq}
+use Rattle.std.proofs.lemmas.Bool.{cases_eq, and_from, or_cases, or_left, or_right}
 use Rattle.std.specs.List.{list_any}
+use Rattle.sp_base.proofs.Facts.{first_true, same_if_both_follow, second_true}
 use Rattle.sp_tree.specs.Interference.{IsMember}
-use Rattle.sp_tree.proofs.Certified.{and_left, and_right, or_cases, or_left, or_right}
 use Rattle.sp_varsets.specs.declared.sets.Sets.{Sets}
 use Rattle.sp_varsets.specs.declared.var_set.VarSet.{VarSet}
 use Rattle.sp_varsets.specs.Members.{has}
 use Rattle.sp_varsets.specs.AreSets.{targets_of, expressions_of, implicit_targets_of, implicit_expressions_of}
 use Rattle.sp_varsets.proofs.Words.{below_words}
 use Rattle.sp_interfere.specs.Tests.{some_below, some_in, is_any, is_declared, meets, clash, has_implicit, has_declared}
-
-pub and_both : (a b : Bool) → a ≡ true → b ≡ true → a && b ≡ true
-and_both true b p q = q
-and_both false b p q = p
-
--- two tests that follow from each other are one
-pub decided : (a b : Bool) → (a ≡ true → b ≡ true) → (b ≡ true → a ≡ true) → a ≡ b
-decided true b p q = sym (p refl)
-decided false true p q = q refl
-decided false false p q = refl
 
 pub not_false : (a : Bool) → (a ≡ true → ⊥) → false ≡ a
 not_false true h = absurd (h refl)
@@ -46,10 +36,10 @@ below_to (suc n) test x l h = go (cases_eq x n) (λ k. below_to n test x k h)
 pub some_from : (a : VarSet) (test : ℕ → Bool) → some_in a test ≡ true → (x : ℕ) × (has a x ≡ true) × (test x ≡ true)
 some_from a test h =
     let s = below_from (64 * length a.words) (λ x. has a x && test x) h in
-    (s.0, and_left (has a s.0) (test s.0) s.1, and_right (has a s.0) (test s.0) s.1)
+    (s.0, first_true (has a s.0) (test s.0) s.1, second_true (has a s.0) (test s.0) s.1)
 
 pub some_to : (a : VarSet) (test : ℕ → Bool) (x : ℕ) → has a x ≡ true → test x ≡ true → some_in a test ≡ true
-some_to a test x h t = below_to (64 * length a.words) (λ x. has a x && test x) x (below_words a.words x h) (and_both (has a x) (test x) h t)
+some_to a test x h t = below_to (64 * length a.words) (λ x. has a x && test x) x (below_words a.words x h) (and_from (has a x) (test x) h t)
 
 pub declared_from : (x : ℕ) → is_declared x ≡ true → 2 ≤ x
 declared_from zero h = absurd (cc h)
@@ -63,10 +53,10 @@ declared_to (suc (suc x)) h = refl
 
 -- what the readers of sets answer
 pub meets_is : (a b : VarSet) (r : Bool) → (r ≡ true) ↔ ((x : ℕ) × (has a x ≡ true) × (has b x ≡ true)) → r ≡ meets a b
-meets_is a b r h = decided r (meets a b) (λ e. let s = h.0 e in some_to a (has b) s.0 s.1 s.2) (λ e. h.1 (some_from a (has b) e))
+meets_is a b r h = same_if_both_follow r (meets a b) (λ e. let s = h.0 e in some_to a (has b) s.0 s.1 s.2) (λ e. h.1 (some_from a (has b) e))
 
 pub any_is : (a : VarSet) (r : Bool) → (r ≡ true) ↔ ((x : ℕ) → has a x ≡ false) → not r ≡ some_in a is_any
-any_is a r h = decided (not r) (some_in a is_any) (there r h) (here r h)
+any_is a r h = same_if_both_follow (not r) (some_in a is_any) (there r h) (here r h)
   where
     here : (r : Bool) → (r ≡ true) ↔ ((x : ℕ) → has a x ≡ false) → some_in a is_any ≡ true → not r ≡ true
     here true h e = let s = some_from a is_any e in absurd (cc (h.0 refl s.0, s.1))
@@ -86,7 +76,7 @@ any_is a r h = decided (not r) (some_in a is_any) (there r h) (here r h)
 
 pub declared_is : (a : VarSet) (r : Bool) → (r ≡ true) ↔ ((x : ℕ) × (2 ≤ x) × (has a x ≡ true)) → r ≡ some_in a is_declared
 declared_is a r h =
-    decided r (some_in a is_declared) (λ e. let s = h.0 e in some_to a is_declared s.0 s.2 (declared_to s.0 s.1)) (λ e. let s = some_from a is_declared e in h.1 (s.0, declared_from s.0 s.2, s.1))
+    same_if_both_follow r (some_in a is_declared) (λ e. let s = h.0 e in some_to a is_declared s.0 s.2 (declared_to s.0 s.1)) (λ e. let s = some_from a is_declared e in h.1 (s.0, declared_from s.0 s.2, s.1))
 
 -- a test of lists
 pub any_from : (test : ℕ → Bool) (xs : List ℕ) → list_any test xs ≡ true → (x : ℕ) × IsMember x xs × (test x ≡ true)

@@ -2,6 +2,7 @@
 use Rattle.std.proofs.Common.{◌≡◌, ◌⊎◌, inl, inr, ℕ, zero, suc, ◌+◌, ◌-◌, ◌<◌, ◌≤◌, Bool, true, false, ◌==◌, ◌||◌, List, [], ◌∷◌, map, length, Option, Some, None, slice_get, refl, sym, ap, ◌∙◌, subst, arith, eqb-true, eq-eqb}
 use Rattle.std.specs.Option.{option_map}
 use Rattle.std.proofs.lemmas.Option.{slice_get-map, slice_get_within}
+use Rattle.std.proofs.lemmas.Bool.{or_cases, or_left, or_right}
 use Rattle.sp_tree.specs.declared.checked.Block as memory
 use Rattle.sp_tree.specs.CheckedOf.{block_of}
 use Rattle.sp_tree.specs.PlainChecked as p
@@ -9,7 +10,6 @@ use Rattle.sp_tree.specs.Plain.{Block, Program}
 use Rattle.sp_tree.specs.Bare.{bare, bare_block}
 use Rattle.sp_tree.specs.Sets.{IsBelow}
 use Rattle.sp_tree.proofs.NoBreach.{block_at}
-use Rattle.sp_tree.proofs.Certified.{or_cases, or_left, or_right}
 use Rattle.sp_varsets.specs.AreSets.{HaveEarlierParents}
 use Rattle.sp_interfere.specs.Rules.{parent_of, stands_in}
 

@@ -1,5 +1,6 @@
 -- Reading a text on, line by line.
 use Rattle.std.proofs.Common.{◌≡◌, ◌≢◌, ℕ, ◌+◌, ◌<◌, ◌==◌, Bool, true, false, cond, List, [], ◌∷◌, ◌++◌, length, Option, Some, None, refl, sym, ap, ◌∙◌, subst, arith, append_assoc, append-nil, codes}
+use Rattle.std.proofs.lemmas.Option.{none-some}
 use Rattle.sp_journal.specs.declared.entry.Entry.{Entry}
 use Rattle.sp_journal.specs.declared.entry.Journal.{Journal}
 use Rattle.sp_journal.specs.declared.version.Version.{Version}
@@ -10,7 +11,7 @@ use Rattle.sp_journal.specs.Reading.{first_line}
 use Rattle.sp_journal.specs.Reader.{CanCome, IsNext}
 use Rattle.sp_journal.specs.Begun.{Left, Begun}
 use Rattle.sp_journal.specs.Splits.{first_split, with_first}
-use Rattle.sp_journal.proofs.Facts.{same, none_some}
+use Rattle.sp_journal.proofs.Facts.{same}
 use Rattle.sp_journal.proofs.SplitLaws.{first_at}
 use Rattle.sp_journal.proofs.TextLaws.{parts_first, parts_second, none_parts}
 use Rattle.sp_journal.proofs.BirthLaws.{Lawful, lawful, births_last, nameable_last}
@@ -118,7 +119,7 @@ module _ (bytes : List ℕ) (v : Version) (es : List Entry) (rest : List ℕ) (b
   })
     where
       not_empty : rest ≢ []
-      not_empty z = none_some (line, after) (sym (f ∙ ap (first_split 10) z))
+      not_empty z = none-some (line, after) (sym (f ∙ ap (first_split 10) z))
 
 pub line_of_version : (v : Version) (rest : List ℕ) → first_split 10 (heading v ++ rest) ≡ Some (first_line v, rest)
 line_of_version version.One rest = refl

@@ -1,6 +1,6 @@
 -- Laws of what a nameable journal gives.
 use Rattle.std.proofs.Common.{◌≡◌, ◌≢◌, ⊎_elim, ℕ, ◌+◌, ◌-◌, ◌^◌, ◌<◌, ◌≤◌, cond, List, [], ◌∷◌, ◌++◌, Some, None, refl, sym, ap, ◌∙◌, subst, arith}
-use Rattle.std.proofs.lemmas.Bool.{cases_eq}
+use Rattle.std.proofs.lemmas.Bool.{cases_eq, cases_lt, ne_eqb}
 use Rattle.sp_journal.specs.declared.entry.Birth.{Birth}
 use Rattle.sp_journal.specs.declared.entry.Opening.{Opening}
 use Rattle.sp_journal.specs.declared.entry.Entry.{Entry}
@@ -9,7 +9,7 @@ use Rattle.sp_journal.specs.declared.entry.Event.TheVariants as event
 use Rattle.sp_journal.specs.Names.{Name}
 use Rattle.sp_journal.specs.Births.{Births, at_start, after_event, after_entry, births_from, births, CanFollow, GivesNumbers, NameableFrom}
 use Rattle.sp_journal.proofs.TextLaws.{IsSmall}
-use Rattle.sp_journal.proofs.Facts.{here, apart, between, below, above, old_or_new}
+use Rattle.sp_journal.proofs.Facts.{here, between, below, above}
 
 rest_same : (a b : ℕ × ℕ) (p q : Name) → a ∷ p ≡ b ∷ q → p ≡ q
 rest_same a b p q e = cc
@@ -81,7 +81,7 @@ module _ (s : Births) (lawful : Lawful s) (p n : ℕ) (there : p < s.processes) 
   more_forks : (r : ℕ) → s.forks r ≤ after.forks r
   more_forks r = ⊎_elim
       (λ (e : p ≡ r). subst (λ b. s.forks r ≤ cond b (s.forks p + 1) (s.forks r)) (sym (here p r e)) (let f : s.forks p ≡ s.forks r = ap s.forks e in omega arith))
-      (λ (e : p ≢ r). subst (λ b. s.forks r ≤ cond b (s.forks p + 1) (s.forks r)) (sym (apart p r e)) (omega arith))
+      (λ (e : p ≢ r). subst (λ b. s.forks r ≤ cond b (s.forks p + 1) (s.forks r)) (sym (ne_eqb p r e)) (omega arith))
       (cases_eq p r)
 
   one_more : s.forks p < after.forks p
@@ -114,7 +114,7 @@ module _ (s : Births) (lawful : Lawful s) (p n : ℕ) (there : p < s.processes) 
 
   -- a child of this fork has no name of an earlier process
   fresh : (q r : ℕ) → s.processes ≤ q → q < s.processes + n → r < s.processes → after.name q ≡ after.name r → ⊥
-  fresh q r l h k e = ⊎_elim (λ (z : r < 1). root z) (λ (z : 1 ≤ r). child z) (old_or_new r 1)
+  fresh q r l h k e = ⊎_elim (λ (z : r < 1). root z) (λ (z : 1 ≤ r). child z) (cases_lt r 1)
     where
       same_names : (s.forks p, q - s.processes) ∷ s.name p ≡ s.name r
       same_names = sym (new_name q l h) ∙ e ∙ old_name r k
@@ -140,13 +140,13 @@ module _ (s : Births) (lawful : Lawful s) (p n : ℕ) (there : p < s.processes) 
     few_channels = lawful.few_channels;
     no_birth = old_birth 0 lawful.some ∙ lawful.no_birth;
     no_name = old_name 0 lawful.some ∙ lawful.no_name;
-    born = λ q z l. ⊎_elim (λ (o : q < s.processes). old_born q z o) (λ (o : s.processes ≤ q). new_born q o l) (old_or_new q s.processes);
+    born = λ q z l. ⊎_elim (λ (o : q < s.processes). old_born q z o) (λ (o : s.processes ≤ q). new_born q o l) (cases_lt q s.processes);
     unborn = λ q l. ap (λ b. cond b (Some (its_birth q)) (s.birth q)) (above s.processes q (s.processes + n) l) ∙ lawful.unborn q (omega arith);
     one_name = one_name;
     small_names = λ q l. ⊎_elim
         (λ (a : q < s.processes). subst IsSmall (sym (old_name q a)) (lawful.small_names q a))
         (λ (a : s.processes ≤ q). subst IsSmall (sym (new_name q a l)) (fork, omega arith, lawful.small_names p there))
-        (old_or_new q s.processes);
+        (cases_lt q s.processes);
     owned = λ c l. let o = lawful.owned c l in omega arith;
     counted = lawful.counted;
     small_nth = lawful.small_nth;
@@ -164,12 +164,12 @@ module _ (s : Births) (lawful : Lawful s) (p n : ℕ) (there : p < s.processes) 
           (λ (a : q < s.processes). ⊎_elim
           (λ (b : r < s.processes). lawful.one_name q r a b (sym (old_name q a) ∙ e ∙ old_name r b))
           (λ (b : s.processes ≤ r). absurd (fresh r q b h a (sym e)))
-          (old_or_new r s.processes))
+          (cases_lt r s.processes))
           (λ (a : s.processes ≤ q). ⊎_elim
           (λ (b : r < s.processes). absurd (fresh q r a l b e))
           (λ (b : s.processes ≤ r). both_new q r a b l h e)
-          (old_or_new r s.processes))
-          (old_or_new q s.processes)
+          (cases_lt r s.processes))
+          (cases_lt q s.processes)
 
 module _ (s : Births) (lawful : Lawful s) (p : ℕ) (there : p < s.processes) (fits : s.channels < 2 ^ 32) (small : s.opens p < 2 ^ 32) where
   abbrev pub opened : Births
@@ -179,7 +179,7 @@ module _ (s : Births) (lawful : Lawful s) (p : ℕ) (there : p < s.processes) (f
   this = record { owner = p; nth = s.opens p }
 
   pub old_opening : (c : ℕ) → c < s.channels → opened.opening c ≡ s.opening c
-  old_opening c l = ap (λ b. cond b this (s.opening c)) (apart s.channels c (λ e. omega arith))
+  old_opening c l = ap (λ b. cond b this (s.opening c)) (ne_eqb s.channels c (λ e. omega arith))
 
   pub new_opening : (c : ℕ) → s.channels ≤ c → c < s.channels + 1 → opened.opening c ≡ this
   new_opening c l h = ap (λ b. cond b this (s.opening c)) (here s.channels c (omega arith))
@@ -187,7 +187,7 @@ module _ (s : Births) (lawful : Lawful s) (p : ℕ) (there : p < s.processes) (f
   more_opens : (r : ℕ) → s.opens r ≤ opened.opens r
   more_opens r = ⊎_elim
       (λ (e : p ≡ r). subst (λ b. s.opens r ≤ cond b (s.opens p + 1) (s.opens r)) (sym (here p r e)) (let f : s.opens p ≡ s.opens r = ap s.opens e in omega arith))
-      (λ (e : p ≢ r). subst (λ b. s.opens r ≤ cond b (s.opens p + 1) (s.opens r)) (sym (apart p r e)) (omega arith))
+      (λ (e : p ≢ r). subst (λ b. s.opens r ≤ cond b (s.opens p + 1) (s.opens r)) (sym (ne_eqb p r e)) (omega arith))
       (cases_eq p r)
 
   one_more_open : s.opens p < opened.opens p
@@ -197,7 +197,7 @@ module _ (s : Births) (lawful : Lawful s) (p : ℕ) (there : p < s.processes) (f
   at_opening Q old new c l = ⊎_elim
       (λ (o : c < s.channels). subst (Q c) (sym (old_opening c o)) (old c o))
       (λ (o : s.channels ≤ c). subst (Q c) (sym (new_opening c o l)) (new c))
-      (old_or_new c s.channels)
+      (cases_lt c s.channels)
 
   -- the new opening is that of no earlier channel
   new_channel : (c d : ℕ) → c < s.channels → s.channels ≤ d → d < s.channels + 1 → opened.opening c ≡ opened.opening d → ⊥
@@ -226,12 +226,12 @@ module _ (s : Births) (lawful : Lawful s) (p : ℕ) (there : p < s.processes) (f
         (λ (a : c < s.channels). ⊎_elim
         (λ (b : d < s.channels). lawful.one_opening c d a b (sym (old_opening c a) ∙ e ∙ old_opening d b))
         (λ (b : s.channels ≤ d). absurd (new_channel c d a b h e))
-        (old_or_new d s.channels))
+        (cases_lt d s.channels))
         (λ (a : s.channels ≤ c). ⊎_elim
         (λ (b : d < s.channels). absurd (new_channel d c b a l (sym e)))
         (λ (b : s.channels ≤ d). omega arith)
-        (old_or_new d s.channels))
-        (old_or_new c s.channels);
+        (cases_lt d s.channels))
+        (cases_lt c s.channels);
   }
 
 by_event : (s : Births) → Lawful s → (p : ℕ) → p < s.processes → (e : Event) → GivesNumbers s p e → Lawful (after_event s p e)
@@ -269,7 +269,7 @@ nameable_last s (x ∷ es) e f g = (f.0, nameable_last (after_entry s x) es e f.
 
 module _ (s : Births) (lawful : Lawful s) (q : ℕ) (there : q < s.processes) where
   no_root : (b : Birth) → Some b ≡ s.birth q → 0 < q
-  no_root b e = ⊎_elim (λ (l : q < 1). let z : q ≡ 0 = omega arith in let f : s.birth q ≡ None = ap s.birth z ∙ lawful.no_birth in absurd (cc (e, f))) (λ (l : 1 ≤ q). omega arith) (old_or_new q 1)
+  no_root b e = ⊎_elim (λ (l : q < 1). let z : q ≡ 0 = omega arith in let f : s.birth q ≡ None = ap s.birth z ∙ lawful.no_birth in absurd (cc (e, f))) (λ (l : 1 ≤ q). omega arith) (cases_lt q 1)
 
   same_birth : (b d : Birth) → Some b ≡ s.birth q → s.birth q ≡ Some d → d ≡ b
   same_birth b d e f = cc
@@ -281,4 +281,4 @@ module _ (s : Births) (lawful : Lawful s) (q : ℕ) (there : q < s.processes) wh
   name_by_birth b e = let o = lawful.born q (no_root b e) there in subst (λ (x : Birth). s.name q ≡ (x.fork, x.child) ∷ s.name x.parent) (same_birth b o.birth e o.is) o.named
 
   pub name_of_root : None ≡ s.birth q → s.name q ≡ []
-  name_of_root e = ⊎_elim (λ (l : q < 1). let z : q ≡ 0 = omega arith in ap s.name z ∙ lawful.no_name) (λ (l : 1 ≤ q). let o = lawful.born q l there in let f = o.is in absurd (cc (e, f))) (old_or_new q 1)
+  name_of_root e = ⊎_elim (λ (l : q < 1). let z : q ≡ 0 = omega arith in ap s.name z ∙ lawful.no_name) (λ (l : 1 ≤ q). let o = lawful.born q l there in let f = o.is in absurd (cc (e, f))) (cases_lt q 1)

@@ -2,10 +2,12 @@
 use Rattle.std.proofs.Common.{◌≡◌, ℕ, ◌<◌, ◌≤◌, Bool, true, false, ◌&&◌, nat_le, List, [], ◌∷◌, ◌++◌, refl, arith, codes}
 use Rattle.std.proofs.lemmas.Bool.Decides.{nat_tests}
 use Rattle.std.specs.Fmt.{decimal}
+use Rattle.std.proofs.lemmas.Bool.{leb-true}
 use Rattle.sp_base.specs.Faults.{fault_name}
 use Rattle.sp_base.specs.Names.{name_text, channel_text}
 use Rattle.sp_base.specs.declared.fault.Fault.{Fault}
 use Rattle.sp_base.specs.declared.fault.Fault.TheVariants as fault
+use Rattle.sp_base.proofs.Facts.{first_true, second_true}
 use Rattle.sp_journal.specs.declared.entry.Way.{Way}
 use Rattle.sp_journal.specs.declared.entry.Way.TheVariants as way
 use Rattle.sp_journal.specs.declared.entry.Entry.{Entry}
@@ -22,22 +24,11 @@ abbrev in_line : List ℕ → Bool
 in_line [] = true
 in_line (x ∷ xs) = nat_le 32 x && (nat_le x 122 && in_line xs)
 
-both_left : (a b : Bool) → a && b ≡ true → a ≡ true
-both_left true b e = refl
-both_left false b e = absurd (cc e)
-
-both_right : (a b : Bool) → a && b ≡ true → b ≡ true
-both_right true b e = e
-both_right false b e = absurd (cc e)
-
-is_le : (m n : ℕ) → nat_le m n ≡ true → m ≤ n
-is_le m n e = grind (arith, nat_tests)
-
 from_test : (xs : List ℕ) → in_line xs ≡ true → Within 32 122 xs
 from_test [] e = tt
 from_test (x ∷ xs) e =
-    let r = both_right (nat_le 32 x) (nat_le x 122 && in_line xs) e in
-    (is_le 32 x (both_left (nat_le 32 x) (nat_le x 122 && in_line xs) e), is_le x 122 (both_left (nat_le x 122) (in_line xs) r), from_test xs (both_right (nat_le x 122) (in_line xs) r))
+    let r = second_true (nat_le 32 x) (nat_le x 122 && in_line xs) e in
+    (leb-true 32 x (first_true (nat_le 32 x) (nat_le x 122 && in_line xs) e), leb-true x 122 (first_true (nat_le x 122) (in_line xs) r), from_test xs (second_true (nat_le x 122) (in_line xs) r))
 
 fault_within : (f : Fault) → Within 32 122 (fault_name f)
 fault_within f = from_test (fault_name f) (by f)

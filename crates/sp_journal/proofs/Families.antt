@@ -4,6 +4,7 @@ use Rattle.std.proofs.lemmas.Bool.Decides.{nat_tests}
 use Rattle.std.proofs.lemmas.Option.{slice_get-get_or}
 use Rattle.std.specs.Option.{option_map}
 use Rattle.std.specs.List.Sorted.{IsPartitionPoint}
+use Rattle.std.proofs.lemmas.Bool.{leb-true}
 use Rattle.sp_journal.specs.declared.entry.Birth.{Birth}
 use Rattle.sp_journal.specs.declared.ledger.Family.{Family}
 use Rattle.sp_journal.specs.declared.ledger.Ledger.{Ledger}
@@ -70,7 +71,4 @@ module _ (l : Ledger) (ledger : IsLedger l) (q : ℕ) (there : q < (births l.jou
       sym (ap (option_map (λ (f : Family). birth_of f q)) (e ∙ g)) ∙ is_birth
 
 pub first_from_point : (q : ℕ) (fs : List Family) (i : ℕ) (d : Family) → Point fs q i → i ≢ 0 → (get_or fs (i - 1) d).first ≤ q
-first_from_point q fs i d h some = from_test _ q (h.0 (i - 1) d (omega arith) (omega arith))
-  where
-    from_test : (m n : ℕ) → nat_le m n ≡ true → m ≤ n
-    from_test m n e = grind (arith, nat_tests)
+first_from_point q fs i d h some = leb-true _ q (h.0 (i - 1) d (omega arith) (omega arith))

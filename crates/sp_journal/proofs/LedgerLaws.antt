@@ -2,9 +2,10 @@
 use Rattle.std.proofs.Common.{◌≡◌, ◌≢◌, ⊎_elim, ℕ, zero, suc, ◌+◌, ◌-◌, ◌<◌, ◌≤◌, cond, nat_eq, List, [], ◌∷◌, ◌++◌, length, length-append, get_or, Option, Some, slice_get, unwrap_or, refl, sym, ap, ◌∙◌, subst, arith}
 use Rattle.std.specs.Option.{option_map}
 use Rattle.std.specs.HashMap as hash
-use Rattle.std.proofs.lemmas.Bool.{cases_eq}
+use Rattle.std.proofs.lemmas.Bool.{cases_eq, cases_lt, ne_eqb}
 use Rattle.std.proofs.lemmas.List.Sorted.{IsNonDecreasingBy-push}
 use Rattle.std.specs.List.Sorted.{IsNonDecreasingBy}
+use Rattle.sp_base.proofs.Facts.{get_before_last, get_last}
 use Rattle.sp_journal.specs.declared.entry.Opening.{Opening}
 use Rattle.sp_journal.specs.declared.entry.Event.{Event}
 use Rattle.sp_journal.specs.declared.entry.Event.TheVariants as event
@@ -13,19 +14,9 @@ use Rattle.sp_journal.specs.declared.ledger.Made.{Made}
 use Rattle.sp_journal.specs.declared.ledger.Ledger.{Ledger}
 use Rattle.sp_journal.specs.Births.{Births, at_start, after_event, births, CanFollow, NameableFrom}
 use Rattle.sp_journal.specs.Ledger.{IsLedger, birth_in, nothing_made}
-use Rattle.sp_journal.proofs.Facts.{here, apart, old_or_new}
+use Rattle.sp_journal.proofs.Facts.{here}
 use Rattle.sp_journal.proofs.BirthLaws.{births_last, nameable_last, old_birth, new_birth, old_opening, new_opening, lawful}
 use Rattle.sp_journal.proofs.Families.{family_push_above, family_push_at, birth_of}
-
--- an element of a list with one more at its end
-pub pushed_low : {X : Type 0} (xs : List X) (y : X) (k : ℕ) → k < length xs → slice_get (xs ++ y ∷ []) k ≡ slice_get xs k
-pushed_low [] y k l = absurd (omega arith)
-pushed_low (x ∷ xs) y zero l = refl
-pushed_low (x ∷ xs) y (suc k) l = pushed_low xs y k (omega arith)
-
-pub pushed_last : {X : Type 0} (xs : List X) (y : X) → slice_get (xs ++ y ∷ []) (length xs) ≡ Some y
-pushed_last [] y = refl
-pushed_last (x ∷ xs) y = pushed_last xs y
 
 pub pushed_all : {X : Type 0} (P : X → Type 0) (xs : List X) (y : X) → ((k : ℕ) (d : X) → k < length xs → P (get_or xs k d)) → P y → (k : ℕ) (d : X) → k < length (xs ++ y ∷ []) → P (get_or (xs ++ y ∷ []) k d)
 pushed_all P [] y h p zero d l = p
@@ -61,14 +52,14 @@ module _ (l m : Ledger) (p : ℕ) (ledger : IsLedger l) where
           new_birth was (lawful l.journal.entries ledger.nameable) p n next.0 next.1.0 next.1.1 q o h
           ∙ ap (λ (x : ℕ). Some (record { parent = p; fork = was.forks p; child = q - x })) (sym ledger.processes)
           ∙ ap (option_map (λ (f : Family). birth_of f q)) (sym (family_push_at l.families its_family q k)))
-          (old_or_new q was.processes)
+          (cases_lt q was.processes)
 
       fork_made : (q : ℕ) → unwrap_or (hash.get nat_eq m.made q) nothing_made ≡ record { forks = (after_event was p (event.Fork n)).forks q; opens = was.opens q }
       fork_made q = ap (λ (o : Option Made). unwrap_or o nothing_made) (made q) ∙ ⊎_elim
           (λ (e : p ≡ q).
           let f : was.opens p ≡ was.opens q = ap was.opens e in
           rw (here p q e) (λ i. record { forks = was.forks p + 1; opens = f i }))
-          (λ (e : p ≢ q). rw (apart p q e) (ledger.made q))
+          (λ (e : p ≢ q). rw (ne_eqb p q e) (ledger.made q))
           (cases_eq p q)
 
       pub fork_ledger : IsLedger m
@@ -101,19 +92,19 @@ module _ (l m : Ledger) (p : ℕ) (ledger : IsLedger l) where
           (λ (e : p ≡ q).
           let f : was.forks p ≡ was.forks q = ap was.forks e in
           rw (here p q e) (λ i. record { forks = f i; opens = was.opens p + 1 }))
-          (λ (e : p ≢ q). rw (apart p q e) (ledger.made q))
+          (λ (e : p ≢ q). rw (ne_eqb p q e) (ledger.made q))
           (cases_eq p q)
 
       open_openings : (c : ℕ) → c < was.channels + 1 → slice_get (l.openings ++ its_opening ∷ []) c ≡ Some ((after_event was p event.Open).opening c)
       open_openings c h = ⊎_elim
           (λ (o : c < was.channels).
-          pushed_low l.openings its_opening c (let e = ledger.channels in omega arith) ∙ ledger.openings c o
+          get_before_last l.openings its_opening c (let e = ledger.channels in omega arith) ∙ ledger.openings c o
           ∙ ap (λ (x : Opening). Some x) (sym (old_opening was (lawful l.journal.entries ledger.nameable) p next.0 next.1.0 next.1.1 c o)))
           (λ (o : was.channels ≤ c).
           let e : c ≡ length l.openings = let e = ledger.channels in omega arith in
-          ap (slice_get (l.openings ++ its_opening ∷ [])) e ∙ pushed_last l.openings its_opening
+          ap (slice_get (l.openings ++ its_opening ∷ [])) e ∙ get_last l.openings its_opening
           ∙ ap (λ (x : Opening). Some x) (sym (new_opening was (lawful l.journal.entries ledger.nameable) p next.0 next.1.0 next.1.1 c o h)))
-          (old_or_new c was.channels)
+          (cases_lt c was.channels)
 
       pub open_ledger : IsLedger m
       open_ledger = record {

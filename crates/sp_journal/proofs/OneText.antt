@@ -3,6 +3,7 @@ use Rattle.std.proofs.Common.{◌≡◌, ◌≢◌, ⊎_elim, ℕ, ◌+◌, ◌<
 use Rattle.std.specs.Fmt.{decimal}
 use Rattle.std.specs.Str.{bytes_eq}
 use Rattle.std.proofs.lemmas.Fmt.{decimal_injective}
+use Rattle.std.proofs.lemmas.Option.{none-some, same_Some}
 use Rattle.sp_base.specs.Names.{name_text, channel_text}
 use Rattle.sp_base.specs.Faults.{fault_name}
 use Rattle.sp_base.specs.declared.fault.Fault.{Fault}
@@ -17,14 +18,13 @@ use Rattle.sp_journal.specs.Names.{Channel, proc_name, chan_name}
 use Rattle.sp_journal.specs.Births.{Births, at_start, after_entry, channel, CanFollow, GivesNumbers, NameableFrom}
 use Rattle.sp_journal.specs.Splits.{first_split, all_faults}
 use Rattle.sp_journal.specs.Texts.{entry_text, entries_text, event_text, heading, IsTextOf}
-use Rattle.sp_journal.proofs.Facts.{some_same, none_some}
 use Rattle.sp_journal.proofs.SplitLaws.{without_low, first_at}
 use Rattle.sp_journal.proofs.TextLaws.{name_within, parts_first, parts_second, name_texts_differ, channel_texts_differ}
 use Rattle.sp_journal.proofs.BirthLaws.{Lawful, lawful_start, lawful_after}
 use Rattle.sp_journal.proofs.BegunLaws.{entry_line, line_of_version}
 
 faults_differ : (f g : Fault) → fault_name f ≡ fault_name g → f ≡ g
-faults_differ f g e = some_same f g (sym (found f) ∙ ap read e ∙ found g)
+faults_differ f g e = same_Some f g (sym (found f) ∙ ap read e ∙ found g)
   where
     read : List ℕ → Option Fault
     read t = find (λ h. bytes_eq (fault_name h) t) all_faults
@@ -152,7 +152,7 @@ module _ (s : Births) (lawful : Lawful s) where
       λ i. record { process = p i; event = v i }
 
 no_entry : (s : Births) → Lawful s → (e : Entry) (es : List Entry) → CanFollow s e → [] ≡ entries_text s (e ∷ es) → ⊥
-no_entry s l e es h f = none_some _ (ap (first_split 10) f ∙ entry_line s l e h (entries_text (after_entry s e) es))
+no_entry s l e es h f = none-some _ (ap (first_split 10) f ∙ entry_line s l e h (entries_text (after_entry s e) es))
 
 -- entries that can come next and have one text
 pub same_entries : (s : Births) → Lawful s → (es ds : List Entry) → NameableFrom s es → NameableFrom s ds → entries_text s es ≡ entries_text s ds → es ≡ ds

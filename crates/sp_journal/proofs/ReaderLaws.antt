@@ -3,6 +3,7 @@ use Rattle.std.proofs.Common.{◌≡◌, ⊎_elim, ℕ, zero, suc, ◌+◌, ◌-
 use Rattle.std.specs.Fmt.{decimal}
 use Rattle.std.specs.Str.{IsAscii}
 use Rattle.std.specs.HashMap.{get_by_text}
+use Rattle.std.proofs.lemmas.Bool.{cases_lt}
 use Rattle.sp_base.specs.Names.{name_text, channel_text}
 use Rattle.sp_base.specs.Faults.{fault_name}
 use Rattle.sp_journal.specs.declared.entry.Entry.{Entry}
@@ -14,7 +15,6 @@ use Rattle.sp_journal.specs.Births.{Births, channel, CanFollow}
 use Rattle.sp_journal.specs.Texts.{entry_text, event_text}
 use Rattle.sp_journal.specs.Splits.{first_split, last_split}
 use Rattle.sp_journal.specs.Reader.{IsReader, family_text, known}
-use Rattle.sp_journal.proofs.Facts.{old_or_new}
 use Rattle.sp_journal.proofs.SplitLaws.{Within, without_low, first_at}
 use Rattle.sp_journal.proofs.TextLaws.{name_within, family_within, channel_within, child_split, parts_first, parts_second, none_parts}
 use Rattle.sp_journal.proofs.BirthLaws.{Lawful, Born, lawful}
@@ -64,7 +64,7 @@ module _ (r : Reader) (reader : IsReader r) where
         none_parts x y (sym (ap (λ (n : Name). last_split 46 (name_text (proc_name n))) n) ∙ e)
 
     pub parts : (x y : List ℕ) → last_split 46 (name_text (proc_name ((known r).name q))) ≡ Some (x, y) → Parts r q x y
-    parts x y e = ⊎_elim (λ (z : q < 1). absurd (no_root x y e z)) (λ (z : 1 ≤ q). of_child x y e z) (old_or_new q 1)
+    parts x y e = ⊎_elim (λ (z : q < 1). absurd (no_root x y e z)) (λ (z : 1 ≤ q). of_child x y e z) (cases_lt q 1)
 
     -- a name without a point is that of the root
     pub root_only : last_split 46 (name_text (proc_name ((known r).name q))) ≡ None → 0 ≡ q
@@ -74,7 +74,7 @@ module _ (r : Reader) (reader : IsReader r) where
         let b : Born (known r) q = laws.born q z there in
         let small : b.birth.child < 2 ^ 32 = let a = b.small_child in let f = laws.few in omega arith in
         absurd (none_parts _ _ (sym e ∙ ap (λ (n : Name). last_split 46 (name_text (proc_name n))) b.named ∙ child_split ((known r).name b.birth.parent) b.birth.fork b.birth.child small)))
-        (old_or_new q 1)
+        (cases_lt q 1)
 
   pub channel_small : (c : ℕ) → c < (known r).channels → Within 35 57 (channel_text (chan_name (channel (known r) c)))
   channel_small c l = channel_within (channel (known r) c) (laws.small_names ((known r).opening c).owner (laws.owned c l)) (laws.small_nth c l)

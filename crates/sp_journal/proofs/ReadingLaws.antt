@@ -3,6 +3,8 @@ use Rattle.std.proofs.Common.{◌≡◌, ◌≢◌, ⊎_elim, ℕ, ◌-◌, ◌^
 use Rattle.std.specs.HashMap.{get_by_text}
 use Rattle.std.specs.Str.{bytes_eq}
 use Rattle.std.proofs.lemmas.Slice.Eq.{bytes_eq-Decides}
+use Rattle.std.proofs.lemmas.Bool.{cases_lt}
+use Rattle.std.proofs.lemmas.Option.{none-some, same_Some}
 use Rattle.sp_base.specs.Names.{channel_text}
 use Rattle.sp_journal.specs.declared.entry.Birth.{Birth}
 use Rattle.sp_journal.specs.declared.entry.Opening.{Opening}
@@ -13,7 +15,6 @@ use Rattle.sp_journal.specs.Names.{Name, Channel, chan_name}
 use Rattle.sp_journal.specs.Births.{Births, births, after_event, channel, CanFollow}
 use Rattle.sp_journal.specs.Ledger.{IsLedger}
 use Rattle.sp_journal.specs.Reader.{IsReader, family_text, known}
-use Rattle.sp_journal.proofs.Facts.{old_or_new, some_same, none_some}
 use Rattle.sp_journal.proofs.TextLaws.{family_texts_differ, channel_texts_differ}
 use Rattle.sp_journal.proofs.BirthLaws.{Lawful, Born, births_last, old_name, old_birth, new_birth, old_opening, new_opening, its_birth}
 use Rattle.sp_journal.proofs.ReaderLaws.{laws}
@@ -52,10 +53,10 @@ module _ (r m : Reader) (p : ℕ) (reader : IsReader r) (ledger : IsLedger m.led
 
       old_family : (q : ℕ) (b : Birth) → q < s.processes → s.birth q ≡ Some b → get_by_text m.families (family_text (t.name b.parent) b.fork) ≡ Some (q - b.child)
       old_family q b l e = ⊎_elim
-          (λ (z : q < 1). let i : q ≡ 0 = omega arith in absurd (none_some b (sym lawful.no_birth ∙ sym (ap s.birth i) ∙ e)))
+          (λ (z : q < 1). let i : q ≡ 0 = omega arith in absurd (none-some b (sym lawful.no_birth ∙ sym (ap s.birth i) ∙ e)))
           (λ (z : 1 ≤ q).
           let a : Born s q = lawful.born q z l in
-          let same : a.birth ≡ b = some_same _ _ (sym a.is ∙ e) in
+          let same : a.birth ≡ b = same_Some _ _ (sym a.is ∙ e) in
           let older : b.parent < q = subst (λ (x : Birth). x.parent < q) same a.older in
           let made : b.fork < s.forks b.parent = subst (λ (x : Birth). x.fork < s.forks x.parent) same a.made in
           let small : b.fork < 2 ^ 32 = subst (λ (x : Birth). x.fork < 2 ^ 32) same a.small_fork in
@@ -70,7 +71,7 @@ module _ (r m : Reader) (p : ℕ) (reader : IsReader r) (ledger : IsLedger m.led
           ∙ families (family_text (s.name b.parent) b.fork)
           ∙ at_other (family_text (s.name p) (s.forks p)) (family_text (s.name b.parent) b.fork) (Some s.processes) (get_by_text r.families (family_text (s.name b.parent) b.fork)) differs
           ∙ reader.families q b l e)
-          (old_or_new q 1)
+          (cases_lt q 1)
 
       new_family : (q : ℕ) (b : Birth) → s.processes ≤ q → its_birth s lawful p n next.0 next.1.0 next.1.1 q ≡ b → get_by_text m.families (family_text (t.name b.parent) b.fork) ≡ Some (q - b.child)
       new_family q b l e =
@@ -84,8 +85,8 @@ module _ (r m : Reader) (p : ℕ) (reader : IsReader r) (ledger : IsLedger m.led
       fork_families : (q : ℕ) (b : Birth) → q < t.processes → t.birth q ≡ Some b → get_by_text m.families (family_text (t.name b.parent) b.fork) ≡ Some (q - b.child)
       fork_families q b l e = ⊎_elim
           (λ (o : q < s.processes). old_family q b o (sym (old_birth s lawful p n next.0 next.1.0 next.1.1 q o) ∙ e))
-          (λ (o : s.processes ≤ q). new_family q b o (some_same _ _ (sym (new_birth s lawful p n next.0 next.1.0 next.1.1 q o l) ∙ e)))
-          (old_or_new q s.processes)
+          (λ (o : s.processes ≤ q). new_family q b o (same_Some _ _ (sym (new_birth s lawful p n next.0 next.1.0 next.1.1 q o l) ∙ e)))
+          (cases_lt q s.processes)
 
       fork_channels : (c : ℕ) → c < s.channels → get_by_text m.channels (channel_text (chan_name (channel t c))) ≡ Some c
       fork_channels c l =
@@ -144,7 +145,7 @@ module _ (r m : Reader) (p : ℕ) (reader : IsReader r) (ledger : IsLedger m.led
           (λ (o : s.channels ≤ c).
           ap (λ (x : Opening). get_by_text m.channels (channel_text (chan_name (record { owner = s.name x.owner; nth = x.nth })))) (new_opening s then_lawful p next.0 next.1.0 next.1.1 c o l)
           ∙ new_channel c (omega arith))
-          (old_or_new c s.channels)
+          (cases_lt c s.channels)
 
       open_families : (q : ℕ) (b : Birth) → q < s.processes → s.birth q ≡ Some b → get_by_text m.families (family_text (s.name b.parent) b.fork) ≡ Some (q - b.child)
       open_families q b l e = ap (λ x. get_by_text x (family_text (s.name b.parent) b.fork)) families ∙ reader.families q b l e

@@ -1,5 +1,6 @@
 -- Worked journals: names, what their processes know, whether they are ordered, and their turns.
 use Rattle.std.proofs.Common.{◌≡◌, ℕ, List, [], ◌∷◌, ◌++◌, Bool, true, false, Option, Some, None, refl, sym, ◌∙◌, ap, take}
+use Rattle.std.proofs.lemmas.Bool.{false≢true}
 use Rattle.sp_journal.specs.declared.entry.Way.TheVariants as way
 use Rattle.sp_journal.specs.declared.entry.Event.{Event}
 use Rattle.sp_journal.specs.declared.entry.Event.TheVariants as event
@@ -62,13 +63,10 @@ raced h =
     let k = h.1.1.1.1.0 3 ((0, 1) ∷ []) refl in
     let m : k.0 ≡ 3 = from_some k.0 k.1 in
     let f : (after_first 4).past ((0, 2) ∷ []) 3 ≡ true = ap ((after_first 4).past ((0, 2) ∷ [])) (sym m) ∙ k.2 in
-    true_false f
+    false≢true f
   where
     from_some : (m : ℕ) → ◌≡◌ {A = Option ℕ} (Some 3) (Some m) → m ≡ 3
     from_some m e = cc
-
-    true_false : ◌≡◌ {A = Bool} false true → ⊥
-    true_false e = cc
 
 -- with one worker the processes come in this order
 in_turn : IsFirstInFirstOut two_senders

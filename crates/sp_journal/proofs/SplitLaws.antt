@@ -1,7 +1,8 @@
 -- Laws of cutting a text at a byte.
 use Rattle.std.proofs.Common.{◌≡◌, ◌≢◌, ℕ, ◌<◌, ◌≤◌, List, [], ◌∷◌, ◌++◌, Some, None, refl, arith}
+use Rattle.std.proofs.lemmas.Bool.{ne_eqb}
 use Rattle.sp_journal.specs.Splits.{first_split, last_split}
-use Rattle.sp_journal.proofs.Facts.{here, apart}
+use Rattle.sp_journal.proofs.Facts.{here}
 
 -- each element is from lo to hi
 abbrev pub Within : ℕ → ℕ → List ℕ → Type 0
@@ -27,15 +28,15 @@ without_low c lo hi (x ∷ xs) l w = (λ e. let a = w.0 in omega arith, without_
 
 pub first_at : (c : ℕ) (xs ys : List ℕ) → Without c xs → first_split c (xs ++ c ∷ ys) ≡ Some (xs, ys)
 first_at c [] ys w = rw (here c c refl) refl
-first_at c (x ∷ xs) ys w = rw (apart x c w.0) (rw (first_at c xs ys w.1) refl)
+first_at c (x ∷ xs) ys w = rw (ne_eqb x c w.0) (rw (first_at c xs ys w.1) refl)
 
 pub first_none : (c : ℕ) (xs : List ℕ) → Without c xs → first_split c xs ≡ None
 first_none c [] w = refl
-first_none c (x ∷ xs) w = rw (apart x c w.0) (rw (first_none c xs w.1) refl)
+first_none c (x ∷ xs) w = rw (ne_eqb x c w.0) (rw (first_none c xs w.1) refl)
 
 pub last_none : (c : ℕ) (xs : List ℕ) → Without c xs → last_split c xs ≡ None
 last_none c [] w = refl
-last_none c (x ∷ xs) w = rw (last_none c xs w.1) (rw (apart x c w.0) refl)
+last_none c (x ∷ xs) w = rw (last_none c xs w.1) (rw (ne_eqb x c w.0) refl)
 
 pub last_after_none : (c : ℕ) (xs ys : List ℕ) → last_split c ys ≡ None → last_split c (xs ++ c ∷ ys) ≡ Some (xs, ys)
 last_after_none c [] ys e = rw e (rw (here c c refl) refl)

@@ -2,13 +2,15 @@
 use Rattle.std.proofs.Common.{◌≡◌, ◌⊎◌, ⊎_elim, inl, inr, ℕ, ◌+◌, ◌-◌, ◌<◌, ◌≤◌, cond, List, [], ◌∷◌, ◌++◌, length, get_or, take, drop, codes, add-one, Option, Some, None, refl, sym, ap, ◌∙◌, subst, arith}
 use Rattle.std.proofs.Math.Seq.{drop-cons}
 use Rattle.std.proofs.lemmas.List.{take_more, take-append-drop}
+use Rattle.std.proofs.lemmas.Bool.{cases_lt}
+use Rattle.std.proofs.lemmas.Option.{none-some}
 use Rattle.sp_journal.specs.declared.entry.Birth.{Birth}
 use Rattle.sp_journal.specs.declared.entry.Entry.{Entry}
 use Rattle.sp_journal.specs.declared.entry.Event.{Event}
 use Rattle.sp_journal.specs.declared.entry.Event.TheVariants as event
 use Rattle.sp_journal.specs.Births.{Births, at_start, after_event, after_entry, births_from, births, CanFollow, NameableFrom}
 use Rattle.sp_journal.specs.Texts.{entry_text, entries_text}
-use Rattle.sp_journal.proofs.Facts.{below, above, between, old_or_new}
+use Rattle.sp_journal.proofs.Facts.{below, above, between}
 use Rattle.sp_journal.proofs.BirthLaws.{births_last, lawful}
 
 pub left_is : (es : List Entry) (i : ℕ) (d : Entry) → i < length es → drop i es ≡ get_or es i d ∷ drop (i + 1) es
@@ -111,9 +113,6 @@ module _ (es : List Entry) (nameable : NameableFrom at_start es) (q : ℕ) where
 
   pub has_none : None ≡ (births es).birth q → (q ≡ 0) ⊎ ((births es).processes ≤ q)
   has_none e = ⊎_elim
-      (λ (l : q < (births es).processes). ⊎_elim (λ (z : q < 1). inl (omega arith)) (λ (z : 1 ≤ q). let b = (lawful es nameable).born q z l in absurd (none_some b.birth (e ∙ b.is))) (old_or_new q 1))
+      (λ (l : q < (births es).processes). ⊎_elim (λ (z : q < 1). inl (omega arith)) (λ (z : 1 ≤ q). let b = (lawful es nameable).born q z l in absurd (none-some b.birth (e ∙ b.is))) (cases_lt q 1))
       (λ (l : (births es).processes ≤ q). inr l)
-      (old_or_new q (births es).processes)
-    where
-      none_some : (b : Birth) → ◌≡◌ {A = Option Birth} None (Some b) → ⊥
-      none_some b f = cc
+      (cases_lt q (births es).processes)

@@ -1,5 +1,8 @@
 -- The judge's tables after one more entry.
 use Rattle.std.proofs.Common.{◌≡◌, ◌⊎◌, inl, inr, ⊎_elim, ℕ, zero, suc, ◌+◌, ◌<◌, ◌≤◌, Bool, true, false, cond, max, ◌&&◌, ◌==◌, nat_le, nat_lt, List, [], ◌∷◌, ◌++◌, take, length, length-append, Option, Some, None, slice_get, slice_set, unwrap_or, refl, sym, ap, ◌∙◌, subst, arith, eq-eqb}
+use Rattle.std.proofs.lemmas.Bool.{and_from, and_right}
+use Rattle.std.proofs.lemmas.Option.{same_Some}
+use Rattle.sp_base.proofs.Facts.{below_or_at}
 use Rattle.sp_journal.specs.declared.entry.Entry.{Entry}
 use Rattle.sp_journal.specs.declared.entry.Event.TheVariants as event
 use Rattle.sp_journal.specs.declared.entry.Way.{Way}
@@ -33,15 +36,6 @@ pub push_last : {X : Type 0} (xs : List X) (y : X) → slice_get (xs ++ y ∷ []
 push_last [] y = refl
 push_last (x ∷ xs) y = push_last xs y
 
-low_or_at : (i n : ℕ) → i < suc n → (i < n) ⊎ (i ≡ n)
-low_or_at i n l = grind (arith)
-
-some_entry : (a b : Entry) → ◌≡◌ {A = Option Entry} (Some a) (Some b) → a ≡ b
-some_entry a b e = cc
-
-some_occurrence : (a b : Occurrence) → ◌≡◌ {A = Option Occurrence} (Some a) (Some b) → a ≡ b
-some_occurrence a b e = cc
-
 -- what is said of an offer that waits, and of a last offer, still stands
 waits_stay : (s : Births) (os : List Occurrence) (e : Occurrence) (o : Option Offer) (x : Option (Name × ℕ)) → ((y : Name × ℕ) → x ≡ Some y → y.1 ≤ length os) → Waits s os o x → Waits s (os ++ e ∷ []) o x
 waits_stay s os e None None low w = w
@@ -53,8 +47,8 @@ module _ (s : Births) (os : List Occurrence) (e : Occurrence) (w : Way) (d : Cha
   old_or_last : (i : ℕ) (z : Name) → OfferIn (os ++ e ∷ []) i z w d → ((i < length os) × OfferIn os i z w d) ⊎ ((i ≡ length os) × (e.what ≡ Offered w d))
   old_or_last i z o = ⊎_elim
       (λ (l : i < length os). inl (l, sym (push_low os e i l) ∙ o))
-      (λ (l : i ≡ length os). inr (l, ap (λ (x : Occurrence). x.what) (some_occurrence e _ (sym (push_last os e) ∙ subst (λ k. OfferIn (os ++ e ∷ []) k z w d) l o))))
-      (low_or_at i (length os) (let a = get_within (os ++ e ∷ []) i _ o in let b = length-append os (e ∷ []) in omega arith))
+      (λ (l : i ≡ length os). inr (l, ap (λ (x : Occurrence). x.what) (same_Some e _ (sym (push_last os e) ∙ subst (λ k. OfferIn (os ++ e ∷ []) k z w d) l o))))
+      (below_or_at i (length os) (let a = get_within (os ++ e ∷ []) i _ o in let b = length-append os (e ∷ []) in omega arith))
 
   pub last_stays : (e.what ≡ Offered w d → ⊥) → (o : Option Offer) → IsLast s os w d o → IsLast s (os ++ e ∷ []) w d o
   last_stays off None h = λ i z a. ⊎_elim (λ (x : (i < length os) × OfferIn os i z w d). h i z x.1) (λ (x : (i ≡ length os) × (e.what ≡ Offered w d)). off x.1) (old_or_last i z a)
@@ -118,7 +112,7 @@ module _ (all : List Entry) (nameable : NameableFrom at_start all) (quiet : IsQu
       get_set b.made.items p (number_at b.made.items p + 1) r (let a = h.all_made in let c = here in omega arith)
       ∙ (⊎_elim
       (λ (i : p ≡ r).
-      let t : same_name (s.name p) (s.name r) && is_counted (happening s e.event) ≡ true = ap (λ x. same_name (s.name p) (s.name x) && is_counted (happening s e.event)) (sym i) ∙ both_true (same_name (s.name p) (s.name p)) (is_counted (happening s e.event)) (name_itself (s.name p)) counted in
+      let t : same_name (s.name p) (s.name r) && is_counted (happening s e.event) ≡ true = ap (λ x. same_name (s.name p) (s.name x) && is_counted (happening s e.event)) (sym i) ∙ and_from (same_name (s.name p) (s.name p)) (is_counted (happening s e.event)) (name_itself (s.name p)) counted in
       let m : number_at b.made.items p ≡ made os (s.name r) = its_made ∙ ap (λ x. made os (s.name x)) i in
       ap (λ x. cond x (Some (number_at b.made.items p + 1)) (slice_get b.made.items r)) (eq-eqb p r i)
       ∙ ap (λ x. Some x) (one_more (number_at b.made.items p) (made os (s.name r)) m)
@@ -129,19 +123,11 @@ module _ (all : List Entry) (nameable : NameableFrom at_start all) (quiet : IsQu
       ∙ h.made_is r l ∙ sym (ap (λ x. Some x) (made_now r ∙ ap (λ x. cond x (suc (made os (s.name r))) (made os (s.name r))) t)))
       (index_or_not p r))
     where
-      both_true : (x y : Bool) → x ≡ true → y ≡ true → x && y ≡ true
-      both_true true y f g = g
-      both_true false y f g = absurd (cc f)
-
       one_more : (x y : ℕ) → x ≡ y → x + 1 ≡ suc y
       one_more x y f = omega arith
 
   pub made_kept : is_counted (happening s e.event) ≡ false → (r : ℕ) → r < s.processes → slice_get b.made.items r ≡ Some (made (named s (take (at + 1) all)) (s.name r))
-  made_kept counted r l = h.made_is r l ∙ sym (ap (λ x. Some x) (made_now r ∙ ap (λ x. cond x (suc (made os (s.name r))) (made os (s.name r))) (neither (same_name (s.name p) (s.name r)) (is_counted (happening s e.event)) counted)))
-    where
-      neither : (x y : Bool) → y ≡ false → x && y ≡ false
-      neither true y f = f
-      neither false y f = refl
+  made_kept counted r l = h.made_is r l ∙ sym (ap (λ x. Some x) (made_now r ∙ ap (λ x. cond x (suc (made os (s.name r))) (made os (s.name r))) (and_right (same_name (s.name p) (s.name r)) (is_counted (happening s e.event)) counted)))
 
   pub places_length : length (b.places.items ++ number_at b.made.items p ∷ []) ≡ length (take (at + 1) all)
   places_length =
@@ -159,14 +145,14 @@ module _ (all : List Entry) (nameable : NameableFrom at_start all) (quiet : IsQu
       ∙ h.places i x (sym (push_low (take at all) e i l) ∙ g)
       ∙ ap (λ ys. Some (made ys (s.name x.process))) (sym (take_low os o i (let n = named_length s (take at all) in omega arith))))
       (λ (l : i ≡ length (take at all)).
-      let is : e ≡ x = some_entry e x (sym (push_last (take at all) e) ∙ subst (λ k. slice_get (take at all ++ e ∷ []) k ≡ Some x) l g) in
+      let is : e ≡ x = same_Some e x (sym (push_last (take at all) e) ∙ subst (λ k. slice_get (take at all ++ e ∷ []) k ≡ Some x) l g) in
       let n = named_length s (take at all) in
       let k : i ≡ length b.places.items = let c = h.all_places in omega arith in
       let m : i ≡ length os = omega arith in
       subst (λ k. slice_get (b.places.items ++ number_at b.made.items p ∷ []) k ≡ Some (number_at b.made.items p)) (sym k) (push_last b.places.items (number_at b.made.items p))
       ∙ ap (λ y. Some y) (its_made ∙ ap (λ (y : Entry). made os (s.name y.process)) is)
       ∙ ap (λ ys. Some (made ys (s.name x.process))) (sym (ap (λ k. take k (os ++ o ∷ [])) m ∙ take_low os o (length os) (omega arith) ∙ take_all os)))
-      (low_or_at i (length (take at all)) (let a = get_within (take at all ++ e ∷ []) i x g in let c = length-append (take at all) (e ∷ []) in omega arith)))
+      (below_or_at i (length (take at all)) (let a = get_within (take at all ++ e ∷ []) i x g in let c = length-append (take at all) (e ∷ []) in omega arith)))
     where
       ap_made : (i : ℕ) (x : Entry) → slice_get (b.places.items ++ number_at b.made.items p ∷ []) i ≡ Some (made (take i (os ++ o ∷ [])) (s.name x.process)) → slice_get (b.places.items ++ number_at b.made.items p ∷ []) i ≡ Some (made (take i (named s (take (at + 1) all))) (s.name x.process))
       ap_made i x f = f ∙ ap (λ xs. Some (made (take i xs) (s.name x.process))) (sym grown)

@@ -1,11 +1,14 @@
 -- While the order condition holds, who knows an offer knows each earlier one of its way on its channel.
 use Rattle.std.proofs.Common.{◌≡◌, ◌⊎◌, inl, inr, ⊎_elim, ℕ, ◌<◌, ◌≤◌, Bool, true, false, cond, ◌||◌, ◌==◌, List, [], ◌∷◌, ◌++◌, length, Option, Some, None, slice_get, refl, sym, ap, ◌∙◌, subst, arith, eqb-true, eq-eqb}
+use Rattle.std.proofs.lemmas.Bool.{or_cases, or_left, or_right}
+use Rattle.std.proofs.lemmas.Option.{none-some, same_Some, slice_get_within}
+use Rattle.sp_base.proofs.Facts.{below_or_at}
 use Rattle.sp_journal.specs.declared.entry.Way.{Way}
 use Rattle.sp_journal.specs.Maps.{at_key}
 use Rattle.sp_journal.specs.Names.{Name, Channel, same_name, same_channel, Happening, Opened, Forked, Offered, Ended, Faulted, Laid, Paused, Occurrence}
 use Rattle.sp_journal.specs.Past.{Judged, learn, now, met_now, judged_by, nothing_judged}
 use Rattle.sp_past.proofs.Keys.{name_is, channel_is}
-use Rattle.sp_past.proofs.Prefixing.{or_left, or_right, or_cases, get_low, get_last, get_inside, low_or_last, learn_all, teach_all, report_all, learn_more, teach_more, report_more}
+use Rattle.sp_past.proofs.Prefixing.{get_low, get_last, learn_all, teach_all, report_all, learn_more, teach_more, report_more}
 use Rattle.sp_race.specs.Known.{KnowsOffers}
 use Rattle.sp_race.proofs.Completion.{Paired}
 
@@ -25,11 +28,8 @@ union_chained es f g a b i k w c z y o p l h = ⊎_elim
     (λ (x : g i ≡ true). or_right (f k) (g k) (b i k w c z y o p l x))
     (or_cases (f i) (g i) h)
 
-occurrence_is : (a b : Occurrence) → ◌≡◌ {A = Option Occurrence} (Some a) (Some b) → a ≡ b
-occurrence_is a b h = cc
-
 what_is : (a b : Occurrence) → ◌≡◌ {A = Option Occurrence} (Some a) (Some b) → a.what ≡ b.what
-what_is a b h = ap (λ (x : Occurrence). x.what) (occurrence_is a b h)
+what_is a b h = ap (λ (x : Occurrence). x.what) (same_Some a b h)
 
 abbrev pub way_of : Way → Happening → Way
 way_of d (Offered w c) = w
@@ -48,12 +48,6 @@ channel_of d Ended = d
 channel_of d (Faulted f) = d
 channel_of d Laid = d
 channel_of d Paused = d
-
-pair_is : (x y : Name × ℕ) → ◌≡◌ {A = Option (Name × ℕ)} (Some x) (Some y) → x ≡ y
-pair_is x y e = cc
-
-none_pair : (x : Name × ℕ) → ◌≡◌ {A = Option (Name × ℕ)} None (Some x) → ⊥
-none_pair x e = cc
 
 at_channel : (c d : Channel) (v : Option (Name × ℕ)) (m : Channel → Option (Name × ℕ)) (x : Name × ℕ) → at_key same_channel c v m d ≡ Some x → ((c ≡ d) × (v ≡ Some x)) ⊎ (m d ≡ Some x)
 at_channel c d v m x h = by (same_channel c d) (channel_is c d) h
@@ -76,7 +70,7 @@ module _ (j : Judged) (es : List Occurrence) (chains : Chains j es) (paired : Pa
   low i x l o = sym (get_low es entry i l) ∙ o
 
   up : (i : ℕ) (x : Occurrence) → slice_get es i ≡ Some x → slice_get longer i ≡ Some x
-  up i x o = get_low es entry i (get_inside es i x o) ∙ o
+  up i x o = get_low es entry i (slice_get_within es i x o) ∙ o
 
   -- a set of earlier indices
   still : (f : ℕ → Bool) → ((i : ℕ) → f i ≡ true → i < n) → Chained es f → Chained longer f
@@ -95,7 +89,7 @@ module _ (j : Judged) (es : List Occurrence) (chains : Chains j es) (paired : Pa
       ⊎_elim
       (λ (a : k < n). or_left (j.past p k) (n == k) (all k y (low k _ a q)))
       (λ (a : k ≡ n). or_right (j.past p k) (n == k) (eq-eqb n k (sym a)))
-      (low_or_last k n (omega arith)))
+      (below_or_at k n (omega arith)))
       (or_cases (j.past p i) (n == i) t)
 
   own_chained : (q : Name) → Chained longer (learn p (λ i. n == i) j.past q)
@@ -108,7 +102,7 @@ module _ (j : Judged) (es : List Occurrence) (chains : Chains j es) (paired : Pa
   theirs_chained : (c : Channel) (z : Name) (x : ℕ) → j.pending c ≡ Some (z, x) → Chained longer (now j z x)
   theirs_chained c z x met i k w d y u o q l t =
       let a = chains.waits c z x met in
-      let inside = get_inside es x _ a.1 in
+      let inside = slice_get_within es x _ a.1 in
       ⊎_elim
       (λ (b : j.past z i ≡ true). or_left (j.past z k) (x == k) (past_still z i k w d y u o q l b))
       (λ (b : x == i ≡ true).
@@ -119,14 +113,14 @@ module _ (j : Judged) (es : List Occurrence) (chains : Chains j es) (paired : Pa
       ⊎_elim
       (λ (f : k < x). or_left (j.past z k) (x == k) (a.2 k u (low k _ (omega arith) (subst (λ v. OfferAt longer k u v c) same_way (subst (OfferAt longer k u w) same_chan q))) f))
       (λ (f : k ≡ x). or_right (j.past z k) (x == k) (eq-eqb x k (sym f)))
-      (low_or_last k x (omega arith)))
+      (below_or_at k x (omega arith)))
       (or_cases (j.past z i) (x == i) t)
 
   -- the offers that waited before wait on
   old_waits : (past : Name → ℕ → Bool) → ((q : Name) (i : ℕ) → j.past q i ≡ true → past q i ≡ true) → (c : Channel) (z : Name) (x : ℕ) → j.pending c ≡ Some (z, x) → (w : Way) × OfferAt longer x z w c × ((k : ℕ) (y : Name) → OfferAt longer k y w c → k < x → past z k ≡ true)
   old_waits past more c z x e =
       let a = chains.waits c z x e in
-      let inside = get_inside es x _ a.1 in
+      let inside = slice_get_within es x _ a.1 in
       (a.0, up x _ a.1, λ k y o l. more z k (a.2 k y (low k _ (omega arith) o) l))
 
   no_offer : (j' : Judged) → ((q : Name) → Chained longer (j'.past q)) → ((q : Name) (i : ℕ) → j.past q i ≡ true → j'.past q i ≡ true) → j'.pending ≡ j.pending → Chains j' longer
@@ -136,7 +130,7 @@ module _ (j : Judged) (es : List Occurrence) (chains : Chains j es) (paired : Pa
   offer_waits w c is = record {
     past = past_still;
     waits = λ d z x e. ⊎_elim
-        (λ (a : (c ≡ d) × (◌≡◌ {A = Option (Name × ℕ)} (Some (p, n)) (Some (z, x)))). new d z x a.0 (pair_is _ _ a.1))
+        (λ (a : (c ≡ d) × (◌≡◌ {A = Option (Name × ℕ)} (Some (p, n)) (Some (z, x)))). new d z x a.0 (same_Some _ _ a.1))
         (λ (a : j.pending d ≡ Some (z, x)). old_waits j.past (λ q i t. t) d z x a)
         (at_channel c d (Some (p, n)) j.pending (z, x) e);
   }
@@ -155,7 +149,7 @@ module _ (j : Judged) (es : List Occurrence) (chains : Chains j es) (paired : Pa
   offer_meets c o met = record {
     past = learn_all (Chained longer) (union_chained longer) known known_chained o.0 (learn p known j.past) (learn_all (Chained longer) (union_chained longer) known known_chained p j.past past_still);
     waits = λ d z x e. ⊎_elim
-        (λ (a : (c ≡ d) × (◌≡◌ {A = Option (Name × ℕ)} None (Some (z, x)))). absurd (none_pair (z, x) a.1))
+        (λ (a : (c ≡ d) × (◌≡◌ {A = Option (Name × ℕ)} None (Some (z, x)))). absurd (none-some (z, x) a.1))
         (λ (a : j.pending d ≡ Some (z, x)). old_waits (met_now j p n c (Some o)).past (λ q i t. learn_more o.0 known (learn p known j.past) q i (learn_more p known j.past q i t)) d z x a)
         (at_channel c d None j.pending (z, x) e);
   }
@@ -191,8 +185,8 @@ chains_more j es c d p Paused k = no_offer j es c d p Paused k j (past_still j e
 
 pub nothing_chained : Chains nothing_judged []
 nothing_chained = record {
-  past = λ q i k w c z y o. absurd (let l = get_inside [] i _ o in omega arith);
-  waits = λ c z x e. absurd (none_pair (z, x) e);
+  past = λ q i k w c z y o. absurd (let l = slice_get_within [] i _ o in omega arith);
+  waits = λ c z x e. absurd (none-some (z, x) e);
 }
 
 -- who knows the last offer of a way on a channel knows all of them

@@ -9,7 +9,7 @@ use Rattle.std.specs.Option.{IsSome}
 use Rattle.std.specs.List.{IsDistinct, AllByRecursion}
 use Rattle.std.specs.List.Sorted.{IsStrictlySortedBy}
 use Rattle.std.proofs.lemmas.Map.Keys.{IsDistinct-from_sorted}
-use Rattle.std.proofs.lemmas.Bool.{cases_eq}
+use Rattle.std.proofs.lemmas.Bool.{cases_eq, true≢false}
 use Rattle.std.proofs.Math.Nat.{max-zero}
 use Rattle.sp_base.specs.Order.{tie_of}
 
@@ -86,9 +86,6 @@ pub kept_count : (p : ℕ × ℕ → Bool) (q : ℕ) → ((v : ℕ) → p (q, v)
 kept_count p q keeps [] = refl
 kept_count p q keeps (e ∷ es) = by (p e) refl (is_at (nat_cmp q) e.0) refl (kept_count p q keeps es)
   where
-    true_false : ◌≡◌ {A = Bool} true false → ⊥
-    true_false x = cc
-
     same : is_at (nat_cmp q) e.0 ≡ true → q ≡ e.0
     same t = nat_cmp-IsAntisymmetric q e.0 (tie_of (nat_cmp q e.0) t)
 
@@ -98,5 +95,5 @@ kept_count p q keeps (e ∷ es) = by (p e) refl (is_at (nat_cmp q) e.0) refl (ke
     by : (b : Bool) → p e ≡ b → (t : Bool) → is_at (nat_cmp q) e.0 ≡ t → count_in (filter p es) q ≡ count_in es q → count_in (cond b (e ∷ filter p es) (filter p es)) q ≡ count_in (e ∷ es) q
     by true k true t rest = ap (λ b. unwrap_or (cond b (Some e.1) (lookup (is_at (nat_cmp q)) (filter p es))) 0) t ∙ sym (ap (λ b. unwrap_or (cond b (Some e.1) (lookup (is_at (nat_cmp q)) es)) 0) t)
     by true k false t rest = skip false t refl (filter p es) ∙ rest ∙ sym (skip false t refl es)
-    by false k true t rest = absurd (true_false (sym (keeps e.1) ∙ ap (λ (x : ℕ). p (x, e.1)) (same t) ∙ k))
+    by false k true t rest = absurd (true≢false (sym (keeps e.1) ∙ ap (λ (x : ℕ). p (x, e.1)) (same t) ∙ k))
     by false k false t rest = rest ∙ sym (skip false t refl es)

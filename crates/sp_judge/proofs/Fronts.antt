@@ -1,7 +1,8 @@
 -- What is judged of the front of a journal and of one more entry.
 use Rattle.std.proofs.Common.{◌≡◌, ℕ, zero, suc, ◌+◌, ◌<◌, ◌≤◌, cond, List, [], ◌∷◌, ◌++◌, take, length, length-append, append_assoc, append-nil, Option, Some, None, slice_get, refl, sym, ap, ◌∙◌, subst, arith}
 use Rattle.std.proofs.lemmas.List.{take_more}
-use Rattle.std.proofs.lemmas.Option.{get_or_from_slice_get, slice_get_within}
+use Rattle.std.proofs.lemmas.Option.{get_or_from_slice_get, slice_get_within, same_Some}
+use Rattle.sp_base.proofs.Facts.{is_plus_none}
 use Rattle.sp_journal.specs.declared.entry.Entry.{Entry}
 use Rattle.sp_journal.specs.declared.entry.Event.{Event}
 use Rattle.sp_journal.specs.declared.entry.Event.TheVariants as event
@@ -39,10 +40,7 @@ pub counts_last : (es : List Occurrence) (e : Occurrence) → counts (es ++ e �
 counts_last es e = counts_from_last (λ p q. 0) nothing_judged [] es e
 
 quiet_front : (j : Judged) (n : ℕ) (xs ys : List Occurrence) → QuietFrom j n (xs ++ ys) → QuietFrom j n xs × QuietFrom (judged_from j n xs) (n + length xs) ys
-quiet_front j n [] ys q = (tt, subst (λ x. QuietFrom j x ys) (added n) q)
-  where
-    added : (n : ℕ) → n ≡ n + 0
-    added n = omega arith
+quiet_front j n [] ys q = (tt, subst (λ x. QuietFrom j x ys) (is_plus_none n) q)
 quiet_front j n (x ∷ xs) ys q =
     let r = quiet_front (judged_by j n x.who x.what) (suc n) xs ys q.1 in
     let l : suc n + length xs ≡ n + suc (length xs) = omega arith in
@@ -52,15 +50,12 @@ nameable_front : (s : Births) (xs ys : List Entry) → NameableFrom s (xs ++ ys)
 nameable_front s [] ys f = (tt, f)
 nameable_front s (x ∷ xs) ys f = let r = nameable_front (after_entry s x) xs ys f.1 in ((f.0, r.0), r.1)
 
-entry_is : (a b : Entry) → ◌≡◌ {A = Option Entry} (Some a) (Some b) → a ≡ b
-entry_is a b e = cc
-
 none_entry : {A : Type 0} (a : Entry) → ◌≡◌ {A = Option Entry} None (Some a) → A
 none_entry a e = absurd (cc)
 
 rest_of : (all : List Entry) (at : ℕ) (e : Entry) → slice_get all at ≡ Some e → (rest : List Entry) × (all ≡ take at all ++ e ∷ rest)
 rest_of [] at e h = none_entry e h
-rest_of (x ∷ xs) zero e h = (xs, ap (λ y. y ∷ xs) (entry_is x e h))
+rest_of (x ∷ xs) zero e h = (xs, ap (λ y. y ∷ xs) (same_Some x e h))
 rest_of (x ∷ xs) (suc at) e h = let r = rest_of xs at e h in (r.0, ap (λ ys. x ∷ ys) r.1)
 
 pub get_within : {X : Type 0} (xs : List X) (i : ℕ) (x : X) → slice_get xs i ≡ Some x → i < length xs
@@ -85,7 +80,7 @@ named_length s (x ∷ es) = ap suc (named_length s es)
 
 pub named_get : (s : Births) (es : List Entry) (i : ℕ) (e : Entry) → slice_get es i ≡ Some e → slice_get (named s es) i ≡ Some (occurrence s e)
 named_get s [] i e h = none_entry e h
-named_get s (x ∷ es) zero e h = ap (λ y. Some (occurrence s y)) (entry_is x e h)
+named_get s (x ∷ es) zero e h = ap (λ y. Some (occurrence s y)) (same_Some x e h)
 named_get s (x ∷ es) (suc i) e h = named_get s es i e h
 
 -- how many forks a process has made, by numbers and by names

@@ -1,6 +1,7 @@
 -- From the numbers of a nameable journal to the names that its entries give in the end.
 use Rattle.std.proofs.Common.{◌≡◌, ◌≢◌, ⊎_elim, ℕ, zero, suc, ◌+◌, ◌-◌, ◌<◌, ◌≤◌, Bool, true, false, cond, max, ◌&&◌, ◌==◌, nat_le, nat_lt, List, [], ◌∷◌, map, refl, sym, ap, ◌∙◌, subst, arith, eq-eqb}
 use Rattle.std.proofs.lemmas.Bool.Decides.{nat_tests}
+use Rattle.std.proofs.lemmas.Bool.{eqb-false, ne_eqb}
 use Rattle.sp_journal.specs.declared.entry.Entry.{Entry}
 use Rattle.sp_journal.specs.declared.entry.Event.{Event}
 use Rattle.sp_journal.specs.declared.entry.Event.TheVariants as event
@@ -8,12 +9,11 @@ use Rattle.sp_journal.specs.declared.entry.Opening.{Opening}
 use Rattle.sp_journal.specs.declared.entry.Way.TheVariants as way
 use Rattle.sp_journal.specs.Names.{Name, Channel, same_name, same_channel, Offered}
 use Rattle.sp_journal.specs.Births.{Births, at_start, after_event, after_entry, births_from, births, channel, CanFollow, GivesNumbers, NameableFrom, happening, occurrence, occurrences_from}
-use Rattle.sp_journal.proofs.Facts.{below, between, apart}
+use Rattle.sp_journal.proofs.Facts.{below, between}
 use Rattle.sp_journal.proofs.BirthLaws.{Lawful, lawful_start, lawful_after, lawful}
 use Rattle.sp_past.proofs.Keys.{name_itself, name_is, channel_itself, channel_is}
 use Rattle.sp_judge.specs.Counts.{gains, shares}
 use Rattle.sp_judge.proofs.Tallies.{index_or_not}
-use Rattle.sp_judge.proofs.TableLaws.{differ}
 
 -- what was given before is there after
 pub record Stays (s t : Births) : Type 0 where
@@ -31,7 +31,7 @@ event_stays s p (event.Fork n) = record {
 }
 event_stays s p event.Open = record {
   names = λ q l. refl;
-  openings = λ c l. ap (λ b. cond b (record { owner = p; nth = s.opens p }) (s.opening c)) (apart s.channels c (λ e. omega arith));
+  openings = λ c l. ap (λ b. cond b (record { owner = p; nth = s.opens p }) (s.opening c)) (ne_eqb s.channels c (λ e. omega arith));
   processes = omega arith;
   channels = omega arith;
 }
@@ -99,7 +99,7 @@ module _ (s : Births) (lawful : Lawful s) where
   pub same_process : (p q : ℕ) → p < s.processes → q < s.processes → p == q ≡ same_name (s.name p) (s.name q)
   same_process p q l h = ⊎_elim
       (λ (e : p ≡ q). eq-eqb p q e ∙ sym (subst (λ r. same_name (s.name p) (s.name r) ≡ true) e (name_itself (s.name p))))
-      (λ (d : p == q ≡ false). d ∙ sym (no (same_name (s.name p) (s.name q)) refl (λ e. differ p q d (lawful.one_name p q l h (name_is (s.name p) (s.name q) e)))))
+      (λ (d : p == q ≡ false). d ∙ sym (no (same_name (s.name p) (s.name q)) refl (λ e. eqb-false p q d (lawful.one_name p q l h (name_is (s.name p) (s.name q) e)))))
       (index_or_not p q)
     where
       no : (b : Bool) {c : Bool} → c ≡ b → (c ≡ true → ⊥) → c ≡ false
@@ -115,7 +115,7 @@ module _ (s : Births) (lawful : Lawful s) where
   pub same_chan : (c d : ℕ) → c < s.channels → d < s.channels → c == d ≡ same_channel (channel s c) (channel s d)
   same_chan c d l h = ⊎_elim
       (λ (e : c ≡ d). eq-eqb c d e ∙ sym (subst (λ r. same_channel (channel s c) (channel s r) ≡ true) e (channel_itself (channel s c))))
-      (λ (n : c == d ≡ false). n ∙ sym (no (same_channel (channel s c) (channel s d)) refl (λ e. differ c d n (one_channel c d l h (channel_is (channel s c) (channel s d) e)))))
+      (λ (n : c == d ≡ false). n ∙ sym (no (same_channel (channel s c) (channel s d)) refl (λ e. eqb-false c d n (one_channel c d l h (channel_is (channel s c) (channel s d) e)))))
       (index_or_not c d)
     where
       no : (b : Bool) {c : Bool} → c ≡ b → (c ≡ true → ⊥) → c ≡ false
@@ -159,7 +159,7 @@ module _ (s : Births) (lawful : Lawful s) where
             ∙ sym (ap (λ x. cond x (max (c' r q) (known q)) (c' r q)) (past_one first i n r e) ∙ ap (λ x. cond x (max (c r q) (known q)) (c r q)) (eq-eqb (first + i) r e)))
             (λ (d : first + i == r ≡ false).
             let z : c r q ≡ c' r q = sym (ap (λ x. cond x (max (c r q) (known q)) (c r q)) d) in
-            let o = others first i n r (differ (first + i) r d) in
+            let o = others first i n r (eqb-false (first + i) r d) in
             λ j. cond (o j) (max (z j) (known q)) (z j))
             (index_or_not (first + i) r)
 

@@ -1,6 +1,8 @@
 -- The judge's tables after an offer, and what an offer's process knows before it.
 use Rattle.std.proofs.Common.{◌≡◌, ◌≢◌, ⊎_elim, ℕ, suc, ◌+◌, ◌<◌, ◌≤◌, Bool, true, false, cond, max, ◌==◌, List, [], ◌∷◌, ◌++◌, take, length, Option, Some, None, slice_get, slice_set, refl, sym, ap, ◌∙◌, subst, arith, eq-eqb}
 use Rattle.std.proofs.Math.Nat.{max-eq_left, max_comm, le-max_left, le-max_right}
+use Rattle.std.proofs.lemmas.Bool.{eqb-false}
+use Rattle.std.proofs.lemmas.Option.{same_Some}
 use Rattle.sp_journal.specs.declared.entry.Entry.{Entry}
 use Rattle.sp_journal.specs.declared.entry.Way.{Way}
 use Rattle.sp_journal.specs.declared.entry.Way.TheVariants as way
@@ -17,7 +19,7 @@ use Rattle.sp_judge.specs.Clocks.{clock_at, with_own, met_at, number_at, IsAsked
 use Rattle.sp_judge.specs.Counts.{made, counts, counted_by, mine, theirs, both, met_counts}
 use Rattle.sp_judge.specs.Bench.{named, Waits, IsLast, IsLine, Holds, then_line}
 use Rattle.sp_judge.proofs.Tallies.{index_or_not, take_low, take_all}
-use Rattle.sp_judge.proofs.TableLaws.{get_set, differ}
+use Rattle.sp_judge.proofs.TableLaws.{get_set}
 use Rattle.sp_judge.proofs.Numbers.{same_process, one_channel}
 use Rattle.sp_judge.proofs.Chains.{channel_of, way_of}
 use Rattle.sp_judge.proofs.Fronts.{judged_last}
@@ -81,11 +83,8 @@ module _ (all : List Entry) (nameable : NameableFrom at_start all) (quiet : IsQu
   abbrev offer : Offer
   offer = record { process = p; place = number_at b.made.items p }
 
-  some_line : (a k : Line) → ◌≡◌ {A = Option Line} (Some a) (Some k) → a ≡ k
-  some_line a k f = cc
-
   its_line : IsLine s os d l
-  its_line = let x = h.lines c is_open in subst (IsLine s os d) (some_line x.0 l (sym x.1 ∙ line)) x.2
+  its_line = let x = h.lines c is_open in subst (IsLine s os d) (same_Some x.0 l (sym x.1 ∙ line)) x.2
 
   this_there : p < s.processes
   this_there = here all nameable quiet lawful at e inside until b h
@@ -129,7 +128,7 @@ module _ (all : List Entry) (nameable : NameableFrom at_start all) (quiet : IsQu
       ))
       (λ (g : c == k ≡ false).
       let x = h.lines k inside' in
-      let apart : channel s c ≡ channel s k → ⊥ = λ y. differ c k g (one_channel s lawful c k is_open inside' y) in (
+      let apart : channel s c ≡ channel s k → ⊥ = λ y. eqb-false c k g (one_channel s lawful c k is_open inside' y) in (
         x.0,
         get_set b.lines.items c (then_line w offer waiting l) k c_inside ∙ ap (λ y. cond y (Some (then_line w offer waiting l)) (slice_get b.lines.items k)) g ∙ x.1,
         line_stays all nameable quiet lawful at e inside until b h (channel s k) x.0 (λ v y. apart (ap (channel_of d) (sym is ∙ y)))

@@ -1,5 +1,6 @@
 -- A run along a journal is quiet: who makes an entry is running, and whose offer is pending waits.
 use Rattle.std.proofs.Common.{◌≡◌, ℕ, zero, suc, Bool, true, false, cond, ◌==◌, List, [], ◌∷◌, Option, Some, None, refl, sym, ap, ◌∙◌, subst}
+use Rattle.std.proofs.lemmas.Option.{none-some, same_Some}
 use Rattle.sp_base.specs.declared.fault.Fault.{Fault}
 use Rattle.sp_base.specs.declared.fault.Fault.TheVariants as fault
 use Rattle.sp_journal.specs.Maps.{at_key}
@@ -16,7 +17,6 @@ use Rattle.sp_meaning.proofs.Frames.{IsOn, all_in, pending_frame}
 use Rattle.sp_meaning.proofs.Status.{waits_stands, working_stands}
 use Rattle.sp_meaning.proofs.Sound.{step_sound}
 use Rattle.sp_race.proofs.GoodSteps.{sound_opening}
-use Rattle.sp_race.proofs.Linking.{some_is, none_is}
 use Rattle.sp_past.specs.Prefixes.{WaitsForNone, QuietFrom, IsQuiet}
 
 -- the process of a pending offer
@@ -85,9 +85,9 @@ module _ (g : Setting) where
     offer_fits : (o : OfferOf L) (x : Option (Name × ℕ)) → j.pending o.channel ≡ x → (y : Option Name) → offerer x ≡ y → Fits (said_of (Offering o) (offered s q o y)) (offered s q o y)
     offer_fits o None pend None e c = subst (λ x. offerer ((met_now j q n o.channel x).pending c) ≡ at_key same_channel o.channel (Some q) s.pending c) (sym pend)
         (at_both (same_channel o.channel c) (Some (q, n)) (Some q) (j.pending c) (s.pending c) refl (match.pends c))
-    offer_fits o None pend (Some z) e c = absurd (none_is e)
-    offer_fits o (Some x) pend None e c = absurd (none_is (sym e))
-    offer_fits o (Some x) pend (Some z) e c = meets_fits o z x.1 (pend ∙ ap (λ y. Some (y, x.1)) (some_is e)) (s.condition z) c
+    offer_fits o None pend (Some z) e c = absurd (none-some _ e)
+    offer_fits o (Some x) pend None e c = absurd (none-some _ (sym e))
+    offer_fits o (Some x) pend (Some z) e c = meets_fits o z x.1 (pend ∙ ap (λ y. Some (y, x.1)) (same_Some _ _ e)) (s.condition z) c
 
     act_fits : (a : ActOf L) → Fits (said_of a (acts s q a)) (acts s q a)
     act_fits (Moves o ws) = same_fits (Moves o ws) (λ c h. h) _ refl
@@ -105,7 +105,7 @@ module _ (g : Setting) where
     pub stepped : (own : Process) (m : StateOf g) (w : Option Happening) → running g s q ≡ Some own → says g s q own ≡ w → next g s q ≡ Some m → Matches m (judged_if j n q w)
     stepped own m w run says_w st =
         let a = L.next own s.store in
-        let is : result_of s q (outcome (most g) s q a) ≡ m = some_is (sym (ap (step_with (most g) s q) run) ∙ st) in
+        let is : result_of s q (outcome (most g) s q a) ≡ m = same_Some _ _ (sym (ap (step_with (most g) s q) run) ∙ st) in
         record {
           sound = step_sound (most g) s q m match.sound st;
           pends = λ c. subst (λ x. offerer ((judged_if j n q x).pending c) ≡ m.pending c) says_w

@@ -1,7 +1,9 @@
 -- An ordered run that has an end ends alike in every schedule; and a journal and an end have one verdict alone.
 use Rattle.std.proofs.Common.{◌≡◌, ◌⊎◌, inl, inr, ⊎_elim, ℕ, zero, suc, Bool, true, false, cond, List, [], ◌∷◌, ◌++◌, append-nil, Option, Some, None, refl, sym, ap, ◌∙◌, subst, arith}
+use Rattle.std.proofs.lemmas.Option.{none-some, same_Some}
 use Rattle.sp_base.specs.declared.fault.Fault.{Fault}
 use Rattle.sp_base.specs.declared.name.ChanName.{ChanName}
+use Rattle.sp_base.proofs.Facts.{not_true_and_false}
 use Rattle.sp_journal.specs.declared.entry.Way.{Way}
 use Rattle.sp_journal.specs.declared.outcome.End.{End}
 use Rattle.sp_journal.specs.declared.outcome.End.TheVariants as end
@@ -24,7 +26,6 @@ use Rattle.sp_meaning.proofs.Parallel.{ancestors_live}
 use Rattle.sp_meaning.proofs.Sound.{step_sound}
 use Rattle.sp_meaning.proofs.Started.{disjoint}
 use Rattle.sp_race.proofs.GoodSteps.{sound_opening}
-use Rattle.sp_race.proofs.Linking.{some_is, none_is}
 use Rattle.sp_race.proofs.Verdict.{each_ends_alike}
 use Rattle.sp_judge.specs.Races.{Race, IsLeastRace, IsFault, IsVerdict}
 use Rattle.sp_judge.specs.Runs.{AllEndAlike, IsRunVerdict}
@@ -39,7 +40,7 @@ module _ (g : Setting) where
     goes_on : IsDone g s → ⊥
 
   resulted : (s : StateOf g) (q : Name) (own : Process) (m : StateOf g) → running g s q ≡ Some own → next g s q ≡ Some m → result_of s q (outcome (most g) s q (L.next own s.store)) ≡ m
-  resulted s q own m run st = some_is (sym (ap (step_with (most g) s q) run) ∙ st)
+  resulted s q own m run st = same_Some _ _ (sym (ap (step_with (most g) s q) run) ∙ st)
 
   -- while a process is running the root has not ended
   root_goes_on : (s : StateOf g) → Sound s → (q : Name) (own : Process) → running g s q ≡ Some own → IsDone g s → ⊥
@@ -50,16 +51,16 @@ module _ (g : Setting) where
   -- a faulting step
   module _ (s : StateOf g) (q : Name) (own : Process) (sound : Sound s) (run : running g s q ≡ Some own) (f : Fault) where
     does_not : (a : ActOf L) (cs : List (Change L)) → said_of a (Advances cs) ≡ Some (Faulted f) → ⊥
-    does_not (Moves o ws) cs e = none_is e
+    does_not (Moves o ws) cs e = none-some _ e
     does_not (Opens o ws) cs e = cc e
     does_not (Forks o os) cs e = cc e
     does_not (Offering o) cs e = cc e
     does_not Ends cs e = cc e
-    does_not (Fails x) cs e = none_is e
+    does_not (Fails x) cs e = none-some _ e
 
     by_outcome : (a : ActOf L) (out : Outcome L) → said_of a out ≡ Some (Faulted f) → Broken (result_of s q out)
     by_outcome a (Advances cs) e = absurd (does_not a cs e)
-    by_outcome a (Faulty x) e = record { faulty = λ h. none_is (sym h); goes_on = root_goes_on s sound q own run }
+    by_outcome a (Faulty x) e = record { faulty = λ h. none-some _ (sym h); goes_on = root_goes_on s sound q own run }
 
     failed : (m : StateOf g) → says g s q own ≡ Some (Faulted f) → next g s q ≡ Some m → Broken m
     failed m e st = subst (λ (z : StateOf g). Broken z) (resulted s q own m run st) (by_outcome (L.next own s.store) (outcome (most g) s q (L.next own s.store)) e)
@@ -79,20 +80,20 @@ module _ (g : Setting) where
 
     by_act : (a : ActOf L) (x : Option Fault) → said_of a (unless x (acts s q a)) ≡ None → Broken (result_of s q (unless x (acts s q a)))
     by_act (Moves o ws) None e = puts_keep ws _ (works_on o)
-    by_act (Moves o ws) (Some f) e = absurd (none_is (sym e))
-    by_act (Opens o ws) None e = absurd (none_is (sym e))
-    by_act (Opens o ws) (Some f) e = absurd (none_is (sym e))
-    by_act (Forks o os) None e = absurd (none_is (sym e))
-    by_act (Forks o os) (Some f) e = absurd (none_is (sym e))
+    by_act (Moves o ws) (Some f) e = absurd (none-some _ (sym e))
+    by_act (Opens o ws) None e = absurd (none-some _ (sym e))
+    by_act (Opens o ws) (Some f) e = absurd (none-some _ (sym e))
+    by_act (Forks o os) None e = absurd (none-some _ (sym e))
+    by_act (Forks o os) (Some f) e = absurd (none-some _ (sym e))
     by_act (Offering o) x e = absurd (by (unless x (acts s q (Offering o))) e)
       where
         by : (out : Outcome L) → said_of (Offering o) out ≡ None → ⊥
-        by (Advances cs) e = none_is (sym e)
-        by (Faulty f) e = none_is (sym e)
-    by_act Ends None e = absurd (none_is (sym e))
-    by_act Ends (Some f) e = absurd (none_is (sym e))
-    by_act (Fails f) None e = absurd (none_is (sym e))
-    by_act (Fails f) (Some x) e = absurd (none_is (sym e))
+        by (Advances cs) e = none-some _ (sym e)
+        by (Faulty f) e = none-some _ (sym e)
+    by_act Ends None e = absurd (none-some _ (sym e))
+    by_act Ends (Some f) e = absurd (none-some _ (sym e))
+    by_act (Fails f) None e = absurd (none-some _ (sym e))
+    by_act (Fails f) (Some x) e = absurd (none-some _ (sym e))
 
     stays_broken : (own : Process) (m : StateOf g) → running g s q ≡ Some own → says g s q own ≡ None → next g s q ≡ Some m → Broken m
     stays_broken own m run e st = subst (λ (z : StateOf g). Broken z) (resulted s q own m run st) (by_act (L.next own s.store) (passed (most g) s.totals (cost (L.next own s.store))) e)
@@ -109,19 +110,16 @@ module _ (g : Setting) where
       rest true y one later = subst P (sym y.1) one
       rest false y one later = later y
 
-  true_false : (b : Bool) → b ≡ true → b ≡ false → ⊥
-  true_false b e f = let x : true ≡ false = sym e ∙ f in cc x
-
   -- after a fault: processes are laid, and nothing else happens
   laid_on : (left : Course → StateOf g → ℕ → Type 0) (c : Course) (m : StateOf g) (paused : Bool) (q : Name) (w : Happening) (r : ℕ) (A : Type 0) → c.faulted ≡ true → Entered g left c m paused q w r
       → (left (stopped q c) m r → A) → A
-  laid_on left c m paused q Opened r A f h go = absurd (true_false c.faulted f h.0)
-  laid_on left c m paused q (Forked i) r A f h go = absurd (true_false c.faulted f h.0)
-  laid_on left c m paused q (Offered w d) r A f h go = absurd (true_false c.faulted f h.0)
-  laid_on left c m paused q happenings.Ended r A f h go = absurd (true_false c.faulted f h.0)
-  laid_on left c m paused q (Faulted x) r A f h go = absurd (true_false c.faulted f h.0)
+  laid_on left c m paused q Opened r A f h go = absurd (not_true_and_false c.faulted f h.0)
+  laid_on left c m paused q (Forked i) r A f h go = absurd (not_true_and_false c.faulted f h.0)
+  laid_on left c m paused q (Offered w d) r A f h go = absurd (not_true_and_false c.faulted f h.0)
+  laid_on left c m paused q happenings.Ended r A f h go = absurd (not_true_and_false c.faulted f h.0)
+  laid_on left c m paused q (Faulted x) r A f h go = absurd (not_true_and_false c.faulted f h.0)
   laid_on left c m paused q Laid r A f h go = go h.1
-  laid_on left c m paused q Paused r A f h go = absurd (true_false c.faulted f h.0)
+  laid_on left c m paused q Paused r A f h go = absurd (not_true_and_false c.faulted f h.0)
 
   along_broken : (turn : ℕ) (es : List Occurrence) (c : Course) (s : StateOf g) (r : ℕ) (t : StateOf g) → c.faulted ≡ true → Along g turn c s es r t → Broken s → Broken t
   along_broken turn [] c s r t f a b = subst (λ (z : StateOf g). Broken z) (sym a.1) b
@@ -149,7 +147,7 @@ module _ (g : Setting) where
     entered_clean (Offered w d) r f h go laid = with_first (Offered w d) tt (go _ h.2 h.3 f (step_sound (most g) m q h.2 sound h.5.3) h.6)
     entered_clean happenings.Ended r f h go laid = with_first happenings.Ended tt (go _ h.2 h.3 f (step_sound (most g) m q h.2 sound h.5.3) h.6)
     entered_clean (Faulted x) r f h go laid = inr (laid _ h.2 h.3 refl (failed m q h.5.0 sound h.5.1 x h.2 h.5.2 h.5.3) h.6)
-    entered_clean Laid r f h go laid = absurd (true_false c.faulted h.0 f)
+    entered_clean Laid r f h go laid = absurd (not_true_and_false c.faulted h.0 f)
     entered_clean Paused r f h go laid = with_first Paused tt (go _ m r f sound h.2)
 
   along_clean : (turn : ℕ) (es : List Occurrence) (c : Course) (s : StateOf g) (r : ℕ) (t : StateOf g) → c.faulted ≡ false → Along g turn c s es r t → Sound s → IsClean es ⊎ Broken t
@@ -188,7 +186,7 @@ module _ (g : Setting) where
 -- the entry of a race's later offer says the way and the channel
 same_offer : (es : List Occurrence) (w v : Way) (c d : Channel) (i k x : ℕ) → Race es w c i k → Race es v d x k → (w ≡ v) × (c ≡ d)
 same_offer es w v c d i k x a b =
-    let both : Offered w c ≡ Offered v d = ap (λ (o : Occurrence). o.what) (some_is (sym a.offered_second ∙ b.offered_second)) in
+    let both : Offered w c ≡ Offered v d = ap (λ (o : Occurrence). o.what) (same_Some _ _ (sym a.offered_second ∙ b.offered_second)) in
     (cc both, cc both)
 
 same_race : (es : List Occurrence) (w v : Way) (c d : Channel) (i k x y : ℕ) → IsLeastRace es w c i k → IsLeastRace es v d x y → (w ≡ v) × (c ≡ d) × (i ≡ x) × (k ≡ y)

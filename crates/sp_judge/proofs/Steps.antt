@@ -1,7 +1,8 @@
 -- Each kind of entry keeps what the tables hold.
 use Rattle.std.proofs.Common.{◌≡◌, ◌≢◌, ◌⊎◌, ℕ, zero, suc, ◌+◌, ◌^◌, ◌<◌, ◌≤◌, ◌↔◌, Bool, true, false, cond, max, ◌&&◌, ◌==◌, nat_le, nat_lt, List, [], ◌∷◌, ◌++◌, take, length, get_or, Option, Some, None, slice_get, slice_set, refl, sym, ap, ◌∙◌, subst, arith, Result, Ok, Err}
-use Rattle.std.proofs.lemmas.Option.{slice_get-get_or}
+use Rattle.std.proofs.lemmas.Option.{slice_get-get_or, same_Some}
 use Rattle.std.specs.Result.{OnOk}
+use Rattle.std.proofs.lemmas.List.{length-set}
 use Rattle.sp_journal.specs.declared.entry.Entry.{Entry}
 use Rattle.sp_journal.specs.declared.entry.Event.{Event}
 use Rattle.sp_journal.specs.declared.entry.Event.TheVariants as event
@@ -21,7 +22,7 @@ use Rattle.sp_judge.specs.declared.bench.Bench.{Bench}
 use Rattle.sp_judge.specs.Clocks.{count_of, clock_at, with_own, met_at, number_at, IsAsked}
 use Rattle.sp_judge.specs.Counts.{made, counts, counted_by}
 use Rattle.sp_judge.specs.Bench.{named, IsLast, IsLine, last_of, Holds, IsTame, IsPlain, offer_event, then_line}
-use Rattle.sp_judge.proofs.TableLaws.{set_length, clock_is}
+use Rattle.sp_judge.proofs.TableLaws.{clock_is}
 use Rattle.sp_judge.proofs.Numbers.{Stays}
 use Rattle.sp_judge.proofs.Fronts as front
 use Rattle.sp_judge.proofs.BenchLaws as bench
@@ -114,7 +115,7 @@ module _ (all : List Entry) (t : IsTame all) (at : ℕ) (e : Entry) (inside : sl
       → b'.next ≡ (after_entry (births (take at all)) e).processes
       → Holds s until (take (at + 1) all) b'
   counted_then b' counted len clocks mk ll lines places next = holds_then b' len clocks
-      (ap length mk ∙ set_length b.made.items p (number_at b.made.items p + 1) ∙ h.all_made)
+      (ap length mk ∙ length-set b.made.items p (number_at b.made.items p + 1) ∙ h.all_made)
       (λ r l. ap (λ xs. slice_get xs r) mk ∙ bench.made_counted all t.nameable t.quiet law at e inside until b h counted r l)
       ll lines places next
 
@@ -185,7 +186,7 @@ module _ (all : List Entry) (t : IsTame all) (at : ℕ) (e : Entry) (inside : sl
         pub offer_waits : l.waiting ≡ None → b'.lines.items ≡ slice_set b.lines.items c (then_line w offer (Some offer) l) → b'.clocks.items ≡ b.clocks.items → Holds s until (take (at + 1) all) b'
         offer_waits free ls clocks = counted_then b' (ap is_counted happens) len
             (λ r q a k. ap (λ cs. clock_at cs r q) clocks ∙ offers.clocks_wait all t.nameable t.quiet law at e inside until b h w c happens c_there l line free r q a k)
-            mk (ap length ls ∙ set_length b.lines.items c (then_line w offer (Some offer) l) ∙ h.all_lines)
+            mk (ap length ls ∙ length-set b.lines.items c (then_line w offer (Some offer) l) ∙ h.all_lines)
             (λ k a. let x = offers.offer_lines all t.nameable t.quiet law at e inside until b h w c happens c_there l line (Some offer) (offers.waits_now all t.nameable t.quiet law at e inside until b h w c happens c_there l line free) k a in (x.0, ap (λ xs. slice_get xs k) ls ∙ x.1, x.2))
             places same_next
 
@@ -193,7 +194,7 @@ module _ (all : List Entry) (t : IsTame all) (at : ℕ) (e : Entry) (inside : sl
             → ((r q : ℕ) → IsAsked until (at + 1) q → clock_at b'.clocks.items r q ≡ met_at (clock_at b.clocks.items) p (number_at b.made.items p + 1) z.process (z.place + 1) r q) → Holds s until (take (at + 1) all) b'
         offer_meets z waiting ls clocks = counted_then b' (ap is_counted happens) len
             (offers.clocks_met all t.nameable t.quiet law at e inside until b h w c happens c_there l line z waiting (clock_at b'.clocks.items) clocks)
-            mk (ap length ls ∙ set_length b.lines.items c (then_line w offer None l) ∙ h.all_lines)
+            mk (ap length ls ∙ length-set b.lines.items c (then_line w offer None l) ∙ h.all_lines)
             (λ k a. let x = offers.offer_lines all t.nameable t.quiet law at e inside until b h w c happens c_there l line None (offers.waits_no_more all t.nameable t.quiet law at e inside until b h w c happens c_there l line z waiting) k a in (x.0, ap (λ xs. slice_get xs k) ls ∙ x.1, x.2))
             places same_next
 
@@ -245,11 +246,8 @@ module _ (all : List Entry) (t : IsTame all) (at : ℕ) (e : Entry) (inside : sl
       waits_apart z f = offers.apart all t.nameable t.quiet law at e inside until b h w c this_happens this_channel l line z f
 
       its_last : IsLast s (named s (take at all)) w (channel s c) (last_of w l)
-      its_last = let x = h.lines c this_channel in by w (subst (IsLine s (named s (take at all)) (channel s c)) (some_line x.0 l (sym x.1 ∙ line)) x.2)
+      its_last = let x = h.lines c this_channel in by w (subst (IsLine s (named s (take at all)) (channel s c)) (same_Some x.0 l (sym x.1 ∙ line)) x.2)
         where
-          some_line : (a k : Line) → ◌≡◌ {A = Option Line} (Some a) (Some k) → a ≡ k
-          some_line a k f = cc
-
           by : (v : Way) → IsLine s (named s (take at all)) (channel s c) l → IsLast s (named s (take at all)) v (channel s c) (last_of v l)
           by way.Send i = i.sent
           by way.Receive i = i.received
@@ -284,6 +282,3 @@ item_is xs i x l e = slice_get-get_or xs i x l ∙ ap (λ y. Some y) (sym e)
 pub ok_both : {T E : Type 0} (A B : Type 0) (r : Result T E) → OnOk r A → OnOk r B → OnOk r (A × B)
 ok_both A B (Ok x) a b = (a, b)
 ok_both A B (Err x) a b = tt
-
-pub true_not_false : ◌≡◌ {A = Bool} true false → ⊥
-true_not_false e = cc

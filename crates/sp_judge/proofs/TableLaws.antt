@@ -3,14 +3,12 @@ use Rattle.std.proofs.Common.{◌≡◌, ◌≢◌, ⊎_elim, ℕ, zero, suc, �
 use Rattle.std.proofs.lemmas.Option.{slice_get-get_or}
 use Rattle.std.proofs.lemmas.Bool.Decides.{nat_tests}
 use Rattle.std.proofs.Math.Nat.{max-zero, max-eq_left, max_comm, le-max_right}
+use Rattle.std.proofs.lemmas.Bool.{eqb-false, ne_eqb}
+use Rattle.std.proofs.lemmas.List.{length-set}
+use Rattle.sp_base.proofs.Facts.{get_where_set}
 use Rattle.sp_judge.specs.declared.clock.Clock.{Clock}
 use Rattle.sp_judge.specs.Clocks.{count_of, count_at, clock_at, with_own, met_at}
 use Rattle.sp_judge.proofs.Tallies.{index_or_not}
-
-pub set_here : {X : Type 0} (xs : List X) (l : ℕ) (x : X) → l < length xs → slice_get (slice_set xs l x) l ≡ Some x
-set_here [] l x h = absurd (omega arith)
-set_here (y ∷ xs) zero x h = refl
-set_here (y ∷ xs) (suc l) x h = set_here xs l x (omega arith)
 
 pub set_other : {X : Type 0} (xs : List X) (l : ℕ) (x : X) (p : ℕ) → l ≢ p → slice_get (slice_set xs l x) p ≡ slice_get xs p
 set_other [] l x p d = refl
@@ -19,16 +17,10 @@ set_other (y ∷ xs) zero x (suc p) d = refl
 set_other (y ∷ xs) (suc l) x zero d = refl
 set_other (y ∷ xs) (suc l) x (suc p) d = set_other xs l x p (λ e. d (ap suc e))
 
-pub differ : (a b : ℕ) → a == b ≡ false → a ≢ b
-differ a b d e = absurd (false_true (sym d ∙ eq-eqb a b e))
-  where
-    false_true : ◌≡◌ {A = Bool} false true → ⊥
-    false_true f = cc
-
 pub get_set : {X : Type 0} (xs : List X) (l : ℕ) (x : X) (p : ℕ) → l < length xs → slice_get (slice_set xs l x) p ≡ cond (l == p) (Some x) (slice_get xs p)
 get_set xs l x p h = ⊎_elim
-    (λ (e : l ≡ p). subst (λ r. slice_get (slice_set xs l x) r ≡ Some x) e (set_here xs l x h) ∙ sym (ap (λ b. cond b (Some x) (slice_get xs p)) (eq-eqb l p e)))
-    (λ (d : l == p ≡ false). set_other xs l x p (differ l p d) ∙ sym (ap (λ b. cond b (Some x) (slice_get xs p)) d))
+    (λ (e : l ≡ p). subst (λ r. slice_get (slice_set xs l x) r ≡ Some x) e (get_where_set xs l x h) ∙ sym (ap (λ b. cond b (Some x) (slice_get xs p)) (eq-eqb l p e)))
+    (λ (d : l == p ≡ false). set_other xs l x p (eqb-false l p d) ∙ sym (ap (λ b. cond b (Some x) (slice_get xs p)) d))
     (index_or_not l p)
 
 pub clock_is : (cs : List Clock) (p : ℕ) (d : Clock) (q : ℕ) → p < length cs → count_of (get_or cs p d) q ≡ clock_at cs p q
@@ -41,16 +33,11 @@ set_clock cs l c p q h = ap (λ o. count_at o q) (get_set cs l c p h) ∙ by (l 
     by true = refl
     by false = refl
 
-pub set_length : {X : Type 0} (xs : List X) (l : ℕ) (x : X) → length (slice_set xs l x) ≡ length xs
-set_length [] l x = refl
-set_length (y ∷ xs) zero x = refl
-set_length (y ∷ xs) (suc l) x = ap suc (set_length xs l x)
-
 -- the learner's clock was taken out, merged with the teacher's and put back
 pub learned : (cs : List Clock) (l t : ℕ) (none merged : Clock) → l < length cs → ((q : ℕ) → count_of none q ≡ 0) → ((q : ℕ) → count_of merged q ≡ max (clock_at cs l q) (clock_at (slice_set cs l none) t q))
     → (p q : ℕ) → clock_at (slice_set (slice_set cs l none) l merged) p q ≡ cond (l == p) (max (clock_at cs l q) (clock_at cs t q)) (clock_at cs p q)
 learned cs l t none merged h empty is p q =
-    set_clock (slice_set cs l none) l merged p q (subst (λ n. l < n) (sym (set_length cs l none)) h)
+    set_clock (slice_set cs l none) l merged p q (subst (λ n. l < n) (sym (length-set cs l none)) h)
     ∙ ⊎_elim
     (λ (e : l ≡ p).
     let b = eq-eqb l p e in
@@ -84,7 +71,7 @@ one_more_child first child count parent c0 c1 c2 before was is p q = is p q ∙ 
     ap (λ x. cond x (max (c1 (first + child) q) (c1 parent q)) (c1 p q)) (eq-eqb (first + child) p e) ∙ (λ i. max (a i) (b i))
     ∙ sym (ap (λ x. cond x (max (c0 p q) (c0 parent q)) (c0 p q)) (at first child p e)))
     (λ (d : first + child == p ≡ false).
-    ap (λ x. cond x (max (c1 (first + child) q) (c1 parent q)) (c1 p q)) d ∙ was p q ∙ ap (λ x. cond x (max (c0 p q) (c0 parent q)) (c0 p q)) (other first child p (differ (first + child) p d)))
+    ap (λ x. cond x (max (c1 (first + child) q) (c1 parent q)) (c1 p q)) d ∙ was p q ∙ ap (λ x. cond x (max (c0 p q) (c0 parent q)) (c0 p q)) (other first child p (eqb-false (first + child) p d)))
     (index_or_not (first + child) p)
   where
     not_yet : (first child : ℕ) → nat_le first (first + child) && nat_lt (first + child) (first + child) ≡ false
@@ -115,7 +102,7 @@ pub both_met : (A : ℕ → Type 0) (p n z m : ℕ) (c0 c1 c2 c3 c4 : ℕ → �
 both_met A p n z m c0 c1 c2 c3 c4 d e1 e2 e3 e4 r q asked = e4 r q ∙ ⊎_elim
     (λ (e : z ≡ r).
     let b = eq-eqb z r e in
-    let a : p == r ≡ false = unlike p r (λ f. d (f ∙ sym e)) in
+    let a : p == r ≡ false = ne_eqb p r (λ f. d (f ∙ sym e)) in
     ap (λ x. cond x (max (c3 z q) (c3 p q)) (c3 r q)) b ∙ (λ i. max (z3 i) (p3 i)) ∙ absorbs (with_own c0 p n q) (with_own c0 z m q)
     ∙ sym (ap (λ x. cond x whole (cond (z == r) whole (c0 r q))) a ∙ ap (λ x. cond x whole (c0 r q)) b))
     (λ (b : z == r ≡ false). ap (λ x. cond x (max (c3 z q) (c3 p q)) (c3 r q)) b ∙ e3 r q ∙ ⊎_elim
@@ -133,14 +120,11 @@ both_met A p n z m c0 c1 c2 c3 c4 d e1 e2 e3 e4 r q asked = e4 r q ∙ ⊎_elim
     whole : ℕ
     whole = max (with_own c0 p n q) (with_own c0 z m q)
 
-    unlike : (a b : ℕ) → a ≢ b → a == b ≡ false
-    unlike a b f = grind (arith, nat_tests)
-
     pz : p == z ≡ false
-    pz = unlike p z d
+    pz = ne_eqb p z d
 
     zp : z == p ≡ false
-    zp = unlike z p (λ e. d (sym e))
+    zp = ne_eqb z p (λ e. d (sym e))
 
     z1 : c1 z q ≡ c0 z q
     z1 = e1 z q asked ∙ ap (λ x. cond x (cond (p == q) (max (c0 p q) n) (c0 p q)) (c0 z q)) pz

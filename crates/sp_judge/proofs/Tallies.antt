@@ -2,13 +2,15 @@
 use Rattle.std.proofs.Common.{◌≡◌, ◌⊎◌, ⊎_elim, inl, inr, ℕ, zero, suc, ◌<◌, ◌≤◌, Bool, true, false, cond, max, ◌&&◌, ◌||◌, ◌==◌, nat_lt, List, [], ◌∷◌, ◌++◌, take, length, length-append, Option, Some, None, refl, sym, ap, ◌∙◌, subst, arith, eqb-true, eq-eqb}
 use Rattle.std.proofs.lemmas.Bool.Decides.{nat_tests}
 use Rattle.std.proofs.Math.Nat.{le-max_left, le-max_right, max-le, max_comm, max-eq_left}
-use Rattle.sp_journal.proofs.Facts.{old_or_new}
+use Rattle.std.proofs.lemmas.Bool.{and_from, cases_lt, le-ltb, lt-ltb, ltb-true, or_cases, or_right}
+use Rattle.std.proofs.lemmas.Option.{same_Some, slice_get_within}
+use Rattle.sp_base.proofs.Facts.{below_or_at, or_with_false, true_is_not_false}
 use Rattle.sp_journal.specs.Names.{Name, Channel, same_name, Happening, Opened, Forked, Offered, Ended, Faulted, Laid, Paused, Occurrence}
 use Rattle.sp_journal.specs.Past.{Judged, learn, teach, report, now, met_now, judged_by}
 use Rattle.sp_past.specs.Prefixes.{is_counted, Counts, WaitsForNone}
 use Rattle.sp_judge.specs.Counts.{made, PlaceOf, becomes, gains, shares, gives_back, mine, theirs, both, met_counts, counted_by}
 use Rattle.sp_past.proofs.Keys.{name_itself, name_is}
-use Rattle.sp_past.proofs.Prefixing.{Kept, or_right, or_cases, get_low, get_last, get_inside, low_or_last}
+use Rattle.sp_past.proofs.Prefixing.{Kept, get_low, get_last}
 
 -- counts that say which of these entries are known
 pub record Says (es : List Occurrence) (f : ℕ → Bool) (g : Name → ℕ) : Type 0 where
@@ -16,18 +18,6 @@ pub record Says (es : List Occurrence) (f : ℕ → Bool) (g : Name → ℕ) : T
   pub bound : (q : Name) → g q ≤ made es q
 
 -- laws of places
-
-lt_true : (a b : ℕ) → a < b → nat_lt a b ≡ true
-lt_true a b l = grind (arith, nat_tests)
-
-lt_false : (a b : ℕ) → b ≤ a → nat_lt a b ≡ false
-lt_false a b l = grind (arith, nat_tests)
-
-lt_of : (a b : ℕ) → nat_lt a b ≡ true → a < b
-lt_of a b e = grind (arith, nat_tests)
-
-true_false : {A : Type 0} → ◌≡◌ {A = Bool} true false → A
-true_false e = absurd (cc)
 
 name_or_not : (p q : Name) → (p ≡ q) ⊎ (same_name p q ≡ false)
 name_or_not p q = elim (same_name p q) as (λ b. same_name p q ≡ b → (p ≡ q) ⊎ (same_name p q ≡ false)) [ true ↦ λ e. inl (name_is p q e) | false ↦ λ e. inr e ] refl
@@ -67,20 +57,13 @@ made_grows es e q = subst (λ x. made es q ≤ x) (sym (made_last es e q)) (by (
 
 -- an entry of a process has fewer before it than all
 pub place_few : (es : List Occurrence) (q : Name) (i k : ℕ) → PlaceOf es q i k → k < made es q
-place_few [] q i k p = absurd (let l = get_inside [] i _ p.1 in omega arith)
+place_few [] q i k p = absurd (let l = slice_get_within [] i _ p.1 in omega arith)
 place_few (x ∷ es) q zero k p =
-    let e : x ≡ record { who = q; what = p.0 } = some_occurrence x _ p.1 in
-    let t : same_name x.who q && is_counted x.what ≡ true = ap (λ (y : Occurrence). same_name y.who q && is_counted y.what) e ∙ both_true (same_name q q) (is_counted p.0) (name_itself q) p.2 in
+    let e : x ≡ record { who = q; what = p.0 } = same_Some x _ p.1 in
+    let t : same_name x.who q && is_counted x.what ≡ true = ap (λ (y : Occurrence). same_name y.who q && is_counted y.what) e ∙ and_from (same_name q q) (is_counted p.0) (name_itself q) p.2 in
     let m : made (x ∷ es) q ≡ suc (made es q) = ap (λ b. cond b (suc (made es q)) (made es q)) t in
     let z = p.3 in
     omega arith
-  where
-    some_occurrence : (a b : Occurrence) → ◌≡◌ {A = Option Occurrence} (Some a) (Some b) → a ≡ b
-    some_occurrence a b h = cc
-
-    both_true : (a b : Bool) → a ≡ true → b ≡ true → a && b ≡ true
-    both_true true b e f = f
-    both_true false b e f = absurd (cc e)
 place_few (x ∷ es) q (suc i) k p = by (place_few es q i (made (take i es) q) (p.0, p.1, p.2, refl)) (same_name x.who q && is_counted x.what) p.3
   where
     by : made (take i es) q < made es q → (b : Bool) → k ≡ cond b (suc (made (take i es) q)) (made (take i es) q) → k < cond b (suc (made es q)) (made es q)
@@ -92,21 +75,18 @@ module _ (es : List Occurrence) (e : Occurrence) where
   more = es ++ e ∷ []
 
   pub place_inside : (q : Name) (i k : ℕ) → PlaceOf more q i k → i < suc (length es)
-  place_inside q i k p = let l = get_inside more i _ p.1 in let a = length-append es (e ∷ []) in omega arith
+  place_inside q i k p = let l = slice_get_within more i _ p.1 in let a = length-append es (e ∷ []) in omega arith
 
   pub place_low : (q : Name) (i k : ℕ) → i < length es → PlaceOf more q i k → PlaceOf es q i k
   place_low q i k l p = (p.0, sym (get_low es e i l) ∙ p.1, p.2, p.3 ∙ ap (λ xs. made xs q) (take_low es e i (omega arith)))
 
   pub place_more : (q : Name) (i k : ℕ) → PlaceOf es q i k → PlaceOf more q i k
-  place_more q i k p = let l = get_inside es i _ p.1 in (p.0, get_low es e i l ∙ p.1, p.2, p.3 ∙ ap (λ xs. made xs q) (sym (take_low es e i (omega arith))))
+  place_more q i k p = let l = slice_get_within es i _ p.1 in (p.0, get_low es e i l ∙ p.1, p.2, p.3 ∙ ap (λ xs. made xs q) (sym (take_low es e i (omega arith))))
 
   pub place_last : (q : Name) (k : ℕ) → PlaceOf more q (length es) k → (e.who ≡ q) × (is_counted e.what ≡ true) × (k ≡ made es q)
   place_last q k p =
-      let f : e ≡ record { who = q; what = p.0 } = some_is e _ (sym (get_last es e) ∙ p.1) in
+      let f : e ≡ record { who = q; what = p.0 } = same_Some e _ (sym (get_last es e) ∙ p.1) in
       (ap (λ (x : Occurrence). x.who) f, ap (λ (x : Occurrence). is_counted x.what) f ∙ p.2, p.3 ∙ ap (λ xs. made xs q) (take_low es e (length es) (omega arith) ∙ take_all es))
-    where
-      some_is : (a b : Occurrence) → ◌≡◌ {A = Option Occurrence} (Some a) (Some b) → a ≡ b
-      some_is a b h = cc
 
   -- what says it before says it after, where the new index is not known
   says_more : (f : ℕ → Bool) (g : Name → ℕ) → ((i : ℕ) → f i ≡ true → i < length es) → Says es f g → Says more f g
@@ -116,8 +96,8 @@ module _ (es : List Occurrence) (e : Occurrence) where
         (λ (l : i ≡ length es).
         let x = place_last q k (subst (λ y. PlaceOf more q y k) l p) in
         let b = s.bound q in
-        unknown (f i) refl (λ h. let y = below i h in omega arith) ∙ sym (lt_false k (g q) (omega (arith, x.2, b))))
-        (low_or_last i (length es) (place_inside q i k p));
+        unknown (f i) refl (λ h. let y = below i h in omega arith) ∙ sym (le-ltb k (g q) (omega (arith, x.2, b))))
+        (below_or_at i (length es) (place_inside q i k p));
     bound = λ q. let a = s.bound q in let b = made_grows es e q in omega arith;
   }
     where
@@ -137,9 +117,9 @@ absorb_right false false h = refl
 
 or_max : (k a b : ℕ) → nat_lt k a || nat_lt k b ≡ nat_lt k (max a b)
 or_max k a b = ⊎_elim
-    (λ (l : a < b). absorb_left (nat_lt k a) (nat_lt k b) (λ h. lt_true k b (let x = lt_of k a h in omega arith)) ∙ ap (nat_lt k) (sym (max_comm a b ∙ max-eq_left (omega arith))))
-    (λ (l : b ≤ a). absorb_right (nat_lt k a) (nat_lt k b) (λ h. lt_true k a (let x = lt_of k b h in omega arith)) ∙ ap (nat_lt k) (sym (max-eq_left l)))
-    (old_or_new a b)
+    (λ (l : a < b). absorb_left (nat_lt k a) (nat_lt k b) (λ h. lt-ltb k b (let x = ltb-true k a h in omega arith)) ∙ ap (nat_lt k) (sym (max_comm a b ∙ max-eq_left (omega arith))))
+    (λ (l : b ≤ a). absorb_right (nat_lt k a) (nat_lt k b) (λ h. lt-ltb k a (let x = ltb-true k b h in omega arith)) ∙ ap (nat_lt k) (sym (max-eq_left l)))
+    (cases_lt a b)
 
 pub says_both : (es : List Occurrence) (f g : ℕ → Bool) (a b : Name → ℕ) → Says es f a → Says es g b → Says es (λ i. f i || g i) (λ q. max (a q) (b q))
 says_both es f g a b s t = record {
@@ -165,10 +145,7 @@ module _ (P : (ℕ → Bool) → (Name → ℕ) → Type 0) (union : (f g : ℕ 
   gives_back_all (x ∷ p) past count b = gains_all p past count b
 
 pair_second : (x y : Name × ℕ) → ◌≡◌ {A = Option (Name × ℕ)} (Some x) (Some y) → x.1 ≡ y.1
-pair_second x y e = ap (λ (z : Name × ℕ). z.1) (same x y e)
-  where
-    same : (x y : Name × ℕ) → ◌≡◌ {A = Option (Name × ℕ)} (Some x) (Some y) → x ≡ y
-    same x y e = cc
+pair_second x y e = ap (λ (z : Name × ℕ). z.1) (same_Some x y e)
 
 module _ (j : Judged) (es : List Occurrence) (count : Name → Name → ℕ) (kept : Kept j es) (below : (q : Name) (i : ℕ) → j.past q i ≡ true → i < length es) (says : (q : Name) → Says es (j.past q) (count q)) where
   abbrev n : ℕ
@@ -183,7 +160,7 @@ module _ (j : Judged) (es : List Occurrence) (count : Name → Name → ℕ) (ke
     its_place = let w = kept.waiting c z x met in (w.0, w.1, w.2, refl)
 
     its_index : x < n
-    its_index = get_inside es x _ its_place.1
+    its_index = slice_get_within es x _ its_place.1
 
     -- each other counted entry of it is known to it
     knows_others : (i k : ℕ) → x == i ≡ false → PlaceOf es z i k → j.past z i ≡ true
@@ -192,7 +169,7 @@ module _ (j : Judged) (es : List Occurrence) (count : Name → Name → ℕ) (ke
         (λ (h : (f : Channel) × (j.pending f ≡ Some (z, i))).
         let s : c ≡ h.0 = kept.single c h.0 z x i met h.1 in
         let y : x ≡ i = pair_second (z, x) (z, i) (sym met ∙ ap j.pending s ∙ h.1) in
-        true_false (sym (eq-eqb x i y) ∙ d))
+        true_is_not_false (sym (eq-eqb x i y) ∙ d))
         (kept.own z i (counts_of z i k p))
 
     same_place : (q : Name) (k : ℕ) → PlaceOf es q x k → (z ≡ q) × (k ≡ made (take x es) z)
@@ -200,11 +177,8 @@ module _ (j : Judged) (es : List Occurrence) (count : Name → Name → ℕ) (ke
         let e : z ≡ q = who _ _ (sym its_place.1 ∙ p.1) in
         (e, p.3 ∙ ap (λ r. made (take x es) r) (sym e))
       where
-        same : (a b : Occurrence) → ◌≡◌ {A = Option Occurrence} (Some a) (Some b) → a ≡ b
-        same a b e = cc
-
         who : (a b : Occurrence) → ◌≡◌ {A = Option Occurrence} (Some a) (Some b) → a.who ≡ b.who
-        who a b e = ap (λ (o : Occurrence). o.who) (same a b e)
+        who a b e = ap (λ (o : Occurrence). o.who) (same_Some a b e)
 
     theirs_say : Says es (now j z x) (theirs count es z x)
     theirs_say = record { says = told; bound = within }
@@ -220,21 +194,17 @@ module _ (j : Judged) (es : List Occurrence) (count : Name → Name → ℕ) (ke
                 let s = same_place q k (subst (λ y. PlaceOf es q y k) (sym e) p) in
                 let g : theirs count es z x q ≡ max (count z q) (suc place) = ap (λ b. cond b (max (count z q) (suc place)) (count z q)) (same_here z q s.0) in
                 or_right (j.past z i) (x == i) (eq-eqb x i e)
-                ∙ sym (ap (nat_lt k) g ∙ lt_true k (max (count z q) (suc place)) (let m = le-max_right (count z q) (suc place) in let y = s.1 in omega arith))
+                ∙ sym (ap (nat_lt k) g ∙ lt-ltb k (max (count z q) (suc place)) (let m = le-max_right (count z q) (suc place) in let y = s.1 in omega arith))
 
             there : x == i ≡ false → now j z x i ≡ nat_lt k (theirs count es z x q)
-            there d = ap (λ b. j.past z i || b) d ∙ no_more (j.past z i) ∙ ⊎_elim own other (name_or_not z q)
+            there d = ap (λ b. j.past z i || b) d ∙ or_with_false (j.past z i) ∙ ⊎_elim own other (name_or_not z q)
               where
-                no_more : (b : Bool) → b || false ≡ b
-                no_more true = refl
-                no_more false = refl
-
                 own : z ≡ q → j.past z i ≡ nat_lt k (theirs count es z x q)
                 own e =
                     let h : j.past z i ≡ true = knows_others i k d (subst (λ r. PlaceOf es r i k) (sym e) p) in
-                    let l : k < count z q = lt_of k (count z q) (sym ((says z).says q i k p) ∙ h) in
+                    let l : k < count z q = ltb-true k (count z q) (sym ((says z).says q i k p) ∙ h) in
                     let g : theirs count es z x q ≡ max (count z q) (suc place) = ap (λ b. cond b (max (count z q) (suc place)) (count z q)) (same_here z q e) in
-                    h ∙ sym (ap (nat_lt k) g ∙ lt_true k (max (count z q) (suc place)) (let m = le-max_left (count z q) (suc place) in omega arith))
+                    h ∙ sym (ap (nat_lt k) g ∙ lt-ltb k (max (count z q) (suc place)) (let m = le-max_left (count z q) (suc place) in omega arith))
 
                 other : same_name z q ≡ false → j.past z i ≡ nat_lt k (theirs count es z x q)
                 other e = (says z).says q i k p ∙ ap (nat_lt k) (sym (ap (λ b. cond b (max (count z q) (suc place)) (count z q)) e))
@@ -276,10 +246,10 @@ module _ (j : Judged) (es : List Occurrence) (count : Name → Name → ℕ) (ke
       mine_says = record { says = told; bound = within }
         where
           told : (q : Name) (i k : ℕ) → PlaceOf longer q i k → now j p n i ≡ nat_lt k (mine count es p q)
-          told q i k o = ⊎_elim low last (low_or_last i n (place_inside es entry q i k o))
+          told q i k o = ⊎_elim low last (below_or_at i n (place_inside es entry q i k o))
             where
               low : i < n → now j p n i ≡ nat_lt k (mine count es p q)
-              low l = ap (λ b. j.past p i || b) apart ∙ no_more (j.past p i) ∙ ⊎_elim own other (name_or_not p q)
+              low l = ap (λ b. j.past p i || b) apart ∙ or_with_false (j.past p i) ∙ ⊎_elim own other (name_or_not p q)
                 where
                   old : PlaceOf es q i k
                   old = place_low es entry q i k l o
@@ -287,15 +257,11 @@ module _ (j : Judged) (es : List Occurrence) (count : Name → Name → ℕ) (ke
                   apart : n == i ≡ false
                   apart = ⊎_elim (λ (e : n ≡ i). absurd (omega arith)) (λ (e : n == i ≡ false). e) (index_or_not n i)
 
-                  no_more : (b : Bool) → b || false ≡ b
-                  no_more true = refl
-                  no_more false = refl
-
                   own : p ≡ q → j.past p i ≡ nat_lt k (mine count es p q)
                   own e =
                       let f = place_few es q i k old in
                       knows_own i k (subst (λ r. PlaceOf es r i k) (sym e) old)
-                      ∙ sym (ap (nat_lt k) (mine_is q e) ∙ lt_true k (max (count p q) (suc (made es q))) (let m = le-max_right (count p q) (suc (made es q)) in omega arith))
+                      ∙ sym (ap (nat_lt k) (mine_is q e) ∙ lt-ltb k (max (count p q) (suc (made es q))) (let m = le-max_right (count p q) (suc (made es q)) in omega arith))
 
                   other : same_name p q ≡ false → j.past p i ≡ nat_lt k (mine count es p q)
                   other e = (says p).says q i k old ∙ ap (nat_lt k) (sym (mine_other q e))
@@ -304,20 +270,16 @@ module _ (j : Judged) (es : List Occurrence) (count : Name → Name → ℕ) (ke
               last e =
                   let x = place_last es entry q k (subst (λ y. PlaceOf longer q y k) e o) in
                   or_right (j.past p i) (n == i) (eq-eqb n i (sym e))
-                  ∙ sym (ap (nat_lt k) (mine_is q x.0) ∙ lt_true k (max (count p q) (suc (made es q))) (let m = le-max_right (count p q) (suc (made es q)) in let y = x.2 in omega arith))
+                  ∙ sym (ap (nat_lt k) (mine_is q x.0) ∙ lt-ltb k (max (count p q) (suc (made es q))) (let m = le-max_right (count p q) (suc (made es q)) in let y = x.2 in omega arith))
 
           within : (q : Name) → mine count es p q ≤ made longer q
           within q = ⊎_elim
               (λ (e : p ≡ q).
-              let m : made longer q ≡ suc (made es q) = made_last es entry q ∙ ap (λ b. cond b (suc (made es q)) (made es q)) (both_true (same_name p q) (is_counted h) (same_here p q e) counted) in
+              let m : made longer q ≡ suc (made es q) = made_last es entry q ∙ ap (λ b. cond b (suc (made es q)) (made es q)) (and_from (same_name p q) (is_counted h) (same_here p q e) counted) in
               let b = (says p).bound q in
               subst (λ y. y ≤ made longer q) (sym (mine_is q e)) (max-le (omega arith) (omega arith)))
               (λ (e : same_name p q ≡ false). subst (λ y. y ≤ made longer q) (sym (mine_other q e)) ((still p).bound q))
               (name_or_not p q)
-            where
-              both_true : (a b : Bool) → a ≡ true → b ≡ true → a && b ≡ true
-              both_true true b e f = f
-              both_true false b e f = absurd (cc e)
 
       -- the new index alone, learned by its process
       own_says : (q : Name) → Says longer (learn p (λ i. n == i) j.past q) (becomes p (mine count es p) count q)
@@ -360,6 +322,6 @@ one_more j es count kept below says p Paused w = still j es count kept below say
 
 pub nothing_said : (q : Name) → Says [] (λ i. false) (λ r. 0)
 nothing_said q = record {
-  says = λ r i k p. absurd (let l = get_inside [] i _ p.1 in omega arith);
+  says = λ r i k p. absurd (let l = slice_get_within [] i _ p.1 in omega arith);
   bound = λ r. omega arith;
 }

@@ -1,6 +1,8 @@
 -- From the tables to the verdict.
 use Rattle.std.proofs.Common.{◌≡◌, ◌⊎◌, inl, inr, ⊎_elim, ℕ, zero, suc, ◌<◌, ◌≤◌, ◌↔◌, Bool, true, false, nat_lt, List, [], ◌∷◌, ◌++◌, take, length, append_assoc, append-nil, Option, Some, None, slice_get, refl, sym, ap, ◌∙◌, subst, arith}
 use Rattle.std.proofs.lemmas.Bool.Decides.{nat_tests}
+use Rattle.std.proofs.lemmas.Bool.{cases_lt, false≢true, lt-ltb, ltb-true}
+use Rattle.std.proofs.lemmas.Option.{same_Some}
 use Rattle.sp_journal.specs.declared.entry.Entry.{Entry}
 use Rattle.sp_journal.specs.declared.entry.Event.{Event}
 use Rattle.sp_journal.specs.declared.entry.Event.TheVariants as event
@@ -61,10 +63,7 @@ parts_at [] i e h = none_here e h
   where
     none_here : {A : Type 0} (a : Occurrence) → ◌≡◌ {A = Option Occurrence} None (Some a) → A
     none_here a e = absurd (cc)
-parts_at (x ∷ xs) zero e h = (xs, ap (λ y. y ∷ xs) (same x e h))
-  where
-    same : (a b : Occurrence) → ◌≡◌ {A = Option Occurrence} (Some a) (Some b) → a ≡ b
-    same a b e = cc
+parts_at (x ∷ xs) zero e h = (xs, ap (λ y. y ∷ xs) (same_Some x e h))
 parts_at (x ∷ xs) (suc i) e h = let r = parts_at xs i e h in (r.0, ap (λ ys. x ∷ ys) r.1)
 
 pub known_at : (es : List Occurrence) (i : ℕ) (e : Occurrence) → slice_get es i ≡ Some e → AreKnown es → KnowsOffers (judged (take i es)) (take i es) e.who e.what
@@ -76,10 +75,7 @@ named_some s [] i o h = none_here o h
   where
     none_here : {A : Type 0} (a : Occurrence) → ◌≡◌ {A = Option Occurrence} None (Some a) → A
     none_here a e = absurd (cc)
-named_some s (x ∷ es) zero o h = (x, refl, same (occurrence s x) o h)
-  where
-    same : (a b : Occurrence) → ◌≡◌ {A = Option Occurrence} (Some a) (Some b) → a ≡ b
-    same a b e = cc
+named_some s (x ∷ es) zero o h = (x, refl, same_Some (occurrence s x) o h)
 named_some s (x ∷ es) (suc i) o h = named_some s es i o h
 
 pub named_take : (s : Births) (es : List Entry) (i : ℕ) → named s (take i es) ≡ take i (named s es)
@@ -114,12 +110,6 @@ offer_happens s way.Receive c = refl
 offer_given : (s : Births) (p : ℕ) (w : Way) (c : ℕ) → GivesNumbers s p (offer_event w c) → c < s.channels
 offer_given s p way.Send c g = g
 offer_given s p way.Receive c g = g
-
-lt_iff : (a b : ℕ) → nat_lt a b ≡ true → a < b
-lt_iff a b e = grind (arith, nat_tests)
-
-lt_true : (a b : ℕ) → a < b → nat_lt a b ≡ true
-lt_true a b l = grind (arith, nat_tests)
 
 module _ (all : List Entry) (nameable : NameableFrom at_start all) (quiet : IsQuiet (named (births all) all)) (lawful : Lawful (births all)) where
   abbrev s : Births
@@ -165,15 +155,15 @@ module _ (all : List Entry) (nameable : NameableFrom at_start all) (quiet : IsQu
 
       pub last_known : (w : Way) (d : Channel) (o : Offer) → IsAsked until at o.process → IsLast s os w d (Some o) → AreKnown os → (o.place < clock_at b.clocks.items e.process o.process) ↔ KnowsOffers (judged os) os (s.name e.process) (Offered w d)
       last_known w d o asked l known = (
-        λ x. knows_by_last (judged os) os (chains_of os known) (s.name e.process) w d l.0 (s.name o.process) l.2 l.4 (known_is o.process l.0 o.place w d l.1 asked l.2 l.3 ∙ lt_true o.place (clock_at b.clocks.items e.process o.process) x),
-        λ x. lt_iff o.place (clock_at b.clocks.items e.process o.process) (sym (known_is o.process l.0 o.place w d l.1 asked l.2 l.3) ∙ x l.0 (s.name o.process) l.2),
+        λ x. knows_by_last (judged os) os (chains_of os known) (s.name e.process) w d l.0 (s.name o.process) l.2 l.4 (known_is o.process l.0 o.place w d l.1 asked l.2 l.3 ∙ lt-ltb o.place (clock_at b.clocks.items e.process o.process) x),
+        λ x. ltb-true o.place (clock_at b.clocks.items e.process o.process) (sym (known_is o.process l.0 o.place w d l.1 asked l.2 l.3) ∙ x l.0 (s.name o.process) l.2),
       )
 
     -- the same by the counts
     pub last_counted : (w : Way) (d : Channel) (o : Offer) → IsLast s os w d (Some o) → AreKnown os → (o.place < counts os (s.name e.process) (s.name o.process)) ↔ KnowsOffers (judged os) os (s.name e.process) (Offered w d)
     last_counted w d o l known = (
-      λ x. knows_by_last (judged os) os (chains_of os known) (s.name e.process) w d l.0 (s.name o.process) l.2 l.4 (counts_say (s.name e.process) o.process l.0 o.place w d l.2 l.3 ∙ lt_true o.place (counts os (s.name e.process) (s.name o.process)) x),
-      λ x. lt_iff o.place (counts os (s.name e.process) (s.name o.process)) (sym (counts_say (s.name e.process) o.process l.0 o.place w d l.2 l.3) ∙ x l.0 (s.name o.process) l.2),
+      λ x. knows_by_last (judged os) os (chains_of os known) (s.name e.process) w d l.0 (s.name o.process) l.2 l.4 (counts_say (s.name e.process) o.process l.0 o.place w d l.2 l.3 ∙ lt-ltb o.place (counts os (s.name e.process) (s.name o.process)) x),
+      λ x. ltb-true o.place (counts os (s.name e.process) (s.name o.process)) (sym (counts_say (s.name e.process) o.process l.0 o.place w d l.2 l.3) ∙ x l.0 (s.name o.process) l.2),
     )
 
     -- an offer of its own is known to a process that makes an entry
@@ -242,10 +232,7 @@ module _ (all : List Entry) (nameable : NameableFrom at_start all) (quiet : IsQu
 
           by : (t : Bool) → (judged os).past (s.name e.process) i ≡ t → (judged os).past (s.name e.process) i ≡ true
           by true f = f
-          by false f = absurd (none i l (x, g, is_x, λ y. false_true (sym f ∙ y)))
-            where
-              false_true : ◌≡◌ {A = Bool} false true → ⊥
-              false_true y = cc
+          by false f = absurd (none i l (x, g, is_x, λ y. false≢true (sym f ∙ y)))
 
       later_offer : slice_get (named s all) at ≡ Some (record { who = s.name e.process; what = Offered w (channel s c) })
       later_offer = named_get s all at e inside ∙ (λ j. Some (record { who = s.name e.process; what = (ap (happening s) is ∙ offer_happens s w c) j }))
@@ -255,17 +242,14 @@ module _ (all : List Entry) (nameable : NameableFrom at_start all) (quiet : IsQu
       all_below known middle i m last k_i k l u = u.3 ((chains_of os known).past (s.name e.process) i k w (channel s c) (s.name last.1.0.process) (s.name u.0.process)
           (offer_in w c i last.1.0 (let a = last.0 in omega arith) last.1.1 last.1.2) (offer_in w c k u.0 (omega arith) u.1 u.2) no_later k_i)
         where
-          later_or_not : (a b : ℕ) → (a < b) ⊎ (b ≤ a)
-          later_or_not a b = grind (arith)
-
           no_later : k ≤ i
-          no_later = ⊎_elim (λ (a : i < k). absurd (last.2 k a l (u.0, u.1, u.2))) (λ (a : k ≤ i). a) (later_or_not i k)
+          no_later = ⊎_elim (λ (a : i < k). absurd (last.2 k a l (u.0, u.1, u.2))) (λ (a : k ≤ i). a) (cases_lt i k)
 
       -- what the counts say of an offer
       pub counted_offer : (i place : ℕ) (x : Entry) → i < at → slice_get all i ≡ Some x → x.event ≡ offer_event w c → place ≡ made (take i os) (s.name x.process) → (place < counts os (s.name e.process) (s.name x.process)) ↔ ((judged os).past (s.name e.process) i ≡ true)
       counted_offer i place x l g is_x place_is =
           let says = counts_say (s.name e.process) x.process i place w (channel s c) (offer_in w c i x l g is_x) place_is in
-          (λ y. says ∙ lt_true place _ y, λ y. lt_iff place _ (sym says ∙ y))
+          (λ y. says ∙ lt-ltb place _ y, λ y. ltb-true place _ (sym says ∙ y))
 
       -- the first unknown offer and this one are the least race
       pub first_race : (i : ℕ) → IsFirstUnknown s os all at e.process w c i → AreKnown os → IsLeastRace (named s all) w (channel s c) i at
@@ -284,18 +268,12 @@ module _ (all : List Entry) (nameable : NameableFrom at_start all) (quiet : IsQu
             unknown = λ k. f.1.3 (knows_offer (s.name e.process) i (subst (λ (xs : List Occurrence). KnowsCompletion (judged xs) (s.name e.process) i) front_is k));
           }
 
-          same : (a d : Occurrence) → ◌≡◌ {A = Option Occurrence} (Some a) (Some d) → a ≡ d
-          same a d g = cc
-
           least : (v : Way) (d : Channel) (m n : ℕ) → Race (named s all) v d m n → (at < n) ⊎ ((at ≡ n) × (i ≤ m))
           least v d m n r = ⊎_elim
               (λ (l : n < at). absurd (earlier l))
               (λ (l : at ≤ n). ⊎_elim (λ (y : at < n). inl y) (λ (y : at ≡ n). inr (y, here y)) (more_or_same at n l))
-              (old_or_new n at)
+              (cases_lt n at)
             where
-              old_or_new : (a b : ℕ) → (a < b) ⊎ (b ≤ a)
-              old_or_new a b = grind (arith)
-
               more_or_same : (a b : ℕ) → a ≤ b → (a < b) ⊎ (a ≡ b)
               more_or_same a b l = grind (arith)
 
@@ -330,10 +308,10 @@ module _ (all : List Entry) (nameable : NameableFrom at_start all) (quiet : IsQu
 
               -- of those that end here, this one begins first
               here : at ≡ n → i ≤ m
-              here y = ⊎_elim (λ (l : m < i). absurd (f.2 m l unknown)) (λ (l : i ≤ m). l) (old_or_new m i)
+              here y = ⊎_elim (λ (l : m < i). absurd (f.2 m l unknown)) (λ (l : i ≤ m). l) (cases_lt m i)
                 where
                   this : ◌≡◌ {A = Occurrence} (record { who = s.name e.process; what = Offered w (channel s c) }) (record { who = r.second; what = Offered v d })
-                  this = same _ _ (sym later_offer ∙ ap (slice_get (named s all)) y ∙ r.offered_second)
+                  this = same_Some _ _ (sym later_offer ∙ ap (slice_get (named s all)) y ∙ r.offered_second)
 
                   is_way : w ≡ v
                   is_way = ap (λ (a : Occurrence). way_of w a.what) this

@@ -1,5 +1,6 @@
 -- The end of a run: what its journal names is there, and one process holds its output.
 use Rattle.std.proofs.Common.{◌≡◌, ℕ, ◌<◌, ◌≤◌, List, [], ◌∷◌, ◌++◌, Option, Some, None, refl, sym, ap, ◌∙◌, subst, arith}
+use Rattle.std.proofs.lemmas.Option.{same_Some}
 use Rattle.sp_base.specs.declared.fault.Fault.{Fault}
 use Rattle.sp_journal.specs.declared.entry.Note.{Note}
 use Rattle.sp_journal.specs.declared.entry.Entry.{Entry}
@@ -56,7 +57,7 @@ fault_there s (d ∷ es) p f h e = go (λ g. fault_there (after_entry s d) es p 
   where
     go : (fault_in es ≡ Some (p, f) → p < (births_from s (d ∷ es)).processes) → (v : Event) → d.event ≡ v → fault_by d.process v (fault_in es) ≡ Some (p, f) → p < (births_from s (d ∷ es)).processes
     go on (event.Fault g) i w =
-        let same : d.process ≡ p = ap first (some_is w) in
+        let same : d.process ≡ p = ap first (same_Some _ _ w) in
         let a = more_processes s d.process d.event in
         let b = all_processes (after_entry s d) es in
         omega (arith, h.0.0, same, a, b)
@@ -64,8 +65,6 @@ fault_there s (d ∷ es) p f h e = go (λ g. fault_there (after_entry s d) es p 
         first : ℕ × Fault → ℕ
         first z = z.0
 
-        some_is : {X : Type 0} {u v : X} → Some u ≡ Some v → u ≡ v
-        some_is z = cc
     go on (event.Fork n) i w = on w
     go on event.Open i w = on w
     go on (event.Send c) i w = on w

@@ -2,8 +2,11 @@
 use Rattle.std.proofs.Common.{◌≡◌, ◌≢◌, ◌⊎◌, ℕ, zero, suc, ◌+◌, ◌-◌, ◌<◌, ◌≤◌, ◌==◌, inl, inr, Bool, true, false, cond, nat_lt, ℤ, List, [], ◌∷◌, ◌++◌, length, length-append, get_or, ltb-true, ltb-false, Option, Some, None, slice_get, slice_set, refl, sym, ap, ◌∙◌, subst, arith}
 use Rattle.std.proofs.Math.Path.{fun_ext}
 use Rattle.std.proofs.lemmas.Option.{slice_get-get_or, slice_get_past}
+use Rattle.std.proofs.lemmas.Bool.{ne_eqb}
+use Rattle.std.proofs.lemmas.List.{length-set}
 use Rattle.sp_base.specs.declared.limits.Limits.{Limits}
 use Rattle.sp_base.specs.declared.fault.Fault.TheVariants as fault
+use Rattle.sp_base.proofs.Facts.{get_beside_set}
 use Rattle.sp_cell.specs.Map.{Plain}
 use Rattle.sp_journal.specs.declared.entry.Event.TheVariants as event
 use Rattle.sp_journal.specs.Births.{Births, births, after_event, is_next}
@@ -34,7 +37,7 @@ use Rattle.sp_kernel.specs.Forks.{HasForked}
 use Rattle.sp_kernel.specs.Fits.{Fits}
 use Rattle.sp_history.proofs.Queues.{number_or}
 use Rattle.sp_history.proofs.Orders.{next_yes, next_not, next_past}
-use Rattle.sp_kernel.proofs.Tables.{table_set, set_length, get_apart}
+use Rattle.sp_kernel.proofs.Tables.{table_set}
 use Rattle.sp_kernel.proofs.Giving.{event_quiet, after_quiet, whole_after, there, no_waiter, next_births, parents_after}
 use Rattle.sp_kernel.proofs.Sending.{waiter_there}
 
@@ -86,13 +89,6 @@ module _ (lim : Limits) (s : System Plain) (t : ℕ) (v : ℤ) (n : ℕ) (d : m.
 
   pub fork_fine : nat_lt lim.entries (s.entries + 1) ≡ false → nat_lt lim.processes (s.births.processes + n) ≡ false → fault_of lim s (Stopped (m.Forks t v n) d) ≡ None
   fork_fine e f = rw e (rw f refl)
-
-number_not : (a c : ℕ) → (a ≡ c → ⊥) → a == c ≡ false
-number_not a c z = go (number_or a c)
-  where
-    go : (a ≡ c) ⊎ ((a ≢ c) × (a == c ≡ false)) → a == c ≡ false
-    go (inl e) = absurd (z e)
-    go (inr o) = o.1
 
 push : {X Y : Type 0} (f : X → Y) (b c : Bool) (u v w : X) → f (cond b u (cond c v w)) ≡ cond b (f u) (cond c (f v) (f w))
 push f true c u v w = refl
@@ -149,7 +145,7 @@ module _ (x : Kernel) (k : IsKernel x) (p w : ℕ) (here : (control_of x).doing 
           let yes : is_next b n q ≡ true = next_yes b n q (omega (arith, i, processes)) (omega (arith, j, processes)) in
           let few : q - l < length f.children = omega (arith, i, j, f.born.0) in
           let place : l + (q - l) ≡ q = omega (arith, i) in
-          let apart : p == q ≡ false = number_not p q (λ e. omega (arith, e, p_there, i)) in
+          let apart : p == q ≡ false = ne_eqb p q (λ e. omega (arith, e, p_there, i)) in
           ap (λ c. cond c (Some s) (slice_get f.slots q)) apart
           ∙ ap (slice_get f.slots) (sym place) ∙ f.seated.seats (q - l) (get_or f.children (q - l) h.proc) (slice_get-get_or f.children (q - l) h.proc few)
           ∙ ap (λ c. cond c (Some (child q)) (cond (p == q) (Some s) (slice_get x.slots q))) (sym yes)
@@ -231,7 +227,7 @@ module _ (x : Kernel) (k : IsKernel x) (p w : ℕ) (here : (control_of x).doing 
   offers : (d : ℕ) (o : Pending) → slice_get x.channels d ≡ Some (Some o) → WaitsAs (slice_get (slice_set f.slots p s) o.process) d o
   offers d o e =
       let among = waiter_there x k d o e in
-      subst (λ a. WaitsAs a d o) (sym (get_apart f.slots p o.process s (λ q. no_waiter x k p w here d o e (sym q)) ∙ f.seated.before o.process among ∙ get_left x.slots (repeat n slot.Ended) o.process among)) (k.offers d o e)
+      subst (λ a. WaitsAs a d o) (sym (get_beside_set f.slots p o.process s (λ q. no_waiter x k p w here d o e (sym q)) ∙ f.seated.before o.process among ∙ get_left x.slots (repeat n slot.Ended) o.process among)) (k.offers d o e)
 
   abbrev input : List ℕ
   input = (setting_of x).input
@@ -281,7 +277,7 @@ module _ (x : Kernel) (k : IsKernel x) (p w : ℕ) (here : (control_of x).doing 
     setting = (refl, refl, refl);
     entry = ap (λ e. x.journal.entries ++ record { process = p; event = e } ∷ []) event_is;
     whole = whole_after x k p w here h forked control system
-        (set_length f.slots p s ∙ all_length ∙ ap (λ i. i + n) k.processes ∙ ap (λ (z : Births). z.processes) (sym next_is))
+        (length-set f.slots p s ∙ all_length ∙ ap (λ i. i + n) k.processes ∙ ap (λ (z : Births). z.processes) (sym next_is))
         (k.channels ∙ ap (λ (z : Births). z.channels) (sym next_is))
         offers numbered (parents_after x k p w here (x.parents ++ repeat n (Some p)) (event.Fork n) parented);
   }

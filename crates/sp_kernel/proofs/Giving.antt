@@ -1,7 +1,10 @@
 -- What the kernel's tables come to is the event of the definitions: from the tables after an event to `Gave`.
 use Rattle.std.proofs.Common.{◌≡◌, ◌≢◌, ◌⊎◌, ℕ, ◌-◌, ◌<◌, ◌==◌, inl, inr, Bool, true, false, if◌then◌else◌, List, [], ◌∷◌, ◌++◌, length, Option, Some, None, slice_get, slice_set, refl, sym, ap, ◌∙◌, subst}
+use Rattle.std.proofs.lemmas.List.{length-set}
+use Rattle.std.proofs.lemmas.Option.{slice_get_within}
 use Rattle.sp_base.specs.declared.fault.Fault.{Fault}
 use Rattle.sp_base.specs.declared.limits.Limits.{Limits}
+use Rattle.sp_base.proofs.Facts.{get_beside_set, get_where_set}
 use Rattle.sp_cell.specs.Map.{Plain}
 use Rattle.sp_journal.specs.declared.entry.Event.{Event}
 use Rattle.sp_journal.specs.declared.entry.Event.TheVariants as event
@@ -27,7 +30,7 @@ use Rattle.sp_kernel.specs.Procs.{config_of, turn_by, turn_of, Enters}
 use Rattle.sp_kernel.specs.Kernels.{doing_in, condition_in, control_of, system_of, setting_of, WaitsAs, IsOwn, NumberIn, HasParents, IsKernel, back, Gave}
 use Rattle.sp_history.specs.Agreement.{IsOrderly, Agrees}
 use Rattle.sp_history.proofs.Queues.{number_or}
-use Rattle.sp_kernel.proofs.Tables.{table_set, set_length, get_set, get_apart, within}
+use Rattle.sp_kernel.proofs.Tables.{table_set}
 use Rattle.sp_history.proofs.Orders.{orderly_back}
 use Rattle.sp_history.proofs.Agreeing.{agrees_after}
 
@@ -110,7 +113,7 @@ module _ (x : Kernel) (k : IsKernel x) (p w : ℕ) (here : (control_of x).doing 
     where
       go : (o : Option Slot) → slice_get x.slots p ≡ o → doing_in o ≡ Out w → p < length x.slots
       go None e f = absurd (cc f)
-      go (Some s) e f = within x.slots p s e
+      go (Some s) e f = slice_get_within x.slots p s e
 
   -- nobody that waits is out
   pub no_waiter : (c : ℕ) (o : Pending) → slice_get x.channels c ≡ Some (Some o) → o.process ≢ p
@@ -130,14 +133,14 @@ module _ (x : Kernel) (k : IsKernel x) (p w : ℕ) (here : (control_of x).doing 
 
   -- the offers on the channels are those of other processes
   pub same_offers : (s : Slot) (c : ℕ) (o : Pending) → slice_get x.channels c ≡ Some (Some o) → WaitsAs (slice_get (slice_set x.slots p s) o.process) c o
-  same_offers s c o e = subst (λ t. WaitsAs t c o) (sym (get_apart x.slots p o.process s (λ is. no_waiter c o e (sym is)))) (k.offers c o e)
+  same_offers s c o e = subst (λ t. WaitsAs t c o) (sym (get_beside_set x.slots p o.process s (λ is. no_waiter c o e (sym is)))) (k.offers c o e)
 
   pub same_numbers : (s : Slot) → NumberIn (setting_of x).input (Some s) p → (q : ℕ) → NumberIn (setting_of x).input (slice_get (slice_set x.slots p s) q) q
   same_numbers s n q = go (number_or p q)
     where
       go : (p ≡ q) ⊎ ((p ≢ q) × (p == q ≡ false)) → NumberIn (setting_of x).input (slice_get (slice_set x.slots p s) q) q
-      go (inl is) = subst (λ j. NumberIn (setting_of x).input (slice_get (slice_set x.slots p s) j) j) is (subst (λ t. NumberIn (setting_of x).input t p) (sym (get_set x.slots p s there)) n)
-      go (inr o) = subst (λ t. NumberIn (setting_of x).input t q) (sym (get_apart x.slots p q s o.0)) (k.numbers q)
+      go (inl is) = subst (λ j. NumberIn (setting_of x).input (slice_get (slice_set x.slots p s) j) j) is (subst (λ t. NumberIn (setting_of x).input t p) (sym (get_where_set x.slots p s there)) n)
+      go (inr o) = subst (λ t. NumberIn (setting_of x).input t q) (sym (get_beside_set x.slots p q s o.0)) (k.numbers q)
 
   module _ (e : Event) (s : Slot) where
     pub next_doing : ◌≡◌ {A = ℕ → Doing} (λ q. doing_in (slice_get (slice_set x.slots p s) q)) (at_key ◌==◌ p (doing_in (Some s)) (control_of x).doing)
@@ -165,7 +168,7 @@ module _ (x : Kernel) (k : IsKernel x) (p w : ℕ) (here : (control_of x).doing 
     setting = (refl, refl, refl);
     entry = ap (λ e. x.journal.entries ++ record { process = p; event = e } ∷ []) (event_laid x.limits (system_of x) (turn_of h) f);
     whole = whole_after h _ control system
-        (set_length x.slots p (slot.Here h.proc st.Laid) ∙ k.processes ∙ ap (λ (b : Births). b.processes) (sym (next_births event.Laid (slot.Here h.proc st.Laid))))
+        (length-set x.slots p (slot.Here h.proc st.Laid) ∙ k.processes ∙ ap (λ (b : Births). b.processes) (sym (next_births event.Laid (slot.Here h.proc st.Laid))))
         (k.channels ∙ ap (λ (b : Births). b.channels) (sym (next_births event.Laid (slot.Here h.proc st.Laid))))
         (same_offers (slot.Here h.proc st.Laid)) (same_numbers (slot.Here h.proc st.Laid) num) (parents_after x.parents event.Laid k.parents);
   }
@@ -183,7 +186,7 @@ module _ (x : Kernel) (k : IsKernel x) (p w : ℕ) (here : (control_of x).doing 
     setting = (refl, refl, refl);
     entry = ap (λ e. x.journal.entries ++ record { process = p; event = e } ∷ []) (event_fault x.limits (system_of x) (turn_of h) g f is);
     whole = whole_after h _ control system
-        (set_length x.slots p (slot.Here h.proc st.Laid) ∙ k.processes ∙ ap (λ (b : Births). b.processes) (sym (next_births (event.Fault g) (slot.Here h.proc st.Laid))))
+        (length-set x.slots p (slot.Here h.proc st.Laid) ∙ k.processes ∙ ap (λ (b : Births). b.processes) (sym (next_births (event.Fault g) (slot.Here h.proc st.Laid))))
         (k.channels ∙ ap (λ (b : Births). b.channels) (sym (next_births (event.Fault g) (slot.Here h.proc st.Laid))))
         (same_offers (slot.Here h.proc st.Laid)) (same_numbers (slot.Here h.proc st.Laid) num) (parents_after x.parents (event.Fault g) k.parents);
   }
@@ -201,7 +204,7 @@ module _ (x : Kernel) (k : IsKernel x) (p w : ℕ) (here : (control_of x).doing 
     setting = (refl, refl, refl);
     entry = ap (λ e. x.journal.entries ++ record { process = p; event = e } ∷ []) (event_quiet x.limits (system_of x) m.Pauses (config_of h.proc) f refl ∙ ap (event_of x.limits (system_of x)) (sym turn_is));
     whole = whole_after h _ control system
-        (set_length x.slots p (slot.Here r st.Ready) ∙ k.processes ∙ ap (λ (b : Births). b.processes) (sym (next_births event.Pause (slot.Here r st.Ready))))
+        (length-set x.slots p (slot.Here r st.Ready) ∙ k.processes ∙ ap (λ (b : Births). b.processes) (sym (next_births event.Pause (slot.Here r st.Ready))))
         (k.channels ∙ ap (λ (b : Births). b.channels) (sym (next_births event.Pause (slot.Here r st.Ready))))
         (same_offers (slot.Here r st.Ready)) (same_numbers (slot.Here r st.Ready) (en.1 ∙ num.0, en.3 ∙ num.1)) (parents_after x.parents event.Pause k.parents);
   }

@@ -1,5 +1,6 @@
 -- At a deadlock no process runs.
 use Rattle.std.proofs.Common.{◌≡◌, ◌≢◌, ◌||◌, ℕ, ◌<◌, nat_lt, if◌then◌else◌, Bool, true, false, List, [], ◌∷◌, ltb-false, refl, sym, subst, arith}
+use Rattle.sp_base.proofs.Facts.{none_if_not_above}
 use Rattle.sp_journal.specs.declared.entry.Note.{Note}
 use Rattle.sp_code.specs.PlainStore.{plain}
 use Rattle.sp_code.specs.Control.{control_at_start, standing, Standing, Running as Going, IsDone, IsDeadlock, IsFault, IsMemory, is_ready}
@@ -20,14 +21,11 @@ none_ready false false true o r is = absurd (cc is)
 none_ready false false false o [] is = (refl, refl)
 none_ready false false false o (p ∷ ps) is = absurd (cc is)
 
-none_up : (n : ℕ) → nat_lt 0 n ≡ false → n ≡ 0
-none_up n e = omega (arith, ltb-false 0 n e)
-
 pub idle_at : (log : List Note) (y : Kernel) → RanFrom log y → standing (control_of y) ≡ IsDeadlock → (q : ℕ) → phase_in ((system_of y).condition q) ≢ Running
 idle_at log y (x, fine, ran) is = nobody_runs (control_of y) (system_of y) (it x fine log y ran.legal).whole.orderly (it x fine log y ran.legal).whole.agrees outs (none_ready _ _ _ _ y.ready is).1 ran.over.1 here.gone
   where
     here : AllHere y
-    here = all_here x fine log y ran (none_up y.abandons (none_ready _ _ _ _ y.ready is).0)
+    here = all_here x fine log y ran (none_if_not_above y.abandons (none_ready _ _ _ _ y.ready is).0)
 
     outs : HasOuts (control_of y)
     outs = subst HasOuts (sym (control_is x fine log y ran.legal)) (outs_all plain (setting_of x) control_at_start (opening plain (setting_of x)) (system_of y) log orderly_start (agrees_start plain (setting_of x)) outs_start (from_start x fine log y ran.legal))

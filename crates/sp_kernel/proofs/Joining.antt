@@ -1,6 +1,9 @@
 -- An end: the first process is over, and a child's parent takes back from it. It leads from `specs/Ends.antt` to
 -- `Gave`.
 use Rattle.std.proofs.Common.{◌≡◌, ◌≢◌, ◌⊎◌, ℕ, ◌-◌, ◌<◌, ◌==◌, inl, inr, Bool, true, false, if◌then◌else◌, List, [], ◌∷◌, ◌++◌, length, Option, Some, None, slice_get, slice_set, refl, sym, ap, ◌∙◌, subst}
+use Rattle.std.proofs.lemmas.List.{length-set}
+use Rattle.std.proofs.lemmas.Option.{slice_get_within}
+use Rattle.sp_base.proofs.Facts.{get_beside_set, get_where_set}
 use Rattle.sp_cell.specs.Map.{Plain}
 use Rattle.sp_journal.specs.declared.entry.Birth.{Birth}
 use Rattle.sp_journal.specs.declared.entry.Event.TheVariants as event
@@ -26,7 +29,7 @@ use Rattle.sp_kernel.specs.Kernels.{doing_in, condition_in, control_of, system_o
 use Rattle.sp_kernel.specs.Ends.{left_in, one_fewer, ends_child, IsJoiner, Joins}
 use Rattle.sp_kernel.specs.Fits.{Fits}
 use Rattle.sp_history.proofs.Queues.{number_or, at_other}
-use Rattle.sp_kernel.proofs.Tables.{table_set, set_length, get_set, get_apart, within}
+use Rattle.sp_kernel.proofs.Tables.{table_set}
 use Rattle.sp_kernel.proofs.Giving.{event_quiet, after_quiet, whole_after, there, no_waiter, next_doing, next_condition, next_births, same_offers, same_numbers, parents_after}
 
 -- ---- who joins
@@ -85,7 +88,7 @@ module _ (x : Kernel) (k : IsKernel x) (p w : ℕ) (here : (control_of x).doing 
       setting = (refl, refl, refl);
       entry = ap (λ e. x.journal.entries ++ record { process = p; event = e } ∷ []) event_is;
       whole = whole_after x k p w here h over over_control over_system
-          (set_length x.slots p _ ∙ k.processes ∙ ap (λ (b : Births). b.processes) (sym (next_births x k p w here event.End (slot.Here r st.Over))))
+          (length-set x.slots p _ ∙ k.processes ∙ ap (λ (b : Births). b.processes) (sym (next_births x k p w here event.End (slot.Here r st.Over))))
           (k.channels ∙ ap (λ (b : Births). b.channels) (sym (next_births x k p w here event.End (slot.Here r st.Over))))
           (same_offers x k p w here (slot.Here r st.Over)) (same_numbers x k p w here (slot.Here r st.Over) (en.1 ∙ own.0, en.3 ∙ own.1)) (parents_after x k p w here x.parents event.End k.parents);
     }
@@ -107,7 +110,7 @@ module _ (x : Kernel) (k : IsKernel x) (p w : ℕ) (here : (control_of x).doing 
     at_parent = (joiner (slice_get x.slots b.parent) n joins).1
 
     pub parent_there : b.parent < length x.slots
-    parent_there = within x.slots b.parent _ at_parent
+    parent_there = slice_get_within x.slots b.parent _ at_parent
 
     joins_now : (does p Ended (control_of x)).doing b.parent ≡ Joining n
     joins_now = at_other (control_of x).doing p b.parent Ended apart ∙ joins
@@ -120,7 +123,7 @@ module _ (x : Kernel) (k : IsKernel x) (p w : ℕ) (here : (control_of x).doing 
       z = b.parent
 
       parent_now : z < length (slice_set x.slots p slot.Ended)
-      parent_now = subst (λ l. z < l) (sym (set_length x.slots p slot.Ended)) parent_there
+      parent_now = subst (λ l. z < l) (sym (length-set x.slots p slot.Ended)) parent_there
 
       both_set : {X : Type 0} (f : Option Slot → X) → ◌≡◌ {A = ℕ → X} (λ q. f (slice_get (slice_set (slice_set x.slots p slot.Ended) z t) q)) (at_key ◌==◌ z (f (Some (slot.Here told.0 (one_fewer n)))) (at_key ◌==◌ p (f (Some slot.Ended)) (λ q. f (slice_get x.slots q))))
       both_set f = table_set f (slice_set x.slots p slot.Ended) z t parent_now ∙ ap (λ s. at_key ◌==◌ z (f (Some s)) (λ q. f (slice_get (slice_set x.slots p slot.Ended) q))) told.1
@@ -172,7 +175,7 @@ module _ (x : Kernel) (k : IsKernel x) (p w : ℕ) (here : (control_of x).doing 
           let waits = k.offers c o e in
           let not_p : p ≢ o.process = λ q. no_waiter x k p w here c o e (sym q) in
           let not_z : z ≢ o.process = λ q. let f : WaitsAs (Some (slot.Here parent (st.Joining n))) c o = subst (λ s. WaitsAs s c o) at_parent (subst (λ i. WaitsAs (slice_get x.slots i) c o) (sym q) waits) in f in
-          subst (λ s. WaitsAs s c o) (sym (get_apart (slice_set x.slots p slot.Ended) z o.process t not_z ∙ get_apart x.slots p o.process slot.Ended not_p)) waits
+          subst (λ s. WaitsAs s c o) (sym (get_beside_set (slice_set x.slots p slot.Ended) z o.process t not_z ∙ get_beside_set x.slots p o.process slot.Ended not_p)) waits
 
       abbrev input : List ℕ
       input = (setting_of x).input
@@ -189,8 +192,8 @@ module _ (x : Kernel) (k : IsKernel x) (p w : ℕ) (here : (control_of x).doing 
         where
           go : (z ≡ q) ⊎ ((z ≢ q) × (z == q ≡ false)) → NumberIn input (slice_get (slice_set (slice_set x.slots p slot.Ended) z t) q) q
           go (inl e) = subst (λ j. NumberIn input (slice_get (slice_set (slice_set x.slots p slot.Ended) z t) j) j) e
-              (subst (λ s. NumberIn input s z) (sym (get_set (slice_set x.slots p slot.Ended) z t parent_now ∙ ap (λ s. Some s) told.1)) (number_by (n == 1)))
-          go (inr o) = subst (λ s. NumberIn input s q) (sym (get_apart (slice_set x.slots p slot.Ended) z q t o.0)) (same_numbers x k p w here slot.Ended (tt {0}) q)
+              (subst (λ s. NumberIn input s z) (sym (get_where_set (slice_set x.slots p slot.Ended) z t parent_now ∙ ap (λ s. Some s) told.1)) (number_by (n == 1)))
+          go (inr o) = subst (λ s. NumberIn input s q) (sym (get_beside_set (slice_set x.slots p slot.Ended) z q t o.0)) (same_numbers x k p w here slot.Ended (tt {0}) q)
 
       pub gave_child : Gave x p h (ends_child p b.parent t x)
       gave_child = record {
@@ -199,7 +202,7 @@ module _ (x : Kernel) (k : IsKernel x) (p w : ℕ) (here : (control_of x).doing 
         setting = (refl, refl, refl);
         entry = ap (λ e. x.journal.entries ++ record { process = p; event = e } ∷ []) event_is;
         whole = whole_after x k p w here h ended ended_control ended_system
-            (set_length (slice_set x.slots p slot.Ended) z t ∙ set_length x.slots p slot.Ended ∙ k.processes ∙ ap (λ (b : Births). b.processes) (sym (next_births x k p w here event.End slot.Ended)))
+            (length-set (slice_set x.slots p slot.Ended) z t ∙ length-set x.slots p slot.Ended ∙ k.processes ∙ ap (λ (b : Births). b.processes) (sym (next_births x k p w here event.End slot.Ended)))
             (k.channels ∙ ap (λ (b : Births). b.channels) (sym (next_births x k p w here event.End slot.Ended)))
             ended_offers ended_numbers (parents_after x k p w here x.parents event.End k.parents);
       }

@@ -2,6 +2,7 @@
 use Rattle.std.proofs.Common.{◌≡◌, ℕ, zero, suc, ◌+◌, ◌-◌, ◌≤◌, ◌==◌, true, false, nat_lt, List, [], ◌∷◌, ◌++◌, length, length-append, Option, Some, None, slice_get, slice_set, refl, sym, ap, ◌∙◌, subst}
 use Rattle.std.proofs.lemmas.Bool.{leb-true}
 use Rattle.std.proofs.Math.Path.{fun_ext}
+use Rattle.std.proofs.lemmas.List.{length-set}
 use Rattle.sp_base.specs.declared.limits.Limits.{Limits}
 use Rattle.sp_base.specs.declared.fault.Fault.TheVariants as fault
 use Rattle.sp_cell.specs.declared.cell.Cell.{Cell}
@@ -33,7 +34,6 @@ use Rattle.sp_kernel.specs.declared.kernel.Kernel.{Kernel}
 use Rattle.sp_kernel.specs.Procs.{config_of, turn_by, turn_of}
 use Rattle.sp_kernel.specs.Kernels.{offer_in, process_in, control_of, system_of, setting_of, WaitsAs, IsKernel, Gave}
 use Rattle.sp_kernel.specs.Opens.{opens, EntersAt}
-use Rattle.sp_kernel.proofs.Tables.{set_length}
 use Rattle.sp_kernel.proofs.Giving.{event_quiet, after_quiet, whole_after, next_doing, next_condition, next_births, same_offers, same_numbers, parents_after}
 
 -- ---- where the channel goes is a piece of the process's own
@@ -189,7 +189,7 @@ module _ (x : Kernel) (k : IsKernel x) (p w : ℕ) (here : (control_of x).doing 
     setting = (refl, refl, refl);
     entry = ap (λ e. x.journal.entries ++ record { process = p; event = e } ∷ []) event_is;
     whole = whole_after x k p w here h opened control system
-        (set_length x.slots p _ ∙ k.processes ∙ ap (λ (b : Births). b.processes) (sym (next_births x k p w here event.Open (slot.Here r st.Ready))))
+        (length-set x.slots p _ ∙ k.processes ∙ ap (λ (b : Births). b.processes) (sym (next_births x k p w here event.Open (slot.Here r st.Ready))))
         (length-append x.channels (None ∷ []) ∙ ap (λ n. n + 1) k.channels ∙ ap (λ (b : Births). b.channels) (sym (next_births x k p w here event.Open (slot.Here r st.Ready))))
         offers (same_numbers x k p w here (slot.Here r st.Ready) (own, en.2 ∙ reads)) (parents_after x k p w here x.parents event.Open (record { count = k.parents.count; each = k.parents.each }));
   }

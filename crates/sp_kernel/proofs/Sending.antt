@@ -1,9 +1,11 @@
 -- An offer to send: it waits, it meets, or it is a fault. It leads from `specs/Sends.antt` to `Gave`.
 use Rattle.std.proofs.Common.{◌≡◌, ◌≢◌, ◌⊎◌, ℕ, ◌+◌, ◌-◌, ◌<◌, ◌==◌, inl, inr, Bool, true, false, if◌then◌else◌, nat_lt, List, [], ◌∷◌, ◌++◌, length, Option, Some, None, slice_get, slice_set, refl, sym, ap, ◌∙◌, subst}
 use Rattle.std.specs.Prelude.{slice_index_or}
-use Rattle.std.proofs.lemmas.Option.{slice_get-get_or}
+use Rattle.std.proofs.lemmas.Option.{slice_get-get_or, slice_get_within}
+use Rattle.std.proofs.lemmas.List.{length-set}
 use Rattle.sp_base.specs.declared.limits.Limits.{Limits}
 use Rattle.sp_base.specs.declared.fault.Fault.TheVariants as fault
+use Rattle.sp_base.proofs.Facts.{get_beside_set, get_where_set}
 use Rattle.sp_cell.specs.declared.cell.Cell.{Cell}
 use Rattle.sp_cell.specs.Map.{Plain}
 use Rattle.sp_journal.specs.declared.entry.Way.{Way}
@@ -31,7 +33,7 @@ use Rattle.sp_kernel.specs.Kernels.{doing_in, condition_in, offer_in, process_in
 use Rattle.sp_kernel.specs.Sends.{waits_to_send, meets_sending, IsReceiver, Receives as Gets}
 use Rattle.sp_kernel.specs.Fits.{Fits}
 use Rattle.sp_history.proofs.Queues.{number_or}
-use Rattle.sp_kernel.proofs.Tables.{table_set, set_length, get_set, get_apart, within}
+use Rattle.sp_kernel.proofs.Tables.{table_set}
 use Rattle.sp_kernel.proofs.Giving.{event_quiet, after_quiet, whole_after, there, no_waiter, next_doing, next_condition, next_births, same_numbers, parents_after}
 
 -- ---- no fault, or which
@@ -76,7 +78,7 @@ module _ (x : Kernel) (k : IsKernel x) (p w : ℕ) (here : (control_of x).doing 
     first_control = (λ i. record (control_of x) {
       doing = next_doing x k p w here (event.Send c) (slot.Here r (st.Sending c j cs)) i;
       out = x.out - 1;
-      pending = table_set offer_in x.channels c (Some (record { way = way.Send; process = p; message = j })) (within x.channels c None free) i;
+      pending = table_set offer_in x.channels c (Some (record { way = way.Send; process = p; message = j })) (slice_get_within x.channels c None free) i;
       births = next_births x k p w here (event.Send c) (slot.Here r (st.Sending c j cs)) i;
     })
         ∙ ap (λ (o : Option (Way × ℕ)). record (offers way.Send (Sending c) p c o (control_of x)) { out = x.out - 1; births = births x.journal.entries }) (sym (ap offer_in free))
@@ -85,7 +87,7 @@ module _ (x : Kernel) (k : IsKernel x) (p w : ℕ) (here : (control_of x).doing 
     first_system : system_of first ≡ after plain (setting_of x) p (turn_of h) (system_of x)
     first_system = (λ i. record (system_of x) {
       condition = (next_condition x k p w here (event.Send c) (slot.Here r (st.Sending c j cs)) ∙ ap (λ d. at_key ◌==◌ p (Waits (m.Sends c j cs) d) (system_of x).condition) en.0) i;
-      pending = table_set process_in x.channels c (Some (record { way = way.Send; process = p; message = j })) (within x.channels c None free) i;
+      pending = table_set process_in x.channels c (Some (record { way = way.Send; process = p; message = j })) (slice_get_within x.channels c None free) i;
       births = next_births x k p w here (event.Send c) (slot.Here r (st.Sending c j cs)) i;
       entries = x.entries + 1;
     })
@@ -101,13 +103,13 @@ module _ (x : Kernel) (k : IsKernel x) (p w : ℕ) (here : (control_of x).doing 
 
         go : (c ≡ d) ⊎ ((c ≢ d) × (c == d ≡ false)) → WaitsAs (slice_get first.slots o.process) d o
         go (inl f) =
-            let at : slice_get first.channels d ≡ Some (Some (record { way = way.Send; process = p; message = j })) = subst (λ n. slice_get first.channels n ≡ Some (Some (record { way = way.Send; process = p; message = j }))) f (get_set x.channels c _ (within x.channels c None free)) in
+            let at : slice_get first.channels d ≡ Some (Some (record { way = way.Send; process = p; message = j })) = subst (λ n. slice_get first.channels n ≡ Some (Some (record { way = way.Send; process = p; message = j }))) f (get_where_set x.channels c _ (slice_get_within x.channels c None free)) in
             let same : ◌≡◌ {A = Pending} (record { way = way.Send; process = p; message = j }) o = some_is (sym at ∙ e) in
             subst (λ (q : Pending). WaitsAs (slice_get first.slots q.process) d q) same
-            (subst (λ s. WaitsAs s d (record { way = way.Send; process = p; message = j })) (sym (get_set x.slots p (slot.Here r (st.Sending c j cs)) (there x k p w here))) (f, refl, refl))
+            (subst (λ s. WaitsAs s d (record { way = way.Send; process = p; message = j })) (sym (get_where_set x.slots p (slot.Here r (st.Sending c j cs)) (there x k p w here))) (f, refl, refl))
         go (inr f) =
-            let old : slice_get x.channels d ≡ Some (Some o) = sym (get_apart x.channels c d _ f.0) ∙ e in
-            subst (λ t. WaitsAs t d o) (sym (get_apart x.slots p o.process _ (λ q. no_waiter x k p w here d o old (sym q)))) (k.offers d o old)
+            let old : slice_get x.channels d ≡ Some (Some o) = sym (get_beside_set x.channels c d _ f.0) ∙ e in
+            subst (λ t. WaitsAs t d o) (sym (get_beside_set x.slots p o.process _ (λ q. no_waiter x k p w here d o old (sym q)))) (k.offers d o old)
 
     first_gave : Gave x p h first
     first_gave = record {
@@ -116,8 +118,8 @@ module _ (x : Kernel) (k : IsKernel x) (p w : ℕ) (here : (control_of x).doing 
       setting = (refl, refl, refl);
       entry = ap (λ e. x.journal.entries ++ record { process = p; event = e } ∷ []) event_is;
       whole = whole_after x k p w here h first first_control first_system
-          (set_length x.slots p _ ∙ k.processes ∙ ap (λ (b : Births). b.processes) (sym (next_births x k p w here (event.Send c) (slot.Here r (st.Sending c j cs)))))
-          (set_length x.channels c _ ∙ k.channels ∙ ap (λ (b : Births). b.channels) (sym (next_births x k p w here (event.Send c) (slot.Here r (st.Sending c j cs)))))
+          (length-set x.slots p _ ∙ k.processes ∙ ap (λ (b : Births). b.processes) (sym (next_births x k p w here (event.Send c) (slot.Here r (st.Sending c j cs)))))
+          (length-set x.channels c _ ∙ k.channels ∙ ap (λ (b : Births). b.channels) (sym (next_births x k p w here (event.Send c) (slot.Here r (st.Sending c j cs)))))
           first_offers (same_numbers x k p w here (slot.Here r (st.Sending c j cs)) its) (parents_after x k p w here x.parents (event.Send c) k.parents);
     }
 
@@ -150,7 +152,7 @@ module _ (x : Kernel) (k : IsKernel x) (p w : ℕ) (here : (control_of x).doing 
       where
         go : (o : Option Slot) → slice_get x.slots z ≡ o → WaitsAs o c (record { way = way.Receive; process = z; message = j }) → z < length x.slots
         go None e f = absurd f
-        go (Some s) e f = within x.slots z s e
+        go (Some s) e f = slice_get_within x.slots z s e
 
     received_is : received plain (setting_of x) cs (condition_in (slice_get x.slots z)) ≡ Working (config_of t)
     received_is = go (slice_get x.slots z) gets
@@ -168,7 +170,7 @@ module _ (x : Kernel) (k : IsKernel x) (p w : ℕ) (here : (control_of x).doing 
         go (Some (slot.Gone q)) e = absurd e
 
     p_there : p < length (slice_set x.slots z (slot.Here t st.Ready))
-    p_there = subst (λ n. p < n) (sym (set_length x.slots z (slot.Here t st.Ready))) (there x k p w here)
+    p_there = subst (λ n. p < n) (sym (length-set x.slots z (slot.Here t st.Ready))) (there x k p w here)
 
     both_set : {X : Type 0} (f : Option Slot → X) → ◌≡◌ {A = ℕ → X} (λ q. f (slice_get (slice_set (slice_set x.slots z (slot.Here t st.Ready)) p (slot.Here r st.Ready)) q)) (at_key ◌==◌ p (f (Some (slot.Here r st.Ready))) (at_key ◌==◌ z (f (Some (slot.Here t st.Ready))) (λ q. f (slice_get x.slots q))))
     both_set f = table_set f (slice_set x.slots z (slot.Here t st.Ready)) p (slot.Here r st.Ready) p_there ∙ ap (λ n. at_key ◌==◌ p (f (Some (slot.Here r st.Ready))) n) (table_set f x.slots z (slot.Here t st.Ready) z_there)
@@ -180,7 +182,7 @@ module _ (x : Kernel) (k : IsKernel x) (p w : ℕ) (here : (control_of x).doing 
       doing = both_set z pending t gets doing_in i;
       ready = (x.ready ++ z ∷ []) ++ p ∷ [];
       out = x.out - 1;
-      pending = table_set offer_in x.channels c None (within x.channels c _ pending) i;
+      pending = table_set offer_in x.channels c None (slice_get_within x.channels c _ pending) i;
       births = next_births x k p w here (event.Send c) (slot.Here r st.Ready) i;
     })
         ∙ ap (λ (o : Option (Way × ℕ)). record (offers way.Send (Sending c) p c o (control_of x)) { out = x.out - 1; births = births x.journal.entries }) (sym (ap offer_in pending))
@@ -191,7 +193,7 @@ module _ (x : Kernel) (k : IsKernel x) (p w : ℕ) (here : (control_of x).doing 
     met_system = (λ i. record (system_of x) {
       condition = (both_set z pending t gets condition_in ∙ ap (λ d. at_key ◌==◌ p (Working d) (at_key ◌==◌ z (Working (config_of t)) (system_of x).condition)) en.0
           ∙ ap (λ y. at_key ◌==◌ p (Working (entered_now (config_of h.proc))) (at_key ◌==◌ z y (system_of x).condition)) (sym (received_is z pending t gets))) i;
-      pending = table_set process_in x.channels c None (within x.channels c _ pending) i;
+      pending = table_set process_in x.channels c None (slice_get_within x.channels c _ pending) i;
       births = next_births x k p w here (event.Send c) (slot.Here r st.Ready) i;
       entries = x.entries + 1;
     })
@@ -216,12 +218,12 @@ module _ (x : Kernel) (k : IsKernel x) (p w : ℕ) (here : (control_of x).doing 
 
         go : (c ≡ d) ⊎ ((c ≢ d) × (c == d ≡ false)) → WaitsAs (slice_get (slice_set (slice_set x.slots z (slot.Here t st.Ready)) p (slot.Here r st.Ready)) o.process) d o
         go (inl f) =
-            let at : slice_get (slice_set x.channels c None) d ≡ Some None = subst (λ n. slice_get (slice_set x.channels c None) n ≡ Some None) f (get_set x.channels c None (within x.channels c _ pending)) in
+            let at : slice_get (slice_set x.channels c None) d ≡ Some None = subst (λ n. slice_get (slice_set x.channels c None) n ≡ Some None) f (get_where_set x.channels c None (slice_get_within x.channels c _ pending)) in
             absurd (cc (at, e))
         go (inr f) =
-            let old : slice_get x.channels d ≡ Some (Some o) = sym (get_apart x.channels c d None f.0) ∙ e in
+            let old : slice_get x.channels d ≡ Some (Some o) = sym (get_beside_set x.channels c d None f.0) ∙ e in
             let not_z : z ≢ o.process = λ q. f.0 (one_channel (slice_get x.slots z) _ o (at_z z pending t gets) (subst (λ n. WaitsAs (slice_get x.slots n) d o) (sym q) (k.offers d o old))) in
-            subst (λ s. WaitsAs s d o) (sym (get_apart (slice_set x.slots z (slot.Here t st.Ready)) p o.process (slot.Here r st.Ready) (λ q. no_waiter x k p w here d o old (sym q)) ∙ get_apart x.slots z o.process (slot.Here t st.Ready) not_z)) (k.offers d o old)
+            subst (λ s. WaitsAs s d o) (sym (get_beside_set (slice_set x.slots z (slot.Here t st.Ready)) p o.process (slot.Here r st.Ready) (λ q. no_waiter x k p w here d o old (sym q)) ∙ get_beside_set x.slots z o.process (slot.Here t st.Ready) not_z)) (k.offers d o old)
 
     got_number : IsOwn (setting_of x).input t z
     got_number = go (slice_get x.slots z) gets (k.numbers z)
@@ -242,9 +244,9 @@ module _ (x : Kernel) (k : IsKernel x) (p w : ℕ) (here : (control_of x).doing 
     met_numbers q = go (number_or p q) (number_or z q)
       where
         go : (p ≡ q) ⊎ ((p ≢ q) × (p == q ≡ false)) → (z ≡ q) ⊎ ((z ≢ q) × (z == q ≡ false)) → NumberIn (setting_of x).input (slice_get (slice_set (slice_set x.slots z (slot.Here t st.Ready)) p (slot.Here r st.Ready)) q) q
-        go (inl is) o = subst (λ i. NumberIn (setting_of x).input (slice_get (slice_set (slice_set x.slots z (slot.Here t st.Ready)) p (slot.Here r st.Ready)) i) i) is (subst (λ s. NumberIn (setting_of x).input s p) (sym (get_set (slice_set x.slots z (slot.Here t st.Ready)) p (slot.Here r st.Ready) (p_there z pending t gets))) its)
-        go (inr n) (inl is) = subst (λ s. NumberIn (setting_of x).input s q) (sym (get_apart (slice_set x.slots z (slot.Here t st.Ready)) p q (slot.Here r st.Ready) n.0)) (subst (λ i. NumberIn (setting_of x).input (slice_get (slice_set x.slots z (slot.Here t st.Ready)) i) i) is (subst (λ s. NumberIn (setting_of x).input s z) (sym (get_set x.slots z (slot.Here t st.Ready) (z_there z pending t gets))) got_number))
-        go (inr n) (inr o) = subst (λ s. NumberIn (setting_of x).input s q) (sym (get_apart (slice_set x.slots z (slot.Here t st.Ready)) p q (slot.Here r st.Ready) n.0 ∙ get_apart x.slots z q (slot.Here t st.Ready) o.0)) (k.numbers q)
+        go (inl is) o = subst (λ i. NumberIn (setting_of x).input (slice_get (slice_set (slice_set x.slots z (slot.Here t st.Ready)) p (slot.Here r st.Ready)) i) i) is (subst (λ s. NumberIn (setting_of x).input s p) (sym (get_where_set (slice_set x.slots z (slot.Here t st.Ready)) p (slot.Here r st.Ready) (p_there z pending t gets))) its)
+        go (inr n) (inl is) = subst (λ s. NumberIn (setting_of x).input s q) (sym (get_beside_set (slice_set x.slots z (slot.Here t st.Ready)) p q (slot.Here r st.Ready) n.0)) (subst (λ i. NumberIn (setting_of x).input (slice_get (slice_set x.slots z (slot.Here t st.Ready)) i) i) is (subst (λ s. NumberIn (setting_of x).input s z) (sym (get_where_set x.slots z (slot.Here t st.Ready) (z_there z pending t gets))) got_number))
+        go (inr n) (inr o) = subst (λ s. NumberIn (setting_of x).input s q) (sym (get_beside_set (slice_set x.slots z (slot.Here t st.Ready)) p q (slot.Here r st.Ready) n.0 ∙ get_beside_set x.slots z q (slot.Here t st.Ready) o.0)) (k.numbers q)
 
     met_gave : Gave x p h (met z pending t gets)
     unfolding met
@@ -254,8 +256,8 @@ module _ (x : Kernel) (k : IsKernel x) (p w : ℕ) (here : (control_of x).doing 
       setting = (refl, refl, refl);
       entry = ap (λ e. x.journal.entries ++ record { process = p; event = e } ∷ []) event_is;
       whole = whole_after x k p w here h (met z pending t gets) met_control met_system
-          (set_length (slice_set x.slots z (slot.Here t st.Ready)) p _ ∙ set_length x.slots z _ ∙ k.processes ∙ ap (λ (b : Births). b.processes) (sym (next_births x k p w here (event.Send c) (slot.Here r st.Ready))))
-          (set_length x.channels c _ ∙ k.channels ∙ ap (λ (b : Births). b.channels) (sym (next_births x k p w here (event.Send c) (slot.Here r st.Ready))))
+          (length-set (slice_set x.slots z (slot.Here t st.Ready)) p _ ∙ length-set x.slots z _ ∙ k.processes ∙ ap (λ (b : Births). b.processes) (sym (next_births x k p w here (event.Send c) (slot.Here r st.Ready))))
+          (length-set x.channels c _ ∙ k.channels ∙ ap (λ (b : Births). b.channels) (sym (next_births x k p w here (event.Send c) (slot.Here r st.Ready))))
           met_offers met_numbers (parents_after x k p w here x.parents (event.Send c) k.parents);
     }
 
@@ -339,4 +341,4 @@ waiter_there x k c q e = go (slice_get x.slots q.process) refl (k.offers c q e)
   where
     go : (o : Option Slot) → slice_get x.slots q.process ≡ o → WaitsAs o c q → q.process < length x.slots
     go None s f = absurd f
-    go (Some t) s f = within x.slots q.process t s
+    go (Some t) s f = slice_get_within x.slots q.process t s

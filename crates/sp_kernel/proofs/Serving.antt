@@ -26,9 +26,10 @@ use Rattle.sp_kernel.specs.Fits.{Fits}
 use Rattle.sp_kernel.specs.Asks.{Notes, Answers, FitsAsk}
 use Rattle.sp_history.specs.Agreement.{IsOrderly, Agrees}
 use Rattle.std.proofs.Math.Path.{fun_ext}
+use Rattle.std.proofs.lemmas.List.{length-set}
 use Rattle.sp_history.proofs.Legal.{orderly_gives_up, agrees_gives_up}
 use Rattle.sp_history.proofs.Queues.{itself, number_or}
-use Rattle.sp_kernel.proofs.Tables.{table_set, set_length}
+use Rattle.sp_kernel.proofs.Tables.{table_set}
 use Rattle.sp_kernel.proofs.Taking.{over_none}
 use Rattle.sp_kernel.proofs.Giving.{there, same_offers, same_numbers}
 
@@ -168,7 +169,7 @@ module _ (x : Kernel) (k : IsKernel x) (w : ℕ) where
       whole = record {
         orderly = subst IsOrderly (sym lost_control) (orderly_gives_up (control_of x) k.orderly w (Some q) is_mine);
         agrees = subst (λ c. Agrees c (system_of lost)) (sym lost_control) (subst (λ t. Agrees (abandons (Some q) (control_of x)) t) (sym lost_system) (agrees_gives_up (control_of x) (system_of x) k.agrees w (Some q) is_mine));
-        processes = set_length x.slots q s ∙ k.processes;
+        processes = length-set x.slots q s ∙ k.processes;
         channels = k.channels;
         offers = same_offers x k q w out s;
         numbers = same_numbers x k q w out s free;

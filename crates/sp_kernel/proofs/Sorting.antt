@@ -9,6 +9,7 @@ use Rattle.std.specs.Ordering.{is_lt}
 use Rattle.std.specs.declared.cmp.Ordering.{Ordering}
 use Rattle.std.proofs.lemmas.Fn.{always_returns_same}
 use Rattle.std.proofs.lemmas.List.Sorted.{ranks_by}
+use Rattle.std.proofs.lemmas.Option.{same_Some}
 use Rattle.sp_journal.specs.Births.{Births}
 use Rattle.sp_journal.specs.declared.outcome.Waiter.{Waiter}
 use Rattle.sp_kernel.specs.declared.slot.Slot.{Slot}
@@ -38,13 +39,10 @@ with_more b q (slot.Gone p) ws = refl
 pub waiters_more : (b : Births) (n : ℕ) (xs : List Slot) (q : ℕ) (x : Slot) → slice_get xs q ≡ Some x → waiters_from b n (take (q + 1) xs) ≡ waiters_from b n (take q xs) ++ with_waiter b (n + q) x []
 waiters_more b n [] q x e = absurd (cc e)
 waiters_more b n (y ∷ ys) zero x e =
-    let same : y ≡ x = some_is e in
+    let same : y ≡ x = same_Some _ _ e in
     let one : take (zero + 1) (y ∷ ys) ≡ y ∷ [] = refl in
     let at : n + zero ≡ n = omega arith in
     ap (waiters_from b n) one ∙ ap (λ (s : Slot). with_waiter b n s []) same ∙ ap (λ (i : ℕ). with_waiter b i x []) (sym at)
-  where
-    some_is : {X : Type 0} {u v : X} → Some u ≡ Some v → u ≡ v
-    some_is z = cc
 waiters_more b n (y ∷ ys) (suc q) x e =
     let more : take (suc q + 1) (y ∷ ys) ≡ y ∷ take (q + 1) ys = let f : suc q + 1 ≡ suc (q + 1) = omega arith in ap (λ i. take i (y ∷ ys)) f in
     let at : suc n + q ≡ n + suc q = omega arith in

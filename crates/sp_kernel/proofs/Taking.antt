@@ -1,6 +1,9 @@
 -- What is taken is the front of the queue: from the tables after a call of `take` to `Takes`.
 use Rattle.std.proofs.Common.{◌≡◌, ◌≢◌, ◌⊎◌, ℕ, ◌+◌, ◌<◌, ◌==◌, ◌||◌, inl, inr, Bool, true, false, cond, if◌then◌else◌, nat_lt, List, [], ◌∷◌, length, Option, Some, None, slice_get, slice_set, refl, sym, ap, ◌∙◌, subst}
 use Rattle.std.proofs.Math.Path.{fun_ext}
+use Rattle.std.proofs.lemmas.List.{length-set}
+use Rattle.std.proofs.lemmas.Option.{slice_get_within}
+use Rattle.sp_base.proofs.Facts.{get_beside_set, get_where_set}
 use Rattle.sp_journal.specs.Maps.{at_key}
 use Rattle.sp_channel.specs.declared.channels.Pending.{Pending}
 use Rattle.sp_code.specs.Control.{Control, Ready, Out, takes, behind, front, front_of, front_while, Standing, Running, IsDone, IsDeadlock, IsFault, IsMemory, has_ended, is_ready}
@@ -15,7 +18,7 @@ use Rattle.sp_kernel.specs.Kernels.{doing_in, condition_in, control_of, system_o
 use Rattle.sp_history.specs.Agreement.{Each, IsGot}
 use Rattle.sp_history.proofs.Queues.{itself, number_or}
 use Rattle.sp_history.proofs.Agreeing.{agrees_takes, orderly_takes}
-use Rattle.sp_kernel.proofs.Tables.{table_set, set_length, get_set, get_apart, within}
+use Rattle.sp_kernel.proofs.Tables.{table_set}
 
 front_none : (k : Control) (st : Standing) (r : List ℕ) → front_of r ≡ None → front_while st r ≡ None
 front_none k Running r e = e
@@ -65,7 +68,7 @@ module _ (x : Kernel) (k : IsKernel x) (w q : ℕ) (goes : is_over (control_of x
   is_got = first_ready x k q e
 
   q_there : q < length x.slots
-  q_there = within x.slots q (slot.Here p st.Ready) here
+  q_there = slice_get_within x.slots q (slot.Here p st.Ready) here
 
   itself_at : {X : Type 0} (m : ℕ → X) (v : X) → v ≡ m q → at_key ◌==◌ q v m ≡ m
   itself_at m v f = fun_ext (λ r. go r (number_or q r))
@@ -81,14 +84,14 @@ module _ (x : Kernel) (k : IsKernel x) (w q : ℕ) (goes : is_over (control_of x
   system = λ i. record (system_of x) { condition = (table_set condition_in x.slots q s q_there ∙ itself_at (system_of x).condition (condition_in (Some s)) (runs ∙ sym (ap condition_in here))) i }
 
   offers : (c : ℕ) (o : Pending) → slice_get x.channels c ≡ Some (Some o) → WaitsAs (slice_get (slice_set x.slots q s) o.process) c o
-  offers c o f = subst (λ t. WaitsAs t c o) (sym (get_apart x.slots q o.process s (λ is. subst (λ t. WaitsAs t c o) (ap (λ i. slice_get x.slots i) (sym is) ∙ here) (k.offers c o f)))) (k.offers c o f)
+  offers c o f = subst (λ t. WaitsAs t c o) (sym (get_beside_set x.slots q o.process s (λ is. subst (λ t. WaitsAs t c o) (ap (λ i. slice_get x.slots i) (sym is) ∙ here) (k.offers c o f)))) (k.offers c o f)
 
   numbers : (r : ℕ) → NumberIn (setting_of x).input (slice_get (slice_set x.slots q s) r) r
   numbers r = go (number_or q r)
     where
       go : (q ≡ r) ⊎ ((q ≢ r) × (q == r ≡ false)) → NumberIn (setting_of x).input (slice_get (slice_set x.slots q s) r) r
-      go (inl is) = subst (λ j. NumberIn (setting_of x).input (slice_get (slice_set x.slots q s) j) j) is (subst (λ t. NumberIn (setting_of x).input t q) (sym (get_set x.slots q s q_there)) free)
-      go (inr o) = subst (λ t. NumberIn (setting_of x).input t r) (sym (get_apart x.slots q r s o.0)) (k.numbers r)
+      go (inl is) = subst (λ j. NumberIn (setting_of x).input (slice_get (slice_set x.slots q s) j) j) is (subst (λ t. NumberIn (setting_of x).input t q) (sym (get_where_set x.slots q s q_there)) free)
+      go (inr o) = subst (λ t. NumberIn (setting_of x).input t r) (sym (get_beside_set x.slots q r s o.0)) (k.numbers r)
 
   pub took_some : Takes x w taken (Some p)
   took_some = record {
@@ -102,7 +105,7 @@ module _ (x : Kernel) (k : IsKernel x) (w q : ℕ) (goes : is_over (control_of x
     whole = record {
       orderly = subst (λ c. Rattle.sp_history.specs.Agreement.IsOrderly c) (sym control) (orderly_takes (control_of x) k.orderly w (Some q) is_got);
       agrees = subst (λ c. Rattle.sp_history.specs.Agreement.Agrees c (system_of taken)) (sym control) (subst (λ t. Rattle.sp_history.specs.Agreement.Agrees (takes w (Some q) (control_of x)) t) (sym system) (agrees_takes (control_of x) (system_of x) k.agrees w (Some q) is_got));
-      processes = set_length x.slots q s ∙ k.processes;
+      processes = length-set x.slots q s ∙ k.processes;
       channels = k.channels;
       offers = offers;
       numbers = numbers;

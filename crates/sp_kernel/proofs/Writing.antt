@@ -1,6 +1,7 @@
 -- The output that is found in the slots is that of a process which is neither out nor gone.
 use Rattle.std.proofs.Common.{◌≡◌, ℕ, zero, suc, List, [], ◌∷◌, Option, Some, None, slice_get, refl, sym, ap, ◌∙◌}
 use Rattle.std.specs.Prelude.{MatchOption}
+use Rattle.std.proofs.lemmas.Option.{none-some, same_Some}
 use Rattle.sp_cell.specs.Map.{Plain}
 use Rattle.sp_code.specs.PlainStore.{plain}
 use Rattle.sp_code.specs.Control.{Out, Gone}
@@ -68,22 +69,16 @@ none_first : (o r : Option (List ℕ)) → or_rest o r ≡ None → (o ≡ None)
 none_first None r e = (refl, e)
 none_first (Some bs) r e = absurd (cc e)
 
-none_some : (cs : List ℕ) → None ≡ Some cs → ⊥
-none_some cs f = absurd (cc f)
-
-same_store : {a b : Plain} → Some a ≡ Some b → a ≡ b
-same_store e = cc
-
 -- who is here does not hold it, where none is found
 pub none_writes : (slots : List Slot) → written slots ≡ None → (q : ℕ) (m : Plain) (bs : List ℕ) → ((w : ℕ) → doing_in (slice_get slots q) ≡ Out w → ⊥) → (doing_in (slice_get slots q) ≡ Gone → ⊥)
     → store_in (condition_in (slice_get slots q)) ≡ Some m → plain.output m ≡ Some bs → ⊥
 none_writes [] e q m bs o g h x = absurd (cc h)
 none_writes (s ∷ ss) e (suc q) m bs o g h x = none_writes ss (none_first (written_in s) (written ss) e).1 q m bs o g h x
 none_writes (slot.Here p s ∷ ss) e zero m bs o g h x =
-    let same : p.store ≡ m = same_store (sym (store_here p s) ∙ h) in
+    let same : p.store ≡ m = same_Some _ _ (sym (store_here p s) ∙ h) in
     let y : written_by p ≡ Some bs = ap (λ (n : Plain). plain.output n) same ∙ x in
     let n : written_by p ≡ None = (none_first (written_by p) (written ss) e).0 in
-    none_some bs (sym n ∙ y)
+    none-some bs (sym n ∙ y)
 none_writes (slot.Out v p ∷ ss) e zero m bs o g h x = o v refl
 none_writes (slot.Ended ∷ ss) e zero m bs o g h x = absurd (cc h)
 none_writes (slot.Gone p ∷ ss) e zero m bs o g h x = g refl

@@ -1,6 +1,7 @@
 -- Contention is an entry exactly where an offer meets one of its own way and the journal is not full.
 use Rattle.std.proofs.Common.{◌≡◌, ℕ, ◌+◌, ◌<◌, ◌==◌, List, Option, Some, None, Bool, true, false, if◌then◌else◌, refl, ap, ◌∙◌, subst, arith}
 use Rattle.std.specs.Prelude.{nat_lt}
+use Rattle.std.proofs.lemmas.Option.{same_Some}
 use Rattle.sp_base.specs.declared.fault.Fault.{Fault}
 use Rattle.sp_base.specs.declared.fault.Fault.TheVariants as fault
 use Rattle.sp_base.specs.declared.limits.Limits.{Limits}
@@ -71,10 +72,7 @@ receive_meets k false (Some Pauses) e = absurd (cc e)
 -- no other limit is a contention
 other_limit : (a b : Bool) (f : Fault) → (f ≡ fault.F6 → ⊥) → first_fault (if a then Some fault.F15 else (if b then Some f else None)) None ≡ Some fault.F6 → ⊥
 other_limit true b f n e = cc e
-other_limit false true f n e = n (one e)
-  where
-    one : {x y : Fault} → Some x ≡ Some y → x ≡ y
-    one r = cc r
+other_limit false true f n e = n (same_Some _ _ e)
 other_limit false false f n e = cc e
 
 by_stop : (lim : Limits) (t : System Plain) (stop : Stop) (e : Config (Memory Plain)) → fault_of lim t (Stopped stop e) ≡ Some fault.F6 → MeetsItsWay t stop × (t.entries < lim.entries)

@@ -1,6 +1,7 @@
 -- How a run of a program's code ends is how the program does: the same ones wait where nobody can go on, and the fault
 -- of the journal is the program's.
 use Rattle.std.proofs.Common.{◌≡◌, ℕ, List, Some, None, Bool, true, false, refl, sym, ◌∙◌, subst}
+use Rattle.std.proofs.lemmas.Option.{none-some}
 use Rattle.sp_base.specs.declared.fault.Fault.{Fault}
 use Rattle.sp_tree.specs.Plain.{Stmt}
 use Rattle.sp_journal.specs.declared.entry.Entry.{Entry}
@@ -75,10 +76,7 @@ module _ (g : Setting) (moves shares : Stmt → List ℕ) (pause : ℕ) (ready :
   -- one stands in the machine where it stands in the program
   fault_both : (b : Bool) → t.faulted ≡ b → s.fault ≡ None → b ≡ false
   fault_both false e q = refl
-  fault_both true e q = let w = program_faulted e in absurd (no (sym q ∙ w.3))
-    where
-      no : {x : Name × Fault} → None ≡ Some x → ⊥
-      no e = cc e
+  fault_both true e q = let w = program_faulted e in absurd (none-some _ (sym q ∙ w.3))
 
   -- ---- nobody can go on
 

@@ -1,7 +1,10 @@
 -- The entry `End` on both sides: of the first process (`root_ends`), and of a child, whose pieces go back to its
 -- parent, which joins on or runs (`child_ends`).
 use Rattle.std.proofs.Common.{◌≡◌, ◌⊎◌, inl, ⊎_elim, ℕ, zero, suc, ◌+◌, ◌-◌, ◌<◌, ◌≤◌, ◌==◌, List, [], ◌∷◌, length, Option, Some, None, Bool, true, false, cond, if◌then◌else◌, eqb-true, eq-eqb, refl, sym, ap, ◌∙◌, subst, arith}
+use Rattle.std.proofs.Common.{one-add}
 use Rattle.std.specs.Prelude.{◌≢◌}
+use Rattle.std.proofs.lemmas.Bool.{ne_eqb}
+use Rattle.std.proofs.lemmas.Option.{none-some, same_Some}
 use Rattle.sp_journal.specs.declared.entry.Birth.{Birth}
 use Rattle.sp_journal.specs.declared.entry.Event.TheVariants as event
 use Rattle.sp_journal.specs.Births.{happening}
@@ -281,21 +284,14 @@ module _ (G : Ground) (lv : Lives G) (c : Course) (s : StateOf G.g) (u : System 
     abbrev pub u1 : System Plain
     u1 = becomes plain (run_is G) b.parent (rejoined plain (run_is G) left_it (u.condition b.parent)) (becomes plain (run_is G) i sys.Gone u)
 
-    number_is : (a e : ℕ) → a ≢ e → a == e ≡ false
-    number_is a e h = go (a == e) refl
-      where
-        go : (y : Bool) → a == e ≡ y → y ≡ false
-        go true f = absurd (h (eqb-true a e f))
-        go false f = refl
-
     at_p : u1.condition b.parent ≡ rejoined plain (run_is G) left_it (u.condition b.parent)
     at_p = ap (λ y. cond y (rejoined plain (run_is G) left_it (u.condition b.parent)) (cond (i == b.parent) sys.Gone (u.condition b.parent))) (eq-eqb b.parent b.parent refl)
 
     at_else : (a : ℕ) → b.parent ≢ a → u1.condition a ≡ cond (i == a) sys.Gone (u.condition a)
-    at_else a e = ap (λ y. cond y (rejoined plain (run_is G) left_it (u.condition b.parent)) (cond (i == a) sys.Gone (u.condition a))) (number_is b.parent a e)
+    at_else a e = ap (λ y. cond y (rejoined plain (run_is G) left_it (u.condition b.parent)) (cond (i == a) sys.Gone (u.condition a))) (ne_eqb b.parent a e)
 
     at_far : (a : ℕ) → b.parent ≢ a → i ≢ a → u1.condition a ≡ u.condition a
-    at_far a e f = at_else a e ∙ ap (λ y. cond y sys.Gone (u.condition a)) (number_is i a f)
+    at_far a e f = at_else a e ∙ ap (λ y. cond y sys.Gone (u.condition a)) (ne_eqb i a f)
 
     no_empty : {a : Name} → (b.fork, b.child) ∷ a ≡ [] → ⊥
     no_empty h = cc h
@@ -322,32 +318,23 @@ module _ (G : Ground) (lv : Lives G) (c : Course) (s : StateOf G.g) (u : System 
   by_birth : (y : Option Birth) → u.births.birth i ≡ y → Linked G lv c1 t1 (record (reported plain (run_is G) i left_it y u) { births = u.births })
   by_birth None e = root_ends e (first i refl)
     where
-      none_some : (y : Birth) → ◌≡◌ {A = Option Birth} None (Some y) → ⊥
-      none_some y h = cc h
-
       first : (k : ℕ) → i ≡ k → v ≡ []
       first zero h = sym (l.began.names i (here G lv c s u l i d at_i)) ∙ ap (λ y. u.births.name y) h ∙ l.began.root.1
-      first (suc k) h = let y = l.began.born i (omega (arith, h)) (here G lv c s u l i d at_i) in absurd (none_some y.0 (sym e ∙ y.1))
+      first (suc k) h = let y = l.began.born i (omega (arith, h)) (here G lv c s u l i d at_i) in absurd (none-some y.0 (sym e ∙ y.1))
   by_birth (Some b) e = child_ends b e (omega (arith, older, lt)) (λ h. omega (arith, older, h)) (sym (l.began.names i lt) ∙ named ∙ ap (λ y. (b.fork, b.child) ∷ y) (l.began.names b.parent (omega (arith, older, lt))))
     where
       lt : i < u.births.processes
       lt = here G lv c s u l i d at_i
 
-      none_some : (y : Birth) → ◌≡◌ {A = Option Birth} None (Some y) → ⊥
-      none_some y h = cc h
-
-      one_birth : (a y : Birth) → ◌≡◌ {A = Option Birth} (Some a) (Some y) → a ≡ y
-      one_birth a y h = cc h
-
       above : (k : ℕ) → i ≡ k → 0 < i
-      above zero h = absurd (none_some b (sym l.began.root.0 ∙ ap (λ y. u.births.birth y) (sym h) ∙ e))
+      above zero h = absurd (none-some b (sym l.began.root.0 ∙ ap (λ y. u.births.birth y) (sym h) ∙ e))
       above (suc k) h = omega (arith, h)
 
       of : (y : Birth) × (u.births.birth i ≡ Some y) × (y.parent < i) × (u.births.name i ≡ (y.fork, y.child) ∷ u.births.name y.parent) × (y.fork < u.births.forks y.parent)
       of = l.began.born i (above i refl) lt
 
       is : of.0 ≡ b
-      is = one_birth of.0 b (sym of.1 ∙ e)
+      is = same_Some of.0 b (sym of.1 ∙ e)
 
       older : b.parent < i
       older = subst (λ (y : Birth). y.parent < i) is of.2
@@ -371,8 +358,5 @@ module _ (G : Ground) (lv : Lives G) (c : Course) (s : StateOf G.g) (u : System 
         cost = 1;
         course = c1;
         state = t1;
-        enters = λ left n y. subst (λ f. Entered G.g left c x.at false v f (1 + n)) h (l.faulted ∙ quiet, refl, t1, n, next_one n, (x.left, x.runs, said, goes_next), y);
+        enters = λ left n y. subst (λ f. Entered G.g left c x.at false v f (1 + n)) h (l.faulted ∙ quiet, refl, t1, n, one-add n, (x.left, x.runs, said, goes_next), y);
       }
-        where
-          next_one : (n : ℕ) → 1 + n ≡ suc n
-          next_one n = omega arith

@@ -1,6 +1,7 @@
 -- The fault of a run is that of its journal: along a journal the meaning comes to the fault that an entry of it says
 -- (`fault_told`), and where a fault stands in the machine an entry says it (`fault_entry`).
 use Rattle.std.proofs.Common.{◌≡◌, inl, inr, ℕ, zero, suc, List, [], ◌∷◌, Option, Some, None, Bool, true, false, if◌then◌else◌, refl, sym, ap, ◌∙◌, subst}
+use Rattle.std.proofs.lemmas.Option.{same_Some}
 use Rattle.sp_base.specs.declared.fault.Fault.{Fault}
 use Rattle.sp_journal.specs.declared.entry.Event.{Event}
 use Rattle.sp_journal.specs.declared.entry.Event.TheVariants as event
@@ -67,10 +68,7 @@ module _ (g : Setting) where
   next_fault : (s t : StateOf g) (q : Name) (own : Process) → running g s q ≡ Some own → next g s q ≡ Some t → t.fault ≡ fault_after q (says g s q own) s.fault
   next_fault s t q own r n =
       let is : Some (result_of {L = superpascal g} s q (outcome {L = superpascal g} (most g) s q ((superpascal g).next own s.store))) ≡ Some t = sym (ap (λ y. step_with {L = superpascal g} (most g) s q y) r) ∙ n in
-      ap (λ (y : StateOf g). y.fault) (sym (one is)) ∙ step_fault s q ((superpascal g).next own s.store)
-    where
-      one : {x y : StateOf g} → Some x ≡ Some y → x ≡ y
-      one e = cc e
+      ap (λ (y : StateOf g). y.fault) (sym (same_Some _ _ is)) ∙ step_fault s q ((superpascal g).next own s.store)
 
   turn_fault : (pause since : ℕ) (q : Name) (n : ℕ) (s t : StateOf g) (paused : Bool) → Turn g pause since q n s t paused → t.fault ≡ s.fault
   turn_fault pause since q zero s t paused h = ap (λ (y : StateOf g). y.fault) h.0

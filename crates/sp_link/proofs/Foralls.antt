@@ -4,6 +4,8 @@
 use Rattle.std.proofs.Common.{◌≡◌, ◌⊎◌, inl, inr, ⊎_elim, ℕ, zero, suc, ◌+◌, ◌<◌, ◌≤◌, ℤ, List, [], ◌∷◌, length, Option, Some, None, Bool, true, false, min, refl, sym, ap, ◌∙◌, subst, arith}
 use Rattle.std.specs.Prelude.{◌+ℤ◌, ◌-ℤ◌, nat_abs, int_lt, nat_lt, pos, IsSome, slice_get}
 use Rattle.std.specs.FinMap as fin
+use Rattle.std.proofs.lemmas.Bool.{ltb-false}
+use Rattle.sp_base.proofs.Facts.{next_is_within}
 use Rattle.sp_tree.specs.Plain.{Program, Stmt}
 use Rattle.sp_tree.specs.Uses.{ForallOf}
 use Rattle.sp_cell.specs.declared.spot.Spot.{Spot}
@@ -51,12 +53,6 @@ use Rattle.sp_link.proofs.Relation.{Ground, Life, Lives, W_of, R_of, Called, Fre
 
 abbrev cons : ℕ × ℕ → Name → Name
 cons a w = a ∷ w
-
-lt_true : (a b : ℕ) → nat_lt a b ≡ true → a + 1 ≤ b
-lt_true a b e = Prim.grind (arith, e)
-
-ge_false : (a b : ℕ) → nat_lt a b ≡ false → b ≤ a
-ge_false a b e = Prim.grind (arith, e)
 
 -- a range that is not empty has a value, one child each
 some_value : (lo hi : ℤ) → int_lt hi lo ≡ false → 1 ≤ nat_abs ((hi -ℤ lo) +ℤ pos 1)
@@ -134,7 +130,7 @@ module _ (G : Ground) (lv : Lives G) (c : Course) (s : StateOf G.g) (u : System 
   frames_are = (t.8).frames
 
   may_fork : o.depth + 1 ≤ G.g.limits.depth
-  may_fork = lt_true o.depth G.g.limits.depth t.12
+  may_fork = next_is_within o.depth G.g.limits.depth t.12
 
   abbrev table : ChildTable
   table = child_table p G.moves G.shares entry (Some ix) st
@@ -313,11 +309,11 @@ module _ (G : Ground) (lv : Lives G) (c : Course) (s : StateOf G.g) (u : System 
 
       -- the meaning counts no fewer
       both_many : nat_lt G.g.limits.processes (u.births.processes + n) ≡ true → nat_lt G.g.limits.processes (u.births.processes + length (newborns x.left.who o 0 bs)) ≡ true
-      both_many e = fk.is_less G.g.limits.processes (u.births.processes + length (newborns x.left.who o 0 bs)) (let a = lt_true G.g.limits.processes (u.births.processes + n) e in let b = cut range in omega (arith, a, b, os_are))
+      both_many e = fk.is_less G.g.limits.processes (u.births.processes + length (newborns x.left.who o 0 bs)) (let a = next_is_within G.g.limits.processes (u.births.processes + n) e in let b = cut range in omega (arith, a, b, os_are))
 
       -- and as many where they are within the limit
       count_is : nat_lt G.g.limits.processes (u.births.processes + n) ≡ false → length bs ≡ n
-      count_is e = length_is ∙ sym (whole range (let a = ge_false G.g.limits.processes (u.births.processes + n) e in let b = G.limits.processes in omega (arith, a, b)))
+      count_is e = length_is ∙ sym (whole range (let a = ltb-false G.g.limits.processes (u.births.processes + n) e in let b = G.limits.processes in omega (arith, a, b)))
 
       few : length bs ≡ n → (j : ℕ) → j < n → j < range
       few e j lt = omega (arith, e, lt, length_is)

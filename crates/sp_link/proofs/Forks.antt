@@ -2,10 +2,13 @@
 -- joins them (`fork_entry`); or the entries or the processes are at their limit: F15, F13. What a parallel and what a
 -- forall statement give for this is in `Parallels` and `Foralls`.
 use Rattle.std.proofs.Common.{◌≡◌, ◌⊎◌, inl, inr, ⊎_elim, ℕ, zero, suc, ◌+◌, ◌<◌, ◌≤◌, ◌==◌, ℤ, List, [], ◌∷◌, length, Option, Some, None, Bool, true, false, ◌&&◌, cond, if◌then◌else◌, eqb-true, eq-eqb, refl, sym, ap, ◌∙◌, subst, arith}
+use Rattle.std.proofs.Common.{add-zero, one-add, zero-add}
 use Rattle.std.specs.Prelude.{◌≢◌, ◌-◌, nat_lt, nat_le, IsSome, slice_get}
 use Rattle.std.specs.FinMap as fin
+use Rattle.std.proofs.lemmas.Bool.{cases_lt, le-leb, lt-ltb, ltb-false, ltb-true, ne_eqb}
 use Rattle.sp_base.specs.declared.fault.Fault.{Fault}
 use Rattle.sp_base.specs.declared.fault.Fault.TheVariants as fault
+use Rattle.sp_base.proofs.Facts.{and_with_false, is_plus_none, next_goes_right}
 use Rattle.sp_tree.specs.Plain.{Stmt}
 use Rattle.sp_journal.specs.Births.{Births, channel, happening, after_event, is_next}
 use Rattle.sp_journal.specs.declared.entry.Event.TheVariants as event
@@ -62,34 +65,25 @@ use Rattle.sp_link.proofs.Relation.{Ground, Life, Lives, W_of, R_of, Stands, Joi
 abbrev cons : ℕ × ℕ → Name → Name
 cons a w = a ∷ w
 
-zero_plus : (j : ℕ) → 0 + j ≡ j
-zero_plus j = omega arith
-
 head_same : (a b : ℕ × ℕ) (p q : Name) → a ∷ p ≡ b ∷ q → a ≡ b
 head_same a b p q e = cc e
 
 tail_same : (a b : ℕ × ℕ) (p q : Name) → a ∷ p ≡ b ∷ q → p ≡ q
 tail_same a b p q e = cc e
 
-lt_of : (a b : ℕ) → nat_lt a b ≡ true → a < b
-lt_of a b e = Prim.grind (arith, e)
-
-ge_of : (a b : ℕ) → nat_lt a b ≡ false → b ≤ a
-ge_of a b e = Prim.grind (arith, e)
-
 pub is_less : (a b : ℕ) → a < b → nat_lt a b ≡ true
 is_less a b h = go (nat_lt a b) refl
   where
     go : (x : Bool) → nat_lt a b ≡ x → x ≡ true
     go true e = refl
-    go false e = let k = ge_of a b e in absurd (omega (arith, k, h))
+    go false e = let k = ltb-false a b e in absurd (omega (arith, k, h))
 
 pub not_less : (a b : ℕ) → b ≤ a → nat_lt a b ≡ false
 not_less a b h = go (nat_lt a b) refl
   where
     go : (x : Bool) → nat_lt a b ≡ x → x ≡ false
     go false e = refl
-    go true e = let k = lt_of a b e in absurd (omega (arith, k, h))
+    go true e = let k = ltb-true a b e in absurd (omega (arith, k, h))
 
 -- ---- the states after births
 
@@ -106,42 +100,24 @@ module _ (g : Setting) (p : Name) (k : ℕ) where
   born_else : (i : ℕ) (os : List Process) (m : Conditions) (r : Name) → ((j : ℕ) → j < length os → r ≢ (k, i + j) ∷ p) → after_births g.program p k i os m r ≡ m r
   born_else i [] m r ne = refl
   born_else i (o ∷ os) m r ne =
-      born_else (suc i) os (put_at same_name ((k, i) ∷ p) (Works o) m) r (λ j lt e. ne (suc j) (omega (arith, lt)) (subst (λ a. r ≡ (k, a) ∷ p) (shift i j) e))
-      ∙ at_other name_test m ((k, i) ∷ p) r (Works o) (λ e. ne 0 (omega arith) (sym e ∙ ap (λ a. cons (k, a) p) (nothing i)))
-    where
-      shift : (i j : ℕ) → suc i + j ≡ i + suc j
-      shift i j = omega arith
-
-      nothing : (i : ℕ) → i ≡ i + 0
-      nothing i = omega arith
+      born_else (suc i) os (put_at same_name ((k, i) ∷ p) (Works o) m) r (λ j lt e. ne (suc j) (omega (arith, lt)) (subst (λ a. r ≡ (k, a) ∷ p) (next_goes_right i j) e))
+      ∙ at_other name_test m ((k, i) ∷ p) r (Works o) (λ e. ne 0 (omega arith) (sym e ∙ ap (λ a. cons (k, a) p) (is_plus_none i)))
 
   -- and each child works
   born_at : (i : ℕ) (os : List Process) (m : Conditions) (j : ℕ) (o : Process) → slice_get os j ≡ Some o → after_births g.program p k i os m ((k, i + j) ∷ p) ≡ Works o
   born_at i [] m j o e = absurd (cc e)
   born_at i (a ∷ os) m zero o e =
       let same : a ≡ o = cc e in
-      ap (λ b. after_births g.program p k (suc i) os (put_at same_name ((k, i) ∷ p) (Works a) m) ((k, b) ∷ p)) (nothing i)
+      ap (λ b. after_births g.program p k (suc i) os (put_at same_name ((k, i) ∷ p) (Works a) m) ((k, b) ∷ p)) (add-zero i)
       ∙ born_else (suc i) os (put_at same_name ((k, i) ∷ p) (Works a) m) ((k, i) ∷ p) (λ j lt f. (let h : i ≡ suc i + j = ap (λ (z : ℕ × ℕ). z.1) (head_same (k, i) (k, suc i + j) p p f) in omega (arith, h)))
       ∙ at_same name_test m ((k, i) ∷ p) (Works a) ∙ ap Works same
-    where
-      nothing : (i : ℕ) → i + 0 ≡ i
-      nothing i = omega arith
-  born_at i (a ∷ os) m (suc j) o e = subst (λ b. after_births g.program p k (suc i) os (put_at same_name ((k, i) ∷ p) (Works a) m) ((k, b) ∷ p) ≡ Works o) (shift i j) (born_at (suc i) os (put_at same_name ((k, i) ∷ p) (Works a) m) j o e)
-    where
-      shift : (i j : ℕ) → suc i + j ≡ i + suc j
-      shift i j = omega arith
+  born_at i (a ∷ os) m (suc j) o e = subst (λ b. after_births g.program p k (suc i) os (put_at same_name ((k, i) ∷ p) (Works a) m) ((k, b) ∷ p) ≡ Works o) (next_goes_right i j) (born_at (suc i) os (put_at same_name ((k, i) ∷ p) (Works a) m) j o e)
 
 -- each birth has its newborn
 newborns_at : (w : Who) (o : Own) (i : ℕ) (bs : List Birth) (j : ℕ) (b : Birth) → slice_get bs j ≡ Some b → slice_get (newborns w o i bs) j ≡ Some (newborn w o (i + j) b)
 newborns_at w o i [] j b e = absurd (cc e)
-newborns_at w o i (a ∷ bs) zero b e = let same : a ≡ b = cc e in ap (λ z. Some (newborn w o i z)) same ∙ ap (λ z. Some (newborn w o z b)) (nothing i)
-  where
-    nothing : (i : ℕ) → i ≡ i + 0
-    nothing i = omega arith
-newborns_at w o i (a ∷ bs) (suc j) b e = newborns_at w o (suc i) bs j b e ∙ ap (λ z. Some (newborn w o z b)) (shift i j)
-  where
-    shift : (i j : ℕ) → suc i + j ≡ i + suc j
-    shift i j = omega arith
+newborns_at w o i (a ∷ bs) zero b e = let same : a ≡ b = cc e in ap (λ z. Some (newborn w o i z)) same ∙ ap (λ z. Some (newborn w o z b)) (is_plus_none i)
+newborns_at w o i (a ∷ bs) (suc j) b e = newborns_at w o (suc i) bs j b e ∙ ap (λ z. Some (newborn w o z b)) (next_goes_right i j)
 
 pub newborns_length : (w : Who) (o : Own) (i : ℕ) (bs : List Birth) → length (newborns w o i bs) ≡ length bs
 newborns_length w o i [] = refl
@@ -159,21 +135,7 @@ pick true a b = a
 pick false a b = b
 
 next_number : (b : Births) (n j : ℕ) → j < n → is_next b n (b.processes + j) ≡ true
-next_number b n j lt = ap (λ x. x && nat_lt (b.processes + j) (b.processes + n)) (at_least b.processes (b.processes + j) (omega arith)) ∙ below (b.processes + j) (b.processes + n) (omega (arith, lt))
-  where
-    at_least : (a c : ℕ) → a ≤ c → nat_le a c ≡ true
-    at_least a c h = go (nat_le a c) refl
-      where
-        go : (x : Bool) → nat_le a c ≡ x → x ≡ true
-        go true e = refl
-        go false e = let k : c < a = Prim.grind (arith, e) in absurd (omega (arith, k, h))
-
-    below : (a c : ℕ) → a < c → nat_lt a c ≡ true
-    below a c h = go (nat_lt a c) refl
-      where
-        go : (x : Bool) → nat_lt a c ≡ x → x ≡ true
-        go true e = refl
-        go false e = let k : c ≤ a = Prim.grind (arith, e) in absurd (omega (arith, k, h))
+next_number b n j lt = ap (λ x. x && nat_lt (b.processes + j) (b.processes + n)) (le-leb b.processes (b.processes + j) (omega arith)) ∙ lt-ltb (b.processes + j) (b.processes + n) (omega (arith, lt))
 
 -- who does anything is there
 not_absent : (G : Ground) (lf : Life) (kids : ℕ → ℕ → Life) (q : Name) (c : Course) (s : StateOf G.g) (opens : ℕ) (X : sys.Condition Plain) → Performs G lf kids q c s opens X → s.condition q ≢ Absent
@@ -319,10 +281,10 @@ module _ (G : Ground) (lv : Lives G) (c : Course) (s : StateOf G.g) (u : System 
     cond_v = born_else G.g v k 0 os before v (λ j lt. no_child (0 + j)) ∙ at_same name_test x.at.condition v (Joins k (length os) goes_on)
 
     cond_child : (j : ℕ) (b : Birth) → slice_get bs j ≡ Some b → t1.condition ((k, j) ∷ v) ≡ Works (newborn x.left.who o j b)
-    cond_child j b e = ap (λ a. t1.condition (cons (k, a) v)) (sym (zero_plus j)) ∙ born_at G.g v k 0 os before j (newborn x.left.who o j b) (newborns_at x.left.who o 0 bs j b e ∙ ap (λ a. Some (newborn x.left.who o a b)) (zero_plus j))
+    cond_child j b e = ap (λ a. t1.condition (cons (k, a) v)) (sym (zero-add j)) ∙ born_at G.g v k 0 os before j (newborn x.left.who o j b) (newborns_at x.left.who o 0 bs j b e ∙ ap (λ a. Some (newborn x.left.who o a b)) (zero-add j))
 
     cond_r : (a : Name) → a ≢ v → ((j : ℕ) → j < n → a ≢ (k, j) ∷ v) → t1.condition a ≡ s.condition a
-    cond_r a e f = born_else G.g v k 0 os before a (λ j lt h. f j (omega (arith, lt, os_length)) (h ∙ ap (λ b. cons (k, b) v) (zero_plus j))) ∙ at_other name_test x.at.condition v a (Joins k (length os) goes_on) (λ h. e (sym h)) ∙ x.elsewhere.condition a e
+    cond_r a e f = born_else G.g v k 0 os before a (λ j lt h. f j (omega (arith, lt, os_length)) (h ∙ ap (λ b. cons (k, b) v) (zero-add j))) ∙ at_other name_test x.at.condition v a (Joins k (length os) goes_on) (λ h. e (sym h)) ∙ x.elsewhere.condition a e
 
     -- no child was there
     unborn : (j : ℕ) → s.condition ((k, j) ∷ v) ≡ Absent
@@ -345,8 +307,8 @@ module _ (G : Ground) (lv : Lives G) (c : Course) (s : StateOf G.g) (u : System 
         by : (f : Bool) → (same_name v w && (a == k)) ≡ f → (g : Bool) → nat_lt b n ≡ g → ((j : ℕ) × (j < n) × ((a, b) ∷ w ≡ (k, j) ∷ v)) ⊎ ((j : ℕ) → j < n → (a, b) ∷ w ≢ (k, j) ∷ v)
         by true e true h =
             let is = it_is G.g.program (W_of G lv) (R_of G lv) v k o.frames stmts w a e in
-            inl (b, lt_of b n h, ap (λ f. cons (f, b) w) is.1 ∙ ap (λ f. cons (k, b) f) (sym is.0))
-        by true e false h = inr (λ j lt f. (let is : b ≡ j = ap (λ (z : ℕ × ℕ). z.1) (head_same (a, b) (k, j) w v f) in let ge = ge_of b n h in omega (arith, lt, is, ge)))
+            inl (b, ltb-true b n h, ap (λ f. cons (f, b) w) is.1 ∙ ap (λ f. cons (k, b) f) (sym is.0))
+        by true e false h = inr (λ j lt f. (let is : b ≡ j = ap (λ (z : ℕ × ℕ). z.1) (head_same (a, b) (k, j) w v f) in let ge = ltb-false b n h in omega (arith, lt, is, ge)))
         by false e g h = inr (λ j lt f. (let is : true ≡ false = sym (test j f) ∙ e in absurd (cc is)))
 
     known_then : Known G.g x.at
@@ -526,13 +488,6 @@ module _ (G : Ground) (lv : Lives G) (c : Course) (s : StateOf G.g) (u : System 
     event_is : event_of G.g.limits u tn ≡ event.Fork n
     event_is = ap (λ b. event_of G.g.limits u (Stopped b (At t.0 t.1 t.2))) stop_is ∙ ap (λ b. if b then event.Laid else event_or (fault_of G.g.limits u tn2) tn2) quiet ∙ ap (λ f. event_or f tn2) no_fault
 
-    number_is : (a e : ℕ) → a ≢ e → a == e ≡ false
-    number_is a e h = go (a == e) refl
-      where
-        go : (b : Bool) → a == e ≡ b → b ≡ false
-        go true f = absurd (h (eqb-true a e f))
-        go false f = refl
-
     module _ (began : Began G b1) where
       forks_here : u.births.forks i ≡ k
       forks_here = sym (l.forks i (here G lv c s u l i d at_i)) ∙ ap (λ a. a v) (sym x.elsewhere.forks)
@@ -566,7 +521,7 @@ module _ (G : Ground) (lv : Lives G) (c : Course) (s : StateOf G.g) (u : System 
           (⊎_elim
           (λ (e : i ≡ a). subst (λ b. Performs_all G lv1 (G.births.name b) c1 t1 (u.births.opens b) (cond (i == b) (sys.Joins n left_it) (u.condition b))) e
           (subst (λ b. Performs_all G lv1 v c1 t1 (u.births.opens i) b) (sym (ap (λ f. cond f (sys.Joins n left_it) (u.condition i)) (eq-eqb i i refl))) parent_does))
-          (λ (e : i ≢ a). subst (λ b. Performs_all G lv1 (G.births.name a) c1 t1 (u.births.opens a) b) (sym (ap (λ f. cond f (sys.Joins n left_it) (u.condition a)) (number_is i a e))) (does_other a lt e))
+          (λ (e : i ≢ a). subst (λ b. Performs_all G lv1 (G.births.name a) c1 t1 (u.births.opens a) b) (sym (ap (λ f. cond f (sys.Joins n left_it) (u.condition a)) (ne_eqb i a e))) (does_other a lt e))
           (number_or G lv c s u l i d at_i i a))
 
       does_new : (j : ℕ) → j < n → Performs_all G lv1 (G.births.name (P + j)) c1 t1 (b1.opens (P + j)) (u1.condition (P + j))
@@ -574,24 +529,14 @@ module _ (G : Ground) (lv : Lives G) (c : Course) (s : StateOf G.g) (u : System 
           (subst (λ b. Performs_all G lv1 ((k, j) ∷ v) c1 t1 (u.births.opens (P + j)) b)
           (sym (ap (λ f. cond f (at_number (P + j) ((P + j) - P)) (cond (i == P + j) (sys.Joins n left_it) (u.condition (P + j)))) (next_number u.births n j lt) ∙ ap (λ b. at_number (P + j) b) (minus j))) (child_does j lt))
 
-      either : (a b : ℕ) → (a < b) ⊎ (b ≤ a)
-      either zero zero = inr (omega arith)
-      either zero (suc b) = inl (omega arith)
-      either (suc a) zero = inr (omega arith)
-      either (suc a) (suc b) = ⊎_elim (λ (h : a < b). inl (omega (arith, h))) (λ (h : b ≤ a). inr (omega (arith, h))) (either a b)
-
       back : (a : ℕ) → P ≤ a → P + (a - P) ≡ a
       back a le = omega (arith, le)
 
       does_all : (a : ℕ) → a < P + n → Performs_all G lv1 (G.births.name a) c1 t1 (b1.opens a) (u1.condition a)
-      does_all a lt = ⊎_elim (λ (h : a < P). does_old a h) (λ (h : P ≤ a). subst (λ b. Performs_all G lv1 (G.births.name b) c1 t1 (b1.opens b) (u1.condition b)) (back a h) (does_new (a - P) (omega (arith, h, lt)))) (either a P)
+      does_all a lt = ⊎_elim (λ (h : a < P). does_old a h) (λ (h : P ≤ a). subst (λ b. Performs_all G lv1 (G.births.name b) c1 t1 (b1.opens b) (u1.condition b)) (back a h) (does_new (a - P) (omega (arith, h, lt)))) (cases_lt a P)
 
       beyond : (a : ℕ) → P + n ≤ a → is_next u.births n a ≡ false
-      beyond a le = ap (λ f. nat_le P a && f) (not_less a (P + n) le) ∙ no_more (nat_le P a)
-        where
-          no_more : (b : Bool) → (b && false) ≡ false
-          no_more true = refl
-          no_more false = refl
+      beyond a le = ap (λ f. nat_le P a && f) (not_less a (P + n) le) ∙ and_with_false (nat_le P a)
 
       not_i : (a : ℕ) → P ≤ a → i ≢ a
       not_i a le e = let b = here G lv c s u l i d at_i in omega (arith, b, le, e)
@@ -602,12 +547,12 @@ module _ (G : Ground) (lv : Lives G) (c : Course) (s : StateOf G.g) (u : System 
       forks_old : (a : ℕ) → a < P → t1.forks (G.births.name a) ≡ b1.forks a
       forks_old a lt = ⊎_elim
           (λ (e : i ≡ a). subst (λ b. t1.forks (G.births.name b) ≡ b1.forks b) e (at_same name_test x.at.forks v (k + 1) ∙ ap (λ b. b + 1) (sym forks_here) ∙ sym (ap (λ f. cond f (u.births.forks i + 1) (u.births.forks i)) (eq-eqb i i refl))))
-          (λ (e : i ≢ a). at_other name_test x.at.forks v (G.births.name a) (k + 1) (λ h. e (G.one_name i a (few i (here G lv c s u l i d at_i)) (few a lt) h)) ∙ ap (λ b. b (G.births.name a)) x.elsewhere.forks ∙ l.forks a lt ∙ sym (ap (λ f. cond f (u.births.forks i + 1) (u.births.forks a)) (number_is i a e)))
+          (λ (e : i ≢ a). at_other name_test x.at.forks v (G.births.name a) (k + 1) (λ h. e (G.one_name i a (few i (here G lv c s u l i d at_i)) (few a lt) h)) ∙ ap (λ b. b (G.births.name a)) x.elsewhere.forks ∙ l.forks a lt ∙ sym (ap (λ f. cond f (u.births.forks i + 1) (u.births.forks a)) (ne_eqb i a e)))
           (number_or G lv c s u l i d at_i i a)
 
       forks_new : (j : ℕ) → j < n → t1.forks (G.births.name (P + j)) ≡ b1.forks (P + j)
       forks_new j lt = ap (λ b. t1.forks b) (name_child j lt) ∙ at_other name_test x.at.forks v ((k, j) ∷ v) (k + 1) (no_child j) ∙ child_forks j lt ∙ sym (l.unmade (P + j) (omega arith)).0
-          ∙ sym (ap (λ f. cond f (u.births.forks i + 1) (u.births.forks (P + j))) (number_is i (P + j) (not_i (P + j) (omega arith))))
+          ∙ sym (ap (λ f. cond f (u.births.forks i + 1) (u.births.forks (P + j))) (ne_eqb i (P + j) (not_i (P + j) (omega arith))))
 
       linked : Linked G lv1 c1 t1 u1
       linked = record {
@@ -616,7 +561,7 @@ module _ (G : Ground) (lv : Lives G) (c : Course) (s : StateOf G.g) (u : System 
         reads_output = l.reads_output;
         began = began;
         open_is = l.open_is;
-        forks = λ a lt. ⊎_elim (λ (h : a < P). forks_old a h) (λ (h : P ≤ a). subst (λ b. t1.forks (G.births.name b) ≡ b1.forks b) (back a h) (forks_new (a - P) (omega (arith, h, lt)))) (either a P);
+        forks = λ a lt. ⊎_elim (λ (h : a < P). forks_old a h) (λ (h : P ≤ a). subst (λ b. t1.forks (G.births.name b) ≡ b1.forks b) (back a h) (forks_new (a - P) (omega (arith, h, lt)))) (cases_lt a P);
         processes = (let a = ap (λ (b : Totals). b.processes) x.elsewhere.totals in let b = l.processes in let e = os_length in omega (arith, a, b, e));
         channels = (let a = ap (λ (b : Totals). b.channels) x.elsewhere.totals in let b = l.channels in omega (arith, a, b));
         entries = (let a = ap (λ (b : Totals). b.entries) x.elsewhere.totals in let b = l.entries in omega (arith, a, b));
@@ -629,8 +574,8 @@ module _ (G : Ground) (lv : Lives G) (c : Course) (s : StateOf G.g) (u : System 
         quiet = λ e. x.elsewhere.fault ∙ l.quiet e;
         unlaid = l.unlaid;
         does = does_all;
-        unborn = λ a le. ap (λ f. cond f (at_number a (a - P)) (cond (i == a) (sys.Joins n left_it) (u.condition a))) (beyond a le) ∙ ap (λ f. cond f (sys.Joins n left_it) (u.condition a)) (number_is i a (not_i a (omega (arith, le)))) ∙ l.unborn a (omega (arith, le));
-        unmade = λ a le. (ap (λ f. cond f (u.births.forks i + 1) (u.births.forks a)) (number_is i a (not_i a (omega (arith, le)))) ∙ (l.unmade a (omega (arith, le))).0, (l.unmade a (omega (arith, le))).1);
+        unborn = λ a le. ap (λ f. cond f (at_number a (a - P)) (cond (i == a) (sys.Joins n left_it) (u.condition a))) (beyond a le) ∙ ap (λ f. cond f (sys.Joins n left_it) (u.condition a)) (ne_eqb i a (not_i a (omega (arith, le)))) ∙ l.unborn a (omega (arith, le));
+        unmade = λ a le. (ap (λ f. cond f (u.births.forks i + 1) (u.births.forks a)) (ne_eqb i a (not_i a (omega (arith, le)))) ∙ (l.unmade a (omega (arith, le))).0, (l.unmade a (omega (arith, le))).1);
         numbered = λ a h. ⊎_elim (λ (e : a ≡ v). (i, (let b = here G lv c s u l i d at_i in omega (arith, b)), sym e))
             (λ (e : a ≢ v). ⊎_elim (λ (g : (j : ℕ) × (j < n) × (a ≡ (k, j) ∷ v)). (P + g.0, (let b = g.1 in omega (arith, b)), name_child g.0 g.1 ∙ sym g.2))
             (λ g. (let w = l.numbered a (λ f. h (cond_r a e g ∙ f)) in (w.0, (let b = w.1 in omega (arith, b)), w.2))) (child_or_not a)) (same_or_not name_test a v);
@@ -665,8 +610,5 @@ module _ (G : Ground) (lv : Lives G) (c : Course) (s : StateOf G.g) (u : System 
           cost = 1;
           course = c1;
           state = t1;
-          enters = λ left n a. subst (λ f. Entered G.g left c x.at false v f (1 + n)) h (l.faulted ∙ quiet, refl, t1, n, next_one n, (x.left, x.runs, said_now, goes_next), a);
+          enters = λ left n a. subst (λ f. Entered G.g left c x.at false v f (1 + n)) h (l.faulted ∙ quiet, refl, t1, n, one-add n, (x.left, x.runs, said_now, goes_next), a);
         }
-          where
-            next_one : (n : ℕ) → 1 + n ≡ suc n
-            next_one n = omega arith

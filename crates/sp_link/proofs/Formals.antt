@@ -2,7 +2,8 @@
 use Rattle.std.proofs.Common.{◌≡◌, inl, inr, ℕ, zero, suc, ◌+◌, ◌==◌, List, [], ◌∷◌, ◌++◌, Option, Some, None, Bool, true, false, if◌then◌else◌, slice_get, refl, sym, ap, ◌∙◌, subst, arith}
 use Rattle.std.specs.Prelude.{map}
 use Rattle.std.specs.Option.{option_map}
-use Rattle.std.proofs.lemmas.Option.{slice_get-map}
+use Rattle.std.proofs.lemmas.Option.{slice_get-map, same_Some}
+use Rattle.sp_base.proofs.Facts.{get_in_front}
 use Rattle.sp_tree.specs.declared.checked.Role.{Role}
 use Rattle.sp_tree.specs.declared.checked.Role.TheVariants as role
 use Rattle.sp_tree.specs.Cells.{variables_of, sizes, cells_by}
@@ -20,11 +21,6 @@ use Rattle.sp_codegen.proofs.Closing.{among_role}
 use Rattle.sp_codegen.proofs.Numbers.{are_known, frame_is}
 
 -- ---- elements of lists
-
-get_more : (xs ys : List ℕ) (k x : ℕ) → slice_get xs k ≡ Some x → slice_get (xs ++ ys) k ≡ Some x
-get_more [] ys k x e = absurd (cc e)
-get_more (z ∷ xs) ys zero x e = e
-get_more (z ∷ xs) ys (suc k) x e = get_more xs ys k x e
 
 member_at : (xs : List ℕ) (k x : ℕ) → slice_get xs k ≡ Some x → IsMember x xs
 member_at [] k x e = absurd (cc e)
@@ -44,13 +40,10 @@ module _ (p : Program) where
   found b q [] f l e = absurd (cc e)
   found b q (k ∷ ks) f l e = go (found (suc b) (after_block p q k) ks f l) (b == f) refl e
     where
-      some : {x y : Layout} → Some x ≡ Some y → x ≡ y
-      some e = cc e
-
       go : (m.layout_of (layouts_from p (suc b) (after_block p q k) ks) f ≡ Some l → (i : ℕ) × IsOf (suc b) i ks f l) → (t : Bool) → b == f ≡ t → (if t then Some (layout_of p b q k) else m.layout_of (layouts_from p (suc b) (after_block p q k) ks) f) ≡ Some l → (i : ℕ) × IsOf b i (k ∷ ks) f l
       go on true t e =
           let same : b ≡ f = Prim.grind (arith, t) in
-          (0, record { block = k; at = q; number = omega (arith, same); stands = refl; is = sym (some e) ∙ ap (λ x. layout_of p x q k) same })
+          (0, record { block = k; at = q; number = omega (arith, same); stands = refl; is = sym (same_Some _ _ e) ∙ ap (λ x. layout_of p x q k) same })
       go on false t e =
           let z = on e in
           (suc z.0, record { block = z.1.block; at = z.1.at; number = (let n = z.1.number in omega (arith, n)); stands = z.1.stands; is = z.1.is })
@@ -73,16 +66,13 @@ module _ (p : Program) where
     begins : (k : ℕ) (h : Formal) → slice_get (map (λ x. formal_by p (slice_get p.variables x)) b.formals) k ≡ Some h → HasRoom h (slice_get (map (λ x. cells_of p (slice_get p.variables x)) (frame_of p f)) k)
     begins k h e = go (slice_get b.formals k) refl (sym (slice_get-map (λ x. formal_by p (slice_get p.variables x)) b.formals k) ∙ e)
       where
-        some : {x y : Formal} → Some x ≡ Some y → x ≡ y
-        some e = cc e
-
         go : (o : Option ℕ) → slice_get b.formals k ≡ o → option_map (λ x. formal_by p (slice_get p.variables x)) o ≡ Some h → HasRoom h (slice_get (map (λ x. cells_of p (slice_get p.variables x)) (frame_of p f)) k)
         go None a e = absurd (cc e)
         go (Some x) a e =
-            let whole : slice_get (frame_of p f) k ≡ Some x = ap (λ z. slice_get z k) (frame_is p formed f b eb) ∙ get_more (b.formals ++ as_list b.answer) (among is_local (variables_of f 0 p.variables)) k x (get_more b.formals (as_list b.answer) k x a) in
+            let whole : slice_get (frame_of p f) k ≡ Some x = ap (λ z. slice_get z k) (frame_is p formed f b eb) ∙ get_in_front (b.formals ++ as_list b.answer) (among is_local (variables_of f 0 p.variables)) k x (get_in_front b.formals (as_list b.answer) k x a) in
             let here : slice_get (map (λ x. cells_of p (slice_get p.variables x)) (frame_of p f)) k ≡ Some (cells_of p (slice_get p.variables x)) =
             slice_get-map (λ x. cells_of p (slice_get p.variables x)) (frame_of p f) k ∙ ap (λ z. option_map (λ x. cells_of p (slice_get p.variables x)) z) whole in
-            subst (λ (y : Formal). HasRoom y (slice_get (map (λ x. cells_of p (slice_get p.variables x)) (frame_of p f)) k)) (some e)
+            subst (λ (y : Formal). HasRoom y (slice_get (map (λ x. cells_of p (slice_get p.variables x)) (frame_of p f)) k)) (same_Some _ _ e)
             (subst (λ y. HasRoom (formal_by p (slice_get p.variables x)) y) (sym here) (room x (member_at b.formals k x a)))
 
   pub have_formals : IsFormed p → (moves shares : Stmt → List ℕ) → HaveFormals (program_code p moves shares).layouts

@@ -1,9 +1,11 @@
 -- A process that does nothing more: it faults, or it is laid down after another's fault. `Halted` is where its turn has
 -- come to on both sides, with one output; `laid_entry` and `failed_entry` are the entries `Laid` and `Fault`.
 use Rattle.std.proofs.Common.{◌≡◌, ◌⊎◌, inl, ⊎_elim, ℕ, suc, ◌+◌, ◌==◌, List, ◌∷◌, length, Some, Bool, true, false, cond, if◌then◌else◌, ◌||◌, refl, sym, ap, ◌∙◌, subst, arith}
+use Rattle.std.proofs.Common.{one-add}
 use Rattle.std.specs.Prelude.{◌≢◌}
 use Rattle.sp_base.specs.declared.fault.Fault.{Fault}
 use Rattle.sp_base.specs.declared.fault.Fault.TheVariants as fault
+use Rattle.sp_base.proofs.Facts.{is_none_plus, not_true_and_false}
 use Rattle.sp_journal.specs.Births.{happening, after_event}
 use Rattle.sp_journal.specs.Maps.{at_key}
 use Rattle.sp_journal.specs.declared.entry.Event.TheVariants as event
@@ -118,9 +120,6 @@ module _ (G : Ground) (lv : Lives G) (c : Course) (s : StateOf G.g) (u : System 
   laid_here : (c1 : Course) → (stopped v c1).laid v ≡ true
   laid_here c1 = ap (λ b. b || c1.laid v) (itself name_test v)
 
-  not_both : (b : Bool) → b ≡ true → b ≡ false → ⊥
-  not_both b e f = let x : true ≡ false = sym e ∙ f in cc x
-
   pub laid_entry : Halted → u.faulted ≡ true → Entry_of G c s u i d
   laid_entry h bad = record { turn = h.turn; is = h.is; way = way_by _ (sym said); speaks = subst (IsOpen u.births) (sym event_is) tt; lives = lv; linked = λ began. now_by G lv c1 h.at (after plain (run_is G) i h.turn u) (subst (λ y. Linked G lv c1 h.at y) (sym (after_laid G i h.turn u bad)) linked) }
     where
@@ -135,7 +134,7 @@ module _ (G : Ground) (lv : Lives G) (c : Course) (s : StateOf G.g) (u : System 
 
       linked : Linked G lv c1 h.at (record u { condition = at_key ◌==◌ i (sys.Laid (config_of h.turn)) u.condition })
       linked = linked_local G lv c s u l i d at_i h.at c1 (sys.Laid (config_of h.turn)) u.faulted h.other h.forks h.pending h.totals h.stays (turn_known G.g G.pause (c.since v) v h.steps s h.at h.paused l.known h.way) h.left h.runs h.rights
-          (λ r a. refl) (λ r a. laid_other c r a) (λ e. refl) (sym bad) (λ e. absurd (not_both u.faulted bad e)) (λ e. absurd (not_both u.faulted bad e))
+          (λ r a. refl) (λ r a. laid_other c r a) (λ e. refl) (sym bad) (λ e. absurd (not_true_and_false u.faulted bad e)) (λ e. absurd (not_true_and_false u.faulted bad e))
           (laid_here c, refl, (h.left, h.runs), h.told) (λ e. absurd (cc e))
 
       way_by : (e : Happening) → Laid ≡ e → Way_on G c s v e
@@ -148,11 +147,8 @@ module _ (G : Ground) (lv : Lives G) (c : Course) (s : StateOf G.g) (u : System 
         cost = 0;
         course = c1;
         state = h.at;
-        enters = λ left n y. subst (λ f. Entered G.g left c h.at h.paused v f (0 + n)) k (l.faulted ∙ bad, subst (λ j. left c1 h.at j) (nothing n) y);
+        enters = λ left n y. subst (λ f. Entered G.g left c h.at h.paused v f (0 + n)) k (l.faulted ∙ bad, subst (λ j. left c1 h.at j) (is_none_plus n) y);
       }
-        where
-          nothing : (n : ℕ) → n ≡ 0 + n
-          nothing n = omega arith
 
   -- ---- it faults
 
@@ -185,7 +181,7 @@ module _ (G : Ground) (lv : Lives G) (c : Course) (s : StateOf G.g) (u : System 
 
       linked : Linked G lv c1 t1 (record u { condition = at_key ◌==◌ i (sys.Laid (config_of h.turn)) u.condition; faulted = true })
       linked = linked_local G lv c s u l i d at_i t1 c1 (sys.Laid (config_of h.turn)) true h.other h.forks h.pending h.totals h.stays known_now h.left h.runs h.rights
-          (λ r a. ap (λ b. cond b (ticks_of G.g t1 v) (c.since r)) (differs name_test v r (λ e. a (sym e)))) (λ r a. laid_other c0 r a) (λ e. refl) refl (λ e. absurd (not_both true refl e)) (λ e. absurd (not_both true refl e))
+          (λ r a. ap (λ b. cond b (ticks_of G.g t1 v) (c.since r)) (differs name_test v r (λ e. a (sym e)))) (λ r a. laid_other c0 r a) (λ e. refl) refl (λ e. absurd (not_true_and_false true refl e)) (λ e. absurd (not_true_and_false true refl e))
           (laid_here c0, refl, (h.left, h.runs), h.told) (λ e. absurd (cc e))
 
       way_by : (e : Happening) → happenings.Faulted f ≡ e → Way_on G c s v e
@@ -198,11 +194,8 @@ module _ (G : Ground) (lv : Lives G) (c : Course) (s : StateOf G.g) (u : System 
         cost = 1;
         course = c1;
         state = t1;
-        enters = λ left n y. subst (λ e. Entered G.g left c h.at h.paused v e (1 + n)) k (l.faulted ∙ quiet, whole, t1, n, next_one n, (h.left, h.runs, says_it, goes_next), y);
+        enters = λ left n y. subst (λ e. Entered G.g left c h.at h.paused v e (1 + n)) k (l.faulted ∙ quiet, whole, t1, n, one-add n, (h.left, h.runs, says_it, goes_next), y);
       }
-        where
-          next_one : (n : ℕ) → 1 + n ≡ suc n
-          next_one n = omega arith
 
   -- ---- the first process where the frame of the program is too large
 

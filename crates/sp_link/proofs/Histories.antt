@@ -2,6 +2,9 @@
 -- its notes tells of the end is so of the program.
 use Rattle.std.proofs.Common.{◌≡◌, ◌⊎◌, inl, inr, ℕ, ◌-◌, ◌==◌, List, [], ◌∷◌, Option, Some, None, Bool, true, false, cond, if◌then◌else◌, ◌||◌, refl, sym, ap, ◌∙◌, subst, arith}
 use Rattle.std.specs.Prelude.{◌≢◌, nat_lt}
+use Rattle.std.proofs.lemmas.Bool.{or_parts}
+use Rattle.std.proofs.lemmas.Option.{none-some, same_Some}
+use Rattle.sp_base.proofs.Facts.{none_if_not_above}
 use Rattle.sp_tree.specs.Plain.{Stmt}
 use Rattle.sp_journal.specs.declared.entry.Way.{Way}
 use Rattle.sp_journal.specs.declared.entry.Way.TheVariants as way
@@ -148,16 +151,9 @@ stands_deadlock false false true r h = absurd (cc h)
 stands_deadlock false false false true h = absurd (cc h)
 stands_deadlock false false false false h = (refl, refl, refl, refl)
 
-neither : (a b : Bool) → (a || b) ≡ false → (a ≡ false) × (b ≡ false)
-neither true b e = absurd (cc e)
-neither false b e = (refl, e)
-
 no_queue : (ps : List ℕ) → is_ready ps ≡ false → ps ≡ []
 no_queue [] e = refl
 no_queue (p ∷ ps) e = absurd (cc e)
-
-none_less : (n : ℕ) → nat_lt 0 n ≡ false → n ≡ 0
-none_less n e = Prim.grind (arith, e)
 
 ended_is : (d : Doing) → has_ended d ≡ true → phase d ≡ Finished
 ended_is Unborn e = absurd (cc e)
@@ -253,19 +249,13 @@ module _ (k : Control) (t : System Plain) (a : Agrees k t) where
   system_waits : (w : Waiting) → WaitsAs t w → IsWaiting k w
   system_waits w h = by h.1 h.3 h.4
     where
-      one : {x y : Waiting} → Some x ≡ Some y → x ≡ y
-      one e = cc e
-
-      nothing : {x : Waiting} → None ≡ Some x → ⊥
-      nothing e = cc e
-
       by : (stop : Stop) → t.condition h.0 ≡ Waits stop h.2 → waiting_at t.births h.0 stop ≡ Some w → IsWaiting k w
-      by (Forks tb v n) e r = absurd (nothing r)
-      by (Opens x) e r = absurd (nothing r)
-      by (Sends c m cs) e r = (h.0, c, inl (sending (k.doing h.0) c (a.each h.0 ∙ ap (λ y. phase_in y) e), sym (one r) ∙ ap (λ (y : Births). Sends_at y h.0 c) (sym a.births)))
-      by (Receives c m x) e r = (h.0, c, inr (receiving (k.doing h.0) c (a.each h.0 ∙ ap (λ y. phase_in y) e), sym (one r) ∙ ap (λ (y : Births). Receives_at y h.0 c) (sym a.births)))
-      by Ends e r = absurd (nothing r)
-      by Pauses e r = absurd (nothing r)
+      by (Forks tb v n) e r = absurd (none-some _ r)
+      by (Opens x) e r = absurd (none-some _ r)
+      by (Sends c m cs) e r = (h.0, c, inl (sending (k.doing h.0) c (a.each h.0 ∙ ap (λ y. phase_in y) e), sym (same_Some _ _ r) ∙ ap (λ (y : Births). Sends_at y h.0 c) (sym a.births)))
+      by (Receives c m x) e r = (h.0, c, inr (receiving (k.doing h.0) c (a.each h.0 ∙ ap (λ y. phase_in y) e), sym (same_Some _ _ r) ∙ ap (λ (y : Births). Receives_at y h.0 c) (sym a.births)))
+      by Ends e r = absurd (none-some _ r)
+      by Pauses e r = absurd (none-some _ r)
 
 -- ---- histories
 
@@ -306,14 +296,8 @@ module _ (g : Setting) (moves shares : Stmt → List ℕ) (pause : ℕ) (ready :
           let mine = history_output in
           let holder : q ≡ mine.0 = one.2.only q m bs at out ∙ sym (one.2.only mine.0 mine.1 (output_of g s) mine.2 mine.3) in
           let store : Some m ≡ Some mine.1 = sym at ∙ ap (λ y. store_in (t.condition y)) holder ∙ mine.2 in
-          let outputs : Some bs ≡ Some (output_of g s) = sym out ∙ ap (λ y. plain.output y) (store_same m mine.1 store) ∙ mine.3 in
-          bytes_same bs (output_of g s) outputs
-        where
-          store_same : (x y : Plain) → Some x ≡ Some y → x ≡ y
-          store_same x y e = cc e
-
-          bytes_same : (x y : List ℕ) → Some x ≡ Some y → x ≡ y
-          bytes_same x y e = cc e
+          let outputs : Some bs ≡ Some (output_of g s) = sym out ∙ ap (λ y. plain.output y) (same_Some m mine.1 store) ∙ mine.3 in
+          same_Some bs (output_of g s) outputs
 
       -- the first process has ended
       over : phase_in (t.condition 0) ≡ Finished → IsDone g s
@@ -344,8 +328,8 @@ module _ (g : Setting) (moves shares : Stmt → List ℕ) (pause : ℕ) (ready :
       pub history_deadlock : (ws : List Waiting) → standing (control ns) ≡ ctrl.IsDeadlock → AreAllWaiting (control ns) ws → IsDeadlock g s ws
       history_deadlock ws e q =
           let w = stands_deadlock (nat_lt 0 (control ns).abandons) (control ns).faulted (has_ended ((control ns).doing 0)) (is_ready (control ns).ready || nat_lt 0 (control ns).out) e in
-          let v = neither (is_ready (control ns).ready) (nat_lt 0 (control ns).out) w.3 in
-          let still = nobody_runs (control ns) t alike.0 alike.1 outs (no_queue (control ns).ready v.0) (none_less (control ns).out v.1) (none_gone ns (none_less (control ns).abandons w.0)) in
+          let v = or_parts (is_ready (control ns).ready) (nat_lt 0 (control ns).out) w.3 in
+          let still = nobody_runs (control ns) t alike.0 alike.1 outs (no_queue (control ns).ready v.0) (none_if_not_above (control ns).out v.1) (none_gone ns (none_if_not_above (control ns).abandons w.0)) in
           program_stuck g moves shares pause ready (entries_of ns) t journal n s k ws (record {
             quiet = sym alike.1.faulted ∙ w.1;
             idle = λ i d x. still i (ap (λ y. phase_in y) x);

@@ -3,6 +3,7 @@
 -- are open after so many entries.
 use Rattle.std.proofs.Common.{◌≡◌, ◌⊎◌, inl, inr, ⊎_elim, ℕ, zero, suc, ◌+◌, ◌<◌, ◌≤◌, List, [], ◌∷◌, Bool, false, refl, sym, ap, ◌∙◌, subst, arith}
 use Rattle.std.specs.Prelude.{◌≢◌}
+use Rattle.std.proofs.lemmas.Bool.{cases_lt}
 use Rattle.sp_journal.specs.declared.entry.Event.{Event}
 use Rattle.sp_journal.specs.declared.entry.Event.TheVariants as event
 use Rattle.sp_journal.specs.declared.entry.Entry.{Entry}
@@ -53,12 +54,6 @@ IsOpen b (event.Fault f) = Unit {0}
 IsOpen b event.Laid = Unit {0}
 IsOpen b event.Pause = Unit {0}
 
-pub either : (a b : ℕ) → (a < b) ⊎ (b ≤ a)
-either zero zero = inr (omega arith)
-either zero (suc b) = inl (omega arith)
-either (suc a) zero = inr (omega arith)
-either (suc a) (suc b) = ⊎_elim (λ (h : a < b). inl (omega (arith, h))) (λ (h : b ≤ a). inr (omega (arith, h))) (either a b)
-
 module _ (G : Ground) where
   -- and the machine's system after it is u
   pub record Goes_on (c : Course) (s : StateOf G.g) (q : Name) (what : Happening) (u : System Plain) : Type 1 where
@@ -85,13 +80,13 @@ module _ (G : Ground) where
 
   -- who does anything has a number
   pub has_number : (lv : Lives G) (c : Course) (s : StateOf G.g) (u : System Plain) → Linked G lv c s u → (i : ℕ) (x : Condition Plain) → u.condition i ≡ x → x ≢ Absent → i < u.births.processes
-  has_number lv c s u l i x e there = ⊎_elim (λ (h : i < u.births.processes). h) (λ (h : u.births.processes ≤ i). absurd (there (sym e ∙ l.unborn i h))) (either i u.births.processes)
+  has_number lv c s u l i x e there = ⊎_elim (λ (h : i < u.births.processes). h) (λ (h : u.births.processes ≤ i). absurd (there (sym e ∙ l.unborn i h))) (cases_lt i u.births.processes)
 
   pub is_born : (lv : Lives G) (c : Course) (s : StateOf G.g) (u : System Plain) → Linked G lv c s u → (i : ℕ) (d : Config (Memory Plain)) → u.condition i ≡ Working d → i < u.births.processes
-  is_born lv c s u l i d e = ⊎_elim (λ (h : i < u.births.processes). h) (λ (h : u.births.processes ≤ i). absurd (absent_not d (sym (l.unborn i h) ∙ e))) (either i u.births.processes)
+  is_born lv c s u l i d e = ⊎_elim (λ (h : i < u.births.processes). h) (λ (h : u.births.processes ≤ i). absurd (absent_not d (sym (l.unborn i h) ∙ e))) (cases_lt i u.births.processes)
 
   is_born_now : (lv : Lives G) (c : Course) (s : StateOf G.g) (u : System Plain) → Now G lv c s u → (i : ℕ) (d : Config (Memory Plain)) → u.condition i ≡ Working d → i < u.births.processes
-  is_born_now lv c s u l i d e = ⊎_elim (λ (h : i < u.births.processes). h) (λ (h : u.births.processes ≤ i). absurd (absent_not d (sym (l.unborn i h) ∙ e))) (either i u.births.processes)
+  is_born_now lv c s u l i d e = ⊎_elim (λ (h : i < u.births.processes). h) (λ (h : u.births.processes ≤ i). absurd (absent_not d (sym (l.unborn i h) ∙ e))) (cases_lt i u.births.processes)
 
   -- each front of the journal has begun
   abbrev pub AllBegan : Births → List Entry → Type 0

@@ -2,6 +2,7 @@
 -- comes.
 use Rattle.std.proofs.Common.{◌≡◌, ℕ, ◌+◌, ◌<◌, List, ◌∷◌, Option, Some, None, Bool, true, false, if◌then◌else◌, refl, sym, ap, ◌∙◌, subst, arith}
 use Rattle.std.specs.Prelude.{◌≢◌, nat_lt}
+use Rattle.std.proofs.lemmas.Option.{same_Some}
 use Rattle.sp_base.specs.declared.fault.Fault.TheVariants as fault
 use Rattle.sp_journal.specs.Births.{channel}
 use Rattle.sp_cell.specs.Map.{Plain}
@@ -104,13 +105,10 @@ module _ (G : Ground) (lv : Lives G) (c : Course) (s : StateOf G.g) (u : System 
   by_pending : (zn : Name) → s.pending ch ≡ Some zn → (j : ℕ) → Named G ch j → nat_lt G.g.limits.entries (u.entries + 1) ≡ false → Entry_of G c s u i d
   by_pending zn pends j named enough = go (s.pending (channel G.births j)) (u.pending j) refl refl (ap (λ a. s.pending a) named.2 ∙ pends) (l.pending j (subst (λ n. j < n) l.open_is named.0))
     where
-      some_name : (a b : Name) → ◌≡◌ {A = Option Name} (Some a) (Some b) → a ≡ b
-      some_name a b e = cc e
-
       go : (a : Option Name) (b : Option ℕ) → s.pending (channel G.births j) ≡ a → u.pending j ≡ b → a ≡ Some zn → IsPending G a b → Entry_of G c s u i d
       go None b e f h k = let n : ◌≡◌ {A = Option Name} None (Some zn) = h in absurd (cc n)
       go (Some a) None e f h k = absurd k
-      go (Some a) (Some zi) e f h k = meets_it zi k.0 (pends ∙ ap (λ b. Some b) (sym (some_name a zn h) ∙ sym k.1)) j named f enough
+      go (Some a) (Some zi) e f h k = meets_it zi k.0 (pends ∙ ap (λ b. Some b) (sym (same_Some a zn h) ∙ sym k.1)) j named f enough
 
   pub offering : Entry_of G c s u i d
   offering = by_limit (nat_lt G.g.limits.entries (u.entries + 1)) refl

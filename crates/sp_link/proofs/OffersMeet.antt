@@ -1,7 +1,9 @@
 -- The entry `Send` or `Receive` on both sides where an offer is pending on the channel. It meets the other one, and
 -- both go on, the receiver with the message (`meets`); or both have one way, or other types: F6, F7 (`clashes`).
 use Rattle.std.proofs.Common.{◌≡◌, ◌⊎◌, inl, inr, ⊎_elim, ℕ, suc, ◌+◌, ◌<◌, ◌==◌, List, [], ◌∷◌, Option, Some, None, Bool, true, false, cond, if◌then◌else◌, eqb-true, eq-eqb, refl, sym, ap, ◌∙◌, subst, arith}
+use Rattle.std.proofs.Common.{one-add}
 use Rattle.std.specs.Prelude.{◌≢◌, nat_lt}
+use Rattle.std.proofs.lemmas.Bool.{ne_eqb}
 use Rattle.sp_base.specs.declared.fault.Fault.{Fault}
 use Rattle.sp_base.specs.declared.fault.Fault.TheVariants as fault
 use Rattle.sp_journal.specs.Births.{channel, happening, after_event}
@@ -98,13 +100,6 @@ module _ (G : Ground) (lv : Lives G) (c : Course) (s : StateOf G.g) (u : System 
   outcome_is : (mm : Option (Address × Held)) → message cg off2.cargo ≡ mm → outcome {L = superpascal G.g} (most G.g) x.at v (Offering off) ≡ hands {L = superpascal G.g} x.at v off zn off2 mm
   outcome_is mm e = ap (λ a. unless a (offered {L = superpascal G.g} x.at v off (x.at.pending ch))) passes ∙ ap (λ a. offered {L = superpascal G.g} x.at v off a) (ap (λ a. a ch) x.elsewhere.pending ∙ pends)
       ∙ ap (λ a. meets {L = superpascal G.g} x.at v off zn a) waits ∙ ap (λ a. hands {L = superpascal G.g} x.at v off zn off2 a) e
-
-  number_is : (a e : ℕ) → a ≢ e → a == e ≡ false
-  number_is a e h = go (a == e) refl
-    where
-      go : (b : Bool) → a == e ≡ b → b ≡ false
-      go true f = absurd (h (eqb-true a e f))
-      go false f = refl
 
   numbers : i ≢ zi
   numbers e = apart (ap (λ n. G.births.name n) (sym e))
@@ -220,10 +215,10 @@ module _ (G : Ground) (lv : Lives G) (c : Course) (s : StateOf G.g) (u : System 
       at_v = ap (λ b. cond b (sys.Working e1) (cond (zi == i) (sys.Working e2) (u.condition i))) (eq-eqb i i refl)
 
       at_zi : u1.condition zi ≡ sys.Working e2
-      at_zi = ap (λ b. cond b (sys.Working e1) (cond (zi == zi) (sys.Working e2) (u.condition zi))) (number_is i zi numbers) ∙ ap (λ b. cond b (sys.Working e2) (u.condition zi)) (eq-eqb zi zi refl)
+      at_zi = ap (λ b. cond b (sys.Working e1) (cond (zi == zi) (sys.Working e2) (u.condition zi))) (ne_eqb i zi numbers) ∙ ap (λ b. cond b (sys.Working e2) (u.condition zi)) (eq-eqb zi zi refl)
 
       at_far : (k : ℕ) → i ≢ k → zi ≢ k → u1.condition k ≡ u.condition k
-      at_far k e f = ap (λ b. cond b (sys.Working e1) (cond (zi == k) (sys.Working e2) (u.condition k))) (number_is i k e) ∙ ap (λ b. cond b (sys.Working e2) (u.condition k)) (number_is zi k f)
+      at_far k e f = ap (λ b. cond b (sys.Working e1) (cond (zi == k) (sys.Working e2) (u.condition k))) (ne_eqb i k e) ∙ ap (λ b. cond b (sys.Working e2) (u.condition k)) (ne_eqb zi k f)
 
       its_does : Performs_all G lv v c1 t1 (u.births.opens i) (sys.Working e1)
       its_does = (off.next, ap (working_in t1.condition v) cond_v, inl do_v, ao.opens_same G lv c s u l i d at_i z ch kd cg todo o m x t y, (its G lv c s u l i d at_i).4)
@@ -237,7 +232,7 @@ module _ (G : Ground) (lv : Lives G) (c : Course) (s : StateOf G.g) (u : System 
           (subst (λ b. IsPending G (cond b None (x.at.pending (channel G.births j))) (u1.pending j)) (sym ((channel_test ch (channel G.births j)).1 (sym named.2)))
           (subst (λ b. IsPending G None (cond b None (u.pending j))) (sym (eq-eqb j j refl)) tt)))
           (λ (e : j ≢ k). subst (λ b. IsPending G (cond b None (x.at.pending (channel G.births k))) (u1.pending k)) (sym (far e))
-          (subst (λ b. IsPending G (x.at.pending (channel G.births k)) (cond b None (u.pending k))) (sym (number_is j k e)) (subst (λ b. IsPending G (b (channel G.births k)) (u.pending k)) (sym x.elsewhere.pending) (l.pending k lt))))
+          (subst (λ b. IsPending G (x.at.pending (channel G.births k)) (cond b None (u.pending k))) (sym (ne_eqb j k e)) (subst (λ b. IsPending G (b (channel G.births k)) (u.pending k)) (sym x.elsewhere.pending) (l.pending k lt))))
           (number_or G lv c s u l i d at_i j k)
         where
           far : j ≢ k → same_channel ch (channel G.births k) ≡ false
@@ -258,7 +253,7 @@ module _ (G : Ground) (lv : Lives G) (c : Course) (s : StateOf G.g) (u : System 
             (λ (nv : b ≢ v). ⊎_elim (λ (f : b ≡ zn). absurd (no_absent off2.next (sym cond_z ∙ subst (λ k. t1.condition k ≡ Absent) f e)))
             (λ (nz : b ≢ zn). since_other b nv ∙ l.fresh_since b (sym (x.elsewhere.condition b nv) ∙ sym (cond_r b nv nz) ∙ e)) (same_or_not name_test b zn)) (same_or_not name_test b v);
         pending = pends_now;
-        none_pending = λ k le. ap (λ b. cond b None (u.pending k)) (number_is j k (λ e. let b = is_open in omega (arith, b, le, e))) ∙ l.none_pending k le;
+        none_pending = λ k le. ap (λ b. cond b None (u.pending k)) (ne_eqb j k (λ e. let b = is_open in omega (arith, b, le, e))) ∙ l.none_pending k le;
         faulted = l.faulted;
         quiet = λ e. x.elsewhere.fault ∙ l.quiet e;
         unlaid = l.unlaid;
@@ -292,11 +287,8 @@ module _ (G : Ground) (lv : Lives G) (c : Course) (s : StateOf G.g) (u : System 
             cost = 1;
             course = c1;
             state = t1;
-            enters = λ left n k. subst (λ f. Entered G.g left c x.at false v f (1 + n)) h (l.faulted ∙ quiet, refl, t1, n, next_one n, (x.left, x.runs, said_now, goes_next), k);
+            enters = λ left n k. subst (λ f. Entered G.g left c x.at false v f (1 + n)) h (l.faulted ∙ quiet, refl, t1, n, one-add n, (x.left, x.runs, said_now, goes_next), k);
           }
-            where
-              next_one : (n : ℕ) → 1 + n ≡ suc n
-              next_one n = omega arith
 
   -- ---- this one sends
 
@@ -481,7 +473,7 @@ module _ (G : Ground) (lv : Lives G) (c : Course) (s : StateOf G.g) (u : System 
 
   other_kind : (b : Bool) → kd == off2.kind ≡ b → off2.kind == kd ≡ b
   other_kind true e = eq-eqb off2.kind kd (sym (eqb-true kd off2.kind e))
-  other_kind false e = number_is off2.kind kd (λ f. let g : true ≡ false = sym (eq-eqb kd off2.kind (sym f)) ∙ e in absurd (cc g))
+  other_kind false e = ne_eqb off2.kind kd (λ f. let g : true ≡ false = sym (eq-eqb kd off2.kind (sym f)) ∙ e in absurd (cc g))
 
   send_take : (value : Value) (a : Address) → cg ≡ Message (Tree value) → off2.cargo ≡ Takes a → Mine (Message (Tree value)) → Other (Takes a) → (b : Bool) → kd == off2.kind ≡ b → Entry_of G c s u i d
   send_take value a e f h k true q = sending_meets value e a f q

@@ -1,7 +1,9 @@
 -- The entry `Send` or `Receive` on both sides where nothing is pending on the channel: the offer waits
 -- (`waiting_entry`).
 use Rattle.std.proofs.Common.{◌≡◌, ◌⊎◌, inl, ⊎_elim, ℕ, suc, ◌+◌, ◌<◌, ◌==◌, List, ◌∷◌, length, Option, Some, None, Bool, true, false, cond, if◌then◌else◌, eqb-true, eq-eqb, refl, sym, ap, ◌∙◌, subst, arith}
+use Rattle.std.proofs.Common.{one-add}
 use Rattle.std.specs.Prelude.{◌≢◌, nat_lt}
+use Rattle.std.proofs.lemmas.Bool.{ne_eqb}
 use Rattle.sp_journal.specs.Births.{Births, channel}
 use Rattle.sp_meaning.proofs.Owned.{Holds}
 use Rattle.sp_meaning.proofs.Keys.{channel_test}
@@ -165,13 +167,6 @@ module _ (G : Ground) (lv : Lives G) (c : Course) (s : StateOf G.g) (u : System 
 
   -- ---- the machine
 
-  number_is : (a e : ℕ) → a ≢ e → a == e ≡ false
-  number_is a e h = go (a == e) refl
-    where
-      go : (b : Bool) → a == e ≡ b → b ≡ false
-      go true f = absurd (h (eqb-true a e f))
-      go false f = refl
-
   module _ (j : ℕ) (named : Rattle.sp_link.proofs.Relation.Named G ch j) where
     is_open : j < u.births.channels
     is_open = subst (λ n. j < n) l.open_is named.0
@@ -189,7 +184,7 @@ module _ (G : Ground) (lv : Lives G) (c : Course) (s : StateOf G.g) (u : System 
     u1 = record u { condition = at_key ◌==◌ i (sys.Waits t.5 there) u.condition; pending = at_key ◌==◌ j (Some i) u.pending; entries = u.entries + 1 }
 
     at_other_number : (a : ℕ) → i ≢ a → u1.condition a ≡ u.condition a
-    at_other_number a e = ap (λ b. cond b (sys.Waits t.5 there) (u.condition a)) (number_is i a e)
+    at_other_number a e = ap (λ b. cond b (sys.Waits t.5 there) (u.condition a)) (ne_eqb i a e)
 
     pends_now : (a : ℕ) → a < u.births.channels → IsPending G (t1.pending (channel G.births a)) (u1.pending a)
     pends_now a lt = ⊎_elim
@@ -197,7 +192,7 @@ module _ (G : Ground) (lv : Lives G) (c : Course) (s : StateOf G.g) (u : System 
         (subst (λ b. IsPending G (cond b (Some v) (x.at.pending (channel G.births j))) (u1.pending j)) (sym ((channel_test ch (channel G.births j)).1 (sym named.2)))
         (subst (λ b. IsPending G (Some v) (cond b (Some i) (u.pending j))) (sym (eq-eqb j j refl)) (few, refl))))
         (λ (e : j ≢ a). subst (λ b. IsPending G (cond b (Some v) (x.at.pending (channel G.births a))) (u1.pending a)) (sym (apart e))
-        (subst (λ b. IsPending G (x.at.pending (channel G.births a)) (cond b (Some i) (u.pending a))) (sym (number_is j a e)) (subst (λ b. IsPending G (b (channel G.births a)) (u.pending a)) (sym x.elsewhere.pending) (l.pending a lt))))
+        (subst (λ b. IsPending G (x.at.pending (channel G.births a)) (cond b (Some i) (u.pending a))) (sym (ne_eqb j a e)) (subst (λ b. IsPending G (b (channel G.births a)) (u.pending a)) (sym x.elsewhere.pending) (l.pending a lt))))
         (number_or G lv c s u l i d at_i j a)
       where
         few : i < G.births.processes
@@ -219,7 +214,7 @@ module _ (G : Ground) (lv : Lives G) (c : Course) (s : StateOf G.g) (u : System 
       entries = (let a = ap (λ (b : Totals). b.entries) totals_are in let b = l.entries in omega (arith, a, b));
       fresh_since = λ a e. ⊎_elim (λ (b : a ≡ v). absurd (no_absent (sym waits ∙ subst (λ k. t1.condition k ≡ Absent) b e))) (λ (b : a ≢ v). since_other a b ∙ l.fresh_since a (sym (x.elsewhere.condition a b) ∙ sym (same a b) ∙ e)) (same_or_not name_test a v);
       pending = pends_now;
-      none_pending = λ a le. ap (λ b. cond b (Some i) (u.pending a)) (number_is j a (λ e. let b = is_open in omega (arith, b, le, e))) ∙ l.none_pending a le;
+      none_pending = λ a le. ap (λ b. cond b (Some i) (u.pending a)) (ne_eqb j a (λ e. let b = is_open in omega (arith, b, le, e))) ∙ l.none_pending a le;
       faulted = l.faulted;
       quiet = λ e. x.elsewhere.fault ∙ l.quiet e;
       unlaid = l.unlaid;
@@ -286,11 +281,8 @@ module _ (G : Ground) (lv : Lives G) (c : Course) (s : StateOf G.g) (u : System 
           cost = 1;
           course = c1;
           state = t1;
-          enters = λ left n k. subst (λ f. Entered G.g left c x.at false v f (1 + n)) h (l.faulted ∙ quiet, refl, t1, n, next_one n, (x.left, x.runs, said, goes_next), k);
+          enters = λ left n k. subst (λ f. Entered G.g left c x.at false v f (1 + n)) h (l.faulted ∙ quiet, refl, t1, n, one-add n, (x.left, x.runs, said, goes_next), k);
         }
-          where
-            next_one : (n : ℕ) → 1 + n ≡ suc n
-            next_one n = omega arith
 
   -- of both ways
   waiting_by : (g1 : Cargo Held Address) → cg ≡ g1 → Ca G (lv v) (λ a b. lv ((a, b) ∷ v)) v z.fresh x.left.who name_is (c1.since v) t.3 ch kd g1 t.5 → Entry_of G c s u i d

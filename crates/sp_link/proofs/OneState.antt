@@ -1,16 +1,11 @@
 -- Along a journal the meaning has one state at most, after one number of steps: a turn is a function of the state, and
 -- so is the step of an entry. The way from the meaning back to the machine rests on it (`Replay`).
 use Rattle.std.proofs.Common.{◌≡◌, ℕ, zero, suc, ◌+◌, List, [], ◌∷◌, Option, Some, None, Bool, true, false, refl, sym, ap, ◌∙◌, subst}
+use Rattle.std.proofs.lemmas.Option.{none-some, same_Some}
 use Rattle.sp_meaning.specs.Entries.{Happening, Occurrence, Opened, Forked, Offered, Ended, Faulted, Laid, Paused}
 use Rattle.sp_meaning.specs.Own.{Setting}
 use Rattle.sp_meaning.specs.Runs.{StateOf, says, start}
 use Rattle.sp_meaning.specs.Along.{Either, due, Turn, Course, Kernel, Entered, Along, IsAlong, after_entry, ticks_of, no_course}
-
-pub some_is : {A : Type 0} (a b : A) → ◌≡◌ {A = Option A} (Some a) (Some b) → a ≡ b
-some_is a b e = cc e
-
-pub none_some : {A : Type 0} (a : A) → ◌≡◌ {A = Option A} None (Some a) → ⊥
-none_some a e = cc e
 
 module _ (g : Setting) (turn since : ℕ) (who : List (ℕ × ℕ)) where
   -- two ends of a turn are one, after one number of steps
@@ -22,20 +17,20 @@ module _ (g : Setting) (turn since : ℕ) (who : List (ℕ × ℕ)) where
   pub turn_one : (n k : ℕ) (s a b : StateOf g) (x y : Bool) → Turn g turn since who n s a x → Turn g turn since who k s b y → Same n k a b x y
   turn_one zero zero s a b x y h i = record { steps = refl; state = h.0 ∙ sym i.0; paused = h.1 ∙ sym i.1 }
   turn_one zero (suc k) s a b x y h i =
-      let own : h.2 ≡ i.0 = some_is h.2 i.0 (sym h.3 ∙ i.1) in
-      absurd (none_some h.4 (sym i.2 ∙ ap (λ z. says g s who z) (sym own) ∙ h.5))
+      let own : h.2 ≡ i.0 = same_Some h.2 i.0 (sym h.3 ∙ i.1) in
+      absurd (none-some h.4 (sym i.2 ∙ ap (λ z. says g s who z) (sym own) ∙ h.5))
   turn_one (suc n) zero s a b x y h i =
-      let own : i.2 ≡ h.0 = some_is i.2 h.0 (sym i.3 ∙ h.1) in
-      absurd (none_some i.4 (sym h.2 ∙ ap (λ z. says g s who z) (sym own) ∙ i.5))
+      let own : i.2 ≡ h.0 = same_Some i.2 h.0 (sym i.3 ∙ h.1) in
+      absurd (none-some i.4 (sym h.2 ∙ ap (λ z. says g s who z) (sym own) ∙ i.5))
   turn_one (suc n) (suc k) s a b x y h i = by (due g turn since s h.0 who h.3) h.5
       (subst (λ z. Either z ((k ≡ 0) × (b ≡ h.3) × (y ≡ true)) (Turn g turn since who k h.3 b y)) due_is (subst (λ z. Either (due g turn since s i.0 who i.3) ((k ≡ 0) × (b ≡ z) × (y ≡ true)) (Turn g turn since who k z b y)) to i.5))
       (λ u v. turn_one n k h.3 a b x y u v)
     where
       own : i.0 ≡ h.0
-      own = some_is i.0 h.0 (sym i.1 ∙ h.1)
+      own = same_Some i.0 h.0 (sym i.1 ∙ h.1)
 
       to : i.3 ≡ h.3
-      to = some_is i.3 h.3 (sym i.4 ∙ h.4)
+      to = same_Some i.3 h.3 (sym i.4 ∙ h.4)
 
       due_is : due g turn since s i.0 who i.3 ≡ due g turn since s h.0 who h.3
       due_is = ap (λ z. due g turn since s z who i.3) own ∙ ap (λ z. due g turn since s h.0 who z) to
@@ -55,7 +50,7 @@ module _ (g : Setting) (turn : ℕ) where
   module _ (es : List Occurrence) (t v : StateOf g) (ih : (c : Course) (s : StateOf g) (n k : ℕ) → Along g turn c s es n t → Along g turn c s es k v → Ends n k t v) (c : Course) (m : StateOf g) (p : Bool) (q : List (ℕ × ℕ)) where
     kernel_one : (what : Happening) (n k : ℕ) → Kernel g (Left es t) c m p q what n → Kernel g (Left es v) c m p q what k → Ends n k t v
     kernel_one what n k h i =
-        let to : i.2 ≡ h.2 = some_is i.2 h.2 (sym i.5.3 ∙ h.5.3) in
+        let to : i.2 ≡ h.2 = same_Some i.2 h.2 (sym i.5.3 ∙ h.5.3) in
         let z = ih (after_entry q what (ticks_of g h.2 q) c) h.2 h.3 i.3 h.6 (subst (λ y. Along g turn (after_entry q what (ticks_of g y q) c) y es i.3 v) to i.6) in
         (h.4 ∙ ap suc z.0 ∙ sym i.4, z.1)
 

@@ -1,7 +1,9 @@
 -- The entry `Open` on both sides: the new channel has the next number and its name, and stands in the target
 -- (`opening_entry`); or the entries or the channels are at their limit: F15, F14.
 use Rattle.std.proofs.Common.{◌≡◌, ◌⊎◌, inl, ⊎_elim, ℕ, suc, ◌+◌, ◌<◌, ◌==◌, List, ◌∷◌, length, Option, Some, None, Bool, true, false, cond, if◌then◌else◌, eqb-true, eq-eqb, refl, sym, ap, ◌∙◌, subst, arith}
+use Rattle.std.proofs.Common.{one-add}
 use Rattle.std.specs.Prelude.{◌≢◌, nat_lt}
+use Rattle.std.proofs.lemmas.Bool.{ne_eqb}
 use Rattle.sp_base.specs.declared.fault.Fault.{Fault}
 use Rattle.sp_base.specs.declared.fault.Fault.TheVariants as fault
 use Rattle.sp_journal.specs.Births.{Births, channel, happening, after_event}
@@ -222,13 +224,6 @@ module _ (G : Ground) (lv : Lives G) (c : Course) (s : StateOf G.g) (u : System 
     event_is : event_of G.g.limits u tn ≡ event.Open
     event_is = ap (λ b. if b then event.Laid else event_or (fault_of G.g.limits u tn) tn) quiet ∙ ap (λ f. event_or f tn) (found false false room1 room2)
 
-    number_is : (a e : ℕ) → a ≢ e → a == e ≡ false
-    number_is a e h = go (a == e) refl
-      where
-        go : (b : Bool) → a == e ≡ b → b ≡ false
-        go true f = absurd (h (eqb-true a e f))
-        go false f = refl
-
     module _ (began : Began G b1) where
       abbrev k : ℕ
       k = u.births.channels
@@ -322,11 +317,11 @@ module _ (G : Ground) (lv : Lives G) (c : Course) (s : StateOf G.g) (u : System 
         unlaid = l.unlaid;
         does = λ a lt. ⊎_elim
             (λ (e : i ≡ a). subst (λ b. Performs_all (one_more G) lv (G.births.name b) c1 t1 (b1.opens b) (u1.condition b)) e (subst (λ b. Performs_all (one_more G) lv v c1 t1 (b1.opens i) b) (sym (ap (λ b. cond b (sys.Working there) (u.condition i)) (eq-eqb i i refl))) its_does))
-            (λ (e : i ≢ a). subst (λ b. Performs_all (one_more G) lv (G.births.name a) c1 t1 b (u1.condition a)) (sym (ap (λ b. cond b (u.births.opens i + 1) (u.births.opens a)) (number_is i a e)))
-            (subst (λ b. Performs_all (one_more G) lv (G.births.name a) c1 t1 (u.births.opens a) b) (sym (ap (λ b. cond b (sys.Working there) (u.condition a)) (number_is i a e))) (does_other a lt e)))
+            (λ (e : i ≢ a). subst (λ b. Performs_all (one_more G) lv (G.births.name a) c1 t1 b (u1.condition a)) (sym (ap (λ b. cond b (u.births.opens i + 1) (u.births.opens a)) (ne_eqb i a e)))
+            (subst (λ b. Performs_all (one_more G) lv (G.births.name a) c1 t1 (u.births.opens a) b) (sym (ap (λ b. cond b (sys.Working there) (u.condition a)) (ne_eqb i a e))) (does_other a lt e)))
             (number_or G lv c s u l i d at_i i a);
-        unborn = λ a le. ap (λ b. cond b (sys.Working there) (u.condition a)) (number_is i a (λ e. let b = here G lv c s u l i d at_i in omega (arith, b, le, e))) ∙ l.unborn a le;
-        unmade = λ a le. ((l.unmade a le).0, ap (λ b. cond b (u.births.opens i + 1) (u.births.opens a)) (number_is i a (λ e. let b = here G lv c s u l i d at_i in omega (arith, b, le, e))) ∙ (l.unmade a le).1);
+        unborn = λ a le. ap (λ b. cond b (sys.Working there) (u.condition a)) (ne_eqb i a (λ e. let b = here G lv c s u l i d at_i in omega (arith, b, le, e))) ∙ l.unborn a le;
+        unmade = λ a le. ((l.unmade a le).0, ap (λ b. cond b (u.births.opens i + 1) (u.births.opens a)) (ne_eqb i a (λ e. let b = here G lv c s u l i d at_i in omega (arith, b, le, e))) ∙ (l.unmade a le).1);
         numbered = λ a h. ⊎_elim (λ (e : a ≡ v). (i, here G lv c s u l i d at_i, sym e)) (λ (e : a ≢ v). l.numbered a (λ f. h (cond_r a e ∙ f))) (same_or_not name_test a v);
       }
         where
@@ -359,11 +354,8 @@ module _ (G : Ground) (lv : Lives G) (c : Course) (s : StateOf G.g) (u : System 
           cost = 1;
           course = c1;
           state = t1;
-          enters = λ left n a. subst (λ f. Entered G.g left c x.at false v f (1 + n)) h (l.faulted ∙ quiet, refl, t1, n, next_one n, (x.left, x.runs, said_now, goes_next), a);
+          enters = λ left n a. subst (λ f. Entered G.g left c x.at false v f (1 + n)) h (l.faulted ∙ quiet, refl, t1, n, one-add n, (x.left, x.runs, said_now, goes_next), a);
         }
-          where
-            next_one : (n : ℕ) → 1 + n ≡ suc n
-            next_one n = omega arith
 
   pub opening_entry : Entry_of G c s u i d
   opening_entry = by (nat_lt G.g.limits.entries (u.entries + 1)) (nat_lt G.g.limits.channels (u.births.channels + 1)) refl refl

@@ -3,6 +3,7 @@
 use Rattle.std.proofs.Common.{◌≡◌, ◌⊎◌, inl, inr, ⊎_elim, ℕ, zero, suc, ◌+◌, ◌<◌, ◌≤◌, List, [], ◌∷◌, length, Option, Some, None, Bool, true, false, refl, sym, ap, ◌∙◌, subst, arith}
 use Rattle.std.specs.Prelude.{◌≢◌, nat_lt, pos, IsSome, slice_get}
 use Rattle.std.specs.FinMap as fin
+use Rattle.sp_base.proofs.Facts.{next_is_within}
 use Rattle.sp_tree.specs.Plain.{Program, Stmt, Stmts, No, And}
 use Rattle.sp_tree.specs.Uses.{ParallelOf}
 use Rattle.sp_tree.specs.Uses as use_of
@@ -83,9 +84,6 @@ some_part : (ss : Stmts) → ss ≢ No → 1 ≤ length (children ss)
 some_part No h = absurd (h refl)
 some_part (And st rest) h = omega arith
 
-lt_true : (a b : ℕ) → nat_lt a b ≡ true → a + 1 ≤ b
-lt_true a b e = Prim.grind (arith, e)
-
 module _ (G : Ground) (lv : Lives G) (c : Course) (s : StateOf G.g) (u : System Plain) (l : Linked G lv c s u) (i : ℕ) (d : Config (Memory Plain)) (at_i : u.condition i ≡ sys.Working d)
     (z : Stands G (lv (q G lv c s u l i d at_i)) (kids G lv c s u l i d at_i) (q G lv c s u l i d at_i) (c.since (q G lv c s u l i d at_i)) (pr G lv c s u l i d at_i) s.store d)
     (bs : List Birth) (todo : List Item) (o : Own) (m : Store) (x : Meant G lv c s u l i d at_i z (Got (source.Stops (Forked bs todo)) o, m)) (t : Machined G lv c s u l i d at_i z (Got (source.Stops (Forked bs todo)) o, m))
@@ -125,7 +123,7 @@ module _ (G : Ground) (lv : Lives G) (c : Course) (s : StateOf G.g) (u : System 
   frames_are = (t.8).frames
 
   may_fork : o.depth + 1 ≤ G.g.limits.depth
-  may_fork = lt_true o.depth G.g.limits.depth t.12
+  may_fork = next_is_within o.depth G.g.limits.depth t.12
 
   abbrev handing_at : ℕ → ℕ → Stmt → Handing
   handing_at e b st = handing_of G.code.layouts n1.frames (pos 0) b (child_table p G.moves G.shares e None st)

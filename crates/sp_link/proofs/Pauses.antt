@@ -1,6 +1,7 @@
 -- The entry `Pause` on both sides (`pausing`). `Entry_of` is the form of every event's lemma: the turn of the machine,
 -- the way of the meaning to the same entry, and the relation after it.
 use Rattle.std.proofs.Common.{◌≡◌, ◌⊎◌, inl, ℕ, ◌+◌, ◌==◌, List, ◌∷◌, true, false, if◌then◌else◌, cond, refl, sym, ap, ◌∙◌, subst, arith}
+use Rattle.sp_base.proofs.Facts.{is_none_plus}
 use Rattle.sp_journal.specs.Births.{after_event}
 use Rattle.sp_journal.specs.Maps.{at_key}
 use Rattle.sp_journal.specs.declared.entry.Event.TheVariants as event
@@ -136,8 +137,5 @@ module _ (G : Ground) (lv : Lives G) (c : Course) (s : StateOf G.g) (u : System 
           cost = 0;
           course = c1;
           state = x.at;
-          enters = λ left n y. subst (λ f. Entered G.g left c x.at true w f (0 + n)) h (l.faulted ∙ quiet, refl, subst (λ k. left c1 x.at k) (nothing n) y);
+          enters = λ left n y. subst (λ f. Entered G.g left c x.at true w f (0 + n)) h (l.faulted ∙ quiet, refl, subst (λ k. left c1 x.at k) (is_none_plus n) y);
         }
-          where
-            nothing : (n : ℕ) → n ≡ 0 + n
-            nothing n = omega arith

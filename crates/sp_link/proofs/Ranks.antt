@@ -3,6 +3,7 @@
 -- part's length.
 use Rattle.std.proofs.Common.{◌≡◌, ◌⊎◌, inl, inr, ⊎_elim, ℕ, zero, suc, ◌+◌, ◌<◌, ◌≤◌, ◌==◌, ℤ, List, [], ◌∷◌, ◌++◌, length, Option, Some, None, Bool, true, false, if◌then◌else◌, refl, ap, ◌∙◌, subst, arith}
 use Rattle.std.specs.Prelude.{slice_get, nat_lt}
+use Rattle.std.proofs.lemmas.Bool.{cases_lt}
 use Rattle.sp_tree.specs.declared.checked.KindOf.{KindOf}
 use Rattle.sp_tree.specs.declared.checked.KindOf.TheVariants as kind
 use Rattle.sp_tree.specs.declared.checked.Role.{Role}
@@ -91,17 +92,11 @@ bounded_ranked : (all : List Instr) → ((n p : ℕ) → rank n all p ≤ length
 unfolding rank IsRanked
 bounded_ranked all h p = below_most (rank (suc (length all)) all) (rank (length all) all) (most (rank (length all) all) (ways p (slice_get all p))) (ways p (slice_get all p)) no_more (omega arith)
   where
-    either : (a b : ℕ) → (a < b) ⊎ (b ≤ a)
-    either zero zero = inr (omega arith)
-    either zero (suc b) = inl (omega arith)
-    either (suc a) zero = inr (omega arith)
-    either (suc a) (suc b) = ⊎_elim (λ (x : a < b). inl (omega (arith, x))) (λ (x : b ≤ a). inr (omega (arith, x))) (either a b)
-
     no_more : (q : ℕ) → rank (suc (length all)) all q ≤ rank (length all) all q
     no_more q = ⊎_elim
         (λ (l : rank (length all) all q < length all). (let e = rank_stays all (length all) q l in omega (arith, e)))
         (λ (l : length all ≤ rank (length all) all q). (let e = h (suc (length all)) q in omega (arith, e, l)))
-        (either (rank (length all) all q) (length all))
+        (cases_lt (rank (length all) all q) (length all))
 
 -- ---- straight code: an instruction leads to the next one, or nowhere
 

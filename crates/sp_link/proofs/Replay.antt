@@ -1,6 +1,8 @@
 -- The other way round: where the meaning goes along a journal, the system does (`replays`). Turn and entry of the
 -- meaning are functions, and the machine's turn gives one of each; so the journal's entry is the machine's.
 use Rattle.std.proofs.Common.{◌≡◌, ◌⊎◌, inl, inr, ℕ, zero, suc, ◌+◌, ◌<◌, List, [], ◌∷◌, Some, None, Bool, true, false, if◌then◌else◌, ◌&&◌, refl, sym, ap, ◌∙◌, subst, arith}
+use Rattle.std.proofs.lemmas.Option.{none-some, same_Some}
+use Rattle.sp_base.proofs.Facts.{not_true_and_false}
 use Rattle.sp_journal.specs.declared.entry.Event.{Event}
 use Rattle.sp_journal.specs.declared.entry.Event.TheVariants as event
 use Rattle.sp_journal.specs.declared.entry.Way.{Way}
@@ -22,7 +24,7 @@ use Rattle.sp_code.specs.System.{System, Leads}
 use Rattle.sp_code.specs.System as sys
 use Rattle.sp_link.proofs.Entries.{entry}
 use Rattle.sp_link.proofs.Journal.{Now, IsOpen, AllBegan}
-use Rattle.sp_link.proofs.OneState.{Same, turn_one, some_is, none_some}
+use Rattle.sp_link.proofs.OneState.{Same, turn_one}
 use Rattle.sp_link.proofs.Relation.{Ground, Life, Lives, Linked, Began, at_open, Performs_all, run_is, left_of}
 
 -- ---- and so is its entry
@@ -44,9 +46,6 @@ module _ (g : Setting) where
   abbrev pub Here : Course → StateOf g → Course → StateOf g → ℕ → Type 0
   Here c1 s1 c2 s2 n = (c2 ≡ c1) × (s2 ≡ s1)
 
-  true_false : (b : Bool) → b ≡ true → b ≡ false → ⊥
-  true_false b e f = let x : true ≡ false = sym e ∙ f in cc x
-
   -- two entries from one place are one, and lead to one place
   pub entry_one : (left : Course → StateOf g → ℕ → Type 0) (c c1 : Course) (m s1 : StateOf g) (p : Bool) (q : Name) (a b : Happening) (n k : ℕ)
       → Entered g (Here c1 s1) c m p q a n → Entered g left c m p q b k → (a ≡ b) × ((r : ℕ) × left c1 s1 r)
@@ -57,17 +56,17 @@ module _ (g : Setting) where
 
       both : Forms (Here c1 s1) c m p q a n → Forms left c m p q b k → (a ≡ b) × ((r : ℕ) × left c1 s1 r)
       both (inl x) (inl y) = (x.0 ∙ sym y.0, (k, moved _ _ k x.2 y.2))
-      both (inl x) (inr (inl y)) = absurd (true_false c.faulted x.1 y.1)
-      both (inl x) (inr (inr y)) = absurd (true_false c.faulted x.1 y.0)
-      both (inr (inl x)) (inl y) = absurd (true_false c.faulted y.1 x.1)
+      both (inl x) (inr (inl y)) = absurd (not_true_and_false c.faulted x.1 y.1)
+      both (inl x) (inr (inr y)) = absurd (not_true_and_false c.faulted x.1 y.0)
+      both (inr (inl x)) (inl y) = absurd (not_true_and_false c.faulted y.1 x.1)
       both (inr (inl x)) (inr (inl y)) = (x.0 ∙ sym y.0, (k, moved _ _ k x.3 y.3))
-      both (inr (inl x)) (inr (inr y)) = absurd (true_false p x.2 y.1)
-      both (inr (inr x)) (inl y) = absurd (true_false c.faulted y.1 x.0)
-      both (inr (inr x)) (inr (inl y)) = absurd (true_false p y.2 x.1)
+      both (inr (inl x)) (inr (inr y)) = absurd (not_true_and_false p x.2 y.1)
+      both (inr (inr x)) (inl y) = absurd (not_true_and_false c.faulted y.1 x.0)
+      both (inr (inr x)) (inr (inl y)) = absurd (not_true_and_false p y.2 x.1)
       both (inr (inr x)) (inr (inr y)) =
-          let own : x.5.0 ≡ y.5.0 = some_is x.5.0 y.5.0 (sym x.5.1 ∙ y.5.1) in
-          let what : a ≡ b = some_is a b (sym x.5.2 ∙ ap (λ z. says g m q z) own ∙ y.5.2) in
-          let to : x.2 ≡ y.2 = some_is x.2 y.2 (sym x.5.3 ∙ y.5.3) in
+          let own : x.5.0 ≡ y.5.0 = same_Some x.5.0 y.5.0 (sym x.5.1 ∙ y.5.1) in
+          let what : a ≡ b = same_Some a b (sym x.5.2 ∙ ap (λ z. says g m q z) own ∙ y.5.2) in
+          let to : x.2 ≡ y.2 = same_Some x.2 y.2 (sym x.5.3 ∙ y.5.3) in
           (what, (y.3, moved _ _ y.3 x.6 (subst (λ z. left (after_entry q z (ticks_of g x.2 q) c) x.2 y.3) (sym what) (subst (λ z. left (after_entry q b (ticks_of g z q) c) z y.3) (sym to) y.6))))
 
 -- ---- a journal
@@ -187,16 +186,16 @@ module _ (G : Ground) where
         where
           by : (b : Bool) → all_ended s.condition (G.births.name i) k n ≡ b → (if b then Some pr else None) ≡ Some own → ⊥
           by true f g1 = let y = over_none G (lv (G.births.name i)) (λ a b. lv ((a, b) ∷ G.births.name i)) (G.births.name i) s.condition k n f in let a = z.count in let b = z.some in omega (arith, y, a, b)
-          by false f g1 = none_some own g1
+          by false f g1 = none-some own g1
 
       go : (x : sys.Condition Plain) → u.condition i ≡ x → Performs_all G lv (G.births.name i) c s (u.births.opens i) x → (d : Config (Memory Plain)) × (u.condition i ≡ sys.Working d)
       go sys.Absent h z = absurd z
       go (sys.Working d) h z = (d, h)
-      go (sys.Waits y d) h z = absurd (none_some own (idle (Waits z.0) z.1))
+      go (sys.Waits y d) h z = absurd (none-some own (idle (Waits z.0) z.1))
       go (sys.Joins left d) h z = absurd (joined left z.0 z.1 z.2 d z.3 z.4)
       go (sys.Laid d) h z = absurd (let a : true ≡ false = sym z.0 ∙ la in cc a)
-      go sys.Gone h z = absurd (none_some own (idle Ended z.0))
-      go (sys.Over d) h z = absurd (none_some own (idle Ended z.0))
+      go sys.Gone h z = absurd (none-some own (idle Ended z.0))
+      go (sys.Over d) h z = absurd (none-some own (idle Ended z.0))
 
 module _ (G : Ground) where
   turn_runs : (s m : StateOf G.g) (q : Name) (since n : ℕ) (p : Bool) → Turn G.g G.pause since q n s m p → (own : Process) × (running G.g s q ≡ Some own)

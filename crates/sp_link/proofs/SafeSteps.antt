@@ -4,6 +4,7 @@
 use Rattle.std.proofs.Common.{◌≡◌, ◌⊎◌, inl, inr, ⊎_elim, ℕ, zero, suc, ◌<◌, ◌==◌, ℤ, List, [], ◌∷◌, ◌++◌, length, Option, Some, None, Bool, true, false, if◌then◌else◌, eqb-true, refl, sym, ap, ◌∙◌, subst, arith}
 use Rattle.std.specs.Prelude.{nat_le}
 use Rattle.std.specs.FinMap as fin
+use Rattle.std.proofs.lemmas.Option.{none-some, same_Some}
 use Rattle.sp_base.specs.declared.fault.Fault.{Fault}
 use Rattle.sp_base.specs.declared.fault.Fault.TheVariants as fault
 use Rattle.sp_journal.specs.declared.entry.Birth.{Birth}
@@ -189,21 +190,15 @@ module _ (G : Ground) (lv : Lives G) (c : Course) (s : StateOf G.g) (u : System 
       lt : i < u.births.processes
       lt = here G lv c s u l i d at
 
-      one_birth : (a y : Birth) → ◌≡◌ {A = Option Birth} (Some a) (Some y) → a ≡ y
-      one_birth a y h = cc h
-
       above : (k : ℕ) → i ≡ k → 0 < i
-      above zero h = absurd (none_some b (sym l.began.root.0 ∙ ap (λ y. u.births.birth y) (sym h) ∙ born))
-        where
-          none_some : (y : Birth) → ◌≡◌ {A = Option Birth} None (Some y) → ⊥
-          none_some y h = cc h
+      above zero h = absurd (none-some b (sym l.began.root.0 ∙ ap (λ y. u.births.birth y) (sym h) ∙ born))
       above (suc k) h = omega (arith, h)
 
       of : (y : Birth) × (u.births.birth i ≡ Some y) × (y.parent < i) × (u.births.name i ≡ (y.fork, y.child) ∷ u.births.name y.parent) × (y.fork < u.births.forks y.parent)
       of = l.began.born i (above i refl) lt
 
       of_is : of.0 ≡ b
-      of_is = one_birth of.0 b (sym of.1 ∙ born)
+      of_is = same_Some of.0 b (sym of.1 ∙ born)
 
       older : b.parent < i
       older = subst (λ (y : Birth). y.parent < i) of_is of.2

@@ -9,6 +9,7 @@ use Rattle.std.specs.declared.cmp.Ordering.{Ordering}
 use Rattle.std.specs.declared.cmp.Ordering.TheVariants.{Less, Equal, Greater}
 use Rattle.std.proofs.lemmas.List.Sorted.{Contains-permutation, IsPermutation-sym}
 use Rattle.std.proofs.lemmas.Map.Keys.{IsDistinct-IsPermutation}
+use Rattle.std.proofs.lemmas.Bool.{cases_lt}
 use Rattle.sp_base.specs.Order.{name_cmp, name_total, same_name as name_of_tie}
 use Rattle.sp_journal.specs.declared.entry.Way.TheVariants as way
 use Rattle.sp_journal.specs.declared.outcome.Waiter.{Waiter}
@@ -19,7 +20,6 @@ use Rattle.sp_meaning.specs.Ends.{Waiting, IsIn, IsSorted, name_before, waiter_o
 use Rattle.sp_meaning.proofs.Keys.{name_test}
 use Rattle.sp_code.specs.Control.{Control, Doing, Unborn, Ready, Out, Sending, Receiving, Joining, Laid, Ended, Gone}
 use Rattle.sp_link.specs.Endings.{IsWaiting, AreAllWaiting, with_waiting, waiting_from}
-use Rattle.sp_link.proofs.Journal.{either}
 use Rattle.sp_link.proofs.NameOrder.{in_order, one_name}
 
 -- ---- a list that is permuted in another form
@@ -205,7 +205,7 @@ module _ (k : Control) (lawful : Lawful k.births) (unborn : (q : ℕ) → k.birt
       by Gone ih = ih
 
   there : (i : ℕ) (w : Waiting) → At i w → i < k.births.processes
-  there i w a = ⊎_elim (λ (h : i < k.births.processes). h) (λ (h : k.births.processes ≤ i). absurd (nobody (unborn i h) a.1)) (either i k.births.processes)
+  there i w a = ⊎_elim (λ (h : i < k.births.processes). h) (λ (h : k.births.processes ≤ i). absurd (nobody (unborn i h) a.1)) (cases_lt i k.births.processes)
     where
       nobody : k.doing i ≡ Unborn → ((k.doing i ≡ Sending a.0) × (w ≡ record { who = k.births.name i; way = way.Send; channel = channel k.births a.0 }))
           ⊎ ((k.doing i ≡ Receiving a.0) × (w ≡ record { who = k.births.name i; way = way.Receive; channel = channel k.births a.0 })) → ⊥

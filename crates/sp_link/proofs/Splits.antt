@@ -4,6 +4,8 @@
 use Rattle.std.proofs.Common.{◌≡◌, ◌⊎◌, inl, inr, ⊎_elim, ℕ, zero, suc, ◌+◌, ◌<◌, ℤ, List, ◌∷◌, length, Option, Some, None, true, refl, sym, ap, ◌∙◌, subst, arith}
 use Rattle.std.specs.Prelude.{◌≢◌, IsSome, slice_get}
 use Rattle.std.specs.FinMap as fin
+use Rattle.std.proofs.lemmas.Option.{none-some}
+use Rattle.sp_base.proofs.Facts.{less_more_or_same}
 use Rattle.sp_tree.specs.Interference.{IsIndexOf, IsMember, KeepsI1}
 use Rattle.sp_tree.specs.Plain.{Program, Variable, Stmt, Stmts, No, And, Parallel}
 use Rattle.sp_tree.specs.Sets.{IsTarget, IsUsed}
@@ -91,12 +93,6 @@ table_of p moves shares No q j lt = absurd (omega (arith, lt))
 table_of p moves shares (And s rest) q zero lt = (s, refl, q, refl)
 table_of p moves shares (And s rest) q (suc j) lt = table_of p moves shares rest (after p q s + 1) j (omega (arith, lt))
 
-order : (j k : ℕ) → (j < k) ⊎ ((k < j) ⊎ (j ≡ k))
-order zero zero = inr (inr refl)
-order zero (suc k) = inl (omega arith)
-order (suc j) zero = inr (inl (omega arith))
-order (suc j) (suc k) = ⊎_elim (λ (h : j < k). inl (omega (arith, h))) (λ h. ⊎_elim (λ (g : k < j). inr (inl (omega (arith, g)))) (λ (g : j ≡ k). inr (inr (ap suc g))) h) (order j k)
-
 same_role : (i v : Variable) → Some i ≡ Some v → i.role ≡ Rattle.sp_tree.specs.declared.checked.Role.TheVariants.Index → v.role ≡ Rattle.sp_tree.specs.declared.checked.Role.TheVariants.Index
 same_role i v e h = let same : i ≡ v = cc e in ap (λ (y : Variable). y.role) (sym same) ∙ h
 
@@ -138,14 +134,11 @@ module _ (G : Ground) (lf : Life) (kids : ℕ → ℕ → Life) (q : Name) where
     no_index_aimed : (y : ℕ) → IsIndexOf p y → IsTarget p (In_stmt whole) y → ⊥
     no_index_aimed y i a = let h = reached_formed G a.0 pl.formed (Target y) a.1 in h.2 (same_role i.0 h.0 (sym i.1 ∙ h.1) i.2)
 
-    no_own : (y : ℕ) → None ≡ Some y → ⊥
-    no_own y e = cc e
-
     -- two variables with one spot are one
     one_used : (y z : ℕ) → IsTarget p (In_stmt whole) y → IsUsed p (In_stmt whole) z → (a : Spot) → spot_of G.code.layouts n.frames y ≡ Some a → spot_of G.code.layouts n.frames z ≡ Some a → y ≡ z
     one_used y z ay az a e g = once G.g G.code w (Named G) (Called G) Wr Rd lf.J lf.low (length lf.below) lf.born since G.pause lf.moved G.formed G.laid G.free f.reads G.moves G.shares G.sets t whole pl.sound unread child new_name table refl refl value 0
         (consoles G lf kids q) sc pl.chain (λ x up own b. pl.indexes x up b) (λ x b own. parts_scoped G true sc first ss stand pl.formed x b)
-        y z (inl ay) az (λ i. no_index_aimed y i ay) (no_own y) (no_own z) a (ap (λ fs. spot_of G.code.layouts fs y) (sym t.machine_frames) ∙ e) (ap (λ fs. spot_of G.code.layouts fs z) (sym t.machine_frames) ∙ g)
+        y z (inl ay) az (λ i. no_index_aimed y i ay) (none-some y) (none-some z) a (ap (λ fs. spot_of G.code.layouts fs y) (sym t.machine_frames) ∙ e) (ap (λ fs. spot_of G.code.layouts fs z) (sym t.machine_frames) ∙ g)
 
     right : (l : Loc) (y : ℕ) → IsUsed p (In_stmt whole) y → Rattle.sp_meaning.specs.Owning.stands p (sources js) y ≡ Some l → Rd l
     right l y a e = right_of G.g G.code w (Named G) (Called G) Wr Rd lf.J lf.low (length lf.below) lf.born since G.pause lf.moved G.formed G.laid G.free f.reads G.moves G.shares G.sets t whole pl.sound unread child new_name table refl refl value 0 l y a e
@@ -225,7 +218,7 @@ module _ (G : Ground) (lf : Life) (kids : ℕ → ℕ → Life) (q : Name) where
     unshared j k a c d =
         let y = one_used c.2 d.2 (aims j c.0 c.1 c.2 c.3) (uses k d.0 d.1 d.2 d.3) a c.5 d.5 in
         let used : IsUsed p (In_stmt d.0) c.2 = subst (λ x. IsUsed p (In_stmt d.0) x) (sym y) d.3 in
-        by y used (order j k)
+        by y used (less_more_or_same j k)
       where
         by : c.2 ≡ d.2 → IsUsed p (In_stmt d.0) c.2 → (j < k) ⊎ ((k < j) ⊎ (j ≡ k)) → ⊥
         by y used (inl lt) = (parts_apart p ss rules j k c.0 d.0 lt c.1 d.1 c.2).0 c.3 used
@@ -252,7 +245,7 @@ module _ (G : Ground) (lf : Life) (kids : ℕ → ℕ → Life) (q : Name) where
 
     -- and what moves to two children differs
     pub parts_differ : (j k : ℕ) → j < count → k < count → j ≢ k → (a : Spot) → In a (one j).moved → In a (one k).moved → ⊥
-    parts_differ j k lj lk ne a h g = by (order j k)
+    parts_differ j k lj lk ne a h g = by (less_more_or_same j k)
       where
         by : (j < k) ⊎ ((k < j) ⊎ (j ≡ k)) → ⊥
         by (inl lt) = moves_apart j k a lt (changes j lj a h) (changes k lk a g)

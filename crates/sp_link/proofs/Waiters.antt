@@ -2,6 +2,7 @@
 -- `waits_runs`); so where nobody can go on in the one, nobody can in the other, and the same ones wait (`stuck_means`,
 -- `stuck_runs`).
 use Rattle.std.proofs.Common.{◌≡◌, ℕ, ◌<◌, ◌∷◌, List, Option, Some, None, false, refl, sym, ap, ◌∙◌, subst}
+use Rattle.std.proofs.lemmas.Option.{none-some, same_Some}
 use Rattle.sp_journal.specs.declared.entry.Way.TheVariants as way
 use Rattle.sp_journal.specs.Births.{channel}
 use Rattle.sp_cell.specs.Map.{Plain}
@@ -60,11 +61,8 @@ module _ (G : Ground) (lv : Lives G) (c : Course) (s : StateOf G.g) (u : System 
       let lt = has_number G lv c s u l h.0 (sys.Waits h.1 h.2) h.3 (λ e. cc e) in
       let x : Performs_all G lv (G.births.name h.0) c s (u.births.opens h.0) (sys.Waits h.1 h.2) = subst (λ y. Performs_all G lv (G.births.name h.0) c s (u.births.opens h.0) y) h.3 (l.does h.0 lt) in
       let is : Some w ≡ Some (record { who = G.births.name h.0; way = way_of (x.0).cargo; channel = (x.0).channel }) = sym h.4 ∙ offers h.0 lt h.1 h.2 x in
-      let same = one is in
+      let same = same_Some _ _ is in
       (x.0, ap (λ (y : Waiting). s.condition y.who) same ∙ x.1, ap (λ (y : Waiting). y.way) same, ap (λ (y : Waiting). y.channel) same)
-    where
-      one : {x y : Waiting} → Some x ≡ Some y → x ≡ y
-      one e = cc e
 
   pub waits_runs : (w : Waiting) → WaitsSo G.g s w → WaitsAs u w
   waits_runs w h =
@@ -75,10 +73,7 @@ module _ (G : Ground) (lv : Lives G) (c : Course) (s : StateOf G.g) (u : System 
       present e = cc e
 
       works : {x : Condition Process Held Address} {pr : Process} (q : Name) → x ≡ Waits h.0 → working_in s.condition q x ≡ Some pr → ⊥
-      works q e r = no (sym (ap (working_in s.condition q) e) ∙ r)
-        where
-          no : {pr : Process} → ◌≡◌ {A = Option Process} None (Some pr) → ⊥
-          no e = cc e
+      works q e r = none-some _ (sym (ap (working_in s.condition q) e) ∙ r)
 
       ended : ◌≡◌ {A = Condition Process Held Address} Ended (Waits h.0) → ⊥
       ended e = cc e
@@ -122,12 +117,9 @@ module _ (G : Ground) (lv : Lives G) (c : Course) (s : StateOf G.g) (u : System 
   pub stuck_runs : (ws : List Waiting) → u.faulted ≡ false → IsDeadlock G.g s ws → IsStuck u ws
   stuck_runs ws quiet k = record {
     quiet = quiet;
-    idle = λ i d e. (let z = somebody G lv c s u l i d e in no (sym (k.idle (G.births.name i)) ∙ z.1));
+    idle = λ i d e. (let z = somebody G lv c s u l i d e in none-some _ (sym (k.idle (G.births.name i)) ∙ z.1));
     goes_on = λ d e. k.goes_on (root_over G lv c s u l d e);
     sorted = k.sorted;
     only = λ w i. waits_runs w (k.only w i);
     whole = λ w h. k.whole w (waits_means w h);
   }
-    where
-      no : {pr : Process} → ◌≡◌ {A = Option Process} None (Some pr) → ⊥
-      no e = cc e

@@ -3,8 +3,9 @@ use Rattle.std.proofs.Common.{◌≡◌, ◌≢◌, ℕ, zero, suc, ◌+◌, ◌
 use Rattle.std.specs.Prelude.{Result, Ok, Err, IfOk, if◌then◌else◌, reverse, slice_get, nat_lt, nat_le, ◌&&◌, sum}
 use Rattle.std.proofs.lemmas.List.{append-nil, reverse-append, drop_all, length-replicate}
 use Rattle.std.proofs.Math.Seq.{drop-cons}
-use Rattle.std.proofs.lemmas.Bool.{lt-ltb, le-ltb, eqb-true, leb-true}
+use Rattle.std.proofs.lemmas.Bool.{lt-ltb, le-ltb, eqb-true, leb-true, and_parts}
 use Rattle.std.specs.FinMap as map
+use Rattle.std.proofs.lemmas.Option.{same_Some}
 use Rattle.sp_base.specs.declared.fault.Fault.{Fault}
 use Rattle.sp_base.specs.declared.fault.Fault.TheVariants as fault
 use Rattle.sp_base.specs.declared.limits.Limits.{Limits}
@@ -45,12 +46,9 @@ one_more : (k : ℕ) (o : Operand) (es : List m.Entry) (found : List (ℕ × Add
 one_more k (operand.Number n) es found a e = absurd cc
 one_more k (operand.Channel n) es found a e = absurd cc
 one_more k (operand.Pointer b) es found a e =
-    let same : b ≡ a = pointers b a e in
+    let same : b ≡ a = same_Some b a e in
     let one : suc k ≡ k + 1 = omega arith in
     ap (λ (x : Address). found ++ (k, x) ∷ references (suc k) es) same ∙ ap (λ n. found ++ (k, a) ∷ references n es) one ∙ sym (append_assoc found ((k, a) ∷ []) (references (k + 1) es))
-  where
-    pointers : (b a : Address) → ◌≡◌ {A = Option Address} (Some b) (Some a) → b ≡ a
-    pointers b a e = cc
 one_more k (operand.Cells cs) es found a e = absurd cc
 one_more k (operand.Link r) es found a e = absurd cc
 one_more k (operand.Reply r) es found a e = absurd cc
@@ -159,10 +157,6 @@ new_piece mm n v c k cs h =
     = pieces_stay (map.insert mm (record { frame = n; variable = v }) (Own (replicate c cell.Undefined))) n (v + 1) v cs (omega arith) ∙ get_here mm (record { frame = n; variable = v }) (Own (replicate c cell.Undefined)) in
     (subst IsOwn (sym is) tt, subst (λ (o : Option Content). k ≤ length (cells_of o)) (sym is) (rw (length-replicate c cell.Undefined) h))
 
-both_true : (a b : Bool) → (a && b) ≡ true → (a ≡ true) × (b ≡ true)
-both_true true b e = (refl, e)
-both_true false b e = absurd cc
-
 first_takes : (mm : Map) (n v : ℕ) (f : Formal) (e : m.Entry) (c : ℕ) (cs : List ℕ) → m.fits_formal f e ≡ true → HasRoom f (Some c) → Takes (with_pieces mm n v (c ∷ cs)) n v e
 first_takes mm n v (formal.Value k) (m.Number x) c cs e h = let w : k ≡ 1 = eqb-true k 1 e in new_piece mm n v c 1 cs (omega (arith, w, h))
 first_takes mm n v (formal.Value k) (m.Chan x) c cs e h = let w : k ≡ 1 = eqb-true k 1 e in new_piece mm n v c 1 cs (omega (arith, w, h))
@@ -186,7 +180,7 @@ take_from mm n v (f ∷ fs) (x ∷ es) [] e h = absurd (none f (h 0 f refl))
     none : (f : Formal) → HasRoom f None → ⊥
     none f w = w
 take_from mm n v (f ∷ fs) (x ∷ es) (c ∷ ss) e h =
-    let w = both_true (m.fits_formal f x) (m.fit_formals fs es) e in
+    let w = and_parts (m.fits_formal f x) (m.fit_formals fs es) e in
     let one : v + 1 ≡ suc v = omega arith in (
       first_takes mm n v f x c ss w.0 (h 0 f refl),
       subst (λ j. TakeAll (with_pieces (map.insert mm (record { frame = n; variable = v }) (Own (replicate c cell.Undefined))) n (v + 1) ss) n j es) one
@@ -271,7 +265,7 @@ module _ (g : Setting) (code : Parts) (l : Layout) (up r : ℕ) (os : List Opera
     call_may = when_true ((memory plain g).may_open up n) (third arguments rest) (λ e. begun_safe (when_is (m.fit_formals l.formals arguments) (second arguments rest) call_fits ∙ e))
 
     pub call_numbered : next_frame n.store ≤ 18446744073709551615
-    call_numbered = leb-true (next_frame n.store) 18446744073709551615 (both_true (is_there (frames_up up n.frames)) (nat_le (next_frame n.store) 18446744073709551615) call_may).1
+    call_numbered = leb-true (next_frame n.store) 18446744073709551615 (and_parts (is_there (frames_up up n.frames)) (nat_le (next_frame n.store) 18446744073709551615) call_may).1
 
     call_is : call ≡ third arguments rest
     call_is = pops begun (length l.formals) os call_enough ∙ when_is (m.fit_formals l.formals arguments) (second arguments rest) call_fits ∙ when_is ((memory plain g).may_open up n) (third arguments rest) call_may

@@ -4,6 +4,7 @@ use Rattle.std.proofs.lemmas.List.Elements.{All-get_or}
 use Rattle.std.specs.Prelude.{sum, slice_get, ◌==◌, if◌then◌else◌}
 use Rattle.std.proofs.lemmas.Bool.{eq-eqb, ne_eqb}
 use Rattle.std.proofs.lemmas.List.{drop_all, take_all}
+use Rattle.std.proofs.lemmas.Option.{same_Some}
 use Rattle.sp_code.specs.declared.code.Formal.{Formal}
 use Rattle.sp_code.specs.declared.code.Layout.{Layout}
 use Rattle.sp_code.specs.declared.code.Parts.{Parts}
@@ -25,15 +26,12 @@ layout_on (m ∷ ls) b (suc i) l h e k = let one : suc (i + 1) ≡ suc i + 1 = o
 pub layout_end : (ls : List Layout) (b i : ℕ) → length ls ≤ i → layout_of (drop i ls) b ≡ None
 layout_end ls b i h = ap (λ (x : List Layout). layout_of x b) (drop_all i ls h)
 
-some_same : (l m : Layout) → ◌≡◌ {A = Option Layout} (Some l) (Some m) → l ≡ m
-some_same l m e = cc
-
 rest_distinct : (k : Layout) (ls : List Layout) → HasDistinctBlocks (k ∷ ls) → HasDistinctBlocks ls
 rest_distinct k ls h i j l m p q e = let w : suc i ≡ suc j = h (suc i) (suc j) l m p q e in omega (arith, w)
 
 found : (ls : List Layout) (i : ℕ) (l : Layout) → HasDistinctBlocks ls → slice_get ls i ≡ Some l → layout_of ls l.block ≡ Some l
 found [] i l h e = absurd cc
-found (k ∷ ls) zero l h e = let w : k ≡ l = some_same k l e in rw (eq-eqb k.block l.block (ap (λ (x : Layout). x.block) w)) e
+found (k ∷ ls) zero l h e = let w : k ≡ l = same_Some k l e in rw (eq-eqb k.block l.block (ap (λ (x : Layout). x.block) w)) e
 found (k ∷ ls) (suc i) l h e = rw (ne_eqb k.block l.block (λ w. let z : 0 ≡ suc i = h 0 (suc i) k l refl e w in absurd (omega (arith, z)))) (found ls i l (rest_distinct k ls h) e)
 
 got : (ls : List Layout) (i : ℕ) (l : Layout) → i < length ls → l ≡ get_or ls i l → slice_get ls i ≡ Some l
@@ -53,7 +51,7 @@ place_of [] b l e = absurd cc
 place_of (k ∷ ls) b l e = go (k.block == b) (place_of ls b l) e
   where
     go : (t : Bool) → (layout_of ls b ≡ Some l → (i : ℕ) × (i < length ls) × (l ≡ get_or ls i l)) → (if t then Some k else layout_of ls b) ≡ Some l → (i : ℕ) × (i < length (k ∷ ls)) × (l ≡ get_or (k ∷ ls) i l)
-    go true rest w = (0, omega arith, sym (some_same k l w))
+    go true rest w = (0, omega arith, sym (same_Some k l w))
     go false rest w = let r = rest w in (suc r.0, omega (arith, r.1), r.2)
 
 pub few_sizes : (p : Parts) (b : ℕ) (l : Layout) → KeepsSizes p → layout_of p.layouts b ≡ Some l → length l.sizes ≤ 4294967294

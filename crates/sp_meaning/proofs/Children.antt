@@ -2,6 +2,7 @@
 -- disjointness with them.
 use Rattle.std.proofs.Common.{◌≡◌, ◌≢◌, inl, inr, ℕ, zero, suc, ◌==◌, ◌&&◌, Bool, true, false, List, [], ◌∷◌, length, Option, Some, None, refl, sym, ap, ◌∙◌, subst, arith, if◌then◌else◌, eqb-true, eq-eqb}
 use Rattle.std.specs.Prelude.{slice_get, ℤ}
+use Rattle.sp_base.proofs.Facts.{first_true, second_true}
 use Rattle.sp_tree.specs.declared.checked.Role.{Role}
 use Rattle.sp_tree.specs.declared.checked.Role.TheVariants as role
 use Rattle.sp_tree.specs.Plain.{Program, Variable, Stmt}
@@ -11,7 +12,7 @@ use Rattle.sp_meaning.specs.Deeds.{Birth, push, with_index}
 use Rattle.sp_tree.specs.Uses.{Use, Target, Seen, CallOf, ParallelOf, ForallOf, Stop, In_stmt}
 use Rattle.sp_tree.specs.Sets.{IsUsed, Reach}
 use Rattle.sp_meaning.specs.Owning.{find, Linked, cell_of, reference_of, stands_by, stands_at, stands, Touches, Right, Sound, Fit, Aimed, Used, IsClearOf, Born}
-use Rattle.sp_meaning.proofs.Keys.{name_test, and_left, and_right}
+use Rattle.sp_meaning.proofs.Keys.{name_test}
 use Rattle.sp_meaning.proofs.Rights.{All, IsAbove, Fair_rights}
 use Rattle.sp_meaning.proofs.Deeding.{push_good}
 
@@ -137,7 +138,7 @@ module _ (p : Program) (W R : Name → Loc → Type 0) (q : Name) (k : ℕ) (fs 
 
   -- names in question
   pub it_is : (r : Name) (m : ℕ) → (same_name q r && (m == k)) ≡ true → (q ≡ r) × (m ≡ k)
-  it_is r m e = ((name_test q r).0 (and_left (same_name q r) (m == k) e), eqb-true m k (and_right (same_name q r) (m == k) e))
+  it_is r m e = ((name_test q r).0 (first_true (same_name q r) (m == k) e), eqb-true m k (second_true (same_name q r) (m == k) e))
 
   module _ (fair : Fair_rights W R) (new : (i : ℕ) (l : Loc) → R ((k, i) ∷ q) l → ⊥) where
     no_old : (r : Name) (m i : ℕ) (l : Loc) → (q ≡ r) × (m ≡ k) → R ((m, i) ∷ r) l → ⊥

@@ -2,6 +2,7 @@
 -- to is fair.
 use Rattle.std.proofs.Common.{◌≡◌, ◌≢◌, ◌⊎◌, inl, inr, ⊎_elim, sym, ap, ◌∙◌, subst, arith, ◌==◌, eqb-true, eq-eqb, ℕ, zero, suc, ◌+◌, ◌≤◌, Bool, true, false, List, [], ◌∷◌, ◌++◌, length, Option, Some, None, refl, if◌then◌else◌}
 use Rattle.std.specs.Prelude.{◌+ℤ◌, ◌-ℤ◌, ℤ, pos, nat_abs, slice_get, nat_lt, int_le, int_lt, take}
+use Rattle.std.proofs.lemmas.Option.{same_Some}
 use Rattle.sp_tree.specs.Plain.{Expr, Typed, Actuals, Var, Program, Variable, Block, Stmt, Empty, Assign, Call, Sequence, If, IfElse, While, Repeat, For, Case, Parallel, Forall, Assume, ReadValue, ReadLine, WriteValue, WriteText, WriteLine, Open, Send, Receive, Stmts, No, And, On, Arms, NoArm, Or}
 use Rattle.sp_base.specs.declared.fault.Fault.{Fault}
 use Rattle.sp_base.specs.declared.fault.Fault.TheVariants as fault
@@ -19,7 +20,7 @@ use Rattle.sp_tree.specs.Uses.{Use, Target, Seen, CallOf, ParallelOf, ForallOf, 
 use Rattle.sp_tree.specs.Sets.{Reach, IsTarget, IsUsed}
 use Rattle.sp_tree.specs.Interference.{IsFreeOfInterference, KeepsI1, KeepsRules}
 use Rattle.sp_meaning.specs.Owning.{find, Linked, below, last_of, stands_by, stands_at, stands, cell_of, Touches, Gave, Sound, Ready, Fit, AreClear, IsClearOf, Born, Fair}
-use Rattle.sp_meaning.proofs.Static.{some_is, sought}
+use Rattle.sp_meaning.proofs.Static.{sought}
 use Rattle.sp_meaning.proofs.Within.{reach_part, address_of_keeps, MayRead, Within, within_then, Keeps, Any, part, then_keeps, then_stays, give_keeps, give_stays, fail_stays, lost_stays, lost_keeps, or_lost_keeps, or_lost_stays, fetch_stays, assign_stays, ordinal_stays, channel_stays, kind_stays, read_stays, Of, place_of_keeps, CallsKeep, input_written, output_written, left_stays, value_stays, actuals_keeps, Writable, address_keeps, ordinal_of_stays}
 use Rattle.sp_meaning.proofs.Entered.{fresh, fresh_linked, fresh_sound}
 
@@ -502,7 +503,7 @@ module _ (set : Setting) (q : Name) (W R : Loc → Type 0) (low : ℕ) (own : (n
 
       may : (y : Place) → Of q W R hs (stands set.program hs x) y → MayRead q W R hs set y
       may (At a) d =
-          let same : Cell h.3.owner h.3.number x ≡ a.spot = some_is (Cell h.3.owner h.3.number x) a.spot (sym is ∙ d) in
+          let same : Cell h.3.owner h.3.number x ≡ a.spot = same_Some (Cell h.3.owner h.3.number x) a.spot (sym is ∙ d) in
           reads a.spot (subst W same (subst (λ y. W (Cell y h.3.number x)) (sym h.5) (own h.3.number x number)))
       may (Fixed n) d = tt
 

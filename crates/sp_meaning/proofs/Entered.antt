@@ -2,6 +2,7 @@
 -- sound in the new one.
 use Rattle.std.proofs.Common.{◌≡◌, ◌≢◌, ◌⊎◌, inl, inr, ⊎_elim, ℕ, zero, suc, ◌<◌, ◌≤◌, ◌==◌, Bool, true, false, List, [], ◌∷◌, length, Option, Some, None, refl, sym, ap, ◌∙◌, subst, arith, if◌then◌else◌, eqb-true, eq-eqb}
 use Rattle.std.specs.Prelude.{slice_get}
+use Rattle.std.proofs.lemmas.Option.{same_Some}
 use Rattle.sp_tree.specs.declared.checked.Role.{Role}
 use Rattle.sp_tree.specs.declared.checked.Role.TheVariants as role
 use Rattle.sp_tree.specs.Plain.{Program, Variable, Block, Entire, ByValue, ByReference, Actuals, Nothing, Pass}
@@ -13,7 +14,7 @@ use Rattle.sp_tree.specs.Uses.{Use, Target, Seen, CallOf, ParallelOf, ForallOf, 
 use Rattle.sp_tree.specs.Sets.{IsBelow, IsFree, Passes, Reach, IsUsed, Implicit}
 use Rattle.sp_tree.specs.Interference.{refs, IsMember, AllDifferent, IsFreeOfInterference}
 use Rattle.sp_meaning.specs.Owning.{find, IsOlder, AreOlder, Linked, cell_of, spot_of, reference_of, console, stands_by, stands_at, stands, Touches, Gave, Right, Sound}
-use Rattle.sp_meaning.proofs.Static.{some_is, lower, through}
+use Rattle.sp_meaning.proofs.Static.{lower, through}
 
 older_more : (n m : ℕ) (l : Loc) → n ≤ m → IsOlder n l → IsOlder m l
 older_more n m (Cell q k x) h o = omega (arith, o, h)
@@ -29,7 +30,7 @@ references_older fits n [] f l e = absurd (cc e)
 references_older fits n (g ∷ fs) f l e = go (λ m x. all_older_more (length fs) (suc (length fs)) f.references (omega arith) (references_older fits m fs f l.3 x)) (length (g ∷ fs) == n) e
   where
     inner : ((m : ℕ) → find fits m fs ≡ Some f → AreOlder (suc (length fs)) f.references) → (b : Bool) → (if b then Some g else find fits g.link fs) ≡ Some f → AreOlder (suc (length fs)) f.references
-    inner ih true e = subst (λ (z : Frame). AreOlder (suc (length fs)) z.references) (some_is g f e) (all_older_more (length fs) (suc (length fs)) g.references (omega arith) l.2)
+    inner ih true e = subst (λ (z : Frame). AreOlder (suc (length fs)) z.references) (same_Some g f e) (all_older_more (length fs) (suc (length fs)) g.references (omega arith) l.2)
     inner ih false e = ih g.link e
 
     go : ((m : ℕ) → find fits m fs ≡ Some f → AreOlder (suc (length fs)) f.references) → (b : Bool) → (if b then (if fits g.home then Some g else find fits g.link fs) else find fits n fs) ≡ Some f → AreOlder (suc (length fs)) f.references
@@ -41,7 +42,7 @@ referred_older n x [] a o e = absurd (cc e)
 referred_older n x (r ∷ rs) a o e = go (λ d. referred_older n x rs a o.1 d) (x == r.0) e
   where
     go : (referred x rs ≡ Some a → IsOlder n a.spot) → (b : Bool) → (if b then Some r.1 else referred x rs) ≡ Some a → IsOlder n a.spot
-    go ih true e = subst (λ (z : Address). IsOlder n z.spot) (some_is r.1 a e) o.0
+    go ih true e = subst (λ (z : Address). IsOlder n z.spot) (same_Some r.1 a e) o.0
     go ih false e = ih e
 
 -- what a variable stands for is older than a new frame
@@ -50,11 +51,11 @@ stands_older p fs x l k e = by_variable (slice_get p.variables x) e
   where
     by_cell : (b : ℕ) → (z : Option Frame) → find (is_block b) (length fs) fs ≡ z → cell_of x z ≡ Some l → IsOlder (length fs) l
     by_cell b None s e = absurd (cc e)
-    by_cell b (Some f) s e = subst (λ z. IsOlder (length fs) z) (some_is (Cell f.owner f.number x) l e) (lower (is_block b) (length fs) fs f k s)
+    by_cell b (Some f) s e = subst (λ z. IsOlder (length fs) z) (same_Some (Cell f.owner f.number x) l e) (lower (is_block b) (length fs) fs f k s)
 
     by_spot : (f : Frame) → AreOlder (length fs) f.references → (z : Option Address) → referred x f.references ≡ z → spot_of z ≡ Some l → IsOlder (length fs) l
     by_spot f o None r e = absurd (cc e)
-    by_spot f o (Some a) r e = subst (λ z. IsOlder (length fs) z) (some_is a.spot l e) (referred_older (length fs) x f.references a o r)
+    by_spot f o (Some a) r e = subst (λ z. IsOlder (length fs) z) (same_Some a.spot l e) (referred_older (length fs) x f.references a o r)
 
     by_reference : (b : ℕ) → (z : Option Frame) → find (is_block b) (length fs) fs ≡ z → reference_of x z ≡ Some l → IsOlder (length fs) l
     by_reference b None s e = absurd (cc e)
@@ -65,7 +66,7 @@ stands_older p fs x l k e = by_variable (slice_get p.variables x) e
     by_console (suc n) e = subst (λ z. IsOlder (length fs) z) e tt
 
     by_role : (i : Variable) (r : Role) → stands_by fs x i r ≡ Some l → IsOlder (length fs) l
-    by_role i role.Console e = by_console x (some_is (console x) l e)
+    by_role i role.Console e = by_console x (same_Some (console x) l e)
     by_role i role.Local e = by_cell i.block _ refl e
     by_role i role.Value e = by_cell i.block _ refl e
     by_role i role.Reference e = by_reference i.block _ refl e
@@ -93,7 +94,7 @@ module _ (p : Program) (fs : List Frame) where
   comes (Pass (ByReference (Entire v ss)) rest) (z ∷ zs) (PlaceOf b ∷ gs) g x a e = go (λ d. comes rest zs gs g.1 x a d) (x == z) e
     where
       go : (referred x (references zs gs) ≡ Some a → Comes rest a) → (c : Bool) → (if c then Some b else referred x (references zs gs)) ≡ Some a → (w : ℕ) × IsMember w (v ∷ refs rest) × (stands p fs w ≡ Some a.spot)
-      go ih true d = (v, inl refl, g.0 ∙ ap (λ (y : Address). Some y.spot) (some_is b a d))
+      go ih true d = (v, inl refl, g.0 ∙ ap (λ (y : Address). Some y.spot) (same_Some b a d))
       go ih false d = let r = ih d in (r.0, inr r.1, r.2)
 
   -- two of them for two variables, since the actual variable parameters of a call are different (rule I4)
@@ -119,10 +120,10 @@ module _ (p : Program) (fs : List Frame) where
       go ih true es true et e d = absurd (n (eqb-true x z es ∙ sym (eqb-true y z et)))
       go ih true es false et e d =
           let r = comes rest zs gs g.1 y b d in
-          (v, r.0, inl refl, inr r.1, λ (h : v ≡ r.0). k.0 (subst (λ m. IsMember m (refs rest)) (sym h) r.1), g.0 ∙ ap (λ (y : Address). Some y.spot) (some_is c a e), r.2)
+          (v, r.0, inl refl, inr r.1, λ (h : v ≡ r.0). k.0 (subst (λ m. IsMember m (refs rest)) (sym h) r.1), g.0 ∙ ap (λ (y : Address). Some y.spot) (same_Some c a e), r.2)
       go ih false es true et e d =
           let r = comes rest zs gs g.1 x a e in
-          (r.0, v, inr r.1, inl refl, λ (h : r.0 ≡ v). k.0 (subst (λ m. IsMember m (refs rest)) h r.1), r.2, g.0 ∙ ap (λ (y : Address). Some y.spot) (some_is c b d))
+          (r.0, v, inr r.1, inl refl, λ (h : r.0 ≡ v). k.0 (subst (λ m. IsMember m (refs rest)) h r.1), r.2, g.0 ∙ ap (λ (y : Address). Some y.spot) (same_Some c b d))
       go ih false es false et e d = let r = ih e d in (r.0, r.1, inr r.2, inr r.3, r.4, r.5, r.6)
 
   given_older : Linked fs → (args : Actuals) (zs : List ℕ) (gs : List Given) → Gave p fs args gs → AreOlder (length fs) (references zs gs)
@@ -185,7 +186,7 @@ module _ (p : Program) (q : Name) (W R : Loc → Type 0) (low : ℕ) (own : (n x
 
   free_if : (b x : ℕ) (i : Variable) → slice_get p.variables x ≡ Some i → i.block < b → IsFree p b x
   free_if b x i e lt j d n h =
-      let same : i ≡ j = some_is i j (sym e ∙ d) in
+      let same : i ≡ j = same_Some i j (sym e ∙ d) in
       omega (arith, lt, below_le n j.block b h, ap (λ (z : Variable). z.block) same)
 
   module _ (fs : List Frame) (b : ℕ) (k : Block) (args : Actuals) (gs : List Given) (c : ℕ) (outer : Frame) where
@@ -223,10 +224,10 @@ module _ (p : Program) (q : Name) (W R : Loc → Type 0) (low : ℕ) (own : (n x
         where
           by_spot : (z : Option Address) → referred x (references k.formals gs) ≡ z → spot_of z ≡ Some l → Stands x l
           by_spot None r e = absurd (cc e)
-          by_spot (Some a) r e = Refers a r (some_is a.spot l e)
+          by_spot (Some a) r e = Refers a r (same_Some a.spot l e)
 
           by_cell : (i : Variable) → slice_get p.variables x ≡ Some i → stands p fs x ≡ cell_of x (find (is_block i.block) (length fs) fs) → cell_of x (find (is_block i.block) (length (fresh ∷ fs)) (fresh ∷ fs)) ≡ Some l → Stands x l
-          by_cell i v s e = ⊎_elim (λ (h : cell_of x (Some fresh) ≡ Some l). Own (some_is (Cell q (length fs) x) l h)) (λ (h : (i.block < b) × (cell_of x (find (is_block i.block) (length fs) fs) ≡ Some l)). Outer (free_if b x i v h.0) (s ∙ h.1)) (by_frame (cell_of x) refl i.block l e)
+          by_cell i v s e = ⊎_elim (λ (h : cell_of x (Some fresh) ≡ Some l). Own (same_Some (Cell q (length fs) x) l h)) (λ (h : (i.block < b) × (cell_of x (find (is_block i.block) (length fs) fs) ≡ Some l)). Outer (free_if b x i v h.0) (s ∙ h.1)) (by_frame (cell_of x) refl i.block l e)
 
           by_role : (i : Variable) → slice_get p.variables x ≡ Some i → (r : Role) → i.role ≡ r → stands_by (fresh ∷ fs) x i r ≡ Some l → Stands x l
           by_role i v role.Console d e = Outer (free_if b x i v (omega (arith, (free.consoles x i v d).0, before))) (ap (stands_at fs x) v ∙ ap (stands_by fs x i) d ∙ e)

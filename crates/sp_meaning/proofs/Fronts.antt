@@ -1,6 +1,8 @@
 -- Each schedule has exactly one longest lawful front.
 use Rattle.std.proofs.Common.{◌≡◌, ◌≢◌, ◌⊎◌, inl, inr, ℕ, suc, ◌+◌, List, [], ◌∷◌, ◌++◌, length, Option, Some, None, refl, sym, ap, ◌∙◌, subst, arith}
+use Rattle.std.proofs.Common.{zero-add}
 use Rattle.sp_base.specs.declared.fault.Fault.{Fault}
+use Rattle.sp_base.proofs.Facts.{is_plus_none, next_goes_right}
 use Rattle.sp_meaning.specs.Model.{Name}
 use Rattle.sp_meaning.specs.Own.{Setting}
 use Rattle.sp_meaning.specs.Runs.{StateOf, start, next, Lawful}
@@ -24,19 +26,13 @@ module _ (g : Setting) where
     where
       by : (x : Option (Name × Fault)) → s.fault ≡ x → (y : Option (StateOf g)) → next g s q ≡ y → ((m : StateOf g) → Found m qs (suc n) (longest_from g qs (suc n) m)) → Found s (q ∷ qs) n (go_on_or g (longest_from g qs (suc n)) (n, s) x y)
       by None e None d more = (0, omega arith, at_once s (q ∷ qs) (inr d))
-      by None e (Some m) d more = let r = more m in (suc r.0, r.1 ∙ shift n r.0, longer s m q qs r.0 (longest_from g qs (suc n) m).1 e d r.2)
-        where
-          shift : (n k : ℕ) → suc n + k ≡ n + suc k
-          shift n k = omega arith
+      by None e (Some m) d more = let r = more m in (suc r.0, r.1 ∙ next_goes_right n r.0, longer s m q qs r.0 (longest_from g qs (suc n) m).1 e d r.2)
       by (Some f) e y d more = (0, omega arith, at_once s (q ∷ qs) (inl (λ z. let x : Some f ≡ None = sym e ∙ z in absurd (cc x))))
 
   pub longest_is : (qs : List Name) → IsLongestFront g (start g) qs (longest g qs).0 (longest g qs).1
   longest_is qs =
       let r = found qs 0 (start g) in
-      subst (λ k. IsLongestFront g (start g) qs k (longest g qs).1) (sym (r.1 ∙ plain r.0)) r.2
-    where
-      plain : (k : ℕ) → 0 + k ≡ k
-      plain k = omega arith
+      subst (λ k. IsLongestFront g (start g) qs k (longest g qs).1) (sym (r.1 ∙ zero-add r.0)) r.2
 
   from : (k : ℕ) (s : StateOf g) (q : Name) (rest : List Name) → (s.fault ≢ None) ⊎ (next g s q ≡ None) → longest_from g (q ∷ rest) k s ≡ (k, s)
   from k s q rest h = by s.fault refl (next g s q) refl h
@@ -52,21 +48,12 @@ module _ (g : Setting) where
   at_end k s t (q ∷ rest) l h = from k s q rest (subst (λ (z : StateOf g). Stops g z (q ∷ rest)) l h)
 
   only_by : (front rest : List Name) (k : ℕ) (s t : StateOf g) → Lawful g s front t → Stops g t rest → longest_from g (front ++ rest) k s ≡ (k + length front, t)
-  only_by [] rest k s t l h = at_end k s t rest l h ∙ pair (plain k) (sym l)
+  only_by [] rest k s t l h = at_end k s t rest l h ∙ pair (is_plus_none k) (sym l)
     where
-      plain : (k : ℕ) → k ≡ k + 0
-      plain k = omega arith
-
       pair : {a b : ℕ} {c d : StateOf g} → a ≡ b → c ≡ d → ◌≡◌ {A = ℕ × StateOf g} (a, c) (b, d)
       pair e f = λ i. (e i, f i)
   only_by (q ∷ front) rest k s t l h =
-      ap (λ x. go_on_or g (longest_from g (front ++ rest) (suc k)) (k, s) x (next g s q)) l.1 ∙ ap (go_on_or g (longest_from g (front ++ rest) (suc k)) (k, s) None) l.2 ∙ only_by front rest (suc k) l.0 t l.3 h ∙ ap (λ n. (n, t)) (shift k (length front))
-    where
-      shift : (k n : ℕ) → suc k + n ≡ k + suc n
-      shift k n = omega arith
+      ap (λ x. go_on_or g (longest_from g (front ++ rest) (suc k)) (k, s) x (next g s q)) l.1 ∙ ap (go_on_or g (longest_from g (front ++ rest) (suc k)) (k, s) None) l.2 ∙ only_by front rest (suc k) l.0 t l.3 h ∙ ap (λ n. (n, t)) (next_goes_right k (length front))
 
   pub only : (qs : List Name) (n : ℕ) (t : StateOf g) → IsLongestFront g (start g) qs n t → longest g qs ≡ (n, t)
-  only qs n t f = ap (λ z. longest_from g z 0 (start g)) f.whole ∙ only_by f.front f.rest 0 (start g) t f.leads f.stops ∙ ap (λ k. (k, t)) (plain (length f.front) ∙ f.size)
-    where
-      plain : (k : ℕ) → 0 + k ≡ k
-      plain k = omega arith
+  only qs n t f = ap (λ z. longest_from g z 0 (start g)) f.whole ∙ only_by f.front f.rest 0 (start g) t f.leads f.stops ∙ ap (λ k. (k, t)) (zero-add (length f.front) ∙ f.size)

@@ -1,5 +1,6 @@
 -- Along a journal without a fault goes a lawful schedule of that length.
 use Rattle.std.proofs.Common.{◌≡◌, ℕ, zero, suc, ◌+◌, Bool, true, false, List, [], ◌∷◌, length, Option, Some, None, refl, sym, ap, ◌∙◌, subst, arith}
+use Rattle.std.proofs.lemmas.Option.{same_Some}
 use Rattle.sp_base.specs.declared.fault.Fault.{Fault}
 use Rattle.sp_meaning.specs.Model.{Name}
 use Rattle.sp_meaning.specs.Steps.{ActOf, Outcome, Advances, Faulty, acts, passed, cost, unless, outcome, result_of, step_with}
@@ -25,11 +26,8 @@ module _ (g : Setting) where
   quiet_step s q own m w run e f st h =
       let a = (superpascal g).next own s.store in
       let ok : (result_of s q (outcome (most g) s q a)).fault ≡ None = fine s q a (passed (most g) s.totals (cost a)) (acts s q a) refl (subst IsFine (sym e) f) h in
-      let same : result_of s q (outcome (most g) s q a) ≡ m = some_is (result_of s q (outcome (most g) s q a)) m (sym (ap (step_with (most g) s q) run) ∙ st) in
+      let same : result_of s q (outcome (most g) s q a) ≡ m = same_Some (result_of s q (outcome (most g) s q a)) m (sym (ap (step_with (most g) s q) run) ∙ st) in
       subst (λ (z : StateOf g). z.fault ≡ None) same ok
-    where
-      some_is : (a b : StateOf g) → ◌≡◌ {A = Option (StateOf g)} (Some a) (Some b) → a ≡ b
-      some_is a b e = cc e
 
   -- a lawful schedule of n names from s to t, without a fault at its end
   pub record Goes (s : StateOf g) (n : ℕ) (t : StateOf g) : Type 0 where

@@ -1,6 +1,7 @@
 -- Each step keeps what is known of the state: a pending offer's process waits, unborn children are absent, and the
 -- parent of a child that lives joins it.
 use Rattle.std.proofs.Common.{◌≡◌, ◌≢◌, ◌⊎◌, ⊎_elim, inl, inr, ℕ, suc, ◌+◌, ◌<◌, ◌≤◌, le_refl, le_trans, Bool, true, false, cond, List, [], ◌∷◌, length, Option, Some, None, refl, sym, ap, ◌∙◌, subst, arith}
+use Rattle.std.proofs.lemmas.Option.{none-some}
 use Rattle.sp_meaning.specs.Model.{Name, Channel, same_name, Totals, Language, Moves, Opens, Forks, Offering, Ends, Fails, Condition, Absent, Works, Waits, Joins, Ended, State, Change, Becomes, Forked, Adds, changed, after}
 use Rattle.sp_meaning.specs.Steps.{ActOf, OfferOf, ConditionOf, has_ended, Outcome, Advances, births, meeting, waiting, acts, WaitsOn, Lives, JoinsAt, Sound}
 use Rattle.sp_meaning.proofs.Maps.{same_or_not, itself, at_other}
@@ -71,7 +72,7 @@ module _ {L : Language} {limits : Totals} (s : State L) (p : Name) (cs : List (C
             let t = after (meeting s p o y w.its w.passes) s in
             let here : t.pending c ≡ None = rw ((channel_test o.channel c).1 on.2) refl in
             let k : t.pending c ≡ Some z = subst (λ x. (after x s).pending c ≡ Some z) w.made h in
-            absurd (none_some (sym here ∙ k))
+            absurd (none-some _ (sym here ∙ k))
       ] refl)
       (λ (off : IsOn act c → ⊥).
       let k : s.pending c ≡ Some z = sym (pending_frame s p act c off cs s (all_in s p act cs one.does)) ∙ h in
@@ -82,9 +83,6 @@ module _ {L : Language} {limits : Totals} (s : State L) (p : Name) (cs : List (C
     where
       some_is : {A : Type 0} {o : Option A} {x y : A} → Some x ≡ o → o ≡ Some y → x ≡ y
       some_is a b = cc
-
-      none_some : {A : Type 0} {x : A} → ◌≡◌ {A = Option A} None (Some x) → ⊥
-      none_some a = cc
 
   forked_later : (a : ActOf L) → acts s p a ≡ Advances cs → (z : Name) (k i : ℕ) → IsChild s p a ((k, i) ∷ z) → k < (after cs s).forks z
   forked_later (Forks o os) does z k i h =

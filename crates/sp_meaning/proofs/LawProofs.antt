@@ -1,5 +1,6 @@
 -- The laws, as the contracts of `laws.rt` state them.
 use Rattle.std.proofs.Common.{◌≡◌, ◌≢◌, inl, inr, [], ◌++◌, Option, Some, None, refl, sym, ap, ◌∙◌, subst, append-nil}
+use Rattle.std.proofs.lemmas.Option.{same_Some}
 use Rattle.sp_base.specs.declared.fault.Fault.{Fault}
 use Rattle.sp_meaning.specs.Model.{Name, Moves, Opens, Forks, Offering, Ends, Fails}
 use Rattle.sp_meaning.specs.Steps.{ActOf, ConditionOf, working, Outcome, Advances, Faulty, acts, passed, cost, unless, outcome, result_of, step_with, Lives, Sound}
@@ -61,9 +62,6 @@ module _ (g : Setting) where
   pub unwritten : (s : StateOf g) (p : Name) (t : StateOf g) → next g s p ≡ Some t → (l : Loc) → IsUnwritten g s p l → t.store l ≡ s.store l
   unwritten s p t e l free = go (working s p) refl
     where
-      some_is : (a b : StateOf g) → ◌≡◌ {A = Option (StateOf g)} (Some a) (Some b) → a ≡ b
-      some_is a b e = cc e
-
       by : (own : Process) → working s p ≡ Some own → (x : Option Fault) (out : Outcome (superpascal g)) → acts s p ((superpascal g).next own s.store) ≡ out → (result_of s p (unless x out)).store l ≡ s.store l
       by own w None (Advances cs) e = store_frame s p ((superpascal g).next own s.store) loc_test l (λ h. let x = writes_there s p own l h in free own w x.0 x.1) cs s (all_in s p ((superpascal g).next own s.store) cs e)
       by own w None (Faulty f) e = refl
@@ -73,5 +71,5 @@ module _ (g : Setting) where
       go None w = let x : ◌≡◌ {A = Option (StateOf g)} None (Some t) = sym (ap (step_with (most g) s p) w) ∙ e in absurd (cc x)
       go (Some own) w =
           let a = (superpascal g).next own s.store in
-          let is : result_of s p (outcome (most g) s p a) ≡ t = some_is (result_of s p (outcome (most g) s p a)) t (sym (ap (step_with (most g) s p) w) ∙ e) in
+          let is : result_of s p (outcome (most g) s p a) ≡ t = same_Some (result_of s p (outcome (most g) s p a)) t (sym (ap (step_with (most g) s p) w) ∙ e) in
           subst (λ (z : StateOf g). z.store l ≡ s.store l) is (by own w (passed (most g) s.totals (cost a)) (acts s p a) refl)

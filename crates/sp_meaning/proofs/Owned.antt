@@ -1,8 +1,11 @@
 -- The invariant behind disjointness holds along every lawful schedule.
 use Rattle.std.proofs.Common.{◌≡◌, ◌⊎◌, inl, inr, ⊎_elim, ℕ, zero, suc, ◌+◌, ◌<◌, ◌≤◌, ◌==◌, ◌&&◌, Bool, true, false, cond, List, [], ◌∷◌, length, Option, Some, None, refl, sym, ap, ◌∙◌, subst, arith, if◌then◌else◌, eq-eqb}
 use Rattle.std.specs.Prelude.{slice_get}
+use Rattle.std.proofs.lemmas.Bool.{and_from, cases_lt}
+use Rattle.std.proofs.lemmas.Option.{none-some, same_Some}
 use Rattle.sp_base.specs.declared.fault.Fault.{Fault}
 use Rattle.sp_base.specs.declared.fault.Fault.TheVariants as fault
+use Rattle.sp_base.proofs.Facts.{is_plus_none, next_goes_right}
 use Rattle.sp_tree.specs.Plain.{Program, Stmt}
 use Rattle.sp_meaning.specs.Maps.{at_key}
 use Rattle.sp_meaning.specs.Model.{Name, same_name, Totals, Language, Moves, Opens, Forks, Offering, Ends, Fails, Cargo, Message, Takes, Condition, Absent, Works, Waits, Joins, Ended, State, Becomes, Forked, Writes, Pends, Adds, Faults, changed, after}
@@ -14,13 +17,12 @@ use Rattle.sp_meaning.specs.Own.{Setting, Loc, Cell, Held, Address, Frame, Own, 
 use Rattle.sp_meaning.specs.Deeds.{Birth, Deed, Stepped, Ticked, Opened, Forked as Forks_it, Offered, newborn, newborns}
 use Rattle.sp_meaning.specs.Deeds as deeds
 use Rattle.sp_meaning.specs.SuperPascal.{enough, deed_of, asks, act_of, superpascal}
-use Rattle.sp_meaning.proofs.Keys.{name_test, and_both}
+use Rattle.sp_meaning.proofs.Keys.{name_test}
 use Rattle.sp_meaning.proofs.Asking.{answer_then}
 use Rattle.sp_meaning.proofs.Instance.{loc_test}
 use Rattle.sp_tree.specs.Uses.{Use, Target, Seen, CallOf, ParallelOf, ForallOf, Stop}
 use Rattle.sp_tree.specs.Interference.{IsFreeOfInterference}
 use Rattle.sp_meaning.specs.Owning.{Right, Ready, below, Linked, Fit, Sound, Born, Fair, MayTake}
-use Rattle.sp_meaning.proofs.Static.{some_is}
 use Rattle.sp_meaning.proofs.Within.{Within}
 use Rattle.sp_meaning.proofs.Deeding.{deed_from}
 use Rattle.sp_meaning.proofs.Rights.{All, Fair_rights, parallel_apart}
@@ -56,12 +58,6 @@ module _ {A B : Type 0} (W R : Loc → Type 0) (F : A → Own → Type 0) (g : C
   written (Puts j v more) m h l (inl e) = subst W e h.0
   written (Puts j v more) m h l (inr k) = written more (at_key same_loc j v m) h.1 l k
 
-either_lt : (a b : ℕ) → (a < b) ⊎ (b ≤ a)
-either_lt zero zero = inr (omega arith)
-either_lt zero (suc b) = inl (omega arith)
-either_lt (suc a) zero = inr (omega arith)
-either_lt (suc a) (suc b) = ⊎_elim (λ (h : a < b). inl (omega (arith, h))) (λ (h : b ≤ a). inr (omega (arith, h))) (either_lt a b)
-
 module _ (p : Program) where
   -- a process with its rights
   pub record Keeps_to (W R : Name → Loc → Type 0) (f : Name → ℕ) (q : Name) (pr : Process) : Type 0 where
@@ -89,7 +85,7 @@ module _ (p : Program) where
 
   pub known_if : (W R : Name → Loc → Type 0) (c : Name → Condition Process Held Address) (f : Name → ℕ) → Inv W R c f → (q : Name) → (c q ≡ Absent → ⊥) → IsKnown f q
   known_if W R c f i [] h = tt
-  known_if W R c f i (a ∷ q) h = ⊎_elim (λ (lt : a.0 < f q). lt) (λ (le : f q ≤ a.0). absurd (h (i.unborn q a.0 a.1 le))) (either_lt a.0 (f q))
+  known_if W R c f i (a ∷ q) h = ⊎_elim (λ (lt : a.0 < f q). lt) (λ (le : f q ≤ a.0). absurd (h (i.unborn q a.0 a.1 le))) (cases_lt a.0 (f q))
 
   pub known_is : (f : Name → ℕ) (q r : Name) (k i : ℕ) → IsKnown f q → q ≡ (k, i) ∷ r → f r ≤ k → ⊥
   known_is f q r k i h e le = let x : IsKnown f ((k, i) ∷ r) = subst (λ z. IsKnown f z) e h in absurd (omega (arith, x, le))
@@ -220,7 +216,7 @@ module _ (p : Program) where
     never_forked i = subst (λ x. Holds W R f ((f q, i) ∷ q) x) (inv.unborn q (f q) i (omega arith)) (inv.holds ((f q, i) ∷ q))
 
     it : (same_name q q && (f q == f q)) ≡ true
-    it = and_both (same_name q q) (f q == f q) ((name_test q q).1 refl) (eq-eqb (f q) (f q) refl)
+    it = and_from (same_name q q) (f q == f q) ((name_test q q).1 refl) (eq-eqb (f q) (f q) refl)
 
     is_write : (i : ℕ) (l : Loc) → AimedAt p (All W q) (All R q) o.frames (slice_get ss i) l → All W' ((f q, i) ∷ q) l
     is_write i l h = inr (subst (λ b. Pick b (AimedAt p (All W q) (All R q) o.frames (slice_get ss i) l) (W ((f q, i) ∷ q) l)) (sym it) h)
@@ -237,12 +233,9 @@ module _ (p : Program) where
     births_keep i (t ∷ ts) [] d b a u v = absurd b
     births_keep i (t ∷ ts) (e ∷ cs) d b a u v =
         births_keep (suc i) ts cs (at_key same_name ((f q, i) ∷ q) (Works (newborn w o i e)) d) b.3
-        (λ j l h. subst (λ n. All W' ((f q, n) ∷ q) l) (shift j i) (a (suc j) l h)) (λ j l h. subst (λ n. All R' ((f q, n) ∷ q) l) (shift j i) (u (suc j) l h))
+        (λ j l h. subst (λ n. All W' ((f q, n) ∷ q) l) (next_goes_right j i) (a (suc j) l h)) (λ j l h. subst (λ n. All R' ((f q, n) ∷ q) l) (next_goes_right j i) (u (suc j) l h))
         (becomes W' R' d f' ((f q, i) ∷ q) (Works (newborn w o i e)) v (omega (arith, f'_is)) child)
       where
-        shift : (j i : ℕ) → suc j + i ≡ j + suc i
-        shift j i = omega arith
-
         first : 0 + i ≡ i
         first = omega arith
 
@@ -258,13 +251,7 @@ module _ (p : Program) where
         }
 
     pub forks_keep : (count : ℕ) → Inv W' R' (after_births q (f q) 0 (newborns w o 0 bs) (at_key same_name q (Joins (f q) count next) c)) f'
-    forks_keep count = births_keep 0 ss bs _ born (λ j l h. subst (λ n. All W' ((f q, n) ∷ q) l) (plain j) (is_write j l h)) (λ j l h. subst (λ n. All R' ((f q, n) ∷ q) l) (plain j) (is_read j l h)) (joins count)
-      where
-        plain : (j : ℕ) → j ≡ j + 0
-        plain j = omega arith
-
-none_some : {A : Type 0} {a : A} → None ≡ Some a → ⊥
-none_some e = absurd (cc e)
+    forks_keep count = births_keep 0 ss bs _ born (λ j l h. subst (λ n. All W' ((f q, n) ∷ q) l) (is_plus_none j) (is_write j l h)) (λ j l h. subst (λ n. All R' ((f q, n) ∷ q) l) (is_plus_none j) (is_read j l h)) (joins count)
 
 pub puts_condition : (L : Language) (ws : List (L.Loc × L.Value)) (s : State L) → (after (puts {L = L} ws) s).condition ≡ s.condition
 puts_condition L [] s = refl
@@ -426,8 +413,8 @@ module _ (set : Setting) (totals : Totals) (free : IsFreeOfInterference set.prog
     takes_well Long ws h = tt
 
     received : (who other : Name) (g h : Cargo Held Address) (x : Address × Held) → message g h ≡ Some x → MayTake set.program (All W q) (All R q) g → MayTake set.program (All W other) (All R other) h → who ≡ receiver g q other → All W who x.0.spot
-    received who other (Message v) (Takes t) x e a b n = subst (λ z. All W z x.0.spot) (sym n) (subst (λ (y : Address × Held). All W other y.0.spot) (some_is (t, v) x e) b)
-    received who other (Takes t) (Message v) x e a b n = subst (λ z. All W z x.0.spot) (sym n) (subst (λ (y : Address × Held). All W q y.0.spot) (some_is (t, v) x e) a)
+    received who other (Message v) (Takes t) x e a b n = subst (λ z. All W z x.0.spot) (sym n) (subst (λ (y : Address × Held). All W other y.0.spot) (same_Some (t, v) x e) b)
+    received who other (Takes t) (Message v) x e a b n = subst (λ z. All W z x.0.spot) (sym n) (subst (λ (y : Address × Held). All W q y.0.spot) (same_Some (t, v) x e) a)
     received who other (Message v) (Message w) x e a b n = absurd (cc e)
     received who other (Takes t) (Takes u) x e a b n = absurd (cc e)
 
@@ -459,12 +446,12 @@ module _ (set : Setting) (totals : Totals) (free : IsFreeOfInterference set.prog
       at c e = subst (λ z. Holds set.program W R s.forks q z) e (inv.holds q)
 
       joined : (n m : ℕ) (own : Process) → s.condition q ≡ Joins n m own → (b : Bool) → (if b then Some own else None) ≡ Some pr → Keeps_to set.program W R s.forks q pr × IsKnown set.program s.forks q
-      joined n m own c true e = (subst (λ z. Keeps_to set.program W R s.forks q z) (some_is own pr e) (at (Joins n m own) c), known (Joins n m own) c (λ a. absurd (cc a)))
+      joined n m own c true e = (subst (λ z. Keeps_to set.program W R s.forks q z) (same_Some own pr e) (at (Joins n m own) c), known (Joins n m own) c (λ a. absurd (cc a)))
       joined n m own c false e = absurd (cc e)
 
       go : (c : ConditionOf L) → s.condition q ≡ c → working_in s.condition q c ≡ Some pr → Keeps_to set.program W R s.forks q pr × IsKnown set.program s.forks q
       go Absent c e = absurd (cc e)
-      go (Works own) c e = (subst (λ z. Keeps_to set.program W R s.forks q z) (some_is own pr e) (at (Works own) c), known (Works own) c (λ a. absurd (cc a)))
+      go (Works own) c e = (subst (λ z. Keeps_to set.program W R s.forks q z) (same_Some own pr e) (at (Works own) c), known (Works own) c (λ a. absurd (cc a)))
       go (Waits o) c e = absurd (cc e)
       go (Joins n m own) c e = joined n m own c (all_ended s.condition q n m) e
       go Ended c e = absurd (cc e)
@@ -490,7 +477,7 @@ module _ (set : Setting) (totals : Totals) (free : IsFreeOfInterference set.prog
       here_r a l pr e w = let k = works_well W R s inv q pr e in accesses_right W R s inv q pr k.0 k.1 a l w
 
       later : (it : State L → Name → Process → Type 0) (m : State L) → step totals s q ≡ Some m → Happens totals it m ps → Happens totals it h.0 ps
-      later it m e x = subst (λ z. Happens totals it z ps) (some_is m h.0 (sym e ∙ h.2)) x
+      later it m e x = subst (λ z. Happens totals it z ps) (same_Some m h.0 (sym e ∙ h.2)) x
 
       both : (W1 R1 : Name → Loc → Type 0) → ((r : Name) (l : Loc) → All W r l → All W1 r l) → ((r : Name) (l : Loc) → All R r l → All R1 r l) → Tracked W1 R1 h.0 ps → Tracked W R s (q ∷ ps)
       both W1 R1 gw gr k = record {
@@ -506,11 +493,11 @@ module _ (set : Setting) (totals : Totals) (free : IsFreeOfInterference set.prog
       }
 
       go : ((W1 R1 : Name → Loc → Type 0) → Inv set.program W1 R1 h.0.condition h.0.forks → Tracked W1 R1 h.0 ps) → (x : Option Process) → working_in s.condition q (s.condition q) ≡ x → step_with totals s q x ≡ Some h.0 → Tracked W R s (q ∷ ps)
-      go ih None e d = absurd (none_some d)
+      go ih None e d = absurd (none-some _ d)
       go ih (Some pr) e d =
           let k = works_well W R s inv q pr e in
           let n : Next W R (result_of s q (unless (passed totals s.totals (cost (L.next pr s.store))) (acts s q (L.next pr s.store)))) = step_keeps W R s inv q pr k.0 k.1 in
-          let i : Inv set.program n.W' n.R' h.0.condition h.0.forks = subst (λ (z : State L). Inv set.program n.W' n.R' z.condition z.forks) (some_is _ h.0 d) n.inv in
+          let i : Inv set.program n.W' n.R' h.0.condition h.0.forks = subst (λ (z : State L). Inv set.program n.W' n.R' z.condition z.forks) (same_Some _ h.0 d) n.inv in
           both n.W' n.R' n.grow_w n.grow_r (ih n.W' n.R' i)
 
   -- from a state with the invariant on, no process writes what a parallel one uses

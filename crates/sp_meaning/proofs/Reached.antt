@@ -11,6 +11,7 @@ use Rattle.sp_meaning.specs.Own.{Setting, Loc, Held, Address, Own, Who, Break, P
 use Rattle.sp_meaning.specs.Deeds.{Birth, Deed, Stepped, Ticked, Opened, Forked as Forked_it, Offered, push, newborns, size_of_frame}
 use Rattle.sp_meaning.specs.Deeds as deeds
 use Rattle.std.specs.Prelude.{nat_lt}
+use Rattle.std.proofs.lemmas.Option.{same_Some}
 use Rattle.sp_meaning.specs.SuperPascal.{superpascal, asks, deed_of, act_of, weight_of, weight_blocks, main}
 use Rattle.sp_meaning.specs.Runs.{StateOf, start, most, next, Lawful}
 use Rattle.sp_meaning.specs.Along.{ticks_in}
@@ -96,10 +97,7 @@ module _ (k : ℕ) where
 
   pub working_keeps : (c : Conditions) (t f : ℕ) (q : Name) (x : Condition Process Held Address) (pr : Process) → Holds t f q x → working_in c q x ≡ Some pr → Keeps t f q pr
   working_keeps c t f q Absent pr h e = absurd (cc e)
-  working_keeps c t f q (Works o) pr h e = let d : o ≡ pr = some_is e in subst (Keeps t f q) d h
-    where
-      some_is : {A : Type 0} {x y : A} → Some x ≡ Some y → x ≡ y
-      some_is e = cc
+  working_keeps c t f q (Works o) pr h e = let d : o ≡ pr = same_Some _ _ e in subst (Keeps t f q) d h
   working_keeps c t f q (Waits o) pr h e = absurd (cc e)
   working_keeps c t f q (Joins m n o) pr h e = go (all_ended c q m n) e
     where
@@ -243,16 +241,13 @@ module _ (g : Setting) where
     pub step_well : Well T s → (m : StateOf g) → next g s p ≡ Some m → Well T m
     step_well w m e = go (working s p) refl
       where
-        some_is : (a b : StateOf g) → ◌≡◌ {A = Option (StateOf g)} (Some a) (Some b) → a ≡ b
-        some_is a b e = cc e
-
         go : (o : Option Process) → working s p ≡ o → Well T m
         go None r = let x : ◌≡◌ {A = Option (StateOf g)} None (Some m) = sym (ap (step_with (most g) s p) r) ∙ e in absurd (cc x)
         go (Some pr) r =
             let a = L.next pr s.store in
             let keeps = working_keeps K s.condition (T p) (s.forks p) p (s.condition p) pr (w p) r in
             let to : Well T (result_of s p (outcome (most g) s p a)) = unless_keep w (passed (most g) s.totals (cost a)) (acts s p a) (acts_keep w a (acts_well (T p) (s.forks p) p pr s.store keeps)) in
-            let is : result_of s p (outcome (most g) s p a) ≡ m = some_is (result_of s p (outcome (most g) s p a)) m (sym (ap (step_with (most g) s p) r) ∙ e) in
+            let is : result_of s p (outcome (most g) s p a) ≡ m = same_Some (result_of s p (outcome (most g) s p a)) m (sym (ap (step_with (most g) s p) r) ∙ e) in
             subst (Well T) is to
 
   abbrev pub Zero : Name → ℕ

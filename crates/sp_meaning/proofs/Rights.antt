@@ -2,6 +2,7 @@
 -- write the other has not.
 use Rattle.std.proofs.Common.{◌≡◌, ◌≢◌, ◌⊎◌, inl, inr, ℕ, ◌<◌, List, [], ◌∷◌, ◌++◌, length, length-append, refl, sym, ap, ◌∙◌, subst, arith}
 use Rattle.std.specs.Prelude.{drop}
+use Rattle.std.proofs.Math.Seq.{drop-append_seam}
 use Rattle.sp_meaning.specs.Model.{Name}
 use Rattle.sp_meaning.specs.Own.{Loc, Cell, Input, Output}
 use Rattle.sp_meaning.specs.Disjoint.{AreParallel}
@@ -50,16 +51,12 @@ not_both q r (Cell o n x) e b a = let h = ap length b.1 ∙ length-append b.0 q 
 not_both q r Input e b a = b
 not_both q r Output e b a = b
 
-pub drop_front : {A : Type 0} (xs ys : List A) → drop (length xs) (xs ++ ys) ≡ ys
-drop_front [] ys = refl
-drop_front (x ∷ xs) ys = drop_front xs ys
-
 pub same_end : (xs ys u v : Name) → length u ≡ length v → xs ++ u ≡ ys ++ v → u ≡ v
 same_end xs ys u v e h =
     let lx = length-append xs u in
     let ly = length-append ys v in
     let d : length xs ≡ length ys = omega (arith, lx, ly, e, ap length h) in
-    sym (drop_front xs u) ∙ ap (drop (length xs)) h ∙ ap (λ n. drop n (ys ++ v)) d ∙ drop_front ys v
+    sym (drop-append_seam xs u) ∙ ap (drop (length xs)) h ∙ ap (λ n. drop n (ys ++ v)) d ∙ drop-append_seam ys v
 
 pub below_both : (z : Name) (k i j : ℕ) (l : Loc) → i ≢ j → IsBelow ((k, i) ∷ z) l → IsBelow ((k, j) ∷ z) l → ⊥
 below_both z k i j (Cell o n x) apart a b =

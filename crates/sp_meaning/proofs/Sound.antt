@@ -1,5 +1,6 @@
 -- Every step keeps what is known of the state, a faulting one too.
 use Rattle.std.proofs.Common.{◌≡◌, Option, Some, None, refl, sym, ap, ◌∙◌, subst}
+use Rattle.std.proofs.lemmas.Option.{same_Some}
 use Rattle.sp_base.specs.declared.fault.Fault.{Fault}
 use Rattle.sp_meaning.specs.Model.{Name, Totals, Language, State, Faults, changed}
 use Rattle.sp_meaning.specs.Steps.{working, Outcome, Advances, Faulty, acts, passed, cost, unless, outcome, result_of, step, step_with, Sound}
@@ -20,11 +21,8 @@ module _ {L : Language} (limits : Totals) (s : State L) (p : Name) where
   pub step_sound : (m : State L) → Sound s → step limits s p ≡ Some m → Sound m
   step_sound m sound e = go (working s p) refl
     where
-      some_is : (a b : State L) → ◌≡◌ {A = Option (State L)} (Some a) (Some b) → a ≡ b
-      some_is a b e = cc e
-
       go : (o : Option L.Own) → working s p ≡ o → Sound m
       go None w = let x : ◌≡◌ {A = Option (State L)} None (Some m) = sym (ap (step_with limits s p) w) ∙ e in absurd (cc x)
       go (Some own) w =
-          let is = some_is (result_of s p (outcome limits s p (L.next own s.store))) m (sym (ap (step_with limits s p) w) ∙ e) in
+          let is = same_Some (result_of s p (outcome limits s p (L.next own s.store))) m (sym (ap (step_with limits s p) w) ∙ e) in
           subst (λ (z : State L). Sound z) is (outcome_sound sound own w (passed limits s.totals (cost (L.next own s.store))) refl)

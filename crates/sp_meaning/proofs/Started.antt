@@ -2,6 +2,7 @@
 -- of the tree.
 use Rattle.std.proofs.Common.{◌≡◌, ◌≢◌, inl, inr, ℕ, zero, suc, ◌<◌, ◌==◌, Bool, true, false, List, [], ◌∷◌, Option, Some, None, refl, sym, ◌∙◌, subst, arith, if◌then◌else◌, nat_lt}
 use Rattle.std.specs.Prelude.{slice_get}
+use Rattle.std.proofs.lemmas.Option.{same_Some}
 use Rattle.sp_tree.specs.declared.checked.Role.{Role}
 use Rattle.sp_tree.specs.declared.checked.Role.TheVariants as role
 use Rattle.sp_tree.specs.Plain.{Variable, Block}
@@ -15,7 +16,6 @@ use Rattle.sp_meaning.specs.Runs.{most, start, IsDisjointRun}
 use Rattle.sp_tree.specs.Uses.{Use, Target, Seen, CallOf, ParallelOf, ForallOf, Stop, In_stmt}
 use Rattle.sp_tree.specs.Interference.{IsFreeOfInterference}
 use Rattle.sp_meaning.specs.Owning.{cell_of, reference_of, console, stands_by, stands_at, stands, Touches, Right, Sound, Fit}
-use Rattle.sp_meaning.proofs.Static.{some_is}
 use Rattle.sp_meaning.proofs.Deeding.{push_good}
 use Rattle.sp_meaning.proofs.Rights.{All, IsAbove, Fair_rights}
 use Rattle.sp_meaning.proofs.Owned.{Holds, Inv, disjoint_from}
@@ -49,7 +49,7 @@ module _ (set : Setting) (free : IsFreeOfInterference set.program) where
   where_is x l e = by_variable (slice_get set.program.variables x) refl e
     where
       by_cell : (b : Bool) → cell_of x (if b then Some bottom else None) ≡ Some l → Stands x l
-      by_cell true e = Global (some_is (Cell [] 0 x) l e)
+      by_cell true e = Global (same_Some (Cell [] 0 x) l e)
       by_cell false e = absurd (cc e)
 
       by_reference : (b : Bool) → reference_of x (if b then Some bottom else None) ≡ Some l → Stands x l
@@ -57,7 +57,7 @@ module _ (set : Setting) (free : IsFreeOfInterference set.program) where
       by_reference false e = absurd (cc e)
 
       by_role : (i : Variable) → slice_get set.program.variables x ≡ Some i → (r : Role) → i.role ≡ r → stands_by (bottom ∷ []) x i r ≡ Some l → Stands x l
-      by_role i v role.Console r e = Console (free.consoles x i v r).1 (some_is (console x) l e)
+      by_role i v role.Console r e = Console (free.consoles x i v r).1 (same_Some (console x) l e)
       by_role i v role.Local r e = by_cell (i.block == 0) e
       by_role i v role.Value r e = by_cell (i.block == 0) e
       by_role i v role.Reference r e = by_reference (i.block == 0) e

@@ -1,10 +1,8 @@
 -- Static links: what is visible from a frame is the same seen from the frames inside it.
 use Rattle.std.proofs.Common.{◌≡◌, ℕ, suc, ◌<◌, ◌≤◌, ◌==◌, Bool, true, false, List, [], ◌∷◌, length, Some, refl, sym, ap, ◌∙◌, subst, arith, if◌then◌else◌, eqb-true, eq-eqb}
+use Rattle.std.proofs.lemmas.Option.{same_Some}
 use Rattle.sp_meaning.specs.Own.{Home, OfBlock, OfIndex, Frame, seek, newest, is_block}
 use Rattle.sp_meaning.specs.Owning.{find, IsInside, Linked}
-
-pub some_is : {A : Type 0} (a b : A) → Some a ≡ Some b → a ≡ b
-some_is a b e = cc e
 
 pub unequal : (a b : ℕ) → b < a → a == b ≡ false
 unequal a b l = go (a == b) refl
@@ -51,7 +49,7 @@ lower fits n [] f l e = absurd (cc e)
 lower fits n (g ∷ fs) f l e = go (λ m x. lower fits m fs f l.3 x) (length (g ∷ fs) == n) e
   where
     inner : ((m : ℕ) → find fits m fs ≡ Some f → f.number < length fs) → (b : Bool) → (if b then Some g else find fits g.link fs) ≡ Some f → f.number < suc (length fs)
-    inner ih true e = let d : g ≡ f = some_is g f e in omega (arith, sym (ap (λ (z : Frame). z.number) d) ∙ l.0)
+    inner ih true e = let d : g ≡ f = same_Some g f e in omega (arith, sym (ap (λ (z : Frame). z.number) d) ∙ l.0)
     inner ih false e = omega (arith, ih g.link e)
 
     go : ((m : ℕ) → find fits m fs ≡ Some f → f.number < length fs) → (b : Bool) → (if b then (if fits g.home then Some g else find fits g.link fs) else find fits n fs) ≡ Some f → f.number < suc (length fs)
@@ -83,7 +81,7 @@ through c d n f g (k ∷ fs) l e h = go (λ m x y. through c d m f g fs l.3 x y)
 
     inner : ((m : ℕ) → find (is_block c) m fs ≡ Some f → find (is_block d) (suc f.number) fs ≡ Some g → (find (is_block d) m fs ≡ Some g) × (d ≤ c)) → (z : Bool) → is_block c k.home ≡ z → (if z then Some k else find (is_block c) k.link fs) ≡ Some f → ((if is_block d k.home then Some k else find (is_block d) k.link fs) ≡ Some g) × (d ≤ c)
     inner ih true m e =
-        let k_is : k ≡ f = some_is k f e in
+        let k_is : k ≡ f = same_Some k f e in
         let h1 : find (is_block d) (suc k.number) (k ∷ fs) ≡ Some g = subst (λ (z : Frame). find (is_block d) (suc z.number) (k ∷ fs) ≡ Some g) (sym k_is) h in
         let h2 : (if is_block d k.home then Some k else find (is_block d) k.link fs) ≡ Some g = subst (λ z. (if z then (if is_block d k.home then Some k else find (is_block d) k.link fs) else find (is_block d) (suc k.number) fs) ≡ Some g) (eq-eqb (length (k ∷ fs)) (suc k.number) (ap suc (sym l.0))) h1 in
         (h2, same (is_block d k.home) refl m h2)

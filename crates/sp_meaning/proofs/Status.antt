@@ -1,8 +1,9 @@
 -- What each condition of a process says of the others: who is running, who waits, whom a step meets.
 use Rattle.std.proofs.Common.{◌≡◌, ◌≢◌, ◌⊎◌, ⊎_elim, inl, inr, ℕ, zero, suc, ◌<◌, le_refl, true, false, cond, List, ◌∷◌, Some, None, nat_lt, refl, sym, ap, ◌∙◌, subst, arith}
+use Rattle.std.proofs.lemmas.Bool.{and_from}
+use Rattle.sp_base.proofs.Facts.{first_true, second_true}
 use Rattle.sp_meaning.specs.Model.{Name, Channel, Totals, Language, Moves, Opens, Forks, Offering, Ends, Fails, Condition, Absent, Works, Waits, Joins, Ended, State, Change, after}
 use Rattle.sp_meaning.specs.Steps.{ActOf, ConditionOf, has_ended, all_ended, working_in, working, Advances, acts, passed, cost, WaitsOn, Lives, JoinsAt, Sound}
-use Rattle.sp_meaning.proofs.Keys.{and_left, and_right, and_both}
 use Rattle.sp_meaning.proofs.Frames.{IsOn, IsPartner, IsChild, IsNear, AllIn, all_in, condition_frame}
 
 -- p can step in s, and does so without a fault, by these changes
@@ -62,8 +63,8 @@ ended_stands Ended e = tt
 ended_at : {O V T : Type 0} (m : Name → Condition O V T) (q : Name) (k n i : ℕ) → all_ended m q k n ≡ true → i < n → has_ended (m ((k, i) ∷ q)) ≡ true
 ended_at m q k zero i h lt = absurd (omega arith)
 ended_at m q k (suc n) i h lt = ⊎_elim
-    (λ (is : n ≡ i). subst (λ j. has_ended (m ((k, j) ∷ q)) ≡ true) is (and_left (has_ended (m ((k, n) ∷ q))) (all_ended m q k n) h))
-    (λ (less : i < n). ended_at m q k n i (and_right (has_ended (m ((k, n) ∷ q))) (all_ended m q k n) h) less)
+    (λ (is : n ≡ i). subst (λ j. has_ended (m ((k, j) ∷ q)) ≡ true) is (first_true (has_ended (m ((k, n) ∷ q))) (all_ended m q k n) h))
+    (λ (less : i < n). ended_at m q k n i (second_true (has_ended (m ((k, n) ∷ q))) (all_ended m q k n) h) less)
     (last n i lt)
   where
     last : (n i : ℕ) → i < suc n → (n ≡ i) ⊎ (i < n)
@@ -83,8 +84,8 @@ working_joins m q Ended own k i h j = absurd j
 all_ended_same : {O V T : Type 0} (m l : Name → Condition O V T) (q : Name) (k n : ℕ) → ((i : ℕ) → has_ended (m ((k, i) ∷ q)) ≡ true → l ((k, i) ∷ q) ≡ m ((k, i) ∷ q)) → all_ended m q k n ≡ true → all_ended l q k n ≡ true
 all_ended_same m l q k zero h e = refl
 all_ended_same m l q k (suc n) h e =
-    let one = and_left (has_ended (m ((k, n) ∷ q))) (all_ended m q k n) e in
-    and_both (has_ended (l ((k, n) ∷ q))) (all_ended l q k n) (rw (h n one) one) (all_ended_same m l q k n h (and_right (has_ended (m ((k, n) ∷ q))) (all_ended m q k n) e))
+    let one = first_true (has_ended (m ((k, n) ∷ q))) (all_ended m q k n) e in
+    and_from (has_ended (l ((k, n) ∷ q))) (all_ended l q k n) (rw (h n one) one) (all_ended_same m l q k n h (second_true (has_ended (m ((k, n) ∷ q))) (all_ended m q k n) e))
 
 pub working_same : {O V T : Type 0} (m l : Name → Condition O V T) (q : Name) (x : Condition O V T) (own : O) → ((k i : ℕ) → has_ended (m ((k, i) ∷ q)) ≡ true → l ((k, i) ∷ q) ≡ m ((k, i) ∷ q)) → working_in m q x ≡ Some own → working_in l q x ≡ Some own
 working_same m l q Absent own h e = e

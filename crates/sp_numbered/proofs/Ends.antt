@@ -1,5 +1,6 @@
 -- The run along a witness has one end: the fault F6 of the later offer's process.
 use Rattle.std.proofs.Common.{◌≡◌, ℕ, Option, Some, None, refl, sym, ap, ◌∙◌, subst}
+use Rattle.std.proofs.lemmas.Option.{none-some, same_Some}
 use Rattle.sp_base.specs.declared.fault.Fault.{Fault}
 use Rattle.sp_base.specs.declared.fault.Fault.TheVariants as fault
 use Rattle.sp_journal.specs.declared.entry.Journal.{Journal}
@@ -12,15 +13,11 @@ use Rattle.sp_meaning.specs.Own.{Setting}
 use Rattle.sp_meaning.specs.Runs.{StateOf}
 use Rattle.sp_meaning.specs.Along.{IsAlong}
 use Rattle.sp_meaning.specs.Ends.{IsDone, IsIdle, EndIs, EndsSo}
-use Rattle.sp_journal.proofs.Facts.{some_same}
 use Rattle.sp_link.proofs.OneState.{one_state}
 use Rattle.sp_witness.specs.Witness.{who_at, witness}
 use Rattle.sp_witness.specs.Contention.{IsContention}
 use Rattle.sp_witness.specs.Numbered.{witness_journal}
 use Rattle.sp_numbered.specs.Journals.{IsWitness}
-
-none_some : {A : Type 0} {x : A} → ◌≡◌ {A = Option A} None (Some x) → ⊥
-none_some e = cc
 
 -- in contention a process is running, and a fault stands: so the end is that fault alone
 module _ (g : Setting) (u : StateOf g) (w : Way) (c : Channel) (first second : Name)
@@ -35,12 +32,12 @@ module _ (g : Setting) (u : StateOf g) (w : Way) (c : Channel) (first second : N
   fault_is : (q : Name) (f : Fault) → ◌≡◌ {A = Option (Name × Fault)} (Some (q, f)) (Some (second, fault.F6))
       → (q ≡ second) × (f ≡ fault.F6)
   fault_is q f e =
-      let p : ◌≡◌ {A = Name × Fault} (q, f) (second, fault.F6) = some_same (q, f) (second, fault.F6) e in
+      let p : ◌≡◌ {A = Name × Fault} (q, f) (second, fault.F6) = same_Some (q, f) (second, fault.F6) e in
       (ap (λ (z : Name × Fault). z.0) p, ap (λ (z : Name × Fault). z.1) p)
 
   one_end : (x : End) → EndIs g u x → x ≡ the_fault
-  one_end end.Done e = absurd (none_some (sym (idle e second) ∙ h.runs))
-  one_end (end.Deadlock ws) e = absurd (none_some (sym (e.1).quiet ∙ h.fault))
+  one_end end.Done e = absurd (none-some _ (sym (idle e second) ∙ h.runs))
+  one_end (end.Deadlock ws) e = absurd (none-some _ (sym (e.1).quiet ∙ h.fault))
   one_end (end.Fault p f) e =
       let s = fault_is e.0 f (same_fault e.0 f e.1) in
       λ i. end.Fault ((e.2 ∙ ap proc_name s.0) i) (s.1 i)

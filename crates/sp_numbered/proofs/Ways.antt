@@ -1,12 +1,14 @@
 -- Fronts of a run along a journal, and that the state says what the next entry of a process is.
 use Rattle.std.proofs.Common.{◌≡◌, ℕ, zero, suc, ◌+◌, Bool, true, false, List, [], ◌∷◌, ◌++◌, Option, Some, None, refl, sym, ap, ◌∙◌, subst}
+use Rattle.std.proofs.lemmas.List.{append-nil}
+use Rattle.std.proofs.lemmas.Option.{same_Some}
 use Rattle.sp_meaning.specs.Model.{Name}
 use Rattle.sp_meaning.specs.Own.{Setting, Process}
 use Rattle.sp_meaning.specs.Entries.{Happening, Opened, Forked, Offered, Faulted, Laid, Paused, Occurrence}
 use Rattle.sp_journal.specs.Names as happenings
 use Rattle.sp_meaning.specs.Runs.{StateOf, running, says}
 use Rattle.sp_meaning.specs.Along.{Turn, Course, stopped, noted, after_entry, ticks_of, Kernel, Entered, Along}
-use Rattle.sp_link.proofs.OneState.{turn_one, some_is}
+use Rattle.sp_link.proofs.OneState.{turn_one}
 
 module _ (g : Setting) (turn : ℕ) where
   -- the front of a journal, and that the process of the entry after it runs
@@ -101,11 +103,7 @@ module _ (g : Setting) (turn : ℕ) where
   -- the front with the next entry
   pub along_front : (xs ys : List Occurrence) (c : Course) (s : StateOf g) (n : ℕ) (t : StateOf g)
       → Along g turn c s (xs ++ ys) n t → (k : ℕ) × (u : StateOf g) × Along g turn c s xs k u
-  along_front xs [] c s n t a = (n, t, subst (λ z. Along g turn c s z n t) (append_nothing xs) a)
-    where
-      append_nothing : (zs : List Occurrence) → zs ++ [] ≡ zs
-      append_nothing [] = refl
-      append_nothing (z ∷ zs) = ap (λ y. z ∷ y) (append_nothing zs)
+  along_front xs [] c s n t a = (n, t, subst (λ z. Along g turn c s z n t) (append-nil xs) a)
   along_front xs (o ∷ ys) c s n t a = let f = front xs o ys c s n t a in (f.steps, f.state, f.along)
 
   -- what a process's next entry says, by the state
@@ -139,8 +137,8 @@ module _ (g : Setting) (turn : ℕ) where
   module _ (A : Type 0) (left right : Course → StateOf g → ℕ → Type 0) (c : Course) (m : StateOf g) (p : Bool) (q : Name) (go : (c1 : Course) (u : StateOf g) (n k : ℕ) → left c1 u n → right c1 u k → A) where
     kernel_two : (what : Happening) (n k : ℕ) → Kernel g left c m p q what n → Kernel g right c m p q what k → A
     kernel_two what n k h i =
-        let own = some_is h.5.0 i.5.0 (sym h.5.1 ∙ i.5.1) in
-        let to : i.2 ≡ h.2 = some_is i.2 h.2 (sym i.5.3 ∙ h.5.3) in
+        let own = same_Some h.5.0 i.5.0 (sym h.5.1 ∙ i.5.1) in
+        let to : i.2 ≡ h.2 = same_Some i.2 h.2 (sym i.5.3 ∙ h.5.3) in
         go (after_entry q what (ticks_of g h.2 q) c) h.2 h.3 i.3 h.6
         (subst (λ y. right (after_entry q what (ticks_of g y q) c) y i.3) to i.6)
 
@@ -164,7 +162,7 @@ module _ (g : Setting) (turn : ℕ) where
       let same : pick c.faulted i.4 (said_by (running g i.3 q) i.3 q)
       ≡ pick c.faulted h.4 (said_by (running g h.3 q) h.3 q) =
       λ j. pick c.faulted (z.paused j) (said_by (running g (z.state j) q) (z.state j) q) in
-      some_is a b (one ∙ sym (two ∙ same))
+      same_Some a b (one ∙ sym (two ∙ same))
   next_one (x ∷ xs) q a b c s n k t v h i =
       let z = turn_one g turn (c.since x.who) x.who i.1 h.1 s i.3 h.3 i.4 h.4 i.6 h.6 in
       let right : Course → StateOf g → ℕ → Type 0 =

@@ -1,22 +1,13 @@
 -- What a process knows is closed under earlier entries: the law kept from entry to entry.
 use Rattle.std.proofs.Common.{◌≡◌, ◌≢◌, ◌⊎◌, ⊎_elim, inl, inr, ℕ, zero, suc, ◌<◌, ◌≤◌, Bool, true, false, cond, ◌||◌, ◌==◌, List, [], ◌∷◌, ◌++◌, length, length-append, append_assoc, append-nil, Option, Some, None, slice_get, refl, sym, ap, ◌∙◌, subst, arith, eqb-true, eq-eqb}
+use Rattle.std.proofs.lemmas.Bool.{false≢true, or_cases, or_left, or_right, true≢false}
+use Rattle.std.proofs.lemmas.Option.{none-some, same_Some, slice_get_within}
+use Rattle.sp_base.proofs.Facts.{below_or_at}
 use Rattle.sp_journal.specs.Maps.{at_key}
 use Rattle.sp_journal.specs.Names.{Name, Channel, same_name, same_channel, Happening, Opened, Forked, Offered, Ended, Faulted, Laid, Paused, Occurrence}
 use Rattle.sp_journal.specs.Past.{Judged, learn, teach, report, now, met_now, judged_by, judged_from, nothing_judged}
 use Rattle.sp_past.specs.Prefixes.{is_counted, Counts, WaitsForNone, QuietFrom, IsQuiet, KnowsPrefixes, KnowsCounted}
 use Rattle.sp_past.proofs.Keys.{name_itself, name_is, channel_is, channel_itself}
-
-pub or_cases : (a b : Bool) → a || b ≡ true → (a ≡ true) ⊎ (b ≡ true)
-or_cases true b h = inl refl
-or_cases false b h = inr h
-
-pub or_left : (a b : Bool) → a ≡ true → a || b ≡ true
-or_left true b h = refl
-or_left false b h = absurd (cc h)
-
-pub or_right : (a b : Bool) → b ≡ true → a || b ≡ true
-or_right true b h = refl
-or_right false b h = h
 
 -- a set of indices of these entries that is closed under earlier entries of the same process
 pub record IsFine (es : List Occurrence) (f : ℕ → Bool) : Type 0 where
@@ -75,46 +66,29 @@ pub get_last : (es : List Occurrence) (e : Occurrence) → slice_get (es ++ e �
 get_last [] e = refl
 get_last (x ∷ es) e = get_last es e
 
-pub get_inside : (es : List Occurrence) (i : ℕ) (e : Occurrence) → slice_get es i ≡ Some e → i < length es
-get_inside [] i e h = absurd (cc h)
-get_inside (x ∷ es) zero e h = omega arith
-get_inside (x ∷ es) (suc i) e h = let l = get_inside es i e h in omega arith
-
-some_is : (x y : Occurrence) → ◌≡◌ {A = Option Occurrence} (Some x) (Some y) → x ≡ y
-some_is x y e = cc
-
-pub low_or_last : (i n : ℕ) → i < suc n → (i < n) ⊎ (i ≡ n)
-low_or_last i n l = elim (i == n) as (λ b. i == n ≡ b → (i < n) ⊎ (i ≡ n)) [ true ↦ λ e. inr (eqb-true i n e) | false ↦ λ e. inl (strict e) ] refl
-  where
-    strict : i == n ≡ false → i < n
-    strict e = let d : i ≢ n = λ f. true_false (sym (eq-eqb i n f) ∙ e) in omega arith
-      where
-        true_false : ◌≡◌ {A = Bool} true false → ⊥
-        true_false f = cc
-
 module _ (es : List Occurrence) (e : Occurrence) where
   abbrev more : List Occurrence
   more = es ++ e ∷ []
 
   counts_more : (q : Name) (i : ℕ) → Counts es q i → Counts more q i
-  counts_more q i c = (c.0, get_low es e i (get_inside es i _ c.1) ∙ c.1, c.2)
+  counts_more q i c = (c.0, get_low es e i (slice_get_within es i _ c.1) ∙ c.1, c.2)
 
   counts_low : (q : Name) (i : ℕ) → i < length es → Counts more q i → Counts es q i
   counts_low q i l c = (c.0, sym (get_low es e i l) ∙ c.1, c.2)
 
   counts_inside : (q : Name) (i : ℕ) → Counts more q i → i < suc (length es)
-  counts_inside q i c = let l = get_inside more i _ c.1 in let a = length-append es (e ∷ []) in omega arith
+  counts_inside q i c = let l = slice_get_within more i _ c.1 in let a = length-append es (e ∷ []) in omega arith
 
   counts_last : (q : Name) → Counts more q (length es) → (e.who ≡ q) × (is_counted e.what ≡ true)
   counts_last q c =
-      let f = some_is _ _ (sym (get_last es e) ∙ c.1) in
+      let f = same_Some _ _ (sym (get_last es e) ∙ c.1) in
       (ap (λ (x : Occurrence). x.who) f, ap (λ (x : Occurrence). is_counted x.what) f ∙ c.2)
 
   fine_more : (f : ℕ → Bool) → IsFine es f → IsFine more f
   fine_more f a = record {
     closed = λ q i k h c d l.
         let b = a.counted i h in
-        let m = get_inside es i _ b.1.1 in
+        let m = slice_get_within es i _ b.1.1 in
         a.closed q i k h (counts_low q i m c) (counts_low q k (omega arith) d) l;
     counted = λ i h. let b = a.counted i h in (b.0, counts_more b.0 i b.1);
   }
@@ -127,19 +101,10 @@ pub record Kept (j : Judged) (es : List Occurrence) : Type 0 where
   pub single : (c d : Channel) (z : Name) (k l : ℕ) → j.pending c ≡ Some (z, k) → j.pending d ≡ Some (z, l) → c ≡ d
 
 pair_first : (x y : Name × ℕ) → ◌≡◌ {A = Option (Name × ℕ)} (Some x) (Some y) → x.0 ≡ y.0
-pair_first x y e = ap (λ (z : Name × ℕ). z.0) (same x y e)
-  where
-    same : (x y : Name × ℕ) → ◌≡◌ {A = Option (Name × ℕ)} (Some x) (Some y) → x ≡ y
-    same x y e = cc
+pair_first x y e = ap (λ (z : Name × ℕ). z.0) (same_Some x y e)
 
 pair_second : (x y : Name × ℕ) → ◌≡◌ {A = Option (Name × ℕ)} (Some x) (Some y) → x.1 ≡ y.1
-pair_second x y e = ap (λ (z : Name × ℕ). z.1) (same x y e)
-  where
-    same : (x y : Name × ℕ) → ◌≡◌ {A = Option (Name × ℕ)} (Some x) (Some y) → x ≡ y
-    same x y e = cc
-
-none_pair : (x : Name × ℕ) → ◌≡◌ {A = Option (Name × ℕ)} None (Some x) → ⊥
-none_pair x e = cc
+pair_second x y e = ap (λ (z : Name × ℕ). z.1) (same_Some x y e)
 
 -- the value at a channel, by whether it is the one that was set
 at_channel : (c d : Channel) (v : Option (Name × ℕ)) (m : Channel → Option (Name × ℕ)) (x : Name × ℕ) → at_key same_channel c v m d ≡ Some x → ((c ≡ d) × (v ≡ Some x)) ⊎ (m d ≡ Some x)
@@ -170,7 +135,7 @@ module _ (j : Judged) (es : List Occurrence) (e : Occurrence) (kept : Kept j es)
             (λ (x : (c : Channel) × (j.pending c ≡ Some (q, k))). absurd (quiet x.0 k (x.1 ∙ (λ i. Some (sym w i, k)))))
             (low_own q k o d))
             (λ (o : k ≡ n). or_right (j.past e.who k) (n == k) (eq-eqb n k (sym o)))
-            (low_or_last k n (omega arith))
+            (below_or_at k n (omega arith))
 
         closed : (q : Name) (i k : ℕ) → now j e.who n i ≡ true → Counts (es ++ e ∷ []) q i → Counts (es ++ e ∷ []) q k → k ≤ i → now j e.who n k ≡ true
         closed q i k h c d l = ⊎_elim
@@ -196,7 +161,7 @@ module _ (j : Judged) (es : List Occurrence) (e : Occurrence) (kept : Kept j es)
           (λ (x : (d : Channel) × (j.pending d ≡ Some (q, k))). inr (x.0, ap (λ f. f x.0) same ∙ x.1))
           (low_own q k o c))
           (λ (o : k ≡ n). inl (subst (λ (x : ℕ). j'.past q x ≡ true) (sym o) (subst (λ (x : Name). j'.past x n ≡ true) (counts_last es e q (subst (Counts (es ++ e ∷ []) q) o c)).0 here)))
-          (low_or_last k n (counts_inside es e q k c));
+          (below_or_at k n (counts_inside es e q k c));
       waiting = λ c z k h. counts_more es e z k (kept.waiting c z k (sym (ap (λ f. f c) same) ∙ h));
       single = λ c d z k l h g. kept.single c d z k l (sym (ap (λ f. f c) same) ∙ h) (sym (ap (λ f. f d) same) ∙ g);
     }
@@ -211,7 +176,7 @@ module _ (j : Judged) (es : List Occurrence) (e : Occurrence) (kept : Kept j es)
           (λ (x : (d : Channel) × (j.pending d ≡ Some (q, k))). inr (x.0, elsewhere x.0 (q, k) x.1))
           (low_own q k o h))
           (λ (o : k ≡ n). let w = (counts_last es e q (subst (Counts (es ++ e ∷ []) q) o h)).0 in inr (c, here ∙ (λ i. Some (w i, sym o i))))
-          (low_or_last k n (counts_inside es e q k h));
+          (below_or_at k n (counts_inside es e q k h));
       waiting = λ d z k h. ⊎_elim
           (λ (x : (c ≡ d) × (◌≡◌ {A = Option (Name × ℕ)} (Some (e.who, n)) (Some (z, k)))). subst (Counts (es ++ e ∷ []) z) (pair_second _ _ x.1) (subst (λ (y : Name). Counts (es ++ e ∷ []) y n) (pair_first _ _ x.1) (e.what, get_last es e, counted)))
           (λ (x : j.pending d ≡ Some (z, k)). counts_more es e z k (kept.waiting d z k x))
@@ -235,7 +200,7 @@ module _ (j : Judged) (es : List Occurrence) (e : Occurrence) (kept : Kept j es)
         elsewhere d x h = by (same_channel c d) (channel_is c d)
           where
             by : (t : Bool) → (t ≡ true → c ≡ d) → cond t (Some (e.who, n)) (j.pending d) ≡ Some x
-            by true f = absurd (none_pair x (sym none ∙ ap j.pending (f refl) ∙ h))
+            by true f = absurd (none-some x (sym none ∙ ap j.pending (f refl) ∙ h))
             by false f = h
 
     -- an offer that meets the one that waits
@@ -247,7 +212,7 @@ module _ (j : Judged) (es : List Occurrence) (e : Occurrence) (kept : Kept j es)
           its = kept.waiting c o.0 o.1 met
 
           same_who : (q : Name) → Counts (es ++ e ∷ []) q o.1 → o.0 ≡ q
-          same_who q h = ap (λ (x : Occurrence). x.who) (some_is _ _ (sym (counts_more es e o.0 o.1 its).1 ∙ h.1))
+          same_who q h = ap (λ (x : Occurrence). x.who) (same_Some _ _ (sym (counts_more es e o.0 o.1 its).1 ∙ h.1))
 
           last : (q : Name) (k : ℕ) → o.0 ≡ q → Counts (es ++ e ∷ []) q k → k ≤ o.1 → now j o.0 o.1 k ≡ true
           last q k w d l = ⊎_elim
@@ -256,7 +221,7 @@ module _ (j : Judged) (es : List Occurrence) (e : Occurrence) (kept : Kept j es)
               let g : j.pending x.0 ≡ Some (o.0, k) = x.1 ∙ (λ i. Some (sym w i, k)) in
               let s : c ≡ x.0 = kept.single c x.0 o.0 o.1 k met g in
               or_right (j.past o.0 k) (o.1 == k) (eq-eqb o.1 k (pair_second o (o.0, k) (sym met ∙ ap j.pending s ∙ g))))
-              (low_own q k (let m = get_inside es o.1 _ its.1 in omega arith) d)
+              (low_own q k (let m = slice_get_within es o.1 _ its.1 in omega arith) d)
 
           closed : (q : Name) (i k : ℕ) → now j o.0 o.1 i ≡ true → Counts (es ++ e ∷ []) q i → Counts (es ++ e ∷ []) q k → k ≤ i → now j o.0 o.1 k ≡ true
           closed q i k h a d l = ⊎_elim
@@ -293,13 +258,13 @@ module _ (j : Judged) (es : List Occurrence) (e : Occurrence) (kept : Kept j es)
             (λ (x : (d : Channel) × (j.pending d ≡ Some (q, k))). stays q k x.0 x.1 (same_channel c x.0) refl)
             (low_own q k l h))
             (λ (l : k ≡ n). inl (subst (λ (x : ℕ). then.past q x ≡ true) (sym l) (subst (λ (x : Name). then.past x n ≡ true) (counts_last es e q (subst (Counts (es ++ e ∷ []) q) l h)).0 of_mine)))
-            (low_or_last k n (counts_inside es e q k h));
+            (below_or_at k n (counts_inside es e q k h));
         waiting = λ d z k h. counts_more es e z k (kept.waiting d z k (left d (z, k) h));
         single = λ d f z k l g h. kept.single d f z k l (left d (z, k) g) (left f (z, l) h);
       }
         where
           left : (d : Channel) (x : Name × ℕ) → at_key same_channel c None j.pending d ≡ Some x → j.pending d ≡ Some x
-          left d x h = ⊎_elim (λ (y : (c ≡ d) × (◌≡◌ {A = Option (Name × ℕ)} None (Some x))). absurd (none_pair x y.1)) (λ (y : j.pending d ≡ Some x). y) (at_channel c d None j.pending x h)
+          left d x h = ⊎_elim (λ (y : (c ≡ d) × (◌≡◌ {A = Option (Name × ℕ)} None (Some x))). absurd (none-some x y.1)) (λ (y : j.pending d ≡ Some x). y) (at_channel c d None j.pending x h)
 
           of_mine : then.past e.who n ≡ true
           of_mine = learn_more o.0 both (learn e.who both j.past) e.who n (learn_here e.who both j.past n (or_left (now j e.who n n) (now j o.0 o.1 n) (or_right (j.past e.who n) (n == n) (eq-eqb n n refl))))
@@ -319,14 +284,11 @@ module _ (j : Judged) (es : List Occurrence) (e : Occurrence) (kept : Kept j es)
     fine = past_fine;
     own = λ q k c. ⊎_elim
         (λ (o : k < n). low_own q k o c)
-        (λ (o : k ≡ n). absurd (true_false (sym (counts_last es e q (subst (Counts (es ++ e ∷ []) q) o c)).1 ∙ f)))
-        (low_or_last k n (counts_inside es e q k c));
+        (λ (o : k ≡ n). absurd (true≢false (sym (counts_last es e q (subst (Counts (es ++ e ∷ []) q) o c)).1 ∙ f)))
+        (below_or_at k n (counts_inside es e q k c));
     waiting = λ c z k h. counts_more es e z k (kept.waiting c z k h);
     single = kept.single;
   }
-    where
-      true_false : ◌≡◌ {A = Bool} true false → ⊥
-      true_false g = cc
 
 -- the new index alone, learned by its process
 own_index : (j : Judged) (es : List Occurrence) (e : Occurrence) (kept : Kept j es) (quiet : WaitsForNone j e.who) → is_counted e.what ≡ true → (q : Name) → IsFine (es ++ e ∷ []) (learn e.who (λ i. length es == i) j.past q)
@@ -374,14 +336,11 @@ along j done (e ∷ es) k q =
 
 pub nothing_kept : Kept nothing_judged []
 nothing_kept = record {
-  fine = λ q. record { closed = λ p i k h. absurd (false_true h); counted = λ i h. absurd (false_true h) };
-  own = λ q k c. absurd (let l = get_inside [] k _ c.1 in omega arith);
-  waiting = λ c z k h. absurd (none_pair (z, k) h);
-  single = λ c d z k l h. absurd (none_pair (z, k) h);
+  fine = λ q. record { closed = λ p i k h. absurd (false≢true h); counted = λ i h. absurd (false≢true h) };
+  own = λ q k c. absurd (let l = slice_get_within [] k _ c.1 in omega arith);
+  waiting = λ c z k h. absurd (none-some (z, k) h);
+  single = λ c d z k l h. absurd (none-some (z, k) h);
 }
-  where
-    false_true : ◌≡◌ {A = Bool} false true → ⊥
-    false_true e = cc
 
 pub prefixes : (es : List Occurrence) → IsQuiet es → KnowsPrefixes es
 prefixes es q p r i k h c d l = ((along nothing_judged [] es nothing_kept q).fine p).closed r i k h c d l

@@ -1,5 +1,7 @@
 -- The order condition by completions and that by the earlier offer's own index are the same.
 use Rattle.std.proofs.Common.{◌≡◌, ◌≢◌, ◌⊎◌, ⊎_elim, inl, inr, ℕ, zero, suc, ◌<◌, ◌≤◌, le_refl, lt_irrefl, eqb-true, eq-eqb, Bool, true, false, cond, ◌||◌, ◌==◌, List, [], ◌∷◌, ◌++◌, length, slice_get, Option, Some, None, refl, sym, ap, ◌∙◌, subst, arith}
+use Rattle.std.proofs.lemmas.Bool.{cases_eq, false≢true, ne_eqb, or_cases, or_left, or_right}
+use Rattle.std.proofs.lemmas.Option.{none-some, same_Some}
 use Rattle.sp_journal.specs.declared.entry.Way.{Way}
 use Rattle.sp_journal.specs.Names.{Name, Channel, same_name, same_channel, Happening, Opened, Forked, Offered, Ended, Faulted, Laid, Paused, Occurrence}
 use Rattle.sp_journal.specs.Past.{Judged, learn, teach, report, now, met_now, judged_by, nothing_judged, KnowsCompletions, CompletedFrom, AreOrdered}
@@ -7,8 +9,7 @@ use Rattle.sp_meaning.specs.Maps.{at_key}
 use Rattle.sp_meaning.proofs.Maps.{same_or_not, at_other}
 use Rattle.sp_meaning.proofs.Keys.{channel_test}
 use Rattle.sp_race.specs.Known.{KnowsOffers, KnownFrom, AreKnown}
-use Rattle.sp_race.proofs.NotesFrames.{or_cases}
-use Rattle.sp_race.proofs.Linking.{some_is, none_is, index_apart, grown_size, kept_entry, last_entry}
+use Rattle.sp_race.proofs.Linking.{grown_size, kept_entry, last_entry}
 use Rattle.sp_race.proofs.LinkedSteps.{learn_below, teach_below}
 
 -- where it holds a completion, it holds what was completed
@@ -23,14 +24,6 @@ pub record Paired (j : Judged) (n : ℕ) : Type 0 where
   waits : (c : Channel) (z : Name) (k : ℕ) → j.pending c ≡ Some (z, k) → (k < n) × (j.completed k ≡ None)
   single : (c d : Channel) (z y : Name) (k : ℕ) → j.pending c ≡ Some (z, k) → j.pending d ≡ Some (y, k) → c ≡ d
   later : (i : ℕ) → n ≤ i → j.completed i ≡ None
-
-or_left : (a b : Bool) → a ≡ true → a || b ≡ true
-or_left true b h = refl
-or_left false b h = absurd (cc h)
-
-or_right : (a b : Bool) → b ≡ true → a || b ≡ true
-or_right true b h = refl
-or_right false b h = h
 
 union_closed : (d : ℕ → Option ℕ) (f g : ℕ → Bool) → IsClosed d f → IsClosed d g → IsClosed d (λ i. f i || g i)
 union_closed d f g a b i m e h = ⊎_elim (λ (k : f m ≡ true). or_left (f i) (g i) (a i m e k)) (λ (k : g m ≡ true). or_right (f i) (g i) (b i m e k)) (or_cases (f m) (g m) h)
@@ -49,12 +42,6 @@ teach_closed d p f known a x (suc k) past b = teach_closed d p f known a (suc x)
 report_closed : (d : ℕ → Option ℕ) (p : Name) (known : ℕ → Bool) (past : Name → ℕ → Bool) → IsClosed d known → ((q : Name) → IsClosed d (past q)) → (q : Name) → IsClosed d (report p known past q)
 report_closed d [] known past a b = b
 report_closed d (x ∷ p) known past a b = learn_closed d p known past a b
-
-number : (a b : ℕ) → (a ≡ b) ⊎ (a ≢ b)
-number a b = elim (a == b) as (λ c. a == b ≡ c → (a ≡ b) ⊎ (a ≢ b)) [ true ↦ λ e. inl (eqb-true a b e) | false ↦ λ e. inr (λ f. true_false (sym (eq-eqb a b f) ∙ e)) ] refl
-  where
-    true_false : ◌≡◌ {A = Bool} true false → ⊥
-    true_false e = cc
 
 module _ (j : Judged) (n : ℕ) (paired : Paired j n) (p : Name) where
   this_closed : IsClosed j.completed (λ i. n == i)
@@ -91,19 +78,19 @@ module _ (j : Judged) (n : ℕ) (paired : Paired j n) (p : Name) where
     bound = λ i m e. let k = paired.bound i m e in omega (arith, k);
     itself = paired.itself;
     waits = λ d z k e. ⊎_elim
-        (λ (same : c ≡ d). let h : n ≡ k = ap (λ (x : Name × ℕ). x.1) (some_is (sym (here d same) ∙ e)) in (omega (arith, h), subst (λ x. j.completed x ≡ None) h (paired.later n (le_refl n))))
+        (λ (same : c ≡ d). let h : n ≡ k = ap (λ (x : Name × ℕ). x.1) (same_Some _ _ (sym (here d same) ∙ e)) in (omega (arith, h), subst (λ x. j.completed x ≡ None) h (paired.later n (le_refl n))))
         (λ (other : c ≢ d). let h = paired.waits d z k (sym (at_other channel_test j.pending c d (Some (p, n)) other) ∙ e) in (omega (arith, h.0), h.1))
         (same_or_not channel_test c d);
     single = λ d f z y k e h. ⊎_elim
         (λ (a : c ≡ d). ⊎_elim
         (λ (b : c ≡ f). sym a ∙ b)
         (λ (b : c ≢ f).
-        let x : n ≡ k = ap (λ (x : Name × ℕ). x.1) (some_is (sym (here d a) ∙ e)) in
+        let x : n ≡ k = ap (λ (x : Name × ℕ). x.1) (same_Some _ _ (sym (here d a) ∙ e)) in
         let l = (paired.waits f y k (sym (at_other channel_test j.pending c f (Some (p, n)) b) ∙ h)).0 in absurd (omega (arith, x, l)))
         (same_or_not channel_test c f))
         (λ (a : c ≢ d). ⊎_elim
         (λ (b : c ≡ f).
-        let x : n ≡ k = ap (λ (x : Name × ℕ). x.1) (some_is (sym (here f b) ∙ h)) in
+        let x : n ≡ k = ap (λ (x : Name × ℕ). x.1) (same_Some _ _ (sym (here f b) ∙ h)) in
         let l = (paired.waits d z k (sym (at_other channel_test j.pending c d (Some (p, n)) a) ∙ e)).0 in absurd (omega (arith, x, l)))
         (λ (b : c ≢ f). paired.single d f z y k (sym (at_other channel_test j.pending c d (Some (p, n)) a) ∙ e) (sym (at_other channel_test j.pending c f (Some (p, n)) b) ∙ h))
         (same_or_not channel_test c f))
@@ -118,7 +105,7 @@ module _ (j : Judged) (n : ℕ) (paired : Paired j n) (p : Name) where
   meets_paired c z k pe =
       let w = paired.waits c z k pe in
       let known : ℕ → Bool = λ i. now j p n i || now j z k i in
-      let at_k : IsClosed j.completed (λ i. k == i) = λ i m e h. absurd (none_is (sym w.1 ∙ ap j.completed (eqb-true k m h) ∙ paired.itself i m e)) in
+      let at_k : IsClosed j.completed (λ i. k == i) = λ i m e h. absurd (none-some _ (sym w.1 ∙ ap j.completed (eqb-true k m h) ∙ paired.itself i m e)) in
       let known_closed : IsClosed j.completed known = union_closed j.completed (now j p n) (now j z k) now_closed (union_closed j.completed (j.past z) (λ i. k == i) (paired.closed z) at_k) in
       let k_below : (i : ℕ) → k == i ≡ true → i < suc n = λ i h. (let e = eqb-true k i h in omega (arith, e, w.0)) in
       let known_below : (i : ℕ) → known i ≡ true → i < suc n = λ i h. ⊎_elim (λ (x : now j p n i ≡ true). now_below i x) (λ (x : now j z k i ≡ true). ⊎_elim (λ (y : j.past z i ≡ true). past_below z i y) (λ (y : k == i ≡ true). k_below i y) (or_cases (j.past z i) (k == i) x)) (or_cases (now j p n i) (now j z k i) h) in
@@ -127,28 +114,28 @@ module _ (j : Judged) (n : ℕ) (paired : Paired j n) (p : Name) where
         closed = λ q. extended (learn z known (learn p known j.past) q) k (learn_closed j.completed z known (learn p known j.past) known_closed (learn_closed j.completed p known j.past known_closed paired.closed) q)
             (λ h. gets (same_name z q) (same_name p q) (j.past q n) (j.past q k) (known n) (known k) (λ x. lt_irrefl n (paired.below q n x)) knows_k h);
         below = learn_below z known (suc n) known_below (learn p known j.past) (learn_below p known (suc n) known_below j.past past_below);
-        bound = λ i m e. by_index i (λ o. o ≡ Some m → m < suc n) (λ x. let y = some_is x in omega (arith, y)) (λ x. let y = some_is x in omega (arith, y)) (λ x. let y = paired.bound i m x in omega (arith, y)) e;
+        bound = λ i m e. by_index i (λ o. o ≡ Some m → m < suc n) (λ x. let y = same_Some _ _ x in omega (arith, y)) (λ x. let y = same_Some _ _ x in omega (arith, y)) (λ x. let y = paired.bound i m x in omega (arith, y)) e;
         itself = λ i m e. by_index i (λ o. o ≡ Some m → cond (n == m) (Some n) (cond (k == m) (Some n) (j.completed m)) ≡ Some m)
-            (λ x. let y : n ≡ m = some_is x in rw (eq-eqb n m y) (ap (λ u. Some u) y))
-            (λ x. let y : n ≡ m = some_is x in rw (eq-eqb n m y) (ap (λ u. Some u) y))
+            (λ x. let y : n ≡ m = same_Some _ _ x in rw (eq-eqb n m y) (ap (λ u. Some u) y))
+            (λ x. let y : n ≡ m = same_Some _ _ x in rw (eq-eqb n m y) (ap (λ u. Some u) y))
             (λ x. let y = paired.itself i m x in
             let l = paired.bound i m x in
-            rw (index_apart n m (λ u. omega (arith, u, l)), index_apart k m (λ u. none_is (sym w.1 ∙ ap j.completed u ∙ y))) y) e;
+            rw (ne_eqb n m (λ u. omega (arith, u, l)), ne_eqb k m (λ u. none-some _ (sym w.1 ∙ ap j.completed u ∙ y))) y) e;
         waits = λ d y x e. ⊎_elim
-            (λ (same : c ≡ d). absurd (none_is (sym (gone_at d same) ∙ e)))
+            (λ (same : c ≡ d). absurd (none-some _ (sym (gone_at d same) ∙ e)))
             (λ (other : c ≢ d).
             let before = sym (at_other channel_test j.pending c d None other) ∙ e in
             let h = paired.waits d y x before in
-            (omega (arith, h.0), rw (index_apart n x (λ u. omega (arith, u, h.0)), index_apart k x (λ u. other (paired.single c d z y x (pe ∙ ap (λ v. Some (z, v)) u) before))) h.1))
+            (omega (arith, h.0), rw (ne_eqb n x (λ u. omega (arith, u, h.0)), ne_eqb k x (λ u. other (paired.single c d z y x (pe ∙ ap (λ v. Some (z, v)) u) before))) h.1))
             (same_or_not channel_test c d);
         single = λ d f y v x e h. ⊎_elim
-            (λ (a : c ≡ d). absurd (none_is (sym (gone_at d a) ∙ e)))
+            (λ (a : c ≡ d). absurd (none-some _ (sym (gone_at d a) ∙ e)))
             (λ (a : c ≢ d). ⊎_elim
-            (λ (b : c ≡ f). absurd (none_is (sym (gone_at f b) ∙ h)))
+            (λ (b : c ≡ f). absurd (none-some _ (sym (gone_at f b) ∙ h)))
             (λ (b : c ≢ f). paired.single d f y v x (sym (at_other channel_test j.pending c d None a) ∙ e) (sym (at_other channel_test j.pending c f None b) ∙ h))
             (same_or_not channel_test c f))
             (same_or_not channel_test c d);
-        later = λ i h. rw (index_apart n i (λ u. omega (arith, u, h)), index_apart k i (λ u. omega (arith, u, h, w.0))) (paired.later i (omega (arith, h)));
+        later = λ i h. rw (ne_eqb n i (λ u. omega (arith, u, h)), ne_eqb k i (λ u. omega (arith, u, h, w.0))) (paired.later i (omega (arith, h)));
       }
     where
       gone_at : (d : Channel) → c ≡ d → at_key same_channel c None j.pending d ≡ None
@@ -164,21 +151,21 @@ module _ (j : Judged) (n : ℕ) (paired : Paired j n) (p : Name) where
 
       extended : (s : ℕ → Bool) (k : ℕ) → IsClosed j.completed s → (s n ≡ true → s k ≡ true) → IsClosed (λ i. cond (n == i) (Some n) (cond (k == i) (Some n) (j.completed i))) s
       extended s k a b i m e h = ⊎_elim
-          (λ (x : n ≡ i). let y : n ≡ m = some_is (sym (first i x) ∙ e) in subst (λ u. s u ≡ true) (sym y ∙ x) h)
+          (λ (x : n ≡ i). let y : n ≡ m = same_Some _ _ (sym (first i x) ∙ e) in subst (λ u. s u ≡ true) (sym y ∙ x) h)
           (λ (x : n ≢ i). ⊎_elim
-          (λ (y : k ≡ i). let v : n ≡ m = some_is (sym (second i x y) ∙ e) in subst (λ u. s u ≡ true) y (b (subst (λ u. s u ≡ true) (sym v) h)))
+          (λ (y : k ≡ i). let v : n ≡ m = same_Some _ _ (sym (second i x y) ∙ e) in subst (λ u. s u ≡ true) y (b (subst (λ u. s u ≡ true) (sym v) h)))
           (λ (y : k ≢ i). a i m (sym (third i x y) ∙ e) h)
-          (number k i))
-          (number n i)
+          (cases_eq k i))
+          (cases_eq n i)
         where
           first : (i : ℕ) → n ≡ i → cond (n == i) (Some n) (cond (k == i) (Some n) (j.completed i)) ≡ Some n
           first i x = rw (eq-eqb n i x) refl
 
           second : (i : ℕ) → n ≢ i → k ≡ i → cond (n == i) (Some n) (cond (k == i) (Some n) (j.completed i)) ≡ Some n
-          second i x y = rw (index_apart n i x, eq-eqb k i y) refl
+          second i x y = rw (ne_eqb n i x, eq-eqb k i y) refl
 
           third : (i : ℕ) → n ≢ i → k ≢ i → cond (n == i) (Some n) (cond (k == i) (Some n) (j.completed i)) ≡ j.completed i
-          third i x y = rw (index_apart n i x, index_apart k i y) refl
+          third i x y = rw (ne_eqb n i x, ne_eqb k i y) refl
 
       gets : (zq pq qn qk kn kk : Bool) → (qn ≡ true → ⊥) → kk ≡ true → cond zq (cond pq (qn || kn) qn || kn) (cond pq (qn || kn) qn) ≡ true → cond zq (cond pq (qk || kk) qk || kk) (cond pq (qk || kk) qk) ≡ true
       gets zq pq true qk kn kk a b h = absurd (a refl)
@@ -218,17 +205,14 @@ module _ (j : Judged) (n : ℕ) (paired : Paired j n) (p : Name) where
 
 pub nothing_paired : Paired nothing_judged 0
 nothing_paired = record {
-  closed = λ q i m e h. absurd (none_is e);
-  below = λ q i h. absurd (false_true h);
-  bound = λ i m e. absurd (none_is e);
-  itself = λ i m e. absurd (none_is e);
-  waits = λ c z k e. absurd (none_is e);
-  single = λ c d z y k e h. absurd (none_is e);
+  closed = λ q i m e h. absurd (none-some _ e);
+  below = λ q i h. absurd (false≢true h);
+  bound = λ i m e. absurd (none-some _ e);
+  itself = λ i m e. absurd (none-some _ e);
+  waits = λ c z k e. absurd (none-some _ e);
+  single = λ c d z y k e h. absurd (none-some _ e);
   later = λ i h. refl;
 }
-  where
-    false_true : ◌≡◌ {A = Bool} false true → ⊥
-    false_true e = cc
 
 -- What a process knows of an offer, it knows of its completion
 
@@ -263,8 +247,8 @@ report_complete es d (x ∷ p) known past a b = learn_complete es d p known past
 
 -- an entry of the longer list is one of the shorter, or the new one
 grown_entry : (done : List Occurrence) (e x : Occurrence) (i n : ℕ) → length done ≡ n → slice_get (done ++ e ∷ []) i ≡ Some x → ((i < n) × (slice_get done i ≡ Some x)) ⊎ ((n ≡ i) × (e ≡ x))
-grown_entry [] e x zero n size h = inr (sym size, some_is h)
-grown_entry [] e x (suc i) n size h = absurd (none_is h)
+grown_entry [] e x zero n size h = inr (sym size, same_Some _ _ h)
+grown_entry [] e x (suc i) n size h = absurd (none-some _ h)
 grown_entry (d ∷ done) e x zero n size h = inl (omega (arith, size), h)
 grown_entry (d ∷ done) e x (suc i) n size h = ⊎_elim
     (λ (a : (i < length done) × (slice_get done i ≡ Some x)). let l = a.0 in inl (omega (arith, l, size), a.1))
@@ -311,7 +295,7 @@ module _ (j : Judged) (done : List Occurrence) (n : ℕ) (paired : Paired j n) (
     complete = old_complete (Offered w c);
     entries = λ d z k e. ⊎_elim
         (λ (same : c ≡ d).
-        let x : ◌≡◌ {A = Name × ℕ} (p, n) (z, k) = some_is (sym (here d same) ∙ e) in (
+        let x : ◌≡◌ {A = Name × ℕ} (p, n) (z, k) = same_Some _ _ (sym (here d same) ∙ e) in (
           w,
           subst (λ u. slice_get (longer (Offered w c)) u ≡ Some (record { who = z; what = Offered w d })) (ap (λ (y : Name × ℕ). y.1) x)
               (last_entry done n (record { who = p; what = Offered w c }) r.size ∙ (λ i. Some (record { who = (ap (λ (y : Name × ℕ). y.0) x) i; what = Offered w (same i) }))),
@@ -331,10 +315,10 @@ module _ (j : Judged) (done : List Occurrence) (n : ℕ) (paired : Paired j n) (
   met_n k i a = rw (eq-eqb n i a) refl
 
   met_k : (k i : ℕ) → n ≢ i → k ≡ i → met_at k i ≡ Some n
-  met_k k i a b = rw (index_apart n i a, eq-eqb k i b) refl
+  met_k k i a b = rw (ne_eqb n i a, eq-eqb k i b) refl
 
   met_other : (k i : ℕ) → n ≢ i → k ≢ i → met_at k i ≡ j.completed i
-  met_other k i a b = rw (index_apart n i a, index_apart k i b) refl
+  met_other k i a b = rw (ne_eqb n i a, ne_eqb k i b) refl
 
   meets_rounded : (w : Way) (c : Channel) (z : Name) (k : ℕ) → j.pending c ≡ Some (z, k) → Rounded (met_now j p n c (Some (z, k))) (longer (Offered w c)) (suc n)
   meets_rounded w c z k pe =
@@ -342,7 +326,7 @@ module _ (j : Judged) (done : List Occurrence) (n : ℕ) (paired : Paired j n) (
       let ke = r.entries c z k pe in
       let known : ℕ → Bool = λ i. now j p n i || now j z k i in
       let known_n : known n ≡ true = or_left (now j p n n) (now j z k n) (or_right (j.past p n) (n == n) (eq-eqb n n refl)) in
-      let not_k : (q : Name) → j.past q k ≡ true → ⊥ = λ q h. (let y = r.complete q k z ke.0 c ke.1 h in none_is (sym x.1 ∙ y.1)) in
+      let not_k : (q : Name) → j.past q k ≡ true → ⊥ = λ q h. (let y = r.complete q k z ke.0 c ke.1 h in none-some _ (sym x.1 ∙ y.1)) in
       let not_n : (q : Name) → j.past q n ≡ true → ⊥ = λ q h. lt_irrefl n (paired.below q n h) in
       let past_complete : (q : Name) → IsComplete (longer (Offered w c)) (met_at k) (j.past q) = λ q i y v d e h.
       let old = old_complete (Offered w c) q i y v d e h in
@@ -361,13 +345,13 @@ module _ (j : Judged) (done : List Occurrence) (n : ℕ) (paired : Paired j n) (
       (λ (g : k == i ≡ true). absurd (b (eqb-true k i g)))
       (or_cases (j.past z i) (k == i) f))
       (or_cases (now j p n i) (now j z k i) h))
-      (number k i))
-      (number n i) in
+      (cases_eq k i))
+      (cases_eq n i) in
       record {
         size = size_of (Offered w c);
         complete = learn_complete (longer (Offered w c)) (met_at k) z known (learn p known j.past) known_complete (learn_complete (longer (Offered w c)) (met_at k) p known j.past known_complete past_complete);
         entries = λ d y u e. ⊎_elim
-            (λ (same : c ≡ d). absurd (none_is (sym (gone d same) ∙ e)))
+            (λ (same : c ≡ d). absurd (none-some _ (sym (gone d same) ∙ e)))
             (λ (other : c ≢ d). old_entries (Offered w c) d y u (sym (at_other channel_test j.pending c d None other) ∙ e))
             (same_or_not channel_test c d);
       }
@@ -405,8 +389,8 @@ module _ (j : Judged) (done : List Occurrence) (n : ℕ) (paired : Paired j n) (
 pub nothing_rounded : Rounded nothing_judged [] 0
 nothing_rounded = record {
   size = refl;
-  complete = λ q i z w c e h. absurd (none_is e);
-  entries = λ c z k e. absurd (none_is e);
+  complete = λ q i z w c e h. absurd (none-some _ e);
+  entries = λ c z k e. absurd (none-some _ e);
 }
 
 known_by_completions : (es done : List Occurrence) (j : Judged) → Paired j (length done) → CompletedFrom j done es → KnownFrom j done es

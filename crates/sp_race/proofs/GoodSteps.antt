@@ -1,5 +1,7 @@
 -- A step that is made in a state that a schedule comes to, sets no fault and is ordered: such steps can be exchanged.
 use Rattle.std.proofs.Common.{◌≡◌, ◌≢◌, ◌⊎◌, ⊎_elim, inl, inr, Bool, true, false, List, [], ◌∷◌, ◌++◌, length, Option, Some, None, refl, sym, ap, ◌∙◌, subst}
+use Rattle.std.proofs.lemmas.Bool.{false≢true}
+use Rattle.std.proofs.lemmas.Option.{none-some, same_Some}
 use Rattle.sp_base.specs.declared.fault.Fault.{Fault}
 use Rattle.sp_journal.specs.declared.entry.Way.{Way}
 use Rattle.sp_meaning.specs.Model.{Name, Channel, Totals, Language, Moves, Opens, Forks, Offering, Ends, Fails, Cargo, Message, Takes, State, Change, after}
@@ -32,33 +34,27 @@ pub record Made {L : Language} (limits : Totals) (s : State L) (p : Name) (t : S
   pub makes : Makes limits s p cs
   pub to : t ≡ after cs s
 
-some_is : {A : Type 0} {x y : A} → ◌≡◌ {A = Option A} (Some x) (Some y) → x ≡ y
-some_is e = cc
-
-none_is : {A : Type 0} {x : A} → ◌≡◌ {A = Option A} None (Some x) → ⊥
-none_is e = cc
-
 pub made_of : {L : Language} {limits : Totals} (s : State L) (p : Name) (t : State L) → step limits s p ≡ Some t → Quiet t → Made limits s p t
 made_of {L} {limits} s p t e quiet = by_own (working s p) refl e
   where
     by_acts : (own : L.Own) → working s p ≡ Some own → (a : ActOf L) → L.next own s.store ≡ a → (x : Outcome L) → acts s p a ≡ x → (f : Option Fault) → passed limits s.totals (cost a) ≡ f → Some (result_of s p (unless f x)) ≡ Some t → Made limits s p t
-    by_acts own w a is x e (Some f) g h = let k : (Some (p, f)) ≡ t.fault = ap (λ (z : State L). z.fault) (some_is h) in absurd (none_is (sym (k ∙ quiet)))
-    by_acts own w a is (Faulty f) e None g h = let k : (Some (p, f)) ≡ t.fault = ap (λ (z : State L). z.fault) (some_is h) in absurd (none_is (sym (k ∙ quiet)))
+    by_acts own w a is x e (Some f) g h = let k : (Some (p, f)) ≡ t.fault = ap (λ (z : State L). z.fault) (same_Some _ _ h) in absurd (none-some _ (sym (k ∙ quiet)))
+    by_acts own w a is (Faulty f) e None g h = let k : (Some (p, f)) ≡ t.fault = ap (λ (z : State L). z.fault) (same_Some _ _ h) in absurd (none-some _ (sym (k ∙ quiet)))
     by_acts own w a is (Advances cs) e None g h = record {
       cs = cs;
       makes = record { own = own; works = w; within = subst (λ z. passed limits s.totals (cost z) ≡ None) (sym is) g; does = subst (λ z. acts s p z ≡ Advances cs) (sym is) e };
-      to = sym (some_is h);
+      to = sym (same_Some _ _ h);
     }
 
     by_own : (o : Option L.Own) → working s p ≡ o → step_with limits s p o ≡ Some t → Made limits s p t
-    by_own None w h = absurd (none_is h)
+    by_own None w h = absurd (none-some _ h)
     by_own (Some own) w h = by_acts own w (L.next own s.store) refl (acts s p (L.next own s.store)) refl (passed limits s.totals (cost (L.next own s.store))) refl h
 
 can_step : {L : Language} (limits : Totals) (s : State L) (p : Name) (t : State L) → step limits s p ≡ Some t → (own : L.Own) × (working s p ≡ Some own)
 can_step {L} limits s p t e = by_own (working s p) refl e
   where
     by_own : (o : Option L.Own) → working s p ≡ o → step_with limits s p o ≡ Some t → (own : L.Own) × (working s p ≡ Some own)
-    by_own None w h = absurd (none_is h)
+    by_own None w h = absurd (none-some _ h)
     by_own (Some own) w h = (own, w)
 
 pub leads_on : {L : Language} (limits : Totals) (ps rs : List Name) (s t u : State L)
@@ -301,11 +297,8 @@ module _ {L : Language} (limits : Totals) (laws : Laws L) (origin : State L) (di
   noted_can j p m e = by_own (working j.state p) refl e
     where
       by_own : (o : Option L.Own) → working j.state p ≡ o → noted_with limits j p o ≡ Some m → (own : L.Own) × (working j.state p ≡ Some own)
-      by_own None w h = absurd (none_is h)
+      by_own None w h = absurd (none-some _ h)
       by_own (Some own) w h = (own, w)
-
-  some_eq : {x y : WithNotes L} → ◌≡◌ {A = Option (WithNotes L)} (Some x) (Some y) → x ≡ y
-  some_eq e = cc
 
   -- two good steps, of which the second could have been made first
   pub good_exchange : (s : WithNotes L) (p q : Name) (s1 s2 m : WithNotes L) → p ≢ q → GoodStep limits origin s p s1
@@ -318,7 +311,7 @@ module _ {L : Language} (limits : Totals) (laws : Laws L) (origin : State L) (di
       subst (λ z. GoodStep limits origin z q s2) here h in
       let w = noted_can s q m e in
       let k = keeps_working s.state p g.cs g.sound g.makes q w.0 (λ x. apart (sym x)) w.1 in
-      let own : w.0 ≡ h'.makes.own = some_is (sym k ∙ h'.makes.works) in
+      let own : w.0 ≡ h'.makes.own = same_Some _ _ (sym k ∙ h'.makes.works) in
       let x = exchanged s.state s.notes p q g.cs h'.cs g.way g.leads g.sound g.known g.quiet g.makes h'.makes apart
       (subst (λ z. working s.state q ≡ Some z) own w.1) g.knows h'.knows in
       let b = L.next h'.makes.own (after g.cs s.state).store in
@@ -339,7 +332,7 @@ module _ {L : Language} (limits : Totals) (laws : Laws L) (origin : State L) (di
         knows =
             subst (λ a. KnowsBefore L s.notes q a) (sym x.first_act) x.knows_first;
       } in
-      let m_is : mid ≡ m = some_eq (sym (made_step s q mid one) ∙ e) in
+      let m_is : mid ≡ m = same_Some _ _ (sym (made_step s q mid one) ∙ e) in
       let by_c : notes_after s.state s.notes q b ≡ notes_after s.state s.notes q c =
       ap (notes_after s.state s.notes q) (sym x.first_act) in
       let d = L.next x.second.own (after x.ds s.state).store in
@@ -412,7 +405,7 @@ noted_run limits [] s t n l = record { notes = n; leads = λ i. record { state =
 noted_run {L} limits (p ∷ ps) s t n l =
     let w = can_step limits s p l.0 l.2 in
     let n1 = notes_after s n p (L.next w.0 s.store) in
-    let is : result_of s p (outcome limits s p (L.next w.0 s.store)) ≡ l.0 = some_is (sym (ap (step_with limits s p) w.1) ∙ l.2) in
+    let is : result_of s p (outcome limits s p (L.next w.0 s.store)) ≡ l.0 = same_Some _ _ (sym (ap (step_with limits s p) w.1) ∙ l.2) in
     let r = noted_run limits ps l.0 t n1 l.3 in
     record { notes = r.notes; leads = (record { state = l.0; notes = n1 }, l.1, ap (noted_with limits (record { state = s; notes = n }) p) w.1 ∙ (λ i. Some (record { state = is i; notes = n1 })), r.leads) }
 
@@ -421,18 +414,15 @@ unnoted_run limits [] j k l = ap (λ (z : WithNotes _). z.state) l
 unnoted_run {L} limits (p ∷ ps) j k l = (l.0.state, l.1, unnoted (working j.state p) refl l.2, unnoted_run limits ps l.0 k l.3)
   where
     unnoted : (o : Option L.Own) → working j.state p ≡ o → noted_with limits j p o ≡ Some l.0 → step limits j.state p ≡ Some l.0.state
-    unnoted None w h = absurd (none_is h)
-    unnoted (Some own) w h = ap (step_with limits j.state p) w ∙ ap (λ x. Some x) (ap (λ (z : WithNotes L). z.state) (some_is h))
+    unnoted None w h = absurd (none-some _ h)
+    unnoted (Some own) w h = ap (step_with limits j.state p) w ∙ ap (λ x. Some x) (ap (λ (z : WithNotes L). z.state) (same_Some _ _ h))
 
 pub knows_nothing : IsKnowledge no_notes
-knows_nothing q e h = absurd (false_is h)
-  where
-    false_is : ◌≡◌ {A = Bool} false true → ⊥
-    false_is e = cc
+knows_nothing q e h = absurd (false≢true h)
 
 pub sound_opening : (L : Language) (own : L.Own) (store : L.Loc → L.Value) → Sound (opening L own store)
 sound_opening L own store = record {
-  waits = λ c z e. absurd (none_is e);
+  waits = λ c z e. absurd (none-some _ e);
   unborn = λ z k i h. refl;
   joined = λ z k i h. absurd h;
 }
@@ -455,4 +445,4 @@ confluence L limits own store laws disjoint ps t leads quiet stuck ordered qs u 
       where
         by : (o : Option L.Own) → working t p ≡ o → noted_with limits (record { state = t; notes = n }) p o ≡ None
         by None w = refl
-        by (Some own) w = absurd (none_is (sym h ∙ ap (step_with limits t p) w))
+        by (Some own) w = absurd (none-some _ (sym h ∙ ap (step_with limits t p) w))

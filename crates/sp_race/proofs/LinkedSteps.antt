@@ -1,5 +1,7 @@
 -- Each kind of step keeps the link between a journal and the notes beside its run.
 use Rattle.std.proofs.Common.{◌≡◌, ⊎_elim, inl, inr, ℕ, zero, suc, ◌+◌, ◌<◌, lt_irrefl, eqb-true, eq-eqb, Bool, true, false, cond, ◌||◌, ◌==◌, List, [], ◌∷◌, ◌++◌, length, Option, Some, None, refl, sym, ap, ◌∙◌, subst, arith}
+use Rattle.std.proofs.lemmas.Bool.{false_from_ne_true, ne_eqb}
+use Rattle.std.proofs.lemmas.Option.{none-some}
 use Rattle.sp_journal.specs.Names.{Happening, Opened, Offered, Paused, Occurrence}
 use Rattle.sp_journal.specs.Names as happenings
 use Rattle.sp_journal.specs.Past.{Judged, learn, teach, report, now, met_now, judged_by}
@@ -13,7 +15,7 @@ use Rattle.sp_race.specs.Notes.{Event, same_event, Notes, Note, Counts, Learns, 
 use Rattle.sp_race.specs.Noting.{notes_after}
 use Rattle.sp_race.specs.Linked.{known_label, IsPending, Linked}
 use Rattle.sp_race.proofs.NotesFrames.{HasCount}
-use Rattle.sp_race.proofs.Linking.{past_is, index_is, spread, linked_on, linked_waits, linked_meets, below_or_at, index_apart, not_true, none_is, kept_entry, grown_size}
+use Rattle.sp_race.proofs.Linking.{past_is, index_is, spread, linked_on, linked_waits, linked_meets, below_or_at, kept_entry, grown_size}
 
 puts_forks : {L : Language} (ws : List (L.Loc × L.Value)) (t : State L) → (after (puts ws) t).forks ≡ t.forks
 puts_forks [] t = refl
@@ -186,7 +188,7 @@ pause_linked {L} s v j done n label q link = record {
   size = grown_size done n entry link.size;
   past = λ r i lt. ⊎_elim
       (λ (less : i < n). link.past r i less ∙ ap (known_label (v.past r)) (sym (old i less)))
-      (λ (e : n ≡ i). subst (λ k. j.past r k ≡ known_label (v.past r) (labelled k)) e (not_true (j.past r n) (λ k. lt_irrefl n (link.below r n k)) ∙ sym (ap (known_label (v.past r)) new)))
+      (λ (e : n ≡ i). subst (λ k. j.past r k ≡ known_label (v.past r) (labelled k)) e (false_from_ne_true (j.past r n) (λ k. lt_irrefl n (link.below r n k)) ∙ sym (ap (known_label (v.past r)) new)))
       (below_or_at i n lt);
   below = λ r i e. let k = link.below r i e in omega (arith, k);
   pends = λ c z w e k. let b = link.pends c z w e k in record { at = b.at; is = b.is; inside = omega (arith, b.inside); names = old b.at b.inside ∙ b.names; entry = kept_entry done entry _ b.at b.entry };
@@ -204,10 +206,10 @@ pause_linked {L} s v j done n label q link = record {
     labelled i = cond (n == i) None (label i)
 
     old : (i : ℕ) → i < n → labelled i ≡ label i
-    old i lt = rw (index_apart n i (λ e. omega (arith, e, lt)))
+    old i lt = rw (ne_eqb n i (λ e. omega (arith, e, lt)))
 
     new : labelled n ≡ None
     new = rw (eq-eqb n n refl) refl
 
     inside : (i : ℕ) → i < suc n → (e : Event) → labelled i ≡ Some e → i < n
-    inside i lt e f = ⊎_elim (λ (less : i < n). less) (λ (is : n ≡ i). absurd (none_is (sym new ∙ subst (λ k. labelled k ≡ Some e) (sym is) f))) (below_or_at i n lt)
+    inside i lt e f = ⊎_elim (λ (less : i < n). less) (λ (is : n ≡ i). absurd (none-some _ (sym new ∙ subst (λ k. labelled k ≡ Some e) (sym is) f))) (below_or_at i n lt)

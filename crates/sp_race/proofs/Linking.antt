@@ -1,5 +1,7 @@
 -- Each step, and each entry that it makes, keep what a journal's pasts and the notes beside the run say of each other.
 use Rattle.std.proofs.Common.{◌≡◌, ◌≢◌, ◌⊎◌, ⊎_elim, inl, inr, ℕ, zero, suc, ◌<◌, lt_irrefl, lt_of_lt_of_le, length-append, slice_get, eqb-true, eq-eqb, Bool, true, false, cond, ◌&&◌, ◌||◌, ◌==◌, List, [], ◌∷◌, ◌++◌, length, Option, Some, None, nat_lt, refl, sym, ap, ◌∙◌, subst, arith}
+use Rattle.std.proofs.lemmas.Bool.{cases_eq, false_from_ne_true, ne_eqb, or_cases}
+use Rattle.std.proofs.lemmas.Option.{none-some, same_Some}
 use Rattle.sp_journal.specs.declared.entry.Way.{Way}
 use Rattle.sp_journal.specs.declared.entry.Way.TheVariants as way
 use Rattle.sp_journal.specs.Names.{same_way, Happening, Offered, Occurrence}
@@ -14,7 +16,7 @@ use Rattle.sp_meaning.proofs.Status.{Makes, waits_stands, waits_one, working_sta
 use Rattle.sp_race.specs.Notes.{Event, same_event, both, Notes, all_noted, mine, other_way, meeting_notes, notes_of, IsKnowledge, KnowsBefore}
 use Rattle.sp_race.specs.Noting.{notes_after}
 use Rattle.sp_race.specs.Linked.{known_label, Pended, Recorded, IsPending, Linked}
-use Rattle.sp_race.proofs.NotesFrames.{event_test, notes_in, events_frame, offers_frame, events_grow, HasCount, counted, or_cases}
+use Rattle.sp_race.proofs.NotesFrames.{event_test, notes_in, events_frame, offers_frame, events_grow, HasCount, counted}
 use Rattle.sp_race.proofs.Rendezvous.{ways_meet}
 
 -- an entry that knows the earlier offers by their own indices
@@ -30,25 +32,12 @@ known_linked s v j done n label p o link k = λ e h.
 pub below_or_at : (i n : ℕ) → i < suc n → (i < n) ⊎ (n ≡ i)
 below_or_at i n h = elim (nat_lt i n) as (λ b. nat_lt i n ≡ b → (i < n) ⊎ (n ≡ i)) [ true ↦ λ e. inl (grind (arith, e)) | false ↦ λ e. inr (grind (arith, e)) ] refl
 
-pub index_apart : (n i : ℕ) → n ≢ i → n == i ≡ false
-index_apart n i h = elim (n == i) as (λ b. n == i ≡ b → n == i ≡ false) [ true ↦ λ e. absurd (h (eqb-true n i e)) | false ↦ λ e. e ] refl
-
-pub not_true : (b : Bool) → (b ≡ true → ⊥) → b ≡ false
-not_true true h = absurd (h refl)
-not_true false h = refl
-
-pub some_is : {A : Type 0} {x y : A} → ◌≡◌ {A = Option A} (Some x) (Some y) → x ≡ y
-some_is e = cc
-
-pub none_is : {A : Type 0} {x : A} → ◌≡◌ {A = Option A} None (Some x) → ⊥
-none_is e = cc
-
 pub last_entry : (done : List Occurrence) (n : ℕ) (e : Occurrence) → length done ≡ n → slice_get (done ++ e ∷ []) n ≡ Some e
 last_entry [] n e h = subst (λ k. slice_get (e ∷ []) k ≡ Some e) h refl
 last_entry (d ∷ done) n e h = subst (λ k. slice_get (d ∷ (done ++ e ∷ [])) k ≡ Some e) h (last_entry done (length done) e refl)
 
 pub kept_entry : (done : List Occurrence) (e x : Occurrence) (i : ℕ) → slice_get done i ≡ Some x → slice_get (done ++ e ∷ []) i ≡ Some x
-kept_entry [] e x i h = absurd (none_is h)
+kept_entry [] e x i h = absurd (none-some _ h)
 kept_entry (d ∷ done) e x zero h = h
 kept_entry (d ∷ done) e x (suc i) h = kept_entry done e x i h
 
@@ -89,7 +78,7 @@ module _ {L : Language} {limits : Totals} (s : State L) (v : Notes) (p : Name) (
   labels i = cond (n == i) (Some (mine v p)) (label i)
 
   old_label : (i : ℕ) → i < n → labels i ≡ label i
-  old_label i lt = rw (index_apart n i (λ e. omega (arith, e, lt)))
+  old_label i lt = rw (ne_eqb n i (λ e. omega (arith, e, lt)))
 
   new_label : labels n ≡ Some (mine v p)
   new_label = rw (eq-eqb n n refl)
@@ -109,7 +98,7 @@ module _ {L : Language} {limits : Totals} (s : State L) (v : Notes) (p : Name) (
 
   pub index_is : (i : ℕ) → i < suc n → n == i ≡ known_label (same_event (mine v p)) (labels i)
   index_is i lt = ⊎_elim
-      (λ (less : i < n). index_apart n i (λ e. omega (arith, e, less)) ∙ sym (ap (known_label (same_event (mine v p))) (old_label i less) ∙ other_label i less (label i) refl))
+      (λ (less : i < n). ne_eqb n i (λ e. omega (arith, e, less)) ∙ sym (ap (known_label (same_event (mine v p))) (old_label i less) ∙ other_label i less (label i) refl))
       (λ (e : n ≡ i). eq-eqb n i e ∙ sym (subst (λ k. known_label (same_event (mine v p)) (labels k) ≡ true) e (ap (known_label (same_event (mine v p))) new_label ∙ itself event_test (mine v p))))
       (below_or_at i n lt)
 
@@ -117,7 +106,7 @@ module _ {L : Language} {limits : Totals} (s : State L) (v : Notes) (p : Name) (
   past_is q i lt = ⊎_elim
       (λ (less : i < n). link.past q i less ∙ ap (known_label (v.past q)) (sym (old_label i less)))
       (λ (e : n ≡ i). subst (λ k. j.past q k ≡ known_label (v.past q) (labels k)) e
-      (not_true (j.past q n) (λ k. lt_irrefl n (link.below q n k)) ∙ sym (ap (known_label (v.past q)) new_label ∙ not_true (v.past q (mine v p)) (λ k. lt_irrefl (v.events p) (known q (mine v p) k)))))
+      (false_from_ne_true (j.past q n) (λ k. lt_irrefl n (link.below q n k)) ∙ sym (ap (known_label (v.past q)) new_label ∙ false_from_ne_true (v.past q (mine v p)) (λ k. lt_irrefl (v.events p) (known q (mine v p) k)))))
       (below_or_at i n lt)
 
   labels_apart : (i k : ℕ) → i < suc n → k < suc n → (e : Event) → labels i ≡ Some e → labels k ≡ Some e → i ≡ k
@@ -172,7 +161,7 @@ module _ {L : Language} {limits : Totals} (s : State L) (v : Notes) (p : Name) (
             (λ (w : IsPending s v e). inr (w.0, w.1, pend w.1 ∙ w.2, w.3 ∙ mine_is w.1 w.0 w.2))
             (link.made x less e (sym (old_label x less) ∙ is)))
             (λ (f : n ≡ x).
-            let e_is : mine v p ≡ e = some_is (sym new_label ∙ subst (λ u. labels u ≡ Some e) (sym f) is) in
+            let e_is : mine v p ≡ e = same_Some _ _ (sym new_label ∙ subst (λ u. labels u ≡ Some e) (sym f) is) in
             inl (subst (λ (y : Event). y.nth < (all_noted ns v).events y.who) e_is (counted ns v p count)))
             (below_or_at x n lt);
         offers = λ c w e f. keep_recorded c w e (link.offers c w e (ap (λ g. g e) (sym (offers_frame s p a c w (off c) ns v k)) ∙ f));
@@ -192,7 +181,7 @@ module _ {L : Language} {limits : Totals} (s : State L) (v : Notes) (p : Name) (
         pends = λ c z w e k. ⊎_elim
             (λ (same : o.channel ≡ c).
             let here : t.pending c ≡ Some p = rw ((channel_test o.channel c).1 same) refl in
-            let z_is : p ≡ z = some_is (sym here ∙ e) in
+            let z_is : p ≡ z = same_Some _ _ (sym here ∙ e) in
             let there : t.condition p ≡ Waits o = rw (itself name_test p) refl in
             let w_is : o ≡ w = waits_is (sym there ∙ subst (λ x. t.condition x ≡ Waits w) (sym z_is) k) in
             record {
@@ -209,7 +198,7 @@ module _ {L : Language} {limits : Totals} (s : State L) (v : Notes) (p : Name) (
             record { at = b.at; is = at_other channel_test j.pending o.channel c (Some (p, n)) other ∙ b.is; inside = omega (arith, b.inside); names = old_label b.at b.inside ∙ b.names; entry = kept_entry done entry _ b.at b.entry })
             (same_or_not channel_test o.channel c);
         free = λ c e. ⊎_elim
-            (λ (same : o.channel ≡ c). let here : t.pending c ≡ Some p = rw ((channel_test o.channel c).1 same) refl in absurd (none_is (sym e ∙ here)))
+            (λ (same : o.channel ≡ c). let here : t.pending c ≡ Some p = rw ((channel_test o.channel c).1 same) refl in absurd (none-some _ (sym e ∙ here)))
             (λ (other : o.channel ≢ c). at_other channel_test j.pending o.channel c (Some (p, n)) other ∙ link.free c (sym (at_other channel_test s.pending o.channel c (Some p) other) ∙ e))
             (same_or_not channel_test o.channel c);
         forks = link.forks;
@@ -217,9 +206,9 @@ module _ {L : Language} {limits : Totals} (s : State L) (v : Notes) (p : Name) (
         made = λ x lt e is. ⊎_elim
             (λ (less : x < n). ⊎_elim
             (λ (m : e.nth < v.events e.who). inl m)
-            (λ (w : IsPending s v e). inr (w.0, w.1, at_other channel_test s.pending o.channel w.1 (Some p) (λ same. none_is (sym none ∙ ap s.pending same ∙ w.2)) ∙ w.2, w.3))
+            (λ (w : IsPending s v e). inr (w.0, w.1, at_other channel_test s.pending o.channel w.1 (Some p) (λ same. none-some _ (sym none ∙ ap s.pending same ∙ w.2)) ∙ w.2, w.3))
             (link.made x less e (sym (old_label x less) ∙ is)))
-            (λ (f : n ≡ x). inr (p, o.channel, at_key_here o, some_is (sym (subst (λ u. labels u ≡ Some e) (sym f) is) ∙ new_label)))
+            (λ (f : n ≡ x). inr (p, o.channel, at_key_here o, same_Some _ _ (sym (subst (λ u. labels u ≡ Some e) (sym f) is) ∙ new_label)))
             (below_or_at x n lt);
         offers = λ c w e k. keep_recorded c w e (link.offers c w e k);
       }
@@ -245,10 +234,10 @@ module _ {L : Language} {limits : Totals} (s : State L) (v : Notes) (p : Name) (
       let w_way : way_of w.cargo ≡ other = ways_meet o.cargo w.cargo m me in
       let at_is : (i : ℕ) → i < suc n → b.at == i ≡ known_label (same_event (mine v z)) (labels i) = λ i lt. ⊎_elim
       (λ (e : b.at ≡ i). eq-eqb b.at i e ∙ sym (subst (λ x. known_label (same_event (mine v z)) (labels x) ≡ true) e (ap (known_label (same_event (mine v z))) (old_label b.at b.inside ∙ b.names) ∙ itself event_test (mine v z))))
-      (λ (e : b.at ≢ i). index_apart b.at i e ∙ sym (not_true (known_label (same_event (mine v z)) (labels i)) (λ x.
+      (λ (e : b.at ≢ i). ne_eqb b.at i e ∙ sym (false_from_ne_true (known_label (same_event (mine v z)) (labels i)) (λ x.
       let y = is_label z (labels i) x in
       e (labels_apart b.at i (omega (arith, b.inside)) lt (mine v z) (old_label b.at b.inside ∙ b.names) y))))
-      (number b.at i) in
+      (cases_eq b.at i) in
       let pend_other : (c : Channel) → o.channel ≢ c → t.pending c ≡ s.pending c = λ c e. at_other channel_test s.pending o.channel c None e in
       let pend_here : t.pending o.channel ≡ None = rw (itself channel_test o.channel) refl in
       let z_other : (c : Channel) (y : Name) → o.channel ≢ c → s.pending c ≡ Some y → z ≢ y = λ c y e k x. e (waits_one o.channel c (s.condition z) (sound.waits o.channel z pe) (subst (λ r. WaitsOn c (s.condition r)) (sym x) (sound.waits c y k))) in
@@ -263,7 +252,7 @@ module _ {L : Language} {limits : Totals} (s : State L) (v : Notes) (p : Name) (
         below = λ q i e. in_past (same_name z q) (same_name p q) (j.past q i) (j.past p i) (n == i) (j.past z i) (b.at == i) i
             (λ k. link.below q i k) (λ k. link.below p i k) (λ k. link.below z i k) (λ k. eqb-true n i k) (λ k. subst (λ x. x < n) (eqb-true b.at i k) b.inside) e;
         pends = λ c y x e k. ⊎_elim
-            (λ (same : o.channel ≡ c). absurd (none_is (sym (subst (λ x. t.pending x ≡ None) same pend_here) ∙ e)))
+            (λ (same : o.channel ≡ c). absurd (none-some _ (sym (subst (λ x. t.pending x ≡ None) same pend_here) ∙ e)))
             (λ (away : o.channel ≢ c).
             let before : s.pending c ≡ Some y = sym (pend_other c away) ∙ e in
             let f = p_other c y before in
@@ -283,24 +272,18 @@ module _ {L : Language} {limits : Totals} (s : State L) (v : Notes) (p : Name) (
             (λ (k : e.nth < v.events e.who). inl (lt_of_lt_of_le k (events_grow ns v e.who)))
             (λ (k : IsPending s v e). ⊎_elim
             (λ (same : o.channel ≡ k.1).
-            let z_is : z ≡ k.0 = some_is (sym pe ∙ ap s.pending same ∙ k.2) in
+            let z_is : z ≡ k.0 = same_Some _ _ (sym pe ∙ ap s.pending same ∙ k.2) in
             inl (subst (λ (y : Event). y.nth < u.events y.who) (sym (k.3 ∙ ap (λ y. mine v y) (sym z_is))) (counted ns v z (inr (inl refl)))))
             (λ (away : o.channel ≢ k.1). inr (k.0, k.1, pend_other k.1 away ∙ k.2, k.3 ∙ ap (λ d. record { who = k.0; nth = d }) (sym (events_other k.0 (p_other k.1 k.0 k.2) (z_other k.1 k.0 away k.2)))))
             (same_or_not channel_test o.channel k.1))
             (link.made x less e (sym (old_label x less) ∙ is)))
             (λ (f : n ≡ x).
-            let e_is : mine v p ≡ e = some_is (sym new_label ∙ subst (λ d. labels d ≡ Some e) (sym f) is) in
+            let e_is : mine v p ≡ e = same_Some _ _ (sym new_label ∙ subst (λ d. labels d ≡ Some e) (sym f) is) in
             inl (subst (λ (y : Event). y.nth < u.events y.who) e_is (counted ns v p (inl refl))))
             (below_or_at x n lt);
         offers = λ c x e k. recorded other w_way (same_channel o.channel c) (same_way other x) (same_way (way_of o.cargo) x) c x e ((channel_test o.channel c).0) (way_is other x) (way_is (way_of o.cargo) x) (sym (two_records (same_channel o.channel c && same_way other x) (same_channel o.channel c && same_way (way_of o.cargo) x) (v.offers c x) (same_event (mine v z)) (same_event (mine v p)) e) ∙ k);
       }
     where
-      number : (a b : ℕ) → (a ≡ b) ⊎ (a ≢ b)
-      number a b = elim (a == b) as (λ c. a == b ≡ c → (a ≡ b) ⊎ (a ≢ b)) [ true ↦ λ e. inl (eqb-true a b e) | false ↦ λ e. inr (λ f. true_false (sym (eq-eqb a b f) ∙ e)) ] refl
-        where
-          true_false : ◌≡◌ {A = Bool} true false → ⊥
-          true_false e = cc
-
       is_label : (z : Name) (l : Option Event) → known_label (same_event (mine v z)) l ≡ true → l ≡ Some (mine v z)
       is_label z None h = absurd (cc h)
       is_label z (Some e) h = ap (λ x. Some x) (sym ((event_test (mine v z) e).0 h))

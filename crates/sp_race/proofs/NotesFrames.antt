@@ -1,23 +1,25 @@
 -- What a step's notes are of, that all else stays, and that notes of two steps commute.
 use Rattle.std.proofs.Common.{◌≡◌, ◌⊎◌, ⊎_elim, inl, inr, ℕ, suc, zero, ◌+◌, ◌<◌, ◌≤◌, le_refl, le_trans, lt_of_lt_of_le, lt_of_le_of_lt, Bool, true, false, cond, ◌&&◌, ◌||◌, ◌==◌, List, [], ◌∷◌, length, Option, Some, None, eqb-true, eq-eqb, refl, sym, ap, ◌∙◌, subst, arith}
 use Rattle.std.proofs.Math.Path.{fun_ext}
+use Rattle.std.proofs.lemmas.Bool.{and_from, or_cases}
+use Rattle.sp_base.proofs.Facts.{first_true, second_true}
 use Rattle.sp_journal.specs.declared.entry.Way.{Way}
 use Rattle.sp_journal.specs.Names.{same_way}
 use Rattle.sp_meaning.specs.Maps.{IsTest}
 use Rattle.sp_meaning.specs.Model.{Name, Channel, same_name, same_channel, Language, Moves, Opens, Forks, Offering, Ends, Fails, State}
 use Rattle.sp_meaning.specs.Steps.{ActOf, OfferOf, way_of}
 use Rattle.sp_meaning.proofs.Maps.{differs}
-use Rattle.sp_meaning.proofs.Keys.{name_test, channel_test, and_left, and_right, and_both}
+use Rattle.sp_meaning.proofs.Keys.{name_test, channel_test}
 use Rattle.sp_meaning.proofs.Frames.{IsOn, IsPartner, IsChild, IsNear}
 use Rattle.sp_meaning.proofs.Status.{IsParent}
 use Rattle.sp_race.specs.Notes.{Event, same_event, both, Notes, Note, Counts, Learns, Records, noted, all_noted, mine, knows, teaches, tells, other_way, meeting_notes, offer_notes, notes_of, IsKnowledge}
 
 pub event_test : IsTest same_event
 event_test a b = (
-  λ h. let o : a.who ≡ b.who = (name_test a.who b.who).0 (and_left (same_name a.who b.who) (a.nth == b.nth) h) in
-      let n : a.nth ≡ b.nth = eqb-true a.nth b.nth (and_right (same_name a.who b.who) (a.nth == b.nth) h) in
+  λ h. let o : a.who ≡ b.who = (name_test a.who b.who).0 (first_true (same_name a.who b.who) (a.nth == b.nth) h) in
+      let n : a.nth ≡ b.nth = eqb-true a.nth b.nth (second_true (same_name a.who b.who) (a.nth == b.nth) h) in
       λ i. record { who = o i; nth = n i },
-  λ e. and_both (same_name a.who b.who) (a.nth == b.nth) ((name_test a.who b.who).1 (ap (λ (c : Event). c.who) e)) (eq-eqb a.nth b.nth (ap (λ (c : Event). c.nth) e)),
+  λ e. and_from (same_name a.who b.who) (a.nth == b.nth) ((name_test a.who b.who).1 (ap (λ (c : Event). c.who) e)) (eq-eqb a.nth b.nth (ap (λ (c : Event). c.nth) e)),
 )
 
 -- Notes only add, so any two commute
@@ -188,10 +190,6 @@ AllLearn m [] = Unit {0}
 AllLearn m (Learns r k ∷ xs) = ((e : Event) → k e ≡ true → e.nth < m e.who) × AllLearn m xs
 AllLearn m (Counts r ∷ xs) = AllLearn m xs
 AllLearn m (Records c w e ∷ xs) = AllLearn m xs
-
-pub or_cases : (a b : Bool) → a || b ≡ true → (a ≡ true) ⊎ (b ≡ true)
-or_cases true b h = inl refl
-or_cases false b h = inr h
 
 learn_all : (m : Name → ℕ) (xs : List Note) (n : Notes) → AllLearn m xs → ((q : Name) (e : Event) → n.past q e ≡ true → e.nth < m e.who) → (q : Name) (e : Event) → (all_noted xs n).past q e ≡ true → e.nth < m e.who
 learn_all m [] n h k q e x = k q e x

@@ -1,7 +1,9 @@
 -- Two offers on one channel: who waits and who comes may change places.
 use Rattle.std.proofs.Common.{◌≡◌, ◌≢◌, ◌⊎◌, ⊎_elim, inl, inr, ◌<◌, Bool, true, false, cond, ◌&&◌, ◌||◌, ◌==◌, List, [], ◌∷◌, Some, None, eqb-true, eq-eqb, refl, sym, ap, ◌∙◌, subst, arith}
 use Rattle.std.proofs.Math.Path.{fun_ext}
+use Rattle.std.proofs.lemmas.Bool.{and_from}
 use Rattle.sp_base.specs.declared.fault.Fault.TheVariants as fault
+use Rattle.sp_base.proofs.Facts.{or_with_true}
 use Rattle.sp_journal.specs.declared.entry.Way.{Way}
 use Rattle.sp_journal.specs.declared.entry.Way.TheVariants as way
 use Rattle.sp_journal.specs.Names.{same_way}
@@ -9,7 +11,7 @@ use Rattle.sp_meaning.specs.Maps.{at_key}
 use Rattle.sp_meaning.specs.Model.{Name, Channel, same_name, same_channel, Totals, add, Language, Offering, Cargo, Message, Takes, Works, Waits, State, Change, after}
 use Rattle.sp_meaning.specs.Steps.{ActOf, OfferOf, ConditionOf, working, Advances, Faulty, way_of, message, an_entry, meeting, waiting, hands, meets, offered, acts, cost, passed, Sound}
 use Rattle.sp_meaning.proofs.Maps.{itself}
-use Rattle.sp_meaning.proofs.Keys.{name_test, channel_test, and_both}
+use Rattle.sp_meaning.proofs.Keys.{name_test, channel_test}
 use Rattle.sp_meaning.proofs.Status.{Makes, working_stands, far, keeps_working, working_no_parent}
 use Rattle.sp_meaning.proofs.Meeting.{met}
 use Rattle.sp_race.specs.Notes.{Event, same_event, both, Notes, Note, Counts, Learns, Records, noted, all_noted, mine, knows, other_way, meeting_notes, offer_notes, notes_of, IsKnowledge, KnowsBefore}
@@ -90,21 +92,17 @@ stays true f g e h = rw h refl
 stays false f g e h = h
 
 adds_to : (b : Bool) (f g : Event → Bool) (e : Event) → b ≡ true → g e ≡ true → cond b (both f g) f e ≡ true
-adds_to true f g e k h = rw h (or_true (f e))
-  where
-    or_true : (x : Bool) → x || true ≡ true
-    or_true true = refl
-    or_true false = refl
+adds_to true f g e k h = rw h (or_with_true (f e))
 adds_to false f g e k h = absurd (cc k)
 
 recorded_first : (n : Notes) (p : Name) (c : Channel) (w : Way) (z : Name) → (all_noted (meeting_notes n p c w z) n).offers c w (mine n p) ≡ true
 recorded_first n p c w z =
     stays (same_channel c c && same_way (other_way w) w) _ (same_event (mine n z)) (mine n p)
-    (adds_to (same_channel c c && same_way w w) (n.offers c w) (same_event (mine n p)) (mine n p) (and_both _ _ (itself channel_test c) (way_itself _)) (itself event_test (mine n p)))
+    (adds_to (same_channel c c && same_way w w) (n.offers c w) (same_event (mine n p)) (mine n p) (and_from _ _ (itself channel_test c) (way_itself _)) (itself event_test (mine n p)))
 
 recorded_second : (n : Notes) (p : Name) (c : Channel) (w : Way) (z : Name) → (all_noted (meeting_notes n p c w z) n).offers c (other_way w) (mine n z) ≡ true
 recorded_second n p c w z =
-    adds_to (same_channel c c && same_way (other_way w) (other_way w)) _ (same_event (mine n z)) (mine n z) (and_both _ _ (itself channel_test c) (way_itself _)) (itself event_test (mine n z))
+    adds_to (same_channel c c && same_way (other_way w) (other_way w)) _ (same_event (mine n z)) (mine n z) (and_from _ _ (itself channel_test c) (way_itself _)) (itself event_test (mine n z))
 
 one_of : (v w : Way) → (v ≡ w) ⊎ (v ≡ other_way w)
 one_of way.Send way.Send = inl refl

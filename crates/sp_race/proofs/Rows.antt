@@ -1,5 +1,6 @@
 -- Worked journals: which are ordered, by computation.
 use Rattle.std.proofs.Common.{◌≡◌, ℕ, true, false, List, [], ◌∷◌, refl, sym, ◌∙◌}
+use Rattle.std.proofs.lemmas.Bool.{true≢false}
 use Rattle.sp_journal.specs.declared.entry.Way.TheVariants as way
 use Rattle.sp_journal.specs.Names.{Name, Channel, Happening, Opened, Forked, Offered, Ended, Occurrence}
 use Rattle.sp_journal.specs.Past.{AreOrdered}
@@ -26,10 +27,7 @@ abbrev receives : Channel → Happening
 receives c = Offered way.Receive c
 
 not_ordered : (es : List Occurrence) → order_test es ≡ false → AreOrdered es → ⊥
-not_ordered es h o = let t = ordered_test es o in true_false (sym t ∙ h)
-  where
-    true_false : true ≡ false → ⊥
-    true_false e = cc e
+not_ordered es h o = let t = ordered_test es o in true≢false (sym t ∙ h)
 
 -- two senders and one that receives twice: the second sender does not know of the first rendezvous
 abbrev two_senders : List Occurrence

@@ -1,5 +1,7 @@
 -- Along an ordered journal goes an ordered schedule, so each schedule ends as it does.
 use Rattle.std.proofs.Common.{◌≡◌, ◌⊎◌, ⊎_elim, ℕ, zero, suc, ◌+◌, Bool, true, false, List, [], ◌∷◌, ◌++◌, length, Option, Some, None, refl, sym, ap, ◌∙◌, subst, arith}
+use Rattle.std.proofs.lemmas.Bool.{false≢true}
+use Rattle.std.proofs.lemmas.Option.{none-some, same_Some}
 use Rattle.sp_base.specs.declared.fault.Fault.{Fault}
 use Rattle.sp_journal.specs.Past.{Judged, judged_by, nothing_judged, AreOrdered}
 use Rattle.sp_meaning.specs.Model.{Name, Language, Moves, Opens, Forks, Offering, Ends, Fails, Change, after}
@@ -23,7 +25,7 @@ use Rattle.sp_race.specs.Known.{KnowsOffers, KnownFrom}
 use Rattle.sp_race.specs.Linked.{Linked}
 use Rattle.sp_race.proofs.NotesFrames.{known_kept}
 use Rattle.sp_race.proofs.GoodSteps.{made_of, sound_opening, knows_nothing, confluence}
-use Rattle.sp_race.proofs.Linking.{some_is, none_is, known_linked}
+use Rattle.sp_race.proofs.Linking.{known_linked}
 use Rattle.sp_race.proofs.LinkedSteps.{opens_linked, forks_linked, ends_linked, moves_linked, offers_linked, pause_linked}
 use Rattle.sp_race.proofs.Completion.{ordered_known}
 
@@ -56,7 +58,7 @@ module _ (g : Setting) where
       → next g s q ≡ Some m → m.fault ≡ None → Stepped s q own m
   stepped s q own m run st quiet =
       let x = made_of s q m st quiet in
-      record { cs = x.cs; one = x.makes; same = some_is (sym x.makes.works ∙ run); to = x.to; quiet = quiet }
+      record { cs = x.cs; one = x.makes; same = same_Some _ _ (sym x.makes.works ∙ run); to = x.to; quiet = quiet }
 
   -- what the step says
   pub said : (s : StateOf g) (q : Name) (own : Process) (m : StateOf g) (x : Stepped s q own m)
@@ -86,8 +88,8 @@ module _ (g : Setting) where
     leads = (m, quiet, st, go.leads);
     still = go.still;
     ordered = (
-      λ o w. subst (λ z. KnowsBefore (superpascal g) v q ((superpascal g).next z s.store)) (some_is (sym run ∙ w)) knows,
-      λ o k w e. subst (λ z. IsOrderedRun (most g) k (notes_after s v q ((superpascal g).next z s.store)) go.names) (some_is (sym run ∙ w)) (subst (λ (z : StateOf g). IsOrderedRun (most g) z (notes_after s v q ((superpascal g).next own s.store)) go.names) (some_is (sym st ∙ e)) go.ordered),
+      λ o w. subst (λ z. KnowsBefore (superpascal g) v q ((superpascal g).next z s.store)) (same_Some _ _ (sym run ∙ w)) knows,
+      λ o k w e. subst (λ z. IsOrderedRun (most g) k (notes_after s v q ((superpascal g).next z s.store)) go.names) (same_Some _ _ (sym run ∙ w)) (subst (λ (z : StateOf g). IsOrderedRun (most g) z (notes_after s v q ((superpascal g).next own s.store)) go.names) (same_Some _ _ (sym st ∙ e)) go.ordered),
     );
   }
 
@@ -106,10 +108,10 @@ module _ (g : Setting) where
 
       by : (a : ActOf (superpascal g)) → (superpascal g).next x.one.own s.store ≡ a → said_of a (Advances x.cs) ≡ None → IsMove s x.one.own
       by (Moves o ws) e h = record { next_own = o; writes = ws; is = e }
-      by (Opens o ws) e h = absurd (none_is (sym h))
-      by (Forks o os) e h = absurd (none_is (sym h))
-      by (Offering o) e h = absurd (none_is (sym h))
-      by Ends e h = absurd (none_is (sym h))
+      by (Opens o ws) e h = absurd (none-some _ (sym h))
+      by (Forks o os) e h = absurd (none-some _ (sym h))
+      by (Offering o) e h = absurd (none-some _ (sym h))
+      by Ends e h = absurd (none-some _ (sym h))
       by (Fails f) e h = absurd (faulty_does (ap (acts s q) (sym e) ∙ x.one.does))
 
   pub moves_know : (s : StateOf g) (own : Process) (v : Notes) (q : Name) → IsMove s own
@@ -168,18 +170,18 @@ module _ (g : Setting) where
       }
 
       by : (a : ActOf (superpascal g)) → (superpascal g).next x.one.own s.store ≡ a → (w : Happening) → said_of a (Advances x.cs) ≡ Some w → KnowsOffers j done q w → Enters_at s v q own m (judged_by j n q w) (With done q w) (suc n)
-      by (Moves o ws) e w h k = absurd (none_is h)
-      by (Fails f) e w h k = absurd (none_is h)
-      by (Opens o ws) e w h k = subst (λ z. Enters_at s v q own m (judged_by j n q z) (With done q z) (suc n)) (some_is h)
+      by (Moves o ws) e w h k = absurd (none-some _ h)
+      by (Fails f) e w h k = absurd (none-some _ h)
+      by (Opens o ws) e w h k = subst (λ z. Enters_at s v q own m (judged_by j n q z) (With done q z) (suc n)) (same_Some _ _ h)
           (put Opened _ (opens_linked s v q x.cs at.sound at.known x.one j done n label at.linked o ws e) (subst (λ a. KnowsBefore (superpascal g) v q a) (sym e) tt))
-      by (Forks o os) e w h k = subst (λ z. Enters_at s v q own m (judged_by j n q z) (With done q z) (suc n)) (some_is h)
+      by (Forks o os) e w h k = subst (λ z. Enters_at s v q own m (judged_by j n q z) (With done q z) (suc n)) (same_Some _ _ h)
           (put (Forked (length os)) _ (forks_linked s v q x.cs at.sound at.known x.one j done n label at.linked o os e) (subst (λ a. KnowsBefore (superpascal g) v q a) (sym e) tt))
       by (Offering o) e w h k =
-          let k' : KnowsOffers j done q (Offered (way_of o.cargo) o.channel) = subst (KnowsOffers j done q) (sym (some_is h)) k in
-          subst (λ z. Enters_at s v q own m (judged_by j n q z) (With done q z) (suc n)) (some_is h)
+          let k' : KnowsOffers j done q (Offered (way_of o.cargo) o.channel) = subst (KnowsOffers j done q) (sym (same_Some _ _ h)) k in
+          subst (λ z. Enters_at s v q own m (judged_by j n q z) (With done q z) (suc n)) (same_Some _ _ h)
           (put (Offered (way_of o.cargo) o.channel) _ (offers_linked s v q x.cs at.sound at.known x.one j done n label at.linked o e)
           (subst (λ a. KnowsBefore (superpascal g) v q a) (sym e) (known_linked s v j done n label q o at.linked k')))
-      by Ends e w h k = subst (λ z. Enters_at s v q own m (judged_by j n q z) (With done q z) (suc n)) (some_is h)
+      by Ends e w h k = subst (λ z. Enters_at s v q own m (judged_by j n q z) (With done q z) (suc n)) (same_Some _ _ h)
           (put Ended _ (ends_linked s v q x.cs at.sound at.known x.one j done n label at.linked e) (subst (λ a. KnowsBefore (superpascal g) v q a) (sym e) tt))
 
   abbrev Goes_on : (Course → StateOf g → ℕ → Type 0) → StateOf g → Judged → List Occurrence → ℕ → Type 0
@@ -217,17 +219,14 @@ module _ (g : Setting) where
   linked_start = record {
     size = refl;
     past = λ q i h. absurd (omega (arith, h));
-    below = λ q i h. absurd (false_true h);
-    pends = λ c z w e k. absurd (none_is e);
+    below = λ q i h. absurd (false≢true h);
+    pends = λ c z w e k. absurd (none-some _ e);
     free = λ c e. refl;
     forks = λ q. refl;
-    apart = λ i k h l e f. absurd (none_is f);
-    made = λ i h e f. absurd (none_is f);
-    offers = λ c w e h. absurd (false_true h);
+    apart = λ i k h l e f. absurd (none-some _ f);
+    made = λ i h e f. absurd (none-some _ f);
+    offers = λ c w e h. absurd (false≢true h);
   }
-    where
-      false_true : ◌≡◌ {A = Bool} false true → ⊥
-      false_true e = cc
 
   -- a run that is done or idle, whose journal is ordered: each lawful schedule ends as it does
   pub each_ends_alike : (turn : ℕ) (es : List Occurrence) (n : ℕ) (t : StateOf g) → IsDisjointRun g → IsAlong g turn es n t → IsClean es → IsDone g t ⊎ IsIdle g t → AreOrdered es

@@ -1,6 +1,7 @@
 -- The program of a text that breaks no rule is ready (`accepted_ready`).
 use Rattle.std.proofs.Common.{◌≡◌, ℕ, zero, suc, List, [], ◌∷◌, Some, slice_get, refl, sym, ap, ◌∙◌, subst}
 use Rattle.std.specs.Prelude.{map}
+use Rattle.std.proofs.lemmas.Option.{same_Some}
 use Rattle.sp_base.specs.declared.limits.Limits.{Limits}
 use Rattle.sp_base.specs.declared.rule.Rule.TheVariants as rule
 use Rattle.sp_tree.specs.declared.checked.Role.TheVariants as role
@@ -20,10 +21,7 @@ use Rattle.sp_link.specs.Premises.{IsReady}
 
 variable_at : (vs : List Placed) (x : ℕ) (v : Variable) → slice_get (map variable_of vs) x ≡ Some v → (i : Placed) × (slice_get vs x ≡ Some i) × (variable_of i ≡ v)
 variable_at [] x v e = absurd (cc e)
-variable_at (i ∷ vs) zero v e = (i, refl, some e)
-  where
-    some : {x y : Variable} → Some x ≡ Some y → x ≡ y
-    some e = cc e
+variable_at (i ∷ vs) zero v e = (i, refl, same_Some _ _ e)
 variable_at (i ∷ vs) (suc x) v e = variable_at vs x v e
 
 module _ (p : c.Program) (kept : KeepsInterference p) where

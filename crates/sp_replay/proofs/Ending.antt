@@ -1,5 +1,6 @@
 -- The end and the output of a run that was followed.
 use Rattle.std.proofs.Common.{◌≡◌, ◌≢◌, ℕ, zero, suc, ◌<◌, ◌||◌, nat_lt, if◌then◌else◌, Bool, true, false, List, [], ◌∷◌, length, Option, Some, None, refl, sym, ap, ◌∙◌, subst, arith}
+use Rattle.std.proofs.lemmas.Option.{same_Some}
 use Rattle.sp_cell.specs.Map.{Plain}
 use Rattle.sp_journal.specs.declared.outcome.End.{End}
 use Rattle.sp_code.specs.PlainStore.{plain}
@@ -100,9 +101,6 @@ module _ (x : Kernel) (c : HasCome x) (who : ℕ → Option Proc) (o : AreOut x 
   pub by_held : (bs : List ℕ) (q : ℕ) (p : Proc) → who q ≡ Some p → written_by p ≡ Some bs → (r : ℕ) × IsOutputOf (system_of x) r bs
   by_held bs q p e w = (q, is_output q p.store bs (store_is q p e) w)
 
-  same_store : {a b : Plain} → Some a ≡ Some b → a ≡ b
-  same_store e = cc
-
   -- one of both has it
   pub nowhere : ((bs : List ℕ) → HeldHere x bs → ⊥) → ((q : ℕ) (p : Proc) → who q ≡ Some p → written_by p ≡ None) → ⊥
   nowhere not_here not_held = go ((control_of x).doing holder.0) refl
@@ -110,7 +108,7 @@ module _ (x : Kernel) (c : HasCome x) (who : ℕ → Option Proc) (o : AreOut x 
       away : IsAway ((control_of x).doing holder.0) → ⊥
       away a =
           let w = o.all holder.0 a in
-          let same : w.0.store ≡ holder.2.store = same_store (sym (store_is holder.0 w.0 w.1) ∙ holder.2.at) in
+          let same : w.0.store ≡ holder.2.store = same_Some _ _ (sym (store_is holder.0 w.0 w.1) ∙ holder.2.at) in
           let some : written_by w.0 ≡ Some holder.1 = ap (λ (m : Plain). plain.output m) same ∙ holder.2.output in
           let no = not_held holder.0 w.0 w.1 in
           absurd (cc (some, no))

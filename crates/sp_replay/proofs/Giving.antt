@@ -1,5 +1,6 @@
 -- Who is out after a process was taken, and after one was handed in.
 use Rattle.std.proofs.Common.{◌≡◌, ◌≢◌, ◌⊎◌, ℕ, ◌==◌, inl, inr, if◌then◌else◌, Bool, true, false, [], Option, Some, None, refl, sym, ap, ◌∙◌, subst}
+use Rattle.std.proofs.lemmas.Option.{none-some, same_Some}
 use Rattle.sp_cell.specs.Map.{Plain}
 use Rattle.sp_journal.specs.declared.entry.Event.{Event}
 use Rattle.sp_journal.specs.declared.entry.Event.TheVariants as event
@@ -21,12 +22,6 @@ use Rattle.sp_kernel.proofs.Serving.{same_setting}
 use Rattle.sp_replay.specs.Following.{IsAway, IsOutAs, AreOut, with_taken}
 use Rattle.sp_kernel.proofs.Closing.{back_kept}
 use Rattle.sp_replay.proofs.Away.{away_by_none, back_still}
-
-some_is : {X : Type 0} {a b : X} → Some a ≡ Some b → a ≡ b
-some_is e = cc
-
-none_some : {X : Type 0} (a : X) → None ≡ Some a → ⊥
-none_some a e = absurd (cc e)
 
 -- the same processes by another table
 pub out_same : (y : Kernel) (f h : ℕ → Option Proc) → ((q : ℕ) → h q ≡ f q) → AreOut y f → AreOut y h
@@ -62,7 +57,7 @@ module _ (x y : Kernel) (who : ℕ → Option Proc) (o : AreOut x who) where
         where
           go : (p.number ≡ q) ⊎ ((p.number ≢ q) × (p.number == q ≡ false)) → IsOutAs y q u
           go (inl is) =
-              let same : p ≡ u = some_is (sym (subst (λ z. at_key ◌==◌ p.number (Some p) who z ≡ Some p) is here) ∙ e) in
+              let same : p ≡ u = same_Some _ _ (sym (subst (λ z. at_key ◌==◌ p.number (Some p) who z ≡ Some p) is here) ∙ e) in
               subst (λ z. IsOutAs y q z) same (subst (λ z. IsOutAs y z p) is mine)
           go (inr n) =
               let w : IsOutAs x q u = o.each q u (sym (at_other who p.number q (Some p) n.0) ∙ e) in
@@ -102,7 +97,7 @@ module _ (x : Kernel) (whole : IsKernel x) (none : x.ready ≡ []) (who : ℕ �
   each_left q u f = go (number_or h.proc.number q)
     where
       go : (h.proc.number ≡ q) ⊎ ((h.proc.number ≢ q) × (h.proc.number == q ≡ false)) → IsOutAs m q u
-      go (inl is) = absurd (none_some u (sym (subst (λ z. at_key ◌==◌ h.proc.number None who z ≡ None) is (at_same who h.proc.number None)) ∙ sym (others q) ∙ f))
+      go (inl is) = absurd (none-some u (sym (subst (λ z. at_key ◌==◌ h.proc.number None who z ≡ None) is (at_same who h.proc.number None)) ∙ sym (others q) ∙ f))
       go (inr n) =
           let w : IsOutAs x q u = o.each q u (sym (at_other who h.proc.number q None n.0) ∙ sym (others q) ∙ f) in
           record {

@@ -5,6 +5,7 @@ use Rattle.std.specs.List.{list_all}
 use Rattle.std.proofs.lemmas.Grind.{common_steps}
 use Rattle.std.specs.Fmt.{digit_glyph, digits, digits_onto}
 use Rattle.std.proofs.lemmas.List.Folds.{list_all-append}
+use Rattle.std.proofs.lemmas.Bool.{and_from, and_parts, not-true}
 use Rattle.sp_base.specs.Faults.{fault_name}
 use Rattle.sp_base.specs.Names.{channel_text, name_text, pair_text, pairs_text}
 use Rattle.sp_base.specs.declared.fault.Fault.{Fault}
@@ -24,11 +25,8 @@ use Rattle.sp_report.specs.Timeline.{numbered, timeline_lines}
 abbrev no_feed : List ℕ → Bool
 no_feed xs = list_all (λ x. not (x == 10)) xs
 
-both : (a b : Bool) → a ≡ true → b ≡ true → (a && b) ≡ true
-both a b e f = rw (e, f) refl
-
 joined : (xs ys : List ℕ) → no_feed xs ≡ true → no_feed ys ≡ true → no_feed (xs ++ ys) ≡ true
-joined xs ys e f = list_all-append (λ x. not (x == 10)) xs ys ∙ both _ _ e f
+joined xs ys e f = list_all-append (λ x. not (x == 10)) xs ys ∙ and_from _ _ e f
 
 glyph_is_none : (d : ℕ) → not (digit_glyph false d == 10) ≡ true
 glyph_is_none d = go (nat_lt d 10)
@@ -39,11 +37,11 @@ glyph_is_none d = go (nat_lt d 10)
 
 digits_clean : (k n : ℕ) (acc : List ℕ) → no_feed acc ≡ true → no_feed (digits_onto k 10 false n acc) ≡ true
 digits_clean zero n acc e = e
-digits_clean (suc k) n acc e = go (n / 10 == 0) (digits_clean k (n / 10) (digit_glyph false (n % 10) ∷ acc) (both _ _ (glyph_is_none (n % 10)) e))
+digits_clean (suc k) n acc e = go (n / 10 == 0) (digits_clean k (n / 10) (digit_glyph false (n % 10) ∷ acc) (and_from _ _ (glyph_is_none (n % 10)) e))
   where
     go : (b : Bool) → no_feed (digits_onto k 10 false (n / 10) (digit_glyph false (n % 10) ∷ acc)) ≡ true
         → no_feed (cond b (digit_glyph false (n % 10) ∷ acc) (digits_onto k 10 false (n / 10) (digit_glyph false (n % 10) ∷ acc))) ≡ true
-    go true rest = both _ _ (glyph_is_none (n % 10)) e
+    go true rest = and_from _ _ (glyph_is_none (n % 10)) e
     go false rest = rest
 
 number_clean : (n : ℕ) → no_feed (decimal n) ≡ true
@@ -95,20 +93,12 @@ event_clean s event.Pause = refl
 entry_clean : (s : Births) (e : Entry) → no_feed (entry_text s e) ≡ true
 entry_clean s e = joined (name_text (proc_name (s.name e.process)) ++ codes " ") (event_text s e.event) (joined (name_text (proc_name (s.name e.process))) (codes " ") (name_clean (proc_name (s.name e.process))) refl) (event_clean s e.event)
 
-left_true : (a b : Bool) → (a && b) ≡ true → (a ≡ true) × (b ≡ true)
-left_true true b e = (refl, e)
-left_true false b e = absurd (true≢false (sym e))
-
-not_true : (a : Bool) → not a ≡ true → a ≡ false
-not_true true e = absurd (true≢false (sym e))
-not_true false e = refl
-
 -- the rest of a line, and then the lines after it
 line_rest : (xs rest : List ℕ) (n : ℕ) → no_feed xs ≡ true → numbered false n ((xs ++ codes "\n") ++ rest) ≡ (xs ++ codes "\n") ++ numbered true n rest
 line_rest [] rest n e = refl
 line_rest (x ∷ xs) rest n e =
-    let parts = left_true (not (x == 10)) (no_feed xs) e in
-    let other : (x == 10) ≡ false = not_true (x == 10) parts.0 in
+    let parts = and_parts (not (x == 10)) (no_feed xs) e in
+    let other : (x == 10) ≡ false = not-true (x == 10) parts.0 in
     rw other (ap (λ ys. x ∷ ys) (line_rest xs rest n parts.1))
 
 -- the text of entries with a number before each line is their timeline

@@ -1,5 +1,7 @@
 -- Each step of a turn keeps the rule of the room's table.
 use Rattle.std.proofs.Common.{◌≡◌, ◌≢◌, ◌⊎◌, inl, inr, ⊎_elim, ℕ, ◌+◌, ◌-◌, ◌%◌, ◌^◌, ◌<◌, ◌≤◌, List, [], ◌∷◌, ◌++◌, length, drop, get_or, set, eqb, refl, sym, ap, ◌∙◌, subst, arith, length-set, length-append, true≢false, get_or-set_same, get_or-set_other, Option, Some, None, true, false}
+use Rattle.std.proofs.Math.Seq.{drop-append_seam}
+use Rattle.std.proofs.lemmas.Option.{same_Some}
 use mathlib.Core.Option.{some, none, some-injective}
 use lib.ListN.{get_elem?}
 use lib.Seq.{set-get_or}
@@ -9,10 +11,7 @@ use Rattle.atomic_table.proofs.Lists.{at_set, set_here, set_else, set_again, exc
 use Rattle.sp_room.specs.declared.view.View.{View}
 use Rattle.sp_room.specs.History.{StartsWith, notes_by, LeadsTo}
 use Rattle.sp_room.specs.Roomed.{Filed, St, Sat, Knows, Roomed, holder, raised, returned, Won, claims_of, in_hand, Raised, RaisedLast, raised_last, Returned}
-use Rattle.sp_room.proofs.Histories.{at_inside, starts_self, starts_trans, drop_seen, by_mine, by_other, claims_set, claims_has}
-
-some_same : {X : Type 0} (x y : X) → Some x ≡ Some y → x ≡ y
-some_same x y e = cc e
+use Rattle.sp_room.proofs.Histories.{at_inside, starts_self, starts_trans, by_mine, by_other, claims_set, claims_has}
 
 module _ {O A G N : Type 0} (opens : O → Type 0) (steps : O → ℕ → A → O → G → Option N → Type 0) (author : N → ℕ) (opening : O) where
   abbrev V : Type 0
@@ -156,7 +155,7 @@ module _ {O A G N : Type 0} (opens : O → Type 0) (steps : O → ℕ → A → 
             (
               subst (λ l. StartsWith l me.0.seen) (sym t.2) k.seen,
               ap (notes_by author me.0.number) t.2 ∙ (ap (λ n. notes_by author n r.log) k.numbered ∙ k.own),
-              (λ x is. let same : opening ≡ x = some_same opening x (sym k.opened ∙ is) in (subst opens same r.fine, subst (λ (z : O × List N). LeadsTo steps z.0 z.1 d.value.object) (λ i. (same i, sym t.2 i)) t.3)),
+              (λ x is. let same : opening ≡ x = same_Some opening x (sym k.opened ∙ is) in (subst opens same r.fine, subst (λ (z : O × List N). LeadsTo steps z.0 z.1 d.value.object) (λ i. (same i, sym t.2 i)) t.3)),
               omega (arith, claims_has s.views id me.0 at, t.4),
               omega (arith, ap (λ (l : List N). length l) t.2, t.5),
             ),
@@ -169,7 +168,7 @@ module _ {O A G N : Type 0} (opens : O → Type 0) (steps : O → ℕ → A → 
       → LeadsTo steps opening (me.0.seen ++ note ∷ []) y → length me.0.seen + 1 < 18446744073709551616
       → Allows Rule slots id me 1 (λ n. (n + 1) % 2 ^ 64) (Raised (step slots 1 1 0 none) me)
   raises slots id me note y active holding hand named runs room s r deep at small = let k = r.each id me.0 at active in let h = k.holds holding in
-      let e : drop (length me.0.seen) (in_hand me.1) ≡ note ∷ [] = ap (drop (length me.0.seen)) hand ∙ drop_seen me.0.seen (note ∷ []) in
+      let e : drop (length me.0.seen) (in_hand me.1) ≡ note ∷ [] = ap (drop (length me.0.seen)) hand ∙ drop-append_seam me.0.seen (note ∷ []) in
       let w : V = raised me.0 (note ∷ []) in let wide = r.wide in let n : ℕ = get_or s.words 1 0 in
       let count : n ≡ length me.0.seen = r.count ∙ ap (λ (l : List N). length l) (sym h.1) in
       let next : (n + 1) % 2 ^ 64 ≡ n + 1 = omega arith in
@@ -210,7 +209,7 @@ module _ {O A G N : Type 0} (opens : O → Type 0) (steps : O → ℕ → A → 
       → LeadsTo steps opening (me.0.seen ++ note ∷ []) y → 0 < me.0.claims → length me.0.seen + 1 < 18446744073709551616
       → Allows Rule slots id me 1 (λ n. (n + 1) % 2 ^ 64) (RaisedLast (step slots 1 1 0 none) me)
   raises_last slots id me note y active holding hand named runs claim room s r deep at small = let k = r.each id me.0 at active in let h = k.holds holding in
-      let e : drop (length me.0.seen) (in_hand me.1) ≡ note ∷ [] = ap (drop (length me.0.seen)) hand ∙ drop_seen me.0.seen (note ∷ []) in
+      let e : drop (length me.0.seen) (in_hand me.1) ≡ note ∷ [] = ap (drop (length me.0.seen)) hand ∙ drop-append_seam me.0.seen (note ∷ []) in
       let w : V = raised_last me.0 (note ∷ []) in let wide = r.wide in let n : ℕ = get_or s.words 1 0 in
       let count : n ≡ length me.0.seen = r.count ∙ ap (λ (l : List N). length l) (sym h.1) in
       let next : (n + 1) % 2 ^ 64 ≡ n + 1 = omega arith in
@@ -301,7 +300,7 @@ module _ {O A G N : Type 0} (opens : O → Type 0) (steps : O → ℕ → A → 
   counted : (me me' me'' : Sat O N) (d : Filed O N) (note : N) → me ≡ (me.0, (0, None) ∷ []) → me' ≡ (me.0, (0, Some d) ∷ Rattle.atomic_table.specs.Table.rest me.1)
       → d.value.notes.items ≡ me.0.seen ++ note ∷ [] → me'' ≡ (raised me'.0 (drop (length me'.0.seen) (in_hand me'.1)), me'.1) → me'' ≡ (raised me.0 (note ∷ []), (0, Some d) ∷ [])
   counted me me' me'' d note bare is items up = up ∙ (ap (λ (m : Sat O N). (raised m.0 (drop (length m.0.seen) (in_hand m.1)), m.1)) (laid me me' d bare is)
-      ∙ ap (λ (l : List N). (raised me.0 l, (0, Some d) ∷ [])) (ap (drop (length me.0.seen)) items ∙ drop_seen me.0.seen (note ∷ [])))
+      ∙ ap (λ (l : List N). (raised me.0 l, (0, Some d) ∷ [])) (ap (drop (length me.0.seen)) items ∙ drop-append_seam me.0.seen (note ∷ [])))
 
   -- and then the turn is given back
   pub gives_on : (slots id : ℕ) (me me' me'' : Sat O N) (d : Filed O N) (note : N) → me ≡ (me.0, (0, None) ∷ []) → me' ≡ (me.0, (0, Some d) ∷ Rattle.atomic_table.specs.Table.rest me.1)
@@ -321,7 +320,7 @@ module _ {O A G N : Type 0} (opens : O → Type 0) (steps : O → ℕ → A → 
   counted_last : (me me' me'' : Sat O N) (d : Filed O N) (note : N) → me ≡ (me.0, (0, None) ∷ []) → me' ≡ (me.0, (0, Some d) ∷ Rattle.atomic_table.specs.Table.rest me.1)
       → d.value.notes.items ≡ me.0.seen ++ note ∷ [] → me'' ≡ (raised_last me'.0 (drop (length me'.0.seen) (in_hand me'.1)), me'.1) → me'' ≡ (raised_last me.0 (note ∷ []), (0, Some d) ∷ [])
   counted_last me me' me'' d note bare is items up = up ∙ (ap (λ (m : Sat O N). (raised_last m.0 (drop (length m.0.seen) (in_hand m.1)), m.1)) (laid me me' d bare is)
-      ∙ ap (λ (l : List N). (raised_last me.0 l, (0, Some d) ∷ [])) (ap (drop (length me.0.seen)) items ∙ drop_seen me.0.seen (note ∷ [])))
+      ∙ ap (λ (l : List N). (raised_last me.0 l, (0, Some d) ∷ [])) (ap (drop (length me.0.seen)) items ∙ drop-append_seam me.0.seen (note ∷ [])))
 
   -- and then the turn is given back
   pub gives_last : (slots id : ℕ) (me me' me'' : Sat O N) (d : Filed O N) (note : N) → me ≡ (me.0, (0, None) ∷ []) → me' ≡ (me.0, (0, Some d) ∷ Rattle.atomic_table.specs.Table.rest me.1)
@@ -336,4 +335,4 @@ pub given_on : {O N : Type 0} (me me' me'' me''' : Sat O N) (d : Filed O N) (not
     → me''' ≡ (returned (raised me.0 (note ∷ [])), [])
 given_on {O} {N} me me' me'' me''' d note bare is items up back = back ∙ ap (λ (m : Sat O N). (returned m.0, [])) (up ∙ (ap (λ (m : Sat O N). (raised m.0 (drop (length m.0.seen) (in_hand m.1)), m.1))
     (is ∙ ap (λ (m : Sat O N). (me.0, (0, Some d) ∷ Rattle.atomic_table.specs.Table.rest m.1)) bare)
-    ∙ ap (λ (l : List N). (raised me.0 l, (0, Some d) ∷ [])) (ap (drop (length me.0.seen)) items ∙ drop_seen me.0.seen (note ∷ []))))
+    ∙ ap (λ (l : List N). (raised me.0 l, (0, Some d) ∷ [])) (ap (drop (length me.0.seen)) items ∙ drop-append_seam me.0.seen (note ∷ []))))

@@ -1,5 +1,6 @@
 -- Dealing out seats, taking them in, and the end: each keeps the rule of the room's table.
 use Rattle.std.proofs.Common.{◌≡◌, ◌≢◌, ◌⊎◌, inl, inr, ⊎_elim, ℕ, zero, suc, ◌+◌, ◌-◌, ◌<◌, ◌≤◌, List, [], ◌∷◌, ◌++◌, length, get_or, set, refl, sym, ap, ◌∙◌, subst, arith, length-set, length-append, true≢false, Option, Some, true, false}
+use Rattle.std.proofs.lemmas.Option.{same_Some}
 use mathlib.Core.Logic.{dite}
 use mathlib.Core.Option.{some, some-injective, some-ne-none}
 use native.Mathlib.Decide.{ℕ_discrete}
@@ -17,9 +18,6 @@ at_end [] a b zero e = inr (refl, some-injective a b e)
 at_end [] a b (suc j) e = absurd (some-ne-none b (sym e))
 at_end (x ∷ xs) a b zero e = inl e
 at_end (x ∷ xs) a b (suc j) e = ⊎_elim (λ t. inl t) (λ t. inr (ap suc t.0, t.1)) (at_end xs a b j e)
-
-some_same : {X : Type 0} (x y : X) → Some x ≡ Some y → x ≡ y
-some_same x y e = cc e
 
 pub at_some : {X : Type 0} (l : List X) (i : ℕ) → i < length l → (x : X) × (get_elem? l i ≡ some x)
 at_some [] i h = absurd (omega arith)
@@ -226,7 +224,7 @@ module _ {O A G N : Type 0} (opens : O → Type 0) (steps : O → ℕ → A → 
       → get_elem? slots 0 ≡ some x → x ≡ Some d → (k : ℕ) → v.dealt ≤ k → notes_by author k d.value.notes.items ≡ []
   nobody_else words slots id v x d final active idle from deals found is k out = let s : St O N = final.0 in let r = final.1.0 in let at = final.1.1 in let c = (r.each id v at active).counts deals in
       let h = r.free (all_home s r id v at active idle from deals) in
-      let same : h.0 ≡ d = some_same h.0 d (sym (some-injective x (Some h.0) (sym found ∙ final.4 0 (Some h.0) h.1)) ∙ is) in
+      let same : h.0 ≡ d = same_Some h.0 d (sym (some-injective x (Some h.0) (sym found ∙ final.4 0 (Some h.0) h.1)) ∙ is) in
       ap (λ (e : Filed O N). notes_by author k e.value.notes.items) (sym same) ∙ (ap (λ l. notes_by author k l) h.2 ∙ r.nobody k (omega (arith, c.0, out)))
 
 -- the first of several seats leaves the dealing to the next
@@ -262,6 +260,6 @@ pub settled : {O A G N : Type 0} (opens : O → Type 0) (steps : O → ℕ → A
     → LeadsTo steps start d.value.notes.items d.value.object × ((k : ℕ) (own : List N) → get_elem? (v.joined ++ v.own ∷ []) k ≡ some own → notes_by author k d.value.notes.items ≡ own)
     × ((k : ℕ) (l : List N) → get_elem? (v.looked ++ v.seen ∷ []) k ≡ some l → StartsWith d.value.notes.items l)
 settled {O} {A} {G} {N} opens steps author start words slots id v x d final active idle from dealing found is = let t = settles opens steps author start words slots id v x final active idle from dealing found in
-    let same : t.0 ≡ d = some_same t.0 d (sym t.1 ∙ is) in
+    let same : t.0 ≡ d = same_Some t.0 d (sym t.1 ∙ is) in
     subst (λ (e : Filed O N). LeadsTo steps start e.value.notes.items e.value.object × ((k : ℕ) (own : List N) → get_elem? (v.joined ++ v.own ∷ []) k ≡ some own → notes_by author k e.value.notes.items ≡ own)
     × ((k : ℕ) (l : List N) → get_elem? (v.looked ++ v.seen ∷ []) k ≡ some l → StartsWith e.value.notes.items l)) same (t.2, t.3, t.4)

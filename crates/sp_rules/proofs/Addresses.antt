@@ -3,6 +3,7 @@
 use Rattle.std.proofs.Common.{◌≡◌, ◌⊎◌, inl, inr, ⊎_elim, ℕ, zero, suc, ◌+◌, ◌-◌, ◌≤◌, ◌==◌, List, [], ◌∷◌, length}
 use Rattle.std.proofs.Common.{Option, Some, None, Bool, true, false, if◌then◌else◌, refl, sym, ap, ◌∙◌, subst}
 use Rattle.std.specs.Prelude.{slice_get, nat_lt}
+use Rattle.std.proofs.lemmas.Option.{same_Some}
 use Rattle.sp_tree.specs.Interference.{IsMember}
 use Rattle.sp_code.specs.declared.code.Formal.{Formal}
 use Rattle.sp_code.specs.declared.code.Formal.TheVariants as formal
@@ -24,9 +25,6 @@ use Rattle.sp_rules.specs.Shapes.{one_gone, two_gone, read_as, filled, begins, g
 use Rattle.sp_rules.proofs.Lists.{member_front, member_back}
 use Rattle.sp_rules.proofs.Scoping.{layout_variable, declared_here, member_home, index_declared, index_in}
 use Rattle.sp_rules.proofs.Walking.{passes}
-
-some_is : {X : Type 0} {y z : X} → Some y ≡ Some z → y ≡ z
-some_is e = cc
 
 module _ (P : ℕ → Type 0) where
   -- each address is in a variable of P
@@ -266,21 +264,21 @@ module _ (c : Parts) (k : Keeps c) where
         → IsMember x (all_variables c.layouts hs)
     at_home [] up x h e m = absurd (cc e)
     at_home (g ∷ hs) zero x h e m = member_front x (variables_in c.layouts g) (all_variables c.layouts hs)
-        (subst (λ z. IsMember x (variables_in c.layouts z)) (sym (some_is e)) m)
+        (subst (λ z. IsMember x (variables_in c.layouts z)) (sym (same_Some _ _ e)) m)
     at_home (g ∷ hs) (suc up) x h e m = member_back x (variables_in c.layouts g) (all_variables c.layouts hs)
         (at_home hs up x h e m)
 
     listed : (xs : List ℕ) (n x : ℕ) → slice_get xs n ≡ Some x → IsMember x xs
     listed [] n x e = absurd (cc e)
-    listed (y ∷ xs) zero x e = inl (sym (some_is e))
+    listed (y ∷ xs) zero x e = inl (sym (same_Some _ _ e))
     listed (y ∷ xs) (suc n) x e = inr (listed xs n x e)
 
     number_is : (x : ℕ) (o : Option Formal) (s : Option ℕ) (f : Found) → found_by x o s ≡ Some f → f.number ≡ x
     number_is x None None f e = absurd (cc e)
-    number_is x None (Some n) f e = sym (ap (λ (z : Found). z.number) (some_is e))
+    number_is x None (Some n) f e = sym (ap (λ (z : Found). z.number) (same_Some _ _ e))
     number_is x (Some (formal.Value m)) None f e = absurd (cc e)
-    number_is x (Some (formal.Value m)) (Some n) f e = sym (ap (λ (z : Found). z.number) (some_is e))
-    number_is x (Some (formal.Reference m)) s f e = sym (ap (λ (z : Found). z.number) (some_is e))
+    number_is x (Some (formal.Value m)) (Some n) f e = sym (ap (λ (z : Found). z.number) (same_Some _ _ e))
+    number_is x (Some (formal.Reference m)) s f e = sym (ap (λ (z : Found). z.number) (same_Some _ _ e))
 
     in_layout : (l : Layout) (n : ℕ) (f : Found) → found_in l n ≡ Some f → IsMember f.number l.variables
     in_layout l n f e = go (slice_get l.variables n) refl e
@@ -298,8 +296,8 @@ module _ (c : Parts) (k : Keeps c) where
       where
         never : (v : ℕ) → Some (record { number = v; cells = 1; naming = Never }) ≡ Some f → ⊥
         never v e = ⊎_elim
-            (λ z. (let n : is_plain Never ≡ true = ap (λ (z : Found). is_plain z.naming) (some_is e) ∙ z in cc n))
-            (λ z. (let n : is_reference Never ≡ true = ap (λ (z : Found). is_reference z.naming) (some_is e)
+            (λ z. (let n : is_plain Never ≡ true = ap (λ (z : Found). is_plain z.naming) (same_Some _ _ e) ∙ z in cc n))
+            (λ z. (let n : is_reference Never ≡ true = ap (λ (z : Found). is_reference z.naming) (same_Some _ _ e)
             ∙ z in cc n)) w
 
         by : (l : Layout) (t : Bool)
@@ -320,7 +318,7 @@ module _ (c : Parts) (k : Keeps c) where
       where
         go : (t : Bool) → (if t then Some (record { number = x; cells = 1; naming = Plainly }) else None) ≡ Some f
             → IsMember f.number (x ∷ [])
-        go true e = inl (sym (ap (λ (z : Found). z.number) (some_is e)))
+        go true e = inl (sym (ap (λ (z : Found). z.number) (same_Some _ _ e)))
         go false e = absurd (cc e)
 
     pub found_around : (up var : ℕ) (f : Found) → variable_at c a up var ≡ Some f → (is_plain f.naming ≡ true)

@@ -3,6 +3,7 @@
 use Rattle.std.proofs.Common.{◌≡◌, ◌≢◌, ◌⊎◌, inl, inr, ℕ, ◌-◌, ◌≤◌, ◌==◌, cond, if◌then◌else◌, List, [], ◌∷◌, ◌++◌}
 use Rattle.std.proofs.Common.{length, Some, Bool, true, false, refl, sym, ap, ◌∙◌, subst, arith}
 use Rattle.std.proofs.lemmas.Bool.{eqb-true}
+use Rattle.std.proofs.lemmas.List.{nil_from_length}
 use Rattle.sp_tree.specs.Interference.{IsMember}
 use Rattle.sp_cell.specs.declared.cell.Cell.{Cell}
 use Rattle.sp_cell.specs.declared.spot.Address.{Address}
@@ -261,10 +262,6 @@ module _ (g : Setting) {Area : Type 0} (H : Area → List Home) (E : Area → �
           lent = lent_rest g H E T Room Cells base b rs r mine pc qc st qt n c j a l;
         }
 
-        nothing : (xs : List ℕ) → length xs ≡ 0 → xs ≡ []
-        nothing [] e = refl
-        nothing (x ∷ xs) e = absurd (omega (arith, e))
-
         back : without r rs ≡ [] → joined.whole ≡ (plain.joined n.store c.store).map
         back gone = sym (same_map (plain.joined n.store c.store).map joined.whole
             (λ q. joined.lent.rest q (subst (λ xs. NotIn q (moved_to g H E T Room Cells base xs)) (sym gone) tt)))
@@ -275,7 +272,7 @@ module _ (g : Setting) {Area : Type 0} (H : Area → List Home) (E : Area → �
             (on_store (λ m. plain.joined m c.store) (At pc st n)))
         go true is =
             let one : left ≡ 1 = eqb-true left 1 is in
-            let gone : without r rs ≡ [] = nothing (without r rs) (without_length r rs mine
+            let gone : without r rs ≡ [] = nil_from_length (without r rs) (without_length r rs mine
             ∙ ap (λ k. k - 1) (e ∙ one)) in (
               j.area ∷ j.callers,
               subst (λ (m : Map). Lives g H E T b (j.area ∷ j.callers)

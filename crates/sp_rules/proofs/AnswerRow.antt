@@ -3,6 +3,9 @@
 use Rattle.std.proofs.Common.{◌≡◌, ◌⊎◌, inl, inr, ⊎_elim, ℕ, zero, suc, ◌+◌, ◌≤◌, ◌<◌, List, [], ◌∷◌, Option, Some}
 use Rattle.std.proofs.Common.{None, Bool, true, false, ◌&&◌, refl, ap, subst, arith}
 use Rattle.std.specs.Prelude.{slice_get, All}
+use Rattle.std.proofs.lemmas.Bool.{and_parts}
+use Rattle.std.proofs.lemmas.Option.{same_Some}
+use Rattle.sp_base.proofs.Facts.{not_true_and_false}
 use Rattle.sp_code.specs.declared.instr.Instr.{Instr}
 use Rattle.sp_code.specs.declared.instr.Instr.TheVariants as i
 use Rattle.sp_code.specs.declared.code.Layout.{Layout}
@@ -15,7 +18,6 @@ use Rattle.sp_rules.specs.Named.{is_program, Declared, InLayout, OfChild, IsBefo
 use Rattle.sp_rules.specs.Named.{NotThere, BlocksApart, WithoutProgram, Twice, SizesDiffer, TableUnnamed, TableIndexed}
 use Rattle.sp_rules.specs.Named.{TableUnknown, LevelDiffers, InTwo, EndsWrong, OutOfRange, NamedWrong, LoopsWrong}
 use Rattle.sp_rules.specs.Rules.{BreaksV4, OtherLength, NoRoom, SendsAt, BreaksV9, ComesBack, Wanders, free_nexts}
-use Rattle.sp_rules.proofs.Facts.{both_true, no_true, same_some}
 use Rattle.sp_rules.proofs.Rows.{main, answer, only, keeps_v2, keeps_v3, keeps_v5}
 use Rattle.sp_rules.specs.Effects.{IsCalled}
 use Rattle.sp_code.specs.Sizes.{IsSize, HasNumbers, HasSmallSizes, KeepsSizes}
@@ -30,17 +32,17 @@ all_instrs f (x ∷ xs) = f (Some x) && all_instrs f xs
 
 each_instr : (f : Option Instr → Bool) (xs : List Instr) → all_instrs f xs ≡ true → (p : ℕ) → f (slice_get xs p) ≡ true
 each_instr f [] e p = e
-each_instr f (x ∷ xs) e zero = (both_true (f (Some x)) (all_instrs f xs) e).0
-each_instr f (x ∷ xs) e (suc p) = each_instr f xs (both_true (f (Some x)) (all_instrs f xs) e).1 p
+each_instr f (x ∷ xs) e zero = (and_parts (f (Some x)) (all_instrs f xs) e).0
+each_instr f (x ∷ xs) e (suc p) = each_instr f xs (and_parts (f (Some x)) (all_instrs f xs) e).1 p
 
 -- it has one layout
 one_layout : (P : Layout → Type 0) → P main → (j : ℕ) (l : Layout) → slice_get answer.layouts j ≡ Some l → P l
-one_layout P h zero l e = subst P (same_some main l e) h
+one_layout P h zero l e = subst P (same_Some main l e) h
 one_layout P h (suc j) l e = absurd (cc e)
 
 misplaced : (well : Area → Option Instr → Bool) → all_instrs (well (Body 0)) answer.instrs ≡ true → (p : ℕ) → (a : Area)
     × LiesIn answer p a × (well a (instr_at answer p) ≡ false) → ⊥
-misplaced well e p (a, l, f) = no_true (well a (instr_at answer p))
+misplaced well e p (a, l, f) = not_true_and_false (well a (instr_at answer p))
     (only (λ a. well a (instr_at answer p) ≡ true) (each_instr (well (Body 0)) answer.instrs e p) a l.0) f
 
 -- no instruction goes on past the last one
@@ -59,7 +61,7 @@ ends_there (suc (suc (suc (suc (suc (suc (suc (suc (suc p))))))))) h m = m
 declared_twice : (d : Declared) (x p : ℕ) → declared answer d ≡ Some (x, p) → (x < 2)
     ⊎ ((e : Declared) × (q : ℕ) × IsBefore e d × (declared answer e ≡ Some (x, q))) → ⊥
 declared_twice (InLayout zero zero) x p e (inl h) = let s : 2 ≡ x = ap (λ (z : ℕ
-    × ℕ). z.0) (same_some (2, 0) (x, p) e) in omega (arith, h, s)
+    × ℕ). z.0) (same_Some (2, 0) (x, p) e) in omega (arith, h, s)
 declared_twice (InLayout zero zero) x p e (inr (InLayout j k, q, inl h, f)) = omega (arith, h)
 declared_twice (InLayout zero zero) x p e (inr (InLayout j k, q, inr h, f)) = let l = h.1 in omega (arith, l)
 declared_twice (InLayout zero zero) x p e (inr (OfChild t k, q, h, f)) = h
@@ -68,20 +70,20 @@ declared_twice (InLayout (suc j) k) x p e h = cc e
 declared_twice (OfChild t k) x p e h = cc e
 
 pub keeps_v1 : (p : ℕ) → BreaksV1 answer p → ⊥
-keeps_v1 p (NotThere (inl e)) = no_true (names_there answer (instr_at answer p))
+keeps_v1 p (NotThere (inl e)) = not_true_and_false (names_there answer (instr_at answer p))
     (each_instr (names_there answer) answer.instrs refl p) e
 keeps_v1 p (NotThere (inr m)) = ⊎_elim (λ z. let e = one_layout (λ l. l.entry ≡ p
     → ⊥) (λ h. let past = m.past in omega (arith, h, past)) z.1.0 z.0 z.1.1 in e z.2) (λ z. cc z.3) m.of
 keeps_v1 p (BlocksApart (zero, l, e, s, inl (zero, m, f, n, b))) = n refl
 keeps_v1 p (BlocksApart (zero, l, e, s, inl (suc k, m, f, n, b))) = cc f
-keeps_v1 p (BlocksApart (zero, l, e, s, inr h)) = no_true (leads_by 1 answer.layouts (Some l))
+keeps_v1 p (BlocksApart (zero, l, e, s, inr h)) = not_true_and_false (leads_by 1 answer.layouts (Some l))
     (one_layout (λ l. leads_by 1 answer.layouts (Some l) ≡ true) refl zero l e) h
 keeps_v1 p (BlocksApart (suc j, l, e, s, h)) = cc e
 keeps_v1 p (WithoutProgram (inl h)) = cc h.0
-keeps_v1 p (WithoutProgram (inr h)) = no_true (is_program h.0)
+keeps_v1 p (WithoutProgram (inr h)) = not_true_and_false (is_program h.0)
     (one_layout (λ l. is_program l ≡ true) refl h.1.0 h.0 h.1.1) h.4
 keeps_v1 p (Twice h) = declared_twice h.0 h.1 p h.2 h.3
-keeps_v1 p (SizesDiffer h) = no_true (has_sizes h.0) (one_layout (λ l. has_sizes l ≡ true) refl h.1.0 h.0 h.1.1) h.3
+keeps_v1 p (SizesDiffer h) = not_true_and_false (has_sizes h.0) (one_layout (λ l. has_sizes l ≡ true) refl h.1.0 h.0 h.1.1) h.3
 keeps_v1 p (TableUnnamed h) = cc h.2
 keeps_v1 p (TableIndexed (t, q, inl h)) = cc h.1.2
 keeps_v1 p (TableIndexed (t, q, inr h)) = cc h.1.2
@@ -99,7 +101,7 @@ sends_not (Some (i.Send k)) = false
 sends_not o = true
 
 no_send : (p k n : ℕ) → SendsAt answer p k n → ⊥
-no_send p k n s = no_true (sends_not (instr_at answer p)) (each_instr sends_not answer.instrs refl p) (ap sends_not s.3)
+no_send p k n s = not_true_and_false (sends_not (instr_at answer p)) (each_instr sends_not answer.instrs refl p) (ap sends_not s.3)
 
 pub keeps_v4 : (p : ℕ) → BreaksV4 answer p → ⊥
 keeps_v4 p (OtherLength k n q m s l r d) = no_send p k n s
@@ -149,7 +151,7 @@ calls_not o = true
 
 no_call : (a : Area) (p b up : ℕ) (ss : List Shape) (l : Layout) → IsCalled answer a p b up ss l → ⊥
 unfolding calls_not
-no_call a p b up ss l h = no_true (calls_not (instr_at answer p)) (each_instr calls_not answer.instrs refl p)
+no_call a p b up ss l h = not_true_and_false (calls_not (instr_at answer p)) (each_instr calls_not answer.instrs refl p)
     (ap calls_not h.call)
 
 no_child : (o : Option ℕ) (k : ℕ) (t : ChildTable) → child_of (table_at [] o) k ≡ Some t → ⊥
@@ -165,5 +167,5 @@ verified V5 p h = keeps_v5 p h
 verified V6 p h = no_child (table_named (instr_at answer h.1)) h.2 h.3 h.5
 verified V7 p (inl (a, b, up, ss, l, area, call, h)) = no_call a p b up ss l call
 verified V7 p (inr h) = no_call h.3.0.0 h.3.0.1 h.0.block h.3.0.2 h.3.0.3 h.3.0.4 h.3.0.6
-verified V8 p h = no_true h.0.answer h.3.0 (one_layout (λ l. l.answer ≡ false) refl h.1.0 h.0 h.1.1)
+verified V8 p h = not_true_and_false h.0.answer h.3.0 (one_layout (λ l. l.answer ≡ false) refl h.1.0 h.0 h.1.1)
 verified V9 p h = keeps_v9 p h

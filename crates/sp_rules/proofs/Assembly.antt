@@ -1,6 +1,7 @@
 -- Code that breaks no rule is sound.
 use Rattle.std.proofs.Common.{◌≡◌, inl, ℕ, ◌<◌, List, [], ◌∷◌, length, Some, zero, suc, refl, sym, subst, arith, get_or}
 use Rattle.std.specs.Prelude.{All, slice_get}
+use Rattle.std.proofs.lemmas.Option.{same_Some, slice_get_within}
 use Rattle.sp_code.specs.declared.code.Layout.{Layout}
 use Rattle.sp_code.specs.declared.code.Parts.{Parts}
 use Rattle.sp_code.specs.Machine.{layout_of}
@@ -13,7 +14,6 @@ use Rattle.sp_rules.specs.Forks as fork
 use Rattle.sp_rules.specs.Keeps.{Keeps, HaveChildren, FitsTypes}
 use Rattle.sp_rules.specs.Named.{Unknown, TableUnknown}
 use Rattle.sp_rules.specs.Verdict.{V1, V2, V3, V4, V5, V6, V7, V8, V9, HasStop, IsVerified}
-use Rattle.sp_rules.proofs.Facts.{same_some}
 use Rattle.sp_rules.proofs.Kept.{keeps, distinct, formals_have_room}
 use Rattle.sp_rules.proofs.Scoping.{found_layout}
 use Rattle.sp_rules.proofs.Unbroken.{keeps_effects}
@@ -21,18 +21,13 @@ use Rattle.sp_rules.proofs.Verified as verified
 
 -- what holds of all holds of each
 module _ {X : Type 0} where
-  inside : (xs : List X) (i : ℕ) (x : X) → slice_get xs i ≡ Some x → i < length xs
-  inside [] i x e = absurd (cc e)
-  inside (y ∷ xs) zero x e = omega arith
-  inside (y ∷ xs) (suc i) x e = let l = inside xs i x e in omega (arith, l)
-
   there : (xs : List X) (i : ℕ) (x : X) → slice_get xs i ≡ Some x → get_or xs i x ≡ x
   there [] i x e = absurd (cc e)
-  there (y ∷ xs) zero x e = same_some y x e
+  there (y ∷ xs) zero x e = same_Some y x e
   there (y ∷ xs) (suc i) x e = there xs i x e
 
   each : (P : X → Type 0) (xs : List X) → All P xs → (i : ℕ) (x : X) → slice_get xs i ≡ Some x → P x
-  each P xs h i x e = subst P (there xs i x e) (h i x (inside xs i x e))
+  each P xs h i x e = subst P (there xs i x e) (h i x (slice_get_within xs i x e))
 
 pub have_children : (c : Parts) → KeepsSizes c → HaveChildren c
 have_children c small t tb e = each HasChild c.forks small.children t tb e

@@ -3,6 +3,8 @@ use Rattle.std.proofs.Common.{◌≡◌, ◌≢◌, ◌⊎◌, inl, inr, ⊎_eli
 use Rattle.std.proofs.Common.{Option, Some, None, refl, sym, ap, ◌∙◌, subst, arith, if◌then◌else◌}
 use Rattle.std.specs.Prelude.{◌+ℤ◌}
 use Rattle.std.specs.FinMap as map
+use Rattle.std.proofs.lemmas.Option.{same_Some}
+use Rattle.sp_base.proofs.Facts.{below_two_or_not}
 use Rattle.sp_tree.specs.Interference.{IsMember, AllDifferent}
 use Rattle.sp_cell.specs.declared.cell.Cell.{Cell}
 use Rattle.sp_cell.specs.declared.cell.Cell.TheVariants as cell
@@ -30,13 +32,10 @@ use Rattle.sp_rules.proofs.Chains.{last_up, spot_is, size_is}
 use Rattle.sp_rules.proofs.Forking.{has_held, cells_of_position}
 use Rattle.sp_code.proofs.Plans.{spots_from, in_spots, out_of}
 
-some_is : {X : Type 0} {y z : X} → Some y ≡ Some z → y ≡ z
-some_is e = cc
-
 cells_are : (o : Option Content) (cs : List Cell) → piece_of o ≡ Some cs → cells_of o ≡ cs
 cells_are None cs e = absurd (cc e)
-cells_are (Some (Own ds)) cs e = some_is e
-cells_are (Some (Shared ds)) cs e = some_is e
+cells_are (Some (Own ds)) cs e = same_Some _ _ e
+cells_are (Some (Shared ds)) cs e = same_Some _ _ e
 cells_are (Some (Output bs)) cs e = absurd (cc e)
 cells_are (Some Away) cs e = absurd (cc e)
 
@@ -82,7 +81,7 @@ module _ (ls : List Layout) (ha : List Home) (fs : List Frame) (chain : Chain ha
 
   there : (x : ℕ) (q : Spot) → E x → spot_of ls fs x ≡ Some q → (q.frame < N) × Has ls fs m x q
   there x q e at = let w = a.held x e in subst (λ (s : Spot). (s.frame < N)
-      × Has ls fs m x s) (some_is (sym w.1 ∙ at)) (w.2, w.3)
+      × Has ls fs m x s) (same_Some _ _ (sym w.1 ∙ at)) (w.2, w.3)
 
   index_bound : index_frame h ≤ N
   index_bound =
@@ -179,11 +178,6 @@ module _ (ls : List Layout) (ha : List Home) (fs : List Frame) (chain : Chain ha
     small (suc zero) lt gs us = refl
     small (suc (suc x)) lt gs us = absurd (omega (arith, lt))
 
-    either : (x : ℕ) → (x < 2) ⊎ (2 ≤ x)
-    either zero = inl (omega arith)
-    either (suc zero) = inl (omega arith)
-    either (suc (suc x)) = inr (omega arith)
-
     pub outer_stands : (x : ℕ) → IsMember x (handed_to t) → 2 ≤ x → spot_of ls (f ∷ fs) x ≡ spot_of ls fs x
     outer_stands x i r =
         spot_is ls (OfIndex y ∷ ha) (f ∷ fs) x r chain_new
@@ -201,7 +195,7 @@ module _ (ls : List Layout) (ha : List Home) (fs : List Frame) (chain : Chain ha
         ∙ sym (size_is ls ha fs x r chain)
 
     pub stays : (x : ℕ) → IsMember x (handed_to t) → spot_of ls (f ∷ fs) x ≡ spot_of ls fs x
-    stays x i = ⊎_elim (λ (lt : x < 2). small x lt (f ∷ fs) fs) (λ (r : 2 ≤ x). outer_stands x i r) (either x)
+    stays x i = ⊎_elim (λ (lt : x < 2). small x lt (f ∷ fs) fs) (λ (r : 2 ≤ x). outer_stands x i r) (below_two_or_not x)
 
     sized : (q : Spot) → q.frame < index_frame h → size_in ls (f ∷ fs) q ≡ size_in ls fs q
     sized q lt = ap (λ b. if b then size_at ls (OfIndex y) q.variable else size_in ls fs q)
@@ -247,10 +241,10 @@ module _ (ls : List Layout) (ha : List Home) (fs : List Frame) (chain : Chain ha
     )
 
     index_is : (x : ℕ) → t.index ≡ Some x → x ≡ y
-    index_is x e = some_is (sym e ∙ is)
+    index_is x e = same_Some _ _ (sym e ∙ is)
 
     at_index : (x : ℕ) (s : Spot) → t.index ≡ Some x → spot_of ls (f ∷ fs) x ≡ Some s → s ≡ index_spot
-    at_index x s e d = some_is (sym d ∙ ap (spot_of ls (f ∷ fs)) (index_is x e) ∙ index_stands)
+    at_index x s e d = same_Some _ _ (sym d ∙ ap (spot_of ls (f ∷ fs)) (index_is x e) ∙ index_stands)
 
     not_both : (x z : ℕ) (s : Spot) → IsMember x (handed_to t) → t.index ≡ Some z → spot_of ls (f ∷ fs) x ≡ Some s
         → spot_of ls (f ∷ fs) z ≡ Some s → ⊥

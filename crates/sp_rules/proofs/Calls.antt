@@ -2,10 +2,12 @@
 -- caller's effects, and what its variable parameters stand for are different effects of its caller, none of them
 -- outside the block.
 use Rattle.std.proofs.Common.{◌≡◌, ◌≢◌, ◌⊎◌, inl, inr, ⊎_elim, ℕ, zero, suc, ◌+◌, ◌-◌, ◌≤◌, ◌<◌, ◌==◌, List, [], ◌∷◌}
-use Rattle.std.proofs.Common.{◌++◌, length, drop, Option, Some, None, false, refl, sym, ap, ◌∙◌, subst, arith}
+use Rattle.std.proofs.Common.{◌++◌, length, drop, Option, Some, None, false, refl, sym, ap, ◌∙◌, subst, arith, zero-add}
 use Rattle.std.proofs.Common.{if◌then◌else◌}
 use Rattle.std.specs.Prelude.{slice_get}
 use Rattle.std.specs.FinMap as map
+use Rattle.std.proofs.lemmas.Option.{same_Some}
+use Rattle.sp_base.proofs.Facts.{below_two_or_not}
 use Rattle.sp_tree.specs.Interference.{IsMember, AllDifferent}
 use Rattle.sp_cell.specs.declared.cell.Cell.{Cell}
 use Rattle.sp_cell.specs.declared.spot.Spot.{Spot}
@@ -26,9 +28,6 @@ use Rattle.sp_rules.specs.Holding.{Has, Allowed, input_spot}
 use Rattle.sp_rules.proofs.Lists.{member_or, different_apart, different_front, different_back, place_some}
 use Rattle.sp_rules.proofs.Chains.{last_up, up_length, not_here, no_extent, chain_up, stands_up, extends_up, spot_is}
 use Rattle.sp_rules.proofs.Chains.{size_is}
-
-some_is : {X : Type 0} {y z : X} → Some y ≡ Some z → y ≡ z
-some_is e = cc
 
 -- no formal, or one by value
 abbrev pub IsPlain : Option Formal → Type 0
@@ -101,11 +100,8 @@ module _ (ls : List Layout) (ha : List Home) (k : ℕ) (l : Layout) (fs : List F
       i : ℕ
       i = w.0
 
-      zero_plus : (j : ℕ) → 0 + j ≡ j
-      zero_plus j = omega arith
-
       place_is : place_of y (first_number l) l.variables ≡ Some i
-      place_is = ap (λ b. place_of y (if b then 2 else 0) l.variables) inner ∙ w.1 ∙ ap Some (zero_plus w.0)
+      place_is = ap (λ b. place_of y (if b then 2 else 0) l.variables) inner ∙ w.1 ∙ ap Some (zero-add w.0)
 
   -- E, D: the effects of the caller's area and of the block; actual: which variable is the operand for a reference
   -- formal
@@ -138,7 +134,7 @@ module _ (ls : List Layout) (ha : List Home) (k : ℕ) (l : Layout) (fs : List F
         (a.1 (subst (λ v. IsMember v l.variables) a.0 (none b.0 x b.2 (subst D (sym a.0) d))))
     became_one x y z d e (inr a) (inl b) = absurd
         (b.1 (subst (λ v. IsMember v l.variables) b.0 (none a.0 x a.2 (subst D (sym b.0) e))))
-    became_one x y z d e (inr a) (inr b) = some_is (sym a.1 ∙ ap (slice_get l.variables) (once a.0 b.0 x a.2 b.2) ∙ b.1)
+    became_one x y z d e (inr a) (inr b) = same_Some _ _ (sym a.1 ∙ ap (slice_get l.variables) (once a.0 b.0 x a.2 b.2) ∙ b.1)
 
     -- a variable of the new frame
     record IsNew (y : ℕ) : Type 0 where
@@ -202,7 +198,7 @@ module _ (ls : List Layout) (ha : List Home) (k : ℕ) (l : Layout) (fs : List F
               at = o.stands_so w.2.0.spot (ap (spot_by f o.place) e ∙ ap entire w.2.1) ∙ sym w.2.2;
               console = λ lt. absurd (omega (arith, lt, real y m));
               true_one = λ r. p.1;
-              whole = λ r s n at ext size. (let same : w.2.0.spot ≡ s = some_is (sym w.2.2 ∙ at) in
+              whole = λ r s n at ext size. (let same : w.2.0.spot ≡ s = same_Some _ _ (sym w.2.2 ∙ at) in
                   o.extends_so n (ap (extent_by ls f fs o.place) e ∙ ap (size_behind ls fs) w.2.1
                   ∙ ap (size_in ls fs) same ∙ size));
             })
@@ -231,16 +227,11 @@ module _ (ls : List Layout) (ha : List Home) (k : ℕ) (l : Layout) (fs : List F
         small (suc zero) lt gs hs = refl
         small (suc (suc y)) lt gs hs = absurd (omega (arith, lt))
 
-        either : (y : ℕ) → (y < 2) ⊎ (2 ≤ y)
-        either zero = inl (omega arith)
-        either (suc zero) = inl (omega arith)
-        either (suc (suc y)) = inr (omega arith)
-
         stays : (IsMember y l.variables → ⊥) → (y < 2) ⊎ IsMember y (l.variables ++ all_variables ls (drop k ha))
             → spot_of ls (f ∷ fs) y ≡ spot_of ls fs y
         stays n (inl lt) = small y lt (f ∷ fs) fs
         stays n (inr h) = ⊎_elim (λ (lt : y < 2). small y lt (f ∷ fs) fs)
-            (λ (r : 2 ≤ y). outer_stands y r (in_outer n h)) (either y)
+            (λ (r : 2 ≤ y). outer_stands y r (in_outer n h)) (below_two_or_not y)
 
         extends_on : (IsMember y l.variables → ⊥) → 2 ≤ y → (y < 2)
             ⊎ IsMember y (l.variables ++ all_variables ls (drop k ha)) → extent ls (f ∷ fs) y ≡ extent ls fs y
@@ -285,7 +276,7 @@ module _ (ls : List Layout) (ha : List Home) (k : ℕ) (l : Layout) (fs : List F
       where
         member : (i : ℕ) (ys : List ℕ) → slice_get ys i ≡ Some y → IsMember y ys
         member i [] e = absurd (cc e)
-        member zero (z ∷ ys) e = inl (sym (some_is e))
+        member zero (z ∷ ys) e = inl (sym (same_Some _ _ e))
         member (suc i) (z ∷ ys) e = inr (member i ys e)
     held_new y d (inr o) =
         let w = caller.held o.was o.effect in (
@@ -299,17 +290,17 @@ module _ (ls : List Layout) (ha : List Home) (k : ℕ) (l : Layout) (fs : List F
     old_frame : (y : ℕ) (o : IsOld y) (s : Spot) → spot_of ls (f ∷ fs) y ≡ Some s → s.frame < N
     old_frame y o s e =
         let w = caller.held o.was o.effect in
-        let same : w.0 ≡ s = some_is (sym w.1 ∙ sym o.at ∙ e) in
+        let same : w.0 ≡ s = same_Some _ _ (sym w.1 ∙ sym o.at ∙ e) in
         subst (λ (q : Spot). q.frame < N) same w.2
 
     new_frame : (y : ℕ) (o : IsNew y) (s : Spot) → spot_of ls (f ∷ fs) y ≡ Some s → s ≡ new_spot o.place
-    new_frame y o s e = some_is (sym e ∙ o.at)
+    new_frame y o s e = same_Some _ _ (sym e ∙ o.at)
 
     apart_new : (y z : ℕ) (s : Spot) → D y → D z → spot_of ls (f ∷ fs) y ≡ Some s → spot_of ls (f ∷ fs) z ≡ Some s
         → IsNew y ⊎ IsOld y → IsNew z ⊎ IsOld z → y ≡ z
     apart_new y z s d e a b (inl o) (inl p) =
         let same : o.place ≡ p.place = ap (λ (q : Spot). q.variable) (sym (new_frame y o s a) ∙ new_frame z p s b) in
-        some_is (sym o.is ∙ ap (slice_get l.variables) same ∙ p.is)
+        same_Some _ _ (sym o.is ∙ ap (slice_get l.variables) same ∙ p.is)
     apart_new y z s d e a b (inl o) (inr p) = absurd
         (let lt = old_frame z p s b in let is : s.frame ≡ N = ap (λ (q : Spot). q.frame) (new_frame y o s a) in omega
         (arith, lt, is))

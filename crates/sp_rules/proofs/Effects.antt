@@ -3,7 +3,8 @@ use Rattle.std.proofs.Common.{◌≡◌, ◌⊎◌, inl, inr, ⊎_elim, ℕ, zer
 use Rattle.std.proofs.Common.{◌++◌, length, drop, Option, Some, None, Bool, true, false, refl, sym, ap, ◌∙◌, subst}
 use Rattle.std.proofs.Common.{arith}
 use Rattle.std.specs.Prelude.{slice_get, IsSome}
-use Rattle.std.proofs.lemmas.Bool.{eqb-true}
+use Rattle.std.proofs.lemmas.Bool.{eqb-true, true_from_ne_false}
+use Rattle.sp_base.proofs.Facts.{below_two_or_not, first_true}
 use Rattle.sp_tree.specs.Interference.{IsMember}
 use Rattle.sp_code.specs.declared.code.Layout.{Layout}
 use Rattle.sp_code.specs.declared.code.ChildTable.{ChildTable}
@@ -181,12 +182,8 @@ module _ (c : Parts) (k : Keeps c) (e : KeepsEffects c (Does c)) (known : (p : �
       → IsMember x (handed_to t) → 2 ≤ x → Around a x
   handed_around a p j x t area s m real =
       let w = table_of_child p j t s.1 in
-      has_homes x (homes c a) (yes (some_has c.layouts x (homes c a))
+      has_homes x (homes c a) (true_from_ne_false (some_has c.layouts x (homes c a))
       (λ f. known t.entry (w.0, p, j, x, t, a, w.1, (area, s.0), w.2, refl, is_in_list x (handed_to t) m, real, f)))
-    where
-      yes : (b : Bool) → (b ≡ false → ⊥) → b ≡ true
-      yes true h = refl
-      yes false h = absurd (h refl)
 
   -- ---- calls
 
@@ -237,23 +234,14 @@ module _ (c : Parts) (k : Keeps c) (e : KeepsEffects c (Does c)) (known : (p : �
 
       found : (var : ℕ) (f : Found) → variable_at c a 0 var ≡ Some f → is_loop_variable (Some f) ≡ true
           → Around a f.number
-      found var f s w = found_around c k a 0 var f s (inl (first (is_plain f.naming) (f.cells == 1) w))
-        where
-          first : (t b : Bool) → (t && b) ≡ true → t ≡ true
-          first true b w = refl
-          first false b w = absurd (cc w)
+      found var f s w = found_around c k a 0 var f s (inl (first_true (is_plain f.naming) (f.cells == 1) w))
 
       go : (v : Kind) → IsIn x (does_at c v a p ss) → (x < 2) ⊎ Around a x
       go Stored m = stored_p (Around a) c a found ss all x (instr_at c p) loops m
       go Loaded m = loaded_p (Around a) c a found ss all x (instr_at c p) m
   does_around u a x area (inr d) = ⊎_elim (λ (l : x < 2). inl l)
-      (λ (r : 2 ≤ x). inr (handed_around a d.0 d.1 x d.2 area d.3 (handed u d.4) r)) (either x)
+      (λ (r : 2 ≤ x). inr (handed_around a d.0 d.1 x d.2 area d.3 (handed u d.4) r)) (below_two_or_not x)
     where
-      either : (x : ℕ) → (x < 2) ⊎ (2 ≤ x)
-      either zero = inl (omega arith)
-      either (suc zero) = inl (omega arith)
-      either (suc (suc x)) = inr (omega arith)
-
       handed : (v : Kind) → IsMember x (handed_as c v d.2) → IsMember x (handed_to d.2)
       handed Stored m = member_front x d.2.moved d.2.shared m
       handed Loaded m = member_back x d.2.moved d.2.shared m

@@ -2,9 +2,11 @@
 use Rattle.std.proofs.Common.{◌≡◌, ◌⊎◌, inl, inr, ℕ, zero, suc, ◌+◌, ◌<◌, ◌≤◌, ℤ, List, length, Option, Some, None}
 use Rattle.std.proofs.Common.{Bool, true, false, if◌then◌else◌, ◌&&◌, refl, sym, ap, ◌∙◌, ⊎_elim, arith}
 use Rattle.std.specs.Prelude.{nat_le, nat_lt, nat_abs, int_le, ◌-ℤ◌, pos, IsSome, take, drop}
-use Rattle.std.proofs.lemmas.Bool.{le-leb}
+use Rattle.std.proofs.lemmas.Bool.{le-leb, and_parts}
 use Rattle.std.proofs.lemmas.List.{length-drop, length-take-le}
+use Rattle.std.proofs.lemmas.Option.{same_Some}
 use Rattle.sp_base.specs.declared.fault.Fault.TheVariants as fault
+use Rattle.sp_base.proofs.Facts.{not_true_and_false}
 use Rattle.sp_cell.specs.declared.cell.Cell.{Cell}
 use Rattle.sp_cell.specs.declared.spot.Spot.{Spot}
 use Rattle.sp_cell.specs.declared.spot.Address.{Address}
@@ -17,30 +19,6 @@ use Rattle.sp_rules.specs.Extents.{HasWhole}
 use Rattle.sp_rules.specs.Standing.{Points}
 use Rattle.sp_rules.specs.Named.{is_some}
 
-pub same_some : {T : Type 0} (x y : T) → ◌≡◌ {A = Option T} (Some x) (Some y) → x ≡ y
-same_some x y e = cc
-
-pub none_some : {T : Type 0} (x : T) → ◌≡◌ {A = Option T} None (Some x) → ⊥
-none_some x e = cc
-
-pub both_true : (a b : Bool) → (a && b) ≡ true → (a ≡ true) × (b ≡ true)
-both_true true b e = (refl, e)
-both_true false b e = absurd (cc e)
-
-pub and_true : (a b : Bool) → a ≡ true → b ≡ true → (a && b) ≡ true
-and_true a b e f = rw e f
-
-pub no_true : (b : Bool) → b ≡ true → b ≡ false → ⊥
-no_true b e f = cc
-
--- of two numbers one is less, or they are one
-pub which : (a b : ℕ) → (a < b) ⊎ ((a ≡ b) ⊎ (b < a))
-which zero zero = inr (inl refl)
-which zero (suc b) = inl (omega arith)
-which (suc a) zero = inr (inr (omega arith))
-which (suc a) (suc b) = ⊎_elim (λ h. inl (omega (arith, h)))
-    (λ z. ⊎_elim (λ e. inr (inl (ap suc e))) (λ h. inr (inr (omega (arith, h)))) z) (which a b)
-
 -- what a test found
 pub found : {T : Type 0} (o : Option T) → is_some o ≡ true → (x : T) × (o ≡ Some x)
 found None e = absurd cc
@@ -52,7 +30,7 @@ found_some (Some x) e = (x, refl)
 
 -- the place of an index is in its span
 pub in_span : (low high v : ℤ) → (int_le low v && int_le v high) ≡ true → nat_abs (v -ℤ low) + 1 ≤ span low high
-in_span low high v e = let b = both_true (int_le low v) (int_le v high) e in within (int_le low high) refl b.0 b.1
+in_span low high v e = let b = and_parts (int_le low v) (int_le v high) e in within (int_le low high) refl b.0 b.1
   where
     across : int_le low v ≡ true → int_le v high ≡ true → int_le low high ≡ true
     across x y = Prim.grind (arith, x, y)
@@ -70,7 +48,7 @@ in_span low high v e = let b = both_true (int_le low v) (int_le v high) e in wit
         → nat_abs (v -ℤ low) + 1 ≤ (if b then nat_abs (high -ℤ low) + 1 else 0)
     within true h x y = let s = short (v -ℤ low) (high -ℤ low) (from_low low v x) (to_high low v high y) in omega
         (arith, s)
-    within false h x y = absurd (no_true (int_le low high) (across x y) h)
+    within false h x y = absurd (not_true_and_false (int_le low high) (across x y) h)
 
 -- so many cells of a piece are so many
 pub part_length : (cs : List Cell) (at k : ℕ) → at + k ≤ length cs → length (part cs at k) ≡ k
@@ -83,10 +61,10 @@ has_some o cs at k e h = rw e (le-leb (at + k) (length cs) h)
 module _ {S : Type 0} (stores : Stores S) (ls : List Layout) (n : Memory S) (x left : ℕ) (q : Address)
     (pt : Points ls n.frames x left q) (w : HasWhole stores ls n x) where
   pub here : stores.piece n.store q.spot ≡ Some w.cells
-  here = let e : q.spot ≡ w.spot = same_some q.spot w.spot (sym pt.stands ∙ w.stands) in rw e w.piece
+  here = let e : q.spot ≡ w.spot = same_Some q.spot w.spot (sym pt.stands ∙ w.stands) in rw e w.piece
 
   pub size_here : pt.size ≡ length w.cells
-  size_here = same_some pt.size (length w.cells) (sym pt.whole ∙ w.whole)
+  size_here = same_Some pt.size (length w.cells) (sym pt.whole ∙ w.whole)
 
   -- what is held whole has the cells left of an address in it
   pub reaches : (k : ℕ) → k ≤ left → q.offset + k ≤ length w.cells

@@ -2,7 +2,7 @@
 use Rattle.std.proofs.Common.{◌≡◌, inl, inr, ℕ, zero, suc, ◌<◌, ◌==◌, List, [], ◌∷◌, length, Option, Some, None, true}
 use Rattle.std.proofs.Common.{refl, sym, ap, ◌∙◌, subst, arith}
 use Rattle.std.specs.Prelude.{slice_get}
-use Rattle.std.proofs.lemmas.Option.{slice_get-get_or}
+use Rattle.std.proofs.lemmas.Option.{slice_get-get_or, same_Some}
 use Rattle.std.proofs.lemmas.Bool.{eq-eqb}
 use Rattle.sp_cell.specs.declared.spot.Handing.{Handing}
 use Rattle.sp_code.specs.declared.code.Layout.{Layout}
@@ -19,7 +19,6 @@ use Rattle.sp_rules.specs.Reach.{IsArea, Passes}
 use Rattle.sp_rules.specs.Standing.{Framed, RefersWell, StandsAt, Stands, ForksAt}
 use Rattle.sp_rules.specs.Keeps.{Keeps}
 use Rattle.sp_rules.proofs.Chains.{last_up}
-use Rattle.sp_rules.proofs.Facts.{same_some}
 use Rattle.sp_rules.proofs.Scoping.{found_layout, programs, none_homes, leads_of, homes_led}
 
 module _ (c : Parts) (k : Keeps c) where
@@ -43,7 +42,7 @@ module _ (c : Parts) (k : Keeps c) where
       refers : RefersWell c.layouts root_frame [] (OfBlock 0)
       refers m f j n s =
           let p = programs c k 0 l e zero_block in
-          absurd (cc (sym (ap (λ z. slice_get z j) (ap (λ z. z.formals) (same_some m l (sym f ∙ e)) ∙ p.1)) ∙ s))
+          absurd (cc (sym (ap (λ z. slice_get z j) (ap (λ z. z.formals) (same_Some m l (sym f ∙ e)) ∙ p.1)) ∙ s))
 
       go : (n : ℕ) → leads_by n c.layouts (layout_of c.layouts 0) ≡ true
           → Framed c.layouts (homes_by n c.layouts (layout_of c.layouts 0)) (root_frame ∷ [])

@@ -3,6 +3,7 @@ use Rattle.std.proofs.Common.{◌≡◌, ◌≢◌, ◌⊎◌, inl, inr, ⊎_eli
 use Rattle.std.proofs.Common.{◌++◌, length, Option, Some, None, Bool, true, false, refl, sym, ap, ◌∙◌, subst, arith}
 use Rattle.std.specs.Prelude.{IsSome, slice_get}
 use Rattle.std.specs.FinMap as map
+use Rattle.std.proofs.lemmas.Option.{same_Some}
 use Rattle.sp_tree.specs.Interference.{IsMember}
 use Rattle.sp_cell.specs.declared.cell.Cell.{Cell}
 use Rattle.sp_cell.specs.declared.cell.Cell.TheVariants as cell
@@ -38,9 +39,6 @@ use Rattle.sp_rules.proofs.Holdings.{head, next_low}
 use Rattle.sp_rules.proofs.Keeping.{Keeps, all_keeps, keeps_lent}
 use Rattle.sp_rules.proofs.Lists.{member_front, member_back}
 use Rattle.sp_code.proofs.Plans.{spots_from}
-
-some_is : {X : Type 0} {y z : X} → Some y ≡ Some z → y ≡ z
-some_is e = cc
 
 above_low : (ss : List Spot) (n : ℕ) → ((q : Spot) → In q ss → q.frame < n) → above (frames ss) ≤ n
 above_low [] n h = omega arith
@@ -79,7 +77,7 @@ module _ (g : Setting) {Area : Type 0} (H : Area → List Home) (E : Area → �
 
   effect_known : (x : ℕ) (q : Spot) → E a x → spot_of ls n.frames x ≡ Some q → IsHeld (map.get n.store.map q)
   effect_known x q e at = let w = mother.1.held x e in subst (λ (s : Spot). IsHeld (map.get n.store.map s))
-      (some_is (sym w.1 ∙ at)) (has_held ls n.frames n.store.map x w.0 w.3)
+      (same_Some _ _ (sym w.1 ∙ at)) (has_held ls n.frames n.store.map x w.0 w.3)
 
   -- ---- a child
 
@@ -223,11 +221,11 @@ module _ (g : Setting) {Area : Type 0} (H : Area → List Home) (E : Area → �
         ⊎ IsSome (map.get (child_map n.store.map h) output_spot)
     console_known (inl r) = let w = begins.allowed.held 0 r in inl
         (known_of_held (map.get (child_map n.store.map h) input_spot)
-        (subst (λ (s : Spot). IsHeld (map.get (child_map n.store.map h) s)) (sym (some_is w.1))
+        (subst (λ (s : Spot). IsHeld (map.get (child_map n.store.map h) s)) (sym (same_Some _ _ w.1))
         (has_held ls (frames_of child) (child_map n.store.map h) 0 w.0 w.3)))
     console_known (inr r) = let w = begins.allowed.held 1 r in inr
         (known_of_held (map.get (child_map n.store.map h) output_spot)
-        (subst (λ (s : Spot). IsHeld (map.get (child_map n.store.map h) s)) (sym (some_is w.1))
+        (subst (λ (s : Spot). IsHeld (map.get (child_map n.store.map h) s)) (sym (same_Some _ _ w.1))
         (has_held ls (frames_of child) (child_map n.store.map h) 1 w.0 w.3)))
 
     -- the child lives

@@ -3,6 +3,8 @@
 use Rattle.std.proofs.Common.{◌≡◌, ◌≢◌, ◌⊎◌, inl, inr, ⊎_elim, ℕ, zero, suc, ◌<◌, ℤ, List, Option, Some, None, refl}
 use Rattle.std.proofs.Common.{sym, ap, ◌∙◌, subst, arith}
 use Rattle.std.specs.FinMap as map
+use Rattle.std.proofs.lemmas.Bool.{cases_eq}
+use Rattle.std.proofs.lemmas.Option.{same_Some}
 use Rattle.sp_tree.specs.Interference.{IsMember, AllDifferent}
 use Rattle.sp_cell.specs.declared.cell.Cell.{Cell}
 use Rattle.sp_cell.specs.declared.spot.Spot.{Spot}
@@ -22,9 +24,6 @@ use Rattle.sp_rules.specs.Forks.{handed_to}
 use Rattle.sp_rules.specs.Holding.{Has, Allowed}
 use Rattle.sp_rules.proofs.Lists.{member_front, member_back, different_front, different_apart}
 use Rattle.sp_code.proofs.Plans.{spots_from, out_of, one, distinct_spots, distinct_plan, moved_by, shared_by}
-
-some_is : {X : Type 0} {y z : X} → Some y ≡ Some z → y ≡ z
-some_is e = cc
 
 -- ---- contents
 
@@ -68,13 +67,6 @@ module _ (ls : List Layout) (fs : List Frame) (m : Map) where
   has_piece (suc zero) s d h = absurd (d refl)
   has_piece (suc (suc x)) s d h = piece_of_cells (map.get m s) h.0 h.1
 
-order : (j k : ℕ) → (j ≡ k) ⊎ (j ≢ k)
-order zero zero = inl refl
-order zero (suc k) = inr (λ e. absurd (omega (arith, e)))
-order (suc j) zero = inr (λ e. absurd (omega (arith, e)))
-order (suc j) (suc k) = ⊎_elim (λ (e : j ≡ k). inl (ap suc e)) (λ (d : j ≢ k). inr (λ e. d (omega (arith, e))))
-    (order j k)
-
 -- what the rules say of the table of a fork with n children, in an area with the effects E
 pub record KeepsForks (E : ℕ → Type 0) (t : ForkTable) (n : ℕ) : Type 0 where
   pub effect : (j x : ℕ) → j < n → IsMember x (handed_to (child_or (child_at t j))) → E x
@@ -97,7 +89,7 @@ module _ (ls : List Layout) (K : Type 0) (E : ℕ
 
   -- what is there of a variable that stands at q
   there : (x : ℕ) (q : Spot) → E x → spot_of ls fs x ≡ Some q → Has ls fs p.map x q
-  there x q e at = let w = a.held x e in subst (λ (s : Spot). Has ls fs p.map x s) (some_is (sym w.1 ∙ at)) w.3
+  there x q e at = let w = a.held x e in subst (λ (s : Spot). Has ls fs p.map x s) (same_Some _ _ (sym w.1 ∙ at)) w.3
 
   held : (q : Spot) → In q (moved_of (plan_from ls fs t value 0 n)) → IsHeld (map.get p.map q)
   held q i =
@@ -144,7 +136,7 @@ module _ (ls : List Layout) (K : Type 0) (E : ℕ
           (subst (λ j. IsMember w.0 (table j).moved) e (subst (λ z. IsMember z (table u.0).moved) same v.1)) w.1)
           (λ (d : u.0 ≢ o.0). keeps.clear u.0 o.0 w.0 u.1 o.1 d (subst (λ z. IsMember z (table u.0).moved) same v.1)
           (member_back w.0 (table o.0).moved (table o.0).shared w.1))
-          (order u.0 o.0)
+          (cases_eq u.0 o.0)
 
   -- what is handed over is held, distinct and apart
   pub can_split : CanSplit p (plan_from ls fs t value 0 n)

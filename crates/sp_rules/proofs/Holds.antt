@@ -29,13 +29,13 @@ use Rattle.sp_rules.specs.Standing.{Points, Fits, StandsAt}
 use Rattle.sp_rules.specs.Rules as rule
 use Rattle.sp_rules.specs.Keeps.{Keeps}
 use Rattle.sp_rules.specs.Named.{LiesIn, is_block, level_fits}
-use Rattle.sp_rules.proofs.Facts.{both_true, which}
 use Rattle.sp_rules.proofs.Scoping.{is_block_of, homes_step, inner, area_drop, found_layout}
 use Rattle.sp_rules.proofs.Walking.{passes}
 use Rattle.sp_rules.proofs.Turns.{all_fit}
 use Rattle.sp_rules.proofs.Pieces.{filled_keeps}
-use Rattle.std.proofs.lemmas.Bool.{eq-eqb, ne_eqb}
-use Rattle.std.proofs.lemmas.Option.{slice_get_within}
+use Rattle.std.proofs.lemmas.Bool.{eq-eqb, ne_eqb, and_parts}
+use Rattle.std.proofs.lemmas.Option.{slice_get_within, same_Some}
+use Rattle.sp_base.proofs.Facts.{less_same_or_more}
 use Rattle.sp_rules.specs.Changes.{Pairs, areas, areas_of, Target, Changes, Same, Beats, Puts, Copies, Reads, Skips}
 use Rattle.sp_rules.specs.Changes.{Prints, Owns, Calls, Returns}
 use Rattle.sp_rules.specs.Effects.{IsActual}
@@ -45,9 +45,6 @@ use Rattle.sp_rules.proofs.Holdings.{head, holding_set, holding_pop}
 use Rattle.sp_rules.proofs.Keeping.{keeps_input, keeps_output}
 use Rattle.sp_rules.proofs.Messages.{lives_with, lives_opened, lives_received, t}
 use Rattle.sp_rules.proofs.Pushes.{KeepsCalls, holding_push}
-
-some_is : {X : Type 0} {y z : X} → Some y ≡ Some z → y ≡ z
-some_is e = cc
 
 module _ (g : Setting) (E : Area → ℕ → Type 0) (T : List Area → Config (Memory Plain)
     → Type 0) (b : Base g (homes g.code) E T) where
@@ -94,7 +91,7 @@ module _ (g : Setting) (E : Area → ℕ → Type 0) (T : List Area → Config (
         was : (v : ℕ) × (position_in (piece_of (map.get n.store.map input_spot)) ≡ Some v)
         was = let w = held.held 0 e in (
           w.3.0,
-          ap (λ q. position_in (piece_of (map.get n.store.map q))) (some_is w.1)
+          ap (λ q. position_in (piece_of (map.get n.store.map q))) (same_Some _ _ w.1)
               ∙ w.3.1,
         )
 
@@ -128,7 +125,7 @@ module _ (g : Setting) (E : Area → ℕ → Type 0) (T : List Area → Config (
     }
       where
         was : IsOutput (map.get n.store.map output_spot)
-        was = let w = held.held 1 e in subst (λ q. IsOutput (map.get n.store.map q)) (some_is (sym w.1)) w.3
+        was = let w = held.held 1 e in subst (λ q. IsOutput (map.get n.store.map q)) (same_Some _ _ (sym w.1)) w.3
 
         known_output : (o : Option Content) → IsOutput o → IsSome o
         known_output None h = absurd h
@@ -161,7 +158,7 @@ fit_length [] [] e = refl
 fit_length [] (s ∷ bs) e = absurd (cc e)
 fit_length (m ∷ ms) [] e = absurd (cc e)
 fit_length (m ∷ ms) (s ∷ bs) e = ap suc
-    (fit_length ms bs (both_true (rule.fits_formal m s) (rule.fit_formals ms bs) e).1)
+    (fit_length ms bs (and_parts (rule.fits_formal m s) (rule.fit_formals ms bs) e).1)
 
 -- the operands in order are the topmost ones, the last one first
 after_those : (n j : ℕ) (ss bs : List Shape) → n ≤ length ss
@@ -176,7 +173,7 @@ in_order : (n i : ℕ) (ss bs : List Shape) → i < n → n ≤ length ss
     → slice_get (rule.lowest_first n ss bs) i ≡ slice_get ss (n - 1 - i)
 in_order zero i ss bs l h = absurd (omega (arith, l))
 in_order (suc n) i [] bs l h = absurd (omega (arith, h))
-in_order (suc n) i (s ∷ ss) bs l h = go (which i n) (λ k. in_order n i ss (s ∷ bs) k (omega (arith, h)))
+in_order (suc n) i (s ∷ ss) bs l h = go (less_same_or_more i n) (λ k. in_order n i ss (s ∷ bs) k (omega (arith, h)))
   where
     go : (i < n) ⊎ ((i ≡ n) ⊎ (n < i))
         → (i < n → slice_get (rule.lowest_first n ss (s ∷ bs)) i ≡ slice_get ss (n - 1 - i))
@@ -243,11 +240,11 @@ passed_at ls fs (f ∷ ms) [] es j pr r t k m e s = absurd (cc r)
 passed_at ls fs (f ∷ ms) (b ∷ bs) [] j pr r t k m e s = absurd pr
 passed_at ls fs (f ∷ ms) (b ∷ bs) (e1 ∷ es) j pr r t zero m e s =
     passed_first ls fs b bs e1 es j t m (eq-eqb t j (omega (arith, e))) pr.0
-    (subst (λ z. rule.fits_formal z b ≡ true) (some_is s)
-    (both_true (rule.fits_formal f b) (rule.fit_formals ms bs) r).0)
+    (subst (λ z. rule.fits_formal z b ≡ true) (same_Some _ _ s)
+    (and_parts (rule.fits_formal f b) (rule.fit_formals ms bs) r).0)
 passed_at ls fs (f ∷ ms) (b ∷ bs) (e1 ∷ es) j pr r t (suc k) m e s =
     passed_later ls fs b bs e1 es j t k m (ne_eqb t j (λ h. omega (arith, e, h)))
-    (passed_at ls fs ms bs es (suc j) pr.1 (both_true (rule.fits_formal f b) (rule.fit_formals ms bs) r).1 t k m
+    (passed_at ls fs ms bs es (suc j) pr.1 (and_parts (rule.fits_formal f b) (rule.fit_formals ms bs) r).1 t k m
     (omega (arith, e)) s)
 
 -- ---- all ways

@@ -4,7 +4,9 @@ use Rattle.std.proofs.Common.{◌≡◌, ◌⊎◌, inl, inr, ⊎_elim, ℕ, zer
 use Rattle.std.proofs.Common.{◌++◌, length, drop, Option, Some, None, Bool, true, false, refl, sym, ap, ◌∙◌, subst}
 use Rattle.std.proofs.Common.{arith}
 use Rattle.std.specs.Prelude.{slice_get, IsSome}
-use Rattle.std.proofs.lemmas.Bool.{eqb-true}
+use Rattle.std.proofs.lemmas.Bool.{eqb-true, and_parts}
+use Rattle.std.proofs.lemmas.Option.{same_Some, slice_get_within}
+use Rattle.sp_base.proofs.Facts.{is_none_plus, is_plus_none, item_there, next_goes_left}
 use Rattle.sp_tree.specs.Interference.{IsMember, AllDifferent}
 use Rattle.sp_cell.specs.Map.{Plain}
 use Rattle.sp_code.specs.declared.code.Formal.{Formal}
@@ -37,24 +39,7 @@ use Rattle.sp_rules.proofs.Pieces.{HaveRoom}
 use Rattle.sp_rules.proofs.Pushes.{KeepsCalls}
 use Rattle.sp_rules.proofs.Scoping.{found_layout, area_different}
 
-some_is : {X : Type 0} {y z : X} → Some y ≡ Some z → y ≡ z
-some_is e = cc
-
-pub both : (a b : Bool) → (a && b) ≡ true → (a ≡ true) × (b ≡ true)
-both true b e = (refl, e)
-both false b e = absurd (cc e)
-
 -- ---- lists
-
-pub get_there : {X : Type 0} (xs : List X) (i : ℕ) (x : X) → slice_get xs i ≡ Some x → i < length xs
-get_there [] i x e = absurd (cc e)
-get_there (y ∷ xs) zero x e = omega arith
-get_there (y ∷ xs) (suc i) x e = omega (arith, get_there xs i x e)
-
-pub get_some : {X : Type 0} (xs : List X) (i : ℕ) → i < length xs → (x : X) × (slice_get xs i ≡ Some x)
-get_some [] i l = absurd (omega (arith, l))
-get_some (y ∷ xs) zero l = (y, refl)
-get_some (y ∷ xs) (suc i) l = get_some xs i (omega (arith, l))
 
 in_addresses : (n j : ℕ) (ss : List Shape) (x m : ℕ) → j < n → slice_get ss j ≡ Some (A x m) → IsIn x (addresses n ss)
 in_addresses zero j ss x m l e = absurd (omega (arith, l))
@@ -74,24 +59,15 @@ room_for : (k : ℕ) (fs : List Formal) (ys zs : List ℕ) (size : ℕ → Optio
 room_for k [] ys zs size b h = tt
 room_for k (formal.Value n ∷ fs) ys [] size b h = absurd (cc b)
 room_for k (formal.Value n ∷ fs) ys (z ∷ zs) size b h =
-    let w = both (n == z) (begins_with (formals_cells fs ++ ys) zs) b in (
-      ap size (zero_plus k) ∙ sym (h 0)
+    let w = and_parts (n == z) (begins_with (formals_cells fs ++ ys) zs) b in (
+      ap size (is_plus_none k) ∙ sym (h 0)
           ∙ ap Some (sym (eqb-true n z w.0)),
-      room_for (suc k) fs ys zs size w.1 (λ j. h (suc j) ∙ ap size (shift k j)),
+      room_for (suc k) fs ys zs size w.1 (λ j. h (suc j) ∙ ap size (next_goes_left k j)),
     )
-  where
-    zero_plus : (k : ℕ) → k ≡ k + 0
-    zero_plus k = omega arith
-
-    shift : (k j : ℕ) → k + suc j ≡ suc k + j
-    shift k j = omega arith
 room_for k (formal.Reference n ∷ fs) ys [] size b h = absurd (cc b)
 room_for k (formal.Reference n ∷ fs) ys (z ∷ zs) size b h =
-    let w = both (1 == z) (begins_with (formals_cells fs ++ ys) zs) b in
-    room_for (suc k) fs ys zs size w.1 (λ j. h (suc j) ∙ ap size (shift k j))
-  where
-    shift : (k j : ℕ) → k + suc j ≡ suc k + j
-    shift k j = omega arith
+    let w = and_parts (1 == z) (begins_with (formals_cells fs ++ ys) zs) b in
+    room_for (suc k) fs ys zs size w.1 (λ j. h (suc j) ∙ ap size (next_goes_left k j))
 
 module _ (c : Parts) (k : Keeps c) (e : KeepsEffects c (Does c)) (known : (p : ℕ) → Unknown c p → ⊥) where
   -- what an instruction that is reached stores, loads or selects the activation may touch
@@ -127,7 +103,7 @@ module _ (c : Parts) (k : Keeps c) (e : KeepsEffects c (Does c)) (known : (p : �
     actual_effect j x w = inl (record { areas = []; by = inl (p, ss, call.reached, stored) })
       where
         there : IsIn x (addresses (length l.formals) ss)
-        there = let b = get_there l.formals j (formal.Reference w.0) w.2 in in_addresses (length l.formals)
+        there = let b = slice_get_within l.formals j (formal.Reference w.0) w.2 in in_addresses (length l.formals)
             (length l.formals - 1 - j) ss x w.1 (omega (arith, b)) w.3
 
         stored : IsIn x (does_at c Stored a p ss)
@@ -146,12 +122,9 @@ module _ (c : Parts) (k : Keeps c) (e : KeepsEffects c (Does c)) (known : (p : �
     sizes_are : (length l.sizes ≡ length l.variables)
         × (begins_with (formals_cells l.formals ++ answer_cells l.answer) l.sizes ≡ true)
     sizes_are =
-        let w = both (length l.sizes == length l.variables) (begins_with (formals_cells l.formals
+        let w = and_parts (length l.sizes == length l.variables) (begins_with (formals_cells l.formals
         ++ answer_cells l.answer) l.sizes) (k.sizes l (found_layout c.layouts b l call.layout).1) in
         (eqb-true (length l.sizes) (length l.variables) w.0, w.1)
-
-    zero_from : (j : ℕ) → j ≡ 0 + j
-    zero_from j = omega arith
 
     pub keeps_calls : KeepsCalls c.layouts (homes c a) up l (May c a) (May c (Body b)) (IsActual l ss)
     keeps_calls = record {
@@ -178,9 +151,9 @@ module _ (c : Parts) (k : Keeps c) (e : KeepsEffects c (Does c)) (known : (p : �
       );
       once = λ j m x u v. e.actual_once a p b up ss l area call j m x u v;
       none = λ j x u d. ⊎_elim (λ f. e.actual_none a p b up ss l area call j x u f) (λ m. own x m) d;
-      sizes = λ j y s. get_some l.sizes j (let b = get_there l.variables j y s in omega (arith, b, sizes_are.0));
+      sizes = λ j y s. item_there l.sizes j (let b = slice_get_within l.variables j y s in omega (arith, b, sizes_are.0));
       room = room_for 0 l.formals (answer_cells l.answer) l.sizes (slice_get l.sizes) sizes_are.1
-          (λ j. ap (slice_get l.sizes) (zero_from j));
+          (λ j. ap (slice_get l.sizes) (is_none_plus j));
     }
 
 -- ---- a fork
@@ -248,7 +221,7 @@ module _ (g : Setting) (k : Keeps g.code) (e : KeepsEffects g.code (Does g.code)
                 × (table_of g (homes g.code) (May g.code) T t j ≡ ch)
             fork_child j lt =
                 let tb = w.0 in
-                let ch = get_some tb.children j (omega (arith, lt, w.3)) in (
+                let ch = item_there tb.children j (omega (arith, lt, w.3)) in (
                   ch.0,
                   ap (λ o. child_of (Rattle.sp_rules.specs.Areas.table_at g.code.forks
                       (Rattle.sp_rules.specs.Areas.table_named o)) j) w.1 ∙ (ap (λ o. child_of o j) w.2 ∙ ch.1),
@@ -291,7 +264,7 @@ module _ (g : Setting) (k : Keeps g.code) (e : KeepsEffects g.code (Does g.code)
 
             has_index : (ch : ChildTable) → child_at g.code p 0 ≡ Some ch → IsSome ch.index
             has_index ch is =
-                let same : one.1 ≡ ch = some_is (sym there ∙ is) in
+                let same : one.1 ≡ ch = same_Some _ _ (sym there ∙ is) in
                 subst (λ (z : ChildTable). IsSome z.index) same (subst (λ o. IsSome o) (sym one.5) refl)
 
             empty : (ch : ChildTable) → child_at g.code p 0 ≡ Some ch → ch.moved ≡ []

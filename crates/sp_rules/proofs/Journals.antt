@@ -2,6 +2,7 @@
 use Rattle.std.proofs.Common.{◌≡◌, ◌≢◌, ◌⊎◌, inl, inr, ⊎_elim, ℕ, zero, suc, ◌+◌, ◌-◌, ◌≤◌, ◌<◌, ◌==◌, ◌&&◌, ℤ, cond}
 use Rattle.std.proofs.Common.{if◌then◌else◌, List, [], ◌∷◌, ◌++◌, length, Option, Some, None, Bool, true, false, refl}
 use Rattle.std.proofs.Common.{sym, ap, ◌∙◌, subst, arith}
+use Rattle.std.proofs.lemmas.Option.{same_Some}
 use Rattle.sp_tree.specs.Interference.{IsMember}
 use Rattle.sp_cell.specs.Frame.{HasNextFrame}
 use Rattle.sp_cell.specs.Map.{Plain}
@@ -169,16 +170,13 @@ module _ (g : Setting) {Area : Type 0} (H : Area → List Home) (E : Area → �
     count_one r false e (inr d) = ap length (at_other i.children q r (numbers P count) d.0) ∙ i.count r
         ∙ ap awaits (sym (at_other f q r (Joins count joining) d.0))
 
-    some_birth : {x y : Birth} → Some x ≡ Some y → x ≡ y
-    some_birth e = cc
-
     all_one : (r : ℕ) (y : Birth) (x : Bool) → is_next b count r ≡ x
         → cond x (Some (record { parent = q; fork = b.forks q; child = r - P })) (b.birth r) ≡ Some y
         → IsLive (cond x (Working (young r)) (cond (q == r) (Joins count joining) (f r)))
         → IsMember r (children y.parent)
     all_one r y true e o l =
         let w = next_is b count r e in
-        let is : q ≡ y.parent = ap (λ (z : Birth). z.parent) (some_birth o) in
+        let is : q ≡ y.parent = ap (λ (z : Birth). z.parent) (same_Some _ _ o) in
         subst (λ z. IsMember r (children z)) is (subst (IsMember r) (sym mine) (numbers_have P count r w.0 w.1))
     all_one r y false e o l = go (number_or q y.parent) (i.all r y o (was (number_or q r) l))
       where
@@ -200,7 +198,7 @@ module _ (g : Setting) {Area : Type 0} (H : Area → List Home) (E : Area → �
     older_one : (r : ℕ) (y : Birth) (x : Bool) → is_next b count r ≡ x
         → cond x (Some (record { parent = q; fork = b.forks q; child = r - P })) (b.birth r) ≡ Some y → y.parent < r
     older_one r y true e o = let w = next_is b count r e in let is : q ≡ y.parent = ap (λ (z : Birth). z.parent)
-        (some_birth o) in omega (arith, is, there, w.0)
+        (same_Some _ _ o) in omega (arith, is, there, w.0)
     older_one r y false e o = i.older r y o
 
     -- after it

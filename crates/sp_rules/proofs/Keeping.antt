@@ -3,6 +3,7 @@
 use Rattle.std.proofs.Common.{◌≡◌, ◌≢◌, inl, inr, ⊎_elim, ℕ, zero, suc, ◌≤◌, ◌<◌, List, [], ◌∷◌, length, Option, Some}
 use Rattle.std.proofs.Common.{None, refl, sym, ap, ◌∙◌, subst, arith}
 use Rattle.std.specs.FinMap as map
+use Rattle.std.proofs.lemmas.Option.{same_Some}
 use Rattle.sp_cell.specs.declared.cell.Cell.{Cell}
 use Rattle.sp_cell.specs.declared.spot.Spot.{Spot}
 use Rattle.sp_cell.specs.Map.{Map, Content, Own, Shared, Output, Away, IsOutput, output_spot, cells_of}
@@ -25,9 +26,6 @@ pub record Keeps (K : Type 0) (n : ℕ) (m k : Map) : Type 0 where
       → piece_of (map.get m q) ≡ Some cs → (ds : List Cell) × (piece_of (map.get k q) ≡ Some ds)
       × (length ds ≡ length cs)
 
-some_is : {X : Type 0} {y z : X} → Some y ≡ Some z → y ≡ z
-some_is e = cc
-
 pub keeps_less : (K : Type 0) (n i : ℕ) (m k : Map) → i ≤ n → Keeps K n m k → Keeps K i m k
 keeps_less K n i m k l h = record {
   input = λ c b v e. h.input c (omega (arith, b, l)) v e;
@@ -48,7 +46,7 @@ module _ (ls : List Layout) (K : Type 0) (m k : Map) where
       here : (x : ℕ) (e : E x) → (q : Spot) × (spot_of ls fs x ≡ Some q) × (q.frame < n) × Has ls fs m x q → (q : Spot)
           × (spot_of ls fs x ≡ Some q) × (q.frame < n) × Has ls fs k x q
       here zero e w =
-          let is : w.0 ≡ input_spot = sym (some_is w.1) in
+          let is : w.0 ≡ input_spot = sym (same_Some _ _ w.1) in
           let far : 0 < n = (let b = w.2 in omega (arith, b)) in (
             w.0,
             w.1,
@@ -58,7 +56,7 @@ module _ (ls : List Layout) (K : Type 0) (m k : Map) where
                 ∙ w.3.1)),
           )
       here (suc zero) e w =
-          let is : w.0 ≡ output_spot = sym (some_is w.1) in
+          let is : w.0 ≡ output_spot = sym (same_Some _ _ w.1) in
           let far : 0 < n = (let b = w.2 in omega (arith, b)) in (
             w.0,
             w.1,

@@ -2,7 +2,9 @@
 use Rattle.std.proofs.Common.{◌≡◌, ◌≢◌, ◌⊎◌, inl, inr, ℕ, zero, suc, ◌+◌, ◌≤◌, ◌<◌, ◌==◌, List, [], ◌∷◌, ◌++◌, length}
 use Rattle.std.proofs.Common.{Option, Some, None, Bool, true, false, ◌&&◌, refl, sym, ap, ◌∙◌, subst, eqb-true, arith}
 use Rattle.std.specs.Prelude.{slice_get}
-use Rattle.std.proofs.lemmas.Bool.{eq-eqb, eqb-false}
+use Rattle.std.proofs.lemmas.Bool.{eq-eqb, eqb-false, and_parts, true_from_ne_false}
+use Rattle.std.proofs.lemmas.Option.{same_Some}
+use Rattle.sp_base.proofs.Facts.{less_same_or_more, not_true_and_false}
 use Rattle.sp_code.specs.declared.instr.Instr.{Instr}
 use Rattle.sp_code.specs.declared.instr.Instr.TheVariants as i
 use Rattle.sp_code.specs.declared.code.Formal.{Formal}
@@ -26,15 +28,9 @@ use Rattle.sp_rules.specs.Named.{EndsWrong, NamedWrong, LoopsWrong}
 use Rattle.sp_rules.specs.Rules.{ComesTo, call_fits, BreaksV2, Lacks, Differs, BreaksV3, PassesLeft, BreaksV4}
 use Rattle.sp_rules.specs.Rules.{OtherLength, NoRoom, BreaksV5, NoFit}
 use Rattle.sp_rules.specs.Keeps.{Keeps, HaveChildren, FitsTypes}
-use Rattle.sp_rules.proofs.Facts.{same_some, no_true, which}
 use Rattle.sp_rules.proofs.Scoping.{found_layout}
 use Rattle.sp_rules.proofs.Tabled.{not_different}
 use Rattle.sp_rules.proofs.Walking.{passes}
-
--- a test that does not fail
-not_false : (b : Bool) → (b ≡ false → ⊥) → b ≡ true
-not_false true h = refl
-not_false false h = absurd (h refl)
 
 -- two numbers, or two areas, that are not different are equal
 not_other : (a b : ℕ) → (a ≢ b → ⊥) → a ≡ b
@@ -50,18 +46,14 @@ same_area (Body b) (Child a p k) = false
 same_area (Child a p k) (Body d) = false
 same_area (Child a p k) (Child b q j) = same_area a b && ((p == q) && (k == j))
 
-both_true : (a b : Bool) → (a && b) ≡ true → (a ≡ true) × (b ≡ true)
-both_true true b e = (refl, e)
-both_true false b e = absurd (cc e)
-
 area_is : (a b : Area) → same_area a b ≡ true → a ≡ b
 unfolding same_area
 area_is (Body b) (Body d) e = ap Body (eqb-true b d e)
 area_is (Body b) (Child a p k) e = absurd (cc e)
 area_is (Child a p k) (Body d) e = absurd (cc e)
 area_is (Child a p k) (Child b q j) e =
-    let r = both_true (same_area a b) ((p == q) && (k == j)) e in
-    let s = both_true (p == q) (k == j) r.1 in
+    let r = and_parts (same_area a b) ((p == q) && (k == j)) e in
+    let s = and_parts (p == q) (k == j) r.1 in
     let x = area_is a b r.0 in let y = eqb-true p q s.0 in let z = eqb-true k j s.1 in λ t. Child (x t) (y t) (z t)
 
 area_same : (a : Area) → same_area a a ≡ true
@@ -74,13 +66,13 @@ not_other_area a b h = go (same_area a b) refl
   where
     go : (t : Bool) → same_area a b ≡ t → a ≡ b
     go true e = area_is a b e
-    go false e = absurd (h (λ z. no_true (same_area a b) (subst (λ y. same_area a y ≡ true) z (area_same a)) e))
+    go false e = absurd (h (λ z. not_true_and_false (same_area a b) (subst (λ y. same_area a y ≡ true) z (area_same a)) e))
 
 -- of two declarations one comes first, or they are one
 which_first : (d e : Declared) → IsBefore d e ⊎ ((d ≡ e) ⊎ IsBefore e d)
 which_first (InLayout j k) (OfChild t m) = inl tt
 which_first (OfChild t k) (InLayout l m) = inr (inr tt)
-which_first (InLayout j k) (InLayout l m) = first (which j l) (which k m)
+which_first (InLayout j k) (InLayout l m) = first (less_same_or_more j l) (less_same_or_more k m)
   where
     first : (j < l) ⊎ ((j ≡ l) ⊎ (l < j)) → (k < m) ⊎ ((k ≡ m) ⊎ (m < k)) → IsBefore (InLayout j k) (InLayout l m)
         ⊎ ((InLayout j k ≡ InLayout l m) ⊎ IsBefore (InLayout l m) (InLayout j k))
@@ -89,7 +81,7 @@ which_first (InLayout j k) (InLayout l m) = first (which j l) (which k m)
     first (inr (inl e)) (inl h) = inl (inr (e, h))
     first (inr (inl e)) (inr (inl f)) = inr (inl (λ t. InLayout (e t) (f t)))
     first (inr (inl e)) (inr (inr h)) = inr (inr (inr (sym e, h)))
-which_first (OfChild t k) (OfChild u m) = first (which t u) (which k m)
+which_first (OfChild t k) (OfChild u m) = first (less_same_or_more t u) (less_same_or_more k m)
   where
     first : (t < u) ⊎ ((t ≡ u) ⊎ (u < t)) → (k < m) ⊎ ((k ≡ m) ⊎ (m < k)) → IsBefore (OfChild t k) (OfChild u m)
         ⊎ ((OfChild t k ≡ OfChild u m) ⊎ IsBefore (OfChild u m) (OfChild t k))
@@ -138,7 +130,7 @@ module _ (c : Parts) (children : HaveChildren c) (fitting : FitsTypes c) (v1 : (
     → BreaksV2 c p → ⊥) (v3 : (p : ℕ) → BreaksV3 c p → ⊥) (v4 : (p : ℕ) → BreaksV4 c p → ⊥) (v5 : (p : ℕ) → BreaksV5 c p
     → ⊥) where
   there : (p : ℕ) → names_there c (instr_at c p) ≡ true
-  there p = not_false (names_there c (instr_at c p)) (λ e. v1 p (NotThere (inl e)))
+  there p = true_from_ne_false (names_there c (instr_at c p)) (λ e. v1 p (NotThere (inl e)))
 
   -- the table that an instruction names
   table_of : (p t : ℕ) → Names c t p → (tb : ForkTable) × (slice_get c.forks t ≡ Some tb)
@@ -150,7 +142,7 @@ module _ (c : Parts) (children : HaveChildren c) (fitting : FitsTypes c) (v1 : (
 
       of : (u : ℕ) → ◌≡◌ {A = Option ℕ} (Some u) (Some t) → is_some (slice_get c.forks u) ≡ true → (tb : ForkTable)
           × (slice_get c.forks t ≡ Some tb)
-      of u n e = found (slice_get c.forks t) (subst (λ z. is_some (slice_get c.forks z) ≡ true) (same_some u t n) e)
+      of u n e = found (slice_get c.forks t) (subst (λ z. is_some (slice_get c.forks z) ≡ true) (same_Some u t n) e)
 
       go : (o : Option Instr) → table_named o ≡ Some t → names_there c o ≡ true → (tb : ForkTable)
           × (slice_get c.forks t ≡ Some tb)
@@ -176,7 +168,7 @@ module _ (c : Parts) (children : HaveChildren c) (fitting : FitsTypes c) (v1 : (
       not_other p q (λ n. v1 ch.0.entry (TableUnnamed (t, ch.0, ch.1, refl, inr (inl (p, q, h, k, n)))))
 
   lengths : (k n m : ℕ) → IsSent c k n → IsSent c k m → n ≡ m
-  lengths k n m s t = go (which s.at t.at)
+  lengths k n m s t = go (less_same_or_more s.at t.at)
     where
       sends_s : (a : Area) × (ss : List Shape) × ComesTo c a s.at ss × (instr_at c s.at ≡ Some (i.Send k))
           × (message_cells c ss ≡ Some n)
@@ -193,7 +185,7 @@ module _ (c : Parts) (children : HaveChildren c) (fitting : FitsTypes c) (v1 : (
           (s.there, passes c s.area s.at s.shapes s.reached) in
           let one = one_list c v2 s.area s.there s.at s.shapes t.shapes s.reached
           (subst (λ a. Reaches c a s.at t.shapes) same rt) in
-          same_some n m (sym s.cells ∙ (ap (message_cells c) one ∙ t.cells))
+          same_Some n m (sym s.cells ∙ (ap (message_cells c) one ∙ t.cells))
 
       go : (s.at < t.at) ⊎ ((s.at ≡ t.at) ⊎ (t.at < s.at)) → n ≡ m
       go (inl l) = not_other n m (λ h. v4 t.at (OtherLength k m s.at n sends_t l sends_s h))
@@ -201,7 +193,7 @@ module _ (c : Parts) (children : HaveChildren c) (fitting : FitsTypes c) (v1 : (
       go (inr (inr l)) = not_other n m (λ h. v4 s.at (OtherLength k n t.at m sends_s l sends_t (λ z. h (sym z))))
 
   rooms : (k n m : ℕ) → IsReceived c k n → IsSent c k m → m ≤ n
-  rooms k n m r s = go (which n m)
+  rooms k n m r s = go (less_same_or_more n m)
     where
       go : (n < m) ⊎ ((n ≡ m) ⊎ (m < n)) → m ≤ n
       go (inl l) = absurd (v4 r.at (NoRoom k n s.at m (r.area, r.shapes, (r.there, r.reached), r.is, r.cells)
@@ -210,7 +202,7 @@ module _ (c : Parts) (children : HaveChildren c) (fitting : FitsTypes c) (v1 : (
       go (inr (inr l)) = omega (arith, l)
 
   real : (d : Declared) (x q : ℕ) → declared c d ≡ Some (x, q) → 2 ≤ x
-  real d x q e = go (which x 2)
+  real d x q e = go (less_same_or_more x 2)
     where
       go : (x < 2) ⊎ ((x ≡ 2) ⊎ (2 < x)) → 2 ≤ x
       go (inl l) = absurd (v1 q (Twice (d, x, e, inl l)))
@@ -238,7 +230,7 @@ module _ (c : Parts) (children : HaveChildren c) (fitting : FitsTypes c) (v1 : (
   foralls p t e =
       let tb = table_of p t (ap table_named e) in
       let ch = first_child c.forks t tb.0 tb.1 (children t tb.0 tb.1) in
-      let ok = both_true (length tb.0.children == 1) (is_some ch.0.index) (not_false ((length tb.0.children == 1)
+      let ok = and_parts (length tb.0.children == 1) (is_some ch.0.index) (true_from_ne_false ((length tb.0.children == 1)
       && is_some ch.0.index) (λ h. v1 ch.0.entry
       (TableIndexed (t, p, inr (e, (ch.0, tb.0, ch.1, refl, tb.1, h)))))) in
       let x = index ch.0.index ok.1 in
@@ -251,7 +243,7 @@ module _ (c : Parts) (children : HaveChildren c) (fitting : FitsTypes c) (v1 : (
       only : (cs : List ChildTable) (ch : ChildTable) → (length cs == 1) ≡ true → slice_get cs 0 ≡ Some ch
           → cs ≡ ch ∷ []
       only [] ch h s = absurd (cc s)
-      only (x ∷ []) ch h s = ap (λ z. z ∷ []) (same_some x ch s)
+      only (x ∷ []) ch h s = ap (λ z. z ∷ []) (same_Some x ch s)
       only (x ∷ y ∷ cs) ch h s = absurd (omega (arith, eqb-true (suc (suc (length cs))) 1 h))
 
   pub keeps : Keeps c
@@ -261,18 +253,18 @@ module _ (c : Parts) (children : HaveChildren c) (fitting : FitsTypes c) (v1 : (
     forks = forks;
     foralls = foralls;
     right = λ a p ss r e. v2 p (Lacks a r.1.steps ss (r.0, arrives c v2 a r.0 r.1.steps p ss r.1.way) e);
-    within = λ a p ss r. not_false (stays_within (instr_at c p) ss) (λ e. v3 p (PassesLeft a ss r e));
-    fits = λ a p ss r. not_false (call_fits c (instr_at c p) ss) (λ e. v5 p (NoFit a ss r e));
+    within = λ a p ss r. true_from_ne_false (stays_within (instr_at c p) ss) (λ e. v3 p (PassesLeft a ss r e));
+    fits = λ a p ss r. true_from_ne_false (call_fits c (instr_at c p) ss) (λ e. v5 p (NoFit a ss r e));
     there = there;
-    levels = λ a p l. not_false (level_fits c a (instr_at c p)) (λ e. v1 p (LevelDiffers (a, l, e)));
-    ends = λ a p l. not_false (ends_well c a (instr_at c p)) (λ e. v1 p (EndsWrong (a, l, e)));
-    names = λ a p l. not_false (names_well c a (instr_at c p)) (λ e. v1 p (NamedWrong (a, l, e)));
-    loops = λ a p l. not_false (loops_well c a (instr_at c p)) (λ e. v1 p (LoopsWrong (a, l, e)));
-    parents = λ b l e. let f = found_layout c.layouts b l e in not_false
+    levels = λ a p l. true_from_ne_false (level_fits c a (instr_at c p)) (λ e. v1 p (LevelDiffers (a, l, e)));
+    ends = λ a p l. true_from_ne_false (ends_well c a (instr_at c p)) (λ e. v1 p (EndsWrong (a, l, e)));
+    names = λ a p l. true_from_ne_false (names_well c a (instr_at c p)) (λ e. v1 p (NamedWrong (a, l, e)));
+    loops = λ a p l. true_from_ne_false (loops_well c a (instr_at c p)) (λ e. v1 p (LoopsWrong (a, l, e)));
+    parents = λ b l e. let f = found_layout c.layouts b l e in true_from_ne_false
         (leads_by (length c.layouts) c.layouts (Some l)) (λ z. v1 l.entry (BlocksApart (f.1.0, l, f.1.1, refl, inr z)));
-    program = λ l e. let f = found_layout c.layouts 0 l e in not_false (is_program l)
+    program = λ l e. let f = found_layout c.layouts 0 l e in true_from_ne_false (is_program l)
         (λ z. v1 l.entry (WithoutProgram (inr (l, f.1, f.0, refl, z))));
-    sizes = λ l h. not_false (has_sizes l) (λ z. v1 l.entry (SizesDiffer (l, h, refl, z)));
+    sizes = λ l h. true_from_ne_false (has_sizes l) (λ z. v1 l.entry (SizesDiffer (l, h, refl, z)));
     real = real;
     once = once;
     one_name = one_name;
@@ -292,15 +284,15 @@ module _ (c : Parts) (children : HaveChildren c) (fitting : FitsTypes c) (v1 : (
   begins [] a ns e j f s = absurd (cc s)
   begins (g ∷ fs) a [] e j f s = absurd (cc e)
   begins (g ∷ fs) a (n ∷ ns) e zero f s = ap Some
-      (sym (eqb-true (formal_cells g) n (both_true (formal_cells g == n) (begins_with (formals_cells fs
-      ++ answer_cells a) ns) e).0) ∙ ap formal_cells (same_some g f s))
+      (sym (eqb-true (formal_cells g) n (and_parts (formal_cells g == n) (begins_with (formals_cells fs
+      ++ answer_cells a) ns) e).0) ∙ ap formal_cells (same_Some g f s))
   begins (g ∷ fs) a (n ∷ ns) e (suc j) f s = begins fs a ns
-      (both_true (formal_cells g == n) (begins_with (formals_cells fs ++ answer_cells a) ns) e).1 j f s
+      (and_parts (formal_cells g == n) (begins_with (formals_cells fs ++ answer_cells a) ns) e).1 j f s
 
   pub formals_have_cells : (b : ℕ) (l : Layout) → layout_of c.layouts b ≡ Some l → (j : ℕ) (f : Formal)
       → slice_get l.formals j ≡ Some f → slice_get l.sizes j ≡ Some (formal_cells f)
   formals_have_cells b l e j f s =
-      let ok = both_true (length l.sizes == length l.variables) (begins_with (formals_cells l.formals
+      let ok = and_parts (length l.sizes == length l.variables) (begins_with (formals_cells l.formals
       ++ answer_cells l.answer) l.sizes) (keeps.sizes l (found_layout c.layouts b l e).1) in
       begins l.formals l.answer l.sizes ok.1 j f s
 

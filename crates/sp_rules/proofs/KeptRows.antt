@@ -3,6 +3,7 @@
 use Rattle.std.proofs.Common.{◌≡◌, ◌≢◌, ◌⊎◌, inl, inr, ⊎_elim, ℕ, zero, suc, ◌==◌, List, [], ◌∷◌, Some, None, Bool}
 use Rattle.std.proofs.Common.{true, false, if◌then◌else◌, refl, sym, ◌∙◌, subst, eqb-true, arith}
 use Rattle.std.specs.Prelude.{IsSome}
+use Rattle.std.proofs.lemmas.Option.{same_Some}
 use Rattle.sp_tree.specs.Interference.{IsMember, AllDifferent}
 use Rattle.sp_code.specs.declared.code.Layout.{Layout}
 use Rattle.sp_code.specs.declared.code.ChildTable.{ChildTable}
@@ -23,9 +24,6 @@ first = record { entry = 2; moved = 2 ∷ []; shared = []; index = None }
 abbrev second : ChildTable
 second = record { entry = 6; moved = 3 ∷ []; shared = []; index = None }
 
-some_is : {X : Type 0} {y z : X} → Some y ≡ Some z → y ≡ z
-some_is e = cc
-
 abbrev main : Layout
 main = record {
   block = 0;
@@ -40,8 +38,8 @@ main = record {
 -- the only fork is the first instruction, and has two children
 at_fork : (p k : ℕ) (t : ChildTable) → child_at moving p k ≡ Some t → (p ≡ 0)
     × ((k ≡ 0) × (t ≡ first) ⊎ (k ≡ 1) × (t ≡ second))
-at_fork zero zero t e = (refl, inl (refl, sym (some_is e)))
-at_fork zero (suc zero) t e = (refl, inr (refl, sym (some_is e)))
+at_fork zero zero t e = (refl, inl (refl, sym (same_Some _ _ e)))
+at_fork zero (suc zero) t e = (refl, inr (refl, sym (same_Some _ _ e)))
 at_fork zero (suc (suc k)) t e = absurd (cc e)
 at_fork (suc zero) k t e = absurd (cc e)
 at_fork (suc (suc zero)) k t e = absurd (cc e)

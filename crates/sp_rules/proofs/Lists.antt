@@ -5,6 +5,7 @@ use Rattle.std.proofs.Common.{if◌then◌else◌}
 use Rattle.std.specs.Prelude.{slice_get}
 use Rattle.std.proofs.lemmas.Bool.{eqb-true}
 use Rattle.std.proofs.lemmas.List.{length-drop, drop_all}
+use Rattle.sp_base.proofs.Facts.{within_or_past}
 use Rattle.sp_tree.specs.Interference.{IsMember, AllDifferent}
 use Rattle.sp_cell.specs.FrameLaws.{is_same, is_other}
 use Rattle.sp_code.specs.System.{place_of}
@@ -93,12 +94,6 @@ drop_again n xs = go (length xs - (length xs - n)) refl
     by k e (inl l) = ap (λ j. drop j xs) {x = k} {y = n} (omega (arith, e, l))
     by k e (inr l) = drop_all k xs (omega (arith, e, l)) ∙ sym (drop_all n xs (omega (arith, l)))
 
-    either : (a b : ℕ) → (a ≤ b) ⊎ (b < a)
-    either zero b = inl (omega arith)
-    either (suc a) zero = inr (omega arith)
-    either (suc a) (suc b) = ⊎_elim (λ (h : a ≤ b). inl (omega (arith, h))) (λ (h : b < a). inr (omega (arith, h)))
-        (either a b)
-
     go : (k : ℕ) → length xs - (length xs - n) ≡ k → drop (length xs - length (drop n xs)) xs ≡ drop n xs
     go k e = ap (λ j. drop (length xs - j) xs) (length-drop n xs) ∙ ap (λ j. drop j xs) e
-        ∙ by k (sym e) (either n (length xs))
+        ∙ by k (sym e) (within_or_past n (length xs))

@@ -5,6 +5,7 @@ use Rattle.std.proofs.Common.{None, refl, sym, ap, ◌∙◌, subst, arith}
 use Rattle.std.specs.Prelude.{slice_set}
 use Rattle.std.proofs.lemmas.List.{length-append, length-drop, length-take-le, length-set}
 use Rattle.std.specs.FinMap as map
+use Rattle.std.proofs.lemmas.Option.{same_Some}
 use Rattle.sp_cell.specs.declared.cell.Cell.{Cell}
 use Rattle.sp_cell.specs.declared.spot.Address.{Address}
 use Rattle.sp_cell.specs.Laws.{known_of_held}
@@ -21,9 +22,6 @@ use Rattle.sp_rules.specs.Running.{Base, HasConsole, Lives, Aims}
 use Rattle.sp_rules.proofs.Forking.{held_of_cells}
 use Rattle.sp_rules.proofs.Holdings.{head, holding_set}
 use Rattle.sp_rules.proofs.Keeping.{keeps_put}
-
-some_is : {X : Type 0} {y z : X} → Some y ≡ Some z → y ≡ z
-some_is e = cc
 
 pub overwritten_length : (xs ys : List Cell) (o : ℕ) → o + length ys ≤ length xs
     → length (overwritten xs o ys) ≡ length xs
@@ -59,8 +57,8 @@ module _ (g : Setting) {Area : Type 0} (H : Area → List Home) (E : Area → �
       go (suc zero) r e at ext = absurd (omega (arith, r))
       go (suc (suc x)) r e at ext =
           let w = al.held (suc (suc x)) e in
-          let same : w.0 ≡ p.spot = some_is (sym w.1 ∙ at) in
-          let long : aims.size ≡ length w.3.0 = some_is (sym ext ∙ w.3.2) in
+          let same : w.0 ≡ p.spot = same_Some _ _ (sym w.1 ∙ at) in
+          let long : aims.size ≡ length w.3.0 = same_Some _ _ (sym ext ∙ w.3.2) in
           record {
             cells = w.3.0;
             piece = ap (λ q. piece_of (map.get n.store.map q)) (sym same) ∙ w.3.1;
@@ -84,7 +82,7 @@ module _ (g : Setting) {Area : Type 0} (H : Area → List Home) (E : Area → �
           (a ∷ us) n.frames n.depth n.store l.holding p.spot (Own cs)
           (known_of_held (map.get n.store.map p.spot) (held_of_cells (map.get n.store.map p.spot) t.cells t.piece)) tt
           (keeps_put (HasConsole g H E T b.area) l.holding.bound n.store.map p.spot (Own cs) t.clear
-          (λ ds e. (cs, refl, long ∙ ap length (some_is (sym t.piece ∙ e)))));
+          (λ ds e. (cs, refl, long ∙ ap length (same_Some _ _ (sym t.piece ∙ e)))));
       last = l.last;
       moved = l.moved;
     }
@@ -120,8 +118,8 @@ module _ (g : Setting) {Area : Type 0} (H : Area → List Home) (E : Area → �
 
         cells_there : (o : Option Content) → piece_of o ≡ Some t.cells → cells_of o ≡ t.cells
         cells_there None e = absurd (cc e)
-        cells_there (Some (Own ds)) e = some_is e
-        cells_there (Some (Shared ds)) e = some_is e
+        cells_there (Some (Own ds)) e = same_Some _ _ e
+        cells_there (Some (Shared ds)) e = same_Some _ _ e
         cells_there (Some (Output bs)) e = absurd (cc e)
         cells_there (Some Away) e = absurd (cc e)
 

@@ -2,9 +2,11 @@
 use Rattle.std.proofs.Common.{◌≡◌, ◌≢◌, ◌⊎◌, inl, inr, ⊎_elim, ℕ, zero, suc, ◌+◌, ◌-◌, ◌<◌, ◌≤◌, ◌==◌, List, [], ◌∷◌}
 use Rattle.std.proofs.Common.{◌++◌, length, Option, Some, None, true, refl, sym, ap, ◌∙◌, subst, arith, if◌then◌else◌}
 use Rattle.std.specs.Prelude.{slice_get, IsSome, nat_lt, pos, replicate}
-use Rattle.std.proofs.lemmas.Bool.{eqb-true, eq-eqb, le-ltb}
+use Rattle.std.proofs.lemmas.Bool.{eqb-true, eq-eqb, le-ltb, and_parts}
 use Rattle.std.proofs.lemmas.List.{length-replicate}
 use Rattle.std.specs.FinMap as map
+use Rattle.std.proofs.lemmas.Option.{same_Some, slice_get_within}
+use Rattle.sp_base.proofs.Facts.{below_two_or_not, item_there}
 use Rattle.sp_tree.specs.Interference.{IsMember}
 use Rattle.sp_cell.specs.declared.cell.Cell.{Cell}
 use Rattle.sp_cell.specs.declared.cell.Cell.TheVariants as cell
@@ -32,13 +34,9 @@ use Rattle.sp_rules.specs.Running.{Lives}
 use Rattle.sp_rules.proofs.Chains.{spot_is, size_is}
 use Rattle.sp_rules.proofs.Effects.{effects_around}
 use Rattle.sp_rules.proofs.Firsts.{first_stands}
-use Rattle.sp_rules.proofs.Instances.{both, get_some, get_there}
 use Rattle.sp_rules.proofs.Lists.{member_either, place_some}
 use Rattle.sp_code.proofs.Pieces.{pieces_at}
 use Rattle.sp_rules.proofs.Scoping.{found_layout, programs, chained}
-
-some_is : {X : Type 0} {y z : X} → Some y ≡ Some z → y ≡ z
-some_is e = cc
 
 -- ---- the map
 
@@ -175,11 +173,11 @@ module _ (g : Setting) (k : Keeps g.code) (e : KeepsEffects g.code (Does g.code)
 
       sizes_long : length l.sizes ≡ length l.variables
       sizes_long = eqb-true (length l.sizes) (length l.variables)
-          (both (length l.sizes == length l.variables) (begins_with (formals_cells l.formals
+          (and_parts (length l.sizes == length l.variables) (begins_with (formals_cells l.formals
           ++ answer_cells l.answer) l.sizes) (k.sizes l (found_layout g.code.layouts 0 l at).1)).0
 
       c : (c : ℕ) × (slice_get l.sizes w.0 ≡ Some c)
-      c = get_some l.sizes w.0 (let b = get_there l.variables w.0 x w.2 in omega (arith, b, sizes_long))
+      c = item_there l.sizes w.0 (let b = slice_get_within l.variables w.0 x w.2 in omega (arith, b, sizes_long))
 
       go : (hs : List Home) → Chain hs (f ∷ []) → Stays x
       go [] ch = absurd ch
@@ -226,7 +224,7 @@ module _ (g : Setting) (k : Keeps g.code) (e : KeepsEffects g.code (Does g.code)
 
   at_spot : (x : ℕ) (s : Spot) → 2 ≤ x → (u : Stays x) → spot_of g.code.layouts (f ∷ []) x ≡ Some s
       → s ≡ record { frame = 0; variable = 2 + u.place }
-  at_spot x s r u q = some_is (sym q ∙ u.stands_so)
+  at_spot x s r u q = same_Some _ _ (sym q ∙ u.stands_so)
 
   piece_there : (x : ℕ) (u : Stays x)
       → piece_of (map.get m (record { frame = 0; variable = 2 + u.place })) ≡ Some (replicate u.cells cell.Undefined)
@@ -271,14 +269,9 @@ module _ (g : Setting) (k : Keeps g.code) (e : KeepsEffects g.code (Does g.code)
         ),
       )
 
-  either : (x : ℕ) → (x < 2) ⊎ (2 ≤ x)
-  either zero = inl (omega arith)
-  either (suc zero) = inl (omega arith)
-  either (suc (suc x)) = inr (omega arith)
-
   small_spot : (x : ℕ) (s : Spot) → x < 2 → spot_of g.code.layouts (f ∷ []) x ≡ Some s → s.variable ≡ x
-  small_spot zero s lt q = ap (λ (z : Spot). z.variable) (sym (some_is q))
-  small_spot (suc zero) s lt q = ap (λ (z : Spot). z.variable) (sym (some_is q))
+  small_spot zero s lt q = ap (λ (z : Spot). z.variable) (sym (same_Some _ _ q))
+  small_spot (suc zero) s lt q = ap (λ (z : Spot). z.variable) (sym (same_Some _ _ q))
   small_spot (suc (suc x)) s lt q = absurd (omega (arith, lt))
 
   large_spot : (x : ℕ) (s : Spot) → 2 ≤ x → May g.code (Body 0) x → spot_of g.code.layouts (f ∷ []) x ≡ Some s → (j : ℕ)
@@ -288,7 +281,7 @@ module _ (g : Setting) (k : Keeps g.code) (e : KeepsEffects g.code (Does g.code)
 
   apart : (x y : ℕ) (s : Spot) → May g.code (Body 0) x → May g.code (Body 0) y
       → spot_of g.code.layouts (f ∷ []) x ≡ Some s → spot_of g.code.layouts (f ∷ []) y ≡ Some s → x ≡ y
-  apart x y s h i p q = go (either x) (either y)
+  apart x y s h i p q = go (below_two_or_not x) (below_two_or_not y)
     where
       go : (x < 2) ⊎ (2 ≤ x) → (y < 2) ⊎ (2 ≤ y) → x ≡ y
       go (inl a) (inl b) = sym (small_spot x s a p) ∙ small_spot y s b q
@@ -300,7 +293,7 @@ module _ (g : Setting) (k : Keeps g.code) (e : KeepsEffects g.code (Does g.code)
           let u = large_spot x s a h p in
           let w = large_spot y s b i q in
           let same : u.0 ≡ w.0 = omega (arith, u.2, w.2) in
-          some_is (sym u.1 ∙ ap (slice_get l.variables) same ∙ w.1)
+          same_Some _ _ (sym u.1 ∙ ap (slice_get l.variables) same ∙ w.1)
 
   clear : (x : ℕ) (s : Spot) → 2 ≤ x → May g.code (Body 0) x → spot_of g.code.layouts (f ∷ []) x ≡ Some s
       → (s ≢ input_spot) × (s ≢ output_spot)

@@ -2,9 +2,10 @@
 use Rattle.std.proofs.Common.{◌≡◌, ◌≢◌, ⊎_elim, ℕ, suc, ◌+◌, ◌≤◌, ◌==◌, ◌&&◌, List, [], ◌∷◌, length, drop, Option, Some}
 use Rattle.std.proofs.Common.{Bool, true, false, refl, sym, ap, ◌∙◌, arith}
 use Rattle.std.specs.Prelude.{slice_set}
-use Rattle.std.proofs.lemmas.Bool.{eqb-true}
+use Rattle.std.proofs.lemmas.Bool.{eqb-true, and_parts}
 use Rattle.std.proofs.lemmas.List.{length-drop, length-append, length-set}
 use Rattle.std.specs.FinMap as map
+use Rattle.std.proofs.lemmas.Option.{same_Some}
 use Rattle.sp_cell.specs.declared.cell.Cell.{Cell}
 use Rattle.sp_cell.specs.declared.cell.Cell.TheVariants as cell
 use Rattle.sp_cell.specs.declared.spot.Spot.{Spot}
@@ -31,10 +32,6 @@ abbrev pub HaveRoom : ℕ → List Formal → (ℕ → Option ℕ) → Type 0
 HaveRoom k [] size = Unit {0}
 HaveRoom k (formal.Value n ∷ fs) size = (size k ≡ Some n) × HaveRoom (suc k) fs size
 HaveRoom k (formal.Reference n ∷ fs) size = HaveRoom (suc k) fs size
-
-both : (a b : Bool) → (a && b) ≡ true → (a ≡ true) × (b ≡ true)
-both true b e = (refl, e)
-both false b e = absurd (cc e)
 
 overwritten_length : (xs ys : List Cell) → length ys ≤ length xs → length (overwritten xs 0 ys) ≡ length xs
 overwritten_length xs ys l = length-append ys (drop (0 + length ys) xs) ∙ go (length ys) l
@@ -70,9 +67,6 @@ module _ (N : ℕ) where
       }))
       (same_or (at_frame N j) (at_frame N k))
 
-  same_size : {a b : ℕ} → Some a ≡ Some b → a ≡ b
-  same_size e = cc
-
   cell_long : (size : ℕ → Option ℕ) (p : Plain) (k : ℕ) (c : Cell) → sized size p → (n : ℕ) → size k ≡ Some n
       → length (slice_set (cells_at plain p (at_frame N k)) 0 c) ≡ n
   cell_long size p k c h n e = let w = h k n e in length-set (cells_at plain p (at_frame N k)) 0 c
@@ -83,7 +77,7 @@ module _ (N : ℕ) where
   cells_long size p k m ds h at long n e =
       let w = h k n e in
       let is = cells_found (map.get p.map (at_frame N k)) w.cells w.piece in
-      let same : m ≡ n = same_size (sym at ∙ e) in
+      let same : m ≡ n = same_Some _ _ (sym at ∙ e) in
       let now : length (cells_at plain p (at_frame N k)) ≡ n = ap length is ∙ w.long in
       overwritten_length (cells_at plain p (at_frame N k)) ds (omega (arith, long, same, now)) ∙ now
 
@@ -94,17 +88,17 @@ module _ (N : ℕ) where
   filled_sized size k (g ∷ fs) [] p f r h = absurd (cc f)
   filled_sized size k (formal.Value n ∷ fs) (Number v ∷ es) p f r h =
       filled_sized size (suc k) fs es (put_cell plain (cell_at N k) (cell.Ordinal v) p)
-      (both (n == 1) (fit_formals fs es) f).1 r.1
+      (and_parts (n == 1) (fit_formals fs es) f).1 r.1
       (write_sized size p k (slice_set (cells_at plain p (at_frame N k)) 0 (cell.Ordinal v)) h
       (cell_long size p k (cell.Ordinal v) h))
   filled_sized size k (formal.Value n ∷ fs) (Chan c ∷ es) p f r h =
       filled_sized size (suc k) fs es (put_cell plain (cell_at N k) (cell.Channel c) p)
-      (both (n == 1) (fit_formals fs es) f).1 r.1
+      (and_parts (n == 1) (fit_formals fs es) f).1 r.1
       (write_sized size p k (slice_set (cells_at plain p (at_frame N k)) 0 (cell.Channel c)) h
       (cell_long size p k (cell.Channel c) h))
   filled_sized size k (formal.Value n ∷ fs) (Pointer a ∷ es) p f r h = absurd (cc f)
   filled_sized size k (formal.Value n ∷ fs) (Cells cs ∷ es) p f r h =
-      let w = both (length cs == n) (fit_formals fs es) f in
+      let w = and_parts (length cs == n) (fit_formals fs es) f in
       filled_sized size (suc k) fs es (put_cells plain (cell_at N k) cs p) w.1 r.1
       (write_sized size p k (overwritten (cells_at plain p (at_frame N k)) 0 cs) h
       (cells_long size p k n cs h r.0 (eqb-true (length cs) n w.0)))

@@ -1,6 +1,6 @@
 -- A call: the new activation holds its effects, and the others what they held.
 use Rattle.std.proofs.Common.{◌≡◌, ◌≢◌, ◌⊎◌, inl, inr, ⊎_elim, ℕ, suc, ◌+◌, ◌≤◌, ◌<◌, ◌==◌, List, [], ◌∷◌, ◌++◌, length}
-use Rattle.std.proofs.Common.{drop, Some, Bool, true, false, refl, sym, ap, ◌∙◌, subst, arith}
+use Rattle.std.proofs.Common.{drop, Some, Bool, true, false, refl, sym, ap, ◌∙◌, subst, arith, zero-add}
 use Rattle.std.specs.Prelude.{IsSome, replicate, slice_get}
 use Rattle.std.proofs.lemmas.List.{length-append, length-replicate}
 use Rattle.std.specs.FinMap as map
@@ -126,15 +126,12 @@ module _ (ls : List Layout) {Area : Type 0} (H : Area → List Home) (E : Area �
   fair : Fair store
   fair = filled_keeps N Fair fair_written 0 es (plain.pushed p l.sizes) fair_pushed
 
-  zero_plus : (j : ℕ) → 0 + j ≡ j
-  zero_plus j = omega arith
-
   sized : (i n : ℕ) → slice_get l.sizes i ≡ Some n
       → HasLength (map.get store.map (record { frame = N; variable = i })) n
   sized = filled_sized N (slice_get l.sizes) 0 l.formals es (plain.pushed p l.sizes) fit keeps.room (λ i n e. record {
     cells = replicate n cell.Undefined;
     piece = ap piece_of (ap (λ j. map.get (with_pieces p.map N 0 l.sizes) (record { frame = N; variable = j }))
-        (sym (zero_plus i)) ∙ pieces_at p.map N 0 l.sizes i n e);
+        (sym (zero-add i)) ∙ pieces_at p.map N 0 l.sizes i n e);
     long = length-replicate n cell.Undefined;
   })
 

@@ -6,6 +6,7 @@ use Rattle.std.proofs.Common.{if◌then◌else◌}
 use Rattle.std.specs.Prelude.{slice_get, nat_lt}
 use Rattle.std.proofs.lemmas.Bool.{eqb-false, ltb-true, ltb-false}
 use Rattle.std.proofs.lemmas.Option.{slice_get_within}
+use Rattle.sp_base.proofs.Facts.{less_same_or_more}
 use Rattle.sp_tree.specs.Interference.{IsMember, AllDifferent}
 use Rattle.sp_cell.specs.FrameLaws.{is_other}
 use Rattle.sp_code.specs.declared.instr.Instr.{Instr}
@@ -18,7 +19,6 @@ use Rattle.sp_rules.specs.Reach.{nexts, IsIn, Goes}
 use Rattle.sp_rules.specs.Named.{LiesIn}
 use Rattle.sp_rules.specs.Rules.{free_nexts, Wanders, BreaksV9, ComesBack}
 use Rattle.sp_rules.proofs.Lists.{member_or}
-use Rattle.sp_rules.proofs.Facts.{which}
 
 -- ---- different numbers below a bound are no more than it
 
@@ -258,7 +258,7 @@ module _ (c : Parts) where
             (stays (length c.instrs) q)
           where
             less : (n x y t : ℕ) → x ≤ t → x ≤ n → y ≤ suc n → (y ≡ suc n → ⊥) → (x < n → y ≡ x) → y < suc t
-            less n x y t a b d e f = go (which x n) (which y (suc n))
+            less n x y t a b d e f = go (less_same_or_more x n) (less_same_or_more y (suc n))
               where
                 go : (x < n) ⊎ ((x ≡ n) ⊎ (n < x)) → (y < suc n) ⊎ ((y ≡ suc n) ⊎ (suc n < y)) → y < suc t
                 go (inl h) z = let w = f h in omega (arith, w, a)

@@ -1,9 +1,12 @@
 -- A process that lives has what its next instruction needs of the memory.
 use Rattle.std.proofs.Common.{◌≡◌, ◌⊎◌, inl, inr, ⊎_elim, ℕ, zero, suc, ◌+◌, ◌-◌, ◌≤◌, ◌==◌, List, [], ◌∷◌, ◌++◌}
 use Rattle.std.proofs.Common.{length, Option, Some, None, true, false, refl, sym, ap, ◌∙◌, subst, arith, if◌then◌else◌}
+use Rattle.std.proofs.Common.{zero-add}
 use Rattle.std.specs.Prelude.{slice_get, IsSome, nat_le, not}
-use Rattle.std.proofs.lemmas.Bool.{eqb-true, le-leb}
+use Rattle.std.proofs.lemmas.Bool.{eqb-true, le-leb, and_parts}
 use Rattle.std.specs.FinMap as map
+use Rattle.std.proofs.lemmas.Option.{same_Some, slice_get_within}
+use Rattle.sp_base.proofs.Facts.{item_there}
 use Rattle.sp_tree.specs.Interference.{IsMember, AllDifferent}
 use Rattle.sp_cell.specs.Map.{Plain, Content, Own, Shared, Output, Away, IsOutput, output_of, output_spot}
 use Rattle.sp_code.specs.declared.code.Formal.{Formal}
@@ -28,12 +31,9 @@ use Rattle.sp_rules.specs.Shapes.{Shape}
 use Rattle.sp_rules.specs.Touched.{stored_by, loaded_by, touched, HasAnswer}
 use Rattle.sp_rules.proofs.Chains.{spot_is, size_is}
 use Rattle.sp_rules.proofs.Holdings.{head, next_low, may_go}
-use Rattle.sp_rules.proofs.Instances.{may_do, both, get_some, get_there}
+use Rattle.sp_rules.proofs.Instances.{may_do}
 use Rattle.sp_rules.proofs.Lists.{place_some}
 use Rattle.sp_rules.proofs.Scoping.{found_layout}
-
-some_is : {X : Type 0} {y z : X} → Some y ≡ Some z → y ≡ z
-some_is e = cc
 
 in_split : (x : ℕ) (ys zs : List ℕ) → IsIn x (ys ++ zs) → IsIn x ys ⊎ IsIn x zs
 in_split x [] zs h = inr h
@@ -42,25 +42,25 @@ in_split x (y ∷ ys) zs (inr h) = ⊎_elim (λ k. inl (inr k)) (λ k. inr k) (i
 
 listed : (xs : List ℕ) (n x : ℕ) → slice_get xs n ≡ Some x → IsMember x xs
 listed [] n x e = absurd (cc e)
-listed (y ∷ xs) zero x e = inl (sym (some_is e))
+listed (y ∷ xs) zero x e = inl (sym (same_Some _ _ e))
 listed (y ∷ xs) (suc n) x e = inr (listed xs n x e)
 
 -- different numbers stand at one place each
 one_place : (xs : List ℕ) (n m x : ℕ) → AllDifferent xs → slice_get xs n ≡ Some x → slice_get xs m ≡ Some x → n ≡ m
 one_place [] n m x d e f = absurd (cc e)
 one_place (y ∷ xs) zero zero x d e f = refl
-one_place (y ∷ xs) zero (suc m) x d e f = absurd (d.0 (subst (λ z. IsMember z xs) (sym (some_is e)) (listed xs m x f)))
-one_place (y ∷ xs) (suc n) zero x d e f = absurd (d.0 (subst (λ z. IsMember z xs) (sym (some_is f)) (listed xs n x e)))
+one_place (y ∷ xs) zero (suc m) x d e f = absurd (d.0 (subst (λ z. IsMember z xs) (sym (same_Some _ _ e)) (listed xs m x f)))
+one_place (y ∷ xs) (suc n) zero x d e f = absurd (d.0 (subst (λ z. IsMember z xs) (sym (same_Some _ _ f)) (listed xs n x e)))
 one_place (y ∷ xs) (suc n) (suc m) x d e f = ap suc (one_place xs n m x d.1 e f)
 
 -- the size behind those of the formals
 answer_size : (fs : List Formal) (zs : List ℕ) → begins_with (formals_cells fs ++ answer_cells true) zs ≡ true
     → slice_get zs (length fs) ≡ Some 1
 answer_size [] [] b = absurd (cc b)
-answer_size [] (z ∷ zs) b = ap Some (sym (eqb-true 1 z (both (1 == z) true b).0))
+answer_size [] (z ∷ zs) b = ap Some (sym (eqb-true 1 z (and_parts (1 == z) true b).0))
 answer_size (g ∷ fs) [] b = absurd (cc b)
 answer_size (g ∷ fs) (z ∷ zs) b = answer_size fs zs
-    (both (Rattle.sp_rules.specs.Named.formal_cells g == z) (begins_with (formals_cells fs
+    (and_parts (Rattle.sp_rules.specs.Named.formal_cells g == z) (begins_with (formals_cells fs
     ++ answer_cells true) zs) b).1
 
 none_behind : {X : Type 0} (fs : List X) → slice_get fs (length fs) ≡ None
@@ -88,7 +88,7 @@ module _ (g : Setting) (k : Keeps g.code) (e : KeepsEffects g.code (Does g.code)
     pub input_of : May g.code a 0 → IsSome ((memory plain g).left n)
     input_of m =
         let w = mine.1.held 0 m in
-        let is : w.0 ≡ input_spot = sym (some_is w.1) in
+        let is : w.0 ≡ input_spot = sym (same_Some _ _ w.1) in
         let at : position_in (piece_of (map.get n.store.map input_spot)) ≡ Some w.3.0 = ap
         (λ q. position_in (piece_of (map.get n.store.map q))) (sym is) ∙ w.3.1 in
         subst (λ o. IsSome (left_after g.input o)) (sym at) refl
@@ -96,7 +96,7 @@ module _ (g : Setting) (k : Keeps g.code) (e : KeepsEffects g.code (Does g.code)
     pub output_of_it : May g.code a 1 → (memory plain g).has_output n ≡ true
     output_of_it m =
         let w = mine.1.held 1 m in
-        held (map.get n.store.map output_spot) (subst (λ q. IsOutput (map.get n.store.map q)) (sym (some_is w.1)) w.3)
+        held (map.get n.store.map output_spot) (subst (λ q. IsOutput (map.get n.store.map q)) (sym (same_Some _ _ w.1)) w.3)
       where
         held : (o : Option Content) → IsOutput o → is_held (output_of o) ≡ true
         held None h = absurd h
@@ -150,24 +150,21 @@ module _ (g : Setting) (k : Keeps g.code) (e : KeepsEffects g.code (Does g.code)
       (answers : l.answer ≡ true) (different : AllDifferent l.variables) (N : ℕ) (K : Type 0) where
     size_there : slice_get l.sizes (length l.formals) ≡ Some 1
     size_there =
-        let w = both (length l.sizes == length l.variables) (begins_with (formals_cells l.formals
+        let w = and_parts (length l.sizes == length l.variables) (begins_with (formals_cells l.formals
         ++ answer_cells l.answer) l.sizes) (k.sizes l (found_layout g.code.layouts f l at).1) in
         answer_size l.formals l.sizes (subst (λ t. begins_with (formals_cells l.formals
         ++ answer_cells t) l.sizes ≡ true) answers w.1)
 
     pub variable : (y : ℕ) × (slice_get l.variables (length l.formals) ≡ Some y)
     variable =
-        let w = both (length l.sizes == length l.variables) (begins_with (formals_cells l.formals
+        let w = and_parts (length l.sizes == length l.variables) (begins_with (formals_cells l.formals
         ++ answer_cells l.answer) l.sizes) (k.sizes l (found_layout g.code.layouts f l at).1) in
-        let s = get_there l.sizes (length l.formals) 1 size_there in
-        get_some l.variables (length l.formals) (omega (arith, s, eqb-true (length l.sizes) (length l.variables) w.0))
+        let s = slice_get_within l.sizes (length l.formals) 1 size_there in
+        item_there l.variables (length l.formals) (omega (arith, s, eqb-true (length l.sizes) (length l.variables) w.0))
 
     mine_there : IsMember variable.0 (variables_of (layout_of g.code.layouts f))
     mine_there = subst (λ o. IsMember variable.0 (variables_of o)) (sym at)
         (listed l.variables (length l.formals) variable.0 variable.1)
-
-    zero_plus : (j : ℕ) → 0 + j ≡ j
-    zero_plus j = omega arith
 
     block : (l.block == 0) ≡ false
     block = ap (λ z. z == 0) (found_layout g.code.layouts f l at).0 ∙ inner
@@ -176,7 +173,7 @@ module _ (g : Setting) (k : Keeps g.code) (e : KeepsEffects g.code (Does g.code)
     place =
         let w = place_some variable.0 0 l.variables (listed l.variables (length l.formals) variable.0 variable.1) in
         ap (λ t. place_of variable.0 (if t then 2 else 0) l.variables) block ∙ w.1
-        ∙ ap Some (zero_plus w.0 ∙ one_place l.variables w.0 (length l.formals) variable.0 different w.2 variable.1)
+        ∙ ap Some (zero-add w.0 ∙ one_place l.variables w.0 (length l.formals) variable.0 different w.2 variable.1)
 
     module _ (fr : Frame) (fs : List Frame) (m : Rattle.sp_cell.specs.Map.Map) (home : fr.home ≡ OfBlock f)
         (al : Allowed g.code.layouts K (May g.code (Body f)) N (fr ∷ fs) m) (real : 2 ≤ variable.0) where
@@ -226,8 +223,8 @@ module _ (g : Setting) (k : Keeps g.code) (e : KeepsEffects g.code (Does g.code)
           go (suc zero) r d w = absurd (omega (arith, r))
           go (suc (suc y)) r d w =
               let v = al.held (suc (suc y)) d in
-              let same : v.0 ≡ (cell_at fr.number (length l.formals)).spot = some_is (sym v.1 ∙ w.0) in
-              let long : length v.3.0 ≡ 1 = some_is (sym v.3.2 ∙ w.1) in
+              let same : v.0 ≡ (cell_at fr.number (length l.formals)).spot = same_Some _ _ (sym v.1 ∙ w.0) in
+              let long : length v.3.0 ≡ 1 = same_Some _ _ (sym v.3.2 ∙ w.1) in
               ap (λ o. has_cells o 0 1) (ap (λ q. piece_of (map.get m q)) (sym same) ∙ v.3.1)
               ∙ le-leb (0 + 1) (length v.3.0) (omega (arith, long))
 

@@ -4,6 +4,7 @@ use Rattle.std.proofs.Common.{length, Option, Some, Bool, true, false, refl, sym
 use Rattle.std.specs.Prelude.{IsSome}
 use Rattle.std.proofs.lemmas.Bool.{eqb-true}
 use Rattle.std.specs.FinMap as map
+use Rattle.std.proofs.lemmas.Option.{same_Some}
 use Rattle.sp_tree.specs.Interference.{IsMember}
 use Rattle.sp_cell.specs.declared.cell.Cell.{Cell}
 use Rattle.sp_cell.specs.declared.spot.Spot.{Spot}
@@ -26,9 +27,6 @@ use Rattle.sp_rules.proofs.Holdings.{head}
 use Rattle.sp_rules.proofs.Keeping.{Keeps, all_keeps}
 use Rattle.sp_rules.proofs.Forking.{has_held}
 use Rattle.sp_code.proofs.Plans.{out_of, in_either}
-
-some_is : {X : Type 0} {y z : X} → Some y ≡ Some z → y ≡ z
-some_is e = cc
 
 once : (q : Spot) (xs ys : List Spot) → IsDistinct (xs ++ ys) → In q xs → In q ys → ⊥
 once q [] ys d i j = i
@@ -177,12 +175,12 @@ module _ (g : Setting) {Area : Type 0} (H : Area → List Home) (E : Area → �
     was : (q : Spot) (h : Heir g H E T Room Cells j.area n.frames (base r) q)
         → Has g.code.layouts n.frames j.whole h.variable q
     was q h = let w = mother.held h.variable h.here in subst
-        (λ (s : Spot). Has g.code.layouts n.frames j.whole h.variable s) (some_is (sym w.1 ∙ h.stands)) w.3
+        (λ (s : Spot). Has g.code.layouts n.frames j.whole h.variable s) (same_Some _ _ (sym w.1 ∙ h.stands)) w.3
 
     is : (q : Spot) (h : Heir g H E T Room Cells j.area n.frames (base r) q)
         → Has g.code.layouts (base r).frames c.store.map h.variable q
     is q h = let w = child.held h.variable h.there in subst
-        (λ (s : Spot). Has g.code.layouts (base r).frames c.store.map h.variable s) (some_is (sym w.1 ∙ h.stood)) w.3
+        (λ (s : Spot). Has g.code.layouts (base r).frames c.store.map h.variable s) (same_Some _ _ (sym w.1 ∙ h.stood)) w.3
 
     known_whole : (q : Spot) → In q c.store.moved → IsSome (map.get j.whole q)
     known_whole q i = let h = heir q i in known_of_held (map.get j.whole q)
@@ -195,7 +193,7 @@ module _ (g : Setting) {Area : Type 0} (H : Area → List Home) (E : Area → �
       where
         go : (x : ℕ) → E j.area x → spot_of g.code.layouts n.frames x ≡ Some input_spot → x ≡ 0
         go zero e at = refl
-        go (suc zero) e at = absurd (let z : 1 ≡ 0 = ap (λ (q : Spot). q.variable) (some_is at) in omega (arith, z))
+        go (suc zero) e at = absurd (let z : 1 ≡ 0 = ap (λ (q : Spot). q.variable) (same_Some _ _ at) in omega (arith, z))
         go (suc (suc x)) e at = absurd ((mother.clear k (suc (suc x)) input_spot (omega arith) e at).0 refl)
 
     output_at : (h : Heir g H E T Room Cells j.area n.frames (base r) output_spot) → HasConsole g H E T b.area
@@ -203,7 +201,7 @@ module _ (g : Setting) {Area : Type 0} (H : Area → List Home) (E : Area → �
     output_at h k = go h.variable h.here h.stands
       where
         go : (x : ℕ) → E j.area x → spot_of g.code.layouts n.frames x ≡ Some output_spot → x ≡ 1
-        go zero e at = absurd (let z : 0 ≡ 1 = ap (λ (q : Spot). q.variable) (some_is at) in omega (arith, z))
+        go zero e at = absurd (let z : 0 ≡ 1 = ap (λ (q : Spot). q.variable) (same_Some _ _ at) in omega (arith, z))
         go (suc zero) e at = refl
         go (suc (suc x)) e at = absurd ((mother.clear k (suc (suc x)) output_spot (omega arith) e at).1 refl)
 
@@ -219,11 +217,11 @@ module _ (g : Setting) {Area : Type 0} (H : Area → List Home) (E : Area → �
             → spot_of g.code.layouts n.frames x ≡ Some q → Has g.code.layouts n.frames j.whole x q
             → Has g.code.layouts (base r).frames c.store.map x q
             → (ds : List Cell) × (piece_of (map.get whole q) ≡ Some ds) × (length ds ≡ length cs)
-        go zero d alike at u v = absurd ((clear (mother.console (inl d))).0 (sym (some_is at)))
-        go (suc zero) d alike at u v = absurd ((clear (mother.console (inr d))).1 (sym (some_is at)))
+        go zero d alike at u v = absurd ((clear (mother.console (inl d))).0 (sym (same_Some _ _ at)))
+        go (suc zero) d alike at u v = absurd ((clear (mother.console (inr d))).1 (sym (same_Some _ _ at)))
         go (suc (suc x)) d alike at u v =
-            let same : u.0 ≡ cs = some_is (sym u.1 ∙ e) in
-            let long : length v.0 ≡ length u.0 = some_is (sym v.2 ∙ alike (omega arith) ∙ u.2) in
+            let same : u.0 ≡ cs = same_Some _ _ (sym u.1 ∙ e) in
+            let long : length v.0 ≡ length u.0 = same_Some _ _ (sym v.2 ∙ alike (omega arith) ∙ u.2) in
             (v.0, ap piece_of (whole_in q i) ∙ v.1, long ∙ ap length same)
 
     keeps : (k : ℕ) → Keeps (HasConsole g H E T b.area) k j.whole whole

@@ -3,6 +3,7 @@
 use Rattle.std.proofs.Common.{◌≡◌, ◌∙◌, inl, inr, ℕ, zero, suc, List, [], ◌∷◌, Option, Some, None, Bool, true, false}
 use Rattle.std.proofs.Common.{◌==◌, if◌then◌else◌, refl, sym, ap, eqb-true, arith}
 use Rattle.std.specs.Prelude.{pos}
+use Rattle.sp_base.proofs.Facts.{not_true_and_false}
 use Rattle.sp_code.specs.declared.instr.Instr.{Instr}
 use Rattle.sp_code.specs.declared.instr.Instr.TheVariants as i
 use Rattle.sp_code.specs.declared.code.Layout.{Layout}
@@ -13,7 +14,6 @@ use Rattle.sp_rules.specs.Reach.{IsArea, Passes, Reaches, Arrives}
 use Rattle.sp_rules.specs.Named.{BreaksV1, OutOfRange}
 use Rattle.sp_rules.specs.Rules.{BreaksV2, Lacks, BreaksV3, PassesLeft, BreaksV5, NoFit, AnswersByReference, BreaksV9}
 use Rattle.sp_rules.specs.Rules.{ComesBack, ComesTo, call_fits}
-use Rattle.sp_rules.proofs.Facts.{no_true}
 use Rattle.sp_rules.proofs.Tabled.{is_closed, never_wrong, reached_passes, one_shape}
 
 -- the program's frame has one variable of one cell
@@ -115,14 +115,14 @@ keeps_v2 p (Rattle.sp_rules.specs.Rules.Differs a n ss ts r s e) = e (only (λ a
 
 pub keeps_v3 : (p : ℕ) → BreaksV3 answer p → ⊥
 unfolding shapes
-keeps_v3 p (PassesLeft a ss r e) = no_true (stays_within (instr_at answer p) ss) (only (λ a. Reaches answer a p ss
+keeps_v3 p (PassesLeft a ss r e) = not_true_and_false (stays_within (instr_at answer p) ss) (only (λ a. Reaches answer a p ss
     → stays_within (instr_at answer p) ss ≡ true)
     (λ r. reached_passes answer (Body 0) shapes closed
     (λ p ss. stays_within (instr_at answer p) ss) refl p ss r) a r.0 r.1) e
 
 pub keeps_v5 : (p : ℕ) → BreaksV5 answer p → ⊥
 unfolding shapes
-keeps_v5 p (NoFit a ss r e) = no_true (call_fits answer (instr_at answer p) ss) (only (λ a. Reaches answer a p ss
+keeps_v5 p (NoFit a ss r e) = not_true_and_false (call_fits answer (instr_at answer p) ss) (only (λ a. Reaches answer a p ss
     → call_fits answer (instr_at answer p) ss ≡ true)
     (λ r. reached_passes answer (Body 0) shapes closed
     (λ p ss. call_fits answer (instr_at answer p) ss) refl p ss r) a r.0 r.1) e

@@ -2,10 +2,12 @@
 -- there, and a called block has the frames around it.
 use Rattle.std.proofs.Common.{◌≡◌, ◌⊎◌, inl, inr, ⊎_elim, ℕ, zero, suc, ◌+◌, ◌-◌, ◌≤◌, ◌==◌, List, [], ◌∷◌, ◌++◌}
 use Rattle.std.proofs.Common.{length, drop, Option, Some, None, Bool, true, false, ◌&&◌, refl, sym, ap, ◌∙◌, subst}
-use Rattle.std.proofs.Common.{eqb-true, arith, if◌then◌else◌}
+use Rattle.std.proofs.Common.{eqb-true, arith, if◌then◌else◌, add-zero}
 use Rattle.std.specs.Prelude.{slice_get, nat_lt, not}
-use Rattle.std.proofs.lemmas.Bool.{eq-eqb}
+use Rattle.std.proofs.lemmas.Bool.{eq-eqb, and_parts}
 use Rattle.std.proofs.lemmas.List.{length-drop}
+use Rattle.std.proofs.lemmas.Option.{none-some, same_Some}
+use Rattle.sp_base.proofs.Facts.{is_none_plus, next_goes_left}
 use Rattle.sp_tree.specs.Interference.{IsMember, AllDifferent}
 use Rattle.sp_cell.specs.declared.spot.Address.{Address}
 use Rattle.sp_cell.specs.FrameLaws.{is_same, is_other}
@@ -32,21 +34,20 @@ use Rattle.sp_rules.specs.Keeps.{Keeps}
 use Rattle.sp_rules.specs.Chains.{Chain, variables_of, variables_in, all_variables, stands, extends}
 use Rattle.sp_rules.proofs.Lists.{member_front, member_either, place_some}
 use Rattle.sp_rules.proofs.Chains.{last_up, up_length, spot_is, size_is, stands_up, extends_up}
-use Rattle.sp_rules.proofs.Facts.{same_some, none_some, both_true}
 use Rattle.sp_rules.proofs.Turns.{Scoped}
 
 -- ---- lists
 
 member_at : (x k : ℕ) (ys : List ℕ) → slice_get ys k ≡ Some x → IsMember x ys
 member_at x k [] e = absurd (cc e)
-member_at x zero (y ∷ ys) e = inl (sym (same_some y x e))
+member_at x zero (y ∷ ys) e = inl (sym (same_Some y x e))
 member_at x (suc k) (y ∷ ys) e = inr (member_at x k ys e)
 
 place_at : (x n k : ℕ) (ys : List ℕ) → AllDifferent ys → slice_get ys k ≡ Some x → place_of x n ys ≡ Some (n + k)
 place_at x n k [] d e = absurd (cc e)
 place_at x n zero (y ∷ ys) d e =
     let s : n ≡ n + zero = omega arith in
-    ap (λ b. if b then Some n else place_of x (suc n) ys) (is_same x y (sym (same_some y x e))) ∙ ap Some s
+    ap (λ b. if b then Some n else place_of x (suc n) ys) (is_same x y (sym (same_Some y x e))) ∙ ap Some s
 place_at x n (suc k) (y ∷ ys) d e =
     let s : suc n + k ≡ n + suc k = omega arith in
     ap (λ b. if b then Some n else place_of x (suc n) ys)
@@ -64,7 +65,7 @@ different_join (y ∷ ys) zs d e h = (
 
 drop_head : {T : Type 0} (hs : List T) (k : ℕ) (h : T) → slice_get hs k ≡ Some h → (t : List T) × (drop k hs ≡ h ∷ t)
 drop_head [] k h e = absurd (cc e)
-drop_head (x ∷ hs) zero h e = (hs, ap (λ z. z ∷ hs) (same_some x h e))
+drop_head (x ∷ hs) zero h e = (hs, ap (λ z. z ∷ hs) (same_Some x h e))
 drop_head (x ∷ hs) (suc k) h e = drop_head hs k h e
 
 -- ---- layouts
@@ -77,7 +78,7 @@ found_layout (m ∷ ls) b l e = go (m.block == b) refl e (found_layout ls b l)
     go : (t : Bool) → (m.block == b) ≡ t → (if t then Some m else layout_of ls b) ≡ Some l
         → (layout_of ls b ≡ Some l → (l.block ≡ b) × ((j : ℕ) × (slice_get ls j ≡ Some l))) → (l.block ≡ b)
         × ((j : ℕ) × (slice_get (m ∷ ls) j ≡ Some l))
-    go true t e on = let s = same_some m l e in (ap (λ z. z.block) (sym s) ∙ eqb-true m.block b t, (0, ap Some s))
+    go true t e on = let s = same_Some m l e in (ap (λ z. z.block) (sym s) ∙ eqb-true m.block b t, (0, ap Some s))
     go false t e on = let r = on e in (r.0, (suc r.1.0, r.1.1))
 
 no_parent : (o : Option ℕ) → is_none o ≡ true → o ≡ None
@@ -99,8 +100,8 @@ module _ (c : Parts) (k : Keeps c) where
   programs b l e z =
       let at0 : layout_of c.layouts 0 ≡ Some l = subst (λ d. layout_of c.layouts d ≡ Some l)
       (sym (found_layout c.layouts b l e).0 ∙ eqb-true l.block 0 z) e in
-      let p = both_true (is_none l.parent && (length l.formals == 0)) (not l.answer) (k.program l at0) in
-      let r = both_true (is_none l.parent) (length l.formals == 0) p.0 in
+      let p = and_parts (is_none l.parent && (length l.formals == 0)) (not l.answer) (k.program l at0) in
+      let r = and_parts (is_none l.parent) (length l.formals == 0) p.0 in
       (no_parent l.parent r.0, no_list l.formals r.1)
 
   -- a layout that a number leads to
@@ -146,7 +147,7 @@ module _ (c : Parts) (k : Keeps c) where
   chain_drop (suc n) None up d f e s = absurd (cc s)
   chain_drop (suc n) (Some l) zero d f e s =
       let w = f l refl in
-      let same : l.block ≡ d = ap (λ h. block_in h) (same_some (OfBlock l.block) (OfBlock d) s) in
+      let same : l.block ≡ d = ap (λ h. block_in h) (same_Some (OfBlock l.block) (OfBlock d) s) in
       let at : layout_of c.layouts d ≡ Some l = subst (λ z. layout_of c.layouts z ≡ Some l)
       (sym (found_layout c.layouts w.0 l w.1).0 ∙ same) w.1 in (
         suc n,
@@ -268,7 +269,7 @@ module _ (c : Parts) (k : Keeps c) where
       go true t =
           let w = is_block_of l.parent h i in
           let z : (l.block == 0) ≡ true = eq-eqb l.block 0 ((found_layout c.layouts b l e).0 ∙ eqb-true b 0 t) in
-          absurd (none_some w.0 (sym (programs b l e z).0 ∙ w.1))
+          absurd (none-some w.0 (sym (programs b l e z).0 ∙ w.1))
 
   -- those around a block: it, and those around the block around it
   pub homes_step : (b d : ℕ) (l : Layout) → layout_of c.layouts b ≡ Some l → (b == 0) ≡ false → l.parent ≡ Some d
@@ -362,17 +363,14 @@ module _ (c : Parts) (k : Keeps c) where
       let v = layout_variable d x n in
       let o = k.once (InLayout u.2.0 u.2.1) (InLayout v.2.0 v.2.1) x u.0.entry v.0.entry
       (declared_here u.2.0 u.2.1 x u.0 u.2.2 u.2.3) (declared_here v.2.0 v.2.1 x v.0 v.2.2 v.2.3) in
-      let s : u.0 ≡ v.0 = same_some u.0 v.0 (sym u.2.2
+      let s : u.0 ≡ v.0 = same_Some u.0 v.0 (sym u.2.2
       ∙ (ap (λ j. slice_get c.layouts j) (ap layout_number o) ∙ v.2.2)) in
       sym (found_layout c.layouts b u.0 u.1).0 ∙ (ap (λ z. z.block) s ∙ (found_layout c.layouts d v.0 v.1).0)
 
   -- the variables of a layout are different
   pub layout_different : (j : ℕ) (l : Layout) → slice_get c.layouts j ≡ Some l → AllDifferent l.variables
-  layout_different j l e = go l.variables 0 (λ t x s. subst (λ i. slice_get l.variables i ≡ Some x) (from_zero t) s)
+  layout_different j l e = go l.variables 0 (λ t x s. subst (λ i. slice_get l.variables i ≡ Some x) (is_none_plus t) s)
     where
-      from_zero : (t : ℕ) → t ≡ 0 + t
-      from_zero t = omega arith
-
       later : (n t : ℕ) → n ≡ n + suc t → ⊥
       later n t e = omega (arith, e)
 
@@ -381,16 +379,10 @@ module _ (c : Parts) (k : Keeps c) where
       go [] n h = tt
       go (x ∷ xs) n h = (
         λ m. let p = place_some x 0 xs m in twice n p.0 x
-            (subst (λ i. slice_get l.variables i ≡ Some x) (zero_after n) (h 0 x refl)) (h (suc p.0) x p.2),
-        go xs (suc n) (λ t y s. subst (λ i. slice_get l.variables i ≡ Some y) (shifted n t) (h (suc t) y s)),
+            (subst (λ i. slice_get l.variables i ≡ Some x) (add-zero n) (h 0 x refl)) (h (suc p.0) x p.2),
+        go xs (suc n) (λ t y s. subst (λ i. slice_get l.variables i ≡ Some y) (next_goes_left n t) (h (suc t) y s)),
       )
         where
-          zero_after : (n : ℕ) → n + 0 ≡ n
-          zero_after n = omega arith
-
-          shifted : (n t : ℕ) → n + suc t ≡ suc n + t
-          shifted n t = omega arith
-
           twice : (n t x : ℕ) → slice_get l.variables n ≡ Some x → slice_get l.variables (n + suc t) ≡ Some x → ⊥
           twice n t x a b = later n t (ap layout_place
               (k.once (InLayout j n) (InLayout j (n + suc t)) x l.entry l.entry (declared_here j n x l e a)
@@ -502,7 +494,7 @@ module _ (c : Parts) (k : Keeps c) where
         j,
         (i.0, i.1),
         e
-            ∙ ap Some (ap index_is (same_some (OfIndex y) (OfIndex x) s)),
+            ∙ ap Some (ap index_is (same_Some (OfIndex y) (OfIndex x) s)),
         here,
       )
       go (Some y) e (suc up) s on = let r = on up s in (r.0, r.1, r.2, r.3, r.4, deeper r.0 r.5)
@@ -577,13 +569,13 @@ module _ (c : Parts) (k : Keeps c) where
           ⊎ ((f.naming ≡ ByReference) × (m ≡ Some (formal.Reference f.cells))))
       go None m z em ez h = absurd (cc h)
       go (Some x) None None em ez h = absurd (cc h)
-      go (Some x) None (Some n) em ez h = let s = same_some (record { number = x; cells = n; naming = Plainly }) f h in
+      go (Some x) None (Some n) em ez h = let s = same_Some (record { number = x; cells = n; naming = Plainly }) f h in
           (ap (λ z. Some z.number) s, inl (ap (λ z. z.naming) (sym s), ap (λ z. Some z.cells) s, inl refl))
       go (Some x) (Some (formal.Value y)) None em ez h = absurd (cc h)
-      go (Some x) (Some (formal.Value y)) (Some n) em ez h = let s = same_some
+      go (Some x) (Some (formal.Value y)) (Some n) em ez h = let s = same_Some
           (record { number = x; cells = n; naming = Plainly }) f h in
           (ap (λ z. Some z.number) s, inl (ap (λ z. z.naming) (sym s), ap (λ z. Some z.cells) s, inr (y, refl)))
-      go (Some x) (Some (formal.Reference n)) z em ez h = let s = same_some
+      go (Some x) (Some (formal.Reference n)) z em ez h = let s = same_Some
           (record { number = x; cells = n; naming = ByReference }) f h in
           (ap (λ z. Some z.number) s, inr (ap (λ z. z.naming) (sym s), ap (λ z. Some (formal.Reference z.cells)) s))
 
@@ -622,7 +614,7 @@ module _ (c : Parts) (k : Keeps c) where
         where
           low : (s : Bool) → nat_lt var 2 ≡ s → (if s then Some (console var) else found_in l (var - 2)) ≡ Some f
               → (f.naming ≡ Never) ⊎ InFrame l var f
-          low true s h = inl (ap (λ z. z.naming) (sym (same_some (console var) f h)))
+          low true s h = inl (ap (λ z. z.naming) (sym (same_Some (console var) f h)))
           low false s h = inr (record {
             place = var - 2;
             at = two var s ∙ ap (λ (b : Bool). (if b then 2 else 0) + (var - 2)) (sym t);
@@ -756,7 +748,7 @@ module _ (c : Parts) (k : Keeps c) where
           → Resolved (OfIndex x) f gs v.number (cell_at f.number var) v.cells
       go false t h = absurd (cc h)
       go true t h =
-          let s = same_some (record { number = x; cells = 1; naming = Plainly }) v h in
+          let s = same_Some (record { number = x; cells = 1; naming = Plainly }) v h in
           let n : v.number ≡ x = ap (λ z. z.number) (sym s) in
           record {
             real = subst (λ z. 2 ≤ z) (sym n) (real x refl);
@@ -785,7 +777,7 @@ module _ (c : Parts) (k : Keeps c) where
           → (q : Address) × (referred var f.references ≡ Some q) × Resolved (OfIndex x) f gs v.number q v.cells
       go false h = absurd (cc h)
       go true h = absurd ((reference_naming v.naming rn).1
-          (ap (λ z. z.naming) (sym (same_some (record { number = x; cells = 1; naming = Plainly }) v h))))
+          (ap (λ z. z.naming) (sym (same_Some (record { number = x; cells = 1; naming = Plainly }) v h))))
 
   module _ (a : Area) (fs : List Frame) (up : ℕ) (i : IsArea c a) (fr : Framed c.layouts (homes c a) fs) (h : Home)
       (at : slice_get (homes c a) up ≡ Some h) where

@@ -3,12 +3,12 @@
 -- small codes go by one.
 use Rattle.std.proofs.Common.{◌≡◌, ◌≢◌, ◌∙◌, inl, inr, ℕ, zero, suc, ◌==◌, List, [], ◌∷◌, Bool, true, false, ◌&&◌, ◌||◌}
 use Rattle.std.proofs.Common.{if◌then◌else◌, refl, sym, ap, ◌∙◌, subst, eqb-true}
-use Rattle.std.proofs.lemmas.Bool.{eq-eqb}
+use Rattle.std.proofs.lemmas.Bool.{eq-eqb, and_parts}
+use Rattle.sp_base.proofs.Facts.{not_true_and_false}
 use Rattle.sp_code.specs.declared.code.Parts.{Parts}
 use Rattle.sp_rules.specs.Areas.{Area, instr_at, entry}
 use Rattle.sp_rules.specs.Shapes.{Shape, O, C, L, A, Shaped, Wrong, To, shaped}
 use Rattle.sp_rules.specs.Reach.{IsBrought, Leads, Brings, Reaches}
-use Rattle.sp_rules.proofs.Facts.{both_true, no_true}
 
 abbrev pub same_shape : Shape → Shape → Bool
 same_shape O O = true
@@ -27,7 +27,7 @@ shape_is : (s t : Shape) → same_shape s t ≡ true → s ≡ t
 shape_is O O e = refl
 shape_is C C e = refl
 shape_is (L n) (L m) e = ap L (eqb-true n m e)
-shape_is (A x n) (A y m) e = let b = both_true (x == y) (n == m) e in let p = eqb-true x y b.0 in
+shape_is (A x n) (A y m) e = let b = and_parts (x == y) (n == m) e in let p = eqb-true x y b.0 in
     let q = eqb-true n m b.1 in λ z. A (p z) (q z)
 shape_is s t e = absurd (cc e)
 
@@ -35,7 +35,7 @@ pub shapes_are : (ss ts : List Shape) → same_shapes ss ts ≡ true → ss ≡ 
 shapes_are [] [] e = refl
 shapes_are [] (t ∷ ts) e = absurd (cc e)
 shapes_are (s ∷ ss) [] e = absurd (cc e)
-shapes_are (s ∷ ss) (t ∷ ts) e = let b = both_true (same_shape s t) (same_shapes ss ts) e in let p = shape_is s t b.0 in
+shapes_are (s ∷ ss) (t ∷ ts) e = let b = and_parts (same_shape s t) (same_shapes ss ts) e in let p = shape_is s t b.0 in
     let q = shapes_are ss ts b.1 in λ z. p z ∷ q z
 
 pub same_itself : (ss : List Shape) → same_shapes ss ss ≡ true
@@ -52,7 +52,7 @@ not_different ss ts h = go (same_shapes ss ts) refl
   where
     go : (b : Bool) → same_shapes ss ts ≡ b → ss ≡ ts
     go true e = shapes_are ss ts e
-    go false e = absurd (h (λ z. no_true (same_shapes ss ts)
+    go false e = absurd (h (λ z. not_true_and_false (same_shapes ss ts)
         (subst (λ w. same_shapes ss w ≡ true) z (same_itself ss)) e))
 
 -- a row is in a table
@@ -66,7 +66,7 @@ row_in p ss (w ∷ ws) e = go ((p == w.0) && same_shapes ss w.1) refl e (λ h. r
   where
     go : (b : Bool) → ((p == w.0) && same_shapes ss w.1) ≡ b → (b || has_row p ss ws) ≡ true
         → (has_row p ss ws ≡ true → IsBrought p ss ws) → IsBrought p ss (w ∷ ws)
-    go true h e on = let b = both_true (p == w.0) (same_shapes ss w.1) h in inl
+    go true h e on = let b = and_parts (p == w.0) (same_shapes ss w.1) h in inl
         (eqb-true p w.0 b.0, shapes_are ss w.1 b.1)
     go false h e on = inr (on e)
 
@@ -88,8 +88,8 @@ pub row_passes : (f : ℕ → List Shape → Bool) (ws : List (ℕ × List Shape
     → each_row f ws ≡ true → IsBrought p ss ws → f p ss ≡ true
 row_passes f [] p ss e i = absurd i
 row_passes f (w ∷ ws) p ss e (inl i) = let x = i.0 in let y = i.1 in subst (λ q. f q ss ≡ true) (sym x)
-    (subst (λ z. f w.0 z ≡ true) (sym y) (both_true (f w.0 w.1) (each_row f ws) e).0)
-row_passes f (w ∷ ws) p ss e (inr i) = row_passes f ws p ss (both_true (f w.0 w.1) (each_row f ws) e).1 i
+    (subst (λ z. f w.0 z ≡ true) (sym y) (and_parts (f w.0 w.1) (each_row f ws) e).0)
+row_passes f (w ∷ ws) p ss e (inr i) = row_passes f ws p ss (and_parts (f w.0 w.1) (each_row f ws) e).1 i
 
 -- one row of an instruction alone
 abbrev pub agrees : ℕ → List Shape → List (ℕ × List Shape) → Bool
@@ -100,11 +100,11 @@ agree_is : (p : ℕ) (ss ts : List Shape) (ws : List (ℕ × List Shape)) → ag
     → ss ≡ ts
 agree_is p ss ts [] e i = absurd i
 agree_is p ss ts (w ∷ ws) e (inl i) =
-    let b = both_true (if p == w.0 then same_shapes ss w.1 else true) (agrees p ss ws) e in
+    let b = and_parts (if p == w.0 then same_shapes ss w.1 else true) (agrees p ss ws) e in
     shapes_are ss w.1 (subst (λ (t : Bool). (if t then same_shapes ss w.1 else true) ≡ true)
     (Rattle.std.proofs.lemmas.Bool.eq-eqb p w.0 i.0) b.0) ∙ sym i.1
 agree_is p ss ts (w ∷ ws) e (inr i) = agree_is p ss ts ws
-    (both_true (if p == w.0 then same_shapes ss w.1 else true) (agrees p ss ws) e).1 i
+    (and_parts (if p == w.0 then same_shapes ss w.1 else true) (agrees p ss ws) e).1 i
 
 module _ (c : Parts) (a : Area) (t : List (ℕ × List Shape)) where
   -- the table has the entry, and is closed: so no instruction of it is wrong
@@ -118,20 +118,20 @@ module _ (c : Parts) (a : Area) (t : List (ℕ × List Shape)) where
       go : (ws : List (ℕ × List Shape)) → all_rows ws t ≡ true → IsBrought q ts ws → IsBrought q ts t
       go [] e h = absurd h
       go (w ∷ ws) e (inl i) =
-          let r = row_in w.0 w.1 t (both_true (has_row w.0 w.1 t) (all_rows ws t) e).0 in
+          let r = row_in w.0 w.1 t (and_parts (has_row w.0 w.1 t) (all_rows ws t) e).0 in
           subst (λ z. IsBrought z ts t) (sym i.0) (subst (λ z. IsBrought w.0 z t) (sym i.1) r)
-      go (w ∷ ws) e (inr i) = go ws (both_true (has_row w.0 w.1 t) (all_rows ws t) e).1 i
+      go (w ∷ ws) e (inr i) = go ws (and_parts (has_row w.0 w.1 t) (all_rows ws t) e).1 i
 
   module _ (closed : is_closed ≡ true) where
     brought : (n p : ℕ) (ss : List Shape) → Brings c a n p ss → IsBrought p ss t
     brought zero p ss b = subst (λ z. IsBrought z ss t) (sym b.0)
         (subst (λ z. IsBrought (entry c a) z t) (sym b.1)
-        (row_in (entry c a) [] t (both_true (has_row (entry c a) [] t)
+        (row_in (entry c a) [] t (and_parts (has_row (entry c a) [] t)
         (each_row (λ p ss. leads_into (shaped c a (instr_at c p) p ss) t) t) closed).0))
     brought (suc n) p ss b =
         into (shaped c a (instr_at c b.0) b.0 b.1) p ss
         (row_passes (λ p ss. leads_into (shaped c a (instr_at c p) p ss) t) t b.0 b.1
-        (both_true (has_row (entry c a) [] t)
+        (and_parts (has_row (entry c a) [] t)
         (each_row (λ p ss. leads_into (shaped c a (instr_at c p) p ss) t) t) closed).1 (brought n b.0 b.1 b.2)) b.3
 
     -- the table has all that is reached
@@ -142,7 +142,7 @@ module _ (c : Parts) (a : Area) (t : List (ℕ × List Shape)) where
     pub never_wrong : (p : ℕ) (ss : List Shape) → Reaches c a p ss → shaped c a (instr_at c p) p ss ≡ Wrong → ⊥
     never_wrong p ss r e =
         let w = row_passes (λ p ss. leads_into (shaped c a (instr_at c p) p ss) t) t p ss
-        (both_true (has_row (entry c a) [] t)
+        (and_parts (has_row (entry c a) [] t)
         (each_row (λ p ss. leads_into (shaped c a (instr_at c p) p ss) t) t) closed).1 (reached_in p ss r) in
         cc (subst (λ o. leads_into o t ≡ true) e w)
 

@@ -5,9 +5,11 @@ use Rattle.std.proofs.Common.{length, Option, Some, None, Bool, true, false, if�
 use Rattle.std.proofs.Common.{subst, eqb-true, ⊎_elim, arith}
 use Rattle.std.specs.Prelude.{slice_get, nat_le, nat_lt, nat_abs, int_le, int_lt, pos, ◌-ℤ◌, take, not, IsSome}
 use Rattle.std.proofs.Math.Nat.{mul-le-mul_right}
-use Rattle.std.proofs.lemmas.Bool.{le-leb, leb-true, eq-eqb, ne_eqb}
+use Rattle.std.proofs.lemmas.Bool.{le-leb, leb-true, eq-eqb, ne_eqb, and_from, and_parts, not-true}
 use Rattle.std.specs.Fmt.{signed_decimal}
+use Rattle.std.proofs.lemmas.Option.{same_Some}
 use Rattle.sp_base.specs.declared.fault.Fault.{Fault}
+use Rattle.sp_base.proofs.Facts.{not_true_and_false}
 use Rattle.sp_tree.specs.declared.operators.BinaryOp.{BinaryOp}
 use Rattle.sp_tree.specs.declared.operators.BinaryOp.TheVariants as op
 use Rattle.sp_tree.specs.declared.operators.UnaryOp.TheVariants as sign
@@ -48,7 +50,7 @@ use Rattle.sp_rules.specs.Changes.{Pairs, areas, areas_of, Target, Changes, Same
 use Rattle.sp_rules.specs.Changes.{Prints, Owns, Calls, Returns, Well}
 use Rattle.sp_rules.proofs.Taking.{Good, number, channel, address, value, cells, equals, popped, is_there as is_found}
 use Rattle.sp_rules.proofs.Taking.{holds, done, yields, ordinal, channel_of, both}
-use Rattle.sp_rules.proofs.Facts.{same_some, both_true, and_true, no_true, found, found_some, in_span, part_length}
+use Rattle.sp_rules.proofs.Facts.{found, found_some, in_span, part_length}
 use Rattle.sp_rules.proofs.Facts.{has_left as has_cells_left, reaches, here, size_here, beat_frames, print_frames}
 use Rattle.sp_rules.proofs.Facts.{opened_is, beat_is, print_is, opened_deep}
 
@@ -147,8 +149,8 @@ all_fit ls fs [] [] (e ∷ es) h r = absurd h
 all_fit ls fs [] (s ∷ bs) es h r = absurd (cc r)
 all_fit ls fs (m ∷ ms) [] es h r = absurd (cc r)
 all_fit ls fs (m ∷ ms) (s ∷ bs) [] h r = absurd h
-all_fit ls fs (m ∷ ms) (s ∷ bs) (e ∷ es) h r = let b = both_true (rule.fits_formal m s) (rule.fit_formals ms bs) r in
-    and_true (fits_formal m e) (fit_formals ms es) (one_fits ls fs m s e h.0 b.0) (all_fit ls fs ms bs es h.1 b.1)
+all_fit ls fs (m ∷ ms) (s ∷ bs) (e ∷ es) h r = let b = and_parts (rule.fits_formal m s) (rule.fit_formals ms bs) r in
+    and_from (fits_formal m e) (fit_formals ms es) (one_fits ls fs m s e h.0 b.0) (all_fit ls fs ms bs es h.1 b.1)
 
 -- x is the variable of an address among these
 abbrev AddressIn : ℕ → List Shape → Type 0
@@ -224,11 +226,11 @@ passes_on ls fs whole one (f ∷ ms) [] es j pr r wh t k m e s = absurd (cc r)
 passes_on ls fs whole one (f ∷ ms) (b ∷ bs) [] j pr r wh t k m e s = absurd pr
 passes_on ls fs whole one (f ∷ ms) (b ∷ bs) (e1 ∷ es) j pr r wh t zero m e s =
     first_passes ls fs whole one b e1 es j t m (eq-eqb t j (omega (arith, e))) pr.0 (λ x h. wh x (only_first x b bs h))
-    (subst (λ z. rule.fits_formal z b ≡ true) (same_some f (formal.Reference m) s)
-    (both_true (rule.fits_formal f b) (rule.fit_formals ms bs) r).0)
+    (subst (λ z. rule.fits_formal z b ≡ true) (same_Some f (formal.Reference m) s)
+    (and_parts (rule.fits_formal f b) (rule.fit_formals ms bs) r).0)
 passes_on ls fs whole one (f ∷ ms) (b ∷ bs) (e1 ∷ es) j pr r wh t (suc k) m e s =
     skips ls fs e1 es j t m (ne_eqb t j (λ h. omega (arith, e, h)))
-    (passes_on ls fs whole one ms bs es (suc j) pr.1 (both_true (rule.fits_formal f b) (rule.fit_formals ms bs) r).1
+    (passes_on ls fs whole one ms bs es (suc j) pr.1 (and_parts (rule.fits_formal f b) (rule.fit_formals ms bs) r).1
     (λ x h. wh x (more_in x b bs h)) t k m (omega (arith, e)) s)
 
 module _ {S : Type 0} (stores : Stores S) (g : Setting) (sc : Scoped g.code) (a : Area) (p : ℕ) (ss : List Shape)
@@ -413,7 +415,7 @@ module _ {S : Type 0} (stores : Stores S) (g : Setting) (sc : Scoped g.code) (a 
           × ((memory stores g).has q 1 n ≡ true) × Tg q 1
       go None e l wh sb = absurd (cc l)
       go (Some f) e l wh sb =
-          let b = both_true (is_plain f.naming) (f.cells == 1) l in
+          let b = and_parts (is_plain f.naming) (f.cells == 1) l in
           let one = eqb-true f.cells 1 b.1 in
           let q = sc.plain a n.frames 0 var f w.there w.framed e b.0 in (
             q.0,
@@ -563,7 +565,7 @@ module _ {S : Type 0} (stores : Stores S) (g : Setting) (sc : Scoped g.code) (a 
   -- what is held whole may be passed by reference
   may_pass : Leads g.code.layouts n.frames (λ x. HasWhole stores g.code.layouts n x)
   may_pass x left q pt wh k l =
-      let s : q.spot ≡ wh.spot = same_some q.spot wh.spot (sym pt.stands ∙ wh.stands) in
+      let s : q.spot ≡ wh.spot = same_Some q.spot wh.spot (sym pt.stands ∙ wh.stands) in
       record {
         address = q;
         is = refl;
@@ -611,7 +613,7 @@ module _ {S : Type 0} (stores : Stores S) (g : Setting) (sc : Scoped g.code) (a 
                 (λ l1 e1 k m s. passes_on g.code.layouts n.frames
                 (λ x. HasWhole stores g.code.layouts n x) may_pass l.formals
                 (rule.lowest_first (length l.formals) ss []) es 0 pr ft held k k m (omega arith)
-                (subst (λ z. slice_get z.formals k ≡ Some (formal.Reference m)) (same_some l1 l (sym e1 ∙ e)) s));
+                (subst (λ z. slice_get z.formals k ≡ Some (formal.Reference m)) (same_Some l1 l (sym e1 ∙ e)) s));
             operands = refl;
             under = (
               b,
@@ -662,18 +664,14 @@ module _ {S : Type 0} (stores : Stores S) (g : Setting) (sc : Scoped g.code) (a 
         (λ s1. on (p + 1) (answered l.answer s1)) _ w.operands gd tt (λ es ts s1 pr o1 g1.
         holds g.code a n.frames rest Fn fails (fit_formals l.formals es) _
         (all_fit g.code.layouts n.frames l.formals (rule.lowest_first (length l.formals) ss []) es pr ft)
-        (holds g.code a n.frames rest Fn fails ((memory stores g).may_open up n) _ (and_true _ _ out.0 numbered)
+        (holds g.code a n.frames rest Fn fails ((memory stores g).may_open up n) _ (and_from _ _ out.0 numbered)
         (done g.code a n.frames rest Fn fails ((memory stores g).open_frame l up es n) _ (λ m k.
         enter l s1 m (subst (λ z. Entered l s1 z l.answer) (sym (opened_is stores g l up es n m k))
         (enters l e lev ft wh es ts s1 pr o1 g1.0 (opened_deep stores g l up es n m k)))))))
 
   -- a return
   bottom_stays : (a1 : Area) → IsBottom a1 → ends_well g.code a1 (Some i.Return) ≡ true → ⊥
-  bottom_stays (Body b) e h = absurd (no_true (b == 0) (eq-eqb b 0 e) (not_true (b == 0) h))
-    where
-      not_true : (b : Bool) → not b ≡ true → b ≡ false
-      not_true true h = absurd (cc h)
-      not_true false h = refl
+  bottom_stays (Body b) e h = absurd (not_true_and_false (b == 0) (eq-eqb b 0 e) (not-true (b == 0) h))
   bottom_stays (Child a1 q k) e h = cc h
 
   closed : (f : Frame) (fs : List Frame) → n.frames ≡ f ∷ fs → ((memory stores g).close_frame n).frames ≡ fs
@@ -743,7 +741,7 @@ module _ {S : Type 0} (stores : Stores S) (g : Setting) (sc : Scoped g.code) (a 
   at_bottom [] fs u ew = (refl, u.1)
   at_bottom (k ∷ ks1) [] u ew = absurd u
   at_bottom (k ∷ ks1) (f ∷ fs) (b, l, s1, rest1, ae, nz, le, re, th, rc, fr, os, un) ew = absurd
-      (no_true (b == 0) (subst (λ z. ends_well g.code z (Some i.End) ≡ true) ae ew) nz)
+      (not_true_and_false (b == 0) (subst (λ z. ends_well g.code z (Some i.End) ≡ true) ae ew) nz)
 
   ends : ends_well g.code a (Some i.End) ≡ true → Fn (Stops Ends (At p st n))
   ends ew = (stopped Ends p st (at_bottom ks n.frames w.under ew), refl, refl)
@@ -827,9 +825,9 @@ module _ {S : Type 0} (stores : Stores S) (g : Setting) (sc : Scoped g.code) (a 
       × Sub (topmost (below zs))) ss st _ _ (h.within, r.whole, sub h) w.operands h.good (λ q x m ts s1 z pt o1 g1.
       address g.code a n.frames rest Fn fails (λ zs. ((nat_le k m && has_left k zs) ≡ true)
       × Whole (topmost zs ++ (x ∷ [])) × Sub (topmost zs)) ts s1 _ _ z o1 g1 (λ q2 y l us s2 z2 pt2 o2 g2.
-      let b = both_true (nat_le k m) (nat_le k l) z2.0 in
+      let b = and_parts (nat_le k m) (nat_le k l) z2.0 in
       holds g.code a n.frames rest Fn fails ((memory stores g).has q k n && (memory stores g).has q2 k n) _
-      (and_true _ _ (has_cells_left stores g.code.layouts n x m q pt (z2.1 x (inr (inl refl)) pt.real) k
+      (and_from _ _ (has_cells_left stores g.code.layouts n x m q pt (z2.1 x (inr (inl refl)) pt.real) k
       (leb-true k m b.0)) (has_cells_left stores g.code.layouts n y l q2 pt2 (z2.1 y (inl refl) pt2.real) k
       (leb-true k l b.1)))
       (lands (p + 1) us s2 ((memory stores g).copy q2 q k n) refl g2.0 o2

@@ -1,5 +1,6 @@
 -- Where V6 and V7 are broken nowhere, what they ask holds.
 use Rattle.std.proofs.Common.{◌≡◌, ◌≢◌, ◌⊎◌, inl, inr, ⊎_elim, ℕ, zero, suc, ◌<◌, List, [], ◌∷◌, Some, refl, ap, arith}
+use Rattle.sp_base.proofs.Facts.{less_more_or_same}
 use Rattle.sp_tree.specs.Interference.{IsMember, AllDifferent}
 use Rattle.sp_code.specs.declared.code.Layout.{Layout}
 use Rattle.sp_code.specs.declared.code.ChildTable.{ChildTable}
@@ -15,13 +16,6 @@ different_or : (xs : List ℕ) → AllDifferent xs ⊎ (AllDifferent xs → ⊥)
 different_or [] = inl tt
 different_or (x ∷ xs) = ⊎_elim (λ m. inr (λ d. d.0 m))
     (λ n. ⊎_elim (λ d. inl (n, d)) (λ e. inr (λ d. e d.1)) (different_or xs)) (member_or x xs)
-
-order : (j k : ℕ) → (j < k) ⊎ ((k < j) ⊎ (j ≡ k))
-order zero zero = inr (inr refl)
-order zero (suc k) = inl (omega arith)
-order (suc j) zero = inr (inl (omega arith))
-order (suc j) (suc k) = ⊎_elim (λ (h : j < k). inl (omega (arith, h)))
-    (λ h. ⊎_elim (λ (g : k < j). inr (inl (omega (arith, g)))) (λ (g : j ≡ k). inr (inr (ap suc g))) h) (order j k)
 
 module _ (c : Parts) (Does : Kind → Area → ℕ → Type 0) (Stops : Area → Type 0)
     (six : (a : Area) (p k : ℕ) (t : ChildTable) → IsArea c (Child a p k) → child_at c p k ≡ Some t
@@ -46,12 +40,12 @@ module _ (c : Parts) (Does : Kind → Area → ℕ → Type 0) (Stops : Area →
     clear = λ a p j k x s t i o e f d m n. ⊎_elim
         (λ l. six a p k t o f (inr (inr (inr (j, s, l, e, (x, inl (m, n)))))))
         (λ h. ⊎_elim (λ l. six a p j s i e (inr (inr (inr (k, t, l, f, (x, inr (m, n))))))) (λ q. d q) h)
-        (order j k);
+        (less_more_or_same j k);
     actual_once = λ a p b up ss l i k u v x m n. ⊎_elim
         (λ h. absurd (seven a p b up ss l i k (inl (u, v, x, (λ e. (let o : u < v = h in omega (arith, o, e))), m, n))))
         (λ h. ⊎_elim (λ g. absurd (seven a p b up ss l i k
         (inl (u, v, x, (λ e. (let o : v < u = g in omega (arith, o, e))), m, n)))) (λ e. e) h)
-        (order u v);
+        (less_more_or_same u v);
     actual_none = λ a p b up ss l i k u x m f. member x l.variables
         (λ n. seven a p b up ss l i k (inr (u, x, m, (f, n))));
   }

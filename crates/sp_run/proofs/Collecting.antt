@@ -1,6 +1,7 @@
 -- All processes of a state, gone through one after another: none is running, and those that wait.
 use Rattle.std.proofs.Common.{◌≡◌, ◌⊎◌, ⊎_elim, inl, inr, ℕ, zero, suc, ◌+◌, ◌<◌, ◌≤◌, Bool, true, false, List, [], ◌∷◌, Option, Some, None, map, length, get_or, refl, ap, ◌∙◌, sym, subst, arith, add-one}
 use Rattle.std.specs.Prelude.{◌≢◌}
+use Rattle.sp_base.proofs.Facts.{below_or_at}
 use Rattle.sp_run.specs.declared.machine.Setting as set
 use Rattle.sp_run.specs.declared.state.Became.{Became}
 use Rattle.sp_run.specs.declared.state.State.{State}
@@ -49,9 +50,6 @@ pub record AreBelow (run : set.Setting) (s : State) (i : ℕ) (vs : List Waiting
   pub only : (w : Waiting) → IsIn w vs → WaitsSo (setting_of run) (state_of run s) w
   pub whole : (k : ℕ) → k < i → (w : Waiting) → WaitsSo (setting_of run) (state_of run s) w → name_at s.conditions k ≡ w.who → IsIn w vs
 
-at_or_below : (k i : ℕ) → k < suc i → (k < i) ⊎ (k ≡ i)
-at_or_below k i h = grind arith
-
 below_waits : (run : set.Setting) (s : State) (i : ℕ) (vs : List Waiting) (f : m.Offer o.Process o.Held o.Address) → AreBelow run s i vs
     → offer_in (conditions_of s.conditions (name_at s.conditions i)) ≡ Some f
     → AreBelow run s (suc i) (inserted (record { who = name_at s.conditions i; way = way_of f.cargo; channel = f.channel }) vs)
@@ -68,7 +66,7 @@ below_waits run s i vs f h e =
           (λ (z : k ≡ i). let q : w.who ≡ v.who = ap (name_at s.conditions) (sym z) ∙ n in
           let is : w ≡ v = waits_once (setting_of run) (state_of run s) w v so t q in
           subst (λ u. IsIn u (inserted w vs)) is has)
-          (at_or_below k i l);
+          (below_or_at k i l);
     }
 
 below_past : (run : set.Setting) (s : State) (i : ℕ) (vs : List Waiting) → AreBelow run s i vs → offer_in (conditions_of s.conditions (name_at s.conditions i)) ≡ None → AreBelow run s (suc i) vs
@@ -80,7 +78,7 @@ below_past run s i vs h e = record {
       (λ (z : k < i). h.whole k z v t n)
       (λ (z : k ≡ i). let c : conditions_of s.conditions (name_at s.conditions i) ≡ m.Waits t.0 = ap (conditions_of s.conditions) (ap (name_at s.conditions) (sym z) ∙ n) ∙ t.1 in
       let x : Some t.0 ≡ None = sym (ap offer_in c) ∙ e in absurd (cc x))
-      (at_or_below k i l);
+      (below_or_at k i l);
 }
 
 below_one : (run : set.Setting) (s : State) (i : ℕ) (vs : List Waiting) (x : Option (m.Offer o.Process o.Held o.Address)) → AreBelow run s i vs

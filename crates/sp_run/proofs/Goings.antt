@@ -42,8 +42,3 @@ none_left g k todo w o o1 s s1 h e = all_back g k todo w o s (Got None o1 s1) h 
 
 pub not_left : (g : Setting) (k : ℕ) (todo : List Item) (w : Who) (o : Own) (s : Store) (x : Halted) → 0 < k → one g (k - 1) todo w o s ≡ Not x → all g k todo w o s ≡ Not x
 not_left g k todo w o s x h e = all_back g k todo w o s (Not x) h e
-
--- a list without an element
-pub none_in : {A : Type 0} (xs : List A) → length xs ≡ 0 → xs ≡ []
-none_in [] h = refl
-none_in (x ∷ xs) h = absurd (omega arith)

@@ -4,6 +4,7 @@ use Rattle.std.proofs.Common.{if◌then◌else◌, List, [], ◌∷◌, None, re
 use Rattle.std.specs.List.Sorted.{IsPermutation}
 use Rattle.std.specs.Result.{IfOk}
 use Rattle.sp_base.specs.declared.halt.Memory.{Memory as Error}
+use Rattle.sp_base.proofs.Facts.{equals_itself}
 use Rattle.sp_journal.specs.declared.entry.Entry.{Entry}
 use Rattle.sp_journal.specs.declared.entry.Note.{Note}
 use Rattle.sp_journal.specs.declared.outcome.End.{End}
@@ -128,9 +129,6 @@ all_first (n ∷ ns) none = go (λ rest. all_first ns rest) n.worker refl
         → either_list (n.worker == w) (n ∷ notes_of_worker w ns) (notes_of_worker w ns) ≡ [] → w == w ≡ true → ⊥
     head w e b f i t = let g : n.worker == w ≡ true = ap (λ v. v == w) e ∙ t in absurd (cc (g, i))
 
-    same : (w : ℕ) → w == w ≡ true
-    same w = grind (arith)
-
     others : (v : ℕ) → n.worker ≡ 0 → 1 ≤ v → notes_of_worker v ns ≡ []
     others v e l =
         let apart : n.worker == v ≡ false = grind (arith, e, l) in
@@ -142,7 +140,7 @@ all_first (n ∷ ns) none = go (λ rest. all_first ns rest) n.worker refl
         let here : n.worker == 0 ≡ true = grind (arith, e) in
         ap (λ b. either_list b (n ∷ notes_of_worker 0 ns) (notes_of_worker 0 ns)) here
         ∙ ap (λ l. n ∷ l) (on (λ v l. others v e l))
-    go on (suc w) e = absurd (head (suc w) e (suc w == suc w) refl (none (suc w) (omega arith)) (same (suc w)))
+    go on (suc w) e = absurd (head (suc w) e (suc w == suc w) refl (none (suc w) (omega arith)) (equals_itself (suc w)))
 
 -- ---- the run
 

@@ -126,14 +126,6 @@ ran_to x fine log y told seen starts left kept = record {
         (λ (k : Control). k.abandons) same in let m = abandons_all starts.0 (control seen) in omega
         (arith, e, m, some, kept))
 
-pub none_up : (n : ℕ) → nat_lt 0 n ≡ false → n ≡ 0
-none_up n e = omega (arith, ltb-false 0 n e)
-
 pub first_of : {X : Type 0} (l : List X) → 0 < length l → (t : X) × (slice_get l 0 ≡ Some t)
 first_of [] h = absurd (omega (arith, h))
 first_of (x ∷ xs) h = (x, refl)
-
-pub at_of : {X : Type 0} (l : List X) (k : ℕ) → k < length l → (t : X) × (slice_get l k ≡ Some t)
-at_of [] k h = absurd (omega (arith, h))
-at_of (x ∷ xs) zero h = (x, refl)
-at_of (x ∷ xs) (suc k) h = at_of xs k (omega (arith, h))

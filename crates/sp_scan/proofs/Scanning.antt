@@ -1,6 +1,7 @@
 -- The tokens so far, and that no rule is broken before them.
 use Rattle.std.proofs.Common.{◌≡◌, ℕ, ◌+◌, ◌-◌, ◌<◌, ◌≤◌, false, ◌==◌, List, [], ◌∷◌, ◌++◌, length, length-take, take, Option, Some, None, ◌⊎◌, inl, inr, refl, sym, ap, ◌∙◌, subst, arith}
 use Rattle.std.proofs.lemmas.Bool.{cases_lt}
+use Rattle.std.proofs.lemmas.List.{append-nil}
 use Rattle.sp_base.specs.declared.place.Place.{Place}
 use Rattle.sp_base.specs.declared.halt.Refusal.{Refusal}
 use Rattle.sp_base.specs.declared.rule.Rule.{Rule}
@@ -54,10 +55,6 @@ scans_chain nothing y = y
 scans_chain (blank b h x) y = blank b h (scans_chain x y)
 scans_chain (comment c x) y = comment c (scans_chain x y)
 scans_chain (token k o l x) y = token k o l (scans_chain x y)
-
-append_nil : (l : List Token) → l ++ [] ≡ l
-append_nil [] = refl
-append_nil (t ∷ l) = ap (λ k. t ∷ k) (append_nil l)
 
 -- from the longer of two rests to the shorter one
 goes_on : {text bs r q : List ℕ} {ts us : List Token} → Scans text bs r ts → Scans text bs q us → length q ≤ length r → (vs : List Token) × Scans text r q vs
@@ -158,7 +155,7 @@ module _ {text rest : List ℕ} {tokens : List Token} {at : Place} (s : ScannedS
 
   pub scan_gap : (after : List ℕ) (next : Place) → IsGap rest after → ((r : Rule) → BreaksHere r rest → ⊥) → next ≡ place_behind at (take (length rest - length after) rest) → ScannedSoFar text after tokens next
   scan_gap after next g n e = record {
-    along = subst (Scans text text after) (append_nil tokens) (scans_chain s.along (one g));
+    along = subst (Scans text text after) (append-nil tokens) (scans_chain s.along (one g));
     kept = kept_by after (λ other vs x. after_gap g x) n;
     place = place_by after next (gap_tail g) e;
     short = s.short;

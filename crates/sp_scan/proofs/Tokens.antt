@@ -15,6 +15,7 @@ use Rattle.sp_grammar.proofs.OneList.{sign_plain, no_letter, no_digit, no_quote,
 use Rattle.sp_grammar.proofs.Rising.{lexeme_length}
 use Rattle.sp_scan.specs.Finds.{EndsRun, IsWordOf, HasSign, FindsSign, Closes}
 use Rattle.std.specs.Borrow.{Bor}
+use Rattle.sp_base.proofs.Facts.{below_or_last}
 
 -- words
 pub word_more : (ws : List (List ℕ)) (k : ℕ) (w found : List ℕ) → ((m : ℕ) → m < k → slice_get ws m ≢ Some w) → slice_get ws k ≡ Some found → (w ≡ found → ⊥) → (m : ℕ) → m < k + 1 → slice_get ws m ≢ Some w
@@ -137,38 +138,31 @@ sign_text bytes n s r r' h e g =
 no_such : (bytes : List ℕ) (n : ℕ) (s r : List ℕ) → slice_get signs n ≡ Some s → ((r : List ℕ) → bytes ≢ s ++ r) → HasSign bytes n r → ⊥
 no_such bytes n s r h f g = let same : s ≡ g.text = (let x : Some s ≡ Some g.text = sym h ∙ g.is in cc) in f r (g.all ∙ ap (λ t. t ++ r) (sym same))
 
-before : (m n : ℕ) → m < n + 1 → (m < n) ⊎ (m ≡ n)
-before m n h = split (cases_lt m n)
-  where
-    split : (m < n) ⊎ (n ≤ m) → (m < n) ⊎ (m ≡ n)
-    split (inl l) = inl l
-    split (inr l) = inr (omega arith)
-
 module _ (bytes : List ℕ) (n : ℕ) (s : List ℕ) (h : slice_get signs n ≡ Some s) where
   old : (f : (r : List ℕ) → bytes ≢ s ++ r) (m : ℕ) (r : List ℕ) → (m < n) ⊎ (m ≡ n) → HasSign bytes m r → HasSign bytes m r × (m < n)
   old f m r (inl l) g = (g, l)
   old f m r (inr e) g = absurd (no_such bytes n s r h f (subst (λ m. HasSign bytes m r) e g))
 
   pub better_none : (o : Option (ℕ × Bor (List ℕ))) → FindsSign n bytes o → ((r : List ℕ) → bytes ≢ s ++ r) → FindsSign (n + 1) bytes o
-  better_none None x f = λ m r l g. let i = old f m r (before m n l) g in x m r i.1 g
-  better_none (Some y) x f = (x.0, λ m r l g. let i = old f m r (before m n l) g in x.1 m r i.1 g)
+  better_none None x f = λ m r l g. let i = old f m r (below_or_last m n l) g in x m r i.1 g
+  better_none (Some y) x f = (x.0, λ m r l g. let i = old f m r (below_or_last m n l) g in x.1 m r i.1 g)
 
   new : (rest : List ℕ) (m : ℕ) (r : List ℕ) → bytes ≡ s ++ rest → ((m : ℕ) (r : List ℕ) → m < n → HasSign bytes m r → length rest ≤ length r) → (m < n) ⊎ (m ≡ n) → HasSign bytes m r → length rest ≤ length r
   new rest m r e f (inl l) g = f m r l g
   new rest m r e f (inr q) g = let i = sign_text bytes n s rest r h e (subst (λ m. HasSign bytes m r) q g) in omega arith
 
   pub better_new : (rest : Bor (List ℕ)) → bytes ≡ s ++ rest.now → ((m : ℕ) (r : List ℕ) → m < n → HasSign bytes m r → ⊥) → FindsSign (n + 1) bytes (Some (n, rest))
-  better_new rest e f = (record { text = s; is = h; all = e }, λ m r l g. new rest.now m r e (λ m r l g. absurd (f m r l g)) (before m n l) g)
+  better_new rest e f = (record { text = s; is = h; all = e }, λ m r l g. new rest.now m r e (λ m r l g. absurd (f m r l g)) (below_or_last m n l) g)
 
   pub better_more : (rest : Bor (List ℕ)) (other : Bor (List ℕ)) → bytes ≡ s ++ rest.now → length rest.now < length other.now → ((m : ℕ) (r : List ℕ) → m < n → HasSign bytes m r → length other.now ≤ length r) → FindsSign (n + 1) bytes (Some (n, rest))
-  better_more rest other e l f = (record { text = s; is = h; all = e }, λ m r k g. new rest.now m r e (λ m r k g. let i = f m r k g in omega arith) (before m n k) g)
+  better_more rest other e l f = (record { text = s; is = h; all = e }, λ m r k g. new rest.now m r e (λ m r k g. let i = f m r k g in omega arith) (below_or_last m n k) g)
 
   keep : (rest other : List ℕ) (m : ℕ) (r : List ℕ) → bytes ≡ s ++ rest → length other ≤ length rest → ((m : ℕ) (r : List ℕ) → m < n → HasSign bytes m r → length other ≤ length r) → (m < n) ⊎ (m ≡ n) → HasSign bytes m r → length other ≤ length r
   keep rest other m r e l f (inl k) g = f m r k g
   keep rest other m r e l f (inr q) g = let i = sign_text bytes n s rest r h e (subst (λ m. HasSign bytes m r) q g) in omega arith
 
   pub better_keep : (rest : Bor (List ℕ)) (best : ℕ × Bor (List ℕ)) → bytes ≡ s ++ rest.now → length best.1.now ≤ length rest.now → FindsSign n bytes (Some best) → FindsSign (n + 1) bytes (Some best)
-  better_keep rest best e l x = (x.0, λ m r k g. keep rest.now best.1.now m r e l x.1 (before m n k) g)
+  better_keep rest best e l x = (x.0, λ m r k g. keep rest.now best.1.now m r e l x.1 (below_or_last m n k) g)
 
 -- comments
 pub closes_brace : (bytes rest : List ℕ) (b : ℕ) (o : Option (Bor (List ℕ))) → bytes ≡ b ∷ rest → b ≡ 123 → Closes BraceBody rest o → Closes Comment bytes o

@@ -1,11 +1,8 @@
 -- The tables of what parts declare, put together one behind the other.
 use Rattle.std.proofs.Common.{◌≡◌, refl, ap, ◌∙◌, List, [], ◌∷◌, ◌++◌}
+use Rattle.std.proofs.lemmas.List.{append-nil}
 use Rattle.sp_tree.specs.PlainNamed as n
 use Rattle.sp_tree.specs.NamedTree.{beside, nothing_named}
-
-nothing_behind : {A : Type 0} (xs : List A) → xs ++ [] ≡ xs
-nothing_behind [] = refl
-nothing_behind (x ∷ xs) = ap (λ ys. x ∷ ys) (nothing_behind xs)
 
 behind_behind : {A : Type 0} (xs ys zs : List A) → (xs ++ ys) ++ zs ≡ xs ++ (ys ++ zs)
 behind_behind [] ys zs = refl
@@ -13,10 +10,10 @@ behind_behind (x ∷ xs) ys zs = ap (λ l. x ∷ l) (behind_behind xs ys zs)
 
 pub beside_nothing : (a : n.Program) → beside a nothing_named ≡ a
 beside_nothing a =
-    ap (λ l. record { constants = l; kinds = a.kinds ++ []; variables = a.variables ++ []; blocks = a.blocks ++ [] }) (nothing_behind a.constants)
-    ∙ ap (λ l. record { constants = a.constants; kinds = l; variables = a.variables ++ []; blocks = a.blocks ++ [] }) (nothing_behind a.kinds)
-    ∙ ap (λ l. record { constants = a.constants; kinds = a.kinds; variables = l; blocks = a.blocks ++ [] }) (nothing_behind a.variables)
-    ∙ ap (λ l. record { constants = a.constants; kinds = a.kinds; variables = a.variables; blocks = l }) (nothing_behind a.blocks)
+    ap (λ l. record { constants = l; kinds = a.kinds ++ []; variables = a.variables ++ []; blocks = a.blocks ++ [] }) (append-nil a.constants)
+    ∙ ap (λ l. record { constants = a.constants; kinds = l; variables = a.variables ++ []; blocks = a.blocks ++ [] }) (append-nil a.kinds)
+    ∙ ap (λ l. record { constants = a.constants; kinds = a.kinds; variables = l; blocks = a.blocks ++ [] }) (append-nil a.variables)
+    ∙ ap (λ l. record { constants = a.constants; kinds = a.kinds; variables = a.variables; blocks = l }) (append-nil a.blocks)
 
 pub beside_beside : (a b c : n.Program) → beside (beside a b) c ≡ beside a (beside b c)
 beside_beside a b c =

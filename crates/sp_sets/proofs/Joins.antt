@@ -85,14 +85,6 @@ abbrev mapped : {X Y : Type 0} → (X → Y) → Option X → Option Y
 mapped f None = None
 mapped f (Some z) = Some (f z)
 
-no_some : {X : Type 0} (x : X) → ◌≡◌ {A = Option X} None (Some x) → ⊥
-no_some x e = cc
-
-pub mapped_index : {X Y : Type 0} (f : X → Y) (xs : List X) (i : ℕ) (x : X) → slice_get xs i ≡ Some x → slice_get (map f xs) i ≡ Some (f x)
-mapped_index f [] i x e = absurd (no_some x e)
-mapped_index f (y ∷ ys) zero x e = ap (mapped f) e
-mapped_index f (y ∷ ys) (suc i) x e = mapped_index f ys i x e
-
 pub put_sets_is : (p : Program) (s : Sets) (vs : List Variable) (ks : List Block) (n : ℕ) (ls : List Line) (o o1 o2 : List ℕ) → vs ≡ p.variables → ks ≡ p.blocks → n ≡ length p.blocks → o ≡ [] → IsInOrder line_cmp (tree_lines p) ls → Puts (Joined (IsOfBlock vs s ks) n) o o1 → Puts (Joined (IsLineAt vs s ls) (length ls)) o1 o2 → IsSetsText p s o2
 put_sets_is p s vs ks n ls o o1 o2 ev ek en eo up h k = by (subst (λ m. Puts (Joined (IsOfBlock p.variables s p.blocks) m) o o1) en (subst (λ z. Puts (Joined (IsOfBlock p.variables s z) n) o o1) ek (subst (λ z. Puts (Joined (IsOfBlock z s ks) n) o o1) ev h))) (subst (λ z. Puts (Joined (IsLineAt z s ls) (length ls)) o1 o2) ev k)
   where

@@ -2,27 +2,22 @@
 use Rattle.std.proofs.Common.{◌≡◌, ◌⊎◌, ◌≢◌, inl, inr, ⊎_elim, refl, ap, sym, ◌∙◌, subst, ℕ, zero, suc, ◌+◌, ◌<◌, List}
 use Rattle.std.proofs.Common.{[], ◌∷◌, ◌++◌, length, Some, None, true, arith}
 use Rattle.std.specs.Prelude.{slice_get, slice_set, sum_by}
-use Rattle.std.proofs.lemmas.List.{length-set}
+use Rattle.std.proofs.lemmas.List.{length-set, length_push}
 use Rattle.std.proofs.lemmas.List.Sums.{sum_by-set}
-use Rattle.std.proofs.lemmas.Option.{slice_get_within, get_or_from_slice_get}
+use Rattle.std.proofs.lemmas.Option.{slice_get_within, get_or_from_slice_get, none-some, same_Some}
+use Rattle.std.proofs.lemmas.Bool.{cases_eq}
+use Rattle.sp_base.proofs.Facts.{get_beside_set, get_where_set, item_is_not_none}
 use Rattle.sp_code.specs.declared.code.Parts.{Parts}
 use Rattle.sp_rules.specs.Rules.{ArrivesAt}
-use Rattle.sp_rules.proofs.Facts.{same_some, none_some}
 use Rattle.sp_shapes.specs.declared.steps.Arrival.{Arrival}
 use Rattle.sp_shapes.specs.declared.search.Search.{Search}
 use Rattle.sp_shapes.specs.Stacks.{Holds, list_of}
 use Rattle.sp_shapes.specs.Search.{IsAmong, HasAt, IsMarked, BrokenBy, DiffersBy, Comes, IsSound, Compares, KeepsV1}
 use Rattle.sp_shapes.specs.Search.{Places, Past, First, Again, Other, ComparesOne, free, room}
 use Rattle.sp_shapes.proofs.Stacking.{one_number}
-use Rattle.sp_shapes.proofs.Ways.{same_number, one_area, lies, within}
-use Rattle.sp_shapes.proofs.Searching.{Moves, among_last, among_left, among_or, at_set, at_other, covers_stay}
-use Rattle.sp_shapes.proofs.Searching.{size_last}
+use Rattle.sp_shapes.proofs.Ways.{one_area, lies, within}
+use Rattle.sp_shapes.proofs.Searching.{Moves, among_last, among_left, among_or, covers_stay}
 use Rattle.sp_shapes.proofs.Searching.{closed_stays}
-
-pub some_at : {T : Type 0} (xs : List T) (i : ℕ) → i < length xs → slice_get xs i ≡ None → ⊥
-some_at [] i l e = omega (arith, l)
-some_at (x ∷ xs) zero l e = cc e
-some_at (x ∷ xs) (suc i) l e = some_at xs i (omega (arith, l)) e
 
 module _ (c : Parts) (n : ℕ) (s new : Search) (h : Compares c n s) (moves : Moves s new) where
   compares_moved : ((p k : ℕ) → HasAt new p k → HasAt s p k ⊎ IsAmong p new.frontier)
@@ -55,25 +50,25 @@ module _ (c : Parts) (v1 : KeepsV1 c) (n : ℕ) (s : Search) (rest : List Arriva
     filled = record s { at = slice_set s.at x.at (Some x.list); frontier = s.frontier ++ x.at ∷ []; arrivals = rest }
 
     first_stays : (p k : ℕ) → HasAt s p k → slice_get (slice_set s.at x.at (Some x.list)) p ≡ Some (Some k)
-    first_stays p k w = go (same_number x.at p)
+    first_stays p k w = go (cases_eq x.at p)
       where
         go : (x.at ≡ p) ⊎ (x.at ≢ p) → slice_get (slice_set s.at x.at (Some x.list)) p ≡ Some (Some k)
-        go (inl z) = absurd (none_some k (same_some None (Some k) (sym e ∙ ap (slice_get s.at) z ∙ w)))
-        go (inr d) = at_other s.at x.at p (Some x.list) d ∙ w
+        go (inl z) = absurd (none-some k (same_Some None (Some k) (sym e ∙ ap (slice_get s.at) z ∙ w)))
+        go (inr d) = get_beside_set s.at x.at p (Some x.list) d ∙ w
 
     first_fresh : (p k : ℕ) → slice_get (slice_set s.at x.at (Some x.list)) p ≡ Some (Some k)
         → HasAt s p k ⊎ ((p ≡ x.at) × (k ≡ x.list))
-    first_fresh p k w = go (same_number x.at p)
+    first_fresh p k w = go (cases_eq x.at p)
       where
         go : (x.at ≡ p) ⊎ (x.at ≢ p) → HasAt s p k ⊎ ((p ≡ x.at) × (k ≡ x.list))
         go (inl z) = inr (
           sym z,
           sym
-              (same_some x.list k (same_some (Some x.list) (Some k)
-              (sym (at_set s.at x.at (Some x.list) inside)
+              (same_Some x.list k (same_Some (Some x.list) (Some k)
+              (sym (get_where_set s.at x.at (Some x.list) inside)
               ∙ ap (slice_get (slice_set s.at x.at (Some x.list))) z ∙ w))),
         )
-        go (inr d) = inl (sym (at_other s.at x.at p (Some x.list) d) ∙ w)
+        go (inr d) = inl (sym (get_beside_set s.at x.at p (Some x.list) d) ∙ w)
 
     first_moves : (new : Search) → new ≡ filled → Moves s new
     unfolding filled
@@ -86,7 +81,7 @@ module _ (c : Parts) (v1 : KeepsV1 c) (n : ℕ) (s : Search) (rest : List Arriva
             x.list,
             subst
                 (λ (u : Arrival). slice_get (slice_set s.at x.at (Some x.list)) u.at ≡ Some (Some x.list)) (sym z)
-                (at_set s.at x.at (Some x.list) inside),
+                (get_where_set s.at x.at (Some x.list) inside),
             inl (ap (λ (u : Arrival). list_of s.stacks u.list) (sym z)),
           ))
           (split y a);
@@ -155,8 +150,8 @@ module _ (c : Parts) (v1 : KeepsV1 c) (n : ℕ) (s : Search) (rest : List Arriva
 
     marked_stays : (p : ℕ) → IsMarked s p → slice_get (slice_set s.broken x.at true) p ≡ Some true
     marked_stays p m = ⊎_elim
-        (λ (z : x.at ≡ p). ap (slice_get (slice_set s.broken x.at true)) (sym z) ∙ at_set s.broken x.at true short)
-        (λ (d : x.at ≢ p). at_other s.broken x.at p true d ∙ m) (same_number x.at p)
+        (λ (z : x.at ≡ p). ap (slice_get (slice_set s.broken x.at true)) (sym z) ∙ get_where_set s.broken x.at true short)
+        (λ (d : x.at ≢ p). get_beside_set s.broken x.at p true d ∙ m) (cases_eq x.at p)
 
     differs : BrokenBy c n x.at
     differs =
@@ -170,7 +165,7 @@ module _ (c : Parts) (v1 : KeepsV1 c) (n : ℕ) (s : Search) (rest : List Arriva
 
     marked_new : (p : ℕ) → slice_get (slice_set s.broken x.at true) p ≡ Some true → BrokenBy c n p
     marked_new p m = ⊎_elim (λ (z : x.at ≡ p). subst (BrokenBy c n) z differs)
-        (λ (d : x.at ≢ p). h.sound.marked p (sym (at_other s.broken x.at p true d) ∙ m)) (same_number x.at p)
+        (λ (d : x.at ≢ p). h.sound.marked p (sym (get_beside_set s.broken x.at p true d) ∙ m)) (cases_eq x.at p)
 
     other_placed : Compares c n (record s { broken = slice_set s.broken x.at true; arrivals = rest })
     other_placed =
@@ -185,7 +180,7 @@ module _ (c : Parts) (v1 : KeepsV1 c) (n : ℕ) (s : Search) (rest : List Arriva
                 subst (λ (u : Arrival). HasAt s u.at k) (sym z) has,
                 inr
                     (subst (λ (u : Arrival). slice_get (slice_set s.broken x.at true) u.at ≡ Some true) (sym z)
-                    (at_set s.broken x.at true short)),
+                    (get_where_set s.broken x.at true short)),
               )) (split y a);
         })
         (λ p k w. inl w) (λ p f. f)
@@ -202,7 +197,7 @@ module _ (c : Parts) (v1 : KeepsV1 c) (n : ℕ) (s : Search) (rest : List Arriva
 
   pub placed : (new : Search) → Places (record s { arrivals = rest }) new x → Compares c n new
   unfolding filled
-  placed new (Past e q) = absurd (some_at s.at x.at inside e)
+  placed new (Past e q) = absurd (item_is_not_none s.at x.at inside e)
   placed new (First e q) = subst (Compares c n) (sym q) (first_placed e)
   placed new (Again w q) = subst (Compares c n) (sym q) (again_placed w)
   placed new (Other k w d q) = subst (Compares c n) (sym q) (other_placed k w d)
@@ -229,7 +224,7 @@ room_of s new rest x (First e q) = ap room_in q ∙ same
     same =
         let a = sum_by-set free s.at x.at (Some x.list) None (slice_get_within s.at x.at None e) in
         let b = ap free (get_or_from_slice_get s.at x.at None None e) in
-        let d = size_last s.frontier x.at in
+        let d = length_push s.frontier x.at in
         omega (arith, a, b, d)
 room_of s new rest x (Again w q) = ap room_in q
 room_of s new rest x (Other k w d q) = ap room_in q
@@ -238,7 +233,7 @@ pub compared : (s new : Search) (rest : List Arrival) (x : Arrival) → s.arriva
     → Places (record s { arrivals = rest }) new x → ComparesOne s new true
 compared s new rest x last pl = record {
   keeps = λ c v1 w. (w.0, placed c v1 w.0 s rest x last w.1 new pl);
-  less = λ e. (let a = ap length last in let b = size_last rest x in let d = ap length (rest_of s new rest x pl) in
+  less = λ e. (let a = ap length last in let b = length_push rest x in let d = ap length (rest_of s new rest x pl) in
       omega (arith, a, b, d));
   none = λ e. absurd (cc e);
   room = room_of s new rest x pl;

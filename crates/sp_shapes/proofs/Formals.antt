@@ -5,6 +5,7 @@ use Rattle.std.specs.Prelude.{slice_get}
 use Rattle.std.proofs.Math.Seq.{take-suc}
 use Rattle.std.proofs.Math.Bool.{and_assoc}
 use Rattle.std.proofs.lemmas.Option.{slice_get_within, get_or_from_slice_get, slice_get-get_or}
+use Rattle.sp_base.proofs.Facts.{and_with_false, and_with_true}
 use Rattle.sp_code.specs.declared.code.Formal.{Formal}
 use Rattle.sp_rules.specs.Shapes.{Shape}
 use Rattle.sp_rules.specs.Rules.{fits_formal, fit_formals, lowest_first}
@@ -16,21 +17,13 @@ lowest_before (suc m) (s ∷ ss) ts =
     lowest_before m ss (s ∷ ts) ∙ sym (append_assoc (lowest_first m ss []) (s ∷ []) ts)
     ∙ ap (λ us. us ++ ts) (sym (lowest_before m ss (s ∷ [])))
 
-both_false : (b : Bool) → (b && false) ≡ false
-both_false true = refl
-both_false false = refl
-
-both_one : (b : Bool) → (b && true) ≡ b
-both_one true = refl
-both_one false = refl
-
 pub fits_last : (fs : List Formal) (f : Formal) (xs : List Shape) (s : Shape)
     → fit_formals (fs ++ f ∷ []) (xs ++ s ∷ []) ≡ (fit_formals fs xs && fits_formal f s)
-fits_last [] f [] s = both_one (fits_formal f s)
-fits_last [] f (x ∷ []) s = both_false (fits_formal f x)
-fits_last [] f (x ∷ y ∷ xs) s = both_false (fits_formal f x)
-fits_last (e ∷ []) f [] s = both_false (fits_formal e s)
-fits_last (e ∷ d ∷ fs) f [] s = both_false (fits_formal e s)
+fits_last [] f [] s = and_with_true (fits_formal f s)
+fits_last [] f (x ∷ []) s = and_with_false (fits_formal f x)
+fits_last [] f (x ∷ y ∷ xs) s = and_with_false (fits_formal f x)
+fits_last (e ∷ []) f [] s = and_with_false (fits_formal e s)
+fits_last (e ∷ d ∷ fs) f [] s = and_with_false (fits_formal e s)
 fits_last (e ∷ fs) f (x ∷ xs) s = ap (λ b. fits_formal e x && b) (fits_last fs f xs s)
     ∙ sym (and_assoc (fits_formal e x) (fit_formals fs xs) (fits_formal f s))
 
@@ -54,10 +47,6 @@ one_less fs k j f s ss l i e =
     let b : j ≡ length fs - (k + 1) = omega (arith, i, l) in
     ap (λ n. fit_formals (take n fs) (lowest_first n (s ∷ ss) [])) a
     ∙ one_formal fs (length fs - (k + 1)) f s ss (ap (slice_get fs) (sym b) ∙ e)
-
-pub none_fit : (b t : Bool) → t ≡ false → (b && t) ≡ false
-none_fit true t e = e
-none_fit false t e = refl
 
 pub all_fit : (b t : Bool) → t ≡ true → (b && t) ≡ b
 all_fit true t e = e

@@ -3,7 +3,8 @@ use Rattle.std.proofs.Common.{◌≡◌, ◌≢◌, ◌⊎◌, inl, inr, ⊎_eli
 use Rattle.std.proofs.Common.{length, Option, Some, None, Bool, true, false, arith, eqb-true, eq-eqb}
 use Rattle.std.specs.Prelude.{slice_get, cond, nat_lt}
 use Rattle.std.specs.BTreeMap.{BTreeMap}
-use Rattle.std.proofs.lemmas.Option.{slice_get_cases}
+use Rattle.std.proofs.lemmas.Option.{slice_get_cases, none-some, same_Some}
+use Rattle.sp_base.proofs.Facts.{not_true_and_false}
 use Rattle.sp_code.specs.declared.instr.Instr.{Instr}
 use Rattle.sp_code.specs.declared.instr.Instr.TheVariants as i
 use Rattle.sp_code.specs.declared.code.Parts.{Parts}
@@ -11,7 +12,6 @@ use Rattle.sp_rules.specs.Areas.{given, instr_at}
 use Rattle.sp_rules.specs.Shapes.{Shape}
 use Rattle.sp_rules.specs.Standing.{message_cells, cells_left}
 use Rattle.sp_rules.specs.Rules.{SendsAt, ReceivesAt, BreaksV4, OtherLength, NoRoom}
-use Rattle.sp_rules.proofs.Facts.{same_some, none_some, no_true}
 use Rattle.sp_areas.specs.Least.{IsLeast, least}
 use Rattle.sp_areas.proofs.Leasts.{same, both}
 use Rattle.sp_shapes.specs.declared.shapes.Shapes.{Shapes}
@@ -26,26 +26,26 @@ use Rattle.sp_shapes.proofs.Reaching.{some_way, brought}
 -- ---- messages
 
 made_of : (k : ℕ) (o : Option ℕ) (w : Message) → of_kind k o ≡ Some w → (k ≡ w.kind) × (o ≡ Some w.cells)
-made_of k None w e = absurd (none_some w e)
+made_of k None w e = absurd (none-some w e)
 made_of k (Some n) w e =
-    let s : record { kind = k; cells = n } ≡ w = same_some (record { kind = k; cells = n }) w e in
+    let s : record { kind = k; cells = n } ≡ w = same_Some (record { kind = k; cells = n }) w e in
     (ap (λ (m : Message). m.kind) s, ap (λ (m : Message). Some m.cells) s)
 
 sent_so : (c : Parts) (o : Option Instr) (ss : List Shape) (w : Message) → sent_by c o ss ≡ Some w
     → (o ≡ Some (i.Send w.kind)) × (message_cells c ss ≡ Some w.cells)
 sent_so c (Some (i.Send k)) ss w e = let m = made_of k (message_cells c ss) w e in (ap (λ j. Some (i.Send j)) m.0, m.1)
-sent_so c o ss w e = absurd (none_some w e)
+sent_so c o ss w e = absurd (none-some w e)
 
 received_so : (c : Parts) (o : Option Instr) (ss : List Shape) (w : Message) → received_by c o ss ≡ Some w
     → (o ≡ Some (i.Receive w.kind)) × (cells_left c ss ≡ Some w.cells)
 received_so c (Some (i.Receive k)) ss w e = let m = made_of k (cells_left c ss) w e in
     (ap (λ j. Some (i.Receive j)) m.0, m.1)
-received_so c o ss w e = absurd (none_some w e)
+received_so c o ss w e = absurd (none-some w e)
 
 -- what is found by a table of shapes is found with some of them
 by_shapes : (f : List Shape → Option Message) (o : Option (List Shape)) (w : Message) → given None o f ≡ Some w
     → (ss : List Shape) × (o ≡ Some ss) × (f ss ≡ Some w)
-by_shapes f None w e = absurd (none_some w e)
+by_shapes f None w e = absurd (none-some w e)
 by_shapes f (Some ss) w e = (ss, refl, e)
 
 pub sends : (c : Parts) (s : Shapes) → AreShapes c s → (p : ℕ) (w : Message) → sent_at c s p ≡ Some w
@@ -80,7 +80,7 @@ received_there c s h p k n r =
 pub within : (c : Parts) (s : Shapes) → AreShapes c s → (f : ℕ → List Shape → Option Message) (p : ℕ) (w : Message)
     → given None (shapes_at s p) (f p) ≡ Some w → p < length c.instrs
 within c s h f p w e = ⊎_elim (λ r. let l = r.1 in let z = h.size in omega (arith, l, z))
-    (λ r. absurd (none_some w (sym (past r.1) ∙ e))) (slice_get_cases s.at p).1
+    (λ r. absurd (none-some w (sym (past r.1) ∙ e))) (slice_get_cases s.at p).1
   where
     past : slice_get s.at p ≡ None → given None (shapes_at s p) (f p) ≡ None
     past g = ap (λ o. given None (given None (given None o (λ v. v)) (λ n. Some (list_of s.stacks n))) (f p)) g
@@ -99,7 +99,7 @@ pub past_none : (R : ℕ → ℕ → Type 0) (c : Parts) (s : Shapes) (n : ℕ) 
     → sent_at c s n ≡ None → AreLengths R c s (n + 1) m
 past_none R c s n m h e =
     record {
-      each = λ q w l f. ⊎_elim (λ g. h.each q w g f) (λ g. absurd (none_some w (sym e ∙ ap (sent_at c s) (sym g) ∙ f)))
+      each = λ q w l f. ⊎_elim (λ g. h.each q w g f) (λ g. absurd (none-some w (sym e ∙ ap (sent_at c s) (sym g) ∙ f)))
           (last n q l);
       some = λ k x f. let r = h.some k x f in (r.0, (let l = r.1 in omega (arith, l)), r.2);
     }
@@ -110,7 +110,7 @@ pub past_kept : (R : ℕ → ℕ → Type 0) (c : Parts) (s : Shapes) (n : ℕ) 
 past_kept R c s n m v y h e there good =
     record {
       each = λ q w l f. ⊎_elim (λ g. h.each q w g f)
-          (λ g. at_last w (same_some v w (sym e ∙ ap (sent_at c s) (sym g) ∙ f))) (last n q l);
+          (λ g. at_last w (same_Some v w (sym e ∙ ap (sent_at c s) (sym g) ∙ f))) (last n q l);
       some = λ k x f. let r = h.some k x f in (r.0, (let l = r.1 in omega (arith, l)), r.2);
     }
   where
@@ -146,7 +146,7 @@ past_put R c s n m o v h e puts good more = record { each = each; some = some }
     each q w l f =
         ⊎_elim (λ g. old q w g f)
         (λ g. subst (λ (u : Message). (x : ℕ) × (length_of o u.kind ≡ Some x) × R u.cells x)
-        (same_some v w (sym e ∙ ap (sent_at c s) (sym g) ∙ f)) new) (last n q l)
+        (same_Some v w (sym e ∙ ap (sent_at c s) (sym g) ∙ f)) new) (last n q l)
 
     some : (k x : ℕ) → length_of o k ≡ Some x → (q : ℕ) × (q < n + 1)
         × (sent_at c s q ≡ Some (record { kind = k; cells = x }))
@@ -156,7 +156,7 @@ past_put R c s n m o v h e puts good more = record { each = each; some = some }
             × (sent_at c s q ≡ Some (record { kind = k; cells = x }))
         go true d =
             let a = eqb-true v.kind k d in
-            let b = same_some v.cells x (sym (is k true d) ∙ f) in (
+            let b = same_Some v.cells x (sym (is k true d) ∙ f) in (
               n,
               omega arith,
               e ∙ ap (λ j. Some (record { kind = j; cells = v.cells })) a
@@ -173,7 +173,7 @@ no_other c s n m h p l d =
     let a = h.each p d.one l d.sent in
     let before = d.before in
     let b = h.each d.earlier d.other (omega (arith, before, l)) d.too in
-    let e : a.0 ≡ b.0 = same_some a.0 b.0 (sym a.1 ∙ ap (length_of m) (sym d.kind) ∙ b.1) in
+    let e : a.0 ≡ b.0 = same_Some a.0 b.0 (sym a.1 ∙ ap (length_of m) (sym d.kind) ∙ b.1) in
     d.apart (b.2 ∙ sym e ∙ sym a.2)
 
 pub first_differs : (c : Parts) (s : Shapes) (n : ℕ) (m : BTreeMap ℕ ℕ) (w : Message) (x : ℕ)
@@ -286,13 +286,13 @@ pub past_first : (c : Parts) (s : Shapes) (n : ℕ) (m o : BTreeMap ℕ ℕ) (v 
     → sent_at c s n ≡ Some v → length_of m v.kind ≡ None → Puts m o v
     → AreLengths (λ x y. x ≡ y) c s (n + 1) o
 past_first c s n m o v h e none puts = past_put (λ x y. x ≡ y) c s n m o v h e puts refl
-    (λ x z f l. absurd (none_some x (sym none ∙ f)))
+    (λ x z f l. absurd (none-some x (sym none ∙ f)))
 
 pub first_lacks : (c : Parts) (s : Shapes) → AreShapes c s → (m : BTreeMap ℕ ℕ)
     → AreLengths (λ x y. x ≤ y) c s (length c.instrs) m → (n : ℕ) → is_longer m (received_at c s n) ≡ true
     → ((k : ℕ) → k < n → is_longer m (received_at c s k) ≡ false) → IsLeast (Lacks c s) (Some n)
 first_lacks c s h m g n e none =
-    (lacks_so c s h m g n e, λ p l k. no_true (is_longer m (received_at c s p)) (lacks_there c s h m g p k) (none p l))
+    (lacks_so c s h m g n e, λ p l k. not_true_and_false (is_longer m (received_at c s p)) (lacks_there c s h m g p k) (none p l))
 
 pub none_lacks : (c : Parts) (s : Shapes) → AreShapes c s → (m : BTreeMap ℕ ℕ)
     → AreLengths (λ x y. x ≤ y) c s (length c.instrs) m → (n : ℕ) → length c.instrs ≤ n
@@ -300,7 +300,7 @@ pub none_lacks : (c : Parts) (s : Shapes) → AreShapes c s → (m : BTreeMap �
 none_lacks c s h m g n l none =
     λ p k.
     let b = within c s h (λ q ss. received_by c (instr_at c q) ss) p k.room k.received in
-    no_true (is_longer m (received_at c s p)) (lacks_there c s h m g p k) (none p (omega (arith, b, l)))
+    not_true_and_false (is_longer m (received_at c s p)) (lacks_there c s h m g p k) (none p (omega (arith, b, l)))
 
 pub one_on : (P : ℕ → Bool) (n : ℕ) → ((k : ℕ) → k < n → P k ≡ false) → P n ≡ false → (k : ℕ) → k < n + 1 → P k ≡ false
 one_on P n none e k l = ⊎_elim (λ g. none k g) (λ g. ap P g ∙ e) (last n k l)

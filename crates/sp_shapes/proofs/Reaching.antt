@@ -2,14 +2,15 @@
 use Rattle.std.proofs.Common.{◌≡◌, ◌⊎◌, inl, inr, ⊎_elim, refl, ◌∙◌, ap, subst, ℕ, ◌<◌, ◌≤◌, List, length, Option, Some}
 use Rattle.std.proofs.Common.{None, Bool, true, false, arith}
 use Rattle.std.specs.Prelude.{slice_get, not}
-use Rattle.std.proofs.lemmas.Option.{slice_get_within, slice_get_cases}
+use Rattle.std.proofs.lemmas.Option.{slice_get_within, slice_get_cases, none-some, same_Some}
+use Rattle.std.proofs.lemmas.Bool.{and_from, and_parts, not-true}
+use Rattle.sp_base.proofs.Facts.{not_true_and_false}
 use Rattle.sp_code.specs.declared.instr.Instr.{Instr}
 use Rattle.sp_code.specs.declared.code.Parts.{Parts}
 use Rattle.sp_rules.specs.Areas.{Area, given, instr_at}
 use Rattle.sp_rules.specs.Shapes.{Shape, stays_within}
 use Rattle.sp_rules.specs.Rules.{ComesTo, BreaksV3, PassesLeft, BreaksV5, NoFit, AnswersByReference, call_fits}
 use Rattle.sp_rules.specs.Rules.{some_reference}
-use Rattle.sp_rules.proofs.Facts.{same_some, none_some, no_true, both_true, and_true}
 use Rattle.sp_areas.specs.Alone.{LayoutFails}
 use Rattle.sp_areas.specs.Least.{IsLeast, Upto, least}
 use Rattle.sp_areas.proofs.Leasts.{same, both}
@@ -24,7 +25,7 @@ stands s p n e = go (slice_get s.at p) refl e
   where
     go : (o : Option (Option ℕ)) → slice_get s.at p ≡ o → given None o (λ w. w) ≡ Some n
         → slice_get s.at p ≡ Some (Some n)
-    go None f g = absurd (none_some n g)
+    go None f g = absurd (none-some n g)
     go (Some w) f g = f ∙ ap Some g
 
 pub holds : (c : Parts) (s : Shapes) → AreShapes c s → (p n : ℕ) → reached_at s p ≡ Some n → Holds s.stacks n
@@ -37,10 +38,10 @@ some_way c s h p ss e = go (reached_at s p) refl e
   where
     go : (o : Option ℕ) → reached_at s p ≡ o → given None o (λ n. Some (list_of s.stacks n)) ≡ Some ss
         → (a : Area) × ComesTo c a p ss
-    go None f g = absurd (none_some ss g)
+    go None f g = absurd (none-some ss g)
     go (Some n) f g =
         let r = h.come p n (stands s p n f) in
-        (r.0, subst (ComesTo c r.0 p) (same_some (list_of s.stacks n) ss g) r.1)
+        (r.0, subst (ComesTo c r.0 p) (same_Some (list_of s.stacks n) ss g) r.1)
 
 -- what a way brings is in the table
 pub brought : (c : Parts) (s : Shapes) → AreShapes c s → (a : Area) (p : ℕ) (ss : List Shape) → ComesTo c a p ss
@@ -55,14 +56,10 @@ pub fails_by : (c : Parts) (s : Shapes) → AreShapes c s → (well : Option Ins
     → (a : Area) × (ss : List Shape) × ComesTo c a p ss × (well (instr_at c p) ss ≡ false)
 fails_by c s h well p e = go (shapes_at s p) refl e
   where
-    is_false : (b : Bool) → not b ≡ true → b ≡ false
-    is_false true e = absurd (cc e)
-    is_false false e = refl
-
     go : (o : Option (List Shape)) → shapes_at s p ≡ o → given false o (λ ss. not (well (instr_at c p) ss)) ≡ true
         → (a : Area) × (ss : List Shape) × ComesTo c a p ss × (well (instr_at c p) ss ≡ false)
     go None f g = absurd (cc g)
-    go (Some ss) f g = let r = some_way c s h p ss f in (r.0, ss, r.1, is_false (well (instr_at c p) ss) g)
+    go (Some ss) f g = let r = some_way c s h p ss f in (r.0, ss, r.1, not-true (well (instr_at c p) ss) g)
 
 pub fails_so : (c : Parts) (s : Shapes) → AreShapes c s → (well : Option Instr → List Shape → Bool) (a : Area) (p : ℕ)
     (ss : List Shape)
@@ -74,7 +71,7 @@ fails_so c s h well a p ss w e = ap (λ o. given false o (λ ts. not (well (inst
 pub nothing_past : (c : Parts) (s : Shapes) → AreShapes c s → (well : Option Instr → List Shape → Bool) (p : ℕ)
     → fails_at well c s p ≡ true → p < length c.instrs
 nothing_past c s h well p e = ⊎_elim (λ r. let l = r.1 in let z = h.size in omega (arith, l, z))
-    (λ r. absurd (no_true (fails_at well c s p) e (past r.1))) (slice_get_cases s.at p).1
+    (λ r. absurd (not_true_and_false (fails_at well c s p) e (past r.1))) (slice_get_cases s.at p).1
   where
     past : slice_get s.at p ≡ None → fails_at well c s p ≡ false
     past f = ap (λ o. given false (given None (given None o (λ w. w)) (λ n. Some (list_of s.stacks n)))
@@ -84,12 +81,12 @@ nothing_past c s h well p e = ⊎_elim (λ r. let l = r.1 in let z = h.size in o
 
 pub first_one : (P : ℕ → Bool) (n : ℕ) → P n ≡ true → ((k : ℕ) → k < n → P k ≡ false)
     → IsLeast (λ p. P p ≡ true) (Some n)
-first_one P n e none = (e, λ p l f. no_true (P p) f (none p l))
+first_one P n e none = (e, λ p l f. not_true_and_false (P p) f (none p l))
 
 pub no_one : (c : Parts) (s : Shapes) → AreShapes c s → (well : Option Instr → List Shape → Bool) (n : ℕ)
     → length c.instrs ≤ n
     → ((k : ℕ) → k < n → fails_at well c s k ≡ false) → IsLeast (λ p. fails_at well c s p ≡ true) None
-no_one c s h well n e none = λ p f. no_true (fails_at well c s p) f
+no_one c s h well n e none = λ p f. not_true_and_false (fails_at well c s p) f
     (none p (let l = nothing_past c s h well p f in omega (arith, l, e)))
 
 pub least_passing : (c : Parts) (s : Shapes) → AreShapes c s → (o : Option ℕ)
@@ -118,7 +115,7 @@ least_unfit c s h m n f g = same (λ p. P p ⊎ Q p) (BreaksV5 c) (least m n) up
     up p (inl e) = let r = fails_by c s h (call_fits c) p e in NoFit r.0 r.1 r.2 r.3
     up p (inr u) =
         let l = u.holds.0 in
-        let b = both_true l.answer (some_reference l.formals) u.holds.3 in
+        let b = and_parts l.answer (some_reference l.formals) u.holds.3 in
         AnswersByReference l (u.item, u.holds.1) u.holds.2 b.0 b.1
 
     down : (p : ℕ) → BreaksV5 c p → P p ⊎ Q p
@@ -128,5 +125,5 @@ least_unfit c s h m n f g = same (λ p. P p ⊎ Q p) (BreaksV5 c) (least m n) up
           item = there.0;
           below = slice_get_within c.layouts there.0 l there.1;
           holds =
-              (l, there.1, e, and_true l.answer (some_reference l.formals) a r);
+              (l, there.1, e, and_from l.answer (some_reference l.formals) a r);
         })

@@ -2,13 +2,13 @@
 use Rattle.std.proofs.Common.{◌≡◌, ◌⊎◌, ◌≢◌, inl, inr, ⊎_elim, refl, ap, sym, ◌∙◌, subst, ℕ, zero, suc, ◌+◌, ◌<◌, List}
 use Rattle.std.proofs.Common.{[], ◌∷◌, ◌++◌, length, Some, true, false, arith}
 use Rattle.std.specs.Prelude.{slice_get, slice_set, sum_by}
+use Rattle.std.proofs.lemmas.Option.{same_Some}
 use Rattle.sp_code.specs.declared.code.Parts.{Parts}
 use Rattle.sp_rules.specs.Areas.{Area, instr_at}
 use Rattle.sp_rules.specs.Shapes.{Shape, Wrong, shaped}
 use Rattle.sp_rules.specs.Reach.{Arrives, IsWhole, Leads}
 use Rattle.sp_rules.specs.Named.{LiesIn}
 use Rattle.sp_rules.specs.Rules.{ArrivesAt}
-use Rattle.sp_rules.proofs.Facts.{same_some}
 use Rattle.sp_shapes.specs.declared.steps.Arrival.{Arrival}
 use Rattle.sp_shapes.specs.declared.search.Search.{Search}
 use Rattle.sp_shapes.specs.Stacks.{Extends, Holds, list_of}
@@ -34,24 +34,8 @@ among_or y x [] (inr h) = absurd h
 among_or y x (z ∷ zs) (inl e) = inl (inl e)
 among_or y x (z ∷ zs) (inr h) = ⊎_elim (λ a. inl (inr a)) (λ e. inr e) (among_or y x zs h)
 
-pub size_last : {T : Type 0} (xs : List T) (x : T) → length (xs ++ x ∷ []) ≡ length xs + 1
-size_last [] x = refl
-size_last (y ∷ ys) x = let e = size_last ys x in omega (arith, e)
-
-pub at_set : {T : Type 0} (xs : List T) (i : ℕ) (x : T) → i < length xs → slice_get (slice_set xs i x) i ≡ Some x
-at_set [] i x h = absurd (omega (arith, h))
-at_set (y ∷ ys) zero x h = refl
-at_set (y ∷ ys) (suc i) x h = at_set ys i x (omega (arith, h))
-
-pub at_other : {T : Type 0} (xs : List T) (i j : ℕ) (x : T) → i ≢ j → slice_get (slice_set xs i x) j ≡ slice_get xs j
-at_other [] i j x h = refl
-at_other (y ∷ ys) zero zero x h = absurd (h refl)
-at_other (y ∷ ys) zero (suc j) x h = refl
-at_other (y ∷ ys) (suc i) zero x h = refl
-at_other (y ∷ ys) (suc i) (suc j) x h = at_other ys i j x (λ e. h (ap suc e))
-
 pub one_list : (s : Search) (p j k : ℕ) → HasAt s p j → HasAt s p k → j ≡ k
-one_list s p j k h g = same_some j k (same_some (Some j) (Some k) (sym h ∙ g))
+one_list s p j k h g = same_Some j k (same_Some (Some j) (Some k) (sym h ∙ g))
 
 -- ---- what is known stays known
 

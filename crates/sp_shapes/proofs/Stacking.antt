@@ -6,11 +6,10 @@ use Rattle.std.specs.Prelude.{slice_get, cond}
 use Rattle.std.specs.Ordering.{nat_cmp}
 use Rattle.std.specs.BTreeMap.{is_at}
 use Rattle.std.specs.Cmp.{unsigned_tied}
-use Rattle.std.proofs.lemmas.Option.{slice_get_within, slice_get_cases}
+use Rattle.std.proofs.lemmas.Option.{slice_get_within, slice_get_cases, none-some, same_Some}
 use Rattle.std.proofs.lemmas.List.{length-append}
 use Rattle.sp_rules.specs.Areas.{given}
 use Rattle.sp_rules.specs.Shapes.{Shape}
-use Rattle.sp_rules.proofs.Facts.{same_some, none_some}
 use Rattle.sp_shapes.specs.declared.stacks.Shape.{Shape as Kept}
 use Rattle.sp_shapes.specs.declared.stacks.Shape.TheVariants as kept
 use Rattle.sp_shapes.specs.declared.stacks.Cell.{Cell}
@@ -36,8 +35,8 @@ new_at (c ∷ cs) x = new_at cs x
 -- what is found among them and one more is one of them, or that one
 pub found_at : (cs : List Cell) (x y : Cell) (i : ℕ) → slice_get (cs ++ x ∷ []) i ≡ Some y
     → (slice_get cs i ≡ Some y) ⊎ ((i ≡ length cs) × (x ≡ y))
-found_at [] x y zero e = inr (refl, same_some x y e)
-found_at [] x y (suc i) e = absurd (none_some y e)
+found_at [] x y zero e = inr (refl, same_Some x y e)
+found_at [] x y (suc i) e = absurd (none-some y e)
 found_at (c ∷ cs) x y zero e = inl e
 found_at (c ∷ cs) x y (suc i) e = ⊎_elim (λ h. inl h) (λ h. inr (ap suc h.0, h.1)) (found_at cs x y i e)
 
@@ -184,7 +183,7 @@ upto st h (suc k) (suc i) (suc j) l a b e =
     let g : key_of d.0.shape d.0.below ≡ key_of f.0.shape f.0.below = ap (λ s. key_of s d.0.below) q
     ∙ ap (key_of f.0.shape) r in
     let t : i + 1 ≡ j + 1 =
-    same_some (i + 1) (j + 1) (sym (h.known i d.0 d.1) ∙ ap (number_at st) g ∙ h.known j f.0 f.1) in
+    same_Some (i + 1) (j + 1) (sym (h.known i d.0 d.1) ∙ ap (number_at st) g ∙ h.known j f.0 f.1) in
     omega (arith, t)
   where
     same_parts : (s t : Shape) (ss ts : List Shape) → s ∷ ss ≡ t ∷ ts → (s ≡ t) × (ss ≡ ts)
@@ -252,7 +251,7 @@ stacks_more old new x h e few there small none now =
     old_known q n f = go (key_of x.shape x.below == q) refl
       where
         go : (t : Bool) → (key_of x.shape x.below == q) ≡ t → number_at new q ≡ Some n
-        go true g = absurd (none_some n (sym none ∙ ap (number_at old) (eqb-true (key_of x.shape x.below) q g) ∙ f))
+        go true g = absurd (none-some n (sym none ∙ ap (number_at old) (eqb-true (key_of x.shape x.below) q g) ∙ f))
         go false g = is_key q false g ∙ f
 
     found : (q n : ℕ) → number_at new q ≡ Some n → (i : ℕ) × (c : Cell) × (n ≡ i + 1) × (slice_get new.cells i ≡ Some c)
@@ -264,7 +263,7 @@ stacks_more old new x h e few there small none now =
         go true g = (
           length old.cells,
           x,
-          same_some n (length old.cells + 1) (sym f ∙ is_key q true g),
+          same_Some n (length old.cells + 1) (sym f ∙ is_key q true g),
           ap
               (λ cs. slice_get cs (length old.cells)) e ∙ new_at old.cells x,
           sym (eqb-true (key_of x.shape x.below) q g),

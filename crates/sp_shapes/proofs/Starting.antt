@@ -2,7 +2,8 @@
 use Rattle.std.proofs.Common.{◌≡◌, ◌⊎◌, inl, inr, ⊎_elim, refl, ap, sym, ◌∙◌, subst, ℕ, ◌+◌, ◌<◌, List}
 use Rattle.std.proofs.Common.{[], ◌∷◌, ◌++◌, length, Option, Some, None, Bool, true, false, arith}
 use Rattle.std.specs.Prelude.{slice_get, nat_lt}
-use Rattle.std.proofs.lemmas.Option.{slice_get_within}
+use Rattle.std.proofs.lemmas.Option.{slice_get_within, none-some, same_Some}
+use Rattle.sp_base.proofs.Facts.{below_or_last}
 use Rattle.sp_code.specs.declared.instr.Instr.{Instr}
 use Rattle.sp_code.specs.declared.code.Layout.{Layout}
 use Rattle.sp_code.specs.declared.code.ChildTable.{ChildTable}
@@ -13,7 +14,6 @@ use Rattle.sp_rules.specs.Areas.{Area, Body, Child, instr_at, table_named, table
 use Rattle.sp_rules.specs.Areas.{entry_of_child, entry_of_layout}
 use Rattle.sp_rules.specs.Reach.{IsArea}
 use Rattle.sp_rules.specs.Named.{LiesIn}
-use Rattle.sp_rules.proofs.Facts.{same_some, none_some}
 use Rattle.sp_areas.specs.declared.owners.Owner.{Owner}
 use Rattle.sp_areas.specs.declared.owners.Owner.TheVariants as owner
 use Rattle.sp_areas.specs.Owners.{Owns}
@@ -24,13 +24,6 @@ use Rattle.sp_shapes.specs.Search.{IsAmong, HasAt, IsMarked, Compares}
 use Rattle.sp_shapes.specs.Starts.{start, AreAll, IsEntry, Adds, IsOfLayouts, IsOfChildren, IsMadeAt, IsMade, is_nobody}
 use Rattle.sp_shapes.proofs.Ways.{block_in}
 use Rattle.sp_shapes.proofs.Searching.{among_last, among_left, among_or}
-
-pub below_or : (k n : ℕ) → k < n + 1 → (k < n) ⊎ (k ≡ n)
-below_or k n l = go (nat_lt k n) refl
-  where
-    go : (t : Bool) → nat_lt k n ≡ t → (k < n) ⊎ (k ≡ n)
-    go true e = inl (Prim.grind (arith, e))
-    go false e = inr (Prim.grind (arith, e, l))
 
 module _ (c : Parts) where
 
@@ -60,12 +53,12 @@ module _ (c : Parts) where
   pub more_layouts : (n q : ℕ) (l : Layout) (o : Option Layout) → slice_get c.layouts n ≡ Some l
       → o ≡ layout_of c.layouts l.block → IsOfLayouts c (n + 1) q
       → IsOfLayouts c n q ⊎ ((m : Layout) × (o ≡ Some m) × (q ≡ m.entry))
-  more_layouts n q l o e f (j, k, m, b, g, i, at) = go (below_or j n b)
+  more_layouts n q l o e f (j, k, m, b, g, i, at) = go (below_or_last j n b)
     where
       go : (j < n) ⊎ (j ≡ n) → IsOfLayouts c n q ⊎ ((m : Layout) × (o ≡ Some m) × (q ≡ m.entry))
       go (inl a) = inl (j, k, m, a, g, i, at)
       go (inr s) =
-          let z : k ≡ l = same_some k l (sym g ∙ ap (slice_get c.layouts) s ∙ e) in
+          let z : k ≡ l = same_Some k l (sym g ∙ ap (slice_get c.layouts) s ∙ e) in
           inr (m, f ∙ ap (λ (y : Layout). layout_of c.layouts y.block) (sym z) ∙ i, sym at)
 
   pub one_less : (n q : ℕ) (l : Layout) (o : Option Layout) → slice_get c.layouts n ≡ Some l
@@ -76,7 +69,7 @@ module _ (c : Parts) where
   pub one_more : (n q : ℕ) (l m : Layout) → slice_get c.layouts n ≡ Some l → Some m ≡ layout_of c.layouts l.block
       → IsOfLayouts c (n + 1) q → IsOfLayouts c n q ⊎ (q ≡ m.entry)
   one_more n q l m e f h =
-      ⊎_elim (λ a. inl a) (λ z. inr (z.2 ∙ ap (λ (y : Layout). y.entry) (sym (same_some m z.0 z.1))))
+      ⊎_elim (λ a. inl a) (λ z. inr (z.2 ∙ ap (λ (y : Layout). y.entry) (sym (same_Some m z.0 z.1))))
       (more_layouts n q l (Some m) e f h)
 
   pub of_block : (b : ℕ) (m : Layout) → layout_of c.layouts b ≡ Some m → IsEntry c m.entry
@@ -86,11 +79,11 @@ module _ (c : Parts) where
 
   pub more_children : (ts : List ChildTable) (n q : ℕ) (ch : ChildTable) → slice_get ts n ≡ Some ch
       → IsOfChildren ts (n + 1) q → IsOfChildren ts n q ⊎ (q ≡ ch.entry)
-  more_children ts n q ch e (k, d, l, g, at) = go (below_or k n l)
+  more_children ts n q ch e (k, d, l, g, at) = go (below_or_last k n l)
     where
       go : (k < n) ⊎ (k ≡ n) → IsOfChildren ts n q ⊎ (q ≡ ch.entry)
       go (inl a) = inl (k, d, a, g, at)
-      go (inr s) = inr (sym at ∙ ap (λ (y : ChildTable). y.entry) (same_some d ch (sym g ∙ ap (slice_get ts) s ∙ e)))
+      go (inr s) = inr (sym at ∙ ap (λ (y : ChildTable). y.entry) (same_Some d ch (sym g ∙ ap (slice_get ts) s ∙ e)))
 
   someone : (p : ℕ) (o : Owner) → Owns c p o → is_nobody o ≡ false → (a : Area) × LiesIn c p a
   someone p owner.Nobody h e = absurd (cc e)
@@ -118,7 +111,7 @@ module _ (c : Parts) where
   none_made q h = let l = h.1 in omega (arith, l)
 
   pub more_made : (n q : ℕ) → IsMade c (n + 1) q → IsMade c n q ⊎ IsMadeAt c n q
-  more_made n q (p, l, m) = ⊎_elim (λ a. inl (p, a, m)) (λ s. inr (subst (λ z. IsMadeAt c z q) s m)) (below_or p n l)
+  more_made n q (p, l, m) = ⊎_elim (λ a. inl (p, a, m)) (λ s. inr (subst (λ z. IsMadeAt c z q) s m)) (below_or_last p n l)
 
   -- ---- all
 
@@ -126,7 +119,7 @@ module _ (c : Parts) where
   within_instrs p k ch e = go (instr_at c p) refl
     where
       go : (o : Option Instr) → instr_at c p ≡ o → p < length c.instrs
-      go None z = absurd (none_some ch
+      go None z = absurd (none-some ch
           (sym (ap (λ (o : Option Instr). child_of (table_at c.forks (table_named o)) k) z) ∙ e))
       go (Some i) z = slice_get_within c.instrs p i z
 
@@ -178,7 +171,7 @@ module _ (c : Parts) where
         true_at x a = all_true x (subst (IsAmong x) e a)
 
 pub bare_at : (s : Search) (n : ℕ) → AreAll None n s.at → (p k : ℕ) → HasAt s p k → ⊥
-bare_at s n h p k e = none_some k (sym (h.1 p (Some k) e))
+bare_at s n h p k e = none-some k (sym (h.1 p (Some k) e))
 
 pub unmarked_at : (s : Search) (n : ℕ) → AreAll false n s.broken → (p : ℕ) → IsMarked s p → ⊥
 unmarked_at s n h p e = let z = h.1 p true e in cc z

@@ -1,7 +1,7 @@
 -- So many operands that are taken one after the other.
 use Rattle.std.proofs.Common.{◌≡◌, refl, ap, ◌∙◌, subst, ℕ, zero, suc, ◌+◌, ◌<◌, List, [], ◌∷◌, Some, None, arith}
+use Rattle.std.proofs.lemmas.Option.{none-some, same_Some}
 use Rattle.sp_rules.specs.Shapes.{Shape, Shaped, take_all}
-use Rattle.sp_rules.proofs.Facts.{same_some, none_some}
 use Rattle.sp_shapes.specs.declared.stacks.Stacks.{Stacks}
 use Rattle.sp_shapes.specs.declared.plans.Takes.TheVariants as takes
 use Rattle.sp_shapes.specs.declared.taking.Taken.{Taken}
@@ -41,7 +41,7 @@ gone_short st n count k rest h l e = go h.left refl
     go (suc m) z = record {
       goes = λ g. h.goes (g 0 0) ∙ ap (λ i. take_all i (list_of st rest) (g 0 0)) z
           ∙ ap (λ ss. take_all (suc m) ss (g 0 0)) e;
-      held = λ t y. absurd (none_some t y);
+      held = λ t y. absurd (none-some t y);
     }
 
 pub gone_all : (st : Stacks) (n count k rest : ℕ) → AreGone st n count k rest → k ≡ count
@@ -51,5 +51,5 @@ gone_all st n count k rest h e =
     record {
       goes = λ g. h.goes (g 0 0) ∙ ap (λ i. take_all i (list_of st rest) (g 0 0)) z;
       held =
-          λ t y. subst (Holds st) (ap (λ (w : Taken). w.rest) (same_some _ t y)) h.held;
+          λ t y. subst (Holds st) (ap (λ (w : Taken). w.rest) (same_Some _ t y)) h.held;
     }

@@ -2,8 +2,10 @@
 use Rattle.std.proofs.Common.{◌≡◌, ◌⊎◌, ◌≢◌, inl, inr, ⊎_elim, refl, ap, sym, ◌∙◌, subst, ℕ, suc, ◌<◌, ◌≤◌, List}
 use Rattle.std.proofs.Common.{[], ◌∷◌, ◌++◌, length, Option, Some, None, Bool, true, false, arith}
 use Rattle.std.specs.Prelude.{slice_get, slice_set, Result, Ok, Err, OnOk}
-use Rattle.std.proofs.lemmas.List.{length-set}
-use Rattle.std.proofs.lemmas.Option.{slice_get_within}
+use Rattle.std.proofs.lemmas.List.{length-set, length_push}
+use Rattle.std.proofs.lemmas.Option.{slice_get_within, none-some, same_Some}
+use Rattle.std.proofs.lemmas.Bool.{cases_eq}
+use Rattle.sp_base.proofs.Facts.{get_beside_set, get_where_set}
 use Rattle.sp_code.specs.declared.code.Parts.{Parts}
 use Rattle.sp_rules.specs.Areas.{Area, instr_at}
 use Rattle.sp_rules.specs.Shapes.{Shape, Shaped, Wrong, To, shaped}
@@ -11,7 +13,6 @@ use Rattle.sp_rules.specs.Reach.{IsBrought, IsWhole, Leads, Arrives}
 use Rattle.sp_rules.specs.Named.{LiesIn}
 use Rattle.sp_rules.specs.Rules.{ArrivesAt}
 use Rattle.sp_areas.specs.Only.{LiesOnlyIn}
-use Rattle.sp_rules.proofs.Facts.{same_some, none_some}
 use Rattle.sp_shapes.specs.declared.stacks.Stacks.{Stacks}
 use Rattle.sp_shapes.specs.declared.steps.Arrival.{Arrival}
 use Rattle.sp_shapes.specs.declared.steps.Step.{Step}
@@ -22,8 +23,8 @@ use Rattle.sp_shapes.specs.Steps.{brought, IsStep}
 use Rattle.sp_shapes.specs.Search.{IsAmong, HasAt, IsMarked, InTable, Known, BrokenBy, LacksBy, Comes, IsSound}
 use Rattle.sp_shapes.specs.Search.{IsStepped, Steps, KeepsV1, Leaps, Walks, Marked, Unknown, Fails, Goes, WalksOne}
 use Rattle.sp_shapes.specs.Search.{AreStepped, IsSane, is_set, waiting}
-use Rattle.sp_shapes.proofs.Ways.{same_number, only_in, lies}
-use Rattle.sp_shapes.proofs.Searching.{Moves, among_last, among_left, among_or, at_set, at_other, one_list, size_last}
+use Rattle.sp_shapes.proofs.Ways.{only_in, lies}
+use Rattle.sp_shapes.proofs.Searching.{Moves, among_last, among_left, among_or, one_list}
 use Rattle.sp_shapes.proofs.Searching.{table_covers, closed_stays}
 
 -- ---- what waits, and what is brought
@@ -33,8 +34,8 @@ waiting_left y None xs h = h
 waiting_left y (Some x) xs h = among_left y xs (x ∷ []) h
 
 waiting_here : (y : Arrival) (o : Option Arrival) (xs : List Arrival) → o ≡ Some y → IsAmong y (waiting o xs)
-waiting_here y None xs e = absurd (none_some y e)
-waiting_here y (Some x) xs e = subst (λ z. IsAmong z (xs ++ x ∷ [])) (same_some x y e) (among_last x xs)
+waiting_here y None xs e = absurd (none-some y e)
+waiting_here y (Some x) xs e = subst (λ z. IsAmong z (xs ++ x ∷ [])) (same_Some x y e) (among_last x xs)
 
 waiting_or : (y : Arrival) (o : Option Arrival) (xs : List Arrival) → IsAmong y (waiting o xs)
     → IsAmong y xs ⊎ (o ≡ Some y)
@@ -60,15 +61,15 @@ split_waits f s xs y h = ⊎_elim (λ a. ⊎_elim (λ b. inl b) (λ e. inr (inl 
 module _ (st : Stacks) where
   is_brought : (f s : Option Arrival) (y : Arrival) → Of f s y
       → IsBrought y.at (list_of st y.list) (brought st f (brought st s []))
-  is_brought None None y (inl e) = none_some y e
-  is_brought None None y (inr e) = none_some y e
-  is_brought None (Some x) y (inl e) = absurd (none_some y e)
-  is_brought None (Some x) y (inr e) = let z = same_some x y e in
+  is_brought None None y (inl e) = none-some y e
+  is_brought None None y (inr e) = none-some y e
+  is_brought None (Some x) y (inl e) = absurd (none-some y e)
+  is_brought None (Some x) y (inr e) = let z = same_Some x y e in
       inl (ap (λ (u : Arrival). u.at) (sym z), ap (λ (u : Arrival). list_of st u.list) (sym z))
-  is_brought (Some x) s y (inl e) = let z = same_some x y e in
+  is_brought (Some x) s y (inl e) = let z = same_Some x y e in
       inl (ap (λ (u : Arrival). u.at) (sym z), ap (λ (u : Arrival). list_of st u.list) (sym z))
-  is_brought (Some x) None y (inr e) = absurd (none_some y e)
-  is_brought (Some x) (Some w) y (inr e) = let z = same_some w y e in
+  is_brought (Some x) None y (inr e) = absurd (none-some y e)
+  is_brought (Some x) (Some w) y (inr e) = let z = same_Some w y e in
       inr (inl (ap (λ (u : Arrival). u.at) (sym z), ap (λ (u : Arrival). list_of st u.list) (sym z)))
 
   brought_is : (f s : Option Arrival) (q : ℕ) (ts : List Shape) → IsBrought q ts (brought st f (brought st s []))
@@ -155,8 +156,8 @@ module _ (c : Parts) (v1 : KeepsV1 c) (n : ℕ) (s : Search) (rest : List ℕ) (
 
     marked_stays : (q : ℕ) → IsMarked s q → slice_get (slice_set s.broken p true) q ≡ Some true
     marked_stays q m = ⊎_elim
-        (λ (z : p ≡ q). ap (slice_get (slice_set s.broken p true)) (sym z) ∙ at_set s.broken p true short)
-        (λ (d : p ≢ q). at_other s.broken p q true d ∙ m) (same_number p q)
+        (λ (z : p ≡ q). ap (slice_get (slice_set s.broken p true)) (sym z) ∙ get_where_set s.broken p true short)
+        (λ (d : p ≢ q). get_beside_set s.broken p q true d ∙ m) (cases_eq p q)
 
     lacks : BrokenBy c n p
     lacks =
@@ -166,12 +167,12 @@ module _ (c : Parts) (v1 : KeepsV1 c) (n : ℕ) (s : Search) (rest : List ℕ) (
 
     marked_new : (q : ℕ) → slice_get (slice_set s.broken p true) q ≡ Some true → BrokenBy c n q
     marked_new q m = ⊎_elim (λ (z : p ≡ q). subst (BrokenBy c n) z lacks)
-        (λ (d : p ≢ q). h.sound.marked q (sym (at_other s.broken p q true d) ∙ m)) (same_number p q)
+        (λ (d : p ≢ q). h.sound.marked q (sym (get_beside_set s.broken p q true d) ∙ m)) (cases_eq p q)
 
     failed : Steps c n (record s { stacks = st; broken = slice_set s.broken p true; frontier = rest })
     failed = steps_moved (record s { stacks = st; broken = slice_set s.broken p true; frontier = rest }) refl
         (record { extends = leap.extends; stays = λ q j w. w; more = marked_stays; waits = λ y a w. inl a })
-        (λ q j w. w) (λ j w. inl (at_set s.broken p true short))
+        (λ q j w. w) (λ j w. inl (get_where_set s.broken p true short))
         (record {
           stacks = leap.stacks;
           size = h.sound.size;
@@ -296,7 +297,7 @@ module _ (c : Parts) (v1 : KeepsV1 c) (s : Search) (rest : List ℕ) (p : ℕ) (
       let z = left_of c s new rest p w in
       record {
         stepped = (h.0, walked c v1 h.0 s rest p last h.1 new w);
-        less = λ e. (let a = ap length last in let b = size_last rest p in let d = ap length z.0 in
+        less = λ e. (let a = ap length last in let b = length_push rest p in let d = ap length z.0 in
             omega (arith, a, b, d));
         still = λ e. absurd (cc e);
         same = z.1;
@@ -305,7 +306,7 @@ module _ (c : Parts) (v1 : KeepsV1 c) (s : Search) (rest : List ℕ) (p : ℕ) (
   pub past_one : length c.instrs ≤ p → WalksOne c s (record s { frontier = rest }) true
   past_one past = record {
     stepped = (h.0, walked_past c v1 h.0 s rest p last h.1 past);
-    less = λ e. (let a = ap length last in let b = size_last rest p in omega (arith, a, b));
+    less = λ e. (let a = ap length last in let b = length_push rest p in omega (arith, a, b));
     still = λ e. absurd (cc e);
     same = refl;
   }

@@ -3,6 +3,8 @@ use Rattle.std.proofs.Common.{◌≡◌, ◌⊎◌, ◌≢◌, inl, inr, ⊎_eli
 use Rattle.std.proofs.Common.{◌==◌, List, [], ◌∷◌, length, Option, Some, None, Bool, true, false, if◌then◌else◌, arith}
 use Rattle.std.proofs.Common.{eqb-true}
 use Rattle.std.specs.Prelude.{slice_get, nat_lt}
+use Rattle.std.proofs.lemmas.Bool.{cases_eq}
+use Rattle.std.proofs.lemmas.Option.{none-some, same_Some}
 use Rattle.sp_code.specs.declared.instr.Instr.{Instr}
 use Rattle.sp_code.specs.declared.instr.Instr.TheVariants as i
 use Rattle.sp_code.specs.declared.code.Layout.{Layout}
@@ -15,25 +17,17 @@ use Rattle.sp_rules.specs.Shapes.{Shape, shaped}
 use Rattle.sp_rules.specs.Reach.{IsIn, IsArea, Goes, Arrives, Brings, Reaches, Leads, nexts}
 use Rattle.sp_rules.specs.Named.{LiesIn, NotThere, InTwo, names_there}
 use Rattle.sp_rules.specs.Rules.{ArrivesAt}
-use Rattle.sp_rules.proofs.Facts.{same_some, none_some, no_true}
 use Rattle.sp_areas.specs.Only.{LiesOnlyIn}
 use Rattle.sp_shapes.specs.Search.{KeepsV1}
 use Rattle.sp_shapes.proofs.Forms.{leads_in}
 
 -- ---- areas are the same or not
 
-pub same_number : (m n : ℕ) → (m ≡ n) ⊎ (m ≢ n)
-same_number m n = go (m == n) refl
-  where
-    go : (t : Bool) → (m == n) ≡ t → (m ≡ n) ⊎ (m ≢ n)
-    go true e = inl (eqb-true m n e)
-    go false e = inr (λ s. no_true (m == n) (Rattle.std.proofs.lemmas.Bool.eq-eqb m n s) e)
-
 same_area : (a b : Area) → (a ≡ b) ⊎ (a ≢ b)
-same_area (Body b) (Body d) = ⊎_elim (λ e. inl (ap Body e)) (λ f. inr (λ s. f (cc s))) (same_number b d)
+same_area (Body b) (Body d) = ⊎_elim (λ e. inl (ap Body e)) (λ f. inr (λ s. f (cc s))) (cases_eq b d)
 same_area (Body b) (Child d q j) = inr (λ s. cc s)
 same_area (Child a p k) (Body d) = inr (λ s. cc s)
-same_area (Child a p k) (Child d q j) = go (same_area a d) (same_number p q) (same_number k j)
+same_area (Child a p k) (Child d q j) = go (same_area a d) (cases_eq p q) (cases_eq k j)
   where
     go : (a ≡ d) ⊎ (a ≢ d) → (p ≡ q) ⊎ (p ≢ q) → (k ≡ j) ⊎ (k ≢ j)
         → (Child a p k ≡ Child d q j) ⊎ (Child a p k ≢ Child d q j)
@@ -79,13 +73,13 @@ arrived c a (suc n) q ts (inr (p, ss, h, whole, leads)) = let r = arrived c a n 
 
 pub block_in : (ls : List Layout) (b : ℕ) (l : Layout) → layout_of ls b ≡ Some l
     → (j : ℕ) × (slice_get ls j ≡ Some l) × (l.block ≡ b)
-block_in [] b l e = absurd (none_some l e)
+block_in [] b l e = absurd (none-some l e)
 block_in (m ∷ ls) b l e = go (m.block == b) refl e (block_in ls b l)
   where
     go : (t : Bool) → m.block == b ≡ t → (if t then Some m else layout_of ls b) ≡ Some l
         → (layout_of ls b ≡ Some l → (j : ℕ) × (slice_get ls j ≡ Some l) × (l.block ≡ b))
         → (j : ℕ) × (slice_get (m ∷ ls) j ≡ Some l) × (l.block ≡ b)
-    go true t e on = (zero, e, ap (λ (x : Layout). x.block) (sym (same_some m l e)) ∙ eqb-true m.block b t)
+    go true t e on = (zero, e, ap (λ (x : Layout). x.block) (sym (same_Some m l e)) ∙ eqb-true m.block b t)
     go false t e on = let r = on e in (suc r.0, r.1, r.2)
 
 is_below : (m n : ℕ) → (n ≤ m → ⊥) → m < n
@@ -149,7 +143,7 @@ module _ (c : Parts) (v1 : KeepsV1 c) where
       ch = h.2.0
 
       go : (o : Option ℕ) → table_named (instr_at c p) ≡ o → entry c (Child a p k) < length c.instrs
-      go None e = absurd (none_some ch (sym (ap (λ (z : Option ℕ). child_of (table_at c.forks z) k) e) ∙ h.2.1))
+      go None e = absurd (none-some ch (sym (ap (λ (z : Option ℕ). child_of (table_at c.forks z) k) e) ∙ h.2.1))
       go (Some t) e =
           is_below (entry c (Child a p k)) (length c.instrs)
           (λ past. v1 (entry c (Child a p k))

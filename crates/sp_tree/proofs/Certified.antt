@@ -1,5 +1,9 @@
 -- The rules of interference by a test: sets that are closed under calls are given, and hold all that paths reach.
 use Rattle.std.proofs.Common.{◌≡◌, ◌⊎◌, inl, inr, ℕ, zero, suc, ◌+◌, ◌<◌, Bool, true, false, not, ◌&&◌, ◌||◌, ◌==◌, List, [], ◌∷◌, ◌++◌, length, slice_get, nat_lt, Option, Some, None, refl, sym, ap, ◌∙◌, subst, arith, eqb-true, eq-eqb}
+use Rattle.std.proofs.Common.{zero-add}
+use Rattle.std.proofs.lemmas.Bool.{ltb-true, or_cases, or_left, or_right}
+use Rattle.std.proofs.lemmas.Option.{same_Some}
+use Rattle.sp_base.proofs.Facts.{first_true, is_plus_none, next_goes_right, not_refutes, second_true}
 use Rattle.sp_tree.specs.declared.checked.Role.{Role}
 use Rattle.sp_tree.specs.declared.checked.Role.TheVariants as role
 use Rattle.sp_tree.specs.Plain.{Actuals, Program, Variable, Block, Stmts, No, And}
@@ -8,33 +12,6 @@ use Rattle.sp_tree.specs.Sets.{IsBelow, IsFree, Reach, IsTarget, IsSeen, IsUsed,
 use Rattle.sp_tree.specs.Formed.{is_answer}
 use Rattle.sp_tree.specs.Interference.{refs, IsMember, AllDifferent, KeepsI1, KeepsRules, IsFreeOfInterference}
 use Rattle.sp_tree.proofs.UsesOf.{Among, stmt_uses, stmts_uses, stmt_among, stmts_among}
-
-pub and_left : (a b : Bool) → a && b ≡ true → a ≡ true
-and_left true b h = refl
-and_left false b h = h
-
-pub and_right : (a b : Bool) → a && b ≡ true → b ≡ true
-and_right true b h = h
-and_right false b h = absurd (cc h)
-
-pub or_cases : (a b : Bool) → a || b ≡ true → (a ≡ true) ⊎ (b ≡ true)
-or_cases true b h = inl refl
-or_cases false b h = inr h
-
-pub or_left : (a b : Bool) → a ≡ true → a || b ≡ true
-or_left true b h = refl
-or_left false b h = absurd (cc h)
-
-pub or_right : (a b : Bool) → b ≡ true → a || b ≡ true
-or_right true b h = refl
-or_right false b h = h
-
-pub not_true : (b : Bool) → not b ≡ true → b ≡ true → ⊥
-not_true true h e = cc h
-not_true false h e = cc e
-
-pub some_is : {A : Type 0} (x y : A) → Some x ≡ Some y → x ≡ y
-some_is x y e = cc e
 
 abbrev pub has : List ℕ → ℕ → Bool
 has [] x = false
@@ -46,10 +23,10 @@ each f (x ∷ xs) = f x && each f xs
 
 pub each_has : (f : ℕ → Bool) (xs : List ℕ) (x : ℕ) → each f xs ≡ true → has xs x ≡ true → f x ≡ true
 each_has f [] x h e = absurd (cc e)
-each_has f (y ∷ ys) x h e = go (or_cases (x == y) (has ys x) e) (λ k. each_has f ys x (and_right (f y) (each f ys) h) k)
+each_has f (y ∷ ys) x h e = go (or_cases (x == y) (has ys x) e) (λ k. each_has f ys x (second_true (f y) (each f ys) h) k)
   where
     go : (x == y ≡ true) ⊎ (has ys x ≡ true) → (has ys x ≡ true → f x ≡ true) → f x ≡ true
-    go (inl k) ih = subst (λ z. f z ≡ true) (sym (eqb-true x y k)) (and_left (f y) (each f ys) h)
+    go (inl k) ih = subst (λ z. f z ≡ true) (sym (eqb-true x y k)) (first_true (f y) (each f ys) h)
     go (inr k) ih = ih k
 
 pub member_has : (x : ℕ) (xs : List ℕ) → IsMember x xs → has xs x ≡ true
@@ -123,9 +100,6 @@ variable_is : (f : Variable → Bool) (o : Option Variable) → by_variable f o 
 variable_is f None h = absurd (cc h)
 variable_is f (Some i) h = (i, refl, h)
 
-below_n : (n m : ℕ) → nat_lt n m ≡ true → n < m
-below_n n m h = grind (arith, h)
-
 -- all the uses pass the test
 abbrev pub all_uses : (Use → Bool) → List Use → Bool
 all_uses f [] = true
@@ -133,14 +107,14 @@ all_uses f (u ∷ us) = f u && all_uses f us
 
 pub use_passes : (f : Use → Bool) (us : List Use) (u : Use) → all_uses f us ≡ true → Among u us → f u ≡ true
 use_passes f [] u h a = absurd a
-use_passes f (v ∷ vs) u h (inl e) = subst (λ z. f z ≡ true) (sym e) (and_left (f v) (all_uses f vs) h)
-use_passes f (v ∷ vs) u h (inr a) = use_passes f vs u (and_right (f v) (all_uses f vs) h) a
+use_passes f (v ∷ vs) u h (inl e) = subst (λ z. f z ≡ true) (sym e) (first_true (f v) (all_uses f vs) h)
+use_passes f (v ∷ vs) u h (inr a) = use_passes f vs u (second_true (f v) (all_uses f vs) h) a
 
 abbrev pub no_common : List ℕ → List ℕ → Bool
 no_common xs ys = each (λ x. not (has ys x)) xs
 
 common_not : (xs ys : List ℕ) (x : ℕ) → no_common xs ys ≡ true → has xs x ≡ true → has ys x ≡ true → ⊥
-common_not xs ys x h a b = not_true (has ys x) (each_has (λ x. not (has ys x)) xs x h a) b
+common_not xs ys x h a b = not_refutes (has ys x) (each_has (λ x. not (has ys x)) xs x h a) b
 
 abbrev pub all_different : List ℕ → Bool
 all_different [] = true
@@ -148,7 +122,7 @@ all_different (x ∷ xs) = not (has xs x) && all_different xs
 
 are_different : (xs : List ℕ) → all_different xs ≡ true → AllDifferent xs
 are_different [] h = tt
-are_different (x ∷ xs) h = (λ m. not_true (has xs x) (and_left (not (has xs x)) (all_different xs) h) (member_has x xs m), are_different xs (and_right (not (has xs x)) (all_different xs) h))
+are_different (x ∷ xs) h = (λ m. not_refutes (has xs x) (first_true (not (has xs x)) (all_different xs) h) (member_has x xs m), are_different xs (second_true (not (has xs x)) (all_different xs) h))
 
 has_left : (xs ys : List ℕ) (x : ℕ) → has xs x ≡ true → has (xs ++ ys) x ≡ true
 has_left [] ys x h = absurd (cc h)
@@ -259,39 +233,30 @@ module _ (p : Program) (claims : List Claim) where
   body_at : (b : ℕ) (ks : List Block) (n : ℕ) (k : Block) → bodies b ks ≡ true → slice_get ks n ≡ Some k → all_uses (is_closed (b + n)) (stmt_uses k.body) && all_uses keeps (stmt_uses k.body) ≡ true
   body_at b [] n k h e = absurd (cc e)
   body_at b (x ∷ ks) zero k h e =
-      let is : x ≡ k = some_is x k e in
-      let first : all_uses (is_closed b) (stmt_uses x.body) && all_uses keeps (stmt_uses x.body) ≡ true = and_left _ (bodies (suc b) ks) h in
-      subst (λ (z : ℕ × Block). all_uses (is_closed z.0) (stmt_uses z.1.body) && all_uses keeps (stmt_uses z.1.body) ≡ true) (λ i. (add_none b i, is i)) first
-    where
-      add_none : (b : ℕ) → b ≡ b + 0
-      add_none b = omega arith
-  body_at b (x ∷ ks) (suc n) k h e = subst (λ z. all_uses (is_closed z) (stmt_uses k.body) && all_uses keeps (stmt_uses k.body) ≡ true) (moved b n) (body_at (suc b) ks n k (and_right _ (bodies (suc b) ks) h) e)
-    where
-      moved : (b n : ℕ) → suc b + n ≡ b + suc n
-      moved b n = omega arith
+      let is : x ≡ k = same_Some x k e in
+      let first : all_uses (is_closed b) (stmt_uses x.body) && all_uses keeps (stmt_uses x.body) ≡ true = first_true _ (bodies (suc b) ks) h in
+      subst (λ (z : ℕ × Block). all_uses (is_closed z.0) (stmt_uses z.1.body) && all_uses keeps (stmt_uses z.1.body) ≡ true) (λ i. (is_plus_none b i, is i)) first
+  body_at b (x ∷ ks) (suc n) k h e = subst (λ z. all_uses (is_closed z) (stmt_uses k.body) && all_uses keeps (stmt_uses k.body) ≡ true) (next_goes_right b n) (body_at (suc b) ks n k (second_true _ (bodies (suc b) ks) h) e)
 
   module _ (all : bodies 0 p.blocks ≡ true) where
     body_of : (b : ℕ) (k : Block) → slice_get p.blocks b ≡ Some k → all_uses (is_closed b) (stmt_uses k.body) && all_uses keeps (stmt_uses k.body) ≡ true
-    body_of b k e = subst (λ z. all_uses (is_closed z) (stmt_uses k.body) && all_uses keeps (stmt_uses k.body) ≡ true) (none_add b) (body_at 0 p.blocks b k all e)
-      where
-        none_add : (b : ℕ) → 0 + b ≡ b
-        none_add b = omega arith
+    body_of b k e = subst (λ z. all_uses (is_closed z) (stmt_uses k.body) && all_uses keeps (stmt_uses k.body) ≡ true) (zero-add b) (body_at 0 p.blocks b k all e)
 
     closed_use : (b : ℕ) (k : Block) → slice_get p.blocks b ≡ Some k → (u : Use) → In_stmt k.body u → is_closed b u ≡ true
-    closed_use b k e u h = use_passes (is_closed b) (stmt_uses k.body) u (and_left _ (all_uses keeps (stmt_uses k.body)) (body_of b k e)) (stmt_among k.body u h)
+    closed_use b k e u h = use_passes (is_closed b) (stmt_uses k.body) u (first_true _ (all_uses keeps (stmt_uses k.body)) (body_of b k e)) (stmt_among k.body u h)
 
     -- what paths reach was claimed
     pub reached_target : (bs : List ℕ) (x b : ℕ) (k : Block) → slice_get p.blocks b ≡ Some k → Reach p (In_stmt k.body) bs (Target x) → IsFree p b x → has (T b) x ≡ true
     reached_target [] x b k e r f = covered b x (T b) (closed_use b k e (Target x) r) f
     reached_target (c ∷ bs) x b k e r f =
         let inner : has (T c) x ≡ true = reached_target bs x c r.2 r.3 r.5 r.4 in
-        covered b x (T b) (each_has (covers b (T b)) (T c) x (and_left _ (each (covers b (S b)) (S c)) (closed_use b k e (CallOf c r.0) r.1)) inner) f
+        covered b x (T b) (each_has (covers b (T b)) (T c) x (first_true _ (each (covers b (S b)) (S c)) (closed_use b k e (CallOf c r.0) r.1)) inner) f
 
     pub reached_seen : (bs : List ℕ) (x b : ℕ) (k : Block) → slice_get p.blocks b ≡ Some k → Reach p (In_stmt k.body) bs (Seen x) → IsFree p b x → has (S b) x ≡ true
     reached_seen [] x b k e r f = covered b x (S b) (closed_use b k e (Seen x) r) f
     reached_seen (c ∷ bs) x b k e r f =
         let inner : has (S c) x ≡ true = reached_seen bs x c r.2 r.3 r.5 r.4 in
-        covered b x (S b) (each_has (covers b (S b)) (S c) x (and_right (each (covers b (T b)) (T c)) _ (closed_use b k e (CallOf c r.0) r.1)) inner) f
+        covered b x (S b) (each_has (covers b (S b)) (S c) x (second_true (each (covers b (T b)) (T c)) _ (closed_use b k e (CallOf c r.0) r.1)) inner) f
 
     aimed_here : (us : List Use) (x : ℕ) → Among (Target x) us → has (aims_of us) x ≡ true
     aimed_here [] x a = absurd a
@@ -363,21 +328,21 @@ module _ (p : Program) (claims : List Claim) where
 
     I1_kept : (ss : Stmts) → keeps_I1 ss ≡ true → KeepsI1 p ss
     I1_kept No h = tt
-    I1_kept (And s rest) h = (one, other, I1_kept rest (and_right _ (keeps_I1 rest) h))
+    I1_kept (And s rest) h = (one, other, I1_kept rest (second_true _ (keeps_I1 rest) h))
       where
         both : (no_common (aims_of (stmt_uses s)) (aims_of (stmts_uses rest)) && no_common (aims_of (stmt_uses s)) (sees_of (stmts_uses rest))) && no_common (aims_of (stmts_uses rest)) (sees_of (stmt_uses s)) ≡ true
-        both = and_left _ (keeps_I1 rest) h
+        both = first_true _ (keeps_I1 rest) h
 
         writes : no_common (aims_of (stmt_uses s)) (aims_of (stmts_uses rest)) && no_common (aims_of (stmt_uses s)) (sees_of (stmts_uses rest)) ≡ true
-        writes = and_left _ (no_common (aims_of (stmts_uses rest)) (sees_of (stmt_uses s))) both
+        writes = first_true _ (no_common (aims_of (stmts_uses rest)) (sees_of (stmt_uses s))) both
 
         one : (x : ℕ) → IsTarget p (In_stmt s) x → IsUsed p (In_stmts rest) x → ⊥
-        one x t (inl u) = common_not (aims_of (stmt_uses s)) (aims_of (stmts_uses rest)) x (and_left _ (no_common (aims_of (stmt_uses s)) (sees_of (stmts_uses rest))) writes) (target_has (In_stmt s) (stmt_uses s) (stmt_among s) x t) (target_has (In_stmts rest) (stmts_uses rest) (stmts_among rest) x u)
-        one x t (inr u) = common_not (aims_of (stmt_uses s)) (sees_of (stmts_uses rest)) x (and_right (no_common (aims_of (stmt_uses s)) (aims_of (stmts_uses rest))) _ writes) (target_has (In_stmt s) (stmt_uses s) (stmt_among s) x t) (seen_has (In_stmts rest) (stmts_uses rest) (stmts_among rest) x u)
+        one x t (inl u) = common_not (aims_of (stmt_uses s)) (aims_of (stmts_uses rest)) x (first_true _ (no_common (aims_of (stmt_uses s)) (sees_of (stmts_uses rest))) writes) (target_has (In_stmt s) (stmt_uses s) (stmt_among s) x t) (target_has (In_stmts rest) (stmts_uses rest) (stmts_among rest) x u)
+        one x t (inr u) = common_not (aims_of (stmt_uses s)) (sees_of (stmts_uses rest)) x (second_true (no_common (aims_of (stmt_uses s)) (aims_of (stmts_uses rest))) _ writes) (target_has (In_stmt s) (stmt_uses s) (stmt_among s) x t) (seen_has (In_stmts rest) (stmts_uses rest) (stmts_among rest) x u)
 
         other : (x : ℕ) → IsUsed p (In_stmt s) x → IsTarget p (In_stmts rest) x → ⊥
         other x (inl u) t = one x u (inl t)
-        other x (inr u) t = common_not (aims_of (stmts_uses rest)) (sees_of (stmt_uses s)) x (and_right (no_common (aims_of (stmt_uses s)) (aims_of (stmts_uses rest)) && no_common (aims_of (stmt_uses s)) (sees_of (stmts_uses rest))) _ both) (target_has (In_stmts rest) (stmts_uses rest) (stmts_among rest) x t) (seen_has (In_stmt s) (stmt_uses s) (stmt_among s) x u)
+        other x (inr u) t = common_not (aims_of (stmts_uses rest)) (sees_of (stmt_uses s)) x (second_true (no_common (aims_of (stmt_uses s)) (aims_of (stmts_uses rest)) && no_common (aims_of (stmt_uses s)) (sees_of (stmts_uses rest))) _ both) (target_has (In_stmts rest) (stmts_uses rest) (stmts_among rest) x t) (seen_has (In_stmt s) (stmt_uses s) (stmt_among s) x u)
 
     none_here : (xs : List ℕ) (x : ℕ) → each (λ y. false) xs ≡ true → has xs x ≡ true → ⊥
     none_here xs x h a = let e = each_has (λ y. false) xs x h a in absurd (cc e)
@@ -386,22 +351,22 @@ module _ (p : Program) (claims : List Claim) where
     use_kept (Target x) h = tt
     use_kept (Seen x) h = tt
     use_kept (CallOf c args) h =
-        let clear : no_common (refs args) (T c) && no_common (refs args) (S c) ≡ true = and_right (all_different (refs args)) _ h in (
-          are_different (refs args) (and_left _ (no_common (refs args) (T c) && no_common (refs args) (S c)) h),
+        let clear : no_common (refs args) (T c) && no_common (refs args) (S c) ≡ true = second_true (all_different (refs args)) _ h in (
+          are_different (refs args) (first_true _ (no_common (refs args) (T c) && no_common (refs args) (S c)) h),
           λ x m i. apart x m i clear,
         )
       where
         apart : (x : ℕ) → IsMember x (refs args) → Implicit p c x → no_common (refs args) (T c) && no_common (refs args) (S c) ≡ true → ⊥
-        apart x m (k, e, f, inl t) clear = common_not (refs args) (T c) x (and_left _ (no_common (refs args) (S c)) clear) (member_has x (refs args) m) (reached_target t.0 x c k e t.1 f)
-        apart x m (k, e, f, inr t) clear = common_not (refs args) (S c) x (and_right (no_common (refs args) (T c)) _ clear) (member_has x (refs args) m) (reached_seen t.0 x c k e t.1 f)
+        apart x m (k, e, f, inl t) clear = common_not (refs args) (T c) x (first_true _ (no_common (refs args) (S c)) clear) (member_has x (refs args) m) (reached_target t.0 x c k e t.1 f)
+        apart x m (k, e, f, inr t) clear = common_not (refs args) (S c) x (second_true (no_common (refs args) (T c)) _ clear) (member_has x (refs args) m) (reached_seen t.0 x c k e t.1 f)
     use_kept (ParallelOf ss) h = I1_kept ss h
     use_kept (ForallOf x s) h =
-        let i = variable_is (λ i. is_index i.role) (slice_get p.variables x) (and_left _ (each (λ y. false) (aims_of (stmt_uses s))) h) in
-        ((i.0, i.1, index_is i.0.role i.2), λ y t. none_here (aims_of (stmt_uses s)) y (and_right (by_variable (λ i. is_index i.role) (slice_get p.variables x)) _ h) (target_has (In_stmt s) (stmt_uses s) (stmt_among s) y t))
+        let i = variable_is (λ i. is_index i.role) (slice_get p.variables x) (first_true _ (each (λ y. false) (aims_of (stmt_uses s))) h) in
+        ((i.0, i.1, index_is i.0.role i.2), λ y t. none_here (aims_of (stmt_uses s)) y (second_true (by_variable (λ i. is_index i.role) (slice_get p.variables x)) _ h) (target_has (In_stmt s) (stmt_uses s) (stmt_among s) y t))
     use_kept Stop h = tt
 
     pub blocks_kept : (b : ℕ) (k : Block) → slice_get p.blocks b ≡ Some k → (u : Use) → In_stmt k.body u → KeepsRules p u
-    blocks_kept b k e u h = use_kept u (use_passes keeps (stmt_uses k.body) u (and_right (all_uses (is_closed b) (stmt_uses k.body)) _ (body_of b k e)) (stmt_among k.body u h))
+    blocks_kept b k e u h = use_kept u (use_passes keeps (stmt_uses k.body) u (second_true (all_uses (is_closed b) (stmt_uses k.body)) _ (body_of b k e)) (stmt_among k.body u h))
 
 -- the facts that names and types give
 
@@ -416,10 +381,10 @@ parents_in b (k ∷ ks) = parent_before b k.parent && parents_in (suc b) ks
 parent_at : (b : ℕ) (ks : List Block) (n q : ℕ) (k : Block) → parents_in b ks ≡ true → slice_get ks n ≡ Some k → k.parent ≡ Some q → q < b + n
 parent_at b [] n q k h e d = absurd (cc e)
 parent_at b (x ∷ ks) zero q k h e d =
-    let is : x ≡ k = some_is x k e in
-    let lt : nat_lt q b ≡ true = subst (λ o. parent_before b o ≡ true) (ap (λ (z : Block). z.parent) is ∙ d) (and_left _ (parents_in (suc b) ks) h) in
-    let less = below_n q b lt in omega (arith, less)
-parent_at b (x ∷ ks) (suc n) q k h e d = let less = parent_at (suc b) ks n q k (and_right _ (parents_in (suc b) ks) h) e d in omega (arith, less)
+    let is : x ≡ k = same_Some x k e in
+    let lt : nat_lt q b ≡ true = subst (λ o. parent_before b o ≡ true) (ap (λ (z : Block). z.parent) is ∙ d) (first_true _ (parents_in (suc b) ks) h) in
+    let less = ltb-true q b lt in omega (arith, less)
+parent_at b (x ∷ ks) (suc n) q k h e d = let less = parent_at (suc b) ks n q k (second_true _ (parents_in (suc b) ks) h) e d in omega (arith, less)
 
 abbrev pub consoles_in : ℕ → List Variable → Bool
 consoles_in x [] = true
@@ -428,12 +393,12 @@ consoles_in x (i ∷ is) = (not (is_console i.role) || ((i.block == 0) && nat_lt
 console_at : (x : ℕ) (is : List Variable) (n : ℕ) (i : Variable) → consoles_in x is ≡ true → slice_get is n ≡ Some i → i.role ≡ role.Console → (i.block ≡ 0) × (x + n < 2)
 console_at x [] n i h e d = absurd (cc e)
 console_at x (j ∷ is) zero i h e d =
-    let same : j ≡ i = some_is j i e in
-    let test : (not (is_console i.role) || ((i.block == 0) && nat_lt x 2)) ≡ true = subst (λ (z : Variable). (not (is_console z.role) || ((z.block == 0) && nat_lt x 2)) ≡ true) same (and_left _ (consoles_in (suc x) is) h) in
+    let same : j ≡ i = same_Some j i e in
+    let test : (not (is_console i.role) || ((i.block == 0) && nat_lt x 2)) ≡ true = subst (λ (z : Variable). (not (is_console z.role) || ((z.block == 0) && nat_lt x 2)) ≡ true) same (first_true _ (consoles_in (suc x) is) h) in
     let both : (i.block == 0) && nat_lt x 2 ≡ true = subst (λ r. (not (is_console r) || ((i.block == 0) && nat_lt x 2)) ≡ true) d test in
-    let less = below_n x 2 (and_right (i.block == 0) _ both) in
-    (eqb-true i.block 0 (and_left _ (nat_lt x 2) both), omega (arith, less))
-console_at x (j ∷ is) (suc n) i h e d = let r = console_at (suc x) is n i (and_right _ (consoles_in (suc x) is) h) e d in let less = r.1 in (r.0, omega (arith, less))
+    let less = ltb-true x 2 (second_true (i.block == 0) _ both) in
+    (eqb-true i.block 0 (first_true _ (nat_lt x 2) both), omega (arith, less))
+console_at x (j ∷ is) (suc n) i h e d = let r = console_at (suc x) is n i (second_true _ (consoles_in (suc x) is) h) e d in let less = r.1 in (r.0, omega (arith, less))
 
 abbrev pub answer_in : List Variable → ℕ → Option ℕ → Bool
 answer_in is b None = true
@@ -446,17 +411,11 @@ answers_in is b (k ∷ ks) = answer_in is b k.answer && answers_in is (suc b) ks
 answer_at : (is : List Variable) (b : ℕ) (ks : List Block) (n x : ℕ) (k : Block) → answers_in is b ks ≡ true → slice_get ks n ≡ Some k → k.answer ≡ Some x → (i : Variable) × (slice_get is x ≡ Some i) × (i.role ≡ role.Answer) × (i.block ≡ b + n)
 answer_at is b [] n x k h e d = absurd (cc e)
 answer_at is b (j ∷ ks) zero x k h e d =
-    let same : j ≡ k = some_is j k e in
-    let test : answer_in is b (Some x) ≡ true = subst (λ o. answer_in is b o ≡ true) (ap (λ (z : Block). z.answer) same ∙ d) (and_left _ (answers_in is (suc b) ks) h) in
+    let same : j ≡ k = same_Some j k e in
+    let test : answer_in is b (Some x) ≡ true = subst (λ o. answer_in is b o ≡ true) (ap (λ (z : Block). z.answer) same ∙ d) (first_true _ (answers_in is (suc b) ks) h) in
     let i = variable_is (λ i. is_answer i.role && (i.block == b)) (slice_get is x) test in
-    (i.0, i.1, answer_is i.0.role (and_left _ (i.0.block == b) i.2), eqb-true i.0.block b (and_right (is_answer i.0.role) _ i.2) ∙ add_none b)
-  where
-    add_none : (b : ℕ) → b ≡ b + 0
-    add_none b = omega arith
-answer_at is b (j ∷ ks) (suc n) x k h e d = let r = answer_at is (suc b) ks n x k (and_right _ (answers_in is (suc b) ks) h) e d in (r.0, r.1, r.2, r.3 ∙ moved b n)
-  where
-    moved : (b n : ℕ) → suc b + n ≡ b + suc n
-    moved b n = omega arith
+    (i.0, i.1, answer_is i.0.role (first_true _ (i.0.block == b) i.2), eqb-true i.0.block b (second_true (is_answer i.0.role) _ i.2) ∙ is_plus_none b)
+answer_at is b (j ∷ ks) (suc n) x k h e d = let r = answer_at is (suc b) ks n x k (second_true _ (answers_in is (suc b) ks) h) e d in (r.0, r.1, r.2, r.3 ∙ next_goes_right b n)
 
 -- with these claims the program keeps the rules
 abbrev pub keeps_rules : Program → List Claim → Bool
@@ -466,25 +425,22 @@ keeps_rules p claims =
 
 pub certified : (p : Program) (claims : List Claim) → keeps_rules p claims ≡ true → IsFreeOfInterference p
 certified p claims h = record {
-  blocks = blocks_kept p claims (and_left (bodies p claims 0 p.blocks) (parents_in 0 p.blocks) one);
-  parents = λ b k q e d. let less = parent_at 0 p.blocks b q k (and_right (bodies p claims 0 p.blocks) (parents_in 0 p.blocks) one) e d in omega (arith, less);
-  consoles = λ x i e d. let r = console_at 0 p.variables x i (and_left (consoles_in 0 p.variables) (answers_in p.variables 0 p.blocks) three) e d in let less = r.1 in (r.0, omega (arith, less));
-  answers = λ b k x e d. let r = answer_at p.variables 0 p.blocks b x k (and_right (consoles_in 0 p.variables) (answers_in p.variables 0 p.blocks) three) e d in (r.0, r.1, r.2, r.3 ∙ none_add b);
-  input = let i = variable_is (λ i. is_console i.role) (slice_get p.variables 0) (and_left (by_variable (λ i. is_console i.role) (slice_get p.variables 0)) (by_variable (λ i. is_console i.role) (slice_get p.variables 1)) four) in (i.0, i.1, console_is i.0.role i.2);
-  output = let i = variable_is (λ i. is_console i.role) (slice_get p.variables 1) (and_right (by_variable (λ i. is_console i.role) (slice_get p.variables 0)) (by_variable (λ i. is_console i.role) (slice_get p.variables 1)) four) in (i.0, i.1, console_is i.0.role i.2);
+  blocks = blocks_kept p claims (first_true (bodies p claims 0 p.blocks) (parents_in 0 p.blocks) one);
+  parents = λ b k q e d. let less = parent_at 0 p.blocks b q k (second_true (bodies p claims 0 p.blocks) (parents_in 0 p.blocks) one) e d in omega (arith, less);
+  consoles = λ x i e d. let r = console_at 0 p.variables x i (first_true (consoles_in 0 p.variables) (answers_in p.variables 0 p.blocks) three) e d in let less = r.1 in (r.0, omega (arith, less));
+  answers = λ b k x e d. let r = answer_at p.variables 0 p.blocks b x k (second_true (consoles_in 0 p.variables) (answers_in p.variables 0 p.blocks) three) e d in (r.0, r.1, r.2, r.3 ∙ zero-add b);
+  input = let i = variable_is (λ i. is_console i.role) (slice_get p.variables 0) (first_true (by_variable (λ i. is_console i.role) (slice_get p.variables 0)) (by_variable (λ i. is_console i.role) (slice_get p.variables 1)) four) in (i.0, i.1, console_is i.0.role i.2);
+  output = let i = variable_is (λ i. is_console i.role) (slice_get p.variables 1) (second_true (by_variable (λ i. is_console i.role) (slice_get p.variables 0)) (by_variable (λ i. is_console i.role) (slice_get p.variables 1)) four) in (i.0, i.1, console_is i.0.role i.2);
 }
   where
     one : bodies p claims 0 p.blocks && parents_in 0 p.blocks ≡ true
-    one = and_left _ ((consoles_in 0 p.variables && answers_in p.variables 0 p.blocks) && (by_variable (λ i. is_console i.role) (slice_get p.variables 0) && by_variable (λ i. is_console i.role) (slice_get p.variables 1))) h
+    one = first_true _ ((consoles_in 0 p.variables && answers_in p.variables 0 p.blocks) && (by_variable (λ i. is_console i.role) (slice_get p.variables 0) && by_variable (λ i. is_console i.role) (slice_get p.variables 1))) h
 
     two : (consoles_in 0 p.variables && answers_in p.variables 0 p.blocks) && (by_variable (λ i. is_console i.role) (slice_get p.variables 0) && by_variable (λ i. is_console i.role) (slice_get p.variables 1)) ≡ true
-    two = and_right (bodies p claims 0 p.blocks && parents_in 0 p.blocks) _ h
+    two = second_true (bodies p claims 0 p.blocks && parents_in 0 p.blocks) _ h
 
     three : consoles_in 0 p.variables && answers_in p.variables 0 p.blocks ≡ true
-    three = and_left _ (by_variable (λ i. is_console i.role) (slice_get p.variables 0) && by_variable (λ i. is_console i.role) (slice_get p.variables 1)) two
+    three = first_true _ (by_variable (λ i. is_console i.role) (slice_get p.variables 0) && by_variable (λ i. is_console i.role) (slice_get p.variables 1)) two
 
     four : by_variable (λ i. is_console i.role) (slice_get p.variables 0) && by_variable (λ i. is_console i.role) (slice_get p.variables 1) ≡ true
-    four = and_right (consoles_in 0 p.variables && answers_in p.variables 0 p.blocks) _ two
-
-    none_add : (b : ℕ) → 0 + b ≡ b
-    none_add b = omega arith
+    four = second_true (consoles_in 0 p.variables && answers_in p.variables 0 p.blocks) _ two

@@ -1,5 +1,6 @@
 -- A tree that breaks no rule of interference keeps them at every use in it.
 use Rattle.std.proofs.Common.{◌≡◌, ◌⊎◌, inl, inr, ℕ, zero, suc, List, [], ◌∷◌, map, Some, slice_get, refl, sym, subst}
+use Rattle.std.proofs.lemmas.Option.{same_Some}
 use Rattle.sp_base.specs.declared.place.Place.{Place}
 use Rattle.sp_base.specs.declared.rule.Rule.{Rule}
 use Rattle.sp_base.specs.declared.rule.Rule.TheVariants as rule
@@ -94,10 +95,7 @@ module _ (g : Program) where
 -- a block without places is that of one with places
 pub block_at : (ks : List p.Block) (b : ℕ) (k : Block) → slice_get (map bare_block ks) b ≡ Some k → (m : p.Block) × (slice_get ks b ≡ Some m) × (bare_block m ≡ k)
 block_at [] b k e = absurd (cc e)
-block_at (m ∷ ms) zero k e = (m, refl, some_is (bare_block m) k e)
-  where
-    some_is : (x y : Block) → Some x ≡ Some y → x ≡ y
-    some_is x y e = cc e
+block_at (m ∷ ms) zero k e = (m, refl, same_Some (bare_block m) k e)
 block_at (m ∷ ms) (suc b) k e = block_at ms b k e
 
 module _ (c : p.Program) (calm : (r : Rule) (at : Place) → Interferes c r at → ⊥) where

@@ -1,7 +1,11 @@
 -- That a tree breaks no rule of interference, by a test over claims of what its blocks reach.
 use Rattle.std.proofs.Common.{◌≡◌, ◌⊎◌, inl, inr, ℕ, zero, suc, ◌+◌, ◌≤◌, Bool, true, false, not, ◌&&◌, ◌||◌, ◌==◌, List, [], ◌∷◌, Option, Some, None, slice_get, nat_lt, refl, sym, ap, ◌∙◌, subst, arith, eq-eqb}
+use Rattle.std.proofs.Common.{zero-add}
+use Rattle.std.proofs.lemmas.Bool.{or_cases, or_left, or_right}
+use Rattle.std.proofs.lemmas.Option.{same_Some}
 use Rattle.sp_base.specs.declared.place.Place.{Place}
 use Rattle.sp_base.specs.declared.rule.Rule.TheVariants as rule
+use Rattle.sp_base.proofs.Facts.{first_true, is_plus_none, next_goes_right, not_refutes, second_true}
 use Rattle.sp_tree.specs.declared.checked.Role.{Role}
 use Rattle.sp_tree.specs.declared.checked.Role.TheVariants as role
 use Rattle.sp_tree.specs.declared.checked.Variable as ast_x
@@ -14,7 +18,7 @@ use Rattle.sp_tree.specs.Interference.{refs, IsMember, AllDifferent, KeepsI1, Ke
 use Rattle.sp_tree.specs.Sites.{Site, SplitsAt, SpreadsAt, LoopsAt, CallsAt, StopsAt, statement_sites}
 use Rattle.sp_tree.specs.Interferes.{IsSite, ClashesIn, SplitBreaks, Repeats, CallRepeats, PassesImplicit, SiteBreaks, SiteStops, Interferes}
 use Rattle.sp_tree.proofs.UsesOf.{Among, stmt_uses, stmt_among}
-use Rattle.sp_tree.proofs.Certified.{Claim, and_left, and_right, or_cases, or_left, or_right, not_true, has, each, each_has, all_uses, use_passes, member_has, T, S, aims_of, keeps, bodies, reached_target, reached_seen, target_has, use_kept}
+use Rattle.sp_tree.proofs.Certified.{Claim, has, each, each_has, all_uses, use_passes, member_has, T, S, aims_of, keeps, bodies, reached_target, reached_seen, target_has, use_kept}
 use Rattle.sp_tree.proofs.Reached.{IsClosed, complete}
 use Rattle.sp_tree.proofs.NoBreach.{block_at}
 
@@ -52,8 +56,8 @@ all_sites f (s ∷ ss) = f s && all_sites f ss
 
 site_passes : (f : Site → Bool) (ss : List Site) (s : Site) → all_sites f ss ≡ true → IsSite s ss → f s ≡ true
 site_passes f [] s h i = absurd i
-site_passes f (t ∷ ts) s h (inl e) = subst (λ z. f z ≡ true) (sym e) (and_left (f t) (all_sites f ts) h)
-site_passes f (t ∷ ts) s h (inr i) = site_passes f ts s (and_right (f t) (all_sites f ts) h) i
+site_passes f (t ∷ ts) s h (inl e) = subst (λ z. f z ≡ true) (sym e) (first_true (f t) (all_sites f ts) h)
+site_passes f (t ∷ ts) s h (inr i) = site_passes f ts s (second_true (f t) (all_sites f ts) h) i
 
 -- the blocks that are called
 abbrev pub runs_of : List Use → List ℕ
@@ -132,9 +136,6 @@ module _ (g : Program) where
   no_implicit f (p.Pass (p.ByReference (p.Entire y here ss)) rest) at k (inl h) = k y (inl refl) h.1
   no_implicit f (p.Pass (p.ByReference (p.Entire y here ss)) rest) at k (inr h) = no_implicit f rest at (λ x m i. k x (inr m) i) h
 
-some_block : (x y : p.Block) → Some x ≡ Some y → x ≡ y
-some_block x y e = cc e
-
 pub record BreaksNone (c : p.Program) : Type 0 where
   pub I1 : (at : Place) → Interferes c rule.I1 at → ⊥
   pub I2 : (at : Place) → Interferes c rule.I2 at → ⊥
@@ -197,56 +198,47 @@ module _ (c : p.Program) (claims : List Claim) (stopping : List ℕ) where
   block_passes b [] n k h e = absurd (cc e)
   block_passes b (x ∷ ks) zero k h e =
       let is : x ≡ k = cc e in
-      subst (λ (z : ℕ × p.Block). block_test z.0 z.1 ≡ true) (λ i. (add_none b i, is i)) (and_left (block_test b x) (blocks_test (suc b) ks) h)
-    where
-      add_none : (b : ℕ) → b ≡ b + 0
-      add_none b = omega arith
-  block_passes b (x ∷ ks) (suc n) k h e = subst (λ z. block_test z k ≡ true) (moved b n) (block_passes (suc b) ks n k (and_right (block_test b x) (blocks_test (suc b) ks) h) e)
-    where
-      moved : (b n : ℕ) → suc b + n ≡ b + suc n
-      moved b n = omega arith
+      subst (λ (z : ℕ × p.Block). block_test z.0 z.1 ≡ true) (λ i. (is_plus_none b i, is i)) (first_true (block_test b x) (blocks_test (suc b) ks) h)
+  block_passes b (x ∷ ks) (suc n) k h e = subst (λ z. block_test z k ≡ true) (next_goes_right b n) (block_passes (suc b) ks n k (second_true (block_test b x) (blocks_test (suc b) ks) h) e)
 
   caller : (b m : ℕ) (ks : List p.Block) (n : ℕ) (k : p.Block) → outer_calls b m ks ≡ true → slice_get ks n ≡ Some k → has (runs_of (stmt_uses (bare_statement k.body))) b ≡ true → (is_none k.parent ≡ true) × (m + n ≡ b → ⊥)
   caller b m [] n k h e r = absurd (cc e)
   caller b m (x ∷ ks) zero k h e r =
       let is : x ≡ k = cc e in
-      let test : not (has (runs_of (stmt_uses (bare_statement k.body))) b) || (is_none k.parent && not (m == b)) ≡ true = subst (λ (z : p.Block). not (has (runs_of (stmt_uses (bare_statement z.body))) b) || (is_none z.parent && not (m == b)) ≡ true) is (and_left _ (outer_calls b (suc m) ks) h) in
+      let test : not (has (runs_of (stmt_uses (bare_statement k.body))) b) || (is_none k.parent && not (m == b)) ≡ true = subst (λ (z : p.Block). not (has (runs_of (stmt_uses (bare_statement z.body))) b) || (is_none z.parent && not (m == b)) ≡ true) is (first_true _ (outer_calls b (suc m) ks) h) in
       go (or_cases (not (has (runs_of (stmt_uses (bare_statement k.body))) b)) (is_none k.parent && not (m == b)) test)
     where
       go : (not (has (runs_of (stmt_uses (bare_statement k.body))) b) ≡ true) ⊎ (is_none k.parent && not (m == b) ≡ true) → (is_none k.parent ≡ true) × (m + 0 ≡ b → ⊥)
-      go (inl z) = absurd (not_true (has (runs_of (stmt_uses (bare_statement k.body))) b) z r)
-      go (inr z) = (and_left (is_none k.parent) (not (m == b)) z, λ q. let same : m ≡ b = omega (arith, q) in not_true (m == b) (and_right (is_none k.parent) (not (m == b)) z) (eq-eqb m b same))
-  caller b m (x ∷ ks) (suc n) k h e r = let z = caller b (suc m) ks n k (and_right _ (outer_calls b (suc m) ks) h) e r in (z.0, λ q. let same : suc m + n ≡ b = omega (arith, q) in z.1 same)
+      go (inl z) = absurd (not_refutes (has (runs_of (stmt_uses (bare_statement k.body))) b) z r)
+      go (inr z) = (first_true (is_none k.parent) (not (m == b)) z, λ q. let same : m ≡ b = omega (arith, q) in not_refutes (m == b) (second_true (is_none k.parent) (not (m == b)) z) (eq-eqb m b same))
+  caller b m (x ∷ ks) (suc n) k h e r = let z = caller b (suc m) ks n k (second_true _ (outer_calls b (suc m) ks) h) e r in (z.0, λ q. let same : suc m + n ≡ b = omega (arith, q) in z.1 same)
 
   module _ (passes : unbroken ≡ true) where
     all : bodies (bare c) claims 0 (bare c).blocks ≡ true
-    all = and_left (bodies (bare c) claims 0 (bare c).blocks) (blocks_test 0 c.blocks) passes
+    all = first_true (bodies (bare c) claims 0 (bare c).blocks) (blocks_test 0 c.blocks) passes
 
     tested : (b : ℕ) (k : p.Block) → slice_get c.blocks b ≡ Some k → block_test b k ≡ true
-    tested b k e = subst (λ z. block_test z k ≡ true) (none_add b) (block_passes 0 c.blocks b k (and_right (bodies (bare c) claims 0 (bare c).blocks) (blocks_test 0 c.blocks) passes) e)
-      where
-        none_add : (b : ℕ) → 0 + b ≡ b
-        none_add b = omega arith
+    tested b k e = subst (λ z. block_test z k ≡ true) (zero-add b) (block_passes 0 c.blocks b k (second_true (bodies (bare c) claims 0 (bare c).blocks) (blocks_test 0 c.blocks) passes) e)
 
     site_passed : (b : ℕ) (k : p.Block) (site : Site) → slice_get c.blocks b ≡ Some k → IsSite site (statement_sites k.body) → site_test site ≡ true
-    site_passed b k site e i = site_passes site_test (statement_sites k.body) site (and_left (all_sites site_test (statement_sites k.body)) (function_test b k k.answer) (and_left (all_sites site_test (statement_sites k.body) && function_test b k k.answer) _ (tested b k e))) i
+    site_passed b k site e i = site_passes site_test (statement_sites k.body) site (first_true (all_sites site_test (statement_sites k.body)) (function_test b k k.answer) (first_true (all_sites site_test (statement_sites k.body) && function_test b k k.answer) _ (tested b k e))) i
 
     function_passed : (b : ℕ) (k : p.Block) (x : ℕ) → slice_get c.blocks b ≡ Some k → k.answer ≡ Some x → function_test b k (Some x) ≡ true
-    function_passed b k x e a = subst (λ o. function_test b k o ≡ true) a (and_right (all_sites site_test (statement_sites k.body)) (function_test b k k.answer) (and_left (all_sites site_test (statement_sites k.body) && function_test b k k.answer) _ (tested b k e)))
+    function_passed b k x e a = subst (λ o. function_test b k o ≡ true) a (second_true (all_sites site_test (statement_sites k.body)) (function_test b k k.answer) (first_true (all_sites site_test (statement_sites k.body) && function_test b k k.answer) _ (tested b k e)))
 
     other_passed : (b : ℕ) (k : p.Block) → slice_get c.blocks b ≡ Some k → recursion_test b && all_uses (stop_test b) (stmt_uses (bare_statement k.body)) ≡ true
-    other_passed b k e = and_right (all_sites site_test (statement_sites k.body) && function_test b k k.answer) (recursion_test b && all_uses (stop_test b) (stmt_uses (bare_statement k.body))) (tested b k e)
+    other_passed b k e = second_true (all_sites site_test (statement_sites k.body) && function_test b k k.answer) (recursion_test b && all_uses (stop_test b) (stmt_uses (bare_statement k.body))) (tested b k e)
 
     is_answered : (b : ℕ) (k : p.Block) → slice_get c.blocks b ≡ Some k → IsFunction (bare c) b → (x : ℕ) × (k.answer ≡ Some x)
     is_answered b k e (m, x, at, a) =
         let r = block_at c.blocks b m at in
-        let same : r.0 ≡ k = some_block r.0 k (sym r.1 ∙ e) in
+        let same : r.0 ≡ k = same_Some r.0 k (sym r.1 ∙ e) in
         (x, ap (λ (z : p.Block). z.answer) (sym same) ∙ ap (λ (z : Block). z.answer) r.2 ∙ a)
 
     site_calm : (site : Site) → site_test site ≡ true → (at : Place) → (SiteBreaks (bare c) site rule.I1 at → ⊥) × (SiteBreaks (bare c) site rule.I2 at → ⊥) × (SiteBreaks (bare c) site rule.I3 at → ⊥) × (SiteBreaks (bare c) site rule.I4 at → ⊥) × (SiteBreaks (bare c) site rule.I5 at → ⊥)
     site_calm (SplitsAt parts) h at = (no_split (bare c) parts at (use_kept (bare c) claims all (ParallelOf (bare_statements parts)) h), λ k. k, λ k. k, λ k. k, λ k. k)
     site_calm (SpreadsAt here x s) h at = (λ k. k, λ k. (use_kept (bare c) claims all (ForallOf x (bare_statement s)) h).1 k.1 k.2, λ k. k, λ k. k, λ k. k)
-    site_calm (LoopsAt x here s) h at = (λ k. k, λ k. k, λ k. not_true _ h (target_has (bare c) claims all (In_stmt (bare_statement s)) (stmt_uses (bare_statement s)) (stmt_among (bare_statement s)) x k.1), λ k. k, λ k. k)
+    site_calm (LoopsAt x here s) h at = (λ k. k, λ k. k, λ k. not_refutes _ h (target_has (bare c) claims all (In_stmt (bare_statement s)) (stmt_uses (bare_statement s)) (stmt_among (bare_statement s)) x k.1), λ k. k, λ k. k)
     site_calm (CallsAt f here args) h at =
         let kept = use_kept (bare c) claims all (CallOf f (bare_actuals args)) h in
         (λ k. k, λ k. k, λ k. k, no_repeat (bare c) args at kept.0, no_implicit (bare c) f args at kept.1)
@@ -266,8 +258,8 @@ module _ (c : p.Program) (claims : List Claim) (stopping : List ℕ) where
         small h = grind (arith, h, l)
 
         listed : each (λ x. nat_lt x 2) (T (bare c) claims b) && each (λ x. nat_lt x 2) (S (bare c) claims b) ≡ true → (has (T (bare c) claims b) x ≡ true) ⊎ (has (S (bare c) claims b) x ≡ true) → ⊥
-        listed h (inl a) = small (each_has (λ x. nat_lt x 2) (T (bare c) claims b) x (and_left (each (λ x. nat_lt x 2) (T (bare c) claims b)) (each (λ x. nat_lt x 2) (S (bare c) claims b)) h) a)
-        listed h (inr a) = small (each_has (λ x. nat_lt x 2) (S (bare c) claims b) x (and_right (each (λ x. nat_lt x 2) (T (bare c) claims b)) (each (λ x. nat_lt x 2) (S (bare c) claims b)) h) a)
+        listed h (inl a) = small (each_has (λ x. nat_lt x 2) (T (bare c) claims b) x (first_true (each (λ x. nat_lt x 2) (T (bare c) claims b)) (each (λ x. nat_lt x 2) (S (bare c) claims b)) h) a)
+        listed h (inr a) = small (each_has (λ x. nat_lt x 2) (S (bare c) claims b) x (second_true (each (λ x. nat_lt x 2) (T (bare c) claims b)) (each (λ x. nat_lt x 2) (S (bare c) claims b)) h) a)
 
         outside : (n : ℕ) → IsBelow (bare c) n d b → outer_calls b 0 c.blocks ≡ true → ⊥
         outside n below h = by n below
@@ -301,35 +293,35 @@ module _ (c : p.Program) (claims : List Claim) (stopping : List ℕ) where
         test : all_uses (stop_test b) (stmt_uses m.body) ≡ true
         test =
             let r = block_at c.blocks b m at in
-            subst (λ (z : Block). all_uses (stop_test b) (stmt_uses z.body) ≡ true) r.2 (and_right (recursion_test b) _ (other_passed b r.0 r.1))
+            subst (λ (z : Block). all_uses (stop_test b) (stmt_uses z.body) ≡ true) r.2 (second_true (recursion_test b) _ (other_passed b r.0 r.1))
 
         called : (d : ℕ) (args : Actuals) → not (has stopping d) || has stopping b ≡ true → has stopping d ≡ true → has stopping b ≡ true
         called d args h k = go (or_cases (not (has stopping d)) (has stopping b) h)
           where
             go : (not (has stopping d) ≡ true) ⊎ (has stopping b ≡ true) → has stopping b ≡ true
-            go (inl n) = absurd (not_true (has stopping d) n k)
+            go (inl n) = absurd (not_refutes (has stopping d) n k)
             go (inr y) = y
 
     no_stop : (site : Site) (at : Place) → quiet_test site ≡ true → SiteStops (bare c) site at → ⊥
     no_stop (SplitsAt parts) at h s = s
     no_stop (SpreadsAt here x t) at h s = s
     no_stop (LoopsAt x here t) at h s = s
-    no_stop (CallsAt f here args) at h (e, (k, found, bs, r)) = not_true (has stopping f) h (complete (bare c) Listed closed bs f k Stop found tt r refl)
+    no_stop (CallsAt f here args) at h (e, (k, found, bs, r)) = not_refutes (has stopping f) h (complete (bare c) Listed closed bs f k Stop found tt r refl)
     no_stop (StopsAt here) at h s = cc h
 
     no_reference : (b : ℕ) (k : p.Block) (y : ℕ) (i : ast_x.Variable) → slice_get c.blocks b ≡ Some k → IsFunction (bare c) b → IsMember y k.formals → slice_get c.variables y ≡ Some i → i.role ≡ role.Reference → ⊥
     no_reference b k y i e f m at is =
         let a = is_answered b k e f in
-        let test = and_left (each (λ y. by_role (λ r. not (is_reference r)) (slice_get c.variables y)) k.formals) _ (function_passed b k a.0 e a.1) in
+        let test = first_true (each (λ y. by_role (λ r. not (is_reference r)) (slice_get c.variables y)) k.formals) _ (function_passed b k a.0 e a.1) in
         let one : by_role (λ r. not (is_reference r)) (slice_get c.variables y) ≡ true = each_has (λ y. by_role (λ r. not (is_reference r)) (slice_get c.variables y)) k.formals y test (member_has y k.formals m) in
         reference_not i.role (subst (λ o. by_role (λ r. not (is_reference r)) o ≡ true) at one) is
 
     rest_passed : (b : ℕ) (k : p.Block) → slice_get c.blocks b ≡ Some k → IsFunction (bare c) b → each (λ y. false) (T (bare c) claims b) && all_sites quiet_test (statement_sites k.body) ≡ true
-    rest_passed b k e f = let a = is_answered b k e f in and_right (each (λ y. by_role (λ r. not (is_reference r)) (slice_get c.variables y)) k.formals) _ (function_passed b k a.0 e a.1)
+    rest_passed b k e f = let a = is_answered b k e f in second_true (each (λ y. by_role (λ r. not (is_reference r)) (slice_get c.variables y)) k.formals) _ (function_passed b k a.0 e a.1)
 
     no_target : (b : ℕ) (k : p.Block) (x : ℕ) → slice_get c.blocks b ≡ Some k → IsFunction (bare c) b → ImplicitTarget (bare c) b x → ⊥
     no_target b k x e f (m, at, free, (bs, r)) =
-        let found : false ≡ true = each_has (λ y. false) (T (bare c) claims b) x (and_left (each (λ y. false) (T (bare c) claims b)) (all_sites quiet_test (statement_sites k.body)) (rest_passed b k e f)) (reached_target (bare c) claims all bs x b m at r free) in
+        let found : false ≡ true = each_has (λ y. false) (T (bare c) claims b) x (first_true (each (λ y. false) (T (bare c) claims b)) (all_sites quiet_test (statement_sites k.body)) (rest_passed b k e f)) (reached_target (bare c) claims all bs x b m at r free) in
         cc found
 
     -- no rule of interference is broken, at no place
@@ -340,8 +332,8 @@ module _ (c : p.Program) (claims : List Claim) (stopping : List ℕ) where
       I3 = λ at (b, k, e, site, i, h). (calm_at b k site e i at).2 h;
       I4 = λ at (b, k, e, site, i, h). (calm_at b k site e i at).3 h;
       I5 = λ at (b, k, e, site, i, h). (calm_at b k site e i at).4 h;
-      I6 = λ at (b, k, e, here, inside, x, i, l). no_recursion b x (and_left (recursion_test b) _ (other_passed b k e)) inside i l;
+      I6 = λ at (b, k, e, here, inside, x, i, l). no_recursion b x (first_true (recursion_test b) _ (other_passed b k e)) inside i l;
       I7 = λ at (b, k, e, f, x, m, i, found, is, here). no_reference b k x i e f m found is;
       I8 = λ at (b, k, e, here, f, x, t). no_target b k x e f t;
-      I9 = λ at (b, k, e, f, site, i, s). no_stop site at (site_passes quiet_test (statement_sites k.body) site (and_right (each (λ y. false) (T (bare c) claims b)) (all_sites quiet_test (statement_sites k.body)) (rest_passed b k e f)) i) s;
+      I9 = λ at (b, k, e, f, site, i, s). no_stop site at (site_passes quiet_test (statement_sites k.body) site (second_true (each (λ y. false) (T (bare c) claims b)) (all_sites quiet_test (statement_sites k.body)) (rest_passed b k e f)) i) s;
     }

@@ -8,14 +8,9 @@ use Rattle.std.specs.Cmp.Lexicographic.{slice_cmp}
 use Rattle.std.proofs.lemmas.Map.Text.{is_eq-slice_cmp}
 use Rattle.std.proofs.lemmas.Slice.Eq.{bytes_eq-Decides}
 use Rattle.std.proofs.lemmas.Bool.Decides.{nat_tests}
+use Rattle.std.proofs.lemmas.Bool.{true≢false}
+use Rattle.sp_base.proofs.Facts.{tie_is_equal}
 use Rattle.sp_types.specs.Entries.{Index, under, Notes, IsIndex, IsNumbers, field_from}
-
-is_off : true ≡ false → ⊥
-is_off p = subst IsOn p tt
-  where
-    IsOn : Bool → Type 0
-    IsOn true = Unit {0}
-    IsOn false = ⊥
 
 by_test : (b : Bool) (x : ℕ × ℕ) (rest : Option (ℕ × ℕ)) → option_or (if b then Some x else None) rest ≡ (if b then Some x else rest)
 by_test true x rest = refl
@@ -48,7 +43,7 @@ put old new n f h up name =
     by None true e k = refl
     by None false e k = refl
     by (Some x) false e k = refl
-    by (Some x) true e k = absurd (is_off (sym (ap is_some e) ∙ ap (λ x. is_some (under old x)) (is_name name f.0 k) ∙ h))
+    by (Some x) true e k = absurd (true≢false (sym (ap is_some e) ∙ ap (λ x. is_some (under old x)) (is_name name f.0 k) ∙ h))
 
 abbrev pub has : List ℕ → ℕ → Bool
 has numbers k = list_any (λ j. is_eq (nat_cmp k j)) numbers
@@ -58,12 +53,9 @@ or_test true true c = refl
 or_test true false c = refl
 or_test false b c = refl
 
-same_number : (j k : ℕ) → is_eq (nat_cmp j k) ≡ nat_eq k j
-same_number j k = grind (arith, nat_tests)
-
 -- a number that is put in the set is no longer ahead
 pub counted : (old new : List ℕ) (j : ℕ) (rest : List ℕ) → ((k : ℕ) → has new k ≡ cond (is_eq (nat_cmp j k)) true (has old k)) → (k : ℕ)
     → has new k || list_any (nat_eq k) rest ≡ has old k || list_any (nat_eq k) (j ∷ rest)
 counted old new j rest h k =
-    ap (λ b. b || list_any (nat_eq k) rest) (h k ∙ ap (λ b. cond b true (has old k)) (same_number j k))
+    ap (λ b. b || list_any (nat_eq k) rest) (h k ∙ ap (λ b. cond b true (has old k)) (tie_is_equal j k))
     ∙ or_test (nat_eq k j) (has old k) (list_any (nat_eq k) rest)

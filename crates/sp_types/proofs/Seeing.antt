@@ -7,12 +7,10 @@ use Rattle.std.specs.declared.cmp.Ordering.TheVariants.{Less, Equal, Greater}
 use Rattle.std.specs.Ordering.{nat_cmp, int_cmp, ordering_then, is_eq}
 use Rattle.std.proofs.lemmas.Bool.Decides.{nat_tests}
 use Rattle.std.proofs.lemmas.List.Folds.{list_any-append}
+use Rattle.sp_base.proofs.Facts.{tie_is_equal, tie_of_both}
 use Rattle.sp_types.specs.declared.tables.Ordinal.{Ordinal}
 use Rattle.sp_types.specs.TypeRules.{same}
 use Rattle.sp_types.specs.Seen.{key_cmp, IsSet}
-
-nat_same : (a b : ℕ) → is_eq (nat_cmp a b) ≡ nat_eq b a
-nat_same a b = grind (arith, nat_tests)
 
 neither : (a b : ℕ) → is_eq (cond (ltb a b) Less (cond (ltb b a) Greater Equal)) ≡ (leb b a && leb a b)
 neither a b = grind (arith, nat_tests)
@@ -23,16 +21,11 @@ int_same (pos a) (negsuc b) = refl
 int_same (negsuc a) (pos b) = refl
 int_same (negsuc a) (negsuc b) = neither b a
 
-then_is : (x y : Ordering) → is_eq (ordering_then x y) ≡ (is_eq x && is_eq y)
-then_is Less y = refl
-then_is Equal y = refl
-then_is Greater y = refl
-
 -- two constants have one key exactly where they are the same
 key_same : (a b : Ordinal) → is_eq (key_cmp (a.kind, a.number) (b.kind, b.number)) ≡ same b a
 key_same a b =
-    then_is (nat_cmp a.kind b.kind) (int_cmp a.number b.number) ∙
-    ap (λ (x : Bool). x && is_eq (int_cmp a.number b.number)) (nat_same a.kind b.kind) ∙
+    tie_of_both (nat_cmp a.kind b.kind) (int_cmp a.number b.number) ∙
+    ap (λ (x : Bool). x && is_eq (int_cmp a.number b.number)) (tie_is_equal a.kind b.kind) ∙
     ap (λ (x : Bool). nat_eq b.kind a.kind && x) (int_same a.number b.number)
 
 or_if : (a b : Bool) → (a || (b || false)) ≡ cond b true a

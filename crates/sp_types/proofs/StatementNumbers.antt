@@ -5,6 +5,7 @@ use Rattle.std.specs.Prelude.{◌≢◌, if◌then◌else◌, Option, Some, None
 use Rattle.std.specs.Bool.{Decides}
 use Rattle.std.proofs.lemmas.Bool.Decides.{Decides-or, Decides-and, Decides-ltb, Decides-eqb}
 use Rattle.sp_base.specs.declared.place.Place.{Place}
+use Rattle.sp_base.proofs.Facts.{less_same_or_more}
 use Rattle.sp_tree.specs.declared.meaning.StandardProcedure.{StandardProcedure}
 use Rattle.sp_tree.specs.declared.meaning.StandardProcedure.TheVariants as procedure
 use Rattle.sp_tree.specs.PlainNamed.{Expression, At, Number, Quoted, Constant, Read, Apply, Standard, Unary, Binary, Pass, Arguments, NoArgument, AndArgument, Statement, Does, Form, Empty, Assign, Call, Perform, Sequence, If, While, Repeat, Case, For, Parallel, Forall, Assume, Other, NoElse, Else, Statements, NoStatement, AndThen, On, Arms, NoArm, Or, Branches, NoBranch, Beside, Block, Program}
@@ -272,19 +273,8 @@ not_itself : (p : Place) → Earlier p p → ⊥
 not_itself p (inl a) = absurd (omega (arith, a))
 not_itself p (inr a) = absurd (omega (arith, a.1))
 
-compared : (a b : ℕ) → (a < b) ⊎ ((a ≡ b) ⊎ (b < a))
-compared zero zero = inr (inl refl)
-compared zero (suc b) = inl (omega arith)
-compared (suc a) zero = inr (inr (omega arith))
-compared (suc a) (suc b) = up (compared a b)
-  where
-    up : (a < b) ⊎ ((a ≡ b) ⊎ (b < a)) → (suc a < suc b) ⊎ ((suc a ≡ suc b) ⊎ (suc b < suc a))
-    up (inl l) = inl (omega (arith, l))
-    up (inr (inl e)) = inr (inl (ap suc e))
-    up (inr (inr l)) = inr (inr (omega (arith, l)))
-
 ordered : (p q : Place) → p ≢ q → Earlier p q ⊎ Earlier q p
-ordered p q d = by (compared p.line q.line) (compared p.column q.column)
+ordered p q d = by (less_same_or_more p.line q.line) (less_same_or_more p.column q.column)
   where
     same : p.line ≡ q.line → p.column ≡ q.column → p ≡ q
     same e f = λ i. record { line = e i; column = f i }

@@ -1,5 +1,7 @@
 -- What a pass adds to the sets, part by part.
 use Rattle.std.proofs.Common.{◌≡◌, ◌↔◌, ◌⊎◌, ℕ, zero, suc, ◌<◌, ◌≤◌, true, false, ◌==◌, ◌||◌, List, [], ◌∷◌, map, drop, length, get_or, refl, sym, ap, subst, ◌∙◌, arith, inl, inr, ◌+◌, add-one, Result, Ok, Err, OnOk, eqb-true, eq-eqb}
+use Rattle.std.proofs.lemmas.Bool.{or_cases}
+use Rattle.sp_base.proofs.Facts.{or_from_either}
 use Rattle.sp_tree.specs.declared.checked.Actual.{Actual}
 use Rattle.sp_tree.specs.declared.checked.Selector.{Selector}
 use Rattle.sp_tree.specs.PlainChecked as p
@@ -11,7 +13,6 @@ use Rattle.sp_varsets.specs.declared.uses.Uses.{Uses}
 use Rattle.sp_varsets.specs.declared.var_set.VarSet.{VarSet}
 use Rattle.sp_varsets.specs.Members.{has}
 use Rattle.sp_varsets.specs.Adds.{Adds, AreEmpty, AreUnions, IsUnion, IsWithout, In_selector, In_actual}
-use Rattle.sp_varsets.proofs.Words.{or_in, or_out}
 
 -- a step from A to B, which adds H, and one from B to C, which adds K
 then : {A B C H K : Type 0} → B ↔ (A ⊎ H) → C ↔ (B ⊎ K) → C ↔ (A ⊎ (H ⊎ K))
@@ -71,8 +72,8 @@ ok_then (Err e) a b c H K f g = g
 -- one member more
 pub put_in : (old new : VarSet) (v : ℕ) → ((x : ℕ) → has new x ≡ (v == x) || has old x) → (x : ℕ) → (has new x ≡ true) ↔ ((has old x ≡ true) ⊎ (x ≡ v))
 put_in old new v e x = (
-  λ h. elim (or_out (v == x) (has old x) (sym (e x) ∙ h)) [ inl s ↦ inr (sym (eqb-true v x s)) | inr o ↦ inl o ],
-  λ s. elim s [ inl o ↦ e x ∙ or_in (v == x) (has old x) (inr o) | inr i ↦ e x ∙ or_in (v == x) (has old x) (inl (eq-eqb v x (sym i))) ],
+  λ h. elim (or_cases (v == x) (has old x) (sym (e x) ∙ h)) [ inl s ↦ inr (sym (eqb-true v x s)) | inr o ↦ inl o ],
+  λ s. elim s [ inl o ↦ e x ∙ or_from_either (v == x) (has old x) (inr o) | inr i ↦ e x ∙ or_from_either (v == x) (has old x) (inl (eq-eqb v x (sym i))) ],
 )
 
 pub aimed : (old new : Uses) (v : ℕ) → ((x : ℕ) → has new.aims x ≡ (v == x) || has old.aims x) → new.sees ≡ old.sees → new.runs ≡ old.runs → new.stops ≡ old.stops → Adds old new (λ u. u ≡ Target v)
@@ -110,8 +111,8 @@ stopped old new e s r t = record {
 -- a set and all of another
 pub union_is : (old other new : VarSet) → ((x : ℕ) → has new x ≡ has old x || has other x) → IsUnion old other new
 union_is old other new e x = (
-  λ h. or_out (has old x) (has other x) (sym (e x) ∙ h),
-  λ s. e x ∙ or_in (has old x) (has other x) s,
+  λ h. or_cases (has old x) (has other x) (sym (e x) ∙ h),
+  λ s. e x ∙ or_from_either (has old x) (has other x) s,
 )
 
 -- lists, item by item
@@ -150,10 +151,6 @@ select_adds a b c (p.Field n) rest f g = adds_as a c _ _ (adds_then f g) (λ u s
 pub pass_adds : (a b c : Uses) (s : p.Actual) (rest : p.Actuals) → Adds a b (In_actual s) → Adds b c (In_actuals (bare_actuals rest)) → Adds a c (In_actuals (bare_actuals (p.Pass s rest)))
 pass_adds a b c (p.ByValue e) rest f g = adds_then f g
 pass_adds a b c (p.ByReference v) rest f g = adds_then f g
-
-pub none_in : {X : Type 0} (xs : List X) → length xs ≡ 0 → xs ≡ []
-none_in [] h = refl
-none_in (x ∷ xs) h = absurd (omega arith)
 
 -- what begins empty has what was added
 gathered : (e m : VarSet) (x : ℕ) (H : Type 0) → has e x ≡ false → (has m x ≡ true) ↔ ((has e x ≡ true) ⊎ H) → (has m x ≡ true) ↔ H

@@ -1,6 +1,7 @@
 -- The entries of statements and blocks are their sets by paths.
 use Rattle.std.proofs.Common.{◌≡◌, ◌↔◌, ℕ, zero, suc, ◌<◌, Bool, true, false, not, ◌&&◌, List, [], ◌∷◌, length, get_or, slice_get, refl, sym, ap, subst, ◌∙◌, arith, inl, inr, Option, Some, None, Result, Ok, Err, IfOk}
 use Rattle.std.proofs.lemmas.Option.{slice_get_within}
+use Rattle.sp_base.proofs.Facts.{length_of_map}
 use Rattle.sp_tree.specs.PlainChecked as p
 use Rattle.sp_tree.specs.Bare.{bare_statement, bare_block, bare}
 use Rattle.sp_tree.specs.Uses.{Target, Seen, Stop, In_stmt}
@@ -21,7 +22,7 @@ use Rattle.sp_varsets.specs.Reaches.{Reaches, ArePooled}
 use Rattle.sp_varsets.specs.Records.{pooled, Records, slot_at, Writes}
 use Rattle.sp_varsets.specs.Totals.{AreWithin, AreEntries, AreRowEntries}
 use Rattle.sp_varsets.proofs.Gathering.{in_blocks, of_blocks}
-use Rattle.sp_varsets.proofs.Reaching.{closed_is, fits, free_of, free_in, total_is, length_map}
+use Rattle.sp_varsets.proofs.Reaching.{closed_is, fits, free_of, free_in, total_is}
 use Rattle.sp_varsets.proofs.Walking.{stands_more}
 
 -- the set that an index names
@@ -72,7 +73,7 @@ module _ (c : p.Program) (start walk mid end : Walk) (bodies : Bodies) (hidden f
   all = record { nothing = nothing; pool = end.pool; statements = statements; blocks = blocks; stops = flags }
 
   bare_low : (b : ℕ) → b < length c.blocks → b < length (bare c).blocks
-  bare_low b h = let l = length_map bare_block c.blocks in omega arith
+  bare_low b h = let l = length_of_map bare_block c.blocks in omega arith
 
   reach_targets : (b x : ℕ) → (member targets b x ≡ true) ↔ r.OfBlock (bare c) b (Target x)
   reach_targets b x = closed_is (bare c) (Target x) x targets_own bodies.runs hidden

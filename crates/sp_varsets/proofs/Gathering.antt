@@ -1,8 +1,9 @@
 -- Bodies, declarations and rows of blocks, gathered one block after another.
 use Rattle.std.proofs.Common.{◌≡◌, ◌↔◌, ◌⊎◌, ℕ, zero, suc, ◌+◌, ◌<◌, ◌≤◌, Bool, true, false, ◌==◌, ◌||◌, ◌&&◌, List, [], ◌∷◌, ◌++◌, map, drop, length, get_or, slice_get, refl, sym, ap, subst, ◌∙◌, arith, inl, inr, add-one, eqb-true, eq-eqb, Some, None}
-use Rattle.std.proofs.lemmas.Bool.{cases_eq}
+use Rattle.std.proofs.lemmas.Bool.{cases_eq, and_from, and_parts, or_cases}
 use Rattle.std.proofs.lemmas.List.{length-append}
 use Rattle.std.proofs.lemmas.Option.{slice_get_within}
+use Rattle.sp_base.proofs.Facts.{or_from_either}
 use Rattle.sp_tree.specs.declared.checked.Block as ast_b
 use Rattle.sp_tree.specs.PlainChecked as p
 use Rattle.sp_tree.specs.CheckedOf.{block_of}
@@ -17,7 +18,6 @@ use Rattle.sp_varsets.specs.Members.{has}
 use Rattle.sp_varsets.specs.Paths.{member}
 use Rattle.sp_varsets.specs.Bodies.{IsInBlocks, BodyAt, AreBodies, Declares, AreDeclared}
 use Rattle.sp_varsets.proofs.Adding.{Has}
-use Rattle.sp_varsets.proofs.Words.{or_in, or_out}
 
 -- a row put last
 pub member_before : (rows : List VarSet) (s : VarSet) (b x : ℕ) → b < length rows → member (rows ++ s ∷ []) b x ≡ member rows b x
@@ -113,20 +113,12 @@ of_blocks (j ∷ ks) t (inr h) = let r = of_blocks ks t h in (suc r.0, r.1, r.2,
 -- a variable declared
 pub in_put : (old mid : List VarSet) (c x : ℕ) → ((b y : ℕ) → member mid b y ≡ ((b == c) && (x == y)) || member old b y) → (b y : ℕ) → (member mid b y ≡ true) ↔ ((member old b y ≡ true) ⊎ ((b ≡ c) × (y ≡ x)))
 in_put old mid c x e b y = (
-  λ h. elim (or_out ((b == c) && (x == y)) (member old b y) (sym (e b y) ∙ h)) [
-    | inl n ↦ (let s = split (b == c) (x == y) n in inr (eqb-true b c s.0, sym (eqb-true x y s.1)))
+  λ h. elim (or_cases ((b == c) && (x == y)) (member old b y) (sym (e b y) ∙ h)) [
+    | inl n ↦ (let s = and_parts (b == c) (x == y) n in inr (eqb-true b c s.0, sym (eqb-true x y s.1)))
     | inr o ↦ inl o
   ],
-  λ s. e b y ∙ or_in ((b == c) && (x == y)) (member old b y) (elim s [ inl o ↦ inr o | inr n ↦ inl (pair (b == c) (x == y) (eq-eqb b c n.0) (eq-eqb x y (sym n.1))) ]),
+  λ s. e b y ∙ or_from_either ((b == c) && (x == y)) (member old b y) (elim s [ inl o ↦ inr o | inr n ↦ inl (and_from (b == c) (x == y) (eq-eqb b c n.0) (eq-eqb x y (sym n.1))) ]),
 )
-  where
-    split : (a b : Bool) → a && b ≡ true → (a ≡ true) × (b ≡ true)
-    split true b h = (refl, h)
-    split false b h = absurd (let no : false ≡ true = h in cc)
-
-    pair : (a b : Bool) → a ≡ true → b ≡ true → a && b ≡ true
-    pair true b h k = k
-    pair false b h k = absurd (let no : false ≡ true = h in cc)
 
 pub declares_none : (g : Program) (rows : List VarSet) (x c : ℕ) → length rows ≡ length g.blocks → slice_get g.blocks c ≡ None → Declares g rows rows x c
 declares_none g rows x c l none = record {

@@ -1,11 +1,12 @@
 -- Rows of blocks and what paths of calls lead to.
 use Rattle.std.proofs.Common.{◌≡◌, ◌≢◌, ◌⊎◌, ℕ, zero, suc, ◌+◌, ◌*◌, ◌<◌, ◌≤◌, ◌^◌, Bool, true, false, not, ◌||◌, ◌&&◌, List, [], ◌∷◌, length, set, slice_get, refl, sym, ap, subst, ◌∙◌, arith, inl, inr, Some}
-use Rattle.std.proofs.lemmas.Bool.{cases_eq, cases_lt}
+use Rattle.std.proofs.lemmas.Bool.{cases_eq, cases_lt, false_from_ne_true, or_cases}
 use Rattle.std.proofs.lemmas.List.{length-set}
+use Rattle.sp_base.proofs.Facts.{and_not_from, and_not_parts, first_false, or_from_either, second_false}
 use Rattle.sp_varsets.specs.declared.var_set.VarSet.{VarSet}
 use Rattle.sp_varsets.specs.Members.{has}
 use Rattle.sp_varsets.specs.Paths.{row_has, member, Leads, Follows, Carried, Visited, Swept, Closes}
-use Rattle.sp_varsets.proofs.Words.{or_in, or_out, not_true, below_words}
+use Rattle.sp_varsets.proofs.Words.{below_words}
 
 -- rows of lists
 pub set_same : (rows : List VarSet) (b : ℕ) (s : VarSet) → b < length rows → slice_get (set rows b s) b ≡ Some s
@@ -44,18 +45,18 @@ pub carried : (old : List VarSet) (to from : ℕ) (row now : VarSet) (hidden : V
 carried old to from row now hidden changed is within away added same grew = record {
   rows = length-set old to now;
   kept = λ b x h. elim (cases_eq b to) [
-    | inl here ↦ at b here x ∙ (added x ∙ or_in (has row x) (member old from x && not (has hidden x)) (inl (sym (was b here x) ∙ h)))
+    | inl here ↦ at b here x ∙ (added x ∙ or_from_either (has row x) (member old from x && not (has hidden x)) (inl (sym (was b here x) ∙ h)))
     | inr there ↦ other b there x ∙ h
   ];
   led = λ b x h. elim (cases_eq b to) [
-    | inl here ↦ elim (or_out (has row x) (member old from x && not (has hidden x)) (sym (added x) ∙ (sym (at b here x) ∙ h))) [
+    | inl here ↦ elim (or_cases (has row x) (member old from x && not (has hidden x)) (sym (added x) ∙ (sym (at b here x) ∙ h))) [
       | inl o ↦ inl (was b here x ∙ o)
-      | inr n ↦ inr (here, (both (member old from x) (has hidden x) n).1, (both (member old from x) (has hidden x) n).0)
+      | inr n ↦ inr (here, (and_not_parts (member old from x) (has hidden x) n).1, (and_not_parts (member old from x) (has hidden x) n).0)
     ]
     | inr there ↦ inl (sym (other b there x) ∙ h)
   ];
   others = λ b x there. other b there x;
-  full = λ x h m. at to refl x ∙ (added x ∙ or_in (has row x) (member old from x && not (has hidden x)) (inr (join (member old from x) (has hidden x) (sym (other from away x) ∙ m) h)));
+  full = λ x h m. at to refl x ∙ (added x ∙ or_from_either (has row x) (member old from x && not (has hidden x)) (inr (and_not_from (member old from x) (has hidden x) (sym (other from away x) ∙ m) h)));
   none = λ e b x. elim (cases_eq b to) [
     | inl here ↦ at b here x ∙ (same e x ∙ sym (was b here x))
     | inr there ↦ other b there x
@@ -72,24 +73,7 @@ carried old to from row now hidden changed is within away added same grew = reco
     other : (b : ℕ) → b ≢ to → (x : ℕ) → member (set old to now) b x ≡ member old b x
     other b there x = ap (λ o. row_has o x) (set_other old to b now there)
 
-    both : (a b : Bool) → a && not b ≡ true → (a ≡ true) × (b ≡ false)
-    both true true h = absurd (let no : false ≡ true = h in cc)
-    both true false h = (refl, refl)
-    both false b h = absurd (let no : false ≡ true = h in cc)
-
-    join : (a b : Bool) → a ≡ true → b ≡ false → a && not b ≡ true
-    join true true h n = absurd (let no : true ≡ false = n in cc)
-    join true false h n = refl
-    join false b h n = absurd (let no : false ≡ true = h in cc)
-
 -- the calls of one block, one after another
-false_left : (a b : Bool) → a || b ≡ false → a ≡ false
-false_left true b h = h
-false_left false b h = refl
-
-false_right : (a b : Bool) → a || b ≡ false → b ≡ false
-false_right true b h = absurd (let no : true ≡ false = h in cc)
-false_right false b h = h
 
 pub visited_more : (old mid new : List VarSet) (b : ℕ) (runs hidden : VarSet) (n f : ℕ) (one two : Bool) → Visited old mid b runs hidden n one → Carried mid new b f hidden two
     → has runs f ≡ true → n ≤ f → ((x : ℕ) → n ≤ x → x < f → has runs x ≡ false) → Visited old new b runs hidden (f + 1) (one || two)
@@ -114,10 +98,10 @@ visited_more old mid new b runs hidden n f one two v c is low between = record {
       | inr after ↦ absurd (let no : false ≡ true = sym (between g after (omega arith)) ∙ r in cc)
     ]
   ];
-  none = λ e d x. c.none (false_right one two e) d x ∙ v.none (false_left one two e) d x;
-  some = λ e. elim (or_out one two e) [
+  none = λ e d x. c.none (second_false one two e) d x ∙ v.none (first_false one two e) d x;
+  some = λ e. elim (or_cases one two e) [
     | inl g ↦ (let s = v.some g in (s.0, c.kept b s.0 s.1, s.2))
-    | inr g ↦ (let s = c.some g in (s.0, s.1, not_true (member old b s.0) (λ h. let no : false ≡ true = sym s.2 ∙ v.kept b s.0 h in cc)))
+    | inr g ↦ (let s = c.some g in (s.0, s.1, false_from_ne_true (member old b s.0) (λ h. let no : false ≡ true = sym s.2 ∙ v.kept b s.0 h in cc)))
   ];
 }
 
@@ -164,17 +148,17 @@ pub swept_more : (runs hidden old mid new : List VarSet) (b : ℕ) (r h : VarSet
     → Swept runs hidden old mid b one → Visited mid new b r h (2 ^ 32) two → Swept runs hidden old new (b + 1) (one || two)
 swept_more runs hidden old mid new b r h one two er eh small s v = record {
   follows = follows_then s.follows (follows_visit runs hidden mid new b (2 ^ 32) r h two er eh v);
-  none = λ e c x. v.none (false_right one two e) c x ∙ s.none (false_left one two e) c x;
+  none = λ e c x. v.none (second_false one two e) c x ∙ s.none (first_false one two e) c x;
   full = λ e c f x l run hide m. elim (cases_eq c b) [
     | inl here ↦
         let rows : length new ≡ length old = v.rows ∙ s.follows.rows in
         let f_in = within_rows new f x m in
         ap (λ z. member new z x) here ∙ v.full f x (omega arith) (sym (row_is runs b r f er) ∙ (sym (ap (λ z. member runs z f) here) ∙ run)) (sym (row_is hidden b h x eh) ∙ (sym (ap (λ z. member hidden z x) here) ∙ hide)) m
-    | inr away ↦ v.kept c x (s.full (false_left one two e) c f x (omega arith) run hide (sym (v.none (false_right one two e) f x) ∙ m))
+    | inr away ↦ v.kept c x (s.full (first_false one two e) c f x (omega arith) run hide (sym (v.none (second_false one two e) f x) ∙ m))
   ];
-  some = λ e. elim (or_out one two e) [
+  some = λ e. elim (or_cases one two e) [
     | inl g ↦ (let t = s.some g in (t.0, t.1, v.kept t.0 t.1 t.2, t.3))
-    | inr g ↦ (let t = v.some g in (b, t.0, t.1, not_true (member old b t.0) (λ o. let no : false ≡ true = sym t.2 ∙ s.follows.kept b t.0 o in cc)))
+    | inr g ↦ (let t = v.some g in (b, t.0, t.1, false_from_ne_true (member old b t.0) (λ o. let no : false ≡ true = sym t.2 ∙ s.follows.kept b t.0 o in cc)))
   ];
 }
 

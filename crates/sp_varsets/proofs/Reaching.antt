@@ -1,6 +1,8 @@
 -- What rows lead to is what paths of calls reach.
 use Rattle.std.proofs.Common.{◌≡◌, ◌↔◌, ℕ, zero, suc, ◌<◌, Bool, true, false, not, ◌&&◌, List, [], ◌∷◌, map, length, slice_get, refl, sym, ap, subst, ◌∙◌, arith, inl, inr, Some, None}
 use Rattle.std.proofs.lemmas.Option.{slice_get_within}
+use Rattle.std.proofs.lemmas.Bool.{false_from_ne_true}
+use Rattle.sp_base.proofs.Facts.{and_not_from, and_not_parts, get_of_map}
 use Rattle.sp_tree.specs.PlainChecked as p
 use Rattle.sp_tree.specs.Bare.{bare_statement, bare_block, bare}
 use Rattle.sp_tree.specs.Plain.{Actuals, Program, Block}
@@ -15,18 +17,12 @@ use Rattle.sp_varsets.specs.Paths.{member, Leads, Closes}
 use Rattle.sp_varsets.specs.Records.{pooled}
 use Rattle.sp_varsets.specs.Totals.{IsInTotal}
 use Rattle.sp_varsets.proofs.Paths.{within_rows}
-use Rattle.sp_varsets.proofs.Words.{not_true}
 
 -- items of a mapped list
 pub map_at : {A B : Type 0} (f : A → B) (xs : List A) (i : ℕ) (y : B) → slice_get (map f xs) i ≡ Some y → (x : A) × (slice_get xs i ≡ Some x) × (f x ≡ y)
 map_at f [] i y e = absurd (let no : None ≡ Some y = e in cc)
 map_at f (x ∷ xs) zero y e = (x, refl, let s : Some (f x) ≡ Some y = e in cc)
 map_at f (x ∷ xs) (suc i) y e = map_at f xs i y e
-
-pub at_map : {A B : Type 0} (f : A → B) (xs : List A) (i : ℕ) (x : A) → slice_get xs i ≡ Some x → slice_get (map f xs) i ≡ Some (f x)
-at_map f [] i x e = absurd (let no : None ≡ Some x = e in cc)
-at_map f (y ∷ xs) zero x e = let s : Some y ≡ Some x = e in ap (λ z. Some (f z)) (let t : y ≡ x = cc in t)
-at_map f (y ∷ xs) (suc i) x e = at_map f xs i x e
 
 pub none_map : {A B : Type 0} (f : A → B) (xs : List A) (i : ℕ) → slice_get xs i ≡ None → slice_get (map f xs) i ≡ None
 none_map f [] i e = refl
@@ -37,10 +33,6 @@ pub item_of : {A : Type 0} (xs : List A) (i : ℕ) → i < length xs → (x : A)
 item_of [] i h = absurd (omega arith)
 item_of (x ∷ xs) zero h = (x, refl)
 item_of (x ∷ xs) (suc i) h = item_of xs i (omega arith)
-
-pub length_map : {A B : Type 0} (f : A → B) (xs : List A) → length (map f xs) ≡ length xs
-length_map f [] = refl
-length_map f (x ∷ xs) = ap suc (length_map f xs)
 
 module _ (g : Program) (u : Use) (x : ℕ) (rows runs hidden : List VarSet) where
   -- the rows, the calls and what is hidden are those of the blocks
@@ -81,17 +73,7 @@ free_of g rows b x d within h i e n below =
     let no : false ≡ true = sym h ∙ yes in cc
 
 pub free_in : (g : Program) (rows : List VarSet) (b x : ℕ) → AreDeclared g rows (length g.variables) → b < length g.blocks → IsFree g b x → member rows b x ≡ false
-free_in g rows b x d within f = not_true (member rows b x) (λ h. let m = (d.members b x within).0 h in f m.1.0 m.1.1 m.1.2 m.1.3)
-
-both : (a b : Bool) → a && not b ≡ true → (a ≡ true) × (b ≡ false)
-both true true h = absurd (let no : false ≡ true = h in cc)
-both true false h = (refl, refl)
-both false b h = absurd (let no : false ≡ true = h in cc)
-
-join : (a b : Bool) → a ≡ true → b ≡ false → a && not b ≡ true
-join true true h n = absurd (let no : true ≡ false = n in cc)
-join true false h n = refl
-join false b h n = absurd (let no : false ≡ true = h in cc)
+free_in g rows b x d within f = false_from_ne_true (member rows b x) (λ h. let m = (d.members b x within).0 h in f m.1.0 m.1.1 m.1.2 m.1.3)
 
 module _ (c : p.Program) (bodies : Bodies) (hidden rows own : List VarSet) (u : Use) (x : ℕ) where
   -- rows of what stands in the blocks' own statement parts
@@ -104,20 +86,20 @@ module _ (c : p.Program) (bodies : Bodies) (hidden rows own : List VarSet) (u : 
       → Fits (bare c) u x rows bodies.runs hidden
   fits bs count own_is shown passes hides = record {
     rows_of = λ b h.
-        let s = both (member own b x) (member hidden b x) (sym (shown b) ∙ h) in
+        let s = and_not_parts (member own b x) (member hidden b x) (sym (shown b) ∙ h) in
         let inside : b < length c.blocks = subst (λ n. b < n) count (within_rows own b x s.0) in
         let k = item_of c.blocks b inside in
-        (bare_block k.0, at_map bare_block c.blocks b k.0 k.1, passes b inside s.1, (own_is b k.0 k.1).0 s.0);
+        (bare_block k.0, get_of_map bare_block c.blocks b k.0 k.1, passes b inside s.1, (own_is b k.0 k.1).0 s.0);
     rows_in = λ b k e f h.
         let m = map_at bare_block c.blocks b k e in
         let inside : b < length c.blocks = slice_get_within c.blocks b m.0 m.1 in
-        shown b ∙ join (member own b x) (member hidden b x) ((own_is b m.0 m.1).1 (subst (λ (z : Block). In_stmt z.body u) (sym m.2) h)) (hides b inside f);
+        shown b ∙ and_not_from (member own b x) (member hidden b x) ((own_is b m.0 m.1).1 (subst (λ (z : Block). In_stmt z.body u) (sym m.2) h)) (hides b inside f);
     runs_of = λ b f h.
         let inside : b < length c.blocks = subst (λ n. b < n) bs.runs (within_rows bodies.runs b f h) in
         let k = item_of c.blocks b inside in
         let at = bs.each b k.0 inside k.1 in
         let r = (at.runs f).0 h in
-        (bare_block k.0, at_map bare_block c.blocks b k.0 k.1, r.0, r.1);
+        (bare_block k.0, get_of_map bare_block c.blocks b k.0 k.1, r.0, r.1);
     runs_in = λ b f k args e h.
         let m = map_at bare_block c.blocks b k e in
         let inside : b < length c.blocks = slice_get_within c.blocks b m.0 m.1 in

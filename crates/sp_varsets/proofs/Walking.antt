@@ -1,6 +1,7 @@
 -- What is recorded of statements, one after another.
 use Rattle.std.proofs.Common.{◌≡◌, ◌≢◌, ◌↔◌, ◌⊎◌, ℕ, zero, suc, ◌+◌, ◌<◌, ◌≤◌, true, List, [], ◌∷◌, ◌++◌, map, drop, length, get_or, set, refl, sym, ap, subst, ◌∙◌, arith, rules, inl, inr, add-one, Option, Some, None}
 use Rattle.std.proofs.lemmas.Bool.{cases_eq}
+use Rattle.std.proofs.lemmas.Option.{same_Some}
 use Rattle.sp_base.specs.declared.place.Place.{Place}
 use Rattle.sp_tree.specs.declared.checked.Stmt.{Stmt, out-Stmt, fold_out-Stmt}
 use Rattle.sp_tree.specs.declared.checked.Arm.{Arm, out-Arm, fold_out-Arm}
@@ -64,9 +65,6 @@ writes_as f to from = record {
   only = λ n own e. elim (f.only n own e) [ inl before ↦ inl before | inr s ↦ inr (s.0, to s.0 s.1, s.2, s.3) ];
 }
 
-same_own : (a b : Own) → Some a ≡ Some b → a ≡ b
-same_own a b e = cc
-
 pub kept_writes : {w v : Walk} {uses : Uses} (t : p.Statement) → Has uses (In_stmt (bare_statement t)) → Keeps w v (number_of t) uses → Writes w v (λ u. u ≡ t)
 kept_writes {w} {v} {uses} t h k = record {
   pool = k.pool;
@@ -77,7 +75,7 @@ kept_writes {w} {v} {uses} t h k = record {
   ];
   only = λ n own e. elim (cases_eq n (number_of t)) [
     | inl here ↦
-        let is : k.slot.0 ≡ own = same_own k.slot.0 own (sym k.slot.1 ∙ (ap (λ m. slot_at v.slots m) (sym here) ∙ e)) in
+        let is : k.slot.0 ≡ own = same_Some k.slot.0 own (sym k.slot.1 ∙ (ap (λ m. slot_at v.slots m) (sym here) ∙ e)) in
         inr (t, refl, sym here, subst (λ o. Records v.pool o (In_stmt (bare_statement t))) is recorded)
     | inr away ↦ inl (sym (k.others n away) ∙ e)
   ];

@@ -2,10 +2,11 @@
 use Rattle.std.proofs.Common.{◌≡◌, ◌≢◌, ◌⊎◌, ℕ, ◌+◌, ◌-◌, ◌*◌, ◌/◌, ◌%◌, ◌^◌, ◌<◌, ◌≤◌, max, Bool, true, false, not, ◌||◌, ◌&&◌, List, [], length, get_or, replicate, slice_get, Some, None, refl, sym, ap, subst, ◌∙◌, arith, inl, inr, eqb-true, eq-eqb, nat_eq, bit_and, bit_or, w64}
 use Rattle.std.specs.Int.{bit_at, trailing_zeros}
 use Rattle.std.proofs.lemmas.List.{get_or_past, get_or-replicate, length-replicate}
-use Rattle.std.proofs.lemmas.Bool.{cases_lt, cases_eq}
+use Rattle.std.proofs.lemmas.Bool.{cases_lt, cases_eq, false_from_ne_true, or_cases}
 use Rattle.std.proofs.lemmas.Nat.{and_le_l, shr-shr, shr_le}
 use Rattle.std.proofs.lemmas.Nat.Bits.{bit_at_or, bit_at_and, bit_at-zero, shr_and_one, bit_at-lt, bit_at-trailing_zeros, bit_at_above}
 use Rattle.std.proofs.lemmas.Option.{slice_get_cases}
+use Rattle.sp_base.proofs.Facts.{or_from_either, same_if_both_follow}
 use Rattle.sp_varsets.specs.Members.{in_words}
 use Rattle.sp_varsets.proofs.Items.{read_or, none_or}
 
@@ -18,31 +19,12 @@ pub from_bit : (words : List ℕ) (x : ℕ) → bit_at (get_or words (x / 64) 0)
 unfolding in_words
 from_bit words x h = eq-eqb _ 1 h
 
--- two truth values that hold together are one
-pub same_truth : (a b : Bool) → (a ≡ true → b ≡ true) → (b ≡ true → a ≡ true) → a ≡ b
-same_truth true b f g = sym (f refl)
-same_truth false true f g = g refl
-same_truth false false f g = refl
-
-pub not_true : (b : Bool) → (b ≡ true → ⊥) → b ≡ false
-not_true true f = absurd (f refl)
-not_true false f = refl
-
-pub or_in : (a b : Bool) → (a ≡ true) ⊎ (b ≡ true) → a || b ≡ true
-or_in true b h = refl
-or_in false b (inl h) = absurd (cc h)
-or_in false b (inr h) = h
-
-pub or_out : (a b : Bool) → a || b ≡ true → (a ≡ true) ⊎ (b ≡ true)
-or_out true b h = inl refl
-or_out false b h = inr h
-
 pub none_hidden : (b c : Bool) → c ≡ false → b && not c ≡ b
 none_hidden true c h = ap not h
 none_hidden false c h = refl
 
 pub in_none : (x : ℕ) → in_words [] x ≡ false
-in_none x = not_true _ (λ h. let b = to_bit [] x h in let z = bit_at-zero (x % 64) in omega arith)
+in_none x = false_from_ne_true _ (λ h. let b = to_bit [] x h in let z = bit_at-zero (x % 64) in omega arith)
 
 pub in_word_zero : (words : List ℕ) (x : ℕ) → get_or words (x / 64) 0 ≡ 0 → in_words words x ≡ true → ⊥
 in_word_zero words x e h =
@@ -62,7 +44,7 @@ unfolding in_words
 test_is words x w e = rw (shr_and_one w (x % 64)) (ap (λ v. nat_eq (bit_at v (x % 64)) 1) (sym (read_or words (x / 64) w 0 e)))
 
 pub past_is : (words : List ℕ) (x : ℕ) → slice_get words (x / 64) ≡ None → false ≡ in_words words x
-past_is words x e = sym (not_true _ (λ h. in_word_zero words x (none_or words (x / 64) 0 e) h))
+past_is words x e = sym (false_from_ne_true _ (λ h. in_word_zero words x (none_or words (x / 64) 0 e) h))
 
 -- a word that is not 0 has a bit
 pub some_bit : (w : ℕ) → w < 2 ^ 64 → w ≢ 0 → (i : ℕ) × (i < 64) × (bit_at w i ≡ 1)
@@ -130,30 +112,30 @@ joined_words old new others first n changed kept x low where_it_is =
           let b : bit_at (get_or new j 0) (x % 64) ≡ max (bit_at (get_or old j 0) (x % 64)) (bit_at (get_or others (x / 64) 0) (x % 64)) = ap (λ z. bit_at z (x % 64)) w ∙ bit_at_or _ _ (x % 64) in
           let p = bit_at-lt (get_or old j 0) (x % 64) in
           let q = bit_at-lt (get_or others (x / 64) 0) (x % 64) in
-          same_truth _ _
+          same_if_both_follow _ _
           (λ h.
           let one : bit_at (get_or new j 0) (x % 64) ≡ 1 = rw (d, m) at (to_bit new (x - 64 * first) h) in
           elim (cases_eq (bit_at (get_or old j 0) (x % 64)) 1) [
-            | inl is ↦ or_in _ _ (inl (from_bit old (x - 64 * first) (rw (d, m) is)))
-            | inr isnt ↦ or_in _ _ (inr (from_bit others x (omega arith)))
+            | inl is ↦ or_from_either _ _ (inl (from_bit old (x - 64 * first) (rw (d, m) is)))
+            | inr isnt ↦ or_from_either _ _ (inr (from_bit others x (omega arith)))
           ])
-          (λ h. from_bit new (x - 64 * first) (rw (d, m) (elim (or_out _ _ h) [
+          (λ h. from_bit new (x - 64 * first) (rw (d, m) (elim (or_cases _ _ h) [
             | inl o ↦ let one : bit_at (get_or old j 0) (x % 64) ≡ 1 = rw (d, m) at (to_bit old (x - 64 * first) o) in omega arith
             | inr o ↦ let one = to_bit others x o in omega arith
           ])))
       | inr outside ↦
           let w : get_or new j 0 ≡ get_or old j 0 = kept j outside in
           let past : length others ≤ x / 64 = elim where_it_is [ inl h ↦ absurd (omega arith) | inr h ↦ h ] in
-          same_truth _ _
-          (λ h. or_in _ _ (inl (from_bit old (x - 64 * first) (rw (d, m) (rw (sym w) (rw (d, m) at (to_bit new (x - 64 * first) h)))))))
-          (λ h. elim (or_out _ _ h) [
+          same_if_both_follow _ _
+          (λ h. or_from_either _ _ (inl (from_bit old (x - 64 * first) (rw (d, m) (rw (sym w) (rw (d, m) at (to_bit new (x - 64 * first) h)))))))
+          (λ h. elim (or_cases _ _ h) [
             | inl o ↦ from_bit new (x - 64 * first) (rw (d, m) (rw w (rw (d, m) at (to_bit old (x - 64 * first) o))))
             | inr o ↦ absurd (in_word_zero others x (get_or_past others (x / 64) 0 past) o)
           ])
     ]
 
 pub nowhere : (words : List ℕ) (n : ℕ) → length words ≤ n → ((j : ℕ) → j < n → get_or words j 0 ≡ 0) → (x : ℕ) → in_words words x ≡ false
-nowhere words n all none x = not_true _ (λ h. let b = below_words words x h in in_word_zero words x (none (x / 64) (omega arith)) h)
+nowhere words n all none x = false_from_ne_true _ (λ h. let b = below_words words x h in in_word_zero words x (none (x / 64) (omega arith)) h)
 
 pub all_zero : (n x : ℕ) → in_words (replicate n 0) x ≡ false
 all_zero n x = nowhere (replicate n 0) n (omega (arith, length-replicate {A = ℕ} n 0)) (λ j h. get_or-replicate n j 0 0 h) x
@@ -177,7 +159,7 @@ next_here words from w e small other =
     let within : from % 64 + i < 64 = elim (cases_lt (from % 64 + i) 64) [ inl h ↦ h | inr h ↦ let z = bit_at_above w 64 (from % 64 + i) small h in absurd (omega arith) ] in (
       omega arith,
       in_word words (from / 64) (from % 64 + i) (from + i) within (omega arith) (rw g one),
-      λ x low high. not_true _ (λ m.
+      λ x low high. false_from_ne_true _ (λ m.
           let d : x / 64 ≡ from / 64 = omega arith in
           let j : ℕ = x - from in
           let s : x % 64 ≡ from % 64 + j = omega arith in
@@ -188,7 +170,7 @@ next_here words from w e small other =
     )
 
 pub none_here : (words : List ℕ) (from w : ℕ) → slice_get words (from / 64) ≡ Some w → w / 2 ^ (from % 64) ≡ 0 → (x : ℕ) → from ≤ x → x < 64 * (from / 64) + 64 → in_words words x ≡ false
-none_here words from w e none x low high = not_true _ (λ m.
+none_here words from w e none x low high = false_from_ne_true _ (λ m.
     let d : x / 64 ≡ from / 64 = omega arith in
     let g : get_or words (from / 64) 0 ≡ w = read_or words (from / 64) w 0 e in
     let j : ℕ = x - from in
@@ -199,7 +181,7 @@ none_here words from w e none x low high = not_true _ (λ m.
     omega arith)
 
 pub none_past : (words : List ℕ) (at : ℕ) → slice_get words at ≡ None → (x : ℕ) → 64 * at ≤ x → in_words words x ≡ false
-none_past words at e x low = not_true _ (λ m.
+none_past words at e x low = false_from_ne_true _ (λ m.
     let b = below_words words x m in
     let p = slice_get_cases words at in
     elim p.1 [
@@ -218,7 +200,7 @@ next_later words at k later small other none =
     let f = t.0 in (
       omega arith,
       in_word words k i (k * 64 + i) f (omega arith) t.1,
-      λ x low high. not_true _ (λ m.
+      λ x low high. false_from_ne_true _ (λ m.
           elim (cases_lt (x / 64) k) [
             | inl before ↦ in_word_zero words x (none (x / 64) (omega arith) before) m
             | inr here ↦

@@ -1,5 +1,6 @@
 -- Entries with their steps are a run along the journal of these entries.
 use Rattle.std.proofs.Common.{◌≡◌, ⊎_elim, ℕ, zero, suc, ◌+◌, Bool, true, false, cond, ◌&&◌, nat_le, List, [], ◌∷◌, ◌++◌, Option, Some, None, refl, sym, ap, ◌∙◌, subst}
+use Rattle.std.proofs.lemmas.Option.{same_Some}
 use Rattle.sp_meaning.specs.Model.{Name, same_name, Language}
 use Rattle.sp_meaning.specs.Steps.{Advances, acts, unless}
 use Rattle.sp_meaning.specs.Own.{Setting, Process}
@@ -11,7 +12,6 @@ use Rattle.sp_meaning.specs.Along.{Either, ticks_of, due, Turn, Enters, Course, 
 use Rattle.sp_race.specs.Notes.{Event}
 use Rattle.sp_race.specs.Noting.{WithNotes}
 use Rattle.sp_race.proofs.GoodSteps.{steps}
-use Rattle.sp_race.proofs.Linking.{some_is}
 use Rattle.sp_witness.proofs.Moving.{Head, Tag, Block, Does, Runs, BlockRuns}
 use Rattle.sp_witness.proofs.Ticks.{ticks_by, ticks_after, said_same}
 use Rattle.sp_witness.proofs.Blocks.{IsMove, IsQuiet, AllQuiet, Says, IsLast, Valid, since_after, since_all, AllValid}
@@ -30,7 +30,7 @@ module _ (g : Setting) where
   module _ (turn : ℕ) (label : ℕ → Option Event) where
     module _ (s : WithNotes L) (h : Head) (x : Tag g) (m : WithNotes L) (does : Does g label s h x m) where
       own_is : does.good.makes.own ≡ x.own
-      own_is = some_is (sym does.good.makes.works ∙ does.fits.works)
+      own_is = same_Some _ _ (sym does.good.makes.works ∙ does.fits.works)
 
       says_is : says g s.state h.who x.own ≡ said_of {L = L} x.act (Advances [])
       says_is =

@@ -1,15 +1,16 @@
 -- The passes of the code over the entries of a run, entry by entry.
 use Rattle.std.proofs.Common.{◌≡◌, ◌≢◌, ◌⊎◌, inl, inr, ⊎_elim, ℕ, zero, suc, ◌+◌, ◌<◌, ◌≤◌, Bool, true, false, cond, ◌&&◌, ◌||◌, ◌==◌, List, [], ◌∷◌, ◌++◌, length, length-append, ◌^◌, get_or, take, drop, reverse, append_assoc, Option, Some, None, slice_get, refl, sym, ap, ◌∙◌, subst, arith}
 use Rattle.std.proofs.lemmas.List.{take_more, take-append-drop, reverse-append}
-use Rattle.std.proofs.lemmas.Bool.{cases_eq}
-use Rattle.std.proofs.lemmas.Option.{slice_get-get_or, get_or_from_slice_get}
+use Rattle.std.proofs.lemmas.Bool.{cases_eq, ne_eqb}
+use Rattle.std.proofs.lemmas.Option.{slice_get-get_or, get_or_from_slice_get, none-some, same_Some}
+use Rattle.sp_base.proofs.Facts.{is_or_false}
 use Rattle.sp_journal.specs.declared.entry.Birth.{Birth}
 use Rattle.sp_journal.specs.declared.entry.Entry.{Entry}
 use Rattle.sp_journal.specs.declared.entry.Event.{Event}
 use Rattle.sp_journal.specs.declared.entry.Event.TheVariants as event
 use Rattle.sp_journal.specs.Maps.{at_key}
 use Rattle.sp_journal.specs.Births.{Births, at_start, births, births_from, after_entry, after_event, CanFollow, GivesNumbers, NameableFrom}
-use Rattle.sp_journal.proofs.Facts.{here, apart, same, some_same, none_some}
+use Rattle.sp_journal.proofs.Facts.{here, same}
 use Rattle.sp_journal.proofs.BirthLaws.{Lawful, lawful}
 use Rattle.sp_journal.proofs.Walk.{left_is, more_births, can_follow, births_parts, birth_stays, any_entry}
 use Rattle.sp_witness.specs.Flags.{any_flag, parent_flag, flags_to_meet, flags_before, flags, marks, lines_after, partner_of}
@@ -27,8 +28,8 @@ more_lines es i d l = ap lines_of (take_more es i d l) ∙ lines_last (λ c. Non
 -- one item more
 last_item : {X : Type 0} (xs : List X) (x y : X) (k : ℕ) → slice_get (xs ++ x ∷ []) k ≡ Some y
     → (slice_get xs k ≡ Some y) ⊎ ((k ≡ length xs) × (y ≡ x))
-last_item [] x y zero h = inr (refl, some_same y x (sym h))
-last_item [] x y (suc k) h = absurd (none_some y h)
+last_item [] x y zero h = inr (refl, same_Some y x (sym h))
+last_item [] x y (suc k) h = absurd (none-some y h)
 last_item (z ∷ xs) x y zero h = inl h
 last_item (z ∷ xs) x y (suc k) h = ⊎_elim (λ a. inl a) (λ b. inr (ap suc b.0, b.1)) (last_item xs x y k h)
 
@@ -51,12 +52,8 @@ more_partners es i l partners o h is = (
 at_itself : (p : ℕ) (b : Bool) (f : ℕ → Bool) → at_key ◌==◌ p b f p ≡ b
 at_itself p b f = ap (λ t. cond t b (f p)) (here p p refl)
 
-or_false : (b : Bool) → b ≡ b || false
-or_false true = refl
-or_false false = refl
-
 meets_itself : (p : ℕ) (o : Option ℕ) (f : ℕ → Bool) → flags_to_meet p o f p ≡ f p || partner_flag f o
-meets_itself p None f = or_false (f p)
+meets_itself p None f = is_or_false (f p)
 meets_itself p (Some z) f = at_itself p (f p || f z) (at_key ◌==◌ z (f p || f z) f)
 
 -- the flag of the process itself before its event
@@ -95,7 +92,7 @@ same_flag p q f = by (p == q) (f p) (f q) (same_value p q f)
 
 met_flags : (p q : ℕ) (o : Option ℕ) (f : ℕ → Bool)
     → flags_to_meet p o f q ≡ with_partner (f p || partner_flag f o) o (with_flag (f p || partner_flag f o) p f) q
-met_flags p q None f = same_flag p q f ∙ ap (λ b. with_flag b p f q) (or_false (f p))
+met_flags p q None f = same_flag p q f ∙ ap (λ b. with_flag b p f q) (is_or_false (f p))
 met_flags p q (Some z) f = by (p == q) (z == q) (f p) (f z) (f q) (same_value p q f) (same_value z q f)
   where
     by : (a b x y r : Bool) → (a ≡ true → r ≡ x) → (b ≡ true → r ≡ y)
@@ -148,7 +145,7 @@ raised_last t p q f = by t (p == q) (f q) ∙ ap (λ b. f q || (t && b)) turned
     turned : p == q ≡ q == p
     turned = ⊎_elim
         (λ (e : p ≡ q). here p q e ∙ sym (here q p (sym e)))
-        (λ (n : p ≢ q). apart p q n ∙ sym (apart q p (λ e. n (sym e))))
+        (λ (n : p ≢ q). ne_eqb p q n ∙ sym (ne_eqb q p (λ e. n (sym e))))
         (cases_eq p q)
 
 module _ (earlier last : ℕ) (es : List Entry) (at : ℕ) (inside : at < length es) where

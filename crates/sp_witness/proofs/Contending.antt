@@ -1,5 +1,6 @@
 -- What the two offers of a witness meet: the earlier one finds nothing pending and waits, and the later one contends.
 use Rattle.std.proofs.Common.{◌≡◌, ◌≢◌, ◌⊎◌, ⊎_elim, ℕ, Bool, true, cond, List, [], ◌∷◌, Option, Some, None, refl, sym, ap, ◌∙◌, subst}
+use Rattle.std.proofs.lemmas.Option.{none-some, same_Some}
 use Rattle.sp_base.specs.declared.fault.Fault.TheVariants as fault
 use Rattle.sp_journal.specs.declared.entry.Way.{Way}
 use Rattle.sp_journal.specs.declared.entry.Way.TheVariants as way
@@ -19,7 +20,6 @@ use Rattle.sp_race.specs.Notes.{Event, Notes, all_noted, mine, offer_notes, note
 use Rattle.sp_race.specs.Noting.{WithNotes, notes_after}
 use Rattle.sp_race.proofs.NotesFrames.{notes_in, events_frame}
 use Rattle.sp_race.proofs.Commuting.{totals_made, passed_earlier}
-use Rattle.sp_race.proofs.Linking.{some_is, none_is}
 use Rattle.sp_witness.proofs.Independent.{IsLocal}
 use Rattle.sp_witness.proofs.Moving.{Head, Tag, Block, Does, Runs, BlockRuns}
 
@@ -32,28 +32,28 @@ pub record Offers (L : Language) (a : ActOf L) (w : Way) (c : Channel) : Type 0 
 
 pub offers_of : (L : Language) (a : ActOf L) (w : Way) (c : Channel)
     → said_of {L = L} a (Advances []) ≡ Some (Offered w c) → Offers L a w c
-offers_of L (Moves o ws) w c h = absurd (none_is h)
-offers_of L (Opens o ws) w c h = absurd (differ (some_is h))
+offers_of L (Moves o ws) w c h = absurd (none-some _ h)
+offers_of L (Opens o ws) w c h = absurd (differ (same_Some _ _ h))
   where
     differ : Opened ≡ Offered w c → ⊥
     differ e = cc
-offers_of L (Forks o os) w c h = absurd (differ (some_is h))
+offers_of L (Forks o os) w c h = absurd (differ (same_Some _ _ h))
   where
     differ : {n : ℕ} → Forked n ≡ Offered w c → ⊥
     differ e = cc
 offers_of L (Offering o) w c h =
-    record { offer = o; is = refl; way_is = way_same (some_is h); channel_is = channel_same (some_is h) }
+    record { offer = o; is = refl; way_is = way_same (same_Some _ _ h); channel_is = channel_same (same_Some _ _ h) }
   where
     way_same : {v : Way} {d : Channel} → Offered v d ≡ Offered w c → v ≡ w
     way_same e = cc
 
     channel_same : {v : Way} {d : Channel} → Offered v d ≡ Offered w c → d ≡ c
     channel_same e = cc
-offers_of L Ends w c h = absurd (differ (some_is h))
+offers_of L Ends w c h = absurd (differ (same_Some _ _ h))
   where
     differ : happenings.Ended ≡ Offered w c → ⊥
     differ e = cc
-offers_of L (Fails f) w c h = absurd (none_is h)
+offers_of L (Fails f) w c h = absurd (none-some _ h)
 
 -- offers of one way have no message
 no_message : {V T : Type 0} (a b : Cargo V T) → way_of a ≡ way_of b → message a b ≡ None
@@ -77,7 +77,7 @@ module _ (g : Setting) (label : ℕ → Option Event) where
     act = L.next does.good.makes.own s.state.store
 
     pub act_is : act ≡ x.act
-    act_is = ap (λ o. L.next o s.state.store) (some_is (sym does.good.makes.works ∙ does.fits.works)) ∙ does.fits.act_is
+    act_is = ap (λ o. L.next o s.state.store) (same_Some _ _ (sym does.good.makes.works ∙ does.fits.works)) ∙ does.fits.act_is
 
     pub local_pending : IsLocal x.act → (c : Channel) → m.state.pending c ≡ s.state.pending c
     local_pending loc c = ap (λ (z : StateOf g). z.pending c) does.good.to
@@ -159,7 +159,7 @@ module _ (g : Setting) (label : ℕ → Option Event) where
                   let here : at_channel (Some h.who) ≡ Some z = ap (λ ds. (after ds s.state).pending c) (sym list)
                   ∙ made in
                   let who : h.who ≡ z =
-                  some_is (sym (ap (λ b. cond b (Some h.who) (s.state.pending c)) ((channel_test o.channel c).1 on))
+                  same_Some _ _ (sym (ap (λ b. cond b (Some h.who) (s.state.pending c)) ((channel_test o.channel c).1 on))
                   ∙ here) in
                   let notes_are : m.notes ≡ s.notes = does.good.noted ∙ ap (λ a. notes_after s.state s.notes h.who a) is
                   ∙ ap (λ p. all_noted (offer_notes s.notes h.who o.channel (way_of o.cargo) p) s.notes) pe in
@@ -177,7 +177,7 @@ module _ (g : Setting) (label : ℕ → Option Event) where
                   let list = (met s.state h.who o y does.good.cs pe does_it).made in
                   let here : cond (same_channel o.channel c) None (s.state.pending c) ≡ Some z =
                   ap (λ ds. (after ds s.state).pending c) (sym list) ∙ made in
-                  absurd (none_is (sym (ap (λ b. cond b None (s.state.pending c)) ((channel_test o.channel c).1 on))
+                  absurd (none-some _ (sym (ap (λ b. cond b None (s.state.pending c)) ((channel_test o.channel c).1 on))
                   ∙ here))
 
     -- an offer that finds nothing pending waits

@@ -1,5 +1,6 @@
 -- A run without a fault at its end is ordered exactly where no schedule of the program meets contention.
 use Rattle.std.proofs.Common.{◌≡◌, ℕ, zero, suc, Bool, true, false, List, [], ◌∷◌, ◌++◌, slice_get, Some, None, refl, sym, ap, ◌∙◌, subst}
+use Rattle.std.proofs.lemmas.Option.{none-some}
 use Rattle.sp_base.specs.declared.fault.Fault.{Fault}
 use Rattle.sp_base.specs.declared.fault.Fault.TheVariants as fault
 use Rattle.sp_journal.specs.Names as happenings
@@ -17,7 +18,6 @@ use Rattle.sp_journal.specs.declared.entry.Way.{Way}
 use Rattle.sp_journal.specs.declared.outcome.End.{End}
 use Rattle.sp_journal.specs.declared.outcome.Verdict.{Verdict}
 use Rattle.sp_journal.specs.declared.outcome.Verdict.TheVariants as verdict
-use Rattle.sp_race.proofs.Linking.{none_is}
 use Rattle.sp_judge.specs.Races.{IsLeastRace, IsFault, IsVerdict}
 use Rattle.sp_judge.specs.Runs.{AllEndAlike, IsRunVerdict}
 
@@ -95,7 +95,7 @@ module _ (g : Setting) (turn : ℕ) (es : List Occurrence) (w : Way) (c : Channe
 
 -- where no schedule meets a fault, none contends
 pub alike_never : (g : Setting) (n : ℕ) (t : StateOf g) → AllEndAlike g n t → NeverContends g
-alike_never g n t alike qs u lawful w c first second h = none_is (sym (alike qs u lawful).quiet ∙ h.fault)
+alike_never g n t alike qs u lawful w c first second h = none-some _ (sym (alike qs u lawful).quiet ∙ h.fault)
 
 module _ (g : Setting) (turn : ℕ) (es : List Occurrence) (n : ℕ) (t : StateOf g) (e : End) (sure : IsFault e → ⊥)
     (clean : IsClean es)

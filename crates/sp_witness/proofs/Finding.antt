@@ -1,5 +1,8 @@
 -- The numbers of a nameable journal are found again by its names.
 use Rattle.std.proofs.Common.{◌≡◌, ◌≢◌, ℕ, zero, suc, ◌<◌, ◌≤◌, Bool, true, false, cond, ◌==◌, List, [], ◌∷◌, length, take, Option, Some, None, slice_get, map, eqb-true, eq-eqb, refl, sym, ap, ◌∙◌, arith}
+use Rattle.std.proofs.lemmas.Bool.{true≢false}
+use Rattle.std.proofs.lemmas.Option.{slice_get_within}
+use Rattle.sp_base.proofs.Facts.{length_of_map}
 use Rattle.sp_journal.specs.declared.entry.Event.{Event}
 use Rattle.sp_journal.specs.declared.entry.Event.TheVariants as event
 use Rattle.sp_journal.specs.declared.entry.Entry.{Entry}
@@ -27,11 +30,8 @@ module _ (s : Births) (law : Lawful s) where
           → cond (same_name (s.name n) (s.name q)) n (process_number s.name n (s.name q)) ≡ q
       by true e rest = ap (λ b. cond b n (process_number s.name n (s.name q))) (sym is ∙ e) ∙ eqb-true n q e
       by false e rest =
-          let d : n ≢ q = λ f. true_false (sym (eq-eqb n q f) ∙ e) in
+          let d : n ≢ q = λ f. true≢false (sym (eq-eqb n q f) ∙ e) in
           ap (λ b. cond b n (process_number s.name n (s.name q))) (sym is ∙ e) ∙ rest d
-        where
-          true_false : ◌≡◌ {A = Bool} true false → ⊥
-          true_false f = cc
 
   channel_found : (n c : ℕ) → c < n → n ≤ s.channels → channel_number s n (channel s c) ≡ c
   channel_found zero c lt le = absurd (omega (arith, lt))
@@ -44,11 +44,8 @@ module _ (s : Births) (law : Lawful s) where
           → cond (same_channel (channel s n) (channel s c)) n (channel_number s n (channel s c)) ≡ c
       by true e rest = ap (λ b. cond b n (channel_number s n (channel s c))) (sym is ∙ e) ∙ eqb-true n c e
       by false e rest =
-          let d : n ≢ c = λ f. true_false (sym (eq-eqb n c f) ∙ e) in
+          let d : n ≢ c = λ f. true≢false (sym (eq-eqb n c f) ∙ e) in
           ap (λ b. cond b n (channel_number s n (channel s c))) (sym is ∙ e) ∙ rest d
-        where
-          true_false : ◌≡◌ {A = Bool} true false → ⊥
-          true_false f = cc
 
   entry_found : (e : Entry) → CanFollow s e → numbered_entry s (occurrence s e) ≡ e
   entry_found e f =
@@ -77,18 +74,6 @@ found_from s (e ∷ es) law f =
 pub found : (es : List Entry) → NameableFrom at_start es → numbered (occurrences_from at_start es) ≡ es
 found es f = found_from at_start es lawful_start f
 
-length_map : {A B : Type 0} (f : A → B) (xs : List A) → length (map f xs) ≡ length xs
-length_map f [] = refl
-length_map f (x ∷ xs) = ap suc (length_map f xs)
-
-inside_by : (xs : List Entry) (i : ℕ) (e : Entry) → slice_get xs i ≡ Some e → i < length xs
-inside_by [] i e h = absurd (none_some h)
-  where
-    none_some : ◌≡◌ {A = Option Entry} None (Some e) → ⊥
-    none_some z = cc
-inside_by (x ∷ xs) zero e h = omega arith
-inside_by (x ∷ xs) (suc i) e h = let l = inside_by xs i e h in omega (arith, l)
-
 -- the picks by numbers are the first part by names
 pub picked_part : (es : List Entry) → NameableFrom at_start es → IsQuiet (occurrences_from at_start es)
     → IsClean (occurrences_from at_start es) → (earlier later : ℕ) → earlier < later → (two : Entry)
@@ -97,7 +82,7 @@ pub picked_part : (es : List Entry) → NameableFrom at_start es → IsQuiet (oc
     ≡ first_part (occurrences_from at_start es) earlier later
 picked_part es f quiet clean earlier later lt two got =
     let size : length (occurrences_from at_start es) ≡ length es = ap length (all_named es f)
-    ∙ length_map (occurrence (births es)) es in
-    let l = inside_by es later two got in
+    ∙ length_of_map (occurrence (births es)) es in
+    let l = slice_get_within es later two got in
     picks_taken es f earlier later two got
     ∙ whole_pass (occurrences_from at_start es) earlier later quiet clean lt (omega (arith, size, l))

@@ -1,6 +1,7 @@
 -- The pass by numbers picks what the pass by names takes.
 use Rattle.std.proofs.Common.{◌≡◌, ℕ, zero, suc, ◌+◌, ◌<◌, ◌≤◌, Bool, true, false, cond, ◌&&◌, ◌||◌, ◌==◌, List, [], ◌∷◌, ◌++◌, map, take, drop, Option, Some, None, slice_get, refl, sym, ap, ◌∙◌, subst, arith}
 use Rattle.std.proofs.lemmas.List.{take-append-drop}
+use Rattle.std.proofs.lemmas.Option.{none-some}
 use Rattle.sp_journal.specs.declared.entry.Event.{Event}
 use Rattle.sp_journal.specs.declared.entry.Event.TheVariants as event
 use Rattle.sp_journal.specs.declared.entry.Entry.{Entry}
@@ -222,10 +223,7 @@ take_map f (suc n) (x ∷ xs) = ap (λ z. f x ∷ z) (take_map f n xs)
 
 get_map : {A B : Type 0} (f : A → B) (n : ℕ) (xs : List A) (x : A) → slice_get xs n ≡ Some x
     → slice_get (map f xs) n ≡ Some (f x)
-get_map f n [] x h = absurd (none_some h)
-  where
-    none_some : {C : Type 0} {c : C} → ◌≡◌ {A = Option C} None (Some c) → ⊥
-    none_some e = cc
+get_map f n [] x h = absurd (none-some _ h)
 get_map f zero (y ∷ xs) x h = ap (option_of f) h
   where
     option_of : {C D : Type 0} → (C → D) → Option C → Option D

@@ -1,13 +1,13 @@
 -- The new numbers that the code gives the entries of a witness, entry by entry.
 use Rattle.std.proofs.Common.{◌≡◌, ◌≢◌, ⊎_elim, ℕ, ◌+◌, ◌-◌, ◌<◌, ◌≤◌, Bool, true, false, cond, ◌&&◌, ◌==◌, nat_lt, nat_le, List, [], ◌∷◌, ◌++◌, append_assoc, Option, Some, unwrap_or, length, get_or, take, drop, add-one, refl, sym, ap, ◌∙◌, arith}
-use Rattle.std.proofs.lemmas.Bool.{cases_eq}
+use Rattle.std.proofs.lemmas.Bool.{cases_eq, ne_eqb}
 use Rattle.std.proofs.lemmas.Bool.Decides.{nat_tests}
 use Rattle.std.proofs.Math.Seq.{drop-cons}
 use Rattle.sp_journal.specs.declared.entry.Entry.{Entry}
 use Rattle.sp_journal.specs.declared.entry.Event.{Event}
 use Rattle.sp_journal.specs.declared.entry.Event.TheVariants as event
 use Rattle.sp_journal.specs.Births.{Births, births, after_entry, after_event, CanFollow, GivesNumbers}
-use Rattle.sp_journal.proofs.Facts.{here, apart, between}
+use Rattle.sp_journal.proofs.Facts.{here, between}
 use Rattle.sp_journal.proofs.Walk.{left_is, more_births, any_entry}
 use Rattle.sp_witness.specs.Moved.{Table, table_after, moved_entry, moved, table_of}
 use Rattle.sp_witness.specs.Passes.{CanAdd}
@@ -33,7 +33,7 @@ one_number first child next q old x e = ⊎_elim
     ap (λ (t : Bool). cond t (next + child) old) (here (first + child) q f) ∙ k
     ∙ ap (λ (t : Bool). cond t (next + (q - first)) x) (sym (between first q (first + (child + 1)) a b)))
     (λ (n : first + child ≢ q).
-    ap (λ (t : Bool). cond t (next + child) old) (apart (first + child) q n) ∙ e
+    ap (λ (t : Bool). cond t (next + child) old) (ne_eqb (first + child) q n) ∙ e
     ∙ ap (λ (t : Bool). cond t (next + (q - first)) x) (same_test first q child n))
     (cases_eq (first + child) q)
 

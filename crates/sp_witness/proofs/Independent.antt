@@ -1,7 +1,11 @@
 -- A good step leaves what another running process does next, and what it knows; and who can step only after it has
 -- learned of it.
 use Rattle.std.proofs.Common.{◌≡◌, ◌≢◌, ◌⊎◌, ⊎_elim, inl, inr, ℕ, zero, suc, ◌+◌, ◌<◌, ◌≤◌, Bool, true, false, cond, ◌||◌, ◌==◌, List, [], ◌∷◌, ◌++◌, length, Option, Some, None, nat_lt, refl, sym, ap, ◌∙◌, subst, arith}
+use Rattle.std.proofs.Common.{zero-add}
+use Rattle.std.proofs.lemmas.Bool.{false≢true, or_left, or_right}
+use Rattle.std.proofs.lemmas.Option.{none-some, same_Some}
 use Rattle.sp_base.specs.declared.fault.Fault.TheVariants as fault
+use Rattle.sp_base.proofs.Facts.{nil_is_not_cons}
 use Rattle.sp_meaning.specs.Maps.{at_key}
 use Rattle.sp_meaning.specs.Asking.{Asking, Done, Loads, Puts, Asks, and_then}
 use Rattle.sp_meaning.specs.Model.{Name, Channel, same_name, Totals, Language, Act, Moves, Opens, Forks, Offering, Ends, Fails, Absent, Works, Waits, Joins, Ended, State, Change, Becomes, changed, after}
@@ -110,21 +114,9 @@ ended_before {L} (Becomes q c ∷ cs) t r n h =
     by true is e =
         let k : c ≡ (after cs (changed (Becomes q c) t)).condition r = ap (λ b. cond b c (t.condition r)) (sym is)
         ∙ e in
-        absurd (false_true (sym n.0 ∙ ap has_ended k ∙ h))
-      where
-        false_true : ◌≡◌ {A = Bool} false true → ⊥
-        false_true z = cc
+        absurd (false≢true (sym n.0 ∙ ap has_ended k ∙ h))
     by false is e = ap (λ b. cond b c (t.condition r)) (sym is) ∙ e
 ended_before (c ∷ cs) t r n h = ended_before cs (changed c t) r n h
-
-none_is : {A : Type 0} {x : A} → ◌≡◌ {A = Option A} None (Some x) → ⊥
-none_is e = cc
-
-some_is : {A : Type 0} {x y : A} → ◌≡◌ {A = Option A} (Some x) (Some y) → x ≡ y
-some_is e = cc
-
-nil_cons : {A : Type 0} {x : A} {xs : List A} → [] ≡ x ∷ xs → ⊥
-nil_cons e = cc
 
 abbrev head_child : Name → ℕ
 head_child [] = 0
@@ -132,11 +124,7 @@ head_child (x ∷ p) = x.1
 
 -- what a child learns at its birth
 both_right : (b : Bool) (f k : Event → Bool) (e : Event) → b ≡ true → k e ≡ true → cond b (both f k) f e ≡ true
-both_right true f k e is h = or_true (f e) (k e) h
-  where
-    or_true : (a c : Bool) → c ≡ true → a || c ≡ true
-    or_true true c h = refl
-    or_true false c h = h
+both_right true f k e is h = or_right (f e) (k e) h
 both_right false f k e is h = absurd (cc is)
 
 both_kept : (b : Bool) (f k : Event → Bool) (e : Event) → f e ≡ true → cond b (both f k) f e ≡ true
@@ -167,11 +155,7 @@ taught p k known x (suc m) n (suc i) e h lt =
     (taught p k known (suc x) m (noted (Learns ((k, x) ∷ p) known) n) i e h (omega (arith, lt)))
 
 knows_mine : (n : Notes) (p : Name) → knows n p (mine n p) ≡ true
-knows_mine n p = or_true (n.past p (mine n p)) (same_event (mine n p) (mine n p)) (itself event_test (mine n p))
-  where
-    or_true : (a c : Bool) → c ≡ true → a || c ≡ true
-    or_true true c h = refl
-    or_true false c h = h
+knows_mine n p = or_right (n.past p (mine n p)) (same_event (mine n p) (mine n p)) (itself event_test (mine n p))
 
 -- whom a step meets or forks learns of it
 near_learns : {L : Language} (s : State L) (n : Notes) (p : Name) (a : ActOf L) (q : Name) → q ≢ p → IsNear s p a q
@@ -193,10 +177,6 @@ near_learns {L} s n p a q apart near =
           ∷ Learns p (both (knows n p) (knows n q)) ∷ []) n) (mine n p)
           (or_left (knows n p (mine n p)) (knows n q (mine n p)) (knows_mine n p))),
     )
-      where
-        or_left : (a c : Bool) → a ≡ true → a || c ≡ true
-        or_left true c h = refl
-        or_left false c h = absurd (cc h)
     partner (Moves o ws) h = absurd h
     partner (Opens o ws) h = absurd h
     partner (Forks o os) h = absurd h
@@ -209,12 +189,9 @@ near_learns {L} s n p a q apart near =
       λ x. x,
       let m1 = noted (Learns p (same_event (mine n p))) (noted (Counts p) n) in
           subst (λ (r : Name). (all_noted (notes_of s n p (Forks o os)) n).past r (mine n p) ≡ true)
-          (ap (λ i. (s.forks p, i) ∷ p) (zero_add h.0) ∙ sym h.1)
+          (ap (λ i. (s.forks p, i) ∷ p) (zero-add h.0) ∙ sym h.1)
           (taught p (s.forks p) (knows n p) 0 (length os) m1 h.0 (mine n p) (knows_mine n p) h.2),
     )
-      where
-        zero_add : (i : ℕ) → 0 + i ≡ i
-        zero_add i = omega arith
     child (Moves o ws) h = absurd h
     child (Opens o ws) h = absurd h
     child (Offering o) h = absurd h
@@ -243,9 +220,9 @@ module _ {L : Language} {limits : Totals} (s : State L) (n : Notes) (p : Name) (
           partner (Offering o) = of_pending (s.pending o.channel)
             where
               of_pending : (m : Option Name) → (m ≡ Some q) ⊎ (m ≡ Some q → ⊥)
-              of_pending None = inr none_is
+              of_pending None = inr (none-some _)
               of_pending (Some z) =
-                  ⊎_elim (λ (e : z ≡ q). inl (ap (λ x. Some x) e)) (λ (e : z ≢ q). inr (λ h. e (some_is h)))
+                  ⊎_elim (λ (e : z ≡ q). inl (ap (λ x. Some x) e)) (λ (e : z ≢ q). inr (λ h. e (same_Some _ _ h)))
                   (same_or_not name_test z q)
           partner (Moves o ws) = inr (λ h. h)
           partner (Opens o ws) = inr (λ h. h)
@@ -259,7 +236,7 @@ module _ {L : Language} {limits : Totals} (s : State L) (n : Notes) (p : Name) (
               by_name : (r : Name)
                   → ((i : ℕ) × (r ≡ (s.forks p, i) ∷ p) × (i < length os))
                   ⊎ ((i : ℕ) × (r ≡ (s.forks p, i) ∷ p) × (i < length os) → ⊥)
-              by_name [] = inr (λ h. nil_cons h.1)
+              by_name [] = inr (λ h. nil_is_not_cons h.1)
               by_name (x ∷ r) = ⊎_elim
                   (λ (e : x ∷ r ≡ (s.forks p, x.1) ∷ p).
                   elim (nat_lt x.1 (length os)) as (λ b. nat_lt x.1 (length os) ≡ b
@@ -312,7 +289,7 @@ module _ {L : Language} {limits : Totals} (s : State L) (n : Notes) (p : Name) (
           (λ k i ended. sym (same ((k, i) ∷ q) (far k i))) w)
 
       by : (r : Name) → p ≡ r → (working s q ≡ Some own) ⊎ Learned q
-      by [] e = inl (before (λ k i h. nil_cons (sym (h ∙ e))))
+      by [] e = inl (before (λ k i h. nil_is_not_cons (sym (h ∙ e))))
       by (a ∷ r) e = ⊎_elim
           (λ (h : r ≡ q). inr (
             λ x. subst IsLocal is x,

@@ -1,5 +1,7 @@
 -- Numbering by tables gives the entries of a nameable journal with the same names.
 use Rattle.std.proofs.Common.{◌≡◌, ◌≢◌, ⊎_elim, ℕ, ◌+◌, ◌-◌, ◌<◌, ◌≤◌, Bool, true, false, cond, ◌==◌, List, [], ◌∷◌, ◌++◌, map, eqb-true, eq-eqb, refl, sym, ap, ◌∙◌, subst, arith}
+use Rattle.std.proofs.lemmas.Bool.{cases_lt, eqb-false, true≢false}
+use Rattle.sp_base.proofs.Facts.{cons_is_not_nil, nil_is_not_cons, same_head, same_tail}
 use Rattle.sp_journal.specs.declared.entry.Event.{Event}
 use Rattle.sp_journal.specs.declared.entry.Event.TheVariants as event
 use Rattle.sp_journal.specs.declared.entry.Entry.{Entry}
@@ -7,22 +9,10 @@ use Rattle.sp_journal.specs.declared.entry.Way.TheVariants as way
 use Rattle.sp_journal.specs.Maps.{at_key}
 use Rattle.sp_journal.specs.Names.{Channel, Forked, Offered, Faulted, Occurrence}
 use Rattle.sp_journal.specs.Births.{Births, after_event, after_entry, births_from, channel, CanFollow, GivesNumbers, NameableFrom, happening, occurrence, occurrences_from}
-use Rattle.sp_journal.proofs.Facts.{below, between, old_or_new}
+use Rattle.sp_journal.proofs.Facts.{below, between}
 use Rattle.sp_journal.proofs.BirthLaws.{Lawful, lawful_after}
 use Rattle.sp_judge.proofs.Numbers.{Stays, stays, one_channel, channel_stays, children_named}
 use Rattle.sp_witness.specs.Moved.{IsPlain, Table, moved_event, moved_entry, table_after, selected, moved, table_of, IsOwnFront}
-
-cons_nil : {A : Type 0} {x : A} {xs : List A} → x ∷ xs ≡ [] → ⊥
-cons_nil e = cc
-
-nil_cons : {A : Type 0} {x : A} {xs : List A} → [] ≡ x ∷ xs → ⊥
-nil_cons e = cc
-
-head_is : {A : Type 0} {x y : A} {xs ys : List A} → x ∷ xs ≡ y ∷ ys → x ≡ y
-head_is e = cc
-
-tail_is : {A : Type 0} {x y : A} {xs ys : List A} → x ∷ xs ≡ y ∷ ys → xs ≡ ys
-tail_is e = cc
 
 -- who is not there yet has made nothing
 abbrev pub IsBlank : Births → Type 0
@@ -220,10 +210,7 @@ module _ (t : Births) (law : Lawful t) where
           where
             by : (b : Bool) → e.process == q ≡ b → cond b true (dirty q) ≡ false → (q ≢ e.process) × (dirty q ≡ false)
             by true i h = absurd (cc h)
-            by false i h = (λ g. absurd (true_false (sym (eq-eqb e.process q (sym g)) ∙ i)), h)
-              where
-                true_false : ◌≡◌ {A = Bool} true false → ⊥
-                true_false z = cc
+            by false i h = (λ g. absurd (true≢false (sym (eq-eqb e.process q (sym g)) ∙ i)), h)
 
   -- an entry that is picked
   module _ (s s' : Births) (m : Table) (dirty : ℕ → Bool) (f : Follows t s s' m dirty) (stay : Stays s t) (e : Entry) (can : CanFollow s e) (after : Stays (after_entry s e) t) (can' : CanFollow s' (moved_entry m e)) (name_same : t.name e.process ≡ s'.name (m.process e.process)) (clean : dirty e.process ≡ false) where
@@ -355,7 +342,7 @@ module _ (t : Births) (law : Lawful t) where
         })
         (λ (l : s'.processes ≤ r). let o = new_origin r l lt in
         record { old = o.old; there = o.there; is = o.is; name = o.name })
-        (old_or_new r s'.processes)
+        (cases_lt r s'.processes)
 
     source_after : (d : ℕ) → d < s1'.channels → Source t s1' m1 s1 d
     source_after d lt = by e.event refl can.1 can'.1 lt
@@ -419,7 +406,7 @@ module _ (t : Births) (law : Lawful t) where
               name = subst (λ v. channel t s.channels ≡ channel (after_event s' e'.process (moved_event m v)) d)
                   (sym is) (same ∙ ap (channel (after_event s' e'.process event.Open)) d_is);
             })
-            (old_or_new d s'.channels)
+            (cases_lt d s'.channels)
           where
             at_old : (c : ℕ) → c < s.channels → cond (s.channels == c) m.channels (m.channel c) ≡ m.channel c
             at_old c b = by_test (s.channels == c) refl
@@ -495,12 +482,6 @@ module _ (t : Births) (law : Lawful t) where
         p'_in : e'.process < s1'.processes
         p'_in = let a = can'.0 in let b = grown'.processes in omega (arith, a, b)
 
-        differ : (a b : ℕ) → a == b ≡ false → a ≢ b
-        differ a b h g = true_false (sym (eq-eqb a b g) ∙ h)
-          where
-            true_false : ◌≡◌ {A = Bool} true false → ⊥
-            true_false z = cc
-
         others : q ≢ e.process → (s1'.forks r ≡ s1.forks q) × (s1'.opens r ≡ s1.opens q)
         others apart =
             let apart' : r ≢ e'.process =
@@ -523,7 +504,7 @@ module _ (t : Births) (law : Lawful t) where
             let u = f.blank q (subst (λ z. s.processes ≤ z) same o.fresh) in
             let v = f.blank_new r fresh in
             (v.0 ∙ sym u.0, v.1 ∙ sym u.1))
-            (old_or_new r s'.processes) in
+            (cases_lt r s'.processes) in
             (y.0 ∙ base.0 ∙ sym x.0, y.1 ∙ base.1 ∙ sym x.1)
 
         by_own : (b : Bool) → q == e.process ≡ b → (s1'.forks r ≡ s1.forks q) × (s1'.opens r ≡ s1.opens q)
@@ -534,7 +515,7 @@ module _ (t : Births) (law : Lawful t) where
               ap s1'.opens r_is ∙ own_made.1
                   ∙ ap s1.opens (sym q_is),
             )
-        by_own false h = others (differ q e.process h)
+        by_own false h = others (eqb-false q e.process h)
 
     pub picked_by : Follows t s1 s1' m1 dirty
     picked_by = record {
@@ -570,12 +551,12 @@ module _ (t : Births) (law : Lawful t) where
   numbers_move [] rest (b ∷ marks) s s' m dirty new extra ok whole named f own named' names = absurd ok
   numbers_move (e ∷ es) rest [] s s' m dirty new extra ok whole named f own named' names = absurd ok
   numbers_move (e ∷ es) rest (true ∷ marks) s s' m dirty [] extra ok whole named f own named' names =
-      absurd (nil_cons names)
+      absurd (nil_is_not_cons names)
   numbers_move (e ∷ es) rest (true ∷ marks) s s' m dirty (x ∷ new) extra ok whole named f own named' names =
       let stay : Stays s t = subst (Stays s) whole (stays s (e ∷ (es ++ rest))) in
       let after : Stays (after_entry s e) t =
       subst (Stays (after_entry s e)) whole (stays (after_entry s e) (es ++ rest)) in
-      let same : occurrence s' x ≡ occurrence t e = head_is names in
+      let same : occurrence s' x ≡ occurrence t e = same_head names in
       let is : moved_entry m e ≡ x = moved_is s s' m dirty f stay e x named.0 named'.0 same in
       let can' : CanFollow s' (moved_entry m e) = subst (CanFollow s') (sym is) named'.0 in
       let name_same : t.name e.process ≡ s'.name (m.process e.process) = ap (λ (o : Occurrence). o.who) (sym same)
@@ -585,7 +566,7 @@ module _ (t : Births) (law : Lawful t) where
       dirty new extra ok whole named.1 g own.1
       (subst (λ z. NameableFrom (after_entry s' z) new) (sym is) named'.1)
       (subst (λ z. occurrences_from (after_entry s' z) new ≡ map (occurrence t) (selected es marks) ++ extra)
-      (sym is) (tail_is names)) in
+      (sym is) (same_tail names)) in
       record {
         left = r.left;
         whole = λ i. sym is i ∷ r.whole i;
@@ -616,13 +597,13 @@ module _ (t : Births) (law : Lawful t) where
       → Stays s t → ArePlain s es → NameableFrom s' new → occurrences_from s' new ≡ map (occurrence t) es
       → new ≡ map (moved_entry m) es
   plain_move [] [] s s' m dirty f stay plain named names = refl
-  plain_move [] (x ∷ new) s s' m dirty f stay plain named names = absurd (cons_nil names)
-  plain_move (e ∷ es) [] s s' m dirty f stay plain named names = absurd (nil_cons names)
+  plain_move [] (x ∷ new) s s' m dirty f stay plain named names = absurd (cons_is_not_nil names)
+  plain_move (e ∷ es) [] s s' m dirty f stay plain named names = absurd (nil_is_not_cons names)
   plain_move (e ∷ es) (x ∷ new) s s' m dirty f stay plain named names =
-      let is : moved_entry m e ≡ x = moved_is s s' m dirty f stay e x plain.0 named.0 (head_is names) in
+      let is : moved_entry m e ≡ x = moved_is s s' m dirty f stay e x plain.0 named.0 (same_head names) in
       let none : after_entry s' x ≡ s' = ap (after_entry s') (sym is) ∙ gives_nothing e.event plain.1 in
       let r = plain_move es new s s' m dirty f stay plain.2 (subst (λ z. NameableFrom z new) none named.1)
-      (subst (λ z. occurrences_from z new ≡ map (occurrence t) es) none (tail_is names)) in
+      (subst (λ z. occurrences_from z new ≡ map (occurrence t) es) none (same_tail names)) in
       λ i. sym is i ∷ r i
     where
       gives_nothing : (v : Event) → IsPlain v → after_event s' (m.process e.process) (moved_event m v) ≡ s'

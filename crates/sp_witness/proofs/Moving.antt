@@ -1,6 +1,8 @@
 -- Steps that do not depend on an earlier one move in front of it. Each step carries what it is: whose, of which entry,
 -- what its process knew, and the act.
 use Rattle.std.proofs.Common.{◌≡◌, ◌≢◌, ◌⊎◌, ⊎_elim, inl, inr, ℕ, ◌<◌, Bool, true, false, cond, if◌then◌else◌, List, [], ◌∷◌, Option, Some, refl, sym, ap, ◌∙◌, subst}
+use Rattle.std.proofs.lemmas.Bool.{true≢false}
+use Rattle.std.proofs.lemmas.Option.{same_Some}
 use Rattle.sp_meaning.specs.Model.{Name, Language}
 use Rattle.sp_meaning.specs.Steps.{ActOf, outcome, result_of, working}
 use Rattle.sp_meaning.specs.Own.{Setting, Process}
@@ -116,10 +118,7 @@ module _ (g : Setting) where
           back e = free.0 (sym e)
 
           own_is : h.good.makes.own ≡ x.own
-          own_is = some_is (sym h.good.makes.works ∙ h.fits.works)
-            where
-              some_is : {A : Type 0} {u v : A} → ◌≡◌ {A = Option A} (Some u) (Some v) → u ≡ v
-              some_is e = cc
+          own_is = same_Some _ _ (sym h.good.makes.works ∙ h.fits.works)
 
           never : (IsLocal (L.next h.good.makes.own s.state.store) → ⊥)
               × ((notes_after s.state s.notes a.who (L.next h.good.makes.own s.state.store)).past b.who
@@ -132,11 +131,8 @@ module _ (g : Setting) where
               k.past a.at (mine s.notes a.who) free.1 is in
               let learned : s1.notes.past b.who (mine s.notes a.who) ≡ true =
               ap (λ (v : Notes). v.past b.who (mine s.notes a.who)) h.good.noted ∙ l.1 in
-              true_false (sym learned ∙ seen ∙ free.2))
+              true≢false (sym learned ∙ seen ∙ free.2))
               h.fits.named
-            where
-              true_false : ◌≡◌ {A = Bool} true false → ⊥
-              true_false e = cc
 
           first : working s.state b.who ≡ Some y.own → Ready s b y
           first w =

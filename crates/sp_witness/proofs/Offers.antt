@@ -1,7 +1,7 @@
 -- The two entries of a race are there, and the earlier one is an offer.
 use Rattle.std.proofs.Common.{◌≡◌, ◌<◌, ℕ, zero, suc, List, [], ◌∷◌, length, Some, slice_get, refl, sym, ap, subst}
 use Rattle.std.specs.Option.{IfSome}
-use Rattle.std.proofs.lemmas.Option.{slice_get_within}
+use Rattle.std.proofs.lemmas.Option.{slice_get_within, none-some, same_Some}
 use Rattle.sp_journal.specs.declared.entry.Entry.{Entry}
 use Rattle.sp_journal.specs.declared.entry.Event.{Event}
 use Rattle.sp_journal.specs.declared.entry.Event.TheVariants as event
@@ -9,7 +9,6 @@ use Rattle.sp_journal.specs.declared.entry.Journal.{Journal}
 use Rattle.sp_journal.specs.declared.entry.Way.{Way}
 use Rattle.sp_journal.specs.Names.{Channel, Happening, Offered, Occurrence}
 use Rattle.sp_journal.specs.Births.{Births, at_start, after_entry, happening, occurrences, occurrences_from}
-use Rattle.sp_race.proofs.Linking.{some_is, none_is}
 use Rattle.sp_judge.specs.Races.{Race}
 use Rattle.sp_witness.specs.Moved.{IsPlain}
 
@@ -22,9 +21,9 @@ record At (es : List Entry) (i : ℕ) (what : Happening) : Type 0 where
 
 entry_at : (s : Births) (es : List Entry) (i : ℕ) (o : Occurrence) → slice_get (occurrences_from s es) i ≡ Some o
     → At es i o.what
-entry_at s [] i o h = absurd (none_is h)
+entry_at s [] i o h = absurd (none-some _ h)
 entry_at s (e ∷ es) zero o h =
-    record { entry = e; births = s; got = refl; says = ap (λ (z : Occurrence). z.what) (some_is h) }
+    record { entry = e; births = s; got = refl; says = ap (λ (z : Occurrence). z.what) (same_Some _ _ h) }
 entry_at s (e ∷ es) (suc i) o h =
     let r = entry_at (after_entry s e) es i o h in
     record { entry = r.entry; births = r.births; got = r.got; says = r.says }

@@ -1,18 +1,18 @@
 -- Before the later offer of the least race a journal is in order.
 use Rattle.std.proofs.Common.{◌≡◌, ⊎_elim, ℕ, zero, suc, ◌+◌, ◌<◌, ◌≤◌, Bool, true, false, List, [], ◌∷◌, ◌++◌, length, take, take_at, Option, Some, None, slice_get, refl, sym, ap, ◌∙◌, subst, arith}
+use Rattle.std.proofs.lemmas.Bool.{true≢false}
+use Rattle.std.proofs.lemmas.Option.{none-some, same_Some, slice_get_within}
 use Rattle.sp_journal.specs.declared.entry.Way.{Way}
 use Rattle.sp_journal.specs.Names.{Name, Channel, Happening, Opened, Forked, Offered, Ended, Faulted, Laid, Paused, Occurrence}
 use Rattle.sp_journal.specs.Past.{Judged, judged_by, judged, nothing_judged, KnowsCompletions, CompletedFrom}
 use Rattle.sp_race.specs.Known.{AreKnown}
-use Rattle.sp_race.proofs.Linking.{some_is, none_is}
 use Rattle.sp_race.proofs.Completion.{ordered_known}
-use Rattle.sp_past.proofs.Prefixing.{get_inside}
 use Rattle.sp_judge.specs.Races.{KnowsCompletion, IsLeastRace}
 use Rattle.sp_witness.proofs.Pasts.{Stage, next_stage}
 
 pub get_front : (xs ys : List Occurrence) (i : ℕ) (e : Occurrence) → slice_get xs i ≡ Some e
     → slice_get (xs ++ ys) i ≡ Some e
-get_front [] ys i e h = absurd (none_is h)
+get_front [] ys i e h = absurd (none-some _ h)
 get_front (x ∷ xs) ys zero e h = h
 get_front (x ∷ xs) ys (suc i) e h = get_front xs ys i e h
 
@@ -39,7 +39,7 @@ module _ (es : List Occurrence) (w : Way) (c : Channel) (earlier later : ℕ) (l
       never : (v : Way) (d : Channel) → e.what ≡ Offered v d → (i : ℕ) (z : Name)
           → slice_get done i ≡ Some (record { who = z; what = Offered v d }) → (KnowsCompletion j e.who i → ⊥) → ⊥
       never v d is i z got no_one =
-          let inside = get_inside done i _ got in
+          let inside = slice_get_within done i _ got in
           let size = st.size in
           ⊎_elim (λ (lt : later < n). omega (arith, lt, le)) (λ (x : (later ≡ n) × (earlier ≤ i)). let s = x.0 in
           omega (arith, s, le)) (least.1 v d i n (record {
@@ -58,16 +58,13 @@ module _ (es : List Occurrence) (w : Way) (c : Channel) (earlier later : ℕ) (l
       knows_offer v d is i z got = by (j.completed i) refl
         where
           by : (o : Option ℕ) → j.completed i ≡ o → (m : ℕ) × (j.completed i ≡ Some m) × (j.past e.who m ≡ true)
-          by None f = absurd (never v d is i z got (λ k. none_is (sym f ∙ k.1)))
+          by None f = absurd (never v d is i z got (λ k. none-some _ (sym f ∙ k.1)))
           by (Some m) f = elim (j.past e.who m) as (λ b. j.past e.who m ≡ b
               → (m : ℕ) × (j.completed i ≡ Some m) × (j.past e.who m ≡ true)) [
                 | true ↦ λ p. (m, f, p)
                 | false ↦ λ p. absurd
-                    (never v d is i z got (λ k. true_false (sym k.2 ∙ ap (j.past e.who) (some_is (sym k.1 ∙ f)) ∙ p)))
+                    (never v d is i z got (λ k. true≢false (sym k.2 ∙ ap (j.past e.who) (same_Some _ _ (sym k.1 ∙ f)) ∙ p)))
               ] refl
-            where
-              true_false : ◌≡◌ {A = Bool} true false → ⊥
-              true_false e = cc
 
       knows : (h : Happening) → e.what ≡ h → KnowsCompletions j done e.who h
       knows (Offered v d) is = knows_offer v d is

@@ -1,6 +1,7 @@
 -- The marks of the pass take each process's entries from its first one on without a gap; so the tables number the
 -- witness.
 use Rattle.std.proofs.Common.{◌≡◌, ◌≢◌, ℕ, suc, ◌<◌, Bool, true, false, cond, ◌==◌, List, [], ◌∷◌, ◌++◌, length, map, take, take_at, Option, Some, None, slice_get, eqb-true, refl, sym, ap, ◌∙◌, subst, arith}
+use Rattle.std.proofs.lemmas.Bool.{false_from_ne_true, false≢true}
 use Rattle.sp_base.specs.declared.fault.Fault.TheVariants as fault
 use Rattle.sp_journal.specs.declared.entry.Event.TheVariants as event
 use Rattle.sp_journal.specs.declared.entry.Entry.{Entry}
@@ -77,13 +78,9 @@ module _ (t : Births) (os : List Occurrence) (earlier later : ℕ) (mark : ℕ �
           → IsOwnFront d es (member_marks os earlier later (suc n) (map (occurrence t) es)))
           → IsOwnFront dirty (e ∷ es) (b ∷ member_marks os earlier later (suc n) (map (occurrence t) es))
       by true is go = (
-        not_true (dirty e.process) (λ h. (none e.process h).0 (m.0 ∙ is) refl),
+        false_from_ne_true (dirty e.process) (λ h. (none e.process h).0 (m.0 ∙ is) refl),
         go dirty (λ q h. (none q h).1),
       )
-        where
-          not_true : (x : Bool) → (x ≡ true → ⊥) → x ≡ false
-          not_true true h = absurd (h refl)
-          not_true false h = refl
       by false is go = go (at_key ◌==◌ e.process true dirty) (λ q h. at (e.process == q) q refl h)
         where
           at : (x : Bool) (q : ℕ) → e.process == q ≡ x → cond x true (dirty q) ≡ true
@@ -147,12 +144,9 @@ numbers_by_tables j named quiet clean earlier later lt one two got_one got_two p
     ok (omega (arith, size_is)) in
     let own = subst (IsOwnFront (λ x. false) front) (sym same)
     (own_fronts t os earlier later mark front nothing_judged 0 (λ x. false) say cuts
-    (λ x h. absurd (false_true h))) in
+    (λ x h. absurd (false≢true h))) in
     tables_number j named earlier later lt one two got_one got_two plain
     (marks earlier two.process at_start (λ c. None) 0 front)
     (each_marked earlier two.process at_start (λ c. None) 0 front) own
     (ap (map (occurrence t)) (selects earlier two.process at_start (λ c. None) 0 front)
     ∙ picked_part es named quiet clean earlier later lt two got_two) named' names
-  where
-    false_true : ◌≡◌ {A = Bool} false true → ⊥
-    false_true e = cc

@@ -2,6 +2,8 @@
 -- last entry of each process.
 use Rattle.std.proofs.Common.{◌≡◌, ◌≢◌, ◌⊎◌, ⊎_elim, inl, inr, ℕ, suc, ◌+◌, ◌<◌, ◌≤◌, nat_lt, Bool, true, false, cond, ◌&&◌, ◌||◌, ◌==◌, if◌then◌else◌, List, [], ◌∷◌, ◌++◌, length, append_assoc, Option, Some, slice_get, eq-eqb, refl, sym, ap, ◌∙◌, subst, arith}
 use Rattle.std.proofs.lemmas.Bool.Decides.{nat_tests}
+use Rattle.std.proofs.lemmas.Bool.{lt-ltb, ne_eqb, or_parts}
+use Rattle.sp_base.proofs.Facts.{cons_is_not_nil, nil_is_not_cons, same_head, same_tail, true_is_not_false}
 use Rattle.sp_journal.specs.Names.{Name, Channel, same_name, Happening, Opened, Forked, Offered, Ended, Faulted, Laid, Paused, Occurrence}
 use Rattle.sp_journal.specs.Past.{Judged, judged_by, judged_from}
 use Rattle.sp_meaning.specs.Own.{Setting}
@@ -11,19 +13,12 @@ use Rattle.sp_meaning.proofs.Keys.{name_test}
 use Rattle.sp_past.specs.Prefixes.{is_counted, WaitsForNone}
 use Rattle.sp_past.proofs.Prefixing.{Kept}
 use Rattle.sp_race.specs.Notes.{Event}
-use Rattle.sp_race.proofs.Linking.{grown_size, index_apart}
+use Rattle.sp_race.proofs.Linking.{grown_size}
 use Rattle.sp_witness.specs.Witness.{who_at, past_before, is_pause, is_known, offers_after, is_member, is_among, members}
 use Rattle.sp_witness.proofs.Moving.{Head, Free, MarkedFree, Cuts, Block, heads, kept, left, EachFree}
 use Rattle.sp_witness.proofs.Pasts.{heads_from, Stage, past_here, MarksAre}
 use Rattle.sp_witness.proofs.Blocks.{Valid, since_after, since_all, AllValid}
 use Rattle.sp_witness.proofs.Back.{entry_of, entries}
-
-true_false : {A : Type 0} → ◌≡◌ {A = Bool} true false → A
-true_false e = absurd (cc e)
-
-or_none : (a b : Bool) → a || b ≡ false → (a ≡ false) × (b ≡ false)
-or_none true b h = true_false h
-or_none false b h = (refl, h)
 
 -- h depends on none of these that are not marked
 abbrev pub UnmarkedFree : (ℕ → Bool) → List Head → Head → Type 0
@@ -53,7 +48,7 @@ module _ (es : List Occurrence) (earlier later : ℕ) where
         (eq-eqb n n refl),
     marks_from mark (suc n) mid (λ k le. h k (omega (arith, le))
         ∙ ap (λ b. cond b (member n e (among e.who (suc n) mid)) (mark_in (suc n) mid k))
-        (index_apart n k (λ e. omega (arith, e, le)))),
+        (ne_eqb n k (λ e. omega (arith, e, le)))),
   )
 
   pub marks_are : (mid : List Occurrence) → MarksAre es earlier later (mark_in 0 mid) 0 mid
@@ -71,27 +66,15 @@ module _ (es : List Occurrence) (earlier later : ℕ) where
       → heads g bs ≡ heads_from j n mid → MarksAre es earlier later mark n mid
       → entries g (kept g mark bs) ≡ members es earlier later n mid
   members_are g mark j n [] [] e m = refl
-  members_are g mark j n [] (b ∷ bs) e m = absurd (cons_nil e)
-    where
-      cons_nil : {A : Type 0} {x : A} {xs : List A} → x ∷ xs ≡ [] → ⊥
-      cons_nil e = cc
-  members_are g mark j n (x ∷ mid) [] e m = absurd (nil_cons e)
-    where
-      nil_cons : {A : Type 0} {x : A} {xs : List A} → [] ≡ x ∷ xs → ⊥
-      nil_cons e = cc
+  members_are g mark j n [] (b ∷ bs) e m = absurd (cons_is_not_nil e)
+  members_are g mark j n (x ∷ mid) [] e m = absurd (nil_is_not_cons e)
   members_are g mark j n (x ∷ mid) (b ∷ bs) e m =
-      let h : b.head ≡ record { who = x.who; what = x.what; at = n; knows = j.past x.who } = head_is e in
+      let h : b.head ≡ record { who = x.who; what = x.what; at = n; knows = j.past x.who } = same_head e in
       let r : entries g (kept g mark bs) ≡ members es earlier later (suc n) mid =
-      members_are g mark (judged_by j n x.who x.what) (suc n) mid bs (tail_is e) m.1 in
+      members_are g mark (judged_by j n x.who x.what) (suc n) mid bs (same_tail e) m.1 in
       let t : mark b.head.at ≡ member n x (among x.who (suc n) mid) = ap (λ (z : Head). mark z.at) h ∙ m.0 in
       by (mark b.head.at) ∙ (λ i. cond (t i) (entry_of (h i) ∷ r i) (r i))
     where
-      head_is : {A : Type 0} {x y : A} {xs ys : List A} → x ∷ xs ≡ y ∷ ys → x ≡ y
-      head_is e = cc
-
-      tail_is : {A : Type 0} {x y : A} {xs ys : List A} → x ∷ xs ≡ y ∷ ys → xs ≡ ys
-      tail_is e = cc
-
       by : (c : Bool) → entries g (cond c (b ∷ kept g mark bs) (kept g mark bs))
           ≡ cond c (entry_of b.head ∷ entries g (kept g mark bs)) (entries g (kept g mark bs))
       by true = refl
@@ -103,9 +86,6 @@ module _ (es : List Occurrence) (earlier later : ℕ) where
       (stage : Stage es before (target ∷ rest) ji i) (kept_i : Kept ji before)
       (quiet_i : WaitsForNone ji target.who) (who_is : who_at es i ≡ target.who) where
 
-    below_at : (n i : ℕ) → n < i → nat_lt n i ≡ true
-    below_at n i lt = grind (arith, nat_tests, lt)
-
     free_at : (n : ℕ) (x : Occurrence) (f : ℕ → Bool) → n < i → slice_get before n ≡ Some x → IsCleanly x.what
         → (b : Bool) → member n x b ≡ false
         → Free (record { who = x.who; what = x.what; at = n; knows = f })
@@ -113,14 +93,14 @@ module _ (es : List Occurrence) (earlier later : ℕ) where
     free_at n x f lt got clean b out = (apart, lt, not_known)
       where
         parts : (known n ≡ false) × (is_pause x.what && (offers_after es earlier later x.who n || b) ≡ false)
-        parts = or_none (known n) (is_pause x.what && (offers_after es earlier later x.who n || b)) out
+        parts = or_parts (known n) (is_pause x.what && (offers_after es earlier later x.who n || b)) out
 
         not_known : ji.past target.who n ≡ false
         not_known = sym (past_here es before target rest ji i stage n) ∙ unknown n parts.0
 
         own : (h : Happening) → x.what ≡ h → is_counted h ≡ true → x.who ≢ target.who
         own h is c e = ⊎_elim
-            (λ (p : ji.past x.who n ≡ true). true_false (sym p
+            (λ (p : ji.past x.who n ≡ true). true_is_not_false (sym p
             ∙ subst (λ (z : Name). ji.past z n ≡ false) (sym e) not_known))
             (λ (w : (d : Channel) × (ji.pending d ≡ Some (x.who, n))). quiet_i w.0 n (w.1 ∙ (λ i. Some (e i, n))))
             (kept_i.own x.who n (h, got ∙ (λ i. Some (record { who = x.who; what = is i })), c))
@@ -130,9 +110,9 @@ module _ (es : List Occurrence) (earlier later : ℕ) where
             let z : is_pause x.what && (offers_after es earlier later x.who n || b) ≡ false = parts.1 in
             let y : offers_after es earlier later x.who n || b ≡ false =
             ap (λ c. c && (offers_after es earlier later x.who n || b)) (sym p) ∙ z in
-            let o = offers x.who n (or_none (offers_after es earlier later x.who n) b y).0 in
+            let o = offers x.who n (or_parts (offers_after es earlier later x.who n) b y).0 in
             let same : same_name x.who (who_at es i) ≡ true = (name_test x.who (who_at es i)).1 (e ∙ sym who_is) in
-            true_false (sym (below_at n i lt) ∙ (ap (λ c. c && nat_lt n i) (sym same) ∙ o))
+            true_is_not_false (sym (lt-ltb n i lt) ∙ (ap (λ c. c && nat_lt n i) (sym same) ∙ o))
 
         apart : x.who ≢ target.who
         apart = by x.what refl clean
@@ -276,10 +256,7 @@ pub record Split (g : Setting) (xs : List Head) (y : Head) (ys : List Head) (bs 
 
 pub split : (g : Setting) (xs : List Head) (y : Head) (ys : List Head) (bs : List (Block g)) → heads g bs ≡ xs ++ y ∷ ys
     → Split g xs y ys bs
-split g [] y ys [] e = absurd (nil_cons e)
-  where
-    nil_cons : {A : Type 0} {x : A} {xs : List A} → [] ≡ x ∷ xs → ⊥
-    nil_cons e = cc
+split g [] y ys [] e = absurd (nil_is_not_cons e)
 split g [] y ys (b ∷ bs) e =
     record {
       front = [];
@@ -287,38 +264,23 @@ split g [] y ys (b ∷ bs) e =
       back = bs;
       whole = refl;
       front_is = refl;
-      block_is = head_is e;
+      block_is = same_head e;
       back_is =
-          tail_is e;
+          same_tail e;
     }
-  where
-    head_is : {A : Type 0} {x y : A} {xs ys : List A} → x ∷ xs ≡ y ∷ ys → x ≡ y
-    head_is e = cc
-
-    tail_is : {A : Type 0} {x y : A} {xs ys : List A} → x ∷ xs ≡ y ∷ ys → xs ≡ ys
-    tail_is e = cc
-split g (x ∷ xs) y ys [] e = absurd (nil_cons e)
-  where
-    nil_cons : {A : Type 0} {x : A} {xs : List A} → [] ≡ x ∷ xs → ⊥
-    nil_cons e = cc
+split g (x ∷ xs) y ys [] e = absurd (nil_is_not_cons e)
 split g (x ∷ xs) y ys (b ∷ bs) e =
-    let r = split g xs y ys bs (tail_is e) in
+    let r = split g xs y ys bs (same_tail e) in
     record {
       front = b ∷ r.front;
       block = r.block;
       back = r.back;
       whole = ap (λ z. b ∷ z) r.whole;
       front_is =
-          (λ i. head_is e i ∷ r.front_is i);
+          (λ i. same_head e i ∷ r.front_is i);
       block_is = r.block_is;
       back_is = r.back_is;
     }
-  where
-    head_is : {A : Type 0} {x y : A} {xs ys : List A} → x ∷ xs ≡ y ∷ ys → x ≡ y
-    head_is e = cc
-
-    tail_is : {A : Type 0} {x y : A} {xs ys : List A} → x ∷ xs ≡ y ∷ ys → xs ≡ ys
-    tail_is e = cc
 
 pub heads_append : (j : Judged) (n : ℕ) (xs ys : List Occurrence)
     → heads_from j n (xs ++ ys) ≡ heads_from j n xs ++ heads_from (judged_from j n xs) (n + length xs) ys

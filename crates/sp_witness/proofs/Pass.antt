@@ -1,27 +1,20 @@
 -- The pass backwards takes exactly the first part of the witness.
 use Rattle.std.proofs.Common.{◌≡◌, ◌≢◌, ◌⊎◌, ⊎_elim, inl, inr, ℕ, suc, ◌+◌, ◌<◌, ◌≤◌, nat_lt, Bool, true, false, cond, ◌&&◌, ◌||◌, ◌==◌, List, [], ◌∷◌, ◌++◌, length, Some, slice_get, eqb-true, eq-eqb, refl, sym, ap, ◌∙◌, subst, arith}
 use Rattle.std.proofs.lemmas.Bool.Decides.{nat_tests}
+use Rattle.std.proofs.lemmas.Bool.{and_from, lt-ltb, ltb-true, or_cases, or_left, or_right}
+use Rattle.std.proofs.lemmas.Option.{slice_get_within}
+use Rattle.sp_base.proofs.Facts.{first_true, same_if_both_follow, second_true, true_is_not_false}
 use Rattle.sp_journal.specs.Names.{Name, Channel, same_name, Happening, Opened, Forked, Offered, Ended, Faulted, Laid, Paused, Occurrence}
 use Rattle.sp_journal.specs.Past.{Judged, judged_by}
 use Rattle.sp_meaning.specs.Along.{IsCleanly, IsClean}
-use Rattle.sp_meaning.proofs.Keys.{and_left, and_right, and_both}
 use Rattle.sp_past.specs.Prefixes.{WaitsForNone, QuietFrom}
 use Rattle.sp_past.proofs.Keys.{name_is, name_itself}
-use Rattle.sp_past.proofs.Prefixing.{or_cases, or_left, or_right, get_inside}
 use Rattle.sp_witness.specs.Witness.{who_of, who_at, past_before, is_pause, is_known, offers_after, is_member, is_among, members}
 use Rattle.sp_witness.specs.Needed.{needed_before, needed, taken, needed_marks}
 use Rattle.sp_witness.proofs.Pasts.{Stage, next_stage, past_here}
 use Rattle.sp_witness.proofs.Order.{get_at}
 use Rattle.sp_witness.proofs.Standing.{Stands, stands_next}
 use Rattle.sp_witness.proofs.Passing.{Has, Someone, IsCounted, more, passed, newly, pends_after, none_yet}
-
-true_false : {A : Type 0} → ◌≡◌ {A = Bool} true false → A
-true_false e = absurd (cc e)
-
-both_ways : (a b : Bool) → (a ≡ true → b ≡ true) → (b ≡ true → a ≡ true) → a ≡ b
-both_ways true b f g = sym (f refl)
-both_ways false true f g = g refl
-both_ways false false f g = refl
 
 module _ (es : List Occurrence) (earlier later : ℕ) where
   abbrev among : Name → ℕ → List Occurrence → Bool
@@ -59,12 +52,6 @@ module _ (es : List Occurrence) (earlier later : ℕ) where
       → Stage es done (e ∷ rest) j n → who_at es n ≡ e.who
   who_here done e rest j n st = ap who_of (ap (λ xs. slice_get xs n) st.whole ∙ get_at done e rest n st.size)
 
-  lt_true : (n i : ℕ) → n < i → nat_lt n i ≡ true
-  lt_true n i lt = grind (arith, nat_tests, lt)
-
-  true_lt : (n i : ℕ) → nat_lt n i ≡ true → n < i
-  true_lt n i h = grind (arith, nat_tests, h)
-
   module _ (in_order : earlier < later) (below_first : (k : ℕ) → past_before es earlier k ≡ true → k < earlier) (two : Occurrence) (after : List Occurrence) where
     -- before the later offer
     at_end : (done : List Occurrence) (j : Judged) (n : ℕ) → Stage es done (two ∷ after) j n → n ≡ later
@@ -95,7 +82,7 @@ module _ (es : List Occurrence) (earlier later : ℕ) where
           (λ (x : who_at es later ≡ q). subst (λ z. same_name z (who_at es later) ≡ true) x
           (name_itself (who_at es later)))
           o;
-      members_too = λ q h. true_false (sym h);
+      members_too = λ q h. true_is_not_false (sym h);
       same = refl;
       marks_same = refl;
     }
@@ -122,7 +109,7 @@ module _ (es : List Occurrence) (earlier later : ℕ) where
       below q i h = stands.paired.below q i h
 
       bound : (c : Channel) (z : Name) (o : ℕ) → j.pending c ≡ Some (z, o) → o < n
-      bound c z o h = subst (λ k. o < k) st.size (get_inside done o _ (stands.kept.waiting c z o h).1)
+      bound c z o h = subst (λ k. o < k) st.size (slice_get_within done o _ (stands.kept.waiting c z o h).1)
 
       abbrev M : Bool
       M = is_member es earlier later n e (among e.who (suc n) mid)
@@ -143,13 +130,13 @@ module _ (es : List Occurrence) (earlier later : ℕ) where
       counted_member : (h : Happening) → e.what ≡ h → is_pause h ≡ false → IsCounted h → G e.who ≡ M
       counted_member h is np ok =
           let p = passed j n e.who below bound stands.kept.single quiet F' e.what (subst IsCounted (sym is) ok) in
-          both_ways (G e.who) M
+          same_if_both_follow (G e.who) M
           (λ x. or_left (is_known es earlier later n)
           (is_pause e.what && (offers_after es earlier later e.who n || among e.who (suc n) mid))
           (known_is (inv.is n (omega arith) (p.known x))))
           (λ x. p.new (inv.has n (omega arith) (is_known_at (⊎_elim (λ (y : is_known es earlier later n ≡ true). y)
           (λ (y : is_pause e.what && (offers_after es earlier later e.who n || among e.who (suc n) mid) ≡ true).
-          true_false (sym (and_left (is_pause e.what)
+          true_is_not_false (sym (first_true (is_pause e.what)
           (offers_after es earlier later e.who n || among e.who (suc n) mid) y) ∙ ap is_pause is ∙ np))
           (or_cases (is_known es earlier later n)
           (is_pause e.what && (offers_after es earlier later e.who n || among e.who (suc n) mid)) x)))))
@@ -160,27 +147,27 @@ module _ (es : List Occurrence) (earlier later : ℕ) where
           let l = x.1 in
           or_left (same_name e.who (who_at es earlier) && nat_lt n earlier)
           (same_name e.who (who_at es later) && nat_lt n later)
-          (and_both (same_name e.who (who_at es earlier)) (nat_lt n earlier)
+          (and_from (same_name e.who (who_at es earlier)) (nat_lt n earlier)
           (subst (λ z. same_name e.who z ≡ true) (sym x.0) (name_itself e.who))
-          (lt_true n earlier (omega (arith, l)))))
+          (lt-ltb n earlier (omega (arith, l)))))
           (λ (x : who_at es later ≡ e.who).
           or_right (same_name e.who (who_at es earlier) && nat_lt n earlier)
           (same_name e.who (who_at es later) && nat_lt n later)
-          (and_both (same_name e.who (who_at es later)) (nat_lt n later)
-          (subst (λ z. same_name e.who z ≡ true) (sym x) (name_itself e.who)) (lt_true n later less)))
+          (and_from (same_name e.who (who_at es later)) (nat_lt n later)
+          (subst (λ z. same_name e.who z ≡ true) (sym x) (name_itself e.who)) (lt-ltb n later less)))
           o
 
       offers_from : offers_after es earlier later e.who n ≡ true → Offers e.who (suc n)
       offers_from h = ⊎_elim
           (λ (x : same_name e.who (who_at es earlier) && nat_lt n earlier ≡ true).
-          let l = true_lt n earlier (and_right (same_name e.who (who_at es earlier)) (nat_lt n earlier) x) in
+          let l = ltb-true n earlier (second_true (same_name e.who (who_at es earlier)) (nat_lt n earlier) x) in
           inl (
             sym (name_is e.who (who_at es earlier)
-                (and_left (same_name e.who (who_at es earlier)) (nat_lt n earlier) x)),
+                (first_true (same_name e.who (who_at es earlier)) (nat_lt n earlier) x)),
             omega (arith, l),
           ))
           (λ (x : same_name e.who (who_at es later) && nat_lt n later ≡ true). inr
-          (sym (name_is e.who (who_at es later) (and_left (same_name e.who (who_at es later)) (nat_lt n later) x))))
+          (sym (name_is e.who (who_at es later) (first_true (same_name e.who (who_at es later)) (nat_lt n later) x))))
           (or_cases (same_name e.who (who_at es earlier) && nat_lt n earlier)
           (same_name e.who (who_at es later) && nat_lt n later) h)
 
@@ -189,10 +176,10 @@ module _ (es : List Occurrence) (earlier later : ℕ) where
           let g_is : G e.who ≡ F' e.who = ap (λ h. needed_before j e.who h F' e.who) is in
           let p_is : is_pause e.what ≡ true = ap is_pause is in
           let j_is : j' ≡ j = ap (judged_by j n e.who) is in
-          both_ways (G e.who) M
+          same_if_both_follow (G e.who) M
           (λ x. or_right (is_known es earlier later n)
           (is_pause e.what && (offers_after es earlier later e.who n || among e.who (suc n) mid))
-          (and_both (is_pause e.what) (offers_after es earlier later e.who n || among e.who (suc n) mid) p_is
+          (and_from (is_pause e.what) (offers_after es earlier later e.who n || among e.who (suc n) mid) p_is
           (⊎_elim
           (λ (o : Offers e.who (suc n)). or_left (offers_after es earlier later e.who n) (among e.who (suc n) mid)
           (offers_to o))
@@ -210,7 +197,7 @@ module _ (es : List Occurrence) (earlier later : ℕ) where
           (λ (o : offers_after es earlier later e.who n ≡ true). inv.offers e.who (offers_from o))
           (λ (a : among e.who (suc n) mid ≡ true). inv.members_too e.who a)
           (or_cases (offers_after es earlier later e.who n) (among e.who (suc n) mid)
-          (and_right (is_pause e.what) (offers_after es earlier later e.who n || among e.who (suc n) mid) y)))
+          (second_true (is_pause e.what) (offers_after es earlier later e.who n || among e.who (suc n) mid) y)))
           (or_cases (is_known es earlier later n)
           (is_pause e.what && (offers_after es earlier later e.who n || among e.who (suc n) mid)) x))
 
@@ -268,8 +255,8 @@ module _ (es : List Occurrence) (earlier later : ℕ) where
       from_F : (q : Name) → F q ≡ true → (G q ≡ true) ⊎ ((n ≡ earlier) × (q ≡ e.who))
       from_F q h = ⊎_elim (λ (x : G q ≡ true). inl x)
           (λ (x : (n == earlier) && same_name q e.who ≡ true). inr (
-            eqb-true n earlier (and_left (n == earlier) (same_name q e.who) x),
-            name_is q e.who (and_right (n == earlier) (same_name q e.who) x),
+            eqb-true n earlier (first_true (n == earlier) (same_name q e.who) x),
+            name_is q e.who (second_true (n == earlier) (same_name q e.who) x),
           ))
           (or_cases (G q) ((n == earlier) && same_name q e.who) h)
 
@@ -278,19 +265,19 @@ module _ (es : List Occurrence) (earlier later : ℕ) where
 
       here_F : n ≡ earlier → F e.who ≡ true
       here_F h = or_right (G e.who) ((n == earlier) && same_name e.who e.who)
-          (and_both (n == earlier) (same_name e.who e.who) (eq-eqb n earlier h) (name_itself e.who))
+          (and_from (n == earlier) (same_name e.who e.who) (eq-eqb n earlier h) (name_itself e.who))
 
       more_F : (q : Name) → F' q ≡ true → F q ≡ true
       more_F q h = to_F q (more j n e.who below bound stands.kept.single quiet F' e.what q h)
 
       member_among : G e.who ≡ true → among e.who n (e ∷ mid) ≡ true
       member_among h = or_left (same_name e.who e.who && M) (among e.who (suc n) mid)
-          (and_both (same_name e.who e.who) M (name_itself e.who) (sym member ∙ h))
+          (and_from (same_name e.who e.who) M (name_itself e.who) (sym member ∙ h))
 
       at_or_before : n ≤ earlier → (n ≡ earlier) ⊎ (suc n ≤ earlier)
       at_or_before le = elim (n == earlier) as (λ b. n == earlier ≡ b → (n ≡ earlier) ⊎ (suc n ≤ earlier)) [
         | true ↦ λ h. inl (eqb-true n earlier h)
-        | false ↦ λ h. let d : n ≢ earlier = λ f. true_false (sym (eq-eqb n earlier f) ∙ h) in
+        | false ↦ λ h. let d : n ≢ earlier = λ f. true_is_not_false (sym (eq-eqb n earlier f) ∙ h) in
             inr (omega (arith, le, d))
       ] refl
 
@@ -356,8 +343,8 @@ module _ (es : List Occurrence) (earlier later : ℕ) where
             o;
         members_too = λ q h. ⊎_elim
             (λ (x : same_name q e.who && M ≡ true).
-            subst (λ z. F z ≡ true) (sym (name_is q e.who (and_left (same_name q e.who) M x)))
-            (to_F e.who (member ∙ and_right (same_name q e.who) M x)))
+            subst (λ z. F z ≡ true) (sym (name_is q e.who (first_true (same_name q e.who) M x)))
+            (to_F e.who (member ∙ second_true (same_name q e.who) M x)))
             (λ (x : among q (suc n) mid ≡ true). more_F q (inv.members_too q x))
             (or_cases (same_name q e.who && M) (among q (suc n) mid) h);
         same = λ i. cond (member i) (e ∷ inv.same i) (inv.same i);

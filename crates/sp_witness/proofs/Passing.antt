@@ -1,17 +1,16 @@
 -- One entry of the pass backwards: what is known to somebody needed after it was known to somebody needed before it,
 -- and the other way round; and the entry itself is known exactly where its process is needed before it.
 use Rattle.std.proofs.Common.{◌≡◌, ◌≢◌, ◌⊎◌, ⊎_elim, inl, inr, ℕ, zero, suc, ◌+◌, ◌<◌, ◌≤◌, lt_irrefl, Bool, true, false, cond, ◌||◌, ◌==◌, [], ◌∷◌, Option, Some, None, eqb-true, eq-eqb, refl, sym, ap, ◌∙◌, subst, arith}
+use Rattle.std.proofs.lemmas.Bool.{or_cases, or_left, or_right}
+use Rattle.std.proofs.lemmas.Option.{none-some, same_Some}
+use Rattle.sp_base.proofs.Facts.{false_is_not_true}
 use Rattle.sp_journal.specs.Maps.{at_key}
 use Rattle.sp_journal.specs.Names.{Name, Channel, same_name, same_channel, Happening, Opened, Forked, Offered, Ended, Faulted, Laid, Paused}
 use Rattle.sp_journal.specs.Past.{Judged, learn, teach, report, now, met_now, judged_by}
 use Rattle.sp_past.specs.Prefixes.{WaitsForNone}
 use Rattle.sp_past.proofs.Keys.{name_is, name_itself, channel_is, channel_itself}
-use Rattle.sp_past.proofs.Prefixing.{or_cases, or_left, or_right, learn_more, teach_more, report_more}
-use Rattle.sp_race.proofs.Linking.{some_is, none_is}
+use Rattle.sp_past.proofs.Prefixing.{learn_more, teach_more, report_more}
 use Rattle.sp_witness.specs.Needed.{any_child, parent_is, needed_to_meet, needed_before}
-
-false_true : {A : Type 0} → ◌≡◌ {A = Bool} false true → A
-false_true e = absurd (cc e)
 
 -- what is learned, and by whom
 
@@ -55,7 +54,7 @@ teach_here p fork known x (suc n) past k i le lt h =
           (eqb-true x k e)
           (teach_more p fork known (suc x) n (learn ((fork, x) ∷ p) known past) ((fork, x) ∷ p) i
           (learn_here ((fork, x) ∷ p) known past i h))
-      | false ↦ λ e. let d : x ≢ k = λ f. false_true (sym e ∙ eq-eqb x k f) in
+      | false ↦ λ e. let d : x ≢ k = λ f. false_is_not_true (sym e ∙ eq-eqb x k f) in
           teach_here p fork known (suc x) n (learn ((fork, x) ∷ p) known past) k i (omega (arith, le, d))
           (omega (arith, lt)) h
     ] refl
@@ -74,7 +73,7 @@ report_here p known past a q i e h = subst (λ z. report z known past q i ≡ tr
 -- flags
 
 any_is : (F : Name → Bool) (p : Name) (f m : ℕ) → any_child F p f m ≡ true → (k : ℕ) × (k < m) × (F ((f, k) ∷ p) ≡ true)
-any_is F p f zero h = false_true h
+any_is F p f zero h = false_is_not_true h
 any_is F p f (suc m) h = ⊎_elim
     (λ (x : F ((f, m) ∷ p) ≡ true). (m, omega arith, x))
     (λ (x : any_child F p f m ≡ true). let r = any_is F p f m x in let l = r.1 in (r.0, omega (arith, l), r.2))
@@ -85,7 +84,7 @@ any_here F p f zero k lt h = absurd (omega (arith, lt))
 any_here F p f (suc m) k lt h = elim (m == k) as (λ b. m == k ≡ b → F ((f, m) ∷ p) || any_child F p f m ≡ true) [
   | true ↦ λ e. or_left (F ((f, m) ∷ p)) (any_child F p f m)
       (subst (λ z. F ((f, z) ∷ p) ≡ true) (sym (eqb-true m k e)) h)
-  | false ↦ λ e. let d : m ≢ k = λ g. false_true (sym e ∙ eq-eqb m k g) in
+  | false ↦ λ e. let d : m ≢ k = λ g. false_is_not_true (sym e ∙ eq-eqb m k g) in
       or_right (F ((f, m) ∷ p)) (any_child F p f m) (any_here F p f m k (omega (arith, lt, d)) h)
 ] refl
 
@@ -208,7 +207,7 @@ module _ (j : Judged) (n : ℕ) (p : Name) (below : (q : Name) (i : ℕ) → j.p
     then_pending d x h = by (same_channel c d) h
       where
         by : (b : Bool) → cond b None (j.pending d) ≡ Some x → j.pending d ≡ Some x
-        by true h = absurd (none_is h)
+        by true h = absurd (none-some _ h)
         by false h = h
 
     needs_either : (q : Name) → ((p ≡ q) ⊎ (o.0 ≡ q)) → F q ≡ true → either ≡ true
@@ -259,7 +258,7 @@ module _ (j : Judged) (n : ℕ) (p : Name) (below : (q : Name) (i : ℕ) → j.p
         (λ (e : o.0 ≡ q).
         let f : j.pending x.0 ≡ Some (o.0, m) = x.1 ∙ (λ i. Some (sym e i, m)) in
         let same : c ≡ x.0 = single c x.0 o.0 o.1 m pe f in
-        let is : o ≡ (o.0, m) = some_is (sym pe ∙ ap j.pending same ∙ f) in
+        let is : o ≡ (o.0, m) = same_Some _ _ (sym pe ∙ ap j.pending same ∙ f) in
         or_right (now j p n m) (now j o.0 o.1 m)
         (or_right (j.past o.0 m) (o.1 == m) (eq-eqb o.1 m (ap (λ (z : Name × ℕ). z.1) is))))
         w)
@@ -274,7 +273,7 @@ module _ (j : Judged) (n : ℕ) (p : Name) (below : (q : Name) (i : ℕ) → j.p
       where
         pends : (d : Channel) → j.pending d ≡ Some (q, m) → (b : Bool) → same_channel c d ≡ b → Has then q m
         pends d e true s =
-            let is : o ≡ (q, m) = some_is (sym pe ∙ ap j.pending (channel_is c d s) ∙ e) in
+            let is : o ≡ (q, m) = same_Some _ _ (sym pe ∙ ap j.pending (channel_is c d s) ∙ e) in
             let q_is : o.0 ≡ q = ap (λ (z : Name × ℕ). z.0) is in
             inl (subst (λ z. then.past z m ≡ true) q_is (then_o m (had q m (inr q_is) (inr (d, e)))))
         pends d e false s = inr (d, ap (λ b. cond b None (j.pending d)) s ∙ e)
@@ -322,7 +321,7 @@ module _ (j : Judged) (n : ℕ) (p : Name) (below : (q : Name) (i : ℕ) → j.p
     wait_pending d x h = by (same_channel c d) h
       where
         by : (b : Bool) → cond b (Some (p, n)) (j.pending d) ≡ Some x → ((p, n) ≡ x) ⊎ (j.pending d ≡ Some x)
-        by true h = inl (some_is h)
+        by true h = inl (same_Some _ _ h)
         by false h = inr h
 
     wait_stays : (q : Name) (m : ℕ) → Has j q m → Has waiting q m
@@ -331,7 +330,7 @@ module _ (j : Judged) (n : ℕ) (p : Name) (below : (q : Name) (i : ℕ) → j.p
       where
         pends : (d : Channel) → j.pending d ≡ Some (q, m) → (b : Bool) → same_channel c d ≡ b
             → waiting.pending d ≡ Some (q, m)
-        pends d e true s = absurd (none_is (sym pe ∙ ap j.pending (channel_is c d s) ∙ e))
+        pends d e true s = absurd (none-some _ (sym pe ∙ ap j.pending (channel_is c d s) ∙ e))
         pends d e false s = ap (λ b. cond b (Some (p, n)) (j.pending d)) s ∙ e
 
     wait_back : (m : ℕ) → m < n → Someone F waiting m → Someone F j m
@@ -518,7 +517,7 @@ module _ (j : Judged) (n : ℕ) (p : Name) (below : (q : Name) (i : ℕ) → j.p
       parent_here r a q e f = subst (λ z. parent_is F z ≡ true) (sym e) f
 
       parent_of : (r : Name) → parent_is F r ≡ true → (a : ℕ × ℕ) × (q : Name) × (r ≡ a ∷ q) × (F q ≡ true)
-      parent_of [] h = false_true h
+      parent_of [] h = false_is_not_true h
       parent_of (a ∷ q) h = (a, q, refl, h)
 
       learns : (q : Name) (m : ℕ) → report p (now j p n) first q m ≡ true

@@ -3,23 +3,18 @@
 use Rattle.std.proofs.Common.{◌≡◌, ◌⊎◌, ⊎_elim, inl, inr, ℕ, suc, ◌+◌, ◌-◌, ◌<◌, ◌≤◌, nat_lt, Bool, true, false, cond, ◌&&◌, ◌||◌, ◌==◌, List, [], ◌∷◌, ◌++◌, length, append_assoc, append-nil, take, drop, take_at, Option, Some, None, slice_get, refl, sym, ap, ◌∙◌, subst, arith, eqb-true}
 use Rattle.std.proofs.lemmas.List.{take-append-drop}
 use Rattle.std.proofs.Math.Seq.{take-append-add}
+use Rattle.std.proofs.lemmas.Bool.{false_from_ne_true, or_cases, or_left, or_parts, or_right}
+use Rattle.std.proofs.lemmas.Option.{none-some, same_Some}
+use Rattle.sp_base.proofs.Facts.{first_true, second_true, true_is_not_false}
 use Rattle.sp_journal.specs.Names.{Name, Channel, same_name, same_channel, Happening, Opened, Forked, Offered, Ended, Faulted, Laid, Paused, Occurrence}
 use Rattle.sp_journal.specs.Past.{Judged, learn, now, met_now, judged_by, judged_from, judged, nothing_judged}
 use Rattle.sp_meaning.specs.Along.{IsCleanly, IsClean}
-use Rattle.sp_meaning.proofs.Keys.{and_left, and_right}
 use Rattle.sp_past.specs.Prefixes.{is_counted, Counts, QuietFrom}
 use Rattle.sp_past.proofs.Keys.{name_itself, name_is}
-use Rattle.sp_past.proofs.Prefixing.{or_cases, or_left, or_right, learn_all, teach_all, report_all, learn_more, teach_more, report_more, Kept, one_entry}
-use Rattle.sp_race.proofs.Linking.{some_is, none_is, not_true, last_entry, kept_entry, grown_size}
+use Rattle.sp_past.proofs.Prefixing.{learn_all, teach_all, report_all, learn_more, teach_more, report_more, Kept, one_entry}
+use Rattle.sp_race.proofs.Linking.{last_entry, kept_entry, grown_size}
 use Rattle.sp_witness.specs.Witness.{who_of, who_at, past_before, is_pause, is_known, offers_after, is_member, is_among}
 use Rattle.sp_witness.proofs.Moving.{Head, MarkedFree, Cuts}
-
-true_false : {A : Type 0} → ◌≡◌ {A = Bool} true false → A
-true_false e = absurd (cc e)
-
-or_none : (a b : Bool) → a || b ≡ false → (a ≡ false) × (b ≡ false)
-or_none true b h = true_false h
-or_none false b h = (refl, h)
 
 -- nothing is forgotten
 pub past_stays : (j : Judged) (n : ℕ) (p : Name) (h : Happening) (q : Name) (k : ℕ) → j.past q k ≡ true
@@ -156,7 +151,7 @@ module _ (es : List Occurrence) where
             at : (d : Channel) (z : Name) (o k : ℕ) (t : Bool) → cond t (Some (p, n)) (j.pending d) ≡ Some (z, o)
                 → past_before es o k ≡ true → j.past z k ≡ true
             at d z o k true f h =
-                let is : (p, n) ≡ (z, o) = some_is f in
+                let is : (p, n) ≡ (z, o) = same_Some _ _ f in
                 subst (λ (x : Name × ℕ). j.past x.0 k ≡ true) is (sym (here k)
                 ∙ subst (λ (x : Name × ℕ). past_before es x.1 k ≡ true) (sym is) h)
             at d z o k false f h = closed.pending d z o k f h
@@ -172,14 +167,14 @@ module _ (es : List Occurrence) where
           where
             at : (d : Channel) (z : Name) (x k : ℕ) (t : Bool) → cond t None (j.pending d) ≡ Some (z, x)
                 → past_before es x k ≡ true → j.past z k ≡ true
-            at d z x k true f h = absurd (none_is f)
+            at d z x k true f h = absurd (none-some _ f)
             at d z x k false f h = closed.pending d z x k f h
     closed_by (Faulted f) = closed
     closed_by Laid = closed
     closed_by Paused = closed
 
   nothing_closed : Closed nothing_judged
-  nothing_closed = record { past = λ q m k e h. true_false (sym e); pending = λ c z o k e h. absurd (none_is e) }
+  nothing_closed = record { past = λ q m k e h. true_is_not_false (sym e); pending = λ c z o k e h. absurd (none-some _ e) }
 
   closed_walk : (done mid rest : List Occurrence) → es ≡ done ++ (mid ++ rest) → Closed (judged done)
       → Closed (judged (done ++ mid))
@@ -233,9 +228,9 @@ module _ (es : List Occurrence) where
       where
         by : (i : ℕ) → same_name q (who_at es i) && nat_lt n i ≡ true → past_before es i k ≡ true
         by i x =
-            let is : q ≡ who_at es i = name_is q (who_at es i) (and_left (same_name q (who_at es i)) (nat_lt n i) x) in
+            let is : q ≡ who_at es i = name_is q (who_at es i) (first_true (same_name q (who_at es i)) (nat_lt n i) x) in
             subst (λ (z : Name). (judged (take i es)).past z k ≡ true) is
-            (reach done rest j n st i (below_is n i (and_right (same_name q (who_at es i)) (nat_lt n i) x)) q k p)
+            (reach done rest j n st i (below_is n i (second_true (same_name q (who_at es i)) (nat_lt n i) x)) q k p)
 
     abbrev member : ℕ → Occurrence → Bool → Bool
     member = is_member es earlier later
@@ -253,22 +248,22 @@ module _ (es : List Occurrence) where
         (λ (y : offers_after es earlier later e.who n ≡ true). after_knows done (e ∷ rest) j n st e.who k y p)
         go
         (or_cases (offers_after es earlier later e.who n) b
-        (and_right (is_pause e.what) (offers_after es earlier later e.who n || b) x)))
+        (second_true (is_pause e.what) (offers_after es earlier later e.who n || b) x)))
         (or_cases (known n) (is_pause e.what && (offers_after es earlier later e.who n || b)) h)
 
     among_knows : (done mid tail : List Occurrence) (j : Judged) (n : ℕ) → Stage done (mid ++ tail) j n
         → (q : Name) (k : ℕ) → among q n mid ≡ true → j.past q k ≡ true → known k ≡ true
-    among_knows done [] tail j n st q k h p = true_false (sym h)
+    among_knows done [] tail j n st q k h p = true_is_not_false (sym h)
     among_knows done (e ∷ mid) tail j n st q k h p =
         let s = next_stage done e (mid ++ tail) j n st in
         let j' = judged_by j n e.who e.what in
         ⊎_elim
         (λ (x : same_name q e.who && member n e (among e.who (suc n) mid) ≡ true).
-        let is : q ≡ e.who = name_is q e.who (and_left (same_name q e.who) (member n e (among e.who (suc n) mid)) x) in
+        let is : q ≡ e.who = name_is q e.who (first_true (same_name q e.who) (member n e (among e.who (suc n) mid)) x) in
         let p' : j.past e.who k ≡ true = subst (λ (z : Name). j.past z k ≡ true) is p in
         member_by done e (mid ++ tail) j n st (among e.who (suc n) mid) k
         (λ y. among_knows (done ++ e ∷ []) mid tail j' (suc n) s e.who k y (past_stays j n e.who e.what e.who k p'))
-        (and_right (same_name q e.who) (member n e (among e.who (suc n) mid)) x) p')
+        (second_true (same_name q e.who) (member n e (among e.who (suc n) mid)) x) p')
         (λ (x : among q (suc n) mid ≡ true). among_knows (done ++ e ∷ []) mid tail j' (suc n) s q k x
         (past_stays j n e.who e.what q k p))
         (or_cases (same_name q e.who && member n e (among e.who (suc n) mid)) (among q (suc n) mid) h)
@@ -298,7 +293,7 @@ module _ (es : List Occurrence) where
       λ marked.
           let h : member n e (among e.who (suc n) mid) ≡ true = sym marks.0 ∙ marked in
           let unknown : j.past e.who a.at ≡ true → ⊥ =
-          λ p. true_false (sym (member_knows done e mid tail j n st a.at h p) ∙ not) in (
+          λ p. true_is_not_false (sym (member_knows done e mid tail j n st a.at h p) ∙ not) in (
             λ is. ⊎_elim
                 (λ (c : Counts done a.who a.at). ⊎_elim
                 (λ (p : j.past a.who a.at ≡ true). unknown (subst (λ (z : Name). j.past z a.at ≡ true) is p))
@@ -306,14 +301,14 @@ module _ (es : List Occurrence) where
                 ∙ (λ i. Some (is i, a.at))))
                 (kept.own a.who a.at c))
                 (λ (none : among a.who n (e ∷ mid) ≡ false).
-                let x = (or_none (same_name a.who e.who && member n e (among e.who (suc n) mid))
+                let x = (or_parts (same_name a.who e.who && member n e (among e.who (suc n) mid))
                 (among a.who (suc n) mid) none).0 in
                 let same : same_name a.who e.who ≡ true =
                 subst (λ (z : Name). same_name a.who z ≡ true) is (name_itself a.who) in
-                true_false (sym h ∙ (ap (λ b. b && member n e (among e.who (suc n) mid)) (sym same) ∙ x)))
+                true_is_not_false (sym h ∙ (ap (λ b. b && member n e (among e.who (suc n) mid)) (sym same) ∙ x)))
                 why,
             lt,
-            not_true (j.past e.who a.at) unknown,
+            false_from_ne_true (j.past e.who a.at) unknown,
           ),
       free_from mark a (done ++ e ∷ []) mid tail (judged_by j n e.who e.what) (suc n)
           (next_stage done e (mid ++ tail) j n st)
@@ -321,7 +316,7 @@ module _ (es : List Occurrence) where
           (one_entry j done e.who e.what kept quiet.0)) quiet.1 marks.1 (omega (arith, lt)) not
           (⊎_elim (λ (c : Counts done a.who a.at). inl (c.0, kept_entry done e _ a.at c.1, c.2))
           (λ (none : among a.who n (e ∷ mid) ≡ false). inr
-          (or_none (same_name a.who e.who && member n e (among e.who (suc n) mid)) (among a.who (suc n) mid)
+          (or_parts (same_name a.who e.who && member n e (among e.who (suc n) mid)) (among a.who (suc n) mid)
           none).1) why),
     )
 
@@ -336,7 +331,7 @@ module _ (es : List Occurrence) where
         (one_entry j done e.who e.what kept quiet.0) in (
           λ unmarked.
               let h : member n e (among e.who (suc n) mid) ≡ false = sym marks.0 ∙ unmarked in
-              let parts = or_none (known n)
+              let parts = or_parts (known n)
               (is_pause e.what && (offers_after es earlier later e.who n || among e.who (suc n) mid)) h in
               free_from mark (record { who = e.who; what = e.what; at = n; knows = j.past e.who }) (done ++ e ∷ []) mid
               tail (judged_by j n e.who e.what) (suc n) s kept' quiet.1 marks.1 (omega arith) parts.0
@@ -356,4 +351,4 @@ module _ (es : List Occurrence) where
         why Ended is ok out = counted Ended is refl
         why (Faulted f) is ok out = absurd ok
         why Laid is ok out = absurd ok
-        why Paused is ok out = inr (or_none (offers_after es earlier later e.who n) (among e.who (suc n) mid) out).1
+        why Paused is ok out = inr (or_parts (offers_after es earlier later e.who n) (among e.who (suc n) mid) out).1

@@ -1,5 +1,6 @@
 -- Each least race of a run is shown by its witness.
 use Rattle.std.proofs.Common.{◌≡◌, ℕ, zero, suc, ◌<◌, ◌≤◌, le_refl, List, [], ◌∷◌, ◌++◌, length, take, take_at, Some, slice_get, refl, sym, ap, ◌∙◌, subst, arith}
+use Rattle.std.proofs.lemmas.Option.{none-some, same_Some}
 use Rattle.sp_journal.specs.declared.entry.Way.{Way}
 use Rattle.sp_journal.specs.Names.{Channel, Offered, Occurrence}
 use Rattle.sp_journal.specs.Past.{Judged, judged}
@@ -7,7 +8,6 @@ use Rattle.sp_meaning.specs.Own.{Setting}
 use Rattle.sp_meaning.specs.Runs.{StateOf, IsDisjointRun}
 use Rattle.sp_meaning.specs.Along.{IsAlong, IsClean}
 use Rattle.sp_past.specs.Prefixes.{IsQuiet}
-use Rattle.sp_race.proofs.Linking.{some_is, none_is}
 use Rattle.sp_judge.specs.Races.{KnowsCompletion, IsLeastRace}
 use Rattle.sp_witness.specs.Contention.{Shows}
 use Rattle.sp_witness.proofs.Order.{known_front}
@@ -21,8 +21,8 @@ pub record Cut (es : List Occurrence) (i : ℕ) (e : Occurrence) : Type 0 where
   pub size : length before ≡ i
 
 pub cut_at : (es : List Occurrence) (i : ℕ) (e : Occurrence) → slice_get es i ≡ Some e → Cut es i e
-cut_at [] i e h = absurd (none_is h)
-cut_at (x ∷ es) zero e h = record { before = []; after = es; whole = ap (λ z. z ∷ es) (some_is h); size = refl }
+cut_at [] i e h = absurd (none-some _ h)
+cut_at (x ∷ es) zero e h = record { before = []; after = es; whole = ap (λ z. z ∷ es) (same_Some _ _ h); size = refl }
 cut_at (x ∷ es) (suc i) e h = let r = cut_at es i e h in
     record { before = x ∷ r.before; after = r.after; whole = ap (λ z. x ∷ z) r.whole; size = ap suc r.size }
 

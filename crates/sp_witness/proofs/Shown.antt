@@ -1,6 +1,9 @@
 -- The witness of a race shows it: the run up to the later offer, parted into the witness and the rest.
 use Rattle.std.proofs.Common.{◌≡◌, ◌≢◌, ⊎_elim, inl, inr, ℕ, suc, ◌+◌, ◌<◌, lt_irrefl, nat_lt, Bool, true, false, cond, ◌&&◌, ◌||◌, List, [], ◌∷◌, ◌++◌, length, length-append, append_assoc, append-nil, take, take_at, Option, Some, None, slice_get, refl, sym, ap, ◌∙◌, subst, arith}
+use Rattle.std.proofs.lemmas.Bool.{false_from_ne_true, or_cases, or_from, or_parts}
+use Rattle.std.proofs.lemmas.Option.{none-some}
 use Rattle.sp_base.specs.declared.fault.Fault.TheVariants as fault
+use Rattle.sp_base.proofs.Facts.{cons_is_not_nil, first_true, same_head, same_tail, true_is_not_false}
 use Rattle.sp_journal.specs.declared.entry.Way.{Way}
 use Rattle.sp_journal.specs.Past.{Judged, judged_by, judged, nothing_judged}
 use Rattle.sp_meaning.specs.Model.{Name, Channel, same_name, Language, Waits, Faults, changed}
@@ -11,15 +14,14 @@ use Rattle.sp_meaning.specs.Entries.{Happening, Offered, Faulted, Paused, Occurr
 use Rattle.sp_meaning.specs.Runs.{StateOf, start, most, running, next, said_of, says, IsDisjointRun}
 use Rattle.sp_meaning.specs.Along.{ticks_of, no_course, Along, IsAlong, IsClean}
 use Rattle.sp_meaning.proofs.Maps.{differs}
-use Rattle.sp_meaning.proofs.Keys.{name_test, and_left}
+use Rattle.sp_meaning.proofs.Keys.{name_test}
 use Rattle.sp_meaning.proofs.Journeys.{quiet_step}
 use Rattle.sp_past.specs.Prefixes.{QuietFrom, IsQuiet}
-use Rattle.sp_past.proofs.Prefixing.{or_cases, nothing_kept}
+use Rattle.sp_past.proofs.Prefixing.{nothing_kept}
 use Rattle.sp_race.specs.Notes.{Event, no_notes, mine}
 use Rattle.sp_race.specs.Noting.{WithNotes}
 use Rattle.sp_race.specs.Known.{AreKnown}
 use Rattle.sp_race.proofs.GoodSteps.{sound_opening, knows_nothing}
-use Rattle.sp_race.proofs.Linking.{none_is, not_true}
 use Rattle.sp_race.proofs.Verdict.{At, stepped, said, linked_start}
 use Rattle.sp_judge.specs.Races.{KnowsCompletion}
 use Rattle.sp_witness.specs.Witness.{who_of, who_at, alone, past_before, is_pause, is_known, offers_after, is_member, is_among, members, first_part, witness}
@@ -35,16 +37,6 @@ use Rattle.sp_witness.proofs.Contending.{Offers, offers_of, waits_here, blocks_f
 use Rattle.sp_witness.proofs.Order.{get_at}
 use Rattle.sp_witness.proofs.Standing.{Stands, nothing_stands, stands_from}
 use Rattle.sp_witness.proofs.Witnessing.{quiet_front, clean_front, runs_split, runs_join, entries_join, valid_join, LastStep, last_step, quiet_pending, quiet_condition, Pends, quiet_pends, AllFit, blocks_pend}
-
-true_false : {A : Type 0} → ◌≡◌ {A = Bool} true false → A
-true_false e = absurd (cc e)
-
-none_or : (a b : Bool) → a ≡ false → b ≡ false → a || b ≡ false
-none_or a b h k = ap (λ x. x || b) h ∙ k
-
-or_none : (a b : Bool) → a || b ≡ false → (a ≡ false) × (b ≡ false)
-or_none true b h = true_false h
-or_none false b h = (refl, h)
 
 -- a race, with the journal cut at its two offers
 module _ (g : Setting) (disjoint : IsDisjointRun g) (turn : ℕ) (es : List Occurrence) (n : ℕ) (t : StateOf g) (along : IsAlong g turn es n t) (clean : IsClean es) (quiet : IsQuiet es)
@@ -118,11 +110,11 @@ module _ (g : Setting) (disjoint : IsDisjointRun g) (turn : ℕ) (es : List Occu
 
   -- neither offer's process knew the earlier offer
   first_unknown : known earlier ≡ false
-  first_unknown = none_or (past_before es earlier earlier) (past_before es later earlier)
-      (past_first earlier ∙ not_true ((judged before).past first earlier)
+  first_unknown = or_from (past_before es earlier earlier) (past_before es later earlier)
+      (past_first earlier ∙ false_from_ne_true ((judged before).past first earlier)
       (λ e. lt_irrefl earlier (stands_first.paired.below first earlier e)))
       (past_second earlier
-      ∙ not_true ((judged front).past second earlier)
+      ∙ false_from_ne_true ((judged front).past second earlier)
       (λ e. unknown (stands_second.rounded.complete second earlier first w c
       (get_at before one mid earlier size_first) e)))
 
@@ -136,7 +128,7 @@ module _ (g : Setting) (disjoint : IsDisjointRun g) (turn : ℕ) (es : List Occu
   first_unmarked =
       subst (λ z. mark z ≡ is_member es earlier later z one (is_among es earlier later first (suc z) mid)) zero_first
       (marks_after es earlier later mark 0 before (one ∷ mid) marks).0
-      ∙ none_or (known earlier) false first_unknown refl
+      ∙ or_from (known earlier) false first_unknown refl
 
   abbrev head_first : Head
   head_first = record { who = first; what = Offered w c; at = earlier; knows = (judged before).past first }
@@ -149,8 +141,8 @@ module _ (g : Setting) (disjoint : IsDisjointRun g) (turn : ℕ) (es : List Occu
 
   free_first : UnmarkedFree mark (heads_from nothing_judged 0 before) head_first
   free_first = free_before es earlier later earlier
-      (λ k e. (or_none (past_before es earlier k) (past_before es later k) e).0)
-      (λ q k e. (or_none (same_name q (who_at es earlier) && nat_lt k earlier)
+      (λ k e. (or_parts (past_before es earlier k) (past_before es later k) e).0)
+      (λ q k e. (or_parts (same_name q (who_at es earlier) && nat_lt k earlier)
       (same_name q (who_at es later) && nat_lt k later) e).0)
       before one (mid ++ two ∷ after) (judged before) stage_first stands_first.kept quiet_first.1.0 who_first mark []
       before (one ∷ mid) nothing_judged 0 refl refl (clean_front before (one ∷ mid) clean_all) marks
@@ -158,8 +150,8 @@ module _ (g : Setting) (disjoint : IsDisjointRun g) (turn : ℕ) (es : List Occu
 
   free_second : UnmarkedFree mark (heads_from nothing_judged 0 front) head_second
   free_second = free_before es earlier later later
-      (λ k e. (or_none (past_before es earlier k) (past_before es later k) e).1)
-      (λ q k e. (or_none (same_name q (who_at es earlier) && nat_lt k earlier)
+      (λ k e. (or_parts (past_before es earlier k) (past_before es later k) e).1)
+      (λ q k e. (or_parts (same_name q (who_at es earlier) && nat_lt k earlier)
       (same_name q (who_at es later) && nat_lt k later) e).1)
       front two after (judged front) stage_second stands_second.kept quiet_second.1.0 who_second mark [] front []
       nothing_judged 0 refl refl clean_all (subst (MarksAre es earlier later mark 0) (sym (append-nil front)) marks)
@@ -254,7 +246,7 @@ module _ (g : Setting) (disjoint : IsDisjointRun g) (turn : ℕ) (es : List Occu
   tags_quiet = ⊎_elim
       (λ (z : (rest.4 ≡ false) × AllQuiet g turn (walk.course.since second) tags × (own : Process) × (running g rest.3 second ≡ Some own) × (what : Happening) × (says g rest.3 second own ≡ Some what)). z.1)
       (λ (z : (rest.4 ≡ true) × Valid g turn (walk.course.since second) Paused tags (ticks_of g rest.3 second)).
-      true_false (sym z.0 ∙ rest.7.1))
+      true_is_not_false (sym z.0 ∙ rest.7.1))
       local_steps.kind
 
   abbrev own : Process
@@ -366,13 +358,10 @@ module _ (g : Setting) (disjoint : IsDisjointRun g) (turn : ℕ) (es : List Occu
   all_fit : (j : Judged) (n : ℕ) (xs : List Occurrence) (bs : List (Block g)) → heads g bs ≡ heads_from j n xs
       → MarksAre es earlier later mark n xs → AllFit g label turn known (kept g mark bs)
   all_fit j n xs [] e m = tt
-  all_fit j n [] (b ∷ bs) e m = absurd (cons_nil e)
-    where
-      cons_nil : {A : Type 0} {x : A} {xs : List A} → x ∷ xs ≡ [] → ⊥
-      cons_nil e = cc
+  all_fit j n [] (b ∷ bs) e m = absurd (cons_is_not_nil e)
   all_fit j n (x ∷ xs) (b ∷ bs) e m =
-      let h : b.head ≡ record { who = x.who; what = x.what; at = n; knows = j.past x.who } = head_is e in
-      let r = all_fit (judged_by j n x.who x.what) (suc n) xs bs (tail_is e) m.1 in
+      let h : b.head ≡ record { who = x.who; what = x.what; at = n; knows = j.past x.who } = same_head e in
+      let r = all_fit (judged_by j n x.who x.what) (suc n) xs bs (same_tail e) m.1 in
       elim (mark b.head.at) as (λ z. mark b.head.at ≡ z
       → AllFit g label turn known (cond z (b ∷ kept g mark bs) (kept g mark bs))) [
         | true ↦ λ is.
@@ -380,25 +369,19 @@ module _ (g : Setting) (disjoint : IsDisjointRun g) (turn : ℕ) (es : List Occu
             ∙ ap (λ (z : Head). mark z.at) (sym h) ∙ is in (
               ⊎_elim
                   (λ (y : known n ≡ true). inr (ap (λ (z : Head). known z.at) h ∙ y))
-                  (λ (y : is_pause x.what && (offers_after es earlier later x.who n || is_among es earlier later x.who (suc n) xs) ≡ true). inl (ap (λ (z : Head). is_pause z.what) h ∙ and_left (is_pause x.what) (offers_after es earlier later x.who n || is_among es earlier later x.who (suc n) xs) y))
+                  (λ (y : is_pause x.what && (offers_after es earlier later x.who n || is_among es earlier later x.who (suc n) xs) ≡ true). inl (ap (λ (z : Head). is_pause z.what) h ∙ first_true (is_pause x.what) (offers_after es earlier later x.who n || is_among es earlier later x.who (suc n) xs) y))
                   (or_cases (known n) (is_pause x.what
                   && (offers_after es earlier later x.who n || is_among es earlier later x.who (suc n) xs)) k),
               r,
             )
         | false ↦ λ is. r
       ] refl
-    where
-      head_is : {A : Type 0} {x y : A} {xs ys : List A} → x ∷ xs ≡ y ∷ ys → x ≡ y
-      head_is e = cc
-
-      tail_is : {A : Type 0} {x y : A} {xs ys : List A} → x ∷ xs ≡ y ∷ ys → xs ≡ ys
-      tail_is e = cc
 
   pends_last : Pends g label turn known last.before
   pends_last = quiet_pends g label turn known (since_all g turn no_since cut.front block.head.who) after_part
       last.before block.head last.locals last.quiet last.runs
       (blocks_pend g label turn known no_since start_notes after_part (kept g mark blocks)
-      (all_fit nothing_judged 0 front blocks walk.heads_are marks) valid_kept parts.1 (λ d z e. absurd (none_is e)))
+      (all_fit nothing_judged 0 front blocks walk.heads_are marks) valid_kept parts.1 (λ d z e. absurd (none-some _ e)))
 
   ready_last : Ready g label last.before head_second ready_after_first.0
   ready_last = ready_back g label disjoint last.before after_first block.head head_second last.tag ready_after_first.0

@@ -1,6 +1,7 @@
 -- The tables of new numbers give the entries of the witness.
 use Rattle.std.proofs.Common.{◌≡◌, ℕ, zero, suc, ◌<◌, ◌≤◌, Bool, false, List, [], ◌∷◌, ◌++◌, append_assoc, map, take, drop, Option, Some, None, slice_get, refl, sym, ap, ◌∙◌, subst, arith}
 use Rattle.std.proofs.lemmas.List.{take-append-drop}
+use Rattle.std.proofs.lemmas.Option.{none-some, same_Some}
 use Rattle.sp_base.specs.declared.fault.Fault.TheVariants as fault
 use Rattle.sp_journal.specs.declared.entry.Event.{Event}
 use Rattle.sp_journal.specs.declared.entry.Event.TheVariants as event
@@ -58,15 +59,9 @@ can_later s (x ∷ es) (suc i) (suc n) e le h f = can_later (after_entry s x) es
 
 pub get_map : {A B : Type 0} (f : A → B) (n : ℕ) (xs : List A) (x : A) → slice_get xs n ≡ Some x
     → slice_get (map f xs) n ≡ Some (f x)
-get_map f n [] x h = absurd (none_some h)
+get_map f n [] x h = absurd (none-some _ h)
+get_map f zero (y ∷ xs) x h = some_of (same_Some _ _ h)
   where
-    none_some : {C : Type 0} {c : C} → ◌≡◌ {A = Option C} None (Some c) → ⊥
-    none_some e = cc
-get_map f zero (y ∷ xs) x h = some_of (same h)
-  where
-    same : {C : Type 0} {a b : C} → ◌≡◌ {A = Option C} (Some a) (Some b) → a ≡ b
-    same e = cc
-
     some_of : y ≡ x → Some (f y) ≡ Some (f x)
     some_of e = ap (λ z. Some (f z)) e
 get_map f (suc n) (y ∷ xs) x h = get_map f n xs x h

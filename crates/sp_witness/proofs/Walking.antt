@@ -1,5 +1,7 @@
 -- Along a journal without a fault go its entries with their steps, each of which is a good one.
 use Rattle.std.proofs.Common.{◌≡◌, ◌⊎◌, ⊎_elim, inl, inr, ℕ, zero, suc, ◌+◌, ◌<◌, Bool, true, false, cond, ◌&&◌, ◌==◌, nat_le, List, [], ◌∷◌, ◌++◌, length, append_assoc, append-nil, Option, Some, None, eq-eqb, refl, sym, ap, ◌∙◌, subst, arith}
+use Rattle.std.proofs.lemmas.Bool.{false≢true, ne_eqb}
+use Rattle.std.proofs.lemmas.Option.{none-some, same_Some}
 use Rattle.sp_journal.specs.Past.{Judged, judged_by, judged_from}
 use Rattle.sp_meaning.specs.Model.{Name, same_name, Language, Moves, Opens, Forks, Offering, Ends, Fails, after}
 use Rattle.sp_meaning.specs.Steps.{ActOf, Advances, way_of, working}
@@ -15,7 +17,7 @@ use Rattle.sp_race.specs.Noting.{WithNotes, notes_after}
 use Rattle.sp_race.specs.Known.{KnowsOffers, KnownFrom}
 use Rattle.sp_race.specs.Linked.{known_label, Linked}
 use Rattle.sp_race.proofs.GoodSteps.{GoodStep, leads_on, steps}
-use Rattle.sp_race.proofs.Linking.{some_is, none_is, known_linked, index_apart}
+use Rattle.sp_race.proofs.Linking.{known_linked}
 use Rattle.sp_race.proofs.LinkedSteps.{opens_linked, forks_linked, ends_linked, moves_linked, offers_linked, pause_linked}
 use Rattle.sp_race.proofs.Verdict.{At, Stepped, stepped, said, next_at, local_moves, moves_know}
 use Rattle.sp_witness.proofs.Independent.{IsLocal}
@@ -219,24 +221,24 @@ module _ (g : Setting) where
 
       by : (a : ActOf L) → L.next x.one.own s.store ≡ a → (w : Happening) → said_of a (Advances x.cs) ≡ Some w
           → KnowsOffers j done q w → EntersAt s v q own m j done n label w
-      by (Moves o ws) e w h k = absurd (none_is h)
-      by (Fails f) e w h k = absurd (none_is h)
+      by (Moves o ws) e w h k = absurd (none-some _ h)
+      by (Fails f) e w h k = absurd (none-some _ h)
       by (Opens o ws) e w h k =
-          subst (EntersAt s v q own m j done n label) (some_is h)
+          subst (EntersAt s v q own m j done n label) (same_Some _ _ h)
           (put Opened (opens_linked s v q x.cs at.sound at.known x.one j done n label at.linked o ws e)
           (subst (λ a. KnowsBefore L v q a) (sym e) tt))
       by (Forks o os) e w h k =
-          subst (EntersAt s v q own m j done n label) (some_is h)
+          subst (EntersAt s v q own m j done n label) (same_Some _ _ h)
           (put (Forked (length os)) (forks_linked s v q x.cs at.sound at.known x.one j done n label at.linked o os e)
           (subst (λ a. KnowsBefore L v q a) (sym e) tt))
       by (Offering o) e w h k =
           let k' : KnowsOffers j done q (Offered (way_of o.cargo) o.channel) =
-          subst (KnowsOffers j done q) (sym (some_is h)) k in
-          subst (EntersAt s v q own m j done n label) (some_is h)
+          subst (KnowsOffers j done q) (sym (same_Some _ _ h)) k in
+          subst (EntersAt s v q own m j done n label) (same_Some _ _ h)
           (put (Offered (way_of o.cargo) o.channel)
           (offers_linked s v q x.cs at.sound at.known x.one j done n label at.linked o e)
           (subst (λ a. KnowsBefore L v q a) (sym e) (known_linked s v j done n label q o at.linked k')))
-      by Ends e w h k = subst (EntersAt s v q own m j done n label) (some_is h)
+      by Ends e w h k = subst (EntersAt s v q own m j done n label) (same_Some _ _ h)
           (put happenings.Ended (ends_linked s v q x.cs at.sound at.known x.one j done n label at.linked e)
           (subst (λ a. KnowsBefore L v q a) (sym e) tt))
 
@@ -275,7 +277,7 @@ module _ (g : Setting) where
       let y = enters m t.notes q own u j done n label what t.at x h.5.2 knows in
       let w : Notes = notes_after m t.notes q (L.next own m.store) in
       let lab = grown n t.notes q label in
-      let agree : Agrees lab label n = λ k lt. rw (index_apart n k (λ e. omega (arith, e, lt))) in
+      let agree : Agrees lab label n = λ k lt. rw (ne_eqb n k (λ e. omega (arith, e, lt))) in
       let good = good_step m t.notes j done n label q own u t.way t.at x y.knows in
       let ticks : ticks_of g u q ≡ ticks_by g (L.next own m.store) = ap (λ z. ticks_of g z q) x.to
       ∙ ticks_after g m q x.cs t.at.sound x.one ∙ ap (λ z. ticks_by g (L.next z m.store)) x.same in
@@ -284,7 +286,7 @@ module _ (g : Setting) where
       ∙ ap (λ z. said_of {L = L} (L.next z m.store) (Advances x.cs)) (sym x.same) ∙ sym (said g m q own u x)
       ∙ h.5.2 in
       let quiet : AllQuiet g turn (c.since q) t.tags =
-      ⊎_elim (λ (z : (paused ≡ false) × AllQuiet g turn (c.since q) t.tags × (own : Process) × (running g m q ≡ Some own) × (what : Happening) × (says g m q own ≡ Some what)). z.1) (λ (z : (paused ≡ true) × Valid g turn (c.since q) Paused t.tags (ticks_of g m q)). absurd (false_true (sym h.1 ∙ z.0))) t.kind in
+      ⊎_elim (λ (z : (paused ≡ false) × AllQuiet g turn (c.since q) t.tags × (own : Process) × (running g m q ≡ Some own) × (what : Happening) × (says g m q own ≡ Some what)). z.1) (λ (z : (paused ≡ true) × Valid g turn (c.since q) Paused t.tags (ticks_of g m q)). absurd (false≢true (sym h.1 ∙ z.0))) t.kind in
       record {
         course = after_entry q what (ticks_of g u q) c;
         state = u;
@@ -313,9 +315,6 @@ module _ (g : Setting) where
         since = since_is (ticks_of g u q);
       }
     where
-      false_true : ◌≡◌ {A = Bool} false true → ⊥
-      false_true e = cc
-
       run_on : (lf : ℕ → Option Event) (h : Head) (xs : List (Tag g)) (x : Tag g) (a b d : WithNotes L)
           → Runs g lf a h xs b → Does g lf b h x d → Runs g lf a h (xs ++ x ∷ []) d
       run_on lf h [] x a b d r y = (d, subst (λ z. Does g lf z h x d) r y, refl)
@@ -356,14 +355,11 @@ module _ (g : Setting) where
     };
     way = t.way;
     tags = t.tags;
-    runs = λ lf ag. t.runs lf (λ k lt. ag k (omega (arith, lt)) ∙ rw (index_apart n k (λ e. omega (arith, e, lt))));
-    agree = λ k lt. rw (index_apart n k (λ e. omega (arith, e, lt)));
-    valid = ⊎_elim (λ (z : (paused ≡ false) × AllQuiet g turn (c.since q) t.tags × (own : Process) × (running g m q ≡ Some own) × (what : Happening) × (says g m q own ≡ Some what)). absurd (false_true (sym z.0 ∙ h.1))) (λ (z : (paused ≡ true) × Valid g turn (c.since q) Paused t.tags (ticks_of g m q)). z.1) t.kind;
+    runs = λ lf ag. t.runs lf (λ k lt. ag k (omega (arith, lt)) ∙ rw (ne_eqb n k (λ e. omega (arith, e, lt))));
+    agree = λ k lt. rw (ne_eqb n k (λ e. omega (arith, e, lt)));
+    valid = ⊎_elim (λ (z : (paused ≡ false) × AllQuiet g turn (c.since q) t.tags × (own : Process) × (running g m q ≡ Some own) × (what : Happening) × (says g m q own ≡ Some what)). absurd (false≢true (sym z.0 ∙ h.1))) (λ (z : (paused ≡ true) × Valid g turn (c.since q) Paused t.tags (ticks_of g m q)). z.1) t.kind;
     since = refl;
   }
-    where
-      false_true : ◌≡◌ {A = Bool} false true → ⊥
-      false_true e = cc
 
   -- the entries of the front of a journal, with their steps, and the rest of the journal
   pub record Walked (turn : ℕ) (tail : List Occurrence) (t : StateOf g) (pre : List Occurrence) (c : Course)

@@ -1,5 +1,6 @@
 -- The witness of a race is a run's journal, and ends in the contention of the two offers.
 use Rattle.std.proofs.Common.{◌≡◌, ◌≢◌, ◌⊎◌, ⊎_elim, inl, inr, ℕ, suc, ◌+◌, Bool, true, false, ◌||◌, List, [], ◌∷◌, ◌++◌, length, Option, Some, refl, sym, ap, ◌∙◌, subst, arith}
+use Rattle.sp_base.proofs.Facts.{true_is_not_false}
 use Rattle.sp_journal.specs.declared.entry.Way.{Way}
 use Rattle.sp_journal.specs.Past.{Judged, judged_by, judged_from}
 use Rattle.sp_meaning.specs.Model.{Name, Channel, Language}
@@ -29,9 +30,6 @@ quiet_front j n (x ∷ xs) ys q =
 pub clean_front : (xs ys : List Occurrence) → IsClean (xs ++ ys) → IsClean xs
 clean_front [] ys c = tt
 clean_front (x ∷ xs) ys c = (c.0, clean_front xs ys c.1)
-
-true_false : {A : Type 0} → ◌≡◌ {A = Bool} true false → A
-true_false e = absurd (cc e)
 
 module _ (g : Setting) (label : ℕ → Option Event) where
   abbrev L : Language
@@ -132,12 +130,12 @@ module _ (g : Setting) (label : ℕ → Option Event) where
       last_local : (what : Happening) (since : ℕ) (x : Tag g) (ticks : ℕ) → is_pause what ≡ true
           → IsLast g turn since what x ticks → IsLocal x.act
       last_local Paused since x ticks p l = local_is since x true ticks l
-      last_local Opened since x ticks p l = true_false (sym p)
-      last_local (Forked n) since x ticks p l = true_false (sym p)
-      last_local (Offered w c) since x ticks p l = true_false (sym p)
-      last_local happenings.Ended since x ticks p l = true_false (sym p)
-      last_local (Faulted f) since x ticks p l = true_false (sym p)
-      last_local Laid since x ticks p l = true_false (sym p)
+      last_local Opened since x ticks p l = true_is_not_false (sym p)
+      last_local (Forked n) since x ticks p l = true_is_not_false (sym p)
+      last_local (Offered w c) since x ticks p l = true_is_not_false (sym p)
+      last_local happenings.Ended since x ticks p l = true_is_not_false (sym p)
+      last_local (Faulted f) since x ticks p l = true_is_not_false (sym p)
+      last_local Laid since x ticks p l = true_is_not_false (sym p)
 
       block_pends : (since : ℕ) (s t : WithNotes L) (h : Head) (xs : List (Tag g)) (ticks : ℕ) → IsFit h
           → Valid g turn since h.what xs ticks → Runs g label s h xs t → Pends s → Pends t

@@ -8,6 +8,8 @@ use Rattle.std.specs.Prelude.{codes, nat_le, nat_lt, option_and_then}
 use Rattle.std.specs.Str.{bytes_eq}
 use Rattle.std.proofs.lemmas.Slice.Eq.{bytes_eq-Decides}
 use Rattle.std.specs.Str.Parse.{digits_value, without_leading_plus}
+use Rattle.std.proofs.lemmas.Option.{none-some, same_Some}
+use Rattle.sp_base.proofs.Facts.{and_with_false, first_true, value_if_some}
 use Rattle.clap.specs.Walk.{Names, Row, Rule, Walk, answers_to, finished, first_of, nothing_held, settled, stop_after}
 use Rattle.clap.specs.Walk.{walk, walk_from, walked}
 use Rattle.clap.specs.Walk.{rows_after as matched_rows}
@@ -41,7 +43,7 @@ use Rattle.sp_words.specs.declared.command.CommandName.TheVariants.{Check, Run, 
 use Rattle.sp_words.specs.declared.command.CommandName.TheVariants.{Witness, Build, Exec}
 use Rattle.sp_words.proofs.Readings.{Each}
 use Rattle.sp_words.proofs.Rules.{Options, Parsers, clear, file_id, journal_id, level, rules}
-use Rattle.sp_words.proofs.Levels.{IsFree, and-false, good, names}
+use Rattle.sp_words.proofs.Levels.{IsFree, good, names}
 use Rattle.sp_words.proofs.LevelEnds.{Agree, good_agrees, is_complete, level_reads, names_agree}
 
 -- ---- the first word
@@ -58,23 +60,17 @@ word_for Witness = codes "witness"
 word_for Build = codes "build"
 word_for Exec = codes "exec"
 
-some_same : {X : Type 0} {x y : X} → Some x ≡ Some y → x ≡ y
-some_same {X} {x} {y} e = ap (λ o. Rattle.std.specs.Prelude.unwrap_or o x) e
-
-none≢some : {X : Type 0} (x : X) → None ≡ Some x → ⊥
-none≢some x e = cc
-
 found_step : (x : Text × CommandName) (word : Text) (command : CommandName) (found : Option (Text × CommandName))
     (b : Bool) → x.0 ≡ word_for x.1 → bytes_eq x.0 word ≡ b
     → (option_map (λ p. p.1) found ≡ Some command → word ≡ word_for command)
     → option_map (λ p. p.1) (cond b (Some x) found) ≡ Some command → word ≡ word_for command
 found_step x word command found true is d rest f = sym ((bytes_eq-Decides x.0 word).0 d) ∙ is
-    ∙ ap word_for (some_same f)
+    ∙ ap word_for (same_Some _ _ f)
 found_step x word command found false is d rest f = rest f
 
 word_found : (xs : List (Text × CommandName)) (word : Text) (command : CommandName) → Each (λ p. p.0 ≡ word_for p.1) xs
     → option_map (λ p. p.1) (find (λ p. bytes_eq p.0 word) xs) ≡ Some command → word ≡ word_for command
-word_found [] word command each e = absurd (none≢some command e)
+word_found [] word command each e = absurd (none-some command e)
 word_found (x ∷ xs) word command each e = found_step x word command (find (λ p. bytes_eq p.0 word) xs)
     (bytes_eq x.0 word) each.0 refl (word_found xs word command each.1) e
 
@@ -131,7 +127,7 @@ first_walk subs word met = rw met refl
 
 first_turn : (subs : List Shape) (word : Text) → IsMet subs word
     → turn_fault top_shape (names_of (app subs)) (walk_from nothing_held) word ≡ []
-first_turn subs word met = rw met (rw (and-false (bytes_eq word (codes "help"))) refl)
+first_turn subs word met = rw met (rw (and_with_false (bytes_eq word (codes "help"))) refl)
 
 end_walk : (subs : List Shape) (word : Text) (words : List Text) → IsMet subs word
     → walk [] (names_of (app subs)) nothing_held (word ∷ words) ≡ stopped (word, words)
@@ -339,10 +335,6 @@ taken : (g b : Bool) (found : Option Command) → (g && b) ≡ true → found �
 taken false b found e = absurd (true≢false (sym e))
 taken true b found e = refl
 
-left_of : (a b : Bool) → (a && b) ≡ true → a ≡ true
-left_of true b e = refl
-left_of false b e = absurd (true≢false (sym e))
-
 pub line_reads : (q : ValueParser) (word : Text) (words : List Text) (command : CommandName) (is : List Item)
     → IsShowParser q
     → command_named word ≡ Some command → items (option_names command) None words ≡ Some is
@@ -369,14 +361,10 @@ line_reads q word words command is show e i =
           × List Row). p.1) (subcommand_of (app_with q) (x ∷ words))) w ∙ ap (option_map (λ p. p.1)) in_level.rows;
       found = λ c.
           let both : (good os [] js && whole) ≡ true = sym fault ∙ c in
-          ap (command_with command) (λ j id. l.found (left_of (good os [] js) whole both) id j)
+          ap (command_with command) (λ j id. l.found (first_true (good os [] js) whole both) id j)
           ∙ taken all whole (command_with command (lookup js)) (ap (λ g. g && whole) (sym test) ∙ both)
           ∙ sym named;
     }
-
-some_there : {X : Type 0} (o : Option X) → is_some o ≡ true → (x : X) × (o ≡ Some x)
-some_there None e = absurd (true≢false (sym e))
-some_there (Some x) e = (x, refl)
 
 -- the words are a command, and others that keep its dash rule
 pub words_read : (q : ValueParser) (word : Text) (words : List Text) (command : CommandName) (ns : List Text)
@@ -384,7 +372,7 @@ pub words_read : (q : ValueParser) (word : Text) (words : List Text) (command : 
     → command_named word ≡ Some command → ns ≡ option_names command → is_some (items ns None words) ≡ true
     → ReadsLine q word words command
 words_read q word words command ns show e same some =
-    let there = some_there (items ns None words) some in
+    let there = value_if_some (items ns None words) some in
     line_reads q word words command there.0 show e (ap (λ (xs : List Text). items xs None words) (sym same) ∙ there.1)
 
 -- the parse succeeded, and found the values f at the level of the command
@@ -397,7 +385,7 @@ pub given_command : (a : App) (q : ValueParser) (word : Text) (words all : List 
 given_command a q word words all command f sub is_app is_all line_is faults subs rows =
     let clean : fault_of a all ≡ [] = faults (ap is_simple_and_free is_app ∙ free q) in
     let sub_is : sub ≡ subcommand_of a all = subs (ap is_simple is_app ∙ simple q) in
-    let same : rows_of f ≡ line_is.rows = some_same (rows
+    let same : rows_of f ≡ line_is.rows = same_Some _ _ (rows
     ∙ ap (option_map (λ (p : Text × List Row). p.1)) (sub_is ∙ ap₂ subcommand_of is_app is_all)
     ∙ line_is.entered_rows) in
     ap (command_with command) (λ j id. first_value-rows f id j)

@@ -5,6 +5,7 @@ use Rattle.std.specs.List.{find, fold, list_any, list_all}
 use Rattle.std.specs.Option.{option_map_or}
 use Rattle.std.specs.Prelude.{option_and_then, slice_get}
 use Rattle.std.specs.Str.{bytes_eq}
+use Rattle.sp_base.proofs.Facts.{and_with_false, or_with_false, or_with_true}
 use Rattle.clap.specs.Facts.{explicit_source}
 use Rattle.clap.specs.Walk.{Row, finished, first_of, has_row, nothing_held, settled, walk, walk_from, with_default}
 use Rattle.clap.specs.Walk.{rows_after as matched_rows}
@@ -19,8 +20,8 @@ use Rattle.sp_words.specs.Options.{Choice}
 use Rattle.sp_words.specs.Words.{each_once, is_accepted, lookup, subject, text_of, with_journal}
 use Rattle.sp_words.proofs.Rules.{Options, Parsers, behind_file, built_file, built_journal, built_option, clear}
 use Rattle.sp_words.proofs.Rules.{clear-or_else, file_id, journal_id, level, named, options, rules}
-use Rattle.sp_words.proofs.Levels.{IsFree, Level, and-false, good, has_row-more, names, nothing, or-assoc, or-false}
-use Rattle.sp_words.proofs.Levels.{or-true, row_for, rows_after, rests, takes, words_ahead}
+use Rattle.sp_words.proofs.Levels.{IsFree, Level, good, has_row-more, names, nothing, or-assoc}
+use Rattle.sp_words.proofs.Levels.{row_for, rows_after, rests, takes, words_ahead}
 
 -- ---- after the walk: no argument has a default, and only FILE and JOURNAL are required
 
@@ -44,7 +45,7 @@ finished_is os rows = ap (λ (r : List Row). fold with_default r (behind_file os
     (either (has_row file_id rows) rows) ∙ behind_defaults os.0 os.1 rows
 
 default_none : (id : Text) (rows : List Row) (other : Kinds) → cond (has_row id rows || true) [] other ≡ []
-default_none id rows other = rw (or-true (has_row id rows)) refl
+default_none id rows other = rw (or_with_true (has_row id rows)) refl
 
 no_option_fault : (os : Options) (rows : List Row) → clear (defaults_fault rows (options os)) ≡ true
 unfolding defaults_fault
@@ -224,14 +225,14 @@ item_agrees os cs (journal word) a = refl
 item_agrees os cs (given n v) a = takes_agree os cs n v a
 
 contains-more : (seen : List Text) (n m : Text) → contains (seen ++ n ∷ []) m ≡ (contains seen m || bytes_eq n m)
-contains-more [] n m = or-false (bytes_eq n m)
+contains-more [] n m = or_with_false (bytes_eq n m)
 contains-more (s ∷ seen) n m = ap (λ b. bytes_eq s m || b) (contains-more seen n m)
     ∙ sym (or-assoc (bytes_eq s m) (contains seen m) (bytes_eq n m))
 
 exchange : (a b c d : Bool) → ((a && b) && (c && d)) ≡ ((a && c) && (b && d))
 exchange false b c d = refl
 exchange true true c d = refl
-exchange true false c d = sym (and-false c)
+exchange true false c d = sym (and_with_false c)
 
 -- what the walk takes is what the definition takes
 pub good_agrees : (os : Parsers) (cs : List Choice) (is : List Item) (rows : List Row) (seen : List Text)

@@ -5,6 +5,8 @@ use Rattle.std.specs.List.{find, fold}
 use Rattle.std.specs.Option.{option_map_or}
 use Rattle.std.specs.Prelude.{unwrap_or}
 use Rattle.std.specs.Str.{bytes_eq}
+use Rattle.std.proofs.lemmas.Option.{none-some, same_Some}
+use Rattle.sp_base.proofs.Facts.{and_with_false, and_with_true, first_true, or_with_false, or_with_true, second_true}
 use Rattle.clap.specs.Walk.{Held, Row, Walk, arg_by_index, has_row, idle, is_pending, option, settled, settled_rows}
 use Rattle.clap.specs.Walk.{used, value, walked, word_met}
 use Rattle.clap.specs.ValueTests.{accepts}
@@ -130,39 +132,13 @@ pub record Level (name : Text) (os : Parsers) (w : Walk) (words : List Text) (b 
 
 -- ---- booleans
 
-and-true : (b : Bool) → (b && true) ≡ b
-and-true true = refl
-and-true false = refl
-
-pub and-false : (b : Bool) → (b && false) ≡ false
-and-false true = refl
-and-false false = refl
-
-pub or-false : (b : Bool) → (b || false) ≡ b
-or-false true = refl
-or-false false = refl
-
 pub or-assoc : (a b c : Bool) → ((a || b) || c) ≡ (a || (b || c))
 or-assoc true b c = refl
 or-assoc false b c = refl
 
-none≢some : {X : Type 0} (x : X) → None ≡ Some x → ⊥
-none≢some x e = cc
-
-some_same : {X : Type 0} {x y : X} → Some x ≡ Some y → x ≡ y
-some_same {X} {x} {y} e = ap (λ o. unwrap_or o x) e
-
 pub and-assoc : (a b c : Bool) → ((a && b) && c) ≡ (a && (b && c))
 and-assoc true b c = refl
 and-assoc false b c = refl
-
-and_left : (a b : Bool) → (a && b) ≡ true → a ≡ true
-and_left true b e = refl
-and_left false b e = absurd (true≢false (sym e))
-
-and_right : (a b : Bool) → (a && b) ≡ true → b ≡ true
-and_right true b e = e
-and_right false b e = absurd (true≢false (sym e))
 
 fresh : (h b : Bool) → (not h && b) ≡ true → h ≡ false
 fresh true b e = absurd (true≢false (sym e))
@@ -239,14 +215,14 @@ file_turn : (name : Text) (os : Parsers) (rows : List Row) (p : Option Item) (tr
     → word_fault (level name os) [] trailing idle word (held_at rows p) ≡ []
     → word_met (rules os) [] trailing idle 1 word (held_at rows p) ≡ (held_at rows p, value)
     → turn_fault (level name os) [] (at rows p nothing trailing) word ≡ settle_fault (rules os) false (held_at rows p)
-file_turn name os rows p trailing word e m = rw (e, m) (rw (and-false (is_pending built_file (pend p))) refl)
+file_turn name os rows p trailing word e m = rw (e, m) (rw (and_with_false (is_pending built_file (pend p))) refl)
 
 file_walk : (os : Parsers) (rows : List Row) (p : Option Item) (trailing : Bool) (word : Text)
     → word_met (rules os) [] trailing idle 1 word (held_at rows p) ≡ (held_at rows p, value)
     → walked (rules os) [] (at rows p nothing trailing) word ≡ at (settled_rows (rules os) (pend p) rows)
     (Some (file word)) one trailing
 unfolding walked
-file_walk os rows p trailing word m = rw m (rw (and-false (is_pending built_file (pend p)), or-false trailing) refl)
+file_walk os rows p trailing word m = rw m (rw (and_with_false (is_pending built_file (pend p)), or_with_false trailing) refl)
 
 -- a word that goes to JOURNAL
 journal_turn : (name : Text) (os : Options) (rows : List Row) (p : Option Item) (trailing : Bool) (word : Text)
@@ -254,7 +230,7 @@ journal_turn : (name : Text) (os : Options) (rows : List Row) (p : Option Item) 
     → word_met (rules (true, os)) [] trailing idle 2 word (held_at rows p) ≡ (held_at rows p, value)
     → turn_fault (level name (true, os)) [] (at rows p one trailing) word ≡ settle_fault (rules (true, os)) false
     (held_at rows p)
-journal_turn name os rows p trailing word e m = rw (e, m) (rw (and-false (is_pending built_journal (pend p))) refl)
+journal_turn name os rows p trailing word e m = rw (e, m) (rw (and_with_false (is_pending built_journal (pend p))) refl)
 
 journal_walk : (os : Options) (rows : List Row) (p : Option Item) (trailing : Bool) (word : Text)
     → word_met (rules (true, os)) [] trailing idle 2 word (held_at rows p) ≡ (held_at rows p, value)
@@ -262,7 +238,7 @@ journal_walk : (os : Options) (rows : List Row) (p : Option Item) (trailing : Bo
     (Some (journal word)) both trailing
 unfolding walked
 journal_walk os rows p trailing word m = rw m
-    (rw (and-false (is_pending built_journal (pend p)), or-false trailing) refl)
+    (rw (and_with_false (is_pending built_journal (pend p)), or_with_false trailing) refl)
 
 -- a word where no place is left
 stray_turn : (name : Text) (os : Parsers) (rows : List Row) (p : Option Item) (met : Met) (trailing : Bool)
@@ -363,28 +339,24 @@ Goal name os rows w first now words is = Level name os w words (first && good os
 
 pub has_row-more : (id : Text) (rows : List Row) (r : Row)
     → has_row id (rows ++ r ∷ []) ≡ (has_row id rows || bytes_eq r.id id)
-has_row-more id [] r = or-false (bytes_eq r.id id)
+has_row-more id [] r = or_with_false (bytes_eq r.id id)
 has_row-more id (x ∷ rows) r = ap (λ b. bytes_eq x.id id || b) (has_row-more id rows r)
     ∙ sym (or-assoc (bytes_eq x.id id) (has_row id rows) (bytes_eq r.id id))
-
-pub or-true : (b : Bool) → (b || true) ≡ true
-or-true true = refl
-or-true false = refl
 
 -- FILE is met by a FILE, and by nothing else
 file_met : (rows : List Row) (r : Row) → bytes_eq r.id file_id ≡ true → true ≡ has_row file_id (rows ++ r ∷ [])
 file_met rows r e = sym (has_row-more file_id rows r ∙ ap (λ b. has_row file_id rows || b) e
-    ∙ or-true (has_row file_id rows))
+    ∙ or_with_true (has_row file_id rows))
 
 file_kept : (rows : List Row) (r : Row) (met : Bool) → bytes_eq r.id file_id ≡ false → met ≡ has_row file_id rows
     → met ≡ has_row file_id (rows ++ r ∷ [])
 file_kept rows r met e m = m
-    ∙ sym (has_row-more file_id rows r ∙ ap (λ b. has_row file_id rows || b) e ∙ or-false (has_row file_id rows))
+    ∙ sym (has_row-more file_id rows r ∙ ap (λ b. has_row file_id rows || b) e ∙ or_with_false (has_row file_id rows))
 
 first_inv : (i : Item) (r : Option (List Item)) (is : List Item) → first_item i r ≡ Some is → (rest : List Item)
     × (r ≡ Some rest) × (i ∷ rest ≡ is)
-first_inv i None is e = absurd (none≢some is e)
-first_inv i (Some rest) is e = (rest, refl, some_same e)
+first_inv i None is e = absurd (none-some is e)
+first_inv i (Some rest) is e = (rest, refl, same_Some _ _ e)
 
 -- a word that gives the item i, with the words after it
 word_first : (name : Text) (os : Parsers) (rows : List Row) (p : Option Item) (met next : Met) (trailing : Bool)
@@ -414,7 +386,7 @@ word_again name os rows p met trailing word words is there turn =
     (rows_after os (plus os rows p) (file word ∷ is)))
     (sym (ap (λ (h : Bool). ok_pending os rows p
     && ((not h && true) && good os (plus os rows p ++ row_for os (file word) ∷ []) is)) (sym there)
-    ∙ and-false (ok_pending os rows p)))
+    ∙ and_with_false (ok_pending os rows p)))
     (refused_here name os (at rows p met trailing) word words _ turn)
 
 -- the walk goes on from each item that a word may give
@@ -482,8 +454,8 @@ no_words name os rows p met trailing known = subst
   where
     ends : Goal name os rows (at rows p met trailing) (ok_pending os rows p) (plus os rows p) [] []
     ends = record {
-      fault = settle_is os rows p known ∙ sym (and-true (ok_pending os rows p));
-      rows_are = λ e. settled_is os rows p known (and_left _ _ e);
+      fault = settle_is os rows p known ∙ sym (and_with_true (ok_pending os rows p));
+      rows_are = λ e. settled_is os rows p known (first_true _ _ e);
     }
 
 -- after `--` no word is an option
@@ -545,12 +517,12 @@ whole_word name os ns rows p met word v words is known long o rest =
     steps t =
         whole_walk os ns rows p met word v long o
         ∙ ap (λ (r : List Row). at (used (built_option (name_of word) o.parser) (v ∷ []) r) None met false)
-        (settled_is os rows p known (and_left (ok_pending os rows p)
+        (settled_is os rows p known (first_true (ok_pending os rows p)
         (ok os (plus os rows p) (given (name_of word) v)) t))
         ∙ ap (λ (r : List Row). at r None met false)
         (use_rows (plus os rows p) (fresh (has_row (name_of word) (plus os rows p))
         (takes os.1 (given (name_of word) v))
-        (and_right (ok_pending os rows p) (ok os (plus os rows p) (given (name_of word) v)) t)))
+        (second_true (ok_pending os rows p) (ok os (plus os rows p) (given (name_of word) v)) t)))
 
 -- what the words after a state come to, at each state
 abbrev pub Ahead : Text → Parsers → List Text → Type 0
@@ -628,7 +600,7 @@ rest_step name os free rows p met word words is Plain known m plain e ahead =
     (plain_step name os rows p met word words inv.0 known m plain inv.1 ahead)
 rest_step name os free rows p met word words is End known m same e ahead =
     subst (λ (js : List Item). Goal name os rows (at rows p met false) (ok_pending os rows p) (plus os rows p)
-    (word ∷ words) (arranged os.0 met js)) (some_same e)
+    (word ∷ words) (arranged os.0 met js)) (same_Some _ _ e)
     (end_step name os rows p met word words known m same)
 rest_step name os free rows p met word words is Whole known m long e ahead =
     let inv = first_inv (given (name_of word) (value_of word)) (items (names os) None words) is e in
@@ -639,7 +611,7 @@ rest_step name os free rows p met word words is Whole known m long e ahead =
 rest_step name os free rows p met word words is Open known m long e ahead =
     open_step name os rows p met word words is known m long
     (option_of os (name_of word) free.0 free.1 long.known) e ahead
-rest_step name os free rows p met word words is Stray known m u e ahead = absurd (none≢some is e)
+rest_step name os free rows p met word words is Stray known m u e ahead = absurd (none-some is e)
 
 -- the word after `--name`
 wait_step : (name : Text) (os : Parsers) (rows : List Row) (n : Text) (met : Met) (word : Text) (words : List Text)
@@ -647,7 +619,7 @@ wait_step : (name : Text) (os : Parsers) (rows : List Row) (n : Text) (met : Met
     → IsOption os n → has_file met ≡ has_row file_id rows → after_dash word ≡ dash
     → with_value n word dash (items (names os) None words) ≡ Some is → Ahead name os words
     → Goal name os rows (wants rows n met) true rows (word ∷ words) (arranged os.0 met is)
-wait_step name os rows n met word words is (Some tail) o m d e ahead = absurd (none≢some is e)
+wait_step name os rows n met word words is (Some tail) o m d e ahead = absurd (none-some is e)
 wait_step name os rows n met word words is None o m d e ahead =
     let inv = first_inv (given n word) (items (names os) None words) is e in
     let plain = plain_word_of word d in
@@ -661,9 +633,9 @@ wait_step name os rows n met word words is None o m d e ahead =
 pub words_ahead : (name : Text) (os : Parsers) (free : IsFree os) (words : List Text) → Ahead name os words
 words_ahead name os free [] (rests p) rows met is known m e =
     subst (λ (js : List Item). Goal name os rows (at rows p met false) (ok_pending os rows p) (plus os rows p) []
-    (arranged os.0 met js)) (some_same e)
+    (arranged os.0 met js)) (same_Some _ _ e)
     (no_words name os rows p met false known)
-words_ahead name os free [] (waits n) rows met is known m e = absurd (none≢some is e)
+words_ahead name os free [] (waits n) rows met is known m e = absurd (none-some is e)
 words_ahead name os free (word ∷ words) (rests p) rows met is known m e =
     rest_step name os free rows p met word words is (form_of (names os) word) known m (reads_by_form (names os) word) e
     (words_ahead name os free words)

@@ -8,6 +8,7 @@ use Rattle.std.specs.Option.{option_map_or}
 use Rattle.std.specs.Prelude.{codes, nat_le, nat_lt, option_and_then, unwrap_or}
 use Rattle.std.specs.Str.{bytes_eq}
 use Rattle.std.specs.Str.Parse.{digits_value, without_leading_plus}
+use Rattle.std.proofs.lemmas.Option.{none-some, same_Some}
 use Rattle.sp_words.specs.Dashes.{Item, Text, file, given, items, journal}
 use Rattle.sp_words.specs.Options.{Choice, gen_options, is_number_in, is_numeral, limit_options, number_below}
 use Rattle.sp_words.specs.Options.{number_or, option_names, options_of, run_options, show_or_end, size_named}
@@ -163,21 +164,15 @@ worker_in_range is accepted =
 
 -- ---- the size of `gen`
 
-none≢some : {X : Type 0} (x : X) → None ≡ Some x → ⊥
-none≢some x e = cc
-
-some_same : {X : Type 0} (x y : X) → Some x ≡ Some y → x ≡ y
-some_same x y e = cc
-
 size_tested : (m n : ℕ) (g : Bool) → (nat_le 1 m && nat_le m 2000) ≡ g → cond g (Some m) None ≡ Some n → IsUpTo 2000 n
 size_tested m n true d e =
     let parts = and_parts (nat_le 1 m) (nat_le m 2000) d in
-    rw (sym (some_same m n e)) (leb-true 1 m parts.0, leb-true m 2000 parts.1)
-size_tested m n false d e = absurd (none≢some n e)
+    rw (sym (same_Some m n e)) (leb-true 1 m parts.0, leb-true m 2000 parts.1)
+size_tested m n false d e = absurd (none-some n e)
 
 size_read : (read : Option ℕ) (n : ℕ)
     → option_and_then (λ m. cond (nat_le 1 m && nat_le m 2000) (Some m) None) read ≡ Some n → IsUpTo 2000 n
-size_read None n e = absurd (none≢some n e)
+size_read None n e = absurd (none-some n e)
 size_read (Some m) n e = size_tested m n _ refl e
 
 size_in_range : (word : Text) (n : ℕ) → size_named word ≡ Some n → IsUpTo 2000 n
@@ -188,9 +183,9 @@ size_in_range word n e = size_read (number_below (2 ^ 64) word) n e
 gen_in_range : (is : List Item) (word : Text) (named : Option ℕ) (c : Command)
     → list_all (is_accepted gen_options) is ≡ true → size_named word ≡ named
     → option_map (λ size. command.Gen size (workers_from (lookup is))) named ≡ Some c → AreInRange c
-gen_in_range is word None c accepted d e = absurd (none≢some c e)
+gen_in_range is word None c accepted d e = absurd (none-some c e)
 gen_in_range is word (Some size) c accepted d e =
-    rw (sym (some_same (command.Gen size (workers_from (lookup is))) c e))
+    rw (sym (same_Some (command.Gen size (workers_from (lookup is))) c e))
     (size_in_range word size d, workers_in_range gen_options is accepted ((refl, refl), refl))
 
 -- ---- the JOURNAL of `replay`
@@ -198,9 +193,9 @@ gen_in_range is word (Some size) c accepted d e =
 journal_in_range : (is : List Item) (word : Text) (found : Option Text) (c : Command)
     → list_all (is_accepted limit_options) is ≡ true
     → option_map (λ text. command.Replay word text (limits_from (lookup is))) found ≡ Some c → AreInRange c
-journal_in_range is word None c accepted e = absurd (none≢some c e)
+journal_in_range is word None c accepted e = absurd (none-some c e)
 journal_in_range is word (Some text) c accepted e =
-    rw (sym (some_same (command.Replay word text (limits_from (lookup is))) c e))
+    rw (sym (same_Some (command.Replay word text (limits_from (lookup is))) c e))
     (limits_in_range limit_options is 1 accepted limits_of_replay (omega arith, omega arith))
 
 -- ---- the words
@@ -208,29 +203,29 @@ journal_in_range is word (Some text) c accepted e =
 word_in_range : (called : CommandName) (is : List Item) (word : Text) (c : Command)
     → list_all (is_accepted (options_of called)) is ≡ true
     → command_from called (lookup is) word ≡ Some c → AreInRange c
-word_in_range name.Check is word c accepted e = rw (sym (some_same (command.Check word) c e)) tt
+word_in_range name.Check is word c accepted e = rw (sym (same_Some (command.Check word) c e)) tt
 word_in_range name.Run is word c accepted e =
-    rw (sym (some_same (command.Run word (workers_from (lookup is)) (limits_from (lookup is))
+    rw (sym (same_Some (command.Run word (workers_from (lookup is)) (limits_from (lookup is))
     (show_or_end (lookup is (codes "show")))) c e))
     (limits_in_range run_options is (workers_from (lookup is)) accepted limits_of_run
     (workers_in_range run_options is accepted ((refl, refl), refl)))
-word_in_range name.Code is word c accepted e = rw (sym (some_same (command.Code word) c e)) tt
-word_in_range name.Sets is word c accepted e = rw (sym (some_same (command.Sets word) c e)) tt
-word_in_range name.Format is word c accepted e = rw (sym (some_same (command.Format word) c e)) tt
-word_in_range name.Build is word c accepted e = rw (sym (some_same (command.Build word) c e)) tt
+word_in_range name.Code is word c accepted e = rw (sym (same_Some (command.Code word) c e)) tt
+word_in_range name.Sets is word c accepted e = rw (sym (same_Some (command.Sets word) c e)) tt
+word_in_range name.Format is word c accepted e = rw (sym (same_Some (command.Format word) c e)) tt
+word_in_range name.Build is word c accepted e = rw (sym (same_Some (command.Build word) c e)) tt
 word_in_range name.Gen is word c accepted e = gen_in_range is word (size_named word) c accepted refl e
 word_in_range name.Replay is word c accepted e = journal_in_range is word (lookup is (codes "JOURNAL")) c accepted e
 word_in_range name.Witness is word c accepted e =
-    rw (sym (some_same (command.Witness word (workers_from (lookup is)) (limits_from (lookup is))) c e))
+    rw (sym (same_Some (command.Witness word (workers_from (lookup is)) (limits_from (lookup is))) c e))
     (worker_in_range is accepted)
 word_in_range name.Exec is word c accepted e =
-    rw (sym (some_same (command.Exec word (workers_from (lookup is)) (limits_from (lookup is))) c e))
+    rw (sym (same_Some (command.Exec word (workers_from (lookup is)) (limits_from (lookup is))) c e))
     (worker_in_range is accepted)
 
 found_in_range : (called : CommandName) (is : List Item) (found : Option Text) (c : Command)
     → list_all (is_accepted (options_of called)) is ≡ true
     → option_and_then (command_from called (lookup is)) found ≡ Some c → AreInRange c
-found_in_range called is None c accepted e = absurd (none≢some c e)
+found_in_range called is None c accepted e = absurd (none-some c e)
 found_in_range called is (Some word) c accepted e = word_in_range called is word c accepted e
 
 items_in_range : (called : CommandName) (is : List Item) (g : Bool) (c : Command)
@@ -238,19 +233,19 @@ items_in_range : (called : CommandName) (is : List Item) (g : Bool) (c : Command
     → cond g (command_with called (lookup is)) None ≡ Some c → AreInRange c
 items_in_range called is true c d e = found_in_range called is (lookup is (codes "FILE")) c
     (and_parts (each_once [] is) (list_all (is_accepted (options_of called)) is) d).1 e
-items_in_range called is false c d e = absurd (none≢some c e)
+items_in_range called is false c d e = absurd (none-some c e)
 
 read_in_range : (called : CommandName) (read : Option (List Item)) (c : Command)
     → option_and_then (command_of_items called) read ≡ Some c → AreInRange c
-read_in_range called None c e = absurd (none≢some c e)
+read_in_range called None c e = absurd (none-some c e)
 read_in_range called (Some is) c e = items_in_range called (with_journal (has_journal called) is) _ c refl e
 
 named_in_range : (words : List Text) (found : Option CommandName) (c : Command)
     → option_and_then (command_read words) found ≡ Some c → AreInRange c
-named_in_range words None c e = absurd (none≢some c e)
+named_in_range words None c e = absurd (none-some c e)
 named_in_range words (Some called) c e = read_in_range called (items (option_names called) None words) c e
 
 -- the options of every command that words ask for are in their ranges
 pub accepted_in_range : (words : List Text) (c : Command) → command_of words ≡ Some c → AreInRange c
-accepted_in_range [] c e = absurd (none≢some c e)
+accepted_in_range [] c e = absurd (none-some c e)
 accepted_in_range (word ∷ words) c e = named_in_range words (command_named word) c e

@@ -1,7 +1,7 @@
 -- How numbers and names are read from texts.
 use Rattle.std.proofs.Common.{◌≡◌, ◌^◌, ◌&&◌, ℕ, Bool, cond, true, false, refl, sym, ap, ◌∙◌, List, [], ◌∷◌, length}
 use Rattle.std.proofs.Common.{Some, None, option_map, Result, Ok, Err, true≢false}
-use Rattle.std.proofs.lemmas.Bool.{ltb-true, lt-ltb}
+use Rattle.std.proofs.lemmas.Bool.{ltb-true, lt-ltb, and_parts}
 use Rattle.std.proofs.lemmas.Slice.Eq.{bytes_eq-Decides}
 use Rattle.std.specs.Prelude.{nat_lt, unwrap_or}
 use Rattle.std.specs.List.{find, list_all}
@@ -12,14 +12,10 @@ use Rattle.std.specs.Str.Parse.{AllDigits, IsNumeral, ParsesUnsigned, digits_val
 use Rattle.sp_words.specs.Dashes.{Text}
 use Rattle.sp_words.specs.Options.{is_numeral, number_below, number_or}
 
-both : (a b : Bool) → (a && b) ≡ true → (a ≡ true) × (b ≡ true)
-both true b e = (refl, e)
-both false b e = absurd (true≢false (sym e))
-
 digits_from : (ds : Text) → list_all (λ d. nat_lt (digit_value d) 10) ds ≡ true → AllDigits 10 ds
 digits_from [] e = tt
 digits_from (d ∷ ds) e =
-    let parts = both _ _ e in
+    let parts = and_parts _ _ e in
     (ltb-true _ _ parts.0, digits_from ds parts.1)
 
 digits_back : (ds : Text) → AllDigits 10 ds → list_all (λ d. nat_lt (digit_value d) 10) ds ≡ true
@@ -28,7 +24,7 @@ digits_back (d ∷ ds) h = rw (lt-ltb (digit_value d) 10 h.0) (digits_back ds h.
 
 numeral_from : (ds : Text) → is_numeral ds ≡ true → IsNumeral 10 ds
 numeral_from ds e =
-    let parts = both (nat_lt 0 (length ds)) (list_all (λ d. nat_lt (digit_value d) 10) ds) e in
+    let parts = and_parts (nat_lt 0 (length ds)) (list_all (λ d. nat_lt (digit_value d) 10) ds) e in
     (ltb-true _ _ parts.0, digits_from ds parts.1)
 
 numeral_back : (ds : Text) → IsNumeral 10 ds → is_numeral ds ≡ true
@@ -49,7 +45,7 @@ number_read k text (Ok n) default h =
 number_read k text (Err e) default h =
     let digits = without_leading_plus text in
     missing (is_numeral digits && nat_lt (digits_value 10 digits) (2 ^ k)) (digits_value 10 digits) default (λ tested.
-    let parts = both (is_numeral digits) (nat_lt (digits_value 10 digits) (2 ^ k)) tested in
+    let parts = and_parts (is_numeral digits) (nat_lt (digits_value 10 digits) (2 ^ k)) tested in
     h (numeral_from digits parts.0, ltb-true _ _ parts.1))
 
 unwritten : (test : Bool) (n : ℕ) → (test ≡ true → ⊥) → None ≡ cond test (Some n) None
@@ -67,7 +63,7 @@ number_parsed k text (Ok n) h =
 number_parsed k text (Err e) h =
     let digits = without_leading_plus text in
     unwritten (is_numeral digits && nat_lt (digits_value 10 digits) (2 ^ k)) (digits_value 10 digits) (λ tested.
-    let parts = both (is_numeral digits) (nat_lt (digits_value 10 digits) (2 ^ k)) tested in
+    let parts = and_parts (is_numeral digits) (nat_lt (digits_value 10 digits) (2 ^ k)) tested in
     h (numeral_from digits parts.0, ltb-true _ _ parts.1))
 
 -- ---- names

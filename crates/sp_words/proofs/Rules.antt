@@ -5,6 +5,7 @@ use Rattle.std.specs.List.{find}
 use Rattle.std.specs.Str.{bytes_eq}
 use Rattle.std.specs.Prelude.{codes}
 use Rattle.std.proofs.lemmas.Slice.Eq.{bytes_eq-Decides}
+use Rattle.std.proofs.lemmas.Bool.{or_parts}
 use Rattle.clap.specs.Walk.{Row, Rule, arg_by_id, arg_by_index, arg_by_long, at_row, has_row, more_values, used}
 use Rattle.clap.specs.Walk.{with_values}
 use Rattle.clap.specs.Simple.{Shape, new_shape}
@@ -116,15 +117,11 @@ fault_of_use id long index p required value rows = go (has_row id rows) (accepts
     go false true k = refl
     go false false k = refl
 
-or_both : (a b : Bool) → (a || b) ≡ false → (a ≡ false) × (b ≡ false)
-or_both true b e = absurd (true≢false e)
-or_both false b e = (refl, e)
-
 pub at_no_row : (id : Text) (change : Row → List Row) (missing rows : List Row) → has_row id rows ≡ false
     → at_row id change missing rows ≡ rows ++ missing
 at_no_row id change missing [] e = refl
 at_no_row id change missing (r ∷ rs) e =
-    let parts = or_both (bytes_eq r.id id) (has_row id rs) e in
+    let parts = or_parts (bytes_eq r.id id) (has_row id rs) e in
     let here : bytes_eq r.id id ≡ false = parts.0 in
     rw here (ap (λ xs. r ∷ xs) (at_no_row id change missing rs parts.1))
 

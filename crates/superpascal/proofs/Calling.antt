@@ -2,6 +2,7 @@
 use Rattle.std.proofs.Common.{◌≡◌, ◌≢◌, ◌⊎◌, inl, inr, ℕ, ◌<◌, ◌≤◌, List, [], length, Option, Some, None, true, false}
 use Rattle.std.proofs.Common.{refl, sym, ◌∙◌, ap, subst, arith}
 use Rattle.std.specs.Prelude.{IfSome}
+use Rattle.std.proofs.lemmas.Bool.{true≢false}
 use Rattle.sp_base.specs.declared.halt.Refusal.{Refusal}
 use Rattle.sp_base.specs.declared.limits.Limits.{Limits}
 use Rattle.sp_codefile.specs.Verifying.{rule_of}
@@ -70,9 +71,6 @@ one_command o c d h k = cc
 
 one_size : (m n x y : ℕ) → command.Gen m x ≡ command.Gen n y → m ≡ n
 one_size m n x y h = cc
-
-no_true : true ≡ false → ⊥
-no_true g = cc
 
 -- the ending of a run
 pub final : (x : End) → HasLines x → IsFinal (status_of (ending_of x)) × (has_output (ending_of x) ≡ true)
@@ -1135,11 +1133,11 @@ module _ (c : Call) (k : IsAnswered c) (l : Laws) where
   line_is (e.Rejected r n) (b, v, m) h = inl (ap (λ (z : Answer). z.notes) m.answer)
   line_is (e.BadJournal n) (b, v, m) h = inl (ap (λ (z : Answer). z.notes) m.answer)
   line_is (e.Unfit n) (b, v, m) h = inl (ap (λ (z : Answer). z.notes) m.answer)
-  line_is e.Done m h = absurd (no_true h)
-  line_is e.Deadlock m h = absurd (no_true h)
-  line_is e.Fault m h = absurd (no_true h)
-  line_is e.NoEnd m h = absurd (no_true h)
-  line_is e.Accepted m h = absurd (no_true h)
+  line_is e.Done m h = absurd (true≢false h)
+  line_is e.Deadlock m h = absurd (true≢false h)
+  line_is e.Fault m h = absurd (true≢false h)
+  line_is e.NoEnd m h = absurd (true≢false h)
+  line_is e.Accepted m h = absurd (true≢false h)
   line_is (e.Refused q) (d, v, m) h = inr (m.refusal, m.answer)
   line_is e.BadWords m h = inl refl
   line_is e.ReadFault m h = inl refl

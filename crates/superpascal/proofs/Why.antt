@@ -1,5 +1,6 @@
 -- Why an answer is due, by its ending: it leads from an ending to its cause.
 use Rattle.std.proofs.Common.{◌≡◌, ◌⊎◌, inl, inr, ℕ, Option, Some, None, refl, sym, ◌∙◌, ap, subst}
+use Rattle.std.proofs.lemmas.Option.{none-some, same_Some}
 use Rattle.sp_execute.specs.declared.execution.Ran.{Ran}
 use Rattle.sp_journal.specs.declared.outcome.End.{End}
 use Rattle.sp_journal.specs.declared.outcome.End.TheVariants as ends
@@ -107,10 +108,7 @@ module _ (f : Files) (s : Stream) (reports : Reports) (w : Option Command) (a : 
 
   -- a run that is given back has run for the command
   no_run : (b : Answer) (r : Ran) → a ≡ b → b.ran ≡ None → a.ran ≡ Some r → ⊥
-  no_run b r h n k = none_some r (sym n ∙ sym (ap (λ (z : Answer). z.ran) h) ∙ k)
-    where
-      none_some : (r : Ran) → ◌≡◌ {A = Option Ran} None (Some r) → ⊥
-      none_some r h = cc
+  no_run b r h n k = none-some r (sym n ∙ sym (ap (λ (z : Answer). z.ran) h) ∙ k)
 
   ran_due : (d : Command) (r : Ran) → Due f s reports d a → a.ran ≡ Some r → IsRanBy d
   ran_due d r (by_run asked p h) k = inl (asked, p, h)
@@ -138,10 +136,7 @@ module _ (f : Files) (s : Stream) (reports : Reports) (w : Option Command) (a : 
 
   -- a run of a code file that is given back has run for the command
   no_file : (b : Answer) (r : Closed) → a ≡ b → b.executed ≡ None → a.executed ≡ Some r → ⊥
-  no_file b r h n k = none_some r (sym n ∙ sym (ap (λ (z : Answer). z.executed) h) ∙ k)
-    where
-      none_some : (r : Closed) → ◌≡◌ {A = Option Closed} None (Some r) → ⊥
-      none_some r h = cc
+  no_file b r h n k = none-some r (sym n ∙ sym (ap (λ (z : Answer). z.executed) h) ∙ k)
 
   executed_due : (d : Command) (r : Closed) → Due f s reports d a → a.executed ≡ Some r → (asked : Executed)
       × (d ≡ executes asked) × HasExecuted f s asked a
@@ -170,14 +165,8 @@ module _ (f : Files) (s : Stream) (reports : Reports) (w : Option Command) (a : 
 
 -- the run of a code file of an answer that is known
 pub same_file : (a b : Answer) (x r : Closed) → a ≡ b → b.executed ≡ Some x → a.executed ≡ Some r → x ≡ r
-same_file a b x r h k m = some_same x r (sym k ∙ sym (ap (λ (z : Answer). z.executed) h) ∙ m)
-  where
-    some_same : (x r : Closed) → ◌≡◌ {A = Option Closed} (Some x) (Some r) → x ≡ r
-    some_same x r h = cc
+same_file a b x r h k m = same_Some x r (sym k ∙ sym (ap (λ (z : Answer). z.executed) h) ∙ m)
 
 -- the run of an answer that is known
 pub same_ran : (a b : Answer) (x r : Ran) → a ≡ b → b.ran ≡ Some x → a.ran ≡ Some r → x ≡ r
-same_ran a b x r h k m = some_same x r (sym k ∙ sym (ap (λ (z : Answer). z.ran) h) ∙ m)
-  where
-    some_same : (x r : Ran) → ◌≡◌ {A = Option Ran} (Some x) (Some r) → x ≡ r
-    some_same x r h = cc
+same_ran a b x r h k m = same_Some x r (sym k ∙ sym (ap (λ (z : Answer). z.ran) h) ∙ m)

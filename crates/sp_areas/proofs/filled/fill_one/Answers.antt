@@ -1,21 +1,21 @@
 use Rattle.std.proofs.Common.{◌≡◌, None, Some, ap, sym, ◌∙◌, arith}
 use Rattle.std.specs.Prelude.{slice_get}
+use Rattle.sp_base.proofs.Facts.{item_is_not_none, value_if_some}
 use Rattle.sp_code.specs.declared.code.Parts.{Parts}
 use Rattle.sp_areas.specs.Blocks.{number_from}
 use Rattle.sp_areas.specs.Grown.{node_at}
 use Rattle.sp_areas.proofs.Filling.{filled_more, filled_same}
-use Rattle.sp_areas.proofs.Leading.{a_some, is_none, place_there}
-use Rattle.sp_areas.proofs.Outward.{get_past}
+use Rattle.sp_areas.proofs.Leading.{is_none, place_there}
 use Rattle.sp_areas.proofs.filled.fill_one.Goals as goal
 
 pub returns-then-is_some : goal.returns-then-is_some
 returns-then-is_some c =
-    let has = a_some c.node_at.result (sym c.is_some.ensures ∙ c.if-is_some.true) in
+    let has = value_if_some c.node_at.result (sym c.is_some.ensures ∙ c.if-is_some.true) in
     filled_same c.args.code.now c.args.item has.0 c.args.grown.now c.requires.just (sym c.node_at.ensures ∙ has.1)
 
 pub returns-in-None : goal.returns-in-None
 returns-in-None c =
-    absurd (get_past c.args.code.now.layouts c.args.item c.requires.there
+    absurd (item_is_not_none c.args.code.now.layouts c.args.item c.requires.there
     (ap (λ (z : Parts). slice_get z.layouts c.args.item) (sym c.parts.ensures.same) ∙ sym c.in-None.ensures))
 
 pub returns-in-None-place : goal.returns-in-None-place

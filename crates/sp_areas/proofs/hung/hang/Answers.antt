@@ -1,6 +1,7 @@
 use Rattle.std.proofs.Common.{◌≡◌, List, length, None, Some, ap, sym, ◌∙◌, subst, arith}
 use Rattle.std.specs.Prelude.{slice_get}
 use Rattle.std.proofs.lemmas.Option.{slice_get_within}
+use Rattle.sp_base.proofs.Facts.{value_if_some}
 use Rattle.sp_code.specs.declared.code.ChildTable.{ChildTable}
 use Rattle.sp_code.specs.declared.code.Parts.{Parts}
 use Rattle.sp_rules.specs.Areas.{instr_at, table_named}
@@ -8,7 +9,7 @@ use Rattle.sp_areas.specs.Around.{AreHung, Hangs, IsHungBy, node_of}
 use Rattle.sp_areas.specs.Grown.{node_at}
 use Rattle.sp_areas.specs.Owners.{Owns}
 use Rattle.sp_areas.proofs.Growing.{steps_none}
-use Rattle.sp_areas.proofs.Leading.{a_some, is_none}
+use Rattle.sp_areas.proofs.Leading.{is_none}
 use Rattle.sp_areas.proofs.Owned.{named_within}
 use Rattle.sp_areas.proofs.Surrounding.{hung_has, hung_past, hung_step, owner_there}
 use Rattle.sp_areas.proofs.hung.hang.Goals as goal
@@ -17,7 +18,7 @@ pub returns-then-is_some : goal.returns-then-is_some
 returns-then-is_some c =
     let code = c.args.code.now in
     let g = c.args.grown.now in
-    let has = a_some c.node_at.result (sym c.is_some.ensures ∙ c.if-is_some.true) in
+    let has = value_if_some c.node_at.result (sym c.is_some.ensures ∙ c.if-is_some.true) in
     steps_none (AreHung code c.args.of_blocks.now) g
     (IsHungBy code c.args.owners.now c.args.of_blocks.now c.args.q) c.requires.just
     (hung_has code c.args.of_blocks.now c.args.owners.now c.args.q c.in-Some.t has.0 g (sym c.table_of.ensures

@@ -1,8 +1,8 @@
 use Rattle.std.proofs.Common.{◌∙◌, ◌+◌, Option, ap, sym, subst}
+use Rattle.std.proofs.lemmas.Option.{none-some}
 use Rattle.sp_code.specs.declared.instr.Instr.{Instr}
 use Rattle.sp_rules.specs.Areas.{table_named}
 use Rattle.sp_rules.specs.Named.{Names}
-use Rattle.sp_rules.proofs.Facts.{none_some}
 use Rattle.sp_areas.specs.Namers.{AreNamers}
 use Rattle.sp_areas.proofs.Lost.{named_none, named_one}
 use Rattle.sp_areas.proofs.naming.visit.Goals as goal
@@ -12,7 +12,7 @@ returns-in-None c =
     let code = c.args.code.now in
     let p = c.args.p in
     named_none code p c.args.namers.now
-    (λ t m. none_some t (sym (ap (λ (z : Option Instr). table_named z) c.instr_of.ensures ∙ sym c.table_named.ensures
+    (λ t m. none-some t (sym (ap (λ (z : Option Instr). table_named z) c.instr_of.ensures ∙ sym c.table_named.ensures
     ∙ c.in-None.is) ∙ m))
     c.requires.known
 

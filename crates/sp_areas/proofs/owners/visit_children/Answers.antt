@@ -1,7 +1,6 @@
 use Rattle.std.proofs.Common.{◌≡◌, ◌<◌, length, refl, sym, subst, arith}
-use Rattle.std.proofs.lemmas.Option.{slice_get_read}
+use Rattle.std.proofs.lemmas.Option.{slice_get_read, same_Some}
 use Rattle.sp_areas.specs.Owners.{IsHanded, IsOwner, IsTrueOf, Spreads}
-use Rattle.sp_rules.proofs.Facts.{same_some}
 use Rattle.sp_areas.proofs.Handing.{handed_more, some_of_child}
 use Rattle.sp_areas.proofs.owners.visit_children.Goals as goal
 
@@ -16,7 +15,7 @@ hand-requires-clause-owner c = λ q e l.
     let code = c.args.code.now in
     let ts = c.args.children.now in
     let ch = c.index-children-k.result in
-    let s : ch.entry ≡ q = same_some ch.entry q e in
+    let s : ch.entry ≡ q = same_Some ch.entry q e in
     let g = slice_get_read ts (length ts) c.loop-k.k ch refl c.loop-k-test.true c.index-children-k.is in
     subst (λ z. IsTrueOf code z c.of_child.result) s
     (subst (IsTrueOf code ch.entry) (sym c.of_child.ensures)

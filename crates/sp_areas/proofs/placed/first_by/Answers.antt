@@ -1,10 +1,9 @@
 use Rattle.std.proofs.Common.{◌≡◌, ◌<◌, length, Option, ⊎_elim, true, ap, sym, ◌∙◌, subst, arith}
+use Rattle.sp_base.proofs.Facts.{below_or_last, not_true_and_false}
 use Rattle.sp_code.specs.declared.instr.Instr.{Instr}
 use Rattle.sp_code.specs.declared.code.Parts.{Parts}
 use Rattle.sp_rules.specs.Areas.{instr_at}
 use Rattle.sp_areas.specs.Placed.{IsMisplaced, fails_placed}
-use Rattle.sp_rules.proofs.Facts.{no_true}
-use Rattle.sp_areas.proofs.Handing.{below_or}
 use Rattle.sp_areas.proofs.Placing.{is_misplaced, misplaced_is}
 use Rattle.sp_areas.proofs.placed.first_by.Goals as goal
 
@@ -34,9 +33,9 @@ loop-p-preserved c = λ k l h.
     ∙ sym c.fails.ensures ∙ c.if-fails.false in
     ⊎_elim (λ (y : k < p). c.loop-p.invariant k y h)
     (λ (e : k ≡ p). let g : IsMisplaced code p = subst (IsMisplaced code) e h in
-    no_true (fails_placed (length code.instrs) p (instr_at code p) o)
+    not_true_and_false (fails_placed (length code.instrs) p (instr_at code p) o)
     (misplaced_is code p o (c.requires.1 p o c.owner_at-o.ensures) g.1) test)
-    (below_or k p l)
+    (below_or_last k p l)
 
 pub returns : goal.returns
 returns c = λ q h.

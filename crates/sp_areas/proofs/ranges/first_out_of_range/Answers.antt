@@ -1,7 +1,7 @@
 use Rattle.std.proofs.Common.{◌≡◌, ◌<◌, length, ⊎_elim, ap, ◌∙◌, subst, arith}
+use Rattle.sp_base.proofs.Facts.{below_or_last}
 use Rattle.sp_code.specs.declared.code.Parts.{Parts}
 use Rattle.sp_areas.specs.Misnamed.{MisnamesOnly}
-use Rattle.sp_areas.proofs.Growing.{below_or}
 use Rattle.sp_areas.proofs.Misnaming.{misnames_within}
 use Rattle.sp_areas.proofs.ranges.first_out_of_range.Goals as goal
 
@@ -9,7 +9,7 @@ pub loop-p-preserved : goal.loop-p-preserved
 loop-p-preserved c = λ k l h.
     ⊎_elim (λ (y : k < c.loop-p.p). c.loop-p.invariant k y h)
     (λ (e : k ≡ c.loop-p.p). c.misnames.ensures.no c.if-misnames.false (subst (MisnamesOnly c.args.code.now) e h))
-    (below_or k c.loop-p.p l)
+    (below_or_last k c.loop-p.p l)
 
 pub returns : goal.returns
 returns c = λ q h.

@@ -1,8 +1,7 @@
 use Rattle.std.proofs.Common.{◌≡◌, ◌<◌, length, ⊎_elim, ap, ◌∙◌, subst, arith}
+use Rattle.sp_base.proofs.Facts.{below_or_last, not_true_and_false}
 use Rattle.sp_code.specs.declared.code.Parts.{Parts}
 use Rattle.sp_rules.specs.Rules.{BreaksV9}
-use Rattle.sp_rules.proofs.Facts.{no_true}
-use Rattle.sp_areas.proofs.Handing.{below_or}
 use Rattle.sp_areas.proofs.Rounding.{lies_back}
 use Rattle.sp_areas.proofs.rounds.first_broken.Goals as goal
 
@@ -13,9 +12,9 @@ pub loop-p-preserved : goal.loop-p-preserved
 loop-p-preserved c = λ k l b.
     let p = c.loop-p.p in
     ⊎_elim (λ (y : k < p). c.loop-p.invariant k y b)
-    (λ (e : k ≡ p). no_true c.in_ok-broken.broken
+    (λ (e : k ≡ p). not_true_and_false c.in_ok-broken.broken
     (c.in_ok-broken.ensures.1 (subst (BreaksV9 c.args.code.now) e b)) c.if-broken.false)
-    (below_or k p l)
+    (below_or_last k p l)
 
 pub returns : goal.returns
 returns c = λ p b.

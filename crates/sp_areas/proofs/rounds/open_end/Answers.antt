@@ -1,9 +1,8 @@
 use Rattle.std.proofs.Common.{◌≡◌, ◌<◌, length, true, inl, inr, ⊎_elim, ap, sym, ◌∙◌, subst, arith}
+use Rattle.sp_base.proofs.Facts.{below_or_last, not_true_and_false}
 use Rattle.sp_code.specs.declared.code.Parts.{Parts}
-use Rattle.sp_rules.proofs.Facts.{no_true}
 use Rattle.sp_areas.specs.Alone.{flag_at}
 use Rattle.sp_areas.specs.Rounds.{IsAt, AreFlagged}
-use Rattle.sp_areas.proofs.Handing.{below_or}
 use Rattle.sp_areas.proofs.Rounding.{strays_from, leads_within}
 use Rattle.sp_areas.proofs.rounds.open_end.Goals.{then-p-start+in-None, then-p-start-via-then-p-start}
 use Rattle.sp_areas.proofs.rounds.open_end.Goals.{then-p-start-via-else-p-start+then-flag_at, else-p-start+else-flag_at}
@@ -30,11 +29,11 @@ loop-p-preserved c = λ k l at.
     λ (at : IsAt c.args.start fs p). elim c.if-p-start.branch [
       | then-p-start+in-None w ↦ w.in-None.ensures
       | else-p-start+else-flag_at w ↦ absurd (⊎_elim (λ (e : p ≡ c.args.start). w.if-p-start.false e)
-          (λ (e : flag_at fs p ≡ true). no_true (flag_at fs p) e (sym w.flag_at.ensures ∙ w.if-flag_at.false)) at)
+          (λ (e : flag_at fs p ≡ true). not_true_and_false (flag_at fs p) e (sym w.flag_at.ensures ∙ w.if-flag_at.false)) at)
     ] in
     ⊎_elim (λ (y : k < p). c.loop-p.invariant k y at)
     (λ (e : k ≡ p). subst (λ i. AreFlagged code fs i) (sym e) (here (subst (λ i. IsAt c.args.start fs i) e at)))
-    (below_or k p l)
+    (below_or_last k p l)
 
 pub returns : goal.returns
 returns c = λ p at q i.

@@ -1,6 +1,7 @@
 use Rattle.std.proofs.Common.{◌≡◌, length, sym, arith}
+use Rattle.sp_base.proofs.Facts.{item_is_not_none}
 use Rattle.sp_areas.specs.Tree.{IsJump}
-use Rattle.sp_areas.proofs.Outward.{drop_along, found_here, found_none, get_past}
+use Rattle.sp_areas.proofs.Outward.{drop_along, found_here, found_none}
 use Rattle.sp_areas.proofs.tree.outward.Goals as goal
 
 pub levels-preserved : goal.levels-preserved
@@ -18,7 +19,7 @@ levels-preserved c = λ ls lists are l.
 
 pub returns-in-None : goal.returns-in-None
 returns-in-None c = λ ls lists are l. absurd
-    (get_past c.args.tree.now c.levels.at (c.levels.invariant ls lists are l).0 (sym c.in-None.ensures))
+    (item_is_not_none c.args.tree.now c.levels.at (c.levels.invariant ls lists are l).0 (sym c.in-None.ensures))
 
 pub returns-in-None-step : goal.returns-in-None-step
 returns-in-None-step c = λ ls lists are l.
@@ -31,7 +32,7 @@ returns-in-None-step c = λ ls lists are l.
 
 pub returns-in-None-get : goal.returns-in-None-get
 returns-in-None-get c = λ ls lists are l. absurd
-    (get_past c.args.tree.now c.levels.at (c.levels.invariant ls lists are l).0 (sym c.in-None-get.ensures))
+    (item_is_not_none c.args.tree.now c.levels.at (c.levels.invariant ls lists are l).0 (sym c.in-None-get.ensures))
 
 pub returns-in-Some-get : goal.returns-in-Some-get
 returns-in-Some-get c = λ ls lists are l.

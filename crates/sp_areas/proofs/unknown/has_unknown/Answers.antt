@@ -1,10 +1,9 @@
 use Rattle.std.proofs.Common.{◌≡◌, ◌<◌, ⊎_elim, get_or, sym, ◌∙◌, ap, subst}
 use Rattle.std.specs.Prelude.{slice_get}
-use Rattle.std.proofs.lemmas.Option.{slice_get-get_or}
+use Rattle.std.proofs.lemmas.Option.{slice_get-get_or, same_Some}
+use Rattle.sp_base.proofs.Facts.{below_or_last}
 use Rattle.sp_rules.specs.Areas.{homes}
-use Rattle.sp_rules.proofs.Facts.{same_some}
 use Rattle.sp_areas.specs.Unknown.{OneUnknown}
-use Rattle.sp_areas.proofs.Growing.{below_or}
 use Rattle.sp_areas.proofs.Knowing.{unknown_here, unknown_none}
 use Rattle.sp_areas.proofs.unknown.has_unknown.Goals as goal
 
@@ -23,9 +22,9 @@ loop-x-preserved c = λ a l k y h e u.
     let i = c.loop-x.x-index in
     ⊎_elim (λ (m : k < i). c.loop-x.invariant a l k y m e u)
     (λ (s : k ≡ i). (c.is_unknown.ensures a l).no c.if-is_unknown.false
-    (subst (λ z. OneUnknown code.layouts z (homes code a)) (same_some y (get_or xs i 0) (sym e ∙ ap (slice_get xs) s
+    (subst (λ z. OneUnknown code.layouts z (homes code a)) (same_Some y (get_or xs i 0) (sym e ∙ ap (slice_get xs) s
     ∙ slice_get-get_or xs i 0 c.loop-x-test.true)) u))
-    (below_or k i h)
+    (below_or_last k i h)
 
 pub returns : goal.returns
 returns c = λ a l.

@@ -1,4 +1,5 @@
 use Rattle.std.proofs.Common.{◌≡◌, ◌≢◌, ◌+◌, ◌∙◌, ◌++◌, ◌∷◌, [], ◌==◌, Bool, true, false, List, ℕ, length, length-append, Some, None, Option, refl, sym, ap, subst, arith}
+use Rattle.std.proofs.lemmas.Option.{none-some}
 use Rattle.sp_journal.specs.declared.version.Version.{Version}
 use Rattle.sp_journal.specs.declared.entry.Entry.{Entry}
 use Rattle.sp_journal.specs.Reading.{first_line}
@@ -7,7 +8,7 @@ use Rattle.sp_journal.specs.Texts.{entry_text}
 use Rattle.sp_journal.specs.Births.{Births}
 use Rattle.sp_journal.specs.Reader.{known, CanCome, IsNext}
 use Rattle.sp_journal.specs.Begun.{Begun}
-use Rattle.sp_journal.proofs.Facts.{none_some, same}
+use Rattle.sp_journal.proofs.Facts.{same}
 use Rattle.sp_journal.proofs.TextLaws.{parts_first}
 use Rattle.sp_journal.proofs.BegunLaws.{first_joins, read_alone, bad_here, none_here, begun_on, begun_first, bad_first, none_first, some_line}
 use Rattle.sp_journal.proofs.read.read_journal.Goals as goal
@@ -36,7 +37,7 @@ no_version : (bytes first rest : List ℕ) → Some (first, rest) ≡ first_spli
 no_version bytes first rest e n v more f = n v (parts_first _ _ _ _ (e ∙ f))
 
 no_line : (v : Version) (s : Births) (rest : List ℕ) → None ≡ first_split 10 rest → (e : Entry) (more : List ℕ) → CanCome v s e → first_split 10 rest ≡ Some (entry_text s e, more) → ⊥
-no_line v s rest n e more h f = none_some _ (n ∙ f)
+no_line v s rest n e more h f = none-some _ (n ∙ f)
 
 no_next : (v : Version) (s : Births) (rest text after : List ℕ) (o : Option Entry) → Some (text, after) ≡ first_split 10 rest → IsNext v s text o → o ≡ None → (e : Entry) (more : List ℕ) → CanCome v s e → first_split 10 rest ≡ Some (entry_text s e, more) → ⊥
 no_next v s rest text after o g n z e more h f = (subst (IsNext v s text) z n) e h (parts_first _ _ _ _ (g ∙ f))

@@ -1,9 +1,9 @@
 use Rattle.std.proofs.Common.{◌≡◌, ◌≢◌, suc, add-one, ◌+◌, ◌-◌, ◌<◌, ◌∙◌, ◌++◌, ◌∷◌, length, length-drop, get_or, take, drop, List, ℕ, Some, None, sym, ap, refl, arith}
 use Rattle.std.proofs.lemmas.List.{take-append-drop, take_all}
 use Rattle.std.proofs.Math.Seq.{drop-cons}
+use Rattle.std.proofs.lemmas.Bool.{ne_eqb}
 use Rattle.sp_journal.specs.Splits.{last_split}
 use Rattle.sp_journal.proofs.SplitLaws.{last_after_none}
-use Rattle.sp_journal.proofs.Facts.{apart}
 use Rattle.sp_journal.proofs.split.split_last.Goals as goal
 
 -- none behind i, and c at i
@@ -18,7 +18,7 @@ not_at c i j xs e l h n =
     ap (last_split c) parts ∙ none_first (get_or xs i 0) (drop j xs) h n
   where
     none_first : (x : ℕ) (ys : List ℕ) → x ≢ c → last_split c ys ≡ None → last_split c (x ∷ ys) ≡ None
-    none_first x ys h n = rw n (rw (apart x c h) refl)
+    none_first x ys h n = rw n (rw (ne_eqb x c h) refl)
 
 pub returns-then-text-at : goal.returns-then-text-at
 returns-then-text-at c =

@@ -1,7 +1,7 @@
 use Rattle.std.proofs.Common.{rules, ◌<◌, ◌≤◌, ◌-◌, ◌/◌, length, sym, ◌∙◌, subst, arith}
+use Rattle.std.proofs.lemmas.Bool.{true≢false}
 use Rattle.sp_journal.specs.declared.entry.Entry.{Entry}
 use Rattle.sp_journal.specs.declared.entry.Event.TheVariants as event
-use Rattle.sp_judge.proofs.Steps.{true_not_false}
 use Rattle.sp_judge.proofs.Halves.{inside, there, other_there, none_below, all_below, place_there, counted}
 use Rattle.sp_judge.proofs.knowing.first_unknown.Goals as goal
 
@@ -60,7 +60,7 @@ loop-known-preserved c =
     let says = counted c.args.entries.now c.requires.tame c.args.at c.args.racer.process c.args.racer.way c.args.racer.channel c.requires.here c.args.until.now c.args.bench.now c.requires.holds c.in-Some.i c.index.result.now any (omega (arith, low, l)) o.1 c.index.ensures in (
       omega (arith, low, l),
       h.1,
-      λ a. (o.1.0, o.1.1, o.1.2, λ k. true_not_false (sym (c.in_ok-knows_entry-in-Some.ensures.1 (says.1 k)) ∙ c.if-branch.false)),
+      λ a. (o.1.0, o.1.1, o.1.2, λ k. true≢false (sym (c.in_ok-knows_entry-in-Some.ensures.1 (says.1 k)) ∙ c.if-branch.false)),
     )
 
 pub returns-then-first-at : goal.returns-then-first-at

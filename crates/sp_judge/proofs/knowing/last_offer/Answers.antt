@@ -1,6 +1,6 @@
 use Rattle.std.proofs.Common.{◌≡◌, ◌⊎◌, ⊎_elim, ◌<◌, ◌≤◌, ◌-◌, ℕ, length, sym, ◌∙◌, subst, arith}
+use Rattle.std.proofs.lemmas.Bool.{true≢false}
 use Rattle.sp_judge.specs.Bench.{IsOfferAt}
-use Rattle.sp_judge.proofs.Steps.{true_not_false}
 use Rattle.sp_judge.proofs.Halves.{offer_here, offer_there}
 use Rattle.sp_judge.proofs.knowing.last_offer.Goals as goal
 
@@ -23,7 +23,7 @@ loop-i-preserved c =
     let low = h.0 in (
       omega (arith, low),
       λ k a b o. ⊎_elim
-          (λ (x : k < c.loop-i.i). true_not_false (sym (c.is_offer.ensures.1 (offer_there c.args.entries.now c.args.way c.args.channel (c.loop-i.i - 1) (subst (IsOfferAt c.args.entries.now c.args.way c.args.channel) (only k (c.loop-i.i) a x) o) _)) ∙ c.if-is_offer.false))
+          (λ (x : k < c.loop-i.i). true≢false (sym (c.is_offer.ensures.1 (offer_there c.args.entries.now c.args.way c.args.channel (c.loop-i.i - 1) (subst (IsOfferAt c.args.entries.now c.args.way c.args.channel) (only k (c.loop-i.i) a x) o) _)) ∙ c.if-is_offer.false))
           (λ (x : c.loop-i.i ≤ k). h.1 k x b o)
           (low_or_not k c.loop-i.i),
     )

@@ -1,7 +1,8 @@
 use Rattle.std.proofs.Common.{◌<◌, max, slice_set, ◌∙◌, ap, sym, subst}
 use Rattle.std.proofs.lemmas.Result.{on_ok_weaker}
+use Rattle.std.proofs.lemmas.List.{length-set}
 use Rattle.sp_judge.specs.Clocks.{count_of}
-use Rattle.sp_judge.proofs.TableLaws.{learned, clock_is, set_length}
+use Rattle.sp_judge.proofs.TableLaws.{learned, clock_is}
 use Rattle.sp_judge.proofs.table.learn.Goals as goal
 
 pub returns-clause-clocks : goal.returns-clause-clocks
@@ -12,5 +13,5 @@ returns-clause-clocks c =
     (λ r. ap (λ x. count_of x r) c.replace-clock.ensures.after ∙ c.new.ensures r)
     (λ r. h r ∙ (λ i. max
     ((ap (λ x. count_of x r) (c.replace-clock.ensures.value ∙ c.index_mut.ensures.value) ∙ clock_is cs c.args.learner c.index_mut.result.now r c.requires.learner) i)
-    ((ap (λ x. count_of x r) c.index.ensures ∙ clock_is (slice_set cs c.args.learner none) c.args.teacher c.index.result.now r (subst (λ n. c.args.teacher < n) (sym (set_length cs c.args.learner none)) c.requires.teacher)) i)))
+    ((ap (λ x. count_of x r) c.index.ensures ∙ clock_is (slice_set cs c.args.learner none) c.args.teacher c.index.result.now r (subst (λ n. c.args.teacher < n) (sym (length-set cs c.args.learner none)) c.requires.teacher)) i)))
     p q) c.merge-merged.ensures.ok

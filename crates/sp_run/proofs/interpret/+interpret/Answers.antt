@@ -1,5 +1,6 @@
 use Rattle.std.proofs.Common.{rules, ◌≡◌, ◌-◌, ◌∷◌, [], List, Some, None, true, false, refl, length, sym, ap, ◌∙◌, arith, map, subst}
 use Rattle.std.proofs.lemmas.Int.{to_z-of_z}
+use Rattle.std.proofs.lemmas.List.{nil_from_length}
 use mir.Val.{to_z, of_z, SFits}
 use mir.Syntax.{w64}
 use Rattle.sp_tree.specs.declared.checked.Expr.{out-Expr}
@@ -22,7 +23,7 @@ use Rattle.sp_run.specs.Direct.{Came, Got}
 use Rattle.sp_run.specs.DirectEval.{input_op, form_value}
 use Rattle.sp_run.proofs.Acting.{input_is}
 use Rattle.sp_run.specs.Acts.{one}
-use Rattle.sp_run.proofs.Goings.{more_left, not_left, none_in}
+use Rattle.sp_run.proofs.Goings.{more_left, not_left}
 use Rattle.sp_run.proofs.interpret.+interpret.Goals as goal
 
 pub act-returns-in-First : goal.act-returns-in-First
@@ -87,7 +88,7 @@ form_value-returns-in-Gives-kind_at t c =
 pub form_value-returns-in-Gives-left_of : goal.form_value-returns-in-Gives-left_of
 form_value-returns-in-Gives-left_of t c =
     let l : length c.in-Standard.args ≡ 0 = first_of (search rules, grind (arith, rules)) in
-    let xs : c.in-Standard.args ≡ [] = none_in c.in-Standard.args l in
+    let xs : c.in-Standard.args ≡ [] = nil_from_length c.in-Standard.args l in
     let i : form_of c.args.form.now ≡ standard_of c.in-Standard.f c.in-Standard.args = search (rules, ast_f.the_lemmas) in
     let j : standard_of c.in-Standard.f c.in-Standard.args ≡ AtInput c.in-Standard.f = ap (λ z. standard_of c.in-Standard.f z) xs in
     let e1 = c.in-Gives-left_of.ensures in

@@ -1,6 +1,7 @@
 use denote.Exit.{yes}
 use denote.Param.Send.{param_send, arg_send}
 use Rattle.sp_base.proofs.limits.Limits.TheSendSync as limits
+use Rattle.sp_base.proofs.Facts.{item_there, none_if_not_above}
 use Rattle.sp_code.proofs.code.Code.TheSendSync as code
 use Rattle.sp_kernel.proofs.Crossing.{seat_send, room_sync}
 use Rattle.std.proofs.Common.{◌≡◌, ◌∙◌, sym, ap, subst, Some, None, slice_get, refl, length, arith, ◌<◌, ◌≤◌}
@@ -15,7 +16,7 @@ use Rattle.sp_kernel.specs.declared.kernel.Kernel.{Kernel}
 use Rattle.sp_room.specs.declared.seat.RoomSeat.{RoomSeat}
 use Rattle.sp_room.specs.History.{LeadsTo}
 use Rattle.sp_room.specs.Ends.{object_of, notes_of}
-use Rattle.sp_runner.proofs.Ending.{ran_to, none_up, first_of, at_of}
+use Rattle.sp_runner.proofs.Ending.{ran_to, first_of}
 use Rattle.sp_runner.proofs.runner.run_all.Goals as goal
 
 pub map_vec-done-requires-send-J : goal.map_vec-done-requires-send-J
@@ -92,14 +93,14 @@ returns g c =
     let left : Left (seen_by f.0) = subst (λ (t : RoomSeat _ _ _ _ _). Left (seen_by t))
     (get_or_from_slice_get c.in-Ok-done.seats.items 0 f.0 f.0 f.1) e.call.met.1 in
     let up : y.abandons ≡ 0 = ap (λ (z : Kernel). z.abandons) (sym c.object.ensures)
-    ∙ none_up c.object.result.now.abandons (sym c.gave_up.ensures ∙ c.if-gave_up.false) in
+    ∙ none_if_not_above c.object.result.now.abandons (sym c.gave_up.ensures ∙ c.if-gave_up.false) in
     record {
       ran = ran_to x c.requires.run.opening log y
           (subst (λ (z : Kernel). LeadsTo Steps z log y) c.in-Ok.ensures.opening c.close-settled.ensures.legal)
           (seen_by f.0) (c.close-settled.ensures.seen 0 f.0 (ap (λ l. slice_get l 0) c.of.ensures ∙ f.1)) left up;
       kept = up;
       calls = λ w l.
-          let s = at_of c.in-Ok-done.seats.items w (omega (arith, l, long, count)) in
+          let s = item_there c.in-Ok-done.seats.items w (omega (arith, l, long, count)) in
           let d = (c.in-Ok-done.ensures.each w s.0 (omega (arith, l, count))).1 in
           let own : OneByOne None (own_of s.0) = subst (λ (t : RoomSeat _ _ _ _ _). OneByOne None (own_of t))
           (get_or_from_slice_get c.in-Ok-done.seats.items w s.0 s.0 s.1) d.call.met.2 in

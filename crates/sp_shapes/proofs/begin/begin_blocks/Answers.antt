@@ -1,10 +1,9 @@
 use Rattle.std.proofs.Common.{◌≡◌, refl, ap, sym, ◌∙◌, subst, ◌+◌, List, length, Some, None}
 use Rattle.std.specs.Prelude.{slice_get}
-use Rattle.std.proofs.lemmas.Option.{slice_get_read}
+use Rattle.std.proofs.lemmas.Option.{slice_get_read, none-some}
 use Rattle.sp_code.specs.declared.code.Layout.{Layout}
 use Rattle.sp_code.specs.declared.code.Parts.{Parts}
 use Rattle.sp_code.specs.Machine.{layout_of}
-use Rattle.sp_rules.proofs.Facts.{none_some}
 use Rattle.sp_shapes.specs.declared.steps.Arrival.{Arrival}
 use Rattle.sp_shapes.specs.Starts.{Adds, IsOfLayouts}
 use Rattle.sp_shapes.proofs.Starting.{adds_then, adds_as, one_less, one_more, of_block}
@@ -31,7 +30,7 @@ loop-l-preserved c =
     elim c.match-find.branch [
       | in-None w ↦ subst (λ (zs : List Arrival). Adds code (IsOfLayouts code (n + 1)) xs zs) (sym w.arrivals-is)
           (adds_as code (IsOfLayouts code n) (IsOfLayouts code (n + 1)) xs c.loop-l.arrivals
-          (λ q h. one_less code n q l None g (w.in-None.ensures ∙ find) h (λ m e f. absurd (none_some m e)))
+          (λ q h. one_less code n q l None g (w.in-None.ensures ∙ find) h (λ m e f. absurd (none-some m e)))
           c.loop-l.invariant)
       | in-Some+in_ok-start-in-Some w ↦ subst (λ (zs : List Arrival). Adds code (IsOfLayouts code (n + 1)) xs zs)
           (sym w.arrivals-is)

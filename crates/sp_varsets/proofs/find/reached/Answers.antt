@@ -1,8 +1,8 @@
 use Rattle.std.proofs.Common.{sym, subst}
+use Rattle.sp_base.proofs.Facts.{length_of_map}
 use Rattle.sp_tree.specs.Bare.{bare, variable_of}
 use Rattle.sp_tree.specs.CheckedOf.{program_of}
 use Rattle.sp_varsets.specs.Bodies.{AreDeclared}
-use Rattle.sp_varsets.proofs.Reaching.{length_map}
 use Rattle.sp_varsets.proofs.find.reached.Goals as goal
 
 pub returns : goal.returns
@@ -13,7 +13,7 @@ returns c =
     record {
       declared = (
         c.in_ok-hidden.hidden,
-        subst (λ n. AreDeclared (bare (program_of c.args.checked.now)) c.in_ok-hidden.hidden n) (sym (length_map variable_of c.args.checked.now.variables)) c.in_ok-hidden.ensures,
+        subst (λ n. AreDeclared (bare (program_of c.args.checked.now)) c.in_ok-hidden.hidden n) (sym (length_of_map variable_of c.args.checked.now.variables)) c.in_ok-hidden.ensures,
         aims,
         sees,
       );

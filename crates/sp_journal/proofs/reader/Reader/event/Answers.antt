@@ -1,4 +1,5 @@
 use Rattle.std.proofs.Common.{◌≡◌, ◌<◌, ◌^◌, ◌∙◌, sym, ap, subst, List, ℕ, arith, Some, Option, codes, decimal}
+use Rattle.std.proofs.lemmas.Option.{none-some}
 use Rattle.sp_base.specs.Faults.{fault_name}
 use Rattle.sp_base.specs.Names.{channel_text}
 use Rattle.sp_base.specs.declared.fault.Fault.{Fault}
@@ -8,7 +9,6 @@ use Rattle.sp_journal.specs.Names.{chan_name}
 use Rattle.sp_journal.specs.Births.{Births, channel, GivesNumbers}
 use Rattle.sp_journal.specs.Splits.{first_split}
 use Rattle.sp_journal.specs.Reader.{known}
-use Rattle.sp_journal.proofs.Facts.{none_some}
 use Rattle.sp_journal.proofs.TextLaws.{parts_first, parts_second}
 use Rattle.sp_journal.proofs.BirthLaws.{Lawful}
 use Rattle.sp_journal.proofs.ReaderLaws.{Told, told, laws}
@@ -23,13 +23,13 @@ module _ (s : Births) (lawful : Lawful s) (word of : List ℕ) (o : Option Event
   where
     tells : (p : ℕ) (e : Event) → GivesNumbers s p e → Told s e (Some (word, of)) → o ≡ Some e
     tells p (event.Fork n) g h = fork n (let a = g.0 in let b = lawful.some in omega arith) (parts_first _ _ _ _ h) (parts_second _ _ _ _ h)
-    tells p event.Open g h = absurd (none_some (word, of) (sym h))
+    tells p event.Open g h = absurd (none-some (word, of) (sym h))
     tells p (event.Send c) g h = send c g (parts_first _ _ _ _ h) (parts_second _ _ _ _ h)
     tells p (event.Receive c) g h = receive c g (parts_first _ _ _ _ h) (parts_second _ _ _ _ h)
-    tells p event.End g h = absurd (none_some (word, of) (sym h))
+    tells p event.End g h = absurd (none-some (word, of) (sym h))
     tells p (event.Fault f) g h = fault f (parts_first _ _ _ _ h) (parts_second _ _ _ _ h)
-    tells p event.Laid g h = absurd (none_some (word, of) (sym h))
-    tells p event.Pause g h = absurd (none_some (word, of) (sym h))
+    tells p event.Laid g h = absurd (none-some (word, of) (sym h))
+    tells p event.Pause g h = absurd (none-some (word, of) (sym h))
 
 pub returns-in-Some : goal.returns-in-Some
 returns-in-Some c = λ p e g h.

@@ -1,7 +1,7 @@
 use Rattle.std.proofs.Common.{◌≡◌, ◌≢◌, ◌∙◌, ◌+◌, ◌≤◌, ◌<◌, ◌&&◌, ◌==◌, ⊎_elim, ℕ, Bool, true, false, cond, nat_le, nat_lt, Option, Some, unwrap_or, refl, sym, ap, arith}
-use Rattle.std.proofs.lemmas.Bool.{cases_eq}
+use Rattle.std.proofs.lemmas.Bool.{cases_eq, ne_eqb}
 use Rattle.std.proofs.lemmas.Bool.Decides.{nat_tests}
-use Rattle.sp_journal.proofs.Facts.{apart, between, here}
+use Rattle.sp_journal.proofs.Facts.{between, here}
 use Rattle.sp_report.specs.declared.condition.Condition.{Condition}
 use Rattle.sp_report.specs.declared.condition.Condition.TheVariants as condition
 use Rattle.sp_report.specs.Conditions.{Conditions}
@@ -21,7 +21,7 @@ one_runs first child q old x l e = ⊎_elim
     let a : first ≤ q = omega arith in
     let b : q < child + 1 = omega arith in
     ap (λ (t : Bool). cond t condition.Running old) (here child q f) ∙ ap (λ (t : Bool). cond t condition.Running x) (sym (between first q (child + 1) a b)))
-    (λ (n : child ≢ q). ap (λ (t : Bool). cond t condition.Running old) (apart child q n) ∙ e ∙ ap (λ (t : Bool). cond t condition.Running x) (same_test first q child n))
+    (λ (n : child ≢ q). ap (λ (t : Bool). cond t condition.Running old) (ne_eqb child q n) ∙ e ∙ ap (λ (t : Bool). cond t condition.Running x) (same_test first q child n))
     (cases_eq child q)
 
 pub loop-child-preserved : goal.loop-child-preserved

@@ -1,4 +1,5 @@
 use Rattle.std.proofs.Common.{rules, ◌≡◌, ◌+◌, [], length, map, drop, arith}
+use Rattle.std.proofs.lemmas.List.{nil_from_length}
 use Rattle.sp_tree.specs.declared.checked.ExprForm as ast_f
 use Rattle.sp_tree.specs.declared.checked.Var.{out-Var, fold_out-Var}
 use Rattle.sp_tree.specs.PlainChecked.{Binary, Apply, Standard, Entire}
@@ -6,7 +7,7 @@ use Rattle.sp_tree.specs.Bare.{bare_expression, bare_selectors, bare_actuals}
 use Rattle.sp_tree.specs.CheckedOf.{expression_of, expression_form_of, variable_of, selector_of, selectors, actual_of, actuals, expressions}
 use Rattle.sp_tree.specs.Plain.{Actuals}
 use Rattle.sp_tree.specs.Uses.{Target, Seen, CallOf, In_expr, In_selectors, In_actuals}
-use Rattle.sp_varsets.proofs.Adding.{adds_nothing, ok_then, selectors_on, selectors_end, actuals_on, actuals_end, select_adds, pass_adds, none_in}
+use Rattle.sp_varsets.proofs.Adding.{adds_nothing, ok_then, selectors_on, selectors_end, actuals_on, actuals_end, select_adds, pass_adds}
 use Rattle.sp_varsets.proofs.uses.Uses.+uses.Goals as goal
 
 pub form-returns-in_ok-expression-in-Binary : goal.form-returns-in_ok-expression-in-Binary
@@ -28,7 +29,7 @@ pub form-returns-in-None : goal.form-returns-in-None
 form-returns-in-None t c =
     let i : expression_form_of c.args.form.now ≡ Standard c.in-Standard._f (expressions (map expression_of c.in-Standard.args)) = search (rules, ast_f.the_lemmas) in
     let l : length c.in-Standard.args ≡ 0 = first_of (search rules, grind (arith, rules)) in
-    let xs : c.in-Standard.args ≡ [] = none_in c.in-Standard.args l in
+    let xs : c.in-Standard.args ≡ [] = nil_from_length c.in-Standard.args l in
     rw (i, xs) c.see.ensures
 
 pub read-returns : goal.read-returns

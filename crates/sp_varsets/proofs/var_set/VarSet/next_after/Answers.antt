@@ -1,12 +1,13 @@
 use Rattle.std.proofs.Common.{◌≡◌, false, true, ℕ, ◌+◌, ◌*◌, ◌/◌, ◌<◌, ◌≤◌, length, get_or, arith, rules, ap, subst, ◌^◌, w64}
 use Rattle.std.specs.Int.{trailing_zeros}
+use Rattle.std.proofs.lemmas.Bool.{false_from_ne_true}
 use Rattle.sp_varsets.specs.Members.{in_words}
-use Rattle.sp_varsets.proofs.Words.{next_later, not_true, below_words, in_word_zero}
+use Rattle.sp_varsets.proofs.Words.{next_later, below_words, in_word_zero}
 use Rattle.sp_varsets.proofs.var_set.VarSet.next_after.Goals as goal
 
 pub returns-then-k-ge67108864 : goal.returns-then-k-ge67108864
 returns-then-k-ge67108864 c x low high =
-    not_true _ (λ m.
+    false_from_ne_true _ (λ m.
     let large = c.if-k-ge67108864.true in
     let z = subst (λ ws. get_or ws (x / 64) 0 ≡ 0) c.items-words.ensures (c.words.invariant (x / 64) (omega arith) (omega arith)) in
     in_word_zero c.args.self.now.words x z m)
@@ -19,7 +20,7 @@ returns-then-words-k-ne0 c =
 
 pub returns : goal.returns
 returns c x low high =
-    not_true _ (λ m.
+    false_from_ne_true _ (λ m.
     let b = below_words c.args.self.now.words x m in
     let e : length c.items-words.result.now ≡ length c.args.self.now.words = ap length c.items-words.ensures in
     let z = subst (λ ws. get_or ws (x / 64) 0 ≡ 0) c.items-words.ensures (c.words.invariant (x / 64) (omega arith) (omega arith)) in
