@@ -33,7 +33,9 @@ use Rattle.sp_machine.specs.declared.state.State.{State}
 use Rattle.sp_machine.specs.declared.state.Stop.{Stop}
 use Rattle.sp_machine.specs.declared.state.Stop.TheVariants as stop
 use Rattle.sp_code.specs.Formals.{HasRoom}
-use Rattle.sp_machine.specs.Procs.{Came, Stays, memory_of, setting_of}
+use Rattle.sp_machine.specs.declared.state.Interrupt.{Interrupt}
+use Rattle.sp_machine.specs.declared.state.Interrupt.TheVariants as interrupt
+use Rattle.sp_machine.specs.Procs.{Came, CameBy, stop_by, Stays, memory_of, setting_of}
 
 -- ---- arguments one after another
 
@@ -328,11 +330,11 @@ module _ (p s q : State) (code : Parts) (lim : Limits) (l : Layout) (up : ℕ) (
       ∙ ap (λ (os : List Operand). m.entered (memory plain (setting_of s code lim)) code l (s.pc + 1) (entries_of os) new) (sym stack)
       ∙ ap (λ (n : Memory Plain). m.entered (memory plain (setting_of s code lim)) code l (s.pc + 1) (entries_of s.stack) n) (sym opens)
 
-  pub call_came : (r : Result (Option Stop) Refused) → IfOk r (λ x. Came (m.entered (memory plain (setting_of s code lim)) code l (s.pc + 1) (entries_of s.stack) (memory_of s)) s q x)
-      → IfOk r (λ x. Came (call (setting_of p code lim) code l up (p.pc + 1) p.stack (memory_of p)) p q x)
-  call_came (Ok x) w = subst (λ (o : m.One (Memory Plain)). Came o p q x) (sym (call_done (setting_of p code lim) code l up (p.pc + 1) p.stack (memory_of p) safe ticks depth cells ∙ alike))
-      (came_any _ p s q x (entered_never (setting_of s code lim) code l (s.pc + 1) (entries_of s.stack) (memory_of s)) w)
+  pub call_came : (r : Result (Option Interrupt) Refused) → IfOk r (λ x. CameBy (m.entered (memory plain (setting_of s code lim)) code l (s.pc + 1) (entries_of s.stack) (memory_of s)) s q x)
+      → IfOk r (λ x. CameBy (call (setting_of p code lim) code l up (p.pc + 1) p.stack (memory_of p)) p q x)
+  call_came (Ok x) w = subst (λ (o : m.One (Memory Plain)). CameBy o p q x) (sym (call_done (setting_of p code lim) code l up (p.pc + 1) p.stack (memory_of p) safe ticks depth cells ∙ alike))
+      (came_any _ p s q (stop_by q x) (entered_never (setting_of s code lim) code l (s.pc + 1) (entries_of s.stack) (memory_of s)) w)
   call_came (Err e) w = tt
 
-pub faulted : (o : m.One (Memory Plain)) (f : Fault) (p : State) → o ≡ m.Fails f → Came o p p (Some (stop.Fault f))
-faulted o f p e = subst (λ (x : m.One (Memory Plain)). Came x p p (Some (stop.Fault f))) (sym e) (refl, refl)
+pub faulted : (o : m.One (Memory Plain)) (f : Fault) (p : State) → o ≡ m.Fails f → CameBy o p p (Some (interrupt.Fault f))
+faulted o f p e = subst (λ (x : m.One (Memory Plain)). CameBy x p p (Some (interrupt.Fault f))) (sym e) (refl, refl)

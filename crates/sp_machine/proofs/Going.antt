@@ -97,3 +97,15 @@ module _ (x : State) (code : Parts) (lim : Limits) (p : State) (input : p.input 
 
     pub ends_it : (s : Stop) → Came (next_of p code lim) p q (Some s) → IsTurnOf x code lim q s
     ends_it s c = stopped (setting_of x code lim) (config_of x) p q n b h x code lim refl refl s (next_of p code lim) (sym same_next) (safe_next n safe b h) c
+
+-- what a turn did, whatever the state keeps of why it stopped
+pub turned_with : (x : State) (code : Parts) (lim : Limits) (q : State) (t s : Stop) → IsTurnOf x code lim q s
+    → IsTurnOf x code lim (record q { stopped = t }) s
+turned_with x code lim q t (stop.Fork table v k) h = h
+turned_with x code lim q t stop.Open h = h
+turned_with x code lim q t (stop.Send ch k cs) h = h
+turned_with x code lim q t (stop.Receive ch k) h = h
+turned_with x code lim q t stop.End h = h
+turned_with x code lim q t stop.Pause h = h
+turned_with x code lim q t (stop.Fault z) h = h
+turned_with x code lim q t stop.Memory h = h

@@ -1,11 +1,11 @@
 -- The entries of a stack: those of functions that are being called, and those of a call.
 use Rattle.std.proofs.Common.{◌≡◌, ◌≢◌, ℕ, zero, suc, ◌+◌, ◌-◌, ◌≤◌, ◌<◌, List, [], ◌∷◌, ◌++◌, length, take, drop, true, false, refl, sym, ap, ◌∙◌, subst, arith}
-use Rattle.std.specs.Prelude.{reverse, MatchOption}
+use Rattle.std.specs.Prelude.{reverse}
 use Rattle.std.proofs.lemmas.List.{length-reverse, length-drop, reverse-append, reverse-reverse, take-append-drop, take-append-le, take_all}
-use Rattle.sp_code.specs.Machine.{outside, on_number, on_channel, on_address}
+use Rattle.sp_code.specs.Machine.{outside}
 use Rattle.sp_machine.specs.declared.stack.Operand.{Operand}
 use Rattle.sp_machine.specs.declared.stack.Operand.TheVariants as operand
-use Rattle.sp_machine.specs.Entries.{entries_of, counted, replies, number_in, channel_in, pointer_in, HasNoNumber, HasNoChannel, HasNoPointer}
+use Rattle.sp_machine.specs.Entries.{entries_of, counted, replies}
 
 counted_few : (o : Operand) → counted o ≤ 1
 counted_few (operand.Number n) = omega arith
@@ -66,37 +66,3 @@ drop_more (x ∷ xs) ys (suc i) o e = let one : suc i + 1 ≡ suc (i + 1) = omeg
 
 pub some_left : (xs : List Operand) (i : ℕ) → i < length xs → drop i xs ≢ []
 some_left xs i h e = let size : length (drop i xs) ≡ length xs - i = length-drop i xs in let none : length (drop i xs) ≡ 0 = ap length e in absurd (omega (arith, h, size, none))
-
--- what is on top
-pub number_top : (o : Operand) (os ps : List Operand) → ps ≡ o ∷ os → MatchOption (number_in o) (HasNoNumber ps) (λ n. ps ≡ operand.Number n ∷ os)
-number_top (operand.Number n) os ps e = e
-number_top (operand.Channel c) os ps e = λ go. ap (λ (xs : List Operand). on_number (entries_of xs) go) e
-number_top (operand.Pointer a) os ps e = λ go. ap (λ (xs : List Operand). on_number (entries_of xs) go) e
-number_top (operand.Cells cs) os ps e = λ go. ap (λ (xs : List Operand). on_number (entries_of xs) go) e
-number_top (operand.Link r) os ps e = λ go. ap (λ (xs : List Operand). on_number (entries_of xs) go) e
-number_top (operand.Reply r) os ps e = λ go. ap (λ (xs : List Operand). on_number (entries_of xs) go) e
-
-pub number_none : (ps : List Operand) → ps ≡ [] → HasNoNumber ps
-number_none ps e = λ go. ap (λ (xs : List Operand). on_number (entries_of xs) go) e
-
-pub channel_top : (o : Operand) (os ps : List Operand) → ps ≡ o ∷ os → MatchOption (channel_in o) (HasNoChannel ps) (λ c. ps ≡ operand.Channel c ∷ os)
-channel_top (operand.Number n) os ps e = λ go. ap (λ (xs : List Operand). on_channel (entries_of xs) go) e
-channel_top (operand.Channel c) os ps e = e
-channel_top (operand.Pointer a) os ps e = λ go. ap (λ (xs : List Operand). on_channel (entries_of xs) go) e
-channel_top (operand.Cells cs) os ps e = λ go. ap (λ (xs : List Operand). on_channel (entries_of xs) go) e
-channel_top (operand.Link r) os ps e = λ go. ap (λ (xs : List Operand). on_channel (entries_of xs) go) e
-channel_top (operand.Reply r) os ps e = λ go. ap (λ (xs : List Operand). on_channel (entries_of xs) go) e
-
-pub channel_none : (ps : List Operand) → ps ≡ [] → HasNoChannel ps
-channel_none ps e = λ go. ap (λ (xs : List Operand). on_channel (entries_of xs) go) e
-
-pub pointer_top : (o : Operand) (os ps : List Operand) → ps ≡ o ∷ os → MatchOption (pointer_in o) (HasNoPointer ps) (λ a. ps ≡ operand.Pointer a ∷ os)
-pointer_top (operand.Number n) os ps e = λ go. ap (λ (xs : List Operand). on_address (entries_of xs) go) e
-pointer_top (operand.Channel c) os ps e = λ go. ap (λ (xs : List Operand). on_address (entries_of xs) go) e
-pointer_top (operand.Pointer a) os ps e = e
-pointer_top (operand.Cells cs) os ps e = λ go. ap (λ (xs : List Operand). on_address (entries_of xs) go) e
-pointer_top (operand.Link r) os ps e = λ go. ap (λ (xs : List Operand). on_address (entries_of xs) go) e
-pointer_top (operand.Reply r) os ps e = λ go. ap (λ (xs : List Operand). on_address (entries_of xs) go) e
-
-pub pointer_none : (ps : List Operand) → ps ≡ [] → HasNoPointer ps
-pointer_none ps e = λ go. ap (λ (xs : List Operand). on_address (entries_of xs) go) e

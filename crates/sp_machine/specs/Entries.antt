@@ -36,23 +36,7 @@ abbrev pub replies : List Operand → ℕ
 replies [] = 0
 replies (o ∷ os) = counted o + replies os
 
--- the number, the channel and the address that an entry is, if it is one
-abbrev pub number_in : Operand → Option ℤ
-number_in (operand.Number n) = Some n
-number_in (operand.Channel c) = None
-number_in (operand.Pointer a) = None
-number_in (operand.Cells cs) = None
-number_in (operand.Link r) = None
-number_in (operand.Reply r) = None
-
-abbrev pub channel_in : Operand → Option ℕ
-channel_in (operand.Number n) = None
-channel_in (operand.Channel c) = Some c
-channel_in (operand.Pointer a) = None
-channel_in (operand.Cells cs) = None
-channel_in (operand.Link r) = None
-channel_in (operand.Reply r) = None
-
+-- the address that an entry is, if it is one
 abbrev pub pointer_in : Operand → Option Address
 pointer_in (operand.Number n) = None
 pointer_in (operand.Channel c) = None

@@ -17,6 +17,8 @@ use Rattle.sp_code.specs.Sound.{run_of}
 use Rattle.sp_machine.specs.declared.state.State.{State}
 use Rattle.sp_machine.specs.declared.state.Stop.{Stop}
 use Rattle.sp_machine.specs.declared.state.Stop.TheVariants as stop
+use Rattle.sp_machine.specs.declared.state.Interrupt.{Interrupt}
+use Rattle.sp_machine.specs.declared.state.Interrupt.TheVariants as interrupt
 use Rattle.sp_machine.specs.Entries.{entries_of}
 
 -- the memory of the machine's definition
@@ -94,6 +96,17 @@ Came (m.Stops t d) p q (Some s) = StopIs s q t × (config_of q ≡ d)
 Came (m.Fails f) p q None = ⊥
 Came (m.Fails f) p q (Some s) = FaultIs s f × (config_of q ≡ config_of p)
 Came m.Stuck p q s = Unit {0}
+
+-- why a process stopped that an instruction interrupted: what a stop holds besides is in its state
+abbrev pub stop_by : State → Option Interrupt → Option Stop
+stop_by q None = None
+stop_by q (Some interrupt.Pause) = Some stop.Pause
+stop_by q (Some (interrupt.Fault f)) = Some (stop.Fault f)
+stop_by q (Some interrupt.Stop) = Some q.stopped
+
+-- so told by an interrupt
+abbrev pub CameBy : m.One (Memory Plain) → State → State → Option Interrupt → Type 0
+CameBy o p q r = Came o p q (stop_by q r)
 
 -- ---- a turn
 

@@ -7,11 +7,11 @@ ghost use Rattle.sp_code.specs.PlainStore.{plain};
 ghost use Rattle.sp_code.specs.declared.instr.Instr.TheVariants as instr;
 ghost use Rattle.sp_arithmetic.specs.Worked.{worked};
 ghost use Rattle.sp_machine.specs.Entries.{entries_of};
-ghost use Rattle.sp_machine.specs.Procs.{compared, does, Came, Stays, setting_of, memory_of};
+ghost use Rattle.sp_machine.specs.Procs.{compared, does, CameBy, Stays, setting_of, memory_of};
 ghost use Rattle.sp_machine.specs.Conversions.{converted};
 
 use crate::stack::Operand;
-use crate::state::{State, Stop};
+use crate::state::{Interrupt, State};
 use sp_arithmetic::{
     absolute_of, binary, next_of, odd, previous_of, square_of, truth_of, unary, within,
 };
@@ -49,9 +49,9 @@ impl State {
         value: i64,
         code: &Code,
         limits: &Limits,
-    ) -> Result<Option<Stop>, Memory>
+    ) -> Result<Option<Interrupt>, Memory>
         requires { self.old.pc + 1 < 4294967296 }
-        ensures came { IfOk result (λ s. Came (does (Some (instr.Const value)) self.old code.now limits.now) self.old self.new s) }
+        ensures came { IfOk result (λ s. CameBy (does (Some (instr.Const value)) self.old code.now limits.now) self.old self.new s) }
         ensures same { Stays self.old self.new }
     {
         self.stack.push(Operand::Number(value))?;
@@ -65,11 +65,11 @@ impl State {
         conversion: Conversion,
         code: &Code,
         limits: &Limits,
-    ) -> Result<Option<Stop>, Memory>
+    ) -> Result<Option<Interrupt>, Memory>
         requires next { self.old.pc + 1 < 4294967296 }
         requires safe { on_one (memory plain (setting_of self.old code.now limits.now)) code.now (converted conversion) self.old.pc
             (entries_of self.old.stack) (memory_of self.old) ≢ Stuck }
-        ensures came { IfOk result (λ s. Came
+        ensures came { IfOk result (λ s. CameBy
             (on_one (memory plain (setting_of self.old code.now limits.now)) code.now (converted conversion) self.old.pc
             (entries_of self.old.stack) (memory_of self.old)) self.old self.new s) }
         ensures same { Stays self.old self.new }
@@ -93,10 +93,10 @@ impl State {
         this: Instr,
         code: &Code,
         limits: &Limits,
-    ) -> Result<Option<Stop>, Memory>
+    ) -> Result<Option<Interrupt>, Memory>
         requires next { self.old.pc + 1 < 4294967296 }
         requires safe { does (Some this) self.old code.now limits.now ≢ Stuck }
-        ensures came { IfOk result (λ s. Came (does (Some this) self.old code.now limits.now) self.old self.new s) }
+        ensures came { IfOk result (λ s. CameBy (does (Some this) self.old code.now limits.now) self.old self.new s) }
         ensures same { Stays self.old self.new }
     {
         match this {
@@ -118,10 +118,10 @@ impl State {
         this: Instr,
         code: &Code,
         limits: &Limits,
-    ) -> Result<Option<Stop>, Memory>
+    ) -> Result<Option<Interrupt>, Memory>
         requires next { self.old.pc + 1 < 4294967296 }
         requires safe { does (Some this) self.old code.now limits.now ≢ Stuck }
-        ensures came { IfOk result (λ s. Came (does (Some this) self.old code.now limits.now) self.old self.new s) }
+        ensures came { IfOk result (λ s. CameBy (does (Some this) self.old code.now limits.now) self.old self.new s) }
         ensures same { Stays self.old self.new }
     {
         match this {
@@ -147,10 +147,10 @@ impl State {
         this: Instr,
         code: &Code,
         limits: &Limits,
-    ) -> Result<Option<Stop>, Memory>
+    ) -> Result<Option<Interrupt>, Memory>
         requires next { self.old.pc + 1 < 4294967296 }
         requires safe { does (Some this) self.old code.now limits.now ≢ Stuck }
-        ensures came { IfOk result (λ s. Came (does (Some this) self.old code.now limits.now) self.old self.new s) }
+        ensures came { IfOk result (λ s. CameBy (does (Some this) self.old code.now limits.now) self.old self.new s) }
         ensures same { Stays self.old self.new }
     {
         match this {
@@ -176,11 +176,11 @@ impl State {
         op: BinaryOp,
         code: &Code,
         limits: &Limits,
-    ) -> Result<Option<Stop>, Memory>
+    ) -> Result<Option<Interrupt>, Memory>
         requires next { self.old.pc + 1 < 4294967296 }
         requires safe { on_two (memory plain (setting_of self.old code.now limits.now)) code.now op self.old.pc
             (entries_of self.old.stack) (memory_of self.old) ≢ Stuck }
-        ensures came { IfOk result (λ s. Came
+        ensures came { IfOk result (λ s. CameBy
             (on_two (memory plain (setting_of self.old code.now limits.now)) code.now op self.old.pc (entries_of self.old.stack)
             (memory_of self.old)) self.old self.new s) }
         ensures same { Stays self.old self.new }
@@ -207,10 +207,10 @@ impl State {
         different: bool,
         code: &Code,
         limits: &Limits,
-    ) -> Result<Option<Stop>, Memory>
+    ) -> Result<Option<Interrupt>, Memory>
         requires next { self.old.pc + 1 < 4294967296 }
         requires safe { compared different self.old code.now limits.now ≢ Stuck }
-        ensures came { IfOk result (λ s. Came (compared different self.old code.now limits.now) self.old self.new s) }
+        ensures came { IfOk result (λ s. CameBy (compared different self.old code.now limits.now) self.old self.new s) }
         ensures same { Stays self.old self.new }
     {
         let equal = match self.stack.pop() {

@@ -10,12 +10,12 @@ ghost use Rattle.sp_code.specs.Sound.{HasDistinctBlocks};
 ghost use Rattle.sp_code.specs.declared.instr.Instr.TheVariants as instr;
 ghost use Rattle.sp_machine.specs.Arguments.{TakeAll};
 ghost use Rattle.sp_machine.specs.Entries.{entries_of};
-ghost use Rattle.sp_machine.specs.Procs.{does, Came, Stays, setting_of, memory_of};
+ghost use Rattle.sp_machine.specs.Procs.{does, CameBy, Stays, setting_of, memory_of};
 
 use crate::frames::{Frame, Home};
 use crate::layouts::{answer_of, cells_of, cells_of_home, layout_of};
 use crate::stack::{Operand, pointer_in};
-use crate::state::{State, Stop};
+use crate::state::{Interrupt, State};
 use sp_base::{Fault, Limits, List, Memory};
 use sp_cell::{Address, Cell, Spot};
 use sp_code::{Code, Layout};
@@ -130,8 +130,8 @@ impl State {
         to: u32,
         code: &Code,
         limits: &Limits,
-    ) -> Result<Option<Stop>, Memory>
-        ensures came { IfOk result (λ s. Came
+    ) -> Result<Option<Interrupt>, Memory>
+        ensures came { IfOk result (λ s. CameBy
             (entered (memory plain (setting_of self.old code.now limits.now)) code.now layout.now to (entries_of self.old.stack)
             (memory_of self.old)) self.old self.new s) }
         ensures same { Stays self.old self.new }
@@ -143,7 +143,7 @@ impl State {
         }
         self.stack.push(Operand::Link(to))?;
         if self.stack.is_outside() && self.is_due() {
-            return Ok(Some(Stop::Pause));
+            return Ok(Some(Interrupt::Pause));
         }
         Ok(None)
     }
@@ -155,27 +155,27 @@ impl State {
         up: u32,
         code: &Code,
         limits: &Limits,
-    ) -> Result<Option<Stop>, Memory>
+    ) -> Result<Option<Interrupt>, Memory>
         requires next { self.old.pc + 1 < 4294967296 }
         requires sizes { length layout.now.sizes ≤ 4294967294 }
         requires formals { BeginsWithFormals layout.now }
         requires few { length layout.now.formals ≤ length layout.now.sizes }
         requires safe { called (memory plain (setting_of self.old code.now limits.now)) code.now layout.now up (self.old.pc + 1)
             (entries_of self.old.stack) (memory_of self.old) ≢ Stuck }
-        ensures came { IfOk result (λ s. Came
+        ensures came { IfOk result (λ s. CameBy
             (called (memory plain (setting_of self.old code.now limits.now)) code.now layout.now up (self.old.pc + 1)
             (entries_of self.old.stack) (memory_of self.old)) self.old self.new s) }
         ensures same { Stays self.old self.new }
     {
         if self.ticks >= limits.ticks {
-            return Ok(Some(Stop::Fault(Fault::F10)));
+            return Ok(Some(Interrupt::Fault(Fault::F10)));
         }
         if self.depth >= limits.depth {
-            return Ok(Some(Stop::Fault(Fault::F11)));
+            return Ok(Some(Interrupt::Fault(Fault::F11)));
         }
         let cells = cells_of(layout.sizes.items());
         if self.cells as u128 + cells as u128 > limits.cells as u128 {
-            return Ok(Some(Stop::Fault(Fault::F12)));
+            return Ok(Some(Interrupt::Fault(Fault::F12)));
         }
         self.open_frame(layout, up, cells, code, limits)?;
         let to = self.pc + 1;
@@ -190,12 +190,12 @@ impl State {
         up: u32,
         code: &Code,
         limits: &Limits,
-    ) -> Result<Option<Stop>, Memory>
+    ) -> Result<Option<Interrupt>, Memory>
         requires next { self.old.pc + 1 < 4294967296 }
         requires blocks { HasDistinctBlocks code.now.layouts }
         requires formals { HaveFormals code.now.layouts }
         requires safe { does (Some (instr.Call block up)) self.old code.now limits.now ≢ Stuck }
-        ensures came { IfOk result (λ s. Came (does (Some (instr.Call block up)) self.old code.now limits.now) self.old self.new s) }
+        ensures came { IfOk result (λ s. CameBy (does (Some (instr.Call block up)) self.old code.now limits.now) self.old self.new s) }
         ensures same { Stays self.old self.new }
     {
         let _parts = code.parts();
@@ -224,11 +224,11 @@ impl State {
 
     // Returns from a block.
     #[tactic(auto, using(sp_code::proofs::StoreLaws::has_held))]
-    pub(crate) fn give_back(&mut self, code: &Code, limits: &Limits) -> Result<Option<Stop>, Memory>
+    pub(crate) fn give_back(&mut self, code: &Code, limits: &Limits) -> Result<Option<Interrupt>, Memory>
         requires blocks { HasDistinctBlocks code.now.layouts }
         requires formals { HaveFormals code.now.layouts }
         requires safe { does (Some instr.Return) self.old code.now limits.now ≢ Stuck }
-        ensures came { IfOk result (λ s. Came (does (Some instr.Return) self.old code.now limits.now) self.old self.new s) }
+        ensures came { IfOk result (λ s. CameBy (does (Some instr.Return) self.old code.now limits.now) self.old self.new s) }
         ensures same { Stays self.old self.new }
     {
         match self.stack.pop() {

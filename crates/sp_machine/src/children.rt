@@ -19,7 +19,7 @@ use crate::frames::{Frame, Frames, Home, lesser, referred};
 use crate::layouts::layout_of;
 use crate::proc::Proc;
 use crate::stack::Stack;
-use crate::state::State;
+use crate::state::{State, Stop};
 use sp_base::{List, Memory};
 use sp_cell::{Handing, Spot};
 use sp_code::{ChildTable, Code, ForkTable, Formal, Layout};
@@ -290,6 +290,7 @@ impl State {
             table: 0,
             first: 0,
             text: Vec::new(alloc),
+            stopped: Stop::End,
         };
         Proc::boxed(alloc, child)
     }

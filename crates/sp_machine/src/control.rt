@@ -8,10 +8,10 @@ ghost use Rattle.sp_code.specs.Memory.{memory};
 ghost use Rattle.sp_code.specs.PlainStore.{plain};
 ghost use Rattle.sp_code.specs.declared.instr.Instr.TheVariants as instr;
 ghost use Rattle.sp_machine.specs.Entries.{entries_of};
-ghost use Rattle.sp_machine.specs.Procs.{does, Came, Stays, setting_of, memory_of};
+ghost use Rattle.sp_machine.specs.Procs.{does, CameBy, Stays, setting_of, memory_of};
 
 use crate::stack::Operand;
-use crate::state::{State, Stop};
+use crate::state::{Interrupt, State};
 use sp_base::{Fault, Limits, Memory, TURN_TICKS};
 use sp_cell::Cell;
 use sp_code::Code;
@@ -52,10 +52,10 @@ impl State {
         to: u32,
         code: &Code,
         limits: &Limits,
-    ) -> Result<Option<Stop>, Memory>
+    ) -> Result<Option<Interrupt>, Memory>
         requires next { self.old.pc + 1 < 4294967296 }
         requires safe { does (Some (instr.Jump to)) self.old code.now limits.now ≢ Stuck }
-        ensures came { IfOk result (λ s. Came (does (Some (instr.Jump to)) self.old code.now limits.now) self.old self.new s) }
+        ensures came { IfOk result (λ s. CameBy (does (Some (instr.Jump to)) self.old code.now limits.now) self.old self.new s) }
         ensures same { Stays self.old self.new }
     {
         self.pc = to;
@@ -68,10 +68,10 @@ impl State {
         to: u32,
         code: &Code,
         limits: &Limits,
-    ) -> Result<Option<Stop>, Memory>
+    ) -> Result<Option<Interrupt>, Memory>
         requires next { self.old.pc + 1 < 4294967296 }
         requires safe { does (Some (instr.Jumpf to)) self.old code.now limits.now ≢ Stuck }
-        ensures came { IfOk result (λ s. Came (does (Some (instr.Jumpf to)) self.old code.now limits.now) self.old self.new s) }
+        ensures came { IfOk result (λ s. CameBy (does (Some (instr.Jumpf to)) self.old code.now limits.now) self.old self.new s) }
         ensures same { Stays self.old self.new }
     {
         match self.stack.pop_number() {
@@ -94,10 +94,10 @@ impl State {
         to: u32,
         code: &Code,
         limits: &Limits,
-    ) -> Result<Option<Stop>, Memory>
+    ) -> Result<Option<Interrupt>, Memory>
         requires next { self.old.pc + 1 < 4294967296 }
         requires safe { does (Some (instr.Casej value to)) self.old code.now limits.now ≢ Stuck }
-        ensures came { IfOk result (λ s. Came (does (Some (instr.Casej value to)) self.old code.now limits.now) self.old self.new s) }
+        ensures came { IfOk result (λ s. CameBy (does (Some (instr.Casej value to)) self.old code.now limits.now) self.old self.new s) }
         ensures same { Stays self.old self.new }
     {
         match self.stack.pop_number() {
@@ -115,10 +115,10 @@ impl State {
     }
 
     // Goes on where the operand is true.
-    pub(crate) fn assume(&mut self, code: &Code, limits: &Limits) -> Result<Option<Stop>, Memory>
+    pub(crate) fn assume(&mut self, code: &Code, limits: &Limits) -> Result<Option<Interrupt>, Memory>
         requires next { self.old.pc + 1 < 4294967296 }
         requires safe { does (Some instr.Assume) self.old code.now limits.now ≢ Stuck }
-        ensures came { IfOk result (λ s. Came (does (Some instr.Assume) self.old code.now limits.now) self.old self.new s) }
+        ensures came { IfOk result (λ s. CameBy (does (Some instr.Assume) self.old code.now limits.now) self.old self.new s) }
         ensures same { Stays self.old self.new }
     {
         match self.stack.pop_number() {
@@ -134,19 +134,19 @@ impl State {
     }
 
     // Counts a tick. The process may pause.
-    pub(crate) fn tick(&mut self, code: &Code, limits: &Limits) -> Result<Option<Stop>, Memory>
+    pub(crate) fn tick(&mut self, code: &Code, limits: &Limits) -> Result<Option<Interrupt>, Memory>
         requires next { self.old.pc + 1 < 4294967296 }
         requires safe { does (Some instr.Tick) self.old code.now limits.now ≢ Stuck }
-        ensures came { IfOk result (λ s. Came (does (Some instr.Tick) self.old code.now limits.now) self.old self.new s) }
+        ensures came { IfOk result (λ s. CameBy (does (Some instr.Tick) self.old code.now limits.now) self.old self.new s) }
         ensures same { Stays self.old self.new }
     {
         if self.ticks >= limits.ticks {
-            return Ok(Some(Stop::Fault(Fault::F10)));
+            return Ok(Some(Interrupt::Fault(Fault::F10)));
         }
         self.ticks += 1;
         self.pc += 1;
         if self.stack.is_outside() && self.is_due() {
-            return Ok(Some(Stop::Pause));
+            return Ok(Some(Interrupt::Pause));
         }
         Ok(None)
     }
@@ -159,11 +159,11 @@ impl State {
         to: u32,
         code: &Code,
         limits: &Limits,
-    ) -> Result<Option<Stop>, Memory>
+    ) -> Result<Option<Interrupt>, Memory>
         requires next { self.old.pc + 1 < 4294967296 }
         requires safe { begins_loop (memory plain (setting_of self.old code.now limits.now)) code.now down var to self.old.pc
             (entries_of self.old.stack) (memory_of self.old) ≢ Stuck }
-        ensures came { IfOk result (λ s. Came
+        ensures came { IfOk result (λ s. CameBy
             (begins_loop (memory plain (setting_of self.old code.now limits.now)) code.now down var to self.old.pc
             (entries_of self.old.stack) (memory_of self.old)) self.old self.new s) }
         ensures same { Stays self.old self.new }
@@ -195,11 +195,11 @@ impl State {
         to: u32,
         code: &Code,
         limits: &Limits,
-    ) -> Result<Option<Stop>, Memory>
+    ) -> Result<Option<Interrupt>, Memory>
         requires next { self.old.pc + 1 < 4294967296 }
         requires safe { ends_loop (memory plain (setting_of self.old code.now limits.now)) code.now down var to self.old.pc
             (entries_of self.old.stack) (memory_of self.old) ≢ Stuck }
-        ensures came { IfOk result (λ s. Came
+        ensures came { IfOk result (λ s. CameBy
             (ends_loop (memory plain (setting_of self.old code.now limits.now)) code.now down var to self.old.pc
             (entries_of self.old.stack) (memory_of self.old)) self.old self.new s) }
         ensures same { Stays self.old self.new }

@@ -10,11 +10,11 @@ ghost use Rattle.sp_code.specs.PlainStore.{plain};
 ghost use Rattle.sp_code.specs.declared.instr.Instr.TheVariants as instr;
 ghost use Rattle.sp_items.specs.Taking.{taken_of};
 ghost use Rattle.sp_machine.specs.Entries.{entries_of};
-ghost use Rattle.sp_machine.specs.Procs.{does, Came, Stays, setting_of, memory_of};
+ghost use Rattle.sp_machine.specs.Procs.{does, CameBy, Stays, setting_of, memory_of};
 ghost use Rattle.sp_machine.specs.Texts.{item_in, text_of, is_cut, Emits};
 
 use crate::stack::Operand;
-use crate::state::{State, Stop};
+use crate::state::{Interrupt, State};
 use sp_arithmetic::truth_of;
 use sp_base::{Fault, Limits, Memory, put_signed};
 use sp_cell::{Address, Cell, Spot};
@@ -217,11 +217,11 @@ impl State {
         item: Item,
         code: &Code,
         limits: &Limits,
-    ) -> Result<Option<Stop>, Memory>
+    ) -> Result<Option<Interrupt>, Memory>
         requires next { self.old.pc + 1 < 4294967296 }
         requires safe { reads (memory plain (setting_of self.old code.now limits.now)) code.now (item_in item) (self.old.pc + 1)
             (entries_of self.old.stack) (memory_of self.old) ≢ Stuck }
-        ensures came { IfOk result (λ s. Came
+        ensures came { IfOk result (λ s. CameBy
             (reads (memory plain (setting_of self.old code.now limits.now)) code.now (item_in item) (self.old.pc + 1)
             (entries_of self.old.stack) (memory_of self.old)) self.old self.new s) }
         ensures same { Stays self.old self.new }
@@ -240,10 +240,10 @@ impl State {
     }
 
     // Drops the rest of the line.
-    pub(crate) fn read_line(&mut self, code: &Code, limits: &Limits) -> Result<Option<Stop>, Memory>
+    pub(crate) fn read_line(&mut self, code: &Code, limits: &Limits) -> Result<Option<Interrupt>, Memory>
         requires next { self.old.pc + 1 < 4294967296 }
         requires safe { does (Some instr.Readln) self.old code.now limits.now ≢ Stuck }
-        ensures came { IfOk result (λ s. Came (does (Some instr.Readln) self.old code.now limits.now) self.old self.new s) }
+        ensures came { IfOk result (λ s. CameBy (does (Some instr.Readln) self.old code.now limits.now) self.old self.new s) }
         ensures same { Stays self.old self.new }
     {
         let bytes = line_length(self.left());
@@ -257,10 +257,10 @@ impl State {
         &mut self,
         code: &Code,
         limits: &Limits,
-    ) -> Result<Option<Stop>, Memory>
+    ) -> Result<Option<Interrupt>, Memory>
         requires next { self.old.pc + 1 < 4294967296 }
         requires safe { does (Some instr.Eof) self.old code.now limits.now ≢ Stuck }
-        ensures came { IfOk result (λ s. Came (does (Some instr.Eof) self.old code.now limits.now) self.old self.new s) }
+        ensures came { IfOk result (λ s. CameBy (does (Some instr.Eof) self.old code.now limits.now) self.old self.new s) }
         ensures same { Stays self.old self.new }
     {
         let over = self.left().len() == 0;
@@ -274,10 +274,10 @@ impl State {
         &mut self,
         code: &Code,
         limits: &Limits,
-    ) -> Result<Option<Stop>, Memory>
+    ) -> Result<Option<Interrupt>, Memory>
         requires next { self.old.pc + 1 < 4294967296 }
         requires safe { does (Some instr.Eoln) self.old code.now limits.now ≢ Stuck }
-        ensures came { IfOk result (λ s. Came (does (Some instr.Eoln) self.old code.now limits.now) self.old self.new s) }
+        ensures came { IfOk result (λ s. CameBy (does (Some instr.Eoln) self.old code.now limits.now) self.old self.new s) }
         ensures same { Stays self.old self.new }
     {
         let over = is_at_line_end(self.left());
@@ -292,11 +292,11 @@ impl State {
         shown: Shown,
         code: &Code,
         limits: &Limits,
-    ) -> Result<Option<Stop>, Memory>
+    ) -> Result<Option<Interrupt>, Memory>
         requires next { self.old.pc + 1 < 4294967296 }
         requires safe { writes (memory plain (setting_of self.old code.now limits.now)) code.now (text_of shown) (self.old.pc + 1)
             (entries_of self.old.stack) (memory_of self.old) ≢ Stuck }
-        ensures came { IfOk result (λ s. Came
+        ensures came { IfOk result (λ s. CameBy
             (writes (memory plain (setting_of self.old code.now limits.now)) code.now (text_of shown) (self.old.pc + 1)
             (entries_of self.old.stack) (memory_of self.old)) self.old self.new s) }
         ensures same { Stays self.old self.new }
@@ -320,11 +320,11 @@ impl State {
         shown: Shown,
         code: &Code,
         limits: &Limits,
-    ) -> Result<Option<Stop>, Memory>
+    ) -> Result<Option<Interrupt>, Memory>
         requires next { self.old.pc + 1 < 4294967296 }
         requires safe { writes_wide (memory plain (setting_of self.old code.now limits.now)) code.now (is_cut shown) (text_of shown)
             (self.old.pc + 1) (entries_of self.old.stack) (memory_of self.old) ≢ Stuck }
-        ensures came { IfOk result (λ s. Came
+        ensures came { IfOk result (λ s. CameBy
             (writes_wide (memory plain (setting_of self.old code.now limits.now)) code.now (is_cut shown) (text_of shown)
             (self.old.pc + 1) (entries_of self.old.stack) (memory_of self.old)) self.old self.new s) }
         ensures same { Stays self.old self.new }
@@ -368,16 +368,16 @@ impl State {
         number: u32,
         code: &Code,
         limits: &Limits,
-    ) -> Result<Option<Stop>, Memory>
+    ) -> Result<Option<Interrupt>, Memory>
         requires next { self.old.pc + 1 < 4294967296 }
         requires safe { does (Some (instr.WriteText number)) self.old code.now limits.now ≢ Stuck }
-        ensures came { IfOk result (λ s. Came (does (Some (instr.WriteText number)) self.old code.now limits.now) self.old self.new s) }
+        ensures came { IfOk result (λ s. CameBy (does (Some (instr.WriteText number)) self.old code.now limits.now) self.old self.new s) }
         ensures same { Stays self.old self.new }
     {
         match code.text(number) {
             Some(text) => {
                 if !emit(&mut self.store, 0, text.bytes(), limits)? {
-                    return Ok(Some(Stop::Fault(Fault::F16)));
+                    return Ok(Some(Interrupt::Fault(Fault::F16)));
                 }
                 self.pc += 1;
                 Ok(None)
@@ -392,10 +392,10 @@ impl State {
         number: u32,
         code: &Code,
         limits: &Limits,
-    ) -> Result<Option<Stop>, Memory>
+    ) -> Result<Option<Interrupt>, Memory>
         requires next { self.old.pc + 1 < 4294967296 }
         requires safe { does (Some (instr.WritewText number)) self.old code.now limits.now ≢ Stuck }
-        ensures came { IfOk result (λ s. Came (does (Some (instr.WritewText number)) self.old code.now limits.now) self.old self.new s) }
+        ensures came { IfOk result (λ s. CameBy (does (Some (instr.WritewText number)) self.old code.now limits.now) self.old self.new s) }
         ensures same { Stays self.old self.new }
     {
         match self.stack.pop_number() {
@@ -423,14 +423,14 @@ impl State {
     }
 
     // Writes a line feed.
-    pub(crate) fn new_line(&mut self, code: &Code, limits: &Limits) -> Result<Option<Stop>, Memory>
+    pub(crate) fn new_line(&mut self, code: &Code, limits: &Limits) -> Result<Option<Interrupt>, Memory>
         requires next { self.old.pc + 1 < 4294967296 }
         requires safe { does (Some instr.Writeln) self.old code.now limits.now ≢ Stuck }
-        ensures came { IfOk result (λ s. Came (does (Some instr.Writeln) self.old code.now limits.now) self.old self.new s) }
+        ensures came { IfOk result (λ s. CameBy (does (Some instr.Writeln) self.old code.now limits.now) self.old self.new s) }
         ensures same { Stays self.old self.new }
     {
         if !emit(&mut self.store, 0, b"\n", limits)? {
-            return Ok(Some(Stop::Fault(Fault::F16)));
+            return Ok(Some(Interrupt::Fault(Fault::F16)));
         }
         self.pc += 1;
         Ok(None)

@@ -220,6 +220,7 @@ impl State {
             table: 0,
             first: 0,
             text: Vec::new(alloc),
+            stopped: Stop::End,
         })
     }
 

@@ -2,7 +2,7 @@
 
 ghost use Rattle.std.specs.Prelude.{◌≡◌, ◌≤◌, ◌∷◌, [], Some, None, OnOk, OnErr, MatchOption, length, reverse, take, drop};
 ghost use Rattle.sp_code.specs.Machine.{outside};
-ghost use Rattle.sp_machine.specs.Entries.{entries_of, counted, number_in, channel_in, pointer_in, HasNoNumber, HasNoChannel, HasNoPointer};
+ghost use Rattle.sp_machine.specs.Entries.{entries_of, counted, pointer_in, HasNoNumber, HasNoChannel, HasNoPointer};
 ghost use Rattle.sp_machine.specs.declared.stack.Operand.TheVariants.{Number, Channel, Pointer};
 
 use sp_base::{List, Memory};
@@ -92,8 +92,12 @@ impl Stack {
     pub(crate) fn pop_number(&mut self) -> Option<i64>
         ensures { MatchOption result (HasNoNumber self.old) (λ n. self.old ≡ Number n ∷ self.new) }
     {
-        match self.pop() {
-            Some(entry) => number_in(&entry),
+        match self.entries.pop() {
+            Some(Operand::Number(n)) => Some(n),
+            Some(entry) => {
+                self.answering -= counted(&entry);
+                None
+            }
             None => None,
         }
     }
@@ -102,8 +106,12 @@ impl Stack {
     pub(crate) fn pop_channel(&mut self) -> Option<u32>
         ensures { MatchOption result (HasNoChannel self.old) (λ c. self.old ≡ Channel c ∷ self.new) }
     {
-        match self.pop() {
-            Some(entry) => channel_in(&entry),
+        match self.entries.pop() {
+            Some(Operand::Channel(c)) => Some(c),
+            Some(entry) => {
+                self.answering -= counted(&entry);
+                None
+            }
             None => None,
         }
     }
@@ -112,8 +120,12 @@ impl Stack {
     pub(crate) fn pop_pointer(&mut self) -> Option<Address>
         ensures { MatchOption result (HasNoPointer self.old) (λ a. self.old ≡ Pointer a ∷ self.new) }
     {
-        match self.pop() {
-            Some(entry) => pointer_in(&entry),
+        match self.entries.pop() {
+            Some(Operand::Pointer(a)) => Some(a),
+            Some(entry) => {
+                self.answering -= counted(&entry);
+                None
+            }
             None => None,
         }
     }
@@ -160,26 +172,6 @@ fn counted(entry: &Operand) -> usize
     match entry {
         Operand::Reply(_) => 1,
         _ => 0,
-    }
-}
-
-/// The number that an entry is, if it is one.
-fn number_in(entry: &Operand) -> Option<i64>
-    ensures { result ≡ number_in entry.now }
-{
-    match entry {
-        Operand::Number(n) => Some(*n),
-        _ => None,
-    }
-}
-
-/// The channel that an entry is, if it is one.
-fn channel_in(entry: &Operand) -> Option<u32>
-    ensures { result ≡ channel_in entry.now }
-{
-    match entry {
-        Operand::Channel(c) => Some(*c),
-        _ => None,
     }
 }
 

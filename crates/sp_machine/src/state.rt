@@ -31,6 +31,20 @@ pub struct State {
     pub(crate) first: i64,
     /// Room for a text that is written.
     pub(crate) text: Vec<u8>,
+    /// Why its turn ends, where an instruction says that it stops.
+    pub(crate) stopped: Stop,
+}
+
+/// Why a process does not go on behind an instruction. It is small, since each instruction tells it: what a stop holds
+/// besides is kept in the state.
+#[derive(Clone, Copy)]
+pub(crate) enum Interrupt {
+    /// It is due.
+    Pause,
+    /// The instruction has this fault.
+    Fault(Fault),
+    /// It stops, as its state says.
+    Stop,
 }
 
 /// Why a turn ended.

@@ -4,17 +4,17 @@ ghost use Rattle.std.specs.Prelude.{◌≡◌, ◌+◌, ◌<◌, ◌∷◌, IfOk
 ghost use Rattle.sp_code.specs.Machine.{Goes, Fails, At};
 ghost use Rattle.sp_machine.specs.declared.state.State.{State};
 ghost use Rattle.sp_machine.specs.Entries.{entry_of, entries_of};
-ghost use Rattle.sp_machine.specs.Procs.{Came, Stays, config_of, memory_of};
+ghost use Rattle.sp_machine.specs.Procs.{CameBy, Stays, config_of, memory_of};
 
 use crate::stack::Operand;
-use crate::state::{State, Stop};
+use crate::state::{Interrupt, State};
 use sp_base::{Fault, Memory};
 
 impl State {
     /// Goes on behind the instruction with one operand more.
-    pub(crate) fn push_on(&mut self, entry: Operand) -> Result<Option<Stop>, Memory>
+    pub(crate) fn push_on(&mut self, entry: Operand) -> Result<Option<Interrupt>, Memory>
         requires { self.old.pc + 1 < 4294967296 }
-        ensures came { (p : State) → IfOk result (λ s. Came
+        ensures came { (p : State) → IfOk result (λ s. CameBy
             (Goes (At (self.old.pc + 1) (entry_of entry ∷ entries_of self.old.stack) (memory_of self.old))) p self.new s) }
         ensures same { Stays self.old self.new }
     {
@@ -24,13 +24,13 @@ impl State {
     }
 
     /// Stays at an instruction that has a fault, with the operand that it had on top.
-    pub(crate) fn fail(&mut self, entry: Operand, fault: Fault) -> Result<Option<Stop>, Memory>
+    pub(crate) fn fail(&mut self, entry: Operand, fault: Fault) -> Result<Option<Interrupt>, Memory>
         ensures came { (p : State) → config_of p ≡ At self.old.pc (entry_of entry ∷ entries_of self.old.stack) (memory_of self.old)
-            → IfOk result (λ s. Came (Fails fault) p self.new s) }
+            → IfOk result (λ s. CameBy (Fails fault) p self.new s) }
         ensures same { Stays self.old self.new }
     {
         self.stack.push(entry)?;
-        Ok(Some(Stop::Fault(fault)))
+        Ok(Some(Interrupt::Fault(fault)))
     }
 
     /// Stays at an instruction that has a fault, with the two operands that it had on top.
@@ -39,10 +39,10 @@ impl State {
         below: Operand,
         top: Operand,
         fault: Fault,
-    ) -> Result<Option<Stop>, Memory>
+    ) -> Result<Option<Interrupt>, Memory>
         ensures came { (p : State) → config_of p
             ≡ At self.old.pc (entry_of top ∷ entry_of below ∷ entries_of self.old.stack) (memory_of self.old)
-            → IfOk result (λ s. Came (Fails fault) p self.new s) }
+            → IfOk result (λ s. CameBy (Fails fault) p self.new s) }
         ensures same { Stays self.old self.new }
     {
         self.stack.push(below)?;

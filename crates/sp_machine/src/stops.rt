@@ -3,11 +3,11 @@
 ghost use Rattle.std.specs.Prelude.{◌≡◌, ◌≢◌, ◌+◌, ◌<◌, ◌≤◌, ◌∷◌, [], IfOk, Some, true, length, int_le, pos, ◌+ℤ◌, ◌≤ℤ◌};
 ghost use Rattle.sp_code.specs.Machine.{Stuck, At, Forks, values_in};
 ghost use Rattle.sp_code.specs.declared.instr.Instr.TheVariants as instr;
-ghost use Rattle.sp_machine.specs.Procs.{does, Came, Stays, StopIs, config_of, memory_of};
+ghost use Rattle.sp_machine.specs.Procs.{does, CameBy, Stays, StopIs, config_of, memory_of};
 ghost use Rattle.sp_machine.specs.Entries.{entries_of};
 
 use crate::stack::Operand;
-use crate::state::{State, Stop};
+use crate::state::{Interrupt, State, Stop};
 use sp_base::{Fault, Limits, List, Memory};
 use sp_cell::Cell;
 use sp_code::{Code, ForkTable};
@@ -31,10 +31,10 @@ fn count_children(table: &ForkTable) -> u64
 
 impl State {
     // Stops to open a channel.
-    pub(crate) fn open(&mut self, code: &Code, limits: &Limits) -> Result<Option<Stop>, Memory>
+    pub(crate) fn open(&mut self, code: &Code, limits: &Limits) -> Result<Option<Interrupt>, Memory>
         requires next { self.old.pc + 1 < 4294967296 }
         requires safe { does (Some instr.Open) self.old code.now limits.now ≢ Stuck }
-        ensures came { IfOk result (λ s. Came (does (Some instr.Open) self.old code.now limits.now) self.old self.new s) }
+        ensures came { IfOk result (λ s. CameBy (does (Some instr.Open) self.old code.now limits.now) self.old self.new s) }
         ensures same { Stays self.old self.new }
     {
         match self.stack.pop_pointer() {
@@ -42,7 +42,8 @@ impl State {
                 self.store.make_own(at.spot)?;
                 self.target = at;
                 self.pc += 1;
-                Ok(Some(Stop::Open))
+                self.stopped = Stop::Open;
+                Ok(Some(Interrupt::Stop))
             }
             None => unreachable!(),
         }
@@ -54,10 +55,10 @@ impl State {
         message: u32,
         code: &Code,
         limits: &Limits,
-    ) -> Result<Option<Stop>, Memory>
+    ) -> Result<Option<Interrupt>, Memory>
         requires next { self.old.pc + 1 < 4294967296 }
         requires safe { does (Some (instr.Send message)) self.old code.now limits.now ≢ Stuck }
-        ensures came { IfOk result (λ s. Came (does (Some (instr.Send message)) self.old code.now limits.now) self.old self.new s) }
+        ensures came { IfOk result (λ s. CameBy (does (Some (instr.Send message)) self.old code.now limits.now) self.old self.new s) }
         ensures same { Stays self.old self.new }
     {
         let cells = match self.stack.pop() {
@@ -69,11 +70,12 @@ impl State {
         match self.stack.pop_channel() {
             Some(channel) => {
                 self.pc += 1;
-                Ok(Some(Stop::Send {
+                self.stopped = Stop::Send {
                     channel,
                     message,
                     cells,
-                }))
+                };
+                Ok(Some(Interrupt::Stop))
             }
             None => unreachable!(),
         }
@@ -94,10 +96,10 @@ impl State {
         message: u32,
         code: &Code,
         limits: &Limits,
-    ) -> Result<Option<Stop>, Memory>
+    ) -> Result<Option<Interrupt>, Memory>
         requires next { self.old.pc + 1 < 4294967296 }
         requires safe { does (Some (instr.Receive message)) self.old code.now limits.now ≢ Stuck }
-        ensures came { IfOk result (λ s. Came (does (Some (instr.Receive message)) self.old code.now limits.now) self.old self.new s) }
+        ensures came { IfOk result (λ s. CameBy (does (Some (instr.Receive message)) self.old code.now limits.now) self.old self.new s) }
         ensures same { Stays self.old self.new }
     {
         match self.stack.pop_pointer() {
@@ -106,7 +108,8 @@ impl State {
                     self.store.make_own(at.spot)?;
                     self.target = at;
                     self.pc += 1;
-                    Ok(Some(Stop::Receive { channel, message }))
+                    self.stopped = Stop::Receive { channel, message };
+                    Ok(Some(Interrupt::Stop))
                 }
                 None => unreachable!(),
             },
@@ -120,42 +123,43 @@ impl State {
         table: u32,
         code: &Code,
         limits: &Limits,
-    ) -> Result<Option<Stop>, Memory>
+    ) -> Result<Option<Interrupt>, Memory>
         requires next { self.old.pc + 1 < 4294967296 }
         requires safe { does (Some (instr.Fork table)) self.old code.now limits.now ≢ Stuck }
-        ensures came { IfOk result (λ s. Came (does (Some (instr.Fork table)) self.old code.now limits.now) self.old self.new s) }
+        ensures came { IfOk result (λ s. CameBy (does (Some (instr.Fork table)) self.old code.now limits.now) self.old self.new s) }
         ensures same { Stays self.old self.new }
     {
         let most = limits.depth;
         match code.table(table) {
             Some(forks) => {
                 if self.depth >= most {
-                    return Ok(Some(Stop::Fault(Fault::F11)));
+                    return Ok(Some(Interrupt::Fault(Fault::F11)));
                 }
                 let count = count_children(forks);
-                Ok(Some(self.stop_at_fork(table, count)))
+                self.stop_at_fork(table, count);
+                Ok(Some(Interrupt::Stop))
             }
             None => unreachable!(),
         }
     }
 
     /// Stops at a fork of so many children, each with its own table.
-    fn stop_at_fork(&mut self, table: u32, count: u64) -> Stop
+    fn stop_at_fork(&mut self, table: u32, count: u64)
         requires next { self.old.pc + 1 < 4294967296 }
         requires deeper { self.old.depth + 1 ≤ 4294967295 }
         requires values { (pos 0 +ℤ pos count) ≤ℤ pos 9223372036854775808 }
-        ensures stop { StopIs result self.new (Forks table (pos 0) count) }
+        ensures stop { StopIs self.new.stopped self.new (Forks table (pos 0) count) }
         ensures config { config_of self.new ≡ At (self.old.pc + 1) (entries_of self.old.stack) (memory_of self.old) }
         ensures same { Stays self.old self.new }
     {
         self.table = table;
         self.first = 0;
         self.pc += 1;
-        Stop::Fork {
+        self.stopped = Stop::Fork {
             table,
             first: 0,
             count,
-        }
+        };
     }
 
     // Stops to start a child for each value of a range.
@@ -164,10 +168,10 @@ impl State {
         table: u32,
         code: &Code,
         limits: &Limits,
-    ) -> Result<Option<Stop>, Memory>
+    ) -> Result<Option<Interrupt>, Memory>
         requires next { self.old.pc + 1 < 4294967296 }
         requires safe { does (Some (instr.Forall table)) self.old code.now limits.now ≢ Stuck }
-        ensures came { IfOk result (λ s. Came (does (Some (instr.Forall table)) self.old code.now limits.now) self.old self.new s) }
+        ensures came { IfOk result (λ s. CameBy (does (Some (instr.Forall table)) self.old code.now limits.now) self.old self.new s) }
         ensures same { Stays self.old self.new }
     {
         match self.stack.pop_number() {
@@ -188,15 +192,25 @@ impl State {
                     self.table = table;
                     self.first = first;
                     self.pc += 1;
-                    Ok(Some(Stop::Fork {
+                    self.stopped = Stop::Fork {
                         table,
                         first,
                         count,
-                    }))
+                    };
+                    Ok(Some(Interrupt::Stop))
                 }
                 None => unreachable!(),
             },
             None => unreachable!(),
         }
+    }
+
+    // Stops at the end of its code.
+    pub(crate) fn end(&mut self, code: &Code, limits: &Limits) -> Result<Option<Interrupt>, Memory>
+        ensures came { IfOk result (λ s. CameBy (does (Some instr.End) self.old code.now limits.now) self.old self.new s) }
+        ensures same { Stays self.old self.new }
+    {
+        self.stopped = Stop::End;
+        Ok(Some(Interrupt::Stop))
     }
 }

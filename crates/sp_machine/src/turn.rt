@@ -1,17 +1,18 @@
 //! A turn of a process: its instructions one after another, up to the next stop.
 
-ghost use Rattle.std.specs.Prelude.{◌≡◌, ◌≢◌, ◌+◌, ◌<◌, IfOk, IfSome, slice_get};
+ghost use Rattle.std.specs.Prelude.{◌≡◌, ◌≢◌, ◌+◌, ◌<◌, IfOk, IfSome, Some, slice_get};
 ghost use Rattle.sp_code.specs.Formals.{HaveFormals};
 ghost use Rattle.sp_code.specs.Machine.{Stuck};
 ghost use Rattle.sp_code.specs.Sound.{HasDistinctBlocks};
-ghost use Rattle.sp_machine.specs.Procs.{Came, Stays, next_of, CanTurn, IsRankedFrom, IsTurnOf};
+ghost use Rattle.sp_machine.specs.Procs.{CameBy, Stays, next_of, stop_by, CanTurn, IsRankedFrom, IsTurnOf};
 
 use crate::arithmetic::Conversion;
 use crate::io::{Item, Shown};
-use crate::state::{State, Stop};
+use crate::state::{Interrupt, State, Stop};
 use sp_base::{Fault, Limits, Memory};
 use sp_code::{Code, Instr};
 use sp_tree::BinaryOp;
+use std::mem;
 
 impl State {
     /// The instruction that comes next.
@@ -28,11 +29,11 @@ impl State {
     }
 
     /// The next instruction: the process goes on, or its turn ends.
-    fn step(&mut self, code: &Code, limits: &Limits) -> Result<Option<Stop>, Memory>
+    fn step(&mut self, code: &Code, limits: &Limits) -> Result<Option<Interrupt>, Memory>
         requires blocks { HasDistinctBlocks code.now.layouts }
         requires formals { HaveFormals code.now.layouts }
         requires safe { next_of self.old code.now limits.now ≢ Stuck }
-        ensures came { IfOk result (λ s. Came (next_of self.old code.now limits.now) self.old self.new s) }
+        ensures came { IfOk result (λ s. CameBy (next_of self.old code.now limits.now) self.old self.new s) }
         ensures same { Stays self.old self.new }
     {
         let Some(instr) = self.fetch(code) else {
@@ -72,7 +73,7 @@ impl State {
             Instr::Jump(to) => self.jump(to, code, limits),
             Instr::Jumpf(to) => self.jump_false(to, code, limits),
             Instr::Casej { value, to } => self.jump_equal(value, to, code, limits),
-            Instr::Nocase => Ok(Some(Stop::Fault(Fault::F9))),
+            Instr::Nocase => Ok(Some(Interrupt::Fault(Fault::F9))),
             Instr::Tick => self.tick(code, limits),
             Instr::Assume => self.assume(code, limits),
             Instr::Forup { var, to } => self.begin_loop(false, var, to, code, limits),
@@ -101,7 +102,19 @@ impl State {
             Instr::Receive(message) => self.receive(message, code, limits),
             Instr::Fork(table) => self.fork(table, code, limits),
             Instr::Forall(table) => self.fork_all(table, code, limits),
-            Instr::End => Ok(Some(Stop::End)),
+            Instr::End => self.end(code, limits),
+        }
+    }
+
+    /// Why the turn ends that an instruction interrupted.
+    fn stop_by(&mut self, interrupt: Interrupt) -> Stop
+        ensures stop { stop_by self.old (Some interrupt) ≡ Some result }
+        ensures rest { self.new ≡ record self.old { stopped = self.new.stopped } }
+    {
+        match interrupt {
+            Interrupt::Pause => Stop::Pause,
+            Interrupt::Fault(fault) => Stop::Fault(fault),
+            Interrupt::Stop => mem::replace(&mut self.stopped, Stop::End),
         }
     }
 
@@ -120,7 +133,7 @@ impl State {
         loop {
             match self.step(code, limits) {
                 Err(_) => return Stop::Memory,
-                Ok(Some(stop)) => return stop,
+                Ok(Some(interrupt)) => return self.stop_by(interrupt),
                 Ok(None) => {}
             }
         }

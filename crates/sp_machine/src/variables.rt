@@ -3,10 +3,10 @@
 ghost use Rattle.std.specs.Prelude.{◌≡◌, ◌≢◌, ◌+◌, ◌*◌, ◌<◌, ◌≤◌, IfOk, MatchOption, Some};
 ghost use Rattle.sp_code.specs.Machine.{Stuck};
 ghost use Rattle.sp_code.specs.declared.instr.Instr.TheVariants as instr;
-ghost use Rattle.sp_machine.specs.Procs.{does, Came, Stays};
+ghost use Rattle.sp_machine.specs.Procs.{does, CameBy, Stays};
 
 use crate::stack::Operand;
-use crate::state::{State, Stop};
+use crate::state::{Interrupt, State};
 use sp_base::{Fault, Limits, Memory};
 use sp_cell::{Address, Cell};
 use sp_code::Code;
@@ -35,10 +35,10 @@ impl State {
         var: u32,
         code: &Code,
         limits: &Limits,
-    ) -> Result<Option<Stop>, Memory>
+    ) -> Result<Option<Interrupt>, Memory>
         requires next { self.old.pc + 1 < 4294967296 }
         requires safe { does (Some (instr.Addr up var)) self.old code.now limits.now ≢ Stuck }
-        ensures came { IfOk result (λ s. Came (does (Some (instr.Addr up var)) self.old code.now limits.now) self.old self.new s) }
+        ensures came { IfOk result (λ s. CameBy (does (Some (instr.Addr up var)) self.old code.now limits.now) self.old self.new s) }
         ensures same { Stays self.old self.new }
     {
         match self.frames.address(up, var) {
@@ -54,10 +54,10 @@ impl State {
         var: u32,
         code: &Code,
         limits: &Limits,
-    ) -> Result<Option<Stop>, Memory>
+    ) -> Result<Option<Interrupt>, Memory>
         requires next { self.old.pc + 1 < 4294967296 }
         requires safe { does (Some (instr.Deref up var)) self.old code.now limits.now ≢ Stuck }
-        ensures came { IfOk result (λ s. Came (does (Some (instr.Deref up var)) self.old code.now limits.now) self.old self.new s) }
+        ensures came { IfOk result (λ s. CameBy (does (Some (instr.Deref up var)) self.old code.now limits.now) self.old self.new s) }
         ensures same { Stays self.old self.new }
     {
         match self.frames.reference(up, var) {
@@ -74,10 +74,10 @@ impl State {
         size: u32,
         code: &Code,
         limits: &Limits,
-    ) -> Result<Option<Stop>, Memory>
+    ) -> Result<Option<Interrupt>, Memory>
         requires next { self.old.pc + 1 < 4294967296 }
         requires safe { does (Some (instr.Index low high size)) self.old code.now limits.now ≢ Stuck }
-        ensures came { IfOk result (λ s. Came (does (Some (instr.Index low high size)) self.old code.now limits.now) self.old self.new s) }
+        ensures came { IfOk result (λ s. CameBy (does (Some (instr.Index low high size)) self.old code.now limits.now) self.old self.new s) }
         ensures same { Stays self.old self.new }
     {
         match self.stack.pop_number() {
@@ -106,10 +106,10 @@ impl State {
         cells: u32,
         code: &Code,
         limits: &Limits,
-    ) -> Result<Option<Stop>, Memory>
+    ) -> Result<Option<Interrupt>, Memory>
         requires next { self.old.pc + 1 < 4294967296 }
         requires safe { does (Some (instr.Field cells)) self.old code.now limits.now ≢ Stuck }
-        ensures came { IfOk result (λ s. Came (does (Some (instr.Field cells)) self.old code.now limits.now) self.old self.new s) }
+        ensures came { IfOk result (λ s. CameBy (does (Some (instr.Field cells)) self.old code.now limits.now) self.old self.new s) }
         ensures same { Stays self.old self.new }
     {
         match self.stack.pop_pointer() {
@@ -125,10 +125,10 @@ impl State {
     }
 
     // The ordinal at an address.
-    pub(crate) fn load(&mut self, code: &Code, limits: &Limits) -> Result<Option<Stop>, Memory>
+    pub(crate) fn load(&mut self, code: &Code, limits: &Limits) -> Result<Option<Interrupt>, Memory>
         requires next { self.old.pc + 1 < 4294967296 }
         requires safe { does (Some instr.Load) self.old code.now limits.now ≢ Stuck }
-        ensures came { IfOk result (λ s. Came (does (Some instr.Load) self.old code.now limits.now) self.old self.new s) }
+        ensures came { IfOk result (λ s. CameBy (does (Some instr.Load) self.old code.now limits.now) self.old self.new s) }
         ensures same { Stays self.old self.new }
     {
         match self.stack.pop_pointer() {
@@ -149,10 +149,10 @@ impl State {
         &mut self,
         code: &Code,
         limits: &Limits,
-    ) -> Result<Option<Stop>, Memory>
+    ) -> Result<Option<Interrupt>, Memory>
         requires next { self.old.pc + 1 < 4294967296 }
         requires safe { does (Some instr.Loadc) self.old code.now limits.now ≢ Stuck }
-        ensures came { IfOk result (λ s. Came (does (Some instr.Loadc) self.old code.now limits.now) self.old self.new s) }
+        ensures came { IfOk result (λ s. CameBy (does (Some instr.Loadc) self.old code.now limits.now) self.old self.new s) }
         ensures same { Stays self.old self.new }
     {
         match self.stack.pop_pointer() {
@@ -165,10 +165,10 @@ impl State {
     }
 
     // Assigns an ordinal or a channel.
-    pub(crate) fn assign(&mut self, code: &Code, limits: &Limits) -> Result<Option<Stop>, Memory>
+    pub(crate) fn assign(&mut self, code: &Code, limits: &Limits) -> Result<Option<Interrupt>, Memory>
         requires next { self.old.pc + 1 < 4294967296 }
         requires safe { does (Some instr.Store) self.old code.now limits.now ≢ Stuck }
-        ensures came { IfOk result (λ s. Came (does (Some instr.Store) self.old code.now limits.now) self.old self.new s) }
+        ensures came { IfOk result (λ s. CameBy (does (Some instr.Store) self.old code.now limits.now) self.old self.new s) }
         ensures same { Stays self.old self.new }
     {
         let cell = match self.stack.pop() {
@@ -192,10 +192,10 @@ impl State {
         cells: u32,
         code: &Code,
         limits: &Limits,
-    ) -> Result<Option<Stop>, Memory>
+    ) -> Result<Option<Interrupt>, Memory>
         requires next { self.old.pc + 1 < 4294967296 }
         requires safe { does (Some (instr.Copy cells)) self.old code.now limits.now ≢ Stuck }
-        ensures came { IfOk result (λ s. Came (does (Some (instr.Copy cells)) self.old code.now limits.now) self.old self.new s) }
+        ensures came { IfOk result (λ s. CameBy (does (Some (instr.Copy cells)) self.old code.now limits.now) self.old self.new s) }
         ensures same { Stays self.old self.new }
     {
         match self.stack.pop_pointer() {
@@ -217,10 +217,10 @@ impl State {
         cells: u32,
         code: &Code,
         limits: &Limits,
-    ) -> Result<Option<Stop>, Memory>
+    ) -> Result<Option<Interrupt>, Memory>
         requires next { self.old.pc + 1 < 4294967296 }
         requires safe { does (Some (instr.Pack cells)) self.old code.now limits.now ≢ Stuck }
-        ensures came { IfOk result (λ s. Came (does (Some (instr.Pack cells)) self.old code.now limits.now) self.old self.new s) }
+        ensures came { IfOk result (λ s. CameBy (does (Some (instr.Pack cells)) self.old code.now limits.now) self.old self.new s) }
         ensures same { Stays self.old self.new }
     {
         match self.stack.pop_pointer() {

@@ -50,7 +50,7 @@ sorted_pairs (s ∷ ss) (e ∷ es) h = both _ _ (below_pairs s ss es (sorted_hea
 
 -- ---- one place
 
-spot_itself : (s : Spot) → spot_cmp s s ≡ Equal
+pub spot_itself : (s : Spot) → spot_cmp s s ≡ Equal
 spot_itself s = tied_itself spot_total s
 
 -- the pair at place i is found

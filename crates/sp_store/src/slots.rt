@@ -1,6 +1,6 @@
 //! The map of a store in memory: entries by their spots, in the order of the spots.
 
-ghost use Rattle.std.specs.Prelude.{◌≡◌, ◌<◌, ◌++◌, IsSome, Some, None, IfOk, IfErr, OnOk, OnErr, MatchOption, length, ℕ, ◌-◌, ◌≤◌, ◌==◌, ◌≢◌, if◌then◌else◌, take, drop, vec_len, slice_index_or};
+ghost use Rattle.std.specs.Prelude.{◌≡◌, ◌<◌, ◌++◌, IsSome, IfSome, Some, None, IfOk, IfErr, OnOk, OnErr, MatchOption, length, ℕ, ◌-◌, ◌≤◌, ◌==◌, ◌≢◌, if◌then◌else◌, take, drop, vec_len, slice_index_or};
 ghost use Rattle.std.specs.Borrow.{sem};
 ghost use Rattle.std.specs.FinMap as map;
 ghost use Rattle.std.specs.List.Sorted.{IsStrictlySortedBy};
@@ -48,7 +48,41 @@ fn search(spots: &[Spot], entries: &[Entry], spot: Spot) -> Result<usize, usize>
     ensures found { IfOk result (IsPlace spots.now entries.now spot) }
     ensures absent { IfErr result (IsGap spots.now entries.now spot) }
 {
-    spots.binary_search(&spot)
+    match likely_place(spots, spot) {
+        Some(i) => Ok(i),
+        None => spots.binary_search(&spot),
+    }
+}
+
+// Where the spot stands, if all variables of its frame stand there and it is the newest frame or frame 0; else maybe
+// nothing. Almost all loads and stores are of these.
+fn likely_place(spots: &[Spot], spot: Spot) -> Option<usize>
+    ensures { IfSome result (λ i. (i < length spots.now) × ((d : Spot) → slice_index_or spots.now i d ≡ spot)) }
+{
+    let count = spots.len();
+    if count == 0 {
+        return None;
+    }
+    let place = place_by_last(count, spots[count - 1], spot);
+    if place < count {
+        let found = spots[place];
+        if found.frame == spot.frame && found.variable == spot.variable {
+            return Some(place);
+        }
+    }
+    None
+}
+
+// The place by the number of the variable, counted back from the last spot where that is of the same frame.
+fn place_by_last(count: usize, last: Spot, spot: Spot) -> usize {
+    if last.frame != spot.frame || last.variable < spot.variable {
+        return spot.variable as usize;
+    }
+    let behind = (last.variable - spot.variable) as usize;
+    if behind < count {
+        return count - 1 - behind;
+    }
+    count
 }
 
 // Where the spot stands.

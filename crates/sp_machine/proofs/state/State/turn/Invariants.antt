@@ -6,12 +6,12 @@ use Rattle.sp_code.specs.Budgets.{left_by, ticks_left}
 use Rattle.sp_machine.specs.Procs.{config_of, setting_of, Stays}
 use Rattle.sp_machine.proofs.state.State.turn.Given as goal
 
-abbrev pub invariant-loop-stop : goal.invariant-loop-stop
-invariant-loop-stop l = record {
+abbrev pub invariant-loop-interrupt : goal.invariant-loop-interrupt
+invariant-loop-interrupt l = record {
   same : Stays l.fn.self l.self;
   begun : begins (memory plain (setting_of l.fn.self l.code l.limits)) l.code (config_of l.fn.self) ≡ Rattle.std.proofs.Common.true;
   came : (n : ℕ) × ComesIn (memory plain (setting_of l.fn.self l.code l.limits)) l.code n (config_of l.fn.self) (config_of l.self);
 }
 
-abbrev pub decreases-loop-stop : goal.decreases-loop-stop
-decreases-loop-stop l = left_by l.code.instrs (ticks_left (setting_of l.fn.self l.code l.limits)) (config_of l.self)
+abbrev pub decreases-loop-interrupt : goal.decreases-loop-interrupt
+decreases-loop-interrupt l = left_by l.code.instrs (ticks_left (setting_of l.fn.self l.code l.limits)) (config_of l.self)
